@@ -1,0 +1,15 @@
+pub mod Identity
+pub mod Majority
+pub mod Book
+pub mod Node
+pub mod Message
+pub mod Outcome
+pub mod Log
+pub mod Configuration
+pub mod Steps
+pub mod Elections
+pub mod Replication
+pub mod Requests
+pub mod Retirement
+pub mod World
+pub mod Safety

@@ -1,0 +1,48 @@
+-- Places of a ledger, its signatures and the commits that they record.
+use Rattle.std.specs.Prelude.{ℕ, zero, suc, List, [], ◌∷◌, Bool, true, false, Option, None, Some, max, take, nat_lt, nat_le, ◌==◌, ◌&&◌, ◌||◌, slice_get, if◌then◌else◌}
+use Rattle.gl_rules.specs.Book.{Book}
+use Rattle.gl_rules.specs.Message.{Last}
+
+-- The entry at a place; there is none at 0.
+abbrev pub entry_at : {E : Type 0} → List E → ℕ → Option E
+entry_at log zero = None
+entry_at log (suc i) = slice_get log i
+
+-- A place counted from one entry further on, 0 being none; behind it the answer for the rest.
+abbrev pub place_before : Bool → ℕ → ℕ
+place_before here (suc place) = suc (suc place)
+place_before true zero = 1
+place_before false zero = 0
+
+-- Signatures are compared by view, and then by place.
+abbrev pub is_at_least : Last → Last → Bool
+is_at_least a b = nat_lt b.view a.view || (b.view == a.view && nat_le b.place a.place)
+
+module _ {E Q G R A F : Type 0} (book : Book E Q G R A F) where
+  abbrev view_of_entry : Option E → ℕ
+  view_of_entry None = 0
+  view_of_entry (Some e) = book.view_of e
+
+  -- The view of the entry at a place, 0 where there is none.
+  abbrev pub view_at : List E → ℕ → ℕ
+  view_at log place = view_of_entry (entry_at log place)
+
+  -- The place of the last signature, 0 where there is none.
+  unfoldable pub last_signature : List E → ℕ
+  last_signature [] = 0
+  last_signature (e ∷ es) = place_before (book.is_signature e) (last_signature es)
+
+  abbrev pub last : List E → Last
+  last log = record { view = view_at log (last_signature log); place = last_signature log }
+
+  -- The log up to its last signature.
+  abbrev pub signed_part : List E → List E
+  signed_part log = take (last_signature log) log
+
+  abbrev recorded_in : E → ℕ
+  recorded_in e = if book.is_signature e then book.recorded_commit e else 0
+
+  -- The greatest commit that a signature of the log records, 0 where there is none.
+  unfoldable pub greatest_recorded : List E → ℕ
+  greatest_recorded [] = 0
+  greatest_recorded (e ∷ es) = max (recorded_in e) (greatest_recorded es)

@@ -1,0 +1,2 @@
+//! The rules of consensus, over any ledger book: definitions alone.
+#![tactic(auto)]

@@ -1,5 +1,5 @@
 -- Counts of faults: how often an object of the outside failed.
-use Rattle.std.specs.Prelude.{ℕ, ◌+◌, ◌-◌, ◌^◌, ◌<◌, ◌≤◌, ◌⊎◌}
+use Rattle.std.specs.Prelude.{ℕ, ◌-◌, ◌^◌, ◌<◌, ◌≤◌, ◌⊎◌}
 
 -- A count of faults is kept in 64 bits and stands still at their last value.
 abbrev pub last_count : ℕ

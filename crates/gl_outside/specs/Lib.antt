@@ -1,3 +1,4 @@
 pub mod Fault
 pub mod Source
 pub mod Sink
+pub mod Memory

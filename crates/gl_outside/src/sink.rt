@@ -37,7 +37,7 @@ pub trait Sink {
 }
 
 /// Why not all of the bytes were written. A front of them may have been.
-#[derive(Debug, Drop, Error)]
+#[derive(Clone, Copy, Debug, PartialEq, Eq, Error)]
 pub enum SinkFault {
     #[error("the sink failed")]
     Failed,

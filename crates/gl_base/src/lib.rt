@@ -1,13 +1,10 @@
-// A library with one function.
+//! Transaction identifiers, their status, and the fields that every format is made of.
 #![tactic(auto)]
 
-ghost use Rattle.std.specs.Prelude.{◌≡◌};
-ghost use Rattle.gl_base.specs.Echo.{echo_of};
+mod status_kind;
+mod status_of;
+mod tx_id;
 
-// The `ensures` clause is the contract: what `echo` returns is `echo_of` of its argument, a definition
-// in `specs/Echo.antt`, which a caller's clause can cite too.
-pub fn echo(x: usize) -> usize
-    ensures { result ≡ echo_of x }
-{
-    x
-}
+pub use status_kind::Status;
+pub use status_of::status;
+pub use tx_id::{TxId, TxIdFault};

@@ -1,0 +1,10 @@
+//! Transaction identifiers, their status, and the fields that every format is made of.
+#![tactic(auto)]
+
+mod status_kind;
+mod status_of;
+mod tx_id;
+
+pub use status_kind::Status;
+pub use status_of::status;
+pub use tx_id::{TxId, TxIdFault};

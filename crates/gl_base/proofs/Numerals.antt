@@ -35,7 +35,7 @@ no_some : (b : Bool) (n : ℕ) → cond b (Some n) None ≡ None → b ≡ false
 no_some true n e = cc
 no_some false n e = refl
 
-digit-from_test : (c : ℕ) → is_no_digit c ≡ false → IsInRange 48 57 c
+pub digit-from_test : (c : ℕ) → is_no_digit c ≡ false → IsInRange 48 57 c
 digit-from_test c e = (grind (arith, nat_tests), grind (arith, nat_tests))
 
 -- Where no byte is found that is no digit, all are.

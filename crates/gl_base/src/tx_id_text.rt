@@ -95,6 +95,19 @@ fn read_sides(text: &[u8], dot: usize) -> Result<TxId, TxIdFault>
     })
 }
 
+#[tactic(auto, unfolding(crate::specs::TxId::parsed))]
+fn read(text: &[u8]) -> Result<TxId, TxIdFault>
+    ensures { result ≡ parsed text.now }
+{
+    if text.is_empty() {
+        return Err(TxIdFault::Empty);
+    }
+    match first_dot(text) {
+        Some(dot) => read_sides(text, dot),
+        None => Err(TxIdFault::NoDot),
+    }
+}
+
 /// Copies the piece to a place of the buffer, and gives the place behind it.
 fn put(out: &mut [u8], at: usize, piece: &[u8]) -> usize
     requires { at + length piece.now ≤ length out.old }
@@ -110,18 +123,16 @@ fn put(out: &mut [u8], at: usize, piece: &[u8]) -> usize
 
 impl TxId {
     /// Reads the text `view.seqno`, both in decimal without sign or leading zero.
-    #[tactic(auto, unfolding(crate::specs::TxId::parsed))]
     pub fn parse(text: &[u8]) -> Result<TxId, TxIdFault>
-        ensures { result ≡ parsed text.now }
+        ensures exact { result ≡ parsed text.now }
+
+        // What is read is the text of an identifier, and every such text is read.
+        ensures spelled { IfOk result (λ id. IsTxId id × (text.now ≡ text_of id)) }
+        ensures only { (id : Id) → IsTxId id → text.now ≡ text_of id → result ≡ Ok id }
     {
-        if text.is_empty() {
-            return Err(TxIdFault::Empty);
-        }
-        match first_dot(text) {
-            Some(dot) => read_sides(text, dot),
-            None => Err(TxIdFault::NoDot),
-        }
+        read(text)
     }
+
     /// Writes the text `view.seqno` to the front of the buffer, and gives its length. The buffer
     /// has room for every identifier.
     pub fn text_into(self, out: &mut [u8; 24]) -> usize

@@ -4,6 +4,7 @@
 mod status_kind;
 mod status_of;
 mod tx_id;
+mod tx_id_text;
 
 pub use status_kind::Status;
 pub use status_of::status;

@@ -1,0 +1,5 @@
+use Rattle.gl_base.proofs.Numbers.{number_4}
+use Rattle.gl_base.proofs.cut.Cut.u32.Goals as goal
+
+pub returns : goal.returns
+returns c = number_4 _ _ _ _ c.in_ok-chunk.ensures c.from_le_bytes.ensures

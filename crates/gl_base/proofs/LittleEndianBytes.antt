@@ -1,8 +1,7 @@
 -- std's bytes of a number are the bytes of a number here.
-use Rattle.std.proofs.Common.{pow-suc, get_or, ◌≡◌, ℕ, zero, suc, ◌/◌, ◌%◌, ◌^◌, List, [], ◌∷◌, length, refl, sym, ap, ◌∙◌, arith, w16, w32, w64}
-use Rattle.std.specs.Int.{from_le_bytes, bytes_low_first, byte_at}
-use Rattle.std.proofs.Math.Nat.{div-div-eq-div-mul}
-use Rattle.gl_base.specs.LittleEndian.{little_endian, from_little_endian}
+use Rattle.std.proofs.Common.{get_or, ◌≡◌, ℕ, List, [], ◌∷◌, length, arith, w16, w32, w64}
+use Rattle.std.specs.Int.{from_le_bytes}
+use Rattle.gl_base.specs.LittleEndian.{from_little_endian}
 
 pub from_bytes_1 : (xs : List ℕ) → length xs ≡ 1 → get_or xs 0 0 ≡ from_little_endian xs
 from_bytes_1 (a ∷ []) h = omega arith
@@ -25,19 +24,3 @@ from_bytes_6 _ h = absurd (omega arith)
 pub from_bytes_8 : (xs : List ℕ) → length xs ≡ 8 → from_le_bytes w64 xs ≡ from_little_endian xs
 from_bytes_8 (a ∷ b ∷ c ∷ d ∷ e ∷ f ∷ g ∷ h ∷ []) long = omega arith
 from_bytes_8 _ long = absurd (omega arith)
-
-byte_at_is : (i n : ℕ) → byte_at i n ≡ n / 256 ^ i % 256
-byte_at_is zero n = omega arith
-byte_at_is (suc i) n = refl
-
-pub low_first : (i size n : ℕ) → bytes_low_first i size n ≡ little_endian size (n / 256 ^ i)
-low_first i zero n = refl
-low_first i (suc size) n =
-    let first = byte_at_is i n in
-    let others : bytes_low_first (suc i) size n ≡ little_endian size (n / 256 ^ suc i) = low_first (suc i) size n in
-    let next : n / 256 ^ suc i ≡ n / 256 ^ i / 256 = sym (div-div-eq-div-mul n (256 ^ i) 256 ∙ ap (λ (k : ℕ). n / k) (sym (pow-suc 256 i))) in
-    let same : little_endian size (n / 256 ^ suc i) ≡ little_endian size (n / 256 ^ i / 256) = ap (little_endian size) next in
-    cc
-
-pub to_bytes : (size n : ℕ) → bytes_low_first 0 size n ≡ little_endian size n
-to_bytes size n = low_first 0 size n ∙ ap (little_endian size) (omega arith)

@@ -4,3 +4,5 @@ pub mod Pieces
 pub mod TxIdText
 pub mod LittleEndianBytes
 pub mod Numbers
+pub mod LittleEndianLaws
+pub mod Fields

@@ -1,6 +1,5 @@
 -- Numbers and strings read as fields.
-use Rattle.std.proofs.Common.{◌≡◌, ℕ, ◌+◌, ◌≤◌, nat_lt, cond, length-drop, ◌-◌, List, [], ◌∷◌, length, take, drop, get_or, Ok, Err, refl, sym, ap, ◌∙◌, arith, w16, w32, w64}
-use Rattle.std.specs.Int.{from_le_bytes}
+use Rattle.std.proofs.Common.{◌≡◌, ℕ, ◌+◌, ◌≤◌, nat_lt, cond, length-drop, ◌-◌, List, length, take, drop, Ok, Err, refl, sym, ap, ◌∙◌, arith}
 use Rattle.std.proofs.lemmas.Bool.Decides.{nat_tests}
 use Rattle.std.proofs.lemmas.List.{length-take-le}
 use Rattle.gl_base.specs.LittleEndian.{from_little_endian}
@@ -8,7 +7,6 @@ use Rattle.gl_base.specs.declared.cut_fault.CutFault.{CutFault}
 use Rattle.gl_base.specs.declared.cut_fault.CutFault.TheVariants.{Short, TooLong}
 use Rattle.gl_base.specs.Cut.{Unread, end_of, bytes_at, number_at, string_at}
 use Rattle.gl_base.proofs.Steps.{cond_ok, bind_ok, ok_injective}
-use Rattle.gl_base.proofs.LittleEndianBytes.{from_bytes_1, from_bytes_2, from_bytes_4, from_bytes_6, from_bytes_8}
 
 -- The bytes that are read are the front of those that are there, and the others are left.
 pub record Taken (count : ℕ) (unread new : Unread) (xs : List ℕ) : Type 0 where
@@ -36,30 +34,13 @@ bytes_at_length count unread new xs e =
     let taken = bytes_at_ok count unread new xs e in
     ap length taken.front ∙ length-take-le count unread.bytes taken.enough
 
-number_from : (size n : ℕ) (unread new : Unread) (xs : List ℕ) → bytes_at size unread ≡ Ok (xs, new) → n ≡ from_little_endian xs → number_at size unread ≡ Ok (n, new)
+pub number_from : (size n : ℕ) (unread new : Unread) (xs : List ℕ) → bytes_at size unread ≡ Ok (xs, new) → n ≡ from_little_endian xs → number_at size unread ≡ Ok (n, new)
 unfolding number_at
 number_from size n unread new xs e f = rw (e, f) refl
 
 pub number_fault : (size : ℕ) (unread : Unread) (fault : CutFault) → bytes_at size unread ≡ Err fault → number_at size unread ≡ Err fault
 unfolding number_at
 number_fault size unread fault e = rw e refl
-
-pub number_1 : (unread new : Unread) (xs : List ℕ) → bytes_at 1 unread ≡ Ok (xs, new) → number_at 1 unread ≡ Ok (get_or xs 0 0, new)
-number_1 unread new xs e = number_from 1 (get_or xs 0 0) unread new xs e (from_bytes_1 xs (bytes_at_length 1 unread new xs e))
-
-pub number_2 : (n : ℕ) (unread new : Unread) (xs : List ℕ) → bytes_at 2 unread ≡ Ok (xs, new) → n ≡ from_le_bytes w16 xs → number_at 2 unread ≡ Ok (n, new)
-number_2 n unread new xs e f = number_from 2 n unread new xs e (f ∙ from_bytes_2 xs (bytes_at_length 2 unread new xs e))
-
-pub number_4 : (n : ℕ) (unread new : Unread) (xs : List ℕ) → bytes_at 4 unread ≡ Ok (xs, new) → n ≡ from_le_bytes w32 xs → number_at 4 unread ≡ Ok (n, new)
-number_4 n unread new xs e f = number_from 4 n unread new xs e (f ∙ from_bytes_4 xs (bytes_at_length 4 unread new xs e))
-
-pub number_8 : (n : ℕ) (unread new : Unread) (xs : List ℕ) → bytes_at 8 unread ≡ Ok (xs, new) → n ≡ from_le_bytes w64 xs → number_at 8 unread ≡ Ok (n, new)
-number_8 n unread new xs e f = number_from 8 n unread new xs e (f ∙ from_bytes_8 xs (bytes_at_length 8 unread new xs e))
-
-pub number_6 : (n : ℕ) (unread new : Unread) (xs : List ℕ) → bytes_at 6 unread ≡ Ok (xs, new)
-    → n ≡ from_le_bytes w64 (get_or xs 0 0 ∷ get_or xs 1 0 ∷ get_or xs 2 0 ∷ get_or xs 3 0 ∷ get_or xs 4 0 ∷ get_or xs 5 0 ∷ 0 ∷ 0 ∷ [])
-    → number_at 6 unread ≡ Ok (n, new)
-number_6 n unread new xs e f = number_from 6 n unread new xs e (f ∙ from_bytes_6 xs (bytes_at_length 6 unread new xs e))
 
 -- A number is what its bytes spell.
 pub record NumberTaken (size n : ℕ) (unread new : Unread) : Type 0 where

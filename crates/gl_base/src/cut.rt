@@ -1,9 +1,11 @@
 //! Fields read from the front of bytes.
 
-ghost use Rattle.std.specs.Prelude.{◌≡◌, ◌⊎◌, ℕ, ◌+◌, ◌/◌, ◌^◌, ◌<◌, length, position};
+ghost use Rattle.std.specs.Prelude.{◌≡◌, ◌⊎◌, ℕ, List, ◌+◌, ◌/◌, ◌^◌, ◌<◌, ◌++◌, length, position, IfOk, Ok};
+ghost use Rattle.gl_base.specs.LittleEndian.{little_endian};
 ghost use Rattle.gl_base.specs.Cut.{Unread, IsWidth, Gives, bytes_at, number_at, string_at, field_at, is_no_text, text_at};
 
 use crate::cut_fault::CutFault;
+use crate::number::{u8_of, u16_of, u32_of, u48_of, u64_of};
 use std::marker::Model;
 
 /// Bytes of which the front was read, field by field. A read that answers a fault leaves the cut
@@ -59,42 +61,75 @@ impl<'a> Cut<'a> {
         }
     }
 
-    #[tactic(auto, using(crate::proofs::Numbers::number_1), unfolding(crate::specs::Cut::number_at))]
+    #[tactic(auto, using(crate::proofs::Numbers::number_from), unfolding(crate::specs::Cut::number_at))]
     pub fn u8(&mut self) -> Result<u8, CutFault>
-        ensures { Gives (λ n. n) result self.old self.new (number_at 1 self.old) }
+        ensures exact { Gives (λ n. n) result self.old self.new (number_at 1 self.old) }
+
+        // What is read is spelled so, and what is spelled so is read.
+        ensures spelled { IfOk result (λ n. self.old.bytes ≡ little_endian 1 n ++ self.new.bytes) }
+        ensures only { (n : ℕ) (rest : List ℕ) → n < 2 ^ 8 → self.old.bytes ≡ little_endian 1 n ++ rest → result ≡ Ok n }
     {
-        let [byte] = *self.chunk::<1>()?;
-        Ok(byte)
+        match self.chunk::<1>() {
+            Ok(bytes) => Ok(u8_of(bytes)),
+            Err(fault) => Err(fault),
+        }
     }
 
-    #[tactic(auto, unfolding(crate::specs::Cut::number_at))]
+    #[tactic(auto, using(crate::proofs::Numbers::number_from), unfolding(crate::specs::Cut::number_at))]
     pub fn u16(&mut self) -> Result<u16, CutFault>
-        ensures { Gives (λ n. n) result self.old self.new (number_at 2 self.old) }
+        ensures exact { Gives (λ n. n) result self.old self.new (number_at 2 self.old) }
+
+        // What is read is spelled so, and what is spelled so is read.
+        ensures spelled { IfOk result (λ n. self.old.bytes ≡ little_endian 2 n ++ self.new.bytes) }
+        ensures only { (n : ℕ) (rest : List ℕ) → n < 2 ^ 16 → self.old.bytes ≡ little_endian 2 n ++ rest → result ≡ Ok n }
     {
-        Ok(u16::from_le_bytes(*self.chunk::<2>()?))
+        match self.chunk::<2>() {
+            Ok(bytes) => Ok(u16_of(bytes)),
+            Err(fault) => Err(fault),
+        }
     }
 
-    #[tactic(auto, unfolding(crate::specs::Cut::number_at))]
+    #[tactic(auto, using(crate::proofs::Numbers::number_from), unfolding(crate::specs::Cut::number_at))]
     pub fn u32(&mut self) -> Result<u32, CutFault>
-        ensures { Gives (λ n. n) result self.old self.new (number_at 4 self.old) }
+        ensures exact { Gives (λ n. n) result self.old self.new (number_at 4 self.old) }
+
+        // What is read is spelled so, and what is spelled so is read.
+        ensures spelled { IfOk result (λ n. self.old.bytes ≡ little_endian 4 n ++ self.new.bytes) }
+        ensures only { (n : ℕ) (rest : List ℕ) → n < 2 ^ 32 → self.old.bytes ≡ little_endian 4 n ++ rest → result ≡ Ok n }
     {
-        Ok(u32::from_le_bytes(*self.chunk::<4>()?))
+        match self.chunk::<4>() {
+            Ok(bytes) => Ok(u32_of(bytes)),
+            Err(fault) => Err(fault),
+        }
     }
 
     /// A number of six bytes.
-    #[tactic(auto, using(crate::proofs::Numbers::number_6), unfolding(crate::specs::Cut::number_at))]
+    #[tactic(auto, using(crate::proofs::Numbers::number_from), unfolding(crate::specs::Cut::number_at))]
     pub fn u48(&mut self) -> Result<u64, CutFault>
-        ensures { Gives (λ n. n) result self.old self.new (number_at 6 self.old) }
+        ensures exact { Gives (λ n. n) result self.old self.new (number_at 6 self.old) }
+
+        // What is read is spelled so, and what is spelled so is read.
+        ensures spelled { IfOk result (λ n. self.old.bytes ≡ little_endian 6 n ++ self.new.bytes) }
+        ensures only { (n : ℕ) (rest : List ℕ) → n < 2 ^ 48 → self.old.bytes ≡ little_endian 6 n ++ rest → result ≡ Ok n }
     {
-        let [a, b, c, d, e, f] = *self.chunk::<6>()?;
-        Ok(u64::from_le_bytes([a, b, c, d, e, f, 0, 0]))
+        match self.chunk::<6>() {
+            Ok(bytes) => Ok(u48_of(bytes)),
+            Err(fault) => Err(fault),
+        }
     }
 
-    #[tactic(auto, unfolding(crate::specs::Cut::number_at))]
+    #[tactic(auto, using(crate::proofs::Numbers::number_from), unfolding(crate::specs::Cut::number_at))]
     pub fn u64(&mut self) -> Result<u64, CutFault>
-        ensures { Gives (λ n. n) result self.old self.new (number_at 8 self.old) }
+        ensures exact { Gives (λ n. n) result self.old self.new (number_at 8 self.old) }
+
+        // What is read is spelled so, and what is spelled so is read.
+        ensures spelled { IfOk result (λ n. self.old.bytes ≡ little_endian 8 n ++ self.new.bytes) }
+        ensures only { (n : ℕ) (rest : List ℕ) → n < 2 ^ 64 → self.old.bytes ≡ little_endian 8 n ++ rest → result ≡ Ok n }
     {
-        Ok(u64::from_le_bytes(*self.chunk::<8>()?))
+        match self.chunk::<8>() {
+            Ok(bytes) => Ok(u64_of(bytes)),
+            Err(fault) => Err(fault),
+        }
     }
 
     fn copy(&self) -> Cut<'a>

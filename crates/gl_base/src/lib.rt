@@ -3,6 +3,7 @@
 
 mod cut;
 mod cut_fault;
+mod number;
 mod put;
 mod status_kind;
 mod status_of;

@@ -6,6 +6,7 @@ ghost use Rattle.gl_base.specs.LittleEndian.{little_endian};
 
 use std::alloc::AllocError;
 
+#[tactic(auto, unfolding(crate::specs::LittleEndian::little_endian))]
 pub fn put_u8(out: &mut Vec<u8>, value: u8) -> Result<(), AllocError>
     ensures put { OnOk result (out.new.items ≡ out.old.items ++ little_endian 1 value) }
     ensures kept { OnErr result (out.new.items ≡ out.old.items) }
@@ -14,6 +15,7 @@ pub fn put_u8(out: &mut Vec<u8>, value: u8) -> Result<(), AllocError>
     Ok(())
 }
 
+#[tactic(auto, unfolding(crate::specs::LittleEndian::little_endian))]
 pub fn put_u16(out: &mut Vec<u8>, value: u16) -> Result<(), AllocError>
     ensures put { OnOk result (out.new.items ≡ out.old.items ++ little_endian 2 value) }
     ensures kept { OnErr result (out.new.items ≡ out.old.items) }
@@ -21,6 +23,7 @@ pub fn put_u16(out: &mut Vec<u8>, value: u16) -> Result<(), AllocError>
     out.extend_from_slice(&value.to_le_bytes())
 }
 
+#[tactic(auto, unfolding(crate::specs::LittleEndian::little_endian))]
 pub fn put_u32(out: &mut Vec<u8>, value: u32) -> Result<(), AllocError>
     ensures put { OnOk result (out.new.items ≡ out.old.items ++ little_endian 4 value) }
     ensures kept { OnErr result (out.new.items ≡ out.old.items) }
@@ -29,6 +32,7 @@ pub fn put_u32(out: &mut Vec<u8>, value: u32) -> Result<(), AllocError>
 }
 
 /// A number of six bytes.
+#[tactic(auto, unfolding(crate::specs::LittleEndian::little_endian))]
 pub fn put_u48(out: &mut Vec<u8>, value: u64) -> Result<(), AllocError>
     requires { value < 2 ^ 48 }
     ensures put { OnOk result (out.new.items ≡ out.old.items ++ little_endian 6 value) }
@@ -39,6 +43,7 @@ pub fn put_u48(out: &mut Vec<u8>, value: u64) -> Result<(), AllocError>
     out.extend_from_slice(low)
 }
 
+#[tactic(auto, unfolding(crate::specs::LittleEndian::little_endian))]
 pub fn put_u64(out: &mut Vec<u8>, value: u64) -> Result<(), AllocError>
     ensures put { OnOk result (out.new.items ≡ out.old.items ++ little_endian 8 value) }
     ensures kept { OnErr result (out.new.items ≡ out.old.items) }

@@ -1,5 +1,5 @@
 -- The text of an identifier reads back, and what reads is the text of an identifier.
-use Rattle.std.proofs.Common.{IfOk, ◌≡◌, ℕ, ◌+◌, ◌^◌, ◌<◌, ◌≤◌, ◌==◌, nat_lt, Bool, true, false, cond, ◌&&◌, List, ◌∷◌, ◌++◌, length, take, drop, get_or, Option, Some, None, Result, Ok, Err, suc, length-append, refl, sym, ap, ◌∙◌, subst, arith}
+use Rattle.std.proofs.Common.{IfOk, ◌≡◌, ℕ, ◌+◌, ◌^◌, ◌<◌, ◌≤◌, ◌==◌, nat_lt, true, false, cond, ◌&&◌, List, ◌∷◌, ◌++◌, length, take, drop, get_or, Option, Some, None, Result, Ok, Err, suc, length-append, refl, sym, ap, ◌∙◌, subst, arith}
 use Rattle.std.specs.Fmt.{decimal}
 use Rattle.std.specs.List.{position, position_or_len}
 use Rattle.std.specs.Str.Parse.{digits_value}
@@ -10,19 +10,11 @@ use Rattle.std.proofs.lemmas.List.Quantifiers.{position-Some}
 use Rattle.std.proofs.Math.ListN.{get_or-append}
 use Rattle.std.proofs.Math.Seq.{get_or-append_seam, take-append_seam, drop-append-add, split_at}
 use Rattle.gl_base.specs.declared.tx_id.TxIdFault.TheVariants.{Empty, LeadingZero, TooBig, Zero}
+use Rattle.gl_base.proofs.Steps.{cond_ok, bind_ok}
 use Rattle.gl_base.proofs.Numerals.{DigitsByIndex, by_index, all_digits}
 use Rattle.gl_base.specs.declared.tx_id.TxId.{TxId}
 use Rattle.gl_base.specs.declared.tx_id.TxIdFault.{TxIdFault}
-use Rattle.gl_base.specs.TxId.{last_view, last_seqno, IsTxId, text_of, dot, is_dot, is_no_digit, zero_digit, in_range, digits_read, from_digits, part_read, ◌>>=◌, sides_read, from_dot, parsed}
-
--- A test before a reading that succeeds was false.
-cond_ok : {A : Type 0} → (b : Bool) (e : TxIdFault) (r : Result A TxIdFault) (x : A) → cond b (Err e) r ≡ Ok x → (b ≡ false) × (r ≡ Ok x)
-cond_ok true e r x h = cc
-cond_ok false e r x h = (refl, h)
-
-bind_ok : {A B : Type 0} → (r : Result A TxIdFault) (f : A → Result B TxIdFault) (y : B) → (r >>= f) ≡ Ok y → (x : A) × (r ≡ Ok x) × (f x ≡ Ok y)
-bind_ok (Ok x) f y h = (x, refl, h)
-bind_ok (Err e) f y h = cc
+use Rattle.gl_base.specs.TxId.{last_view, last_seqno, IsTxId, text_of, dot, is_dot, is_no_digit, zero_digit, in_range, digits_read, from_digits, part_read, sides_read, from_dot, parsed}
 
 -- ---- a part
 

@@ -2,6 +2,7 @@
 use Rattle.std.specs.Prelude.{ℕ, ◌+◌, ◌-◌, ◌^◌, ◌<◌, ◌≤◌, Bool, not, ◌&&◌, List, ◌∷◌, ◌++◌, Option, Some, None, Result, Ok, Err, length, take, drop, position, ◌==◌, nat_lt, if◌then◌else◌, decimal, slice_index}
 use Rattle.std.specs.Char.{is_ascii_digit}
 use Rattle.std.specs.Str.Parse.{digits_value}
+use Rattle.gl_base.specs.Steps.{◌>>=◌}
 use Rattle.gl_base.specs.declared.tx_id.TxId.{TxId}
 use Rattle.gl_base.specs.declared.tx_id.TxIdFault.{TxIdFault}
 use Rattle.gl_base.specs.declared.tx_id.TxIdFault.TheVariants.{Empty, Digit, LeadingZero, TooBig, Zero, NoDot}
@@ -54,11 +55,6 @@ unfoldable pub part_read : ℕ → ℕ → List ℕ → Result ℕ TxIdFault
 part_read start limit part =
     if length part == 0 then Err Empty
     else from_digits start limit part (position is_no_digit part)
-
-infixl 10 ◌>>=◌
-abbrev pub ◌>>=◌ : {A B : Type 0} → Result A TxIdFault → (A → Result B TxIdFault) → Result B TxIdFault
-(Ok x) >>= f = f x
-(Err e) >>= f = Err e
 
 -- The left part is the view, and is told first; the right part is the seqno.
 unfoldable pub sides_read : List ℕ → ℕ → Result TxId TxIdFault

@@ -1,9 +1,15 @@
--- What is promised of every run: of any two committed ledgers, at any nodes and moments, one is a prefix of the other,
--- and each committed ledger is one that the service's layer of the ledger stands for. A moment is a prefix of the list of events.
-use Rattle.std.specs.Prelude.{◌≡◌, ℕ, suc, ◌≤◌, List, [], ◌∷◌, ◌++◌, true, false, None, Some, Ok, length, take, slice_get, ◌⊎◌}
+-- What is promised of every run: of any two committed ledgers, at any nodes and moments, one is a prefix of the other;
+-- what is reported Committed is never reported Invalid; and each committed ledger is one that the service's layer of the
+-- ledger stands for. A moment is a prefix of the list of events.
+use Rattle.std.specs.Prelude.{◌≡◌, ℕ, suc, ◌≤◌, ◌<◌, List, [], ◌∷◌, ◌++◌, true, false, Option, None, Some, Result, Ok, length, take, slice_get, ◌⊎◌}
+use Rattle.gl_base.specs.declared.tx_id.TxId.{TxId}
+use Rattle.gl_base.specs.declared.status_kind.Status.{Status}
+use Rattle.gl_base.specs.declared.status_kind.Status.TheVariants.{Committed, Invalid}
+use Rattle.gl_base.specs.Status.{status_of}
 use Rattle.gl_rules.specs.Identity.{NodeId, member}
 use Rattle.gl_rules.specs.Book.{Book}
 use Rattle.gl_rules.specs.Node.{Node}
+use Rattle.gl_rules.specs.Log.{entry_at}
 use Rattle.gl_rules.specs.World.{Event, Start, after, first_view}
 
 abbrev pub IsPrefixOf : {A : Type 0} → List A → List A → Type 0
@@ -58,6 +64,23 @@ module _ {E Q G R A F : Type 0} (book : Book E Q G R A F) where
     pub configured : book.configuration (take place s.opening) ≡ Some members
     pub first_starts : member s.first s.starting ≡ true
 
+  -- The view of an entry, if there is one.
+  abbrev pub view_of : Option E → Option ℕ
+  view_of None = None
+  view_of (Some e) = Some (book.view_of e)
+
+  abbrev pub named : ℕ → Option ℕ → Option TxId
+  named place None = None
+  named place (Some view) = Some (record { view = view; seqno = place })
+
+  -- The identifier of the last committed entry, if there is one.
+  abbrev pub commit_id : Node E → Option TxId
+  commit_id n = named n.commit (view_of (entry_at n.log n.commit))
+
+  -- What a node tells of a transaction's status.
+  abbrev pub reported : Node E → TxId → Status
+  reported n id = status_of id (view_of (entry_at n.log id.seqno)) (commit_id n)
+
   -- Of two committed ledgers one is a prefix of the other.
   abbrev pub Agree : Node E → Node E → Type 0
   Agree m n = IsPrefixOf (committed m) (committed n) ⊎ IsPrefixOf (committed n) (committed m)
@@ -68,4 +91,6 @@ module _ {E Q G R A F : Type 0} (book : Book E Q G R A F) where
   -- What holds of a list of events, at all pairs of moments and nodes.
   pub record IsSafe (Sound : List E → Type 0) (s : Start E) (events : List (Event Q G R)) : Type 0 where
     pub prefix : (i j : ℕ) (x y : NodeId) → Agree (node_after s (take i events) x) (node_after s (take j events) y)
+    pub status : (i j : ℕ) (x y : NodeId) (id : TxId) →
+        reported (node_after s (take i events) x) id ≡ Committed → reported (node_after s (take j events) y) id ≡ Invalid → ⊥
     pub ledger : (i : ℕ) (x : NodeId) → Sound (committed (node_after s (take i events) x))

@@ -29,7 +29,7 @@ abbrev pub changed_set : List (List ℕ) → List (List ℕ) → Option (List (L
 changed_set before now = if same_lists before now then None else Some now
 
 -- The configuration that begins with a ledger's last entry, if that changes the set of trusted nodes.
-abbrev pub configuration : List Entry → Option (List (List ℕ))
+unfoldable pub configuration : List Entry → Option (List (List ℕ))
 configuration ledger = changed_set (trusted_in (node_rows (take (length ledger - 1) ledger))) (trusted_in (node_rows ledger))
 
 abbrev with_order : Rows → ℕ → List (List ℕ)

@@ -2,3 +2,4 @@ pub mod Ids
 pub mod Lists
 pub mod Advance
 pub mod Sets
+pub mod Solo

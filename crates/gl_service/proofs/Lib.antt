@@ -3,3 +3,4 @@ pub mod Lists
 pub mod Advance
 pub mod Sets
 pub mod Solo
+pub mod Starting

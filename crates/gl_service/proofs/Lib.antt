@@ -4,3 +4,4 @@ pub mod Advance
 pub mod Sets
 pub mod Solo
 pub mod Starting
+pub mod Worlds

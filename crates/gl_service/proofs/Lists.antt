@@ -22,3 +22,11 @@ pub length-front : {A : Type 0} (xs : List A) (n : ℕ) → n ≤ length xs → 
 length-front xs zero h = refl
 length-front [] (suc n) h = absurd (omega arith)
 length-front (x ∷ xs) (suc n) h = ap suc (length-front xs n (omega arith))
+
+-- fewer of the first elements are a front of more of them, with more behind the list too
+pub fronts : {A : Type 0} (xs more : List A) (c d : ℕ) → c ≤ d → c ≤ length xs → (rest : List A) × (take c xs ++ rest ≡ take d (xs ++ more))
+fronts xs more zero d le within = (take d (xs ++ more), refl)
+fronts [] more (suc c) d le within = absurd (omega arith)
+fronts (x ∷ xs) more (suc c) zero le within = absurd (omega arith)
+fronts (x ∷ xs) more (suc c) (suc d) le within =
+    let r = fronts xs more c d (omega arith) (omega arith) in (r.0, ap (λ t. x ∷ t) r.1)

@@ -5,3 +5,5 @@ pub mod Sets
 pub mod Solo
 pub mod Starting
 pub mod Worlds
+pub mod Reports
+pub mod Single

@@ -1,6 +1,8 @@
 //! A service of one schedule: its keys, its genesis, its ledger as the book of consensus, and what is promised of it.
 #![tactic(auto)]
 
+mod laws;
 mod settings;
 
+pub use laws::single_node;
 pub use settings::Settings;

@@ -1,13 +1,11 @@
 -- What advances at a node that is its own quorum: commit comes to the last signature.
-use Rattle.std.proofs.Common.{◌≡◌, ◌≢◌, ◌⊎◌, inl, inr, ⊎_elim, ℕ, zero, suc, ◌+◌, ◌<◌, ◌≤◌, List, [], ◌∷◌, ◌++◌, length, take, Option, Some, None, Bool, true, false, ◌&&◌, ◌||◌, ◌==◌, nat_lt, nat_le, if◌then◌else◌, refl, sym, ◌∙◌, ap, subst, arith}
+use Rattle.std.proofs.Common.{◌≡◌, ℕ, zero, suc, ◌≤◌, List, [], ◌∷◌, ◌++◌, length, take, Option, Some, None, Bool, true, false, ◌&&◌, ◌||◌, ◌==◌, nat_lt, nat_le, if◌then◌else◌, refl, sym, ◌∙◌, ap, arith}
 use Rattle.std.specs.List.{slice_get}
 use Rattle.std.specs.Option.{option_to_list}
 use Rattle.std.proofs.lemmas.Bool.Decides.{nat_tests}
 use Rattle.gl_rules.specs.Identity.{NodeId, same}
-use Rattle.gl_rules.specs.Majority.{tally, majority, quorum}
+use Rattle.gl_rules.specs.Majority.{quorum}
 use Rattle.gl_rules.specs.Node.{Node, Role, Leader}
-use Rattle.gl_rules.specs.Outcome.{Step}
-use Rattle.gl_rules.specs.Log.{entry_at}
 use Rattle.gl_rules.specs.Configuration.{configuration_at, configurations_above, or_else, active_upto}
 use Rattle.gl_rules.specs.Steps.{led_by}
 use Rattle.gl_rules.specs.Replication.{advance, commits, may_commit, greatest_to_commit}
@@ -16,7 +14,7 @@ use Rattle.gl_store.specs.Ledger.{last_signature, signature_place}
 use Rattle.gl_store.specs.declared.entry.Entry.{Entry}
 use Rattle.gl_store.proofs.Keeping.{last_signature-push, last_signature-signed}
 use Rattle.gl_service.specs.Nodes.{configuration}
-use Rattle.gl_service.specs.Service.{service_book, Given, Unmade}
+use Rattle.gl_service.specs.Service.{service_book}
 use Rattle.gl_service.proofs.Ids.{same_itself}
 use Rattle.gl_service.proofs.Lists.{there, take-next, take-past, length-front}
 

@@ -1,10 +1,10 @@
 -- What the one node of a service reports of a transaction, and what a node reports that holds nothing.
-use Rattle.std.proofs.Common.{◌≡◌, ◌≢◌, ℕ, zero, suc, ◌<◌, ◌≤◌, List, [], length, Option, Some, None, Bool, true, false, ◌==◌, nat_lt, nat_le, if◌then◌else◌, refl, sym, ◌∙◌, ap, ap₂, subst, arith}
+use Rattle.std.proofs.Common.{◌≡◌, ◌≢◌, ℕ, zero, suc, ◌<◌, ◌≤◌, length, Option, Some, None, Bool, true, false, ◌==◌, nat_lt, nat_le, if◌then◌else◌, refl, sym, ◌∙◌, ap, arith}
 use Rattle.std.specs.List.{slice_get}
 use Rattle.std.proofs.lemmas.Bool.Decides.{nat_tests}
 use Rattle.gl_base.specs.declared.tx_id.TxId.{TxId}
 use Rattle.gl_base.specs.declared.status_kind.Status.{Status}
-use Rattle.gl_base.specs.declared.status_kind.Status.TheVariants.{Unknown, Pending, Committed, Invalid}
+use Rattle.gl_base.specs.declared.status_kind.Status.TheVariants.{Committed, Invalid}
 use Rattle.gl_base.specs.Status.{is_held, decided, undecided, status_of}
 use Rattle.gl_rules.specs.Log.{entry_at}
 use Rattle.gl_rules.specs.Node.{Node}
@@ -16,7 +16,7 @@ use Rattle.gl_service.specs.Service.{service_book}
 use Rattle.gl_service.proofs.Lists.{there}
 use Rattle.gl_service.proofs.Solo.{IsSolo}
 
--- An identifier
+-- the identifier of this view and place
 abbrev id : ℕ → ℕ → TxId
 id view place = record { view = view; seqno = place }
 

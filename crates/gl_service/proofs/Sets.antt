@@ -1,12 +1,12 @@
 -- The set of trusted nodes: what the genesis makes it, and that no other entry changes it.
-use Rattle.std.proofs.Common.{◌≡◌, ℕ, zero, suc, ◌+◌, ◌-◌, ◌<◌, ◌≤◌, List, [], ◌∷◌, ◌++◌, length, take, map, filter, Option, Some, None, Bool, true, false, ◌&&◌, if◌then◌else◌, refl, sym, ◌∙◌, ap, ap₂, subst, arith, length-append, ⊎_elim}
-use Rattle.std.specs.List.{slice_get, AllByRecursion}
+use Rattle.std.proofs.Common.{◌≡◌, ℕ, suc, ◌-◌, ◌<◌, ◌≤◌, List, [], ◌∷◌, ◌++◌, length, take, map, filter, Some, None, Bool, true, ◌&&◌, if◌then◌else◌, refl, sym, ◌∙◌, ap, ap₂, arith, length-append, ⊎_elim}
+use Rattle.std.specs.List.{AllByRecursion}
 use Rattle.std.proofs.lemmas.Bool.{cases_lt}
 use Rattle.std.specs.Cmp.Lexicographic.{slice_cmp, bytes_decides, nat_list_cmp_total}
 use Rattle.std.specs.Ordering.{nat_cmp}
 use Rattle.std.specs.FinMap as rows
 use Rattle.gl_store.specs.Field.{u16_bytes, u64_bytes, with_u32_length}
-use Rattle.gl_store.specs.Tables.{Tables, Rows, same_bytes, no_tables, tables_of, wrote_all}
+use Rattle.gl_store.specs.Tables.{Tables, Rows, no_tables, tables_of, wrote_all}
 use Rattle.gl_store.specs.Genesis.{nodes_map, node_id, genesis_rows}
 use Rattle.gl_store.specs.Ledger.{genesis_entry, signature_entry, opening_ledger}
 use Rattle.gl_store.specs.declared.entry.Entry.{Entry}

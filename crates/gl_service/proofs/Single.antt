@@ -1,11 +1,11 @@
 -- The headline of a service of one node.
-use Rattle.std.proofs.Common.{◌≡◌, ◌≢◌, ◌⊎◌, inl, inr, ⊎_elim, ℕ, zero, suc, ◌<◌, ◌≤◌, List, [], take, refl, sym, ◌∙◌, ap, ap₂, subst, arith}
+use Rattle.std.proofs.Common.{◌≡◌, ◌≢◌, ◌⊎◌, inl, inr, ⊎_elim, ℕ, suc, ◌<◌, ◌≤◌, List, take, refl, sym, ◌∙◌, ap, ap₂, subst, arith}
 use Rattle.std.proofs.lemmas.Bool.{cases_lt}
 use Rattle.gl_base.specs.declared.tx_id.TxId.{TxId}
 use Rattle.gl_base.specs.declared.status_kind.Status.TheVariants.{Committed, Invalid}
 use Rattle.gl_rules.specs.Identity.{NodeId}
 use Rattle.gl_rules.specs.Node.{Node}
-use Rattle.gl_rules.specs.Safety.{Agree, committed, node_after, reported}
+use Rattle.gl_rules.specs.Safety.{Agree, committed, reported}
 use Rattle.gl_rules.specs.World.{joiner, begin, after}
 use Rattle.gl_store.specs.Serial.{IsSound}
 use Rattle.gl_store.specs.declared.entry.Entry.{Entry}

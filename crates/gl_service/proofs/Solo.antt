@@ -24,6 +24,7 @@ use Rattle.gl_store.proofs.Applications.{executed_ok, application_sound, run_out
 use Rattle.gl_store.proofs.Lists.{slice_get-push, take-push}
 use Rattle.gl_service.specs.declared.settings.Settings.{Settings}
 use Rattle.gl_service.specs.Founding.{id_of}
+use Rattle.gl_service.specs.Keys.{leaf_count}
 use Rattle.gl_service.specs.Service.{service_book, replied, Given, Unmade}
 use Rattle.gl_service.proofs.Lists.{take-past}
 use Rattle.gl_service.proofs.Advance.{IsAlone, advance_alone, above, last_signature-le}
@@ -79,28 +80,42 @@ ledger_views s n h = record { each = λ i e a. omega (arith, h.ledger.views i e 
 abbrev pub Goes : Settings → Node Entry → Node Entry → Type 0
 Goes s n m = IsSolo s m × Grows n m
 
+-- an event that leaves the node as it was
 pub grows_same : (s : Settings) (n : Node Entry) → IsSolo s n → Grows n n
 grows_same s n h = record { rest = []; log = sym (append-nil n.log); commit = omega arith; within = h.within }
 
+-- with one more entry
 goes_push : (s : Settings) (n : Node Entry) (e : Entry) (used : ℕ) → IsSolo s n → IsSoloLedger (id_of s 1) (n.log ++ e ∷ []) → Goes s n (record (appended n e) { used = used })
-goes_push s n e used h ledger = (record {
-  view = h.view;
-  role = h.role;
-  vote = h.vote;
-  leader = h.leader;
-  base = h.base;
-  ledger = ledger;
-  opened = h.opened;
-  within = simp length-append (omega (arith, h.within));
-}, record { rest = e ∷ []; log = refl; commit = omega arith; within = simp length-append (omega (arith, h.within)) })
+goes_push s n e used h ledger = (
+  record {
+    view = h.view;
+    role = h.role;
+    vote = h.vote;
+    leader = h.leader;
+    base = h.base;
+    ledger = ledger;
+    opened = h.opened;
+    within = simp length-append (omega (arith, h.within));
+  },
+  record { rest = e ∷ []; log = refl; commit = omega arith; within = simp length-append (omega (arith, h.within)) },
+)
 
+-- a leader answers
 at_leader : (n : Node Entry) → n.role ≡ Leader → (t : Step Entry Given Unmade) → led_by n.role n t ≡ t
 at_leader n leads t = ap (λ (r : Role). led_by r n t) leads
 
-pub goes_submit : (s : Settings) (n : Node Entry) (q : List Operation) → IsSolo s n → Goes s n (submit service_book q n).node
+pub submit-is : (s : Settings) (n : Node Entry) (q : List Operation) → IsSolo s n →
+    submit service_book q n ≡ enters service_book n (replied (executed n.log n.view q))
 unfolding submit
+submit-is s n q h = at_leader n h.role (executes service_book q n)
+
+pub sign-is : (s : Settings) (x : NodeId) (n : Node Entry) → IsSolo s n → sign service_book x n ≡ signs service_book x n
+unfolding sign
+sign-is s x n h = at_leader n h.role (signs service_book x n)
+
+pub goes_submit : (s : Settings) (n : Node Entry) (q : List Operation) → IsSolo s n → Goes s n (submit service_book q n).node
 goes_submit s n q h =
-    subst (λ (t : Step Entry Given Unmade). Goes s n t.node) (sym (at_leader n h.role (executes service_book q n))) (go (executed n.log n.view q) refl)
+    subst (λ (t : Step Entry Given Unmade). Goes s n t.node) (sym (submit-is s n q h)) (go (executed n.log n.view q) refl)
   where
     go : (r : Result (Entry × List Answer) Refusal) → executed n.log n.view q ≡ r → Goes s n (enters service_book n (replied r)).node
     go (Err why) is = (h, grows_same s n h)
@@ -112,29 +127,34 @@ goes_submit s n q h =
         (ap (λ (e : Entry). e.view) ran.3 ∙ h.view)
         (subst (λ (e : Entry). AllByRecursion IsOutside e.writes) (sym ran.3) (run_outside 1 q (tables_of n.log) [] ran.1 tt ran.2)))
 
+-- one more leaf, or none
 abbrev more_or_none : Node Entry → Bool → Step Entry Given Unmade
 more_or_none n b = if b then refuse n (KeyExhausted n.reserved) else quiet (record n { reserved = n.reserved + 1 }) Done
 
 pub goes_reserve : (s : Settings) (x : NodeId) (n : Node Entry) → IsSolo s n → Goes s n (reserve service_book x n).node
 unfolding reserve
-goes_reserve s x n h = go (nat_le 32 n.reserved)
+goes_reserve s x n h = go (nat_le leaf_count n.reserved)
   where
     more : Goes s n (record n { reserved = n.reserved + 1 })
-    more = (record {
-      view = h.view;
-      role = h.role;
-      vote = h.vote;
-      leader = h.leader;
-      base = h.base;
-      ledger = h.ledger;
-      opened = h.opened;
-      within = h.within;
-    }, record { rest = []; log = sym (append-nil n.log); commit = omega arith; within = h.within })
+    more = (
+      record {
+        view = h.view;
+        role = h.role;
+        vote = h.vote;
+        leader = h.leader;
+        base = h.base;
+        ledger = h.ledger;
+        opened = h.opened;
+        within = h.within;
+      },
+      record { rest = []; log = sym (append-nil n.log); commit = omega arith; within = h.within },
+    )
 
     go : (b : Bool) → Goes s n (more_or_none n b).node
     go true = (h, grows_same s n h)
     go false = more
 
+-- what holds of each of three steps holds of the one that is chosen
 either : (P : Step Entry Given Unmade → Type 0) (a b : Bool) (t u v : Step Entry Given Unmade) → P t → P u → P v → P (if a then t else (if b then u else v))
 either P true b t u v p q r = p
 either P false true t u v p q r = q
@@ -146,9 +166,8 @@ is_signed view None = false
 is_signed view (Some e) = is_signature e.content && (e.view == view)
 
 pub goes_sign : (s : Settings) (x : NodeId) (n : Node Entry) → IsSolo s n → Goes s n (sign service_book x n).node
-unfolding sign
 goes_sign s x n h =
-    subst (λ (t : Step Entry Given Unmade). Goes s n t.node) (sym (at_leader n h.role (signs service_book x n)))
+    subst (λ (t : Step Entry Given Unmade). Goes s n t.node) (sym (sign-is s x n h))
     (either (λ t. Goes s n t.node) (n.used == n.reserved) (is_signed n.view (entry_at n.log (length n.log)))
     (refuse n (NotReserved n.reserved)) (refuse n (NothingToSign (length n.log))) (signed service_book n (Ok entry)) (h, grows_same s n h) (h, grows_same s n h)
     (goes_push s n entry (n.used + 1) h
@@ -157,17 +176,21 @@ goes_sign s x n h =
     entry : Entry
     entry = signature_entry x n.log n.view n.commit
 
+-- with a greater commit
 goes_commit : (s : Settings) (n : Node Entry) (place : ℕ) → IsSolo s n → n.commit ≤ place → place ≤ length n.log → Goes s n (record n { commit = place })
-goes_commit s n place h more within = (record {
-  view = h.view;
-  role = h.role;
-  vote = h.vote;
-  leader = h.leader;
-  base = h.base;
-  ledger = h.ledger;
-  opened = omega (arith, h.opened);
-  within = within;
-}, record { rest = []; log = sym (append-nil n.log); commit = more; within = within })
+goes_commit s n place h more within = (
+  record {
+    view = h.view;
+    role = h.role;
+    vote = h.vote;
+    leader = h.leader;
+    base = h.base;
+    ledger = h.ledger;
+    opened = omega (arith, h.opened);
+    within = within;
+  },
+  record { rest = []; log = sym (append-nil n.log); commit = more; within = within },
+)
 
 -- commit comes to the last signature, if that is above it
 pub advance-is : (s : Settings) (n : Node Entry) → IsSolo s n →

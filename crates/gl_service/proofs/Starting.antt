@@ -1,12 +1,11 @@
 -- The start of a service of one node: its genesis is acceptable, and its leader is alone.
-use Rattle.std.proofs.Common.{◌≡◌, ℕ, zero, suc, ◌≤◌, List, [], ◌∷◌, ◌++◌, length, take, map, Some, true, refl, sym, ◌∙◌, ap, ap₂, subst, arith}
+use Rattle.std.proofs.Common.{◌≡◌, ℕ, zero, suc, List, [], ◌∷◌, take, map, Some, true, refl, sym, ◌∙◌, ap, ap₂, subst, arith}
 use Rattle.std.specs.List.{slice_get}
 use Rattle.sha2.specs.Sha256.{sha256}
 use Rattle.gl_rules.specs.World.{leader_at_start}
-use Rattle.gl_store.specs.Serial.{IsSound, IsLedger, StandsAs}
+use Rattle.gl_store.specs.Serial.{IsSound, StandsAs}
 use Rattle.gl_store.specs.Genesis.{is_acceptable, node_id}
 use Rattle.gl_store.specs.Ledger.{genesis_entry, signature_entry, opening_ledger}
-use Rattle.gl_store.specs.Kept.{IsSole}
 use Rattle.gl_store.specs.declared.entry.Entry.{Entry}
 use Rattle.gl_store.specs.declared.genesis.NewMember.{NewMember}
 use Rattle.gl_store.specs.declared.genesis.NewNode.{NewNode}

@@ -1,12 +1,12 @@
 -- The world of a service of one node: that node is alone at every moment, and no other ever changes.
-use Rattle.std.proofs.Common.{◌≡◌, ◌≢◌, ◌⊎◌, inl, inr, ⊎_elim, ℕ, zero, suc, ◌≤◌, List, [], ◌∷◌, ◌++◌, length, take, map, Bool, true, false, ◌||◌, if◌then◌else◌, refl, sym, ◌∙◌, ap, ap₂, subst, arith, append_assoc}
-use Rattle.gl_rules.specs.Identity.{NodeId, same, member}
+use Rattle.std.proofs.Common.{◌≡◌, ◌≢◌, ℕ, zero, suc, ◌≤◌, List, [], ◌∷◌, ◌++◌, length, take, map, Bool, false, ◌||◌, if◌then◌else◌, sym, ◌∙◌, ap, ap₂, subst, arith, append_assoc}
+use Rattle.gl_rules.specs.Identity.{NodeId, member}
 use Rattle.gl_rules.specs.Node.{Node}
 use Rattle.gl_rules.specs.Outcome.{Step}
 use Rattle.gl_rules.specs.Requests.{submit, reserve, sign}
 use Rattle.gl_rules.specs.Replication.{advance}
 use Rattle.gl_rules.specs.Safety.{IsPrefixOf, committed}
-use Rattle.gl_rules.specs.World.{Event, Timeout, Deliver, Submit, Finish, Govern, Reserve, Sign, Evidence, Replicate, Advance, StepDown, Restart, Install, begin, starter, joiner, leader_at_start, at, happens, run}
+use Rattle.gl_rules.specs.World.{Timeout, Deliver, Submit, Finish, Govern, Reserve, Sign, Evidence, Replicate, Advance, StepDown, Restart, Install, begin, starter, joiner, leader_at_start, at, happens, run}
 use Rattle.gl_store.specs.declared.entry.Entry.{Entry}
 use Rattle.gl_service.specs.declared.settings.Settings.{Settings}
 use Rattle.gl_service.specs.Founding.{numbers_from, id_of}
@@ -35,11 +35,13 @@ grows_then n m o a b = record {
 
 goes_at : (s : Settings) (w : ServiceWorld) (t : Step Entry Given Unmade) → IsSoloWorld s w → Goes s (w.nodes (id_of s 1)) t.node → GoesOn s w (at w (id_of s 1) t).world
 goes_at s w t h goes =
-    let here = ap (λ (b : Bool). if b then t.node else w.nodes (id_of s 1)) (same_itself (id_of s 1)) in
-    (record {
-      first = subst (IsSolo s) (sym here) goes.0;
-      others = λ y apart. ap (λ (b : Bool). if b then t.node else w.nodes y) (same_other y (id_of s 1) apart) ∙ h.others y apart;
-    }, subst (Grows (w.nodes (id_of s 1))) (sym here) goes.1)
+    let here = ap (λ (b : Bool). if b then t.node else w.nodes (id_of s 1)) (same_itself (id_of s 1)) in (
+      record {
+        first = subst (IsSolo s) (sym here) goes.0;
+        others = λ y apart. ap (λ (b : Bool). if b then t.node else w.nodes y) (same_other y (id_of s 1) apart) ∙ h.others y apart;
+      },
+      subst (Grows (w.nodes (id_of s 1))) (sym here) goes.1,
+    )
 
 goes_happens : (s : Settings) (w : ServiceWorld) (e : ServiceEvent) → IsLocal (id_of s 1) e → IsSoloWorld s w → GoesOn s w (happens service_book w e).world
 unfolding happens

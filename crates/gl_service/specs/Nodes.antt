@@ -1,5 +1,5 @@
 -- Which nodes a ledger records, and which of them are trusted, as the rows of the governance tables tell it.
-use Rattle.std.specs.Prelude.{ℕ, zero, suc, ◌+◌, ◌-◌, ◌*◌, List, [], ◌∷◌, ◌++◌, Option, None, Some, Bool, true, false, ◌&&◌, not, ◌==◌, length, map, filter, take, slice_index, if◌then◌else◌}
+use Rattle.std.specs.Prelude.{ℕ, zero, suc, ◌+◌, ◌-◌, ◌*◌, List, [], ◌∷◌, ◌++◌, Option, None, Some, Bool, true, false, ◌&&◌, ◌==◌, length, map, filter, take, slice_index, if◌then◌else◌}
 use Rattle.std.specs.FinMap as rows
 use Rattle.gl_store.specs.Tables.{Rows, same_bytes, tables_of}
 use Rattle.gl_store.specs.Genesis.{nodes_map}

@@ -11,5 +11,4 @@ ghost use Rattle.gl_service.specs.Headline.{Headline};
 /// and advances come.
 pub fn single_node()
     ensures { (s : Settings) (events : List ServiceEvent) → IsSingle s → AreLocal (id_of s 1) events → Headline s events }
-{
-}
+{}

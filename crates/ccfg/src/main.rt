@@ -1,6 +1,8 @@
 //! `ccfg`, the program.
 #![tactic(auto)]
 
+mod machine;
+mod outcome;
 mod reading;
 mod schedule;
 mod split;

@@ -73,7 +73,7 @@ module _ {E Q G R A F : Type 0} (book : Book E Q G R A F) where
       then refuse n (KeyExhausted n.reserved)
       else quiet (record n { reserved = n.reserved + 1 }) Done
 
-  abbrev signs_for : ℕ → Option E → Bool
+  abbrev pub signs_for : ℕ → Option E → Bool
   signs_for view None = false
   signs_for view (Some e) = book.is_signature e && (book.view_of e == view)
 

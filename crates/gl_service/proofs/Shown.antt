@@ -22,7 +22,7 @@ use Rattle.gl_service.proofs.Ids.{same_itself}
 use Rattle.gl_service.proofs.Solo.{advance-is, submit-is, solo_submit, solo_reserve, solo_sign}
 use Rattle.gl_service.proofs.Starting.{solo_at_start, state_at_start}
 
-abbrev shown : NodeId → List ServiceEvent
+abbrev pub shown : NodeId → List ServiceEvent
 shown x = Submit x [] ∷ Reserve x ∷ Sign x ∷ Advance x ∷ []
 
 -- each event is of this node

@@ -15,13 +15,9 @@ use Rattle.gl_store.specs.declared.entry.Entry.{Entry}
 use Rattle.gl_store.proofs.Keeping.{last_signature-push, last_signature-signed}
 use Rattle.gl_service.specs.Nodes.{configuration}
 use Rattle.gl_service.specs.Service.{service_book}
+use Rattle.gl_service.specs.Solo.{IsAlone}
 use Rattle.gl_service.proofs.Ids.{same_itself}
 use Rattle.gl_service.proofs.Lists.{there, take-next, take-past, length-front}
-
--- one configuration stands at place 1, and no other: that of x alone
-pub record IsAlone (x : NodeId) (log : List Entry) : Type 0 where
-  pub first : configuration (take 1 log) ≡ Some (x ∷ [])
-  pub later : (k : ℕ) → configuration (take (suc (suc k)) log) ≡ None
 
 pub configured : (x : NodeId) (log : List Entry) → IsAlone x log → (c : ℕ) → configuration_at service_book log (suc c) ≡ Some (x ∷ [])
 unfolding configuration_at

@@ -14,7 +14,7 @@ use Rattle.gl_store.specs.declared.entry.Entry.{Entry}
 use Rattle.gl_service.specs.declared.settings.Settings.{Settings}
 use Rattle.gl_service.specs.Service.{service_book}
 use Rattle.gl_service.proofs.Lists.{there}
-use Rattle.gl_service.proofs.Solo.{IsSolo}
+use Rattle.gl_service.specs.Solo.{IsSolo}
 
 -- the identifier of this view and place
 abbrev id : ℕ → ℕ → TxId

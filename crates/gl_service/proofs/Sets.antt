@@ -17,7 +17,7 @@ use Rattle.gl_store.proofs.Growth.{IsOutside, tables_behind-push, untouched}
 use Rattle.gl_store.proofs.Lists.{take-push, take-all}
 use Rattle.gl_service.specs.Nodes.{node_rows, is_trusted, trusted_in, same_lists, changed_set, configuration}
 use Rattle.gl_service.proofs.Lists.{take-past}
-use Rattle.gl_service.proofs.Advance.{IsAlone}
+use Rattle.gl_service.specs.Solo.{IsAlone}
 
 same_itself : (xs : List (List ℕ)) → same_lists xs xs ≡ true
 same_itself [] = refl

@@ -15,7 +15,8 @@ use Rattle.gl_service.specs.Service.{service_book, start_of, ServiceEvent, Servi
 use Rattle.gl_service.specs.Single.{IsSingle, AreLocal}
 use Rattle.gl_service.specs.Headline.{Headline}
 use Rattle.gl_service.proofs.Ids.{cases_same}
-use Rattle.gl_service.proofs.Solo.{IsSolo, Grows}
+use Rattle.gl_service.specs.Solo.{IsSolo}
+use Rattle.gl_service.proofs.Solo.{Grows}
 use Rattle.gl_service.proofs.Starting.{nothing_sound}
 use Rattle.gl_service.proofs.Worlds.{IsSoloWorld, goes_run, grows_between, local_front, prefix_of_grown, solo_begin}
 use Rattle.gl_service.proofs.Reports.{joiner_uncommitted, joiner_unknown, solo_committed, solo_never_invalid}

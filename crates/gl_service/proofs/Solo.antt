@@ -26,26 +26,10 @@ use Rattle.gl_service.specs.declared.settings.Settings.{Settings}
 use Rattle.gl_service.specs.Founding.{id_of}
 use Rattle.gl_service.specs.Keys.{leaf_count}
 use Rattle.gl_service.specs.Service.{service_book, replied, Given, Unmade}
+use Rattle.gl_service.specs.Solo.{IsAlone, IsSoloLedger, IsSolo}
 use Rattle.gl_service.proofs.Lists.{take-past}
-use Rattle.gl_service.proofs.Advance.{IsAlone, advance_alone, above, last_signature-le}
+use Rattle.gl_service.proofs.Advance.{advance_alone, above, last_signature-le}
 use Rattle.gl_service.proofs.Sets.{alone-push}
-
--- of its ledger: each prefix is sound, and all entries are of the first view
-pub record IsSoloLedger (x : NodeId) (ledger : List Entry) : Type 0 where
-  pub sound : (k : ℕ) → IsSound (take k ledger)
-  pub views : (i : ℕ) (e : Entry) → slice_get ledger i ≡ Some e → e.view ≡ 2
-  pub long : 2 ≤ length ledger
-  pub alone : IsAlone x ledger
-
-pub record IsSolo (s : Settings) (n : Node Entry) : Type 0 where
-  pub view : n.view ≡ 2
-  pub role : n.role ≡ Leader
-  pub vote : n.vote ≡ Some (id_of s 1)
-  pub leader : n.leader ≡ None
-  pub base : n.base ≡ 0
-  pub ledger : IsSoloLedger (id_of s 1) n.log
-  pub opened : 2 ≤ n.commit
-  pub within : n.commit ≤ length n.log
 
 -- the log of m is that of n with more behind it, and commit is not lower
 pub record Grows (n m : Node Entry) : Type 0 where

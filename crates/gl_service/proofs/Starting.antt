@@ -22,7 +22,7 @@ use Rattle.gl_service.specs.Service.{start_of}
 use Rattle.gl_service.specs.Single.{IsSingle}
 use Rattle.gl_service.proofs.Lists.{take-past}
 use Rattle.gl_service.proofs.Sets.{alone_at_start}
-use Rattle.gl_service.proofs.Solo.{IsSolo, IsSoloLedger}
+use Rattle.gl_service.specs.Solo.{IsSolo, IsSoloLedger}
 
 -- the genesis of a service of so many nodes and members
 counted : Settings → ℕ → ℕ → request.Genesis

@@ -14,7 +14,8 @@ use Rattle.gl_service.specs.Service.{service_book, start_of, ServiceEvent, Servi
 use Rattle.gl_service.specs.Single.{IsSingle, IsLocal, AreLocal}
 use Rattle.gl_service.proofs.Ids.{same_itself, same_other}
 use Rattle.gl_service.proofs.Lists.{fronts}
-use Rattle.gl_service.proofs.Solo.{IsSolo, Grows, Goes, grows_same, goes_submit, goes_reserve, goes_sign, goes_advance}
+use Rattle.gl_service.specs.Solo.{IsSolo}
+use Rattle.gl_service.proofs.Solo.{Grows, Goes, grows_same, goes_submit, goes_reserve, goes_sign, goes_advance}
 use Rattle.gl_service.proofs.Starting.{solo_at_start}
 
 pub record IsSoloWorld (s : Settings) (w : ServiceWorld) : Type 0 where

@@ -4,3 +4,6 @@ pub mod Reading
 pub mod Stops
 pub mod Text
 pub mod Machine
+pub mod Printing
+pub mod Playing
+pub mod Owed

@@ -98,13 +98,14 @@ status_text status.Pending = codes "Pending"
 status_text status.Committed = codes "Committed"
 status_text status.Invalid = codes "Invalid"
 
--- The numbers of the messages that an event sent, if it sent any.
+-- So many new messages are told by their numbers, which go on from those before.
+abbrev pub new_messages : ℕ → ℕ → List ℕ
+new_messages zero before = []
+new_messages (suc more) before = with_numbers (codes " sent") (numbers_from (before + 1) (suc more))
+
+-- The messages that an event sent, if it sent any.
 abbrev pub sent_text : ServiceWorld → ServiceWorld → List ℕ
-sent_text before now = sent_numbers (length now.sent - length before.sent) (length before.sent)
-  where
-    sent_numbers : ℕ → ℕ → List ℕ
-    sent_numbers zero first = []
-    sent_numbers (suc more) first = with_numbers (codes " sent") (numbers_from (first + 1) (suc more))
+sent_text before now = new_messages (length now.sent - length before.sent) (length before.sent)
 
 -- What happens at a line, if something does: each line is about node 1.
 abbrev pub event_of : Settings → Line → Option ServiceEvent

@@ -2,7 +2,8 @@
 
 ghost use Rattle.std.specs.Prelude.{◌≡◌, ◌≤◌, IfOk, OnErr, OnOk};
 
-use crate::outcome::{Outcome, Refusal};
+use crate::outcome::{Answered, Outcome, Refusal};
+use crate::schedule::Line;
 use gl_base::{Status, TxId};
 use gl_service::{Settings, genesis, node_id};
 use gl_store::{NodeId, Request, Store, StoreError};
@@ -32,7 +33,8 @@ impl Machine {
     ghost use Rattle.gl_rules.specs.Safety.{reported};
     ghost use Rattle.gl_rules.specs.World.{leader_at_start};
     ghost use Rattle.gl_service.specs.Single.{IsSingle};
-    ghost use Rattle.gl_service.specs.Service.{service_book, start_of};
+    ghost use Rattle.gl_service.specs.Service.{ServiceWorld, service_book, start_of};
+    ghost use Rattle.ccfg.specs.Playing.{IsIn, Prints};
     ghost use Rattle.ccfg.specs.Machine.{IsMachine, GoesOn, Steps, node_in};
 
     /// The node as its service begins.
@@ -120,5 +122,26 @@ impl Machine {
         ensures { result ≡ reported service_book (node_in self.now) id }
     {
         self.store.status(id)
+    }
+
+    /// What a line comes to.
+    pub fn answer(&mut self, line: &Line) -> Result<Answered, AllocError>
+        requires { IsMachine self.old }
+        ensures prints { IfOk result (λ answered. (w : ServiceWorld) → IsIn w self.old → Prints w line.now self.old self.new answered) }
+        ensures goes_on { OnOk result (GoesOn self.old self.new) }
+    {
+        match line {
+            Line::Submit(request) => {
+                let outcome = self.submit(request)?;
+                Ok(Answered::Event(outcome))
+            }
+            Line::Reserve => Ok(Answered::Event(self.reserve())),
+            Line::Sign => {
+                let outcome = self.sign()?;
+                Ok(Answered::Event(outcome))
+            }
+            Line::Advance => Ok(Answered::Event(self.advance())),
+            Line::Status(id) => Ok(Answered::Status(self.status(*id))),
+        }
     }
 }

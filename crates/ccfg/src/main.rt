@@ -1,8 +1,11 @@
 //! `ccfg`, the program.
 #![tactic(auto)]
 
+mod ending;
+mod loading;
 mod machine;
 mod outcome;
+mod printing;
 mod reading;
 mod schedule;
 mod split;

@@ -1,0 +1,109 @@
+-- What a run of the program owes to its words and its source: how it ends, and what it writes.
+use Rattle.std.specs.Prelude.{◌≡◌, ℕ, ◌≤◌, List, [], ◌∷◌, Option, None, Some, Bool, true, codes, length, nat_lt, if◌then◌else◌}
+use Rattle.std.specs.Io.KnownBytes.{Appends, Keeps}
+use Rattle.gl_outside.specs.Fault.{Rose}
+use Rattle.gl_outside.specs.Sink.{AppendsFront}
+use Rattle.gl_service.specs.Headline.{Headline}
+use Rattle.ccfg.specs.declared.ending.Fault.{Fault}
+use Rattle.ccfg.specs.declared.ending.Fault.TheVariants as faults
+use Rattle.ccfg.specs.declared.ending.Ending.{Ending}
+use Rattle.ccfg.specs.declared.ending.Ending.TheVariants.{Done, Refused, SourceFailed, SinkFailed, Memory}
+use Rattle.ccfg.specs.declared.schedule.Schedule.{Schedule}
+use Rattle.ccfg.specs.declared.schedule.Schedule.TheVariants.{Empty, Service}
+use Rattle.ccfg.specs.Lines.{line_count}
+use Rattle.ccfg.specs.Reading.{reads}
+use Rattle.ccfg.specs.Text.{events_of, text_of_schedule}
+
+abbrev pub fault_line : Fault → List ℕ
+fault_line faults.Words = codes "fault words\n"
+fault_line faults.Bytes = codes "fault bytes 16777216\n"
+fault_line faults.Lines = codes "fault lines 100000\n"
+fault_line faults.Schedule = codes "fault schedule\n"
+
+abbrev pub refusal_status : Fault → ℕ
+refusal_status faults.Words = 2
+refusal_status faults.Bytes = 8
+refusal_status faults.Lines = 8
+refusal_status faults.Schedule = 9
+
+abbrev pub exit_status : Ending → ℕ
+exit_status Done = 0
+exit_status (Refused fault) = refusal_status fault
+exit_status SourceFailed = 3
+exit_status SinkFailed = 4
+exit_status Memory = 7
+
+abbrev pub bytes_limit : ℕ
+bytes_limit = 16777216
+
+abbrev pub lines_limit : ℕ
+lines_limit = 100000
+
+-- An ending, and the text that belongs to it.
+pub record Due : Type 0 where
+  pub ending : Ending
+  pub text : List ℕ
+
+abbrev pub refused : Fault → Due
+refused fault = record { ending = Refused fault; text = fault_line fault }
+
+abbrev pub of_reading : Option Schedule → Due
+of_reading None = refused faults.Schedule
+of_reading (Some schedule) = record { ending = Done; text = text_of_schedule schedule }
+
+-- What these bytes are owed. The limits are tried before the reading, the one on bytes first.
+unfoldable pub owed : List ℕ → Due
+owed given =
+    if nat_lt bytes_limit (length given) then refused faults.Bytes
+    else (if nat_lt lines_limit (line_count given) then refused faults.Lines else of_reading (reads given))
+
+-- What the sink came to hold: all of the text that is due, and then the run ends as is due; or a front of it, where the sink
+-- failed, by its count of faults, or memory ran out.
+abbrev pub Writes : Ending → Option (List ℕ) → Option (List ℕ) → ℕ → ℕ → Due → Type 0
+Writes Done held holds before now due = (due.ending ≡ Done) × Appends held holds due.text
+Writes (Refused fault) held holds before now due = (due.ending ≡ Refused fault) × Appends held holds due.text
+Writes SourceFailed held holds before now due = ⊥
+Writes SinkFailed held holds before now due = Rose before now × AppendsFront held holds due.text
+Writes Memory held holds before now due = AppendsFront held holds due.text
+
+-- With what a run began, and what it left.
+pub record Run : Type 0 where
+  pub words : List (List ℕ)
+  -- what the source had to give, where it tells that, and whether it gave its end
+  pub given : Option (List ℕ)
+  pub ended : Bool
+  pub read_faults : ℕ
+  pub read_faults_now : ℕ
+  -- what the sink held, where it tells that
+  pub held : Option (List ℕ)
+  pub holds : Option (List ℕ)
+  pub write_faults : ℕ
+  pub write_faults_now : ℕ
+
+-- What the bytes are owed, where the source tells them.
+abbrev pub Owes : Ending → Option (List ℕ) → Run → Type 0
+Owes e None r = Unit {0}
+Owes e (Some given) r = Writes e r.held r.holds r.write_faults r.write_faults_now (owed given)
+
+-- What a replay does: nothing is written where the source failed, by its count of faults; and else what the bytes are owed,
+-- all of them read where the run is done. Of a source that doesn't tell its bytes the causes still hold.
+abbrev pub Replays : Ending → Run → Type 0
+Replays SourceFailed r = Rose r.read_faults r.read_faults_now × Keeps r.held r.holds
+Replays Done r = (r.ended ≡ true) × Owes Done r.given r
+Replays (Refused fault) r = Owes (Refused fault) r.given r
+Replays SinkFailed r = Rose r.write_faults r.write_faults_now × Owes SinkFailed r.given r
+Replays Memory r = Owes Memory r.given r
+
+abbrev pub AreWords : List (List ℕ) → Type 0
+AreWords words = words ≡ codes "replay" ∷ []
+
+-- What the program does: other words are refused, and the one word replays the schedule that is given.
+pub record Answers (e : Ending) (r : Run) : Type 0 where
+  pub other_words : (AreWords r.words → ⊥) → Writes e r.held r.holds r.write_faults r.write_faults_now (refused faults.Words)
+  pub replays : AreWords r.words → Replays e r
+
+-- What is promised of the service of a schedule.
+abbrev pub KeepsHeadline : Option Schedule → Type 0
+KeepsHeadline None = Unit {0}
+KeepsHeadline (Some Empty) = Unit {0}
+KeepsHeadline (Some (Service settings lines)) = Headline settings (events_of settings lines)

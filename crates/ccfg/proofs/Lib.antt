@@ -2,3 +2,4 @@ pub mod LineLemmas
 pub mod ReadingLemmas
 pub mod MachineLemmas
 pub mod PlayLemmas
+pub mod Played

@@ -1,5 +1,6 @@
 -- What is printed of a line is what the machine answers.
-use Rattle.std.proofs.Common.{◌≡◌, ℕ, zero, suc, ◌-◌, List, [], ◌∷◌, ◌++◌, length, Bool, true, refl, sym, ◌∙◌, ap, subst, arith, append-nil, if◌then◌else◌}
+use Rattle.std.proofs.Common.{◌≡◌, ℕ, zero, suc, ◌-◌, List, [], ◌∷◌, ◌++◌, length, Bool, true, refl, sym, ◌∙◌, ap, subst, arith, append-nil, if◌then◌else◌, Option, Result, Ok, Err, OnErr}
+use Rattle.gl_outside.specs.Sink.{AppendsFront}
 use Rattle.gl_base.specs.declared.tx_id.TxId.{TxId}
 use Rattle.gl_rules.specs.Node.{Node}
 use Rattle.gl_rules.specs.Outcome.{Step, Outcome, quiet}
@@ -93,3 +94,9 @@ prints_status w m id st is_in is = record {
   text = ap (λ (n : Node Entry). Rattle.ccfg.specs.Text.status_text (reported service_book n id)) is_in ∙ ap (λ (x : Rattle.gl_base.specs.declared.status_kind.Status.Status). Rattle.ccfg.specs.Text.status_text x) (sym is);
   node = is_in;
 }
+
+-- a front of a text is a front of what the text is, in whatever world
+pub front_in : {T E : Type 0} (r : Result T E) (a b : Option (List ℕ)) (text : List ℕ) (F : ServiceWorld → Type 0) (due : ServiceWorld → List ℕ) →
+    ((w : ServiceWorld) → F w → text ≡ due w) → OnErr r (AppendsFront a b text) → OnErr r ((w : ServiceWorld) → F w → AppendsFront a b (due w))
+front_in (Ok t) a b text F due is front = tt
+front_in (Err e) a b text F due is front = λ w f. subst (λ (x : List ℕ). AppendsFront a b x) (is w f) front

@@ -5,6 +5,7 @@ mod ending;
 mod loading;
 mod machine;
 mod outcome;
+mod playing;
 mod printing;
 mod reading;
 mod schedule;

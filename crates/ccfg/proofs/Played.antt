@@ -1,0 +1,73 @@
+-- What a run has written so far, beside the world of its schedule.
+use Rattle.std.proofs.Common.{◌≡◌, ℕ, zero, suc, ◌+◌, ◌<◌, ◌≤◌, List, [], ◌∷◌, ◌++◌, length, drop, get_or, Option, Bool, refl, sym, ◌∙◌, ap, subst, arith, append_assoc, append-nil, add-one, drop-cons}
+use Rattle.std.specs.Io.KnownBytes.{Appends}
+use Rattle.std.proofs.KnownBytes.{Appends-nil, Appends-trans}
+use Rattle.std.proofs.Math.ListN.{drop_of_length-le}
+use Rattle.gl_rules.specs.World.{begin}
+use Rattle.gl_outside.specs.Sink.{AppendsFront}
+use Rattle.gl_outside.proofs.Fronts.{front_after, front_before, front_none}
+use Rattle.gl_service.specs.declared.settings.Settings.{Settings}
+use Rattle.gl_service.specs.Service.{ServiceWorld, start_of}
+use Rattle.ccfg.specs.declared.machine.Machine.{Machine}
+use Rattle.ccfg.specs.declared.schedule.Line.{Line}
+use Rattle.ccfg.specs.Machine.{IsMachine, GoesOn}
+use Rattle.ccfg.specs.Playing.{IsIn}
+use Rattle.ccfg.specs.Text.{printed, numbered, text_from}
+
+-- What was written, and what the lines from place i on will write in this world, are the whole text behind a first line.
+pub record Played (old now : Option (List ℕ)) (s : Settings) (whole : List ℕ) (lines : List Line) (i : ℕ) (m : Machine) : Type 0 where
+  pub world : ServiceWorld
+  pub is_in : IsIn world m
+  pub machine : IsMachine m
+  pub settings : m.settings ≡ s
+  pub so_far : List ℕ
+  pub written : Appends old now so_far
+  pub is_whole : whole ≡ so_far ++ text_from s (i + 2) world (drop i lines)
+
+-- the text of a line and of those behind it
+text_here : (s : Settings) (number : ℕ) (w : ServiceWorld) (lines : List Line) (i : ℕ) (d : Line) → i < length lines →
+    text_from s number w (drop i lines) ≡ numbered number (printed s w (get_or lines i d)).text ++ text_from s (suc number) (printed s w (get_or lines i d)).world (drop (i + 1) lines)
+unfolding text_from
+text_here s number w lines i d within =
+    let here : drop i lines ≡ get_or lines i d ∷ drop (i + 1) lines = rw add-one (drop-cons lines i d within) in
+    ap (λ (ls : List Line). text_from s number w ls) here
+
+-- one more line
+pub goes_on : (old mid new : Option (List ℕ)) (s : Settings) (whole : List ℕ) (lines : List Line) (i : ℕ) (d : Line) (m n : Machine) (p : Played old mid s whole lines i m) → i < length lines →
+    ((w : ServiceWorld) → IsIn w m → Appends mid new (numbered (i + 2) (printed m.settings w (get_or lines i d)).text)) →
+    ((w : ServiceWorld) → IsIn w m → IsIn (printed m.settings w (get_or lines i d)).world n) → GoesOn m n →
+    Played old new s whole lines (i + 1) n
+goes_on old mid new s whole lines i d m n p within more moved g =
+    let text = numbered (i + 2) (printed s p.world (get_or lines i d)).text in
+    let next = (printed s p.world (get_or lines i d)).world in
+    record {
+      world = next;
+      is_in = subst (λ (t : Settings). IsIn (printed t p.world (get_or lines i d)).world n) p.settings (moved p.world p.is_in);
+      machine = g.machine;
+      settings = g.settings ∙ p.settings;
+      so_far = p.so_far ++ text;
+      written = Appends-trans old mid new p.so_far text p.written
+        (subst (λ (t : Settings). Appends mid new (numbered (i + 2) (printed t p.world (get_or lines i d)).text)) p.settings (more p.world p.is_in));
+      is_whole = p.is_whole
+        ∙ ap (λ (t : List ℕ). p.so_far ++ t) (text_here s (i + 2) p.world lines i d within)
+        ∙ sym (append_assoc p.so_far text (text_from s (suc (i + 2)) next (drop (i + 1) lines)))
+        ∙ ap (λ (k : ℕ). (p.so_far ++ text) ++ text_from s k next (drop (i + 1) lines)) (let e : suc (i + 2) ≡ i + 1 + 2 = omega arith in e);
+    }
+
+-- a front of one more line is a front of the whole
+pub stops : (old mid new : Option (List ℕ)) (s : Settings) (whole : List ℕ) (lines : List Line) (i : ℕ) (d : Line) (m : Machine) (p : Played old mid s whole lines i m) → i < length lines →
+    ((w : ServiceWorld) → IsIn w m → AppendsFront mid new (numbered (i + 2) (printed m.settings w (get_or lines i d)).text)) → AppendsFront old new whole
+stops old mid new s whole lines i d m p within front =
+    let text = numbered (i + 2) (printed s p.world (get_or lines i d)).text in
+    let rest = text_from s (suc (i + 2)) (printed s p.world (get_or lines i d)).world (drop (i + 1) lines) in
+    let told : AppendsFront mid new text = subst (λ (t : Settings). AppendsFront mid new (numbered (i + 2) (printed t p.world (get_or lines i d)).text)) p.settings (front p.world p.is_in) in
+    subst (λ (t : List ℕ). AppendsFront old new t)
+      (sym (p.is_whole ∙ ap (λ (t : List ℕ). p.so_far ++ t) (text_here s (i + 2) p.world lines i d within)))
+      (front_after old mid new p.so_far (text ++ rest) p.written (front_before mid new text rest told))
+
+-- all of it
+pub ends : (old now : Option (List ℕ)) (s : Settings) (whole : List ℕ) (lines : List Line) (i : ℕ) (m : Machine) → Played old now s whole lines i m → length lines ≤ i → Appends old now whole
+unfolding text_from
+ends old now s whole lines i m p past =
+    subst (λ (t : List ℕ). Appends old now t)
+      (sym (p.is_whole ∙ ap (λ (ls : List Line). p.so_far ++ text_from s (i + 2) p.world ls) (drop_of_length-le lines past) ∙ append-nil p.so_far)) p.written

@@ -1,6 +1,6 @@
 -- What is promised of every run: of any two committed ledgers, at any nodes and moments, one is a prefix of the other,
 -- and each committed ledger is one that the service's layer of the ledger stands for. A moment is a prefix of the list of events.
-use Rattle.std.specs.Prelude.{◌≡◌, ℕ, suc, ◌≤◌, List, [], ◌∷◌, ◌++◌, true, false, None, Some, Ok, length, take, slice_get, ◌⊎◌}
+use Rattle.std.specs.Prelude.{◌≡◌, ℕ, suc, ◌≤◌, ◌<◌, List, [], ◌∷◌, ◌++◌, true, false, None, Some, Ok, length, take, slice_get, ◌⊎◌}
 use Rattle.gl_rules.specs.Identity.{NodeId, member}
 use Rattle.gl_rules.specs.Book.{Book}
 use Rattle.gl_rules.specs.Node.{Node}
@@ -53,6 +53,7 @@ module _ {E Q G R A F : Type 0} (book : Book E Q G R A F) where
     pub records : book.recorded_commit signature ≡ suc before
     pub alone : (i : ℕ) (e : E) → slice_get s.opening i ≡ Some e → book.is_signature e ≡ true → i ≡ before
     pub place : ℕ
+    pub counted : 0 < place
     pub within : place ≤ before
     pub members : List NodeId
     pub configured : book.configuration (take place s.opening) ≡ Some members

@@ -5,3 +5,5 @@ pub mod Configurations
 pub mod Facts
 pub mod Certificates
 pub mod Complete
+pub mod Signatures
+pub mod Invariants

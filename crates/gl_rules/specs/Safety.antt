@@ -4,6 +4,7 @@ use Rattle.std.specs.Prelude.{◌≡◌, ℕ, suc, ◌≤◌, ◌<◌, List, [],
 use Rattle.gl_rules.specs.Identity.{NodeId, member}
 use Rattle.gl_rules.specs.Book.{Book}
 use Rattle.gl_rules.specs.Node.{Node}
+use Rattle.gl_rules.specs.Log.{entry_at, greatest_recorded}
 use Rattle.gl_rules.specs.World.{Event, Start, after, first_view}
 
 abbrev pub IsPrefixOf : {A : Type 0} → List A → List A → Type 0
@@ -31,13 +32,18 @@ module _ {E Q G R A F : Type 0} (book : Book E Q G R A F) where
         book.execute log view q ≡ Ok (e, a) → Makes Sound log view e × (book.is_signature e ≡ false)
     pub governed : (log : List E) (view : ℕ) (g : G) (e : E) (a : A) → Sound log → ViewsUpTo view log →
         book.govern log view g ≡ Ok (e, a) → Makes Sound log view e × (book.is_signature e ≡ false)
-    pub signed : (x : NodeId) (leaf : ℕ) (log : List E) (view commit : ℕ) (e : E) → Sound log → ViewsUpTo view log → commit ≤ length log →
+    -- a leader's commit is the place of a signature, and not below what an earlier signature records
+    pub signed : (x : NodeId) (leaf : ℕ) (log : List E) (view commit : ℕ) (f e : E) → Sound log → ViewsUpTo view log →
+        entry_at log commit ≡ Some f → book.is_signature f ≡ true → greatest_recorded book log ≤ commit →
         book.sign x leaf log view commit ≡ Ok e → Makes Sound log view e × (book.is_signature e ≡ true) × (book.recorded_commit e ≡ commit)
     pub evident : (log : List E) (view : ℕ) (e : E) → Sound log → ViewsUpTo view log →
         book.evidence log view ≡ Ok e → Makes Sound log view e × (book.is_signature e ≡ false)
     -- what is taken
     pub taken : (log : List E) (e : E) → Sound log → book.breaks log e ≡ None → Sound (log ++ e ∷ [])
     pub cut : (log : List E) (place : ℕ) → Sound log → Sound (take place log)
+    -- an evidence entry stands right behind a signature
+    pub witnessed : (log : List E) (place : ℕ) (e : E) → Sound log → entry_at log (suc place) ≡ Some e → book.is_evidence e ≡ true →
+        (f : E) × (entry_at log place ≡ Some f) × (book.is_signature f ≡ true)
 
   -- What the rules ask of the opening ledger: its entries are of the first view, a configuration stands in it, and its
   -- last entry is its only signature and records its own place. The node that signed it is among those that start.

@@ -91,6 +91,7 @@ module _ {E Q G R A F : Type 0} {b : Book E Q G R A F} {Ledger : List E → Type
     pub known : (v i : ℕ) (e : E) → slice_get (g.led v) i ≡ Some e → b.is_signature e ≡ true → (b.recorded_commit e ≤ suc i) × Sured g (g.led v) (b.recorded_commit e) v
     pub bids : (c : NodeId) (w : ℕ) (l : Last) → g.bid c w ≡ Some l → (2 < w) × (l.view < w)
     pub shuts : (c : NodeId) (w : ℕ) (y : NodeId) → g.shut c w y ≡ true → (v : ℕ) × (i : ℕ) × (e : E) × (w ≤ v) × Holds g y v i × Mark b g.led v i e
+    pub stood : (c : NodeId) (w : ℕ) (y : NodeId) → g.shut c w y ≡ true → (l : Last) × (g.bid c w ≡ Some l)
     pub ballots : (y : NodeId) → Ballots b g y
     pub follows : (v i : ℕ) (e : E) → slice_get (g.led v) i ≡ Some e → b.breaks (take i (g.led v)) e ≡ None
 

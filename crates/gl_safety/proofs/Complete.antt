@@ -54,13 +54,13 @@ module _ {E Q G R A F : Type 0} {b : Book E Q G R A F} {Ledger : List E → Type
       go None z = absurd (let q = sym (ap (λ l. slice_get l i) (t.empty v z)) ∙ a in cc)
 
   -- the opening's configuration stands in each log that begins with it
-  newest_in : (l : List E) (c : ℕ) → Same (length s.opening) s.opening l → length s.opening ≤ c → (p : ℕ) × (m : List NodeId) × IsNewest b l c p m
+  pub newest_in : (l : List E) (c : ℕ) → Same (length s.opening) s.opening l → length s.opening ≤ c → (p : ℕ) × (m : List NodeId) × IsNewest b l c p m
   newest_in l c a h =
       let cut : take o.place s.opening ≡ take o.place l = same_take o.place s.opening l (omega (arith, o.within, o.long)) (λ j x d e. a j x (omega (arith, o.within, o.long)) e) in
       newest_exists b l o.place (c - o.place) c o.members o.counted (ap b.configuration (sym cut) ∙ o.configured) (omega (arith, o.within, o.long))
 
   -- the certificate of a commit that isn't 0
-  settled : (n c t : ℕ) (g : Story E) (l : List E) → length s.opening ≤ c → Sure o n g l c t → SureOver o (Cert o n g) g l c t
+  pub settled : (n c t : ℕ) (g : Story E) (l : List E) → length s.opening ≤ c → Sure o n g l c t → SureOver o (Cert o n g) g l c t
   settled n c t g l h z = ⊎_elim (λ (q : c ≡ 0). absurd (omega (arith, o.long))) (λ (q : SureOver o (Cert o n g) g l c t). q) z
 
   module _ {g : Story E} {w : ℕ} (x : Winner g w) (t : Tale o g) (before : Before g x.lim) where
@@ -198,7 +198,7 @@ module _ {E Q G R A F : Type 0} {b : Book E Q G R A F} {Ledger : List E → Type
       let q = t.won w c high a in
       q.front i e (has_all (winner_of g t w c high q) t before n v i e z m h)
 
-  completes : (g : Story E) → Tale o g → (n : ℕ) → Before g n
+  pub completes : (g : Story E) → Tale o g → (n : ℕ) → Before g n
   completes g t zero u c h = absurd (omega arith)
   completes g t (suc n) u c h = ⊎_elim
       (λ (z : u < n). completes g t n u c z)

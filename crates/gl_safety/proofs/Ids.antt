@@ -65,3 +65,9 @@ share votes ballots config p q = go (shared votes ballots config)
     go : ((y : NodeId) × (votes y ≡ true) × (ballots y ≡ true)) ⊎ (tally votes config + tally ballots config ≤ length config) → (y : NodeId) × (votes y ≡ true) × (ballots y ≡ true)
     go (inl r) = r
     go (inr r) = absurd (omega (arith, ltb-true (length config) (2 * tally votes config) p, ltb-true (length config) (2 * tally ballots config) q))
+
+pub put2_cases : {A : Type 0} (f : NodeId → ℕ → A) (x : NodeId) (v : ℕ) (a : A) (y : NodeId) (u : ℕ) → ((y ≡ x) × (u ≡ v) × (put2 f x v a y u ≡ a)) ⊎ (put2 f x v a y u ≡ f y u)
+put2_cases f x v a y u = grind (arith, id_tests)
+
+pub put2_at : {A : Type 0} (f : NodeId → ℕ → A) (x : NodeId) (v : ℕ) (a : A) → put2 f x v a x v ≡ a
+put2_at f x v a = grind (arith, id_tests)

@@ -7,3 +7,4 @@ pub mod Certificates
 pub mod Complete
 pub mod Signatures
 pub mod Invariants
+pub mod Standing

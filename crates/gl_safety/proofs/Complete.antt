@@ -178,7 +178,7 @@ module _ {E Q G R A F : Type 0} {b : Book E Q G R A F} {Ledger : List E → Type
         (λ (h : x.commit ≤ z.commit). upto x z h)
         (cases_lt z.commit x.commit)
 
-  pub winner_of : (g : Story E) → Tale o g → (u : ℕ) (c : NodeId) → 2 < u → Won o g u c → Winner g u
+  unfoldable pub winner_of : (g : Story E) → Tale o g → (u : ℕ) (c : NodeId) → 2 < u → Won o g u c → Winner g u
   winner_of g t u c h q = record {
     log = q.log; commit = q.commit; votes = q.votes; bid = q.bid; depth = q.depth; top = q.top; less = q.less; opened = q.opened;
     within = q.within; matches = q.matches; begins = q.begins; backed = q.backed; sure = q.sure; lim = u; lim_least = omega arith; lim_most = omega arith;

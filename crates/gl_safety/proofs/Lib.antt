@@ -8,3 +8,4 @@ pub mod Complete
 pub mod Signatures
 pub mod Invariants
 pub mod Standing
+pub mod Winning

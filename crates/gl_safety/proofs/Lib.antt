@@ -9,3 +9,5 @@ pub mod Signatures
 pub mod Invariants
 pub mod Standing
 pub mod Winning
+pub mod Voting
+pub mod Leading

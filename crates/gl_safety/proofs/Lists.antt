@@ -84,3 +84,7 @@ module _ {A : Type 0} where
       let e : x ≡ y = let z = a 0 x (omega arith) refl in cc in
       let r : IsPrefixOf (take k l) m = prefix_of k l m (omega arith) (λ j w g d. a (suc j) w (omega arith) d) in
       (r.0, let q : take k l ++ r.0 ≡ m = r.1 in cc)
+
+  pub take_whole : (xs : List A) → take (length xs) xs ≡ xs
+  take_whole [] = refl
+  take_whole (x ∷ xs) = ap {B = List A} (λ r. x ∷ r) (take_whole xs)

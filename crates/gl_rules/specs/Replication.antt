@@ -206,7 +206,7 @@ module _ {E Q G R A F : Type 0} (book : Book E Q G R A F) where
 
   -- Install
 
-  abbrev is_evidence_at : Option E → Bool
+  abbrev pub is_evidence_at : Option E → Bool
   is_evidence_at None = false
   is_evidence_at (Some e) = book.is_evidence e
 

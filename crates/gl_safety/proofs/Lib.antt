@@ -11,3 +11,6 @@ pub mod Standing
 pub mod Winning
 pub mod Voting
 pub mod Leading
+pub mod Merging
+pub mod Following
+pub mod Installing

@@ -88,3 +88,15 @@ module _ {A : Type 0} where
   pub take_whole : (xs : List A) → take (length xs) xs ≡ xs
   take_whole [] = refl
   take_whole (x ∷ xs) = ap {B = List A} (λ r. x ∷ r) (take_whole xs)
+
+  pub append_none : (xs : List A) → xs ++ [] ≡ xs
+  append_none [] = refl
+  append_none (x ∷ xs) = ap {B = List A} (λ r. x ∷ r) (append_none xs)
+
+  pub push_append : (xs : List A) (y : A) (ys : List A) → (xs ++ y ∷ []) ++ ys ≡ xs ++ y ∷ ys
+  push_append [] y ys = refl
+  push_append (x ∷ xs) y ys = ap {B = List A} (λ r. x ∷ r) (push_append xs y ys)
+
+  pub take_nothing : (k : ℕ) → take {A = A} k [] ≡ []
+  take_nothing zero = refl
+  take_nothing (suc k) = refl

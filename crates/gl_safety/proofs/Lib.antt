@@ -14,3 +14,5 @@ pub mod Leading
 pub mod Merging
 pub mod Following
 pub mod Installing
+pub mod Voters
+pub mod Replicas

@@ -43,11 +43,11 @@ module _ {E Q G R A F : Type 0} (book : Book E Q G R A F) where
   unfoldable pub finish : ℕ → ℕ → R → Q → Node E → Step E A F
   finish len cuts reads q n = if_leader n (finishes len cuts reads q n)
 
-  abbrev removed_late : Option ℕ → Node E → Step E A F → Step E A F
+  abbrev pub removed_late : Option ℕ → Node E → Step E A F → Step E A F
   removed_late None n step = step
   removed_late (Some place) n step = if nat_lt n.commit place then refuse n (RemovalNotCommitted place n.commit) else step
 
-  abbrev marked : Option F → NodeId → Node E → Step E A F → Step E A F
+  abbrev pub marked : Option F → NodeId → Node E → Step E A F → Step E A F
   marked (Some why) y n step = refuse n (ByLedger why)
   marked None y n step = removed_late (book.removal n.log y) n step
 
@@ -73,7 +73,7 @@ module _ {E Q G R A F : Type 0} (book : Book E Q G R A F) where
       then refuse n (KeyExhausted n.reserved)
       else quiet (record n { reserved = n.reserved + 1 }) Done
 
-  abbrev signs_for : ℕ → Option E → Bool
+  abbrev pub signs_for : ℕ → Option E → Bool
   signs_for view None = false
   signs_for view (Some e) = book.is_signature e && (book.view_of e == view)
 

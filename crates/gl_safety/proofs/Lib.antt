@@ -16,3 +16,5 @@ pub mod Following
 pub mod Installing
 pub mod Voters
 pub mod Replicas
+pub mod Makers
+pub mod Runs

@@ -1,0 +1,121 @@
+-- Events that make an entry at the leader.
+use Rattle.std.proofs.Common.{◌≡◌, ◌≢◌, ◌⊎◌, inl, inr, ⊎_elim, ℕ, zero, suc, ◌+◌, ◌-◌, ◌≤◌, ◌<◌, ◌*◌, min, max, List, [], ◌∷◌, ◌++◌, length, take, drop, Bool, true, false, ◌&&◌, ◌||◌, not, ◌==◌, nat_lt, nat_le, if◌then◌else◌, Option, Some, None, Result, Ok, Err, unwrap_or, slice_get, refl, sym, ap, ◌∙◌, subst, true≢false, length-take, length-append, length-drop, arith}
+use Rattle.std.specs.Option.{option_to_list}
+use Rattle.std.proofs.lemmas.Bool.{cases_eq, cases_lt}
+use Rattle.std.proofs.lemmas.Bool.Decides.{nat_tests}
+use Rattle.gl_rules.specs.Identity.{NodeId, same, member, put, added}
+use Rattle.gl_rules.specs.Majority.{tally, majority, quorum}
+use Rattle.gl_rules.specs.Book.{Book}
+use Rattle.gl_rules.specs.Node.{Node, Role, Follower, Candidate, Leader}
+use Rattle.gl_rules.specs.Message.{Last, Message, Body, RequestVote, VoteReply, Append, AppendReply, ProposeVote}
+use Rattle.gl_rules.specs.Log.{entry_at, place_before, is_at_least, view_at, last_signature, last, signed_part, greatest_recorded}
+use Rattle.gl_rules.specs.Configuration.{configuration_at, configurations_above, active_upto, active, in_some}
+use Rattle.gl_rules.specs.Steps.{cut_to, appended, leads, rise, has_votes, won_by, win, known_commit}
+use Rattle.gl_rules.specs.World.{Start}
+use Rattle.gl_rules.specs.Safety.{IsOpening, IsLawful, Makes, ViewsUpTo}
+use Rattle.gl_safety.proofs.Ids.{id_tests, same_is, same_self, same_tells, cases_same, put2, put_all, put2_cases, put2_at, by_test, share}
+use Rattle.gl_safety.proofs.Lists.{Same, same_take, there, within, past, get_take, take_get, drop_get, get_left, get_append, get_push, push_get, take_whole, append_none, push_append, take_nothing}
+use Rattle.gl_safety.proofs.Story.{Story, Grows, at_view, early_by, told_ballot, told_stand, told_led, told_win, told_held, grows_same, grows_then, grows_ballot, grows_stand, grows_held, grows_win, grows_led}
+use Rattle.gl_safety.proofs.Configurations.{IsNewest, Backed, backed_by, backs, newest_same, newest_exists}
+use Rattle.gl_safety.proofs.Facts.{Holds, Covers, Matches, Bound, Rising, Mark, Lost, Segment, Voted, Ballots, agree, is_led, led_is, matches_part, matches_grow, mark_grow, mark_back, lost_grow, lost_more, holds_grow, holds_back, segment_grow, ballots_of}
+use Rattle.gl_safety.proofs.Certificates.{SureOver, CertOver, Cert, Sure, Sured, Settled, Below, Won, Tale, sure_grow, sured_grow, cert_grow}
+use Rattle.gl_safety.proofs.Complete.{Winner, Before, Whole, chief_of_led, one_voter, winner_of, completes, complete, descend, has_all, newest_in, settled}
+use Rattle.gl_safety.proofs.Signatures.{last_le, last_above, last_signs, last_take, signed_keeps, view_at_is, last_view_is, last_zero, covers_last, covers_more, recorded_le, recorded_bound, recorded_some, recorded_part}
+use Rattle.gl_safety.proofs.Invariants.{Voter, Logged, Kept, Barred, Commits, Good, BodySent, AllSent, Made, Reached, rising_of, begins_of, signature_above, sure_within, settled_of, sure_to, known_in, recorded_sure, won_grow, sured_more, shuts_grow, commits_more, good_of, sent_grow, all_grow, all_append, sent_at, made_same, made_then}
+use Rattle.gl_rules.specs.Outcome.{Outcome, Step, Done, Signed, quiet, refuse, idle, TooManyPending, NotReserved, KeyExhausted, NothingToSign, RemovalNotCommitted, RolledBack, ByLedger}
+use Rattle.gl_rules.specs.Steps.{led_by, if_leader}
+use Rattle.gl_rules.specs.Requests.{pending_limit, last_count, enters, executes, submit, unless_conflict, finishes, finish, removed_late, marked, if_markable, governs, govern, reserve, signs_for, signed, signs, sign, evident, evidence}
+use Rattle.gl_safety.proofs.Leading.{made_append, good_used}
+use Rattle.gl_safety.proofs.Voters.{By, stay, reached_leader}
+
+module _ {E Q G R A F : Type 0} {b : Book E Q G R A F} {Ledger : List E → Type 0} {s : Start E} (o : IsOpening b Ledger s) (la : IsLawful b Ledger) where
+  views_of : (x : NodeId) (g : Story E) (n : Node E) → Good o g x n → ViewsUpTo b n.view n.log
+  views_of x g n z i e a = (z.logged.bound.view i e a).1
+
+  unsigned : (e : E) → b.is_signature e ≡ false → b.is_signature e ≡ true → {c : ℕ} → b.recorded_commit e ≡ c
+  unsigned e p q = absurd (cc)
+
+  enters_by : (x : NodeId) (g : Story E) (n : Node E) → Tale o g → Good o g x n → n.role ≡ Leader → (m : Result (E × A) F) →
+      ((e : E) (a : A) → m ≡ Ok (e, a) → Makes b Ledger n.log n.view e × (b.is_signature e ≡ false)) → By o la x g (enters b n m)
+  enters_by x g n t z r (Err why) f = stay o la x g n t z
+  enters_by x g n t z r (Ok made) f =
+      let w = f made.0 made.1 refl in
+      made_append o x g n made.0 t z r w.0.view_is w.0.follows w.0.sound (λ q. unsigned made.0 w.1 q)
+
+  executes_by : (x : NodeId) (q : Q) (g : Story E) (n : Node E) → Tale o g → Good o g x n → n.role ≡ Leader → By o la x g (executes b q n)
+  executes_by x q g n t z r = enters_by x g n t z r (b.execute n.log n.view q) (λ e a d. la.executed n.log n.view q e a z.sound (views_of x g n z) d)
+
+  pub reached_submit : (x : NodeId) (q : Q) (g : Story E) (n : Node E) → Tale o g → Good o g x n → By o la x g (submit b q n)
+  unfolding submit
+  reached_submit x q g n t z = reached_leader o la x g n (executes b q n) t z (λ r. executes_by x q g n t z r)
+
+  pub reached_finish : (x : NodeId) (len cuts : ℕ) (reads : R) (q : Q) (g : Story E) (n : Node E) → Tale o g → Good o g x n → By o la x g (finish b len cuts reads q n)
+  unfolding finish
+  reached_finish x len cuts reads q g n t z = reached_leader o la x g n (finishes b len cuts reads q n) t z
+      (λ r. by_test (By o la x g) (not (n.cuts == cuts) || (n.cuts == last_count)) (refuse n (RolledBack cuts n.cuts)) (unless_conflict b (b.conflict n.log len reads) n (executes b q n))
+        (λ d. stay o la x g n t z)
+        (λ d. go r (b.conflict n.log len reads)))
+    where
+      go : n.role ≡ Leader → (m : Option F) → By o la x g (unless_conflict b m n (executes b q n))
+      go r None = executes_by x q g n t z r
+      go r (Some why) = stay o la x g n t z
+
+  pub reached_govern : (x : NodeId) (q : G) (g : Story E) (n : Node E) → Tale o g → Good o g x n → By o la x g (govern b q n)
+  unfolding govern
+  reached_govern x q g n t z = reached_leader o la x g n (governs b q n) t z
+      (λ r. by_test (By o la x g) (nat_le pending_limit (length (configurations_above b n.log n.commit (length n.log)))) (refuse n (TooManyPending pending_limit)) (if_markable b (b.marks q) n (enters b n (b.govern n.log n.view q)))
+        (λ d. stay o la x g n t z)
+        (λ d. go r (b.marks q)))
+    where
+      made : n.role ≡ Leader → By o la x g (enters b n (b.govern n.log n.view q))
+      made r = enters_by x g n t z r (b.govern n.log n.view q) (λ e a d. la.governed n.log n.view q e a z.sound (views_of x g n z) d)
+      late : n.role ≡ Leader → (m : Option ℕ) → By o la x g (removed_late b m n (enters b n (b.govern n.log n.view q)))
+      late r None = made r
+      late r (Some place) = by_test (By o la x g) (nat_lt n.commit place) (refuse n (RemovalNotCommitted place n.commit)) (enters b n (b.govern n.log n.view q)) (λ d. stay o la x g n t z) (λ d. made r)
+      inner : n.role ≡ Leader → (y : NodeId) (m : Option F) → By o la x g (marked b m y n (enters b n (b.govern n.log n.view q)))
+      inner r y (Some why) = stay o la x g n t z
+      inner r y None = late r (b.removal n.log y)
+      go : n.role ≡ Leader → (m : Option NodeId) → By o la x g (if_markable b m n (enters b n (b.govern n.log n.view q)))
+      go r None = made r
+      go r (Some y) = inner r y (b.unmarkable n.log y)
+
+  pub reached_reserve : (x : NodeId) (g : Story E) (n : Node E) → Tale o g → Good o g x n → By o la x g (reserve b x n)
+  unfolding reserve
+  reached_reserve x g n t z = by_test (By o la x g) (nat_le (b.leaves x) n.reserved) (refuse n (KeyExhausted n.reserved)) (quiet (record n { reserved = n.reserved + 1 }) Done)
+      (λ d. stay o la x g n t z)
+      (λ d. stay o la x g (record n { reserved = n.reserved + 1 }) t (record { voter = z.voter; logged = z.logged; kept = z.kept; commits = z.commits; sound = z.sound }))
+
+  -- a leader's commit is a signature's place
+  commit_at : (x : NodeId) (g : Story E) (n : Node E) → Good o g x n → n.role ≡ Leader → (f : E) × (entry_at n.log n.commit ≡ Some f) × (b.is_signature f ≡ true)
+  commit_at x g n z r =
+      let c = z.commits.ruled r in
+      let q = settled o c.0 n.commit n.view g n.log (z.commits.opened (inr r)) c.1 in
+      (q.entry, ap (entry_at n.log) q.place ∙ q.at, q.signs)
+
+  pub reached_sign : (x : NodeId) (g : Story E) (n : Node E) → Tale o g → Good o g x n → By o la x g (sign b x n)
+  unfolding sign
+  reached_sign x g n t z = reached_leader o la x g n (signs b x n) t z
+      (λ r. by_test (By o la x g) (n.used == n.reserved) (refuse n (NotReserved n.reserved))
+        (if signs_for b n.view (entry_at n.log (length n.log)) then refuse n (NothingToSign (length n.log)) else signed b n (b.sign x n.used n.log n.view n.commit))
+        (λ d. stay o la x g n t z)
+        (λ d. by_test (By o la x g) (signs_for b n.view (entry_at n.log (length n.log))) (refuse n (NothingToSign (length n.log))) (signed b n (b.sign x n.used n.log n.view n.commit))
+          (λ e. stay o la x g n t z)
+          (λ e. go r (b.sign x n.used n.log n.view n.commit) refl)))
+    where
+      go : n.role ≡ Leader → (m : Result E F) → b.sign x n.used n.log n.view n.commit ≡ m → By o la x g (signed b n m)
+      go r (Err why) d = stay o la x g n t z
+      go r (Ok e) d =
+          let c = commit_at x g n z r in
+          let w = la.signed x n.used n.log n.view n.commit c.0 e z.sound (views_of x g n z) c.1 c.2 z.commits.recorded d in
+          let p = made_append o x g n e t z r w.0.view_is w.0.follows w.0.sound (λ q. w.2) in
+          (p.0, good_used o x g p.0 (appended n e) (n.used + 1) p.1)
+
+  pub reached_evidence : (x : NodeId) (g : Story E) (n : Node E) → Tale o g → Good o g x n → By o la x g (evidence b n)
+  unfolding evidence
+  reached_evidence x g n t z = reached_leader o la x g n (evident b n (b.evidence n.log n.view)) t z (λ r. go r (b.evidence n.log n.view) refl)
+    where
+      go : n.role ≡ Leader → (m : Result E F) → b.evidence n.log n.view ≡ m → By o la x g (evident b n m)
+      go r (Err why) d = stay o la x g n t z
+      go r (Ok e) d =
+          let w = la.evident n.log n.view e z.sound (views_of x g n z) d in
+          made_append o x g n e t z r w.0.view_is w.0.follows w.0.sound (λ q. unsigned e w.1 q)

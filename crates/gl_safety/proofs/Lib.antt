@@ -18,3 +18,5 @@ pub mod Voters
 pub mod Replicas
 pub mod Makers
 pub mod Runs
+pub mod Beginning
+pub mod Headline

@@ -132,7 +132,7 @@ module _ {E Q G R A F : Type 0} {b : Book E Q G R A F} {Ledger : List E → Type
       (q.0, q.1, later_then g p.0 q.0 p.2 q.2)
 
   -- the start
-  pub first_story : Story E
+  unfoldable pub first_story : Story E
   first_story = record {
     ballot = λ y v. if v == 2 then (node_at_start s y).vote else None;
     early = λ y v. false;

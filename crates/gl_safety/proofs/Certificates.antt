@@ -12,7 +12,7 @@ use Rattle.gl_safety.proofs.Story.{Story, Grows}
 use Rattle.gl_safety.proofs.Configurations.{IsNewest, Backed, newest_same}
 use Rattle.gl_safety.proofs.Facts.{Holds, Covers, Matches, Bound, Rising, Mark, Lost, Voted, Ballots, mark_grow, holds_grow}
 
-module _ {E Q G R A F : Type 0} {b : Book E Q G R A F} {Ledger : List E → Type 0} {s : Start E} (o : IsOpening b Ledger s) where
+module _ {E Q G R A F : Type 0} {b : Book E Q G R A F} {s : Start E} (o : IsOpening b s) where
   -- the entry at place c of l is a signature, at or below a certified one of a view that is at most t
   pub record SureOver (C : ℕ → ℕ → Type 0) (g : Story E) (l : List E) (c t : ℕ) : Type 0 where
     pub i : ℕ

@@ -14,7 +14,7 @@ use Rattle.gl_safety.proofs.Configurations.{IsNewest, Backed, newest_same, newes
 use Rattle.gl_safety.proofs.Facts.{Holds, Covers, Matches, Bound, Rising, Mark, Lost, Voted, Ballots, agree, is_led, led_is}
 use Rattle.gl_safety.proofs.Certificates.{SureOver, CertOver, Cert, Sure, Sured, Settled, Below, Won, Tale}
 
-module _ {E Q G R A F : Type 0} {b : Book E Q G R A F} {Ledger : List E → Type 0} {s : Start E} (o : IsOpening b Ledger s) where
+module _ {E Q G R A F : Type 0} {b : Book E Q G R A F} {s : Start E} (o : IsOpening b s) where
   -- who has the votes for w: the one who won it, or a candidate that is about to
   pub record Winner (g : Story E) (w : ℕ) : Type 0 where
     pub log : List E

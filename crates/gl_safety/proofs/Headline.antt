@@ -12,7 +12,7 @@ use Rattle.gl_rules.specs.Log.{entry_at, place_before, is_at_least, view_at, las
 use Rattle.gl_rules.specs.Configuration.{configuration_at, configurations_above, active_upto, active, in_some}
 use Rattle.gl_rules.specs.Steps.{cut_to, appended, leads, rise, has_votes, won_by, win, known_commit}
 use Rattle.gl_rules.specs.World.{Start}
-use Rattle.gl_rules.specs.Safety.{IsOpening, IsLawful, Makes, ViewsUpTo}
+use Rattle.gl_rules.specs.Safety.{IsOpening, IsLawful, IsSound, Makes, ViewsUpTo}
 use Rattle.gl_safety.proofs.Ids.{id_tests, same_is, same_self, same_tells, cases_same, put2, put_all, put2_cases, put2_at, by_test, share}
 use Rattle.gl_safety.proofs.Lists.{Same, same_take, there, within, past, get_take, take_get, drop_get, get_left, get_append, get_push, push_get, take_whole, append_none, push_append, take_nothing}
 use Rattle.gl_safety.proofs.Story.{Story, Grows, at_view, early_by, told_ballot, told_stand, told_led, told_win, told_held, grows_same, grows_then, grows_ballot, grows_stand, grows_held, grows_win, grows_led}
@@ -22,6 +22,7 @@ use Rattle.gl_safety.proofs.Certificates.{SureOver, CertOver, Cert, Sure, Sured,
 use Rattle.gl_safety.proofs.Complete.{Winner, Before, Whole, chief_of_led, one_voter, winner_of, completes, complete, descend, has_all, newest_in, settled}
 use Rattle.gl_safety.proofs.Signatures.{last_le, last_above, last_signs, last_take, signed_keeps, view_at_is, last_view_is, last_zero, covers_last, covers_more, recorded_le, recorded_bound, recorded_some, recorded_part}
 use Rattle.gl_safety.proofs.Invariants.{Voter, Logged, Kept, Barred, Commits, Good, BodySent, AllSent, Made, Reached, rising_of, begins_of, signature_above, sure_within, settled_of, sure_to, known_in, recorded_sure, won_grow, sured_more, shuts_grow, commits_more, good_of, sent_grow, all_grow, all_append, sent_at, made_same, made_then}
+use Rattle.gl_safety.proofs.Soundness.{sound_cut, sound_push}
 use Rattle.gl_rules.specs.Safety.{IsPrefixOf, committed, IsSafe, Agree, node_after}
 use Rattle.gl_rules.specs.World.{Event, World, run, begin, after}
 use Rattle.gl_safety.proofs.Lists.{prefix_of}
@@ -35,7 +36,7 @@ take_further (suc i) zero es h = absurd (omega arith)
 take_further (suc i) (suc j) [] h = ([], refl)
 take_further (suc i) (suc j) (x ∷ es) h = let r = take_further i j es (omega arith) in (r.0, ap (λ l. x ∷ l) r.1)
 
-module _ {E Q G R A F : Type 0} {b : Book E Q G R A F} {Ledger : List E → Type 0} {s : Start E} (o : IsOpening b Ledger s) (la : IsLawful b Ledger) where
+module _ {E Q G R A F : Type 0} {b : Book E Q G R A F} {s : Start E} (o : IsOpening b s) (la : IsLawful b) where
   -- two moments of one run, in order
   pub record Moments (v w : World E) : Type 0 where
     pub story : Story E
@@ -112,10 +113,13 @@ module _ {E Q G R A F : Type 0} {b : Book E Q G R A F} {Ledger : List E → Type
       (λ (h : i ≤ j). both_at (after b s (take i es)) (after b s (take j es)) (moments es i j h) x y)
       (cases_lt j i)
 
-  pub ledger : (es : List (Event Q G R)) (i : ℕ) (x : NodeId) → Ledger (committed (node_after b s (take i es) x))
+  pub ledger : (es : List (Event Q G R)) (i : ℕ) (x : NodeId) → IsSound b (committed (node_after b s (take i es) x))
   ledger es i x =
       let p = onward_run o la (take i es) (begin s) (first_story o la) (holding_first o la) in
-      la.cut (node_after b s (take i es) x).log (node_after b s (take i es) x).commit (p.1.nodes x).sound
+      sound_cut b (node_after b s (take i es) x).log (node_after b s (take i es) x).commit (p.1.nodes x).sound
 
-  pub safe : (es : List (Event Q G R)) → IsSafe b Ledger s es
-  safe es = record { prefix = prefix es; ledger = ledger es }
+  pub log_sound : (es : List (Event Q G R)) (i : ℕ) (x : NodeId) → IsSound b (node_after b s (take i es) x).log
+  log_sound es i x = ((onward_run o la (take i es) (begin s) (first_story o la) (holding_first o la)).1.nodes x).sound
+
+  pub safe : (es : List (Event Q G R)) → IsSafe b s es
+  safe es = record { prefix = prefix es; ledger = ledger es; log = log_sound es }

@@ -12,7 +12,7 @@ use Rattle.gl_rules.specs.Log.{entry_at, place_before, is_at_least, view_at, las
 use Rattle.gl_rules.specs.Configuration.{configuration_at, configurations_above, active_upto, active, in_some}
 use Rattle.gl_rules.specs.Steps.{cut_to, appended, leads, rise, has_votes, won_by, win, known_commit}
 use Rattle.gl_rules.specs.World.{Start}
-use Rattle.gl_rules.specs.Safety.{IsOpening, IsLawful, Makes, ViewsUpTo}
+use Rattle.gl_rules.specs.Safety.{IsOpening, IsLawful, IsSound, Makes, ViewsUpTo}
 use Rattle.gl_safety.proofs.Ids.{id_tests, same_is, same_self, same_tells, cases_same, put2, put_all, put2_cases, put2_at, by_test, share}
 use Rattle.gl_safety.proofs.Lists.{Same, same_take, there, within, past, get_take, take_get, drop_get, get_left, get_append, get_push, push_get, take_whole, append_none, push_append, take_nothing}
 use Rattle.gl_safety.proofs.Story.{Story, Grows, at_view, early_by, told_ballot, told_stand, told_led, told_win, told_held, grows_same, grows_then, grows_ballot, grows_stand, grows_held, grows_win, grows_led}
@@ -22,13 +22,14 @@ use Rattle.gl_safety.proofs.Certificates.{SureOver, CertOver, Cert, Sure, Sured,
 use Rattle.gl_safety.proofs.Complete.{Winner, Before, Whole, chief_of_led, one_voter, winner_of, completes, complete, descend, has_all, newest_in, settled}
 use Rattle.gl_safety.proofs.Signatures.{last_le, last_above, last_signs, last_take, signed_keeps, view_at_is, last_view_is, last_zero, covers_last, covers_more, recorded_le, recorded_bound, recorded_some, recorded_part}
 use Rattle.gl_safety.proofs.Invariants.{Voter, Logged, Kept, Barred, Commits, Good, BodySent, AllSent, Made, Reached, rising_of, begins_of, signature_above, sure_within, settled_of, sure_to, known_in, recorded_sure, won_grow, sured_more, shuts_grow, commits_more, good_of, sent_grow, all_grow, all_append, sent_at, made_same, made_then}
+use Rattle.gl_safety.proofs.Soundness.{sound_cut, sound_push}
 use Rattle.gl_rules.specs.Outcome.{Outcome, Step, Done, Signed, quiet, refuse, idle, TooManyPending, NotReserved, KeyExhausted, NothingToSign, RemovalNotCommitted, RolledBack, ByLedger}
 use Rattle.gl_rules.specs.Steps.{led_by, if_leader}
 use Rattle.gl_rules.specs.Requests.{pending_limit, last_count, enters, executes, submit, unless_conflict, finishes, finish, removed_late, marked, if_markable, governs, govern, reserve, signs_for, signed, signs, sign, evident, evidence}
 use Rattle.gl_safety.proofs.Leading.{made_append, good_used}
 use Rattle.gl_safety.proofs.Voters.{By, stay, reached_leader}
 
-module _ {E Q G R A F : Type 0} {b : Book E Q G R A F} {Ledger : List E → Type 0} {s : Start E} (o : IsOpening b Ledger s) (la : IsLawful b Ledger) where
+module _ {E Q G R A F : Type 0} {b : Book E Q G R A F} {s : Start E} (o : IsOpening b s) (la : IsLawful b) where
   views_of : (x : NodeId) (g : Story E) (n : Node E) → Good o g x n → ViewsUpTo b n.view n.log
   views_of x g n z i e a = (z.logged.bound.view i e a).1
 
@@ -36,11 +37,11 @@ module _ {E Q G R A F : Type 0} {b : Book E Q G R A F} {Ledger : List E → Type
   unsigned e p q = absurd (cc)
 
   enters_by : (x : NodeId) (g : Story E) (n : Node E) → Tale o g → Good o g x n → n.role ≡ Leader → (m : Result (E × A) F) →
-      ((e : E) (a : A) → m ≡ Ok (e, a) → Makes b Ledger n.log n.view e × (b.is_signature e ≡ false)) → By o la x g (enters b n m)
+      ((e : E) (a : A) → m ≡ Ok (e, a) → Makes b n.log n.view e × (b.is_signature e ≡ false)) → By o la x g (enters b n m)
   enters_by x g n t z r (Err why) f = stay o la x g n t z
   enters_by x g n t z r (Ok made) f =
       let w = f made.0 made.1 refl in
-      made_append o x g n made.0 t z r w.0.view_is w.0.follows w.0.sound (λ q. unsigned made.0 w.1 q)
+      made_append o x g n made.0 t z r w.0.view_is w.0.follows (λ q. unsigned made.0 w.1 q)
 
   executes_by : (x : NodeId) (q : Q) (g : Story E) (n : Node E) → Tale o g → Good o g x n → n.role ≡ Leader → By o la x g (executes b q n)
   executes_by x q g n t z r = enters_by x g n t z r (b.execute n.log n.view q) (λ e a d. la.executed n.log n.view q e a z.sound (views_of x g n z) d)
@@ -107,7 +108,7 @@ module _ {E Q G R A F : Type 0} {b : Book E Q G R A F} {Ledger : List E → Type
       go r (Ok e) d =
           let c = commit_at x g n z r in
           let w = la.signed x n.used n.log n.view n.commit c.0 e z.sound (views_of x g n z) c.1 c.2 z.commits.recorded d in
-          let p = made_append o x g n e t z r w.0.view_is w.0.follows w.0.sound (λ q. w.2) in
+          let p = made_append o x g n e t z r w.0.view_is w.0.follows (λ q. w.2) in
           (p.0, good_used o x g p.0 (appended n e) (n.used + 1) p.1)
 
   pub reached_evidence : (x : NodeId) (g : Story E) (n : Node E) → Tale o g → Good o g x n → By o la x g (evidence b n)
@@ -118,4 +119,4 @@ module _ {E Q G R A F : Type 0} {b : Book E Q G R A F} {Ledger : List E → Type
       go r (Err why) d = stay o la x g n t z
       go r (Ok e) d =
           let w = la.evident n.log n.view e z.sound (views_of x g n z) d in
-          made_append o x g n e t z r w.0.view_is w.0.follows w.0.sound (λ q. unsigned e w.1 q)
+          made_append o x g n e t z r w.0.view_is w.0.follows (λ q. unsigned e w.1 q)

@@ -12,7 +12,7 @@ use Rattle.gl_rules.specs.Log.{entry_at, place_before, is_at_least, view_at, las
 use Rattle.gl_rules.specs.Configuration.{configuration_at, configurations_above, active_upto, active, in_some}
 use Rattle.gl_rules.specs.Steps.{cut_to, appended, leads, rise, has_votes, won_by, win, known_commit}
 use Rattle.gl_rules.specs.World.{Start}
-use Rattle.gl_rules.specs.Safety.{IsOpening, IsLawful, Makes, ViewsUpTo}
+use Rattle.gl_rules.specs.Safety.{IsOpening, IsLawful, IsSound, Makes, ViewsUpTo}
 use Rattle.gl_safety.proofs.Ids.{id_tests, same_is, same_self, same_tells, cases_same, put2, put_all, put2_cases, put2_at, by_test, share}
 use Rattle.gl_safety.proofs.Lists.{Same, same_take, there, within, past, get_take, take_get, drop_get, get_left, get_append, get_push, push_get, take_whole, append_none, push_append, take_nothing}
 use Rattle.gl_safety.proofs.Story.{Story, Grows, at_view, early_by, told_ballot, told_stand, told_led, told_win, told_held, grows_same, grows_then, grows_ballot, grows_stand, grows_held, grows_win, grows_led}
@@ -22,6 +22,7 @@ use Rattle.gl_safety.proofs.Certificates.{SureOver, CertOver, Cert, Sure, Sured,
 use Rattle.gl_safety.proofs.Complete.{Winner, Before, Whole, chief_of_led, one_voter, winner_of, completes, complete, descend, has_all, newest_in, settled}
 use Rattle.gl_safety.proofs.Signatures.{last_le, last_above, last_signs, last_take, signed_keeps, view_at_is, last_view_is, last_zero, covers_last, covers_more, recorded_le, recorded_bound, recorded_some, recorded_part}
 use Rattle.gl_safety.proofs.Invariants.{Voter, Logged, Kept, Barred, Commits, Good, BodySent, AllSent, Made, Reached, rising_of, begins_of, signature_above, sure_within, settled_of, sure_to, known_in, recorded_sure, won_grow, sured_more, shuts_grow, commits_more, good_of, sent_grow, all_grow, all_append, sent_at, made_same, made_then}
+use Rattle.gl_safety.proofs.Soundness.{sound_cut, sound_push}
 use Rattle.gl_rules.specs.Replication.{held_of, judged, applied}
 
 module _ {E Q G R A F : Type 0} (b : Book E Q G R A F) where
@@ -71,13 +72,13 @@ module _ {E Q G R A F : Type 0} (b : Book E Q G R A F) where
           let r : b.view_of c ≢ b.view_of d = grind (arith, nat_tests) in
           λ (w : b.view_of e ≡ b.view_of f). r (ap b.view_of p ∙ w ∙ sym (ap b.view_of q))
 
-  pub applied_is : (Ledger : List E → Type 0) → IsLawful b Ledger → (l es r : List E) → applied b l es ≡ Ok r → Ledger l → (r ≡ l ++ es) × Ledger r
+  pub applied_is : (l es r : List E) → applied b l es ≡ Ok r → IsSound b l → (r ≡ l ++ es) × IsSound b r
   unfolding applied
-  applied_is Ledger la l [] r a z = let q : l ≡ r = cc in (sym q ∙ sym (append_none l), subst Ledger q z)
-  applied_is Ledger la l (e ∷ es) r a z = go (b.breaks l e) refl a (applied_is Ledger la (l ++ e ∷ []) es r)
+  applied_is l [] r a z = let q : l ≡ r = cc in (sym q ∙ sym (append_none l), subst (IsSound b) q z)
+  applied_is l (e ∷ es) r a z = go (b.breaks l e) refl a (applied_is (l ++ e ∷ []) es r)
     where
-      go : (m : Option F) → b.breaks l e ≡ m → judged b m (applied b (l ++ e ∷ []) es) ≡ Ok r → (applied b (l ++ e ∷ []) es ≡ Ok r → Ledger (l ++ e ∷ []) → (r ≡ (l ++ e ∷ []) ++ es) × Ledger r) → (r ≡ l ++ e ∷ es) × Ledger r
-      go None d w again = let y = again w (la.taken l e z d) in (y.0 ∙ push_append l e es, y.1)
+      go : (m : Option F) → b.breaks l e ≡ m → judged b m (applied b (l ++ e ∷ []) es) ≡ Ok r → (applied b (l ++ e ∷ []) es ≡ Ok r → IsSound b (l ++ e ∷ []) → (r ≡ (l ++ e ∷ []) ++ es) × IsSound b r) → (r ≡ l ++ e ∷ es) × IsSound b r
+      go None d w again = let y = again w (sound_push b l e z d) in (y.0 ∙ push_append l e es, y.1)
       go (Some why) d w again = absurd (cc)
 
   -- the leader's log m has es behind p, and l is m up to p

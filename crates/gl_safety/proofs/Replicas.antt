@@ -12,7 +12,7 @@ use Rattle.gl_rules.specs.Log.{entry_at, place_before, is_at_least, view_at, las
 use Rattle.gl_rules.specs.Configuration.{configuration_at, configurations_above, active_upto, active, in_some}
 use Rattle.gl_rules.specs.Steps.{cut_to, appended, leads, rise, has_votes, won_by, win, known_commit}
 use Rattle.gl_rules.specs.World.{Start}
-use Rattle.gl_rules.specs.Safety.{IsOpening, IsLawful, Makes, ViewsUpTo}
+use Rattle.gl_rules.specs.Safety.{IsOpening, IsLawful, IsSound, Makes, ViewsUpTo}
 use Rattle.gl_safety.proofs.Ids.{id_tests, same_is, same_self, same_tells, cases_same, put2, put_all, put2_cases, put2_at, by_test, share}
 use Rattle.gl_safety.proofs.Lists.{Same, same_take, there, within, past, get_take, take_get, drop_get, get_left, get_append, get_push, push_get, take_whole, append_none, push_append, take_nothing}
 use Rattle.gl_safety.proofs.Story.{Story, Grows, at_view, early_by, told_ballot, told_stand, told_led, told_win, told_held, grows_same, grows_then, grows_ballot, grows_stand, grows_held, grows_win, grows_led}
@@ -22,6 +22,7 @@ use Rattle.gl_safety.proofs.Certificates.{SureOver, CertOver, Cert, Sure, Sured,
 use Rattle.gl_safety.proofs.Complete.{Winner, Before, Whole, chief_of_led, one_voter, winner_of, completes, complete, descend, has_all, newest_in, settled}
 use Rattle.gl_safety.proofs.Signatures.{last_le, last_above, last_signs, last_take, signed_keeps, view_at_is, last_view_is, last_zero, covers_last, covers_more, recorded_le, recorded_bound, recorded_some, recorded_part}
 use Rattle.gl_safety.proofs.Invariants.{Voter, Logged, Kept, Barred, Commits, Good, BodySent, AllSent, Made, Reached, rising_of, begins_of, signature_above, sure_within, settled_of, sure_to, known_in, recorded_sure, won_grow, sured_more, shuts_grow, commits_more, good_of, sent_grow, all_grow, all_append, sent_at, made_same, made_then}
+use Rattle.gl_safety.proofs.Soundness.{sound_cut, sound_push}
 use Rattle.gl_rules.specs.Outcome.{Outcome, Step, Done, Committed, quiet, refuse, idle, NotPeer, BelowBase, BelowCommit, ByLedger}
 use Rattle.gl_rules.specs.Steps.{led_by, if_leader}
 use Rattle.gl_rules.specs.Replication.{entries_limit, frames_limit, fitting, batch, next_of, is_peer, append_from, sends, replicate, append_reply, held_of, judged, applied, last_at_most, commit_after, takes, extended, merges, follows_on, follower_of, append_as, on_append, acknowledged, sent_back, answered, append_reply_as, on_append_reply, may_commit, greatest_to_commit, commits, advance, restart, snapshot_of, installed, installs, install}
@@ -31,7 +32,7 @@ use Rattle.gl_safety.proofs.Leading.{good_acknowledged, good_sent_back, good_com
 use Rattle.gl_safety.proofs.Installing.{good_install}
 use Rattle.gl_safety.proofs.Voters.{By, stay, reached_leader}
 
-module _ {E Q G R A F : Type 0} {b : Book E Q G R A F} {Ledger : List E → Type 0} {s : Start E} (o : IsOpening b Ledger s) (la : IsLawful b Ledger) where
+module _ {E Q G R A F : Type 0} {b : Book E Q G R A F} {s : Start E} (o : IsOpening b s) (la : IsLawful b) where
   -- a batch is a front of the entries
   fits : (count room : ℕ) (es : List E) (i : ℕ) (e : E) → slice_get (fitting b count room es) i ≡ Some e → slice_get es i ≡ Some e
   unfolding fitting
@@ -93,7 +94,7 @@ module _ {E Q G R A F : Type 0} {b : Book E Q G R A F} {Ledger : List E → Type
           (m : Result (List E) F) → applied b (take k n.log) (drop (held_of b (drop prev.place n.log) es) es) ≡ m → By o la x g (extended b n x y (prev.place + length es) theirs (cut_to k n) m)
       reached_extended k d h safe (Err why) a = stay o la x g n t z
       reached_extended k d h safe (Ok log) a =
-          let w = applied_is b Ledger la (take k n.log) (drop (held_of b (drop prev.place n.log) es) es) log a (la.cut n.log k z.sound) in
+          let w = applied_is b (take k n.log) (drop (held_of b (drop prev.place n.log) es) es) log a (sound_cut b n.log k z.sound) in
           made_accept o x g n log (prev.place + length es) theirs (cut_to k n).cuts t z follows
             (subst (Merged b n.log (g.led n.view) (prev.place + length es)) (ap (λ i. take i n.log ++ drop (held_of b (drop prev.place n.log) es) es) (sym d) ∙ sym w.0)
               (merged_new b g.led n.log (g.led n.view) es prev.place z.logged.matches (t.matches n.view) short front segment.items h))
@@ -118,6 +119,13 @@ module _ {E Q G R A F : Type 0} {b : Book E Q G R A F} {Ledger : List E → Type
               then refuse n (BelowCommit n.commit (prev.place + held_of b (drop prev.place n.log) es))
               else extended b n x y (prev.place + length es) theirs (cut_to (prev.place + held_of b (drop prev.place n.log) es) n) (applied b (take (prev.place + held_of b (drop prev.place n.log) es) n.log) (drop (held_of b (drop prev.place n.log) es) es))
 
+    one_front : (j : ℕ) (f e : E) → slice_get n.log j ≡ Some f → slice_get (g.led n.view) j ≡ Some e → b.view_of f ≡ b.view_of e → Same (suc j) n.log (g.led n.view)
+    one_front j f e a c v =
+        let p : slice_get (g.led (b.view_of f)) j ≡ Some f = z.logged.matches.below j j f f a (omega arith) a in
+        let q : slice_get (g.led (b.view_of e)) j ≡ Some e = (t.matches n.view).below j j e e c (omega arith) c in
+        let one : e ≡ f = let u : slice_get (g.led (b.view_of f)) j ≡ slice_get (g.led (b.view_of e)) j = ap (λ v. slice_get (g.led v) j) v in cc in
+        agree b g.led n.log (g.led n.view) j f z.logged.matches (t.matches n.view) a (let w : slice_get (g.led n.view) j ≡ Some f = cc in w)
+
     -- the place before the entries is the leader's
     behind : ((prev.place == 0) || (nat_le prev.place (length n.log) && (view_at b n.log prev.place == prev.view))) ≡ true → (prev.place ≤ length n.log) × Same prev.place n.log (g.led n.view)
     behind a = go prev.place refl
@@ -128,13 +136,9 @@ module _ {E Q G R A F : Type 0} {b : Book E Q G R A F} {Ledger : List E → Type
             let low : prev.place ≤ length n.log = grind (arith, nat_tests) in
             let view_is : view_at b n.log prev.place ≡ prev.view = grind (arith, nat_tests) in
             let f = there n.log j (omega arith) in
-            let at_f : b.view_of f.0 ≡ prev.view = sym (view_at_is b n.log j f.0 f.1) ∙ ap (view_at b n.log) (sym d) ∙ view_is in
+            let at_f : b.view_of f.0 ≡ prev.view = let k : view_at b n.log (suc j) ≡ b.view_of f.0 = view_at_is b n.log j f.0 f.1 in let m : view_at b n.log prev.place ≡ view_at b n.log (suc j) = ap (view_at b n.log) d in cc in
             let e = segment.prev j d (omega (arith, (z.logged.bound.view j f.0 f.1).0)) in
-            let p : slice_get (g.led (b.view_of f.0)) j ≡ Some f.0 = z.logged.matches.below j j f.0 f.0 f.1 (omega arith) f.1 in
-            let q : slice_get (g.led (b.view_of e.0)) j ≡ Some e.0 = (t.matches n.view).below j j e.0 e.0 e.1 (omega arith) e.1 in
-            let same_view : b.view_of f.0 ≡ b.view_of e.0 = at_f ∙ sym e.2 in
-            let one : e.0 ≡ f.0 = let u : slice_get (g.led (b.view_of f.0)) j ≡ Some e.0 = ap (λ v. slice_get (g.led v) j) same_view ∙ q in let w = sym u ∙ p in cc in
-            let all : Same (suc j) n.log (g.led n.view) = agree b g.led n.log (g.led n.view) j f.0 z.logged.matches (t.matches n.view) f.1 (e.1 ∙ ap Some one) in
+            let all : Same (suc j) n.log (g.led n.view) = one_front j f.0 e.0 f.1 e.1 (let k : b.view_of e.0 ≡ prev.view = e.2 in cc) in
             (low, λ i c h w. all i c (omega arith) w)
 
     reached_follows : By o la x g (follows_on b x y prev es theirs n)

@@ -21,3 +21,4 @@ pub mod Makers
 pub mod Runs
 pub mod Beginning
 pub mod Headline
+pub mod Views

@@ -1,6 +1,11 @@
--- What is promised of every run: of any two committed ledgers, at any nodes and moments, one is a prefix of the other,
--- and each committed ledger is sound. A moment is a prefix of the list of events.
-use Rattle.std.specs.Prelude.{◌≡◌, ℕ, suc, ◌≤◌, ◌<◌, List, [], ◌∷◌, ◌++◌, true, false, None, Some, Ok, length, take, slice_get, ◌⊎◌}
+-- What is promised of every run: of any two committed ledgers, at any nodes and moments, one is a prefix of the other;
+-- what is reported Committed is never reported Invalid; and each committed ledger is one that the service's layer of the
+-- ledger stands for. A moment is a prefix of the list of events.
+use Rattle.std.specs.Prelude.{◌≡◌, ℕ, suc, ◌≤◌, ◌<◌, List, [], ◌∷◌, ◌++◌, true, false, Option, None, Some, Result, Ok, length, take, slice_get, ◌⊎◌}
+use Rattle.gl_base.specs.declared.tx_id.TxId.{TxId}
+use Rattle.gl_base.specs.declared.status_kind.Status.{Status}
+use Rattle.gl_base.specs.declared.status_kind.Status.TheVariants.{Committed, Invalid}
+use Rattle.gl_base.specs.Status.{status_of}
 use Rattle.gl_rules.specs.Identity.{NodeId, member}
 use Rattle.gl_rules.specs.Book.{Book}
 use Rattle.gl_rules.specs.Node.{Node}
@@ -15,40 +20,46 @@ abbrev pub committed : {E : Type 0} → Node E → List E
 committed n = take n.commit n.log
 
 module _ {E Q G R A F : Type 0} (book : Book E Q G R A F) where
-  -- A sound ledger: each entry may follow those before it.
-  abbrev pub IsSound : List E → Type 0
-  IsSound log = (i : ℕ) (e : E) → slice_get log i ≡ Some e → book.breaks (take i log) e ≡ None
-
-  -- An entry that a ledger takes in a view.
-  pub record Makes (log : List E) (view : ℕ) (e : E) : Type 0 where
+  -- An entry that a ledger takes in a view: it may follow, and the ledger with it is sound again.
+  pub record Makes (Sound : List E → Type 0) (log : List E) (view : ℕ) (e : E) : Type 0 where
     pub view_is : book.view_of e ≡ view
     pub follows : book.breaks log e ≡ None
+    pub sound : Sound (log ++ e ∷ [])
+
+  -- A ledger whose every entry may follow those before it.
+  abbrev pub EachFollows : List E → Type 0
+  EachFollows log = (i : ℕ) (e : E) → slice_get log i ≡ Some e → book.breaks (take i log) e ≡ None
 
   -- Each view of the ledger is at most this one.
   abbrev pub ViewsUpTo : ℕ → List E → Type 0
   ViewsUpTo view log = (i : ℕ) (e : E) → slice_get log i ≡ Some e → book.view_of e ≤ view
 
-  -- What the rules ask of the layer of the ledger.
-  pub record IsLawful : Type 0 where
-    pub executed : (log : List E) (view : ℕ) (q : Q) (e : E) (a : A) → IsSound log → ViewsUpTo view log →
-        book.execute log view q ≡ Ok (e, a) → Makes log view e × (book.is_signature e ≡ false)
-    pub governed : (log : List E) (view : ℕ) (g : G) (e : E) (a : A) → IsSound log → ViewsUpTo view log →
-        book.govern log view g ≡ Ok (e, a) → Makes log view e × (book.is_signature e ≡ false)
+  -- What the rules ask of the layer of the ledger. Sound is what that layer says of a ledger.
+  pub record IsLawful (Sound : List E → Type 0) : Type 0 where
+    -- what is made
+    pub executed : (log : List E) (view : ℕ) (q : Q) (e : E) (a : A) → Sound log → ViewsUpTo view log →
+        book.execute log view q ≡ Ok (e, a) → Makes Sound log view e × (book.is_signature e ≡ false)
+    pub governed : (log : List E) (view : ℕ) (g : G) (e : E) (a : A) → Sound log → ViewsUpTo view log →
+        book.govern log view g ≡ Ok (e, a) → Makes Sound log view e × (book.is_signature e ≡ false)
     -- a leader's commit is the place of a signature, and not below what an earlier signature records
-    pub signed : (x : NodeId) (leaf : ℕ) (log : List E) (view commit : ℕ) (f e : E) → IsSound log → ViewsUpTo view log →
+    pub signed : (x : NodeId) (leaf : ℕ) (log : List E) (view commit : ℕ) (f e : E) → Sound log → ViewsUpTo view log →
         entry_at log commit ≡ Some f → book.is_signature f ≡ true → greatest_recorded book log ≤ commit →
-        book.sign x leaf log view commit ≡ Ok e → Makes log view e × (book.is_signature e ≡ true) × (book.recorded_commit e ≡ commit)
-    pub evident : (log : List E) (view : ℕ) (e : E) → IsSound log → ViewsUpTo view log →
-        book.evidence log view ≡ Ok e → Makes log view e × (book.is_signature e ≡ false)
+        book.sign x leaf log view commit ≡ Ok e → Makes Sound log view e × (book.is_signature e ≡ true) × (book.recorded_commit e ≡ commit)
+    pub evident : (log : List E) (view : ℕ) (e : E) → Sound log → ViewsUpTo view log →
+        book.evidence log view ≡ Ok e → Makes Sound log view e × (book.is_signature e ≡ false)
+    -- what is taken
+    pub taken : (log : List E) (e : E) → Sound log → book.breaks log e ≡ None → Sound (log ++ e ∷ [])
+    pub cut : (log : List E) (place : ℕ) → Sound log → Sound (take place log)
     -- an evidence entry stands right behind a signature
-    pub witnessed : (log : List E) (place : ℕ) (e : E) → IsSound log → entry_at log (suc place) ≡ Some e → book.is_evidence e ≡ true →
+    pub witnessed : (log : List E) (place : ℕ) (e : E) → Sound log → entry_at log (suc place) ≡ Some e → book.is_evidence e ≡ true →
         (f : E) × (entry_at log place ≡ Some f) × (book.is_signature f ≡ true)
 
   -- What the rules ask of the opening ledger: its entries are of the first view, a configuration stands in it, and its
   -- last entry is its only signature and records its own place. The node that signed it is among those that start.
-  pub record IsOpening (s : Start E) : Type 0 where
-    pub sound : IsSound s.opening
+  pub record IsOpening (Sound : List E → Type 0) (s : Start E) : Type 0 where
+    pub sound : Sound s.opening
     pub views : (i : ℕ) (e : E) → slice_get s.opening i ≡ Some e → book.view_of e ≡ first_view
+    pub follow : (i : ℕ) (e : E) → slice_get s.opening i ≡ Some e → book.breaks (take i s.opening) e ≡ None
     pub before : ℕ
     pub long : length s.opening ≡ suc before
     pub signature : E
@@ -63,6 +74,23 @@ module _ {E Q G R A F : Type 0} (book : Book E Q G R A F) where
     pub configured : book.configuration (take place s.opening) ≡ Some members
     pub first_starts : member s.first s.starting ≡ true
 
+  -- The view of an entry, if there is one.
+  abbrev pub view_of : Option E → Option ℕ
+  view_of None = None
+  view_of (Some e) = Some (book.view_of e)
+
+  abbrev pub named : ℕ → Option ℕ → Option TxId
+  named place None = None
+  named place (Some view) = Some (record { view = view; seqno = place })
+
+  -- The identifier of the last committed entry, if there is one.
+  abbrev pub commit_id : Node E → Option TxId
+  commit_id n = named n.commit (view_of (entry_at n.log n.commit))
+
+  -- What a node tells of a transaction's status.
+  abbrev pub reported : Node E → TxId → Status
+  reported n id = status_of id (view_of (entry_at n.log id.seqno)) (commit_id n)
+
   -- Of two committed ledgers one is a prefix of the other.
   abbrev pub Agree : Node E → Node E → Type 0
   Agree m n = IsPrefixOf (committed m) (committed n) ⊎ IsPrefixOf (committed n) (committed m)
@@ -71,7 +99,8 @@ module _ {E Q G R A F : Type 0} (book : Book E Q G R A F) where
   node_after s events x = (after book s events).nodes x
 
   -- What holds of a list of events, at all pairs of moments and nodes.
-  pub record IsSafe (s : Start E) (events : List (Event Q G R)) : Type 0 where
+  pub record IsSafe (Sound : List E → Type 0) (s : Start E) (events : List (Event Q G R)) : Type 0 where
     pub prefix : (i j : ℕ) (x y : NodeId) → Agree (node_after s (take i events) x) (node_after s (take j events) y)
-    pub ledger : (i : ℕ) (x : NodeId) → IsSound (committed (node_after s (take i events) x))
-    pub log : (i : ℕ) (x : NodeId) → IsSound (node_after s (take i events) x).log
+    pub status : (i j : ℕ) (x y : NodeId) (id : TxId) →
+        reported (node_after s (take i events) x) id ≡ Committed → reported (node_after s (take j events) y) id ≡ Invalid → ⊥
+    pub ledger : (i : ℕ) (x : NodeId) → Sound (committed (node_after s (take i events) x))

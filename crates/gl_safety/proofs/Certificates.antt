@@ -6,13 +6,13 @@ use Rattle.gl_rules.specs.Majority.{majority}
 use Rattle.gl_rules.specs.Book.{Book}
 use Rattle.gl_rules.specs.Message.{Last}
 use Rattle.gl_rules.specs.World.{Start}
-use Rattle.gl_rules.specs.Safety.{IsOpening}
+use Rattle.gl_rules.specs.Safety.{IsOpening, EachFollows}
 use Rattle.gl_safety.proofs.Lists.{Same, same_take, there, within}
 use Rattle.gl_safety.proofs.Story.{Story, Grows}
 use Rattle.gl_safety.proofs.Configurations.{IsNewest, Backed, newest_same}
 use Rattle.gl_safety.proofs.Facts.{Holds, Covers, Matches, Bound, Rising, Mark, Lost, Voted, Ballots, mark_grow, holds_grow}
 
-module _ {E Q G R A F : Type 0} {b : Book E Q G R A F} {s : Start E} (o : IsOpening b s) where
+module _ {E Q G R A F : Type 0} {b : Book E Q G R A F} {s : Start E} (o : IsOpening b (EachFollows b) s) where
   -- the entry at place c of l is a signature, at or below a certified one of a view that is at most t
   pub record SureOver (C : ℕ → ℕ → Type 0) (g : Story E) (l : List E) (c t : ℕ) : Type 0 where
     pub i : ℕ

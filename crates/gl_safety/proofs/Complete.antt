@@ -6,7 +6,7 @@ use Rattle.gl_rules.specs.Majority.{majority}
 use Rattle.gl_rules.specs.Book.{Book}
 use Rattle.gl_rules.specs.Message.{Last}
 use Rattle.gl_rules.specs.World.{Start}
-use Rattle.gl_rules.specs.Safety.{IsOpening}
+use Rattle.gl_rules.specs.Safety.{IsOpening, EachFollows}
 use Rattle.gl_safety.proofs.Ids.{share}
 use Rattle.gl_safety.proofs.Lists.{Same, same_take, there, within}
 use Rattle.gl_safety.proofs.Story.{Story, Grows}
@@ -14,7 +14,7 @@ use Rattle.gl_safety.proofs.Configurations.{IsNewest, Backed, newest_same, newes
 use Rattle.gl_safety.proofs.Facts.{Holds, Covers, Matches, Bound, Rising, Mark, Lost, Voted, Ballots, agree, is_led, led_is}
 use Rattle.gl_safety.proofs.Certificates.{SureOver, CertOver, Cert, Sure, Sured, Settled, Below, Won, Tale}
 
-module _ {E Q G R A F : Type 0} {b : Book E Q G R A F} {s : Start E} (o : IsOpening b s) where
+module _ {E Q G R A F : Type 0} {b : Book E Q G R A F} {s : Start E} (o : IsOpening b (EachFollows b) s) where
   -- who has the votes for w: the one who won it, or a candidate that is about to
   pub record Winner (g : Story E) (w : ℕ) : Type 0 where
     pub log : List E

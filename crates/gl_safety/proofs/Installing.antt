@@ -12,7 +12,7 @@ use Rattle.gl_rules.specs.Log.{entry_at, place_before, is_at_least, view_at, las
 use Rattle.gl_rules.specs.Configuration.{configuration_at, configurations_above, active_upto, active, in_some}
 use Rattle.gl_rules.specs.Steps.{cut_to, appended, leads, rise, has_votes, won_by, win, known_commit}
 use Rattle.gl_rules.specs.World.{Start}
-use Rattle.gl_rules.specs.Safety.{IsOpening, IsLawful, IsSound, Makes, ViewsUpTo}
+use Rattle.gl_rules.specs.Safety.{IsOpening, IsLawful, EachFollows, Makes, ViewsUpTo}
 use Rattle.gl_safety.proofs.Ids.{id_tests, same_is, same_self, same_tells, cases_same, put2, put_all, put2_cases, put2_at, by_test, share}
 use Rattle.gl_safety.proofs.Lists.{Same, same_take, there, within, past, get_take, take_get, drop_get, get_left, get_append, get_push, push_get, take_whole, append_none, push_append, take_nothing}
 use Rattle.gl_safety.proofs.Story.{Story, Grows, at_view, early_by, told_ballot, told_stand, told_led, told_win, told_held, grows_same, grows_then, grows_ballot, grows_stand, grows_held, grows_win, grows_led}
@@ -26,7 +26,7 @@ use Rattle.gl_safety.proofs.Soundness.{sound_cut, sound_push}
 use Rattle.gl_rules.specs.Replication.{greatest_evidence, snapshot_of, is_evidence_at, risen_to, installed}
 use Rattle.gl_safety.proofs.Standing.{good_rise}
 
-module _ {E Q G R A F : Type 0} {b : Book E Q G R A F} {s : Start E} (o : IsOpening b s) (la : IsLawful b) where
+module _ {E Q G R A F : Type 0} {b : Book E Q G R A F} {s : Start E} (o : IsOpening b (EachFollows b) s) (la : IsLawful b (EachFollows b)) where
   evidence_is : (log : List E) (base k i : ℕ) → greatest_evidence b log base k ≡ Some i → (j : ℕ) × (i ≡ suc j) × (suc j ≤ k) × (e : E) × (slice_get log j ≡ Some e) × (b.is_evidence e ≡ true)
   unfolding greatest_evidence
   evidence_is log base zero i a = absurd (cc)

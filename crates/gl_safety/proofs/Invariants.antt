@@ -9,7 +9,7 @@ use Rattle.gl_rules.specs.Node.{Node, Role, Follower, Candidate, Leader}
 use Rattle.gl_rules.specs.Message.{Last, Message, Body, RequestVote, VoteReply, Append, AppendReply, ProposeVote}
 use Rattle.gl_rules.specs.Log.{last, greatest_recorded}
 use Rattle.gl_rules.specs.World.{Start}
-use Rattle.gl_rules.specs.Safety.{IsOpening, IsSound}
+use Rattle.gl_rules.specs.Safety.{IsOpening, EachFollows}
 use Rattle.gl_safety.proofs.Ids.{id_tests}
 use Rattle.gl_safety.proofs.Lists.{Same, there, within, get_take}
 use Rattle.gl_safety.proofs.Story.{Story, Grows, grows_same, grows_then}
@@ -43,7 +43,7 @@ module _ {E Q G R A F : Type 0} (b : Book E Q G R A F) where
     pub future : (v : ℕ) → view < v → held x v ≡ 0
     pub keeps : (v i : ℕ) (e : E) → (i < held x v) ⊎ (chief v ≡ Some x) → Mark b led v i e → (slice_get log i ≡ Some e) ⊎ Lost b chief led v i (suc view)
 
-module _ {E Q G R A F : Type 0} {b : Book E Q G R A F} {s : Start E} (o : IsOpening b s) where
+module _ {E Q G R A F : Type 0} {b : Book E Q G R A F} {s : Start E} (o : IsOpening b (EachFollows b) s) where
   -- enough nodes have gone too far to vote for x in this view
   abbrev pub Barred : Story E → NodeId → List E → ℕ → ℕ → Type 0
   Barred g x l c w = (p : ℕ) (m : List NodeId) → IsNewest b l c p m → majority (g.shut x w) m ≡ true
@@ -64,7 +64,7 @@ module _ {E Q G R A F : Type 0} {b : Book E Q G R A F} {s : Start E} (o : IsOpen
     pub logged : Logged b g.chief g.led x n.view n.log
     pub kept : Kept b g.bid g.held g.chief g.led x n.view n.role n.log
     pub commits : Commits g x n.view n.role n.log n.commit n.base n.matched
-    pub sound : IsSound b n.log
+    pub sound : EachFollows b n.log
 
   -- what a message says
   abbrev pub BodySent : Story E → NodeId → NodeId → ℕ → Body E → Type 0

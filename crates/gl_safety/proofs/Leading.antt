@@ -12,7 +12,7 @@ use Rattle.gl_rules.specs.Log.{entry_at, place_before, is_at_least, view_at, las
 use Rattle.gl_rules.specs.Configuration.{configuration_at, configurations_above, active_upto, active, in_some}
 use Rattle.gl_rules.specs.Steps.{cut_to, appended, leads, rise, has_votes, won_by, win, known_commit}
 use Rattle.gl_rules.specs.World.{Start}
-use Rattle.gl_rules.specs.Safety.{IsOpening, IsLawful, IsSound, Makes, ViewsUpTo}
+use Rattle.gl_rules.specs.Safety.{IsOpening, IsLawful, EachFollows, Makes, ViewsUpTo}
 use Rattle.gl_safety.proofs.Ids.{id_tests, same_is, same_self, same_tells, cases_same, put2, put_all, put2_cases, put2_at, by_test, share}
 use Rattle.gl_safety.proofs.Lists.{Same, same_take, there, within, past, get_take, take_get, drop_get, get_left, get_append, get_push, push_get, take_whole, append_none, push_append, take_nothing}
 use Rattle.gl_safety.proofs.Story.{Story, Grows, at_view, early_by, told_ballot, told_stand, told_led, told_win, told_held, grows_same, grows_then, grows_ballot, grows_stand, grows_held, grows_win, grows_led}
@@ -25,7 +25,7 @@ use Rattle.gl_safety.proofs.Invariants.{Voter, Logged, Kept, Barred, Commits, Go
 use Rattle.gl_safety.proofs.Soundness.{sound_cut, sound_push}
 use Rattle.gl_rules.specs.Replication.{acknowledged, sent_back, may_commit, signed_in}
 
-module _ {E Q G R A F : Type 0} {b : Book E Q G R A F} {s : Start E} (o : IsOpening b s) where
+module _ {E Q G R A F : Type 0} {b : Book E Q G R A F} {s : Start E} (o : IsOpening b (EachFollows b) s) where
   -- a leader's log grows by an entry of its view
   module _ (x : NodeId) (g : Story E) (n : Node E) (e : E) (t : Tale o g) (z : Good o g x n) (rules : n.role ≡ Leader) (view_is : b.view_of e ≡ n.view)
       (follows : b.breaks n.log e ≡ None) (records : b.is_signature e ≡ true → b.recorded_commit e ≡ n.commit) where

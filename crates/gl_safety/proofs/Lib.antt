@@ -20,5 +20,7 @@ pub mod Replicas
 pub mod Makers
 pub mod Runs
 pub mod Beginning
+pub mod Prefixes
+pub mod Statuses
 pub mod Headline
 pub mod Views

@@ -12,7 +12,7 @@ use Rattle.gl_rules.specs.Log.{entry_at, place_before, is_at_least, view_at, las
 use Rattle.gl_rules.specs.Configuration.{configuration_at, configurations_above, active_upto, active, in_some}
 use Rattle.gl_rules.specs.Steps.{cut_to, appended, leads, rise, has_votes, won_by, win, known_commit}
 use Rattle.gl_rules.specs.World.{Start}
-use Rattle.gl_rules.specs.Safety.{IsOpening, IsLawful, IsSound, Makes, ViewsUpTo}
+use Rattle.gl_rules.specs.Safety.{IsOpening, IsLawful, EachFollows, Makes, ViewsUpTo}
 use Rattle.gl_safety.proofs.Ids.{id_tests, same_is, same_self, same_tells, cases_same, put2, put_all, put2_cases, put2_at, by_test, share}
 use Rattle.gl_safety.proofs.Lists.{Same, same_take, there, within, past, get_take, take_get, drop_get, get_left, get_append, get_push, push_get, take_whole, append_none, push_append, take_nothing}
 use Rattle.gl_safety.proofs.Story.{Story, Grows, at_view, early_by, told_ballot, told_stand, told_led, told_win, told_held, grows_same, grows_then, grows_ballot, grows_stand, grows_held, grows_win, grows_led}
@@ -72,12 +72,12 @@ module _ {E Q G R A F : Type 0} (b : Book E Q G R A F) where
           let r : b.view_of c ≢ b.view_of d = grind (arith, nat_tests) in
           λ (w : b.view_of e ≡ b.view_of f). r (ap b.view_of p ∙ w ∙ sym (ap b.view_of q))
 
-  pub applied_is : (l es r : List E) → applied b l es ≡ Ok r → IsSound b l → (r ≡ l ++ es) × IsSound b r
+  pub applied_is : (l es r : List E) → applied b l es ≡ Ok r → EachFollows b l → (r ≡ l ++ es) × EachFollows b r
   unfolding applied
-  applied_is l [] r a z = let q : l ≡ r = cc in (sym q ∙ sym (append_none l), subst (IsSound b) q z)
+  applied_is l [] r a z = let q : l ≡ r = cc in (sym q ∙ sym (append_none l), subst (EachFollows b) q z)
   applied_is l (e ∷ es) r a z = go (b.breaks l e) refl a (applied_is (l ++ e ∷ []) es r)
     where
-      go : (m : Option F) → b.breaks l e ≡ m → judged b m (applied b (l ++ e ∷ []) es) ≡ Ok r → (applied b (l ++ e ∷ []) es ≡ Ok r → IsSound b (l ++ e ∷ []) → (r ≡ (l ++ e ∷ []) ++ es) × IsSound b r) → (r ≡ l ++ e ∷ es) × IsSound b r
+      go : (m : Option F) → b.breaks l e ≡ m → judged b m (applied b (l ++ e ∷ []) es) ≡ Ok r → (applied b (l ++ e ∷ []) es ≡ Ok r → EachFollows b (l ++ e ∷ []) → (r ≡ (l ++ e ∷ []) ++ es) × EachFollows b r) → (r ≡ l ++ e ∷ es) × EachFollows b r
       go None d w again = let y = again w (sound_push b l e z d) in (y.0 ∙ push_append l e es, y.1)
       go (Some why) d w again = absurd (cc)
 

@@ -12,7 +12,7 @@ use Rattle.gl_rules.specs.Log.{entry_at, place_before, is_at_least, view_at, las
 use Rattle.gl_rules.specs.Configuration.{configuration_at, configurations_above, active_upto, active, in_some}
 use Rattle.gl_rules.specs.Steps.{cut_to, appended, leads, rise, has_votes, won_by, win, known_commit}
 use Rattle.gl_rules.specs.World.{Start}
-use Rattle.gl_rules.specs.Safety.{IsOpening, IsLawful, IsSound, Makes, ViewsUpTo}
+use Rattle.gl_rules.specs.Safety.{IsOpening, IsLawful, EachFollows, Makes, ViewsUpTo}
 use Rattle.gl_safety.proofs.Ids.{id_tests, same_is, same_self, same_tells, cases_same, put2, put_all, put2_cases, put2_at, by_test, share}
 use Rattle.gl_safety.proofs.Lists.{Same, same_take, there, within, past, get_take, take_get, drop_get, get_left, get_append, get_push, push_get, take_whole, append_none, push_append, take_nothing}
 use Rattle.gl_safety.proofs.Story.{Story, Grows, at_view, early_by, told_ballot, told_stand, told_led, told_win, told_held, grows_same, grows_then, grows_ballot, grows_stand, grows_held, grows_win, grows_led}
@@ -23,7 +23,7 @@ use Rattle.gl_safety.proofs.Complete.{Winner, Before, Whole, chief_of_led, one_v
 use Rattle.gl_safety.proofs.Signatures.{last_le, last_above, last_signs, last_take, signed_keeps, view_at_is, last_view_is, last_zero, covers_last, covers_more, recorded_le, recorded_bound, recorded_some, recorded_part}
 use Rattle.gl_safety.proofs.Invariants.{Voter, Logged, Kept, Barred, Commits, Good, BodySent, AllSent, Made, Reached, rising_of, begins_of, signature_above, sure_within, settled_of, sure_to, known_in, recorded_sure, won_grow, sured_more, shuts_grow, commits_more, good_of, sent_grow, all_grow, all_append, sent_at, made_same, made_then}
 use Rattle.gl_safety.proofs.Soundness.{sound_cut, sound_push}
-module _ {E Q G R A F : Type 0} {b : Book E Q G R A F} {s : Start E} (o : IsOpening b s) where
+module _ {E Q G R A F : Type 0} {b : Book E Q G R A F} {s : Start E} (o : IsOpening b (EachFollows b) s) where
   module _ (x : NodeId) (g : Story E) (n : Node E) (t : Tale o g) (z : Good o g x n) (stood : n.role ≡ Candidate) (counts : has_votes b n ≡ true) where
     ballots_in : Backed b (λ y. member y n.votes) n.log n.commit (length n.log)
     ballots_in = backed_by b (λ y. member y n.votes) n.log n.commit (length n.log) counts

@@ -4,12 +4,13 @@
 ghost use Rattle.std.specs.Prelude.{List};
 ghost use Rattle.gl_rules.specs.Book.{Book};
 ghost use Rattle.gl_rules.specs.World.{Event, Start};
-ghost use Rattle.gl_rules.specs.Safety.{IsLawful, IsOpening, IsSafe};
+ghost use Rattle.gl_rules.specs.Safety.{EachFollows, IsLawful, IsOpening, IsSafe};
 
 /// The rules of consensus are safe, whatever happens in whatever order.
 pub fn is_safe<E, Q, G, R, A, F>()
     ensures safe {
-        (book : Book E Q G R A F) (s : Start E) → IsLawful book → IsOpening book s → (events : List (Event Q G R)) → IsSafe book s events
+        (book : Book E Q G R A F) (s : Start E) → IsLawful book (EachFollows book) → IsOpening book (EachFollows book) s → (events : List (Event Q G R)) →
+            IsSafe book (EachFollows book) s events
     }
 {
 }

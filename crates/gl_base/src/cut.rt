@@ -1,0 +1,232 @@
+//! Fields read from the front of bytes.
+
+ghost use Rattle.std.specs.Prelude.{◌≡◌, ◌⊎◌, ℕ, List, ◌+◌, ◌/◌, ◌^◌, ◌<◌, ◌++◌, length, position, IfOk, Ok};
+ghost use Rattle.gl_base.specs.LittleEndian.{little_endian};
+ghost use Rattle.gl_base.specs.Cut.{Unread, IsWidth, Gives, bytes_at, number_at, string_at, field_at, is_no_text, text_at};
+
+use crate::cut_fault::CutFault;
+use crate::number::{u8_of, u16_of, u32_of, u48_of, u64_of};
+use std::marker::Model;
+
+/// Bytes of which the front was read, field by field. A read that answers a fault leaves the cut
+/// as it was.
+#[derive(Debug, Drop)]
+pub struct Cut<'a> {
+    rest: &'a [u8],
+    at: usize,
+}
+
+impl<'a> Model for Cut<'a> {
+    ghost Value = { Unread };
+
+    ghost view = { λ c. record { at = c.at; bytes = c.rest.now } };
+
+    ghost invariant = { λ c. c.at + length c.rest.now < 2 ^ 64 };
+}
+
+impl<'a> Cut<'a> {
+    pub fn new(bytes: &'a [u8]) -> Cut<'a>
+        ensures { result ≡ record { at = 0; bytes = bytes.now } }
+    {
+        Cut { rest: bytes, at: 0 }
+    }
+
+    /// The place of the next byte, counted from the first of all.
+    pub fn at(&self) -> usize
+        ensures { result ≡ self.now.at }
+    {
+        self.at
+    }
+
+    /// The bytes that are still to be read.
+    pub fn rest(&self) -> &'a [u8]
+        ensures { result.now ≡ self.now.bytes }
+    {
+        self.rest
+    }
+
+    #[tactic(auto, unfolding(crate::specs::Cut::bytes_at))]
+    fn chunk<const N: usize>(&mut self) -> Result<&'a [u8; N], CutFault>
+        ensures { Gives (λ s. s.now) result self.old self.new (bytes_at N self.old) }
+    {
+        match self.rest.split_first_chunk::<N>() {
+            Some((front, rest)) => {
+                self.rest = rest;
+                self.at += N;
+                Ok(front)
+            }
+            None => Err(CutFault::Short {
+                at: self.at + self.rest.len(),
+            }),
+        }
+    }
+
+    #[tactic(auto, using(crate::proofs::Numbers::number_from), unfolding(crate::specs::Cut::number_at))]
+    pub fn u8(&mut self) -> Result<u8, CutFault>
+        ensures exact { Gives (λ n. n) result self.old self.new (number_at 1 self.old) }
+
+        // What is read is spelled so, and what is spelled so is read.
+        ensures spelled { IfOk result (λ n. self.old.bytes ≡ little_endian 1 n ++ self.new.bytes) }
+        ensures only { (n : ℕ) (rest : List ℕ) → n < 2 ^ 8 → self.old.bytes ≡ little_endian 1 n ++ rest → result ≡ Ok n }
+    {
+        match self.chunk::<1>() {
+            Ok(bytes) => Ok(u8_of(bytes)),
+            Err(fault) => Err(fault),
+        }
+    }
+
+    #[tactic(auto, using(crate::proofs::Numbers::number_from), unfolding(crate::specs::Cut::number_at))]
+    pub fn u16(&mut self) -> Result<u16, CutFault>
+        ensures exact { Gives (λ n. n) result self.old self.new (number_at 2 self.old) }
+
+        // What is read is spelled so, and what is spelled so is read.
+        ensures spelled { IfOk result (λ n. self.old.bytes ≡ little_endian 2 n ++ self.new.bytes) }
+        ensures only { (n : ℕ) (rest : List ℕ) → n < 2 ^ 16 → self.old.bytes ≡ little_endian 2 n ++ rest → result ≡ Ok n }
+    {
+        match self.chunk::<2>() {
+            Ok(bytes) => Ok(u16_of(bytes)),
+            Err(fault) => Err(fault),
+        }
+    }
+
+    #[tactic(auto, using(crate::proofs::Numbers::number_from), unfolding(crate::specs::Cut::number_at))]
+    pub fn u32(&mut self) -> Result<u32, CutFault>
+        ensures exact { Gives (λ n. n) result self.old self.new (number_at 4 self.old) }
+
+        // What is read is spelled so, and what is spelled so is read.
+        ensures spelled { IfOk result (λ n. self.old.bytes ≡ little_endian 4 n ++ self.new.bytes) }
+        ensures only { (n : ℕ) (rest : List ℕ) → n < 2 ^ 32 → self.old.bytes ≡ little_endian 4 n ++ rest → result ≡ Ok n }
+    {
+        match self.chunk::<4>() {
+            Ok(bytes) => Ok(u32_of(bytes)),
+            Err(fault) => Err(fault),
+        }
+    }
+
+    /// A number of six bytes.
+    #[tactic(auto, using(crate::proofs::Numbers::number_from), unfolding(crate::specs::Cut::number_at))]
+    pub fn u48(&mut self) -> Result<u64, CutFault>
+        ensures exact { Gives (λ n. n) result self.old self.new (number_at 6 self.old) }
+
+        // What is read is spelled so, and what is spelled so is read.
+        ensures spelled { IfOk result (λ n. self.old.bytes ≡ little_endian 6 n ++ self.new.bytes) }
+        ensures only { (n : ℕ) (rest : List ℕ) → n < 2 ^ 48 → self.old.bytes ≡ little_endian 6 n ++ rest → result ≡ Ok n }
+    {
+        match self.chunk::<6>() {
+            Ok(bytes) => Ok(u48_of(bytes)),
+            Err(fault) => Err(fault),
+        }
+    }
+
+    #[tactic(auto, using(crate::proofs::Numbers::number_from), unfolding(crate::specs::Cut::number_at))]
+    pub fn u64(&mut self) -> Result<u64, CutFault>
+        ensures exact { Gives (λ n. n) result self.old self.new (number_at 8 self.old) }
+
+        // What is read is spelled so, and what is spelled so is read.
+        ensures spelled { IfOk result (λ n. self.old.bytes ≡ little_endian 8 n ++ self.new.bytes) }
+        ensures only { (n : ℕ) (rest : List ℕ) → n < 2 ^ 64 → self.old.bytes ≡ little_endian 8 n ++ rest → result ≡ Ok n }
+    {
+        match self.chunk::<8>() {
+            Ok(bytes) => Ok(u64_of(bytes)),
+            Err(fault) => Err(fault),
+        }
+    }
+
+    fn copy(&self) -> Cut<'a>
+        ensures { result ≡ self.now }
+    {
+        Cut {
+            rest: self.rest,
+            at: self.at,
+        }
+    }
+
+    #[tactic(auto, unfolding(crate::specs::Cut::bytes_at))]
+    fn take(&mut self, count: u64) -> Result<&'a [u8], CutFault>
+        ensures { Gives (λ s. s.now) result self.old self.new (bytes_at count self.old) }
+    {
+        if (self.rest.len() as u64) < count {
+            return Err(CutFault::Short {
+                at: self.at + self.rest.len(),
+            });
+        }
+        let (front, rest) = self.rest.split_at(count as usize);
+        self.rest = rest;
+        self.at += front.len();
+        Ok(front)
+    }
+
+    /// A length of so many bits.
+    #[tactic(auto, unfolding(crate::specs::Cut::number_at))]
+    fn length(&mut self, width: u32) -> Result<u64, CutFault>
+        requires { (width ≡ 8) ⊎ (width ≡ 16) ⊎ (width ≡ 32) }
+        ensures { Gives (λ n. n) result self.old self.new (number_at (width / 8) self.old) }
+    {
+        match width {
+            8 => match self.u8() {
+                Ok(len) => Ok(u64::from(len)),
+                Err(fault) => Err(fault),
+            },
+            16 => match self.u16() {
+                Ok(len) => Ok(u64::from(len)),
+                Err(fault) => Err(fault),
+            },
+            _ => match self.u32() {
+                Ok(len) => Ok(u64::from(len)),
+                Err(fault) => Err(fault),
+            },
+        }
+    }
+
+    /// A length of so many bits, and that many bytes.
+    #[tactic(auto, unfolding(crate::specs::Cut::string_at))]
+    fn string(&mut self, width: u32, limit: u64) -> Result<&'a [u8], CutFault>
+        requires { (width ≡ 8) ⊎ (width ≡ 16) ⊎ (width ≡ 32) }
+        ensures { Gives (λ s. s.now) result self.old self.new (string_at (width / 8) limit self.old) }
+    {
+        let mut ahead = self.copy();
+        let len = ahead.length(width)?;
+        if len > limit {
+            return Err(CutFault::TooLong { at: self.at, len });
+        }
+        let bytes = ahead.take(len)?;
+        *self = ahead;
+        Ok(bytes)
+    }
+
+    /// Bytes behind their length of `width` bits (8, 16 or 32), which is `limit` at most. With the
+    /// width 0 there is no length, and `limit` is the number of the bytes.
+    pub fn bytes(&mut self, width: u32, limit: u64) -> Result<&'a [u8], CutFault>
+        requires { IsWidth width }
+        ensures { Gives (λ s. s.now) result self.old self.new (field_at width limit self.old) }
+    {
+        if width == 0 {
+            self.take(limit)
+        } else {
+            self.string(width, limit)
+        }
+    }
+
+    /// A name behind its length of 8 bits, which is `limit` at most: visible ASCII characters, 21
+    /// to 7e in hexadecimal. It may be empty.
+    #[tactic(auto, unfolding(crate::specs::Cut::text_at))]
+    pub fn text(&mut self, limit: u64) -> Result<&'a [u8], CutFault>
+        ensures { Gives (λ s. s.now) result self.old self.new (text_at limit self.old) }
+    {
+        let mut ahead = self.copy();
+        let name = ahead.string(8, limit)?;
+        if let Some(index) = first_no_text(name) {
+            return Err(CutFault::NotText {
+                at: self.at + 1 + index,
+            });
+        }
+        *self = ahead;
+        Ok(name)
+    }
+}
+
+fn first_no_text(bytes: &[u8]) -> Option<usize>
+    ensures { result ≡ position is_no_text bytes.now }
+{
+    bytes.iter().position(|byte| !matches!(*byte, 0x21..=0x7e))
+}

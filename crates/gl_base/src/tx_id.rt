@@ -1,0 +1,27 @@
+use thiserror::Error;
+
+/// A transaction identifier (CCF documentation, "Transaction identifiers"): the view in which its
+/// entry was made, from 1 to 2^32 - 1, and the entry's place in the ledger, from 1 to 2^40 - 1.
+/// Identifiers are ordered by view, then by place.
+#[derive(Clone, Copy, Debug, PartialEq, Eq, PartialOrd, Ord)]
+pub struct TxId {
+    pub view: u32,
+    pub seqno: u64,
+}
+
+/// Why a text is no transaction identifier. A place is counted in the whole text, from 0.
+#[derive(Clone, Copy, Debug, PartialEq, Eq, Error)]
+pub enum TxIdFault {
+    #[error("a part is empty")]
+    Empty,
+    #[error("no digit at {at}")]
+    Digit { at: usize },
+    #[error("a zero stands before other digits at {at}")]
+    LeadingZero { at: usize },
+    #[error("a number is too big")]
+    TooBig,
+    #[error("a number is zero")]
+    Zero,
+    #[error("no dot")]
+    NoDot,
+}

@@ -1,0 +1,4 @@
+pub mod Fault
+pub mod Source
+pub mod Sink
+pub mod Memory

@@ -1,0 +1,32 @@
+-- A service of one node, and the events of which its schedules are made by now.
+use Rattle.std.specs.Prelude.{◌≡◌, ℕ, List, [], ◌∷◌}
+use Rattle.gl_rules.specs.Identity.{NodeId}
+use Rattle.gl_rules.specs.World.{Event, Timeout, Deliver, Submit, Finish, Govern, Reserve, Sign, Evidence, Replicate, Advance, StepDown, Restart, Install}
+use Rattle.gl_service.specs.declared.settings.Settings.{Settings}
+use Rattle.gl_service.specs.Service.{ServiceEvent}
+
+-- One node and one member.
+pub record IsSingle (s : Settings) : Type 0 where
+  pub starting : s.starting ≡ 1
+  pub joiners : s.joiners ≡ 0
+  pub members : s.members ≡ 1
+
+-- A request, a reserved leaf, a signature or an advance of commit at this node.
+abbrev pub IsLocal : NodeId → ServiceEvent → Type 0
+IsLocal x (Submit y q) = y ≡ x
+IsLocal x (Reserve y) = y ≡ x
+IsLocal x (Sign y) = y ≡ x
+IsLocal x (Advance y) = y ≡ x
+IsLocal x (Timeout y) = ⊥
+IsLocal x (Deliver which) = ⊥
+IsLocal x (Finish y len cuts reads q) = ⊥
+IsLocal x (Govern y g) = ⊥
+IsLocal x (Evidence y) = ⊥
+IsLocal x (Replicate y z) = ⊥
+IsLocal x (StepDown y z) = ⊥
+IsLocal x (Restart y) = ⊥
+IsLocal x (Install y z) = ⊥
+
+abbrev pub AreLocal : NodeId → List ServiceEvent → Type 0
+AreLocal x [] = Unit {0}
+AreLocal x (e ∷ es) = IsLocal x e × AreLocal x es

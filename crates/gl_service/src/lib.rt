@@ -1,0 +1,9 @@
+//! A service of one schedule: its keys, its genesis, its ledger as the book of consensus, and what is promised of it.
+#![tactic(auto)]
+
+mod founding;
+mod keys;
+mod settings;
+
+pub use founding::{genesis, node_id};
+pub use settings::Settings;

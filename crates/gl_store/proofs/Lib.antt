@@ -1,0 +1,5 @@
+pub mod Lists
+pub mod Growth
+pub mod Openings
+pub mod Applications
+pub mod Keeping

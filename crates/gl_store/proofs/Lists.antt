@@ -1,0 +1,36 @@
+-- One more element at the end of a list.
+use Rattle.std.proofs.Common.{◌≡◌, ℕ, zero, suc, ◌<◌, ◌≤◌, List, [], ◌∷◌, ◌++◌, length, take, Some, ◌⊎◌, inl, inr, refl, ap, arith, ⊎_elim, Result, Ok}
+use Rattle.std.specs.List.{slice_get}
+
+-- an element of the longer list is one of the list, or the new one
+pub slice_get-push : {A : Type 0} (xs : List A) (y : A) (i : ℕ) (x : A) → slice_get (xs ++ y ∷ []) i ≡ Some x →
+    (slice_get xs i ≡ Some x) ⊎ ((i ≡ length xs) × (x ≡ y))
+slice_get-push [] y zero x e = inr (refl, cc)
+slice_get-push [] y (suc i) x e = absurd (cc)
+slice_get-push (z ∷ xs) y zero x e = inl e
+slice_get-push (z ∷ xs) y (suc i) x e =
+    ⊎_elim (λ (s : slice_get xs i ≡ Some x). inl s) (λ (s : (i ≡ length xs) × (x ≡ y)). inr (ap suc s.0, s.1)) (slice_get-push xs y i x e)
+
+-- up to the list's length the longer list is the list
+pub take-push : {A : Type 0} (xs : List A) (y : A) (i : ℕ) → i ≤ length xs → take i (xs ++ y ∷ []) ≡ take i xs
+take-push xs y zero h = refl
+take-push [] y (suc i) h = absurd (omega arith)
+take-push (z ∷ xs) y (suc i) h = ap (λ t. z ∷ t) (take-push xs y i (omega arith))
+
+pub within : {A : Type 0} (xs : List A) (i : ℕ) (x : A) → slice_get xs i ≡ Some x → i < length xs
+within [] i x e = absurd (cc)
+within (z ∷ xs) zero x e = omega arith
+within (z ∷ xs) (suc i) x e = let h : i < length xs = within xs i x e in omega arith
+
+-- the whole list is its first elements, as many as it has
+pub take-all : {A : Type 0} (xs : List A) → take (length xs) xs ≡ xs
+take-all [] = refl
+take-all (x ∷ xs) = ap (λ t. x ∷ t) (take-all xs)
+
+-- two pairs that are given alike are one
+pub same_pair : {A B F : Type 0} (r : Result (A × B) F) (x y : A) (a b : B) → r ≡ Ok (x, a) → r ≡ Ok (y, b) → (y ≡ x) × (b ≡ a)
+same_pair {A} {B} r x y a b d e =
+    let p : A × B = (x, a) in
+    let q : A × B = (y, b) in
+    let one : q ≡ p = cc in
+    (ap (λ (t : A × B). t.0) one, ap (λ (t : A × B). t.1) one)

@@ -1,0 +1,61 @@
+-- What the recorded governance requests come to: the rows of the governance tables.
+use Rattle.std.specs.Prelude.{◌≡◌, ℕ, suc, List, [], ◌∷◌, Option, None, Some, true, ◌==◌, if◌then◌else◌}
+use Rattle.gl_store.specs.Tables.{Tables, no_tables, value_in, wrote_all}
+use Rattle.gl_store.specs.Genesis.{state_byte, governance_bytes, genesis_rows, is_acceptable, service_map, service_key}
+use Rattle.gl_store.specs.declared.entry.Content.{Content}
+use Rattle.gl_store.specs.declared.entry.Content.TheVariants as content
+use Rattle.gl_store.specs.declared.entry.Entry.{Entry}
+use Rattle.gl_store.specs.declared.write.Write.{Write}
+use Rattle.gl_store.specs.declared.genesis.ServiceState.{ServiceState}
+use Rattle.gl_store.specs.declared.genesis.ServiceState.TheVariants.{Opening, Open}
+use Rattle.gl_store.specs.declared.genesis.GovernanceRequest.{GovernanceRequest}
+use Rattle.gl_store.specs.declared.genesis.GovernanceRequest.TheVariants as requests
+
+-- A governance request and the place of the entry that records it.
+pub record Recorded : Type 0 where
+  pub place : ℕ
+  pub request : GovernanceRequest
+
+-- What an entry at a place records of these requests, with what the entries behind it record.
+abbrev pub RecordsAt : ℕ → Content → (List Recorded → Type 0) → List Recorded → Type 0
+RecordsAt place (content.Governance bytes) behind requests =
+    (g : GovernanceRequest) × (rest : List Recorded) × (bytes ≡ governance_bytes g)
+    × (requests ≡ record { place = place; request = g } ∷ rest) × behind rest
+RecordsAt place (content.Application bytes) behind requests = behind requests
+RecordsAt place (content.Signature s) behind requests = behind requests
+RecordsAt place (content.Evidence d) behind requests = behind requests
+
+-- These are the governance requests of the entries from a place on, in order.
+abbrev pub RecordsFrom : ℕ → List Entry → List Recorded → Type 0
+RecordsFrom place [] requests = requests ≡ []
+RecordsFrom place (e ∷ es) requests = RecordsAt place e.content (λ rest. RecordsFrom (suc place) es rest) requests
+
+abbrev pub Records : List Entry → List Recorded → Type 0
+Records ledger requests = RecordsFrom 1 ledger requests
+
+-- The rows that recorded requests come to: those of the genesis, which stands first.
+abbrev pub effect_rows : List Recorded → List Write
+effect_rows [] = []
+effect_rows (r ∷ rs) = rows_of r.request
+  where
+    rows_of : GovernanceRequest → List Write
+    rows_of (requests.Genesis g) = genesis_rows g
+
+abbrev pub effect : List Recorded → Tables
+effect recorded = wrote_all no_tables (effect_rows recorded)
+
+-- A request that no rule refuses behind those recorded: a genesis comes first and is acceptable.
+abbrev pub IsAccepted : List Recorded → GovernanceRequest → Type 0
+IsAccepted recorded (requests.Genesis g) = (recorded ≡ []) × (is_acceptable g ≡ true)
+
+abbrev state_of_byte : ℕ → ServiceState
+state_of_byte byte = if byte == state_byte Open then Open else Opening
+
+abbrev pub state_of_value : Option (List ℕ) → ServiceState
+state_of_value None = Opening
+state_of_value (Some []) = Opening
+state_of_value (Some (b ∷ bytes)) = state_of_byte b
+
+-- The service's state, as its row tells it.
+abbrev pub service_state : Tables → ServiceState
+service_state tables = state_of_value (value_in tables service_map service_key)

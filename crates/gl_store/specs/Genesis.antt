@@ -1,0 +1,139 @@
+-- The request that founds a service: its bytes, when it is acceptable, and the rows that it makes.
+use Rattle.std.specs.Prelude.{ℕ, suc, List, [], ◌∷◌, ◌++◌, Some, Bool, true, ◌&&◌, not, codes, length, map, nat_le, nat_lt, nat_eq}
+use Rattle.std.specs.List.{flat_map, list_all, list_any}
+use Rattle.sha2.specs.Sha256.{sha256}
+use Rattle.gl_store.specs.Field.{u8_bytes, u16_bytes, u32_bytes, u64_bytes, with_u32_length}
+use Rattle.gl_store.specs.Tables.{same_bytes}
+use Rattle.gl_store.specs.declared.write.Write.{Write}
+use Rattle.gl_store.specs.declared.genesis.ServiceState.{ServiceState}
+use Rattle.gl_store.specs.declared.genesis.ServiceState.TheVariants.{Opening, Open}
+use Rattle.gl_store.specs.declared.genesis.NewNode.{NewNode}
+use Rattle.gl_store.specs.declared.genesis.NewMember.{NewMember}
+use Rattle.gl_store.specs.declared.genesis.ShareDigest.{ShareDigest}
+use Rattle.gl_store.specs.declared.genesis.Dealing.{Dealing}
+use Rattle.gl_store.specs.declared.genesis.Genesis as request
+use Rattle.gl_store.specs.declared.genesis.GovernanceRequest.{GovernanceRequest}
+use Rattle.gl_store.specs.declared.genesis.GovernanceRequest.TheVariants as requests
+
+abbrev pub state_byte : ServiceState → ℕ
+state_byte Opening = 1
+state_byte Open = 2
+
+-- A node's identifier is the digest of its key.
+abbrev pub node_id : NewNode → List ℕ
+node_id n = sha256 n.key
+
+-- Bytes
+
+abbrev pub node_bytes : NewNode → List ℕ
+node_bytes n = n.key ++ with_u32_length n.endorsement
+
+abbrev pub member_bytes : NewMember → List ℕ
+member_bytes m = m.number ∷ m.key
+
+abbrev pub share_bytes : ShareDigest → List ℕ
+share_bytes s = s.member ∷ s.digest
+
+abbrev pub dealing_bytes : Dealing → List ℕ
+dealing_bytes d = (d.threshold ∷ d.secret_digest) ++ u8_bytes (length d.shares) ++ flat_map share_bytes d.shares
+
+abbrev pub genesis_bytes : request.Genesis → List ℕ
+genesis_bytes g =
+    (1 ∷ state_byte g.state ∷ g.identity)
+    ++ u8_bytes (length g.nodes) ++ flat_map node_bytes g.nodes
+    ++ u8_bytes (length g.members) ++ flat_map member_bytes g.members
+    ++ dealing_bytes g.dealing
+
+abbrev pub governance_bytes : GovernanceRequest → List ℕ
+governance_bytes (requests.Genesis g) = genesis_bytes g
+
+-- When it is acceptable
+
+abbrev are_distinct : (ℕ → ℕ → Bool) → List ℕ → Bool
+are_distinct eq [] = true
+are_distinct eq (x ∷ xs) = not (list_any (eq x) xs) && are_distinct eq xs
+
+abbrev are_distinct_bytes : List (List ℕ) → Bool
+are_distinct_bytes [] = true
+are_distinct_bytes (x ∷ xs) = not (list_any (same_bytes x) xs) && are_distinct_bytes xs
+
+abbrev is_ascending : List ℕ → Bool
+is_ascending [] = true
+is_ascending (x ∷ xs) = list_all (λ y. nat_lt x y) xs && is_ascending xs
+
+abbrev numbers_of : List NewMember → List ℕ
+numbers_of members = map (λ (m : NewMember). m.number) members
+
+-- One node at least, each once, and as many as may be trusted.
+abbrev pub are_nodes : List NewNode → Bool
+are_nodes nodes = nat_le 1 (length nodes) && nat_le (length nodes) 32 && are_distinct_bytes (map node_id nodes)
+
+-- Numbers from 1 and keys, each once, and as many members as may be present.
+abbrev pub are_members : List NewMember → Bool
+are_members members =
+    nat_le (length members) 64 && list_all (λ number. nat_le 1 number) (numbers_of members)
+    && are_distinct nat_eq (numbers_of members) && are_distinct_bytes (map (λ (m : NewMember). m.key) members)
+
+-- Shares for distinct members that are present, in ascending order, and at least as many as the threshold.
+abbrev pub is_dealing_among : List ℕ → Dealing → Bool
+is_dealing_among present d =
+    nat_le 1 d.threshold && nat_le d.threshold (length d.shares)
+    && is_ascending (map (λ (s : ShareDigest). s.member) d.shares)
+    && list_all (λ (s : ShareDigest). list_any (nat_eq s.member) present) d.shares
+
+abbrev pub is_acceptable : request.Genesis → Bool
+is_acceptable g = are_members g.members && is_dealing_among (numbers_of g.members) g.dealing && are_nodes g.nodes
+
+-- Rows
+
+abbrev pub row : List ℕ → List ℕ → List ℕ → Write
+row table key value = record { map = table; key = key; value = Some value }
+
+abbrev pub constitution_map : List ℕ
+constitution_map = codes "public:ccf.gov.constitution"
+
+abbrev pub dealing_map : List ℕ
+dealing_map = codes "public:ccf.gov.dealing"
+
+abbrev pub members_map : List ℕ
+members_map = codes "public:ccf.gov.members"
+
+abbrev pub nodes_map : List ℕ
+nodes_map = codes "public:ccf.gov.nodes"
+
+abbrev pub service_map : List ℕ
+service_map = codes "public:ccf.gov.service"
+
+abbrev pub service_key : List ℕ
+service_key = codes "s"
+
+abbrev pub dealing_key : List ℕ
+dealing_key = codes "d"
+
+-- Each of the seven actions is decided by more than half.
+abbrev pub rule_row : ℕ → Write
+rule_row action = row constitution_map (action ∷ []) (u16_bytes 1 ++ u16_bytes 2)
+
+abbrev pub constitution_rows : List Write
+constitution_rows = map rule_row (1 ∷ 2 ∷ 3 ∷ 4 ∷ 5 ∷ 6 ∷ 7 ∷ [])
+
+-- accepted, with no leaf used
+abbrev pub member_row : NewMember → Write
+member_row m = row members_map (m.number ∷ []) ((1 ∷ m.key) ++ u32_bytes 0)
+
+-- trusted, with its place in the order of nodes, and not removed
+abbrev pub node_row : ℕ → NewNode → Write
+node_row order n = row nodes_map (node_id n) (u16_bytes order ++ (2 ∷ n.key) ++ with_u32_length n.endorsement ++ u64_bytes 0)
+
+abbrev pub node_rows : ℕ → List NewNode → List Write
+node_rows order [] = []
+node_rows order (n ∷ ns) = node_row order n ∷ node_rows (suc order) ns
+
+-- not recovered
+abbrev pub service_row : request.Genesis → Write
+service_row g = row service_map service_key (state_byte g.state ∷ 0 ∷ g.identity)
+
+abbrev pub genesis_rows : request.Genesis → List Write
+genesis_rows g =
+    constitution_rows ++ row dealing_map dealing_key (dealing_bytes g.dealing) ∷ []
+    ++ map member_row g.members ++ node_rows 1 g.nodes ++ service_row g ∷ []

@@ -1,0 +1,118 @@
+-- The entries that a store makes, and what it has made of them.
+use Rattle.std.specs.Prelude.{◌≡◌, ℕ, suc, zero, ◌+◌, List, [], ◌∷◌, ◌++◌, Option, None, Some, Result, Ok, Err, Bool, true, length, slice_get}
+use Rattle.sha2.specs.Sha256.{sha256}
+use Rattle.gl_base.specs.declared.tx_id.TxId.{TxId}
+use Rattle.gl_base.specs.declared.status_kind.Status.{Status}
+use Rattle.gl_base.specs.Status.{status_of}
+use Rattle.gl_store.specs.Tables.{tables_of}
+use Rattle.gl_store.specs.Request.{Ran, run, request_bytes, reply_bytes}
+use Rattle.gl_store.specs.Entry.{no_digest, is_signature}
+use Rattle.gl_store.specs.Genesis.{genesis_bytes, genesis_rows}
+use Rattle.gl_store.specs.Effect.{service_state}
+use Rattle.gl_store.specs.declared.entry.Content.TheVariants as content
+use Rattle.gl_store.specs.declared.entry.Entry.{Entry}
+use Rattle.gl_store.specs.declared.request.Operation.{Operation}
+use Rattle.gl_store.specs.declared.request.Answer.{Answer}
+use Rattle.gl_store.specs.declared.request.Abort.{Abort}
+use Rattle.gl_store.specs.declared.genesis.Genesis as request
+use Rattle.gl_store.specs.declared.genesis.ServiceState.{ServiceState}
+use Rattle.gl_store.specs.declared.genesis.ServiceState.TheVariants.{Opening, Open}
+use Rattle.gl_store.specs.declared.refusal.Refusal.{Refusal}
+use Rattle.gl_store.specs.declared.refusal.Refusal.TheVariants as refusals
+use Rattle.gl_store.specs.declared.refusal.StoreError.{StoreError}
+use Rattle.gl_store.specs.declared.refusal.StoreError.TheVariants as errors
+
+-- What a store holds: its ledger, and up to which place it is committed.
+pub record Held : Type 0 where
+  pub ledger : List Entry
+  pub commit : ℕ
+
+-- The entry of a genesis, at place 1 in view 2.
+abbrev pub genesis_entry : request.Genesis → Entry
+genesis_entry g = record { view = 2; seqno = 1; content = content.Governance (genesis_bytes g); writes = genesis_rows g; claims = no_digest }
+
+-- A node's signature behind a ledger. Until the tree of entries and the signatures are there, root and signature are empty.
+abbrev pub signature_entry : List ℕ → List Entry → ℕ → ℕ → Entry
+signature_entry node ledger view commit = record {
+  view = view;
+  seqno = length ledger + 1;
+  content = content.Signature (record { node = node; commit = commit; root = no_digest; signature = [] });
+  writes = [];
+  claims = no_digest;
+}
+
+-- The opening ledger: the genesis, and the first signature, which records its own place.
+abbrev pub opening_ledger : request.Genesis → List ℕ → List Entry
+opening_ledger g node = genesis_entry g ∷ signature_entry node (genesis_entry g ∷ []) 2 2 ∷ []
+
+-- The entry of a request that ran behind a ledger.
+abbrev pub application_entry : List Entry → ℕ → List Operation → Ran → Entry
+application_entry ledger view operations ran = record {
+  view = view;
+  seqno = length ledger + 1;
+  content = content.Application (request_bytes operations);
+  writes = ran.writes;
+  claims = sha256 (reply_bytes ran.answers);
+}
+
+abbrev pub ran_behind : List Entry → ℕ → List Operation → Result Ran Abort → Result (Entry × List Answer) Refusal
+ran_behind ledger view operations (Err abort) = Err (refusals.Aborted abort)
+ran_behind ledger view operations (Ok ran) = Ok (application_entry ledger view operations ran, ran.answers)
+
+abbrev pub executed_in : ServiceState → List Entry → ℕ → List Operation → Result (Entry × List Answer) Refusal
+executed_in Opening ledger view operations = Err (refusals.ServiceState Opening)
+executed_in Open ledger view operations = ran_behind ledger view operations (run operations (tables_of ledger))
+
+-- What an application request gives behind a ledger: an entry and a reply, or why it is refused.
+abbrev pub executed : List Entry → ℕ → List Operation → Result (Entry × List Answer) Refusal
+executed ledger view operations = executed_in (service_state (tables_of ledger)) ledger view operations
+
+-- The view of the entry at a place, if there is one; places count from 1.
+abbrev pub view_at : List Entry → ℕ → Option ℕ
+view_at ledger zero = None
+view_at ledger (suc i) = view_of (slice_get ledger i)
+  where
+    view_of : Option Entry → Option ℕ
+    view_of None = None
+    view_of (Some e) = Some e.view
+
+abbrev pub entry_at : List Entry → ℕ → Option Entry
+entry_at ledger zero = None
+entry_at ledger (suc i) = slice_get ledger i
+
+-- The identifier at commit, if anything is committed.
+abbrev pub commit_of : Held → Option TxId
+commit_of held = named (view_at held.ledger held.commit)
+  where
+    named : Option ℕ → Option TxId
+    named None = None
+    named (Some view) = Some (record { view = view; seqno = held.commit })
+
+abbrev pub held_status : Held → TxId → Status
+held_status held id = status_of id (view_at held.ledger id.seqno) (commit_of held)
+
+abbrev pub signature_place : Bool → ℕ → ℕ
+signature_place signs (suc place) = suc (suc place)
+signature_place true zero = 1
+signature_place other zero = 0
+
+-- The place of the last signature, 0 where there is none.
+abbrev pub last_signature : List Entry → ℕ
+last_signature [] = 0
+last_signature (e ∷ es) = signature_place (is_signature e.content) (last_signature es)
+
+-- A signature stands at this place.
+abbrev pub IsSignedAt : List Entry → ℕ → Type 0
+IsSignedAt ledger place = (e : Entry) × (entry_at ledger place ≡ Some e) × (is_signature e.content ≡ true)
+
+-- The store made the entry of a request, with this identifier and reply.
+pub record Executes (old : Held) (view : ℕ) (operations : List Operation) (id : TxId) (reply : List Answer) (new : Held) : Type 0 where
+  pub entry : Entry
+  pub made : executed old.ledger view operations ≡ Ok (entry, reply)
+  pub named : id ≡ record { view = view; seqno = length old.ledger + 1 }
+  pub entered : new ≡ record old { ledger = old.ledger ++ entry ∷ [] }
+
+-- A refusal is the one that is owed; want of memory may come at any time.
+abbrev pub Refuses : Result (Entry × List Answer) Refusal → StoreError → Type 0
+Refuses owed errors.Memory = Unit {0}
+Refuses owed (errors.Refused why) = owed ≡ Err why

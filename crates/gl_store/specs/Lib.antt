@@ -1,0 +1,11 @@
+pub mod Name
+pub mod Field
+pub mod Tables
+pub mod Request
+pub mod Genesis
+pub mod Entry
+pub mod Effect
+pub mod Serial
+pub mod Ledger
+pub mod Kept
+pub mod Runs

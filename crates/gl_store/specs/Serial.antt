@@ -1,0 +1,92 @@
+-- A ledger as one serial run of its requests.
+use Rattle.std.specs.Prelude.{◌≡◌, ◌≢◌, ℕ, suc, ◌≤◌, List, [], ◌∷◌, ◌++◌, Some, Ok, Bool, true, length, take, slice_get, ◌&&◌, false}
+use Rattle.std.specs.List.{AllByRecursion}
+use Rattle.std.specs.declared.cmp.Ordering.{Ordering}
+use Rattle.std.specs.declared.cmp.Ordering.TheVariants.{Less, Equal, Greater}
+use Rattle.sha2.specs.Sha256.{sha256}
+use Rattle.gl_store.specs.Name.{is_governance}
+use Rattle.gl_store.specs.Tables.{Tables, tables_of, value_in, wrote_all}
+use Rattle.gl_store.specs.Request.{Ran, run, request_bytes, reply_bytes, write_order}
+use Rattle.gl_store.specs.Entry.{no_digest}
+use Rattle.gl_store.specs.Genesis.{governance_bytes}
+use Rattle.gl_store.specs.Effect.{Recorded, Records, effect, IsAccepted, service_state}
+use Rattle.gl_store.specs.declared.entry.Content.{Content}
+use Rattle.gl_store.specs.declared.entry.Content.TheVariants as content
+use Rattle.gl_store.specs.declared.entry.Entry.{Entry}
+use Rattle.gl_store.specs.declared.write.Write.{Write}
+use Rattle.gl_store.specs.declared.request.Operation.{Operation}
+use Rattle.gl_store.specs.declared.genesis.ServiceState.TheVariants.{Open}
+use Rattle.gl_store.specs.declared.genesis.GovernanceRequest.{GovernanceRequest}
+
+-- A list of entries whose i-th has seqno i, and whose views never fall.
+pub record IsLedger (ledger : List Entry) : Type 0 where
+  pub places : (i : ℕ) (e : Entry) → slice_get ledger i ≡ Some e → e.seqno ≡ suc i
+  pub views : (i j : ℕ) (e f : Entry) → i ≤ j → slice_get ledger i ≡ Some e → slice_get ledger j ≡ Some f → e.view ≤ f.view
+
+abbrev is_less : Ordering → Bool
+is_less Less = true
+is_less Equal = false
+is_less Greater = false
+
+abbrev stands_before : Write → List Write → Bool
+stands_before w [] = true
+stands_before w (x ∷ xs) = is_less (write_order w x)
+
+-- Strictly ascending by map, then key.
+abbrev pub is_ordered : List Write → Bool
+is_ordered [] = true
+is_ordered (w ∷ ws) = stands_before w ws && is_ordered ws
+
+-- A write set that turns tables into others: it puts the rows whose bytes are new or changed, and removes those that are gone.
+pub record Turns (writes : List Write) (before after : Tables) : Type 0 where
+  pub turns : (map : List ℕ) → wrote_all before writes map ≡ after map
+  pub changes : AllByRecursion (λ (w : Write). value_in before w.map w.key ≢ w.value) writes
+  pub ordered : is_ordered writes ≡ true
+
+-- A governance entry: a request that no rule refuses, and the write set of its effect.
+pub record IsGovernanceEntry (before : List Entry) (e : Entry) (bytes : List ℕ) : Type 0 where
+  pub requests : List Recorded
+  pub recorded : Records before requests
+  pub request : GovernanceRequest
+  pub spelled : bytes ≡ governance_bytes request
+  pub accepted : IsAccepted requests request
+  pub turns : Turns e.writes (effect requests) (effect (requests ++ record { place = suc (length before); request = request } ∷ []))
+  pub claims : e.claims ≡ no_digest
+
+-- An application entry: a request that runs in an open service, its write set, and the digest of its reply.
+pub record IsApplicationEntry (before : List Entry) (e : Entry) (bytes : List ℕ) : Type 0 where
+  pub requests : List Recorded
+  pub recorded : Records before requests
+  pub is_open : service_state (effect requests) ≡ Open
+  pub request : List Operation
+  pub spelled : bytes ≡ request_bytes request
+  pub ran : Ran
+  pub runs : run request (tables_of before) ≡ Ok ran
+  pub writes : e.writes ≡ ran.writes
+  pub claims : e.claims ≡ sha256 (reply_bytes ran.answers)
+
+-- Signatures and evidence write nothing.
+abbrev pub WritesNothing : Entry → Type 0
+WritesNothing e = (e.writes ≡ []) × (e.claims ≡ no_digest)
+
+-- The entry is what its content says it is, behind the ledger before it.
+abbrev pub StandsAs : Content → List Entry → Entry → Type 0
+StandsAs (content.Governance bytes) before e = IsGovernanceEntry before e bytes
+StandsAs (content.Application bytes) before e = IsApplicationEntry before e bytes
+StandsAs (content.Signature s) before e = WritesNothing e
+StandsAs (content.Evidence d) before e = WritesNothing e
+
+abbrev pub IsSerial : List Entry → Type 0
+IsSerial ledger = (i : ℕ) (e : Entry) → slice_get ledger i ≡ Some e → StandsAs e.content (take i ledger) e
+
+-- The rows of the governance tables are the effect of the recorded governance requests.
+pub record IsGoverned (ledger : List Entry) : Type 0 where
+  pub requests : List Recorded
+  pub recorded : Records ledger requests
+  pub rows : (map : List ℕ) → is_governance map ≡ true → tables_of ledger map ≡ effect requests map
+
+-- What is said of each ledger of the service.
+pub record IsSound (ledger : List Entry) : Type 0 where
+  pub in_order : IsLedger ledger
+  pub serial : IsSerial ledger
+  pub governed : IsGoverned ledger

@@ -1,0 +1,188 @@
+//! The bytes of requests and replies.
+
+ghost use Rattle.std.specs.Prelude.{◌≡◌, ◌≤◌, ◌<◌, ◌^◌, ◌+◌, ◌*◌, ◌++◌, ◌∷◌, [], length, IfOk, OnOk};
+ghost use Rattle.std.specs.List.{flat_map, AllByRecursion};
+ghost use Rattle.gl_store.specs.Field.{u16_bytes, u32_bytes, u64_bytes, with_u8_length, with_u16_length, with_u32_length};
+ghost use Rattle.gl_store.specs.Request.{operation_bytes, request_bytes, answer_bytes, reply_bytes};
+ghost use Rattle.gl_store.specs.Genesis.{node_bytes, member_bytes, share_bytes, dealing_bytes, genesis_bytes, state_byte};
+
+use crate::genesis::{Dealing, Genesis, NewMember, NewNode, ServiceState, ShareDigest};
+use crate::request::{Answer, Operation, Reply, Request};
+use std::alloc::{AllocError, Global};
+
+fn put_u16(out: &mut Vec<u8>, n: u16) -> Result<(), AllocError>
+    ensures { OnOk result (out.new.items ≡ out.old.items ++ u16_bytes n) }
+{
+    out.extend_from_slice(&n.to_le_bytes())
+}
+
+pub fn put_u32(out: &mut Vec<u8>, n: u32) -> Result<(), AllocError>
+    ensures { OnOk result (out.new.items ≡ out.old.items ++ u32_bytes n) }
+{
+    out.extend_from_slice(&n.to_le_bytes())
+}
+
+fn put_operation(out: &mut Vec<u8>, operation: &Operation) -> Result<(), AllocError>
+    ensures { OnOk result (out.new.items ≡ out.old.items ++ operation_bytes operation.now) }
+{
+    match operation {
+        Operation::Put { map, key, value } => {
+            let (map, key, value) = (map.as_slice(), key.as_slice(), value.as_slice());
+            out.push(3)?;
+            out.push(map.len() as u8)?;
+            out.extend_from_slice(map)?;
+            put_u16(out, key.len() as u16)?;
+            out.extend_from_slice(key)?;
+            put_u32(out, value.len() as u32)?;
+            out.extend_from_slice(value)?;
+            Ok(())
+        }
+    }
+}
+
+/// The bytes of a request.
+pub fn request_bytes(alloc: Global, request: &Request) -> Result<Vec<u8>, AllocError>
+    ensures { IfOk result (λ bytes. bytes.items ≡ request_bytes request.now) }
+{
+    let mut out = Vec::new(alloc);
+    put_u16(&mut out, 1)?;
+    put_operation(&mut out, request.operation())?;
+    Ok(out)
+}
+
+fn put_answer(out: &mut Vec<u8>, answer: Answer) -> Result<(), AllocError>
+    ensures { OnOk result (out.new.items ≡ out.old.items ++ answer_bytes answer) }
+{
+    match answer {
+        Answer::Done => out.push(0)?,
+    }
+    Ok(())
+}
+
+fn put_node(out: &mut Vec<u8>, node: &NewNode) -> Result<(), AllocError>
+    requires { length node.now.endorsement < 2 ^ 32 }
+    ensures { OnOk result (out.new.items ≡ out.old.items ++ node_bytes node.now) }
+{
+    let endorsement = node.endorsement.as_slice();
+    out.extend_from_slice(&node.key)?;
+    put_u32(out, endorsement.len() as u32)?;
+    out.extend_from_slice(endorsement)
+}
+
+fn put_member(out: &mut Vec<u8>, member: &NewMember) -> Result<(), AllocError>
+    ensures { OnOk result (out.new.items ≡ out.old.items ++ member_bytes member.now) }
+{
+    out.push(member.number)?;
+    out.extend_from_slice(&member.key)
+}
+
+fn put_share(out: &mut Vec<u8>, share: &ShareDigest) -> Result<(), AllocError>
+    ensures bytes { OnOk result (out.new.items ≡ out.old.items ++ share_bytes share.now) }
+    ensures size { OnOk result (length out.new.items ≡ length out.old.items + 33) }
+{
+    out.push(share.member)?;
+    out.extend_from_slice(&share.digest)
+}
+
+fn put_nodes(out: &mut Vec<u8>, nodes: &[NewNode]) -> Result<(), AllocError>
+    requires { AllByRecursion (λ node. length node.endorsement < 2 ^ 32) nodes.now }
+    ensures { OnOk result (out.new.items ≡ out.old.items ++ flat_map node_bytes nodes.now) }
+{
+    for node in nodes {
+        put_node(out, node)?;
+    }
+    Ok(())
+}
+
+fn put_members(out: &mut Vec<u8>, members: &[NewMember]) -> Result<(), AllocError>
+    ensures { OnOk result (out.new.items ≡ out.old.items ++ flat_map member_bytes members.now) }
+{
+    for member in members {
+        put_member(out, member)?;
+    }
+    Ok(())
+}
+
+fn put_shares(out: &mut Vec<u8>, shares: &[ShareDigest]) -> Result<(), AllocError>
+    ensures bytes { OnOk result (out.new.items ≡ out.old.items ++ flat_map share_bytes shares.now) }
+    ensures size { OnOk result (length out.new.items ≡ length out.old.items + 33 * length shares.now) }
+{
+    for share in shares {
+        put_share(out, share)?;
+    }
+    Ok(())
+}
+
+fn put_answers(out: &mut Vec<u8>, answers: &[Answer]) -> Result<(), AllocError>
+    ensures { OnOk result (out.new.items ≡ out.old.items ++ flat_map answer_bytes answers.now) }
+{
+    for answer in answers {
+        put_answer(out, *answer)?;
+    }
+    Ok(())
+}
+
+fn put_dealing(out: &mut Vec<u8>, dealing: &Dealing) -> Result<(), AllocError>
+    requires { length dealing.now.shares < 2 ^ 8 }
+    ensures bytes { OnOk result (out.new.items ≡ out.old.items ++ dealing_bytes dealing.now) }
+    ensures size { OnOk result (length out.new.items ≡ length out.old.items + 34 + 33 * length dealing.now.shares) }
+{
+    let shares = dealing.shares.as_slice();
+    out.push(dealing.threshold)?;
+    out.extend_from_slice(&dealing.secret_digest)?;
+    out.push(shares.len() as u8)?;
+    put_shares(out, shares)
+}
+
+/// The bytes of a dealing.
+pub fn dealing_bytes(alloc: Global, dealing: &Dealing) -> Result<Vec<u8>, AllocError>
+    requires { length dealing.now.shares < 2 ^ 8 }
+    ensures bytes { IfOk result (λ bytes. bytes.items ≡ dealing_bytes dealing.now) }
+    ensures size { IfOk result (λ bytes. length bytes.items ≡ 34 + 33 * length dealing.now.shares) }
+{
+    let mut out = Vec::new(alloc);
+    put_dealing(&mut out, dealing)?;
+    Ok(out)
+}
+
+pub fn state_byte(state: ServiceState) -> u8
+    ensures { result ≡ state_byte state }
+{
+    match state {
+        ServiceState::Opening => 1,
+        ServiceState::Open => 2,
+    }
+}
+
+/// The bytes of a request that founds a service.
+pub fn genesis_bytes(alloc: Global, genesis: &Genesis) -> Result<Vec<u8>, AllocError>
+    requires shares { length genesis.now.dealing.shares < 2 ^ 8 }
+    requires nodes { length genesis.now.nodes < 2 ^ 8 }
+    requires members { length genesis.now.members < 2 ^ 8 }
+    requires endorsements { AllByRecursion (λ node. length node.endorsement < 2 ^ 32) genesis.now.nodes }
+    ensures { IfOk result (λ bytes. bytes.items ≡ genesis_bytes genesis.now) }
+{
+    let (nodes, members) = (genesis.nodes.as_slice(), genesis.members.as_slice());
+    let mut out = Vec::new(alloc);
+    out.push(1)?;
+    out.push(state_byte(genesis.state))?;
+    out.extend_from_slice(&genesis.identity)?;
+    out.push(nodes.len() as u8)?;
+    put_nodes(&mut out, nodes)?;
+    out.push(members.len() as u8)?;
+    put_members(&mut out, members)?;
+    put_dealing(&mut out, &genesis.dealing)?;
+    Ok(out)
+}
+
+/// The bytes of a reply.
+pub fn reply_bytes(alloc: Global, reply: &Reply) -> Result<Vec<u8>, AllocError>
+    requires { length reply.now < 2 ^ 16 }
+    ensures { IfOk result (λ bytes. bytes.items ≡ reply_bytes reply.now) }
+{
+    let answers = reply.as_slice();
+    let mut out = Vec::new(alloc);
+    put_u16(&mut out, answers.len() as u16)?;
+    put_answers(&mut out, answers)?;
+    Ok(out)
+}

@@ -8,9 +8,11 @@ use Rattle.gl_base.specs.declared.status_kind.Status.TheVariants.{Committed, Inv
 use Rattle.gl_base.specs.Status.{status_of}
 use Rattle.gl_rules.specs.Identity.{NodeId, member}
 use Rattle.gl_rules.specs.Book.{Book}
-use Rattle.gl_rules.specs.Node.{Node}
+use Rattle.gl_rules.specs.Node.{Node, Leader}
+use Rattle.gl_rules.specs.Message.{Message}
+use Rattle.gl_rules.specs.Outcome.{Outcome, Refused, ByLedger, BelowCommit}
 use Rattle.gl_rules.specs.Log.{entry_at, greatest_recorded}
-use Rattle.gl_rules.specs.World.{Event, Start, after, first_view}
+use Rattle.gl_rules.specs.World.{Event, Deliver, Start, after, happens, first_view}
 
 abbrev pub IsPrefixOf : {A : Type 0} → List A → List A → Type 0
 IsPrefixOf {A} xs ys = (rest : List A) × (xs ++ rest ≡ ys)
@@ -104,3 +106,34 @@ module _ {E Q G R A F : Type 0} (book : Book E Q G R A F) where
     pub status : (i j : ℕ) (x y : NodeId) (id : TxId) →
         reported (node_after s (take i events) x) id ≡ Committed → reported (node_after s (take j events) y) id ≡ Invalid → ⊥
     pub ledger : (i : ℕ) (x : NodeId) → Sound (committed (node_after s (take i events) x))
+
+  -- Views, votes and leaders, at all pairs of moments and nodes.
+  pub record LeadsByVote (s : Start E) (events : List (Event Q G R)) : Type 0 where
+    -- a node's view never falls
+    pub views : (i j : ℕ) (x : NodeId) → i ≤ j → (node_after s (take i events) x).view ≤ (node_after s (take j events) x).view
+    -- a node votes for one candidate in a view
+    pub one_vote : (i j : ℕ) (x c d : NodeId) → (node_after s (take i events) x).view ≡ (node_after s (take j events) x).view →
+        (node_after s (take i events) x).vote ≡ Some c → (node_after s (take j events) x).vote ≡ Some d → c ≡ d
+    -- a view has one leader
+    pub one_leader : (i j : ℕ) (x y : NodeId) → (node_after s (take i events) x).view ≡ (node_after s (take j events) y).view →
+        (node_after s (take i events) x).role ≡ Leader → (node_after s (take j events) y).role ≡ Leader → x ≡ y
+    -- while it leads, its log only grows
+    pub leader_grows : (i j : ℕ) (x : NodeId) → i ≤ j → (node_after s (take i events) x).view ≡ (node_after s (take j events) x).view →
+        (node_after s (take i events) x).role ≡ Leader → (node_after s (take j events) x).role ≡ Leader →
+        IsPrefixOf (node_after s (take i events) x).log (node_after s (take j events) x).log
+    -- a leader holds whatever a leader of an earlier view ever commits
+    pub leader_keeps : (i j : ℕ) (x y : NodeId) → (node_after s (take i events) x).view < (node_after s (take j events) y).view →
+        (node_after s (take i events) x).role ≡ Leader → (node_after s (take j events) y).role ≡ Leader →
+        IsPrefixOf (committed (node_after s (take i events) x)) (node_after s (take j events) y).log
+
+  -- What a refusal of a message says of its receiver: never that an entry may not follow, and that entries below commit
+  -- would be cut only of a node whose commit is its base, above 0.
+  abbrev pub RefusedOnlyAtBase : Node E → Outcome A F → Type 0
+  RefusedOnlyAtBase n (Refused (ByLedger why)) = ⊥
+  RefusedOnlyAtBase n (Refused (BelowCommit commit cut)) = (n.commit ≡ n.base) × (0 < n.base)
+  RefusedOnlyAtBase n _ = Unit {0}
+
+  -- No message is refused for an entry that may not follow.
+  pub record NeverConflicts (s : Start E) (events : List (Event Q G R)) : Type 0 where
+    pub messages : (i which : ℕ) (m : Message E) → slice_get (after book s (take i events)).sent which ≡ Some m →
+        RefusedOnlyAtBase (node_after s (take i events) m.receiver) (happens book (after book s (take i events)) (Deliver which)).outcome

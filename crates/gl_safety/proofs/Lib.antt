@@ -24,3 +24,6 @@ pub mod Prefixes
 pub mod Statuses
 pub mod Headline
 pub mod Views
+pub mod Leaders
+pub mod Refusals
+pub mod AnySoundness

@@ -80,16 +80,18 @@ module _ {E Q G R A F : Type 0} {b : Book E Q G R A F} {s : Start E} (o : IsOpen
     pub ballot : (y : NodeId) (v : ℕ) (c : NodeId) → g.ballot y v ≡ Some c → h.ballot y v ≡ Some c
     pub chief : (v : ℕ) (c : NodeId) → g.chief v ≡ Some c → h.chief v ≡ Some c
     pub led : (v i : ℕ) (e : E) → slice_get (g.led v) i ≡ Some e → slice_get (h.led v) i ≡ Some e
+    pub fresh : (v : ℕ) (c : NodeId) (i : ℕ) (e : E) → g.chief v ≡ Some c → slice_get (h.led v) i ≡ Some e → (slice_get (g.led v) i ≡ Some e) ⊎ (b.view_of e ≡ v)
     pub sured : (l : List E) (c t : ℕ) → Sured o g l c t → Sured o h l c t
 
   later_same : (g : Story E) → Later g g
-  later_same g = record { ballot = λ y v c a. a; chief = λ v c a. a; led = λ v i e a. a; sured = λ l c t a. a }
+  later_same g = record { ballot = λ y v c a. a; chief = λ v c a. a; led = λ v i e a. a; fresh = λ v c i e a d. inl d; sured = λ l c t a. a }
 
   later_then : (g h k : Story E) → Later g h → Later h k → Later g k
   later_then g h k p q = record {
     ballot = λ y v c a. q.ballot y v c (p.ballot y v c a);
     chief = λ v c a. q.chief v c (p.chief v c a);
     led = λ v i e a. q.led v i e (p.led v i e a);
+    fresh = λ v c i e a d. ⊎_elim (λ (r : slice_get (h.led v) i ≡ Some e). p.fresh v c i e a r) (λ (r : b.view_of e ≡ v). inr r) (q.fresh v c i e (p.chief v c a) d);
     sured = λ l c t a. q.sured l c t (p.sured l c t a);
   }
 
@@ -99,7 +101,7 @@ module _ {E Q G R A F : Type 0} {b : Book E Q G R A F} {s : Start E} (o : IsOpen
       tale = r.1.tale;
       nodes = put_all (Good o r.0) w.nodes x step.node r.1.good (λ y d. good_of o r.1.grow y (w.nodes y) d (k.tale.ballots y) (k.nodes y));
       sent = all_append o r.0 w.sent step.sent (all_grow o r.1.grow w.sent k.sent) r.1.sent;
-    }, record { ballot = r.1.grow.ballot; chief = r.1.grow.chief; led = r.1.grow.led; sured = sured_more o r.1.grow })
+    }, record { ballot = r.1.grow.ballot; chief = r.1.grow.chief; led = r.1.grow.led; fresh = r.1.grow.fresh; sured = sured_more o r.1.grow })
 
   onward_same : (w : World E) (g : Story E) → Holding w g → (h : Story E) × Holding w h × Later g h
   onward_same w g k = (g, k, later_same g)

@@ -8,11 +8,11 @@ use Rattle.gl_rules.specs.Message.{Last, Message, Body, RequestVote, VoteReply, 
 use Rattle.gl_rules.specs.Outcome.{Outcome, Step}
 use Rattle.gl_rules.specs.Outcome as outcome
 use Rattle.gl_rules.specs.Log.{entry_at, last, is_at_least, view_at}
-use Rattle.gl_rules.specs.Configuration.{configurations_above}
+use Rattle.gl_rules.specs.Configuration.{configurations_above, active, in_some}
 use Rattle.gl_rules.specs.Steps.{cut_to, rise, has_votes, won_by, win, led_by, if_leader}
 use Rattle.gl_rules.specs.Elections.{free_for, may_stand, candidate, stands, stands_if_allowed, last_view, timeout_as, timeout, voted_by, reply_to_request, on_request_vote, with_vote, counts, vote_reply_as, on_vote_reply, on_propose_vote, steps_down, step_down}
-use Rattle.gl_rules.specs.Replication.{takes, append_reply, last_at_most, acknowledged, held_of, applied, extended, merges, follows_on, follower_of, append_as, on_append, answered, append_reply_as, on_append_reply, greatest_to_commit, commits, advance, restart, snapshot_of, risen_to, installed, installs, install, is_peer, sends, next_of, replicate}
-use Rattle.gl_rules.specs.Requests.{enters, executes, submit, unless_conflict, finishes, finish, removed_late, marked, if_markable, governs, govern, reserve, signs_for, signed, signs, sign, evident, evidence}
+use Rattle.gl_rules.specs.Replication.{takes, append_reply, last_at_most, acknowledged, held_of, applied, extended, merges, follows_on, follower_of, append_as, on_append, answered, append_reply_as, on_append_reply, greatest_to_commit, commits, advance, restart, snapshot_of, risen_to, installed, installs, install, is_peer, sends, next_of, append_from, replicate}
+use Rattle.gl_rules.specs.Requests.{pending_limit, last_count, enters, executes, submit, unless_conflict, finishes, finish, removed_late, marked, if_markable, governs, govern, reserve, signs_for, signed, signs, sign, evident, evidence}
 use Rattle.gl_rules.specs.World.{answer_as, risen, kept_by, on_message}
 use Rattle.gl_safety.proofs.Ids.{by_test}
 
@@ -40,7 +40,7 @@ module _ {E Q G R A F : Type 0} (b : Book E Q G R A F) where
       go Candidate = omega arith
       go Follower = omega arith
 
-  timeout_up : (x : NodeId) (n : Node E) → Up n.view (timeout b x n)
+  pub timeout_up : (x : NodeId) (n : Node E) → Up n.view (timeout b x n)
   unfolding timeout rise
   timeout_up x n = go n.role
     where
@@ -138,3 +138,94 @@ module _ {E Q G R A F : Type 0} (b : Book E Q G R A F) where
       (by_test (λ k. Up n.view (answer_as b m.body m.receiver m.sender m.view k)) (nat_lt n.view m.view) (rise b m.view n) n
         (λ d. let u : n.view < m.view = grind (arith, nat_tests) in omega (arith, rise_is m.view n, answer_up m.body m.receiver m.sender m.view (rise b m.view n)))
         (λ d. answer_up m.body m.receiver m.sender m.view n))
+
+  pub step_down_up : (x y : NodeId) (n : Node E) → Up n.view (step_down b x y n)
+  unfolding step_down
+  step_down_up x y n = led_up n (if not (same y x) && in_some y (active b n.log n.commit) then steps_down b x y n else outcome.refuse n outcome.NotPeer) (go (not (same y x) && in_some y (active b n.log n.commit)))
+    where
+      go : (m : Bool) → Up n.view (if m then steps_down b x y n else outcome.refuse n outcome.NotPeer)
+      go true = omega arith
+      go false = omega arith
+
+  enters_up : (n : Node E) (m : Result (E × A) F) → Up n.view (enters b n m)
+  enters_up n (Err why) = omega arith
+  enters_up n (Ok made) = omega arith
+
+  pub submit_up : (q : Q) (n : Node E) → Up n.view (submit b q n)
+  unfolding submit
+  submit_up q n = led_up n (executes b q n) (enters_up n (b.execute n.log n.view q))
+
+  pub finish_up : (len cuts : ℕ) (reads : R) (q : Q) (n : Node E) → Up n.view (finish b len cuts reads q n)
+  unfolding finish
+  finish_up len cuts reads q n = led_up n (finishes b len cuts reads q n) (go (not (n.cuts == cuts) || (n.cuts == last_count)) (b.conflict n.log len reads))
+    where
+      go : (m : Bool) (c : Option F) → Up n.view (if m then outcome.refuse n (outcome.RolledBack cuts n.cuts) else unless_conflict b c n (executes b q n))
+      go true c = omega arith
+      go false None = enters_up n (b.execute n.log n.view q)
+      go false (Some why) = omega arith
+
+  pub govern_up : (q : G) (n : Node E) → Up n.view (govern b q n)
+  unfolding govern
+  govern_up q n = led_up n (governs b q n) (go (nat_le pending_limit (length (configurations_above b n.log n.commit (length n.log)))) (b.marks q))
+    where
+      step : Step E A F
+      step = enters b n (b.govern n.log n.view q)
+      late : (m : Option ℕ) → Up n.view (removed_late b m n (enters b n (b.govern n.log n.view q)))
+      late None = enters_up n (b.govern n.log n.view q)
+      late (Some place) = by_test (Up n.view) (nat_lt n.commit place) (outcome.refuse n (outcome.RemovalNotCommitted place n.commit)) (enters b n (b.govern n.log n.view q)) (λ d. omega arith) (λ d. enters_up n (b.govern n.log n.view q))
+      inner : (y : NodeId) (m : Option F) → Up n.view (marked b m y n (enters b n (b.govern n.log n.view q)))
+      inner y (Some why) = omega arith
+      inner y None = late (b.removal n.log y)
+      go : (m : Bool) (c : Option NodeId) → Up n.view (if m then outcome.refuse n (outcome.TooManyPending pending_limit) else if_markable b c n (enters b n (b.govern n.log n.view q)))
+      go true c = omega arith
+      go false None = enters_up n (b.govern n.log n.view q)
+      go false (Some y) = inner y (b.unmarkable n.log y)
+
+  pub reserve_up : (x : NodeId) (n : Node E) → Up n.view (reserve b x n)
+  unfolding reserve
+  reserve_up x n = by_test (Up n.view) (nat_le (b.leaves x) n.reserved) (outcome.refuse n (outcome.KeyExhausted n.reserved)) (outcome.quiet (record n { reserved = n.reserved + 1 }) outcome.Done) (λ d. omega arith) (λ d. omega arith)
+
+  pub sign_up : (x : NodeId) (n : Node E) → Up n.view (sign b x n)
+  unfolding sign
+  sign_up x n = led_up n (signs b x n) (go (n.used == n.reserved) (signs_for b n.view (entry_at n.log (length n.log))) (b.sign x n.used n.log n.view n.commit))
+    where
+      go : (p q : Bool) (m : Result E F) → Up n.view (if p then outcome.refuse n (outcome.NotReserved n.reserved) else (if q then outcome.refuse n (outcome.NothingToSign (length n.log)) else signed b n m))
+      go true q m = omega arith
+      go false true m = omega arith
+      go false false (Err why) = omega arith
+      go false false (Ok e) = omega arith
+
+  pub evidence_up : (n : Node E) → Up n.view (evidence b n)
+  unfolding evidence
+  evidence_up n = led_up n (evident b n (b.evidence n.log n.view)) (go (b.evidence n.log n.view))
+    where
+      go : (m : Result E F) → Up n.view (evident b n m)
+      go (Err why) = omega arith
+      go (Ok e) = omega arith
+
+  pub replicate_up : (x y : NodeId) (n : Node E) → Up n.view (replicate b x y n)
+  unfolding replicate
+  replicate_up x y n = led_up n (if is_peer b x y n then sends b x y (next_of b n y - 1) n else outcome.refuse n outcome.NotPeer)
+      (by_test (Up n.view) (is_peer b x y n) (sends b x y (next_of b n y - 1) n) (outcome.refuse n outcome.NotPeer)
+        (λ d. by_test (Up n.view) (nat_lt (next_of b n y - 1) n.base) (outcome.refuse n (outcome.BelowBase n.base)) (record { node = n; sent = append_from b x y (next_of b n y - 1) n ∷ []; outcome = outcome.Done }) (λ e. omega arith) (λ e. omega arith))
+        (λ d. omega arith))
+
+  pub advance_up : (x : NodeId) (n : Node E) → Up n.view (advance b x n)
+  unfolding advance
+  advance_up x n = led_up n (commits b n (greatest_to_commit b x n (length n.log))) (go (greatest_to_commit b x n (length n.log)))
+    where
+      go : (m : Option ℕ) → Up n.view (commits b n m)
+      go None = omega arith
+      go (Some place) = omega arith
+
+  pub restart_up : (n : Node E) → Up n.view (restart b n)
+  unfolding restart
+  restart_up n = omega arith
+
+  pub install_up : (m n : Node E) → Up n.view (install b m n)
+  unfolding install
+  install_up m n = by_test (Up n.view) (length n.log == 0) (installs b m (snapshot_of b m) n) (outcome.idle n) (λ d. go (snapshot_of b m)) (λ d. omega arith)
+    where
+      go : (k : Option ℕ) → Up n.view (installs b m k n)
+      go None = omega arith
+      go (Some i) = by_test (λ (l : Node E). n.view ≤ l.view) (nat_lt n.view (view_at b m.log (i - 1))) (rise b (view_at b m.log (i - 1)) n) n (λ d. let u : n.view < view_at b m.log (i - 1) = grind (arith, nat_tests) in omega (arith, rise_is (view_at b m.log (i - 1)) n)) (λ d. omega arith)

@@ -1,1 +1,54 @@
+-- The headline for whatever the layer of the ledger says of a ledger, where it is kept by an entry that may follow.
+use Rattle.std.proofs.Common.{◌≡◌, ⊎_elim, ℕ, zero, suc, ◌+◌, ◌≤◌, ◌<◌, List, [], ◌∷◌, ◌++◌, length, take, Option, Some, None, slice_get, refl, sym, ap, ◌∙◌, subst, arith}
+use Rattle.std.proofs.lemmas.Bool.{cases_lt}
+use Rattle.gl_rules.specs.Book.{Book}
+use Rattle.gl_rules.specs.World.{Start, Event}
+use Rattle.gl_rules.specs.Safety.{IsLawful, IsOpening, IsSafe, EachFollows, Makes}
+use Rattle.gl_safety.proofs.Lists.{there, within, take_whole, same_take}
+use Rattle.gl_safety.proofs.Soundness.{sound_cut, sound_push}
+use Rattle.gl_safety.proofs.Headline.{safe}
 
+module _ {E Q G R A F : Type 0} {b : Book E Q G R A F} {Sound : List E → Type 0} {s : Start E} (o : IsOpening b Sound s) (la : IsLawful b Sound) where
+  take_one_more : (m : List E) (k : ℕ) (e : E) → slice_get m k ≡ Some e → take k m ++ e ∷ [] ≡ take (suc k) m
+  take_one_more [] k e a = absurd (cc)
+  take_one_more (d ∷ m) zero e a = let q : d ≡ e = cc in ap (λ c. c ∷ []) (sym q)
+  take_one_more (d ∷ m) (suc k) e a = ap (λ l. d ∷ l) (take_one_more m k e a)
+
+  upto : (l : List E) → EachFollows b l → (k : ℕ) → Sound (take k l)
+  upto l z zero = la.cut s.opening 0 o.sound
+  upto l z (suc k) = ⊎_elim
+      (λ (h : k < length l). let e = there l k h in subst Sound (take_one_more l k e.0 e.1) (la.taken (take k l) e.0 (upto l z k) (z k e.0 e.1)))
+      (λ (h : length l ≤ k). subst Sound (same_all l k (suc k) h) (upto l z k))
+      (cases_lt k (length l))
+    where
+      same_all : (l : List E) (i j : ℕ) → length l ≤ i → take i l ≡ take (suc i) l
+      same_all [] zero j d = refl
+      same_all [] (suc i) j d = refl
+      same_all (x ∷ l) zero j d = absurd (omega arith)
+      same_all (x ∷ l) (suc i) j d = ap (λ r. x ∷ r) (same_all l i j (omega arith))
+
+  each_sound : (l : List E) → EachFollows b l → Sound l
+  each_sound l z = subst Sound (take_whole l) (upto l z (length l))
+
+  made : (log : List E) (view : ℕ) (e : E) → EachFollows b log → Makes b Sound log view e → Makes b (EachFollows b) log view e
+  made log view e z m = record { view_is = m.view_is; follows = m.follows; sound = sound_push b log e z m.follows }
+
+  lawful : IsLawful b (EachFollows b)
+  lawful = record {
+    executed = λ log view q e a z v d. let r = la.executed log view q e a (each_sound log z) v d in (made log view e z r.0, r.1);
+    governed = λ log view q e a z v d. let r = la.governed log view q e a (each_sound log z) v d in (made log view e z r.0, r.1);
+    signed = λ x leaf log view commit f e z v c d k h. let r = la.signed x leaf log view commit f e (each_sound log z) v c d k h in (made log view e z r.0, r.1, r.2);
+    evident = λ log view e z v d. let r = la.evident log view e (each_sound log z) v d in (made log view e z r.0, r.1);
+    taken = λ log e z f. sound_push b log e z f;
+    cut = λ log place z. sound_cut b log place z;
+    witnessed = λ log place e z a d. la.witnessed log place e (each_sound log z) a d;
+  }
+
+  opening : IsOpening b (EachFollows b) s
+  opening = record {
+    sound = o.follow; views = o.views; follow = o.follow; before = o.before; long = o.long; signature = o.signature; last = o.last; signs = o.signs; records = o.records; alone = o.alone;
+    place = o.place; counted = o.counted; within = o.within; members = o.members; configured = o.configured; first_starts = o.first_starts;
+  }
+
+  pub safe_sound : (es : List (Event Q G R)) → IsSafe b Sound s es
+  safe_sound es = let r = safe opening lawful es in record { prefix = r.prefix; status = r.status; ledger = λ i x. each_sound _ (r.ledger i x) }

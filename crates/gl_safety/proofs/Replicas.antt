@@ -127,7 +127,7 @@ module _ {E Q G R A F : Type 0} {b : Book E Q G R A F} {s : Start E} (o : IsOpen
         agree b g.led n.log (g.led n.view) j f z.logged.matches (t.matches n.view) a (let w : slice_get (g.led n.view) j ≡ Some f = cc in w)
 
     -- the place before the entries is the leader's
-    behind : ((prev.place == 0) || (nat_le prev.place (length n.log) && (view_at b n.log prev.place == prev.view))) ≡ true → (prev.place ≤ length n.log) × Same prev.place n.log (g.led n.view)
+    pub behind : ((prev.place == 0) || (nat_le prev.place (length n.log) && (view_at b n.log prev.place == prev.view))) ≡ true → (prev.place ≤ length n.log) × Same prev.place n.log (g.led n.view)
     behind a = go prev.place refl
       where
         go : (p : ℕ) → prev.place ≡ p → (prev.place ≤ length n.log) × Same prev.place n.log (g.led n.view)

@@ -1,5 +1,11 @@
 use Rattle.gl_safety.proofs.Headline.{safe}
+use Rattle.gl_safety.proofs.Leaders.{leads_by_vote}
+use Rattle.gl_safety.proofs.Refusals.{never_conflicts}
 use Rattle.gl_safety.proofs.is_safe.Goals as goal
 
 pub returns : goal.returns
-returns g c = record { safe = λ book s la o events. safe o la events }
+returns g c = record {
+  safe = λ book s la o events. safe o la events;
+  elections = λ book s la o events. leads_by_vote o la events;
+  refusals = λ book s la o events. never_conflicts o la events;
+}

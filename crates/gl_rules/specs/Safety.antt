@@ -1,7 +1,7 @@
 -- What is promised of every run: of any two committed ledgers, at any nodes and moments, one is a prefix of the other;
 -- what is reported Committed is never reported Invalid; and each committed ledger is one that the service's layer of the
 -- ledger stands for. A moment is a prefix of the list of events.
-use Rattle.std.specs.Prelude.{◌≡◌, ℕ, suc, ◌≤◌, ◌<◌, List, [], ◌∷◌, ◌++◌, true, false, Option, None, Some, Result, Ok, length, take, slice_get, ◌⊎◌}
+use Rattle.std.specs.Prelude.{◌≡◌, ℕ, suc, ◌+◌, ◌≤◌, ◌<◌, List, [], ◌∷◌, ◌++◌, true, false, Option, None, Some, Result, Ok, length, take, slice_get, ◌⊎◌}
 use Rattle.gl_base.specs.declared.tx_id.TxId.{TxId}
 use Rattle.gl_base.specs.declared.status_kind.Status.{Status}
 use Rattle.gl_base.specs.declared.status_kind.Status.TheVariants.{Committed, Invalid}
@@ -11,7 +11,8 @@ use Rattle.gl_rules.specs.Book.{Book}
 use Rattle.gl_rules.specs.Node.{Node, Leader}
 use Rattle.gl_rules.specs.Message.{Message}
 use Rattle.gl_rules.specs.Outcome.{Outcome, Refused, ByLedger, BelowCommit}
-use Rattle.gl_rules.specs.Log.{entry_at, greatest_recorded}
+use Rattle.gl_rules.specs.Log.{entry_at, last_signature, greatest_recorded}
+use Rattle.gl_rules.specs.Configuration.{active, in_some}
 use Rattle.gl_rules.specs.World.{Event, Deliver, Start, after, happens, first_view}
 
 abbrev pub IsPrefixOf : {A : Type 0} → List A → List A → Type 0
@@ -36,25 +37,57 @@ module _ {E Q G R A F : Type 0} (book : Book E Q G R A F) where
   abbrev pub ViewsUpTo : ℕ → List E → Type 0
   ViewsUpTo view log = (i : ℕ) (e : E) → slice_get log i ≡ Some e → book.view_of e ≤ view
 
+  -- An entry that marks no node.
+  abbrev pub MarksNone : List E → E → Type 0
+  MarksNone log e = (y : NodeId) (place : ℕ) → book.mark (log ++ e ∷ []) y ≡ Some place → book.mark log y ≡ Some place
+
+  -- Where something stands in ledgers: at the place of the entry that brought it, and there it stays.
+  pub record KeepsPlaces (Sound : List E → Type 0) (place_of : List E → NodeId → Option ℕ) : Type 0 where
+    pub none : (y : NodeId) → place_of [] y ≡ None
+    pub stays : (log : List E) (e : E) (y : NodeId) (place : ℕ) → Sound (log ++ e ∷ []) → place_of log y ≡ Some place → place_of (log ++ e ∷ []) y ≡ Some place
+    pub comes : (log : List E) (e : E) (y : NodeId) (place : ℕ) → Sound (log ++ e ∷ []) → place_of (log ++ e ∷ []) y ≡ Some place →
+        (place_of log y ≡ Some place) ⊎ (place ≡ length log + 1)
+
+  -- A commit that a signature may record: the place of a signature, not below what an earlier signature records, and not
+  -- below the removal of a node that was marked since.
+  pub record MayRecord (log : List E) (commit : ℕ) : Type 0 where
+    pub signature : E
+    pub at : entry_at log commit ≡ Some signature
+    pub signs : book.is_signature signature ≡ true
+    pub least : greatest_recorded book log ≤ commit
+    pub removals : (y : NodeId) (mark removal : ℕ) → book.mark log y ≡ Some mark → last_signature book log < mark → book.removal log y ≡ Some removal → removal ≤ commit
+
   -- What the rules ask of the layer of the ledger. Sound is what that layer says of a ledger.
   pub record IsLawful (Sound : List E → Type 0) : Type 0 where
     -- what is made
     pub executed : (log : List E) (view : ℕ) (q : Q) (e : E) (a : A) → Sound log → ViewsUpTo view log →
-        book.execute log view q ≡ Ok (e, a) → Makes Sound log view e × (book.is_signature e ≡ false)
+        book.execute log view q ≡ Ok (e, a) → Makes Sound log view e × (book.is_signature e ≡ false) × MarksNone log e
     pub governed : (log : List E) (view : ℕ) (g : G) (e : E) (a : A) → Sound log → ViewsUpTo view log →
         book.govern log view g ≡ Ok (e, a) → Makes Sound log view e × (book.is_signature e ≡ false)
-    -- a leader's commit is the place of a signature, and not below what an earlier signature records
-    pub signed : (x : NodeId) (leaf : ℕ) (log : List E) (view commit : ℕ) (f e : E) → Sound log → ViewsUpTo view log →
-        entry_at log commit ≡ Some f → book.is_signature f ≡ true → greatest_recorded book log ≤ commit →
+    pub signed : (x : NodeId) (leaf : ℕ) (log : List E) (view commit : ℕ) (e : E) → Sound log → ViewsUpTo view log → MayRecord log commit →
         book.sign x leaf log view commit ≡ Ok e → Makes Sound log view e × (book.is_signature e ≡ true) × (book.recorded_commit e ≡ commit)
     pub evident : (log : List E) (view : ℕ) (e : E) → Sound log → ViewsUpTo view log →
-        book.evidence log view ≡ Ok e → Makes Sound log view e × (book.is_signature e ≡ false)
+        book.evidence log view ≡ Ok e → Makes Sound log view e × (book.is_signature e ≡ false) × MarksNone log e
     -- what is taken
     pub taken : (log : List E) (e : E) → Sound log → book.breaks log e ≡ None → Sound (log ++ e ∷ [])
     pub cut : (log : List E) (place : ℕ) → Sound log → Sound (take place log)
     -- an evidence entry stands right behind a signature
     pub witnessed : (log : List E) (place : ℕ) (e : E) → Sound log → entry_at log (suc place) ≡ Some e → book.is_evidence e ≡ true →
         (f : E) × (entry_at log place ≡ Some f) × (book.is_signature f ≡ true)
+    -- removals and marks
+    pub removals : KeepsPlaces Sound book.removal
+    pub markings : KeepsPlaces Sound book.mark
+    -- a mark is no signature, and stands behind the removal of its node
+    pub marked : (log : List E) (e : E) (y : NodeId) → Sound (log ++ e ∷ []) → book.mark (log ++ e ∷ []) y ≡ Some (length log + 1) →
+        (book.is_signature e ≡ false) × ((removal : ℕ) × (book.removal log y ≡ Some removal))
+    -- a governance request marks no node but the one that it is a mark of
+    pub marks : (log : List E) (view : ℕ) (g : G) (e : E) (a : A) (y : NodeId) (place : ℕ) → Sound log → ViewsUpTo view log →
+        book.govern log view g ≡ Ok (e, a) → book.mark (log ++ e ∷ []) y ≡ Some place → (book.mark log y ≡ Some place) ⊎ (book.marks g ≡ Some y)
+
+  -- What retirement asks beside: from its removal on, a node is in no active configuration.
+  pub record IsRetiring (Sound : List E → Type 0) : Type 0 where
+    pub removed : (log : List E) (y : NodeId) (removal commit : ℕ) → Sound log → book.removal log y ≡ Some removal → removal ≤ commit → commit ≤ length log →
+        in_some y (active book log commit) ≡ false
 
   -- What the rules ask of the opening ledger: its entries are of the first view, a configuration stands in it, and its
   -- last entry is its only signature and records its own place. The node that signed it is among those that start.
@@ -137,3 +170,18 @@ module _ {E Q G R A F : Type 0} (book : Book E Q G R A F) where
   pub record NeverConflicts (s : Start E) (events : List (Event Q G R)) : Type 0 where
     pub messages : (i which : ℕ) (m : Message E) → slice_get (after book s (take i events)).sent which ≡ Some m →
         RefusedOnlyAtBase (node_after s (take i events) m.receiver) (happens book (after book s (take i events)) (Deliver which)).outcome
+
+  -- A mark of a node that is committed: then that node may be switched off.
+  abbrev pub MarkCommitted : Node E → NodeId → Type 0
+  MarkCommitted n y = (place : ℕ) × (book.mark n.log y ≡ Some place) × (place ≤ n.commit)
+
+  abbrev pub IsActive : Node E → NodeId → Type 0
+  IsActive n y = in_some y (active book n.log n.commit) ≡ true
+
+  -- A node with a committed mark is in no active configuration.
+  pub record RetiresSafely (s : Start E) (events : List (Event Q G R)) : Type 0 where
+    -- of a node that knows of it
+    pub here : (i : ℕ) (x y : NodeId) → MarkCommitted (node_after s (take i events) x) y → IsActive (node_after s (take i events) x) y → ⊥
+    -- of a leader whose view is later than that of the leader that committed it
+    pub later : (i j : ℕ) (x z y : NodeId) → (node_after s (take i events) x).role ≡ Leader → (node_after s (take j events) z).role ≡ Leader →
+        (node_after s (take i events) x).view < (node_after s (take j events) z).view → MarkCommitted (node_after s (take i events) x) y → IsActive (node_after s (take j events) z) y → ⊥

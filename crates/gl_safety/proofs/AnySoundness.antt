@@ -3,17 +3,13 @@ use Rattle.std.proofs.Common.{◌≡◌, ⊎_elim, ℕ, zero, suc, ◌+◌, ◌�
 use Rattle.std.proofs.lemmas.Bool.{cases_lt}
 use Rattle.gl_rules.specs.Book.{Book}
 use Rattle.gl_rules.specs.World.{Start, Event}
-use Rattle.gl_rules.specs.Safety.{IsLawful, IsOpening, IsSafe, EachFollows, Makes}
-use Rattle.gl_safety.proofs.Lists.{there, within, take_whole, same_take}
+use Rattle.gl_rules.specs.Safety.{IsLawful, IsOpening, IsSafe, EachFollows, Makes, KeepsPlaces}
+use Rattle.gl_rules.specs.Identity.{NodeId}
+use Rattle.gl_safety.proofs.Lists.{there, within, take_whole, same_take, take_one_more}
 use Rattle.gl_safety.proofs.Soundness.{sound_cut, sound_push}
 use Rattle.gl_safety.proofs.Headline.{safe}
 
 module _ {E Q G R A F : Type 0} {b : Book E Q G R A F} {Sound : List E → Type 0} {s : Start E} (o : IsOpening b Sound s) (la : IsLawful b Sound) where
-  take_one_more : (m : List E) (k : ℕ) (e : E) → slice_get m k ≡ Some e → take k m ++ e ∷ [] ≡ take (suc k) m
-  take_one_more [] k e a = absurd (cc)
-  take_one_more (d ∷ m) zero e a = let q : d ≡ e = cc in ap (λ c. c ∷ []) (sym q)
-  take_one_more (d ∷ m) (suc k) e a = ap (λ l. d ∷ l) (take_one_more m k e a)
-
   upto : (l : List E) → EachFollows b l → (k : ℕ) → Sound (take k l)
   upto l z zero = la.cut s.opening 0 o.sound
   upto l z (suc k) = ⊎_elim
@@ -33,15 +29,26 @@ module _ {E Q G R A F : Type 0} {b : Book E Q G R A F} {Sound : List E → Type 
   made : (log : List E) (view : ℕ) (e : E) → EachFollows b log → Makes b Sound log view e → Makes b (EachFollows b) log view e
   made log view e z m = record { view_is = m.view_is; follows = m.follows; sound = sound_push b log e z m.follows }
 
+  places : (place_of : List E → NodeId → Option ℕ) → KeepsPlaces b Sound place_of → KeepsPlaces b (EachFollows b) place_of
+  places place_of k = record {
+    none = k.none;
+    stays = λ log e y p z a. k.stays log e y p (each_sound (log ++ e ∷ []) z) a;
+    comes = λ log e y p z a. k.comes log e y p (each_sound (log ++ e ∷ []) z) a;
+  }
+
   lawful : IsLawful b (EachFollows b)
   lawful = record {
-    executed = λ log view q e a z v d. let r = la.executed log view q e a (each_sound log z) v d in (made log view e z r.0, r.1);
+    executed = λ log view q e a z v d. let r = la.executed log view q e a (each_sound log z) v d in (made log view e z r.0, r.1, r.2);
     governed = λ log view q e a z v d. let r = la.governed log view q e a (each_sound log z) v d in (made log view e z r.0, r.1);
-    signed = λ x leaf log view commit f e z v c d k h. let r = la.signed x leaf log view commit f e (each_sound log z) v c d k h in (made log view e z r.0, r.1, r.2);
-    evident = λ log view e z v d. let r = la.evident log view e (each_sound log z) v d in (made log view e z r.0, r.1);
+    signed = λ x leaf log view commit e z v c h. let r = la.signed x leaf log view commit e (each_sound log z) v c h in (made log view e z r.0, r.1, r.2);
+    evident = λ log view e z v d. let r = la.evident log view e (each_sound log z) v d in (made log view e z r.0, r.1, r.2);
     taken = λ log e z f. sound_push b log e z f;
     cut = λ log place z. sound_cut b log place z;
     witnessed = λ log place e z a d. la.witnessed log place e (each_sound log z) a d;
+    removals = places b.removal la.removals;
+    markings = places b.mark la.markings;
+    marked = λ log e y z a. la.marked log e y (each_sound (log ++ e ∷ []) z) a;
+    marks = λ log view g e a y place z v d c. la.marks log view g e a y place (each_sound log z) v d c;
   }
 
   opening : IsOpening b (EachFollows b) s

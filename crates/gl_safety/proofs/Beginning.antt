@@ -12,17 +12,18 @@ use Rattle.gl_rules.specs.Log.{entry_at, place_before, is_at_least, view_at, las
 use Rattle.gl_rules.specs.Configuration.{configuration_at, configurations_above, active_upto, active, in_some}
 use Rattle.gl_rules.specs.Steps.{cut_to, appended, leads, rise, has_votes, won_by, win, known_commit}
 use Rattle.gl_rules.specs.World.{Start}
-use Rattle.gl_rules.specs.Safety.{IsOpening, IsLawful, EachFollows, Makes, ViewsUpTo}
+use Rattle.gl_rules.specs.Safety.{IsOpening, IsLawful, EachFollows, Makes, MarksNone, MayRecord, ViewsUpTo}
 use Rattle.gl_safety.proofs.Ids.{id_tests, same_is, same_self, same_tells, cases_same, put2, put_all, put2_cases, put2_at, by_test, share}
-use Rattle.gl_safety.proofs.Lists.{Same, same_take, there, within, past, get_take, take_get, drop_get, get_left, get_append, get_push, push_get, take_whole, append_none, push_append, take_nothing}
+use Rattle.gl_safety.proofs.Lists.{Same, same_take, there, within, past, get_take, take_get, drop_get, get_left, get_append, get_push, push_get, take_whole, append_none, push_append, take_nothing, take_one_more, take_past}
 use Rattle.gl_safety.proofs.Story.{Story, Grows, at_view, early_by, told_ballot, told_stand, told_led, told_win, told_held, grows_same, grows_then, grows_ballot, grows_stand, grows_held, grows_win, grows_led}
 use Rattle.gl_safety.proofs.Configurations.{IsNewest, Backed, backed_by, backs, newest_same, newest_exists}
 use Rattle.gl_safety.proofs.Facts.{Holds, Covers, Matches, Bound, Rising, Mark, Lost, Segment, Voted, Ballots, agree, is_led, led_is, matches_part, matches_grow, mark_grow, mark_back, lost_grow, lost_more, holds_grow, holds_back, segment_grow, ballots_of}
 use Rattle.gl_safety.proofs.Certificates.{SureOver, CertOver, Cert, Sure, Sured, Settled, Below, Won, Tale, sure_grow, sured_grow, cert_grow}
 use Rattle.gl_safety.proofs.Complete.{Winner, Before, Whole, chief_of_led, one_voter, winner_of, completes, complete, descend, has_all, newest_in, settled}
-use Rattle.gl_safety.proofs.Signatures.{last_le, last_above, last_signs, last_take, signed_keeps, view_at_is, last_view_is, last_zero, covers_last, covers_more, recorded_le, recorded_bound, recorded_some, recorded_part}
+use Rattle.gl_safety.proofs.Signatures.{last_le, last_above, last_signs, last_take, signed_keeps, view_at_is, last_view_is, last_zero, covers_last, covers_more, recorded_le, recorded_bound, recorded_some, recorded_part, signed_ends, last_more}
 use Rattle.gl_safety.proofs.Invariants.{Voter, Logged, Kept, Barred, Commits, Good, BodySent, AllSent, Made, Reached, rising_of, begins_of, signature_above, sure_within, settled_of, sure_to, known_in, recorded_sure, won_grow, sured_more, shuts_grow, commits_more, good_of, sent_grow, all_grow, all_append, sent_at, made_same, made_then}
 use Rattle.gl_safety.proofs.Soundness.{sound_cut, sound_push}
+use Rattle.gl_safety.proofs.Places.{MarksKnown, place_within, place_cut, place_more, place_same, mark_entry, marks_known}
 use Rattle.gl_rules.specs.World.{World, begin, joiner, starter, leader_at_start, node_at_start}
 use Rattle.gl_safety.proofs.Runs.{Holding, first_story}
 
@@ -62,6 +63,9 @@ module _ {E Q G R A F : Type 0} {b : Book E Q G R A F} {s : Start E} (o : IsOpen
         mark = record { at = ap (λ f. slice_get (f 2) o.before) led_is ∙ o.last; view = o.views o.before o.signature o.last; signs = o.signs };
         cert = (refl, sym o.long); le = omega arith; top = omega arith; leads = ap (λ f. slice_get (f 2) o.before) led_is ∙ o.last }))
 
+  opening_marks : MarksKnown b s.opening
+  opening_marks = record { known = λ y m q a d i e c z h. omega (arith, place_within b b.removal la.removals s.opening y q o.sound d, signature_is i e c z, o.alone i e c z, o.long) }
+
   tale_first : Tale o (first_story o la)
   unfolding first_story
   tale_first = record {
@@ -85,6 +89,7 @@ module _ {E Q G R A F : Type 0} {b : Book E Q G R A F} {s : Start E} (o : IsOpen
     stood = λ c w y a. absurd (cc);
     ballots = λ y. record { votes = λ w c d a. absurd (let q : w ≡ 2 = grind (arith, nat_tests) in omega arith); barred = λ w c a d. cc; within = λ v i a. absurd (omega arith) };
     follows = λ v i e a. follows_at v i e (v == 2) a;
+    marks = λ v. by_test (MarksKnown b) (v == 2) s.opening [] (λ d. opening_marks) (λ d. record { known = λ y m q a k i e c z h. nothing i e c });
   }
     where
       follows_at : (v i : ℕ) (e : E) (m : Bool) → slice_get (if m then s.opening else []) i ≡ Some e → b.breaks (take i (if m then s.opening else [])) e ≡ None
@@ -109,6 +114,7 @@ module _ {E Q G R A F : Type 0} {b : Book E Q G R A F} {s : Start E} (o : IsOpen
       bid_is = λ d. absurd (calm d);
       unbid = λ v a. refl;
       fresh = λ d i e a. absurd (calm d);
+      ends = λ d. absurd (calm d);
       future = λ v a. refl;
       keeps = λ v i e a m. inl ((in_led v i e m.at).1);
     };
@@ -121,6 +127,7 @@ module _ {E Q G R A F : Type 0} {b : Book E Q G R A F} {s : Start E} (o : IsOpen
       young = λ d. absurd (calm d);
       opened = λ d. omega arith;
       matches = λ d y. omega arith;
+      marked = λ d y m q a h c. absurd (omega (arith, place_within b b.mark la.markings s.opening y m o.sound a, last_above b s.opening o.before o.signature o.last o.signs, o.long));
     };
     sound = o.sound;
   }
@@ -141,6 +148,7 @@ module _ {E Q G R A F : Type 0} {b : Book E Q G R A F} {s : Start E} (o : IsOpen
       bid_is = λ d. absurd (cc);
       unbid = λ v a. refl;
       fresh = λ d i e a. absurd (cc);
+      ends = λ d. absurd (cc);
       future = λ v a. refl;
       keeps = λ v i e a m. absurd (⊎_elim (λ (q : i < 0). omega arith) (λ (q : (if v == 2 then Some s.first else None) ≡ Some x). not_chief v q) a);
     };
@@ -153,6 +161,7 @@ module _ {E Q G R A F : Type 0} {b : Book E Q G R A F} {s : Start E} (o : IsOpen
       young = λ d. absurd (cc);
       opened = λ d. absurd (⊎_elim (λ (q : Follower ≡ Candidate). cc) (λ (q : Follower ≡ Leader). cc) d);
       matches = λ d y. absurd (cc);
+      marked = λ d. absurd (cc);
     };
     sound = sound_cut b s.opening 0 o.sound;
   }

@@ -10,6 +10,7 @@ use Rattle.gl_rules.specs.Safety.{IsOpening, EachFollows}
 use Rattle.gl_safety.proofs.Lists.{Same, same_take, there, within}
 use Rattle.gl_safety.proofs.Story.{Story, Grows}
 use Rattle.gl_safety.proofs.Configurations.{IsNewest, Backed, newest_same}
+use Rattle.gl_safety.proofs.Places.{MarksKnown}
 use Rattle.gl_safety.proofs.Facts.{Holds, Covers, Matches, Bound, Rising, Mark, Lost, Voted, Ballots, mark_grow, holds_grow}
 
 module _ {E Q G R A F : Type 0} {b : Book E Q G R A F} {s : Start E} (o : IsOpening b (EachFollows b) s) where
@@ -94,6 +95,7 @@ module _ {E Q G R A F : Type 0} {b : Book E Q G R A F} {s : Start E} (o : IsOpen
     pub stood : (c : NodeId) (w : ℕ) (y : NodeId) → g.shut c w y ≡ true → (l : Last) × (g.bid c w ≡ Some l)
     pub ballots : (y : NodeId) → Ballots b g y
     pub follows : (v i : ℕ) (e : E) → slice_get (g.led v) i ≡ Some e → b.breaks (take i (g.led v)) e ≡ None
+    pub marks : (v : ℕ) → MarksKnown b (g.led v)
 
   -- what stays
   module _ {x : NodeId} {g h : Story E} (k : Grows b.view_of x g h) where

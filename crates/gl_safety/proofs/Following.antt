@@ -12,17 +12,18 @@ use Rattle.gl_rules.specs.Log.{entry_at, place_before, is_at_least, view_at, las
 use Rattle.gl_rules.specs.Configuration.{configuration_at, configurations_above, active_upto, active, in_some}
 use Rattle.gl_rules.specs.Steps.{cut_to, appended, leads, rise, has_votes, won_by, win, known_commit}
 use Rattle.gl_rules.specs.World.{Start}
-use Rattle.gl_rules.specs.Safety.{IsOpening, IsLawful, EachFollows, Makes, ViewsUpTo}
+use Rattle.gl_rules.specs.Safety.{IsOpening, IsLawful, EachFollows, Makes, MarksNone, MayRecord, ViewsUpTo}
 use Rattle.gl_safety.proofs.Ids.{id_tests, same_is, same_self, same_tells, cases_same, put2, put_all, put2_cases, put2_at, by_test, share}
-use Rattle.gl_safety.proofs.Lists.{Same, same_take, there, within, past, get_take, take_get, drop_get, get_left, get_append, get_push, push_get, take_whole, append_none, push_append, take_nothing}
+use Rattle.gl_safety.proofs.Lists.{Same, same_take, there, within, past, get_take, take_get, drop_get, get_left, get_append, get_push, push_get, take_whole, append_none, push_append, take_nothing, take_one_more, take_past}
 use Rattle.gl_safety.proofs.Story.{Story, Grows, at_view, early_by, told_ballot, told_stand, told_led, told_win, told_held, grows_same, grows_then, grows_ballot, grows_stand, grows_held, grows_win, grows_led}
 use Rattle.gl_safety.proofs.Configurations.{IsNewest, Backed, backed_by, backs, newest_same, newest_exists}
 use Rattle.gl_safety.proofs.Facts.{Holds, Covers, Matches, Bound, Rising, Mark, Lost, Segment, Voted, Ballots, agree, is_led, led_is, matches_part, matches_grow, mark_grow, mark_back, lost_grow, lost_more, holds_grow, holds_back, segment_grow, ballots_of}
 use Rattle.gl_safety.proofs.Certificates.{SureOver, CertOver, Cert, Sure, Sured, Settled, Below, Won, Tale, sure_grow, sured_grow, cert_grow}
 use Rattle.gl_safety.proofs.Complete.{Winner, Before, Whole, chief_of_led, one_voter, winner_of, completes, complete, descend, has_all, newest_in, settled}
-use Rattle.gl_safety.proofs.Signatures.{last_le, last_above, last_signs, last_take, signed_keeps, view_at_is, last_view_is, last_zero, covers_last, covers_more, recorded_le, recorded_bound, recorded_some, recorded_part}
+use Rattle.gl_safety.proofs.Signatures.{last_le, last_above, last_signs, last_take, signed_keeps, view_at_is, last_view_is, last_zero, covers_last, covers_more, recorded_le, recorded_bound, recorded_some, recorded_part, signed_ends, last_more}
 use Rattle.gl_safety.proofs.Invariants.{Voter, Logged, Kept, Barred, Commits, Good, BodySent, AllSent, Made, Reached, rising_of, begins_of, signature_above, sure_within, settled_of, sure_to, known_in, recorded_sure, won_grow, sured_more, shuts_grow, commits_more, good_of, sent_grow, all_grow, all_append, sent_at, made_same, made_then}
 use Rattle.gl_safety.proofs.Soundness.{sound_cut, sound_push}
+use Rattle.gl_safety.proofs.Places.{MarksKnown, place_within, place_cut, place_more, place_same, mark_entry, marks_known}
 use Rattle.gl_rules.specs.Replication.{commit_after, takes, append_reply}
 use Rattle.gl_safety.proofs.Merging.{Merged}
 
@@ -34,13 +35,14 @@ module _ {E Q G R A F : Type 0} {b : Book E Q G R A F} {s : Start E} (o : IsOpen
     ruled = λ r. absurd (cc); young = λ r. absurd (cc);
     opened = λ r. absurd (⊎_elim (λ (q : Follower ≡ Candidate). cc) (λ (q : Follower ≡ Leader). cc) r);
     matches = λ r y. absurd (cc);
+    marked = λ r. absurd (cc);
   }
 
   pub good_follow : (x : NodeId) (g : Story E) (n : Node E) (l : Option NodeId) → Good o g x n → Good o g x (record n { role = Follower; leader = l })
   good_follow x g n l z = record {
     voter = record { cast = z.voter.cast; later = z.voter.later; counted = λ r y a. absurd (cc); won = z.voter.won; unwon = λ r a. absurd (cc); chief_is = λ r. absurd (cc) };
     logged = z.logged;
-    kept = record { bid_is = λ r. absurd (cc); unbid = z.kept.unbid; fresh = λ r i e a. absurd (cc); future = z.kept.future; keeps = z.kept.keeps };
+    kept = record { bid_is = λ r. absurd (cc); unbid = z.kept.unbid; fresh = λ r i e a. absurd (cc); ends = λ r. absurd (cc); future = z.kept.future; keeps = z.kept.keeps };
     commits = commits_follow g x n.view n.role n.log n.commit n.base n.matched z.commits;
     sound = z.sound;
   }
@@ -57,13 +59,14 @@ module _ {E Q G R A F : Type 0} {b : Book E Q G R A F} {s : Start E} (o : IsOpen
   good_restart x g n used cuts t z = record {
     voter = record { cast = z.voter.cast; later = z.voter.later; counted = λ r y a. absurd (cc); won = z.voter.won; unwon = λ r a. absurd (cc); chief_is = λ r. absurd (cc) };
     logged = z.logged;
-    kept = record { bid_is = λ r. absurd (cc); unbid = z.kept.unbid; fresh = λ r i e a. absurd (cc); future = z.kept.future; keeps = z.kept.keeps };
+    kept = record { bid_is = λ r. absurd (cc); unbid = z.kept.unbid; fresh = λ r i e a. absurd (cc); ends = λ r. absurd (cc); future = z.kept.future; keeps = z.kept.keeps };
     commits = record {
       bounded = known_sure g t n.log n.view n.base z.logged.matches z.logged.bound;
       based = z.commits.based; above = omega arith; recorded = omega arith;
       ruled = λ r. absurd (cc); young = λ r. absurd (cc);
       opened = λ r. absurd (⊎_elim (λ (q : Follower ≡ Candidate). cc) (λ (q : Follower ≡ Leader). cc) r);
       matches = λ r y. absurd (cc);
+      marked = λ r. absurd (cc);
     };
     sound = z.sound;
   }
@@ -143,7 +146,7 @@ module _ {E Q G R A F : Type 0} {b : Book E Q G R A F} {s : Start E} (o : IsOpen
       shuts = λ c w y a. shuts_grow o k 0 w y (t.shuts c w y a);
       stood = t.stood;
       ballots = λ y. ⊎_elim (λ (q : y ≡ x). subst (Ballots b (told_held x n.view place g)) (sym q) own) (λ (q : y ≢ x). ballots_of b k y q (t.ballots y)) (cases_same y x);
-      follows = t.follows;
+      follows = t.follows; marks = t.marks;
     }
       where
         holds : (u i : ℕ) → u ≢ n.view → (i < put2 g.held x n.view (max (g.held x n.view) place) x u) ⊎ (g.chief u ≡ Some x) → Holds g x u i
@@ -229,6 +232,7 @@ module _ {E Q G R A F : Type 0} {b : Book E Q G R A F} {s : Start E} (o : IsOpen
             bid_is = λ e. absurd (cc);
             unbid = z.kept.unbid;
             fresh = λ e i f a. absurd (cc);
+            ends = λ e. absurd (cc);
             future = λ v a. let q = z.kept.future v a in grind (arith, id_tests);
             keeps = λ v i e a w. ⊎_elim
               (λ (q : i < put2 g.held x n.view (max (g.held x n.view) place) x v). ⊎_elim
@@ -250,6 +254,7 @@ module _ {E Q G R A F : Type 0} {b : Book E Q G R A F} {s : Start E} (o : IsOpen
             ruled = λ e. absurd (cc); young = λ e. absurd (cc);
             opened = λ e. absurd (⊎_elim (λ (q : n.role ≡ Candidate). cc) (λ (q : n.role ≡ Leader). cc) e);
             matches = λ e y. absurd (cc);
+            marked = λ e. absurd (cc);
           };
           sound = sound;
         }

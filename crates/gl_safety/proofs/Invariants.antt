@@ -7,7 +7,7 @@ use Rattle.gl_rules.specs.Majority.{majority}
 use Rattle.gl_rules.specs.Book.{Book}
 use Rattle.gl_rules.specs.Node.{Node, Role, Follower, Candidate, Leader}
 use Rattle.gl_rules.specs.Message.{Last, Message, Body, RequestVote, VoteReply, Append, AppendReply, ProposeVote}
-use Rattle.gl_rules.specs.Log.{last, greatest_recorded}
+use Rattle.gl_rules.specs.Log.{last, last_signature, greatest_recorded}
 use Rattle.gl_rules.specs.World.{Start}
 use Rattle.gl_rules.specs.Safety.{IsOpening, EachFollows}
 use Rattle.gl_safety.proofs.Ids.{id_tests}
@@ -40,6 +40,7 @@ module _ {E Q G R A F : Type 0} (b : Book E Q G R A F) where
     pub bid_is : role ≡ Candidate → bid x view ≡ Some (last b log)
     pub unbid : (v : ℕ) → view < v → bid x v ≡ None
     pub fresh : role ≡ Candidate → (i : ℕ) (e : E) → slice_get log i ≡ Some e → b.view_of e < view
+    pub ends : role ≡ Candidate → length log ≤ last_signature b log
     pub future : (v : ℕ) → view < v → held x v ≡ 0
     pub keeps : (v i : ℕ) (e : E) → (i < held x v) ⊎ (chief v ≡ Some x) → Mark b led v i e → (slice_get log i ≡ Some e) ⊎ Lost b chief led v i (suc view)
 
@@ -58,6 +59,7 @@ module _ {E Q G R A F : Type 0} {b : Book E Q G R A F} {s : Start E} (o : IsOpen
     pub young : role ≡ Candidate → Below o g log commit view ⊎ Barred g x log commit view
     pub opened : (role ≡ Candidate) ⊎ (role ≡ Leader) → length s.opening ≤ commit
     pub matches : role ≡ Leader → (y : NodeId) → matched y ≤ g.held y view
+    pub marked : role ≡ Leader → (y : NodeId) (m q : ℕ) → b.mark log y ≡ Some m → last_signature b log < m → b.removal log y ≡ Some q → q ≤ commit
 
   pub record Good (g : Story E) (x : NodeId) (n : Node E) : Type 0 where
     pub voter : Voter g.ballot g.chief x n.view n.vote n.role n.votes
@@ -179,6 +181,7 @@ module _ {E Q G R A F : Type 0} {b : Book E Q G R A F} {s : Start E} (o : IsOpen
       young = λ r. ⊎_elim (λ (q : Below o g log c view). inl (q.0, q.1, sured_more log c q.0 q.2)) (λ (q : Barred g y log c view). inr (λ p m a. ap (λ f. majority f m) (same r) ∙ q p m a)) (z.young r);
       opened = z.opened;
       matches = λ r u. omega (arith, z.matches r u, k.held u view);
+      marked = z.marked;
     }
 
     pub good_of : (y : NodeId) (n : Node E) → y ≢ x → Ballots b g y → Good g y n → Good h y n
@@ -201,6 +204,7 @@ module _ {E Q G R A F : Type 0} {b : Book E Q G R A F} {s : Start E} (o : IsOpen
         bid_is = λ r. k.bid y n.view (last b n.log) (z.kept.bid_is r);
         unbid = λ v a. k.bid_of y v d ∙ z.kept.unbid v a;
         fresh = z.kept.fresh;
+        ends = z.kept.ends;
         future = λ v a. k.held_of y v d ∙ z.kept.future v a;
         keeps = λ v i e a m.
           let a' : Holds g y v i = holds_back b k y v i d a in

@@ -12,23 +12,25 @@ use Rattle.gl_rules.specs.Log.{entry_at, place_before, is_at_least, view_at, las
 use Rattle.gl_rules.specs.Configuration.{configuration_at, configurations_above, active_upto, active, in_some}
 use Rattle.gl_rules.specs.Steps.{cut_to, appended, leads, rise, has_votes, won_by, win, known_commit}
 use Rattle.gl_rules.specs.World.{Start}
-use Rattle.gl_rules.specs.Safety.{IsOpening, IsLawful, EachFollows, Makes, ViewsUpTo}
+use Rattle.gl_rules.specs.Safety.{IsOpening, IsLawful, EachFollows, Makes, MarksNone, MayRecord, ViewsUpTo}
 use Rattle.gl_safety.proofs.Ids.{id_tests, same_is, same_self, same_tells, cases_same, put2, put_all, put2_cases, put2_at, by_test, share}
-use Rattle.gl_safety.proofs.Lists.{Same, same_take, there, within, past, get_take, take_get, drop_get, get_left, get_append, get_push, push_get, take_whole, append_none, push_append, take_nothing}
+use Rattle.gl_safety.proofs.Lists.{Same, same_take, there, within, past, get_take, take_get, drop_get, get_left, get_append, get_push, push_get, take_whole, append_none, push_append, take_nothing, take_one_more, take_past}
 use Rattle.gl_safety.proofs.Story.{Story, Grows, at_view, early_by, told_ballot, told_stand, told_led, told_win, told_held, grows_same, grows_then, grows_ballot, grows_stand, grows_held, grows_win, grows_led}
 use Rattle.gl_safety.proofs.Configurations.{IsNewest, Backed, backed_by, backs, newest_same, newest_exists}
 use Rattle.gl_safety.proofs.Facts.{Holds, Covers, Matches, Bound, Rising, Mark, Lost, Segment, Voted, Ballots, agree, is_led, led_is, matches_part, matches_grow, mark_grow, mark_back, lost_grow, lost_more, holds_grow, holds_back, segment_grow, ballots_of}
 use Rattle.gl_safety.proofs.Certificates.{SureOver, CertOver, Cert, Sure, Sured, Settled, Below, Won, Tale, sure_grow, sured_grow, cert_grow}
 use Rattle.gl_safety.proofs.Complete.{Winner, Before, Whole, chief_of_led, one_voter, winner_of, completes, complete, descend, has_all, newest_in, settled}
-use Rattle.gl_safety.proofs.Signatures.{last_le, last_above, last_signs, last_take, signed_keeps, view_at_is, last_view_is, last_zero, covers_last, covers_more, recorded_le, recorded_bound, recorded_some, recorded_part}
+use Rattle.gl_safety.proofs.Signatures.{last_le, last_above, last_signs, last_take, signed_keeps, view_at_is, last_view_is, last_zero, covers_last, covers_more, recorded_le, recorded_bound, recorded_some, recorded_part, signed_ends, last_more}
 use Rattle.gl_safety.proofs.Invariants.{Voter, Logged, Kept, Barred, Commits, Good, BodySent, AllSent, Made, Reached, rising_of, begins_of, signature_above, sure_within, settled_of, sure_to, known_in, recorded_sure, won_grow, sured_more, shuts_grow, commits_more, good_of, sent_grow, all_grow, all_append, sent_at, made_same, made_then}
 use Rattle.gl_safety.proofs.Soundness.{sound_cut, sound_push}
+use Rattle.gl_safety.proofs.Places.{MarksKnown, place_within, place_cut, place_more, place_same, mark_entry, marks_known}
 use Rattle.gl_rules.specs.Replication.{acknowledged, sent_back, may_commit, signed_in}
 
-module _ {E Q G R A F : Type 0} {b : Book E Q G R A F} {s : Start E} (o : IsOpening b (EachFollows b) s) where
+module _ {E Q G R A F : Type 0} {b : Book E Q G R A F} {s : Start E} (o : IsOpening b (EachFollows b) s) (la : IsLawful b (EachFollows b)) where
   -- a leader's log grows by an entry of its view
   module _ (x : NodeId) (g : Story E) (n : Node E) (e : E) (t : Tale o g) (z : Good o g x n) (rules : n.role ≡ Leader) (view_is : b.view_of e ≡ n.view)
-      (follows : b.breaks n.log e ≡ None) (records : b.is_signature e ≡ true → b.recorded_commit e ≡ n.commit) where
+      (follows : b.breaks n.log e ≡ None) (records : b.is_signature e ≡ true → b.recorded_commit e ≡ n.commit)
+      (unmarked : (y : NodeId) (m q : ℕ) → b.mark (n.log ++ e ∷ []) y ≡ Some m → b.removal n.log y ≡ Some q → (b.mark n.log y ≡ Some m) ⊎ (q ≤ n.commit)) where
     won : g.chief n.view ≡ Some x
     won = z.voter.chief_is rules
 
@@ -105,6 +107,52 @@ module _ {E Q G R A F : Type 0} {b : Book E Q G R A F} {s : Start E} (o : IsOpen
           ap (λ l. b.breaks l f) (sym cut ∙ all) ∙ ap (b.breaks n.log) q.1 ∙ follows)
         (get_push n.log e i f a)
 
+    sound : EachFollows b (n.log ++ e ∷ [])
+    sound = sound_push b n.log e z.sound follows
+
+    only_old : Same (length n.log) (n.log ++ e ∷ []) n.log
+    only_old j f h a = ⊎_elim (λ (q : slice_get n.log j ≡ Some f). q) (λ (q : (j ≡ length n.log) × (f ≡ e)). absurd (omega (arith, q.0))) (get_push n.log e j f a)
+
+    longer : length n.log ≤ length (n.log ++ e ∷ [])
+    longer = omega (arith, length-append n.log (e ∷ []))
+
+    -- of a mark the removal is older than the new entry
+    removal_old : (y : NodeId) (m q : ℕ) → b.mark (n.log ++ e ∷ []) y ≡ Some m → b.removal (n.log ++ e ∷ []) y ≡ Some q → b.removal n.log y ≡ Some q
+    removal_old y m q a d =
+        let en = mark_entry b la (n.log ++ e ∷ []) y m sound a in
+        let same : q ≡ en.5.0 = let t_ = sym d ∙ en.5.2 in cc in
+        place_same b b.removal la.removals (n.log ++ e ∷ []) n.log y q (length n.log) sound z.sound longer only_old
+          (omega (arith, same, en.5.1, within (n.log ++ e ∷ []) en.0 en.2 en.3, length-append n.log (e ∷ []))) d
+
+    mark_old : (y : NodeId) (m : ℕ) → m ≤ length n.log → b.mark (n.log ++ e ∷ []) y ≡ Some m → b.mark n.log y ≡ Some m
+    mark_old y m h a = place_same b b.mark la.markings (n.log ++ e ∷ []) n.log y m (length n.log) sound z.sound longer only_old h a
+
+    known_marks : MarksKnown b n.log
+    known_marks = marks_known b la g.led n.log z.logged.matches z.sound t.follows t.matches t.marks
+
+    -- the commit of a leader is not below the removal of a node with a mark
+    covered : (y : NodeId) (m q : ℕ) → b.mark n.log y ≡ Some m → b.removal n.log y ≡ Some q → q ≤ n.commit
+    covered y m q a d = ⊎_elim
+        (λ (h : last_signature b n.log < m). z.commits.marked rules y m q a h d)
+        (λ (h : m ≤ last_signature b n.log). below (last_signature b n.log) refl h)
+        (cases_lt (last_signature b n.log) m)
+      where
+        en : (i : ℕ) × (m ≡ suc i) × (f : E) × (slice_get n.log i ≡ Some f) × (b.is_signature f ≡ false) × ((r : ℕ) × (r ≤ i) × (b.removal n.log y ≡ Some r))
+        en = mark_entry b la n.log y m z.sound a
+        below : (k : ℕ) → last_signature b n.log ≡ k → m ≤ last_signature b n.log → q ≤ n.commit
+        below zero c h = absurd (omega (arith, en.1))
+        below (suc k) c h =
+            let u = last_signs b n.log k c in
+            let other : en.0 ≢ k = λ (w : en.0 ≡ k). let p : slice_get n.log k ≡ Some en.2 = ap (slice_get n.log) (sym w) ∙ en.3 in let same : en.2 ≡ u.0 = let v = sym p ∙ u.1 in cc in true≢false (sym u.2 ∙ ap b.is_signature (sym same) ∙ en.4) in
+            omega (arith, known_marks.known y m q a d k u.0 u.1 u.2 (omega (arith, en.1)), recorded_le b n.log k u.0 u.1 u.2, z.commits.recorded)
+
+    marks_here : MarksKnown b (n.log ++ e ∷ [])
+    marks_here = record { known = λ y m q a d i f c sg h. ⊎_elim
+        (λ (w : slice_get n.log i ≡ Some f). known_marks.known y m q (mark_old y m (omega (arith, within n.log i f w)) a) (removal_old y m q a d) i f w sg h)
+        (λ (w : (i ≡ length n.log) × (f ≡ e)).
+          omega (arith, covered y m q (mark_old y m (omega (arith, w.0)) a) (removal_old y m q a d), ap b.recorded_commit w.1 ∙ records (ap b.is_signature (sym w.1) ∙ sg)))
+        (get_push n.log e i f c) }
+
     own : Ballots b (told_led n.view (n.log ++ e ∷ []) g) x
     own = record {
       votes = λ w c d a.
@@ -148,6 +196,7 @@ module _ {E Q G R A F : Type 0} {b : Book E Q G R A F} {s : Start E} (o : IsOpen
       stood = t.stood;
       ballots = λ y. ⊎_elim (λ (q : y ≡ x). subst (Ballots b (told_led n.view (n.log ++ e ∷ []) g)) (sym q) own) (λ (q : y ≢ x). ballots_of b grows y q (t.ballots y)) (cases_same y x);
       follows = λ u i f a. follows_at u i f (u == n.view) a;
+      marks = λ u. at_led (MarksKnown b) u marks_here (t.marks u);
     }
       where
         follows_at : (u i : ℕ) (f : E) (m : Bool) → slice_get (if m then n.log ++ e ∷ [] else g.led u) i ≡ Some f → b.breaks (take i (if m then n.log ++ e ∷ [] else g.led u)) f ≡ None
@@ -167,6 +216,7 @@ module _ {E Q G R A F : Type 0} {b : Book E Q G R A F} {s : Start E} (o : IsOpen
             bid_is = λ r. absurd (cc);
             unbid = z.kept.unbid;
             fresh = λ r i f a. absurd (cc);
+            ends = λ r. absurd (cc);
             future = z.kept.future;
             keeps = λ v i f a m. ⊎_elim
               (λ (q : v ≡ n.view). inl (ap (λ l. slice_get l i) (sym here) ∙ ap (λ u. slice_get (at_view g.led n.view (n.log ++ e ∷ []) u) i) (sym q) ∙ m.at))
@@ -186,8 +236,12 @@ module _ {E Q G R A F : Type 0} {b : Book E Q G R A F} {s : Start E} (o : IsOpen
             young = λ r. absurd (cc);
             opened = λ r. z.commits.opened r;
             matches = z.commits.matches;
+            marked = λ r y m q a h d. ⊎_elim
+              (λ (w : b.mark n.log y ≡ Some m). z.commits.marked rules y m q w (omega (arith, last_more b n.log (n.log ++ e ∷ []) pushed)) (removal_old y m q a d))
+              (λ (w : q ≤ n.commit). w)
+              (unmarked y m q a (removal_old y m q a d));
           };
-          sound = sound_push b n.log e z.sound follows;
+          sound = sound;
         }
 
   pub good_used : (x : NodeId) (g h : Story E) (n : Node E) (k : ℕ) → Made o x g h n [] → Made o x g h (record n { used = k }) []
@@ -199,6 +253,7 @@ module _ {E Q G R A F : Type 0} {b : Book E Q G R A F} {s : Start E} (o : IsOpen
     commits = record {
       bounded = z.commits.bounded; based = z.commits.based; above = z.commits.above; recorded = z.commits.recorded; ruled = z.commits.ruled; young = z.commits.young; opened = z.commits.opened;
       matches = λ r u. put_all (λ w m. m ≤ g.held w n.view) n.matched y (max (n.matched y) place) (omega (arith, z.commits.matches r y)) (λ w d. z.commits.matches r w) u;
+      marked = z.commits.marked;
     };
     sound = z.sound;
   }
@@ -222,6 +277,7 @@ module _ {E Q G R A F : Type 0} {b : Book E Q G R A F} {s : Start E} (o : IsOpen
     commits = record {
       bounded = inl sure_k; based = z.commits.based; above = omega (arith, z.commits.above, c.4); recorded = omega (arith, z.commits.recorded, c.4);
       ruled = λ r. sure_k; young = λ r. absurd (cc); opened = λ r. omega (arith, z.commits.opened r, c.4); matches = z.commits.matches;
+      marked = λ r y m q a h d. omega (arith, z.commits.marked rules y m q a h d, c.4);
     };
     sound = z.sound;
   }

@@ -4,9 +4,10 @@ pub mod Soundness
 pub mod Story
 pub mod Configurations
 pub mod Facts
+pub mod Signatures
+pub mod Places
 pub mod Certificates
 pub mod Complete
-pub mod Signatures
 pub mod Invariants
 pub mod Standing
 pub mod Winning
@@ -27,3 +28,4 @@ pub mod Views
 pub mod Leaders
 pub mod Refusals
 pub mod AnySoundness
+pub mod Retiring

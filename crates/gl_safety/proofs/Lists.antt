@@ -100,3 +100,14 @@ module _ {A : Type 0} where
   pub take_nothing : (k : ℕ) → take {A = A} k [] ≡ []
   take_nothing zero = refl
   take_nothing (suc k) = refl
+
+  pub take_one_more : (m : List A) (k : ℕ) (e : A) → slice_get m k ≡ Some e → take k m ++ e ∷ [] ≡ take (suc k) m
+  take_one_more [] k e a = absurd (cc)
+  take_one_more (d ∷ m) zero e a = let q : d ≡ e = cc in ap {B = List A} (λ c. c ∷ []) (sym q)
+  take_one_more (d ∷ m) (suc k) e a = ap {B = List A} (λ l. d ∷ l) (take_one_more m k e a)
+
+  pub take_past : (k : ℕ) (l : List A) → length l ≤ k → take k l ≡ l
+  take_past zero [] h = refl
+  take_past (suc k) [] h = refl
+  take_past zero (x ∷ l) h = absurd (omega arith)
+  take_past (suc k) (x ∷ l) h = ap {B = List A} (λ r. x ∷ r) (take_past k l (omega arith))

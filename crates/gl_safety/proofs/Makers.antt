@@ -12,17 +12,18 @@ use Rattle.gl_rules.specs.Log.{entry_at, place_before, is_at_least, view_at, las
 use Rattle.gl_rules.specs.Configuration.{configuration_at, configurations_above, active_upto, active, in_some}
 use Rattle.gl_rules.specs.Steps.{cut_to, appended, leads, rise, has_votes, won_by, win, known_commit}
 use Rattle.gl_rules.specs.World.{Start}
-use Rattle.gl_rules.specs.Safety.{IsOpening, IsLawful, EachFollows, Makes, ViewsUpTo}
+use Rattle.gl_rules.specs.Safety.{IsOpening, IsLawful, EachFollows, Makes, MarksNone, MayRecord, ViewsUpTo}
 use Rattle.gl_safety.proofs.Ids.{id_tests, same_is, same_self, same_tells, cases_same, put2, put_all, put2_cases, put2_at, by_test, share}
-use Rattle.gl_safety.proofs.Lists.{Same, same_take, there, within, past, get_take, take_get, drop_get, get_left, get_append, get_push, push_get, take_whole, append_none, push_append, take_nothing}
+use Rattle.gl_safety.proofs.Lists.{Same, same_take, there, within, past, get_take, take_get, drop_get, get_left, get_append, get_push, push_get, take_whole, append_none, push_append, take_nothing, take_one_more, take_past}
 use Rattle.gl_safety.proofs.Story.{Story, Grows, at_view, early_by, told_ballot, told_stand, told_led, told_win, told_held, grows_same, grows_then, grows_ballot, grows_stand, grows_held, grows_win, grows_led}
 use Rattle.gl_safety.proofs.Configurations.{IsNewest, Backed, backed_by, backs, newest_same, newest_exists}
 use Rattle.gl_safety.proofs.Facts.{Holds, Covers, Matches, Bound, Rising, Mark, Lost, Segment, Voted, Ballots, agree, is_led, led_is, matches_part, matches_grow, mark_grow, mark_back, lost_grow, lost_more, holds_grow, holds_back, segment_grow, ballots_of}
 use Rattle.gl_safety.proofs.Certificates.{SureOver, CertOver, Cert, Sure, Sured, Settled, Below, Won, Tale, sure_grow, sured_grow, cert_grow}
 use Rattle.gl_safety.proofs.Complete.{Winner, Before, Whole, chief_of_led, one_voter, winner_of, completes, complete, descend, has_all, newest_in, settled}
-use Rattle.gl_safety.proofs.Signatures.{last_le, last_above, last_signs, last_take, signed_keeps, view_at_is, last_view_is, last_zero, covers_last, covers_more, recorded_le, recorded_bound, recorded_some, recorded_part}
+use Rattle.gl_safety.proofs.Signatures.{last_le, last_above, last_signs, last_take, signed_keeps, view_at_is, last_view_is, last_zero, covers_last, covers_more, recorded_le, recorded_bound, recorded_some, recorded_part, signed_ends, last_more}
 use Rattle.gl_safety.proofs.Invariants.{Voter, Logged, Kept, Barred, Commits, Good, BodySent, AllSent, Made, Reached, rising_of, begins_of, signature_above, sure_within, settled_of, sure_to, known_in, recorded_sure, won_grow, sured_more, shuts_grow, commits_more, good_of, sent_grow, all_grow, all_append, sent_at, made_same, made_then}
 use Rattle.gl_safety.proofs.Soundness.{sound_cut, sound_push}
+use Rattle.gl_safety.proofs.Places.{MarksKnown, place_within, place_cut, place_more, place_same, mark_entry, marks_known}
 use Rattle.gl_rules.specs.Outcome.{Outcome, Step, Done, Signed, quiet, refuse, idle, TooManyPending, NotReserved, KeyExhausted, NothingToSign, RemovalNotCommitted, RolledBack, ByLedger}
 use Rattle.gl_rules.specs.Steps.{led_by, if_leader}
 use Rattle.gl_rules.specs.Requests.{pending_limit, last_count, enters, executes, submit, unless_conflict, finishes, finish, removed_late, marked, if_markable, governs, govern, reserve, signs_for, signed, signs, sign, evident, evidence}
@@ -37,14 +38,15 @@ module _ {E Q G R A F : Type 0} {b : Book E Q G R A F} {s : Start E} (o : IsOpen
   unsigned e p q = absurd (cc)
 
   enters_by : (x : NodeId) (g : Story E) (n : Node E) → Tale o g → Good o g x n → n.role ≡ Leader → (m : Result (E × A) F) →
-      ((e : E) (a : A) → m ≡ Ok (e, a) → Makes b (EachFollows b) n.log n.view e × (b.is_signature e ≡ false)) → By o la x g (enters b n m)
+      ((e : E) (a : A) → m ≡ Ok (e, a) → Makes b (EachFollows b) n.log n.view e × (b.is_signature e ≡ false) ×
+        ((y : NodeId) (k q : ℕ) → b.mark (n.log ++ e ∷ []) y ≡ Some k → b.removal n.log y ≡ Some q → (b.mark n.log y ≡ Some k) ⊎ (q ≤ n.commit))) → By o la x g (enters b n m)
   enters_by x g n t z r (Err why) f = stay o la x g n t z
   enters_by x g n t z r (Ok made) f =
       let w = f made.0 made.1 refl in
-      made_append o x g n made.0 t z r w.0.view_is w.0.follows (λ q. unsigned made.0 w.1 q)
+      made_append o la x g n made.0 t z r w.0.view_is w.0.follows (λ q. unsigned made.0 w.1 q) w.2
 
   executes_by : (x : NodeId) (q : Q) (g : Story E) (n : Node E) → Tale o g → Good o g x n → n.role ≡ Leader → By o la x g (executes b q n)
-  executes_by x q g n t z r = enters_by x g n t z r (b.execute n.log n.view q) (λ e a d. la.executed n.log n.view q e a z.sound (views_of x g n z) d)
+  executes_by x q g n t z r = enters_by x g n t z r (b.execute n.log n.view q) (λ e a d. let w = la.executed n.log n.view q e a z.sound (views_of x g n z) d in (w.0, w.1, λ y k p c f. inl (w.2 y k c)))
 
   pub reached_submit : (x : NodeId) (q : Q) (g : Story E) (n : Node E) → Tale o g → Good o g x n → By o la x g (submit b q n)
   unfolding submit
@@ -66,19 +68,28 @@ module _ {E Q G R A F : Type 0} {b : Book E Q G R A F} {s : Start E} (o : IsOpen
   reached_govern x q g n t z = reached_leader o la x g n (governs b q n) t z
       (λ r. by_test (By o la x g) (nat_le pending_limit (length (configurations_above b n.log n.commit (length n.log)))) (refuse n (TooManyPending pending_limit)) (if_markable b (b.marks q) n (enters b n (b.govern n.log n.view q)))
         (λ d. stay o la x g n t z)
-        (λ d. go r (b.marks q)))
+        (λ d. go r (b.marks q) refl))
     where
-      made : n.role ≡ Leader → By o la x g (enters b n (b.govern n.log n.view q))
-      made r = enters_by x g n t z r (b.govern n.log n.view q) (λ e a d. la.governed n.log n.view q e a z.sound (views_of x g n z) d)
-      late : n.role ≡ Leader → (m : Option ℕ) → By o la x g (removed_late b m n (enters b n (b.govern n.log n.view q)))
-      late r None = made r
-      late r (Some place) = by_test (By o la x g) (nat_lt n.commit place) (refuse n (RemovalNotCommitted place n.commit)) (enters b n (b.govern n.log n.view q)) (λ d. stay o la x g n t z) (λ d. made r)
-      inner : n.role ≡ Leader → (y : NodeId) (m : Option F) → By o la x g (marked b m y n (enters b n (b.govern n.log n.view q)))
-      inner r y (Some why) = stay o la x g n t z
-      inner r y None = late r (b.removal n.log y)
-      go : n.role ≡ Leader → (m : Option NodeId) → By o la x g (if_markable b m n (enters b n (b.govern n.log n.view q)))
-      go r None = made r
-      go r (Some y) = inner r y (b.unmarkable n.log y)
+      made : n.role ≡ Leader → ((y : NodeId) (p : ℕ) → b.marks q ≡ Some y → b.removal n.log y ≡ Some p → p ≤ n.commit) → By o la x g (enters b n (b.govern n.log n.view q))
+      made r free = enters_by x g n t z r (b.govern n.log n.view q) (λ e a d.
+          let w = la.governed n.log n.view q e a z.sound (views_of x g n z) d in
+          (w.0, w.1, λ y k p c f. ⊎_elim (λ (u : b.mark n.log y ≡ Some k). inl u) (λ (u : b.marks q ≡ Some y). inr (free y p u f))
+            (la.marks n.log n.view q e a y k z.sound (views_of x g n z) d c)))
+      late : n.role ≡ Leader → (y : NodeId) → b.marks q ≡ Some y → (m : Option ℕ) → b.removal n.log y ≡ m → By o la x g (removed_late b m n (enters b n (b.govern n.log n.view q)))
+      late r y c None d = made r (λ u p v f. absurd (let same : y ≡ u = let k = sym c ∙ v in cc in let w : b.removal n.log y ≡ Some p = ap (b.removal n.log) same ∙ f in cc))
+      late r y c (Some place) d = by_test (By o la x g) (nat_lt n.commit place) (refuse n (RemovalNotCommitted place n.commit)) (enters b n (b.govern n.log n.view q)) (λ h. stay o la x g n t z)
+          (λ h. made r (λ u p v f.
+            let same : y ≡ u = let k = sym c ∙ v in cc in
+            let w : b.removal n.log y ≡ Some p = ap (b.removal n.log) same ∙ f in
+            let eq : place ≡ p = let k = sym d ∙ w in cc in
+            let low : place ≤ n.commit = grind (arith, nat_tests) in
+            omega arith))
+      inner : n.role ≡ Leader → (y : NodeId) → b.marks q ≡ Some y → (m : Option F) → By o la x g (marked b m y n (enters b n (b.govern n.log n.view q)))
+      inner r y c (Some why) = stay o la x g n t z
+      inner r y c None = late r y c (b.removal n.log y) refl
+      go : n.role ≡ Leader → (m : Option NodeId) → b.marks q ≡ m → By o la x g (if_markable b m n (enters b n (b.govern n.log n.view q)))
+      go r None c = made r (λ y p v f. absurd (cc))
+      go r (Some y) c = inner r y c (b.unmarkable n.log y)
 
   pub reached_reserve : (x : NodeId) (g : Story E) (n : Node E) → Tale o g → Good o g x n → By o la x g (reserve b x n)
   unfolding reserve
@@ -107,9 +118,12 @@ module _ {E Q G R A F : Type 0} {b : Book E Q G R A F} {s : Start E} (o : IsOpen
       go r (Err why) d = stay o la x g n t z
       go r (Ok e) d =
           let c = commit_at x g n z r in
-          let w = la.signed x n.used n.log n.view n.commit c.0 e z.sound (views_of x g n z) c.1 c.2 z.commits.recorded d in
-          let p = made_append o x g n e t z r w.0.view_is w.0.follows (λ q. w.2) in
-          (p.0, good_used o x g p.0 (appended n e) (n.used + 1) p.1)
+          let w = la.signed x n.used n.log n.view n.commit e z.sound (views_of x g n z) (record { signature = c.0; at = c.1; signs = c.2; least = z.commits.recorded; removals = λ y k p a h f. z.commits.marked r y k p a h f }) d in
+          let all : EachFollows b (n.log ++ e ∷ []) = sound_push b n.log e z.sound w.0.follows in
+          let p = made_append o la x g n e t z r w.0.view_is w.0.follows (λ q. w.2)
+                (λ y k q a f. ⊎_elim (λ (u : b.mark n.log y ≡ Some k). inl u)
+                  (λ (u : k ≡ length n.log + 1). absurd (let v = (la.marked n.log e y all (a ∙ ap Some u)).0 in cc)) (la.markings.comes n.log e y k all a)) in
+          (p.0, good_used o la x g p.0 (appended n e) (n.used + 1) p.1)
 
   pub reached_evidence : (x : NodeId) (g : Story E) (n : Node E) → Tale o g → Good o g x n → By o la x g (evidence b n)
   unfolding evidence
@@ -119,4 +133,4 @@ module _ {E Q G R A F : Type 0} {b : Book E Q G R A F} {s : Start E} (o : IsOpen
       go r (Err why) d = stay o la x g n t z
       go r (Ok e) d =
           let w = la.evident n.log n.view e z.sound (views_of x g n z) d in
-          made_append o x g n e t z r w.0.view_is w.0.follows (λ q. unsigned e w.1 q)
+          made_append o la x g n e t z r w.0.view_is w.0.follows (λ q. unsigned e w.1 q) (λ y k q a f. inl (w.2 y k a))

@@ -12,17 +12,18 @@ use Rattle.gl_rules.specs.Log.{entry_at, place_before, is_at_least, view_at, las
 use Rattle.gl_rules.specs.Configuration.{configuration_at, configurations_above, active_upto, active, in_some}
 use Rattle.gl_rules.specs.Steps.{cut_to, appended, leads, rise, has_votes, won_by, win, known_commit}
 use Rattle.gl_rules.specs.World.{Start}
-use Rattle.gl_rules.specs.Safety.{IsOpening, IsLawful, EachFollows, Makes, ViewsUpTo}
+use Rattle.gl_rules.specs.Safety.{IsOpening, IsLawful, EachFollows, Makes, MarksNone, MayRecord, ViewsUpTo}
 use Rattle.gl_safety.proofs.Ids.{id_tests, same_is, same_self, same_tells, cases_same, put2, put_all, put2_cases, put2_at, by_test, share}
-use Rattle.gl_safety.proofs.Lists.{Same, same_take, there, within, past, get_take, take_get, drop_get, get_left, get_append, get_push, push_get, take_whole, append_none, push_append, take_nothing}
+use Rattle.gl_safety.proofs.Lists.{Same, same_take, there, within, past, get_take, take_get, drop_get, get_left, get_append, get_push, push_get, take_whole, append_none, push_append, take_nothing, take_one_more, take_past}
 use Rattle.gl_safety.proofs.Story.{Story, Grows, at_view, early_by, told_ballot, told_stand, told_led, told_win, told_held, grows_same, grows_then, grows_ballot, grows_stand, grows_held, grows_win, grows_led}
 use Rattle.gl_safety.proofs.Configurations.{IsNewest, Backed, backed_by, backs, newest_same, newest_exists}
 use Rattle.gl_safety.proofs.Facts.{Holds, Covers, Matches, Bound, Rising, Mark, Lost, Segment, Voted, Ballots, agree, is_led, led_is, matches_part, matches_grow, mark_grow, mark_back, lost_grow, lost_more, holds_grow, holds_back, segment_grow, ballots_of}
 use Rattle.gl_safety.proofs.Certificates.{SureOver, CertOver, Cert, Sure, Sured, Settled, Below, Won, Tale, sure_grow, sured_grow, cert_grow}
 use Rattle.gl_safety.proofs.Complete.{Winner, Before, Whole, chief_of_led, one_voter, winner_of, completes, complete, descend, has_all, newest_in, settled}
-use Rattle.gl_safety.proofs.Signatures.{last_le, last_above, last_signs, last_take, signed_keeps, view_at_is, last_view_is, last_zero, covers_last, covers_more, recorded_le, recorded_bound, recorded_some, recorded_part}
+use Rattle.gl_safety.proofs.Signatures.{last_le, last_above, last_signs, last_take, signed_keeps, view_at_is, last_view_is, last_zero, covers_last, covers_more, recorded_le, recorded_bound, recorded_some, recorded_part, signed_ends, last_more}
 use Rattle.gl_safety.proofs.Invariants.{Voter, Logged, Kept, Barred, Commits, Good, BodySent, AllSent, Made, Reached, rising_of, begins_of, signature_above, sure_within, settled_of, sure_to, known_in, recorded_sure, won_grow, sured_more, shuts_grow, commits_more, good_of, sent_grow, all_grow, all_append, sent_at, made_same, made_then}
 use Rattle.gl_safety.proofs.Soundness.{sound_cut, sound_push}
+use Rattle.gl_safety.proofs.Places.{MarksKnown, place_within, place_cut, place_more, place_same, mark_entry, marks_known}
 use Rattle.gl_rules.specs.Outcome.{Outcome, Step, Done, Committed, quiet, refuse, idle, NotPeer, BelowBase, BelowCommit, ByLedger}
 use Rattle.gl_rules.specs.Steps.{led_by, if_leader}
 use Rattle.gl_rules.specs.Replication.{entries_limit, frames_limit, fitting, batch, next_of, is_peer, append_from, sends, replicate, append_reply, held_of, judged, applied, last_at_most, commit_after, takes, extended, merges, follows_on, follower_of, append_as, on_append, acknowledged, sent_back, answered, append_reply_as, on_append_reply, may_commit, greatest_to_commit, commits, advance, restart, snapshot_of, installed, installs, install}
@@ -172,9 +173,9 @@ module _ {E Q G R A F : Type 0} {b : Book E Q G R A F} {s : Start E} (o : IsOpen
     where
       inner : view ≡ n.view → (m : Bool) → BodySent o g y x view (AppendReply m place) → By o la x g (answered b m y place n)
       inner d true a = by_test (By o la x g) (nat_le place (length n.log)) (quiet (acknowledged b y place n) Done) (idle n)
-          (λ e. stay o la x g (acknowledged b y place n) t (good_acknowledged o x y place g n z (subst (λ (v : ℕ). place ≤ g.held y v) d a)))
+          (λ e. stay o la x g (acknowledged b y place n) t (good_acknowledged o la x y place g n z (subst (λ (v : ℕ). place ≤ g.held y v) d a)))
           (λ e. stay o la x g n t z)
-      inner d false a = stay o la x g (sent_back b y place n) t (good_sent_back o x y place g n z)
+      inner d false a = stay o la x g (sent_back b y place n) t (good_sent_back o la x y place g n z)
       go : (r : Role) → By o la x g (append_reply_as b r y view ok place n)
       go Leader = by_test (By o la x g) (view == n.view) (answered b ok y place n) (idle n) (λ d. inner (grind (arith, nat_tests)) ok said) (λ d. stay o la x g n t z)
       go Candidate = stay o la x g n t z
@@ -199,7 +200,7 @@ module _ {E Q G R A F : Type 0} {b : Book E Q G R A F} {s : Start E} (o : IsOpen
       go r None d = stay o la x g n t z
       go r (Some p) d =
           let w = greatest_is x n (length n.log) p d in
-          stay o la x g (record n { commit = p }) t (subst (λ (k : ℕ). Good o g x (record n { commit = k })) (sym w.1) (good_commit o x g n w.0 z r w.2))
+          stay o la x g (record n { commit = p }) t (subst (λ (k : ℕ). Good o g x (record n { commit = k })) (sym w.1) (good_commit o la x g n w.0 z r w.2))
 
   pub reached_restart : (x : NodeId) (g : Story E) (n : Node E) → Tale o g → Good o g x n → By o la x g (restart b n)
   unfolding restart

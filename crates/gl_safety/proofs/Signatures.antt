@@ -1,5 +1,5 @@
 -- The last signature of a log, and the greatest commit that its signatures record.
-use Rattle.std.proofs.Common.{◌≡◌, ◌≢◌, ◌⊎◌, inl, inr, ⊎_elim, ℕ, zero, suc, ◌+◌, ◌-◌, ◌≤◌, ◌<◌, max, List, [], ◌∷◌, ◌++◌, length, take, Bool, true, false, ◌==◌, ◌&&◌, ◌||◌, nat_lt, nat_le, Option, Some, None, slice_get, refl, sym, ap, ◌∙◌, arith, if◌then◌else◌}
+use Rattle.std.proofs.Common.{◌≡◌, ◌≢◌, ◌⊎◌, inl, inr, ⊎_elim, ℕ, zero, suc, ◌+◌, ◌-◌, ◌≤◌, ◌<◌, max, List, [], ◌∷◌, ◌++◌, length, take, Bool, true, false, ◌==◌, ◌&&◌, ◌||◌, nat_lt, nat_le, Option, Some, None, slice_get, refl, sym, ap, ◌∙◌, length-take, arith, if◌then◌else◌}
 use Rattle.std.proofs.lemmas.Bool.{cases_eq, cases_lt}
 use Rattle.std.proofs.lemmas.Bool.Decides.{nat_tests}
 use Rattle.gl_rules.specs.Book.{Book}
@@ -121,3 +121,21 @@ module _ {E Q G R A F : Type 0} (b : Book E Q G R A F) where
 
   pub recorded_part : (l m : List E) → ((i : ℕ) (e : E) → slice_get m i ≡ Some e → slice_get l i ≡ Some e) → greatest_recorded b m ≤ greatest_recorded b l
   recorded_part l m a = recorded_bound m (greatest_recorded b l) (λ i e f z. recorded_le l i e (a i e f) z)
+
+  -- a log that is cut to its last signature ends with it
+  pub signed_ends : (l : List E) → length (take (last_signature b l) l) ≤ last_signature b (take (last_signature b l) l)
+  signed_ends l = go (last_signature b l) refl
+    where
+      go : (k : ℕ) → last_signature b l ≡ k → length (take (last_signature b l) l) ≤ last_signature b (take (last_signature b l) l)
+      go zero d = omega (arith, length-take (last_signature b l) l)
+      go (suc k) d =
+          let y = last_signs l k d in
+          omega (arith, length-take (last_signature b l) l, last_above (take (last_signature b l) l) k y.0 (signed_keeps l k y.0 y.1 y.2) y.2)
+
+  -- a longer log has no earlier last signature
+  pub last_more : (l r : List E) → ((i : ℕ) (e : E) → slice_get l i ≡ Some e → slice_get r i ≡ Some e) → last_signature b l ≤ last_signature b r
+  last_more l r a = go (last_signature b l) refl
+    where
+      go : (k : ℕ) → last_signature b l ≡ k → last_signature b l ≤ last_signature b r
+      go zero d = omega arith
+      go (suc k) d = let y = last_signs l k d in omega (arith, last_above r k y.0 (a k y.0 y.1) y.2)

@@ -12,17 +12,18 @@ use Rattle.gl_rules.specs.Log.{entry_at, place_before, is_at_least, view_at, las
 use Rattle.gl_rules.specs.Configuration.{configuration_at, configurations_above, active_upto, active, in_some}
 use Rattle.gl_rules.specs.Steps.{cut_to, appended, leads, rise, has_votes, won_by, win, known_commit}
 use Rattle.gl_rules.specs.World.{Start}
-use Rattle.gl_rules.specs.Safety.{IsOpening, IsLawful, EachFollows, Makes, ViewsUpTo}
+use Rattle.gl_rules.specs.Safety.{IsOpening, IsLawful, EachFollows, Makes, MarksNone, MayRecord, ViewsUpTo}
 use Rattle.gl_safety.proofs.Ids.{id_tests, same_is, same_self, same_tells, cases_same, put2, put_all, put2_cases, put2_at, by_test, share}
-use Rattle.gl_safety.proofs.Lists.{Same, same_take, there, within, past, get_take, take_get, drop_get, get_left, get_append, get_push, push_get, take_whole, append_none, push_append, take_nothing}
+use Rattle.gl_safety.proofs.Lists.{Same, same_take, there, within, past, get_take, take_get, drop_get, get_left, get_append, get_push, push_get, take_whole, append_none, push_append, take_nothing, take_one_more, take_past}
 use Rattle.gl_safety.proofs.Story.{Story, Grows, at_view, early_by, told_ballot, told_stand, told_led, told_win, told_held, grows_same, grows_then, grows_ballot, grows_stand, grows_held, grows_win, grows_led}
 use Rattle.gl_safety.proofs.Configurations.{IsNewest, Backed, backed_by, backs, newest_same, newest_exists}
 use Rattle.gl_safety.proofs.Facts.{Holds, Covers, Matches, Bound, Rising, Mark, Lost, Segment, Voted, Ballots, agree, is_led, led_is, matches_part, matches_grow, mark_grow, mark_back, lost_grow, lost_more, holds_grow, holds_back, segment_grow, ballots_of}
 use Rattle.gl_safety.proofs.Certificates.{SureOver, CertOver, Cert, Sure, Sured, Settled, Below, Won, Tale, sure_grow, sured_grow, cert_grow}
 use Rattle.gl_safety.proofs.Complete.{Winner, Before, Whole, chief_of_led, one_voter, winner_of, completes, complete, descend, has_all, newest_in, settled}
-use Rattle.gl_safety.proofs.Signatures.{last_le, last_above, last_signs, last_take, signed_keeps, view_at_is, last_view_is, last_zero, covers_last, covers_more, recorded_le, recorded_bound, recorded_some, recorded_part}
+use Rattle.gl_safety.proofs.Signatures.{last_le, last_above, last_signs, last_take, signed_keeps, view_at_is, last_view_is, last_zero, covers_last, covers_more, recorded_le, recorded_bound, recorded_some, recorded_part, signed_ends, last_more}
 use Rattle.gl_safety.proofs.Invariants.{Voter, Logged, Kept, Barred, Commits, Good, BodySent, AllSent, Made, Reached, rising_of, begins_of, signature_above, sure_within, settled_of, sure_to, known_in, recorded_sure, won_grow, sured_more, shuts_grow, commits_more, good_of, sent_grow, all_grow, all_append, sent_at, made_same, made_then}
 use Rattle.gl_safety.proofs.Soundness.{sound_cut, sound_push}
+use Rattle.gl_safety.proofs.Places.{MarksKnown, place_within, place_cut, place_more, place_same, mark_entry, marks_known}
 use Rattle.gl_rules.specs.Elections.{may_stand, candidate}
 
 module _ {E Q G R A F : Type 0} {b : Book E Q G R A F} {s : Start E} (o : IsOpening b (EachFollows b) s) (la : IsLawful b (EachFollows b)) where
@@ -47,6 +48,7 @@ module _ {E Q G R A F : Type 0} {b : Book E Q G R A F} {s : Start E} (o : IsOpen
       bid_is = λ r. absurd (cc);
       unbid = λ u a. z.kept.unbid u (omega arith);
       fresh = λ r i e a. absurd (cc);
+      ends = λ r. absurd (cc);
       future = λ u a. z.kept.future u (omega arith);
       keeps = λ u i e a m. ⊎_elim
         (λ (q : slice_get n.log i ≡ Some e). inl (signed_keeps b n.log i e q m.signs))
@@ -62,6 +64,7 @@ module _ {E Q G R A F : Type 0} {b : Book E Q G R A F} {s : Start E} (o : IsOpen
       young = λ r. absurd (cc);
       opened = λ r. absurd (⊎_elim (λ (q : Follower ≡ Candidate). cc) (λ (q : Follower ≡ Leader). cc) r);
       matches = λ r y. absurd (cc);
+      marked = λ r. absurd (cc);
     };
     sound = sound_cut b n.log (last_signature b n.log) z.sound;
   }
@@ -117,7 +120,7 @@ module _ {E Q G R A F : Type 0} {b : Book E Q G R A F} {s : Start E} (o : IsOpen
         (λ (q : put2 g.shut x v gone c w ≡ g.shut c w). let r = t.stood c w y (ap (λ f. f y) (sym q) ∙ a) in (r.0, k.bid c w r.0 r.1))
         (put2_cases g.shut x v gone c w);
       ballots = λ y. ⊎_elim (λ (q : y ≡ x). subst (Ballots b h) (sym q) own) (λ (q : y ≢ x). ballots_of b k y q (t.ballots y)) (cases_same y x);
-      follows = t.follows;
+      follows = t.follows; marks = t.marks;
     })
     where
       h : Story E
@@ -221,6 +224,7 @@ module _ {E Q G R A F : Type 0} {b : Book E Q G R A F} {s : Start E} (o : IsOpen
           bid_is = λ r. put2_at g.bid x (n.view + 1) (Some (last b (signed_part b n.log)));
           unbid = λ u a. let q = z.kept.unbid u (omega arith) in grind (arith, id_tests);
           fresh = λ r. fresh;
+          ends = λ r. signed_ends b n.log;
           future = risen.kept.future;
           keeps = risen.kept.keeps;
         };
@@ -234,6 +238,7 @@ module _ {E Q G R A F : Type 0} {b : Book E Q G R A F} {s : Start E} (o : IsOpen
             young;
           opened = λ r. open_.1;
           matches = λ r. absurd (cc);
+          marked = λ r. absurd (cc);
         };
         sound = risen.sound;
       }

@@ -4,7 +4,7 @@
 ghost use Rattle.std.specs.Prelude.{List};
 ghost use Rattle.gl_rules.specs.Book.{Book};
 ghost use Rattle.gl_rules.specs.World.{Event, Start};
-ghost use Rattle.gl_rules.specs.Safety.{EachFollows, IsLawful, IsOpening, IsSafe, LeadsByVote, NeverConflicts};
+ghost use Rattle.gl_rules.specs.Safety.{EachFollows, IsLawful, IsOpening, IsRetiring, IsSafe, LeadsByVote, NeverConflicts, RetiresSafely};
 
 /// The rules of consensus are safe, whatever happens in whatever order: timeouts, lost, repeated and late messages,
 /// several configurations that are not yet committed, restarts and snapshots among it.
@@ -20,6 +20,10 @@ pub fn is_safe<E, Q, G, R, A, F>()
     ensures refusals {
         (book : Book E Q G R A F) (s : Start E) → IsLawful book (EachFollows book) → IsOpening book (EachFollows book) s → (events : List (Event Q G R)) →
             NeverConflicts book s events
+    }
+    ensures retirement {
+        (book : Book E Q G R A F) (s : Start E) → IsLawful book (EachFollows book) → IsRetiring book (EachFollows book) → IsOpening book (EachFollows book) s → (events : List (Event Q G R)) →
+            RetiresSafely book s events
     }
 {
 }

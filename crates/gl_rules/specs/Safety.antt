@@ -1,7 +1,7 @@
 -- What is promised of every run: of any two committed ledgers, at any nodes and moments, one is a prefix of the other;
 -- what is reported Committed is never reported Invalid; and each committed ledger is one that the service's layer of the
 -- ledger stands for. A moment is a prefix of the list of events.
-use Rattle.std.specs.Prelude.{◌≡◌, ℕ, suc, ◌+◌, ◌≤◌, ◌<◌, List, [], ◌∷◌, ◌++◌, true, false, Option, None, Some, Result, Ok, length, take, slice_get, ◌⊎◌}
+use Rattle.std.specs.Prelude.{◌≡◌, ℕ, suc, ◌+◌, ◌≤◌, ◌<◌, List, [], ◌∷◌, ◌++◌, true, false, Option, None, Some, Ok, length, take, slice_get, ◌⊎◌}
 use Rattle.gl_base.specs.declared.tx_id.TxId.{TxId}
 use Rattle.gl_base.specs.declared.status_kind.Status.{Status}
 use Rattle.gl_base.specs.declared.status_kind.Status.TheVariants.{Committed, Invalid}

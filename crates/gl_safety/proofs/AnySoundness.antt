@@ -1,11 +1,11 @@
 -- The headline for whatever the layer of the ledger says of a ledger, where it is kept by an entry that may follow.
-use Rattle.std.proofs.Common.{◌≡◌, ⊎_elim, ℕ, zero, suc, ◌+◌, ◌≤◌, ◌<◌, List, [], ◌∷◌, ◌++◌, length, take, Option, Some, None, slice_get, refl, sym, ap, ◌∙◌, subst, arith}
+use Rattle.std.proofs.Common.{◌≡◌, ⊎_elim, ℕ, zero, suc, ◌≤◌, ◌<◌, List, [], ◌∷◌, ◌++◌, length, take, Option, refl, ap, subst, arith}
 use Rattle.std.proofs.lemmas.Bool.{cases_lt}
 use Rattle.gl_rules.specs.Book.{Book}
 use Rattle.gl_rules.specs.World.{Start, Event}
 use Rattle.gl_rules.specs.Safety.{IsLawful, IsOpening, IsSafe, EachFollows, Makes, KeepsPlaces}
 use Rattle.gl_rules.specs.Identity.{NodeId}
-use Rattle.gl_safety.proofs.Lists.{there, within, take_whole, same_take, take_one_more}
+use Rattle.gl_safety.proofs.Lists.{there, take_whole, take_one_more}
 use Rattle.gl_safety.proofs.Soundness.{sound_cut, sound_push}
 use Rattle.gl_safety.proofs.Headline.{safe}
 
@@ -53,8 +53,22 @@ module _ {E Q G R A F : Type 0} {b : Book E Q G R A F} {Sound : List E → Type 
 
   opening : IsOpening b (EachFollows b) s
   opening = record {
-    sound = o.follow; views = o.views; follow = o.follow; before = o.before; long = o.long; signature = o.signature; last = o.last; signs = o.signs; records = o.records; alone = o.alone;
-    place = o.place; counted = o.counted; within = o.within; members = o.members; configured = o.configured; first_starts = o.first_starts;
+    sound = o.follow;
+    views = o.views;
+    follow = o.follow;
+    before = o.before;
+    long = o.long;
+    signature = o.signature;
+    last = o.last;
+    signs = o.signs;
+    records = o.records;
+    alone = o.alone;
+    place = o.place;
+    counted = o.counted;
+    within = o.within;
+    members = o.members;
+    configured = o.configured;
+    first_starts = o.first_starts;
   }
 
   pub safe_sound : (es : List (Event Q G R)) → IsSafe b Sound s es

@@ -1,30 +1,20 @@
 -- The invariants hold at the start.
-use Rattle.std.proofs.Common.{◌≡◌, ◌≢◌, ◌⊎◌, inl, inr, ⊎_elim, ℕ, zero, suc, ◌+◌, ◌-◌, ◌≤◌, ◌<◌, ◌*◌, min, max, List, [], ◌∷◌, ◌++◌, length, take, drop, Bool, true, false, ◌&&◌, ◌||◌, not, ◌==◌, nat_lt, nat_le, if◌then◌else◌, Option, Some, None, Result, Ok, Err, unwrap_or, slice_get, refl, sym, ap, ◌∙◌, subst, true≢false, length-take, length-append, length-drop, arith}
-use Rattle.std.specs.Option.{option_to_list}
-use Rattle.std.proofs.lemmas.Bool.{cases_eq, cases_lt}
+use Rattle.std.proofs.Common.{◌≡◌, ◌≢◌, inl, inr, ⊎_elim, ℕ, suc, ◌+◌, ◌<◌, List, [], length, take, Bool, true, false, ◌==◌, if◌then◌else◌, Some, None, slice_get, refl, sym, ap, ◌∙◌, subst, true≢false, arith}
 use Rattle.std.proofs.lemmas.Bool.Decides.{nat_tests}
-use Rattle.gl_rules.specs.Identity.{NodeId, same, member, put, added}
-use Rattle.gl_rules.specs.Majority.{tally, majority, quorum}
+use Rattle.gl_rules.specs.Identity.{NodeId, same, member}
 use Rattle.gl_rules.specs.Book.{Book}
-use Rattle.gl_rules.specs.Node.{Node, Role, Follower, Candidate, Leader}
-use Rattle.gl_rules.specs.Message.{Last, Message, Body, RequestVote, VoteReply, Append, AppendReply, ProposeVote}
-use Rattle.gl_rules.specs.Log.{entry_at, place_before, is_at_least, view_at, last_signature, last, signed_part, greatest_recorded}
-use Rattle.gl_rules.specs.Configuration.{configuration_at, configurations_above, active_upto, active, in_some}
-use Rattle.gl_rules.specs.Steps.{cut_to, appended, leads, rise, has_votes, won_by, win, known_commit}
-use Rattle.gl_rules.specs.World.{Start}
-use Rattle.gl_rules.specs.Safety.{IsOpening, IsLawful, EachFollows, Makes, MarksNone, MayRecord, ViewsUpTo}
-use Rattle.gl_safety.proofs.Ids.{id_tests, same_is, same_self, same_tells, cases_same, put2, put_all, put2_cases, put2_at, by_test, share}
-use Rattle.gl_safety.proofs.Lists.{Same, same_take, there, within, past, get_take, take_get, drop_get, get_left, get_append, get_push, push_get, take_whole, append_none, push_append, take_nothing, take_one_more, take_past}
-use Rattle.gl_safety.proofs.Story.{Story, Grows, at_view, early_by, told_ballot, told_stand, told_led, told_win, told_held, grows_same, grows_then, grows_ballot, grows_stand, grows_held, grows_win, grows_led}
-use Rattle.gl_safety.proofs.Configurations.{IsNewest, Backed, backed_by, backs, newest_same, newest_exists}
-use Rattle.gl_safety.proofs.Facts.{Holds, Covers, Matches, Bound, Rising, Mark, Lost, Segment, Voted, Ballots, agree, is_led, led_is, matches_part, matches_grow, mark_grow, mark_back, lost_grow, lost_more, holds_grow, holds_back, segment_grow, ballots_of}
-use Rattle.gl_safety.proofs.Certificates.{SureOver, CertOver, Cert, Sure, Sured, Settled, Below, Won, Tale, sure_grow, sured_grow, cert_grow}
-use Rattle.gl_safety.proofs.Complete.{Winner, Before, Whole, chief_of_led, one_voter, winner_of, completes, complete, descend, has_all, newest_in, settled}
-use Rattle.gl_safety.proofs.Signatures.{last_le, last_above, last_signs, last_take, signed_keeps, view_at_is, last_view_is, last_zero, covers_last, covers_more, recorded_le, recorded_bound, recorded_some, recorded_part, signed_ends, last_more}
-use Rattle.gl_safety.proofs.Invariants.{Voter, Logged, Kept, Barred, Commits, Good, BodySent, AllSent, Made, Reached, rising_of, begins_of, signature_above, sure_within, settled_of, sure_to, known_in, recorded_sure, won_grow, sured_more, shuts_grow, commits_more, good_of, sent_grow, all_grow, all_append, sent_at, made_same, made_then}
-use Rattle.gl_safety.proofs.Soundness.{sound_cut, sound_push}
-use Rattle.gl_safety.proofs.Places.{MarksKnown, place_within, place_cut, place_more, place_same, mark_entry, marks_known}
-use Rattle.gl_rules.specs.World.{World, begin, joiner, starter, leader_at_start, node_at_start}
+use Rattle.gl_rules.specs.Node.{Role, Follower, Candidate, Leader}
+use Rattle.gl_rules.specs.World.{Start, begin, joiner, starter, leader_at_start, node_at_start}
+use Rattle.gl_rules.specs.Safety.{IsOpening, IsLawful, EachFollows}
+use Rattle.gl_safety.proofs.Ids.{same_is, same_self, by_test}
+use Rattle.gl_safety.proofs.Lists.{within}
+use Rattle.gl_safety.proofs.Story.{Story}
+use Rattle.gl_safety.proofs.Facts.{Matches, Bound, Rising}
+use Rattle.gl_safety.proofs.Certificates.{Sured, Tale}
+use Rattle.gl_safety.proofs.Signatures.{last_above, recorded_bound}
+use Rattle.gl_safety.proofs.Invariants.{Good}
+use Rattle.gl_safety.proofs.Soundness.{sound_cut}
+use Rattle.gl_safety.proofs.Places.{MarksKnown, place_within}
 use Rattle.gl_safety.proofs.Runs.{Holding, first_story}
 
 module _ {E Q G R A F : Type 0} {b : Book E Q G R A F} {s : Start E} (o : IsOpening b (EachFollows b) s) (la : IsLawful b (EachFollows b)) where
@@ -58,10 +48,24 @@ module _ {E Q G R A F : Type 0} {b : Book E Q G R A F} {s : Start E} (o : IsOpen
 
   module _ (h : Story E) (led_is : h.led ≡ (λ v. if v == 2 then s.opening else [])) where
     opening_sure : Sured o h s.opening (length s.opening) 2
-    opening_sure = (0, inr (record {
-        i = o.before; place = o.long; entry = o.signature; at = o.last; signs = o.signs; v = 2; j = o.before; last = o.signature;
+    opening_sure = (
+      0,
+      inr (record {
+        i = o.before;
+        place = o.long;
+        entry = o.signature;
+        at = o.last;
+        signs = o.signs;
+        v = 2;
+        j = o.before;
+        last = o.signature;
         mark = record { at = ap (λ f. slice_get (f 2) o.before) led_is ∙ o.last; view = o.views o.before o.signature o.last; signs = o.signs };
-        cert = (refl, sym o.long); le = omega arith; top = omega arith; leads = ap (λ f. slice_get (f 2) o.before) led_is ∙ o.last }))
+        cert = (refl, sym o.long);
+        le = omega arith;
+        top = omega arith;
+        leads = ap (λ f. slice_get (f 2) o.before) led_is ∙ o.last;
+      }),
+    )
 
   opening_marks : MarksKnown b s.opening
   opening_marks = record { known = λ y m q a d i e c z h. omega (arith, place_within b b.removal la.removals s.opening y q o.sound d, signature_is i e c z, o.alone i e c z, o.long) }
@@ -78,12 +82,13 @@ module _ {E Q G R A F : Type 0} {b : Book E Q G R A F} {s : Start E} (o : IsOpen
     low = λ v c d. let q : v ≡ 2 = grind (arith, nat_tests) in omega arith;
     won = λ u c d a. absurd (let q : u ≡ 2 = grind (arith, nat_tests) in omega arith);
     known = λ v i e a d.
-      let q = in_led v i e a in
-      let r = signature_is i e q.1 d in
-      let here : i ≡ o.before = o.alone i e q.1 d in
-      (omega arith,
-        subst (λ (w : ℕ). Sured o (first_story o la) (if w == 2 then s.opening else []) (b.recorded_commit e) w) (sym q.0)
-          (subst (λ (c : ℕ). Sured o (first_story o la) s.opening c 2) (o.long ∙ ap suc (sym here) ∙ sym r) (opening_sure (first_story o la) refl)));
+        let q = in_led v i e a in
+        let r = signature_is i e q.1 d in
+        let here : i ≡ o.before = o.alone i e q.1 d in (
+          omega arith,
+          subst (λ (w : ℕ). Sured o (first_story o la) (if w == 2 then s.opening else []) (b.recorded_commit e) w) (sym q.0)
+              (subst (λ (c : ℕ). Sured o (first_story o la) s.opening c 2) (o.long ∙ ap suc (sym here) ∙ sym r) (opening_sure (first_story o la) refl)),
+        );
     bids = λ c w l a. absurd (cc);
     shuts = λ c w y a. absurd (cc);
     stood = λ c w y a. absurd (cc);

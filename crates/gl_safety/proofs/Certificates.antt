@@ -1,17 +1,16 @@
 -- Certificates: a majority in each active configuration acknowledged a signature of its leader's view. The leader took the active
 -- configurations by its commit, which rests on an earlier certificate. So certificates are counted by their depth.
-use Rattle.std.proofs.Common.{◌≡◌, ◌≢◌, ◌⊎◌, inl, inr, ⊎_elim, ℕ, zero, suc, ◌+◌, ◌-◌, ◌≤◌, ◌<◌, List, [], ◌∷◌, ◌++◌, length, take, Bool, true, false, Option, Some, None, slice_get, refl, sym, ap, ◌∙◌, subst, arith}
+use Rattle.std.proofs.Common.{◌≡◌, ◌⊎◌, inl, inr, ⊎_elim, ℕ, zero, suc, ◌≤◌, ◌<◌, List, [], length, take, Bool, true, Some, None, slice_get, ap, ◌∙◌, arith}
 use Rattle.gl_rules.specs.Identity.{NodeId}
-use Rattle.gl_rules.specs.Majority.{majority}
 use Rattle.gl_rules.specs.Book.{Book}
 use Rattle.gl_rules.specs.Message.{Last}
 use Rattle.gl_rules.specs.World.{Start}
 use Rattle.gl_rules.specs.Safety.{IsOpening, EachFollows}
 use Rattle.gl_safety.proofs.Lists.{Same, same_take, there, within}
 use Rattle.gl_safety.proofs.Story.{Story, Grows}
-use Rattle.gl_safety.proofs.Configurations.{IsNewest, Backed, newest_same}
+use Rattle.gl_safety.proofs.Configurations.{Backed}
 use Rattle.gl_safety.proofs.Places.{MarksKnown}
-use Rattle.gl_safety.proofs.Facts.{Holds, Covers, Matches, Bound, Rising, Mark, Lost, Voted, Ballots, mark_grow, holds_grow}
+use Rattle.gl_safety.proofs.Facts.{Holds, Matches, Bound, Rising, Mark, Ballots, mark_grow, holds_grow}
 
 module _ {E Q G R A F : Type 0} {b : Book E Q G R A F} {s : Start E} (o : IsOpening b (EachFollows b) s) where
   -- the entry at place c of l is a signature, at or below a certified one of a view that is at most t
@@ -116,15 +115,29 @@ module _ {E Q G R A F : Type 0} {b : Book E Q G R A F} {s : Start E} (o : IsOpen
     over_grow C D f l r a c t z = ⊎_elim
         (λ (q : c ≡ 0). inl q)
         (λ (q : SureOver C g l c t). inr (record {
-          i = q.i; place = q.place; entry = q.entry; at = a q.i q.entry q.at; signs = q.signs; v = q.v; j = q.j; last = q.last;
-          mark = mark_grow b k q.v q.j q.last q.mark; cert = f q.v q.j q.cert; le = q.le; top = q.top; leads = k.led q.v q.i q.entry q.leads;
+          i = q.i;
+          place = q.place;
+          entry = q.entry;
+          at = a q.i q.entry q.at;
+          signs = q.signs;
+          v = q.v;
+          j = q.j;
+          last = q.last;
+          mark = mark_grow b k q.v q.j q.last q.mark;
+          cert = f q.v q.j q.cert;
+          le = q.le;
+          top = q.top;
+          leads = k.led q.v q.i q.entry q.leads;
         }))
         z
 
     pub cert_grow : (n v i : ℕ) → Cert n g v i → Cert n h v i
     cert_grow zero v i c = c
     cert_grow (suc n) v i c = record {
-      votes = c.votes; commit = c.commit; less = c.less; opened = c.opened;
+      votes = c.votes;
+      commit = c.commit;
+      less = c.less;
+      opened = c.opened;
       within = longer v i c.within;
       backed = backed_same c.votes (g.led v) (h.led v) c.commit (suc i) c.within (omega (arith, c.less)) (λ j e d a. k.led v j e a) c.backed;
       holds = λ y z. holds_grow b k y v i (c.holds y z);

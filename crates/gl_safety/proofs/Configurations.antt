@@ -1,5 +1,5 @@
 -- Active configurations as the proof reads them: the newest one at or below commit, and those above.
-use Rattle.std.proofs.Common.{◌≡◌, ◌≢◌, ◌⊎◌, inl, inr, ⊎_elim, ℕ, zero, suc, ◌+◌, ◌-◌, ◌≤◌, ◌<◌, List, [], ◌∷◌, ◌++◌, length, take, Bool, true, false, ◌&&◌, nat_lt, Option, Some, None, slice_get, refl, sym, ap, ◌∙◌, arith, if◌then◌else◌}
+use Rattle.std.proofs.Common.{◌≡◌, ◌≢◌, ⊎_elim, ℕ, zero, suc, ◌+◌, ◌≤◌, ◌<◌, List, [], ◌∷◌, ◌++◌, length, take, Bool, true, false, ◌&&◌, nat_lt, Option, Some, None, refl, sym, ap, ◌∙◌, arith, if◌then◌else◌}
 use Rattle.std.specs.Option.{option_to_list}
 use Rattle.std.proofs.lemmas.Bool.{cases_eq, cases_lt}
 use Rattle.std.proofs.lemmas.Bool.Decides.{nat_tests}
@@ -36,9 +36,9 @@ module _ {E Q G R A F : Type 0} (b : Book E Q G R A F) where
   found l (suc c) p m k = ⊎_elim
       (λ (z : p ≡ suc c). let t : b.configuration (take (suc c) l) ≡ Some m = ap (λ q. b.configuration (take q l)) (sym z) ∙ k.at in ap (λ o. or_else o (configuration_at b l c)) t)
       (λ (z : p ≢ suc c).
-        let t : b.configuration (take (suc c) l) ≡ None = k.none (suc c) (omega (arith, k.below)) (omega arith) in
-        ap (λ o. or_else o (configuration_at b l c)) t
-        ∙ found l c p m (record { counts = k.counts; below = omega (arith, k.below); at = k.at; none = λ q h i. k.none q h (omega arith) }))
+      let t : b.configuration (take (suc c) l) ≡ None = k.none (suc c) (omega (arith, k.below)) (omega arith) in
+      ap (λ o. or_else o (configuration_at b l c)) t
+      ∙ found l c p m (record { counts = k.counts; below = omega (arith, k.below); at = k.at; none = λ q h i. k.none q h (omega arith) }))
       (cases_eq p (suc c))
 
   among : (votes : NodeId → Bool) (l : List E) (c k q : ℕ) (m : List NodeId) → c < q → q ≤ k → b.configuration (take q l) ≡ Some m → quorum votes (configurations_above b l c k) ≡ true → majority votes m ≡ true
@@ -48,14 +48,15 @@ module _ {E Q G R A F : Type 0} (b : Book E Q G R A F) where
     where
       last : quorum votes (option_to_list (Some m)) ≡ true → majority votes m ≡ true
       last z = grind arith
+
       go : (t : Bool) → t ≡ true → quorum votes (if t then configurations_above b l c k ++ option_to_list (b.configuration (take (suc k) l)) else []) ≡ true →
           (q ≤ k → quorum votes (configurations_above b l c k) ≡ true → majority votes m ≡ true) → majority votes m ≡ true
       go true z w again =
           let parts = quorum_append votes (configurations_above b l c k) (option_to_list (b.configuration (take (suc k) l))) w in
           ⊎_elim
-            (λ (d : q ≡ suc k). last (ap (λ o. quorum votes (option_to_list o)) (sym e ∙ ap (λ r. b.configuration (take r l)) d) ∙ parts.1))
-            (λ (d : q ≢ suc k). again (omega arith) parts.0)
-            (cases_eq q (suc k))
+          (λ (d : q ≡ suc k). last (ap (λ o. quorum votes (option_to_list o)) (sym e ∙ ap (λ r. b.configuration (take r l)) d) ∙ parts.1))
+          (λ (d : q ≢ suc k). again (omega arith) parts.0)
+          (cases_eq q (suc k))
       go false z w again = absurd (cc)
 
   -- the rules' test says so
@@ -93,12 +94,16 @@ module _ {E Q G R A F : Type 0} (b : Book E Q G R A F) where
     where
       go : (o : Option (List NodeId)) → b.configuration (take (suc c) l) ≡ o → (p : ℕ) × (m : List NodeId) × IsNewest l (suc c) p m
       go (Some m) e = (suc c, m, record { counts = omega arith; below = omega arith; at = e; none = λ q i j. absurd (omega arith) })
-      go None e = (k.0, k.1, record {
-        counts = k.2.counts;
-        below = omega (arith, k.2.below);
-        at = k.2.at;
-        none = λ q i j. ⊎_elim (λ (z : q ≡ suc c). ap (λ r. b.configuration (take r l)) z ∙ e) (λ (z : q ≢ suc c). k.2.none q i (omega arith)) (cases_eq q (suc c));
-      })
+      go None e = (
+        k.0,
+        k.1,
+        record {
+          counts = k.2.counts;
+          below = omega (arith, k.2.below);
+          at = k.2.at;
+          none = λ q i j. ⊎_elim (λ (z : q ≡ suc c). ap (λ r. b.configuration (take r l)) z ∙ e) (λ (z : q ≢ suc c). k.2.none q i (omega arith)) (cases_eq q (suc c));
+        },
+      )
 
   pub newest_exists : (l : List E) (place more c : ℕ) (m : List NodeId) → 0 < place → b.configuration (take place l) ≡ Some m → c ≡ place + more → (p : ℕ) × (n : List NodeId) × IsNewest l c p n
   newest_exists l place zero c m h e z = (place, m, record { counts = h; below = omega arith; at = e; none = λ q i j. absurd (omega arith) })

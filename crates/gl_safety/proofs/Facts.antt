@@ -1,5 +1,5 @@
 -- What the story says of logs, signatures and votes, each fact about one log or one node; and that it stays.
-use Rattle.std.proofs.Common.{◌≡◌, ◌≢◌, ◌⊎◌, inl, inr, ⊎_elim, ℕ, zero, suc, ◌+◌, ◌-◌, ◌≤◌, ◌<◌, List, [], ◌∷◌, ◌++◌, length, Bool, true, false, Option, Some, None, slice_get, refl, sym, ap, ◌∙◌, subst, arith}
+use Rattle.std.proofs.Common.{◌≡◌, ◌≢◌, ◌⊎◌, inl, inr, ⊎_elim, ℕ, suc, ◌+◌, ◌≤◌, ◌<◌, List, true, Option, Some, None, slice_get, sym, ap, ◌∙◌, arith}
 use Rattle.gl_rules.specs.Identity.{NodeId}
 use Rattle.gl_rules.specs.Book.{Book}
 use Rattle.gl_rules.specs.Message.{Last}
@@ -86,7 +86,10 @@ module _ {E Q G R A F : Type 0} (b : Book E Q G R A F) where
 
     pub lost_grow : (v i t : ℕ) → Lost g.chief g.led v i t → Lost h.chief h.led v i t
     lost_grow v i t z = record {
-      view = z.view; above = z.above; below = z.below; by = z.by;
+      view = z.view;
+      above = z.above;
+      below = z.below;
+      by = z.by;
       won = k.chief z.view z.by z.won;
       lacks = λ f a d. ⊎_elim (λ (s : slice_get (g.led z.view) i ≡ Some f). z.lacks f s d) (λ (s : b.view_of f ≡ z.view). absurd (omega (arith, z.above, s, d))) (k.fresh z.view z.by i f z.won a);
     }
@@ -118,18 +121,18 @@ module _ {E Q G R A F : Type 0} (b : Book E Q G R A F) where
     pub ballots_of : (y : NodeId) → y ≢ x → Ballots g y → Ballots h y
     ballots_of y d z = record {
       votes = λ w c t a.
-        let r = z.votes w c t (sym (k.ballot_of y w d) ∙ a) in
-        record {
-          bid = r.bid;
-          at = k.bid c w r.bid r.at;
-          old = λ q v i e l s m. let s' : Holds g y v i = holds_back y v i d s in
-            covered_grow r.bid v i w (r.old (sym (k.early_of y w d) ∙ q) v i e l s' (mark_back y v i e d z s' m));
-          late = λ v i e l s m. let s' : Holds g y v i = holds_back y v i d s in
-            covered_grow r.bid v i (suc w) (r.late v i e l s' (mark_back y v i e d z s' m));
-        };
+          let r = z.votes w c t (sym (k.ballot_of y w d) ∙ a) in
+          record {
+            bid = r.bid;
+            at = k.bid c w r.bid r.at;
+            old = λ q v i e l s m. let s' : Holds g y v i = holds_back y v i d s in
+                covered_grow r.bid v i w (r.old (sym (k.early_of y w d) ∙ q) v i e l s' (mark_back y v i e d z s' m));
+            late = λ v i e l s m. let s' : Holds g y v i = holds_back y v i d s in
+                covered_grow r.bid v i (suc w) (r.late v i e l s' (mark_back y v i e d z s' m));
+          };
       barred = λ w c a v.
-        let v' : g.ballot y w ≡ Some c = sym (k.ballot_of y w d) ∙ v in
-        ⊎_elim (λ (s : g.shut c w y ≡ true). z.barred w c s v')
+          let v' : g.ballot y w ≡ Some c = sym (k.ballot_of y w d) ∙ v in
+          ⊎_elim (λ (s : g.shut c w y ≡ true). z.barred w c s v')
           (λ (s : (2 < w) × (g.bid c w ≡ None)). absurd (let r = (z.votes w c s.0 v').at in cc))
           (k.shut_new c w y a);
       within = λ v i a. let r = z.within v i (omega (arith, k.held_of y v d)) in (r.0, k.led v i r.0 r.1);

@@ -1,38 +1,34 @@
 -- What a follower does: it takes entries from the leader of its view, and starts again.
-use Rattle.std.proofs.Common.{◌≡◌, ◌≢◌, ◌⊎◌, inl, inr, ⊎_elim, ℕ, zero, suc, ◌+◌, ◌-◌, ◌≤◌, ◌<◌, ◌*◌, min, max, List, [], ◌∷◌, ◌++◌, length, take, drop, Bool, true, false, ◌&&◌, ◌||◌, not, ◌==◌, nat_lt, nat_le, if◌then◌else◌, Option, Some, None, Result, Ok, Err, unwrap_or, slice_get, refl, sym, ap, ◌∙◌, subst, true≢false, length-take, length-append, length-drop, arith}
-use Rattle.std.specs.Option.{option_to_list}
+use Rattle.std.proofs.Common.{◌≡◌, ◌≢◌, ◌⊎◌, inl, inr, ⊎_elim, ℕ, zero, suc, ◌≤◌, ◌<◌, min, max, List, [], take, true, Option, Some, None, slice_get, refl, sym, ap, ◌∙◌, subst, arith}
 use Rattle.std.proofs.lemmas.Bool.{cases_eq, cases_lt}
-use Rattle.std.proofs.lemmas.Bool.Decides.{nat_tests}
-use Rattle.gl_rules.specs.Identity.{NodeId, same, member, put, added}
-use Rattle.gl_rules.specs.Majority.{tally, majority, quorum}
+use Rattle.gl_rules.specs.Identity.{NodeId}
 use Rattle.gl_rules.specs.Book.{Book}
 use Rattle.gl_rules.specs.Node.{Node, Role, Follower, Candidate, Leader}
-use Rattle.gl_rules.specs.Message.{Last, Message, Body, RequestVote, VoteReply, Append, AppendReply, ProposeVote}
-use Rattle.gl_rules.specs.Log.{entry_at, place_before, is_at_least, view_at, last_signature, last, signed_part, greatest_recorded}
-use Rattle.gl_rules.specs.Configuration.{configuration_at, configurations_above, active_upto, active, in_some}
-use Rattle.gl_rules.specs.Steps.{cut_to, appended, leads, rise, has_votes, won_by, win, known_commit}
+use Rattle.gl_rules.specs.Log.{last_signature, greatest_recorded}
+use Rattle.gl_rules.specs.Steps.{known_commit}
 use Rattle.gl_rules.specs.World.{Start}
-use Rattle.gl_rules.specs.Safety.{IsOpening, IsLawful, EachFollows, Makes, MarksNone, MayRecord, ViewsUpTo}
-use Rattle.gl_safety.proofs.Ids.{id_tests, same_is, same_self, same_tells, cases_same, put2, put_all, put2_cases, put2_at, by_test, share}
-use Rattle.gl_safety.proofs.Lists.{Same, same_take, there, within, past, get_take, take_get, drop_get, get_left, get_append, get_push, push_get, take_whole, append_none, push_append, take_nothing, take_one_more, take_past}
-use Rattle.gl_safety.proofs.Story.{Story, Grows, at_view, early_by, told_ballot, told_stand, told_led, told_win, told_held, grows_same, grows_then, grows_ballot, grows_stand, grows_held, grows_win, grows_led}
-use Rattle.gl_safety.proofs.Configurations.{IsNewest, Backed, backed_by, backs, newest_same, newest_exists}
-use Rattle.gl_safety.proofs.Facts.{Holds, Covers, Matches, Bound, Rising, Mark, Lost, Segment, Voted, Ballots, agree, is_led, led_is, matches_part, matches_grow, mark_grow, mark_back, lost_grow, lost_more, holds_grow, holds_back, segment_grow, ballots_of}
-use Rattle.gl_safety.proofs.Certificates.{SureOver, CertOver, Cert, Sure, Sured, Settled, Below, Won, Tale, sure_grow, sured_grow, cert_grow}
-use Rattle.gl_safety.proofs.Complete.{Winner, Before, Whole, chief_of_led, one_voter, winner_of, completes, complete, descend, has_all, newest_in, settled}
-use Rattle.gl_safety.proofs.Signatures.{last_le, last_above, last_signs, last_take, signed_keeps, view_at_is, last_view_is, last_zero, covers_last, covers_more, recorded_le, recorded_bound, recorded_some, recorded_part, signed_ends, last_more}
-use Rattle.gl_safety.proofs.Invariants.{Voter, Logged, Kept, Barred, Commits, Good, BodySent, AllSent, Made, Reached, rising_of, begins_of, signature_above, sure_within, settled_of, sure_to, known_in, recorded_sure, won_grow, sured_more, shuts_grow, commits_more, good_of, sent_grow, all_grow, all_append, sent_at, made_same, made_then}
-use Rattle.gl_safety.proofs.Soundness.{sound_cut, sound_push}
-use Rattle.gl_safety.proofs.Places.{MarksKnown, place_within, place_cut, place_more, place_same, mark_entry, marks_known}
-use Rattle.gl_rules.specs.Replication.{commit_after, takes, append_reply}
+use Rattle.gl_rules.specs.Safety.{IsOpening, EachFollows}
+use Rattle.gl_safety.proofs.Ids.{id_tests, cases_same, put2, put2_cases, put2_at}
+use Rattle.gl_safety.proofs.Lists.{Same, there, within}
+use Rattle.gl_safety.proofs.Story.{Story, Grows, told_held, grows_held}
+use Rattle.gl_safety.proofs.Facts.{Holds, Matches, Bound, Mark, Lost, Ballots, agree, is_led, matches_part, ballots_of}
+use Rattle.gl_safety.proofs.Certificates.{SureOver, Cert, Sured, Tale}
+use Rattle.gl_safety.proofs.Complete.{chief_of_led}
+use Rattle.gl_safety.proofs.Signatures.{last_take}
+use Rattle.gl_safety.proofs.Invariants.{Commits, Good, Reached, sure_to, recorded_sure, won_grow, sured_more, shuts_grow}
+use Rattle.gl_rules.specs.Replication.{takes}
 use Rattle.gl_safety.proofs.Merging.{Merged}
 
 module _ {E Q G R A F : Type 0} {b : Book E Q G R A F} {s : Start E} (o : IsOpening b (EachFollows b) s) where
   -- no candidate and no leader
   commits_follow : (g : Story E) (x : NodeId) (view : ℕ) (role : Role) (log : List E) (c base : ℕ) (matched : NodeId → ℕ) → Commits o g x view role log c base matched → Commits o g x view Follower log c base matched
   commits_follow g x view role log c base matched z = record {
-    bounded = z.bounded; based = z.based; above = z.above; recorded = z.recorded;
-    ruled = λ r. absurd (cc); young = λ r. absurd (cc);
+    bounded = z.bounded;
+    based = z.based;
+    above = z.above;
+    recorded = z.recorded;
+    ruled = λ r. absurd (cc);
+    young = λ r. absurd (cc);
     opened = λ r. absurd (⊎_elim (λ (q : Follower ≡ Candidate). cc) (λ (q : Follower ≡ Leader). cc) r);
     matches = λ r y. absurd (cc);
     marked = λ r. absurd (cc);
@@ -62,8 +58,11 @@ module _ {E Q G R A F : Type 0} {b : Book E Q G R A F} {s : Start E} (o : IsOpen
     kept = record { bid_is = λ r. absurd (cc); unbid = z.kept.unbid; fresh = λ r i e a. absurd (cc); ends = λ r. absurd (cc); future = z.kept.future; keeps = z.kept.keeps };
     commits = record {
       bounded = known_sure g t n.log n.view n.base z.logged.matches z.logged.bound;
-      based = z.commits.based; above = omega arith; recorded = omega arith;
-      ruled = λ r. absurd (cc); young = λ r. absurd (cc);
+      based = z.commits.based;
+      above = omega arith;
+      recorded = omega arith;
+      ruled = λ r. absurd (cc);
+      young = λ r. absurd (cc);
       opened = λ r. absurd (⊎_elim (λ (q : Follower ≡ Candidate). cc) (λ (q : Follower ≡ Leader). cc) r);
       matches = λ r y. absurd (cc);
       marked = λ r. absurd (cc);
@@ -81,14 +80,14 @@ module _ {E Q G R A F : Type 0} {b : Book E Q G R A F} {s : Start E} (o : IsOpen
     matches = ⊎_elim
         (λ (q : r ≡ n.log). subst (Matches b g.led) (sym q) z.logged.matches)
         (λ (q : ((j : ℕ) (f : E) → slice_get r j ≡ Some f → slice_get (g.led n.view) j ≡ Some f) × (d : ℕ) × (d < place) × ((e f : E) → slice_get n.log d ≡ Some e → slice_get (g.led n.view) d ≡ Some f → b.view_of e ≢ b.view_of f)).
-          matches_part b g.led (g.led n.view) r (t.matches n.view) q.0)
+        matches_part b g.led (g.led n.view) r (t.matches n.view) q.0)
         m.way
 
     bound : Bound b n.view r
     bound = ⊎_elim
         (λ (q : r ≡ n.log). subst (Bound b n.view) (sym q) z.logged.bound)
         (λ (q : ((j : ℕ) (f : E) → slice_get r j ≡ Some f → slice_get (g.led n.view) j ≡ Some f) × (d : ℕ) × (d < place) × ((e f : E) → slice_get n.log d ≡ Some e → slice_get (g.led n.view) d ≡ Some f → b.view_of e ≢ b.view_of f)).
-          record { view = λ i e a. (t.bound n.view).view i e (q.0 i e a) })
+        record { view = λ i e a. (t.bound n.view).view i e (q.0 i e a) })
         m.way
 
     -- an entry of r below place
@@ -100,7 +99,7 @@ module _ {E Q G R A F : Type 0} {b : Book E Q G R A F} {s : Start E} (o : IsOpen
     stays v i e w a = ⊎_elim
         (λ (q : r ≡ n.log). inl (ap (λ l. slice_get l i) q ∙ a))
         (λ (q : ((j : ℕ) (f : E) → slice_get r j ≡ Some f → slice_get (g.led n.view) j ≡ Some f) × (d : ℕ) × (d < place) × ((e f : E) → slice_get n.log d ≡ Some e → slice_get (g.led n.view) d ≡ Some f → b.view_of e ≢ b.view_of f)).
-          changed q.0 q.1 q.2 q.3)
+        changed q.0 q.1 q.2 q.3)
         m.way
       where
         changed : ((j : ℕ) (f : E) → slice_get r j ≡ Some f → slice_get (g.led n.view) j ≡ Some f) → (d : ℕ) → d < place → ((e f : E) → slice_get n.log d ≡ Some e → slice_get (g.led n.view) d ≡ Some f → b.view_of e ≢ b.view_of f) →
@@ -109,79 +108,108 @@ module _ {E Q G R A F : Type 0} {b : Book E Q G R A F} {s : Start E} (o : IsOpen
           where
             top : (f : E) × (slice_get r d ≡ Some f)
             top = there r d (omega (arith, m.long))
+
             at_d : slice_get (g.led n.view) d ≡ Some top.0
             at_d = all d top.0 top.1
+
             has : slice_get (g.led n.view) i ≡ Some e → (slice_get r i ≡ Some e) ⊎ Lost b g.chief g.led v i (suc n.view)
             has f = ⊎_elim
                 (λ (q : i < place). inl (in_front i e q f))
                 (λ (q : place ≤ i).
-                  let y = there n.log d (omega (arith, within n.log i e a)) in
-                  let p = agree b g.led n.log (g.led n.view) i e z.logged.matches (t.matches n.view) a f d y.0 (omega arith) y.1 in
-                  absurd (differ y.0 y.0 y.1 p refl))
+                let y = there n.log d (omega (arith, within n.log i e a)) in
+                let p = agree b g.led n.log (g.led n.view) i e z.logged.matches (t.matches n.view) a f d y.0 (omega arith) y.1 in
+                absurd (differ y.0 y.0 y.1 p refl))
                 (cases_lt i place)
+
             lost : ((f : E) → slice_get (g.led n.view) i ≡ Some f → b.view_of f ≢ v) → (v < n.view) → Lost b g.chief g.led v i (suc n.view)
             lost lacks low = let c = chief_of_led o g t n.view d top.0 at_d in record { view = n.view; above = low; below = omega arith; by = c.0; won = c.1; lacks = lacks }
+
             small_view : v ≤ n.view
             small_view = omega (arith, (z.logged.bound.view i e a).1, w.view)
+
             own : v ≡ n.view → slice_get (g.led n.view) i ≡ Some e
             own q = ap (λ u. slice_get (g.led u) i) (sym q) ∙ w.at
+
             go : (o : Option E) → slice_get (g.led n.view) i ≡ o → (slice_get r i ≡ Some e) ⊎ Lost b g.chief g.led v i (suc n.view)
             go None f = ⊎_elim (λ (q : v ≡ n.view). has (own q)) (λ (q : v ≢ n.view). inr (lost (λ u p. absurd (let y = sym f ∙ p in cc)) (omega (arith, small_view)))) (cases_eq v n.view)
             go (Some u) f = ⊎_elim
                 (λ (q : b.view_of u ≡ v).
-                  let p : slice_get (g.led v) i ≡ Some u = is_led b g.led (g.led n.view) v i i u u (t.matches n.view) f q (omega arith) f in
-                  has (f ∙ sym p ∙ w.at))
+                let p : slice_get (g.led v) i ≡ Some u = is_led b g.led (g.led n.view) v i i u u (t.matches n.view) f q (omega arith) f in
+                has (f ∙ sym p ∙ w.at))
                 (λ (q : b.view_of u ≢ v). ⊎_elim
-                  (λ (h : v ≡ n.view). has (own h))
-                  (λ (h : v ≢ n.view). inr (lost (λ y p. let same : u ≡ y = let c = sym f ∙ p in cc in λ (c : b.view_of y ≡ v). q (ap b.view_of same ∙ c)) (omega (arith, small_view))))
-                  (cases_eq v n.view))
+                (λ (h : v ≡ n.view). has (own h))
+                (λ (h : v ≢ n.view). inr (lost (λ y p. let same : u ≡ y = let c = sym f ∙ p in cc in λ (c : b.view_of y ≡ v). q (ap b.view_of same ∙ c)) (omega (arith, small_view))))
+                (cases_eq v n.view))
                 (cases_eq (b.view_of u) v)
 
     tale_held : Tale o (told_held x n.view place g)
     tale_held = record {
-      early = t.early; matches = t.matches; bound = t.bound; rising = t.rising; empty = t.empty; begins = t.begins; low = t.low;
+      early = t.early;
+      matches = t.matches;
+      bound = t.bound;
+      rising = t.rising;
+      empty = t.empty;
+      begins = t.begins;
+      low = t.low;
       won = λ u c d a. won_grow o k u c (t.won u c d a);
       known = λ u i e a d. let r = t.known u i e a d in (r.0, sured_more o k (g.led u) (b.recorded_commit e) u r.1);
       bids = t.bids;
       shuts = λ c w y a. shuts_grow o k 0 w y (t.shuts c w y a);
       stood = t.stood;
       ballots = λ y. ⊎_elim (λ (q : y ≡ x). subst (Ballots b (told_held x n.view place g)) (sym q) own) (λ (q : y ≢ x). ballots_of b k y q (t.ballots y)) (cases_same y x);
-      follows = t.follows; marks = t.marks;
+      follows = t.follows;
+      marks = t.marks;
     }
       where
         holds : (u i : ℕ) → u ≢ n.view → (i < put2 g.held x n.view (max (g.held x n.view) place) x u) ⊎ (g.chief u ≡ Some x) → Holds g x u i
         holds u i d q = ⊎_elim (λ (f : i < put2 g.held x n.view (max (g.held x n.view) place) x u). inl (grind (arith, id_tests))) (λ (f : g.chief u ≡ Some x). inr f) q
+
         own : Ballots b (told_held x n.view place g) x
         own = record {
           votes = λ w c d a.
-            let v = (t.ballots x).votes w c d a in
-            let small : w ≤ n.view = ⊎_elim (λ (q : n.view < w). absurd (let y = z.voter.later w q in cc)) (λ (q : w ≤ n.view). q) (cases_lt n.view w) in
-            record {
-              bid = v.bid; at = v.at;
-              old = λ f u i e y q j. v.old f u i e y (holds u i (omega arith) q) j;
-              late = λ u i e y q j. v.late u i e y (holds u i (omega arith) q) j;
-            };
+              let v = (t.ballots x).votes w c d a in
+              let small : w ≤ n.view = ⊎_elim (λ (q : n.view < w). absurd (let y = z.voter.later w q in cc)) (λ (q : w ≤ n.view). q) (cases_lt n.view w) in
+              record {
+                bid = v.bid;
+                at = v.at;
+                old = λ f u i e y q j. v.old f u i e y (holds u i (omega arith) q) j;
+                late = λ u i e y q j. v.late u i e y (holds u i (omega arith) q) j;
+              };
           barred = (t.ballots x).barred;
           within = λ v i a. ⊎_elim
-            (λ (q : (x ≡ x) × (v ≡ n.view) × (put2 g.held x n.view (max (g.held x n.view) place) x v ≡ max (g.held x n.view) place)).
+              (λ (q : (x ≡ x) × (v ≡ n.view) × (put2 g.held x n.view (max (g.held x n.view) place) x v ≡ max (g.held x n.view) place)).
               ⊎_elim
-                (λ (h : i < place). let y = there r i (omega (arith, m.long)) in (y.0, ap (λ u. slice_get (g.led u) i) q.1 ∙ m.front i y.0 h y.1))
-                (λ (h : place ≤ i). let y = (t.ballots x).within n.view i (omega (arith, q.2)) in (y.0, ap (λ u. slice_get (g.led u) i) q.1 ∙ y.1))
-                (cases_lt i place))
-            (λ (q : put2 g.held x n.view (max (g.held x n.view) place) x v ≡ g.held x v). (t.ballots x).within v i (omega (arith, q)))
-            (put2_cases g.held x n.view (max (g.held x n.view) place) x v);
+              (λ (h : i < place). let y = there r i (omega (arith, m.long)) in (y.0, ap (λ u. slice_get (g.led u) i) q.1 ∙ m.front i y.0 h y.1))
+              (λ (h : place ≤ i). let y = (t.ballots x).within n.view i (omega (arith, q.2)) in (y.0, ap (λ u. slice_get (g.led u) i) q.1 ∙ y.1))
+              (cases_lt i place))
+              (λ (q : put2 g.held x n.view (max (g.held x n.view) place) x v ≡ g.held x v). (t.ballots x).within v i (omega (arith, q)))
+              (put2_cases g.held x n.view (max (g.held x n.view) place) x v);
         }
 
     -- the last signature at or below the sender's commit
     sure_below : (q : ℕ) → last_signature b (take (min theirs place) r) ≡ q → Sured o g r q n.view
     sure_below zero d = (0, inl refl)
-    sure_below (suc i) d = (sure_c.0, ⊎_elim
-        (λ (q : theirs ≡ 0). absurd (omega (arith, y.1)))
-        (λ (q : SureOver o (Cert o sure_c.0 g) g (g.led n.view) theirs n.view). inr (record {
-          i = i; place = refl; entry = y.0; at = y.2; signs = y.3; v = q.v; j = q.j; last = q.last; mark = q.mark; cert = q.cert;
-          le = omega (arith, q.le, q.place, y.1); top = q.top;
-          leads = agree b g.led (g.led n.view) (g.led q.v) q.i q.entry (t.matches n.view) (t.matches q.v) q.at q.leads i y.0 (omega (arith, q.place, y.1)) (m.front i y.0 (omega (arith, y.1)) y.2) }))
-        sure_c.1)
+    sure_below (suc i) d = (
+      sure_c.0,
+      ⊎_elim
+          (λ (q : theirs ≡ 0). absurd (omega (arith, y.1)))
+          (λ (q : SureOver o (Cert o sure_c.0 g) g (g.led n.view) theirs n.view). inr (record {
+            i = i;
+            place = refl;
+            entry = y.0;
+            at = y.2;
+            signs = y.3;
+            v = q.v;
+            j = q.j;
+            last = q.last;
+            mark = q.mark;
+            cert = q.cert;
+            le = omega (arith, q.le, q.place, y.1);
+            top = q.top;
+            leads = agree b g.led (g.led n.view) (g.led q.v) q.i q.entry (t.matches n.view) (t.matches q.v) q.at q.leads i y.0 (omega (arith, q.place, y.1)) (m.front i y.0 (omega (arith, y.1)) y.2);
+          }))
+          sure_c.1,
+    )
       where
         y : (e : E) × (i < min theirs place) × (slice_get r i ≡ Some e) × (b.is_signature e ≡ true)
         y = last_take b (min theirs place) r i d
@@ -195,17 +223,17 @@ module _ {E Q G R A F : Type 0} {b : Book E Q G R A F} {s : Start E} (o : IsOpen
     after_sure : Sured o g r (max (max n.commit (max n.base (greatest_recorded b r))) (last_signature b (take (min theirs place) r))) n.view ⊎ (max (max n.commit (max n.base (greatest_recorded b r))) (last_signature b (take (min theirs place) r)) ≡ n.base)
     after_sure = ⊎_elim
         (λ (h : max n.commit (max n.base (greatest_recorded b r)) < last_signature b (take (min theirs place) r)).
-          inl (subst (λ (c : ℕ). Sured o g r c n.view) (omega arith) (sure_below (last_signature b (take (min theirs place) r)) refl)))
+        inl (subst (λ (c : ℕ). Sured o g r c n.view) (omega arith) (sure_below (last_signature b (take (min theirs place) r)) refl)))
         (λ (h : last_signature b (take (min theirs place) r) ≤ max n.commit (max n.base (greatest_recorded b r))). ⊎_elim
-          (λ (d : n.commit < max n.base (greatest_recorded b r)). ⊎_elim
-            (λ (q : Sured o g r (max n.base (greatest_recorded b r)) n.view). inl (subst (λ (c : ℕ). Sured o g r c n.view) (omega arith) q))
-            (λ (q : max n.base (greatest_recorded b r) ≡ n.base). inr (omega arith))
-            (known_sure g t r n.view n.base matches bound))
-          (λ (d : max n.base (greatest_recorded b r) ≤ n.commit). ⊎_elim
-            (λ (q : Sured o g n.log n.commit n.view). inl (subst (λ (c : ℕ). Sured o g r c n.view) (omega arith) (stays_sure n.commit n.view n.view (omega arith) (omega arith) q)))
-            (λ (q : n.commit ≡ n.base). inr (omega arith))
-            z.commits.bounded)
-          (cases_lt n.commit (max n.base (greatest_recorded b r))))
+        (λ (d : n.commit < max n.base (greatest_recorded b r)). ⊎_elim
+        (λ (q : Sured o g r (max n.base (greatest_recorded b r)) n.view). inl (subst (λ (c : ℕ). Sured o g r c n.view) (omega arith) q))
+        (λ (q : max n.base (greatest_recorded b r) ≡ n.base). inr (omega arith))
+        (known_sure g t r n.view n.base matches bound))
+        (λ (d : max n.base (greatest_recorded b r) ≤ n.commit). ⊎_elim
+        (λ (q : Sured o g n.log n.commit n.view). inl (subst (λ (c : ℕ). Sured o g r c n.view) (omega arith) (stays_sure n.commit n.view n.view (omega arith) (omega arith) q)))
+        (λ (q : n.commit ≡ n.base). inr (omega arith))
+        z.commits.bounded)
+        (cases_lt n.commit (max n.base (greatest_recorded b r))))
         (cases_lt (max n.commit (max n.base (greatest_recorded b r))) (last_signature b (take (min theirs place) r)))
 
     pub made_accept : (y : NodeId) → Reached o x g (takes b x y place theirs (record n { log = r; cuts = cuts })).node (takes b x y place theirs (record n { log = r; cuts = cuts })).sent
@@ -213,18 +241,19 @@ module _ {E Q G R A F : Type 0} {b : Book E Q G R A F} {s : Start E} (o : IsOpen
       where
         n1 : Node E
         n1 = record n { log = r; cuts = cuts; commit = max (max n.commit (max n.base (greatest_recorded b r))) (last_signature b (take (min theirs place) r)) }
+
         good : Good o (told_held x n.view place g) x (record n { log = r; cuts = cuts; commit = max (max n.commit (max n.base (greatest_recorded b r))) (last_signature b (take (min theirs place) r)) })
         good = record {
           voter = z.voter;
           logged = record {
             positive = z.logged.positive;
             mine = λ a. ⊎_elim
-              (λ (q : r ≡ n.log). q ∙ z.logged.mine a)
-              (λ (q : ((j : ℕ) (f : E) → slice_get r j ≡ Some f → slice_get (g.led n.view) j ≡ Some f) × (d : ℕ) × (d < place) × ((e f : E) → slice_get n.log d ≡ Some e → slice_get (g.led n.view) d ≡ Some f → b.view_of e ≢ b.view_of f)).
+                (λ (q : r ≡ n.log). q ∙ z.logged.mine a)
+                (λ (q : ((j : ℕ) (f : E) → slice_get r j ≡ Some f → slice_get (g.led n.view) j ≡ Some f) × (d : ℕ) × (d < place) × ((e f : E) → slice_get n.log d ≡ Some e → slice_get (g.led n.view) d ≡ Some f → b.view_of e ≢ b.view_of f)).
                 let y = there r q.1 (omega (arith, m.long, q.2)) in
                 let p = q.0 q.1 y.0 y.1 in
                 absurd (q.3 y.0 y.0 (ap (λ l. slice_get l q.1) (z.logged.mine a) ∙ p) p refl))
-              m.way;
+                m.way;
             matches = matches;
             bound = bound;
           };
@@ -235,23 +264,24 @@ module _ {E Q G R A F : Type 0} {b : Book E Q G R A F} {s : Start E} (o : IsOpen
             ends = λ e. absurd (cc);
             future = λ v a. let q = z.kept.future v a in grind (arith, id_tests);
             keeps = λ v i e a w. ⊎_elim
-              (λ (q : i < put2 g.held x n.view (max (g.held x n.view) place) x v). ⊎_elim
+                (λ (q : i < put2 g.held x n.view (max (g.held x n.view) place) x v). ⊎_elim
                 (λ (d : (x ≡ x) × (v ≡ n.view) × (put2 g.held x n.view (max (g.held x n.view) place) x v ≡ max (g.held x n.view) place)). ⊎_elim
-                  (λ (h : i < place). inl (in_front i e h (ap (λ u. slice_get (g.led u) i) (sym d.1) ∙ w.at)))
-                  (λ (h : place ≤ i). again v i e w (inl (let f : i < g.held x n.view = omega (arith, d.2) in subst (λ (u : ℕ). i < g.held x u) (sym d.1) f)))
-                  (cases_lt i place))
+                (λ (h : i < place). inl (in_front i e h (ap (λ u. slice_get (g.led u) i) (sym d.1) ∙ w.at)))
+                (λ (h : place ≤ i). again v i e w (inl (let f : i < g.held x n.view = omega (arith, d.2) in subst (λ (u : ℕ). i < g.held x u) (sym d.1) f)))
+                (cases_lt i place))
                 (λ (d : put2 g.held x n.view (max (g.held x n.view) place) x v ≡ g.held x v). again v i e w (inl (omega arith)))
                 (put2_cases g.held x n.view (max (g.held x n.view) place) x v))
-              (λ (q : g.chief v ≡ Some x). again v i e w (inr q))
-              a;
+                (λ (q : g.chief v ≡ Some x). again v i e w (inr q))
+                a;
           };
           commits = record {
             bounded = ⊎_elim (λ (q : Sured o g r (max (max n.commit (max n.base (greatest_recorded b r))) (last_signature b (take (min theirs place) r))) n.view). inl (sured_more o k r (max (max n.commit (max n.base (greatest_recorded b r))) (last_signature b (take (min theirs place) r))) n.view q))
-              (λ (q : max (max n.commit (max n.base (greatest_recorded b r))) (last_signature b (take (min theirs place) r)) ≡ n.base). inr q) after_sure;
+                (λ (q : max (max n.commit (max n.base (greatest_recorded b r))) (last_signature b (take (min theirs place) r)) ≡ n.base). inr q) after_sure;
             based = let q = z.commits.based in (q.0, sured_more o k r n.base q.0 (stays_sure n.base q.0 q.0 (omega arith) z.commits.above q.1));
             above = omega (arith, z.commits.above);
             recorded = omega arith;
-            ruled = λ e. absurd (cc); young = λ e. absurd (cc);
+            ruled = λ e. absurd (cc);
+            young = λ e. absurd (cc);
             opened = λ e. absurd (⊎_elim (λ (q : n.role ≡ Candidate). cc) (λ (q : n.role ≡ Leader). cc) e);
             matches = λ e y. absurd (cc);
             marked = λ e. absurd (cc);

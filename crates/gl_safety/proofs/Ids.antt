@@ -1,8 +1,8 @@
 -- Two identifiers are one where the test says so; functions that differ at one node; majorities that meet.
-use Rattle.std.proofs.Common.{◌≡◌, ◌≢◌, ◌⊎◌, inl, inr, ⊎_elim, ℕ, suc, ◌+◌, ◌*◌, ◌≤◌, ◌<◌, List, [], ◌∷◌, length, Bool, true, false, ◌&&◌, ◌||◌, nat_lt, ◌==◌, if◌then◌else◌, refl, sym, ap, ◌∙◌, true≢false, ltb-true, arith}
+use Rattle.std.proofs.Common.{◌≡◌, ◌≢◌, ◌⊎◌, inl, inr, ⊎_elim, ℕ, suc, ◌+◌, ◌*◌, ◌≤◌, List, [], ◌∷◌, length, Bool, true, false, ◌&&◌, ◌==◌, if◌then◌else◌, refl, sym, ap, ◌∙◌, true≢false, ltb-true, arith}
 use Rattle.std.specs.Cmp.Lexicographic.{bytes_decides}
 use Rattle.std.proofs.lemmas.Bool.Decides.{nat_tests, leb_tells, eqb_tells}
-use Rattle.gl_rules.specs.Identity.{NodeId, same, member, put, added}
+use Rattle.gl_rules.specs.Identity.{NodeId, same, put}
 use Rattle.gl_rules.specs.Majority.{tally, majority}
 
 pub same_is : (x y : NodeId) → same x y ≡ true → x ≡ y

@@ -1,30 +1,22 @@
 -- A node without a log takes another's committed one.
-use Rattle.std.proofs.Common.{◌≡◌, ◌≢◌, ◌⊎◌, inl, inr, ⊎_elim, ℕ, zero, suc, ◌+◌, ◌-◌, ◌≤◌, ◌<◌, ◌*◌, min, max, List, [], ◌∷◌, ◌++◌, length, take, drop, Bool, true, false, ◌&&◌, ◌||◌, not, ◌==◌, nat_lt, nat_le, if◌then◌else◌, Option, Some, None, Result, Ok, Err, unwrap_or, slice_get, refl, sym, ap, ◌∙◌, subst, true≢false, length-take, length-append, length-drop, arith}
-use Rattle.std.specs.Option.{option_to_list}
-use Rattle.std.proofs.lemmas.Bool.{cases_eq, cases_lt}
+use Rattle.std.proofs.Common.{◌≡◌, ◌⊎◌, inl, inr, ⊎_elim, ℕ, zero, suc, ◌-◌, ◌≤◌, List, [], length, take, Bool, true, false, ◌&&◌, nat_lt, if◌then◌else◌, Option, Some, None, slice_get, refl, sym, ap, ◌∙◌, subst, length-take, arith}
 use Rattle.std.proofs.lemmas.Bool.Decides.{nat_tests}
-use Rattle.gl_rules.specs.Identity.{NodeId, same, member, put, added}
-use Rattle.gl_rules.specs.Majority.{tally, majority, quorum}
+use Rattle.gl_rules.specs.Identity.{NodeId}
 use Rattle.gl_rules.specs.Book.{Book}
-use Rattle.gl_rules.specs.Node.{Node, Role, Follower, Candidate, Leader}
-use Rattle.gl_rules.specs.Message.{Last, Message, Body, RequestVote, VoteReply, Append, AppendReply, ProposeVote}
-use Rattle.gl_rules.specs.Log.{entry_at, place_before, is_at_least, view_at, last_signature, last, signed_part, greatest_recorded}
-use Rattle.gl_rules.specs.Configuration.{configuration_at, configurations_above, active_upto, active, in_some}
-use Rattle.gl_rules.specs.Steps.{cut_to, appended, leads, rise, has_votes, won_by, win, known_commit}
+use Rattle.gl_rules.specs.Node.{Node, Candidate, Leader}
+use Rattle.gl_rules.specs.Log.{entry_at, view_at, last_signature}
+use Rattle.gl_rules.specs.Steps.{rise}
 use Rattle.gl_rules.specs.World.{Start}
-use Rattle.gl_rules.specs.Safety.{IsOpening, IsLawful, EachFollows, Makes, MarksNone, MayRecord, ViewsUpTo}
-use Rattle.gl_safety.proofs.Ids.{id_tests, same_is, same_self, same_tells, cases_same, put2, put_all, put2_cases, put2_at, by_test, share}
-use Rattle.gl_safety.proofs.Lists.{Same, same_take, there, within, past, get_take, take_get, drop_get, get_left, get_append, get_push, push_get, take_whole, append_none, push_append, take_nothing, take_one_more, take_past}
-use Rattle.gl_safety.proofs.Story.{Story, Grows, at_view, early_by, told_ballot, told_stand, told_led, told_win, told_held, grows_same, grows_then, grows_ballot, grows_stand, grows_held, grows_win, grows_led}
-use Rattle.gl_safety.proofs.Configurations.{IsNewest, Backed, backed_by, backs, newest_same, newest_exists}
-use Rattle.gl_safety.proofs.Facts.{Holds, Covers, Matches, Bound, Rising, Mark, Lost, Segment, Voted, Ballots, agree, is_led, led_is, matches_part, matches_grow, mark_grow, mark_back, lost_grow, lost_more, holds_grow, holds_back, segment_grow, ballots_of}
-use Rattle.gl_safety.proofs.Certificates.{SureOver, CertOver, Cert, Sure, Sured, Settled, Below, Won, Tale, sure_grow, sured_grow, cert_grow}
-use Rattle.gl_safety.proofs.Complete.{Winner, Before, Whole, chief_of_led, one_voter, winner_of, completes, complete, descend, has_all, newest_in, settled}
-use Rattle.gl_safety.proofs.Signatures.{last_le, last_above, last_signs, last_take, signed_keeps, view_at_is, last_view_is, last_zero, covers_last, covers_more, recorded_le, recorded_bound, recorded_some, recorded_part, signed_ends, last_more}
-use Rattle.gl_safety.proofs.Invariants.{Voter, Logged, Kept, Barred, Commits, Good, BodySent, AllSent, Made, Reached, rising_of, begins_of, signature_above, sure_within, settled_of, sure_to, known_in, recorded_sure, won_grow, sured_more, shuts_grow, commits_more, good_of, sent_grow, all_grow, all_append, sent_at, made_same, made_then}
-use Rattle.gl_safety.proofs.Soundness.{sound_cut, sound_push}
-use Rattle.gl_safety.proofs.Places.{MarksKnown, place_within, place_cut, place_more, place_same, mark_entry, marks_known}
-use Rattle.gl_rules.specs.Replication.{greatest_evidence, snapshot_of, is_evidence_at, risen_to, installed}
+use Rattle.gl_rules.specs.Safety.{IsOpening, IsLawful, EachFollows}
+use Rattle.gl_safety.proofs.Ids.{by_test}
+use Rattle.gl_safety.proofs.Lists.{there, get_take, take_get, take_nothing}
+use Rattle.gl_safety.proofs.Story.{Story}
+use Rattle.gl_safety.proofs.Facts.{Lost, agree, matches_part}
+use Rattle.gl_safety.proofs.Certificates.{SureOver, Cert, Settled, Tale}
+use Rattle.gl_safety.proofs.Signatures.{last_le, view_at_is, recorded_bound}
+use Rattle.gl_safety.proofs.Invariants.{Good, rising_of, sure_within, settled_of, known_in}
+use Rattle.gl_safety.proofs.Soundness.{sound_cut}
+use Rattle.gl_rules.specs.Replication.{greatest_evidence, snapshot_of, is_evidence_at, installed}
 use Rattle.gl_safety.proofs.Standing.{good_rise}
 
 module _ {E Q G R A F : Type 0} {b : Book E Q G R A F} {s : Start E} (o : IsOpening b (EachFollows b) s) (la : IsLawful b (EachFollows b)) where
@@ -44,6 +36,7 @@ module _ {E Q G R A F : Type 0} {b : Book E Q G R A F} {s : Start E} (o : IsOpen
         where
           up : (j : ℕ) × (i ≡ suc j) × (suc j ≤ k) × (e : E) × (slice_get log j ≡ Some e) × (b.is_evidence e ≡ true) → (j : ℕ) × (i ≡ suc j) × (suc j ≤ suc k) × (e : E) × (slice_get log j ≡ Some e) × (b.is_evidence e ≡ true)
           up r = (r.0, r.1, omega (arith, r.2), r.3, r.4, r.5)
+
           here : (p q : Bool) → b.is_evidence e ≡ q → (if p && q then Some (suc k) else greatest_evidence b log base k) ≡ Some i → (j : ℕ) × (i ≡ suc j) × (suc j ≤ suc k) × (e : E) × (slice_get log j ≡ Some e) × (b.is_evidence e ≡ true)
           here true true f w = (k, let z : suc k ≡ i = cc in sym z, omega arith, e, d, f)
           here true false f w = up (again w)
@@ -71,9 +64,11 @@ module _ {E Q G R A F : Type 0} {b : Book E Q G R A F} {s : Start E} (o : IsOpen
       positive = z.logged.positive;
       mine = λ c. absurd (let d = t.begins n.view x c 0 opening_first.0 (omega (arith, o.long)) opening_first.1 in let f = ap (λ l. slice_get l 0) (sym none ∙ z.logged.mine c) ∙ d in cc);
       matches = matches_part b g.led m.log (take (suc j) m.log) w.logged.matches part;
-      bound = record { view = λ i f d.
-        let r = get_take (suc j) m.log i f d in
-        ((w.logged.bound.view i f r.1).0, omega (arith, (rising_of o g t m.log w.logged.matches).rising i j f e (omega (arith, r.0)) r.1 a)) };
+      bound = record {
+        view = λ i f d.
+            let r = get_take (suc j) m.log i f d in
+            ((w.logged.bound.view i f r.1).0, omega (arith, (rising_of o g t m.log w.logged.matches).rising i j f e (omega (arith, r.0)) r.1 a));
+      };
     };
     kept = record {
       bid_is = λ r. absurd (idle (inl r));
@@ -82,20 +77,37 @@ module _ {E Q G R A F : Type 0} {b : Book E Q G R A F} {s : Start E} (o : IsOpen
       ends = λ r. absurd (idle (inl r));
       future = z.kept.future;
       keeps = λ v i f d k. ⊎_elim
-        (λ (q : slice_get n.log i ≡ Some f). absurd (let r = ap (λ l. slice_get l i) (sym none) ∙ q in cc))
-        (λ (q : Lost b g.chief g.led v i (suc n.view)). inr q)
-        (z.kept.keeps v i f d k);
+          (λ (q : slice_get n.log i ≡ Some f). absurd (let r = ap (λ l. slice_get l i) (sym none) ∙ q in cc))
+          (λ (q : Lost b g.chief g.led v i (suc n.view)). inr q)
+          (z.kept.keeps v i f d k);
     };
     commits = record {
       bounded = inr refl;
-      based = (sure_m.0, ((sure_m.1).0, inr (record {
-        i = j; place = refl; entry = e; at = take_get (suc j) m.log j e (omega arith) a; signs = signs; v = q.v; j = q.j; last = q.last; mark = q.mark; cert = q.cert;
-        le = omega (arith, q.place, q.le); top = q.top;
-        leads = agree b g.led m.log (g.led q.v) q.i q.entry w.logged.matches (t.matches q.v) q.at q.leads j e (omega (arith, q.place)) a })));
+      based = (
+        sure_m.0,
+        (
+          (sure_m.1).0,
+          inr (record {
+            i = j;
+            place = refl;
+            entry = e;
+            at = take_get (suc j) m.log j e (omega arith) a;
+            signs = signs;
+            v = q.v;
+            j = q.j;
+            last = q.last;
+            mark = q.mark;
+            cert = q.cert;
+            le = omega (arith, q.place, q.le);
+            top = q.top;
+            leads = agree b g.led m.log (g.led q.v) q.i q.entry w.logged.matches (t.matches q.v) q.at q.leads j e (omega (arith, q.place)) a;
+          }),
+        ),
+      );
       above = omega arith;
       recorded = recorded_bound b (take (suc j) m.log) (suc j) (λ i f d v.
-        let r = get_take (suc j) m.log i f d in
-        omega (arith, (known_in o g t m.log i f m.view w.logged.matches w.logged.bound r.1 v).0, r.0));
+          let r = get_take (suc j) m.log i f d in
+          omega (arith, (known_in o g t m.log i f m.view w.logged.matches w.logged.bound r.1 v).0, r.0));
       ruled = λ r. absurd (idle (inr r));
       young = λ r. absurd (idle (inl r));
       opened = λ r. absurd (idle r);
@@ -107,12 +119,16 @@ module _ {E Q G R A F : Type 0} {b : Book E Q G R A F} {s : Start E} (o : IsOpen
     where
       part : (i : ℕ) (f : E) → slice_get (take (suc j) m.log) i ≡ Some f → slice_get m.log i ≡ Some f
       part i f d = (get_take (suc j) m.log i f d).1
+
       opening_first : (f : E) × (slice_get s.opening 0 ≡ Some f)
       opening_first = there s.opening 0 (omega (arith, o.long))
+
       sure_m : Settled o g m.log m.commit
       sure_m = settled_of o g y m.view m.role m.log m.commit m.base m.matched w.commits
+
       q : SureOver o (Cert o (sure_m.1).0 g) g m.log m.commit sure_m.0
       q = ⊎_elim (λ (d : m.commit ≡ 0). absurd (omega arith)) (λ (d : SureOver o (Cert o (sure_m.1).0 g) g m.log m.commit sure_m.0). d) (sure_m.1).1
+
       -- who has no log neither stands nor leads
       idle : (n.role ≡ Candidate) ⊎ (n.role ≡ Leader) → ⊥
       idle r =
@@ -133,21 +149,26 @@ module _ {E Q G R A F : Type 0} {b : Book E Q G R A F} {s : Start E} (o : IsOpen
     where
       r : (j : ℕ) × (i ≡ suc (suc j)) × (suc j ≤ m.commit) × (e : E) × (slice_get m.log j ≡ Some e) × (b.is_signature e ≡ true)
       r = snapshot_ends g y m i w a
+
       at_place : view_at b m.log (i - 1) ≡ b.view_of r.3
       at_place = let d : i - 1 ≡ suc r.0 = omega (arith, r.1) in ap (view_at b m.log) d ∙ view_at_is b m.log r.0 r.3 r.4
+
       place : suc r.0 ≡ i - 1
       place = omega (arith, r.1)
+
       go : (p : Bool) → nat_lt n.view (b.view_of r.3) ≡ p → Good o g x (installed b m (i - 1) n)
       go p d = subst (λ (v : ℕ). Good o g x (record (if nat_lt n.view v then rise b v n else n) { log = take (i - 1) m.log; base = i - 1; commit = i - 1 })) (sym at_place)
           (subst (λ (k : ℕ). Good o g x (record (if nat_lt n.view (b.view_of r.3) then rise b (b.view_of r.3) n else n) { log = take k m.log; base = k; commit = k })) place
-            (by_test (λ l. Good o g x (record l { log = take (suc r.0) m.log; base = suc r.0; commit = suc r.0 })) (nat_lt n.view (b.view_of r.3)) (rise b (b.view_of r.3) n) n higher same))
+          (by_test (λ l. Good o g x (record l { log = take (suc r.0) m.log; base = suc r.0; commit = suc r.0 })) (nat_lt n.view (b.view_of r.3)) (rise b (b.view_of r.3) n) n higher same))
         where
           higher : nat_lt n.view (b.view_of r.3) ≡ true → Good o g x (record (rise b (b.view_of r.3) n) { log = take (suc r.0) m.log; base = suc r.0; commit = suc r.0 })
           higher h = install_at g x y (rise b (b.view_of r.3) n) m r.0 r.3 t (good_rise o la g x n (b.view_of r.3) (grind (arith, nat_tests)) z) w risen_none r.2 r.4 r.5 risen_view
             where
               risen_none : (rise b (b.view_of r.3) n).log ≡ []
               risen_none = rise_none (b.view_of r.3) n none
+
               risen_view : b.view_of r.3 ≤ (rise b (b.view_of r.3) n).view
               risen_view = omega (arith, rise_view (b.view_of r.3) n)
+
           same : nat_lt n.view (b.view_of r.3) ≡ false → Good o g x (record n { log = take (suc r.0) m.log; base = suc r.0; commit = suc r.0 })
           same h = install_at g x y n m r.0 r.3 t z w none r.2 r.4 r.5 (grind (arith, nat_tests))

@@ -1,21 +1,20 @@
 -- What holds of each node, of each message and of the story, at every moment.
-use Rattle.std.proofs.Common.{◌≡◌, ◌≢◌, ◌⊎◌, inl, inr, ⊎_elim, ℕ, zero, suc, ◌+◌, ◌-◌, ◌≤◌, ◌<◌, List, [], ◌∷◌, ◌++◌, length, take, Bool, true, false, Option, Some, None, slice_get, refl, sym, ap, ◌∙◌, subst, arith}
-use Rattle.std.proofs.lemmas.Bool.{cases_eq, cases_lt}
+use Rattle.std.proofs.Common.{◌≡◌, ◌≢◌, ◌⊎◌, inl, inr, ⊎_elim, ℕ, zero, suc, ◌-◌, ◌≤◌, ◌<◌, List, [], ◌∷◌, ◌++◌, length, true, false, Option, Some, None, slice_get, refl, sym, ap, ◌∙◌, subst, arith}
+use Rattle.std.proofs.lemmas.Bool.{cases_lt}
 use Rattle.gl_safety.proofs.Signatures.{recorded_some}
 use Rattle.gl_rules.specs.Identity.{NodeId, member}
 use Rattle.gl_rules.specs.Majority.{majority}
 use Rattle.gl_rules.specs.Book.{Book}
-use Rattle.gl_rules.specs.Node.{Node, Role, Follower, Candidate, Leader}
+use Rattle.gl_rules.specs.Node.{Node, Role, Candidate, Leader}
 use Rattle.gl_rules.specs.Message.{Last, Message, Body, RequestVote, VoteReply, Append, AppendReply, ProposeVote}
 use Rattle.gl_rules.specs.Log.{last, last_signature, greatest_recorded}
 use Rattle.gl_rules.specs.World.{Start}
 use Rattle.gl_rules.specs.Safety.{IsOpening, EachFollows}
-use Rattle.gl_safety.proofs.Ids.{id_tests}
-use Rattle.gl_safety.proofs.Lists.{Same, there, within, get_take}
+use Rattle.gl_safety.proofs.Lists.{Same, there, within}
 use Rattle.gl_safety.proofs.Story.{Story, Grows, grows_same, grows_then}
 use Rattle.gl_safety.proofs.Configurations.{IsNewest}
-use Rattle.gl_safety.proofs.Facts.{Holds, Matches, Bound, Rising, Mark, Lost, Segment, Ballots, agree, is_led, led_is, matches_grow, mark_grow, mark_back, lost_grow, holds_grow, holds_back, segment_grow, ballots_of}
-use Rattle.gl_safety.proofs.Certificates.{SureOver, Cert, Sure, Sured, Settled, Below, Won, Tale, sure_grow, sured_grow}
+use Rattle.gl_safety.proofs.Facts.{Holds, Matches, Bound, Rising, Mark, Lost, Segment, Ballots, is_led, led_is, matches_grow, mark_grow, mark_back, lost_grow, holds_grow, holds_back, segment_grow}
+use Rattle.gl_safety.proofs.Certificates.{SureOver, Cert, Sured, Settled, Below, Won, Tale, sure_grow, sured_grow}
 use Rattle.gl_safety.proofs.Complete.{chief_of_led}
 
 -- votes
@@ -96,7 +95,7 @@ module _ {E Q G R A F : Type 0} {b : Book E Q G R A F} {s : Start E} (o : IsOpen
   pub rising_of : (g : Story E) → Tale o g → (l : List E) → Matches b g.led l → Rising b l
   rising_of g t l p = record {
     rising = λ i j e f d a z.
-      (t.rising (b.view_of f)).rising i j e f d (p.below j i f e z d a) (p.below j j f f z (omega arith) z);
+        (t.rising (b.view_of f)).rising i j e f d (p.below j i f e z d a) (p.below j j f f z (omega arith) z);
   }
 
   pub begins_of : (g : Story E) → Tale o g → (l : List E) → Matches b g.led l → length s.opening ≤ length l → Same (length s.opening) s.opening l
@@ -112,6 +111,7 @@ module _ {E Q G R A F : Type 0} {b : Book E Q G R A F} {s : Start E} (o : IsOpen
     where
       u : slice_get (g.led (b.view_of e)) i ≡ Some e
       u = p.below i i e e a (omega arith) a
+
       small : i < length s.opening → length s.opening ≤ suc i
       small h =
           let c = chief_of_led o g t (b.view_of e) i e u in
@@ -119,6 +119,7 @@ module _ {E Q G R A F : Type 0} {b : Book E Q G R A F} {s : Start E} (o : IsOpen
           let w = t.begins (b.view_of e) c.0 c.1 i y.0 h y.1 in
           let q : y.0 ≡ e = let d = sym w ∙ u in cc in
           omega (arith, o.long, o.alone i y.0 y.1 (ap b.is_signature q ∙ z))
+
       go : (k : ℕ) → length s.opening ≤ suc i
       go k = ⊎_elim small (λ (h : length s.opening ≤ i). omega arith) (cases_lt i (length s.opening))
 
@@ -134,19 +135,37 @@ module _ {E Q G R A F : Type 0} {b : Book E Q G R A F} {s : Start E} (o : IsOpen
 
   -- a sure commit in another log that has its signature
   pub sure_to : (g : Story E) (l r : List E) (c t u : ℕ) → t ≤ u → ((i : ℕ) (e : E) → c ≡ suc i → slice_get l i ≡ Some e → b.is_signature e ≡ true → slice_get r i ≡ Some e) → Sured o g l c t → Sured o g r c u
-  sure_to g l r c t u h a z = (z.0, ⊎_elim
-      (λ (q : c ≡ 0). inl q)
-      (λ (q : SureOver o (Cert o z.0 g) g l c t). inr (record {
-        i = q.i; place = q.place; entry = q.entry; at = a q.i q.entry q.place q.at q.signs; signs = q.signs; v = q.v; j = q.j; last = q.last; mark = q.mark; cert = q.cert; le = q.le; top = omega (arith, q.top); leads = q.leads }))
-      z.1)
+  sure_to g l r c t u h a z = (
+    z.0,
+    ⊎_elim
+        (λ (q : c ≡ 0). inl q)
+        (λ (q : SureOver o (Cert o z.0 g) g l c t). inr (record {
+          i = q.i;
+          place = q.place;
+          entry = q.entry;
+          at = a q.i q.entry q.place q.at q.signs;
+          signs = q.signs;
+          v = q.v;
+          j = q.j;
+          last = q.last;
+          mark = q.mark;
+          cert = q.cert;
+          le = q.le;
+          top = omega (arith, q.top);
+          leads = q.leads;
+        }))
+        z.1,
+  )
 
   -- what a signature of a log records is sure there
   pub known_in : (g : Story E) → Tale o g → (l : List E) (i : ℕ) (e : E) (v : ℕ) → Matches b g.led l → Bound b v l → slice_get l i ≡ Some e → b.is_signature e ≡ true → (b.recorded_commit e ≤ suc i) × Sured o g l (b.recorded_commit e) v
   known_in g t l i e v p q a z =
       let u : slice_get (g.led (b.view_of e)) i ≡ Some e = p.below i i e e a (omega arith) a in
-      let k = t.known (b.view_of e) i e u z in
-      (k.0, sure_to g (g.led (b.view_of e)) l (b.recorded_commit e) (b.view_of e) v ((q.view i e a).1)
-        (λ j f d y w. led_is b g.led l (b.view_of e) i j e f p a refl (omega (arith, k.0)) y) k.1)
+      let k = t.known (b.view_of e) i e u z in (
+        k.0,
+        sure_to g (g.led (b.view_of e)) l (b.recorded_commit e) (b.view_of e) v ((q.view i e a).1)
+            (λ j f d y w. led_is b g.led l (b.view_of e) i j e f p a refl (omega (arith, k.0)) y) k.1,
+      )
 
   -- the greatest recorded commit is sure
   pub recorded_sure : (g : Story E) → Tale o g → (l : List E) (v r : ℕ) → Matches b g.led l → Bound b v l → greatest_recorded b l ≡ r → Sured o g l r v
@@ -159,11 +178,25 @@ module _ {E Q G R A F : Type 0} {b : Book E Q G R A F} {s : Start E} (o : IsOpen
   module _ {x : NodeId} {g h : Story E} (k : Grows b.view_of x g h) where
     pub won_grow : (u : ℕ) (c : NodeId) → Won o g u c → Won o h u c
     won_grow u c q = record {
-      log = q.log; commit = q.commit; votes = q.votes; bid = q.bid; depth = q.depth; top = q.top; less = q.less; opened = q.opened; within = q.within;
-      matches = matches_grow b k q.log q.matches; begins = q.begins; backed = q.backed; sure = sure_grow o k q.depth q.log q.log (λ i e a. a) q.commit q.top q.sure;
+      log = q.log;
+      commit = q.commit;
+      votes = q.votes;
+      bid = q.bid;
+      depth = q.depth;
+      top = q.top;
+      less = q.less;
+      opened = q.opened;
+      within = q.within;
+      matches = matches_grow b k q.log q.matches;
+      begins = q.begins;
+      backed = q.backed;
+      sure = sure_grow o k q.depth q.log q.log (λ i e a. a) q.commit q.top q.sure;
       at = k.bid c u q.bid q.at;
       ballots = λ y a. let r = q.ballots y a in (k.ballot y u c r.0, k.early y u c r.0 r.1);
-      bid_less = q.bid_less; bid_zero = q.bid_zero; bid_top = q.bid_top; front = λ i e a. k.led u i e (q.front i e a);
+      bid_less = q.bid_less;
+      bid_zero = q.bid_zero;
+      bid_top = q.bid_top;
+      front = λ i e a. k.led u i e (q.front i e a);
     }
 
     pub sured_more : (l : List E) (c t : ℕ) → Sured o g l c t → Sured o h l c t
@@ -176,7 +209,8 @@ module _ {E Q G R A F : Type 0} {b : Book E Q G R A F} {s : Start E} (o : IsOpen
     commits_more y view role log c base matched same z = record {
       bounded = ⊎_elim (λ (q : Sured o g log c view). inl (sured_more log c view q)) (λ (q : c ≡ base). inr q) z.bounded;
       based = (z.based.0, sured_more log base z.based.0 z.based.1);
-      above = z.above; recorded = z.recorded;
+      above = z.above;
+      recorded = z.recorded;
       ruled = λ r. sured_more log c view (z.ruled r);
       young = λ r. ⊎_elim (λ (q : Below o g log c view). inl (q.0, q.1, sured_more log c q.0 q.2)) (λ (q : Barred g y log c view). inr (λ p m a. ap (λ f. majority f m) (same r) ∙ q p m a)) (z.young r);
       opened = z.opened;
@@ -207,8 +241,8 @@ module _ {E Q G R A F : Type 0} {b : Book E Q G R A F} {s : Start E} (o : IsOpen
         ends = z.kept.ends;
         future = λ v a. k.held_of y v d ∙ z.kept.future v a;
         keeps = λ v i e a m.
-          let a' : Holds g y v i = holds_back b k y v i d a in
-          ⊎_elim (λ (q : slice_get n.log i ≡ Some e). inl q) (λ (q : Lost b g.chief g.led v i (suc n.view)). inr (lost_grow b k v i (suc n.view) q))
+            let a' : Holds g y v i = holds_back b k y v i d a in
+            ⊎_elim (λ (q : slice_get n.log i ≡ Some e). inl q) (λ (q : Lost b g.chief g.led v i (suc n.view)). inr (lost_grow b k v i (suc n.view) q))
             (z.kept.keeps v i e a' (mark_back b k y v i e d w a' m));
       };
       commits = commits_more y n.view n.role n.log n.commit n.base n.matched (λ r. k.shut_of y n.view d) z.commits;

@@ -1,39 +1,25 @@
 -- Views, votes and leaders of a run.
-use Rattle.std.proofs.Common.{◌≡◌, ◌≢◌, ◌⊎◌, inl, inr, ⊎_elim, ℕ, zero, suc, ◌+◌, ◌-◌, ◌≤◌, ◌<◌, ◌*◌, min, max, List, [], ◌∷◌, ◌++◌, length, take, drop, Bool, true, false, ◌&&◌, ◌||◌, not, ◌==◌, nat_lt, nat_le, if◌then◌else◌, Option, Some, None, Result, Ok, Err, unwrap_or, slice_get, refl, sym, ap, ◌∙◌, subst, true≢false, length-take, length-append, length-drop, arith}
-use Rattle.std.specs.Option.{option_to_list}
-use Rattle.std.proofs.lemmas.Bool.{cases_eq, cases_lt}
-use Rattle.std.proofs.lemmas.Bool.Decides.{nat_tests}
-use Rattle.gl_rules.specs.Identity.{NodeId, same, member, put, added}
-use Rattle.gl_rules.specs.Majority.{tally, majority, quorum}
+use Rattle.std.proofs.Common.{◌≡◌, ⊎_elim, ℕ, ◌≤◌, ◌<◌, List, [], ◌∷◌, length, take, Option, Some, None, slice_get, sym, ap, ◌∙◌, subst, arith}
+use Rattle.std.proofs.lemmas.Bool.{cases_lt}
+use Rattle.gl_rules.specs.Identity.{NodeId}
 use Rattle.gl_rules.specs.Book.{Book}
-use Rattle.gl_rules.specs.Node.{Node, Role, Follower, Candidate, Leader}
-use Rattle.gl_rules.specs.Message.{Last, Message, Body, RequestVote, VoteReply, Append, AppendReply, ProposeVote}
-use Rattle.gl_rules.specs.Log.{entry_at, place_before, is_at_least, view_at, last_signature, last, signed_part, greatest_recorded}
-use Rattle.gl_rules.specs.Configuration.{configuration_at, configurations_above, active_upto, active, in_some}
-use Rattle.gl_rules.specs.Steps.{cut_to, appended, leads, rise, has_votes, won_by, win, known_commit}
-use Rattle.gl_rules.specs.World.{Start}
-use Rattle.gl_rules.specs.Safety.{IsOpening, IsLawful, EachFollows, Makes, MarksNone, MayRecord, ViewsUpTo}
-use Rattle.gl_safety.proofs.Ids.{id_tests, same_is, same_self, same_tells, cases_same, put2, put_all, put2_cases, put2_at, by_test, share}
-use Rattle.gl_safety.proofs.Lists.{Same, same_take, there, within, past, get_take, take_get, drop_get, get_left, get_append, get_push, push_get, take_whole, append_none, push_append, take_nothing, take_one_more, take_past}
-use Rattle.gl_safety.proofs.Story.{Story, Grows, at_view, early_by, told_ballot, told_stand, told_led, told_win, told_held, grows_same, grows_then, grows_ballot, grows_stand, grows_held, grows_win, grows_led}
-use Rattle.gl_safety.proofs.Configurations.{IsNewest, Backed, backed_by, backs, newest_same, newest_exists}
-use Rattle.gl_safety.proofs.Facts.{Holds, Covers, Matches, Bound, Rising, Mark, Lost, Segment, Voted, Ballots, agree, is_led, led_is, matches_part, matches_grow, mark_grow, mark_back, lost_grow, lost_more, holds_grow, holds_back, segment_grow, ballots_of}
-use Rattle.gl_safety.proofs.Certificates.{SureOver, CertOver, Cert, Sure, Sured, Settled, Below, Won, Tale, sure_grow, sured_grow, cert_grow}
-use Rattle.gl_safety.proofs.Complete.{Winner, Before, Whole, chief_of_led, one_voter, winner_of, completes, complete, descend, has_all, newest_in, settled}
-use Rattle.gl_safety.proofs.Signatures.{last_le, last_above, last_signs, last_take, signed_keeps, view_at_is, last_view_is, last_zero, covers_last, covers_more, recorded_le, recorded_bound, recorded_some, recorded_part, signed_ends, last_more}
-use Rattle.gl_safety.proofs.Invariants.{Voter, Logged, Kept, Barred, Commits, Good, BodySent, AllSent, Made, Reached, rising_of, begins_of, signature_above, sure_within, settled_of, sure_to, known_in, recorded_sure, won_grow, sured_more, shuts_grow, commits_more, good_of, sent_grow, all_grow, all_append, sent_at, made_same, made_then}
-use Rattle.gl_safety.proofs.Soundness.{sound_cut, sound_push}
-use Rattle.gl_safety.proofs.Places.{MarksKnown, place_within, place_cut, place_more, place_same, mark_entry, marks_known}
-use Rattle.gl_rules.specs.Outcome.{Outcome, Step}
-use Rattle.gl_rules.specs.Outcome as outcome
+use Rattle.gl_rules.specs.Node.{Node, Leader}
+use Rattle.gl_rules.specs.Message.{Message}
+use Rattle.gl_rules.specs.World.{Start, Event, Timeout, Deliver, Submit, Finish, Govern, Reserve, Sign, Evidence, Replicate, Advance, StepDown, Restart, Install, World, at, on_message, delivered, happens, run, begin, after}
+use Rattle.gl_rules.specs.Safety.{IsOpening, IsLawful, EachFollows, IsPrefixOf, committed, node_after, LeadsByVote}
+use Rattle.gl_safety.proofs.Ids.{put_all}
+use Rattle.gl_safety.proofs.Lists.{Same, take_whole, prefix_of}
+use Rattle.gl_safety.proofs.Story.{Story}
+use Rattle.gl_safety.proofs.Facts.{Matches, agree}
+use Rattle.gl_safety.proofs.Certificates.{SureOver, Cert, Sured, Tale}
+use Rattle.gl_safety.proofs.Complete.{complete}
+use Rattle.gl_safety.proofs.Invariants.{sure_within}
+use Rattle.gl_rules.specs.Outcome.{Step}
 use Rattle.gl_rules.specs.Elections as elections
 use Rattle.gl_rules.specs.Replication as replication
 use Rattle.gl_rules.specs.Requests as requests
-use Rattle.gl_rules.specs.World.{Event, Timeout, Deliver, Submit, Finish, Govern, Reserve, Sign, Evidence, Replicate, Advance, StepDown, Restart, Install, World, at, on_message, delivered, happens, run, begin, after}
-use Rattle.gl_rules.specs.Safety.{IsPrefixOf, committed, node_after, LeadsByVote}
-use Rattle.gl_safety.proofs.Lists.{prefix_of}
-use Rattle.gl_safety.proofs.Views.{Up, message_up, timeout_up, step_down_up, submit_up, finish_up, govern_up, reserve_up, sign_up, evidence_up, replicate_up, advance_up, restart_up, install_up}
-use Rattle.gl_safety.proofs.Runs.{Holding, Later, first_story, onward_run, run_append}
+use Rattle.gl_safety.proofs.Views.{message_up, timeout_up, step_down_up, submit_up, finish_up, govern_up, reserve_up, sign_up, evidence_up, replicate_up, advance_up, restart_up, install_up}
+use Rattle.gl_safety.proofs.Runs.{run_append}
 use Rattle.gl_safety.proofs.Prefixes.{take_further, Moments, moments}
 
 module _ {E Q G R A F : Type 0} (b : Book E Q G R A F) where
@@ -100,17 +86,17 @@ module _ {E Q G R A F : Type 0} {b : Book E Q G R A F} {s : Start E} (o : IsOpen
         let mine = (k.first.nodes x).logged.mine ((k.first.nodes x).voter.chief_is p) in
         let mine' = (k.second.nodes x).logged.mine ((k.second.nodes x).voter.chief_is q) in
         subst (λ (l : List E). IsPrefixOf l (w.nodes x).log) (take_whole (v.nodes x).log)
-          (prefix_of (length (v.nodes x).log) (v.nodes x).log (w.nodes x).log (omega arith)
-            (λ i f h a. ap (λ l. slice_get l i) mine' ∙ ap (λ u. slice_get (k.later_story.led u) i) (sym e) ∙ k.later.led (v.nodes x).view i f (ap (λ l. slice_get l i) (sym mine) ∙ a)))
+        (prefix_of (length (v.nodes x).log) (v.nodes x).log (w.nodes x).log (omega arith)
+        (λ i f h a. ap (λ l. slice_get l i) mine' ∙ ap (λ u. slice_get (k.later_story.led u) i) (sym e) ∙ k.later.led (v.nodes x).view i f (ap (λ l. slice_get l i) (sym mine) ∙ a)))
 
     -- in the later story, each leader of a view above holds it
     in_led : (g : Story E) (n : Node E) (x : NodeId) → Tale o g → Matches b g.led n.log → (q : Sured o g n.log n.commit n.view) → (u : ℕ) (y : NodeId) → g.chief u ≡ Some y → n.view < u → Same n.commit n.log (g.led u)
     in_led g n x t p q u y ch h j f d a = ⊎_elim
         (λ (z : n.commit ≡ 0). absurd (omega arith))
         (λ (z : SureOver o (Cert o q.0 g) g n.log n.commit n.view).
-          let top = complete o g t u y ch q.0 z.v z.j z.last z.cert z.mark (omega (arith, z.top)) in
-          agree b g.led (g.led z.v) (g.led u) z.j z.last (t.matches z.v) (t.matches u) z.mark.at top j f (omega (arith, z.le, z.place))
-            (agree b g.led n.log (g.led z.v) z.i z.entry p (t.matches z.v) z.at z.leads j f (omega (arith, z.place)) a))
+        let top = complete o g t u y ch q.0 z.v z.j z.last z.cert z.mark (omega (arith, z.top)) in
+        agree b g.led (g.led z.v) (g.led u) z.j z.last (t.matches z.v) (t.matches u) z.mark.at top j f (omega (arith, z.le, z.place))
+        (agree b g.led n.log (g.led z.v) z.i z.entry p (t.matches z.v) z.at z.leads j f (omega (arith, z.place)) a))
         q.1
 
     keeps_later : (x y : NodeId) → (v.nodes x).view < (w.nodes y).view → (v.nodes x).role ≡ Leader → (w.nodes y).role ≡ Leader → IsPrefixOf (committed (v.nodes x)) (w.nodes y).log
@@ -121,7 +107,7 @@ module _ {E Q G R A F : Type 0} {b : Book E Q G R A F} {s : Start E} (o : IsOpen
         let mine' = (k.second.nodes y).logged.mine ch in
         let m : Matches b k.later_story.led (v.nodes x).log = record { below = λ i j e f a d z. k.later.led (b.view_of e) j f ((k.first.nodes x).logged.matches.below i j e f a d z) } in
         prefix_of (v.nodes x).commit (v.nodes x).log (w.nodes y).log (sure_within o k.later_story (v.nodes x).log (v.nodes x).commit (v.nodes x).view sure_n)
-          (λ i f d a. ap (λ l. slice_get l i) mine' ∙ in_led k.later_story (v.nodes x) x k.second.tale m sure_n (w.nodes y).view y ch h i f d a)
+        (λ i f d a. ap (λ l. slice_get l i) mine' ∙ in_led k.later_story (v.nodes x) x k.second.tale m sure_n (w.nodes y).view y ch h i f d a)
 
     -- also what is committed after the later leader led
     keeps_before : (x y : NodeId) → (w.nodes x).view < (v.nodes y).view → (w.nodes x).role ≡ Leader → (v.nodes y).role ≡ Leader → IsPrefixOf (committed (w.nodes x)) (v.nodes y).log
@@ -130,27 +116,27 @@ module _ {E Q G R A F : Type 0} {b : Book E Q G R A F} {s : Start E} (o : IsOpen
         let ch = (k.first.nodes y).voter.chief_is q in
         let mine = (k.first.nodes y).logged.mine ch in
         prefix_of (w.nodes x).commit (w.nodes x).log (v.nodes y).log (sure_within o k.later_story (w.nodes x).log (w.nodes x).commit (w.nodes x).view sure_n)
-          (λ i f d a.
-            let z = in_led k.later_story (w.nodes x) x k.second.tale (k.second.nodes x).logged.matches sure_n (v.nodes y).view y (k.later.chief (v.nodes y).view y ch) h i f d a in
-            ap (λ l. slice_get l i) mine ∙ ⊎_elim
-              (λ (u : slice_get (k.story.led (v.nodes y).view) i ≡ Some f). u)
-              (λ (u : b.view_of f ≡ (v.nodes y).view). absurd (omega (arith, ((k.second.nodes x).logged.bound.view i f a).1)))
-              (k.later.fresh (v.nodes y).view y i f ch z))
+        (λ i f d a.
+        let z = in_led k.later_story (w.nodes x) x k.second.tale (k.second.nodes x).logged.matches sure_n (v.nodes y).view y (k.later.chief (v.nodes y).view y ch) h i f d a in
+        ap (λ l. slice_get l i) mine ∙ ⊎_elim
+        (λ (u : slice_get (k.story.led (v.nodes y).view) i ≡ Some f). u)
+        (λ (u : b.view_of f ≡ (v.nodes y).view). absurd (omega (arith, ((k.second.nodes x).logged.bound.view i f a).1)))
+        (k.later.fresh (v.nodes y).view y i f ch z))
 
   pub leads_by_vote : (es : List (Event Q G R)) → LeadsByVote b s es
   leads_by_vote es = record {
     views = views es;
     one_vote = λ i j x c d e p q. ⊎_elim
-      (λ (h : j < i). sym (one_vote_at (after b s (take j es)) (after b s (take i es)) (moments o la es j i (omega arith)) x d c (sym e) q p))
-      (λ (h : i ≤ j). one_vote_at (after b s (take i es)) (after b s (take j es)) (moments o la es i j h) x c d e p q)
-      (cases_lt j i);
+        (λ (h : j < i). sym (one_vote_at (after b s (take j es)) (after b s (take i es)) (moments o la es j i (omega arith)) x d c (sym e) q p))
+        (λ (h : i ≤ j). one_vote_at (after b s (take i es)) (after b s (take j es)) (moments o la es i j h) x c d e p q)
+        (cases_lt j i);
     one_leader = λ i j x y e p q. ⊎_elim
-      (λ (h : j < i). sym (one_leader_at (after b s (take j es)) (after b s (take i es)) (moments o la es j i (omega arith)) y x (sym e) q p))
-      (λ (h : i ≤ j). one_leader_at (after b s (take i es)) (after b s (take j es)) (moments o la es i j h) x y e p q)
-      (cases_lt j i);
+        (λ (h : j < i). sym (one_leader_at (after b s (take j es)) (after b s (take i es)) (moments o la es j i (omega arith)) y x (sym e) q p))
+        (λ (h : i ≤ j). one_leader_at (after b s (take i es)) (after b s (take j es)) (moments o la es i j h) x y e p q)
+        (cases_lt j i);
     leader_grows = λ i j x h e p q. grows_at (after b s (take i es)) (after b s (take j es)) (moments o la es i j h) x e p q;
     leader_keeps = λ i j x y d p q. ⊎_elim
-      (λ (h : j < i). keeps_before (after b s (take j es)) (after b s (take i es)) (moments o la es j i (omega arith)) x y d p q)
-      (λ (h : i ≤ j). keeps_later (after b s (take i es)) (after b s (take j es)) (moments o la es i j h) x y d p q)
-      (cases_lt j i);
+        (λ (h : j < i). keeps_before (after b s (take j es)) (after b s (take i es)) (moments o la es j i (omega arith)) x y d p q)
+        (λ (h : i ≤ j). keeps_later (after b s (take i es)) (after b s (take j es)) (moments o la es i j h) x y d p q)
+        (cases_lt j i);
   }

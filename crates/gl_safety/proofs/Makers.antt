@@ -1,31 +1,21 @@
 -- Events that make an entry at the leader.
-use Rattle.std.proofs.Common.{◌≡◌, ◌≢◌, ◌⊎◌, inl, inr, ⊎_elim, ℕ, zero, suc, ◌+◌, ◌-◌, ◌≤◌, ◌<◌, ◌*◌, min, max, List, [], ◌∷◌, ◌++◌, length, take, drop, Bool, true, false, ◌&&◌, ◌||◌, not, ◌==◌, nat_lt, nat_le, if◌then◌else◌, Option, Some, None, Result, Ok, Err, unwrap_or, slice_get, refl, sym, ap, ◌∙◌, subst, true≢false, length-take, length-append, length-drop, arith}
-use Rattle.std.specs.Option.{option_to_list}
-use Rattle.std.proofs.lemmas.Bool.{cases_eq, cases_lt}
+use Rattle.std.proofs.Common.{◌≡◌, ◌⊎◌, inl, inr, ⊎_elim, ℕ, ◌+◌, ◌≤◌, [], ◌∷◌, ◌++◌, length, true, false, ◌||◌, not, ◌==◌, nat_lt, nat_le, if◌then◌else◌, Option, Some, None, Result, Ok, Err, refl, sym, ap, ◌∙◌, arith}
 use Rattle.std.proofs.lemmas.Bool.Decides.{nat_tests}
-use Rattle.gl_rules.specs.Identity.{NodeId, same, member, put, added}
-use Rattle.gl_rules.specs.Majority.{tally, majority, quorum}
+use Rattle.gl_rules.specs.Identity.{NodeId}
 use Rattle.gl_rules.specs.Book.{Book}
-use Rattle.gl_rules.specs.Node.{Node, Role, Follower, Candidate, Leader}
-use Rattle.gl_rules.specs.Message.{Last, Message, Body, RequestVote, VoteReply, Append, AppendReply, ProposeVote}
-use Rattle.gl_rules.specs.Log.{entry_at, place_before, is_at_least, view_at, last_signature, last, signed_part, greatest_recorded}
-use Rattle.gl_rules.specs.Configuration.{configuration_at, configurations_above, active_upto, active, in_some}
-use Rattle.gl_rules.specs.Steps.{cut_to, appended, leads, rise, has_votes, won_by, win, known_commit}
+use Rattle.gl_rules.specs.Node.{Node, Leader}
+use Rattle.gl_rules.specs.Log.{entry_at}
+use Rattle.gl_rules.specs.Configuration.{configurations_above}
+use Rattle.gl_rules.specs.Steps.{appended}
 use Rattle.gl_rules.specs.World.{Start}
-use Rattle.gl_rules.specs.Safety.{IsOpening, IsLawful, EachFollows, Makes, MarksNone, MayRecord, ViewsUpTo}
-use Rattle.gl_safety.proofs.Ids.{id_tests, same_is, same_self, same_tells, cases_same, put2, put_all, put2_cases, put2_at, by_test, share}
-use Rattle.gl_safety.proofs.Lists.{Same, same_take, there, within, past, get_take, take_get, drop_get, get_left, get_append, get_push, push_get, take_whole, append_none, push_append, take_nothing, take_one_more, take_past}
-use Rattle.gl_safety.proofs.Story.{Story, Grows, at_view, early_by, told_ballot, told_stand, told_led, told_win, told_held, grows_same, grows_then, grows_ballot, grows_stand, grows_held, grows_win, grows_led}
-use Rattle.gl_safety.proofs.Configurations.{IsNewest, Backed, backed_by, backs, newest_same, newest_exists}
-use Rattle.gl_safety.proofs.Facts.{Holds, Covers, Matches, Bound, Rising, Mark, Lost, Segment, Voted, Ballots, agree, is_led, led_is, matches_part, matches_grow, mark_grow, mark_back, lost_grow, lost_more, holds_grow, holds_back, segment_grow, ballots_of}
-use Rattle.gl_safety.proofs.Certificates.{SureOver, CertOver, Cert, Sure, Sured, Settled, Below, Won, Tale, sure_grow, sured_grow, cert_grow}
-use Rattle.gl_safety.proofs.Complete.{Winner, Before, Whole, chief_of_led, one_voter, winner_of, completes, complete, descend, has_all, newest_in, settled}
-use Rattle.gl_safety.proofs.Signatures.{last_le, last_above, last_signs, last_take, signed_keeps, view_at_is, last_view_is, last_zero, covers_last, covers_more, recorded_le, recorded_bound, recorded_some, recorded_part, signed_ends, last_more}
-use Rattle.gl_safety.proofs.Invariants.{Voter, Logged, Kept, Barred, Commits, Good, BodySent, AllSent, Made, Reached, rising_of, begins_of, signature_above, sure_within, settled_of, sure_to, known_in, recorded_sure, won_grow, sured_more, shuts_grow, commits_more, good_of, sent_grow, all_grow, all_append, sent_at, made_same, made_then}
-use Rattle.gl_safety.proofs.Soundness.{sound_cut, sound_push}
-use Rattle.gl_safety.proofs.Places.{MarksKnown, place_within, place_cut, place_more, place_same, mark_entry, marks_known}
-use Rattle.gl_rules.specs.Outcome.{Outcome, Step, Done, Signed, quiet, refuse, idle, TooManyPending, NotReserved, KeyExhausted, NothingToSign, RemovalNotCommitted, RolledBack, ByLedger}
-use Rattle.gl_rules.specs.Steps.{led_by, if_leader}
+use Rattle.gl_rules.specs.Safety.{IsOpening, IsLawful, EachFollows, Makes, ViewsUpTo}
+use Rattle.gl_safety.proofs.Ids.{by_test}
+use Rattle.gl_safety.proofs.Story.{Story}
+use Rattle.gl_safety.proofs.Certificates.{Tale}
+use Rattle.gl_safety.proofs.Complete.{settled}
+use Rattle.gl_safety.proofs.Invariants.{Good}
+use Rattle.gl_safety.proofs.Soundness.{sound_push}
+use Rattle.gl_rules.specs.Outcome.{Done, quiet, refuse, TooManyPending, NotReserved, KeyExhausted, NothingToSign, RemovalNotCommitted, RolledBack}
 use Rattle.gl_rules.specs.Requests.{pending_limit, last_count, enters, executes, submit, unless_conflict, finishes, finish, removed_late, marked, if_markable, governs, govern, reserve, signs_for, signed, signs, sign, evident, evidence}
 use Rattle.gl_safety.proofs.Leading.{made_append, good_used}
 use Rattle.gl_safety.proofs.Voters.{By, stay, reached_leader}
@@ -39,7 +29,7 @@ module _ {E Q G R A F : Type 0} {b : Book E Q G R A F} {s : Start E} (o : IsOpen
 
   enters_by : (x : NodeId) (g : Story E) (n : Node E) → Tale o g → Good o g x n → n.role ≡ Leader → (m : Result (E × A) F) →
       ((e : E) (a : A) → m ≡ Ok (e, a) → Makes b (EachFollows b) n.log n.view e × (b.is_signature e ≡ false) ×
-        ((y : NodeId) (k q : ℕ) → b.mark (n.log ++ e ∷ []) y ≡ Some k → b.removal n.log y ≡ Some q → (b.mark n.log y ≡ Some k) ⊎ (q ≤ n.commit))) → By o la x g (enters b n m)
+      ((y : NodeId) (k q : ℕ) → b.mark (n.log ++ e ∷ []) y ≡ Some k → b.removal n.log y ≡ Some q → (b.mark n.log y ≡ Some k) ⊎ (q ≤ n.commit))) → By o la x g (enters b n m)
   enters_by x g n t z r (Err why) f = stay o la x g n t z
   enters_by x g n t z r (Ok made) f =
       let w = f made.0 made.1 refl in
@@ -56,8 +46,8 @@ module _ {E Q G R A F : Type 0} {b : Book E Q G R A F} {s : Start E} (o : IsOpen
   unfolding finish
   reached_finish x len cuts reads q g n t z = reached_leader o la x g n (finishes b len cuts reads q n) t z
       (λ r. by_test (By o la x g) (not (n.cuts == cuts) || (n.cuts == last_count)) (refuse n (RolledBack cuts n.cuts)) (unless_conflict b (b.conflict n.log len reads) n (executes b q n))
-        (λ d. stay o la x g n t z)
-        (λ d. go r (b.conflict n.log len reads)))
+      (λ d. stay o la x g n t z)
+      (λ d. go r (b.conflict n.log len reads)))
     where
       go : n.role ≡ Leader → (m : Option F) → By o la x g (unless_conflict b m n (executes b q n))
       go r None = executes_by x q g n t z r
@@ -67,26 +57,32 @@ module _ {E Q G R A F : Type 0} {b : Book E Q G R A F} {s : Start E} (o : IsOpen
   unfolding govern
   reached_govern x q g n t z = reached_leader o la x g n (governs b q n) t z
       (λ r. by_test (By o la x g) (nat_le pending_limit (length (configurations_above b n.log n.commit (length n.log)))) (refuse n (TooManyPending pending_limit)) (if_markable b (b.marks q) n (enters b n (b.govern n.log n.view q)))
-        (λ d. stay o la x g n t z)
-        (λ d. go r (b.marks q) refl))
+      (λ d. stay o la x g n t z)
+      (λ d. go r (b.marks q) refl))
     where
       made : n.role ≡ Leader → ((y : NodeId) (p : ℕ) → b.marks q ≡ Some y → b.removal n.log y ≡ Some p → p ≤ n.commit) → By o la x g (enters b n (b.govern n.log n.view q))
       made r free = enters_by x g n t z r (b.govern n.log n.view q) (λ e a d.
-          let w = la.governed n.log n.view q e a z.sound (views_of x g n z) d in
-          (w.0, w.1, λ y k p c f. ⊎_elim (λ (u : b.mark n.log y ≡ Some k). inl u) (λ (u : b.marks q ≡ Some y). inr (free y p u f))
-            (la.marks n.log n.view q e a y k z.sound (views_of x g n z) d c)))
+          let w = la.governed n.log n.view q e a z.sound (views_of x g n z) d in (
+            w.0,
+            w.1,
+            λ y k p c f. ⊎_elim (λ (u : b.mark n.log y ≡ Some k). inl u) (λ (u : b.marks q ≡ Some y). inr (free y p u f))
+                (la.marks n.log n.view q e a y k z.sound (views_of x g n z) d c),
+          ))
+
       late : n.role ≡ Leader → (y : NodeId) → b.marks q ≡ Some y → (m : Option ℕ) → b.removal n.log y ≡ m → By o la x g (removed_late b m n (enters b n (b.govern n.log n.view q)))
       late r y c None d = made r (λ u p v f. absurd (let same : y ≡ u = let k = sym c ∙ v in cc in let w : b.removal n.log y ≡ Some p = ap (b.removal n.log) same ∙ f in cc))
       late r y c (Some place) d = by_test (By o la x g) (nat_lt n.commit place) (refuse n (RemovalNotCommitted place n.commit)) (enters b n (b.govern n.log n.view q)) (λ h. stay o la x g n t z)
           (λ h. made r (λ u p v f.
-            let same : y ≡ u = let k = sym c ∙ v in cc in
-            let w : b.removal n.log y ≡ Some p = ap (b.removal n.log) same ∙ f in
-            let eq : place ≡ p = let k = sym d ∙ w in cc in
-            let low : place ≤ n.commit = grind (arith, nat_tests) in
-            omega arith))
+          let same : y ≡ u = let k = sym c ∙ v in cc in
+          let w : b.removal n.log y ≡ Some p = ap (b.removal n.log) same ∙ f in
+          let eq : place ≡ p = let k = sym d ∙ w in cc in
+          let low : place ≤ n.commit = grind (arith, nat_tests) in
+          omega arith))
+
       inner : n.role ≡ Leader → (y : NodeId) → b.marks q ≡ Some y → (m : Option F) → By o la x g (marked b m y n (enters b n (b.govern n.log n.view q)))
       inner r y c (Some why) = stay o la x g n t z
       inner r y c None = late r y c (b.removal n.log y) refl
+
       go : n.role ≡ Leader → (m : Option NodeId) → b.marks q ≡ m → By o la x g (if_markable b m n (enters b n (b.govern n.log n.view q)))
       go r None c = made r (λ y p v f. absurd (cc))
       go r (Some y) c = inner r y c (b.unmarkable n.log y)
@@ -108,11 +104,11 @@ module _ {E Q G R A F : Type 0} {b : Book E Q G R A F} {s : Start E} (o : IsOpen
   unfolding sign
   reached_sign x g n t z = reached_leader o la x g n (signs b x n) t z
       (λ r. by_test (By o la x g) (n.used == n.reserved) (refuse n (NotReserved n.reserved))
-        (if signs_for b n.view (entry_at n.log (length n.log)) then refuse n (NothingToSign (length n.log)) else signed b n (b.sign x n.used n.log n.view n.commit))
-        (λ d. stay o la x g n t z)
-        (λ d. by_test (By o la x g) (signs_for b n.view (entry_at n.log (length n.log))) (refuse n (NothingToSign (length n.log))) (signed b n (b.sign x n.used n.log n.view n.commit))
-          (λ e. stay o la x g n t z)
-          (λ e. go r (b.sign x n.used n.log n.view n.commit) refl)))
+      (if signs_for b n.view (entry_at n.log (length n.log)) then refuse n (NothingToSign (length n.log)) else signed b n (b.sign x n.used n.log n.view n.commit))
+      (λ d. stay o la x g n t z)
+      (λ d. by_test (By o la x g) (signs_for b n.view (entry_at n.log (length n.log))) (refuse n (NothingToSign (length n.log))) (signed b n (b.sign x n.used n.log n.view n.commit))
+      (λ e. stay o la x g n t z)
+      (λ e. go r (b.sign x n.used n.log n.view n.commit) refl)))
     where
       go : n.role ≡ Leader → (m : Result E F) → b.sign x n.used n.log n.view n.commit ≡ m → By o la x g (signed b n m)
       go r (Err why) d = stay o la x g n t z
@@ -121,8 +117,8 @@ module _ {E Q G R A F : Type 0} {b : Book E Q G R A F} {s : Start E} (o : IsOpen
           let w = la.signed x n.used n.log n.view n.commit e z.sound (views_of x g n z) (record { signature = c.0; at = c.1; signs = c.2; least = z.commits.recorded; removals = λ y k p a h f. z.commits.marked r y k p a h f }) d in
           let all : EachFollows b (n.log ++ e ∷ []) = sound_push b n.log e z.sound w.0.follows in
           let p = made_append o la x g n e t z r w.0.view_is w.0.follows (λ q. w.2)
-                (λ y k q a f. ⊎_elim (λ (u : b.mark n.log y ≡ Some k). inl u)
-                  (λ (u : k ≡ length n.log + 1). absurd (let v = (la.marked n.log e y all (a ∙ ap Some u)).0 in cc)) (la.markings.comes n.log e y k all a)) in
+          (λ y k q a f. ⊎_elim (λ (u : b.mark n.log y ≡ Some k). inl u)
+          (λ (u : k ≡ length n.log + 1). absurd (let v = (la.marked n.log e y all (a ∙ ap Some u)).0 in cc)) (la.markings.comes n.log e y k all a)) in
           (p.0, good_used o la x g p.0 (appended n e) (n.used + 1) p.1)
 
   pub reached_evidence : (x : NodeId) (g : Story E) (n : Node E) → Tale o g → Good o g x n → By o la x g (evidence b n)

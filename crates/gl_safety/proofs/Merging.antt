@@ -1,29 +1,12 @@
 -- What a log is after it took entries of a leader's log.
-use Rattle.std.proofs.Common.{◌≡◌, ◌≢◌, ◌⊎◌, inl, inr, ⊎_elim, ℕ, zero, suc, ◌+◌, ◌-◌, ◌≤◌, ◌<◌, ◌*◌, min, max, List, [], ◌∷◌, ◌++◌, length, take, drop, Bool, true, false, ◌&&◌, ◌||◌, not, ◌==◌, nat_lt, nat_le, if◌then◌else◌, Option, Some, None, Result, Ok, Err, unwrap_or, slice_get, refl, sym, ap, ◌∙◌, subst, true≢false, length-take, length-append, length-drop, arith}
-use Rattle.std.specs.Option.{option_to_list}
+use Rattle.std.proofs.Common.{◌≡◌, ◌≢◌, ◌⊎◌, inl, inr, ⊎_elim, ℕ, zero, suc, ◌+◌, ◌-◌, ◌≤◌, ◌<◌, List, [], ◌∷◌, ◌++◌, length, take, drop, Bool, true, false, ◌==◌, if◌then◌else◌, Option, Some, None, Ok, slice_get, refl, sym, ap, ◌∙◌, subst, length-take, length-append, length-drop, arith}
 use Rattle.std.proofs.lemmas.Bool.{cases_eq, cases_lt}
 use Rattle.std.proofs.lemmas.Bool.Decides.{nat_tests}
-use Rattle.gl_rules.specs.Identity.{NodeId, same, member, put, added}
-use Rattle.gl_rules.specs.Majority.{tally, majority, quorum}
 use Rattle.gl_rules.specs.Book.{Book}
-use Rattle.gl_rules.specs.Node.{Node, Role, Follower, Candidate, Leader}
-use Rattle.gl_rules.specs.Message.{Last, Message, Body, RequestVote, VoteReply, Append, AppendReply, ProposeVote}
-use Rattle.gl_rules.specs.Log.{entry_at, place_before, is_at_least, view_at, last_signature, last, signed_part, greatest_recorded}
-use Rattle.gl_rules.specs.Configuration.{configuration_at, configurations_above, active_upto, active, in_some}
-use Rattle.gl_rules.specs.Steps.{cut_to, appended, leads, rise, has_votes, won_by, win, known_commit}
-use Rattle.gl_rules.specs.World.{Start}
-use Rattle.gl_rules.specs.Safety.{IsOpening, IsLawful, EachFollows, Makes, MarksNone, MayRecord, ViewsUpTo}
-use Rattle.gl_safety.proofs.Ids.{id_tests, same_is, same_self, same_tells, cases_same, put2, put_all, put2_cases, put2_at, by_test, share}
-use Rattle.gl_safety.proofs.Lists.{Same, same_take, there, within, past, get_take, take_get, drop_get, get_left, get_append, get_push, push_get, take_whole, append_none, push_append, take_nothing, take_one_more, take_past}
-use Rattle.gl_safety.proofs.Story.{Story, Grows, at_view, early_by, told_ballot, told_stand, told_led, told_win, told_held, grows_same, grows_then, grows_ballot, grows_stand, grows_held, grows_win, grows_led}
-use Rattle.gl_safety.proofs.Configurations.{IsNewest, Backed, backed_by, backs, newest_same, newest_exists}
-use Rattle.gl_safety.proofs.Facts.{Holds, Covers, Matches, Bound, Rising, Mark, Lost, Segment, Voted, Ballots, agree, is_led, led_is, matches_part, matches_grow, mark_grow, mark_back, lost_grow, lost_more, holds_grow, holds_back, segment_grow, ballots_of}
-use Rattle.gl_safety.proofs.Certificates.{SureOver, CertOver, Cert, Sure, Sured, Settled, Below, Won, Tale, sure_grow, sured_grow, cert_grow}
-use Rattle.gl_safety.proofs.Complete.{Winner, Before, Whole, chief_of_led, one_voter, winner_of, completes, complete, descend, has_all, newest_in, settled}
-use Rattle.gl_safety.proofs.Signatures.{last_le, last_above, last_signs, last_take, signed_keeps, view_at_is, last_view_is, last_zero, covers_last, covers_more, recorded_le, recorded_bound, recorded_some, recorded_part, signed_ends, last_more}
-use Rattle.gl_safety.proofs.Invariants.{Voter, Logged, Kept, Barred, Commits, Good, BodySent, AllSent, Made, Reached, rising_of, begins_of, signature_above, sure_within, settled_of, sure_to, known_in, recorded_sure, won_grow, sured_more, shuts_grow, commits_more, good_of, sent_grow, all_grow, all_append, sent_at, made_same, made_then}
-use Rattle.gl_safety.proofs.Soundness.{sound_cut, sound_push}
-use Rattle.gl_safety.proofs.Places.{MarksKnown, place_within, place_cut, place_more, place_same, mark_entry, marks_known}
+use Rattle.gl_rules.specs.Safety.{EachFollows}
+use Rattle.gl_safety.proofs.Lists.{Same, there, within, get_take, drop_get, get_append, append_none, push_append}
+use Rattle.gl_safety.proofs.Facts.{Matches}
+use Rattle.gl_safety.proofs.Soundness.{sound_push}
 use Rattle.gl_rules.specs.Replication.{held_of, judged, applied}
 
 module _ {E Q G R A F : Type 0} (b : Book E Q G R A F) where
@@ -92,24 +75,24 @@ module _ {E Q G R A F : Type 0} (b : Book E Q G R A F) where
     agreed j f h a = ⊎_elim
         (λ (q : j < p). front j f q a)
         (λ (q : p ≤ j).
-          let y = held_in (drop p l) es (j - p) (omega arith) in
-          let in_l : slice_get l j ≡ Some y.0 = sym (drop_get p l (j - p) j (omega arith)) ∙ y.2 in
-          let in_m : slice_get m j ≡ Some y.1 = items (j - p) j y.1 (omega arith) y.3 in
-          let at_l : slice_get (led (b.view_of y.0)) j ≡ Some y.0 = ml.below j j y.0 y.0 in_l (omega arith) in_l in
-          let at_m : slice_get (led (b.view_of y.1)) j ≡ Some y.1 = mm.below j j y.1 y.1 in_m (omega arith) in_m in
-          let same : y.0 ≡ y.1 = let w : slice_get (led (b.view_of y.0)) j ≡ Some y.1 = ap (λ v. slice_get (led v) j) y.4 ∙ at_m in let u = sym at_l ∙ w in cc in
-          in_m ∙ ap Some (sym same) ∙ sym in_l ∙ a)
+        let y = held_in (drop p l) es (j - p) (omega arith) in
+        let in_l : slice_get l j ≡ Some y.0 = sym (drop_get p l (j - p) j (omega arith)) ∙ y.2 in
+        let in_m : slice_get m j ≡ Some y.1 = items (j - p) j y.1 (omega arith) y.3 in
+        let at_l : slice_get (led (b.view_of y.0)) j ≡ Some y.0 = ml.below j j y.0 y.0 in_l (omega arith) in_l in
+        let at_m : slice_get (led (b.view_of y.1)) j ≡ Some y.1 = mm.below j j y.1 y.1 in_m (omega arith) in_m in
+        let same : y.0 ≡ y.1 = let w : slice_get (led (b.view_of y.0)) j ≡ Some y.1 = ap (λ v. slice_get (led v) j) y.4 ∙ at_m in let u = sym at_l ∙ w in cc in
+        in_m ∙ ap Some (sym same) ∙ sym in_l ∙ a)
         (cases_lt j p)
 
     pub merged_all : held_of b (drop p l) es ≡ length es → Merged l m (p + length es) l
     merged_all h = record {
       front = λ j f d a. agreed j f (omega arith) a;
       long = ⊎_elim
-        (λ (q : length es ≡ 0). omega arith)
-        (λ (q : length es ≢ 0). let y = held_in (drop p l) es (length es - 1) (omega arith) in
+          (λ (q : length es ≡ 0). omega arith)
+          (λ (q : length es ≢ 0). let y = held_in (drop p l) es (length es - 1) (omega arith) in
           let in_l : slice_get l (p + (length es - 1)) ≡ Some y.0 = sym (drop_get p l (length es - 1) (p + (length es - 1)) (omega arith)) ∙ y.2 in
           omega (arith, within l (p + (length es - 1)) y.0 in_l))
-        (cases_eq (length es) 0);
+          (cases_eq (length es) 0);
       way = inl refl;
     }
 
@@ -122,24 +105,29 @@ module _ {E Q G R A F : Type 0} (b : Book E Q G R A F) where
       where
         n : ℕ
         n = held_of b (drop p l) es
+
         k : ℕ
         k = p + held_of b (drop p l) es
+
         n_le : held_of b (drop p l) es ≤ length es
         n_le = held_le (drop p l) es
+
         k_le : p + held_of b (drop p l) es ≤ length l
         k_le = ⊎_elim
             (λ (q : held_of b (drop p l) es ≡ 0). omega arith)
             (λ (q : held_of b (drop p l) es ≢ 0).
-              let y = held_in (drop p l) es (held_of b (drop p l) es - 1) (omega arith) in
-              let in_l : slice_get l (p + (held_of b (drop p l) es - 1)) ≡ Some y.0 = sym (drop_get p l (held_of b (drop p l) es - 1) (p + (held_of b (drop p l) es - 1)) (omega arith)) ∙ y.2 in
-              omega (arith, within l (p + (held_of b (drop p l) es - 1)) y.0 in_l))
+            let y = held_in (drop p l) es (held_of b (drop p l) es - 1) (omega arith) in
+            let in_l : slice_get l (p + (held_of b (drop p l) es - 1)) ≡ Some y.0 = sym (drop_get p l (held_of b (drop p l) es - 1) (p + (held_of b (drop p l) es - 1)) (omega arith)) ∙ y.2 in
+            omega (arith, within l (p + (held_of b (drop p l) es - 1)) y.0 in_l))
             (cases_eq (held_of b (drop p l) es) 0)
+
         in_es : (f : E) → slice_get m (p + held_of b (drop p l) es) ≡ Some f → slice_get es (held_of b (drop p l) es) ≡ Some f
         in_es f c = let y = there es (held_of b (drop p l) es) (omega (arith, n_le)) in y.1 ∙ sym (items (held_of b (drop p l) es) (p + held_of b (drop p l) es) y.0 refl y.1) ∙ c
+
         new_in : (j : ℕ) (f : E) → slice_get (take (p + held_of b (drop p l) es) l ++ drop (held_of b (drop p l) es) es) j ≡ Some f → slice_get m j ≡ Some f
         new_in j f a = ⊎_elim
             (λ (q : slice_get (take (p + held_of b (drop p l) es) l) j ≡ Some f). let y = get_take (p + held_of b (drop p l) es) l j f q in agreed j f y.0 y.1)
             (λ (q : (i : ℕ) × (j ≡ length (take (p + held_of b (drop p l) es) l) + i) × (slice_get (drop (held_of b (drop p l) es) es) i ≡ Some f)).
-              let u = length-take (p + held_of b (drop p l) es) l in
-              items (held_of b (drop p l) es + q.0) j f (omega (arith, q.1, u, k_le)) (sym (drop_get (held_of b (drop p l) es) es q.0 (held_of b (drop p l) es + q.0) refl) ∙ q.2))
+            let u = length-take (p + held_of b (drop p l) es) l in
+            items (held_of b (drop p l) es + q.0) j f (omega (arith, q.1, u, k_le)) (sym (drop_get (held_of b (drop p l) es) es q.0 (held_of b (drop p l) es + q.0) refl) ∙ q.2))
             (get_append (take (p + held_of b (drop p l) es) l) (drop (held_of b (drop p l) es) es) j f a)

@@ -1,32 +1,17 @@
 -- Of two committed ledgers one is a prefix of the other.
-use Rattle.std.proofs.Common.{◌≡◌, ◌≢◌, ◌⊎◌, inl, inr, ⊎_elim, ℕ, zero, suc, ◌+◌, ◌-◌, ◌≤◌, ◌<◌, ◌*◌, min, max, List, [], ◌∷◌, ◌++◌, length, take, drop, Bool, true, false, ◌&&◌, ◌||◌, not, ◌==◌, nat_lt, nat_le, if◌then◌else◌, Option, Some, None, Result, Ok, Err, unwrap_or, slice_get, refl, sym, ap, ◌∙◌, subst, true≢false, length-take, length-append, length-drop, arith}
-use Rattle.std.specs.Option.{option_to_list}
+use Rattle.std.proofs.Common.{◌≡◌, ◌≢◌, ◌⊎◌, inl, inr, ⊎_elim, ℕ, zero, suc, ◌≤◌, ◌<◌, List, [], ◌∷◌, ◌++◌, take, Some, slice_get, refl, sym, ap, ◌∙◌, subst, arith}
 use Rattle.std.proofs.lemmas.Bool.{cases_eq, cases_lt}
-use Rattle.std.proofs.lemmas.Bool.Decides.{nat_tests}
-use Rattle.gl_rules.specs.Identity.{NodeId, same, member, put, added}
-use Rattle.gl_rules.specs.Majority.{tally, majority, quorum}
+use Rattle.gl_rules.specs.Identity.{NodeId}
 use Rattle.gl_rules.specs.Book.{Book}
-use Rattle.gl_rules.specs.Node.{Node, Role, Follower, Candidate, Leader}
-use Rattle.gl_rules.specs.Message.{Last, Message, Body, RequestVote, VoteReply, Append, AppendReply, ProposeVote}
-use Rattle.gl_rules.specs.Log.{entry_at, place_before, is_at_least, view_at, last_signature, last, signed_part, greatest_recorded}
-use Rattle.gl_rules.specs.Configuration.{configuration_at, configurations_above, active_upto, active, in_some}
-use Rattle.gl_rules.specs.Steps.{cut_to, appended, leads, rise, has_votes, won_by, win, known_commit}
-use Rattle.gl_rules.specs.World.{Start}
-use Rattle.gl_rules.specs.Safety.{IsOpening, IsLawful, EachFollows, Makes, MarksNone, MayRecord, ViewsUpTo}
-use Rattle.gl_safety.proofs.Ids.{id_tests, same_is, same_self, same_tells, cases_same, put2, put_all, put2_cases, put2_at, by_test, share}
-use Rattle.gl_safety.proofs.Lists.{Same, same_take, there, within, past, get_take, take_get, drop_get, get_left, get_append, get_push, push_get, take_whole, append_none, push_append, take_nothing, take_one_more, take_past}
-use Rattle.gl_safety.proofs.Story.{Story, Grows, at_view, early_by, told_ballot, told_stand, told_led, told_win, told_held, grows_same, grows_then, grows_ballot, grows_stand, grows_held, grows_win, grows_led}
-use Rattle.gl_safety.proofs.Configurations.{IsNewest, Backed, backed_by, backs, newest_same, newest_exists}
-use Rattle.gl_safety.proofs.Facts.{Holds, Covers, Matches, Bound, Rising, Mark, Lost, Segment, Voted, Ballots, agree, is_led, led_is, matches_part, matches_grow, mark_grow, mark_back, lost_grow, lost_more, holds_grow, holds_back, segment_grow, ballots_of}
-use Rattle.gl_safety.proofs.Certificates.{SureOver, CertOver, Cert, Sure, Sured, Settled, Below, Won, Tale, sure_grow, sured_grow, cert_grow}
-use Rattle.gl_safety.proofs.Complete.{Winner, Before, Whole, chief_of_led, one_voter, winner_of, completes, complete, descend, has_all, newest_in, settled}
-use Rattle.gl_safety.proofs.Signatures.{last_le, last_above, last_signs, last_take, signed_keeps, view_at_is, last_view_is, last_zero, covers_last, covers_more, recorded_le, recorded_bound, recorded_some, recorded_part, signed_ends, last_more}
-use Rattle.gl_safety.proofs.Invariants.{Voter, Logged, Kept, Barred, Commits, Good, BodySent, AllSent, Made, Reached, rising_of, begins_of, signature_above, sure_within, settled_of, sure_to, known_in, recorded_sure, won_grow, sured_more, shuts_grow, commits_more, good_of, sent_grow, all_grow, all_append, sent_at, made_same, made_then}
-use Rattle.gl_safety.proofs.Soundness.{sound_cut, sound_push}
-use Rattle.gl_safety.proofs.Places.{MarksKnown, place_within, place_cut, place_more, place_same, mark_entry, marks_known}
-use Rattle.gl_rules.specs.Safety.{IsPrefixOf, committed, IsSafe, Agree, node_after}
-use Rattle.gl_rules.specs.World.{Event, World, run, begin, after}
-use Rattle.gl_safety.proofs.Lists.{prefix_of}
+use Rattle.gl_rules.specs.World.{Start, Event, World, run, begin, after}
+use Rattle.gl_rules.specs.Safety.{IsOpening, IsLawful, EachFollows, IsPrefixOf, committed, Agree, node_after}
+use Rattle.gl_safety.proofs.Lists.{Same, within, take_get, prefix_of}
+use Rattle.gl_safety.proofs.Story.{Story}
+use Rattle.gl_safety.proofs.Facts.{Matches, agree}
+use Rattle.gl_safety.proofs.Certificates.{SureOver, Cert, Settled, Tale}
+use Rattle.gl_safety.proofs.Complete.{chief_of_led, complete}
+use Rattle.gl_safety.proofs.Invariants.{settled_of}
+use Rattle.gl_safety.proofs.Soundness.{sound_cut}
 use Rattle.gl_safety.proofs.Runs.{Holding, Later, first_story, onward_run, run_append}
 use Rattle.gl_safety.proofs.Beginning.{holding_first}
 
@@ -59,9 +44,9 @@ module _ {E Q G R A F : Type 0} {b : Book E Q G R A F} {s : Start E} (o : IsOpen
       IsPrefixOf (take c l) (take d m) ⊎ IsPrefixOf (take d m) (take c l)
   one_way g t l m c d a f j k p z q r h = ⊎_elim
       (λ (e : d < c). inr (prefix_of d m (take c l) (omega (arith, r.place, within m r.i r.entry r.at))
-        (λ i x w y. take_get c l i x (omega arith) (l_led_up i x (omega (arith, q.place)) (m_led i x (omega (arith, r.place)) y)))))
+      (λ i x w y. take_get c l i x (omega arith) (l_led_up i x (omega (arith, q.place)) (m_led i x (omega (arith, r.place)) y)))))
       (λ (e : c ≤ d). inl (prefix_of c l (take d m) (omega (arith, q.place, within l q.i q.entry q.at))
-        (λ i x w y. take_get d m i x (omega arith) (m_led_up i x (omega (arith, r.place)) (l_led i x (omega (arith, q.place)) y)))))
+      (λ i x w y. take_get d m i x (omega arith) (m_led_up i x (omega (arith, r.place)) (l_led i x (omega (arith, q.place)) y)))))
       (cases_lt d c)
     where
       top : slice_get (g.led r.v) q.j ≡ Some q.last
@@ -69,14 +54,19 @@ module _ {E Q G R A F : Type 0} {b : Book E Q G R A F} {s : Start E} (o : IsOpen
           (λ (e : q.v ≡ r.v). ap (λ v. slice_get (g.led v) q.j) (sym e) ∙ q.mark.at)
           (λ (e : q.v ≢ r.v). let y = chief_of_led o g t r.v r.j r.last r.mark.at in complete o g t r.v y.0 y.1 j q.v q.j q.last q.cert q.mark (omega arith))
           (cases_eq q.v r.v)
+
       at_q : slice_get (g.led r.v) q.i ≡ Some q.entry
       at_q = agree b g.led (g.led q.v) (g.led r.v) q.j q.last (t.matches q.v) (t.matches r.v) q.mark.at top q.i q.entry (omega (arith, q.le)) q.leads
+
       l_led : Same (suc q.i) l (g.led r.v)
       l_led = agree b g.led l (g.led r.v) q.i q.entry p (t.matches r.v) q.at at_q
+
       l_led_up : Same (suc q.i) (g.led r.v) l
       l_led_up = agree b g.led (g.led r.v) l q.i q.entry (t.matches r.v) p at_q q.at
+
       m_led : Same (suc r.i) m (g.led r.v)
       m_led = agree b g.led m (g.led r.v) r.i r.entry z (t.matches r.v) r.at r.leads
+
       m_led_up : Same (suc r.i) (g.led r.v) m
       m_led_up = agree b g.led (g.led r.v) m r.i r.entry (t.matches r.v) z r.leads r.at
 
@@ -88,12 +78,12 @@ module _ {E Q G R A F : Type 0} {b : Book E Q G R A F} {s : Start E} (o : IsOpen
   ordered g t l m c d p z y w = ⊎_elim
       (λ (e : c ≡ 0). inl (take d m, ap (λ k. take k l ++ take d m) e))
       (λ (q : SureOver o (Cert o (y.1).0 g) g l c y.0). ⊎_elim
-        (λ (e : d ≡ 0). inr (take c l, ap (λ k. take k m ++ take c l) e))
-        (λ (r : SureOver o (Cert o (w.1).0 g) g m d w.0). ⊎_elim
-          (λ (h : r.v < q.v). either (one_way g t m l d c w.0 y.0 (w.1).0 (y.1).0 z p r q (omega arith)))
-          (λ (h : q.v ≤ r.v). one_way g t l m c d y.0 w.0 (y.1).0 (w.1).0 p z q r h)
-          (cases_lt r.v q.v))
-        (w.1).1)
+      (λ (e : d ≡ 0). inr (take c l, ap (λ k. take k m ++ take c l) e))
+      (λ (r : SureOver o (Cert o (w.1).0 g) g m d w.0). ⊎_elim
+      (λ (h : r.v < q.v). either (one_way g t m l d c w.0 y.0 (w.1).0 (y.1).0 z p r q (omega arith)))
+      (λ (h : q.v ≤ r.v). one_way g t l m c d y.0 w.0 (y.1).0 (w.1).0 p z q r h)
+      (cases_lt r.v q.v))
+      (w.1).1)
       (y.1).1
 
   pub settled_at : (w : World E) (g : Story E) → Holding o la w g → (x : NodeId) → Settled o g (w.nodes x).log (w.nodes x).commit
@@ -103,10 +93,10 @@ module _ {E Q G R A F : Type 0} {b : Book E Q G R A F} {s : Start E} (o : IsOpen
   both_at v w k x y =
       let c = settled_at v k.story k.first x in
       ordered k.later_story k.second.tale (v.nodes x).log (w.nodes y).log (v.nodes x).commit (w.nodes y).commit
-        (record { below = λ i j e f a h d. k.later.led (b.view_of e) j f ((k.first.nodes x).logged.matches.below i j e f a h d) })
-        (k.second.nodes y).logged.matches
-        (c.0, k.later.sured (v.nodes x).log (v.nodes x).commit c.0 c.1)
-        (settled_at w k.later_story k.second y)
+      (record { below = λ i j e f a h d. k.later.led (b.view_of e) j f ((k.first.nodes x).logged.matches.below i j e f a h d) })
+      (k.second.nodes y).logged.matches
+      (c.0, k.later.sured (v.nodes x).log (v.nodes x).commit c.0 c.1)
+      (settled_at w k.later_story k.second y)
 
   pub prefix : (es : List (Event Q G R)) (i j : ℕ) (x y : NodeId) → Agree b (node_after b s (take i es) x) (node_after b s (take j es) y)
   prefix es i j x y = ⊎_elim
@@ -121,4 +111,3 @@ module _ {E Q G R A F : Type 0} {b : Book E Q G R A F} {s : Start E} (o : IsOpen
 
   pub log_sound : (es : List (Event Q G R)) (i : ℕ) (x : NodeId) → EachFollows b (node_after b s (take i es) x).log
   log_sound es i x = ((onward_run o la (take i es) (begin s) (first_story o la) (holding_first o la)).1.nodes x).sound
-

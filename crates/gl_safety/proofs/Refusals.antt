@@ -1,36 +1,26 @@
 -- No message is refused for what its sender holds, but at a node whose commit is its base.
-use Rattle.std.proofs.Common.{◌≡◌, ◌≢◌, ◌⊎◌, inl, inr, ⊎_elim, ℕ, zero, suc, ◌+◌, ◌-◌, ◌≤◌, ◌<◌, ◌*◌, min, max, List, [], ◌∷◌, ◌++◌, length, take, drop, Bool, true, false, ◌&&◌, ◌||◌, not, ◌==◌, nat_lt, nat_le, if◌then◌else◌, Option, Some, None, Result, Ok, Err, unwrap_or, slice_get, refl, sym, ap, ◌∙◌, subst, true≢false, length-take, length-append, length-drop, arith}
-use Rattle.std.specs.Option.{option_to_list}
-use Rattle.std.proofs.lemmas.Bool.{cases_eq, cases_lt}
+use Rattle.std.proofs.Common.{◌≡◌, ◌≢◌, ⊎_elim, ℕ, suc, ◌+◌, ◌-◌, ◌≤◌, ◌<◌, min, List, [], ◌∷◌, ◌++◌, length, take, drop, Bool, true, false, ◌&&◌, ◌||◌, ◌==◌, nat_lt, nat_le, if◌then◌else◌, Option, Some, None, Result, Ok, Err, slice_get, refl, sym, ap, ◌∙◌, subst, arith}
+use Rattle.std.proofs.lemmas.Bool.{cases_eq}
 use Rattle.std.proofs.lemmas.Bool.Decides.{nat_tests}
-use Rattle.gl_rules.specs.Identity.{NodeId, same, member, put, added}
-use Rattle.gl_rules.specs.Majority.{tally, majority, quorum}
+use Rattle.gl_rules.specs.Identity.{NodeId}
 use Rattle.gl_rules.specs.Book.{Book}
 use Rattle.gl_rules.specs.Node.{Node, Role, Follower, Candidate, Leader}
 use Rattle.gl_rules.specs.Message.{Last, Message, Body, RequestVote, VoteReply, Append, AppendReply, ProposeVote}
-use Rattle.gl_rules.specs.Log.{entry_at, place_before, is_at_least, view_at, last_signature, last, signed_part, greatest_recorded}
-use Rattle.gl_rules.specs.Configuration.{configuration_at, configurations_above, active_upto, active, in_some}
-use Rattle.gl_rules.specs.Steps.{cut_to, appended, leads, rise, has_votes, won_by, win, known_commit}
-use Rattle.gl_rules.specs.World.{Start}
-use Rattle.gl_rules.specs.Safety.{IsOpening, IsLawful, EachFollows, Makes, MarksNone, MayRecord, ViewsUpTo}
-use Rattle.gl_safety.proofs.Ids.{id_tests, same_is, same_self, same_tells, cases_same, put2, put_all, put2_cases, put2_at, by_test, share}
-use Rattle.gl_safety.proofs.Lists.{Same, same_take, there, within, past, get_take, take_get, drop_get, get_left, get_append, get_push, push_get, take_whole, append_none, push_append, take_nothing, take_one_more, take_past}
-use Rattle.gl_safety.proofs.Story.{Story, Grows, at_view, early_by, told_ballot, told_stand, told_led, told_win, told_held, grows_same, grows_then, grows_ballot, grows_stand, grows_held, grows_win, grows_led}
-use Rattle.gl_safety.proofs.Configurations.{IsNewest, Backed, backed_by, backs, newest_same, newest_exists}
-use Rattle.gl_safety.proofs.Facts.{Holds, Covers, Matches, Bound, Rising, Mark, Lost, Segment, Voted, Ballots, agree, is_led, led_is, matches_part, matches_grow, mark_grow, mark_back, lost_grow, lost_more, holds_grow, holds_back, segment_grow, ballots_of}
-use Rattle.gl_safety.proofs.Certificates.{SureOver, CertOver, Cert, Sure, Sured, Settled, Below, Won, Tale, sure_grow, sured_grow, cert_grow}
-use Rattle.gl_safety.proofs.Complete.{Winner, Before, Whole, chief_of_led, one_voter, winner_of, completes, complete, descend, has_all, newest_in, settled}
-use Rattle.gl_safety.proofs.Signatures.{last_le, last_above, last_signs, last_take, signed_keeps, view_at_is, last_view_is, last_zero, covers_last, covers_more, recorded_le, recorded_bound, recorded_some, recorded_part, signed_ends, last_more}
-use Rattle.gl_safety.proofs.Invariants.{Voter, Logged, Kept, Barred, Commits, Good, BodySent, AllSent, Made, Reached, rising_of, begins_of, signature_above, sure_within, settled_of, sure_to, known_in, recorded_sure, won_grow, sured_more, shuts_grow, commits_more, good_of, sent_grow, all_grow, all_append, sent_at, made_same, made_then}
-use Rattle.gl_safety.proofs.Soundness.{sound_cut, sound_push}
-use Rattle.gl_safety.proofs.Places.{MarksKnown, place_within, place_cut, place_more, place_same, mark_entry, marks_known}
+use Rattle.gl_rules.specs.Log.{is_at_least, view_at, last}
+use Rattle.gl_rules.specs.Steps.{cut_to, rise, has_votes, standing_by}
+use Rattle.gl_rules.specs.World.{Start, Event, Deliver, World, answer_as, risen, kept_by, on_message, happens, begin, after}
+use Rattle.gl_rules.specs.Safety.{IsOpening, IsLawful, EachFollows, RefusedOnlyAtBase, NeverConflicts}
+use Rattle.gl_safety.proofs.Ids.{by_test}
+use Rattle.gl_safety.proofs.Lists.{Same, same_take, there, within, drop_get, take_one_more}
+use Rattle.gl_safety.proofs.Story.{Story}
+use Rattle.gl_safety.proofs.Facts.{Segment, agree}
+use Rattle.gl_safety.proofs.Certificates.{SureOver, Cert, Sured, Tale}
+use Rattle.gl_safety.proofs.Complete.{chief_of_led, complete}
+use Rattle.gl_safety.proofs.Invariants.{Good, BodySent, sent_at}
 use Rattle.gl_rules.specs.Outcome.{Outcome, Step}
 use Rattle.gl_rules.specs.Outcome as outcome
-use Rattle.gl_rules.specs.Steps.{led_by, if_leader, standing_by}
-use Rattle.gl_rules.specs.Elections.{free_for, may_stand, candidate, stands, stands_if_allowed, won_or_not, last_view, timeout_as, timeout, reply_to_request, on_request_vote, with_vote, counts, vote_reply_as, on_vote_reply, on_propose_vote}
+use Rattle.gl_rules.specs.Elections.{free_for, may_stand, candidate, stands, won_or_not, last_view, timeout_as, timeout, reply_to_request, on_request_vote, with_vote, counts, vote_reply_as, on_vote_reply, on_propose_vote}
 use Rattle.gl_rules.specs.Replication.{held_of, judged, applied, takes, append_reply, last_at_most, extended, merges, follows_on, follower_of, append_as, on_append, acknowledged, answered, append_reply_as, on_append_reply}
-use Rattle.gl_rules.specs.World.{Event, Deliver, World, answer_as, risen, kept_by, on_message, delivered, happens, begin, after}
-use Rattle.gl_rules.specs.Safety.{RefusedOnlyAtBase, NeverConflicts, node_after}
 use Rattle.gl_safety.proofs.Standing.{good_rise}
 use Rattle.gl_safety.proofs.Following.{good_follow}
 use Rattle.gl_safety.proofs.Merging.{held_le, held_in, held_ends, agreed}
@@ -50,10 +40,12 @@ module _ {E Q G R A F : Type 0} {b : Book E Q G R A F} {s : Start E} (o : IsOpen
       stood : (m : Bool) → RefusedOnlyAtBase b n (standing_by b m)
       stood true = tt
       stood false = tt
+
       allowed : (m l : Bool) → Fine n (if m then (if l then outcome.refuse k outcome.ViewLimit else stands b x (candidate b x k)) else outcome.idle k)
       allowed true true = tt
       allowed true false = stood (has_votes b (candidate b x k))
       allowed false l = tt
+
       go : (r : Role) → Fine n (timeout_as b r x k)
       go Leader = tt
       go Candidate = allowed (may_stand b x k) (k.view == last_view)
@@ -70,6 +62,7 @@ module _ {E Q G R A F : Type 0} {b : Book E Q G R A F} {s : Start E} (o : IsOpen
       won : (m : Bool) → RefusedOnlyAtBase b n (won_or_not b m)
       won true = tt
       won false = tt
+
       go : (r : Role) → Fine n (vote_reply_as b r y view granted k)
       go Leader = tt
       go Follower = tt
@@ -82,6 +75,7 @@ module _ {E Q G R A F : Type 0} {b : Book E Q G R A F} {s : Start E} (o : IsOpen
       inner : (m : Bool) → Fine n (answered b m y place k)
       inner true = by_test (Fine n) (nat_le place (length k.log)) (outcome.quiet (acknowledged b y place k) outcome.Done) (outcome.idle k) (λ d. tt) (λ d. tt)
       inner false = tt
+
       go : (r : Role) → Fine n (append_reply_as b r y view ok place k)
       go Leader = by_test (Fine n) (view == k.view) (answered b ok y place k) (outcome.idle k) (λ d. inner ok) (λ d. tt)
       go Candidate = tt
@@ -100,8 +94,10 @@ module _ {E Q G R A F : Type 0} {b : Book E Q G R A F} {s : Start E} (o : IsOpen
     where
       at_k : slice_get m k ≡ Some e
       at_k = items 0 k e (omega arith) refl
+
       follows : b.breaks l e ≡ None
       follows = ap (λ r. b.breaks r e) q ∙ f k e at_k
+
       go : (w : Option F) → w ≡ None → judged b w (applied b (l ++ e ∷ []) es) ≡ Err why → (applied b (l ++ e ∷ []) es ≡ Err why → ⊥) → ⊥
       go None d u again = again u
       go (Some y) d u again = cc
@@ -118,22 +114,25 @@ module _ {E Q G R A F : Type 0} {b : Book E Q G R A F} {s : Start E} (o : IsOpen
         where
           mine : (e : E) × (slice_get n.log k ≡ Some e)
           mine = there n.log k h
+
           theirs_e : (f : E) × (slice_get es (held_of b (drop prev.place n.log) es) ≡ Some f)
           theirs_e = there es (held_of b (drop prev.place n.log) es) (omega (arith, held_le b (drop prev.place n.log) es))
+
           at_led : slice_get (g.led n.view) k ≡ Some theirs_e.0
           at_led = segment.items (held_of b (drop prev.place n.log) es) k theirs_e.0 d theirs_e.1
+
           not_sure : Sured o g n.log n.commit n.view → ⊥
           not_sure q = ⊎_elim
               (λ (w : n.commit ≡ 0). omega arith)
               (λ (w : SureOver o (Cert o q.0 g) g n.log n.commit n.view).
-                let top : slice_get (g.led n.view) w.j ≡ Some w.last = ⊎_elim
-                      (λ (c : w.v ≡ n.view). ap (λ u. slice_get (g.led u) w.j) (sym c) ∙ w.mark.at)
-                      (λ (c : w.v ≢ n.view). let ch = chief_of_led o g t n.view k theirs_e.0 at_led in complete o g t n.view ch.0 ch.1 q.0 w.v w.j w.last w.cert w.mark (omega (arith, w.top)))
-                      (cases_eq w.v n.view) in
-                let led_k = agree b g.led (g.led w.v) (g.led n.view) w.j w.last (t.matches w.v) (t.matches n.view) w.mark.at top k mine.0 (omega (arith, w.le, w.place))
-                      (agree b g.led n.log (g.led w.v) w.i w.entry z.logged.matches (t.matches w.v) w.at w.leads k mine.0 (omega (arith, w.place)) mine.1) in
-                let same : mine.0 ≡ theirs_e.0 = let c = sym led_k ∙ at_led in cc in
-                held_ends b (drop prev.place n.log) es mine.0 theirs_e.0 (drop_get prev.place n.log (held_of b (drop prev.place n.log) es) k d ∙ mine.1) theirs_e.1 (ap b.view_of same))
+              let top : slice_get (g.led n.view) w.j ≡ Some w.last = ⊎_elim
+              (λ (c : w.v ≡ n.view). ap (λ u. slice_get (g.led u) w.j) (sym c) ∙ w.mark.at)
+              (λ (c : w.v ≢ n.view). let ch = chief_of_led o g t n.view k theirs_e.0 at_led in complete o g t n.view ch.0 ch.1 q.0 w.v w.j w.last w.cert w.mark (omega (arith, w.top)))
+              (cases_eq w.v n.view) in
+              let led_k = agree b g.led (g.led w.v) (g.led n.view) w.j w.last (t.matches w.v) (t.matches n.view) w.mark.at top k mine.0 (omega (arith, w.le, w.place))
+              (agree b g.led n.log (g.led w.v) w.i w.entry z.logged.matches (t.matches w.v) w.at w.leads k mine.0 (omega (arith, w.place)) mine.1) in
+              let same : mine.0 ≡ theirs_e.0 = let c = sym led_k ∙ at_led in cc in
+              held_ends b (drop prev.place n.log) es mine.0 theirs_e.0 (drop_get prev.place n.log (held_of b (drop prev.place n.log) es) k d ∙ mine.1) theirs_e.1 (ap b.view_of same))
               q.1
 
       extended_fine : (k : ℕ) → k ≡ prev.place + held_of b (drop prev.place n.log) es → (m : Result (List E) F) → applied b (take k n.log) (drop (held_of b (drop prev.place n.log) es) es) ≡ m →
@@ -147,19 +146,19 @@ module _ {E Q G R A F : Type 0} {b : Book E Q G R A F} {s : Start E} (o : IsOpen
           low = ⊎_elim
               (λ (q : held_of b (drop prev.place n.log) es ≡ 0). omega arith)
               (λ (q : held_of b (drop prev.place n.log) es ≢ 0).
-                let w = held_in b (drop prev.place n.log) es (held_of b (drop prev.place n.log) es - 1) (omega arith) in
-                let in_l : slice_get n.log (prev.place + (held_of b (drop prev.place n.log) es - 1)) ≡ Some w.0 = sym (drop_get prev.place n.log (held_of b (drop prev.place n.log) es - 1) (prev.place + (held_of b (drop prev.place n.log) es - 1)) (omega arith)) ∙ w.2 in
-                omega (arith, within n.log (prev.place + (held_of b (drop prev.place n.log) es - 1)) w.0 in_l))
+              let w = held_in b (drop prev.place n.log) es (held_of b (drop prev.place n.log) es - 1) (omega arith) in
+              let in_l : slice_get n.log (prev.place + (held_of b (drop prev.place n.log) es - 1)) ≡ Some w.0 = sym (drop_get prev.place n.log (held_of b (drop prev.place n.log) es - 1) (prev.place + (held_of b (drop prev.place n.log) es - 1)) (omega arith)) ∙ w.2 in
+              omega (arith, within n.log (prev.place + (held_of b (drop prev.place n.log) es - 1)) w.0 in_l))
               (cases_eq (held_of b (drop prev.place n.log) es) 0)
 
       merges_fine : Fine n (merges b x y prev.place es (held_of b (drop prev.place n.log) es) theirs n)
       merges_fine = by_test (Fine n) (held_of b (drop prev.place n.log) es == length es) (takes b x y (prev.place + length es) theirs n) more
           (λ d. tt)
           (λ d. by_test (Fine n) (nat_lt (prev.place + held_of b (drop prev.place n.log) es) (length n.log) && nat_lt (prev.place + held_of b (drop prev.place n.log) es) n.commit)
-            (outcome.refuse n (outcome.BelowCommit n.commit (prev.place + held_of b (drop prev.place n.log) es)))
-            (extended b n x y (prev.place + length es) theirs (cut_to (prev.place + held_of b (drop prev.place n.log) es) n) (applied b (take (prev.place + held_of b (drop prev.place n.log) es) n.log) (drop (held_of b (drop prev.place n.log) es) es)))
-            (λ e. cut_fine (prev.place + held_of b (drop prev.place n.log) es) refl (grind (arith, nat_tests)) (grind (arith, nat_tests)) (grind (arith, nat_tests)))
-            (λ e. extended_fine (prev.place + held_of b (drop prev.place n.log) es) refl (applied b (take (prev.place + held_of b (drop prev.place n.log) es) n.log) (drop (held_of b (drop prev.place n.log) es) es)) refl))
+          (outcome.refuse n (outcome.BelowCommit n.commit (prev.place + held_of b (drop prev.place n.log) es)))
+          (extended b n x y (prev.place + length es) theirs (cut_to (prev.place + held_of b (drop prev.place n.log) es) n) (applied b (take (prev.place + held_of b (drop prev.place n.log) es) n.log) (drop (held_of b (drop prev.place n.log) es) es)))
+          (λ e. cut_fine (prev.place + held_of b (drop prev.place n.log) es) refl (grind (arith, nat_tests)) (grind (arith, nat_tests)) (grind (arith, nat_tests)))
+          (λ e. extended_fine (prev.place + held_of b (drop prev.place n.log) es) refl (applied b (take (prev.place + held_of b (drop prev.place n.log) es) n.log) (drop (held_of b (drop prev.place n.log) es) es)) refl))
         where
           more : Step E A F
           more =
@@ -185,6 +184,7 @@ module _ {E Q G R A F : Type 0} {b : Book E Q G R A F} {s : Start E} (o : IsOpen
           follow : Fine n (follows_on b x y prev es theirs (follower_of b y n))
           follow = follows_fine x y g (follower_of b y n) prev es theirs t (good_follow o x g n (Some y) z) refl
               (subst (λ (v : ℕ). Segment b (g.led v) prev es) d said.0) (subst (λ (v : ℕ). Sured o g (g.led v) theirs v) d said.1)
+
           go : (r : Role) → Fine n (append_as b r x y prev es theirs n)
           go Leader = tt
           go Candidate = follow
@@ -246,9 +246,9 @@ module _ {E Q G R A F : Type 0} {b : Book E Q G R A F} {s : Start E} (o : IsOpen
       inner : Fine n (answer_as b m.body m.receiver m.sender m.view (risen b m.view n))
       inner = by_test (λ k. Fine n (answer_as b m.body m.receiver m.sender m.view k)) (nat_lt n.view m.view) (rise b m.view n) n
           (λ d.
-            let r = rise_keeps m.view n in
-            same_fine n (rise b m.view n) (answer_as b m.body m.receiver m.sender m.view (rise b m.view n)).outcome r.1 r.2
-              (answer_fine m g (rise b m.view n) t (good_rise o la g m.receiver n m.view (grind (arith, nat_tests)) z) (omega (arith, r.0)) said))
+          let r = rise_keeps m.view n in
+          same_fine n (rise b m.view n) (answer_as b m.body m.receiver m.sender m.view (rise b m.view n)).outcome r.1 r.2
+          (answer_fine m g (rise b m.view n) t (good_rise o la g m.receiver n m.view (grind (arith, nat_tests)) z) (omega (arith, r.0)) said))
           (λ d. answer_fine m g n t z (grind (arith, nat_tests)) said)
 
   deliver_fine : (w : World E) (g : Story E) (which : ℕ) (m : Message E) → Holding o la w g → slice_get w.sent which ≡ Some m → RefusedOnlyAtBase b (w.nodes m.receiver) (happens b w (Deliver which)).outcome

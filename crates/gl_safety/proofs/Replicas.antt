@@ -1,32 +1,25 @@
 -- Events of replication, each as a composition of small steps.
-use Rattle.std.proofs.Common.{◌≡◌, ◌≢◌, ◌⊎◌, inl, inr, ⊎_elim, ℕ, zero, suc, ◌+◌, ◌-◌, ◌≤◌, ◌<◌, ◌*◌, min, max, List, [], ◌∷◌, ◌++◌, length, take, drop, Bool, true, false, ◌&&◌, ◌||◌, not, ◌==◌, nat_lt, nat_le, if◌then◌else◌, Option, Some, None, Result, Ok, Err, unwrap_or, slice_get, refl, sym, ap, ◌∙◌, subst, true≢false, length-take, length-append, length-drop, arith}
-use Rattle.std.specs.Option.{option_to_list}
-use Rattle.std.proofs.lemmas.Bool.{cases_eq, cases_lt}
+use Rattle.std.proofs.Common.{◌≡◌, ◌≢◌, ⊎_elim, ℕ, zero, suc, ◌+◌, ◌-◌, ◌≤◌, ◌<◌, min, List, [], ◌∷◌, ◌++◌, length, take, drop, Bool, true, false, ◌&&◌, ◌||◌, ◌==◌, nat_lt, nat_le, if◌then◌else◌, Option, Some, None, Result, Ok, Err, slice_get, refl, sym, ap, ◌∙◌, subst, arith}
+use Rattle.std.proofs.lemmas.Bool.{cases_lt}
 use Rattle.std.proofs.lemmas.Bool.Decides.{nat_tests}
-use Rattle.gl_rules.specs.Identity.{NodeId, same, member, put, added}
-use Rattle.gl_rules.specs.Majority.{tally, majority, quorum}
+use Rattle.gl_rules.specs.Identity.{NodeId}
 use Rattle.gl_rules.specs.Book.{Book}
 use Rattle.gl_rules.specs.Node.{Node, Role, Follower, Candidate, Leader}
-use Rattle.gl_rules.specs.Message.{Last, Message, Body, RequestVote, VoteReply, Append, AppendReply, ProposeVote}
-use Rattle.gl_rules.specs.Log.{entry_at, place_before, is_at_least, view_at, last_signature, last, signed_part, greatest_recorded}
-use Rattle.gl_rules.specs.Configuration.{configuration_at, configurations_above, active_upto, active, in_some}
-use Rattle.gl_rules.specs.Steps.{cut_to, appended, leads, rise, has_votes, won_by, win, known_commit}
+use Rattle.gl_rules.specs.Message.{Last, Append, AppendReply}
+use Rattle.gl_rules.specs.Log.{view_at}
+use Rattle.gl_rules.specs.Steps.{cut_to}
 use Rattle.gl_rules.specs.World.{Start}
-use Rattle.gl_rules.specs.Safety.{IsOpening, IsLawful, EachFollows, Makes, MarksNone, MayRecord, ViewsUpTo}
-use Rattle.gl_safety.proofs.Ids.{id_tests, same_is, same_self, same_tells, cases_same, put2, put_all, put2_cases, put2_at, by_test, share}
-use Rattle.gl_safety.proofs.Lists.{Same, same_take, there, within, past, get_take, take_get, drop_get, get_left, get_append, get_push, push_get, take_whole, append_none, push_append, take_nothing, take_one_more, take_past}
-use Rattle.gl_safety.proofs.Story.{Story, Grows, at_view, early_by, told_ballot, told_stand, told_led, told_win, told_held, grows_same, grows_then, grows_ballot, grows_stand, grows_held, grows_win, grows_led}
-use Rattle.gl_safety.proofs.Configurations.{IsNewest, Backed, backed_by, backs, newest_same, newest_exists}
-use Rattle.gl_safety.proofs.Facts.{Holds, Covers, Matches, Bound, Rising, Mark, Lost, Segment, Voted, Ballots, agree, is_led, led_is, matches_part, matches_grow, mark_grow, mark_back, lost_grow, lost_more, holds_grow, holds_back, segment_grow, ballots_of}
-use Rattle.gl_safety.proofs.Certificates.{SureOver, CertOver, Cert, Sure, Sured, Settled, Below, Won, Tale, sure_grow, sured_grow, cert_grow}
-use Rattle.gl_safety.proofs.Complete.{Winner, Before, Whole, chief_of_led, one_voter, winner_of, completes, complete, descend, has_all, newest_in, settled}
-use Rattle.gl_safety.proofs.Signatures.{last_le, last_above, last_signs, last_take, signed_keeps, view_at_is, last_view_is, last_zero, covers_last, covers_more, recorded_le, recorded_bound, recorded_some, recorded_part, signed_ends, last_more}
-use Rattle.gl_safety.proofs.Invariants.{Voter, Logged, Kept, Barred, Commits, Good, BodySent, AllSent, Made, Reached, rising_of, begins_of, signature_above, sure_within, settled_of, sure_to, known_in, recorded_sure, won_grow, sured_more, shuts_grow, commits_more, good_of, sent_grow, all_grow, all_append, sent_at, made_same, made_then}
-use Rattle.gl_safety.proofs.Soundness.{sound_cut, sound_push}
-use Rattle.gl_safety.proofs.Places.{MarksKnown, place_within, place_cut, place_more, place_same, mark_entry, marks_known}
-use Rattle.gl_rules.specs.Outcome.{Outcome, Step, Done, Committed, quiet, refuse, idle, NotPeer, BelowBase, BelowCommit, ByLedger}
-use Rattle.gl_rules.specs.Steps.{led_by, if_leader}
-use Rattle.gl_rules.specs.Replication.{entries_limit, frames_limit, fitting, batch, next_of, is_peer, append_from, sends, replicate, append_reply, held_of, judged, applied, last_at_most, commit_after, takes, extended, merges, follows_on, follower_of, append_as, on_append, acknowledged, sent_back, answered, append_reply_as, on_append_reply, may_commit, greatest_to_commit, commits, advance, restart, snapshot_of, installed, installs, install}
+use Rattle.gl_rules.specs.Safety.{IsOpening, IsLawful, EachFollows}
+use Rattle.gl_safety.proofs.Ids.{by_test}
+use Rattle.gl_safety.proofs.Lists.{Same, there, within, take_get, drop_get, get_left}
+use Rattle.gl_safety.proofs.Story.{Story}
+use Rattle.gl_safety.proofs.Facts.{Segment, agree}
+use Rattle.gl_safety.proofs.Certificates.{Sured, Tale}
+use Rattle.gl_safety.proofs.Signatures.{view_at_is}
+use Rattle.gl_safety.proofs.Invariants.{Good, BodySent, Reached, made_same}
+use Rattle.gl_safety.proofs.Soundness.{sound_cut}
+use Rattle.gl_rules.specs.Outcome.{Step, Done, quiet, refuse, idle, NotPeer, BelowBase, BelowCommit}
+use Rattle.gl_rules.specs.Replication.{entries_limit, frames_limit, fitting, batch, next_of, is_peer, append_from, sends, replicate, append_reply, held_of, applied, last_at_most, takes, extended, merges, follows_on, follower_of, append_as, on_append, acknowledged, sent_back, answered, append_reply_as, on_append_reply, may_commit, greatest_to_commit, commits, advance, restart, snapshot_of, installed, installs, install}
 use Rattle.gl_safety.proofs.Merging.{Merged, merged_all, merged_new, applied_is}
 use Rattle.gl_safety.proofs.Following.{good_follow, good_restart, made_accept}
 use Rattle.gl_safety.proofs.Leading.{good_acknowledged, good_sent_back, good_commit}
@@ -63,18 +56,27 @@ module _ {E Q G R A F : Type 0} {b : Book E Q G R A F} {s : Start E} (o : IsOpen
   unfolding replicate
   reached_replicate x y g n t z = reached_leader o la x g n (if is_peer b x y n then sends b x y (next_of b n y - 1) n else refuse n NotPeer) t z
       (λ r. by_test (By o la x g) (is_peer b x y n) (sends b x y (next_of b n y - 1) n) (refuse n NotPeer)
-        (λ d. by_test (By o la x g) (nat_lt (next_of b n y - 1) n.base) (refuse n (BelowBase n.base)) (record { node = n; sent = append_from b x y (next_of b n y - 1) n ∷ []; outcome = Done })
-          (λ e. stay o la x g n t z)
-          (λ e. out r (next_of b n y - 1)))
-        (λ d. stay o la x g n t z))
+      (λ d. by_test (By o la x g) (nat_lt (next_of b n y - 1) n.base) (refuse n (BelowBase n.base)) (record { node = n; sent = append_from b x y (next_of b n y - 1) n ∷ []; outcome = Done })
+      (λ e. stay o la x g n t z)
+      (λ e. out r (next_of b n y - 1)))
+      (λ d. stay o la x g n t z))
     where
       out : n.role ≡ Leader → (behind : ℕ) → Reached o x g n (append_from b x y behind n ∷ [])
-      out r behind = (g, made_same o x g n (append_from b x y behind n ∷ []) t z ((record {
-          items = λ i k e d a. ap (λ l. slice_get l k) (sym mine) ∙ sym (drop_get behind n.log i k d) ∙ in_batch (drop behind n.log) i e a;
-          prev = λ j d h.
-            let w = view_of_some n.log j (let q = ap (view_at b n.log) d in omega arith) in
-            (w.0, ap (λ l. slice_get l j) (sym mine) ∙ w.1, w.2 ∙ sym (ap (view_at b n.log) d));
-        }, subst (λ (l : List E). Sured o g l n.commit n.view) mine (z.commits.ruled r)), tt))
+      out r behind = (
+        g,
+        made_same o x g n (append_from b x y behind n ∷ []) t z (
+          (
+            record {
+              items = λ i k e d a. ap (λ l. slice_get l k) (sym mine) ∙ sym (drop_get behind n.log i k d) ∙ in_batch (drop behind n.log) i e a;
+              prev = λ j d h.
+                  let w = view_of_some n.log j (let q = ap (view_at b n.log) d in omega arith) in
+                  (w.0, ap (λ l. slice_get l j) (sym mine) ∙ w.1, w.2 ∙ sym (ap (view_at b n.log) d));
+            },
+            subst (λ (l : List E). Sured o g l n.commit n.view) mine (z.commits.ruled r),
+          ),
+          tt,
+        ),
+      )
         where
           mine : n.log ≡ g.led n.view
           mine = z.logged.mine (z.voter.chief_is r)
@@ -97,22 +99,22 @@ module _ {E Q G R A F : Type 0} {b : Book E Q G R A F} {s : Start E} (o : IsOpen
       reached_extended k d h safe (Ok log) a =
           let w = applied_is b (take k n.log) (drop (held_of b (drop prev.place n.log) es) es) log a (sound_cut b n.log k z.sound) in
           made_accept o x g n log (prev.place + length es) theirs (cut_to k n).cuts t z follows
-            (subst (Merged b n.log (g.led n.view) (prev.place + length es)) (ap (λ i. take i n.log ++ drop (held_of b (drop prev.place n.log) es) es) (sym d) ∙ sym w.0)
-              (merged_new b g.led n.log (g.led n.view) es prev.place z.logged.matches (t.matches n.view) short front segment.items h))
-            (λ j f i c. ⊎_elim
-              (λ (q : j < k). ap (λ l. slice_get l j) w.0 ∙ get_left (take k n.log) (drop (held_of b (drop prev.place n.log) es) es) j f (take_get k n.log j f q c))
-              (λ (q : k ≤ j). absurd (let u = within n.log j f c in grind (arith, nat_tests)))
-              (cases_lt j k))
-            w.1 sure_c y
+          (subst (Merged b n.log (g.led n.view) (prev.place + length es)) (ap (λ i. take i n.log ++ drop (held_of b (drop prev.place n.log) es) es) (sym d) ∙ sym w.0)
+          (merged_new b g.led n.log (g.led n.view) es prev.place z.logged.matches (t.matches n.view) short front segment.items h))
+          (λ j f i c. ⊎_elim
+          (λ (q : j < k). ap (λ l. slice_get l j) w.0 ∙ get_left (take k n.log) (drop (held_of b (drop prev.place n.log) es) es) j f (take_get k n.log j f q c))
+          (λ (q : k ≤ j). absurd (let u = within n.log j f c in grind (arith, nat_tests)))
+          (cases_lt j k))
+          w.1 sure_c y
 
       reached_merges : By o la x g (merges b x y prev.place es (held_of b (drop prev.place n.log) es) theirs n)
       reached_merges = by_test (By o la x g) (held_of b (drop prev.place n.log) es == length es) (takes b x y (prev.place + length es) theirs n) more
           (λ d. reached_takes (grind (arith, nat_tests)))
           (λ d. by_test (By o la x g) (nat_lt (prev.place + held_of b (drop prev.place n.log) es) (length n.log) && nat_lt (prev.place + held_of b (drop prev.place n.log) es) n.commit)
-            (refuse n (BelowCommit n.commit (prev.place + held_of b (drop prev.place n.log) es)))
-            (extended b n x y (prev.place + length es) theirs (cut_to (prev.place + held_of b (drop prev.place n.log) es) n) (applied b (take (prev.place + held_of b (drop prev.place n.log) es) n.log) (drop (held_of b (drop prev.place n.log) es) es)))
-            (λ e. stay o la x g n t z)
-            (λ e. reached_extended (prev.place + held_of b (drop prev.place n.log) es) refl (grind (arith, nat_tests)) e (applied b (take (prev.place + held_of b (drop prev.place n.log) es) n.log) (drop (held_of b (drop prev.place n.log) es) es)) refl))
+          (refuse n (BelowCommit n.commit (prev.place + held_of b (drop prev.place n.log) es)))
+          (extended b n x y (prev.place + length es) theirs (cut_to (prev.place + held_of b (drop prev.place n.log) es) n) (applied b (take (prev.place + held_of b (drop prev.place n.log) es) n.log) (drop (held_of b (drop prev.place n.log) es) es)))
+          (λ e. stay o la x g n t z)
+          (λ e. reached_extended (prev.place + held_of b (drop prev.place n.log) es) refl (grind (arith, nat_tests)) e (applied b (take (prev.place + held_of b (drop prev.place n.log) es) n.log) (drop (held_of b (drop prev.place n.log) es) es)) refl))
         where
           more : Step E A F
           more =
@@ -162,6 +164,7 @@ module _ {E Q G R A F : Type 0} {b : Book E Q G R A F} {s : Start E} (o : IsOpen
           follow : By o la x g (follows_on b x y prev es theirs (follower_of b y n))
           follow = reached_follows x y g (follower_of b y n) prev es theirs t (good_follow o x g n (Some y) z) refl
               (subst (λ (v : ℕ). Segment b (g.led v) prev es) d said.0) (subst (λ (v : ℕ). Sured o g (g.led v) theirs v) d said.1)
+
           go : (r : Role) → By o la x g (append_as b r x y prev es theirs n)
           go Leader = stay o la x g n t z
           go Candidate = follow
@@ -176,6 +179,7 @@ module _ {E Q G R A F : Type 0} {b : Book E Q G R A F} {s : Start E} (o : IsOpen
           (λ e. stay o la x g (acknowledged b y place n) t (good_acknowledged o la x y place g n z (subst (λ (v : ℕ). place ≤ g.held y v) d a)))
           (λ e. stay o la x g n t z)
       inner d false a = stay o la x g (sent_back b y place n) t (good_sent_back o la x y place g n z)
+
       go : (r : Role) → By o la x g (append_reply_as b r y view ok place n)
       go Leader = by_test (By o la x g) (view == n.view) (answered b ok y place n) (idle n) (λ d. inner (grind (arith, nat_tests)) ok said) (λ d. stay o la x g n t z)
       go Candidate = stay o la x g n t z
@@ -215,6 +219,7 @@ module _ {E Q G R A F : Type 0} {b : Book E Q G R A F} {s : Start E} (o : IsOpen
       none : (l : List E) → length l ≡ 0 → l ≡ []
       none [] d = refl
       none (e ∷ l) d = absurd (omega arith)
+
       go : (k : Option ℕ) → snapshot_of b m ≡ k → n.log ≡ [] → By o la x g (installs b m k n)
       go None d e = stay o la x g n t z
       go (Some i) d e = stay o la x g (installed b m (i - 1) n) t (good_install o la g x y n m i t z w e d)

@@ -1,32 +1,21 @@
 -- A node whose mark is committed is in no active configuration of any leader to come.
-use Rattle.std.proofs.Common.{◌≡◌, ◌≢◌, ◌⊎◌, inl, inr, ⊎_elim, ℕ, zero, suc, ◌+◌, ◌-◌, ◌≤◌, ◌<◌, ◌*◌, min, max, List, [], ◌∷◌, ◌++◌, length, take, drop, Bool, true, false, ◌&&◌, ◌||◌, not, ◌==◌, nat_lt, nat_le, if◌then◌else◌, Option, Some, None, Result, Ok, Err, unwrap_or, slice_get, refl, sym, ap, ◌∙◌, subst, true≢false, length-take, length-append, length-drop, arith}
-use Rattle.std.specs.Option.{option_to_list}
-use Rattle.std.proofs.lemmas.Bool.{cases_eq, cases_lt}
-use Rattle.std.proofs.lemmas.Bool.Decides.{nat_tests}
-use Rattle.gl_rules.specs.Identity.{NodeId, same, member, put, added}
-use Rattle.gl_rules.specs.Majority.{tally, majority, quorum}
+use Rattle.std.proofs.Common.{◌≡◌, ◌≢◌, inr, ⊎_elim, ℕ, suc, ◌≤◌, ◌<◌, List, length, take, Some, slice_get, sym, ap, ◌∙◌, true≢false, arith}
+use Rattle.std.proofs.lemmas.Bool.{cases_lt}
+use Rattle.gl_rules.specs.Identity.{NodeId}
 use Rattle.gl_rules.specs.Book.{Book}
-use Rattle.gl_rules.specs.Node.{Node, Role, Follower, Candidate, Leader}
-use Rattle.gl_rules.specs.Message.{Last, Message, Body, RequestVote, VoteReply, Append, AppendReply, ProposeVote}
-use Rattle.gl_rules.specs.Log.{entry_at, place_before, is_at_least, view_at, last_signature, last, signed_part, greatest_recorded}
-use Rattle.gl_rules.specs.Configuration.{configuration_at, configurations_above, active_upto, active, in_some}
-use Rattle.gl_rules.specs.Steps.{cut_to, appended, leads, rise, has_votes, won_by, win, known_commit}
-use Rattle.gl_rules.specs.World.{Start}
-use Rattle.gl_rules.specs.Safety.{IsOpening, IsLawful, EachFollows, Makes, MarksNone, MayRecord, ViewsUpTo}
-use Rattle.gl_safety.proofs.Ids.{id_tests, same_is, same_self, same_tells, cases_same, put2, put_all, put2_cases, put2_at, by_test, share}
-use Rattle.gl_safety.proofs.Lists.{Same, same_take, there, within, past, get_take, take_get, drop_get, get_left, get_append, get_push, push_get, take_whole, append_none, push_append, take_nothing, take_one_more, take_past}
-use Rattle.gl_safety.proofs.Story.{Story, Grows, at_view, early_by, told_ballot, told_stand, told_led, told_win, told_held, grows_same, grows_then, grows_ballot, grows_stand, grows_held, grows_win, grows_led}
-use Rattle.gl_safety.proofs.Configurations.{IsNewest, Backed, backed_by, backs, newest_same, newest_exists}
-use Rattle.gl_safety.proofs.Facts.{Holds, Covers, Matches, Bound, Rising, Mark, Lost, Segment, Voted, Ballots, agree, is_led, led_is, matches_part, matches_grow, mark_grow, mark_back, lost_grow, lost_more, holds_grow, holds_back, segment_grow, ballots_of}
-use Rattle.gl_safety.proofs.Certificates.{SureOver, CertOver, Cert, Sure, Sured, Settled, Below, Won, Tale, sure_grow, sured_grow, cert_grow}
-use Rattle.gl_safety.proofs.Complete.{Winner, Before, Whole, chief_of_led, one_voter, winner_of, completes, complete, descend, has_all, newest_in, settled}
-use Rattle.gl_safety.proofs.Signatures.{last_le, last_above, last_signs, last_take, signed_keeps, view_at_is, last_view_is, last_zero, covers_last, covers_more, recorded_le, recorded_bound, recorded_some, recorded_part, signed_ends, last_more}
-use Rattle.gl_safety.proofs.Invariants.{Voter, Logged, Kept, Barred, Commits, Good, BodySent, AllSent, Made, Reached, rising_of, begins_of, signature_above, sure_within, settled_of, sure_to, known_in, recorded_sure, won_grow, sured_more, shuts_grow, commits_more, good_of, sent_grow, all_grow, all_append, sent_at, made_same, made_then}
-use Rattle.gl_safety.proofs.Soundness.{sound_cut, sound_push}
-use Rattle.gl_safety.proofs.Places.{MarksKnown, place_within, place_cut, place_more, place_same, mark_entry, marks_known}
-use Rattle.gl_rules.specs.Safety.{IsPrefixOf, committed, node_after, IsRetiring, MarkCommitted, IsActive, RetiresSafely}
-use Rattle.gl_rules.specs.World.{Event, World, run, begin, after}
-use Rattle.gl_safety.proofs.Runs.{Holding, Later, first_story, onward_run}
+use Rattle.gl_rules.specs.Node.{Node, Leader}
+use Rattle.gl_rules.specs.Log.{greatest_recorded}
+use Rattle.gl_rules.specs.World.{Start, Event, World, begin, after}
+use Rattle.gl_rules.specs.Safety.{IsOpening, IsLawful, EachFollows, IsRetiring, MarkCommitted, IsActive, RetiresSafely}
+use Rattle.gl_safety.proofs.Lists.{Same, within}
+use Rattle.gl_safety.proofs.Story.{Story}
+use Rattle.gl_safety.proofs.Facts.{Matches, agree}
+use Rattle.gl_safety.proofs.Certificates.{SureOver, Cert, Tale}
+use Rattle.gl_safety.proofs.Complete.{complete, settled}
+use Rattle.gl_safety.proofs.Signatures.{recorded_le}
+use Rattle.gl_safety.proofs.Invariants.{Good, sure_within, settled_of}
+use Rattle.gl_safety.proofs.Places.{MarksKnown, place_same, mark_entry, marks_known}
+use Rattle.gl_safety.proofs.Runs.{Holding, first_story, onward_run}
 use Rattle.gl_safety.proofs.Beginning.{holding_first}
 use Rattle.gl_safety.proofs.Prefixes.{Moments, moments}
 
@@ -57,9 +46,9 @@ module _ {E Q G R A F : Type 0} {b : Book E Q G R A F} {s : Start E} (o : IsOpen
       let mark_k : b.mark k.log y ≡ Some m.0 = place_same b b.mark la.markings n.log k.log y m.0 n.commit zn zk wide front m.2 m.1 in
       let removal_k : b.removal k.log y ≡ Some en.5.0 = place_same b b.removal la.removals n.log k.log y en.5.0 n.commit zn zk wide front (omega (arith, en.5.1, en.1, m.2)) en.5.2 in
       let other : en.0 ≢ q.j = λ (w : en.0 ≡ q.j).
-            let in_k : slice_get k.log q.j ≡ Some en.2 = ap (slice_get k.log) (sym w) ∙ front en.0 en.2 (omega (arith, en.1, m.2)) en.3 in
-            let same : en.2 ≡ q.last = let v = sym in_k ∙ top in cc in
-            true≢false (sym q.mark.signs ∙ ap b.is_signature (sym same) ∙ en.4) in
+      let in_k : slice_get k.log q.j ≡ Some en.2 = ap (slice_get k.log) (sym w) ∙ front en.0 en.2 (omega (arith, en.1, m.2)) en.3 in
+      let same : en.2 ≡ q.last = let v = sym in_k ∙ top in cc in
+      true≢false (sym q.mark.signs ∙ ap b.is_signature (sym same) ∙ en.4) in
       let low : m.0 ≤ q.j = omega (arith, en.1, m.2, q.place, q.le) in
       gone k y en.5.0 zk long removal_k (omega (arith, marks.known y m.0 en.5.0 mark_k removal_k q.j q.last top q.mark.signs low, recorded_le b k.log q.j q.last top q.mark.signs, least)) a
 
@@ -74,7 +63,7 @@ module _ {E Q G R A F : Type 0} {b : Book E Q G R A F} {s : Start E} (o : IsOpen
     led_top u z ch d t n q h =
         let g = k.later_story in
         agree b k.later_story.led (k.later_story.led q.v) (k.later_story.led u) q.j q.last (k.second.tale.matches q.v) (k.second.tale.matches u) q.mark.at
-          (complete o k.later_story k.second.tale u z ch d q.v q.j q.last q.cert q.mark h)
+        (complete o k.later_story k.second.tale u z ch d q.v q.j q.last q.cert q.mark h)
 
     -- the later leader at the later moment
     later_after : (x z y : NodeId) → (v.nodes x).role ≡ Leader → (w.nodes z).role ≡ Leader → (v.nodes x).view < (w.nodes z).view → MarkCommitted b (v.nodes x) y → IsActive b (w.nodes z) y → ⊥
@@ -85,9 +74,9 @@ module _ {E Q G R A F : Type 0} {b : Book E Q G R A F} {s : Start E} (o : IsOpen
         let mine = (k.second.nodes z).logged.mine ch in
         let top = led_top (w.nodes z).view z ch sure_n.0 (v.nodes x).view (v.nodes x) q (omega (arith, q.top)) in
         held_by k.later_story (v.nodes x) (w.nodes z) y k.second.tale
-          (record { below = λ i j e f c d l. k.later.led (b.view_of e) j f ((k.first.nodes x).logged.matches.below i j e f c d l) })
-          (k.first.nodes x).sound (k.second.nodes z).sound (known_at w k.later_story k.second z) (k.second.nodes z).commits.recorded (within_log w k.later_story k.second z)
-          sure_n.0 (v.nodes x).view q (λ i e c d. ap (λ l. slice_get l i) mine ∙ top i e c d) m a
+        (record { below = λ i j e f c d l. k.later.led (b.view_of e) j f ((k.first.nodes x).logged.matches.below i j e f c d l) })
+        (k.first.nodes x).sound (k.second.nodes z).sound (known_at w k.later_story k.second z) (k.second.nodes z).commits.recorded (within_log w k.later_story k.second z)
+        sure_n.0 (v.nodes x).view q (λ i e c d. ap (λ l. slice_get l i) mine ∙ top i e c d) m a
 
     -- the later leader at the earlier moment
     later_before : (x z y : NodeId) → (w.nodes x).role ≡ Leader → (v.nodes z).role ≡ Leader → (w.nodes x).view < (v.nodes z).view → MarkCommitted b (w.nodes x) y → IsActive b (v.nodes z) y → ⊥
@@ -98,19 +87,19 @@ module _ {E Q G R A F : Type 0} {b : Book E Q G R A F} {s : Start E} (o : IsOpen
         let mine = (k.first.nodes z).logged.mine ch in
         let top = led_top (v.nodes z).view z (k.later.chief (v.nodes z).view z ch) c.0 (w.nodes x).view (w.nodes x) c.1 (omega (arith, q.top)) in
         held_by k.later_story (w.nodes x) (v.nodes z) y k.second.tale (k.second.nodes x).logged.matches
-          (k.second.nodes x).sound (k.first.nodes z).sound (known_at v k.story k.first z) (k.first.nodes z).commits.recorded (within_log v k.story k.first z)
-          c.0 (w.nodes x).view c.1
-          (λ i e l d. ap (λ n. slice_get n i) mine ∙ ⊎_elim
-            (λ (u : slice_get (k.story.led (v.nodes z).view) i ≡ Some e). u)
-            (λ (u : b.view_of e ≡ (v.nodes z).view). absurd (omega (arith, q.top, ((k.second.tale.bound q.v).view i e d).1)))
-            (k.later.fresh (v.nodes z).view z i e ch (top i e l d)))
-          m a
+        (k.second.nodes x).sound (k.first.nodes z).sound (known_at v k.story k.first z) (k.first.nodes z).commits.recorded (within_log v k.story k.first z)
+        c.0 (w.nodes x).view c.1
+        (λ i e l d. ap (λ n. slice_get n i) mine ∙ ⊎_elim
+        (λ (u : slice_get (k.story.led (v.nodes z).view) i ≡ Some e). u)
+        (λ (u : b.view_of e ≡ (v.nodes z).view). absurd (omega (arith, q.top, ((k.second.tale.bound q.v).view i e d).1)))
+        (k.later.fresh (v.nodes z).view z i e ch (top i e l d)))
+        m a
 
   pub retires_safely : (es : List (Event Q G R)) → RetiresSafely b s es
   retires_safely es = record {
     here = λ i x y. let p = onward_run o la (take i es) (begin s) (first_story o la) (holding_first o la) in here_at (after b s (take i es)) p.0 p.1 x y;
     later = λ i j x z y p r h m a. ⊎_elim
-      (λ (d : j < i). later_before (after b s (take j es)) (after b s (take i es)) (moments o la es j i (omega arith)) x z y p r h m a)
-      (λ (d : i ≤ j). later_after (after b s (take i es)) (after b s (take j es)) (moments o la es i j d) x z y p r h m a)
-      (cases_lt j i);
+        (λ (d : j < i). later_before (after b s (take j es)) (after b s (take i es)) (moments o la es j i (omega arith)) x z y p r h m a)
+        (λ (d : i ≤ j). later_after (after b s (take i es)) (after b s (take j es)) (moments o la es i j d) x z y p r h m a)
+        (cases_lt j i);
   }

@@ -1,36 +1,22 @@
 -- Each event, and so each list of events, keeps the invariants.
-use Rattle.std.proofs.Common.{◌≡◌, ◌≢◌, ◌⊎◌, inl, inr, ⊎_elim, ℕ, zero, suc, ◌+◌, ◌-◌, ◌≤◌, ◌<◌, ◌*◌, min, max, List, [], ◌∷◌, ◌++◌, length, take, drop, Bool, true, false, ◌&&◌, ◌||◌, not, ◌==◌, nat_lt, nat_le, if◌then◌else◌, Option, Some, None, Result, Ok, Err, unwrap_or, slice_get, refl, sym, ap, ◌∙◌, subst, true≢false, length-take, length-append, length-drop, arith}
-use Rattle.std.specs.Option.{option_to_list}
-use Rattle.std.proofs.lemmas.Bool.{cases_eq, cases_lt}
+use Rattle.std.proofs.Common.{◌≡◌, ◌⊎◌, inl, inr, ⊎_elim, ℕ, ◌≤◌, List, [], ◌∷◌, ◌++◌, false, ◌==◌, nat_lt, if◌then◌else◌, Option, Some, None, slice_get, refl, arith}
 use Rattle.std.proofs.lemmas.Bool.Decides.{nat_tests}
-use Rattle.gl_rules.specs.Identity.{NodeId, same, member, put, added}
-use Rattle.gl_rules.specs.Majority.{tally, majority, quorum}
+use Rattle.gl_rules.specs.Identity.{NodeId}
 use Rattle.gl_rules.specs.Book.{Book}
-use Rattle.gl_rules.specs.Node.{Node, Role, Follower, Candidate, Leader}
-use Rattle.gl_rules.specs.Message.{Last, Message, Body, RequestVote, VoteReply, Append, AppendReply, ProposeVote}
-use Rattle.gl_rules.specs.Log.{entry_at, place_before, is_at_least, view_at, last_signature, last, signed_part, greatest_recorded}
-use Rattle.gl_rules.specs.Configuration.{configuration_at, configurations_above, active_upto, active, in_some}
-use Rattle.gl_rules.specs.Steps.{cut_to, appended, leads, rise, has_votes, won_by, win, known_commit}
-use Rattle.gl_rules.specs.World.{Start}
-use Rattle.gl_rules.specs.Safety.{IsOpening, IsLawful, EachFollows, Makes, MarksNone, MayRecord, ViewsUpTo}
-use Rattle.gl_safety.proofs.Ids.{id_tests, same_is, same_self, same_tells, cases_same, put2, put_all, put2_cases, put2_at, by_test, share}
-use Rattle.gl_safety.proofs.Lists.{Same, same_take, there, within, past, get_take, take_get, drop_get, get_left, get_append, get_push, push_get, take_whole, append_none, push_append, take_nothing, take_one_more, take_past}
-use Rattle.gl_safety.proofs.Story.{Story, Grows, at_view, early_by, told_ballot, told_stand, told_led, told_win, told_held, grows_same, grows_then, grows_ballot, grows_stand, grows_held, grows_win, grows_led}
-use Rattle.gl_safety.proofs.Configurations.{IsNewest, Backed, backed_by, backs, newest_same, newest_exists}
-use Rattle.gl_safety.proofs.Facts.{Holds, Covers, Matches, Bound, Rising, Mark, Lost, Segment, Voted, Ballots, agree, is_led, led_is, matches_part, matches_grow, mark_grow, mark_back, lost_grow, lost_more, holds_grow, holds_back, segment_grow, ballots_of}
-use Rattle.gl_safety.proofs.Certificates.{SureOver, CertOver, Cert, Sure, Sured, Settled, Below, Won, Tale, sure_grow, sured_grow, cert_grow}
-use Rattle.gl_safety.proofs.Complete.{Winner, Before, Whole, chief_of_led, one_voter, winner_of, completes, complete, descend, has_all, newest_in, settled}
-use Rattle.gl_safety.proofs.Signatures.{last_le, last_above, last_signs, last_take, signed_keeps, view_at_is, last_view_is, last_zero, covers_last, covers_more, recorded_le, recorded_bound, recorded_some, recorded_part, signed_ends, last_more}
-use Rattle.gl_safety.proofs.Invariants.{Voter, Logged, Kept, Barred, Commits, Good, BodySent, AllSent, Made, Reached, rising_of, begins_of, signature_above, sure_within, settled_of, sure_to, known_in, recorded_sure, won_grow, sured_more, shuts_grow, commits_more, good_of, sent_grow, all_grow, all_append, sent_at, made_same, made_then}
-use Rattle.gl_safety.proofs.Soundness.{sound_cut, sound_push}
-use Rattle.gl_safety.proofs.Places.{MarksKnown, place_within, place_cut, place_more, place_same, mark_entry, marks_known}
+use Rattle.gl_rules.specs.Node.{Node}
+use Rattle.gl_rules.specs.Message.{Message, Body, RequestVote, VoteReply, Append, AppendReply, ProposeVote}
+use Rattle.gl_rules.specs.Steps.{rise}
+use Rattle.gl_rules.specs.World.{Start, Event, Timeout, Deliver, Submit, Finish, Govern, Reserve, Sign, Evidence, Replicate, Advance, StepDown, Restart, Install, World, at, kept_by, answer_as, risen, on_message, delivered, happens, run, node_at_start}
+use Rattle.gl_rules.specs.Safety.{IsOpening, IsLawful, EachFollows}
+use Rattle.gl_safety.proofs.Ids.{put_all, by_test}
+use Rattle.gl_safety.proofs.Story.{Story}
+use Rattle.gl_safety.proofs.Certificates.{Sured, Tale}
+use Rattle.gl_safety.proofs.Invariants.{Good, BodySent, AllSent, sured_more, good_of, all_grow, all_append, sent_at}
 use Rattle.gl_rules.specs.Outcome.{Outcome, Step}
 use Rattle.gl_rules.specs.Outcome as outcome
 use Rattle.gl_rules.specs.Elections as elections
 use Rattle.gl_rules.specs.Replication as replication
 use Rattle.gl_rules.specs.Requests as requests
-use Rattle.gl_rules.specs.World.{Event, Timeout, Deliver, Submit, Finish, Govern, Reserve, Sign, Evidence, Replicate, Advance, StepDown, Restart, Install, World, Happened, at, kept_by, answer_as, risen, on_message, delivered, happens, run, begin, joiner, starter, leader_at_start, node_at_start, after}
-use Rattle.gl_rules.specs.Safety.{committed}
 use Rattle.gl_safety.proofs.Standing.{good_rise}
 use Rattle.gl_safety.proofs.Voters.{By, stay, reached_timeout, reached_request, reached_reply, reached_propose, reached_step_down}
 use Rattle.gl_safety.proofs.Replicas.{reached_replicate, reached_append, reached_append_reply, reached_advance, reached_restart, reached_install}
@@ -67,8 +53,8 @@ module _ {E Q G R A F : Type 0} {b : Book E Q G R A F} {s : Start E} (o : IsOpen
   unfolding on_message
   reached_message m g n t z said = reached_kept m.receiver g n (answer_as b m.body m.receiver m.sender m.view (risen b m.view n)).outcome (answer_as b m.body m.receiver m.sender m.view (risen b m.view n)) t z
       (by_test (λ k. By o la m.receiver g (answer_as b m.body m.receiver m.sender m.view k)) (nat_lt n.view m.view) (rise b m.view n) n
-        (λ d. reached_risen m g (rise b m.view n) t (good_rise o la g m.receiver n m.view (grind (arith, nat_tests)) z) (omega (arith, rise_up m.view n)) said)
-        (λ d. reached_risen m g n t z (grind (arith, nat_tests)) said))
+      (λ d. reached_risen m g (rise b m.view n) t (good_rise o la g m.receiver n m.view (grind (arith, nat_tests)) z) (omega (arith, rise_up m.view n)) said)
+      (λ d. reached_risen m g n t z (grind (arith, nat_tests)) said))
 
   -- all that holds at a moment
   pub record Holding (w : World E) (g : Story E) : Type 0 where
@@ -96,13 +82,16 @@ module _ {E Q G R A F : Type 0} {b : Book E Q G R A F} {s : Start E} (o : IsOpen
     sured = λ l c t a. q.sured l c t (p.sured l c t a);
   }
 
-
   onward_at : (w : World E) (g : Story E) (x : NodeId) (step : Step E A F) → Holding w g → By o la x g step → (h : Story E) × Holding (at w x step).world h × Later g h
-  onward_at w g x step k r = (r.0, record {
+  onward_at w g x step k r = (
+    r.0,
+    record {
       tale = r.1.tale;
       nodes = put_all (Good o r.0) w.nodes x step.node r.1.good (λ y d. good_of o r.1.grow y (w.nodes y) d (k.tale.ballots y) (k.nodes y));
       sent = all_append o r.0 w.sent step.sent (all_grow o r.1.grow w.sent k.sent) r.1.sent;
-    }, record { ballot = r.1.grow.ballot; chief = r.1.grow.chief; led = r.1.grow.led; fresh = r.1.grow.fresh; sured = sured_more o r.1.grow })
+    },
+    record { ballot = r.1.grow.ballot; chief = r.1.grow.chief; led = r.1.grow.led; fresh = r.1.grow.fresh; sured = sured_more o r.1.grow },
+  )
 
   onward_same : (w : World E) (g : Story E) → Holding w g → (h : Story E) × Holding w h × Later g h
   onward_same w g k = (g, k, later_same g)

@@ -1,11 +1,11 @@
 -- The last signature of a log, and the greatest commit that its signatures record.
-use Rattle.std.proofs.Common.{◌≡◌, ◌≢◌, ◌⊎◌, inl, inr, ⊎_elim, ℕ, zero, suc, ◌+◌, ◌-◌, ◌≤◌, ◌<◌, max, List, [], ◌∷◌, ◌++◌, length, take, Bool, true, false, ◌==◌, ◌&&◌, ◌||◌, nat_lt, nat_le, Option, Some, None, slice_get, refl, sym, ap, ◌∙◌, length-take, arith, if◌then◌else◌}
-use Rattle.std.proofs.lemmas.Bool.{cases_eq, cases_lt}
+use Rattle.std.proofs.Common.{◌≡◌, ◌≢◌, inl, inr, ⊎_elim, ℕ, zero, suc, ◌≤◌, ◌<◌, max, List, [], ◌∷◌, length, take, Bool, true, false, Some, slice_get, refl, sym, ap, ◌∙◌, length-take, arith, if◌then◌else◌}
+use Rattle.std.proofs.lemmas.Bool.{cases_eq}
 use Rattle.std.proofs.lemmas.Bool.Decides.{nat_tests}
 use Rattle.gl_rules.specs.Book.{Book}
 use Rattle.gl_rules.specs.Message.{Last}
-use Rattle.gl_rules.specs.Log.{entry_at, place_before, is_at_least, view_at, last_signature, last, signed_part, greatest_recorded}
-use Rattle.gl_safety.proofs.Lists.{within, there, get_take, take_get}
+use Rattle.gl_rules.specs.Log.{place_before, is_at_least, view_at, last_signature, last, greatest_recorded}
+use Rattle.gl_safety.proofs.Lists.{get_take, take_get}
 use Rattle.gl_safety.proofs.Facts.{Covers, Rising}
 
 module _ {E Q G R A F : Type 0} (b : Book E Q G R A F) where
@@ -73,6 +73,7 @@ module _ {E Q G R A F : Type 0} (b : Book E Q G R A F) where
     where
       top : i < last_signature b l
       top = last_above l i e a z
+
       go : (k : ℕ) → last_signature b l ≡ k → Covers (last b l) (b.view_of e) i
       go zero d = absurd (omega (arith, top))
       go (suc k) d =
@@ -110,6 +111,7 @@ module _ {E Q G R A F : Type 0} (b : Book E Q G R A F) where
     where
       Found : List E → Type 0
       Found xs = (i : ℕ) × (e : E) × (slice_get xs i ≡ Some e) × (b.is_signature e ≡ true) × (b.recorded_commit e ≡ suc r)
+
       go : (t : Bool) → b.is_signature f ≡ t → max (if t then b.recorded_commit f else 0) (greatest_recorded b l) ≡ suc r →
           ((q : ℕ) → greatest_recorded b l ≡ suc q → (i : ℕ) × (e : E) × (slice_get l i ≡ Some e) × (b.is_signature e ≡ true) × (b.recorded_commit e ≡ suc q)) →
           (i : ℕ) × (e : E) × (slice_get (f ∷ l) i ≡ Some e) × (b.is_signature e ≡ true) × (b.recorded_commit e ≡ suc r)

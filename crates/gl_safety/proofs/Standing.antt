@@ -1,29 +1,26 @@
 -- A view that rises, and a node that stands for the next one.
-use Rattle.std.proofs.Common.{◌≡◌, ◌≢◌, ◌⊎◌, inl, inr, ⊎_elim, ℕ, zero, suc, ◌+◌, ◌-◌, ◌≤◌, ◌<◌, ◌*◌, min, max, List, [], ◌∷◌, ◌++◌, length, take, drop, Bool, true, false, ◌&&◌, ◌||◌, not, ◌==◌, nat_lt, nat_le, if◌then◌else◌, Option, Some, None, Result, Ok, Err, unwrap_or, slice_get, refl, sym, ap, ◌∙◌, subst, true≢false, length-take, length-append, length-drop, arith}
-use Rattle.std.specs.Option.{option_to_list}
-use Rattle.std.proofs.lemmas.Bool.{cases_eq, cases_lt}
-use Rattle.std.proofs.lemmas.Bool.Decides.{nat_tests}
-use Rattle.gl_rules.specs.Identity.{NodeId, same, member, put, added}
-use Rattle.gl_rules.specs.Majority.{tally, majority, quorum}
+use Rattle.std.proofs.Common.{◌≡◌, ◌≢◌, ◌⊎◌, inl, inr, ⊎_elim, ℕ, zero, suc, ◌+◌, ◌≤◌, ◌<◌, List, [], length, take, Bool, true, false, Some, None, slice_get, refl, sym, ap, ◌∙◌, subst, arith}
+use Rattle.std.proofs.lemmas.Bool.{cases_lt}
+use Rattle.gl_rules.specs.Identity.{NodeId}
+use Rattle.gl_rules.specs.Majority.{majority}
 use Rattle.gl_rules.specs.Book.{Book}
-use Rattle.gl_rules.specs.Node.{Node, Role, Follower, Candidate, Leader}
-use Rattle.gl_rules.specs.Message.{Last, Message, Body, RequestVote, VoteReply, Append, AppendReply, ProposeVote}
-use Rattle.gl_rules.specs.Log.{entry_at, place_before, is_at_least, view_at, last_signature, last, signed_part, greatest_recorded}
-use Rattle.gl_rules.specs.Configuration.{configuration_at, configurations_above, active_upto, active, in_some}
-use Rattle.gl_rules.specs.Steps.{cut_to, appended, leads, rise, has_votes, won_by, win, known_commit}
+use Rattle.gl_rules.specs.Node.{Node, Follower, Candidate, Leader}
+use Rattle.gl_rules.specs.Message.{Last}
+use Rattle.gl_rules.specs.Log.{last_signature, last, signed_part}
+use Rattle.gl_rules.specs.Configuration.{configuration_at, configurations_above, active, in_some}
+use Rattle.gl_rules.specs.Steps.{rise}
 use Rattle.gl_rules.specs.World.{Start}
-use Rattle.gl_rules.specs.Safety.{IsOpening, IsLawful, EachFollows, Makes, MarksNone, MayRecord, ViewsUpTo}
-use Rattle.gl_safety.proofs.Ids.{id_tests, same_is, same_self, same_tells, cases_same, put2, put_all, put2_cases, put2_at, by_test, share}
-use Rattle.gl_safety.proofs.Lists.{Same, same_take, there, within, past, get_take, take_get, drop_get, get_left, get_append, get_push, push_get, take_whole, append_none, push_append, take_nothing, take_one_more, take_past}
-use Rattle.gl_safety.proofs.Story.{Story, Grows, at_view, early_by, told_ballot, told_stand, told_led, told_win, told_held, grows_same, grows_then, grows_ballot, grows_stand, grows_held, grows_win, grows_led}
-use Rattle.gl_safety.proofs.Configurations.{IsNewest, Backed, backed_by, backs, newest_same, newest_exists}
-use Rattle.gl_safety.proofs.Facts.{Holds, Covers, Matches, Bound, Rising, Mark, Lost, Segment, Voted, Ballots, agree, is_led, led_is, matches_part, matches_grow, mark_grow, mark_back, lost_grow, lost_more, holds_grow, holds_back, segment_grow, ballots_of}
-use Rattle.gl_safety.proofs.Certificates.{SureOver, CertOver, Cert, Sure, Sured, Settled, Below, Won, Tale, sure_grow, sured_grow, cert_grow}
-use Rattle.gl_safety.proofs.Complete.{Winner, Before, Whole, chief_of_led, one_voter, winner_of, completes, complete, descend, has_all, newest_in, settled}
-use Rattle.gl_safety.proofs.Signatures.{last_le, last_above, last_signs, last_take, signed_keeps, view_at_is, last_view_is, last_zero, covers_last, covers_more, recorded_le, recorded_bound, recorded_some, recorded_part, signed_ends, last_more}
-use Rattle.gl_safety.proofs.Invariants.{Voter, Logged, Kept, Barred, Commits, Good, BodySent, AllSent, Made, Reached, rising_of, begins_of, signature_above, sure_within, settled_of, sure_to, known_in, recorded_sure, won_grow, sured_more, shuts_grow, commits_more, good_of, sent_grow, all_grow, all_append, sent_at, made_same, made_then}
-use Rattle.gl_safety.proofs.Soundness.{sound_cut, sound_push}
-use Rattle.gl_safety.proofs.Places.{MarksKnown, place_within, place_cut, place_more, place_same, mark_entry, marks_known}
+use Rattle.gl_rules.specs.Safety.{IsOpening, IsLawful, EachFollows}
+use Rattle.gl_safety.proofs.Ids.{id_tests, cases_same, put2, put2_cases, put2_at}
+use Rattle.gl_safety.proofs.Lists.{within, get_take}
+use Rattle.gl_safety.proofs.Story.{Story, Grows, early_by, told_stand, grows_same, grows_stand}
+use Rattle.gl_safety.proofs.Configurations.{IsNewest}
+use Rattle.gl_safety.proofs.Facts.{Holds, Covers, Mark, Lost, Ballots, matches_part, lost_more, ballots_of}
+use Rattle.gl_safety.proofs.Certificates.{SureOver, Cert, Sured, Settled, Below, Tale}
+use Rattle.gl_safety.proofs.Complete.{descend, settled}
+use Rattle.gl_safety.proofs.Signatures.{last_above, last_signs, signed_keeps, last_view_is, last_zero, covers_last, recorded_le, recorded_part, signed_ends}
+use Rattle.gl_safety.proofs.Invariants.{Commits, Good, Reached, rising_of, begins_of, signature_above, settled_of, sure_to, won_grow, sured_more, shuts_grow, commits_more}
+use Rattle.gl_safety.proofs.Soundness.{sound_cut}
 use Rattle.gl_rules.specs.Elections.{may_stand, candidate}
 
 module _ {E Q G R A F : Type 0} {b : Book E Q G R A F} {s : Start E} (o : IsOpening b (EachFollows b) s) (la : IsLawful b (EachFollows b)) where
@@ -51,9 +48,9 @@ module _ {E Q G R A F : Type 0} {b : Book E Q G R A F} {s : Start E} (o : IsOpen
       ends = λ r. absurd (cc);
       future = λ u a. z.kept.future u (omega arith);
       keeps = λ u i e a m. ⊎_elim
-        (λ (q : slice_get n.log i ≡ Some e). inl (signed_keeps b n.log i e q m.signs))
-        (λ (q : Lost b g.chief g.led u i (suc n.view)). inr (lost_more b (grows_same b.view_of x g) u i (suc n.view) (suc v) (omega arith) q))
-        (z.kept.keeps u i e a m);
+          (λ (q : slice_get n.log i ≡ Some e). inl (signed_keeps b n.log i e q m.signs))
+          (λ (q : Lost b g.chief g.led u i (suc n.view)). inr (lost_more b (grows_same b.view_of x g) u i (suc n.view) (suc v) (omega arith) q))
+          (z.kept.keeps u i e a m);
     };
     commits = record {
       bounded = ⊎_elim (λ (q : Sured o g n.log n.commit n.view). inl (stays n.commit n.view v (omega arith) q)) (λ (q : n.commit ≡ n.base). inr q) z.commits.bounded;
@@ -71,6 +68,7 @@ module _ {E Q G R A F : Type 0} {b : Book E Q G R A F} {s : Start E} (o : IsOpen
     where
       part : (i : ℕ) (e : E) → slice_get (take (last_signature b n.log) n.log) i ≡ Some e → slice_get n.log i ≡ Some e
       part i e a = (get_take (last_signature b n.log) n.log i e a).1
+
       stays : (c t u : ℕ) → t ≤ u → Sured o g n.log c t → Sured o g (take (last_signature b n.log) n.log) c u
       stays c t u d q = sure_to o g n.log (take (last_signature b n.log) n.log) c t u d (λ i e w a m. signed_keeps b n.log i e a m) q
 
@@ -85,10 +83,11 @@ module _ {E Q G R A F : Type 0} {b : Book E Q G R A F} {s : Start E} (o : IsOpen
     where
       sure_c : Settled o g n.log n.commit
       sure_c = settled_of o g x n.view n.role n.log n.commit n.base n.matched z.commits
+
       go : (k : ℕ) → last_signature b n.log ≡ k → in_some x (active b (take k n.log) n.commit) ≡ true → (length s.opening ≤ last_signature b n.log) × (length s.opening ≤ n.commit)
       go zero d a =
           let q : n.commit ≡ 0 = ⊎_elim (λ (w : n.commit ≡ 0). w)
-            (λ (w : SureOver o (Cert o (sure_c.1).0 g) g n.log n.commit sure_c.0). absurd (omega (arith, last_above b n.log w.i w.entry w.at w.signs))) (sure_c.1).1 in
+          (λ (w : SureOver o (Cert o (sure_c.1).0 g) g n.log n.commit sure_c.0). absurd (omega (arith, last_above b n.log w.i w.entry w.at w.signs))) (sure_c.1).1 in
           absurd (none_active x n.commit q a)
       go (suc k) d a =
           let y = last_signs b n.log k d in
@@ -102,41 +101,53 @@ module _ {E Q G R A F : Type 0} {b : Book E Q G R A F} {s : Start E} (o : IsOpen
       ((u i : ℕ) → Holds g x u i → u < v) →
       ((u i : ℕ) (e : E) → u < v → Holds g x u i → Mark b g.led u i e → Covers l u i ⊎ Lost b g.chief g.led u i v) →
       Grows b.view_of x g (told_stand x v l gone g) × Tale o (told_stand x v l gone g)
-  tale_stand x g v l gone t high less unvoted unbid far past_holds covers = (k, record {
+  tale_stand x g v l gone t high less unvoted unbid far past_holds covers = (
+    k,
+    record {
       early = λ y u c a d. grind (arith, id_tests, t.early y u c);
-      matches = t.matches; bound = t.bound; rising = t.rising; empty = t.empty; begins = t.begins; low = t.low;
+      matches = t.matches;
+      bound = t.bound;
+      rising = t.rising;
+      empty = t.empty;
+      begins = t.begins;
+      low = t.low;
       won = λ u c d a. won_grow o k u c (t.won u c d a);
       known = λ u i e a d. let r = t.known u i e a d in (r.0, sured_more o k (g.led u) (b.recorded_commit e) u r.1);
       bids = λ c w m a. grind (arith, id_tests, t.bids c w m);
       shuts = λ c w y a. ⊎_elim
-        (λ (q : (c ≡ x) × (w ≡ v) × (put2 g.shut x v gone c w ≡ gone)).
+          (λ (q : (c ≡ x) × (w ≡ v) × (put2 g.shut x v gone c w ≡ gone)).
           let r = far y (ap (λ f. f y) (sym q.2) ∙ a) in
           let r' = shuts_grow o k 0 v y r in
           (r'.0, r'.1, r'.2, omega (arith, r'.3, q.1), r'.4, r'.5))
-        (λ (q : put2 g.shut x v gone c w ≡ g.shut c w). shuts_grow o k 0 w y (t.shuts c w y (ap (λ f. f y) (sym q) ∙ a)))
-        (put2_cases g.shut x v gone c w);
+          (λ (q : put2 g.shut x v gone c w ≡ g.shut c w). shuts_grow o k 0 w y (t.shuts c w y (ap (λ f. f y) (sym q) ∙ a)))
+          (put2_cases g.shut x v gone c w);
       stood = λ c w y a. ⊎_elim
-        (λ (q : (c ≡ x) × (w ≡ v) × (put2 g.shut x v gone c w ≡ gone)). (l, grind (arith, id_tests)))
-        (λ (q : put2 g.shut x v gone c w ≡ g.shut c w). let r = t.stood c w y (ap (λ f. f y) (sym q) ∙ a) in (r.0, k.bid c w r.0 r.1))
-        (put2_cases g.shut x v gone c w);
+          (λ (q : (c ≡ x) × (w ≡ v) × (put2 g.shut x v gone c w ≡ gone)). (l, grind (arith, id_tests)))
+          (λ (q : put2 g.shut x v gone c w ≡ g.shut c w). let r = t.stood c w y (ap (λ f. f y) (sym q) ∙ a) in (r.0, k.bid c w r.0 r.1))
+          (put2_cases g.shut x v gone c w);
       ballots = λ y. ⊎_elim (λ (q : y ≡ x). subst (Ballots b h) (sym q) own) (λ (q : y ≢ x). ballots_of b k y q (t.ballots y)) (cases_same y x);
-      follows = t.follows; marks = t.marks;
-    })
+      follows = t.follows;
+      marks = t.marks;
+    },
+  )
     where
       h : Story E
       h = told_stand x v l gone g
+
       unshut : (y : NodeId) → g.shut x v y ≡ false
       unshut y = go (g.shut x v y) refl
         where
           go : (m : Bool) → g.shut x v y ≡ m → m ≡ false
           go false q = refl
           go true q = absurd (let r = (t.stood x v y q).1 in cc)
+
       k : Grows b.view_of x g (told_stand x v l gone g)
       k = grows_stand b.view_of x v l gone g high unvoted unbid unshut
+
       own : Ballots b (told_stand x v l gone g) x
       own = record {
         votes = λ w c d a. ⊎_elim
-          (λ (q : (x ≡ x) × (w ≡ v) × (put2 g.ballot x v (Some x) x w ≡ Some x)).
+            (λ (q : (x ≡ x) × (w ≡ v) × (put2 g.ballot x v (Some x) x w ≡ Some x)).
             let c_is : x ≡ c = let z = sym q.2 ∙ a in cc in
             record {
               bid = l;
@@ -144,26 +155,26 @@ module _ {E Q G R A F : Type 0} {b : Book E Q G R A F} {s : Start E} (o : IsOpen
               old = λ f u i e r z m. subst (λ (j : ℕ). Covers l u i ⊎ Lost b g.chief g.led u i j) (sym q.1) (covers u i e (omega (arith, q.1)) z m);
               late = λ u i e r z m. ⊎_elim (λ (f : Covers l u i). inl f) (λ (f : Lost b g.chief g.led u i v). inr (lost_more b (grows_same b.view_of x g) u i v (suc w) (omega (arith, q.1)) f)) (covers u i e (omega (arith, q.1)) z m);
             })
-          (λ (q : put2 g.ballot x v (Some x) x w ≡ g.ballot x w).
+            (λ (q : put2 g.ballot x v (Some x) x w ≡ g.ballot x w).
             let r = (t.ballots x).votes w c d (sym q ∙ a) in
             let other : w ≢ v = λ (z : w ≡ v). let f : g.ballot x v ≡ Some c = ap (g.ballot x) (sym z) ∙ sym q ∙ a in let u = sym unvoted ∙ f in cc in
             record { bid = r.bid; at = k.bid c w r.bid r.at; old = λ f. r.old (let e : put2 g.early x v (early_by (g.ballot x v) (g.chief v) (g.early x v)) x w ≡ g.early x w = grind (arith, id_tests) in sym e ∙ f); late = r.late })
-          (put2_cases g.ballot x v (Some x) x w);
+            (put2_cases g.ballot x v (Some x) x w);
         barred = λ w c a d. ⊎_elim
-          (λ (q : (c ≡ x) × (w ≡ v) × (put2 g.shut x v gone c w ≡ gone)).
+            (λ (q : (c ≡ x) × (w ≡ v) × (put2 g.shut x v gone c w ≡ gone)).
             let r = far x (ap (λ f. f x) (sym q.2) ∙ a) in
             omega (arith, past_holds r.0 r.1 r.4, r.3))
-          (λ (q : put2 g.shut x v gone c w ≡ g.shut c w).
+            (λ (q : put2 g.shut x v gone c w ≡ g.shut c w).
             let a' : g.shut c w x ≡ true = ap (λ f. f x) (sym q) ∙ a in
             ⊎_elim
-              (λ (f : (x ≡ x) × (w ≡ v) × (put2 g.ballot x v (Some x) x w ≡ Some x)).
-                let c_is : c ≡ x = let z = sym f.2 ∙ d in cc in
-                let r = t.stood c w x a' in
-                let z : g.bid x v ≡ Some r.0 = ap (λ y. g.bid y v) (sym c_is) ∙ ap (g.bid c) (sym f.1) ∙ r.1 in
-                let u = sym unbid ∙ z in cc)
-              (λ (f : put2 g.ballot x v (Some x) x w ≡ g.ballot x w). (t.ballots x).barred w c a' (sym f ∙ d))
-              (put2_cases g.ballot x v (Some x) x w))
-          (put2_cases g.shut x v gone c w);
+            (λ (f : (x ≡ x) × (w ≡ v) × (put2 g.ballot x v (Some x) x w ≡ Some x)).
+            let c_is : c ≡ x = let z = sym f.2 ∙ d in cc in
+            let r = t.stood c w x a' in
+            let z : g.bid x v ≡ Some r.0 = ap (λ y. g.bid y v) (sym c_is) ∙ ap (g.bid c) (sym f.1) ∙ r.1 in
+            let u = sym unbid ∙ z in cc)
+            (λ (f : put2 g.ballot x v (Some x) x w ≡ g.ballot x w). (t.ballots x).barred w c a' (sym f ∙ d))
+            (put2_cases g.ballot x v (Some x) x w))
+            (put2_cases g.shut x v gone c w);
         within = (t.ballots x).within;
       }
 
@@ -177,38 +188,48 @@ module _ {E Q G R A F : Type 0} {b : Book E Q G R A F} {s : Start E} (o : IsOpen
     where
       log : List E
       log = signed_part b n.log
+
       risen : Good o g x (rise b (n.view + 1) n)
       risen = good_rise g x n (n.view + 1) (omega arith) z
+
       h : Story E
       h = told_stand x (n.view + 1) (last b (signed_part b n.log)) gone g
+
       part : (i : ℕ) (e : E) → slice_get (signed_part b n.log) i ≡ Some e → slice_get n.log i ≡ Some e
       part i e a = (get_take (last_signature b n.log) n.log i e a).1
+
       fresh : (i : ℕ) (e : E) → slice_get (signed_part b n.log) i ≡ Some e → b.view_of e < n.view + 1
       fresh i e a = omega (arith, (z.logged.bound.view i e (part i e a)).1)
+
       less : (last b (signed_part b n.log)).view < n.view + 1
       less = go (last_signature b (signed_part b n.log)) refl
         where
           go : (k : ℕ) → last_signature b (signed_part b n.log) ≡ k → (last b (signed_part b n.log)).view < n.view + 1
           go zero d = omega (arith, last_zero b (signed_part b n.log) d)
           go (suc k) d = let y = last_view_is b (signed_part b n.log) k d in omega (arith, y.2, fresh k y.0 y.1)
+
       both : Grows b.view_of x g h × Tale o h
       both = tale_stand x g (n.view + 1) (last b (signed_part b n.log)) gone t (omega (arith, z.logged.positive)) less
-        (z.voter.later (n.view + 1) (omega arith)) (z.kept.unbid (n.view + 1) (omega arith)) far
-        (λ u i f. ⊎_elim
+          (z.voter.later (n.view + 1) (omega arith)) (z.kept.unbid (n.view + 1) (omega arith)) far
+          (λ u i f. ⊎_elim
           (λ (q : i < g.held x u). ⊎_elim (λ (r : n.view < u). absurd (omega (arith, z.kept.future u r))) (λ (r : u ≤ n.view). omega arith) (cases_lt n.view u))
           (λ (q : g.chief u ≡ Some x). omega (arith, z.voter.won u q)) f)
-        (λ u i e d f m. ⊎_elim
+          (λ u i e d f m. ⊎_elim
           (λ (q : slice_get n.log i ≡ Some e).
-            let a : slice_get (signed_part b n.log) i ≡ Some e = signed_keeps b n.log i e q m.signs in
-            inl (subst (λ (w : ℕ). Covers (last b (signed_part b n.log)) w i) m.view (covers_last b (signed_part b n.log) i e (rising_of o g t (signed_part b n.log) risen.logged.matches) a m.signs)))
+          let a : slice_get (signed_part b n.log) i ≡ Some e = signed_keeps b n.log i e q m.signs in
+          inl (subst (λ (w : ℕ). Covers (last b (signed_part b n.log)) w i) m.view (covers_last b (signed_part b n.log) i e (rising_of o g t (signed_part b n.log) risen.logged.matches) a m.signs)))
           (λ (q : Lost b g.chief g.led u i (suc n.view)). inr (lost_more b (grows_same b.view_of x g) u i (suc n.view) (n.view + 1) (omega arith) q))
           (z.kept.keeps u i e f m))
+
       k : Grows b.view_of x g h
       k = both.0
+
       open_ : (length s.opening ≤ last_signature b n.log) × (length s.opening ≤ n.commit)
       open_ = may_open g t x n z may
+
       more : Commits o h x (n.view + 1) Follower (signed_part b n.log) n.commit n.base n.matched
       more = commits_more o k x (n.view + 1) Follower (signed_part b n.log) n.commit n.base n.matched (λ r. absurd (cc)) risen.commits
+
       good : Good o h x (candidate b x n)
       good = record {
         voter = record {
@@ -229,13 +250,16 @@ module _ {E Q G R A F : Type 0} {b : Book E Q G R A F} {s : Start E} (o : IsOpen
           keeps = risen.kept.keeps;
         };
         commits = record {
-          bounded = more.bounded; based = more.based; above = more.above; recorded = more.recorded;
+          bounded = more.bounded;
+          based = more.based;
+          above = more.above;
+          recorded = more.recorded;
           ruled = λ r. absurd (cc);
           young = λ r. ⊎_elim
-            (λ (q : Below o g (signed_part b n.log) n.commit (n.view + 1)). inl (q.0, q.1, sured_more o k (signed_part b n.log) n.commit q.0 q.2))
-            (λ (q : (p : ℕ) (m : List NodeId) → IsNewest b (signed_part b n.log) n.commit p m → majority gone m ≡ true).
+              (λ (q : Below o g (signed_part b n.log) n.commit (n.view + 1)). inl (q.0, q.1, sured_more o k (signed_part b n.log) n.commit q.0 q.2))
+              (λ (q : (p : ℕ) (m : List NodeId) → IsNewest b (signed_part b n.log) n.commit p m → majority gone m ≡ true).
               inr (λ p m a. ap (λ f. majority f m) (put2_at g.shut x (n.view + 1) gone) ∙ q p m a))
-            young;
+              young;
           opened = λ r. open_.1;
           matches = λ r. absurd (cc);
           marked = λ r. absurd (cc);
@@ -249,10 +273,11 @@ module _ {E Q G R A F : Type 0} {b : Book E Q G R A F} {s : Start E} (o : IsOpen
   made_stand x g n t z may = ⊎_elim
       (λ (q : Below o g (signed_part b n.log) n.commit (n.view + 1)). stand_with x g n (λ y. false) t z may (λ y a. absurd (cc)) (inl q))
       (λ (q : (gone : NodeId → Bool) × ((p : ℕ) (m : List NodeId) → IsNewest b (signed_part b n.log) n.commit p m → majority gone m ≡ true) × ((y : NodeId) → gone y ≡ true → (v : ℕ) × (i : ℕ) × (e : E) × (n.view + 1 ≤ v) × Holds g y v i × Mark b g.led v i e)).
-        stand_with x g n q.0 t z may q.2 (inr q.1))
+      stand_with x g n q.0 t z may q.2 (inr q.1))
       (descend o g t (n.view + 1) (omega (arith, z.logged.positive)) sure_c.1.0 (signed_part b n.log) n.commit sure_c.0 risen.logged.matches (settled o sure_c.1.0 n.commit sure_c.0 g (signed_part b n.log) (may_open g t x n z may).1 sure_c.1.1))
     where
       risen : Good o g x (rise b (n.view + 1) n)
       risen = good_rise g x n (n.view + 1) (omega arith) z
+
       sure_c : Settled o g (signed_part b n.log) n.commit
       sure_c = settled_of o g x (n.view + 1) Follower (signed_part b n.log) n.commit n.base n.matched risen.commits

@@ -1,35 +1,19 @@
 -- What is reported Committed is never reported Invalid.
-use Rattle.std.proofs.Common.{◌≡◌, ◌≢◌, ◌⊎◌, inl, inr, ⊎_elim, ℕ, zero, suc, ◌+◌, ◌-◌, ◌≤◌, ◌<◌, ◌*◌, min, max, List, [], ◌∷◌, ◌++◌, length, take, drop, Bool, true, false, ◌&&◌, ◌||◌, not, ◌==◌, nat_lt, nat_le, if◌then◌else◌, Option, Some, None, Result, Ok, Err, unwrap_or, slice_get, refl, sym, ap, ◌∙◌, subst, true≢false, length-take, length-append, length-drop, arith}
-use Rattle.std.specs.Option.{option_to_list}
-use Rattle.std.proofs.lemmas.Bool.{cases_eq, cases_lt}
+use Rattle.std.proofs.Common.{◌≡◌, ◌⊎◌, inl, inr, ⊎_elim, ℕ, zero, suc, ◌≤◌, ◌<◌, List, length, take, Bool, true, false, nat_lt, nat_le, if◌then◌else◌, Option, Some, None, slice_get, refl, sym, ap, ◌∙◌, true≢false, arith}
 use Rattle.std.proofs.lemmas.Bool.Decides.{nat_tests}
-use Rattle.gl_rules.specs.Identity.{NodeId, same, member, put, added}
-use Rattle.gl_rules.specs.Majority.{tally, majority, quorum}
+use Rattle.gl_rules.specs.Identity.{NodeId}
 use Rattle.gl_rules.specs.Book.{Book}
-use Rattle.gl_rules.specs.Node.{Node, Role, Follower, Candidate, Leader}
-use Rattle.gl_rules.specs.Message.{Last, Message, Body, RequestVote, VoteReply, Append, AppendReply, ProposeVote}
-use Rattle.gl_rules.specs.Log.{entry_at, place_before, is_at_least, view_at, last_signature, last, signed_part, greatest_recorded}
-use Rattle.gl_rules.specs.Configuration.{configuration_at, configurations_above, active_upto, active, in_some}
-use Rattle.gl_rules.specs.Steps.{cut_to, appended, leads, rise, has_votes, won_by, win, known_commit}
-use Rattle.gl_rules.specs.World.{Start}
-use Rattle.gl_rules.specs.Safety.{IsOpening, IsLawful, EachFollows, Makes, MarksNone, MayRecord, ViewsUpTo}
-use Rattle.gl_safety.proofs.Ids.{id_tests, same_is, same_self, same_tells, cases_same, put2, put_all, put2_cases, put2_at, by_test, share}
-use Rattle.gl_safety.proofs.Lists.{Same, same_take, there, within, past, get_take, take_get, drop_get, get_left, get_append, get_push, push_get, take_whole, append_none, push_append, take_nothing, take_one_more, take_past}
-use Rattle.gl_safety.proofs.Story.{Story, Grows, at_view, early_by, told_ballot, told_stand, told_led, told_win, told_held, grows_same, grows_then, grows_ballot, grows_stand, grows_held, grows_win, grows_led}
-use Rattle.gl_safety.proofs.Configurations.{IsNewest, Backed, backed_by, backs, newest_same, newest_exists}
-use Rattle.gl_safety.proofs.Facts.{Holds, Covers, Matches, Bound, Rising, Mark, Lost, Segment, Voted, Ballots, agree, is_led, led_is, matches_part, matches_grow, mark_grow, mark_back, lost_grow, lost_more, holds_grow, holds_back, segment_grow, ballots_of}
-use Rattle.gl_safety.proofs.Certificates.{SureOver, CertOver, Cert, Sure, Sured, Settled, Below, Won, Tale, sure_grow, sured_grow, cert_grow}
-use Rattle.gl_safety.proofs.Complete.{Winner, Before, Whole, chief_of_led, one_voter, winner_of, completes, complete, descend, has_all, newest_in, settled}
-use Rattle.gl_safety.proofs.Signatures.{last_le, last_above, last_signs, last_take, signed_keeps, view_at_is, last_view_is, last_zero, covers_last, covers_more, recorded_le, recorded_bound, recorded_some, recorded_part, signed_ends, last_more}
-use Rattle.gl_safety.proofs.Invariants.{Voter, Logged, Kept, Barred, Commits, Good, BodySent, AllSent, Made, Reached, rising_of, begins_of, signature_above, sure_within, settled_of, sure_to, known_in, recorded_sure, won_grow, sured_more, shuts_grow, commits_more, good_of, sent_grow, all_grow, all_append, sent_at, made_same, made_then}
-use Rattle.gl_safety.proofs.Soundness.{sound_cut, sound_push}
-use Rattle.gl_safety.proofs.Places.{MarksKnown, place_within, place_cut, place_more, place_same, mark_entry, marks_known}
+use Rattle.gl_rules.specs.Node.{Node}
+use Rattle.gl_rules.specs.Log.{entry_at}
+use Rattle.gl_rules.specs.World.{Start, Event, World, begin, after}
+use Rattle.gl_rules.specs.Safety.{IsOpening, IsLawful, EachFollows, IsPrefixOf, committed, Agree, node_after, view_of, named, commit_id, reported}
+use Rattle.gl_safety.proofs.Lists.{there, within, get_take, take_get, get_left}
+use Rattle.gl_safety.proofs.Story.{Story}
+use Rattle.gl_safety.proofs.Certificates.{SureOver, Cert}
+use Rattle.gl_safety.proofs.Invariants.{rising_of, sure_within}
 use Rattle.gl_base.specs.declared.tx_id.TxId.{TxId}
-use Rattle.gl_base.specs.declared.status_kind.Status.{Status}
-use Rattle.gl_base.specs.declared.status_kind.Status.TheVariants.{Unknown, Pending, Committed, Invalid}
+use Rattle.gl_base.specs.declared.status_kind.Status.TheVariants.{Committed, Invalid}
 use Rattle.gl_base.specs.Status.{is_held, commit_view, commit_seqno, decided, undecided, status_of}
-use Rattle.gl_rules.specs.Safety.{IsPrefixOf, committed, Agree, node_after, view_of, named, commit_id, reported}
-use Rattle.gl_rules.specs.World.{Event, World, run, begin, after}
 use Rattle.gl_safety.proofs.Runs.{Holding, first_story, onward_run}
 use Rattle.gl_safety.proofs.Beginning.{holding_first}
 use Rattle.gl_safety.proofs.Prefixes.{settled_at, prefix}
@@ -65,10 +49,10 @@ module _ {E Q G R A F : Type 0} {b : Book E Q G R A F} {s : Start E} (o : IsOpen
   at_both m n i e p w h k a = ⊎_elim
       (λ (q : IsPrefixOf (committed m) (committed n)). (get_take n.commit n.log i e (prefix_get (committed m) (committed n) i e q (take_get m.commit m.log i e h a))).1)
       (λ (q : IsPrefixOf (committed n) (committed m)).
-        let y = there n.log i (omega arith) in
-        let c = (get_take m.commit m.log i y.0 (prefix_get (committed n) (committed m) i y.0 q (take_get n.commit n.log i y.0 k y.1))).1 in
-        let same : y.0 ≡ e = let d = sym c ∙ a in cc in
-        y.1 ∙ ap Some same)
+      let y = there n.log i (omega arith) in
+      let c = (get_take m.commit m.log i y.0 (prefix_get (committed n) (committed m) i y.0 q (take_get n.commit n.log i y.0 k y.1))).1 in
+      let same : y.0 ≡ e = let d = sym c ∙ a in cc in
+      y.1 ∙ ap Some same)
       p
 
   -- the identifier of commit
@@ -86,6 +70,7 @@ module _ {E Q G R A F : Type 0} {b : Book E Q G R A F} {s : Start E} (o : IsOpen
       inner : (i : ℕ) → id.seqno ≡ suc i → (m : Option E) → slice_get l i ≡ m → is_held id (view_of b m) ≡ true → (j : ℕ) × (e : E) × (id.seqno ≡ suc j) × (slice_get l j ≡ Some e) × (b.view_of e ≡ id.view)
       inner i d None f w = absurd (cc)
       inner i d (Some e) f w = (i, e, d, f, grind (arith, nat_tests))
+
       go : (k : ℕ) → id.seqno ≡ k → is_held id (view_of b (entry_at l k)) ≡ true → (i : ℕ) × (e : E) × (id.seqno ≡ suc i) × (slice_get l i ≡ Some e) × (b.view_of e ≡ id.view)
       go zero d w = absurd (cc)
       go (suc i) d w = inner i d (slice_get l i) refl w
@@ -111,23 +96,31 @@ module _ {E Q G R A F : Type 0} {b : Book E Q G R A F} {s : Start E} (o : IsOpen
     where
       m : Node E
       m = v.nodes x
+
       n : Node E
       n = w.nodes y
+
       q : (id.seqno ≤ commit_seqno (commit_id b (v.nodes x))) × (is_held id (view_of b (entry_at (v.nodes x).log id.seqno)) ≡ true)
       q = committed_is id (view_of b (entry_at (v.nodes x).log id.seqno)) (commit_id b (v.nodes x)) a
+
       r : (is_held id (view_of b (entry_at (w.nodes y).log id.seqno)) ≡ false) × ((id.seqno ≤ commit_seqno (commit_id b (w.nodes y))) ⊎ ((commit_seqno (commit_id b (w.nodes y)) < id.seqno) × (id.view < commit_view (commit_id b (w.nodes y)))))
       r = invalid_is id (view_of b (entry_at (w.nodes y).log id.seqno)) (commit_id b (w.nodes y)) c
+
       e : (i : ℕ) × (e : E) × (id.seqno ≡ suc i) × (slice_get (v.nodes x).log i ≡ Some e) × (b.view_of e ≡ id.view)
       e = held_is (v.nodes x).log id q.1
+
       in_m : e.0 < (v.nodes x).commit
       in_m = omega (arith, q.0, seqno_is v g k x, e.2)
+
       long : (w.nodes y).commit ≤ length (w.nodes y).log
       long = let z = settled_at o la w h l y in sure_within o h (w.nodes y).log (w.nodes y).commit z.0 z.1
+
       below : id.seqno ≤ commit_seqno (commit_id b (w.nodes y)) → ⊥
       below z =
           let in_n : slice_get (w.nodes y).log e.0 ≡ Some e.1 = at_both (v.nodes x) (w.nodes y) e.0 e.1 p long in_m (omega (arith, e.2, seqno_is w h l y)) e.3 in
           let f = held_again (w.nodes y).log id e.0 e.1 e.2 in_n e.4 in
           true≢false (sym f ∙ r.0)
+
       later : (i : ℕ) (f : E) → (w.nodes y).commit ≡ suc i → slice_get (w.nodes y).log i ≡ Some f → (commit_seqno (commit_id b (w.nodes y)) < id.seqno) × (id.view < commit_view (commit_id b (w.nodes y))) → ⊥
       later i f d u z =
           let t = commit_is (w.nodes y) i f d u in
@@ -137,6 +130,7 @@ module _ {E Q G R A F : Type 0} {b : Book E Q G R A F} {s : Start E} (o : IsOpen
           let same : f_m.0 ≡ f = let o_ = sym f_n ∙ u in cc in
           let up = (rising_of o g k.tale (v.nodes x).log (k.nodes x).logged.matches).rising i e.0 f_m.0 e.1 (omega arith) f_m.1 e.3 in
           omega (arith, z.1, t.1, up, ap b.view_of same, e.4)
+
       above : (commit_seqno (commit_id b (w.nodes y)) < id.seqno) × (id.view < commit_view (commit_id b (w.nodes y))) → ⊥
       above z = ⊎_elim
           (λ (d : (w.nodes y).commit ≡ 0). omega (arith, z.1, (none_is (w.nodes y) d).1))

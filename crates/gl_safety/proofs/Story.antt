@@ -1,8 +1,7 @@
 -- What is told beside the world, only for the proof: who voted for whom, who won which view, and with what. The world
 -- never reads it. Every invariant is about one node and the story, one message and the story, or the story alone.
-use Rattle.std.proofs.Common.{◌≡◌, ◌≢◌, ◌⊎◌, inl, inr, ⊎_elim, ℕ, zero, suc, ◌+◌, ◌-◌, ◌≤◌, ◌<◌, max, List, [], ◌∷◌, ◌++◌, length, Bool, true, false, ◌&&◌, ◌==◌, if◌then◌else◌, Option, Some, None, slice_get, refl, sym, ap, ◌∙◌, arith}
-use Rattle.gl_rules.specs.Identity.{NodeId, same}
-use Rattle.gl_rules.specs.Book.{Book}
+use Rattle.std.proofs.Common.{◌≡◌, ◌≢◌, ◌⊎◌, inl, inr, ⊎_elim, ℕ, ◌≤◌, ◌<◌, max, List, [], Bool, true, false, ◌==◌, if◌then◌else◌, Option, Some, None, slice_get, refl, ◌∙◌, arith}
+use Rattle.gl_rules.specs.Identity.{NodeId}
 use Rattle.gl_rules.specs.Message.{Last}
 use Rattle.gl_safety.proofs.Ids.{put2, id_tests}
 
@@ -70,13 +69,23 @@ pub record Grows {E : Type 0} (view_of : E → ℕ) (x : NodeId) (g h : Story E)
 module _ {E : Type 0} (view_of : E → ℕ) where
   pub grows_same : (x : NodeId) (g : Story E) → Grows view_of x g g
   grows_same x g = record {
-    ballot = λ y v c e. e; ballot_of = λ y v d. refl;
-    early = λ y v c e t. t; early_of = λ y v d. refl;
-    chief = λ v c e. e; chief_of = λ v c d e. e; unchief = λ v e. e;
-    led = λ v i e z. z; led_of = λ v c d z. refl; fresh = λ v c i e z t. inl t;
-    bid = λ y v l e. e; bid_of = λ y v d. refl;
-    held = λ y v. omega arith; held_of = λ y v d. refl;
-    shut = λ c v y e. e; shut_of = λ c v d. refl; shut_new = λ c v y e. inl e;
+    ballot = λ y v c e. e;
+    ballot_of = λ y v d. refl;
+    early = λ y v c e t. t;
+    early_of = λ y v d. refl;
+    chief = λ v c e. e;
+    chief_of = λ v c d e. e;
+    unchief = λ v e. e;
+    led = λ v i e z. z;
+    led_of = λ v c d z. refl;
+    fresh = λ v c i e z t. inl t;
+    bid = λ y v l e. e;
+    bid_of = λ y v d. refl;
+    held = λ y v. omega arith;
+    held_of = λ y v d. refl;
+    shut = λ c v y e. e;
+    shut_of = λ c v d. refl;
+    shut_new = λ c v y e. inl e;
   }
 
   pub grows_then : (x : NodeId) (g h k : Story E) → Grows view_of x g h → Grows view_of x h k → Grows view_of x g k
@@ -109,59 +118,107 @@ module _ {E : Type 0} (view_of : E → ℕ) where
 
   pub grows_ballot : (x c : NodeId) (v : ℕ) (g : Story E) → (g.ballot x v ≡ None) ⊎ (g.ballot x v ≡ Some c) → Grows view_of x g (told_ballot x v c g)
   grows_ballot x c v g k = record {
-    ballot = λ y u d e. grind (arith, id_tests); ballot_of = λ y u d. grind (arith, id_tests);
-    early = λ y u d e t. grind (arith, id_tests); early_of = λ y u d. grind (arith, id_tests);
-    chief = λ u d e. e; chief_of = λ u d z e. e; unchief = λ v e. e;
-    led = λ u i e z. z; led_of = λ u d z t. refl; fresh = λ u d i e z t. inl t;
-    bid = λ y u l e. e; bid_of = λ y u d. refl;
-    held = λ y u. omega arith; held_of = λ y u d. refl;
-    shut = λ d u y e. e; shut_of = λ d u z. refl; shut_new = λ d u y e. inl e;
+    ballot = λ y u d e. grind (arith, id_tests);
+    ballot_of = λ y u d. grind (arith, id_tests);
+    early = λ y u d e t. grind (arith, id_tests);
+    early_of = λ y u d. grind (arith, id_tests);
+    chief = λ u d e. e;
+    chief_of = λ u d z e. e;
+    unchief = λ v e. e;
+    led = λ u i e z. z;
+    led_of = λ u d z t. refl;
+    fresh = λ u d i e z t. inl t;
+    bid = λ y u l e. e;
+    bid_of = λ y u d. refl;
+    held = λ y u. omega arith;
+    held_of = λ y u d. refl;
+    shut = λ d u y e. e;
+    shut_of = λ d u z. refl;
+    shut_new = λ d u y e. inl e;
   }
 
   pub grows_stand : (x : NodeId) (v : ℕ) (l : Last) (gone : NodeId → Bool) (g : Story E) → 2 < v → g.ballot x v ≡ None → g.bid x v ≡ None → ((y : NodeId) → g.shut x v y ≡ false) → Grows view_of x g (told_stand x v l gone g)
   grows_stand x v l gone g high unvoted unbid unshut = record {
-    ballot = λ y u d e. grind (arith, id_tests); ballot_of = λ y u d. grind (arith, id_tests);
-    early = λ y u d e t. grind (arith, id_tests); early_of = λ y u d. grind (arith, id_tests);
-    chief = λ u d e. e; chief_of = λ u d z e. e; unchief = λ v e. e;
-    led = λ u i e z. z; led_of = λ u d z t. refl; fresh = λ u d i e z t. inl t;
-    bid = λ y u m e. grind (arith, id_tests); bid_of = λ y u d. grind (arith, id_tests);
-    held = λ y u. omega arith; held_of = λ y u d. refl;
-    shut = λ d u y e. grind (arith, id_tests, unshut y); shut_of = λ d u z. grind (arith, id_tests); shut_new = λ d u y e. grind (arith, id_tests);
+    ballot = λ y u d e. grind (arith, id_tests);
+    ballot_of = λ y u d. grind (arith, id_tests);
+    early = λ y u d e t. grind (arith, id_tests);
+    early_of = λ y u d. grind (arith, id_tests);
+    chief = λ u d e. e;
+    chief_of = λ u d z e. e;
+    unchief = λ v e. e;
+    led = λ u i e z. z;
+    led_of = λ u d z t. refl;
+    fresh = λ u d i e z t. inl t;
+    bid = λ y u m e. grind (arith, id_tests);
+    bid_of = λ y u d. grind (arith, id_tests);
+    held = λ y u. omega arith;
+    held_of = λ y u d. refl;
+    shut = λ d u y e. grind (arith, id_tests, unshut y);
+    shut_of = λ d u z. grind (arith, id_tests);
+    shut_new = λ d u y e. grind (arith, id_tests);
   }
 
   pub grows_held : (x : NodeId) (v k : ℕ) (g : Story E) → Grows view_of x g (told_held x v k g)
   grows_held x v k g = record {
-    ballot = λ y v c e. e; ballot_of = λ y v d. refl;
-    early = λ y v c e t. t; early_of = λ y v d. refl;
-    chief = λ v c e. e; chief_of = λ v c d e. e; unchief = λ v e. e;
-    led = λ v i e z. z; led_of = λ v c d z. refl; fresh = λ v c i e z t. inl t;
-    bid = λ y v l e. e; bid_of = λ y v d. refl;
-    held = λ y u. grind (arith, id_tests); held_of = λ y u d. grind (arith, id_tests);
-    shut = λ c v y e. e; shut_of = λ c v d. refl; shut_new = λ c v y e. inl e;
+    ballot = λ y v c e. e;
+    ballot_of = λ y v d. refl;
+    early = λ y v c e t. t;
+    early_of = λ y v d. refl;
+    chief = λ v c e. e;
+    chief_of = λ v c d e. e;
+    unchief = λ v e. e;
+    led = λ v i e z. z;
+    led_of = λ v c d z. refl;
+    fresh = λ v c i e z t. inl t;
+    bid = λ y v l e. e;
+    bid_of = λ y v d. refl;
+    held = λ y u. grind (arith, id_tests);
+    held_of = λ y u d. grind (arith, id_tests);
+    shut = λ c v y e. e;
+    shut_of = λ c v d. refl;
+    shut_new = λ c v y e. inl e;
   }
 
   pub grows_win : (x : NodeId) (v : ℕ) (log : List E) (g : Story E) → g.chief v ≡ None → g.led v ≡ [] → Grows view_of x g (told_win x v log g)
   grows_win x v log g free empty = record {
-    ballot = λ y v c e. e; ballot_of = λ y v d. refl;
-    early = λ y v c e t. t; early_of = λ y v d. refl;
-    chief = λ u c e. grind (arith, id_tests); chief_of = λ u c d e. grind (arith, id_tests); unchief = λ u e. grind (arith, id_tests);
-    led = λ u i e z. grind (arith, id_tests, empty); led_of = λ u c d z. grind (arith, id_tests);
+    ballot = λ y v c e. e;
+    ballot_of = λ y v d. refl;
+    early = λ y v c e t. t;
+    early_of = λ y v d. refl;
+    chief = λ u c e. grind (arith, id_tests);
+    chief_of = λ u c d e. grind (arith, id_tests);
+    unchief = λ u e. grind (arith, id_tests);
+    led = λ u i e z. grind (arith, id_tests, empty);
+    led_of = λ u c d z. grind (arith, id_tests);
     fresh = λ u c i e z t. inl (grind (arith, id_tests));
-    bid = λ y v l e. e; bid_of = λ y v d. refl;
-    held = λ y v. omega arith; held_of = λ y v d. refl;
-    shut = λ c v y e. e; shut_of = λ c v d. refl; shut_new = λ c v y e. inl e;
+    bid = λ y v l e. e;
+    bid_of = λ y v d. refl;
+    held = λ y v. omega arith;
+    held_of = λ y v d. refl;
+    shut = λ c v y e. e;
+    shut_of = λ c v d. refl;
+    shut_new = λ c v y e. inl e;
   }
 
   pub grows_led : (x : NodeId) (v : ℕ) (log : List E) (g : Story E) → g.chief v ≡ Some x →
       ((i : ℕ) (e : E) → slice_get (g.led v) i ≡ Some e → slice_get log i ≡ Some e) →
       ((i : ℕ) (e : E) → slice_get log i ≡ Some e → (slice_get (g.led v) i ≡ Some e) ⊎ (view_of e ≡ v)) → Grows view_of x g (told_led v log g)
   grows_led x v log g mine more new = record {
-    ballot = λ y v c e. e; ballot_of = λ y v d. refl;
-    early = λ y v c e t. t; early_of = λ y v d. refl;
-    chief = λ u c e. e; chief_of = λ u c d e. e; unchief = λ u e. e;
-    led = λ u i e z. grind (arith, id_tests, more i e); led_of = λ u c d z. grind (arith, id_tests);
+    ballot = λ y v c e. e;
+    ballot_of = λ y v d. refl;
+    early = λ y v c e t. t;
+    early_of = λ y v d. refl;
+    chief = λ u c e. e;
+    chief_of = λ u c d e. e;
+    unchief = λ u e. e;
+    led = λ u i e z. grind (arith, id_tests, more i e);
+    led_of = λ u c d z. grind (arith, id_tests);
     fresh = λ u c i e z t. grind (arith, id_tests, new i e);
-    bid = λ y v l e. e; bid_of = λ y v d. refl;
-    held = λ y v. omega arith; held_of = λ y v d. refl;
-    shut = λ c v y e. e; shut_of = λ c v d. refl; shut_new = λ c v y e. inl e;
+    bid = λ y v l e. e;
+    bid_of = λ y v d. refl;
+    held = λ y v. omega arith;
+    held_of = λ y v d. refl;
+    shut = λ c v y e. e;
+    shut_of = λ c v d. refl;
+    shut_new = λ c v y e. inl e;
   }

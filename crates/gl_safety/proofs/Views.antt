@@ -1,5 +1,5 @@
 -- No event lowers the view of the node that it names.
-use Rattle.std.proofs.Common.{◌≡◌, ℕ, suc, ◌+◌, ◌-◌, ◌≤◌, ◌<◌, List, [], ◌∷◌, ◌++◌, length, take, drop, min, Bool, true, false, ◌&&◌, ◌||◌, not, ◌==◌, nat_lt, nat_le, if◌then◌else◌, Option, Some, None, Result, Ok, Err, slice_get, refl, arith}
+use Rattle.std.proofs.Common.{◌≡◌, ℕ, ◌+◌, ◌-◌, ◌≤◌, ◌<◌, List, [], ◌∷◌, length, take, drop, min, Bool, true, false, ◌&&◌, ◌||◌, not, ◌==◌, nat_lt, nat_le, if◌then◌else◌, Option, Some, None, Result, Ok, Err, refl, arith}
 use Rattle.std.proofs.lemmas.Bool.Decides.{nat_tests}
 use Rattle.gl_rules.specs.Identity.{NodeId, same}
 use Rattle.gl_rules.specs.Book.{Book}
@@ -10,8 +10,8 @@ use Rattle.gl_rules.specs.Outcome as outcome
 use Rattle.gl_rules.specs.Log.{entry_at, last, is_at_least, view_at}
 use Rattle.gl_rules.specs.Configuration.{configurations_above, active, in_some}
 use Rattle.gl_rules.specs.Steps.{cut_to, rise, has_votes, won_by, win, led_by, if_leader}
-use Rattle.gl_rules.specs.Elections.{free_for, may_stand, candidate, stands, stands_if_allowed, last_view, timeout_as, timeout, voted_by, reply_to_request, on_request_vote, with_vote, counts, vote_reply_as, on_vote_reply, on_propose_vote, steps_down, step_down}
-use Rattle.gl_rules.specs.Replication.{takes, append_reply, last_at_most, acknowledged, held_of, applied, extended, merges, follows_on, follower_of, append_as, on_append, answered, append_reply_as, on_append_reply, greatest_to_commit, commits, advance, restart, snapshot_of, risen_to, installed, installs, install, is_peer, sends, next_of, append_from, replicate}
+use Rattle.gl_rules.specs.Elections.{free_for, may_stand, candidate, stands, stands_if_allowed, last_view, timeout_as, timeout, reply_to_request, on_request_vote, with_vote, counts, vote_reply_as, on_vote_reply, on_propose_vote, steps_down, step_down}
+use Rattle.gl_rules.specs.Replication.{takes, append_reply, last_at_most, acknowledged, held_of, applied, extended, merges, follows_on, follower_of, append_as, on_append, answered, append_reply_as, on_append_reply, greatest_to_commit, commits, advance, restart, snapshot_of, installs, install, is_peer, sends, next_of, append_from, replicate}
 use Rattle.gl_rules.specs.Requests.{pending_limit, last_count, enters, executes, submit, unless_conflict, finishes, finish, removed_late, marked, if_markable, governs, govern, reserve, signs_for, signed, signs, sign, evident, evidence}
 use Rattle.gl_rules.specs.World.{answer_as, risen, kept_by, on_message}
 use Rattle.gl_safety.proofs.Ids.{by_test}
@@ -51,6 +51,7 @@ module _ {E Q G R A F : Type 0} (b : Book E Q G R A F) where
           inner true true = omega arith
           inner true false = omega (arith, win_is (candidate b x n))
           inner false l = omega arith
+
       go : (r : Role) → Up n.view (timeout_as b r x n)
       go Leader = omega arith
       go Candidate = allowed
@@ -82,10 +83,12 @@ module _ {E Q G R A F : Type 0} (b : Book E Q G R A F) where
     where
       held : ℕ
       held = held_of b (drop prev.place n.log) es
+
       inner : (p q : Bool) → Up n.view (if p then takes b x y (prev.place + length es) theirs n else (if q then outcome.refuse n (outcome.BelowCommit n.commit (prev.place + held_of b (drop prev.place n.log) es)) else extended b n x y (prev.place + length es) theirs (cut_to (prev.place + held_of b (drop prev.place n.log) es) n) (applied b (take (prev.place + held_of b (drop prev.place n.log) es) n.log) (drop (held_of b (drop prev.place n.log) es) es))))
       inner true q = omega arith
       inner false true = omega arith
       inner false false = extended_up n x y (prev.place + length es) theirs (cut_to (prev.place + held_of b (drop prev.place n.log) es) n) (applied b (take (prev.place + held_of b (drop prev.place n.log) es) n.log) (drop (held_of b (drop prev.place n.log) es) es)) refl
+
       go : (m : Bool) → Up n.view (if m then merges b x y prev.place es (held_of b (drop prev.place n.log) es) theirs n else record { node = n; sent = append_reply b x y false (last_at_most b n.log prev.view (min (prev.place - 1) (length n.log))) n; outcome = outcome.Done })
       go true = inner (held_of b (drop prev.place n.log) es == length es) (nat_lt (prev.place + held_of b (drop prev.place n.log) es) (length n.log) && nat_lt (prev.place + held_of b (drop prev.place n.log) es) n.commit)
       go false = omega arith
@@ -106,6 +109,7 @@ module _ {E Q G R A F : Type 0} (b : Book E Q G R A F) where
       inner : (m : Bool) → Up n.view (answered b m y place n)
       inner true = by_test (Up n.view) (nat_le place (length n.log)) (outcome.quiet (acknowledged b y place n) outcome.Done) (outcome.idle n) (λ d. omega arith) (λ d. omega arith)
       inner false = omega arith
+
       go : (r : Role) → Up n.view (append_reply_as b r y view ok place n)
       go Leader = by_test (Up n.view) (view == n.view) (answered b ok y place n) (outcome.idle n) (λ d. inner ok) (λ d. omega arith)
       go Candidate = omega arith
@@ -136,8 +140,8 @@ module _ {E Q G R A F : Type 0} (b : Book E Q G R A F) where
   unfolding on_message
   message_up m n = kept_up n (answer_as b m.body m.receiver m.sender m.view (risen b m.view n)).outcome (answer_as b m.body m.receiver m.sender m.view (risen b m.view n))
       (by_test (λ k. Up n.view (answer_as b m.body m.receiver m.sender m.view k)) (nat_lt n.view m.view) (rise b m.view n) n
-        (λ d. let u : n.view < m.view = grind (arith, nat_tests) in omega (arith, rise_is m.view n, answer_up m.body m.receiver m.sender m.view (rise b m.view n)))
-        (λ d. answer_up m.body m.receiver m.sender m.view n))
+      (λ d. let u : n.view < m.view = grind (arith, nat_tests) in omega (arith, rise_is m.view n, answer_up m.body m.receiver m.sender m.view (rise b m.view n)))
+      (λ d. answer_up m.body m.receiver m.sender m.view n))
 
   pub step_down_up : (x y : NodeId) (n : Node E) → Up n.view (step_down b x y n)
   unfolding step_down
@@ -170,12 +174,15 @@ module _ {E Q G R A F : Type 0} (b : Book E Q G R A F) where
     where
       step : Step E A F
       step = enters b n (b.govern n.log n.view q)
+
       late : (m : Option ℕ) → Up n.view (removed_late b m n (enters b n (b.govern n.log n.view q)))
       late None = enters_up n (b.govern n.log n.view q)
       late (Some place) = by_test (Up n.view) (nat_lt n.commit place) (outcome.refuse n (outcome.RemovalNotCommitted place n.commit)) (enters b n (b.govern n.log n.view q)) (λ d. omega arith) (λ d. enters_up n (b.govern n.log n.view q))
+
       inner : (y : NodeId) (m : Option F) → Up n.view (marked b m y n (enters b n (b.govern n.log n.view q)))
       inner y (Some why) = omega arith
       inner y None = late (b.removal n.log y)
+
       go : (m : Bool) (c : Option NodeId) → Up n.view (if m then outcome.refuse n (outcome.TooManyPending pending_limit) else if_markable b c n (enters b n (b.govern n.log n.view q)))
       go true c = omega arith
       go false None = enters_up n (b.govern n.log n.view q)
@@ -207,8 +214,8 @@ module _ {E Q G R A F : Type 0} (b : Book E Q G R A F) where
   unfolding replicate
   replicate_up x y n = led_up n (if is_peer b x y n then sends b x y (next_of b n y - 1) n else outcome.refuse n outcome.NotPeer)
       (by_test (Up n.view) (is_peer b x y n) (sends b x y (next_of b n y - 1) n) (outcome.refuse n outcome.NotPeer)
-        (λ d. by_test (Up n.view) (nat_lt (next_of b n y - 1) n.base) (outcome.refuse n (outcome.BelowBase n.base)) (record { node = n; sent = append_from b x y (next_of b n y - 1) n ∷ []; outcome = outcome.Done }) (λ e. omega arith) (λ e. omega arith))
-        (λ d. omega arith))
+      (λ d. by_test (Up n.view) (nat_lt (next_of b n y - 1) n.base) (outcome.refuse n (outcome.BelowBase n.base)) (record { node = n; sent = append_from b x y (next_of b n y - 1) n ∷ []; outcome = outcome.Done }) (λ e. omega arith) (λ e. omega arith))
+      (λ d. omega arith))
 
   pub advance_up : (x : NodeId) (n : Node E) → Up n.view (advance b x n)
   unfolding advance

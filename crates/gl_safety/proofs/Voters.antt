@@ -1,34 +1,21 @@
 -- Events of elections, each as a composition of small steps.
-use Rattle.std.proofs.Common.{◌≡◌, ◌≢◌, ◌⊎◌, inl, inr, ⊎_elim, ℕ, zero, suc, ◌+◌, ◌-◌, ◌≤◌, ◌<◌, ◌*◌, min, max, List, [], ◌∷◌, ◌++◌, length, take, drop, Bool, true, false, ◌&&◌, ◌||◌, not, ◌==◌, nat_lt, nat_le, if◌then◌else◌, Option, Some, None, Result, Ok, Err, unwrap_or, slice_get, refl, sym, ap, ◌∙◌, subst, true≢false, length-take, length-append, length-drop, arith}
-use Rattle.std.specs.Option.{option_to_list}
-use Rattle.std.proofs.lemmas.Bool.{cases_eq, cases_lt}
+use Rattle.std.proofs.Common.{◌≡◌, ℕ, ◌≤◌, List, [], ◌∷◌, Bool, true, false, ◌&&◌, not, ◌==◌, nat_lt, if◌then◌else◌, Some, None, refl, sym, ap, ◌∙◌, arith, map}
 use Rattle.std.proofs.lemmas.Bool.Decides.{nat_tests}
-use Rattle.gl_rules.specs.Identity.{NodeId, same, member, put, added}
-use Rattle.gl_rules.specs.Majority.{tally, majority, quorum}
+use Rattle.gl_rules.specs.Identity.{NodeId, same}
 use Rattle.gl_rules.specs.Book.{Book}
 use Rattle.gl_rules.specs.Node.{Node, Role, Follower, Candidate, Leader}
-use Rattle.gl_rules.specs.Message.{Last, Message, Body, RequestVote, VoteReply, Append, AppendReply, ProposeVote}
-use Rattle.gl_rules.specs.Log.{entry_at, place_before, is_at_least, view_at, last_signature, last, signed_part, greatest_recorded}
-use Rattle.gl_rules.specs.Configuration.{configuration_at, configurations_above, active_upto, active, in_some}
-use Rattle.gl_rules.specs.Steps.{cut_to, appended, leads, rise, has_votes, won_by, win, known_commit}
+use Rattle.gl_rules.specs.Message.{Last, RequestVote, VoteReply, ProposeVote}
+use Rattle.gl_rules.specs.Log.{is_at_least, last}
+use Rattle.gl_rules.specs.Configuration.{active, in_some, others}
+use Rattle.gl_rules.specs.Steps.{has_votes, won_by, win, led_by, if_leader}
 use Rattle.gl_rules.specs.World.{Start}
-use Rattle.gl_rules.specs.Safety.{IsOpening, IsLawful, EachFollows, Makes, MarksNone, MayRecord, ViewsUpTo}
-use Rattle.gl_safety.proofs.Ids.{id_tests, same_is, same_self, same_tells, cases_same, put2, put_all, put2_cases, put2_at, by_test, share}
-use Rattle.gl_safety.proofs.Lists.{Same, same_take, there, within, past, get_take, take_get, drop_get, get_left, get_append, get_push, push_get, take_whole, append_none, push_append, take_nothing, take_one_more, take_past}
-use Rattle.gl_safety.proofs.Story.{Story, Grows, at_view, early_by, told_ballot, told_stand, told_led, told_win, told_held, grows_same, grows_then, grows_ballot, grows_stand, grows_held, grows_win, grows_led}
-use Rattle.gl_safety.proofs.Configurations.{IsNewest, Backed, backed_by, backs, newest_same, newest_exists}
-use Rattle.gl_safety.proofs.Facts.{Holds, Covers, Matches, Bound, Rising, Mark, Lost, Segment, Voted, Ballots, agree, is_led, led_is, matches_part, matches_grow, mark_grow, mark_back, lost_grow, lost_more, holds_grow, holds_back, segment_grow, ballots_of}
-use Rattle.gl_safety.proofs.Certificates.{SureOver, CertOver, Cert, Sure, Sured, Settled, Below, Won, Tale, sure_grow, sured_grow, cert_grow}
-use Rattle.gl_safety.proofs.Complete.{Winner, Before, Whole, chief_of_led, one_voter, winner_of, completes, complete, descend, has_all, newest_in, settled}
-use Rattle.gl_safety.proofs.Signatures.{last_le, last_above, last_signs, last_take, signed_keeps, view_at_is, last_view_is, last_zero, covers_last, covers_more, recorded_le, recorded_bound, recorded_some, recorded_part, signed_ends, last_more}
-use Rattle.gl_safety.proofs.Invariants.{Voter, Logged, Kept, Barred, Commits, Good, BodySent, AllSent, Made, Reached, rising_of, begins_of, signature_above, sure_within, settled_of, sure_to, known_in, recorded_sure, won_grow, sured_more, shuts_grow, commits_more, good_of, sent_grow, all_grow, all_append, sent_at, made_same, made_then}
-use Rattle.gl_safety.proofs.Soundness.{sound_cut, sound_push}
-use Rattle.gl_safety.proofs.Places.{MarksKnown, place_within, place_cut, place_more, place_same, mark_entry, marks_known}
-use Rattle.std.proofs.Common.{map}
-use Rattle.gl_rules.specs.Outcome.{Outcome, Step, Done, quiet, refuse, idle, NotPeer, ViewLimit}
-use Rattle.gl_rules.specs.Configuration.{others}
-use Rattle.gl_rules.specs.Elections.{free_for, may_stand, candidate, vote_requests, stands, stands_if_allowed, last_view, timeout_as, timeout, voted_by, reply_to_request, on_request_vote, with_vote, counts, vote_reply_as, on_vote_reply, on_propose_vote, steps_down, step_down}
-use Rattle.gl_rules.specs.Steps.{led_by, if_leader}
+use Rattle.gl_rules.specs.Safety.{IsOpening, IsLawful, EachFollows}
+use Rattle.gl_safety.proofs.Ids.{by_test}
+use Rattle.gl_safety.proofs.Story.{Story, grows_then}
+use Rattle.gl_safety.proofs.Certificates.{Tale}
+use Rattle.gl_safety.proofs.Invariants.{Good, BodySent, AllSent, Reached, made_same}
+use Rattle.gl_rules.specs.Outcome.{Step, refuse, idle, NotPeer, ViewLimit}
+use Rattle.gl_rules.specs.Elections.{free_for, may_stand, candidate, stands, stands_if_allowed, last_view, timeout_as, timeout, reply_to_request, on_request_vote, with_vote, counts, vote_reply_as, on_vote_reply, on_propose_vote, steps_down, step_down}
 use Rattle.gl_safety.proofs.Standing.{made_stand}
 use Rattle.gl_safety.proofs.Winning.{made_win}
 use Rattle.gl_safety.proofs.Voting.{made_vote, good_count}
@@ -57,11 +44,15 @@ module _ {E Q G R A F : Type 0} {b : Book E Q G R A F} {s : Start E} (o : IsOpen
   reached_stands : (x : NodeId) (g : Story E) (n : Node E) → Tale o g → Good o g x n → may_stand b x n ≡ true → By x g (stands b x (candidate b x n))
   reached_stands x g n t z may =
       let p = made_stand o la x g n t z may in
-      let q = reached_win x p.0 (candidate b x n) p.1.tale p.1.good refl in
-      (q.0, record {
-        grow = grows_then b.view_of x g p.0 q.0 p.1.grow q.1.grow; tale = q.1.tale; good = q.1.good;
-        sent = all_requests x q.0 (candidate b x n).view (last b (candidate b x n).log) (q.1.grow.bid x (candidate b x n).view (last b (candidate b x n).log) (p.1.good.kept.bid_is refl)) (others b x (candidate b x n));
-      })
+      let q = reached_win x p.0 (candidate b x n) p.1.tale p.1.good refl in (
+        q.0,
+        record {
+          grow = grows_then b.view_of x g p.0 q.0 p.1.grow q.1.grow;
+          tale = q.1.tale;
+          good = q.1.good;
+          sent = all_requests x q.0 (candidate b x n).view (last b (candidate b x n).log) (q.1.grow.bid x (candidate b x n).view (last b (candidate b x n).log) (p.1.good.kept.bid_is refl)) (others b x (candidate b x n));
+        },
+      )
 
   reached_allowed : (x : NodeId) (g : Story E) (n : Node E) → Tale o g → Good o g x n → By x g (stands_if_allowed b x n)
   reached_allowed x g n t z = go (may_stand b x n) refl (n.view == last_view)
@@ -87,6 +78,7 @@ module _ {E Q G R A F : Type 0} {b : Book E Q G R A F} {s : Start E} (o : IsOpen
     where
       not_granted : By x g (reply_to_request b x c false n)
       not_granted = (g, made_same o x g n (record { sender = x; receiver = c; view = n.view; body = VoteReply false } ∷ []) t z (tt, tt))
+
       here : view ≡ n.view → By x g (reply_to_request b x c (free_for n.vote c && is_at_least theirs (last b n.log)) n)
       here d = go (free_for n.vote c) (is_at_least theirs (last b n.log)) refl refl
         where
@@ -127,5 +119,5 @@ module _ {E Q G R A F : Type 0} {b : Book E Q G R A F} {s : Start E} (o : IsOpen
   unfolding step_down
   reached_step_down x y g n t z = reached_leader x g n (if not (same y x) && in_some y (active b n.log n.commit) then steps_down b x y n else refuse n NotPeer) t z
       (λ r. by_test (By x g) (not (same y x) && in_some y (active b n.log n.commit)) (steps_down b x y n) (refuse n NotPeer)
-        (λ d. (g, made_same o x g (record n { role = Follower; leader = None }) (record { sender = x; receiver = y; view = n.view; body = ProposeVote } ∷ []) t (good_follow o x g n None z) (tt, tt)))
-        (λ d. stay x g n t z))
+      (λ d. (g, made_same o x g (record n { role = Follower; leader = None }) (record { sender = x; receiver = y; view = n.view; body = ProposeVote } ∷ []) t (good_follow o x g n None z) (tt, tt)))
+      (λ d. stay x g n t z))

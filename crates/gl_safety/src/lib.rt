@@ -9,21 +9,12 @@ ghost use Rattle.gl_rules.specs.Safety.{EachFollows, IsLawful, IsOpening, IsReti
 /// The rules of consensus are safe, whatever happens in whatever order: timeouts, lost, repeated and late messages,
 /// several configurations that are not yet committed, restarts and snapshots among it.
 pub fn is_safe<E, Q, G, R, A, F>()
-    ensures safe {
-        (book : Book E Q G R A F) (s : Start E) → IsLawful book (EachFollows book) → IsOpening book (EachFollows book) s → (events : List (Event Q G R)) →
-            IsSafe book (EachFollows book) s events
-    }
-    ensures elections {
-        (book : Book E Q G R A F) (s : Start E) → IsLawful book (EachFollows book) → IsOpening book (EachFollows book) s → (events : List (Event Q G R)) →
-            LeadsByVote book s events
-    }
-    ensures refusals {
-        (book : Book E Q G R A F) (s : Start E) → IsLawful book (EachFollows book) → IsOpening book (EachFollows book) s → (events : List (Event Q G R)) →
-            NeverConflicts book s events
-    }
-    ensures retirement {
-        (book : Book E Q G R A F) (s : Start E) → IsLawful book (EachFollows book) → IsRetiring book (EachFollows book) → IsOpening book (EachFollows book) s → (events : List (Event Q G R)) →
-            RetiresSafely book s events
-    }
-{
-}
+    ensures safe { (book : Book E Q G R A F) (s : Start E) → IsLawful book (EachFollows book) → IsOpening book (EachFollows book) s → (events : List (Event Q G R)) →
+        IsSafe book (EachFollows book) s events }
+    ensures elections { (book : Book E Q G R A F) (s : Start E) → IsLawful book (EachFollows book) → IsOpening book (EachFollows book) s → (events : List (Event Q G R)) →
+        LeadsByVote book s events }
+    ensures refusals { (book : Book E Q G R A F) (s : Start E) → IsLawful book (EachFollows book) → IsOpening book (EachFollows book) s → (events : List (Event Q G R)) →
+        NeverConflicts book s events }
+    ensures retirement { (book : Book E Q G R A F) (s : Start E) → IsLawful book (EachFollows book) → IsRetiring book (EachFollows book) → IsOpening book (EachFollows book) s → (events : List (Event Q G R)) →
+        RetiresSafely book s events }
+{}

@@ -29,3 +29,6 @@ pub mod Leaders
 pub mod Refusals
 pub mod AnySoundness
 pub mod Retiring
+pub mod SmallBook
+pub mod SmallLaws
+pub mod Shown

@@ -13,7 +13,7 @@ pub fn is_safe<E, Q, G, R, A, F>()
         IsSafe book (EachFollows book) s events }
     ensures elections { (book : Book E Q G R A F) (s : Start E) → IsLawful book (EachFollows book) → IsOpening book (EachFollows book) s → (events : List (Event Q G R)) →
         LeadsByVote book s events }
-    ensures refusals { (book : Book E Q G R A F) (s : Start E) → IsLawful book (EachFollows book) → IsOpening book (EachFollows book) s → (events : List (Event Q G R)) →
+    ensures no_conflict { (book : Book E Q G R A F) (s : Start E) → IsLawful book (EachFollows book) → IsOpening book (EachFollows book) s → (events : List (Event Q G R)) →
         NeverConflicts book s events }
     ensures retirement { (book : Book E Q G R A F) (s : Start E) → IsLawful book (EachFollows book) → IsRetiring book (EachFollows book) → IsOpening book (EachFollows book) s → (events : List (Event Q G R)) →
         RetiresSafely book s events }

@@ -9,6 +9,6 @@ pub returns : goal.returns
 returns g c = record {
   safe = λ book s la o events. safe o la events;
   elections = λ book s la o events. leads_by_vote o la events;
-  refusals = λ book s la o events. never_conflicts o la events;
+  no_conflict = λ book s la o events. never_conflicts o la events;
   retirement = λ book s la re o events. retires_safely o la re events;
 }

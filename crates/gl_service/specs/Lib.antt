@@ -4,3 +4,4 @@ pub mod Nodes
 pub mod Service
 pub mod Headline
 pub mod Single
+pub mod Solo

@@ -1,5 +1,5 @@
 -- Which nodes a ledger records, and which of them are trusted, as the rows of the governance tables tell it.
-use Rattle.std.specs.Prelude.{ℕ, zero, suc, ◌+◌, ◌-◌, ◌*◌, List, [], ◌∷◌, ◌++◌, Option, None, Some, Bool, true, false, ◌&&◌, not, ◌==◌, length, map, filter, take, slice_index, if◌then◌else◌}
+use Rattle.std.specs.Prelude.{ℕ, zero, suc, ◌+◌, ◌-◌, ◌*◌, List, [], ◌∷◌, ◌++◌, Option, None, Some, Bool, true, false, ◌&&◌, ◌==◌, length, map, filter, take, slice_index, if◌then◌else◌}
 use Rattle.std.specs.FinMap as rows
 use Rattle.gl_store.specs.Tables.{Rows, same_bytes, tables_of}
 use Rattle.gl_store.specs.Genesis.{nodes_map}
@@ -29,7 +29,7 @@ abbrev pub changed_set : List (List ℕ) → List (List ℕ) → Option (List (L
 changed_set before now = if same_lists before now then None else Some now
 
 -- The configuration that begins with a ledger's last entry, if that changes the set of trusted nodes.
-abbrev pub configuration : List Entry → Option (List (List ℕ))
+unfoldable pub configuration : List Entry → Option (List (List ℕ))
 configuration ledger = changed_set (trusted_in (node_rows (take (length ledger - 1) ledger))) (trusted_in (node_rows ledger))
 
 abbrev with_order : Rows → ℕ → List (List ℕ)

@@ -1,5 +1,5 @@
 -- The ledger of the service as the book that the rules of consensus read. Its cases grow with the requests that there are.
-use Rattle.std.specs.Prelude.{ℕ, List, [], ◌∷◌, Option, None, Some, Result, Ok, Err, map}
+use Rattle.std.specs.Prelude.{ℕ, List, Option, None, Some, Result, Ok, Err, map}
 use Rattle.gl_rules.specs.Book.{Book}
 use Rattle.gl_rules.specs.World.{Start, Event, World}
 use Rattle.gl_rules.specs.Outcome.{Outcome}

@@ -3,7 +3,9 @@
 
 mod founding;
 mod keys;
+mod laws;
 mod settings;
 
 pub use founding::{genesis, node_id};
+pub use laws::single_node;
 pub use settings::Settings;

@@ -22,5 +22,6 @@ pub use genesis::{
 pub use name::{Key, MapName, Value};
 pub use refusal::{Refusal, StoreError};
 pub use request::{Abort, Answer, Cause, Operation, Reply, Request};
+pub use run::barred;
 pub use store::Store;
 pub use write::{Write, Writes};

@@ -17,7 +17,8 @@ pub struct Ran {
     pub writes: Writes,
 }
 
-fn barred(map: &[u8]) -> Option<Cause>
+/// Why no request may name a map, if so.
+pub fn barred(map: &[u8]) -> Option<Cause>
     ensures { result ≡ barred map.now }
 {
     if !map.starts_with(b"public:".as_slice()) {

@@ -1,0 +1,99 @@
+-- The set of trusted nodes: what the genesis makes it, and that no other entry changes it.
+use Rattle.std.proofs.Common.{◌≡◌, ℕ, suc, ◌-◌, ◌<◌, ◌≤◌, List, [], ◌∷◌, ◌++◌, length, take, map, filter, Some, None, Bool, true, ◌&&◌, if◌then◌else◌, refl, sym, ◌∙◌, ap, ap₂, arith, length-append, ⊎_elim}
+use Rattle.std.specs.List.{AllByRecursion}
+use Rattle.std.proofs.lemmas.Bool.{cases_lt}
+use Rattle.std.specs.Cmp.Lexicographic.{slice_cmp, bytes_decides, nat_list_cmp_total}
+use Rattle.std.specs.Ordering.{nat_cmp}
+use Rattle.std.specs.FinMap as rows
+use Rattle.gl_store.specs.Field.{u16_bytes, u64_bytes, with_u32_length}
+use Rattle.gl_store.specs.Tables.{Tables, Rows, no_tables, tables_of, wrote_all}
+use Rattle.gl_store.specs.Genesis.{nodes_map, node_id, genesis_rows}
+use Rattle.gl_store.specs.Ledger.{genesis_entry, signature_entry, opening_ledger}
+use Rattle.gl_store.specs.declared.entry.Entry.{Entry}
+use Rattle.gl_store.specs.declared.genesis.NewMember.{NewMember}
+use Rattle.gl_store.specs.declared.genesis.NewNode.{NewNode}
+use Rattle.gl_store.specs.declared.genesis.Genesis as request
+use Rattle.gl_store.proofs.Growth.{IsOutside, tables_behind-push, untouched}
+use Rattle.gl_store.proofs.Lists.{take-push, take-all}
+use Rattle.gl_service.specs.Nodes.{node_rows, is_trusted, trusted_in, same_lists, changed_set, configuration}
+use Rattle.gl_service.proofs.Lists.{take-past}
+use Rattle.gl_service.specs.Solo.{IsAlone}
+
+same_itself : (xs : List (List ℕ)) → same_lists xs xs ≡ true
+same_itself [] = refl
+same_itself (x ∷ xs) = ap₂ (λ (a b : Bool). a && b) ((bytes_decides x x).1 refl) (same_itself xs)
+
+unchanged : (before now : List (List ℕ)) → now ≡ before → changed_set before now ≡ None
+unchanged before now is = ap (changed_set before) is ∙ ap (λ (b : Bool). if b then None else Some before) (same_itself before)
+
+-- no configuration begins with an entry that writes outside of governance
+pub configuration-push : (ledger : List Entry) (e : Entry) → AllByRecursion IsOutside e.writes → configuration (ledger ++ e ∷ []) ≡ None
+unfolding configuration
+configuration-push ledger e out = unchanged (trusted_in (node_rows (take (length (ledger ++ e ∷ []) - 1) (ledger ++ e ∷ [])))) (trusted_in (node_rows (ledger ++ e ∷ [])))
+    (ap trusted_in (ap (λ (t : Tables). t nodes_map) (tables_behind-push no_tables ledger e) ∙ untouched (tables_of ledger) e.writes nodes_map out refl)
+    ∙ ap (λ (l : List Entry). trusted_in (node_rows l)) (sym before))
+  where
+    long : length (ledger ++ e ∷ []) - 1 ≡ length ledger
+    long = simp length-append (omega arith)
+
+    before : take (length (ledger ++ e ∷ []) - 1) (ledger ++ e ∷ []) ≡ ledger
+    before = ap (λ (n : ℕ). take n (ledger ++ e ∷ [])) long ∙ take-push ledger e (length ledger) (omega arith) ∙ take-all ledger
+
+-- a node that is alone stays so behind such an entry
+pub alone-push : (x : List ℕ) (ledger : List Entry) (e : Entry) → 1 ≤ length ledger → AllByRecursion IsOutside e.writes → IsAlone x ledger → IsAlone x (ledger ++ e ∷ [])
+alone-push x ledger e some out h = record {
+  first = ap configuration (take-push ledger e 1 some) ∙ h.first;
+  later = λ k. ⊎_elim
+      (λ (new : length ledger < suc (suc k)). ap configuration (take-past (ledger ++ e ∷ []) (suc (suc k)) (simp length-append (omega arith))) ∙ configuration-push ledger e out)
+      (λ (old : suc (suc k) ≤ length ledger). ap configuration (take-push ledger e (suc (suc k)) old) ∙ h.later k)
+      (cases_lt (length ledger) (suc (suc k)));
+}
+
+node_value : NewNode → List ℕ
+node_value n = u16_bytes 1 ++ (2 ∷ n.key) ++ with_u32_length n.endorsement ++ u64_bytes 0
+
+-- the node rows of a genesis with one member and one node
+genesis_node_rows : (g : request.Genesis) (m : NewMember) (n : NewNode) → g.members ≡ m ∷ [] → g.nodes ≡ n ∷ [] →
+    wrote_all no_tables (genesis_rows g) nodes_map ≡ rows.insert rows.empty (node_id n) (node_value n)
+unfolding node_value
+genesis_node_rows g m n one alone = rw (one, alone) refl
+
+abbrev no_rows : Rows
+no_rows = rows.empty
+
+entries-none : rows.entries no_rows ≡ []
+entries-none = none (rows.entries no_rows) (sym (rows.len-entries no_rows) ∙ rows.len-empty (slice_cmp nat_cmp) (List ℕ))
+  where
+    none : (es : List (List ℕ × List ℕ)) → length es ≡ 0 → es ≡ []
+    none [] h = refl
+    none (e ∷ es) h = absurd (omega arith)
+
+trusted_none : trusted_in no_rows ≡ []
+trusted_none = ap (λ (es : List (List ℕ × List ℕ)). map (λ (row : List ℕ × List ℕ). row.0) (filter is_trusted es)) entries-none
+
+trusted_one : (n : NewNode) → trusted_in (rows.insert no_rows (node_id n) (node_value n)) ≡ node_id n ∷ []
+unfolding node_value
+trusted_one n = ap (λ (es : List (List ℕ × List ℕ)). map (λ (row : List ℕ × List ℕ). row.0) (filter is_trusted es)) one
+  where
+    one : rows.entries (rows.insert no_rows (node_id n) (node_value n)) ≡ (node_id n, node_value n) ∷ []
+    one = rows.entries-insert nat_list_cmp_total no_rows (node_id n) (node_value n) ∙ ap (rows.put (slice_cmp nat_cmp) (node_id n) (node_value n)) entries-none
+
+trusted_founded : (g : request.Genesis) (m : NewMember) (n : NewNode) → g.members ≡ m ∷ [] → g.nodes ≡ n ∷ [] →
+    trusted_in (node_rows (genesis_entry g ∷ [])) ≡ node_id n ∷ []
+trusted_founded g m n one alone = ap trusted_in (genesis_node_rows g m n one alone) ∙ trusted_one n
+
+configuration_founded : (g : request.Genesis) (m : NewMember) (n : NewNode) → g.members ≡ m ∷ [] → g.nodes ≡ n ∷ [] →
+    configuration (genesis_entry g ∷ []) ≡ Some (node_id n ∷ [])
+unfolding configuration
+configuration_founded g m n one alone = ap₂ changed_set trusted_none (trusted_founded g m n one alone)
+
+-- the opening ledger has the configuration of its one node
+pub alone_at_start : (g : request.Genesis) (m : NewMember) (n : NewNode) (signer : List ℕ) → g.members ≡ m ∷ [] → g.nodes ≡ n ∷ [] →
+    IsAlone (node_id n) (opening_ledger g signer)
+alone_at_start g m n signer one alone = record { first = configuration_founded g m n one alone; later = later }
+  where
+    second : configuration (opening_ledger g signer) ≡ None
+    second = configuration-push (genesis_entry g ∷ []) (signature_entry signer (genesis_entry g ∷ []) 2 2) tt
+
+    later : (k : ℕ) → configuration (take (suc (suc k)) (opening_ledger g signer)) ≡ None
+    later k = ap configuration (take-past (opening_ledger g signer) (suc (suc k)) (omega arith)) ∙ second

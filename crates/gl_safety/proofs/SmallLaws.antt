@@ -155,21 +155,21 @@ witness log place e z a d =
 pub small_lawful : IsLawful small (EachFollows small)
 small_lawful = record {
   executed = λ log view q e a z v d.
-    let eq : e ≡ record { view = view; kind = Plain } = ok_first (record { view = view; kind = Plain }) e q a (Ok (record { view = view; kind = Plain }, q)) refl d in
-    subst (λ (f : Item). Makes small (EachFollows small) log view f × (signs f.kind ≡ false) × MarksNone small log f) (sym eq)
+      let eq : e ≡ record { view = view; kind = Plain } = ok_first (record { view = view; kind = Plain }) e q a (Ok (record { view = view; kind = Plain }, q)) refl d in
+      subst (λ (f : Item). Makes small (EachFollows small) log view f × (signs f.kind ≡ false) × MarksNone small log f) (sym eq)
       (makes log (record { view = view; kind = Plain }) z refl, refl, marks_none log (record { view = view; kind = Plain }) (λ y. refl));
   governed = λ log view g e a z v d.
-    let r = made_is (fits log (kind_of g)) (record { view = view; kind = kind_of g }, 0) (e, a) d in
-    let eq : e ≡ record { view = view; kind = kind_of g } = ap (λ (p : Item × ℕ). p.0) r.1 in
-    subst (λ (f : Item). Makes small (EachFollows small) log view f × (signs f.kind ≡ false)) (sym eq)
+      let r = made_is (fits log (kind_of g)) (record { view = view; kind = kind_of g }, 0) (e, a) d in
+      let eq : e ≡ record { view = view; kind = kind_of g } = ap (λ (p : Item × ℕ). p.0) r.1 in
+      subst (λ (f : Item). Makes small (EachFollows small) log view f × (signs f.kind ≡ false)) (sym eq)
       (makes log (record { view = view; kind = kind_of g }) z r.0, governs_sign g);
   signed = λ x leaf log view commit e z v c d.
-    let eq : e ≡ record { view = view; kind = Signature commit } = ok_is (record { view = view; kind = Signature commit }) e (Ok (record { view = view; kind = Signature commit })) refl d in
-    subst (λ (f : Item). Makes small (EachFollows small) log view f × (signs f.kind ≡ true) × (small.recorded_commit f ≡ commit)) (sym eq)
+      let eq : e ≡ record { view = view; kind = Signature commit } = ok_is (record { view = view; kind = Signature commit }) e (Ok (record { view = view; kind = Signature commit })) refl d in
+      subst (λ (f : Item). Makes small (EachFollows small) log view f × (signs f.kind ≡ true) × (small.recorded_commit f ≡ commit)) (sym eq)
       (makes log (record { view = view; kind = Signature commit }) z refl, refl, refl);
   evident = λ log view e z v d.
-    let r = made_is (fits log Evidence) (record { view = view; kind = Evidence }) e d in
-    subst (λ (f : Item). Makes small (EachFollows small) log view f × (signs f.kind ≡ false) × MarksNone small log f) (sym r.1)
+      let r = made_is (fits log Evidence) (record { view = view; kind = Evidence }) e d in
+      subst (λ (f : Item). Makes small (EachFollows small) log view f × (signs f.kind ≡ false) × MarksNone small log f) (sym r.1)
       (makes log (record { view = view; kind = Evidence }) z r.0, refl, marks_none log (record { view = view; kind = Evidence }) (λ y. refl));
   taken = λ log e z f. sound_push small log e z f;
   cut = λ log place z. sound_cut small log place z;
@@ -178,13 +178,13 @@ small_lawful = record {
   markings = places_of (EachFollows small) (λ y e. is_mark_of y e.kind);
   marked = λ log e y z a. mark_kind log e.kind y (first_end (λ f. is_mark_of y f.kind) log e a) (fits_last log e z);
   marks = λ log view g e a y place z v d c. ⊎_elim
-    (λ (q : mark_of log y ≡ Some place). inl q)
-    (λ (q : place ≡ length log + 1).
+      (λ (q : mark_of log y ≡ Some place). inl q)
+      (λ (q : place ≡ length log + 1).
       let r = made_is (fits log (kind_of g)) (record { view = view; kind = kind_of g }, 0) (e, a) d in
       let eq : e ≡ record { view = view; kind = kind_of g } = ap (λ (p : Item × ℕ). p.0) r.1 in
       let m : is_mark_of y e.kind ≡ true = first_end (λ f. is_mark_of y f.kind) log e (c ∙ ap Some q) in
       inr (governs_mark g y (ap (λ (f : Item). is_mark_of y f.kind) (sym eq) ∙ m)))
-    (first_comes (λ f. is_mark_of y f.kind) log e place c);
+      (first_comes (λ f. is_mark_of y f.kind) log e place c);
 }
 
 opening_cases : (i : ℕ) (e : Item) → slice_get opening i ≡ Some e → ((i ≡ 0) × (record { view = 2; kind = Change (one ∷ two ∷ three ∷ []) } ≡ e)) ⊎ ((i ≡ 1) × (record { view = 2; kind = Signature 2 } ≡ e))
@@ -203,9 +203,18 @@ small_opening = record {
   sound = by_case (λ i e. small.breaks (take i opening) e ≡ None) refl refl;
   views = by_case (λ i e. e.view ≡ 2) refl refl;
   follow = by_case (λ i e. small.breaks (take i opening) e ≡ None) refl refl;
-  before = 1; long = refl; signature = record { view = 2; kind = Signature 2 }; last = refl; signs = refl; records = refl;
+  before = 1;
+  long = refl;
+  signature = record { view = 2; kind = Signature 2 };
+  last = refl;
+  signs = refl;
+  records = refl;
   alone = by_case (λ i e. signs e.kind ≡ true → i ≡ 1) (λ a. absurd (cc)) (λ a. refl);
-  place = 1; counted = omega arith; within = omega arith; members = one ∷ two ∷ three ∷ []; configured = refl;
+  place = 1;
+  counted = omega arith;
+  within = omega arith;
+  members = one ∷ two ∷ three ∷ [];
+  configured = refl;
   first_starts = ap (λ m. m || member one (two ∷ three ∷ [])) (same_self one);
 }
 
@@ -220,12 +229,14 @@ none_of log y q (n ∷ ns) a d = go (same y n) refl (none_of log y q ns a)
         and_first : (s t : Bool) → (s && t) ≡ true → s ≡ true
         and_first true t e = refl
         and_first false t e = e
+
     rest : none_removed log ns ≡ true
     rest = and_second (is_none (removal_of log n)) (none_removed log ns) d
       where
         and_second : (s t : Bool) → (s && t) ≡ true → t ≡ true
         and_second true t e = e
         and_second false t e = absurd (cc)
+
     go : (m : Bool) → same y n ≡ m → (none_removed log ns ≡ true → member y ns ≡ false) → (m || member y ns) ≡ false
     go true e again = absurd (let r : removal_of log n ≡ Some q = ap (removal_of log) (sym (same_is y n e)) ∙ a in let w : is_none (removal_of log n) ≡ false = ap is_none r in cc)
     go false e again = again rest
@@ -235,13 +246,14 @@ not_in_set log (Change nodes) y ns a f r = ⊎_elim (λ (q : false ≡ true). ab
 not_in_set log (Removal node nodes) y ns a f r =
     let e : nodes ≡ ns = cc in
     ap (member y) (sym e) ∙ ⊎_elim
-      (λ (q : same y node ≡ true). ap (λ m. member m nodes) (same_is y node q) ∙ out (member node nodes) (none_removed log nodes) f)
-      (λ (q : (q : ℕ) × (removal_of log y ≡ Some q)). none_of log y q.0 nodes q.1 (and_second (not (member node nodes)) (none_removed log nodes) f))
-      r
+    (λ (q : same y node ≡ true). ap (λ m. member m nodes) (same_is y node q) ∙ out (member node nodes) (none_removed log nodes) f)
+    (λ (q : (q : ℕ) × (removal_of log y ≡ Some q)). none_of log y q.0 nodes q.1 (and_second (not (member node nodes)) (none_removed log nodes) f))
+    r
   where
     out : (s t : Bool) → (not s && t) ≡ true → s ≡ false
     out true t e = absurd (cc)
     out false t e = refl
+
     and_second : (s t : Bool) → (s && t) ≡ true → t ≡ true
     and_second true t e = e
     and_second false t e = absurd (cc)
@@ -262,12 +274,12 @@ module _ (log : List Item) (y : NodeId) (q : ℕ) (z : EachFollows small log) (a
       let at : slice_get (take (suc k) log) k ≡ Some e.0 = take_get (suc k) log k e.0 (omega arith) e.1 in
       let set : set_in e.0.kind ≡ Some ns = sym (ap set_at at) ∙ ap (λ m. set_at (entry_at (take (suc k) log) m)) (sym long) ∙ d in
       not_in_set (take k log) e.0.kind y ns set (fit_from (take k log) e.0 (z k e.0 e.1)) (⊎_elim
-        (λ (r : q ≡ suc k).
-          let f = first_is (λ m. removes y m.kind) log q a in
-          let same_f : f.2 ≡ e.0 = let w : slice_get log k ≡ Some f.2 = ap (slice_get log) (let u : k ≡ f.0 = omega (arith, f.1) in u) ∙ f.3 in let v = sym w ∙ e.1 in cc in
-          inl (ap (λ (m : Item). removes y m.kind) (sym same_f) ∙ f.4))
-        (λ (r : q ≢ suc k). inr (q, place_cut small removal_of places log y q k z (omega arith) a))
-        (cases_eq q (suc k)))
+      (λ (r : q ≡ suc k).
+      let f = first_is (λ m. removes y m.kind) log q a in
+      let same_f : f.2 ≡ e.0 = let w : slice_get log k ≡ Some f.2 = ap (slice_get log) (let u : k ≡ f.0 = omega (arith, f.1) in u) ∙ f.3 in let v = sym w ∙ e.1 in cc in
+      inl (ap (λ (m : Item). removes y m.kind) (sym same_f) ∙ f.4))
+      (λ (r : q ≢ suc k). inr (q, place_cut small removal_of places log y q k z (omega arith) a))
+      (cases_eq q (suc k)))
 
   at_removal : (ns : List NodeId) → set_at (entry_at (take q log) (length (take q log))) ≡ None → ⊥
   at_removal ns d =
@@ -324,5 +336,5 @@ module _ (log : List Item) (y : NodeId) (q : ℕ) (z : EachFollows small log) (a
 pub small_retiring : IsRetiring small (EachFollows small)
 small_retiring = record {
   removed = λ log y q c z a h i.
-    in_sets log y q z a (option_to_list (configuration_at small log c)) (configurations_above small log c (length log)) (newest_without log y q z a c h i) (above_without log y q z a c (length log) h (omega arith));
+      in_sets log y q z a (option_to_list (configuration_at small log c)) (configurations_above small log c (length log)) (newest_without log y q z a c h i) (above_without log y q z a c (length log) h (omega arith));
 }

@@ -32,3 +32,4 @@ pub mod Retiring
 pub mod SmallBook
 pub mod SmallLaws
 pub mod Shown
+pub mod WorkedRuns

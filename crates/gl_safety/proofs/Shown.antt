@@ -1,18 +1,11 @@
 -- A run of the small book, computed: a change of configuration, two leaders one after the other, a snapshot, and the one
 -- refusal of entries that the laws leave: at a node whose commit is its base.
 use Rattle.std.proofs.Common.{◌≡◌, ℕ, List, [], ◌∷◌, ◌++◌, refl}
-use Rattle.gl_rules.specs.Identity.{same}
-use Rattle.gl_rules.specs.Node.{Node, Leader}
+use Rattle.gl_rules.specs.Node.{Leader}
 use Rattle.gl_rules.specs.Outcome.{Refused, BelowCommit}
-use Rattle.gl_rules.specs.Log.{last_signature, greatest_recorded}
-use Rattle.gl_rules.specs.Configuration.{configuration_at, configurations_above}
-use Rattle.gl_rules.specs.Steps.{rise, win}
-use Rattle.gl_rules.specs.Elections.{timeout, on_request_vote, on_vote_reply}
-use Rattle.gl_rules.specs.Replication.{fitting, replicate, held_of, applied, last_at_most, on_append, on_append_reply, greatest_to_commit, advance, greatest_evidence, install}
-use Rattle.gl_rules.specs.Requests.{submit, govern, reserve, sign, evidence}
-use Rattle.gl_rules.specs.World.{Event, Timeout, Deliver, Submit, Govern, Reserve, Sign, Evidence, Replicate, Advance, Install, on_message, happens, run, after}
+use Rattle.gl_rules.specs.World.{Event, Timeout, Deliver, Submit, Govern, Reserve, Sign, Evidence, Replicate, Advance, Install, happens, after}
 use Rattle.gl_rules.specs.Safety.{EachFollows, IsSafe, LeadsByVote, NeverConflicts, RetiresSafely}
-use Rattle.gl_safety.proofs.SmallBook.{Item, Order, SetNodes, small, start, one, two, three, four}
+use Rattle.gl_safety.proofs.SmallBook.{Order, SetNodes, small, start, rules_open, one, two, three, four}
 use Rattle.gl_safety.proofs.SmallLaws.{small_lawful, small_opening, small_retiring}
 use Rattle.gl_safety.proofs.Headline.{safe}
 use Rattle.gl_safety.proofs.Leaders.{leads_by_vote}
@@ -45,20 +38,20 @@ third =
     ∷ Advance one ∷ Install four one ∷ []
 
 added_commits : ((after small start added).nodes one).commit ≡ 4
-unfolding same timeout on_request_vote on_vote_reply rise win last_signature greatest_recorded configuration_at configurations_above fitting replicate held_of applied last_at_most on_append on_append_reply greatest_to_commit advance greatest_evidence install submit govern reserve sign evidence on_message happens run
+unfolding rules_open
 added_commits = refl
 
 second_leads : ((after small start (added ++ second)).nodes two).role ≡ Leader
-unfolding same timeout on_request_vote on_vote_reply rise win last_signature greatest_recorded configuration_at configurations_above fitting replicate held_of applied last_at_most on_append on_append_reply greatest_to_commit advance greatest_evidence install submit govern reserve sign evidence on_message happens run
+unfolding rules_open
 second_leads = refl
 
 third_commits : ((after small start (added ++ second ++ third)).nodes one).commit ≡ 8
-unfolding same timeout on_request_vote on_vote_reply rise win last_signature greatest_recorded configuration_at configurations_above fitting replicate held_of applied last_at_most on_append on_append_reply greatest_to_commit advance greatest_evidence install submit govern reserve sign evidence on_message happens run
+unfolding rules_open
 third_commits = refl
 
 -- node 2's old entry conflicts below the base of node 4
 below_base : (happens small (after small start (added ++ second ++ third)) (Deliver 10)).outcome ≡ Refused (BelowCommit 6 4)
-unfolding same timeout on_request_vote on_vote_reply rise win last_signature greatest_recorded configuration_at configurations_above fitting replicate held_of applied last_at_most on_append on_append_reply greatest_to_commit advance greatest_evidence install submit govern reserve sign evidence on_message happens run
+unfolding rules_open
 below_base = refl
 
 -- and the laws hold of every run of it

@@ -1,9 +1,15 @@
 -- A small book in memory: entries with a view and a kind. It shows that the laws can be met, and its runs compute.
-use Rattle.std.proofs.Common.{◌≡◌, ℕ, zero, suc, ◌+◌, List, [], ◌∷◌, ◌++◌, length, Bool, true, false, ◌&&◌, not, is_some, is_none, if◌then◌else◌, Option, Some, None, Result, Ok, Err}
-use Rattle.gl_rules.specs.Identity.{NodeId, same, member, added}
+use Rattle.std.proofs.Common.{ℕ, suc, List, [], ◌∷◌, ◌++◌, length, Bool, true, false, ◌&&◌, not, is_some, is_none, if◌then◌else◌, Option, Some, None, Result, Ok, Err}
+use Rattle.gl_rules.specs.Identity.{NodeId, same, member}
 use Rattle.gl_rules.specs.Book.{Book}
-use Rattle.gl_rules.specs.Log.{entry_at}
-use Rattle.gl_rules.specs.World.{Start}
+use Rattle.gl_rules.specs.Log.{entry_at, last_signature, greatest_recorded}
+use Rattle.gl_rules.specs.Configuration.{configuration_at, configurations_above}
+use Rattle.gl_rules.specs.Steps.{rise, win}
+use Rattle.gl_rules.specs.Elections.{timeout, on_request_vote, on_vote_reply}
+use Rattle.gl_rules.specs.Replication.{fitting, replicate, held_of, applied, last_at_most, on_append, on_append_reply, greatest_to_commit, advance, restart, greatest_evidence, install}
+use Rattle.gl_rules.specs.Requests.{submit, govern, reserve, sign, evidence}
+use Rattle.gl_rules.specs.Retirement.{stage}
+use Rattle.gl_rules.specs.World.{on_message, happens, run, Start}
 
 pub data Kind : Type 0 where
   Plain : Kind
@@ -183,3 +189,8 @@ opening = record { view = 2; kind = Change (one ∷ two ∷ three ∷ []) } ∷ 
 
 abbrev pub start : Start Item
 start = record { opening = opening; starting = one ∷ two ∷ three ∷ []; first = one }
+
+-- A proof that names this opens all rules, so that runs compute.
+unfoldable pub rules_open : ℕ
+unfolding same timeout on_request_vote on_vote_reply rise win last_signature greatest_recorded configuration_at configurations_above fitting replicate held_of applied last_at_most on_append on_append_reply greatest_to_commit advance restart greatest_evidence install submit govern reserve sign evidence on_message happens run stage
+rules_open = 0

@@ -1,17 +1,17 @@
 -- The small book has the laws.
-use Rattle.std.proofs.Common.{◌≡◌, ◌≢◌, ◌⊎◌, inl, inr, ⊎_elim, ℕ, zero, suc, ◌+◌, ◌-◌, ◌≤◌, ◌<◌, List, [], ◌∷◌, ◌++◌, length, take, Bool, true, false, ◌&&◌, ◌||◌, not, nat_lt, is_some, is_none, if◌then◌else◌, Option, Some, None, Result, Ok, Err, slice_get, refl, sym, ap, ◌∙◌, subst, true≢false, length-take, arith}
+use Rattle.std.proofs.Common.{◌≡◌, ◌≢◌, ◌⊎◌, inl, inr, ⊎_elim, ℕ, zero, suc, ◌+◌, ◌≤◌, ◌<◌, List, [], ◌∷◌, ◌++◌, length, take, Bool, true, false, ◌&&◌, ◌||◌, not, nat_lt, is_some, is_none, if◌then◌else◌, Option, Some, None, Result, Ok, slice_get, refl, sym, ap, ◌∙◌, subst, true≢false, length-take, arith}
 use Rattle.std.specs.Option.{option_to_list}
-use Rattle.std.proofs.lemmas.Bool.{cases_eq, cases_lt}
+use Rattle.std.proofs.lemmas.Bool.{cases_eq}
 use Rattle.std.proofs.lemmas.Bool.Decides.{nat_tests}
 use Rattle.gl_rules.specs.Identity.{NodeId, same, member}
 use Rattle.gl_rules.specs.Log.{entry_at}
-use Rattle.gl_rules.specs.Configuration.{or_else, in_some, configuration_at, configurations_above, active}
+use Rattle.gl_rules.specs.Configuration.{or_else, in_some, configuration_at, configurations_above}
 use Rattle.gl_rules.specs.Safety.{IsLawful, IsOpening, IsRetiring, EachFollows, KeepsPlaces, Makes, MarksNone}
-use Rattle.gl_safety.proofs.Ids.{same_is, same_self, id_tests}
-use Rattle.gl_safety.proofs.Lists.{there, within, take_get, push_get, take_whole, take_one_more, take_past}
+use Rattle.gl_safety.proofs.Ids.{same_is, same_self}
+use Rattle.gl_safety.proofs.Lists.{there, within, take_get, push_get}
 use Rattle.gl_safety.proofs.Soundness.{sound_cut, sound_push}
 use Rattle.gl_safety.proofs.Places.{place_cut, place_within}
-use Rattle.gl_safety.proofs.SmallBook.{Kind, Plain, Change, Removal, Mark, Signature, Evidence, Item, Order, SetNodes, RemoveNode, MarkNode, Fault, Unfit, signs, is_snapshot, set_in, removes, is_mark_of, one_later, first_place, removal_of, mark_of, none_removed, signs_at, set_at, fits, fault_of, kind_of, marked_by, made_if, small, opening, start, one, two, three}
+use Rattle.gl_safety.proofs.SmallBook.{Kind, Plain, Change, Removal, Mark, Signature, Evidence, Item, Order, SetNodes, RemoveNode, MarkNode, Fault, signs, is_snapshot, set_in, removes, is_mark_of, one_later, first_place, removal_of, mark_of, none_removed, signs_at, set_at, fits, fault_of, kind_of, marked_by, made_if, small, opening, start, one, two, three}
 
 -- where the first entry that passes a test stands
 module _ (test : Item → Bool) where

@@ -19,7 +19,7 @@ abbrev pub is_at_least : Last → Last → Bool
 is_at_least a b = nat_lt b.view a.view || (b.view == a.view && nat_le b.place a.place)
 
 module _ {E Q G R A F : Type 0} (book : Book E Q G R A F) where
-  abbrev view_of_entry : Option E → ℕ
+  abbrev pub view_of_entry : Option E → ℕ
   view_of_entry None = 0
   view_of_entry (Some e) = book.view_of e
 

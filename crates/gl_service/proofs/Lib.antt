@@ -7,3 +7,4 @@ pub mod Starting
 pub mod Worlds
 pub mod Reports
 pub mod Single
+pub mod Shown

@@ -1,5 +1,5 @@
 -- What holds of the one node of a service at every moment, and that each of its events keeps it.
-use Rattle.std.proofs.Common.{◌≡◌, ℕ, zero, suc, ◌+◌, ◌<◌, ◌≤◌, List, [], ◌∷◌, ◌++◌, length, take, Option, Some, None, Result, Ok, Err, Bool, true, false, ◌&&◌, ◌==◌, nat_lt, nat_le, if◌then◌else◌, refl, sym, ◌∙◌, ap, subst, arith, length-append, append-nil, ⊎_elim}
+use Rattle.std.proofs.Common.{◌≡◌, ℕ, zero, suc, ◌+◌, ◌<◌, ◌≤◌, List, [], ◌∷◌, ◌++◌, length, Option, Some, None, Result, Ok, Err, Bool, true, false, ◌&&◌, ◌==◌, nat_lt, nat_le, if◌then◌else◌, refl, sym, ◌∙◌, ap, subst, arith, length-append, append-nil, ⊎_elim}
 use Rattle.std.specs.List.{slice_get, AllByRecursion}
 use Rattle.std.proofs.lemmas.Bool.{cases_lt}
 use Rattle.std.proofs.lemmas.Bool.Decides.{nat_tests}
@@ -26,7 +26,7 @@ use Rattle.gl_service.specs.declared.settings.Settings.{Settings}
 use Rattle.gl_service.specs.Founding.{id_of}
 use Rattle.gl_service.specs.Keys.{leaf_count}
 use Rattle.gl_service.specs.Service.{service_book, replied, Given, Unmade}
-use Rattle.gl_service.specs.Solo.{IsAlone, IsSoloLedger, IsSolo}
+use Rattle.gl_service.specs.Solo.{IsSoloLedger, IsSolo}
 use Rattle.gl_service.proofs.Lists.{take-past}
 use Rattle.gl_service.proofs.Advance.{advance_alone, above, last_signature-le}
 use Rattle.gl_service.proofs.Sets.{alone-push}

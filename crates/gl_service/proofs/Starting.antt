@@ -1,17 +1,20 @@
 -- The start of a service of one node: its genesis is acceptable, and its leader is alone.
-use Rattle.std.proofs.Common.{◌≡◌, ℕ, zero, suc, List, [], ◌∷◌, take, map, Some, true, refl, sym, ◌∙◌, ap, ap₂, subst, arith}
+use Rattle.std.proofs.Common.{◌≡◌, ◌<◌, ◌^◌, length, ℕ, zero, suc, List, [], ◌∷◌, take, map, Some, true, refl, sym, ◌∙◌, ap, ap₂, subst, arith}
 use Rattle.std.specs.List.{slice_get}
 use Rattle.sha2.specs.Sha256.{sha256}
 use Rattle.gl_rules.specs.World.{leader_at_start}
 use Rattle.gl_store.specs.Serial.{IsSound, StandsAs}
 use Rattle.gl_store.specs.Genesis.{is_acceptable, node_id}
 use Rattle.gl_store.specs.Ledger.{genesis_entry, signature_entry, opening_ledger}
+use Rattle.gl_store.specs.Kept.{IsSole}
+use Rattle.gl_store.specs.Effect.{service_state}
+use Rattle.gl_store.specs.Tables.{tables_of}
 use Rattle.gl_store.specs.declared.entry.Entry.{Entry}
 use Rattle.gl_store.specs.declared.genesis.NewMember.{NewMember}
 use Rattle.gl_store.specs.declared.genesis.NewNode.{NewNode}
 use Rattle.gl_store.specs.declared.genesis.Genesis as request
 use Rattle.gl_store.specs.declared.genesis.GovernanceRequest.TheVariants as requests
-use Rattle.gl_store.proofs.Openings.{opening_sound}
+use Rattle.gl_store.proofs.Openings.{opening_sound, kept_opening}
 use Rattle.gl_service.specs.declared.settings.Settings.{Settings}
 use Rattle.gl_service.specs.Keys.{hss_key, service_seed, recovery_secret}
 use Rattle.gl_service.specs.Founding.{numbers_from, node_of, id_of, member_of, share_of, genesis_of}
@@ -112,3 +115,19 @@ solo_at_start s h = record {
   opened = omega arith;
   within = omega arith;
 }
+
+-- a store may open with it, signed by its one node
+pub sole_genesis : (s : Settings) → IsSingle s → IsSole (genesis_of s) (id_of s 1)
+sole_genesis s h = record {
+  member = member_of s 1;
+  one_member = one_member s h;
+  node = node_of s 1;
+  one_node = one_node s h;
+  signs = refl;
+  endorsement = omega arith;
+  shares = subst (λ (n : ℕ). n < 2 ^ 8) (sym (ap (λ (n : ℕ). length (map (share_of s) (numbers_from 1 n))) h.members)) (omega arith);
+}
+
+-- the opening ledger tells the state that the settings give
+pub state_at_start : (s : Settings) → IsSingle s → service_state (tables_of (opening_ledger (genesis_of s) (id_of s 1))) ≡ s.state
+state_at_start s h = sym (kept_opening (genesis_of s) (id_of s 1) (sole_genesis s h) (genesis_acceptable s h)).state_is

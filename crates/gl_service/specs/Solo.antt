@@ -1,5 +1,5 @@
 -- What holds of the node of a service of one node, at every moment.
-use Rattle.std.specs.Prelude.{◌≡◌, ℕ, suc, ◌≤◌, List, [], ◌∷◌, Option, None, Some, length, take, slice_get}
+use Rattle.std.specs.Prelude.{◌≡◌, ℕ, suc, ◌≤◌, List, [], ◌∷◌, None, Some, length, take, slice_get}
 use Rattle.gl_rules.specs.Identity.{NodeId}
 use Rattle.gl_rules.specs.Node.{Node, Leader}
 use Rattle.gl_store.specs.Serial.{IsSound}
@@ -30,4 +30,3 @@ pub record IsSolo (s : Settings) (n : Node Entry) : Type 0 where
   pub ledger : IsSoloLedger (id_of s 1) n.log
   pub opened : 2 ≤ n.commit
   pub within : n.commit ≤ length n.log
-

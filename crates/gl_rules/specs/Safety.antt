@@ -13,7 +13,7 @@ use Rattle.gl_rules.specs.Message.{Message}
 use Rattle.gl_rules.specs.Outcome.{Outcome, Refused, ByLedger, BelowCommit}
 use Rattle.gl_rules.specs.Log.{entry_at, last_signature, greatest_recorded}
 use Rattle.gl_rules.specs.Configuration.{active, in_some}
-use Rattle.gl_rules.specs.World.{Event, Deliver, Start, after, happens, first_view}
+use Rattle.gl_rules.specs.World.{Event, Deliver, World, Start, after, happens, first_view}
 
 abbrev pub IsPrefixOf : {A : Type 0} → List A → List A → Type 0
 IsPrefixOf {A} xs ys = (rest : List A) × (xs ++ rest ≡ ys)
@@ -21,6 +21,11 @@ IsPrefixOf {A} xs ys = (rest : List A) × (xs ++ rest ≡ ys)
 -- A node's committed ledger, whole from place 1.
 abbrev pub committed : {E : Type 0} → Node E → List E
 committed n = take n.commit n.log
+
+-- What an event that is refused leaves: each node as it was, and no message.
+pub record LeavesAll {E : Type 0} (w v : World E) : Type 0 where
+  pub nodes : (y : NodeId) → v.nodes y ≡ w.nodes y
+  pub sent : v.sent ≡ w.sent
 
 module _ {E Q G R A F : Type 0} (book : Book E Q G R A F) where
   -- An entry that a ledger takes in a view: it may follow, and the ledger with it is sound again.

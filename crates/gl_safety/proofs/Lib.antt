@@ -33,3 +33,4 @@ pub mod SmallBook
 pub mod SmallLaws
 pub mod Shown
 pub mod WorkedRuns
+pub mod Unchanged

@@ -3,6 +3,7 @@ use Rattle.gl_safety.proofs.Headline.{safe}
 use Rattle.gl_safety.proofs.Leaders.{leads_by_vote}
 use Rattle.gl_safety.proofs.Refusals.{never_conflicts}
 use Rattle.gl_safety.proofs.Retiring.{retires_safely}
+use Rattle.gl_safety.proofs.Unchanged.{leaves_all}
 use Rattle.gl_safety.proofs.is_safe.Goals as goal
 
 pub returns : goal.returns
@@ -11,4 +12,5 @@ returns g c = record {
   elections = λ book s la o events. leads_by_vote o la events;
   no_conflict = λ book s la o events. never_conflicts o la events;
   retirement = λ book s la re o events. retires_safely o la re events;
+  refused = λ book w event why e. leaves_all book w event why e;
 }

@@ -114,6 +114,11 @@ module _ {E Q G R A F : Type 0} (book : Book E Q G R A F) where
     pub configured : book.configuration (take place s.opening) ≡ Some members
     pub first_starts : member s.first s.starting ≡ true
 
+  -- A service that the rules run: a book with its laws, and an opening.
+  pub record IsService (s : Start E) : Type 0 where
+    pub lawful : IsLawful EachFollows
+    pub opening : IsOpening EachFollows s
+
   -- The view of an entry, if there is one.
   abbrev pub view_of : Option E → Option ℕ
   view_of None = None

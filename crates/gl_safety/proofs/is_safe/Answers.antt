@@ -8,9 +8,9 @@ use Rattle.gl_safety.proofs.is_safe.Goals as goal
 
 pub returns : goal.returns
 returns g c = record {
-  safe = λ book s la o events. safe o la events;
-  elections = λ book s la o events. leads_by_vote o la events;
-  no_conflict = λ book s la o events. never_conflicts o la events;
-  retirement = λ book s la re o events. retires_safely o la re events;
+  safe = λ book s k events. safe k.opening k.lawful events;
+  elections = λ book s k events. leads_by_vote k.opening k.lawful events;
+  no_conflict = λ book s k events. never_conflicts k.opening k.lawful events;
+  retirement = λ book s k re events. retires_safely k.opening k.lawful re events;
   refused = λ book w event why e. leaves_all book w event why e;
 }

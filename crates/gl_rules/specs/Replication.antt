@@ -164,7 +164,7 @@ module _ {E Q G R A F : Type 0} (book : Book E Q G R A F) where
 
   -- Advance
 
-  abbrev signed_in : ℕ → Option E → Bool
+  abbrev pub signed_in : ℕ → Option E → Bool
   signed_in view None = false
   signed_in view (Some e) = book.is_signature e && (book.view_of e == view)
 
@@ -206,7 +206,7 @@ module _ {E Q G R A F : Type 0} (book : Book E Q G R A F) where
 
   -- Install
 
-  abbrev is_evidence_at : Option E → Bool
+  abbrev pub is_evidence_at : Option E → Bool
   is_evidence_at None = false
   is_evidence_at (Some e) = book.is_evidence e
 

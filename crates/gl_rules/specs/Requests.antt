@@ -43,11 +43,11 @@ module _ {E Q G R A F : Type 0} (book : Book E Q G R A F) where
   unfoldable pub finish : ℕ → ℕ → R → Q → Node E → Step E A F
   finish len cuts reads q n = if_leader n (finishes len cuts reads q n)
 
-  abbrev removed_late : Option ℕ → Node E → Step E A F → Step E A F
+  abbrev pub removed_late : Option ℕ → Node E → Step E A F → Step E A F
   removed_late None n step = step
   removed_late (Some place) n step = if nat_lt n.commit place then refuse n (RemovalNotCommitted place n.commit) else step
 
-  abbrev marked : Option F → NodeId → Node E → Step E A F → Step E A F
+  abbrev pub marked : Option F → NodeId → Node E → Step E A F → Step E A F
   marked (Some why) y n step = refuse n (ByLedger why)
   marked None y n step = removed_late (book.removal n.log y) n step
 

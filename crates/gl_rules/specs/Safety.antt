@@ -1,16 +1,19 @@
 -- What is promised of every run: of any two committed ledgers, at any nodes and moments, one is a prefix of the other;
 -- what is reported Committed is never reported Invalid; and each committed ledger is one that the service's layer of the
 -- ledger stands for. A moment is a prefix of the list of events.
-use Rattle.std.specs.Prelude.{◌≡◌, ℕ, suc, ◌≤◌, ◌<◌, List, [], ◌∷◌, ◌++◌, true, false, Option, None, Some, Result, Ok, length, take, slice_get, ◌⊎◌}
+use Rattle.std.specs.Prelude.{◌≡◌, ℕ, suc, ◌+◌, ◌≤◌, ◌<◌, List, [], ◌∷◌, ◌++◌, true, false, Option, None, Some, Ok, length, take, slice_get, ◌⊎◌}
 use Rattle.gl_base.specs.declared.tx_id.TxId.{TxId}
 use Rattle.gl_base.specs.declared.status_kind.Status.{Status}
 use Rattle.gl_base.specs.declared.status_kind.Status.TheVariants.{Committed, Invalid}
 use Rattle.gl_base.specs.Status.{status_of}
 use Rattle.gl_rules.specs.Identity.{NodeId, member}
 use Rattle.gl_rules.specs.Book.{Book}
-use Rattle.gl_rules.specs.Node.{Node}
-use Rattle.gl_rules.specs.Log.{entry_at}
-use Rattle.gl_rules.specs.World.{Event, Start, after, first_view}
+use Rattle.gl_rules.specs.Node.{Node, Leader}
+use Rattle.gl_rules.specs.Message.{Message}
+use Rattle.gl_rules.specs.Outcome.{Outcome, Refused, ByLedger, BelowCommit}
+use Rattle.gl_rules.specs.Log.{entry_at, last_signature, greatest_recorded}
+use Rattle.gl_rules.specs.Configuration.{active, in_some}
+use Rattle.gl_rules.specs.World.{Event, Deliver, World, Start, after, happens, first_view}
 
 abbrev pub IsPrefixOf : {A : Type 0} → List A → List A → Type 0
 IsPrefixOf {A} xs ys = (rest : List A) × (xs ++ rest ≡ ys)
@@ -19,6 +22,11 @@ IsPrefixOf {A} xs ys = (rest : List A) × (xs ++ rest ≡ ys)
 abbrev pub committed : {E : Type 0} → Node E → List E
 committed n = take n.commit n.log
 
+-- What an event that is refused leaves: each node as it was, and no message.
+pub record LeavesAll {E : Type 0} (w v : World E) : Type 0 where
+  pub nodes : (y : NodeId) → v.nodes y ≡ w.nodes y
+  pub sent : v.sent ≡ w.sent
+
 module _ {E Q G R A F : Type 0} (book : Book E Q G R A F) where
   -- An entry that a ledger takes in a view: it may follow, and the ledger with it is sound again.
   pub record Makes (Sound : List E → Type 0) (log : List E) (view : ℕ) (e : E) : Type 0 where
@@ -26,24 +34,65 @@ module _ {E Q G R A F : Type 0} (book : Book E Q G R A F) where
     pub follows : book.breaks log e ≡ None
     pub sound : Sound (log ++ e ∷ [])
 
+  -- A ledger whose every entry may follow those before it.
+  abbrev pub EachFollows : List E → Type 0
+  EachFollows log = (i : ℕ) (e : E) → slice_get log i ≡ Some e → book.breaks (take i log) e ≡ None
+
   -- Each view of the ledger is at most this one.
   abbrev pub ViewsUpTo : ℕ → List E → Type 0
   ViewsUpTo view log = (i : ℕ) (e : E) → slice_get log i ≡ Some e → book.view_of e ≤ view
+
+  -- An entry that marks no node.
+  abbrev pub MarksNone : List E → E → Type 0
+  MarksNone log e = (y : NodeId) (place : ℕ) → book.mark (log ++ e ∷ []) y ≡ Some place → book.mark log y ≡ Some place
+
+  -- Where something stands in ledgers: at the place of the entry that brought it, and there it stays.
+  pub record KeepsPlaces (Sound : List E → Type 0) (place_of : List E → NodeId → Option ℕ) : Type 0 where
+    pub none : (y : NodeId) → place_of [] y ≡ None
+    pub stays : (log : List E) (e : E) (y : NodeId) (place : ℕ) → Sound (log ++ e ∷ []) → place_of log y ≡ Some place → place_of (log ++ e ∷ []) y ≡ Some place
+    pub comes : (log : List E) (e : E) (y : NodeId) (place : ℕ) → Sound (log ++ e ∷ []) → place_of (log ++ e ∷ []) y ≡ Some place →
+        (place_of log y ≡ Some place) ⊎ (place ≡ length log + 1)
+
+  -- A commit that a signature may record: the place of a signature, not below what an earlier signature records, and not
+  -- below the removal of a node that was marked since.
+  pub record MayRecord (log : List E) (commit : ℕ) : Type 0 where
+    pub signature : E
+    pub at : entry_at log commit ≡ Some signature
+    pub signs : book.is_signature signature ≡ true
+    pub least : greatest_recorded book log ≤ commit
+    pub removals : (y : NodeId) (mark removal : ℕ) → book.mark log y ≡ Some mark → last_signature book log < mark → book.removal log y ≡ Some removal → removal ≤ commit
 
   -- What the rules ask of the layer of the ledger. Sound is what that layer says of a ledger.
   pub record IsLawful (Sound : List E → Type 0) : Type 0 where
     -- what is made
     pub executed : (log : List E) (view : ℕ) (q : Q) (e : E) (a : A) → Sound log → ViewsUpTo view log →
-        book.execute log view q ≡ Ok (e, a) → Makes Sound log view e × (book.is_signature e ≡ false)
+        book.execute log view q ≡ Ok (e, a) → Makes Sound log view e × (book.is_signature e ≡ false) × MarksNone log e
     pub governed : (log : List E) (view : ℕ) (g : G) (e : E) (a : A) → Sound log → ViewsUpTo view log →
         book.govern log view g ≡ Ok (e, a) → Makes Sound log view e × (book.is_signature e ≡ false)
-    pub signed : (x : NodeId) (leaf : ℕ) (log : List E) (view commit : ℕ) (e : E) → Sound log → ViewsUpTo view log → commit ≤ length log →
+    pub signed : (x : NodeId) (leaf : ℕ) (log : List E) (view commit : ℕ) (e : E) → Sound log → ViewsUpTo view log → MayRecord log commit →
         book.sign x leaf log view commit ≡ Ok e → Makes Sound log view e × (book.is_signature e ≡ true) × (book.recorded_commit e ≡ commit)
     pub evident : (log : List E) (view : ℕ) (e : E) → Sound log → ViewsUpTo view log →
-        book.evidence log view ≡ Ok e → Makes Sound log view e × (book.is_signature e ≡ false)
+        book.evidence log view ≡ Ok e → Makes Sound log view e × (book.is_signature e ≡ false) × MarksNone log e
     -- what is taken
     pub taken : (log : List E) (e : E) → Sound log → book.breaks log e ≡ None → Sound (log ++ e ∷ [])
     pub cut : (log : List E) (place : ℕ) → Sound log → Sound (take place log)
+    -- an evidence entry stands right behind a signature
+    pub witnessed : (log : List E) (place : ℕ) (e : E) → Sound log → entry_at log (suc place) ≡ Some e → book.is_evidence e ≡ true →
+        (f : E) × (entry_at log place ≡ Some f) × (book.is_signature f ≡ true)
+    -- removals and marks
+    pub removals : KeepsPlaces Sound book.removal
+    pub markings : KeepsPlaces Sound book.mark
+    -- a mark is no signature, and stands behind the removal of its node
+    pub marked : (log : List E) (e : E) (y : NodeId) → Sound (log ++ e ∷ []) → book.mark (log ++ e ∷ []) y ≡ Some (length log + 1) →
+        (book.is_signature e ≡ false) × ((removal : ℕ) × (book.removal log y ≡ Some removal))
+    -- a governance request marks no node but the one that it is a mark of
+    pub marks : (log : List E) (view : ℕ) (g : G) (e : E) (a : A) (y : NodeId) (place : ℕ) → Sound log → ViewsUpTo view log →
+        book.govern log view g ≡ Ok (e, a) → book.mark (log ++ e ∷ []) y ≡ Some place → (book.mark log y ≡ Some place) ⊎ (book.marks g ≡ Some y)
+
+  -- What retirement asks beside: from its removal on, a node is in no active configuration.
+  pub record IsRetiring (Sound : List E → Type 0) : Type 0 where
+    pub removed : (log : List E) (y : NodeId) (removal commit : ℕ) → Sound log → book.removal log y ≡ Some removal → removal ≤ commit → commit ≤ length log →
+        in_some y (active book log commit) ≡ false
 
   -- What the rules ask of the opening ledger: its entries are of the first view, a configuration stands in it, and its
   -- last entry is its only signature and records its own place. The node that signed it is among those that start.
@@ -59,10 +108,16 @@ module _ {E Q G R A F : Type 0} (book : Book E Q G R A F) where
     pub records : book.recorded_commit signature ≡ suc before
     pub alone : (i : ℕ) (e : E) → slice_get s.opening i ≡ Some e → book.is_signature e ≡ true → i ≡ before
     pub place : ℕ
+    pub counted : 0 < place
     pub within : place ≤ before
     pub members : List NodeId
     pub configured : book.configuration (take place s.opening) ≡ Some members
     pub first_starts : member s.first s.starting ≡ true
+
+  -- A service that the rules run: a book with its laws, and an opening.
+  pub record IsService (s : Start E) : Type 0 where
+    pub lawful : IsLawful EachFollows
+    pub opening : IsOpening EachFollows s
 
   -- The view of an entry, if there is one.
   abbrev pub view_of : Option E → Option ℕ
@@ -94,3 +149,49 @@ module _ {E Q G R A F : Type 0} (book : Book E Q G R A F) where
     pub status : (i j : ℕ) (x y : NodeId) (id : TxId) →
         reported (node_after s (take i events) x) id ≡ Committed → reported (node_after s (take j events) y) id ≡ Invalid → ⊥
     pub ledger : (i : ℕ) (x : NodeId) → Sound (committed (node_after s (take i events) x))
+
+  -- Views, votes and leaders, at all pairs of moments and nodes.
+  pub record LeadsByVote (s : Start E) (events : List (Event Q G R)) : Type 0 where
+    -- a node's view never falls
+    pub views : (i j : ℕ) (x : NodeId) → i ≤ j → (node_after s (take i events) x).view ≤ (node_after s (take j events) x).view
+    -- a node votes for one candidate in a view
+    pub one_vote : (i j : ℕ) (x c d : NodeId) → (node_after s (take i events) x).view ≡ (node_after s (take j events) x).view →
+        (node_after s (take i events) x).vote ≡ Some c → (node_after s (take j events) x).vote ≡ Some d → c ≡ d
+    -- a view has one leader
+    pub one_leader : (i j : ℕ) (x y : NodeId) → (node_after s (take i events) x).view ≡ (node_after s (take j events) y).view →
+        (node_after s (take i events) x).role ≡ Leader → (node_after s (take j events) y).role ≡ Leader → x ≡ y
+    -- while it leads, its log only grows
+    pub leader_grows : (i j : ℕ) (x : NodeId) → i ≤ j → (node_after s (take i events) x).view ≡ (node_after s (take j events) x).view →
+        (node_after s (take i events) x).role ≡ Leader → (node_after s (take j events) x).role ≡ Leader →
+        IsPrefixOf (node_after s (take i events) x).log (node_after s (take j events) x).log
+    -- a leader holds whatever a leader of an earlier view ever commits
+    pub leader_keeps : (i j : ℕ) (x y : NodeId) → (node_after s (take i events) x).view < (node_after s (take j events) y).view →
+        (node_after s (take i events) x).role ≡ Leader → (node_after s (take j events) y).role ≡ Leader →
+        IsPrefixOf (committed (node_after s (take i events) x)) (node_after s (take j events) y).log
+
+  -- What a refusal of a message says of its receiver: never that an entry may not follow, and that entries below commit
+  -- would be cut only of a node whose commit is its base, above 0.
+  abbrev pub RefusedOnlyAtBase : Node E → Outcome A F → Type 0
+  RefusedOnlyAtBase n (Refused (ByLedger why)) = ⊥
+  RefusedOnlyAtBase n (Refused (BelowCommit commit cut)) = (n.commit ≡ n.base) × (0 < n.base)
+  RefusedOnlyAtBase n _ = Unit {0}
+
+  -- No message is refused for an entry that may not follow.
+  pub record NeverConflicts (s : Start E) (events : List (Event Q G R)) : Type 0 where
+    pub messages : (i which : ℕ) (m : Message E) → slice_get (after book s (take i events)).sent which ≡ Some m →
+        RefusedOnlyAtBase (node_after s (take i events) m.receiver) (happens book (after book s (take i events)) (Deliver which)).outcome
+
+  -- A mark of a node that is committed: then that node may be switched off.
+  abbrev pub MarkCommitted : Node E → NodeId → Type 0
+  MarkCommitted n y = (place : ℕ) × (book.mark n.log y ≡ Some place) × (place ≤ n.commit)
+
+  abbrev pub IsActive : Node E → NodeId → Type 0
+  IsActive n y = in_some y (active book n.log n.commit) ≡ true
+
+  -- A node with a committed mark is in no active configuration.
+  pub record RetiresSafely (s : Start E) (events : List (Event Q G R)) : Type 0 where
+    -- of a node that knows of it
+    pub here : (i : ℕ) (x y : NodeId) → MarkCommitted (node_after s (take i events) x) y → IsActive (node_after s (take i events) x) y → ⊥
+    -- of a leader whose view is later than that of the leader that committed it
+    pub later : (i j : ℕ) (x z y : NodeId) → (node_after s (take i events) x).role ≡ Leader → (node_after s (take j events) z).role ≡ Leader →
+        (node_after s (take i events) x).view < (node_after s (take j events) z).view → MarkCommitted (node_after s (take i events) x) y → IsActive (node_after s (take j events) z) y → ⊥

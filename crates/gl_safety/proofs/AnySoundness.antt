@@ -1,0 +1,89 @@
+-- The headline for whatever the layer of the ledger says of a ledger, where it is kept by an entry that may follow.
+use Rattle.std.proofs.Common.{◌≡◌, ⊎_elim, ℕ, zero, suc, ◌≤◌, ◌<◌, List, [], ◌∷◌, ◌++◌, length, take, Option, None, refl, ap, subst, arith}
+use Rattle.std.proofs.lemmas.Bool.{cases_lt}
+use Rattle.gl_rules.specs.Book.{Book}
+use Rattle.gl_rules.specs.World.{Start, Event}
+use Rattle.gl_rules.specs.Safety.{IsLawful, IsOpening, IsSafe, EachFollows, Makes, KeepsPlaces}
+use Rattle.gl_rules.specs.Identity.{NodeId}
+use Rattle.gl_safety.proofs.Lists.{there, take_whole, take_one_more}
+use Rattle.gl_safety.proofs.Soundness.{sound_cut, sound_push}
+use Rattle.gl_safety.proofs.Headline.{safe}
+
+-- what holds of the empty ledger, and is kept by an entry that may follow
+module _ {E Q G R A F : Type 0} (b : Book E Q G R A F) (Sound : List E → Type 0) (none : Sound [])
+    (taken : (log : List E) (e : E) → EachFollows b log → Sound log → b.breaks log e ≡ None → Sound (log ++ e ∷ [])) where
+  upto : (l : List E) → EachFollows b l → (k : ℕ) → Sound (take k l)
+  upto l z zero = none
+  upto l z (suc k) = ⊎_elim
+      (λ (h : k < length l). let e = there l k h in subst Sound (take_one_more l k e.0 e.1) (taken (take k l) e.0 (sound_cut b l k z) (upto l z k) (z k e.0 e.1)))
+      (λ (h : length l ≤ k). subst Sound (same_all l k h) (upto l z k))
+      (cases_lt k (length l))
+    where
+      same_all : (l : List E) (i : ℕ) → length l ≤ i → take i l ≡ take (suc i) l
+      same_all [] zero d = refl
+      same_all [] (suc i) d = refl
+      same_all (x ∷ l) zero d = absurd (omega arith)
+      same_all (x ∷ l) (suc i) d = ap (λ r. x ∷ r) (same_all l i (omega arith))
+
+  pub follows_sound : (l : List E) → EachFollows b l → Sound l
+  follows_sound l z = subst Sound (take_whole l) (upto l z (length l))
+
+  -- the headline, with what a layer says of a ledger
+  pub safe_for : {s : Start E} → IsOpening b (EachFollows b) s → IsLawful b (EachFollows b) → (es : List (Event Q G R)) → IsSafe b Sound s es
+  safe_for o la es = let r = safe o la es in record { prefix = r.prefix; status = r.status; ledger = λ i x. follows_sound _ (r.ledger i x) }
+
+-- where the layer states its laws for such ledgers
+module _ {E Q G R A F : Type 0} {b : Book E Q G R A F} {Sound : List E → Type 0} {s : Start E} (o : IsOpening b Sound s) (la : IsLawful b Sound) where
+  none_sound : Sound []
+  none_sound = la.cut s.opening 0 o.sound
+
+  each_sound : (l : List E) → EachFollows b l → Sound l
+  each_sound l z = follows_sound b Sound none_sound (λ log e f a d. la.taken log e a d) l z
+
+  made : (log : List E) (view : ℕ) (e : E) → EachFollows b log → Makes b Sound log view e → Makes b (EachFollows b) log view e
+  made log view e z m = record { view_is = m.view_is; follows = m.follows; sound = sound_push b log e z m.follows }
+
+  places : (place_of : List E → NodeId → Option ℕ) → KeepsPlaces b Sound place_of → KeepsPlaces b (EachFollows b) place_of
+  places place_of k = record {
+    none = k.none;
+    stays = λ log e y p z a. k.stays log e y p (each_sound (log ++ e ∷ []) z) a;
+    comes = λ log e y p z a. k.comes log e y p (each_sound (log ++ e ∷ []) z) a;
+  }
+
+  lawful : IsLawful b (EachFollows b)
+  lawful = record {
+    executed = λ log view q e a z v d. let r = la.executed log view q e a (each_sound log z) v d in (made log view e z r.0, r.1, r.2);
+    governed = λ log view q e a z v d. let r = la.governed log view q e a (each_sound log z) v d in (made log view e z r.0, r.1);
+    signed = λ x leaf log view commit e z v c h. let r = la.signed x leaf log view commit e (each_sound log z) v c h in (made log view e z r.0, r.1, r.2);
+    evident = λ log view e z v d. let r = la.evident log view e (each_sound log z) v d in (made log view e z r.0, r.1, r.2);
+    taken = λ log e z f. sound_push b log e z f;
+    cut = λ log place z. sound_cut b log place z;
+    witnessed = λ log place e z a d. la.witnessed log place e (each_sound log z) a d;
+    removals = places b.removal la.removals;
+    markings = places b.mark la.markings;
+    marked = λ log e y z a. la.marked log e y (each_sound (log ++ e ∷ []) z) a;
+    marks = λ log view g e a y place z v d c. la.marks log view g e a y place (each_sound log z) v d c;
+  }
+
+  opening : IsOpening b (EachFollows b) s
+  opening = record {
+    sound = o.follow;
+    views = o.views;
+    follow = o.follow;
+    before = o.before;
+    long = o.long;
+    signature = o.signature;
+    last = o.last;
+    signs = o.signs;
+    records = o.records;
+    alone = o.alone;
+    place = o.place;
+    counted = o.counted;
+    within = o.within;
+    members = o.members;
+    configured = o.configured;
+    first_starts = o.first_starts;
+  }
+
+  pub safe_sound : (es : List (Event Q G R)) → IsSafe b Sound s es
+  safe_sound es = safe_for b Sound none_sound (λ log e f a d. la.taken log e a d) opening lawful es

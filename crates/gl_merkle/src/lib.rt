@@ -6,8 +6,10 @@
 //! node is the SHA-256 of its left and then its right child, 64 bytes.
 #![tactic(auto)]
 
+pub use laws::{law_of_climb, law_of_collision, law_of_split};
 pub use tree::{Step, climb, path, root};
 
+mod laws;
 mod tree;
 
 /// A SHA-256 digest: a leaf, an inner node or the root.

@@ -1,3 +1,5 @@
 pub mod Tree
 pub mod Path
 pub mod Collision
+pub mod Peaks
+pub mod Levels

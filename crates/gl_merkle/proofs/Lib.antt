@@ -1,3 +1,4 @@
 pub mod TreeLemmas
 pub mod PathLemmas
 pub mod PairLemmas
+pub mod PeakLemmas

@@ -2,3 +2,4 @@ pub mod TreeLemmas
 pub mod PathLemmas
 pub mod PairLemmas
 pub mod PeakLemmas
+pub mod LevelLemmas

@@ -1,5 +1,5 @@
 -- The levels of a frontier: what a node more, a cut and a base leave, and what is read from them.
-use Rattle.std.proofs.Common.{◌≡◌, ℕ, zero, suc, ◌+◌, ◌*◌, ◌-◌, ◌/◌, ◌%◌, ◌^◌, ◌<◌, ◌≤◌, Bool, true, false, cond, eqb, ltb, List, [], ◌∷◌, ◌++◌, Option, Some, None, option_to_list, length, take, drop, get_or, map, refl, sym, ap, ap₂, ◌∙◌, arith, length-drop, length-append, append_assoc, append-nil, inl, inr, is_some}
+use Rattle.std.proofs.Common.{◌≡◌, ℕ, zero, suc, ◌+◌, ◌*◌, ◌-◌, ◌/◌, ◌%◌, ◌^◌, ◌<◌, ◌≤◌, Bool, true, false, cond, eqb, ltb, List, [], ◌∷◌, ◌++◌, Option, Some, None, option_to_list, length, take, drop, get_or, map, refl, sym, ap, ap₂, ◌∙◌, arith, length-drop, length-append, append_assoc, append-nil, inl, inr, is_some, ◌⊎◌}
 use Rattle.std.proofs.Math.Nat.{pow-suc}
 use Rattle.std.proofs.lemmas.Nat.{pow_pos}
 use Rattle.std.proofs.lemmas.Bool.{cases_lt, cases_eq, cond-true, cond-false, eq-eqb, ne_eqb, lt-ltb, le-ltb}
@@ -175,3 +175,92 @@ tail_of-root (r ∷ rs) b n t ls h low high small some fits =
     let size = ap length level in
     tail_of-root rs (b / 2) (n / 2) (next_tail r b n t) (pairs_of ls) h.1 (omega arith) (omega arith) (omega arith) (omega arith) (omega arith)
     ∙ ap Some (ap (root_within (length rs)) (sym level) ∙ sym (root_within-pairs (length rs) (take n ls ++ option_to_list t) fits))
+
+length-tail : (ls : List (List ℕ)) (n : ℕ) (t : Option (List ℕ)) → n ≤ length ls → (n ≤ length (take n ls ++ option_to_list t)) × (length (take n ls ++ option_to_list t) ≤ n + 1)
+length-tail ls n None le =
+    let size = length-take-le n ls le in
+    let whole = length-append (take n ls) [] in
+    (omega arith, omega arith)
+length-tail ls n (Some x) le =
+    let size = length-take-le n ls le in
+    let whole = length-append (take n ls) (x ∷ []) in
+    (omega arith, omega arith)
+
+get_or-tail : (ls : List (List ℕ)) (n k : ℕ) (t : Option (List ℕ)) → n ≤ length ls → k < n → get_or (take n ls ++ option_to_list t) k [] ≡ get_or ls k []
+get_or-tail ls n k t le lt =
+    let size = length-take-le n ls le in
+    get_or_append_left (take n ls) (option_to_list t) [] k (omega arith) ∙ get_or-take n ls k [] lt
+
+past_tail-last : (ls : List (List ℕ)) (n p : ℕ) (t : Option (List ℕ)) → n ≤ length ls → p % 2 ≡ 0 → p + 1 ≡ n → past_tail t ≡ step_in (take n ls ++ option_to_list t) p
+past_tail-last ls n p None le even e =
+    let size = length-take-le n ls le in
+    let whole = length-append (take n ls) [] in
+    rw (ne_eqb (p % 2) 1 (λ q. omega arith), le-ltb (p + 1) (length (take n ls ++ [])) (omega arith))
+past_tail-last ls n p (Some x) le even e =
+    let size = length-take-le n ls le in
+    let whole = length-append (take n ls) (x ∷ []) in
+    let at = get_or_at (take n ls) x [] [] (p + 1) (omega arith) in
+    rw (ne_eqb (p % 2) 1 (λ q. omega arith), lt-ltb (p + 1) (length (take n ls ++ x ∷ [])) (omega arith), at)
+
+step_at-level : (r ls : List (List ℕ)) (b n p : ℕ) (t : Option (List ℕ)) → r ≡ drop (b / 2 * 2) ls → b ≤ n → n ≤ length ls → b ≤ p → p < length (take n ls ++ option_to_list t) → step_at r b n p t ≡ step_in (take n ls ++ option_to_list t) p
+step_at-level r ls b n p t e low high above within =
+    let bounds = length-tail ls n t high in
+    elim (cases_lt 0 (p % 2)) [
+      inl odd ↦ (
+        let test = eq-eqb (p % 2) 1 (omega arith) in
+        rw (test, at_level r ls b (p - 1) e (omega arith), get_or-tail ls n (p - 1) t high (omega arith)))
+      | inr even ↦ (
+        let test = ne_eqb (p % 2) 1 (λ q. omega arith) in
+        elim (cases_lt (p + 1) n) [
+          inl more ↦ rw (test, lt-ltb (p + 1) n more, lt-ltb (p + 1) (length (take n ls ++ option_to_list t)) (omega arith), at_level r ls b (p + 1) e (omega arith), get_or-tail ls n (p + 1) t high more)
+          | inr end ↦ elim (cases_eq (p + 1) n) [
+            inl last ↦ rw (test, le-ltb (p + 1) n end, eq-eqb (p + 1) n last) (past_tail-last ls n p t high (omega arith) last ∙ rw test)
+            | inr past ↦ rw (test, le-ltb (p + 1) n end, ne_eqb (p + 1) n past, le-ltb (p + 1) (length (take n ls ++ option_to_list t)) (omega arith))
+          ]
+        ])
+    ]
+
+path_at_end : (ls : List (List ℕ)) (i : ℕ) → [] ≡ path_within 0 ls i
+unfolding path_within
+path_at_end ls i = refl
+
+pub steps_of-path : (rs : List (List (List ℕ))) (b n p : ℕ) (t : Option (List ℕ)) (ls : List (List ℕ)) → Cover b rs ls → b ≤ n → n ≤ length ls → b ≤ p → p < length (take n ls ++ option_to_list t) → length (take n ls ++ option_to_list t) ≤ 2 ^ length rs → steps_of rs b n p t ≡ path_within (length rs) (take n ls ++ option_to_list t) (p + 1)
+steps_of-path [] b n p t ls h low high above within fits = path_at_end (take n ls ++ option_to_list t) (p + 1)
+steps_of-path (r ∷ rs) b n p t ls h low high above within fits =
+    let two = pow-suc 2 (length rs) in
+    let up = length-pairs ls in
+    let over = length-pair_all (take n ls ++ option_to_list t) in
+    let level = pair_all-level r ls b n t h.0 low high in
+    let size = ap length level in
+    let here = step_at-level r ls b n p t h.0 low high above within in
+    let rest = steps_of-path rs (b / 2) (n / 2) (p / 2) (next_tail r b n t) (pairs_of ls) h.1 (omega arith) (omega arith) (omega arith) (omega arith) (omega arith) in
+    ap₂ (λ s u. option_to_list s ++ u) here (rest ∙ ap (λ a. path_within (length rs) a (p / 2 + 1)) (sym level))
+    ∙ sym (path_within-pairs (length rs) (take n ls ++ option_to_list t) p within fits)
+
+peaks_at_end : (ls : List (List ℕ)) → [] ≡ peaks_within 0 ls
+unfolding peaks_within
+peaks_at_end ls = refl
+
+pub level_peaks-peaks : (rs : List (List (List ℕ))) (b n : ℕ) (ls : List (List ℕ)) → Cover b rs ls → b ≤ n → n ≤ length ls → n < 2 ^ length rs → level_peaks rs b n ≡ peaks_within (length rs) (take n ls)
+level_peaks-peaks [] b n ls h low high small = peaks_at_end (take n ls)
+level_peaks-peaks (r ∷ rs) b n ls h low high small =
+    let two = pow-suc 2 (length rs) in
+    let up = length-pairs ls in
+    let size = length-take-le n ls high in
+    let rest = level_peaks-peaks rs (b / 2) (n / 2) (pairs_of ls) h.1 (omega arith) (omega arith) (omega arith) in
+    let all = peaks_within-pairs (length rs) (take n ls) (omega arith) in
+    let above = ap (peaks_within (length rs)) (pairs_of-take n ls) in
+    elim (cases_eq (n % 2) 0) [
+      inl even ↦ rw (eq-eqb _ _ even, all, unpaired-even (take n ls) (omega arith), above, rest)
+      | inr odd ↦ rw (ne_eqb _ _ odd, all, unpaired-odd (take n ls) (omega arith), above, rest, last-at_level r ls b n h.0 low high (omega arith))
+    ]
+
+-- some tail comes of one leaf or more, whatever the levels hold
+pub tail_of-some : (rs : List (List (List ℕ))) (b n : ℕ) (t : Option (List ℕ)) → n < 2 ^ length rs → (0 < n) ⊎ (is_some t ≡ true) → is_some (tail_of rs b n t) ≡ true
+tail_of-some [] b n t small some = elim some [ inl more ↦ absurd (omega arith) | inr there ↦ there ]
+tail_of-some (r ∷ rs) b n t small some =
+    let two = pow-suc 2 (length rs) in
+    elim (cases_eq (n % 2) 0) [
+      inl even ↦ rw (eq-eqb _ _ even) (tail_of-some rs (b / 2) (n / 2) t (omega arith) (elim some [ inl more ↦ inl (omega arith) | inr there ↦ inr there ]))
+      | inr odd ↦ rw (ne_eqb _ _ odd) (tail_of-some rs (b / 2) (n / 2) (Some (over_tail (last_node r b n) t)) (omega arith) (inr refl))
+    ]

@@ -3,3 +3,4 @@ pub mod PathLemmas
 pub mod PairLemmas
 pub mod PeakLemmas
 pub mod LevelLemmas
+pub mod WriteLemmas

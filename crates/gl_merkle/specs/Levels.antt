@@ -36,6 +36,11 @@ abbrev pub AreRoomy : ℕ → ℕ → List ℕ → Type 0
 AreRoomy b n [] = Unit {0}
 AreRoomy b n (c ∷ cs) = (n ≤ c + b / 2 * 2) × AreRoomy (b / 2) (n / 2) cs
 
+-- over a base of b nodes, each level holds those of the first n nodes
+abbrev pub HoldFirst : ℕ → ℕ → List (List (List ℕ)) → Type 0
+HoldFirst b n [] = Unit {0}
+HoldFirst b n (r ∷ rs) = (n ≤ length r + b / 2 * 2) × HoldFirst (b / 2) (n / 2) rs
+
 -- over a base of b nodes, the levels hold the tree over these nodes
 abbrev pub Cover : ℕ → List (List (List ℕ)) → List (List ℕ) → Type 0
 Cover b [] nodes = Unit {0}

@@ -3,3 +3,4 @@ pub mod Path
 pub mod Collision
 pub mod Peaks
 pub mod Levels
+pub mod Frontier

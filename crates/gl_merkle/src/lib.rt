@@ -10,6 +10,7 @@ pub use laws::{law_of_climb, law_of_collision, law_of_split};
 pub use tree::{Step, climb, path, root};
 
 mod laws;
+mod levels;
 mod tree;
 
 /// A SHA-256 digest: a leaf, an inner node or the root.

@@ -107,6 +107,14 @@ AreSized-base_levels (suc k) b ps =
       | inr odd ↦ rw (ne_eqb _ _ odd) (omega arith, AreSized-base_levels k (b / 2) (take (length ps - 1) ps))
     ]
 
+pub base_levels-even : (k b : ℕ) (ps : List (List ℕ)) → b % 2 ≡ 0 → base_levels (suc k) b ps ≡ [] ∷ base_levels k (b / 2) ps
+unfolding base_levels
+base_levels-even k b ps even = rw (eq-eqb _ _ even)
+
+pub base_levels-odd : (k b : ℕ) (ps : List (List ℕ)) → b % 2 ≡ 1 → base_levels (suc k) b ps ≡ (get_or ps (length ps - 1) [] ∷ []) ∷ base_levels k (b / 2) (take (length ps - 1) ps)
+unfolding base_levels
+base_levels-odd k b ps odd = rw (ne_eqb (b % 2) 0 (λ q. omega arith))
+
 -- ---- what is read
 
 -- the incomplete node behind these, with the one behind the nodes of this level

@@ -5,7 +5,8 @@ use Rattle.std.specs.Prelude.{vec_capacity, vec_len, slice_set}
 use Rattle.std.proofs.lemmas.List.{take_more_set, drop-set-lt, drop_more, take-append-drop, map-append, map_push, map-set, set-get_or, get_or-map, get_or_append_left, get_or_default}
 use Rattle.std.proofs.lemmas.Bool.{cases_eq, eq-eqb, ne_eqb}
 use Rattle.gl_merkle.specs.Tree.{inner_of}
-use Rattle.gl_merkle.specs.Levels.{Level, nodes_of, rooms_of, AreRoomy, HasRoom, with_node, cut_to}
+use Rattle.gl_merkle.specs.Levels.{Level, nodes_of, rooms_of, AreRoomy, HasRoom, with_node, cut_to, base_levels}
+use Rattle.gl_merkle.proofs.LevelLemmas.{base_levels-even, base_levels-odd}
 
 -- what stays of each level stays at a write that keeps it
 pub map-set_same : {B : Type 0} (f : Level → B) (vs : List Level) (k : ℕ) (d w : Level) → k < length vs → f w ≡ f (get_or vs k d) → map f (slice_set vs k w) ≡ map f vs
@@ -67,3 +68,24 @@ with_node-step v node next s e odd is rs =
 
 pub read_before : (xs : List (List ℕ)) (x y : List ℕ) (k : ℕ) → x ≡ get_or (xs ++ y ∷ []) k x → k < length xs → x ≡ get_or xs k []
 read_before xs x y k e lt = e ∙ get_or_append_left xs (y ∷ []) x k lt ∙ get_or_default xs k x [] lt
+
+-- ---- room
+
+pub AreRoomy-step : (b n k : ℕ) (vs : List Level) (w : Level) (P : List ℕ → Type 0) (rest : List ℕ) → k < length vs → n ≤ vec_capacity w + b / 2 * 2 → ((cs : List ℕ) → AreRoomy b n cs → P (rooms_of (take k vs) ++ cs)) → AreRoomy (b / 2) (n / 2) rest → P (rooms_of (take (k + 1) (slice_set vs k w)) ++ rest)
+AreRoomy-step b n k vs w P rest lt enough before h =
+    rw (take_more_set vs k w lt, map-append (λ (u : Level). vec_capacity u) (take k vs) (w ∷ []), append_assoc) (before (vec_capacity w ∷ rest) (enough, h))
+
+-- ---- the levels of a base
+
+pub make_level-even : (all : List (List (List ℕ))) (vs ws : List Level) (v : Level) (k n b : ℕ) (ps qs : List (List ℕ)) → ws ≡ vs ++ v ∷ [] → v.items ≡ [] → qs ≡ ps → n ≡ suc k → b % 2 ≡ 0 → all ≡ nodes_of vs ++ base_levels n b ps → all ≡ nodes_of ws ++ base_levels k (b / 2) qs
+make_level-even all vs ws v k n b ps qs grown empty rest more even before =
+    before ∙ rw (more, base_levels-even k b ps even, grown, map-append (λ (u : Level). u.items) vs (v ∷ []), empty, rest, append_assoc)
+
+pub make_level-odd : (all : List (List (List ℕ))) (vs ws : List Level) (v : Level) (k n b : ℕ) (ps qs : List (List ℕ)) → ws ≡ vs ++ v ∷ [] → v.items ≡ get_or ps (length ps - 1) [] ∷ [] → qs ≡ take (length ps - 1) ps → n ≡ suc k → b % 2 ≡ 1 → all ≡ nodes_of vs ++ base_levels n b ps → all ≡ nodes_of ws ++ base_levels k (b / 2) qs
+make_level-odd all vs ws v k n b ps qs grown one rest more odd before =
+    before ∙ rw (more, base_levels-odd k b ps odd, grown, map-append (λ (u : Level). u.items) vs (v ∷ []), one, rest, append_assoc)
+
+pub make_level-none : (all : List (List (List ℕ))) (vs : List Level) (k b : ℕ) (ps : List (List ℕ)) → k ≡ 0 → all ≡ nodes_of vs ++ base_levels k b ps → nodes_of vs ≡ all
+unfolding base_levels
+make_level-none all vs zero b ps e before = sym (before ∙ append-nil (nodes_of vs))
+make_level-none all vs (suc k) b ps e before = absurd (omega arith)

@@ -129,3 +129,70 @@ pub(crate) fn root_of_levels(levels: &[Level], base: u64, size: u64) -> Option<D
     }
     tail
 }
+
+// The step from the node at this place, counted from 0; none from a last node without a neighbour.
+fn step_from(level: &Level, base: u64, size: u64, place: u64, tail: Option<Digest>) -> Option<Step>
+    requires from_base { base ≤ place }
+    requires inside { place ≤ size }
+    requires within { size ≤ vec_len level.now + base / 2 * 2 }
+    ensures { result ≡ step_at level.now.items base size place tail }
+{
+    let first = base / 2 * 2;
+    if place % 2 == 1 {
+        return Some(Step::Left(level[(place - 1 - first) as usize]));
+    }
+    if place + 1 < size {
+        return Some(Step::Right(level[(place + 1 - first) as usize]));
+    }
+    if place + 1 > size {
+        return None;
+    }
+    match tail {
+        None => None,
+        Some(tail) => Some(Step::Right(tail)),
+    }
+}
+
+// The steps from the leaf at this place, counted from 0, to the root of the first `size` leaves.
+pub(crate) fn steps_from(alloc: Global, levels: &[Level], base: u64, size: u64, place: u64) -> Result<Vec<Step>, AllocError>
+    requires from_base { base ≤ place }
+    requires inside { place ≤ size }
+    requires within { HoldFirst base size (nodes_of levels.now) }
+    ensures { IfOk result (λ steps. steps.items ≡ steps_of (nodes_of levels.now) base size place None) }
+{
+    let mut base = base;
+    let mut size = size;
+    let mut place = place;
+    let mut tail = None;
+    let mut steps = Vec::new(alloc);
+    for level in levels {
+        if let Some(step) = step_from(level, base, size, place, tail) {
+            steps.push(step)?;
+        }
+        tail = tail_over(level, base, size, tail);
+        base /= 2;
+        size /= 2;
+        place /= 2;
+    }
+    Ok(steps)
+}
+
+// The peaks of the first `size` leaves, greatest first.
+pub(crate) fn peaks_of_levels(alloc: Global, levels: &[Level], base: u64, size: u64) -> Result<Vec<Digest>, AllocError>
+    requires from_base { base ≤ size }
+    requires within { HoldFirst base size (nodes_of levels.now) }
+    ensures { IfOk result (λ peaks. peaks.items ≡ level_peaks (nodes_of levels.now) base size) }
+{
+    let mut base = base;
+    let mut size = size;
+    let mut peaks = Vec::new(alloc);
+    for level in levels {
+        if size % 2 == 1 {
+            peaks.push(level[(size - 1 - base / 2 * 2) as usize])?;
+        }
+        base /= 2;
+        size /= 2;
+    }
+    peaks.reverse();
+    Ok(peaks)
+}

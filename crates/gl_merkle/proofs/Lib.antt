@@ -4,3 +4,4 @@ pub mod PairLemmas
 pub mod PeakLemmas
 pub mod LevelLemmas
 pub mod WriteLemmas
+pub mod FrontierLemmas

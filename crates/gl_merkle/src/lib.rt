@@ -6,9 +6,11 @@
 //! node is the SHA-256 of its left and then its right child, 64 bytes.
 #![tactic(auto)]
 
+pub use frontier::Frontier;
 pub use laws::{law_of_climb, law_of_collision, law_of_split};
 pub use tree::{Step, climb, path, root};
 
+mod frontier;
 mod laws;
 mod levels;
 mod tree;

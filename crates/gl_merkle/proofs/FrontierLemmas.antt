@@ -55,7 +55,7 @@ above-base : (k b : ℕ) (ps : List (List ℕ)) → above b (base_levels (suc k)
 unfolding above
 above-base k b ps =
     elim (cases_eq (b % 2) 0) [
-      inl even ↦ rw (base_levels-even k b ps even, even)
+      | inl even ↦ rw (base_levels-even k b ps even, even)
       | inr odd ↦ (let one : b % 2 ≡ 1 = omega arith in rw (base_levels-odd k b ps one, one))
     ]
 
@@ -105,8 +105,8 @@ AreLevels-push b ps n m vs ws x h lt nodes rooms =
       sized = rw nodes (AreSized-with_node (nodes_of vs) b n x h.sized);
       roomy = rw rooms h.roomy;
       cover = λ below size peaks.
-        rw (leaves, nodes, ← append_assoc)
-          (Cover-with_node (nodes_of vs) b (below ++ leaves_above b vs) x (omega (arith, length-append below (leaves_above b vs), size)) (h.cover below size peaks))
+          rw (leaves, nodes, ← append_assoc)
+          (Cover-with_node (nodes_of vs) b (below ++ leaves_above b vs) x (omega (arith, length-append below (leaves_above b vs), size)) (h.cover below size peaks));
     }
 
 pub AreLevels-cut : (b : ℕ) (ps : List (List ℕ)) (n m k : ℕ) (vs ws : List Level) → AreLevels b ps n m vs → b ≤ k → k ≤ n → nodes_of ws ≡ cut_to b k (nodes_of vs) → rooms_of ws ≡ rooms_of vs → AreLevels b ps k m ws
@@ -119,7 +119,7 @@ AreLevels-cut b ps n m k vs ws h low high nodes rooms =
       sized = rw nodes (AreSized-cut_to (nodes_of vs) b n k low high h.sized);
       roomy = rw rooms h.roomy;
       cover = λ below size peaks.
-        rw (leaves, nodes, ← take_past below (leaves_above b vs) k b size low) (Cover-cut_to (nodes_of vs) b k (below ++ leaves_above b vs) low (h.cover below size peaks))
+          rw (leaves, nodes, ← take_past below (leaves_above b vs) k b size low) (Cover-cut_to (nodes_of vs) b k (below ++ leaves_above b vs) low (h.cover below size peaks));
     }
 
 pub AreLevels-room : (b : ℕ) (ps : List (List ℕ)) (n m k : ℕ) (vs ws : List Level) → AreLevels b ps n m vs → n ≤ k → length ws ≡ length vs → nodes_of ws ≡ nodes_of vs → AreRoomy b k (rooms_of ws) → AreLevels b ps n k ws
@@ -130,7 +130,7 @@ AreLevels-room b ps n m k vs ws h le size nodes room =
       within = le;
       sized = rw nodes h.sized;
       roomy = room;
-      cover = λ below count peaks. rw nodes (h.cover below count peaks)
+      cover = λ below count peaks. rw nodes (h.cover below count peaks);
     }
 
 pub AreLevels-copy : (b : ℕ) (ps qs : List (List ℕ)) (n m : ℕ) (vs ws : List Level) → AreLevels b ps n m vs → qs ≡ ps → nodes_of ws ≡ nodes_of vs → AreLevels b qs n n ws
@@ -143,7 +143,7 @@ unfolding base_levels
 length-base_levels zero b ps = refl
 length-base_levels (suc k) b ps =
     elim (cases_eq (b % 2) 0) [
-      inl even ↦ rw (eq-eqb _ _ even) (ap suc (length-base_levels k (b / 2) ps))
+      | inl even ↦ rw (eq-eqb _ _ even) (ap suc (length-base_levels k (b / 2) ps))
       | inr odd ↦ rw (ne_eqb _ _ odd) (ap suc (length-base_levels k (b / 2) (take (length ps - 1) ps)))
     ]
 
@@ -158,8 +158,8 @@ AreLevels-base b ps qs ws fits same nodes =
       sized = sized;
       roomy = AreRoomy-sized ws b b sized;
       cover = λ below size peaks.
-        rw (leaves, nodes, append-nil)
-          (Cover-base_levels 64 b ps below size fits (sym (peaks_of-within 64 below (omega (arith, size, fits))) ∙ peaks ∙ same))
+          rw (leaves, nodes, append-nil)
+          (Cover-base_levels 64 b ps below size fits (sym (peaks_of-within 64 below (omega (arith, size, fits))) ∙ peaks ∙ same));
     }
 
 -- ---- what the calls read
@@ -184,7 +184,7 @@ root-is b ps n m vs below h fits some size peaks =
     tail_of-root (nodes_of vs) b n None ls (h.cover below size peaks) h.from_base (omega arith) (rw height fits) (rw all (omega arith)) (rw (all, height) (omega arith))
     ∙ ap Some (rw (all, height) (sym (root_of-within 64 ls (omega arith))))
 
-pub path-is : (b : ℕ) (ps : List (List ℕ)) (n m i k : ℕ) (vs : List Level) (below : List (List ℕ)) → AreLevels b ps n m vs → n < 2 ^ 64 → b < i → i ≤ k → k ≤ n → length below ≡ b → peaks_of below ≡ ps → steps_of (nodes_of vs) b k (i - 1) None ≡ path_of (take k (below ++ leaves_above b vs)) i
+pub path-is : (b : ℕ) (ps : List (List ℕ)) (n m i k : ℕ) (vs : List Level) (below : List (List ℕ)) → AreLevels b ps n m vs → k < 2 ^ 64 → b < i → i ≤ k → k ≤ n → length below ≡ b → peaks_of below ≡ ps → steps_of (nodes_of vs) b k (i - 1) None ≡ path_of (take k (below ++ leaves_above b vs)) i
 path-is b ps n m i k vs below h fits low inside high size peaks =
     let ls = below ++ leaves_above b vs in
     let height = length-nodes_of vs ∙ h.height in
@@ -195,7 +195,7 @@ path-is b ps n m i k vs below h fits low inside high size peaks =
     steps_of-path (nodes_of vs) b k (i - 1) None ls (h.cover below size peaks) (omega arith) (omega arith) (omega arith) (rw all (omega arith)) (rw (all, height) (omega arith))
     ∙ rw (all, height, place) (sym (path_of-within 64 (take k ls) i (omega arith)))
 
-pub peaks-are : (b : ℕ) (ps : List (List ℕ)) (n m k : ℕ) (vs : List Level) (below : List (List ℕ)) → AreLevels b ps n m vs → n < 2 ^ 64 → b ≤ k → k ≤ n → length below ≡ b → peaks_of below ≡ ps → level_peaks (nodes_of vs) b k ≡ peaks_of (take k (below ++ leaves_above b vs))
+pub peaks-are : (b : ℕ) (ps : List (List ℕ)) (n m k : ℕ) (vs : List Level) (below : List (List ℕ)) → AreLevels b ps n m vs → k < 2 ^ 64 → b ≤ k → k ≤ n → length below ≡ b → peaks_of below ≡ ps → level_peaks (nodes_of vs) b k ≡ peaks_of (take k (below ++ leaves_above b vs))
 peaks-are b ps n m k vs below h fits low high size peaks =
     let ls = below ++ leaves_above b vs in
     let height = length-nodes_of vs ∙ h.height in
@@ -214,7 +214,7 @@ length-level_peaks (r ∷ rs) b n fits =
     let here = length-level_peaks rs (b / 2) (n / 2) (omega arith) in
     let step = ones_step n in
     elim (cases_eq (n % 2) 0) [
-      inl even ↦ rw (eq-eqb _ _ even, append-nil) (omega arith)
+      | inl even ↦ rw (eq-eqb _ _ even, append-nil) (omega arith)
       | inr odd ↦ rw (ne_eqb _ _ odd, length-append) (omega arith)
     ]
 

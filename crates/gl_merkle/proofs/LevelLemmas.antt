@@ -34,12 +34,12 @@ Cover-with_node (r ∷ rs) b ls x le h =
     let up = length-pairs ls in
     let here = ap (λ (s : List (List ℕ)). s ++ x ∷ []) h.0 ∙ sym (drop-append-le (b / 2 * 2) ls (x ∷ []) (omega arith)) in
     elim (cases_eq (length r % 2) 0) [
-      inl even ↦ (here, rw (eq-eqb _ _ even, pairs_of-push_even ls x (omega arith)) h.1)
+      | inl even ↦ (here, rw (eq-eqb _ _ even, pairs_of-push_even ls x (omega arith)) h.1)
       | inr odd ↦ (
-        let at : b / 2 * 2 + (length r - 1) ≡ length ls - 1 = omega arith in
-        let last : get_or r (length r - 1) [] ≡ get_or ls (length ls - 1) [] =
-            ap (λ (s : List (List ℕ)). get_or s (length r - 1) []) h.0 ∙ get_or-drop (b / 2 * 2) ls (length r - 1) [] ∙ ap (λ k. get_or ls k []) at in
-        (here, rw (ne_eqb _ _ odd, pairs_of-push_odd ls x (omega arith), last) (Cover-with_node rs (b / 2) (pairs_of ls) _ (omega arith) h.1)))
+          let at : b / 2 * 2 + (length r - 1) ≡ length ls - 1 = omega arith in
+          let last : get_or r (length r - 1) [] ≡ get_or ls (length ls - 1) [] =
+          ap (λ (s : List (List ℕ)). get_or s (length r - 1) []) h.0 ∙ get_or-drop (b / 2 * 2) ls (length r - 1) [] ∙ ap (λ k. get_or ls k []) at in
+          (here, rw (ne_eqb _ _ odd, pairs_of-push_odd ls x (omega arith), last) (Cover-with_node rs (b / 2) (pairs_of ls) _ (omega arith) h.1)))
     ]
 
 pub AreSized-with_node : (rs : List (List (List ℕ))) (b n : ℕ) (x : List ℕ) → AreSized b n rs → AreSized b (n + 1) (with_node rs x)
@@ -47,12 +47,12 @@ AreSized-with_node [] b n x h = tt
 AreSized-with_node (r ∷ rs) b n x h =
     let size = length-append r (x ∷ []) in
     elim (cases_eq (length r % 2) 0) [
-      inl even ↦ (
-        let same : (n + 1) / 2 ≡ n / 2 = omega arith in
-        (omega arith, rw (eq-eqb _ _ even, same) h.1))
+      | inl even ↦ (
+          let same : (n + 1) / 2 ≡ n / 2 = omega arith in
+          (omega arith, rw (eq-eqb _ _ even, same) h.1))
       | inr odd ↦ (
-        let next : (n + 1) / 2 ≡ n / 2 + 1 = omega arith in
-        (omega arith, rw (ne_eqb _ _ odd, next) (AreSized-with_node rs (b / 2) (n / 2) _ h.1)))
+          let next : (n + 1) / 2 ≡ n / 2 + 1 = omega arith in
+          (omega arith, rw (ne_eqb _ _ odd, next) (AreSized-with_node rs (b / 2) (n / 2) _ h.1)))
     ]
 
 -- ---- a cut
@@ -61,9 +61,10 @@ pub Cover-cut_to : (rs : List (List (List ℕ))) (b n : ℕ) (ls : List (List �
 Cover-cut_to [] b n ls le h = tt
 Cover-cut_to (r ∷ rs) b n ls le h =
     let whole : b / 2 * 2 + (n - b / 2 * 2) ≡ n = omega arith in
-    let cut = drop-take (b / 2 * 2) (n - b / 2 * 2) ls in
-    (ap (take (n - b / 2 * 2)) h.0 ∙ sym cut ∙ ap (λ k. drop (b / 2 * 2) (take k ls)) whole,
-     rw (pairs_of-take n ls) (Cover-cut_to rs (b / 2) (n / 2) (pairs_of ls) (omega arith) h.1))
+    let cut = drop-take (b / 2 * 2) (n - b / 2 * 2) ls in (
+      ap (take (n - b / 2 * 2)) h.0 ∙ sym cut ∙ ap (λ k. drop (b / 2 * 2) (take k ls)) whole,
+      rw (pairs_of-take n ls) (Cover-cut_to rs (b / 2) (n / 2) (pairs_of ls) (omega arith) h.1),
+    )
 
 pub AreSized-cut_to : (rs : List (List (List ℕ))) (b m n : ℕ) → b ≤ n → n ≤ m → AreSized b m rs → AreSized b n (cut_to b n rs)
 AreSized-cut_to [] b m n low high h = tt
@@ -75,9 +76,10 @@ AreSized-cut_to (r ∷ rs) b m n low high h =
 
 last_of-push : (ps qs : List (List ℕ)) (z : List ℕ) → ps ≡ qs ++ z ∷ [] → (get_or ps (length ps - 1) [] ≡ z) × (take (length ps - 1) ps ≡ qs)
 last_of-push ps qs z e =
-    let size : length qs ≡ length ps - 1 = omega (arith, ap length e, length-append qs (z ∷ [])) in
-    (ap (λ (r : List (List ℕ)). get_or r (length ps - 1) []) e ∙ get_or_at qs z [] [] (length ps - 1) size,
-     ap (take (length ps - 1)) e ∙ take_at qs (z ∷ []) (length ps - 1) size)
+    let size : length qs ≡ length ps - 1 = omega (arith, ap length e, length-append qs (z ∷ [])) in (
+      ap (λ (r : List (List ℕ)). get_or r (length ps - 1) []) e ∙ get_or_at qs z [] [] (length ps - 1) size,
+      ap (take (length ps - 1)) e ∙ take_at qs (z ∷ []) (length ps - 1) size,
+    )
 
 pub Cover-base_levels : (k b : ℕ) (ps ls : List (List ℕ)) → length ls ≡ b → b < 2 ^ k → peaks_within k ls ≡ ps → Cover b (base_levels k b ps) ls
 unfolding base_levels
@@ -88,14 +90,14 @@ Cover-base_levels (suc k) b ps ls size fits peaks =
     let split = sym peaks ∙ peaks_within-pairs k ls (omega arith) in
     let rest = ap (λ n. drop (n / 2 * 2) ls) (sym size) ∙ drop-unpaired ls in
     elim (cases_eq (b % 2) 0) [
-      inl even ↦ (
-        let alone = unpaired-even ls (omega arith) in
-        let same : peaks_within k (pairs_of ls) ≡ ps = sym (split ∙ rw alone (append-nil (peaks_within k (pairs_of ls)))) in
-        rw (eq-eqb _ _ even) (sym (rest ∙ alone), Cover-base_levels k (b / 2) ps (pairs_of ls) (omega arith) (omega arith) same))
+      | inl even ↦ (
+          let alone = unpaired-even ls (omega arith) in
+          let same : peaks_within k (pairs_of ls) ≡ ps = sym (split ∙ rw alone (append-nil (peaks_within k (pairs_of ls)))) in
+          rw (eq-eqb _ _ even) (sym (rest ∙ alone), Cover-base_levels k (b / 2) ps (pairs_of ls) (omega arith) (omega arith) same))
       | inr odd ↦ (
-        let last = unpaired-odd ls (omega arith) in
-        let ends = last_of-push ps (peaks_within k (pairs_of ls)) (get_or ls (length ls - 1) []) (split ∙ ap (λ (r : List (List ℕ)). peaks_within k (pairs_of ls) ++ r) last) in
-        rw (ne_eqb _ _ odd) (rw ends.0 (sym (rest ∙ last)), Cover-base_levels k (b / 2) (take (length ps - 1) ps) (pairs_of ls) (omega arith) (omega arith) (sym ends.1)))
+          let last = unpaired-odd ls (omega arith) in
+          let ends = last_of-push ps (peaks_within k (pairs_of ls)) (get_or ls (length ls - 1) []) (split ∙ ap (λ (r : List (List ℕ)). peaks_within k (pairs_of ls) ++ r) last) in
+          rw (ne_eqb _ _ odd) (rw ends.0 (sym (rest ∙ last)), Cover-base_levels k (b / 2) (take (length ps - 1) ps) (pairs_of ls) (omega arith) (omega arith) (sym ends.1)))
     ]
 
 pub AreSized-base_levels : (k b : ℕ) (ps : List (List ℕ)) → AreSized b b (base_levels k b ps)
@@ -103,7 +105,7 @@ unfolding base_levels
 AreSized-base_levels zero b ps = tt
 AreSized-base_levels (suc k) b ps =
     elim (cases_eq (b % 2) 0) [
-      inl even ↦ rw (eq-eqb _ _ even) (omega arith, AreSized-base_levels k (b / 2) ps)
+      | inl even ↦ rw (eq-eqb _ _ even) (omega arith, AreSized-base_levels k (b / 2) ps)
       | inr odd ↦ rw (ne_eqb _ _ odd) (omega arith, AreSized-base_levels k (b / 2) (take (length ps - 1) ps))
     ]
 
@@ -159,7 +161,7 @@ next_tail-carry : (r ls : List (List ℕ)) (b n : ℕ) (t : Option (List ℕ)) �
 next_tail-carry r ls b n t e low high =
     let size = length-take-le n ls high in
     elim (cases_eq (n % 2) 0) [
-      inl even ↦ rw (eq-eqb _ _ even) (sym (carry-even (take n ls) t (omega arith)))
+      | inl even ↦ rw (eq-eqb _ _ even) (sym (carry-even (take n ls) t (omega arith)))
       | inr odd ↦ rw (ne_eqb _ _ odd, last-at_level r ls b n e low high (omega arith)) (sym (carry-odd (take n ls) t (omega arith)))
     ]
 
@@ -214,18 +216,18 @@ step_at-level : (r ls : List (List ℕ)) (b n p : ℕ) (t : Option (List ℕ)) �
 step_at-level r ls b n p t e low high above within =
     let bounds = length-tail ls n t high in
     elim (cases_lt 0 (p % 2)) [
-      inl odd ↦ (
-        let test = eq-eqb (p % 2) 1 (omega arith) in
-        rw (test, at_level r ls b (p - 1) e (omega arith), get_or-tail ls n (p - 1) t high (omega arith)))
+      | inl odd ↦ (
+          let test = eq-eqb (p % 2) 1 (omega arith) in
+          rw (test, at_level r ls b (p - 1) e (omega arith), get_or-tail ls n (p - 1) t high (omega arith)))
       | inr even ↦ (
-        let test = ne_eqb (p % 2) 1 (λ q. omega arith) in
-        elim (cases_lt (p + 1) n) [
-          inl more ↦ rw (test, lt-ltb (p + 1) n more, lt-ltb (p + 1) (length (take n ls ++ option_to_list t)) (omega arith), at_level r ls b (p + 1) e (omega arith), get_or-tail ls n (p + 1) t high more)
-          | inr end ↦ elim (cases_eq (p + 1) n) [
-            inl last ↦ rw (test, le-ltb (p + 1) n end, eq-eqb (p + 1) n last) (past_tail-last ls n p t high (omega arith) last ∙ rw test)
-            | inr past ↦ rw (test, le-ltb (p + 1) n end, ne_eqb (p + 1) n past, le-ltb (p + 1) (length (take n ls ++ option_to_list t)) (omega arith))
-          ]
-        ])
+          let test = ne_eqb (p % 2) 1 (λ q. omega arith) in
+          elim (cases_lt (p + 1) n) [
+            | inl more ↦ rw (test, lt-ltb (p + 1) n more, lt-ltb (p + 1) (length (take n ls ++ option_to_list t)) (omega arith), at_level r ls b (p + 1) e (omega arith), get_or-tail ls n (p + 1) t high more)
+            | inr end ↦ elim (cases_eq (p + 1) n) [
+              | inl last ↦ rw (test, le-ltb (p + 1) n end, eq-eqb (p + 1) n last) (past_tail-last ls n p t high (omega arith) last ∙ rw test)
+              | inr past ↦ rw (test, le-ltb (p + 1) n end, ne_eqb (p + 1) n past, le-ltb (p + 1) (length (take n ls ++ option_to_list t)) (omega arith))
+            ]
+          ])
     ]
 
 path_at_end : (ls : List (List ℕ)) (i : ℕ) → [] ≡ path_within 0 ls i
@@ -259,7 +261,7 @@ level_peaks-peaks (r ∷ rs) b n ls h low high small =
     let all = peaks_within-pairs (length rs) (take n ls) (omega arith) in
     let above = ap (peaks_within (length rs)) (pairs_of-take n ls) in
     elim (cases_eq (n % 2) 0) [
-      inl even ↦ rw (eq-eqb _ _ even, all, unpaired-even (take n ls) (omega arith), above, rest)
+      | inl even ↦ rw (eq-eqb _ _ even, all, unpaired-even (take n ls) (omega arith), above, rest)
       | inr odd ↦ rw (ne_eqb _ _ odd, all, unpaired-odd (take n ls) (omega arith), above, rest, last-at_level r ls b n h.0 low high (omega arith))
     ]
 
@@ -269,6 +271,6 @@ tail_of-some [] b n t small some = elim some [ inl more ↦ absurd (omega arith)
 tail_of-some (r ∷ rs) b n t small some =
     let two = pow-suc 2 (length rs) in
     elim (cases_eq (n % 2) 0) [
-      inl even ↦ rw (eq-eqb _ _ even) (tail_of-some rs (b / 2) (n / 2) t (omega arith) (elim some [ inl more ↦ inl (omega arith) | inr there ↦ inr there ]))
+      | inl even ↦ rw (eq-eqb _ _ even) (tail_of-some rs (b / 2) (n / 2) t (omega arith) (elim some [ inl more ↦ inl (omega arith) | inr there ↦ inr there ]))
       | inr odd ↦ rw (ne_eqb _ _ odd) (tail_of-some rs (b / 2) (n / 2) (Some (over_tail (last_node r b n) t)) (omega arith) (inr refl))
     ]

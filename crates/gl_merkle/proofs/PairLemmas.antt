@@ -73,14 +73,14 @@ root_within-pairs (suc h) ls fits =
     let four = pow-suc 2 h in
     let up = length-pair_all ls in
     elim (cases_lt (2 ^ suc h) (length ls)) [
-      inr le ↦ root_within-low (suc h) ls le ∙ root_within-pairs h ls le ∙ sym (root_within-low h (pair_all ls) (omega arith))
+      | inr le ↦ root_within-low (suc h) ls le ∙ root_within-pairs h ls le ∙ sym (root_within-low h (pair_all ls) (omega arith))
       | inl lt ↦ (
-        let size = length-take-le (2 ^ suc h) ls (omega arith) in
-        let rest = length-drop (2 ^ suc h) ls in
-        root_within-split (suc h) ls lt
-        ∙ ap₂ inner_of (root_within-pairs h (take (2 ^ suc h) ls) (omega arith)) (root_within-pairs h (drop (2 ^ suc h) ls) (omega arith))
-        ∙ ap₂ (λ a b. inner_of (root_within h a) (root_within h b)) (pair_all-take (2 ^ h) (2 ^ suc h) ls four (omega arith)) (pair_all-drop (2 ^ h) (2 ^ suc h) ls four)
-        ∙ sym (root_within-split h (pair_all ls) (omega arith)))
+          let size = length-take-le (2 ^ suc h) ls (omega arith) in
+          let rest = length-drop (2 ^ suc h) ls in
+          root_within-split (suc h) ls lt
+          ∙ ap₂ inner_of (root_within-pairs h (take (2 ^ suc h) ls) (omega arith)) (root_within-pairs h (drop (2 ^ suc h) ls) (omega arith))
+          ∙ ap₂ (λ a b. inner_of (root_within h a) (root_within h b)) (pair_all-take (2 ^ h) (2 ^ suc h) ls four (omega arith)) (pair_all-drop (2 ^ h) (2 ^ suc h) ls four)
+          ∙ sym (root_within-split h (pair_all ls) (omega arith)))
     ]
 
 -- ---- paths
@@ -102,39 +102,39 @@ step_in-take : (m n p : ℕ) (ls : List (List ℕ)) → n ≡ m * 2 → n < leng
 step_in-take m n p ls e le lt =
     let size = length-take-le n ls (omega arith) in
     elim (cases_lt 0 (p % 2)) [
-      inl odd ↦ (
-        let t = eq-eqb (p % 2) 1 (omega arith) in
-        rw (t, get_or-take n ls (p - 1) [] (omega arith)))
+      | inl odd ↦ (
+          let t = eq-eqb (p % 2) 1 (omega arith) in
+          rw (t, get_or-take n ls (p - 1) [] (omega arith)))
       | inr even ↦ (
-        let t = ne_eqb (p % 2) 1 (λ q. omega arith) in
-        let short = lt-ltb (p + 1) (length (take n ls)) (omega arith) in
-        let long = lt-ltb (p + 1) (length ls) (omega arith) in
-        rw (t, short, long, get_or-take n ls (p + 1) [] (omega arith)))
+          let t = ne_eqb (p % 2) 1 (λ q. omega arith) in
+          let short = lt-ltb (p + 1) (length (take n ls)) (omega arith) in
+          let long = lt-ltb (p + 1) (length ls) (omega arith) in
+          rw (t, short, long, get_or-take n ls (p + 1) [] (omega arith)))
     ]
 
 step_in-drop : (m n p : ℕ) (ls : List (List ℕ)) → n ≡ m * 2 → n ≤ p → step_in (drop n ls) (p - n) ≡ step_in ls p
 step_in-drop m n p ls e le =
     let size = length-drop n ls in
     elim (cases_lt 0 (p % 2)) [
-      inl odd ↦ (
-        let t = eq-eqb (p % 2) 1 (omega arith) in
-        let u = eq-eqb ((p - n) % 2) 1 (omega arith) in
-        let at : n + (p - n - 1) ≡ p - 1 = omega arith in
-        rw (t, u, get_or-drop n ls (p - n - 1) [], at))
+      | inl odd ↦ (
+          let t = eq-eqb (p % 2) 1 (omega arith) in
+          let u = eq-eqb ((p - n) % 2) 1 (omega arith) in
+          let at : n + (p - n - 1) ≡ p - 1 = omega arith in
+          rw (t, u, get_or-drop n ls (p - n - 1) [], at))
       | inr even ↦ (
-        let t = ne_eqb (p % 2) 1 (λ q. omega arith) in
-        let u = ne_eqb ((p - n) % 2) 1 (λ q. omega arith) in
-        let at : n + (p - n + 1) ≡ p + 1 = omega arith in
-        elim (cases_lt (p + 1) (length ls)) [
-          inl more ↦ (
-            let short = lt-ltb (p - n + 1) (length (drop n ls)) (omega arith) in
-            let long = lt-ltb (p + 1) (length ls) (omega arith) in
-            rw (t, u, short, long, get_or-drop n ls (p - n + 1) [], at))
-          | inr none ↦ (
-            let short = le-ltb (p - n + 1) (length (drop n ls)) (omega arith) in
-            let long = le-ltb (p + 1) (length ls) (omega arith) in
-            rw (t, u, short, long))
-        ])
+          let t = ne_eqb (p % 2) 1 (λ q. omega arith) in
+          let u = ne_eqb ((p - n) % 2) 1 (λ q. omega arith) in
+          let at : n + (p - n + 1) ≡ p + 1 = omega arith in
+          elim (cases_lt (p + 1) (length ls)) [
+            | inl more ↦ (
+                let short = lt-ltb (p - n + 1) (length (drop n ls)) (omega arith) in
+                let long = lt-ltb (p + 1) (length ls) (omega arith) in
+                rw (t, u, short, long, get_or-drop n ls (p - n + 1) [], at))
+            | inr none ↦ (
+                let short = le-ltb (p - n + 1) (length (drop n ls)) (omega arith) in
+                let long = le-ltb (p + 1) (length ls) (omega arith) in
+                rw (t, u, short, long))
+          ])
     ]
 
 pub path_within-pairs : (h : ℕ) (ls : List (List ℕ)) (p : ℕ) → p < length ls → length ls ≤ 2 ^ suc h → path_within (suc h) ls (p + 1) ≡ option_to_list (step_in ls p) ++ path_within h (pair_all ls) (p / 2 + 1)
@@ -144,24 +144,24 @@ path_within-pairs (suc h) ls p lt fits =
     let four = pow-suc 2 h in
     let up = length-pair_all ls in
     elim (cases_lt (2 ^ suc h) (length ls)) [
-      inr le ↦ path_within-low (suc h) ls (p + 1) le ∙ path_within-pairs h ls p lt le ∙ ap (λ r. option_to_list (step_in ls p) ++ r) (sym (path_within-low h (pair_all ls) (p / 2 + 1) (omega arith)))
+      | inr le ↦ path_within-low (suc h) ls (p + 1) le ∙ path_within-pairs h ls p lt le ∙ ap (λ r. option_to_list (step_in ls p) ++ r) (sym (path_within-low h (pair_all ls) (p / 2 + 1) (omega arith)))
       | inl gt ↦ (
-        let size = length-take-le (2 ^ suc h) ls (omega arith) in
-        let rest = length-drop (2 ^ suc h) ls in
-        let front = pair_all-take (2 ^ h) (2 ^ suc h) ls four (omega arith) in
-        let back = pair_all-drop (2 ^ h) (2 ^ suc h) ls four in
-        elim (cases_lt p (2 ^ suc h)) [
-          inl left ↦ (
-            let here = path_within-pairs h (take (2 ^ suc h) ls) p (omega arith) (omega arith) in
-            let there = root_within-pairs h (drop (2 ^ suc h) ls) (omega arith) in
-            path_within-left (suc h) ls (p + 1) gt (omega arith)
-            ∙ rw (here, there, front, back, step_in-take (2 ^ h) (2 ^ suc h) p ls four gt left, path_within-left h (pair_all ls) (p / 2 + 1) (omega arith) (omega arith), append_assoc))
-          | inr right ↦ (
-            let here = path_within-pairs h (drop (2 ^ suc h) ls) (p - 2 ^ suc h) (omega arith) (omega arith) in
-            let there = root_within-pairs h (take (2 ^ suc h) ls) (omega arith) in
-            let place : p + 1 - 2 ^ suc h ≡ p - 2 ^ suc h + 1 = omega arith in
-            let above : (p - 2 ^ suc h) / 2 + 1 ≡ p / 2 + 1 - 2 ^ h = omega arith in
-            path_within-right (suc h) ls (p + 1) gt (omega arith)
-            ∙ rw (place, here, there, front, back, step_in-drop (2 ^ h) (2 ^ suc h) p ls four right, path_within-right h (pair_all ls) (p / 2 + 1) (omega arith) (omega arith), above, append_assoc))
-        ])
+          let size = length-take-le (2 ^ suc h) ls (omega arith) in
+          let rest = length-drop (2 ^ suc h) ls in
+          let front = pair_all-take (2 ^ h) (2 ^ suc h) ls four (omega arith) in
+          let back = pair_all-drop (2 ^ h) (2 ^ suc h) ls four in
+          elim (cases_lt p (2 ^ suc h)) [
+            | inl left ↦ (
+                let here = path_within-pairs h (take (2 ^ suc h) ls) p (omega arith) (omega arith) in
+                let there = root_within-pairs h (drop (2 ^ suc h) ls) (omega arith) in
+                path_within-left (suc h) ls (p + 1) gt (omega arith)
+                ∙ rw (here, there, front, back, step_in-take (2 ^ h) (2 ^ suc h) p ls four gt left, path_within-left h (pair_all ls) (p / 2 + 1) (omega arith) (omega arith), append_assoc))
+            | inr right ↦ (
+                let here = path_within-pairs h (drop (2 ^ suc h) ls) (p - 2 ^ suc h) (omega arith) (omega arith) in
+                let there = root_within-pairs h (take (2 ^ suc h) ls) (omega arith) in
+                let place : p + 1 - 2 ^ suc h ≡ p - 2 ^ suc h + 1 = omega arith in
+                let above : (p - 2 ^ suc h) / 2 + 1 ≡ p / 2 + 1 - 2 ^ h = omega arith in
+                path_within-right (suc h) ls (p + 1) gt (omega arith)
+                ∙ rw (place, here, there, front, back, step_in-drop (2 ^ h) (2 ^ suc h) p ls four right, path_within-right h (pair_all ls) (p / 2 + 1) (omega arith) (omega arith), above, append_assoc))
+          ])
     ]

@@ -23,7 +23,7 @@ pub peaks_within-up : (k h : ℕ) (ls : List (List ℕ)) → h ≤ k → length 
 peaks_within-up zero h ls le fits = let e : h ≡ zero = omega arith in rw e
 peaks_within-up (suc k) h ls le fits =
     elim (cases_lt k h) [
-      inl lt ↦ (let e : h ≡ suc k = omega arith in rw e)
+      | inl lt ↦ (let e : h ≡ suc k = omega arith in rw e)
       | inr ge ↦ peaks_within-low k ls (omega (arith, pow_mono h k ge)) ∙ peaks_within-up k h ls ge fits
     ]
 
@@ -32,7 +32,7 @@ pub peaks_of-within : (h : ℕ) (ls : List (List ℕ)) → length ls < 2 ^ h →
 unfolding peaks_of
 peaks_of-within h ls fits =
     elim (cases_lt h (length ls)) [
-      inl lt ↦ peaks_within-up (length ls) h ls (omega arith) fits
+      | inl lt ↦ peaks_within-up (length ls) h ls (omega arith) fits
       | inr ge ↦ sym (peaks_within-up h (length ls) ls ge (below_pow (length ls)))
     ]
 
@@ -86,15 +86,15 @@ peaks_within-pairs (suc h) ls fits =
     let four = pow-suc 2 h in
     let up = length-pairs ls in
     elim (cases_lt (length ls) (2 ^ suc h)) [
-      inl lt ↦ peaks_within-low (suc h) ls lt ∙ peaks_within-pairs h ls lt ∙ ap (λ r. r ++ unpaired ls) (sym (peaks_within-low h (pairs_of ls) (omega arith)))
+      | inl lt ↦ peaks_within-low (suc h) ls lt ∙ peaks_within-pairs h ls lt ∙ ap (λ r. r ++ unpaired ls) (sym (peaks_within-low h (pairs_of ls) (omega arith)))
       | inr le ↦ (
-        let size = length-take-le (2 ^ suc h) ls (omega arith) in
-        let rest = length-drop (2 ^ suc h) ls in
-        let front = root_within-pairs h (take (2 ^ suc h) ls) (omega arith) in
-        let even = pair_all-even (take (2 ^ suc h) ls) (omega arith) in
-        let half_of : 2 ^ suc h / 2 ≡ 2 ^ h = omega arith in
-        peaks_within-high (suc h) ls le
-        ∙ rw (front, even, pairs_of-take (2 ^ suc h) ls, half_of, peaks_within-pairs h (drop (2 ^ suc h) ls) (omega arith), pairs_of-drop (2 ^ h) (2 ^ suc h) ls four, unpaired-drop (2 ^ h) (2 ^ suc h) ls four le, peaks_within-high h (pairs_of ls) (omega arith)))
+          let size = length-take-le (2 ^ suc h) ls (omega arith) in
+          let rest = length-drop (2 ^ suc h) ls in
+          let front = root_within-pairs h (take (2 ^ suc h) ls) (omega arith) in
+          let even = pair_all-even (take (2 ^ suc h) ls) (omega arith) in
+          let half_of : 2 ^ suc h / 2 ≡ 2 ^ h = omega arith in
+          peaks_within-high (suc h) ls le
+          ∙ rw (front, even, pairs_of-take (2 ^ suc h) ls, half_of, peaks_within-pairs h (drop (2 ^ suc h) ls) (omega arith), pairs_of-drop (2 ^ h) (2 ^ suc h) ls four, unpaired-drop (2 ^ h) (2 ^ suc h) ls four le, peaks_within-high h (pairs_of ls) (omega arith)))
     ]
 
 length-unpaired : (ls : List (List ℕ)) → length (unpaired ls) ≡ length ls % 2
@@ -130,7 +130,7 @@ some_peaks : (h : ℕ) (ls : List (List ℕ)) → length ls < 2 ^ h → 0 < leng
 some_peaks h ls fits some =
     let count = length-peaks_within h ls fits in
     elim (cases_lt 0 (length (peaks_within h ls))) [
-      inl lt ↦ lt
+      | inl lt ↦ lt
       | inr none ↦ (let zero_leaves = zero_from_ones (length ls) (omega arith) in absurd (omega arith))
     ]
 
@@ -141,13 +141,13 @@ root_within-peaks (suc h) ls fits some =
     let two = pow-suc 2 h in
     let rest = length-drop (2 ^ h) ls in
     elim (cases_order (length ls) (2 ^ h)) [
-      inl e ↦ (
-        let whole = take_all (2 ^ h) ls (omega arith) in
-        let end = drop_all (2 ^ h) ls (omega arith) in
-        rw (root_within-low h ls (omega arith), peaks_within-high h ls (omega arith), whole, end, peaks_within-nil h))
+      | inl e ↦ (
+          let whole = take_all (2 ^ h) ls (omega arith) in
+          let end = drop_all (2 ^ h) ls (omega arith) in
+          rw (root_within-low h ls (omega arith), peaks_within-high h ls (omega arith), whole, end, peaks_within-nil h))
       | inr (inl lt) ↦ rw (root_within-low h ls (omega arith), peaks_within-low h ls lt) (root_within-peaks h ls lt some)
       | inr (inr gt) ↦ (
-        let here = root_within-peaks h (drop (2 ^ h) ls) (omega arith) (omega arith) in
-        let more = some_peaks h (drop (2 ^ h) ls) (omega arith) (omega arith) in
-        rw (root_within-split h ls gt, peaks_within-high h ls (omega arith), root_of_peaks-more _ _ more, here))
+          let here = root_within-peaks h (drop (2 ^ h) ls) (omega arith) (omega arith) in
+          let more = some_peaks h (drop (2 ^ h) ls) (omega arith) (omega arith) in
+          rw (root_within-split h ls gt, peaks_within-high h ls (omega arith), root_of_peaks-more _ _ more, here))
     ]

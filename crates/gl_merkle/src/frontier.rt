@@ -1,7 +1,10 @@
 //! The frontier: a growing list of leaves whose tree is kept.
 
 use crate::Digest;
-use crate::levels::{Level, copy_levels, cut_levels, make_levels, peaks_of_levels, push_node, reserve_levels, root_of_levels, steps_from};
+use crate::levels::{
+    Level, copy_levels, cut_levels, make_levels, peaks_of_levels, push_node, reserve_levels,
+    root_of_levels, steps_from,
+};
 use crate::tree::Step;
 use std::alloc::{AllocError, Global};
 use std::marker::Model;
@@ -32,10 +35,10 @@ impl Model for Frontier {
     ghost Value = { Content };
 
     ghost view = { λ f. record {
-        base = f.base;
-        peaks = f.peaks.items;
-        leaves = leaves_above f.base f.levels.items;
-        spare = f.limit - f.len
+      base = f.base;
+      peaks = f.peaks.items;
+      leaves = leaves_above f.base f.levels.items;
+      spare = f.limit - f.len;
     } };
 
     ghost invariant = { λ f. AreLevels f.base f.peaks.items f.len f.limit f.levels.items };
@@ -98,6 +101,20 @@ impl Frontier {
         Ok(())
     }
 
+    // Makes room for one more leaf, and where there is none for as many as are held.
+    fn make_room(&mut self) -> Result<(), AllocError>
+        ensures ok { OnOk result (0 < self.new.spare) }
+        ensures kept { self.old.spare ≤ self.new.spare }
+        ensures enough { 0 < self.old.spare → IsOk result }
+        ensures stays { IsUnchanged self.old self.new }
+    {
+        if self.len < self.limit {
+            return Ok(());
+        }
+        let held = self.len - self.base;
+        self.reserve(held.max(16) as usize)
+    }
+
     /// Adds a leaf at the end. While there is room this takes no memory.
     pub fn push(&mut self, leaf: Digest) -> Result<(), AllocError>
         ensures ok { OnOk result (HasLeaves self.old self.new (self.old.leaves ++ leaf ∷ [])) }
@@ -105,10 +122,7 @@ impl Frontier {
         ensures room { 0 < self.old.spare → IsOk result }
         ensures err { OnErr result (IsUnchanged self.old self.new) }
     {
-        if self.len == self.limit {
-            let held = self.len - self.base;
-            self.reserve(held.max(16) as usize)?;
-        }
+        self.make_room()?;
         push_node(&mut self.levels, leaf);
         self.len += 1;
         Ok(())

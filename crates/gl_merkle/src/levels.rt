@@ -18,7 +18,11 @@ pub(crate) type Level = Vec<Digest>;
 pub(crate) const HEIGHT: usize = 64;
 
 // The levels of a base of so many leaves: they hold its peaks, greatest first, and no more.
-pub(crate) fn make_levels(alloc: Global, base: u64, peaks: &[Digest]) -> Result<Vec<Level>, AllocError>
+pub(crate) fn make_levels(
+    alloc: Global,
+    base: u64,
+    peaks: &[Digest],
+) -> Result<Vec<Level>, AllocError>
     requires { length peaks.now ≡ count_ones base }
     ensures { IfOk result (λ levels. nodes_of levels.items ≡ base_levels 64 base peaks.now) }
 {
@@ -154,7 +158,13 @@ fn step_from(level: &Level, base: u64, size: u64, place: u64, tail: Option<Diges
 }
 
 // The steps from the leaf at this place, counted from 0, to the root of the first `size` leaves.
-pub(crate) fn steps_from(alloc: Global, levels: &[Level], base: u64, size: u64, place: u64) -> Result<Vec<Step>, AllocError>
+pub(crate) fn steps_from(
+    alloc: Global,
+    levels: &[Level],
+    base: u64,
+    size: u64,
+    place: u64,
+) -> Result<Vec<Step>, AllocError>
     requires from_base { base ≤ place }
     requires inside { place ≤ size }
     requires within { HoldFirst base size (nodes_of levels.now) }
@@ -178,7 +188,12 @@ pub(crate) fn steps_from(alloc: Global, levels: &[Level], base: u64, size: u64, 
 }
 
 // The peaks of the first `size` leaves, greatest first.
-pub(crate) fn peaks_of_levels(alloc: Global, levels: &[Level], base: u64, size: u64) -> Result<Vec<Digest>, AllocError>
+pub(crate) fn peaks_of_levels(
+    alloc: Global,
+    levels: &[Level],
+    base: u64,
+    size: u64,
+) -> Result<Vec<Digest>, AllocError>
     requires from_base { base ≤ size }
     requires within { HoldFirst base size (nodes_of levels.now) }
     ensures { IfOk result (λ peaks. peaks.items ≡ level_peaks (nodes_of levels.now) base size) }

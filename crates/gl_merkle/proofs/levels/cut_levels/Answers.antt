@@ -16,6 +16,6 @@ loop-level-preserved c =
     let cut = c.truncate.ensures.items ∙ ap (λ m. take m (get_or vs k d).items) c.saturating_sub.ensures in
     record {
       nodes = nodes_of-step (cut_to b n) (cut_to (b / 2) (n / 2)) _ vs k d w within
-        (λ rs. ap (λ (r : List (List ℕ)). r ∷ cut_to (b / 2) (n / 2) rs) (sym cut)) c.loop-level.invariant.nodes;
-      rooms = map-set_same (λ (u : Level). vec_capacity u) vs k d w within c.truncate.ensures.capacity ∙ c.loop-level.invariant.rooms
+          (λ rs. ap (λ (r : List (List ℕ)). r ∷ cut_to (b / 2) (n / 2) rs) (sym cut)) c.loop-level.invariant.nodes;
+      rooms = map-set_same (λ (u : Level). vec_capacity u) vs k d w within c.truncate.ensures.capacity ∙ c.loop-level.invariant.rooms;
     }

@@ -19,26 +19,26 @@ loop-height-preserved c =
     let step = ones_step c.loop-height.base in
     let push = c.in_ok-push-2.ensures.items in
     elim c.if-base-eq1.branch [
-      then-base-eq1+in_ok-push w ↦ (
-        let peak = get_or c.loop-height.peaks.now (length c.loop-height.peaks.now - 1) [] in
-        let one : c.if-base-eq1.level.items ≡ peak ∷ [] =
-            ap (λ (v : Level). v.items) w.level-is ∙ w.in_ok-push.ensures.items ∙ ap (λ (r : List (List ℕ)). r ++ peak ∷ []) c.new-level.ensures.items in
-        let rest : c.if-base-eq1.peaks.now ≡ take (length c.loop-height.peaks.now - 1) c.loop-height.peaks.now = ap (λ (r : Bor (List (List ℕ))). r.now) w.peaks-is in
-        let size = length-take-le (length c.loop-height.peaks.now - 1) c.loop-height.peaks.now (omega arith) in
-        record {
-          nodes = make_level-odd _ c.loop-height.levels.items _ c.if-base-eq1.level (64 - (c.loop-height._height + 1)) _ c.loop-height.base c.loop-height.peaks.now c.if-base-eq1.peaks.now
-            push one rest more w.if-base-eq1.true c.loop-height.invariant.nodes;
-          count = omega (arith, ap length rest, size, c.loop-height.invariant.count, step, w.if-base-eq1.true)
-        })
+      | then-base-eq1+in_ok-push w ↦ (
+          let peak = get_or c.loop-height.peaks.now (length c.loop-height.peaks.now - 1) [] in
+          let one : c.if-base-eq1.level.items ≡ peak ∷ [] =
+          ap (λ (v : Level). v.items) w.level-is ∙ w.in_ok-push.ensures.items ∙ ap (λ (r : List (List ℕ)). r ++ peak ∷ []) c.new-level.ensures.items in
+          let rest : c.if-base-eq1.peaks.now ≡ take (length c.loop-height.peaks.now - 1) c.loop-height.peaks.now = ap (λ (r : Bor (List (List ℕ))). r.now) w.peaks-is in
+          let size = length-take-le (length c.loop-height.peaks.now - 1) c.loop-height.peaks.now (omega arith) in
+          record {
+            nodes = make_level-odd _ c.loop-height.levels.items _ c.if-base-eq1.level (64 - (c.loop-height._height + 1)) _ c.loop-height.base c.loop-height.peaks.now c.if-base-eq1.peaks.now
+                push one rest more w.if-base-eq1.true c.loop-height.invariant.nodes;
+            count = omega (arith, ap length rest, size, c.loop-height.invariant.count, step, w.if-base-eq1.true);
+          })
       | else-base-eq1 w ↦ (
-        let empty = ap (λ (v : Level). v.items) w.level-is ∙ c.new-level.ensures.items in
-        let rest : c.if-base-eq1.peaks.now ≡ c.loop-height.peaks.now = ap (λ (r : Bor (List (List ℕ))). r.now) w.peaks-is in
-        let even : c.loop-height.base % 2 ≡ 0 = omega (arith, w.if-base-eq1.false) in
-        record {
-          nodes = make_level-even _ c.loop-height.levels.items _ c.if-base-eq1.level (64 - (c.loop-height._height + 1)) _ c.loop-height.base c.loop-height.peaks.now c.if-base-eq1.peaks.now
-            push empty rest more even c.loop-height.invariant.nodes;
-          count = omega (arith, ap length rest, c.loop-height.invariant.count, step, even)
-        })
+          let empty = ap (λ (v : Level). v.items) w.level-is ∙ c.new-level.ensures.items in
+          let rest : c.if-base-eq1.peaks.now ≡ c.loop-height.peaks.now = ap (λ (r : Bor (List (List ℕ))). r.now) w.peaks-is in
+          let even : c.loop-height.base % 2 ≡ 0 = omega (arith, w.if-base-eq1.false) in
+          record {
+            nodes = make_level-even _ c.loop-height.levels.items _ c.if-base-eq1.level (64 - (c.loop-height._height + 1)) _ c.loop-height.base c.loop-height.peaks.now c.if-base-eq1.peaks.now
+                push empty rest more even c.loop-height.invariant.nodes;
+            count = omega (arith, ap length rest, c.loop-height.invariant.count, step, even);
+          })
     ]
 
 pub returns : goal.returns

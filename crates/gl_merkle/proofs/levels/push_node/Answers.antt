@@ -22,9 +22,9 @@ loop-level-preserved c =
     let next = c.inner-node.ensures ∙ ap (λ x. inner_of x node) last ∙ place in
     record {
       nodes = nodes_of-step (λ rs. with_node rs node) (λ rs. with_node rs c.inner-node.result) _ vs k d w within
-        (with_node-step v node c.inner-node.result w.items c.push_reserved.ensures.items odd next) c.loop-level.invariant.nodes;
+          (with_node-step v node c.inner-node.result w.items c.push_reserved.ensures.items odd next) c.loop-level.invariant.nodes;
       rooms = map-set_same (λ (u : Level). vec_capacity u) vs k d w within c.push_reserved.ensures.capacity ∙ c.loop-level.invariant.rooms;
-      room = HasRoom-next vs k d w within odd c.loop-level.invariant.room
+      room = HasRoom-next vs k d w within odd c.loop-level.invariant.room;
     }
 
 pub returns-then-count-eq0-clause-nodes : goal.returns-then-count-eq0-clause-nodes
@@ -35,7 +35,7 @@ returns-then-count-eq0-clause-nodes c =
     let within : k < length vs = omega arith in
     let even : vec_len v % 2 ≡ 0 = omega (arith, c.if-count-eq0.true, c.len-count.ensures) in
     nodes_of-stop (λ rs. with_node rs c.loop-level.node) _ vs k c.level-item.result c.push_reserved.new.self within
-      (with_node-stop v c.loop-level.node c.push_reserved.new.self.items c.push_reserved.ensures.items even) c.loop-level.invariant.nodes
+    (with_node-stop v c.loop-level.node c.push_reserved.new.self.items c.push_reserved.ensures.items even) c.loop-level.invariant.nodes
 
 pub returns-then-count-eq0-clause-rooms : goal.returns-then-count-eq0-clause-rooms
 returns-then-count-eq0-clause-rooms c =

@@ -29,7 +29,7 @@ loop-level-preserved c =
       nodes = map-set_same (λ (u : Level). u.items) vs k d w within c.reserve.ensures.items ∙ c.loop-level.invariant.nodes;
       grown = rooms_of-grown _ vs k d w within c.reserve.ensures.capacity c.loop-level.invariant.grown;
       room = λ rest h. AreRoomy-step c.loop-level.base c.loop-level.limit k vs w (AreRoomy c.args.base c.args.limit) rest within
-        (omega (arith, c.in_ok-reserve.ensures.ok, c.reserve.ensures.len, c.saturating_sub-count.ensures, c.saturating_sub.ensures, c.len.ensures)) c.loop-level.invariant.room h
+          (omega (arith, c.in_ok-reserve.ensures.ok, c.reserve.ensures.len, c.saturating_sub-count.ensures, c.saturating_sub.ensures, c.len.ensures)) c.loop-level.invariant.room h;
     }
 
 pub returns-clause-ok : goal.returns-clause-ok

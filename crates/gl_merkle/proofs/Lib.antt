@@ -5,3 +5,4 @@ pub mod PeakLemmas
 pub mod LevelLemmas
 pub mod WriteLemmas
 pub mod FrontierLemmas
+pub mod ReachLemmas

@@ -45,11 +45,11 @@ climb-within (suc h) ls i low high fits =
 
 -- ---- two ways that meet
 
-joined-input : (a : List ℕ) (x : Step) → joined a x ≡ sha256 (input_of a x)
+pub joined-input : (a : List ℕ) (x : Step) → joined a x ≡ sha256 (input_of a x)
 joined-input a (Left z) = refl
 joined-input a (Right z) = refl
 
-length-joined : (a : List ℕ) (x : Step) → length (joined a x) ≡ 32
+pub length-joined : (a : List ℕ) (x : Step) → length (joined a x) ≡ 32
 length-joined a x = ap length (joined-input a x) ∙ length-sha256 (input_of a x)
 
 same_ends : (z a w b : List ℕ) → length a ≡ length b → z ++ a ≡ w ++ b → a ≡ b

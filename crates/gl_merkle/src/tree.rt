@@ -49,8 +49,8 @@ pub fn root(leaves: &[Digest]) -> Digest
     if leaves.len() == 1 {
         return leaves[0];
     }
-    let (left, right) = leaves.split_at(split_of(leaves.len()));
-    inner(&root(left), &root(right))
+    let (first, rest) = leaves.split_at(split_of(leaves.len()));
+    inner(&root(first), &root(rest))
 }
 
 /// The steps from the leaf at `index`, counted from 1, to the root: the leaf's sibling first.

@@ -1,18 +1,18 @@
 -- What the calls of a frontier keep of its levels, and what they read from them.
-use Rattle.std.proofs.Common.{◌≡◌, ℕ, zero, suc, ◌+◌, ◌*◌, ◌-◌, ◌/◌, ◌%◌, ◌^◌, ◌<◌, ◌≤◌, List, [], ◌∷◌, ◌++◌, Option, Some, None, option_to_list, length, take, drop, get_or, map, refl, sym, ap, ap₂, ◌∙◌, arith, length-append, append_assoc, append-nil, inl, inr, count_ones, is_some, true}
-use Rattle.std.specs.Prelude.{vec_len, vec_capacity}
+use Rattle.std.proofs.Common.{◌≡◌, ℕ, zero, suc, ◌+◌, ◌*◌, ◌-◌, ◌/◌, ◌%◌, ◌^◌, ◌<◌, ◌≤◌, List, [], ◌∷◌, ◌++◌, Some, None, length, take, drop, get_or, refl, sym, ap, ◌∙◌, arith, length-append, append_assoc, append-nil, inl, inr, count_ones, is_some, true}
+use Rattle.std.specs.Prelude.{vec_capacity}
 use lib.Count.{ones_step}
 use Rattle.std.proofs.Math.Nat.{pow-suc}
 use Rattle.std.proofs.lemmas.Nat.{ones_le_self}
 use Rattle.std.proofs.lemmas.Bool.{cases_eq, eq-eqb, ne_eqb}
-use Rattle.std.proofs.lemmas.List.{length-map, drop-append-le, drop-take, take_all, length-drop, length-take-le, drop_all}
-use Rattle.gl_merkle.specs.Tree.{root_within, root_of}
-use Rattle.gl_merkle.specs.Path.{path_of, path_within}
-use Rattle.gl_merkle.specs.Peaks.{peaks_within, peaks_of}
-use Rattle.gl_merkle.specs.Levels.{Level, nodes_of, rooms_of, AreSized, AreRoomy, HoldFirst, Cover, HasRoom, with_node, cut_to, base_levels, tail_of, steps_of, level_peaks}
+use Rattle.std.proofs.lemmas.List.{length-map, drop-append-le, drop-take, take_all, length-drop, length-take-le}
+use Rattle.gl_merkle.specs.Tree.{root_of}
+use Rattle.gl_merkle.specs.Path.{path_of}
+use Rattle.gl_merkle.specs.Peaks.{peaks_of}
+use Rattle.gl_merkle.specs.Levels.{Level, nodes_of, rooms_of, AreSized, AreRoomy, HoldFirst, HasRoom, with_node, cut_to, base_levels, tail_of, steps_of, level_peaks}
 use Rattle.gl_merkle.specs.Frontier.{leaves_above, AreLevels}
 use Rattle.gl_merkle.proofs.TreeLemmas.{root_of-within, path_of-within}
-use Rattle.gl_merkle.proofs.PeakLemmas.{peaks_of-within, length-peaks_within}
+use Rattle.gl_merkle.proofs.PeakLemmas.{peaks_of-within}
 use Rattle.gl_merkle.proofs.LevelLemmas.{Cover-with_node, AreSized-with_node, Cover-cut_to, AreSized-cut_to, Cover-base_levels, AreSized-base_levels, base_levels-even, base_levels-odd, tail_of-root, tail_of-some, steps_of-path, level_peaks-peaks}
 
 -- ---- room

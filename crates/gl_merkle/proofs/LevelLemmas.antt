@@ -1,17 +1,14 @@
 -- The levels of a frontier: what a node more, a cut and a base leave, and what is read from them.
-use Rattle.std.proofs.Common.{◌≡◌, ℕ, zero, suc, ◌+◌, ◌*◌, ◌-◌, ◌/◌, ◌%◌, ◌^◌, ◌<◌, ◌≤◌, Bool, true, false, cond, eqb, ltb, List, [], ◌∷◌, ◌++◌, Option, Some, None, option_to_list, length, take, drop, get_or, map, refl, sym, ap, ap₂, ◌∙◌, arith, length-drop, length-append, append_assoc, append-nil, inl, inr, is_some, ◌⊎◌}
+use Rattle.std.proofs.Common.{◌≡◌, ℕ, zero, suc, ◌+◌, ◌*◌, ◌-◌, ◌/◌, ◌%◌, ◌^◌, ◌<◌, ◌≤◌, true, List, [], ◌∷◌, ◌++◌, Option, Some, None, option_to_list, length, take, drop, get_or, refl, sym, ap, ap₂, ◌∙◌, arith, length-drop, length-append, append-nil, inl, inr, is_some, ◌⊎◌}
 use Rattle.std.proofs.Math.Nat.{pow-suc}
-use Rattle.std.proofs.lemmas.Nat.{pow_pos}
-use Rattle.std.proofs.lemmas.Bool.{cases_lt, cases_eq, cond-true, cond-false, eq-eqb, ne_eqb, lt-ltb, le-ltb}
-use Rattle.std.proofs.lemmas.List.{length-take-le, length-take, get_or-take, get_or-drop, take_all, drop_all, drop-append-le, drop-take, get_or_append_left, get_or-append_right, get_or_at, take_at, nil_from_length}
-use Rattle.gl_merkle.specs.declared.tree.Step.{Step}
-use Rattle.gl_merkle.specs.declared.tree.Step.TheVariants.{Left, Right}
-use Rattle.gl_merkle.specs.Tree.{inner_of, root_within, root_of}
-use Rattle.gl_merkle.specs.Path.{path_within, path_of}
-use Rattle.gl_merkle.specs.Peaks.{peaks_within, peaks_of}
-use Rattle.gl_merkle.specs.Levels.{pairs_of, AreSized, AreRoomy, Cover, with_node, cut_to, base_levels, last_node, over_tail, next_tail, tail_of, past_tail, step_at, steps_of, level_peaks}
+use Rattle.std.proofs.lemmas.Bool.{cases_lt, cases_eq, eq-eqb, ne_eqb, lt-ltb, le-ltb}
+use Rattle.std.proofs.lemmas.List.{length-take-le, get_or-take, get_or-drop, drop-append-le, drop-take, get_or_append_left, get_or_at, take_at}
+use Rattle.gl_merkle.specs.Tree.{inner_of, root_within}
+use Rattle.gl_merkle.specs.Path.{path_within}
+use Rattle.gl_merkle.specs.Peaks.{peaks_within}
+use Rattle.gl_merkle.specs.Levels.{pairs_of, AreSized, Cover, with_node, cut_to, base_levels, last_node, over_tail, next_tail, tail_of, past_tail, step_at, steps_of, level_peaks}
 use Rattle.gl_merkle.proofs.PairLemmas.{pair_all, length-pairs, length-pair_all, pairs_of-take, root_within-pairs, step_in, path_within-pairs}
-use Rattle.gl_merkle.proofs.PeakLemmas.{unpaired, unpaired-even, unpaired-odd, drop-unpaired, peaks_within-pairs}
+use Rattle.gl_merkle.proofs.PeakLemmas.{unpaired-even, unpaired-odd, drop-unpaired, peaks_within-pairs}
 
 -- ---- one node more
 

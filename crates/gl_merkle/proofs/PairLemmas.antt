@@ -1,13 +1,12 @@
 -- The tree from below: the nodes of a level in pairs, the last one without a neighbour taken along as it is.
-use Rattle.std.proofs.Common.{◌≡◌, ℕ, zero, suc, ◌+◌, ◌*◌, ◌-◌, ◌/◌, ◌%◌, ◌^◌, ◌<◌, ◌≤◌, Bool, true, false, cond, eqb, ltb, List, [], ◌∷◌, ◌++◌, Option, Some, None, option_to_list, length, take, drop, get_or, refl, sym, ap, ap₂, ◌∙◌, arith, length-drop, length-append, append_assoc, append-nil, inl, inr}
+use Rattle.std.proofs.Common.{◌≡◌, ℕ, zero, suc, ◌+◌, ◌*◌, ◌-◌, ◌/◌, ◌%◌, ◌^◌, ◌<◌, ◌≤◌, cond, eqb, ltb, List, [], ◌∷◌, ◌++◌, Option, Some, None, option_to_list, length, take, drop, get_or, refl, sym, ap, ap₂, ◌∙◌, arith, length-drop, append_assoc, inl, inr}
 use Rattle.std.proofs.Math.Nat.{pow-suc}
-use Rattle.std.proofs.lemmas.Nat.{pow_pos}
-use Rattle.std.proofs.lemmas.Bool.{cases_lt, cond-true, cond-false, eq-eqb, ne_eqb, lt-ltb, le-ltb, le-leb, lt-leb}
-use Rattle.std.proofs.lemmas.List.{length-take-le, length-take, get_or-take, get_or-drop, take_all, drop_all}
+use Rattle.std.proofs.lemmas.Bool.{cases_lt, eq-eqb, ne_eqb, lt-ltb, le-ltb}
+use Rattle.std.proofs.lemmas.List.{length-take-le, get_or-take, get_or-drop, drop_all}
 use Rattle.gl_merkle.specs.declared.tree.Step.{Step}
 use Rattle.gl_merkle.specs.declared.tree.Step.TheVariants.{Left, Right}
-use Rattle.gl_merkle.specs.Tree.{inner_of, root_within, root_of}
-use Rattle.gl_merkle.specs.Path.{path_within, path_of}
+use Rattle.gl_merkle.specs.Tree.{inner_of, root_within}
+use Rattle.gl_merkle.specs.Path.{path_within}
 use Rattle.gl_merkle.specs.Levels.{pairs_of}
 use Rattle.gl_merkle.proofs.TreeLemmas.{root_within-low, root_within-split, path_within-low, path_within-left, path_within-right}
 

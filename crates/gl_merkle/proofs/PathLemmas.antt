@@ -1,7 +1,6 @@
 -- A path climbs to the root, and two ways that meet collide.
-use Rattle.std.proofs.Common.{◌≡◌, ◌≢◌, ℕ, zero, suc, ◌+◌, ◌*◌, ◌-◌, ◌^◌, ◌<◌, ◌≤◌, true, false, List, [], ◌∷◌, ◌++◌, length, take, drop, get_or, refl, sym, ap, ap₂, ◌∙◌, arith, length-drop, length-append, inl, inr, fold}
+use Rattle.std.proofs.Common.{◌≡◌, ◌≢◌, ℕ, zero, suc, ◌+◌, ◌-◌, ◌^◌, ◌≤◌, List, [], ◌∷◌, ◌++◌, length, take, drop, get_or, refl, sym, ap, ◌∙◌, arith, length-drop, length-append, inl, inr}
 use Rattle.std.proofs.Math.Nat.{pow-suc}
-use Rattle.std.proofs.lemmas.Nat.{pow_pos}
 use Rattle.std.proofs.lemmas.Bool.{cases_lt, cases_Bool, both_ways}
 use Rattle.std.proofs.lemmas.List.{length-take-le, get_or-take, get_or-drop, take_at, drop_at}
 use Rattle.std.proofs.lemmas.Grind.{fold-append}
@@ -11,10 +10,10 @@ use Rattle.sha2.specs.Sha256.{sha256}
 use Rattle.sha2.proofs.Facts256.{length-sha256}
 use Rattle.gl_merkle.specs.declared.tree.Step.{Step}
 use Rattle.gl_merkle.specs.declared.tree.Step.TheVariants.{Left, Right}
-use Rattle.gl_merkle.specs.Tree.{inner_of, root_within, root_of}
-use Rattle.gl_merkle.specs.Path.{path_within, path_of, climb_of, joined}
+use Rattle.gl_merkle.specs.Tree.{inner_of, root_within}
+use Rattle.gl_merkle.specs.Path.{path_within, climb_of, joined}
 use Rattle.gl_merkle.specs.Collision.{IsSameSide, HaveSameSides, input_of, Collide}
-use Rattle.gl_merkle.proofs.TreeLemmas.{below_pow, root_within-low, root_within-split, path_within-low, path_within-left, path_within-right}
+use Rattle.gl_merkle.proofs.TreeLemmas.{root_within-low, root_within-split, path_within-low, path_within-left, path_within-right}
 
 climb-one : (ls : List (List ℕ)) (i : ℕ) → 1 ≤ i → i ≤ length ls → length ls ≤ 1 → climb_of (get_or ls (i - 1) []) (path_within 0 ls i) ≡ root_within 0 ls
 unfolding path_within root_within

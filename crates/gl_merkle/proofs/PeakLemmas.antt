@@ -1,15 +1,15 @@
 -- The peaks, from below: the last node without a neighbour, and the peaks of the level above.
-use Rattle.std.proofs.Common.{◌≡◌, ℕ, zero, suc, ◌+◌, ◌*◌, ◌-◌, ◌/◌, ◌%◌, ◌^◌, ◌<◌, ◌≤◌, true, false, cond, List, [], ◌∷◌, ◌++◌, Option, Some, None, option_to_list, length, take, drop, get_or, refl, sym, ap, ap₂, ◌∙◌, arith, length-drop, length-append, append_assoc, append-nil, inl, inr, count_ones}
+use Rattle.std.proofs.Common.{◌≡◌, ℕ, zero, suc, ◌*◌, ◌-◌, ◌/◌, ◌%◌, ◌^◌, ◌<◌, ◌≤◌, List, [], ◌∷◌, ◌++◌, length, take, drop, get_or, refl, sym, ap, ◌∙◌, arith, length-drop, length-append, append-nil, inl, inr, count_ones}
 use lib.Count.{ones_step}
 use Rattle.std.proofs.Math.Nat.{pow-suc}
 use Rattle.std.proofs.lemmas.Nat.{pow_pos, zero_from_ones, ones_le_self}
 use Rattle.std.proofs.lemmas.Bool.{cases_lt, cases_order, cond-true, cond-false, le-leb, lt-leb}
-use Rattle.std.proofs.lemmas.List.{length-take-le, length-take, drop-drop, take_all, drop_all}
-use Rattle.gl_merkle.specs.Tree.{inner_of, root_within, root_of}
+use Rattle.std.proofs.lemmas.List.{length-take-le, take_all, drop_all}
+use Rattle.gl_merkle.specs.Tree.{inner_of, root_within}
 use Rattle.gl_merkle.specs.Peaks.{peaks_within, peaks_of, root_of_peaks}
 use Rattle.gl_merkle.specs.Levels.{pairs_of}
 use Rattle.gl_merkle.proofs.TreeLemmas.{below_pow, pow_mono, root_within-low, root_within-split}
-use Rattle.gl_merkle.proofs.PairLemmas.{pair_all, pair_all-take, length-pairs, pairs_of-take, pairs_of-drop, root_within-pairs, half}
+use Rattle.gl_merkle.proofs.PairLemmas.{pair_all, length-pairs, pairs_of-take, pairs_of-drop, root_within-pairs}
 
 pub peaks_within-low : (h : ℕ) (ls : List (List ℕ)) → length ls < 2 ^ h → peaks_within (suc h) ls ≡ peaks_within h ls
 unfolding peaks_within

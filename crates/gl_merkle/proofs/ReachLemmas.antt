@@ -1,10 +1,10 @@
 -- A way that ends at a root, followed down from there.
-use Rattle.std.proofs.Common.{◌≡◌, ◌≢◌, ◌⊎◌, ℕ, zero, suc, ◌+◌, ◌*◌, ◌-◌, ◌^◌, ◌<◌, ◌≤◌, true, false, List, [], ◌∷◌, ◌++◌, length, take, drop, get_or, refl, sym, subst, ap, ap₂, ◌∙◌, arith, length-append, inl, inr, All, Contains}
+use Rattle.std.proofs.Common.{◌≡◌, ◌≢◌, ◌⊎◌, ℕ, zero, suc, ◌+◌, ◌-◌, ◌^◌, ◌<◌, ◌≤◌, List, [], ◌∷◌, ◌++◌, length, take, drop, get_or, refl, sym, subst, ap, ◌∙◌, arith, length-append, inl, inr, All, Contains}
 use Rattle.std.proofs.Math.Nat.{pow-suc}
 use Rattle.std.proofs.lemmas.Nat.{pow_pos}
 use Rattle.std.proofs.lemmas.Bool.{cases_lt, cases_Bool, both_ways, cond-true, cond-false, le-leb, lt-leb}
 use Rattle.std.proofs.lemmas.List.{length-take-le, length-drop, get_or-take, get_or-drop, take_at, drop_at, get_or_at, take-append-drop}
-use Rattle.std.proofs.lemmas.List.Elements.{All-take, All-drop, All-get_or, Contains-append_left, Contains-append_right, Contains-push, Contains-get_or}
+use Rattle.std.proofs.lemmas.List.Elements.{All-take, All-drop, Contains-append_left, Contains-append_right, Contains-push, Contains-get_or}
 use Rattle.std.proofs.lemmas.Grind.{fold-append}
 use Rattle.std.proofs.lemmas.Slice.Eq.{bytes_eq-Decides}
 use Rattle.std.specs.Str.{bytes_eq}
@@ -12,7 +12,7 @@ use Rattle.sha2.specs.Sha256.{sha256}
 use Rattle.sha2.proofs.Facts256.{length-sha256}
 use Rattle.gl_merkle.specs.declared.tree.Step.{Step}
 use Rattle.gl_merkle.specs.declared.tree.Step.TheVariants.{Left, Right}
-use Rattle.gl_merkle.specs.Tree.{inner_of, root_within, root_of}
+use Rattle.gl_merkle.specs.Tree.{root_within, root_of}
 use Rattle.gl_merkle.specs.Path.{path_within, path_of, climb_of, joined}
 use Rattle.gl_merkle.specs.Collision.{input_of}
 use Rattle.gl_merkle.specs.Reach.{IsDigest, sibling_of, inputs_on, inputs_within, inputs_of, IsReached}

@@ -1,13 +1,11 @@
 -- The tree split at the greatest power of two below the number of its leaves, whatever height bounds it.
-use Rattle.std.proofs.Common.{◌≡◌, ℕ, zero, suc, ◌+◌, ◌*◌, ◌-◌, ◌^◌, ◌<◌, ◌≤◌, true, false, cond, List, [], ◌∷◌, ◌++◌, length, take, drop, refl, sym, ap, ap₂, ◌∙◌, arith, nat_le, length-take, length-drop, inl, inr}
+use Rattle.std.proofs.Common.{◌≡◌, ℕ, zero, suc, ◌*◌, ◌-◌, ◌^◌, ◌<◌, ◌≤◌, List, [], ◌∷◌, ◌++◌, length, take, drop, sym, ap₂, ◌∙◌, arith, length-drop, inl, inr}
 use Rattle.std.proofs.Math.Nat.{pow-suc, pow-le-pow_right}
-use Rattle.std.proofs.lemmas.Nat.{pow_pos}
 use Rattle.std.proofs.lemmas.Bool.{le-leb, lt-leb, cond-true, cond-false, cases_lt}
 use Rattle.std.proofs.lemmas.List.{length-take-le}
-use Rattle.gl_merkle.specs.declared.tree.Step.{Step}
 use Rattle.gl_merkle.specs.declared.tree.Step.TheVariants.{Left, Right}
 use Rattle.gl_merkle.specs.Tree.{inner_of, root_within, root_of}
-use Rattle.gl_merkle.specs.Path.{path_within, path_of, climb_of, joined}
+use Rattle.gl_merkle.specs.Path.{path_within, path_of}
 
 pub below_pow : (n : ℕ) → n < 2 ^ n
 below_pow zero = omega arith

@@ -1,11 +1,11 @@
 -- One level written, in a loop over the levels.
-use Rattle.std.proofs.Common.{◌≡◌, ℕ, zero, suc, ◌+◌, ◌*◌, ◌-◌, ◌/◌, ◌%◌, ◌<◌, ◌≤◌, List, [], ◌∷◌, ◌++◌, length, take, drop, get_or, set, map, refl, sym, ap, ap₂, ◌∙◌, arith, append_assoc, append-nil, eqb}
+use Rattle.std.proofs.Common.{◌≡◌, ℕ, zero, suc, ◌+◌, ◌*◌, ◌-◌, ◌/◌, ◌%◌, ◌<◌, ◌≤◌, List, [], ◌∷◌, ◌++◌, length, take, drop, get_or, set, map, sym, ap, ◌∙◌, arith, append_assoc, append-nil}
 use Rattle.std.specs.List.{AllZip}
 use Rattle.std.specs.Prelude.{vec_capacity, vec_len, slice_set}
-use Rattle.std.proofs.lemmas.List.{take_more_set, drop-set-lt, drop_more, take-append-drop, map-append, map_push, map-set, set-get_or, get_or-map, get_or_append_left, get_or_default}
-use Rattle.std.proofs.lemmas.Bool.{cases_eq, eq-eqb, ne_eqb}
+use Rattle.std.proofs.lemmas.List.{take_more_set, drop-set-lt, drop_more, take-append-drop, map-append, map-set, set-get_or, get_or-map, get_or_append_left, get_or_default}
+use Rattle.std.proofs.lemmas.Bool.{eq-eqb, ne_eqb}
 use Rattle.gl_merkle.specs.Tree.{inner_of}
-use Rattle.gl_merkle.specs.Levels.{Level, nodes_of, rooms_of, AreRoomy, HasRoom, with_node, cut_to, base_levels}
+use Rattle.gl_merkle.specs.Levels.{Level, nodes_of, rooms_of, AreRoomy, HasRoom, with_node, base_levels}
 use Rattle.gl_merkle.proofs.LevelLemmas.{base_levels-even, base_levels-odd}
 
 -- what stays of each level stays at a write that keeps it

@@ -1,5 +1,5 @@
 -- What a frontier stands for, and what its calls keep of it.
-use Rattle.std.specs.Prelude.{◌≡◌, ℕ, ◌+◌, ◌-◌, ◌*◌, ◌/◌, ◌%◌, ◌≤◌, List, [], ◌∷◌, ◌++◌, length, take, drop, slice_index_or}
+use Rattle.std.specs.Prelude.{◌≡◌, ℕ, ◌+◌, ◌%◌, ◌≤◌, List, [], ◌++◌, length, drop, slice_index_or}
 use Rattle.gl_merkle.specs.Peaks.{peaks_of}
 use Rattle.gl_merkle.specs.Levels.{Level, nodes_of, rooms_of, AreSized, AreRoomy, Cover}
 

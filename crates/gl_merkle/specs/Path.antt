@@ -1,5 +1,5 @@
 -- The way from a leaf to the root (RFC 9162, section 2.1.3, inclusion proofs).
-use Rattle.std.specs.Prelude.{◌≡◌, ℕ, zero, suc, ◌-◌, ◌^◌, List, [], ◌∷◌, ◌++◌, length, take, drop, fold, nat_le, if◌then◌else◌}
+use Rattle.std.specs.Prelude.{ℕ, zero, suc, ◌-◌, ◌^◌, List, [], ◌∷◌, ◌++◌, length, take, drop, fold, nat_le, if◌then◌else◌}
 use Rattle.gl_merkle.specs.declared.tree.Step.{Step}
 use Rattle.gl_merkle.specs.declared.tree.Step.TheVariants.{Left, Right}
 use Rattle.gl_merkle.specs.Tree.{inner_of, root_within}

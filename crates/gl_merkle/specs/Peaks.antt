@@ -1,6 +1,6 @@
 -- The peaks of a list of leaves: the roots of its complete subtrees, greatest first, of which there are as many as the
 -- number of leaves has ones in binary. The root follows from them alone.
-use Rattle.std.specs.Prelude.{◌≡◌, ℕ, zero, suc, ◌^◌, List, [], ◌∷◌, length, take, drop, nat_le, if◌then◌else◌}
+use Rattle.std.specs.Prelude.{ℕ, zero, suc, ◌^◌, List, [], ◌∷◌, length, take, drop, nat_le, if◌then◌else◌}
 use Rattle.gl_merkle.specs.Tree.{inner_of, root_within}
 
 -- the peaks of fewer than 2 ^ h leaves: where there are half of 2 ^ h or more, their root comes first, and then the

@@ -1,6 +1,6 @@
 -- The Merkle tree over a list of digests, each a list of bytes: the tree of RFC 9162, section 2.1.1, over leaves that
 -- are hashed already, with no byte before a node's children.
-use Rattle.std.specs.Prelude.{◌≡◌, ℕ, zero, suc, ◌^◌, List, [], ◌∷◌, ◌++◌, length, take, drop, nat_le, slice_index_or, if◌then◌else◌}
+use Rattle.std.specs.Prelude.{ℕ, zero, suc, ◌^◌, List, [], ◌++◌, length, take, drop, nat_le, slice_index_or, if◌then◌else◌}
 use Rattle.sha2.specs.Sha256.{sha256}
 
 -- an inner node: the SHA-256 of its left and then its right child

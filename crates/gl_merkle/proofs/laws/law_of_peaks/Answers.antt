@@ -1,4 +1,4 @@
-use Rattle.std.proofs.Common.{◌∙◌, length, sym, ap, arith}
+use Rattle.std.proofs.Common.{length}
 use Rattle.gl_merkle.specs.Tree.{root_of}
 use Rattle.gl_merkle.specs.Peaks.{peaks_of}
 use Rattle.gl_merkle.proofs.TreeLemmas.{below_pow}

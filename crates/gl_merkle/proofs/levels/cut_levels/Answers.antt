@@ -1,4 +1,4 @@
-use Rattle.std.proofs.Common.{◌≡◌, ℕ, ◌/◌, ◌<◌, List, ◌∷◌, length, take, get_or, sym, ap, ◌∙◌, arith}
+use Rattle.std.proofs.Common.{ℕ, ◌/◌, ◌<◌, List, ◌∷◌, length, take, get_or, sym, ap, ◌∙◌, arith}
 use Rattle.std.specs.Prelude.{vec_capacity}
 use Rattle.gl_merkle.specs.Levels.{Level, cut_to}
 use Rattle.gl_merkle.proofs.WriteLemmas.{nodes_of-step, map-set_same}

@@ -1,7 +1,6 @@
-use Rattle.std.proofs.Common.{◌≡◌, ℕ, ◌/◌, ◌<◌, ◌≤◌, List, [], ◌∷◌, ◌++◌, length, take, get_or, refl, sym, ap, ◌∙◌, arith, append-nil}
-use Rattle.std.specs.Prelude.{vec_capacity}
+use Rattle.std.proofs.Common.{◌<◌, [], length, refl, ◌∙◌, arith, append-nil}
 use Rattle.std.proofs.lemmas.List.{take_all}
-use Rattle.gl_merkle.specs.Levels.{Level, AreRoomy, rooms_of}
+use Rattle.gl_merkle.specs.Levels.{Level, AreRoomy}
 use Rattle.gl_merkle.proofs.WriteLemmas.{map-set_same, rooms_of-grown, AreRoomy-step, AllZip-le_refl}
 use Rattle.gl_merkle.proofs.levels.reserve_levels.Goals as goal
 

@@ -1,4 +1,4 @@
-use Rattle.std.proofs.Common.{◌≡◌, ◌≤◌, None, take, drop}
+use Rattle.std.proofs.Common.{◌≡◌, ◌≤◌, None, drop}
 use Rattle.gl_merkle.specs.Levels.{nodes_of, HoldFirst, tail_of}
 use Rattle.gl_merkle.proofs.levels.root_of_levels.Given as goal
 

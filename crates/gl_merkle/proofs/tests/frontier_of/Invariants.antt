@@ -1,4 +1,4 @@
-use Rattle.std.proofs.Common.{◌≡◌, length}
+use Rattle.std.proofs.Common.{◌≡◌}
 use Rattle.gl_merkle.specs.Frontier.{count_of}
 use Rattle.gl_merkle.proofs.tests.frontier_of.Given as goal
 

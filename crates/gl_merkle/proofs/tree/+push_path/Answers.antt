@@ -1,4 +1,4 @@
-use Rattle.std.proofs.Common.{◌≡◌, ℕ, List, [], ◌∷◌, ◌++◌, sym, ap, ◌∙◌, arith, rules, append_assoc, append-nil}
+use Rattle.std.proofs.Common.{sym, arith, append_assoc, append-nil}
 use Rattle.gl_merkle.proofs.TreeLemmas.{path_of-one, path_of-left, path_of-right}
 use Rattle.gl_merkle.proofs.tree.+push_path.Goals as goal
 

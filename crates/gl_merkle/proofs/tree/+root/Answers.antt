@@ -1,5 +1,5 @@
-use Rattle.std.proofs.Common.{◌≡◌, ℕ, List, [], ◌∷◌, length, slice_index_or, sym, ap, ◌∙◌, arith}
-use Rattle.gl_merkle.specs.Tree.{inner_of, root_of, root_within}
+use Rattle.std.proofs.Common.{sym, ◌∙◌, arith}
+use Rattle.gl_merkle.specs.Tree.{root_within}
 use Rattle.gl_merkle.proofs.TreeLemmas.{root_of-within, root_of-split}
 use Rattle.gl_merkle.proofs.tree.+root.Goals as goal
 

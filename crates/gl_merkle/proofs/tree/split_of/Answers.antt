@@ -1,4 +1,4 @@
-use Rattle.std.proofs.Common.{suc, ◌*◌, ◌^◌, ◌≡◌, ap, ◌∙◌, sym, arith}
+use Rattle.std.proofs.Common.{suc, ◌*◌, ap, ◌∙◌, sym, arith}
 use Rattle.std.proofs.Math.Nat.{pow-suc}
 use Rattle.gl_merkle.proofs.tree.split_of.Goals as goal
 

@@ -1,4 +1,4 @@
-use Rattle.std.proofs.Common.{◌≡◌, ℕ, ◌-◌, ◌*◌, ◌^◌, ◌<◌}
+use Rattle.std.proofs.Common.{◌≡◌, ℕ, ◌-◌, ◌^◌, ◌<◌}
 use Rattle.gl_merkle.proofs.tree.split_of.Given as goal
 
 abbrev pub invariant-loop-width : goal.invariant-loop-width

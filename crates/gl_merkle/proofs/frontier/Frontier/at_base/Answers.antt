@@ -1,4 +1,3 @@
-use Rattle.std.proofs.Common.{◌≡◌, arith}
 use Rattle.gl_merkle.proofs.FrontierLemmas.{AreLevels-base, leaves_above-base}
 use Rattle.gl_merkle.proofs.frontier.Frontier.at_base.Goals as goal
 

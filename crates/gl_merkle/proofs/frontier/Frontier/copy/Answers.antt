@@ -1,4 +1,4 @@
-use Rattle.std.proofs.Common.{◌≡◌, ap, ◌∙◌}
+use Rattle.std.proofs.Common.{ap, ◌∙◌}
 use Rattle.gl_merkle.specs.Levels.{nodes_of}
 use Rattle.gl_merkle.proofs.FrontierLemmas.{AreLevels-copy}
 use Rattle.gl_merkle.proofs.frontier.Frontier.copy.Goals as goal

@@ -1,5 +1,4 @@
-use Rattle.std.proofs.Common.{◌≡◌, ◌+◌, ◌≤◌, length, refl, ap, ◌∙◌, arith}
-use Rattle.std.specs.Vec.{with_items}
+use Rattle.std.proofs.Common.{refl, ap, ◌∙◌, arith}
 use Rattle.std.proofs.lemmas.List.{with_items_is}
 use Rattle.gl_merkle.specs.Levels.{nodes_of, rooms_of, cut_to}
 use Rattle.gl_merkle.proofs.FrontierLemmas.{AreLevels-cut, leaves_above-count, leaves_above-cut}

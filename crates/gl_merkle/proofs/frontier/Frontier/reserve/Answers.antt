@@ -1,7 +1,6 @@
-use Rattle.std.proofs.Common.{◌≡◌, ◌+◌, ◌≤◌, length, refl, ap, ◌∙◌, arith}
-use Rattle.std.specs.Vec.{with_items}
+use Rattle.std.proofs.Common.{ap, ◌∙◌, arith}
 use Rattle.std.proofs.lemmas.List.{with_items_is}
-use Rattle.gl_merkle.specs.Levels.{nodes_of, rooms_of, AreRoomy}
+use Rattle.gl_merkle.specs.Levels.{nodes_of, rooms_of}
 use Rattle.gl_merkle.proofs.WriteLemmas.{AreRoomy-grown}
 use Rattle.gl_merkle.proofs.FrontierLemmas.{AreLevels-room}
 use Rattle.gl_merkle.proofs.frontier.Frontier.reserve.Goals as goal

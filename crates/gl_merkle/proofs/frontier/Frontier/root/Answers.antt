@@ -1,4 +1,4 @@
-use Rattle.std.proofs.Common.{◌≡◌, ◌+◌, ◌≤◌, None, length, ap, sym, ◌∙◌, arith}
+use Rattle.std.proofs.Common.{None, ap, sym, ◌∙◌, arith}
 use Rattle.gl_merkle.specs.Levels.{nodes_of, tail_of}
 use Rattle.gl_merkle.proofs.FrontierLemmas.{HoldFirst-sized, leaves_above-count, root-some, root-is}
 use Rattle.gl_merkle.proofs.frontier.Frontier.root.Goals as goal

@@ -6,3 +6,4 @@ pub mod LevelLemmas
 pub mod WriteLemmas
 pub mod FrontierLemmas
 pub mod ReachLemmas
+pub mod ContentLemmas

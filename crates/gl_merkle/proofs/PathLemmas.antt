@@ -71,3 +71,34 @@ collide-climb a (x ∷ s) b (y ∷ t) len ne same meet =
       | inl same_node ↦ inl (input_of-differ a b x y len ne same.0, sym (joined-input a x) ∙ (bytes_eq-Decides (joined a x) (joined b y)).0 same_node ∙ joined-input b y)
       | inr other_node ↦ inr (collide-climb (joined a x) s (joined b y) t (length-joined a x ∙ sym (length-joined b y)) (λ e. both_ways _ other_node ((bytes_eq-Decides (joined a x) (joined b y)).1 e)) same.1 meet)
     ]
+
+-- ---- the sides of a path hang on the place and the number of leaves alone
+
+HaveSameSides-append : (s t : List Step) (x y : Step) → HaveSameSides s t → IsSameSide x y → HaveSameSides (s ++ x ∷ []) (t ++ y ∷ [])
+HaveSameSides-append [] [] x y h same = (same, tt)
+HaveSameSides-append [] (z ∷ t) x y h same = absurd h
+HaveSameSides-append (w ∷ s) [] x y h same = absurd h
+HaveSameSides-append (w ∷ s) (z ∷ t) x y h same = (h.0, HaveSameSides-append s t x y h.1 same)
+
+sides_at_zero : (ls ms : List (List ℕ)) (i : ℕ) → HaveSameSides (path_within 0 ls i) (path_within 0 ms i)
+unfolding path_within
+sides_at_zero ls ms i = tt
+
+pub HaveSameSides-path : (h : ℕ) (ls ms : List (List ℕ)) (i : ℕ) → length ls ≡ length ms → HaveSameSides (path_within h ls i) (path_within h ms i)
+HaveSameSides-path zero ls ms i e = sides_at_zero ls ms i
+HaveSameSides-path (suc h) ls ms i e =
+    elim (cases_lt (2 ^ h) (length ls)) [
+      | inr le ↦ rw (path_within-low h ls i le, path_within-low h ms i (omega arith)) (HaveSameSides-path h ls ms i e)
+      | inl lt ↦ elim (cases_lt (2 ^ h) i) [
+        | inr left ↦ (
+            let one = length-take-le (2 ^ h) ls (omega arith) in
+            let two = length-take-le (2 ^ h) ms (omega arith) in
+            rw (path_within-left h ls i lt left, path_within-left h ms i (omega arith) left)
+            (HaveSameSides-append _ _ (Right (root_within h (drop (2 ^ h) ls))) (Right (root_within h (drop (2 ^ h) ms))) (HaveSameSides-path h (take (2 ^ h) ls) (take (2 ^ h) ms) i (one ∙ sym two)) tt))
+        | inl right ↦ (
+            let one = length-drop (2 ^ h) ls in
+            let two = length-drop (2 ^ h) ms in
+            rw (path_within-right h ls i lt right, path_within-right h ms i (omega arith) right)
+            (HaveSameSides-append _ _ (Left (root_within h (take (2 ^ h) ls))) (Left (root_within h (take (2 ^ h) ms))) (HaveSameSides-path h (drop (2 ^ h) ls) (drop (2 ^ h) ms) (i - 2 ^ h) (omega arith)) tt))
+      ]
+    ]

@@ -23,9 +23,11 @@ pub fn law_of_climb()
 {}
 
 /// Two ways with their siblings on the same sides, from different leaves to one root, hash two
-/// different inputs to one digest.
+/// different inputs to one digest. So do the paths of one index in lists of one length.
 pub fn law_of_collision()
-    ensures { (a b : List ℕ) (s t : List Step) → length a ≡ 32 → length b ≡ 32 → a ≢ b →
+    ensures sides { (one other : List (List ℕ)) (index : ℕ) → length one ≡ length other →
+        HaveSameSides (path_of one index) (path_of other index) }
+    ensures collide { (a b : List ℕ) (s t : List Step) → length a ≡ 32 → length b ≡ 32 → a ≢ b →
         HaveSameSides s t → climb_of a s ≡ climb_of b t → Collide a s b t }
 {}
 

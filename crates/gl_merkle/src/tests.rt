@@ -125,7 +125,7 @@ fn paths_written_out(rt: HostRuntime) -> Result<(), Fail> {
     Ok(())
 }
 
-// The frontier of these leaves gives the plain program's root, peaks' count and paths above its base.
+// The frontier of these leaves gives the plain program's root, and its paths above the base.
 fn agrees(
     rt: &impl Abort,
     alloc: Global,
@@ -176,6 +176,20 @@ fn over_base(alloc: Global, whole: &Frontier, base: usize) -> Result<Frontier, A
 {
     let peaks = whole.peaks(base as u64)?;
     Frontier::at_base(alloc, base as u64, &peaks)
+}
+
+// The peaks of seven leaves, written out, and the root from them.
+#[test]
+fn peaks_written_out(rt: HostRuntime) -> Result<(), Fail> {
+    let alloc = rt.alloc();
+    let all = [0, 1, 2, 3, 4, 5, 6].map(leaf);
+    let frontier = frontier_of(alloc, &all)?;
+    let peaks = frontier.peaks(7)?;
+    let four = over(over(all[0], all[1]), over(all[2], all[3]));
+    let two = over(all[4], all[5]);
+    assert_eq!(rt; peaks.as_slice(), [four, two, all[6]].as_slice());
+    assert_eq!(rt; frontier.root(), over(four, over(two, all[6])));
+    Ok(())
 }
 
 // Every size to 70, every index, and every base below the size.

@@ -1,0 +1,224 @@
+-- What the calls of a frontier keep of its levels, and what they read from them.
+use Rattle.std.proofs.Common.{◌≡◌, ℕ, zero, suc, ◌+◌, ◌*◌, ◌-◌, ◌/◌, ◌%◌, ◌^◌, ◌<◌, ◌≤◌, List, [], ◌∷◌, ◌++◌, Some, None, length, take, drop, get_or, refl, sym, ap, ◌∙◌, arith, length-append, append_assoc, append-nil, inl, inr, count_ones, is_some, true}
+use Rattle.std.specs.Prelude.{vec_capacity}
+use lib.Count.{ones_step}
+use Rattle.std.proofs.Math.Nat.{pow-suc}
+use Rattle.std.proofs.lemmas.Nat.{ones_le_self}
+use Rattle.std.proofs.lemmas.Bool.{cases_eq, eq-eqb, ne_eqb}
+use Rattle.std.proofs.lemmas.List.{length-map, drop-append-le, drop-take, take_all, length-drop, length-take-le}
+use Rattle.gl_merkle.specs.Tree.{root_of}
+use Rattle.gl_merkle.specs.Path.{path_of}
+use Rattle.gl_merkle.specs.Peaks.{peaks_of}
+use Rattle.gl_merkle.specs.Levels.{Level, nodes_of, rooms_of, AreSized, AreRoomy, HoldFirst, HasRoom, with_node, cut_to, base_levels, tail_of, steps_of, level_peaks}
+use Rattle.gl_merkle.specs.Frontier.{leaves_above, AreLevels}
+use Rattle.gl_merkle.proofs.TreeLemmas.{root_of-within, path_of-within}
+use Rattle.gl_merkle.proofs.PeakLemmas.{peaks_of-within}
+use Rattle.gl_merkle.proofs.LevelLemmas.{Cover-with_node, AreSized-with_node, Cover-cut_to, AreSized-cut_to, Cover-base_levels, AreSized-base_levels, base_levels-even, base_levels-odd, tail_of-root, tail_of-some, steps_of-path, level_peaks-peaks}
+
+-- ---- room
+
+pub AreRoomy-sized : (vs : List Level) (b n : ℕ) → AreSized b n (nodes_of vs) → AreRoomy b n (rooms_of vs)
+AreRoomy-sized [] b n h = tt
+AreRoomy-sized (v ∷ vs) b n h = let kept = v.ok in (omega (arith, h.0), AreRoomy-sized vs (b / 2) (n / 2) h.1)
+
+pub HasRoom-sized : (vs : List Level) (b n m : ℕ) → AreSized b n (nodes_of vs) → AreRoomy b m (rooms_of vs) → n < m → HasRoom vs
+HasRoom-sized [] b n m h r lt = tt
+HasRoom-sized (v ∷ vs) b n m h r lt = let kept = v.ok in (omega (arith, h.0, r.0), λ odd. HasRoom-sized vs (b / 2) (n / 2) (m / 2) h.1 r.1 (omega (arith, h.0, odd)))
+
+pub HoldFirst-sized : (rs : List (List (List ℕ))) (b n m : ℕ) → m ≤ n → AreSized b n rs → HoldFirst b m rs
+HoldFirst-sized [] b n m le h = tt
+HoldFirst-sized (r ∷ rs) b n m le h = (omega (arith, h.0), HoldFirst-sized rs (b / 2) (n / 2) (m / 2) (omega arith) h.1)
+
+-- ---- the leaves above the base
+
+above : ℕ → List (List (List ℕ)) → List (List ℕ)
+above b rs = drop (b % 2) (get_or rs 0 [])
+
+count_above : (rs : List (List (List ℕ))) (b n : ℕ) → AreSized b n rs → b ≤ n → 0 < length rs → b + length (above b rs) ≡ n
+unfolding above
+count_above [] b n h le some = absurd (omega arith)
+count_above (r ∷ rs) b n h le some = let size = length-drop (b % 2) r in omega (arith, h.0)
+
+above-with_node : (rs : List (List (List ℕ))) (b n : ℕ) (x : List ℕ) → AreSized b n rs → b ≤ n → 0 < length rs → above b (with_node rs x) ≡ above b rs ++ x ∷ []
+unfolding above
+above-with_node [] b n x h le some = absurd (omega arith)
+above-with_node (r ∷ rs) b n x h le some = drop-append-le (b % 2) r (x ∷ []) (omega (arith, h.0))
+
+above-cut_to : (rs : List (List (List ℕ))) (b n : ℕ) → b ≤ n → 0 < length rs → above b (cut_to b n rs) ≡ take (n - b) (above b rs)
+unfolding above
+above-cut_to [] b n le some = absurd (omega arith)
+above-cut_to (r ∷ rs) b n le some =
+    let whole : b % 2 + (n - b) ≡ n - b / 2 * 2 = omega arith in
+    ap (λ k. drop (b % 2) (take k r)) (sym whole) ∙ drop-take (b % 2) (n - b) r
+
+above-base : (k b : ℕ) (ps : List (List ℕ)) → above b (base_levels (suc k) b ps) ≡ []
+unfolding above
+above-base k b ps =
+    elim (cases_eq (b % 2) 0) [
+      | inl even ↦ rw (base_levels-even k b ps even, even)
+      | inr odd ↦ (let one : b % 2 ≡ 1 = omega arith in rw (base_levels-odd k b ps one, one))
+    ]
+
+length-nodes_of : (vs : List Level) → length (nodes_of vs) ≡ length vs
+length-nodes_of vs = length-map vs (λ (v : Level). v.items)
+
+height_of : (vs ws : List Level) → rooms_of ws ≡ rooms_of vs → length ws ≡ length vs
+height_of vs ws e = sym (length-map ws (λ (v : Level). vec_capacity v)) ∙ ap length e ∙ length-map vs (λ (v : Level). vec_capacity v)
+
+pub leaves_above-count : (b : ℕ) (ps : List (List ℕ)) (n m : ℕ) (vs : List Level) → AreLevels b ps n m vs → b + length (leaves_above b vs) ≡ n
+unfolding above
+leaves_above-count b ps n m vs h = count_above (nodes_of vs) b n h.sized h.from_base (omega (arith, length-nodes_of vs, h.height))
+
+pub leaves_above-push : (b : ℕ) (ps : List (List ℕ)) (n m : ℕ) (vs ws : List Level) (x : List ℕ) → AreLevels b ps n m vs → nodes_of ws ≡ with_node (nodes_of vs) x → leaves_above b ws ≡ leaves_above b vs ++ x ∷ []
+unfolding above
+leaves_above-push b ps n m vs ws x h e = ap (above b) e ∙ above-with_node (nodes_of vs) b n x h.sized h.from_base (omega (arith, length-nodes_of vs, h.height))
+
+pub leaves_above-cut : (b : ℕ) (ps : List (List ℕ)) (n m k : ℕ) (vs ws : List Level) → AreLevels b ps n m vs → b ≤ k → nodes_of ws ≡ cut_to b k (nodes_of vs) → leaves_above b ws ≡ take (k - b) (leaves_above b vs)
+unfolding above
+leaves_above-cut b ps n m k vs ws h le e = ap (above b) e ∙ above-cut_to (nodes_of vs) b k le (omega (arith, length-nodes_of vs, h.height))
+
+pub leaves_above-base : (b : ℕ) (ps : List (List ℕ)) (ws : List Level) → nodes_of ws ≡ base_levels 64 b ps → leaves_above b ws ≡ []
+unfolding above
+leaves_above-base b ps ws e = ap (above b) e ∙ above-base 63 b ps
+
+pub leaves_above-same : (b : ℕ) (vs ws : List Level) → nodes_of ws ≡ nodes_of vs → leaves_above b ws ≡ leaves_above b vs
+unfolding above
+leaves_above-same b vs ws e = ap (above b) e
+
+pub take_past : (xs ys : List (List ℕ)) (k b : ℕ) → length xs ≡ b → b ≤ k → take k (xs ++ ys) ≡ xs ++ take (k - b) ys
+take_past [] ys k b size le = let none : k ≡ k - b = omega arith in ap (λ n. take n ys) none
+take_past (x ∷ xs) ys zero b size le = absurd (omega arith)
+take_past (x ∷ xs) ys (suc k) b size le =
+    let less : k - (b - 1) ≡ suc k - b = omega arith in
+    ap (λ r. x ∷ r) (take_past xs ys k (b - 1) (omega arith) (omega arith) ∙ ap (λ n. xs ++ take n ys) less)
+
+-- ---- what the calls keep
+
+pub AreLevels-push : (b : ℕ) (ps : List (List ℕ)) (n m : ℕ) (vs ws : List Level) (x : List ℕ) → AreLevels b ps n m vs → n < m → nodes_of ws ≡ with_node (nodes_of vs) x → rooms_of ws ≡ rooms_of vs → AreLevels b ps (n + 1) m ws
+AreLevels-push b ps n m vs ws x h lt nodes rooms =
+    let leaves = leaves_above-push b ps n m vs ws x h nodes in
+    let count = leaves_above-count b ps n m vs h in
+    record {
+      height = height_of vs ws rooms ∙ h.height;
+      from_base = omega (arith, h.from_base);
+      within = omega arith;
+      sized = rw nodes (AreSized-with_node (nodes_of vs) b n x h.sized);
+      roomy = rw rooms h.roomy;
+      cover = λ below size peaks.
+          rw (leaves, nodes, ← append_assoc)
+          (Cover-with_node (nodes_of vs) b (below ++ leaves_above b vs) x (omega (arith, length-append below (leaves_above b vs), size)) (h.cover below size peaks));
+    }
+
+pub AreLevels-cut : (b : ℕ) (ps : List (List ℕ)) (n m k : ℕ) (vs ws : List Level) → AreLevels b ps n m vs → b ≤ k → k ≤ n → nodes_of ws ≡ cut_to b k (nodes_of vs) → rooms_of ws ≡ rooms_of vs → AreLevels b ps k m ws
+AreLevels-cut b ps n m k vs ws h low high nodes rooms =
+    let leaves = leaves_above-cut b ps n m k vs ws h low nodes in
+    record {
+      height = height_of vs ws rooms ∙ h.height;
+      from_base = low;
+      within = omega (arith, h.within);
+      sized = rw nodes (AreSized-cut_to (nodes_of vs) b n k low high h.sized);
+      roomy = rw rooms h.roomy;
+      cover = λ below size peaks.
+          rw (leaves, nodes, ← take_past below (leaves_above b vs) k b size low) (Cover-cut_to (nodes_of vs) b k (below ++ leaves_above b vs) low (h.cover below size peaks));
+    }
+
+pub AreLevels-room : (b : ℕ) (ps : List (List ℕ)) (n m k : ℕ) (vs ws : List Level) → AreLevels b ps n m vs → n ≤ k → length ws ≡ length vs → nodes_of ws ≡ nodes_of vs → AreRoomy b k (rooms_of ws) → AreLevels b ps n k ws
+AreLevels-room b ps n m k vs ws h le size nodes room =
+    record {
+      height = size ∙ h.height;
+      from_base = h.from_base;
+      within = le;
+      sized = rw nodes h.sized;
+      roomy = room;
+      cover = λ below count peaks. rw nodes (h.cover below count peaks);
+    }
+
+pub AreLevels-copy : (b : ℕ) (ps qs : List (List ℕ)) (n m : ℕ) (vs ws : List Level) → AreLevels b ps n m vs → qs ≡ ps → nodes_of ws ≡ nodes_of vs → AreLevels b qs n n ws
+AreLevels-copy b ps qs n m vs ws h same nodes =
+    let size : length ws ≡ length vs = sym (length-nodes_of ws) ∙ ap length nodes ∙ length-nodes_of vs in
+    rw same (AreLevels-room b ps n m n vs ws h (omega arith) size nodes (AreRoomy-sized ws b n (rw nodes h.sized)))
+
+length-base_levels : (k b : ℕ) (ps : List (List ℕ)) → length (base_levels k b ps) ≡ k
+unfolding base_levels
+length-base_levels zero b ps = refl
+length-base_levels (suc k) b ps =
+    elim (cases_eq (b % 2) 0) [
+      | inl even ↦ rw (eq-eqb _ _ even) (ap suc (length-base_levels k (b / 2) ps))
+      | inr odd ↦ rw (ne_eqb _ _ odd) (ap suc (length-base_levels k (b / 2) (take (length ps - 1) ps)))
+    ]
+
+pub AreLevels-base : (b : ℕ) (ps qs : List (List ℕ)) (ws : List Level) → b < 2 ^ 64 → qs ≡ ps → nodes_of ws ≡ base_levels 64 b ps → AreLevels b qs b b ws
+AreLevels-base b ps qs ws fits same nodes =
+    let leaves = leaves_above-base b ps ws nodes in
+    let sized : AreSized b b (nodes_of ws) = rw nodes (AreSized-base_levels 64 b ps) in
+    record {
+      height = sym (length-nodes_of ws) ∙ ap length nodes ∙ length-base_levels 64 b ps;
+      from_base = omega arith;
+      within = omega arith;
+      sized = sized;
+      roomy = AreRoomy-sized ws b b sized;
+      cover = λ below size peaks.
+          rw (leaves, nodes, append-nil)
+          (Cover-base_levels 64 b ps below size fits (sym (peaks_of-within 64 below (omega (arith, size, fits))) ∙ peaks ∙ same));
+    }
+
+-- ---- what the calls read
+
+-- the whole list of leaves, of which those below the base are any with these peaks
+whole_count : (b : ℕ) (ps : List (List ℕ)) (n m : ℕ) (vs : List Level) (below : List (List ℕ)) → AreLevels b ps n m vs → length below ≡ b → length (below ++ leaves_above b vs) ≡ n
+whole_count b ps n m vs below h size =
+    let count = leaves_above-count b ps n m vs h in
+    omega (arith, length-append below (leaves_above b vs))
+
+pub root-some : (b : ℕ) (ps : List (List ℕ)) (n m : ℕ) (vs : List Level) → AreLevels b ps n m vs → n < 2 ^ 64 → 0 < n → is_some (tail_of (nodes_of vs) b n None) ≡ true
+root-some b ps n m vs h fits some =
+    let height = length-nodes_of vs ∙ h.height in
+    tail_of-some (nodes_of vs) b n None (rw height fits) (inl some)
+
+pub root-is : (b : ℕ) (ps : List (List ℕ)) (n m : ℕ) (vs : List Level) (below : List (List ℕ)) → AreLevels b ps n m vs → n < 2 ^ 64 → 0 < n → length below ≡ b → peaks_of below ≡ ps → tail_of (nodes_of vs) b n None ≡ Some (root_of (below ++ leaves_above b vs))
+root-is b ps n m vs below h fits some size peaks =
+    let ls = below ++ leaves_above b vs in
+    let height = length-nodes_of vs ∙ h.height in
+    let count = whole_count b ps n m vs below h size in
+    let all : take n ls ++ [] ≡ ls = append-nil (take n ls) ∙ take_all n ls (omega arith) in
+    tail_of-root (nodes_of vs) b n None ls (h.cover below size peaks) h.from_base (omega arith) (rw height fits) (rw all (omega arith)) (rw (all, height) (omega arith))
+    ∙ ap Some (rw (all, height) (sym (root_of-within 64 ls (omega arith))))
+
+pub path-is : (b : ℕ) (ps : List (List ℕ)) (n m i k : ℕ) (vs : List Level) (below : List (List ℕ)) → AreLevels b ps n m vs → k < 2 ^ 64 → b < i → i ≤ k → k ≤ n → length below ≡ b → peaks_of below ≡ ps → steps_of (nodes_of vs) b k (i - 1) None ≡ path_of (take k (below ++ leaves_above b vs)) i
+path-is b ps n m i k vs below h fits low inside high size peaks =
+    let ls = below ++ leaves_above b vs in
+    let height = length-nodes_of vs ∙ h.height in
+    let count = whole_count b ps n m vs below h size in
+    let some = length-take-le k ls (omega arith) in
+    let all = append-nil (take k ls) in
+    let place : i - 1 + 1 ≡ i = omega arith in
+    steps_of-path (nodes_of vs) b k (i - 1) None ls (h.cover below size peaks) (omega arith) (omega arith) (omega arith) (rw all (omega arith)) (rw (all, height) (omega arith))
+    ∙ rw (all, height, place) (sym (path_of-within 64 (take k ls) i (omega arith)))
+
+pub peaks-are : (b : ℕ) (ps : List (List ℕ)) (n m k : ℕ) (vs : List Level) (below : List (List ℕ)) → AreLevels b ps n m vs → k < 2 ^ 64 → b ≤ k → k ≤ n → length below ≡ b → peaks_of below ≡ ps → level_peaks (nodes_of vs) b k ≡ peaks_of (take k (below ++ leaves_above b vs))
+peaks-are b ps n m k vs below h fits low high size peaks =
+    let ls = below ++ leaves_above b vs in
+    let height = length-nodes_of vs ∙ h.height in
+    let count = whole_count b ps n m vs below h size in
+    let some = length-take-le k ls (omega arith) in
+    level_peaks-peaks (nodes_of vs) b k ls (h.cover below size peaks) low (omega arith) (rw height (omega arith))
+    ∙ rw height (sym (peaks_of-within 64 (take k ls) (omega arith)))
+
+length-level_peaks : (rs : List (List (List ℕ))) (b n : ℕ) → n < 2 ^ length rs → length (level_peaks rs b n) ≡ count_ones n
+length-level_peaks [] b n fits =
+    let none : n ≡ 0 = omega arith in
+    let bound = ones_le_self 0 in
+    rw none (omega arith)
+length-level_peaks (r ∷ rs) b n fits =
+    let two = pow-suc 2 (length rs) in
+    let here = length-level_peaks rs (b / 2) (n / 2) (omega arith) in
+    let step = ones_step n in
+    elim (cases_eq (n % 2) 0) [
+      | inl even ↦ rw (eq-eqb _ _ even, append-nil) (omega arith)
+      | inr odd ↦ rw (ne_eqb _ _ odd, length-append) (omega arith)
+    ]
+
+pub peaks-count : (b : ℕ) (ps : List (List ℕ)) (n m k : ℕ) (vs : List Level) → AreLevels b ps n m vs → k < 2 ^ 64 → length (level_peaks (nodes_of vs) b k) ≡ count_ones k
+peaks-count b ps n m k vs h fits =
+    let height = length-nodes_of vs ∙ h.height in
+    length-level_peaks (nodes_of vs) b k (rw height fits)

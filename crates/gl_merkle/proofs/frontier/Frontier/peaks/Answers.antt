@@ -1,0 +1,30 @@
+use Rattle.std.proofs.Common.{length, ap, ◌∙◌, arith}
+use Rattle.std.proofs.lemmas.Result.{IfOk-weaker}
+use Rattle.gl_merkle.specs.Levels.{nodes_of, level_peaks}
+use Rattle.gl_merkle.proofs.FrontierLemmas.{HoldFirst-sized, leaves_above-count, peaks-are, peaks-count}
+use Rattle.gl_merkle.proofs.frontier.Frontier.peaks.Goals as goal
+
+pub peaks_of_levels-requires-clause-within : goal.peaks_of_levels-requires-clause-within
+peaks_of_levels-requires-clause-within c =
+    let f = c.self.inside in
+    let count = leaves_above-count f.base f.peaks.items f.len f.limit f.levels.items c.self.invariant in
+    let high = rw (← c.self.view_is) at c.requires.within in
+    rw c.deref.ensures.value (HoldFirst-sized (nodes_of f.levels.items) f.base f.len c.args.size (omega (arith, count, high)) c.self.invariant.sized)
+
+pub returns-clause-count : goal.returns-clause-count
+returns-clause-count c =
+    let f = c.self.inside in
+    IfOk-weaker c.peaks_of_levels.result _ _
+    (λ v e. ap length e ∙ ap (λ vs. length (level_peaks (nodes_of vs) f.base c.args.size)) c.deref.ensures.value ∙ peaks-count f.base f.peaks.items f.len f.limit c.args.size f.levels.items c.self.invariant c.ranges.size.fits)
+    c.peaks_of_levels.ensures
+
+pub returns-clause-peaks : goal.returns-clause-peaks
+returns-clause-peaks c =
+    let f = c.self.inside in
+    let count = leaves_above-count f.base f.peaks.items f.len f.limit f.levels.items c.self.invariant in
+    let low = rw (← c.self.view_is) at c.requires.from_base in
+    let high = rw (← c.self.view_is) at c.requires.within in
+    IfOk-weaker c.peaks_of_levels.result _ _
+    (λ v e. rw (← c.self.view_is) (λ below is. e ∙ ap (λ vs. level_peaks (nodes_of vs) f.base c.args.size) c.deref.ensures.value
+    ∙ peaks-are f.base f.peaks.items f.len f.limit c.args.size f.levels.items below c.self.invariant c.ranges.size.fits low (omega (arith, count, high)) is.count is.peaks))
+    c.peaks_of_levels.ensures

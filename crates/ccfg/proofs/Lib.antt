@@ -3,3 +3,4 @@ pub mod ReadingLemmas
 pub mod MachineLemmas
 pub mod PlayLemmas
 pub mod Played
+pub mod WordLemmas

@@ -7,3 +7,4 @@ pub mod Machine
 pub mod Printing
 pub mod Playing
 pub mod Owed
+pub mod Plans

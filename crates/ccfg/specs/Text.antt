@@ -150,6 +150,7 @@ unfoldable pub text_from : Settings → ℕ → ServiceWorld → List Line → L
 text_from s number w [] = []
 text_from s number w (l ∷ lines) = numbered number (printed s w l).text ++ text_from s (suc number) (printed s w l).world lines
 
+-- A schedule prints a line for its own first line, and then one for each line behind it.
 abbrev pub text_of_schedule : Schedule → List ℕ
 text_of_schedule Empty = []
-text_of_schedule (Service s lines) = numbered 1 (codes "ok") ++ text_from s 2 (begin (start_of s)) lines
+text_of_schedule (Service s lines) = codes "1 ok\n" ++ text_from s 2 (begin (start_of s)) lines

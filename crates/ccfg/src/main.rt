@@ -7,6 +7,7 @@ mod machine;
 mod outcome;
 mod playing;
 mod printing;
+mod program;
 mod reading;
 mod schedule;
 mod split;

@@ -1,6 +1,8 @@
 //! What the text of a schedule says.
 
-ghost use Rattle.std.specs.Prelude.{◌≡◌, ◌++◌, [], ◌∷◌, map, Some, None, is_none};
+ghost use Rattle.std.specs.Prelude.{◌≡◌, ◌++◌, [], ◌∷◌, map, Some, None, is_none, IfOk};
+ghost use Rattle.gl_service.specs.Single.{IsSingle};
+ghost use Rattle.ccfg.specs.Plans.{HasOneNode};
 ghost use Rattle.std.specs.Option.{option_map, option_copied};
 ghost use Rattle.std.specs.List.{list_all};
 ghost use Rattle.gl_base.specs.TxId.{parsed};
@@ -220,7 +222,8 @@ fn seed_of(text: &[u8]) -> Result<[u8; 32], Stop>
 /// What the first line says: a service of one node and one member, open, with its seed.
 #[tactic(auto, unfolding(crate::specs::Reading::settings_of))]
 fn settings_of(line: &[u8]) -> Result<Settings, Stop>
-    ensures { Gives (λ x. x) result (settings_of line.now) }
+    ensures gives { Gives (λ x. x) result (settings_of line.now) }
+    ensures single { IfOk result (λ settings. IsSingle settings) }
 {
     if !line.starts_with(b"world 1 0 1 open ".as_slice()) {
         return Err(Stop::NoReading);
@@ -251,7 +254,8 @@ fn commands_of(alloc: Global, lines: &[&[u8]]) -> Result<Vec<Line>, Stop>
 /// The schedule that a text is.
 #[tactic(auto, unfolding(crate::specs::Reading::reads, crate::specs::Reading::schedule_of))]
 pub fn read(alloc: Global, text: &[u8]) -> Result<Schedule, Stop>
-    ensures { Gives (λ x. x) result (reads text.now) }
+    ensures gives { Gives (λ x. x) result (reads text.now) }
+    ensures one_node { IfOk result (λ schedule. HasOneNode schedule) }
 {
     match lines_of(alloc, text)? {
         None => Err(Stop::NoReading),

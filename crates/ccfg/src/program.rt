@@ -1,0 +1,175 @@
+//! The whole program, over the objects that are handed in.
+
+ghost use Rattle.std.specs.Prelude.{◌≡◌, ◌≤◌, [], List, ℕ, IsTrue, ◌↔◌, Err, IfOk, IfErr, IfSome, length, map};
+ghost use Rattle.std.specs.String.{string_bytes};
+ghost use Rattle.std.specs.Io.KnownBytes.{Keeps};
+ghost use Rattle.gl_outside.specs.Fault.{Rose};
+ghost use Rattle.ccfg.specs.declared.ending.Ending.{Ending};
+ghost use Rattle.ccfg.specs.declared.ending.Ending.TheVariants.{Done};
+ghost use Rattle.ccfg.specs.Reading.{reads};
+ghost use Rattle.ccfg.specs.Owed.{AreWords, Answers, KeepsHeadline, Replays, Writes, bytes_limit, exit_status, of_reading, owed, refused};
+ghost use Rattle.ccfg.specs.declared.program.Plan.TheVariants.{Play};
+ghost use Rattle.ccfg.specs.Plans.{due_of, HasOneNode, PlaysOneNode, EndsPlayed};
+
+use crate::ending::{Ending, Fault};
+use crate::loading::{LoadStop, load};
+use crate::playing::play;
+use crate::reading::read;
+use crate::schedule::Schedule;
+use crate::split::line_count;
+use crate::stop::Stop;
+use gl_outside::{Sink, SinkFault, Source, write_whole};
+use std::alloc::{AllocError, Global};
+
+/// The most bytes that a schedule has.
+const BYTES_LIMIT: usize = 16_777_216;
+
+/// The most lines that a schedule has.
+const LINES_LIMIT: usize = 100_000;
+
+/// What there is to do: a schedule to play, or a fault to tell.
+#[derive(Debug, Drop)]
+pub enum Plan {
+    Play(Schedule),
+    Refuse(Fault),
+}
+
+fn is_replay(words: &[String]) -> bool
+    ensures { IsTrue result ↔ AreWords (map string_bytes words.now) }
+{
+    match words {
+        [word] => word.as_bytes() == b"replay".as_slice(),
+        _ => false,
+    }
+}
+
+/// What there is to do with a text within the limit on bytes.
+#[tactic(auto, unfolding(crate::specs::Owed::owed))]
+fn plan_of(alloc: Global, text: &[u8]) -> Result<Plan, AllocError>
+    requires { length text.now ≤ bytes_limit }
+    ensures due { IfOk result (λ plan. owed text.now ≡ due_of plan) }
+    ensures one_node { IfOk result (λ plan. PlaysOneNode plan) }
+{
+    if line_count(text) > LINES_LIMIT {
+        return Ok(Plan::Refuse(Fault::Lines));
+    }
+    match read(alloc, text) {
+        Ok(schedule) => Ok(Plan::Play(schedule)),
+        Err(Stop::NoReading) => Ok(Plan::Refuse(Fault::Schedule)),
+        Err(Stop::Memory) => Err(AllocError),
+    }
+}
+
+/// Why there is no plan.
+#[derive(Clone, Copy, Debug, PartialEq, Eq)]
+enum PlanStop {
+    Memory,
+    SourceFailed,
+}
+
+/// What there is to do with what a source gives.
+#[tactic(auto, unfolding(crate::specs::Owed::owed))]
+fn read_plan<S: Source>(alloc: Global, source: &mut S) -> Result<Plan, PlanStop>
+    ensures due { IfOk result (λ plan. IfSome (S.left source.old) (λ given. owed given ≡ due_of plan)) }
+    ensures ended { IfOk result (λ plan. EndsPlayed plan (S.ended source.new)) }
+    ensures one_node { IfOk result (λ plan. PlaysOneNode plan) }
+    ensures failed { result ≡ Err PlanStop.SourceFailed → Rose (S.faults source.old) (S.faults source.new) }
+{
+    match load(alloc, BYTES_LIMIT, source) {
+        Ok(text) => match plan_of(alloc, &text) {
+            Ok(plan) => Ok(plan),
+            Err(_) => Err(PlanStop::Memory),
+        },
+        Err(LoadStop::TooLong) => Ok(Plan::Refuse(Fault::Bytes)),
+        Err(LoadStop::Memory) => Err(PlanStop::Memory),
+        Err(LoadStop::Failed) => Err(PlanStop::SourceFailed),
+    }
+}
+
+/// Tells a fault.
+fn refuse<K: Sink>(fault: Fault, sink: &mut K) -> Ending
+    ensures { Writes result (K.holds sink.old) (K.holds sink.new) (K.faults sink.old) (K.faults sink.new) (refused fault) }
+{
+    match write_whole(sink, fault.line()) {
+        Ok(()) => Ending::Refused(fault),
+        Err(SinkFault::Failed) => Ending::SinkFailed,
+        Err(SinkFault::NoMemory) => Ending::Memory,
+    }
+}
+
+/// Plays a schedule; one without a service prints nothing.
+fn perform<K: Sink>(alloc: Global, schedule: &Schedule, sink: &mut K) -> Ending
+    requires { HasOneNode schedule.now }
+    ensures { Writes result (K.holds sink.old) (K.holds sink.new) (K.faults sink.old) (K.faults sink.new) (due_of (Play schedule.now)) }
+{
+    match schedule {
+        Schedule::Empty => Ending::Done,
+        Schedule::Service(settings, commands) => match play(alloc, *settings, commands, sink) {
+            Ok(()) => Ending::Done,
+            Err(SinkFault::Failed) => Ending::SinkFailed,
+            Err(SinkFault::NoMemory) => Ending::Memory,
+        },
+    }
+}
+
+fn carry_out<K: Sink>(alloc: Global, plan: &Plan, sink: &mut K) -> Ending
+    requires { PlaysOneNode plan.now }
+    ensures { Writes result (K.holds sink.old) (K.holds sink.new) (K.faults sink.old) (K.faults sink.new) (due_of plan.now) }
+{
+    match plan {
+        Plan::Refuse(fault) => refuse(*fault, sink),
+        Plan::Play(schedule) => perform(alloc, schedule, sink),
+    }
+}
+
+fn replay<S: Source, K: Sink>(alloc: Global, source: &mut S, sink: &mut K) -> Ending
+    ensures { Replays result (record {
+        words = []; given = S.left source.old; ended = S.ended source.new;
+        read_faults = S.faults source.old; read_faults_now = S.faults source.new;
+        held = K.holds sink.old; holds = K.holds sink.new;
+        write_faults = K.faults sink.old; write_faults_now = K.faults sink.new
+    }) }
+{
+    match read_plan(alloc, source) {
+        Ok(plan) => carry_out(alloc, &plan, sink),
+        Err(PlanStop::Memory) => Ending::Memory,
+        Err(PlanStop::SourceFailed) => Ending::SourceFailed,
+    }
+}
+
+fn run<S: Source, K: Sink>(alloc: Global, words: &[String], source: &mut S, sink: &mut K) -> Ending
+    ensures { Answers result (record {
+        words = map string_bytes words.now; given = S.left source.old; ended = S.ended source.new;
+        read_faults = S.faults source.old; read_faults_now = S.faults source.new;
+        held = K.holds sink.old; holds = K.holds sink.new;
+        write_faults = K.faults sink.old; write_faults_now = K.faults sink.new
+    }) }
+{
+    if is_replay(words) {
+        replay(alloc, source, sink)
+    } else {
+        refuse(Fault::Words, sink)
+    }
+}
+
+/// The whole program: the one word `replay` replays the schedule that the source gives, and prints
+/// what came of each of its lines. The answer is the exit status: 0 done, 2 other words, 3 the
+/// source failed, 4 the sink failed, 7 want of memory, 8 a limit is passed, 9 no schedule.
+pub fn top<S: Source, K: Sink>(
+    alloc: Global,
+    words: &[String],
+    source: &mut S,
+    sink: &mut K,
+) -> u8
+    // How the run ends, by its words, its source and its sink, and what was written.
+    ensures answers { (e : Ending) × (result ≡ exit_status e) × Answers e (record {
+        words = map string_bytes words.now; given = S.left source.old; ended = S.ended source.new;
+        read_faults = S.faults source.old; read_faults_now = S.faults source.new;
+        held = K.holds sink.old; holds = K.holds sink.new;
+        write_faults = K.faults sink.old; write_faults_now = K.faults sink.new
+    }) }
+    // Whatever bytes are read: of the service of their schedule, if they are one, the headline holds.
+    ensures headline { (given : List ℕ) → KeepsHeadline (reads given) }
+{
+    run(alloc, words, source, sink).status()
+}

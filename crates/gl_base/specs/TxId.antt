@@ -7,6 +7,7 @@ use Rattle.gl_base.specs.declared.tx_id.TxId.{TxId}
 use Rattle.gl_base.specs.declared.tx_id.TxIdFault.{TxIdFault}
 use Rattle.gl_base.specs.declared.tx_id.TxIdFault.TheVariants.{Empty, Digit, LeadingZero, TooBig, Zero, NoDot}
 
+-- A view is a u32, and a place has 40 bits.
 abbrev pub last_view : ℕ
 last_view = 2 ^ 32 - 1
 

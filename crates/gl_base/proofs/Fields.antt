@@ -1,12 +1,12 @@
 -- What is spelled as a field reads back, and what reads is spelled so.
-use Rattle.std.proofs.Common.{◌≡◌, ℕ, ◌+◌, ◌^◌, ◌<◌, ◌≤◌, nat_lt, false, List, ◌++◌, length, take, Option, None, Some, Ok, Err, refl, sym, ap, ◌∙◌, subst, length-append, arith}
+use Rattle.std.proofs.Common.{append_assoc, Result, Bool, cond, false, ◌==◌, IfOk, IsOkAnd, ◌/◌, ◌≢◌, ◌≡◌, ℕ, ◌+◌, ◌^◌, ◌<◌, ◌≤◌, nat_lt, false, List, ◌++◌, length, take, Option, None, Some, Ok, Err, refl, sym, ap, ◌∙◌, subst, length-append, arith}
 use Rattle.std.specs.List.{position}
 use Rattle.std.proofs.Math.Seq.{take-append_seam, drop-append_seam}
 use Rattle.std.proofs.lemmas.Bool.Decides.{nat_tests}
 use Rattle.std.proofs.lemmas.List.{take-append-drop, length-take-le}
 use Rattle.gl_base.specs.LittleEndian.{little_endian, AreBytes}
 use Rattle.gl_base.specs.declared.cut_fault.CutFault.{CutFault}
-use Rattle.gl_base.specs.Cut.{Unread, bytes_at, number_at, string_at, text_at, all_text, is_no_text}
+use Rattle.gl_base.specs.Cut.{Unread, bytes_at, number_at, string_at, text_at, all_text, is_no_text, field_spelling, FitsField, FitsText, Gives}
 use Rattle.gl_base.proofs.LittleEndianLaws.{length-little_endian, from_little_endian-little_endian, little_endian-from_little_endian}
 use Rattle.gl_base.proofs.Numbers.{Taken, bytes_at_ok, bytes_at_length, number_at_ok, string_at_ok}
 use Rattle.gl_base.proofs.Steps.{bind_ok, ok_injective}
@@ -112,3 +112,51 @@ pub number_not_refused : (size n : ℕ) (old : Unread) (fault : CutFault) (rest 
     → old.bytes ≡ little_endian size n ++ rest → ⊥
 number_not_refused size n old fault rest e small spelled =
     let there = number_there size n old rest small spelled in cc
+
+-- ---- what a read of bytes answers
+
+pub gives_only : {X : Type 0} → (view : X → List ℕ) (old new next : Unread) (r : Result X CutFault) (reading : Result (List ℕ × Unread) CutFault) (xs : List ℕ)
+    → Gives view r old new reading → reading ≡ Ok (xs, next) → IsOkAnd r (λ x. view x ≡ xs)
+gives_only view old new next (Ok x) reading xs g e =
+    let pair : ◌≡◌ {A = List ℕ × Unread} (view x, new) (xs, next) = ok_injective {A = List ℕ × Unread} {E = CutFault} _ _ (sym g ∙ e) in
+    ap (λ (p : List ℕ × Unread). p.0) pair
+gives_only view old new next (Err fault) reading xs g e =
+    let refused = g.0 in cc
+
+-- without a length
+pub plain_spelled : {X : Type 0} → (view : X → List ℕ) (width count : ℕ) (old new : Unread) (r : Result X CutFault) → width ≡ 0
+    → Gives view r old new (bytes_at count old) → IfOk r (λ x. old.bytes ≡ field_spelling width (view x) ++ new.bytes)
+plain_spelled view width count old new (Ok x) none g =
+    subst (λ (w : ℕ). old.bytes ≡ field_spelling w (view x) ++ new.bytes) (sym none) (bytes_at-spelled count old new (view x) g)
+plain_spelled view width count old new (Err fault) none g = tt
+
+pub plain_only : {X : Type 0} → (view : X → List ℕ) (width limit : ℕ) (old new : Unread) (r : Result X CutFault) → width ≡ 0
+    → Gives view r old new (bytes_at limit old) → (xs rest : List ℕ) → FitsField width limit xs → old.bytes ≡ field_spelling width xs ++ rest → IsOkAnd r (λ x. view x ≡ xs)
+plain_only view width limit old new r none g xs rest fits e =
+    let plain : old.bytes ≡ xs ++ rest = subst (λ (w : ℕ). old.bytes ≡ field_spelling w xs ++ rest) none e in
+    let next : Unread = record { at = old.at + length xs; bytes = rest } in
+    let there : bytes_at (length xs) old ≡ Ok (xs, next) =
+    ap (λ (bytes : List ℕ). bytes_at (length xs) (record { at = old.at; bytes = bytes })) plain ∙ bytes_at-append old.at xs rest in
+    gives_only view old new next r (bytes_at limit old) xs g (subst (λ (k : ℕ). bytes_at k old ≡ Ok (xs, next)) (fits.counted none) there)
+
+-- behind a length
+string_there : (size limit : ℕ) (old : Unread) (xs rest : List ℕ) → length xs ≤ limit → length xs < 256 ^ size
+    → old.bytes ≡ little_endian size (length xs) ++ (xs ++ rest) → string_at size limit old ≡ Ok (xs, record { at = old.at + size + length xs; bytes = rest })
+string_there size limit old xs rest within small e =
+    ap (λ (bytes : List ℕ). string_at size limit (record { at = old.at; bytes = bytes })) e ∙ string_at-spelled size limit old.at xs rest within small
+
+pub string_only : {X : Type 0} → (view : X → List ℕ) (width limit : ℕ) (old new : Unread) (r : Result X CutFault) → width ≢ 0
+    → Gives view r old new (string_at (width / 8) limit old) → (xs rest : List ℕ) → FitsField width limit xs → old.bytes ≡ field_spelling width xs ++ rest → IsOkAnd r (λ x. view x ≡ xs)
+string_only view width limit old new r some g xs rest fits e =
+    let within = fits.within some in
+    let counted : (width == 0) ≡ false = grind (arith, nat_tests) in
+    let spelled : old.bytes ≡ (little_endian (width / 8) (length xs) ++ xs) ++ rest =
+    subst (λ (b : Bool). old.bytes ≡ cond b xs (little_endian (width / 8) (length xs) ++ xs) ++ rest) counted e in
+    gives_only view old new _ r (string_at (width / 8) limit old) xs g
+    (string_there (width / 8) limit old xs rest within.0 within.1 (spelled ∙ append_assoc (little_endian (width / 8) (length xs)) xs rest))
+
+pub text_only : {X : Type 0} → (view : X → List ℕ) (limit : ℕ) (old new : Unread) (r : Result X CutFault)
+    → Gives view r old new (text_at limit old) → (xs rest : List ℕ) → FitsText limit xs → old.bytes ≡ little_endian 1 (length xs) ++ (xs ++ rest) → IsOkAnd r (λ x. view x ≡ xs)
+text_only view limit old new r g xs rest fits e =
+    gives_only view old new _ r (text_at limit old) xs g
+    (ap (λ (bytes : List ℕ). text_at limit (record { at = old.at; bytes = bytes })) e ∙ text_at-spelled limit old.at xs rest fits.within fits.small fits.visible)

@@ -1,7 +1,7 @@
 -- Fields read from the front of bytes, from left to right, and the first fault that is met.
-use Rattle.std.specs.Prelude.{◌≡◌, ℕ, ◌+◌, ◌/◌, Bool, not, List, length, take, drop, Option, None, Some, Result, Ok, Err, position, ◌==◌, nat_lt, if◌then◌else◌, ◌⊎◌}
+use Rattle.std.specs.Prelude.{◌≡◌, ◌≢◌, ℕ, ◌+◌, ◌/◌, ◌^◌, ◌<◌, ◌≤◌, Bool, not, List, ◌++◌, length, take, drop, Option, None, Some, Result, Ok, Err, position, ◌==◌, nat_lt, if◌then◌else◌, ◌⊎◌}
 use Rattle.std.specs.Int.{is_in_range}
-use Rattle.gl_base.specs.LittleEndian.{from_little_endian}
+use Rattle.gl_base.specs.LittleEndian.{little_endian, from_little_endian}
 use Rattle.gl_base.specs.Steps.{◌>>=◌}
 use Rattle.gl_base.specs.declared.cut_fault.CutFault.{CutFault}
 use Rattle.gl_base.specs.declared.cut_fault.CutFault.TheVariants.{Short, TooLong, NotText}
@@ -37,14 +37,24 @@ string_at size limit unread = do
 abbrev pub IsWidth : ℕ → Type 0
 IsWidth width = (width ≡ 0) ⊎ (width ≡ 8) ⊎ (width ≡ 16) ⊎ (width ≡ 32)
 
+-- A field of bytes by the width of its length.
 abbrev pub field_at : ℕ → ℕ → Unread → Result (List ℕ × Unread) CutFault
 field_at width limit unread = if width == 0 then bytes_at limit unread else string_at (width / 8) limit unread
+
+-- How such a field is spelled.
+abbrev pub field_spelling : ℕ → List ℕ → List ℕ
+field_spelling width xs = if width == 0 then xs else little_endian (width / 8) (length xs) ++ xs
+
+-- The bytes that such a field may hold.
+pub record FitsField (width limit : ℕ) (xs : List ℕ) : Type 0 where
+  pub counted : width ≡ 0 → length xs ≡ limit
+  pub within : width ≢ 0 → (length xs ≤ limit) × (length xs < 256 ^ (width / 8))
 
 -- A byte of a name is a visible ASCII character.
 abbrev pub is_no_text : ℕ → Bool
 is_no_text byte = not (is_in_range 0x21 0x7e byte)
 
--- The bytes are text, or the first that isn't is told; the first byte has a place.
+-- The bytes of a field, which begin at a place, are all text, or else the place of the first that isn't is told.
 abbrev pub all_text : ℕ → (List ℕ × Unread) → Option ℕ → Result (List ℕ × Unread) CutFault
 all_text start field None = Ok field
 all_text start field (Some i) = Err (NotText (start + i))
@@ -54,6 +64,12 @@ unfoldable pub text_at : ℕ → Unread → Result (List ℕ × Unread) CutFault
 text_at limit unread = do
   field ← string_at 1 limit unread
   all_text (unread.at + 1) field (position is_no_text field.0)
+
+-- A name of visible characters that fits its length.
+pub record FitsText (limit : ℕ) (xs : List ℕ) : Type 0 where
+  pub within : length xs ≤ limit
+  pub small : length xs < 256
+  pub visible : position is_no_text xs ≡ None
 
 -- What a read gave, seen by view, and what it left are what the reading gives; after a fault all is as before.
 abbrev pub Gives : {X Y : Type 0} → (X → Y) → Result X CutFault → Unread → Unread → Result (Y × Unread) CutFault → Type 0

@@ -1,8 +1,8 @@
 //! Fields read from the front of bytes.
 
-ghost use Rattle.std.specs.Prelude.{◌≡◌, ◌⊎◌, ℕ, List, ◌+◌, ◌/◌, ◌^◌, ◌<◌, ◌++◌, length, position, IfOk, Ok};
+ghost use Rattle.std.specs.Prelude.{◌≡◌, ◌⊎◌, ℕ, List, ◌+◌, ◌/◌, ◌^◌, ◌<◌, ◌++◌, length, position, IfOk, IsOkAnd, Ok};
 ghost use Rattle.gl_base.specs.LittleEndian.{little_endian};
-ghost use Rattle.gl_base.specs.Cut.{Unread, IsWidth, Gives, bytes_at, number_at, string_at, field_at, is_no_text, text_at};
+ghost use Rattle.gl_base.specs.Cut.{Unread, IsWidth, Gives, bytes_at, number_at, string_at, field_at, field_spelling, FitsField, FitsText, is_no_text, text_at};
 
 use crate::cut_fault::CutFault;
 use crate::number::{u8_of, u16_of, u32_of, u48_of, u64_of};
@@ -160,7 +160,8 @@ impl<'a> Cut<'a> {
     #[tactic(auto, unfolding(crate::specs::Cut::number_at))]
     fn length(&mut self, width: u32) -> Result<u64, CutFault>
         requires { (width ≡ 8) ⊎ (width ≡ 16) ⊎ (width ≡ 32) }
-        ensures { Gives (λ n. n) result self.old self.new (number_at (width / 8) self.old) }
+        ensures exact { Gives (λ n. n) result self.old self.new (number_at (width / 8) self.old) }
+        ensures spelled { IfOk result (λ n. self.old.bytes ≡ little_endian (width / 8) n ++ self.new.bytes) }
     {
         match width {
             8 => match self.u8() {
@@ -182,7 +183,8 @@ impl<'a> Cut<'a> {
     #[tactic(auto, unfolding(crate::specs::Cut::string_at))]
     fn string(&mut self, width: u32, limit: u64) -> Result<&'a [u8], CutFault>
         requires { (width ≡ 8) ⊎ (width ≡ 16) ⊎ (width ≡ 32) }
-        ensures { Gives (λ s. s.now) result self.old self.new (string_at (width / 8) limit self.old) }
+        ensures exact { Gives (λ s. s.now) result self.old self.new (string_at (width / 8) limit self.old) }
+        ensures spelled { IfOk result (λ s. self.old.bytes ≡ little_endian (width / 8) (length s.now) ++ (s.now ++ self.new.bytes)) }
     {
         let mut ahead = self.copy();
         let len = ahead.length(width)?;
@@ -198,7 +200,12 @@ impl<'a> Cut<'a> {
     /// width 0 there is no length, and `limit` is the number of the bytes.
     pub fn bytes(&mut self, width: u32, limit: u64) -> Result<&'a [u8], CutFault>
         requires { IsWidth width }
-        ensures { Gives (λ s. s.now) result self.old self.new (field_at width limit self.old) }
+        ensures exact { Gives (λ s. s.now) result self.old self.new (field_at width limit self.old) }
+
+        // What is read is spelled so, and what is spelled so is read.
+        ensures spelled { IfOk result (λ s. self.old.bytes ≡ field_spelling width s.now ++ self.new.bytes) }
+        ensures only { (xs rest : List ℕ) → FitsField width limit xs → self.old.bytes ≡ field_spelling width xs ++ rest →
+            IsOkAnd result (λ s. s.now ≡ xs) }
     {
         if width == 0 {
             self.take(limit)
@@ -207,11 +214,10 @@ impl<'a> Cut<'a> {
         }
     }
 
-    /// A name behind its length of 8 bits, which is `limit` at most: visible ASCII characters, 21
-    /// to 7e in hexadecimal. It may be empty.
     #[tactic(auto, unfolding(crate::specs::Cut::text_at))]
-    pub fn text(&mut self, limit: u64) -> Result<&'a [u8], CutFault>
-        ensures { Gives (λ s. s.now) result self.old self.new (text_at limit self.old) }
+    fn name(&mut self, limit: u64) -> Result<&'a [u8], CutFault>
+        ensures exact { Gives (λ s. s.now) result self.old self.new (text_at limit self.old) }
+        ensures spelled { IfOk result (λ s. self.old.bytes ≡ little_endian 1 (length s.now) ++ (s.now ++ self.new.bytes)) }
     {
         let mut ahead = self.copy();
         let name = ahead.string(8, limit)?;
@@ -222,6 +228,19 @@ impl<'a> Cut<'a> {
         }
         *self = ahead;
         Ok(name)
+    }
+
+    /// A name behind its length of 8 bits, which is `limit` at most: visible ASCII characters, 21
+    /// to 7e in hexadecimal. It may be empty.
+    pub fn text(&mut self, limit: u64) -> Result<&'a [u8], CutFault>
+        ensures exact { Gives (λ s. s.now) result self.old self.new (text_at limit self.old) }
+
+        // What is read is spelled so, and what is spelled so is read.
+        ensures spelled { IfOk result (λ s. self.old.bytes ≡ little_endian 1 (length s.now) ++ (s.now ++ self.new.bytes)) }
+        ensures only { (xs rest : List ℕ) → FitsText limit xs → self.old.bytes ≡ little_endian 1 (length xs) ++ (xs ++ rest) →
+            IsOkAnd result (λ s. s.now ≡ xs) }
+    {
+        self.name(limit)
     }
 }
 

@@ -16,3 +16,6 @@ pub use put::{put_bytes, put_u8, put_u16, put_u32, put_u48, put_u64};
 pub use status_kind::Status;
 pub use status_of::status;
 pub use tx_id::{TxId, TxIdFault};
+
+#[cfg(test)]
+mod tests;

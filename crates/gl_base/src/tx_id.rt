@@ -1,3 +1,6 @@
+ghost use Rattle.std.specs.Prelude.{◌↔◌, IsTrue};
+ghost use Rattle.gl_base.specs.TxId.{IsBefore};
+
 use thiserror::Error;
 
 /// A transaction identifier (CCF documentation, "Transaction identifiers"): the view in which its
@@ -7,6 +10,14 @@ use thiserror::Error;
 pub struct TxId {
     pub view: u32,
     pub seqno: u64,
+}
+
+impl TxId {
+    pub fn is_before(self, other: TxId) -> bool
+        ensures { IsTrue result ↔ IsBefore self other }
+    {
+        self < other
+    }
 }
 
 /// Why a text is no transaction identifier. A place is counted in the whole text, from 0.

@@ -10,3 +10,6 @@ pub use memory::{MemSink, MemSource, SureSink, SureSource};
 pub use sink::{Put, Sink, SinkFault, write_whole};
 pub use source::{Got, Source};
 pub use stream::{StreamSink, StreamSource};
+
+#[cfg(test)]
+mod tests;

@@ -1,6 +1,8 @@
 //! Streams of the operating system as a source and a sink. They tell nothing of what they hold.
 
-ghost use Rattle.std.specs.Prelude.{◌≡◌, None, false};
+ghost use Rattle.std.specs.Prelude.{◌≡◌, ◌≤◌, None, [], length, false};
+ghost use Rattle.gl_outside.specs.Fault.{Rose};
+ghost use Rattle.gl_outside.specs.Sink.{taken_count};
 
 use crate::sink::{Put, Sink};
 use crate::source::{Got, Source};
@@ -71,7 +73,15 @@ impl<W: Write> Sink for StreamSink<W> {
 
     ghost faults = { λ s. s.faults };
 
-    fn write(&mut self, piece: &[u8]) -> Put {
+    fn write(&mut self, piece: &[u8]) -> Put
+        ensures within { taken_count result ≤ length piece.now }
+        ensures some { result ≡ Put.Took 0 → piece.now ≡ [] }
+        ensures takes_no_memory { result ≡ Put.NoMemory → ⊥ }
+
+        ensures failed { result ≡ Put.Failed → Rose self.old.faults self.new.faults }
+        ensures quiet { (result ≡ Put.Failed → ⊥) → self.new.faults ≡ self.old.faults }
+        ensures never_falls { self.old.faults ≤ self.new.faults }
+    {
         match self.inner.write(piece) {
             Ok(count) if count > 0 || piece.is_empty() => Put::Took(count),
             _ => {

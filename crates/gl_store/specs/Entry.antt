@@ -1,7 +1,8 @@
 -- Entries, and the bytes of their bodies.
 use Rattle.std.specs.Prelude.{ℕ, ◌+◌, List, [], ◌∷◌, ◌++◌, Option, None, Some, Bool, true, false, length, replicate}
 use Rattle.std.specs.List.{flat_map}
-use Rattle.gl_store.specs.Field.{u32_bytes, u64_bytes, with_u8_length, with_u16_length, with_u32_length}
+use Rattle.gl_base.specs.LittleEndian.{little_endian}
+use Rattle.gl_store.specs.Field.{with_u8_length, with_u16_length, with_u32_length}
 use Rattle.gl_store.specs.declared.entry.Content.{Content}
 use Rattle.gl_store.specs.declared.entry.Content.TheVariants as content
 use Rattle.gl_store.specs.declared.entry.Entry.{Entry}
@@ -39,7 +40,7 @@ kind_tag (content.Evidence d) = 4
 abbrev pub content_bytes : Content → List ℕ
 content_bytes (content.Governance b) = b
 content_bytes (content.Application b) = b
-content_bytes (content.Signature s) = s.node ++ u64_bytes s.commit ++ s.root ++ with_u32_length s.signature
+content_bytes (content.Signature s) = s.node ++ little_endian 8 s.commit ++ s.root ++ with_u32_length s.signature
 content_bytes (content.Evidence d) = d
 
 abbrev pub written_value : Option (List ℕ) → List ℕ
@@ -52,8 +53,8 @@ write_bytes w = with_u8_length w.map ++ with_u16_length w.key ++ written_value w
 -- The body of an entry's frame.
 abbrev pub body_bytes : Entry → List ℕ
 body_bytes e =
-    u32_bytes e.view ++ u64_bytes e.seqno ++ (kind_tag e.content ∷ with_u32_length (content_bytes e.content))
-    ++ u32_bytes (length e.writes) ++ flat_map write_bytes e.writes ++ e.claims
+    little_endian 4 e.view ++ little_endian 8 e.seqno ++ (kind_tag e.content ∷ with_u32_length (content_bytes e.content))
+    ++ little_endian 4 (length e.writes) ++ flat_map write_bytes e.writes ++ e.claims
 
 -- A frame has a version, flags and the body's size in 8 bytes before the body.
 abbrev pub frame_size : Entry → ℕ

@@ -2,7 +2,8 @@
 use Rattle.std.specs.Prelude.{ℕ, suc, List, [], ◌∷◌, ◌++◌, Some, Bool, true, ◌&&◌, not, codes, length, map, nat_le, nat_lt, nat_eq}
 use Rattle.std.specs.List.{flat_map, list_all, list_any}
 use Rattle.sha2.specs.Sha256.{sha256}
-use Rattle.gl_store.specs.Field.{u8_bytes, u16_bytes, u32_bytes, u64_bytes, with_u32_length}
+use Rattle.gl_base.specs.LittleEndian.{little_endian}
+use Rattle.gl_store.specs.Field.{with_u32_length}
 use Rattle.gl_store.specs.Tables.{same_bytes}
 use Rattle.gl_store.specs.declared.write.Write.{Write}
 use Rattle.gl_store.specs.declared.genesis.ServiceState.{ServiceState}
@@ -35,13 +36,13 @@ abbrev pub share_bytes : ShareDigest → List ℕ
 share_bytes s = s.member ∷ s.digest
 
 abbrev pub dealing_bytes : Dealing → List ℕ
-dealing_bytes d = (d.threshold ∷ d.secret_digest) ++ u8_bytes (length d.shares) ++ flat_map share_bytes d.shares
+dealing_bytes d = (d.threshold ∷ d.secret_digest) ++ little_endian 1 (length d.shares) ++ flat_map share_bytes d.shares
 
 abbrev pub genesis_bytes : request.Genesis → List ℕ
 genesis_bytes g =
     (1 ∷ state_byte g.state ∷ g.identity)
-    ++ u8_bytes (length g.nodes) ++ flat_map node_bytes g.nodes
-    ++ u8_bytes (length g.members) ++ flat_map member_bytes g.members
+    ++ little_endian 1 (length g.nodes) ++ flat_map node_bytes g.nodes
+    ++ little_endian 1 (length g.members) ++ flat_map member_bytes g.members
     ++ dealing_bytes g.dealing
 
 abbrev pub governance_bytes : GovernanceRequest → List ℕ
@@ -112,18 +113,18 @@ dealing_key = codes "d"
 
 -- Each of the seven actions is decided by more than half.
 abbrev pub rule_row : ℕ → Write
-rule_row action = row constitution_map (action ∷ []) (u16_bytes 1 ++ u16_bytes 2)
+rule_row action = row constitution_map (action ∷ []) (little_endian 2 1 ++ little_endian 2 2)
 
 abbrev pub constitution_rows : List Write
 constitution_rows = map rule_row (1 ∷ 2 ∷ 3 ∷ 4 ∷ 5 ∷ 6 ∷ 7 ∷ [])
 
 -- accepted, with no leaf used
 abbrev pub member_row : NewMember → Write
-member_row m = row members_map (m.number ∷ []) ((1 ∷ m.key) ++ u32_bytes 0)
+member_row m = row members_map (m.number ∷ []) ((1 ∷ m.key) ++ little_endian 4 0)
 
 -- trusted, with its place in the order of nodes, and not removed
 abbrev pub node_row : ℕ → NewNode → Write
-node_row order n = row nodes_map (node_id n) (u16_bytes order ++ (2 ∷ n.key) ++ with_u32_length n.endorsement ++ u64_bytes 0)
+node_row order n = row nodes_map (node_id n) (little_endian 2 order ++ (2 ∷ n.key) ++ with_u32_length n.endorsement ++ little_endian 8 0)
 
 abbrev pub node_rows : ℕ → List NewNode → List Write
 node_rows order [] = []

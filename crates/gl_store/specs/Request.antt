@@ -5,7 +5,8 @@ use Rattle.std.specs.Cmp.Lexicographic.{slice_cmp}
 use Rattle.std.specs.Ordering.{nat_cmp, ordering_then}
 use Rattle.std.specs.declared.cmp.Ordering.{Ordering}
 use Rattle.std.specs.declared.cmp.Ordering.TheVariants.{Less, Equal, Greater}
-use Rattle.gl_store.specs.Field.{u16_bytes, with_u8_length, with_u16_length, with_u32_length}
+use Rattle.gl_base.specs.LittleEndian.{little_endian}
+use Rattle.gl_store.specs.Field.{with_u8_length, with_u16_length, with_u32_length}
 use Rattle.gl_store.specs.Name.{is_public, is_governance, is_internal}
 use Rattle.gl_store.specs.Tables.{Tables, wrote}
 use Rattle.gl_store.specs.declared.request.Operation.{Operation}
@@ -88,11 +89,11 @@ abbrev pub operation_bytes : Operation → List ℕ
 operation_bytes (Put map key value) = (3 ∷ with_u8_length map) ++ with_u16_length key ++ with_u32_length value
 
 abbrev pub request_bytes : List Operation → List ℕ
-request_bytes operations = u16_bytes (length operations) ++ flat_map operation_bytes operations
+request_bytes operations = little_endian 2 (length operations) ++ flat_map operation_bytes operations
 
 -- The bytes of a reply: a count of answers, then each with its tag.
 abbrev pub answer_bytes : Answer → List ℕ
 answer_bytes Done = 0 ∷ []
 
 abbrev pub reply_bytes : List Answer → List ℕ
-reply_bytes answers = u16_bytes (length answers) ++ flat_map answer_bytes answers
+reply_bytes answers = little_endian 2 (length answers) ++ flat_map answer_bytes answers

@@ -1,5 +1,6 @@
 pub mod Sizes
 pub mod Lists
+pub mod TablesLaws
 pub mod Growth
 pub mod Openings
 pub mod Applications

@@ -10,6 +10,7 @@ mod refusal;
 mod request;
 mod rows;
 mod run;
+mod scan;
 mod store;
 mod write;
 

@@ -12,6 +12,7 @@ use crate::refusal::{Refusal, StoreError};
 use crate::request::{Reply, Request};
 use crate::rows::genesis_rows;
 use crate::run::run;
+use crate::scan::value_in;
 use crate::write::Writes;
 use gl_base::{Status, TxId, status};
 use sha2::{Digest as _, Sha256};
@@ -70,7 +71,7 @@ fn signature_entry(alloc: Global, node: NodeId, len: u64, view: u32, commit: u64
 impl Store {
     ghost use Rattle.gl_store.specs.Genesis.{is_acceptable};
     ghost use Rattle.gl_store.specs.Ledger.{Executes, Refuses, executed, opening_ledger, signature_entry, entry_at, view_at, held_status, commit_of, last_signature, IsSignedAt};
-    ghost use Rattle.gl_store.specs.Tables.{tables_of};
+    ghost use Rattle.gl_store.specs.Tables.{tables_of, value_in};
     ghost use Rattle.gl_store.specs.Effect.{service_state};
     ghost use Rattle.gl_store.specs.Serial.{IsSound};
     ghost use Rattle.gl_store.specs.Kept.{IsSole, IsUpTo};
@@ -129,6 +130,14 @@ impl Store {
             None => None,
             Some(entry) => Some(entry.view),
         }
+    }
+
+    /// The value of a key in a map, if the map has that key: what the last entry that writes the row
+    /// wrote there. Takes as many steps as the ledger has writes, and no memory.
+    pub fn get(&self, map: &[u8], key: &[u8]) -> Option<&[u8]>
+        ensures { option_copied result ≡ value_in (tables_of self.now.ledger) map.now key.now }
+    {
+        value_in(&self.entries, map, key)
     }
 
     /// The place up to which the ledger is committed.

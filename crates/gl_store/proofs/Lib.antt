@@ -5,3 +5,4 @@ pub mod Growth
 pub mod Openings
 pub mod Applications
 pub mod Keeping
+pub mod Following

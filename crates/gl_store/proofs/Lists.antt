@@ -46,3 +46,8 @@ push-map {B = B} f xs i d out new whole w h made pushed kept =
     let rest : List B = map f (drop (i + 1) xs) in
     ap (λ (l : List B). l ++ rest) pushed ∙ append_assoc out (w ∷ []) rest ∙ ap (λ (x : B). out ++ x ∷ rest) made
     ∙ ap (λ (l : List B). out ++ l) (sym (map-drop f xs i d h)) ∙ kept
+
+-- the last element stands behind all others
+pub slice_get-last : {A : Type 0} (xs : List A) (x : A) → slice_get (xs ++ x ∷ []) (length xs) ≡ Some x
+slice_get-last [] x = refl
+slice_get-last (y ∷ xs) x = slice_get-last xs x

@@ -1,4 +1,5 @@
-//! The bytes of requests and replies.
+//! The bytes of requests and replies. Numbers have their least significant byte first, and bytes of
+//! no fixed length stand behind their length.
 
 ghost use Rattle.std.specs.Prelude.{◌≡◌, ◌≤◌, ◌<◌, ◌^◌, ◌+◌, ◌*◌, ◌++◌, ◌∷◌, [], length, IfOk, OnOk};
 ghost use Rattle.std.specs.List.{flat_map, AllByRecursion};

@@ -360,3 +360,15 @@ fn tells_statuses(rt: HostRuntime) -> Result<(), Fail> {
     }
     Ok(())
 }
+
+#[test]
+fn copies_names(rt: HostRuntime) -> Result<(), Fail> {
+    let alloc = rt.alloc();
+    let map = MapName::from_slice(alloc, b"public:t")?;
+    assert_eq!(rt; map.copy(alloc)?.as_slice(), b"public:t".as_slice());
+    let key = Key::from_slice(alloc, b"a")?;
+    assert_eq!(rt; key.copy(alloc)?.as_slice(), b"a".as_slice());
+    let value = Value::of(Vec::from_slice(alloc, &[1, 2])?);
+    assert_eq!(rt; value.copy(alloc)?.as_slice(), [1, 2].as_slice());
+    Ok(())
+}

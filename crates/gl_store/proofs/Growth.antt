@@ -3,7 +3,7 @@ use Rattle.std.proofs.Common.{◌≡◌, ℕ, suc, ◌+◌, ◌<◌, ◌≤◌, 
 use Rattle.std.specs.List.{slice_get, AllByRecursion}
 use Rattle.std.proofs.lemmas.Bool.{false≢true}
 use Rattle.gl_store.specs.Name.{is_governance}
-use Rattle.gl_store.specs.Tables.{Tables, same_bytes, no_tables, tables_behind, tables_of, wrote, wrote_all, with_row}
+use Rattle.gl_store.specs.Tables.{Tables, same_bytes, no_tables, tables_of, wrote, wrote_all, with_row}
 use Rattle.gl_store.specs.Effect.{Recorded, RecordsAt, RecordsFrom}
 use Rattle.gl_store.specs.Serial.{IsLedger, IsSerial, IsGoverned, IsSound, StandsAs}
 use Rattle.gl_store.specs.Kept.{IsUpTo}
@@ -12,6 +12,7 @@ use Rattle.gl_store.specs.declared.entry.Content.TheVariants as content
 use Rattle.gl_store.specs.declared.entry.Entry.{Entry}
 use Rattle.gl_store.specs.declared.write.Write.{Write}
 use Rattle.std.specs.Cmp.Lexicographic.{bytes_decides}
+use Rattle.gl_store.proofs.TablesLaws.{tables_behind-push}
 use Rattle.gl_store.proofs.Lists.{slice_get-push, take-push, take-all, within}
 
 -- a write to a table that is none of governance
@@ -23,10 +24,6 @@ IsNoGovernance (content.Governance bytes) = ⊥
 IsNoGovernance (content.Application bytes) = Unit {0}
 IsNoGovernance (content.Signature s) = Unit {0}
 IsNoGovernance (content.Evidence d) = Unit {0}
-
-pub tables_behind-push : (t : Tables) (es : List Entry) (e : Entry) → tables_behind t (es ++ e ∷ []) ≡ wrote_all (tables_behind t es) e.writes
-tables_behind-push t [] e = refl
-tables_behind-push t (f ∷ es) e = tables_behind-push (wrote_all t f.writes) es e
 
 untouched_by : (t : Tables) (w : Write) (map : List ℕ) → IsOutside w → is_governance map ≡ true → wrote t w map ≡ t map
 untouched_by t w map out inside = go (same_bytes map w.map) refl

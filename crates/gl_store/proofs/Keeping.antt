@@ -13,7 +13,8 @@ use Rattle.gl_store.specs.declared.entry.Entry.{Entry}
 use Rattle.gl_store.specs.declared.request.Operation.{Operation}
 use Rattle.gl_store.specs.declared.request.Answer.{Answer}
 use Rattle.gl_store.specs.declared.genesis.ServiceState.{ServiceState}
-use Rattle.gl_store.proofs.Growth.{IsOutside, tables_behind-push, untouched, sound-push}
+use Rattle.gl_store.proofs.TablesLaws.{tables_behind-push}
+use Rattle.gl_store.proofs.Growth.{IsOutside, untouched, sound-push}
 use Rattle.gl_store.proofs.Applications.{executed_ok, application_sound, run_outside}
 
 -- an entry that is no signature leaves the last one

@@ -30,6 +30,7 @@ abbrev pub RecordsFrom : ℕ → List Entry → List Recorded → Type 0
 RecordsFrom place [] requests = requests ≡ []
 RecordsFrom place (e ∷ es) requests = RecordsAt place e.content (λ rest. RecordsFrom (suc place) es rest) requests
 
+-- These are the governance requests of a ledger, whose first place is 1.
 abbrev pub Records : List Entry → List Recorded → Type 0
 Records ledger requests = RecordsFrom 1 ledger requests
 
@@ -41,6 +42,7 @@ effect_rows (r ∷ rs) = rows_of r.request
     rows_of : GovernanceRequest → List Write
     rows_of (requests.Genesis g) = genesis_rows g
 
+-- The effect of recorded requests: the rows that they come to.
 abbrev pub effect : List Recorded → Tables
 effect recorded = wrote_all no_tables (effect_rows recorded)
 
@@ -48,9 +50,11 @@ effect recorded = wrote_all no_tables (effect_rows recorded)
 abbrev pub IsAccepted : List Recorded → GovernanceRequest → Type 0
 IsAccepted recorded (requests.Genesis g) = (recorded ≡ []) × (is_acceptable g ≡ true)
 
+-- The state that a byte spells; any other than that of an open service counts as not open.
 abbrev state_of_byte : ℕ → ServiceState
 state_of_byte byte = if byte == state_byte Open then Open else Opening
 
+-- The state that the service's row begins with; without a row it is not open.
 abbrev pub state_of_value : Option (List ℕ) → ServiceState
 state_of_value None = Opening
 state_of_value (Some []) = Opening

@@ -1,24 +1,15 @@
--- Fields as bytes: numbers with the low byte first, and bytes behind their length.
+-- Fields of bytes behind their length, which is a number with the low byte first.
 use Rattle.std.specs.Prelude.{ℕ, List, ◌++◌, length}
-use Rattle.std.specs.Int.{w8, w16, w32, w64, to_le_bytes}
+use Rattle.gl_base.specs.LittleEndian.{little_endian}
 
-abbrev pub u8_bytes : ℕ → List ℕ
-u8_bytes n = to_le_bytes w8 n
-
-abbrev pub u16_bytes : ℕ → List ℕ
-u16_bytes n = to_le_bytes w16 n
-
-abbrev pub u32_bytes : ℕ → List ℕ
-u32_bytes n = to_le_bytes w32 n
-
-abbrev pub u64_bytes : ℕ → List ℕ
-u64_bytes n = to_le_bytes w64 n
-
+-- A length in one byte, and so many bytes.
 abbrev pub with_u8_length : List ℕ → List ℕ
-with_u8_length bytes = u8_bytes (length bytes) ++ bytes
+with_u8_length bytes = little_endian 1 (length bytes) ++ bytes
 
+-- A length in two bytes, and so many bytes.
 abbrev pub with_u16_length : List ℕ → List ℕ
-with_u16_length bytes = u16_bytes (length bytes) ++ bytes
+with_u16_length bytes = little_endian 2 (length bytes) ++ bytes
 
+-- A length in four bytes, and so many bytes.
 abbrev pub with_u32_length : List ℕ → List ℕ
-with_u32_length bytes = u32_bytes (length bytes) ++ bytes
+with_u32_length bytes = little_endian 4 (length bytes) ++ bytes

@@ -11,6 +11,7 @@ use Rattle.gl_store.specs.declared.genesis.NewNode.{NewNode}
 use Rattle.gl_store.specs.declared.genesis.Genesis as request
 use Rattle.gl_store.specs.declared.genesis.ServiceState.{ServiceState}
 
+-- The ledger is sound and opened, the commit lies within it, and the last signature's place and the service's state are kept beside it.
 pub record IsKept (ledger : List Entry) (commit last : ℕ) (state : ServiceState) : Type 0 where
   pub sound : IsSound ledger
   pub opened : 2 ≤ length ledger

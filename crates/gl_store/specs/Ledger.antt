@@ -31,7 +31,7 @@ pub record Held : Type 0 where
 abbrev pub genesis_entry : request.Genesis → Entry
 genesis_entry g = record { view = 2; seqno = 1; content = content.Governance (genesis_bytes g); writes = genesis_rows g; claims = no_digest }
 
--- A node's signature behind a ledger. Until the tree of entries and the signatures are there, root and signature are empty.
+-- The entry of a node's signature behind a ledger. Until there are a tree of entries and keys, its root is zero bytes and its signature is empty.
 abbrev pub signature_entry : List ℕ → List Entry → ℕ → ℕ → Entry
 signature_entry node ledger view commit = record {
   view = view;
@@ -55,10 +55,12 @@ application_entry ledger view operations ran = record {
   claims = sha256 (reply_bytes ran.answers);
 }
 
+-- What a request that ran makes behind a ledger: its entry and its reply, or its abort.
 abbrev pub ran_behind : List Entry → ℕ → List Operation → Result Ran Abort → Result (Entry × List Answer) Refusal
 ran_behind ledger view operations (Err abort) = Err (refusals.Aborted abort)
 ran_behind ledger view operations (Ok ran) = Ok (application_entry ledger view operations ran, ran.answers)
 
+-- The same, in a service that is in this state: unless it is open, the request is refused.
 abbrev pub executed_in : ServiceState → List Entry → ℕ → List Operation → Result (Entry × List Answer) Refusal
 executed_in Opening ledger view operations = Err (refusals.ServiceState Opening)
 executed_in Open ledger view operations = ran_behind ledger view operations (run operations (tables_of ledger))
@@ -76,6 +78,7 @@ view_at ledger (suc i) = view_of (slice_get ledger i)
     view_of None = None
     view_of (Some e) = Some e.view
 
+-- The entry at a place, if there is one; places count from 1.
 abbrev pub entry_at : List Entry → ℕ → Option Entry
 entry_at ledger zero = None
 entry_at ledger (suc i) = slice_get ledger i
@@ -88,9 +91,11 @@ commit_of held = named (view_at held.ledger held.commit)
     named None = None
     named (Some view) = Some (record { view = view; seqno = held.commit })
 
+-- The status of a transaction by what a store holds (CCF documentation, "Verifying Transactions").
 abbrev pub held_status : Held → TxId → Status
 held_status held id = status_of id (view_at held.ledger id.seqno) (commit_of held)
 
+-- The place of the last signature of an entry and those behind it: one further than its place among those behind, or the entry's own.
 abbrev pub signature_place : Bool → ℕ → ℕ
 signature_place signs (suc place) = suc (suc place)
 signature_place true zero = 1

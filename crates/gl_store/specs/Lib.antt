@@ -9,3 +9,4 @@ pub mod Serial
 pub mod Ledger
 pub mod Kept
 pub mod Runs
+pub mod Scan

@@ -6,7 +6,7 @@ use Rattle.gl_store.specs.declared.refusal.Refusal.TheVariants as refusals
 use Rattle.gl_store.specs.declared.refusal.StoreError.{StoreError}
 use Rattle.gl_store.specs.declared.refusal.StoreError.TheVariants as errors
 
--- the abort that is owed, or want of memory; the service's state is not asked here
+-- A run fails with the abort that is owed, or for want of memory. It doesn't ask the service's state.
 abbrev pub Aborts : Result Ran Abort → StoreError → Type 0
 Aborts owed errors.Memory = Unit {0}
 Aborts owed (errors.Refused (refusals.Aborted abort)) = owed ≡ Err abort

@@ -23,11 +23,13 @@ pub record IsLedger (ledger : List Entry) : Type 0 where
   pub places : (i : ℕ) (e : Entry) → slice_get ledger i ≡ Some e → e.seqno ≡ suc i
   pub views : (i j : ℕ) (e f : Entry) → i ≤ j → slice_get ledger i ≡ Some e → slice_get ledger j ≡ Some f → e.view ≤ f.view
 
+-- The first stands before the second.
 abbrev is_less : Ordering → Bool
 is_less Less = true
 is_less Equal = false
 is_less Greater = false
 
+-- A write stands before the first of these.
 abbrev stands_before : Write → List Write → Bool
 stands_before w [] = true
 stands_before w (x ∷ xs) = is_less (write_order w x)
@@ -76,6 +78,7 @@ StandsAs (content.Application bytes) before e = IsApplicationEntry before e byte
 StandsAs (content.Signature s) before e = WritesNothing e
 StandsAs (content.Evidence d) before e = WritesNothing e
 
+-- A ledger is one serial run: each entry is what it says behind the entries before it, and behind no others.
 abbrev pub IsSerial : List Entry → Type 0
 IsSerial ledger = (i : ℕ) (e : Entry) → slice_get ledger i ≡ Some e → StandsAs e.content (take i ledger) e
 
@@ -85,7 +88,7 @@ pub record IsGoverned (ledger : List Entry) : Type 0 where
   pub recorded : Records ledger requests
   pub rows : (map : List ℕ) → is_governance map ≡ true → tables_of ledger map ≡ effect requests map
 
--- What is said of each ledger of the service.
+-- What is said of each ledger of the service: it is in order, one serial run, and its governance tables are their effect.
 pub record IsSound (ledger : List Entry) : Type 0 where
   pub in_order : IsLedger ledger
   pub serial : IsSerial ledger

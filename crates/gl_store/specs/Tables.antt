@@ -1,4 +1,4 @@
--- Tables: to each map's name its rows, from keys to values.
+-- Tables: to each map's name its rows, from keys to values (CCF documentation, "Key-Value Store").
 use Rattle.std.specs.Prelude.{ℕ, List, [], ◌∷◌, Option, None, Some, Bool, nat_eq, if◌then◌else◌}
 use Rattle.std.specs.Ordering.{nat_cmp}
 use Rattle.std.specs.Cmp.Lexicographic.{pointwise, slice_cmp}
@@ -7,12 +7,15 @@ use Rattle.std.specs.FinMap as rows
 use Rattle.gl_store.specs.declared.write.Write.{Write}
 use Rattle.gl_store.specs.declared.entry.Entry.{Entry}
 
+-- The rows of one map: to each key that it has its value.
 abbrev pub Rows : Type 0
 Rows = FinMap (slice_cmp nat_cmp) (List ℕ)
 
+-- To each name the rows of the map with that name. A map of which nothing was written has no row.
 abbrev pub Tables : Type 0
 Tables = List ℕ → Rows
 
+-- Before the first write no map has a row.
 abbrev pub no_tables : Tables
 no_tables map = rows.empty
 
@@ -20,15 +23,16 @@ no_tables map = rows.empty
 abbrev pub value_in : Tables → List ℕ → List ℕ → Option (List ℕ)
 value_in tables map key = rows.get (tables map) key
 
--- A row set to a value, or removed.
+-- The rows with one of them set to a value, or removed.
 abbrev pub with_row : Rows → List ℕ → Option (List ℕ) → Rows
 with_row t key (Some value) = rows.insert t key value
 with_row t key None = rows.remove t key
 
+-- The two are byte for byte the same.
 abbrev pub same_bytes : List ℕ → List ℕ → Bool
 same_bytes xs ys = pointwise nat_eq xs ys
 
--- The tables after one write.
+-- The tables after one write: the map that it names has the row set or removed, and all others stay.
 abbrev pub wrote : Tables → Write → Tables
 wrote tables w map = if same_bytes map w.map then with_row (tables map) w.key w.value else tables map
 
@@ -37,10 +41,11 @@ abbrev pub wrote_all : Tables → List Write → Tables
 wrote_all tables [] = tables
 wrote_all tables (w ∷ ws) = wrote_all (wrote tables w) ws
 
--- The tables that a ledger's write sets make, one entry after another.
+-- The tables after the write sets of these entries, one entry after another.
 abbrev pub tables_behind : Tables → List Entry → Tables
 tables_behind tables [] = tables
 tables_behind tables (e ∷ es) = tables_behind (wrote_all tables e.writes) es
 
+-- The tables of a ledger: what its write sets make of no tables.
 abbrev pub tables_of : List Entry → Tables
 tables_of ledger = tables_behind no_tables ledger

@@ -1,26 +1,15 @@
-//! The bytes of requests and replies.
+//! The bytes of requests and replies. Numbers have their least significant byte first, and bytes of
+//! no fixed length stand behind their length.
 
 ghost use Rattle.std.specs.Prelude.{◌≡◌, ◌≤◌, ◌<◌, ◌^◌, ◌+◌, ◌*◌, ◌++◌, ◌∷◌, [], length, IfOk, OnOk};
 ghost use Rattle.std.specs.List.{flat_map, AllByRecursion};
-ghost use Rattle.gl_store.specs.Field.{u16_bytes, u32_bytes, u64_bytes, with_u8_length, with_u16_length, with_u32_length};
 ghost use Rattle.gl_store.specs.Request.{operation_bytes, request_bytes, answer_bytes, reply_bytes};
 ghost use Rattle.gl_store.specs.Genesis.{node_bytes, member_bytes, share_bytes, dealing_bytes, genesis_bytes, state_byte};
 
 use crate::genesis::{Dealing, Genesis, NewMember, NewNode, ServiceState, ShareDigest};
 use crate::request::{Answer, Operation, Reply, Request};
+use gl_base::{put_bytes, put_u8, put_u16, put_u32};
 use std::alloc::{AllocError, Global};
-
-fn put_u16(out: &mut Vec<u8>, n: u16) -> Result<(), AllocError>
-    ensures { OnOk result (out.new.items ≡ out.old.items ++ u16_bytes n) }
-{
-    out.extend_from_slice(&n.to_le_bytes())
-}
-
-pub fn put_u32(out: &mut Vec<u8>, n: u32) -> Result<(), AllocError>
-    ensures { OnOk result (out.new.items ≡ out.old.items ++ u32_bytes n) }
-{
-    out.extend_from_slice(&n.to_le_bytes())
-}
 
 fn put_operation(out: &mut Vec<u8>, operation: &Operation) -> Result<(), AllocError>
     ensures { OnOk result (out.new.items ≡ out.old.items ++ operation_bytes operation.now) }
@@ -29,13 +18,12 @@ fn put_operation(out: &mut Vec<u8>, operation: &Operation) -> Result<(), AllocEr
         Operation::Put { map, key, value } => {
             let (map, key, value) = (map.as_slice(), key.as_slice(), value.as_slice());
             out.push(3)?;
-            out.push(map.len() as u8)?;
-            out.extend_from_slice(map)?;
+            put_u8(out, map.len() as u8)?;
+            put_bytes(out, map)?;
             put_u16(out, key.len() as u16)?;
-            out.extend_from_slice(key)?;
+            put_bytes(out, key)?;
             put_u32(out, value.len() as u32)?;
-            out.extend_from_slice(value)?;
-            Ok(())
+            put_bytes(out, value)
         }
     }
 }
@@ -64,16 +52,16 @@ fn put_node(out: &mut Vec<u8>, node: &NewNode) -> Result<(), AllocError>
     ensures { OnOk result (out.new.items ≡ out.old.items ++ node_bytes node.now) }
 {
     let endorsement = node.endorsement.as_slice();
-    out.extend_from_slice(&node.key)?;
+    put_bytes(out, &node.key)?;
     put_u32(out, endorsement.len() as u32)?;
-    out.extend_from_slice(endorsement)
+    put_bytes(out, endorsement)
 }
 
 fn put_member(out: &mut Vec<u8>, member: &NewMember) -> Result<(), AllocError>
     ensures { OnOk result (out.new.items ≡ out.old.items ++ member_bytes member.now) }
 {
     out.push(member.number)?;
-    out.extend_from_slice(&member.key)
+    put_bytes(out, &member.key)
 }
 
 fn put_share(out: &mut Vec<u8>, share: &ShareDigest) -> Result<(), AllocError>
@@ -81,7 +69,7 @@ fn put_share(out: &mut Vec<u8>, share: &ShareDigest) -> Result<(), AllocError>
     ensures size { OnOk result (length out.new.items ≡ length out.old.items + 33) }
 {
     out.push(share.member)?;
-    out.extend_from_slice(&share.digest)
+    put_bytes(out, &share.digest)
 }
 
 fn put_nodes(out: &mut Vec<u8>, nodes: &[NewNode]) -> Result<(), AllocError>
@@ -122,6 +110,7 @@ fn put_answers(out: &mut Vec<u8>, answers: &[Answer]) -> Result<(), AllocError>
     Ok(())
 }
 
+#[tactic(auto, using(crate::proofs::Sizes::sizes))]
 fn put_dealing(out: &mut Vec<u8>, dealing: &Dealing) -> Result<(), AllocError>
     requires { length dealing.now.shares < 2 ^ 8 }
     ensures bytes { OnOk result (out.new.items ≡ out.old.items ++ dealing_bytes dealing.now) }
@@ -129,8 +118,8 @@ fn put_dealing(out: &mut Vec<u8>, dealing: &Dealing) -> Result<(), AllocError>
 {
     let shares = dealing.shares.as_slice();
     out.push(dealing.threshold)?;
-    out.extend_from_slice(&dealing.secret_digest)?;
-    out.push(shares.len() as u8)?;
+    put_bytes(out, &dealing.secret_digest)?;
+    put_u8(out, shares.len() as u8)?;
     put_shares(out, shares)
 }
 
@@ -166,10 +155,10 @@ pub fn genesis_bytes(alloc: Global, genesis: &Genesis) -> Result<Vec<u8>, AllocE
     let mut out = Vec::new(alloc);
     out.push(1)?;
     out.push(state_byte(genesis.state))?;
-    out.extend_from_slice(&genesis.identity)?;
-    out.push(nodes.len() as u8)?;
+    put_bytes(&mut out, &genesis.identity)?;
+    put_u8(&mut out, nodes.len() as u8)?;
     put_nodes(&mut out, nodes)?;
-    out.push(members.len() as u8)?;
+    put_u8(&mut out, members.len() as u8)?;
     put_members(&mut out, members)?;
     put_dealing(&mut out, &genesis.dealing)?;
     Ok(out)

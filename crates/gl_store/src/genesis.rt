@@ -1,46 +1,55 @@
-//! The first entry of a ledger: the request that founds the service.
+//! The request that founds a service, which is the first entry of its ledger.
 
 use crate::bytes::Bytes;
 use crate::entry::Digest;
 use std::marker::Model;
 
-/// Whether a service takes application requests.
+/// Whether a service takes requests of applications (CCF documentation, "Opening a Network").
 #[derive(Clone, Copy, Debug, PartialEq, Eq)]
 pub enum ServiceState {
+    /// Only requests of governance are taken. Spelled as the byte 1.
     Opening,
+    /// Requests of applications are taken too. Spelled as the byte 2.
     Open,
 }
 
-/// An LMS public key (RFC 8554, section 5.3): its types, I and T[1].
+/// An LMS public key (RFC 8554, section 5.3): its two types in 4 bytes each, high byte first, I in 16
+/// bytes and T\[1\] in 32.
 pub type LmsKey = [u8; 56];
 
-/// An HSS public key (RFC 8554, section 6.1): the number of levels and the LMS key of the first.
+/// An HSS public key (RFC 8554, section 6.1): the number of levels in 4 bytes, high byte first, and
+/// the LMS key of the top level.
 pub type HssKey = [u8; 60];
 
-/// A node to be recorded.
+/// A node to be recorded as trusted.
 #[derive(Debug, Drop)]
 pub struct NewNode {
+    /// The key that its signatures are checked by. Its digest is the node's identifier.
     pub key: LmsKey,
-    /// The service's signature of the key.
+    /// The service's LMS signature of the key's 56 bytes. Empty for now, until keys sign.
     pub endorsement: Bytes,
 }
 
 /// A member to be recorded.
 #[derive(Clone, Copy, Debug)]
 pub struct NewMember {
-    /// From 1, never used again.
+    /// Its number, from 1. No other member is ever given it.
     pub number: u8,
+    /// The key that its requests are signed with.
     pub key: HssKey,
 }
 
 /// The digest of a member's recovery share.
 #[derive(Clone, Copy, Debug)]
 pub struct ShareDigest {
+    /// The number of the member who holds the share.
     pub member: u8,
+    /// The SHA-256 digest of the share.
     pub digest: Digest,
 }
 
-/// The nodes of a request, in its order.
+/// The nodes of a request, in its order. Nodes are numbered and listed in the order in which they
+/// were recorded.
 #[derive(Debug, Drop)]
 pub struct Nodes {
     items: Vec<NewNode>,
@@ -58,6 +67,7 @@ impl Model for Nodes {
 impl Nodes {
     ghost use Rattle.std.specs.Prelude.{◌≡◌};
 
+    /// The nodes, in order.
     pub fn as_slice(&self) -> &[NewNode]
         ensures { result.now ≡ self.now }
     {
@@ -70,6 +80,7 @@ impl From<Vec<NewNode>> for Nodes {
 
     ghost from_gives = { λ items nodes. nodes ≡ items.items };
 
+    /// The nodes as they are: takes no memory.
     fn from(items: Vec<NewNode>) -> Nodes {
         Nodes { items }
     }
@@ -93,6 +104,7 @@ impl Model for Members {
 impl Members {
     ghost use Rattle.std.specs.Prelude.{◌≡◌};
 
+    /// The members, in order.
     pub fn as_slice(&self) -> &[NewMember]
         ensures { result.now ≡ self.now }
     {
@@ -105,6 +117,7 @@ impl From<Vec<NewMember>> for Members {
 
     ghost from_gives = { λ items members. members ≡ items.items };
 
+    /// The members as they are: takes no memory.
     fn from(items: Vec<NewMember>) -> Members {
         Members { items }
     }
@@ -128,6 +141,7 @@ impl Model for Shares {
 impl Shares {
     ghost use Rattle.std.specs.Prelude.{◌≡◌};
 
+    /// The digests, in order.
     pub fn as_slice(&self) -> &[ShareDigest]
         ensures { result.now ≡ self.now }
     {
@@ -140,32 +154,41 @@ impl From<Vec<ShareDigest>> for Shares {
 
     ghost from_gives = { λ items shares. shares ≡ items.items };
 
+    /// The digests as they are: takes no memory.
     fn from(items: Vec<ShareDigest>) -> Shares {
         Shares { items }
     }
 }
 
-/// How a recovery secret was dealt: so many shares give it.
+/// How a recovery secret was dealt among members (CCF documentation, "Disaster Recovery").
 #[derive(Debug, Drop)]
 pub struct Dealing {
+    /// So many shares give the secret, at least 1.
     pub threshold: u8,
+    /// The SHA-256 digest of the secret.
     pub secret_digest: Digest,
+    /// Who holds a share, and the share's digest.
     pub shares: Shares,
 }
 
 /// The request that founds a service.
 #[derive(Debug, Drop)]
 pub struct Genesis {
+    /// The state in which the service begins.
     pub state: ServiceState,
-    /// The service's key.
+    /// The service's key, which endorses its nodes.
     pub identity: HssKey,
+    /// The nodes that begin it, at most 32.
     pub nodes: Nodes,
+    /// The members who govern it, at most 64.
     pub members: Members,
+    /// The dealing of its first recovery secret.
     pub dealing: Dealing,
 }
 
 /// A request of governance.
 #[derive(Debug, Drop)]
 pub enum GovernanceRequest {
+    /// Founds a service.
     Genesis(Genesis),
 }

@@ -1,4 +1,6 @@
 //! The store of one node: a ledger as a list of entries, and the tables that its write sets make.
+//! The tables are the maps of a key-value store (CCF documentation, "Key-Value Store"); those of
+//! governance tell who the members and the nodes are and whether the service is open ("Builtin Maps").
 #![tactic(auto)]
 
 mod bytes;
@@ -10,6 +12,7 @@ mod refusal;
 mod request;
 mod rows;
 mod run;
+mod scan;
 mod store;
 mod write;
 
@@ -25,3 +28,6 @@ pub use request::{Abort, Answer, Cause, Operation, Reply, Request};
 pub use run::barred;
 pub use store::Store;
 pub use write::{Write, Writes};
+
+#[cfg(test)]
+mod tests;

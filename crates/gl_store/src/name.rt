@@ -1,3 +1,5 @@
+//! The names of maps, keys and values, within their limits (CCF documentation, "Key-Value Store").
+
 ghost use Rattle.std.specs.Prelude.{◌≡◌, ◌↔◌, IsTrue, IsSome, IfSome, IfOk};
 ghost use Rattle.std.specs.List.{list_all};
 ghost use Rattle.gl_store.specs.Name.{is_name_byte, is_map_name, is_key, is_value, is_public, is_governance, is_internal};
@@ -17,7 +19,9 @@ fn is_map_name(bytes: &[u8]) -> bool
     1 <= bytes.len() && bytes.len() <= 128 && is_printable(bytes)
 }
 
-/// The name of a map: 1 to 128 bytes from 21 to 7e (hexadecimal).
+/// The name of a map: 1 to 128 bytes from 21 to 7e (hexadecimal), which are the printable ones of
+/// ASCII but for the space. Names that begin with `public:` are public, and those that begin with
+/// `public:ccf.gov.` or `public:ccf.internal.` belong to the service.
 #[derive(Debug, Drop)]
 pub struct MapName {
     bytes: Vec<u8>,
@@ -35,7 +39,7 @@ impl Model for MapName {
 }
 
 impl MapName {
-    /// A name in memory of its own.
+    /// A name in memory of its own. Fails for want of memory alone.
     pub fn from_slice(alloc: Global, bytes: &[u8]) -> Result<Self, AllocError>
         requires { IsTrue (is_map_name bytes.now) }
         ensures { IfOk result (λ name. name ≡ bytes.now) }
@@ -45,7 +49,7 @@ impl MapName {
         })
     }
 
-    /// The same bytes in memory of their own.
+    /// The same bytes in memory of their own. Fails for want of memory alone.
     pub fn copy(&self, alloc: Global) -> Result<Self, AllocError>
         ensures { IfOk result (λ name. name ≡ self.now) }
     {
@@ -54,6 +58,8 @@ impl MapName {
         })
     }
 
+    /// The name of these bytes. `None` where they are too few or too many, or one of them is no
+    /// printable byte.
     pub fn new(bytes: Vec<u8>) -> Option<Self>
         ensures valid { IsSome result ↔ IsTrue (is_map_name bytes.items) }
         ensures value { IfSome result (λ name. name ≡ bytes.items) }
@@ -65,6 +71,7 @@ impl MapName {
         }
     }
 
+    /// The bytes, in order.
     pub fn as_slice(&self) -> &[u8]
         ensures value { result.now ≡ self.now }
         ensures name { IsTrue (is_map_name self.now) }
@@ -91,7 +98,7 @@ impl Model for Key {
 }
 
 impl Key {
-    /// A key in memory of its own.
+    /// A key in memory of its own. Fails for want of memory alone.
     pub fn from_slice(alloc: Global, bytes: &[u8]) -> Result<Self, AllocError>
         requires { IsTrue (is_key bytes.now) }
         ensures { IfOk result (λ key. key ≡ bytes.now) }
@@ -101,7 +108,7 @@ impl Key {
         })
     }
 
-    /// The same bytes in memory of their own.
+    /// The same bytes in memory of their own. Fails for want of memory alone.
     pub fn copy(&self, alloc: Global) -> Result<Self, AllocError>
         ensures { IfOk result (λ key. key ≡ self.now) }
     {
@@ -110,6 +117,7 @@ impl Key {
         })
     }
 
+    /// The key of these bytes. `None` where there are none, or more than 1,024.
     pub fn new(bytes: Vec<u8>) -> Option<Self>
         ensures valid { IsSome result ↔ IsTrue (is_key bytes.items) }
         ensures value { IfSome result (λ key. key ≡ bytes.items) }
@@ -121,6 +129,7 @@ impl Key {
         }
     }
 
+    /// The bytes, in order.
     pub fn as_slice(&self) -> &[u8]
         ensures value { result.now ≡ self.now }
         ensures key { IsTrue (is_key self.now) }
@@ -155,7 +164,7 @@ impl Value {
         Value { bytes }
     }
 
-    /// The same bytes in memory of their own.
+    /// The same bytes in memory of their own. Fails for want of memory alone.
     pub fn copy(&self, alloc: Global) -> Result<Self, AllocError>
         ensures { IfOk result (λ value. value ≡ self.now) }
     {
@@ -164,6 +173,7 @@ impl Value {
         })
     }
 
+    /// The value of these bytes. `None` where they are more than 65,536.
     pub fn new(bytes: Vec<u8>) -> Option<Self>
         ensures valid { IsSome result ↔ IsTrue (is_value bytes.items) }
         ensures value { IfSome result (λ value. value ≡ bytes.items) }
@@ -175,6 +185,7 @@ impl Value {
         }
     }
 
+    /// The bytes, in order.
     pub fn as_slice(&self) -> &[u8]
         ensures value { result.now ≡ self.now }
         ensures limit { IsTrue (is_value self.now) }

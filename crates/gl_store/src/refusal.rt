@@ -8,20 +8,22 @@ use crate::request::Abort;
 use std::alloc::{AllocError, AllocFailed};
 use thiserror::Error;
 
-/// Why an application request makes no entry.
+/// Why a request of an application makes no entry.
 #[derive(Clone, Copy, Debug, PartialEq, Eq)]
 pub enum Refusal {
-    /// The service isn't open.
+    /// The service is in this state, and takes requests of applications only when it is open.
     ServiceState(ServiceState),
-    /// An operation failed.
+    /// An operation of the request failed.
     Aborted(Abort),
 }
 
 /// Why a store did not do what it was asked. It is then as it was.
 #[derive(Debug, Drop, Error)]
 pub enum StoreError {
+    /// There was no memory for the entry or the reply.
     #[error("out of memory")]
     Memory,
+    /// The request makes no entry.
     #[error("the request is refused")]
     Refused(Refusal),
 }

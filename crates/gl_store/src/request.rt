@@ -3,13 +3,16 @@
 use crate::name::{Key, MapName, Value};
 use std::marker::Model;
 
-/// One step of a request.
+/// One step of a request, on the tables that earlier steps left.
 #[derive(Debug, Drop)]
 pub enum Operation {
-    /// Sets the value of a key.
+    /// Sets the value of a key, also where it has that value already.
     Put {
+        /// The map that holds the key. Only a public one that is not reserved is written.
         map: MapName,
+        /// The key to be set.
         key: Key,
+        /// Its new value.
         value: Value,
     },
 }
@@ -17,6 +20,7 @@ pub enum Operation {
 /// What an operation answers.
 #[derive(Clone, Copy, Debug, PartialEq, Eq)]
 pub enum Answer {
+    /// The operation was done, and has nothing to tell.
     Done,
 }
 
@@ -25,18 +29,21 @@ pub enum Answer {
 pub enum Cause {
     /// The map's name doesn't begin with `public:`.
     NotPublic,
-    /// The map is a table of governance or of the service itself.
+    /// The map is a table of governance, `public:ccf.gov.`, or of the service itself,
+    /// `public:ccf.internal.` (CCF documentation, "Builtin Maps").
     Reserved,
 }
 
-/// The first operation of a request that failed, counted from 1.
+/// The first operation of a request that failed. The whole request then writes nothing.
 #[derive(Clone, Copy, Debug, PartialEq, Eq)]
 pub struct Abort {
+    /// Which operation it is, counted from 1.
     pub operation: u8,
+    /// Why it failed.
     pub cause: Cause,
 }
 
-/// A request: one operation.
+/// A request of an application: one operation, for now.
 #[derive(Debug, Drop)]
 pub struct Request {
     operation: Operation,
@@ -54,6 +61,7 @@ impl Model for Request {
 impl Request {
     ghost use Rattle.std.specs.Prelude.{◌≡◌, [], ◌∷◌};
 
+    /// The request of this operation alone.
     pub fn of(operation: Operation) -> Self
         ensures { result ≡ operation ∷ [] }
     {
@@ -86,6 +94,7 @@ impl Model for Reply {
 impl Reply {
     ghost use Rattle.std.specs.Prelude.{◌≡◌};
 
+    /// The answers, in the order of the operations.
     pub fn as_slice(&self) -> &[Answer]
         ensures { result.now ≡ self.now }
     {
@@ -98,6 +107,7 @@ impl From<Vec<Answer>> for Reply {
 
     ghost from_gives = { λ answers reply. reply ≡ answers.items };
 
+    /// The answers as they are: takes no memory.
     fn from(answers: Vec<Answer>) -> Reply {
         Reply { answers }
     }

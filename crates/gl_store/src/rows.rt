@@ -1,14 +1,14 @@
 //! The rows that a genesis with one member and one node makes.
 
 ghost use Rattle.std.specs.Prelude.{◌≡◌, ◌≤◌, ◌<◌, ◌^◌, ◌++◌, ◌∷◌, [], codes, length, map, IfOk, IsTrue, OnOk, Some};
-ghost use Rattle.gl_store.specs.Field.{u16_bytes};
 ghost use Rattle.gl_store.specs.Name.{is_map_name, is_key, is_value};
 ghost use Rattle.gl_store.specs.Genesis.{node_id, row, rule_row, constitution_rows, dealing_bytes, dealing_map, dealing_key, member_row, node_row, service_row, genesis_rows};
 
-use crate::encode::{dealing_bytes, put_u32, state_byte};
+use crate::encode::{dealing_bytes, state_byte};
 use crate::genesis::{Dealing, Genesis, NewMember, NewNode};
 use crate::name::{Key, MapName, Value};
 use crate::write::{Write, Writes};
+use gl_base::{put_bytes, put_u16, put_u32, put_u64};
 use sha2::{Digest, Sha256};
 use std::alloc::{AllocError, Global};
 
@@ -28,10 +28,13 @@ fn row(alloc: Global, map: &[u8], key: &[u8], value: Vec<u8>) -> Result<Write, A
     })
 }
 
+#[tactic(auto, using(crate::proofs::Sizes::sizes))]
 fn rule_row(alloc: Global, action: u8) -> Result<Write, AllocError>
     ensures { IfOk result (λ write. write ≡ rule_row action) }
 {
-    let value = Vec::from_slice(alloc, &[1, 0, 2, 0])?;
+    let mut value = Vec::new(alloc);
+    put_u16(&mut value, 1)?;
+    put_u16(&mut value, 2)?;
     row(alloc, b"public:ccf.gov.constitution", &[action], value)
 }
 
@@ -53,12 +56,13 @@ fn dealing_row(alloc: Global, dealing: &Dealing) -> Result<Write, AllocError>
     row(alloc, b"public:ccf.gov.dealing", b"d", value)
 }
 
+#[tactic(auto, using(crate::proofs::Sizes::sizes))]
 fn member_row(alloc: Global, member: &NewMember) -> Result<Write, AllocError>
     ensures { IfOk result (λ write. write ≡ member_row member.now) }
 {
     let mut value = Vec::new(alloc);
     value.push(1)?;
-    value.extend_from_slice(&member.key)?;
+    put_bytes(&mut value, &member.key)?;
     put_u32(&mut value, 0)?;
     row(alloc, b"public:ccf.gov.members", &[member.number], value)
 }
@@ -70,17 +74,19 @@ pub fn node_id(node: &NewNode) -> [u8; 32]
     Sha256::digest(&node.key)
 }
 
+#[tactic(auto, using(crate::proofs::Sizes::sizes))]
 fn first_node_row(alloc: Global, node: &NewNode) -> Result<Write, AllocError>
     requires { length node.now.endorsement ≤ 2 ^ 15 }
     ensures { IfOk result (λ write. write ≡ node_row 1 node.now) }
 {
     let endorsement = node.endorsement.as_slice();
     let mut value = Vec::new(alloc);
-    value.extend_from_slice(&[1, 0, 2])?;
-    value.extend_from_slice(&node.key)?;
+    put_u16(&mut value, 1)?;
+    value.push(2)?;
+    put_bytes(&mut value, &node.key)?;
     put_u32(&mut value, endorsement.len() as u32)?;
-    value.extend_from_slice(endorsement)?;
-    value.extend_from_slice(&0u64.to_le_bytes())?;
+    put_bytes(&mut value, endorsement)?;
+    put_u64(&mut value, 0)?;
     row(alloc, b"public:ccf.gov.nodes", &node_id(node), value)
 }
 
@@ -90,7 +96,7 @@ fn service_row(alloc: Global, genesis: &Genesis) -> Result<Write, AllocError>
     let mut value = Vec::new(alloc);
     value.push(state_byte(genesis.state))?;
     value.push(0)?;
-    value.extend_from_slice(&genesis.identity)?;
+    put_bytes(&mut value, &genesis.identity)?;
     row(alloc, b"public:ccf.gov.service", b"s", value)
 }
 

@@ -1,4 +1,4 @@
-//! The store of one node.
+//! The store of one node: what it holds, and what it makes of requests.
 
 ghost use Rattle.std.specs.Prelude.{◌≡◌, ◌≢◌, ◌+◌, ◌≤◌, ◌<◌, ◌^◌, [], ◌∷◌, ◌++◌, true, length, Ok, Err, IfOk, IfErr, OnErr, OnOk};
 ghost use Rattle.std.specs.Option.{option_copied};
@@ -12,15 +12,16 @@ use crate::refusal::{Refusal, StoreError};
 use crate::request::{Reply, Request};
 use crate::rows::genesis_rows;
 use crate::run::run;
+use crate::scan::value_in;
 use crate::write::Writes;
 use gl_base::{Status, TxId, status};
 use sha2::{Digest as _, Sha256};
 use std::alloc::{AllocError, Global};
 use std::marker::Model;
 
-/// A ledger of one node, and up to which place it is committed. The ledger of a store is sound at
-/// every moment: it is one serial run of its requests, and its governance tables are the effect of
-/// the governance requests that it records.
+/// A ledger of one node, and up to which place it is committed. Places count from 1. The ledger is
+/// sound at every moment: its places and views are in order, it is one serial run of its requests,
+/// and its governance tables are the effect of the governance requests that it records.
 #[derive(Debug, Drop)]
 pub struct Store {
     entries: Vec<Entry>,
@@ -70,12 +71,13 @@ fn signature_entry(alloc: Global, node: NodeId, len: u64, view: u32, commit: u64
 impl Store {
     ghost use Rattle.gl_store.specs.Genesis.{is_acceptable};
     ghost use Rattle.gl_store.specs.Ledger.{Executes, Refuses, executed, opening_ledger, signature_entry, entry_at, view_at, held_status, commit_of, last_signature, IsSignedAt};
-    ghost use Rattle.gl_store.specs.Tables.{tables_of};
+    ghost use Rattle.gl_store.specs.Tables.{tables_of, value_in};
     ghost use Rattle.gl_store.specs.Effect.{service_state};
     ghost use Rattle.gl_store.specs.Serial.{IsSound};
     ghost use Rattle.gl_store.specs.Kept.{IsSole, IsUpTo};
 
-    /// The store of a service that begins: the genesis and the signature of its node, committed.
+    /// The store of a service that begins: the genesis at place 1, and the signature of its node at
+    /// place 2, both in view 2 and committed. Fails for want of memory alone.
     pub fn opening(alloc: Global, genesis: &Genesis, signer: NodeId) -> Result<Self, AllocError>
         requires acceptable { is_acceptable genesis.now ≡ true }
         requires sole { IsSole genesis.now signer }
@@ -102,7 +104,7 @@ impl Store {
         })
     }
 
-    /// The number of entries.
+    /// The number of entries, which is the place of the last one. It is at least 2.
     pub fn ledger_len(&self) -> u64
         ensures len { result ≡ length self.now.ledger }
         ensures opened { 2 ≤ length self.now.ledger }
@@ -111,7 +113,7 @@ impl Store {
         self.entries.len() as u64
     }
 
-    /// The entry at a place, the first place being 1.
+    /// The entry at a place. `None` at place 0 and above the last.
     pub fn entry(&self, place: u64) -> Option<&Entry>
         ensures { option_copied result ≡ entry_at self.now.ledger place }
     {
@@ -121,7 +123,7 @@ impl Store {
         }
     }
 
-    /// The view of the entry at a place, if there is one.
+    /// The view of the entry at a place. `None` at place 0 and above the last.
     pub fn view_at(&self, place: u64) -> Option<u32>
         ensures { result ≡ view_at self.now.ledger place }
     {
@@ -131,7 +133,15 @@ impl Store {
         }
     }
 
-    /// The place up to which the ledger is committed.
+    /// The value of a key in a map, if the map has that key: what the last entry that writes the row
+    /// wrote there. Takes as many steps as the ledger has writes, and no memory.
+    pub fn get(&self, map: &[u8], key: &[u8]) -> Option<&[u8]>
+        ensures { option_copied result ≡ value_in (tables_of self.now.ledger) map.now key.now }
+    {
+        value_in(&self.entries, map, key)
+    }
+
+    /// The place up to which the ledger is committed, itself included.
     pub fn commit(&self) -> u64
         ensures commit { result ≡ self.now.commit }
         ensures within { self.now.commit ≤ length self.now.ledger }
@@ -139,14 +149,15 @@ impl Store {
         self.commit
     }
 
-    /// The place of the last signature.
+    /// The place of the last signature, committed or not.
     pub fn last_signature(&self) -> u64
         ensures { result ≡ last_signature self.now.ledger }
     {
         self.last_signature
     }
 
-    /// The status of a transaction, by what this store holds.
+    /// The status of a transaction by what this store holds (CCF documentation, "Verifying
+    /// Transactions"). Only Committed and Invalid are final.
     pub fn status(&self, id: TxId) -> Status
         ensures { result ≡ held_status self.now id }
     {
@@ -160,7 +171,7 @@ impl Store {
         status(id, self.view_at(id.seqno), committed)
     }
 
-    /// Commits the ledger up to a signature.
+    /// Commits the ledger up to the signature at this place.
     pub fn commit_to(&mut self, place: u64)
         requires { IsSignedAt self.old.ledger place }
         ensures { self.new ≡ record self.old { commit = place } }
@@ -168,8 +179,9 @@ impl Store {
         self.commit = place;
     }
 
-    /// Runs a request in an open service, in a view that isn't below that of the last entry, and
-    /// makes its entry.
+    /// Runs a request and makes its entry, in a view that isn't below that of any entry before. Gives
+    /// the entry's identifier and the reply. Refused, in this order, where the service isn't open and
+    /// where an operation fails. Want of memory, too, leaves the store as it was.
     pub fn execute(&mut self, view: u32, request: &Request) -> Result<(TxId, Reply), StoreError>
         requires { IsUpTo self.old.ledger view }
         ensures made { IfOk result (λ made. Executes self.old view request.now made.0 made.1 self.new) }
@@ -212,7 +224,9 @@ impl Store {
         ))
     }
 
-    /// Signs the ledger so far, in a view that isn't below that of its last entry.
+    /// Makes the entry of a node's signature of the ledger so far, in a view that isn't below that of
+    /// any entry before. It records the commit as it now is. Fails for want of memory alone, and then
+    /// leaves the store as it was.
     pub fn sign(&mut self, node: NodeId, view: u32) -> Result<TxId, AllocError>
         requires { IsUpTo self.old.ledger view }
         ensures ok { OnOk result (self.new ≡ record self.old {

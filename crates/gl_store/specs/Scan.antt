@@ -1,0 +1,17 @@
+-- The value of a row by a scan of write sets from the last one.
+use Rattle.std.specs.Prelude.{ℕ, List, Option, None, Some, Bool, ◌&&◌, find, reverse}
+use Rattle.gl_store.specs.Tables.{same_bytes}
+use Rattle.gl_store.specs.declared.write.Write.{Write}
+
+-- The write is one to this row.
+abbrev pub is_to_row : List ℕ → List ℕ → Write → Bool
+is_to_row map key w = same_bytes map w.map && same_bytes key w.key
+
+-- The last write of a set to this row, if there is one.
+abbrev pub last_write : List ℕ → List ℕ → List Write → Option Write
+last_write map key writes = find (is_to_row map key) (reverse writes)
+
+-- The row's value behind such a write: what it wrote, and without a write what was there before.
+abbrev pub value_behind : Option Write → Option (List ℕ) → Option (List ℕ)
+value_behind None before = before
+value_behind (Some w) before = w.value

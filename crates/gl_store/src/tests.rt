@@ -1,0 +1,374 @@
+//! The rows and the entries against bytes worked out by hand, with digests by Python's hashlib.
+
+ghost use Rattle.std.specs.Prelude.{◌≡◌, ◌≤◌, ℕ, [], ◌∷◌, length, replicate, true, IfOk};
+ghost use Rattle.gl_store.specs.Genesis.{is_acceptable};
+ghost use Rattle.gl_store.specs.Kept.{IsUpTo};
+ghost use Rattle.gl_store.specs.Ledger.{IsSignedAt};
+
+use crate::rows::node_id;
+use crate::{
+    Abort, Answer, Bytes, Cause, Content, Dealing, Genesis, Key, MapName, Members, NewMember,
+    NewNode, NodeId, Nodes, Operation, Refusal, Reply, Request, ServiceState, ShareDigest, Shares,
+    Store, StoreError, Value, Write,
+};
+use gl_base::{Status, TxId};
+use std::alloc::{AllocError, Global};
+use std::test::Fail;
+
+// The digest of 56 bytes 07.
+const NODE: NodeId = [
+    0x84, 0x9e, 0x69, 0x94, 0xb0, 0x2d, 0x46, 0x06, 0x80, 0xd1, 0xd4, 0xd9, 0xed, 0x69, 0x0a, 0xa3,
+    0x58, 0x11, 0xc8, 0x80, 0x56, 0x98, 0x7e, 0x0b, 0x6c, 0xad, 0x0e, 0xb8, 0x5c, 0xb7, 0xd9, 0x8d,
+];
+
+// The digest of the bytes 01 00 00, a reply of one operation that was done.
+const DONE: [u8; 32] = [
+    0xfb, 0x50, 0xdc, 0x07, 0x17, 0xff, 0x26, 0x6c, 0xf9, 0xba, 0xf8, 0x2b, 0x1c, 0xe7, 0xa1, 0xc2,
+    0xef, 0x6d, 0x92, 0x47, 0x85, 0x96, 0x80, 0xb1, 0x1a, 0x19, 0xfb, 0x70, 0x77, 0xf5, 0xf2, 0x22,
+];
+
+// A service of one node, with an endorsement of two bytes, and one member.
+fn genesis(alloc: Global, state: ServiceState) -> Result<Genesis, AllocError>
+    ensures acceptable { IfOk result (λ g. is_acceptable g ≡ true) }
+    ensures one_node { IfOk result (λ g. g.nodes ≡ record { key = replicate 56 7; endorsement = 170 ∷ 187 ∷ [] } ∷ []) }
+    ensures one_member { IfOk result (λ g. g.members ≡ record { number = 1; key = replicate 60 3 } ∷ []) }
+    ensures one_share { IfOk result (λ g. length g.dealing.shares ≡ 1) }
+{
+    let endorsement = Bytes::from(Vec::from_slice(alloc, &[0xaa, 0xbb])?);
+    let mut nodes = Vec::new(alloc);
+    nodes.push(NewNode {
+        key: [7; 56],
+        endorsement,
+    })?;
+    let member = NewMember {
+        number: 1,
+        key: [3; 60],
+    };
+    let share = ShareDigest {
+        member: 1,
+        digest: [6; 32],
+    };
+    Ok(Genesis {
+        state,
+        identity: [9; 60],
+        nodes: Nodes::from(nodes),
+        members: Members::from(Vec::from_slice(alloc, &[member])?),
+        dealing: Dealing {
+            threshold: 1,
+            secret_digest: [5; 32],
+            shares: Shares::from(Vec::from_slice(alloc, &[share])?),
+        },
+    })
+}
+
+// The store of such a service.
+fn opened(alloc: Global, state: ServiceState) -> Result<Store, AllocError>
+    ensures { IfOk result (λ s. (view : ℕ) → 2 ≤ view → IsUpTo s.ledger view) }
+{
+    let genesis = genesis(alloc, state)?;
+    let signer = node_id(&genesis.nodes.as_slice()[0]);
+    Store::opening(alloc, &genesis, signer)
+}
+
+// A request that puts one byte at the key `a`.
+fn put_request(alloc: Global, map: &[u8], value: u8) -> Result<Request, Fail> {
+    let map = MapName::new(Vec::from_slice(alloc, map)?).ok_or("a map's name")?;
+    let key = Key::new(Vec::from_slice(alloc, b"a")?).ok_or("a key")?;
+    let value = Value::new(Vec::from_slice(alloc, &[value])?).ok_or("a value")?;
+    Ok(Request::of(Operation::Put { map, key, value }))
+}
+
+// An entry of the request, in a view in which more may follow.
+fn execute(store: &mut Store, view: u32, request: &Request) -> Result<(TxId, Reply), StoreError>
+    requires { IsUpTo store.old.ledger view }
+    ensures { (later : ℕ) → view ≤ later → IsUpTo store.new.ledger later }
+{
+    store.execute(view, request)
+}
+
+// A signature, in a view in which more may follow.
+fn sign(store: &mut Store, view: u32) -> Result<TxId, AllocError>
+    requires { IsUpTo store.old.ledger view }
+    ensures up_to { IsUpTo store.new.ledger view }
+    ensures signed { IfOk result (λ id. IsSignedAt store.new.ledger id.seqno) }
+{
+    store.sign(NODE, view)
+}
+
+// So many signatures.
+fn sign_times(store: &mut Store, view: u32, count: u64) -> Result<(), AllocError>
+    requires { IsUpTo store.old.ledger view }
+    ensures { IsUpTo store.new.ledger view }
+{
+    for _ in 0..count {
+        sign(store, view)?;
+    }
+    Ok(())
+}
+
+// The bytes that these runs of a byte make.
+fn runs(alloc: Global, runs: &[(u8, usize)]) -> Result<Vec<u8>, AllocError> {
+    let mut bytes = Vec::new(alloc);
+    for (byte, count) in runs {
+        for _ in 0..*count {
+            bytes.push(*byte)?;
+        }
+    }
+    Ok(bytes)
+}
+
+fn has_value(store: &Store, map: &[u8], key: &[u8], value: &[u8]) -> bool {
+    match store.get(map, key) {
+        None => false,
+        Some(held) => held == value,
+    }
+}
+
+fn is_row(write: &Write, map: &[u8], key: &[u8], value: &[u8]) -> bool {
+    match &write.value {
+        None => false,
+        Some(written) => {
+            write.map.as_slice() == map
+                && write.key.as_slice() == key
+                && written.as_slice() == value
+        }
+    }
+}
+
+#[test]
+fn opens_with_the_rows_of_its_genesis(rt: HostRuntime) -> Result<(), Fail> {
+    let alloc = rt.alloc();
+    let store = opened(alloc, ServiceState::Open)?;
+    assert_eq!(rt; store.ledger_len(), 2);
+    assert_eq!(rt; store.commit(), 2);
+    assert_eq!(rt; store.last_signature(), 2);
+    assert_eq!(rt; store.view_at(0), None);
+    assert_eq!(rt; store.view_at(1), Some(2));
+    assert_eq!(rt; store.view_at(3), None);
+    let dealing: &[(u8, usize)] = &[(1, 1), (5, 32), (1, 1), (1, 1), (6, 32)];
+    let rows: [(&[u8], &[u8], &[(u8, usize)]); 11] = [
+        (
+            b"public:ccf.gov.constitution",
+            &[1],
+            &[(1, 1), (0, 1), (2, 1), (0, 1)],
+        ),
+        (
+            b"public:ccf.gov.constitution",
+            &[2],
+            &[(1, 1), (0, 1), (2, 1), (0, 1)],
+        ),
+        (
+            b"public:ccf.gov.constitution",
+            &[3],
+            &[(1, 1), (0, 1), (2, 1), (0, 1)],
+        ),
+        (
+            b"public:ccf.gov.constitution",
+            &[4],
+            &[(1, 1), (0, 1), (2, 1), (0, 1)],
+        ),
+        (
+            b"public:ccf.gov.constitution",
+            &[5],
+            &[(1, 1), (0, 1), (2, 1), (0, 1)],
+        ),
+        (
+            b"public:ccf.gov.constitution",
+            &[6],
+            &[(1, 1), (0, 1), (2, 1), (0, 1)],
+        ),
+        (
+            b"public:ccf.gov.constitution",
+            &[7],
+            &[(1, 1), (0, 1), (2, 1), (0, 1)],
+        ),
+        (b"public:ccf.gov.dealing", b"d", dealing),
+        (b"public:ccf.gov.members", &[1], &[(1, 1), (3, 60), (0, 4)]),
+        (
+            b"public:ccf.gov.nodes",
+            &NODE,
+            &[
+                (1, 1),
+                (0, 1),
+                (2, 1),
+                (7, 56),
+                (2, 1),
+                (0, 3),
+                (0xaa, 1),
+                (0xbb, 1),
+                (0, 8),
+            ],
+        ),
+        (b"public:ccf.gov.service", b"s", &[(2, 1), (0, 1), (9, 60)]),
+    ];
+    let entry = store.entry(1).ok_or("no entry")?;
+    let writes = entry.writes.as_slice();
+    assert_eq!(rt; writes.len(), 11);
+    for (write, (map, key, value)) in writes.iter().zip(rows.iter()) {
+        let value = runs(alloc, value)?;
+        assert!(rt; is_row(write, map, key, &value));
+        assert!(rt; has_value(&store, map, key, &value));
+    }
+    Ok(())
+}
+
+#[test]
+fn opens_with_the_entries_of_its_genesis(rt: HostRuntime) -> Result<(), Fail> {
+    let alloc = rt.alloc();
+    let store = opened(alloc, ServiceState::Opening)?;
+    let head: &[(u8, usize)] = &[(1, 2), (9, 60)];
+    let node: &[(u8, usize)] = &[(1, 1), (7, 56), (2, 1), (0, 3), (0xaa, 1), (0xbb, 1)];
+    let member: &[(u8, usize)] = &[(1, 2), (3, 60)];
+    let dealing: &[(u8, usize)] = &[(1, 1), (5, 32), (1, 2), (6, 32)];
+    let mut request = Vec::new(alloc);
+    for part in [head, node, member, dealing] {
+        request.extend_from_slice(&runs(alloc, part)?)?;
+    }
+    let genesis = store.entry(1).ok_or("no entry")?;
+    assert_eq!(rt; genesis.view, 2);
+    assert_eq!(rt; genesis.seqno, 1);
+    assert!(rt;
+        matches!(&genesis.content, Content::Governance(bytes) if bytes.as_slice() == request.as_slice())
+    );
+    assert_eq!(rt; genesis.claims, [0; 32]);
+    let opening = store.entry(2).ok_or("no entry")?;
+    assert_eq!(rt; opening.view, 2);
+    assert_eq!(rt; opening.seqno, 2);
+    assert!(rt; is_signature_of(&opening.content, 2));
+    assert_eq!(rt; opening.writes.as_slice().len(), 0);
+    assert_eq!(rt; opening.claims, [0; 32]);
+    Ok(())
+}
+
+// The node's signature, until there are trees and keys, with this commit.
+fn is_signature_of(content: &Content, commit: u64) -> bool {
+    match content {
+        Content::Signature(signed) => {
+            signed.node == NODE
+                && signed.commit == commit
+                && signed.root == [0; 32]
+                && signed.signature.as_slice().is_empty()
+        }
+        _ => false,
+    }
+}
+
+#[test]
+fn records_a_put_and_gives_its_last_value(rt: HostRuntime) -> Result<(), Fail> {
+    let alloc = rt.alloc();
+    let mut store = opened(alloc, ServiceState::Open)?;
+    let (id, reply) = execute(&mut store, 2, &put_request(alloc, b"public:t", 1)?)?;
+    assert_eq!(rt; id, TxId { view: 2, seqno: 3 });
+    assert_eq!(rt; reply.as_slice(), [Answer::Done].as_slice());
+    assert!(rt; has_value(&store, b"public:t", b"a", &[1]));
+    let entry = store.entry(3).ok_or("no entry")?;
+    let request: &[u8] = b"\x01\x00\x03\x08public:t\x01\x00a\x01\x00\x00\x00\x01";
+    assert!(rt;
+        matches!(&entry.content, Content::Application(bytes) if bytes.as_slice() == request)
+    );
+    assert_eq!(rt; entry.view, 2);
+    assert_eq!(rt; entry.seqno, 3);
+    assert_eq!(rt; entry.claims, DONE);
+    match entry.writes.as_slice() {
+        [write] => assert!(rt; is_row(write, b"public:t", b"a", &[1])),
+        _ => assert!(rt; false, "one write"),
+    }
+    execute(&mut store, 2, &put_request(alloc, b"public:t", 2)?)?;
+    execute(&mut store, 3, &put_request(alloc, b"public:u", 3)?)?;
+    assert!(rt; has_value(&store, b"public:t", b"a", &[2]));
+    assert!(rt; has_value(&store, b"public:u", b"a", &[3]));
+    assert!(rt; store.get(b"public:t", b"b").is_none());
+    assert!(rt; store.get(b"public:v", b"a").is_none());
+    assert_eq!(rt; store.view_at(4), Some(2));
+    assert_eq!(rt; store.view_at(5), Some(3));
+    Ok(())
+}
+
+// What a store in this state refuses a put to the map with.
+fn refusal(alloc: Global, state: ServiceState, map: &[u8]) -> Result<Option<Refusal>, Fail> {
+    let mut store = opened(alloc, state)?;
+    match execute(&mut store, 2, &put_request(alloc, map, 1)?) {
+        Ok(_) => Ok(None),
+        Err(StoreError::Refused(refusal)) => Ok(Some(refusal)),
+        Err(StoreError::Memory) => Err(Fail::from("out of memory")),
+    }
+}
+
+#[test]
+fn refuses_closed_services_and_maps_that_are_no_applications(rt: HostRuntime) -> Result<(), Fail> {
+    let alloc = rt.alloc();
+    let not_public = Refusal::Aborted(Abort {
+        operation: 1,
+        cause: Cause::NotPublic,
+    });
+    let reserved = Refusal::Aborted(Abort {
+        operation: 1,
+        cause: Cause::Reserved,
+    });
+    let closed = Refusal::ServiceState(ServiceState::Opening);
+    let rows: [(ServiceState, &[u8], Option<Refusal>); 7] = [
+        (ServiceState::Open, b"public:", None),
+        (ServiceState::Open, b"public:ccf.gov", None),
+        (ServiceState::Open, b"private", Some(not_public)),
+        (ServiceState::Open, b"public:ccf.gov.nodes", Some(reserved)),
+        (
+            ServiceState::Open,
+            b"public:ccf.internal.tree",
+            Some(reserved),
+        ),
+        (ServiceState::Opening, b"public:t", Some(closed)),
+        (ServiceState::Opening, b"private", Some(closed)),
+    ];
+    for (state, map, want) in rows {
+        assert_eq!(rt; refusal(alloc, state, map)?, want);
+    }
+    Ok(())
+}
+
+#[test]
+fn signs_and_commits(rt: HostRuntime) -> Result<(), Fail> {
+    let alloc = rt.alloc();
+    let mut store = opened(alloc, ServiceState::Open)?;
+    let (put, _) = execute(&mut store, 2, &put_request(alloc, b"public:t", 1)?)?;
+    assert_eq!(rt; store.status(put), Status::Pending);
+    let signed = sign(&mut store, 2)?;
+    assert_eq!(rt; signed, TxId { view: 2, seqno: 4 });
+    assert_eq!(rt; store.last_signature(), 4);
+    let entry = store.entry(4).ok_or("no entry")?;
+    assert!(rt; is_signature_of(&entry.content, 2));
+    store.commit_to(signed.seqno);
+    assert_eq!(rt; store.commit(), 4);
+    assert_eq!(rt; store.status(put), Status::Committed);
+    Ok(())
+}
+
+// With 4.10 committed and nothing held above it.
+#[test]
+fn tells_statuses(rt: HostRuntime) -> Result<(), Fail> {
+    let mut store = opened(rt.alloc(), ServiceState::Open)?;
+    sign_times(&mut store, 4, 7)?;
+    let last = sign(&mut store, 4)?;
+    store.commit_to(last.seqno);
+    for (view, seqno, want) in [
+        (4, 10, Status::Committed),
+        (3, 10, Status::Invalid),
+        (3, 12, Status::Invalid),
+        (4, 12, Status::Unknown),
+        (5, 11, Status::Unknown),
+    ] {
+        assert_eq!(rt; store.status(TxId { view, seqno }), want);
+    }
+    Ok(())
+}
+
+#[test]
+fn copies_names(rt: HostRuntime) -> Result<(), Fail> {
+    let alloc = rt.alloc();
+    let map = MapName::from_slice(alloc, b"public:t")?;
+    assert_eq!(rt; map.copy(alloc)?.as_slice(), b"public:t".as_slice());
+    let key = Key::from_slice(alloc, b"a")?;
+    assert_eq!(rt; key.copy(alloc)?.as_slice(), b"a".as_slice());
+    let value = Value::of(Vec::from_slice(alloc, &[1, 2])?);
+    assert_eq!(rt; value.copy(alloc)?.as_slice(), [1, 2].as_slice());
+    Ok(())
+}

@@ -4,3 +4,4 @@ pub mod Ots
 pub mod Tree
 pub mod Hss
 pub mod Order
+pub mod Lent

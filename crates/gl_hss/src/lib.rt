@@ -6,6 +6,7 @@
 
 mod fault;
 mod layout;
+mod lms;
 mod ots;
 mod reading;
 mod tree;

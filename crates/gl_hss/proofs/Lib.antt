@@ -1,3 +1,4 @@
 pub mod Digits
 pub mod Chains
 pub mod Parameters
+pub mod Climbing

@@ -161,7 +161,7 @@ verdict key message s =
     levels_of_key key >>= λ levels.
     top_key key >>= λ k.
     reaches s 4 (least_len k.types levels)
-    >> check (number_at s 0 + 1 == levels) (fault.Levels (levels - 1) (number_at s 0))
+    >> check (number_at s 0 == levels - 1) (fault.Levels (levels - 1) (number_at s 0))
     >> (if levels == 1 then one_level k message s else two_levels k message s)
 
 -- the leaf in a signature of one level
@@ -171,14 +171,18 @@ leaf_of_one s =
     ends s (4 + signature_len x.0)
     >> Ok x.1
 
+-- the leaf behind an upper LMS signature with these types
+unfoldable pub leaf_below : Types → List ℕ → Result ℕ HssFault
+leaf_below t s =
+    let at = 4 + signature_len t in
+    embedded_key s at >>= λ next.
+    signature_at next.types s (at + 56) (at + 56 + signature_len next.types) >>= λ last.
+    ends s (at + 56 + signature_len next.types)
+    >> Ok last.leaf
+
 -- the leaf of the last level in a signature of two
 unfoldable pub leaf_of_two : List ℕ → Result ℕ HssFault
-leaf_of_two s =
-    first_signature s (56 + signature_len H5W8) >>= λ x.
-    embedded_key s (4 + signature_len x.0) >>= λ next.
-    signature_at next.types s (60 + signature_len x.0) (60 + signature_len x.0 + signature_len next.types) >>= λ last.
-    ends s (60 + signature_len x.0 + signature_len next.types)
-    >> Ok last.leaf
+leaf_of_two s = first_signature s (56 + signature_len H5W8) >>= λ x. leaf_below x.0 s
 
 -- the leaf of the last LMS signature, or the first fault
 unfoldable pub leaf_verdict : List ℕ → Result ℕ HssFault

@@ -43,7 +43,15 @@ pub(crate) fn block(bytes: &[u8], i: usize) -> [u8; 32]
     requires { 32 * i + 32 ≤ length bytes.now }
     ensures { result ≡ block bytes.now i }
 {
+    to_block(bytes_at(bytes, 32 * i, 32))
+}
+
+// The 32 bytes as an array.
+pub(crate) fn to_block(bytes: &[u8]) -> [u8; 32]
+    requires { length bytes.now ≡ 32 }
+    ensures { result ≡ bytes.now }
+{
     let mut out = [0; 32];
-    out.copy_from_slice(bytes_at(bytes, 32 * i, 32));
+    out.copy_from_slice(bytes);
     out
 }

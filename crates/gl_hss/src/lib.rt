@@ -15,4 +15,4 @@ mod verifying;
 
 pub use fault::HssFault;
 pub use types::Types;
-// pub use verifying::{leaf_of, verify};
+pub use verifying::{leaf_of, verify};

@@ -1,15 +1,14 @@
 //! Trees of one-time keys, LMS (section 5).
 
-ghost use Rattle.std.specs.Prelude.{◌≡◌, ◌+◌, ◌*◌, ◌^◌, ◌<◌, length};
-ghost use Rattle.gl_hss.specs.Types.{height, chain_count};
+ghost use Rattle.std.specs.Prelude.{◌≡◌, ◌*◌, length};
+ghost use Rattle.gl_hss.specs.Hss.{IsKey, IsSignature};
 ghost use Rattle.gl_hss.specs.Ots.{key_candidate};
 ghost use Rattle.gl_hss.specs.Tree.{leaf_node, inner_node, parent, climbed, root_candidate};
-ghost use Rattle.gl_hss.specs.Lent.{signature_of};
+ghost use Rattle.gl_hss.specs.Lent.{key_of, signature_of};
 
 use crate::layout::{block, u32str};
-use crate::lms::LmsSignature;
+use crate::lms::{LmsPublicKey, LmsSignature};
 use crate::ots::{digits, key_of_chains, message_digest};
-use crate::types::Types;
 use sha2::{Digest, Sha256};
 
 // Which use of the hash it is (section 7.1).
@@ -76,38 +75,32 @@ fn climb(identifier: &[u8], path: &[u8], node: u32, levels: u32, value: [u8; 32]
 
 // The one-time public key that a signature of the message leads to.
 #[tactic(auto, unfolding(crate::specs::Ots::key_candidate))]
-fn key_candidate(
-    types: Types,
-    identifier: &[u8],
-    signature: &LmsSignature<'_>,
-    message: &[u8],
-) -> [u8; 32]
-    requires identifier { length identifier.now ≡ 16 }
-    requires chains { length signature.now.chains.now ≡ 32 * chain_count types }
-    ensures { result ≡ key_candidate types identifier.now signature.now.leaf signature.now.randomizer.now
-        signature.now.chains.now message.now }
+fn key_candidate(key: &LmsPublicKey<'_>, signature: &LmsSignature<'_>, message: &[u8]) -> [u8; 32]
+    requires key { IsKey (key_of key.now) }
+    requires signature { IsSignature key.now.types (signature_of signature.now) }
+    ensures { result ≡ key_candidate key.now.types key.now.identifier.now signature.now.leaf
+        signature.now.randomizer.now signature.now.chains.now message.now }
 {
     let q = signature.leaf;
-    let digest = message_digest(identifier, q, signature.randomizer, message);
-    key_of_chains(types, identifier, q, &digits(types, &digest), signature.chains)
+    let digest = message_digest(key.identifier, q, signature.randomizer, message);
+    let digits = digits(key.types, &digest);
+    key_of_chains(key.types, key.identifier, q, &digits, signature.chains)
 }
 
 // The root that a signature of the message leads to.
 #[tactic(auto, unfolding(crate::specs::Tree::root_candidate))]
 pub(crate) fn root_candidate(
-    types: Types,
-    identifier: &[u8],
+    key: &LmsPublicKey<'_>,
     signature: &LmsSignature<'_>,
     message: &[u8],
 ) -> [u8; 32]
-    requires identifier { length identifier.now ≡ 16 }
-    requires leaf { signature.now.leaf < 2 ^ height types }
-    requires chains { length signature.now.chains.now ≡ 32 * chain_count types }
-    requires path { length signature.now.path.now ≡ 32 * height types }
-    ensures { result ≡ root_candidate types identifier.now (signature_of signature.now) message.now }
+    requires key { IsKey (key_of key.now) }
+    requires signature { IsSignature key.now.types (signature_of signature.now) }
+    ensures { result ≡ root_candidate key.now.types key.now.identifier.now (signature_of signature.now) message.now }
 {
-    let node = (1 << types.height()) + signature.leaf;
-    let key = key_candidate(types, identifier, signature, message);
-    let leaf = leaf_node(identifier, node, &key);
-    climb(identifier, signature.path, node, types.height(), leaf)
+    let height = key.types.height();
+    let node = (1 << height) + signature.leaf;
+    let one_time_key = key_candidate(key, signature, message);
+    let leaf = leaf_node(key.identifier, node, &one_time_key);
+    climb(key.identifier, signature.path, node, height, leaf)
 }

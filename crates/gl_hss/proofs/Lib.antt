@@ -2,3 +2,5 @@ pub mod Digits
 pub mod Chains
 pub mod Parameters
 pub mod Climbing
+pub mod Spans
+pub mod Spelled

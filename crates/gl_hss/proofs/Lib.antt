@@ -4,3 +4,5 @@ pub mod Parameters
 pub mod Climbing
 pub mod Spans
 pub mod Spelled
+pub mod Readings
+pub mod Verdicts

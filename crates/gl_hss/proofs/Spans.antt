@@ -1,5 +1,5 @@
 -- Which text stands between two places of a string.
-use Rattle.std.proofs.Common.{◌≡◌, ℕ, ◌+◌, ◌-◌, ◌^◌, ◌<◌, ◌≤◌, List, [], ◌∷◌, ◌++◌, length, get_or, take, drop, refl, sym, ap, ◌∙◌, append_assoc, arith, inl, inr}
+use Rattle.std.proofs.Common.{◌≡◌, ℕ, ◌+◌, ◌-◌, ◌^◌, ◌<◌, ◌≤◌, List, [], ◌∷◌, ◌++◌, length, get_or, take, drop, refl, sym, ap, subst, ◌∙◌, append_assoc, arith, inl, inr}
 use Rattle.std.proofs.lemmas.Bool.{cases_lt}
 use Rattle.std.proofs.lemmas.List.{take_at, drop_at, drop_all, append-nil, take-append-drop, length-append, length-take, length-drop, drop-drop, get_or-drop, get_or-take, get_or_past}
 use Rattle.std.proofs.lemmas.Nat.{be_bytes_4, from_be_bytes-to_be_bytes_4}
@@ -77,3 +77,7 @@ pub number_at-Spans : (s : List ℕ) (a b n : ℕ) → Spans s a (u32str n) b �
 unfolding u32str number_at
 number_at-Spans s a b n p h =
     ap (λ (t : List ℕ). from_be_bytes w32 t) (bytes_at-Spans s a b 4 (u32str n) p refl) ∙ from_be_bytes-to_be_bytes_4 n h
+
+-- the same text, its place written in another way
+pub Spans-from : (s : List ℕ) (a b to : ℕ) (x : List ℕ) → a ≡ b → Spans s a x to → Spans s b x to
+Spans-from s a b to x e p = subst (λ (n : ℕ). Spans s n x to) e p

@@ -6,3 +6,4 @@ pub mod Spans
 pub mod Spelled
 pub mod Readings
 pub mod Verdicts
+pub mod Leaves

@@ -1,6 +1,6 @@
 -- A signature is accepted exactly where it is valid.
 use Rattle.std.proofs.Common.{◌≡◌, ℕ, suc, ◌+◌, ◌-◌, ◌*◌, ◌^◌, ◌<◌, ◌≤◌, Bool, true, false, cond, List, [], ◌∷◌, ◌++◌, length, drop, Result, Ok, Err, refl, sym, ap, subst, ◌∙◌, append_assoc, arith, ◌⊎◌, inl, inr}
-use Rattle.std.specs.Prelude.{◌==◌, ◌||◌, if◌then◌else◌}
+use Rattle.std.specs.Prelude.{◌==◌, ◌||◌, if◌then◌else◌, IsOk}
 use Rattle.std.proofs.lemmas.Bool.Decides.{nat_tests}
 use Rattle.std.proofs.lemmas.List.{length-append, length-drop}
 use Rattle.std.proofs.lemmas.Bool.{cases_eq}
@@ -264,3 +264,12 @@ valid_levels key message s k (u ∷ v ∷ us) last of_key spelled signs =
 
 pub valid_verdict : (key message s : List ℕ) → IsValid key message s → verdict key message s ≡ Ok tt
 valid_verdict key message s v = valid_levels key message s v.top v.upper v.last v.of_key v.spelled v.signs
+
+-- an answer that is Ok is Ok of nothing
+pub ok_nothing : (r : Result (Unit {0}) HssFault) → IsOk r → r ≡ Ok tt
+ok_nothing (Ok u) h = refl
+ok_nothing (Err f) h = absurd cc
+
+pub nothing_ok : (r : Result (Unit {0}) HssFault) → r ≡ Ok tt → IsOk r
+nothing_ok (Ok u) e = refl
+nothing_ok (Err f) e = absurd cc

@@ -1,7 +1,7 @@
 //! Whether an HSS signature is valid (section 6.3).
 
-ghost use Rattle.std.specs.Prelude.{◌≡◌};
-ghost use Rattle.gl_hss.specs.Hss.{IsKey, IsSignature};
+ghost use Rattle.std.specs.Prelude.{◌≡◌, ◌↔◌, ℕ, IsOk, Ok};
+ghost use Rattle.gl_hss.specs.Hss.{IsKey, IsSignature, IsValid, HasLeaf};
 ghost use Rattle.gl_hss.specs.Lent.{key_of, signature_of};
 ghost use Rattle.gl_hss.specs.Order.{has_root, one_level, two_levels, verdict, leaf_of_one, leaf_below, leaf_of_two, leaf_verdict, least_len};
 
@@ -73,29 +73,41 @@ fn least_len(types: Types, levels: u32) -> usize
     }
 }
 
-/// Whether the bytes are a valid HSS signature of the message under the key, a 60-byte HSS public key
-/// of one or two levels (sections 6.1 and 6.3).
-///
-/// Key and signature are read from left to right, then the roots are compared from the top on, and
-/// the first fault is answered. Where bytes are missing or left over, `Length` has the fewest bytes
-/// that a signature has which begins so; before the types of the key inside are read, the signature
-/// behind it counts as the shortest.
+// What verifying answers: nothing, or the first fault.
 #[tactic(auto, unfolding(crate::specs::Order::verdict))]
-pub fn verify(key: &[u8; 60], message: &[u8], signature: &[u8]) -> Result<(), HssFault>
-    ensures order { result ≡ verdict key.now message.now signature.now }
+fn verdict(key: &[u8; 60], message: &[u8], signature: &[u8]) -> Result<(), HssFault>
+    ensures { result ≡ verdict key.now message.now signature.now }
 {
     let levels = levels_of_key(key)?;
     let top = top_key(key)?;
     reaches(signature, 4, least_len(top.types, levels))?;
     let upper = number_at(signature, 0);
     if upper != levels - 1 {
-        return Err(HssFault::Levels { want: levels - 1, got: upper });
+        return Err(HssFault::Levels {
+            want: levels - 1,
+            got: upper,
+        });
     }
     if levels == 1 {
         one_level(&top, message, signature)
     } else {
         two_levels(&top, message, signature)
     }
+}
+
+/// Whether the bytes are a valid HSS signature of the message under the key, a 60-byte HSS public key
+/// of one or two levels (sections 6.1 and 6.3).
+///
+/// Key and signature are read from left to right, then the roots are compared from the top on, and
+/// the first fault is answered. Where bytes are missing or left over, `Length` has the fewest bytes
+/// that a signature has which begins so; before the types of the key inside are read, the signature
+/// behind it counts as the shortest. The place in `Types` counts in the key for the key's own types
+/// (4 or 8), else in the signature.
+pub fn verify(key: &[u8; 60], message: &[u8], signature: &[u8]) -> Result<(), HssFault>
+    ensures valid { IsOk result ↔ IsValid key.now message.now signature.now }
+    ensures first_fault { result ≡ verdict key.now message.now signature.now }
+{
+    verdict(key, message, signature)
 }
 
 // The leaf in a signature of one level.
@@ -130,13 +142,10 @@ fn leaf_of_two(signature: &[u8]) -> Result<u32, HssFault>
     leaf_below(types, signature)
 }
 
-/// The number of the leaf that the last level of an HSS signature used.
-///
-/// The key isn't known: any of the four parameter sets may stand in the first level. So its leaf is
-/// tried when both of its types are read, and no root is compared.
+// The leaf of the last level, or the first fault.
 #[tactic(auto, unfolding(crate::specs::Order::leaf_verdict))]
-pub fn leaf_of(signature: &[u8]) -> Result<u32, HssFault>
-    ensures order { result ≡ leaf_verdict signature.now }
+fn leaf_verdict(signature: &[u8]) -> Result<u32, HssFault>
+    ensures { result ≡ leaf_verdict signature.now }
 {
     reaches(signature, 4, 4 + Types::H5W8.signature_len())?;
     match number_at(signature, 0) {
@@ -144,4 +153,15 @@ pub fn leaf_of(signature: &[u8]) -> Result<u32, HssFault>
         1 => leaf_of_two(signature),
         got => Err(HssFault::Levels { want: 1, got }),
     }
+}
+
+/// The number of the leaf that the last level of an HSS signature used.
+///
+/// The key isn't known: any of the four parameter sets may stand in the first level. So its leaf is
+/// tried when both of its types are read, and no root is compared.
+pub fn leaf_of(signature: &[u8]) -> Result<u32, HssFault>
+    ensures leaf { (q : ℕ) → (result ≡ Ok q) ↔ HasLeaf signature.now q }
+    ensures first_fault { result ≡ leaf_verdict signature.now }
+{
+    leaf_verdict(signature)
 }

@@ -16,3 +16,6 @@ mod verifying;
 pub use fault::HssFault;
 pub use types::Types;
 pub use verifying::{leaf_of, verify};
+
+#[cfg(test)]
+mod tests;

@@ -5,3 +5,7 @@ pub mod Tree
 pub mod Hss
 pub mod Order
 pub mod Lent
+pub mod Secrets
+pub mod Profile
+pub mod Source
+pub mod Nodes

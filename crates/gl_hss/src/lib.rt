@@ -5,10 +5,12 @@
 #![tactic(auto)]
 
 mod fault;
+mod growing;
 mod layout;
 mod lms;
 mod ots;
 mod reading;
+mod source;
 mod tree;
 mod types;
 mod verifying;

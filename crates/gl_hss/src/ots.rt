@@ -10,14 +10,14 @@ use crate::types::Types;
 use sha2::{Digest, Sha256};
 
 // Which use of the hash it is (section 7.1).
-const D_PBLC: [u8; 2] = [0x80, 0x80];
+pub(crate) const D_PBLC: [u8; 2] = [0x80, 0x80];
 const D_MESG: [u8; 2] = [0x81, 0x81];
 
 // The bytes before a step's number and value, which all steps of a chain share.
 pub(crate) const PREFIX_LEN: usize = 22;
 
 // The i-th digit of `bytes`.
-fn coef(types: Types, bytes: &[u8], i: usize) -> u8
+pub(crate) fn coef(types: Types, bytes: &[u8], i: usize) -> u8
     requires { i * width types / 8 < length bytes.now }
     ensures value { result ≡ coef bytes.now i (width types) }
     ensures most { result ≤ 2 ^ width types - 1 }

@@ -7,3 +7,4 @@ pub mod Spelled
 pub mod Readings
 pub mod Verdicts
 pub mod Leaves
+pub mod Trees

@@ -71,3 +71,10 @@ pub record HasLeaf (signature : List ℕ) (q : ℕ) : Type 0 where
   pub form : AreLevels types upper last
   pub spelled : signature ≡ hss_bytes types upper last
   pub leaf : last.leaf ≡ q
+
+-- the bytes are a signature of the message by leaf q, valid under the LMS public key (5.4)
+pub record Signs (k : PublicKey) (q : ℕ) (message bytes : List ℕ) : Type 0 where
+  pub fields : Signature
+  pub spelled : bytes ≡ signature_bytes k.types fields
+  pub leaf : fields.leaf ≡ q
+  pub signed : IsSigned k message fields

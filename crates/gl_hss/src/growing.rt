@@ -15,7 +15,7 @@ fn fill_leaves(source: &KeySource, nodes: &mut [[u8; 32]])
     requires { length nodes.old ≡ 2 * 2 ^ height source.now.types }
     ensures { HoldsFrom (private_of source.now) nodes.new (2 ^ height source.now.types) }
 {
-    let count = 1 << source.types.height();
+    let count = source.types.leaf_count();
     for q in 0..count {
         let node = count + q;
         let key = source.key_of_leaf(q);
@@ -29,7 +29,7 @@ fn fill_inner(source: &KeySource, nodes: &mut [[u8; 32]])
     requires leaves { HoldsFrom (private_of source.now) nodes.old (2 ^ height source.now.types) }
     ensures { HoldsFrom (private_of source.now) nodes.new 1 }
 {
-    let count = 1usize << source.types.height();
+    let count = source.types.leaf_count() as usize;
     for done in 1..count {
         let node = count - done;
         let left = nodes[2 * node];
@@ -42,7 +42,7 @@ fn fill_inner(source: &KeySource, nodes: &mut [[u8; 32]])
 pub(crate) fn grow(alloc: Global, source: &KeySource) -> Result<Vec<[u8; 32]>, AllocError>
     ensures { IfOk result (λ nodes. HoldsTree (private_of source.now) nodes.items) }
 {
-    let mut nodes = vec![in alloc; [0; 32]; 2 << source.types.height()]?;
+    let mut nodes = vec![in alloc; [0; 32]; 2 * source.types.leaf_count() as usize]?;
     fill_leaves(source, &mut nodes);
     fill_inner(source, &mut nodes);
     Ok(nodes)

@@ -6,6 +6,7 @@
 
 mod fault;
 mod growing;
+mod key;
 mod layout;
 mod lms;
 mod ots;
@@ -16,6 +17,7 @@ mod types;
 mod verifying;
 
 pub use fault::HssFault;
+pub use key::LmsKey;
 pub use types::Types;
 pub use verifying::{leaf_of, verify};
 

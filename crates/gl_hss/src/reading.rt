@@ -64,7 +64,7 @@ fn has_leaf(types: Types, q: u32) -> Result<(), HssFault>
     ensures value { result ≡ has_leaf types q }
     ensures below { OnOk result (q < 2 ^ height types) }
 {
-    if q < 1 << types.height() {
+    if q < types.leaf_count() {
         Ok(())
     } else {
         Err(HssFault::Leaf { q })

@@ -98,9 +98,8 @@ pub(crate) fn root_candidate(
     requires signature { IsSignature key.now.types (signature_of signature.now) }
     ensures { result ≡ root_candidate key.now.types key.now.identifier.now (signature_of signature.now) message.now }
 {
-    let height = key.types.height();
-    let node = (1 << height) + signature.leaf;
+    let node = key.types.leaf_count() + signature.leaf;
     let one_time_key = key_candidate(key, signature, message);
     let leaf = leaf_node(key.identifier, node, &one_time_key);
-    climb(key.identifier, signature.path, node, height, leaf)
+    climb(key.identifier, signature.path, node, key.types.height(), leaf)
 }

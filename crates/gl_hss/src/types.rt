@@ -1,6 +1,6 @@
 //! The parameter sets.
 
-ghost use Rattle.std.specs.Prelude.{◌≡◌};
+ghost use Rattle.std.specs.Prelude.{◌≡◌, ◌^◌, ◌≤◌};
 ghost use Rattle.gl_hss.specs.Types.{height, width, chain_count, checksum_shift, lms_code, ots_code, signature_len};
 
 /// A parameter set: the height of the tree, and the width in bits of a digit that a chain signs.
@@ -24,6 +24,17 @@ impl Types {
         match self {
             Types::H5W4 | Types::H5W8 => 5,
             Types::H10W4 | Types::H10W8 => 10,
+        }
+    }
+
+    /// The number of leaves, each of which signs once.
+    pub fn leaf_count(self) -> u32
+        ensures value { result ≡ 2 ^ height self }
+        ensures most { result ≤ 1024 }
+    {
+        match self {
+            Types::H5W4 | Types::H5W8 => 32,
+            Types::H10W4 | Types::H10W8 => 1024,
         }
     }
 

@@ -8,3 +8,4 @@ pub mod Readings
 pub mod Verdicts
 pub mod Leaves
 pub mod Trees
+pub mod Paths

@@ -9,3 +9,5 @@ pub mod Verdicts
 pub mod Leaves
 pub mod Trees
 pub mod Paths
+pub mod Appends
+pub mod Blocks

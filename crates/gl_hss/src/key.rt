@@ -85,6 +85,31 @@ fn push_path(
     Ok(())
 }
 
+// Writes the signature of the message by leaf `q`.
+fn push_signature(
+    source: &KeySource,
+    nodes: &[[u8; 32]],
+    q: u32,
+    message: &[u8],
+    out: &mut Vec<u8>,
+) -> Result<(), AllocError>
+    requires nodes { HoldsTree (private_of source.now) nodes.now }
+    requires leaf { q < 2 ^ height source.now.types }
+    ensures { OnOk result (out.new.items ≡ out.old.items
+        ++ signature_bytes source.now.types (signature_by (private_of source.now) q message.now)) }
+{
+    let randomizer = source.secret(q, RANDOMIZER_CHAIN);
+    let digest = message_digest(&source.identifier, q, &randomizer, message);
+    let digits = digits(source.types, &digest);
+    out.extend_from_slice(&u32str(q))?;
+    out.extend_from_slice(&u32str(source.types.ots_code()))?;
+    out.extend_from_slice(&randomizer)?;
+    source.push_chains(q, &digits, out)?;
+    out.extend_from_slice(&u32str(source.types.lms_code()))?;
+    push_path(source, nodes, q, out)?;
+    Ok(())
+}
+
 /// A private LMS key, with the nodes of its tree. So a signature costs its chains alone.
 ///
 /// Which leaves were used isn't kept here: whoever signs a second message with a leaf gives the key
@@ -153,15 +178,7 @@ impl LmsKey {
         ensures { OnOk result (out.new.items ≡ out.old.items
             ++ signature_bytes self.now.types (signature_by self.now q message.now)) }
     {
-        let source = &self.source;
-        let randomizer = source.secret(q, RANDOMIZER_CHAIN);
-        let digest = message_digest(&source.identifier, q, &randomizer, message);
-        out.extend_from_slice(&u32str(q))?;
-        out.extend_from_slice(&u32str(source.types.ots_code()))?;
-        out.extend_from_slice(&randomizer)?;
-        source.push_chains(q, &digits(source.types, &digest), out)?;
-        out.extend_from_slice(&u32str(source.types.lms_code()))?;
-        push_path(source, &self.nodes, q, out)
+        push_signature(&self.source, &self.nodes, q, message, out)
     }
 
     /// The LMS signature of the message by leaf `q` (section 5.4), `signature_len` bytes long.

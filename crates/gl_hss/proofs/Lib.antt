@@ -11,3 +11,4 @@ pub mod Trees
 pub mod Paths
 pub mod Appends
 pub mod Blocks
+pub mod Signing

@@ -12,3 +12,4 @@ pub mod Paths
 pub mod Appends
 pub mod Blocks
 pub mod Signing
+pub mod Signers

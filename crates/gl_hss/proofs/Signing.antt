@@ -10,8 +10,8 @@ use Rattle.gl_hss.specs.declared.types.Types.{Types}
 use Rattle.gl_hss.specs.Bytes.{u8str, block}
 use Rattle.gl_hss.specs.Types.{height, width, chain_count}
 use Rattle.gl_hss.specs.Ots.{coef, digits, chain_prefix, step, steps, chain, message_digest, chain_ends, one_time_key, key_candidate}
-use Rattle.gl_hss.specs.Tree.{Signature, PublicKey, leaf_node, inner_node, parent, climbed, root_candidate}
-use Rattle.gl_hss.specs.Hss.{IsSignature, IsSigned}
+use Rattle.gl_hss.specs.Tree.{Signature, PublicKey, signature_bytes, leaf_node, inner_node, parent, climbed, root_candidate}
+use Rattle.gl_hss.specs.Hss.{IsSignature, IsSigned, Signs}
 use Rattle.gl_hss.specs.Secrets.{PrivateKey, secret, whole_chains, key_of_leaf, shown_chains, node_above, node, public_of, sibling, siblings, signature_with}
 use Rattle.gl_hss.specs.Profile.{randomizer_of, signature_by}
 use Rattle.gl_hss.proofs.Blocks.{AreBlocks, length-blocks, block-blocks}
@@ -180,3 +180,16 @@ signature_with-IsSigned k q randomizer message leaf len =
 
 pub signature_by-IsSigned : (k : PrivateKey) (q : ℕ) (message : List ℕ) → q < 2 ^ height k.types → IsSigned (public_of k) message (signature_by k q message)
 signature_by-IsSigned k q message leaf = signature_with-IsSigned k q (randomizer_of k q) message leaf (length-secret k q 0xfffd)
+
+pub leaf_of_signature : (k : PrivateKey) (q : ℕ) (randomizer message : List ℕ) → (signature_with k q randomizer message).leaf ≡ q
+unfolding signature_with
+leaf_of_signature k q randomizer message = refl
+
+-- the bytes of a signature by a leaf
+pub signature_by-Signs : (k : PrivateKey) (q : ℕ) (message bytes : List ℕ) → q < 2 ^ height k.types → bytes ≡ signature_bytes k.types (signature_by k q message) → Signs (public_of k) q message bytes
+signature_by-Signs k q message bytes leaf e = record {
+  fields = signature_by k q message;
+  spelled = e;
+  leaf = leaf_of_signature k q (randomizer_of k q) message;
+  signed = signature_by-IsSigned k q message leaf;
+}

@@ -9,3 +9,4 @@ pub mod Secrets
 pub mod Profile
 pub mod Source
 pub mod Nodes
+pub mod Signer

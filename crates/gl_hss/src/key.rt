@@ -1,6 +1,6 @@
 //! LMS keys (section 5).
 
-ghost use Rattle.std.specs.Prelude.{◌≡◌, ◌<◌, ◌≤◌, ◌^◌, ◌+◌, ◌++◌, IfOk, OnOk};
+ghost use Rattle.std.specs.Prelude.{◌≡◌, ◌<◌, ◌≤◌, ◌^◌, ◌+◌, ◌++◌, length, IfOk, OnOk};
 ghost use Rattle.gl_hss.specs.Types.{height, chain_count};
 ghost use Rattle.gl_hss.specs.Tree.{key_bytes, signature_bytes};
 ghost use Rattle.gl_hss.specs.Secrets.{PrivateKey, public_of, sibling, siblings};
@@ -95,8 +95,9 @@ fn push_signature(
 ) -> Result<(), AllocError>
     requires nodes { HoldsTree (private_of source.now) nodes.now }
     requires leaf { q < 2 ^ height source.now.types }
-    ensures { OnOk result (out.new.items ≡ out.old.items
+    ensures bytes { OnOk result (out.new.items ≡ out.old.items
         ++ signature_bytes source.now.types (signature_by (private_of source.now) q message.now)) }
+    ensures identifier { length source.now.identifier ≡ 16 }
 {
     let randomizer = source.secret(q, RANDOMIZER_CHAIN);
     let digest = message_digest(&source.identifier, q, &randomizer, message);
@@ -167,6 +168,11 @@ impl LmsKey {
         public_bytes(&self.source, &self.nodes[1])
     }
 
+    // Where the key has its memory from.
+    pub(crate) fn allocator(&self) -> Global {
+        *self.nodes.allocator()
+    }
+
     // Writes the signature of the message by leaf `q`.
     pub(crate) fn push_signature(
         &self,
@@ -175,8 +181,9 @@ impl LmsKey {
         out: &mut Vec<u8>,
     ) -> Result<(), AllocError>
         requires { q < 2 ^ height self.now.types }
-        ensures { OnOk result (out.new.items ≡ out.old.items
+        ensures bytes { OnOk result (out.new.items ≡ out.old.items
             ++ signature_bytes self.now.types (signature_by self.now q message.now)) }
+        ensures identifier { length self.now.identifier ≡ 16 }
     {
         push_signature(&self.source, &self.nodes, q, message, out)
     }
@@ -190,8 +197,7 @@ impl LmsKey {
             ≡ signature_bytes self.now.types (signature_by self.now q message.now)) }
         ensures valid { IfOk result (λ s. Signs (public_of self.now) q message.now s.items) }
     {
-        let alloc = *self.nodes.allocator();
-        let mut out = Vec::with_capacity(alloc, self.source.types.signature_len())?;
+        let mut out = Vec::with_capacity(self.allocator(), self.source.types.signature_len())?;
         self.push_signature(q, message, &mut out)?;
         Ok(out)
     }

@@ -11,6 +11,7 @@ mod layout;
 mod lms;
 mod ots;
 mod reading;
+mod signer;
 mod source;
 mod tree;
 mod types;
@@ -18,6 +19,7 @@ mod verifying;
 
 pub use fault::HssFault;
 pub use key::LmsKey;
+pub use signer::{HssSigner, KeyExhausted, SignFault};
 pub use types::Types;
 pub use verifying::{leaf_of, verify};
 

@@ -1,6 +1,6 @@
 //! One-time keys and signatures made from a seed (sections 4.2 to 4.5 and appendix A).
 
-ghost use Rattle.std.specs.Prelude.{◌≡◌, ◌++◌, OnOk};
+ghost use Rattle.std.specs.Prelude.{◌≡◌, ◌++◌, length, OnOk};
 ghost use Rattle.gl_hss.specs.Types.{chain_count};
 ghost use Rattle.gl_hss.specs.Ots.{chain};
 ghost use Rattle.gl_hss.specs.Secrets.{secret, key_of_leaf, shown_chains};
@@ -29,7 +29,8 @@ impl KeySource {
     // The secret with which chain `i` of leaf `q` begins.
     #[tactic(auto, unfolding(crate::specs::Secrets::secret, crate::specs::Ots::step))]
     pub(crate) fn secret(&self, q: u32, i: u16) -> [u8; 32]
-        ensures { result ≡ secret (private_of self.now) q i }
+        ensures value { result ≡ secret (private_of self.now) q i }
+        ensures identifier { length self.now.identifier ≡ 16 }
     {
         let prefix = chain_prefix(&self.identifier, q, i);
         step(&prefix, SECRET_STEP, &self.seed)

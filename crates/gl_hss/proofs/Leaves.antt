@@ -81,10 +81,16 @@ first_signature_there t g s behind h leaf =
     let leaf-is : number_at s 4 ≡ g.leaf = ap (λ (x : Signature). x.leaf) h.fields in
     let least-read : known (least_types (number_at s 8)) (fault.Types 8) ≡ Ok least.0 = ap (λ (o : Option Types). known o (fault.Types 8)) (ap least_types ots ∙ least.1) in
     let types-read : known (types_of (number_at s (44 + 32 * chain_count least.0)) (number_at s 8)) (fault.Types (44 + 32 * chain_count least.0)) ≡ Ok t =
-        ap (λ (o : Option Types). known o (fault.Types (44 + 32 * chain_count least.0))) (ap (λ (n : ℕ). types_of n (number_at s 8)) lms ∙ ap (types_of (lms_code t)) ots ∙ types_of_codes t) in
-    rw (reaches_room s 12 (4 + signature_len H5W8 + behind) (omega (arith, h.room)), least-read,
-        reaches_room s (48 + 32 * chain_count least.0) (4 + signature_len least.0 + behind) (omega (arith, chains, h.room)), types-read,
-        leaf-is, has_leaf_there t g.leaf leaf, reaches_room s (4 + signature_len t) (4 + signature_len t + behind) h.room) refl
+    ap (λ (o : Option Types). known o (fault.Types (44 + 32 * chain_count least.0))) (ap (λ (n : ℕ). types_of n (number_at s 8)) lms ∙ ap (types_of (lms_code t)) ots ∙ types_of_codes t) in
+    rw (
+      reaches_room s 12 (4 + signature_len H5W8 + behind) (omega (arith, h.room)),
+      least-read,
+      reaches_room s (48 + 32 * chain_count least.0) (4 + signature_len least.0 + behind) (omega (arith, chains, h.room)),
+      types-read,
+      leaf-is,
+      has_leaf_there t g.leaf leaf,
+      reaches_room s (4 + signature_len t) (4 + signature_len t + behind) h.room,
+    ) refl
 
 -- ---- a leaf that is found is spelled
 
@@ -171,10 +177,12 @@ unfolding leaf_of_two leaf_below
 leaf_of_two_there t u g s span form =
     let at = 4 + signature_len t in
     let h = two_stand t u g s span form.0 form.1 form.2 in
-    rw (first_signature_there t u.signature s (56 + signature_len H5W8) h.upper form.0.leaf,
-        embedded_key_there u.key s at h.key,
-        signature_at_there u.key.types g s (at + 56) (at + 56 + signature_len u.key.types) h.below form.2.leaf,
-        ends_there s (at + 56 + signature_len u.key.types) h.end) refl
+    rw (
+      first_signature_there t u.signature s (56 + signature_len H5W8) h.upper form.0.leaf,
+      embedded_key_there u.key s at h.key,
+      signature_at_there u.key.types g s (at + 56) (at + 56 + signature_len u.key.types) h.below form.2.leaf,
+      ends_there s (at + 56 + signature_len u.key.types) h.end,
+    ) refl
 
 levels_number : (s : List ℕ) (t : Types) (us : List Upper) (g : Signature) → s ≡ hss_bytes t us g → length us ≤ 1 → number_at s 0 ≡ length us
 levels_number s t us g spelled few =

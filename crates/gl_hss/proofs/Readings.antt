@@ -198,6 +198,12 @@ signature_at_there t g s at want h leaf =
     let p = 32 * chain_count t in
     let leaf-is : number_at s at ≡ g.leaf = ap (λ (x : Signature). x.leaf) h.fields in
     let below : number_at s at < 2 ^ height t = rw leaf-is leaf in
-    rw (reaches_room s (at + 4) want (omega (arith, h.room)), has_leaf_there t (number_at s at) below, reaches_room s (at + 8) want (omega (arith, h.room)),
-        has_code_there s (at + 4) (ots_code t) h.codes.ots, reaches_room s (at + 44 + p) want (omega (arith, h.room)),
-        has_code_there s (at + 40 + p) (lms_code t) h.codes.lms, reaches_room s (at + signature_len t) want h.room) (ap done h.fields)
+    rw (
+      reaches_room s (at + 4) want (omega (arith, h.room)),
+      has_leaf_there t (number_at s at) below,
+      reaches_room s (at + 8) want (omega (arith, h.room)),
+      has_code_there s (at + 4) (ots_code t) h.codes.ots,
+      reaches_room s (at + 44 + p) want (omega (arith, h.room)),
+      has_code_there s (at + 40 + p) (lms_code t) h.codes.lms,
+      reaches_room s (at + signature_len t) want h.room,
+    ) (ap done h.fields)

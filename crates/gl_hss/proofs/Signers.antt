@@ -23,8 +23,8 @@ two_level_bytes k e s q message top fields spelled is =
     let key = key_bytes (public_of k) in
     let last = signature_bytes k.types (signature_by k q message) in
     is ∙ ap (λ (x : List ℕ). u32str 1 ++ x ++ key ++ last) spelled
-        ∙ ap (λ (x : List ℕ). x ++ last) (append_assoc (u32str 1) (signature_bytes top.types fields) key)
-        ∙ append_assoc (u32str 1) (signature_bytes top.types fields ++ key) last
+    ∙ ap (λ (x : List ℕ). x ++ last) (append_assoc (u32str 1) (signature_bytes top.types fields) key)
+    ∙ append_assoc (u32str 1) (signature_bytes top.types fields ++ key) last
 
 pub signer-IsValid : (k : PrivateKey) (e : Option (List ℕ)) (s : List ℕ) (q : ℕ) (message hss_key : List ℕ) → length k.identifier ≡ 16 → q < 2 ^ height k.types → s ≡ hss_signature k e q message → StandsUnder k e hss_key → IsValid hss_key message s
 unfolding StandsUnder

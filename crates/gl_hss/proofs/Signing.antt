@@ -73,7 +73,7 @@ unfolding steps
 steps_join prefix from n zero tmp = ap (λ (j : ℕ). steps prefix from j tmp) (sym (add-zero n))
 steps_join prefix from n (suc m) tmp =
     ap₂ (step prefix) (add_assoc from n m) (steps_join prefix from n m tmp)
-        ∙ ap (λ (j : ℕ). steps prefix from j tmp) (sym (add-suc n m))
+    ∙ ap (λ (j : ℕ). steps prefix from j tmp) (sym (add-suc n m))
 
 chain_join : (prefix : List ℕ) (c top : ℕ) (tmp : List ℕ) → c ≤ top → steps prefix c (top - c) (steps prefix 0 (c - 0) tmp) ≡ steps prefix 0 (top - 0) tmp
 chain_join prefix c top tmp h =
@@ -91,10 +91,10 @@ chain_ends-shown k q ds p (suc n) h =
     let prefix = chain_prefix k.identifier q n in
     let shown = block-blocks (shown_chains k q ds) _ (shown_blocks k q ds) p n (omega arith) in
     let ends : steps prefix c (top - c) (block y n) ≡ chain k.identifier q n 0 top (secret k q n) =
-        ap (steps prefix c (top - c)) shown ∙ chain_join prefix c top (secret k q n) (coef_most ds n (width t)) in
+    ap (steps prefix c (top - c)) shown ∙ chain_join prefix c top (secret k q n) (coef_most ds n (width t)) in
     ap (chain_ends t k.identifier q ds y) (sym (add-one n)) ∙ chain_ends-more t k.identifier q ds y n
-        ∙ ap₂ (λ (a b : List ℕ). a ++ b) (chain_ends-shown k q ds p n (omega arith)) ends
-        ∙ sym (whole_chains-more k q n) ∙ ap (whole_chains k q) (add-one n)
+    ∙ ap₂ (λ (a b : List ℕ). a ++ b) (chain_ends-shown k q ds p n (omega arith)) ends
+    ∙ sym (whole_chains-more k q n) ∙ ap (whole_chains k q) (add-one n)
 
 -- ---- a path climbed leads to the root
 
@@ -139,9 +139,9 @@ climbed-node k r (suc n) low high below =
     let small : m < 2 * 2 ^ h = omega (arith, div-le_self r (2 ^ n)) in
     let beside = block-blocks (siblings k r) _ (sibling_blocks k r) h n (omega arith) in
     let up : climbed k.identifier path r (n + 1) (node k r) ≡ node k (r / 2 ^ (n + 1)) =
-        climbed-more k.identifier path r n (node k r)
-            ∙ ap₂ (parent k.identifier m) beside (climbed-node k r n low high (omega arith))
-            ∙ parent-node k m two small ∙ ap (node k) (halved-more r n) in
+    climbed-more k.identifier path r n (node k r)
+    ∙ ap₂ (parent k.identifier m) beside (climbed-node k r n low high (omega arith))
+    ∙ parent-node k m two small ∙ ap (node k) (halved-more r n) in
     subst (λ (j : ℕ). climbed k.identifier path r j (node k r) ≡ node k (r / 2 ^ j)) (add-one n) up
 
 -- ---- the whole
@@ -154,7 +154,7 @@ leaf-signed k q randomizer message =
     let p = chain_count k.types in
     let offset : r - 2 ^ height k.types ≡ q = omega arith in
     ap (leaf_node k.identifier r) (ap (one_time_key k.identifier q) (chain_ends-shown k q ds p p (omega arith)) ∙ ap (key_of_leaf k) (sym offset))
-        ∙ sym (node-leaf k r (omega arith))
+    ∙ sym (node-leaf k r (omega arith))
 
 one_at_top : (h q : ℕ) → q < 2 ^ h → (2 ^ h + q) / 2 ^ h ≡ 1
 one_at_top h q below = ap (λ (n : ℕ). (n + q) / 2 ^ h) (sym (one-mul (2 ^ h))) ∙ div-mul-add 1 (2 ^ h) q below

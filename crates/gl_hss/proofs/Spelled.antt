@@ -110,10 +110,10 @@ signature_spans t s at to fits room e codes =
     let lms : Spans s (at + 40 + p) (u32str (lms_code t)) (at + 44 + p) = rw (← codes.lms) (spans_number s (at + 40 + p) (at + 44 + p) fits (omega arith) (omega arith)) in
     let path = spans_bytes s (at + 44 + p) (32 * height t) to (omega arith) in
     Spans-append s at (at + 44 + p) to _ _
-        (Spans-append s at (at + 40 + p) (at + 44 + p) _ _
-            (Spans-append s at (at + 40) (at + 40 + p) _ _
-                (Spans-append s at (at + 8) (at + 40) _ _
-                    (Spans-append s at (at + 4) (at + 8) _ _ leaf ots) randomizer) chains) lms) path
+    (Spans-append s at (at + 40 + p) (at + 44 + p) _ _
+    (Spans-append s at (at + 40) (at + 40 + p) _ _
+    (Spans-append s at (at + 8) (at + 40) _ _
+    (Spans-append s at (at + 4) (at + 8) _ _ leaf ots) randomizer) chains) lms) path
 
 pub record SignatureStands (t : Types) (g : Signature) (s : List ℕ) (at : ℕ) : Type 0 where
   pub room : at + signature_len t ≤ length s

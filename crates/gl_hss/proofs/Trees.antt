@@ -68,7 +68,7 @@ node-inner k r some h =
     let right : 2 ^ height k.types ≤ (2 * r + 1) * 2 ^ n = le_trans left (mul-le-mul_right (2 ^ n) (omega arith)) in
     let whole = λ (q : ℕ). ap (λ (m : ℕ). node_above k m q) below.1 in
     whole r ∙ inner_within k n r h
-        ∙ ap₂ (inner_node k.identifier r) (sym (whole (2 * r) ∙ stable k n (2 * r) left)) (sym (whole (2 * r + 1) ∙ stable k n (2 * r + 1) right))
+    ∙ ap₂ (inner_node k.identifier r) (sym (whole (2 * r) ∙ stable k n (2 * r) left)) (sym (whole (2 * r + 1) ∙ stable k n (2 * r + 1) right))
 
 -- ---- nodes written into a list
 

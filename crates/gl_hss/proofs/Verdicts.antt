@@ -95,8 +95,11 @@ two_levels_ok k message s u fits e =
       last = l;
       count = refl;
       span = rw end (Spans-append s 4 (at + 56) len _ _ (Spans-append s 4 at (at + 56) _ _ upper-is.span key-is.span) last-is.span);
-      signs = (record { form = upper-is.form; root = rw (← middle) (has_root_ok k g (bytes_at s at 56) rest.0.0 front.1) },
-          key-is.form, record { form = last-is.form; root = has_root_ok next l message u rest.1 });
+      signs = (
+        record { form = upper-is.form; root = rw (← middle) (has_root_ok k g (bytes_at s at 56) rest.0.0 front.1) },
+        key-is.form,
+        record { form = last-is.form; root = has_root_ok next l message u rest.1 },
+      );
     }
 
 few : {n : ℕ} → (n ≡ 1) ⊎ (n ≡ 2) → n ≤ 2
@@ -211,13 +214,15 @@ unfolding two_levels
 two_levels_there k message s u last span signs =
     let at = 4 + signature_len k.types in
     let h = two_stand k.types u last s span signs.0.form signs.1 signs.2.form in
-    rw (signature_at_there k.types u.signature s 4 (at + 56 + signature_len H5W8) h.upper signs.0.form.leaf,
-        embedded_key_there u.key s at h.key,
-        signature_at_there u.key.types last s (at + 56) (at + 56 + signature_len u.key.types) h.below signs.2.form.leaf,
-        ends_there s (at + 56 + signature_len u.key.types) h.end,
-        h.middle,
-        has_root_there k u.signature (key_bytes u.key) signs.0.root,
-        has_root_there u.key last message signs.2.root) refl
+    rw (
+      signature_at_there k.types u.signature s 4 (at + 56 + signature_len H5W8) h.upper signs.0.form.leaf,
+      embedded_key_there u.key s at h.key,
+      signature_at_there u.key.types last s (at + 56) (at + 56 + signature_len u.key.types) h.below signs.2.form.leaf,
+      ends_there s (at + 56 + signature_len u.key.types) h.end,
+      h.middle,
+      has_root_there k u.signature (key_bytes u.key) signs.0.root,
+      has_root_there u.key last message signs.2.root,
+    ) refl
 
 -- how the levels stand behind their number
 pub record HeadStands (k : PublicKey) (key s : List ℕ) (levels : ℕ) : Type 0 where
@@ -254,10 +259,10 @@ verdict_from key message s k levels which h e =
 valid_levels : (key message s : List ℕ) (k : PublicKey) (us : List Upper) (last : Signature) → IsHssKey key (length us + 1) k → s ≡ hss_bytes k.types us last → SignsDown k us last message → verdict key message s ≡ Ok tt
 valid_levels key message s k [] last of_key spelled signs =
     verdict_from key message s k 1 (inl refl) (head_stands key s k [] k.types last of_key spelled)
-        (one_level_there k message s last (levels_span s k.types [] last spelled) signs)
+    (one_level_there k message s last (levels_span s k.types [] last spelled) signs)
 valid_levels key message s k (u ∷ []) last of_key spelled signs =
     verdict_from key message s k 2 (inr refl) (head_stands key s k (u ∷ []) k.types last of_key spelled)
-        (two_levels_there k message s u last (levels_span s k.types (u ∷ []) last spelled) signs)
+    (two_levels_there k message s u last (levels_span s k.types (u ∷ []) last spelled) signs)
 valid_levels key message s k (u ∷ v ∷ us) last of_key spelled signs =
     let few : suc (suc (length us)) + 1 ≤ 2 = of_key.few in
     absurd (omega arith)

@@ -131,7 +131,7 @@ first_signature s behind =
 unfoldable pub has_root : PublicKey → Signature → List ℕ → Result (Unit {0}) HssFault
 has_root k s message =
     check (bytes_eq (root_candidate k.types k.identifier s message) k.root)
-        (fault.Root k.root (root_candidate k.types k.identifier s message))
+    (fault.Root k.root (root_candidate k.types k.identifier s message))
 
 -- a signature of one level
 unfoldable pub one_level : PublicKey → List ℕ → List ℕ → Result (Unit {0}) HssFault

@@ -64,4 +64,4 @@ one_time_key identifier q ends = sha256 (identifier ++ u32str q ++ d_pblc ++ end
 unfoldable pub key_candidate : Types → List ℕ → ℕ → List ℕ → List ℕ → List ℕ → List ℕ
 key_candidate t identifier q randomizer y message =
     one_time_key identifier q
-        (chain_ends t identifier q (digits t (message_digest identifier q randomizer message)) y (chain_count t))
+    (chain_ends t identifier q (digits t (message_digest identifier q randomizer message)) y (chain_count t))

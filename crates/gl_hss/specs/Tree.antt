@@ -59,5 +59,5 @@ signature_bytes t s =
 unfoldable pub root_candidate : Types → List ℕ → Signature → List ℕ → List ℕ
 root_candidate t identifier s message =
     climbed identifier s.path (2 ^ height t + s.leaf) (height t)
-        (leaf_node identifier (2 ^ height t + s.leaf)
-            (key_candidate t identifier s.leaf s.randomizer s.chains message))
+    (leaf_node identifier (2 ^ height t + s.leaf)
+    (key_candidate t identifier s.leaf s.randomizer s.chains message))

@@ -40,9 +40,9 @@ fn identifier_of(seed: &[u8; 32]) -> [u8; 16]
 #[tactic(auto, unfolding(crate::specs::Tree::key_bytes))]
 fn public_bytes(source: &KeySource, root: &[u8; 32]) -> [u8; KEY_LEN]
     ensures { result ≡ key_bytes (record {
-        types = source.now.types;
-        identifier = source.now.identifier;
-        root = root.now;
+      types = source.now.types;
+      identifier = source.now.identifier;
+      root = root.now;
     }) }
 {
     let mut out = [0; KEY_LEN];
@@ -143,7 +143,14 @@ impl LmsKey {
         ensures { IfOk result (λ k. k ≡ key_of_seed types seed) }
     {
         let identifier = identifier_of(&seed);
-        LmsKey::grown(alloc, KeySource { types, identifier, seed })
+        LmsKey::grown(
+            alloc,
+            KeySource {
+                types,
+                identifier,
+                seed,
+            },
+        )
     }
 
     // The key with this identifier and seed.

@@ -11,6 +11,7 @@ use sha2::{Digest, Sha256};
 
 // Which use of the hash it is (section 7.1).
 pub(crate) const D_PBLC: [u8; 2] = [0x80, 0x80];
+
 const D_MESG: [u8; 2] = [0x81, 0x81];
 
 // The bytes before a step's number and value, which all steps of a chain share.

@@ -28,7 +28,10 @@ pub(crate) fn reaches(signature: &[u8], end: usize, want: usize) -> Result<(), H
     if end <= got {
         Ok(())
     } else {
-        Err(HssFault::Length { want: want as u64, got: got as u64 })
+        Err(HssFault::Length {
+            want: want as u64,
+            got: got as u64,
+        })
     }
 }
 
@@ -41,7 +44,10 @@ pub(crate) fn ends(signature: &[u8], want: usize) -> Result<(), HssFault>
     if got == want {
         Ok(())
     } else {
-        Err(HssFault::Length { want: want as u64, got: got as u64 })
+        Err(HssFault::Length {
+            want: want as u64,
+            got: got as u64,
+        })
     }
 }
 
@@ -123,7 +129,10 @@ pub(crate) fn levels_of_key(key: &[u8; 60]) -> Result<u32, HssFault>
     if levels == 1 || levels == 2 {
         Ok(levels)
     } else {
-        Err(HssFault::Levels { want: 2, got: levels })
+        Err(HssFault::Levels {
+            want: 2,
+            got: levels,
+        })
     }
 }
 

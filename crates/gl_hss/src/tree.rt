@@ -13,6 +13,7 @@ use sha2::{Digest, Sha256};
 
 // Which use of the hash it is (section 7.1).
 const D_LEAF: [u8; 2] = [0x82, 0x82];
+
 const D_INTR: [u8; 2] = [0x83, 0x83];
 
 // The node of a leaf with this one-time public key.
@@ -101,5 +102,11 @@ pub(crate) fn root_candidate(
     let node = key.types.leaf_count() + signature.leaf;
     let one_time_key = key_candidate(key, signature, message);
     let leaf = leaf_node(key.identifier, node, &one_time_key);
-    climb(key.identifier, signature.path, node, key.types.height(), leaf)
+    climb(
+        key.identifier,
+        signature.path,
+        node,
+        key.types.height(),
+        leaf,
+    )
 }

@@ -8,7 +8,9 @@ ghost use Rattle.gl_hss.specs.Order.{has_root, one_level, two_levels, verdict, l
 use crate::fault::HssFault;
 use crate::layout::{bytes_at, number_at, to_block};
 use crate::lms::{LmsPublicKey, LmsSignature};
-use crate::reading::{KEY_LEN, embedded_key, ends, first_signature, levels_of_key, reaches, signature_at, top_key};
+use crate::reading::{
+    KEY_LEN, embedded_key, ends, first_signature, levels_of_key, reaches, signature_at, top_key,
+};
 use crate::tree::root_candidate;
 use crate::types::Types;
 
@@ -52,7 +54,12 @@ fn two_levels(key: &LmsPublicKey<'_>, message: &[u8], signature: &[u8]) -> Resul
 {
     let at = 4 + key.types.signature_len();
     let last_at = at + KEY_LEN;
-    let upper = signature_at(key.types, signature, 4, last_at + Types::H5W8.signature_len())?;
+    let upper = signature_at(
+        key.types,
+        signature,
+        4,
+        last_at + Types::H5W8.signature_len(),
+    )?;
     let next = embedded_key(signature, at)?;
     let len = last_at + next.types.signature_len();
     let last = signature_at(next.types, signature, last_at, len)?;

@@ -29,4 +29,3 @@ pub(super) fn vector_1() -> Vector {
         valid: true,
     }
 }
-

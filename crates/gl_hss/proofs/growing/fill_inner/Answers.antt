@@ -15,5 +15,5 @@ loop-done-preserved c = λ r above below.
     let left : get_or nodes (2 * at) [] ≡ node k (2 * at) = c.loop-done.invariant (2 * at) (omega arith) (omega arith) in
     let right : get_or nodes (2 * at + 1) [] ≡ node k (2 * at + 1) = c.loop-done.invariant (2 * at + 1) (omega arith) (omega arith) in
     let value : c.inner_node.result ≡ node k at =
-        c.inner_node.ensures ∙ ap₂ (inner_node k.identifier at) left right ∙ sym (node-inner k at (omega arith) (omega arith)) in
+    c.inner_node.ensures ∙ ap₂ (inner_node k.identifier at) left right ∙ sym (node-inner k at (omega arith) (omega arith)) in
     filled_less (node k) nodes at (2 * 2 ^ height k.types) c.inner_node.result (omega arith) value (λ n lo hi. c.loop-done.invariant n (omega arith) hi) r (omega arith) below

@@ -14,5 +14,5 @@ loop-q-preserved c = λ r above below.
     let at = c.leaf_count-count.result + c.loop-q.q in
     let offset : at - leaves ≡ c.loop-q.q = omega arith in
     let value : c.leaf_node.result ≡ node k at =
-        c.leaf_node.ensures ∙ ap (leaf_node k.identifier at) (c.key_of_leaf-key.ensures ∙ ap (key_of_leaf k) (sym offset)) ∙ sym (node-leaf k at (omega arith)) in
+    c.leaf_node.ensures ∙ ap (leaf_node k.identifier at) (c.key_of_leaf-key.ensures ∙ ap (key_of_leaf k) (sym offset)) ∙ sym (node-leaf k at (omega arith)) in
     filled_more (node k) c.loop-q.nodes leaves at c.leaf_node.result (omega arith) value (λ n lo hi. c.loop-q.invariant n lo (omega arith)) r above (omega arith)

@@ -26,9 +26,10 @@ loop-i-preserved c =
     let low : 2 ≤ c.loop-i.node = omega (arith, above_one h r i (omega arith) (omega (arith, c.height-i-end.ensures))) in
     let within = sibling_within c.loop-i.node (2 ^ h) low (omega (arith, div-le_self r (2 ^ i))) in
     let read : get_or c.args.nodes.now c.sibling.result [] ≡ node k (sibling (r / 2 ^ i)) =
-        ap (λ (n : ℕ). get_or c.args.nodes.now n []) c.sibling.ensures ∙ c.requires.nodes.nodes_are (sibling c.loop-i.node) within.0 within.1 ∙ ap (λ (n : ℕ). node k (sibling n)) at in
-    let added : c.extend_from_slice.new.self.items ≡ c.loop-i.out.items ++ get_or c.args.nodes.now c.sibling.result [] = c.in_ok-extend_from_slice.ensures.items in
-    (ap (λ (n : ℕ). n / 2) at ∙ halved-more r i,
-     added ∙ ap (λ (l : List ℕ). l ++ get_or c.args.nodes.now c.sibling.result []) c.loop-i.invariant.1
-        ∙ append_assoc c.args.out.now.items (siblings k r i) (get_or c.args.nodes.now c.sibling.result [])
-        ∙ ap (λ (l : List ℕ). c.args.out.now.items ++ l) (ap (λ (l : List ℕ). siblings k r i ++ l) read ∙ sym (siblings-more k r i)))
+    ap (λ (n : ℕ). get_or c.args.nodes.now n []) c.sibling.ensures ∙ c.requires.nodes.nodes_are (sibling c.loop-i.node) within.0 within.1 ∙ ap (λ (n : ℕ). node k (sibling n)) at in
+    let added : c.extend_from_slice.new.self.items ≡ c.loop-i.out.items ++ get_or c.args.nodes.now c.sibling.result [] = c.in_ok-extend_from_slice.ensures.items in (
+      ap (λ (n : ℕ). n / 2) at ∙ halved-more r i,
+      added ∙ ap (λ (l : List ℕ). l ++ get_or c.args.nodes.now c.sibling.result []) c.loop-i.invariant.1
+          ∙ append_assoc c.args.out.now.items (siblings k r i) (get_or c.args.nodes.now c.sibling.result [])
+          ∙ ap (λ (l : List ℕ). c.args.out.now.items ++ l) (ap (λ (l : List ℕ). siblings k r i ++ l) read ∙ sym (siblings-more k r i)),
+    )

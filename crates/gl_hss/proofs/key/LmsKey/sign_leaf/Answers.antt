@@ -9,4 +9,4 @@ returns-clause-valid c =
     let k = c.args.self.now in
     let bytes = signature_bytes k.types (signature_by k c.args.q c.args.message.now) in
     signature_by-Signs k c.args.q c.args.message.now c.push_signature.new.out.items c.requires
-        (c.in_ok-push_signature.ensures.bytes ∙ ap (λ (l : List ℕ). l ++ bytes) c.in_ok-out.ensures.items)
+    (c.in_ok-push_signature.ensures.bytes ∙ ap (λ (l : List ℕ). l ++ bytes) c.in_ok-out.ensures.items)

@@ -18,5 +18,5 @@ loop-i-preserved c =
     let shown-is : c.chain_up_to-shown.result ≡ chain k.identifier c.args.q i 0 (coef c.args.digits.now i (width k.types)) (secret k c.args.q i) = cc in
     let added : c.extend_from_slice.new.self.items ≡ c.loop-i.out.items ++ c.chain_up_to-shown.result = search rules in
     added ∙ ap (λ (l : List ℕ). l ++ c.chain_up_to-shown.result) c.loop-i.invariant
-        ∙ append_assoc c.args.out.now.items (shown_chains k c.args.q c.args.digits.now i) c.chain_up_to-shown.result
-        ∙ ap (λ (l : List ℕ). c.args.out.now.items ++ l) (ap (λ (l : List ℕ). shown_chains k c.args.q c.args.digits.now i ++ l) shown-is ∙ sym more)
+    ∙ append_assoc c.args.out.now.items (shown_chains k c.args.q c.args.digits.now i) c.chain_up_to-shown.result
+    ∙ ap (λ (l : List ℕ). c.args.out.now.items ++ l) (ap (λ (l : List ℕ). shown_chains k c.args.q c.args.digits.now i ++ l) shown-is ∙ sym more)

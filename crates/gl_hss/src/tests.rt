@@ -145,7 +145,7 @@ fn key_fields(case: &mut Case, rt: &impl Abort, levels: u32) {
     for place in [12, 59] {
         assert!(rt; matches!(case.changed_key(place, 1), Err(HssFault::Root { .. })));
     }
-    let want = levels ^ 3;
+    let want = levels / 2;
     let wrong = Err(HssFault::Levels {
         want,
         got: want ^ 1,

@@ -1,8 +1,8 @@
 -- Strings of 32 bytes, one behind the other.
-use Rattle.std.proofs.Common.{◌≡◌, ℕ, zero, suc, ◌+◌, ◌-◌, ◌*◌, ◌<◌, ◌≤◌, List, [], ◌++◌, length, take, drop, refl, sym, ap, ◌∙◌, add-one, arith, ◌⊎◌, inl, inr}
+use Rattle.std.proofs.Common.{◌≡◌, ℕ, zero, suc, ◌+◌, ◌*◌, ◌<◌, ◌≤◌, List, [], ◌++◌, length, take, drop, sym, ap, ◌∙◌, add-one, arith, inl, inr}
 use Rattle.std.proofs.lemmas.Bool.{cases_eq}
-use Rattle.std.proofs.lemmas.List.{take_at, take_all, drop_at, take-append-le, drop-append-le, length-append, length-drop}
-use Rattle.gl_hss.specs.Bytes.{bytes_at, block}
+use Rattle.std.proofs.lemmas.List.{take_all, drop_at, take-append-le, drop-append-le, length-append, length-drop}
+use Rattle.gl_hss.specs.Bytes.{block}
 
 block_front : (xs ys : List ℕ) (i : ℕ) → 32 * i + 32 ≤ length xs → block (xs ++ ys) i ≡ block xs i
 block_front xs ys i room =

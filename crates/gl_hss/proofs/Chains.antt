@@ -1,5 +1,5 @@
 -- The steps of a chain, and the chains of a key, one more at a time.
-use Rattle.std.proofs.Common.{◌≡◌, ℕ, ◌+◌, ◌-◌, ◌^◌, ◌≤◌, List, [], ◌++◌, refl, sym, ap, ◌∙◌, add-one, arith}
+use Rattle.std.proofs.Common.{◌≡◌, ℕ, ◌+◌, ◌-◌, ◌^◌, ◌≤◌, List, [], ◌++◌, refl, add-one, arith}
 use Rattle.gl_hss.specs.declared.types.Types.{Types}
 use Rattle.gl_hss.specs.Types.{width}
 use Rattle.gl_hss.specs.Bytes.{block}

@@ -1,7 +1,7 @@
 -- The digits of a string, as the code takes them from its bytes.
-use Rattle.std.proofs.Common.{◌≡◌, ℕ, ◌+◌, ◌-◌, ◌*◌, ◌/◌, ◌%◌, ◌^◌, ◌<◌, ◌≤◌, List, get_or, refl, sym, ap, ◌∙◌, add-one, arith}
+use Rattle.std.proofs.Common.{◌≡◌, ℕ, ◌+◌, ◌-◌, ◌*◌, ◌/◌, ◌%◌, ◌^◌, ◌<◌, List, get_or, refl, sym, ◌∙◌, add-one, arith}
 use Rattle.std.specs.Prelude.{bit_and}
-use Rattle.std.proofs.lemmas.Grind.{common_steps, numeral_and, and_numeral}
+use Rattle.std.proofs.lemmas.Grind.{numeral_and, and_numeral}
 use Rattle.gl_hss.specs.Ots.{coef, digit_sum}
 
 -- a digit of eight bits is a byte

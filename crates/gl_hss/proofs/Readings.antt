@@ -1,5 +1,5 @@
 -- What a reading that found no fault says, and what is read without a fault.
-use Rattle.std.proofs.Common.{◌≡◌, ℕ, ◌+◌, ◌*◌, ◌^◌, ◌<◌, ◌≤◌, Bool, true, false, cond, eqb, ltb, leb, List, length, Option, Some, None, Result, Ok, Err, refl, sym, ap, ◌∙◌, arith, ◌⊎◌, inl, inr}
+use Rattle.std.proofs.Common.{◌≡◌, ℕ, ◌+◌, ◌*◌, ◌^◌, ◌<◌, ◌≤◌, Bool, true, false, List, length, Option, Some, None, Result, Ok, Err, refl, sym, ap, ◌∙◌, arith}
 use Rattle.std.specs.Prelude.{◌||◌, ◌==◌, nat_lt, nat_le}
 use Rattle.std.specs.Str.{bytes_eq}
 use Rattle.std.proofs.lemmas.Bool.Decides.{nat_tests}
@@ -8,10 +8,10 @@ use Rattle.gl_hss.specs.declared.types.Types.{Types}
 use Rattle.gl_hss.specs.declared.types.Types.TheVariants.{H5W4, H5W8, H10W4, H10W8}
 use Rattle.gl_hss.specs.declared.fault.HssFault.{HssFault}
 use Rattle.gl_hss.specs.declared.fault.HssFault.TheVariants as fault
-use Rattle.gl_hss.specs.Bytes.{number_at, bytes_at}
+use Rattle.gl_hss.specs.Bytes.{number_at}
 use Rattle.gl_hss.specs.Types.{height, chain_count, lms_code, ots_code, signature_len, types_of}
 use Rattle.gl_hss.specs.Tree.{Signature, PublicKey, root_candidate}
-use Rattle.gl_hss.specs.Order.{◌>>=◌, ◌>>◌, check, known, reaches, ends, has_code, has_leaf, has_root, types_at, key_fields, embedded_key, top_key, signature_fields, signature_at, levels_of_key}
+use Rattle.gl_hss.specs.Order.{◌>>=◌, ◌>>◌, check, known, reaches, ends, has_code, has_leaf, has_root, types_at, key_fields, embedded_key, top_key, signature_fields, signature_at}
 use Rattle.gl_hss.proofs.Spelled.{HasKeyCodes, HasCodes, KeyStands, SignatureStands}
 
 -- ---- steps that found no fault

@@ -1,9 +1,9 @@
 -- What a signer signs is valid under each key under which its endorsement is, and has its leaf.
-use Rattle.std.proofs.Common.{◌≡◌, ℕ, ◌+◌, ◌^◌, ◌<◌, ◌≤◌, List, [], ◌∷◌, ◌++◌, length, Option, Some, None, refl, sym, ap, ◌∙◌, append_assoc, arith}
+use Rattle.std.proofs.Common.{◌≡◌, ℕ, ◌^◌, ◌<◌, List, [], ◌∷◌, ◌++◌, length, Option, Some, None, ap, ◌∙◌, append_assoc, arith}
 use Rattle.gl_hss.specs.Bytes.{u32str}
 use Rattle.gl_hss.specs.Types.{height}
 use Rattle.gl_hss.specs.Tree.{Signature, PublicKey, key_bytes, signature_bytes}
-use Rattle.gl_hss.specs.Hss.{IsKey, IsSigned, IsHssKey, Signs, Upper, hss_bytes, IsValid, HasLeaf}
+use Rattle.gl_hss.specs.Hss.{IsKey, hss_bytes, IsValid, HasLeaf}
 use Rattle.gl_hss.specs.Secrets.{PrivateKey, public_of}
 use Rattle.gl_hss.specs.Profile.{randomizer_of, signature_by}
 use Rattle.gl_hss.specs.Signer.{levels_above, hss_signature, StandsUnder}

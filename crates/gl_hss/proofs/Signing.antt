@@ -1,21 +1,19 @@
 -- What a key signs is valid under its public key.
-use Rattle.std.proofs.Common.{◌≡◌, ℕ, zero, suc, ◌+◌, ◌-◌, ◌*◌, ◌/◌, ◌%◌, ◌^◌, ◌<◌, ◌≤◌, Bool, true, false, cond, List, [], ◌++◌, length, refl, sym, ap, ap₂, subst, ◌∙◌, add-one, add-zero, arith, ◌⊎◌, inl, inr}
-use Rattle.std.specs.Prelude.{◌==◌, if◌then◌else◌, bit_and}
+use Rattle.std.proofs.Common.{◌≡◌, ℕ, zero, suc, ◌+◌, ◌-◌, ◌*◌, ◌/◌, ◌%◌, ◌^◌, ◌<◌, ◌≤◌, Bool, true, false, List, ◌++◌, length, refl, sym, ap, ap₂, subst, ◌∙◌, add-one, add-zero, arith, inl, inr}
+use Rattle.std.specs.Prelude.{if◌then◌else◌}
 use Rattle.std.proofs.lemmas.Bool.{cases_eq}
-use Rattle.std.proofs.lemmas.Bool.Decides.{nat_tests}
 use Rattle.std.proofs.lemmas.Nat.{and_le_l, div-mul-add}
 use Rattle.std.proofs.Math.Nat.{add-suc, add_assoc, div-le_self, one-mul}
 use Rattle.sha2.proofs.Facts256.{length-sha256}
-use Rattle.gl_hss.specs.declared.types.Types.{Types}
-use Rattle.gl_hss.specs.Bytes.{u8str, block}
+use Rattle.gl_hss.specs.Bytes.{block}
 use Rattle.gl_hss.specs.Types.{height, width, chain_count}
 use Rattle.gl_hss.specs.Ots.{coef, digits, chain_prefix, step, steps, chain, message_digest, chain_ends, one_time_key, key_candidate}
-use Rattle.gl_hss.specs.Tree.{Signature, PublicKey, signature_bytes, leaf_node, inner_node, parent, climbed, root_candidate}
-use Rattle.gl_hss.specs.Hss.{IsSignature, IsSigned, Signs}
+use Rattle.gl_hss.specs.Tree.{signature_bytes, leaf_node, inner_node, parent, climbed, root_candidate}
+use Rattle.gl_hss.specs.Hss.{IsSigned, Signs}
 use Rattle.gl_hss.specs.Secrets.{PrivateKey, secret, whole_chains, key_of_leaf, shown_chains, node_above, node, public_of, sibling, siblings, signature_with}
 use Rattle.gl_hss.specs.Profile.{randomizer_of, signature_by}
 use Rattle.gl_hss.proofs.Blocks.{AreBlocks, length-blocks, block-blocks}
-use Rattle.gl_hss.proofs.Chains.{steps-none, chain_ends-none, chain_ends-more, whole_chains-none, whole_chains-more, shown_chains-none, shown_chains-more}
+use Rattle.gl_hss.proofs.Chains.{chain_ends-none, chain_ends-more, whole_chains-none, whole_chains-more, shown_chains-none, shown_chains-more}
 use Rattle.gl_hss.proofs.Climbing.{climbed-none, climbed-more, halved-more}
 use Rattle.gl_hss.proofs.Paths.{siblings-none, siblings-more, above_one}
 use Rattle.gl_hss.proofs.Trees.{node-leaf, node-inner}

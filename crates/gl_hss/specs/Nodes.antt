@@ -1,5 +1,5 @@
 -- A tree's nodes in a list, T[r] at place r.
-use Rattle.std.specs.Prelude.{ℕ, ◌≡◌, ◌+◌, ◌*◌, ◌^◌, ◌<◌, ◌≤◌, List, [], length, slice_index_or}
+use Rattle.std.specs.Prelude.{ℕ, ◌≡◌, ◌*◌, ◌^◌, ◌<◌, ◌≤◌, List, [], length, slice_index_or}
 use Rattle.gl_hss.specs.Types.{height}
 use Rattle.gl_hss.specs.Secrets.{PrivateKey, node}
 

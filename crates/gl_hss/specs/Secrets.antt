@@ -1,5 +1,5 @@
 -- Keys and signatures made from a seed (RFC 8554, 4.2, 4.5, 5.3, 5.4 and appendix A).
-use Rattle.std.specs.Prelude.{ℕ, zero, suc, ◌+◌, ◌-◌, ◌*◌, ◌/◌, ◌%◌, ◌^◌, List, [], ◌∷◌, ◌++◌, nat_le, ◌==◌, if◌then◌else◌}
+use Rattle.std.specs.Prelude.{ℕ, zero, suc, ◌+◌, ◌-◌, ◌*◌, ◌/◌, ◌%◌, ◌^◌, List, [], ◌++◌, nat_le, ◌==◌, if◌then◌else◌}
 use Rattle.sha2.specs.Sha256.{sha256}
 use Rattle.gl_hss.specs.declared.types.Types.{Types}
 use Rattle.gl_hss.specs.Bytes.{u8str}

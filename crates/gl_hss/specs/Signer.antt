@@ -1,10 +1,10 @@
 -- A signer, as its callers see it, and what it signs.
-use Rattle.std.specs.Prelude.{ℕ, ◌≡◌, ◌<◌, ◌+◌, ◌^◌, List, [], ◌∷◌, ◌++◌, Option, Some, None, Vec}
+use Rattle.std.specs.Prelude.{ℕ, ◌≡◌, List, ◌++◌, Option, Some, None, Vec}
 use Rattle.std.specs.Global.{Global}
 use Rattle.gl_hss.specs.declared.signer.SignFault.{SignFault}
 use Rattle.gl_hss.specs.declared.signer.SignFault.TheVariants.{NotReserved, NoMemory}
 use Rattle.gl_hss.specs.Bytes.{u32str}
-use Rattle.gl_hss.specs.Tree.{Signature, PublicKey, key_bytes, signature_bytes}
+use Rattle.gl_hss.specs.Tree.{PublicKey, key_bytes, signature_bytes}
 use Rattle.gl_hss.specs.Hss.{IsHssKey, Signs}
 use Rattle.gl_hss.specs.Secrets.{PrivateKey, public_of}
 use Rattle.gl_hss.specs.Profile.{signature_by}

@@ -113,8 +113,8 @@ fn push_signature(
 
 /// A private LMS key, with the nodes of its tree. So a signature costs its chains alone.
 ///
-/// Which leaves were used isn't kept here: whoever signs a second message with a leaf gives the key
-/// away. `HssSigner` keeps count.
+/// It doesn't know which leaves were used: a leaf that signs two messages gives itself away to
+/// forgers. `HssSigner` keeps count.
 #[derive(Drop)]
 pub struct LmsKey {
     source: KeySource,
@@ -161,8 +161,8 @@ impl LmsKey {
         Ok(LmsKey { source, nodes })
     }
 
-    /// The types of the key.
-    pub fn types(&self) -> Types
+    // The types of the key.
+    pub(crate) fn types(&self) -> Types
         ensures { result ≡ self.now.types }
     {
         self.source.types

@@ -1,4 +1,4 @@
-use Rattle.std.proofs.Common.{◌≡◌, ◌+◌, ◌-◌, ◌*◌, ◌^◌, ◌<◌, ◌≤◌, ℕ, List, [], get_or, sym, ap, ap₂, ◌∙◌, arith, length}
+use Rattle.std.proofs.Common.{◌≡◌, ◌+◌, ◌-◌, ◌*◌, ◌^◌, [], get_or, sym, ap₂, ◌∙◌, arith}
 use Rattle.gl_hss.specs.Types.{height}
 use Rattle.gl_hss.specs.Tree.{inner_node}
 use Rattle.gl_hss.specs.Secrets.{node}

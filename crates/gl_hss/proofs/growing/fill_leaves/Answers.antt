@@ -1,4 +1,4 @@
-use Rattle.std.proofs.Common.{◌≡◌, ◌+◌, ◌-◌, ◌*◌, ◌^◌, ◌<◌, ◌≤◌, ℕ, List, sym, ap, ◌∙◌, arith, length}
+use Rattle.std.proofs.Common.{◌≡◌, ◌+◌, ◌-◌, ◌^◌, sym, ap, ◌∙◌, arith}
 use Rattle.gl_hss.specs.Types.{height}
 use Rattle.gl_hss.specs.Tree.{leaf_node}
 use Rattle.gl_hss.specs.Secrets.{node, key_of_leaf}

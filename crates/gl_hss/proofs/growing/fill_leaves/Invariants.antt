@@ -1,4 +1,4 @@
-use Rattle.std.proofs.Common.{◌≡◌, ◌+◌, ◌*◌, ◌^◌, ◌<◌, ◌≤◌, ℕ, [], length, get_or}
+use Rattle.std.proofs.Common.{◌≡◌, ◌+◌, ◌^◌, ◌<◌, ◌≤◌, ℕ, [], get_or}
 use Rattle.gl_hss.specs.Types.{height}
 use Rattle.gl_hss.specs.Secrets.{node}
 use Rattle.gl_hss.specs.Source.{private_of}

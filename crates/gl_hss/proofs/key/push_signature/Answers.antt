@@ -1,5 +1,5 @@
-use Rattle.std.proofs.Common.{◌≡◌, ◌++◌, ℕ, List, refl, ap, ap₂, ◌∙◌}
-use Rattle.gl_hss.specs.Types.{ots_code, lms_code, height, chain_count}
+use Rattle.std.proofs.Common.{◌≡◌, ◌++◌, ℕ, List, refl, ap, ◌∙◌}
+use Rattle.gl_hss.specs.Types.{chain_count}
 use Rattle.gl_hss.specs.Bytes.{u32str}
 use Rattle.gl_hss.specs.Ots.{digits, message_digest}
 use Rattle.gl_hss.specs.Tree.{signature_bytes}

@@ -1,5 +1,5 @@
-use Rattle.std.proofs.Common.{◌≡◌, ◌+◌, ◌-◌, sym, ap, ◌∙◌, arith, List, ℕ}
-use Rattle.gl_hss.specs.Ots.{step, steps}
+use Rattle.std.proofs.Common.{◌≡◌, ◌-◌, sym, ap, ◌∙◌, arith, List, ℕ}
+use Rattle.gl_hss.specs.Ots.{step}
 use Rattle.gl_hss.proofs.Chains.{steps-none, steps-more}
 use Rattle.gl_hss.proofs.ots.chain.Goals as goal
 

@@ -1,6 +1,5 @@
-use Rattle.std.proofs.Common.{arith, sym, ◌∙◌, ◌≡◌, ◌+◌, ◌-◌, ◌*◌, ◌^◌, mul-add, mul-one}
+use Rattle.std.proofs.Common.{arith, sym}
 use Rattle.gl_hss.specs.Types.{width}
-use Rattle.gl_hss.specs.Ots.{digit_sum, coef}
 use Rattle.gl_hss.proofs.Digits.{digit_sum-none, digit_sum-more}
 use Rattle.gl_hss.proofs.ots.digit_sum.Goals as goal
 

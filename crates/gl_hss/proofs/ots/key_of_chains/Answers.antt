@@ -1,4 +1,4 @@
-use Rattle.std.proofs.Common.{◌≡◌, ◌++◌, ◌-◌, ◌^◌, [], append_assoc, append-nil, sym}
+use Rattle.std.proofs.Common.{◌≡◌, ◌++◌, ◌-◌, ◌^◌, [], append_assoc, append-nil}
 use Rattle.gl_hss.specs.Types.{width}
 use Rattle.gl_hss.specs.Bytes.{u32str, block}
 use Rattle.gl_hss.specs.Ots.{d_pblc, chain_ends, steps, chain_prefix, coef}

@@ -1,4 +1,4 @@
-use Rattle.std.proofs.Common.{◌≡◌, ◌/◌, ℕ, sym, ap, ◌∙◌, arith}
+use Rattle.std.proofs.Common.{◌/◌, ℕ, sym, ap, ◌∙◌, arith}
 use Rattle.gl_hss.proofs.Climbing.{climbed-none, climbed-more, halved-more}
 use Rattle.gl_hss.proofs.tree.climb.Goals as goal
 

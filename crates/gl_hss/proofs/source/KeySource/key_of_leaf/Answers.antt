@@ -1,4 +1,4 @@
-use Rattle.std.proofs.Common.{◌≡◌, ◌++◌, ◌-◌, ◌^◌, [], append_assoc, append-nil, sym, arith}
+use Rattle.std.proofs.Common.{◌≡◌, ◌++◌, ◌-◌, ◌^◌, [], append_assoc, append-nil, arith}
 use Rattle.gl_hss.specs.Types.{width}
 use Rattle.gl_hss.specs.Bytes.{u32str}
 use Rattle.gl_hss.specs.Ots.{d_pblc, chain, one_time_key}

@@ -1,4 +1,4 @@
-use Rattle.std.proofs.Common.{◌≡◌, ◌++◌, ◌-◌, ◌^◌, ℕ, List, [], append_assoc, append-nil, sym, ap, ◌∙◌, rules}
+use Rattle.std.proofs.Common.{◌≡◌, ◌++◌, ℕ, List, append_assoc, append-nil, sym, ap, ◌∙◌, rules}
 use Rattle.gl_hss.specs.Types.{width}
 use Rattle.gl_hss.specs.Ots.{chain, coef}
 use Rattle.gl_hss.specs.Secrets.{secret, shown_chains}

@@ -1,0 +1,80 @@
+-- Signatures of one or two levels, HSS (RFC 8554, 6), and when one is valid.
+use Rattle.std.specs.Prelude.{ℕ, ◌≡◌, ◌<◌, ◌≤◌, ◌+◌, ◌*◌, ◌^◌, List, [], ◌∷◌, ◌++◌, length}
+use Rattle.gl_hss.specs.declared.types.Types.{Types}
+use Rattle.gl_hss.specs.Bytes.{u32str}
+use Rattle.gl_hss.specs.Types.{height, chain_count}
+use Rattle.gl_hss.specs.Tree.{Signature, PublicKey, key_bytes, signature_bytes, root_candidate}
+
+-- the fields of an LMS public key have their lengths (5.3)
+pub record IsKey (k : PublicKey) : Type 0 where
+  pub identifier : length k.identifier ≡ 16
+  pub root : length k.root ≡ 32
+
+-- the fields of an LMS signature have their lengths, and the tree has the leaf (5.4)
+pub record IsSignature (t : Types) (s : Signature) : Type 0 where
+  pub leaf : s.leaf < 2 ^ height t
+  pub randomizer : length s.randomizer ≡ 32
+  pub chains : length s.chains ≡ 32 * chain_count t
+  pub path : length s.path ≡ 32 * height t
+
+-- the signature of the message is valid under the key: it leads to the key's T[1] (5.4.2)
+pub record IsSigned (k : PublicKey) (message : List ℕ) (s : Signature) : Type 0 where
+  pub form : IsSignature k.types s
+  pub root : root_candidate k.types k.identifier s message ≡ k.root
+
+-- a level above the last: a signature, and the key that it signs (6.2)
+pub record Upper : Type 0 where
+  pub signature : Signature
+  pub key : PublicKey
+
+-- the bytes of the levels from the one with these parameters on (6.2)
+abbrev pub levels_bytes : Types → List Upper → Signature → List ℕ
+levels_bytes t [] last = signature_bytes t last
+levels_bytes t (u ∷ us) last = signature_bytes t u.signature ++ key_bytes u.key ++ levels_bytes u.key.types us last
+
+-- the bytes of an HSS signature: the number of upper levels, and the levels (6.2)
+abbrev pub hss_bytes : Types → List Upper → Signature → List ℕ
+hss_bytes t us last = u32str (length us) ++ levels_bytes t us last
+
+-- each level's signature has the form that the key before it asks for
+abbrev pub AreLevels : Types → List Upper → Signature → Type 0
+AreLevels t [] last = IsSignature t last
+AreLevels t (u ∷ us) last = IsSignature t u.signature × IsKey u.key × AreLevels u.key.types us last
+
+-- each upper key signs the next key, and the last key signs the message (6.3)
+abbrev pub SignsDown : PublicKey → List Upper → Signature → List ℕ → Type 0
+SignsDown k [] last message = IsSigned k message last
+SignsDown k (u ∷ us) last message =
+    IsSigned k (key_bytes u.key) u.signature × IsKey u.key × SignsDown u.key us last message
+
+-- the 60 bytes are an HSS public key of one or two levels, with this key on top (6.1)
+pub record IsHssKey (bytes : List ℕ) (levels : ℕ) (k : PublicKey) : Type 0 where
+  pub spelled : bytes ≡ u32str levels ++ key_bytes k
+  pub form : IsKey k
+  pub few : levels ≤ 2
+
+-- the bytes are a valid HSS signature of the message under the key (6.3)
+pub record IsValid (key message signature : List ℕ) : Type 0 where
+  pub top : PublicKey
+  pub upper : List Upper
+  pub last : Signature
+  pub of_key : IsHssKey key (length upper + 1) top
+  pub spelled : signature ≡ hss_bytes top.types upper last
+  pub signs : SignsDown top upper last message
+
+-- the bytes spell an HSS signature of one or two levels, whose last LMS signature has leaf q
+pub record HasLeaf (signature : List ℕ) (q : ℕ) : Type 0 where
+  pub types : Types
+  pub upper : List Upper
+  pub last : Signature
+  pub few : length upper ≤ 1
+  pub form : AreLevels types upper last
+  pub spelled : signature ≡ hss_bytes types upper last
+  pub leaf : last.leaf ≡ q
+
+-- the bytes are a signature of the message by leaf q, valid under the LMS public key (5.4)
+pub record Signs (k : PublicKey) (q : ℕ) (message bytes : List ℕ) : Type 0 where
+  pub fields : Signature
+  pub spelled : bytes ≡ signature_bytes k.types fields
+  pub leaf : fields.leaf ≡ q
+  pub signed : IsSigned k message fields

@@ -1,0 +1,155 @@
+//! A signer that uses each leaf once.
+
+ghost use Rattle.std.specs.Prelude.{◌≡◌, ◌↔◌, ◌<◌, ◌≤◌, ◌^◌, ◌+◌, ◌++◌, List, ℕ, Option, Some, None, Ok, Err, IfOk, OnOk, OnErr, IfErr, IsErr, length};
+ghost use Rattle.gl_hss.specs.Types.{height};
+ghost use Rattle.gl_hss.specs.Signer.{Signer, signer_of, levels_above, hss_signature, StandsUnder, Refuses};
+ghost use Rattle.gl_hss.specs.Hss.{IsValid, HasLeaf};
+
+use crate::key::LmsKey;
+use crate::layout::u32str;
+use std::alloc::AllocError;
+use std::marker::Model;
+use thiserror::Error;
+
+/// Every leaf of the key is reserved.
+#[derive(Clone, Copy, Debug, PartialEq, Eq, Error)]
+#[error("all {reserved} leaves are reserved")]
+pub struct KeyExhausted {
+    pub reserved: u32,
+}
+
+/// Why nothing was signed.
+#[derive(Clone, Copy, Debug, PartialEq, Eq, Error)]
+pub enum SignFault {
+    /// Every leaf that was reserved is used.
+    #[error("all {reserved} reserved leaves are used")]
+    NotReserved { reserved: u32 },
+    /// There is no memory for the signature.
+    #[error("out of memory")]
+    NoMemory,
+}
+
+/// A key that signs with one leaf after another, each once.
+///
+/// A leaf is reserved before it is used. So whoever writes `reserved` down before he hands a signature
+/// out, and begins there after a stop, never uses a leaf twice.
+#[derive(Drop)]
+pub struct HssSigner {
+    key: LmsKey,
+    endorsement: Option<Vec<u8>>,
+    reserved: u32,
+    used: u32,
+}
+
+impl Model for HssSigner {
+    ghost use Rattle.std.specs.Prelude.{◌≤◌, ◌^◌};
+    ghost use Rattle.gl_hss.specs.Types.{height};
+    ghost use Rattle.gl_hss.specs.Signer.{Signer, signer_of};
+
+    ghost Value = { Signer };
+
+    ghost view = { λ s. signer_of s.key s.endorsement s.reserved s.used };
+
+    ghost invariant = { λ s. (s.used ≤ s.reserved) × (s.reserved ≤ 2 ^ height s.key.types) };
+}
+
+impl HssSigner {
+    /// A signer that has used the first `reserved` leaves of the key.
+    ///
+    /// With an endorsement, an LMS signature of the key's 56 bytes by the key above, the signatures have
+    /// two levels, without one a single level.
+    pub fn new(key: LmsKey, endorsement: Option<Vec<u8>>, reserved: u32) -> HssSigner
+        requires { reserved ≤ 2 ^ height key.types }
+        ensures { result ≡ signer_of key endorsement reserved reserved }
+    {
+        HssSigner {
+            key,
+            endorsement,
+            reserved,
+            used: reserved,
+        }
+    }
+
+    /// Reserves one leaf more, and answers how many are reserved now.
+    pub fn reserve(&mut self) -> Result<u32, KeyExhausted>
+        ensures count { IfOk result (λ n. n ≡ self.old.reserved + 1) }
+        ensures ok { OnOk result (self.new ≡ record self.old { reserved = self.old.reserved + 1 }) }
+
+        // There are as many leaves as the tree has.
+        ensures exhausted { IsErr result ↔ (self.old.reserved ≡ 2 ^ height self.old.key.types) }
+        ensures names { IfErr result (λ e. e.reserved ≡ self.old.reserved) }
+        ensures err { OnErr result (self.new ≡ self.old) }
+    {
+        if self.reserved == self.key.types().leaf_count() {
+            return Err(KeyExhausted {
+                reserved: self.reserved,
+            });
+        }
+        self.reserved += 1;
+        Ok(self.reserved)
+    }
+
+    // Writes what stands before the last LMS signature.
+    #[tactic(auto, unfolding(crate::specs::Signer::levels_above))]
+    fn push_levels_above(&self, out: &mut Vec<u8>) -> Result<(), AllocError>
+        ensures { OnOk result (out.new.items
+            ≡ out.old.items ++ levels_above self.now.key self.now.endorsement) }
+    {
+        match &self.endorsement {
+            None => out.extend_from_slice(&u32str(0))?,
+            Some(endorsement) => {
+                out.extend_from_slice(&u32str(1))?;
+                out.extend_from_slice(endorsement)?;
+                out.extend_from_slice(&self.key.public())?;
+            }
+        }
+        Ok(())
+    }
+
+    // The signature of the message by the next leaf.
+    fn next_signature(&self, message: &[u8]) -> Result<Vec<u8>, AllocError>
+        requires { self.now.used < self.now.reserved }
+        ensures bytes { IfOk result (λ s. s.items
+            ≡ hss_signature self.now.key self.now.endorsement self.now.used message.now) }
+        ensures leaf { self.now.used < 2 ^ height self.now.key.types }
+        ensures identifier { OnOk result (length self.now.key.identifier ≡ 16) }
+    {
+        let mut out = Vec::new(self.key.allocator());
+        self.push_levels_above(&mut out)?;
+        self.key.push_signature(self.used, message, &mut out)?;
+        Ok(out)
+    }
+
+    /// The HSS signature of the message by the next reserved leaf, which is used from then on.
+    pub fn sign(&mut self, message: &[u8]) -> Result<Vec<u8>, SignFault>
+        ensures bytes { IfOk result (λ s. s.items
+            ≡ hss_signature self.old.key self.old.endorsement self.old.used message.now) }
+
+        // The signature is valid under each key under which the endorsement is, and has leaf `used`.
+        ensures valid { IfOk result (λ s. (hss_key : List ℕ) →
+            StandsUnder self.old.key self.old.endorsement hss_key → IsValid hss_key message.now s.items) }
+        ensures leaf { IfOk result (λ s. (hss_key : List ℕ) →
+            StandsUnder self.old.key self.old.endorsement hss_key → HasLeaf s.items self.old.used) }
+
+        // A leaf is used once.
+        ensures used { OnOk result (self.new ≡ record self.old { used = self.old.used + 1 }) }
+        ensures below { OnOk result (self.old.used < self.old.reserved) }
+
+        ensures not_reserved { self.old.used ≡ self.old.reserved
+            → result ≡ Err (SignFault.NotReserved self.old.reserved) }
+        ensures refused { IfErr result (Refuses self.old) }
+        ensures err { OnErr result (self.new ≡ self.old) }
+    {
+        if self.used == self.reserved {
+            return Err(SignFault::NotReserved {
+                reserved: self.reserved,
+            });
+        }
+        let signature = match self.next_signature(message) {
+            Ok(signature) => signature,
+            Err(_) => return Err(SignFault::NoMemory),
+        };
+        self.used += 1;
+        Ok(signature)
+    }
+}

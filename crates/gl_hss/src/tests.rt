@@ -1,0 +1,229 @@
+ghost use Rattle.std.specs.Prelude.{◌<◌};
+
+use crate::source::KeySource;
+use crate::tests::keys::KEYS;
+use crate::tests::vectors::{
+    Vector, vector_0, vector_1, vector_2, vector_3, vector_4, vector_5, vector_6, vector_7,
+    vector_8, vector_9, vector_10, vector_11, vector_12,
+};
+use crate::*;
+use sha2::{Digest, Sha256};
+use std::alloc::{AllocError, Global};
+use std::process::Abort;
+use std::test::Fail;
+
+mod keys;
+mod signers;
+mod vectors;
+
+// ---- bytes from hexadecimal
+
+fn digit(c: u8) -> u8 {
+    match c {
+        b'0'..=b'9' => c - b'0',
+        b'a'..=b'f' => c - b'a' + 10,
+        _ => 0,
+    }
+}
+
+fn bytes_of(alloc: Global, text: &str) -> Result<Vec<u8>, AllocError> {
+    let mut out = Vec::new(alloc);
+    for pair in text.as_bytes().chunks(2) {
+        if let [high, low] = pair {
+            out.push(digit(*high).wrapping_mul(16) | digit(*low))?;
+        }
+    }
+    Ok(out)
+}
+
+fn array_of<const N: usize>(
+    rt: &(impl Abort + Alloc<A = Global>),
+    text: &str,
+) -> Result<[u8; N], Fail> {
+    let bytes = bytes_of(rt.alloc(), text)?;
+    let Some(array) = bytes.first_chunk::<N>() else {
+        panic!(rt; "too few digits");
+    };
+    Ok(*array)
+}
+
+// ---- signatures of another implementation
+
+#[derive(Drop)]
+struct Case {
+    vector: Vector,
+    key: [u8; 60],
+    message: Vec<u8>,
+    signature: Vec<u8>,
+}
+
+impl Case {
+    fn new(rt: &(impl Abort + Alloc<A = Global>), vector: Vector) -> Result<Case, Fail> {
+        let key = array_of(rt, vector.key)?;
+        let message = bytes_of(rt.alloc(), vector.message)?;
+        let signature = bytes_of(rt.alloc(), vector.signature)?;
+        Ok(Case {
+            vector,
+            key,
+            message,
+            signature,
+        })
+    }
+
+    fn verify(&self) -> Result<(), HssFault> {
+        verify(&self.key, &self.message, &self.signature)
+    }
+
+    fn change(&mut self, place: usize, bits: u8) {
+        if let Some(byte) = self.signature.get_mut(place) {
+            *byte ^= bits;
+        }
+    }
+
+    // What is answered once these bits of the signature are changed.
+    fn changed(&mut self, place: usize, bits: u8) -> Result<(), HssFault> {
+        self.change(place, bits);
+        let answer = self.verify();
+        self.change(place, bits);
+        answer
+    }
+
+    // What is answered once these bits of the key are changed.
+    fn changed_key(&self, place: usize, bits: u8) -> Result<(), HssFault> {
+        let mut key = self.key;
+        if let Some(byte) = key.get_mut(place) {
+            *byte ^= bits;
+        }
+        verify(&key, &self.message, &self.signature)
+    }
+
+    fn accepted(&mut self, rt: &impl Abort) {
+        assert_eq!(rt; self.verify(), Ok(()));
+        assert_eq!(rt; leaf_of(&self.signature), Ok(self.vector.leaf));
+        if let Some(place) = self.vector.refused {
+            assert!(rt; self.changed(place, 1).is_err());
+        }
+    }
+
+    // Each field of the LMS signature at this place, changed in one bit.
+    fn fields(&mut self, rt: &impl Abort, at: usize, types: Types)
+        requires { at < 65536 }
+    {
+        let code_at = at + 40 + 32 * types.chain_count();
+        let leaf = self.changed(at, 0x80);
+        assert!(rt; matches!(leaf, Err(HssFault::Leaf { .. })));
+        let ots = Err(HssFault::Types { at: at as u64 + 4 });
+        assert_eq!(rt; self.changed(at + 7, 1), ots);
+        let lms = Err(HssFault::Types { at: code_at as u64 });
+        assert_eq!(rt; self.changed(code_at + 3, 1), lms);
+        for place in [at + 3, at + 8, at + 40, code_at - 1, code_at + 4] {
+            assert!(rt; matches!(self.changed(place, 1), Err(HssFault::Root { .. })));
+        }
+    }
+}
+
+// A signature of two levels, with a bit changed in each field of the key between them.
+fn embedded_fields(case: &mut Case, rt: &impl Abort, at: usize)
+    requires { at < 65536 }
+{
+    let lms = Err(HssFault::Types { at: at as u64 });
+    assert_eq!(rt; case.changed(at + 3, 4), lms);
+    let ots = Err(HssFault::Types { at: at as u64 + 4 });
+    assert_eq!(rt; case.changed(at + 7, 8), ots);
+    for place in [at + 8, at + 55] {
+        assert!(rt; matches!(case.changed(place, 1), Err(HssFault::Root { .. })));
+    }
+}
+
+// A bit changed in each field of the key, and in the number of levels of key and signature.
+fn key_fields(case: &mut Case, rt: &impl Abort, levels: u32) {
+    let got = levels ^ 4;
+    let wrong = Err(HssFault::Levels { want: 2, got });
+    assert_eq!(rt; case.changed_key(3, 4), wrong);
+    assert_eq!(rt; case.changed_key(7, 8), Err(HssFault::Types { at: 4 }));
+    assert_eq!(rt; case.changed_key(11, 8), Err(HssFault::Types { at: 8 }));
+    for place in [12, 59] {
+        assert!(rt; matches!(case.changed_key(place, 1), Err(HssFault::Root { .. })));
+    }
+    let want = levels / 2;
+    let wrong = Err(HssFault::Levels {
+        want,
+        got: want ^ 1,
+    });
+    assert_eq!(rt; case.changed(3, 1), wrong);
+}
+
+fn each_field(rt: &(impl Abort + Alloc<A = Global>), vector: Vector) -> Result<(), Fail> {
+    let mut case = Case::new(rt, vector)?;
+    case.accepted(rt);
+    case.fields(rt, 4, vector.top);
+    if let Some(last) = vector.last {
+        let at = 4 + vector.top.signature_len();
+        embedded_fields(&mut case, rt, at);
+        case.fields(rt, at + 56, last);
+        key_fields(&mut case, rt, 2);
+    } else {
+        key_fields(&mut case, rt, 1);
+    }
+    Ok(())
+}
+
+#[test]
+fn signatures_of_one_level(rt: HostRuntime) -> Result<(), Fail> {
+    each_field(&rt, vector_0())?;
+    each_field(&rt, vector_1())?;
+    each_field(&rt, vector_2())?;
+    each_field(&rt, vector_3())?;
+    each_field(&rt, vector_4())?;
+    each_field(&rt, vector_5())?;
+    each_field(&rt, vector_6())?;
+    each_field(&rt, vector_7())
+}
+
+#[test]
+fn signatures_of_two_levels(rt: HostRuntime) -> Result<(), Fail> {
+    each_field(&rt, vector_8())?;
+    each_field(&rt, vector_9())?;
+    each_field(&rt, vector_10())?;
+    each_field(&rt, vector_11())?;
+    each_field(&rt, vector_12())
+}
+
+// ---- keys of other implementations
+
+#[test]
+fn keys_of_other_implementations(rt: HostRuntime) -> Result<(), Fail> {
+    for vector in &KEYS {
+        let identifier = array_of(&rt, vector.identifier)?;
+        let seed = array_of(&rt, vector.seed)?;
+        let root = bytes_of(rt.alloc(), vector.root)?;
+        let types = vector.types;
+        let source = KeySource {
+            types,
+            identifier,
+            seed,
+        };
+        let public = LmsKey::grown(rt.alloc(), source)?.public();
+        assert_eq!(rt; &public[24..], root.as_slice());
+    }
+    Ok(())
+}
+
+// ---- keys and signatures of a seed, as another program computes them
+
+#[test]
+fn key_and_signature_of_a_seed(rt: HostRuntime) -> Result<(), Fail> {
+    let mut seed = [0; 32];
+    for (i, byte) in seed.iter_mut().enumerate() {
+        *byte = i as u8;
+    }
+    let key = LmsKey::make(rt.alloc(), seed, Types::H5W4)?;
+    let public = "0000000500000003bb94c0738d17e0f9329212bce706acf0\
+        c0cd26738938c6138e3bad21ed5bdc3b718f25cb33865a7c68dcc23a8b43d1c3";
+    assert_eq!(rt; key.public(), array_of::<56>(&rt, public)?);
+    let signature = key.sign_leaf(3, b"abc")?;
+    let digest = "617017b9dcbb57f8bccb39e4fbf755242fe4e7e63ac1bb55c25aad99cf1642b5";
+    assert_eq!(rt; signature.len(), 2348);
+    assert_eq!(rt; Sha256::digest(&signature), array_of::<32>(&rt, digest)?);
+    Ok(())
+}

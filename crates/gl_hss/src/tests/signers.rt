@@ -1,0 +1,108 @@
+//! The worked rows of signers, checksums and lengths.
+
+use crate::ots::{coef, digits};
+use crate::*;
+use std::alloc::AllocError;
+use std::test::Fail;
+
+#[test]
+fn checksums(rt: HostRuntime) {
+    let eight = digits(Types::H5W8, &[0; 32]);
+    assert_eq!(rt; &eight[32..], [0x1f, 0xe0].as_slice());
+    let four = digits(Types::H5W4, &[0; 32]);
+    assert_eq!(rt; &four[32..], [0x3c, 0x00].as_slice());
+    assert_eq!(rt; coef(Types::H5W4, &four, 64), 3);
+    assert_eq!(rt; coef(Types::H5W4, &four, 65), 12);
+    assert_eq!(rt; coef(Types::H5W4, &four, 66), 0);
+}
+
+fn hss_key(levels: u8, key: &LmsKey) -> [u8; 60] {
+    let mut out = [0; 60];
+    let (front, back) = out.split_at_mut(4);
+    front.copy_from_slice(&[0, 0, 0, levels]);
+    back.copy_from_slice(&key.public());
+    out
+}
+
+#[test]
+fn each_leaf_once(rt: HostRuntime) -> Result<(), Fail> {
+    let key = LmsKey::make(rt.alloc(), [1; 32], Types::H5W4)?;
+    let public = hss_key(1, &key);
+    let mut signer = HssSigner::new(key, None, 0);
+    let refused = signer.sign(b"early").err();
+    assert_eq!(rt; refused, Some(SignFault::NotReserved { reserved: 0 }));
+    for leaf in 0..32u8 {
+        assert_eq!(rt; signer.reserve(), Ok(u32::from(leaf) + 1));
+        let signature = signer.sign(&[leaf])?;
+        assert_eq!(rt; verify(&public, &[leaf], &signature), Ok(()));
+        assert_eq!(rt; leaf_of(&signature), Ok(u32::from(leaf)));
+    }
+    assert_eq!(rt; signer.reserve(), Err(KeyExhausted { reserved: 32 }));
+    let refused = signer.sign(b"late").err();
+    assert_eq!(rt; refused, Some(SignFault::NotReserved { reserved: 32 }));
+    Ok(())
+}
+
+#[test]
+fn two_levels(rt: HostRuntime) -> Result<(), Fail> {
+    let top = LmsKey::make(rt.alloc(), [2; 32], Types::H5W4)?;
+    let public = hss_key(2, &top);
+    let key = LmsKey::make(rt.alloc(), [3; 32], Types::H5W4)?;
+    let endorsement = top.sign_leaf(7, &key.public())?;
+    let mut signer = HssSigner::new(key, Some(endorsement), 5);
+    assert_eq!(rt; signer.reserve(), Ok(6));
+    let mut signature = signer.sign(b"message")?;
+    assert_eq!(rt; signature.len(), 4756);
+    assert_eq!(rt; verify(&public, b"message", &signature), Ok(()));
+    assert_eq!(rt; leaf_of(&signature), Ok(5));
+    let short = signature.get(..4755).ok_or("a shorter signature")?;
+    let fault = HssFault::Length {
+        want: 4756,
+        got: 4755,
+    };
+    assert_eq!(rt; verify(&public, b"message", short), Err(fault));
+    signature.push(0)?;
+    let fault = HssFault::Length {
+        want: 4756,
+        got: 4757,
+    };
+    assert_eq!(rt; verify(&public, b"message", &signature), Err(fault));
+    if let Some(byte) = signature.get_mut(3) {
+        *byte = 2;
+    }
+    let fault = HssFault::Levels { want: 1, got: 2 };
+    assert_eq!(rt; verify(&public, b"message", &signature), Err(fault));
+    assert_eq!(rt; leaf_of(&signature), Err(fault));
+    Ok(())
+}
+
+// Where a signature is cut, the least length of any that begins so is wanted.
+#[test]
+fn lengths_wanted(rt: HostRuntime) -> Result<(), Fail> {
+    let top = LmsKey::make(rt.alloc(), [2; 32], Types::H5W4)?;
+    let public = hss_key(2, &top);
+    let key = LmsKey::make(rt.alloc(), [3; 32], Types::H5W4)?;
+    let endorsement = top.sign_leaf(0, &key.public())?;
+    let mut signer = HssSigner::new(key, Some(endorsement), 0);
+    assert!(rt; signer.reserve().is_ok());
+    let signature = signer.sign(b"message")?;
+    // What verifying wants and what the search for the leaf wants, of a signature cut there.
+    for (cut, known, unknown) in [
+        (0, 3700, 1296),
+        (3, 3700, 1296),
+        (11, 3700, 2644),
+        (12, 3700, 3700),
+        (2351, 3700, 3700),
+        (2359, 3700, 3700),
+        (2360, 4756, 4756),
+        (4000, 4756, 4756),
+    ] {
+        let part = signature.get(..cut).ok_or("a part of the signature")?;
+        let got = cut as u64;
+        let fault = HssFault::Length { want: known, got };
+        assert_eq!(rt; verify(&public, b"message", part), Err(fault), "{cut}");
+        let fault = HssFault::Length { want: unknown, got };
+        assert_eq!(rt; leaf_of(part), Err(fault), "{cut}");
+    }
+    Ok(())
+}

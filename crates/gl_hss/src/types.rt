@@ -1,0 +1,97 @@
+//! The parameter sets.
+
+ghost use Rattle.std.specs.Prelude.{◌≡◌, ◌^◌, ◌≤◌};
+ghost use Rattle.gl_hss.specs.Types.{height, width, chain_count, checksum_shift, lms_code, ots_code, signature_len};
+
+/// A parameter set: the height of the tree, and the width in bits of a digit that a chain signs.
+#[derive(Clone, Copy, Debug, PartialEq, Eq)]
+pub enum Types {
+    /// LMS_SHA256_M32_H5 with LMOTS_SHA256_N32_W4.
+    H5W4,
+    /// LMS_SHA256_M32_H5 with LMOTS_SHA256_N32_W8.
+    H5W8,
+    /// LMS_SHA256_M32_H10 with LMOTS_SHA256_N32_W4.
+    H10W4,
+    /// LMS_SHA256_M32_H10 with LMOTS_SHA256_N32_W8.
+    H10W8,
+}
+
+impl Types {
+    /// The height h of the tree: a key has 2^h one-time keys (section 5.1).
+    pub fn height(self) -> u32
+        ensures { result ≡ height self }
+    {
+        match self {
+            Types::H5W4 | Types::H5W8 => 5,
+            Types::H10W4 | Types::H10W8 => 10,
+        }
+    }
+
+    /// The number of leaves, each of which signs once.
+    pub fn leaf_count(self) -> u32
+        ensures value { result ≡ 2 ^ height self }
+        ensures most { result ≤ 1024 }
+    {
+        match self {
+            Types::H5W4 | Types::H5W8 => 32,
+            Types::H10W4 | Types::H10W8 => 1024,
+        }
+    }
+
+    /// The number of bytes of an LMS signature (section 5.4).
+    pub fn signature_len(self) -> usize
+        ensures { result ≡ signature_len self }
+    {
+        12 + 32 * (1 + self.chain_count() + self.height() as usize)
+    }
+
+    // The width w in bits of a digit (section 4.1).
+    pub(crate) fn width(self) -> usize
+        ensures { result ≡ width self }
+    {
+        match self {
+            Types::H5W4 | Types::H10W4 => 4,
+            Types::H5W8 | Types::H10W8 => 8,
+        }
+    }
+
+    // The number p of chains of a one-time key.
+    pub(crate) fn chain_count(self) -> usize
+        ensures { result ≡ chain_count self }
+    {
+        match self {
+            Types::H5W4 | Types::H10W4 => 67,
+            Types::H5W8 | Types::H10W8 => 34,
+        }
+    }
+
+    // The shift ls to the left of the checksum.
+    pub(crate) fn checksum_shift(self) -> u32
+        ensures { result ≡ checksum_shift self }
+    {
+        match self {
+            Types::H5W4 | Types::H10W4 => 4,
+            Types::H5W8 | Types::H10W8 => 0,
+        }
+    }
+
+    // The typecode of the tree.
+    pub(crate) fn lms_code(self) -> u32
+        ensures { result ≡ lms_code self }
+    {
+        match self {
+            Types::H5W4 | Types::H5W8 => 5,
+            Types::H10W4 | Types::H10W8 => 6,
+        }
+    }
+
+    // The typecode of the one-time signature.
+    pub(crate) fn ots_code(self) -> u32
+        ensures { result ≡ ots_code self }
+    {
+        match self {
+            Types::H5W4 | Types::H10W4 => 3,
+            Types::H5W8 | Types::H10W8 => 4,
+        }
+    }
+}

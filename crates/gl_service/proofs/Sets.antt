@@ -5,7 +5,8 @@ use Rattle.std.proofs.lemmas.Bool.{cases_lt}
 use Rattle.std.specs.Cmp.Lexicographic.{slice_cmp, bytes_decides, nat_list_cmp_total}
 use Rattle.std.specs.Ordering.{nat_cmp}
 use Rattle.std.specs.FinMap as rows
-use Rattle.gl_store.specs.Field.{u16_bytes, u64_bytes, with_u32_length}
+use Rattle.gl_base.specs.LittleEndian.{little_endian}
+use Rattle.gl_store.specs.Field.{with_u32_length}
 use Rattle.gl_store.specs.Tables.{Tables, Rows, no_tables, tables_of, wrote_all}
 use Rattle.gl_store.specs.Genesis.{nodes_map, node_id, genesis_rows}
 use Rattle.gl_store.specs.Ledger.{genesis_entry, signature_entry, opening_ledger}
@@ -13,7 +14,8 @@ use Rattle.gl_store.specs.declared.entry.Entry.{Entry}
 use Rattle.gl_store.specs.declared.genesis.NewMember.{NewMember}
 use Rattle.gl_store.specs.declared.genesis.NewNode.{NewNode}
 use Rattle.gl_store.specs.declared.genesis.Genesis as request
-use Rattle.gl_store.proofs.Growth.{IsOutside, tables_behind-push, untouched}
+use Rattle.gl_store.proofs.Growth.{IsOutside, untouched}
+use Rattle.gl_store.proofs.TablesLaws.{tables_behind-push}
 use Rattle.gl_store.proofs.Lists.{take-push, take-all}
 use Rattle.gl_service.specs.Nodes.{node_rows, is_trusted, trusted_in, same_lists, changed_set, configuration}
 use Rattle.gl_service.proofs.Lists.{take-past}
@@ -50,7 +52,7 @@ alone-push x ledger e some out h = record {
 }
 
 node_value : NewNode → List ℕ
-node_value n = u16_bytes 1 ++ (2 ∷ n.key) ++ with_u32_length n.endorsement ++ u64_bytes 0
+node_value n = little_endian 2 1 ++ (2 ∷ n.key) ++ with_u32_length n.endorsement ++ little_endian 8 0
 
 -- the node rows of a genesis with one member and one node
 genesis_node_rows : (g : request.Genesis) (m : NewMember) (n : NewNode) → g.members ≡ m ∷ [] → g.nodes ≡ n ∷ [] →
@@ -72,7 +74,7 @@ trusted_none : trusted_in no_rows ≡ []
 trusted_none = ap (λ (es : List (List ℕ × List ℕ)). map (λ (row : List ℕ × List ℕ). row.0) (filter is_trusted es)) entries-none
 
 trusted_one : (n : NewNode) → trusted_in (rows.insert no_rows (node_id n) (node_value n)) ≡ node_id n ∷ []
-unfolding node_value
+unfolding node_value little_endian
 trusted_one n = ap (λ (es : List (List ℕ × List ℕ)). map (λ (row : List ℕ × List ℕ). row.0) (filter is_trusted es)) one
   where
     one : rows.entries (rows.insert no_rows (node_id n) (node_value n)) ≡ (node_id n, node_value n) ∷ []

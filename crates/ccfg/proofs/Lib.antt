@@ -4,3 +4,4 @@ pub mod MachineLemmas
 pub mod PlayLemmas
 pub mod Played
 pub mod WordLemmas
+mod HeadlineLemmas

@@ -12,6 +12,8 @@ mod reading;
 mod schedule;
 mod split;
 mod stop;
+#[cfg(test)]
+mod tests;
 
 use ending::Ending;
 use gl_outside::{StreamSink, StreamSource};

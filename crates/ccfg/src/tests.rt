@@ -1,0 +1,275 @@
+//! Schedules and the text that is due for them, worked out by hand.
+
+use crate::program::top;
+use gl_outside::{MemSink, MemSource, SureSink, SureSource};
+use std::alloc::{AllocError, Global};
+use std::process::Abort;
+use std::test::Fail;
+
+/// The first line of each schedule here.
+const WORLD: &[u8] =
+    b"world 1 0 1 open 0000000000000000000000000000000000000000000000000000000000000000\n";
+
+/// The lines of one schedule without their newlines, each with what is written for it.
+const ROW: [(&[u8], &[u8]); 7] = [
+    (
+        b"world 1 0 1 open 0000000000000000000000000000000000000000000000000000000000000000",
+        b"1 ok\n",
+    ),
+    (b"submit 1 put public:t 61 01", b"2 accepted 2.3 done\n"),
+    (b"status 1 2.3", b"3 Pending\n"),
+    (b"reserve 1", b"4 ok\n"),
+    (b"sign 1", b"5 signed 2.4\n"),
+    (b"advance 1", b"6 commit 2.4\n"),
+    (b"status 1 2.3", b"7 Committed\n"),
+];
+
+const NO_SCHEDULE: &[u8] = b"fault schedule\n";
+
+/// The words of a command line.
+fn words(alloc: Global, words: &[&str]) -> Result<Vec<String>, AllocError> {
+    let mut held = Vec::new(alloc);
+    for word in words {
+        held.push(String::from_str(alloc, word)?)?;
+    }
+    Ok(held)
+}
+
+/// The status of a run over a source and a sink that never fail, and what was written.
+fn run(alloc: Global, called: &[&str], text: &[u8]) -> Result<(u8, Vec<u8>), AllocError> {
+    let called = words(alloc, called)?;
+    let mut source = SureSource::new(text, 50);
+    let mut sink = SureSink::new(alloc, 7);
+    let status = top(alloc, &called, &mut source, &mut sink);
+    Ok((status, sink.held))
+}
+
+/// The same, of the bytes read in pieces of one, of whose reads one fails.
+fn run_over_failed_read(alloc: Global, text: &[u8], at: u64) -> Result<(u8, Vec<u8>), AllocError> {
+    let called = words(alloc, &["replay"])?;
+    let failing = [at];
+    let mut source = MemSource::new(text, 1, &failing);
+    let mut sink = SureSink::new(alloc, 50);
+    let status = top(alloc, &called, &mut source, &mut sink);
+    Ok((status, sink.held))
+}
+
+/// The same, with a sink that takes each line whole, and of whose writes one fails.
+fn run_over_failed_write(alloc: Global, text: &[u8], at: u64) -> Result<(u8, Vec<u8>), AllocError> {
+    let called = words(alloc, &["replay"])?;
+    let failing = [at];
+    let mut source = SureSource::new(text, 50);
+    let mut sink = MemSink::new(alloc, 50, &failing);
+    let status = top(alloc, &called, &mut source, &mut sink);
+    Ok((status, sink.inner.held))
+}
+
+/// These parts, one behind the other.
+fn joined(alloc: Global, parts: &[&[u8]]) -> Result<Vec<u8>, AllocError> {
+    let mut text = Vec::new(alloc);
+    for part in parts {
+        text.extend_from_slice(part)?;
+    }
+    Ok(text)
+}
+
+/// The text of the row, and what is written for it.
+fn row(alloc: Global) -> Result<(Vec<u8>, Vec<u8>), AllocError> {
+    let mut text = Vec::new(alloc);
+    let mut due = Vec::new(alloc);
+    for (line, answer) in ROW {
+        text.extend_from_slice(line)?;
+        text.push(b'\n')?;
+        due.extend_from_slice(answer)?;
+    }
+    Ok((text, due))
+}
+
+#[test]
+fn replays_schedules(rt: HostRuntime) -> Result<(), Fail> {
+    let alloc = rt.alloc();
+    let rows: [(&[&[u8]], &[u8]); 5] = [
+        (&[], b""),
+        (&[WORLD], b"1 ok\n"),
+        (
+            &[
+                WORLD,
+                b"submit 1 put public:t 61 01\n",
+                b"status 1 2.3\n",
+                b"reserve 1\n",
+                b"sign 1\n",
+                b"advance 1\n",
+                b"status 1 2.3\n",
+            ],
+            b"1 ok\n2 accepted 2.3 done\n3 Pending\n4 ok\n5 signed 2.4\n6 commit 2.4\n7 Committed\n",
+        ),
+        (
+            &[WORLD, b"sign 1\n", b"reserve 1\n", b"sign 1\n"],
+            b"1 ok\n2 refused 112 1\n3 ok\n4 refused 114 2\n",
+        ),
+        (&[WORLD, b"advance 1\n"], b"1 ok\n2 idle\n"),
+    ];
+    for (lines, due) in rows {
+        let text = joined(alloc, lines)?;
+        let (status, written) = run(alloc, &["replay"], &text)?;
+        assert_eq!(rt; status, 0, "of {text:?}");
+        assert_eq!(rt; written.as_slice(), due);
+    }
+    Ok(())
+}
+
+#[test]
+fn reserves_no_more_than_the_key_has(rt: HostRuntime) -> Result<(), Fail> {
+    let alloc = rt.alloc();
+    let reserves = b"reserve 1\n".repeat(alloc, 32)?;
+    let text = joined(alloc, &[WORLD, &reserves])?;
+    let (status, written) = run(alloc, &["replay"], &text)?;
+    let due: &[u8] = b"1 ok\n2 ok\n3 ok\n4 ok\n5 ok\n6 ok\n7 ok\n8 ok\n9 ok\n10 ok\n11 ok\n12 ok\n\
+        13 ok\n14 ok\n15 ok\n16 ok\n17 ok\n18 ok\n19 ok\n20 ok\n21 ok\n22 ok\n23 ok\n24 ok\n\
+        25 ok\n26 ok\n27 ok\n28 ok\n29 ok\n30 ok\n31 ok\n32 ok\n33 refused 113 32\n";
+    assert_eq!(rt; status, 0);
+    assert_eq!(rt; written.as_slice(), due);
+    Ok(())
+}
+
+#[test]
+fn refuses_what_is_no_schedule(rt: HostRuntime) -> Result<(), Fail> {
+    let alloc = rt.alloc();
+    let rows: [&[&[u8]]; 16] = [
+        &[b"word\n"],
+        &[b"\n"],
+        &[b"world 2 0 1 open 0000000000000000000000000000000000000000000000000000000000000000\n"],
+        &[b"world 1 1 1 open 0000000000000000000000000000000000000000000000000000000000000000\n"],
+        &[b"world 1 0 2 open 0000000000000000000000000000000000000000000000000000000000000000\n"],
+        &[
+            b"world 1 0 1 opening 0000000000000000000000000000000000000000000000000000000000000000\n",
+        ],
+        &[b"world 1 0 1 open 00000000000000000000000000000000000000000000000000000000000000\n"],
+        &[WORLD, WORLD],
+        &[WORLD, b"\n"],
+        &[WORLD, b"sign 1"],
+        &[WORLD, b"sign 2\n"],
+        &[WORLD, b"sign 1 1\n"],
+        &[WORLD, b"status 1 02.3\n"],
+        &[WORLD, b"submit 1 put private 61 01\n"],
+        &[WORLD, b"submit 1 put public:ccf.gov.x 61 01\n"],
+        &[WORLD, b"submit 1 put public:ccf.internal.x 61 01\n"],
+    ];
+    for lines in rows {
+        let text = joined(alloc, lines)?;
+        let (status, written) = run(alloc, &["replay"], &text)?;
+        assert_eq!(rt; status, 9, "of {text:?}");
+        assert_eq!(rt; written.as_slice(), NO_SCHEDULE);
+    }
+    Ok(())
+}
+
+#[test]
+fn takes_one_word_alone(rt: HostRuntime) -> Result<(), Fail> {
+    let alloc = rt.alloc();
+    let rows: [&[&str]; 5] = [&[], &[""], &["play"], &["Replay"], &["replay", "replay"]];
+    for called in rows {
+        let (status, written) = run(alloc, called, WORLD)?;
+        assert_eq!(rt; status, 2, "of {called:?}");
+        assert_eq!(rt; written.as_slice(), b"fault words\n".as_slice());
+    }
+    Ok(())
+}
+
+/// Adds a line byte by byte. No front that ends within it is a schedule.
+fn add_line(
+    rt: &impl Abort,
+    alloc: Global,
+    text: &mut Vec<u8>,
+    line: &[u8],
+) -> Result<(), AllocError> {
+    for byte in line {
+        text.push(*byte)?;
+        let (status, written) = run(alloc, &["replay"], text)?;
+        assert_eq!(rt; status, 9, "of {text:?}");
+        assert_eq!(rt; written.as_slice(), NO_SCHEDULE);
+    }
+    text.push(b'\n')?;
+    Ok(())
+}
+
+#[test]
+fn replays_a_schedule_cut_at_a_line_and_refuses_each_other_front(
+    rt: HostRuntime,
+) -> Result<(), Fail> {
+    let alloc = rt.alloc();
+    let mut text = Vec::new(alloc);
+    let mut due = Vec::new(alloc);
+    for (line, answer) in ROW {
+        add_line(&rt, alloc, &mut text, line)?;
+        due.extend_from_slice(answer)?;
+        let (status, written) = run(alloc, &["replay"], &text)?;
+        assert_eq!(rt; status, 0, "of {text:?}");
+        assert_eq!(rt; written.as_slice(), due.as_slice());
+    }
+    Ok(())
+}
+
+#[test]
+fn ends_with_3_and_writes_nothing_whichever_read_fails(rt: HostRuntime) -> Result<(), Fail> {
+    let alloc = rt.alloc();
+    let (text, due) = row(alloc)?;
+    let reads = text.len() as u64 + 1;
+    for at in 1..=reads {
+        let (status, written) = run_over_failed_read(alloc, &text, at)?;
+        assert_eq!(rt; status, 3, "at read {at}");
+        assert_eq!(rt; written.len(), 0);
+    }
+    let (status, written) = run_over_failed_read(alloc, &text, reads + 1)?;
+    assert_eq!(rt; status, 0);
+    assert_eq!(rt; written.as_slice(), due.as_slice());
+    Ok(())
+}
+
+#[test]
+fn ends_with_4_behind_the_lines_before_the_failed_write(rt: HostRuntime) -> Result<(), Fail> {
+    let alloc = rt.alloc();
+    let (text, _) = row(alloc)?;
+    let mut due = Vec::new(alloc);
+    for (i, (_, answer)) in ROW.iter().enumerate() {
+        let at = i as u64 + 1;
+        let (status, written) = run_over_failed_write(alloc, &text, at)?;
+        assert_eq!(rt; status, 4, "at write {at}");
+        assert_eq!(rt; written.as_slice(), due.as_slice());
+        due.extend_from_slice(answer)?;
+    }
+    let (status, written) = run_over_failed_write(alloc, &text, 8)?;
+    assert_eq!(rt; status, 0);
+    assert_eq!(rt; written.as_slice(), due.as_slice());
+    Ok(())
+}
+
+/// A fault's own line is a write too.
+#[test]
+fn ends_with_4_where_a_fault_cannot_be_told(rt: HostRuntime) -> Result<(), Fail> {
+    let (status, written) = run_over_failed_write(rt.alloc(), b"word\n", 1)?;
+    assert_eq!(rt; status, 4);
+    assert_eq!(rt; written.len(), 0);
+    Ok(())
+}
+
+#[test]
+fn tells_its_limits(rt: HostRuntime) -> Result<(), Fail> {
+    let alloc = rt.alloc();
+    let bytes: &[u8] = b"fault bytes 16777216\n";
+    let lines: &[u8] = b"fault lines 100000\n";
+    let rows: [(u8, usize, u8, &[u8]); 5] = [
+        (b'x', 16_777_217, 8, bytes),
+        (b'\n', 16_777_217, 8, bytes),
+        (b'x', 16_777_216, 9, NO_SCHEDULE),
+        (b'\n', 100_001, 8, lines),
+        (b'\n', 100_000, 9, NO_SCHEDULE),
+    ];
+    for (byte, count, want, due) in rows {
+        let text = [byte].repeat(alloc, count)?;
+        let (status, written) = run(alloc, &["replay"], &text)?;
+        assert_eq!(rt; status, want, "of {count} bytes {byte}");
+        assert_eq!(rt; written.as_slice(), due);
+    }
+    Ok(())
+}

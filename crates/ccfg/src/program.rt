@@ -1,13 +1,16 @@
 //! The whole program, over the objects that are handed in.
 
-ghost use Rattle.std.specs.Prelude.{◌≡◌, ◌≤◌, [], List, ℕ, IsTrue, ◌↔◌, Err, IfOk, IfErr, IfSome, length, map};
+ghost use Rattle.std.specs.Prelude.{true, ◌≡◌, ◌≤◌, [], List, ℕ, IsTrue, ◌↔◌, ◌≢◌, ◌⊎◌, Err, IfOk, IfErr, IfSome, length, map};
 ghost use Rattle.std.specs.String.{string_bytes};
-ghost use Rattle.std.specs.Io.KnownBytes.{Keeps};
+ghost use Rattle.std.specs.Io.KnownBytes.{Appends, Keeps};
 ghost use Rattle.gl_outside.specs.Fault.{Rose};
+ghost use Rattle.gl_outside.specs.Sink.{AppendsFront};
+ghost use Rattle.ccfg.specs.declared.ending.Fault.TheVariants.{Words};
 ghost use Rattle.ccfg.specs.declared.ending.Ending.{Ending};
 ghost use Rattle.ccfg.specs.declared.ending.Ending.TheVariants.{Done};
 ghost use Rattle.ccfg.specs.Reading.{reads};
-ghost use Rattle.ccfg.specs.Owed.{AreWords, Answers, KeepsHeadline, Replays, Writes, bytes_limit, exit_status, of_reading, owed, refused};
+ghost use Rattle.ccfg.specs.Owed.{AreWords, Answers, KeepsHeadline, Replays, Writes, bytes_limit, exit_status, fault_line, of_reading, owed, refused};
+ghost use Rattle.ccfg.specs.Promises.{HasNoReading, HasReading, PassesLimit, TellsLimit, TellsNoReading, WritesText};
 ghost use Rattle.ccfg.specs.declared.program.Plan.TheVariants.{Play};
 ghost use Rattle.ccfg.specs.Plans.{due_of, HasOneNode, PlaysOneNode, EndsPlayed};
 
@@ -168,6 +171,39 @@ pub fn top<S: Source, K: Sink>(
         held = K.holds sink.old; holds = K.holds sink.new;
         write_faults = K.faults sink.old; write_faults_now = K.faults sink.new
     }) }
+    // 0: the words are the one word, the source gave its end, and exactly the text of its schedule was written.
+    ensures done { result ≡ 0 → AreWords (map string_bytes words.now) × (S.ended source.new ≡ true)
+        × IfSome (S.left source.old) (λ given. WritesText given (K.holds sink.old) (K.holds sink.new)) }
+    // 4 and 7: a front of what is due was written.
+    ensures front { (result ≡ 4) ⊎ (result ≡ 7) → AreWords (map string_bytes words.now)
+        → IfSome (S.left source.old) (λ given. AppendsFront (K.holds sink.old) (K.holds sink.new) (owed given).text) }
+    // Other words: 2 and the one line, or 4 or 7 and a front of it.
+    ensures other_words { (AreWords (map string_bytes words.now) → ⊥)
+        → (result ≡ 2) × Appends (K.holds sink.old) (K.holds sink.new) (fault_line Words)
+        ⊎ ((result ≡ 4) ⊎ (result ≡ 7)) × AppendsFront (K.holds sink.old) (K.holds sink.new) (fault_line Words) }
+    // 3: the source failed, by its count of faults, and nothing was written.
+    ensures source_failed { result ≡ 3 → AreWords (map string_bytes words.now)
+        × Rose (S.faults source.old) (S.faults source.new) × Keeps (K.holds sink.old) (K.holds sink.new) }
+    // 4: the sink failed, by its count of faults.
+    ensures sink_failed { result ≡ 4 → Rose (K.faults sink.old) (K.faults sink.new) }
+    // 8: the bytes pass a limit, and exactly the line that names it was written.
+    ensures limits { result ≡ 8 → AreWords (map string_bytes words.now)
+        × IfSome (S.left source.old) (λ given. TellsLimit given (K.holds sink.old) (K.holds sink.new)) }
+    // 9: the bytes are within the limits and have no reading, and exactly the line that says so was written.
+    ensures no_reading { result ≡ 9 → AreWords (map string_bytes words.now)
+        × IfSome (S.left source.old) (λ given. TellsNoReading given (K.holds sink.old) (K.holds sink.new)) }
+    // Bytes that pass a limit give 8, unless the source or the sink fails or memory runs out.
+    ensures past_limits { AreWords (map string_bytes words.now) → IfSome (S.left source.old) (λ given.
+        PassesLimit given → (result ≡ 8) ⊎ (result ≡ 3) ⊎ (result ≡ 4) ⊎ (result ≡ 7)) }
+    // Bytes within the limits without a reading give 9, unless the source or the sink fails or memory runs out.
+    ensures unread { AreWords (map string_bytes words.now) → IfSome (S.left source.old) (λ given.
+        HasNoReading given → (result ≡ 9) ⊎ (result ≡ 3) ⊎ (result ≡ 4) ⊎ (result ≡ 7)) }
+    // These never come.
+    ensures never { (result ≢ 1) × (result ≢ 5) × (result ≢ 6) }
+    // A schedule within the limits, a source and a sink that don't fail: 0 or want of memory.
+    ensures complete { AreWords (map string_bytes words.now)
+        → (Rose (S.faults source.old) (S.faults source.new) → ⊥) → (Rose (K.faults sink.old) (K.faults sink.new) → ⊥)
+        → IfSome (S.left source.old) (λ given. HasReading given → (result ≡ 0) ⊎ (result ≡ 7)) }
     // Whatever bytes are read: of the service of their schedule, if they are one, the headline holds.
     ensures headline { (given : List ℕ) → KeepsHeadline (reads given) }
 {

@@ -272,3 +272,11 @@ complete e r a words source sink =
     go (inr (inl is)) = absurd (source (source_failed e r a is).1)
     go (inr (inr (inl is))) = absurd (sink (sink_failed e r a is))
     go (inr (inr (inr is))) = inr is
+
+-- 2 tells of words alone
+pub refused_words : (e : Ending) → exit_status e ≡ 2 → e ≡ Refused faults.Words
+refused_words (Refused faults.Words) is = refl
+refused_words (Refused faults.Bytes) is = absurd (omega (arith, is))
+refused_words (Refused faults.Lines) is = absurd (omega (arith, is))
+refused_words (Refused faults.Schedule) is = absurd (omega (arith, is))
+refused_words e is = absurd (omega (arith, is))

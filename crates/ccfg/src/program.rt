@@ -1,17 +1,17 @@
 //! The whole program, over the objects that are handed in.
 
-ghost use Rattle.std.specs.Prelude.{true, ◌≡◌, ◌≤◌, [], List, ℕ, IsTrue, ◌↔◌, ◌≢◌, ◌⊎◌, Err, IfOk, IfErr, IfSome, length, map};
+ghost use Rattle.std.specs.Prelude.{true, ◌≡◌, ◌≤◌, [], List, ℕ, IsTrue, ◌↔◌, ◌≢◌, ◌⊎◌, Ok, Err, IfOk, IfErr, IfSome, length, map};
 ghost use Rattle.std.specs.String.{string_bytes};
 ghost use Rattle.std.specs.Io.KnownBytes.{Appends, Keeps};
 ghost use Rattle.gl_outside.specs.Fault.{Rose};
 ghost use Rattle.gl_outside.specs.Sink.{AppendsFront};
 ghost use Rattle.ccfg.specs.declared.ending.Fault.TheVariants.{Words};
 ghost use Rattle.ccfg.specs.declared.ending.Ending.{Ending};
-ghost use Rattle.ccfg.specs.declared.ending.Ending.TheVariants.{Done};
+ghost use Rattle.ccfg.specs.declared.ending.Ending.TheVariants.{Done, Refused};
 ghost use Rattle.ccfg.specs.Reading.{reads};
 ghost use Rattle.ccfg.specs.Owed.{AreWords, Answers, KeepsHeadline, Replays, Writes, bytes_limit, exit_status, fault_line, of_reading, owed, refused};
 ghost use Rattle.ccfg.specs.Promises.{HasNoReading, HasReading, PassesLimit, TellsLimit, TellsNoReading, WritesText};
-ghost use Rattle.ccfg.specs.declared.program.Plan.TheVariants.{Play};
+ghost use Rattle.ccfg.specs.declared.program.Plan.TheVariants.{Play, Refuse};
 ghost use Rattle.ccfg.specs.Plans.{due_of, HasOneNode, PlaysOneNode, EndsPlayed};
 
 use crate::ending::{Ending, Fault};
@@ -52,6 +52,7 @@ fn plan_of(alloc: Global, text: &[u8]) -> Result<Plan, AllocError>
     requires { length text.now ≤ bytes_limit }
     ensures due { IfOk result (λ plan. owed text.now ≡ due_of plan) }
     ensures one_node { IfOk result (λ plan. PlaysOneNode plan) }
+    ensures bytes_only { result ≢ Ok (Refuse Words) }
 {
     if line_count(text) > LINES_LIMIT {
         return Ok(Plan::Refuse(Fault::Lines));
@@ -76,6 +77,7 @@ fn read_plan<S: Source>(alloc: Global, source: &mut S) -> Result<Plan, PlanStop>
     ensures due { IfOk result (λ plan. IfSome (S.left source.old) (λ given. owed given ≡ due_of plan)) }
     ensures ended { IfOk result (λ plan. EndsPlayed plan (S.ended source.new)) }
     ensures one_node { IfOk result (λ plan. PlaysOneNode plan) }
+    ensures bytes_only { result ≢ Ok (Refuse Words) }
     ensures failed { result ≡ Err PlanStop.SourceFailed → Rose (S.faults source.old) (S.faults source.new) }
 {
     match load(alloc, BYTES_LIMIT, source) {
@@ -91,7 +93,8 @@ fn read_plan<S: Source>(alloc: Global, source: &mut S) -> Result<Plan, PlanStop>
 
 /// Tells a fault.
 fn refuse<K: Sink>(fault: Fault, sink: &mut K) -> Ending
-    ensures { Writes result (K.holds sink.old) (K.holds sink.new) (K.faults sink.old) (K.faults sink.new) (refused fault) }
+    ensures names { result ≡ Refused Words → fault ≡ Words }
+    ensures writes { Writes result (K.holds sink.old) (K.holds sink.new) (K.faults sink.old) (K.faults sink.new) (refused fault) }
 {
     match write_whole(sink, fault.line()) {
         Ok(()) => Ending::Refused(fault),
@@ -103,7 +106,8 @@ fn refuse<K: Sink>(fault: Fault, sink: &mut K) -> Ending
 /// Plays a schedule; one without a service prints nothing.
 fn perform<K: Sink>(alloc: Global, schedule: &Schedule, sink: &mut K) -> Ending
     requires { HasOneNode schedule.now }
-    ensures { Writes result (K.holds sink.old) (K.holds sink.new) (K.faults sink.old) (K.faults sink.new) (due_of (Play schedule.now)) }
+    ensures names { result ≢ Refused Words }
+    ensures writes { Writes result (K.holds sink.old) (K.holds sink.new) (K.faults sink.old) (K.faults sink.new) (due_of (Play schedule.now)) }
 {
     match schedule {
         Schedule::Empty => Ending::Done,
@@ -117,7 +121,8 @@ fn perform<K: Sink>(alloc: Global, schedule: &Schedule, sink: &mut K) -> Ending
 
 fn carry_out<K: Sink>(alloc: Global, plan: &Plan, sink: &mut K) -> Ending
     requires { PlaysOneNode plan.now }
-    ensures { Writes result (K.holds sink.old) (K.holds sink.new) (K.faults sink.old) (K.faults sink.new) (due_of plan.now) }
+    ensures names { result ≡ Refused Words → plan.now ≡ Refuse Words }
+    ensures writes { Writes result (K.holds sink.old) (K.holds sink.new) (K.faults sink.old) (K.faults sink.new) (due_of plan.now) }
 {
     match plan {
         Plan::Refuse(fault) => refuse(*fault, sink),
@@ -126,7 +131,8 @@ fn carry_out<K: Sink>(alloc: Global, plan: &Plan, sink: &mut K) -> Ending
 }
 
 fn replay<S: Source, K: Sink>(alloc: Global, source: &mut S, sink: &mut K) -> Ending
-    ensures { Replays result (record {
+    ensures names { result ≢ Refused Words }
+    ensures replays { Replays result (record {
         words = []; given = S.left source.old; ended = S.ended source.new;
         read_faults = S.faults source.old; read_faults_now = S.faults source.new;
         held = K.holds sink.old; holds = K.holds sink.new;
@@ -141,7 +147,8 @@ fn replay<S: Source, K: Sink>(alloc: Global, source: &mut S, sink: &mut K) -> En
 }
 
 fn run<S: Source, K: Sink>(alloc: Global, words: &[String], source: &mut S, sink: &mut K) -> Ending
-    ensures { Answers result (record {
+    ensures names { result ≡ Refused Words → AreWords (map string_bytes words.now) → ⊥ }
+    ensures answers { Answers result (record {
         words = map string_bytes words.now; given = S.left source.old; ended = S.ended source.new;
         read_faults = S.faults source.old; read_faults_now = S.faults source.new;
         held = K.holds sink.old; holds = K.holds sink.new;
@@ -181,6 +188,8 @@ pub fn top<S: Source, K: Sink>(
     ensures other_words { (AreWords (map string_bytes words.now) → ⊥)
         → (result ≡ 2) × Appends (K.holds sink.old) (K.holds sink.new) (fault_line Words)
         ⊎ ((result ≡ 4) ⊎ (result ≡ 7)) × AppendsFront (K.holds sink.old) (K.holds sink.new) (fault_line Words) }
+    // 2: the words are other words.
+    ensures words { result ≡ 2 → AreWords (map string_bytes words.now) → ⊥ }
     // 3: the source failed, by its count of faults, and nothing was written.
     ensures source_failed { result ≡ 3 → AreWords (map string_bytes words.now)
         × Rose (S.faults source.old) (S.faults source.new) × Keeps (K.holds sink.old) (K.holds sink.new) }

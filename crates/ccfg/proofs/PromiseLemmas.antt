@@ -1,5 +1,5 @@
 -- Each promise of the program, from how a run ends.
-use Rattle.std.proofs.Common.{◌≡◌, ℕ, ◌<◌, ◌≤◌, ◌≢◌, ◌⊎◌, inl, inr, List, [], ◌∷◌, length, Bool, true, false, Option, None, Some, IfSome, nat_lt, if◌then◌else◌, codes, refl, sym, subst, ap, ◌∙◌, arith}
+use Rattle.std.proofs.Common.{◌≡◌, ℕ, ◌≢◌, ◌⊎◌, inl, inr, List, [], ◌∷◌, length, Bool, true, false, Option, None, Some, IfSome, nat_lt, if◌then◌else◌, codes, refl, sym, subst, ap, ◌∙◌, arith}
 use Rattle.std.proofs.lemmas.Bool.Decides.{nat_tests}
 use Rattle.std.specs.Cmp.Lexicographic.{pointwise, bytes_decides}
 use Rattle.std.specs.Prelude.{nat_eq}
@@ -14,7 +14,7 @@ use Rattle.ccfg.specs.declared.schedule.Schedule.{Schedule}
 use Rattle.ccfg.specs.Lines.{line_count}
 use Rattle.ccfg.specs.Reading.{reads}
 use Rattle.ccfg.specs.Text.{text_of_schedule}
-use Rattle.ccfg.specs.Owed.{fault_line, exit_status, bytes_limit, lines_limit, Due, refused, of_reading, owed, Writes, Run, Owes, Replays, AreWords, Answers}
+use Rattle.ccfg.specs.Owed.{fault_line, exit_status, bytes_limit, lines_limit, Due, refused, of_reading, owed, Writes, Run, Owes, AreWords, Answers}
 use Rattle.ccfg.specs.Promises.{HasTooManyBytes, HasTooManyLines, PassesLimit, IsWithinLimits, HasNoReading, ReadsAs, HasReading, WritesText, TellsLimit, TellsNoReading}
 
 first_same : (x y : List ℕ) → x ∷ [] ≡ y ∷ [] → x ≡ y

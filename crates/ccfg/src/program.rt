@@ -1,6 +1,6 @@
 //! The whole program, over the objects that are handed in.
 
-ghost use Rattle.std.specs.Prelude.{true, ◌≡◌, ◌≤◌, [], List, ℕ, IsTrue, ◌↔◌, ◌≢◌, ◌⊎◌, Ok, Err, IfOk, IfErr, IfSome, length, map};
+ghost use Rattle.std.specs.Prelude.{◌≡◌, ◌≤◌, [], true, List, ℕ, IsTrue, ◌↔◌, ◌≢◌, ◌⊎◌, Ok, Err, IfOk, IfErr, IfSome, length, map};
 ghost use Rattle.std.specs.String.{string_bytes};
 ghost use Rattle.std.specs.Io.KnownBytes.{Appends, Keeps};
 ghost use Rattle.gl_outside.specs.Fault.{Rose};
@@ -52,7 +52,7 @@ fn plan_of(alloc: Global, text: &[u8]) -> Result<Plan, AllocError>
     requires { length text.now ≤ bytes_limit }
     ensures due { IfOk result (λ plan. owed text.now ≡ due_of plan) }
     ensures one_node { IfOk result (λ plan. PlaysOneNode plan) }
-    ensures bytes_only { result ≢ Ok (Refuse Words) }
+    ensures not_words { result ≢ Ok (Refuse Words) }
 {
     if line_count(text) > LINES_LIMIT {
         return Ok(Plan::Refuse(Fault::Lines));
@@ -77,7 +77,7 @@ fn read_plan<S: Source>(alloc: Global, source: &mut S) -> Result<Plan, PlanStop>
     ensures due { IfOk result (λ plan. IfSome (S.left source.old) (λ given. owed given ≡ due_of plan)) }
     ensures ended { IfOk result (λ plan. EndsPlayed plan (S.ended source.new)) }
     ensures one_node { IfOk result (λ plan. PlaysOneNode plan) }
-    ensures bytes_only { result ≢ Ok (Refuse Words) }
+    ensures not_words { result ≢ Ok (Refuse Words) }
     ensures failed { result ≡ Err PlanStop.SourceFailed → Rose (S.faults source.old) (S.faults source.new) }
 {
     match load(alloc, BYTES_LIMIT, source) {
@@ -93,7 +93,7 @@ fn read_plan<S: Source>(alloc: Global, source: &mut S) -> Result<Plan, PlanStop>
 
 /// Tells a fault.
 fn refuse<K: Sink>(fault: Fault, sink: &mut K) -> Ending
-    ensures names { result ≡ Refused Words → fault ≡ Words }
+    ensures fault { result ≡ Refused Words → fault ≡ Words }
     ensures writes { Writes result (K.holds sink.old) (K.holds sink.new) (K.faults sink.old) (K.faults sink.new) (refused fault) }
 {
     match write_whole(sink, fault.line()) {
@@ -106,7 +106,7 @@ fn refuse<K: Sink>(fault: Fault, sink: &mut K) -> Ending
 /// Plays a schedule; one without a service prints nothing.
 fn perform<K: Sink>(alloc: Global, schedule: &Schedule, sink: &mut K) -> Ending
     requires { HasOneNode schedule.now }
-    ensures names { result ≢ Refused Words }
+    ensures not_words { result ≢ Refused Words }
     ensures writes { Writes result (K.holds sink.old) (K.holds sink.new) (K.faults sink.old) (K.faults sink.new) (due_of (Play schedule.now)) }
 {
     match schedule {
@@ -121,7 +121,7 @@ fn perform<K: Sink>(alloc: Global, schedule: &Schedule, sink: &mut K) -> Ending
 
 fn carry_out<K: Sink>(alloc: Global, plan: &Plan, sink: &mut K) -> Ending
     requires { PlaysOneNode plan.now }
-    ensures names { result ≡ Refused Words → plan.now ≡ Refuse Words }
+    ensures words { result ≡ Refused Words → plan.now ≡ Refuse Words }
     ensures writes { Writes result (K.holds sink.old) (K.holds sink.new) (K.faults sink.old) (K.faults sink.new) (due_of plan.now) }
 {
     match plan {
@@ -131,12 +131,17 @@ fn carry_out<K: Sink>(alloc: Global, plan: &Plan, sink: &mut K) -> Ending
 }
 
 fn replay<S: Source, K: Sink>(alloc: Global, source: &mut S, sink: &mut K) -> Ending
-    ensures names { result ≢ Refused Words }
+    ensures not_words { result ≢ Refused Words }
     ensures replays { Replays result (record {
-        words = []; given = S.left source.old; ended = S.ended source.new;
-        read_faults = S.faults source.old; read_faults_now = S.faults source.new;
-        held = K.holds sink.old; holds = K.holds sink.new;
-        write_faults = K.faults sink.old; write_faults_now = K.faults sink.new
+      words = [];
+      given = S.left source.old;
+      ended = S.ended source.new;
+      read_faults = S.faults source.old;
+      read_faults_now = S.faults source.new;
+      held = K.holds sink.old;
+      holds = K.holds sink.new;
+      write_faults = K.faults sink.old;
+      write_faults_now = K.faults sink.new;
     }) }
 {
     match read_plan(alloc, source) {
@@ -147,12 +152,17 @@ fn replay<S: Source, K: Sink>(alloc: Global, source: &mut S, sink: &mut K) -> En
 }
 
 fn run<S: Source, K: Sink>(alloc: Global, words: &[String], source: &mut S, sink: &mut K) -> Ending
-    ensures names { result ≡ Refused Words → AreWords (map string_bytes words.now) → ⊥ }
+    ensures words { result ≡ Refused Words → AreWords (map string_bytes words.now) → ⊥ }
     ensures answers { Answers result (record {
-        words = map string_bytes words.now; given = S.left source.old; ended = S.ended source.new;
-        read_faults = S.faults source.old; read_faults_now = S.faults source.new;
-        held = K.holds sink.old; holds = K.holds sink.new;
-        write_faults = K.faults sink.old; write_faults_now = K.faults sink.new
+      words = map string_bytes words.now;
+      given = S.left source.old;
+      ended = S.ended source.new;
+      read_faults = S.faults source.old;
+      read_faults_now = S.faults source.new;
+      held = K.holds sink.old;
+      holds = K.holds sink.new;
+      write_faults = K.faults sink.old;
+      write_faults_now = K.faults sink.new;
     }) }
 {
     if is_replay(words) {
@@ -165,18 +175,18 @@ fn run<S: Source, K: Sink>(alloc: Global, words: &[String], source: &mut S, sink
 /// The whole program: the one word `replay` replays the schedule that the source gives, and prints
 /// what came of each of its lines. The answer is the exit status: 0 done, 2 other words, 3 the
 /// source failed, 4 the sink failed, 7 want of memory, 8 a limit is passed, 9 no schedule.
-pub fn top<S: Source, K: Sink>(
-    alloc: Global,
-    words: &[String],
-    source: &mut S,
-    sink: &mut K,
-) -> u8
+pub fn top<S: Source, K: Sink>(alloc: Global, words: &[String], source: &mut S, sink: &mut K) -> u8
     // How the run ends, by its words, its source and its sink, and what was written.
     ensures answers { (e : Ending) × (result ≡ exit_status e) × Answers e (record {
-        words = map string_bytes words.now; given = S.left source.old; ended = S.ended source.new;
-        read_faults = S.faults source.old; read_faults_now = S.faults source.new;
-        held = K.holds sink.old; holds = K.holds sink.new;
-        write_faults = K.faults sink.old; write_faults_now = K.faults sink.new
+      words = map string_bytes words.now;
+      given = S.left source.old;
+      ended = S.ended source.new;
+      read_faults = S.faults source.old;
+      read_faults_now = S.faults source.new;
+      held = K.holds sink.old;
+      holds = K.holds sink.new;
+      write_faults = K.faults sink.old;
+      write_faults_now = K.faults sink.new;
     }) }
     // 0: the words are the one word, the source gave its end, and exactly the text of its schedule was written.
     ensures done { result ≡ 0 → AreWords (map string_bytes words.now) × (S.ended source.new ≡ true)

@@ -31,4 +31,4 @@ pub returns-clause-complete : goal.returns-clause-complete
 returns-clause-complete g c = rw c.status.ensures (ends.complete c.run.result _ c.run.ensures.answers)
 
 pub returns-clause-words : goal.returns-clause-words
-returns-clause-words g c is words = c.run.ensures.names (ends.refused_words c.run.result (sym c.status.ensures ∙ is)) words
+returns-clause-words g c is words = c.run.ensures.words (ends.refused_words c.run.result (sym c.status.ensures ∙ is)) words

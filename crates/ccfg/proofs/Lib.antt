@@ -5,3 +5,4 @@ pub mod PlayLemmas
 pub mod Played
 pub mod WordLemmas
 mod HeadlineLemmas
+mod PromiseLemmas

@@ -7,4 +7,5 @@ pub mod Machine
 pub mod Printing
 pub mod Playing
 pub mod Owed
+pub mod Promises
 pub mod Plans

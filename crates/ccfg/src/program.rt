@@ -1,14 +1,17 @@
 //! The whole program, over the objects that are handed in.
 
-ghost use Rattle.std.specs.Prelude.{◌≡◌, ◌≤◌, [], List, ℕ, IsTrue, ◌↔◌, Err, IfOk, IfErr, IfSome, length, map};
+ghost use Rattle.std.specs.Prelude.{◌≡◌, ◌≤◌, [], true, List, ℕ, IsTrue, ◌↔◌, ◌≢◌, ◌⊎◌, Ok, Err, IfOk, IfErr, IfSome, length, map};
 ghost use Rattle.std.specs.String.{string_bytes};
-ghost use Rattle.std.specs.Io.KnownBytes.{Keeps};
+ghost use Rattle.std.specs.Io.KnownBytes.{Appends, Keeps};
 ghost use Rattle.gl_outside.specs.Fault.{Rose};
+ghost use Rattle.gl_outside.specs.Sink.{AppendsFront};
+ghost use Rattle.ccfg.specs.declared.ending.Fault.TheVariants.{Words};
 ghost use Rattle.ccfg.specs.declared.ending.Ending.{Ending};
-ghost use Rattle.ccfg.specs.declared.ending.Ending.TheVariants.{Done};
+ghost use Rattle.ccfg.specs.declared.ending.Ending.TheVariants.{Done, Refused};
 ghost use Rattle.ccfg.specs.Reading.{reads};
-ghost use Rattle.ccfg.specs.Owed.{AreWords, Answers, KeepsHeadline, Replays, Writes, bytes_limit, exit_status, of_reading, owed, refused};
-ghost use Rattle.ccfg.specs.declared.program.Plan.TheVariants.{Play};
+ghost use Rattle.ccfg.specs.Owed.{AreWords, Answers, KeepsHeadline, Replays, Writes, bytes_limit, exit_status, fault_line, of_reading, owed, refused};
+ghost use Rattle.ccfg.specs.Promises.{HasNoReading, HasReading, PassesLimit, TellsLimit, TellsNoReading, WritesText};
+ghost use Rattle.ccfg.specs.declared.program.Plan.TheVariants.{Play, Refuse};
 ghost use Rattle.ccfg.specs.Plans.{due_of, HasOneNode, PlaysOneNode, EndsPlayed};
 
 use crate::ending::{Ending, Fault};
@@ -49,6 +52,7 @@ fn plan_of(alloc: Global, text: &[u8]) -> Result<Plan, AllocError>
     requires { length text.now ≤ bytes_limit }
     ensures due { IfOk result (λ plan. owed text.now ≡ due_of plan) }
     ensures one_node { IfOk result (λ plan. PlaysOneNode plan) }
+    ensures not_words { result ≢ Ok (Refuse Words) }
 {
     if line_count(text) > LINES_LIMIT {
         return Ok(Plan::Refuse(Fault::Lines));
@@ -73,6 +77,7 @@ fn read_plan<S: Source>(alloc: Global, source: &mut S) -> Result<Plan, PlanStop>
     ensures due { IfOk result (λ plan. IfSome (S.left source.old) (λ given. owed given ≡ due_of plan)) }
     ensures ended { IfOk result (λ plan. EndsPlayed plan (S.ended source.new)) }
     ensures one_node { IfOk result (λ plan. PlaysOneNode plan) }
+    ensures not_words { result ≢ Ok (Refuse Words) }
     ensures failed { result ≡ Err PlanStop.SourceFailed → Rose (S.faults source.old) (S.faults source.new) }
 {
     match load(alloc, BYTES_LIMIT, source) {
@@ -88,7 +93,8 @@ fn read_plan<S: Source>(alloc: Global, source: &mut S) -> Result<Plan, PlanStop>
 
 /// Tells a fault.
 fn refuse<K: Sink>(fault: Fault, sink: &mut K) -> Ending
-    ensures { Writes result (K.holds sink.old) (K.holds sink.new) (K.faults sink.old) (K.faults sink.new) (refused fault) }
+    ensures fault { result ≡ Refused Words → fault ≡ Words }
+    ensures writes { Writes result (K.holds sink.old) (K.holds sink.new) (K.faults sink.old) (K.faults sink.new) (refused fault) }
 {
     match write_whole(sink, fault.line()) {
         Ok(()) => Ending::Refused(fault),
@@ -100,7 +106,8 @@ fn refuse<K: Sink>(fault: Fault, sink: &mut K) -> Ending
 /// Plays a schedule; one without a service prints nothing.
 fn perform<K: Sink>(alloc: Global, schedule: &Schedule, sink: &mut K) -> Ending
     requires { HasOneNode schedule.now }
-    ensures { Writes result (K.holds sink.old) (K.holds sink.new) (K.faults sink.old) (K.faults sink.new) (due_of (Play schedule.now)) }
+    ensures not_words { result ≢ Refused Words }
+    ensures writes { Writes result (K.holds sink.old) (K.holds sink.new) (K.faults sink.old) (K.faults sink.new) (due_of (Play schedule.now)) }
 {
     match schedule {
         Schedule::Empty => Ending::Done,
@@ -114,7 +121,8 @@ fn perform<K: Sink>(alloc: Global, schedule: &Schedule, sink: &mut K) -> Ending
 
 fn carry_out<K: Sink>(alloc: Global, plan: &Plan, sink: &mut K) -> Ending
     requires { PlaysOneNode plan.now }
-    ensures { Writes result (K.holds sink.old) (K.holds sink.new) (K.faults sink.old) (K.faults sink.new) (due_of plan.now) }
+    ensures words { result ≡ Refused Words → plan.now ≡ Refuse Words }
+    ensures writes { Writes result (K.holds sink.old) (K.holds sink.new) (K.faults sink.old) (K.faults sink.new) (due_of plan.now) }
 {
     match plan {
         Plan::Refuse(fault) => refuse(*fault, sink),
@@ -123,11 +131,17 @@ fn carry_out<K: Sink>(alloc: Global, plan: &Plan, sink: &mut K) -> Ending
 }
 
 fn replay<S: Source, K: Sink>(alloc: Global, source: &mut S, sink: &mut K) -> Ending
-    ensures { Replays result (record {
-        words = []; given = S.left source.old; ended = S.ended source.new;
-        read_faults = S.faults source.old; read_faults_now = S.faults source.new;
-        held = K.holds sink.old; holds = K.holds sink.new;
-        write_faults = K.faults sink.old; write_faults_now = K.faults sink.new
+    ensures not_words { result ≢ Refused Words }
+    ensures replays { Replays result (record {
+      words = [];
+      given = S.left source.old;
+      ended = S.ended source.new;
+      read_faults = S.faults source.old;
+      read_faults_now = S.faults source.new;
+      held = K.holds sink.old;
+      holds = K.holds sink.new;
+      write_faults = K.faults sink.old;
+      write_faults_now = K.faults sink.new;
     }) }
 {
     match read_plan(alloc, source) {
@@ -138,11 +152,17 @@ fn replay<S: Source, K: Sink>(alloc: Global, source: &mut S, sink: &mut K) -> En
 }
 
 fn run<S: Source, K: Sink>(alloc: Global, words: &[String], source: &mut S, sink: &mut K) -> Ending
-    ensures { Answers result (record {
-        words = map string_bytes words.now; given = S.left source.old; ended = S.ended source.new;
-        read_faults = S.faults source.old; read_faults_now = S.faults source.new;
-        held = K.holds sink.old; holds = K.holds sink.new;
-        write_faults = K.faults sink.old; write_faults_now = K.faults sink.new
+    ensures words { result ≡ Refused Words → AreWords (map string_bytes words.now) → ⊥ }
+    ensures answers { Answers result (record {
+      words = map string_bytes words.now;
+      given = S.left source.old;
+      ended = S.ended source.new;
+      read_faults = S.faults source.old;
+      read_faults_now = S.faults source.new;
+      held = K.holds sink.old;
+      holds = K.holds sink.new;
+      write_faults = K.faults sink.old;
+      write_faults_now = K.faults sink.new;
     }) }
 {
     if is_replay(words) {
@@ -155,19 +175,54 @@ fn run<S: Source, K: Sink>(alloc: Global, words: &[String], source: &mut S, sink
 /// The whole program: the one word `replay` replays the schedule that the source gives, and prints
 /// what came of each of its lines. The answer is the exit status: 0 done, 2 other words, 3 the
 /// source failed, 4 the sink failed, 7 want of memory, 8 a limit is passed, 9 no schedule.
-pub fn top<S: Source, K: Sink>(
-    alloc: Global,
-    words: &[String],
-    source: &mut S,
-    sink: &mut K,
-) -> u8
+pub fn top<S: Source, K: Sink>(alloc: Global, words: &[String], source: &mut S, sink: &mut K) -> u8
     // How the run ends, by its words, its source and its sink, and what was written.
     ensures answers { (e : Ending) × (result ≡ exit_status e) × Answers e (record {
-        words = map string_bytes words.now; given = S.left source.old; ended = S.ended source.new;
-        read_faults = S.faults source.old; read_faults_now = S.faults source.new;
-        held = K.holds sink.old; holds = K.holds sink.new;
-        write_faults = K.faults sink.old; write_faults_now = K.faults sink.new
+      words = map string_bytes words.now;
+      given = S.left source.old;
+      ended = S.ended source.new;
+      read_faults = S.faults source.old;
+      read_faults_now = S.faults source.new;
+      held = K.holds sink.old;
+      holds = K.holds sink.new;
+      write_faults = K.faults sink.old;
+      write_faults_now = K.faults sink.new;
     }) }
+    // 0: the words are the one word, the source gave its end, and exactly the text of its schedule was written.
+    ensures done { result ≡ 0 → AreWords (map string_bytes words.now) × (S.ended source.new ≡ true)
+        × IfSome (S.left source.old) (λ given. WritesText given (K.holds sink.old) (K.holds sink.new)) }
+    // 4 and 7: a front of what is due was written.
+    ensures front { (result ≡ 4) ⊎ (result ≡ 7) → AreWords (map string_bytes words.now)
+        → IfSome (S.left source.old) (λ given. AppendsFront (K.holds sink.old) (K.holds sink.new) (owed given).text) }
+    // Other words: 2 and the one line, or 4 or 7 and a front of it.
+    ensures other_words { (AreWords (map string_bytes words.now) → ⊥)
+        → (result ≡ 2) × Appends (K.holds sink.old) (K.holds sink.new) (fault_line Words)
+        ⊎ ((result ≡ 4) ⊎ (result ≡ 7)) × AppendsFront (K.holds sink.old) (K.holds sink.new) (fault_line Words) }
+    // 2: the words are other words.
+    ensures words { result ≡ 2 → AreWords (map string_bytes words.now) → ⊥ }
+    // 3: the source failed, by its count of faults, and nothing was written.
+    ensures source_failed { result ≡ 3 → AreWords (map string_bytes words.now)
+        × Rose (S.faults source.old) (S.faults source.new) × Keeps (K.holds sink.old) (K.holds sink.new) }
+    // 4: the sink failed, by its count of faults.
+    ensures sink_failed { result ≡ 4 → Rose (K.faults sink.old) (K.faults sink.new) }
+    // 8: the bytes pass a limit, and exactly the line that names it was written.
+    ensures limits { result ≡ 8 → AreWords (map string_bytes words.now)
+        × IfSome (S.left source.old) (λ given. TellsLimit given (K.holds sink.old) (K.holds sink.new)) }
+    // 9: the bytes are within the limits and have no reading, and exactly the line that says so was written.
+    ensures no_reading { result ≡ 9 → AreWords (map string_bytes words.now)
+        × IfSome (S.left source.old) (λ given. TellsNoReading given (K.holds sink.old) (K.holds sink.new)) }
+    // Bytes that pass a limit give 8, unless the source or the sink fails or memory runs out.
+    ensures past_limits { AreWords (map string_bytes words.now) → IfSome (S.left source.old) (λ given.
+        PassesLimit given → (result ≡ 8) ⊎ (result ≡ 3) ⊎ (result ≡ 4) ⊎ (result ≡ 7)) }
+    // Bytes within the limits without a reading give 9, unless the source or the sink fails or memory runs out.
+    ensures unread { AreWords (map string_bytes words.now) → IfSome (S.left source.old) (λ given.
+        HasNoReading given → (result ≡ 9) ⊎ (result ≡ 3) ⊎ (result ≡ 4) ⊎ (result ≡ 7)) }
+    // These never come.
+    ensures never { (result ≢ 1) × (result ≢ 5) × (result ≢ 6) }
+    // A schedule within the limits, a source and a sink that don't fail: 0 or want of memory.
+    ensures complete { AreWords (map string_bytes words.now)
+        → (Rose (S.faults source.old) (S.faults source.new) → ⊥) → (Rose (K.faults sink.old) (K.faults sink.new) → ⊥)
+        → IfSome (S.left source.old) (λ given. HasReading given → (result ≡ 0) ⊎ (result ≡ 7)) }
     // Whatever bytes are read: of the service of their schedule, if they are one, the headline holds.
     ensures headline { (given : List ℕ) → KeepsHeadline (reads given) }
 {

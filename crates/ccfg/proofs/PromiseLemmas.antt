@@ -1,0 +1,282 @@
+-- Each promise of the program, from how a run ends.
+use Rattle.std.proofs.Common.{◌≡◌, ℕ, ◌≢◌, ◌⊎◌, inl, inr, List, [], ◌∷◌, length, Bool, true, false, Option, None, Some, IfSome, nat_lt, if◌then◌else◌, codes, refl, sym, subst, ap, ◌∙◌, arith}
+use Rattle.std.proofs.lemmas.Bool.Decides.{nat_tests}
+use Rattle.std.specs.Cmp.Lexicographic.{pointwise, bytes_decides}
+use Rattle.std.specs.Prelude.{nat_eq}
+use Rattle.std.specs.Io.KnownBytes.{Appends, Keeps}
+use Rattle.gl_outside.specs.Fault.{Rose}
+use Rattle.gl_outside.specs.Sink.{AppendsFront}
+use Rattle.ccfg.specs.declared.ending.Fault.{Fault}
+use Rattle.ccfg.specs.declared.ending.Fault.TheVariants as faults
+use Rattle.ccfg.specs.declared.ending.Ending.{Ending}
+use Rattle.ccfg.specs.declared.ending.Ending.TheVariants.{Done, Refused, SourceFailed, SinkFailed, Memory}
+use Rattle.ccfg.specs.declared.schedule.Schedule.{Schedule}
+use Rattle.ccfg.specs.Lines.{line_count}
+use Rattle.ccfg.specs.Reading.{reads}
+use Rattle.ccfg.specs.Text.{text_of_schedule}
+use Rattle.ccfg.specs.Owed.{fault_line, exit_status, bytes_limit, lines_limit, Due, refused, of_reading, owed, Writes, Run, Owes, AreWords, Answers}
+use Rattle.ccfg.specs.Promises.{HasTooManyBytes, HasTooManyLines, PassesLimit, IsWithinLimits, HasNoReading, ReadsAs, HasReading, WritesText, TellsLimit, TellsNoReading}
+
+first_same : (x y : List ℕ) → x ∷ [] ≡ y ∷ [] → x ≡ y
+first_same x y e = cc
+
+-- words are the one word or they are not
+words_decided : (words : List (List ℕ)) → AreWords words ⊎ (AreWords words → ⊥)
+words_decided [] = inr (λ e. cc)
+words_decided (word ∷ []) = go (pointwise nat_eq word (codes "replay")) refl
+  where
+    go : (b : Bool) → pointwise nat_eq word (codes "replay") ≡ b → AreWords (word ∷ []) ⊎ (AreWords (word ∷ []) → ⊥)
+    go true is = inl (let same = (bytes_decides word (codes "replay")).0 is in cc)
+    go false is = inr (λ e. let t = (bytes_decides word (codes "replay")).1 (first_same word (codes "replay") e) in cc)
+words_decided (word ∷ other ∷ words) = inr (λ e. cc)
+
+-- Which due comes of which case.
+abbrev DueCase : List ℕ → Due → Type 0
+DueCase given due =
+    (HasTooManyBytes given × (due ≡ refused faults.Bytes))
+    ⊎ (HasTooManyLines given × (due ≡ refused faults.Lines))
+    ⊎ (HasNoReading given × (due ≡ refused faults.Schedule))
+    ⊎ ((schedule : Schedule) × ReadsAs given schedule × (due ≡ record { ending = Done; text = text_of_schedule schedule }))
+
+abbrev due_by : Bool → Bool → Option Schedule → Due
+due_by bytes lines read = if bytes then refused faults.Bytes else (if lines then refused faults.Lines else of_reading read)
+
+-- what bytes are owed, case by case
+owed_case : (given : List ℕ) → DueCase given (owed given)
+unfolding owed
+owed_case given = go (nat_lt bytes_limit (length given)) (nat_lt lines_limit (line_count given)) (reads given) refl refl refl
+  where
+    go : (b l : Bool) (s : Option Schedule) → nat_lt bytes_limit (length given) ≡ b → nat_lt lines_limit (line_count given) ≡ l → reads given ≡ s → DueCase given (due_by b l s)
+    go true l s bytes lines read = inl (grind (arith, nat_tests), refl)
+    go false true s bytes lines read = inr (inl ((grind (arith, nat_tests), grind (arith, nat_tests)), refl))
+    go false false None bytes lines read = inr (inr (inl (((grind (arith, nat_tests), grind (arith, nat_tests)), read), refl)))
+    go false false (Some schedule) bytes lines read = inr (inr (inr (schedule, ((grind (arith, nat_tests), grind (arith, nat_tests)), read), refl)))
+
+-- What is written of what is due.
+abbrev WritesDue : Ending → Run → Due → Type 0
+WritesDue e r due = Writes e r.held r.holds r.write_faults r.write_faults_now due
+
+same_ending : (e : Ending) (due case : Due) → due ≡ case → due.ending ≡ e → case.ending ≡ e
+same_ending e due case is ends = sym (ap (λ (d : Due). d.ending) is) ∙ ends
+
+same_text : (r : Run) (due case : Due) → due ≡ case → Appends r.held r.holds due.text → Appends r.held r.holds case.text
+same_text r due case is text = subst (λ (d : Due). Appends r.held r.holds d.text) is text
+
+done_writes : (given : List ℕ) (r : Run) (due : Due) → DueCase given due → WritesDue Done r due → WritesText given r.held r.holds
+done_writes given r due (inl p) w = absurd (let q : Refused faults.Bytes ≡ Done = same_ending Done due (refused faults.Bytes) p.1 w.0 in cc)
+done_writes given r due (inr (inl p)) w = absurd (let q : Refused faults.Lines ≡ Done = same_ending Done due (refused faults.Lines) p.1 w.0 in cc)
+done_writes given r due (inr (inr (inl p))) w = absurd (let q : Refused faults.Schedule ≡ Done = same_ending Done due (refused faults.Schedule) p.1 w.0 in cc)
+done_writes given r due (inr (inr (inr p))) w = (p.0, p.1, same_text r due (record { ending = Done; text = text_of_schedule p.0 }) p.2 w.1)
+
+-- What the line of a fault tells of bytes.
+abbrev Tells : Fault → List ℕ → Type 0
+Tells faults.Words given = ⊥
+Tells faults.Bytes given = HasTooManyBytes given
+Tells faults.Lines given = HasTooManyLines given
+Tells faults.Schedule given = HasNoReading given
+
+same_fault : (f g : Fault) → Refused f ≡ Refused g → f ≡ g
+same_fault f g is = cc
+
+tells_other : (f g : Fault) (given : List ℕ) → Refused f ≡ Refused g → Tells f given → Tells g given
+tells_other f g given is t = subst (λ (h : Fault). Tells h given) (same_fault f g is) t
+
+refused_tells : (f : Fault) (given : List ℕ) (due : Due) → DueCase given due → due.ending ≡ Refused f → Tells f given
+refused_tells f given due (inl p) is = tells_other faults.Bytes f given (same_ending (Refused f) due (refused faults.Bytes) p.1 is) p.0
+refused_tells f given due (inr (inl p)) is = tells_other faults.Lines f given (same_ending (Refused f) due (refused faults.Lines) p.1 is) p.0
+refused_tells f given due (inr (inr (inl p))) is = tells_other faults.Schedule f given (same_ending (Refused f) due (refused faults.Schedule) p.1 is) p.0
+refused_tells f given due (inr (inr (inr p))) is =
+    absurd (let q : Done ≡ Refused f = same_ending (Refused f) due (record { ending = Done; text = text_of_schedule p.0 }) p.2 is in cc)
+
+refused_text : (f : Fault) (given : List ℕ) (r : Run) (due : Due) → DueCase given due → WritesDue (Refused f) r due → Appends r.held r.holds (fault_line f)
+refused_text f given r due (inl p) w =
+    let same = same_fault faults.Bytes f (same_ending (Refused f) due (refused faults.Bytes) p.1 w.0) in
+    subst (λ (g : Fault). Appends r.held r.holds (fault_line g)) same (same_text r due (refused faults.Bytes) p.1 w.1)
+refused_text f given r due (inr (inl p)) w =
+    let same = same_fault faults.Lines f (same_ending (Refused f) due (refused faults.Lines) p.1 w.0) in
+    subst (λ (g : Fault). Appends r.held r.holds (fault_line g)) same (same_text r due (refused faults.Lines) p.1 w.1)
+refused_text f given r due (inr (inr (inl p))) w =
+    let same = same_fault faults.Schedule f (same_ending (Refused f) due (refused faults.Schedule) p.1 w.0) in
+    subst (λ (g : Fault). Appends r.held r.holds (fault_line g)) same (same_text r due (refused faults.Schedule) p.1 w.1)
+refused_text f given r due (inr (inr (inr p))) w =
+    absurd (let q : Done ≡ Refused f = same_ending (Refused f) due (record { ending = Done; text = text_of_schedule p.0 }) p.2 w.0 in cc)
+
+-- of what a source tells
+if_told : (e : Ending) (given : Option (List ℕ)) (r : Run) (P : List ℕ → Type 0) → Owes e given r → ((g : List ℕ) → WritesDue e r (owed g) → P g) → IfSome given P
+if_told e None r P owes holds = tt
+if_told e (Some g) r P owes holds = holds g owes
+
+whatever_told : (given : Option (List ℕ)) (P : List ℕ → Type 0) → ((g : List ℕ) → P g) → IfSome given P
+whatever_told None P holds = tt
+whatever_told (Some g) P holds = holds g
+
+past_no_limit : (given : List ℕ) → IsWithinLimits given → PassesLimit given → ⊥
+past_no_limit given within (inl p) = omega (arith, within.0, p)
+past_no_limit given within (inr p) = omega (arith, within.1, p.1)
+
+read_or_not : (given : List ℕ) (schedule : Schedule) → reads given ≡ Some schedule → reads given ≡ None → ⊥
+read_or_not given schedule some none = cc
+
+-- other words end by 2, 4 or 7
+other_words_end : (e : Ending) (r : Run) → WritesDue e r (refused faults.Words) →
+    (exit_status e ≡ 2) × Appends r.held r.holds (fault_line faults.Words)
+    ⊎ ((exit_status e ≡ 4) ⊎ (exit_status e ≡ 7)) × AppendsFront r.held r.holds (fault_line faults.Words)
+other_words_end Done r w = absurd (let q : Refused faults.Words ≡ Done = w.0 in cc)
+other_words_end (Refused faults.Words) r w = inl (refl, w.1)
+other_words_end (Refused faults.Bytes) r w = absurd (let q : Refused faults.Words ≡ Refused faults.Bytes = w.0 in cc)
+other_words_end (Refused faults.Lines) r w = absurd (let q : Refused faults.Words ≡ Refused faults.Lines = w.0 in cc)
+other_words_end (Refused faults.Schedule) r w = absurd (let q : Refused faults.Words ≡ Refused faults.Schedule = w.0 in cc)
+other_words_end SourceFailed r w = absurd w
+other_words_end SinkFailed r w = inr (inl refl, w.1)
+other_words_end Memory r w = inr (inr refl, w)
+
+-- all but 2, 4 and 7 have the one word
+one_word : (e : Ending) (r : Run) → Answers e r → exit_status e ≢ 2 → exit_status e ≢ 4 → exit_status e ≢ 7 → AreWords r.words
+one_word e r a two four seven = go (words_decided r.words)
+  where
+    go : AreWords r.words ⊎ (AreWords r.words → ⊥) → AreWords r.words
+    go (inl words) = words
+    go (inr other) = absurd (end (other_words_end e r (a.other_words other)))
+      where
+        end : (exit_status e ≡ 2) × Appends r.held r.holds (fault_line faults.Words)
+            ⊎ ((exit_status e ≡ 4) ⊎ (exit_status e ≡ 7)) × AppendsFront r.held r.holds (fault_line faults.Words) → ⊥
+        end (inl p) = two p.0
+        end (inr (inl p, t)) = four p
+        end (inr (inr p, t)) = seven p
+
+-- the promises, for each ending
+pub done : (e : Ending) (r : Run) → Answers e r → exit_status e ≡ 0 → AreWords r.words × (r.ended ≡ true) × IfSome r.given (λ g. WritesText g r.held r.holds)
+done Done r a is =
+    let words = one_word Done r a (λ q. omega (arith, q)) (λ q. omega (arith, q)) (λ q. omega (arith, q)) in
+    let does = a.replays words in
+    (words, does.0, if_told Done r.given r (λ g. WritesText g r.held r.holds) does.1 (λ g w. done_writes g r (owed g) (owed_case g) w))
+done (Refused faults.Words) r a is = absurd (omega (arith, is))
+done (Refused faults.Bytes) r a is = absurd (omega (arith, is))
+done (Refused faults.Lines) r a is = absurd (omega (arith, is))
+done (Refused faults.Schedule) r a is = absurd (omega (arith, is))
+done e r a is = absurd (omega (arith, is))
+
+pub source_failed : (e : Ending) (r : Run) → Answers e r → exit_status e ≡ 3 → AreWords r.words × Rose r.read_faults r.read_faults_now × Keeps r.held r.holds
+source_failed SourceFailed r a is =
+    let words = one_word SourceFailed r a (λ q. omega (arith, q)) (λ q. omega (arith, q)) (λ q. omega (arith, q)) in
+    let does = a.replays words in
+    (words, does.0, does.1)
+source_failed (Refused faults.Words) r a is = absurd (omega (arith, is))
+source_failed (Refused faults.Bytes) r a is = absurd (omega (arith, is))
+source_failed (Refused faults.Lines) r a is = absurd (omega (arith, is))
+source_failed (Refused faults.Schedule) r a is = absurd (omega (arith, is))
+source_failed e r a is = absurd (omega (arith, is))
+
+pub sink_failed : (e : Ending) (r : Run) → Answers e r → exit_status e ≡ 4 → Rose r.write_faults r.write_faults_now
+sink_failed SinkFailed r a is = go (words_decided r.words)
+  where
+    go : AreWords r.words ⊎ (AreWords r.words → ⊥) → Rose r.write_faults r.write_faults_now
+    go (inl words) = (a.replays words).0
+    go (inr other) = (a.other_words other).0
+sink_failed (Refused faults.Words) r a is = absurd (omega (arith, is))
+sink_failed (Refused faults.Bytes) r a is = absurd (omega (arith, is))
+sink_failed (Refused faults.Lines) r a is = absurd (omega (arith, is))
+sink_failed (Refused faults.Schedule) r a is = absurd (omega (arith, is))
+sink_failed e r a is = absurd (omega (arith, is))
+
+tells : (f : Fault) (r : Run) → Answers (Refused f) r → AreWords r.words → IfSome r.given (λ g. Tells f g × Appends r.held r.holds (fault_line f))
+tells f r a words = if_told (Refused f) r.given r (λ g. Tells f g × Appends r.held r.holds (fault_line f)) (a.replays words)
+    (λ g w. (refused_tells f g (owed g) (owed_case g) w.0, refused_text f g r (owed g) (owed_case g) w))
+
+some_map : (given : Option (List ℕ)) (P Q : List ℕ → Type 0) → ((g : List ℕ) → P g → Q g) → IfSome given P → IfSome given Q
+some_map None P Q f p = tt
+some_map (Some g) P Q f p = f g p
+
+pub limits : (e : Ending) (r : Run) → Answers e r → exit_status e ≡ 8 → AreWords r.words × IfSome r.given (λ g. TellsLimit g r.held r.holds)
+limits (Refused faults.Bytes) r a is =
+    let words = one_word (Refused faults.Bytes) r a (λ q. omega (arith, q)) (λ q. omega (arith, q)) (λ q. omega (arith, q)) in
+    (words, some_map r.given (λ g. Tells faults.Bytes g × Appends r.held r.holds (fault_line faults.Bytes)) (λ g. TellsLimit g r.held r.holds) (λ g t. inl t) (tells faults.Bytes r a words))
+limits (Refused faults.Lines) r a is =
+    let words = one_word (Refused faults.Lines) r a (λ q. omega (arith, q)) (λ q. omega (arith, q)) (λ q. omega (arith, q)) in
+    (words, some_map r.given (λ g. Tells faults.Lines g × Appends r.held r.holds (fault_line faults.Lines)) (λ g. TellsLimit g r.held r.holds) (λ g t. inr t) (tells faults.Lines r a words))
+limits (Refused faults.Words) r a is = absurd (omega (arith, is))
+limits (Refused faults.Schedule) r a is = absurd (omega (arith, is))
+limits e r a is = absurd (omega (arith, is))
+
+pub no_reading : (e : Ending) (r : Run) → Answers e r → exit_status e ≡ 9 → AreWords r.words × IfSome r.given (λ g. TellsNoReading g r.held r.holds)
+no_reading (Refused faults.Schedule) r a is =
+    let words = one_word (Refused faults.Schedule) r a (λ q. omega (arith, q)) (λ q. omega (arith, q)) (λ q. omega (arith, q)) in
+    (words, tells faults.Schedule r a words)
+no_reading (Refused faults.Words) r a is = absurd (omega (arith, is))
+no_reading (Refused faults.Bytes) r a is = absurd (omega (arith, is))
+no_reading (Refused faults.Lines) r a is = absurd (omega (arith, is))
+no_reading e r a is = absurd (omega (arith, is))
+
+-- What the bytes are where a run with the one word ends so.
+abbrev Fits : Ending → List ℕ → Type 0
+Fits Done g = HasReading g
+Fits (Refused f) g = Tells f g
+Fits SourceFailed g = Unit {0}
+Fits SinkFailed g = Unit {0}
+Fits Memory g = Unit {0}
+
+fits : (e : Ending) (r : Run) → Answers e r → AreWords r.words → IfSome r.given (λ g. Fits e g)
+fits Done r a words = some_map r.given (λ g. WritesText g r.held r.holds) (λ g. HasReading g) (λ g t. (t.0, t.1)) (done Done r a refl).2
+fits (Refused f) r a words = some_map r.given (λ g. Tells f g × Appends r.held r.holds (fault_line f)) (λ g. Tells f g) (λ g t. t.0) (tells f r a words)
+fits SourceFailed r a words = whatever_told r.given (λ g. Unit {0}) (λ g. tt)
+fits SinkFailed r a words = whatever_told r.given (λ g. Unit {0}) (λ g. tt)
+fits Memory r a words = whatever_told r.given (λ g. Unit {0}) (λ g. tt)
+
+-- The ends of a run that comes to its answer, or to a failure before it.
+abbrev EndsBy : ℕ → ℕ → Type 0
+EndsBy answer status = (status ≡ answer) ⊎ (status ≡ 3) ⊎ (status ≡ 4) ⊎ (status ≡ 7)
+
+past_end : (e : Ending) (g : List ℕ) → Fits e g → PassesLimit g → EndsBy 8 (exit_status e)
+past_end Done g fit past = absurd (past_no_limit g fit.1.0 past)
+past_end (Refused faults.Words) g fit past = absurd fit
+past_end (Refused faults.Bytes) g fit past = inl refl
+past_end (Refused faults.Lines) g fit past = inl refl
+past_end (Refused faults.Schedule) g fit past = absurd (past_no_limit g fit.0 past)
+past_end SourceFailed g fit past = inr (inl refl)
+past_end SinkFailed g fit past = inr (inr (inl refl))
+past_end Memory g fit past = inr (inr (inr refl))
+
+pub past_limits : (e : Ending) (r : Run) → Answers e r → AreWords r.words → IfSome r.given (λ g. PassesLimit g → EndsBy 8 (exit_status e))
+past_limits e r a words = some_map r.given (λ g. Fits e g) (λ g. PassesLimit g → EndsBy 8 (exit_status e)) (past_end e) (fits e r a words)
+
+unread_end : (e : Ending) (g : List ℕ) → Fits e g → HasNoReading g → EndsBy 9 (exit_status e)
+unread_end Done g fit none = absurd (read_or_not g fit.0 fit.1.1 none.1)
+unread_end (Refused faults.Words) g fit none = absurd fit
+unread_end (Refused faults.Bytes) g fit none = absurd (past_no_limit g none.0 (inl fit))
+unread_end (Refused faults.Lines) g fit none = absurd (past_no_limit g none.0 (inr fit))
+unread_end (Refused faults.Schedule) g fit none = inl refl
+unread_end SourceFailed g fit none = inr (inl refl)
+unread_end SinkFailed g fit none = inr (inr (inl refl))
+unread_end Memory g fit none = inr (inr (inr refl))
+
+pub unread : (e : Ending) (r : Run) → Answers e r → AreWords r.words → IfSome r.given (λ g. HasNoReading g → EndsBy 9 (exit_status e))
+unread e r a words = some_map r.given (λ g. Fits e g) (λ g. HasNoReading g → EndsBy 9 (exit_status e)) (unread_end e) (fits e r a words)
+
+read_end : (e : Ending) (g : List ℕ) → Fits e g → HasReading g → EndsBy 0 (exit_status e)
+read_end Done g fit reading = inl refl
+read_end (Refused faults.Words) g fit reading = absurd fit
+read_end (Refused faults.Bytes) g fit reading = absurd (past_no_limit g reading.1.0 (inl fit))
+read_end (Refused faults.Lines) g fit reading = absurd (past_no_limit g reading.1.0 (inr fit))
+read_end (Refused faults.Schedule) g fit reading = absurd (read_or_not g reading.0 reading.1.1 fit.1)
+read_end SourceFailed g fit reading = inr (inl refl)
+read_end SinkFailed g fit reading = inr (inr (inl refl))
+read_end Memory g fit reading = inr (inr (inr refl))
+
+pub complete : (e : Ending) (r : Run) → Answers e r → AreWords r.words → (Rose r.read_faults r.read_faults_now → ⊥) → (Rose r.write_faults r.write_faults_now → ⊥) →
+    IfSome r.given (λ g. HasReading g → (exit_status e ≡ 0) ⊎ (exit_status e ≡ 7))
+complete e r a words source sink =
+    some_map r.given (λ g. Fits e g) (λ g. HasReading g → (exit_status e ≡ 0) ⊎ (exit_status e ≡ 7)) (λ g fit reading. go (read_end e g fit reading)) (fits e r a words)
+  where
+    go : EndsBy 0 (exit_status e) → (exit_status e ≡ 0) ⊎ (exit_status e ≡ 7)
+    go (inl is) = inl is
+    go (inr (inl is)) = absurd (source (source_failed e r a is).1)
+    go (inr (inr (inl is))) = absurd (sink (sink_failed e r a is))
+    go (inr (inr (inr is))) = inr is
+
+-- 2 tells of words alone
+pub refused_words : (e : Ending) → exit_status e ≡ 2 → e ≡ Refused faults.Words
+refused_words (Refused faults.Words) is = refl
+refused_words (Refused faults.Bytes) is = absurd (omega (arith, is))
+refused_words (Refused faults.Lines) is = absurd (omega (arith, is))
+refused_words (Refused faults.Schedule) is = absurd (omega (arith, is))
+refused_words e is = absurd (omega (arith, is))

@@ -1,5 +1,5 @@
 -- The headline of what a text reads as.
-use Rattle.std.proofs.Common.{◌≡◌, ℕ, List, [], ◌∷◌, Option, None, Some, refl, sym, subst, Bool, true, false, if◌then◌else◌}
+use Rattle.std.proofs.Common.{ℕ, List, [], ◌∷◌, Option, None, Some, refl, Bool, true, false, if◌then◌else◌}
 use Rattle.std.specs.List.{starts_with}
 use Rattle.std.specs.Prelude.{nat_eq, drop}
 use Rattle.gl_service.specs.declared.settings.Settings.{Settings}
@@ -8,8 +8,7 @@ use Rattle.gl_service.specs.Single.{IsSingle, AreLocal}
 use Rattle.gl_service.proofs.Single.{headline}
 use Rattle.ccfg.specs.declared.schedule.Line.{Line}
 use Rattle.ccfg.specs.declared.schedule.Line.TheVariants.{Submit, Reserve, Sign, Advance, Status}
-use Rattle.ccfg.specs.declared.schedule.Schedule.{Schedule}
-use Rattle.ccfg.specs.declared.schedule.Schedule.TheVariants.{Empty, Service}
+use Rattle.ccfg.specs.declared.schedule.Schedule.TheVariants.{Service}
 use Rattle.ccfg.specs.Lines.{lines_of}
 use Rattle.ccfg.specs.Words.{hex_sized}
 use Rattle.ccfg.specs.Reading.{◌>>=◌, settings_from, settings_of, commands_of, schedule_of, reads, world_words}

@@ -1,12 +1,12 @@
 -- Reading a text line by line.
-use Rattle.std.proofs.Common.{◌≡◌, ℕ, zero, suc, ◌+◌, ◌-◌, ◌<◌, ◌≤◌, List, [], ◌∷◌, ◌++◌, length, take, drop, get_or, Option, None, Some, Bool, true, false, refl, sym, ◌∙◌, ap, subst, arith, append_assoc, append-nil, add-one, drop-cons, if◌then◌else◌, ◌==◌, ◌≢◌, ⊎_elim, length-drop}
+use Rattle.std.proofs.Common.{◌≡◌, ℕ, ◌+◌, ◌<◌, ◌≤◌, List, [], ◌∷◌, ◌++◌, length, take, drop, get_or, Option, None, Some, Bool, true, false, refl, sym, ◌∙◌, ap, arith, append_assoc, add-one, drop-cons, if◌then◌else◌, ◌≢◌, ⊎_elim}
 use Rattle.std.proofs.Math.Dec.{eqb}
 use Rattle.std.proofs.lemmas.Bool.{eq-eqb}
 use Rattle.std.proofs.lemmas.Bool.Decides.{eqb_tells}
 use Rattle.std.proofs.lemmas.List.{take_more, drop-append-le, length-take-le}
 use Rattle.std.proofs.Math.ListN.{drop_of_length-le}
 use Rattle.std.specs.Option.{option_map}
-use Rattle.ccfg.specs.Lines.{lines_from, lines_of, is_newline}
+use Rattle.ccfg.specs.Lines.{lines_from, is_newline}
 
 -- the lines that were read, and those to be read
 abbrev pub with_lines : List (List ℕ) → Option (List (List ℕ)) → Option (List (List ℕ))

@@ -15,7 +15,7 @@ use Rattle.gl_rules.specs.Log.{entry_at}
 use Rattle.gl_rules.specs.World.{leader_at_start}
 use Rattle.gl_store.specs.Entry.{is_signature}
 use Rattle.gl_store.specs.Kept.{IsUpTo}
-use Rattle.gl_store.specs.Ledger.{Held, Executes, Refuses, executed, application_entry, signature_entry, signature_place, last_signature, IsSignedAt}
+use Rattle.gl_store.specs.Ledger.{Held, Executes, executed, signature_entry, signature_place, last_signature, IsSignedAt}
 use Rattle.gl_store.specs.declared.entry.Entry.{Entry}
 use Rattle.gl_store.specs.declared.request.Operation.{Operation}
 use Rattle.gl_store.specs.declared.request.Answer.{Answer}
@@ -27,7 +27,7 @@ use Rattle.gl_service.specs.Keys.{leaf_count}
 use Rattle.gl_service.specs.Single.{IsSingle}
 use Rattle.gl_service.specs.Solo.{IsSolo}
 use Rattle.gl_service.specs.Service.{service_book, start_of, replied, Given, Replied, Unmade, ByStore}
-use Rattle.gl_service.proofs.Solo.{submit-is, sign-is, advance-is, solo_submit, solo_reserve, solo_sign, solo_advance, ledger_views}
+use Rattle.gl_service.proofs.Solo.{submit-is, sign-is, advance-is, solo_submit, solo_sign, solo_advance, ledger_views}
 use Rattle.gl_service.proofs.Starting.{solo_at_start}
 use Rattle.ccfg.specs.declared.machine.Machine.{Machine}
 use Rattle.ccfg.specs.Machine.{node_in, IsMachine, GoesOn}

@@ -1,5 +1,5 @@
 -- What is printed of a line is what the machine answers.
-use Rattle.std.proofs.Common.{◌≡◌, ℕ, zero, suc, ◌-◌, List, [], ◌∷◌, ◌++◌, length, Bool, true, refl, sym, ◌∙◌, ap, subst, arith, append-nil, if◌then◌else◌, Option, Result, Ok, Err, OnErr}
+use Rattle.std.proofs.Common.{◌≡◌, ℕ, ◌-◌, List, ◌++◌, length, Bool, sym, ◌∙◌, ap, subst, arith, append-nil, if◌then◌else◌, Option, Result, Ok, Err, OnErr}
 use Rattle.gl_outside.specs.Sink.{AppendsFront}
 use Rattle.gl_base.specs.declared.tx_id.TxId.{TxId}
 use Rattle.gl_rules.specs.Node.{Node}
@@ -31,11 +31,11 @@ quiet_text : (s : Settings) (w : ServiceWorld) (x : List ℕ) (step : Step Entry
     (outcome_text s (at w x step).outcome ++ sent_text w (at w x step).world ≡ outcome_text s o) × ((at w x step).world.nodes x ≡ n)
 quiet_text s w x step n o is = subst (λ (t : Step Entry Given Unmade).
     (outcome_text s (at w x t).outcome ++ sent_text w (at w x t).world ≡ outcome_text s o) × ((at w x t).world.nodes x ≡ n)) (sym is) (
-  ap (λ (k : ℕ). outcome_text s o ++ new_messages k (length w.sent))
-    (ap (λ (l : List (Rattle.gl_rules.specs.Message.Message Entry)). length l - length w.sent) (append-nil w.sent) ∙ nothing_new (length w.sent))
-  ∙ append-nil (outcome_text s o),
-  ap (λ (b : Bool). if b then n else w.nodes x) (same_itself x),
-)
+      ap (λ (k : ℕ). outcome_text s o ++ new_messages k (length w.sent))
+          (ap (λ (l : List (Rattle.gl_rules.specs.Message.Message Entry)). length l - length w.sent) (append-nil w.sent) ∙ nothing_new (length w.sent))
+          ∙ append-nil (outcome_text s o),
+      ap (λ (b : Bool). if b then n else w.nodes x) (same_itself x),
+    )
 
 abbrev Shows : Settings → ServiceWorld → ServiceEvent → Node Entry → Outcome Given Unmade → Type 0
 Shows s w e n o = ((printed_event s w e).text ≡ outcome_text s o) × ((printed_event s w e).world.nodes (id_of s 1) ≡ n)
@@ -71,21 +71,21 @@ pub prints_reserve : (w : ServiceWorld) (old new : Machine) (o : outcomes.Outcom
     Steps (reserve service_book old.id (node_in old)) new o → Prints w line.Reserve old new (answered.Event o)
 prints_reserve w old new o m is_in step =
     let shown = shows_reserve old.settings w (node_in new) (seen o)
-      (ap (λ (n : Node Entry). reserve service_book (id_of old.settings 1) n) is_in ∙ ap (λ (x : List ℕ). reserve service_book x (node_in old)) (sym m.named) ∙ step) in
+    (ap (λ (n : Node Entry). reserve service_book (id_of old.settings 1) n) is_in ∙ ap (λ (x : List ℕ). reserve service_book x (node_in old)) (sym m.named) ∙ step) in
     record { text = shown.0; node = shown.1 }
 
 pub prints_sign : (w : ServiceWorld) (old new : Machine) (o : outcomes.Outcome) → IsMachine old → IsIn w old →
     Steps (sign service_book old.id (node_in old)) new o → Prints w line.Sign old new (answered.Event o)
 prints_sign w old new o m is_in step =
     let shown = shows_sign old.settings w (node_in new) (seen o)
-      (ap (λ (n : Node Entry). sign service_book (id_of old.settings 1) n) is_in ∙ ap (λ (x : List ℕ). sign service_book x (node_in old)) (sym m.named) ∙ step) in
+    (ap (λ (n : Node Entry). sign service_book (id_of old.settings 1) n) is_in ∙ ap (λ (x : List ℕ). sign service_book x (node_in old)) (sym m.named) ∙ step) in
     record { text = shown.0; node = shown.1 }
 
 pub prints_advance : (w : ServiceWorld) (old new : Machine) (o : outcomes.Outcome) → IsMachine old → IsIn w old →
     Steps (advance service_book old.id (node_in old)) new o → Prints w line.Advance old new (answered.Event o)
 prints_advance w old new o m is_in step =
     let shown = shows_advance old.settings w (node_in new) (seen o)
-      (ap (λ (n : Node Entry). advance service_book (id_of old.settings 1) n) is_in ∙ ap (λ (x : List ℕ). advance service_book x (node_in old)) (sym m.named) ∙ step) in
+    (ap (λ (n : Node Entry). advance service_book (id_of old.settings 1) n) is_in ∙ ap (λ (x : List ℕ). advance service_book x (node_in old)) (sym m.named) ∙ step) in
     record { text = shown.0; node = shown.1 }
 
 pub prints_status : (w : ServiceWorld) (m : Machine) (id : TxId) (st : Rattle.gl_base.specs.declared.status_kind.Status.Status) → IsIn w m →

@@ -1,12 +1,12 @@
 -- What a run has written so far, beside the world of its schedule.
-use Rattle.std.proofs.Common.{◌≡◌, ℕ, zero, suc, ◌+◌, ◌<◌, ◌≤◌, List, [], ◌∷◌, ◌++◌, length, drop, get_or, Option, Bool, refl, sym, ◌∙◌, ap, subst, arith, append_assoc, append-nil, add-one, drop-cons, if◌then◌else◌}
+use Rattle.std.proofs.Common.{◌≡◌, ℕ, suc, ◌+◌, ◌<◌, ◌≤◌, List, ◌∷◌, ◌++◌, length, drop, get_or, Option, Bool, refl, sym, ◌∙◌, ap, subst, arith, append_assoc, append-nil, add-one, drop-cons, if◌then◌else◌}
 use Rattle.std.specs.Io.KnownBytes.{Appends}
-use Rattle.std.proofs.KnownBytes.{Appends-nil, Appends-trans}
+use Rattle.std.proofs.KnownBytes.{Appends-trans}
 use Rattle.std.proofs.Math.ListN.{drop_of_length-le}
 use Rattle.gl_rules.specs.Identity.{member}
 use Rattle.gl_rules.specs.World.{begin, leader_at_start, starter, joiner}
 use Rattle.gl_outside.specs.Sink.{AppendsFront}
-use Rattle.gl_outside.proofs.Fronts.{front_after, front_before, front_none}
+use Rattle.gl_outside.proofs.Fronts.{front_after, front_before}
 use Rattle.gl_service.specs.declared.settings.Settings.{Settings}
 use Rattle.gl_service.specs.Founding.{id_of}
 use Rattle.gl_service.specs.Service.{ServiceWorld, start_of}
@@ -52,11 +52,11 @@ goes_on old mid new s whole lines i line m n p within at more moved g =
       settings = g.settings ∙ p.settings;
       so_far = p.so_far ++ text;
       written = Appends-trans old mid new p.so_far text p.written
-        (subst (λ (t : Settings). Appends mid new (numbered (i + 2) (printed t p.world line).text)) p.settings (more p.world p.is_in));
+          (subst (λ (t : Settings). Appends mid new (numbered (i + 2) (printed t p.world line).text)) p.settings (more p.world p.is_in));
       is_whole = p.is_whole
-        ∙ ap (λ (t : List ℕ). p.so_far ++ t) (text_here s (i + 2) p.world lines i line at within)
-        ∙ sym (append_assoc p.so_far text (text_from s (suc (i + 2)) next (drop (i + 1) lines)))
-        ∙ ap (λ (k : ℕ). (p.so_far ++ text) ++ text_from s k next (drop (i + 1) lines)) (let e : suc (i + 2) ≡ i + 1 + 2 = omega arith in e);
+          ∙ ap (λ (t : List ℕ). p.so_far ++ t) (text_here s (i + 2) p.world lines i line at within)
+          ∙ sym (append_assoc p.so_far text (text_from s (suc (i + 2)) next (drop (i + 1) lines)))
+          ∙ ap (λ (k : ℕ). (p.so_far ++ text) ++ text_from s k next (drop (i + 1) lines)) (let e : suc (i + 2) ≡ i + 1 + 2 = omega arith in e);
     }
 
 -- a front of one more line is a front of the whole
@@ -68,8 +68,8 @@ stops old mid new s whole lines i line m p within at front =
     let rest = text_from s (suc (i + 2)) (printed s p.world line).world (drop (i + 1) lines) in
     let told : AppendsFront mid new text = subst (λ (t : Settings). AppendsFront mid new (numbered (i + 2) (printed t p.world line).text)) p.settings (front p.world p.is_in) in
     subst (λ (t : List ℕ). AppendsFront old new t)
-      (sym (p.is_whole ∙ ap (λ (t : List ℕ). p.so_far ++ t) (text_here s (i + 2) p.world lines i line at within)))
-      (front_after old mid new p.so_far (text ++ rest) p.written (front_before mid new text rest told))
+    (sym (p.is_whole ∙ ap (λ (t : List ℕ). p.so_far ++ t) (text_here s (i + 2) p.world lines i line at within)))
+    (front_after old mid new p.so_far (text ++ rest) p.written (front_before mid new text rest told))
 
 -- nothing but the schedule's own line
 pub begun : (old now : Option (List ℕ)) (s : Settings) (first : List ℕ) (lines : List Line) (m : Machine) → IsMachine m → m.settings ≡ s → node_in m ≡ leader_at_start (start_of s) →
@@ -77,8 +77,8 @@ pub begun : (old now : Option (List ℕ)) (s : Settings) (first : List ℕ) (lin
 begun old now s first lines m machine settings is written = record {
   world = begin (start_of s);
   is_in = ap (λ (t : Settings). (begin (start_of s)).nodes (id_of t 1)) settings
-    ∙ ap (λ (b : Bool). if b then leader_at_start (start_of s) else (if member (id_of s 1) (start_of s).starting then starter (start_of s) else joiner)) (same_itself (id_of s 1))
-    ∙ sym is;
+      ∙ ap (λ (b : Bool). if b then leader_at_start (start_of s) else (if member (id_of s 1) (start_of s).starting then starter (start_of s) else joiner)) (same_itself (id_of s 1))
+      ∙ sym is;
   machine = machine;
   settings = settings;
   so_far = first;
@@ -91,4 +91,4 @@ pub ends : (old now : Option (List ℕ)) (s : Settings) (whole : List ℕ) (line
 unfolding text_from
 ends old now s whole lines i m p past =
     subst (λ (t : List ℕ). Appends old now t)
-      (sym (p.is_whole ∙ ap (λ (ls : List Line). p.so_far ++ text_from s (i + 2) p.world ls) (drop_of_length-le lines past) ∙ append-nil p.so_far)) p.written
+    (sym (p.is_whole ∙ ap (λ (ls : List Line). p.so_far ++ text_from s (i + 2) p.world ls) (drop_of_length-le lines past) ∙ append-nil p.so_far)) p.written

@@ -1,5 +1,5 @@
 -- Reading the lines of a schedule one after another.
-use Rattle.std.proofs.Common.{◌≡◌, ℕ, zero, suc, ◌+◌, ◌<◌, List, [], ◌∷◌, ◌++◌, length, map, drop, get_or, Option, None, Some, Bool, true, false, refl, sym, ◌∙◌, ap, append_assoc, append-nil, if◌then◌else◌, Bor, ◌≤◌, add-one, drop-cons}
+use Rattle.std.proofs.Common.{◌≡◌, ℕ, ◌+◌, ◌<◌, List, [], ◌∷◌, ◌++◌, length, map, drop, get_or, Option, None, Some, refl, sym, ◌∙◌, ap, append_assoc, append-nil, Bor, ◌≤◌, add-one, drop-cons}
 use Rattle.std.proofs.Math.ListN.{drop_of_length-le}
 use Rattle.ccfg.specs.declared.stop.Stop.{Stop}
 use Rattle.ccfg.specs.declared.stop.Stop.TheVariants.{Memory, NoReading}

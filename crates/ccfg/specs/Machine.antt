@@ -1,5 +1,5 @@
 -- The program's node as the rules of consensus see it.
-use Rattle.std.specs.Prelude.{◌≡◌, ℕ, ◌≤◌, List, [], ◌∷◌, Option, None, Some}
+use Rattle.std.specs.Prelude.{◌≡◌, ◌≤◌, [], None, Some}
 use Rattle.gl_rules.specs.Node.{Node, Leader}
 use Rattle.gl_rules.specs.Outcome as outcome
 use Rattle.gl_rules.specs.Outcome.{Step, quiet}

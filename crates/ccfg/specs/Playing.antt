@@ -1,5 +1,5 @@
 -- The machine beside the world of its schedule.
-use Rattle.std.specs.Prelude.{◌≡◌, ℕ, List}
+use Rattle.std.specs.Prelude.{◌≡◌}
 use Rattle.gl_service.specs.Founding.{id_of}
 use Rattle.gl_service.specs.Service.{ServiceWorld}
 use Rattle.ccfg.specs.declared.machine.Machine.{Machine}

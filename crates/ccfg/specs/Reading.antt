@@ -1,5 +1,5 @@
 -- What the text of a schedule says. It is read whole before the first event.
-use Rattle.std.specs.Prelude.{ℕ, List, [], ◌∷◌, Option, None, Some, Result, Ok, Err, Bool, true, false, ◌&&◌, codes, nat_eq, drop, is_none, if◌then◌else◌}
+use Rattle.std.specs.Prelude.{ℕ, List, [], ◌∷◌, Option, None, Some, Result, Ok, Err, Bool, codes, nat_eq, drop, is_none, if◌then◌else◌}
 use Rattle.std.specs.List.{starts_with}
 use Rattle.gl_base.specs.TxId.{parsed}
 use Rattle.gl_base.specs.declared.tx_id.TxId.{TxId}

@@ -1,6 +1,5 @@
 -- What a schedule prints: for each line its number and what came of it.
-use Rattle.std.specs.Prelude.{ℕ, zero, suc, ◌+◌, ◌-◌, List, [], ◌∷◌, ◌++◌, Option, None, Some, Bool, length, codes, decimal, if◌then◌else◌}
-use Rattle.gl_base.specs.declared.tx_id.TxId.{TxId}
+use Rattle.std.specs.Prelude.{ℕ, zero, suc, ◌+◌, ◌-◌, List, [], ◌∷◌, ◌++◌, Option, None, Some, length, codes, decimal, if◌then◌else◌}
 use Rattle.gl_base.specs.declared.status_kind.Status as statuses
 use Rattle.gl_base.specs.declared.status_kind.Status.TheVariants as status
 use Rattle.gl_base.specs.TxId.{text_of}
@@ -15,7 +14,6 @@ use Rattle.gl_store.specs.declared.request.Answer.{Answer}
 use Rattle.gl_store.specs.declared.request.Answer.TheVariants as answers
 use Rattle.gl_store.specs.declared.request.Cause.{Cause}
 use Rattle.gl_store.specs.declared.request.Cause.TheVariants as causes
-use Rattle.gl_store.specs.declared.refusal.Refusal as unmade
 use Rattle.gl_store.specs.declared.refusal.Refusal.TheVariants as refusals
 use Rattle.gl_service.specs.declared.settings.Settings.{Settings}
 use Rattle.gl_service.specs.Founding.{id_of, numbers_from}

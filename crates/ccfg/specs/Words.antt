@@ -3,7 +3,6 @@ use Rattle.std.specs.Prelude.{ℕ, List, [], Option, None, Some, Result, Ok, Err
 use Rattle.std.specs.List.{list_all}
 use Rattle.std.specs.Cmp.Lexicographic.{pointwise}
 use Rattle.hex.specs.Hex.{decode_of, decode_sized}
-use Rattle.hex.specs.declared.error.FromHexError.{FromHexError}
 
 abbrev pub is_space : ℕ → Bool
 is_space byte = byte == 32

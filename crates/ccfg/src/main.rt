@@ -18,9 +18,8 @@ mod tests;
 use ending::Ending;
 use gl_outside::{StreamSink, StreamSource};
 use std::alloc::AllocError;
-use std::env;
-use std::io;
 use std::process::ExitCode;
+use std::{env, io};
 
 /// The words that the program was called with. One that is no text stands for no words at all,
 /// since no command has such a word.

@@ -19,7 +19,12 @@ use gl_service::Settings;
 use std::alloc::{AllocError, Global};
 
 /// What a line comes to, as the line that tells it.
-fn told(alloc: Global, machine: &mut Machine, number: u64, line: &Line) -> Result<Vec<u8>, AllocError>
+fn told(
+    alloc: Global,
+    machine: &mut Machine,
+    number: u64,
+    line: &Line,
+) -> Result<Vec<u8>, AllocError>
     requires { IsMachine machine.old }
     ensures text { IfOk result (λ text. (w : ServiceWorld) → IsIn w machine.old →
         text.items ≡ numbered number (printed machine.old.settings w line.now).text) }

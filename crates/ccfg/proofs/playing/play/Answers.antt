@@ -1,9 +1,9 @@
-use Rattle.std.proofs.Common.{◌≡◌, ◌+◌, ◌++◌, List, ℕ, refl, sym, ap, ◌∙◌, subst, arith}
-use Rattle.gl_rules.specs.World.{begin, leader_at_start}
+use Rattle.std.proofs.Common.{arith}
+use Rattle.gl_rules.specs.World.{begin}
 use Rattle.gl_service.specs.Service.{start_of}
 use Rattle.gl_outside.proofs.Fronts.{front_before}
 use Rattle.ccfg.specs.Text.{text_from}
-use Rattle.ccfg.proofs.Played.{Played, begun, goes_on, stops, ends}
+use Rattle.ccfg.proofs.Played.{begun, goes_on, stops, ends}
 use Rattle.ccfg.proofs.playing.play.Goals as goal
 
 pub returns-in-Err-write_whole-clause-front : goal.returns-in-Err-write_whole-clause-front
@@ -23,7 +23,7 @@ returns-in-Err-play_line-clause-front g c =
 pub loop-i-preserved : goal.loop-i-preserved
 loop-i-preserved g c = record {
   played = goes_on _ _ _ c.args.settings _ c.as_slice-lines.result.now c.loop-i.i c.index-lines-i.result c.loop-i.machine c.play_line.new.machine c.loop-i.invariant.played c.loop-i-test.true
-    c.index-lines-i.is c.in-Ok-play_line.ensures.whole c.in-Ok-play_line.ensures.world c.in-Ok-play_line.ensures.goes_on;
+      c.index-lines-i.is c.in-Ok-play_line.ensures.whole c.in-Ok-play_line.ensures.world c.in-Ok-play_line.ensures.goes_on;
   never_falls = omega (arith, c.loop-i.invariant.never_falls, c.play_line.ensures.never_falls);
 }
 

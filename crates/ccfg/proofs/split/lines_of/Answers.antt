@@ -1,4 +1,4 @@
-use Rattle.std.proofs.Common.{◌≡◌, ◌++◌, ◌∷◌, [], List, ℕ, map, take, drop, Bor, Option, ap, sym, ◌∙◌, arith}
+use Rattle.std.proofs.Common.{◌∷◌, [], List, ℕ, map, Bor, arith}
 use Rattle.std.proofs.lemmas.List.{map-append}
 use Rattle.ccfg.proofs.LineLemmas.{newline_step, other_step}
 use Rattle.ccfg.proofs.split.lines_of.Goals.{then-byte-eq10+in_ok-push, else-byte-eq10}

@@ -1,4 +1,4 @@
-use Rattle.std.proofs.Common.{◌≡◌, ◌<◌, arith}
+use Rattle.std.proofs.Common.{◌<◌, arith}
 use Rattle.gl_store.specs.Ledger.{last_signature}
 use Rattle.ccfg.proofs.MachineLemmas.{advance_idle, advance_commits, signed_at_last}
 use Rattle.ccfg.proofs.machine.Machine.advance.Goals as goal

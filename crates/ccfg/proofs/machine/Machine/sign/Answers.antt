@@ -1,5 +1,4 @@
-use Rattle.std.proofs.Common.{◌≡◌, arith}
-use Rattle.gl_store.specs.Ledger.{last_signature}
+use Rattle.std.proofs.Common.{arith}
 use Rattle.ccfg.proofs.MachineLemmas.{sign_unreserved, sign_nothing, sign_signs}
 use Rattle.ccfg.proofs.machine.Machine.sign.Goals as goal
 

@@ -1,0 +1,16 @@
+//! The rules of consensus as a plain, slow program over a small book in memory.
+//!
+//! Each call is one row of the rule table: its clause says that the row of the definitions, at the node that was
+//! handed in, gives the node, the messages and the outcome that are answered. A node that was handed in stays as it is.
+#![tactic(auto)]
+
+pub mod configuration;
+pub mod entry;
+pub mod ledger;
+pub mod majority;
+pub mod node;
+pub mod step;
+
+pub use entry::{Entry, Fault, Kind, NodeId, Nodes, Order};
+pub use node::{Node, Role};
+pub use step::{Body, Last, Message, Outcome, Refusal, Step};

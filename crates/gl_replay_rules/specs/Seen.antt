@@ -90,3 +90,7 @@ seen_outcome (answers.Refused why) = outcomes.Refused (seen_refusal why)
 
 abbrev pub seen_step : Step → outcomes.Step Entry ℕ Fault
 seen_step s = record { node = seen s.node; sent = map seen_message s.sent.items; outcome = seen_outcome s.outcome }
+
+-- A request for a vote to each of these nodes.
+abbrev pub requests_from : NodeId → ℕ → messages.Last → List NodeId → List (messages.Message Entry)
+requests_from x view last to = map (λ y. record { sender = x; receiver = y; view = view; body = messages.RequestVote last }) to

@@ -4,7 +4,9 @@
 //! handed in, gives the node, the messages and the outcome that are answered. A node that was handed in stays as it is.
 #![tactic(auto)]
 
+pub mod changes;
 pub mod configuration;
+pub mod elections;
 pub mod entry;
 pub mod ledger;
 pub mod majority;

@@ -4,7 +4,7 @@ ghost use Rattle.std.specs.Prelude.{◌≡◌, ◌<◌, ◌++◌, ◌∷◌, [],
 ghost use Rattle.gl_rules.specs.Log.{is_at_least, last};
 ghost use Rattle.gl_rules.specs.Configuration.{others};
 ghost use Rattle.gl_rules.specs.Message as messages;
-ghost use Rattle.gl_rules.specs.Elections.{candidate, counts, free_for, on_propose_vote, on_request_vote, on_vote_reply, reply_to_request, stands, stands_if_allowed, step_down, steps_down, timeout, vote_requests, with_vote};
+ghost use Rattle.gl_rules.specs.Elections.{candidate, counts, free_for, on_propose_vote, on_request_vote, on_vote_reply, reply_to_request, stands, stands_if_allowed, step_down, steps_down, timeout, vote_requests, voted_by, with_vote};
 ghost use Rattle.gl_replay_rules.specs.Entry.{small};
 ghost use Rattle.gl_replay_rules.specs.Seen.{requests_from, seen, seen_last, seen_message, seen_step};
 
@@ -152,6 +152,17 @@ pub fn one(alloc: Global, message: Message) -> Result<Vec<Message>, AllocError>
     Ok(sent)
 }
 
+/// The node with its vote for c, where that is granted.
+pub fn voted_by(granted: bool, c: NodeId, mut node: Node) -> Node
+    ensures { seen result ≡ voted_by small granted c (seen node) }
+{
+    if !granted {
+        return node;
+    }
+    node.vote = Some(c);
+    node
+}
+
 /// The reply to a request for a vote, and the vote where it is granted.
 pub fn reply_to_request(
     alloc: Global,
@@ -162,7 +173,7 @@ pub fn reply_to_request(
 ) -> Result<Step, AllocError>
     ensures { IfOk result (λ step. seen_step step ≡ reply_to_request small x c granted (seen node.now)) }
 {
-    let mut node = copied(alloc, node)?;
+    let copy = copied(alloc, node)?;
     let message = Message {
         sender: x,
         receiver: c,
@@ -170,11 +181,8 @@ pub fn reply_to_request(
         body: Body::VoteReply(granted),
     };
     let sent = one(alloc, message)?;
-    if granted {
-        node.vote = Some(c);
-    }
     Ok(Step {
-        node,
+        node: voted_by(granted, c, copy),
         sent,
         outcome: Outcome::Done,
     })

@@ -11,6 +11,7 @@ pub mod entry;
 pub mod ledger;
 pub mod majority;
 pub mod node;
+pub mod requests;
 pub mod step;
 
 pub use entry::{Entry, Fault, Kind, NodeId, Nodes, Order};

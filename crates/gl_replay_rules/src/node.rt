@@ -1,5 +1,7 @@
 //! A node of the service.
 
+ghost use Rattle.std.specs.Prelude.{◌≤◌};
+
 use crate::entry::{Entry, NodeId};
 
 /// What a node is in its view.
@@ -38,4 +40,5 @@ pub struct Node {
     pub used: u64,
     /// How often entries were cut off its log, up to `u64::MAX`.
     pub cuts: u64,
+    ghost leaves: { used ≤ reserved },
 }

@@ -1,9 +1,11 @@
 -- The definitions one place at a time.
-use Rattle.std.proofs.Common.{◌≡◌, ◌≤◌, ◌<◌, ℕ, zero, suc, ◌+◌, ◌-◌, List, [], ◌∷◌, ◌++◌, take, length, Bool, true, false, nat_lt, Option, Some, None, if◌then◌else◌, refl, sym, ap, ◌∙◌, arith}
+use Rattle.std.proofs.Common.{◌≡◌, ◌≤◌, ◌<◌, ℕ, zero, suc, ◌+◌, ◌-◌, List, [], ◌∷◌, ◌++◌, take, length, Bool, true, false, nat_le, nat_lt, ◌&&◌, Option, Some, None, if◌then◌else◌, refl, sym, ap, ◌∙◌, arith}
 use Rattle.std.specs.Option.{option_to_list}
 use Rattle.std.proofs.lemmas.List.{append-nil, append_assoc, map-append}
 use Rattle.std.proofs.lemmas.Bool.Decides.{nat_tests}
 use Rattle.gl_rules.specs.Identity.{NodeId}
+use Rattle.gl_rules.specs.Node.{Node}
+use Rattle.gl_rules.specs.Replication.{fitting, greatest_to_commit, may_commit}
 use Rattle.gl_rules.specs.Configuration.{configuration_at, configurations_above, or_else}
 use Rattle.gl_replay_rules.specs.declared.entry.Entry.{Entry}
 use Rattle.gl_replay_rules.specs.Entry.{small}
@@ -50,3 +52,44 @@ pub above_some : (log : List Entry) (commit place : ℕ) (nodes : List NodeId) �
 above_some log commit place nodes p is = above_more log commit place p ∙ ap (λ o. configurations_above small log commit (place - 1) ++ option_to_list o) is
 
 pub ruleset above = (above_none, above_skip, above_some, map-append, append_assoc, append-nil)
+
+pub greatest_none : (x : NodeId) (n : Node Entry) (place : ℕ) → place ≡ 0 → greatest_to_commit small x n place ≡ None
+unfolding greatest_to_commit
+greatest_none x n zero is = refl
+greatest_none x n (suc place) is = absurd (omega arith)
+
+pub greatest_here : (x : NodeId) (n : Node Entry) (place : ℕ) → 0 < place → may_commit small x n place ≡ true → greatest_to_commit small x n place ≡ Some place
+unfolding greatest_to_commit
+greatest_here x n zero p is = absurd (omega arith)
+greatest_here x n (suc place) p is = ap (λ b. if b then Some (suc place) else greatest_to_commit small x n place) is
+
+pub greatest_below : (x : NodeId) (n : Node Entry) (place : ℕ) → 0 < place → may_commit small x n place ≡ false → greatest_to_commit small x n place ≡ greatest_to_commit small x n (place - 1)
+unfolding greatest_to_commit
+greatest_below x n zero p is = absurd (omega arith)
+greatest_below x n (suc place) p is =
+    let e : suc place - 1 ≡ place = omega arith in
+    ap (λ b. if b then Some (suc place) else greatest_to_commit small x n place) is ∙ ap (greatest_to_commit small x n) (sym e)
+
+pub ruleset greatest = (greatest_none, greatest_here, greatest_below)
+
+pub fitting_more : (count room : ℕ) (l : List Entry) (e : Entry) (es : List Entry) → l ≡ e ∷ es → 0 < count → 0 < room → fitting small count room l ≡ e ∷ fitting small (count - 1) (room - 1) es
+unfolding fitting
+fitting_more zero room l e es is p q = absurd (omega arith)
+fitting_more (suc count) room l e es is p q =
+    let k : suc count - 1 ≡ count = omega arith in
+    ap (fitting small (suc count) room) is
+    ∙ ap (λ b. if b then e ∷ fitting small count (room - 1) es else []) (let t : nat_le 1 room ≡ true = grind (arith, nat_tests) in t)
+    ∙ ap (λ n. e ∷ fitting small n (room - 1) es) (sym k)
+
+-- one more entry of a batch
+pub fitting_step : (b c : List Entry) (count room : ℕ) (l : List Entry) (e : Entry) (es : List Entry) → c ≡ b ++ e ∷ [] → l ≡ e ∷ es → 0 < count → 0 < room →
+    c ++ fitting small (count - 1) (room - 1) es ≡ b ++ fitting small count room l
+fitting_step b c count room l e es new is p q =
+    ap (λ k. k ++ fitting small (count - 1) (room - 1) es) new
+    ∙ append_assoc b (e ∷ []) (fitting small (count - 1) (room - 1) es)
+    ∙ ap (λ k. b ++ k) (sym (fitting_more count room l e es is p q))
+
+pub committing : (r a b q : Bool) → a ≡ true → b ≡ true → r ≡ q → r ≡ a && b && q
+committing r true true q p s t = t
+committing r false b q p s t = absurd (cc)
+committing r true false q p s t = absurd (cc)

@@ -1,5 +1,5 @@
 -- The program's nodes, messages and outcomes as the rules of consensus see them.
-use Rattle.std.specs.Prelude.{ℕ, List, [], ◌∷◌, map, Option, Some, None, if◌then◌else◌}
+use Rattle.std.specs.Prelude.{ℕ, List, [], ◌∷◌, map, Bool, ◌||◌, nat_le, Option, Some, None, if◌then◌else◌}
 use Rattle.gl_rules.specs.Identity.{NodeId, same}
 use Rattle.gl_rules.specs.Node as rules
 use Rattle.gl_rules.specs.Message as messages
@@ -94,3 +94,7 @@ seen_step s = record { node = seen s.node; sent = map seen_message s.sent.items;
 -- A request for a vote to each of these nodes.
 abbrev pub requests_from : NodeId → ℕ → messages.Last → List NodeId → List (messages.Message Entry)
 requests_from x view last to = map (λ y. record { sender = x; receiver = y; view = view; body = messages.RequestVote last }) to
+
+-- Whether y holds the log of x up to a place, by what x knows.
+abbrev pub holds : NodeId → ℕ → (NodeId → ℕ) → NodeId → Bool
+holds x place matched y = same y x || nat_le place (matched y)

@@ -11,6 +11,7 @@ pub mod entry;
 pub mod ledger;
 pub mod majority;
 pub mod node;
+pub mod replication;
 pub mod requests;
 pub mod step;
 

@@ -5,7 +5,8 @@ use Rattle.gl_rules.specs.Majority.{quorum}
 use Rattle.gl_rules.specs.Configuration.{in_some}
 use Rattle.gl_rules.specs.Message.{Last, Message}
 use Rattle.gl_replay_rules.specs.declared.entry.Entry.{Entry}
-use Rattle.gl_replay_rules.specs.Seen.{held, holds, requests_from}
+use Rattle.gl_replay_rules.specs.Pairs.{held}
+use Rattle.gl_replay_rules.specs.Seen.{holds, requests_from}
 
 pub quorum_by : (r : Bool) (u v : List NodeId) (s t : List (List NodeId)) → r ≡ quorum (λ y. member y u) s → u ≡ v → s ≡ t → r ≡ quorum (λ y. member y v) t
 quorum_by r u v s t is p q = is ∙ ap (λ (l : List NodeId). quorum (λ y. member y l) s) p ∙ ap (quorum (λ y. member y v)) q

@@ -5,7 +5,8 @@ use Rattle.std.proofs.lemmas.List.{append-nil, append_assoc, map-append}
 use Rattle.std.proofs.lemmas.Bool.Decides.{nat_tests}
 use Rattle.gl_rules.specs.Identity.{NodeId}
 use Rattle.gl_rules.specs.Node.{Node}
-use Rattle.gl_rules.specs.Replication.{fitting, greatest_to_commit, may_commit}
+use Rattle.gl_rules.specs.Log.{view_at}
+use Rattle.gl_rules.specs.Replication.{fitting, greatest_to_commit, last_at_most, may_commit}
 use Rattle.gl_rules.specs.Configuration.{configuration_at, configurations_above, or_else}
 use Rattle.gl_replay_rules.specs.declared.entry.Entry.{Entry}
 use Rattle.gl_replay_rules.specs.Entry.{small}
@@ -93,3 +94,24 @@ pub committing : (r a b q : Bool) → a ≡ true → b ≡ true → r ≡ q → 
 committing r true true q p s t = t
 committing r false b q p s t = absurd (cc)
 committing r true false q p s t = absurd (cc)
+
+pub most_none : (log : List Entry) (view place : ℕ) → place ≡ 0 → last_at_most small log view place ≡ 0
+unfolding last_at_most
+most_none log view zero is = refl
+most_none log view (suc place) is = absurd (omega arith)
+
+pub most_here : (log : List Entry) (view place : ℕ) → 0 < place → view_at small log place ≤ view → last_at_most small log view place ≡ place
+unfolding last_at_most
+most_here log view zero p is = absurd (omega arith)
+most_here log view (suc place) p is =
+    ap (λ b. if b then suc place else last_at_most small log view place) (let t : nat_le (view_at small log (suc place)) view ≡ true = grind (arith, nat_tests) in t)
+
+pub most_below : (log : List Entry) (view place : ℕ) → 0 < place → view < view_at small log place → last_at_most small log view place ≡ last_at_most small log view (place - 1)
+unfolding last_at_most
+most_below log view zero p is = absurd (omega arith)
+most_below log view (suc place) p is =
+    let e : suc place - 1 ≡ place = omega arith in
+    ap (λ b. if b then suc place else last_at_most small log view place) (let t : nat_le (view_at small log (suc place)) view ≡ false = grind (arith, nat_tests) in t)
+    ∙ ap (last_at_most small log view) (sym e)
+
+pub ruleset at_most = (most_none, most_here, most_below)

@@ -1,14 +1,17 @@
 -- The program's nodes, messages and outcomes as the rules of consensus see them.
-use Rattle.std.specs.Prelude.{ℕ, List, [], ◌∷◌, map, Bool, ◌||◌, nat_le, Option, Some, None, if◌then◌else◌}
+use Rattle.std.specs.Prelude.{ℕ, List, [], ◌∷◌, map, Bool, ◌||◌, nat_le, Option, Some, None, Result, Ok, Err, if◌then◌else◌}
 use Rattle.gl_rules.specs.Identity.{NodeId, same}
 use Rattle.gl_rules.specs.Node as rules
 use Rattle.gl_rules.specs.Message as messages
 use Rattle.gl_rules.specs.Outcome as outcomes
+use Rattle.gl_replay_rules.specs.Pairs.{held, tried}
 use Rattle.gl_replay_rules.specs.declared.entry.Entry.{Entry}
 use Rattle.gl_replay_rules.specs.declared.entry.Fault.{Fault}
 use Rattle.gl_replay_rules.specs.declared.node.Node.{Node}
 use Rattle.gl_replay_rules.specs.declared.node.Role.{Role}
 use Rattle.gl_replay_rules.specs.declared.node.Role.TheVariants as roles
+use Rattle.gl_replay_rules.specs.declared.step.Extended.{Extended}
+use Rattle.gl_replay_rules.specs.declared.step.Extended.TheVariants as extents
 use Rattle.gl_replay_rules.specs.declared.step.Last.{Last}
 use Rattle.gl_replay_rules.specs.declared.step.Body.{Body}
 use Rattle.gl_replay_rules.specs.declared.step.Body.TheVariants as bodies
@@ -23,15 +26,6 @@ abbrev pub seen_role : Role → rules.Role
 seen_role roles.Follower = rules.Follower
 seen_role roles.Candidate = rules.Candidate
 seen_role roles.Leader = rules.Leader
-
--- the place that the first pair of a node has, 0 where it has none
-abbrev pub held : List (NodeId × ℕ) → NodeId → ℕ
-held [] y = 0
-held (p ∷ ps) y = if same y p.0 then p.1 else held ps y
-
-abbrev pub tried : List (NodeId × ℕ) → NodeId → Option ℕ
-tried [] y = None
-tried (p ∷ ps) y = if same y p.0 then Some p.1 else tried ps y
 
 abbrev pub seen : Node → rules.Node Entry
 seen n = record {
@@ -98,3 +92,7 @@ requests_from x view last to = map (λ y. record { sender = x; receiver = y; vie
 -- Whether y holds the log of x up to a place, by what x knows.
 abbrev pub holds : NodeId → ℕ → (NodeId → ℕ) → NodeId → Bool
 holds x place matched y = same y x || nat_le place (matched y)
+
+abbrev pub seen_extended : Extended → Result (List Entry) Fault
+seen_extended (extents.Log log) = Ok log.items
+seen_extended (extents.Broken why) = Err why

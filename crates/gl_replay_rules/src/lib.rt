@@ -4,6 +4,7 @@
 //! handed in, gives the node, the messages and the outcome that are answered. A node that was handed in stays as it is.
 #![tactic(auto)]
 
+pub mod append;
 pub mod changes;
 pub mod configuration;
 pub mod elections;
@@ -17,4 +18,4 @@ pub mod step;
 
 pub use entry::{Entry, Fault, Kind, NodeId, Nodes, Order};
 pub use node::{Node, Role};
-pub use step::{Body, Last, Message, Outcome, Refusal, Step};
+pub use step::{Body, Extended, Last, Message, Outcome, Refusal, Step};

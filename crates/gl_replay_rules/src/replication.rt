@@ -6,7 +6,8 @@ ghost use Rattle.gl_rules.specs.Majority.{majority, quorum, tally};
 ghost use Rattle.gl_rules.specs.Log.{entry_at};
 ghost use Rattle.gl_rules.specs.Replication.{advance, append_from, batch, commits, fitting, greatest_to_commit, is_peer, is_reached, may_commit, next_of, replicate, restart, sends, signed_in};
 ghost use Rattle.gl_replay_rules.specs.Entry.{is_mark_of, mark_of, members, small};
-ghost use Rattle.gl_replay_rules.specs.Seen.{held, holds, seen, seen_message, seen_step, tried};
+ghost use Rattle.gl_replay_rules.specs.Pairs.{held, tried};
+ghost use Rattle.gl_replay_rules.specs.Seen.{holds, seen, seen_message, seen_step};
 
 use crate::changes::{copied, idle, known_commit, quiet, refuse};
 use crate::configuration::{active, active_upto};

@@ -24,6 +24,15 @@ pub enum Body {
     ProposeVote,
 }
 
+/// What comes of entries behind a log.
+#[derive(Debug, Drop)]
+pub enum Extended {
+    /// The log with them.
+    Log(Vec<Entry>),
+    /// The first one that may not follow, and why.
+    Broken(Fault),
+}
+
 /// A message of one node to another.
 #[derive(Debug, Drop)]
 pub struct Message {

@@ -6,7 +6,8 @@ use Rattle.gl_rules.specs.Configuration.{active_upto}
 use Rattle.gl_rules.specs.Replication.{signed_in}
 use Rattle.gl_replay_rules.specs.declared.entry.Entry.{Entry}
 use Rattle.gl_replay_rules.specs.Entry.{members, small}
-use Rattle.gl_replay_rules.specs.Seen.{held, holds}
+use Rattle.gl_replay_rules.specs.Pairs.{held}
+use Rattle.gl_replay_rules.specs.Seen.{holds}
 use Rattle.gl_replay_rules.proofs.Same.{holding_by}
 use Rattle.gl_replay_rules.proofs.Steps.{committing}
 use Rattle.gl_replay_rules.proofs.replication.may_commit.Goals as goal

@@ -3,13 +3,14 @@ use Rattle.std.proofs.Common.{◌≡◌, ◌≤◌, ◌<◌, ℕ, zero, suc, ◌
 use Rattle.std.specs.Option.{option_to_list}
 use Rattle.std.proofs.lemmas.List.{append-nil, append_assoc, map-append}
 use Rattle.std.proofs.lemmas.Bool.Decides.{nat_tests}
-use Rattle.gl_rules.specs.Identity.{NodeId}
+use Rattle.gl_rules.specs.Identity.{NodeId, put}
 use Rattle.gl_rules.specs.Node.{Node}
-use Rattle.gl_rules.specs.Log.{view_at}
-use Rattle.gl_rules.specs.Replication.{fitting, greatest_to_commit, last_at_most, may_commit}
+use Rattle.gl_rules.specs.Log.{entry_at, view_at}
+use Rattle.gl_rules.specs.Replication.{fitting, greatest_evidence, greatest_to_commit, is_evidence_at, last_at_most, may_commit}
 use Rattle.gl_rules.specs.Configuration.{configuration_at, configurations_above, or_else}
 use Rattle.gl_replay_rules.specs.declared.entry.Entry.{Entry}
 use Rattle.gl_replay_rules.specs.Entry.{small}
+use Rattle.gl_replay_rules.specs.Pairs.{held, tried}
 
 pub at_zero : (log : List Entry) (place : ℕ) → place ≡ 0 → configuration_at small log place ≡ None
 unfolding configuration_at
@@ -115,3 +116,31 @@ most_below log view (suc place) p is =
     ∙ ap (last_at_most small log view) (sym e)
 
 pub ruleset at_most = (most_none, most_here, most_below)
+
+pub snapshot_none : (log : List Entry) (base place : ℕ) → place ≡ 0 → greatest_evidence small log base place ≡ None
+unfolding greatest_evidence
+snapshot_none log base zero is = refl
+snapshot_none log base (suc place) is = absurd (omega arith)
+
+pub snapshot_here : (log : List Entry) (base place : ℕ) → 0 < place → (nat_lt base place && is_evidence_at small (entry_at log place)) ≡ true → greatest_evidence small log base place ≡ Some place
+unfolding greatest_evidence
+snapshot_here log base zero p is = absurd (omega arith)
+snapshot_here log base (suc place) p is = ap (λ b. if b then Some (suc place) else greatest_evidence small log base place) is
+
+pub snapshot_below : (log : List Entry) (base place : ℕ) → 0 < place → (nat_lt base place && is_evidence_at small (entry_at log place)) ≡ false →
+    greatest_evidence small log base place ≡ greatest_evidence small log base (place - 1)
+unfolding greatest_evidence
+snapshot_below log base zero p is = absurd (omega arith)
+snapshot_below log base (suc place) p is =
+    let e : suc place - 1 ≡ place = omega arith in
+    ap (λ b. if b then Some (suc place) else greatest_evidence small log base place) is ∙ ap (greatest_evidence small log base) (sym e)
+
+pub ruleset greatest_snapshot = (snapshot_none, snapshot_here, snapshot_below)
+
+pub held_more : (pairs : List (NodeId × ℕ)) (y : NodeId) (place : ℕ) → held ((y, place) ∷ pairs) ≡ put (held pairs) y place
+held_more pairs y place = refl
+
+pub tried_more : (pairs : List (NodeId × ℕ)) (y : NodeId) (place : ℕ) → tried ((y, place) ∷ pairs) ≡ put (tried pairs) y (Some place)
+tried_more pairs y place = refl
+
+pub ruleset pairs = (held_more, tried_more)

@@ -1,5 +1,5 @@
 -- The program's nodes, messages and outcomes as the rules of consensus see them.
-use Rattle.std.specs.Prelude.{ℕ, List, [], ◌∷◌, map, Bool, ◌||◌, nat_le, Option, Some, None, Result, Ok, Err, if◌then◌else◌}
+use Rattle.std.specs.Prelude.{ℕ, List, map, Bool, ◌||◌, nat_le, Result, Ok, Err}
 use Rattle.gl_rules.specs.Identity.{NodeId, same}
 use Rattle.gl_rules.specs.Node as rules
 use Rattle.gl_rules.specs.Message as messages

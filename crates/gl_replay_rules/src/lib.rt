@@ -9,10 +9,12 @@ pub mod changes;
 pub mod configuration;
 pub mod elections;
 pub mod entry;
+pub mod install;
 pub mod ledger;
 pub mod majority;
 pub mod node;
 pub mod replication;
+pub mod reply;
 pub mod requests;
 pub mod step;
 

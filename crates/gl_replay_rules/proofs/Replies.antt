@@ -1,8 +1,10 @@
 -- What a leader makes of an answer.
-use Rattle.std.proofs.Common.{◌≡◌, ℕ, Bool, true, false, nat_le, length, if◌then◌else◌, ap, ◌∙◌}
+use Rattle.std.proofs.Common.{◌≡◌, ℕ, Bool, true, false, nat_le, nat_lt, length, refl, if◌then◌else◌, ap, ◌∙◌}
 use Rattle.gl_rules.specs.Identity.{NodeId}
 use Rattle.gl_rules.specs.Node as rules
 use Rattle.gl_rules.specs.Outcome.{Step, Done, quiet, idle}
+use Rattle.gl_rules.specs.Steps.{rise}
+use Rattle.gl_rules.specs.World.{risen}
 use Rattle.gl_rules.specs.Replication.{acknowledged, answered, sent_back}
 use Rattle.gl_replay_rules.specs.declared.entry.Entry.{Entry}
 use Rattle.gl_replay_rules.specs.declared.entry.Fault.{Fault}
@@ -26,3 +28,14 @@ answer_ok true y place s new copy n granted within is made same =
     is ∙ ap (λ (m : rules.Node Entry). quiet {E = Entry} {A = ℕ} {F = Fault} m Done) made
     ∙ ap (λ (m : rules.Node Entry). quiet {E = Entry} {A = ℕ} {F = Fault} (acknowledged small y place m) Done) same
     ∙ ap (λ (b : Bool). if b then quiet {E = Entry} {A = ℕ} {F = Fault} (acknowledged small y place n) Done else idle n) (let t : true ≡ nat_le place (length n.log) = cc in t)
+
+risen_matched : (view : ℕ) (n : rules.Node Entry) → (risen small view n).matched ≡ n.matched
+unfolding rise
+risen_matched view n = go (nat_lt n.view view)
+  where
+    go : (b : Bool) → (if b then rise small view n else n).matched ≡ n.matched
+    go true = refl
+    go false = refl
+
+pub risen_held : (a b : Node) (view : ℕ) (y : NodeId) → seen a ≡ risen small view (seen b) → held a.matched.items y ≡ held b.matched.items y
+risen_held a b view y is = ap (λ (n : rules.Node Entry). n.matched y) is ∙ ap (λ (f : NodeId → ℕ). f y) (risen_matched view (seen b))

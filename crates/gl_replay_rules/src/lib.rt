@@ -7,6 +7,7 @@
 pub mod append;
 pub mod changes;
 pub mod configuration;
+pub mod delivery;
 pub mod elections;
 pub mod entry;
 pub mod install;

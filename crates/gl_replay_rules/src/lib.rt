@@ -18,6 +18,8 @@ pub mod replication;
 pub mod reply;
 pub mod requests;
 pub mod step;
+#[cfg(test)]
+mod worked_runs;
 
 pub use entry::{Entry, Fault, Kind, NodeId, Nodes, Order};
 pub use node::{Node, Role};

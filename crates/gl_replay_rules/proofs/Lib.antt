@@ -1,3 +1,4 @@
 pub mod Replies
 pub mod Same
 pub mod Steps
+pub mod BookLaws

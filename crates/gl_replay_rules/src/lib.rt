@@ -11,6 +11,7 @@ pub mod delivery;
 pub mod elections;
 pub mod entry;
 pub mod install;
+pub mod laws;
 pub mod ledger;
 pub mod majority;
 pub mod node;

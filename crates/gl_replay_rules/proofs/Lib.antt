@@ -2,3 +2,4 @@ pub mod Replies
 pub mod Same
 pub mod Steps
 pub mod BookLaws
+pub mod Beginning

@@ -12,7 +12,6 @@ use Rattle.gl_safety.proofs.Lists.{there, within, take_get, push_get}
 use Rattle.gl_safety.proofs.Soundness.{sound_cut, sound_push}
 use Rattle.gl_safety.proofs.Places.{place_cut, place_within}
 use Rattle.gl_replay_rules.specs.declared.entry.Entry.{Entry}
-use Rattle.gl_replay_rules.specs.declared.entry.Nodes.{Nodes}
 use Rattle.gl_replay_rules.specs.declared.entry.Kind.{Kind}
 use Rattle.gl_replay_rules.specs.declared.entry.Kind.TheVariants.{Plain, Change, Removal, Mark, Signature, Evidence}
 use Rattle.gl_replay_rules.specs.declared.entry.Order.{Order}

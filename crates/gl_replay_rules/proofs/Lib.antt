@@ -1,0 +1,5 @@
+pub mod Replies
+pub mod Same
+pub mod Steps
+pub mod BookLaws
+pub mod Beginning

@@ -1,0 +1,4 @@
+pub mod Entry
+pub mod Pairs
+pub mod Seen
+pub mod Opening

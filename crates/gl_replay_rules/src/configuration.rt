@@ -1,0 +1,143 @@
+//! Configurations of a ledger.
+
+ghost use Rattle.std.specs.Prelude.{◌≡◌, ◌++◌, map, take, filter, ◌&&◌, not, IfOk};
+ghost use Rattle.std.specs.Option.{option_map};
+ghost use Rattle.gl_rules.specs.Identity.{same};
+ghost use Rattle.gl_rules.specs.Configuration.{active, active_upto, configuration_at, configurations_above, in_some};
+ghost use Rattle.gl_replay_rules.specs.Entry.{all_added, members, recorded_from, small};
+
+use crate::entry::{Entry, NodeId, Nodes, members, trusted};
+use crate::majority::{is_in_some, is_member, is_same};
+use std::alloc::{AllocError, Global};
+
+/// The set of trusted nodes, where the ledger's last entry changes it.
+pub fn configuration(log: &[Entry]) -> Option<Nodes>
+    ensures { option_map members result ≡ small.configuration log.now }
+{
+    let len = log.len();
+    if len == 0 {
+        return None;
+    }
+    trusted(&log[len - 1].kind)
+}
+
+/// The ledger up to a place, or whole where it is shorter.
+pub fn front(log: &[Entry], place: usize) -> &[Entry]
+    ensures { result.now ≡ take place log.now }
+{
+    if place < log.len() {
+        &log[..place]
+    } else {
+        log
+    }
+}
+
+/// The last configuration at or below a place.
+#[tactic(auto, using(crate::proofs::Steps::at_zero, crate::proofs::Steps::at_none, crate::proofs::Steps::at_some))]
+pub fn configuration_at(log: &[Entry], place: usize) -> Option<Nodes>
+    ensures { option_map members result ≡ configuration_at small log.now place }
+{
+    if place == 0 {
+        return None;
+    }
+    match configuration(front(log, place)) {
+        Some(nodes) => Some(nodes),
+        None => configuration_at(log, place - 1),
+    }
+}
+
+/// These configurations, and behind them those above commit, and at or below a place, in order.
+#[tactic(auto, using(crate::proofs::Steps::above))]
+pub fn with_configurations_above(
+    mut sets: Vec<Nodes>,
+    log: &[Entry],
+    commit: usize,
+    place: usize,
+) -> Result<Vec<Nodes>, AllocError>
+    ensures { IfOk result (λ all. map members all.items ≡ map members sets.items ++ configurations_above small log.now commit place) }
+{
+    if place <= commit {
+        return Ok(sets);
+    }
+    sets = with_configurations_above(sets, log, commit, place - 1)?;
+    match configuration(front(log, place)) {
+        None => Ok(sets),
+        Some(nodes) => {
+            sets.push(nodes)?;
+            Ok(sets)
+        }
+    }
+}
+
+/// Of the configurations that are active at a commit, those at or below a place.
+pub fn active_upto(
+    alloc: Global,
+    log: &[Entry],
+    commit: usize,
+    place: usize,
+) -> Result<Vec<Nodes>, AllocError>
+    ensures { IfOk result (λ all. map members all.items ≡ active_upto small log.now commit place) }
+{
+    let mut sets = Vec::new(alloc);
+    if let Some(nodes) = configuration_at(log, commit) {
+        sets.push(nodes)?;
+    }
+    with_configurations_above(sets, log, commit, place)
+}
+
+/// The configurations that are active at a commit.
+pub fn active(alloc: Global, log: &[Entry], commit: usize) -> Result<Vec<Nodes>, AllocError>
+    ensures { IfOk result (λ all. map members all.items ≡ active small log.now commit) }
+{
+    active_upto(alloc, log, commit, log.len())
+}
+
+/// These nodes, and behind them those of the set that are new.
+pub fn all_added(nodes: &[NodeId], mut found: Vec<NodeId>) -> Result<Vec<NodeId>, AllocError>
+    ensures { IfOk result (λ all. all.items ≡ all_added nodes.now found.items) }
+{
+    match nodes.split_first() {
+        None => Ok(found),
+        Some((x, rest)) => {
+            if !is_member(*x, &found) {
+                found.push(*x)?;
+            }
+            all_added(rest, found)
+        }
+    }
+}
+
+/// These nodes, and behind them those of the ledger's sets, each where it came first.
+pub fn recorded_from(mut found: Vec<NodeId>, log: &[Entry]) -> Result<Vec<NodeId>, AllocError>
+    ensures { IfOk result (λ all. all.items ≡ recorded_from found.items log.now) }
+{
+    match log.split_first() {
+        None => Ok(found),
+        Some((e, rest)) => {
+            if let Some(nodes) = trusted(&e.kind) {
+                found = all_added(members(&nodes), found)?;
+            }
+            recorded_from(found, rest)
+        }
+    }
+}
+
+/// These nodes, and behind them the nodes of a list that are in one of the sets, but for x.
+pub fn with_others(
+    mut found: Vec<NodeId>,
+    x: NodeId,
+    sets: &[Nodes],
+    nodes: &[NodeId],
+) -> Result<Vec<NodeId>, AllocError>
+    ensures { IfOk result (λ all. all.items ≡ found.items ++ filter (λ y. not (same y x) && in_some y (map members sets.now)) nodes.now) }
+{
+    match nodes.split_first() {
+        None => Ok(found),
+        Some((y, rest)) => {
+            if !is_same(*y, x) && is_in_some(*y, sets) {
+                found.push(*y)?;
+            }
+            with_others(found, x, sets, rest)
+        }
+    }
+}

@@ -1,0 +1,57 @@
+//! Places of a ledger, its signatures and the commits that they record.
+
+ghost use Rattle.std.specs.Prelude.{◌≡◌, ◌≤◌, length};
+ghost use Rattle.gl_rules.specs.Log.{greatest_recorded, last_signature, view_at};
+ghost use Rattle.gl_replay_rules.specs.Entry.{commit_in, small};
+
+use crate::entry::{Entry, Kind, is_signature};
+
+/// The view of the entry at a place, 0 where there is none.
+pub fn view_at(log: &[Entry], place: usize) -> u32
+    ensures { result ≡ view_at small log.now place }
+{
+    if place == 0 || place > log.len() {
+        return 0;
+    }
+    log[place - 1].view
+}
+
+/// The place of the last signature, 0 where there is none.
+#[tactic(auto, unfolding(gl_rules::specs::Log::last_signature))]
+pub fn last_signature(log: &[Entry]) -> usize
+    ensures value { result ≡ last_signature small log.now }
+    ensures within { result ≤ length log.now }
+{
+    match log.split_first() {
+        None => 0,
+        Some((e, rest)) => {
+            let place = last_signature(rest);
+            if place > 0 || is_signature(&e.kind) {
+                place + 1
+            } else {
+                0
+            }
+        }
+    }
+}
+
+/// The commit that an entry of this kind records, 0 where it is no signature.
+pub fn commit_in(kind: &Kind) -> usize
+    ensures { result ≡ commit_in kind.now }
+{
+    match kind {
+        Kind::Signature(commit) => *commit,
+        _ => 0,
+    }
+}
+
+/// The greatest commit that a signature of the log records, 0 where there is none.
+#[tactic(auto, unfolding(gl_rules::specs::Log::greatest_recorded))]
+pub fn greatest_recorded(log: &[Entry]) -> usize
+    ensures { result ≡ greatest_recorded small log.now }
+{
+    match log.split_first() {
+        None => 0,
+        Some((e, rest)) => commit_in(&e.kind).max(greatest_recorded(rest)),
+    }
+}

@@ -70,6 +70,7 @@ seen_refusal refusals.NotPeer = outcomes.NotPeer
 seen_refusal (refusals.BelowBase base) = outcomes.BelowBase base
 seen_refusal refusals.ViewLimit = outcomes.ViewLimit
 seen_refusal (refusals.NoLaterSignature commit) = outcomes.NoLaterSignature commit
+seen_refusal (refusals.RolledBack began now) = outcomes.RolledBack began now
 seen_refusal (refusals.ByLedger why) = outcomes.ByLedger why
 
 abbrev pub seen_outcome : Outcome → outcomes.Outcome ℕ Fault

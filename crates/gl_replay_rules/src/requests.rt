@@ -2,7 +2,7 @@
 
 ghost use Rattle.std.specs.Prelude.{◌≡◌, ◌≤◌, length, is_some, IfOk, IfSome, Ok};
 ghost use Rattle.gl_rules.specs.Log.{entry_at};
-ghost use Rattle.gl_rules.specs.Requests.{enters, evidence, govern, governs, reserve, sign, signs, signs_for, submit};
+ghost use Rattle.gl_rules.specs.Requests.{enters, evidence, finish, finishes, govern, governs, reserve, sign, signs, signs_for, submit};
 ghost use Rattle.gl_replay_rules.specs.Entry.{fits, is_mark_of, kind_of, mark_of, none_removed, removal_of, removes, signs_at, small};
 ghost use Rattle.gl_replay_rules.specs.Seen.{seen, seen_step};
 
@@ -116,6 +116,47 @@ pub fn submit(alloc: Global, request: u64, node: &Node) -> Result<Step, AllocErr
             };
             enter(alloc, e, request, node)
         }
+        Role::Candidate => refuse(alloc, node, Refusal::NotPrimary(node.view, node.leader)),
+        Role::Follower => refuse(alloc, node, Refusal::NotPrimary(node.view, node.leader)),
+    }
+}
+
+/// A transaction's request at the leader: no entry was cut off since it began. The small book has no keys, so that nothing it
+/// read has changed.
+pub fn finish_as_leader(
+    alloc: Global,
+    len: usize,
+    cuts: u64,
+    reads: u64,
+    request: u64,
+    node: &Node,
+) -> Result<Step, AllocError>
+    ensures { IfOk result (λ step. seen_step step ≡ finishes small len cuts reads request (seen node.now)) }
+{
+    if node.cuts != cuts || node.cuts == u64::MAX {
+        return refuse(alloc, node, Refusal::RolledBack(cuts, node.cuts));
+    }
+    let e = Entry {
+        view: node.view,
+        kind: Kind::Plain,
+    };
+    enter(alloc, e, request, node)
+}
+
+/// The request of a transaction that began at this length and count of cuts and read these keys, as one entry.
+#[tactic(auto, unfolding(gl_rules::specs::Requests::finish))]
+pub fn finish(
+    alloc: Global,
+    len: usize,
+    cuts: u64,
+    reads: u64,
+    request: u64,
+    node: &Node,
+) -> Result<Step, AllocError>
+    ensures { IfOk result (λ step. seen_step step ≡ finish small len cuts reads request (seen node.now)) }
+{
+    match node.role {
+        Role::Leader => finish_as_leader(alloc, len, cuts, reads, request, node),
         Role::Candidate => refuse(alloc, node, Refusal::NotPrimary(node.view, node.leader)),
         Role::Follower => refuse(alloc, node, Refusal::NotPrimary(node.view, node.leader)),
     }

@@ -6,7 +6,7 @@ use crate::entry::{Entry, Kind, NodeId, Nodes, Order};
 use crate::install::install;
 use crate::node::{Node, Role};
 use crate::replication::{advance, held, replicate, restart};
-use crate::requests::{evidence, govern, reserve, sign, submit};
+use crate::requests::{evidence, finish, govern, reserve, sign, submit};
 use crate::step::{Message, Step};
 use std::alloc::{AllocError, Global};
 use std::process::Abort;
@@ -18,6 +18,8 @@ enum Event {
     Timeout(u8),
     Deliver(usize),
     Submit(u8, u64),
+    /// A transaction that began at this length and count of cuts, and its request.
+    Finish(u8, usize, u64, u64),
     Govern(u8, Order),
     Reserve(u8),
     Sign(u8),
@@ -116,6 +118,7 @@ fn subject(world: &World, event: Event) -> u8 {
         },
         Event::Timeout(x) => x,
         Event::Submit(x, _) => x,
+        Event::Finish(x, _, _, _) => x,
         Event::Govern(x, _) => x,
         Event::Reserve(x) => x,
         Event::Sign(x) => x,
@@ -154,6 +157,7 @@ fn step(
         Event::Deliver(which) => return delivered(alloc, world, which, node),
         Event::Timeout(x) => timeout(alloc, [x], node)?,
         Event::Submit(_, request) => submit(alloc, request, node)?,
+        Event::Finish(_, len, cuts, request) => finish(alloc, len, cuts, 0, request, node)?,
         Event::Govern(_, order) => govern(alloc, order, node)?,
         Event::Reserve(x) => reserve(alloc, [x], node)?,
         Event::Sign(x) => sign(alloc, [x], node)?,
@@ -211,6 +215,15 @@ const ROLLBACK: [(Event, &str); 13] = [
     (Event::Advance(2), "Committed(3, 4) 0"),
     (Event::Replicate(2, 1), "Done 1"),
     (Event::Deliver(5), "Done 1"),
+];
+
+/// Behind the rollback node 1 leads again: a transaction that began before the cut is refused, one that begins now is not.
+const FINISH: [(Event, &str); 5] = [
+    (Event::Timeout(1), "BecameCandidate 2"),
+    (Event::Deliver(8), "Done 1"),
+    (Event::Deliver(9), "BecameLeader 0"),
+    (Event::Finish(1, 2, 0, 9), "Refused(RolledBack(0, 1)) 0"),
+    (Event::Finish(1, 4, 1, 9), "Accepted(4, 5, 9) 0"),
 ];
 
 /// Messages that come again, behind the rollback.
@@ -303,6 +316,78 @@ const RETIREMENT: [(Event, &str); 22] = [
     (Event::Restart(2), "Done 0"),
 ];
 
+/// A vote outlives a restart: node 3, which voted for node 2, restarts and doesn't vote for node 1 in the same view.
+const RESTARTED_VOTER: [(Event, &str); 6] = [
+    (Event::Timeout(2), "BecameCandidate 2"),
+    (Event::Deliver(1), "Done 1"),
+    (Event::Restart(3), "Done 0"),
+    (Event::Restart(1), "Done 0"),
+    (Event::Timeout(1), "BecameCandidate 2"),
+    (Event::Deliver(4), "Done 1"),
+];
+
+const RESTARTED_VOTER_SENT: [(usize, &str); 4] = [
+    (
+        2,
+        "Message { sender: [3], receiver: [2], view: 3, body: VoteReply(true) }",
+    ),
+    (
+        3,
+        "Message { sender: [1], receiver: [2], view: 3, body: RequestVote(Last { view: 2, place: 2 }) }",
+    ),
+    (
+        4,
+        "Message { sender: [1], receiver: [3], view: 3, body: RequestVote(Last { view: 2, place: 2 }) }",
+    ),
+    (
+        5,
+        "Message { sender: [3], receiver: [1], view: 3, body: VoteReply(false) }",
+    ),
+];
+
+const REPLACING: Nodes = Nodes {
+    ids: [[3], [4], [5], [0], [0], [0], [0], [0]],
+    count: 3,
+};
+
+/// Nodes 3, 4 and 5 in place of 1, 2 and 3: the whole old set isn't enough, and a joiner's empty log is sent all at the second try.
+const REPLACED: [(Event, &str); 17] = [
+    (
+        Event::Govern(1, Order::SetNodes(REPLACING)),
+        "Accepted(2, 3, 0) 0",
+    ),
+    (Event::Reserve(1), "Done 0"),
+    (Event::Sign(1), "Signed(2, 4) 0"),
+    (Event::Replicate(1, 2), "Done 1"),
+    (Event::Deliver(0), "Done 1"),
+    (Event::Deliver(1), "Done 0"),
+    (Event::Replicate(1, 3), "Done 1"),
+    (Event::Deliver(2), "Done 1"),
+    (Event::Deliver(3), "Done 0"),
+    (Event::Advance(1), "Idle 0"),
+    (Event::Replicate(1, 4), "Done 1"),
+    (Event::Deliver(4), "Done 1"),
+    (Event::Deliver(5), "Done 0"),
+    (Event::Replicate(1, 4), "Done 1"),
+    (Event::Deliver(6), "Done 1"),
+    (Event::Deliver(7), "Done 0"),
+    (Event::Advance(1), "Committed(2, 4) 0"),
+];
+
+const REPLACED_SENT: [(usize, &str); 2] = [
+    (
+        5,
+        "Message { sender: [4], receiver: [1], view: 2, body: AppendReply(false, 0) }",
+    ),
+    (
+        7,
+        "Message { sender: [4], receiver: [1], view: 2, body: AppendReply(true, 4) }",
+    ),
+];
+
+/// A node that is in no configuration doesn't stand.
+const OUTSIDER: [(Event, &str); 1] = [(Event::Timeout(2), "Idle 0")];
+
 fn play(
     rt: &impl Abort,
     alloc: Global,
@@ -313,6 +398,51 @@ fn play(
         let told = happen(alloc, world, *event)?;
         assert_eq!(rt; told.as_str(), *want, "at {event:?}");
     }
+    Ok(())
+}
+
+/// The message of this index in the order of sending, as text.
+fn said(alloc: Global, world: &World, which: usize) -> Result<String, AllocError> {
+    match world.sent.get(which) {
+        None => String::from_str(alloc, "nothing"),
+        Some(message) => format!(in alloc; "{message:?}"),
+    }
+}
+
+fn compare_sent(
+    rt: &impl Abort,
+    alloc: Global,
+    world: &World,
+    rows: &[(usize, &str)],
+) -> Result<(), AllocError> {
+    for (which, want) in rows {
+        let told = said(alloc, world, *which)?;
+        assert_eq!(rt; told.as_str(), *want, "message {which:?}");
+    }
+    Ok(())
+}
+
+#[test]
+fn plays_changes_of_nodes_and_restarts(rt: HostRuntime) -> Result<(), Fail> {
+    let one = set([[1], [0], [0], [0], [0], [0], [0], [0]], 1);
+    let three = set([[1], [2], [3], [0], [0], [0], [0], [0]], 3);
+    let mut world = service(rt.alloc(), three, 0)?;
+    play(&rt, rt.alloc(), &mut world, &RESTARTED_VOTER)?;
+    compare_sent(&rt, rt.alloc(), &world, &RESTARTED_VOTER_SENT)?;
+    let mut world = service(rt.alloc(), three, 2)?;
+    play(&rt, rt.alloc(), &mut world, &REPLACED)?;
+    compare_sent(&rt, rt.alloc(), &world, &REPLACED_SENT)?;
+    let mut world = service(rt.alloc(), one, 1)?;
+    play(&rt, rt.alloc(), &mut world, &OUTSIDER)?;
+    Ok(())
+}
+
+#[test]
+fn plays_a_transaction_across_a_cut(rt: HostRuntime) -> Result<(), Fail> {
+    let three = set([[1], [2], [3], [0], [0], [0], [0], [0]], 3);
+    let mut world = service(rt.alloc(), three, 0)?;
+    play(&rt, rt.alloc(), &mut world, &ROLLBACK)?;
+    play(&rt, rt.alloc(), &mut world, &FINISH)?;
     Ok(())
 }
 

@@ -1,11 +1,10 @@
 -- Tables: to each map's name its rows, from keys to values (CCF documentation, "Key-Value Store").
-use Rattle.std.specs.Prelude.{ℕ, List, [], ◌∷◌, Option, None, Some, Bool, nat_eq, if◌then◌else◌}
+use Rattle.std.specs.Prelude.{ℕ, List, [], ◌∷◌, Option, None, Some, Bool, nat_eq, is_some, if◌then◌else◌}
 use Rattle.std.specs.Ordering.{nat_cmp}
 use Rattle.std.specs.Cmp.Lexicographic.{pointwise, slice_cmp}
 use Rattle.std.specs.FinMap.{FinMap}
 use Rattle.std.specs.FinMap as rows
-use Rattle.gl_store.specs.declared.write.Write.{Write}
-use Rattle.gl_store.specs.declared.entry.Entry.{Entry}
+use Rattle.gl_vmaps.specs.declared.write.Write.{Write}
 
 -- The rows of one map: to each key that it has its value.
 abbrev pub Rows : Type 0
@@ -22,6 +21,14 @@ no_tables map = rows.empty
 -- The value of a key in a map, if the map has that key.
 abbrev pub value_in : Tables → List ℕ → List ℕ → Option (List ℕ)
 value_in tables map key = rows.get (tables map) key
+
+-- The map has the key.
+abbrev pub has_key : Tables → List ℕ → List ℕ → Bool
+has_key tables map key = is_some (value_in tables map key)
+
+-- The number of keys that a map has.
+abbrev pub size_of : Tables → List ℕ → ℕ
+size_of tables map = rows.len (tables map)
 
 -- The rows with one of them set to a value, or removed.
 abbrev pub with_row : Rows → List ℕ → Option (List ℕ) → Rows
@@ -40,12 +47,3 @@ wrote tables w map = if same_bytes map w.map then with_row (tables map) w.key w.
 abbrev pub wrote_all : Tables → List Write → Tables
 wrote_all tables [] = tables
 wrote_all tables (w ∷ ws) = wrote_all (wrote tables w) ws
-
--- The tables after the write sets of these entries, one entry after another.
-abbrev pub tables_behind : Tables → List Entry → Tables
-tables_behind tables [] = tables
-tables_behind tables (e ∷ es) = tables_behind (wrote_all tables e.writes) es
-
--- The tables of a ledger: what its write sets make of no tables.
-abbrev pub tables_of : List Entry → Tables
-tables_of ledger = tables_behind no_tables ledger

@@ -2,7 +2,7 @@
 
 ghost use Rattle.std.specs.Prelude.{◌≡◌, ◌↔◌, IsTrue, IsSome, IfSome, IfOk};
 ghost use Rattle.std.specs.List.{list_all};
-ghost use Rattle.gl_store.specs.Name.{is_name_byte, is_map_name, is_key, is_value, is_public, is_governance, is_internal};
+ghost use Rattle.gl_vmaps.specs.Name.{is_name_byte, is_map_name, is_key, is_value, is_public, is_governance, is_internal};
 
 use std::alloc::{AllocError, Global};
 use std::marker::Model;
@@ -29,7 +29,7 @@ pub struct MapName {
 
 impl Model for MapName {
     ghost use Rattle.std.specs.Prelude.{ℕ, List, IsTrue};
-    ghost use Rattle.gl_store.specs.Name.{is_map_name};
+    ghost use Rattle.gl_vmaps.specs.Name.{is_map_name};
 
     ghost Value = { List ℕ };
 
@@ -88,7 +88,7 @@ pub struct Key {
 
 impl Model for Key {
     ghost use Rattle.std.specs.Prelude.{ℕ, List, IsTrue};
-    ghost use Rattle.gl_store.specs.Name.{is_key};
+    ghost use Rattle.gl_vmaps.specs.Name.{is_key};
 
     ghost Value = { List ℕ };
 
@@ -146,7 +146,7 @@ pub struct Value {
 
 impl Model for Value {
     ghost use Rattle.std.specs.Prelude.{ℕ, List, IsTrue};
-    ghost use Rattle.gl_store.specs.Name.{is_value};
+    ghost use Rattle.gl_vmaps.specs.Name.{is_value};
 
     ghost Value = { List ℕ };
 

@@ -1,11 +1,7 @@
 -- The value of a row by a scan of write sets from the last one.
-use Rattle.std.specs.Prelude.{ℕ, List, Option, None, Some, Bool, ◌&&◌, find, reverse}
-use Rattle.gl_store.specs.Tables.{same_bytes}
-use Rattle.gl_store.specs.declared.write.Write.{Write}
-
--- The write is one to this row.
-abbrev pub is_to_row : List ℕ → List ℕ → Write → Bool
-is_to_row map key w = same_bytes map w.map && same_bytes key w.key
+use Rattle.std.specs.Prelude.{ℕ, List, Option, None, Some, find, reverse}
+use Rattle.gl_vmaps.specs.Versions.{is_to_row}
+use Rattle.gl_vmaps.specs.declared.write.Write.{Write}
 
 -- The last write of a set to this row, if there is one.
 abbrev pub last_write : List ℕ → List ℕ → List Write → Option Write

@@ -1,0 +1,4 @@
+pub mod Entry
+pub mod Leaf
+pub mod Reading
+pub mod Stream

@@ -1,0 +1,4 @@
+pub mod Request
+pub mod Run
+pub mod Reading
+pub mod Runs

@@ -1,37 +1,67 @@
 //! What an application asks of the tables, and what it is answered.
 
-use crate::name::{Key, MapName, Value};
+use gl_vmaps::{Key, MapName, Value};
 use std::marker::Model;
 
-/// One step of a request, on the tables that earlier steps left.
+/// One step of a request, on the tables that earlier steps left. Only maps that are public and not
+/// reserved may be named.
 #[derive(Debug, Drop)]
 pub enum Operation {
+    /// Asks for the value of a key.
+    Get { map: MapName, key: Key },
+    /// Asks whether a map has a key.
+    Has { map: MapName, key: Key },
     /// Sets the value of a key, also where it has that value already.
-    Put {
-        /// The map that holds the key. Only a public one that is not reserved is written.
+    Put { map: MapName, key: Key, value: Value },
+    /// Removes a key, and tells whether it was there.
+    Remove { map: MapName, key: Key },
+    /// Adds to a number of 8 bytes, the lowest first, and tells the sum. An absent key counts as 0.
+    Add { map: MapName, key: Key, amount: u64 },
+    /// Fails unless the key has this value, or none.
+    Check {
         map: MapName,
-        /// The key to be set.
         key: Key,
-        /// Its new value.
-        value: Value,
+        expected: Option<Value>,
     },
+    /// Asks for the value whose key in the map `target` is the value of this key.
+    Follow {
+        map: MapName,
+        key: Key,
+        target: MapName,
+    },
+    /// Asks for the number of keys of a map.
+    Size { map: MapName },
 }
 
 /// What an operation answers.
-#[derive(Clone, Copy, Debug, PartialEq, Eq)]
+#[derive(Debug, Drop)]
 pub enum Answer {
     /// The operation was done, and has nothing to tell.
     Done,
+    /// There is no value.
+    None,
+    Value(Value),
+    No,
+    Yes,
+    Number(u64),
 }
 
 /// Why an operation fails.
 #[derive(Clone, Copy, Debug, PartialEq, Eq)]
 pub enum Cause {
-    /// The map's name doesn't begin with `public:`.
+    /// A map's name doesn't begin with `public:`.
     NotPublic,
-    /// The map is a table of governance, `public:ccf.gov.`, or of the service itself,
+    /// A map is a table of governance, `public:ccf.gov.`, or of the service itself,
     /// `public:ccf.internal.` (CCF documentation, "Builtin Maps").
     Reserved,
+    /// The value that is to be added to has not 8 bytes.
+    NotNumber,
+    /// The sum passes 64 bits.
+    Overflow,
+    /// The key has another value than the one that is expected.
+    Check,
+    /// The value that is to be followed is no key: it has no byte, or more than 1,024.
+    BadKey,
 }
 
 /// The first operation of a request that failed. The whole request then writes nothing.
@@ -43,72 +73,88 @@ pub struct Abort {
     pub cause: Cause,
 }
 
-/// A request of an application: one operation, for now.
+/// A request of an application: 1 to 64 operations, run in order.
 #[derive(Debug, Drop)]
 pub struct Request {
-    operation: Operation,
+    operations: Vec<Operation>,
 }
 
 impl Model for Request {
-    ghost use Rattle.std.specs.Prelude.{List, [], ◌∷◌};
-    ghost use Rattle.gl_store.specs.declared.request.Operation.{Operation};
+    ghost use Rattle.std.specs.Prelude.{List, IsTrue, length};
+    ghost use Rattle.gl_tx.specs.Request.{is_count};
+    ghost use Rattle.gl_tx.specs.declared.request.Operation.{Operation};
 
     ghost Value = { List Operation };
 
-    ghost view = { λ r. r.operation ∷ [] };
+    ghost view = { λ r. r.operations.items };
+
+    ghost invariant = { λ r. IsTrue (is_count (length r.operations.items)) };
 }
 
 impl Request {
-    ghost use Rattle.std.specs.Prelude.{◌≡◌, [], ◌∷◌};
+    ghost use Rattle.std.specs.Prelude.{◌≡◌, ◌↔◌, IsTrue, IsSome, IfSome, length};
+    ghost use Rattle.gl_tx.specs.Request.{is_count, is_request};
 
-    /// The request of this operation alone.
-    pub fn of(operation: Operation) -> Self
-        ensures { result ≡ operation ∷ [] }
+    /// The request of these operations. `None` where there are none, or more than 64.
+    pub fn new(operations: Vec<Operation>) -> Option<Self>
+        ensures valid { IsSome result ↔ IsTrue (is_count (length operations.items)) }
+        ensures value { IfSome result (λ request. request ≡ operations.items) }
     {
-        Request { operation }
+        if operations.is_empty() || operations.len() > 64 {
+            None
+        } else {
+            Some(Request { operations })
+        }
     }
 
-    /// The one operation.
-    pub fn operation(&self) -> &Operation
-        ensures { self.now ≡ result.now ∷ [] }
+    /// The operations, in order.
+    pub fn as_slice(&self) -> &[Operation]
+        ensures value { result.now ≡ self.now }
+        ensures request { IsTrue (is_request self.now) }
     {
-        &self.operation
+        &self.operations
     }
 }
 
-/// What a request answers: one answer for each operation, in order.
+/// What a request answers: one answer for each of its 1 to 64 operations, in order.
 #[derive(Debug, Drop)]
 pub struct Reply {
     answers: Vec<Answer>,
 }
 
 impl Model for Reply {
-    ghost use Rattle.std.specs.Prelude.{List};
-    ghost use Rattle.gl_store.specs.declared.request.Answer.{Answer};
+    ghost use Rattle.std.specs.Prelude.{List, IsTrue, length};
+    ghost use Rattle.gl_tx.specs.Request.{is_count};
+    ghost use Rattle.gl_tx.specs.declared.request.Answer.{Answer};
 
     ghost Value = { List Answer };
 
     ghost view = { λ r. r.answers.items };
+
+    ghost invariant = { λ r. IsTrue (is_count (length r.answers.items)) };
 }
 
 impl Reply {
-    ghost use Rattle.std.specs.Prelude.{◌≡◌};
+    ghost use Rattle.std.specs.Prelude.{◌≡◌, ◌↔◌, IsTrue, IsSome, IfSome, length};
+    ghost use Rattle.gl_tx.specs.Request.{is_count, is_reply};
+
+    /// The reply of these answers. `None` where there are none, or more than 64.
+    pub fn new(answers: Vec<Answer>) -> Option<Self>
+        ensures valid { IsSome result ↔ IsTrue (is_count (length answers.items)) }
+        ensures value { IfSome result (λ reply. reply ≡ answers.items) }
+    {
+        if answers.is_empty() || answers.len() > 64 {
+            None
+        } else {
+            Some(Reply { answers })
+        }
+    }
 
     /// The answers, in the order of the operations.
     pub fn as_slice(&self) -> &[Answer]
-        ensures { result.now ≡ self.now }
+        ensures value { result.now ≡ self.now }
+        ensures reply { IsTrue (is_reply self.now) }
     {
         &self.answers
-    }
-}
-
-impl From<Vec<Answer>> for Reply {
-    ghost use Rattle.std.specs.Prelude.{◌≡◌};
-
-    ghost from_gives = { λ answers reply. reply ≡ answers.items };
-
-    /// The answers as they are: takes no memory.
-    fn from(answers: Vec<Answer>) -> Reply {
-        Reply { answers }
     }
 }

@@ -1,24 +1,53 @@
-//! The run of a request.
+//! The run of a request on tables.
 
-ghost use Rattle.std.specs.Prelude.{◌≡◌, ◌+◌, length, Ok, Err, IfOk, IfErr};
-ghost use Rattle.gl_store.specs.Tables.{Tables};
-ghost use Rattle.gl_store.specs.Request.{barred, run};
-ghost use Rattle.gl_store.specs.Runs.{Aborts};
+ghost use Rattle.std.specs.Prelude.{◌≡◌, ◌≤◌, length, Ok, IfOk, IfErr, IsTrue};
+ghost use Rattle.gl_vmaps.specs.Versions.{written_by};
+ghost use Rattle.gl_tx.specs.Run.{barred, run};
+ghost use Rattle.gl_tx.specs.Runs.{Aborts};
+ghost use Rattle.gl_tx.specs.declared.run.RunError.TheVariants.{NoMemory};
 
-use crate::refusal::{Refusal, StoreError};
-use crate::request::{Abort, Answer, Cause, Operation, Reply, Request};
-use crate::write::{Write, Writes};
-use std::alloc::Global;
+use crate::request::{Abort, Cause, Reply, Request};
+use gl_vmaps::{Tables, Writes};
+use std::alloc::{AllocError, AllocFailed, Global};
+use thiserror::Error;
 
 /// What a request that ran answers and writes.
 #[derive(Debug, Drop)]
 pub struct Ran {
+    /// One answer for each operation, in order.
     pub reply: Reply,
+    /// The last write to each row that the request wrote: at most 64.
     pub writes: Writes,
 }
 
+/// Why a request did not run. It wrote nothing.
+#[derive(Clone, Copy, Debug, PartialEq, Eq, Error)]
+pub enum RunError {
+    #[error("out of memory")]
+    NoMemory,
+    /// An operation failed.
+    #[error("an operation of the request failed")]
+    Aborted(Abort),
+}
+
+impl From<AllocError> for RunError {
+    ghost from_gives = { λ _ e. e ≡ NoMemory };
+
+    fn from(_e: AllocError) -> RunError {
+        RunError::NoMemory
+    }
+}
+
+impl<T: Drop> From<AllocFailed<T>> for RunError {
+    ghost from_gives = { λ _ e. e ≡ NoMemory };
+
+    fn from(_e: AllocFailed<T>) -> RunError {
+        RunError::NoMemory
+    }
+}
+
 /// Why no request may name a map, if so.
-pub fn barred(map: &[u8]) -> Option<Cause>
+fn barred(map: &[u8]) -> Option<Cause>
     ensures { result ≡ barred map.now }
 {
     if !map.starts_with(b"public:".as_slice()) {
@@ -32,30 +61,13 @@ pub fn barred(map: &[u8]) -> Option<Cause>
     }
 }
 
-/// Runs a request, on whatever tables: its one operation reads none.
-pub fn run(alloc: Global, request: &Request) -> Result<Ran, StoreError>
-    ensures ok { IfOk result (λ ran. (tables : Tables) →
-        run request.now tables ≡ Ok (record { answers = ran.reply; writes = ran.writes })) }
-    ensures one { IfOk result (λ ran. length ran.reply ≡ 1) }
-    ensures aborted { IfErr result (λ e. (tables : Tables) → Aborts (run request.now tables) e) }
+/// Runs a request on tables, which stay as they are: its operations in order, each on what the earlier
+/// ones wrote, up to the first that fails.
+pub fn run(alloc: Global, request: &Request, tables: &Tables) -> Result<Ran, RunError>
+    ensures ok { IfOk result (λ ran.
+        run request.now (written_by tables.now) ≡ Ok (record { answers = ran.reply; writes = ran.writes })) }
+    ensures few { IfOk result (λ ran. length ran.writes ≤ 64) }
+    ensures aborted { IfErr result (λ e. Aborts (run request.now (written_by tables.now)) e) }
 {
-    let Operation::Put { map, key, value } = request.operation();
-    if let Some(cause) = barred(map.as_slice()) {
-        return Err(StoreError::Refused(Refusal::Aborted(Abort {
-            operation: 1,
-            cause,
-        })));
-    }
-    let mut answers = Vec::new(alloc);
-    answers.push(Answer::Done)?;
-    let mut writes = Vec::new(alloc);
-    writes.push(Write {
-        map: map.copy(alloc)?,
-        key: key.copy(alloc)?,
-        value: Some(value.copy(alloc)?),
-    })?;
-    Ok(Ran {
-        reply: Reply::from(answers),
-        writes: Writes::from(writes),
-    })
+    todo(request, tables)
 }

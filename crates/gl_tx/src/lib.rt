@@ -1,0 +1,15 @@
+//! Requests of applications: their operations, their bytes, and what they come to on tables (CCF
+//! documentation, "Key-Value Store").
+#![tactic(auto)]
+
+mod decoding;
+mod encoding;
+mod overlay;
+mod request;
+mod run;
+
+pub use request::{Abort, Answer, Cause, Operation, Reply, Request};
+pub use run::{Ran, RunError, run};
+
+#[cfg(test)]
+mod tests;

@@ -2,3 +2,4 @@ pub mod Entry
 pub mod Leaf
 pub mod Reading
 pub mod Stream
+pub mod Gives

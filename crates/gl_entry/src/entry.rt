@@ -1,7 +1,7 @@
 //! Entries of the ledger (CCF documentation, "Ledger").
 
 use crate::bytes::Bytes;
-use crate::write::Writes;
+use gl_vmaps::Writes;
 
 /// A SHA-256 digest (FIPS 180-4): 32 bytes.
 pub type Digest = [u8; 32];
@@ -18,8 +18,7 @@ pub struct Signature {
     /// The place up to which the signer knew the ledger committed, 0 for none. The first signature
     /// of a ledger records its own place.
     pub commit: u64,
-    /// The root of the Merkle tree over all earlier entries. Zero bytes for now, until the tree is
-    /// there.
+    /// The root of the Merkle tree over the leaves of all earlier entries.
     pub root: Digest,
     /// The node's LMS signature (RFC 8554, section 5.4). Empty for now, until keys sign.
     pub signature: Bytes,

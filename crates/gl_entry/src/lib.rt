@@ -1,0 +1,20 @@
+//! The entries of a ledger (CCF documentation, "Ledger"): their frames, their leaves in the Merkle tree,
+//! and a reader of whole ledgers.
+#![tactic(auto)]
+
+mod bytes;
+mod decoding;
+mod encoding;
+mod entry;
+mod fault;
+mod leaf;
+mod reader;
+
+pub use bytes::Bytes;
+pub use entry::{Content, Digest, Entry, NodeId, Signature};
+pub use fault::{EntryError, EntryFault, LedgerError};
+pub use leaf::{evidence, leaf, leaf_of_body};
+pub use reader::LedgerReader;
+
+#[cfg(test)]
+mod tests;

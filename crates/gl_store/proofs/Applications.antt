@@ -4,20 +4,20 @@ use Rattle.std.specs.List.{AllByRecursion}
 use Rattle.std.specs.declared.cmp.Ordering.{Ordering}
 use Rattle.std.specs.declared.cmp.Ordering.TheVariants.{Less, Equal, Greater}
 use Rattle.std.specs.FinMap as rows
-use Rattle.gl_store.specs.Name.{is_public, is_governance, is_internal}
-use Rattle.gl_store.specs.Tables.{Tables, Rows, tables_of}
-use Rattle.gl_store.specs.Request.{Performed, Ran, unless_barred, performed, run_from, run, goes_on, answered_first, with_write, with_writes, tables_after, write_order, put_before}
+use Rattle.gl_vmaps.specs.Name.{is_public, is_governance, is_internal}
+use Rattle.gl_vmaps.specs.Tables.{Tables, Rows, tables_of}
+use Rattle.gl_tx.specs.Request.{Performed, Ran, unless_barred, performed, run_from, run, goes_on, answered_first, with_write, with_writes, tables_after, write_order, put_before}
 use Rattle.gl_store.specs.Genesis.{service_map, service_key}
 use Rattle.gl_store.specs.Effect.{service_state, state_of_value}
 use Rattle.gl_store.specs.Serial.{IsSound, IsApplicationEntry}
 use Rattle.gl_store.specs.Ledger.{application_entry, Refuses, executed, executed_in, ran_behind}
-use Rattle.gl_store.specs.declared.entry.Entry.{Entry}
-use Rattle.gl_store.specs.declared.write.Write.{Write}
-use Rattle.gl_store.specs.declared.request.Operation.{Operation}
-use Rattle.gl_store.specs.declared.request.Operation.TheVariants.{Put}
-use Rattle.gl_store.specs.declared.request.Answer.{Answer}
-use Rattle.gl_store.specs.declared.request.Cause.{Cause}
-use Rattle.gl_store.specs.declared.request.Abort.{Abort}
+use Rattle.gl_entry.specs.declared.entry.Entry.{Entry}
+use Rattle.gl_vmaps.specs.declared.write.Write.{Write}
+use Rattle.gl_tx.specs.declared.request.Operation.{Operation}
+use Rattle.gl_tx.specs.declared.request.Operation.TheVariants.{Put}
+use Rattle.gl_tx.specs.declared.request.Answer.{Answer}
+use Rattle.gl_tx.specs.declared.request.Cause.{Cause}
+use Rattle.gl_tx.specs.declared.request.Abort.{Abort}
 use Rattle.gl_store.specs.declared.genesis.ServiceState.{ServiceState}
 use Rattle.gl_store.specs.declared.genesis.ServiceState.TheVariants.{Opening, Open}
 use Rattle.gl_store.specs.Runs.{Aborts}
@@ -94,7 +94,7 @@ executed_ok ledger view q e a h = go (service_state (tables_of ledger)) refl h
     go Open is p = let r = ran_ok (run q (tables_of ledger)) p in (is, r.0, r.1, r.2, r.3)
 
 application_stands : (ledger : List Entry) (view : ℕ) (q : List Operation) (ran : Ran) → IsSound ledger → service_state (tables_of ledger) ≡ Open →
-    run q (tables_of ledger) ≡ Ok ran → (bytes : List ℕ) → bytes ≡ Rattle.gl_store.specs.Request.request_bytes q → IsApplicationEntry ledger (application_entry ledger view q ran) bytes
+    run q (tables_of ledger) ≡ Ok ran → (bytes : List ℕ) → bytes ≡ Rattle.gl_tx.specs.Request.request_bytes q → IsApplicationEntry ledger (application_entry ledger view q ran) bytes
 application_stands ledger view q ran sound is_open runs bytes spelled = record {
   requests = sound.governed.requests;
   recorded = sound.governed.recorded;

@@ -4,9 +4,9 @@ use Rattle.std.specs.List.{slice_get}
 use Rattle.gl_base.specs.declared.tx_id.TxId.{TxId}
 use Rattle.gl_store.specs.Ledger.{Held, Executes, entry_at, genesis_entry, signature_entry, opening_ledger, IsSignedAt}
 use Rattle.gl_store.specs.Kept.{IsUpTo}
-use Rattle.gl_store.specs.declared.entry.Entry.{Entry}
-use Rattle.gl_store.specs.declared.request.Operation.{Operation}
-use Rattle.gl_store.specs.declared.request.Answer.{Answer}
+use Rattle.gl_entry.specs.declared.entry.Entry.{Entry}
+use Rattle.gl_tx.specs.declared.request.Operation.{Operation}
+use Rattle.gl_tx.specs.declared.request.Answer.{Answer}
 use Rattle.gl_store.specs.declared.genesis.Genesis as request
 use Rattle.gl_store.proofs.Lists.{slice_get-push, slice_get-last}
 use Rattle.gl_store.proofs.Applications.{executed_ok}

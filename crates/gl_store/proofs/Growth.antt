@@ -2,15 +2,15 @@
 use Rattle.std.proofs.Common.{◌≡◌, ℕ, suc, ◌+◌, ◌<◌, ◌≤◌, List, [], ◌∷◌, ◌++◌, length, take, Some, Bool, true, false, refl, sym, ◌∙◌, ap, subst, arith, ⊎_elim, if◌then◌else◌}
 use Rattle.std.specs.List.{slice_get, AllByRecursion}
 use Rattle.std.proofs.lemmas.Bool.{false≢true}
-use Rattle.gl_store.specs.Name.{is_governance}
-use Rattle.gl_store.specs.Tables.{Tables, same_bytes, no_tables, tables_of, wrote, wrote_all, with_row}
+use Rattle.gl_vmaps.specs.Name.{is_governance}
+use Rattle.gl_vmaps.specs.Tables.{Tables, same_bytes, no_tables, tables_of, wrote, wrote_all, with_row}
 use Rattle.gl_store.specs.Effect.{Recorded, RecordsAt, RecordsFrom}
 use Rattle.gl_store.specs.Serial.{IsLedger, IsSerial, IsGoverned, IsSound, StandsAs}
 use Rattle.gl_store.specs.Kept.{IsUpTo}
-use Rattle.gl_store.specs.declared.entry.Content.{Content}
-use Rattle.gl_store.specs.declared.entry.Content.TheVariants as content
-use Rattle.gl_store.specs.declared.entry.Entry.{Entry}
-use Rattle.gl_store.specs.declared.write.Write.{Write}
+use Rattle.gl_entry.specs.declared.entry.Content.{Content}
+use Rattle.gl_entry.specs.declared.entry.Content.TheVariants as content
+use Rattle.gl_entry.specs.declared.entry.Entry.{Entry}
+use Rattle.gl_vmaps.specs.declared.write.Write.{Write}
 use Rattle.std.specs.Cmp.Lexicographic.{bytes_decides}
 use Rattle.gl_store.proofs.TablesLaws.{tables_behind-push}
 use Rattle.gl_store.proofs.Lists.{slice_get-push, take-push, take-all, within}

@@ -2,16 +2,16 @@
 use Rattle.std.proofs.Common.{◌≡◌, ℕ, suc, ◌+◌, List, [], ◌∷◌, ◌++◌, length, Ok, true, false, refl, sym, ◌∙◌, ap, subst, arith, length-append}
 use Rattle.std.specs.List.{AllByRecursion}
 use Rattle.std.specs.FinMap as rows
-use Rattle.gl_store.specs.Tables.{Tables, Rows, no_tables, tables_of}
-use Rattle.gl_store.specs.Entry.{is_signature}
+use Rattle.gl_vmaps.specs.Tables.{Tables, Rows, no_tables, tables_of}
+use Rattle.gl_entry.specs.Entry.{is_signature}
 use Rattle.gl_store.specs.Genesis.{service_map, service_key}
 use Rattle.gl_store.specs.Effect.{service_state, state_of_value}
 use Rattle.gl_store.specs.Serial.{IsSound}
 use Rattle.gl_store.specs.Ledger.{last_signature, signature_place, signature_entry, executed, application_entry}
 use Rattle.gl_store.specs.Kept.{IsKept, IsUpTo}
-use Rattle.gl_store.specs.declared.entry.Entry.{Entry}
-use Rattle.gl_store.specs.declared.request.Operation.{Operation}
-use Rattle.gl_store.specs.declared.request.Answer.{Answer}
+use Rattle.gl_entry.specs.declared.entry.Entry.{Entry}
+use Rattle.gl_tx.specs.declared.request.Operation.{Operation}
+use Rattle.gl_tx.specs.declared.request.Answer.{Answer}
 use Rattle.gl_store.specs.declared.genesis.ServiceState.{ServiceState}
 use Rattle.gl_store.proofs.TablesLaws.{tables_behind-push}
 use Rattle.gl_store.proofs.Growth.{IsOutside, untouched, sound-push}

@@ -4,12 +4,12 @@ use Rattle.std.specs.List.{slice_get, AllByRecursion}
 use Rattle.std.specs.FinMap.{get-empty}
 use Rattle.std.specs.Ordering.{nat_cmp}
 use Rattle.std.specs.Cmp.Lexicographic.{slice_cmp}
-use Rattle.gl_store.specs.Tables.{no_tables, value_in}
+use Rattle.gl_vmaps.specs.Tables.{no_tables, value_in}
 use Rattle.gl_store.specs.Genesis.{genesis_bytes, genesis_rows, is_acceptable, constitution_rows, row, dealing_map, dealing_key, dealing_bytes, member_row, node_row, service_row}
 use Rattle.gl_store.specs.Serial.{IsSound, IsGovernanceEntry, StandsAs, is_ordered}
 use Rattle.gl_store.specs.Ledger.{genesis_entry, signature_entry, opening_ledger}
-use Rattle.gl_store.specs.declared.entry.Entry.{Entry}
-use Rattle.gl_store.specs.declared.write.Write.{Write}
+use Rattle.gl_entry.specs.declared.entry.Entry.{Entry}
+use Rattle.gl_vmaps.specs.declared.write.Write.{Write}
 use Rattle.gl_store.specs.declared.genesis.NewMember.{NewMember}
 use Rattle.gl_store.specs.declared.genesis.NewNode.{NewNode}
 use Rattle.gl_store.specs.declared.genesis.Genesis as request
@@ -17,7 +17,7 @@ use Rattle.gl_store.specs.declared.genesis.GovernanceRequest.TheVariants as requ
 use Rattle.gl_store.specs.Kept.{IsKept, IsSole}
 use Rattle.gl_store.specs.Genesis.{state_byte, service_map, service_key}
 use Rattle.gl_store.specs.Effect.{state_of_value, service_state}
-use Rattle.gl_store.specs.Tables.{Rows, with_row, wrote_all}
+use Rattle.gl_vmaps.specs.Tables.{Rows, with_row, wrote_all}
 use Rattle.std.specs.FinMap as rows
 use Rattle.std.specs.FinMap.{get-insert}
 use Rattle.std.specs.Cmp.Lexicographic.{nat_list_cmp_total}

@@ -10,7 +10,7 @@ use Rattle.gl_store.specs.Field.{with_u32_length}
 use Rattle.gl_store.specs.Tables.{Tables, Rows, no_tables, tables_of, wrote_all}
 use Rattle.gl_store.specs.Genesis.{nodes_map, node_id, genesis_rows}
 use Rattle.gl_store.specs.Ledger.{genesis_entry, signature_entry, opening_ledger}
-use Rattle.gl_store.specs.declared.entry.Entry.{Entry}
+use Rattle.gl_entry.specs.declared.entry.Entry.{Entry}
 use Rattle.gl_store.specs.declared.genesis.NewMember.{NewMember}
 use Rattle.gl_store.specs.declared.genesis.NewNode.{NewNode}
 use Rattle.gl_store.specs.declared.genesis.Genesis as request

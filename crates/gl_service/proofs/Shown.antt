@@ -9,9 +9,9 @@ use Rattle.gl_rules.specs.Safety.{node_after}
 use Rattle.gl_rules.specs.World.{Submit, Reserve, Sign, Advance, begin, leader_at_start, starter, joiner, at, happens, run}
 use Rattle.gl_store.specs.Ledger.{application_entry, signature_entry, last_signature}
 use Rattle.gl_store.specs.Request.{Ran}
-use Rattle.gl_store.specs.declared.entry.Entry.{Entry}
+use Rattle.gl_entry.specs.declared.entry.Entry.{Entry}
 use Rattle.gl_store.specs.declared.genesis.ServiceState.TheVariants.{Open}
-use Rattle.gl_store.specs.declared.request.Answer.{Answer}
+use Rattle.gl_tx.specs.declared.request.Answer.{Answer}
 use Rattle.gl_store.specs.declared.refusal.Refusal.{Refusal}
 use Rattle.gl_store.proofs.Applications.{executed_ran}
 use Rattle.gl_service.specs.declared.settings.Settings.{Settings}

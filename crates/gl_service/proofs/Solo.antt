@@ -13,11 +13,11 @@ use Rattle.gl_rules.specs.Replication.{advance, commits}
 use Rattle.gl_store.specs.Serial.{IsSound}
 use Rattle.gl_store.specs.Kept.{IsUpTo}
 use Rattle.gl_store.specs.Ledger.{executed, signature_entry, last_signature}
-use Rattle.gl_store.specs.Entry.{is_signature}
+use Rattle.gl_entry.specs.Entry.{is_signature}
 use Rattle.gl_store.specs.Tables.{tables_of}
-use Rattle.gl_store.specs.declared.entry.Entry.{Entry}
-use Rattle.gl_store.specs.declared.request.Operation.{Operation}
-use Rattle.gl_store.specs.declared.request.Answer.{Answer}
+use Rattle.gl_entry.specs.declared.entry.Entry.{Entry}
+use Rattle.gl_tx.specs.declared.request.Operation.{Operation}
+use Rattle.gl_tx.specs.declared.request.Answer.{Answer}
 use Rattle.gl_store.specs.declared.refusal.Refusal.{Refusal}
 use Rattle.gl_store.proofs.Growth.{IsOutside, sound-push}
 use Rattle.gl_store.proofs.Applications.{executed_ok, application_sound, run_outside}

@@ -9,7 +9,7 @@ use Rattle.gl_store.specs.Ledger.{genesis_entry, signature_entry, opening_ledger
 use Rattle.gl_store.specs.Kept.{IsSole}
 use Rattle.gl_store.specs.Effect.{service_state}
 use Rattle.gl_store.specs.Tables.{tables_of}
-use Rattle.gl_store.specs.declared.entry.Entry.{Entry}
+use Rattle.gl_entry.specs.declared.entry.Entry.{Entry}
 use Rattle.gl_store.specs.declared.genesis.NewMember.{NewMember}
 use Rattle.gl_store.specs.declared.genesis.NewNode.{NewNode}
 use Rattle.gl_store.specs.declared.genesis.Genesis as request

@@ -1,6 +1,6 @@
 //! A growing list of entries, with the tables and the tree that they make.
 
-ghost use Rattle.std.specs.Prelude.{◌≡◌, [], ◌∷◌, ◌++◌, OnOk, OnErr};
+ghost use Rattle.std.specs.Prelude.{◌≡◌, [], ◌∷◌, ◌++◌, IfOk, OnOk, OnErr};
 ghost use Rattle.gl_merkle.specs.Frontier.{HasLeaves, IsUnchanged};
 ghost use Rattle.gl_vmaps.specs.Versions.{placed_at, IsAbove};
 

@@ -1,6 +1,6 @@
 //! Names, keys, values and writes as fields of bytes. Numbers have their least significant byte first.
 
-ghost use Rattle.std.specs.Prelude.{◌≡◌, ◌++◌, OnOk};
+ghost use Rattle.std.specs.Prelude.{◌≡◌, ◌≤◌, ◌++◌, length, IfOk, OnOk};
 ghost use Rattle.std.specs.Option.{option_copied};
 ghost use Rattle.gl_base.specs.Code.{Reads};
 ghost use Rattle.gl_vmaps.specs.Fields.{map_bytes, key_bytes, value_bytes, optional_value_bytes, write_bytes, map_at, key_at, value_at, optional_value_at};
@@ -73,6 +73,21 @@ pub fn read_map(alloc: Global, cut: &mut Cut<'_>) -> Result<MapName, CodeError>
     Ok(MapName::from_slice(alloc, map)?)
 }
 
+fn key_of(alloc: Global, bytes: &[u8]) -> Result<Key, AllocError>
+    requires some { 1 ≤ length bytes.now }
+    requires limit { length bytes.now ≤ 1024 }
+    ensures { IfOk result (λ key. key ≡ bytes.now) }
+{
+    Key::from_slice(alloc, bytes)
+}
+
+fn value_of(alloc: Global, bytes: &[u8]) -> Result<Value, AllocError>
+    requires { length bytes.now ≤ 65536 }
+    ensures { IfOk result (λ value. value ≡ bytes.now) }
+{
+    Ok(Value::of(Vec::from_slice(alloc, bytes)?))
+}
+
 /// Reads a key.
 #[tactic(auto, unfolding(crate::specs::Fields::key_at))]
 pub fn read_key(alloc: Global, cut: &mut Cut<'_>) -> Result<Key, CodeError>
@@ -83,7 +98,7 @@ pub fn read_key(alloc: Global, cut: &mut Cut<'_>) -> Result<Key, CodeError>
     if key.is_empty() {
         return Err(CodeError::Fault(CodeFault::Value { at: place }));
     }
-    Ok(Key::from_slice(alloc, key)?)
+    Ok(key_of(alloc, key)?)
 }
 
 /// Reads a value.
@@ -92,7 +107,7 @@ pub fn read_value(alloc: Global, cut: &mut Cut<'_>) -> Result<Value, CodeError>
     ensures { Reads (λ value. value) result cut.new (value_at cut.old) }
 {
     let value = cut.bytes(32, 65536)?;
-    Ok(Value::of(Vec::from_slice(alloc, value)?))
+    Ok(value_of(alloc, value)?)
 }
 
 /// Reads a byte 0 and no value, or a byte 1 and a value.

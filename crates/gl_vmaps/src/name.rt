@@ -13,10 +13,22 @@ fn is_printable(bytes: &[u8]) -> bool
     bytes.iter().all(|byte| 33 <= *byte && *byte <= 126)
 }
 
-fn is_map_name(bytes: &[u8]) -> bool
+pub(crate) fn is_map_name(bytes: &[u8]) -> bool
     ensures { result ≡ is_map_name bytes.now }
 {
     1 <= bytes.len() && bytes.len() <= 128 && is_printable(bytes)
+}
+
+pub(crate) fn is_key(bytes: &[u8]) -> bool
+    ensures { result ≡ is_key bytes.now }
+{
+    1 <= bytes.len() && bytes.len() <= 1024
+}
+
+pub(crate) fn is_value(bytes: &[u8]) -> bool
+    ensures { result ≡ is_value bytes.now }
+{
+    bytes.len() <= 65536
 }
 
 /// The name of a map: 1 to 128 bytes from 21 to 7e (hexadecimal), which are the printable ones of
@@ -122,7 +134,7 @@ impl Key {
         ensures valid { IsSome result ↔ IsTrue (is_key bytes.items) }
         ensures value { IfSome result (λ key. key ≡ bytes.items) }
     {
-        if !bytes.is_empty() && bytes.len() <= 1024 {
+        if is_key(&bytes) {
             Some(Key { bytes })
         } else {
             None
@@ -178,7 +190,7 @@ impl Value {
         ensures valid { IsSome result ↔ IsTrue (is_value bytes.items) }
         ensures value { IfSome result (λ value. value ≡ bytes.items) }
     {
-        if bytes.len() <= 65536 {
+        if is_value(&bytes) {
             Some(Value { bytes })
         } else {
             None

@@ -1,9 +1,10 @@
-//! Answers about tables by scans of the writes that made them.
+//! Answers about tables by scans of the changes that made them.
 
-ghost use Rattle.std.specs.Prelude.{◌≡◌};
+ghost use Rattle.std.specs.Prelude.{◌≡◌, ◌+◌};
 ghost use Rattle.std.specs.Option.{option_copied};
 ghost use Rattle.gl_vmaps.specs.Tables.{value_in, size_of};
 ghost use Rattle.gl_vmaps.specs.Versions.{is_to_map, is_to_row, written_by, version_in, map_version_in};
+ghost use Rattle.gl_vmaps.specs.Scan.{last_to_row, last_to_map, stands};
 ghost use Rattle.gl_vmaps.specs.Kept.{placed, AreRising};
 
 use crate::tables::Change;
@@ -22,7 +23,9 @@ fn is_to_row(write: &Write, map: &[u8], key: &[u8]) -> bool
 }
 
 /// The last of these changes to a row, if there is one.
-fn last_to_row<'a>(changes: &'a [Change], map: &[u8], key: &[u8]) -> Option<&'a Change> {
+fn last_to_row<'a>(changes: &'a [Change], map: &[u8], key: &[u8]) -> Option<&'a Change>
+    ensures { option_copied result ≡ last_to_row map.now key.now changes.now }
+{
     changes
         .iter()
         .rev()
@@ -30,11 +33,20 @@ fn last_to_row<'a>(changes: &'a [Change], map: &[u8], key: &[u8]) -> Option<&'a 
 }
 
 /// The last of these changes to a map, if there is one.
-fn last_to_map<'a>(changes: &'a [Change], map: &[u8]) -> Option<&'a Change> {
+fn last_to_map<'a>(changes: &'a [Change], map: &[u8]) -> Option<&'a Change>
+    ensures { option_copied result ≡ last_to_map map.now changes.now }
+{
     changes
         .iter()
         .rev()
         .find(|change| is_to_map(&change.write, map))
+}
+
+/// What the write sets its row to, if it does.
+fn value_of(write: &Write) -> Option<&[u8]>
+    ensures { option_copied result ≡ write.now.value }
+{
+    write.value.as_ref().map(|value| value.as_slice())
 }
 
 /// The value of a row behind these changes.
@@ -43,13 +55,13 @@ pub(crate) fn value_in<'a>(changes: &'a [Change], map: &[u8], key: &[u8]) -> Opt
 {
     match last_to_row(changes, map, key) {
         None => None,
-        Some(change) => change.write.value.as_ref().map(|value| value.as_slice()),
+        Some(change) => value_of(&change.write),
     }
 }
 
 /// The greatest place of a change to a row, 0 where there is none.
 pub(crate) fn version_in(changes: &[Change], map: &[u8], key: &[u8]) -> u64
-    requires { AreRising (placed changes.now) }
+    requires { AreRising changes.now }
     ensures { result ≡ version_in (placed changes.now) map.now key.now }
 {
     match last_to_row(changes, map, key) {
@@ -60,7 +72,7 @@ pub(crate) fn version_in(changes: &[Change], map: &[u8], key: &[u8]) -> u64
 
 /// The greatest place of a change to a map, 0 where there is none.
 pub(crate) fn map_version_in(changes: &[Change], map: &[u8]) -> u64
-    requires { AreRising (placed changes.now) }
+    requires { AreRising changes.now }
     ensures { result ≡ map_version_in (placed changes.now) map.now }
 {
     match last_to_map(changes, map) {
@@ -70,7 +82,9 @@ pub(crate) fn map_version_in(changes: &[Change], map: &[u8]) -> u64
 }
 
 /// Whether the change sets a row of the map that no later change writes.
-fn stands(change: &Change, later: &[Change], map: &[u8]) -> bool {
+fn stands(change: &Change, later: &[Change], map: &[u8]) -> bool
+    ensures { result ≡ stands map.now change.now later.now }
+{
     let write = &change.write;
     is_to_map(write, map)
         && write.value.is_some()
@@ -82,10 +96,8 @@ pub(crate) fn size_of(changes: &[Change], map: &[u8]) -> u64
     ensures { result ≡ size_of (written_by (placed changes.now)) map.now }
 {
     let mut size = 0;
-    let mut later = changes;
-    while let Some((change, rest)) = later.split_first() {
-        later = rest;
-        if stands(change, rest, map) {
+    for (index, change) in changes.iter().enumerate() {
+        if stands(change, &changes[index + 1..], map) {
             size += 1;
         }
     }

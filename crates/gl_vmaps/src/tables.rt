@@ -1,7 +1,9 @@
 //! Tables as the list of the writes that made them.
 
-ghost use Rattle.std.specs.Prelude.{◌≡◌};
+ghost use Rattle.std.specs.Prelude.{◌≡◌, ◌++◌, OnOk, take, vec_len};
 ghost use Rattle.std.specs.Option.{option_copied};
+ghost use Rattle.gl_vmaps.specs.Versions.{up_to};
+ghost use Rattle.gl_vmaps.specs.Kept.{placed, changes_at, AreRising};
 
 use crate::scan::{map_version_in, size_of, value_in, version_in};
 use crate::write::{Write, Writes};
@@ -33,15 +35,15 @@ impl Model for Tables {
 
     ghost view = { λ t. placed t.changes.items };
 
-    ghost invariant = { λ t. AreRising (placed t.changes.items) };
+    ghost invariant = { λ t. AreRising t.changes.items };
 }
 
-/// How many of the changes stand at or below a place.
-fn count_up_to(changes: &[Change], place: u64) -> usize {
-    changes
-        .iter()
-        .rposition(|change| change.place <= place)
-        .map_or(0, |last| last + 1)
+/// How many of the changes stand at or below a place: all of these are in front.
+fn count_up_to(changes: &[Change], place: u64) -> usize
+    requires { AreRising changes.now }
+    ensures { placed (take result changes.now) ≡ up_to place (placed changes.now) }
+{
+    changes.partition_point(|change| change.place <= place)
 }
 
 /// Adds the writes at a place. What was added before want of memory stays.
@@ -50,7 +52,10 @@ fn push_all(
     changes: &mut Vec<Change>,
     place: u64,
     writes: &[Write],
-) -> Result<(), AllocError> {
+) -> Result<(), AllocError>
+    ensures ok { OnOk result (changes.new.items ≡ changes.old.items ++ changes_at place writes.now) }
+    ensures kept { take (vec_len changes.old) changes.new.items ≡ changes.old.items }
+{
     for write in writes {
         changes.push(Change {
             place,
@@ -61,7 +66,7 @@ fn push_all(
 }
 
 impl Tables {
-    ghost use Rattle.std.specs.Prelude.{[], ◌++◌, IfOk, OnOk, OnErr};
+    ghost use Rattle.std.specs.Prelude.{◌≡◌, [], ◌++◌, IfOk, OnOk, OnErr};
     ghost use Rattle.gl_vmaps.specs.Tables.{value_in, has_key, size_of};
     ghost use Rattle.gl_vmaps.specs.Versions.{placed_at, written_by, version_in, map_version_in, up_to, IsAbove};
 

@@ -1,6 +1,11 @@
 //! What an entry writes to the tables (CCF documentation, "Key-Value Store").
 
-use crate::name::{Key, MapName, Value};
+ghost use Rattle.std.specs.Prelude.{◌≡◌, ◌<◌, ◌≤◌, IsTrue, OnOk, OnErr, length, slice_set};
+ghost use Rattle.std.specs.List.{insert, list_all};
+ghost use Rattle.std.specs.Result.{MatchResult};
+ghost use Rattle.gl_vmaps.specs.Writes.{is_write, with_write};
+
+use crate::name::{Key, MapName, Value, is_key, is_map_name, is_value};
 use std::alloc::{AllocError, Global};
 use std::cmp::Ordering;
 use std::marker::Model;
@@ -17,8 +22,8 @@ pub struct Write {
 }
 
 impl Write {
-    ghost use Rattle.std.specs.Prelude.{◌≡◌, IfOk};
-    ghost use Rattle.gl_vmaps.specs.Writes.{row_order};
+    ghost use Rattle.std.specs.Prelude.{◌≡◌, IsTrue, IfOk};
+    ghost use Rattle.gl_vmaps.specs.Writes.{row_order, is_write};
 
     /// The same write in memory of its own. Fails for want of memory alone.
     pub fn copy(&self, alloc: Global) -> Result<Self, AllocError>
@@ -42,6 +47,19 @@ impl Write {
         map.cmp(self.map.as_slice())
             .then(key.cmp(self.key.as_slice()))
     }
+
+    /// Whether the map, the key and the value are within their limits, as they always are.
+    fn is_within(&self) -> bool
+        ensures value { result ≡ is_write self.now }
+        ensures always { IsTrue result }
+    {
+        is_map_name(self.map.as_slice())
+            && is_key(self.key.as_slice())
+            && self
+                .value
+                .as_ref()
+                .is_none_or(|value| is_value(value.as_slice()))
+    }
 }
 
 /// The writes of one entry. They ascend strictly by map, then key, in byte order, so that each row is
@@ -52,15 +70,16 @@ pub struct Writes {
 }
 
 impl Model for Writes {
-    ghost use Rattle.std.specs.Prelude.{List, IsTrue};
-    ghost use Rattle.gl_vmaps.specs.Writes.{is_ordered};
+    ghost use Rattle.std.specs.Prelude.{List, IsTrue, ◌&&◌};
+    ghost use Rattle.std.specs.List.{list_all};
+    ghost use Rattle.gl_vmaps.specs.Writes.{is_ordered, is_write};
     ghost use Rattle.gl_vmaps.specs.declared.write.Write.{Write};
 
     ghost Value = { List Write };
 
     ghost view = { λ w. w.items.items };
 
-    ghost invariant = { λ w. IsTrue (is_ordered w.items.items) };
+    ghost invariant = { λ w. IsTrue (is_ordered w.items.items && list_all is_write w.items.items) };
 }
 
 impl Writes {
@@ -82,6 +101,7 @@ impl Writes {
         requires { IsTrue (is_ordered items.items) }
         ensures { result ≡ items.items }
     {
+        prove!(are_within(&items));
         Writes { items }
     }
 
@@ -100,24 +120,44 @@ impl Writes {
         ensures ok { OnOk result (self.new ≡ with_write self.old write) }
         ensures err { OnErr result (self.new ≡ self.old) }
     {
-        let place = place_of(&self.items, &write);
-        match self.items.get_mut(place) {
-            Some(there)
-                if there.order_of(write.map.as_slice(), write.key.as_slice()) == Ordering::Equal =>
-                {
-                    *there = write;
-                    Ok(())
-                }
-            _ => Ok(self.items.insert(place, write)?),
-        }
+        prove!(write.is_within());
+        put_into(&mut self.items, write)
     }
 }
 
-/// The place of the first write whose row is not before that of this one.
-fn place_of(items: &[Write], write: &Write) -> usize {
-    items
-        .iter()
-        .position(|there| there.order_of(write.map.as_slice(), write.key.as_slice())
-            != Ordering::Greater)
-        .unwrap_or(items.len())
+/// Adds a write to writes that are in order. Want of memory leaves them as they were.
+fn put_into(items: &mut Vec<Write>, write: Write) -> Result<(), AllocError>
+    ensures ok { OnOk result (items.new.items ≡ with_write items.old.items write) }
+    ensures err { OnErr result (items.new.items ≡ items.old.items) }
+{
+    match place_of(items, &write) {
+        Ok(place) => items[place] = write,
+        Err(place) => items.insert(place, write)?,
+    }
+    Ok(())
+}
+
+/// The place of the write to the same row, or else the one at which the write belongs.
+fn place_of(items: &[Write], write: &Write) -> Result<usize, usize>
+    ensures within { MatchResult result (λ place. place < length items.now) (λ place. place ≤ length items.now) }
+    ensures put { MatchResult result
+        (λ place. with_write items.now write.now ≡ slice_set items.now place write.now)
+        (λ place. with_write items.now write.now ≡ insert items.now place write.now) }
+{
+    for (place, there) in items.iter().enumerate() {
+        match there.order_of(write.map.as_slice(), write.key.as_slice()) {
+            Ordering::Less => return Err(place),
+            Ordering::Equal => return Ok(place),
+            Ordering::Greater => {}
+        }
+    }
+    Err(items.len())
+}
+
+/// Whether all writes are within the limits, as they always are.
+fn are_within(items: &[Write]) -> bool
+    ensures value { result ≡ list_all is_write items.now }
+    ensures always { IsTrue result }
+{
+    items.iter().all(|write| write.is_within())
 }

@@ -1,5 +1,5 @@
--- The words of a line, which stand apart by one space.
-use Rattle.std.specs.Prelude.{ℕ, List, [], Option, None, Some, Result, Ok, Err, Bool, ◌==◌, ◌&&◌, ◌||◌, nat_le, nat_eq, take, drop, length, codes, position, if◌then◌else◌}
+-- The words of a line, which stand apart by one space each.
+use Rattle.std.specs.Prelude.{ℕ, List, [], ◌∷◌, ◌++◌, Option, None, Some, Result, Ok, Err, Bool, ◌==◌, ◌&&◌, ◌||◌, nat_le, nat_eq, length, codes, if◌then◌else◌}
 use Rattle.std.specs.List.{list_all}
 use Rattle.std.specs.Cmp.Lexicographic.{pointwise}
 use Rattle.hex.specs.Hex.{decode_of, decode_sized}
@@ -7,17 +7,13 @@ use Rattle.hex.specs.Hex.{decode_of, decode_sized}
 abbrev pub is_space : ℕ → Bool
 is_space byte = byte == 32
 
--- A word, and what follows the space behind it, if there is one.
-pub record Cut : Type 0 where
-  pub word : List ℕ
-  pub rest : Option (List ℕ)
+-- The words of a line that goes on a word which has these bytes so far.
+abbrev pub words_from : List ℕ → List ℕ → List (List ℕ)
+words_from word [] = word ∷ []
+words_from word (byte ∷ bytes) = if is_space byte then word ∷ words_from [] bytes else words_from (word ++ byte ∷ []) bytes
 
-abbrev pub cut_at : List ℕ → Option ℕ → Cut
-cut_at text None = record { word = text; rest = None }
-cut_at text (Some i) = record { word = take i text; rest = Some (drop 1 (drop i text)) }
-
-abbrev pub first_word : List ℕ → Cut
-first_word text = cut_at text (position is_space text)
+abbrev pub words_of : List ℕ → List (List ℕ)
+words_of line = words_from [] line
 
 abbrev pub is : List ℕ → List ℕ → Bool
 is word name = pointwise nat_eq word name

@@ -6,7 +6,7 @@ use Rattle.std.proofs.lemmas.Bool.Decides.{eqb_tells}
 use Rattle.std.proofs.lemmas.List.{take_more, drop-append-le, length-take-le}
 use Rattle.std.proofs.Math.ListN.{drop_of_length-le}
 use Rattle.std.specs.Option.{option_map}
-use Rattle.ccfg.specs.Lines.{lines_from, is_newline}
+use Rattle.gl_lines.specs.Lines.{lines_from, is_newline}
 
 -- the lines that were read, and those to be read
 abbrev pub with_lines : List (List ℕ) → Option (List (List ℕ)) → Option (List (List ℕ))

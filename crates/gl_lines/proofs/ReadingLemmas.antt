@@ -1,11 +1,11 @@
 -- Reading the lines of a schedule one after another.
 use Rattle.std.proofs.Common.{◌≡◌, ℕ, ◌+◌, ◌<◌, List, [], ◌∷◌, ◌++◌, length, map, drop, get_or, Option, None, Some, refl, sym, ◌∙◌, ap, append_assoc, append-nil, Bor, ◌≤◌, add-one, drop-cons}
 use Rattle.std.proofs.Math.ListN.{drop_of_length-le}
-use Rattle.ccfg.specs.declared.stop.Stop.{Stop}
-use Rattle.ccfg.specs.declared.stop.Stop.TheVariants.{Memory, NoReading}
-use Rattle.ccfg.specs.Stops.{Stops}
-use Rattle.ccfg.specs.declared.schedule.Line.{Line}
-use Rattle.ccfg.specs.Reading.{line_of, commands_of, ◌>>=◌}
+use Rattle.gl_lines.specs.declared.stop.Stop.{Stop}
+use Rattle.gl_lines.specs.declared.stop.Stop.TheVariants.{Memory, NoReading}
+use Rattle.gl_lines.specs.Stops.{Stops}
+use Rattle.gl_lines.specs.declared.schedule.Line.{Line}
+use Rattle.gl_lines.specs.Reading.{line_of, commands_of, ◌>>=◌}
 
 -- the commands that were read, and those to be read
 abbrev pub with_commands : List Line → Option (List Line) → Option (List Line)

@@ -2,15 +2,15 @@
 
 ghost use Rattle.std.specs.Prelude.{◌≡◌, ◌++◌, [], ◌∷◌, map, Some, None, is_none, IfOk};
 ghost use Rattle.gl_service.specs.Single.{IsSingle};
-ghost use Rattle.ccfg.specs.Plans.{HasOneNode};
+ghost use Rattle.gl_lines.specs.Plans.{HasOneNode};
 ghost use Rattle.std.specs.Option.{option_map, option_copied};
 ghost use Rattle.std.specs.List.{list_all};
 ghost use Rattle.gl_base.specs.TxId.{parsed};
 ghost use Rattle.gl_store.specs.Name.{is_map_name, is_key, is_value};
 ghost use Rattle.gl_store.specs.Request.{barred};
-ghost use Rattle.ccfg.specs.Stops.{Gives};
-ghost use Rattle.ccfg.specs.Words.{first_word, is, is_lower_digit, hex_bytes, hex_sized, value_bytes};
-ghost use Rattle.ccfg.specs.Reading.{named, after, followed, at_node, alone, checked, unbarred, valid_put, key_and_value, submit_of, status_of, command_of, line_of, settings_from, settings_of, commands_of, schedule_of, reads};
+ghost use Rattle.gl_lines.specs.Stops.{Gives};
+ghost use Rattle.gl_lines.specs.Words.{first_word, is, is_lower_digit, hex_bytes, hex_sized, value_bytes};
+ghost use Rattle.gl_lines.specs.Reading.{named, after, followed, at_node, alone, checked, unbarred, valid_put, key_and_value, submit_of, status_of, command_of, line_of, settings_from, settings_of, commands_of, schedule_of, reads};
 
 use crate::schedule::{Commands, Line, Schedule};
 use crate::split::{first_word, lines_of};

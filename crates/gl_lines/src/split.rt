@@ -2,8 +2,8 @@
 
 ghost use Rattle.std.specs.Prelude.{◌≡◌, ◌+◌, IfOk, length, map, position, count_by};
 ghost use Rattle.std.specs.Option.{option_map, option_copied};
-ghost use Rattle.ccfg.specs.Lines.{is_newline, line_count, lines_of};
-ghost use Rattle.ccfg.specs.Words.{Cut, first_word, is_space, is};
+ghost use Rattle.gl_lines.specs.Lines.{is_newline, line_count, lines_of};
+ghost use Rattle.gl_lines.specs.Words.{Cut, first_word, is_space, is};
 
 use std::alloc::{AllocError, Global};
 

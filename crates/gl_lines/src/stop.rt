@@ -1,7 +1,7 @@
 //! Why a text was not read.
 
 ghost use Rattle.std.specs.Prelude.{◌≡◌};
-ghost use Rattle.ccfg.specs.declared.stop.Stop.TheVariants.{Memory};
+ghost use Rattle.gl_lines.specs.declared.stop.Stop.TheVariants.{Memory};
 
 use std::alloc::{AllocError, AllocFailed};
 
@@ -27,4 +27,13 @@ impl<T: Drop> From<AllocFailed<T>> for Stop {
     fn from(_e: AllocFailed<T>) -> Stop {
         Stop::Memory
     }
+}
+
+/// Why a text was not read whole.
+#[derive(Clone, Copy, Debug, PartialEq, Eq)]
+pub enum ReadError {
+    NoMemory,
+    /// The first line that says nothing, counted from 1. An open line, which has no newline, says
+    /// nothing.
+    BadLine(u64),
 }

@@ -1,5 +1,5 @@
-use Rattle.ccfg.proofs.ReadingLemmas.{read_step, stop_step, end_step}
-use Rattle.ccfg.proofs.reading.commands_of.Goals as goal
+use Rattle.gl_lines.proofs.ReadingLemmas.{read_step, stop_step, end_step}
+use Rattle.gl_lines.proofs.reading.commands_of.Goals as goal
 
 pub returns-in-Err : goal.returns-in-Err
 returns-in-Err c =

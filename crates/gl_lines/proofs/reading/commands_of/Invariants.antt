@@ -1,7 +1,7 @@
 use Rattle.std.proofs.Common.{◌≡◌, map, drop}
-use Rattle.ccfg.specs.Reading.{commands_of}
-use Rattle.ccfg.proofs.ReadingLemmas.{with_commands}
-use Rattle.ccfg.proofs.reading.commands_of.Given as goal
+use Rattle.gl_lines.specs.Reading.{commands_of}
+use Rattle.gl_lines.proofs.ReadingLemmas.{with_commands}
+use Rattle.gl_lines.proofs.reading.commands_of.Given as goal
 
 -- the commands so far and those of the other lines are those of all
 abbrev pub invariant-loop-line : goal.invariant-loop-line

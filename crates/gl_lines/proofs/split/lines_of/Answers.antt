@@ -1,8 +1,8 @@
 use Rattle.std.proofs.Common.{◌∷◌, [], List, ℕ, map, Bor, arith}
 use Rattle.std.proofs.lemmas.List.{map-append}
-use Rattle.ccfg.proofs.LineLemmas.{newline_step, other_step}
-use Rattle.ccfg.proofs.split.lines_of.Goals.{then-byte-eq10+in_ok-push, else-byte-eq10}
-use Rattle.ccfg.proofs.split.lines_of.Goals as goal
+use Rattle.gl_lines.proofs.LineLemmas.{newline_step, other_step}
+use Rattle.gl_lines.proofs.split.lines_of.Goals.{then-byte-eq10+in_ok-push, else-byte-eq10}
+use Rattle.gl_lines.proofs.split.lines_of.Goals as goal
 
 pub loop-i-preserved : goal.loop-i-preserved
 loop-i-preserved c = elim c.if-byte-eq10.branch [

@@ -1,7 +1,7 @@
 use Rattle.std.proofs.Common.{◌≡◌, ◌≤◌, map, drop, take}
-use Rattle.ccfg.specs.Lines.{lines_from, lines_of}
-use Rattle.ccfg.proofs.LineLemmas.{with_lines}
-use Rattle.ccfg.proofs.split.lines_of.Given as goal
+use Rattle.gl_lines.specs.Lines.{lines_from, lines_of}
+use Rattle.gl_lines.proofs.LineLemmas.{with_lines}
+use Rattle.gl_lines.proofs.split.lines_of.Given as goal
 
 -- the lines so far, and those of the rest behind the line that has begun, are the lines of the text
 abbrev pub invariant-loop-i : goal.invariant-loop-i

@@ -6,10 +6,10 @@ use Rattle.gl_service.specs.declared.settings.Settings.{Settings}
 use Rattle.gl_service.specs.Founding.{id_of}
 use Rattle.gl_service.specs.Single.{IsSingle, AreLocal}
 use Rattle.gl_service.proofs.Single.{headline}
-use Rattle.ccfg.specs.declared.schedule.Line.{Line}
-use Rattle.ccfg.specs.declared.schedule.Line.TheVariants.{Submit, Reserve, Sign, Advance, Status}
-use Rattle.ccfg.specs.declared.schedule.Schedule.TheVariants.{Service}
-use Rattle.ccfg.specs.Lines.{lines_of}
+use Rattle.gl_lines.specs.declared.schedule.Line.{Line}
+use Rattle.gl_lines.specs.declared.schedule.Line.TheVariants.{Submit, Reserve, Sign, Advance, Status}
+use Rattle.gl_lines.specs.declared.schedule.Schedule.TheVariants.{Service}
+use Rattle.gl_lines.specs.Lines.{lines_of}
 use Rattle.ccfg.specs.Words.{hex_sized}
 use Rattle.ccfg.specs.Reading.{◌>>=◌, settings_from, settings_of, commands_of, schedule_of, reads, world_words}
 use Rattle.ccfg.specs.Owed.{KeepsHeadline}

@@ -13,12 +13,12 @@ use Rattle.gl_rules.specs.Requests.{submit, reserve, sign, signs, signed, signs_
 use Rattle.gl_rules.specs.Replication.{advance, commits}
 use Rattle.gl_rules.specs.Log.{entry_at}
 use Rattle.gl_rules.specs.World.{leader_at_start}
-use Rattle.gl_store.specs.Entry.{is_signature}
+use Rattle.gl_entry.specs.Entry.{is_signature}
 use Rattle.gl_store.specs.Kept.{IsUpTo}
 use Rattle.gl_store.specs.Ledger.{Held, Executes, executed, signature_entry, signature_place, last_signature, IsSignedAt}
-use Rattle.gl_store.specs.declared.entry.Entry.{Entry}
-use Rattle.gl_store.specs.declared.request.Operation.{Operation}
-use Rattle.gl_store.specs.declared.request.Answer.{Answer}
+use Rattle.gl_entry.specs.declared.entry.Entry.{Entry}
+use Rattle.gl_tx.specs.declared.request.Operation.{Operation}
+use Rattle.gl_tx.specs.declared.request.Answer.{Answer}
 use Rattle.gl_store.specs.declared.refusal.Refusal.{Refusal}
 use Rattle.gl_store.proofs.Applications.{executed_ok}
 use Rattle.gl_service.specs.declared.settings.Settings.{Settings}

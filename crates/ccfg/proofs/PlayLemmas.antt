@@ -9,8 +9,8 @@ use Rattle.gl_rules.specs.World as event
 use Rattle.gl_rules.specs.Requests.{submit, reserve, sign}
 use Rattle.gl_rules.specs.Replication.{advance}
 use Rattle.gl_rules.specs.Safety.{reported}
-use Rattle.gl_store.specs.declared.entry.Entry.{Entry}
-use Rattle.gl_store.specs.declared.request.Operation.{Operation}
+use Rattle.gl_entry.specs.declared.entry.Entry.{Entry}
+use Rattle.gl_tx.specs.declared.request.Operation.{Operation}
 use Rattle.gl_service.specs.declared.settings.Settings.{Settings}
 use Rattle.gl_service.specs.Founding.{id_of}
 use Rattle.gl_service.specs.Service.{Given, Unmade, ServiceWorld, ServiceEvent, service_book}
@@ -18,7 +18,7 @@ use Rattle.gl_service.proofs.Ids.{same_itself}
 use Rattle.ccfg.specs.declared.machine.Machine.{Machine}
 use Rattle.ccfg.specs.declared.outcome.Outcome as outcomes
 use Rattle.ccfg.specs.declared.outcome.Answered.TheVariants as answered
-use Rattle.ccfg.specs.declared.schedule.Line.TheVariants as line
+use Rattle.gl_lines.specs.declared.schedule.Line.TheVariants as line
 use Rattle.ccfg.specs.Machine.{node_in, seen, IsMachine, Steps}
 use Rattle.ccfg.specs.Text.{outcome_text, sent_text, new_messages, printed_event}
 use Rattle.ccfg.specs.Playing.{IsIn, Prints}

@@ -10,9 +10,9 @@ use Rattle.ccfg.specs.declared.ending.Fault.{Fault}
 use Rattle.ccfg.specs.declared.ending.Fault.TheVariants as faults
 use Rattle.ccfg.specs.declared.ending.Ending.{Ending}
 use Rattle.ccfg.specs.declared.ending.Ending.TheVariants.{Done, Refused, SourceFailed, SinkFailed, Memory}
-use Rattle.ccfg.specs.declared.schedule.Schedule.{Schedule}
-use Rattle.ccfg.specs.Lines.{line_count}
-use Rattle.ccfg.specs.Reading.{reads}
+use Rattle.gl_lines.specs.declared.schedule.Schedule.{Schedule}
+use Rattle.gl_lines.specs.Lines.{line_count}
+use Rattle.ccfg.specs.Schedules.{reads}
 use Rattle.ccfg.specs.Text.{text_of_schedule}
 use Rattle.ccfg.specs.Owed.{fault_line, exit_status, bytes_limit, lines_limit, Due, refused, of_reading, owed, Writes, Run, Owes, AreWords, Answers}
 use Rattle.ccfg.specs.Promises.{HasTooManyBytes, HasTooManyLines, PassesLimit, IsWithinLimits, HasNoReading, ReadsAs, HasReading, WritesText, TellsLimit, TellsNoReading}

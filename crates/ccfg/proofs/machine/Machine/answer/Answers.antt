@@ -1,6 +1,6 @@
 use Rattle.std.proofs.Common.{subst, sym}
 use Rattle.ccfg.specs.Playing.{Prints}
-use Rattle.ccfg.specs.declared.schedule.Line.{Line}
+use Rattle.gl_lines.specs.declared.schedule.Line.{Line}
 use Rattle.ccfg.specs.declared.outcome.Answered.TheVariants.{Event}
 use Rattle.ccfg.proofs.PlayLemmas.{prints_submit, prints_reserve, prints_sign, prints_advance}
 use Rattle.ccfg.proofs.machine.Machine.answer.Goals as goal

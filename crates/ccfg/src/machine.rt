@@ -64,6 +64,7 @@ impl Machine {
         ensures steps { IfOk result (λ outcome. Steps (submit service_book request.now (node_in self.old)) self.new outcome) }
         ensures goes_on { OnOk result (GoesOn self.old self.new) }
     {
+        let _operations = request.as_slice();
         match self.store.execute(VIEW, request) {
             Ok((id, reply)) => Ok(Outcome::Accepted(id, reply)),
             Err(StoreError::Refused(why)) => Ok(Outcome::Refused(Refusal::Store(why))),

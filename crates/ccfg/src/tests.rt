@@ -264,7 +264,7 @@ fn refuses_what_is_too_large(rt: HostRuntime) -> Result<(), Fail> {
     let (status, written) = run(alloc, &["replay"], &text)?;
     assert_eq!(rt; status, 0);
     let due: &[u8] =
-        b"1 ok\n2 accepted 2.3 done\n3 refused 119 1114480\n4 refused 119 1048658\n";
+        b"1 ok\n2 accepted 2.3 done\n3 refused 119 1114456\n4 refused 119 1048658\n";
     assert_eq!(rt; written.as_slice(), due);
     Ok(())
 }

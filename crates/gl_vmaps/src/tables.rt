@@ -57,10 +57,8 @@ fn push_all(
     ensures kept { take (vec_len changes.old) changes.new.items ≡ changes.old.items }
 {
     for write in writes {
-        changes.push(Change {
-            place,
-            write: write.copy(alloc)?,
-        })?;
+        let write = write.copy(alloc)?;
+        changes.push(Change { place, write })?;
     }
     Ok(())
 }

@@ -1,5 +1,5 @@
 -- Requests and replies: what is spelled so is read, what is read is spelled so, and how long the spelling is.
-use Rattle.std.proofs.Common.{◌≡◌, ℕ, ◌+◌, ◌^◌, ◌<◌, ◌≤◌, true, ◌&&◌, nat_le, List, [], ◌∷◌, ◌++◌, length, Option, None, Some, Result, Ok, refl, length-append, arith}
+use Rattle.std.proofs.Common.{◌≡◌, ℕ, ◌+◌, ◌^◌, ◌<◌, ◌≤◌, true, ◌&&◌, nat_le, List, ◌++◌, length, Option, None, Some, Ok, length-append, arith}
 use Rattle.std.specs.List.{list_all}
 use Rattle.std.proofs.lemmas.Bool.{and_parts, leb-true}
 use Rattle.gl_base.specs.LittleEndian.{little_endian, AreBytes}
@@ -9,7 +9,7 @@ use Rattle.gl_vmaps.specs.Name.{is_name_byte, is_map_name, is_key, is_value}
 use Rattle.gl_vmaps.specs.Writes.{is_written_value}
 use Rattle.gl_vmaps.specs.Fields.{map_bytes, key_bytes, value_bytes, optional_value_bytes}
 use Rattle.gl_tx.specs.Request.{is_row, is_u64, is_operation, is_request, is_answer, is_reply, operation_bytes, request_bytes, answer_bytes, reply_bytes}
-use Rattle.gl_tx.specs.Reading.{operations_at, request_at, request_of, answers_at, reply_at, reply_of}
+use Rattle.gl_tx.specs.Reading.{request_at, request_of, reply_at, reply_of}
 use Rattle.gl_tx.specs.declared.request.Operation.{Operation}
 use Rattle.gl_tx.specs.declared.request.Operation.TheVariants.{Get, Has, Put, Remove, Add, Check, Follow, Size}
 use Rattle.gl_tx.specs.declared.request.Answer.{Answer}

@@ -1,6 +1,6 @@
 pub mod Readings
 pub mod Repeated
-pub mod FieldLaws
+pub mod Fields
 pub mod Operations
 pub mod Replies
 pub mod Formats

@@ -1,5 +1,5 @@
 -- What an operation is spelled as reads back, and what reads is spelled so.
-use Rattle.std.proofs.Common.{◌≡◌, ℕ, ◌+◌, Bool, true, cond, ◌&&◌, ◌==◌, List, [], ◌∷◌, ◌++◌, Result, Ok, refl, sym, ap, subst, ◌∙◌, append_assoc, inl, inr}
+use Rattle.std.proofs.Common.{◌≡◌, ℕ, ◌+◌, Bool, true, cond, ◌&&◌, ◌==◌, List, ◌∷◌, ◌++◌, Result, Ok, refl, sym, ap, subst, ◌∙◌, append_assoc, inl, inr}
 use Rattle.std.proofs.lemmas.Bool.{and_parts, and_from, eqb-true}
 use Rattle.gl_base.specs.LittleEndian.{little_endian, AreBytes}
 use Rattle.gl_base.specs.Steps.{◌>>=◌}
@@ -10,13 +10,14 @@ use Rattle.gl_base.proofs.Steps.{bind_ok, ok_injective}
 use Rattle.gl_vmaps.specs.Name.{is_map_name, is_key, is_value}
 use Rattle.gl_vmaps.specs.Writes.{is_written_value}
 use Rattle.gl_vmaps.specs.Fields.{map_bytes, key_bytes, value_bytes, optional_value_bytes, map_at, key_at, value_at, optional_value_at}
+use Rattle.gl_vmaps.proofs.FieldLaws.{field_ok, flag-took}
 use Rattle.gl_tx.specs.Request.{is_u64, is_row, is_operation, operation_bytes}
 use Rattle.gl_tx.specs.Reading.{row_at, get_at, has_at, put_at, remove_at, add_at, check_at, follow_at, size_at, operation_behind, operation_at, operations_at}
 use Rattle.gl_tx.specs.declared.request.Operation.{Operation}
 use Rattle.gl_tx.specs.declared.request.Operation.TheVariants.{Get, Has, Put, Remove, Add, Check, Follow, Size}
-use Rattle.gl_tx.proofs.Readings.{Spelled, IsSpelled, Gets, IsRead, both_parts, bytes_left, field_ok, chosen}
+use Rattle.gl_tx.proofs.Readings.{Spelled, IsSpelled, Gets, IsRead, both_parts, bytes_left, chosen}
 use Rattle.gl_tx.proofs.Repeated.{Repeats}
-use Rattle.gl_tx.proofs.FieldLaws.{byte_taken, byte_read, u64-spelled, u64-read, map-spelled, map-read, key-spelled, key-read, value-spelled, value-read, optional-spelled, optional-read}
+use Rattle.gl_tx.proofs.Fields.{tag_read, u64-spelled, u64-read, map-spelled, map-read, key-spelled, key-read, value-spelled, value-read, optional-spelled, optional-read}
 
 pub operations_repeat : Repeats operation_at operations_at
 unfolding operations_at
@@ -173,10 +174,9 @@ pub operation-spelled : IsSpelled operation_at operation_bytes is_operation
 unfolding operation_at
 operation-spelled old new o all e =
     let tag = bind_ok {A = ℕ × Unread} {B = Operation × Unread} {E = CodeFault} (field (number_at 1 old)) (operation_behind old.at) (o, new) e in
-    let taken = byte_taken tag.0.0 old tag.0.1 (field_ok (number_at 1 old) tag.0 tag.1) in
-    let left = bytes_left old.bytes (tag.0.0 ∷ []) tag.0.1.bytes all taken in
-    let behind = behind_tag old.at tag.0.0 tag.0.1 new o left tag.2 in
-    let parts : old.bytes ≡ operation_bytes o ++ new.bytes = taken ∙ behind.0 in
+    let flag = flag-took tag.0.0 old tag.0.1 all (field_ok (number_at 1 old) tag.0 tag.1) in
+    let behind = behind_tag old.at tag.0.0 tag.0.1 new o flag.rest tag.2 in
+    let parts : old.bytes ≡ operation_bytes o ++ new.bytes = flag.bytes ∙ behind.0 in
     record { parts = parts; left = bytes_left old.bytes (operation_bytes o) new.bytes all parts; limits = behind.1 }
 
 -- ---- what is spelled so is read
@@ -199,25 +199,25 @@ pub operation-read : IsRead operation_at operation_bytes is_operation
 unfolding operation_at get_at has_at put_at remove_at add_at check_at follow_at size_at
 operation-read at (Get map key) rest is =
     let row = row-read (at + 1) (map, key) rest is in
-    record { place = row.place; read = rw (byte_read at 1 (row_bytes (map, key) ++ rest), row.read) refl }
+    record { place = row.place; read = rw (tag_read at 1 (row_bytes (map, key) ++ rest), row.read) refl }
 operation-read at (Has map key) rest is =
     let row = row-read (at + 1) (map, key) rest is in
-    record { place = row.place; read = rw (byte_read at 2 (row_bytes (map, key) ++ rest), row.read) refl }
+    record { place = row.place; read = rw (tag_read at 2 (row_bytes (map, key) ++ rest), row.read) refl }
 operation-read at (Put map key value) rest is =
     let all = row_and_read value_at value_bytes is_value Put value-read (at + 1) map key value rest is in
-    record { place = all.place; read = rw (byte_read at 3 ((row_bytes (map, key) ++ value_bytes value) ++ rest)) all.read }
+    record { place = all.place; read = rw (tag_read at 3 ((row_bytes (map, key) ++ value_bytes value) ++ rest)) all.read }
 operation-read at (Remove map key) rest is =
     let row = row-read (at + 1) (map, key) rest is in
-    record { place = row.place; read = rw (byte_read at 4 (row_bytes (map, key) ++ rest), row.read) refl }
+    record { place = row.place; read = rw (tag_read at 4 (row_bytes (map, key) ++ rest), row.read) refl }
 operation-read at (Add map key amount) rest is =
     let all = row_and_read (λ unread. field (number_at 8 unread)) (little_endian 8) is_u64 Add u64-read (at + 1) map key amount rest is in
-    record { place = all.place; read = rw (byte_read at 5 ((row_bytes (map, key) ++ little_endian 8 amount) ++ rest)) all.read }
+    record { place = all.place; read = rw (tag_read at 5 ((row_bytes (map, key) ++ little_endian 8 amount) ++ rest)) all.read }
 operation-read at (Check map key expected) rest is =
     let all = row_and_read optional_value_at optional_value_bytes is_written_value Check optional-read (at + 1) map key expected rest is in
-    record { place = all.place; read = rw (byte_read at 6 ((row_bytes (map, key) ++ optional_value_bytes expected) ++ rest)) all.read }
+    record { place = all.place; read = rw (tag_read at 6 ((row_bytes (map, key) ++ optional_value_bytes expected) ++ rest)) all.read }
 operation-read at (Follow map key target) rest is =
     let all = row_and_read map_at map_bytes is_map_name Follow map-read (at + 1) map key target rest is in
-    record { place = all.place; read = rw (byte_read at 7 ((row_bytes (map, key) ++ map_bytes target) ++ rest)) all.read }
+    record { place = all.place; read = rw (tag_read at 7 ((row_bytes (map, key) ++ map_bytes target) ++ rest)) all.read }
 operation-read at (Size map) rest is =
     let name = map-read (at + 1) map rest is in
-    record { place = name.place; read = rw (byte_read at 8 (map_bytes map ++ rest), name.read) refl }
+    record { place = name.place; read = rw (tag_read at 8 (map_bytes map ++ rest), name.read) refl }

@@ -4,14 +4,13 @@ use Rattle.std.proofs.lemmas.Bool.{eqb-true}
 use Rattle.std.proofs.lemmas.List.{append-nil, nil_from_length}
 use Rattle.gl_base.specs.LittleEndian.{AreBytes}
 use Rattle.gl_base.specs.Cut.{Unread}
-use Rattle.gl_base.specs.Code.{field, unread_of, ended, whole, Decodes}
-use Rattle.gl_base.specs.declared.cut_fault.CutFault.{CutFault}
+use Rattle.gl_base.specs.Code.{unread_of, ended, whole, Decodes}
 use Rattle.gl_base.specs.declared.code_fault.CodeFault.{CodeFault}
 use Rattle.gl_base.specs.declared.code_fault.CodeFault.TheVariants.{Trailing}
 use Rattle.gl_base.specs.declared.code_fault.CodeError.{CodeError}
-use Rattle.gl_base.specs.Steps.{◌>>=◌}
 use Rattle.gl_base.proofs.Steps.{bind_ok, ok_injective}
 use Rattle.gl_vmaps.proofs.Bytes.{AreBytes-behind}
+use Rattle.gl_vmaps.proofs.FieldLaws.{Took}
 
 -- A value was read from the front of bytes that spell it, and is within its limits. What is left are bytes.
 pub record Spelled {X : Type 0} (bytes : X → List ℕ) (is : X → Bool) (old : Unread) (x : X) (new : Unread) : Type 0 where
@@ -39,10 +38,8 @@ both_parts all x behind_x y rest first second = first ∙ ap (λ (ys : List ℕ)
 pub bytes_left : (all x rest : List ℕ) → AreBytes all → all ≡ x ++ rest → AreBytes rest
 bytes_left all x rest bytes parts = AreBytes-behind x rest (subst AreBytes parts bytes)
 
--- A field that was read as a part of a value.
-pub field_ok : {X : Type 0} → (read : Result X CutFault) (x : X) → field read ≡ Ok x → read ≡ Ok x
-field_ok (Ok y) x e = cc
-field_ok (Err fault) x e = cc
+pub taken : {X : Type 0} → (bytes : X → List ℕ) (is : X → Bool) (old new : Unread) (x : X) → Took (bytes x) (is x) old new → Spelled bytes is old x new
+taken bytes is old new x took = record { parts = took.bytes; left = took.rest; limits = took.valid }
 
 -- what one of two choices gave
 pub chosen : {A : Type 0} → (b : Bool) (x y z : A) → cond b x y ≡ z → ((b ≡ true) × (x ≡ z)) ⊎ ((b ≡ false) × (y ≡ z))

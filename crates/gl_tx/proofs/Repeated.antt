@@ -16,9 +16,10 @@ use Rattle.gl_base.proofs.Steps.{bind_ok, ok_injective}
 use Rattle.gl_base.proofs.LittleEndianLaws.{length-little_endian}
 use Rattle.gl_base.proofs.Fields.{number_at-spelled, number_spelled}
 use Rattle.gl_vmaps.proofs.Bytes.{AreBytes-take}
+use Rattle.gl_vmaps.proofs.FieldLaws.{field_ok}
 use Rattle.gl_tx.specs.Request.{is_count}
 use Rattle.gl_tx.specs.Reading.{counted, count_at}
-use Rattle.gl_tx.proofs.Readings.{Spelled, IsSpelled, Gets, IsRead, both_parts, bytes_left, field_ok, chosen}
+use Rattle.gl_tx.proofs.Readings.{Spelled, IsSpelled, Gets, IsRead, both_parts, bytes_left, chosen}
 
 -- The second reads what the first does, so many times.
 pub record Repeats {X : Type 0} (one : Unread → Result (X × Unread) CodeFault) (many : ℕ → Unread → Result (List X × Unread) CodeFault) : Type 0 where

@@ -2,20 +2,20 @@
 use Rattle.std.proofs.Common.{◌≡◌, ℕ, ◌+◌, true, cond, ◌==◌, List, [], ◌∷◌, ◌++◌, Result, Ok, refl, sym, ap, subst, ◌∙◌, inl, inr}
 use Rattle.std.proofs.lemmas.Bool.{eqb-true}
 use Rattle.gl_base.specs.LittleEndian.{AreBytes}
-use Rattle.gl_base.specs.Steps.{◌>>=◌}
 use Rattle.gl_base.specs.Cut.{Unread, number_at}
 use Rattle.gl_base.specs.Code.{field}
 use Rattle.gl_base.specs.declared.code_fault.CodeFault.{CodeFault}
 use Rattle.gl_base.proofs.Steps.{bind_ok, ok_injective}
 use Rattle.gl_vmaps.specs.Fields.{value_bytes, value_at}
 use Rattle.gl_base.specs.LittleEndian.{little_endian}
+use Rattle.gl_vmaps.proofs.FieldLaws.{field_ok, flag-took}
 use Rattle.gl_tx.specs.Request.{is_answer, answer_bytes}
 use Rattle.gl_tx.specs.Reading.{value_answer_at, number_answer_at, answer_behind, answer_at, answers_at}
 use Rattle.gl_tx.specs.declared.request.Answer.{Answer}
 use Rattle.gl_tx.specs.declared.request.Answer.TheVariants as answers
-use Rattle.gl_tx.proofs.Readings.{Spelled, IsSpelled, Gets, IsRead, bytes_left, field_ok, chosen}
+use Rattle.gl_tx.proofs.Readings.{IsSpelled, IsRead, bytes_left, chosen}
 use Rattle.gl_tx.proofs.Repeated.{Repeats}
-use Rattle.gl_tx.proofs.FieldLaws.{byte_taken, byte_read, u64-spelled, u64-read, value-spelled, value-read}
+use Rattle.gl_tx.proofs.Fields.{tag_read, u64-spelled, u64-read, value-spelled, value-read}
 
 pub answers_repeat : Repeats answer_at answers_at
 unfolding answers_at
@@ -74,21 +74,20 @@ pub answer-spelled : IsSpelled answer_at answer_bytes is_answer
 unfolding answer_at
 answer-spelled old new answer all e =
     let tag = bind_ok {A = ℕ × Unread} {B = Answer × Unread} {E = CodeFault} (field (number_at 1 old)) (answer_behind old.at) (answer, new) e in
-    let taken = byte_taken tag.0.0 old tag.0.1 (field_ok (number_at 1 old) tag.0 tag.1) in
-    let left = bytes_left old.bytes (tag.0.0 ∷ []) tag.0.1.bytes all taken in
-    let behind = behind_tag old.at tag.0.0 tag.0.1 new answer left tag.2 in
-    let parts : old.bytes ≡ answer_bytes answer ++ new.bytes = taken ∙ behind.0 in
+    let flag = flag-took tag.0.0 old tag.0.1 all (field_ok (number_at 1 old) tag.0 tag.1) in
+    let behind = behind_tag old.at tag.0.0 tag.0.1 new answer flag.rest tag.2 in
+    let parts : old.bytes ≡ answer_bytes answer ++ new.bytes = flag.bytes ∙ behind.0 in
     record { parts = parts; left = bytes_left old.bytes (answer_bytes answer) new.bytes all parts; limits = behind.1 }
 
 pub answer-read : IsRead answer_at answer_bytes is_answer
 unfolding answer_at
-answer-read at answers.Done rest is = record { place = at + 1; read = rw (byte_read at 0 rest) refl }
-answer-read at answers.None rest is = record { place = at + 1; read = rw (byte_read at 1 rest) refl }
+answer-read at answers.Done rest is = record { place = at + 1; read = rw (tag_read at 0 rest) refl }
+answer-read at answers.None rest is = record { place = at + 1; read = rw (tag_read at 1 rest) refl }
 answer-read at (answers.Value value) rest is =
     let all = value-read (at + 1) value rest is in
-    record { place = all.place; read = rw (byte_read at 2 (value_bytes value ++ rest), all.read) refl }
-answer-read at answers.No rest is = record { place = at + 1; read = rw (byte_read at 3 rest) refl }
-answer-read at answers.Yes rest is = record { place = at + 1; read = rw (byte_read at 4 rest) refl }
+    record { place = all.place; read = rw (tag_read at 2 (value_bytes value ++ rest), all.read) refl }
+answer-read at answers.No rest is = record { place = at + 1; read = rw (tag_read at 3 rest) refl }
+answer-read at answers.Yes rest is = record { place = at + 1; read = rw (tag_read at 4 rest) refl }
 answer-read at (answers.Number number) rest is =
     let all = u64-read (at + 1) number rest is in
-    record { place = all.place; read = rw (byte_read at 5 (little_endian 8 number ++ rest), all.read) refl }
+    record { place = all.place; read = rw (tag_read at 5 (little_endian 8 number ++ rest), all.read) refl }

@@ -1,9 +1,9 @@
 //! Requests and replies read from bytes.
 
 ghost use Rattle.std.specs.Prelude.{◌≡◌, List, IsTrue, IfOk, Ok};
-ghost use Rattle.gl_base.specs.Code.{Reads, Decodes};
+ghost use Rattle.gl_base.specs.Code.{Reads, Decodes, ended};
 ghost use Rattle.gl_tx.specs.Request.{is_request, is_reply, request_bytes, reply_bytes};
-ghost use Rattle.gl_tx.specs.Reading.{row_at, get_at, has_at, put_at, remove_at, add_at, check_at, follow_at, size_at, operation_at, operations_at, count_at, request_at, request_of, value_answer_at, number_answer_at, answer_at, answers_at, reply_at, reply_of};
+ghost use Rattle.gl_tx.specs.Reading.{row_at, get_at, has_at, put_at, remove_at, add_at, check_at, follow_at, size_at, operation_at, operations_at, count_at, request_at, request_of, answer_at, answers_at, reply_at, reply_of};
 ghost use Rattle.gl_tx.specs.declared.request.Operation.{Operation};
 ghost use Rattle.gl_tx.specs.declared.request.Answer.{Answer};
 
@@ -136,6 +136,17 @@ fn read_count(cut: &mut Cut<'_>) -> Result<u16, CodeError>
     Ok(count)
 }
 
+/// Nothing may be left over.
+fn check_end(cut: &Cut<'_>) -> Result<(), CodeError>
+    ensures { Decodes (λ nothing. nothing) result (ended (tt, cut.now)) }
+{
+    if cut.rest().is_empty() {
+        Ok(())
+    } else {
+        Err(CodeError::Fault(CodeFault::Trailing { at: cut.at() }))
+    }
+}
+
 #[tactic(auto, unfolding(crate::specs::Reading::request_at))]
 fn read_request(alloc: Global, cut: &mut Cut<'_>) -> Result<Vec<Operation>, CodeError>
     ensures { Reads (λ operations. operations.items) result cut.new (request_at cut.old) }
@@ -149,9 +160,7 @@ fn read_whole_request(alloc: Global, bytes: &[u8]) -> Result<Request, CodeError>
 {
     let mut cut = Cut::new(bytes);
     let operations = read_request(alloc, &mut cut)?;
-    if !cut.rest().is_empty() {
-        return Err(CodeError::Fault(CodeFault::Trailing { at: cut.at() }));
-    }
+    check_end(&cut)?;
     Ok(Request::of(operations))
 }
 
@@ -209,9 +218,7 @@ fn read_whole_reply(alloc: Global, bytes: &[u8]) -> Result<Reply, CodeError>
 {
     let mut cut = Cut::new(bytes);
     let answers = read_reply(alloc, &mut cut)?;
-    if !cut.rest().is_empty() {
-        return Err(CodeError::Fault(CodeFault::Trailing { at: cut.at() }));
-    }
+    check_end(&cut)?;
     Ok(Reply::of(answers))
 }
 

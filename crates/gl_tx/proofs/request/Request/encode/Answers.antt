@@ -1,4 +1,4 @@
-use Rattle.std.proofs.Common.{◌≡◌, rules, append_assoc}
+use Rattle.std.proofs.Common.{◌≡◌, rules}
 use Rattle.gl_tx.specs.Request.{request_bytes}
 use Rattle.gl_tx.proofs.Formats.{request_bytes-few}
 use Rattle.gl_tx.proofs.request.Request.encode.Goals as goal

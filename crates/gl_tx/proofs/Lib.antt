@@ -2,3 +2,9 @@ pub mod Writing
 pub mod Sizes
 pub mod Values
 pub mod RunLaws
+pub mod Readings
+pub mod Repeated
+pub mod FieldLaws
+pub mod Operations
+pub mod Replies
+pub mod Formats

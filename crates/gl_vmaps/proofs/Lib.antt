@@ -5,3 +5,4 @@ pub mod TablesLaws
 pub mod Changes
 pub mod Sizes
 pub mod WriteLaws
+pub mod FieldLaws

@@ -1,5 +1,5 @@
 use Rattle.std.proofs.Common.{◌≤◌}
-use Rattle.ccfg.specs.declared.schedule.Schedule.TheVariants.{Service}
+use Rattle.gl_lines.specs.declared.schedule.Schedule.TheVariants.{Service}
 use Rattle.ccfg.specs.Text.{text_of_schedule}
 use Rattle.ccfg.proofs.Played.{Played}
 use Rattle.ccfg.proofs.playing.play.Given as goal

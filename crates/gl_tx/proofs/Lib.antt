@@ -1,5 +1,4 @@
 pub mod Writing
-pub mod Sizes
 pub mod Values
 pub mod RunLaws
 pub mod Readings

@@ -2,6 +2,5 @@ pub mod Request
 pub mod Run
 pub mod Reading
 pub mod Runs
-pub mod OwnWrites
 pub mod Overlay
 pub mod Performs

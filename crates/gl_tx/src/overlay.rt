@@ -1,12 +1,12 @@
 //! The tables that an operation of a request sees.
 
-ghost use Rattle.std.specs.Prelude.{◌≡◌, ◌≤◌, length, count_by, IsTrue, IfSome};
+ghost use Rattle.std.specs.Prelude.{◌≡◌, ◌≤◌, length, IsTrue, IfSome};
 ghost use Rattle.std.specs.Option.{option_copied};
 ghost use Rattle.gl_vmaps.specs.Name.{is_value};
 ghost use Rattle.gl_vmaps.specs.Writes.{is_ordered};
 ghost use Rattle.gl_vmaps.specs.Versions.{written_by, is_to_map, is_to_row};
 ghost use Rattle.gl_vmaps.specs.Scan.{last_write};
-ghost use Rattle.gl_tx.specs.OwnWrites.{gains, loses};
+ghost use Rattle.gl_vmaps.specs.Growth.{gains, loses, gained, lost};
 
 use gl_vmaps::{Tables, Write, Writes};
 use std::alloc::{AllocError, Global};
@@ -119,7 +119,7 @@ fn loses(tables: &Tables, map: &[u8], write: &Write) -> bool
 
 /// The number of keys of a map that the writes add.
 fn gained(tables: &Tables, map: &[u8], writes: &[Write]) -> usize
-    ensures { result ≡ count_by (gains (written_by tables.now) map.now) writes.now }
+    ensures { result ≡ gained (written_by tables.now) map.now writes.now }
 {
     writes
         .iter()
@@ -129,7 +129,7 @@ fn gained(tables: &Tables, map: &[u8], writes: &[Write]) -> usize
 
 /// The number of keys of a map that the writes remove.
 fn lost(tables: &Tables, map: &[u8], writes: &[Write]) -> usize
-    ensures { result ≡ count_by (loses (written_by tables.now) map.now) writes.now }
+    ensures { result ≡ lost (written_by tables.now) map.now writes.now }
 {
     writes
         .iter()

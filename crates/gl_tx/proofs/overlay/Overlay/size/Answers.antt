@@ -1,7 +1,7 @@
 -- The writes add as many keys to those of the tables as they gain, and take as many as they lose.
 use Rattle.std.proofs.Common.{arith}
 use Rattle.gl_vmaps.specs.Versions.{written_by}
-use Rattle.gl_tx.proofs.Sizes.{size_of-counted}
+use Rattle.gl_tx.proofs.Writing.{size_of-counted}
 use Rattle.gl_tx.proofs.overlay.Overlay.size.Goals as goal
 
 pub overflow_sub-result : goal.overflow_sub-result

@@ -1,3 +1,6 @@
+pub mod Writing
+pub mod Values
+pub mod RunLaws
 pub mod Readings
 pub mod Repeated
 pub mod Fields

@@ -5,11 +5,12 @@
 mod decoding;
 mod encoding;
 mod overlay;
+mod perform;
 mod request;
-mod run;
+mod running;
 
 pub use request::{Abort, Answer, Cause, Operation, Reply, Request};
-pub use run::{Ran, RunError, run};
+pub use running::{Ran, RunError, run};
 
 #[cfg(test)]
 mod tests;

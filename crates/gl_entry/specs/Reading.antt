@@ -1,12 +1,12 @@
 -- Entries read from bytes, and the first fault from the left.
-use Rattle.std.specs.Prelude.{ℕ, zero, suc, ◌+◌, List, [], ◌∷◌, ◌++◌, Option, None, Some, Result, Ok, Err, Bool, not, ◌||◌, length, nat_lt, nat_le, ◌==◌, if◌then◌else◌}
+use Rattle.std.specs.Prelude.{ℕ, zero, suc, ◌+◌, List, [], ◌∷◌, Option, None, Some, Result, Ok, Err, Bool, true, ◌&&◌, ◌||◌, nat_le, ◌==◌, if◌then◌else◌}
 use Rattle.gl_base.specs.Steps.{◌>>=◌}
 use Rattle.gl_base.specs.Cut.{Unread, number_at, bytes_at, string_at}
 use Rattle.gl_base.specs.Code.{field, ended, unread_of}
 use Rattle.gl_base.specs.declared.code_fault.CodeFault.{CodeFault}
 use Rattle.gl_base.specs.declared.code_fault.CodeFault.TheVariants as codes
 use Rattle.gl_base.specs.declared.cut_fault.CutFault.{CutFault}
-use Rattle.gl_vmaps.specs.Writes.{stands_before, is_less, row_order}
+use Rattle.gl_vmaps.specs.Writes.{is_less, row_order}
 use Rattle.gl_vmaps.specs.Fields.{map_at, key_at, optional_value_at}
 use Rattle.gl_vmaps.specs.declared.write.Write.{Write}
 use Rattle.gl_entry.specs.Entry.{body_limit, may_write, may_claim, is_no_digest}

@@ -3,10 +3,13 @@
 #![tactic(auto)]
 
 mod bytes;
+mod contents;
+mod decoding;
 mod encoding;
 mod entry;
 mod fault;
 mod leaves;
+mod reading;
 
 pub use bytes::Bytes;
 pub use entry::{Content, Digest, Entry, NodeId, Signature};

@@ -1,8 +1,8 @@
 -- The writes that are read are in order.
-use Rattle.std.proofs.Common.{◌≡◌, ℕ, zero, suc, Bool, true, false, cond, ◌&&◌, List, [], ◌∷◌, Option, None, Some, Result, Ok, Err, refl, sym, ap, subst, ◌∙◌}
+use Rattle.std.proofs.Common.{◌≡◌, ℕ, zero, suc, Bool, true, false, List, [], ◌∷◌, Option, None, Some, Result, Ok, Err, refl, sym, ap, subst, ◌∙◌}
 use Rattle.std.proofs.lemmas.Bool.{and_from}
 use Rattle.gl_base.specs.Cut.{Unread}
-use Rattle.gl_base.specs.Steps.{◌>>=◌}
+use Rattle.gl_base.specs.declared.code_fault.CodeFault.{CodeFault}
 use Rattle.gl_base.proofs.Steps.{bind_ok, ok_injective}
 use Rattle.gl_vmaps.specs.Writes.{stands_before, is_ordered}
 use Rattle.gl_vmaps.specs.Fields.{map_at, key_at, optional_value_at}
@@ -11,13 +11,18 @@ use Rattle.gl_entry.specs.declared.fault.EntryFault.{EntryFault}
 use Rattle.gl_entry.specs.declared.fault.EntryFault.TheVariants.{Writes}
 use Rattle.gl_entry.specs.Reading.{part, required, is_behind, removal_of, write_at, writes_from}
 
+-- A part of an entry was read.
+pub part_ok : {X : Type 0} → (r : Result X CodeFault) (x : X) → part r ≡ Ok x → r ≡ Ok x
+part_ok (Ok y) x e = ap (λ z. Ok z) (ok_injective {E = EntryFault} y x e)
+part_ok (Err fault) x e = absurd cc
+
 -- What is demanded of what was read holds.
 pub required_ok : {X : Type 0} → (holds : Bool) (fault : EntryFault) (x y : X) → required holds fault x ≡ Ok y → (holds ≡ true) × (x ≡ y)
 required_ok true fault x y e = (refl, ok_injective {E = EntryFault} x y e)
 required_ok false fault x y e = absurd cc
 
 -- A row's order doesn't depend on the value.
-is_behind-row : (before : Option (List ℕ × List ℕ)) (w : Write) → is_behind before (removal_of w.map w.key) ≡ is_behind before w
+pub is_behind-row : (before : Option (List ℕ × List ℕ)) (w : Write) → is_behind before (removal_of w.map w.key) ≡ is_behind before w
 is_behind-row None w = refl
 is_behind-row (Some row) w = refl
 
@@ -34,11 +39,11 @@ write_at_behind number before unread read e =
     subst (λ (x : Write × Unread). is_behind before x.0 ≡ true) same (sym (is_behind-row before w) ∙ holds.0)
 
 -- The first of the writes stands behind the row, if there is one.
-abbrev first_behind : Option (List ℕ × List ℕ) → List Write → Bool
+abbrev pub first_behind : Option (List ℕ × List ℕ) → List Write → Bool
 first_behind before [] = true
 first_behind before (w ∷ ws) = is_behind before w
 
-stands_before-first : (map key : List ℕ) (ws : List Write) → first_behind (Some (map, key)) ws ≡ stands_before map key ws
+pub stands_before-first : (map key : List ℕ) (ws : List Write) → first_behind (Some (map, key)) ws ≡ stands_before map key ws
 stands_before-first map key [] = refl
 stands_before-first map key (w ∷ ws) = refl
 

@@ -1,9 +1,12 @@
 //! Why bytes are not the frame of an entry.
 
 ghost use Rattle.std.specs.Prelude.{◌≡◌};
-ghost use Rattle.gl_entry.specs.declared.fault.EntryError.TheVariants.{NoMemory};
+ghost use Rattle.gl_base.specs.declared.code_fault.CodeFault.TheVariants.{Cut};
+ghost use Rattle.gl_entry.specs.Gives.{of_code};
+ghost use Rattle.gl_entry.specs.declared.fault.EntryFault.TheVariants.{Code};
+ghost use Rattle.gl_entry.specs.declared.fault.EntryError.TheVariants.{NoMemory, Fault};
 
-use gl_base::CodeFault;
+use gl_base::{CodeError, CodeFault, CutFault};
 use std::alloc::{AllocError, AllocFailed};
 use thiserror::Error;
 
@@ -52,6 +55,25 @@ pub enum LedgerError {
     ReadFault,
     #[error("the bytes are not the frame of an entry")]
     Fault(EntryFault),
+}
+
+impl From<CutFault> for EntryError {
+    ghost from_gives = { λ fault e. e ≡ Fault (Code (Cut fault)) };
+
+    fn from(fault: CutFault) -> EntryError {
+        EntryError::Fault(EntryFault::Code(CodeFault::Cut(fault)))
+    }
+}
+
+impl From<CodeError> for EntryError {
+    ghost from_gives = { λ error e. e ≡ of_code error };
+
+    fn from(error: CodeError) -> EntryError {
+        match error {
+            CodeError::NoMemory => EntryError::NoMemory,
+            CodeError::Fault(fault) => EntryError::Fault(EntryFault::Code(fault)),
+        }
+    }
 }
 
 impl From<AllocError> for EntryError {

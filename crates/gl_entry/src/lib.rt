@@ -3,18 +3,18 @@
 #![tactic(auto)]
 
 mod bytes;
+mod contents;
 mod decoding;
 mod encoding;
 mod entry;
 mod fault;
-mod leaf;
-mod reader;
+mod leaves;
+mod reading;
 
 pub use bytes::Bytes;
 pub use entry::{Content, Digest, Entry, NodeId, Signature};
 pub use fault::{EntryError, EntryFault, LedgerError};
-pub use leaf::{evidence, leaf, leaf_of_body};
-pub use reader::LedgerReader;
+pub use leaves::{evidence, leaf, leaf_of_body};
 
 #[cfg(test)]
 mod tests;

@@ -25,7 +25,7 @@ fn row(alloc: Global, map: &[u8], key: &[u8], value: Vec<u8>) -> Result<Write, A
     Ok(Write {
         map,
         key,
-        value: Some(Value::from_slice(alloc, &value)?),
+        value: Some(Value::of(value)),
     })
 }
 

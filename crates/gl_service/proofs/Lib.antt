@@ -1,10 +1,7 @@
 pub mod Ids
 pub mod Lists
-pub mod Advance
-pub mod Sets
-pub mod Solo
-pub mod Starting
-pub mod Worlds
-pub mod Reports
-pub mod Single
-pub mod Shown
+pub mod Numbers
+pub mod MemberKeys
+pub mod Digests
+pub mod Acceptable
+pub mod Sizes

@@ -5,3 +5,7 @@ pub mod MemberKeys
 pub mod Digests
 pub mod Acceptable
 pub mod Sizes
+pub mod SetRows
+pub mod Advance
+pub mod Reports
+pub mod Sets

@@ -9,3 +9,8 @@ pub mod SetRows
 pub mod Advance
 pub mod Reports
 pub mod Sets
+pub mod Solo
+pub mod Starting
+pub mod Worlds
+pub mod Single
+pub mod Shown

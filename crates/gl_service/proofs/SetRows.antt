@@ -8,9 +8,9 @@ use Rattle.std.specs.declared.cmp.Ordering.{Ordering}
 use Rattle.std.specs.declared.cmp.Ordering.TheVariants.{Less, Equal, Greater}
 use Rattle.std.proofs.lemmas.Bool.{and_parts}
 use Rattle.std.proofs.lemmas.Map.Lookups.{exact_bytes}
-use Rattle.gl_vmaps.specs.Tables.{Tables, same_bytes, no_tables, value_in, wrote, wrote_all}
+use Rattle.gl_vmaps.specs.Tables.{Tables, same_bytes, value_in, wrote, wrote_all}
 use Rattle.gl_vmaps.specs.Versions.{is_to_row}
-use Rattle.gl_vmaps.specs.Writes.{row_order, write_order, is_ordered, with_write, put_before}
+use Rattle.gl_vmaps.specs.Writes.{write_order, is_ordered, with_write, put_before}
 use Rattle.gl_vmaps.specs.Scan.{last_write, value_behind}
 use Rattle.gl_vmaps.specs.declared.write.Write.{Write}
 use Rattle.gl_vmaps.proofs.Scans.{last_such-cons}

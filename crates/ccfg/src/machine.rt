@@ -18,7 +18,7 @@ const VIEW: u32 = 2;
 const LEAVES: u64 = 32;
 
 /// The node: its store, and the leaves of its key.
-#[derive(Debug, Drop)]
+#[derive(Drop)]
 pub struct Machine {
     pub settings: Settings,
     pub id: NodeId,

@@ -13,4 +13,6 @@ pub use request::{Abort, Answer, Cause, Operation, Reply, Request};
 pub use running::{Ran, RunError, run};
 
 #[cfg(test)]
+mod run_tests;
+#[cfg(test)]
 mod tests;

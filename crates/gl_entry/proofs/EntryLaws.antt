@@ -322,6 +322,12 @@ frame-reads e old new is there =
     let body = bytes-reads (length (body_bytes e)) (body_bytes e) both.mid new both.second refl in
     rw (size, body, whole_body-reads both.mid.at e parts.0 within) refl
 
+-- The body of an entry is within the limit.
+pub body_within : (e : Entry) → is_entry e ≡ true → length (body_bytes e) ≤ body_limit
+body_within e is =
+    let parts = and_parts (is_body e) (nat_le (length (body_bytes e)) body_limit) is in
+    grind (arith, nat_tests, parts.1)
+
 -- ---- the first frame
 
 pub length-frame_bytes : (e : Entry) → length (frame_bytes e) ≡ frame_size e

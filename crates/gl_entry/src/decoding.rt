@@ -1,8 +1,8 @@
 //! Entries read from the bytes of their frames.
 
-ghost use Rattle.std.specs.Prelude.{◌≡◌, ◌+◌, ◌++◌, ◌<◌, ◌^◌, ℕ, List, length, IsTrue, IfOk, Ok};
+ghost use Rattle.std.specs.Prelude.{◌≡◌, ◌+◌, ◌++◌, ◌<◌, ◌≤◌, ◌^◌, ℕ, List, length, IsTrue, MatchResult, IfOk, Ok, Err};
 ghost use Rattle.gl_base.specs.Cut.{Gives, bytes_at};
-ghost use Rattle.gl_entry.specs.Entry.{is_entry, frame_bytes, frame_size};
+ghost use Rattle.gl_entry.specs.Entry.{body_limit, is_entry, frame_bytes, frame_size};
 ghost use Rattle.gl_entry.specs.Reading.{size_at, whole_body, frame_at, first_entry};
 ghost use Rattle.gl_entry.specs.Gives.{Decodes, Reads};
 ghost use Rattle.gl_entry.specs.declared.entry.Entry.{Entry as EntryValue};
@@ -16,18 +16,19 @@ use std::alloc::Global;
 
 /// Reads the size of the body, behind the version and the flags.
 #[tactic(auto, unfolding(crate::specs::Reading::size_at))]
-fn read_size(cut: &mut Cut<'_>) -> Result<u64, EntryError>
-    ensures { Reads (λ size. size) result cut.new (size_at cut.old) }
+pub(crate) fn read_size(cut: &mut Cut<'_>) -> Result<u64, EntryFault>
+    ensures exact { MatchResult result (λ size. size_at cut.old ≡ Ok (size, cut.new)) (λ fault. size_at cut.old ≡ Err fault) }
+    ensures limit { IfOk result (λ size. size ≤ body_limit) }
 {
     if cut.u8()? != 1 {
-        return Err(EntryError::Fault(EntryFault::Version));
+        return Err(EntryFault::Version);
     }
     if cut.u8()? != 0 {
-        return Err(EntryError::Fault(EntryFault::Flags));
+        return Err(EntryFault::Flags);
     }
     let size = cut.u48()?;
     if size > BODY_LIMIT {
-        return Err(EntryError::Fault(EntryFault::Size { size }));
+        return Err(EntryFault::Size { size });
     }
     Ok(size)
 }

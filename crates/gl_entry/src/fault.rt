@@ -2,9 +2,10 @@
 
 ghost use Rattle.std.specs.Prelude.{◌≡◌};
 ghost use Rattle.gl_base.specs.declared.code_fault.CodeFault.TheVariants.{Cut};
-ghost use Rattle.gl_entry.specs.Gives.{of_code};
+ghost use Rattle.gl_entry.specs.Gives.{of_code, of_entry};
 ghost use Rattle.gl_entry.specs.declared.fault.EntryFault.TheVariants.{Code};
 ghost use Rattle.gl_entry.specs.declared.fault.EntryError.TheVariants.{NoMemory, Fault};
+ghost use Rattle.gl_entry.specs.declared.fault.LedgerError.TheVariants as ledger;
 
 use gl_base::{CodeError, CodeFault, CutFault};
 use std::alloc::{AllocError, AllocFailed};
@@ -57,6 +58,22 @@ pub enum LedgerError {
     Fault(EntryFault),
 }
 
+impl From<CutFault> for EntryFault {
+    ghost from_gives = { λ fault e. e ≡ Code (Cut fault) };
+
+    fn from(fault: CutFault) -> EntryFault {
+        EntryFault::Code(CodeFault::Cut(fault))
+    }
+}
+
+impl From<EntryFault> for EntryError {
+    ghost from_gives = { λ fault e. e ≡ Fault fault };
+
+    fn from(fault: EntryFault) -> EntryError {
+        EntryError::Fault(fault)
+    }
+}
+
 impl From<CutFault> for EntryError {
     ghost from_gives = { λ fault e. e ≡ Fault (Code (Cut fault)) };
 
@@ -89,5 +106,24 @@ impl<T: Drop> From<AllocFailed<T>> for EntryError {
 
     fn from(_e: AllocFailed<T>) -> EntryError {
         EntryError::NoMemory
+    }
+}
+
+impl From<AllocError> for LedgerError {
+    ghost from_gives = { λ _ e. e ≡ ledger.NoMemory };
+
+    fn from(_e: AllocError) -> LedgerError {
+        LedgerError::NoMemory
+    }
+}
+
+impl From<EntryError> for LedgerError {
+    ghost from_gives = { λ error e. e ≡ of_entry error };
+
+    fn from(error: EntryError) -> LedgerError {
+        match error {
+            EntryError::NoMemory => LedgerError::NoMemory,
+            EntryError::Fault(fault) => LedgerError::Fault(fault),
+        }
     }
 }

@@ -1,5 +1,5 @@
 -- The headline of what a text reads as.
-use Rattle.std.proofs.Common.{◌≡◌, ℕ, zero, suc, ◌≤◌, List, [], ◌∷◌, Option, Some, None, Result, Ok, Err, Bool, true, false, not, ◌&&◌, nat_le, refl, sym, ◌∙◌, ap, subst, if◌then◌else◌, arith}
+use Rattle.std.proofs.Common.{◌≡◌, ℕ, zero, suc, ◌≤◌, List, [], ◌∷◌, Option, Some, None, Result, Ok, Err, IfOk, Bool, true, false, not, ◌&&◌, nat_le, refl, sym, ◌∙◌, ap, ap₂, subst, if◌then◌else◌, arith}
 use Rattle.std.specs.Option.{option_and_then}
 use Rattle.std.proofs.lemmas.Bool.Decides.{nat_tests}
 use Rattle.gl_rules.specs.Identity.{NodeId}
@@ -12,6 +12,8 @@ use Rattle.gl_lines.specs.declared.schedule.Schedule.{Schedule}
 use Rattle.gl_lines.specs.declared.schedule.Schedule.TheVariants.{Empty, Service}
 use Rattle.gl_lines.specs.Reading.{first_world}
 use Rattle.gl_lines.specs.Reading as lines
+use Rattle.gl_lines.specs.Stops.{ReadsAs}
+use Rattle.gl_lines.specs.declared.stop.ReadError.{ReadError}
 use Rattle.gl_lines.proofs.WorldLemmas.{world_of_schedule}
 use Rattle.gl_service.specs.Founding.{id_of, has_distinct_keys}
 use Rattle.gl_service.specs.Service.{ServiceEvent}
@@ -45,7 +47,7 @@ none_named world number other = ap (node_if world number) (let t : (nat_le 1 num
     outside : (n : ℕ) → (n ≡ 1 → ⊥) → (nat_le 1 n && nat_le n 1) ≡ false
     outside zero apart = refl
     outside (suc zero) apart = absurd (apart refl)
-    outside (suc (suc n)) apart = let low : nat_le (suc (suc n)) 1 ≡ false = grind (arith, nat_tests) in ap (λ (b : Bool). nat_le 1 (suc (suc n)) && b) low
+    outside (suc (suc n)) apart = let high : nat_le 1 (suc (suc n)) ≡ true = grind (arith, nat_tests) in let low : nat_le (suc (suc n)) 1 ≡ false = grind (arith, nat_tests) in ap₂ (λ (a b : Bool). a && b) high low
 
 local_named : (world : WorldLine) (number : ℕ) (c : Command) (events : List ServiceEvent) → AreLocal (id_of (settings_of world) 1) events →
     AreLocal (id_of (settings_of world) 1) (with_event (option_and_then (λ (x : NodeId). event_at x c) (node_named (settings_of world) number)) events)
@@ -92,3 +94,8 @@ keeps_headline given = keeps given (clashes (first_world given)) (lines.reads gi
 pub has_one_node : (text : List ℕ) (schedule : Schedule) → clashes (first_world text) ≡ false → lines.reads text ≡ Ok schedule → HasOneNode schedule
 has_one_node text Empty apart read = tt
 has_one_node text (Service world ls) apart read = single_service text world ls apart read
+
+-- what a reading gives, unless it gives none
+pub one_node_read : (text : List ℕ) (r : Result Schedule ReadError) → clashes (first_world text) ≡ false → ReadsAs (λ (s : Schedule). s) r (lines.reads text) → IfOk r (λ (s : Schedule). HasOneNode s)
+one_node_read text (Ok schedule) apart read = has_one_node text schedule apart read
+one_node_read text (Err e) apart read = tt

@@ -5,7 +5,7 @@ use Rattle.std.proofs.lemmas.Bool.Decides.{nat_tests}
 use Rattle.std.proofs.Math.Bool.{and-true}
 use Rattle.gl_service.proofs.Lists.{there}
 use Rattle.gl_base.specs.declared.tx_id.TxId.{TxId}
-use Rattle.gl_rules.specs.Node.{Node}
+use Rattle.gl_rules.specs.Node.{Node, Leader}
 use Rattle.gl_rules.specs.Outcome.{Step, quiet, refuse, idle, KeyExhausted, NotReserved, NothingToSign, ByLedger}
 use Rattle.gl_rules.specs.Outcome as outcome
 use Rattle.gl_rules.specs.Steps.{appended}
@@ -17,7 +17,7 @@ use Rattle.gl_entry.specs.Entry.{is_signature}
 use Rattle.gl_store.specs.Kept.{IsUpTo}
 use Rattle.gl_base.specs.TxId.{last_seqno}
 use Rattle.gl_tx.specs.Request.{is_request}
-use Rattle.gl_store.specs.Ledger.{Held, Executes, Signs, executed, signature_entry, signature_place, last_signature, IsSignedAt}
+use Rattle.gl_store.specs.Ledger.{Held, Executes, Signs, executed, signature_entry, signature_place, last_signature, opening_ledger, IsSignedAt}
 use Rattle.gl_store.specs.Ledger as made
 use Rattle.gl_store.specs.declared.refusal.Refusal.TheVariants as refusals
 use Rattle.gl_entry.specs.declared.entry.Entry.{Entry}
@@ -26,7 +26,7 @@ use Rattle.gl_tx.specs.declared.request.Answer.{Answer}
 use Rattle.gl_store.specs.declared.refusal.Refusal.{Refusal}
 use Rattle.gl_store.proofs.Applications.{executed_ok}
 use Rattle.gl_service.specs.declared.settings.Settings.{Settings}
-use Rattle.gl_service.specs.Founding.{id_of}
+use Rattle.gl_service.specs.Founding.{id_of, genesis_of}
 use Rattle.gl_service.specs.Keys.{leaf_count}
 use Rattle.gl_service.specs.Single.{IsSingle}
 use Rattle.gl_service.specs.Solo.{IsSolo}
@@ -55,6 +55,36 @@ goes_on old new step o m same_id same_settings solo is leaves = record {
 
 pub begins : (m : Machine) → IsSingle m.settings → m.id ≡ id_of m.settings 1 → node_in m ≡ leader_at_start (start_of m.settings) → m.used ≤ m.reserved → IsMachine m
 begins m single named is leaves = record { single = single; leaves = leaves; named = named; solo = subst (λ (n : Node Entry). IsSolo m.settings n) (sym is) (solo_at_start m.settings single) }
+
+-- the node of a store, with so many leaves reserved and used
+abbrev node_of_store : List ℕ → Held → ℕ → ℕ → Node Entry
+node_of_store x store reserved used = record {
+  view = 2;
+  vote = Some x;
+  log = store.ledger;
+  base = 0;
+  reserved = reserved;
+  role = Leader;
+  leader = None;
+  commit = store.commit;
+  votes = [];
+  matched = λ _. 0;
+  next = λ _. None;
+  start = 3;
+  used = used;
+  cuts = 0;
+}
+
+abbrev pub opened_store : Settings → Held
+opened_store s = record { ledger = opening_ledger (genesis_of s) (id_of s 1); commit = 2 }
+
+pub begin_is : (m : Machine) (s : Settings) → m.id ≡ id_of s 1 → m.store ≡ opened_store s → m.reserved ≡ 1 → m.used ≡ 1 →
+    node_in m ≡ leader_at_start (start_of s)
+begin_is m s named opened one first =
+    ap (λ (x : List ℕ). node_of_store x m.store m.reserved m.used) named
+    ∙ ap (λ (h : Held). node_of_store (id_of s 1) h m.reserved m.used) opened
+    ∙ ap (λ (n : ℕ). node_of_store (id_of s 1) (opened_store s) n m.used) one
+    ∙ ap (λ (n : ℕ). node_of_store (id_of s 1) (opened_store s) 1 n) first
 
 pub reserve_full : (x : List ℕ) (n : Node Entry) → leaf_count ≤ n.reserved → reserve service_book x n ≡ quiet n (outcome.Refused (KeyExhausted n.reserved))
 unfolding reserve

@@ -1,5 +1,5 @@
 -- What is printed of a line is what the machine answers.
-use Rattle.std.proofs.Common.{◌≡◌, ℕ, zero, suc, ◌+◌, ◌-◌, List, ◌++◌, length, Bool, false, ◌&&◌, nat_le, Some, None, ap₂, refl, sym, ◌∙◌, ap, subst, arith, append-nil, if◌then◌else◌, Option, Result, Ok, Err, OnErr}
+use Rattle.std.proofs.Common.{◌≡◌, ℕ, zero, suc, ◌+◌, ◌-◌, List, ◌++◌, length, Bool, false, ◌&&◌, nat_le, Some, None, true, ap₂, refl, sym, ◌∙◌, ap, subst, arith, append-nil, if◌then◌else◌, Option, Result, Ok, Err, OnErr}
 use Rattle.std.proofs.lemmas.Bool.Decides.{nat_tests}
 use Rattle.gl_outside.specs.Sink.{AppendsFront}
 use Rattle.gl_base.specs.declared.tx_id.TxId.{TxId}
@@ -40,7 +40,7 @@ none_else s single number other =
     outside : (n : ℕ) → (n ≡ 1 → ⊥) → (nat_le 1 n && nat_le n 1) ≡ false
     outside zero apart = refl
     outside (suc zero) apart = absurd (apart refl)
-    outside (suc (suc n)) apart = let low : nat_le (suc (suc n)) 1 ≡ false = grind (arith, nat_tests) in ap (λ (b : Bool). nat_le 1 (suc (suc n)) && b) low
+    outside (suc (suc n)) apart = let high : nat_le 1 (suc (suc n)) ≡ true = grind (arith, nat_tests) in let low : nat_le (suc (suc n)) 1 ≡ false = grind (arith, nat_tests) in ap₂ (λ (a b : Bool). a && b) high low
 
 nothing_new : (n : ℕ) → n - n ≡ 0
 nothing_new n = omega arith

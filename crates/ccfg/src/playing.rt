@@ -81,7 +81,8 @@ pub fn play<K: Sink>(
         Ok(()) => {}
         Err(fault) => return Err(fault),
     }
-    for (i, line) in lines.as_slice().iter().enumerate() {
+    let items = lines.as_slice();
+    for (i, line) in items.iter().enumerate() {
         match play_line(alloc, &mut machine, i as u64 + 2, line, sink) {
             Ok(()) => {}
             Err(fault) => return Err(fault),

@@ -1,0 +1,8 @@
+use Rattle.std.proofs.Common.{◌≡◌, ◌++◌, drop}
+use Rattle.std.specs.List.{flat_map}
+use Rattle.ccfg.specs.Text.{entry_text}
+use Rattle.ccfg.proofs.printing.put_entries.Given as goal
+
+-- what is written and what is left to write make the whole
+abbrev pub invariant-loop-entry : goal.invariant-loop-entry
+invariant-loop-entry l = l.out.items ++ flat_map entry_text (drop l.entry-index l.entries) ≡ l.fn.out.items ++ flat_map entry_text l.entries

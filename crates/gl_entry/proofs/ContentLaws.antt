@@ -42,14 +42,15 @@ signature-spelled old read all e =
     let root = bind_ok {E = CodeFault} (field (bytes_at 32 commit.0.1)) _ read commit.2 in
     let signature = bind_ok {E = CodeFault} (field (string_at 4 body_limit root.0.1)) _ read root.2 in
     let s : signatures.Signature = record { node = node.0.0; commit = commit.0.0; root = root.0.0; signature = signature.0.0 } in
-    let same : ◌≡◌ {A = Content × Unread} (content.Signature s, signature.0.1) read = ok_injective {E = CodeFault} _ read signature.2 in
+    let gave : Content × Unread = (content.Signature s, signature.0.1) in
+    let same : gave ≡ read = ok_injective {E = CodeFault} gave read signature.2 in
     let a = bytes-took 32 node.0.0 old node.0.1 all (field_ok (bytes_at 32 old) node.0 node.1) in
     let b = number-took 8 commit.0.0 node.0.1 commit.0.1 a.rest (field_ok (number_at 8 node.0.1) commit.0 commit.1) in
     let c = bytes-took 32 root.0.0 commit.0.1 root.0.1 b.rest (field_ok (bytes_at 32 commit.0.1) root.0 root.1) in
     let d = (sized-took body_limit signature.0.0 root.0.1 signature.0.1 c.rest (field_ok (string_at 4 body_limit root.0.1) signature.0 signature.1)).took in
-    let ab = took_then _ _ _ _ old node.0.1 commit.0.1 a b in
-    let abc = took_then _ _ _ _ old commit.0.1 root.0.1 ab c in
-    let whole : Took (signature_bytes s) (is_recorded_signature s) old signature.0.1 = took_then _ _ _ _ old root.0.1 signature.0.1 abc d in
+    let ab = took_then s.node (little_endian 8 s.commit) (is_digest s.node) (nat_lt s.commit (2 ^ 64)) old node.0.1 commit.0.1 a b in
+    let abc = took_then (s.node ++ little_endian 8 s.commit) s.root (is_digest s.node && nat_lt s.commit (2 ^ 64)) (is_digest s.root) old commit.0.1 root.0.1 ab c in
+    let whole : Took (signature_bytes s) (is_recorded_signature s) old signature.0.1 = took_then (s.node ++ little_endian 8 s.commit ++ s.root) (with_u32_length s.signature) (is_digest s.node && nat_lt s.commit (2 ^ 64) && is_digest s.root) (are_bytes s.signature) old root.0.1 signature.0.1 abc d in
     subst (λ (x : Content × Unread). Took (content_bytes x.0) (is_content x.0) old x.1) same whole
 
 pub signature-reads : (s : signatures.Signature) (old new : Unread) → is_recorded_signature s ≡ true → length (signature_bytes s) ≤ body_limit → Lies (signature_bytes s) old new → signature_at old ≡ Ok (content.Signature s, new)
@@ -76,7 +77,8 @@ pub evidence-spelled : (old : Unread) (read : Content × Unread) → AreBytes ol
 unfolding evidence_at
 evidence-spelled old read all e =
     let digest = bind_ok {E = CodeFault} (field (bytes_at 32 old)) _ read e in
-    let same : ◌≡◌ {A = Content × Unread} (content.Evidence digest.0.0, digest.0.1) read = ok_injective {E = CodeFault} _ read digest.2 in
+    let gave : Content × Unread = (content.Evidence digest.0.0, digest.0.1) in
+    let same : gave ≡ read = ok_injective {E = CodeFault} gave read digest.2 in
     subst (λ (x : Content × Unread). Took (content_bytes x.0) (is_content x.0) old x.1) same (bytes-took 32 digest.0.0 old digest.0.1 all (field_ok (bytes_at 32 old) digest.0 digest.1))
 
 pub evidence-reads : (digest : List ℕ) (old new : Unread) → is_digest digest ≡ true → Lies digest old new → evidence_at old ≡ Ok (content.Evidence digest, new)
@@ -112,24 +114,26 @@ signature_tag old read e =
     let commit = bind_ok {E = CodeFault} (field (number_at 8 node.0.1)) _ read node.2 in
     let root = bind_ok {E = CodeFault} (field (bytes_at 32 commit.0.1)) _ read commit.2 in
     let signature = bind_ok {E = CodeFault} (field (string_at 4 body_limit root.0.1)) _ read root.2 in
-    let same : ◌≡◌ {A = Content × Unread} (content.Signature (record { node = node.0.0; commit = commit.0.0; root = root.0.0; signature = signature.0.0 }), signature.0.1) read = ok_injective {E = CodeFault} _ read signature.2 in
+    let gave : Content × Unread = (content.Signature (record { node = node.0.0; commit = commit.0.0; root = root.0.0; signature = signature.0.0 }), signature.0.1) in
+    let same : gave ≡ read = ok_injective {E = CodeFault} gave read signature.2 in
     ap (λ (x : Content × Unread). kind_tag x.0) (sym same)
 
 evidence_tag : (old : Unread) (read : Content × Unread) → evidence_at old ≡ Ok read → kind_tag read.0 ≡ 4
 unfolding evidence_at
 evidence_tag old read e =
     let digest = bind_ok {E = CodeFault} (field (bytes_at 32 old)) _ read e in
-    let same : ◌≡◌ {A = Content × Unread} (content.Evidence digest.0.0, digest.0.1) read = ok_injective {E = CodeFault} _ read digest.2 in
+    let gave : Content × Unread = (content.Evidence digest.0.0, digest.0.1) in
+    let same : gave ≡ read = ok_injective {E = CodeFault} gave read digest.2 in
     ap (λ (x : Content × Unread). kind_tag x.0) (sym same)
 
 content_by : (one two three : Bool) (kind place : ℕ) (bytes : List ℕ) (recorded : Content) → (kind == 1) ≡ one → (kind == 2) ≡ two → (kind == 3) ≡ three → is_kind kind ≡ true → AreBytes bytes →
     cond one (Ok (content.Governance bytes)) (cond two (Ok (content.Application bytes)) (cond three (whole_at signature_at place bytes) (whole_at evidence_at place bytes))) ≡ Ok recorded → IsContentOf kind bytes recorded
 content_by true two three kind place bytes recorded a b c is all e =
-    let same : content.Governance bytes ≡ recorded = ok_injective {E = CodeFault} _ recorded e in
+    let same : content.Governance bytes ≡ recorded = ok_injective {E = CodeFault} (content.Governance bytes) recorded e in
     let tag : kind ≡ 1 = grind (arith, nat_tests) in
     subst (IsContentOf kind bytes) same (record { bytes_are = refl; valid = are_bytes-true bytes all; tag = tag })
 content_by false true three kind place bytes recorded a b c is all e =
-    let same : content.Application bytes ≡ recorded = ok_injective {E = CodeFault} _ recorded e in
+    let same : content.Application bytes ≡ recorded = ok_injective {E = CodeFault} (content.Application bytes) recorded e in
     let tag : kind ≡ 2 = grind (arith, nat_tests) in
     subst (IsContentOf kind bytes) same (record { bytes_are = refl; valid = are_bytes-true bytes all; tag = tag })
 content_by false false true kind place bytes recorded a b c is all e =

@@ -53,7 +53,8 @@ content-spelled old read all e =
     let kind = bind_ok {E = EntryFault} (kind_at old) _ read e in
     let request = bind_ok {E = EntryFault} (entry_field (string_at 4 body_limit kind.0.1)) _ read kind.2 in
     let recorded = bind_ok {E = EntryFault} (part (content_of kind.0.0 (kind.0.1.at + 4) request.0.0)) _ read request.2 in
-    let same : ◌≡◌ {A = Content × Unread} (recorded.0, request.0.1) read = ok_injective {E = EntryFault} _ read recorded.2 in
+    let gave : Content × Unread = (recorded.0, request.0.1) in
+    let same : gave ≡ read = ok_injective {E = EntryFault} gave read recorded.2 in
     let tag = kind-took old kind.0 all kind.1 in
     let sized = sized-took body_limit request.0.0 kind.0.1 request.0.1 tag.0.rest (entry_field_ok (string_at 4 body_limit kind.0.1) request.0 request.1) in
     let of = content_of-spelled kind.0.0 (kind.0.1.at + 4) request.0.0 recorded.0 tag.1 sized.each (part_ok (content_of kind.0.0 (kind.0.1.at + 4) request.0.0) recorded.0 recorded.1) in
@@ -201,7 +202,8 @@ body-spelled old read all e =
     let writes = bind_ok {E = EntryFault} (writes_at (may_write recorded.0.0) recorded.0.1) _ read recorded.2 in
     let claims = bind_ok {E = EntryFault} (claims_at (may_claim recorded.0.0) writes.0.1) _ read writes.2 in
     let made : Entry = record { view = view.0.0; seqno = seqno.0.0; content = recorded.0.0; writes = writes.0.0; claims = claims.0.0 } in
-    let same : ◌≡◌ {A = Entry × Unread} (made, claims.0.1) read = ok_injective {E = EntryFault} _ read claims.2 in
+    let gave : Entry × Unread = (made, claims.0.1) in
+    let same : gave ≡ read = ok_injective {E = EntryFault} gave read claims.2 in
     let a = number-took 4 view.0.0 old view.0.1 all (entry_field_ok (number_at 4 old) view.0 view.1) in
     let b = number-took 8 seqno.0.0 view.0.1 seqno.0.1 a.rest (entry_field_ok (number_at 8 view.0.1) seqno.0 seqno.1) in
     let c = content-spelled seqno.0.1 recorded.0 b.rest recorded.1 in
@@ -293,7 +295,8 @@ frame-spelled old read all e =
     let size = bind_ok {E = EntryFault} (size_at old) _ read e in
     let body = bind_ok {E = EntryFault} (entry_field (bytes_at size.0.0 size.0.1)) _ read size.2 in
     let entry = bind_ok {E = EntryFault} (whole_body (record { at = size.0.1.at; bytes = body.0.0 })) _ read body.2 in
-    let same : ◌≡◌ {A = Entry × Unread} (entry.0, body.0.1) read = ok_injective {E = EntryFault} _ read entry.2 in
+    let gave : Entry × Unread = (entry.0, body.0.1) in
+    let same : gave ≡ read = ok_injective {E = EntryFault} gave read entry.2 in
     let a = size-spelled old size.0 all size.1 in
     let b = bytes-took size.0.0 body.0.0 size.0.1 body.0.1 a.rest (entry_field_ok (bytes_at size.0.0 size.0.1) body.0 body.1) in
     let sized = and_parts (length body.0.0 == size.0.0) (are_bytes body.0.0) b.valid in
@@ -343,7 +346,8 @@ first_frame-reads e rest is = frame-reads e (unread_of (frame_bytes e ++ rest)) 
 pub first_entry-spelled : (bytes : List ℕ) (read : Entry × ℕ) → AreBytes bytes → first_entry bytes ≡ Ok read → (is_entry read.0 ≡ true) × (read.1 ≡ frame_size read.0) × (rest : List ℕ) × (bytes ≡ frame_bytes read.0 ++ rest)
 first_entry-spelled bytes read all e =
     let there = bind_ok {E = EntryFault} (frame_at (unread_of bytes)) _ read e in
-    let same : ◌≡◌ {A = Entry × ℕ} (there.0.0, there.0.1.at) read = ok_injective {E = EntryFault} _ read there.2 in
+    let gave : Entry × ℕ = (there.0.0, there.0.1.at) in
+    let same : gave ≡ read = ok_injective {E = EntryFault} gave read there.2 in
     let took = frame-spelled (unread_of bytes) there.0 all there.1 in
     let place : there.0.1.at ≡ frame_size there.0.0 = omega (arith, took.place, length-frame_bytes there.0.0) in
     subst (λ (x : Entry × ℕ). (is_entry x.0 ≡ true) × (x.1 ≡ frame_size x.0) × (rest : List ℕ) × (bytes ≡ frame_bytes x.0 ++ rest)) same (took.valid, place, there.0.1.bytes, took.bytes)

@@ -35,7 +35,8 @@ write_at_behind number before unread read e =
     let value = bind_ok {E = EntryFault} (part (optional_value_at row.0.1)) _ read row.2 in
     let holds = required_ok (is_behind before (removal_of map.0.0 key.0.0)) (Writes number) key.0 row.0 row.1 in
     let w : Write = record { map = map.0.0; key = key.0.0; value = value.0.0 } in
-    let same : ◌≡◌ {A = Write × Unread} (w, value.0.1) read = ok_injective {E = EntryFault} _ read value.2 in
+    let gave : Write × Unread = (w, value.0.1) in
+    let same : gave ≡ read = ok_injective {E = EntryFault} gave read value.2 in
     subst (λ (x : Write × Unread). is_behind before x.0 ≡ true) same (sym (is_behind-row before w) ∙ holds.0)
 
 -- The first of the writes stands behind the row, if there is one.
@@ -56,7 +57,8 @@ writes_from_ordered number before (suc count) unread read e =
     let first = bind_ok {E = EntryFault} (write_at number before unread) _ read e in
     let w = first.0.0 in
     let rest = bind_ok {E = EntryFault} (writes_from (suc number) (Some (w.map, w.key)) count first.0.1) _ read first.2 in
-    let same : ◌≡◌ {A = List Write × Unread} (w ∷ rest.0.0, rest.0.1) read = ok_injective {E = EntryFault} _ read rest.2 in
+    let gave : List Write × Unread = (w ∷ rest.0.0, rest.0.1) in
+    let same : gave ≡ read = ok_injective {E = EntryFault} gave read rest.2 in
     let others = writes_from_ordered (suc number) (Some (w.map, w.key)) count first.0.1 rest.0 rest.1 in
     let here = write_at_behind number before unread first.0 first.1 in
     let next = sym (stands_before-first w.map w.key rest.0.0) ∙ others.0 in

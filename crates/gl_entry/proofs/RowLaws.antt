@@ -28,14 +28,15 @@ write-spelled number before old read all e =
     let value = bind_ok {E = EntryFault} (part (optional_value_at row.0.1)) _ read row.2 in
     let holds = required_ok (is_behind before (removal_of map.0.0 key.0.0)) (Writes number) key.0 row.0 row.1 in
     let w : Write = record { map = map.0.0; key = key.0.0; value = value.0.0 } in
-    let same : ◌≡◌ {A = Write × Unread} (w, value.0.1) read = ok_injective {E = EntryFault} _ read value.2 in
+    let gave : Write × Unread = (w, value.0.1) in
+    let same : gave ≡ read = ok_injective {E = EntryFault} gave read value.2 in
     let a = map-spelled old map.0.1 map.0.0 all (part_ok (map_at old) map.0 map.1) in
     let b = key-spelled map.0.1 key.0.1 key.0.0 a.rest (part_ok (key_at map.0.1) key.0 key.1) in
     let behind : key.0.1 ≡ row.0.1 = ap (λ (x : List ℕ × Unread). x.1) holds.1 in
     let value_read : optional_value_at key.0.1 ≡ Ok value.0 = ap optional_value_at behind ∙ part_ok (optional_value_at row.0.1) value.0 value.1 in
     let c = optional_value-spelled key.0.1 value.0.1 value.0.0 b.rest value_read in
-    let ab = took_then _ _ _ _ old map.0.1 key.0.1 a b in
-    let whole : Took (write_bytes w) (is_write w) old value.0.1 = took_then _ _ _ _ old key.0.1 value.0.1 ab c in
+    let ab = took_then (map_bytes w.map) (key_bytes w.key) (is_map_name w.map) (is_key w.key) old map.0.1 key.0.1 a b in
+    let whole : Took (write_bytes w) (is_write w) old value.0.1 = took_then (map_bytes w.map ++ key_bytes w.key) (optional_value_bytes w.value) (is_map_name w.map && is_key w.key) (is_written_value w.value) old key.0.1 value.0.1 ab c in
     subst (λ (x : Write × Unread). Took (write_bytes x.0) (is_write x.0) old x.1) same whole
 
 pub write-reads : (number : ℕ) (before : Option (List ℕ × List ℕ)) (w : Write) (old new : Unread) → is_write w ≡ true → is_behind before w ≡ true → Lies (write_bytes w) old new → write_at number before old ≡ Ok (w, new)
@@ -72,13 +73,15 @@ no_writes_took old all = record { took = record { bytes = refl; place = sym (add
 pub writes-spelled : (number : ℕ) (before : Option (List ℕ × List ℕ)) (count : ℕ) (old : Unread) (read : List Write × Unread) → AreBytes old.bytes → writes_from number before count old ≡ Ok read → TookWrites count read.0 old read.1
 unfolding writes_from
 writes-spelled number before zero old read all e =
-    let same : ◌≡◌ {A = List Write × Unread} ([], old) read = ok_injective {E = EntryFault} _ read e in
+    let gave : List Write × Unread = ([], old) in
+    let same : gave ≡ read = ok_injective {E = EntryFault} gave read e in
     subst (λ (x : List Write × Unread). TookWrites 0 x.0 old x.1) same (no_writes_took old all)
 writes-spelled number before (suc count) old read all e =
     let first = bind_ok {E = EntryFault} (write_at number before old) _ read e in
     let w = first.0.0 in
     let rest = bind_ok {E = EntryFault} (writes_from (suc number) (Some (w.map, w.key)) count first.0.1) _ read first.2 in
-    let same : ◌≡◌ {A = List Write × Unread} (w ∷ rest.0.0, rest.0.1) read = ok_injective {E = EntryFault} _ read rest.2 in
+    let gave : List Write × Unread = (w ∷ rest.0.0, rest.0.1) in
+    let same : gave ≡ read = ok_injective {E = EntryFault} gave read rest.2 in
     let here = write-spelled number before old first.0 all first.1 in
     let others = writes-spelled (suc number) (Some (w.map, w.key)) count first.0.1 rest.0 here.rest rest.1 in
     subst (λ (x : List Write × Unread). TookWrites (suc count) x.0 old x.1) same (writes_took count w rest.0.0 old first.0.1 rest.0.1 here others)

@@ -34,7 +34,8 @@ next_found-some : (byte : ℕ) (bytes : List ℕ) (e : Entry) (n : ℕ) → AreB
 unfolding next_entry
 next_found-some byte bytes e n all h =
     let there = bind_ok {E = EntryFault} (frame_at (unread_of (byte ∷ bytes))) _ (e, n) h in
-    let same : ◌≡◌ {A = Entry × ℕ} (there.0.0, there.0.1.at) (e, n) = ok_injective {E = EntryFault} _ (e, n) there.2 in
+    let gave : Entry × ℕ = (there.0.0, there.0.1.at) in
+    let same : gave ≡ (e, n) = ok_injective {E = EntryFault} gave (e, n) there.2 in
     let took = frame-spelled (unread_of (byte ∷ bytes)) there.0 all there.1 in
     let size : there.0.1.at ≡ length (frame_bytes there.0.0) = omega (arith, took.place) in
     let counted : n ≡ length (frame_bytes there.0.0) = ap (λ (p : Entry × ℕ). p.1) (sym same) ∙ size in

@@ -111,7 +111,7 @@ fn reads_each_kind_of_entry(rt: HostRuntime) -> Result<(), Fail> {
     }
     let (entry, _) = Entry::decode(rt.alloc(), &SIGNED)?;
     assert_eq!(rt; (entry.view, entry.seqno), (2, 4));
-    match entry.content {
+    match &entry.content {
         Content::Signature(signature) => {
             assert_eq!(rt; (signature.node, signature.commit), ([0xaa; 32], 3));
             assert_eq!(rt; signature.root, [0xbb; 32]);

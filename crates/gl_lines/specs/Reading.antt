@@ -1,5 +1,5 @@
 -- What the text of a schedule says. It is read whole before the first event.
-use Rattle.std.specs.Prelude.{ℕ, suc, List, [], ◌∷◌, ◌++◌, Option, None, Some, Result, Ok, Err, Bool, true, false, ◌&&◌, ◌||◌, codes, length, nat_le, if◌then◌else◌}
+use Rattle.std.specs.Prelude.{ℕ, zero, suc, List, [], ◌∷◌, ◌++◌, Option, None, Some, Result, Ok, Err, Bool, true, false, ◌&&◌, ◌||◌, codes, length, if◌then◌else◌}
 use Rattle.gl_base.specs.TxId.{parsed}
 use Rattle.gl_base.specs.declared.tx_id.TxId.{TxId}
 use Rattle.gl_base.specs.declared.tx_id.TxIdFault.{TxIdFault}
@@ -92,10 +92,10 @@ operation_of words = None
 -- map may be named by a semicolon. The words of an operation so far, and how many it still asks for, stand before those to come.
 abbrev pub groups : List (List ℕ) → Option ℕ → List (List ℕ) → Option (List (List (List ℕ)))
 groups so_far None words = None
-groups so_far (Some 0) [] = Some (so_far ∷ [])
+groups so_far (Some zero) [] = Some (so_far ∷ [])
 groups so_far (Some (suc more)) [] = None
-groups so_far (Some 0) (semicolon ∷ []) = None
-groups so_far (Some 0) (semicolon ∷ name ∷ words) =
+groups so_far (Some zero) (semicolon ∷ []) = None
+groups so_far (Some zero) (semicolon ∷ name ∷ words) =
     if is semicolon (codes ";") then (groups (name ∷ []) (arity name) words >>= λ rest. Some (so_far ∷ rest)) else None
 groups so_far (Some (suc more)) (word ∷ words) = groups (so_far ++ word ∷ []) (Some more) words
 
@@ -189,13 +189,14 @@ lines_read number [] open_behind = if open_behind then Err number else Ok []
 lines_read number (line ∷ lines) open_behind =
     then_read (or_line number (line_of line)) (λ first. then_read (lines_read (suc number) lines open_behind) (λ rest. Ok (first ∷ rest)))
 
-unfoldable pub split_read : Split → Result Schedule ℕ
+-- The first line is the world's.
+unfoldable pub schedule_of : List (List ℕ) → Bool → Result Schedule ℕ
+schedule_of [] open_behind = if open_behind then Err 1 else Ok Empty
+schedule_of (first ∷ lines) open_behind =
+    then_read (or_line 1 (world_of first)) (λ world. then_read (lines_read 2 lines open_behind) (λ rest. Ok (Service world rest)))
+
+abbrev pub split_read : Split → Result Schedule ℕ
 split_read split = schedule_of split.lines (is_open split)
-  where
-    schedule_of : List (List ℕ) → Bool → Result Schedule ℕ
-    schedule_of [] open_behind = if open_behind then Err 1 else Ok Empty
-    schedule_of (first ∷ lines) open_behind =
-        then_read (or_line 1 (world_of first)) (λ world. then_read (lines_read 2 lines open_behind) (λ rest. Ok (Service world rest)))
 
 -- The schedule that a text is, or the number of its first bad line, from 1. No bytes are a schedule without a service.
 unfoldable pub reads : List ℕ → Result Schedule ℕ

@@ -2,6 +2,7 @@
 
 ghost use Rattle.std.specs.Prelude.{◌≡◌};
 ghost use Rattle.gl_lines.specs.declared.stop.Stop.TheVariants.{Memory};
+ghost use Rattle.gl_lines.specs.declared.stop.ReadError.TheVariants.{NoMemory};
 
 use std::alloc::{AllocError, AllocFailed};
 
@@ -36,4 +37,20 @@ pub enum ReadError {
     /// The first line that says nothing, counted from 1. An open line, which has no newline, says
     /// nothing.
     BadLine(u64),
+}
+
+impl From<AllocError> for ReadError {
+    ghost from_gives = { λ _ e. e ≡ NoMemory };
+
+    fn from(_e: AllocError) -> ReadError {
+        ReadError::NoMemory
+    }
+}
+
+impl<T: Drop> From<AllocFailed<T>> for ReadError {
+    ghost from_gives = { λ _ e. e ≡ NoMemory };
+
+    fn from(_e: AllocFailed<T>) -> ReadError {
+        ReadError::NoMemory
+    }
 }

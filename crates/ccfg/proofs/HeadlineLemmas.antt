@@ -14,7 +14,7 @@ use Rattle.gl_lines.specs.Reading.{first_world}
 use Rattle.gl_lines.specs.Reading as lines
 use Rattle.gl_lines.specs.Stops.{ReadsAs}
 use Rattle.gl_lines.specs.declared.stop.ReadError.{ReadError}
-use Rattle.gl_lines.proofs.WorldLemmas.{world_of_schedule}
+use Rattle.gl_lines.proofs.FirstLines.{world_of_schedule}
 use Rattle.gl_service.specs.Founding.{id_of, has_distinct_keys}
 use Rattle.gl_service.specs.Service.{ServiceEvent}
 use Rattle.gl_service.specs.Single.{IsSingle, AreLocal}

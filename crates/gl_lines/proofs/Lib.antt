@@ -4,3 +4,4 @@ pub mod GroupLemmas
 pub mod OperationLemmas
 pub mod WorldLemmas
 pub mod ReadingLemmas
+pub mod FirstLines

@@ -1,6 +1,7 @@
 -- What is printed of a line is what the machine answers.
-use Rattle.std.proofs.Common.{◌≡◌, ℕ, zero, suc, ◌+◌, ◌-◌, List, ◌++◌, length, Bool, false, ◌&&◌, nat_le, Some, None, true, ap₂, refl, sym, ◌∙◌, ap, subst, arith, append-nil, if◌then◌else◌, Option, Result, Ok, Err, OnErr}
+use Rattle.std.proofs.Common.{◌≡◌, ℕ, zero, suc, ◌+◌, ◌-◌, List, ◌++◌, length, Bool, false, ◌&&◌, nat_le, Some, None, true, ap₂, refl, sym, ◌∙◌, ap, subst, arith, append-nil, if◌then◌else◌, Option, Result, Ok, Err, OnErr, OnOk}
 use Rattle.std.proofs.lemmas.Bool.Decides.{nat_tests}
+use Rattle.std.specs.Io.KnownBytes.{Appends}
 use Rattle.gl_outside.specs.Sink.{AppendsFront}
 use Rattle.gl_base.specs.declared.tx_id.TxId.{TxId}
 use Rattle.gl_rules.specs.Node.{Node}
@@ -143,3 +144,14 @@ pub front_in : {T E : Type 0} (r : Result T E) (a b : Option (List ℕ)) (text :
     ((w : ServiceWorld) → F w → text ≡ due w) → OnErr r (AppendsFront a b text) → OnErr r ((w : ServiceWorld) → F w → AppendsFront a b (due w))
 front_in (Ok t) a b text F due is front = tt
 front_in (Err e) a b text F due is front = λ w f. subst (λ (x : List ℕ). AppendsFront a b x) (is w f) front
+
+-- and so is the whole of it
+pub whole_in : {T E : Type 0} (r : Result T E) (a b : Option (List ℕ)) (text : List ℕ) (F : ServiceWorld → Type 0) (due : ServiceWorld → List ℕ) →
+    ((w : ServiceWorld) → F w → text ≡ due w) → OnOk r (Appends a b text) → OnOk r ((w : ServiceWorld) → F w → Appends a b (due w))
+whole_in (Ok t) a b text F due is whole = λ w f. subst (λ (x : List ℕ). Appends a b x) (is w f) whole
+whole_in (Err e) a b text F due is whole = tt
+
+-- what holds anyway
+pub always_ok : {T E P : Type 0} (r : Result T E) → P → OnOk r P
+always_ok (Ok t) p = p
+always_ok (Err e) p = tt

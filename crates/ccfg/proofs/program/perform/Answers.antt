@@ -9,15 +9,15 @@ use Rattle.ccfg.proofs.program.perform.Goals as goal
 pub returns-in-Ok-clause-writes : goal.returns-in-Ok-clause-writes
 returns-in-Ok-clause-writes g c =
     let told : c.settings_of.result ≡ settings_of c.in-Service.world = c.settings_of.ensures in
-    rw c.in-Service.is (refl, subst (λ (s : Settings). Appends _ _ (text_of_service s c.in-Service.lines)) told c.in-Ok.ensures.whole)
+    rw c.in-Service.is (refl, subst (λ (s : Settings). Appends (g.K.Sink.holds c.args.sink.now) (g.K.Sink.holds c.play.new.sink) (text_of_service s c.in-Service.lines)) told c.in-Ok.ensures.whole)
 
 pub returns-in-Err-Failed-clause-writes : goal.returns-in-Err-Failed-clause-writes
 returns-in-Err-Failed-clause-writes g c =
     let told : c.settings_of.result ≡ settings_of c.in-Service.world = c.settings_of.ensures in
     rw c.in-Service.is (c.in-Err-Failed.ensures.failed (ap Err c.in-Err-Failed.field-0-is),
-    subst (λ (s : Settings). AppendsFront _ _ (text_of_service s c.in-Service.lines)) told c.in-Err-Failed.ensures.front)
+    subst (λ (s : Settings). AppendsFront (g.K.Sink.holds c.args.sink.now) (g.K.Sink.holds c.play.new.sink) (text_of_service s c.in-Service.lines)) told c.in-Err-Failed.ensures.front)
 
 pub returns-in-Err-NoMemory-clause-writes : goal.returns-in-Err-NoMemory-clause-writes
 returns-in-Err-NoMemory-clause-writes g c =
     let told : c.settings_of.result ≡ settings_of c.in-Service.world = c.settings_of.ensures in
-    rw c.in-Service.is (subst (λ (s : Settings). AppendsFront _ _ (text_of_service s c.in-Service.lines)) told c.in-Err-NoMemory.ensures.front)
+    rw c.in-Service.is (subst (λ (s : Settings). AppendsFront (g.K.Sink.holds c.args.sink.now) (g.K.Sink.holds c.play.new.sink) (text_of_service s c.in-Service.lines)) told c.in-Err-NoMemory.ensures.front)

@@ -39,14 +39,6 @@ same_pair {A} {B} r x y a b d e =
 pub map-drop : {A B : Type 0} (f : A → B) (xs : List A) (i : ℕ) (d : A) → i < length xs → map f (drop i xs) ≡ f (get_or xs i d) ∷ map f (drop (i + 1) xs)
 map-drop f xs i d h = rw add-one (ap (map f) (drop-cons xs i d h))
 
--- one more of them pushed: what is pushed, and what is made of the rest, is still the whole
-pub push-map : {A B : Type 0} (f : A → B) (xs : List A) (i : ℕ) (d : A) (out new whole : List B) (w : B) → i < length xs →
-    w ≡ f (get_or xs i d) → new ≡ out ++ w ∷ [] → out ++ map f (drop i xs) ≡ whole → new ++ map f (drop (i + 1) xs) ≡ whole
-push-map {B = B} f xs i d out new whole w h made pushed kept =
-    let rest : List B = map f (drop (i + 1) xs) in
-    ap (λ (l : List B). l ++ rest) pushed ∙ append_assoc out (w ∷ []) rest ∙ ap (λ (x : B). out ++ x ∷ rest) made
-    ∙ ap (λ (l : List B). out ++ l) (sym (map-drop f xs i d h)) ∙ kept
-
 -- the last element stands behind all others
 pub slice_get-last : {A : Type 0} (xs : List A) (x : A) → slice_get (xs ++ x ∷ []) (length xs) ≡ Some x
 slice_get-last [] x = refl

@@ -1,5 +1,5 @@
 -- Which entries fit their format: those whose fields are in their ranges and whose body is small enough.
-use Rattle.std.proofs.Common.{◌≡◌, ℕ, suc, ◌+◌, ◌<◌, ◌≤◌, ◌^◌, ◌==◌, nat_lt, nat_le, List, [], ◌∷◌, ◌++◌, length, Option, Some, None, Bool, true, false, ◌&&◌, ◌||◌, refl, sym, ◌∙◌, ap, arith, length-append, replicate}
+use Rattle.std.proofs.Common.{◌≡◌, ℕ, ◌+◌, ◌<◌, ◌≤◌, ◌^◌, ◌==◌, nat_lt, nat_le, List, [], ◌∷◌, ◌++◌, length, Option, Some, None, Bool, true, ◌&&◌, ◌||◌, refl, ◌∙◌, ap, arith, length-append}
 use Rattle.std.specs.List.{list_all, flat_map, AllByRecursion}
 use Rattle.std.specs.Cmp.Lexicographic.{bytes_decides}
 use Rattle.std.proofs.lemmas.Bool.{and_from}
@@ -12,9 +12,8 @@ use Rattle.gl_vmaps.specs.Fields.{write_bytes, map_bytes, key_bytes, optional_va
 use Rattle.gl_vmaps.specs.declared.write.Write.{Write}
 use Rattle.gl_vmaps.proofs.Bytes.{are_bytes-true}
 use Rattle.gl_vmaps.proofs.WriteLaws.{list_all-from_writes}
-use Rattle.gl_entry.specs.Entry.{no_digest, content_bytes, body_bytes, body_limit, kind_tag, are_sized, is_digest, is_recorded_signature, is_content, may_write, may_claim, are_no_writes, is_no_digest, is_entry}
+use Rattle.gl_entry.specs.Entry.{no_digest, content_bytes, body_bytes, body_limit, kind_tag, is_digest, is_recorded_signature, is_content, may_write, may_claim, are_no_writes, is_no_digest, is_entry}
 use Rattle.gl_entry.specs.declared.entry.Signature as signatures
-use Rattle.gl_entry.specs.declared.entry.Content.{Content}
 use Rattle.gl_entry.specs.declared.entry.Content.TheVariants as content
 use Rattle.gl_entry.specs.declared.entry.Entry.{Entry}
 

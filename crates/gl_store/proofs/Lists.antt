@@ -1,5 +1,5 @@
 -- One more element at the end of a list.
-use Rattle.std.proofs.Common.{◌≡◌, ℕ, zero, suc, ◌+◌, ◌<◌, ◌≤◌, List, [], ◌∷◌, ◌++◌, length, take, drop, map, get_or, Some, ◌⊎◌, inl, inr, refl, sym, ◌∙◌, ap, append_assoc, arith, ⊎_elim, Result, Ok, add-one, drop-cons}
+use Rattle.std.proofs.Common.{◌≡◌, ℕ, zero, suc, ◌+◌, ◌<◌, ◌≤◌, List, [], ◌∷◌, ◌++◌, length, take, drop, map, get_or, Some, ◌⊎◌, inl, inr, refl, ap, arith, ⊎_elim, Result, Ok, add-one, drop-cons}
 use Rattle.std.specs.List.{slice_get}
 
 -- an element of the longer list is one of the list, or the new one

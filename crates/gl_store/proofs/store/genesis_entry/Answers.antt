@@ -1,30 +1,29 @@
-use Rattle.std.proofs.Common.{rules, ◌≡◌, ◌↔◌, ◌+◌, ◌≤◌, ◌<◌, ◌^◌, [], ◌∷◌, ◌++◌, List, true, length, IsTrue, Err, IfOk, IfErr, IfSome, IfNone, OnErr, OnOk, ℕ, ◌-◌, ◌*◌, ◌/◌, ◌%◌, Bool, false, nat_eq, nat_lt, slice_index_or, slice_set, bit_and, bit_or, Fits, w8, w32, w64, Bor, MutBor}
-use Rattle.std.specs.List.{AllByRecursion}
-use Rattle.std.specs.Option.{option_copied}
-use Rattle.sha2.specs.Sha256.{sha256}
+use Rattle.std.proofs.Common.{◌≡◌, ◌≤◌, ◌∙◌, length, ap, sym, subst, refl, arith, rules, true}
 use Rattle.gl_base.specs.Field.{are_bytes}
-use Rattle.gl_base.specs.TxId.{last_seqno}
-use Rattle.gl_merkle.specs.Frontier.{HasLeaves, IsUnchanged}
-use Rattle.gl_vmaps.specs.Versions.{placed_at, IsAbove}
-use Rattle.gl_tx.specs.Request.{is_request, request_bytes, reply_bytes}
-use Rattle.gl_tx.specs.declared.request.Answer.{Answer}
-use Rattle.gl_entry.specs.Entry.{no_digest, is_entry, body_bytes, body_limit, content_bytes}
-use Rattle.gl_entry.specs.Leaf.{leaf_of}
-use Rattle.gl_entry.specs.declared.entry.Entry as made
-use Rattle.gl_store.specs.Genesis.{is_genesis}
-use Rattle.gl_store.specs.Tree.{leaves_of}
-use Rattle.gl_store.specs.Ledger.{genesis_entry, signature_entry, limited}
-use Rattle.gl_store.specs.Kept.{StandsFor}
+use Rattle.gl_entry.specs.Entry.{body_bytes, body_limit}
+use Rattle.gl_entry.specs.declared.entry.Entry.{Entry}
+use Rattle.gl_store.specs.Genesis.{genesis_bytes, genesis_writes}
+use Rattle.gl_store.specs.Ledger.{genesis_entry}
+use Rattle.gl_store.proofs.Entries.{writes_within, governance_fits, is_entry-from_fields}
 use Rattle.gl_store.proofs.store.genesis_entry.Goals as goal
 
--- src/store.rt:257:5
 pub prove-unreachable-requires-2 : goal.prove-unreachable-requires-2
-prove-unreachable-requires-2 c = ?
+prove-unreachable-requires-2 c =
+    let g = c.args.genesis.now in
+    let few : length (genesis_writes g) ≤ length (body_bytes (genesis_entry g)) = writes_within (genesis_entry g) in
+    let same : length c.as_slice-2.result.now ≡ length (genesis_writes g) = ap length (c.as_slice-2.ensures.value ∙ c.in_ok-writes.ensures) in
+    omega (arith, c.requires.small)
 
--- src/store.rt:247:1
 pub returns-clause-made : goal.returns-clause-made
-returns-clause-made c = ?
+returns-clause-made c =
+    let g = c.args.genesis.now in
+    let bytes : c.from-request.result ≡ genesis_bytes g = c.from-request.ensures ∙ c.in_ok-genesis_bytes.ensures in
+    let writes : c.in_ok-writes.writes ≡ genesis_writes g = c.in_ok-writes.ensures in
+    rw (bytes, writes) refl
 
--- src/store.rt:247:1
 pub returns-clause-fits : goal.returns-clause-fits
-returns-clause-fits c = ?
+returns-clause-fits c =
+    let recorded : are_bytes c.from-request.result ≡ true = search rules in
+    is_entry-from_fields _
+    (governance_fits 2 1 c.from-request.result c.in_ok-writes.writes _ (omega arith) (omega arith) recorded c.as_slice-2.ensures.limits c.as_slice-2.ensures.ordered refl)
+    (subst (λ (e : Entry). length (body_bytes e) ≤ body_limit) (sym (returns-clause-made c)) c.requires.small)

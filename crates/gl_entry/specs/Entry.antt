@@ -1,5 +1,5 @@
 -- Entries of a ledger (CCF documentation, "Ledger"), and the bytes of their frames.
-use Rattle.std.specs.Prelude.{ℕ, ◌+◌, ◌^◌, List, [], ◌∷◌, ◌++◌, Bool, true, false, ◌&&◌, length, replicate, nat_le, nat_lt, nat_eq, ◌==◌, not, ◌||◌}
+use Rattle.std.specs.Prelude.{ℕ, ◌+◌, ◌^◌, List, [], ◌∷◌, ◌++◌, Bool, true, false, ◌&&◌, length, replicate, nat_le, nat_lt, nat_eq, ◌==◌, ◌||◌}
 use Rattle.std.specs.Cmp.Lexicographic.{pointwise}
 use Rattle.std.specs.List.{flat_map, list_all}
 use Rattle.gl_base.specs.LittleEndian.{little_endian}
@@ -44,11 +44,15 @@ kind_tag (content.Application b) = 2
 kind_tag (content.Signature s) = 3
 kind_tag (content.Evidence d) = 4
 
+-- What a signature records, as bytes.
+abbrev pub signature_bytes : signatures.Signature → List ℕ
+signature_bytes s = s.node ++ little_endian 8 s.commit ++ s.root ++ with_u32_length s.signature
+
 -- What an entry records, as bytes.
 abbrev pub content_bytes : Content → List ℕ
 content_bytes (content.Governance b) = b
 content_bytes (content.Application b) = b
-content_bytes (content.Signature s) = s.node ++ little_endian 8 s.commit ++ s.root ++ with_u32_length s.signature
+content_bytes (content.Signature s) = signature_bytes s
 content_bytes (content.Evidence d) = d
 
 -- The body of an entry's frame: view, place, what it records, its writes behind their count, and its claims.

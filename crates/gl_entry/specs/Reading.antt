@@ -1,12 +1,12 @@
 -- Entries read from bytes, and the first fault from the left.
-use Rattle.std.specs.Prelude.{ℕ, zero, suc, ◌+◌, List, [], ◌∷◌, ◌++◌, Option, None, Some, Result, Ok, Err, Bool, not, ◌||◌, length, nat_lt, nat_le, ◌==◌, if◌then◌else◌}
+use Rattle.std.specs.Prelude.{ℕ, zero, suc, ◌+◌, List, [], ◌∷◌, Option, None, Some, Result, Ok, Err, Bool, true, ◌&&◌, ◌||◌, nat_le, ◌==◌, if◌then◌else◌}
 use Rattle.gl_base.specs.Steps.{◌>>=◌}
 use Rattle.gl_base.specs.Cut.{Unread, number_at, bytes_at, string_at}
 use Rattle.gl_base.specs.Code.{field, ended, unread_of}
 use Rattle.gl_base.specs.declared.code_fault.CodeFault.{CodeFault}
 use Rattle.gl_base.specs.declared.code_fault.CodeFault.TheVariants as codes
 use Rattle.gl_base.specs.declared.cut_fault.CutFault.{CutFault}
-use Rattle.gl_vmaps.specs.Writes.{stands_before, is_less, row_order}
+use Rattle.gl_vmaps.specs.Writes.{is_less, row_order}
 use Rattle.gl_vmaps.specs.Fields.{map_at, key_at, optional_value_at}
 use Rattle.gl_vmaps.specs.declared.write.Write.{Write}
 use Rattle.gl_entry.specs.Entry.{body_limit, may_write, may_claim, is_no_digest}
@@ -41,14 +41,17 @@ signature_at unread = do
 unfoldable pub evidence_at : Unread → Result (Content × Unread) CodeFault
 evidence_at unread = field (bytes_at 32 unread) >>= λ digest. Ok (content.Evidence digest.0, digest.1)
 
+-- A value that is all of the bytes, of which the first stands at a place.
+abbrev pub whole_at : {X : Type 0} → (Unread → Result (X × Unread) CodeFault) → ℕ → List ℕ → Result X CodeFault
+whole_at reading place bytes = reading (record { at = place; bytes = bytes }) >>= ended
+
 -- What an entry of a kind records, from the bytes of its request, of which the first stands at a place. Requests of governance and
 -- of applications are bytes here.
 unfoldable pub content_of : ℕ → ℕ → List ℕ → Result Content CodeFault
 content_of kind place bytes =
     if kind == 1 then Ok (content.Governance bytes)
     else (if kind == 2 then Ok (content.Application bytes)
-    else (if kind == 3 then (signature_at (record { at = place; bytes = bytes }) >>= ended)
-    else (evidence_at (record { at = place; bytes = bytes }) >>= ended)))
+    else (if kind == 3 then whole_at signature_at place bytes else whole_at evidence_at place bytes))
 
 abbrev pub is_kind : ℕ → Bool
 is_kind kind = nat_le 1 kind && nat_le kind 4
@@ -64,6 +67,11 @@ content_at unread = do
   Ok (recorded, request.1)
 
 -- Its writes
+
+-- The row of a write, if there is one.
+abbrev pub row_of : Option Write → Option (List ℕ × List ℕ)
+row_of None = None
+row_of (Some w) = Some (w.map, w.key)
 
 -- A row stands behind an earlier one, if there is one.
 abbrev pub is_behind : Option (List ℕ × List ℕ) → Write → Bool
@@ -112,6 +120,10 @@ body_at unread = do
   claims ← claims_at (may_claim recorded.0) writes.1
   Ok (record { view = view.0; seqno = seqno.0; content = recorded.0; writes = writes.0; claims = claims.0 }, claims.1)
 
+-- An entry whose body is all of the bytes.
+abbrev pub whole_body : Unread → Result Entry EntryFault
+whole_body unread = body_at unread >>= λ entry. part (ended entry)
+
 -- The size of a body behind a version of 1 and flags of 0.
 unfoldable pub size_at : Unread → Result (ℕ × Unread) EntryFault
 size_at unread = do
@@ -128,9 +140,8 @@ unfoldable pub frame_at : Unread → Result (Entry × Unread) EntryFault
 frame_at unread = do
   size ← size_at unread
   body ← entry_field (bytes_at size.0 size.1)
-  entry ← body_at (record { at = size.1.at; bytes = body.0 })
-  whole ← part (ended entry)
-  Ok (whole, body.1)
+  entry ← whole_body (record { at = size.1.at; bytes = body.0 })
+  Ok (entry, body.1)
 
 -- The entry whose frame bytes begin with, and how many bytes the frame has, or the first fault.
 abbrev pub first_entry : List ℕ → Result (Entry × ℕ) EntryFault

@@ -6,6 +6,9 @@ use gl_vmaps::Writes;
 /// A SHA-256 digest (FIPS 180-4): 32 bytes.
 pub type Digest = [u8; 32];
 
+/// The most bytes of a body: 1 MiB.
+pub(crate) const BODY_LIMIT: u64 = 1_048_576;
+
 /// A node's identifier: the SHA-256 digest of its LMS key's 56 bytes.
 pub type NodeId = Digest;
 

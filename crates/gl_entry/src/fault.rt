@@ -1,9 +1,13 @@
 //! Why bytes are not the frame of an entry.
 
 ghost use Rattle.std.specs.Prelude.{◌≡◌};
-ghost use Rattle.gl_entry.specs.declared.fault.EntryError.TheVariants.{NoMemory};
+ghost use Rattle.gl_base.specs.declared.code_fault.CodeFault.TheVariants.{Cut};
+ghost use Rattle.gl_entry.specs.Gives.{of_code, of_entry};
+ghost use Rattle.gl_entry.specs.declared.fault.EntryFault.TheVariants.{Code};
+ghost use Rattle.gl_entry.specs.declared.fault.EntryError.TheVariants.{NoMemory, Fault};
+ghost use Rattle.gl_entry.specs.declared.fault.LedgerError.TheVariants as ledger;
 
-use gl_base::CodeFault;
+use gl_base::{CodeError, CodeFault, CutFault};
 use std::alloc::{AllocError, AllocFailed};
 use thiserror::Error;
 
@@ -54,6 +58,41 @@ pub enum LedgerError {
     Fault(EntryFault),
 }
 
+impl From<CutFault> for EntryFault {
+    ghost from_gives = { λ fault e. e ≡ Code (Cut fault) };
+
+    fn from(fault: CutFault) -> EntryFault {
+        EntryFault::Code(CodeFault::Cut(fault))
+    }
+}
+
+impl From<EntryFault> for EntryError {
+    ghost from_gives = { λ fault e. e ≡ Fault fault };
+
+    fn from(fault: EntryFault) -> EntryError {
+        EntryError::Fault(fault)
+    }
+}
+
+impl From<CutFault> for EntryError {
+    ghost from_gives = { λ fault e. e ≡ Fault (Code (Cut fault)) };
+
+    fn from(fault: CutFault) -> EntryError {
+        EntryError::Fault(EntryFault::Code(CodeFault::Cut(fault)))
+    }
+}
+
+impl From<CodeError> for EntryError {
+    ghost from_gives = { λ error e. e ≡ of_code error };
+
+    fn from(error: CodeError) -> EntryError {
+        match error {
+            CodeError::NoMemory => EntryError::NoMemory,
+            CodeError::Fault(fault) => EntryError::Fault(EntryFault::Code(fault)),
+        }
+    }
+}
+
 impl From<AllocError> for EntryError {
     ghost from_gives = { λ _ e. e ≡ NoMemory };
 
@@ -67,5 +106,24 @@ impl<T: Drop> From<AllocFailed<T>> for EntryError {
 
     fn from(_e: AllocFailed<T>) -> EntryError {
         EntryError::NoMemory
+    }
+}
+
+impl From<AllocError> for LedgerError {
+    ghost from_gives = { λ _ e. e ≡ ledger.NoMemory };
+
+    fn from(_e: AllocError) -> LedgerError {
+        LedgerError::NoMemory
+    }
+}
+
+impl From<EntryError> for LedgerError {
+    ghost from_gives = { λ error e. e ≡ of_entry error };
+
+    fn from(error: EntryError) -> LedgerError {
+        match error {
+            EntryError::NoMemory => LedgerError::NoMemory,
+            EntryError::Fault(fault) => LedgerError::Fault(fault),
+        }
     }
 }

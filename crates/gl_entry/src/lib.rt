@@ -3,17 +3,22 @@
 #![tactic(auto)]
 
 mod bytes;
+mod contents;
 mod decoding;
 mod encoding;
 mod entry;
 mod fault;
-mod leaf;
+mod kept;
+mod leaves;
 mod reader;
+mod reading;
 
 pub use bytes::Bytes;
+pub use decoding::one_frame;
 pub use entry::{Content, Digest, Entry, NodeId, Signature};
 pub use fault::{EntryError, EntryFault, LedgerError};
-pub use leaf::{evidence, leaf, leaf_of_body};
+pub use kept::Kept;
+pub use leaves::{evidence, leaf, leaf_of_body};
 pub use reader::LedgerReader;
 
 #[cfg(test)]

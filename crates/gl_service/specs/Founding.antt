@@ -45,6 +45,10 @@ genesis_of s = record {
   dealing = dealing_of s;
 }
 
+-- The keys of so many members, from a number on.
+abbrev pub member_keys : Settings → ℕ → ℕ → List (List ℕ)
+member_keys s first count = map (λ (m : NewMember). m.key) (map (member_of s) (numbers_from first count))
+
 -- No two members have one key.
 abbrev pub has_distinct_keys : Settings → Bool
 has_distinct_keys s = are_distinct_bytes (map (λ (m : NewMember). m.key) (genesis_of s).members)

@@ -1,18 +1,21 @@
 //! The genesis of a service of one node.
 
-ghost use Rattle.std.specs.Prelude.{◌≡◌, ◌≤◌, ◌^◌, true, length, IfOk};
-ghost use Rattle.std.specs.List.{AllByRecursion};
+ghost use Rattle.std.specs.Prelude.{◌≡◌, ◌≤◌, ◌-◌, ◌^◌, suc, true, length, IfOk};
+ghost use Rattle.std.specs.List.{AllByRecursion, list_any};
+ghost use Rattle.gl_vmaps.specs.Tables.{same_bytes};
 ghost use Rattle.gl_entry.specs.Entry.{body_bytes, body_limit};
 ghost use Rattle.gl_store.specs.Genesis.{is_acceptable, is_genesis};
 ghost use Rattle.gl_store.specs.Ledger.{genesis_entry};
 ghost use Rattle.gl_service.specs.Keys.{recovery_secret};
-ghost use Rattle.gl_service.specs.Founding.{node_of, id_of, member_of, share_of, dealing_of, genesis_of, has_distinct_keys};
+ghost use Rattle.gl_service.specs.Founding.{node_of, id_of, member_of, share_of, dealing_of, genesis_of, member_keys, has_distinct_keys};
 ghost use Rattle.gl_service.specs.Single.{IsSingle};
 
 use crate::keys::{derived, hss_key, lms_key, numbered};
 use crate::settings::Settings;
 use gl_entry::{Bytes, NodeId};
-use gl_store::{Dealing, Genesis, LmsKey, Members, NewMember, NewNode, Nodes, ShareDigest, Shares};
+use gl_store::{
+    Dealing, Genesis, HssKey, LmsKey, Members, NewMember, NewNode, Nodes, ShareDigest, Shares,
+};
 use sha2::{Digest, Sha256};
 use std::alloc::{AllocError, Global};
 
@@ -29,20 +32,45 @@ pub fn node_id(settings: &Settings, number: u8) -> NodeId
     Sha256::digest(&node_key(settings, number))
 }
 
+fn member_key(settings: &Settings, number: u8) -> HssKey
+    ensures { result ≡ (member_of settings.now number).key }
+{
+    hss_key(1, &numbered(b"mem", u32::from(number), &settings.seed))
+}
+
 fn member(settings: &Settings, number: u8) -> NewMember
     ensures { result ≡ member_of settings.now number }
 {
     NewMember {
         number,
-        key: hss_key(1, &numbered(b"mem", u32::from(number), &settings.seed)),
+        key: member_key(settings, number),
     }
+}
+
+/// Whether a member behind this one has its key.
+fn is_key_repeated(settings: &Settings, number: u8) -> bool
+    requires { number ≤ settings.now.members }
+    ensures { result ≡ list_any (same_bytes (member_of settings.now number).key) (member_keys settings.now (suc number) (settings.now.members - number)) }
+{
+    let key = member_key(settings, number);
+    for i in number..settings.members {
+        if key == member_key(settings, i + 1) {
+            return true;
+        }
+    }
+    false
 }
 
 /// Whether no two members have one key.
 pub fn has_distinct_keys(settings: &Settings) -> bool
     ensures { result ≡ has_distinct_keys settings.now }
 {
-    todo()
+    for i in 0..settings.members {
+        if is_key_repeated(settings, i + 1) {
+            return false;
+        }
+    }
+    true
 }
 
 /// The members, numbered from 1.

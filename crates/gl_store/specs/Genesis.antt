@@ -83,22 +83,22 @@ is_governance_request (requests.Genesis g) = is_genesis g
 -- When it is acceptable
 
 -- No number of the list stands there twice.
-abbrev are_distinct : (ℕ → ℕ → Bool) → List ℕ → Bool
+abbrev pub are_distinct : (ℕ → ℕ → Bool) → List ℕ → Bool
 are_distinct eq [] = true
 are_distinct eq (x ∷ xs) = not (list_any (eq x) xs) && are_distinct eq xs
 
 -- No bytes of the list stand there twice.
-abbrev are_distinct_bytes : List (List ℕ) → Bool
+abbrev pub are_distinct_bytes : List (List ℕ) → Bool
 are_distinct_bytes [] = true
 are_distinct_bytes (x ∷ xs) = not (list_any (same_bytes x) xs) && are_distinct_bytes xs
 
 -- Each number is below all behind it.
-abbrev is_ascending : List ℕ → Bool
+abbrev pub is_ascending : List ℕ → Bool
 is_ascending [] = true
 is_ascending (x ∷ xs) = list_all (λ y. nat_lt x y) xs && is_ascending xs
 
 -- The numbers of members, in order.
-abbrev numbers_of : List NewMember → List ℕ
+abbrev pub numbers_of : List NewMember → List ℕ
 numbers_of members = map (λ (m : NewMember). m.number) members
 
 -- There is a node, no identifier stands twice, and they are no more than may be trusted, 32.

@@ -124,6 +124,14 @@ impl Store {
         }
     }
 
+    /// All entries, in order.
+    pub fn entries(&self) -> &[Entry]
+        ensures entries { result.now ≡ self.now.ledger }
+        ensures fit { AllByRecursion (λ e. is_entry e ≡ true) self.now.ledger }
+    {
+        &self.log.entries
+    }
+
     /// The view of the entry at a place. `None` at place 0 and above the last.
     pub fn view_at(&self, place: u64) -> Option<u32>
         ensures { result ≡ view_at self.now.ledger place }

@@ -1,5 +1,5 @@
 -- What an application asks of the tables and what it is answered: which lists of operations are requests, and the bytes of both.
-use Rattle.std.specs.Prelude.{ℕ, List, [], ◌∷◌, ◌++◌, Option, None, Some, Bool, true, ◌&&◌, length, nat_le, nat_lt, ◌^◌}
+use Rattle.std.specs.Prelude.{ℕ, List, [], ◌∷◌, ◌++◌, Bool, true, ◌&&◌, length, nat_le, nat_lt, ◌^◌}
 use Rattle.std.specs.List.{flat_map, list_all}
 use Rattle.gl_base.specs.LittleEndian.{little_endian}
 use Rattle.gl_vmaps.specs.Name.{is_map_name, is_key, is_value}

@@ -1,5 +1,5 @@
 -- What a request gives on tables: its answers and its write set, or the first operation that fails, and why.
-use Rattle.std.specs.Prelude.{ℕ, suc, ◌+◌, ◌^◌, List, [], ◌∷◌, Option, None, Some, Result, Ok, Err, Bool, true, false, not, ◌||◌, ◌&&◌, ◌==◌, length, nat_lt, nat_le, is_some, if◌then◌else◌}
+use Rattle.std.specs.Prelude.{ℕ, suc, ◌+◌, ◌^◌, List, [], ◌∷◌, Option, None, Some, Result, Ok, Err, Bool, true, false, not, ◌||◌, ◌==◌, length, nat_lt, if◌then◌else◌}
 use Rattle.gl_base.specs.LittleEndian.{little_endian, from_little_endian}
 use Rattle.gl_vmaps.specs.Name.{is_public, is_governance, is_internal, is_key}
 use Rattle.gl_vmaps.specs.Tables.{Tables, wrote, value_in, has_key, size_of, same_bytes}

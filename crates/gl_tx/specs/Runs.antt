@@ -2,8 +2,8 @@
 use Rattle.std.specs.Prelude.{◌≡◌, Result, Err}
 use Rattle.gl_tx.specs.Run.{Ran}
 use Rattle.gl_tx.specs.declared.request.Abort.{Abort}
-use Rattle.gl_tx.specs.declared.run.RunError.{RunError}
-use Rattle.gl_tx.specs.declared.run.RunError.TheVariants as errors
+use Rattle.gl_tx.specs.declared.running.RunError.{RunError}
+use Rattle.gl_tx.specs.declared.running.RunError.TheVariants as errors
 
 -- A run fails with the abort that is owed, or for want of memory.
 abbrev pub Aborts : Result Ran Abort → RunError → Type 0

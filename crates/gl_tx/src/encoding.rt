@@ -1,8 +1,9 @@
 //! The bytes of requests and replies. Numbers have their least significant byte first, and bytes of no
 //! fixed length stand behind their length.
 
-ghost use Rattle.std.specs.Prelude.{◌≡◌, ◌<◌, ◌^◌, ◌++◌, length, OnOk, IfOk};
+ghost use Rattle.std.specs.Prelude.{◌≡◌, ◌<◌, ◌^◌, ◌∷◌, ◌++◌, length, OnOk, IfOk};
 ghost use Rattle.std.specs.List.{flat_map};
+ghost use Rattle.gl_vmaps.specs.Fields.{map_bytes, key_bytes};
 ghost use Rattle.gl_tx.specs.Request.{operation_bytes, request_bytes, answer_bytes, reply_bytes};
 
 use crate::request::{Answer, Operation, Reply, Request};
@@ -11,7 +12,9 @@ use gl_vmaps::{Key, MapName, put_key, put_map, put_optional_value, put_value};
 use std::alloc::{AllocError, Global};
 
 /// Writes a tag, a map's name and a key.
-fn put_row(out: &mut Vec<u8>, tag: u8, map: &MapName, key: &Key) -> Result<(), AllocError> {
+fn put_row(out: &mut Vec<u8>, tag: u8, map: &MapName, key: &Key) -> Result<(), AllocError>
+    ensures { OnOk result (out.new.items ≡ out.old.items ++ ((tag ∷ map_bytes map.now) ++ key_bytes key.now)) }
+{
     out.push(tag)?;
     put_map(out, map)?;
     put_key(out, key)

@@ -5,11 +5,14 @@
 mod decoding;
 mod encoding;
 mod overlay;
+mod perform;
 mod request;
-mod run;
+mod running;
 
 pub use request::{Abort, Answer, Cause, Operation, Reply, Request};
-pub use run::{Ran, RunError, run};
+pub use running::{Ran, RunError, run};
 
+#[cfg(test)]
+mod run_tests;
 #[cfg(test)]
 mod tests;

@@ -1,10 +1,7 @@
 -- How many keys a map has: as many as changes set a row that no later change writes.
 use Rattle.std.proofs.Common.{◌≡◌, ℕ, ◌+◌, ◌≤◌, List, [], ◌∷◌, ◌++◌, Option, Some, None, Bool, true, false, ◌&&◌, refl, sym, ◌∙◌, ap, cond, subst, is_some, length, drop, if◌then◌else◌, append_assoc, arith}
 use Rattle.std.specs.Option.{is_none, option_or, option_map}
-use Rattle.std.specs.Prelude.{nat_eq}
 use Rattle.std.proofs.Math.ListN.{drop_of_length-le}
-use Rattle.std.proofs.lemmas.Bool.{and_parts}
-use Rattle.std.proofs.lemmas.Bool.Decides.{nat_tests}
 use Rattle.std.proofs.lemmas.List.{append-nil}
 use Rattle.gl_vmaps.specs.Tables.{Tables, no_tables, same_bytes, wrote, has_key, size_of}
 use Rattle.gl_vmaps.specs.Versions.{is_to_map, is_to_row, written_by}
@@ -12,7 +9,7 @@ use Rattle.gl_vmaps.specs.Scan.{last_to_row, value_behind, standing}
 use Rattle.gl_vmaps.specs.Kept.{placed}
 use Rattle.gl_vmaps.specs.declared.tables.Change.{Change}
 use Rattle.gl_vmaps.proofs.Scans.{last_such-cons, last_such-push}
-use Rattle.gl_vmaps.proofs.TablesLaws.{sized, size_of-wrote, size_of-nothing, written_behind-append}
+use Rattle.gl_vmaps.proofs.TablesLaws.{same_bytes-symm, same_bytes-eq, sized, size_of-wrote, size_of-nothing, written_behind-append}
 use Rattle.gl_vmaps.proofs.Changes.{written, value_in-placed, placed-append}
 
 -- ---- the count, change by change
@@ -48,31 +45,6 @@ count_step true true true n m None e c d met rest =
 count_step true true true n m (Some x) e c d met rest =
     let there : e ≡ Some x = met refl in
     rw there (elim (is_some d.write.value) as (λ b. (one_if (b && false) + n) + one_if (is_some x.write.value) ≡ (one_if (b && false) + m) + one_if (is_some c.write.value)) [ true ↦ omega (arith, rest) | false ↦ omega (arith, rest) ])
-
--- ---- the same bytes
-
-same_byte : (x y : ℕ) → nat_eq x y ≡ nat_eq y x
-same_byte x y = grind (arith, nat_tests)
-
-pub same_bytes-symm : (xs ys : List ℕ) → same_bytes xs ys ≡ same_bytes ys xs
-same_bytes-symm [] [] = refl
-same_bytes-symm [] (y ∷ ys) = refl
-same_bytes-symm (x ∷ xs) [] = refl
-same_bytes-symm (x ∷ xs) (y ∷ ys) = rw (same_byte x y, same_bytes-symm xs ys) refl
-
-pub same_bytes-eq : (xs ys : List ℕ) → same_bytes xs ys ≡ true → xs ≡ ys
-same_bytes-eq [] [] e = refl
-same_bytes-eq [] (y ∷ ys) e = absurd (cc)
-same_bytes-eq (x ∷ xs) [] e = absurd (cc)
-same_bytes-eq (x ∷ xs) (y ∷ ys) e =
-    let both = and_parts (nat_eq x y) (same_bytes xs ys) e in
-    let first : x ≡ y = grind (arith, nat_tests, both.0) in
-    let rest : xs ≡ ys = same_bytes-eq xs ys both.1 in
-    cc
-
-pub same_bytes-itself : (xs : List ℕ) → same_bytes xs xs ≡ true
-same_bytes-itself [] = refl
-same_bytes-itself (x ∷ xs) = let one : nat_eq x x ≡ true = grind (arith, nat_tests) in rw (one, same_bytes-itself xs) refl
 
 -- ---- one more change
 

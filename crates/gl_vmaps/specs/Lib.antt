@@ -5,3 +5,4 @@ pub mod Versions
 pub mod Fields
 pub mod Scan
 pub mod Kept
+pub mod Growth

@@ -1,7 +1,8 @@
 //! Answers about tables by scans of the changes that made them.
 
-ghost use Rattle.std.specs.Prelude.{◌≡◌, ◌+◌};
+ghost use Rattle.std.specs.Prelude.{◌≡◌, ◌+◌, ◌≤◌, length, IsTrue, IfSome};
 ghost use Rattle.std.specs.Option.{option_copied};
+ghost use Rattle.gl_vmaps.specs.Name.{is_value};
 ghost use Rattle.gl_vmaps.specs.Tables.{value_in, size_of};
 ghost use Rattle.gl_vmaps.specs.Versions.{is_to_map, is_to_row, written_by, version_in, map_version_in};
 ghost use Rattle.gl_vmaps.specs.Scan.{last_to_row, last_to_map, stands};
@@ -44,14 +45,16 @@ fn last_to_map<'a>(changes: &'a [Change], map: &[u8]) -> Option<&'a Change>
 
 /// What the write sets its row to, if it does.
 fn value_of(write: &Write) -> Option<&[u8]>
-    ensures { option_copied result ≡ write.now.value }
+    ensures value { option_copied result ≡ write.now.value }
+    ensures limit { IfSome result (λ value. IsTrue (is_value value.now)) }
 {
     write.value.as_ref().map(|value| value.as_slice())
 }
 
 /// The value of a row behind these changes.
 pub(crate) fn value_in<'a>(changes: &'a [Change], map: &[u8], key: &[u8]) -> Option<&'a [u8]>
-    ensures { option_copied result ≡ value_in (written_by (placed changes.now)) map.now key.now }
+    ensures value { option_copied result ≡ value_in (written_by (placed changes.now)) map.now key.now }
+    ensures limit { IfSome result (λ value. IsTrue (is_value value.now)) }
 {
     match last_to_row(changes, map, key) {
         None => None,
@@ -93,7 +96,8 @@ fn stands(change: &Change, later: &[Change], map: &[u8]) -> bool
 
 /// The number of keys that a map has behind these changes.
 pub(crate) fn size_of(changes: &[Change], map: &[u8]) -> u64
-    ensures { result ≡ size_of (written_by (placed changes.now)) map.now }
+    ensures value { result ≡ size_of (written_by (placed changes.now)) map.now }
+    ensures few { result ≤ length changes.now }
 {
     let mut size = 0;
     for (index, change) in changes.iter().enumerate() {

@@ -57,16 +57,15 @@ fn push_all(
     ensures kept { take (vec_len changes.old) changes.new.items ≡ changes.old.items }
 {
     for write in writes {
-        changes.push(Change {
-            place,
-            write: write.copy(alloc)?,
-        })?;
+        let write = write.copy(alloc)?;
+        changes.push(Change { place, write })?;
     }
     Ok(())
 }
 
 impl Tables {
-    ghost use Rattle.std.specs.Prelude.{◌≡◌, [], ◌++◌, IfOk, OnOk, OnErr};
+    ghost use Rattle.std.specs.Prelude.{◌≡◌, ◌<◌, ◌^◌, [], ◌++◌, IsTrue, IfSome, IfOk, OnOk, OnErr};
+    ghost use Rattle.gl_vmaps.specs.Name.{is_value};
     ghost use Rattle.gl_vmaps.specs.Tables.{value_in, has_key, size_of};
     ghost use Rattle.gl_vmaps.specs.Versions.{placed_at, written_by, version_in, map_version_in, up_to, IsAbove};
 
@@ -82,7 +81,8 @@ impl Tables {
 
     /// The value of a key in a map, if the map has that key.
     pub fn get(&self, map: &[u8], key: &[u8]) -> Option<&[u8]>
-        ensures { option_copied result ≡ value_in (written_by self.now) map.now key.now }
+        ensures value { option_copied result ≡ value_in (written_by self.now) map.now key.now }
+        ensures limit { IfSome result (λ value. IsTrue (is_value value.now)) }
     {
         value_in(&self.changes, map, key)
     }
@@ -96,7 +96,8 @@ impl Tables {
 
     /// The number of keys that the map has.
     pub fn size(&self, map: &[u8]) -> u64
-        ensures { result ≡ size_of (written_by self.now) map.now }
+        ensures value { result ≡ size_of (written_by self.now) map.now }
+        ensures few { result < 2 ^ 63 }
     {
         size_of(&self.changes, map)
     }

@@ -7,6 +7,7 @@ use Rattle.std.specs.declared.cmp.Ordering.TheVariants.{Less, Equal, Greater}
 use Rattle.std.specs.FinMap as rows
 use Rattle.gl_base.specs.LittleEndian.{from_little_endian, little_endian}
 use Rattle.gl_base.specs.TxId.{last_seqno}
+use Rattle.sha2.specs.Sha256.{sha256}
 use Rattle.gl_vmaps.specs.Name.{is_public, is_governance, is_internal, is_key}
 use Rattle.gl_vmaps.specs.Tables.{Tables, Rows, value_in, has_key}
 use Rattle.gl_vmaps.specs.Writes.{write_order, with_write, put_before}
@@ -24,20 +25,19 @@ use Rattle.gl_tx.specs.declared.request.Abort.{Abort}
 use Rattle.gl_tx.specs.declared.running.RunError.{RunError}
 use Rattle.gl_tx.specs.declared.running.RunError.TheVariants as runs
 use Rattle.gl_entry.specs.Entry.{body_bytes, body_limit}
+use Rattle.gl_entry.specs.declared.entry.Content.TheVariants as content
 use Rattle.gl_entry.specs.declared.entry.Entry.{Entry}
 use Rattle.gl_store.specs.Genesis.{service_map, service_key}
 use Rattle.gl_store.specs.Effect.{service_state, state_of_value}
 use Rattle.gl_store.specs.Tree.{tables_of}
 use Rattle.gl_store.specs.Serial.{IsSound, IsApplicationEntry}
-use Rattle.gl_store.specs.Ledger.{application_entry, Refuses, executed, executed_in, ran_behind, limited, within_sizes, within_places}
+use Rattle.gl_store.specs.Ledger.{application_entry, Refuses, executed, executed_in, ran_behind, limited}
 use Rattle.gl_store.specs.Kept.{IsUpTo}
 use Rattle.gl_store.specs.Refusals as refusing
 use Rattle.gl_store.specs.declared.genesis.ServiceState.{ServiceState}
 use Rattle.gl_store.specs.declared.genesis.ServiceState.TheVariants.{Opening, Open}
 use Rattle.gl_store.specs.declared.refusal.Refusal.{Refusal}
 use Rattle.gl_store.specs.declared.refusal.Refusal.TheVariants as refusals
-use Rattle.gl_store.specs.declared.refusal.StoreError.{StoreError}
-use Rattle.gl_store.specs.declared.refusal.StoreError.TheVariants as errors
 use Rattle.gl_store.proofs.Lists.{same_pair}
 use Rattle.gl_store.proofs.Growth.{IsOutside, sound-push}
 
@@ -267,6 +267,18 @@ limited_within ledger e a body reply left =
     let short : nat_lt body_limit (length (reply_bytes a)) ≡ false = grind (arith, nat_tests) in
     let place : nat_lt (length ledger) last_seqno ≡ true = grind (arith, nat_tests) in
     rw (small, short, place) refl
+
+pub executed_within : (ledger : List Entry) (view : ℕ) (q : List Operation) (ran : Ran) (e : Entry) → service_state (tables_of ledger) ≡ Open →
+    run q (tables_of ledger) ≡ Ok ran → e ≡ application_entry ledger view q ran → length (body_bytes e) ≤ body_limit → length (reply_bytes ran.answers) ≤ body_limit →
+    length ledger < last_seqno → executed ledger view q ≡ Ok (e, ran.answers)
+executed_within ledger view q ran e is_open runs made body reply left =
+    executed_ran ledger view q ran is_open runs ∙ ap (λ (x : Entry). limited ledger x ran.answers) (sym made) ∙ limited_within ledger e ran.answers body reply left
+
+-- an entry of these fields is the one of the request that ran
+pub application_made : (ledger : List Entry) (view place : ℕ) (q : List Operation) (ran : Ran) (reply : List ℕ) (e : Entry) →
+    e ≡ record { view = view; seqno = place; content = content.Application (request_bytes q); writes = ran.writes; claims = sha256 reply } →
+    place ≡ length ledger + 1 → reply ≡ reply_bytes ran.answers → e ≡ application_entry ledger view q ran
+application_made ledger view place q ran reply e made at spelled = made ∙ rw (at, spelled) refl
 
 -- and where it was aborted
 pub refused_run : (ledger : List Entry) (view : ℕ) (q : List Operation) (e : RunError) → service_state (tables_of ledger) ≡ Open →

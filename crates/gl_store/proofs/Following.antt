@@ -7,7 +7,6 @@ use Rattle.gl_base.specs.declared.tx_id.TxId.{TxId}
 use Rattle.gl_store.specs.Ledger.{Held, Executes, Signs, signed, entry_at, genesis_entry, signature_entry, opening_ledger, IsSignedAt}
 use Rattle.gl_store.specs.Kept.{IsUpTo}
 use Rattle.gl_store.specs.declared.genesis.Genesis as request
-use Rattle.gl_store.specs.declared.refusal.Refusal.{Refusal}
 use Rattle.gl_store.specs.declared.refusal.Refusal.TheVariants as refusals
 use Rattle.gl_entry.specs.declared.entry.Entry.{Entry}
 use Rattle.gl_tx.specs.declared.request.Operation.{Operation}

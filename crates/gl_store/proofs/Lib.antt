@@ -7,3 +7,5 @@ pub mod Openings
 pub mod Applications
 pub mod Following
 pub mod Keeping
+pub mod Entries
+pub mod Founding

@@ -1,13 +1,13 @@
 -- The opening ledger of an acceptable genesis is sound, and its tables tell the service's state and key.
-use Rattle.std.proofs.Common.{◌≡◌, ℕ, zero, suc, ◌≤◌, ◌+◌, List, [], ◌∷◌, ◌++◌, Some, Bool, true, ◌&&◌, map, refl, sym, ◌∙◌, ap, subst, arith, take}
+use Rattle.std.proofs.Common.{◌≡◌, ℕ, zero, suc, ◌≤◌, List, [], ◌∷◌, ◌++◌, Some, true, map, refl, ◌∙◌, ap, subst, arith, take}
 use Rattle.std.specs.List.{slice_get, list_all}
 use Rattle.std.proofs.lemmas.Bool.{and_from}
-use Rattle.std.proofs.lemmas.List.Folds.{list_all-append, list_all-map}
+use Rattle.std.proofs.lemmas.List.Folds.{list_all-append}
 use Rattle.gl_vmaps.specs.Tables.{Tables, no_tables, value_in, wrote_all}
 use Rattle.gl_vmaps.specs.Writes.{with_write}
 use Rattle.gl_vmaps.specs.declared.write.Write.{Write}
 use Rattle.gl_entry.specs.declared.entry.Entry.{Entry}
-use Rattle.gl_store.specs.Genesis.{genesis_bytes, genesis_rows, genesis_writes, constitution_rows, row, dealing_map, dealing_key, dealing_bytes, member_row, node_row, node_rows, service_row, service_map, service_key, set_from, write_set, state_byte, is_acceptable, is_genesis}
+use Rattle.gl_store.specs.Genesis.{genesis_bytes, genesis_rows, genesis_writes, constitution_rows, row, dealing_map, dealing_key, dealing_bytes, member_row, node_row, node_rows, service_row, service_map, service_key, write_set, state_byte, is_acceptable, is_genesis}
 use Rattle.gl_store.specs.Effect.{state_of_value, service_state, identity_of_value, identity_in}
 use Rattle.gl_store.specs.Serial.{IsSound, IsGovernanceEntry, StandsAs}
 use Rattle.gl_store.specs.Tree.{tables_of}
@@ -82,7 +82,7 @@ genesis_stands g acceptable fits = record {
   claims = refl;
 }
 
-genesis_sound : (g : request.Genesis) → is_acceptable g ≡ true → is_genesis g ≡ true → IsSound (genesis_entry g ∷ [])
+pub genesis_sound : (g : request.Genesis) → is_acceptable g ≡ true → is_genesis g ≡ true → IsSound (genesis_entry g ∷ [])
 genesis_sound g acceptable fits = record {
   in_order = record { places = places; views = views };
   serial = serial;

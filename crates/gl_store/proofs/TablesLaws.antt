@@ -1,8 +1,11 @@
 -- The tables and the leaves of a ledger with one more entry.
-use Rattle.std.proofs.Common.{◌≡◌, ℕ, suc, ◌<◌, List, [], ◌∷◌, ◌++◌, length, Some, refl, sym, ◌∙◌, ap, subst, arith, append_assoc}
-use Rattle.std.specs.List.{slice_get, flat_map, AllByRecursion}
+use Rattle.std.proofs.Common.{◌≡◌, ℕ, suc, ◌+◌, ◌<◌, List, [], ◌∷◌, ◌++◌, length, Some, refl, sym, ◌∙◌, ap, subst, arith}
+use Rattle.std.specs.List.{slice_get}
 use Rattle.std.proofs.lemmas.Grind.{flat_map-append}
 use Rattle.std.proofs.lemmas.List.{append-nil}
+use Rattle.gl_merkle.specs.Tree.{root_of}
+use Rattle.gl_merkle.specs.Peaks.{peaks_of, peaks_within}
+use Rattle.gl_merkle.specs.Frontier.{Content, count_of, ForLeaves}
 use Rattle.gl_vmaps.specs.Tables.{Tables, no_tables, wrote, wrote_all}
 use Rattle.gl_vmaps.specs.Versions.{Placed, placed_at, written_behind, IsAbove}
 use Rattle.gl_vmaps.proofs.TablesLaws.{written_behind-append}
@@ -12,6 +15,7 @@ use Rattle.gl_entry.specs.declared.entry.Entry.{Entry}
 use Rattle.gl_store.specs.Effect.{identity_in}
 use Rattle.gl_store.specs.Serial.{IsLedger}
 use Rattle.gl_store.specs.Tree.{writes_of, tables_of, leaves_from, leaves_of}
+use Rattle.gl_store.specs.Kept.{StandsFor}
 use Rattle.gl_store.proofs.Lists.{within}
 
 -- the writes of an entry, at its place
@@ -79,8 +83,25 @@ above_each : (place : ℕ) (es : List Entry) → ((i : ℕ) (e : Entry) → slic
 above_each place [] below = tt
 above_each place (e ∷ es) below = above-append place (placed_in e) (writes_of es) (above-placed_at place e.seqno e.writes (below 0 e refl)) (above_each place es (λ i f s. below (suc i) f s))
 
--- the next place is above those of all writes
-pub next_above : (ledger : List Entry) → IsLedger ledger → IsAbove (suc (length ledger)) (writes_of ledger)
+next_above : (ledger : List Entry) → IsLedger ledger → IsAbove (suc (length ledger)) (writes_of ledger)
 next_above ledger h =
     above_each (suc (length ledger)) ledger
     (λ i e s. let there : i < length ledger = within ledger i e s in let place : e.seqno ≡ suc i = h.places i e s in omega arith)
+
+-- the next place is above those of all writes
+pub above_next : (ledger : List Entry) (tables : List Placed) (place : ℕ) → IsLedger ledger → tables ≡ writes_of ledger → place ≡ length ledger + 1 → IsAbove place tables
+above_next ledger tables place h are at =
+    let next : suc (length ledger) ≡ place = omega arith in
+    subst (λ (ps : List Placed). IsAbove place ps) (sym are) (subst (λ (n : ℕ). IsAbove n (writes_of ledger)) next (next_above ledger h))
+
+-- ---- the root
+
+-- a frontier that stands for leaves has their root
+pub root_of_frontier : (f : Content) (leaves : List (List ℕ)) (root : List ℕ) → StandsFor f leaves → ForLeaves f (λ ls. root ≡ root_of ls) → root ≡ root_of leaves
+unfolding peaks_of peaks_within
+root_of_frontier f leaves root stands all = all [] (record { count = sym stands.base; peaks = sym stands.peaks }) ∙ ap root_of stands.leaves_are
+
+pub count_of_frontier : (f : Content) (ledger : List Entry) → StandsFor f (leaves_of ledger) → count_of f ≡ length ledger
+count_of_frontier f ledger stands =
+    let leaves : length f.leaves ≡ length ledger = ap length stands.leaves_are ∙ length-leaves_of ledger in
+    omega (arith, stands.base)

@@ -1,5 +1,5 @@
 -- What a store keeps beside its ledger, so that answers need no scan of it.
-use Rattle.std.specs.Prelude.{◌≡◌, ℕ, ◌≤◌, ◌<◌, ◌^◌, List, [], ◌∷◌, Some, true, length, slice_get}
+use Rattle.std.specs.Prelude.{◌≡◌, ℕ, ◌≤◌, List, [], Some, true, length, slice_get}
 use Rattle.std.specs.List.{AllByRecursion}
 use Rattle.gl_base.specs.TxId.{last_seqno}
 use Rattle.gl_merkle.specs.Frontier as frontiers

@@ -13,19 +13,19 @@ use sha2::{Digest, Sha256};
 use std::alloc::{AllocError, Global};
 
 /// A row set to a value.
-fn row(alloc: Global, map: &[u8], key: &[u8], value: Vec<u8>) -> Result<Write, AllocError>
+fn row(alloc: Global, map: &[u8], key: &[u8], value: &[u8]) -> Result<Write, AllocError>
     requires map { IsTrue (is_map_name map.now) }
     requires some_key { 1 ≤ length key.now }
     requires few_key { length key.now ≤ 1024 }
-    requires value { length value.items ≤ 65536 }
-    ensures { IfOk result (λ write. write ≡ row map.now key.now value.items) }
+    requires value { length value.now ≤ 65536 }
+    ensures { IfOk result (λ write. write ≡ row map.now key.now value.now) }
 {
     let map = MapName::from_slice(alloc, map)?;
     let key = Key::from_slice(alloc, key)?;
     Ok(Write {
         map,
         key,
-        value: Some(Value::of(value)),
+        value: Some(Value::of(Vec::from_slice(alloc, value)?)),
     })
 }
 
@@ -36,7 +36,7 @@ fn rule_row(alloc: Global, action: u8) -> Result<Write, AllocError>
     let mut value = Vec::new(alloc);
     put_u16(&mut value, 1)?;
     put_u16(&mut value, 2)?;
-    row(alloc, b"public:ccf.gov.constitution", &[action], value)
+    row(alloc, b"public:ccf.gov.constitution", &[action], &value)
 }
 
 fn put_constitution(alloc: Global, writes: &mut Writes) -> Result<(), AllocError>
@@ -54,7 +54,7 @@ fn dealing_row(alloc: Global, dealing: &Dealing) -> Result<Write, AllocError>
     ensures { IfOk result (λ write. write ≡ row dealing_map dealing_key (dealing_bytes dealing.now)) }
 {
     let value = dealing_bytes(alloc, dealing)?;
-    row(alloc, b"public:ccf.gov.dealing", b"d", value)
+    row(alloc, b"public:ccf.gov.dealing", b"d", &value)
 }
 
 #[tactic(auto, using(crate::proofs::Sizes::sizes))]
@@ -65,7 +65,7 @@ fn member_row(alloc: Global, member: &NewMember) -> Result<Write, AllocError>
     value.push(1)?;
     put_bytes(&mut value, &member.key)?;
     put_u32(&mut value, 0)?;
-    row(alloc, b"public:ccf.gov.members", &[member.number], value)
+    row(alloc, b"public:ccf.gov.members", &[member.number], &value)
 }
 
 /// The identifier of a node.
@@ -88,7 +88,7 @@ fn node_row(alloc: Global, order: u16, node: &NewNode) -> Result<Write, AllocErr
     put_u32(&mut value, endorsement.len() as u32)?;
     put_bytes(&mut value, endorsement)?;
     put_u64(&mut value, 0)?;
-    row(alloc, b"public:ccf.gov.nodes", &node_id(node), value)
+    row(alloc, b"public:ccf.gov.nodes", &node_id(node), &value)
 }
 
 fn service_row(alloc: Global, genesis: &Genesis) -> Result<Write, AllocError>
@@ -98,7 +98,7 @@ fn service_row(alloc: Global, genesis: &Genesis) -> Result<Write, AllocError>
     value.push(state_byte(genesis.state))?;
     value.push(0)?;
     put_bytes(&mut value, &genesis.identity)?;
-    row(alloc, b"public:ccf.gov.service", b"s", value)
+    row(alloc, b"public:ccf.gov.service", b"s", &value)
 }
 
 fn put_members(alloc: Global, members: &[NewMember], writes: &mut Writes) -> Result<(), AllocError>

@@ -1,9 +1,22 @@
 //! The store of one node: what it holds, and what it makes of requests.
 
-ghost use Rattle.std.specs.Prelude.{◌≡◌, ◌≢◌, ◌+◌, ◌≤◌, ◌<◌, ◌^◌, [], ◌∷◌, ◌++◌, true, length, Ok, Err, IfOk, IfErr, IfSome, OnErr, OnOk};
+ghost use Rattle.std.specs.Prelude.{◌≡◌, ◌↔◌, ◌+◌, ◌≤◌, ◌<◌, ◌^◌, [], ◌∷◌, ◌++◌, List, true, length, IsTrue, Err, IfOk, IfErr, IfSome, IfNone, OnErr, OnOk};
 ghost use Rattle.std.specs.List.{AllByRecursion};
 ghost use Rattle.std.specs.Option.{option_copied};
-ghost use Rattle.gl_entry.specs.Entry.{no_digest};
+ghost use Rattle.sha2.specs.Sha256.{sha256};
+ghost use Rattle.gl_base.specs.Field.{are_bytes};
+ghost use Rattle.gl_base.specs.TxId.{last_seqno};
+ghost use Rattle.gl_merkle.specs.Frontier.{HasLeaves, IsUnchanged};
+ghost use Rattle.gl_vmaps.specs.Versions.{placed_at, IsAbove};
+ghost use Rattle.gl_tx.specs.Request.{is_request, request_bytes, reply_bytes};
+ghost use Rattle.gl_tx.specs.declared.request.Answer.{Answer};
+ghost use Rattle.gl_entry.specs.Entry.{no_digest, is_entry, body_bytes, body_limit, content_bytes};
+ghost use Rattle.gl_entry.specs.Leaf.{leaf_of};
+ghost use Rattle.gl_entry.specs.declared.entry.Entry as made;
+ghost use Rattle.gl_store.specs.Genesis.{is_genesis};
+ghost use Rattle.gl_store.specs.Tree.{leaves_of};
+ghost use Rattle.gl_store.specs.Ledger.{genesis_entry, signature_entry, limited};
+ghost use Rattle.gl_store.specs.Kept.{StandsFor};
 
 use crate::encode::genesis_bytes;
 use crate::genesis::{Genesis, HssKey, ServiceState};
@@ -60,13 +73,12 @@ const SIZE_LIMIT: usize = 1_048_576;
 const NO_DIGEST: Digest = [0; 32];
 
 impl Store {
-    ghost use Rattle.gl_store.specs.Genesis.{is_acceptable, is_genesis};
-    ghost use Rattle.gl_store.specs.Ledger.{Executes, Signs, Refuses, executed, signed, genesis_entry, opening_ledger, entry_at, view_at, held_status, commit_of, last_signature, IsSignedAt};
+    ghost use Rattle.gl_store.specs.Genesis.{is_acceptable};
+    ghost use Rattle.gl_store.specs.Ledger.{Executes, Signs, Refuses, executed, signed, opening_ledger, entry_at, view_at, held_status, commit_of, last_signature, IsSignedAt};
     ghost use Rattle.gl_store.specs.Tree.{writes_of, tables_of};
     ghost use Rattle.gl_store.specs.Effect.{service_state};
     ghost use Rattle.gl_store.specs.Serial.{IsSound};
     ghost use Rattle.gl_store.specs.Kept.{IsUpTo};
-    ghost use Rattle.gl_entry.specs.Entry.{is_entry, body_bytes, body_limit};
 
     /// The store of a service that begins: the genesis at place 1, and the signature of its node at
     /// place 2, both in view 2 and committed. Fails for want of memory alone.
@@ -231,21 +243,43 @@ impl Store {
     }
 }
 
+/// Whether bytes are few enough that their length is spelled in four bytes.
+fn is_short(bytes: &[u8]) -> bool
+    ensures short { IsTrue result ↔ (length bytes.now < 2 ^ 32) }
+    ensures bytes { are_bytes bytes.now ≡ true }
+{
+    bytes.len() < 1 << 32
+}
+
 /// The entry of a genesis.
-fn genesis_entry(alloc: Global, genesis: &Genesis) -> Result<Entry, AllocError> {
-    let request = genesis_bytes(alloc, genesis)?;
+fn genesis_entry(alloc: Global, genesis: &Genesis) -> Result<Entry, AllocError>
+    requires fits { is_genesis genesis.now ≡ true }
+    requires endorsements { AllByRecursion (λ node. length node.endorsement ≤ 2 ^ 15) genesis.now.nodes }
+    requires small { length (body_bytes (genesis_entry genesis.now)) ≤ body_limit }
+    ensures made { IfOk result (λ entry. entry ≡ genesis_entry genesis.now) }
+    ensures fits { IfOk result (λ entry. is_entry entry ≡ true) }
+{
+    let request = Bytes::from(genesis_bytes(alloc, genesis)?);
     let writes = genesis_writes(alloc, genesis)?;
+    prove!(is_short(request.as_slice()));
+    prove!(writes.as_slice().len() < 1 << 32);
     Ok(Entry {
         view: 2,
         seqno: 1,
-        content: Content::Governance(Bytes::from(request)),
+        content: Content::Governance(request),
         writes,
         claims: NO_DIGEST,
     })
 }
 
 /// A signature behind the entries of a log.
-fn signature_entry(alloc: Global, log: &Log, node: NodeId, view: u32, commit: u64) -> Entry {
+fn signature_entry(alloc: Global, log: &Log, node: NodeId, view: u32, commit: u64) -> Entry
+    requires some { 0 < length log.now.entries.items }
+    requires left { length log.now.entries.items < last_seqno }
+    requires tree { StandsFor log.now.frontier (leaves_of log.now.entries.items) }
+    ensures made { result ≡ signature_entry node log.now.entries.items view commit }
+    ensures fits { is_entry result ≡ true }
+{
     Entry {
         view,
         seqno: log.entries.len() as u64 + 1,
@@ -268,18 +302,41 @@ fn application_entry(
     request: &Request,
     writes: Writes,
     reply: &[u8],
-) -> Result<Entry, AllocError> {
+) -> Result<Entry, AllocError>
+    requires { length writes ≤ 64 }
+    ensures request { OnOk result (is_request request.now ≡ true) }
+    ensures made { IfOk result (λ entry. entry ≡ record {
+      view = view;
+      seqno = seqno;
+      content = Content.Application (request_bytes request.now);
+      writes = writes;
+      claims = sha256 reply.now;
+    }) }
+    ensures recorded { IfOk result (λ entry. length (content_bytes entry.content) < 2 ^ 32) }
+    ensures fits { IfOk result (λ entry. length (body_bytes entry) ≤ body_limit → is_entry entry ≡ true) }
+{
+    prove!(request.as_slice().len() <= 64);
+    let recorded = Bytes::from(request.encode(alloc)?);
+    prove!(is_short(recorded.as_slice()));
+    prove!(writes.as_slice().len() <= 64);
     Ok(Entry {
         view,
         seqno,
-        content: Content::Application(Bytes::from(request.encode(alloc)?)),
+        content: Content::Application(recorded),
         writes,
         claims: Sha256::digest(reply),
     })
 }
 
 /// The first limit that an entry passes: the size of its body, that of its reply, its place.
-fn limit_passed(body: &[u8], reply: &[u8], seqno: u64) -> Option<Refusal> {
+fn limit_passed(body: &[u8], reply: &[u8], seqno: u64) -> Option<Refusal>
+    ensures body { IfNone result (length body.now ≤ body_limit) }
+    ensures reply { IfNone result (length reply.now ≤ body_limit) }
+    ensures place { IfNone result (seqno ≤ last_seqno) }
+    ensures owed { IfSome result (λ refusal. (ledger : List made.Entry) (e : made.Entry) (answers : List Answer) →
+        body.now ≡ body_bytes e → reply.now ≡ reply_bytes answers → seqno ≡ length ledger + 1 →
+        limited ledger e answers ≡ Err refusal) }
+{
     if body.len() > SIZE_LIMIT {
         Some(Refusal::TooLarge {
             size: body.len() as u64,
@@ -295,13 +352,22 @@ fn limit_passed(body: &[u8], reply: &[u8], seqno: u64) -> Option<Refusal> {
     }
 }
 
-/// Adds an entry, with its leaf under the service's key.
+/// Adds an entry, with its leaf under the service's key. Want of memory leaves all as it was.
 fn push_entry(
     alloc: Global,
     log: &mut Log,
     identity: &HssKey,
     entry: Entry,
-) -> Result<(), AllocError> {
+) -> Result<(), AllocError>
+    requires above { IsAbove entry.seqno log.old.tables }
+    requires small { length (body_bytes entry) ≤ body_limit }
+    ensures entries { OnOk result (log.new.entries.items ≡ log.old.entries.items ++ entry ∷ []) }
+    ensures tables { OnOk result (log.new.tables ≡ log.old.tables ++ placed_at entry.seqno entry.writes) }
+    ensures leaves { OnOk result (HasLeaves log.old.frontier log.new.frontier (log.old.frontier.leaves ++ leaf_of identity.now entry ∷ [])) }
+    ensures entries_kept { OnErr result (log.new.entries.items ≡ log.old.entries.items) }
+    ensures tables_kept { OnErr result (log.new.tables ≡ log.old.tables) }
+    ensures leaves_kept { OnErr result (IsUnchanged log.old.frontier log.new.frontier) }
+{
     let body = entry.body(alloc)?;
     let leaf = leaf_of_body(alloc, identity, &entry, &body)?;
     log.push(entry, leaf)

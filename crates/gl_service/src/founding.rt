@@ -61,7 +61,8 @@ fn is_key_repeated(settings: &Settings, number: u8) -> bool
     false
 }
 
-/// Whether no two members have one key.
+/// Whether no two members have one key. Each member's key is compared with those of all behind it, and
+/// none is kept, so this takes time that grows with the square of their count.
 pub fn has_distinct_keys(settings: &Settings) -> bool
     ensures { result ≡ has_distinct_keys settings.now }
 {

@@ -7,3 +7,6 @@ mod settings;
 
 pub use founding::{genesis, has_distinct_keys, node_id};
 pub use settings::Settings;
+
+#[cfg(test)]
+mod tests;

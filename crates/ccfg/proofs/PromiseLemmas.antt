@@ -200,9 +200,11 @@ limits e r a is = absurd (omega (arith, is))
 
 pub no_reading : (e : Ending) (r : Run) → Answers e r → exit_status e ≡ 9 → AreWords r.words × IfSome r.given (λ g. TellsNoReading g r.held r.holds)
 no_reading (Refused (faults.Line number)) r a is =
-    let words = one_word (Refused (faults.Line number)) r a (λ q. omega (arith, q)) (λ q. omega (arith, q)) (λ q. omega (arith, q)) in
-    (words, some_map r.given (λ g. Tells (faults.Line number) g × Appends r.held r.holds (fault_line (faults.Line number))) (λ g. TellsNoReading g r.held r.holds)
-    (λ g t. (number, t.0, t.1)) (tells (faults.Line number) r a words))
+    let words = one_word (Refused (faults.Line number)) r a (λ q. omega (arith, q)) (λ q. omega (arith, q)) (λ q. omega (arith, q)) in (
+      words,
+      some_map r.given (λ g. Tells (faults.Line number) g × Appends r.held r.holds (fault_line (faults.Line number))) (λ g. TellsNoReading g r.held r.holds)
+          (λ g t. (number, t.0, t.1)) (tells (faults.Line number) r a words),
+    )
 no_reading (Refused faults.Words) r a is = absurd (omega (arith, is))
 no_reading (Refused faults.Bytes) r a is = absurd (omega (arith, is))
 no_reading (Refused faults.Lines) r a is = absurd (omega (arith, is))

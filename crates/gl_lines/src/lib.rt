@@ -15,3 +15,6 @@ pub use schedule::{Command, Line, Lines, Schedule, WorldLine};
 pub use split::line_count;
 pub use stop::ReadError;
 pub use world::first_world;
+
+#[cfg(test)]
+mod tests;

@@ -9,3 +9,4 @@ pub mod Following
 pub mod Keeping
 pub mod Entries
 pub mod Founding
+pub mod Bodies

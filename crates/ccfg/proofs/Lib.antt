@@ -1,8 +1,6 @@
-pub mod LineLemmas
-pub mod ReadingLemmas
 pub mod MachineLemmas
 pub mod PlayLemmas
 pub mod Played
 pub mod WordLemmas
-mod HeadlineLemmas
+pub mod HeadlineLemmas
 mod PromiseLemmas

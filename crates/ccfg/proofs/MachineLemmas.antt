@@ -5,7 +5,7 @@ use Rattle.std.proofs.lemmas.Bool.Decides.{nat_tests}
 use Rattle.std.proofs.Math.Bool.{and-true}
 use Rattle.gl_service.proofs.Lists.{there}
 use Rattle.gl_base.specs.declared.tx_id.TxId.{TxId}
-use Rattle.gl_rules.specs.Node.{Node}
+use Rattle.gl_rules.specs.Node.{Node, Leader}
 use Rattle.gl_rules.specs.Outcome.{Step, quiet, refuse, idle, KeyExhausted, NotReserved, NothingToSign, ByLedger}
 use Rattle.gl_rules.specs.Outcome as outcome
 use Rattle.gl_rules.specs.Steps.{appended}
@@ -13,20 +13,24 @@ use Rattle.gl_rules.specs.Requests.{submit, reserve, sign, signs, signed, signs_
 use Rattle.gl_rules.specs.Replication.{advance, commits}
 use Rattle.gl_rules.specs.Log.{entry_at}
 use Rattle.gl_rules.specs.World.{leader_at_start}
-use Rattle.gl_store.specs.Entry.{is_signature}
+use Rattle.gl_entry.specs.Entry.{is_signature}
 use Rattle.gl_store.specs.Kept.{IsUpTo}
-use Rattle.gl_store.specs.Ledger.{Held, Executes, executed, signature_entry, signature_place, last_signature, IsSignedAt}
-use Rattle.gl_store.specs.declared.entry.Entry.{Entry}
-use Rattle.gl_store.specs.declared.request.Operation.{Operation}
-use Rattle.gl_store.specs.declared.request.Answer.{Answer}
+use Rattle.gl_base.specs.TxId.{last_seqno}
+use Rattle.gl_tx.specs.Request.{is_request}
+use Rattle.gl_store.specs.Ledger.{Held, Executes, Signs, executed, signature_entry, signature_place, last_signature, opening_ledger, IsSignedAt}
+use Rattle.gl_store.specs.Ledger as made
+use Rattle.gl_store.specs.declared.refusal.Refusal.TheVariants as refusals
+use Rattle.gl_entry.specs.declared.entry.Entry.{Entry}
+use Rattle.gl_tx.specs.declared.request.Operation.{Operation}
+use Rattle.gl_tx.specs.declared.request.Answer.{Answer}
 use Rattle.gl_store.specs.declared.refusal.Refusal.{Refusal}
 use Rattle.gl_store.proofs.Applications.{executed_ok}
 use Rattle.gl_service.specs.declared.settings.Settings.{Settings}
-use Rattle.gl_service.specs.Founding.{id_of}
+use Rattle.gl_service.specs.Founding.{id_of, genesis_of}
 use Rattle.gl_service.specs.Keys.{leaf_count}
 use Rattle.gl_service.specs.Single.{IsSingle}
 use Rattle.gl_service.specs.Solo.{IsSolo}
-use Rattle.gl_service.specs.Service.{service_book, start_of, replied, Given, Replied, Unmade, ByStore}
+use Rattle.gl_service.specs.Service.{service_book, start_of, replied, by_store, Given, Replied, Unmade, ByStore, Unspelled}
 use Rattle.gl_service.proofs.Solo.{submit-is, sign-is, advance-is, solo_submit, solo_sign, solo_advance, ledger_views}
 use Rattle.gl_service.proofs.Starting.{solo_at_start}
 use Rattle.ccfg.specs.declared.machine.Machine.{Machine}
@@ -40,6 +44,7 @@ goes_on : (old new : Machine) (step : ServiceStep) (o : outcome.Outcome Given Un
     IsSolo old.settings step.node → step ≡ quiet (node_in new) o → new.used ≤ new.reserved → GoesOn old new
 goes_on old new step o m same_id same_settings solo is leaves = record {
   machine = record {
+    single = subst IsSingle (sym same_settings) m.single;
     named = same_id ∙ m.named ∙ ap (λ (s : Settings). id_of s 1) (sym same_settings);
     solo = subst (λ (s : Settings). IsSolo s (node_in new)) (sym same_settings)
         (subst (λ (t : ServiceStep). IsSolo old.settings t.node) is solo);
@@ -49,7 +54,37 @@ goes_on old new step o m same_id same_settings solo is leaves = record {
 }
 
 pub begins : (m : Machine) → IsSingle m.settings → m.id ≡ id_of m.settings 1 → node_in m ≡ leader_at_start (start_of m.settings) → m.used ≤ m.reserved → IsMachine m
-begins m single named is leaves = record { leaves = leaves; named = named; solo = subst (λ (n : Node Entry). IsSolo m.settings n) (sym is) (solo_at_start m.settings single) }
+begins m single named is leaves = record { single = single; leaves = leaves; named = named; solo = subst (λ (n : Node Entry). IsSolo m.settings n) (sym is) (solo_at_start m.settings single) }
+
+-- the node of a store, with so many leaves reserved and used
+abbrev node_of_store : List ℕ → Held → ℕ → ℕ → Node Entry
+node_of_store x store reserved used = record {
+  view = 2;
+  vote = Some x;
+  log = store.ledger;
+  base = 0;
+  reserved = reserved;
+  role = Leader;
+  leader = None;
+  commit = store.commit;
+  votes = [];
+  matched = λ _. 0;
+  next = λ _. None;
+  start = 3;
+  used = used;
+  cuts = 0;
+}
+
+abbrev pub opened_store : Settings → Held
+opened_store s = record { ledger = opening_ledger (genesis_of s) (id_of s 1); commit = 2 }
+
+pub begin_is : (m : Machine) (s : Settings) → m.id ≡ id_of s 1 → m.store ≡ opened_store s → m.reserved ≡ 1 → m.used ≡ 1 →
+    node_in m ≡ leader_at_start (start_of s)
+begin_is m s named opened one first =
+    ap (λ (x : List ℕ). node_of_store x m.store m.reserved m.used) named
+    ∙ ap (λ (h : Held). node_of_store (id_of s 1) h m.reserved m.used) opened
+    ∙ ap (λ (n : ℕ). node_of_store (id_of s 1) (opened_store s) n m.used) one
+    ∙ ap (λ (n : ℕ). node_of_store (id_of s 1) (opened_store s) 1 n) first
 
 pub reserve_full : (x : List ℕ) (n : Node Entry) → leaf_count ≤ n.reserved → reserve service_book x n ≡ quiet n (outcome.Refused (KeyExhausted n.reserved))
 unfolding reserve
@@ -115,17 +150,22 @@ advance_commits m h above =
 up_to : (m : Machine) → IsMachine m → IsUpTo m.store.ledger 2
 up_to m h = ledger_views m.settings (node_in m) h.solo
 
+-- a request that bytes spell
+abbrev requested_if : Machine → List Operation → Bool → ServiceStep
+requested_if m q spelled = enters service_book (node_in m) (if spelled then replied (executed m.store.ledger 2 q) else Err Unspelled)
+
 -- an accepted request
-pub submit_accepted : (m : Machine) (st : Held) (q : List Operation) (id : TxId) (reply : List Answer) → IsMachine m → Executes m.store 2 q id reply st →
+pub submit_accepted : (m : Machine) (st : Held) (q : List Operation) (id : TxId) (reply : List Answer) → IsMachine m → is_request q ≡ true → Executes m.store 2 q id reply st →
     let new = record m { store = st } in
     (submit service_book q (node_in m) ≡ quiet (node_in new) (outcome.Accepted id.view id.seqno (Replied reply))) × GoesOn m new
-submit_accepted m st q id reply h ran =
+submit_accepted m st q id reply h fits ran =
     let new : Machine = record m { store = st } in
     let made = executed_ok m.store.ledger 2 q ran.entry reply ran.made in
     let view : ran.entry.view ≡ 2 = ap (λ (e : Entry). e.view) made.3 in
     let node : appended (node_in m) ran.entry ≡ node_in new = ap (λ (x : Held). node_in (record m { store = x })) (sym ran.entered) in
     let is : submit service_book q (node_in m) ≡ quiet (node_in new) (outcome.Accepted id.view id.seqno (Replied reply)) =
     submit-is m.settings (node_in m) q h.solo
+    ∙ ap (requested_if m q) fits
     ∙ ap (λ (r : Result (Entry × List Answer) Refusal). enters service_book (node_in m) (replied r)) ran.made
     ∙ ap (λ (v : ℕ). quiet {E = Entry} {A = Given} {F = Unmade} (appended (node_in m) ran.entry) (outcome.Accepted v (length m.store.ledger + 1) (Replied reply))) view
     ∙ ap (λ (n : Node Entry). quiet {E = Entry} {A = Given} {F = Unmade} n (outcome.Accepted 2 (length m.store.ledger + 1) (Replied reply))) node
@@ -133,14 +173,15 @@ submit_accepted m st q id reply h ran =
     (is, goes_on m new (submit service_book q (node_in m)) _ h refl refl (solo_submit m.settings (node_in m) q h.solo) is h.leaves)
 
 -- a refused one
-pub submit_refused : (m : Machine) (st : Held) (q : List Operation) (why : Refusal) → IsMachine m → executed m.store.ledger 2 q ≡ Err why → st ≡ m.store →
+pub submit_refused : (m : Machine) (st : Held) (q : List Operation) (why : Refusal) → IsMachine m → is_request q ≡ true → executed m.store.ledger 2 q ≡ Err why → st ≡ m.store →
     let new = record m { store = st } in
     (submit service_book q (node_in m) ≡ quiet (node_in new) (outcome.Refused (ByLedger (ByStore why)))) × GoesOn m new
-submit_refused m st q why h refused same =
+submit_refused m st q why h fits refused same =
     let new : Machine = record m { store = st } in
     let node : node_in m ≡ node_in new = ap (λ (x : Held). node_in (record m { store = x })) (sym same) in
     let is : submit service_book q (node_in m) ≡ quiet (node_in new) (outcome.Refused (ByLedger (ByStore why))) =
     submit-is m.settings (node_in m) q h.solo
+    ∙ ap (requested_if m q) fits
     ∙ ap (λ (r : Result (Entry × List Answer) Refusal). enters service_book (node_in m) (replied r)) refused
     ∙ ap (λ (n : Node Entry). quiet {E = Entry} {A = Given} {F = Unmade} n (outcome.Refused (ByLedger (ByStore why)))) node in
     (is, goes_on m new (submit service_book q (node_in m)) _ h refl refl (solo_submit m.settings (node_in m) q h.solo) is h.leaves)
@@ -190,7 +231,7 @@ sign_choice m used unsigned =
     if used then refuse (node_in m) (NotReserved m.reserved) else (
     if unsigned
     then refuse (node_in m) (NothingToSign (length m.store.ledger))
-    else signed service_book (node_in m) (Ok (signature_entry m.id m.store.ledger 2 m.store.commit))
+    else signed service_book (node_in m) (by_store (made.signed m.id m.store.ledger 2 m.store.commit))
     )
 
 sign_chosen : (m : Machine) (used unsigned : Bool) → IsMachine m → (m.used == m.reserved) ≡ used →
@@ -206,20 +247,45 @@ pub sign_nothing : (m : Machine) → IsMachine m → (m.used ≡ m.reserved → 
 unfolding sign_choice
 sign_nothing m h free last = sign_chosen m false true h (let t : (m.used == m.reserved) ≡ false = grind (arith, nat_tests) in t) (last_entry_signs m h last)
 
+-- a signature that is made is the node's, behind its ledger
+pub made_signature : (node : List ℕ) (ledger : List Entry) (view commit : ℕ) (e : Entry) → made.signed node ledger view commit ≡ Ok e → e ≡ signature_entry node ledger view commit
+made_signature node ledger view commit e is = go (nat_lt (length ledger) last_seqno) is
+  where
+    go : (b : Bool) → (if b then Ok (signature_entry node ledger view commit) else Err refusals.SeqnoLimit) ≡ Ok e → e ≡ signature_entry node ledger view commit
+    go true p = cc
+    go false p = absurd (cc)
+
 pub sign_signs : (m : Machine) (st : Held) (id : TxId) → IsMachine m → (m.used ≡ m.reserved → ⊥) → (last_signature m.store.ledger ≡ length m.store.ledger → ⊥) →
-    st ≡ record m.store { ledger = m.store.ledger ++ signature_entry m.id m.store.ledger 2 m.store.commit ∷ [] } →
-    id ≡ record { view = 2; seqno = length m.store.ledger + 1 } →
+    Signs m.store m.id 2 id st →
     let new = record m { store = st; used = m.used + 1 } in
     (sign service_book m.id (node_in m) ≡ quiet (node_in new) (outcome.Signed id.view id.seqno)) × GoesOn m new
 unfolding sign_choice
-sign_signs m st id h free other entered named =
+sign_signs m st id h free other s =
     let leaves : m.used + 1 ≤ m.reserved = let l = h.leaves in grind (arith, nat_tests, free) in
     let new : Machine = record m { store = st; used = m.used + 1 } in
+    let view : s.entry.view ≡ 2 = ap (λ (e : Entry). e.view) (made_signature m.id m.store.ledger 2 m.store.commit s.entry s.made) in
     let is : sign service_book m.id (node_in m) ≡ quiet (node_in new) (outcome.Signed id.view id.seqno) =
     sign_chosen m false false h (let t : (m.used == m.reserved) ≡ false = grind (arith, nat_tests) in t) (last_entry_unsigned m h other)
-    ∙ ap (λ (x : Held). quiet {E = Entry} {A = Given} {F = Unmade} (node_in (record m { store = x; used = m.used + 1 })) (outcome.Signed 2 (length m.store.ledger + 1))) (sym entered)
-    ∙ ap (λ (t : TxId). quiet {E = Entry} {A = Given} {F = Unmade} (node_in new) (outcome.Signed t.view t.seqno)) (sym named) in
+    ∙ ap (λ (r : Result Entry Refusal). signed service_book (node_in m) (by_store r)) s.made
+    ∙ ap (λ (v : ℕ). quiet {E = Entry} {A = Given} {F = Unmade} (record (appended (node_in m) s.entry) { used = m.used + 1 }) (outcome.Signed v (length m.store.ledger + 1))) view
+    ∙ ap (λ (x : Held). quiet {E = Entry} {A = Given} {F = Unmade} (node_in (record m { store = x; used = m.used + 1 })) (outcome.Signed 2 (length m.store.ledger + 1))) (sym s.entered)
+    ∙ ap (λ (t : TxId). quiet {E = Entry} {A = Given} {F = Unmade} (node_in new) (outcome.Signed t.view t.seqno)) (sym s.named) in
     (is, goes_on m new (sign service_book m.id (node_in m)) _ h refl refl (solo_sign m.settings m.id (node_in m) h.solo) is leaves)
+
+-- one that isn't made
+pub sign_refused : (m : Machine) (st : Held) (why : Refusal) → IsMachine m → (m.used ≡ m.reserved → ⊥) → (last_signature m.store.ledger ≡ length m.store.ledger → ⊥) →
+    made.signed m.id m.store.ledger 2 m.store.commit ≡ Err why → st ≡ m.store →
+    let new = record m { store = st } in
+    (sign service_book m.id (node_in m) ≡ quiet (node_in new) (outcome.Refused (ByLedger (ByStore why)))) × GoesOn m new
+unfolding sign_choice
+sign_refused m st why h free other refused same =
+    let new : Machine = record m { store = st } in
+    let node : node_in m ≡ node_in new = ap (λ (x : Held). node_in (record m { store = x })) (sym same) in
+    let is : sign service_book m.id (node_in m) ≡ quiet (node_in new) (outcome.Refused (ByLedger (ByStore why))) =
+    sign_chosen m false false h (let t : (m.used == m.reserved) ≡ false = grind (arith, nat_tests) in t) (last_entry_unsigned m h other)
+    ∙ ap (λ (r : Result Entry Refusal). signed service_book (node_in m) (by_store r)) refused
+    ∙ ap (λ (n : Node Entry). quiet {E = Entry} {A = Given} {F = Unmade} n (outcome.Refused (ByLedger (ByStore why)))) node in
+    (is, goes_on m new (sign service_book m.id (node_in m)) _ h refl refl (solo_sign m.settings m.id (node_in m) h.solo) is h.leaves)
 
 pub sign_unreserved : (m : Machine) → IsMachine m → m.used ≡ m.reserved → sign service_book m.id (node_in m) ≡ quiet (node_in m) (outcome.Refused (NotReserved m.reserved))
 unfolding sign_choice

@@ -12,7 +12,7 @@ use Rattle.gl_service.specs.Founding.{id_of}
 use Rattle.gl_service.specs.Service.{ServiceWorld, start_of}
 use Rattle.gl_service.proofs.Ids.{same_itself}
 use Rattle.ccfg.specs.declared.machine.Machine.{Machine}
-use Rattle.ccfg.specs.declared.schedule.Line.{Line}
+use Rattle.gl_lines.specs.declared.schedule.Line.{Line}
 use Rattle.ccfg.specs.Machine.{IsMachine, GoesOn, node_in}
 use Rattle.ccfg.specs.Playing.{IsIn}
 use Rattle.ccfg.specs.Text.{printed, numbered, text_from}

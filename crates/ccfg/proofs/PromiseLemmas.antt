@@ -1,5 +1,5 @@
 -- Each promise of the program, from how a run ends.
-use Rattle.std.proofs.Common.{◌≡◌, ℕ, ◌≢◌, ◌⊎◌, inl, inr, List, [], ◌∷◌, length, Bool, true, false, Option, None, Some, IfSome, nat_lt, if◌then◌else◌, codes, refl, sym, subst, ap, ◌∙◌, arith}
+use Rattle.std.proofs.Common.{◌≡◌, ℕ, ◌≢◌, ◌⊎◌, inl, inr, List, [], ◌∷◌, length, Bool, true, false, Option, None, Some, Result, Ok, Err, IfSome, nat_lt, if◌then◌else◌, codes, refl, sym, subst, ap, ◌∙◌, arith}
 use Rattle.std.proofs.lemmas.Bool.Decides.{nat_tests}
 use Rattle.std.specs.Cmp.Lexicographic.{pointwise, bytes_decides}
 use Rattle.std.specs.Prelude.{nat_eq}
@@ -10,12 +10,12 @@ use Rattle.ccfg.specs.declared.ending.Fault.{Fault}
 use Rattle.ccfg.specs.declared.ending.Fault.TheVariants as faults
 use Rattle.ccfg.specs.declared.ending.Ending.{Ending}
 use Rattle.ccfg.specs.declared.ending.Ending.TheVariants.{Done, Refused, SourceFailed, SinkFailed, Memory}
-use Rattle.ccfg.specs.declared.schedule.Schedule.{Schedule}
-use Rattle.ccfg.specs.Lines.{line_count}
-use Rattle.ccfg.specs.Reading.{reads}
+use Rattle.gl_lines.specs.declared.schedule.Schedule.{Schedule}
+use Rattle.gl_lines.specs.Lines.{line_count}
+use Rattle.ccfg.specs.Schedules.{reads}
 use Rattle.ccfg.specs.Text.{text_of_schedule}
 use Rattle.ccfg.specs.Owed.{fault_line, exit_status, bytes_limit, lines_limit, Due, refused, of_reading, owed, Writes, Run, Owes, AreWords, Answers}
-use Rattle.ccfg.specs.Promises.{HasTooManyBytes, HasTooManyLines, PassesLimit, IsWithinLimits, HasNoReading, ReadsAs, HasReading, WritesText, TellsLimit, TellsNoReading}
+use Rattle.ccfg.specs.Promises.{HasTooManyBytes, HasTooManyLines, PassesLimit, IsWithinLimits, HasBadLine, HasNoReading, ReadsAs, HasReading, WritesText, TellsLimit, TellsNoReading}
 
 first_same : (x y : List ℕ) → x ∷ [] ≡ y ∷ [] → x ≡ y
 first_same x y e = cc
@@ -35,10 +35,10 @@ abbrev DueCase : List ℕ → Due → Type 0
 DueCase given due =
     (HasTooManyBytes given × (due ≡ refused faults.Bytes))
     ⊎ (HasTooManyLines given × (due ≡ refused faults.Lines))
-    ⊎ (HasNoReading given × (due ≡ refused faults.Schedule))
+    ⊎ ((number : ℕ) × HasBadLine given number × (due ≡ refused (faults.Line number)))
     ⊎ ((schedule : Schedule) × ReadsAs given schedule × (due ≡ record { ending = Done; text = text_of_schedule schedule }))
 
-abbrev due_by : Bool → Bool → Option Schedule → Due
+abbrev due_by : Bool → Bool → Result Schedule ℕ → Due
 due_by bytes lines read = if bytes then refused faults.Bytes else (if lines then refused faults.Lines else of_reading read)
 
 -- what bytes are owed, case by case
@@ -46,11 +46,11 @@ owed_case : (given : List ℕ) → DueCase given (owed given)
 unfolding owed
 owed_case given = go (nat_lt bytes_limit (length given)) (nat_lt lines_limit (line_count given)) (reads given) refl refl refl
   where
-    go : (b l : Bool) (s : Option Schedule) → nat_lt bytes_limit (length given) ≡ b → nat_lt lines_limit (line_count given) ≡ l → reads given ≡ s → DueCase given (due_by b l s)
+    go : (b l : Bool) (s : Result Schedule ℕ) → nat_lt bytes_limit (length given) ≡ b → nat_lt lines_limit (line_count given) ≡ l → reads given ≡ s → DueCase given (due_by b l s)
     go true l s bytes lines read = inl (grind (arith, nat_tests), refl)
     go false true s bytes lines read = inr (inl ((grind (arith, nat_tests), grind (arith, nat_tests)), refl))
-    go false false None bytes lines read = inr (inr (inl (((grind (arith, nat_tests), grind (arith, nat_tests)), read), refl)))
-    go false false (Some schedule) bytes lines read = inr (inr (inr (schedule, ((grind (arith, nat_tests), grind (arith, nat_tests)), read), refl)))
+    go false false (Err number) bytes lines read = inr (inr (inl (number, ((grind (arith, nat_tests), grind (arith, nat_tests)), read), refl)))
+    go false false (Ok schedule) bytes lines read = inr (inr (inr (schedule, ((grind (arith, nat_tests), grind (arith, nat_tests)), read), refl)))
 
 -- What is written of what is due.
 abbrev WritesDue : Ending → Run → Due → Type 0
@@ -65,7 +65,7 @@ same_text r due case is text = subst (λ (d : Due). Appends r.held r.holds d.tex
 done_writes : (given : List ℕ) (r : Run) (due : Due) → DueCase given due → WritesDue Done r due → WritesText given r.held r.holds
 done_writes given r due (inl p) w = absurd (let q : Refused faults.Bytes ≡ Done = same_ending Done due (refused faults.Bytes) p.1 w.0 in cc)
 done_writes given r due (inr (inl p)) w = absurd (let q : Refused faults.Lines ≡ Done = same_ending Done due (refused faults.Lines) p.1 w.0 in cc)
-done_writes given r due (inr (inr (inl p))) w = absurd (let q : Refused faults.Schedule ≡ Done = same_ending Done due (refused faults.Schedule) p.1 w.0 in cc)
+done_writes given r due (inr (inr (inl p))) w = absurd (let q : Refused (faults.Line p.0) ≡ Done = same_ending Done due (refused (faults.Line p.0)) p.2 w.0 in cc)
 done_writes given r due (inr (inr (inr p))) w = (p.0, p.1, same_text r due (record { ending = Done; text = text_of_schedule p.0 }) p.2 w.1)
 
 -- What the line of a fault tells of bytes.
@@ -73,7 +73,7 @@ abbrev Tells : Fault → List ℕ → Type 0
 Tells faults.Words given = ⊥
 Tells faults.Bytes given = HasTooManyBytes given
 Tells faults.Lines given = HasTooManyLines given
-Tells faults.Schedule given = HasNoReading given
+Tells (faults.Line number) given = HasBadLine given number
 
 same_fault : (f g : Fault) → Refused f ≡ Refused g → f ≡ g
 same_fault f g is = cc
@@ -84,7 +84,7 @@ tells_other f g given is t = subst (λ (h : Fault). Tells h given) (same_fault f
 refused_tells : (f : Fault) (given : List ℕ) (due : Due) → DueCase given due → due.ending ≡ Refused f → Tells f given
 refused_tells f given due (inl p) is = tells_other faults.Bytes f given (same_ending (Refused f) due (refused faults.Bytes) p.1 is) p.0
 refused_tells f given due (inr (inl p)) is = tells_other faults.Lines f given (same_ending (Refused f) due (refused faults.Lines) p.1 is) p.0
-refused_tells f given due (inr (inr (inl p))) is = tells_other faults.Schedule f given (same_ending (Refused f) due (refused faults.Schedule) p.1 is) p.0
+refused_tells f given due (inr (inr (inl p))) is = tells_other (faults.Line p.0) f given (same_ending (Refused f) due (refused (faults.Line p.0)) p.2 is) p.1
 refused_tells f given due (inr (inr (inr p))) is =
     absurd (let q : Done ≡ Refused f = same_ending (Refused f) due (record { ending = Done; text = text_of_schedule p.0 }) p.2 is in cc)
 
@@ -96,8 +96,8 @@ refused_text f given r due (inr (inl p)) w =
     let same = same_fault faults.Lines f (same_ending (Refused f) due (refused faults.Lines) p.1 w.0) in
     subst (λ (g : Fault). Appends r.held r.holds (fault_line g)) same (same_text r due (refused faults.Lines) p.1 w.1)
 refused_text f given r due (inr (inr (inl p))) w =
-    let same = same_fault faults.Schedule f (same_ending (Refused f) due (refused faults.Schedule) p.1 w.0) in
-    subst (λ (g : Fault). Appends r.held r.holds (fault_line g)) same (same_text r due (refused faults.Schedule) p.1 w.1)
+    let same = same_fault (faults.Line p.0) f (same_ending (Refused f) due (refused (faults.Line p.0)) p.2 w.0) in
+    subst (λ (g : Fault). Appends r.held r.holds (fault_line g)) same (same_text r due (refused (faults.Line p.0)) p.2 w.1)
 refused_text f given r due (inr (inr (inr p))) w =
     absurd (let q : Done ≡ Refused f = same_ending (Refused f) due (record { ending = Done; text = text_of_schedule p.0 }) p.2 w.0 in cc)
 
@@ -114,8 +114,8 @@ past_no_limit : (given : List ℕ) → IsWithinLimits given → PassesLimit give
 past_no_limit given within (inl p) = omega (arith, within.0, p)
 past_no_limit given within (inr p) = omega (arith, within.1, p.1)
 
-read_or_not : (given : List ℕ) (schedule : Schedule) → reads given ≡ Some schedule → reads given ≡ None → ⊥
-read_or_not given schedule some none = cc
+read_or_not : (given : List ℕ) (schedule : Schedule) (number : ℕ) → reads given ≡ Ok schedule → reads given ≡ Err number → ⊥
+read_or_not given schedule number some none = cc
 
 -- other words end by 2, 4 or 7
 other_words_end : (e : Ending) (r : Run) → WritesDue e r (refused faults.Words) →
@@ -125,7 +125,7 @@ other_words_end Done r w = absurd (let q : Refused faults.Words ≡ Done = w.0 i
 other_words_end (Refused faults.Words) r w = inl (refl, w.1)
 other_words_end (Refused faults.Bytes) r w = absurd (let q : Refused faults.Words ≡ Refused faults.Bytes = w.0 in cc)
 other_words_end (Refused faults.Lines) r w = absurd (let q : Refused faults.Words ≡ Refused faults.Lines = w.0 in cc)
-other_words_end (Refused faults.Schedule) r w = absurd (let q : Refused faults.Words ≡ Refused faults.Schedule = w.0 in cc)
+other_words_end (Refused (faults.Line number)) r w = absurd (let q : Refused faults.Words ≡ Refused (faults.Line number) = w.0 in cc)
 other_words_end SourceFailed r w = absurd w
 other_words_end SinkFailed r w = inr (inl refl, w.1)
 other_words_end Memory r w = inr (inr refl, w)
@@ -153,7 +153,7 @@ done Done r a is =
 done (Refused faults.Words) r a is = absurd (omega (arith, is))
 done (Refused faults.Bytes) r a is = absurd (omega (arith, is))
 done (Refused faults.Lines) r a is = absurd (omega (arith, is))
-done (Refused faults.Schedule) r a is = absurd (omega (arith, is))
+done (Refused (faults.Line number)) r a is = absurd (omega (arith, is))
 done e r a is = absurd (omega (arith, is))
 
 pub source_failed : (e : Ending) (r : Run) → Answers e r → exit_status e ≡ 3 → AreWords r.words × Rose r.read_faults r.read_faults_now × Keeps r.held r.holds
@@ -164,7 +164,7 @@ source_failed SourceFailed r a is =
 source_failed (Refused faults.Words) r a is = absurd (omega (arith, is))
 source_failed (Refused faults.Bytes) r a is = absurd (omega (arith, is))
 source_failed (Refused faults.Lines) r a is = absurd (omega (arith, is))
-source_failed (Refused faults.Schedule) r a is = absurd (omega (arith, is))
+source_failed (Refused (faults.Line number)) r a is = absurd (omega (arith, is))
 source_failed e r a is = absurd (omega (arith, is))
 
 pub sink_failed : (e : Ending) (r : Run) → Answers e r → exit_status e ≡ 4 → Rose r.write_faults r.write_faults_now
@@ -176,7 +176,7 @@ sink_failed SinkFailed r a is = go (words_decided r.words)
 sink_failed (Refused faults.Words) r a is = absurd (omega (arith, is))
 sink_failed (Refused faults.Bytes) r a is = absurd (omega (arith, is))
 sink_failed (Refused faults.Lines) r a is = absurd (omega (arith, is))
-sink_failed (Refused faults.Schedule) r a is = absurd (omega (arith, is))
+sink_failed (Refused (faults.Line number)) r a is = absurd (omega (arith, is))
 sink_failed e r a is = absurd (omega (arith, is))
 
 tells : (f : Fault) (r : Run) → Answers (Refused f) r → AreWords r.words → IfSome r.given (λ g. Tells f g × Appends r.held r.holds (fault_line f))
@@ -195,13 +195,16 @@ limits (Refused faults.Lines) r a is =
     let words = one_word (Refused faults.Lines) r a (λ q. omega (arith, q)) (λ q. omega (arith, q)) (λ q. omega (arith, q)) in
     (words, some_map r.given (λ g. Tells faults.Lines g × Appends r.held r.holds (fault_line faults.Lines)) (λ g. TellsLimit g r.held r.holds) (λ g t. inr t) (tells faults.Lines r a words))
 limits (Refused faults.Words) r a is = absurd (omega (arith, is))
-limits (Refused faults.Schedule) r a is = absurd (omega (arith, is))
+limits (Refused (faults.Line number)) r a is = absurd (omega (arith, is))
 limits e r a is = absurd (omega (arith, is))
 
 pub no_reading : (e : Ending) (r : Run) → Answers e r → exit_status e ≡ 9 → AreWords r.words × IfSome r.given (λ g. TellsNoReading g r.held r.holds)
-no_reading (Refused faults.Schedule) r a is =
-    let words = one_word (Refused faults.Schedule) r a (λ q. omega (arith, q)) (λ q. omega (arith, q)) (λ q. omega (arith, q)) in
-    (words, tells faults.Schedule r a words)
+no_reading (Refused (faults.Line number)) r a is =
+    let words = one_word (Refused (faults.Line number)) r a (λ q. omega (arith, q)) (λ q. omega (arith, q)) (λ q. omega (arith, q)) in (
+      words,
+      some_map r.given (λ g. Tells (faults.Line number) g × Appends r.held r.holds (fault_line (faults.Line number))) (λ g. TellsNoReading g r.held r.holds)
+          (λ g t. (number, t.0, t.1)) (tells (faults.Line number) r a words),
+    )
 no_reading (Refused faults.Words) r a is = absurd (omega (arith, is))
 no_reading (Refused faults.Bytes) r a is = absurd (omega (arith, is))
 no_reading (Refused faults.Lines) r a is = absurd (omega (arith, is))
@@ -231,7 +234,7 @@ past_end Done g fit past = absurd (past_no_limit g fit.1.0 past)
 past_end (Refused faults.Words) g fit past = absurd fit
 past_end (Refused faults.Bytes) g fit past = inl refl
 past_end (Refused faults.Lines) g fit past = inl refl
-past_end (Refused faults.Schedule) g fit past = absurd (past_no_limit g fit.0 past)
+past_end (Refused (faults.Line number)) g fit past = absurd (past_no_limit g fit.0 past)
 past_end SourceFailed g fit past = inr (inl refl)
 past_end SinkFailed g fit past = inr (inr (inl refl))
 past_end Memory g fit past = inr (inr (inr refl))
@@ -240,11 +243,11 @@ pub past_limits : (e : Ending) (r : Run) → Answers e r → AreWords r.words �
 past_limits e r a words = some_map r.given (λ g. Fits e g) (λ g. PassesLimit g → EndsBy 8 (exit_status e)) (past_end e) (fits e r a words)
 
 unread_end : (e : Ending) (g : List ℕ) → Fits e g → HasNoReading g → EndsBy 9 (exit_status e)
-unread_end Done g fit none = absurd (read_or_not g fit.0 fit.1.1 none.1)
+unread_end Done g fit none = absurd (read_or_not g fit.0 none.0 fit.1.1 none.1.1)
 unread_end (Refused faults.Words) g fit none = absurd fit
-unread_end (Refused faults.Bytes) g fit none = absurd (past_no_limit g none.0 (inl fit))
-unread_end (Refused faults.Lines) g fit none = absurd (past_no_limit g none.0 (inr fit))
-unread_end (Refused faults.Schedule) g fit none = inl refl
+unread_end (Refused faults.Bytes) g fit none = absurd (past_no_limit g none.1.0 (inl fit))
+unread_end (Refused faults.Lines) g fit none = absurd (past_no_limit g none.1.0 (inr fit))
+unread_end (Refused (faults.Line number)) g fit none = inl refl
 unread_end SourceFailed g fit none = inr (inl refl)
 unread_end SinkFailed g fit none = inr (inr (inl refl))
 unread_end Memory g fit none = inr (inr (inr refl))
@@ -257,7 +260,7 @@ read_end Done g fit reading = inl refl
 read_end (Refused faults.Words) g fit reading = absurd fit
 read_end (Refused faults.Bytes) g fit reading = absurd (past_no_limit g reading.1.0 (inl fit))
 read_end (Refused faults.Lines) g fit reading = absurd (past_no_limit g reading.1.0 (inr fit))
-read_end (Refused faults.Schedule) g fit reading = absurd (read_or_not g reading.0 reading.1.1 fit.1)
+read_end (Refused (faults.Line number)) g fit reading = absurd (read_or_not g reading.0 number reading.1.1 fit.1)
 read_end SourceFailed g fit reading = inr (inl refl)
 read_end SinkFailed g fit reading = inr (inr (inl refl))
 read_end Memory g fit reading = inr (inr (inr refl))
@@ -278,5 +281,5 @@ pub refused_words : (e : Ending) → exit_status e ≡ 2 → e ≡ Refused fault
 refused_words (Refused faults.Words) is = refl
 refused_words (Refused faults.Bytes) is = absurd (omega (arith, is))
 refused_words (Refused faults.Lines) is = absurd (omega (arith, is))
-refused_words (Refused faults.Schedule) is = absurd (omega (arith, is))
+refused_words (Refused (faults.Line number)) is = absurd (omega (arith, is))
 refused_words e is = absurd (omega (arith, is))

@@ -1,7 +1,4 @@
-pub mod Lines
-pub mod Words
-pub mod Reading
-pub mod Stops
+pub mod Schedules
 pub mod Text
 pub mod Machine
 pub mod Printing

@@ -3,8 +3,9 @@ use Rattle.std.specs.Prelude.{◌≡◌, ◌≤◌, [], None, Some}
 use Rattle.gl_rules.specs.Node.{Node, Leader}
 use Rattle.gl_rules.specs.Outcome as outcome
 use Rattle.gl_rules.specs.Outcome.{Step, quiet}
-use Rattle.gl_store.specs.declared.entry.Entry.{Entry}
+use Rattle.gl_entry.specs.declared.entry.Entry.{Entry}
 use Rattle.gl_service.specs.Founding.{id_of}
+use Rattle.gl_service.specs.Single.{IsSingle}
 use Rattle.gl_service.specs.Solo.{IsSolo}
 use Rattle.gl_service.specs.Service.{Given, Replied, Unmade, ByStore, ServiceOutcome}
 use Rattle.ccfg.specs.declared.machine.Machine.{Machine}
@@ -52,6 +53,7 @@ Steps step new o = step ≡ quiet (node_in new) (seen o)
 
 -- What holds of the machine at every moment.
 pub record IsMachine (m : Machine) : Type 0 where
+  pub single : IsSingle m.settings
   pub named : m.id ≡ id_of m.settings 1
   pub solo : IsSolo m.settings (node_in m)
   pub leaves : m.used ≤ m.reserved

@@ -1,5 +1,5 @@
 -- What a run of the program owes to its words and its source: how it ends, and what it writes.
-use Rattle.std.specs.Prelude.{◌≡◌, ℕ, List, [], ◌∷◌, Option, None, Some, Bool, true, codes, length, nat_lt, if◌then◌else◌}
+use Rattle.std.specs.Prelude.{◌≡◌, ℕ, List, [], ◌∷◌, ◌++◌, Option, None, Some, Result, Ok, Err, Bool, true, codes, decimal, length, nat_lt, if◌then◌else◌}
 use Rattle.std.specs.Io.KnownBytes.{Appends, Keeps}
 use Rattle.gl_outside.specs.Fault.{Rose}
 use Rattle.gl_outside.specs.Sink.{AppendsFront}
@@ -8,23 +8,23 @@ use Rattle.ccfg.specs.declared.ending.Fault.{Fault}
 use Rattle.ccfg.specs.declared.ending.Fault.TheVariants as faults
 use Rattle.ccfg.specs.declared.ending.Ending.{Ending}
 use Rattle.ccfg.specs.declared.ending.Ending.TheVariants.{Done, Refused, SourceFailed, SinkFailed, Memory}
-use Rattle.ccfg.specs.declared.schedule.Schedule.{Schedule}
-use Rattle.ccfg.specs.declared.schedule.Schedule.TheVariants.{Empty, Service}
-use Rattle.ccfg.specs.Lines.{line_count}
-use Rattle.ccfg.specs.Reading.{reads}
+use Rattle.gl_lines.specs.declared.schedule.Schedule.{Schedule}
+use Rattle.gl_lines.specs.declared.schedule.Schedule.TheVariants.{Empty, Service}
+use Rattle.gl_lines.specs.Lines.{line_count}
+use Rattle.ccfg.specs.Schedules.{settings_of, reads}
 use Rattle.ccfg.specs.Text.{events_of, text_of_schedule}
 
 abbrev pub fault_line : Fault → List ℕ
 fault_line faults.Words = codes "fault words\n"
 fault_line faults.Bytes = codes "fault bytes 16777216\n"
 fault_line faults.Lines = codes "fault lines 100000\n"
-fault_line faults.Schedule = codes "fault schedule\n"
+fault_line (faults.Line number) = codes "fault line " ++ decimal number ++ codes "\n"
 
 abbrev pub refusal_status : Fault → ℕ
 refusal_status faults.Words = 2
 refusal_status faults.Bytes = 8
 refusal_status faults.Lines = 8
-refusal_status faults.Schedule = 9
+refusal_status (faults.Line number) = 9
 
 abbrev pub exit_status : Ending → ℕ
 exit_status Done = 0
@@ -47,9 +47,9 @@ pub record Due : Type 0 where
 abbrev pub refused : Fault → Due
 refused fault = record { ending = Refused fault; text = fault_line fault }
 
-abbrev pub of_reading : Option Schedule → Due
-of_reading None = refused faults.Schedule
-of_reading (Some schedule) = record { ending = Done; text = text_of_schedule schedule }
+abbrev pub of_reading : Result Schedule ℕ → Due
+of_reading (Err number) = refused (faults.Line number)
+of_reading (Ok schedule) = record { ending = Done; text = text_of_schedule schedule }
 
 -- What these bytes are owed. The limits are tried before the reading, the one on bytes first.
 unfoldable pub owed : List ℕ → Due
@@ -103,7 +103,7 @@ pub record Answers (e : Ending) (r : Run) : Type 0 where
   pub replays : AreWords r.words → Replays e r
 
 -- What is promised of the service of a schedule.
-abbrev pub KeepsHeadline : Option Schedule → Type 0
-KeepsHeadline None = Unit {0}
-KeepsHeadline (Some Empty) = Unit {0}
-KeepsHeadline (Some (Service settings lines)) = Headline settings (events_of settings lines)
+abbrev pub KeepsHeadline : Result Schedule ℕ → Type 0
+KeepsHeadline (Err number) = Unit {0}
+KeepsHeadline (Ok Empty) = Unit {0}
+KeepsHeadline (Ok (Service world lines)) = Headline (settings_of world) (events_of (settings_of world) lines)

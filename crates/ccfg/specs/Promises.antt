@@ -1,10 +1,10 @@
 -- Which bytes are a schedule, pass a limit, or have no reading; and what is then written.
-use Rattle.std.specs.Prelude.{◌≡◌, ℕ, ◌<◌, ◌≤◌, ◌⊎◌, List, Option, None, Some, length}
+use Rattle.std.specs.Prelude.{◌≡◌, ℕ, ◌<◌, ◌≤◌, ◌⊎◌, List, Option, Ok, Err, length}
 use Rattle.std.specs.Io.KnownBytes.{Appends}
 use Rattle.ccfg.specs.declared.ending.Fault.TheVariants as faults
-use Rattle.ccfg.specs.declared.schedule.Schedule.{Schedule}
-use Rattle.ccfg.specs.Lines.{line_count}
-use Rattle.ccfg.specs.Reading.{reads}
+use Rattle.gl_lines.specs.declared.schedule.Schedule.{Schedule}
+use Rattle.gl_lines.specs.Lines.{line_count}
+use Rattle.ccfg.specs.Schedules.{reads}
 use Rattle.ccfg.specs.Text.{text_of_schedule}
 use Rattle.ccfg.specs.Owed.{bytes_limit, lines_limit, fault_line}
 
@@ -21,13 +21,17 @@ PassesLimit given = HasTooManyBytes given ⊎ HasTooManyLines given
 abbrev pub IsWithinLimits : List ℕ → Type 0
 IsWithinLimits given = (length given ≤ bytes_limit) × (line_count given ≤ lines_limit)
 
+-- The bytes are within the limits and are no schedule: this line is the first bad one.
+abbrev pub HasBadLine : List ℕ → ℕ → Type 0
+HasBadLine given number = IsWithinLimits given × (reads given ≡ Err number)
+
 -- The bytes are within the limits and are no schedule.
 abbrev pub HasNoReading : List ℕ → Type 0
-HasNoReading given = IsWithinLimits given × (reads given ≡ None)
+HasNoReading given = (number : ℕ) × HasBadLine given number
 
 -- The bytes are within the limits and are this schedule.
 abbrev pub ReadsAs : List ℕ → Schedule → Type 0
-ReadsAs given schedule = IsWithinLimits given × (reads given ≡ Some schedule)
+ReadsAs given schedule = IsWithinLimits given × (reads given ≡ Ok schedule)
 
 -- The bytes are within the limits and are a schedule.
 abbrev pub HasReading : List ℕ → Type 0
@@ -42,6 +46,6 @@ abbrev pub TellsLimit : List ℕ → Option (List ℕ) → Option (List ℕ) →
 TellsLimit given held holds =
     (HasTooManyBytes given × Appends held holds (fault_line faults.Bytes)) ⊎ (HasTooManyLines given × Appends held holds (fault_line faults.Lines))
 
--- The bytes have no reading, and exactly the line that says so was written.
+-- The bytes have no reading, and exactly the line that tells their first bad line was written.
 abbrev pub TellsNoReading : List ℕ → Option (List ℕ) → Option (List ℕ) → Type 0
-TellsNoReading given held holds = HasNoReading given × Appends held holds (fault_line faults.Schedule)
+TellsNoReading given held holds = (number : ℕ) × HasBadLine given number × Appends held holds (fault_line (faults.Line number))

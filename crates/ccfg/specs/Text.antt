@@ -1,5 +1,8 @@
 -- What a schedule prints: for each line its number and what came of it.
-use Rattle.std.specs.Prelude.{ℕ, zero, suc, ◌+◌, ◌-◌, List, [], ◌∷◌, ◌++◌, Option, None, Some, length, codes, decimal, if◌then◌else◌}
+use Rattle.std.specs.Prelude.{ℕ, zero, suc, ◌+◌, ◌-◌, List, [], ◌∷◌, ◌++◌, Option, None, Some, ◌&&◌, nat_le, length, drop, codes, decimal, if◌then◌else◌}
+use Rattle.std.specs.List.{flat_map}
+use Rattle.std.specs.Option.{option_and_then}
+use Rattle.hex.specs.Hex.{encode_lower}
 use Rattle.gl_base.specs.declared.status_kind.Status as statuses
 use Rattle.gl_base.specs.declared.status_kind.Status.TheVariants as status
 use Rattle.gl_base.specs.TxId.{text_of}
@@ -8,28 +11,43 @@ use Rattle.gl_rules.specs.World.{Happened, happens, begin}
 use Rattle.gl_rules.specs.World as event
 use Rattle.gl_rules.specs.Outcome.{Refusal}
 use Rattle.gl_rules.specs.Outcome as outcome
-use Rattle.gl_rules.specs.Safety.{reported}
+use Rattle.gl_rules.specs.Node.{Node}
+use Rattle.gl_rules.specs.Safety.{committed, reported}
+use Rattle.gl_entry.specs.Entry.{frame_bytes}
+use Rattle.gl_entry.specs.declared.entry.Entry.{Entry}
 use Rattle.gl_store.specs.Genesis.{state_byte}
-use Rattle.gl_store.specs.declared.request.Answer.{Answer}
-use Rattle.gl_store.specs.declared.request.Answer.TheVariants as answers
-use Rattle.gl_store.specs.declared.request.Cause.{Cause}
-use Rattle.gl_store.specs.declared.request.Cause.TheVariants as causes
+use Rattle.gl_tx.specs.declared.request.Answer.{Answer}
+use Rattle.gl_tx.specs.declared.request.Answer.TheVariants as answers
+use Rattle.gl_tx.specs.declared.request.Cause.{Cause}
+use Rattle.gl_tx.specs.declared.request.Cause.TheVariants as causes
 use Rattle.gl_store.specs.declared.refusal.Refusal.TheVariants as refusals
 use Rattle.gl_service.specs.declared.settings.Settings.{Settings}
 use Rattle.gl_service.specs.Founding.{id_of, numbers_from}
-use Rattle.gl_service.specs.Service.{Given, Replied, Unmade, ByStore, NotByNow, ServiceEvent, ServiceOutcome, ServiceWorld, service_book, start_of}
-use Rattle.ccfg.specs.declared.schedule.Line.{Line}
-use Rattle.ccfg.specs.declared.schedule.Line.TheVariants as line
-use Rattle.ccfg.specs.declared.schedule.Schedule.{Schedule}
-use Rattle.ccfg.specs.declared.schedule.Schedule.TheVariants.{Empty, Service}
+use Rattle.gl_service.specs.Service.{Given, Replied, Unmade, ByStore, Unspelled, NotByNow, ServiceEvent, ServiceOutcome, ServiceWorld, service_book, start_of}
+use Rattle.gl_lines.specs.declared.schedule.Line.{Line}
+use Rattle.gl_lines.specs.declared.schedule.Command.{Command}
+use Rattle.gl_lines.specs.declared.schedule.Command.TheVariants as commands
+use Rattle.gl_lines.specs.declared.schedule.Schedule.{Schedule}
+use Rattle.gl_lines.specs.declared.schedule.Schedule.TheVariants.{Empty, Service}
+use Rattle.ccfg.specs.Schedules.{settings_of}
 
 -- Numbers behind a word, each behind a space.
 abbrev pub with_numbers : List ℕ → List ℕ → List ℕ
 with_numbers text [] = text
 with_numbers text (n ∷ ns) = with_numbers (text ++ codes " " ++ decimal n) ns
 
+-- A value in hexadecimal, or a full stop for one of no bytes.
+abbrev pub value_text : List ℕ → List ℕ
+value_text [] = codes "."
+value_text (byte ∷ bytes) = encode_lower (byte ∷ bytes)
+
 abbrev pub answer_text : Answer → List ℕ
 answer_text answers.Done = codes "done"
+answer_text answers.None = codes "none"
+answer_text (answers.Value value) = codes "value " ++ value_text value
+answer_text answers.No = codes "no"
+answer_text answers.Yes = codes "yes"
+answer_text (answers.Number number) = codes "number " ++ decimal number
 
 abbrev pub answers_behind : List Answer → List ℕ
 answers_behind [] = []
@@ -46,10 +64,17 @@ given_text (Replied answers) = codes " " ++ answers_text answers
 abbrev pub cause_number : Cause → ℕ
 cause_number causes.NotPublic = 1
 cause_number causes.Reserved = 2
+cause_number causes.NotNumber = 3
+cause_number causes.Overflow = 4
+cause_number causes.Check = 5
+cause_number causes.BadKey = 6
 
 abbrev pub unmade_text : Unmade → List ℕ
 unmade_text (ByStore (refusals.ServiceState state)) = with_numbers (codes "51") (state_byte state ∷ [])
 unmade_text (ByStore (refusals.Aborted abort)) = with_numbers (codes "122") (abort.operation ∷ cause_number abort.cause ∷ [])
+unmade_text (ByStore (refusals.TooLarge size)) = with_numbers (codes "119") (size ∷ [])
+unmade_text (ByStore refusals.SeqnoLimit) = codes "130"
+unmade_text Unspelled = codes "117"
 unmade_text NotByNow = codes "117"
 
 -- The number of a node, by its identifier.
@@ -105,13 +130,23 @@ new_messages (suc more) before = with_numbers (codes " sent") (numbers_from (bef
 abbrev pub sent_text : ServiceWorld → ServiceWorld → List ℕ
 sent_text before now = new_messages (length now.sent - length before.sent) (length before.sent)
 
--- What happens at a line, if something does: each line is about node 1.
+-- The node with a number, from 1, if the service has so many.
+abbrev pub node_named : Settings → ℕ → Option NodeId
+node_named s number = if nat_le 1 number && nat_le number (s.starting + s.joiners) then Some (id_of s number) else None
+
+-- What a command makes happen at a node, if it makes something happen.
+abbrev pub event_at : NodeId → Command → Option ServiceEvent
+event_at x (commands.Submit operations) = Some (event.Submit x operations)
+event_at x commands.Reserve = Some (event.Reserve x)
+event_at x commands.Sign = Some (event.Sign x)
+event_at x commands.Advance = Some (event.Advance x)
+event_at x (commands.Status id) = None
+event_at x commands.Ids = None
+event_at x commands.Ledger = None
+
+-- A line about a node that there isn't makes nothing happen.
 abbrev pub event_of : Settings → Line → Option ServiceEvent
-event_of s (line.Submit operations) = Some (event.Submit (id_of s 1) operations)
-event_of s line.Reserve = Some (event.Reserve (id_of s 1))
-event_of s line.Sign = Some (event.Sign (id_of s 1))
-event_of s line.Advance = Some (event.Advance (id_of s 1))
-event_of s (line.Status id) = None
+event_of s line = option_and_then (λ (x : NodeId). event_at x line.command) (node_named s line.node)
 
 -- The events of a schedule, in order.
 abbrev pub with_event : Option ServiceEvent → List ServiceEvent → List ServiceEvent
@@ -132,13 +167,47 @@ printed_event s w e =
     let done = happens service_book w e in
     record { world = done.world; text = outcome_text s done.outcome ++ sent_text w done.world }
 
+-- The entries of a node's committed ledger, and those of its log, above its base.
+abbrev pub committed_above : Node Entry → List Entry
+committed_above n = drop n.base (committed n)
+
+abbrev pub held_above : Node Entry → List Entry
+held_above n = drop n.base n.log
+
+-- The identifiers of the committed ledger.
+abbrev pub ids_text : List Entry → List ℕ
+ids_text entries = codes "ids" ++ flat_map (λ (e : Entry). codes " " ++ id_text e.view e.seqno) entries
+
+-- The number of the entries, and for each of them a line with its identifier and its frame.
+abbrev pub entry_text : Entry → List ℕ
+entry_text e = codes "\nentry " ++ id_text e.view e.seqno ++ codes " " ++ encode_lower (frame_bytes e)
+
+abbrev pub ledger_text : List Entry → List ℕ
+ledger_text entries = codes "ledger " ++ decimal (length entries) ++ flat_map entry_text entries
+
 -- A question changes nothing.
+abbrev pub asked : ServiceWorld → List ℕ → Printed
+asked w text = record { world = w; text = text }
+
+abbrev pub printed_at : Settings → ServiceWorld → NodeId → Command → Printed
+printed_at s w x (commands.Submit operations) = printed_event s w (event.Submit x operations)
+printed_at s w x commands.Reserve = printed_event s w (event.Reserve x)
+printed_at s w x commands.Sign = printed_event s w (event.Sign x)
+printed_at s w x commands.Advance = printed_event s w (event.Advance x)
+printed_at s w x (commands.Status id) = asked w (status_text (reported service_book (w.nodes x) id))
+printed_at s w x commands.Ids = asked w (ids_text (committed_above (w.nodes x)))
+printed_at s w x commands.Ledger = asked w (ledger_text (held_above (w.nodes x)))
+
+-- A number that names no node is refused.
+abbrev pub no_node_text : List ℕ
+no_node_text = codes "refused 0"
+
+abbrev pub printed_if : Settings → ServiceWorld → Option NodeId → Command → Printed
+printed_if s w None command = asked w no_node_text
+printed_if s w (Some x) command = printed_at s w x command
+
 abbrev pub printed : Settings → ServiceWorld → Line → Printed
-printed s w (line.Submit operations) = printed_event s w (event.Submit (id_of s 1) operations)
-printed s w line.Reserve = printed_event s w (event.Reserve (id_of s 1))
-printed s w line.Sign = printed_event s w (event.Sign (id_of s 1))
-printed s w line.Advance = printed_event s w (event.Advance (id_of s 1))
-printed s w (line.Status id) = record { world = w; text = status_text (reported service_book (w.nodes (id_of s 1)) id) }
+printed s w line = printed_if s w (node_named s line.node) line.command
 
 abbrev pub numbered : ℕ → List ℕ → List ℕ
 numbered number text = decimal number ++ codes " " ++ text ++ codes "\n"
@@ -149,6 +218,9 @@ text_from s number w [] = []
 text_from s number w (l ∷ lines) = numbered number (printed s w l).text ++ text_from s (suc number) (printed s w l).world lines
 
 -- A schedule prints a line for its own first line, and then one for each line behind it.
+abbrev pub text_of_service : Settings → List Line → List ℕ
+text_of_service s lines = codes "1 ok\n" ++ text_from s 2 (begin (start_of s)) lines
+
 abbrev pub text_of_schedule : Schedule → List ℕ
 text_of_schedule Empty = []
-text_of_schedule (Service s lines) = codes "1 ok\n" ++ text_from s 2 (begin (start_of s)) lines
+text_of_schedule (Service world lines) = text_of_service (settings_of world) lines

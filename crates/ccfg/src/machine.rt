@@ -3,10 +3,12 @@
 ghost use Rattle.std.specs.Prelude.{◌≡◌, ◌≤◌, IfOk, OnErr, OnOk};
 
 use crate::outcome::{Answered, Outcome, Refusal};
-use crate::schedule::Line;
 use gl_base::{Status, TxId};
+use gl_entry::NodeId;
+use gl_lines::{Command, Line};
 use gl_service::{Settings, genesis, node_id};
-use gl_store::{NodeId, Request, Store, StoreError};
+use gl_store::{Store, StoreError};
+use gl_tx::Request;
 use std::alloc::{AllocError, Global};
 
 /// The view that the node leads.
@@ -16,7 +18,7 @@ const VIEW: u32 = 2;
 const LEAVES: u64 = 32;
 
 /// The node: its store, and the leaves of its key.
-#[derive(Debug, Drop)]
+#[derive(Drop)]
 pub struct Machine {
     pub settings: Settings,
     pub id: NodeId,
@@ -34,7 +36,7 @@ impl Machine {
     ghost use Rattle.gl_rules.specs.World.{leader_at_start};
     ghost use Rattle.gl_service.specs.Single.{IsSingle};
     ghost use Rattle.gl_service.specs.Service.{ServiceWorld, service_book, start_of};
-    ghost use Rattle.ccfg.specs.Playing.{IsIn, Prints};
+    ghost use Rattle.ccfg.specs.Playing.{IsIn, Prints, PrintsAt};
     ghost use Rattle.ccfg.specs.Machine.{IsMachine, GoesOn, Steps, node_in};
 
     /// The node as its service begins.
@@ -62,6 +64,7 @@ impl Machine {
         ensures steps { IfOk result (λ outcome. Steps (submit service_book request.now (node_in self.old)) self.new outcome) }
         ensures goes_on { OnOk result (GoesOn self.old self.new) }
     {
+        let _operations = request.as_slice();
         match self.store.execute(VIEW, request) {
             Ok((id, reply)) => Ok(Outcome::Accepted(id, reply)),
             Err(StoreError::Refused(why)) => Ok(Outcome::Refused(Refusal::Store(why))),
@@ -95,9 +98,14 @@ impl Machine {
         if self.store.last_signature() == len {
             return Ok(Outcome::Refused(Refusal::NothingToSign(len)));
         }
-        let id = self.store.sign(self.id, VIEW)?;
-        self.used += 1;
-        Ok(Outcome::Signed(id))
+        match self.store.sign(self.id, VIEW) {
+            Ok(id) => {
+                self.used += 1;
+                Ok(Outcome::Signed(id))
+            }
+            Err(StoreError::Refused(why)) => Ok(Outcome::Refused(Refusal::Store(why))),
+            Err(StoreError::Memory) => Err(AllocError),
+        }
     }
 
     /// Commits what is signed: the node alone is a majority.
@@ -124,24 +132,39 @@ impl Machine {
         self.store.status(id)
     }
 
+    /// What a command comes to at this node.
+    fn perform(&mut self, command: &Command) -> Result<Answered, AllocError>
+        requires { IsMachine self.old }
+        ensures prints { IfOk result (λ answered. (w : ServiceWorld) → IsIn w self.old → PrintsAt w command.now self.old self.new answered) }
+        ensures goes_on { OnOk result (GoesOn self.old self.new) }
+    {
+        match command {
+            Command::Submit(request) => {
+                let outcome = self.submit(request)?;
+                Ok(Answered::Event(outcome))
+            }
+            Command::Reserve => Ok(Answered::Event(self.reserve())),
+            Command::Sign => {
+                let outcome = self.sign()?;
+                Ok(Answered::Event(outcome))
+            }
+            Command::Advance => Ok(Answered::Event(self.advance())),
+            Command::Status(id) => Ok(Answered::Status(self.status(*id))),
+            Command::Ids => Ok(Answered::Ids),
+            Command::Ledger => Ok(Answered::Ledger),
+        }
+    }
+
     /// What a line comes to.
     pub fn answer(&mut self, line: &Line) -> Result<Answered, AllocError>
         requires { IsMachine self.old }
         ensures prints { IfOk result (λ answered. (w : ServiceWorld) → IsIn w self.old → Prints w line.now self.old self.new answered) }
         ensures goes_on { OnOk result (GoesOn self.old self.new) }
     {
-        match line {
-            Line::Submit(request) => {
-                let outcome = self.submit(request)?;
-                Ok(Answered::Event(outcome))
-            }
-            Line::Reserve => Ok(Answered::Event(self.reserve())),
-            Line::Sign => {
-                let outcome = self.sign()?;
-                Ok(Answered::Event(outcome))
-            }
-            Line::Advance => Ok(Answered::Event(self.advance())),
-            Line::Status(id) => Ok(Answered::Status(self.status(*id))),
+        if line.node == 1 {
+            self.perform(&line.command)
+        } else {
+            Ok(Answered::NoNode)
         }
     }
 }

@@ -8,10 +8,7 @@ mod outcome;
 mod playing;
 mod printing;
 mod program;
-mod reading;
-mod schedule;
-mod split;
-mod stop;
+mod schedules;
 #[cfg(test)]
 mod tests;
 

@@ -1,7 +1,7 @@
 //! What came of the lines of a schedule.
 
 use gl_base::{Status, TxId};
-use gl_store::Reply;
+use gl_tx::Reply;
 
 /// Why an event was refused.
 #[derive(Clone, Copy, Debug)]
@@ -32,4 +32,10 @@ pub enum Outcome {
 pub enum Answered {
     Event(Outcome),
     Status(Status),
+    /// The identifiers of the committed ledger, as the node now has it.
+    Ids,
+    /// The entries of the node's log, as it now is.
+    Ledger,
+    /// The line names no node.
+    NoNode,
 }

@@ -6,14 +6,13 @@ ghost use Rattle.gl_outside.specs.Fault.{Rose};
 ghost use Rattle.gl_outside.specs.Sink.{AppendsFront};
 ghost use Rattle.gl_service.specs.Service.{ServiceWorld};
 ghost use Rattle.gl_service.specs.Single.{IsSingle};
-ghost use Rattle.ccfg.specs.declared.schedule.Schedule.TheVariants.{Service};
 ghost use Rattle.ccfg.specs.Machine.{IsMachine, GoesOn};
 ghost use Rattle.ccfg.specs.Playing.{IsIn};
-ghost use Rattle.ccfg.specs.Text.{printed, numbered, text_of_schedule};
+ghost use Rattle.ccfg.specs.Text.{printed, numbered, text_of_service};
 
 use crate::machine::Machine;
 use crate::printing::answered_line;
-use crate::schedule::{Commands, Line};
+use gl_lines::{Line, Lines};
 use gl_outside::{Sink, SinkFault, write_whole};
 use gl_service::Settings;
 use std::alloc::{AllocError, Global};
@@ -33,7 +32,7 @@ fn told(
     ensures goes_on { OnOk result (GoesOn machine.old machine.new) }
 {
     let answered = machine.answer(line)?;
-    answered_line(alloc, number, &answered)
+    answered_line(alloc, number, machine, &answered)
 }
 
 /// Plays one line, and writes what came of it.
@@ -65,12 +64,12 @@ fn play_line<K: Sink>(
 pub fn play<K: Sink>(
     alloc: Global,
     settings: Settings,
-    commands: &Commands,
+    lines: &Lines,
     sink: &mut K,
 ) -> Result<(), SinkFault>
     requires { IsSingle settings }
-    ensures whole { OnOk result (Appends (K.holds sink.old) (K.holds sink.new) (text_of_schedule (Service settings commands.now))) }
-    ensures front { OnErr result (AppendsFront (K.holds sink.old) (K.holds sink.new) (text_of_schedule (Service settings commands.now))) }
+    ensures whole { OnOk result (Appends (K.holds sink.old) (K.holds sink.new) (text_of_service settings lines.now)) }
+    ensures front { OnErr result (AppendsFront (K.holds sink.old) (K.holds sink.new) (text_of_service settings lines.now)) }
     ensures failed { result ≡ Err SinkFault.Failed → Rose (K.faults sink.old) (K.faults sink.new) }
     ensures never_falls { K.faults sink.old ≤ K.faults sink.new }
 {
@@ -82,8 +81,8 @@ pub fn play<K: Sink>(
         Ok(()) => {}
         Err(fault) => return Err(fault),
     }
-    let lines = commands.as_slice();
-    for (i, line) in lines.iter().enumerate() {
+    let items = lines.as_slice();
+    for (i, line) in items.iter().enumerate() {
         match play_line(alloc, &mut machine, i as u64 + 2, line, sink) {
             Ok(()) => {}
             Err(fault) => return Err(fault),

@@ -1,17 +1,23 @@
 //! The text of what came of a line.
 
-ghost use Rattle.std.specs.Prelude.{◌≡◌, ◌++◌, ◌∷◌, [], codes, decimal, OnOk, IfOk};
+ghost use Rattle.std.specs.Prelude.{◌≡◌, ◌≤◌, ◌++◌, ◌∷◌, [], codes, decimal, length, take, true, OnOk, IfOk};
 ghost use Rattle.gl_base.specs.TxId.{text_of};
 ghost use Rattle.gl_store.specs.Genesis.{state_byte};
-ghost use Rattle.ccfg.specs.Text.{answer_text, answers_behind, answers_text, cause_number, refusal_text, outcome_text, status_text, with_numbers, numbered, unmade_text};
+ghost use Rattle.std.specs.List.{AllByRecursion, flat_map};
+ghost use Rattle.hex.specs.Hex.{encode_lower};
+ghost use Rattle.gl_entry.specs.Entry.{is_entry};
+ghost use Rattle.ccfg.specs.Text.{value_text, answer_text, answers_behind, answers_text, cause_number, refusal_text, outcome_text, status_text, with_numbers, numbered, unmade_text, id_text, ids_text, entry_text, ledger_text};
 ghost use Rattle.ccfg.specs.Printing.{answered_text};
-ghost use Rattle.ccfg.specs.Machine.{seen, seen_refusal};
+ghost use Rattle.ccfg.specs.Machine.{node_in, seen, seen_refusal};
 ghost use Rattle.gl_service.specs.Service.{ByStore};
 ghost use Rattle.gl_service.specs.declared.settings.Settings.{Settings};
 
+use crate::machine::Machine;
 use crate::outcome::{Answered, Outcome, Refusal};
 use gl_base::{Status, TxId};
-use gl_store::{Answer, Cause, Reply, ServiceState};
+use gl_entry::Entry;
+use gl_store::{ServiceState, Store};
+use gl_tx::{Answer, Cause, Reply};
 use itoa::Buffer;
 use std::alloc::{AllocError, Global};
 
@@ -37,32 +43,65 @@ fn put_id(out: &mut Vec<u8>, id: TxId) -> Result<(), AllocError>
     put_number(out, id.seqno)
 }
 
-fn put_answer(out: &mut Vec<u8>, answer: Answer) -> Result<(), AllocError>
-    ensures { OnOk result (out.new.items ≡ out.old.items ++ answer_text answer) }
+/// Bytes in lower-case hexadecimal.
+fn put_hex(alloc: Global, out: &mut Vec<u8>, bytes: &[u8]) -> Result<(), AllocError>
+    ensures { OnOk result (out.new.items ≡ out.old.items ++ encode_lower bytes.now) }
 {
-    match answer {
-        Answer::Done => out.extend_from_slice(b"done"),
+    out.extend_from_slice(hex::encode(alloc, bytes)?.as_bytes())
+}
+
+/// A value in hexadecimal, of which a full stop stands for no bytes.
+fn put_hex_value(alloc: Global, out: &mut Vec<u8>, value: &[u8]) -> Result<(), AllocError>
+    ensures { OnOk result (out.new.items ≡ out.old.items ++ value_text value.now) }
+{
+    if value.is_empty() {
+        out.extend_from_slice(b".")
+    } else {
+        put_hex(alloc, out, value)
     }
 }
 
-fn put_answers_behind(out: &mut Vec<u8>, answers: &[Answer]) -> Result<(), AllocError>
+fn put_answer(alloc: Global, out: &mut Vec<u8>, answer: &Answer) -> Result<(), AllocError>
+    ensures { OnOk result (out.new.items ≡ out.old.items ++ answer_text answer.now) }
+{
+    match answer {
+        Answer::Done => out.extend_from_slice(b"done"),
+        Answer::None => out.extend_from_slice(b"none"),
+        Answer::Value(value) => {
+            out.extend_from_slice(b"value ")?;
+            put_hex_value(alloc, out, value.as_slice())
+        }
+        Answer::No => out.extend_from_slice(b"no"),
+        Answer::Yes => out.extend_from_slice(b"yes"),
+        Answer::Number(number) => {
+            out.extend_from_slice(b"number ")?;
+            put_number(out, *number)
+        }
+    }
+}
+
+fn put_answers_behind(
+    alloc: Global,
+    out: &mut Vec<u8>,
+    answers: &[Answer],
+) -> Result<(), AllocError>
     ensures { OnOk result (out.new.items ≡ out.old.items ++ answers_behind answers.now) }
 {
     for answer in answers {
         out.extend_from_slice(b" ; ")?;
-        put_answer(out, *answer)?;
+        put_answer(alloc, out, answer)?;
     }
     Ok(())
 }
 
-fn put_answers(out: &mut Vec<u8>, reply: &Reply) -> Result<(), AllocError>
+fn put_answers(alloc: Global, out: &mut Vec<u8>, reply: &Reply) -> Result<(), AllocError>
     ensures { OnOk result (out.new.items ≡ out.old.items ++ answers_text reply.now) }
 {
     match reply.as_slice() {
         [] => Ok(()),
         [first, rest @ ..] => {
-            put_answer(out, *first)?;
-            put_answers_behind(out, rest)
+            put_answer(alloc, out, first)?;
+            put_answers_behind(alloc, out, rest)
         }
     }
 }
@@ -73,6 +112,10 @@ fn cause_number(cause: Cause) -> u64
     match cause {
         Cause::NotPublic => 1,
         Cause::Reserved => 2,
+        Cause::NotNumber => 3,
+        Cause::Overflow => 4,
+        Cause::Check => 5,
+        Cause::BadKey => 6,
     }
 }
 
@@ -98,6 +141,11 @@ fn put_store_refusal(out: &mut Vec<u8>, refusal: gl_store::Refusal) -> Result<()
             put_value(out, u64::from(abort.operation))?;
             put_value(out, cause_number(abort.cause))
         }
+        gl_store::Refusal::TooLarge { size } => {
+            out.extend_from_slice(b"119")?;
+            put_value(out, size)
+        }
+        gl_store::Refusal::SeqnoLimit => out.extend_from_slice(b"130"),
     }
 }
 
@@ -122,7 +170,7 @@ fn put_refusal(out: &mut Vec<u8>, refusal: Refusal) -> Result<(), AllocError>
     }
 }
 
-fn put_outcome(out: &mut Vec<u8>, outcome: &Outcome) -> Result<(), AllocError>
+fn put_outcome(alloc: Global, out: &mut Vec<u8>, outcome: &Outcome) -> Result<(), AllocError>
     ensures { OnOk result ((s : Settings) → out.new.items ≡ out.old.items ++ outcome_text s (seen outcome.now)) }
 {
     match outcome {
@@ -132,7 +180,7 @@ fn put_outcome(out: &mut Vec<u8>, outcome: &Outcome) -> Result<(), AllocError>
             out.extend_from_slice(b"accepted ")?;
             put_id(out, *id)?;
             out.extend_from_slice(b" ")?;
-            put_answers(out, reply)
+            put_answers(alloc, out, reply)
         }
         Outcome::Signed(id) => {
             out.extend_from_slice(b"signed ")?;
@@ -160,23 +208,103 @@ fn put_status(out: &mut Vec<u8>, status: Status) -> Result<(), AllocError>
     }
 }
 
-fn put_answered(out: &mut Vec<u8>, answered: &Answered) -> Result<(), AllocError>
-    ensures { OnOk result ((s : Settings) → out.new.items ≡ out.old.items ++ answered_text s answered.now) }
+/// The identifiers of entries, each behind a space.
+fn put_ids_behind(out: &mut Vec<u8>, entries: &[Entry]) -> Result<(), AllocError>
+    ensures { OnOk result (out.new.items ≡ out.old.items ++ flat_map (λ e. codes " " ++ id_text e.view e.seqno) entries.now) }
+{
+    for entry in entries {
+        out.extend_from_slice(b" ")?;
+        put_id(
+            out,
+            TxId {
+                view: entry.view,
+                seqno: entry.seqno,
+            },
+        )?;
+    }
+    Ok(())
+}
+
+fn put_ids(out: &mut Vec<u8>, entries: &[Entry]) -> Result<(), AllocError>
+    ensures { OnOk result (out.new.items ≡ out.old.items ++ ids_text entries.now) }
+{
+    out.extend_from_slice(b"ids")?;
+    put_ids_behind(out, entries)
+}
+
+fn put_entry(alloc: Global, out: &mut Vec<u8>, entry: &Entry) -> Result<(), AllocError>
+    requires { is_entry entry.now ≡ true }
+    ensures { OnOk result (out.new.items ≡ out.old.items ++ entry_text entry.now) }
+{
+    out.extend_from_slice(b"\nentry ")?;
+    put_id(
+        out,
+        TxId {
+            view: entry.view,
+            seqno: entry.seqno,
+        },
+    )?;
+    out.extend_from_slice(b" ")?;
+    put_hex(alloc, out, &entry.encode(alloc)?)
+}
+
+fn put_entries(alloc: Global, out: &mut Vec<u8>, entries: &[Entry]) -> Result<(), AllocError>
+    requires { AllByRecursion (λ e. is_entry e ≡ true) entries.now }
+    ensures { OnOk result (out.new.items ≡ out.old.items ++ flat_map entry_text entries.now) }
+{
+    for entry in entries {
+        put_entry(alloc, out, entry)?;
+    }
+    Ok(())
+}
+
+fn put_ledger(alloc: Global, out: &mut Vec<u8>, entries: &[Entry]) -> Result<(), AllocError>
+    requires { AllByRecursion (λ e. is_entry e ≡ true) entries.now }
+    ensures { OnOk result (out.new.items ≡ out.old.items ++ ledger_text entries.now) }
+{
+    out.extend_from_slice(b"ledger ")?;
+    put_number(out, entries.len() as u64)?;
+    put_entries(alloc, out, entries)
+}
+
+/// The entries up to the commit.
+fn committed(store: &Store) -> &[Entry]
+    ensures { result.now ≡ take store.now.commit store.now.ledger }
+{
+    let (committed, _) = store.entries().split_at(store.commit() as usize);
+    committed
+}
+
+fn put_answered(
+    alloc: Global,
+    out: &mut Vec<u8>,
+    machine: &Machine,
+    answered: &Answered,
+) -> Result<(), AllocError>
+    ensures { OnOk result ((s : Settings) → out.new.items ≡ out.old.items ++ answered_text s (node_in machine.now) answered.now) }
 {
     match answered {
-        Answered::Event(outcome) => put_outcome(out, outcome),
+        Answered::Event(outcome) => put_outcome(alloc, out, outcome),
         Answered::Status(status) => put_status(out, *status),
+        Answered::Ids => put_ids(out, committed(&machine.store)),
+        Answered::Ledger => put_ledger(alloc, out, machine.store.entries()),
+        Answered::NoNode => out.extend_from_slice(b"refused 0"),
     }
 }
 
 /// The line with this number, with what came of it.
-pub fn answered_line(alloc: Global, number: u64, answered: &Answered) -> Result<Vec<u8>, AllocError>
-    ensures { IfOk result (λ line. (s : Settings) → line.items ≡ numbered number (answered_text s answered.now)) }
+pub fn answered_line(
+    alloc: Global,
+    number: u64,
+    machine: &Machine,
+    answered: &Answered,
+) -> Result<Vec<u8>, AllocError>
+    ensures { IfOk result (λ line. (s : Settings) → line.items ≡ numbered number (answered_text s (node_in machine.now) answered.now)) }
 {
     let mut line = Vec::new(alloc);
     put_number(&mut line, number)?;
     line.extend_from_slice(b" ")?;
-    put_answered(&mut line, answered)?;
+    put_answered(alloc, &mut line, machine, answered)?;
     line.extend_from_slice(b"\n")?;
     Ok(line)
 }

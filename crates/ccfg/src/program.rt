@@ -8,7 +8,7 @@ ghost use Rattle.gl_outside.specs.Sink.{AppendsFront};
 ghost use Rattle.ccfg.specs.declared.ending.Fault.TheVariants.{Words};
 ghost use Rattle.ccfg.specs.declared.ending.Ending.{Ending};
 ghost use Rattle.ccfg.specs.declared.ending.Ending.TheVariants.{Done, Refused};
-ghost use Rattle.ccfg.specs.Reading.{reads};
+ghost use Rattle.ccfg.specs.Schedules.{reads};
 ghost use Rattle.ccfg.specs.Owed.{AreWords, Answers, KeepsHeadline, Replays, Writes, bytes_limit, exit_status, fault_line, of_reading, owed, refused};
 ghost use Rattle.ccfg.specs.Promises.{HasNoReading, HasReading, PassesLimit, TellsLimit, TellsNoReading, WritesText};
 ghost use Rattle.ccfg.specs.declared.program.Plan.TheVariants.{Play, Refuse};
@@ -17,10 +17,8 @@ ghost use Rattle.ccfg.specs.Plans.{due_of, HasOneNode, PlaysOneNode, EndsPlayed}
 use crate::ending::{Ending, Fault};
 use crate::loading::{LoadStop, load};
 use crate::playing::play;
-use crate::reading::read;
-use crate::schedule::Schedule;
-use crate::split::line_count;
-use crate::stop::Stop;
+use crate::schedules::{read, settings_of};
+use gl_lines::{ReadError, Schedule, line_count};
 use gl_outside::{Sink, SinkFault, Source, write_whole};
 use std::alloc::{AllocError, Global};
 
@@ -59,8 +57,8 @@ fn plan_of(alloc: Global, text: &[u8]) -> Result<Plan, AllocError>
     }
     match read(alloc, text) {
         Ok(schedule) => Ok(Plan::Play(schedule)),
-        Err(Stop::NoReading) => Ok(Plan::Refuse(Fault::Schedule)),
-        Err(Stop::Memory) => Err(AllocError),
+        Err(ReadError::BadLine(number)) => Ok(Plan::Refuse(Fault::Line(number))),
+        Err(ReadError::NoMemory) => Err(AllocError),
     }
 }
 
@@ -92,11 +90,14 @@ fn read_plan<S: Source>(alloc: Global, source: &mut S) -> Result<Plan, PlanStop>
 }
 
 /// Tells a fault.
-fn refuse<K: Sink>(fault: Fault, sink: &mut K) -> Ending
+fn refuse<K: Sink>(alloc: Global, fault: Fault, sink: &mut K) -> Ending
     ensures fault { result ≡ Refused Words → fault ≡ Words }
     ensures writes { Writes result (K.holds sink.old) (K.holds sink.new) (K.faults sink.old) (K.faults sink.new) (refused fault) }
 {
-    match write_whole(sink, fault.line()) {
+    let Ok(line) = fault.line(alloc) else {
+        return Ending::Memory;
+    };
+    match write_whole(sink, &line) {
         Ok(()) => Ending::Refused(fault),
         Err(SinkFault::Failed) => Ending::SinkFailed,
         Err(SinkFault::NoMemory) => Ending::Memory,
@@ -111,7 +112,7 @@ fn perform<K: Sink>(alloc: Global, schedule: &Schedule, sink: &mut K) -> Ending
 {
     match schedule {
         Schedule::Empty => Ending::Done,
-        Schedule::Service(settings, commands) => match play(alloc, *settings, commands, sink) {
+        Schedule::Service(world, lines) => match play(alloc, settings_of(world), lines, sink) {
             Ok(()) => Ending::Done,
             Err(SinkFault::Failed) => Ending::SinkFailed,
             Err(SinkFault::NoMemory) => Ending::Memory,
@@ -125,7 +126,7 @@ fn carry_out<K: Sink>(alloc: Global, plan: &Plan, sink: &mut K) -> Ending
     ensures writes { Writes result (K.holds sink.old) (K.holds sink.new) (K.faults sink.old) (K.faults sink.new) (due_of plan.now) }
 {
     match plan {
-        Plan::Refuse(fault) => refuse(*fault, sink),
+        Plan::Refuse(fault) => refuse(alloc, *fault, sink),
         Plan::Play(schedule) => perform(alloc, schedule, sink),
     }
 }
@@ -168,7 +169,7 @@ fn run<S: Source, K: Sink>(alloc: Global, words: &[String], source: &mut S, sink
     if is_replay(words) {
         replay(alloc, source, sink)
     } else {
-        refuse(Fault::Words, sink)
+        refuse(alloc, Fault::Words, sink)
     }
 }
 
@@ -208,7 +209,8 @@ pub fn top<S: Source, K: Sink>(alloc: Global, words: &[String], source: &mut S, 
     // 8: the bytes pass a limit, and exactly the line that names it was written.
     ensures limits { result ≡ 8 → AreWords (map string_bytes words.now)
         × IfSome (S.left source.old) (λ given. TellsLimit given (K.holds sink.old) (K.holds sink.new)) }
-    // 9: the bytes are within the limits and have no reading, and exactly the line that says so was written.
+    // 9: the bytes are within the limits and have no reading, and exactly the line that tells their first bad line was
+    // written.
     ensures no_reading { result ≡ 9 → AreWords (map string_bytes words.now)
         × IfSome (S.left source.old) (λ given. TellsNoReading given (K.holds sink.old) (K.holds sink.new)) }
     // Bytes that pass a limit give 8, unless the source or the sink fails or memory runs out.

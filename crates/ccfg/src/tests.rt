@@ -2,6 +2,7 @@
 
 use crate::program::top;
 use gl_outside::{MemSink, MemSource, SureSink, SureSource};
+use sha2::{Digest, Sha256};
 use std::alloc::{AllocError, Global};
 use std::process::Abort;
 use std::test::Fail;
@@ -11,7 +12,7 @@ const WORLD: &[u8] =
     b"world 1 0 1 open 0000000000000000000000000000000000000000000000000000000000000000\n";
 
 /// The lines of one schedule without their newlines, each with what is written for it.
-const ROW: [(&[u8], &[u8]); 7] = [
+const ROW: [(&[u8], &[u8]); 8] = [
     (
         b"world 1 0 1 open 0000000000000000000000000000000000000000000000000000000000000000",
         b"1 ok\n",
@@ -22,9 +23,21 @@ const ROW: [(&[u8], &[u8]); 7] = [
     (b"sign 1", b"5 signed 2.4\n"),
     (b"advance 1", b"6 commit 2.4\n"),
     (b"status 1 2.3", b"7 Committed\n"),
+    (b"ids 1", b"8 ids 2.1 2.2 2.3 2.4\n"),
 ];
 
-const NO_SCHEDULE: &[u8] = b"fault schedule\n";
+// The digest of what `ledger 1` writes as the ninth line behind these: 2,823 bytes, made by a program
+// in Python that knows the format alone.
+const LEDGER: [u8; 32] = [
+    0xef, 0xd8, 0x5b, 0x4e, 0x75, 0x58, 0xaf, 0xc3, 0x43, 0xb6, 0x6e, 0x9e, 0xa5, 0xb9, 0xd4, 0x37,
+    0x4b, 0x08, 0x55, 0xe0, 0x55, 0x2b, 0xda, 0xac, 0x84, 0x55, 0xfb, 0xde, 0x36, 0xda, 0x4f, 0xb4,
+];
+
+/// The line that tells the first bad line.
+fn bad_line(alloc: Global, number: usize) -> Result<Vec<u8>, AllocError> {
+    let text = format!(in alloc; "fault line {number}\n")?;
+    Vec::from_slice(alloc, text.as_bytes())
+}
 
 /// The words of a command line.
 fn words(alloc: Global, words: &[&str]) -> Result<Vec<String>, AllocError> {
@@ -88,7 +101,7 @@ fn row(alloc: Global) -> Result<(Vec<u8>, Vec<u8>), AllocError> {
 #[test]
 fn replays_schedules(rt: HostRuntime) -> Result<(), Fail> {
     let alloc = rt.alloc();
-    let rows: [(&[&[u8]], &[u8]); 5] = [
+    let rows: [(&[&[u8]], &[u8]); 6] = [
         (&[], b""),
         (&[WORLD], b"1 ok\n"),
         (
@@ -108,6 +121,14 @@ fn replays_schedules(rt: HostRuntime) -> Result<(), Fail> {
             b"1 ok\n2 refused 112 1\n3 ok\n4 refused 114 2\n",
         ),
         (&[WORLD, b"advance 1\n"], b"1 ok\n2 idle\n"),
+        (
+            &[
+                b"world 1 0 64 opening 0000000000000000000000000000000000000000000000000000000000000000\n",
+                b"submit 1 put public:t 61 01\n",
+                b"sign 2\n",
+            ],
+            b"1 ok\n2 refused 51 1\n3 refused 0\n",
+        ),
     ];
     for (lines, due) in rows {
         let text = joined(alloc, lines)?;
@@ -132,34 +153,169 @@ fn reserves_no_more_than_the_key_has(rt: HostRuntime) -> Result<(), Fail> {
     Ok(())
 }
 
+/// The operations on one open node, each line with what is written for it.
+#[test]
+fn runs_each_operation(rt: HostRuntime) -> Result<(), Fail> {
+    let alloc = rt.alloc();
+    let rows: [(&[u8], &[u8]); 20] = [
+        (b"submit 1 add public:t 61 5", b"accepted 2.3 number 5"),
+        (
+            b"submit 1 add public:t 61 18446744073709551615",
+            b"refused 122 1 4",
+        ),
+        (b"submit 1 check public:t 62 -", b"accepted 2.4 done"),
+        (
+            b"submit 1 follow public:t 63 public:u",
+            b"accepted 2.5 none",
+        ),
+        (b"submit 1 size public:t", b"accepted 2.6 number 1"),
+        (b"submit 1 put secret 61 01", b"refused 122 1 1"),
+        (b"submit 1 put public:ccf.gov.x 61 01", b"refused 122 1 2"),
+        (
+            b"submit 1 put public:ccf.internal.x 61 01",
+            b"refused 122 1 2",
+        ),
+        (
+            b"submit 1 get public:t 61",
+            b"accepted 2.7 value 0500000000000000",
+        ),
+        (b"submit 1 get public:t 62", b"accepted 2.8 none"),
+        (
+            b"submit 1 put public:t 62 . ; get public:t 62 ; has public:t 62 ; size public:t",
+            b"accepted 2.9 done ; value . ; yes ; number 2",
+        ),
+        (
+            b"submit 1 remove public:t 62 ; remove public:t 62 ; has public:t 62 ; size public:t",
+            b"accepted 2.10 yes ; no ; no ; number 1",
+        ),
+        (
+            b"submit 1 put public:t 63 6b ; put public:u 6b 07 ; follow public:t 63 public:u",
+            b"accepted 2.11 done ; done ; value 07",
+        ),
+        (
+            b"submit 1 put public:t 64 . ; follow public:t 64 public:u",
+            b"refused 122 2 6",
+        ),
+        (b"submit 1 add public:u 6b 1", b"refused 122 1 3"),
+        (
+            b"submit 1 get public:t 61 ; check public:u 6b 08",
+            b"refused 122 2 5",
+        ),
+        (
+            b"submit 1 follow public:t 61 public:ccf.gov.nodes",
+            b"refused 122 1 2",
+        ),
+        (b"submit 1 get ; 61", b"refused 122 1 1"),
+        (b"submit 2 size public:t", b"refused 0"),
+        (b"ids 0", b"refused 0"),
+    ];
+    let mut text = Vec::from_slice(alloc, WORLD)?;
+    let mut due = Vec::from_slice(alloc, b"1 ok\n")?;
+    for (i, (line, answer)) in rows.iter().enumerate() {
+        text.extend_from_slice(line)?;
+        text.push(b'\n')?;
+        let number = format!(in alloc; "{} ", i + 2)?;
+        due.extend_from_slice(number.as_bytes())?;
+        due.extend_from_slice(answer)?;
+        due.push(b'\n')?;
+    }
+    let (status, written) = run(alloc, &["replay"], &text)?;
+    assert_eq!(rt; status, 0);
+    assert_eq!(rt; written.as_slice(), due.as_slice());
+    Ok(())
+}
+
+#[test]
+fn prints_the_ledger(rt: HostRuntime) -> Result<(), Fail> {
+    let alloc = rt.alloc();
+    let (text, due) = row(alloc)?;
+    let text = joined(alloc, &[&text, b"ledger 1\n"])?;
+    let (status, written) = run(alloc, &["replay"], &text)?;
+    assert_eq!(rt; status, 0);
+    assert_eq!(rt; written.len(), due.len() + 2823);
+    let (front, ledger) = written.split_at(due.len());
+    assert_eq!(rt; front, due.as_slice());
+    assert_eq!(rt; Sha256::digest(ledger), LEDGER);
+    Ok(())
+}
+
+/// A value of the greatest size, and 16 gets of it, of which the reply is larger than 1 MiB.
+#[test]
+fn refuses_what_is_too_large(rt: HostRuntime) -> Result<(), Fail> {
+    let alloc = rt.alloc();
+    let value = b"00".repeat(alloc, 65536)?;
+    let put = joined(alloc, &[b"put public:t 61 ", &value])?;
+    let more = joined(alloc, &[b" ; ", &put])?.repeat(alloc, 15)?;
+    let gets = b" ; get public:t 61".repeat(alloc, 15)?;
+    let text = joined(
+        alloc,
+        &[
+            WORLD,
+            b"submit 1 ",
+            &put,
+            b"\nsubmit 1 ",
+            &put,
+            &more,
+            b"\nsubmit 1 get public:t 61",
+            &gets,
+            b"\n",
+        ],
+    )?;
+    let (status, written) = run(alloc, &["replay"], &text)?;
+    assert_eq!(rt; status, 0);
+    let due: &[u8] = b"1 ok\n2 accepted 2.3 done\n3 refused 119 1114456\n4 refused 119 1048658\n";
+    assert_eq!(rt; written.as_slice(), due);
+    Ok(())
+}
+
 #[test]
 fn refuses_what_is_no_schedule(rt: HostRuntime) -> Result<(), Fail> {
     let alloc = rt.alloc();
-    let rows: [&[&[u8]]; 16] = [
-        &[b"word\n"],
-        &[b"\n"],
-        &[b"world 2 0 1 open 0000000000000000000000000000000000000000000000000000000000000000\n"],
-        &[b"world 1 1 1 open 0000000000000000000000000000000000000000000000000000000000000000\n"],
-        &[b"world 1 0 2 open 0000000000000000000000000000000000000000000000000000000000000000\n"],
-        &[
-            b"world 1 0 1 opening 0000000000000000000000000000000000000000000000000000000000000000\n",
-        ],
-        &[b"world 1 0 1 open 00000000000000000000000000000000000000000000000000000000000000\n"],
-        &[WORLD, WORLD],
-        &[WORLD, b"\n"],
-        &[WORLD, b"sign 1"],
-        &[WORLD, b"sign 2\n"],
-        &[WORLD, b"sign 1 1\n"],
-        &[WORLD, b"status 1 02.3\n"],
-        &[WORLD, b"submit 1 put private 61 01\n"],
-        &[WORLD, b"submit 1 put public:ccf.gov.x 61 01\n"],
-        &[WORLD, b"submit 1 put public:ccf.internal.x 61 01\n"],
+    let rows: [(&[&[u8]], usize); 15] = [
+        (&[b"word\n"], 1),
+        (&[b"\n"], 1),
+        (&[b"word"], 1),
+        (
+            &[
+                b"world 2 0 1 open 0000000000000000000000000000000000000000000000000000000000000000\n",
+            ],
+            1,
+        ),
+        (
+            &[
+                b"world 1 1 1 open 0000000000000000000000000000000000000000000000000000000000000000\n",
+            ],
+            1,
+        ),
+        (
+            &[
+                b"world 1 0 65 open 0000000000000000000000000000000000000000000000000000000000000000\n",
+            ],
+            1,
+        ),
+        (
+            &[
+                b"world 1 0 1 closed 0000000000000000000000000000000000000000000000000000000000000000\n",
+            ],
+            1,
+        ),
+        (
+            &[b"world 1 0 1 open 00000000000000000000000000000000000000000000000000000000000000\n"],
+            1,
+        ),
+        (&[WORLD, WORLD], 2),
+        (&[WORLD, b"\n"], 2),
+        (&[WORLD, b"sign 1"], 2),
+        (&[WORLD, b"sign 1\n", b"sign 1 1\n", b"sign\n"], 3),
+        (&[WORLD, b"status 1 02.3\n"], 2),
+        (&[WORLD, b"submit 1 put public:t 61\n"], 2),
+        (&[WORLD, b"submit 1 put public:t 61 01 ;\n"], 2),
     ];
-    for lines in rows {
+    for (lines, number) in rows {
         let text = joined(alloc, lines)?;
         let (status, written) = run(alloc, &["replay"], &text)?;
         assert_eq!(rt; status, 9, "of {text:?}");
-        assert_eq!(rt; written.as_slice(), NO_SCHEDULE);
+        assert_eq!(rt; written.as_slice(), bad_line(alloc, number)?.as_slice());
     }
     Ok(())
 }
@@ -176,18 +332,20 @@ fn takes_one_word_alone(rt: HostRuntime) -> Result<(), Fail> {
     Ok(())
 }
 
-/// Adds a line byte by byte. No front that ends within it is a schedule.
+/// Adds the line with this number byte by byte. No front that ends within it is a schedule.
 fn add_line(
     rt: &impl Abort,
     alloc: Global,
     text: &mut Vec<u8>,
     line: &[u8],
+    number: usize,
 ) -> Result<(), AllocError> {
+    let due = bad_line(alloc, number)?;
     for byte in line {
         text.push(*byte)?;
         let (status, written) = run(alloc, &["replay"], text)?;
         assert_eq!(rt; status, 9, "of {text:?}");
-        assert_eq!(rt; written.as_slice(), NO_SCHEDULE);
+        assert_eq!(rt; written.as_slice(), due.as_slice());
     }
     text.push(b'\n')?;
     Ok(())
@@ -200,8 +358,8 @@ fn replays_a_schedule_cut_at_a_line_and_refuses_each_other_front(
     let alloc = rt.alloc();
     let mut text = Vec::new(alloc);
     let mut due = Vec::new(alloc);
-    for (line, answer) in ROW {
-        add_line(&rt, alloc, &mut text, line)?;
+    for (i, (line, answer)) in ROW.iter().enumerate() {
+        add_line(&rt, alloc, &mut text, line, i + 1)?;
         due.extend_from_slice(answer)?;
         let (status, written) = run(alloc, &["replay"], &text)?;
         assert_eq!(rt; status, 0, "of {text:?}");
@@ -238,7 +396,7 @@ fn ends_with_4_behind_the_lines_before_the_failed_write(rt: HostRuntime) -> Resu
         assert_eq!(rt; written.as_slice(), due.as_slice());
         due.extend_from_slice(answer)?;
     }
-    let (status, written) = run_over_failed_write(alloc, &text, 8)?;
+    let (status, written) = run_over_failed_write(alloc, &text, 9)?;
     assert_eq!(rt; status, 0);
     assert_eq!(rt; written.as_slice(), due.as_slice());
     Ok(())
@@ -261,9 +419,9 @@ fn tells_its_limits(rt: HostRuntime) -> Result<(), Fail> {
     let rows: [(u8, usize, u8, &[u8]); 5] = [
         (b'x', 16_777_217, 8, bytes),
         (b'\n', 16_777_217, 8, bytes),
-        (b'x', 16_777_216, 9, NO_SCHEDULE),
+        (b'x', 16_777_216, 9, b"fault line 1\n"),
         (b'\n', 100_001, 8, lines),
-        (b'\n', 100_000, 9, NO_SCHEDULE),
+        (b'\n', 100_000, 9, b"fault line 1\n"),
     ];
     for (byte, count, want, due) in rows {
         let text = [byte].repeat(alloc, count)?;

@@ -31,6 +31,14 @@ impl<'a> Cut<'a> {
         Cut { rest: bytes, at: 0 }
     }
 
+    /// A part of other bytes, of which the first stands at this place among all of them.
+    pub fn new_at(bytes: &'a [u8], at: usize) -> Cut<'a>
+        requires { at + length bytes.now < 2 ^ 64 }
+        ensures { result ≡ record { at = at; bytes = bytes.now } }
+    {
+        Cut { rest: bytes, at }
+    }
+
     /// The place of the next byte, counted from the first of all.
     pub fn at(&self) -> usize
         ensures { result ≡ self.now.at }

@@ -1,6 +1,7 @@
 //! Transaction identifiers, their status, and the fields that every format is made of.
 #![tactic(auto)]
 
+mod code_fault;
 mod cut;
 mod cut_fault;
 mod number;
@@ -10,6 +11,7 @@ mod status_of;
 mod tx_id;
 mod tx_id_text;
 
+pub use code_fault::{CodeError, CodeFault};
 pub use cut::Cut;
 pub use cut_fault::CutFault;
 pub use put::{put_bytes, put_u8, put_u16, put_u32, put_u48, put_u64};

@@ -5,8 +5,7 @@ use Rattle.gl_rules.specs.Majority.{quorum}
 use Rattle.gl_rules.specs.Configuration.{in_some}
 use Rattle.gl_rules.specs.Message.{Last, Message}
 use Rattle.gl_replay_rules.specs.declared.entry.Entry.{Entry}
-use Rattle.gl_replay_rules.specs.Pairs.{held}
-use Rattle.gl_replay_rules.specs.Seen.{holds, requests_from}
+use Rattle.gl_replay_rules.specs.Seen.{requests_from}
 
 pub quorum_by : (r : Bool) (u v : List NodeId) (s t : List (List NodeId)) → r ≡ quorum (λ y. member y u) s → u ≡ v → s ≡ t → r ≡ quorum (λ y. member y v) t
 quorum_by r u v s t is p q = is ∙ ap (λ (l : List NodeId). quorum (λ y. member y l) s) p ∙ ap (quorum (λ y. member y v)) q
@@ -18,6 +17,3 @@ others_by r x s t u v is p q =
 
 pub requests_by : (r : List (Message Entry)) (x : NodeId) (view : ℕ) (l m : Last) (u v : List NodeId) → r ≡ requests_from x view l u → l ≡ m → u ≡ v → r ≡ requests_from x view m v
 requests_by r x view l m u v is p q = is ∙ ap (λ (k : Last). requests_from x view k u) p ∙ ap (requests_from x view m) q
-
-pub holding_by : (r : Bool) (x : NodeId) (place : ℕ) (u v : List (NodeId × ℕ)) (s t : List (List NodeId)) → r ≡ quorum (holds x place (held u)) s → u ≡ v → s ≡ t → r ≡ quorum (holds x place (held v)) t
-holding_by r x place u v s t is p q = is ∙ ap (λ (l : List (NodeId × ℕ)). quorum (holds x place (held l)) s) p ∙ ap (quorum (holds x place (held v))) q

@@ -1,26 +1,21 @@
-//! The rules of consensus as a plain, slow program over a small book in memory.
+//! The rules of consensus as a plain, slow program over a small book in memory: what a node does alone, in its ledger, in
+//! elections and at requests. What messages bring about between nodes, up to each delivery, stands above, in
+//! `gl_replay_delivery`.
 //!
 //! Each call is one row of the rule table: its clause says that the row of the definitions, at the node that was
 //! handed in, gives the node, the messages and the outcome that are answered. A node that was handed in stays as it is.
 #![tactic(auto)]
 
-pub mod append;
 pub mod changes;
 pub mod configuration;
-pub mod delivery;
 pub mod elections;
 pub mod entry;
-pub mod install;
 pub mod laws;
 pub mod ledger;
 pub mod majority;
 pub mod node;
-pub mod replication;
-pub mod reply;
 pub mod requests;
 pub mod step;
-#[cfg(test)]
-mod worked_runs;
 
 pub use entry::{Entry, Fault, Kind, NodeId, Nodes, Order};
 pub use node::{Node, Role};

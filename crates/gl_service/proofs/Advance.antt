@@ -9,9 +9,9 @@ use Rattle.gl_rules.specs.Node.{Node, Role, Leader}
 use Rattle.gl_rules.specs.Configuration.{configuration_at, configurations_above, or_else, active_upto}
 use Rattle.gl_rules.specs.Steps.{led_by}
 use Rattle.gl_rules.specs.Replication.{advance, commits, may_commit, greatest_to_commit}
-use Rattle.gl_store.specs.Entry.{is_signature}
+use Rattle.gl_entry.specs.Entry.{is_signature}
 use Rattle.gl_store.specs.Ledger.{last_signature, signature_place}
-use Rattle.gl_store.specs.declared.entry.Entry.{Entry}
+use Rattle.gl_entry.specs.declared.entry.Entry.{Entry}
 use Rattle.gl_store.proofs.Keeping.{last_signature-push, last_signature-signed}
 use Rattle.gl_service.specs.Nodes.{configuration}
 use Rattle.gl_service.specs.Service.{service_book}

@@ -1,10 +1,16 @@
 pub mod Ids
 pub mod Lists
+pub mod Numbers
+pub mod MemberKeys
+pub mod Digests
+pub mod Acceptable
+pub mod Sizes
+pub mod SetRows
 pub mod Advance
+pub mod Reports
 pub mod Sets
 pub mod Solo
 pub mod Starting
 pub mod Worlds
-pub mod Reports
 pub mod Single
 pub mod Shown

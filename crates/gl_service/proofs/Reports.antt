@@ -10,7 +10,7 @@ use Rattle.gl_rules.specs.Log.{entry_at}
 use Rattle.gl_rules.specs.Node.{Node}
 use Rattle.gl_rules.specs.Safety.{view_of, named, commit_id, reported}
 use Rattle.gl_rules.specs.World.{joiner}
-use Rattle.gl_store.specs.declared.entry.Entry.{Entry}
+use Rattle.gl_entry.specs.declared.entry.Entry.{Entry}
 use Rattle.gl_service.specs.declared.settings.Settings.{Settings}
 use Rattle.gl_service.specs.Service.{service_book}
 use Rattle.gl_service.proofs.Lists.{there}

@@ -1,24 +1,28 @@
 -- The set of trusted nodes: what the genesis makes it, and that no other entry changes it.
-use Rattle.std.proofs.Common.{◌≡◌, ℕ, suc, ◌-◌, ◌<◌, ◌≤◌, List, [], ◌∷◌, ◌++◌, length, take, map, filter, Some, None, Bool, true, ◌&&◌, if◌then◌else◌, refl, sym, ◌∙◌, ap, ap₂, arith, length-append, ⊎_elim}
+use Rattle.std.proofs.Common.{◌≡◌, ℕ, suc, ◌-◌, ◌<◌, ◌≤◌, List, [], ◌∷◌, ◌++◌, length, take, map, filter, Some, None, Bool, true, ◌&&◌, if◌then◌else◌, refl, sym, ◌∙◌, ap, ap₂, arith, append_assoc, length-append, ⊎_elim}
 use Rattle.std.specs.List.{AllByRecursion}
 use Rattle.std.proofs.lemmas.Bool.{cases_lt}
 use Rattle.std.specs.Cmp.Lexicographic.{slice_cmp, bytes_decides, nat_list_cmp_total}
 use Rattle.std.specs.Ordering.{nat_cmp}
 use Rattle.std.specs.FinMap as rows
 use Rattle.gl_base.specs.LittleEndian.{little_endian}
-use Rattle.gl_store.specs.Field.{with_u32_length}
-use Rattle.gl_store.specs.Tables.{Tables, Rows, no_tables, tables_of, wrote_all}
-use Rattle.gl_store.specs.Genesis.{nodes_map, node_id, genesis_rows}
+use Rattle.gl_base.specs.Field.{with_u32_length}
+use Rattle.gl_vmaps.specs.Tables.{Tables, Rows, no_tables, wrote, wrote_all}
+use Rattle.gl_vmaps.specs.declared.write.Write.{Write}
+use Rattle.gl_store.specs.Tree.{tables_of}
+use Rattle.gl_store.specs.Genesis.{nodes_map, node_id, dealing_map, dealing_key, dealing_bytes, row, constitution_rows, member_row, node_row, service_row, genesis_rows, genesis_writes}
+use Rattle.gl_store.specs.Genesis as founding
 use Rattle.gl_store.specs.Ledger.{genesis_entry, signature_entry, opening_ledger}
-use Rattle.gl_store.specs.declared.entry.Entry.{Entry}
+use Rattle.gl_entry.specs.declared.entry.Entry.{Entry}
 use Rattle.gl_store.specs.declared.genesis.NewMember.{NewMember}
 use Rattle.gl_store.specs.declared.genesis.NewNode.{NewNode}
 use Rattle.gl_store.specs.declared.genesis.Genesis as request
 use Rattle.gl_store.proofs.Growth.{IsOutside, untouched}
-use Rattle.gl_store.proofs.TablesLaws.{tables_behind-push}
+use Rattle.gl_store.proofs.TablesLaws.{tables_of-push}
 use Rattle.gl_store.proofs.Lists.{take-push, take-all}
 use Rattle.gl_service.specs.Nodes.{node_rows, is_trusted, trusted_in, same_lists, changed_set, configuration}
 use Rattle.gl_service.proofs.Lists.{take-past}
+use Rattle.gl_service.proofs.SetRows.{rows-write_set, wrote_all-append}
 use Rattle.gl_service.specs.Solo.{IsAlone}
 
 same_itself : (xs : List (List ℕ)) → same_lists xs xs ≡ true
@@ -32,7 +36,7 @@ unchanged before now is = ap (changed_set before) is ∙ ap (λ (b : Bool). if b
 pub configuration-push : (ledger : List Entry) (e : Entry) → AllByRecursion IsOutside e.writes → configuration (ledger ++ e ∷ []) ≡ None
 unfolding configuration
 configuration-push ledger e out = unchanged (trusted_in (node_rows (take (length (ledger ++ e ∷ []) - 1) (ledger ++ e ∷ [])))) (trusted_in (node_rows (ledger ++ e ∷ [])))
-    (ap trusted_in (ap (λ (t : Tables). t nodes_map) (tables_behind-push no_tables ledger e) ∙ untouched (tables_of ledger) e.writes nodes_map out refl)
+    (ap trusted_in (ap (λ (t : Tables). t nodes_map) (tables_of-push ledger e) ∙ untouched (tables_of ledger) e.writes nodes_map out refl)
     ∙ ap (λ (l : List Entry). trusted_in (node_rows l)) (sym before))
   where
     long : length (ledger ++ e ∷ []) - 1 ≡ length ledger
@@ -54,11 +58,43 @@ alone-push x ledger e some out h = record {
 node_value : NewNode → List ℕ
 node_value n = little_endian 2 1 ++ (2 ∷ n.key) ++ with_u32_length n.endorsement ++ little_endian 8 0
 
--- the node rows of a genesis with one member and one node
-genesis_node_rows : (g : request.Genesis) (m : NewMember) (n : NewNode) → g.members ≡ m ∷ [] → g.nodes ≡ n ∷ [] →
-    wrote_all no_tables (genesis_rows g) nodes_map ≡ rows.insert rows.empty (node_id n) (node_value n)
-unfolding node_value
-genesis_node_rows g m n one alone = rw (one, alone) refl
+-- the rows of members are none of nodes
+members_elsewhere : (t : Tables) (members : List NewMember) → wrote_all t (map member_row members) nodes_map ≡ t nodes_map
+members_elsewhere t [] = refl
+members_elsewhere t (m ∷ ms) = members_elsewhere (wrote t (member_row m)) ms
+
+-- the rows in front of those of members
+first_rows : request.Genesis → List Write
+first_rows g = constitution_rows ++ row dealing_map dealing_key (dealing_bytes g.dealing) ∷ []
+
+first_elsewhere : (g : request.Genesis) → wrote_all no_tables (first_rows g) nodes_map ≡ rows.empty
+unfolding first_rows
+first_elsewhere g = refl
+
+-- the rows that one node and the service make behind those
+last_rows : request.Genesis → NewNode → List Write
+last_rows g n = node_row 1 n ∷ service_row g ∷ []
+
+rows_are : (g : request.Genesis) (n : NewNode) → g.nodes ≡ n ∷ [] → genesis_rows g ≡ (first_rows g ++ map member_row g.members) ++ last_rows g n
+unfolding first_rows last_rows
+rows_are g n alone =
+    ap (λ (ns : List NewNode). first_rows g ++ map member_row g.members ++ founding.node_rows 1 ns ++ service_row g ∷ []) alone
+    ∙ append_assoc (first_rows g ++ map member_row g.members) (node_row 1 n ∷ []) (service_row g ∷ [])
+
+last_written : (t : Tables) (g : request.Genesis) (n : NewNode) → wrote_all t (last_rows g n) nodes_map ≡ rows.insert (t nodes_map) (node_id n) (node_value n)
+unfolding last_rows node_value
+last_written t g n = refl
+
+-- the node rows of a genesis with one node
+genesis_node_rows : (g : request.Genesis) (n : NewNode) → g.nodes ≡ n ∷ [] → wrote_all no_tables (genesis_writes g) nodes_map ≡ rows.insert rows.empty (node_id n) (node_value n)
+genesis_node_rows g n alone =
+    let first = wrote_all no_tables (first_rows g) in
+    rows-write_set no_tables (genesis_rows g) nodes_map
+    ∙ ap (λ (ws : List Write). wrote_all no_tables ws nodes_map) (rows_are g n alone)
+    ∙ ap (λ (t : Tables). t nodes_map) (wrote_all-append no_tables (first_rows g ++ map member_row g.members) (last_rows g n)
+    ∙ ap (λ (t : Tables). wrote_all t (last_rows g n)) (wrote_all-append no_tables (first_rows g) (map member_row g.members)))
+    ∙ last_written (wrote_all first (map member_row g.members)) g n
+    ∙ ap (λ (r : Rows). rows.insert r (node_id n) (node_value n)) (members_elsewhere first g.members ∙ first_elsewhere g)
 
 abbrev no_rows : Rows
 no_rows = rows.empty
@@ -80,19 +116,17 @@ trusted_one n = ap (λ (es : List (List ℕ × List ℕ)). map (λ (row : List �
     one : rows.entries (rows.insert no_rows (node_id n) (node_value n)) ≡ (node_id n, node_value n) ∷ []
     one = rows.entries-insert nat_list_cmp_total no_rows (node_id n) (node_value n) ∙ ap (rows.put (slice_cmp nat_cmp) (node_id n) (node_value n)) entries-none
 
-trusted_founded : (g : request.Genesis) (m : NewMember) (n : NewNode) → g.members ≡ m ∷ [] → g.nodes ≡ n ∷ [] →
-    trusted_in (node_rows (genesis_entry g ∷ [])) ≡ node_id n ∷ []
-trusted_founded g m n one alone = ap trusted_in (genesis_node_rows g m n one alone) ∙ trusted_one n
+trusted_founded : (g : request.Genesis) (n : NewNode) → g.nodes ≡ n ∷ [] → trusted_in (node_rows (genesis_entry g ∷ [])) ≡ node_id n ∷ []
+trusted_founded g n alone =
+    ap trusted_in (ap (λ (t : Tables). t nodes_map) (tables_of-push [] (genesis_entry g)) ∙ genesis_node_rows g n alone) ∙ trusted_one n
 
-configuration_founded : (g : request.Genesis) (m : NewMember) (n : NewNode) → g.members ≡ m ∷ [] → g.nodes ≡ n ∷ [] →
-    configuration (genesis_entry g ∷ []) ≡ Some (node_id n ∷ [])
+configuration_founded : (g : request.Genesis) (n : NewNode) → g.nodes ≡ n ∷ [] → configuration (genesis_entry g ∷ []) ≡ Some (node_id n ∷ [])
 unfolding configuration
-configuration_founded g m n one alone = ap₂ changed_set trusted_none (trusted_founded g m n one alone)
+configuration_founded g n alone = ap₂ changed_set trusted_none (trusted_founded g n alone)
 
 -- the opening ledger has the configuration of its one node
-pub alone_at_start : (g : request.Genesis) (m : NewMember) (n : NewNode) (signer : List ℕ) → g.members ≡ m ∷ [] → g.nodes ≡ n ∷ [] →
-    IsAlone (node_id n) (opening_ledger g signer)
-alone_at_start g m n signer one alone = record { first = configuration_founded g m n one alone; later = later }
+pub alone_at_start : (g : request.Genesis) (n : NewNode) (signer : List ℕ) → g.nodes ≡ n ∷ [] → IsAlone (node_id n) (opening_ledger g signer)
+alone_at_start g n signer alone = record { first = configuration_founded g n alone; later = later }
   where
     second : configuration (opening_ledger g signer) ≡ None
     second = configuration-push (genesis_entry g ∷ []) (signature_entry signer (genesis_entry g ∷ []) 2 2) tt

@@ -8,7 +8,7 @@ use Rattle.gl_rules.specs.Node.{Node}
 use Rattle.gl_rules.specs.Safety.{Agree, committed, reported}
 use Rattle.gl_rules.specs.World.{joiner, begin, after}
 use Rattle.gl_store.specs.Serial.{IsSound}
-use Rattle.gl_store.specs.declared.entry.Entry.{Entry}
+use Rattle.gl_entry.specs.declared.entry.Entry.{Entry}
 use Rattle.gl_service.specs.declared.settings.Settings.{Settings}
 use Rattle.gl_service.specs.Founding.{id_of}
 use Rattle.gl_service.specs.Service.{service_book, start_of, ServiceEvent, ServiceWorld}

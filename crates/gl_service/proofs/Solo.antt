@@ -12,20 +12,23 @@ use Rattle.gl_rules.specs.Requests.{submit, reserve, sign, enters, executes, sig
 use Rattle.gl_rules.specs.Replication.{advance, commits}
 use Rattle.gl_store.specs.Serial.{IsSound}
 use Rattle.gl_store.specs.Kept.{IsUpTo}
-use Rattle.gl_store.specs.Ledger.{executed, signature_entry, last_signature}
-use Rattle.gl_store.specs.Entry.{is_signature}
-use Rattle.gl_store.specs.Tables.{tables_of}
-use Rattle.gl_store.specs.declared.entry.Entry.{Entry}
-use Rattle.gl_store.specs.declared.request.Operation.{Operation}
-use Rattle.gl_store.specs.declared.request.Answer.{Answer}
+use Rattle.gl_base.specs.TxId.{last_seqno}
+use Rattle.gl_tx.specs.Request.{is_request}
+use Rattle.gl_store.specs.Ledger.{executed, within_places, signature_entry, last_signature}
+use Rattle.gl_entry.specs.Entry.{is_signature}
+use Rattle.gl_store.specs.Tree.{tables_of}
+use Rattle.gl_entry.specs.declared.entry.Entry.{Entry}
+use Rattle.gl_tx.specs.declared.request.Operation.{Operation}
+use Rattle.gl_tx.specs.declared.request.Answer.{Answer}
 use Rattle.gl_store.specs.declared.refusal.Refusal.{Refusal}
+use Rattle.gl_store.specs.declared.refusal.Refusal.TheVariants as refusals
 use Rattle.gl_store.proofs.Growth.{IsOutside, sound-push}
 use Rattle.gl_store.proofs.Applications.{executed_ok, application_sound, run_outside}
 use Rattle.gl_store.proofs.Lists.{slice_get-push, take-push}
 use Rattle.gl_service.specs.declared.settings.Settings.{Settings}
 use Rattle.gl_service.specs.Founding.{id_of}
 use Rattle.gl_service.specs.Keys.{leaf_count}
-use Rattle.gl_service.specs.Service.{service_book, replied, Given, Unmade}
+use Rattle.gl_service.specs.Service.{service_book, replied, requested, by_store, Given, Unmade, Unspelled}
 use Rattle.gl_service.specs.Solo.{IsSoloLedger, IsSolo}
 use Rattle.gl_service.proofs.Lists.{take-past}
 use Rattle.gl_service.proofs.Advance.{advance_alone, above, last_signature-le}
@@ -89,7 +92,7 @@ at_leader : (n : Node Entry) → n.role ≡ Leader → (t : Step Entry Given Unm
 at_leader n leads t = ap (λ (r : Role). led_by r n t) leads
 
 pub submit-is : (s : Settings) (n : Node Entry) (q : List Operation) → IsSolo s n →
-    submit service_book q n ≡ enters service_book n (replied (executed n.log n.view q))
+    submit service_book q n ≡ enters service_book n (requested n.log n.view q)
 unfolding submit
 submit-is s n q h = at_leader n h.role (executes service_book q n)
 
@@ -99,15 +102,17 @@ sign-is s x n h = at_leader n h.role (signs service_book x n)
 
 pub goes_submit : (s : Settings) (n : Node Entry) (q : List Operation) → IsSolo s n → Goes s n (submit service_book q n).node
 goes_submit s n q h =
-    subst (λ (t : Step Entry Given Unmade). Goes s n t.node) (sym (submit-is s n q h)) (go (executed n.log n.view q) refl)
+    subst (λ (t : Step Entry Given Unmade). Goes s n t.node) (sym (submit-is s n q h)) (go (is_request q) refl (executed n.log n.view q) refl)
   where
-    go : (r : Result (Entry × List Answer) Refusal) → executed n.log n.view q ≡ r → Goes s n (enters service_book n (replied r)).node
-    go (Err why) is = (h, grows_same s n h)
-    go (Ok made) is =
+    go : (spelled : Bool) → is_request q ≡ spelled → (r : Result (Entry × List Answer) Refusal) → executed n.log n.view q ≡ r →
+        Goes s n (enters service_book n (if spelled then replied r else Err Unspelled)).node
+    go false fits r is = (h, grows_same s n h)
+    go true fits (Err why) is = (h, grows_same s n h)
+    go true fits (Ok made) is =
         let ran = executed_ok n.log n.view q made.0 made.1 is in
         goes_push s n made.0 n.used h
         (solo_ledger-push (id_of s 1) n.log made.0 h.ledger
-        (application_sound n.log n.view q made.0 made.1 (ledger_sound s n h) (ledger_views s n h) is)
+        (application_sound n.log n.view q made.0 made.1 (ledger_sound s n h) (ledger_views s n h) fits is)
         (ap (λ (e : Entry). e.view) ran.3 ∙ h.view)
         (subst (λ (e : Entry). AllByRecursion IsOutside e.writes) (sym ran.3) (run_outside 1 q (tables_of n.log) [] ran.1 tt ran.2)))
 
@@ -153,12 +158,21 @@ pub goes_sign : (s : Settings) (x : NodeId) (n : Node Entry) → IsSolo s n → 
 goes_sign s x n h =
     subst (λ (t : Step Entry Given Unmade). Goes s n t.node) (sym (sign-is s x n h))
     (either (λ t. Goes s n t.node) (n.used == n.reserved) (is_signed n.view (entry_at n.log (length n.log)))
-    (refuse n (NotReserved n.reserved)) (refuse n (NothingToSign (length n.log))) (signed service_book n (Ok entry)) (h, grows_same s n h) (h, grows_same s n h)
-    (goes_push s n entry (n.used + 1) h
-    (solo_ledger-push (id_of s 1) n.log entry h.ledger (sound-push n.log entry (ledger_sound s n h) refl (ledger_views s n h) (refl, refl) tt tt) h.view tt)))
+    (refuse n (NotReserved n.reserved)) (refuse n (NothingToSign (length n.log))) (signed service_book n (by_store (within_places n.log entry)))
+    (h, grows_same s n h) (h, grows_same s n h) (made (nat_lt (length n.log) last_seqno)))
   where
     entry : Entry
     entry = signature_entry x n.log n.view n.commit
+
+    pushed : Goes s n (record (appended n entry) { used = n.used + 1 })
+    pushed =
+        goes_push s n entry (n.used + 1) h
+        (solo_ledger-push (id_of s 1) n.log entry h.ledger
+        (sound-push n.log entry (ledger_sound s n h) refl (ledger_views s n h) (record { writes_nothing = (refl, refl); root = refl }) tt tt) h.view tt)
+
+    made : (left : Bool) → Goes s n (signed service_book n (by_store (if left then Ok entry else Err refusals.SeqnoLimit))).node
+    made true = pushed
+    made false = (h, grows_same s n h)
 
 -- with a greater commit
 goes_commit : (s : Settings) (n : Node Entry) (place : ℕ) → IsSolo s n → n.commit ≤ place → place ≤ length n.log → Goes s n (record n { commit = place })

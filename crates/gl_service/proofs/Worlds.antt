@@ -7,7 +7,7 @@ use Rattle.gl_rules.specs.Requests.{submit, reserve, sign}
 use Rattle.gl_rules.specs.Replication.{advance}
 use Rattle.gl_rules.specs.Safety.{IsPrefixOf, committed}
 use Rattle.gl_rules.specs.World.{Timeout, Deliver, Submit, Finish, Govern, Reserve, Sign, Evidence, Replicate, Advance, StepDown, Restart, Install, begin, starter, joiner, leader_at_start, at, happens, run}
-use Rattle.gl_store.specs.declared.entry.Entry.{Entry}
+use Rattle.gl_entry.specs.declared.entry.Entry.{Entry}
 use Rattle.gl_service.specs.declared.settings.Settings.{Settings}
 use Rattle.gl_service.specs.Founding.{numbers_from, id_of}
 use Rattle.gl_service.specs.Service.{service_book, start_of, ServiceEvent, ServiceWorld, Given, Unmade}

@@ -1,7 +1,7 @@
 -- The genesis of a service of a schedule.
-use Rattle.std.specs.Prelude.{ℕ, zero, suc, List, [], ◌∷◌, map}
+use Rattle.std.specs.Prelude.{ℕ, zero, suc, List, [], ◌∷◌, Bool, map}
 use Rattle.sha2.specs.Sha256.{sha256}
-use Rattle.gl_store.specs.Genesis.{node_id}
+use Rattle.gl_store.specs.Genesis.{node_id, are_distinct_bytes}
 use Rattle.gl_store.specs.declared.genesis.NewNode.{NewNode}
 use Rattle.gl_store.specs.declared.genesis.NewMember.{NewMember}
 use Rattle.gl_store.specs.declared.genesis.ShareDigest.{ShareDigest}
@@ -44,3 +44,11 @@ genesis_of s = record {
   members = map (member_of s) (numbers_from 1 s.members);
   dealing = dealing_of s;
 }
+
+-- The keys of so many members, from a number on.
+abbrev pub member_keys : Settings → ℕ → ℕ → List (List ℕ)
+member_keys s first count = map (λ (m : NewMember). m.key) (map (member_of s) (numbers_from first count))
+
+-- No two members have one key.
+abbrev pub has_distinct_keys : Settings → Bool
+has_distinct_keys s = are_distinct_bytes (map (λ (m : NewMember). m.key) (genesis_of s).members)

@@ -1,9 +1,10 @@
 -- Which nodes a ledger records, and which of them are trusted, as the rows of the governance tables tell it.
 use Rattle.std.specs.Prelude.{ℕ, zero, suc, ◌+◌, ◌-◌, ◌*◌, List, [], ◌∷◌, ◌++◌, Option, None, Some, Bool, true, false, ◌&&◌, ◌==◌, length, map, filter, take, slice_index, if◌then◌else◌}
 use Rattle.std.specs.FinMap as rows
-use Rattle.gl_store.specs.Tables.{Rows, same_bytes, tables_of}
+use Rattle.gl_vmaps.specs.Tables.{Rows, same_bytes}
+use Rattle.gl_store.specs.Tree.{tables_of}
 use Rattle.gl_store.specs.Genesis.{nodes_map}
-use Rattle.gl_store.specs.declared.entry.Entry.{Entry}
+use Rattle.gl_entry.specs.declared.entry.Entry.{Entry}
 
 abbrev pub node_rows : List Entry → Rows
 node_rows ledger = tables_of ledger nodes_map

@@ -1,13 +1,14 @@
 -- The ledger of the service as the book that the rules of consensus read. Its cases grow with the requests that there are.
-use Rattle.std.specs.Prelude.{ℕ, List, Option, None, Some, Result, Ok, Err, map}
+use Rattle.std.specs.Prelude.{ℕ, List, Option, None, Some, Result, Ok, Err, map, if◌then◌else◌}
 use Rattle.gl_rules.specs.Book.{Book}
 use Rattle.gl_rules.specs.World.{Start, Event, World}
 use Rattle.gl_rules.specs.Outcome.{Outcome}
-use Rattle.gl_store.specs.Entry.{is_signature, is_evidence, recorded_commit, frame_size}
-use Rattle.gl_store.specs.Ledger.{executed, signature_entry, opening_ledger}
-use Rattle.gl_store.specs.declared.entry.Entry.{Entry}
-use Rattle.gl_store.specs.declared.request.Operation.{Operation}
-use Rattle.gl_store.specs.declared.request.Answer.{Answer}
+use Rattle.gl_entry.specs.Entry.{is_signature, is_evidence, recorded_commit, frame_size}
+use Rattle.gl_tx.specs.Request.{is_request}
+use Rattle.gl_store.specs.Ledger.{executed, signed, opening_ledger}
+use Rattle.gl_entry.specs.declared.entry.Entry.{Entry}
+use Rattle.gl_tx.specs.declared.request.Operation.{Operation}
+use Rattle.gl_tx.specs.declared.request.Answer.{Answer}
 use Rattle.gl_store.specs.declared.refusal.Refusal.{Refusal}
 use Rattle.gl_service.specs.declared.settings.Settings.{Settings}
 use Rattle.gl_service.specs.Keys.{leaf_count}
@@ -26,12 +27,22 @@ pub data Given : Type 0 where
 -- Why the ledger takes no entry.
 pub data Unmade : Type 0 where
   ByStore : (why : Refusal) → Unmade
+  -- no bytes spell such a request, so none ever comes
+  Unspelled : Unmade
   -- no evidence entry is made by now, and no entry taken from another node
   NotByNow : Unmade
 
 abbrev pub replied : Result (Entry × List Answer) Refusal → Result (Entry × Given) Unmade
 replied (Ok made) = Ok (made.0, Replied made.1)
 replied (Err why) = Err (ByStore why)
+
+-- An application request, where bytes spell it.
+abbrev pub requested : List Entry → ℕ → List Operation → Result (Entry × Given) Unmade
+requested ledger view q = if is_request q then replied (executed ledger view q) else Err Unspelled
+
+abbrev pub by_store : Result Entry Refusal → Result Entry Unmade
+by_store (Ok e) = Ok e
+by_store (Err why) = Err (ByStore why)
 
 abbrev governed : MemberRequest → Result (Entry × Given) Unmade
 governed g = elim g [ ]
@@ -51,9 +62,9 @@ service_book = record {
   removal = λ ledger x. None;
   mark = λ ledger x. None;
   leaves = λ x. leaf_count;
-  execute = λ ledger view q. replied (executed ledger view q);
+  execute = requested;
   govern = λ ledger view g. governed g;
-  sign = λ x leaf ledger view commit. Ok (signature_entry x ledger view commit);
+  sign = λ x leaf ledger view commit. by_store (signed x ledger view commit);
   evidence = λ ledger view. Err NotByNow;
   marks = no_mark;
   unmarkable = λ ledger x. None;

@@ -1,15 +1,18 @@
 -- A service of one node, and the events of which its schedules are made by now.
-use Rattle.std.specs.Prelude.{◌≡◌, List, [], ◌∷◌}
+use Rattle.std.specs.Prelude.{◌≡◌, ◌≤◌, List, [], ◌∷◌, true}
 use Rattle.gl_rules.specs.Identity.{NodeId}
 use Rattle.gl_rules.specs.World.{Timeout, Deliver, Submit, Finish, Govern, Reserve, Sign, Evidence, Replicate, Advance, StepDown, Restart, Install}
 use Rattle.gl_service.specs.declared.settings.Settings.{Settings}
+use Rattle.gl_service.specs.Founding.{has_distinct_keys}
 use Rattle.gl_service.specs.Service.{ServiceEvent}
 
--- One node and one member.
+-- One node, and 1 to 64 members with a key of their own each.
 pub record IsSingle (s : Settings) : Type 0 where
   pub starting : s.starting ≡ 1
   pub joiners : s.joiners ≡ 0
-  pub members : s.members ≡ 1
+  pub some : 1 ≤ s.members
+  pub few : s.members ≤ 64
+  pub distinct : has_distinct_keys s ≡ true
 
 -- A request, a reserved leaf, a signature or an advance of commit at this node.
 abbrev pub IsLocal : NodeId → ServiceEvent → Type 0

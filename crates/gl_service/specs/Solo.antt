@@ -3,7 +3,7 @@ use Rattle.std.specs.Prelude.{◌≡◌, ℕ, suc, ◌≤◌, List, [], ◌∷�
 use Rattle.gl_rules.specs.Identity.{NodeId}
 use Rattle.gl_rules.specs.Node.{Node, Leader}
 use Rattle.gl_store.specs.Serial.{IsSound}
-use Rattle.gl_store.specs.declared.entry.Entry.{Entry}
+use Rattle.gl_entry.specs.declared.entry.Entry.{Entry}
 use Rattle.gl_service.specs.declared.settings.Settings.{Settings}
 use Rattle.gl_service.specs.Founding.{id_of}
 use Rattle.gl_service.specs.Nodes.{configuration}

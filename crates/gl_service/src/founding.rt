@@ -1,15 +1,20 @@
-//! The genesis of a service of one node and one member.
+//! The genesis of a service of one node.
 
-ghost use Rattle.std.specs.Prelude.{◌≡◌, IfOk};
+ghost use Rattle.std.specs.Prelude.{◌≡◌, ◌≤◌, ◌-◌, ◌^◌, suc, true, length, IfOk};
+ghost use Rattle.std.specs.List.{AllByRecursion, list_any};
+ghost use Rattle.gl_vmaps.specs.Tables.{same_bytes};
+ghost use Rattle.gl_entry.specs.Entry.{body_bytes, body_limit};
+ghost use Rattle.gl_store.specs.Genesis.{is_acceptable, is_genesis};
+ghost use Rattle.gl_store.specs.Ledger.{genesis_entry};
 ghost use Rattle.gl_service.specs.Keys.{recovery_secret};
-ghost use Rattle.gl_service.specs.Founding.{node_of, id_of, member_of, share_of, dealing_of, genesis_of};
+ghost use Rattle.gl_service.specs.Founding.{node_of, id_of, member_of, share_of, dealing_of, genesis_of, member_keys, has_distinct_keys};
 ghost use Rattle.gl_service.specs.Single.{IsSingle};
 
 use crate::keys::{derived, hss_key, lms_key, numbered};
 use crate::settings::Settings;
+use gl_entry::{Bytes, NodeId};
 use gl_store::{
-    Bytes, Dealing, Genesis, LmsKey, Members, NewMember, NewNode, NodeId, Nodes, ShareDigest,
-    Shares,
+    Dealing, Genesis, HssKey, LmsKey, Members, NewMember, NewNode, Nodes, ShareDigest, Shares,
 };
 use sha2::{Digest, Sha256};
 use std::alloc::{AllocError, Global};
@@ -27,23 +32,71 @@ pub fn node_id(settings: &Settings, number: u8) -> NodeId
     Sha256::digest(&node_key(settings, number))
 }
 
+fn member_key(settings: &Settings, number: u8) -> HssKey
+    ensures { result ≡ (member_of settings.now number).key }
+{
+    hss_key(1, &numbered(b"mem", u32::from(number), &settings.seed))
+}
+
 fn member(settings: &Settings, number: u8) -> NewMember
     ensures { result ≡ member_of settings.now number }
 {
     NewMember {
         number,
-        key: hss_key(1, &numbered(b"mem", u32::from(number), &settings.seed)),
+        key: member_key(settings, number),
     }
 }
 
-/// The dealing of the recovery secret to the one member, whose share is the secret.
+/// Whether a member behind this one has its key.
+fn is_key_repeated(settings: &Settings, number: u8) -> bool
+    requires { number ≤ settings.now.members }
+    ensures { result ≡ list_any (same_bytes (member_of settings.now number).key) (member_keys settings.now (suc number) (settings.now.members - number)) }
+{
+    let key = member_key(settings, number);
+    for i in number..settings.members {
+        if key == member_key(settings, i + 1) {
+            return true;
+        }
+    }
+    false
+}
+
+/// Whether no two members have one key. Each member's key is compared with those of all behind it, and
+/// none is kept, so this takes time that grows with the square of their count.
+pub fn has_distinct_keys(settings: &Settings) -> bool
+    ensures { result ≡ has_distinct_keys settings.now }
+{
+    for i in 0..settings.members {
+        if is_key_repeated(settings, i + 1) {
+            return false;
+        }
+    }
+    true
+}
+
+/// The members, numbered from 1.
+fn members(alloc: Global, settings: &Settings) -> Result<Members, AllocError>
+    ensures { IfOk result (λ members. members ≡ (genesis_of settings.now).members) }
+{
+    let mut members = Vec::new(alloc);
+    for i in 0..settings.members {
+        members.push(member(settings, i + 1))?;
+    }
+    Ok(Members::from(members))
+}
+
+/// The dealing of the recovery secret, of which one share suffices: each member's share is the secret.
 fn dealing(alloc: Global, settings: &Settings) -> Result<Dealing, AllocError>
-    requires { IsSingle settings.now }
     ensures { IfOk result (λ dealing. dealing ≡ dealing_of settings.now) }
 {
     let digest = Sha256::digest(&derived(b"secret", &settings.seed));
     let mut shares = Vec::new(alloc);
-    shares.push(ShareDigest { member: 1, digest })?;
+    for i in 0..settings.members {
+        shares.push(ShareDigest {
+            member: i + 1,
+            digest,
+        })?;
+    }
     Ok(Dealing {
         threshold: 1,
         secret_digest: digest,
@@ -51,23 +104,25 @@ fn dealing(alloc: Global, settings: &Settings) -> Result<Dealing, AllocError>
     })
 }
 
-/// The genesis of a service of one node and one member.
+/// The genesis of a service of one node and 1 to 64 members. It is acceptable, and fits its format.
 pub fn genesis(alloc: Global, settings: &Settings) -> Result<Genesis, AllocError>
     requires { IsSingle settings.now }
-    ensures { IfOk result (λ genesis. genesis ≡ genesis_of settings.now) }
+    ensures value { IfOk result (λ genesis. genesis ≡ genesis_of settings.now) }
+    ensures acceptable { IfOk result (λ genesis. is_acceptable genesis ≡ true) }
+    ensures fits { IfOk result (λ genesis. is_genesis genesis ≡ true) }
+    ensures endorsements { IfOk result (λ genesis. AllByRecursion (λ node. length node.endorsement ≤ 2 ^ 15) genesis.nodes) }
+    ensures small { IfOk result (λ genesis. length (body_bytes (genesis_entry genesis)) ≤ body_limit) }
 {
     let mut nodes = Vec::new(alloc);
     nodes.push(NewNode {
         key: node_key(settings, 1),
         endorsement: Bytes::from(Vec::new(alloc)),
     })?;
-    let mut members = Vec::new(alloc);
-    members.push(member(settings, 1))?;
     Ok(Genesis {
         state: settings.state,
         identity: hss_key(2, &derived(b"svc", &settings.seed)),
         nodes: Nodes::from(nodes),
-        members: Members::from(members),
+        members: members(alloc, settings)?,
         dealing: dealing(alloc, settings)?,
     })
 }

@@ -5,7 +5,8 @@ ghost use Rattle.sha2.specs.Sha256.{sha256};
 ghost use Rattle.gl_base.specs.LittleEndian.{little_endian};
 ghost use Rattle.gl_service.specs.Keys.{lms_key, hss_key};
 
-use gl_store::{Digest, HssKey, LmsKey};
+use gl_entry::Digest;
+use gl_store::{HssKey, LmsKey};
 use sha2::{Digest as _, Sha256};
 
 /// LMS_SHA256_M32_H5 and LMOTS_SHA256_N32_W4 (RFC 8554, sections 5.1 and 4.1), four bytes each.

@@ -5,5 +5,8 @@ mod founding;
 mod keys;
 mod settings;
 
-pub use founding::{genesis, node_id};
+pub use founding::{genesis, has_distinct_keys, node_id};
 pub use settings::Settings;
+
+#[cfg(test)]
+mod tests;

@@ -2,17 +2,18 @@
 use Rattle.std.proofs.Common.{◌≡◌, ℕ, suc, ◌+◌, ◌<◌, ◌≤◌, List, [], ◌∷◌, ◌++◌, length, take, Some, Bool, true, false, refl, sym, ◌∙◌, ap, subst, arith, ⊎_elim, if◌then◌else◌}
 use Rattle.std.specs.List.{slice_get, AllByRecursion}
 use Rattle.std.proofs.lemmas.Bool.{false≢true}
-use Rattle.gl_store.specs.Name.{is_governance}
-use Rattle.gl_store.specs.Tables.{Tables, same_bytes, no_tables, tables_of, wrote, wrote_all, with_row}
+use Rattle.gl_vmaps.specs.Name.{is_governance}
+use Rattle.gl_vmaps.specs.Tables.{Tables, same_bytes, wrote, wrote_all, with_row}
 use Rattle.gl_store.specs.Effect.{Recorded, RecordsAt, RecordsFrom}
 use Rattle.gl_store.specs.Serial.{IsLedger, IsSerial, IsGoverned, IsSound, StandsAs}
+use Rattle.gl_store.specs.Tree.{tables_of}
 use Rattle.gl_store.specs.Kept.{IsUpTo}
-use Rattle.gl_store.specs.declared.entry.Content.{Content}
-use Rattle.gl_store.specs.declared.entry.Content.TheVariants as content
-use Rattle.gl_store.specs.declared.entry.Entry.{Entry}
-use Rattle.gl_store.specs.declared.write.Write.{Write}
+use Rattle.gl_entry.specs.declared.entry.Content.{Content}
+use Rattle.gl_entry.specs.declared.entry.Content.TheVariants as content
+use Rattle.gl_entry.specs.declared.entry.Entry.{Entry}
+use Rattle.gl_vmaps.specs.declared.write.Write.{Write}
 use Rattle.std.specs.Cmp.Lexicographic.{bytes_decides}
-use Rattle.gl_store.proofs.TablesLaws.{tables_behind-push}
+use Rattle.gl_store.proofs.TablesLaws.{tables_of-push}
 use Rattle.gl_store.proofs.Lists.{slice_get-push, take-push, take-all, within}
 
 -- a write to a table that is none of governance
@@ -46,7 +47,7 @@ records-last place (content.Evidence d) rs none h = h
 -- what is recorded behind an entry may be told anew
 records-behind : (place : ℕ) (c : Content) (P Q : List Recorded → Type 0) (rs : List Recorded) → ((rest : List Recorded) → P rest → Q rest) →
     RecordsAt place c P rs → RecordsAt place c Q rs
-records-behind place (content.Governance bytes) P Q rs f h = (h.0, h.1, h.2, h.3, f h.1 h.4)
+records-behind place (content.Governance bytes) P Q rs f h = (h.0, h.1, h.2, h.3, h.4, f h.1 h.5)
 records-behind place (content.Application bytes) P Q rs f h = f rs h
 records-behind place (content.Signature s) P Q rs f h = f rs h
 records-behind place (content.Evidence d) P Q rs f h = f rs h
@@ -91,7 +92,7 @@ governed-push ledger e h none out = record {
   requests = h.requests;
   recorded = records-push 1 ledger e h.requests none h.recorded;
   rows = λ map inside.
-      ap (λ (t : Tables). t map) (tables_behind-push no_tables ledger e) ∙ untouched (tables_of ledger) e.writes map out inside ∙ h.rows map inside;
+      ap (λ (t : Tables). t map) (tables_of-push ledger e) ∙ untouched (tables_of ledger) e.writes map out inside ∙ h.rows map inside;
 }
 
 pub sound-push : (ledger : List Entry) (e : Entry) → IsSound ledger → e.seqno ≡ length ledger + 1 → IsUpTo ledger e.view →

@@ -2,7 +2,11 @@ pub mod Sizes
 pub mod Lists
 pub mod TablesLaws
 pub mod Growth
+pub mod WriteSets
 pub mod Openings
 pub mod Applications
-pub mod Keeping
 pub mod Following
+pub mod Keeping
+pub mod Entries
+pub mod Founding
+pub mod Bodies

@@ -1,5 +1,5 @@
 -- One more element at the end of a list.
-use Rattle.std.proofs.Common.{◌≡◌, ℕ, zero, suc, ◌+◌, ◌<◌, ◌≤◌, List, [], ◌∷◌, ◌++◌, length, take, drop, map, get_or, Some, ◌⊎◌, inl, inr, refl, sym, ◌∙◌, ap, append_assoc, arith, ⊎_elim, Result, Ok, add-one, drop-cons}
+use Rattle.std.proofs.Common.{◌≡◌, ℕ, zero, suc, ◌+◌, ◌<◌, ◌≤◌, List, [], ◌∷◌, ◌++◌, length, take, drop, map, get_or, Some, ◌⊎◌, inl, inr, refl, ap, arith, ⊎_elim, Result, Ok, add-one, drop-cons}
 use Rattle.std.specs.List.{slice_get}
 
 -- an element of the longer list is one of the list, or the new one
@@ -38,14 +38,6 @@ same_pair {A} {B} r x y a b d e =
 -- what is made of a list from a place on begins with what is made of the element there
 pub map-drop : {A B : Type 0} (f : A → B) (xs : List A) (i : ℕ) (d : A) → i < length xs → map f (drop i xs) ≡ f (get_or xs i d) ∷ map f (drop (i + 1) xs)
 map-drop f xs i d h = rw add-one (ap (map f) (drop-cons xs i d h))
-
--- one more of them pushed: what is pushed, and what is made of the rest, is still the whole
-pub push-map : {A B : Type 0} (f : A → B) (xs : List A) (i : ℕ) (d : A) (out new whole : List B) (w : B) → i < length xs →
-    w ≡ f (get_or xs i d) → new ≡ out ++ w ∷ [] → out ++ map f (drop i xs) ≡ whole → new ++ map f (drop (i + 1) xs) ≡ whole
-push-map {B = B} f xs i d out new whole w h made pushed kept =
-    let rest : List B = map f (drop (i + 1) xs) in
-    ap (λ (l : List B). l ++ rest) pushed ∙ append_assoc out (w ∷ []) rest ∙ ap (λ (x : B). out ++ x ∷ rest) made
-    ∙ ap (λ (l : List B). out ++ l) (sym (map-drop f xs i d h)) ∙ kept
 
 -- the last element stands behind all others
 pub slice_get-last : {A : Type 0} (xs : List A) (x : A) → slice_get (xs ++ x ∷ []) (length xs) ≡ Some x

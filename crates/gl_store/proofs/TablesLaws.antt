@@ -1,89 +1,107 @@
--- What a row has behind a write, behind a write set and behind a ledger.
-use Rattle.std.proofs.Common.{◌≡◌, ℕ, List, [], ◌∷◌, ◌++◌, Option, Some, None, Bool, true, false, ◌&&◌, refl, sym, ◌∙◌, ap, arith, length, cond, find, reverse, if◌then◌else◌}
-use Rattle.std.specs.Option.{option_or}
-use Rattle.std.proofs.lemmas.Map.Text.{is_eq-slice_cmp}
-use Rattle.std.proofs.lemmas.Grind.{reverse_onto}
-use Rattle.std.specs.Ordering.{nat_cmp}
-use Rattle.std.specs.Cmp.Lexicographic.{slice_cmp}
-use Rattle.std.specs.FinMap.{get, get-insert, get-remove, get-empty}
-use Rattle.std.proofs.lemmas.Cmp.{nat_list_cmp_total}
-use Rattle.std.proofs.lemmas.List.Folds.{find-append}
-use Rattle.gl_store.specs.Tables.{Tables, Rows, no_tables, same_bytes, with_row, wrote, wrote_all, tables_behind, tables_of, value_in}
-use Rattle.gl_store.specs.Scan.{is_to_row, last_write, value_behind}
-use Rattle.gl_store.specs.declared.write.Write.{Write}
-use Rattle.gl_store.specs.declared.entry.Entry.{Entry}
+-- The tables and the leaves of a ledger with one more entry.
+use Rattle.std.proofs.Common.{◌≡◌, ℕ, suc, ◌+◌, ◌<◌, List, [], ◌∷◌, ◌++◌, length, Some, refl, sym, ◌∙◌, ap, subst, arith}
+use Rattle.std.specs.List.{slice_get}
+use Rattle.std.proofs.lemmas.Grind.{flat_map-append}
+use Rattle.std.proofs.lemmas.List.{append-nil}
+use Rattle.gl_merkle.specs.Tree.{root_of}
+use Rattle.gl_merkle.specs.Peaks.{peaks_of, peaks_within}
+use Rattle.gl_merkle.specs.Frontier.{Content, count_of, ForLeaves}
+use Rattle.gl_vmaps.specs.Tables.{Tables, no_tables, wrote, wrote_all}
+use Rattle.gl_vmaps.specs.Versions.{Placed, placed_at, written_behind, IsAbove}
+use Rattle.gl_vmaps.proofs.TablesLaws.{written_behind-append}
+use Rattle.gl_vmaps.specs.declared.write.Write.{Write}
+use Rattle.gl_entry.specs.Leaf.{leaf_of}
+use Rattle.gl_entry.specs.declared.entry.Entry.{Entry}
+use Rattle.gl_store.specs.Effect.{identity_in}
+use Rattle.gl_store.specs.Serial.{IsLedger}
+use Rattle.gl_store.specs.Tree.{writes_of, tables_of, leaves_from, leaves_of}
+use Rattle.gl_store.specs.Kept.{StandsFor}
+use Rattle.gl_store.proofs.Lists.{within}
 
--- the rows of a map have what was written to the key, and at another key what they had
-pub get-with_row : (rows : Rows) (written : List ℕ) (value : Option (List ℕ)) (key : List ℕ) →
-    get (with_row rows written value) key ≡ (if same_bytes key written then value else get rows key)
-get-with_row rows written None key = get-remove nat_list_cmp_total rows written key ∙ ap (λ (b : Bool). cond b None (get rows key)) (is_eq-slice_cmp key written)
-get-with_row rows written (Some value) key = get-insert nat_list_cmp_total rows written value key ∙ ap (λ (b : Bool). cond b (Some value) (get rows key)) (is_eq-slice_cmp key written)
+-- the writes of an entry, at its place
+abbrev pub placed_in : Entry → List Placed
+placed_in e = placed_at e.seqno e.writes
 
--- one write is to its row and leaves all others
-pub value_in-wrote : (t : Tables) (w : Write) (map key : List ℕ) →
-    value_in (wrote t w) map key ≡ (if is_to_row map key w then w.value else value_in t map key)
-value_in-wrote t w map key = go (same_bytes map w.map) refl
-  where
-    go : (b : Bool) → same_bytes map w.map ≡ b →
-        get (if b then with_row (t map) w.key w.value else t map) key ≡ (if b && same_bytes key w.key then w.value else get (t map) key)
-    go true is = get-with_row (t map) w.key w.value key
-    go false is = refl
+-- ---- the tables
 
--- the last write of a longer set is that of the rest, or the first
-last_write-cons : (map key : List ℕ) (w : Write) (ws : List Write) →
-    last_write map key (w ∷ ws) ≡ option_or (last_write map key ws) (find (is_to_row map key) (w ∷ []))
-last_write-cons map key w ws =
-    ap (find (is_to_row map key)) (reverse_onto ws w []) ∙ find-append (is_to_row map key) (reverse ws) (w ∷ [])
+-- places make no difference to what a write set makes of tables
+pub written_behind-placed_at : (t : Tables) (place : ℕ) (ws : List Write) → written_behind t (placed_at place ws) ≡ wrote_all t ws
+written_behind-placed_at t place [] = refl
+written_behind-placed_at t place (w ∷ ws) = written_behind-placed_at (wrote t w) place ws
 
-behind_more : (map key : List ℕ) (w : Write) (o : Option Write) (before : Option (List ℕ)) →
-    value_behind o (if is_to_row map key w then w.value else before) ≡ value_behind (option_or o (find (is_to_row map key) (w ∷ []))) before
-behind_more map key w (Some last) before = refl
-behind_more map key w None before =
-    elim (is_to_row map key w) as (λ b. (if b then w.value else before) ≡ value_behind (cond b (Some w) None) before) [ true ↦ refl | false ↦ refl ]
+pub writes_of-push : (ledger : List Entry) (e : Entry) → writes_of (ledger ++ e ∷ []) ≡ writes_of ledger ++ placed_in e
+writes_of-push ledger e = flat_map-append placed_in ledger (e ∷ []) ∙ ap (λ (ps : List Placed). writes_of ledger ++ ps) (append-nil (placed_in e))
 
--- a write set leaves what its last write to the row wrote
-pub value_in-wrote_all : (t : Tables) (ws : List Write) (map key : List ℕ) →
-    value_in (wrote_all t ws) map key ≡ value_behind (last_write map key ws) (value_in t map key)
-value_in-wrote_all t [] map key = refl
-value_in-wrote_all t (w ∷ ws) map key =
-    value_in-wrote_all (wrote t w) ws map key
-    ∙ ap (λ (v : Option (List ℕ)). value_behind (last_write map key ws) v) (value_in-wrote t w map key)
-    ∙ behind_more map key w (last_write map key ws) (value_in t map key)
-    ∙ ap (λ (o : Option Write). value_behind o (value_in t map key)) (sym (last_write-cons map key w ws))
+-- what is written behind an entry and others is written behind what the entry makes
+written_behind-cons : (t : Tables) (e : Entry) (es : List Entry) → written_behind t (writes_of (e ∷ es)) ≡ written_behind (wrote_all t e.writes) (writes_of es)
+written_behind-cons t e es =
+    written_behind-append t (placed_in e) (writes_of es) ∙ ap (λ (s : Tables). written_behind s (writes_of es)) (written_behind-placed_at t e.seqno e.writes)
 
 -- the last entry's writes come behind all others
-pub tables_behind-push : (t : Tables) (es : List Entry) (e : Entry) → tables_behind t (es ++ e ∷ []) ≡ wrote_all (tables_behind t es) e.writes
-tables_behind-push t [] e = refl
-tables_behind-push t (f ∷ es) e = tables_behind-push (wrote_all t f.writes) es e
+pub tables_of-push : (ledger : List Entry) (e : Entry) → tables_of (ledger ++ e ∷ []) ≡ wrote_all (tables_of ledger) e.writes
+tables_of-push ledger e =
+    ap (written_behind no_tables) (writes_of-push ledger e) ∙ written_behind-append no_tables (writes_of ledger) (placed_in e)
+    ∙ written_behind-placed_at (tables_of ledger) e.seqno e.writes
 
--- before the first entry no row has a value
-pub value_in-nothing : (map key : List ℕ) → value_in (tables_of []) map key ≡ None
-value_in-nothing map key = get-empty (slice_cmp nat_cmp) key
+-- ---- the leaves
 
--- a ledger's last entry tells a row's value where it writes the row, and the entries before it where it doesn't
-pub value_in-push : (ledger : List Entry) (e : Entry) (map key : List ℕ) →
-    value_in (tables_of (ledger ++ e ∷ [])) map key ≡ value_behind (last_write map key e.writes) (value_in (tables_of ledger) map key)
-value_in-push ledger e map key =
-    ap (λ (t : Tables). value_in t map key) (tables_behind-push no_tables ledger e) ∙ value_in-wrote_all (tables_of ledger) e.writes map key
+-- the leaf of an entry behind tables
+abbrev pub leaf_behind : Tables → Entry → List ℕ
+leaf_behind t e = leaf_of (identity_in (wrote_all t e.writes)) e
 
--- where the entries up to here tell the value, the last of them that writes the row gives it
-pub value_found : (ledger earlier rest : List Entry) (e : Entry) (ws : List Write) (w : Write) (map key : List ℕ) →
-    value_in (tables_of earlier) map key ≡ value_in (tables_of ledger) map key → earlier ≡ rest ++ e ∷ [] → ws ≡ e.writes →
-    Some w ≡ last_write map key ws → w.value ≡ value_in (tables_of ledger) map key
-value_found ledger earlier rest e ws w map key told last its found =
-    ap (λ (o : Option Write). value_behind o (value_in (tables_of rest) map key)) (found ∙ ap (last_write map key) its) ∙ sym (value_in-push rest e map key)
-    ∙ ap (λ (l : List Entry). value_in (tables_of l) map key) (sym last) ∙ told
+leaves_from-push : (t : Tables) (es : List Entry) (e : Entry) →
+    leaves_from t (es ++ e ∷ []) ≡ leaves_from t es ++ leaf_behind (written_behind t (writes_of es)) e ∷ []
+leaves_from-push t [] e = refl
+leaves_from-push t (f ∷ es) e =
+    ap (λ (ls : List (List ℕ)). leaf_behind t f ∷ ls)
+    (leaves_from-push (wrote_all t f.writes) es e
+    ∙ ap (λ (s : Tables). leaves_from (wrote_all t f.writes) es ++ leaf_behind s e ∷ []) (sym (written_behind-cons t f es)))
 
--- where the last of them doesn't write it, the others tell it
-pub value_earlier : (ledger earlier rest : List Entry) (e : Entry) (ws : List Write) (map key : List ℕ) →
-    value_in (tables_of earlier) map key ≡ value_in (tables_of ledger) map key → earlier ≡ rest ++ e ∷ [] → ws ≡ e.writes →
-    None ≡ last_write map key ws → value_in (tables_of rest) map key ≡ value_in (tables_of ledger) map key
-value_earlier ledger earlier rest e ws map key told last its none =
-    ap (λ (o : Option Write). value_behind o (value_in (tables_of rest) map key)) (none ∙ ap (last_write map key) its) ∙ sym (value_in-push rest e map key)
-    ∙ ap (λ (l : List Entry). value_in (tables_of l) map key) (sym last) ∙ told
+-- the last entry's leaf comes behind all others, under the identity that is in force there
+pub leaves_of-push : (ledger : List Entry) (e : Entry) → leaves_of (ledger ++ e ∷ []) ≡ leaves_of ledger ++ leaf_behind (tables_of ledger) e ∷ []
+leaves_of-push ledger e = leaves_from-push no_tables ledger e
 
--- and where there are no others, the row has no value
-pub value_nowhere : (ledger earlier : List Entry) (map key : List ℕ) →
-    value_in (tables_of earlier) map key ≡ value_in (tables_of ledger) map key → length earlier ≡ 0 → None ≡ value_in (tables_of ledger) map key
-value_nowhere ledger [] map key told none = sym (value_in-nothing map key) ∙ told
-value_nowhere ledger (e ∷ es) map key told none = absurd (omega arith)
+-- each entry has one leaf
+length-leaves_from : (t : Tables) (es : List Entry) → length (leaves_from t es) ≡ length es
+length-leaves_from t [] = refl
+length-leaves_from t (e ∷ es) = ap suc (length-leaves_from (wrote_all t e.writes) es)
+
+pub length-leaves_of : (ledger : List Entry) → length (leaves_of ledger) ≡ length ledger
+length-leaves_of ledger = length-leaves_from no_tables ledger
+
+-- ---- the places of writes
+
+above-append : (place : ℕ) (ps qs : List Placed) → IsAbove place ps → IsAbove place qs → IsAbove place (ps ++ qs)
+above-append place [] qs all rest = rest
+above-append place (p ∷ ps) qs all rest = (all.0, above-append place ps qs all.1 rest)
+
+above-placed_at : (place low : ℕ) (ws : List Write) → low < place → IsAbove place (placed_at low ws)
+above-placed_at place low [] less = tt
+above-placed_at place low (w ∷ ws) less = (less, above-placed_at place low ws less)
+
+above_each : (place : ℕ) (es : List Entry) → ((i : ℕ) (e : Entry) → slice_get es i ≡ Some e → e.seqno < place) → IsAbove place (writes_of es)
+above_each place [] below = tt
+above_each place (e ∷ es) below = above-append place (placed_in e) (writes_of es) (above-placed_at place e.seqno e.writes (below 0 e refl)) (above_each place es (λ i f s. below (suc i) f s))
+
+next_above : (ledger : List Entry) → IsLedger ledger → IsAbove (suc (length ledger)) (writes_of ledger)
+next_above ledger h =
+    above_each (suc (length ledger)) ledger
+    (λ i e s. let there : i < length ledger = within ledger i e s in let place : e.seqno ≡ suc i = h.places i e s in omega arith)
+
+-- the next place is above those of all writes
+pub above_next : (ledger : List Entry) (tables : List Placed) (place : ℕ) → IsLedger ledger → tables ≡ writes_of ledger → place ≡ length ledger + 1 → IsAbove place tables
+above_next ledger tables place h are at =
+    let next : suc (length ledger) ≡ place = omega arith in
+    subst (λ (ps : List Placed). IsAbove place ps) (sym are) (subst (λ (n : ℕ). IsAbove n (writes_of ledger)) next (next_above ledger h))
+
+-- ---- the root
+
+-- a frontier that stands for leaves has their root
+pub root_of_frontier : (f : Content) (leaves : List (List ℕ)) (root : List ℕ) → StandsFor f leaves → ForLeaves f (λ ls. root ≡ root_of ls) → root ≡ root_of leaves
+unfolding peaks_of peaks_within
+root_of_frontier f leaves root stands all = all [] (record { count = sym stands.base; peaks = sym stands.peaks }) ∙ ap root_of stands.leaves_are
+
+pub count_of_frontier : (f : Content) (ledger : List Entry) → StandsFor f (leaves_of ledger) → count_of f ≡ length ledger
+count_of_frontier f ledger stands =
+    let leaves : length f.leaves ≡ length ledger = ap length stands.leaves_are ∙ length-leaves_of ledger in
+    omega (arith, stands.base)

@@ -1,11 +1,11 @@
 -- What the recorded governance requests come to: the rows of the governance tables.
-use Rattle.std.specs.Prelude.{◌≡◌, ℕ, suc, List, [], ◌∷◌, Option, None, Some, true, ◌==◌, if◌then◌else◌}
-use Rattle.gl_store.specs.Tables.{Tables, no_tables, value_in, wrote_all}
-use Rattle.gl_store.specs.Genesis.{state_byte, governance_bytes, genesis_rows, is_acceptable, service_map, service_key}
-use Rattle.gl_store.specs.declared.entry.Content.{Content}
-use Rattle.gl_store.specs.declared.entry.Content.TheVariants as content
-use Rattle.gl_store.specs.declared.entry.Entry.{Entry}
-use Rattle.gl_store.specs.declared.write.Write.{Write}
+use Rattle.std.specs.Prelude.{◌≡◌, ℕ, suc, List, [], ◌∷◌, Option, None, Some, true, drop, ◌==◌, if◌then◌else◌}
+use Rattle.gl_vmaps.specs.Tables.{Tables, no_tables, value_in, wrote_all}
+use Rattle.gl_store.specs.Genesis.{state_byte, governance_bytes, genesis_writes, is_governance_request, is_acceptable, service_map, service_key}
+use Rattle.gl_vmaps.specs.declared.write.Write.{Write}
+use Rattle.gl_entry.specs.declared.entry.Content.{Content}
+use Rattle.gl_entry.specs.declared.entry.Content.TheVariants as content
+use Rattle.gl_entry.specs.declared.entry.Entry.{Entry}
 use Rattle.gl_store.specs.declared.genesis.ServiceState.{ServiceState}
 use Rattle.gl_store.specs.declared.genesis.ServiceState.TheVariants.{Opening, Open}
 use Rattle.gl_store.specs.declared.genesis.GovernanceRequest.{GovernanceRequest}
@@ -19,7 +19,7 @@ pub record Recorded : Type 0 where
 -- What an entry at a place records of these requests, with what the entries behind it record.
 abbrev pub RecordsAt : ℕ → Content → (List Recorded → Type 0) → List Recorded → Type 0
 RecordsAt place (content.Governance bytes) behind requests =
-    (g : GovernanceRequest) × (rest : List Recorded) × (bytes ≡ governance_bytes g)
+    (g : GovernanceRequest) × (rest : List Recorded) × (is_governance_request g ≡ true) × (bytes ≡ governance_bytes g)
     × (requests ≡ record { place = place; request = g } ∷ rest) × behind rest
 RecordsAt place (content.Application bytes) behind requests = behind requests
 RecordsAt place (content.Signature s) behind requests = behind requests
@@ -40,7 +40,7 @@ effect_rows [] = []
 effect_rows (r ∷ rs) = rows_of r.request
   where
     rows_of : GovernanceRequest → List Write
-    rows_of (requests.Genesis g) = genesis_rows g
+    rows_of (requests.Genesis g) = genesis_writes g
 
 -- The effect of recorded requests: the rows that they come to.
 abbrev pub effect : List Recorded → Tables
@@ -63,3 +63,12 @@ state_of_value (Some (b ∷ bytes)) = state_of_byte b
 -- The service's state, as its row tells it.
 abbrev pub service_state : Tables → ServiceState
 service_state tables = state_of_value (value_in tables service_map service_key)
+
+-- The service's key behind the two bytes that its row begins with; without a row there is none.
+abbrev pub identity_of_value : Option (List ℕ) → List ℕ
+identity_of_value None = []
+identity_of_value (Some value) = drop 2 value
+
+-- The identity in force, as the service's row tells it.
+abbrev pub identity_in : Tables → List ℕ
+identity_in tables = identity_of_value (value_in tables service_map service_key)

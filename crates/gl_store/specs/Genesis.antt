@@ -1,11 +1,13 @@
 -- The request that founds a service: its bytes, when it is acceptable, and the rows that it makes.
-use Rattle.std.specs.Prelude.{ℕ, suc, List, [], ◌∷◌, ◌++◌, Some, Bool, true, ◌&&◌, not, codes, length, map, nat_le, nat_lt, nat_eq}
+use Rattle.std.specs.Prelude.{ℕ, suc, ◌^◌, List, [], ◌∷◌, ◌++◌, Some, Bool, true, ◌&&◌, not, codes, length, map, nat_le, nat_lt, nat_eq}
 use Rattle.std.specs.List.{flat_map, list_all, list_any}
 use Rattle.sha2.specs.Sha256.{sha256}
 use Rattle.gl_base.specs.LittleEndian.{little_endian}
-use Rattle.gl_store.specs.Field.{with_u32_length}
-use Rattle.gl_store.specs.Tables.{same_bytes}
-use Rattle.gl_store.specs.declared.write.Write.{Write}
+use Rattle.gl_base.specs.Field.{is_byte, are_bytes, with_u32_length}
+use Rattle.gl_vmaps.specs.Tables.{same_bytes}
+use Rattle.gl_vmaps.specs.Writes.{with_write}
+use Rattle.gl_vmaps.specs.declared.write.Write.{Write}
+use Rattle.gl_entry.specs.Entry.{are_sized, is_digest}
 use Rattle.gl_store.specs.declared.genesis.ServiceState.{ServiceState}
 use Rattle.gl_store.specs.declared.genesis.ServiceState.TheVariants.{Opening, Open}
 use Rattle.gl_store.specs.declared.genesis.NewNode.{NewNode}
@@ -55,25 +57,48 @@ genesis_bytes g =
 abbrev pub governance_bytes : GovernanceRequest → List ℕ
 governance_bytes (requests.Genesis g) = genesis_bytes g
 
+-- Which values have bytes
+
+abbrev pub is_node : NewNode → Bool
+is_node n = are_sized 56 n.key && are_bytes n.endorsement && nat_lt (length n.endorsement) (2 ^ 32)
+
+abbrev pub is_member : NewMember → Bool
+is_member m = is_byte m.number && are_sized 60 m.key
+
+abbrev pub is_share : ShareDigest → Bool
+is_share s = is_byte s.member && is_digest s.digest
+
+abbrev pub is_dealing : Dealing → Bool
+is_dealing d = is_byte d.threshold && is_digest d.secret_digest && nat_lt (length d.shares) 256 && list_all is_share d.shares
+
+abbrev pub is_genesis : request.Genesis → Bool
+is_genesis g =
+    are_sized 60 g.identity && nat_lt (length g.nodes) 256 && list_all is_node g.nodes
+    && nat_lt (length g.members) 256 && list_all is_member g.members && is_dealing g.dealing
+
+-- The fields of a request are in their ranges, so that its bytes spell it and no other.
+abbrev pub is_governance_request : GovernanceRequest → Bool
+is_governance_request (requests.Genesis g) = is_genesis g
+
 -- When it is acceptable
 
 -- No number of the list stands there twice.
-abbrev are_distinct : (ℕ → ℕ → Bool) → List ℕ → Bool
+abbrev pub are_distinct : (ℕ → ℕ → Bool) → List ℕ → Bool
 are_distinct eq [] = true
 are_distinct eq (x ∷ xs) = not (list_any (eq x) xs) && are_distinct eq xs
 
 -- No bytes of the list stand there twice.
-abbrev are_distinct_bytes : List (List ℕ) → Bool
+abbrev pub are_distinct_bytes : List (List ℕ) → Bool
 are_distinct_bytes [] = true
 are_distinct_bytes (x ∷ xs) = not (list_any (same_bytes x) xs) && are_distinct_bytes xs
 
 -- Each number is below all behind it.
-abbrev is_ascending : List ℕ → Bool
+abbrev pub is_ascending : List ℕ → Bool
 is_ascending [] = true
 is_ascending (x ∷ xs) = list_all (λ y. nat_lt x y) xs && is_ascending xs
 
 -- The numbers of members, in order.
-abbrev numbers_of : List NewMember → List ℕ
+abbrev pub numbers_of : List NewMember → List ℕ
 numbers_of members = map (λ (m : NewMember). m.number) members
 
 -- There is a node, no identifier stands twice, and they are no more than may be trusted, 32.
@@ -154,3 +179,14 @@ abbrev pub genesis_rows : request.Genesis → List Write
 genesis_rows g =
     constitution_rows ++ row dealing_map dealing_key (dealing_bytes g.dealing) ∷ []
     ++ map member_row g.members ++ node_rows 1 g.nodes ++ service_row g ∷ []
+
+-- The write set that holds these writes, in order.
+abbrev pub set_from : List Write → List Write → List Write
+set_from set [] = set
+set_from set (w ∷ ws) = set_from (with_write set w) ws
+
+abbrev pub write_set : List Write → List Write
+write_set ws = set_from [] ws
+
+abbrev pub genesis_writes : request.Genesis → List Write
+genesis_writes g = write_set (genesis_rows g)

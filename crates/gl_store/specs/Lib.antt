@@ -1,12 +1,7 @@
-pub mod Name
-pub mod Field
-pub mod Tables
-pub mod Request
 pub mod Genesis
-pub mod Entry
 pub mod Effect
+pub mod Tree
 pub mod Serial
 pub mod Ledger
 pub mod Kept
-pub mod Runs
-pub mod Scan
+pub mod Refusals

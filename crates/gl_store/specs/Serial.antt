@@ -1,20 +1,23 @@
 -- A ledger as one serial run of its requests.
-use Rattle.std.specs.Prelude.{◌≡◌, ◌≢◌, ℕ, suc, ◌≤◌, List, [], ◌∷◌, ◌++◌, Some, Ok, Bool, true, length, take, slice_get, ◌&&◌, false}
+use Rattle.std.specs.Prelude.{◌≡◌, ◌≢◌, ℕ, suc, ◌≤◌, List, [], ◌∷◌, ◌++◌, Some, Ok, true, length, take, slice_get}
 use Rattle.std.specs.List.{AllByRecursion}
-use Rattle.std.specs.declared.cmp.Ordering.{Ordering}
-use Rattle.std.specs.declared.cmp.Ordering.TheVariants.{Less, Equal, Greater}
 use Rattle.sha2.specs.Sha256.{sha256}
-use Rattle.gl_store.specs.Name.{is_governance}
-use Rattle.gl_store.specs.Tables.{Tables, tables_of, value_in, wrote_all}
-use Rattle.gl_store.specs.Request.{Ran, run, request_bytes, reply_bytes, write_order}
-use Rattle.gl_store.specs.Entry.{no_digest}
-use Rattle.gl_store.specs.Genesis.{governance_bytes}
+use Rattle.gl_merkle.specs.Tree.{root_of}
+use Rattle.gl_vmaps.specs.Name.{is_governance}
+use Rattle.gl_vmaps.specs.Tables.{Tables, value_in, wrote_all}
+use Rattle.gl_vmaps.specs.Writes.{is_ordered}
+use Rattle.gl_vmaps.specs.declared.write.Write.{Write}
+use Rattle.gl_tx.specs.Request.{is_request, request_bytes, reply_bytes}
+use Rattle.gl_tx.specs.Run.{Ran, run}
+use Rattle.gl_tx.specs.declared.request.Operation.{Operation}
+use Rattle.gl_entry.specs.Entry.{no_digest}
+use Rattle.gl_entry.specs.declared.entry.Content.{Content}
+use Rattle.gl_entry.specs.declared.entry.Content.TheVariants as content
+use Rattle.gl_entry.specs.declared.entry.Entry.{Entry}
+use Rattle.gl_entry.specs.declared.entry.Signature as signatures
+use Rattle.gl_store.specs.Genesis.{governance_bytes, is_governance_request}
 use Rattle.gl_store.specs.Effect.{Recorded, Records, effect, IsAccepted, service_state}
-use Rattle.gl_store.specs.declared.entry.Content.{Content}
-use Rattle.gl_store.specs.declared.entry.Content.TheVariants as content
-use Rattle.gl_store.specs.declared.entry.Entry.{Entry}
-use Rattle.gl_store.specs.declared.write.Write.{Write}
-use Rattle.gl_store.specs.declared.request.Operation.{Operation}
+use Rattle.gl_store.specs.Tree.{tables_of, leaves_of}
 use Rattle.gl_store.specs.declared.genesis.ServiceState.TheVariants.{Open}
 use Rattle.gl_store.specs.declared.genesis.GovernanceRequest.{GovernanceRequest}
 
@@ -22,22 +25,6 @@ use Rattle.gl_store.specs.declared.genesis.GovernanceRequest.{GovernanceRequest}
 pub record IsLedger (ledger : List Entry) : Type 0 where
   pub places : (i : ℕ) (e : Entry) → slice_get ledger i ≡ Some e → e.seqno ≡ suc i
   pub views : (i j : ℕ) (e f : Entry) → i ≤ j → slice_get ledger i ≡ Some e → slice_get ledger j ≡ Some f → e.view ≤ f.view
-
--- The first stands before the second.
-abbrev is_less : Ordering → Bool
-is_less Less = true
-is_less Equal = false
-is_less Greater = false
-
--- A write stands before the first of these.
-abbrev stands_before : Write → List Write → Bool
-stands_before w [] = true
-stands_before w (x ∷ xs) = is_less (write_order w x)
-
--- Strictly ascending by map, then key.
-abbrev pub is_ordered : List Write → Bool
-is_ordered [] = true
-is_ordered (w ∷ ws) = stands_before w ws && is_ordered ws
 
 -- A write set that turns tables into others: it puts the rows whose bytes are new or changed, and removes those that are gone.
 pub record Turns (writes : List Write) (before after : Tables) : Type 0 where
@@ -50,6 +37,7 @@ pub record IsGovernanceEntry (before : List Entry) (e : Entry) (bytes : List ℕ
   pub requests : List Recorded
   pub recorded : Records before requests
   pub request : GovernanceRequest
+  pub fits : is_governance_request request ≡ true
   pub spelled : bytes ≡ governance_bytes request
   pub accepted : IsAccepted requests request
   pub turns : Turns e.writes (effect requests) (effect (requests ++ record { place = suc (length before); request = request } ∷ []))
@@ -61,6 +49,7 @@ pub record IsApplicationEntry (before : List Entry) (e : Entry) (bytes : List �
   pub recorded : Records before requests
   pub is_open : service_state (effect requests) ≡ Open
   pub request : List Operation
+  pub fits : is_request request ≡ true
   pub spelled : bytes ≡ request_bytes request
   pub ran : Ran
   pub runs : run request (tables_of before) ≡ Ok ran
@@ -71,11 +60,16 @@ pub record IsApplicationEntry (before : List Entry) (e : Entry) (bytes : List �
 abbrev pub WritesNothing : Entry → Type 0
 WritesNothing e = (e.writes ≡ []) × (e.claims ≡ no_digest)
 
+-- A signature's root is that of the tree over all earlier entries.
+pub record IsSignatureEntry (before : List Entry) (e : Entry) (s : signatures.Signature) : Type 0 where
+  pub writes_nothing : WritesNothing e
+  pub root : s.root ≡ root_of (leaves_of before)
+
 -- The entry is what its content says it is, behind the ledger before it.
 abbrev pub StandsAs : Content → List Entry → Entry → Type 0
 StandsAs (content.Governance bytes) before e = IsGovernanceEntry before e bytes
 StandsAs (content.Application bytes) before e = IsApplicationEntry before e bytes
-StandsAs (content.Signature s) before e = WritesNothing e
+StandsAs (content.Signature s) before e = IsSignatureEntry before e s
 StandsAs (content.Evidence d) before e = WritesNothing e
 
 -- A ledger is one serial run: each entry is what it says behind the entries before it, and behind no others.

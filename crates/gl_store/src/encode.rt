@@ -1,51 +1,13 @@
-//! The bytes of requests and replies. Numbers have their least significant byte first, and bytes of
-//! no fixed length stand behind their length.
+//! The bytes of the request that founds a service. Numbers have their least significant byte first, and
+//! bytes of no fixed length stand behind their length.
 
-ghost use Rattle.std.specs.Prelude.{◌≡◌, ◌≤◌, ◌<◌, ◌^◌, ◌+◌, ◌*◌, ◌++◌, ◌∷◌, [], length, IfOk, OnOk};
+ghost use Rattle.std.specs.Prelude.{◌≡◌, ◌≤◌, ◌<◌, ◌^◌, ◌+◌, ◌*◌, ◌++◌, ◌∷◌, [], true, length, IfOk, OnOk};
 ghost use Rattle.std.specs.List.{flat_map, AllByRecursion};
-ghost use Rattle.gl_store.specs.Request.{operation_bytes, request_bytes, answer_bytes, reply_bytes};
-ghost use Rattle.gl_store.specs.Genesis.{node_bytes, member_bytes, share_bytes, dealing_bytes, genesis_bytes, state_byte};
+ghost use Rattle.gl_store.specs.Genesis.{node_bytes, member_bytes, share_bytes, dealing_bytes, genesis_bytes, is_genesis, state_byte};
 
 use crate::genesis::{Dealing, Genesis, NewMember, NewNode, ServiceState, ShareDigest};
-use crate::request::{Answer, Operation, Reply, Request};
 use gl_base::{put_bytes, put_u8, put_u16, put_u32};
 use std::alloc::{AllocError, Global};
-
-fn put_operation(out: &mut Vec<u8>, operation: &Operation) -> Result<(), AllocError>
-    ensures { OnOk result (out.new.items ≡ out.old.items ++ operation_bytes operation.now) }
-{
-    match operation {
-        Operation::Put { map, key, value } => {
-            let (map, key, value) = (map.as_slice(), key.as_slice(), value.as_slice());
-            out.push(3)?;
-            put_u8(out, map.len() as u8)?;
-            put_bytes(out, map)?;
-            put_u16(out, key.len() as u16)?;
-            put_bytes(out, key)?;
-            put_u32(out, value.len() as u32)?;
-            put_bytes(out, value)
-        }
-    }
-}
-
-/// The bytes of a request.
-pub fn request_bytes(alloc: Global, request: &Request) -> Result<Vec<u8>, AllocError>
-    ensures { IfOk result (λ bytes. bytes.items ≡ request_bytes request.now) }
-{
-    let mut out = Vec::new(alloc);
-    put_u16(&mut out, 1)?;
-    put_operation(&mut out, request.operation())?;
-    Ok(out)
-}
-
-fn put_answer(out: &mut Vec<u8>, answer: Answer) -> Result<(), AllocError>
-    ensures { OnOk result (out.new.items ≡ out.old.items ++ answer_bytes answer) }
-{
-    match answer {
-        Answer::Done => out.push(0)?,
-    }
-    Ok(())
-}
 
 fn put_node(out: &mut Vec<u8>, node: &NewNode) -> Result<(), AllocError>
     requires { length node.now.endorsement < 2 ^ 32 }
@@ -101,15 +63,6 @@ fn put_shares(out: &mut Vec<u8>, shares: &[ShareDigest]) -> Result<(), AllocErro
     Ok(())
 }
 
-fn put_answers(out: &mut Vec<u8>, answers: &[Answer]) -> Result<(), AllocError>
-    ensures { OnOk result (out.new.items ≡ out.old.items ++ flat_map answer_bytes answers.now) }
-{
-    for answer in answers {
-        put_answer(out, *answer)?;
-    }
-    Ok(())
-}
-
 #[tactic(auto, using(crate::proofs::Sizes::sizes))]
 fn put_dealing(out: &mut Vec<u8>, dealing: &Dealing) -> Result<(), AllocError>
     requires { length dealing.now.shares < 2 ^ 8 }
@@ -145,10 +98,7 @@ pub fn state_byte(state: ServiceState) -> u8
 
 /// The bytes of a request that founds a service.
 pub fn genesis_bytes(alloc: Global, genesis: &Genesis) -> Result<Vec<u8>, AllocError>
-    requires shares { length genesis.now.dealing.shares < 2 ^ 8 }
-    requires nodes { length genesis.now.nodes < 2 ^ 8 }
-    requires members { length genesis.now.members < 2 ^ 8 }
-    requires endorsements { AllByRecursion (λ node. length node.endorsement < 2 ^ 32) genesis.now.nodes }
+    requires { is_genesis genesis.now ≡ true }
     ensures { IfOk result (λ bytes. bytes.items ≡ genesis_bytes genesis.now) }
 {
     let (nodes, members) = (genesis.nodes.as_slice(), genesis.members.as_slice());
@@ -161,17 +111,5 @@ pub fn genesis_bytes(alloc: Global, genesis: &Genesis) -> Result<Vec<u8>, AllocE
     put_u8(&mut out, members.len() as u8)?;
     put_members(&mut out, members)?;
     put_dealing(&mut out, &genesis.dealing)?;
-    Ok(out)
-}
-
-/// The bytes of a reply.
-pub fn reply_bytes(alloc: Global, reply: &Reply) -> Result<Vec<u8>, AllocError>
-    requires { length reply.now < 2 ^ 16 }
-    ensures { IfOk result (λ bytes. bytes.items ≡ reply_bytes reply.now) }
-{
-    let answers = reply.as_slice();
-    let mut out = Vec::new(alloc);
-    put_u16(&mut out, answers.len() as u16)?;
-    put_answers(&mut out, answers)?;
     Ok(out)
 }

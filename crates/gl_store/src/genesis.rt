@@ -1,7 +1,6 @@
 //! The request that founds a service, which is the first entry of its ledger.
 
-use crate::bytes::Bytes;
-use crate::entry::Digest;
+use gl_entry::{Bytes, Digest};
 use std::marker::Model;
 
 /// Whether a service takes requests of applications (CCF documentation, "Opening a Network").

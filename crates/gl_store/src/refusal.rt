@@ -2,19 +2,24 @@
 
 ghost use Rattle.std.specs.Prelude.{◌≡◌};
 ghost use Rattle.gl_store.specs.declared.refusal.StoreError.TheVariants.{Memory};
+ghost use Rattle.gl_store.specs.Refusals.{refused_run};
 
 use crate::genesis::ServiceState;
-use crate::request::Abort;
+use gl_tx::{Abort, RunError};
 use std::alloc::{AllocError, AllocFailed};
 use thiserror::Error;
 
-/// Why a request of an application makes no entry.
+/// Why a store makes no entry.
 #[derive(Clone, Copy, Debug, PartialEq, Eq)]
 pub enum Refusal {
     /// The service is in this state, and takes requests of applications only when it is open.
     ServiceState(ServiceState),
     /// An operation of the request failed.
     Aborted(Abort),
+    /// The entry's body, or else its reply, has so many bytes, which is more than 1 MiB.
+    TooLarge { size: u64 },
+    /// No place is left that an identifier can name.
+    SeqnoLimit,
 }
 
 /// Why a store did not do what it was asked. It is then as it was.
@@ -41,5 +46,16 @@ impl<T: Drop> From<AllocFailed<T>> for StoreError {
 
     fn from(_e: AllocFailed<T>) -> StoreError {
         StoreError::Memory
+    }
+}
+
+impl From<RunError> for StoreError {
+    ghost from_gives = { λ run e. e ≡ refused_run run };
+
+    fn from(error: RunError) -> StoreError {
+        match error {
+            RunError::NoMemory => StoreError::Memory,
+            RunError::Aborted(abort) => StoreError::Refused(Refusal::Aborted(abort)),
+        }
     }
 }

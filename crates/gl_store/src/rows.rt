@@ -1,30 +1,31 @@
-//! The rows that a genesis with one member and one node makes.
+//! The rows that a genesis makes.
 
-ghost use Rattle.std.specs.Prelude.{◌≡◌, ◌≤◌, ◌<◌, ◌^◌, ◌++◌, ◌∷◌, [], codes, length, map, IfOk, IsTrue, OnOk, Some};
-ghost use Rattle.gl_store.specs.Name.{is_map_name, is_key, is_value};
-ghost use Rattle.gl_store.specs.Genesis.{node_id, row, rule_row, constitution_rows, dealing_bytes, dealing_map, dealing_key, member_row, node_row, service_row, genesis_rows};
+ghost use Rattle.std.specs.Prelude.{◌≡◌, ◌≤◌, ◌<◌, ◌^◌, ◌++◌, ◌∷◌, [], true, codes, length, map, IfOk, IsTrue, OnOk, Some};
+ghost use Rattle.std.specs.List.{AllByRecursion};
+ghost use Rattle.gl_vmaps.specs.Name.{is_map_name};
+ghost use Rattle.gl_store.specs.Genesis.{node_id, row, rule_row, constitution_rows, dealing_bytes, dealing_map, dealing_key, member_row, node_row, node_rows, service_row, is_genesis, set_from, genesis_writes};
 
 use crate::encode::{dealing_bytes, state_byte};
 use crate::genesis::{Dealing, Genesis, NewMember, NewNode};
-use crate::name::{Key, MapName, Value};
-use crate::write::{Write, Writes};
 use gl_base::{put_bytes, put_u16, put_u32, put_u64};
+use gl_vmaps::{Key, MapName, Value, Write, Writes};
 use sha2::{Digest, Sha256};
 use std::alloc::{AllocError, Global};
 
 /// A row set to a value.
-fn row(alloc: Global, map: &[u8], key: &[u8], value: Vec<u8>) -> Result<Write, AllocError>
+fn row(alloc: Global, map: &[u8], key: &[u8], value: &[u8]) -> Result<Write, AllocError>
     requires map { IsTrue (is_map_name map.now) }
-    requires key { IsTrue (is_key key.now) }
-    requires value { IsTrue (is_value value.items) }
-    ensures { IfOk result (λ write. write ≡ row map.now key.now value.items) }
+    requires some_key { 1 ≤ length key.now }
+    requires few_key { length key.now ≤ 1024 }
+    requires value { length value.now ≤ 65536 }
+    ensures { IfOk result (λ write. write ≡ row map.now key.now value.now) }
 {
     let map = MapName::from_slice(alloc, map)?;
     let key = Key::from_slice(alloc, key)?;
     Ok(Write {
         map,
         key,
-        value: Some(Value::of(value)),
+        value: Some(Value::of(Vec::from_slice(alloc, value)?)),
     })
 }
 
@@ -35,15 +36,15 @@ fn rule_row(alloc: Global, action: u8) -> Result<Write, AllocError>
     let mut value = Vec::new(alloc);
     put_u16(&mut value, 1)?;
     put_u16(&mut value, 2)?;
-    row(alloc, b"public:ccf.gov.constitution", &[action], value)
+    row(alloc, b"public:ccf.gov.constitution", &[action], &value)
 }
 
-fn push_constitution(alloc: Global, rows: &mut Vec<Write>) -> Result<(), AllocError>
-    ensures { OnOk result (rows.new.items ≡ rows.old.items ++ constitution_rows) }
+fn put_constitution(alloc: Global, writes: &mut Writes) -> Result<(), AllocError>
+    ensures { OnOk result (writes.new ≡ set_from writes.old constitution_rows) }
 {
     let actions = [1u8, 2, 3, 4, 5, 6, 7];
     for action in &actions {
-        rows.push(rule_row(alloc, *action)?)?;
+        writes.put(rule_row(alloc, *action)?)?;
     }
     Ok(())
 }
@@ -53,7 +54,7 @@ fn dealing_row(alloc: Global, dealing: &Dealing) -> Result<Write, AllocError>
     ensures { IfOk result (λ write. write ≡ row dealing_map dealing_key (dealing_bytes dealing.now)) }
 {
     let value = dealing_bytes(alloc, dealing)?;
-    row(alloc, b"public:ccf.gov.dealing", b"d", value)
+    row(alloc, b"public:ccf.gov.dealing", b"d", &value)
 }
 
 #[tactic(auto, using(crate::proofs::Sizes::sizes))]
@@ -64,7 +65,7 @@ fn member_row(alloc: Global, member: &NewMember) -> Result<Write, AllocError>
     value.push(1)?;
     put_bytes(&mut value, &member.key)?;
     put_u32(&mut value, 0)?;
-    row(alloc, b"public:ccf.gov.members", &[member.number], value)
+    row(alloc, b"public:ccf.gov.members", &[member.number], &value)
 }
 
 /// The identifier of a node.
@@ -75,19 +76,19 @@ pub fn node_id(node: &NewNode) -> [u8; 32]
 }
 
 #[tactic(auto, using(crate::proofs::Sizes::sizes))]
-fn first_node_row(alloc: Global, node: &NewNode) -> Result<Write, AllocError>
+fn node_row(alloc: Global, order: u16, node: &NewNode) -> Result<Write, AllocError>
     requires { length node.now.endorsement ≤ 2 ^ 15 }
-    ensures { IfOk result (λ write. write ≡ node_row 1 node.now) }
+    ensures { IfOk result (λ write. write ≡ node_row order node.now) }
 {
     let endorsement = node.endorsement.as_slice();
     let mut value = Vec::new(alloc);
-    put_u16(&mut value, 1)?;
+    put_u16(&mut value, order)?;
     value.push(2)?;
     put_bytes(&mut value, &node.key)?;
     put_u32(&mut value, endorsement.len() as u32)?;
     put_bytes(&mut value, endorsement)?;
     put_u64(&mut value, 0)?;
-    row(alloc, b"public:ccf.gov.nodes", &node_id(node), value)
+    row(alloc, b"public:ccf.gov.nodes", &node_id(node), &value)
 }
 
 fn service_row(alloc: Global, genesis: &Genesis) -> Result<Write, AllocError>
@@ -97,27 +98,40 @@ fn service_row(alloc: Global, genesis: &Genesis) -> Result<Write, AllocError>
     value.push(state_byte(genesis.state))?;
     value.push(0)?;
     put_bytes(&mut value, &genesis.identity)?;
-    row(alloc, b"public:ccf.gov.service", b"s", value)
+    row(alloc, b"public:ccf.gov.service", b"s", &value)
 }
 
-/// The rows of a genesis with one member and one node, ascending by map and key.
-pub fn genesis_rows(
-    alloc: Global,
-    genesis: &Genesis,
-    member: &NewMember,
-    node: &NewNode,
-) -> Result<Writes, AllocError>
-    requires member { genesis.now.members ≡ member.now ∷ [] }
-    requires node { genesis.now.nodes ≡ node.now ∷ [] }
-    requires shares { length genesis.now.dealing.shares < 2 ^ 8 }
-    requires endorsement { length node.now.endorsement ≤ 2 ^ 15 }
-    ensures { IfOk result (λ writes. writes ≡ genesis_rows genesis.now) }
+fn put_members(alloc: Global, members: &[NewMember], writes: &mut Writes) -> Result<(), AllocError>
+    ensures { OnOk result (writes.new ≡ set_from writes.old (map member_row members.now)) }
 {
-    let mut rows = Vec::new(alloc);
-    push_constitution(alloc, &mut rows)?;
-    rows.push(dealing_row(alloc, &genesis.dealing)?)?;
-    rows.push(member_row(alloc, member)?)?;
-    rows.push(first_node_row(alloc, node)?)?;
-    rows.push(service_row(alloc, genesis)?)?;
-    Ok(Writes::from(rows))
+    for member in members {
+        writes.put(member_row(alloc, member)?)?;
+    }
+    Ok(())
+}
+
+fn put_nodes(alloc: Global, nodes: &[NewNode], writes: &mut Writes) -> Result<(), AllocError>
+    requires count { length nodes.now < 2 ^ 8 }
+    requires endorsements { AllByRecursion (λ node. length node.endorsement ≤ 2 ^ 15) nodes.now }
+    ensures { OnOk result (writes.new ≡ set_from writes.old (node_rows 1 nodes.now)) }
+{
+    for (i, node) in nodes.iter().enumerate() {
+        writes.put(node_row(alloc, i as u16 + 1, node)?)?;
+    }
+    Ok(())
+}
+
+/// The write set of a genesis.
+pub fn genesis_writes(alloc: Global, genesis: &Genesis) -> Result<Writes, AllocError>
+    requires fits { is_genesis genesis.now ≡ true }
+    requires endorsements { AllByRecursion (λ node. length node.endorsement ≤ 2 ^ 15) genesis.now.nodes }
+    ensures { IfOk result (λ writes. writes ≡ genesis_writes genesis.now) }
+{
+    let mut writes = Writes::new(alloc);
+    put_constitution(alloc, &mut writes)?;
+    writes.put(dealing_row(alloc, &genesis.dealing)?)?;
+    put_members(alloc, genesis.members.as_slice(), &mut writes)?;
+    put_nodes(alloc, genesis.nodes.as_slice(), &mut writes)?;
+    writes.put(service_row(alloc, genesis)?)?;
+    Ok(writes)
 }

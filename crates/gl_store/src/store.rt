@@ -1,30 +1,44 @@
 //! The store of one node: what it holds, and what it makes of requests.
 
-ghost use Rattle.std.specs.Prelude.{◌≡◌, ◌≢◌, ◌+◌, ◌≤◌, ◌<◌, ◌^◌, [], ◌∷◌, ◌++◌, true, length, Ok, Err, IfOk, IfErr, OnErr, OnOk};
+ghost use Rattle.std.specs.Prelude.{◌≡◌, ◌↔◌, ◌+◌, ◌≤◌, ◌<◌, ◌^◌, [], ◌∷◌, ◌++◌, List, true, length, IsTrue, Err, IfOk, IfErr, IfSome, IfNone, OnErr, OnOk};
+ghost use Rattle.std.specs.List.{AllByRecursion};
 ghost use Rattle.std.specs.Option.{option_copied};
-ghost use Rattle.gl_store.specs.Entry.{no_digest};
+ghost use Rattle.sha2.specs.Sha256.{sha256};
+ghost use Rattle.gl_base.specs.Field.{are_bytes};
+ghost use Rattle.gl_base.specs.TxId.{last_seqno};
+ghost use Rattle.gl_merkle.specs.Frontier.{HasLeaves, IsUnchanged};
+ghost use Rattle.gl_vmaps.specs.Versions.{placed_at, IsAbove};
+ghost use Rattle.gl_tx.specs.Request.{is_request, request_bytes, reply_bytes};
+ghost use Rattle.gl_tx.specs.declared.request.Answer.{Answer};
+ghost use Rattle.gl_entry.specs.Entry.{no_digest, is_entry, body_bytes, body_limit, content_bytes};
+ghost use Rattle.gl_entry.specs.Leaf.{leaf_of};
+ghost use Rattle.gl_entry.specs.declared.entry.Entry as made;
+ghost use Rattle.gl_store.specs.Genesis.{is_genesis};
+ghost use Rattle.gl_store.specs.Tree.{leaves_of};
+ghost use Rattle.gl_store.specs.Ledger.{genesis_entry, signature_entry, limited};
+ghost use Rattle.gl_store.specs.Kept.{StandsFor};
 
-use crate::bytes::Bytes;
-use crate::encode::{genesis_bytes, reply_bytes, request_bytes};
-use crate::entry::{Content, Digest, Entry, NodeId, Signature};
-use crate::genesis::{Genesis, ServiceState};
+use crate::encode::genesis_bytes;
+use crate::genesis::{Genesis, HssKey, ServiceState};
+use crate::log::Log;
 use crate::refusal::{Refusal, StoreError};
-use crate::request::{Reply, Request};
-use crate::rows::genesis_rows;
-use crate::run::run;
-use crate::scan::value_in;
-use crate::write::Writes;
+use crate::rows::genesis_writes;
 use gl_base::{Status, TxId, status};
+use gl_entry::{Bytes, Content, Digest, Entry, NodeId, Signature, leaf_of_body};
+use gl_tx::{Ran, Reply, Request, run};
+use gl_vmaps::{Tables, Writes};
 use sha2::{Digest as _, Sha256};
 use std::alloc::{AllocError, Global};
 use std::marker::Model;
 
 /// A ledger of one node, and up to which place it is committed. Places count from 1. The ledger is
 /// sound at every moment: its places and views are in order, it is one serial run of its requests,
-/// and its governance tables are the effect of the governance requests that it records.
-#[derive(Debug, Drop)]
+/// its governance tables are the effect of the governance requests that it records, and each signature
+/// has the root of the tree over all earlier entries.
+#[derive(Drop)]
 pub struct Store {
-    entries: Vec<Entry>,
+    log: Log,
+    identity: HssKey,
     commit: u64,
     last_signature: u64,
     state: ServiceState,
@@ -37,66 +51,52 @@ impl Model for Store {
 
     ghost Value = { Held };
 
-    ghost view = { λ s. record { ledger = s.entries.items; commit = s.commit } };
+    ghost view = { λ s. record { ledger = s.log.entries.items; commit = s.commit } };
 
-    ghost invariant = { λ s. IsKept s.entries.items s.commit s.last_signature s.state };
+    ghost invariant = { λ s. IsKept s.log.entries.items (record {
+      commit = s.commit;
+      last_signature = s.last_signature;
+      state = s.state;
+      identity = s.identity;
+      tables = s.log.tables;
+      frontier = s.log.frontier;
+    }) };
 }
+
+/// The last place that an identifier can name.
+const LAST_SEQNO: u64 = (1 << 40) - 1;
+
+/// The most bytes that a body or a reply has.
+const SIZE_LIMIT: usize = 1_048_576;
 
 /// The digest field of an entry that has none.
 const NO_DIGEST: Digest = [0; 32];
 
-/// A signature behind a ledger of this length.
-fn signature_entry(alloc: Global, node: NodeId, len: u64, view: u32, commit: u64) -> Entry
-    requires { len < 2 ^ 63 }
-    ensures view { result.view ≡ view }
-    ensures seqno { result.seqno ≡ len + 1 }
-    ensures content { result.content ≡ Content.Signature (record { node = node; commit = commit; root = no_digest; signature = [] }) }
-    ensures writes { result.writes ≡ [] }
-    ensures claims { result.claims ≡ no_digest }
-{
-    Entry {
-        view,
-        seqno: len + 1,
-        content: Content::Signature(Signature {
-            node,
-            commit,
-            root: NO_DIGEST,
-            signature: Bytes::from(Vec::new(alloc)),
-        }),
-        writes: Writes::from(Vec::new(alloc)),
-        claims: NO_DIGEST,
-    }
-}
-
 impl Store {
     ghost use Rattle.gl_store.specs.Genesis.{is_acceptable};
-    ghost use Rattle.gl_store.specs.Ledger.{Executes, Refuses, executed, opening_ledger, signature_entry, entry_at, view_at, held_status, commit_of, last_signature, IsSignedAt};
-    ghost use Rattle.gl_store.specs.Tables.{tables_of, value_in};
+    ghost use Rattle.gl_store.specs.Ledger.{Executes, Signs, Refuses, executed, signed, opening_ledger, entry_at, view_at, held_status, commit_of, last_signature, IsSignedAt};
+    ghost use Rattle.gl_store.specs.Tree.{writes_of, tables_of};
     ghost use Rattle.gl_store.specs.Effect.{service_state};
     ghost use Rattle.gl_store.specs.Serial.{IsSound};
-    ghost use Rattle.gl_store.specs.Kept.{IsSole, IsUpTo};
+    ghost use Rattle.gl_store.specs.Kept.{IsUpTo};
 
     /// The store of a service that begins: the genesis at place 1, and the signature of its node at
     /// place 2, both in view 2 and committed. Fails for want of memory alone.
     pub fn opening(alloc: Global, genesis: &Genesis, signer: NodeId) -> Result<Self, AllocError>
         requires acceptable { is_acceptable genesis.now ≡ true }
-        requires sole { IsSole genesis.now signer }
+        requires fits { is_genesis genesis.now ≡ true }
+        requires endorsements { AllByRecursion (λ node. length node.endorsement ≤ 2 ^ 15) genesis.now.nodes }
+        requires small { length (body_bytes (genesis_entry genesis.now)) ≤ body_limit }
         ensures { IfOk result (λ store. store ≡ record { ledger = opening_ledger genesis.now signer; commit = 2 }) }
     {
-        let (member, node) = (&genesis.members.as_slice()[0], &genesis.nodes.as_slice()[0]);
-        let request = genesis_bytes(alloc, genesis)?;
-        let writes = genesis_rows(alloc, genesis, member, node)?;
-        let mut entries = Vec::new(alloc);
-        entries.push(Entry {
-            view: 2,
-            seqno: 1,
-            content: Content::Governance(Bytes::from(request)),
-            writes,
-            claims: NO_DIGEST,
-        })?;
-        entries.push(signature_entry(alloc, signer, 1, 2, 2))?;
+        let founding = genesis_entry(alloc, genesis)?;
+        let mut log = Log::new(alloc)?;
+        push_entry(alloc, &mut log, &genesis.identity, founding)?;
+        let opening = signature_entry(alloc, &log, signer, 2, 2);
+        push_entry(alloc, &mut log, &genesis.identity, opening)?;
         Ok(Store {
-            entries,
+            log,
+            identity: genesis.identity,
             commit: 2,
             last_signature: 2,
             state: genesis.state,
@@ -110,17 +110,26 @@ impl Store {
         ensures opened { 2 ≤ length self.now.ledger }
         ensures sound { IsSound self.now.ledger }
     {
-        self.entries.len() as u64
+        self.log.entries.len() as u64
     }
 
     /// The entry at a place. `None` at place 0 and above the last.
     pub fn entry(&self, place: u64) -> Option<&Entry>
-        ensures { option_copied result ≡ entry_at self.now.ledger place }
+        ensures entry { option_copied result ≡ entry_at self.now.ledger place }
+        ensures fits { IfSome result (λ e. is_entry e.now ≡ true) }
     {
         match place.checked_sub(1) {
             None => None,
-            Some(index) => self.entries.get(index as usize),
+            Some(index) => self.log.entries.get(index as usize),
         }
+    }
+
+    /// All entries, in order.
+    pub fn entries(&self) -> &[Entry]
+        ensures entries { result.now ≡ self.now.ledger }
+        ensures fit { AllByRecursion (λ e. is_entry e ≡ true) self.now.ledger }
+    {
+        &self.log.entries
     }
 
     /// The view of the entry at a place. `None` at place 0 and above the last.
@@ -133,12 +142,11 @@ impl Store {
         }
     }
 
-    /// The value of a key in a map, if the map has that key: what the last entry that writes the row
-    /// wrote there. Takes as many steps as the ledger has writes, and no memory.
-    pub fn get(&self, map: &[u8], key: &[u8]) -> Option<&[u8]>
-        ensures { option_copied result ≡ value_in (tables_of self.now.ledger) map.now key.now }
+    /// The tables that the ledger's write sets make.
+    pub fn tables(&self) -> &Tables
+        ensures { result.now ≡ writes_of self.now.ledger }
     {
-        value_in(&self.entries, map, key)
+        &self.log.tables
     }
 
     /// The place up to which the ledger is committed, itself included.
@@ -156,8 +164,8 @@ impl Store {
         self.last_signature
     }
 
-    /// The status of a transaction by what this store holds (CCF documentation, "Verifying
-    /// Transactions"). Only Committed and Invalid are final.
+    /// The status of a transaction by what this store holds (CCF documentation, "Transaction status").
+    /// Only Committed and Invalid are final.
     pub fn status(&self, id: TxId) -> Status
         ensures { result ≡ held_status self.now id }
     {
@@ -180,8 +188,9 @@ impl Store {
     }
 
     /// Runs a request and makes its entry, in a view that isn't below that of any entry before. Gives
-    /// the entry's identifier and the reply. Refused, in this order, where the service isn't open and
-    /// where an operation fails. Want of memory, too, leaves the store as it was.
+    /// the entry's identifier and the reply. Refused, in this order, where the service isn't open, where
+    /// an operation fails, where the entry's body or the reply has more than 1 MiB, and where no place
+    /// is left. Want of memory, too, leaves the store as it was.
     pub fn execute(&mut self, view: u32, request: &Request) -> Result<(TxId, Reply), StoreError>
         requires { IsUpTo self.old.ledger view }
         ensures made { IfOk result (λ made. Executes self.old view request.now made.0 made.1 self.new) }
@@ -201,47 +210,165 @@ impl Store {
         ensures refused { IfErr result (λ e. Refuses (executed self.old.ledger view request.now) e) }
         ensures err { OnErr result (self.new ≡ self.old) }
     {
-        let len = self.entries.len() as u64;
-        let ran = match run(self.alloc, request) {
-            Ok(ran) => ran,
-            Err(e) => return Err(e),
-        };
-        let claims = Sha256::digest(reply_bytes(self.alloc, &ran.reply)?.as_slice());
-        let request = request_bytes(self.alloc, request)?;
-        self.entries.push(Entry {
-            view,
-            seqno: len + 1,
-            content: Content::Application(Bytes::from(request)),
-            writes: ran.writes,
-            claims,
-        })?;
-        Ok((
-            TxId {
-                view,
-                seqno: len + 1,
-            },
-            ran.reply,
-        ))
+        let seqno = self.log.entries.len() as u64 + 1;
+        let ran = run(self.alloc, request, &self.log.tables)?;
+        let reply = ran.reply.encode(self.alloc)?;
+        let entry = application_entry(self.alloc, view, seqno, request, ran.writes, &reply)?;
+        let body = entry.body(self.alloc)?;
+        if let Some(refusal) = limit_passed(&body, &reply, seqno) {
+            return Err(StoreError::Refused(refusal));
+        }
+        let leaf = leaf_of_body(self.alloc, &self.identity, &entry, &body)?;
+        self.log.push(entry, leaf)?;
+        Ok((TxId { view, seqno }, ran.reply))
     }
 
     /// Makes the entry of a node's signature of the ledger so far, in a view that isn't below that of
-    /// any entry before. It records the commit as it now is. Fails for want of memory alone, and then
-    /// leaves the store as it was.
-    pub fn sign(&mut self, node: NodeId, view: u32) -> Result<TxId, AllocError>
+    /// any entry before. It records the commit as it now is, and the root of the tree over all entries
+    /// before it. Refused where no place is left. Want of memory, too, leaves the store as it was.
+    pub fn sign(&mut self, node: NodeId, view: u32) -> Result<TxId, StoreError>
         requires { IsUpTo self.old.ledger view }
-        ensures ok { OnOk result (self.new ≡ record self.old {
-          ledger = self.old.ledger ++ signature_entry node self.old.ledger view self.old.commit ∷ [];
-        }) }
-        ensures id { IfOk result (λ id. id ≡ record { view = view; seqno = length self.old.ledger + 1 }) }
+        ensures made { IfOk result (λ id. Signs self.old node view id self.new) }
+        ensures refused { IfErr result (λ e. Refuses (signed node self.old.ledger view self.old.commit) e) }
         ensures err { OnErr result (self.new ≡ self.old) }
     {
-        let len = self.entries.len() as u64;
-        self.entries
-            .push(signature_entry(self.alloc, node, len, view, self.commit))?;
-        self.last_signature = len + 1;
-        Ok(TxId {
-            view,
-            seqno: len + 1,
-        })
+        let seqno = self.log.entries.len() as u64 + 1;
+        if seqno > LAST_SEQNO {
+            return Err(StoreError::Refused(Refusal::SeqnoLimit));
+        }
+        let entry = signature_entry(self.alloc, &self.log, node, view, self.commit);
+        push_entry(self.alloc, &mut self.log, &self.identity, entry)?;
+        self.last_signature = seqno;
+        Ok(TxId { view, seqno })
     }
+}
+
+/// Whether bytes are few enough that their length is spelled in four bytes.
+fn is_short(bytes: &[u8]) -> bool
+    ensures short { IsTrue result ↔ (length bytes.now < 2 ^ 32) }
+    ensures bytes { are_bytes bytes.now ≡ true }
+{
+    bytes.len() < 1 << 32
+}
+
+/// The entry of a genesis.
+fn genesis_entry(alloc: Global, genesis: &Genesis) -> Result<Entry, AllocError>
+    requires fits { is_genesis genesis.now ≡ true }
+    requires endorsements { AllByRecursion (λ node. length node.endorsement ≤ 2 ^ 15) genesis.now.nodes }
+    requires small { length (body_bytes (genesis_entry genesis.now)) ≤ body_limit }
+    ensures made { IfOk result (λ entry. entry ≡ genesis_entry genesis.now) }
+    ensures fits { IfOk result (λ entry. is_entry entry ≡ true) }
+{
+    let request = Bytes::from(genesis_bytes(alloc, genesis)?);
+    let writes = genesis_writes(alloc, genesis)?;
+    prove!(is_short(request.as_slice()));
+    prove!(writes.as_slice().len() < 1 << 32);
+    Ok(Entry {
+        view: 2,
+        seqno: 1,
+        content: Content::Governance(request),
+        writes,
+        claims: NO_DIGEST,
+    })
+}
+
+/// A signature behind the entries of a log.
+fn signature_entry(alloc: Global, log: &Log, node: NodeId, view: u32, commit: u64) -> Entry
+    requires some { 0 < length log.now.entries.items }
+    requires left { length log.now.entries.items < last_seqno }
+    requires tree { StandsFor log.now.frontier (leaves_of log.now.entries.items) }
+    ensures made { result ≡ signature_entry node log.now.entries.items view commit }
+    ensures fits { is_entry result ≡ true }
+{
+    Entry {
+        view,
+        seqno: log.entries.len() as u64 + 1,
+        content: Content::Signature(Signature {
+            node,
+            commit,
+            root: log.frontier.root(),
+            signature: Bytes::from(Vec::new(alloc)),
+        }),
+        writes: Writes::new(alloc),
+        claims: NO_DIGEST,
+    }
+}
+
+/// The entry of a request that ran with these writes and this reply.
+fn application_entry(
+    alloc: Global,
+    view: u32,
+    seqno: u64,
+    request: &Request,
+    writes: Writes,
+    reply: &[u8],
+) -> Result<Entry, AllocError>
+    requires { length writes ≤ 64 }
+    ensures request { OnOk result (is_request request.now ≡ true) }
+    ensures made { IfOk result (λ entry. entry ≡ record {
+      view = view;
+      seqno = seqno;
+      content = Content.Application (request_bytes request.now);
+      writes = writes;
+      claims = sha256 reply.now;
+    }) }
+    ensures recorded { IfOk result (λ entry. length (content_bytes entry.content) < 2 ^ 32) }
+    ensures fits { IfOk result (λ entry. length (body_bytes entry) ≤ body_limit → is_entry entry ≡ true) }
+{
+    prove!(request.as_slice().len() <= 64);
+    let recorded = Bytes::from(request.encode(alloc)?);
+    prove!(is_short(recorded.as_slice()));
+    prove!(writes.as_slice().len() <= 64);
+    Ok(Entry {
+        view,
+        seqno,
+        content: Content::Application(recorded),
+        writes,
+        claims: Sha256::digest(reply),
+    })
+}
+
+/// The first limit that an entry passes: the size of its body, that of its reply, its place.
+fn limit_passed(body: &[u8], reply: &[u8], seqno: u64) -> Option<Refusal>
+    ensures body { IfNone result (length body.now ≤ body_limit) }
+    ensures reply { IfNone result (length reply.now ≤ body_limit) }
+    ensures place { IfNone result (seqno ≤ last_seqno) }
+    ensures owed { IfSome result (λ refusal. (ledger : List made.Entry) (e : made.Entry) (answers : List Answer) →
+        body.now ≡ body_bytes e → reply.now ≡ reply_bytes answers → seqno ≡ length ledger + 1 →
+        limited ledger e answers ≡ Err refusal) }
+{
+    if body.len() > SIZE_LIMIT {
+        Some(Refusal::TooLarge {
+            size: body.len() as u64,
+        })
+    } else if reply.len() > SIZE_LIMIT {
+        Some(Refusal::TooLarge {
+            size: reply.len() as u64,
+        })
+    } else if seqno > LAST_SEQNO {
+        Some(Refusal::SeqnoLimit)
+    } else {
+        None
+    }
+}
+
+/// Adds an entry, with its leaf under the service's key. Want of memory leaves all as it was.
+fn push_entry(
+    alloc: Global,
+    log: &mut Log,
+    identity: &HssKey,
+    entry: Entry,
+) -> Result<(), AllocError>
+    requires above { IsAbove entry.seqno log.old.tables }
+    requires small { length (body_bytes entry) ≤ body_limit }
+    ensures entries { OnOk result (log.new.entries.items ≡ log.old.entries.items ++ entry ∷ []) }
+    ensures tables { OnOk result (log.new.tables ≡ log.old.tables ++ placed_at entry.seqno entry.writes) }
+    ensures leaves { OnOk result (HasLeaves log.old.frontier log.new.frontier (log.old.frontier.leaves ++ leaf_of identity.now entry ∷ [])) }
+    ensures entries_kept { OnErr result (log.new.entries.items ≡ log.old.entries.items) }
+    ensures tables_kept { OnErr result (log.new.tables ≡ log.old.tables) }
+    ensures leaves_kept { OnErr result (IsUnchanged log.old.frontier log.new.frontier) }
+{
+    let body = entry.body(alloc)?;
+    let leaf = leaf_of_body(alloc, identity, &entry, &body)?;
+    log.push(entry, leaf)
 }

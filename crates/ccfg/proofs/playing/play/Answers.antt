@@ -8,24 +8,24 @@ use Rattle.ccfg.proofs.playing.play.Goals as goal
 
 pub returns-in-Err-write_whole-clause-front : goal.returns-in-Err-write_whole-clause-front
 returns-in-Err-write_whole-clause-front g c =
-    front_before _ _ _ (text_from c.args.settings 2 (begin (start_of c.args.settings)) c.args.commands.now) c.in-Err-write_whole.ensures.front
+    front_before _ _ _ (text_from c.args.settings 2 (begin (start_of c.args.settings)) c.args.lines.now) c.in-Err-write_whole.ensures.front
 
 pub loop-i-init : goal.loop-i-init
 loop-i-init g c = record {
-  played = rw c.as_slice-lines.ensures (begun _ _ c.args.settings _ c.args.commands.now c.in-Ok.machine c.in-Ok.ensures.machine c.in-Ok.ensures.settings c.in-Ok.ensures.node c.in-Ok-write_whole.ensures.whole);
+  played = rw c.as_slice-items.ensures (begun _ _ c.args.settings _ c.args.lines.now c.in-Ok.machine c.in-Ok.ensures.machine c.in-Ok.ensures.settings c.in-Ok.ensures.node c.in-Ok-write_whole.ensures.whole);
   never_falls = omega (arith, c.write_whole.ensures.never_falls);
 }
 
 pub returns-in-Err-play_line-clause-front : goal.returns-in-Err-play_line-clause-front
 returns-in-Err-play_line-clause-front g c =
-    stops _ _ _ c.args.settings _ c.as_slice-lines.result.now c.loop-i.i c.index-lines-i.result c.loop-i.machine c.loop-i.invariant.played c.loop-i-test.true c.index-lines-i.is c.in-Err-play_line.ensures.front
+    stops _ _ _ c.args.settings _ c.as_slice-items.result.now c.loop-i.i c.index-items-i.result c.loop-i.machine c.loop-i.invariant.played c.loop-i-test.true c.index-items-i.is c.in-Err-play_line.ensures.front
 
 pub loop-i-preserved : goal.loop-i-preserved
 loop-i-preserved g c = record {
-  played = goes_on _ _ _ c.args.settings _ c.as_slice-lines.result.now c.loop-i.i c.index-lines-i.result c.loop-i.machine c.play_line.new.machine c.loop-i.invariant.played c.loop-i-test.true
-      c.index-lines-i.is c.in-Ok-play_line.ensures.whole c.in-Ok-play_line.ensures.world c.in-Ok-play_line.ensures.goes_on;
+  played = goes_on _ _ _ c.args.settings _ c.as_slice-items.result.now c.loop-i.i c.index-items-i.result c.loop-i.machine c.play_line.new.machine c.loop-i.invariant.played c.loop-i-test.true
+      c.index-items-i.is c.in-Ok-play_line.ensures.whole c.in-Ok-play_line.ensures.world c.in-Ok-play_line.ensures.goes_on;
   never_falls = omega (arith, c.loop-i.invariant.never_falls, c.play_line.ensures.never_falls);
 }
 
 pub returns-clause-whole : goal.returns-clause-whole
-returns-clause-whole g c = ends _ _ c.args.settings _ c.as_slice-lines.result.now c.loop-i.i c.loop-i.machine c.loop-i.invariant.played c.loop-i-test.false
+returns-clause-whole g c = ends _ _ c.args.settings _ c.as_slice-items.result.now c.loop-i.i c.loop-i.machine c.loop-i.invariant.played c.loop-i-test.false

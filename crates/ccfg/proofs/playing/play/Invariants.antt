@@ -1,12 +1,11 @@
 use Rattle.std.proofs.Common.{◌≤◌}
-use Rattle.ccfg.specs.declared.schedule.Schedule.TheVariants.{Service}
-use Rattle.ccfg.specs.Text.{text_of_schedule}
+use Rattle.ccfg.specs.Text.{text_of_service}
 use Rattle.ccfg.proofs.Played.{Played}
 use Rattle.ccfg.proofs.playing.play.Given as goal
 
 -- what is written so far, and what is left to write
 abbrev pub invariant-loop-i : goal.invariant-loop-i
 invariant-loop-i g l = record {
-  played : Played (g.K.Sink.holds l.fn.sink) (g.K.Sink.holds l.sink) l.fn.settings (text_of_schedule (Service l.fn.settings l.fn.commands)) l.lines l.i l.machine;
+  played : Played (g.K.Sink.holds l.fn.sink) (g.K.Sink.holds l.sink) l.fn.settings (text_of_service l.fn.settings l.fn.lines) l.items l.i l.machine;
   never_falls : g.K.Sink.faults l.fn.sink ≤ g.K.Sink.faults l.sink;
 }

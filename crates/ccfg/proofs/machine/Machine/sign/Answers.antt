@@ -1,5 +1,5 @@
 use Rattle.std.proofs.Common.{arith}
-use Rattle.ccfg.proofs.MachineLemmas.{sign_unreserved, sign_nothing, sign_signs}
+use Rattle.ccfg.proofs.MachineLemmas.{sign_unreserved, sign_nothing, sign_signs, sign_refused}
 use Rattle.ccfg.proofs.machine.Machine.sign.Goals as goal
 
 pub returns-then-self-clause-steps : goal.returns-then-self-clause-steps
@@ -9,12 +9,24 @@ pub returns-then-last_signature-len-clause-steps : goal.returns-then-last_signat
 returns-then-last_signature-len-clause-steps c =
     rw c.ledger_len-len.ensures.len (sign_nothing c.args.self.now c.requires (λ p. absurd (omega (arith, p, c.if-self.false))) (omega (arith, c.ledger_len-len.ensures.len, c.last_signature.ensures, c.if-last_signature-len.true)))
 
-pub returns-clause-steps : goal.returns-clause-steps
-returns-clause-steps c =
-    (sign_signs c.args.self.now c.sign.new.self c.in_ok-id.id c.requires (λ p. absurd (omega (arith, p, c.if-self.false)))
-    (λ p. c.if-last_signature-len.false (omega (arith, p, c.ledger_len-len.ensures.len, c.last_signature.ensures))) c.in_ok-id.ensures.ok c.in_ok-id.ensures.id).0
+pub returns-in-Ok-clause-steps : goal.returns-in-Ok-clause-steps
+returns-in-Ok-clause-steps c =
+    (sign_signs c.args.self.now c.sign.new.self c.in-Ok.id c.requires (λ p. absurd (omega (arith, p, c.if-self.false)))
+    (λ p. c.if-last_signature-len.false (omega (arith, p, c.ledger_len-len.ensures.len, c.last_signature.ensures))) c.in-Ok.ensures.made).0
 
-pub returns-clause-goes_on : goal.returns-clause-goes_on
-returns-clause-goes_on c =
-    (sign_signs c.args.self.now c.sign.new.self c.in_ok-id.id c.requires (λ p. absurd (omega (arith, p, c.if-self.false)))
-    (λ p. c.if-last_signature-len.false (omega (arith, p, c.ledger_len-len.ensures.len, c.last_signature.ensures))) c.in_ok-id.ensures.ok c.in_ok-id.ensures.id).1
+pub returns-in-Ok-clause-goes_on : goal.returns-in-Ok-clause-goes_on
+returns-in-Ok-clause-goes_on c =
+    (sign_signs c.args.self.now c.sign.new.self c.in-Ok.id c.requires (λ p. absurd (omega (arith, p, c.if-self.false)))
+    (λ p. c.if-last_signature-len.false (omega (arith, p, c.ledger_len-len.ensures.len, c.last_signature.ensures))) c.in-Ok.ensures.made).1
+
+pub returns-in-Err-Refused-clause-steps : goal.returns-in-Err-Refused-clause-steps
+returns-in-Err-Refused-clause-steps c =
+    (sign_refused c.args.self.now c.sign.new.self c.in-Err-Refused.why c.requires (λ p. absurd (omega (arith, p, c.if-self.false)))
+    (λ p. c.if-last_signature-len.false (omega (arith, p, c.ledger_len-len.ensures.len, c.last_signature.ensures)))
+    (rw c.in-Err-Refused.field-0-is at c.in-Err-Refused.ensures.refused) c.in-Err-Refused.ensures.err).0
+
+pub returns-in-Err-Refused-clause-goes_on : goal.returns-in-Err-Refused-clause-goes_on
+returns-in-Err-Refused-clause-goes_on c =
+    (sign_refused c.args.self.now c.sign.new.self c.in-Err-Refused.why c.requires (λ p. absurd (omega (arith, p, c.if-self.false)))
+    (λ p. c.if-last_signature-len.false (omega (arith, p, c.ledger_len-len.ensures.len, c.last_signature.ensures)))
+    (rw c.in-Err-Refused.field-0-is at c.in-Err-Refused.ensures.refused) c.in-Err-Refused.ensures.err).1

@@ -1,28 +1,47 @@
-use Rattle.std.proofs.Common.{◌≡◌, ◌++◌, ◌∷◌, [], List, Ok, subst, sym, rules}
-use Rattle.gl_store.specs.Tables.{tables_of}
+use Rattle.std.proofs.Common.{◌≡◌, ◌+◌, ◌<◌, ◌≤◌, ◌∙◌, ℕ, List, Ok, length, subst, sym, arith, rules}
+use Rattle.gl_base.specs.TxId.{last_seqno}
+use Rattle.gl_entry.specs.Entry.{body_bytes, body_limit}
+use Rattle.gl_entry.specs.declared.entry.Entry.{Entry}
+use Rattle.gl_tx.specs.Request.{reply_bytes}
+use Rattle.gl_tx.specs.Run.{Ran, run}
+use Rattle.gl_tx.specs.declared.request.Operation.{Operation}
+use Rattle.gl_vmaps.specs.Versions.{Placed, written_by}
 use Rattle.gl_store.specs.Effect.{service_state}
-use Rattle.gl_store.specs.Request.{Ran}
+use Rattle.gl_store.specs.Tree.{tables_of}
 use Rattle.gl_store.specs.Ledger.{Held, application_entry, executed}
-use Rattle.gl_store.specs.Kept.{IsKept, IsUpTo}
+use Rattle.gl_store.specs.Kept.{IsUpTo}
 use Rattle.gl_store.specs.declared.genesis.ServiceState.TheVariants.{Open}
-use Rattle.gl_store.specs.declared.entry.Entry.{Entry}
-use Rattle.gl_store.proofs.Applications.{executed_ran, refused_run}
+use Rattle.gl_store.proofs.TablesLaws.{above_next}
+use Rattle.gl_store.proofs.Applications.{application_made, executed_within}
 use Rattle.gl_store.proofs.Keeping.{kept_with_application}
 use Rattle.gl_store.proofs.store.Store.execute_open.Goals as goal
 
-pub returns-in-Err-clause-refused : goal.returns-in-Err-clause-refused
-returns-in-Err-clause-refused c =
-    refused_run c.args.self.now.ledger c.args.view c.args.request.now c.in-Err.e c.requires.is_open
-    (c.in-Err.ensures.aborted (tables_of c.args.self.now.ledger))
+pub push-requires : goal.push-requires
+push-requires c =
+    let k = c.self.inside in
+    above_next k.log.entries.items k.log.tables _ c.self.invariant.sound.in_order c.self.invariant.tables_are
+    (let place : c.in_ok-entry.entry.seqno ≡ length k.log.entries.items + 1 = search rules in place)
 
 pub invariant_of-self-2 : goal.invariant_of-self-2
 invariant_of-self-2 c =
     let k = c.self.inside in
-    let ran : Ran = record { answers = c.in-Ok.ran.reply; writes = c.in-Ok.ran.writes } in
-    let is_open : service_state (tables_of k.entries.items) ≡ Open = subst (λ (h : Held). service_state (tables_of h.ledger) ≡ Open) (sym c.self.view_is) c.requires.is_open in
-    let up : IsUpTo k.entries.items c.args.view = subst (λ (h : Held). IsUpTo h.ledger c.args.view) (sym c.self.view_is) c.requires.up_to in
-    let made : executed k.entries.items c.args.view c.args.request.now ≡ Ok (application_entry k.entries.items c.args.view c.args.request.now ran, ran.answers) =
-    executed_ran k.entries.items c.args.view c.args.request.now ran is_open (c.in-Ok.ensures.ok (tables_of k.entries.items)) in
-    let items : c.push.new.self.items ≡ k.entries.items ++ application_entry k.entries.items c.args.view c.args.request.now ran ∷ [] = search rules in
-    subst (λ (l : List Entry). IsKept l k.commit k.last_signature k.state) (sym items)
-    (kept_with_application k.entries.items k.commit k.last_signature c.args.view k.state c.args.request.now _ _ c.self.invariant up made)
+    let ledger : List Entry = k.log.entries.items in
+    let q : List Operation = c.args.request.now in
+    let e : Entry = c.in_ok-entry.entry in
+    let ran : Ran = record { answers = c.in_ok-ran.ran.reply; writes = c.in_ok-ran.ran.writes } in
+    let is_open : service_state (tables_of ledger) ≡ Open = subst (λ (h : Held). service_state (tables_of h.ledger) ≡ Open) (sym c.self.view_is) c.requires.is_open in
+    let up : IsUpTo ledger c.args.view = subst (λ (h : Held). IsUpTo h.ledger c.args.view) (sym c.self.view_is) c.requires.up_to in
+    let runs : run q (tables_of ledger) ≡ Ok ran = subst (λ (ps : List Placed). run q (written_by ps) ≡ Ok ran) c.self.invariant.tables_are c.in_ok-ran.ensures.ok in
+    let at : c.len.result + 1 ≡ length ledger + 1 = omega arith in
+    let spelled : c.deref.result.now ≡ reply_bytes ran.answers = c.deref.ensures.value ∙ c.in_ok-reply.ensures.bytes in
+    let made : e ≡ application_entry ledger c.args.view q ran = application_made ledger c.args.view (c.len.result + 1) q ran c.deref.result.now e c.in_ok-entry.ensures.made at spelled in
+    let body : c.deref-2.result.now ≡ body_bytes e = c.deref-2.ensures.value ∙ c.in_ok-body.ensures in
+    let reply : c.deref-3.result.now ≡ reply_bytes ran.answers = c.deref-3.ensures.value ∙ c.in_ok-reply.ensures.bytes in
+    let small : length (body_bytes e) ≤ body_limit = subst (λ (xs : List ℕ). length xs ≤ body_limit) body c.in_default.ensures.body in
+    let short : length (reply_bytes ran.answers) ≤ body_limit = subst (λ (xs : List ℕ). length xs ≤ body_limit) reply c.in_default.ensures.reply in
+    let place : c.len.result + 1 ≤ last_seqno = c.in_default.ensures.place in
+    let left : length ledger < last_seqno = omega arith in
+    let gives : executed ledger c.args.view q ≡ Ok (e, ran.answers) =
+    executed_within ledger c.args.view q ran e is_open runs made small short left in
+    kept_with_application ledger c.push.new.self.entries.items _ c.args.view q e ran.answers c.in_ok-leaf.leaf c.push.new.self.tables c.push.new.self.frontier
+    c.self.invariant up c.in_ok-entry.ensures.request gives (c.in_ok-entry.ensures.fits small) c.in_ok-leaf.ensures c.in_ok-push.ensures.entries c.in_ok-push.ensures.tables c.in_ok-push.ensures.leaves

@@ -1,12 +1,41 @@
-use Rattle.std.proofs.Common.{◌≡◌, List, subst, sym, rules}
-use Rattle.gl_store.specs.Ledger.{opening_ledger}
-use Rattle.gl_store.specs.Kept.{IsKept}
-use Rattle.gl_store.specs.declared.entry.Entry.{Entry}
-use Rattle.gl_store.proofs.Openings.{kept_opening}
+use Rattle.std.proofs.Common.{◌≡◌, ap, subst, true}
+use Rattle.gl_entry.specs.Entry.{is_entry}
+use Rattle.gl_entry.specs.declared.entry.Entry.{Entry}
+use Rattle.gl_store.proofs.Keeping.{founded, founded_above, kept_opening}
 use Rattle.gl_store.proofs.store.Store.opening.Goals as goal
+
+pub signature_entry-opening-requires-clause-tree : goal.signature_entry-opening-requires-clause-tree
+signature_entry-opening-requires-clause-tree c =
+    let log = c.in_ok-log.log in
+    let new = c.push_entry.new.log in
+    let made = c.in_ok-log.ensures in
+    let pushed = c.in_ok-push_entry.ensures in
+    (founded c.args.genesis.now log.entries.items new.entries.items log.tables new.tables log.frontier new.frontier c.in_ok-founding.founding
+    made.entries made.tables made.base made.peaks made.leaves c.in_ok-founding.ensures.made pushed.entries pushed.tables pushed.leaves).tree
+
+pub push_entry-requires-2-clause-above : goal.push_entry-requires-2-clause-above
+push_entry-requires-2-clause-above c =
+    let g = c.args.genesis.now in
+    let log = c.in_ok-log.log in
+    let new = c.push_entry.new.log in
+    let made = c.in_ok-log.ensures in
+    let pushed = c.in_ok-push_entry.ensures in
+    founded_above g new.entries.items new.tables new.frontier _ c.requires.acceptable c.requires.fits
+    (founded g log.entries.items new.entries.items log.tables new.tables log.frontier new.frontier c.in_ok-founding.founding
+    made.entries made.tables made.base made.peaks made.leaves c.in_ok-founding.ensures.made pushed.entries pushed.tables pushed.leaves)
+    (ap (λ (e : Entry). e.seqno) c.signature_entry-opening.ensures.made)
 
 pub invariant_of-result : goal.invariant_of-result
 invariant_of-result c =
     let g = c.args.genesis.now in
-    let made : c.push-2.new.self.items ≡ opening_ledger g c.args.signer = search rules in
-    subst (λ (l : List Entry). IsKept l 2 2 g.state) (sym made) (kept_opening g c.args.signer c.requires.sole c.requires.acceptable)
+    let log = c.in_ok-log.log in
+    let first = c.push_entry.new.log in
+    let new = c.push_entry-2.new.log in
+    let made = c.in_ok-log.ensures in
+    let pushed = c.in_ok-push_entry.ensures in
+    let again = c.in_ok-push_entry-2.ensures in
+    kept_opening g c.args.signer first.entries.items new.entries.items first.tables new.tables first.frontier new.frontier c.signature_entry-opening.result
+    c.requires.acceptable c.requires.fits (subst (λ (e : Entry). is_entry e ≡ true) c.in_ok-founding.ensures.made c.in_ok-founding.ensures.fits)
+    (founded g log.entries.items first.entries.items log.tables first.tables log.frontier first.frontier c.in_ok-founding.founding
+    made.entries made.tables made.base made.peaks made.leaves c.in_ok-founding.ensures.made pushed.entries pushed.tables pushed.leaves)
+    c.signature_entry-opening.ensures.made c.signature_entry-opening.ensures.fits again.entries again.tables again.leaves

@@ -1,8 +1,0 @@
-use Rattle.std.proofs.Common.{◌≡◌, map, drop}
-use Rattle.ccfg.specs.Reading.{commands_of}
-use Rattle.ccfg.proofs.ReadingLemmas.{with_commands}
-use Rattle.ccfg.proofs.reading.commands_of.Given as goal
-
--- the commands so far and those of the other lines are those of all
-abbrev pub invariant-loop-line : goal.invariant-loop-line
-invariant-loop-line l = with_commands l.commands.items (commands_of (map (λ line. line.now) (drop l.line-index l.lines))) ≡ commands_of (map (λ line. line.now) l.lines)

@@ -1,0 +1,8 @@
+use Rattle.std.proofs.Common.{◌≡◌, ◌++◌, drop}
+use Rattle.std.specs.List.{flat_map}
+use Rattle.gl_vmaps.specs.Fields.{write_bytes}
+use Rattle.gl_entry.proofs.encoding.put_writes.Given as goal
+
+-- what is written and what is left to write make the whole
+abbrev pub invariant-loop-write : goal.invariant-loop-write
+invariant-loop-write l = l.out.items ++ flat_map write_bytes (drop l.write-index l.writes) ≡ l.fn.out.items ++ flat_map write_bytes l.writes

@@ -1,0 +1,25 @@
+-- The leaf of an entry in the Merkle tree of its ledger (CCF documentation, "Merkle Tree" and "Receipts").
+use Rattle.std.specs.Prelude.{ℕ, List, ◌++◌, codes}
+use Rattle.sha2.specs.Sha256.{sha256}
+use Rattle.hex.specs.Hex.{encode_lower}
+use Rattle.gl_base.specs.LittleEndian.{little_endian}
+use Rattle.gl_base.specs.TxId.{text_of}
+use Rattle.gl_base.specs.declared.tx_id.TxId.{TxId}
+use Rattle.gl_entry.specs.Entry.{body_bytes}
+use Rattle.gl_entry.specs.declared.entry.Entry.{Entry}
+
+-- The identifier of an entry.
+abbrev pub id_of : Entry → TxId
+id_of e = record { view = e.view; seqno = e.seqno }
+
+-- What ties an entry to its service: the digest of the service's key and the identifier.
+abbrev pub evidence_digest : List ℕ → TxId → List ℕ
+evidence_digest identity id = sha256 (identity ++ little_endian 4 id.view ++ little_endian 8 id.seqno)
+
+-- The commit evidence of an entry: a text of its identifier and that digest in hexadecimal.
+abbrev pub evidence_text : List ℕ → TxId → List ℕ
+evidence_text identity id = codes "ce:" ++ text_of id ++ codes ":" ++ encode_lower (evidence_digest identity id)
+
+-- The leaf: a digest of the digest of the body, the digest of the evidence, and the claims.
+abbrev pub leaf_of : List ℕ → Entry → List ℕ
+leaf_of identity e = sha256 (sha256 (body_bytes e) ++ sha256 (evidence_text identity (id_of e)) ++ e.claims)

@@ -1,0 +1,5 @@
+pub mod Entry
+pub mod Leaf
+pub mod Reading
+pub mod Stream
+pub mod Gives

@@ -1,0 +1,281 @@
+//! Entries against bytes worked out by hand, with digests by Python's hashlib.
+
+ghost use Rattle.std.specs.Prelude.{◌≡◌, ◌<◌, ◌≤◌, ◌^◌, length, IfOk, IsTrue};
+ghost use Rattle.gl_entry.specs.Entry.{content_bytes, is_entry};
+
+use super::*;
+use gl_base::{CodeFault, CutFault, TxId};
+use gl_outside::{MemSource, Source};
+use gl_vmaps::{Key, MapName, Value, Write, Writes};
+use std::alloc::{AllocError, Global};
+use std::test::*;
+
+// The entry of one put at the place 2.3. Its claims are the digest of the bytes 01 00 00.
+const PUT: [u8; 99] = [
+    0x01, 0x00, 0x5b, 0x00, 0x00, 0x00, 0x00, 0x00, 0x02, 0x00, 0x00, 0x00, 0x03, 0x00, 0x00, 0x00,
+    0x00, 0x00, 0x00, 0x00, 0x02, 0x14, 0x00, 0x00, 0x00, 0x01, 0x00, 0x03, 0x08, 0x70, 0x75, 0x62,
+    0x6c, 0x69, 0x63, 0x3a, 0x74, 0x01, 0x00, 0x61, 0x01, 0x00, 0x00, 0x00, 0x01, 0x01, 0x00, 0x00,
+    0x00, 0x08, 0x70, 0x75, 0x62, 0x6c, 0x69, 0x63, 0x3a, 0x74, 0x01, 0x00, 0x61, 0x01, 0x01, 0x00,
+    0x00, 0x00, 0x01, 0xfb, 0x50, 0xdc, 0x07, 0x17, 0xff, 0x26, 0x6c, 0xf9, 0xba, 0xf8, 0x2b, 0x1c,
+    0xe7, 0xa1, 0xc2, 0xef, 0x6d, 0x92, 0x47, 0x85, 0x96, 0x80, 0xb1, 0x1a, 0x19, 0xfb, 0x70, 0x77,
+    0xf5, 0xf2, 0x22,
+];
+
+// A signature at the place 2.4, by a node of bytes aa over a root of bytes bb.
+const SIGNED: [u8; 139] = [
+    0x01, 0x00, 0x83, 0x00, 0x00, 0x00, 0x00, 0x00, 0x02, 0x00, 0x00, 0x00, 0x04, 0x00, 0x00, 0x00,
+    0x00, 0x00, 0x00, 0x00, 0x03, 0x4e, 0x00, 0x00, 0x00, 0xaa, 0xaa, 0xaa, 0xaa, 0xaa, 0xaa, 0xaa,
+    0xaa, 0xaa, 0xaa, 0xaa, 0xaa, 0xaa, 0xaa, 0xaa, 0xaa, 0xaa, 0xaa, 0xaa, 0xaa, 0xaa, 0xaa, 0xaa,
+    0xaa, 0xaa, 0xaa, 0xaa, 0xaa, 0xaa, 0xaa, 0xaa, 0xaa, 0x03, 0x00, 0x00, 0x00, 0x00, 0x00, 0x00,
+    0x00, 0xbb, 0xbb, 0xbb, 0xbb, 0xbb, 0xbb, 0xbb, 0xbb, 0xbb, 0xbb, 0xbb, 0xbb, 0xbb, 0xbb, 0xbb,
+    0xbb, 0xbb, 0xbb, 0xbb, 0xbb, 0xbb, 0xbb, 0xbb, 0xbb, 0xbb, 0xbb, 0xbb, 0xbb, 0xbb, 0xbb, 0xbb,
+    0xbb, 0x02, 0x00, 0x00, 0x00, 0x05, 0x06, 0x00, 0x00, 0x00, 0x00, 0x00, 0x00, 0x00, 0x00, 0x00,
+    0x00, 0x00, 0x00, 0x00, 0x00, 0x00, 0x00, 0x00, 0x00, 0x00, 0x00, 0x00, 0x00, 0x00, 0x00, 0x00,
+    0x00, 0x00, 0x00, 0x00, 0x00, 0x00, 0x00, 0x00, 0x00, 0x00, 0x00,
+];
+
+// A request of governance at the place 2.5, with two writes of empty values.
+const RULED: [u8; 96] = [
+    0x01, 0x00, 0x58, 0x00, 0x00, 0x00, 0x00, 0x00, 0x02, 0x00, 0x00, 0x00, 0x05, 0x00, 0x00, 0x00,
+    0x00, 0x00, 0x00, 0x00, 0x01, 0x01, 0x00, 0x00, 0x00, 0x07, 0x02, 0x00, 0x00, 0x00, 0x08, 0x70,
+    0x75, 0x62, 0x6c, 0x69, 0x63, 0x3a, 0x74, 0x01, 0x00, 0x61, 0x01, 0x00, 0x00, 0x00, 0x00, 0x08,
+    0x70, 0x75, 0x62, 0x6c, 0x69, 0x63, 0x3a, 0x74, 0x01, 0x00, 0x62, 0x01, 0x00, 0x00, 0x00, 0x00,
+    0x00, 0x00, 0x00, 0x00, 0x00, 0x00, 0x00, 0x00, 0x00, 0x00, 0x00, 0x00, 0x00, 0x00, 0x00, 0x00,
+    0x00, 0x00, 0x00, 0x00, 0x00, 0x00, 0x00, 0x00, 0x00, 0x00, 0x00, 0x00, 0x00, 0x00, 0x00, 0x00,
+];
+
+const IDENTITY: [u8; 60] = [9; 60];
+
+const EVIDENCE: &[u8] = b"ce:2.3:86828660de385a90146e2813b1192469c1d3b4da68d834782b462930f69d8252";
+
+// The leaf of the put.
+const LEAF: [u8; 32] = [
+    0xef, 0xbb, 0xe9, 0x6c, 0x99, 0x69, 0x9a, 0x75, 0xb9, 0xcd, 0x76, 0x16, 0x09, 0xbe, 0x50, 0x7d,
+    0x6a, 0xe3, 0xb0, 0x9b, 0x4f, 0x3e, 0x57, 0x51, 0xb4, 0x0c, 0xa0, 0x56, 0x3d, 0x3c, 0x0c, 0x94,
+];
+
+// The entry that PUT spells.
+fn put_entry(alloc: Global) -> Result<Entry, Fail>
+    ensures { IfOk result (λ e. length (content_bytes e.content) < 2 ^ 32) }
+{
+    let map = MapName::new(Vec::from_slice(alloc, b"public:t")?).ok_or("a map's name")?;
+    let key = Key::new(Vec::from_slice(alloc, b"a")?).ok_or("a key")?;
+    let value = Value::new(Vec::from_slice(alloc, &[1])?).ok_or("a value")?;
+    let mut writes = Writes::new(alloc);
+    writes.put(Write {
+        map,
+        key,
+        value: Some(value),
+    })?;
+    let request = b"\x01\x00\x03\x08public:t\x01\x00a\x01\x00\x00\x00\x01";
+    let (_, claims) = PUT.split_at(67);
+    let mut digest = [0; 32];
+    digest.copy_from_slice(claims);
+    Ok(Entry {
+        view: 2,
+        seqno: 3,
+        content: Content::Application(Bytes::from(Vec::from_slice(alloc, request)?)),
+        writes,
+        claims: digest,
+    })
+}
+
+#[test]
+fn spells_the_entry_of_a_put(rt: HostRuntime) -> Result<(), Fail> {
+    let entry = put_entry(rt.alloc())?;
+    assert_eq!(rt; entry.writes.as_slice().len(), 1);
+    let body = entry.body(rt.alloc())?;
+    assert_eq!(rt; body.len(), 91);
+    assert_eq!(rt; body.as_slice(), &PUT[8..]);
+    assert_eq!(rt; entry.encode(rt.alloc())?.as_slice(), PUT.as_slice());
+    let id = TxId { view: 2, seqno: 3 };
+    assert_eq!(rt; evidence(rt.alloc(), &IDENTITY, id)?.as_slice(), EVIDENCE);
+    assert_eq!(rt; leaf_of_body(rt.alloc(), &IDENTITY, &entry, &body)?, LEAF);
+    assert_eq!(rt; leaf(rt.alloc(), &entry, &IDENTITY)?, LEAF);
+    Ok(())
+}
+
+#[tactic(auto, using(crate::proofs::EntryLaws::body_within))]
+fn encoded(alloc: Global, entry: &Entry) -> Result<Vec<u8>, AllocError>
+    requires { IsTrue (is_entry entry.now) }
+{
+    entry.encode(alloc)
+}
+
+#[test]
+fn reads_each_kind_of_entry(rt: HostRuntime) -> Result<(), Fail> {
+    for frame in [PUT.as_slice(), SIGNED.as_slice(), RULED.as_slice()] {
+        let (entry, size) = Entry::decode(rt.alloc(), frame)?;
+        assert_eq!(rt; size, frame.len());
+        assert_eq!(rt; encoded(rt.alloc(), &entry)?.as_slice(), frame);
+    }
+    let (entry, _) = Entry::decode(rt.alloc(), &SIGNED)?;
+    assert_eq!(rt; (entry.view, entry.seqno), (2, 4));
+    match &entry.content {
+        Content::Signature(signature) => {
+            assert_eq!(rt; (signature.node, signature.commit), ([0xaa; 32], 3));
+            assert_eq!(rt; signature.root, [0xbb; 32]);
+            assert_eq!(rt; signature.signature.as_slice(), [5, 6].as_slice());
+        }
+        _ => panic!(rt; "a signature"),
+    }
+    Ok(())
+}
+
+fn fault_of(alloc: Global, bytes: &[u8]) -> Option<EntryError> {
+    Entry::decode(alloc, bytes).err()
+}
+
+#[test]
+fn tells_the_first_fault(rt: HostRuntime) -> Result<(), Fail> {
+    let value = |at| EntryFault::Code(CodeFault::Value { at });
+    // Each frame with the byte at a place changed, and the one behind it too.
+    let rows = [
+        (PUT.as_slice(), 0, [3, 1], EntryFault::Version),
+        (PUT.as_slice(), 1, [1, 0xff], EntryFault::Flags),
+        (PUT.as_slice(), 20, [6, 0xff], EntryFault::Kind),
+        (
+            SIGNED.as_slice(),
+            97,
+            [1, 0],
+            EntryFault::Code(CodeFault::Trailing { at: 102 }),
+        ),
+        (
+            SIGNED.as_slice(),
+            97,
+            [3, 0],
+            EntryFault::Code(CodeFault::Cut(CutFault::Short { at: 103 })),
+        ),
+        (SIGNED.as_slice(), 103, [1, 0], value(103)),
+        (SIGNED.as_slice(), 107, [1, 0], value(107)),
+        (
+            RULED.as_slice(),
+            58,
+            [b'a', 2],
+            EntryFault::Writes { index: 2 },
+        ),
+        (RULED.as_slice(), 58, [b'c', 2], value(59)),
+    ];
+    for (frame, at, bytes, want) in rows {
+        let mut changed = Vec::from_slice(rt.alloc(), frame)?;
+        assert!(rt; at + 1 < changed.len());
+        changed[at] = bytes[0];
+        changed[at + 1] = bytes[1];
+        assert_eq!(rt;
+            fault_of(rt.alloc(), &changed),
+            Some(EntryError::Fault(want)),
+            "at {at}"
+        );
+    }
+    Ok(())
+}
+
+#[test]
+fn measures_the_body_by_its_size(rt: HostRuntime) -> Result<(), Fail> {
+    let mut longer = Vec::from_slice(rt.alloc(), &PUT)?;
+    longer.push(0)?;
+    assert_eq!(rt; Entry::decode(rt.alloc(), &longer)?.1, 99);
+    assert_eq!(rt; longer.len(), 100);
+    longer[2] = 0x5c;
+    let trailing = EntryFault::Code(CodeFault::Trailing { at: 99 });
+    assert_eq!(rt;
+        fault_of(rt.alloc(), &longer),
+        Some(EntryError::Fault(trailing))
+    );
+    for len in 0..99 {
+        let short = EntryFault::Code(CodeFault::Cut(CutFault::Short { at: len }));
+        assert_eq!(rt;
+            fault_of(rt.alloc(), &PUT[..len]),
+            Some(EntryError::Fault(short))
+        );
+    }
+    let size = EntryFault::Size {
+        size: 281_474_976_710_655,
+    };
+    let large = [1, 0, 0xff, 0xff, 0xff, 0xff, 0xff, 0xff, 2, 0];
+    assert_eq!(rt; fault_of(rt.alloc(), &large), Some(EntryError::Fault(size)));
+    Ok(())
+}
+
+// The entries that a reader gives, and the fault that ends them, if one does.
+fn drain<S: Source>(
+    alloc: Global,
+    reader: &mut LedgerReader<S>,
+) -> Result<(Vec<u8>, Option<LedgerError>), AllocError> {
+    let mut frames = Vec::new(alloc);
+    for _ in 0..4 {
+        match reader.next() {
+            Ok(Some(entry)) => frames.extend_from_slice(&encoded(alloc, &entry)?)?,
+            Ok(None) => return Ok((frames, None)),
+            Err(fault) => return Ok((frames, Some(fault))),
+        }
+    }
+    Ok((frames, None))
+}
+
+fn ledger(alloc: Global) -> Result<Vec<u8>, AllocError> {
+    let mut bytes = Vec::new(alloc);
+    for frame in [PUT.as_slice(), SIGNED.as_slice(), RULED.as_slice()] {
+        bytes.extend_from_slice(frame)?;
+    }
+    Ok(bytes)
+}
+
+#[test]
+fn reads_a_ledger_in_any_pieces(rt: HostRuntime) -> Result<(), Fail> {
+    let bytes = ledger(rt.alloc())?;
+    for piece in [1, 7, 100, 1000] {
+        let mut reader = LedgerReader::new(rt.alloc(), MemSource::new(&bytes, piece, &[]));
+        let (frames, fault) = drain(rt.alloc(), &mut reader)?;
+        assert_eq!(rt;
+            (frames.as_slice(), fault),
+            (bytes.as_slice(), None),
+            "in pieces of {piece}"
+        );
+    }
+    Ok(())
+}
+
+#[test]
+fn tells_where_a_ledger_is_cut(rt: HostRuntime) -> Result<(), Fail> {
+    let bytes = ledger(rt.alloc())?;
+    for len in 0..bytes.len() {
+        let whole = match len {
+            0..99 => 0,
+            99..238 => 99,
+            _ => 238,
+        };
+        let short = EntryFault::Code(CodeFault::Cut(CutFault::Short { at: len - whole }));
+        let want = if len == whole {
+            None
+        } else {
+            Some(LedgerError::Fault(short))
+        };
+        let mut reader = LedgerReader::new(rt.alloc(), MemSource::new(&bytes[..len], 100, &[]));
+        let (frames, fault) = drain(rt.alloc(), &mut reader)?;
+        assert_eq!(rt;
+            (frames.as_slice(), fault),
+            (&bytes[..whole], want),
+            "cut at {len}"
+        );
+    }
+    Ok(())
+}
+
+#[test]
+fn goes_on_where_a_read_failed(rt: HostRuntime) -> Result<(), Fail> {
+    let bytes = ledger(rt.alloc())?;
+    for failing in 1..5 {
+        let failing = [failing];
+        let mut reader = LedgerReader::new(rt.alloc(), MemSource::new(&bytes, 90, &failing));
+        let (before, fault) = drain(rt.alloc(), &mut reader)?;
+        assert_eq!(rt; fault, Some(LedgerError::ReadFault));
+        assert_eq!(rt; reader.source.faults, 1);
+        let (behind, fault) = drain(rt.alloc(), &mut reader)?;
+        assert_eq!(rt; fault, None);
+        let mut frames = before;
+        frames.extend_from_slice(&behind)?;
+        assert_eq!(rt; frames.as_slice(), bytes.as_slice());
+    }
+    Ok(())
+}

@@ -1,0 +1,138 @@
+-- Taking a text apart, part by part.
+use Rattle.std.proofs.Common.{◌≡◌, ℕ, ◌+◌, ◌<◌, ◌≤◌, zero, suc, Some, None, List, [], ◌∷◌, ◌++◌, length, take, drop, get_or, Bool, true, false, refl, sym, ◌∙◌, ap, arith, append_assoc, append-nil, add-one, drop-cons, if◌then◌else◌, cond, ◌≢◌, ⊎_elim}
+use Rattle.std.proofs.Math.Dec.{eqb}
+use Rattle.std.proofs.lemmas.Bool.{eq-eqb}
+use Rattle.std.proofs.lemmas.Bool.Decides.{eqb_tells, nat_tests}
+use Rattle.std.proofs.lemmas.List.{take_more, take_all, drop-append-le, length-take-le}
+use Rattle.std.proofs.Math.ListN.{drop_of_length-le}
+use Rattle.std.specs.List.{position, position_or_len}
+use Rattle.std.proofs.lemmas.List.Sums.{fails_before_first}
+use Rattle.std.proofs.lemmas.List.Quantifiers.{position-Some}
+use Rattle.gl_lines.specs.Lines.{Split, with_line}
+use Rattle.gl_lines.specs.Words.{words_from, words_of, is_space}
+use Rattle.gl_lines.specs.Parts.{parts_from, parts_of, is_byte}
+
+-- the parts that were found, and those to be found
+abbrev pub with_parts : List (List ℕ) → Split → Split
+with_parts front split = record { lines = front ++ split.lines; open_line = split.open_line }
+
+pub with_no_parts : (split : Split) → with_parts [] split ≡ split
+with_no_parts split = refl
+
+with_one_more : (front : List (List ℕ)) (part : List ℕ) (split : Split) → with_parts front (with_line part split) ≡ with_parts (front ++ part ∷ []) split
+with_one_more front part split = ap (λ (parts : List (List ℕ)). record { lines = parts; open_line = split.open_line }) (sym (append_assoc front (part ∷ []) split.lines))
+
+-- the byte ends the part
+part_ends : (end : ℕ) (front : List (List ℕ)) (part : List ℕ) (byte : ℕ) (bytes : List ℕ) → is_byte end byte ≡ true →
+    with_parts front (parts_from end part (byte ∷ bytes)) ≡ with_parts (front ++ part ∷ []) (parts_from end [] bytes)
+part_ends end front part byte bytes e =
+    ap (λ (b : Bool). with_parts front (if b then with_line part (parts_from end [] bytes) else parts_from end (part ++ byte ∷ []) bytes)) e
+    ∙ with_one_more front part (parts_from end [] bytes)
+
+-- any other byte is one more of the part
+part_goes_on : (end : ℕ) (front : List (List ℕ)) (part : List ℕ) (byte : ℕ) (bytes : List ℕ) → is_byte end byte ≡ false →
+    with_parts front (parts_from end part (byte ∷ bytes)) ≡ with_parts front (parts_from end (part ++ byte ∷ []) bytes)
+part_goes_on end front part byte bytes e =
+    ap (λ (b : Bool). with_parts front (if b then with_line part (parts_from end [] bytes) else parts_from end (part ++ byte ∷ []) bytes)) e
+
+is_byte_true : (end byte : ℕ) → byte ≡ end → is_byte end byte ≡ true
+is_byte_true end byte e = eq-eqb byte end e
+
+is_byte_false : (end byte : ℕ) → (byte ≡ end → ⊥) → is_byte end byte ≡ false
+is_byte_false end byte n = ⊎_elim
+    (λ (t : (eqb byte end ≡ true) × (byte ≡ end)). absurd (n t.1))
+    (λ (f : (eqb byte end ≡ false) × (byte ≢ end)). f.0)
+    (eqb_tells byte end)
+
+-- one turn at the byte, which ends the part that began at a place
+pub end_step : (end : ℕ) (R : Split) (front front' : List (List ℕ)) (text : List ℕ) (start start' i : ℕ) →
+    i < length text → get_or text i 0 ≡ end → start' ≡ i + 1 → front' ≡ front ++ drop start (take i text) ∷ [] →
+    with_parts front (parts_from end (drop start (take i text)) (drop i text)) ≡ R →
+    with_parts front' (parts_from end (drop start' (take (i + 1) text)) (drop (i + 1) text)) ≡ R
+end_step end R front front' text start start' i within at begun taken so_far =
+    let here : drop i text ≡ get_or text i 0 ∷ drop (i + 1) text = rw add-one (drop-cons text i 0 within) in
+    ap (λ (f : List (List ℕ)). with_parts f (parts_from end (drop start' (take (i + 1) text)) (drop (i + 1) text))) taken
+    ∙ ap (λ (l : List ℕ). with_parts (front ++ drop start (take i text) ∷ []) (parts_from end l (drop (i + 1) text)))
+    (ap (λ (n : ℕ). drop n (take (i + 1) text)) begun ∙ drop_of_length-le (take (i + 1) text) (omega (arith, length-take-le (i + 1) text)))
+    ∙ sym (part_ends end front (drop start (take i text)) (get_or text i 0) (drop (i + 1) text) (is_byte_true end _ at))
+    ∙ ap (λ (d : List ℕ). with_parts front (parts_from end (drop start (take i text)) d)) (sym here)
+    ∙ so_far
+
+-- one turn at any other byte
+pub other_step : (end : ℕ) (R : Split) (front : List (List ℕ)) (text : List ℕ) (start i : ℕ) →
+    i < length text → (get_or text i 0 ≡ end → ⊥) → start ≤ i →
+    with_parts front (parts_from end (drop start (take i text)) (drop i text)) ≡ R →
+    with_parts front (parts_from end (drop start (take (i + 1) text)) (drop (i + 1) text)) ≡ R
+other_step end R front text start i within at begun so_far =
+    let here : drop i text ≡ get_or text i 0 ∷ drop (i + 1) text = rw add-one (drop-cons text i 0 within) in
+    let len : length (take i text) ≡ i = length-take-le i text (omega arith) in
+    ap (λ (l : List ℕ). with_parts front (parts_from end l (drop (i + 1) text)))
+    (ap (λ (t : List ℕ). drop start t) (take_more text i 0 within) ∙ drop-append-le start (take i text) (get_or text i 0 ∷ []) (omega arith))
+    ∙ sym (part_goes_on end front (drop start (take i text)) (get_or text i 0) (drop (i + 1) text) (is_byte_false end _ at))
+    ∙ ap (λ (d : List ℕ). with_parts front (parts_from end (drop start (take i text)) d)) (sym here)
+    ∙ so_far
+
+-- and at the end of the text the part that has begun is open
+pub last_step : (end : ℕ) (R : Split) (front : List (List ℕ)) (text : List ℕ) (start i : ℕ) → length text ≤ i →
+    with_parts front (parts_from end (drop start (take i text)) (drop i text)) ≡ R → R ≡ record { lines = front; open_line = drop start text }
+last_step end R front text start i past so_far =
+    sym so_far
+    ∙ ap (λ (d : List ℕ). with_parts front (parts_from end (drop start (take i text)) d)) (drop_of_length-le text past)
+    ∙ ap (λ (t : List ℕ). with_parts front (parts_from end (drop start t) [])) (take_all i text past)
+    ∙ ap (λ (parts : List (List ℕ)). record { lines = parts; open_line = drop start text }) (append-nil front)
+
+-- a first part behind which the byte stands
+part_before : (end : ℕ) (part text : List ℕ) (i : ℕ) → i < length text → ((k : ℕ) → k < i → is_byte end (get_or text k 0) ≡ false) → is_byte end (get_or text i 0) ≡ true →
+    parts_from end part text ≡ with_line (part ++ take i text) (parts_of end (drop 1 (drop i text)))
+part_before end part [] i within before at = absurd (omega arith)
+part_before end part (byte ∷ bytes) zero within before at =
+    ap (λ (b : Bool). if b then with_line part (parts_from end [] bytes) else parts_from end (part ++ byte ∷ []) bytes) at
+    ∙ ap (λ (p : List ℕ). with_line p (parts_of end bytes)) (sym (append-nil part))
+part_before end part (byte ∷ bytes) (suc i) within before at =
+    ap (λ (b : Bool). if b then with_line part (parts_from end [] bytes) else parts_from end (part ++ byte ∷ []) bytes) (before 0 (omega arith))
+    ∙ part_before end (part ++ byte ∷ []) bytes i (omega arith) (λ k below. before (suc k) (omega arith)) at
+    ∙ ap (λ (p : List ℕ). with_line p (parts_of end (drop 1 (drop i bytes)))) (append_assoc part (byte ∷ []) (take i bytes))
+
+-- and an open part alone
+open_part : (end : ℕ) (part text : List ℕ) → ((k : ℕ) → k < length text → is_byte end (get_or text k 0) ≡ false) →
+    parts_from end part text ≡ record { lines = []; open_line = part ++ text }
+open_part end part [] none = ap (λ (p : List ℕ). record { lines = []; open_line = p }) (sym (append-nil part))
+open_part end part (byte ∷ bytes) none =
+    ap (λ (b : Bool). if b then with_line part (parts_from end [] bytes) else parts_from end (part ++ byte ∷ []) bytes) (none 0 (omega arith))
+    ∙ open_part end (part ++ byte ∷ []) bytes (λ k below. none (suc k) (omega arith))
+    ∙ ap (λ (p : List ℕ). record { lines = []; open_line = p }) (append_assoc part (byte ∷ []) bytes)
+
+pub first_part_found : (end : ℕ) (text : List ℕ) (i : ℕ) → position (is_byte end) text ≡ Some i → parts_of end text ≡ with_line (take i text) (parts_of end (drop 1 (drop i text)))
+first_part_found end text i e =
+    let there = position-Some (is_byte end) text i 0 e in
+    part_before end [] text i there.0 there.2 there.1
+
+not_found : (b : Bool) (n : ℕ) → cond b (Some n) None ≡ None → b ≡ false
+not_found true n e = cc
+not_found false n e = refl
+
+pub first_part_open : (end : ℕ) (text : List ℕ) → position (is_byte end) text ≡ None → parts_of end text ≡ record { lines = []; open_line = text }
+first_part_open end text e =
+    let none : length text ≤ position_or_len (is_byte end) text = grind (arith, nat_tests, not_found _ _ e) in
+    open_part end [] text (λ k below. fails_before_first (is_byte end) text k 0 (omega arith))
+
+-- the words of a line are the parts that a space ends, and the last
+abbrev pub all_parts : Split → List (List ℕ)
+all_parts split = split.lines ++ split.open_line ∷ []
+
+all_parts_cond : (b : Bool) (word : List ℕ) (s t : Split) → all_parts (if b then with_line word s else t) ≡ (if b then word ∷ all_parts s else all_parts t)
+all_parts_cond true word s t = refl
+all_parts_cond false word s t = refl
+
+pub words_are_parts : (word text : List ℕ) → words_from word text ≡ all_parts (parts_from 32 word text)
+words_are_parts word [] = refl
+words_are_parts word (byte ∷ bytes) =
+    ap (λ (ws : List (List ℕ)). if is_space byte then word ∷ ws else words_from (word ++ byte ∷ []) bytes) (words_are_parts [] bytes)
+    ∙ ap (λ (ws : List (List ℕ)). if is_space byte then word ∷ all_parts (parts_from 32 [] bytes) else ws) (words_are_parts (word ++ byte ∷ []) bytes)
+    ∙ sym (all_parts_cond (is_space byte) word (parts_from 32 [] bytes) (parts_from 32 (word ++ byte ∷ []) bytes))
+
+pub last_word : (text : List ℕ) → parts_of 32 text ≡ record { lines = []; open_line = text } → words_of text ≡ text ∷ []
+last_word text e = words_are_parts [] text ∙ ap all_parts e
+
+pub next_word : (text word rest : List ℕ) → parts_of 32 text ≡ with_line word (parts_of 32 rest) → words_of text ≡ word ∷ words_of rest
+next_word text word rest e = words_are_parts [] text ∙ ap all_parts e ∙ ap (λ (ws : List (List ℕ)). word ∷ ws) (sym (words_are_parts [] rest))

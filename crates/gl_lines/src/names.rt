@@ -1,0 +1,113 @@
+//! What single words spell: the names of maps, keys and values.
+
+ghost use Rattle.std.specs.Prelude.{◌≡◌};
+ghost use Rattle.std.specs.List.{list_all};
+ghost use Rattle.gl_vmaps.specs.Name.{is_map_name, is_key, is_value};
+ghost use Rattle.gl_lines.specs.Stops.{Gives};
+ghost use Rattle.gl_lines.specs.Words.{is_lower_digit, hex_bytes, hex_sized, value_bytes};
+ghost use Rattle.gl_lines.specs.Reading.{checked, map_of, key_of, value_of, expected_of};
+
+use crate::stop::Stop;
+use gl_vmaps::{Key, MapName, Value};
+use hex::FromHex;
+use std::alloc::Global;
+
+fn is_lower_hex(text: &[u8]) -> bool
+    ensures { result ≡ list_all is_lower_digit text.now }
+{
+    text.iter().all(|byte| (48 <= *byte && *byte <= 57) || (97 <= *byte && *byte <= 102))
+}
+
+/// The bytes of lower-case hexadecimal digits.
+fn hex_bytes(alloc: Global, text: &[u8]) -> Result<Vec<u8>, Stop>
+    ensures { Gives (λ bytes. bytes.items) result (hex_bytes text.now) }
+{
+    if !is_lower_hex(text) {
+        return Err(Stop::NoReading);
+    }
+    match hex::decode(alloc, text) {
+        Ok(bytes) => Ok(bytes),
+        Err(hex::FromHexError::OutOfMemory) => Err(Stop::Memory),
+        Err(_) => Err(Stop::NoReading),
+    }
+}
+
+/// The 32 bytes that lower-case hexadecimal digits spell.
+pub(crate) fn seed_of(text: &[u8]) -> Option<[u8; 32]>
+    ensures { result ≡ hex_sized text.now 32 }
+{
+    if !is_lower_hex(text) {
+        return None;
+    }
+    match <[u8; 32] as FromHex>::from_hex(text) {
+        Ok(seed) => Some(seed),
+        Err(_) => None,
+    }
+}
+
+/// The bytes of a value, of which a full stop spells none.
+fn value_bytes(alloc: Global, text: &[u8]) -> Result<Vec<u8>, Stop>
+    ensures { Gives (λ bytes. bytes.items) result (value_bytes text.now) }
+{
+    if text == b".".as_slice() {
+        Ok(Vec::new(alloc))
+    } else if text.is_empty() {
+        Err(Stop::NoReading)
+    } else {
+        hex_bytes(alloc, text)
+    }
+}
+
+/// The name of a map, which is the word itself.
+pub(crate) fn map_of(alloc: Global, word: &[u8]) -> Result<MapName, Stop>
+    ensures { Gives (λ x. x) result (map_of word.now) }
+{
+    match MapName::new(Vec::from_slice(alloc, word)?) {
+        Some(name) => Ok(name),
+        None => Err(Stop::NoReading),
+    }
+}
+
+fn checked_key(bytes: Vec<u8>) -> Result<Key, Stop>
+    ensures { Gives (λ x. x) result (checked is_key bytes.items) }
+{
+    match Key::new(bytes) {
+        Some(key) => Ok(key),
+        None => Err(Stop::NoReading),
+    }
+}
+
+#[tactic(auto, unfolding(crate::specs::Reading::key_of))]
+pub(crate) fn key_of(alloc: Global, word: &[u8]) -> Result<Key, Stop>
+    ensures { Gives (λ x. x) result (key_of word.now) }
+{
+    checked_key(hex_bytes(alloc, word)?)
+}
+
+fn checked_value(bytes: Vec<u8>) -> Result<Value, Stop>
+    ensures { Gives (λ x. x) result (checked is_value bytes.items) }
+{
+    match Value::new(bytes) {
+        Some(value) => Ok(value),
+        None => Err(Stop::NoReading),
+    }
+}
+
+#[tactic(auto, unfolding(crate::specs::Reading::value_of))]
+pub(crate) fn value_of(alloc: Global, word: &[u8]) -> Result<Value, Stop>
+    ensures { Gives (λ x. x) result (value_of word.now) }
+{
+    checked_value(value_bytes(alloc, word)?)
+}
+
+/// A value, or none where the word is a hyphen.
+#[tactic(auto, unfolding(crate::specs::Reading::expected_of))]
+pub(crate) fn expected_of(alloc: Global, word: &[u8]) -> Result<Option<Value>, Stop>
+    ensures { Gives (λ x. x) result (expected_of word.now) }
+{
+    if word == b"-".as_slice() {
+        Ok(None)
+    } else {
+        Ok(Some(value_of(alloc, word)?))
+    }
+}

@@ -1,0 +1,154 @@
+-- Which entries fit their format: those whose fields are in their ranges and whose body is small enough.
+use Rattle.std.proofs.Common.{◌≡◌, ℕ, ◌+◌, ◌<◌, ◌≤◌, ◌^◌, ◌==◌, nat_lt, nat_le, List, [], ◌∷◌, ◌++◌, length, Option, Some, None, Bool, true, ◌&&◌, ◌||◌, refl, ◌∙◌, ap, arith, length-append}
+use Rattle.std.specs.List.{list_all, flat_map, AllByRecursion}
+use Rattle.std.specs.Cmp.Lexicographic.{bytes_decides}
+use Rattle.std.proofs.lemmas.Bool.{and_from}
+use Rattle.std.proofs.lemmas.Bool.Decides.{nat_tests}
+use Rattle.gl_base.specs.LittleEndian.{little_endian, AreBytes}
+use Rattle.gl_base.specs.Field.{are_bytes}
+use Rattle.gl_base.proofs.LittleEndianLaws.{length-little_endian}
+use Rattle.gl_vmaps.specs.Writes.{is_write, is_ordered}
+use Rattle.gl_vmaps.specs.Fields.{write_bytes, map_bytes, key_bytes, optional_value_bytes}
+use Rattle.gl_vmaps.specs.declared.write.Write.{Write}
+use Rattle.gl_vmaps.proofs.Bytes.{are_bytes-true}
+use Rattle.gl_vmaps.proofs.WriteLaws.{list_all-from_writes}
+use Rattle.gl_entry.specs.Entry.{no_digest, content_bytes, body_bytes, body_limit, kind_tag, is_digest, is_recorded_signature, is_content, may_write, may_claim, are_no_writes, is_no_digest, is_entry}
+use Rattle.gl_entry.specs.declared.entry.Signature as signatures
+use Rattle.gl_entry.specs.declared.entry.Content.TheVariants as content
+use Rattle.gl_entry.specs.declared.entry.Entry.{Entry}
+
+-- ---- sizes
+
+-- each write has a byte at least
+optional_value_some : (o : Option (List ℕ)) → 1 ≤ length (optional_value_bytes o)
+optional_value_some None = omega arith
+optional_value_some (Some value) = omega arith
+
+few_in : (ws : List Write) → length ws ≤ length (flat_map write_bytes ws)
+few_in [] = omega arith
+few_in (w ∷ ws) =
+    let rest : length ws ≤ length (flat_map write_bytes ws) = few_in ws in
+    let one : 1 ≤ length (optional_value_bytes w.value) = optional_value_some w.value in
+    let first : length (write_bytes w) ≡ length (map_bytes w.map ++ key_bytes w.key) + length (optional_value_bytes w.value) =
+    length-append (map_bytes w.map ++ key_bytes w.key) (optional_value_bytes w.value) in
+    let all : length (write_bytes w ++ flat_map write_bytes ws) ≡ length (write_bytes w) + length (flat_map write_bytes ws) = length-append (write_bytes w) (flat_map write_bytes ws) in
+    omega arith
+
+body_length : (view place tag count : ℕ) (recorded writes claims : List ℕ) →
+    length (little_endian 4 view ++ little_endian 8 place ++ (tag ∷ little_endian 4 (length recorded) ++ recorded) ++ little_endian 4 count ++ writes ++ claims)
+    ≡ 21 + length recorded + length writes + length claims
+body_length view place tag count recorded writes claims = simp (length-append, length-little_endian) (omega arith)
+
+-- a body has 21 bytes beside what it records, its writes and its claims
+pub length-body_bytes : (e : Entry) → length (body_bytes e) ≡ 21 + length (content_bytes e.content) + length (flat_map write_bytes e.writes) + length e.claims
+length-body_bytes e = body_length e.view e.seqno (kind_tag e.content) (length e.writes) (content_bytes e.content) (flat_map write_bytes e.writes) e.claims
+
+-- what it records, and how many writes it has, are no more than its bytes
+pub content_within : (e : Entry) → length (content_bytes e.content) ≤ length (body_bytes e)
+content_within e = omega (arith, length-body_bytes e)
+
+pub writes_within : (e : Entry) → length e.writes ≤ length (body_bytes e)
+writes_within e = omega (arith, length-body_bytes e, few_in e.writes)
+
+-- ---- ranges
+
+pub is_digest-from : (xs : List ℕ) → length xs ≡ 32 → AreBytes xs → is_digest xs ≡ true
+is_digest-from xs long all =
+    let size : (length xs == 32) ≡ true = grind (arith, nat_tests) in
+    and_from (length xs == 32) (are_bytes xs) size (are_bytes-true xs all)
+
+-- the fields of an entry are in their ranges
+pub record HasFields (e : Entry) : Type 0 where
+  pub view : e.view < 2 ^ 32
+  pub seqno : e.seqno < 2 ^ 64
+  pub recorded : is_content e.content ≡ true
+  pub limits : list_all is_write e.writes ≡ true
+  pub ordered : is_ordered e.writes ≡ true
+  pub writes : (may_write e.content || are_no_writes e.writes) ≡ true
+  pub digest : is_digest e.claims ≡ true
+  pub claims : (may_claim e.content || is_no_digest e.claims) ≡ true
+
+-- such an entry fits its format where its body is small enough
+pub is_entry-from_fields : (e : Entry) → HasFields e → length (body_bytes e) ≤ body_limit → is_entry e ≡ true
+is_entry-from_fields e h small =
+    let view : nat_lt e.view (2 ^ 32) ≡ true = grind (arith, nat_tests, h.view) in
+    let seqno : nat_lt e.seqno (2 ^ 64) ≡ true = grind (arith, nat_tests, h.seqno) in
+    let size : nat_le (length (body_bytes e)) body_limit ≡ true = grind (arith, nat_tests) in
+    all_of (nat_lt e.view (2 ^ 32)) (nat_lt e.seqno (2 ^ 64)) (is_content e.content) (list_all is_write e.writes) (is_ordered e.writes)
+    (may_write e.content || are_no_writes e.writes) (is_digest e.claims) (may_claim e.content || is_no_digest e.claims) (nat_le (length (body_bytes e)) body_limit)
+    view seqno h.recorded h.limits h.ordered h.writes h.digest h.claims size
+  where
+    all_of : (a b c d f g i j k : Bool) → a ≡ true → b ≡ true → c ≡ true → d ≡ true → f ≡ true → g ≡ true → i ≡ true → j ≡ true → k ≡ true →
+        (a && b && c && d && f && g && i && j && k) ≡ true
+    all_of a b c d f g i j k pa pb pc pd pf pg pi pj pk = rw (pa, pb, pc, pd, pf, pg, pi, pj, pk) refl
+
+-- ---- the entries that a store makes
+
+no_digest_digest : is_digest no_digest ≡ true
+no_digest_digest = refl
+
+pub governance_fits : (view place : ℕ) (bytes : List ℕ) (ws : List Write) (claims : List ℕ) → view < 2 ^ 32 → place < 2 ^ 64 → are_bytes bytes ≡ true →
+    AllByRecursion (λ (w : Write). is_write w ≡ true) ws → is_ordered ws ≡ true → claims ≡ no_digest →
+    HasFields (record { view = view; seqno = place; content = content.Governance bytes; writes = ws; claims = claims })
+governance_fits view place bytes ws claims low fits all limits ordered none = record {
+  view = low;
+  seqno = fits;
+  recorded = all;
+  limits = list_all-from_writes ws limits;
+  ordered = ordered;
+  writes = refl;
+  digest = ap is_digest none ∙ no_digest_digest;
+  claims = (bytes_decides claims no_digest).1 none;
+}
+
+pub application_fits : (view place : ℕ) (bytes : List ℕ) (ws : List Write) (claims : List ℕ) → view < 2 ^ 32 → place < 2 ^ 64 → are_bytes bytes ≡ true →
+    AllByRecursion (λ (w : Write). is_write w ≡ true) ws → is_ordered ws ≡ true → length claims ≡ 32 → AreBytes claims →
+    HasFields (record { view = view; seqno = place; content = content.Application bytes; writes = ws; claims = claims })
+application_fits view place bytes ws claims low fits all limits ordered long digest = record {
+  view = low;
+  seqno = fits;
+  recorded = all;
+  limits = list_all-from_writes ws limits;
+  ordered = ordered;
+  writes = refl;
+  digest = is_digest-from claims long digest;
+  claims = refl;
+}
+
+recorded_signature : (node root : List ℕ) (commit : ℕ) → length node ≡ 32 → AreBytes node → commit < 2 ^ 64 → length root ≡ 32 → AreBytes root →
+    is_recorded_signature (record { node = node; commit = commit; root = root; signature = [] }) ≡ true
+recorded_signature node root commit node_long node_bytes fits root_long root_bytes =
+    let number : nat_lt commit (2 ^ 64) ≡ true = grind (arith, nat_tests) in
+    and_from (is_digest node && nat_lt commit (2 ^ 64) && is_digest root) true
+    (and_from (is_digest node && nat_lt commit (2 ^ 64)) (is_digest root)
+    (and_from (is_digest node) (nat_lt commit (2 ^ 64)) (is_digest-from node node_long node_bytes) number)
+    (is_digest-from root root_long root_bytes)) refl
+
+-- a signature that is still empty has a body of 129 bytes
+pub signature_fits : (view place commit : ℕ) (node root claims : List ℕ) → view < 2 ^ 32 → place < 2 ^ 64 → commit < 2 ^ 64 → length node ≡ 32 → AreBytes node →
+    length root ≡ 32 → AreBytes root → claims ≡ no_digest →
+    is_entry (record {
+      view = view;
+      seqno = place;
+      content = content.Signature (record { node = node; commit = commit; root = root; signature = [] });
+      writes = [];
+      claims = claims;
+    }) ≡ true
+signature_fits view place commit node root claims low fits number node_long node_bytes root_long root_bytes none =
+    let s : signatures.Signature = record { node = node; commit = commit; root = root; signature = [] } in
+    let e : Entry = record { view = view; seqno = place; content = content.Signature s; writes = []; claims = claims } in
+    let recorded : length (node ++ little_endian 8 commit ++ root ++ (little_endian 4 0 ++ [])) ≡ length node + 8 + length root + 4 =
+    simp (length-append, length-little_endian) (omega arith) in
+    let long : length claims ≡ 32 = ap length none in
+    is_entry-from_fields e
+    (record {
+      view = low;
+      seqno = fits;
+      recorded = recorded_signature node root commit node_long node_bytes number root_long root_bytes;
+      limits = refl;
+      ordered = refl;
+      writes = refl;
+      digest = ap is_digest none ∙ no_digest_digest;
+      claims = (bytes_decides claims no_digest).1 none;
+    })
+    (omega (arith, length-body_bytes e, recorded))

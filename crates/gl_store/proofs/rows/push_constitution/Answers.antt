@@ -1,9 +1,0 @@
-use Rattle.std.proofs.Common.{ℕ, List, [], ◌∷◌}
-use Rattle.gl_store.specs.Genesis.{rule_row}
-use Rattle.gl_store.proofs.Lists.{push-map}
-use Rattle.gl_store.proofs.rows.push_constitution.Goals as goal
-
-pub loop-action-preserved : goal.loop-action-preserved
-loop-action-preserved c =
-    let actions : List ℕ = 1 ∷ 2 ∷ 3 ∷ 4 ∷ 5 ∷ 6 ∷ 7 ∷ [] in
-    push-map rule_row actions c.loop-action.action-index 0 _ _ _ _ c.loop-action-test.true c.in_ok-rule_row.ensures c.in_ok-push.ensures.items c.loop-action.invariant

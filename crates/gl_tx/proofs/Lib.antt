@@ -1,0 +1,9 @@
+pub mod Writing
+pub mod Values
+pub mod RunLaws
+pub mod Readings
+pub mod Repeated
+pub mod Fields
+pub mod Operations
+pub mod Replies
+pub mod Formats

@@ -1,0 +1,34 @@
+-- A run as far as it has come, and what is left of it.
+use Rattle.std.proofs.Common.{◌≡◌, ℕ, suc, ◌+◌, ◌<◌, List, [], ◌∷◌, ◌++◌, Result, Ok, Err, refl, sym, ◌∙◌, ap, append_assoc, length, drop, drop-cons, get_or, add-one}
+use Rattle.gl_vmaps.specs.Tables.{Tables}
+use Rattle.gl_vmaps.specs.declared.write.Write.{Write}
+use Rattle.gl_tx.specs.Run.{Ran, answered_first, run_from}
+use Rattle.gl_tx.specs.Runs.{Aborts}
+use Rattle.gl_tx.specs.declared.running.RunError.{RunError}
+use Rattle.gl_tx.specs.declared.running.RunError.TheVariants as errors
+use Rattle.gl_tx.specs.declared.request.Operation.{Operation}
+use Rattle.gl_tx.specs.declared.request.Answer.{Answer}
+use Rattle.gl_tx.specs.declared.request.Abort.{Abort}
+
+-- the answers so far before those of a run of the rest
+abbrev pub answered_so_far : List Answer → Result Ran Abort → Result Ran Abort
+answered_so_far answers (Ok ran) = Ok (record ran { answers = answers ++ ran.answers })
+answered_so_far answers (Err abort) = Err abort
+
+pub answered_so_far-push : (answers : List Answer) (answer : Answer) (r : Result Ran Abort) →
+    answered_so_far (answers ++ answer ∷ []) r ≡ answered_so_far answers (answered_first answer r)
+answered_so_far-push answers answer (Ok ran) = ap (λ (xs : List Answer). Ok (record ran { answers = xs })) (append_assoc answers (answer ∷ []) ran.answers)
+answered_so_far-push answers answer (Err abort) = refl
+
+-- where the operation that is next fails, the whole request does
+pub aborted_next : (answers : List Answer) (operations : List Operation) (operation : Operation) (i : ℕ) (t : Tables) (ws : List Write) (total : Result Ran Abort) (e : RunError) →
+    i < length operations → operation ≡ get_or operations i operation →
+    answered_so_far answers (run_from (suc i) (drop i operations) t ws) ≡ total →
+    ((rest : List Operation) → Aborts (run_from (i + 1) (operation ∷ rest) t ws) e) → Aborts total e
+aborted_next answers operations operation i t ws total errors.NoMemory within is told fails = tt
+aborted_next answers operations operation i t ws total (errors.Aborted abort) within is told fails =
+    let next : drop i operations ≡ operation ∷ drop (suc i) operations =
+    drop-cons operations i operation within ∙ ap (λ (o : Operation). o ∷ drop (suc i) operations) (sym is) in
+    sym told ∙ ap (λ (os : List Operation). answered_so_far answers (run_from (suc i) os t ws)) next
+    ∙ ap (λ (n : ℕ). answered_so_far answers (run_from n (operation ∷ drop (suc i) operations) t ws)) (sym (add-one i))
+    ∙ ap (answered_so_far answers) (fails (drop (suc i) operations))

@@ -1,0 +1,9 @@
+pub mod Bytes
+pub mod Names
+pub mod Scans
+pub mod TablesLaws
+pub mod Places
+pub mod Changes
+pub mod Sizes
+pub mod WriteLaws
+pub mod FieldLaws

@@ -1,0 +1,233 @@
+//! The limits, the bytes and the tables against values worked out by hand.
+
+ghost use Rattle.std.specs.Prelude.{ℕ, ◌<◌};
+ghost use Rattle.gl_vmaps.specs.Versions.{IsAbove};
+
+use crate::{
+    Key, MapName, Tables, Value, Write, Writes, put_optional_value, put_write, read_key, read_map,
+    read_optional_value, read_value,
+};
+use gl_base::{CodeError, CodeFault, Cut, CutFault};
+use std::alloc::{AllocError, Global};
+use std::test::Fail;
+
+fn repeated(alloc: Global, byte: u8, count: usize) -> Result<Vec<u8>, AllocError> {
+    let mut bytes = Vec::new(alloc);
+    for _ in 0..count {
+        bytes.push(byte)?;
+    }
+    Ok(bytes)
+}
+
+fn map_name(alloc: Global, map: &[u8]) -> Result<MapName, Fail> {
+    let map = MapName::new(Vec::from_slice(alloc, map)?).ok_or("no name of a map")?;
+    Ok(map)
+}
+
+fn value(alloc: Global, value: &[u8]) -> Result<Value, Fail> {
+    let value = Value::new(Vec::from_slice(alloc, value)?).ok_or("no value")?;
+    Ok(value)
+}
+
+// A row set to a value.
+fn set(alloc: Global, map: &[u8], key: &[u8], to: &[u8]) -> Result<Write, Fail> {
+    let key = Key::new(Vec::from_slice(alloc, key)?).ok_or("no key")?;
+    Ok(Write {
+        map: map_name(alloc, map)?,
+        key,
+        value: Some(value(alloc, to)?),
+    })
+}
+
+// A row removed.
+fn removed(alloc: Global, map: &[u8], key: &[u8]) -> Result<Write, Fail> {
+    let key = Key::new(Vec::from_slice(alloc, key)?).ok_or("no key")?;
+    Ok(Write {
+        map: map_name(alloc, map)?,
+        key,
+        value: None,
+    })
+}
+
+fn has_value(tables: &Tables, map: &[u8], key: &[u8], value: &[u8]) -> bool {
+    match tables.get(map, key) {
+        None => false,
+        Some(held) => held == value,
+    }
+}
+
+// One more entry, behind which others may come.
+fn apply(tables: &mut Tables, place: u64, writes: &Writes) -> Result<(), AllocError>
+    requires { IsAbove place tables.old }
+    ensures { (later : ℕ) → place < later → IsAbove later tables.new }
+{
+    tables.apply(place, writes)
+}
+
+// The tables of these entries:
+//     1   a = one in public:x, b = one in public:y
+//     2   a = two in public:x, c = no bytes in public:x
+//     4   a is removed from public:x
+fn worked(alloc: Global) -> Result<Tables, Fail> {
+    let mut tables = Tables::new(alloc);
+    let mut first = Writes::new(alloc);
+    first.put(set(alloc, b"public:x", b"a", b"one")?)?;
+    first.put(set(alloc, b"public:y", b"b", b"one")?)?;
+    apply(&mut tables, 1, &first)?;
+    let mut second = Writes::new(alloc);
+    second.put(set(alloc, b"public:x", b"a", b"two")?)?;
+    second.put(set(alloc, b"public:x", b"c", b"")?)?;
+    apply(&mut tables, 2, &second)?;
+    let mut third = Vec::new(alloc);
+    third.push(removed(alloc, b"public:x", b"a")?)?;
+    apply(&mut tables, 4, &Writes::of(third))?;
+    Ok(tables)
+}
+
+#[test]
+fn keeps_names_keys_and_values_within_their_limits(rt: HostRuntime) -> Result<(), Fail> {
+    for (byte, count, want) in [
+        (b'a', 0, false),
+        (b'a', 1, true),
+        (b'a', 128, true),
+        (b'a', 129, false),
+        (b' ', 1, false),
+        (b'!', 1, true),
+        (b'~', 1, true),
+        (0x7f, 1, false),
+    ] {
+        let map = MapName::new(repeated(rt.alloc(), byte, count)?);
+        assert_eq!(rt; map.is_some(), want, "{count} times {byte}");
+    }
+    for (count, want) in [(0, false), (1, true), (1024, true), (1025, false)] {
+        let key = Key::new(repeated(rt.alloc(), 0, count)?);
+        assert_eq!(rt; key.is_some(), want, "a key of {count}");
+    }
+    for (count, want) in [(0, true), (65536, true), (65537, false)] {
+        let value = Value::new(repeated(rt.alloc(), 0, count)?);
+        assert_eq!(rt; value.is_some(), want, "a value of {count}");
+    }
+    Ok(())
+}
+
+#[test]
+fn spells_a_write_and_reads_it_again(rt: HostRuntime) -> Result<(), Fail> {
+    let mut out = Vec::new(rt.alloc());
+    put_write(&mut out, &set(rt.alloc(), b"public:a", b"k", b"vw")?)?;
+    let spelled = b"\x08public:a\x01\x00k\x01\x02\x00\x00\x00vw";
+    assert_eq!(rt; out.as_slice(), spelled.as_slice());
+    put_optional_value(&mut out, None)?;
+
+    let mut cut = Cut::new(&out);
+    let map = read_map(rt.alloc(), &mut cut)?;
+    assert_eq!(rt; map.as_slice(), b"public:a".as_slice());
+    let key = read_key(rt.alloc(), &mut cut)?;
+    assert_eq!(rt; key.as_slice(), b"k".as_slice());
+    let value = read_optional_value(rt.alloc(), &mut cut)?.ok_or("no value")?;
+    assert_eq!(rt; value.as_slice(), b"vw".as_slice());
+    assert!(rt; read_optional_value(rt.alloc(), &mut cut)?.is_none());
+    assert_eq!(rt; cut.rest().len(), 0);
+    Ok(())
+}
+
+#[test]
+fn tells_which_field_is_wrong(rt: HostRuntime) {
+    let rows: [(&[u8], CodeFault); 4] = [
+        (b"\x00", CodeFault::Value { at: 0 }),
+        (b"\x02a ", CodeFault::Cut(CutFault::NotText { at: 2 })),
+        (
+            b"\x81",
+            CodeFault::Cut(CutFault::TooLong { at: 0, len: 129 }),
+        ),
+        (b"\x02a", CodeFault::Cut(CutFault::Short { at: 2 })),
+    ];
+    for (bytes, want) in rows {
+        match read_map(rt.alloc(), &mut Cut::new(bytes)) {
+            Ok(_) => panic!(&rt; "read {bytes:?}"),
+            Err(e) => assert_eq!(rt; e, CodeError::Fault(want), "of {bytes:?}"),
+        }
+    }
+    match read_value(rt.alloc(), &mut Cut::new(b"\x01\x00\x01\x00")) {
+        Ok(_) => panic!(&rt; "read a value that is too long"),
+        Err(e) => assert_eq!(rt;
+            e,
+            CodeError::Fault(CodeFault::Cut(CutFault::TooLong { at: 0, len: 65537 }))
+        ),
+    }
+    match read_optional_value(rt.alloc(), &mut Cut::new(b"\x02")) {
+        Ok(_) => panic!(&rt; "read a flag 2"),
+        Err(e) => assert_eq!(rt; e, CodeError::Fault(CodeFault::Value { at: 0 })),
+    }
+}
+
+#[test]
+fn keeps_the_last_write_to_each_row_in_order(rt: HostRuntime) -> Result<(), Fail> {
+    let mut writes = Writes::new(rt.alloc());
+    writes.put(set(rt.alloc(), b"public:y", b"a", b"1")?)?;
+    writes.put(set(rt.alloc(), b"public:x", b"b", b"2")?)?;
+    writes.put(set(rt.alloc(), b"public:x", b"aa", b"3")?)?;
+    writes.put(removed(rt.alloc(), b"public:x", b"b")?)?;
+    let rows: [(&[u8], &[u8], bool); 3] = [
+        (b"public:x", b"aa", true),
+        (b"public:x", b"b", false),
+        (b"public:y", b"a", true),
+    ];
+    assert_eq!(rt; writes.as_slice().len(), rows.len());
+    for (write, (map, key, is_set)) in writes.as_slice().iter().zip(rows) {
+        assert_eq!(rt; write.map.as_slice(), map);
+        assert_eq!(rt; write.key.as_slice(), key);
+        assert_eq!(rt; write.value.is_some(), is_set);
+    }
+    Ok(())
+}
+
+#[test]
+fn answers_by_the_entries_so_far(rt: HostRuntime) -> Result<(), Fail> {
+    let mut tables = worked(rt.alloc())?.copy()?;
+    let x = b"public:x".as_slice();
+    assert!(rt; !tables.has(x, b"a"));
+    assert!(rt; has_value(&tables, x, b"c", b""));
+    assert!(rt; has_value(&tables, b"public:y", b"b", b"one"));
+    assert_eq!(rt;
+        (
+            tables.size(x),
+            tables.size(b"public:y"),
+            tables.size(b"public:z")
+        ),
+        (1, 1, 0)
+    );
+    assert_eq!(rt;
+        (
+            tables.version_of(x, b"a"),
+            tables.version_of(x, b"c"),
+            tables.version_of(x, b"d")
+        ),
+        (4, 2, 0)
+    );
+    assert_eq!(rt;
+        (
+            tables.map_version(x),
+            tables.map_version(b"public:y"),
+            tables.map_version(b"public:z")
+        ),
+        (4, 1, 0)
+    );
+
+    tables.cut(3);
+    assert!(rt; has_value(&tables, x, b"a", b"two"));
+    assert_eq!(rt;
+        (
+            tables.size(x),
+            tables.version_of(x, b"a"),
+            tables.map_version(x)
+        ),
+        (2, 2, 2)
+    );
+    tables.cut(1);
+    assert!(rt; has_value(&tables, x, b"a", b"one"));
+    assert_eq!(rt; (tables.size(x), tables.version_of(x, b"c")), (1, 0));
+    tables.cut(0);
+    assert!(rt; tables.get(x, b"a").is_none());
+    assert_eq!(rt; (tables.size(x), tables.map_version(x)), (0, 0));
+    Ok(())
+}

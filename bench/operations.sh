@@ -65,7 +65,9 @@ for count in (10_000, 20_000, 40_000):
     print(f"{count:,} mixed lines {time:.3f} s" + (f", ratio {time / last:.1f}" if last else ""))
     last = time
 
-puts = [WORLD] + [f"submit 1 put public:t {n:02x} " + "5a" * 65536 for n in range(64)]
+# (random values, as od writes lines that repeat as one)
+draw = random.Random(2)
+puts = [WORLD] + [f"submit 1 put public:t {n:02x} {draw.randbytes(65536).hex()}" for n in range(64)]
 without, _ = replay(puts)
 with_ledger, lines = replay(puts + ["ledger 1"])
 frames = b"".join(bytes.fromhex(line.split(" ")[2]) for line in lines if line.startswith("entry "))

@@ -24,7 +24,7 @@ part (Err fault) = Err (Code fault)
 abbrev pub entry_field : {X : Type 0} → Result X CutFault → Result X EntryFault
 entry_field read = part (field read)
 
--- The place behind what was read, and all of it must be so.
+-- What was read, where a condition on it holds, or else this fault.
 abbrev pub required : {X : Type 0} → Bool → EntryFault → X → Result X EntryFault
 required holds fault x = if holds then Ok x else Err fault
 

@@ -106,6 +106,8 @@ impl<S: Source> LedgerReader<S> {
         ensures none { result ≡ Ok None → (S.ended self.new.source ≡ true) × (self.new.kept ≡ []) }
         ensures fault { (f : Fault) → result ≡ Err (LedgerError.Fault f) → IfSome (to_read self.old.kept (S.left self.old.source)) (λ bytes.
             (next_entry bytes ≡ Err f) × (to_read self.new.kept (S.left self.new.source) ≡ Some bytes)) }
+        // A fault is that of the bytes that are kept, also where the source doesn't tell what it has left.
+        ensures refused { (f : Fault) → result ≡ Err (LedgerError.Fault f) → next_entry self.new.kept ≡ Err f }
         ensures err { OnErr result (Keeps (to_read self.old.kept (S.left self.old.source)) (to_read self.new.kept (S.left self.new.source))) }
         ensures failed { result ≡ Err LedgerError.ReadFault → Rose (S.faults self.old.source) (S.faults self.new.source) }
         ensures never_falls { S.faults self.old.source ≤ S.faults self.new.source }

@@ -44,6 +44,41 @@ const RULED: [u8; 96] = [
     0x00, 0x00, 0x00, 0x00, 0x00, 0x00, 0x00, 0x00, 0x00, 0x00, 0x00, 0x00, 0x00, 0x00, 0x00, 0x00,
 ];
 
+// The ledger of one put, in a service of one member, in hexadecimal: a genesis and its signature, the put, and another
+// signature. A program in Python made it that knows the format alone.
+const LEDGER: &[u8] = b"\
+    0100eb030000000002000000010000000000000001fc000000010200000002000000050000000358d23188ef65\
+    205d9e7e3a23be51785572f2c0e680a057a6fb37ec5cc532f23d618cb741b6ced4303c4b7c7a477da92e010000\
+    000500000003dad611d4795dd3a34d1ad35d0ae539d4b91ad4067aabe5a164a9c9f1be9d855b054dbceff2b148\
+    95ad8c03c1c9b29fd40000000001010000000100000005000000037fda30f52b7d767a3d299d7d44f0ca0cb2b1\
+    6916206ae9d3c5f0fe3296f1efbc734134d7a14dc7506faef5af32c66dcd0196a7771610e4419c87149ac33234\
+    72a5a52ab8d0541c1a2649509a8e31cbb8df010196a7771610e4419c87149ac3323472a5a52ab8d0541c1a2649\
+    509a8e31cbb8df0b0000001b7075626c69633a6363662e676f762e636f6e737469747574696f6e010001010400\
+    0000010002001b7075626c69633a6363662e676f762e636f6e737469747574696f6e0100020104000000010002\
+    001b7075626c69633a6363662e676f762e636f6e737469747574696f6e0100030104000000010002001b707562\
+    6c69633a6363662e676f762e636f6e737469747574696f6e0100040104000000010002001b7075626c69633a63\
+    63662e676f762e636f6e737469747574696f6e0100050104000000010002001b7075626c69633a6363662e676f\
+    762e636f6e737469747574696f6e0100060104000000010002001b7075626c69633a6363662e676f762e636f6e\
+    737469747574696f6e010007010400000001000200167075626c69633a6363662e676f762e6465616c696e6701\
+    006401430000000196a7771610e4419c87149ac3323472a5a52ab8d0541c1a2649509a8e31cbb8df010196a777\
+    1610e4419c87149ac3323472a5a52ab8d0541c1a2649509a8e31cbb8df167075626c69633a6363662e676f762e\
+    6d656d626572730100010141000000010000000100000005000000037fda30f52b7d767a3d299d7d44f0ca0cb2\
+    b16916206ae9d3c5f0fe3296f1efbc734134d7a14dc7506faef5af32c66dcd00000000147075626c69633a6363\
+    662e676f762e6e6f6465732000c4a819eb8f9ffececbf45fe3172004e30f28b0e1837f337857cf7aa45934a3b0\
+    01470000000100020000000500000003dad611d4795dd3a34d1ad35d0ae539d4b91ad4067aabe5a164a9c9f1be\
+    9d855b054dbceff2b14895ad8c03c1c9b29fd4000000000000000000000000167075626c69633a6363662e676f\
+    762e73657276696365010073013e000000020000000002000000050000000358d23188ef65205d9e7e3a23be51\
+    785572f2c0e680a057a6fb37ec5cc532f23d618cb741b6ced4303c4b7c7a477da92e0000000000000000000000\
+    0000000000000000000000000000000000000000000100810000000000020000000200000000000000034c0000\
+    00c4a819eb8f9ffececbf45fe3172004e30f28b0e1837f337857cf7aa45934a3b002000000000000006e97ff55\
+    ac1d544319395a5819d78362fdb54b3dcf3ef6f653ec9c74e47cd01b0000000000000000000000000000000000\
+    000000000000000000000000000000000000000000000001005b00000000000200000003000000000000000214\
+    000000010003087075626c69633a74010061010000000101000000087075626c69633a74010061010100000001\
+    fb50dc0717ff266cf9baf82b1ce7a1c2ef6d9247859680b11a19fb7077f5f22201008100000000000200000004\
+    00000000000000034c000000c4a819eb8f9ffececbf45fe3172004e30f28b0e1837f337857cf7aa45934a3b002\
+    000000000000008b65bdf5c7fa73e1b880528547ebfa832c515f3708d585697b0d4159ed1ab4c1000000000000\
+    00000000000000000000000000000000000000000000000000000000000000000000";
+
 const IDENTITY: [u8; 60] = [9; 60];
 
 const EVIDENCE: &[u8] = b"ce:2.3:86828660de385a90146e2813b1192469c1d3b4da68d834782b462930f69d8252";
@@ -203,7 +238,7 @@ fn drain<S: Source>(
     reader: &mut LedgerReader<S>,
 ) -> Result<(Vec<u8>, Option<LedgerError>), AllocError> {
     let mut frames = Vec::new(alloc);
-    for _ in 0..4 {
+    for _ in 0..5 {
         match reader.next() {
             Ok(Some(entry)) => frames.extend_from_slice(&encoded(alloc, &entry)?)?,
             Ok(None) => return Ok((frames, None)),
@@ -213,18 +248,10 @@ fn drain<S: Source>(
     Ok((frames, None))
 }
 
-fn ledger(alloc: Global) -> Result<Vec<u8>, AllocError> {
-    let mut bytes = Vec::new(alloc);
-    for frame in [PUT.as_slice(), SIGNED.as_slice(), RULED.as_slice()] {
-        bytes.extend_from_slice(frame)?;
-    }
-    Ok(bytes)
-}
-
 #[test]
 fn reads_a_ledger_in_any_pieces(rt: HostRuntime) -> Result<(), Fail> {
-    let bytes = ledger(rt.alloc())?;
-    for piece in [1, 7, 100, 1000] {
+    let bytes = hex::decode(rt.alloc(), LEDGER)?;
+    for piece in 1..=bytes.len() {
         let mut reader = LedgerReader::new(rt.alloc(), MemSource::new(&bytes, piece, &[]));
         let (frames, fault) = drain(rt.alloc(), &mut reader)?;
         assert_eq!(rt;
@@ -238,12 +265,13 @@ fn reads_a_ledger_in_any_pieces(rt: HostRuntime) -> Result<(), Fail> {
 
 #[test]
 fn tells_where_a_ledger_is_cut(rt: HostRuntime) -> Result<(), Fail> {
-    let bytes = ledger(rt.alloc())?;
+    let bytes = hex::decode(rt.alloc(), LEDGER)?;
     for len in 0..bytes.len() {
         let whole = match len {
-            0..99 => 0,
-            99..238 => 99,
-            _ => 238,
+            0..1011 => 0,
+            1011..1148 => 1011,
+            1148..1247 => 1148,
+            _ => 1247,
         };
         let short = EntryFault::Code(CodeFault::Cut(CutFault::Short { at: len - whole }));
         let want = if len == whole {
@@ -264,8 +292,8 @@ fn tells_where_a_ledger_is_cut(rt: HostRuntime) -> Result<(), Fail> {
 
 #[test]
 fn goes_on_where_a_read_failed(rt: HostRuntime) -> Result<(), Fail> {
-    let bytes = ledger(rt.alloc())?;
-    for failing in 1..5 {
+    let bytes = hex::decode(rt.alloc(), LEDGER)?;
+    for failing in 1..=17 {
         let failing = [failing];
         let mut reader = LedgerReader::new(rt.alloc(), MemSource::new(&bytes, 90, &failing));
         let (before, fault) = drain(rt.alloc(), &mut reader)?;

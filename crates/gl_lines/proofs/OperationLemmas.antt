@@ -62,10 +62,6 @@ stop_step NoReading R front words group behind e stopped so_far =
     ∙ ap (with_operations front) (first_read words group behind e)
     ∙ ap (λ (o : Option Operation). with_operations front (before o (operations_behind behind))) stopped
 
-pub unread_step : (R : Option (List Operation)) (front : List Operation) (words : List (List ℕ)) → grouped words ≡ None →
-    with_operations front (operations_behind (Some words)) ≡ R → R ≡ None
-unread_step R front words e so_far = sym so_far ∙ ap (λ (r : Option (List (List (List ℕ)))). with_operations front (r >>= each_operation)) e
-
 pub none_left : (R : Option (List Operation)) (front : List Operation) → with_operations front (operations_behind None) ≡ R → R ≡ Some front
 unfolding each_operation
 none_left R front so_far = sym so_far ∙ ap Some (append-nil front)

@@ -16,9 +16,6 @@ use Rattle.gl_lines.specs.Parts.{parts_from, parts_of, is_byte}
 abbrev pub with_parts : List (List ℕ) → Split → Split
 with_parts front split = record { lines = front ++ split.lines; open_line = split.open_line }
 
-pub with_no_parts : (split : Split) → with_parts [] split ≡ split
-with_no_parts split = refl
-
 with_one_more : (front : List (List ℕ)) (part : List ℕ) (split : Split) → with_parts front (with_line part split) ≡ with_parts (front ++ part ∷ []) split
 with_one_more front part split = ap (λ (parts : List (List ℕ)). record { lines = parts; open_line = split.open_line }) (sym (append_assoc front (part ∷ []) split.lines))
 

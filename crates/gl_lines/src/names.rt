@@ -15,7 +15,7 @@ use std::alloc::Global;
 fn is_lower_hex(text: &[u8]) -> bool
     ensures { result ≡ list_all is_lower_digit text.now }
 {
-    text.iter().all(|byte| (48 <= *byte && *byte <= 57) || (97 <= *byte && *byte <= 102))
+    text.iter().all(|byte| (b'0' <= *byte && *byte <= b'9') || (b'a' <= *byte && *byte <= b'f'))
 }
 
 /// The bytes of lower-case hexadecimal digits.

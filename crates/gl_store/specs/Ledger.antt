@@ -111,7 +111,7 @@ commit_of held = named (view_at held.ledger held.commit)
     named None = None
     named (Some view) = Some (record { view = view; seqno = held.commit })
 
--- The status of a transaction by what a store holds (CCF documentation, "Verifying Transactions").
+-- The status of a transaction by what a store holds (CCF documentation, "Transaction status").
 abbrev pub held_status : Held → TxId → Status
 held_status held id = status_of id (view_at held.ledger id.seqno) (commit_of held)
 

@@ -1,8 +1,8 @@
 -- A run as far as it has come, and what is left of it.
-use Rattle.std.proofs.Common.{◌≡◌, ℕ, suc, ◌+◌, ◌<◌, List, [], ◌∷◌, ◌++◌, Result, Ok, Err, refl, sym, ◌∙◌, ap, append_assoc, length, drop, drop-cons, get_or, add-one}
+use Rattle.std.proofs.Common.{◌≡◌, ℕ, suc, ◌+◌, ◌<◌, List, [], ◌∷◌, ◌++◌, Result, Ok, Err, refl, sym, ◌∙◌, ap, length, drop, drop-cons, get_or, add-one}
 use Rattle.gl_vmaps.specs.Tables.{Tables}
 use Rattle.gl_vmaps.specs.declared.write.Write.{Write}
-use Rattle.gl_tx.specs.Run.{Ran, answered_first, run_from}
+use Rattle.gl_tx.specs.Run.{Ran, run_from}
 use Rattle.gl_tx.specs.Runs.{Aborts}
 use Rattle.gl_tx.specs.declared.running.RunError.{RunError}
 use Rattle.gl_tx.specs.declared.running.RunError.TheVariants as errors
@@ -14,11 +14,6 @@ use Rattle.gl_tx.specs.declared.request.Abort.{Abort}
 abbrev pub answered_so_far : List Answer → Result Ran Abort → Result Ran Abort
 answered_so_far answers (Ok ran) = Ok (record ran { answers = answers ++ ran.answers })
 answered_so_far answers (Err abort) = Err abort
-
-pub answered_so_far-push : (answers : List Answer) (answer : Answer) (r : Result Ran Abort) →
-    answered_so_far (answers ++ answer ∷ []) r ≡ answered_so_far answers (answered_first answer r)
-answered_so_far-push answers answer (Ok ran) = ap (λ (xs : List Answer). Ok (record ran { answers = xs })) (append_assoc answers (answer ∷ []) ran.answers)
-answered_so_far-push answers answer (Err abort) = refl
 
 -- where the operation that is next fails, the whole request does
 pub aborted_next : (answers : List Answer) (operations : List Operation) (operation : Operation) (i : ℕ) (t : Tables) (ws : List Write) (total : Result Ran Abort) (e : RunError) →

@@ -1,0 +1,42 @@
+# The built program, timed: what the scripts beside this file share.
+import os
+import subprocess
+import sys
+
+CRATE = os.path.join(os.path.dirname(os.path.abspath(__file__)), "..", "crates", "ccfg")
+PROGRAM = os.path.join(CRATE, "out", "ccfg")
+WORLD = "world 1 0 1 open " + "00" * 32
+
+
+# Proves the program and compiles it, where that was not done yet.
+def build():
+    made = subprocess.run(
+        ["rt", "run", "--", "replay"],
+        cwd=CRATE, stdin=subprocess.DEVNULL, stdout=subprocess.PIPE, stderr=subprocess.STDOUT,
+    )
+    if made.returncode != 0:
+        sys.stdout.buffer.write(made.stdout)
+        sys.exit(1)
+
+
+# Runs a command from a file to a file: its processor time in seconds, and its peak of memory in bytes.
+def run(command, source, out):
+    child = os.fork()
+    if child == 0:
+        os.dup2(os.open(source, os.O_RDONLY), 0)
+        os.dup2(os.open(out, os.O_WRONLY | os.O_CREAT | os.O_TRUNC), 1)
+        os.execvp(command[0], command)
+    _, status, used = os.wait4(child, 0)
+    assert status == 0, status
+    return used.ru_utime + used.ru_stime, used.ru_maxrss * 1024
+
+
+# Replays a schedule so many times: its least processor time, its peak of memory, the size of its text, and what it wrote.
+def replay(work, lines, times):
+    text, out = f"{work}/schedule", f"{work}/text"
+    with open(text, "w") as file:
+        file.write("\n".join(lines) + "\n")
+    runs = [run([PROGRAM, "replay"], text, out) for _ in range(times)]
+    with open(out) as file:
+        written = file.read().splitlines()
+    return min(time for time, _ in runs), max(peak for _, peak in runs), os.path.getsize(text), written

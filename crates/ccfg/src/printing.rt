@@ -2,7 +2,6 @@
 
 ghost use Rattle.std.specs.Prelude.{◌≡◌, ◌≤◌, ◌++◌, ◌∷◌, [], codes, decimal, length, take, true, OnOk, IfOk};
 ghost use Rattle.gl_base.specs.TxId.{text_of};
-ghost use Rattle.gl_store.specs.Genesis.{state_byte};
 ghost use Rattle.std.specs.List.{AllByRecursion, flat_map};
 ghost use Rattle.hex.specs.Hex.{encode_lower};
 ghost use Rattle.gl_entry.specs.Entry.{is_entry};
@@ -16,7 +15,7 @@ use crate::machine::Machine;
 use crate::outcome::{Answered, Outcome, Refusal};
 use gl_base::{Status, TxId};
 use gl_entry::Entry;
-use gl_store::{ServiceState, Store};
+use gl_store::{Store, state_byte};
 use gl_tx::{Answer, Cause, Reply};
 use itoa::Buffer;
 use std::alloc::{AllocError, Global};
@@ -119,22 +118,13 @@ fn cause_number(cause: Cause) -> u64
     }
 }
 
-fn state_number(state: ServiceState) -> u64
-    ensures { result ≡ state_byte state }
-{
-    match state {
-        ServiceState::Opening => 1,
-        ServiceState::Open => 2,
-    }
-}
-
 fn put_store_refusal(out: &mut Vec<u8>, refusal: gl_store::Refusal) -> Result<(), AllocError>
     ensures { OnOk result (out.new.items ≡ out.old.items ++ unmade_text (ByStore refusal)) }
 {
     match refusal {
         gl_store::Refusal::ServiceState(state) => {
             out.extend_from_slice(b"51")?;
-            put_value(out, state_number(state))
+            put_value(out, u64::from(state_byte(state)))
         }
         gl_store::Refusal::Aborted(abort) => {
             out.extend_from_slice(b"122")?;

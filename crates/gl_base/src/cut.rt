@@ -39,6 +39,16 @@ impl<'a> Cut<'a> {
         Cut { rest: bytes, at }
     }
 
+    /// A cut of its own of the same bytes, of which as much was read.
+    pub fn copy(&self) -> Cut<'a>
+        ensures { result ≡ self.now }
+    {
+        Cut {
+            rest: self.rest,
+            at: self.at,
+        }
+    }
+
     /// The place of the next byte, counted from the first of all.
     pub fn at(&self) -> usize
         ensures { result ≡ self.now.at }
@@ -137,15 +147,6 @@ impl<'a> Cut<'a> {
         match self.chunk::<8>() {
             Ok(bytes) => Ok(u64_of(bytes)),
             Err(fault) => Err(fault),
-        }
-    }
-
-    fn copy(&self) -> Cut<'a>
-        ensures { result ≡ self.now }
-    {
-        Cut {
-            rest: self.rest,
-            at: self.at,
         }
     }
 

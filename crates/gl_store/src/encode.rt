@@ -9,6 +9,9 @@ use crate::genesis::{Dealing, Genesis, NewMember, NewNode, ServiceState, ShareDi
 use gl_base::{put_bytes, put_u8, put_u16, put_u32};
 use std::alloc::{AllocError, Global};
 
+/// The tag of the request that founds a service.
+const GENESIS_TAG: u8 = 1;
+
 fn put_node(out: &mut Vec<u8>, node: &NewNode) -> Result<(), AllocError>
     requires { length node.now.endorsement < 2 ^ 32 }
     ensures { OnOk result (out.new.items ≡ out.old.items ++ node_bytes node.now) }
@@ -87,6 +90,7 @@ pub fn dealing_bytes(alloc: Global, dealing: &Dealing) -> Result<Vec<u8>, AllocE
     Ok(out)
 }
 
+/// The byte that spells a service's state.
 pub fn state_byte(state: ServiceState) -> u8
     ensures { result ≡ state_byte state }
 {
@@ -103,7 +107,7 @@ pub fn genesis_bytes(alloc: Global, genesis: &Genesis) -> Result<Vec<u8>, AllocE
 {
     let (nodes, members) = (genesis.nodes.as_slice(), genesis.members.as_slice());
     let mut out = Vec::new(alloc);
-    out.push(1)?;
+    out.push(GENESIS_TAG)?;
     out.push(state_byte(genesis.state))?;
     put_bytes(&mut out, &genesis.identity)?;
     put_u8(&mut out, nodes.len() as u8)?;

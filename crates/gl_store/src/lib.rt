@@ -11,6 +11,7 @@ mod refusal;
 mod rows;
 mod store;
 
+pub use encode::state_byte;
 pub use genesis::{
     Dealing, Genesis, GovernanceRequest, HssKey, LmsKey, Members, NewMember, NewNode, Nodes,
     ServiceState, ShareDigest, Shares,

@@ -12,6 +12,15 @@ use gl_vmaps::{Key, MapName, Value, Write, Writes};
 use sha2::{Digest, Sha256};
 use std::alloc::{AllocError, Global};
 
+/// The status of a member who has not yet acknowledged the service.
+const ACCEPTED: u8 = 1;
+
+/// The status of a node that takes part in consensus.
+const TRUSTED: u8 = 2;
+
+/// The mark of a service that was not recovered after a disaster.
+const NOT_RECOVERED: u8 = 0;
+
 /// A row set to a value.
 fn row(alloc: Global, map: &[u8], key: &[u8], value: &[u8]) -> Result<Write, AllocError>
     requires map { IsTrue (is_map_name map.now) }
@@ -62,7 +71,7 @@ fn member_row(alloc: Global, member: &NewMember) -> Result<Write, AllocError>
     ensures { IfOk result (λ write. write ≡ member_row member.now) }
 {
     let mut value = Vec::new(alloc);
-    value.push(1)?;
+    value.push(ACCEPTED)?;
     put_bytes(&mut value, &member.key)?;
     put_u32(&mut value, 0)?;
     row(alloc, b"public:ccf.gov.members", &[member.number], &value)
@@ -83,7 +92,7 @@ fn node_row(alloc: Global, order: u16, node: &NewNode) -> Result<Write, AllocErr
     let endorsement = node.endorsement.as_slice();
     let mut value = Vec::new(alloc);
     put_u16(&mut value, order)?;
-    value.push(2)?;
+    value.push(TRUSTED)?;
     put_bytes(&mut value, &node.key)?;
     put_u32(&mut value, endorsement.len() as u32)?;
     put_bytes(&mut value, endorsement)?;
@@ -96,7 +105,7 @@ fn service_row(alloc: Global, genesis: &Genesis) -> Result<Write, AllocError>
 {
     let mut value = Vec::new(alloc);
     value.push(state_byte(genesis.state))?;
-    value.push(0)?;
+    value.push(NOT_RECOVERED)?;
     put_bytes(&mut value, &genesis.identity)?;
     row(alloc, b"public:ccf.gov.service", b"s", &value)
 }

@@ -10,7 +10,7 @@ use std::marker::Model;
 fn is_printable(bytes: &[u8]) -> bool
     ensures { result ≡ list_all is_name_byte bytes.now }
 {
-    bytes.iter().all(|byte| 33 <= *byte && *byte <= 126)
+    bytes.iter().all(|byte| b'!' <= *byte && *byte <= b'~')
 }
 
 pub(crate) fn is_map_name(bytes: &[u8]) -> bool

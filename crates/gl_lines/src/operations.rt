@@ -169,7 +169,8 @@ fn first_group<'a, 'b>(words: &'a [&'b [u8]]) -> Option<(&'a [&'b [u8]], Option<
 pub(crate) fn operations_of(alloc: Global, words: &[&[u8]]) -> Result<Vec<Operation>, Stop>
     ensures { Gives (λ all. all.items) result (operations_of (bytes_of words.now)) }
 {
-    let mut operations = Vec::new(alloc);
+    // Most requests have one operation.
+    let mut operations = Vec::with_capacity(alloc, 1)?;
     let mut left = Some(words);
     while let Some(words) = left {
         let (group, behind) = match first_group(words) {

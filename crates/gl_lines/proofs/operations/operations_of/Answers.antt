@@ -9,7 +9,7 @@ pub loop-left-init : goal.loop-left-init
 unfolding operations_of
 loop-left-init c =
     let words = bytes_of c.args.words.now in
-    ap (λ front. with_operations front (operations_behind (Some words))) c.new-operations.ensures.items ∙ with_no_operations (operations_behind (Some words))
+    ap (λ front. with_operations front (operations_behind (Some words))) c.in_ok-operations.ensures.items ∙ with_no_operations (operations_behind (Some words))
 
 pub returns-in-Err : goal.returns-in-Err
 returns-in-Err c =

@@ -28,6 +28,9 @@ pub mod Views
 pub mod Leaders
 pub mod Refusals
 pub mod AnySoundness
+pub mod Walk
+pub mod Lasting
+pub mod Membership
 pub mod Retiring
 pub mod SmallBook
 pub mod SmallLaws

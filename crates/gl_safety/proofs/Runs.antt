@@ -70,10 +70,10 @@ module _ {E Q G R A F : Type 0} {b : Book E Q G R A F} {s : Start E} (o : IsOpen
     pub fresh : (v : ℕ) (c : NodeId) (i : ℕ) (e : E) → g.chief v ≡ Some c → slice_get (h.led v) i ≡ Some e → (slice_get (g.led v) i ≡ Some e) ⊎ (b.view_of e ≡ v)
     pub sured : (l : List E) (c t : ℕ) → Sured o g l c t → Sured o h l c t
 
-  later_same : (g : Story E) → Later g g
+  pub later_same : (g : Story E) → Later g g
   later_same g = record { ballot = λ y v c a. a; chief = λ v c a. a; led = λ v i e a. a; fresh = λ v c i e a d. inl d; sured = λ l c t a. a }
 
-  later_then : (g h k : Story E) → Later g h → Later h k → Later g k
+  pub later_then : (g h k : Story E) → Later g h → Later h k → Later g k
   later_then g h k p q = record {
     ballot = λ y v c a. q.ballot y v c (p.ballot y v c a);
     chief = λ v c a. q.chief v c (p.chief v c a);
@@ -96,7 +96,7 @@ module _ {E Q G R A F : Type 0} {b : Book E Q G R A F} {s : Start E} (o : IsOpen
   onward_same : (w : World E) (g : Story E) → Holding w g → (h : Story E) × Holding w h × Later g h
   onward_same w g k = (g, k, later_same g)
 
-  onward_event : (w : World E) (g : Story E) (e : Event Q G R) → Holding w g → (h : Story E) × Holding (happens b w e).world h × Later g h
+  pub onward_event : (w : World E) (g : Story E) (e : Event Q G R) → Holding w g → (h : Story E) × Holding (happens b w e).world h × Later g h
   unfolding happens
   onward_event w g (Timeout x) k = onward_at w g x (elections.timeout b x (w.nodes x)) k (reached_timeout o la x g (w.nodes x) k.tale (k.nodes x))
   onward_event w g (Deliver which) k = go (slice_get w.sent which) refl

@@ -5,7 +5,7 @@ ghost use Rattle.gl_rules.specs.Identity.{same};
 ghost use Rattle.gl_rules.specs.Majority.{majority, quorum, tally};
 ghost use Rattle.gl_rules.specs.Log.{entry_at, is_signature_in};
 ghost use Rattle.gl_rules.specs.Replication.{advance, append_message, batch, commit_to, fitting_prefix, greatest_to_commit, is_peer, is_reached, may_commit, next_of, replicate, restart, send_append};
-ghost use Rattle.gl_replay_rules.specs.Entry.{is_mark_of, mark_of, members, small};
+ghost use Rattle.gl_safety.specs.SmallBook.{is_mark_of, mark_of, members, small};
 ghost use Rattle.gl_replay_rules.specs.Pairs.{held, tried};
 ghost use Rattle.gl_replay_rules.specs.Seen.{holds, seen, seen_message, seen_step};
 

@@ -2,7 +2,7 @@
 
 ghost use Rattle.std.specs.Prelude.{◌≡◌, ◌≤◌, length};
 ghost use Rattle.gl_rules.specs.Log.{greatest_recorded, last_signature, view_at};
-ghost use Rattle.gl_replay_rules.specs.Entry.{commit_in, small};
+ghost use Rattle.gl_safety.specs.SmallBook.{commit_in, small};
 
 use crate::entry::{Entry, Kind, is_signature};
 

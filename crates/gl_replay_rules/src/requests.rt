@@ -3,7 +3,7 @@
 ghost use Rattle.std.specs.Prelude.{◌≡◌, ◌≤◌, length, is_some, IfOk, IfSome, Ok};
 ghost use Rattle.gl_rules.specs.Log.{entry_at, is_signature_in};
 ghost use Rattle.gl_rules.specs.Requests.{append_result, evidence, finish, finish_as_leader, govern, govern_as_leader, reserve, sign, sign_as_leader, submit};
-ghost use Rattle.gl_replay_rules.specs.Entry.{fits, is_mark_of, kind_of, mark_of, none_removed, removal_of, removes, signs_at, small};
+ghost use Rattle.gl_safety.specs.SmallBook.{fits, is_mark_of, kind_of, mark_of, none_removed, removal_of, removes, signs_at, small};
 ghost use Rattle.gl_replay_rules.specs.Seen.{seen, seen_step};
 
 use crate::changes::{append_entry, copy_node, quiet, refuse};

@@ -32,8 +32,9 @@ pub mod Walk
 pub mod Lasting
 pub mod Membership
 pub mod Retiring
-pub mod SmallBook
 pub mod SmallLaws
+pub mod SmallOpening
+pub mod SmallRuns
 pub mod Shown
 pub mod WorkedRuns
 pub mod Unchanged

@@ -1,5 +1,7 @@
-//! What the rules of consensus promise of every run: laws, and no code.
+//! What the rules of consensus promise of every run: laws, and no code; and a small ledger that has all that they ask.
 #![tactic(auto)]
+
+pub mod small_book;
 
 ghost use Rattle.std.specs.Prelude.{List, ◌≡◌};
 ghost use Rattle.gl_rules.specs.Book.{Book};

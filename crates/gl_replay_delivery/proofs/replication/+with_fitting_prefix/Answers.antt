@@ -1,5 +1,5 @@
 use Rattle.std.proofs.Common.{◌≡◌, List, IfOk, subst, arith}
-use Rattle.gl_replay_rules.specs.declared.entry.Entry.{Entry}
+use Rattle.gl_safety.specs.declared.small_book.Entry.{Entry}
 use Rattle.gl_replay_delivery.proofs.Steps.{fitting_step}
 use Rattle.gl_replay_delivery.proofs.replication.+with_fitting_prefix.Goals as goal
 

@@ -3,8 +3,8 @@ use Rattle.std.proofs.lemmas.Bool.Decides.{nat_tests}
 use Rattle.gl_rules.specs.Log.{entry_at, is_signature_in}
 use Rattle.gl_rules.specs.Majority.{quorum}
 use Rattle.gl_rules.specs.Configuration.{active_upto}
-use Rattle.gl_replay_rules.specs.declared.entry.Entry.{Entry}
-use Rattle.gl_replay_rules.specs.Entry.{members, small}
+use Rattle.gl_safety.specs.declared.small_book.Entry.{Entry}
+use Rattle.gl_safety.specs.SmallBook.{members, small}
 use Rattle.gl_replay_rules.specs.Pairs.{held}
 use Rattle.gl_replay_rules.specs.Seen.{holds}
 use Rattle.gl_replay_delivery.proofs.Same.{holding_by}

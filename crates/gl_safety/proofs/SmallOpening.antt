@@ -1,12 +1,13 @@
 -- What the rules ask of an opening holds of that of the small book.
 use Rattle.std.proofs.Common.{◌≡◌, ◌⊎◌, inl, inr, ⊎_elim, ℕ, zero, suc, List, [], ◌∷◌, take, true, Some, None, slice_get, refl, sym, ap, subst, arith}
 use Rattle.gl_rules.specs.Identity.{NodeId, member}
+use Rattle.gl_rules.specs.Log.{last_signature}
 use Rattle.gl_rules.specs.Safety.{IsOpening, EachFollows}
-use Rattle.gl_replay_rules.specs.declared.entry.Entry.{Entry}
-use Rattle.gl_replay_rules.specs.declared.entry.Nodes.{Nodes}
-use Rattle.gl_replay_rules.specs.declared.entry.Kind.TheVariants.{Change, Signature}
-use Rattle.gl_replay_rules.specs.Entry.{members, signs, none_removed, fault_of, small}
-use Rattle.gl_replay_rules.specs.Opening.{opening, start}
+use Rattle.gl_safety.specs.declared.small_book.Entry.{Entry}
+use Rattle.gl_safety.specs.declared.small_book.Nodes.{Nodes}
+use Rattle.gl_safety.specs.declared.small_book.Kind.TheVariants.{Change, Signature}
+use Rattle.gl_safety.specs.SmallBook.{members, signs, none_removed, fault_of, small}
+use Rattle.gl_safety.specs.SmallBook.{opening, start}
 
 none_yet : (ns : List NodeId) → none_removed [] ns ≡ true
 none_yet [] = refl
@@ -25,6 +26,7 @@ module _ (nodes : Nodes) where
       (cases i e a)
 
   follows : (i : ℕ) (e : Entry) → slice_get (opening nodes) i ≡ Some e → small.breaks (take i (opening nodes)) e ≡ None
+  unfolding last_signature
   follows = by_case (λ i e. small.breaks (take i (opening nodes)) e ≡ None) (ap fault_of (none_yet (members nodes))) refl
 
 pub small_opening : (nodes : Nodes) (first : NodeId) → member first (members nodes) ≡ true → IsOpening small (EachFollows small) (start nodes first)

@@ -15,7 +15,7 @@ use gl_replay_rules::elections::one_message;
 use gl_replay_rules::entry::{Entry, Fault, Kind, NodeId};
 use gl_replay_rules::ledger::{last_signature, view_at};
 use gl_replay_rules::node::{Node, Role};
-use gl_replay_rules::requests::is_fit;
+use gl_replay_rules::removals::is_fit;
 use gl_replay_rules::step::{Body, Extended, Position, Message, Outcome, Refusal, Step};
 use std::alloc::{AllocError, Global};
 

@@ -13,6 +13,7 @@ pub mod entry;
 pub mod ledger;
 pub mod majority;
 pub mod node;
+pub mod removals;
 pub mod requests;
 pub mod step;
 

@@ -216,3 +216,6 @@ module _ {E Q G R A F : Type 0} (book : Book E Q G R A F) where
         (node_after s (take i events) x).role ≡ Leader → IsRetired (node_after s (take i events) x) y →
         (node_after s (take j events) z).role ≡ Leader → (node_after s (take i events) x).view < (node_after s (take j events) z).view →
         IsActive (node_after s (take k events) z) y → ⊥
+    -- where any node says so, a leader has said so before
+    pub led : (i : ℕ) (x y : NodeId) → IsRetired (node_after s (take i events) x) y →
+        (j : ℕ) × (z : NodeId) × (j ≤ i) × ((node_after s (take j events) z).role ≡ Leader) × IsRetired (node_after s (take j events) z) y

@@ -31,6 +31,7 @@ pub mod AnySoundness
 pub mod Walk
 pub mod Lasting
 pub mod Membership
+pub mod Committing
 pub mod Retiring
 pub mod SmallLaws
 pub mod SmallOpening

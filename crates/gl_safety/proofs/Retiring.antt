@@ -19,6 +19,8 @@ use Rattle.gl_safety.proofs.Signatures.{recorded_le}
 use Rattle.gl_safety.proofs.Invariants.{Good, sure_within, settled_of}
 use Rattle.gl_safety.proofs.Places.{MarksKnown, place_same, mark_entry, marks_known}
 use Rattle.gl_safety.proofs.Lasting.{Certified, Has, Moment, moments3}
+use Rattle.gl_safety.proofs.Prefixes.{log_sound}
+use Rattle.gl_safety.proofs.Committing.{committed_before}
 
 module _ {E Q G R A F : Type 0} {b : Book E Q G R A F} {s : Start E} (o : IsOpening b (EachFollows b) s) (la : IsLawful b (EachFollows b)) where
   -- the mark is committed
@@ -159,5 +161,31 @@ module _ {E Q G R A F : Type 0} {b : Book E Q G R A F} {s : Start E} (o : IsOpen
         (cases_lt i k))
         (cases_lt i j)
 
+    retired : (k : Node E) (y : NodeId) (m q : ℕ) → b.mark k.log y ≡ Some m → b.removal k.log y ≡ Some q → m ≤ k.commit → IsRetired b k y
+    unfolding stage
+    retired k y m q a d h =
+        ap (λ (p : Option ℕ). stage p (b.mark k.log y) (last_signature b k.log) k.commit) d
+        ∙ ap (λ (p : Option ℕ). stage (Some q) p (last_signature b k.log) k.commit) a
+        ∙ ap (λ (t : Bool). if t then Some RetiredCommitted else (if nat_le q k.commit then Some Completed else (if nat_lt q (last_signature b k.log) then Some Signed else Some Ordered))) (let u : nat_le m k.commit ≡ true = grind (arith, nat_tests) in u)
+
+    -- a mark that is committed at x is so at a leader before
+    pub led_safe : (es : List (Event Q G R)) (i : ℕ) (x y : NodeId) → IsRetired b ((after b s (take i es)).nodes x) y →
+        (j : ℕ) × (z : NodeId) × (j ≤ i) × (((after b s (take j es)).nodes z).role ≡ Leader) × IsRetired b ((after b s (take j es)).nodes z) y
+    led_safe es i x y r =
+        let n = (after b s (take i es)).nodes x in
+        let zn = log_sound o la es i x in
+        let c = committed_before o la es i x (reaches n y zn r) in
+        let k = (after b s (take c.0 es)).nodes c.1 in
+        let zk = log_sound o la es c.0 c.1 in
+        let m = mark_reached n y r in
+        let en = mark_entry b la n.log y m.0 zn m.1 in
+        let wide = commit_within es i x in
+        let mark_k : b.mark k.log y ≡ Some m.0 = place_same b b.mark la.markings n.log k.log y m.0 n.commit zn zk wide c.5 m.2 m.1 in
+        let removal_k : b.removal k.log y ≡ Some en.5.0 = place_same b b.removal la.removals n.log k.log y en.5.0 n.commit zn zk wide c.5 (omega (arith, en.5.1, en.1, m.2)) en.5.2 in
+        (c.0, c.1, c.2, c.3, retired k y m.0 en.5.0 mark_k removal_k (omega (arith, m.2, c.4)))
+      where
+        commit_within : (es : List (Event Q G R)) (i : ℕ) (x : NodeId) → ((after b s (take i es)).nodes x).commit ≤ length ((after b s (take i es)).nodes x).log
+        commit_within es i x = let k = moments3 o la es i i i (omega arith) (omega arith) in within_log k.first.story x ((after b s (take i es)).nodes x) (k.first.holding.nodes x)
+
     pub retires_safely : (es : List (Event Q G R)) → RetiresSafely b s es
-    retires_safely es = record { here = here_safe es; later = later_safe es }
+    retires_safely es = record { here = here_safe es; later = later_safe es; led = led_safe es }

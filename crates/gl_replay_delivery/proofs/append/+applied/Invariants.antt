@@ -1,5 +1,0 @@
-use Rattle.std.proofs.Common.{length}
-use Rattle.gl_replay_delivery.proofs.append.+applied.Given as goal
-
-abbrev pub decreases-applied : goal.decreases-applied
-decreases-applied l = length l.entries.now

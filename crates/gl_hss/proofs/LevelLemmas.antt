@@ -1,6 +1,5 @@
 -- The number of levels as it stands in the first four bytes of a key.
 use Rattle.std.proofs.Common.{◌≡◌, ℕ, ◌^◌, ◌<◌, ◌≤◌, List, length, take, Some, refl, sym, ap, ◌∙◌, arith, ◌↔◌}
-use Rattle.std.specs.Prelude.{◌==◌}
 use Rattle.std.proofs.lemmas.Bool.Decides.{nat_tests}
 use Rattle.gl_hss.specs.declared.levels.Levels.{Levels}
 use Rattle.gl_hss.specs.declared.levels.Levels.TheVariants.{One, Two}

@@ -130,8 +130,8 @@ impl HssSigner {
         Ok(())
     }
 
-    // The bytes of a signature, all in one piece of memory.
-    fn room(&self) -> Result<Vec<u8>, AllocError>
+    // An empty list with room for a signature.
+    fn buffer(&self) -> Result<Vec<u8>, AllocError>
         ensures { IfOk result (λ out. out.items ≡ []) }
     {
         let above = match &self.endorsement {
@@ -150,7 +150,7 @@ impl HssSigner {
         ensures leaf { OnOk result (self.now.used < 2 ^ height self.now.key.types) }
         ensures identifier { OnOk result (length self.now.key.identifier ≡ 16) }
     {
-        let mut out = self.room()?;
+        let mut out = self.buffer()?;
         self.push_levels_above(&mut out)?;
         self.key.push_signature(self.used, message, &mut out)?;
         Ok(out)

@@ -194,8 +194,7 @@ module _ {E Q G R A F : Type 0} {b : Book E Q G R A F} {s : Start E} (o : IsOpen
   run_keeps [] w g k = (g, k, later_same o la g, λ h later i v j e c x has. has)
   run_keeps (f ∷ es) w g k =
       let p = onward_event o la w g f k in
-      let q = run_keeps es (happens b w f).world p.0 p.1 in
-      (
+      let q = run_keeps es (happens b w f).world p.0 p.1 in (
         q.0,
         q.1,
         later_then o la g p.0 q.0 p.2 q.2,

@@ -97,12 +97,11 @@ module _ {E Q G R A F : Type 0} {b : Book E Q G R A F} {s : Start E} (o : IsOpen
           let mine = zz.logged.mine ch in
           let top = complete o h t n.view z (q.later.chief n.view z ch) c.depth v j c.last c.cert c.mark d in
           let at_end = agree b h.led (h.led v) (h.led n.view) j c.last (t.matches v) (t.matches n.view) c.mark.at top i e (omega (arith, c.le)) c.leads in
-          let low = (t.bound v).view i e c.leads in
-          (
+          let low = (t.bound v).view i e c.leads in (
             ap (λ l. slice_get l i) mine ∙ ⊎_elim
-            (λ (u : slice_get (q.story.led n.view) i ≡ Some e). u)
-            (λ (u : b.view_of e ≡ n.view). absurd (omega (arith, low.1)))
-            (q.later.fresh n.view z i e ch at_end),
+                (λ (u : slice_get (q.story.led n.view) i ≡ Some e). u)
+                (λ (u : b.view_of e ≡ n.view). absurd (omega (arith, low.1)))
+                (q.later.fresh n.view z i e ch at_end),
             inl (omega arith),
           )
 

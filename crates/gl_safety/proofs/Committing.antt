@@ -1,8 +1,8 @@
 -- What is committed anywhere, a leader has committed before.
-use Rattle.std.proofs.Common.{◌≡◌, ◌≢◌, ◌⊎◌, inl, inr, ⊎_elim, ℕ, zero, suc, ◌≤◌, ◌<◌, List, [], ◌∷◌, ◌++◌, length, take, Bool, true, ◌==◌, if◌then◌else◌, Some, slice_get, refl, sym, ap, ◌∙◌, subst, arith}
+use Rattle.std.proofs.Common.{◌≡◌, ◌≢◌, ◌⊎◌, inl, inr, ⊎_elim, ℕ, zero, suc, ◌≤◌, ◌<◌, List, [], ◌∷◌, length, take, Bool, if◌then◌else◌, Some, slice_get, refl, sym, ap, ◌∙◌, subst, arith}
 use Rattle.std.proofs.lemmas.Bool.{cases_eq, cases_lt}
 use Rattle.std.proofs.lemmas.Bool.Decides.{nat_tests}
-use Rattle.gl_rules.specs.Identity.{NodeId, same, member}
+use Rattle.gl_rules.specs.Identity.{NodeId, member}
 use Rattle.gl_rules.specs.Book.{Book}
 use Rattle.gl_rules.specs.Node.{Node, Leader}
 use Rattle.gl_rules.specs.World.{Start, Event, World, happens, run, begin, after, starter, joiner, leader_at_start, node_at_start}

@@ -1,4 +1,6 @@
-//! What a node makes of a leader's entries, and a leader of the answers; and a node that begins with a snapshot.
+//! What a node does with an Append. Where its log has the entry before those of the message, it keeps
+//! of them what it holds, cuts its log at the first that differs, appends the rest, raises its commit
+//! and replies yes; else it replies no, with a seqno to try next.
 
 ghost use Rattle.std.specs.Prelude.{◌≡◌, ◌≤◌, ◌<◌, ◌-◌, ◌+◌, ◌∷◌, [], length, map, take, IfOk, IfSome};
 ghost use Rattle.gl_rules.specs.Steps.{update_view};
@@ -9,17 +11,18 @@ ghost use Rattle.gl_replay_rules.specs.Pairs.{held};
 ghost use Rattle.gl_replay_rules.specs.Seen.{seen, seen_extended, seen_position, seen_message, seen_step};
 
 use crate::replication::{entries_after, held, next_of};
-use gl_replay_rules::changes::{copy_node, cut_to, idle, known_commit, quiet, refuse, enter_view};
+use gl_replay_rules::changes::{copy_node, cut_to, enter_view, idle, known_commit, quiet, refuse};
 use gl_replay_rules::configuration::prefix;
 use gl_replay_rules::elections::one_message;
 use gl_replay_rules::entry::{Entry, Fault, Kind, NodeId};
 use gl_replay_rules::ledger::{last_signature, view_at};
 use gl_replay_rules::node::{Node, Role};
 use gl_replay_rules::removals::is_fit;
-use gl_replay_rules::step::{Body, Extended, Position, Message, Outcome, Refusal, Step};
+use gl_replay_rules::step::{Body, Extended, Message, Outcome, Position, Refusal, Step};
 use std::alloc::{AllocError, Global};
 
-/// How many of the entries the log holds with their views, before the first that it lacks or holds with another view.
+/// How many of the entries the log holds with their views, before the first that it lacks or holds
+/// with another view.
 #[tactic(auto, unfolding(gl_rules::specs::Replication::matching_prefix_len))]
 pub fn matching_prefix_len(log: &[Entry], entries: &[Entry]) -> usize
     ensures value { result ≡ matching_prefix_len small log.now entries.now }
@@ -42,7 +45,8 @@ pub fn matching_prefix_len(log: &[Entry], entries: &[Entry]) -> usize
 /// The log with these entries behind it, or the rule that the first one breaks that breaks one.
 #[tactic(auto, unfolding(gl_rules::specs::Replication::checked_append))]
 pub fn checked_append(mut log: Vec<Entry>, entries: &[Entry]) -> Result<Extended, AllocError>
-    ensures { IfOk result (λ done. seen_extended done ≡ checked_append small log.items entries.now) }
+    ensures { IfOk result (λ done.
+        seen_extended done ≡ checked_append small log.items entries.now) }
 {
     match entries.split_first() {
         None => Ok(Extended::Log(log)),
@@ -70,7 +74,8 @@ pub fn highest_possible_match(log: &[Entry], view: u32, seqno: usize) -> usize
     highest_possible_match(log, view, seqno - 1)
 }
 
-/// Commit after a message with this commit, whose last entry has this seqno: never below what the log records.
+/// Commit after a message with this commit, whose last entry has this seqno: never below what the
+/// log records.
 pub fn commit_after(theirs: usize, seqno: usize, node: &Node) -> usize
     ensures { result ≡ commit_after small theirs seqno (seen node.now) }
 {
@@ -87,7 +92,8 @@ pub fn append_reply(
     seqno: usize,
     node: &Node,
 ) -> Result<Vec<Message>, AllocError>
-    ensures { IfOk result (λ sent. map seen_message sent.items ≡ append_reply small x y ok seqno (seen node.now)) }
+    ensures { IfOk result (λ sent.
+        map seen_message sent.items ≡ append_reply small x y ok seqno (seen node.now)) }
 {
     let message = Message {
         sender: x,
@@ -107,7 +113,8 @@ pub fn accept_entries(
     theirs: usize,
     mut node: Node,
 ) -> Result<Step, AllocError>
-    ensures { IfOk result (λ step. seen_step step ≡ accept_entries small x y seqno theirs (seen node)) }
+    ensures { IfOk result (λ step.
+        seen_step step ≡ accept_entries small x y seqno theirs (seen node)) }
 {
     let sent = append_reply(alloc, x, y, true, seqno, &node)?;
     node.commit = commit_after(theirs, seqno, &node);
@@ -129,7 +136,10 @@ pub fn accept_or_refuse(
     mut cut: Node,
     done: Extended,
 ) -> Result<Step, AllocError>
-    ensures { IfOk result (λ step. seen_step step ≡ accept_or_refuse small (seen before.now) x y seqno theirs (seen cut) (seen_extended done)) }
+    ensures { IfOk result (λ step.
+        seen_step step
+        ≡ accept_or_refuse small (seen before.now) x y seqno theirs (seen cut)
+        (seen_extended done)) }
 {
     match done {
         Extended::Broken(why) => refuse(alloc, before, Refusal::ByLedger(why)),
@@ -153,7 +163,8 @@ pub fn merge_entries(
 ) -> Result<Step, AllocError>
     requires within { prev ≤ length node.now.log.items }
     requires some { held ≤ length entries.now }
-    ensures { IfOk result (λ step. seen_step step ≡ merge_entries small x y prev entries.now held theirs (seen node.now)) }
+    ensures { IfOk result (λ step.
+        seen_step step ≡ merge_entries small x y prev entries.now held theirs (seen node.now)) }
 {
     let end = prev + entries.len();
     if held == entries.len() {
@@ -181,7 +192,9 @@ pub fn merge_if_matching(
     theirs: usize,
     node: &Node,
 ) -> Result<Step, AllocError>
-    ensures { IfOk result (λ step. seen_step step ≡ merge_if_matching small x y (seen_position prev) entries.now theirs (seen node.now)) }
+    ensures { IfOk result (λ step.
+        seen_step step
+        ≡ merge_if_matching small x y (seen_position prev) entries.now theirs (seen node.now)) }
 {
     if prev.seqno == 0
         || (prev.seqno <= node.log.len() && view_at(&node.log, prev.seqno) == prev.view)
@@ -217,7 +230,10 @@ pub fn append_at_follower(
     theirs: usize,
     node: &Node,
 ) -> Result<Step, AllocError>
-    ensures { IfOk result (λ step. seen_step step ≡ merge_if_matching small x y (seen_position prev) entries.now theirs (become_follower small y (seen node.now))) }
+    ensures { IfOk result (λ step.
+        seen_step step
+        ≡ merge_if_matching small x y (seen_position prev) entries.now theirs
+        (become_follower small y (seen node.now))) }
 {
     let copy = copy_node(alloc, node)?;
     let follower = become_follower(y, copy);
@@ -236,7 +252,9 @@ pub fn on_append(
     theirs: usize,
     node: &Node,
 ) -> Result<Step, AllocError>
-    ensures { IfOk result (λ step. seen_step step ≡ on_append small x y view (seen_position prev) entries.now theirs (seen node.now)) }
+    ensures { IfOk result (λ step.
+        seen_step step
+        ≡ on_append small x y view (seen_position prev) entries.now theirs (seen node.now)) }
 {
     if view < node.view {
         let sent = append_reply(alloc, x, y, false, 0, node)?;

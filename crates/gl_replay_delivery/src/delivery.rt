@@ -19,7 +19,10 @@ use std::alloc::{AllocError, Global};
 /// The row of a message, at a node whose view has risen to the message's.
 pub fn answer_as(alloc: Global, message: &Message, node: &Node) -> Result<Step, AllocError>
     requires fits { held node.now.matched.items message.now.sender < usize.MAX }
-    ensures { IfOk result (λ step. seen_step step ≡ answer_as small (seen_body message.now.body) message.now.receiver message.now.sender message.now.view (seen node.now)) }
+    ensures { IfOk result (λ step.
+        seen_step step
+        ≡ answer_as small (seen_body message.now.body) message.now.receiver
+        message.now.sender message.now.view (seen node.now)) }
 {
     let x = message.receiver;
     let y = message.sender;
@@ -45,7 +48,9 @@ pub fn with_updated_view(alloc: Global, view: u32, node: &Node) -> Result<Node, 
 
 /// A refused delivery leaves the node as it was, whatever had risen.
 pub fn undo_if_refused(alloc: Global, node: &Node, step: Step) -> Result<Step, AllocError>
-    ensures { IfOk result (λ kept. seen_step kept ≡ undo_if_refused (seen_outcome step.outcome) (seen node.now) (seen_step step)) }
+    ensures { IfOk result (λ kept.
+        seen_step kept
+        ≡ undo_if_refused (seen_outcome step.outcome) (seen node.now) (seen_step step)) }
 {
     match step.outcome {
         Outcome::Refused(why) => refuse(alloc, node, why),
@@ -63,7 +68,8 @@ pub fn undo_if_refused(alloc: Global, node: &Node, step: Step) -> Result<Step, A
 #[tactic(auto, unfolding(gl_rules::specs::World::on_message))]
 pub fn receive(alloc: Global, message: &Message, node: &Node) -> Result<Step, AllocError>
     requires fits { held node.now.matched.items message.now.sender < usize.MAX }
-    ensures { IfOk result (λ step. seen_step step ≡ on_message small (seen_message message.now) (seen node.now)) }
+    ensures { IfOk result (λ step.
+        seen_step step ≡ on_message small (seen_message message.now) (seen node.now)) }
 {
     let new = with_updated_view(alloc, message.view, node)?;
     let step = answer_as(alloc, message, &new)?;

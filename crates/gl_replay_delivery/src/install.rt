@@ -7,7 +7,7 @@ ghost use Rattle.gl_rules.specs.Replication.{greatest_evidence, install, with_sn
 ghost use Rattle.gl_safety.specs.SmallBook.{is_snapshot, small};
 ghost use Rattle.gl_replay_rules.specs.Seen.{seen, seen_step};
 
-use gl_replay_rules::changes::{copy_node, idle, quiet, refuse, enter_view};
+use gl_replay_rules::changes::{copy_node, enter_view, idle, quiet, refuse};
 use gl_replay_rules::configuration::prefix;
 use gl_replay_rules::entry::{Entry, Kind};
 use gl_replay_rules::ledger::{last_signature, view_at};
@@ -46,7 +46,8 @@ pub fn greatest_evidence(log: &[Entry], base: usize, seqno: usize) -> Option<usi
     greatest_evidence(log, base, seqno - 1)
 }
 
-/// The evidence entry that a snapshot is taken at: the greatest one with a committed signature above.
+/// The evidence entry that a snapshot is taken at: the greatest one with a committed signature
+/// above.
 pub fn snapshot_of(node: &Node) -> Option<usize>
     ensures { result ≡ snapshot_of small (seen node.now) }
 {
@@ -65,8 +66,14 @@ pub fn update_view(view: u32, node: Node) -> Node
 }
 
 /// The node with the source's log up to a seqno.
-pub fn with_snapshot(alloc: Global, source: &Node, seqno: usize, node: Node) -> Result<Node, AllocError>
-    ensures { IfOk result (λ new. seen new ≡ with_snapshot small (seen source.now) seqno (seen node)) }
+pub fn with_snapshot(
+    alloc: Global,
+    source: &Node,
+    seqno: usize,
+    node: Node,
+) -> Result<Node, AllocError>
+    ensures { IfOk result (λ new.
+        seen new ≡ with_snapshot small (seen source.now) seqno (seen node)) }
 {
     let log = Vec::from_slice(alloc, prefix(&source.log, seqno))?;
     let mut new = update_view(view_at(&source.log, seqno), node);
@@ -79,7 +86,8 @@ pub fn with_snapshot(alloc: Global, source: &Node, seqno: usize, node: Node) -> 
 /// An empty log takes the source's log up to the entry before the evidence.
 #[tactic(auto, unfolding(gl_rules::specs::Replication::install))]
 pub fn install(alloc: Global, source: &Node, node: &Node) -> Result<Step, AllocError>
-    ensures { IfOk result (λ step. seen_step step ≡ install small (seen source.now) (seen node.now)) }
+    ensures { IfOk result (λ step.
+        seen_step step ≡ install small (seen source.now) (seen node.now)) }
 {
     if node.log.len() != 0 {
         return idle(alloc, node);

@@ -17,7 +17,7 @@ use gl_replay_rules::ledger::view_at;
 use gl_replay_rules::majority::{is_in_some, is_same};
 use gl_replay_rules::node::{Node, Role};
 use gl_replay_rules::removals::{mark_of, removal_of};
-use gl_replay_rules::step::{Body, Position, Message, Outcome, Refusal, Step};
+use gl_replay_rules::step::{Body, Message, Outcome, Position, Refusal, Step};
 use std::alloc::{AllocError, Global};
 
 /// How many entries one message carries at most.
@@ -89,7 +89,8 @@ pub fn is_peer(alloc: Global, x: NodeId, y: NodeId, node: &Node) -> Result<bool,
     Ok(!is_same(y, x) && (trusted || (removed && !marked)))
 }
 
-/// These entries, and behind them the longest front of at most so many whose frames have at most so many bytes.
+/// These entries, and behind them the longest front of at most so many whose frames have at most so
+/// many bytes.
 #[tactic(auto, unfolding(gl_rules::specs::Replication::fitting_prefix))]
 pub fn with_fitting_prefix(
     mut batch: Vec<Entry>,
@@ -97,7 +98,8 @@ pub fn with_fitting_prefix(
     room: usize,
     entries: &[Entry],
 ) -> Result<Vec<Entry>, AllocError>
-    ensures { IfOk result (λ all. all.items ≡ batch.items ++ fitting_prefix small count room entries.now) }
+    ensures { IfOk result (λ all.
+        all.items ≡ batch.items ++ fitting_prefix small count room entries.now) }
 {
     if count == 0 {
         return Ok(batch);
@@ -257,8 +259,8 @@ pub fn is_signature_in(view: u32, log: &[Entry], seqno: usize) -> bool
     is_signature(&log[seqno - 1].kind) && log[seqno - 1].view == view
 }
 
-/// Whether x may commit a seqno: a signature of its view above commit, held by a majority in each active configuration
-/// at or below that seqno.
+/// Whether x may commit a seqno: a signature of its view above commit, held by a majority in each
+/// active configuration at or below that seqno.
 pub fn may_commit(alloc: Global, x: NodeId, node: &Node, seqno: usize) -> Result<bool, AllocError>
     ensures { IfOk result (λ may. may ≡ may_commit small x (seen node.now) seqno) }
 {

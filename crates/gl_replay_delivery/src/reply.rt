@@ -55,7 +55,8 @@ pub fn update_progress(
     node: &Node,
 ) -> Result<Step, AllocError>
     requires fits { held node.now.matched.items y < usize.MAX }
-    ensures { IfOk result (λ step. seen_step step ≡ update_progress small ok y seqno (seen node.now)) }
+    ensures { IfOk result (λ step.
+        seen_step step ≡ update_progress small ok y seqno (seen node.now)) }
 {
     if !ok {
         let copy = copy_node(alloc, node)?;
@@ -81,7 +82,8 @@ pub fn on_append_reply(
     node: &Node,
 ) -> Result<Step, AllocError>
     requires fits { held node.now.matched.items y < usize.MAX }
-    ensures { IfOk result (λ step. seen_step step ≡ on_append_reply small y view ok seqno (seen node.now)) }
+    ensures { IfOk result (λ step.
+        seen_step step ≡ on_append_reply small y view ok seqno (seen node.now)) }
 {
     match node.role {
         Role::Leader => {

@@ -1,4 +1,5 @@
-//! Worked runs: what each event answers and how many messages it sends, beside the numbers of the rules worked by hand.
+//! Worked runs: what each event answers and how many messages it sends, beside the numbers of the
+//! rules worked by hand.
 
 use crate::delivery::receive;
 use crate::install::install;
@@ -217,7 +218,8 @@ const ROLLBACK: [(Event, &str); 13] = [
     (Event::Deliver(5), "Done 1"),
 ];
 
-/// Behind the rollback node 1 leads again: a transaction that began before the cut is refused, one that begins now is not.
+/// Behind the rollback node 1 leads again: a transaction that began before the cut is refused, one
+/// that begins now is not.
 const FINISH: [(Event, &str); 5] = [
     (Event::Timeout(1), "BecameCandidate 2"),
     (Event::Deliver(8), "Done 1"),
@@ -234,7 +236,8 @@ const AGAIN: [(Event, &str); 4] = [
     (Event::Deliver(1), "Done 1"),
 ];
 
-/// A signature of an earlier view is not committed, though a majority holds it; one of the leader's own is.
+/// A signature of an earlier view is not committed, though a majority holds it; one of the leader's
+/// own is.
 const EARLIER: [(Event, &str); 38] = [
     (Event::Submit(1, 7), "Accepted(2, 3, 7) 0"),
     (Event::Reserve(1), "Done 0"),
@@ -281,7 +284,8 @@ const LEFT: Nodes = Nodes {
     count: 2,
 };
 
-/// A mark waits for its removal's commit; a node that restarts knows of it, and asks the other one alone.
+/// A mark waits for its removal's commit; a node that restarts knows of it, and asks the other one
+/// alone.
 const RETIREMENT: [(Event, &str); 22] = [
     (
         Event::Govern(1, Order::RemoveNode([1], LEFT)),
@@ -316,7 +320,8 @@ const RETIREMENT: [(Event, &str); 22] = [
     (Event::Restart(2), "Done 0"),
 ];
 
-/// A vote outlives a restart: node 3, which voted for node 2, restarts and doesn't vote for node 1 in the same view.
+/// A vote outlives a restart: node 3, which voted for node 2, restarts and doesn't vote for node 1
+/// in the same view.
 const RESTARTED_VOTER: [(Event, &str); 6] = [
     (Event::Timeout(2), "BecameCandidate 2"),
     (Event::Deliver(1), "Done 1"),
@@ -350,7 +355,8 @@ const REPLACING: Nodes = Nodes {
     count: 3,
 };
 
-/// Nodes 3, 4 and 5 in place of 1, 2 and 3: the whole old set isn't enough, and a joiner's empty log is sent all at the second try.
+/// Nodes 3, 4 and 5 in place of 1, 2 and 3: the whole old set isn't enough, and a joiner's empty
+/// log is sent all at the second try.
 const REPLACED: [(Event, &str); 17] = [
     (
         Event::Govern(1, Order::SetNodes(REPLACING)),

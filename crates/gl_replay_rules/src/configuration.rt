@@ -54,7 +54,9 @@ pub fn with_configurations_above(
     commit: usize,
     seqno: usize,
 ) -> Result<Vec<Nodes>, AllocError>
-    ensures { IfOk result (λ all. map members all.items ≡ map members sets.items ++ configurations_above small log.now commit seqno) }
+    ensures { IfOk result (λ all.
+        map members all.items
+        ≡ map members sets.items ++ configurations_above small log.now commit seqno) }
 {
     if seqno <= commit {
         return Ok(sets);
@@ -129,7 +131,10 @@ pub fn with_others(
     sets: &[Nodes],
     nodes: &[NodeId],
 ) -> Result<Vec<NodeId>, AllocError>
-    ensures { IfOk result (λ all. all.items ≡ found.items ++ filter (λ y. not (same y x) && in_some y (map members sets.now)) nodes.now) }
+    ensures { IfOk result (λ all.
+        all.items
+        ≡ found.items
+        ++ filter (λ y. not (same y x) && in_some y (map members sets.now)) nodes.now) }
 {
     match nodes.split_first() {
         None => Ok(found),

@@ -8,13 +8,13 @@ ghost use Rattle.gl_rules.specs.Elections.{become_candidate, count_votes, may_vo
 ghost use Rattle.gl_safety.specs.SmallBook.{small};
 ghost use Rattle.gl_replay_rules.specs.Seen.{requests_from, seen, seen_position, seen_message, seen_step};
 
-use crate::changes::{copy_node, has_votes, idle, refuse, enter_view, campaign_outcome, lead_if};
+use crate::changes::{campaign_outcome, copy_node, enter_view, has_votes, idle, lead_if, refuse};
 use crate::configuration::{active, prefix, recorded_from, with_others};
 use crate::entry::{Entry, NodeId};
 use crate::ledger::{last_signature, view_at};
 use crate::majority::{is_in_some, is_member, is_same};
 use crate::node::{Node, Role};
-use crate::step::{Body, Position, Message, Outcome, Refusal, Step};
+use crate::step::{Body, Message, Outcome, Position, Refusal, Step};
 use std::alloc::{AllocError, Global};
 
 /// The last signature of a ledger.
@@ -62,7 +62,9 @@ pub fn with_requests(
     last: Position,
     to: &[NodeId],
 ) -> Result<Vec<Message>, AllocError>
-    ensures { IfOk result (λ all. map seen_message all.items ≡ map seen_message sent.items ++ requests_from x view (seen_position last) to.now) }
+    ensures { IfOk result (λ all.
+        map seen_message all.items
+        ≡ map seen_message sent.items ++ requests_from x view (seen_position last) to.now) }
 {
     match to.split_first() {
         None => Ok(sent),
@@ -80,10 +82,17 @@ pub fn with_requests(
 
 /// A request for a vote to each other node of the active configurations.
 pub fn vote_requests(alloc: Global, x: NodeId, node: &Node) -> Result<Vec<Message>, AllocError>
-    ensures { IfOk result (λ sent. map seen_message sent.items ≡ vote_requests small x (seen node.now)) }
+    ensures { IfOk result (λ sent.
+        map seen_message sent.items ≡ vote_requests small x (seen node.now)) }
 {
     let to = others(alloc, x, node)?;
-    with_requests(Vec::new(alloc), x, node.view, last_signature_position(&node.log), &to)
+    with_requests(
+        Vec::new(alloc),
+        x,
+        node.view,
+        last_signature_position(&node.log),
+        &to,
+    )
 }
 
 /// Candidate of the next view, with its own vote.
@@ -171,7 +180,8 @@ pub fn reply_to_vote_request(
     granted: bool,
     node: &Node,
 ) -> Result<Step, AllocError>
-    ensures { IfOk result (λ step. seen_step step ≡ reply_to_vote_request small x c granted (seen node.now)) }
+    ensures { IfOk result (λ step.
+        seen_step step ≡ reply_to_vote_request small x c granted (seen node.now)) }
 {
     let copy = copy_node(alloc, node)?;
     let message = Message {
@@ -188,7 +198,8 @@ pub fn reply_to_vote_request(
     })
 }
 
-/// A request for a vote: granted where the vote is free for c, and c's last signature is at least this node's.
+/// A request for a vote: granted where the vote is free for c, and c's last signature is at least
+/// this node's.
 #[tactic(auto, unfolding(gl_rules::specs::Elections::on_request_vote))]
 pub fn on_request_vote(
     alloc: Global,
@@ -198,12 +209,14 @@ pub fn on_request_vote(
     theirs: Position,
     node: &Node,
 ) -> Result<Step, AllocError>
-    ensures { IfOk result (λ step. seen_step step ≡ on_request_vote small x c view (seen_position theirs) (seen node.now)) }
+    ensures { IfOk result (λ step.
+        seen_step step ≡ on_request_vote small x c view (seen_position theirs) (seen node.now)) }
 {
     if view < node.view {
         return reply_to_vote_request(alloc, x, c, false, node);
     }
-    let granted = may_vote_for(node.vote, c) && is_up_to_date(theirs, last_signature_position(&node.log));
+    let granted = may_vote_for(node.vote, c)
+        && is_up_to_date(theirs, last_signature_position(&node.log));
     reply_to_vote_request(alloc, x, c, granted, node)
 }
 
@@ -232,7 +245,8 @@ pub fn count_votes(alloc: Global, node: Node) -> Result<Step, AllocError>
     Ok(crate::changes::quiet(alloc, lead_if(won, node), outcome))
 }
 
-/// A reply to a candidate of this view: its vote is added, and the candidate leads where it has won.
+/// A reply to a candidate of this view: its vote is added, and the candidate leads where it has
+/// won.
 #[tactic(auto, unfolding(gl_rules::specs::Elections::on_vote_reply))]
 pub fn on_vote_reply(
     alloc: Global,
@@ -241,7 +255,8 @@ pub fn on_vote_reply(
     granted: bool,
     node: &Node,
 ) -> Result<Step, AllocError>
-    ensures { IfOk result (λ step. seen_step step ≡ on_vote_reply small y view granted (seen node.now)) }
+    ensures { IfOk result (λ step.
+        seen_step step ≡ on_vote_reply small y view granted (seen node.now)) }
 {
     match node.role {
         Role::Candidate => {

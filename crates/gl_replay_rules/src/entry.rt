@@ -5,7 +5,6 @@ ghost use Rattle.std.specs.Option.{option_map};
 ghost use Rattle.gl_safety.specs.SmallBook.{members, set_in, signs};
 
 use gl_safety::small_book::MAX_NODES;
-
 pub use gl_safety::small_book::{Entry, Fault, Kind, NodeId, Nodes, Order};
 
 /// The nodes of a set.

@@ -1,9 +1,10 @@
-//! The rules of consensus as a plain, slow program over a small book in memory: what a node does alone, in its ledger, in
-//! elections and at requests. What messages bring about between nodes, up to each delivery, stands above, in
-//! `gl_replay_delivery`.
+//! The rules of consensus as a plain, slow program over a small book in memory: what a node does
+//! alone, in its ledger, in elections and at requests. What messages bring about between nodes, up
+//! to each delivery, stands above, in `gl_replay_delivery`.
 //!
-//! Each call is one row of the rule table: its clause says that the row of the definitions, at the node that was
-//! handed in, gives the node, the messages and the outcome that are answered. A node that was handed in stays as it is.
+//! Each call is one row of the rule table: its clause says that the row of the definitions, at the
+//! node that was handed in, gives the node, the messages and the outcome that are answered. A node
+//! that was handed in stays as it is.
 #![tactic(auto)]
 
 pub mod changes;
@@ -19,4 +20,4 @@ pub mod step;
 
 pub use gl_safety::small_book::{Entry, Fault, Kind, NodeId, Nodes, Order};
 pub use node::{Node, Role};
-pub use step::{Body, Extended, Position, Message, Outcome, Refusal, Step};
+pub use step::{Body, Extended, Message, Outcome, Position, Refusal, Step};

@@ -30,7 +30,8 @@ pub struct Node {
     pub commit: usize,
     /// Who voted for it in this view.
     pub votes: Vec<NodeId>,
-    /// As a leader: up to which seqno each node is known to hold its log; the first pair of a node counts.
+    /// As a leader: up to which seqno each node is known to hold its log; the first pair of a node
+    /// counts.
     pub matched: Vec<(NodeId, usize)>,
     /// Which seqno each node is sent next; the first pair of a node counts.
     pub next: Vec<(NodeId, usize)>,

@@ -86,7 +86,8 @@ pub fn is_above(seqno: Option<usize>, other: usize) -> bool
     }
 }
 
-/// Whether an entry of this kind marks a node since the last signature, whose removal stands above a commit.
+/// Whether an entry of this kind marks a node since the last signature, whose removal stands above
+/// a commit.
 pub fn is_removed_above(log: &[Entry], commit: usize, kind: &Kind) -> bool
     ensures { result ≡ removed_above log.now commit kind.now }
 {
@@ -149,4 +150,3 @@ pub fn is_fit(log: &[Entry], kind: &Kind) -> bool
         Kind::Evidence => ends_signed(log),
     }
 }
-

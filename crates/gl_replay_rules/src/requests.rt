@@ -33,7 +33,8 @@ pub fn kind_of(order: Order) -> Kind
 
 /// One more entry in the log, with its identifier and this answer.
 pub fn append_result(alloc: Global, e: Entry, answer: u64, node: &Node) -> Result<Step, AllocError>
-    ensures { IfOk result (λ step. seen_step step ≡ append_result small (seen node.now) (Ok (e, answer))) }
+    ensures { IfOk result (λ step.
+        seen_step step ≡ append_result small (seen node.now) (Ok (e, answer))) }
 {
     let seqno = node.log.len() + 1;
     let copy = copy_node(alloc, node)?;
@@ -59,8 +60,8 @@ pub fn submit(alloc: Global, request: u64, node: &Node) -> Result<Step, AllocErr
     }
 }
 
-/// A transaction's request at the leader: no entry was cut off since it began. The small book has no keys, so that nothing it
-/// read has changed.
+/// A transaction's request at the leader: no entry was cut off since it began. The small book has
+/// no keys, so that nothing it read has changed.
 pub fn finish_as_leader(
     alloc: Global,
     len: usize,
@@ -69,7 +70,8 @@ pub fn finish_as_leader(
     request: u64,
     node: &Node,
 ) -> Result<Step, AllocError>
-    ensures { IfOk result (λ step. seen_step step ≡ finish_as_leader small len cuts reads request (seen node.now)) }
+    ensures { IfOk result (λ step.
+        seen_step step ≡ finish_as_leader small len cuts reads request (seen node.now)) }
 {
     if node.cuts != cuts || node.cuts == u64::MAX {
         return refuse(alloc, node, Refusal::RolledBack(cuts, node.cuts));
@@ -81,7 +83,8 @@ pub fn finish_as_leader(
     append_result(alloc, e, request, node)
 }
 
-/// The request of a transaction that began at this length and count of cuts and read these keys, as one entry.
+/// The request of a transaction that began at this length and count of cuts and read these keys, as
+/// one entry.
 #[tactic(auto, unfolding(gl_rules::specs::Requests::finish))]
 pub fn finish(
     alloc: Global,
@@ -91,7 +94,8 @@ pub fn finish(
     request: u64,
     node: &Node,
 ) -> Result<Step, AllocError>
-    ensures { IfOk result (λ step. seen_step step ≡ finish small len cuts reads request (seen node.now)) }
+    ensures { IfOk result (λ step.
+        seen_step step ≡ finish small len cuts reads request (seen node.now)) }
 {
     match node.role {
         Role::Leader => finish_as_leader(alloc, len, cuts, reads, request, node),
@@ -102,7 +106,10 @@ pub fn finish(
 
 /// The entry for a governance request, where it may follow.
 pub fn enter_order(alloc: Global, order: Order, node: &Node) -> Result<Step, AllocError>
-    ensures { IfOk result (λ step. seen_step step ≡ append_result small (seen node.now) (small.govern node.now.log.items node.now.view order)) }
+    ensures { IfOk result (λ step.
+        seen_step step
+        ≡ append_result small (seen node.now)
+        (small.govern node.now.log.items node.now.view order)) }
 {
     let kind = kind_of(order);
     if !is_fit(&node.log, &kind) {
@@ -115,7 +122,8 @@ pub fn enter_order(alloc: Global, order: Order, node: &Node) -> Result<Step, All
     append_result(alloc, e, 0, node)
 }
 
-/// A governance request at the leader: a mark waits until the removal of its node is committed here.
+/// A governance request at the leader: a mark waits until the removal of its node is committed
+/// here.
 pub fn govern_as_leader(alloc: Global, order: Order, node: &Node) -> Result<Step, AllocError>
     ensures { IfOk result (λ step. seen_step step ≡ govern_as_leader small order (seen node.now)) }
 {

@@ -68,7 +68,8 @@ pub enum Refusal {
     ViewLimit,
     /// No evidence stands committed below a committed signature; commit.
     NoLaterSignature(usize),
-    /// Entries were cut off the log since the transaction began: how often they had been when it began, and now.
+    /// Entries were cut off the log since the transaction began: how often they had been when it
+    /// began, and now.
     RolledBack(u64, u64),
     /// The book makes no entry.
     ByLedger(Fault),

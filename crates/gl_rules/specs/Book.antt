@@ -1,10 +1,11 @@
--- What the layer of the ledger tells the rules of consensus: the rules know no more of entries, requests and tables
--- than this record. Seqnos count from 1, and a ledger is the list of its entries from seqno 1 on.
+-- What the layer of the ledger tells the rules of consensus: the rules know no more of entries,
+-- requests and tables than this record. Seqnos count from 1, and a ledger is the list of its
+-- entries from seqno 1 on.
 use Rattle.std.specs.Prelude.{ℕ, List, Bool, Option, Result}
 use Rattle.gl_rules.specs.Identity.{NodeId}
 
--- Over entries E, application requests Q, governance requests G, the reads of a transaction R, answers to
--- requests A, and refusals F.
+-- Over entries E, application requests Q, governance requests G, the reads of a transaction R,
+-- answers to requests A, and refusals F.
 pub record Book (E Q G R A F : Type 0) : Type 0 where
   -- of an entry
   pub view_of : E → ℕ

@@ -19,21 +19,28 @@ may_vote_for None c = true
 may_vote_for (Some y) c = same y c
 
 module _ {E Q G R A F : Type 0} (book : Book E Q G R A F) where
-  -- A node that is in no active configuration of its log up to the last signature never stands.
+  -- A node that is in no active configuration of its log up to the last signature never campaigns.
   abbrev pub may_campaign : NodeId → Node E → Bool
   may_campaign x n = in_some x (active book (signed_prefix book n.log) n.commit)
 
   -- Candidate of the next view, with its own vote.
   abbrev pub become_candidate : NodeId → Node E → Node E
-  become_candidate x n = record (enter_view book (n.view + 1) n) { role = Candidate; vote = Some x; votes = x ∷ [] }
+  become_candidate x n =
+      record (enter_view book (n.view + 1) n) { role = Candidate; vote = Some x; votes = x ∷ [] }
 
   abbrev pub vote_requests : NodeId → Node E → List (Message E)
-  vote_requests x n = map (λ y. record { sender = x; receiver = y; view = n.view; body = RequestVote (last_signature_position book n.log) }) (others book x n)
+  vote_requests x n =
+      let last = RequestVote (last_signature_position book n.log) in
+      map (λ y. record { sender = x; receiver = y; view = n.view; body = last }) (others book x n)
 
   abbrev pub campaign : NodeId → Node E → Step E A F
-  campaign x n = record { node = lead_if_elected book n; sent = vote_requests x n; outcome = campaign_outcome book (has_votes book n) }
+  campaign x n = record {
+    node = lead_if_elected book n;
+    sent = vote_requests x n;
+    outcome = campaign_outcome book (has_votes book n);
+  }
 
-  -- What a node does that doesn't lead and is to stand.
+  -- A node that doesn't lead campaigns for the next view, if it may.
   abbrev pub campaign_if_allowed : NodeId → Node E → Step E A F
   campaign_if_allowed x n =
       if may_campaign x n
@@ -45,7 +52,7 @@ module _ {E Q G R A F : Type 0} (book : Book E Q G R A F) where
   timeout_as Candidate x n = campaign_if_allowed x n
   timeout_as Follower x n = campaign_if_allowed x n
 
-  -- Timeout x: a leader is idle, and any other node stands for the next view, if it may.
+  -- Timeout x: a leader is idle, and any other node campaigns, if it may.
   unfoldable pub timeout : NodeId → Node E → Step E A F
   timeout x n = timeout_as n.role x n
 
@@ -60,12 +67,17 @@ module _ {E Q G R A F : Type 0} (book : Book E Q G R A F) where
     outcome = Done;
   }
 
-  -- RequestVote(view, c, theirs): granted where the vote is free for c, and c's last signature is at least this node's.
+  -- RequestVote(view, c, theirs): granted where the vote is free for c, and c's last signature is
+  -- at least this node's.
   unfoldable pub on_request_vote : NodeId → NodeId → ℕ → Position → Node E → Step E A F
   on_request_vote x c view theirs n =
       if nat_lt view n.view
       then reply_to_vote_request x c false n
-      else reply_to_vote_request x c (may_vote_for n.vote c && is_up_to_date theirs (last_signature_position book n.log)) n
+      else (
+      let granted =
+      may_vote_for n.vote c && is_up_to_date theirs (last_signature_position book n.log) in
+      reply_to_vote_request x c granted n
+      )
 
   abbrev pub add_vote : NodeId → Node E → Node E
   add_vote y n = record n { votes = with_node y n.votes }
@@ -78,11 +90,15 @@ module _ {E Q G R A F : Type 0} (book : Book E Q G R A F) where
   count_votes n = quiet (lead_if_elected book n) (vote_outcome (has_votes book n))
 
   abbrev pub vote_reply_as : Role → NodeId → ℕ → Bool → Node E → Step E A F
-  vote_reply_as Candidate y view granted n = if granted && (view == n.view) then count_votes (add_vote y n) else idle n
+  vote_reply_as Candidate y view granted n =
+      if granted && (view == n.view)
+      then count_votes (add_vote y n)
+      else idle n
   vote_reply_as Follower y view granted n = idle n
   vote_reply_as Leader y view granted n = idle n
 
-  -- VoteReply(view, y, granted): a candidate of this view adds y's vote, and leads where it has won.
+  -- VoteReply(view, y, granted): a candidate of this view adds y's vote, and leads where it has
+  -- won.
   unfoldable pub on_vote_reply : NodeId → ℕ → Bool → Node E → Step E A F
   on_vote_reply y view granted n = vote_reply_as n.role y view granted n
 
@@ -101,5 +117,7 @@ module _ {E Q G R A F : Type 0} (book : Book E Q G R A F) where
   unfoldable pub step_down : NodeId → NodeId → Node E → Step E A F
   step_down x y n =
       if_leader n (
-      if not (same y x) && in_some y (active book n.log n.commit) then hand_over x y n else refuse n NotPeer
+      if not (same y x) && in_some y (active book n.log n.commit)
+      then hand_over x y n
+      else refuse n NotPeer
       )

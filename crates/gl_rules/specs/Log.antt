@@ -8,7 +8,8 @@ abbrev pub entry_at : {E : Type 0} → List E → ℕ → Option E
 entry_at log zero = None
 entry_at log (suc i) = slice_get log i
 
--- A seqno counted from one entry further on, 0 being none; behind it the answer for the rest.
+-- Where the last signature stands once one more entry is put in front: what was at a seqno is one
+-- further on; where there was none, it is that entry itself at 1, if it signs, else none (0).
 abbrev pub seqno_with_first : Bool → ℕ → ℕ
 seqno_with_first here (suc seqno) = suc (suc seqno)
 seqno_with_first true zero = 1
@@ -33,7 +34,8 @@ module _ {E Q G R A F : Type 0} (book : Book E Q G R A F) where
   last_signature (e ∷ es) = seqno_with_first (book.is_signature e) (last_signature es)
 
   abbrev pub last_signature_position : List E → Position
-  last_signature_position log = record { view = view_at log (last_signature log); seqno = last_signature log }
+  last_signature_position log =
+      record { view = view_at log (last_signature log); seqno = last_signature log }
 
   -- Whether there is an entry, a signature of this view.
   abbrev pub is_signature_in : ℕ → Option E → Bool

@@ -1,4 +1,5 @@
--- Majorities: more than half of a configuration. Half of it is none, and an empty configuration has none.
+-- Majorities: more than half of a configuration. Half of it is none, and an empty configuration has
+-- none.
 use Rattle.std.specs.Prelude.{ℕ, ◌+◌, ◌*◌, List, [], ◌∷◌, Bool, true, ◌&&◌, nat_lt, length, if◌then◌else◌}
 use Rattle.gl_rules.specs.Identity.{NodeId}
 

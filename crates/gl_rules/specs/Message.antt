@@ -13,9 +13,9 @@ pub data Body (E : Type 0) : Type 0 where
   VoteReply : (granted : Bool) → Body E
   -- the entries behind a seqno, and the sender's commit
   Append : (prev : Position) → (entries : List E) → (commit : ℕ) → Body E
-  -- taken up to this seqno; or not taken, and where to try next
+  -- accepted up to this seqno; or not, and which seqno to try next
   AppendReply : (ok : Bool) → (seqno : ℕ) → Body E
-  -- asks the receiver to stand for the next view
+  -- asks the receiver to campaign for the next view
   ProposeVote : Body E
 
 pub record Message (E : Type 0) : Type 0 where

@@ -1,5 +1,5 @@
 -- Requests at the leader: Submit, Finish, Govern, Reserve, Sign, Evidence.
-use Rattle.std.specs.Prelude.{ℕ, ◌+◌, ◌-◌, ◌^◌, Bool, false, ◌&&◌, ◌||◌, not, Option, None, Some, Result, Ok, Err, length, nat_lt, nat_le, ◌==◌, if◌then◌else◌}
+use Rattle.std.specs.Prelude.{ℕ, ◌+◌, ◌-◌, ◌^◌, ◌||◌, not, Option, None, Some, Result, Ok, Err, length, nat_lt, nat_le, ◌==◌, if◌then◌else◌}
 use Rattle.gl_rules.specs.Identity.{NodeId}
 use Rattle.gl_rules.specs.Book.{Book}
 use Rattle.gl_rules.specs.Node.{Node}
@@ -20,7 +20,8 @@ module _ {E Q G R A F : Type 0} (book : Book E Q G R A F) where
   -- One more entry in the log, with its identifier and its answer; or the ledger's refusal.
   abbrev pub append_result : Node E → Result (E × A) F → Step E A F
   append_result n (Err why) = refuse n (ByLedger why)
-  append_result n (Ok made) = quiet (append_entry n made.0) (Accepted (book.view_of made.0) (length n.log + 1) made.1)
+  append_result n (Ok made) =
+      quiet (append_entry n made.0) (Accepted (book.view_of made.0) (length n.log + 1) made.1)
 
   abbrev pub execute_request : Q → Node E → Step E A F
   execute_request q n = append_result n (book.execute n.log n.view q)
@@ -39,13 +40,17 @@ module _ {E Q G R A F : Type 0} (book : Book E Q G R A F) where
       then refuse n (RolledBack cuts n.cuts)
       else unless_conflict (book.conflict n.log len reads) n (execute_request q n)
 
-  -- Finish x (len, cuts, reads, q): a transaction that began at this length and count of cuts and read these keys.
+  -- Finish x (len, cuts, reads, q): a transaction that began at this length and count of cuts and
+  -- read these keys.
   unfoldable pub finish : ℕ → ℕ → R → Q → Node E → Step E A F
   finish len cuts reads q n = if_leader n (finish_as_leader len cuts reads q n)
 
   abbrev pub if_removal_committed : Option ℕ → Node E → Step E A F → Step E A F
   if_removal_committed None n step = step
-  if_removal_committed (Some seqno) n step = if nat_lt n.commit seqno then refuse n (RemovalNotCommitted seqno n.commit) else step
+  if_removal_committed (Some seqno) n step =
+      if nat_lt n.commit seqno
+      then refuse n (RemovalNotCommitted seqno n.commit)
+      else step
 
   abbrev pub unless_mark_refused : Option F → NodeId → Node E → Step E A F → Step E A F
   unless_mark_refused (Some why) y n step = refuse n (ByLedger why)
@@ -75,7 +80,9 @@ module _ {E Q G R A F : Type 0} (book : Book E Q G R A F) where
 
   abbrev pub append_signature : Node E → Result E F → Step E A F
   append_signature n (Err why) = refuse n (ByLedger why)
-  append_signature n (Ok e) = quiet (record (append_entry n e) { used = n.used + 1 }) (Signed (book.view_of e) (length n.log + 1))
+  append_signature n (Ok e) =
+      quiet (record (append_entry n e) { used = n.used + 1 })
+      (Signed (book.view_of e) (length n.log + 1))
 
   abbrev pub sign_as_leader : NodeId → Node E → Step E A F
   sign_as_leader x n =

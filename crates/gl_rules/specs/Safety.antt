@@ -1,6 +1,7 @@
--- What is promised of every run: of any two committed ledgers, at any nodes and moments, one is a prefix of the other;
--- what is reported Committed is never reported Invalid; and each committed ledger is one that the service's layer of the
--- ledger stands for. A moment is a prefix of the list of events.
+-- What is promised of every run: of any two committed ledgers, at any nodes and moments, one is a
+-- prefix of the other; what is reported Committed is never reported Invalid; and each committed
+-- ledger is one that the service's layer of the ledger stands for. A moment is a prefix of the list
+-- of events.
 use Rattle.std.specs.Prelude.{◌≡◌, ℕ, suc, ◌+◌, ◌≤◌, ◌<◌, List, [], ◌∷◌, ◌++◌, true, false, Option, None, Some, Ok, length, take, slice_get, ◌⊎◌}
 use Rattle.gl_base.specs.declared.tx_id.TxId.{TxId}
 use Rattle.gl_base.specs.declared.status_kind.Status.{Status}
@@ -45,69 +46,91 @@ module _ {E Q G R A F : Type 0} (book : Book E Q G R A F) where
 
   -- An entry that marks no node.
   abbrev pub MarksNone : List E → E → Type 0
-  MarksNone log e = (y : NodeId) (seqno : ℕ) → book.mark (log ++ e ∷ []) y ≡ Some seqno → book.mark log y ≡ Some seqno
+  MarksNone log e =
+      (y : NodeId) (seqno : ℕ) →
+      book.mark (log ++ e ∷ []) y ≡ Some seqno → book.mark log y ≡ Some seqno
 
-  -- Where something stands in ledgers: at the seqno of the entry that brought it, and there it stays.
-  pub record KeepsPlaces (Sound : List E → Type 0) (place_of : List E → NodeId → Option ℕ) : Type 0 where
+  -- Where something stands in ledgers: at the seqno of the entry that brought it, and there it
+  -- stays.
+  pub record KeepsPlaces (Sound : List E → Type 0) (place_of : List E → NodeId → Option ℕ) :
+      Type 0 where
     pub none : (y : NodeId) → place_of [] y ≡ None
-    pub stays : (log : List E) (e : E) (y : NodeId) (seqno : ℕ) → Sound (log ++ e ∷ []) → place_of log y ≡ Some seqno → place_of (log ++ e ∷ []) y ≡ Some seqno
-    pub comes : (log : List E) (e : E) (y : NodeId) (seqno : ℕ) → Sound (log ++ e ∷ []) → place_of (log ++ e ∷ []) y ≡ Some seqno →
+    pub stays : (log : List E) (e : E) (y : NodeId) (seqno : ℕ) → Sound (log ++ e ∷ []) →
+        place_of log y ≡ Some seqno → place_of (log ++ e ∷ []) y ≡ Some seqno
+    pub comes : (log : List E) (e : E) (y : NodeId) (seqno : ℕ) → Sound (log ++ e ∷ []) →
+        place_of (log ++ e ∷ []) y ≡ Some seqno →
         (place_of log y ≡ Some seqno) ⊎ (seqno ≡ length log + 1)
 
-  -- A commit that a signature may record: the seqno of a signature, not below what an earlier signature records, and not
-  -- below the removal of a node that was marked since.
+  -- A commit that a signature may record: the seqno of a signature, not below what an earlier
+  -- signature records, and not below the removal of a node that was marked since.
   pub record MayRecord (log : List E) (commit : ℕ) : Type 0 where
     pub signature : E
     pub at : entry_at log commit ≡ Some signature
     pub signs : book.is_signature signature ≡ true
     pub least : greatest_recorded book log ≤ commit
-    pub removals : (y : NodeId) (mark removal : ℕ) → book.mark log y ≡ Some mark → last_signature book log < mark → book.removal log y ≡ Some removal → removal ≤ commit
+    pub removals : (y : NodeId) (mark removal : ℕ) → book.mark log y ≡ Some mark →
+        last_signature book log < mark → book.removal log y ≡ Some removal → removal ≤ commit
 
   -- What the rules ask of the layer of the ledger. Sound is what that layer says of a ledger.
   pub record IsLawful (Sound : List E → Type 0) : Type 0 where
     -- what is made
-    pub executed : (log : List E) (view : ℕ) (q : Q) (e : E) (a : A) → Sound log → ViewsUpTo view log →
-        book.execute log view q ≡ Ok (e, a) → Makes Sound log view e × (book.is_signature e ≡ false) × MarksNone log e
-    pub governed : (log : List E) (view : ℕ) (g : G) (e : E) (a : A) → Sound log → ViewsUpTo view log →
+    pub executed : (log : List E) (view : ℕ) (q : Q) (e : E) (a : A) → Sound log →
+        ViewsUpTo view log →
+        book.execute log view q ≡ Ok (e, a) →
+        Makes Sound log view e × (book.is_signature e ≡ false) × MarksNone log e
+    pub governed : (log : List E) (view : ℕ) (g : G) (e : E) (a : A) → Sound log →
+        ViewsUpTo view log →
         book.govern log view g ≡ Ok (e, a) → Makes Sound log view e × (book.is_signature e ≡ false)
-    pub signed : (x : NodeId) (leaf : ℕ) (log : List E) (view commit : ℕ) (e : E) → Sound log → ViewsUpTo view log → MayRecord log commit →
-        book.sign x leaf log view commit ≡ Ok e → Makes Sound log view e × (book.is_signature e ≡ true) × (book.recorded_commit e ≡ commit)
+    pub signed : (x : NodeId) (leaf : ℕ) (log : List E) (view commit : ℕ) (e : E) → Sound log →
+        ViewsUpTo view log → MayRecord log commit →
+        book.sign x leaf log view commit ≡ Ok e →
+        Makes Sound log view e × (book.is_signature e ≡ true) × (book.recorded_commit e ≡ commit)
     pub evident : (log : List E) (view : ℕ) (e : E) → Sound log → ViewsUpTo view log →
-        book.evidence log view ≡ Ok e → Makes Sound log view e × (book.is_signature e ≡ false) × MarksNone log e
+        book.evidence log view ≡ Ok e →
+        Makes Sound log view e × (book.is_signature e ≡ false) × MarksNone log e
     -- what is taken
-    pub taken : (log : List E) (e : E) → Sound log → book.breaks log e ≡ None → Sound (log ++ e ∷ [])
+    pub taken : (log : List E) (e : E) → Sound log → book.breaks log e ≡ None →
+        Sound (log ++ e ∷ [])
     pub cut : (log : List E) (seqno : ℕ) → Sound log → Sound (take seqno log)
     -- an evidence entry stands right behind a signature
-    pub witnessed : (log : List E) (seqno : ℕ) (e : E) → Sound log → entry_at log (suc seqno) ≡ Some e → book.is_evidence e ≡ true →
+    pub witnessed : (log : List E) (seqno : ℕ) (e : E) → Sound log →
+        entry_at log (suc seqno) ≡ Some e → book.is_evidence e ≡ true →
         (f : E) × (entry_at log seqno ≡ Some f) × (book.is_signature f ≡ true)
     -- removals and marks
     pub removals : KeepsPlaces Sound book.removal
     pub markings : KeepsPlaces Sound book.mark
     -- a mark is no signature, and stands behind the removal of its node
-    pub marked : (log : List E) (e : E) (y : NodeId) → Sound (log ++ e ∷ []) → book.mark (log ++ e ∷ []) y ≡ Some (length log + 1) →
+    pub marked : (log : List E) (e : E) (y : NodeId) → Sound (log ++ e ∷ []) →
+        book.mark (log ++ e ∷ []) y ≡ Some (length log + 1) →
         (book.is_signature e ≡ false) × ((removal : ℕ) × (book.removal log y ≡ Some removal))
     -- a governance request marks no node but the one that it is a mark of
-    pub marks : (log : List E) (view : ℕ) (g : G) (e : E) (a : A) (y : NodeId) (seqno : ℕ) → Sound log → ViewsUpTo view log →
-        book.govern log view g ≡ Ok (e, a) → book.mark (log ++ e ∷ []) y ≡ Some seqno → (book.mark log y ≡ Some seqno) ⊎ (book.marked_node g ≡ Some y)
+    pub marks : (log : List E) (view : ℕ) (g : G) (e : E) (a : A) (y : NodeId) (seqno : ℕ) →
+        Sound log → ViewsUpTo view log →
+        book.govern log view g ≡ Ok (e, a) → book.mark (log ++ e ∷ []) y ≡ Some seqno →
+        (book.mark log y ≡ Some seqno) ⊎ (book.marked_node g ≡ Some y)
 
   -- What retirement asks beside: from its removal on, a node is in no active configuration.
   pub record IsRetiring (Sound : List E → Type 0) : Type 0 where
-    pub removed : (log : List E) (y : NodeId) (removal commit : ℕ) → Sound log → book.removal log y ≡ Some removal → removal ≤ commit → commit ≤ length log →
+    pub removed : (log : List E) (y : NodeId) (removal commit : ℕ) → Sound log →
+        book.removal log y ≡ Some removal → removal ≤ commit → commit ≤ length log →
         in_some y (active book log commit) ≡ false
 
-  -- What the rules ask of the opening ledger: its entries are of the first view, a configuration stands in it, and its
-  -- last entry is its only signature and records its own seqno. The node that signed it is among those that start.
+  -- What the rules ask of the opening ledger: its entries are of the first view, a configuration
+  -- stands in it, and its last entry is its only signature and records its own seqno. The node that
+  -- signed it is among those that start.
   pub record IsOpening (Sound : List E → Type 0) (s : Start E) : Type 0 where
     pub sound : Sound s.opening
     pub views : (i : ℕ) (e : E) → slice_get s.opening i ≡ Some e → book.view_of e ≡ first_view
-    pub follow : (i : ℕ) (e : E) → slice_get s.opening i ≡ Some e → book.breaks (take i s.opening) e ≡ None
+    pub follow : (i : ℕ) (e : E) → slice_get s.opening i ≡ Some e →
+        book.breaks (take i s.opening) e ≡ None
     pub before : ℕ
     pub long : length s.opening ≡ suc before
     pub signature : E
     pub last : slice_get s.opening before ≡ Some signature
     pub signs : book.is_signature signature ≡ true
     pub records : book.recorded_commit signature ≡ suc before
-    pub alone : (i : ℕ) (e : E) → slice_get s.opening i ≡ Some e → book.is_signature e ≡ true → i ≡ before
+    pub alone : (i : ℕ) (e : E) → slice_get s.opening i ≡ Some e → book.is_signature e ≡ true →
+        i ≡ before
     pub configured_at : ℕ
     pub counted : 0 < configured_at
     pub within : configured_at ≤ before
@@ -139,39 +162,52 @@ module _ {E Q G R A F : Type 0} (book : Book E Q G R A F) where
 
   -- Of two committed ledgers one is a prefix of the other.
   abbrev pub Agree : Node E → Node E → Type 0
-  Agree m n = IsPrefixOf (committed_ledger m) (committed_ledger n) ⊎ IsPrefixOf (committed_ledger n) (committed_ledger m)
+  Agree m n =
+      IsPrefixOf (committed_ledger m) (committed_ledger n)
+      ⊎ IsPrefixOf (committed_ledger n) (committed_ledger m)
 
   abbrev pub node_after : Start E → List (Event Q G R) → NodeId → Node E
   node_after s events x = (after book s events).nodes x
 
+  -- Node x at moment i of a list of events.
+  abbrev pub node_at : Start E → List (Event Q G R) → ℕ → NodeId → Node E
+  node_at s events i x = node_after s (take i events) x
+
   -- What holds of a list of events, at all pairs of moments and nodes.
-  pub record IsSafe (Sound : List E → Type 0) (s : Start E) (events : List (Event Q G R)) : Type 0 where
-    pub prefix : (i j : ℕ) (x y : NodeId) → Agree (node_after s (take i events) x) (node_after s (take j events) y)
+  pub record IsSafe (Sound : List E → Type 0) (s : Start E) (events : List (Event Q G R)) :
+      Type 0 where
+    pub prefix : (i j : ℕ) (x y : NodeId) → Agree (node_at s events i x) (node_at s events j y)
     pub status : (i j : ℕ) (x y : NodeId) (id : TxId) →
-        reported_status (node_after s (take i events) x) id ≡ Committed → reported_status (node_after s (take j events) y) id ≡ Invalid → ⊥
-    pub ledger : (i : ℕ) (x : NodeId) → Sound (committed_ledger (node_after s (take i events) x))
+        reported_status (node_at s events i x) id ≡ Committed →
+        reported_status (node_at s events j y) id ≡ Invalid → ⊥
+    pub ledger : (i : ℕ) (x : NodeId) → Sound (committed_ledger (node_at s events i x))
 
   -- Views, votes and leaders, at all pairs of moments and nodes.
   pub record LeadsByVote (s : Start E) (events : List (Event Q G R)) : Type 0 where
     -- a node's view never falls
-    pub views : (i j : ℕ) (x : NodeId) → i ≤ j → (node_after s (take i events) x).view ≤ (node_after s (take j events) x).view
+    pub views : (i j : ℕ) (x : NodeId) → i ≤ j →
+        (node_at s events i x).view ≤ (node_at s events j x).view
     -- a node votes for one candidate in a view
-    pub one_vote : (i j : ℕ) (x c d : NodeId) → (node_after s (take i events) x).view ≡ (node_after s (take j events) x).view →
-        (node_after s (take i events) x).vote ≡ Some c → (node_after s (take j events) x).vote ≡ Some d → c ≡ d
+    pub one_vote : (i j : ℕ) (x c d : NodeId) →
+        (node_at s events i x).view ≡ (node_at s events j x).view →
+        (node_at s events i x).vote ≡ Some c → (node_at s events j x).vote ≡ Some d → c ≡ d
     -- a view has one leader
-    pub one_leader : (i j : ℕ) (x y : NodeId) → (node_after s (take i events) x).view ≡ (node_after s (take j events) y).view →
-        (node_after s (take i events) x).role ≡ Leader → (node_after s (take j events) y).role ≡ Leader → x ≡ y
+    pub one_leader : (i j : ℕ) (x y : NodeId) →
+        (node_at s events i x).view ≡ (node_at s events j y).view →
+        (node_at s events i x).role ≡ Leader → (node_at s events j y).role ≡ Leader → x ≡ y
     -- while it leads, its log only grows
-    pub leader_grows : (i j : ℕ) (x : NodeId) → i ≤ j → (node_after s (take i events) x).view ≡ (node_after s (take j events) x).view →
-        (node_after s (take i events) x).role ≡ Leader → (node_after s (take j events) x).role ≡ Leader →
-        IsPrefixOf (node_after s (take i events) x).log (node_after s (take j events) x).log
+    pub leader_grows : (i j : ℕ) (x : NodeId) → i ≤ j →
+        (node_at s events i x).view ≡ (node_at s events j x).view →
+        (node_at s events i x).role ≡ Leader → (node_at s events j x).role ≡ Leader →
+        IsPrefixOf (node_at s events i x).log (node_at s events j x).log
     -- a leader holds whatever a leader of an earlier view ever commits
-    pub leader_keeps : (i j : ℕ) (x y : NodeId) → (node_after s (take i events) x).view < (node_after s (take j events) y).view →
-        (node_after s (take i events) x).role ≡ Leader → (node_after s (take j events) y).role ≡ Leader →
-        IsPrefixOf (committed_ledger (node_after s (take i events) x)) (node_after s (take j events) y).log
+    pub leader_keeps : (i j : ℕ) (x y : NodeId) →
+        (node_at s events i x).view < (node_at s events j y).view →
+        (node_at s events i x).role ≡ Leader → (node_at s events j y).role ≡ Leader →
+        IsPrefixOf (committed_ledger (node_at s events i x)) (node_at s events j y).log
 
-  -- What a refusal of a message says of its receiver: never that an entry may not follow, and that entries below commit
-  -- would be cut only of a node whose commit is its base, above 0.
+  -- What a refusal of a message says of its receiver: never that an entry may not follow, and that
+  -- entries below commit would be cut only of a node whose commit is its base, above 0.
   abbrev pub RefusedOnlyAtBase : Node E → Outcome A F → Type 0
   RefusedOnlyAtBase n (Refused (ByLedger why)) = ⊥
   RefusedOnlyAtBase n (Refused (BelowCommit commit cut)) = (n.commit ≡ n.base) × (0 < n.base)
@@ -179,26 +215,32 @@ module _ {E Q G R A F : Type 0} (book : Book E Q G R A F) where
 
   -- No message is refused for an entry that may not follow.
   pub record NeverConflicts (s : Start E) (events : List (Event Q G R)) : Type 0 where
-    pub messages : (i which : ℕ) (m : Message E) → slice_get (after book s (take i events)).sent which ≡ Some m →
-        RefusedOnlyAtBase (node_after s (take i events) m.receiver) (happens book (after book s (take i events)) (Deliver which)).outcome
+    pub messages : (i which : ℕ) (m : Message E) →
+        slice_get (after book s (take i events)).sent which ≡ Some m →
+        RefusedOnlyAtBase (node_at s events i m.receiver)
+        (happens book (after book s (take i events)) (Deliver which)).outcome
 
   -- A node that is in a configuration of a ledger, at whatever seqno.
   abbrev pub IsConfigured : NodeId → List E → Type 0
-  IsConfigured x log = (seqno : ℕ) × (nodes : List NodeId) × (book.configuration (take seqno log) ≡ Some nodes) × (member x nodes ≡ true)
+  IsConfigured x log =
+      (seqno : ℕ) × (nodes : List NodeId)
+      × (book.configuration (take seqno log) ≡ Some nodes) × (member x nodes ≡ true)
 
   -- A leader's log may be added to and signed, so that no entry of its own need be refused.
   pub record LeadersMayRecord (s : Start E) (events : List (Event Q G R)) : Type 0 where
     -- each entry of its log may follow those before it
-    pub follows : (i : ℕ) (x : NodeId) → (node_after s (take i events) x).role ≡ Leader → EachFollows (node_after s (take i events) x).log
+    pub follows : (i : ℕ) (x : NodeId) → (node_at s events i x).role ≡ Leader →
+        EachFollows (node_at s events i x).log
     -- none is of a later view
-    pub views : (i : ℕ) (x : NodeId) → (node_after s (take i events) x).role ≡ Leader →
-        ViewsUpTo (node_after s (take i events) x).view (node_after s (take i events) x).log
+    pub views : (i : ℕ) (x : NodeId) → (node_at s events i x).role ≡ Leader →
+        ViewsUpTo (node_at s events i x).view (node_at s events i x).log
     -- a signature behind it may record its commit
-    pub commit : (i : ℕ) (x : NodeId) → (node_after s (take i events) x).role ≡ Leader →
-        MayRecord (node_after s (take i events) x).log (node_after s (take i events) x).commit
+    pub commit : (i : ℕ) (x : NodeId) → (node_at s events i x).role ≡ Leader →
+        MayRecord (node_at s events i x).log (node_at s events i x).commit
     -- it is in a configuration of its log, where the first leader is in one of the opening
-    pub configured : IsConfigured s.first s.opening → (i : ℕ) (x : NodeId) → (node_after s (take i events) x).role ≡ Leader →
-        IsConfigured x (node_after s (take i events) x).log
+    pub configured : IsConfigured s.first s.opening → (i : ℕ) (x : NodeId) →
+        (node_at s events i x).role ≡ Leader →
+        IsConfigured x (node_at s events i x).log
 
   -- A node says that the retirement of y is committed: then y may be switched off.
   abbrev pub IsRetired : Node E → NodeId → Type 0
@@ -207,15 +249,19 @@ module _ {E Q G R A F : Type 0} (book : Book E Q G R A F) where
   abbrev pub IsActive : Node E → NodeId → Type 0
   IsActive n y = in_some y (active book n.log n.commit) ≡ true
 
-  -- A node whose retirement is committed is in no active configuration, then and for good, restarts included.
+  -- A node whose retirement is committed is in no active configuration, then and for good, restarts
+  -- included.
   pub record RetiresSafely (s : Start E) (events : List (Event Q G R)) : Type 0 where
     -- of a node that has said so
-    pub here : (i j : ℕ) (x y : NodeId) → i ≤ j → IsRetired (node_after s (take i events) x) y → IsActive (node_after s (take j events) x) y → ⊥
+    pub here : (i j : ℕ) (x y : NodeId) → i ≤ j → IsRetired (node_at s events i x) y →
+        IsActive (node_at s events j x) y → ⊥
     -- of a node that leads a later view than a leader that says so, whenever each of them leads
     pub later : (i j k : ℕ) (x z y : NodeId) → j ≤ k →
-        (node_after s (take i events) x).role ≡ Leader → IsRetired (node_after s (take i events) x) y →
-        (node_after s (take j events) z).role ≡ Leader → (node_after s (take i events) x).view < (node_after s (take j events) z).view →
-        IsActive (node_after s (take k events) z) y → ⊥
+        (node_at s events i x).role ≡ Leader → IsRetired (node_at s events i x) y →
+        (node_at s events j z).role ≡ Leader →
+        (node_at s events i x).view < (node_at s events j z).view →
+        IsActive (node_at s events k z) y → ⊥
     -- where any node says so, a leader has said so before
-    pub led : (i : ℕ) (x y : NodeId) → IsRetired (node_after s (take i events) x) y →
-        (j : ℕ) × (z : NodeId) × (j ≤ i) × ((node_after s (take j events) z).role ≡ Leader) × IsRetired (node_after s (take j events) z) y
+    pub led : (i : ℕ) (x y : NodeId) → IsRetired (node_at s events i x) y →
+        (j : ℕ) × (z : NodeId) × (j ≤ i)
+        × ((node_at s events j z).role ≡ Leader) × IsRetired (node_at s events j z) y

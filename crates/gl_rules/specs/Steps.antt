@@ -14,14 +14,18 @@ one_more_cut cuts = min (cuts + 1) (2 ^ 64 - 1)
 
 -- The log cut to a length. It is a cut only where an entry is taken away.
 abbrev pub cut_to : {E : Type 0} → ℕ → Node E → Node E
-cut_to seqno n = record n { log = take seqno n.log; cuts = if nat_lt seqno (length n.log) then one_more_cut n.cuts else n.cuts }
+cut_to seqno n = record n {
+  log = take seqno n.log;
+  cuts = if nat_lt seqno (length n.log) then one_more_cut n.cuts else n.cuts;
+}
 
 abbrev pub append_entry : {E : Type 0} → Node E → E → Node E
 append_entry n e = record n { log = n.log ++ e ∷ [] }
 
 -- Becomes the leader of its view.
 abbrev pub become_leader : {E : Type 0} → Node E → Node E
-become_leader n = record n { role = Leader; start = length n.log + 1; matched = λ _. 0; next = λ _. None }
+become_leader n =
+    record n { role = Leader; start = length n.log + 1; matched = λ _. 0; next = λ _. None }
 
 -- At a leader the answer; any other node refuses.
 abbrev pub as_leader : {E A F : Type 0} → Role → Node E → Step E A F → Step E A F
@@ -33,9 +37,15 @@ abbrev pub if_leader : {E A F : Type 0} → Node E → Step E A F → Step E A F
 if_leader n step = as_leader n.role n step
 
 module _ {E Q G R A F : Type 0} (book : Book E Q G R A F) where
-  -- A view that rises: no vote, no leader, and the log cut to its last signature.
+  -- Enters a later view: no vote, no leader, a follower, and the log cut to its last signature.
   unfoldable pub enter_view : ℕ → Node E → Node E
-  enter_view view n = record (cut_to (last_signature book n.log) n) { view = view; vote = None; role = Follower; leader = None; votes = [] }
+  enter_view view n = record (cut_to (last_signature book n.log) n) {
+    view = view;
+    vote = None;
+    role = Follower;
+    leader = None;
+    votes = [];
+  }
 
   -- Enters a view where that is later than its own.
   abbrev pub update_view : ℕ → Node E → Node E

@@ -1,5 +1,5 @@
--- The world: all nodes, and every message ever sent. A message that is lost is one that is never delivered, and a
--- message may be delivered as often as one likes, at any moment after it was sent.
+-- The world: all nodes, and every message ever sent. A message that is lost is one that is never
+-- delivered, and a message may be delivered as often as one likes, at any moment after it was sent.
 use Rattle.std.specs.Prelude.{ℕ, ◌+◌, List, [], ◌∷◌, ◌++◌, Option, None, Some, length, slice_get, if◌then◌else◌}
 use Rattle.gl_rules.specs.Identity.{NodeId, same, member, put}
 use Rattle.gl_rules.specs.Book.{Book}
@@ -33,7 +33,8 @@ pub record World (E : Type 0) : Type 0 where
   pub nodes : NodeId → Node E
   pub sent : List (Message E)
 
--- With what a service begins: the opening ledger, the nodes that have it, and the one of them that signed it.
+-- With what a service begins: the opening ledger, the nodes that have it, and the one of them that
+-- signed it.
 pub record Start (E : Type 0) : Type 0 where
   pub opening : List E
   pub starting : List NodeId
@@ -62,16 +63,21 @@ joiner = record {
   cuts = 0;
 }
 
--- A node that starts the service: it has the opening ledger, committed, and has voted for the first node.
+-- A node that starts the service: it has the opening ledger, committed, and has voted for the first
+-- node.
 abbrev pub starter : {E : Type 0} → Start E → Node E
 starter s = record joiner { vote = Some s.first; log = s.opening; commit = length s.opening }
 
 -- The node that signed the opening ledger leads, with one leaf used.
 abbrev pub leader_at_start : {E : Type 0} → Start E → Node E
-leader_at_start s = record (starter s) { role = Leader; start = length s.opening + 1; reserved = 1; used = 1 }
+leader_at_start s =
+    record (starter s) { role = Leader; start = length s.opening + 1; reserved = 1; used = 1 }
 
 abbrev pub node_at_start : {E : Type 0} → Start E → NodeId → Node E
-node_at_start s x = if same x s.first then leader_at_start s else (if member x s.starting then starter s else joiner)
+node_at_start s x =
+    if same x s.first
+    then leader_at_start s
+    else (if member x s.starting then starter s else joiner)
 
 abbrev pub begin : {E : Type 0} → Start E → World E
 begin s = record { nodes = λ x. node_at_start s x; sent = [] }
@@ -83,11 +89,15 @@ pub record Happened (E A F : Type 0) : Type 0 where
 
 -- An event changes the one node that it names, and its messages are appended.
 abbrev pub at : {E A F : Type 0} → World E → NodeId → Step E A F → Happened E A F
-at w x step = record { world = record { nodes = put w.nodes x step.node; sent = w.sent ++ step.sent }; outcome = step.outcome }
+at w x step = record {
+  world = record { nodes = put w.nodes x step.node; sent = w.sent ++ step.sent };
+  outcome = step.outcome;
+}
 
--- A refused delivery leaves the node as it was, whatever had risen.
+-- A refused delivery leaves the node as it was, in its view too.
 abbrev pub undo_if_refused : {E A F : Type 0} → Outcome A F → Node E → Step E A F → Step E A F
-undo_if_refused (outcome.Refused why) n step = record { node = n; sent = []; outcome = outcome.Refused why }
+undo_if_refused (outcome.Refused why) n step =
+    record { node = n; sent = []; outcome = outcome.Refused why }
 undo_if_refused outcome.Done n step = step
 undo_if_refused outcome.Idle n step = step
 undo_if_refused outcome.BecameCandidate n step = step
@@ -100,7 +110,8 @@ module _ {E Q G R A F : Type 0} (book : Book E Q G R A F) where
   abbrev pub answer_as : Body E → NodeId → NodeId → ℕ → Node E → Step E A F
   answer_as (RequestVote theirs) x y view n = elections.on_request_vote book x y view theirs n
   answer_as (VoteReply granted) x y view n = elections.on_vote_reply book y view granted n
-  answer_as (Append prev entries commit) x y view n = replication.on_append book x y view prev entries commit n
+  answer_as (Append prev entries commit) x y view n =
+      replication.on_append book x y view prev entries commit n
   answer_as (AppendReply ok seqno) x y view n = replication.on_append_reply book y view ok seqno n
   answer_as ProposeVote x y view n = elections.on_propose_vote book x view n
 

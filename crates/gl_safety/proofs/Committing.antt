@@ -1,8 +1,8 @@
 -- What is committed anywhere, a leader has committed before.
-use Rattle.std.proofs.Common.{◌≡◌, ◌≢◌, ◌⊎◌, inl, inr, ⊎_elim, ℕ, zero, suc, ◌≤◌, ◌<◌, List, [], ◌∷◌, ◌++◌, length, take, Bool, true, ◌==◌, if◌then◌else◌, Some, slice_get, refl, sym, ap, ◌∙◌, subst, arith}
+use Rattle.std.proofs.Common.{◌≡◌, ◌≢◌, ◌⊎◌, inl, inr, ⊎_elim, ℕ, zero, suc, ◌≤◌, ◌<◌, List, [], ◌∷◌, length, take, Bool, if◌then◌else◌, Some, slice_get, refl, sym, ap, ◌∙◌, subst, arith}
 use Rattle.std.proofs.lemmas.Bool.{cases_eq, cases_lt}
 use Rattle.std.proofs.lemmas.Bool.Decides.{nat_tests}
-use Rattle.gl_rules.specs.Identity.{NodeId, same, member}
+use Rattle.gl_rules.specs.Identity.{NodeId, member}
 use Rattle.gl_rules.specs.Book.{Book}
 use Rattle.gl_rules.specs.Node.{Node, Leader}
 use Rattle.gl_rules.specs.World.{Start, Event, World, happens, run, begin, after, starter, joiner, leader_at_start, node_at_start}
@@ -65,16 +65,14 @@ module _ {E Q G R A F : Type 0} {b : Book E Q G R A F} {s : Start E} (o : IsOpen
       let p = known_at es i in
       let e = there es i h in
       let q = onward_event o la (after b s (take i es)) p.0 e.0 p.1 in
-      let same = one_more es i e.0 e.1 in
-      (
+      let same = one_more es i e.0 e.1 in (
         q.0,
         subst (λ (w : World E). Holding o la w q.0) same q.1,
         known es i p.0 q.0 p.2 (subst (Committers o la p.0 q.0) same q.3),
       ))
       (λ (h : length es ≤ i).
       let p = known_at es i in
-      let same : take i es ≡ take (suc i) es = take_past i es h ∙ sym (take_past (suc i) es (omega arith)) in
-      (
+      let same : take i es ≡ take (suc i) es = take_past i es h ∙ sym (take_past (suc i) es (omega arith)) in (
         p.0,
         subst (λ (l : List (Event Q G R)). Holding o la (after b s l) p.0) same p.1,
         λ v c. let k = p.2 v c in record { moment = k.moment; by = k.by; before = omega (arith, k.before); role = k.role; view = k.view; commit = k.commit },

@@ -1,6 +1,6 @@
 -- What is certified stays: a node whose log reaches a signature at or below a certified one keeps it, at each event and so
 -- for good.
-use Rattle.std.proofs.Common.{◌≡◌, ◌≢◌, ◌⊎◌, inl, inr, ⊎_elim, ℕ, suc, ◌+◌, ◌-◌, ◌≤◌, ◌<◌, min, List, [], ◌∷◌, ◌++◌, length, take, drop, Bool, true, false, ◌&&◌, ◌||◌, ◌==◌, nat_lt, nat_le, if◌then◌else◌, Option, Some, None, Result, Ok, Err, slice_get, refl, sym, ap, ◌∙◌, subst, arith}
+use Rattle.std.proofs.Common.{◌≡◌, ◌≢◌, ◌⊎◌, inl, inr, ⊎_elim, ℕ, ◌+◌, ◌-◌, ◌≤◌, ◌<◌, min, List, [], ◌∷◌, length, take, drop, true, false, ◌&&◌, ◌||◌, ◌==◌, nat_lt, nat_le, if◌then◌else◌, Some, Result, Ok, Err, slice_get, refl, sym, ap, ◌∙◌, subst, arith}
 use Rattle.std.proofs.lemmas.Bool.{cases_eq, cases_lt}
 use Rattle.std.proofs.lemmas.Bool.Decides.{nat_tests}
 use Rattle.gl_rules.specs.Identity.{NodeId}
@@ -9,14 +9,14 @@ use Rattle.gl_rules.specs.Node.{Node, Role, Follower, Candidate, Leader}
 use Rattle.gl_rules.specs.Message.{Position, Message, Body, RequestVote, VoteReply, Append, AppendReply, ProposeVote}
 use Rattle.gl_rules.specs.Outcome.{Outcome, Step}
 use Rattle.gl_rules.specs.Outcome as outcome
-use Rattle.gl_rules.specs.Log.{view_at, last_signature}
+use Rattle.gl_rules.specs.Log.{view_at}
 use Rattle.gl_rules.specs.Steps.{cut_to, enter_view, append_entry, update_view}
 use Rattle.gl_rules.specs.Elections.{may_campaign, become_candidate}
 use Rattle.gl_rules.specs.Replication.{matching_prefix_len, checked_append, accept_entries, append_reply, highest_possible_match, accept_or_refuse, merge_entries, merge_if_matching, become_follower, append_as, on_append, with_snapshot}
 use Rattle.gl_rules.specs.World.{Start, Event, World, happens, run, begin, after}
 use Rattle.gl_rules.specs.Safety.{IsOpening, IsLawful, EachFollows}
 use Rattle.gl_safety.proofs.Ids.{by_test}
-use Rattle.gl_safety.proofs.Lists.{Same, there, within, take_get, drop_get, get_left}
+use Rattle.gl_safety.proofs.Lists.{there, within, take_get, drop_get, get_left}
 use Rattle.gl_safety.proofs.Story.{Story}
 use Rattle.gl_safety.proofs.Facts.{Segment, Mark, agree}
 use Rattle.gl_safety.proofs.Certificates.{Cert, Sured, Tale}
@@ -27,7 +27,6 @@ use Rattle.gl_safety.proofs.Soundness.{sound_cut}
 use Rattle.gl_safety.proofs.Standing.{good_rise}
 use Rattle.gl_safety.proofs.Following.{good_follow}
 use Rattle.gl_safety.proofs.Merging.{held_le, held_ends, applied_is}
-use Rattle.gl_safety.proofs.Replicas.{behind}
 use Rattle.gl_safety.proofs.Runs.{Holding, Later, later_same, later_then, onward_event, first_story, run_append}
 use Rattle.gl_safety.proofs.Beginning.{holding_first}
 use Rattle.gl_safety.proofs.Prefixes.{take_further}
@@ -194,8 +193,7 @@ module _ {E Q G R A F : Type 0} {b : Book E Q G R A F} {s : Start E} (o : IsOpen
   run_keeps [] w g k = (g, k, later_same o la g, λ h later i v j e c x has. has)
   run_keeps (f ∷ es) w g k =
       let p = onward_event o la w g f k in
-      let q = run_keeps es (happens b w f).world p.0 p.1 in
-      (
+      let q = run_keeps es (happens b w f).world p.0 p.1 in (
         q.0,
         q.1,
         later_then o la g p.0 q.0 p.2 q.2,

@@ -1,12 +1,12 @@
 -- A leader may add to its log and sign it, and it is in a configuration of it.
-use Rattle.std.proofs.Common.{◌≡◌, ◌⊎◌, inl, inr, ⊎_elim, ℕ, zero, suc, ◌+◌, ◌-◌, ◌≤◌, ◌<◌, min, List, [], ◌∷◌, ◌++◌, length, take, drop, Bool, true, false, ◌&&◌, ◌||◌, ◌==◌, nat_lt, nat_le, if◌then◌else◌, Option, Some, None, Result, Ok, Err, slice_get, refl, sym, ap, ◌∙◌, subst, arith}
+use Rattle.std.proofs.Common.{◌≡◌, ◌⊎◌, inl, inr, ⊎_elim, ℕ, zero, suc, ◌+◌, ◌-◌, ◌≤◌, ◌<◌, min, List, [], ◌∷◌, ◌++◌, length, take, drop, Bool, true, false, ◌&&◌, ◌||◌, ◌==◌, nat_lt, nat_le, if◌then◌else◌, Option, Some, None, Result, Ok, Err, refl, sym, ap, ◌∙◌, subst, arith}
 use Rattle.std.specs.Option.{option_to_list}
 use Rattle.std.proofs.lemmas.Bool.{cases_lt}
 use Rattle.std.proofs.lemmas.Bool.Decides.{nat_tests}
 use Rattle.gl_rules.specs.Identity.{NodeId, same, member}
 use Rattle.gl_rules.specs.Book.{Book}
 use Rattle.gl_rules.specs.Node.{Node, Role, Follower, Candidate, Leader}
-use Rattle.gl_rules.specs.Message.{Position, Message, Body, RequestVote, VoteReply, Append, AppendReply, ProposeVote}
+use Rattle.gl_rules.specs.Message.{Position, Body, RequestVote, VoteReply, Append, AppendReply, ProposeVote}
 use Rattle.gl_rules.specs.Outcome.{Step}
 use Rattle.gl_rules.specs.Outcome as outcome
 use Rattle.gl_rules.specs.Log.{entry_at, view_at, signed_prefix}
@@ -17,7 +17,7 @@ use Rattle.gl_rules.specs.Replication.{matching_prefix_len, checked_append, acce
 use Rattle.gl_rules.specs.World.{Start, Event, World, happens, run, begin, node_at_start, starter, joiner, leader_at_start}
 use Rattle.gl_rules.specs.Safety.{IsOpening, IsLawful, EachFollows, IsConfigured, LeadersMayRecord, node_after}
 use Rattle.gl_safety.proofs.Ids.{by_test, same_is}
-use Rattle.gl_safety.proofs.Lists.{same_take, get_left, take_past, within}
+use Rattle.gl_safety.proofs.Lists.{same_take, get_left, take_past}
 use Rattle.gl_safety.proofs.Complete.{settled}
 use Rattle.gl_safety.proofs.Runs.{Holding, first_story, onward_run}
 use Rattle.gl_safety.proofs.Story.{Story}

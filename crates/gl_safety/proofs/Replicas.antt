@@ -205,8 +205,7 @@ module _ {E Q G R A F : Type 0} {b : Book E Q G R A F} {s : Start E} (o : IsOpen
       go r (Some p) d =
           let w = greatest_is x n (length n.log) p d in
           let h = told_committed n.view p g in
-          let far : suc w.0 ≤ h.committed n.view = let u = w.1 in grind (arith, id_tests) in
-          (
+          let far : suc w.0 ≤ h.committed n.view = let u = w.1 in grind (arith, id_tests) in (
             h,
             record {
               grow = grows_committed b.view_of x n.view p g;

@@ -1,19 +1,18 @@
 -- A node whose retirement is committed is in no active configuration of a node that said so, nor of a later leader, for good.
-use Rattle.std.proofs.Common.{◌≡◌, ◌≢◌, ◌⊎◌, inl, inr, ⊎_elim, ℕ, suc, ◌≤◌, ◌<◌, List, length, take, Bool, true, false, nat_le, nat_lt, if◌then◌else◌, Option, Some, None, slice_get, refl, sym, ap, ◌∙◌, true≢false, arith}
+use Rattle.std.proofs.Common.{◌≡◌, ◌≢◌, inl, inr, ⊎_elim, ℕ, suc, ◌≤◌, ◌<◌, List, length, take, Bool, true, false, nat_le, nat_lt, if◌then◌else◌, Option, Some, None, slice_get, refl, sym, ap, ◌∙◌, true≢false, arith}
 use Rattle.std.proofs.lemmas.Bool.{cases_lt}
 use Rattle.std.proofs.lemmas.Bool.Decides.{nat_tests}
 use Rattle.gl_rules.specs.Identity.{NodeId}
 use Rattle.gl_rules.specs.Book.{Book}
 use Rattle.gl_rules.specs.Node.{Node, Leader}
 use Rattle.gl_rules.specs.Log.{greatest_recorded, last_signature}
-use Rattle.gl_rules.specs.Replication.{is_reached}
-use Rattle.gl_rules.specs.Retirement.{Stage, Ordered, Signed, Completed, RetiredCommitted, stage}
+use Rattle.gl_rules.specs.Retirement.{Ordered, Signed, Completed, RetiredCommitted, stage}
 use Rattle.gl_rules.specs.World.{Start, Event, World, after}
 use Rattle.gl_rules.specs.Safety.{IsOpening, IsLawful, EachFollows, IsRetiring, IsRetired, IsActive, RetiresSafely}
-use Rattle.gl_safety.proofs.Lists.{Same, there, within}
+use Rattle.gl_safety.proofs.Lists.{Same, within}
 use Rattle.gl_safety.proofs.Story.{Story}
 use Rattle.gl_safety.proofs.Facts.{Matches, agree}
-use Rattle.gl_safety.proofs.Certificates.{SureOver, Cert, Sured, Settled, Tale}
+use Rattle.gl_safety.proofs.Certificates.{SureOver, Cert, Sured, Tale}
 use Rattle.gl_safety.proofs.Complete.{complete}
 use Rattle.gl_safety.proofs.Signatures.{recorded_le}
 use Rattle.gl_safety.proofs.Invariants.{Good, sure_within, settled_of}
@@ -97,12 +96,11 @@ module _ {E Q G R A F : Type 0} {b : Book E Q G R A F} {s : Start E} (o : IsOpen
           let mine = zz.logged.mine ch in
           let top = complete o h t n.view z (q.later.chief n.view z ch) c.depth v j c.last c.cert c.mark d in
           let at_end = agree b h.led (h.led v) (h.led n.view) j c.last (t.matches v) (t.matches n.view) c.mark.at top i e (omega (arith, c.le)) c.leads in
-          let low = (t.bound v).view i e c.leads in
-          (
+          let low = (t.bound v).view i e c.leads in (
             ap (λ l. slice_get l i) mine ∙ ⊎_elim
-            (λ (u : slice_get (q.story.led n.view) i ≡ Some e). u)
-            (λ (u : b.view_of e ≡ n.view). absurd (omega (arith, low.1)))
-            (q.later.fresh n.view z i e ch at_end),
+                (λ (u : slice_get (q.story.led n.view) i ≡ Some e). u)
+                (λ (u : b.view_of e ≡ n.view). absurd (omega (arith, low.1)))
+                (q.later.fresh n.view z i e ch at_end),
             inl (omega arith),
           )
 

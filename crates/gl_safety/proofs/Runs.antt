@@ -1,5 +1,5 @@
 -- Each event, and so each list of events, keeps the invariants.
-use Rattle.std.proofs.Common.{◌∙◌, ◌≡◌, ◌⊎◌, inl, inr, ⊎_elim, sym, ap, subst, Bool, length, ℕ, ◌≤◌, List, [], ◌∷◌, ◌++◌, false, ◌==◌, nat_lt, if◌then◌else◌, Option, Some, None, slice_get, refl, arith}
+use Rattle.std.proofs.Common.{◌∙◌, ◌≡◌, ◌⊎◌, inl, inr, ⊎_elim, ap, Bool, length, ℕ, ◌≤◌, List, [], ◌∷◌, ◌++◌, false, ◌==◌, nat_lt, if◌then◌else◌, Option, Some, None, slice_get, refl, arith}
 use Rattle.std.proofs.lemmas.Bool.Decides.{nat_tests}
 use Rattle.gl_rules.specs.Identity.{NodeId, put}
 use Rattle.gl_rules.specs.Book.{Book}

@@ -2,7 +2,6 @@
 -- Messages count from 0.
 use Rattle.std.proofs.Common.{◌≡◌, ℕ, ◌-◌, List, [], ◌∷◌, ◌++◌, length, map, true, false, Option, Some, None, slice_get, refl}
 use Rattle.gl_base.specs.declared.status_kind.Status.TheVariants.{Invalid}
-use Rattle.gl_rules.specs.Identity.{NodeId}
 use Rattle.gl_rules.specs.Node.{Node}
 use Rattle.gl_rules.specs.Message.{Message, Body, VoteReply, AppendReply}
 use Rattle.gl_rules.specs.Outcome as outcome
@@ -15,7 +14,9 @@ use Rattle.gl_rules.specs.Safety.{reported_status}
 use Rattle.gl_safety.specs.declared.small_book.Entry.{Entry}
 use Rattle.gl_safety.specs.declared.small_book.Order.{Order}
 use Rattle.gl_safety.specs.declared.small_book.Order.TheVariants.{SetNodes, RemoveNode, MarkNode}
+use Rattle.gl_safety.specs.declared.small_book.Kind.TheVariants.{Removal, Mark, Signature}
 use Rattle.gl_safety.specs.declared.small_book.Fault.{Fault}
+use Rattle.gl_safety.specs.declared.small_book.Fault.TheVariants.{Unfit}
 use Rattle.gl_safety.specs.SmallBook.{small}
 use Rattle.gl_safety.proofs.SmallRuns.{set, service, rules_open, one, two, three, four, five}
 
@@ -182,3 +183,17 @@ snapshot_told = refl
 snapshot_base : ((after small (service one []) (snapshot ++ Install two one ∷ [])).nodes two).base ≡ 4
 unfolding rules_open
 snapshot_base = refl
+
+-- What a signature may record behind a removal at 3, a signature at 4 that records 2, and a mark at 5: neither 2, as the
+-- removal stands above it, nor 3 or 6, where no signature stands, but 4.
+abbrev behind_mark : List Entry
+behind_mark =
+    (service one (two ∷ [])).opening
+    ++ record { view = 2; kind = Removal one (set (two ∷ [])) }
+    ∷ record { view = 2; kind = Signature 2 }
+    ∷ record { view = 2; kind = Mark one } ∷ []
+
+recorded_behind_mark : map (λ commit. small.breaks behind_mark (record { view = 2; kind = Signature commit })) (2 ∷ 3 ∷ 4 ∷ 6 ∷ []) ≡
+    Some Unfit ∷ Some Unfit ∷ None ∷ Some Unfit ∷ []
+unfolding rules_open
+recorded_behind_mark = refl

@@ -1,5 +1,5 @@
--- A small book in memory: entries with a view and a kind. It shows that what is asked of the ledger's layer can be met, and
--- that a commit which may be recorded is all that a signature needs.
+-- A small book in memory: entries with a view and a kind. It shows that what is asked of the
+-- ledger's layer can be met, and that a commit which may be recorded is all that a signature needs.
 use Rattle.std.specs.Prelude.{ℕ, suc, List, [], ◌∷◌, ◌++◌, length, take, min, Bool, true, false, ◌&&◌, not, nat_lt, nat_le, ◌==◌, is_some, is_none, if◌then◌else◌, Option, Some, None, Result, Ok, Err}
 use Rattle.gl_rules.specs.Identity.{NodeId, same, member}
 use Rattle.gl_rules.specs.Book.{Book}
@@ -152,20 +152,26 @@ abbrev pub none_above : List Entry → ℕ → List Entry → Bool
 none_above log commit [] = true
 none_above log commit (e ∷ es) = not (removed_above log commit e.kind) && none_above log commit es
 
--- Whether a signature may record this commit: the first one its own seqno; any other one the seqno of a signature, not below
--- what an earlier one records, and not below the removal of a node that was marked since the last one.
+-- Whether a signature may record this commit: the first one its own seqno; any other one the seqno
+-- of a signature, not below what an earlier one records, and not below the removal of a node that
+-- was marked since the last one.
 abbrev pub is_recordable : List Entry → ℕ → Bool
 is_recordable log commit =
     if last_signature bare log == 0
     then commit == suc (length log)
-    else (signs_at (entry_at log commit) && nat_le (greatest_recorded bare log) commit && none_above log commit log)
+    else (
+    signs_at (entry_at log commit) && nat_le (greatest_recorded bare log) commit
+    && none_above log commit log
+    )
 
--- Whether an entry of this kind may follow: no removed node comes again, a mark stands behind its removal, a signature
--- records a commit that may be recorded, and evidence stands right behind a signature.
+-- Whether an entry of this kind may follow: no removed node comes again, a mark stands behind its
+-- removal, a signature records a commit that may be recorded, and evidence stands right behind a
+-- signature.
 abbrev pub fits : List Entry → Kind → Bool
 fits log Plain = true
 fits log (Change nodes) = none_removed log (members nodes)
-fits log (Removal node nodes) = not (member node (members nodes)) && none_removed log (members nodes)
+fits log (Removal node nodes) =
+    not (member node (members nodes)) && none_removed log (members nodes)
 fits log (Mark node) = is_some (removal_of log node)
 fits log (Signature commit) = is_recordable log commit
 fits log Evidence = signs_at (entry_at log (length log))
@@ -186,7 +192,8 @@ made_if false x = Err Unfit
 abbrev pub small : Book Entry ℕ Order ℕ ℕ Fault
 small = record bare {
   execute = λ log view q. Ok (record { view = view; kind = Plain }, q);
-  govern = λ log view g. made_if (fits log (kind_of g)) (record { view = view; kind = kind_of g }, 0);
+  govern =
+      λ log view g. made_if (fits log (kind_of g)) (record { view = view; kind = kind_of g }, 0);
   sign = λ x leaf log view commit. Ok (record { view = view; kind = Signature commit });
   evidence = λ log view. made_if (fits log Evidence) (record { view = view; kind = Evidence });
   breaks = λ log e. fault_of (fits log e.kind);
@@ -194,7 +201,8 @@ small = record bare {
 
 -- How a service of it begins: the set of trusted nodes, and a signature that records its own seqno.
 abbrev pub opening : Nodes → List Entry
-opening nodes = record { view = 2; kind = Change nodes } ∷ record { view = 2; kind = Signature 2 } ∷ []
+opening nodes =
+    record { view = 2; kind = Change nodes } ∷ record { view = 2; kind = Signature 2 } ∷ []
 
 -- a service of these nodes, of which the first signed the opening
 abbrev pub start : Nodes → NodeId → Start Entry

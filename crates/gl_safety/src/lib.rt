@@ -1,4 +1,5 @@
-//! What the rules of consensus promise of every run: laws, and no code; and a small ledger that has all that they ask.
+//! What the rules of consensus promise of every run: laws, and no code; and a small ledger that has
+//! all that they ask.
 #![tactic(auto)]
 
 pub mod small_book;
@@ -9,8 +10,9 @@ ghost use Rattle.gl_rules.specs.Outcome.{Refusal, Refused};
 ghost use Rattle.gl_rules.specs.World.{Event, Start, World, happens};
 ghost use Rattle.gl_rules.specs.Safety.{EachFollows, IsRetiring, IsSafe, IsService, LeadersMayRecord, LeadsByVote, LeavesAll, NeverConflicts, RetiresSafely};
 
-/// The rules of consensus are safe, whatever happens in whatever order: timeouts, lost, repeated and late messages,
-/// several configurations that are not yet committed, restarts and snapshots among it.
+/// The rules of consensus are safe, whatever happens in whatever order: timeouts, lost, repeated
+/// and late messages, several configurations that are not yet committed, restarts and snapshots
+/// among it.
 pub fn is_safe<E, Q, G, R, A, F>()
     ensures safe { (book : Book E Q G R A F) (s : Start E) → IsService book s →
         (events : List (Event Q G R)) → IsSafe book (EachFollows book) s events }
@@ -23,6 +25,7 @@ pub fn is_safe<E, Q, G, R, A, F>()
     ensures retirement { (book : Book E Q G R A F) (s : Start E) → IsService book s →
         IsRetiring book (EachFollows book) →
         (events : List (Event Q G R)) → RetiresSafely book s events }
-    ensures refused { (book : Book E Q G R A F) (w : World E) (event : Event Q G R) (why : Refusal F) →
+    ensures refused { (book : Book E Q G R A F) (w : World E) (event : Event Q G R) →
+        (why : Refusal F) →
         (happens book w event).outcome ≡ Refused why → LeavesAll w (happens book w event).world }
 {}

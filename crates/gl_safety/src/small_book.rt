@@ -1,5 +1,5 @@
-//! A small ledger in memory, with the laws that the rules of consensus ask of a ledger's layer: it shows that they can be
-//! met, and runs over it compute.
+//! A small ledger in memory, with the laws that the rules of consensus ask of a ledger's layer: it
+//! shows that they can be met, and runs over it compute.
 
 ghost use Rattle.std.specs.Prelude.{◌≡◌, true};
 ghost use Rattle.gl_rules.specs.Identity.{NodeId, member};
@@ -59,7 +59,8 @@ pub enum Fault {
     Unfit,
 }
 
-/// The small book has the laws that the rules of consensus ask of a book, and each service of it begins as they ask.
+/// The small book has the laws that the rules of consensus ask of a book, and each service of it
+/// begins as they ask.
 pub fn is_lawful()
     ensures lawful { IsLawful small (EachFollows small) }
     ensures retiring { IsRetiring small (EachFollows small) }

@@ -1,12 +1,16 @@
 -- One call more on the record of a disk in memory.
-use Rattle.std.proofs.Common.{◌≡◌, ℕ, zero, suc, ◌+◌, ◌-◌, ◌*◌, ◌<◌, ◌≤◌, max, min, List, [], ◌∷◌, ◌++◌, length, take, drop, get_or, slice_range, Result, Ok, Err, OnOk, refl, sym, subst, ◌∙◌, ap, arith, length-drop}
-use Rattle.std.proofs.lemmas.List.{take_more, take_at, take_all, drop_at, drop_all, take-append-le, drop-append-le, take_min, drop_min, drop-drop}
+use Rattle.std.proofs.Common.{◌≡◌, ℕ, zero, suc, ◌+◌, ◌-◌, ◌*◌, ◌/◌, ◌<◌, ◌≤◌, max, Bool, true, false, nat_le, if◌then◌else◌, List, [], ◌∷◌, ◌++◌, length, take, drop, get_or, slice_range, refl, sym, subst, ◌∙◌, ap, arith, length-take, length-drop}
+use Rattle.std.proofs.lemmas.List.{take_more, take_all, drop_at, take-append-le, drop-append-le, length-replicate}
+use Rattle.std.proofs.lemmas.Bool.Decides.{nat_tests}
 use Rattle.std.proofs.Math.Nat.{suc-mul}
 use Rattle.gl_outside.specs.Disk.{Step, Kept, Touched, Torn, IsImage, written}
 use Rattle.gl_outside.specs.Record.{done_by, step_of, reads_after, steps_after, past_of, piece_end, pieces_end, Leads}
+use Rattle.gl_outside.specs.Tear.{left_of, torn_write, left_by, left_after}
+use Rattle.gl_outside.specs.declared.tear.Tear.TheVariants.{Old, Whole, Half, Filled}
+use Rattle.gl_outside.specs.declared.tear.Tear.{Tear}
 use Rattle.gl_outside.specs.declared.sure_disk.Call.{Call}
 use Rattle.gl_outside.specs.declared.sure_disk.Call.TheVariants.{Wrote, Lost, Synced}
-use Rattle.gl_outside.proofs.Tearing.{torn_same, torn_within}
+use Rattle.gl_outside.proofs.Tearing.{torn_same, torn_whole, torn_within}
 
 reads-push : (pieces bytes : List ℕ) (calls : List Call) (call : Call) → reads_after pieces bytes (calls ++ call ∷ []) ≡ done_by pieces (reads_after pieces bytes calls) call
 reads-push pieces bytes [] call = refl
@@ -78,15 +82,20 @@ one_call_less (suc left) end some =
 
 -- Images of the calls that were done
 
-pub pieces_end-at : (calls : List Call) (i : ℕ) (d : Call) → i < length calls → piece_end (get_or calls i d) ≤ pieces_end calls
+pieces_end-at : (calls : List Call) (i : ℕ) (d : Call) → i < length calls → piece_end (get_or calls i d) ≤ pieces_end calls
 pieces_end-at [] i d inside = absurd (omega arith)
 pieces_end-at (one ∷ calls) zero d inside = omega arith
 pieces_end-at (one ∷ calls) (suc i) d inside = omega (arith, pieces_end-at calls i d (omega arith))
 
-pub pieces_end-take : (n : ℕ) (calls : List Call) → pieces_end (take n calls) ≤ pieces_end calls
+pieces_end-take : (n : ℕ) (calls : List Call) → pieces_end (take n calls) ≤ pieces_end calls
 pieces_end-take zero calls = omega arith
 pieces_end-take (suc n) [] = omega arith
 pieces_end-take (suc n) (one ∷ calls) = omega (arith, pieces_end-take n calls)
+
+-- The pieces of the first calls are there.
+pub reached : (pieces : List ℕ) (done calls : List Call) (n i : ℕ) (d : Call) → done ≡ take n calls → pieces_end calls ≤ length pieces → i < length done → piece_end (get_or done i d) ≤ length pieces
+reached pieces done calls n i d is there inside =
+    omega (arith, pieces_end-at done i d inside, ap pieces_end is, pieces_end-take n calls)
 
 leads_on : (step : Step) (past : List Step) (old new : List ℕ) → IsImage past old → Leads step old new → IsImage (step ∷ past) new
 leads_on (Kept bytes) past old new from leads = leads
@@ -109,17 +118,49 @@ image_more first pieces calls i call bytes old new below is read from leads =
     ap (past_of first pieces) more ∙ steps-push pieces first (Kept first ∷ []) (take i calls) call ∙ ap (λ (b : List ℕ). step_of b call ∷ past) (sym read) in
     subst (λ (p : List Step). IsImage p new) (sym steps) (leads_on (step_of bytes call) past old new from leads)
 
-drop-past : (at count : ℕ) (bytes : List ℕ) → drop (min at (length bytes) + count) bytes ≡ drop (at + count) bytes
-drop-past at count bytes =
-    sym (drop-drop count (min at (length bytes)) bytes) ∙ ap (drop count) (drop_min at bytes) ∙ drop-drop count at bytes
+-- What a stop leaves then, where it tears the writes in one way.
+left-push : (pieces : List ℕ) (tear : Tear) (bytes image : List ℕ) (calls : List Call) (call : Call)
+    → left_after pieces tear bytes image (calls ++ call ∷ []) ≡ left_by pieces tear (reads_after pieces bytes calls) (left_after pieces tear bytes image calls) call
+left-push pieces tear bytes image [] call = refl
+left-push pieces tear bytes image (one ∷ calls) call = left-push pieces tear (done_by pieces bytes one) (left_by pieces tear bytes image one) calls call
 
--- A write behind the end is one at the end.
-pub written-past : (bytes : List ℕ) (at : ℕ) (piece : List ℕ) → written bytes (min at (length bytes)) piece ≡ written bytes at piece
-written-past bytes at piece =
-    ap (λ (front : List ℕ). front ++ piece ++ drop (min at (length bytes) + length piece) bytes) (take_min at bytes)
-    ∙ ap (λ (back : List ℕ). take at bytes ++ piece ++ back) (drop-past at (length piece) bytes)
+pub left_more : (first pieces : List ℕ) (tear : Tear) (calls : List Call) (i : ℕ) (call : Call) → i < length calls → call ≡ get_or calls i call
+    → left_after pieces tear first first (take (i + 1) calls) ≡ left_by pieces tear (reads_after pieces first (take i calls)) (left_after pieces tear first first (take i calls)) call
+left_more first pieces tear calls i call below is =
+    let more : take (i + 1) calls ≡ take i calls ++ call ∷ [] = take_more calls i call below ∙ ap (λ (x : Call). take i calls ++ x ∷ []) (sym is) in
+    ap (left_after pieces tear first first) more ∙ left-push pieces tear first first (take i calls) call
 
--- Where less of a range was torn, all of it may have been.
-pub torn_wider : {T E : Type 0} (result : Result T E) (at less count : ℕ) (old new : List ℕ) → less ≤ count → OnOk result (Torn at less old new) → OnOk result (Torn at count old new)
-torn_wider (Ok x) at less count old new below torn = torn_within at count at less old old new (omega arith) (omega arith) (torn_same at count old) torn
-torn_wider (Err e) at less count old new below torn = tt
+-- A torn write leaves no more than it may.
+
+le_true : (a b : ℕ) → nat_le a b ≡ true → a ≤ b
+le_true a b is = grind (arith, nat_tests)
+
+left_size : (tear : Tear) (piece : List ℕ) → length (left_of tear piece) ≤ length piece
+left_size Old piece = omega arith
+left_size Whole piece = omega arith
+left_size Half piece = omega (arith, length-take (length piece / 2) piece)
+left_size (Filled byte) piece = omega (arith, length-replicate (length piece) byte)
+
+torn_when : (tear : Tear) (image : List ℕ) (at : ℕ) (piece : List ℕ) (joins : Bool) → nat_le at (length image) ≡ joins
+    → Torn at (length piece) image (if joins then written image at (left_of tear piece) else image)
+torn_when tear image at piece true is =
+    let joined : at ≤ length image = le_true at (length image) is in
+    torn_within at (length piece) at (length (left_of tear piece)) image image (written image at (left_of tear piece))
+    (omega arith) (omega (arith, left_size tear piece)) (torn_same at (length piece) image) (torn_whole image at (left_of tear piece) joined)
+torn_when tear image at piece false is = torn_same at (length piece) image
+
+range_size : (xs : List ℕ) (start count : ℕ) → start + count ≤ length xs → length (slice_range xs start (start + count)) ≡ count
+range_size xs start count there = omega (arith, length-take (start + count - start) (drop start xs), length-drop start xs)
+
+torn_range : (pieces : List ℕ) (tear : Tear) (image : List ℕ) (at start count : ℕ) → start + count ≤ length pieces
+    → Torn at count image (torn_write tear image at (slice_range pieces start (start + count)))
+torn_range pieces tear image at start count there =
+    let piece : List ℕ = slice_range pieces start (start + count) in
+    subst (λ (n : ℕ). Torn at n image (torn_write tear image at piece)) (range_size pieces start count there)
+    (torn_when tear image at piece (nat_le at (length image)) refl)
+
+pub leads_left : (pieces : List ℕ) (tear : Tear) (bytes image : List ℕ) (call : Call) → piece_end call ≤ length pieces
+    → Leads (step_of bytes call) image (left_by pieces tear bytes image call)
+leads_left pieces tear bytes image (Wrote at start count) there = torn_range pieces tear image at start count there
+leads_left pieces tear bytes image (Lost at start count) there = torn_range pieces tear image at start count there
+leads_left pieces tear bytes image Synced there = refl

@@ -1,5 +1,5 @@
 -- What writes leave of the bytes, whole and torn.
-use Rattle.std.proofs.Common.{◌≡◌, ◌⊎◌, inl, inr, ℕ, ◌+◌, ◌-◌, ◌≤◌, List, [], ◌∷◌, ◌++◌, length, take, drop, refl, sym, ◌∙◌, ap, subst, arith, append_assoc, length-append, length-take, length-drop}
+use Rattle.std.proofs.Common.{◌≡◌, ◌⊎◌, inl, inr, ℕ, ◌+◌, ◌-◌, ◌≤◌, List, ◌∷◌, ◌++◌, length, take, drop, refl, sym, ◌∙◌, ap, subst, arith, append_assoc, length-append, length-take, length-drop}
 use Rattle.std.proofs.lemmas.List.{take_at, drop_at, drop-drop, take-take}
 use Rattle.gl_outside.specs.Disk.{Step, Kept, Touched, IsImage, LeavesOnly, Leaves, Torn, written}
 use Rattle.gl_outside.proofs.Moments.{Images, started, now, goes_on}
@@ -31,6 +31,10 @@ torn_whole bytes at piece in_order = record {
   no_shorter = omega (arith, length-written bytes at piece in_order);
   no_longer = omega (arith, length-written bytes at piece in_order);
 }
+
+-- The bytes that reads give are among those that a stop may leave, also behind a write.
+pub reads_written : (past : List Step) (bytes : List ℕ) (at : ℕ) (piece : List ℕ) → at ≤ length bytes → IsImage past bytes → IsImage (Touched at (length piece) ∷ past) (written bytes at piece)
+reads_written past bytes at piece joined left = (bytes, left, torn_whole bytes at piece joined)
 
 same_front : (from at : ℕ) (a b : List ℕ) → from ≤ at → take at a ≡ take at b → take from a ≡ take from b
 same_front from at a b below same =

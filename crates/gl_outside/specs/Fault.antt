@@ -9,7 +9,8 @@ last_count = 2 ^ 64 - 1
 abbrev pub Rose : ℕ → ℕ → Type 0
 Rose before now = (before < now) ⊎ (last_count ≤ now)
 
--- A call that may fail: the count never falls, it rose where the call failed, and else it is as it was.
+-- A call that may fail: the count never falls, it rose where the call failed, and else it is as
+-- it was.
 pub record Counts {T E : Type 0} (before now : ℕ) (result : Result T E) : Type 0 where
   pub never_falls : before ≤ now
   pub failed : OnErr result (Rose before now)

@@ -5,6 +5,7 @@ pub mod Sink
 pub mod Memory
 pub mod Disk
 pub mod Record
+pub mod Tear
 pub mod SureDisk
 pub mod Link
 pub mod MemLink

@@ -1,5 +1,5 @@
 -- What came over a link, and what was sent over it.
-use Rattle.std.specs.Prelude.{ℕ, suc, List, [], ◌∷◌, ◌++◌, Bool, true, false}
+use Rattle.std.specs.Prelude.{ℕ, suc, List, [], ◌∷◌, Bool, true, false}
 use Rattle.gl_outside.specs.declared.sink.Put.{Put}
 use Rattle.gl_outside.specs.declared.sink.Put.TheVariants.{Took, Failed, NoMemory}
 use Rattle.gl_outside.specs.declared.link.Came.{Came}

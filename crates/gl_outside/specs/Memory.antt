@@ -7,7 +7,9 @@ use Rattle.gl_outside.specs.declared.source.Got.TheVariants.{Bytes, End}
 abbrev pub piece_of : ℕ → ℕ
 piece_of piece = max piece 1
 
--- A read gives a piece, as far as bytes are left and the buffer has room, and after the last byte the end.
+-- A read gives a piece, as far as bytes are left and the buffer has room, and after the last byte
+-- the end.
 abbrev pub piece_read : ℕ → List ℕ → ℕ → Got
 piece_read piece [] room = End
-piece_read piece (byte ∷ bytes) room = Bytes (min (piece_of piece) (min room (length (byte ∷ bytes))))
+piece_read piece (byte ∷ bytes) room =
+    Bytes (min (piece_of piece) (min room (length (byte ∷ bytes))))

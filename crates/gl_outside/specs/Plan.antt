@@ -10,7 +10,8 @@ is_chosen failing call = list_any (λ number. number == call) failing
 -- How many of so many calls were to fail.
 abbrev pub fault_count : List ℕ → ℕ → ℕ
 fault_count failing zero = 0
-fault_count failing (suc calls) = fault_count failing calls + (if is_chosen failing (suc calls) then 1 else 0)
+fault_count failing (suc calls) =
+    fault_count failing calls + (if is_chosen failing (suc calls) then 1 else 0)
 
 -- Under a plan, how many of the calls so far failed, and whether the next is to fail.
 abbrev pub faults_of : FaultPlan → ℕ

@@ -132,7 +132,13 @@ impl Disk for MemDisk<'_> {
         self.inner.sync()
     }
 
-    fn room(&mut self, end: u64, calls: u64) -> Result<(), AllocError> {
+    fn room(&mut self, end: u64, calls: u64) -> Result<(), AllocError>
+        ensures plan { self.new.plan ≡ self.old.plan }
+        ensures room { OnOk result
+            ((end ≤ self.new.inner.room_end) × (calls ≤ self.new.inner.room_calls)) }
+        ensures bytes { self.new.inner.bytes.items ≡ self.old.inner.bytes.items }
+        ensures past { disk_past self.new.inner ≡ disk_past self.old.inner }
+    {
         self.inner.room(end, calls)
     }
 }

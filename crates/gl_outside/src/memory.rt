@@ -102,13 +102,16 @@ impl Source for MemSource<'_> {
             result ≡ piece_read self.old.inner.piece self.old.inner.left.now (length buf.new) }
 
         ensures within { given_count result ≤ length buf.new }
-        ensures taken { self.old.inner.left.now ≡ take (given_count result) buf.new ++ self.new.inner.left.now }
+        ensures taken { self.old.inner.left.now
+            ≡ take (given_count result) buf.new ++ self.new.inner.left.now }
         ensures end { IsTrue (gave_end result (length buf.new)) → self.new.inner.left.now ≡ [] }
         ensures kept_end { self.new.inner.ended ≡
             (self.old.inner.ended || gave_end result (length buf.new)) }
 
-        ensures failed { result ≡ Got.Failed → Rose (faults_of self.old.plan) (faults_of self.new.plan) }
-        ensures quiet { (result ≡ Got.Failed → ⊥) → faults_of self.new.plan ≡ faults_of self.old.plan }
+        ensures failed { result ≡ Got.Failed →
+            Rose (faults_of self.old.plan) (faults_of self.new.plan) }
+        ensures quiet { (result ≡ Got.Failed → ⊥) →
+            faults_of self.new.plan ≡ faults_of self.old.plan }
         ensures never_falls { faults_of self.old.plan ≤ faults_of self.new.plan }
 
         ensures piece { self.new.inner.piece ≡ self.old.inner.piece }
@@ -150,7 +153,8 @@ impl Sink for SureSink {
     fn write(&mut self, piece: &[u8]) -> Put
         ensures took { result ≡ Put.NoMemory
             ⊎ result ≡ Put.Took (min (piece_of self.old.piece) (length piece.now)) }
-        ensures appended { self.new.held.items ≡ self.old.held.items ++ take (taken_count result) piece.now }
+        ensures appended { self.new.held.items
+            ≡ self.old.held.items ++ take (taken_count result) piece.now }
         ensures piece { self.new.piece ≡ self.old.piece }
     {
         let count = self.piece.max(1).min(piece.len());
@@ -197,10 +201,13 @@ impl Sink for MemSink<'_> {
             ⊎ result ≡ Put.Took (min (piece_of self.old.inner.piece) (length piece.now))) }
         ensures within { taken_count result ≤ length piece.now }
         ensures some { result ≡ Put.Took 0 → piece.now ≡ [] }
-        ensures appended { self.new.inner.held.items ≡ self.old.inner.held.items ++ take (taken_count result) piece.now }
+        ensures appended { self.new.inner.held.items
+            ≡ self.old.inner.held.items ++ take (taken_count result) piece.now }
 
-        ensures failed { result ≡ Put.Failed → Rose (faults_of self.old.plan) (faults_of self.new.plan) }
-        ensures quiet { (result ≡ Put.Failed → ⊥) → faults_of self.new.plan ≡ faults_of self.old.plan }
+        ensures failed { result ≡ Put.Failed →
+            Rose (faults_of self.old.plan) (faults_of self.new.plan) }
+        ensures quiet { (result ≡ Put.Failed → ⊥) →
+            faults_of self.new.plan ≡ faults_of self.old.plan }
         ensures never_falls { faults_of self.old.plan ≤ faults_of self.new.plan }
 
         ensures piece { self.new.inner.piece ≡ self.old.inner.piece }

@@ -28,7 +28,8 @@ pub trait Sink {
     /// Writes some of the piece, from its front.
     fn write(&mut self, piece: &[u8]) -> Put
         ensures within { taken_count result ≤ length piece.now }
-        ensures appended { Appends (holds self.old) (holds self.new) (take (taken_count result) piece.now) }
+        ensures appended { Appends (holds self.old) (holds self.new)
+            (take (taken_count result) piece.now) }
         ensures some { result ≡ Put.Took 0 → piece.now ≡ [] }
 
         ensures failed { result ≡ Put.Failed → Rose (faults self.old) (faults self.new) }

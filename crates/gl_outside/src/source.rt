@@ -29,7 +29,8 @@ pub trait Source {
     /// Reads some bytes into the front of the buffer.
     fn read(&mut self, buf: &mut [u8]) -> Got
         ensures within { given_count result ≤ length buf.new }
-        ensures taken { Consumes (left self.old) (left self.new) (take (given_count result) buf.new) }
+        ensures taken { Consumes (left self.old) (left self.new)
+            (take (given_count result) buf.new) }
 
         ensures end { IsTrue (gave_end result (length buf.new)) → IsAtEnd (left self.new) }
         ensures kept_end { ended self.new ≡ (ended self.old || gave_end result (length buf.new)) }

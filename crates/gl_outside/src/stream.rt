@@ -44,7 +44,8 @@ impl<R: Read> Source for StreamSource<R> {
         ensures taken { Consumes (R.remaining self.old.inner) (R.remaining self.new.inner)
             (take (given_count result) buf.new) }
 
-        ensures end { IsTrue (gave_end result (length buf.new)) → IsAtEnd (R.remaining self.new.inner) }
+        ensures end { IsTrue (gave_end result (length buf.new)) →
+            IsAtEnd (R.remaining self.new.inner) }
         ensures kept_end { self.new.ended ≡ (self.old.ended || gave_end result (length buf.new)) }
 
         // Each error is counted once.

@@ -2,8 +2,9 @@
 //! what a stop may have left at any moment.
 
 ghost use Rattle.std.specs.Prelude.{◌≡◌, ◌+◌, ◌*◌, ◌<◌, ◌≤◌, [], ◌∷◌, ◌++◌, length, true, vec_len, vec_capacity, take, IfOk, OnOk};
-ghost use Rattle.gl_outside.specs.Disk.{Touched, IsImage, written};
-ghost use Rattle.gl_outside.specs.Record.{reads_after, past_of, pieces_end, piece_end, done_by, step_of, Leads};
+ghost use Rattle.gl_outside.specs.Disk.{Kept, Touched, IsImage, written};
+ghost use Rattle.gl_outside.specs.Tear.{left_by, left_after};
+ghost use Rattle.gl_outside.specs.Record.{reads_after, past_of, pieces_end, piece_end, done_by};
 
 use crate::disk::{Disk, DiskFailed};
 use crate::tear::{Tear, tear_write};
@@ -53,7 +54,8 @@ impl SureDisk {
     /// A disk with nothing on it.
     pub fn new(alloc: Global) -> Self
         ensures bytes { result.bytes.items ≡ [] }
-        ensures first { result.first.items ≡ [] }
+        ensures past { past_of result.first.items result.pieces.items result.calls.items
+            ≡ Kept [] ∷ [] }
         ensures calls { result.calls.items ≡ [] }
     {
         SureDisk {
@@ -69,7 +71,8 @@ impl SureDisk {
     /// A disk that holds these bytes.
     pub fn holding(alloc: Global, bytes: &[u8]) -> Result<Self, AllocError>
         ensures bytes { IfOk result (λ d. d.bytes.items ≡ bytes.now) }
-        ensures first { IfOk result (λ d. d.first.items ≡ bytes.now) }
+        ensures past { IfOk result (λ d. past_of d.first.items d.pieces.items d.calls.items
+            ≡ Kept bytes.now ∷ []) }
         ensures calls { IfOk result (λ d. d.calls.items ≡ []) }
     {
         Ok(SureDisk {
@@ -86,9 +89,12 @@ impl SureDisk {
     /// are torn in the same way.
     pub fn image(&self, alloc: Global, calls: usize, tear: Tear) -> Result<Vec<u8>, AllocError>
         requires { calls ≤ vec_len self.now.calls }
-        ensures { IfOk result (λ image. IsImage
+        ensures image { IfOk result (λ image. IsImage
             (past_of self.now.first.items self.now.pieces.items (take calls self.now.calls.items))
             image.items) }
+        ensures left { IfOk result (λ image. image.items
+            ≡ left_after self.now.pieces.items tear self.now.first.items self.now.first.items
+            (take calls self.now.calls.items)) }
     {
         let mut bytes = self.first.to_vec(alloc)?;
         let mut image = self.first.to_vec(alloc)?;
@@ -107,7 +113,8 @@ impl SureDisk {
             ≡ Touched at (length piece.now)
             ∷ past_of self.old.first.items self.old.pieces.items self.old.calls.items }
         ensures bytes { self.new.bytes.items ≡ self.old.bytes.items }
-        ensures room { (self.new.room_end ≡ self.old.room_end) × (self.old.room_calls ≡ self.new.room_calls + 1) }
+        ensures room { (self.new.room_end ≡ self.old.room_end)
+            × (self.old.room_calls ≡ self.new.room_calls + 1) }
     {
         let start = self.pieces.len();
         append(&mut self.pieces, piece);
@@ -171,7 +178,8 @@ fn replay(
 ) -> Result<(), AllocError>
     requires { piece_end call ≤ length pieces.now }
     ensures bytes { OnOk result (bytes.new.items ≡ done_by pieces.now bytes.old.items call) }
-    ensures image { OnOk result (Leads (step_of bytes.old.items call) image.old.items image.new.items) }
+    ensures left { OnOk result
+        (image.new.items ≡ left_by pieces.now tear bytes.old.items image.old.items call) }
 {
     match call {
         Call::Wrote { at, start, count } => {

@@ -1,7 +1,7 @@
 //! What a stop may leave of a write.
 
-ghost use Rattle.std.specs.Prelude.{◌≡◌, ◌≤◌, length, OnOk, IfOk, vec_len};
-ghost use Rattle.gl_outside.specs.Disk.{Torn};
+ghost use Rattle.std.specs.Prelude.{◌≡◌, OnOk, IfOk};
+ghost use Rattle.gl_outside.specs.Tear.{left_of, torn_write};
 
 use crate::sure_disk::overwrite;
 use std::alloc::{AllocError, Global};
@@ -27,7 +27,7 @@ pub(crate) fn tear_write(
     piece: &[u8],
     tear: Tear,
 ) -> Result<(), AllocError>
-    ensures { OnOk result (Torn at (length piece.now) image.old.items image.new.items) }
+    ensures { OnOk result (image.new.items ≡ torn_write tear image.old.items at piece.now) }
 {
     let torn = torn_piece(alloc, piece, tear)?;
     if at <= image.len() {
@@ -39,7 +39,7 @@ pub(crate) fn tear_write(
 
 /// The bytes that are left of a piece, from its place on.
 fn torn_piece(alloc: Global, piece: &[u8], tear: Tear) -> Result<Vec<u8>, AllocError>
-    ensures { IfOk result (λ torn. vec_len torn ≤ length piece.now) }
+    ensures { IfOk result (λ torn. torn.items ≡ left_of tear piece.now) }
 {
     let len = match tear {
         Tear::Old => 0,

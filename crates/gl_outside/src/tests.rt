@@ -8,7 +8,7 @@ use std::sync::{Mutex, Wait};
 use std::test::*;
 
 /// Reads until the end, over any failed reads, and counts those.
-fn drain<S: Source>(mut source: S, out: &mut Vec<u8>) -> Result<u64, Fail> {
+fn drain<S: Source + Drop>(mut source: S, out: &mut Vec<u8>) -> Result<u64, Fail> {
     let mut failed: u64 = 0;
     let mut buf = [0; 4];
     for _ in 0..100 {
@@ -141,7 +141,7 @@ fn each_call_of_a_disk_fails_in_turn(rt: HostRuntime) -> Result<(), Fail> {
 }
 
 /// Whether a sync goes well, over any disk.
-fn syncs<D: Disk>(mut disk: D) -> bool {
+fn syncs<D: Disk + Drop>(mut disk: D) -> bool {
     disk.room(0, 1).is_ok() && disk.sync().is_ok()
 }
 
@@ -203,6 +203,7 @@ fn a_link_gives_in_order_and_fails_at_chosen_calls(rt: HostRuntime) -> Result<()
 }
 
 /// A gate that notes under a lock which call entered last.
+#[derive(Drop)]
 struct NotingGate<'a, R> {
     rt: &'a R,
     last: Mutex<u64>,

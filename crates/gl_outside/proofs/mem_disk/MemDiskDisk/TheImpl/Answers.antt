@@ -1,4 +1,5 @@
 use Rattle.std.proofs.Common.{refl, ap}
+use Rattle.gl_outside.specs.Plan.{faults_of}
 use Rattle.gl_outside.specs.SureDisk.{disk_past}
 use Rattle.gl_outside.proofs.Results.{on_err_too}
 use Rattle.gl_outside.proofs.mem_disk.MemDiskDisk.TheImpl.Goals as goal
@@ -48,4 +49,12 @@ sync-tells g c = record {
   failed = λ h. on_err_too c.result (ap disk_past) c.ensures.failed;
   room = c.ensures.room;
   faults = c.ensures.faults;
+}
+
+pub room-tells : goal.room-tells
+room-tells g c = record {
+  room = c.ensures.room;
+  bytes = λ h. c.ensures.bytes;
+  past = λ h. c.ensures.past;
+  faults = ap faults_of c.ensures.plan;
 }

@@ -1,7 +1,6 @@
-use Rattle.std.proofs.Common.{◌≡◌, ℕ, ◌+◌, ◌≤◌, List, [], ◌∷◌, ◌++◌, length, ◌∙◌, sym, ap, arith, length-append}
+use Rattle.std.proofs.Common.{ℕ, List, length, ◌∙◌, sym, ap, arith, length-append}
 use Rattle.gl_outside.specs.Record.{pieces_end}
 use Rattle.gl_outside.proofs.Recorded.{recorded, read_on, pieces_end-push, one_call_less}
-use Rattle.gl_outside.specs.declared.sure_disk.Call.{Call}
 use Rattle.gl_outside.specs.declared.sure_disk.Call.TheVariants.{Lost}
 use Rattle.gl_outside.proofs.sure_disk.SureDisk.lose.Goals as goal
 

@@ -21,8 +21,8 @@ pub enum CutFault {
     NotText { at: usize },
 }
 
-/// Why bytes are not the spelling of a value: the first fault from the left. A place is counted from
-/// the first of all the bytes, from 0.
+/// Why bytes are not the spelling of a value: the first fault from the left. A place is counted
+/// from the first of all the bytes, from 0.
 #[derive(Clone, Copy, Debug, PartialEq, Eq, Error)]
 pub enum CodeFault {
     /// A field could not be read.

@@ -14,7 +14,7 @@ use std::fmt;
 /// them, and `impl From<CutFault> for ItsFault` where it reads fields: `?` then goes from each of
 /// these, and from what an allocation answers, to `OrNoMemory<ItsFault>`. What another call answers
 /// becomes it by `map_err(OrNoMemory::widen)`.
-#[derive(Clone, Copy, Debug, PartialEq, Eq)]
+#[derive(Clone, Copy, Debug, Drop, PartialEq, Eq)]
 pub enum OrNoMemory<F> {
     /// Memory ran out. This may come at any time, and nothing is changed.
     NoMemory,

@@ -13,7 +13,7 @@ use Rattle.gl_vmaps.specs.Kept.{Kept, Chains, versions_of, version_of}
 use Rattle.gl_vmaps.specs.Changes.{placed, changes_at, AreInOrder, pushed, maps_by, kept_of}
 use Rattle.gl_vmaps.specs.Standing.{StandsFor, HasApplied, HasCut, version, versions_in, versions_up_to, latest_from}
 use Rattle.gl_vmaps.specs.declared.tables.Change.{Change}
-use Rattle.gl_vmaps.specs.declared.tables.Version.{Version}
+use Rattle.gl_vmaps.specs.declared.table.Version.{Version}
 use Rattle.gl_vmaps.specs.declared.write.Write.{Write}
 use Rattle.gl_vmaps.proofs.TablesLaws.{same_bytes-eq}
 use Rattle.gl_vmaps.proofs.VersionLaws.{all_below, with_first, versions_in-first, versions_in-append, versions_in-up_to}

@@ -5,6 +5,7 @@ pub mod Places
 pub mod VersionLists
 pub mod VersionLaws
 pub mod StandingLaws
+pub mod ChainLaws
 pub mod Changes
 pub mod ChangeTables
 pub mod Sizes

@@ -3,7 +3,7 @@ use Rattle.std.proofs.Common.{◌≡◌, ℕ, ◌≤◌, nat_le, Bool, true, fal
 use Rattle.std.specs.List.{last_or, list_any}
 use Rattle.std.proofs.lemmas.Bool.Decides.{nat_tests}
 use Rattle.gl_vmaps.specs.Standing.{is_up_to, versions_up_to, latest_from}
-use Rattle.gl_vmaps.specs.declared.tables.Version.{Version}
+use Rattle.gl_vmaps.specs.declared.table.Version.{Version}
 
 -- ---- the last one
 

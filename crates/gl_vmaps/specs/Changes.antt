@@ -10,7 +10,7 @@ use Rattle.gl_vmaps.specs.LastWrite.{last_such}
 use Rattle.gl_vmaps.specs.Versions.{Placed, is_to_map, is_to_row}
 use Rattle.gl_vmaps.specs.declared.write.Write.{Write}
 use Rattle.gl_vmaps.specs.declared.tables.Change.{Change}
-use Rattle.gl_vmaps.specs.declared.tables.Version.{Version}
+use Rattle.gl_vmaps.specs.declared.table.Version.{Version}
 
 -- What the changes say: each write at its place.
 abbrev pub placed : List Change → List Placed

@@ -3,6 +3,7 @@ pub mod Writes
 pub mod Tables
 pub mod Versions
 pub mod Kept
+pub mod Chains
 pub mod Standing
 pub mod LastWrite
 pub mod Changes

@@ -5,20 +5,10 @@ ghost use Rattle.std.specs.Option.{option_copied};
 ghost use Rattle.gl_vmaps.specs.Versions.{up_to};
 ghost use Rattle.gl_vmaps.specs.Changes.{placed, changes_at, AreInOrder};
 
-use crate::name::Value;
 use crate::scan::{map_version_in, size_of, value_in, version_in};
 use crate::write::{Write, Writes};
 use std::alloc::{AllocError, Global};
 use std::marker::Model;
-
-/// What was written to a row at a place.
-#[derive(Debug, Drop)]
-pub struct Version {
-    /// The place of the entry that wrote it. A row that stood at the base has place 0.
-    pub place: u64,
-    /// The value, or `None` where the row was removed.
-    pub value: Option<Value>,
-}
 
 /// A write, and the place of the entry that made it.
 #[derive(Debug, Drop)]

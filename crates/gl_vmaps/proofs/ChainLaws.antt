@@ -340,6 +340,6 @@ last_value-pushed vs v = ap (λ (o : Option Version). option_and_then (λ (w : V
 pub some-count : (S : Chains) (key : List ℕ) (count : ℕ) (had : Bool) → count ≡ present S → had ≡ is_some (last_value (chain_of S key)) → had ≡ true → 1 ≤ count
 some-count S key count had counts hads is = let one = present-some S key (sym hads ∙ is) in omega (arith, one, counts)
 
-pub nothing_in : (es : List (Vec ℕ Global × VecDeque Version Global)) (key : List ℕ) → length es ≡ 0 → chain_of (chains_by es) key ≡ []
-nothing_in [] key none = chain_of-by [] key
-nothing_in (e ∷ es) key none = absurd (omega arith)
+pub nothing_in : (es : List (Vec ℕ Global × VecDeque Version Global)) → length es ≡ 0 → chains_by es ≡ empty
+nothing_in [] none = refl
+nothing_in (e ∷ es) none = absurd (omega arith)

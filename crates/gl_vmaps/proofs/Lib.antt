@@ -6,7 +6,6 @@ pub mod VersionLists
 pub mod VersionLaws
 pub mod StandingLaws
 pub mod ChainLaws
-pub mod Changes
-pub mod ChangeTables
-pub mod Sizes
+pub mod MapLaws
+pub mod JournalLaws
 pub mod WriteLaws

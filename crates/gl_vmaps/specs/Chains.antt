@@ -1,5 +1,5 @@
 -- How the rows of maps are kept: in ordered maps, each row with its versions.
-use Rattle.std.specs.Prelude.{ℕ, ◌==◌, ◌+◌, List, [], ◌∷◌, Option, None, Some, Bool, false, ◌&&◌, Vec, length, drop, nat_lt, unwrap_or, if◌then◌else◌}
+use Rattle.std.specs.Prelude.{ℕ, ◌==◌, ◌+◌, List, [], ◌∷◌, Option, None, Some, Bool, false, ◌&&◌, Vec, length, take, drop, ◌-◌, nat_lt, unwrap_or, if◌then◌else◌}
 use Rattle.std.specs.Cmp.Lexicographic.{slice_cmp}
 use Rattle.std.specs.FinMap.{FinMap}
 use Rattle.std.specs.FinMap as finite
@@ -40,3 +40,33 @@ is_first_below place (v ∷ vs) = nat_lt v.place place
 
 abbrev pub trimmed : ℕ → List Version → List Version
 trimmed place vs = if nat_lt 1 (length vs) && is_first_below place vs then drop 1 vs else vs
+
+-- ---- the rows of all maps
+
+abbrev pub Maps : Type 0
+Maps = FinMap (slice_cmp nat_cmp) Chains
+
+-- The rows of a map, and the versions of one of them.
+abbrev pub rows_in : Maps → List ℕ → Chains
+rows_in maps name = unwrap_or (finite.get maps name) finite.empty
+
+abbrev pub found_in : Maps → List ℕ → List ℕ → List Version
+found_in maps name key = chain_of (rows_in maps name) key
+
+-- Maps with one of them given these rows. A map without a row is not kept.
+abbrev pub with_rows : Maps → List ℕ → Chains → Maps
+with_rows maps name chains =
+    if finite.len chains == 0 then finite.remove maps name else finite.insert maps name chains
+
+-- What an ordered map of maps holds.
+abbrev pub maps_by : List (Vec ℕ Global × Chains) → Maps
+maps_by [] = finite.empty
+maps_by (e ∷ es) = with_rows (maps_by es) e.0.items e.1
+
+-- Maps with one row given these versions.
+abbrev pub with_versions : Maps → List ℕ → List ℕ → List Version → Maps
+with_versions maps name key vs = with_rows maps name (with_chain (rows_in maps name) key vs)
+
+-- Versions without the last.
+abbrev pub without_last : List Version → List Version
+without_last vs = take (length vs - 1) vs

@@ -4,7 +4,7 @@ pub mod Tables
 pub mod Versions
 pub mod Kept
 pub mod Chains
+pub mod Journal
 pub mod Standing
 pub mod LastWrite
-pub mod Changes
 pub mod Growth

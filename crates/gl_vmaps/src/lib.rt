@@ -3,8 +3,8 @@
 //! make.
 #![tactic(auto)]
 
+mod journal;
 mod name;
-mod scan;
 mod table;
 mod tables;
 mod write;

@@ -200,7 +200,7 @@ impl Table {
 
     /// Whether no row is left.
     pub(crate) fn is_empty(&self) -> bool
-        ensures { IsTrue result → (key : List ℕ) → chain_of self.now key ≡ [] }
+        ensures { IsTrue result → self.now ≡ finite.empty }
     {
         self.rows.is_empty()
     }

@@ -8,4 +8,5 @@ pub mod StandingLaws
 pub mod ChainLaws
 pub mod MapLaws
 pub mod JournalLaws
+pub mod CopyLaws
 pub mod WriteLaws

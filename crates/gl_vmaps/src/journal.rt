@@ -1,6 +1,6 @@
 //! The rows of all maps, and what was written to them and can still be taken back.
 
-ghost use Rattle.std.specs.Prelude.{◌≡◌, ◌≤◌, ◌-◌, ◌∷◌, [], ◌++◌, ℕ, List, IsTrue, OnOk, OnErr, take, drop, length, reverse};
+ghost use Rattle.std.specs.Prelude.{◌≡◌, ◌≤◌, ◌-◌, ◌∷◌, [], ◌++◌, ℕ, List, IsTrue, IfOk, OnOk, OnErr, take, drop, length, reverse};
 ghost use Rattle.std.specs.FinMap as finite;
 ghost use Rattle.gl_vmaps.specs.Chains.{maps_by, rows_in, found_in, with_versions, without_last, newest_place, trimmed};
 ghost use Rattle.gl_vmaps.specs.Journal.{is_last_above, CanPop, popped_last, IsTidy, AreFresh, pushed, written, pushed_maps, pushed_journal};
@@ -174,4 +174,36 @@ pub(crate) fn push_writes(
             Err(e)
         }
     }
+}
+
+/// The same maps in memory of their own. Fails for want of memory alone.
+pub(crate) fn copy_maps(alloc: Global, maps: &Maps) -> Result<Maps, AllocError>
+    ensures { IfOk result (λ copy. maps_by copy.entries ≡ maps_by maps.now.entries) }
+{
+    let mut copy = BTreeMap::new(alloc);
+    for (map, table) in maps {
+        let map = Vec::from_slice(alloc, map)?;
+        let table = table.copy(alloc)?;
+        copy.insert(map, table)?;
+    }
+    Ok(copy)
+}
+
+/// The same journal in memory of its own. Fails for want of memory alone.
+pub(crate) fn copy_journal(
+    alloc: Global,
+    journal: &VecDeque<Written>,
+) -> Result<VecDeque<Written>, AllocError>
+    ensures { IfOk result (λ copy. copy.items ≡ journal.now.items) }
+{
+    let mut copy = VecDeque::new(alloc);
+    for written in journal.iter() {
+        copy.push_back(Written {
+            place: written.place,
+            map: written.map.copy(alloc)?,
+            key: written.key.copy(alloc)?,
+            before: written.before,
+        })?;
+    }
+    Ok(copy)
 }

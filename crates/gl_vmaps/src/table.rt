@@ -1,6 +1,6 @@
 //! The rows of one map, each with its versions.
 
-ghost use Rattle.std.specs.Prelude.{None, IsTrue, is_some, if◌then◌else◌, ◌^◌, ◌<◌, ◌≤◌, ◌≡◌, ◌+◌, ◌-◌, ◌∷◌, [], ◌++◌, OnOk, OnErr, take, length};
+ghost use Rattle.std.specs.Prelude.{None, IsTrue, is_some, if◌then◌else◌, ◌^◌, ◌<◌, ◌≤◌, ◌≡◌, ◌+◌, ◌-◌, ◌∷◌, [], ◌++◌, IfOk, OnOk, OnErr, take, length};
 ghost use Rattle.std.specs.Option.{option_copied, option_and_then};
 ghost use Rattle.std.specs.List.{last_or};
 ghost use Rattle.gl_vmaps.specs.Chains.{chains_by, chain_of, with_chain, is_first_below, trimmed};
@@ -17,6 +17,24 @@ pub struct Version {
     pub place: u64,
     /// The value, or `None` where the row was removed.
     pub value: Option<Value>,
+}
+
+impl Version {
+    ghost use Rattle.std.specs.Prelude.{◌≡◌, IfOk};
+
+    /// The same version in memory of its own. Fails for want of memory alone.
+    pub fn copy(&self, alloc: Global) -> Result<Self, AllocError>
+        ensures { IfOk result (λ version. version ≡ self.now) }
+    {
+        let value = match &self.value {
+            None => None,
+            Some(value) => Some(value.copy(alloc)?),
+        };
+        Ok(Version {
+            place: self.place,
+            value,
+        })
+    }
 }
 
 /// To each key its versions, oldest first. A row has one at least.
@@ -107,6 +125,28 @@ fn trim_in(rows: &mut Rows, key: &[u8], place: u64)
         None => {}
         Some(chain) => trim(chain, place),
     }
+}
+
+fn copy_chain(alloc: Global, chain: &VecDeque<Version>) -> Result<VecDeque<Version>, AllocError>
+    ensures { IfOk result (λ copy. copy.items ≡ chain.now.items) }
+{
+    let mut copy = VecDeque::new(alloc);
+    for version in chain.iter() {
+        copy.push_back(version.copy(alloc)?)?;
+    }
+    Ok(copy)
+}
+
+fn copy_rows(alloc: Global, rows: &Rows) -> Result<Rows, AllocError>
+    ensures { IfOk result (λ copy. chains_by copy.entries ≡ chains_by rows.now.entries) }
+{
+    let mut copy = BTreeMap::new(alloc);
+    for (key, chain) in rows {
+        let key = Vec::from_slice(alloc, key)?;
+        let chain = copy_chain(alloc, chain)?;
+        copy.insert(key, chain)?;
+    }
+    Ok(copy)
 }
 
 /// Whether there is a version, and it has a value.
@@ -247,5 +287,16 @@ impl Table {
         ensures { self.new ≡ with_chain self.old key.now (trimmed place (chain_of self.old key.now)) }
     {
         trim_in(&mut self.rows, key, place);
+    }
+
+    /// The same rows in memory of their own. Fails for want of memory alone.
+    pub(crate) fn copy(&self, alloc: Global) -> Result<Self, AllocError>
+        ensures { IfOk result (λ table. table ≡ self.now) }
+    {
+        Ok(Table {
+            rows: copy_rows(alloc, &self.rows)?,
+            count: self.count,
+            newest: self.newest,
+        })
     }
 }

@@ -6,7 +6,8 @@ ghost use Rattle.std.specs.Option.{option_copied};
 ghost use Rattle.gl_vmaps.specs.Name.{is_value};
 ghost use Rattle.gl_vmaps.specs.Chains.{maps_by, rows_in, found_in, present};
 
-use crate::journal::{Maps, Written, ends_above, newest_of, pop_last, push_writes};
+use crate::journal::{
+    Maps, Written, copy_journal, copy_maps, ends_above, newest_of, pop_last, push_writes};
 use crate::table::Version;
 use crate::write::Writes;
 use std::alloc::{AllocError, Global};
@@ -177,5 +178,18 @@ impl Tables {
         while ends_above(&self.journal, to) {
             pop_last(&mut self.maps, &mut self.journal);
         }
+    }
+
+    /// Tables of their own with the same rows and versions. Fails for want of memory alone.
+    pub fn copy(&self) -> Result<Self, AllocError>
+        ensures { IfOk result (λ tables. tables ≡ self.now) }
+    {
+        Ok(Tables {
+            base: self.base,
+            compacted: self.compacted,
+            maps: copy_maps(self.alloc, &self.maps)?,
+            journal: copy_journal(self.alloc, &self.journal)?,
+            alloc: self.alloc,
+        })
     }
 }

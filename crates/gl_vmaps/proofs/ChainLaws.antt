@@ -101,10 +101,10 @@ pub chains_by-updated : (m n : BTreeMap (Vec ℕ Global) (VecDeque Version Globa
 chains_by-updated m n key w updates =
     same_chains (chains_by n.entries) (with_chain (chains_by m.entries) key (items_of w))
     (λ other.
-        get-chains_by n.entries other
-        ∙ ap (λ o. some_versions (items_of o)) (found-updated m n key w updates other)
-        ∙ go other (same_bytes other key)
-        ∙ sym (get-with_chain (chains_by m.entries) key (items_of w) other))
+    get-chains_by n.entries other
+    ∙ ap (λ o. some_versions (items_of o)) (found-updated m n key w updates other)
+    ∙ go other (same_bytes other key)
+    ∙ sym (get-with_chain (chains_by m.entries) key (items_of w) other))
   where
     go : (other : List ℕ) (b : Bool) → some_versions (items_of (if b then w else found other m.entries)) ≡ (if b then some_versions (items_of w) else get (chains_by m.entries) other)
     go other true = refl
@@ -154,7 +154,7 @@ pub chain_of-through : (m n : BTreeMap (Vec ℕ Global) (VecDeque Version Global
     chain_of (chains_by n.entries) key ≡ after.items
 chain_of-through m n key before after there updates =
     let at_key : found key n.entries ≡ Some after =
-        found-updated m n key (Some after) (updates (subst IsSome there refl)) key ∙ ap (λ (b : Bool). if b then Some after else found key m.entries) (same_bytes-itself key) in
+    found-updated m n key (Some after) (updates (subst IsSome there refl)) key ∙ ap (λ (b : Bool). if b then Some after else found key m.entries) (same_bytes-itself key) in
     chain_of-by n.entries key ∙ ap items_of at_key
 
 -- ---- lists of versions in a queue
@@ -209,13 +209,13 @@ pub present-with : (chains : Chains) (key : List ℕ) (vs : List Version) →
 present-with chains key vs =
     let rows = present_rows (entries chains) in
     let same : present_rows (entries (with_chain chains key vs)) ≡ with_row rows key (last_value vs) =
-        same_rows (present_rows (entries (with_chain chains key vs))) (with_row rows key (last_value vs))
-        (λ other.
-            present_get (with_chain chains key vs) other
-            ∙ ap last_value (chain_of-with chains key vs other)
-            ∙ picked (same_bytes other key) vs (chain_of chains other)
-            ∙ ap (λ o. if same_bytes other key then last_value vs else o) (sym (present_get chains other))
-            ∙ sym (get-with_row rows key (last_value vs) other)) in
+    same_rows (present_rows (entries (with_chain chains key vs))) (with_row rows key (last_value vs))
+    (λ other.
+    present_get (with_chain chains key vs) other
+    ∙ ap last_value (chain_of-with chains key vs other)
+    ∙ picked (same_bytes other key) vs (chain_of chains other)
+    ∙ ap (λ o. if same_bytes other key then last_value vs else o) (sym (present_get chains other))
+    ∙ sym (get-with_row rows key (last_value vs) other)) in
     ap len same ∙ len-with_row rows key (last_value vs) ∙ ap (λ o. sized (last_value vs) (is_some o) (len rows)) (present_get chains key)
 
 pub present-alike : (a b : Chains) → ((key : List ℕ) → last_value (chain_of a key) ≡ last_value (chain_of b key)) → present a ≡ present b
@@ -227,8 +227,8 @@ present-empty =
     let nothing : Chains = empty in
     ap len (same_rows (present_rows (entries nothing)) empty
     (λ key. present_get nothing key
-        ∙ ap (λ (o : Option (List Version)). last_value (unwrap_or o [])) (get-empty (slice_cmp nat_cmp) key)
-        ∙ sym (get-empty (slice_cmp nat_cmp) key)))
+    ∙ ap (λ (o : Option (List Version)). last_value (unwrap_or o [])) (get-empty (slice_cmp nat_cmp) key)
+    ∙ sym (get-empty (slice_cmp nat_cmp) key)))
     ∙ len-empty (slice_cmp nat_cmp) (List ℕ)
 
 sized-more : (value : Option (List ℕ)) (has : Bool) (size : ℕ) → sized value has size ≤ size + 1
@@ -288,8 +288,8 @@ pub newest-pushed : (chains : Chains) (key : List ℕ) (v : Version) → newest_
 newest-pushed chains key v le =
     let after : Chains = with_chain chains key (chain_of chains key ++ v ∷ []) in
     let at_key : last_place (chain_of after key) ≡ v.place =
-        ap last_place (chain_of-with chains key (chain_of chains key ++ v ∷ []) key ∙ ap (λ (b : Bool). if b then chain_of chains key ++ v ∷ [] else chain_of chains key) (same_bytes-itself key))
-        ∙ ap place_or_zero (last_or-append None (chain_of chains key) (v ∷ [])) in
+    ap last_place (chain_of-with chains key (chain_of chains key ++ v ∷ []) key ∙ ap (λ (b : Bool). if b then chain_of chains key ++ v ∷ [] else chain_of chains key) (same_bytes-itself key))
+    ∙ ap place_or_zero (last_or-append None (chain_of chains key) (v ∷ [])) in
     let up = newest-below after v.place (λ other. one other (same_bytes other key) (chain_of-with chains key (chain_of chains key ++ v ∷ []) other)) in
     let down = newest-above after key in
     omega (arith, at_key, up, down)

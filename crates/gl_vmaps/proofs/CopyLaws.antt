@@ -114,8 +114,8 @@ maps-step all copy more rest left r name rows k one so_far is takes updates name
     let turn : rest ≡ (name.now, rows.now) ∷ left = rest_more deref_pair rest left r (name, rows) is takes in
     ap (λ (t : Maps). maps_with t left)
     (maps_by-updated copy more k.items (Some one) updates
-        ∙ ap (λ bytes. with_rows (maps_by copy.entries) bytes one) named
-        ∙ ap (with_rows (maps_by copy.entries) name.now.items) same)
+    ∙ ap (λ bytes. with_rows (maps_by copy.entries) bytes one) named
+    ∙ ap (with_rows (maps_by copy.entries) name.now.items) same)
     ∙ sym (ap (maps_with (maps_by copy.entries)) turn) ∙ so_far
 
 pub chains-step : (all : List (Vec ℕ Global × VecDeque Version Global)) (copy more : BTreeMap (Vec ℕ Global) (VecDeque Version Global)) (rest left : List (Vec ℕ Global × VecDeque Version Global)) (r : Option (Bor (Vec ℕ Global) × Bor (VecDeque Version Global))) (key : Bor (Vec ℕ Global)) (chain : Bor (VecDeque Version Global))
@@ -127,8 +127,8 @@ chains-step all copy more rest left r key chain k one so_far is takes updates na
     let turn : rest ≡ (key.now, chain.now) ∷ left = rest_more deref_pair rest left r (key, chain) is takes in
     ap (λ (t : Chains). chains_with t left)
     (chains_by-updated copy more k.items (Some one) updates
-        ∙ ap (λ bytes. with_chain (chains_by copy.entries) bytes one.items) named
-        ∙ ap (with_chain (chains_by copy.entries) key.now.items) same)
+    ∙ ap (λ bytes. with_chain (chains_by copy.entries) bytes one.items) named
+    ∙ ap (with_chain (chains_by copy.entries) key.now.items) same)
     ∙ sym (ap (chains_with (chains_by copy.entries)) turn) ∙ so_far
 
 pub maps-end : (all : List (Vec ℕ Global × Chains)) (copy : BTreeMap (Vec ℕ Global) Chains) (rest left : List (Vec ℕ Global × Chains)) (r : Option (Bor (Vec ℕ Global) × Bor Chains)) →

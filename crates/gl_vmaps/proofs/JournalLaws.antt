@@ -36,7 +36,7 @@ take_all_but : (v : Version) (vs : List Version) → v ∷ vs ≡ take (length v
 take_all_but v [] = refl
 take_all_but v (w ∷ ws) = ap (λ us. v ∷ us) (take_all_but w ws)
 
-without_last-take : (v : Version) (vs : List Version) → without_last (v ∷ vs) ≡ take (length vs) (v ∷ vs)
+pub without_last-take : (v : Version) (vs : List Version) → without_last (v ∷ vs) ≡ take (length vs) (v ∷ vs)
 without_last-take v vs = let n : length (v ∷ vs) - 1 ≡ length vs = omega arith in ap (λ k. take k (v ∷ vs)) n
 
 pub split_last : (v : Version) (vs : List Version) → v ∷ vs ≡ without_last (v ∷ vs) ++ last_from v vs ∷ []
@@ -75,10 +75,10 @@ has_last (v ∷ vs) lt = record { last = last_from v vs; split = split_last v vs
 
 -- ---- one write more, and taken back
 
-row_is : (n k m key : List ℕ) → (same_bytes n m && same_bytes k key) ≡ true → (n ≡ m) × (k ≡ key)
+pub row_is : (n k m key : List ℕ) → (same_bytes n m && same_bytes k key) ≡ true → (n ≡ m) × (k ≡ key)
 row_is n k m key is = let both = and_parts (same_bytes n m) (same_bytes k key) is in (same_bytes-eq n m both.0, same_bytes-eq k key both.1)
 
-itself : (m key : List ℕ) → (same_bytes m m && same_bytes key key) ≡ true
+pub itself : (m key : List ℕ) → (same_bytes m m && same_bytes key key) ≡ true
 itself m key = rw (same_bytes-itself m, same_bytes-itself key) refl
 
 pub found_in-at : (maps : Maps) (m key : List ℕ) (vs : List Version) → found_in (with_versions maps m key vs) m key ≡ vs
@@ -182,7 +182,7 @@ pub journal-pushed : (c : ℕ) (maps : Maps) (es : List Written) (place : ℕ) (
 journal-pushed c maps es place [] proper tidy journal below fresh = journal
 journal-pushed c maps es place (w ∷ ws) proper tidy journal below fresh =
     let one : IsJournal c (pushed maps place w) (written maps place w ∷ es) =
-        (is_last-pushed maps place w proper tidy fresh.0, all_written_below c maps es place journal below, subst (λ (t : Maps). IsJournal c t es) (sym (popped-pushed maps place w proper tidy)) journal) in
+    (is_last-pushed maps place w proper tidy fresh.0, all_written_below c maps es place journal below, subst (λ (t : Maps). IsJournal c t es) (sym (popped-pushed maps place w proper tidy)) journal) in
     journal-pushed c (pushed maps place w) (written maps place w ∷ es) place ws (pushed_proper maps place w proper) (pushed_tidy maps place w tidy) one (below_pushed maps place w below) fresh.2
 
 -- the writes of an ordered set are fresh at a place above all versions
@@ -202,9 +202,9 @@ still_fresh maps place w [] before fresh = tt
 still_fresh maps place w (y ∷ ys) before fresh =
     let other : is_to_row y.map y.key w ≡ false = apart (is_to_row y.map y.key w) refl in
     let same : found_in (pushed maps place w) y.map y.key ≡ found_in maps y.map y.key =
-        more_here maps place w y.map y.key
-        ∙ ap (λ (b : Bool). found_in maps y.map y.key ++ with_first b (record { place = place; value = w.value }) []) other
-        ∙ append-nil (found_in maps y.map y.key) in
+    more_here maps place w y.map y.key
+    ∙ ap (λ (b : Bool). found_in maps y.map y.key ++ with_first b (record { place = place; value = w.value }) []) other
+    ∙ append-nil (found_in maps y.map y.key) in
     (subst (λ vs. last_place vs < place) (sym same) fresh.0, still_fresh maps place w ys before.1 fresh.1)
   where
     apart : (b : Bool) → is_to_row y.map y.key w ≡ b → b ≡ false
@@ -214,9 +214,11 @@ still_fresh maps place w (y ∷ ys) before fresh =
 pub fresh-ordered : (maps : Maps) (place : ℕ) (ws : List Write) → is_ordered ws ≡ true → ((n : List ℕ) → newest_place (rows_in maps n) ≤ place) →
     AllByRecursion (λ (y : Write). last_place (found_in maps y.map y.key) < place) ws → AreFresh maps place ws
 fresh-ordered maps place [] ordered below fresh = tt
-fresh-ordered maps place (w ∷ ws) ordered below fresh =
-    (fresh.0, below w.map,
-    fresh-ordered (pushed maps place w) place ws (is_ordered-rest w ws ordered) (λ n. newest_after maps place w n below) (still_fresh maps place w ws (ordered_before w ws ordered) fresh.1))
+fresh-ordered maps place (w ∷ ws) ordered below fresh = (
+  fresh.0,
+  below w.map,
+  fresh-ordered (pushed maps place w) place ws (is_ordered-rest w ws ordered) (λ n. newest_after maps place w n below) (still_fresh maps place w ws (ordered_before w ws ordered) fresh.1),
+)
 
 -- ---- one write taken back by a cut
 
@@ -228,9 +230,9 @@ cut_last vs to some above =
     let over : is_up_to to l.last ≡ false = grind (arith, nat_tests) in
     let none : versions_up_to to (l.last ∷ []) ≡ [] = rw over refl in
     sym (ap (versions_up_to to) l.split
-        ∙ filter-append (is_up_to to) (without_last vs) (l.last ∷ [])
-        ∙ ap (λ us. versions_up_to to (without_last vs) ++ us) none
-        ∙ append-nil (versions_up_to to (without_last vs)))
+    ∙ filter-append (is_up_to to) (without_last vs) (l.last ∷ [])
+    ∙ ap (λ us. versions_up_to to (without_last vs) ++ us) none
+    ∙ append-nil (versions_up_to to (without_last vs)))
 
 pub cut-popped : (maps : Maps) (w : Written) (to : ℕ) → IsLast maps w → to < w.place → (name key : List ℕ) →
     versions_up_to to (found_in (popped maps w) name key) ≡ versions_up_to to (found_in maps name key)
@@ -274,8 +276,8 @@ all_up_to c to maps (w ∷ es) le journal below name key =
         let front : versions_up_to to (without_last vs) ≡ without_last vs = subst (λ us. versions_up_to to us ≡ us) now rest in
         let one : versions_up_to to (l.last ∷ []) ≡ l.last ∷ [] = rw up refl in
         let all : versions_up_to to vs ≡ vs =
-            ap (versions_up_to to) l.split ∙ filter-append (is_up_to to) (without_last vs) (l.last ∷ [])
-            ∙ ap (λ us. us ++ versions_up_to to (l.last ∷ [])) front ∙ ap (λ us. without_last vs ++ us) one ∙ sym l.split in
+        ap (versions_up_to to) l.split ∙ filter-append (is_up_to to) (without_last vs) (l.last ∷ [])
+        ∙ ap (λ us. us ++ versions_up_to to (l.last ∷ [])) front ∙ ap (λ us. without_last vs ++ us) one ∙ sym l.split in
         subst (λ us. versions_up_to to us ≡ us) (ap (λ n. found_in maps n w.key) (sym row.0) ∙ ap (found_in maps name) (sym row.1)) all
     go false differ rest now = subst (λ us. versions_up_to to us ≡ us) now rest
 

@@ -9,4 +9,5 @@ pub mod ChainLaws
 pub mod MapLaws
 pub mod JournalLaws
 pub mod CopyLaws
+pub mod Settling
 pub mod WriteLaws

@@ -102,7 +102,7 @@ pub same_found : (a b : Maps) → IsProper a → IsProper b → IsTidy a → IsT
 same_found a b proper_a proper_b tidy_a tidy_b same =
     same_maps a b proper_a proper_b
     (λ name. same_chains (rows_in a name) (rows_in b name)
-        (λ key. tidy_get (rows_in a name) key (tidy_a name key) ∙ ap some_versions (same name key) ∙ sym (tidy_get (rows_in b name) key (tidy_b name key))))
+    (λ key. tidy_get (rows_in a name) key (tidy_a name key) ∙ ap some_versions (same name key) ∙ sym (tidy_get (rows_in b name) key (tidy_b name key))))
 
 -- ---- one row given other versions
 
@@ -131,6 +131,7 @@ tidy-versions maps name key vs tidy n k e =
     inner : (b : Bool) → (if b then some_versions vs else get (rows_in maps name) k) ≡ Some [] → ⊥
     inner true is = some_not vs is
     inner false is = tidy name k is
+
     go : (b : Bool) → same_bytes n name ≡ b → get (if b then with_chain (rows_in maps name) key vs else rows_in maps n) k ≡ Some [] → ⊥
     go true same is = inner (same_bytes k key) (sym (get-with_chain (rows_in maps name) key vs k) ∙ is)
     go false differ is = tidy n k is
@@ -155,10 +156,10 @@ pub maps_by-updated : (m n : BTreeMap (Vec ℕ Global) Chains) (name : List ℕ)
 maps_by-updated m n name w updates =
     same_maps (maps_by n.entries) (with_rows (maps_by m.entries) name (rows_of w)) (proper-by n.entries) (proper-with (maps_by m.entries) name (rows_of w) (proper-by m.entries))
     (λ other.
-        rows_in-by n.entries other
-        ∙ ap rows_of (found-updated m n name w updates other)
-        ∙ go other (same_bytes other name)
-        ∙ sym (rows_in-with (maps_by m.entries) name (rows_of w) other))
+    rows_in-by n.entries other
+    ∙ ap rows_of (found-updated m n name w updates other)
+    ∙ go other (same_bytes other name)
+    ∙ sym (rows_in-with (maps_by m.entries) name (rows_of w) other))
   where
     go : (other : List ℕ) (b : Bool) → rows_of (if b then w else found other m.entries) ≡ (if b then rows_of w else rows_in (maps_by m.entries) other)
     go other true = refl
@@ -181,7 +182,7 @@ pub rows_in-through : (m n : BTreeMap (Vec ℕ Global) Chains) (name : List ℕ)
     rows_in (maps_by n.entries) name ≡ after
 rows_in-through m n name before after there updates =
     let at_name : found name n.entries ≡ Some after =
-        found-updated m n name (Some after) (updates (subst IsSome there refl)) name ∙ ap (λ (b : Bool). if b then Some after else found name m.entries) (same_bytes-itself name) in
+    found-updated m n name (Some after) (updates (subst IsSome there refl)) name ∙ ap (λ (b : Bool). if b then Some after else found name m.entries) (same_bytes-itself name) in
     rows_in-by n.entries name ∙ ap rows_of at_name
 
 -- a map that is not there has no versions to take back
@@ -191,15 +192,16 @@ no_map es name key f nothing none =
     let rows : rows_in (maps_by es) name ≡ empty = rows_in-by es name ∙ ap rows_of none in
     let no_versions : found_in (maps_by es) name key ≡ [] = ap (λ (t : Chains). chain_of t key) rows ∙ ap (λ (o : Option (List Version)). unwrap_or o []) (get-empty (slice_cmp nat_cmp) key) in
     let gone : with_chain (rows_in (maps_by es) name) key [] ≡ rows_in (maps_by es) name =
-        same_chains (with_chain (rows_in (maps_by es) name) key []) (rows_in (maps_by es) name)
-        (λ other. get-with_chain (rows_in (maps_by es) name) key [] other ∙ go other rows (same_bytes other key)) in
+    same_chains (with_chain (rows_in (maps_by es) name) key []) (rows_in (maps_by es) name)
+    (λ other. get-with_chain (rows_in (maps_by es) name) key [] other ∙ go other rows (same_bytes other key)) in
     same_maps (maps_by es) (with_rows (maps_by es) name (rows_in (maps_by es) name)) (proper-by es) (proper-with (maps_by es) name (rows_in (maps_by es) name) (proper-by es))
-        (λ other. sym (rows_in-with (maps_by es) name (rows_in (maps_by es) name) other ∙ itself other (same_bytes other name) refl))
+    (λ other. sym (rows_in-with (maps_by es) name (rows_in (maps_by es) name) other ∙ itself other (same_bytes other name) refl))
     ∙ ap (with_rows (maps_by es) name) (sym gone ∙ ap (with_chain (rows_in (maps_by es) name) key) (sym nothing ∙ ap f (sym no_versions)))
   where
     go : (other : List ℕ) → rows_in (maps_by es) name ≡ empty → (b : Bool) → (if b then None else get (rows_in (maps_by es) name) other) ≡ get (rows_in (maps_by es) name) other
     go other rows true = sym (ap (λ (t : Chains). get t other) rows ∙ get-empty (slice_cmp nat_cmp) other)
     go other rows false = refl
+
     itself : (other : List ℕ) (b : Bool) → same_bytes other name ≡ b → (if b then rows_in (maps_by es) name else rows_in (maps_by es) other) ≡ rows_in (maps_by es) other
     itself other true same = ap (rows_in (maps_by es)) (sym (same_bytes-eq other name same))
     itself other false differ = refl

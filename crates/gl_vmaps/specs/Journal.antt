@@ -1,9 +1,9 @@
 -- What was written and can still be taken back: which rows, in their order.
-use Rattle.std.specs.Prelude.{◌≡◌, ℕ, ◌<◌, ◌≤◌, Bool, false, nat_lt, List, [], ◌∷◌, ◌++◌, Some}
+use Rattle.std.specs.Prelude.{◌≡◌, ℕ, ◌<◌, ◌≤◌, Bool, false, nat_lt, nat_le, List, [], ◌∷◌, ◌++◌, Some}
 use Rattle.std.specs.FinMap as finite
 use Rattle.std.specs.List.{AllByRecursion}
 use Rattle.gl_vmaps.specs.Kept.{Kept, last_place}
-use Rattle.gl_vmaps.specs.Chains.{Maps, rows_in, found_in, with_versions, without_last, newest_place}
+use Rattle.gl_vmaps.specs.Chains.{Maps, rows_in, found_in, with_versions, without_last, newest_place, trimmed}
 use Rattle.gl_vmaps.specs.declared.table.Version.{Version}
 use Rattle.gl_vmaps.specs.declared.journal.Written.{Written}
 use Rattle.gl_vmaps.specs.declared.write.Write.{Write}
@@ -78,3 +78,18 @@ AreFresh maps place (w ∷ ws) =
     (last_place (found_in maps w.map w.key) < place)
     × (newest_place (rows_in maps w.map) ≤ place)
     × AreFresh (pushed maps place w) place ws
+
+-- ---- the first write
+
+-- The first write is at or below a place.
+abbrev pub is_first_up_to : ℕ → List Written → Bool
+is_first_up_to place [] = false
+is_first_up_to place (w ∷ later) = nat_le w.place place
+
+-- The maps where the write can't be taken back any more: its row lets go of what stood before it.
+abbrev pub settled : Maps → Written → Maps
+settled maps w = with_versions maps w.map w.key (trimmed w.place (found_in maps w.map w.key))
+
+abbrev pub settled_first : Maps → List Written → Maps
+settled_first maps [] = maps
+settled_first maps (w ∷ later) = settled maps w

@@ -3,7 +3,7 @@
 ghost use Rattle.std.specs.Prelude.{◌≡◌, ◌≤◌, ◌-◌, ◌∷◌, [], ◌++◌, ℕ, List, IsTrue, IfOk, OnOk, OnErr, take, drop, length, reverse};
 ghost use Rattle.std.specs.FinMap as finite;
 ghost use Rattle.gl_vmaps.specs.Chains.{maps_by, rows_in, found_in, with_versions, without_last, newest_place, trimmed};
-ghost use Rattle.gl_vmaps.specs.Journal.{is_last_above, CanPop, popped_last, IsTidy, AreFresh, pushed, written, pushed_maps, pushed_journal};
+ghost use Rattle.gl_vmaps.specs.Journal.{is_first_up_to, settled_first, is_last_above, CanPop, popped_last, IsTidy, AreFresh, pushed, written, pushed_maps, pushed_journal};
 
 use crate::name::{Key, MapName};
 use crate::table::{Table, Version};
@@ -45,7 +45,7 @@ pub(crate) fn push_version(
     requires { newest_place (rows_in (maps_by maps.old.entries) map.now) ≤ version.place }
     ensures ok { OnOk result (let old = maps_by maps.old.entries in
         maps_by maps.new.entries ≡
-            with_versions old map.now key.now (found_in old map.now key.now ++ version ∷ [])) }
+        with_versions old map.now key.now (found_in old map.now key.now ++ version ∷ [])) }
     ensures err { OnErr result (maps_by maps.new.entries ≡ maps_by maps.old.entries) }
 {
     match maps.get_mut(map) {
@@ -122,6 +122,34 @@ pub(crate) fn pop_last(maps: &mut Maps, journal: &mut VecDeque<Written>)
     }
 }
 
+/// Whether the first write is at or below a place.
+pub(crate) fn starts_up_to(journal: &VecDeque<Written>, place: u64) -> bool
+    ensures { result ≡ is_first_up_to place journal.now.items }
+{
+    match journal.front() {
+        None => false,
+        Some(first) => first.place <= place,
+    }
+}
+
+/// Settles what was written first: its row lets go of the version before, and it can't be taken back
+/// any more.
+pub(crate) fn settle_first(maps: &mut Maps, journal: &mut VecDeque<Written>)
+    ensures maps { maps_by maps.new.entries ≡
+        settled_first (maps_by maps.old.entries) journal.old.items }
+    ensures journal { journal.new.items ≡ drop 1 journal.old.items }
+    ensures shorter { length journal.new.items ≡ length journal.old.items - 1 }
+{
+    if let Some(first) = journal.pop_front() {
+        trim_version(
+            maps,
+            first.map.as_slice(),
+            first.key.as_slice(),
+            first.place,
+        );
+    }
+}
+
 /// Adds a write at a place. Want of memory leaves all as it was.
 fn push_write(
     alloc: Global,
@@ -141,8 +169,19 @@ fn push_write(
     let Write { map, key, value } = write.copy(alloc)?;
     let before = newest_of(maps, map.as_slice());
     journal.reserve(1)?;
-    push_version(maps, alloc, map.as_slice(), key.as_slice(), Version { place, value })?;
-    journal.push_back_reserved(Written { place, map, key, before });
+    push_version(
+        maps,
+        alloc,
+        map.as_slice(),
+        key.as_slice(),
+        Version { place, value },
+    )?;
+    journal.push_back_reserved(Written {
+        place,
+        map,
+        key,
+        before,
+    });
     Ok(())
 }
 

@@ -51,12 +51,7 @@ fn last_of<'a>(rows: &'a Rows, key: &[u8]) -> Option<&'a Version>
 }
 
 /// Adds a version behind those of a row. Want of memory leaves the rows as they were.
-fn push_into(
-    rows: &mut Rows,
-    alloc: Global,
-    key: &[u8],
-    version: Version,
-) -> Result<(), AllocError>
+fn push_into(rows: &mut Rows, alloc: Global, key: &[u8], version: Version) -> Result<(), AllocError>
     ensures ok { OnOk result (let old = chains_by rows.old.entries in
         chains_by rows.new.entries ≡ with_chain old key.now (chain_of old key.now ++ version ∷ [])) }
     ensures err { OnErr result (chains_by rows.new.entries ≡ chains_by rows.old.entries) }
@@ -195,8 +190,9 @@ impl Model for Table {
     ghost view = { λ t. chains_by t.rows.entries };
 
     ghost invariant = { λ t. record {
-        counted : t.count ≡ present (chains_by t.rows.entries);
-        topped : t.newest ≡ newest_place (chains_by t.rows.entries) } };
+      counted : t.count ≡ present (chains_by t.rows.entries);
+      topped : t.newest ≡ newest_place (chains_by t.rows.entries);
+    } };
 }
 
 impl Table {
@@ -277,8 +273,8 @@ impl Table {
         let count = self.size();
         let had = has_value(self.last(key));
         pop_from(&mut self.rows, key);
-        let has = has_value(last_of(&self.rows, key));
-        self.count = recount(count, had, has);
+        let left = has_value(last_of(&self.rows, key));
+        self.count = recount(count, had, left);
         self.newest = before;
     }
 

@@ -7,7 +7,9 @@ ghost use Rattle.gl_vmaps.specs.Name.{is_value};
 ghost use Rattle.gl_vmaps.specs.Chains.{maps_by, rows_in, found_in, present};
 
 use crate::journal::{
-    Maps, Written, copy_journal, copy_maps, ends_above, newest_of, pop_last, push_writes};
+    Maps, Written, copy_journal, copy_maps, ends_above, newest_of, pop_last, push_writes,
+    settle_first, starts_up_to,
+};
 use crate::table::Version;
 use crate::write::Writes;
 use std::alloc::{AllocError, Global};
@@ -39,13 +41,15 @@ impl Model for Tables {
     ghost use Rattle.gl_vmaps.specs.Journal.{IsTidy, IsJournal};
 
     ghost view = { λ t. record {
-        base = t.base;
-        compacted = t.compacted;
-        maps = maps_by t.maps.entries } };
+      base = t.base;
+      compacted = t.compacted;
+      maps = maps_by t.maps.entries;
+    } };
 
     ghost invariant = { λ t. record {
-        tidy : IsTidy (maps_by t.maps.entries);
-        undone : IsJournal t.compacted (maps_by t.maps.entries) (reverse t.journal.items) } };
+      tidy : IsTidy (maps_by t.maps.entries);
+      undone : IsJournal t.compacted (maps_by t.maps.entries) (reverse t.journal.items);
+    } };
 }
 
 /// The last version of a row, if it has one.
@@ -81,7 +85,7 @@ impl Tables {
     ghost use Rattle.std.specs.Prelude.{◌≡◌, ℕ, ◌<◌, ◌≤◌, ◌^◌, List, [], ◌++◌, IsTrue, IfSome, IfOk, OnOk, OnErr};
     ghost use Rattle.gl_vmaps.specs.Name.{is_value};
     ghost use Rattle.gl_vmaps.specs.Kept.{value_of, has_row, count_of, version_of, map_version_of};
-    ghost use Rattle.gl_vmaps.specs.Standing.{StandsFor, HasApplied, HasCut};
+    ghost use Rattle.gl_vmaps.specs.Standing.{StandsFor, HasApplied, HasCut, HasCompacted};
     ghost use Rattle.gl_vmaps.specs.Tables.{value_in, has_key, size_of};
     ghost use Rattle.gl_vmaps.specs.Versions.{Placed, placed_at, written_by, version_in, map_version_in, up_to};
 
@@ -178,6 +182,18 @@ impl Tables {
         while ends_above(&self.journal, to) {
             pop_last(&mut self.maps, &mut self.journal);
         }
+    }
+
+    /// Lets go of what no cut above a place needs: of each row its versions at or below the place but
+    /// for the last one. Takes no memory.
+    pub fn compact(&mut self, to: u64)
+        ensures exact { HasCompacted self.old to self.new }
+        ensures stands { (ps : List Placed) → StandsFor self.old ps → StandsFor self.new ps }
+    {
+        while starts_up_to(&self.journal, to) {
+            settle_first(&mut self.maps, &mut self.journal);
+        }
+        self.compacted = self.compacted.max(to);
     }
 
     /// Tables of their own with the same rows and versions. Fails for want of memory alone.

@@ -13,4 +13,4 @@ loop-map-preserved c =
     c.loop-map.invariant c.in-Some.is c.next.ensures.steps c.in_ok-insert.ensures.updates (c.in_ok-map.ensures.items ∙ c.deref.ensures.value) c.in_ok-table.ensures
 
 pub returns : goal.returns
-returns c = maps-end c.args.maps.now.entries c.loop-map.copy c.loop-map.map-iterator c.next.new.self c.next.result c.loop-map.invariant c.in-None.is c.next.ensures.steps ?
+returns c = maps-end c.args.maps.now.entries c.loop-map.copy c.loop-map.map-iterator c.next.new.self c.next.result c.loop-map.invariant c.in-None.is c.next.ensures.steps c.into_iter-map-iterator.ensures.into_iter_gives.5

@@ -10,7 +10,7 @@ pop_version-requires c =
     let w = c.in-Some.last in
     let maps = maps_by c.args.maps.now.entries in
     let split : reverse c.args.journal.now.items ≡ w ∷ reverse c.pop_back.new.self.items =
-        ap reverse c.in-Some.ensures.items ∙ reverse-append c.pop_back.new.self.items (w ∷ []) in
+    ap reverse c.in-Some.ensures.items ∙ reverse-append c.pop_back.new.self.items (w ∷ []) in
     let last = subst (CanPop maps) split c.requires in
     last.before
     ∙ ap (λ name. newest_place (rows_in (with_versions maps name w.key (without_last (found_in maps name w.key))) name)) (sym c.as_slice.ensures.value)

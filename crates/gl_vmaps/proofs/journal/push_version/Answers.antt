@@ -8,7 +8,7 @@ use Rattle.gl_vmaps.proofs.journal.push_version.Goals as goal
 pub push-requires : goal.push-requires
 push-requires c =
     let rows : rows_in (maps_by c.args.maps.now.entries) c.args.map.now ≡ c.in-Some.table.now =
-        rows_in-by c.args.maps.now.entries c.args.map.now ∙ sym (ap rows_of c.in-Some.ensures.value) in
+    rows_in-by c.args.maps.now.entries c.args.map.now ∙ sym (ap rows_of c.in-Some.ensures.value) in
     subst (λ (t : Chains). newest_place t ≤ c.args.version.place) rows c.requires
 
 pub push-requires-in-None : goal.push-requires-in-None
@@ -19,7 +19,7 @@ returns-in_err-push-in-Some-clause-err c =
     let w = c.push.new.self in
     on_err c.from_residual.result _
     (maps_by-kept c.args.maps.now (c.get_mut.follows.lender w) c.args.map.now c.in-Some.table.now w
-        c.in-Some.ensures.value (c.get_mut.follows.holds w).3 c.in_err-push-in-Some.ensures.err)
+    c.in-Some.ensures.value (c.get_mut.follows.holds w).3 c.in_err-push-in-Some.ensures.err)
 
 pub returns-in_ok-push-in-Some-clause-ok : goal.returns-in_ok-push-in-Some-clause-ok
 returns-in_ok-push-in-Some-clause-ok c =

@@ -13,4 +13,4 @@ loop-key-preserved c =
     c.loop-key.invariant c.in-Some.is c.next.ensures.steps c.in_ok-insert.ensures.updates (c.in_ok-key.ensures.items ∙ c.deref.ensures.value) c.in_ok-chain.ensures
 
 pub returns : goal.returns
-returns c = chains-end c.args.rows.now.entries c.loop-key.copy c.loop-key.key-iterator c.next.new.self c.next.result c.loop-key.invariant c.in-None.is c.next.ensures.steps ?
+returns c = chains-end c.args.rows.now.entries c.loop-key.copy c.loop-key.key-iterator c.next.new.self c.next.result c.loop-key.invariant c.in-None.is c.next.ensures.steps c.into_iter-key-iterator.ensures.into_iter_gives.5

@@ -8,7 +8,7 @@ returns-in_err-push_back-in-Some-clause-err c =
     let w = c.push_back.new.self in
     on_err c.from_residual.result _
     (chains_by-through c.args.rows.now (c.get_mut.follows.lender w) c.args.key.now c.in-Some.chain.now w (λ vs. vs)
-        c.in-Some.ensures.value (c.get_mut.follows.holds w).3 c.in_err-push_back-in-Some.ensures.items
+    c.in-Some.ensures.value (c.get_mut.follows.holds w).3 c.in_err-push_back-in-Some.ensures.items
     ∙ chains_by-same c.args.rows.now.entries c.args.key.now)
 
 pub returns-in_ok-push_back-in-Some-clause-ok : goal.returns-in_ok-push_back-in-Some-clause-ok

@@ -9,17 +9,17 @@ use Rattle.gl_vmaps.proofs.table.Table.push.Goals as goal
 pub recount-self-inside-requires-clause-some : goal.recount-self-inside-requires-clause-some
 recount-self-inside-requires-clause-some c = λ is.
     let had : c.has_value-had.result ≡ is_some (last_value (chain_of c.args.self.now c.args.key.now)) =
-        c.has_value-had.ensures ∙ ap (λ o. is_some (option_and_then (λ (v : Version). v.value) o)) c.last.ensures in
+    c.has_value-had.ensures ∙ ap (λ o. is_some (option_and_then (λ (v : Version). v.value) o)) c.last.ensures in
     some-count c.args.self.now c.args.key.now c.size-count.result c.has_value-had.result c.size-count.ensures.value had is
 
 pub invariant_of-self-2 : goal.invariant_of-self-2
 invariant_of-self-2 c =
     let C = chains_by c.self.inside.rows.entries in
     let had : c.has_value-had.result ≡ is_some (last_value (chain_of c.args.self.now c.args.key.now)) =
-        c.has_value-had.ensures ∙ ap (λ o. is_some (option_and_then (λ (v : Version). v.value) o)) c.last.ensures in
+    c.has_value-had.ensures ∙ ap (λ o. is_some (option_and_then (λ (v : Version). v.value) o)) c.last.ensures in
     let vs = chain_of C c.args.key.now ++ c.args.version ∷ [] in
     let has : c.is_some-has.result ≡ is_some (last_value vs) =
-        c.is_some-has.ensures ∙ ap is_some (sym (last_value-pushed (chain_of C c.args.key.now) c.args.version)) in
+    c.is_some-has.ensures ∙ ap is_some (sym (last_value-pushed (chain_of C c.args.key.now) c.args.version)) in
     let le : newest_place C ≤ c.args.version.place = subst (λ (t : Chains). newest_place t ≤ c.args.version.place) (sym c.self.view_is) c.requires in
     record {
       counted = counted-with C c.args.self.now (chains_by c.push_into.new.rows.entries) c.args.key.now vs c.size-count.result c.recount-self-inside.result c.has_value-had.result c.is_some-has.result

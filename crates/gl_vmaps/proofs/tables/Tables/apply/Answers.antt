@@ -15,7 +15,7 @@ pub push_writes-requires-clause-fresh : goal.push_writes-requires-clause-fresh
 push_writes-requires-clause-fresh c =
     let maps = maps_by c.self.inside.maps.entries in
     let above : (name key : List ℕ) → last_place (found_in maps name key) < c.args.seqno =
-        subst (λ (t : Kept). (name key : List ℕ) → version_of t name key < c.args.seqno) (sym c.self.view_is) c.requires.above in
+    subst (λ (t : Kept). (name key : List ℕ) → version_of t name key < c.args.seqno) (sym c.self.view_is) c.requires.above in
     subst (AreFresh maps c.args.seqno) (sym c.as_slice-writes.ensures.value) (fresh-above maps c.args.seqno c.args.writes.now above c.as_slice-writes.ensures.ordered)
 
 pub invariant_of-self-2 : goal.invariant_of-self-2
@@ -25,11 +25,11 @@ invariant_of-self-2 c =
     let ws = c.as_slice-writes.result.now in
     let place = c.args.seqno in
     let above : (name key : List ℕ) → last_place (found_in maps name key) < place =
-        subst (λ (t : Kept). (name key : List ℕ) → version_of t name key < place) (sym c.self.view_is) c.requires.above in
+    subst (λ (t : Kept). (name key : List ℕ) → version_of t name key < place) (sym c.self.view_is) c.requires.above in
     let fresh : AreFresh maps place ws =
-        subst (AreFresh maps place) (sym c.as_slice-writes.ensures.value) (fresh-above maps place c.args.writes.now above c.as_slice-writes.ensures.ordered) in
+    subst (AreFresh maps place) (sym c.as_slice-writes.ensures.value) (fresh-above maps place c.args.writes.now above c.as_slice-writes.ensures.ordered) in
     let undone = journal-pushed s.compacted maps (reverse s.journal.items) place ws (proper-by s.maps.entries) c.self.invariant.tidy c.self.invariant.undone
-        (λ name key. let lt = above name key in omega (arith, lt)) fresh in
+    (λ name key. let lt = above name key in omega (arith, lt)) fresh in
     record {
       tidy = subst IsTidy (sym c.in_ok-push_writes.ensures.maps) (pushed_maps-tidy maps place ws c.self.invariant.tidy);
       undone = subst (λ (m : Maps). IsJournal s.compacted m (reverse c.push_writes.new.journal.items)) (sym c.in_ok-push_writes.ensures.maps)

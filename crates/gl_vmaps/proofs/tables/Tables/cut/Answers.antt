@@ -27,7 +27,7 @@ loop-self-preserved c =
     let s = c.loop-self.self-inside in
     let above : is_last_above c.args.to (reverse s.journal.items) ≡ true = sym c.ends_above.ensures ∙ c.loop-self-test.true in
     let step = cuts-step s.compacted c.args.to (maps_by s.maps.entries) (maps_by c.pop_last.new.maps.entries) (reverse s.journal.items) (reverse c.pop_last.new.journal.items)
-        c.loop-self.invariant.tidy c.loop-self.invariant.undone above c.pop_last.ensures.maps c.pop_last.ensures.journal in
+    c.loop-self.invariant.tidy c.loop-self.invariant.undone above c.pop_last.ensures.maps c.pop_last.ensures.journal in
     record {
       base = c.loop-self.invariant.base;
       compacted = c.loop-self.invariant.compacted;
@@ -52,7 +52,7 @@ returns-clause-exact c =
       compacted = c.loop-self.invariant.compacted;
       rows = λ name key.
           sym (all_up_to s.compacted c.args.to (maps_by s.maps.entries) (reverse s.journal.items) (omega (arith, c.requires, c.loop-self.invariant.compacted))
-              c.loop-self.invariant.undone (none_above s.compacted c.args.to (maps_by s.maps.entries) (reverse s.journal.items) c.loop-self.invariant.undone none) name key)
+          c.loop-self.invariant.undone (none_above s.compacted c.args.to (maps_by s.maps.entries) (reverse s.journal.items) c.loop-self.invariant.undone none) name key)
           ∙ c.loop-self.invariant.rows name key;
     }
 

@@ -5,7 +5,7 @@ use Rattle.std.specs.List.{list_all}
 use Rattle.std.proofs.lemmas.Bool.{and_parts}
 use Rattle.std.proofs.lemmas.Bool.Decides.{nat_tests}
 use Rattle.std.proofs.lemmas.List.{length-take-le}
-use Rattle.gl_base.specs.Code.{field}
+use Rattle.gl_base.specs.Code.{field, flag_byte, flag_at}
 use Rattle.gl_base.specs.Cut.{Unread, Gives, number_at, string_at, text_at}
 use Rattle.gl_base.specs.Bytes.{are_bytes}
 use Rattle.gl_base.specs.LittleEndian.{little_endian, from_little_endian}
@@ -284,3 +284,16 @@ pub optional_value-only : {X : Type 0} → (limit : ℕ) (view : X → Option (L
 optional_value-only limit view old new r small g v rest is e =
     gives-only view old new _ r (optional_value_at limit old) v g
     (there (optional_value_at limit) old (optional_value_bytes v) rest _ e (optional_value-reads limit old.at v rest small is))
+
+-- ---- a byte that says no or yes
+
+pub flag-reads : (at : ℕ) (b : Bool) (rest : List ℕ) →
+    flag_at (record { at = at; bytes = flag_byte b ∷ rest }) ≡ Ok (b, record { at = at + 1; bytes = rest })
+unfolding flag_at
+flag-reads at false rest = rw (flag_reads at 0 rest (omega arith)) refl
+flag-reads at true rest = rw (flag_reads at 1 rest (omega arith)) refl
+
+pub flag-only : {X : Type 0} → (view : X → Bool) (old new : Unread) (r : Result X CodeFault) → Gives view r old new (flag_at old)
+    → (b : Bool) (rest : List ℕ) → old.bytes ≡ flag_byte b ∷ rest → IsOkAnd r (λ x. view x ≡ b)
+flag-only view old new r g b rest e =
+    gives-only view old new _ r (flag_at old) b g (ap (λ (bytes : List ℕ). flag_at (record { at = old.at; bytes = bytes })) e ∙ flag-reads old.at b rest)

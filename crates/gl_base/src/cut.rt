@@ -1,12 +1,12 @@
 //! Fields read from the front of bytes.
 
-ghost use Rattle.std.specs.Prelude.{◌≡◌, ◌⊎◌, ℕ, List, ◌+◌, ◌/◌, ◌^◌, ◌<◌, ◌≤◌, ◌++◌, length, position, Option, IsTrue, IfOk, IfErr, IsOkAnd, Ok};
+ghost use Rattle.std.specs.Prelude.{◌≡◌, ◌⊎◌, ℕ, Bool, List, ◌∷◌, ◌+◌, ◌/◌, ◌^◌, ◌<◌, ◌≤◌, ◌++◌, length, position, Option, IsTrue, IfOk, IfErr, IsOkAnd, Ok};
 ghost use Rattle.std.specs.Option.{option_copied};
 ghost use Rattle.gl_base.specs.LittleEndian.{little_endian};
 ghost use Rattle.gl_base.specs.Bytes.{are_bytes};
 ghost use Rattle.gl_base.specs.Field.{IsWidth, field_spelling};
 ghost use Rattle.gl_base.specs.Cut.{Unread, Gives, bytes_at, number_at, string_at, field_at, FitsField, FitsText, is_no_text, text_at};
-ghost use Rattle.gl_base.specs.Code.{ended};
+ghost use Rattle.gl_base.specs.Code.{ended, flag_byte, flag_at};
 ghost use Rattle.gl_base.specs.Row.{map_name_at, key_at, value_at, optional_value_at, map_name_bytes, key_bytes, value_bytes, optional_value_bytes, is_map_name_field, is_key_field, is_value_field, is_optional_value_field};
 
 use crate::fault::{CodeFault, CutFault};
@@ -86,6 +86,16 @@ impl<'a> Cut<'a> {
                 at: self.at + self.rest.len(),
             }),
         }
+    }
+
+    /// So many bytes, without a length.
+    pub fn array<const N: usize>(&mut self) -> Result<&'a [u8; N], CutFault>
+        ensures exact { Gives (λ s. s.now) result self.old self.new (bytes_at N self.old) }
+        ensures spelled { IfOk result (λ s. self.old.bytes ≡ s.now ++ self.new.bytes) }
+        ensures only { (xs rest : List ℕ) → length xs ≡ N → self.old.bytes ≡ xs ++ rest →
+            IsOkAnd result (λ s. s.now ≡ xs) }
+    {
+        self.chunk::<N>()
     }
 
     #[tactic(auto, using(crate::proofs::Numbers::number_from), unfolding(crate::specs::Cut::number_at))]
@@ -258,6 +268,35 @@ impl<'a> Cut<'a> {
             IsOkAnd result (λ s. s.now ≡ xs) }
     {
         self.name(limit)
+    }
+
+    #[tactic(auto, unfolding(crate::specs::Code::flag_at, crate::specs::LittleEndian::little_endian))]
+    fn flag_field(&mut self) -> Result<bool, CodeFault>
+        ensures exact { Gives (λ b. b) result self.old self.new (flag_at self.old) }
+        ensures spelled { IfOk result (λ b. self.old.bytes ≡ flag_byte b ∷ self.new.bytes) }
+    {
+        let mut ahead = self.copy();
+        match ahead.u8()? {
+            0 => {
+                *self = ahead;
+                Ok(false)
+            }
+            1 => {
+                *self = ahead;
+                Ok(true)
+            }
+            _ => Err(CodeFault::Value { at: self.at }),
+        }
+    }
+
+    /// A byte 0 for no, or 1 for yes.
+    pub fn flag(&mut self) -> Result<bool, CodeFault>
+        ensures exact { Gives (λ b. b) result self.old self.new (flag_at self.old) }
+        ensures spelled { IfOk result (λ b. self.old.bytes ≡ flag_byte b ∷ self.new.bytes) }
+        ensures only { (b : Bool) (rest : List ℕ) → self.old.bytes ≡ flag_byte b ∷ rest →
+            IsOkAnd result (λ said. said ≡ b) }
+    {
+        self.flag_field()
     }
 
     /// Nothing may be left.

@@ -21,7 +21,7 @@ pub use cut::Cut;
 pub use fault::{CodeFault, CutFault};
 pub use json::{FormsFault, Pointer};
 pub use or_no_memory::OrNoMemory;
-pub use put::{put_bytes, put_field, put_u8, put_u16, put_u32, put_u48, put_u64};
+pub use put::{put_bytes, put_field, put_flag, put_u8, put_u16, put_u32, put_u48, put_u64};
 pub use put_row::{put_key, put_map_name, put_optional_value, put_value};
 pub use sequence::{Bytes, Sequence};
 pub use tx_id::{FIRST_VIEW, LAST_SEQNO, LAST_VIEW, Status, TxId, TxIdFault};

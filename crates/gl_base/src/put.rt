@@ -1,8 +1,9 @@
 //! Fields written behind what a list of bytes holds. Numbers are written with their least
 //! significant byte first. Want of memory leaves the list as it was.
 
-ghost use Rattle.std.specs.Prelude.{◌≡◌, ◌++◌, ◌^◌, ◌<◌, take, OnOk, OnErr};
+ghost use Rattle.std.specs.Prelude.{◌≡◌, [], ◌∷◌, ◌++◌, ◌^◌, ◌<◌, take, OnOk, OnErr};
 ghost use Rattle.gl_base.specs.LittleEndian.{little_endian};
+ghost use Rattle.gl_base.specs.Code.{flag_byte};
 ghost use Rattle.gl_base.specs.Field.{IsWidth, FitsWidth, field_spelling};
 
 use std::alloc::AllocError;
@@ -30,6 +31,15 @@ pub fn put_u32(out: &mut Vec<u8>, value: u32) -> Result<(), AllocError>
     ensures kept { OnErr result (out.new.items ≡ out.old.items) }
 {
     out.extend_from_slice(&value.to_le_bytes())
+}
+
+/// A byte 0 for no, or 1 for yes.
+pub fn put_flag(out: &mut Vec<u8>, value: bool) -> Result<(), AllocError>
+    ensures put { OnOk result (out.new.items ≡ out.old.items ++ flag_byte value ∷ []) }
+    ensures kept { OnErr result (out.new.items ≡ out.old.items) }
+{
+    out.push(if value { 1 } else { 0 })?;
+    Ok(())
 }
 
 /// A number of six bytes.

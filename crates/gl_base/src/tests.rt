@@ -246,3 +246,17 @@ fn converts_each_fault(rt: HostRuntime) -> Result<(), Fail> {
     );
     Ok(())
 }
+
+#[test]
+fn reads_and_writes_bytes_that_say_yes_or_no(rt: HostRuntime) -> Result<(), Fail> {
+    let mut out = Vec::new(rt.alloc());
+    put_flag(&mut out, true)?;
+    put_flag(&mut out, false)?;
+    put_u8(&mut out, 2)?;
+    let mut cut = Cut::new(&out);
+    assert_eq!(rt; (cut.flag()?, cut.flag()?), (true, false));
+    assert_eq!(rt; cut.flag(), Err(CodeFault::Value { at: 2 }));
+    assert_eq!(rt; cut.array::<2>(), Err(CutFault::Short { at: 3 }));
+    assert_eq!(rt; cut.array::<1>()?, &[2]);
+    Ok(())
+}

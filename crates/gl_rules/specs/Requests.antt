@@ -1,5 +1,6 @@
 -- Requests at the leader: Submit, Finish, Govern, Reserve, Sign, Evidence.
-use Rattle.std.specs.Prelude.{ℕ, ◌+◌, ◌-◌, ◌^◌, ◌||◌, not, Option, None, Some, Result, Ok, Err, length, nat_lt, nat_le, ◌==◌, if◌then◌else◌}
+use Rattle.std.specs.Prelude.{ℕ, ◌+◌, ◌-◌, ◌||◌, not, Option, None, Some, Result, Ok, Err, length, nat_lt, nat_le, ◌==◌, if◌then◌else◌}
+pub use Rattle.gl_base.specs.TxId.{last_count}
 use Rattle.gl_rules.specs.Identity.{NodeId}
 use Rattle.gl_rules.specs.Book.{Book}
 use Rattle.gl_rules.specs.Node.{Node}
@@ -11,10 +12,6 @@ use Rattle.gl_rules.specs.Steps.{append_entry, if_leader}
 -- So many configurations above commit are too many for a governance request.
 abbrev pub pending_limit : ℕ
 pending_limit = 16
-
--- The last value of a count of cuts.
-abbrev pub last_count : ℕ
-last_count = 2 ^ 64 - 1
 
 module _ {E Q G R A F : Type 0} (book : Book E Q G R A F) where
   -- One more entry in the log, with its identifier and its answer; or the ledger's refusal.

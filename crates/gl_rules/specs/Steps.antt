@@ -1,5 +1,6 @@
 -- The small steps that the rules are made of.
-use Rattle.std.specs.Prelude.{ℕ, ◌+◌, ◌-◌, ◌^◌, [], ◌∷◌, ◌++◌, Bool, true, false, None, max, min, length, take, nat_lt, if◌then◌else◌}
+use Rattle.std.specs.Prelude.{ℕ, ◌+◌, ◌-◌, [], ◌∷◌, ◌++◌, Bool, true, false, None, max, min, length, take, nat_lt, if◌then◌else◌}
+use Rattle.gl_base.specs.TxId.{last_count}
 use Rattle.gl_rules.specs.Identity.{member}
 use Rattle.gl_rules.specs.Majority.{quorum}
 use Rattle.gl_rules.specs.Book.{Book}
@@ -10,7 +11,7 @@ use Rattle.gl_rules.specs.Configuration.{active}
 
 -- A count of cuts goes up by one, and stays at its last value.
 abbrev pub one_more_cut : ℕ → ℕ
-one_more_cut cuts = min (cuts + 1) (2 ^ 64 - 1)
+one_more_cut cuts = min (cuts + 1) last_count
 
 -- The log cut to a length. It is a cut only where an entry is taken away.
 abbrev pub cut_to : {E : Type 0} → ℕ → Node E → Node E

@@ -108,10 +108,10 @@ prints_advance w old new o m is_in step =
     (ap (λ (n : Node Entry). advance service_book (id_of old.settings 1) n) is_in ∙ ap (λ (x : List ℕ). advance service_book x (node_in old)) (sym m.named) ∙ step) in
     record { text = shown.0; node = shown.1 }
 
-pub prints_status : (w : ServiceWorld) (m : Machine) (id : TxId) (st : Rattle.gl_base.specs.declared.status_kind.Status.Status) → IsIn w m →
+pub prints_status : (w : ServiceWorld) (m : Machine) (id : TxId) (st : Rattle.gl_base.specs.declared.tx_id.Status.Status) → IsIn w m →
     st ≡ reported_status service_book (node_in m) id → PrintsAt w (commands.Status id) m m (answered.Status st)
 prints_status w m id st is_in is = record {
-  text = ap (λ (n : Node Entry). Rattle.ccfg.specs.Text.status_text (reported_status service_book n id)) is_in ∙ ap (λ (x : Rattle.gl_base.specs.declared.status_kind.Status.Status). Rattle.ccfg.specs.Text.status_text x) (sym is);
+  text = ap (λ (n : Node Entry). Rattle.ccfg.specs.Text.status_text (reported_status service_book n id)) is_in ∙ ap (λ (x : Rattle.gl_base.specs.declared.tx_id.Status.Status). Rattle.ccfg.specs.Text.status_text x) (sym is);
   node = is_in;
 }
 

@@ -3,8 +3,8 @@ use Rattle.std.specs.Prelude.{ℕ, zero, suc, ◌+◌, ◌-◌, List, [], ◌∷
 use Rattle.std.specs.List.{flat_map}
 use Rattle.std.specs.Option.{option_and_then}
 use Rattle.hex.specs.Hex.{encode_lower}
-use Rattle.gl_base.specs.declared.status_kind.Status as statuses
-use Rattle.gl_base.specs.declared.status_kind.Status.TheVariants as status
+use Rattle.gl_base.specs.declared.tx_id.Status as statuses
+use Rattle.gl_base.specs.declared.tx_id.Status.TheVariants as status
 use Rattle.gl_base.specs.TxId.{text_of}
 use Rattle.gl_rules.specs.Identity.{NodeId, same}
 use Rattle.gl_rules.specs.World.{Happened, happens, begin}

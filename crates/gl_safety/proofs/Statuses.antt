@@ -12,7 +12,7 @@ use Rattle.gl_safety.proofs.Story.{Story}
 use Rattle.gl_safety.proofs.Certificates.{SureOver, Cert}
 use Rattle.gl_safety.proofs.Invariants.{rising_of, sure_within}
 use Rattle.gl_base.specs.declared.tx_id.TxId.{TxId}
-use Rattle.gl_base.specs.declared.status_kind.Status.TheVariants.{Committed, Invalid}
+use Rattle.gl_base.specs.declared.tx_id.Status.TheVariants.{Committed, Invalid}
 use Rattle.gl_base.specs.Status.{is_held, commit_view, commit_seqno, decided, undecided, status_of}
 use Rattle.gl_safety.proofs.Runs.{Holding, first_story, onward_run}
 use Rattle.gl_safety.proofs.Beginning.{holding_first}

@@ -1,7 +1,7 @@
 -- Runs of the small book, worked by hand from the rule of each event and compared with what the definitions compute.
 -- Messages count from 0.
 use Rattle.std.proofs.Common.{◌≡◌, ℕ, ◌-◌, List, [], ◌∷◌, ◌++◌, length, map, true, false, Option, Some, None, slice_get, refl}
-use Rattle.gl_base.specs.declared.status_kind.Status.TheVariants.{Invalid}
+use Rattle.gl_base.specs.declared.tx_id.Status.TheVariants.{Invalid}
 use Rattle.gl_rules.specs.Node.{Node}
 use Rattle.gl_rules.specs.Message.{Message, Body, VoteReply, AppendReply}
 use Rattle.gl_rules.specs.Outcome as outcome

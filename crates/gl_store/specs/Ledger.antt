@@ -4,7 +4,7 @@ use Rattle.sha2.specs.Sha256.{sha256}
 use Rattle.gl_merkle.specs.Tree.{root_of}
 use Rattle.gl_base.specs.TxId.{last_seqno}
 use Rattle.gl_base.specs.declared.tx_id.TxId.{TxId}
-use Rattle.gl_base.specs.declared.status_kind.Status.{Status}
+use Rattle.gl_base.specs.declared.tx_id.Status.{Status}
 use Rattle.gl_base.specs.Status.{status_of}
 use Rattle.gl_tx.specs.Request.{request_bytes, reply_bytes}
 use Rattle.gl_tx.specs.Run.{Ran, run}

@@ -5,7 +5,9 @@ pub mod Places
 pub mod VersionLists
 pub mod VersionLaws
 pub mod StandingLaws
-pub mod Changes
-pub mod ChangeTables
-pub mod Sizes
+pub mod ChainLaws
+pub mod MapLaws
+pub mod JournalLaws
+pub mod CopyLaws
+pub mod Settling
 pub mod WriteLaws

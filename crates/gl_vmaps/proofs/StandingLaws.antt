@@ -12,7 +12,7 @@ use Rattle.gl_vmaps.specs.Tables.{Tables, Rows, same_bytes, value_in, has_key, s
 use Rattle.gl_vmaps.specs.Versions.{Placed, placed_at, is_to_row, written_by, version_in, map_version_in, up_to, AreRising}
 use Rattle.gl_vmaps.specs.Kept.{Kept, Chains, chains_of, versions_of, last_value, last_place, place_or_zero, value_of, has_row, version_of, greatest, map_version_of, present_rows, tables_of, count_of}
 use Rattle.gl_vmaps.specs.Standing.{StandsFor, HasApplied, HasCut, HasCompacted, version, versions_in, versions_up_to, latest_from}
-use Rattle.gl_vmaps.specs.declared.tables.Version.{Version}
+use Rattle.gl_vmaps.specs.declared.table.Version.{Version}
 use Rattle.gl_vmaps.specs.declared.write.Write.{Write}
 use Rattle.gl_vmaps.proofs.TablesLaws.{get-with_row, same_bytes-eq}
 use Rattle.gl_vmaps.proofs.VersionLists.{last_or-append, last_or-latest, latest-append, latest-latest, latest-up_to}
@@ -36,9 +36,9 @@ pub version_of-stands : (t : Kept) (ps : List Placed) → StandsFor t ps → (ma
 version_of-stands t ps stands map key = ap place_or_zero (last_alike t ps stands map key) ∙ sym (version_in-versions ps map key stands.rising)
 
 -- the rows as they stand have the value of the last version
-present_get : (es : List (List ℕ × List Version)) (key : List ℕ) → get (present_rows es) key ≡ last_value (unwrap_or (find (slice_cmp nat_cmp) key es) [])
-present_get [] key = get-empty (slice_cmp nat_cmp) key
-present_get (e ∷ es) key = get-with_row (present_rows es) e.0 (last_value e.1) key ∙ go (same_bytes key e.0) (eq_by_cmp (slice_cmp nat_cmp) key e.0) (is_eq-slice_cmp key e.0) (present_get es key)
+pub present_rows-get : (es : List (List ℕ × List Version)) (key : List ℕ) → get (present_rows es) key ≡ last_value (unwrap_or (find (slice_cmp nat_cmp) key es) [])
+present_rows-get [] key = get-empty (slice_cmp nat_cmp) key
+present_rows-get (e ∷ es) key = get-with_row (present_rows es) e.0 (last_value e.1) key ∙ go (same_bytes key e.0) (eq_by_cmp (slice_cmp nat_cmp) key e.0) (is_eq-slice_cmp key e.0) (present_rows-get es key)
   where
     go : (b c : Bool) → c ≡ b → get (present_rows es) key ≡ last_value (unwrap_or (find (slice_cmp nat_cmp) key es) []) → (if b then last_value e.1 else get (present_rows es) key) ≡ last_value (unwrap_or (cond c (Some e.1) (find (slice_cmp nat_cmp) key es)) [])
     go true true same rest = refl
@@ -48,7 +48,7 @@ present_get (e ∷ es) key = get-with_row (present_rows es) e.0 (last_value e.1)
 
 pub value_in-tables_of : (t : Kept) (map key : List ℕ) → value_in (tables_of t) map key ≡ value_of t map key
 value_in-tables_of t map key =
-    present_get (entries (chains_of t map)) key ∙ ap (λ (o : Option (List Version)). last_value (unwrap_or o [])) (sym (get-entries (chains_of t map) key))
+    present_rows-get (entries (chains_of t map)) key ∙ ap (λ (o : Option (List Version)). last_value (unwrap_or o [])) (sym (get-entries (chains_of t map) key))
 
 -- rows that have the same values are the same
 pub same_rows : (a b : Rows) → ((key : List ℕ) → get a key ≡ get b key) → a ≡ b
@@ -62,7 +62,7 @@ count_of-stands t ps stands map = ap len (tables_of-stands t ps stands map)
 
 -- ---- the version of a map
 
-greatest-found : (f : List ℕ → ℕ) (key : List ℕ) (ks : List (List ℕ)) → list_any (eq_by_cmp (slice_cmp nat_cmp) key) ks ≡ true → f key ≤ greatest f ks
+pub greatest-found : (f : List ℕ → ℕ) (key : List ℕ) (ks : List (List ℕ)) → list_any (eq_by_cmp (slice_cmp nat_cmp) key) ks ≡ true → f key ≤ greatest f ks
 greatest-found f key [] found = absurd (cc)
 greatest-found f key (k ∷ ks) found = go (eq_by_cmp (slice_cmp nat_cmp) key k) (sym (is_eq-slice_cmp key k)) (λ e. greatest-found f key ks e) found
   where

@@ -3,7 +3,7 @@ use Rattle.std.proofs.Common.{◌≡◌, ℕ, ◌≤◌, nat_le, Bool, true, fal
 use Rattle.std.specs.List.{last_or, list_any}
 use Rattle.std.proofs.lemmas.Bool.Decides.{nat_tests}
 use Rattle.gl_vmaps.specs.Standing.{is_up_to, versions_up_to, latest_from}
-use Rattle.gl_vmaps.specs.declared.tables.Version.{Version}
+use Rattle.gl_vmaps.specs.declared.table.Version.{Version}
 
 -- ---- the last one
 
@@ -67,7 +67,7 @@ last_or-latest o place (v ∷ vs) = go (is_up_to place v) (list_any (is_up_to pl
     go true false any without with = with
     go false b any without with = with
 
-any_either : (test : Version → Bool) (xs ys : List Version) → list_any test (xs ++ ys) ≡ (list_any test xs || list_any test ys)
+pub any_either : (test : Version → Bool) (xs ys : List Version) → list_any test (xs ++ ys) ≡ (list_any test xs || list_any test ys)
 any_either test [] ys = refl
 any_either test (x ∷ xs) ys = rw (any_either test xs ys) (elim (test x) as (λ b. (b || (list_any test xs || list_any test ys)) ≡ ((b || list_any test xs) || list_any test ys)) [ true ↦ refl | false ↦ refl ])
 

@@ -3,7 +3,8 @@ pub mod Writes
 pub mod Tables
 pub mod Versions
 pub mod Kept
+pub mod Chains
+pub mod Journal
 pub mod Standing
 pub mod LastWrite
-pub mod Changes
 pub mod Growth

@@ -3,7 +3,7 @@ use Rattle.std.specs.Prelude.{◌≡◌, ℕ, List, [], ◌∷◌, ◌++◌, Boo
 use Rattle.std.specs.List.{list_any}
 use Rattle.gl_vmaps.specs.Kept.{Kept, versions_of}
 use Rattle.gl_vmaps.specs.Versions.{Placed, placed_at, is_to_row, AreRising}
-use Rattle.gl_vmaps.specs.declared.tables.Version.{Version}
+use Rattle.gl_vmaps.specs.declared.table.Version.{Version}
 use Rattle.gl_vmaps.specs.declared.write.Write.{Write}
 
 -- The versions that writes give a row, in their order.

@@ -3,13 +3,15 @@
 //! make.
 #![tactic(auto)]
 
+mod journal;
 mod name;
-mod scan;
+mod table;
 mod tables;
 mod write;
 
 pub use name::{KEY_LIMIT, Key, MAP_NAME_LIMIT, MapName, VALUE_LIMIT, Value};
-pub use tables::{Tables, Version};
+pub use table::Version;
+pub use tables::Tables;
 pub use write::{Write, Writes};
 
 #[cfg(test)]

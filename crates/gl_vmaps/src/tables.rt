@@ -1,40 +1,31 @@
-//! Tables as the list of the writes that made them.
+//! Tables over ordered maps: to each map its rows, to each row its versions.
 
-ghost use Rattle.std.specs.Prelude.{◌≡◌, ◌++◌, OnOk, take, vec_len};
+ghost use Rattle.std.specs.Prelude.{◌≡◌, ◌≤◌, ◌<◌, ◌^◌, None, IsTrue, IfSome, length, reverse};
+ghost use Rattle.std.specs.List.{last_or};
 ghost use Rattle.std.specs.Option.{option_copied};
-ghost use Rattle.gl_vmaps.specs.Versions.{up_to};
-ghost use Rattle.gl_vmaps.specs.Changes.{placed, changes_at, AreInOrder};
+ghost use Rattle.gl_vmaps.specs.Name.{is_value};
+ghost use Rattle.gl_vmaps.specs.Chains.{maps_by, rows_in, found_in, present};
 
-use crate::name::Value;
-use crate::scan::{map_version_in, size_of, value_in, version_in};
-use crate::write::{Write, Writes};
+use crate::journal::{
+    Maps, Written, copy_journal, copy_maps, ends_above, newest_of, pop_last, push_writes,
+    settle_first, starts_up_to,
+};
+use crate::table::Version;
+use crate::write::Writes;
 use std::alloc::{AllocError, Global};
+use std::collections::{BTreeMap, VecDeque};
 use std::marker::Model;
 
-/// What was written to a row at a place.
-#[derive(Debug, Drop)]
-pub struct Version {
-    /// The place of the entry that wrote it. A row that stood at the base has place 0.
-    pub place: u64,
-    /// The value, or `None` where the row was removed.
-    pub value: Option<Value>,
-}
-
-/// A write, and the place of the entry that made it.
-#[derive(Debug, Drop)]
-pub(crate) struct Change {
-    pub(crate) place: u64,
-    pub(crate) write: Write,
-}
-
 /// The tables that write sets at their places make: to each map's name its keys and values, and the
-/// place that last wrote each key. It is kept as the list of the writes: an answer takes as many steps
-/// as there are writes behind the one that it tells of, and `size` as many as the square of them.
+/// place that last wrote each key. A value or a version is found in the logarithm of the numbers of
+/// maps and keys, a size and a map's version in that of the number of maps; a write set is applied,
+/// and taken back, in the time of its writes.
 #[derive(Debug, Drop)]
 pub struct Tables {
     base: u64,
     compacted: u64,
-    changes: Vec<Change>,
+    maps: Maps,
+    journal: VecDeque<Written>,
     alloc: Global,
 }
 
@@ -45,43 +36,56 @@ impl Model for Tables {
 
     ghost coded = { kept_code };
 
-    ghost use Rattle.gl_vmaps.specs.Changes.{kept_of, AreInOrder};
+    ghost use Rattle.std.specs.Prelude.{reverse};
+    ghost use Rattle.gl_vmaps.specs.Chains.{maps_by};
+    ghost use Rattle.gl_vmaps.specs.Journal.{IsTidy, IsJournal};
 
-    ghost view = { λ t. kept_of t.base t.compacted t.changes.items };
+    ghost view = { λ t. record {
+      base = t.base;
+      compacted = t.compacted;
+      maps = maps_by t.maps.entries;
+    } };
 
-    ghost invariant = { λ t. AreInOrder t.changes.items };
+    ghost invariant = { λ t. record {
+      tidy : IsTidy (maps_by t.maps.entries);
+      undone : IsJournal t.compacted (maps_by t.maps.entries) (reverse t.journal.items);
+    } };
 }
 
-/// How many of the changes stand at or below a place: all of these are in front.
-fn count_up_to(changes: &[Change], place: u64) -> usize
-    requires { AreInOrder changes.now }
-    ensures { placed (take result changes.now) ≡ up_to place (placed changes.now) }
+/// The last version of a row, if it has one.
+fn last_version<'a>(maps: &'a Maps, map: &[u8], key: &[u8]) -> Option<&'a Version>
+    ensures { option_copied result ≡ last_or None (found_in (maps_by maps.now.entries) map.now key.now) }
 {
-    changes.partition_point(|change| change.place <= place)
-}
-
-/// Adds the writes at a place. What was added before want of memory stays.
-fn push_all(
-    alloc: Global,
-    changes: &mut Vec<Change>,
-    place: u64,
-    writes: &[Write],
-) -> Result<(), AllocError>
-    ensures ok { OnOk result (changes.new.items ≡ changes.old.items ++ changes_at place writes.now) }
-    ensures kept { take (vec_len changes.old) changes.new.items ≡ changes.old.items }
-{
-    for write in writes {
-        let write = write.copy(alloc)?;
-        changes.push(Change { place, write })?;
+    match maps.get(map) {
+        None => None,
+        Some(table) => table.last(key),
     }
-    Ok(())
+}
+
+/// The number of rows of a map that have a value.
+fn count_in(maps: &Maps, map: &[u8]) -> u64
+    ensures value { result ≡ present (rows_in (maps_by maps.now.entries) map.now) }
+    ensures few { result < 2 ^ 63 }
+{
+    match maps.get(map) {
+        None => 0,
+        Some(table) => table.size(),
+    }
+}
+
+/// The version's value, if it has one.
+fn value_in(version: &Version) -> Option<&[u8]>
+    ensures value { option_copied result ≡ version.now.value }
+    ensures limit { IfSome result (λ value. IsTrue (is_value value.now)) }
+{
+    version.value.as_ref().map(|value| value.as_slice())
 }
 
 impl Tables {
     ghost use Rattle.std.specs.Prelude.{◌≡◌, ℕ, ◌<◌, ◌≤◌, ◌^◌, List, [], ◌++◌, IsTrue, IfSome, IfOk, OnOk, OnErr};
     ghost use Rattle.gl_vmaps.specs.Name.{is_value};
     ghost use Rattle.gl_vmaps.specs.Kept.{value_of, has_row, count_of, version_of, map_version_of};
-    ghost use Rattle.gl_vmaps.specs.Standing.{StandsFor, HasApplied, HasCut};
+    ghost use Rattle.gl_vmaps.specs.Standing.{StandsFor, HasApplied, HasCut, HasCompacted};
     ghost use Rattle.gl_vmaps.specs.Tables.{value_in, has_key, size_of};
     ghost use Rattle.gl_vmaps.specs.Versions.{Placed, placed_at, written_by, version_in, map_version_in, up_to};
 
@@ -94,7 +98,8 @@ impl Tables {
         Tables {
             base: 0,
             compacted: 0,
-            changes: Vec::new(alloc),
+            maps: BTreeMap::new(alloc),
+            journal: VecDeque::new(alloc),
             alloc,
         }
     }
@@ -106,7 +111,10 @@ impl Tables {
         ensures stands { (ps : List Placed) → StandsFor self.now ps →
             option_copied result ≡ value_in (written_by ps) map.now key.now }
     {
-        value_in(&self.changes, map, key)
+        match last_version(&self.maps, map, key) {
+            None => None,
+            Some(version) => value_in(version),
+        }
     }
 
     /// Whether the map has the key.
@@ -125,7 +133,7 @@ impl Tables {
         ensures stands { (ps : List Placed) → StandsFor self.now ps →
             result ≡ size_of (written_by ps) map.now }
     {
-        size_of(&self.changes, map)
+        count_in(&self.maps, map)
     }
 
     /// The greatest place above the base whose write set names the key, 0 where none does.
@@ -134,7 +142,10 @@ impl Tables {
         ensures stands { (ps : List Placed) → StandsFor self.now ps →
             result ≡ version_in ps map.now key.now }
     {
-        version_in(&self.changes, map, key)
+        match last_version(&self.maps, map, key) {
+            None => 0,
+            Some(version) => version.place,
+        }
     }
 
     /// The greatest version of the map's keys.
@@ -143,7 +154,7 @@ impl Tables {
         ensures stands { (ps : List Placed) → StandsFor self.now ps →
             result ≡ map_version_in ps map.now }
     {
-        map_version_in(&self.changes, map)
+        newest_of(&self.maps, map)
     }
 
     /// Applies the write set of the entry at a place, which is above the base and above all places so
@@ -156,14 +167,9 @@ impl Tables {
             StandsFor self.new (ps ++ placed_at seqno writes.now)) }
         ensures err { OnErr result (self.new ≡ self.old) }
     {
-        let before = self.changes.len();
-        match push_all(self.alloc, &mut self.changes, seqno, writes.as_slice()) {
-            Ok(()) => Ok(()),
-            Err(e) => {
-                self.changes.truncate(before);
-                Err(e)
-            }
-        }
+        let writes = writes.as_slice();
+        push_writes(self.alloc, &mut self.maps, &mut self.journal, seqno, writes)?;
+        Ok(())
     }
 
     /// Takes back what the entries above a place wrote, which is not below the compacted one. Takes no
@@ -173,25 +179,32 @@ impl Tables {
         ensures exact { HasCut self.old to self.new }
         ensures stands { (ps : List Placed) → StandsFor self.old ps → StandsFor self.new (up_to to ps) }
     {
-        let held = count_up_to(&self.changes, to);
-        self.changes.truncate(held);
+        while ends_above(&self.journal, to) {
+            pop_last(&mut self.maps, &mut self.journal);
+        }
     }
 
-    /// Tables of their own with the same writes. Fails for want of memory alone.
+    /// Lets go of what no cut above a place needs: of each row its versions at or below the place but
+    /// for the last one. Takes no memory.
+    pub fn compact(&mut self, to: u64)
+        ensures exact { HasCompacted self.old to self.new }
+        ensures stands { (ps : List Placed) → StandsFor self.old ps → StandsFor self.new ps }
+    {
+        while starts_up_to(&self.journal, to) {
+            settle_first(&mut self.maps, &mut self.journal);
+        }
+        self.compacted = self.compacted.max(to);
+    }
+
+    /// Tables of their own with the same rows and versions. Fails for want of memory alone.
     pub fn copy(&self) -> Result<Self, AllocError>
         ensures { IfOk result (λ tables. tables ≡ self.now) }
     {
-        let mut changes = Vec::new(self.alloc);
-        for change in &self.changes {
-            changes.push(Change {
-                place: change.place,
-                write: change.write.copy(self.alloc)?,
-            })?;
-        }
         Ok(Tables {
             base: self.base,
             compacted: self.compacted,
-            changes,
+            maps: copy_maps(self.alloc, &self.maps)?,
+            journal: copy_journal(self.alloc, &self.journal)?,
             alloc: self.alloc,
         })
     }

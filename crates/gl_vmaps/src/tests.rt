@@ -1,4 +1,4 @@
-//! The limits, the bytes and the tables against values worked out by hand.
+//! The limits, the write sets and the tables against values worked out by hand.
 
 ghost use Rattle.std.specs.Prelude.{ℕ, List, ◌≡◌, ◌≤◌, ◌<◌, IfOk};
 ghost use Rattle.gl_vmaps.specs.Kept.{version_of};
@@ -180,5 +180,54 @@ fn answers_by_the_entries_so_far(rt: HostRuntime) -> Result<(), Fail> {
     tables.cut(0);
     assert!(rt; tables.get(x, b"a").is_none());
     assert_eq!(rt; (tables.size(x), tables.map_version(x)), (0, 0));
+    Ok(())
+}
+
+// The place that last wrote a key of public:x, and whether the map has it.
+fn seen(tables: &Tables, key: &[u8]) -> (u64, bool) {
+    let x = b"public:x".as_slice();
+    (tables.version_of(x, key), tables.has(x, key))
+}
+
+// Writes a = 01 at place 1, b = 02 at 2, and the removal of a at 3.
+fn three_writes(alloc: Global) -> Result<Tables, Fail>
+    ensures { IfOk result (λ tables. tables.compacted ≡ 0) }
+{
+    let mut tables = Tables::new(alloc);
+    let mut writes = Writes::new(alloc);
+    writes.put(set(alloc, b"public:x", b"a", b"\x01")?)?;
+    apply(&mut tables, 1, &writes)?;
+    let mut writes = Writes::new(alloc);
+    writes.put(set(alloc, b"public:x", b"b", b"\x02")?)?;
+    apply(&mut tables, 2, &writes)?;
+    let mut writes = Writes::new(alloc);
+    writes.put(removed(alloc, b"public:x", b"a")?)?;
+    apply(&mut tables, 3, &writes)?;
+    Ok(tables)
+}
+
+#[test]
+fn cuts_to_the_compacted_place(rt: HostRuntime) -> Result<(), Fail> {
+    let mut tables = three_writes(rt.alloc())?;
+    tables.compact(2);
+    tables.cut(2);
+    assert_eq!(rt;
+        (seen(&tables, b"a"), seen(&tables, b"b")),
+        ((1, true), (2, true))
+    );
+    assert!(rt; has_value(&tables, b"public:x", b"a", b"\x01"));
+    assert_eq!(rt; tables.size(b"public:x"), 2);
+    Ok(())
+}
+
+#[test]
+fn keeps_the_version_of_a_removal(rt: HostRuntime) -> Result<(), Fail> {
+    let mut tables = three_writes(rt.alloc())?;
+    tables.compact(3);
+    assert_eq!(rt; seen(&tables, b"a"), (3, false));
+    assert_eq!(rt;
+        (tables.map_version(b"public:x"), tables.size(b"public:x")),
+        (3, 1)
+    );
     Ok(())
 }

@@ -141,6 +141,10 @@ fn put_into(items: &mut Vec<Write>, write: Write) -> Result<(), AllocError>
     ensures ok { OnOk result (items.new.items ≡ with_write items.old.items write) }
     ensures err { OnErr result (items.new.items ≡ items.old.items) }
 {
+    // most sets have one write
+    if items.is_empty() {
+        items.reserve_exact(1)?;
+    }
     match place_of(items, &write) {
         Ok(place) => items[place] = write,
         Err(place) => items.insert(place, write)?,

@@ -1,14 +1,19 @@
-use Rattle.std.proofs.Common.{sym, ◌∙◌}
-use Rattle.gl_vmaps.specs.Changes.{placed}
-use Rattle.gl_vmaps.proofs.ChangeTables.{stands-here}
+use Rattle.std.proofs.Common.{Option, ap, ◌∙◌}
+use Rattle.std.specs.Option.{option_and_then}
+use Rattle.gl_vmaps.specs.Kept.{Kept, value_of}
+use Rattle.gl_vmaps.specs.declared.table.Version.{Version}
 use Rattle.gl_vmaps.proofs.StandingLaws.{value_of-stands}
 use Rattle.gl_vmaps.proofs.tables.Tables.get.Goals as goal
 
-pub returns-clause-value : goal.returns-clause-value
-returns-clause-value c =
-    let s = c.self.inside in
-    let itself = stands-here c.args.self.now s.base s.compacted s.changes.items c.deref.result.now c.self.view_is c.deref.ensures.value c.self.invariant in
-    c.value_in.ensures.value ∙ sym (value_of-stands c.args.self.now (placed c.deref.result.now) itself c.args.map.now c.args.key.now)
+pub returns-in-None-clause-stands : goal.returns-in-None-clause-stands
+returns-in-None-clause-stands c = λ ps stands.
+    ap (λ (o : Option Version). option_and_then (λ (v : Version). v.value) o) c.in-None.ensures
+    ∙ ap (λ (t : Kept). value_of t c.args.map.now c.args.key.now) c.self.view_is
+    ∙ value_of-stands c.args.self.now ps stands c.args.map.now c.args.key.now
 
-pub returns-clause-stands : goal.returns-clause-stands
-returns-clause-stands c = λ ps stands. returns-clause-value c ∙ value_of-stands c.args.self.now ps stands c.args.map.now c.args.key.now
+pub returns-in-Some-clause-stands : goal.returns-in-Some-clause-stands
+returns-in-Some-clause-stands c = λ ps stands.
+    c.value_in.ensures.value
+    ∙ ap (λ (o : Option Version). option_and_then (λ (v : Version). v.value) o) c.in-Some.ensures
+    ∙ ap (λ (t : Kept). value_of t c.args.map.now c.args.key.now) c.self.view_is
+    ∙ value_of-stands c.args.self.now ps stands c.args.map.now c.args.key.now

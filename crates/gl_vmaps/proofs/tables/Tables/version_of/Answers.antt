@@ -1,14 +1,14 @@
-use Rattle.std.proofs.Common.{sym, ◌∙◌}
-use Rattle.gl_vmaps.specs.Changes.{placed}
-use Rattle.gl_vmaps.proofs.ChangeTables.{stands-here}
+use Rattle.std.proofs.Common.{ap, ◌∙◌}
+use Rattle.gl_vmaps.specs.Kept.{Kept, version_of, place_or_zero}
 use Rattle.gl_vmaps.proofs.StandingLaws.{version_of-stands}
 use Rattle.gl_vmaps.proofs.tables.Tables.version_of.Goals as goal
 
-pub returns-clause-value : goal.returns-clause-value
-returns-clause-value c =
-    let s = c.self.inside in
-    let itself = stands-here c.args.self.now s.base s.compacted s.changes.items c.deref.result.now c.self.view_is c.deref.ensures.value c.self.invariant in
-    c.version_in.ensures ∙ sym (version_of-stands c.args.self.now (placed c.deref.result.now) itself c.args.map.now c.args.key.now)
+pub returns-in-None-clause-stands : goal.returns-in-None-clause-stands
+returns-in-None-clause-stands c = λ ps stands.
+    ap place_or_zero c.in-None.ensures ∙ ap (λ (t : Kept). version_of t c.args.map.now c.args.key.now) c.self.view_is
+    ∙ version_of-stands c.args.self.now ps stands c.args.map.now c.args.key.now
 
-pub returns-clause-stands : goal.returns-clause-stands
-returns-clause-stands c = λ ps stands. returns-clause-value c ∙ version_of-stands c.args.self.now ps stands c.args.map.now c.args.key.now
+pub returns-in-Some-clause-stands : goal.returns-in-Some-clause-stands
+returns-in-Some-clause-stands c = λ ps stands.
+    ap place_or_zero c.in-Some.ensures ∙ ap (λ (t : Kept). version_of t c.args.map.now c.args.key.now) c.self.view_is
+    ∙ version_of-stands c.args.self.now ps stands c.args.map.now c.args.key.now

@@ -1,0 +1,24 @@
+use Rattle.std.proofs.Common.{[], ◌∷◌, ◌++◌, refl, ap, sym, ◌∙◌}
+use Rattle.gl_vmaps.specs.Chains.{chains_by, with_chain}
+use Rattle.gl_vmaps.proofs.ChainLaws.{chains_by-through, chains_by-same, chains_by-new, on_err}
+use Rattle.gl_vmaps.proofs.table.push_into.Goals as goal
+
+pub returns-in_err-push_back-in-Some-clause-err : goal.returns-in_err-push_back-in-Some-clause-err
+returns-in_err-push_back-in-Some-clause-err c =
+    let w = c.push_back.new.self in
+    on_err c.from_residual.result _
+    (chains_by-through c.args.rows.now (c.get_mut.follows.lender w) c.args.key.now c.in-Some.chain.now w (λ vs. vs)
+    c.in-Some.ensures.value (c.get_mut.follows.holds w).3 c.in_err-push_back-in-Some.ensures.items
+    ∙ chains_by-same c.args.rows.now.entries c.args.key.now)
+
+pub returns-in_ok-push_back-in-Some-clause-ok : goal.returns-in_ok-push_back-in-Some-clause-ok
+returns-in_ok-push_back-in-Some-clause-ok c =
+    let w = c.push_back.new.self in
+    chains_by-through c.args.rows.now (c.get_mut.follows.lender w) c.args.key.now c.in-Some.chain.now w (λ vs. vs ++ c.args.version ∷ [])
+    c.in-Some.ensures.value (c.get_mut.follows.holds w).3 c.in_ok-push_back-in-Some.ensures.items
+
+pub returns-in_ok-insert-in-None-clause-ok : goal.returns-in_ok-insert-in-None-clause-ok
+returns-in_ok-insert-in-None-clause-ok c =
+    chains_by-new c.args.rows.now c.get_mut.follows.lender-at-none c.insert.new.self c.args.key.now c.in_ok-from_slice-in-None.field-0 c.new-chain.result c.push_back-in-None.new.self c.args.version
+    c.get_mut.follows.holds-at-none (sym c.in-None.ensures.value) c.in_ok-insert-in-None.ensures.updates
+    c.in_ok-from_slice-in-None.ensures.items c.new-chain.ensures.items c.in_ok-push_back-in-None.ensures.items

@@ -23,6 +23,9 @@ DEFINITION = re.compile(
     r"^\s*(?:(?:unfoldable|abbrev)\s+)?pub\s+(?:(record|data|codata)\s+)?(\S+)(?=\s|$)")
 SKIPPED = {"mod", "use", "open", "syntax"}
 STANDARD = re.compile(r"\((?:see )?((?:RFC \d+|FIPS 180-4|CCF documentation|Raft)[^()]*)\)")
+# A section alone is one of the standard that the head of the file names.
+NAMED = re.compile(r"RFC \d+|FIPS 180-4")
+SECTION = re.compile(r"\((?:section )?(\d+\.\d+[\d.]*(?: and \d+\.\d+[\d.]*)?|(?<=section )\d+|appendix [A-Z])\)")
 
 
 def crates():
@@ -66,9 +69,14 @@ def definitions(text):
     return head, found
 
 
-def row(name, comment):
+def row(name, comment, head):
     standards = STANDARD.findall(comment)
-    meaning = STANDARD.sub("", comment).replace(" .", ".").replace("  ", " ").strip()
+    meaning = STANDARD.sub("", comment)
+    named = NAMED.search(head)
+    if named:
+        standards += [f"{named.group(0)}, {section}" for section in SECTION.findall(meaning)]
+        meaning = SECTION.sub("", meaning)
+    meaning = meaning.replace(" .", ".").replace("  ", " ").strip()
     name, meaning = name.replace("|", "\\|"), meaning.replace("|", "\\|")
     return f"| `{name}` | {meaning} | {'; '.join(standards)} |"
 
@@ -83,7 +91,7 @@ def page():
             head, found = definitions(file.read_text())
             if not found:
                 continue
-            rows = "\n".join(row(name, comment) for name, comment in found)
+            rows = "\n".join(row(name, comment, head) for name, comment in found)
             link = f"../crates/{crate}/specs/{file.name}"
             tables.append(f"### [{file.name}]({link})\n\n{head}\n\n| Name | Meaning | Standard |\n|---|---|---|\n{rows}\n")
         if tables:

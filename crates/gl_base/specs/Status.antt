@@ -26,6 +26,8 @@ decided held = if held then Committed else Invalid
 abbrev pub undecided : Bool → Bool → Status
 undecided held passed = if held then Pending else (if passed then Invalid else Unknown)
 
+-- The status of a transaction at a node, by the view of the entry that the node holds at its seqno,
+-- and by the identifier of its last committed entry.
 abbrev pub status_of : TxId → Option ℕ → Option TxId → Status
 status_of asked local commit =
     if nat_le asked.seqno (commit_seqno commit)

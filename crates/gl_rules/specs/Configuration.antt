@@ -40,6 +40,7 @@ module _ {E Q G R A F : Type 0} (book : Book E Q G R A F) where
   active_upto log commit seqno =
       option_to_list (configuration_at log commit) ++ configurations_above log commit seqno
 
+  -- The configurations that count at a commit: the last one at or below it, and every later one.
   abbrev pub active : List E → ℕ → List (List NodeId)
   active log commit = active_upto log commit (length log)
 

@@ -8,6 +8,7 @@ abbrev pub tally : (NodeId → Bool) → List NodeId → ℕ
 tally votes [] = 0
 tally votes (x ∷ xs) = (if votes x then 1 else 0) + tally votes xs
 
+-- More than half of the configuration's nodes pass the test.
 abbrev pub majority : (NodeId → Bool) → List NodeId → Bool
 majority votes configuration = nat_lt (length configuration) (2 * tally votes configuration)
 

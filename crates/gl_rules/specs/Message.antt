@@ -7,6 +7,7 @@ pub record Position : Type 0 where
   pub view : ℕ
   pub seqno : ℕ
 
+-- What a message says.
 pub data Body (E : Type 0) : Type 0 where
   -- asks for a vote, with the sender's last signature
   RequestVote : (last : Position) → Body E
@@ -18,6 +19,7 @@ pub data Body (E : Type 0) : Type 0 where
   -- asks the receiver to campaign for the next view
   ProposeVote : Body E
 
+-- A message: who sent it to whom, in which view, and what it says.
 pub record Message (E : Type 0) : Type 0 where
   pub sender : NodeId
   pub receiver : NodeId

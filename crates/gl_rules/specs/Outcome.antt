@@ -4,6 +4,7 @@ use Rattle.gl_rules.specs.Identity.{NodeId}
 use Rattle.gl_rules.specs.Node.{Node}
 use Rattle.gl_rules.specs.Message.{Message}
 
+-- Why an event was refused.
 pub data Refusal (F : Type 0) : Type 0 where
   -- the node doesn't lead; whom it takes for the leader
   NotPrimary : (view : ℕ) → (leader : Option NodeId) → Refusal F
@@ -32,6 +33,7 @@ pub data Refusal (F : Type 0) : Type 0 where
   -- the layer of the ledger refuses
   ByLedger : (why : F) → Refusal F
 
+-- What an event came to.
 pub data Outcome (A F : Type 0) : Type 0 where
   Done : Outcome A F
   Idle : Outcome A F

@@ -6,6 +6,7 @@ use Rattle.gl_rules.specs.Node.{Node}
 use Rattle.gl_rules.specs.Log.{last_signature}
 use Rattle.gl_rules.specs.Replication.{is_reached}
 
+-- The stages of a retirement, in their order.
 pub data Stage : Type 0 where
   -- its removal stands in the log
   Ordered : Stage

@@ -17,6 +17,7 @@ use Rattle.gl_rules.specs.Configuration.{active, in_some}
 use Rattle.gl_rules.specs.Retirement.{RetiredCommitted, stage_at}
 use Rattle.gl_rules.specs.World.{Event, Deliver, World, Start, after, happens, first_view}
 
+-- The second list begins with the first.
 abbrev pub IsPrefixOf : {A : Type 0} → List A → List A → Type 0
 IsPrefixOf {A} xs ys = (rest : List A) × (xs ++ rest ≡ ys)
 
@@ -166,6 +167,7 @@ module _ {E Q G R A F : Type 0} (book : Book E Q G R A F) where
       IsPrefixOf (committed_ledger m) (committed_ledger n)
       ⊎ IsPrefixOf (committed_ledger n) (committed_ledger m)
 
+  -- Node x after a list of events.
   abbrev pub node_after : Start E → List (Event Q G R) → NodeId → Node E
   node_after s events x = (after book s events).nodes x
 
@@ -246,6 +248,7 @@ module _ {E Q G R A F : Type 0} (book : Book E Q G R A F) where
   abbrev pub IsRetired : Node E → NodeId → Type 0
   IsRetired n y = stage_at book n y ≡ Some RetiredCommitted
 
+  -- Node n counts y in an active configuration.
   abbrev pub IsActive : Node E → NodeId → Type 0
   IsActive n y = in_some y (active book n.log n.commit) ≡ true
 

@@ -29,6 +29,7 @@ pub data Event (Q G R : Type 0) : Type 0 where
   Restart : (x : NodeId) → Event Q G R
   Install : (x y : NodeId) → Event Q G R
 
+-- All nodes, and every message that was ever sent, in order.
 pub record World (E : Type 0) : Type 0 where
   pub nodes : NodeId → Node E
   pub sent : List (Message E)
@@ -79,6 +80,7 @@ node_at_start s x =
     then leader_at_start s
     else (if member x s.starting then starter s else joiner)
 
+-- The world in which a service begins. No message was sent yet.
 abbrev pub begin : {E : Type 0} → Start E → World E
 begin s = record { nodes = λ x. node_at_start s x; sent = [] }
 
@@ -125,6 +127,7 @@ module _ {E Q G R A F : Type 0} (book : Book E Q G R A F) where
   deliver w None = record { world = w; outcome = outcome.Idle }
   deliver w (Some m) = at w m.receiver (on_message m (w.nodes m.receiver))
 
+  -- What an event does: the step of its rule, at the node that it names.
   unfoldable pub happens : World E → Event Q G R → Happened E A F
   happens w (Timeout x) = at w x (elections.timeout book x (w.nodes x))
   happens w (Deliver which) = deliver w (slice_get w.sent which)

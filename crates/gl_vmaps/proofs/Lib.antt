@@ -10,4 +10,5 @@ pub mod MapLaws
 pub mod JournalLaws
 pub mod CopyLaws
 pub mod Settling
+pub mod BaseLaws
 pub mod WriteLaws

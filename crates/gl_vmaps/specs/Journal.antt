@@ -2,7 +2,7 @@
 use Rattle.std.specs.Prelude.{◌≡◌, ℕ, ◌<◌, ◌≤◌, Bool, false, nat_lt, nat_le, List, [], ◌∷◌, ◌++◌, Some}
 use Rattle.std.specs.FinMap as finite
 use Rattle.std.specs.List.{AllByRecursion}
-use Rattle.gl_vmaps.specs.Kept.{Kept, last_place}
+use Rattle.gl_vmaps.specs.Kept.{last_place}
 use Rattle.gl_vmaps.specs.Chains.{Maps, rows_in, found_in, with_versions, without_last, newest_place, trimmed}
 use Rattle.gl_vmaps.specs.declared.table.Version.{Version}
 use Rattle.gl_vmaps.specs.declared.journal.Written.{Written}

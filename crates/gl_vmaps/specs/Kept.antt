@@ -7,7 +7,7 @@ use Rattle.std.specs.FinMap as finite
 use Rattle.std.specs.List.{last_or}
 use Rattle.std.specs.Option.{option_and_then}
 use Rattle.std.specs.Ordering.{nat_cmp}
-use Rattle.gl_vmaps.specs.Tables.{Tables, Rows, no_tables, with_row, size_of}
+use Rattle.gl_vmaps.specs.Tables.{Tables, Rows, with_row, size_of}
 use Rattle.gl_vmaps.specs.declared.table.Version.{Version}
 
 -- The rows of one map: to each key its versions, oldest first.

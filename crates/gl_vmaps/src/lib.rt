@@ -4,12 +4,16 @@
 #![tactic(auto)]
 
 mod journal;
+mod laws;
 mod name;
+mod row;
 mod table;
 mod tables;
 mod write;
 
+pub use laws::law_of_base;
 pub use name::{KEY_LIMIT, Key, MAP_NAME_LIMIT, MapName, VALUE_LIMIT, Value};
+pub use row::{Row, Rows};
 pub use table::Version;
 pub use tables::Tables;
 pub use write::{Write, Writes};

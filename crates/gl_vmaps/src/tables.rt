@@ -7,9 +7,10 @@ ghost use Rattle.gl_vmaps.specs.Name.{is_value};
 ghost use Rattle.gl_vmaps.specs.Chains.{maps_by, rows_in, found_in, present};
 
 use crate::journal::{
-    Maps, Written, copy_journal, copy_maps, ends_above, newest_of, pop_last, push_writes,
-    settle_first, starts_up_to,
+    Maps, Written, copy_journal, copy_maps, ends_above, maps_of_rows, newest_of, pop_last,
+    push_writes, settle_first, starts_up_to,
 };
+use crate::row::Rows;
 use crate::table::Version;
 use crate::write::Writes;
 use std::alloc::{AllocError, Global};
@@ -84,8 +85,9 @@ fn value_in(version: &Version) -> Option<&[u8]>
 impl Tables {
     ghost use Rattle.std.specs.Prelude.{◌≡◌, ℕ, ◌<◌, ◌≤◌, ◌^◌, List, [], ◌++◌, IsTrue, IfSome, IfOk, OnOk, OnErr};
     ghost use Rattle.gl_vmaps.specs.Name.{is_value};
-    ghost use Rattle.gl_vmaps.specs.Kept.{value_of, has_row, count_of, version_of, map_version_of};
-    ghost use Rattle.gl_vmaps.specs.Standing.{StandsFor, HasApplied, HasCut, HasCompacted};
+    ghost use Rattle.gl_vmaps.specs.Rows.{row_writes};
+    ghost use Rattle.gl_vmaps.specs.Kept.{versions_of, value_of, has_row, count_of, version_of, map_version_of};
+    ghost use Rattle.gl_vmaps.specs.Standing.{versions_in, StandsFor, HasApplied, HasCut, HasCompacted};
     ghost use Rattle.gl_vmaps.specs.Tables.{value_in, has_key, size_of};
     ghost use Rattle.gl_vmaps.specs.Versions.{Placed, placed_at, written_by, version_in, map_version_in, up_to};
 
@@ -102,6 +104,24 @@ impl Tables {
             journal: VecDeque::new(alloc),
             alloc,
         }
+    }
+
+    /// Tables that begin at a base, with these rows. Their versions are 0 until an entry writes them.
+    /// Fails for want of memory alone.
+    pub fn at_base(alloc: Global, base: u64, rows: Rows) -> Result<Self, AllocError>
+        ensures base { IfOk result (λ tables. tables.base ≡ base) }
+        ensures compacted { IfOk result (λ tables. tables.compacted ≡ base) }
+        ensures rows { IfOk result (λ tables. (map key : List ℕ) → versions_of tables map key ≡
+            versions_in (placed_at 0 (row_writes rows)) map key) }
+        ensures stands { IfOk result (λ tables. StandsFor tables (placed_at 0 (row_writes rows))) }
+    {
+        Ok(Tables {
+            base,
+            compacted: base,
+            maps: maps_of_rows(alloc, rows.into_vec())?,
+            journal: VecDeque::new(alloc),
+            alloc,
+        })
     }
 
     /// The value of a key in a map, if the map has that key.

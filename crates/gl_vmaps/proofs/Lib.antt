@@ -1,7 +1,6 @@
 pub mod Bytes
 pub mod LastWrites
 pub mod TablesLaws
-pub mod Places
 pub mod VersionLists
 pub mod VersionLaws
 pub mod StandingLaws

@@ -24,8 +24,8 @@ IsSettled compacted [] = Unit {0}
 IsSettled compacted (v ∷ []) = v.place ≤ compacted
 IsSettled compacted (v ∷ w ∷ vs) = ⊥
 
--- These writes, the last one first, made the versions of the maps: taking them back one by one leaves
--- rows that are settled.
+-- These writes, the last one first, made the versions of the maps: taking them back one by one
+-- leaves rows that are settled.
 abbrev pub IsJournal : ℕ → Maps → List Written → Type 0
 IsJournal compacted maps [] = (name key : List ℕ) → IsSettled compacted (found_in maps name key)
 IsJournal compacted maps (w ∷ earlier) =

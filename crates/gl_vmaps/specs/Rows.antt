@@ -24,7 +24,8 @@ tables_with rows = wrote_all no_tables (row_writes rows)
 
 -- The tables are those with these rows.
 abbrev pub AreRowsOf : List Row → Tables → Type 0
-AreRowsOf rows tables = (map key : List ℕ) → value_in (tables_with rows) map key ≡ value_in tables map key
+AreRowsOf rows tables =
+    (map key : List ℕ) → value_in (tables_with rows) map key ≡ value_in tables map key
 
 -- The writes above a place; and that all are at or below it, or above it.
 abbrev pub above : ℕ → List Placed → List Placed

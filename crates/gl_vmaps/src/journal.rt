@@ -134,8 +134,8 @@ pub(crate) fn starts_up_to(journal: &VecDeque<Written>, place: u64) -> bool
     }
 }
 
-/// Settles what was written first: its row lets go of the version before, and it can't be taken back
-/// any more.
+/// Settles what was written first: its row lets go of the version before, and it can't be taken
+/// back any more.
 pub(crate) fn settle_first(maps: &mut Maps, journal: &mut VecDeque<Written>)
     ensures maps { maps_by maps.new.entries ≡
         settled_first (maps_by maps.old.entries) journal.old.items }

@@ -6,8 +6,8 @@ ghost use Rattle.gl_vmaps.specs.Tables.{value_in, size_of};
 ghost use Rattle.gl_vmaps.specs.Versions.{Placed, placed_at, written_by, version_in, map_version_in};
 ghost use Rattle.gl_vmaps.specs.declared.row.Row.{Row};
 
-/// Tables at a base answer for every list of writes up to the base that makes their rows: values and
-/// sizes are those of that list with the later writes, versions are the places above the base.
+/// Tables at a base answer for every list of writes up to the base that makes their rows: values
+/// and sizes are those of that list with the later writes, versions are the places above the base.
 pub fn law_of_base()
     ensures values { (rows : List Row) (qs ps : List Placed) → AreRowsOf rows (written_by qs) →
         (map key : List ℕ) → value_in (written_by (qs ++ ps)) map key ≡

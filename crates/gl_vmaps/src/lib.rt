@@ -1,6 +1,6 @@
-//! The tables of a key-value store (CCF documentation, "Key-Value Store"): the names of maps, keys and
-//! values within their limits, write sets, and the tables and versions that write sets at their places
-//! make.
+//! The tables of a key-value store (CCF documentation, "Key-Value Store"): the names of maps, keys
+//! and values within their limits, write sets, and the tables and versions that write sets at their
+//! places make.
 #![tactic(auto)]
 
 mod journal;

@@ -55,7 +55,8 @@ impl Model for Tables {
 
 /// The last version of a row, if it has one.
 fn last_version<'a>(maps: &'a Maps, map: &[u8], key: &[u8]) -> Option<&'a Version>
-    ensures { option_copied result ≡ last_or None (found_in (maps_by maps.now.entries) map.now key.now) }
+    ensures { option_copied result ≡
+        last_or None (found_in (maps_by maps.now.entries) map.now key.now) }
 {
     match maps.get(map) {
         None => None,
@@ -106,8 +107,8 @@ impl Tables {
         }
     }
 
-    /// Tables that begin at a base, with these rows. Their versions are 0 until an entry writes them.
-    /// Fails for want of memory alone.
+    /// Tables that begin at a base, with these rows. Their versions are 0 until an entry writes
+    /// them. Fails for want of memory alone.
     pub fn at_base(alloc: Global, base: u64, rows: Rows) -> Result<Self, AllocError>
         ensures base { IfOk result (λ tables. tables.base ≡ base) }
         ensures compacted { IfOk result (λ tables. tables.compacted ≡ base) }
@@ -177,8 +178,8 @@ impl Tables {
         newest_of(&self.maps, map)
     }
 
-    /// Applies the write set of the entry at a place, which is above the base and above all places so
-    /// far. Want of memory leaves the tables as they were.
+    /// Applies the write set of the entry at a place, which is above the base and above all places
+    /// so far. Want of memory leaves the tables as they were.
     pub fn apply(&mut self, seqno: u64, writes: &Writes) -> Result<(), AllocError>
         requires base { self.old.base < seqno }
         requires above { (map key : List ℕ) → version_of self.old map key < seqno }
@@ -192,20 +193,21 @@ impl Tables {
         Ok(())
     }
 
-    /// Takes back what the entries above a place wrote, which is not below the compacted one. Takes no
-    /// memory.
+    /// Takes back what the entries above a place wrote, which is not below the compacted one. Takes
+    /// no memory.
     pub fn cut(&mut self, to: u64)
         requires { self.old.compacted ≤ to }
         ensures exact { HasCut self.old to self.new }
-        ensures stands { (ps : List Placed) → StandsFor self.old ps → StandsFor self.new (up_to to ps) }
+        ensures stands { (ps : List Placed) → StandsFor self.old ps →
+            StandsFor self.new (up_to to ps) }
     {
         while ends_above(&self.journal, to) {
             pop_last(&mut self.maps, &mut self.journal);
         }
     }
 
-    /// Lets go of what no cut above a place needs: of each row its versions at or below the place but
-    /// for the last one. Takes no memory.
+    /// Lets go of what no cut above a place needs: of each row its versions at or below the place
+    /// but for the last one. Takes no memory.
     pub fn compact(&mut self, to: u64)
         ensures exact { HasCompacted self.old to self.new }
         ensures stands { (ps : List Placed) → StandsFor self.old ps → StandsFor self.new ps }

@@ -1,15 +1,14 @@
 -- Rows that are kept in an ordered map: what they answer, and what they are behind a change of one of them.
-use Rattle.std.proofs.Common.{◌≡◌, ◌≤◌, Bool, true, false, ◌&&◌, cond, List, [], ◌∷◌, ◌++◌, Option, Some, None, refl, sym, ◌∙◌, ap, subst, unwrap_or, IsSome, is_some, nat_lt, zero, suc, ◌+◌, if◌then◌else◌, take, length, Vec, ℕ, ◌<◌, ◌-◌, ◌↔◌, IfSome, get_or, Bor, Result, Ok, Err, OnErr, arith}
-use Rattle.std.specs.BTreeMap.{BTreeMap, UpdatesBy, get_by, is_at}
+use Rattle.std.proofs.Common.{◌≡◌, ◌≤◌, Bool, true, false, ◌&&◌, cond, List, [], ◌∷◌, ◌++◌, Option, Some, None, refl, sym, ◌∙◌, ap, subst, unwrap_or, IsSome, is_some, nat_lt, zero, suc, ◌+◌, if◌then◌else◌, length, Vec, ℕ, ◌<◌, ◌-◌, ◌↔◌, IfSome, get_or, Bor, Result, Ok, Err, OnErr, arith}
+use Rattle.std.specs.BTreeMap.{BTreeMap, UpdatesBy, is_at}
 use Rattle.std.specs.Cmp.Lexicographic.{slice_cmp}
-use Rattle.std.specs.FinMap.{FinMap, entries, keys, len, len-empty, empty_of_len, get-entries, contains_key-keys, get, get-insert, get-remove, get-empty, insert, remove, empty, same_map, slice_cmp-IsAntisymmetric, nat_cmp-IsAntisymmetric}
+use Rattle.std.specs.FinMap.{entries, keys, len, len-empty, empty_of_len, get-entries, contains_key-keys, get, get-insert, get-remove, get-empty, empty, same_map, slice_cmp-IsAntisymmetric, nat_cmp-IsAntisymmetric}
 use Rattle.std.specs.List.{last_or, list_any}
 use Rattle.std.specs.Option.{option_copied, option_and_then}
 use Rattle.std.specs.Map.{lookup, KeepsOthers, IsKeyTest, AreApart}
 use Rattle.std.specs.Ordering.{nat_cmp, is_eq, eq_by_cmp}
 use Rattle.std.specs.declared.collections.VecDeque.{VecDeque}
 use Rattle.std.specs.declared.alloc.Global.{Global}
-use Rattle.std.proofs.lemmas.Bool.Decides.{nat_tests}
 use Rattle.std.proofs.lemmas.Cmp.{nat_list_cmp_total}
 use Rattle.std.proofs.lemmas.Map.Text.{is_eq-slice_cmp}
 use Rattle.gl_vmaps.specs.Tables.{Rows, same_bytes, with_row}

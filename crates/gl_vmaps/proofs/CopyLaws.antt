@@ -1,5 +1,5 @@
 -- Ordered maps made entry by entry hold what the one they are made from does.
-use Rattle.std.proofs.Common.{◌≡◌, ℕ, Bool, true, false, cond, List, [], ◌∷◌, Option, Some, None, refl, sym, ◌∙◌, ap, subst, if◌then◌else◌, Vec, Bor}
+use Rattle.std.proofs.Common.{◌≡◌, ℕ, Bool, true, false, cond, List, [], ◌∷◌, Option, Some, None, refl, sym, ◌∙◌, ap, if◌then◌else◌, Vec, Bor}
 use Rattle.std.specs.BTreeMap.{BTreeMap, UpdatesBy}
 use Rattle.std.specs.Map.Iter.{TakesFirst, deref_pair}
 use Rattle.std.proofs.lemmas.Map.Iter.{rest_more, rest_all}
@@ -19,7 +19,7 @@ use Rattle.gl_vmaps.specs.Chains.{with_chain, chains_by, Maps, rows_in, with_row
 use Rattle.gl_vmaps.specs.declared.table.Version.{Version}
 use Rattle.gl_vmaps.proofs.TablesLaws.{same_bytes-eq}
 use Rattle.gl_vmaps.proofs.ChainLaws.{found, some_versions, items_of, get-with_chain, get-chains_by, same_chains, chains_by-updated}
-use Rattle.gl_vmaps.proofs.MapLaws.{some_rows, rows_of, rows_in-with, rows_in-by, same_maps, IsProper, proper-by, proper-with, maps_by-updated}
+use Rattle.gl_vmaps.proofs.MapLaws.{rows_of, rows_in-with, rows_in-by, same_maps, IsProper, proper-by, proper-with, maps_by-updated}
 
 -- the keys ascend
 abbrev pub AreAscending : {X : Type 0} → List (Vec ℕ Global × X) → Type 0

@@ -3,7 +3,7 @@ use Rattle.std.proofs.Common.{◌≡◌, ℕ, suc, ◌+◌, ◌-◌, ◌≤◌, 
 use Rattle.std.specs.Cmp.Lexicographic.{slice_cmp}
 use Rattle.std.specs.FinMap.{get, get-empty, empty}
 use Rattle.std.specs.Ordering.{nat_cmp}
-use Rattle.std.specs.List.{AllByRecursion, last_or, list_any}
+use Rattle.std.specs.List.{AllByRecursion, last_or}
 use Rattle.std.proofs.lemmas.Bool.{and_parts}
 use Rattle.std.proofs.lemmas.Bool.Decides.{nat_tests}
 use Rattle.std.proofs.lemmas.List.{append-nil}
@@ -12,8 +12,8 @@ use Rattle.gl_vmaps.specs.Tables.{same_bytes}
 use Rattle.gl_vmaps.specs.Versions.{Placed, placed_at, is_to_row}
 use Rattle.gl_vmaps.specs.Writes.{is_ordered, write_order}
 use Rattle.gl_vmaps.specs.Kept.{Chains, last_place, place_or_zero}
-use Rattle.gl_vmaps.specs.Standing.{is_up_to, versions_up_to, latest_from, version, versions_in}
-use Rattle.gl_vmaps.specs.Chains.{chain_of, newest_place, with_chain, trimmed, is_first_below, Maps, rows_in, found_in, with_rows, with_versions, without_last}
+use Rattle.gl_vmaps.specs.Standing.{is_up_to, versions_up_to, version, versions_in}
+use Rattle.gl_vmaps.specs.Chains.{chain_of, newest_place, with_chain, Maps, rows_in, found_in, with_versions, without_last}
 use Rattle.gl_vmaps.specs.Journal.{popped, IsLast, IsSettled, IsJournal, IsTidy, CanPop, popped_last, is_last_above, pushed, written, pushed_maps, pushed_journal, AreFresh}
 use Rattle.gl_vmaps.specs.declared.journal.Written.{Written}
 use Rattle.gl_vmaps.specs.declared.table.Version.{Version}
@@ -186,7 +186,7 @@ journal-pushed c maps es place (w ∷ ws) proper tidy journal below fresh =
     journal-pushed c (pushed maps place w) (written maps place w ∷ es) place ws (pushed_proper maps place w proper) (pushed_tidy maps place w tidy) one (below_pushed maps place w below) fresh.2
 
 -- the writes of an ordered set are fresh at a place above all versions
-newest_after : (maps : Maps) (place : ℕ) (w : Write) (name : List ℕ) → ((n : List ℕ) → newest_place (rows_in maps n) ≤ place) → newest_place (rows_in (pushed maps place w) name) ≤ place
+pub newest_after : (maps : Maps) (place : ℕ) (w : Write) (name : List ℕ) → ((n : List ℕ) → newest_place (rows_in maps n) ≤ place) → newest_place (rows_in (pushed maps place w) name) ≤ place
 newest_after maps place w name below =
     let v : Version = record { place = place; value = w.value } in
     let chain = with_chain (rows_in maps w.map) w.key (found_in maps w.map w.key ++ v ∷ []) in

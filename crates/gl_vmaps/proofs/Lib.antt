@@ -1,7 +1,6 @@
 pub mod Bytes
 pub mod LastWrites
 pub mod TablesLaws
-pub mod Places
 pub mod VersionLists
 pub mod VersionLaws
 pub mod StandingLaws
@@ -10,4 +9,5 @@ pub mod MapLaws
 pub mod JournalLaws
 pub mod CopyLaws
 pub mod Settling
+pub mod BaseLaws
 pub mod WriteLaws

@@ -1,8 +1,8 @@
 -- Maps that are kept in an ordered map: what their rows are, and what they are behind a change of one row.
-use Rattle.std.proofs.Common.{◌≡◌, ℕ, ◌==◌, ◌≤◌, ◌<◌, Bool, true, false, ◌&&◌, cond, List, [], ◌∷◌, ◌++◌, Option, Some, None, refl, sym, ◌∙◌, ap, subst, unwrap_or, IsSome, if◌then◌else◌, take, length, ◌-◌, Vec, arith}
+use Rattle.std.proofs.Common.{◌≡◌, ℕ, ◌==◌, Bool, true, false, ◌&&◌, cond, List, [], ◌∷◌, ◌++◌, Option, Some, None, refl, sym, ◌∙◌, ap, subst, unwrap_or, IsSome, if◌then◌else◌, Vec, arith}
 use Rattle.std.specs.BTreeMap.{BTreeMap, UpdatesBy}
 use Rattle.std.specs.Cmp.Lexicographic.{slice_cmp}
-use Rattle.std.specs.FinMap.{FinMap, get, get-insert, get-remove, get-empty, len, len-empty, empty_of_len, insert, remove, empty, same_map, slice_cmp-IsAntisymmetric, nat_cmp-IsAntisymmetric}
+use Rattle.std.specs.FinMap.{get, get-insert, get-remove, get-empty, len, len-empty, empty_of_len, insert, remove, empty, same_map, slice_cmp-IsAntisymmetric, nat_cmp-IsAntisymmetric}
 use Rattle.std.specs.Ordering.{nat_cmp, is_eq}
 use Rattle.std.specs.declared.alloc.Global.{Global}
 use Rattle.std.proofs.lemmas.Bool.{and_parts}
@@ -10,7 +10,7 @@ use Rattle.std.proofs.lemmas.Bool.Decides.{nat_tests}
 use Rattle.std.proofs.lemmas.Cmp.{nat_list_cmp_total}
 use Rattle.std.proofs.lemmas.Map.Text.{is_eq-slice_cmp}
 use Rattle.gl_vmaps.specs.Tables.{same_bytes}
-use Rattle.gl_vmaps.specs.Kept.{Chains, last_place}
+use Rattle.gl_vmaps.specs.Kept.{Chains}
 use Rattle.gl_vmaps.specs.Chains.{chain_of, with_chain, newest_place, Maps, rows_in, found_in, with_rows, maps_by, with_versions, without_last}
 use Rattle.gl_vmaps.specs.Journal.{IsTidy}
 use Rattle.gl_vmaps.specs.declared.table.Version.{Version}

@@ -1,13 +1,12 @@
 -- The first write of a journal settled: its row lets go of what stood before it, and all else stays as it was.
-use Rattle.std.proofs.Common.{◌≡◌, ℕ, ◌+◌, ◌-◌, ◌≤◌, ◌<◌, nat_lt, nat_le, nat_eq, max, Bool, true, false, ◌&&◌, ◌||◌, List, [], ◌∷◌, ◌++◌, Option, Some, None, refl, sym, ◌∙◌, ap, subst, if◌then◌else◌, take, drop, length, reverse, arith}
+use Rattle.std.proofs.Common.{◌≡◌, ℕ, ◌≤◌, ◌<◌, nat_lt, nat_eq, Bool, true, false, ◌&&◌, ◌||◌, List, [], ◌∷◌, ◌++◌, None, refl, sym, ◌∙◌, ap, subst, if◌then◌else◌, drop, length, reverse, arith}
 use Rattle.std.specs.List.{AllByRecursion, last_or, list_any}
-use Rattle.std.proofs.lemmas.Bool.{and_parts}
 use Rattle.std.proofs.lemmas.Bool.Decides.{nat_tests}
 use Rattle.std.proofs.lemmas.Grind.{reverse_onto}
 use Rattle.gl_vmaps.specs.Tables.{same_bytes}
-use Rattle.gl_vmaps.specs.Kept.{Chains, last_place, place_or_zero}
+use Rattle.gl_vmaps.specs.Kept.{last_place, place_or_zero}
 use Rattle.gl_vmaps.specs.Standing.{is_up_to, latest_from}
-use Rattle.gl_vmaps.specs.Chains.{chain_of, newest_place, trimmed, is_first_below, Maps, rows_in, found_in, with_versions, without_last}
+use Rattle.gl_vmaps.specs.Chains.{newest_place, trimmed, Maps, rows_in, found_in, with_versions, without_last}
 use Rattle.gl_vmaps.specs.Journal.{popped, IsLast, IsSettled, IsJournal, IsTidy, settled, settled_first, is_first_up_to}
 use Rattle.gl_vmaps.specs.declared.journal.Written.{Written}
 use Rattle.gl_vmaps.specs.declared.table.Version.{Version}
@@ -15,7 +14,7 @@ use Rattle.gl_vmaps.proofs.TablesLaws.{same_bytes-symm}
 use Rattle.gl_vmaps.proofs.ChainLaws.{newest-alike, last-trimmed}
 use Rattle.gl_vmaps.proofs.MapLaws.{IsProper, found_in-with, proper-versions, tidy-versions, same_found}
 use Rattle.gl_vmaps.proofs.VersionLists.{any_either}
-use Rattle.gl_vmaps.proofs.JournalLaws.{without_last-take, without_last-pushed, HasLast, has_last, row_is, itself, found_in-at}
+use Rattle.gl_vmaps.proofs.JournalLaws.{without_last-take, without_last-pushed, has_last, row_is, itself, found_in-at}
 
 -- ---- versions that let go of the first
 

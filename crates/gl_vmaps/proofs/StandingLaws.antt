@@ -5,13 +5,12 @@ use Rattle.std.specs.FinMap.{get, entries, get-entries, keys, contains_key, cont
 use Rattle.std.specs.FinMap.Entries.{find}
 use Rattle.std.specs.List.{AllByRecursion, list_any, last_or}
 use Rattle.std.specs.Ordering.{nat_cmp, eq_by_cmp}
-use Rattle.std.proofs.lemmas.Bool.Decides.{nat_tests}
 use Rattle.std.proofs.lemmas.Cmp.{nat_list_cmp_total}
 use Rattle.std.proofs.lemmas.Map.Text.{is_eq-slice_cmp}
-use Rattle.gl_vmaps.specs.Tables.{Tables, Rows, same_bytes, value_in, has_key, size_of, with_row}
+use Rattle.gl_vmaps.specs.Tables.{Rows, same_bytes, value_in, has_key, size_of}
 use Rattle.gl_vmaps.specs.Versions.{Placed, placed_at, is_to_row, written_by, version_in, map_version_in, up_to, AreRising}
-use Rattle.gl_vmaps.specs.Kept.{Kept, Chains, chains_of, versions_of, last_value, last_place, place_or_zero, value_of, has_row, version_of, greatest, map_version_of, present_rows, tables_of, count_of}
-use Rattle.gl_vmaps.specs.Standing.{StandsFor, HasApplied, HasCut, HasCompacted, version, versions_in, versions_up_to, latest_from}
+use Rattle.gl_vmaps.specs.Kept.{Kept, chains_of, versions_of, last_value, last_place, place_or_zero, value_of, has_row, version_of, greatest, map_version_of, present_rows, tables_of, count_of}
+use Rattle.gl_vmaps.specs.Standing.{StandsFor, HasApplied, HasCut, HasCompacted, versions_in, versions_up_to, latest_from}
 use Rattle.gl_vmaps.specs.declared.table.Version.{Version}
 use Rattle.gl_vmaps.specs.declared.write.Write.{Write}
 use Rattle.gl_vmaps.proofs.TablesLaws.{get-with_row, same_bytes-eq}

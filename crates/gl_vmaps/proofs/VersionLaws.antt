@@ -3,14 +3,11 @@ use Rattle.std.proofs.Common.{◌≡◌, ℕ, ◌≤◌, ◌<◌, max, nat_le, B
 use Rattle.std.proofs.Math.Nat.{max-zero, zero-max}
 use Rattle.std.specs.List.{AllByRecursion, last_or}
 use Rattle.std.specs.Option.{option_and_then}
-use Rattle.std.proofs.lemmas.Bool.{and_parts}
-use Rattle.std.proofs.lemmas.Bool.Decides.{nat_tests}
 use Rattle.gl_vmaps.specs.Tables.{Tables, no_tables, same_bytes, wrote, value_in}
-use Rattle.gl_vmaps.specs.Versions.{Placed, placed_at, written_behind, written_by, is_to_map, is_to_row, greatest_place, version_in, map_version_in, up_to, AreRising}
+use Rattle.gl_vmaps.specs.Versions.{Placed, written_behind, written_by, is_to_map, is_to_row, greatest_place, version_in, map_version_in, up_to, AreRising}
 use Rattle.gl_vmaps.specs.Kept.{last_value, last_place, place_or_zero}
 use Rattle.gl_vmaps.specs.Standing.{version, versions_in, versions_up_to}
 use Rattle.gl_vmaps.specs.declared.table.Version.{Version}
-use Rattle.gl_vmaps.specs.declared.write.Write.{Write}
 use Rattle.gl_vmaps.proofs.TablesLaws.{value_in-wrote, value_in-nothing, same_bytes-itself, same_bytes-eq}
 
 -- the versions with those of one more write in front

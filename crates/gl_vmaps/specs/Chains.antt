@@ -1,12 +1,12 @@
 -- How the rows of maps are kept: in ordered maps, each row with its versions.
-use Rattle.std.specs.Prelude.{ℕ, ◌==◌, ◌+◌, List, [], ◌∷◌, Option, None, Some, Bool, false, ◌&&◌, Vec, length, take, drop, ◌-◌, nat_lt, unwrap_or, if◌then◌else◌}
+use Rattle.std.specs.Prelude.{ℕ, ◌==◌, List, [], ◌∷◌, Bool, false, ◌&&◌, Vec, length, take, drop, ◌-◌, nat_lt, unwrap_or, if◌then◌else◌}
 use Rattle.std.specs.Cmp.Lexicographic.{slice_cmp}
 use Rattle.std.specs.FinMap.{FinMap}
 use Rattle.std.specs.FinMap as finite
 use Rattle.std.specs.Ordering.{nat_cmp}
 use Rattle.std.specs.declared.collections.VecDeque.{VecDeque}
 use Rattle.std.specs.declared.alloc.Global.{Global}
-use Rattle.gl_vmaps.specs.Kept.{Kept, Chains, last_place, greatest, present_rows}
+use Rattle.gl_vmaps.specs.Kept.{Chains, last_place, greatest, present_rows}
 use Rattle.gl_vmaps.specs.declared.table.Version.{Version}
 
 -- ---- the rows of one map

@@ -2,7 +2,7 @@
 use Rattle.std.specs.Prelude.{◌≡◌, ℕ, ◌<◌, ◌≤◌, Bool, false, nat_lt, nat_le, List, [], ◌∷◌, ◌++◌, Some}
 use Rattle.std.specs.FinMap as finite
 use Rattle.std.specs.List.{AllByRecursion}
-use Rattle.gl_vmaps.specs.Kept.{Kept, last_place}
+use Rattle.gl_vmaps.specs.Kept.{last_place}
 use Rattle.gl_vmaps.specs.Chains.{Maps, rows_in, found_in, with_versions, without_last, newest_place, trimmed}
 use Rattle.gl_vmaps.specs.declared.table.Version.{Version}
 use Rattle.gl_vmaps.specs.declared.journal.Written.{Written}
@@ -24,8 +24,8 @@ IsSettled compacted [] = Unit {0}
 IsSettled compacted (v ∷ []) = v.place ≤ compacted
 IsSettled compacted (v ∷ w ∷ vs) = ⊥
 
--- These writes, the last one first, made the versions of the maps: taking them back one by one leaves
--- rows that are settled.
+-- These writes, the last one first, made the versions of the maps: taking them back one by one
+-- leaves rows that are settled.
 abbrev pub IsJournal : ℕ → Maps → List Written → Type 0
 IsJournal compacted maps [] = (name key : List ℕ) → IsSettled compacted (found_in maps name key)
 IsJournal compacted maps (w ∷ earlier) =

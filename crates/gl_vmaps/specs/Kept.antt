@@ -1,4 +1,5 @@
--- What tables keep: for each row of each map its versions, back to the places that can still be cut to.
+-- What tables keep: for each row of each map its versions, back to the places that can still be cut
+-- to.
 use Rattle.std.specs.Prelude.{ℕ, List, [], ◌∷◌, Option, None, Some, Bool, is_some, map, max, unwrap_or, refl}
 use Rattle.std.specs.Coded.{Coded, code_by, coded×, coded_ℕ, coded_list, coded_option}
 use Rattle.std.specs.Cmp.Lexicographic.{slice_cmp}
@@ -7,7 +8,7 @@ use Rattle.std.specs.FinMap as finite
 use Rattle.std.specs.List.{last_or}
 use Rattle.std.specs.Option.{option_and_then}
 use Rattle.std.specs.Ordering.{nat_cmp}
-use Rattle.gl_vmaps.specs.Tables.{Tables, Rows, no_tables, with_row, size_of}
+use Rattle.gl_vmaps.specs.Tables.{Tables, Rows, with_row, size_of}
 use Rattle.gl_vmaps.specs.declared.table.Version.{Version}
 
 -- The rows of one map: to each key its versions, oldest first.
@@ -15,8 +16,8 @@ abbrev pub Chains : Type 0
 Chains = FinMap (slice_cmp nat_cmp) (List Version)
 
 -- What is kept: the base, which is the number of places in front of the first that is held; the
--- compacted place, below which no cut goes; and to each map's name its rows. A row that stood at the
--- base has a version at place 0.
+-- compacted place, below which no cut goes; and to each map's name its rows. A row that stood at
+-- the base has a version at place 0.
 pub record Kept : Type 0 where
   pub base : ℕ
   pub compacted : ℕ

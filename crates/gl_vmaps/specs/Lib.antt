@@ -2,6 +2,7 @@ pub mod Name
 pub mod Writes
 pub mod Tables
 pub mod Versions
+pub mod Rows
 pub mod Kept
 pub mod Chains
 pub mod Journal

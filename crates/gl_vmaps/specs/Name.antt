@@ -1,4 +1,5 @@
--- The names of maps, keys and values, as bytes, with their limits (CCF documentation, "Key-Value Store").
+-- The names of maps, keys and values, as bytes, with their limits (CCF documentation, "Key-Value
+-- Store").
 use Rattle.std.specs.Prelude.{ℕ, List, Bool, ◌&&◌, codes, length, nat_le, nat_lt, nat_eq}
 use Rattle.std.specs.Char.{is_ascii_graphic}
 use Rattle.std.specs.List.{list_all, starts_with}

@@ -1,4 +1,5 @@
--- Which lists of writes tables stand for, and what a write set, a cut and a compaction make of them.
+-- Which lists of writes tables stand for, and what a write set, a cut and a compaction make of
+-- them.
 use Rattle.std.specs.Prelude.{◌≡◌, ℕ, List, [], ◌∷◌, ◌++◌, Bool, ◌&&◌, map, filter, max, nat_le, if◌then◌else◌}
 use Rattle.std.specs.List.{list_any}
 use Rattle.gl_vmaps.specs.Kept.{Kept, versions_of}
@@ -32,20 +33,24 @@ latest_from place (v ∷ vs) =
 pub record StandsFor (t : Kept) (ps : List Placed) : Type 0 where
   pub rising : AreRising ps
   pub rows : (map key : List ℕ) →
-      latest_from t.compacted (versions_of t map key) ≡ latest_from t.compacted (versions_in ps map key)
+      latest_from t.compacted (versions_of t map key)
+      ≡ latest_from t.compacted (versions_in ps map key)
 
--- The tables with a write set: each row has its versions, and behind them what the set writes to it.
+-- The tables with a write set: each row has its versions, and behind them what the set writes to
+-- it.
 pub record HasApplied (old : Kept) (place : ℕ) (writes : List Write) (new : Kept) : Type 0 where
   pub base : new.base ≡ old.base
   pub compacted : new.compacted ≡ old.compacted
   pub rows : (map key : List ℕ) →
-      versions_of new map key ≡ versions_of old map key ++ versions_in (placed_at place writes) map key
+      versions_of new map key
+      ≡ versions_of old map key ++ versions_in (placed_at place writes) map key
 
 -- The tables cut to a place: each row has its versions at or below it.
 pub record HasCut (old : Kept) (to : ℕ) (new : Kept) : Type 0 where
   pub base : new.base ≡ old.base
   pub compacted : new.compacted ≡ old.compacted
-  pub rows : (map key : List ℕ) → versions_of new map key ≡ versions_up_to to (versions_of old map key)
+  pub rows : (map key : List ℕ) →
+      versions_of new map key ≡ versions_up_to to (versions_of old map key)
 
 -- The tables compacted to a place: each row has its last version at or below it, and those above.
 pub record HasCompacted (old : Kept) (to : ℕ) (new : Kept) : Type 0 where

@@ -39,9 +39,11 @@ with_row t key None = rows.remove t key
 abbrev pub same_bytes : List ℕ → List ℕ → Bool
 same_bytes xs ys = pointwise nat_eq xs ys
 
--- The tables after one write: the map that it names has the row set or removed, and all others stay.
+-- The tables after one write: the map that it names has the row set or removed, and all others
+-- stay.
 abbrev pub wrote : Tables → Write → Tables
-wrote tables w map = if same_bytes map w.map then with_row (tables map) w.key w.value else tables map
+wrote tables w map =
+    if same_bytes map w.map then with_row (tables map) w.key w.value else tables map
 
 -- The tables after the writes of a set, in order.
 abbrev pub wrote_all : Tables → List Write → Tables

@@ -1,4 +1,5 @@
--- The writes of a ledger at their places, what they make of the tables, and the versions of keys and maps.
+-- The writes of a ledger at their places, what they make of the tables, and the versions of keys
+-- and maps.
 use Rattle.std.specs.Prelude.{ℕ, ◌<◌, ◌≤◌, List, [], ◌∷◌, Bool, ◌&&◌, map, filter, max, nat_le, if◌then◌else◌}
 use Rattle.std.specs.List.{AllByRecursion}
 use Rattle.gl_vmaps.specs.Tables.{Tables, no_tables, same_bytes, wrote}
@@ -32,7 +33,8 @@ is_to_row map key w = same_bytes map w.map && same_bytes key w.key
 -- The greatest place of such a write, 0 where there is none.
 abbrev pub greatest_place : (Write → Bool) → List Placed → ℕ
 greatest_place is_such [] = 0
-greatest_place is_such (p ∷ ps) = max (if is_such p.write then p.place else 0) (greatest_place is_such ps)
+greatest_place is_such (p ∷ ps) =
+    max (if is_such p.write then p.place else 0) (greatest_place is_such ps)
 
 -- The version of a key is the greatest place whose write set names it, or 0.
 abbrev pub version_in : List Placed → List ℕ → List ℕ → ℕ

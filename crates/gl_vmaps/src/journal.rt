@@ -3,9 +3,11 @@
 ghost use Rattle.std.specs.Prelude.{◌≡◌, ◌≤◌, ◌-◌, ◌∷◌, [], ◌++◌, ℕ, List, IsTrue, IfOk, OnOk, OnErr, take, drop, length, reverse};
 ghost use Rattle.std.specs.FinMap as finite;
 ghost use Rattle.gl_vmaps.specs.Chains.{maps_by, rows_in, found_in, with_versions, without_last, newest_place, trimmed};
+ghost use Rattle.gl_vmaps.specs.Rows.{row_writes};
 ghost use Rattle.gl_vmaps.specs.Journal.{is_first_up_to, settled_first, is_last_above, CanPop, popped_last, IsTidy, AreFresh, pushed, written, pushed_maps, pushed_journal};
 
 use crate::name::{Key, MapName};
+use crate::row::Row;
 use crate::table::{Table, Version};
 use crate::write::Write;
 use std::alloc::{AllocError, Global};
@@ -132,8 +134,8 @@ pub(crate) fn starts_up_to(journal: &VecDeque<Written>, place: u64) -> bool
     }
 }
 
-/// Settles what was written first: its row lets go of the version before, and it can't be taken back
-/// any more.
+/// Settles what was written first: its row lets go of the version before, and it can't be taken
+/// back any more.
 pub(crate) fn settle_first(maps: &mut Maps, journal: &mut VecDeque<Written>)
     ensures maps { maps_by maps.new.entries ≡
         settled_first (maps_by maps.old.entries) journal.old.items }
@@ -169,13 +171,8 @@ fn push_write(
     let Write { map, key, value } = write.copy(alloc)?;
     let before = newest_of(maps, map.as_slice());
     journal.reserve(1)?;
-    push_version(
-        maps,
-        alloc,
-        map.as_slice(),
-        key.as_slice(),
-        Version { place, value },
-    )?;
+    let version = Version { place, value };
+    push_version(maps, alloc, map.as_slice(), key.as_slice(), version)?;
     journal.push_back_reserved(Written {
         place,
         map,
@@ -245,4 +242,26 @@ pub(crate) fn copy_journal(
         })?;
     }
     Ok(copy)
+}
+
+/// Maps with these rows, each with one version at place 0.
+pub(crate) fn maps_of_rows(alloc: Global, rows: Vec<Row>) -> Result<Maps, AllocError>
+    ensures { IfOk result (λ maps. maps_by maps.entries ≡
+        pushed_maps finite.empty 0 (row_writes rows.items)) }
+{
+    let mut maps = BTreeMap::new(alloc);
+    for row in rows {
+        let version = Version {
+            place: 0,
+            value: Some(row.value),
+        };
+        push_version(
+            &mut maps,
+            alloc,
+            row.map.as_slice(),
+            row.key.as_slice(),
+            version,
+        )?;
+    }
+    Ok(maps)
 }

@@ -53,7 +53,8 @@ fn last_of<'a>(rows: &'a Rows, key: &[u8]) -> Option<&'a Version>
 /// Adds a version behind those of a row. Want of memory leaves the rows as they were.
 fn push_into(rows: &mut Rows, alloc: Global, key: &[u8], version: Version) -> Result<(), AllocError>
     ensures ok { OnOk result (let old = chains_by rows.old.entries in
-        chains_by rows.new.entries ≡ with_chain old key.now (chain_of old key.now ++ version ∷ [])) }
+        chains_by rows.new.entries ≡
+        with_chain old key.now (chain_of old key.now ++ version ∷ [])) }
     ensures err { OnErr result (chains_by rows.new.entries ≡ chains_by rows.old.entries) }
 {
     match rows.get_mut(key) {
@@ -263,7 +264,8 @@ impl Table {
         Ok(())
     }
 
-    /// Takes back the last version of a row. The greatest version is then the one that it was before.
+    /// Takes back the last version of a row. The greatest version is then the one that it was
+    /// before.
     pub(crate) fn pop(&mut self, key: &[u8], before: u64)
         requires { let chain = chain_of self.old key.now in
             before ≡ newest_place (with_chain self.old key.now (take (length chain - 1) chain)) }
@@ -280,7 +282,8 @@ impl Table {
 
     /// Lets go of the first version of a row, if another stands behind it and it is below a place.
     pub(crate) fn trim(&mut self, key: &[u8], place: u64)
-        ensures { self.new ≡ with_chain self.old key.now (trimmed place (chain_of self.old key.now)) }
+        ensures { self.new ≡
+            with_chain self.old key.now (trimmed place (chain_of self.old key.now)) }
     {
         trim_in(&mut self.rows, key, place);
     }

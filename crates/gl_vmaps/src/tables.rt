@@ -7,9 +7,10 @@ ghost use Rattle.gl_vmaps.specs.Name.{is_value};
 ghost use Rattle.gl_vmaps.specs.Chains.{maps_by, rows_in, found_in, present};
 
 use crate::journal::{
-    Maps, Written, copy_journal, copy_maps, ends_above, newest_of, pop_last, push_writes,
-    settle_first, starts_up_to,
+    Maps, Written, copy_journal, copy_maps, ends_above, maps_of_rows, newest_of, pop_last,
+    push_writes, settle_first, starts_up_to,
 };
+use crate::row::Rows;
 use crate::table::Version;
 use crate::write::Writes;
 use std::alloc::{AllocError, Global};
@@ -54,7 +55,8 @@ impl Model for Tables {
 
 /// The last version of a row, if it has one.
 fn last_version<'a>(maps: &'a Maps, map: &[u8], key: &[u8]) -> Option<&'a Version>
-    ensures { option_copied result ≡ last_or None (found_in (maps_by maps.now.entries) map.now key.now) }
+    ensures { option_copied result ≡
+        last_or None (found_in (maps_by maps.now.entries) map.now key.now) }
 {
     match maps.get(map) {
         None => None,
@@ -84,8 +86,9 @@ fn value_in(version: &Version) -> Option<&[u8]>
 impl Tables {
     ghost use Rattle.std.specs.Prelude.{◌≡◌, ℕ, ◌<◌, ◌≤◌, ◌^◌, List, [], ◌++◌, IsTrue, IfSome, IfOk, OnOk, OnErr};
     ghost use Rattle.gl_vmaps.specs.Name.{is_value};
-    ghost use Rattle.gl_vmaps.specs.Kept.{value_of, has_row, count_of, version_of, map_version_of};
-    ghost use Rattle.gl_vmaps.specs.Standing.{StandsFor, HasApplied, HasCut, HasCompacted};
+    ghost use Rattle.gl_vmaps.specs.Rows.{row_writes};
+    ghost use Rattle.gl_vmaps.specs.Kept.{versions_of, value_of, has_row, count_of, version_of, map_version_of};
+    ghost use Rattle.gl_vmaps.specs.Standing.{versions_in, StandsFor, HasApplied, HasCut, HasCompacted};
     ghost use Rattle.gl_vmaps.specs.Tables.{value_in, has_key, size_of};
     ghost use Rattle.gl_vmaps.specs.Versions.{Placed, placed_at, written_by, version_in, map_version_in, up_to};
 
@@ -102,6 +105,24 @@ impl Tables {
             journal: VecDeque::new(alloc),
             alloc,
         }
+    }
+
+    /// Tables that begin at a base, with these rows. Their versions are 0 until an entry writes
+    /// them. Fails for want of memory alone.
+    pub fn at_base(alloc: Global, base: u64, rows: Rows) -> Result<Self, AllocError>
+        ensures base { IfOk result (λ tables. tables.base ≡ base) }
+        ensures compacted { IfOk result (λ tables. tables.compacted ≡ base) }
+        ensures rows { IfOk result (λ tables. (map key : List ℕ) → versions_of tables map key ≡
+            versions_in (placed_at 0 (row_writes rows)) map key) }
+        ensures stands { IfOk result (λ tables. StandsFor tables (placed_at 0 (row_writes rows))) }
+    {
+        Ok(Tables {
+            base,
+            compacted: base,
+            maps: maps_of_rows(alloc, rows.into_vec())?,
+            journal: VecDeque::new(alloc),
+            alloc,
+        })
     }
 
     /// The value of a key in a map, if the map has that key.
@@ -157,8 +178,8 @@ impl Tables {
         newest_of(&self.maps, map)
     }
 
-    /// Applies the write set of the entry at a place, which is above the base and above all places so
-    /// far. Want of memory leaves the tables as they were.
+    /// Applies the write set of the entry at a place, which is above the base and above all places
+    /// so far. Want of memory leaves the tables as they were.
     pub fn apply(&mut self, seqno: u64, writes: &Writes) -> Result<(), AllocError>
         requires base { self.old.base < seqno }
         requires above { (map key : List ℕ) → version_of self.old map key < seqno }
@@ -172,20 +193,21 @@ impl Tables {
         Ok(())
     }
 
-    /// Takes back what the entries above a place wrote, which is not below the compacted one. Takes no
-    /// memory.
+    /// Takes back what the entries above a place wrote, which is not below the compacted one. Takes
+    /// no memory.
     pub fn cut(&mut self, to: u64)
         requires { self.old.compacted ≤ to }
         ensures exact { HasCut self.old to self.new }
-        ensures stands { (ps : List Placed) → StandsFor self.old ps → StandsFor self.new (up_to to ps) }
+        ensures stands { (ps : List Placed) → StandsFor self.old ps →
+            StandsFor self.new (up_to to ps) }
     {
         while ends_above(&self.journal, to) {
             pop_last(&mut self.maps, &mut self.journal);
         }
     }
 
-    /// Lets go of what no cut above a place needs: of each row its versions at or below the place but
-    /// for the last one. Takes no memory.
+    /// Lets go of what no cut above a place needs: of each row its versions at or below the place
+    /// but for the last one. Takes no memory.
     pub fn compact(&mut self, to: u64)
         ensures exact { HasCompacted self.old to self.new }
         ensures stands { (ps : List Placed) → StandsFor self.old ps → StandsFor self.new ps }

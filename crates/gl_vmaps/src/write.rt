@@ -62,8 +62,8 @@ impl Write {
     }
 }
 
-/// The writes of one entry. They ascend strictly by map, then key, in byte order, so that each row is
-/// written once.
+/// The writes of one entry. They ascend strictly by map, then key, in byte order, so that each row
+/// is written once.
 #[derive(Debug, Drop)]
 pub struct Writes {
     items: Vec<Write>,
@@ -125,8 +125,8 @@ impl Writes {
         &self.items
     }
 
-    /// Adds a write at its place. It takes the place of an earlier one to the same row. Want of memory
-    /// leaves the set as it was.
+    /// Adds a write at its place. It takes the place of an earlier one to the same row. Want of
+    /// memory leaves the set as it was.
     pub fn put(&mut self, write: Write) -> Result<(), AllocError>
         ensures ok { OnOk result (self.new ≡ with_write self.old write) }
         ensures err { OnErr result (self.new ≡ self.old) }
@@ -154,7 +154,8 @@ fn put_into(items: &mut Vec<Write>, write: Write) -> Result<(), AllocError>
 
 /// The place of the write to the same row, or else the one at which the write belongs.
 fn place_of(items: &[Write], write: &Write) -> Result<usize, usize>
-    ensures within { MatchResult result (λ place. place < length items.now) (λ place. place ≤ length items.now) }
+    ensures within { MatchResult result
+        (λ place. place < length items.now) (λ place. place ≤ length items.now) }
     ensures put { MatchResult result
         (λ place. with_write items.now write.now ≡ slice_set items.now place write.now)
         (λ place. with_write items.now write.now ≡ insert items.now place write.now) }

@@ -1,8 +1,6 @@
-use Rattle.std.proofs.Common.{◌≡◌, ◌<◌, List, ◌∷◌, length, reverse, ap, sym, ◌∙◌, subst, arith}
+use Rattle.std.proofs.Common.{◌≡◌, ◌∷◌, reverse, ap, sym, ◌∙◌, subst, arith}
 use Rattle.gl_vmaps.specs.Chains.{Maps, maps_by}
 use Rattle.gl_vmaps.specs.Journal.{CanPop, popped_last, IsTidy, AreFresh, pushed, written}
-use Rattle.gl_vmaps.specs.declared.journal.Written.{Written}
-use Rattle.gl_vmaps.specs.declared.write.Write.{Write}
 use Rattle.gl_vmaps.proofs.MapLaws.{proper-by}
 use Rattle.gl_vmaps.proofs.JournalLaws.{popped-pushed, is_last-pushed, pushed_tidy}
 use Rattle.gl_vmaps.proofs.journal.+push_writes.Goals as goal

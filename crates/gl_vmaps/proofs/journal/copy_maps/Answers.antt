@@ -1,4 +1,4 @@
-use Rattle.std.proofs.Common.{sym, ◌∙◌}
+use Rattle.std.proofs.Common.{◌∙◌}
 use Rattle.gl_vmaps.proofs.CopyLaws.{maps-step, maps-end}
 use Rattle.gl_vmaps.proofs.journal.copy_maps.Goals as goal
 

@@ -1,8 +1,7 @@
-use Rattle.std.proofs.Common.{◌≡◌, List, [], ◌∷◌, ◌∙◌, ap, sym, subst, reverse}
+use Rattle.std.proofs.Common.{◌≡◌, [], ◌∷◌, ◌∙◌, ap, sym, subst, reverse}
 use Rattle.std.proofs.lemmas.List.{reverse-append}
 use Rattle.gl_vmaps.specs.Chains.{maps_by, rows_in, found_in, with_versions, without_last, newest_place}
 use Rattle.gl_vmaps.specs.Journal.{CanPop}
-use Rattle.gl_vmaps.specs.declared.journal.Written.{Written}
 use Rattle.gl_vmaps.proofs.journal.pop_last.Goals as goal
 
 pub pop_version-requires : goal.pop_version-requires

@@ -1,4 +1,4 @@
-use Rattle.std.proofs.Common.{◌≡◌, ◌≤◌, arith, [], ◌∷◌, ◌++◌, refl, ap, sym, ◌∙◌, subst}
+use Rattle.std.proofs.Common.{◌≡◌, ◌≤◌, arith, [], ◌∷◌, ◌++◌, ap, sym, ◌∙◌, subst}
 use Rattle.gl_vmaps.specs.Kept.{Chains}
 use Rattle.gl_vmaps.specs.Chains.{maps_by, rows_in, newest_place}
 use Rattle.gl_vmaps.proofs.ChainLaws.{on_err, newest-empty}

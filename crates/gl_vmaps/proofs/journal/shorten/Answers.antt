@@ -1,7 +1,6 @@
-use Rattle.std.proofs.Common.{◌≡◌, refl, ap, sym, ◌∙◌, subst}
-use Rattle.gl_vmaps.specs.Kept.{Chains}
-use Rattle.gl_vmaps.specs.Chains.{maps_by, rows_in, found_in, chain_of, with_chain, with_versions, without_last, newest_place}
-use Rattle.gl_vmaps.proofs.MapLaws.{maps_by-through, rows_in-through, rows_in-by, rows_of, no_map, newest-here}
+use Rattle.std.proofs.Common.{refl, ap, sym, ◌∙◌}
+use Rattle.gl_vmaps.specs.Chains.{maps_by, without_last}
+use Rattle.gl_vmaps.proofs.MapLaws.{maps_by-through, rows_in-through, no_map, newest-here}
 use Rattle.gl_vmaps.proofs.journal.shorten.Goals as goal
 
 pub pop-requires : goal.pop-requires

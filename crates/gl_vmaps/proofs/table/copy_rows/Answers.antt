@@ -1,4 +1,4 @@
-use Rattle.std.proofs.Common.{sym, ◌∙◌}
+use Rattle.std.proofs.Common.{◌∙◌}
 use Rattle.gl_vmaps.proofs.CopyLaws.{chains-step, chains-end}
 use Rattle.gl_vmaps.proofs.table.copy_rows.Goals as goal
 

@@ -1,5 +1,4 @@
-use Rattle.std.proofs.Common.{[], ◌∷◌, ◌++◌, refl, ap, sym, ◌∙◌}
-use Rattle.gl_vmaps.specs.Chains.{chains_by, with_chain}
+use Rattle.std.proofs.Common.{[], ◌∷◌, ◌++◌, sym, ◌∙◌}
 use Rattle.gl_vmaps.proofs.ChainLaws.{chains_by-through, chains_by-same, chains_by-new, on_err}
 use Rattle.gl_vmaps.proofs.table.push_into.Goals as goal
 

@@ -1,7 +1,6 @@
-use Rattle.std.proofs.Common.{◌≡◌, List, arith, take, length, ◌-◌, refl, ap, sym, ◌∙◌}
+use Rattle.std.proofs.Common.{◌≡◌, arith, take, length, ◌-◌, refl, ap, sym, ◌∙◌}
 use Rattle.std.proofs.lemmas.Bool.Decides.{nat_tests}
 use Rattle.gl_vmaps.specs.Chains.{chains_by}
-use Rattle.gl_vmaps.specs.declared.table.Version.{Version}
 use Rattle.gl_vmaps.proofs.ChainLaws.{chains_by-through, chain_of-through, nothing_to_take, none_by_length}
 use Rattle.gl_vmaps.proofs.table.shorten.Goals as goal
 

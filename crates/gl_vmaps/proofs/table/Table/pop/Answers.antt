@@ -1,4 +1,4 @@
-use Rattle.std.proofs.Common.{◌≡◌, ◌-◌, Bool, is_some, take, length, if◌then◌else◌, ap, sym, ◌∙◌, subst}
+use Rattle.std.proofs.Common.{◌≡◌, ◌-◌, Bool, is_some, take, length, if◌then◌else◌, ap, sym, ◌∙◌}
 use Rattle.std.specs.Option.{option_and_then}
 use Rattle.gl_vmaps.specs.Chains.{chains_by, chain_of, with_chain, newest_place}
 use Rattle.gl_vmaps.specs.Kept.{Chains, last_value}

@@ -1,6 +1,6 @@
 use Rattle.std.proofs.Common.{◌≡◌, ◌≤◌, [], ◌∷◌, ◌++◌, is_some, ap, sym, ◌∙◌, subst}
 use Rattle.std.specs.Option.{option_and_then}
-use Rattle.gl_vmaps.specs.Chains.{chains_by, chain_of, present, newest_place}
+use Rattle.gl_vmaps.specs.Chains.{chains_by, chain_of, newest_place}
 use Rattle.gl_vmaps.specs.Kept.{Chains, last_value}
 use Rattle.gl_vmaps.specs.declared.table.Version.{Version}
 use Rattle.gl_vmaps.proofs.ChainLaws.{counted-with, last_value-pushed, some-count, newest-pushed}

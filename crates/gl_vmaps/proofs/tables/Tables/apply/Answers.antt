@@ -1,10 +1,9 @@
-use Rattle.std.proofs.Common.{◌≡◌, ℕ, ◌<◌, ◌≤◌, List, ◌++◌, refl, ap, sym, ◌∙◌, subst, reverse, arith}
+use Rattle.std.proofs.Common.{ℕ, ◌<◌, List, ◌++◌, ap, sym, ◌∙◌, subst, reverse, arith}
 use Rattle.gl_vmaps.specs.Kept.{Kept, last_place, version_of}
 use Rattle.gl_vmaps.specs.Chains.{Maps, maps_by, found_in}
-use Rattle.gl_vmaps.specs.Journal.{IsTidy, IsJournal, AreFresh, pushed_maps, pushed_journal}
-use Rattle.gl_vmaps.specs.Standing.{HasApplied, versions_in}
+use Rattle.gl_vmaps.specs.Journal.{IsTidy, IsJournal, AreFresh, pushed_maps}
+use Rattle.gl_vmaps.specs.Standing.{versions_in}
 use Rattle.gl_vmaps.specs.Versions.{placed_at}
-use Rattle.gl_vmaps.specs.Writes.{is_ordered}
 use Rattle.gl_vmaps.specs.declared.write.Write.{Write}
 use Rattle.gl_vmaps.proofs.MapLaws.{proper-by}
 use Rattle.gl_vmaps.proofs.JournalLaws.{fresh-above, pushed_maps-tidy, journal-pushed, found_in-pushed}

@@ -1,6 +1,6 @@
-use Rattle.std.proofs.Common.{◌≡◌, true, false, reverse, length, max, ap, sym, ◌∙◌, arith}
+use Rattle.std.proofs.Common.{◌≡◌, true, false, reverse, max, ap, sym, ◌∙◌, arith}
 use Rattle.gl_vmaps.specs.Kept.{Kept, versions_of}
-use Rattle.gl_vmaps.specs.Standing.{HasCompacted, latest_from}
+use Rattle.gl_vmaps.specs.Standing.{latest_from}
 use Rattle.gl_vmaps.specs.Chains.{maps_by}
 use Rattle.gl_vmaps.specs.Journal.{is_first_up_to}
 use Rattle.gl_vmaps.proofs.MapLaws.{proper-by}

@@ -1,6 +1,6 @@
-use Rattle.std.proofs.Common.{◌≡◌, true, false, reverse, length, ap, sym, ◌∙◌, arith}
+use Rattle.std.proofs.Common.{◌≡◌, true, false, reverse, ap, sym, ◌∙◌, arith}
 use Rattle.gl_vmaps.specs.Kept.{Kept, versions_of}
-use Rattle.gl_vmaps.specs.Standing.{HasCut, versions_up_to}
+use Rattle.gl_vmaps.specs.Standing.{versions_up_to}
 use Rattle.gl_vmaps.specs.Chains.{maps_by}
 use Rattle.gl_vmaps.specs.Journal.{is_last_above}
 use Rattle.gl_vmaps.proofs.JournalLaws.{can_pop, cuts-step, above-some, all_up_to, none_above}

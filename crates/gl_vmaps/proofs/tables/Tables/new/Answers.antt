@@ -1,5 +1,5 @@
 use Rattle.std.proofs.Common.{List, [], ap, sym, subst, reverse}
-use Rattle.gl_vmaps.specs.Chains.{Maps, maps_by, found_in}
+use Rattle.gl_vmaps.specs.Chains.{maps_by, found_in}
 use Rattle.gl_vmaps.specs.Journal.{IsTidy, IsJournal}
 use Rattle.gl_vmaps.specs.Standing.{latest_from}
 use Rattle.gl_vmaps.specs.declared.journal.Written.{Written}

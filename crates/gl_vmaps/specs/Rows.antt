@@ -1,0 +1,38 @@
+-- Rows as they stand, each with its value: what tables at a base begin with.
+use Rattle.std.specs.Prelude.{◌≡◌, ℕ, ◌<◌, ◌≤◌, List, Some, Bool, map, filter, nat_lt}
+use Rattle.std.specs.List.{AllByRecursion}
+use Rattle.gl_vmaps.specs.Tables.{Tables, no_tables, wrote_all, value_in}
+use Rattle.gl_vmaps.specs.Versions.{Placed}
+use Rattle.gl_vmaps.specs.Writes.{is_ordered}
+use Rattle.gl_vmaps.specs.declared.row.Row.{Row}
+use Rattle.gl_vmaps.specs.declared.write.Write.{Write}
+
+-- A row as the write that sets it.
+abbrev pub row_write : Row → Write
+row_write r = record { map = r.map; key = r.key; value = Some r.value }
+
+abbrev pub row_writes : List Row → List Write
+row_writes rows = map row_write rows
+
+-- Strictly ascending by map, then key.
+abbrev pub are_ascending : List Row → Bool
+are_ascending rows = is_ordered (row_writes rows)
+
+-- The tables that have these rows and no others.
+abbrev pub tables_with : List Row → Tables
+tables_with rows = wrote_all no_tables (row_writes rows)
+
+-- The tables are those with these rows.
+abbrev pub AreRowsOf : List Row → Tables → Type 0
+AreRowsOf rows tables =
+    (map key : List ℕ) → value_in (tables_with rows) map key ≡ value_in tables map key
+
+-- The writes above a place; and that all are at or below it, or above it.
+abbrev pub above : ℕ → List Placed → List Placed
+above base ps = filter (λ (p : Placed). nat_lt base p.place) ps
+
+abbrev pub AreUpTo : ℕ → List Placed → Type 0
+AreUpTo base ps = AllByRecursion (λ (p : Placed). p.place ≤ base) ps
+
+abbrev pub AreAbove : ℕ → List Placed → Type 0
+AreAbove base ps = AllByRecursion (λ (p : Placed). base < p.place) ps

@@ -1,6 +1,6 @@
 //! The disk of a program that was given none.
 
-ghost use Rattle.std.specs.Prelude.{◌≡◌, ◌^◌, ◌-◌, [], false, IsOk, IsErr};
+ghost use Rattle.std.specs.Prelude.{◌≡◌, ◌^◌, ◌-◌, ◌≤◌, [], false, IsOk, IsErr};
 ghost use Rattle.gl_outside.specs.Fault.{Counts, next_call};
 
 use crate::disk::{Disk, DiskFailed};
@@ -85,6 +85,7 @@ impl Disk for NoDisk {
     /// It takes no memory, so that callers go on to the call that fails.
     fn room(&mut self, _end: u64, _calls: u64) -> Result<(), AllocError>
         ensures ok { IsOk result }
+        ensures room { (_end ≤ 2 ^ 64 - 1) × (_calls ≤ 2 ^ 64 - 1) }
         ensures kept { self.new ≡ self.old }
     {
         Ok(())

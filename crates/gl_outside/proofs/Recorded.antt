@@ -4,13 +4,13 @@ use Rattle.std.proofs.lemmas.List.{take_more, take_all, drop_at, take-append-le,
 use Rattle.std.proofs.lemmas.Bool.Decides.{nat_tests}
 use Rattle.std.proofs.Math.Nat.{suc-mul}
 use Rattle.gl_outside.specs.Disk.{Step, Kept, Touched, Torn, IsImage, written}
-use Rattle.gl_outside.specs.Record.{done_by, step_of, reads_after, steps_after, past_of, piece_end, pieces_end, Leads}
+use Rattle.gl_outside.specs.Record.{done_by, step_of, reads_after, steps_after, past_of, gap_of, gaps_of, piece_end, pieces_end, Leads}
 use Rattle.gl_outside.specs.Tear.{left_of, torn_write, left_by, left_after}
 use Rattle.gl_outside.specs.declared.tear.Tear.TheVariants.{Old, Whole, Half, Filled}
 use Rattle.gl_outside.specs.declared.tear.Tear.{Tear}
 use Rattle.gl_outside.specs.declared.sure_disk.Call.{Call}
 use Rattle.gl_outside.specs.declared.sure_disk.Call.TheVariants.{Wrote, Lost, Synced}
-use Rattle.gl_outside.proofs.Tearing.{torn_same, torn_whole, torn_within}
+use Rattle.gl_outside.proofs.Tearing.{torn_same, torn_whole, torn_within, reads_written, reads_lost, reads_kept}
 
 reads-push : (pieces bytes : List ℕ) (calls : List Call) (call : Call) → reads_after pieces bytes (calls ++ call ∷ []) ≡ done_by pieces (reads_after pieces bytes calls) call
 reads-push pieces bytes [] call = refl
@@ -43,6 +43,28 @@ steps-more pieces more bytes past [] there = refl
 steps-more pieces more bytes past (one ∷ calls) there =
     ap (λ (b : List ℕ). steps_after (pieces ++ more) b (step_of bytes one ∷ past) calls) (done-more pieces more bytes one (omega arith))
     ∙ steps-more pieces more (done_by pieces bytes one) (step_of bytes one ∷ past) calls (omega arith)
+
+gaps-push : (pieces bytes : List ℕ) (calls : List Call) (call : Call) → gaps_of pieces bytes (calls ++ call ∷ []) ≡ gaps_of pieces bytes calls + gap_of (reads_after pieces bytes calls) call
+gaps-push pieces bytes [] call = omega arith
+gaps-push pieces bytes (one ∷ calls) call = omega (arith, gaps-push pieces (done_by pieces bytes one) calls call)
+
+gaps-more : (pieces more bytes : List ℕ) (calls : List Call) → pieces_end calls ≤ length pieces → gaps_of (pieces ++ more) bytes calls ≡ gaps_of pieces bytes calls
+gaps-more pieces more bytes [] there = refl
+gaps-more pieces more bytes (one ∷ calls) there =
+    ap (λ (b : List ℕ). gap_of bytes one + gaps_of (pieces ++ more) b calls) (done-more pieces more bytes one (omega arith))
+    ∙ ap (λ (n : ℕ). gap_of bytes one + n) (gaps-more pieces more (done_by pieces bytes one) calls (omega arith))
+
+-- Where the writes joined what reads gave, and one more does, all do.
+pub joined_on : (first pieces pieces' more : List ℕ) (calls calls' : List Call) (call : Call) (bytes : List ℕ) → pieces' ≡ pieces ++ more → calls' ≡ calls ++ call ∷ [] → pieces_end calls ≤ length pieces
+    → bytes ≡ reads_after pieces first calls → gaps_of pieces first calls ≡ 0 → gap_of bytes call ≡ 0 → gaps_of pieces' first calls' ≡ 0
+joined_on first pieces pieces' more calls calls' call bytes is_pieces is_calls there read so_far joins =
+    let one_more : gaps_of pieces' first calls' ≡ gaps_of pieces first calls + gap_of (reads_after pieces first calls) call =
+    ap (λ (l : List ℕ). gaps_of l first calls') is_pieces
+    ∙ ap (gaps_of (pieces ++ more) first) is_calls
+    ∙ gaps-push (pieces ++ more) first calls call
+    ∙ ap (λ (b : List ℕ). gaps_of (pieces ++ more) first calls + gap_of b call) (reads-more pieces more first calls there)
+    ∙ ap (λ (n : ℕ). n + gap_of (reads_after pieces first calls) call) (gaps-more pieces more first calls there) in
+    omega (arith, one_more, so_far, ap (λ (b : List ℕ). gap_of b call) read, joins)
 
 pub pieces_end-push : (calls : List Call) (call : Call) → pieces_end (calls ++ call ∷ []) ≡ max (pieces_end calls) (piece_end call)
 pieces_end-push [] call = omega arith
@@ -164,3 +186,26 @@ pub leads_left : (pieces : List ℕ) (tear : Tear) (bytes image : List ℕ) (cal
 leads_left pieces tear bytes image (Wrote at start count) there = torn_range pieces tear image at start count there
 leads_left pieces tear bytes image (Lost at start count) there = torn_range pieces tear image at start count there
 leads_left pieces tear bytes image Synced there = refl
+
+-- What reads give is among what a stop may leave.
+
+image_done : (pieces bytes : List ℕ) (past : List Step) (call : Call) → piece_end call ≤ length pieces → gap_of bytes call ≡ 0 → IsImage past bytes
+    → IsImage (step_of bytes call ∷ past) (done_by pieces bytes call)
+image_done pieces bytes past (Wrote at start count) there joins left =
+    let piece : List ℕ = slice_range pieces start (start + count) in
+    subst (λ (n : ℕ). IsImage (Touched at n ∷ past) (written bytes at piece)) (range_size pieces start count there)
+    (reads_written past (Touched at (length piece) ∷ past) bytes (written bytes at piece) at piece (omega arith) refl refl left)
+image_done pieces bytes past (Lost at start count) there joins left = reads_lost past (Touched at count ∷ past) bytes bytes at count refl refl left
+image_done pieces bytes past Synced there joins left = reads_kept past (Kept bytes ∷ past) bytes bytes refl refl
+
+image_read : (pieces bytes : List ℕ) (past : List Step) (calls : List Call) → pieces_end calls ≤ length pieces → gaps_of pieces bytes calls ≡ 0 → IsImage past bytes
+    → IsImage (steps_after pieces bytes past calls) (reads_after pieces bytes calls)
+image_read pieces bytes past [] there joined left = left
+image_read pieces bytes past (one ∷ calls) there joined left =
+    image_read pieces (done_by pieces bytes one) (step_of bytes one ∷ past) calls (omega arith) (omega arith)
+    (image_done pieces bytes past one (omega arith) (omega arith) left)
+
+pub as_read : (first pieces : List ℕ) (calls : List Call) (bytes : List ℕ) → pieces_end calls ≤ length pieces → gaps_of pieces first calls ≡ 0 → bytes ≡ reads_after pieces first calls
+    → IsImage (past_of first pieces calls) bytes
+as_read first pieces calls bytes there joined read =
+    subst (IsImage (past_of first pieces calls)) (sym read) (image_read pieces first (Kept first ∷ []) calls there joined refl)

@@ -32,9 +32,29 @@ torn_whole bytes at piece in_order = record {
   no_longer = omega (arith, length-written bytes at piece in_order);
 }
 
--- The bytes that reads give are among those that a stop may leave, also behind a write.
-pub reads_written : (past : List Step) (bytes : List ℕ) (at : ℕ) (piece : List ℕ) → at ≤ length bytes → IsImage past bytes → IsImage (Touched at (length piece) ∷ past) (written bytes at piece)
-reads_written past bytes at piece joined left = (bytes, left, torn_whole bytes at piece joined)
+-- The bytes that reads give are among those that a stop may leave: behind a write,
+pub reads_written : (past past' : List Step) (bytes bytes' : List ℕ) (at : ℕ) (piece : List ℕ) → at ≤ length bytes
+    → past' ≡ Touched at (length piece) ∷ past → bytes' ≡ written bytes at piece → IsImage past bytes → IsImage past' bytes'
+reads_written past past' bytes bytes' at piece joined is_past is_bytes left =
+    let here : IsImage (Touched at (length piece) ∷ past) (written bytes at piece) = (bytes, left, torn_whole bytes at piece joined) in
+    subst (λ (p : List Step). IsImage p bytes') (sym is_past) (subst (IsImage (Touched at (length piece) ∷ past)) (sym is_bytes) here)
+
+-- behind one that failed and did nothing,
+pub reads_lost : (past past' : List Step) (bytes bytes' : List ℕ) (at count : ℕ)
+    → past' ≡ Touched at count ∷ past → bytes' ≡ bytes → IsImage past bytes → IsImage past' bytes'
+reads_lost past past' bytes bytes' at count is_past is_bytes left =
+    let here : IsImage (Touched at count ∷ past) bytes = (bytes, left, torn_same at count bytes) in
+    subst (λ (p : List Step). IsImage p bytes') (sym is_past) (subst (IsImage (Touched at count ∷ past)) (sym is_bytes) here)
+
+-- behind a sync,
+pub reads_kept : (past past' : List Step) (bytes bytes' : List ℕ) → past' ≡ Kept bytes ∷ past → bytes' ≡ bytes → IsImage past' bytes'
+reads_kept past past' bytes bytes' is_past is_bytes =
+    subst (λ (p : List Step). IsImage p bytes') (sym is_past) is_bytes
+
+-- and behind a call that did no step.
+pub reads_stayed : (past past' : List Step) (bytes bytes' : List ℕ) → past' ≡ past → bytes' ≡ bytes → IsImage past bytes → IsImage past' bytes'
+reads_stayed past past' bytes bytes' is_past is_bytes left =
+    subst (λ (p : List Step). IsImage p bytes') (sym is_past) (subst (IsImage past) (sym is_bytes) left)
 
 same_front : (from at : ℕ) (a b : List ℕ) → from ≤ at → take at a ≡ take at b → take from a ≡ take from b
 same_front from at a b below same =

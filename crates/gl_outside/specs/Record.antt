@@ -1,6 +1,6 @@
 -- The record that a disk in memory keeps: what it held at first, its writes and syncs, the oldest
 -- first, and the pieces of all writes, one behind the other.
-use Rattle.std.specs.Prelude.{◌≡◌, ℕ, ◌+◌, max, List, [], ◌∷◌, slice_range}
+use Rattle.std.specs.Prelude.{◌≡◌, ℕ, ◌+◌, ◌-◌, max, List, [], ◌∷◌, length, slice_range}
 use Rattle.gl_outside.specs.Disk.{Step, Kept, Touched, Torn, written}
 use Rattle.gl_outside.specs.declared.sure_disk.Call.{Call}
 use Rattle.gl_outside.specs.declared.sure_disk.Call.TheVariants.{Wrote, Lost, Synced}
@@ -30,6 +30,17 @@ steps_after pieces bytes past (call ∷ calls) =
 -- The steps of the calls on record. What was held at first, a stop leaves.
 abbrev pub past_of : List ℕ → List ℕ → List Call → List Step
 past_of first pieces calls = steps_after pieces first (Kept first ∷ []) calls
+
+-- By how much a write began past the end of what reads gave.
+abbrev pub gap_of : List ℕ → Call → ℕ
+gap_of bytes (Wrote at start count) = at - length bytes
+gap_of bytes (Lost at start count) = 0
+gap_of bytes Synced = 0
+
+abbrev pub gaps_of : List ℕ → List ℕ → List Call → ℕ
+gaps_of pieces bytes [] = 0
+gaps_of pieces bytes (call ∷ calls) =
+    gap_of bytes call + gaps_of pieces (done_by pieces bytes call) calls
 
 -- How far into the pieces the calls reach.
 abbrev pub piece_end : Call → ℕ

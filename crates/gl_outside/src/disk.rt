@@ -1,6 +1,6 @@
 ghost use Rattle.std.specs.Prelude.{◌≡◌, ℕ, ◌+◌, ◌<◌, ◌≤◌, Bool, List, ◌∷◌, length, slice_range, IsTrue, IfOk, OnOk, OnErr};
 ghost use Rattle.gl_outside.specs.Fault.{Counts};
-ghost use Rattle.gl_outside.specs.Disk.{Step, Kept, Touched, written};
+ghost use Rattle.gl_outside.specs.Disk.{Step, Kept, Touched, IsImage, written};
 
 use std::alloc::AllocError;
 use thiserror::Error;
@@ -38,6 +38,8 @@ pub trait Disk {
     /// How many bytes there are.
     fn len(&mut self) -> Result<u64, DiskFailed>
         ensures len { IsTrue honest → IfOk result (λ n. n ≡ length (bytes self.old)) }
+        // A stop may leave the bytes as they read.
+        ensures image { IsTrue honest → OnOk result (IsImage (past self.new) (bytes self.new)) }
         ensures bytes { IsTrue honest → bytes self.new ≡ bytes self.old }
         ensures past { IsTrue honest → past self.new ≡ past self.old }
         ensures room { (room_end self.new ≡ room_end self.old)
@@ -80,9 +82,12 @@ pub trait Disk {
             × (room_calls self.old ≤ room_calls self.new + 1) }
         ensures faults { Counts (faults self.old) (faults self.new) result };
 
-    /// Takes the memory for so many writes and syncs, the writes up to that place.
+    /// Takes the memory for so many writes and syncs, the writes up to that place. What was there
+    /// before stays, also where there is no memory for more.
     fn room(&mut self, end: u64, calls: u64) -> Result<(), AllocError>
         ensures room { OnOk result ((end ≤ room_end self.new) × (calls ≤ room_calls self.new)) }
+        ensures kept { (room_end self.old ≤ room_end self.new)
+            × (room_calls self.old ≤ room_calls self.new) }
         ensures bytes { IsTrue honest → bytes self.new ≡ bytes self.old }
         ensures past { IsTrue honest → past self.new ≡ past self.old }
         ensures faults { faults self.new ≡ faults self.old };

@@ -1,6 +1,7 @@
-/// What a call of the service goes through before each of its attempts.
+/// What a worker with a call of the service goes through before its first turn, before each
+/// finish, and when its answer is ready.
 pub trait Gate {
-    /// Lets this call go on. It may wait.
+    /// Lets the worker with this call go on. It may wait.
     fn enter(&self, call: u64);
 }
 

@@ -1,7 +1,7 @@
 //! A disk in memory, of whose calls chosen ones fail.
 
 ghost use Rattle.std.specs.Prelude.{◌≡◌, ◌↔◌, ◌+◌, ◌<◌, ◌≤◌, ◌∷◌, length, true, slice_range, IsTrue, IfOk, OnOk, OnErr, IsErr};
-ghost use Rattle.gl_outside.specs.Disk.{Kept, Touched, written};
+ghost use Rattle.gl_outside.specs.Disk.{Kept, Touched, IsImage, written};
 ghost use Rattle.gl_outside.specs.Fault.{Counts, next_call};
 ghost use Rattle.gl_outside.specs.Plan.{faults_of, fails_next};
 ghost use Rattle.gl_outside.specs.SureDisk.{disk_past};
@@ -57,6 +57,8 @@ impl Disk for MemDisk<'_> {
         ensures faults { Counts (faults_of self.old.plan) (faults_of self.new.plan) result }
 
         ensures len { IfOk result (λ n. n ≡ length self.old.inner.bytes.items) }
+        ensures image { OnOk result
+            (IsImage (disk_past self.new.inner) self.new.inner.bytes.items) }
         ensures bytes { self.new.inner.bytes.items ≡ self.old.inner.bytes.items }
         ensures past { disk_past self.new.inner ≡ disk_past self.old.inner }
         ensures room { (self.new.inner.room_end ≡ self.old.inner.room_end)
@@ -136,6 +138,8 @@ impl Disk for MemDisk<'_> {
         ensures plan { self.new.plan ≡ self.old.plan }
         ensures room { OnOk result
             ((end ≤ self.new.inner.room_end) × (calls ≤ self.new.inner.room_calls)) }
+        ensures kept { (self.old.inner.room_end ≤ self.new.inner.room_end)
+            × (self.old.inner.room_calls ≤ self.new.inner.room_calls) }
         ensures bytes { self.new.inner.bytes.items ≡ self.old.inner.bytes.items }
         ensures past { disk_past self.new.inner ≡ disk_past self.old.inner }
     {

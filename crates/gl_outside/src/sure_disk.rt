@@ -4,7 +4,7 @@
 ghost use Rattle.std.specs.Prelude.{◌≡◌, ◌+◌, ◌*◌, ◌<◌, ◌≤◌, [], ◌∷◌, ◌++◌, length, true, vec_len, vec_capacity, take, IfOk, OnOk};
 ghost use Rattle.gl_outside.specs.Disk.{Kept, Touched, IsImage, written};
 ghost use Rattle.gl_outside.specs.Tear.{left_by, left_after};
-ghost use Rattle.gl_outside.specs.Record.{reads_after, past_of, pieces_end, piece_end, done_by};
+ghost use Rattle.gl_outside.specs.Record.{reads_after, past_of, gaps_of, pieces_end, piece_end, done_by};
 
 use crate::disk::{Disk, DiskFailed};
 use crate::tear::{Tear, tear_write};
@@ -43,6 +43,8 @@ pub struct SureDisk {
     /// How many writes and syncs take none.
     pub room_calls: usize,
     ghost reads: { bytes.items ≡ reads_after pieces.items first.items calls.items },
+    // So the bytes as they read are among those that a stop may leave.
+    ghost joined: { gaps_of pieces.items first.items calls.items ≡ 0 },
     ghost pieces_there: { pieces_end calls.items ≤ vec_len pieces },
     ghost bytes_within: { vec_len bytes ≤ room_end },
     ghost bytes_fit: { room_end ≤ vec_capacity bytes },
@@ -245,7 +247,7 @@ impl Disk for SureDisk {
 
     fn room(&mut self, end: u64, calls: u64) -> Result<(), AllocError> {
         let end = (end as usize).max(self.room_end);
-        let calls = calls as usize;
+        let calls = (calls as usize).max(self.room_calls);
         let Some(pieces) = calls.checked_mul(end) else {
             return Err(AllocError);
         };

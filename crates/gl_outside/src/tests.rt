@@ -2,10 +2,10 @@ ghost use Rattle.std.specs.Prelude.{◌≤◌, IfOk};
 
 use super::*;
 use std::alloc::Global;
-use std::io;
 use std::io::{ErrorKind, Read, Write};
 use std::sync::{Mutex, Wait};
 use std::test::*;
+use std::{io, thread};
 
 /// Reads until the end, over any failed reads, and counts those.
 fn drain<S: Source + Drop>(mut source: S, out: &mut Vec<u8>) -> Result<u64, Fail> {
@@ -181,6 +181,11 @@ fn a_stop_leaves_what_was_kept_and_torn_writes(rt: HostRuntime) -> Result<(), Fa
         assert_eq!(rt; image.as_slice(), left, "behind call {calls}");
     }
     assert!(rt; syncs(&mut disk));
+    let mut none = NoDisk::new();
+    assert_eq!(rt;
+        (syncs(&mut none), none.len(), none.faults()),
+        (false, Err(DiskFailed), 2)
+    );
     Ok(())
 }
 
@@ -224,4 +229,17 @@ fn a_gate_may_wait(rt: HostRuntime) {
     gate.enter(7);
     assert_eq!(rt; *gate.last.lock(&rt), 7);
     OpenGate.enter(7);
+}
+
+#[test]
+fn a_thread_takes_a_disk_and_shares_a_gate(rt: HostRuntime) {
+    let disk = MemDisk::new(SureDisk::new(rt.alloc()), &[]);
+    let gate = OpenGate;
+    let shared = &gate;
+    let there = move || {
+        shared.enter(1);
+        syncs(disk)
+    };
+    let (synced, _) = thread::join(&rt, there, || shared.enter(2));
+    assert!(rt; synced);
 }

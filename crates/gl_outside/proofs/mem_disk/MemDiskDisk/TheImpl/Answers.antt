@@ -9,6 +9,7 @@ use Rattle.gl_outside.proofs.mem_disk.MemDiskDisk.TheImpl.Goals as goal
 pub len-tells : goal.len-tells
 len-tells g c = record {
   len = λ h. c.ensures.len;
+  image = λ h. c.ensures.image;
   bytes = λ h. c.ensures.bytes;
   past = λ h. c.ensures.past;
   room = c.ensures.room;
@@ -54,6 +55,7 @@ sync-tells g c = record {
 pub room-tells : goal.room-tells
 room-tells g c = record {
   room = c.ensures.room;
+  kept = c.ensures.kept;
   bytes = λ h. c.ensures.bytes;
   past = λ h. c.ensures.past;
   faults = ap faults_of c.ensures.plan;

@@ -1,6 +1,6 @@
-use Rattle.std.proofs.Common.{[], ◌∙◌, sym, ap, arith, append-nil}
+use Rattle.std.proofs.Common.{[], refl, ◌∙◌, sym, ap, arith, append-nil}
 use Rattle.gl_outside.specs.Record.{pieces_end}
-use Rattle.gl_outside.proofs.Recorded.{recorded, read_on, pieces_end-push, one_call_less}
+use Rattle.gl_outside.proofs.Recorded.{recorded, read_on, joined_on, pieces_end-push, one_call_less}
 use Rattle.gl_outside.specs.declared.sure_disk.Call.TheVariants.{Synced}
 use Rattle.gl_outside.proofs.sure_disk.SureDiskDisk.sync.Goals as goal
 
@@ -13,6 +13,10 @@ pub invariant_of-self-clause-reads : goal.invariant_of-self-clause-reads
 invariant_of-self-clause-reads c =
     c.args.self.now.reads
     ∙ sym (read_on _ _ _ [] _ _ Synced (sym (append-nil c.args.self.now.pieces.items)) c.note.ensures.items (omega arith))
+
+pub invariant_of-self-clause-joined : goal.invariant_of-self-clause-joined
+invariant_of-self-clause-joined c =
+    joined_on _ _ _ [] _ _ Synced c.args.self.now.bytes.items (sym (append-nil c.args.self.now.pieces.items)) c.note.ensures.items (omega arith) c.args.self.now.reads c.args.self.now.joined refl
 
 pub invariant_of-self-clause-pieces_there : goal.invariant_of-self-clause-pieces_there
 invariant_of-self-clause-pieces_there c =

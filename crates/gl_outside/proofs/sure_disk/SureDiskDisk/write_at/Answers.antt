@@ -1,7 +1,7 @@
-use Rattle.std.proofs.Common.{ℕ, List, length, ◌∙◌, sym, ap, arith, length-append}
+use Rattle.std.proofs.Common.{ℕ, List, length, refl, ◌∙◌, sym, ap, arith, length-append}
 use Rattle.gl_outside.specs.Disk.{written}
 use Rattle.gl_outside.specs.Record.{pieces_end}
-use Rattle.gl_outside.proofs.Recorded.{recorded, read_on, pieces_end-push, one_call_less, last_piece}
+use Rattle.gl_outside.proofs.Recorded.{recorded, read_on, joined_on, pieces_end-push, one_call_less, last_piece}
 use Rattle.gl_outside.specs.declared.sure_disk.Call.TheVariants.{Wrote}
 use Rattle.gl_outside.proofs.sure_disk.SureDiskDisk.write_at.Goals as goal
 
@@ -16,6 +16,10 @@ invariant_of-self-clause-reads c =
     ∙ ap (λ (b : List ℕ). written b c.args.at c.args.piece.now) c.args.self.now.reads
     ∙ ap (written _ c.args.at) (sym piece)
     ∙ sym (read_on _ _ _ _ _ _ (Wrote c.args.at c.len-start.result (length c.args.piece.now)) c.append.ensures.items c.note.ensures.items (omega arith))
+
+pub invariant_of-self-clause-joined : goal.invariant_of-self-clause-joined
+invariant_of-self-clause-joined c =
+    joined_on _ _ _ _ _ _ (Wrote c.args.at c.len-start.result (length c.args.piece.now)) c.args.self.now.bytes.items c.append.ensures.items c.note.ensures.items (omega arith) c.args.self.now.reads c.args.self.now.joined (omega (arith, c.requires.joined refl))
 
 pub invariant_of-self-clause-pieces_there : goal.invariant_of-self-clause-pieces_there
 invariant_of-self-clause-pieces_there c =

@@ -3,15 +3,15 @@ use Rattle.std.proofs.Common.{◌≡◌, ℕ, ◌+◌, ◌/◌, ◌^◌, List, r
 use Rattle.std.proofs.Math.Nat.{div-div-eq-div-mul}
 use Rattle.std.proofs.lemmas.Grind.{pow_more}
 use Rattle.gl_hss.specs.Bytes.{block}
-use Rattle.gl_hss.specs.Tree.{parent, climbed}
+use Rattle.gl_hss.specs.Tree.{parent, climb}
 
-pub climbed-none : (identifier path : List ℕ) (r : ℕ) (value : List ℕ) → climbed identifier path r 0 value ≡ value
-unfolding climbed
-climbed-none identifier path r value = refl
+pub climb-none : (identifier path : List ℕ) (r : ℕ) (value : List ℕ) → climb identifier path r 0 value ≡ value
+unfolding climb
+climb-none identifier path r value = refl
 
-pub climbed-more : (identifier path : List ℕ) (r i : ℕ) (value : List ℕ) → climbed identifier path r (i + 1) value ≡ parent identifier (r / 2 ^ i) (block path i) (climbed identifier path r i value)
-unfolding climbed
-climbed-more identifier path r i value = rw add-one refl
+pub climb-more : (identifier path : List ℕ) (r i : ℕ) (value : List ℕ) → climb identifier path r (i + 1) value ≡ parent identifier (r / 2 ^ i) (block path i) (climb identifier path r i value)
+unfolding climb
+climb-more identifier path r i value = rw add-one refl
 
 -- the node one level further up
 pub halved-more : (r i : ℕ) → r / 2 ^ i / 2 ≡ r / 2 ^ (i + 1)

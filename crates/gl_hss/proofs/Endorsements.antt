@@ -1,6 +1,6 @@
 -- An endorsement is accepted exactly where it is one, and stands for the upper level that it is.
 use Rattle.std.proofs.Common.{◌≡◌, ℕ, ◌+◌, ◌-◌, ◌*◌, true, List, length, Ok, refl, sym, ap, ap₂, subst, ◌∙◌, arith}
-use Rattle.std.specs.Prelude.{◌==◌, IsOk}
+use Rattle.std.specs.Prelude.{◌==◌}
 use Rattle.std.proofs.lemmas.Bool.Decides.{nat_tests}
 use Rattle.gl_hss.specs.declared.types.Types.{Types}
 use Rattle.gl_hss.specs.declared.fault.HssFault.TheVariants as fault
@@ -11,7 +11,7 @@ use Rattle.gl_hss.specs.Hss.{IsEndorsed}
 use Rattle.gl_hss.specs.Order.{◌>>◌, check, ends, has_root, top_key, signature_fields, signature_at, one_level, endorsement_verdict}
 use Rattle.gl_hss.proofs.Spans.{IsBytes, Spans, Spans-append, spans_number, spans_all, all_spans, bytes_at-bytes_at}
 use Rattle.gl_hss.proofs.Readings.{then_ok, bind_ok, check_ok, top_key_ok, top_key_there, signature_at_ok}
-use Rattle.gl_hss.proofs.Verdicts.{key_is, one_level_ok, one_level_there, hss_key_stands, ok_nothing}
+use Rattle.gl_hss.proofs.Verdicts.{key_is, one_level_ok, one_level_there, hss_key_stands}
 
 -- what is accepted is an endorsement
 pub endorsement_ok : (identity key e : List ℕ) → IsBytes identity → length identity ≡ 60 → IsBytes e → endorsement_verdict identity key e ≡ Ok tt → IsEndorsed identity key e
@@ -63,10 +63,10 @@ fields-copied t s =
     ) refl
 
 -- a signature by the key on top, whose upper level is an endorsement, leads to its root there
-pub endorsed_root : (identity key e s : List ℕ) (k : PublicKey) (g : Signature) (at : ℕ) → IsOk (endorsement_verdict identity key e) → top_key identity ≡ Ok k → g ≡ signature_fields k.types s 4 → at ≡ 4 + signature_len k.types → bytes_at s 4 (at - 4) ≡ e → bytes_at s at 56 ≡ key → has_root k g (bytes_at s at 56) ≡ Ok tt
+pub endorsed_root : (identity key e s : List ℕ) (k : PublicKey) (g : Signature) (at : ℕ) → IsEndorsed identity key e → top_key identity ≡ Ok k → g ≡ signature_fields k.types s 4 → at ≡ 4 + signature_len k.types → bytes_at s 4 (at - 4) ≡ e → bytes_at s at 56 ≡ key → has_root k g (bytes_at s at 56) ≡ Ok tt
 unfolding endorsement_verdict one_level
-endorsed_root identity key e s k g at ok top fields place signature-is key-is =
-    let verified = ok_nothing (endorsement_verdict identity key e) ok in
+endorsed_root identity key e s k g at endorsed top fields place signature-is key-is =
+    let verified = endorsement_there identity key e endorsed in
     let test = check (number_at identity 0 == 2) (fault.Levels 2 (number_at identity 0)) in
     let front = bind_ok (test >> top_key identity) (λ (x : PublicKey). one_level x key e 0) tt verified in
     let read = then_ok test (top_key identity) front.0 front.1 in

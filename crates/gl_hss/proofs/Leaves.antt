@@ -1,6 +1,6 @@
 -- A leaf is found exactly where the bytes spell a signature with that leaf.
 use Rattle.std.proofs.Common.{◌≡◌, ℕ, suc, ◌+◌, ◌*◌, ◌^◌, ◌<◌, ◌≤◌, Bool, true, false, List, [], ◌∷◌, ◌++◌, length, Option, Some, Result, Ok, refl, sym, ap, subst, ◌∙◌, arith, inl, inr}
-use Rattle.std.specs.Prelude.{◌==◌, ◌||◌, if◌then◌else◌}
+use Rattle.std.specs.Prelude.{ok_or, ◌==◌, ◌||◌, if◌then◌else◌}
 use Rattle.std.proofs.lemmas.Bool.{cases_eq}
 use Rattle.std.proofs.lemmas.Bool.Decides.{nat_tests}
 use Rattle.std.proofs.lemmas.List.{length-append}
@@ -12,10 +12,10 @@ use Rattle.gl_hss.specs.Bytes.{u32str, number_at}
 use Rattle.gl_hss.specs.Types.{height, chain_count, lms_code, ots_code, signature_len, types_of}
 use Rattle.gl_hss.specs.Tree.{Signature, PublicKey, signature_bytes}
 use Rattle.gl_hss.specs.Hss.{IsSignature, Upper, levels_bytes, hss_bytes, AreLevels, HasLeaf}
-use Rattle.gl_hss.specs.Order.{◌>>=◌, ◌>>◌, check, known, reaches, ends, has_leaf, least_types, embedded_key, signature_fields, signature_at, first_signature, leaf_of_one, leaf_below, leaf_of_two, leaf_verdict}
+use Rattle.gl_hss.specs.Order.{◌>>=◌, ◌>>◌, check, reaches, ends, has_leaf, least_types, embedded_key, signature_fields, signature_at, first_signature, leaf_of_one, leaf_below, leaf_of_two, leaf_verdict}
 use Rattle.gl_hss.proofs.Spans.{IsBytes, Spans, Spans-append, spans_number, spans_all, all_spans, spans_left, length-u32str, number_at-Spans}
 use Rattle.gl_hss.proofs.Spelled.{SignatureStands, signature_stands, length-signature_bytes}
-use Rattle.gl_hss.proofs.Readings.{then_ok, bind_ok, check_ok, known_ok, reaches_ok, reaches_room, ends_ok, ends_there, has_leaf_ok, has_leaf_there, types_of_ok, types_of_codes, embedded_key_ok, embedded_key_there, IsReadSignature, signature_at_ok, signature_at_there}
+use Rattle.gl_hss.proofs.Readings.{then_ok, bind_ok, check_ok, ok_or_ok, reaches_ok, reaches_room, ends_ok, ends_there, has_leaf_ok, has_leaf_there, types_of_ok, types_of_codes, embedded_key_ok, embedded_key_there, IsReadSignature, signature_at_ok, signature_at_there}
 use Rattle.gl_hss.proofs.Verdicts.{key_is, signature_is, length-last, two_stand, levels_span}
 
 -- ---- the first signature
@@ -47,13 +47,13 @@ first_signature_ok : (s : List ℕ) (behind : ℕ) (x : Types × ℕ) → first_
 unfolding first_signature
 first_signature_ok s behind x e =
     let tail = λ (least : Types). λ (t : Types). has_leaf t (number_at s 4) >> reaches s (4 + signature_len t) (4 + signature_len t + behind) >> found t (number_at s 4) in
-    let rest = λ (least : Types). reaches s (48 + 32 * chain_count least) (4 + signature_len least + behind) >> known (types_of (number_at s (44 + 32 * chain_count least)) (number_at s 8)) (fault.Types (44 + 32 * chain_count least)) >>= tail least in
-    let first = bind_ok (reaches s 12 (4 + signature_len H5W8 + behind) >> known (least_types (number_at s 8)) (fault.Types 8)) rest x e in
+    let rest = λ (least : Types). reaches s (48 + 32 * chain_count least) (4 + signature_len least + behind) >> ok_or (types_of (number_at s (44 + 32 * chain_count least)) (number_at s 8)) (fault.Types (44 + 32 * chain_count least)) >>= tail least in
+    let first = bind_ok (reaches s 12 (4 + signature_len H5W8 + behind) >> ok_or (least_types (number_at s 8)) (fault.Types 8)) rest x e in
     let least = first.0 in
-    let least-is = known_ok (least_types (number_at s 8)) (fault.Types 8) least (then_ok (reaches s 12 (4 + signature_len H5W8 + behind)) (known (least_types (number_at s 8)) (fault.Types 8)) least first.1).1 in
-    let second = bind_ok (reaches s (48 + 32 * chain_count least) (4 + signature_len least + behind) >> known (types_of (number_at s (44 + 32 * chain_count least)) (number_at s 8)) (fault.Types (44 + 32 * chain_count least))) (tail least) x first.2 in
+    let least-is = ok_or_ok (least_types (number_at s 8)) (fault.Types 8) least (then_ok (reaches s 12 (4 + signature_len H5W8 + behind)) (ok_or (least_types (number_at s 8)) (fault.Types 8)) least first.1).1 in
+    let second = bind_ok (reaches s (48 + 32 * chain_count least) (4 + signature_len least + behind) >> ok_or (types_of (number_at s (44 + 32 * chain_count least)) (number_at s 8)) (fault.Types (44 + 32 * chain_count least))) (tail least) x first.2 in
     let t = second.0 in
-    let codes = types_of_ok (number_at s (44 + 32 * chain_count least)) (number_at s 8) t (known_ok (types_of (number_at s (44 + 32 * chain_count least)) (number_at s 8)) (fault.Types (44 + 32 * chain_count least)) t (then_ok (reaches s (48 + 32 * chain_count least) (4 + signature_len least + behind)) (known (types_of (number_at s (44 + 32 * chain_count least)) (number_at s 8)) (fault.Types (44 + 32 * chain_count least))) t second.1).1) in
+    let codes = types_of_ok (number_at s (44 + 32 * chain_count least)) (number_at s 8) t (ok_or_ok (types_of (number_at s (44 + 32 * chain_count least)) (number_at s 8)) (fault.Types (44 + 32 * chain_count least)) t (then_ok (reaches s (48 + 32 * chain_count least) (4 + signature_len least + behind)) (ok_or (types_of (number_at s (44 + 32 * chain_count least)) (number_at s 8)) (fault.Types (44 + 32 * chain_count least))) t second.1).1) in
     let last = then_ok (has_leaf t (number_at s 4) >> reaches s (4 + signature_len t) (4 + signature_len t + behind)) (found t (number_at s 4)) x second.2 in
     let front = then_ok (has_leaf t (number_at s 4)) (reaches s (4 + signature_len t) (4 + signature_len t + behind)) last.0.0 last.0.1 in
     let chains : chain_count least ≡ chain_count t = least_chains t least (ap least_types (sym codes.1) ∙ least-is) in
@@ -79,9 +79,9 @@ first_signature_there t g s behind h leaf =
     let ots : number_at s 8 ≡ ots_code t = h.codes.ots in
     let lms : number_at s (44 + 32 * chain_count least.0) ≡ lms_code t = rw chains h.codes.lms in
     let leaf-is : number_at s 4 ≡ g.leaf = ap (λ (x : Signature). x.leaf) h.fields in
-    let least-read : known (least_types (number_at s 8)) (fault.Types 8) ≡ Ok least.0 = ap (λ (o : Option Types). known o (fault.Types 8)) (ap least_types ots ∙ least.1) in
-    let types-read : known (types_of (number_at s (44 + 32 * chain_count least.0)) (number_at s 8)) (fault.Types (44 + 32 * chain_count least.0)) ≡ Ok t =
-    ap (λ (o : Option Types). known o (fault.Types (44 + 32 * chain_count least.0))) (ap (λ (n : ℕ). types_of n (number_at s 8)) lms ∙ ap (types_of (lms_code t)) ots ∙ types_of_codes t) in
+    let least-read : ok_or (least_types (number_at s 8)) (fault.Types 8) ≡ Ok least.0 = ap (λ (o : Option Types). ok_or o (fault.Types 8)) (ap least_types ots ∙ least.1) in
+    let types-read : ok_or (types_of (number_at s (44 + 32 * chain_count least.0)) (number_at s 8)) (fault.Types (44 + 32 * chain_count least.0)) ≡ Ok t =
+    ap (λ (o : Option Types). ok_or o (fault.Types (44 + 32 * chain_count least.0))) (ap (λ (n : ℕ). types_of n (number_at s 8)) lms ∙ ap (types_of (lms_code t)) ots ∙ types_of_codes t) in
     rw (
       reaches_room s 12 (4 + signature_len H5W8 + behind) (omega (arith, h.room)),
       least-read,

@@ -1,6 +1,6 @@
 -- What a reading that found no fault says, and what is read without a fault.
 use Rattle.std.proofs.Common.{◌≡◌, ℕ, ◌+◌, ◌*◌, ◌^◌, ◌<◌, ◌≤◌, Bool, true, false, List, length, Option, Some, None, Result, Ok, Err, refl, sym, ap, ◌∙◌, arith}
-use Rattle.std.specs.Prelude.{◌||◌, ◌==◌, nat_lt, nat_le}
+use Rattle.std.specs.Prelude.{ok_or, ◌||◌, ◌==◌, nat_lt, nat_le}
 use Rattle.std.specs.Str.{bytes_eq}
 use Rattle.std.proofs.lemmas.Bool.Decides.{nat_tests}
 use Rattle.std.proofs.lemmas.Slice.Eq.{bytes_eq-Decides}
@@ -11,7 +11,7 @@ use Rattle.gl_hss.specs.declared.fault.HssFault.TheVariants as fault
 use Rattle.gl_hss.specs.Bytes.{number_at}
 use Rattle.gl_hss.specs.Types.{height, chain_count, lms_code, ots_code, signature_len, types_of}
 use Rattle.gl_hss.specs.Tree.{Signature, PublicKey, root_candidate}
-use Rattle.gl_hss.specs.Order.{◌>>=◌, ◌>>◌, check, known, reaches, ends, has_code, has_leaf, has_root, types_at, key_fields, embedded_key, top_key, signature_fields, signature_at}
+use Rattle.gl_hss.specs.Order.{◌>>=◌, ◌>>◌, check, reaches, ends, has_code, has_leaf, has_root, types_at, key_fields, embedded_key, top_key, signature_fields, signature_at}
 use Rattle.gl_hss.proofs.Spelled.{HasKeyCodes, HasCodes, KeyStands, SignatureStands}
 
 -- ---- steps that found no fault
@@ -28,9 +28,9 @@ pub check_ok : (b : Bool) (f : HssFault) (u : Unit {0}) → check b f ≡ Ok u �
 check_ok true f u e = refl
 check_ok false f u e = absurd cc
 
-pub known_ok : {A : Type 0} (o : Option A) (f : HssFault) (x : A) → known o f ≡ Ok x → o ≡ Some x
-known_ok (Some y) f x e = cc
-known_ok None f x e = absurd cc
+pub ok_or_ok : {A : Type 0} (o : Option A) (f : HssFault) (x : A) → ok_or o f ≡ Ok x → o ≡ Some x
+ok_or_ok (Some y) f x e = cc
+ok_or_ok None f x e = absurd cc
 
 -- ---- tests
 
@@ -119,7 +119,7 @@ pub types_at_ok : (s : List ℕ) (at want : ℕ) (t : Types) → types_at s at w
 unfolding types_at
 types_at_ok s at want t e =
     let last = then_ok _ _ t e in
-    let found = types_of_ok (number_at s at) (number_at s (at + 4)) t (known_ok (types_of (number_at s at) (number_at s (at + 4))) (fault.Types (at + 4)) t last.1) in
+    let found = types_of_ok (number_at s at) (number_at s (at + 4)) t (ok_or_ok (types_of (number_at s at) (number_at s (at + 4))) (fault.Types (at + 4)) t last.1) in
     record { lms = found.0; ots = found.1 }
 
 pub types_at_there : (t : Types) (s : List ℕ) (at want : ℕ) → at + 8 ≤ length s → HasKeyCodes t s at → types_at s at want ≡ Ok t

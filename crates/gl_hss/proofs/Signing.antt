@@ -8,13 +8,13 @@ use Rattle.sha2.proofs.Facts256.{length-sha256}
 use Rattle.gl_hss.specs.Bytes.{block}
 use Rattle.gl_hss.specs.Types.{height, width, chain_count}
 use Rattle.gl_hss.specs.Ots.{coef, digits, chain_prefix, step, steps, chain, message_digest, chain_ends, one_time_key, key_candidate}
-use Rattle.gl_hss.specs.Tree.{signature_bytes, leaf_node, inner_node, parent, climbed, root_candidate}
+use Rattle.gl_hss.specs.Tree.{signature_bytes, leaf_node, inner_node, parent, climb, root_candidate}
 use Rattle.gl_hss.specs.Hss.{IsSigned, Signs}
 use Rattle.gl_hss.specs.Secrets.{PrivateKey, secret, whole_chains, key_of_leaf, shown_chains, node_above, node, public_of, sibling, siblings, signature_with}
 use Rattle.gl_hss.specs.Profile.{randomizer_of, signature_by}
 use Rattle.gl_hss.proofs.Blocks.{AreBlocks, length-blocks, block-blocks}
 use Rattle.gl_hss.proofs.Chains.{chain_ends-none, chain_ends-more, whole_chains-none, whole_chains-more, shown_chains-none, shown_chains-more}
-use Rattle.gl_hss.proofs.Climbing.{climbed-none, climbed-more, halved-more}
+use Rattle.gl_hss.proofs.Climbing.{climb-none, climb-more, halved-more}
 use Rattle.gl_hss.proofs.Paths.{siblings-none, siblings-more, above_one}
 use Rattle.gl_hss.proofs.Trees.{node-leaf, node-inner}
 
@@ -125,22 +125,22 @@ parent-node k m low high =
           parent-even k.identifier m (node k (sibling m)) (node k m) even ∙ ap₂ (inner_node k.identifier (m / 2)) (ap (node k) left) (ap (node k) right) ∙ sym up
     ]
 
-climbed-node : (k : PrivateKey) (r n : ℕ) → 2 ^ height k.types ≤ r → r < 2 * 2 ^ height k.types → n ≤ height k.types → climbed k.identifier (siblings k r (height k.types)) r n (node k r) ≡ node k (r / 2 ^ n)
-climbed-node k r zero low high below =
+climb-node : (k : PrivateKey) (r n : ℕ) → 2 ^ height k.types ≤ r → r < 2 * 2 ^ height k.types → n ≤ height k.types → climb k.identifier (siblings k r (height k.types)) r n (node k r) ≡ node k (r / 2 ^ n)
+climb-node k r zero low high below =
     let whole : r / 2 ^ 0 ≡ r = omega arith in
-    climbed-none k.identifier (siblings k r (height k.types)) r (node k r) ∙ ap (node k) (sym whole)
-climbed-node k r (suc n) low high below =
+    climb-none k.identifier (siblings k r (height k.types)) r (node k r) ∙ ap (node k) (sym whole)
+climb-node k r (suc n) low high below =
     let h = height k.types in
     let path = siblings k r h in
     let m = r / 2 ^ n in
     let two : 2 ≤ m = above_one h r n low (omega arith) in
     let small : m < 2 * 2 ^ h = omega (arith, div-le_self r (2 ^ n)) in
     let beside = block-blocks (siblings k r) _ (sibling_blocks k r) h n (omega arith) in
-    let up : climbed k.identifier path r (n + 1) (node k r) ≡ node k (r / 2 ^ (n + 1)) =
-    climbed-more k.identifier path r n (node k r)
-    ∙ ap₂ (parent k.identifier m) beside (climbed-node k r n low high (omega arith))
+    let up : climb k.identifier path r (n + 1) (node k r) ≡ node k (r / 2 ^ (n + 1)) =
+    climb-more k.identifier path r n (node k r)
+    ∙ ap₂ (parent k.identifier m) beside (climb-node k r n low high (omega arith))
     ∙ parent-node k m two small ∙ ap (node k) (halved-more r n) in
-    subst (λ (j : ℕ). climbed k.identifier path r j (node k r) ≡ node k (r / 2 ^ j)) (add-one n) up
+    subst (λ (j : ℕ). climb k.identifier path r j (node k r) ≡ node k (r / 2 ^ j)) (add-one n) up
 
 -- ---- the whole
 
@@ -172,8 +172,8 @@ signature_with-IsSigned k q randomizer message leaf len =
         chains = length-blocks (shown_chains k q ds) _ (shown_blocks k q ds) (chain_count k.types);
         path = length-blocks (siblings k r) _ (sibling_blocks k r) h;
       };
-      root = ap (climbed k.identifier (siblings k r h) r h) (leaf-signed k q randomizer message)
-          ∙ climbed-node k r h (omega arith) (omega arith) (omega arith) ∙ ap (node k) top;
+      root = ap (climb k.identifier (siblings k r h) r h) (leaf-signed k q randomizer message)
+          ∙ climb-node k r h (omega arith) (omega arith) (omega arith) ∙ ap (node k) top;
     }
 
 pub signature_by-IsSigned : (k : PrivateKey) (q : ℕ) (message : List ℕ) → q < 2 ^ height k.types → IsSigned (public_of k) message (signature_by k q message)

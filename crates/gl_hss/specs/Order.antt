@@ -1,5 +1,5 @@
 -- Which fault comes first: a key and a signature read from left to right, and then the roots.
-use Rattle.std.specs.Prelude.{ℕ, ◌≡◌, ◌+◌, ◌-◌, ◌*◌, ◌^◌, Bool, true, false, List, length, Option, Some, None, Result, Ok, Err, ◌==◌, ◌||◌, nat_lt, nat_le, if◌then◌else◌}
+use Rattle.std.specs.Prelude.{ℕ, ◌≡◌, ◌+◌, ◌-◌, ◌*◌, ◌^◌, Bool, true, false, List, length, Option, Some, None, Result, Ok, Err, ok_or, ◌==◌, ◌||◌, nat_lt, nat_le, if◌then◌else◌}
 use Rattle.std.specs.Str.{bytes_eq}
 use Rattle.gl_hss.specs.declared.types.Types.{Types}
 use Rattle.gl_hss.specs.declared.types.Types.TheVariants.{H5W4, H5W8}
@@ -46,11 +46,6 @@ has_code s at code = check (number_at s at == code) (fault.Types at)
 unfoldable pub has_leaf : Types → ℕ → Result (Unit {0}) HssFault
 has_leaf t q = check (nat_lt q (2 ^ height t)) (fault.Leaf q)
 
--- the option's value, else the fault
-abbrev pub known : {A : Type 0} → Option A → HssFault → Result A HssFault
-known (Some x) f = Ok x
-known None f = Err f
-
 -- the least parameter set, in bytes of a signature, that has the one-time typecode
 abbrev pub least_types : ℕ → Option Types
 least_types ots = if ots == 3 then Some H5W4 else (if ots == 4 then Some H5W8 else None)
@@ -63,7 +58,7 @@ types_at s at want =
     reaches s (at + 4) want
     >> check (number_at s at == 5 || number_at s at == 6) (fault.Types at)
     >> reaches s (at + 8) want
-    >> known (types_of (number_at s at) (number_at s (at + 4))) (fault.Types (at + 4))
+    >> ok_or (types_of (number_at s at) (number_at s (at + 4))) (fault.Types (at + 4))
 
 -- the fields of an LMS public key that begins at this place
 abbrev pub key_fields : Types → List ℕ → ℕ → PublicKey
@@ -118,9 +113,9 @@ signature_at t s at want =
 unfoldable pub first_signature : List ℕ → ℕ → Result (Types × ℕ) HssFault
 first_signature s behind =
     reaches s 12 (4 + signature_len H5W8 + behind)
-    >> known (least_types (number_at s 8)) (fault.Types 8) >>= λ least.
+    >> ok_or (least_types (number_at s 8)) (fault.Types 8) >>= λ least.
     reaches s (48 + 32 * chain_count least) (4 + signature_len least + behind)
-    >> known (types_of (number_at s (44 + 32 * chain_count least)) (number_at s 8))
+    >> ok_or (types_of (number_at s (44 + 32 * chain_count least)) (number_at s 8))
     (fault.Types (44 + 32 * chain_count least)) >>= λ t.
     has_leaf t (number_at s 4)
     >> reaches s (4 + signature_len t) (4 + signature_len t + behind)

@@ -28,10 +28,10 @@ parent identifier m sibling value =
     else inner_node identifier (m / 2) value sibling
 
 -- the value n levels above node r, whose own value is given, by the first n siblings of a path
-unfoldable pub climbed : List ℕ → List ℕ → ℕ → ℕ → List ℕ → List ℕ
-climbed identifier path r zero value = value
-climbed identifier path r (suc n) value =
-    parent identifier (r / 2 ^ n) (block path n) (climbed identifier path r n value)
+unfoldable pub climb : List ℕ → List ℕ → ℕ → ℕ → List ℕ → List ℕ
+climb identifier path r zero value = value
+climb identifier path r (suc n) value =
+    parent identifier (r / 2 ^ n) (block path n) (climb identifier path r n value)
 
 -- an LMS signature: q, C, y and the path from the leaf's sibling up (4.5 and 5.4)
 pub record Signature : Type 0 where
@@ -59,6 +59,6 @@ signature_bytes t s =
 -- Tc: the root that a signature of the message leads to (5.4.2, algorithm 6a)
 unfoldable pub root_candidate : Types → List ℕ → Signature → List ℕ → List ℕ
 root_candidate t identifier s message =
-    climbed identifier s.path (2 ^ height t + s.leaf) (height t)
+    climb identifier s.path (2 ^ height t + s.leaf) (height t)
     (leaf_node identifier (2 ^ height t + s.leaf)
     (key_candidate t identifier s.leaf s.randomizer s.chains message))

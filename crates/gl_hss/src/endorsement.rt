@@ -63,8 +63,7 @@ pub struct EndorsedKey {
 }
 
 impl Model for EndorsedKey {
-    ghost use Rattle.std.specs.Prelude.{IsOk};
-    ghost use Rattle.gl_hss.specs.Order.{endorsement_verdict};
+    ghost use Rattle.gl_hss.specs.Hss.{IsEndorsed};
     ghost use Rattle.gl_hss.specs.Endorsement.{Endorsement};
 
     ghost Value = { Endorsement };
@@ -72,7 +71,7 @@ impl Model for EndorsedKey {
     ghost view = { λ e.
         record { identity = e.identity; key = e.key; signature = e.signature.items } };
 
-    ghost invariant = { λ e. IsOk (endorsement_verdict e.identity e.key e.signature.items) };
+    ghost invariant = { λ e. IsEndorsed e.identity e.key e.signature.items };
 }
 
 impl EndorsedKey {
@@ -87,6 +86,7 @@ impl EndorsedKey {
         ensures valid { IsOk result ↔ IsEndorsed identity key endorsement.items }
         ensures first_fault { IfErr result (λ f.
             endorsement_verdict identity key endorsement.items ≡ Err f) }
+        ensures most { OnOk result (length endorsement.items ≤ MAX_LMS_SIGNATURE_LEN) }
     {
         verify_endorsement(&identity, &key, &endorsement)?;
         Ok(EndorsedKey {
@@ -106,8 +106,7 @@ impl EndorsedKey {
     /// The LMS public key that is endorsed.
     pub fn key(&self) -> &[u8; LMS_KEY_LEN]
         ensures value { result.now ≡ self.now.key }
-        ensures valid { IsOk
-            (endorsement_verdict self.now.identity self.now.key self.now.signature) }
+        ensures valid { IsEndorsed self.now.identity self.now.key self.now.signature }
     {
         &self.key
     }
@@ -142,8 +141,7 @@ impl EndorsedKey {
         ensures identity { OnTrue result (identity.now ≡ self.now.identity) }
         ensures signature { OnTrue result (bytes_at signature.now 4 (at - 4) ≡ self.now.signature) }
         ensures key { OnTrue result (bytes_at signature.now at 56 ≡ self.now.key) }
-        ensures valid { IsOk
-            (endorsement_verdict self.now.identity self.now.key self.now.signature) }
+        ensures valid { IsEndorsed self.now.identity self.now.key self.now.signature }
     {
         self.identity == *identity
             && bytes_at(signature, 4, at - 4) == self.signature.as_slice()

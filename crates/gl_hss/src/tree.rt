@@ -3,7 +3,7 @@
 ghost use Rattle.std.specs.Prelude.{◌≡◌, ◌*◌, length};
 ghost use Rattle.gl_hss.specs.Hss.{IsKey, IsSignature};
 ghost use Rattle.gl_hss.specs.Ots.{key_candidate};
-ghost use Rattle.gl_hss.specs.Tree.{leaf_node, inner_node, parent, climbed, root_candidate};
+ghost use Rattle.gl_hss.specs.Tree.{leaf_node, inner_node, parent, climb, root_candidate};
 ghost use Rattle.gl_hss.specs.Lent.{key_of, signature_of};
 
 use crate::bytes::{block, u32str};
@@ -63,7 +63,7 @@ fn parent(identifier: &[u8], node: u32, sibling: &[u8; 32], value: &[u8; 32]) ->
 // The value `levels` above `node`, by the siblings in a path.
 fn climb(identifier: &[u8], path: &[u8], node: u32, levels: u32, value: [u8; 32]) -> [u8; 32]
     requires { length path.now ≡ 32 * levels }
-    ensures { result ≡ climbed identifier.now path.now node levels value }
+    ensures { result ≡ climb identifier.now path.now node levels value }
 {
     let mut value = value;
     let mut node = node;

@@ -1,5 +1,5 @@
 -- What an application request writes is none of governance, and its entry keeps a ledger sound.
-use Rattle.std.proofs.Common.{◌≡◌, ℕ, suc, ◌<◌, ◌≤◌, ◌+◌, ◌^◌, nat_lt, List, [], ◌∷◌, ◌++◌, length, Option, Some, None, Result, Ok, Err, Bool, true, false, not, ◌||◌, ◌==◌, refl, sym, ◌∙◌, ap, subst, if◌then◌else◌, arith}
+use Rattle.std.proofs.Common.{◌≡◌, ℕ, suc, ◌<◌, ◌≤◌, ◌+◌, ◌^◌, nat_lt, List, [], ◌∷◌, ◌++◌, length, Option, Some, None, Result, Ok, Err, Bool, true, false, not, ◌||◌, ◌==◌, refl, sym, ◌∙◌, ap, ap₂, subst, if◌then◌else◌, arith}
 use Rattle.std.specs.List.{AllByRecursion}
 use Rattle.std.proofs.lemmas.Bool.Decides.{nat_tests}
 use Rattle.std.specs.declared.cmp.Ordering.{Ordering}
@@ -24,15 +24,17 @@ use Rattle.gl_tx.specs.declared.request.Cause.TheVariants as causes
 use Rattle.gl_tx.specs.declared.request.Abort.{Abort}
 use Rattle.gl_tx.specs.declared.running.RunError.{RunError}
 use Rattle.gl_tx.specs.declared.running.RunError.TheVariants as runs
-use Rattle.gl_entry.specs.Entry.{body_bytes, body_limit}
+use Rattle.gl_entry.specs.Entry.{body_bytes, body_limit, is_entry}
 use Rattle.gl_entry.specs.declared.entry.Content.TheVariants as content
 use Rattle.gl_entry.specs.declared.entry.Entry.{Entry}
 use Rattle.gl_store.specs.Genesis.{service_map, service_key}
 use Rattle.gl_store.specs.Effect.{service_state, state_of_value}
 use Rattle.gl_store.specs.Tree.{tables_of}
 use Rattle.gl_store.specs.Serial.{IsSound, IsApplicationEntry}
-use Rattle.gl_store.specs.Ledger.{application_entry, Refuses, executed, executed_in, ran_behind, limited}
-use Rattle.gl_store.specs.Kept.{IsUpTo}
+use Rattle.gl_rules.specs.Safety.{ViewsUpTo}
+use Rattle.gl_store.specs.Ledger.{application_entry, execute_result, execute_in, run_result, within_limits}
+use Rattle.gl_store.specs.Book.{service_book, with_reply, request_result, Given, Replied, Unmade, ByStore, Unspelled}
+use Rattle.gl_store.specs.Calls.{Refuses}
 use Rattle.gl_store.specs.Refusals as refusing
 use Rattle.gl_store.specs.declared.genesis.ServiceState.{ServiceState}
 use Rattle.gl_store.specs.declared.genesis.ServiceState.TheVariants.{Opening, Open}
@@ -176,15 +178,15 @@ run_outside n (o ∷ os) t ws ran all e = go (performed o t) refl e (λ done. ru
         subst (λ (xs : List Write). AllByRecursion IsOutside xs) (sym inner.2)
         (again done inner.0 (with_writes_outside ws done.write all (performed_outside o t done is)) inner.1)
 
--- ---- what executed gives, told by cases
+-- ---- what a request makes, told by cases
 
 abbrev given : Entry → List Answer → Result (Entry × List Answer) Refusal
 given made reply = Ok (made, reply)
 
 -- an entry and a reply that are let through are within their sizes, and a place is left
-limited_ok : (ledger : List Entry) (made e : Entry) (reply a : List Answer) → limited ledger made reply ≡ Ok (e, a) →
+within_limits_ok : (ledger : List Entry) (made e : Entry) (reply a : List Answer) → within_limits ledger made reply ≡ Ok (e, a) →
     (e ≡ made) × (a ≡ reply) × (length (body_bytes made) ≤ body_limit) × (length (reply_bytes reply) ≤ body_limit) × (length ledger < last_seqno)
-limited_ok ledger made e reply a h =
+within_limits_ok ledger made e reply a h =
     go (nat_lt body_limit (length (body_bytes made))) (nat_lt body_limit (length (reply_bytes reply))) (nat_lt (length ledger) last_seqno) refl refl refl h
   where
     go : (large long left : Bool) → nat_lt body_limit (length (body_bytes made)) ≡ large → nat_lt body_limit (length (reply_bytes reply)) ≡ long →
@@ -202,17 +204,17 @@ limited_ok ledger made e reply a h =
         let place : length ledger < last_seqno = grind (arith, nat_tests) in
         (both.0, both.1, small, short, place)
 
--- what executed gives: an open service, a run, its entry and its answers, and that nothing is above its limit
-pub executed_ok : (ledger : List Entry) (view : ℕ) (q : List Operation) (e : Entry) (a : List Answer) → executed ledger view q ≡ Ok (e, a) →
+-- what execute_result gives: an open service, a run, its entry and its answers, and that nothing is above its limit
+pub execute_ok : (ledger : List Entry) (view : ℕ) (q : List Operation) (e : Entry) (a : List Answer) → execute_result ledger view q ≡ Ok (e, a) →
     (service_state (tables_of ledger) ≡ Open) × (ran : Ran) × (run q (tables_of ledger) ≡ Ok ran) × (e ≡ application_entry ledger view q ran) × (a ≡ ran.answers)
     × (length (body_bytes e) ≤ body_limit) × (length (reply_bytes a) ≤ body_limit) × (length ledger < last_seqno)
-executed_ok ledger view q e a h = go (service_state (tables_of ledger)) refl h
+execute_ok ledger view q e a h = go (service_state (tables_of ledger)) refl h
   where
-    ran_ok : (r : Result Ran Abort) → ran_behind ledger view q r ≡ Ok (e, a) → (ran : Ran) × (r ≡ Ok ran) × (e ≡ application_entry ledger view q ran) × (a ≡ ran.answers)
+    ran_ok : (r : Result Ran Abort) → run_result ledger view q r ≡ Ok (e, a) → (ran : Ran) × (r ≡ Ok ran) × (e ≡ application_entry ledger view q ran) × (a ≡ ran.answers)
         × (length (body_bytes e) ≤ body_limit) × (length (reply_bytes a) ≤ body_limit) × (length ledger < last_seqno)
     ran_ok (Err abort) p = absurd (cc)
     ran_ok (Ok ran) p =
-        let is = limited_ok ledger (application_entry ledger view q ran) e ran.answers a p in (
+        let is = within_limits_ok ledger (application_entry ledger view q ran) e ran.answers a p in (
           ran,
           refl,
           is.0,
@@ -222,7 +224,7 @@ executed_ok ledger view q e a h = go (service_state (tables_of ledger)) refl h
           is.4,
         )
 
-    go : (s : ServiceState) → service_state (tables_of ledger) ≡ s → executed_in s ledger view q ≡ Ok (e, a) →
+    go : (s : ServiceState) → service_state (tables_of ledger) ≡ s → execute_in s ledger view q ≡ Ok (e, a) →
         (service_state (tables_of ledger) ≡ Open) × (ran : Ran) × (run q (tables_of ledger) ≡ Ok ran) × (e ≡ application_entry ledger view q ran) × (a ≡ ran.answers)
         × (length (body_bytes e) ≤ body_limit) × (length (reply_bytes a) ≤ body_limit) × (length ledger < last_seqno)
     go Opening is p = absurd (cc)
@@ -244,35 +246,35 @@ application_stands ledger view q ran sound fits is_open runs bytes spelled = rec
 }
 
 -- the entry of a request that ran keeps the ledger sound
-pub application_sound : (ledger : List Entry) (view : ℕ) (q : List Operation) (e : Entry) (a : List Answer) → IsSound ledger → IsUpTo ledger view → is_request q ≡ true →
-    executed ledger view q ≡ Ok (e, a) → IsSound (ledger ++ e ∷ [])
-application_sound ledger view q e a sound up fits h =
-    let made = executed_ok ledger view q e a h in
+pub application_sound : (ledger : List Entry) (view : ℕ) (q : List Operation) (e : Entry) (a : List Answer) → IsSound ledger →
+    ViewsUpTo service_book view ledger → is_request q ≡ true → execute_result ledger view q ≡ Ok (e, a) → is_entry e ≡ true → IsSound (ledger ++ e ∷ [])
+application_sound ledger view q e a sound up fits h entry =
+    let made = execute_ok ledger view q e a h in
     subst (λ (x : Entry). IsSound (ledger ++ x ∷ [])) (sym made.3)
-    (sound-push ledger (application_entry ledger view q made.1) sound refl up
+    (sound-push ledger (application_entry ledger view q made.1) sound (subst (λ (x : Entry). is_entry x ≡ true) made.3 entry) refl up
     (application_stands ledger view q made.1 sound fits made.0 made.2 _ refl) tt
     (run_outside 1 q (tables_of ledger) [] made.1 tt made.2))
 
--- what executed gives where the request ran: its entry and its answers, unless a limit is passed
-pub executed_ran : (ledger : List Entry) (view : ℕ) (q : List Operation) (ran : Ran) → service_state (tables_of ledger) ≡ Open →
-    run q (tables_of ledger) ≡ Ok ran → executed ledger view q ≡ limited ledger (application_entry ledger view q ran) ran.answers
-executed_ran ledger view q ran is_open runs =
-    ap (λ (s : ServiceState). executed_in s ledger view q) is_open ∙ ap (λ (r : Result Ran Abort). ran_behind ledger view q r) runs
+-- what execute_result gives where the request ran: its entry and its answers, unless a limit is passed
+pub execute_ran : (ledger : List Entry) (view : ℕ) (q : List Operation) (ran : Ran) → service_state (tables_of ledger) ≡ Open →
+    run q (tables_of ledger) ≡ Ok ran → execute_result ledger view q ≡ within_limits ledger (application_entry ledger view q ran) ran.answers
+execute_ran ledger view q ran is_open runs =
+    ap (λ (s : ServiceState). execute_in s ledger view q) is_open ∙ ap (λ (r : Result Ran Abort). run_result ledger view q r) runs
 
 -- within the limits it is the entry and the answers
-pub limited_within : (ledger : List Entry) (e : Entry) (a : List Answer) → length (body_bytes e) ≤ body_limit → length (reply_bytes a) ≤ body_limit →
-    length ledger < last_seqno → limited ledger e a ≡ Ok (e, a)
-limited_within ledger e a body reply left =
+pub within_limits_made : (ledger : List Entry) (e : Entry) (a : List Answer) → length (body_bytes e) ≤ body_limit → length (reply_bytes a) ≤ body_limit →
+    length ledger < last_seqno → within_limits ledger e a ≡ Ok (e, a)
+within_limits_made ledger e a body reply left =
     let small : nat_lt body_limit (length (body_bytes e)) ≡ false = grind (arith, nat_tests) in
     let short : nat_lt body_limit (length (reply_bytes a)) ≡ false = grind (arith, nat_tests) in
     let place : nat_lt (length ledger) last_seqno ≡ true = grind (arith, nat_tests) in
     rw (small, short, place) refl
 
-pub executed_within : (ledger : List Entry) (view : ℕ) (q : List Operation) (ran : Ran) (e : Entry) → service_state (tables_of ledger) ≡ Open →
+pub execute_within : (ledger : List Entry) (view : ℕ) (q : List Operation) (ran : Ran) (e : Entry) → service_state (tables_of ledger) ≡ Open →
     run q (tables_of ledger) ≡ Ok ran → e ≡ application_entry ledger view q ran → length (body_bytes e) ≤ body_limit → length (reply_bytes ran.answers) ≤ body_limit →
-    length ledger < last_seqno → executed ledger view q ≡ Ok (e, ran.answers)
-executed_within ledger view q ran e is_open runs made body reply left =
-    executed_ran ledger view q ran is_open runs ∙ ap (λ (x : Entry). limited ledger x ran.answers) (sym made) ∙ limited_within ledger e ran.answers body reply left
+    length ledger < last_seqno → execute_result ledger view q ≡ Ok (e, ran.answers)
+execute_within ledger view q ran e is_open runs made body reply left =
+    execute_ran ledger view q ran is_open runs ∙ ap (λ (x : Entry). within_limits ledger x ran.answers) (sym made) ∙ within_limits_made ledger e ran.answers body reply left
 
 -- an entry of these fields is the one of the request that ran
 pub application_made : (ledger : List Entry) (view place : ℕ) (q : List Operation) (ran : Ran) (reply : List ℕ) (e : Entry) →
@@ -280,9 +282,44 @@ pub application_made : (ledger : List Entry) (view place : ℕ) (q : List Operat
     place ≡ length ledger + 1 → reply ≡ reply_bytes ran.answers → e ≡ application_entry ledger view q ran
 application_made ledger view place q ran reply e made at spelled = made ∙ rw (at, spelled) refl
 
+-- ---- the same of the book
+
+-- a request that bytes spell
+pub request_spelled : (ledger : List Entry) (view : ℕ) (q : List Operation) → is_request q ≡ true →
+    request_result ledger view q ≡ with_reply (execute_result ledger view q)
+request_spelled ledger view q fits =
+    ap (λ (b : Bool). if b then with_reply (execute_result ledger view q) else Err Unspelled) fits
+
+pub request_made : (ledger : List Entry) (view : ℕ) (q : List Operation) (e : Entry) (a : List Answer) → is_request q ≡ true →
+    execute_result ledger view q ≡ Ok (e, a) → request_result ledger view q ≡ Ok (e, Replied a)
+request_made ledger view q e a fits made = request_spelled ledger view q fits ∙ ap with_reply made
+
+pub request_refused : (ledger : List Entry) (view : ℕ) (q : List Operation) (why : Refusal) → is_request q ≡ true →
+    execute_result ledger view q ≡ Err why → request_result ledger view q ≡ Err (ByStore why)
+request_refused ledger view q why fits refused = request_spelled ledger view q fits ∙ ap with_reply refused
+
+abbrev replying : Entry → List Answer → Result (Entry × Given) Unmade
+replying e a = Ok (e, Replied a)
+
+-- what the book makes of a request, the store makes
+pub request_ok : (ledger : List Entry) (view : ℕ) (q : List Operation) (e : Entry) (a : List Answer) →
+    request_result ledger view q ≡ Ok (e, Replied a) → (is_request q ≡ true) × (execute_result ledger view q ≡ Ok (e, a))
+request_ok ledger view q e a h = go (is_request q) refl (execute_result ledger view q) refl h
+  where
+    go : (b : Bool) → is_request q ≡ b → (r : Result (Entry × List Answer) Refusal) → execute_result ledger view q ≡ r →
+        (if b then with_reply r else Err Unspelled) ≡ replying e a → (is_request q ≡ true) × (execute_result ledger view q ≡ Ok (e, a))
+    go false is r from p = absurd (cc)
+    go true is (Err why) from p = absurd (cc)
+    go true is (Ok done) from p =
+        let one : (done.0, Replied done.1) ≡ (e, Replied a) = cc in
+        let reply : Replied done.1 ≡ Replied a = ap (λ (t : Entry × Given). t.1) one in
+        let answers : done.1 ≡ a = cc in
+        (is, from ∙ ap₂ given (ap (λ (t : Entry × Given). t.0) one) answers)
+
 -- and where it was aborted
-pub refused_run : (ledger : List Entry) (view : ℕ) (q : List Operation) (e : RunError) → service_state (tables_of ledger) ≡ Open →
-    Aborts (run q (tables_of ledger)) e → Refuses (executed ledger view q) (refusing.refused_run e)
-refused_run ledger view q runs.NoMemory is_open h = tt
-refused_run ledger view q (runs.Aborted abort) is_open h =
-    ap (λ (s : ServiceState). executed_in s ledger view q) is_open ∙ ap (λ (r : Result Ran Abort). ran_behind ledger view q r) h
+pub refused_run : (ledger : List Entry) (view : ℕ) (q : List Operation) (e : RunError) → is_request q ≡ true → service_state (tables_of ledger) ≡ Open →
+    Aborts (run q (tables_of ledger)) e → Refuses (request_result ledger view q) (refusing.refused_run e)
+refused_run ledger view q runs.NoMemory fits is_open h = tt
+refused_run ledger view q (runs.Aborted abort) fits is_open h =
+    request_refused ledger view q (refusals.Aborted abort) fits
+    (ap (λ (s : ServiceState). execute_in s ledger view q) is_open ∙ ap (λ (r : Result Ran Abort). run_result ledger view q r) h)

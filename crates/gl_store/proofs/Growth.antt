@@ -7,7 +7,9 @@ use Rattle.gl_vmaps.specs.Tables.{Tables, same_bytes, wrote, wrote_all, with_row
 use Rattle.gl_store.specs.Effect.{Recorded, RecordsAt, RecordsFrom}
 use Rattle.gl_store.specs.Serial.{IsLedger, IsSerial, IsGoverned, IsSound, StandsAs}
 use Rattle.gl_store.specs.Tree.{tables_of}
-use Rattle.gl_store.specs.Kept.{IsUpTo}
+use Rattle.gl_rules.specs.Safety.{ViewsUpTo}
+use Rattle.gl_entry.specs.Entry.{is_entry}
+use Rattle.gl_store.specs.Book.{service_book}
 use Rattle.gl_entry.specs.declared.entry.Content.{Content}
 use Rattle.gl_entry.specs.declared.entry.Content.TheVariants as content
 use Rattle.gl_entry.specs.declared.entry.Entry.{Entry}
@@ -58,8 +60,13 @@ records-push place (f ∷ es) e rs none h =
     records-behind place f.content (λ rest. RecordsFrom (suc place) es rest) (λ rest. RecordsFrom (suc place) (es ++ e ∷ []) rest) rs
     (λ rest. records-push (suc place) es e rest none) h
 
-in_order-push : (ledger : List Entry) (e : Entry) → IsLedger ledger → e.seqno ≡ suc (length ledger) → IsUpTo ledger e.view → IsLedger (ledger ++ e ∷ [])
-in_order-push ledger e h at up = record {
+in_order-push : (ledger : List Entry) (e : Entry) → IsLedger ledger → is_entry e ≡ true → e.seqno ≡ suc (length ledger) →
+    ViewsUpTo service_book e.view ledger → IsLedger (ledger ++ e ∷ [])
+in_order-push ledger e h fits at up = record {
+  fits = λ i f s. ⊎_elim
+      (λ (old : slice_get ledger i ≡ Some f). h.fits i f old)
+      (λ (new : (i ≡ length ledger) × (f ≡ e)). subst (λ (x : Entry). is_entry x ≡ true) (sym new.1) fits)
+      (slice_get-push ledger e i f s);
   places = λ i f s. ⊎_elim
       (λ (old : slice_get ledger i ≡ Some f). h.places i f old)
       (λ (new : (i ≡ length ledger) × (f ≡ e)). ap (λ (x : Entry). x.seqno) new.1 ∙ at ∙ ap suc (sym new.0))
@@ -70,7 +77,7 @@ in_order-push ledger e h at up = record {
       (λ (new : (i ≡ length ledger) × (f ≡ e)). let w : j < length ledger = within ledger j g old in absurd (omega (arith, new.0)))
       (slice_get-push ledger e i f s))
       (λ (last : (j ≡ length ledger) × (g ≡ e)). subst (λ (x : Entry). f.view ≤ x.view) (sym last.1) (⊎_elim
-      (λ (first : slice_get ledger i ≡ Some f). up.each i f first)
+      (λ (first : slice_get ledger i ≡ Some f). up i f first)
       (λ (new : (i ≡ length ledger) × (f ≡ e)). subst (λ (x : Entry). x.view ≤ e.view) (sym new.1) (omega arith))
       (slice_get-push ledger e i f s)))
       (slice_get-push ledger e j g r);
@@ -95,10 +102,11 @@ governed-push ledger e h none out = record {
       ap (λ (t : Tables). t map) (tables_of-push ledger e) ∙ untouched (tables_of ledger) e.writes map out inside ∙ h.rows map inside;
 }
 
-pub sound-push : (ledger : List Entry) (e : Entry) → IsSound ledger → e.seqno ≡ length ledger + 1 → IsUpTo ledger e.view →
-    StandsAs e.content ledger e → IsNoGovernance e.content → AllByRecursion IsOutside e.writes → IsSound (ledger ++ e ∷ [])
-sound-push ledger e h at up stands none out = record {
-  in_order = in_order-push ledger e h.in_order (omega (arith, at)) up;
+pub sound-push : (ledger : List Entry) (e : Entry) → IsSound ledger → is_entry e ≡ true → e.seqno ≡ length ledger + 1 →
+    ViewsUpTo service_book e.view ledger → StandsAs e.content ledger e → IsNoGovernance e.content → AllByRecursion IsOutside e.writes →
+    IsSound (ledger ++ e ∷ [])
+sound-push ledger e h fits at up stands none out = record {
+  in_order = in_order-push ledger e h.in_order fits (omega (arith, at)) up;
   serial = serial-push ledger e h.serial stands;
   governed = governed-push ledger e h.governed none out;
 }

@@ -3,10 +3,17 @@ pub mod Lists
 pub mod TablesLaws
 pub mod Growth
 pub mod WriteSets
+pub mod SetRows
 pub mod Openings
 pub mod Applications
 pub mod Following
 pub mod Keeping
 pub mod Entries
+pub mod GenesisFields
+pub mod Digests
+pub mod Roots
+pub mod Fitting
+pub mod GenesisEntries
+pub mod NodesLaws
 pub mod Founding
 pub mod Bodies

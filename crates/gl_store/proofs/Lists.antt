@@ -1,6 +1,6 @@
 -- One more element at the end of a list.
 use Rattle.std.proofs.Common.{◌≡◌, ℕ, zero, suc, ◌+◌, ◌<◌, ◌≤◌, List, [], ◌∷◌, ◌++◌, length, take, drop, map, get_or, Some, ◌⊎◌, inl, inr, refl, ap, arith, ⊎_elim, Result, Ok, add-one, drop-cons}
-use Rattle.std.specs.List.{slice_get}
+use Rattle.std.specs.List.{slice_get, AllByRecursion}
 
 -- an element of the longer list is one of the list, or the new one
 pub slice_get-push : {A : Type 0} (xs : List A) (y : A) (i : ℕ) (x : A) → slice_get (xs ++ y ∷ []) i ≡ Some x →
@@ -43,3 +43,14 @@ map-drop f xs i d h = rw add-one (ap (map f) (drop-cons xs i d h))
 pub slice_get-last : {A : Type 0} (xs : List A) (x : A) → slice_get (xs ++ x ∷ []) (length xs) ≡ Some x
 slice_get-last [] x = refl
 slice_get-last (y ∷ xs) x = slice_get-last xs x
+
+-- an element keeps its place
+pub slice_get-front : {A : Type 0} (xs : List A) (y : A) (i : ℕ) (x : A) → slice_get xs i ≡ Some x → slice_get (xs ++ y ∷ []) i ≡ Some x
+slice_get-front [] y i x e = absurd (cc)
+slice_get-front (z ∷ xs) y zero x e = e
+slice_get-front (z ∷ xs) y (suc i) x e = slice_get-front xs y i x e
+
+-- a fact of each element
+pub all-by_each : {A : Type 0} (P : A → Type 0) (xs : List A) → ((i : ℕ) (x : A) → slice_get xs i ≡ Some x → P x) → AllByRecursion P xs
+all-by_each P [] each = tt
+all-by_each P (x ∷ xs) each = (each 0 x refl, all-by_each P xs (λ i y at. each (suc i) y at))

@@ -6,6 +6,7 @@ use Rattle.std.proofs.lemmas.List.Folds.{list_all-append}
 use Rattle.gl_vmaps.specs.Tables.{Tables, no_tables, value_in, wrote_all}
 use Rattle.gl_vmaps.specs.Writes.{with_write}
 use Rattle.gl_vmaps.specs.declared.write.Write.{Write}
+use Rattle.gl_entry.specs.Entry.{is_entry}
 use Rattle.gl_entry.specs.declared.entry.Entry.{Entry}
 use Rattle.gl_store.specs.Genesis.{genesis_bytes, genesis_rows, genesis_writes, constitution_rows, row, dealing_map, dealing_key, dealing_bytes, member_row, node_row, node_rows, service_row, service_map, service_key, write_set, state_byte, is_acceptable, is_genesis}
 use Rattle.gl_store.specs.Effect.{state_of_value, service_state, identity_of_value, identity_in}
@@ -82,9 +83,9 @@ genesis_stands g acceptable fits = record {
   claims = refl;
 }
 
-pub genesis_sound : (g : request.Genesis) → is_acceptable g ≡ true → is_genesis g ≡ true → IsSound (genesis_entry g ∷ [])
-genesis_sound g acceptable fits = record {
-  in_order = record { places = places; views = views };
+pub genesis_sound : (g : request.Genesis) → is_acceptable g ≡ true → is_genesis g ≡ true → is_entry (genesis_entry g) ≡ true → IsSound (genesis_entry g ∷ [])
+genesis_sound g acceptable fits entry = record {
+  in_order = record { fits = entries; places = places; views = views };
   serial = serial;
   governed = record {
     requests = record { place = 1; request = requests.Genesis g } ∷ [];
@@ -93,6 +94,10 @@ genesis_sound g acceptable fits = record {
   };
 }
   where
+    entries : (i : ℕ) (e : Entry) → slice_get (genesis_entry g ∷ []) i ≡ Some e → is_entry e ≡ true
+    entries zero e s = subst (λ (x : Entry). is_entry x ≡ true) (let p : genesis_entry g ≡ e = cc in p) entry
+    entries (suc i) e s = absurd (cc)
+
     places : (i : ℕ) (e : Entry) → slice_get (genesis_entry g ∷ []) i ≡ Some e → e.seqno ≡ suc i
     places zero e s = ap (λ (x : Entry). x.seqno) (let p : e ≡ genesis_entry g = cc in p)
     places (suc i) e s = absurd (cc)
@@ -106,10 +111,11 @@ genesis_sound g acceptable fits = record {
     serial zero e s = subst (λ (x : Entry). StandsAs x.content [] x) (let p : genesis_entry g ≡ e = cc in p) (genesis_stands g acceptable fits)
     serial (suc i) e s = absurd (cc)
 
-pub opening_sound : (g : request.Genesis) (node : List ℕ) → is_acceptable g ≡ true → is_genesis g ≡ true → IsSound (opening_ledger g node)
-opening_sound g node acceptable fits =
+pub opening_sound : (g : request.Genesis) (node : List ℕ) → is_acceptable g ≡ true → is_genesis g ≡ true → is_entry (genesis_entry g) ≡ true →
+    is_entry (signature_entry node (genesis_entry g ∷ []) 2 2) ≡ true → IsSound (opening_ledger g node)
+opening_sound g node acceptable fits entry signature =
     sound-push (genesis_entry g ∷ []) (signature_entry node (genesis_entry g ∷ []) 2 2)
-    (genesis_sound g acceptable fits) refl (record { each = up }) (record { writes_nothing = (refl, refl); root = refl }) tt tt
+    (genesis_sound g acceptable fits entry) signature refl up (record { writes_nothing = (refl, refl); root = refl }) tt tt
   where
     up : (i : ℕ) (e : Entry) → slice_get (genesis_entry g ∷ []) i ≡ Some e → e.view ≤ 2
     up zero e s = let p : genesis_entry g ≡ e = cc in subst (λ (x : Entry). x.view ≤ 2) p (omega arith)

@@ -15,7 +15,7 @@ use Rattle.gl_entry.specs.declared.entry.Entry.{Entry}
 use Rattle.gl_store.specs.Effect.{identity_in}
 use Rattle.gl_store.specs.Serial.{IsLedger}
 use Rattle.gl_store.specs.Tree.{writes_of, tables_of, leaves_from, leaves_of}
-use Rattle.gl_store.specs.Kept.{StandsFor}
+use Rattle.gl_store.specs.Kept.{IsTreeOf}
 use Rattle.gl_store.proofs.Lists.{within}
 
 -- the writes of an entry, at its place
@@ -97,11 +97,11 @@ above_next ledger tables place h are at =
 -- ---- the root
 
 -- a frontier that stands for leaves has their root
-pub root_of_frontier : (f : Content) (leaves : List (List ℕ)) (root : List ℕ) → StandsFor f leaves → ForLeaves f (λ ls. root ≡ root_of ls) → root ≡ root_of leaves
+pub root_of_frontier : (f : Content) (leaves : List (List ℕ)) (root : List ℕ) → IsTreeOf leaves f → ForLeaves f (λ ls. root ≡ root_of ls) → root ≡ root_of leaves
 unfolding peaks_of peaks_within
 root_of_frontier f leaves root stands all = all [] (record { count = sym stands.base; peaks = sym stands.peaks }) ∙ ap root_of stands.leaves_are
 
-pub count_of_frontier : (f : Content) (ledger : List Entry) → StandsFor f (leaves_of ledger) → count_of f ≡ length ledger
+pub count_of_frontier : (f : Content) (ledger : List Entry) → IsTreeOf (leaves_of ledger) f → count_of f ≡ length ledger
 count_of_frontier f ledger stands =
     let leaves : length f.leaves ≡ length ledger = ap length stands.leaves_are ∙ length-leaves_of ledger in
     omega (arith, stands.base)

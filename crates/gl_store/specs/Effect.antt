@@ -19,7 +19,8 @@ pub record Recorded : Type 0 where
 -- What an entry at a place records of these requests, with what the entries behind it record.
 abbrev pub RecordsAt : ℕ → Content → (List Recorded → Type 0) → List Recorded → Type 0
 RecordsAt place (content.Governance bytes) behind requests =
-    (g : GovernanceRequest) × (rest : List Recorded) × (is_governance_request g ≡ true) × (bytes ≡ governance_bytes g)
+    (g : GovernanceRequest) × (rest : List Recorded) × (is_governance_request g ≡ true)
+    × (bytes ≡ governance_bytes g)
     × (requests ≡ record { place = place; request = g } ∷ rest) × behind rest
 RecordsAt place (content.Application bytes) behind requests = behind requests
 RecordsAt place (content.Signature s) behind requests = behind requests
@@ -28,7 +29,8 @@ RecordsAt place (content.Evidence d) behind requests = behind requests
 -- These are the governance requests of the entries from a place on, in order.
 abbrev pub RecordsFrom : ℕ → List Entry → List Recorded → Type 0
 RecordsFrom place [] requests = requests ≡ []
-RecordsFrom place (e ∷ es) requests = RecordsAt place e.content (λ rest. RecordsFrom (suc place) es rest) requests
+RecordsFrom place (e ∷ es) requests =
+    RecordsAt place e.content (λ rest. RecordsFrom (suc place) es rest) requests
 
 -- These are the governance requests of a ledger, whose first place is 1.
 abbrev pub Records : List Entry → List Recorded → Type 0

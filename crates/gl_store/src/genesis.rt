@@ -12,19 +12,19 @@ pub enum ServiceState {
     Open,
 }
 
-/// An LMS public key (RFC 8554, section 5.3): its two types in 4 bytes each, high byte first, I in 16
-/// bytes and T\[1\] in 32.
-pub type LmsKey = [u8; 56];
+/// An LMS public key (RFC 8554, section 5.3): its two types in 4 bytes each, high byte first, I in
+/// 16 bytes and T\[1\] in 32.
+pub type LmsPublicKey = [u8; 56];
 
 /// An HSS public key (RFC 8554, section 6.1): the number of levels in 4 bytes, high byte first, and
 /// the LMS key of the top level.
-pub type HssKey = [u8; 60];
+pub type HssPublicKey = [u8; 60];
 
 /// A node to be recorded as trusted.
 #[derive(Debug, Drop)]
 pub struct NewNode {
     /// The key that its signatures are checked by. Its digest is the node's identifier.
-    pub key: LmsKey,
+    pub key: LmsPublicKey,
     /// The service's LMS signature of the key's 56 bytes. Empty for now, until keys sign.
     pub endorsement: Bytes,
 }
@@ -35,7 +35,7 @@ pub struct NewMember {
     /// Its number, from 1. No other member is ever given it.
     pub number: u8,
     /// The key that its requests are signed with.
-    pub key: HssKey,
+    pub key: HssPublicKey,
 }
 
 /// The digest of a member's recovery share.
@@ -176,7 +176,7 @@ pub struct Genesis {
     /// The state in which the service begins.
     pub state: ServiceState,
     /// The service's key, which endorses its nodes.
-    pub identity: HssKey,
+    pub identity: HssPublicKey,
     /// The nodes that begin it, at most 32.
     pub nodes: Nodes,
     /// The members who govern it, at most 64.

@@ -8,29 +8,31 @@ use Rattle.gl_tx.specs.declared.request.Operation.{Operation}
 use Rattle.gl_vmaps.specs.Versions.{Placed, written_by}
 use Rattle.gl_store.specs.Effect.{service_state}
 use Rattle.gl_store.specs.Tree.{tables_of}
-use Rattle.gl_store.specs.Ledger.{Held, application_entry, executed}
-use Rattle.gl_store.specs.Kept.{IsUpTo}
+use Rattle.gl_store.specs.Ledger.{Held, application_entry, execute_result}
+use Rattle.gl_rules.specs.Safety.{ViewsUpTo}
+use Rattle.gl_store.specs.Book.{service_book}
 use Rattle.gl_store.specs.declared.genesis.ServiceState.TheVariants.{Open}
 use Rattle.gl_store.proofs.TablesLaws.{above_next}
-use Rattle.gl_store.proofs.Applications.{application_made, executed_within}
+use Rattle.gl_store.proofs.Applications.{application_made, execute_within}
 use Rattle.gl_store.proofs.Keeping.{kept_with_application}
 use Rattle.gl_store.proofs.store.Store.execute_open.Goals as goal
 
 pub push-requires : goal.push-requires
 push-requires c =
     let k = c.self.inside in
-    above_next k.log.entries.items k.log.tables _ c.self.invariant.sound.in_order c.self.invariant.tables_are
-    (let place : c.in_ok-entry.entry.seqno ≡ length k.log.entries.items + 1 = search rules in place)
+    above_next k.state.entries.items k.state.tables _ c.self.invariant.sound.in_order c.self.invariant.tables_are
+    (let place : c.in_ok-entry.entry.seqno ≡ length k.state.entries.items + 1 = search rules in place)
 
 pub invariant_of-self-2 : goal.invariant_of-self-2
 invariant_of-self-2 c =
     let k = c.self.inside in
-    let ledger : List Entry = k.log.entries.items in
+    let ledger : List Entry = k.state.entries.items in
     let q : List Operation = c.args.request.now in
     let e : Entry = c.in_ok-entry.entry in
     let ran : Ran = record { answers = c.in_ok-ran.ran.reply; writes = c.in_ok-ran.ran.writes } in
     let is_open : service_state (tables_of ledger) ≡ Open = subst (λ (h : Held). service_state (tables_of h.ledger) ≡ Open) (sym c.self.view_is) c.requires.is_open in
-    let up : IsUpTo ledger c.args.view = subst (λ (h : Held). IsUpTo h.ledger c.args.view) (sym c.self.view_is) c.requires.up_to in
+    let up : ViewsUpTo service_book c.args.view ledger =
+    subst (λ (h : Held). ViewsUpTo service_book c.args.view h.ledger) (sym c.self.view_is) c.requires.up_to in
     let runs : run q (tables_of ledger) ≡ Ok ran = subst (λ (ps : List Placed). run q (written_by ps) ≡ Ok ran) c.self.invariant.tables_are c.in_ok-ran.ensures.ok in
     let at : c.len.result + 1 ≡ length ledger + 1 = omega arith in
     let spelled : c.deref.result.now ≡ reply_bytes ran.answers = c.deref.ensures.value ∙ c.in_ok-reply.ensures.bytes in
@@ -41,7 +43,7 @@ invariant_of-self-2 c =
     let short : length (reply_bytes ran.answers) ≤ body_limit = subst (λ (xs : List ℕ). length xs ≤ body_limit) reply c.in_default.ensures.reply in
     let place : c.len.result + 1 ≤ last_seqno = c.in_default.ensures.place in
     let left : length ledger < last_seqno = omega arith in
-    let gives : executed ledger c.args.view q ≡ Ok (e, ran.answers) =
-    executed_within ledger c.args.view q ran e is_open runs made small short left in
+    let gives : execute_result ledger c.args.view q ≡ Ok (e, ran.answers) =
+    execute_within ledger c.args.view q ran e is_open runs made small short left in
     kept_with_application ledger c.push.new.self.entries.items _ c.args.view q e ran.answers c.in_ok-leaf.leaf c.push.new.self.tables c.push.new.self.frontier
     c.self.invariant up c.in_ok-entry.ensures.request gives (c.in_ok-entry.ensures.fits small) c.in_ok-leaf.ensures c.in_ok-push.ensures.entries c.in_ok-push.ensures.tables c.in_ok-push.ensures.leaves

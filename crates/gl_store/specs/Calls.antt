@@ -1,0 +1,50 @@
+-- What the calls of a store come to, in the words of the rules over its book.
+use Rattle.std.specs.Prelude.{◌≡◌, ℕ, ◌+◌, ◌<◌, List, [], ◌∷◌, ◌++◌, Some, Result, Ok, Err, true, length}
+use Rattle.gl_base.specs.declared.tx_id.TxId.{TxId}
+use Rattle.gl_rules.specs.Log.{entry_at}
+use Rattle.gl_rules.specs.Node.{Node}
+use Rattle.gl_entry.specs.declared.entry.Entry.{Entry}
+use Rattle.gl_tx.specs.declared.request.Operation.{Operation}
+use Rattle.gl_tx.specs.declared.request.Answer.{Answer}
+use Rattle.gl_store.specs.Ledger.{Held}
+use Rattle.gl_store.specs.Book.{service_book, Replied, Unmade, ByStore}
+use Rattle.gl_store.specs.declared.refusal.StoreError.{StoreError}
+use Rattle.gl_store.specs.declared.refusal.StoreError.TheVariants as errors
+
+-- The node's log and its commit are what the store holds.
+pub record IsNodeOf (held : Held) (n : Node Entry) : Type 0 where
+  pub log : n.log ≡ held.ledger
+  pub commit : n.commit ≡ held.commit
+
+-- A signature stands at this place.
+abbrev pub IsSignedAt : List Entry → ℕ → Type 0
+IsSignedAt ledger place =
+    (e : Entry) × (entry_at ledger place ≡ Some e) × (service_book.is_signature e ≡ true)
+
+-- The place is that of a signature, or 0.
+abbrev pub IsSignedUpTo : List Entry → ℕ → Type 0
+IsSignedUpTo ledger place = 0 < place → IsSignedAt ledger place
+
+-- The store has one more entry, which has this identifier.
+pub record Enters (old : Held) (view : ℕ) (e : Entry) (id : TxId) (new : Held) : Type 0 where
+  pub named : id ≡ record { view = view; seqno = length old.ledger + 1 }
+  pub entered : new ≡ record old { ledger = old.ledger ++ e ∷ [] }
+
+-- The store made the entry of a request, with this identifier and reply.
+pub record Executes (old : Held) (view : ℕ) (q : List Operation)
+    (id : TxId) (reply : List Answer) (new : Held) : Type 0 where
+  pub entry : Entry
+  pub made : service_book.execute old.ledger view q ≡ Ok (entry, Replied reply)
+  pub enters : Enters old view entry id new
+
+-- The store made the entry of a node's signature, with this identifier. For now it is the same
+-- with each leaf of the node's key.
+pub record Signs (old : Held) (node : List ℕ) (view : ℕ) (id : TxId) (new : Held) : Type 0 where
+  pub entry : Entry
+  pub made : (leaf : ℕ) → service_book.sign node leaf old.ledger view old.commit ≡ Ok entry
+  pub enters : Enters old view entry id new
+
+-- A refusal is the book's; want of memory may come at any time.
+abbrev pub Refuses : {X : Type 0} → Result X Unmade → StoreError → Type 0
+Refuses owed errors.Memory = Unit {0}
+Refuses owed (errors.Refused why) = owed ≡ Err (ByStore why)

@@ -7,8 +7,8 @@ use Rattle.gl_rules.specs.Identity.{NodeId, same}
 use Rattle.gl_rules.specs.Majority.{quorum}
 use Rattle.gl_rules.specs.Node.{Node, Role, Leader}
 use Rattle.gl_rules.specs.Configuration.{configuration_at, configurations_above, or_else, active_upto}
-use Rattle.gl_rules.specs.Steps.{led_by}
-use Rattle.gl_rules.specs.Replication.{advance, commits, may_commit, greatest_to_commit}
+use Rattle.gl_rules.specs.Steps.{as_leader}
+use Rattle.gl_rules.specs.Replication.{advance, commit_to, may_commit, greatest_to_commit}
 use Rattle.gl_entry.specs.Entry.{is_signature}
 use Rattle.gl_store.specs.Ledger.{last_signature, signature_place}
 use Rattle.gl_entry.specs.declared.entry.Entry.{Entry}
@@ -131,9 +131,9 @@ greatest_alone x n c is alone views (suc place) h =
 
 pub advance_alone : (x : NodeId) (n : Node Entry) (c : ℕ) → n.role ≡ Leader → n.commit ≡ suc c → IsAlone x n.log →
     ((i : ℕ) (e : Entry) → slice_get n.log i ≡ Some e → e.view ≡ n.view) →
-    advance service_book x n ≡ commits service_book n (above n.commit (last_signature n.log))
+    advance service_book x n ≡ commit_to service_book n (above n.commit (last_signature n.log))
 unfolding advance
 advance_alone x n c leads is alone views =
-    ap (λ (r : Role). led_by r n (commits service_book n (greatest_to_commit service_book x n (length n.log)))) leads
-    ∙ ap (commits service_book n) (greatest_alone x n c is alone views (length n.log) (omega arith)
+    ap (λ (r : Role). as_leader r n (commit_to service_book n (greatest_to_commit service_book x n (length n.log)))) leads
+    ∙ ap (commit_to service_book n) (greatest_alone x n c is alone views (length n.log) (omega arith)
     ∙ ap (λ (l : List Entry). above n.commit (last_signature l)) (take-past n.log (length n.log) (omega arith)))

@@ -8,10 +8,10 @@ use Rattle.gl_base.specs.declared.tx_id.TxId.{TxId}
 use Rattle.gl_rules.specs.Node.{Node, Leader}
 use Rattle.gl_rules.specs.Outcome.{Step, quiet, refuse, idle, KeyExhausted, NotReserved, NothingToSign, ByLedger}
 use Rattle.gl_rules.specs.Outcome as outcome
-use Rattle.gl_rules.specs.Steps.{appended}
-use Rattle.gl_rules.specs.Requests.{submit, reserve, sign, signs, signed, signs_for, enters}
-use Rattle.gl_rules.specs.Replication.{advance, commits}
-use Rattle.gl_rules.specs.Log.{entry_at}
+use Rattle.gl_rules.specs.Steps.{append_entry}
+use Rattle.gl_rules.specs.Requests.{submit, reserve, sign, sign_as_leader, append_signature, append_result}
+use Rattle.gl_rules.specs.Replication.{advance, commit_to}
+use Rattle.gl_rules.specs.Log.{entry_at, is_signature_in}
 use Rattle.gl_rules.specs.World.{leader_at_start}
 use Rattle.gl_entry.specs.Entry.{is_signature}
 use Rattle.gl_store.specs.Kept.{IsUpTo}
@@ -104,11 +104,11 @@ last_is_signed (e ∷ es) i is = go (is_signature e.content) (last_signature es)
     go : (b : Bool) (n : ℕ) (j : ℕ) → is_signature e.content ≡ b → last_signature es ≡ n → signature_place b n ≡ suc j →
         ((k : ℕ) → last_signature es ≡ suc k → (f : Entry) × (slice_get es k ≡ Some f) × (is_signature f.content ≡ true)) →
         (f : Entry) × (slice_get (e ∷ es) j ≡ Some f) × (is_signature f.content ≡ true)
-    go true zero zero signs none p again = (e, refl, signs)
-    go true zero (suc j) signs none p again = absurd (omega arith)
-    go false zero j signs none p again = absurd (omega arith)
-    go b (suc n) zero signs some p again = absurd (let q : suc (suc n) ≡ suc zero = p in omega (arith, q))
-    go b (suc n) (suc j) signs some p again =
+    go true zero zero sign_as_leader none p again = (e, refl, sign_as_leader)
+    go true zero (suc j) sign_as_leader none p again = absurd (omega arith)
+    go false zero j sign_as_leader none p again = absurd (omega arith)
+    go b (suc n) zero sign_as_leader some p again = absurd (let q : suc (suc n) ≡ suc zero = p in omega (arith, q))
+    go b (suc n) (suc j) sign_as_leader some p again =
         let q : last_signature es ≡ suc j = some ∙ (let r : suc (suc n) ≡ suc (suc j) = p in omega (arith, r)) in
         again j q
 
@@ -122,7 +122,7 @@ signed_at_last ledger some = go (last_signature ledger) refl some
 pub advance_idle : (m : Machine) → IsMachine m → last_signature m.store.ledger ≤ m.store.commit → advance service_book m.id (node_in m) ≡ idle (node_in m)
 advance_idle m h below =
     ap (λ (x : List ℕ). advance service_book x (node_in m)) h.named ∙ advance-is m.settings (node_in m) h.solo
-    ∙ ap (λ (b : Bool). commits service_book (node_in m) (if b then Some (last_signature m.store.ledger) else None))
+    ∙ ap (λ (b : Bool). commit_to service_book (node_in m) (if b then Some (last_signature m.store.ledger) else None))
     (let t : nat_lt m.store.commit (last_signature m.store.ledger) ≡ false = grind (arith, nat_tests) in t)
 
 view_there : (m : Machine) → IsMachine m → (place : ℕ) → IsSignedAt m.store.ledger place → Rattle.gl_rules.specs.Log.view_at service_book m.store.ledger place ≡ 2
@@ -142,7 +142,7 @@ advance_commits m h above =
     ap (λ (x : List ℕ). advance service_book x (node_in m)) h.named in
     let is : advance service_book (id_of m.settings 1) (node_in m) ≡ quiet (node_in new) (outcome.Committed 2 place) =
     advance-is m.settings (node_in m) h.solo
-    ∙ ap (λ (b : Bool). commits service_book (node_in m) (if b then Some place else None))
+    ∙ ap (λ (b : Bool). commit_to service_book (node_in m) (if b then Some place else None))
     (let t : nat_lt m.store.commit place ≡ true = grind (arith, nat_tests) in t)
     ∙ ap (λ (v : ℕ). quiet {E = Entry} {A = Given} {F = Unmade} (node_in new) (outcome.Committed v place)) (view_there m h place signed_there) in
     (named ∙ is, goes_on m new (advance service_book (id_of m.settings 1) (node_in m)) (outcome.Committed 2 place) h refl refl (solo_advance m.settings (node_in m) h.solo) is h.leaves)
@@ -152,7 +152,7 @@ up_to m h = ledger_views m.settings (node_in m) h.solo
 
 -- a request that bytes spell
 abbrev requested_if : Machine → List Operation → Bool → ServiceStep
-requested_if m q spelled = enters service_book (node_in m) (if spelled then replied (executed m.store.ledger 2 q) else Err Unspelled)
+requested_if m q spelled = append_result service_book (node_in m) (if spelled then replied (executed m.store.ledger 2 q) else Err Unspelled)
 
 -- an accepted request
 pub submit_accepted : (m : Machine) (st : Held) (q : List Operation) (id : TxId) (reply : List Answer) → IsMachine m → is_request q ≡ true → Executes m.store 2 q id reply st →
@@ -162,12 +162,12 @@ submit_accepted m st q id reply h fits ran =
     let new : Machine = record m { store = st } in
     let made = executed_ok m.store.ledger 2 q ran.entry reply ran.made in
     let view : ran.entry.view ≡ 2 = ap (λ (e : Entry). e.view) made.3 in
-    let node : appended (node_in m) ran.entry ≡ node_in new = ap (λ (x : Held). node_in (record m { store = x })) (sym ran.entered) in
+    let node : append_entry (node_in m) ran.entry ≡ node_in new = ap (λ (x : Held). node_in (record m { store = x })) (sym ran.entered) in
     let is : submit service_book q (node_in m) ≡ quiet (node_in new) (outcome.Accepted id.view id.seqno (Replied reply)) =
     submit-is m.settings (node_in m) q h.solo
     ∙ ap (requested_if m q) fits
-    ∙ ap (λ (r : Result (Entry × List Answer) Refusal). enters service_book (node_in m) (replied r)) ran.made
-    ∙ ap (λ (v : ℕ). quiet {E = Entry} {A = Given} {F = Unmade} (appended (node_in m) ran.entry) (outcome.Accepted v (length m.store.ledger + 1) (Replied reply))) view
+    ∙ ap (λ (r : Result (Entry × List Answer) Refusal). append_result service_book (node_in m) (replied r)) ran.made
+    ∙ ap (λ (v : ℕ). quiet {E = Entry} {A = Given} {F = Unmade} (append_entry (node_in m) ran.entry) (outcome.Accepted v (length m.store.ledger + 1) (Replied reply))) view
     ∙ ap (λ (n : Node Entry). quiet {E = Entry} {A = Given} {F = Unmade} n (outcome.Accepted 2 (length m.store.ledger + 1) (Replied reply))) node
     ∙ ap (λ (t : TxId). quiet {E = Entry} {A = Given} {F = Unmade} (node_in new) (outcome.Accepted t.view t.seqno (Replied reply))) (sym ran.named) in
     (is, goes_on m new (submit service_book q (node_in m)) _ h refl refl (solo_submit m.settings (node_in m) q h.solo) is h.leaves)
@@ -182,11 +182,11 @@ submit_refused m st q why h fits refused same =
     let is : submit service_book q (node_in m) ≡ quiet (node_in new) (outcome.Refused (ByLedger (ByStore why))) =
     submit-is m.settings (node_in m) q h.solo
     ∙ ap (requested_if m q) fits
-    ∙ ap (λ (r : Result (Entry × List Answer) Refusal). enters service_book (node_in m) (replied r)) refused
+    ∙ ap (λ (r : Result (Entry × List Answer) Refusal). append_result service_book (node_in m) (replied r)) refused
     ∙ ap (λ (n : Node Entry). quiet {E = Entry} {A = Given} {F = Unmade} n (outcome.Refused (ByLedger (ByStore why)))) node in
     (is, goes_on m new (submit service_book q (node_in m)) _ h refl refl (solo_submit m.settings (node_in m) q h.solo) is h.leaves)
 
-sign_of : (m : Machine) → IsMachine m → sign service_book m.id (node_in m) ≡ signs service_book m.id (node_in m)
+sign_of : (m : Machine) → IsMachine m → sign service_book m.id (node_in m) ≡ sign_as_leader service_book m.id (node_in m)
 sign_of m h = sign-is m.settings m.id (node_in m) h.solo
 
 not-true : (b : Bool) → (b ≡ true → ⊥) → b ≡ false
@@ -196,50 +196,50 @@ not-true false n = refl
 -- the last entry is a signature where the last signature stands at the ledger's length, and nowhere else
 last_if_signed : (ledger : List Entry) (i : ℕ) (e : Entry) → length ledger ≡ suc i → slice_get ledger i ≡ Some e → is_signature e.content ≡ true → last_signature ledger ≡ suc i
 last_if_signed [] i e long at signs = absurd (omega arith)
-last_if_signed (f ∷ []) zero e long at signs = let p : f ≡ e = cc in rw (p, signs) refl
+last_if_signed (f ∷ []) zero e long at signs = let p : f ≡ e = cc in rw (p, sign_as_leader) refl
 last_if_signed (f ∷ []) (suc i) e long at signs = absurd (omega arith)
 last_if_signed (f ∷ g ∷ es) zero e long at signs = absurd (omega arith)
-last_if_signed (f ∷ g ∷ es) (suc i) e long at signs =
-    ap (λ (n : ℕ). signature_place (is_signature f.content) n) (last_if_signed (g ∷ es) i e (omega arith) at signs)
+last_if_signed (f ∷ g ∷ es) (suc i) e long at sign_as_leader =
+    ap (λ (n : ℕ). signature_place (is_signature f.content) n) (last_if_signed (g ∷ es) i e (omega arith) at sign_as_leader)
 
-signs_two : (e : Entry) → e.view ≡ 2 → signs_for service_book 2 (Some e) ≡ is_signature e.content
+signs_two : (e : Entry) → e.view ≡ 2 → is_signature_in service_book 2 (Some e) ≡ is_signature e.content
 signs_two e view = rw view (and-true (is_signature e.content))
 
 last_entry_signs : (m : Machine) → IsMachine m → last_signature m.store.ledger ≡ length m.store.ledger →
-    signs_for service_book 2 (entry_at m.store.ledger (length m.store.ledger)) ≡ true
+    is_signature_in service_book 2 (entry_at m.store.ledger (length m.store.ledger)) ≡ true
 last_entry_signs m h is = go (length m.store.ledger) refl
   where
-    go : (n : ℕ) → length m.store.ledger ≡ n → signs_for service_book 2 (entry_at m.store.ledger n) ≡ true
+    go : (n : ℕ) → length m.store.ledger ≡ n → is_signature_in service_book 2 (entry_at m.store.ledger n) ≡ true
     go zero none = absurd (let l = h.solo.ledger.long in omega arith)
     go (suc i) some =
         let last = last_is_signed m.store.ledger i (is ∙ some) in
-        ap (λ (o : Option Entry). signs_for service_book 2 o) last.1 ∙ signs_two last.0 (h.solo.ledger.views i last.0 last.1) ∙ last.2
+        ap (λ (o : Option Entry). is_signature_in service_book 2 o) last.1 ∙ signs_two last.0 (h.solo.ledger.views i last.0 last.1) ∙ last.2
 
 last_entry_unsigned : (m : Machine) → IsMachine m → (last_signature m.store.ledger ≡ length m.store.ledger → ⊥) →
-    signs_for service_book 2 (entry_at m.store.ledger (length m.store.ledger)) ≡ false
+    is_signature_in service_book 2 (entry_at m.store.ledger (length m.store.ledger)) ≡ false
 last_entry_unsigned m h other = go (length m.store.ledger) refl
   where
-    go : (n : ℕ) → length m.store.ledger ≡ n → signs_for service_book 2 (entry_at m.store.ledger n) ≡ false
+    go : (n : ℕ) → length m.store.ledger ≡ n → is_signature_in service_book 2 (entry_at m.store.ledger n) ≡ false
     go zero none = absurd (let l = h.solo.ledger.long in omega arith)
     go (suc i) some =
         let last = there m.store.ledger i (omega arith) in
-        ap (λ (o : Option Entry). signs_for service_book 2 o) last.1 ∙ signs_two last.0 (h.solo.ledger.views i last.0 last.1)
-        ∙ not-true (is_signature last.0.content) (λ signs. other (last_if_signed m.store.ledger i last.0 some last.1 signs ∙ sym some))
+        ap (λ (o : Option Entry). is_signature_in service_book 2 o) last.1 ∙ signs_two last.0 (h.solo.ledger.views i last.0 last.1)
+        ∙ not-true (is_signature last.0.content) (λ sign_as_leader. other (last_if_signed m.store.ledger i last.0 some last.1 sign_as_leader ∙ sym some))
 
 sign_choice : (m : Machine) → Bool → Bool → ServiceStep
 sign_choice m used unsigned =
     if used then refuse (node_in m) (NotReserved m.reserved) else (
     if unsigned
     then refuse (node_in m) (NothingToSign (length m.store.ledger))
-    else signed service_book (node_in m) (by_store (made.signed m.id m.store.ledger 2 m.store.commit))
+    else append_signature service_book (node_in m) (by_store (made.signed m.id m.store.ledger 2 m.store.commit))
     )
 
 sign_chosen : (m : Machine) (used unsigned : Bool) → IsMachine m → (m.used == m.reserved) ≡ used →
-    signs_for service_book 2 (entry_at m.store.ledger (length m.store.ledger)) ≡ unsigned →
+    is_signature_in service_book 2 (entry_at m.store.ledger (length m.store.ledger)) ≡ unsigned →
     sign service_book m.id (node_in m) ≡ sign_choice m used unsigned
 unfolding sign_choice
 sign_chosen m used unsigned h is_used is_unsigned =
-    sign_of m h ∙ ap (λ (b : Bool). sign_choice m b (signs_for service_book 2 (entry_at m.store.ledger (length m.store.ledger)))) is_used
+    sign_of m h ∙ ap (λ (b : Bool). sign_choice m b (is_signature_in service_book 2 (entry_at m.store.ledger (length m.store.ledger)))) is_used
     ∙ ap (λ (b : Bool). sign_choice m used b) is_unsigned
 
 pub sign_nothing : (m : Machine) → IsMachine m → (m.used ≡ m.reserved → ⊥) → last_signature m.store.ledger ≡ length m.store.ledger →
@@ -266,8 +266,8 @@ sign_signs m st id h free other s =
     let view : s.entry.view ≡ 2 = ap (λ (e : Entry). e.view) (made_signature m.id m.store.ledger 2 m.store.commit s.entry s.made) in
     let is : sign service_book m.id (node_in m) ≡ quiet (node_in new) (outcome.Signed id.view id.seqno) =
     sign_chosen m false false h (let t : (m.used == m.reserved) ≡ false = grind (arith, nat_tests) in t) (last_entry_unsigned m h other)
-    ∙ ap (λ (r : Result Entry Refusal). signed service_book (node_in m) (by_store r)) s.made
-    ∙ ap (λ (v : ℕ). quiet {E = Entry} {A = Given} {F = Unmade} (record (appended (node_in m) s.entry) { used = m.used + 1 }) (outcome.Signed v (length m.store.ledger + 1))) view
+    ∙ ap (λ (r : Result Entry Refusal). append_signature service_book (node_in m) (by_store r)) s.made
+    ∙ ap (λ (v : ℕ). quiet {E = Entry} {A = Given} {F = Unmade} (record (append_entry (node_in m) s.entry) { used = m.used + 1 }) (outcome.Signed v (length m.store.ledger + 1))) view
     ∙ ap (λ (x : Held). quiet {E = Entry} {A = Given} {F = Unmade} (node_in (record m { store = x; used = m.used + 1 })) (outcome.Signed 2 (length m.store.ledger + 1))) (sym s.entered)
     ∙ ap (λ (t : TxId). quiet {E = Entry} {A = Given} {F = Unmade} (node_in new) (outcome.Signed t.view t.seqno)) (sym s.named) in
     (is, goes_on m new (sign service_book m.id (node_in m)) _ h refl refl (solo_sign m.settings m.id (node_in m) h.solo) is leaves)
@@ -283,10 +283,10 @@ sign_refused m st why h free other refused same =
     let node : node_in m ≡ node_in new = ap (λ (x : Held). node_in (record m { store = x })) (sym same) in
     let is : sign service_book m.id (node_in m) ≡ quiet (node_in new) (outcome.Refused (ByLedger (ByStore why))) =
     sign_chosen m false false h (let t : (m.used == m.reserved) ≡ false = grind (arith, nat_tests) in t) (last_entry_unsigned m h other)
-    ∙ ap (λ (r : Result Entry Refusal). signed service_book (node_in m) (by_store r)) refused
+    ∙ ap (λ (r : Result Entry Refusal). append_signature service_book (node_in m) (by_store r)) refused
     ∙ ap (λ (n : Node Entry). quiet {E = Entry} {A = Given} {F = Unmade} n (outcome.Refused (ByLedger (ByStore why)))) node in
     (is, goes_on m new (sign service_book m.id (node_in m)) _ h refl refl (solo_sign m.settings m.id (node_in m) h.solo) is h.leaves)
 
 pub sign_unreserved : (m : Machine) → IsMachine m → m.used ≡ m.reserved → sign service_book m.id (node_in m) ≡ quiet (node_in m) (outcome.Refused (NotReserved m.reserved))
 unfolding sign_choice
-sign_unreserved m h equal = sign_chosen m true (signs_for service_book 2 (entry_at m.store.ledger (length m.store.ledger))) h (let t : (m.used == m.reserved) ≡ true = grind (arith, nat_tests) in t) refl
+sign_unreserved m h equal = sign_chosen m true (is_signature_in service_book 2 (entry_at m.store.ledger (length m.store.ledger))) h (let t : (m.used == m.reserved) ≡ true = grind (arith, nat_tests) in t) refl

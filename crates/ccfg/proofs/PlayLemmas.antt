@@ -10,7 +10,7 @@ use Rattle.gl_rules.specs.World.{at, happens}
 use Rattle.gl_rules.specs.World as event
 use Rattle.gl_rules.specs.Requests.{submit, reserve, sign}
 use Rattle.gl_rules.specs.Replication.{advance}
-use Rattle.gl_rules.specs.Safety.{reported}
+use Rattle.gl_rules.specs.Safety.{reported_status}
 use Rattle.gl_entry.specs.declared.entry.Entry.{Entry}
 use Rattle.gl_tx.specs.declared.request.Operation.{Operation}
 use Rattle.gl_service.specs.declared.settings.Settings.{Settings}
@@ -109,9 +109,9 @@ prints_advance w old new o m is_in step =
     record { text = shown.0; node = shown.1 }
 
 pub prints_status : (w : ServiceWorld) (m : Machine) (id : TxId) (st : Rattle.gl_base.specs.declared.status_kind.Status.Status) → IsIn w m →
-    st ≡ reported service_book (node_in m) id → PrintsAt w (commands.Status id) m m (answered.Status st)
+    st ≡ reported_status service_book (node_in m) id → PrintsAt w (commands.Status id) m m (answered.Status st)
 prints_status w m id st is_in is = record {
-  text = ap (λ (n : Node Entry). Rattle.ccfg.specs.Text.status_text (reported service_book n id)) is_in ∙ ap (λ (x : Rattle.gl_base.specs.declared.status_kind.Status.Status). Rattle.ccfg.specs.Text.status_text x) (sym is);
+  text = ap (λ (n : Node Entry). Rattle.ccfg.specs.Text.status_text (reported_status service_book n id)) is_in ∙ ap (λ (x : Rattle.gl_base.specs.declared.status_kind.Status.Status). Rattle.ccfg.specs.Text.status_text x) (sym is);
   node = is_in;
 }
 

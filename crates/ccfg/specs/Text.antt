@@ -12,7 +12,7 @@ use Rattle.gl_rules.specs.World as event
 use Rattle.gl_rules.specs.Outcome.{Refusal}
 use Rattle.gl_rules.specs.Outcome as outcome
 use Rattle.gl_rules.specs.Node.{Node}
-use Rattle.gl_rules.specs.Safety.{committed, reported}
+use Rattle.gl_rules.specs.Safety.{committed_ledger, reported_status}
 use Rattle.gl_entry.specs.Entry.{frame_bytes}
 use Rattle.gl_entry.specs.declared.entry.Entry.{Entry}
 use Rattle.gl_store.specs.Genesis.{state_byte}
@@ -169,7 +169,7 @@ printed_event s w e =
 
 -- The entries of a node's committed ledger, and those of its log, above its base.
 abbrev pub committed_above : Node Entry → List Entry
-committed_above n = drop n.base (committed n)
+committed_above n = drop n.base (committed_ledger n)
 
 abbrev pub held_above : Node Entry → List Entry
 held_above n = drop n.base n.log
@@ -194,7 +194,7 @@ printed_at s w x (commands.Submit operations) = printed_event s w (event.Submit 
 printed_at s w x commands.Reserve = printed_event s w (event.Reserve x)
 printed_at s w x commands.Sign = printed_event s w (event.Sign x)
 printed_at s w x commands.Advance = printed_event s w (event.Advance x)
-printed_at s w x (commands.Status id) = asked w (status_text (reported service_book (w.nodes x) id))
+printed_at s w x (commands.Status id) = asked w (status_text (reported_status service_book (w.nodes x) id))
 printed_at s w x commands.Ids = asked w (ids_text (committed_above (w.nodes x)))
 printed_at s w x commands.Ledger = asked w (ledger_text (held_above (w.nodes x)))
 

@@ -32,7 +32,7 @@ pub struct Machine {
 impl Machine {
     ghost use Rattle.gl_rules.specs.Requests.{submit, reserve, sign};
     ghost use Rattle.gl_rules.specs.Replication.{advance};
-    ghost use Rattle.gl_rules.specs.Safety.{reported};
+    ghost use Rattle.gl_rules.specs.Safety.{reported_status};
     ghost use Rattle.gl_rules.specs.World.{leader_at_start};
     ghost use Rattle.gl_service.specs.Single.{IsSingle};
     ghost use Rattle.gl_service.specs.Service.{ServiceWorld, service_book, start_of};
@@ -127,7 +127,7 @@ impl Machine {
 
     /// The status of a transaction.
     pub fn status(&self, id: TxId) -> Status
-        ensures { result ≡ reported service_book (node_in self.now) id }
+        ensures { result ≡ reported_status service_book (node_in self.now) id }
     {
         self.store.status(id)
     }

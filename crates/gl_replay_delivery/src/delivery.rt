@@ -1,15 +1,16 @@
 //! What a node does with a message to it.
 
 ghost use Rattle.std.specs.Prelude.{◌≡◌, ◌<◌, IfOk};
-ghost use Rattle.gl_rules.specs.World.{answer_as, kept_by, on_message, risen};
+ghost use Rattle.gl_rules.specs.Steps.{update_view};
+ghost use Rattle.gl_rules.specs.World.{answer_as, undo_if_refused, on_message};
 ghost use Rattle.gl_replay_rules.specs.Entry.{small};
 ghost use Rattle.gl_replay_rules.specs.Pairs.{held};
 ghost use Rattle.gl_replay_rules.specs.Seen.{seen, seen_body, seen_message, seen_outcome, seen_step};
 
 use crate::append::on_append;
-use crate::install::risen_to;
+use crate::install::update_view;
 use crate::reply::on_append_reply;
-use gl_replay_rules::changes::{copied, refuse};
+use gl_replay_rules::changes::{copy_node, refuse};
 use gl_replay_rules::elections::{on_propose_vote, on_request_vote, on_vote_reply};
 use gl_replay_rules::node::Node;
 use gl_replay_rules::step::{Body, Message, Outcome, Step};
@@ -29,22 +30,22 @@ pub fn answer_as(alloc: Global, message: &Message, node: &Node) -> Result<Step, 
         Body::Append(prev, entries, commit) => on_append(
             alloc, x, y, view, *prev, entries, *commit, node,
         ),
-        Body::AppendReply(ok, place) => on_append_reply(alloc, y, view, *ok, *place, node),
+        Body::AppendReply(ok, seqno) => on_append_reply(alloc, y, view, *ok, *seqno, node),
         Body::ProposeVote => on_propose_vote(alloc, x, view, node),
     }
 }
 
 /// A message of a higher view makes the view rise first.
-pub fn risen(alloc: Global, view: u32, node: &Node) -> Result<Node, AllocError>
-    ensures { IfOk result (λ new. seen new ≡ risen small view (seen node.now)) }
+pub fn with_updated_view(alloc: Global, view: u32, node: &Node) -> Result<Node, AllocError>
+    ensures { IfOk result (λ new. seen new ≡ update_view small view (seen node.now)) }
 {
-    let copy = copied(alloc, node)?;
-    Ok(risen_to(view, copy))
+    let copy = copy_node(alloc, node)?;
+    Ok(update_view(view, copy))
 }
 
 /// A refused delivery leaves the node as it was, whatever had risen.
-pub fn kept_by(alloc: Global, node: &Node, step: Step) -> Result<Step, AllocError>
-    ensures { IfOk result (λ kept. seen_step kept ≡ kept_by (seen_outcome step.outcome) (seen node.now) (seen_step step)) }
+pub fn undo_if_refused(alloc: Global, node: &Node, step: Step) -> Result<Step, AllocError>
+    ensures { IfOk result (λ kept. seen_step kept ≡ undo_if_refused (seen_outcome step.outcome) (seen node.now) (seen_step step)) }
 {
     match step.outcome {
         Outcome::Refused(why) => refuse(alloc, node, why),
@@ -64,7 +65,7 @@ pub fn receive(alloc: Global, message: &Message, node: &Node) -> Result<Step, Al
     requires fits { held node.now.matched.items message.now.sender < usize.MAX }
     ensures { IfOk result (λ step. seen_step step ≡ on_message small (seen_message message.now) (seen node.now)) }
 {
-    let new = risen(alloc, message.view, node)?;
+    let new = with_updated_view(alloc, message.view, node)?;
     let step = answer_as(alloc, message, &new)?;
-    kept_by(alloc, node, step)
+    undo_if_refused(alloc, node, step)
 }

@@ -130,7 +130,7 @@ fn subject(world: &World, event: Event) -> u8 {
     }
 }
 
-fn delivered(
+fn deliver(
     alloc: Global,
     world: &World,
     which: usize,
@@ -154,7 +154,7 @@ fn step(
     node: &Node,
 ) -> Result<Option<Step>, AllocError> {
     let step = match event {
-        Event::Deliver(which) => return delivered(alloc, world, which, node),
+        Event::Deliver(which) => return deliver(alloc, world, which, node),
         Event::Timeout(x) => timeout(alloc, [x], node)?,
         Event::Submit(_, request) => submit(alloc, request, node)?,
         Event::Finish(_, len, cuts, request) => finish(alloc, len, cuts, 0, request, node)?,
@@ -190,8 +190,8 @@ fn happen(alloc: Global, world: &mut World, event: Event) -> Result<String, Allo
             },
         ) => {
             let count = sent.len();
-            if let Some(place) = world.nodes.get_mut(usize::from(x.saturating_sub(1))) {
-                *place = node;
+            if let Some(seqno) = world.nodes.get_mut(usize::from(x.saturating_sub(1))) {
+                *seqno = node;
             }
             for message in sent {
                 world.sent.push(message)?;
@@ -333,11 +333,11 @@ const RESTARTED_VOTER_SENT: [(usize, &str); 4] = [
     ),
     (
         3,
-        "Message { sender: [1], receiver: [2], view: 3, body: RequestVote(Last { view: 2, place: 2 }) }",
+        "Message { sender: [1], receiver: [2], view: 3, body: RequestVote(Position { view: 2, seqno: 2 }) }",
     ),
     (
         4,
-        "Message { sender: [1], receiver: [3], view: 3, body: RequestVote(Last { view: 2, place: 2 }) }",
+        "Message { sender: [1], receiver: [3], view: 3, body: RequestVote(Position { view: 2, seqno: 2 }) }",
     ),
     (
         5,

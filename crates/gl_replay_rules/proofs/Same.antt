@@ -3,7 +3,7 @@ use Rattle.std.proofs.Common.{◌≡◌, ℕ, List, filter, Bool, ◌&&◌, not,
 use Rattle.gl_rules.specs.Identity.{NodeId, same, member}
 use Rattle.gl_rules.specs.Majority.{quorum}
 use Rattle.gl_rules.specs.Configuration.{in_some}
-use Rattle.gl_rules.specs.Message.{Last, Message}
+use Rattle.gl_rules.specs.Message.{Position, Message}
 use Rattle.gl_replay_rules.specs.declared.entry.Entry.{Entry}
 use Rattle.gl_replay_rules.specs.Seen.{requests_from}
 
@@ -15,5 +15,5 @@ pub others_by : (r : List NodeId) (x : NodeId) (s t : List (List NodeId)) (u v :
 others_by r x s t u v is p q =
     is ∙ ap (λ (l : List (List NodeId)). filter (λ y. not (same y x) && in_some y l) u) p ∙ ap (filter (λ y. not (same y x) && in_some y t)) q
 
-pub requests_by : (r : List (Message Entry)) (x : NodeId) (view : ℕ) (l m : Last) (u v : List NodeId) → r ≡ requests_from x view l u → l ≡ m → u ≡ v → r ≡ requests_from x view m v
-requests_by r x view l m u v is p q = is ∙ ap (λ (k : Last). requests_from x view k u) p ∙ ap (requests_from x view m) q
+pub requests_by : (r : List (Message Entry)) (x : NodeId) (view : ℕ) (l m : Position) (u v : List NodeId) → r ≡ requests_from x view l u → l ≡ m → u ≡ v → r ≡ requests_from x view m v
+requests_by r x view l m u v is p q = is ∙ ap (λ (k : Position). requests_from x view k u) p ∙ ap (requests_from x view m) q

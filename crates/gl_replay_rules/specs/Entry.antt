@@ -66,9 +66,9 @@ is_mark_of y Evidence = false
 
 abbrev pub one_later : Option ℕ → Option ℕ
 one_later None = None
-one_later (Some place) = Some (suc place)
+one_later (Some seqno) = Some (suc seqno)
 
--- The place of the first entry that passes the test.
+-- The seqno of the first entry that passes the test.
 abbrev pub first_place : (Entry → Bool) → List Entry → Option ℕ
 first_place test [] = None
 first_place test (e ∷ es) = if test e then Some 1 else one_later (first_place test es)
@@ -140,7 +140,7 @@ small = record {
   recorded_commit = λ e. commit_in e.kind;
   frame_size = λ e. 1;
   configuration = λ log. set_at (entry_at log (length log));
-  recorded = λ log. recorded_from [] log;
+  recorded_nodes = λ log. recorded_from [] log;
   removal = removal_of;
   mark = mark_of;
   leaves = λ x. 32;
@@ -148,8 +148,8 @@ small = record {
   govern = λ log view g. made_if (fits log (kind_of g)) (record { view = view; kind = kind_of g }, 0);
   sign = λ x leaf log view commit. Ok (record { view = view; kind = Signature commit });
   evidence = λ log view. made_if (fits log Evidence) (record { view = view; kind = Evidence });
-  marks = marked_by;
-  unmarkable = λ log y. None;
+  marked_node = marked_by;
+  mark_refusal = λ log y. None;
   conflict = λ log len reads. None;
   breaks = λ log e. fault_of (fits log e.kind);
 }

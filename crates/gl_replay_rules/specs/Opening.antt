@@ -7,7 +7,7 @@ use Rattle.gl_replay_rules.specs.declared.entry.Nodes.{Nodes}
 use Rattle.gl_replay_rules.specs.declared.entry.Kind.TheVariants.{Change, Signature}
 use Rattle.gl_replay_rules.specs.Entry.{members}
 
--- the set of trusted nodes, and a signature that records its own place
+-- the set of trusted nodes, and a signature that records its own seqno
 abbrev pub opening : Nodes → List Entry
 opening nodes = record { view = 2; kind = Change nodes } ∷ record { view = 2; kind = Signature 2 } ∷ []
 

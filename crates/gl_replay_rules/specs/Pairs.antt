@@ -1,8 +1,8 @@
--- Nodes with a place each; the first pair of a node counts.
+-- Nodes with a seqno each; the first pair of a node counts.
 use Rattle.std.specs.Prelude.{ℕ, List, [], ◌∷◌, Option, Some, None, if◌then◌else◌}
 use Rattle.gl_rules.specs.Identity.{NodeId, same}
 
--- the place that the first pair of a node has, 0 where it has none
+-- the seqno that the first pair of a node has, 0 where it has none
 abbrev pub held : List (NodeId × ℕ) → NodeId → ℕ
 held [] y = 0
 held (p ∷ ps) y = if same y p.0 then p.1 else held ps y

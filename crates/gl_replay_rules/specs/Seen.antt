@@ -12,7 +12,7 @@ use Rattle.gl_replay_rules.specs.declared.node.Role.{Role}
 use Rattle.gl_replay_rules.specs.declared.node.Role.TheVariants as roles
 use Rattle.gl_replay_rules.specs.declared.step.Extended.{Extended}
 use Rattle.gl_replay_rules.specs.declared.step.Extended.TheVariants as extents
-use Rattle.gl_replay_rules.specs.declared.step.Last.{Last}
+use Rattle.gl_replay_rules.specs.declared.step.Position.{Position}
 use Rattle.gl_replay_rules.specs.declared.step.Body.{Body}
 use Rattle.gl_replay_rules.specs.declared.step.Body.TheVariants as bodies
 use Rattle.gl_replay_rules.specs.declared.step.Message.{Message}
@@ -45,14 +45,14 @@ seen n = record {
   cuts = n.cuts;
 }
 
-abbrev pub seen_last : Last → messages.Last
-seen_last l = record { view = l.view; place = l.place }
+abbrev pub seen_position : Position → messages.Position
+seen_position l = record { view = l.view; seqno = l.seqno }
 
 abbrev pub seen_body : Body → messages.Body Entry
-seen_body (bodies.RequestVote last) = messages.RequestVote (seen_last last)
+seen_body (bodies.RequestVote last) = messages.RequestVote (seen_position last)
 seen_body (bodies.VoteReply granted) = messages.VoteReply granted
-seen_body (bodies.Append prev entries commit) = messages.Append (seen_last prev) entries.items commit
-seen_body (bodies.AppendReply ok place) = messages.AppendReply ok place
+seen_body (bodies.Append prev entries commit) = messages.Append (seen_position prev) entries.items commit
+seen_body (bodies.AppendReply ok seqno) = messages.AppendReply ok seqno
 seen_body bodies.ProposeVote = messages.ProposeVote
 
 abbrev pub seen_message : Message → messages.Message Entry
@@ -63,8 +63,8 @@ seen_refusal (refusals.NotPrimary view leader) = outcomes.NotPrimary view leader
 seen_refusal (refusals.TooManyPending limit) = outcomes.TooManyPending limit
 seen_refusal (refusals.NotReserved reserved) = outcomes.NotReserved reserved
 seen_refusal (refusals.KeyExhausted reserved) = outcomes.KeyExhausted reserved
-seen_refusal (refusals.NothingToSign place) = outcomes.NothingToSign place
-seen_refusal (refusals.RemovalNotCommitted place commit) = outcomes.RemovalNotCommitted place commit
+seen_refusal (refusals.NothingToSign seqno) = outcomes.NothingToSign seqno
+seen_refusal (refusals.RemovalNotCommitted seqno commit) = outcomes.RemovalNotCommitted seqno commit
 seen_refusal (refusals.BelowCommit commit cut) = outcomes.BelowCommit commit cut
 seen_refusal refusals.NotPeer = outcomes.NotPeer
 seen_refusal (refusals.BelowBase base) = outcomes.BelowBase base
@@ -78,21 +78,21 @@ seen_outcome answers.Done = outcomes.Done
 seen_outcome answers.Idle = outcomes.Idle
 seen_outcome answers.BecameCandidate = outcomes.BecameCandidate
 seen_outcome answers.BecameLeader = outcomes.BecameLeader
-seen_outcome (answers.Accepted view place answer) = outcomes.Accepted view place answer
-seen_outcome (answers.Signed view place) = outcomes.Signed view place
-seen_outcome (answers.Committed view place) = outcomes.Committed view place
+seen_outcome (answers.Accepted view seqno answer) = outcomes.Accepted view seqno answer
+seen_outcome (answers.Signed view seqno) = outcomes.Signed view seqno
+seen_outcome (answers.Committed view seqno) = outcomes.Committed view seqno
 seen_outcome (answers.Refused why) = outcomes.Refused (seen_refusal why)
 
 abbrev pub seen_step : Step → outcomes.Step Entry ℕ Fault
 seen_step s = record { node = seen s.node; sent = map seen_message s.sent.items; outcome = seen_outcome s.outcome }
 
 -- A request for a vote to each of these nodes.
-abbrev pub requests_from : NodeId → ℕ → messages.Last → List NodeId → List (messages.Message Entry)
+abbrev pub requests_from : NodeId → ℕ → messages.Position → List NodeId → List (messages.Message Entry)
 requests_from x view last to = map (λ y. record { sender = x; receiver = y; view = view; body = messages.RequestVote last }) to
 
--- Whether y holds the log of x up to a place, by what x knows.
+-- Whether y holds the log of x up to a seqno, by what x knows.
 abbrev pub holds : NodeId → ℕ → (NodeId → ℕ) → NodeId → Bool
-holds x place matched y = same y x || nat_le place (matched y)
+holds x seqno matched y = same y x || nat_le seqno (matched y)
 
 abbrev pub seen_extended : Extended → Result (List Entry) Fault
 seen_extended (extents.Log log) = Ok log.items

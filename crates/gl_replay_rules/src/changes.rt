@@ -2,7 +2,7 @@
 
 ghost use Rattle.std.specs.Prelude.{◌≡◌, ◌+◌, ◌<◌, [], ◌∷◌, length, map, IfOk};
 ghost use Rattle.gl_rules.specs.Outcome.{quiet, refuse, idle};
-ghost use Rattle.gl_rules.specs.Steps.{appended, cut_to, has_votes, known_commit, leads, rise, standing_by, won_by};
+ghost use Rattle.gl_rules.specs.Steps.{append_entry, cut_to, has_votes, known_commit, become_leader, enter_view, campaign_outcome, lead_if};
 ghost use Rattle.gl_replay_rules.specs.Entry.{small};
 ghost use Rattle.gl_replay_rules.specs.Seen.{seen, seen_outcome, seen_refusal, seen_step};
 
@@ -15,7 +15,7 @@ use crate::step::{Outcome, Refusal, Step};
 use std::alloc::{AllocError, Global};
 
 /// A node like this one.
-pub fn copied(alloc: Global, node: &Node) -> Result<Node, AllocError>
+pub fn copy_node(alloc: Global, node: &Node) -> Result<Node, AllocError>
     ensures { IfOk result (λ copy. seen copy ≡ seen node.now) }
 {
     let log = Vec::from_slice(alloc, &node.log)?;
@@ -55,7 +55,7 @@ pub fn quiet(alloc: Global, node: Node, outcome: Outcome) -> Step
 pub fn refuse(alloc: Global, node: &Node, why: Refusal) -> Result<Step, AllocError>
     ensures { IfOk result (λ step. seen_step step ≡ refuse (seen node.now) (seen_refusal why)) }
 {
-    let node = copied(alloc, node)?;
+    let node = copy_node(alloc, node)?;
     Ok(quiet(alloc, node, Outcome::Refused(why)))
 }
 
@@ -63,30 +63,30 @@ pub fn refuse(alloc: Global, node: &Node, why: Refusal) -> Result<Step, AllocErr
 pub fn idle(alloc: Global, node: &Node) -> Result<Step, AllocError>
     ensures { IfOk result (λ step. seen_step step ≡ idle (seen node.now)) }
 {
-    let node = copied(alloc, node)?;
+    let node = copy_node(alloc, node)?;
     Ok(quiet(alloc, node, Outcome::Idle))
 }
 
 /// The log cut to a length. It is a cut only where an entry is taken away.
-pub fn cut_to(place: usize, mut node: Node) -> Node
-    ensures { seen result ≡ cut_to place (seen node) }
+pub fn cut_to(seqno: usize, mut node: Node) -> Node
+    ensures { seen result ≡ cut_to seqno (seen node) }
 {
-    if place >= node.log.len() {
-        node.log.truncate(place);
+    if seqno >= node.log.len() {
+        node.log.truncate(seqno);
         return node;
     }
-    node.log.truncate(place);
+    node.log.truncate(seqno);
     node.cuts = node.cuts.saturating_add(1);
     node
 }
 
 /// A view that rises: no vote, no leader, and the log cut to its last signature.
-#[tactic(auto, unfolding(gl_rules::specs::Steps::rise))]
-pub fn rise(view: u32, node: Node) -> Node
-    ensures { seen result ≡ rise small view (seen node) }
+#[tactic(auto, unfolding(gl_rules::specs::Steps::enter_view))]
+pub fn enter_view(view: u32, node: Node) -> Node
+    ensures { seen result ≡ enter_view small view (seen node) }
 {
-    let place = last_signature(&node.log);
-    let mut risen = cut_to(place, node);
+    let seqno = last_signature(&node.log);
+    let mut risen = cut_to(seqno, node);
     risen.view = view;
     risen.vote = None;
     risen.role = Role::Follower;
@@ -96,8 +96,8 @@ pub fn rise(view: u32, node: Node) -> Node
 }
 
 /// Becomes the leader of its view.
-pub fn lead(mut node: Node) -> Node
-    ensures { seen result ≡ leads (seen node) }
+pub fn become_leader(mut node: Node) -> Node
+    ensures { seen result ≡ become_leader (seen node) }
 {
     node.role = Role::Leader;
     node.start = node.log.len() + 1;
@@ -115,15 +115,15 @@ pub fn has_votes(alloc: Global, node: &Node) -> Result<bool, AllocError>
 }
 
 /// Becomes leader where it has won.
-pub fn won_by(won: bool, node: Node) -> Node
-    ensures { seen result ≡ won_by small won (seen node) }
+pub fn lead_if(won: bool, node: Node) -> Node
+    ensures { seen result ≡ lead_if small won (seen node) }
 {
-    if won { lead(node) } else { node }
+    if won { become_leader(node) } else { node }
 }
 
 /// What a node answers that stands.
-pub fn standing_by(won: bool) -> Outcome
-    ensures { seen_outcome result ≡ standing_by small won }
+pub fn campaign_outcome(won: bool) -> Outcome
+    ensures { seen_outcome result ≡ campaign_outcome small won }
 {
     if won {
         Outcome::BecameLeader
@@ -140,8 +140,8 @@ pub fn known_commit(node: &Node) -> usize
 }
 
 /// One more entry in the log.
-pub fn appended(mut node: Node, e: Entry) -> Result<Node, AllocError>
-    ensures { IfOk result (λ new. seen new ≡ appended (seen node) e) }
+pub fn append_entry(mut node: Node, e: Entry) -> Result<Node, AllocError>
+    ensures { IfOk result (λ new. seen new ≡ append_entry (seen node) e) }
 {
     node.log.push(e)?;
     Ok(node)

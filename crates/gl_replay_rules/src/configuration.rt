@@ -6,7 +6,7 @@ ghost use Rattle.gl_rules.specs.Identity.{same};
 ghost use Rattle.gl_rules.specs.Configuration.{active, active_upto, configuration_at, configurations_above, in_some};
 ghost use Rattle.gl_replay_rules.specs.Entry.{all_added, members, recorded_from, small};
 
-use crate::entry::{Entry, NodeId, Nodes, members, trusted};
+use crate::entry::{Entry, NodeId, Nodes, members, set_in};
 use crate::majority::{is_in_some, is_member, is_same};
 use std::alloc::{AllocError, Global};
 
@@ -18,49 +18,49 @@ pub fn configuration(log: &[Entry]) -> Option<Nodes>
     if len == 0 {
         return None;
     }
-    trusted(&log[len - 1].kind)
+    set_in(&log[len - 1].kind)
 }
 
-/// The ledger up to a place, or whole where it is shorter.
-pub fn front(log: &[Entry], place: usize) -> &[Entry]
-    ensures { result.now ≡ take place log.now }
+/// The ledger up to a seqno, or whole where it is shorter.
+pub fn prefix(log: &[Entry], seqno: usize) -> &[Entry]
+    ensures { result.now ≡ take seqno log.now }
 {
-    if place < log.len() {
-        &log[..place]
+    if seqno < log.len() {
+        &log[..seqno]
     } else {
         log
     }
 }
 
-/// The last configuration at or below a place.
+/// The last configuration at or below a seqno.
 #[tactic(auto, using(crate::proofs::Steps::at_zero, crate::proofs::Steps::at_none, crate::proofs::Steps::at_some))]
-pub fn configuration_at(log: &[Entry], place: usize) -> Option<Nodes>
-    ensures { option_map members result ≡ configuration_at small log.now place }
+pub fn configuration_at(log: &[Entry], seqno: usize) -> Option<Nodes>
+    ensures { option_map members result ≡ configuration_at small log.now seqno }
 {
-    if place == 0 {
+    if seqno == 0 {
         return None;
     }
-    match configuration(front(log, place)) {
+    match configuration(prefix(log, seqno)) {
         Some(nodes) => Some(nodes),
-        None => configuration_at(log, place - 1),
+        None => configuration_at(log, seqno - 1),
     }
 }
 
-/// These configurations, and behind them those above commit, and at or below a place, in order.
+/// These configurations, and behind them those above commit, and at or below a seqno, in order.
 #[tactic(auto, using(crate::proofs::Steps::above))]
 pub fn with_configurations_above(
     mut sets: Vec<Nodes>,
     log: &[Entry],
     commit: usize,
-    place: usize,
+    seqno: usize,
 ) -> Result<Vec<Nodes>, AllocError>
-    ensures { IfOk result (λ all. map members all.items ≡ map members sets.items ++ configurations_above small log.now commit place) }
+    ensures { IfOk result (λ all. map members all.items ≡ map members sets.items ++ configurations_above small log.now commit seqno) }
 {
-    if place <= commit {
+    if seqno <= commit {
         return Ok(sets);
     }
-    sets = with_configurations_above(sets, log, commit, place - 1)?;
-    match configuration(front(log, place)) {
+    sets = with_configurations_above(sets, log, commit, seqno - 1)?;
+    match configuration(prefix(log, seqno)) {
         None => Ok(sets),
         Some(nodes) => {
             sets.push(nodes)?;
@@ -69,20 +69,20 @@ pub fn with_configurations_above(
     }
 }
 
-/// Of the configurations that are active at a commit, those at or below a place.
+/// Of the configurations that are active at a commit, those at or below a seqno.
 pub fn active_upto(
     alloc: Global,
     log: &[Entry],
     commit: usize,
-    place: usize,
+    seqno: usize,
 ) -> Result<Vec<Nodes>, AllocError>
-    ensures { IfOk result (λ all. map members all.items ≡ active_upto small log.now commit place) }
+    ensures { IfOk result (λ all. map members all.items ≡ active_upto small log.now commit seqno) }
 {
     let mut sets = Vec::new(alloc);
     if let Some(nodes) = configuration_at(log, commit) {
         sets.push(nodes)?;
     }
-    with_configurations_above(sets, log, commit, place)
+    with_configurations_above(sets, log, commit, seqno)
 }
 
 /// The configurations that are active at a commit.
@@ -93,7 +93,7 @@ pub fn active(alloc: Global, log: &[Entry], commit: usize) -> Result<Vec<Nodes>,
 }
 
 /// These nodes, and behind them those of the set that are new.
-pub fn all_added(nodes: &[NodeId], mut found: Vec<NodeId>) -> Result<Vec<NodeId>, AllocError>
+pub fn add_all(nodes: &[NodeId], mut found: Vec<NodeId>) -> Result<Vec<NodeId>, AllocError>
     ensures { IfOk result (λ all. all.items ≡ all_added nodes.now found.items) }
 {
     match nodes.split_first() {
@@ -102,7 +102,7 @@ pub fn all_added(nodes: &[NodeId], mut found: Vec<NodeId>) -> Result<Vec<NodeId>
             if !is_member(*x, &found) {
                 found.push(*x)?;
             }
-            all_added(rest, found)
+            add_all(rest, found)
         }
     }
 }
@@ -114,8 +114,8 @@ pub fn recorded_from(mut found: Vec<NodeId>, log: &[Entry]) -> Result<Vec<NodeId
     match log.split_first() {
         None => Ok(found),
         Some((e, rest)) => {
-            if let Some(nodes) = trusted(&e.kind) {
-                found = all_added(members(&nodes), found)?;
+            if let Some(nodes) = set_in(&e.kind) {
+                found = add_all(members(&nodes), found)?;
             }
             recorded_from(found, rest)
         }

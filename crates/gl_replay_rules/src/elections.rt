@@ -1,43 +1,43 @@
 //! Elections: timeouts, requests for votes, replies to them, and a leader that hands over.
 
 ghost use Rattle.std.specs.Prelude.{◌≡◌, ◌<◌, ◌++◌, ◌∷◌, [], map, IfOk};
-ghost use Rattle.gl_rules.specs.Log.{is_at_least, last};
+ghost use Rattle.gl_rules.specs.Log.{is_up_to_date, last_signature_position};
 ghost use Rattle.gl_rules.specs.Configuration.{others};
 ghost use Rattle.gl_rules.specs.Message as messages;
-ghost use Rattle.gl_rules.specs.Elections.{candidate, counts, free_for, on_propose_vote, on_request_vote, on_vote_reply, reply_to_request, stands, stands_if_allowed, step_down, steps_down, timeout, vote_requests, voted_by, with_vote};
+ghost use Rattle.gl_rules.specs.Elections.{become_candidate, count_votes, may_vote_for, on_propose_vote, on_request_vote, on_vote_reply, reply_to_vote_request, campaign, campaign_if_allowed, step_down, hand_over, timeout, vote_requests, vote_if, add_vote};
 ghost use Rattle.gl_replay_rules.specs.Entry.{small};
-ghost use Rattle.gl_replay_rules.specs.Seen.{requests_from, seen, seen_last, seen_message, seen_step};
+ghost use Rattle.gl_replay_rules.specs.Seen.{requests_from, seen, seen_position, seen_message, seen_step};
 
-use crate::changes::{copied, has_votes, idle, refuse, rise, standing_by, won_by};
-use crate::configuration::{active, front, recorded_from, with_others};
+use crate::changes::{copy_node, has_votes, idle, refuse, enter_view, campaign_outcome, lead_if};
+use crate::configuration::{active, prefix, recorded_from, with_others};
 use crate::entry::{Entry, NodeId};
 use crate::ledger::{last_signature, view_at};
 use crate::majority::{is_in_some, is_member, is_same};
 use crate::node::{Node, Role};
-use crate::step::{Body, Last, Message, Outcome, Refusal, Step};
+use crate::step::{Body, Position, Message, Outcome, Refusal, Step};
 use std::alloc::{AllocError, Global};
 
 /// The last signature of a ledger.
-pub fn last(log: &[Entry]) -> Last
-    ensures { seen_last result ≡ last small log.now }
+pub fn last_signature_position(log: &[Entry]) -> Position
+    ensures { seen_position result ≡ last_signature_position small log.now }
 {
-    let place = last_signature(log);
-    Last {
-        view: view_at(log, place),
-        place,
+    let seqno = last_signature(log);
+    Position {
+        view: view_at(log, seqno),
+        seqno,
     }
 }
 
-/// Whether the first signature is at least the second, by view and then by place.
-pub fn is_at_least(a: Last, b: Last) -> bool
-    ensures { result ≡ is_at_least (seen_last a) (seen_last b) }
+/// Whether the first signature is at least the second, by view and then by seqno.
+pub fn is_up_to_date(a: Position, b: Position) -> bool
+    ensures { result ≡ is_up_to_date (seen_position a) (seen_position b) }
 {
-    b.view < a.view || (b.view == a.view && b.place <= a.place)
+    b.view < a.view || (b.view == a.view && b.seqno <= a.seqno)
 }
 
 /// Whether a vote is free for this candidate.
-pub fn is_free_for(vote: Option<NodeId>, c: NodeId) -> bool
-    ensures { result ≡ free_for vote c }
+pub fn may_vote_for(vote: Option<NodeId>, c: NodeId) -> bool
+    ensures { result ≡ may_vote_for vote c }
 {
     match vote {
         None => true,
@@ -59,10 +59,10 @@ pub fn with_requests(
     mut sent: Vec<Message>,
     x: NodeId,
     view: u32,
-    last: Last,
+    last: Position,
     to: &[NodeId],
 ) -> Result<Vec<Message>, AllocError>
-    ensures { IfOk result (λ all. map seen_message all.items ≡ map seen_message sent.items ++ requests_from x view (seen_last last) to.now) }
+    ensures { IfOk result (λ all. map seen_message all.items ≡ map seen_message sent.items ++ requests_from x view (seen_position last) to.now) }
 {
     match to.split_first() {
         None => Ok(sent),
@@ -83,16 +83,16 @@ pub fn vote_requests(alloc: Global, x: NodeId, node: &Node) -> Result<Vec<Messag
     ensures { IfOk result (λ sent. map seen_message sent.items ≡ vote_requests small x (seen node.now)) }
 {
     let to = others(alloc, x, node)?;
-    with_requests(Vec::new(alloc), x, node.view, last(&node.log), &to)
+    with_requests(Vec::new(alloc), x, node.view, last_signature_position(&node.log), &to)
 }
 
 /// Candidate of the next view, with its own vote.
-pub fn candidate(alloc: Global, x: NodeId, node: &Node) -> Result<Node, AllocError>
+pub fn become_candidate(alloc: Global, x: NodeId, node: &Node) -> Result<Node, AllocError>
     requires { node.now.view < u32.MAX }
-    ensures { IfOk result (λ new. seen new ≡ candidate small x (seen node.now)) }
+    ensures { IfOk result (λ new. seen new ≡ become_candidate small x (seen node.now)) }
 {
-    let copy = copied(alloc, node)?;
-    let mut new = rise(node.view + 1, copy);
+    let copy = copy_node(alloc, node)?;
+    let mut new = enter_view(node.view + 1, copy);
     let mut votes = Vec::new(alloc);
     votes.push(x)?;
     new.role = Role::Candidate;
@@ -102,24 +102,24 @@ pub fn candidate(alloc: Global, x: NodeId, node: &Node) -> Result<Node, AllocErr
 }
 
 /// Asks for votes, and leads at once where its own suffices.
-#[tactic(auto, unfolding(gl_rules::specs::Steps::win))]
-pub fn stand(alloc: Global, x: NodeId, node: Node) -> Result<Step, AllocError>
-    ensures { IfOk result (λ step. seen_step step ≡ stands small x (seen node)) }
+#[tactic(auto, unfolding(gl_rules::specs::Steps::lead_if_elected))]
+pub fn campaign(alloc: Global, x: NodeId, node: Node) -> Result<Step, AllocError>
+    ensures { IfOk result (λ step. seen_step step ≡ campaign small x (seen node)) }
 {
     let sent = vote_requests(alloc, x, &node)?;
     let won = has_votes(alloc, &node)?;
     Ok(Step {
-        node: won_by(won, node),
+        node: lead_if(won, node),
         sent,
-        outcome: standing_by(won),
+        outcome: campaign_outcome(won),
     })
 }
 
 /// What a node does that doesn't lead and is to stand.
-pub fn stand_if_allowed(alloc: Global, x: NodeId, node: &Node) -> Result<Step, AllocError>
-    ensures { IfOk result (λ step. seen_step step ≡ stands_if_allowed small x (seen node.now)) }
+pub fn campaign_if_allowed(alloc: Global, x: NodeId, node: &Node) -> Result<Step, AllocError>
+    ensures { IfOk result (λ step. seen_step step ≡ campaign_if_allowed small x (seen node.now)) }
 {
-    let signed = front(&node.log, last_signature(&node.log));
+    let signed = prefix(&node.log, last_signature(&node.log));
     let active = active(alloc, signed, node.commit)?;
     if !is_in_some(x, &active) {
         return idle(alloc, node);
@@ -127,8 +127,8 @@ pub fn stand_if_allowed(alloc: Global, x: NodeId, node: &Node) -> Result<Step, A
     if node.view == u32::MAX {
         return refuse(alloc, node, Refusal::ViewLimit);
     }
-    let new = candidate(alloc, x, node)?;
-    stand(alloc, x, new)
+    let new = become_candidate(alloc, x, node)?;
+    campaign(alloc, x, new)
 }
 
 /// A timeout at x: a leader is idle, and any other node stands for the next view, if it may.
@@ -138,13 +138,13 @@ pub fn timeout(alloc: Global, x: NodeId, node: &Node) -> Result<Step, AllocError
 {
     match node.role {
         Role::Leader => idle(alloc, node),
-        Role::Candidate => stand_if_allowed(alloc, x, node),
-        Role::Follower => stand_if_allowed(alloc, x, node),
+        Role::Candidate => campaign_if_allowed(alloc, x, node),
+        Role::Follower => campaign_if_allowed(alloc, x, node),
     }
 }
 
 /// One message.
-pub fn one(alloc: Global, message: Message) -> Result<Vec<Message>, AllocError>
+pub fn one_message(alloc: Global, message: Message) -> Result<Vec<Message>, AllocError>
     ensures { IfOk result (λ sent. sent.items ≡ message ∷ []) }
 {
     let mut sent = Vec::new(alloc);
@@ -153,8 +153,8 @@ pub fn one(alloc: Global, message: Message) -> Result<Vec<Message>, AllocError>
 }
 
 /// The node with its vote for c, where that is granted.
-pub fn voted_by(granted: bool, c: NodeId, mut node: Node) -> Node
-    ensures { seen result ≡ voted_by small granted c (seen node) }
+pub fn vote_if(granted: bool, c: NodeId, mut node: Node) -> Node
+    ensures { seen result ≡ vote_if small granted c (seen node) }
 {
     if !granted {
         return node;
@@ -164,25 +164,25 @@ pub fn voted_by(granted: bool, c: NodeId, mut node: Node) -> Node
 }
 
 /// The reply to a request for a vote, and the vote where it is granted.
-pub fn reply_to_request(
+pub fn reply_to_vote_request(
     alloc: Global,
     x: NodeId,
     c: NodeId,
     granted: bool,
     node: &Node,
 ) -> Result<Step, AllocError>
-    ensures { IfOk result (λ step. seen_step step ≡ reply_to_request small x c granted (seen node.now)) }
+    ensures { IfOk result (λ step. seen_step step ≡ reply_to_vote_request small x c granted (seen node.now)) }
 {
-    let copy = copied(alloc, node)?;
+    let copy = copy_node(alloc, node)?;
     let message = Message {
         sender: x,
         receiver: c,
         view: node.view,
         body: Body::VoteReply(granted),
     };
-    let sent = one(alloc, message)?;
+    let sent = one_message(alloc, message)?;
     Ok(Step {
-        node: voted_by(granted, c, copy),
+        node: vote_if(granted, c, copy),
         sent,
         outcome: Outcome::Done,
     })
@@ -195,21 +195,21 @@ pub fn on_request_vote(
     x: NodeId,
     c: NodeId,
     view: u32,
-    theirs: Last,
+    theirs: Position,
     node: &Node,
 ) -> Result<Step, AllocError>
-    ensures { IfOk result (λ step. seen_step step ≡ on_request_vote small x c view (seen_last theirs) (seen node.now)) }
+    ensures { IfOk result (λ step. seen_step step ≡ on_request_vote small x c view (seen_position theirs) (seen node.now)) }
 {
     if view < node.view {
-        return reply_to_request(alloc, x, c, false, node);
+        return reply_to_vote_request(alloc, x, c, false, node);
     }
-    let granted = is_free_for(node.vote, c) && is_at_least(theirs, last(&node.log));
-    reply_to_request(alloc, x, c, granted, node)
+    let granted = may_vote_for(node.vote, c) && is_up_to_date(theirs, last_signature_position(&node.log));
+    reply_to_vote_request(alloc, x, c, granted, node)
 }
 
 /// The node with this vote for it.
-pub fn with_vote(y: NodeId, mut node: Node) -> Result<Node, AllocError>
-    ensures { IfOk result (λ new. seen new ≡ with_vote small y (seen node)) }
+pub fn add_vote(y: NodeId, mut node: Node) -> Result<Node, AllocError>
+    ensures { IfOk result (λ new. seen new ≡ add_vote small y (seen node)) }
 {
     if is_member(y, &node.votes) {
         return Ok(node);
@@ -219,9 +219,9 @@ pub fn with_vote(y: NodeId, mut node: Node) -> Result<Node, AllocError>
 }
 
 /// Leads where it has won.
-#[tactic(auto, unfolding(gl_rules::specs::Steps::win))]
-pub fn count(alloc: Global, node: Node) -> Result<Step, AllocError>
-    ensures { IfOk result (λ step. seen_step step ≡ counts small (seen node)) }
+#[tactic(auto, unfolding(gl_rules::specs::Steps::lead_if_elected))]
+pub fn count_votes(alloc: Global, node: Node) -> Result<Step, AllocError>
+    ensures { IfOk result (λ step. seen_step step ≡ count_votes small (seen node)) }
 {
     let won = has_votes(alloc, &node)?;
     let outcome = if won {
@@ -229,7 +229,7 @@ pub fn count(alloc: Global, node: Node) -> Result<Step, AllocError>
     } else {
         Outcome::Done
     };
-    Ok(crate::changes::quiet(alloc, won_by(won, node), outcome))
+    Ok(crate::changes::quiet(alloc, lead_if(won, node), outcome))
 }
 
 /// A reply to a candidate of this view: its vote is added, and the candidate leads where it has won.
@@ -248,9 +248,9 @@ pub fn on_vote_reply(
             if !granted || view != node.view {
                 return idle(alloc, node);
             }
-            let copy = copied(alloc, node)?;
-            let new = with_vote(y, copy)?;
-            count(alloc, new)
+            let copy = copy_node(alloc, node)?;
+            let new = add_vote(y, copy)?;
+            count_votes(alloc, new)
         }
         Role::Follower => idle(alloc, node),
         Role::Leader => idle(alloc, node),
@@ -270,16 +270,16 @@ pub fn on_propose_vote(alloc: Global, x: NodeId, view: u32, node: &Node) -> Resu
 
 /// The leader hands over to y.
 pub fn hand_over(alloc: Global, x: NodeId, y: NodeId, node: &Node) -> Result<Step, AllocError>
-    ensures { IfOk result (λ step. seen_step step ≡ steps_down small x y (seen node.now)) }
+    ensures { IfOk result (λ step. seen_step step ≡ hand_over small x y (seen node.now)) }
 {
-    let mut node = copied(alloc, node)?;
+    let mut node = copy_node(alloc, node)?;
     let message = Message {
         sender: x,
         receiver: y,
         view: node.view,
         body: Body::ProposeVote,
     };
-    let sent = one(alloc, message)?;
+    let sent = one_message(alloc, message)?;
     node.role = Role::Follower;
     node.leader = None;
     Ok(Step {

@@ -72,7 +72,7 @@ pub fn is_signature(kind: &Kind) -> bool
 }
 
 /// The set of trusted nodes that an entry of this kind brings.
-pub fn trusted(kind: &Kind) -> Option<Nodes>
+pub fn set_in(kind: &Kind) -> Option<Nodes>
     ensures { option_map members result ≡ set_in kind.now }
 {
     match kind {

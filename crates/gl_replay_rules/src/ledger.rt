@@ -1,4 +1,4 @@
-//! Places of a ledger, its signatures and the commits that they record.
+//! Seqnos of a ledger, its signatures and the commits that they record.
 
 ghost use Rattle.std.specs.Prelude.{◌≡◌, ◌≤◌, length};
 ghost use Rattle.gl_rules.specs.Log.{greatest_recorded, last_signature, view_at};
@@ -6,17 +6,17 @@ ghost use Rattle.gl_replay_rules.specs.Entry.{commit_in, small};
 
 use crate::entry::{Entry, Kind, is_signature};
 
-/// The view of the entry at a place, 0 where there is none.
-pub fn view_at(log: &[Entry], place: usize) -> u32
-    ensures { result ≡ view_at small log.now place }
+/// The view of the entry at a seqno, 0 where there is none.
+pub fn view_at(log: &[Entry], seqno: usize) -> u32
+    ensures { result ≡ view_at small log.now seqno }
 {
-    if place == 0 || place > log.len() {
+    if seqno == 0 || seqno > log.len() {
         return 0;
     }
-    log[place - 1].view
+    log[seqno - 1].view
 }
 
-/// The place of the last signature, 0 where there is none.
+/// The seqno of the last signature, 0 where there is none.
 #[tactic(auto, unfolding(gl_rules::specs::Log::last_signature))]
 pub fn last_signature(log: &[Entry]) -> usize
     ensures value { result ≡ last_signature small log.now }
@@ -25,9 +25,9 @@ pub fn last_signature(log: &[Entry]) -> usize
     match log.split_first() {
         None => 0,
         Some((e, rest)) => {
-            let place = last_signature(rest);
-            if place > 0 || is_signature(&e.kind) {
-                place + 1
+            let seqno = last_signature(rest);
+            if seqno > 0 || is_signature(&e.kind) {
+                seqno + 1
             } else {
                 0
             }

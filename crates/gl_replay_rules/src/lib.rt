@@ -19,4 +19,4 @@ pub mod step;
 
 pub use entry::{Entry, Fault, Kind, NodeId, Nodes, Order};
 pub use node::{Node, Role};
-pub use step::{Body, Extended, Last, Message, Outcome, Refusal, Step};
+pub use step::{Body, Extended, Position, Message, Outcome, Refusal, Step};

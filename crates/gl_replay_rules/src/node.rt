@@ -18,9 +18,9 @@ pub struct Node {
     pub view: u32,
     /// For whom it voted in this view.
     pub vote: Option<NodeId>,
-    /// Its ledger, whole from place 1.
+    /// Its ledger, whole from seqno 1.
     pub log: Vec<Entry>,
-    /// The place up to which it came by a snapshot, 0 for none.
+    /// The seqno up to which it came by a snapshot, 0 for none.
     pub base: usize,
     /// How many one-time leaves of its key are reserved.
     pub reserved: u64,
@@ -30,11 +30,11 @@ pub struct Node {
     pub commit: usize,
     /// Who voted for it in this view.
     pub votes: Vec<NodeId>,
-    /// As a leader: up to which place each node is known to hold its log; the first pair of a node counts.
+    /// As a leader: up to which seqno each node is known to hold its log; the first pair of a node counts.
     pub matched: Vec<(NodeId, usize)>,
-    /// Which place each node is sent next; the first pair of a node counts.
+    /// Which seqno each node is sent next; the first pair of a node counts.
     pub next: Vec<(NodeId, usize)>,
-    /// The place behind its log when it became leader.
+    /// The seqno behind its log when it became leader.
     pub start: usize,
     /// How many of the reserved leaves it has used.
     pub used: u64,

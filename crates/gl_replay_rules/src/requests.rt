@@ -1,12 +1,12 @@
 //! Requests at the leader, and the leaves of a node's key.
 
 ghost use Rattle.std.specs.Prelude.{◌≡◌, ◌≤◌, length, is_some, IfOk, IfSome, Ok};
-ghost use Rattle.gl_rules.specs.Log.{entry_at};
-ghost use Rattle.gl_rules.specs.Requests.{enters, evidence, finish, finishes, govern, governs, reserve, sign, signs, signs_for, submit};
+ghost use Rattle.gl_rules.specs.Log.{entry_at, is_signature_in};
+ghost use Rattle.gl_rules.specs.Requests.{append_result, evidence, finish, finish_as_leader, govern, govern_as_leader, reserve, sign, sign_as_leader, submit};
 ghost use Rattle.gl_replay_rules.specs.Entry.{fits, is_mark_of, kind_of, mark_of, none_removed, removal_of, removes, signs_at, small};
 ghost use Rattle.gl_replay_rules.specs.Seen.{seen, seen_step};
 
-use crate::changes::{appended, copied, quiet, refuse};
+use crate::changes::{append_entry, copy_node, quiet, refuse};
 use crate::configuration::with_configurations_above;
 use crate::entry::{Entry, Fault, Kind, NodeId, Order, is_signature, members};
 use crate::majority::{is_member, is_same};
@@ -30,10 +30,10 @@ pub fn is_removal_of(y: NodeId, kind: &Kind) -> bool
     }
 }
 
-/// The place of the first entry that removes y.
+/// The seqno of the first entry that removes y.
 pub fn removal_of(log: &[Entry], y: NodeId) -> Option<usize>
     ensures value { result ≡ removal_of log.now y }
-    ensures within { IfSome result (λ place. place ≤ length log.now) }
+    ensures within { IfSome result (λ seqno. seqno ≤ length log.now) }
 {
     match log.split_first() {
         None => None,
@@ -43,7 +43,7 @@ pub fn removal_of(log: &[Entry], y: NodeId) -> Option<usize>
             }
             match removal_of(rest, y) {
                 None => None,
-                Some(place) => Some(place + 1),
+                Some(seqno) => Some(seqno + 1),
             }
         }
     }
@@ -94,13 +94,13 @@ pub fn kind_of(order: Order) -> Kind
 }
 
 /// One more entry in the log, with its identifier and this answer.
-pub fn enter(alloc: Global, e: Entry, answer: u64, node: &Node) -> Result<Step, AllocError>
-    ensures { IfOk result (λ step. seen_step step ≡ enters small (seen node.now) (Ok (e, answer))) }
+pub fn append_result(alloc: Global, e: Entry, answer: u64, node: &Node) -> Result<Step, AllocError>
+    ensures { IfOk result (λ step. seen_step step ≡ append_result small (seen node.now) (Ok (e, answer))) }
 {
-    let place = node.log.len() + 1;
-    let copy = copied(alloc, node)?;
-    let new = appended(copy, e)?;
-    Ok(quiet(alloc, new, Outcome::Accepted(e.view, place, answer)))
+    let seqno = node.log.len() + 1;
+    let copy = copy_node(alloc, node)?;
+    let new = append_entry(copy, e)?;
+    Ok(quiet(alloc, new, Outcome::Accepted(e.view, seqno, answer)))
 }
 
 /// An application request, as one entry.
@@ -114,7 +114,7 @@ pub fn submit(alloc: Global, request: u64, node: &Node) -> Result<Step, AllocErr
                 view: node.view,
                 kind: Kind::Plain,
             };
-            enter(alloc, e, request, node)
+            append_result(alloc, e, request, node)
         }
         Role::Candidate => refuse(alloc, node, Refusal::NotPrimary(node.view, node.leader)),
         Role::Follower => refuse(alloc, node, Refusal::NotPrimary(node.view, node.leader)),
@@ -131,7 +131,7 @@ pub fn finish_as_leader(
     request: u64,
     node: &Node,
 ) -> Result<Step, AllocError>
-    ensures { IfOk result (λ step. seen_step step ≡ finishes small len cuts reads request (seen node.now)) }
+    ensures { IfOk result (λ step. seen_step step ≡ finish_as_leader small len cuts reads request (seen node.now)) }
 {
     if node.cuts != cuts || node.cuts == u64::MAX {
         return refuse(alloc, node, Refusal::RolledBack(cuts, node.cuts));
@@ -140,7 +140,7 @@ pub fn finish_as_leader(
         view: node.view,
         kind: Kind::Plain,
     };
-    enter(alloc, e, request, node)
+    append_result(alloc, e, request, node)
 }
 
 /// The request of a transaction that began at this length and count of cuts and read these keys, as one entry.
@@ -164,7 +164,7 @@ pub fn finish(
 
 /// The entry for a governance request, where it may follow.
 pub fn enter_order(alloc: Global, order: Order, node: &Node) -> Result<Step, AllocError>
-    ensures { IfOk result (λ step. seen_step step ≡ enters small (seen node.now) (small.govern node.now.log.items node.now.view order)) }
+    ensures { IfOk result (λ step. seen_step step ≡ append_result small (seen node.now) (small.govern node.now.log.items node.now.view order)) }
 {
     let kind = kind_of(order);
     if !is_fit(&node.log, &kind) {
@@ -174,12 +174,12 @@ pub fn enter_order(alloc: Global, order: Order, node: &Node) -> Result<Step, All
         view: node.view,
         kind,
     };
-    enter(alloc, e, 0, node)
+    append_result(alloc, e, 0, node)
 }
 
 /// A governance request at the leader: a mark waits until the removal of its node is committed here.
 pub fn govern_as_leader(alloc: Global, order: Order, node: &Node) -> Result<Step, AllocError>
-    ensures { IfOk result (λ step. seen_step step ≡ governs small order (seen node.now)) }
+    ensures { IfOk result (λ step. seen_step step ≡ govern_as_leader small order (seen node.now)) }
 {
     let above = with_configurations_above(Vec::new(alloc), &node.log, node.commit, node.log.len())?;
     if PENDING_LIMIT <= above.len() {
@@ -188,12 +188,12 @@ pub fn govern_as_leader(alloc: Global, order: Order, node: &Node) -> Result<Step
     match order {
         Order::MarkNode(y) => match removal_of(&node.log, y) {
             None => enter_order(alloc, order, node),
-            Some(place) => {
-                if node.commit < place {
+            Some(seqno) => {
+                if node.commit < seqno {
                     return refuse(
                         alloc,
                         node,
-                        Refusal::RemovalNotCommitted(place, node.commit),
+                        Refusal::RemovalNotCommitted(seqno, node.commit),
                     );
                 }
                 enter_order(alloc, order, node)
@@ -224,14 +224,14 @@ pub fn reserve(alloc: Global, x: NodeId, node: &Node) -> Result<Step, AllocError
     if LEAVES <= node.reserved {
         return refuse(alloc, node, Refusal::KeyExhausted(node.reserved));
     }
-    let mut new = copied(alloc, node)?;
+    let mut new = copy_node(alloc, node)?;
     new.reserved += 1;
     Ok(quiet(alloc, new, Outcome::Done))
 }
 
 /// Whether the last entry is a signature of this view.
-pub fn is_signed_in(view: u32, log: &[Entry]) -> bool
-    ensures { result ≡ signs_for small view (entry_at log.now (length log.now)) }
+pub fn ends_signed_in(view: u32, log: &[Entry]) -> bool
+    ensures { result ≡ is_signature_in small view (entry_at log.now (length log.now)) }
 {
     let len = log.len();
     len > 0 && is_signature(&log[len - 1].kind) && log[len - 1].view == view
@@ -239,23 +239,23 @@ pub fn is_signed_in(view: u32, log: &[Entry]) -> bool
 
 /// A signature over the ledger so far, at the leader.
 pub fn sign_as_leader(alloc: Global, x: NodeId, node: &Node) -> Result<Step, AllocError>
-    ensures { IfOk result (λ step. seen_step step ≡ signs small x (seen node.now)) }
+    ensures { IfOk result (λ step. seen_step step ≡ sign_as_leader small x (seen node.now)) }
 {
     if node.used == node.reserved {
         return refuse(alloc, node, Refusal::NotReserved(node.reserved));
     }
-    if is_signed_in(node.view, &node.log) {
+    if ends_signed_in(node.view, &node.log) {
         return refuse(alloc, node, Refusal::NothingToSign(node.log.len()));
     }
     let e = Entry {
         view: node.view,
         kind: Kind::Signature(node.commit),
     };
-    let place = node.log.len() + 1;
-    let copy = copied(alloc, node)?;
-    let mut new = appended(copy, e)?;
+    let seqno = node.log.len() + 1;
+    let copy = copy_node(alloc, node)?;
+    let mut new = append_entry(copy, e)?;
     new.used = node.used + 1;
-    Ok(quiet(alloc, new, Outcome::Signed(e.view, place)))
+    Ok(quiet(alloc, new, Outcome::Signed(e.view, seqno)))
 }
 
 /// A signature over the ledger so far, with the first leaf that is not used.
@@ -284,10 +284,10 @@ pub fn evidence(alloc: Global, node: &Node) -> Result<Step, AllocError>
                 view: node.view,
                 kind: Kind::Evidence,
             };
-            let place = node.log.len() + 1;
-            let copy = copied(alloc, node)?;
-            let new = appended(copy, e)?;
-            Ok(quiet(alloc, new, Outcome::Signed(e.view, place)))
+            let seqno = node.log.len() + 1;
+            let copy = copy_node(alloc, node)?;
+            let new = append_entry(copy, e)?;
+            Ok(quiet(alloc, new, Outcome::Signed(e.view, seqno)))
         }
         Role::Candidate => refuse(alloc, node, Refusal::NotPrimary(node.view, node.leader)),
         Role::Follower => refuse(alloc, node, Refusal::NotPrimary(node.view, node.leader)),

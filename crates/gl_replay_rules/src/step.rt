@@ -3,22 +3,22 @@
 use crate::entry::{Entry, Fault, NodeId};
 use crate::node::Node;
 
-/// A place of a ledger and the view of its entry there; both 0 for none.
+/// A seqno of a ledger and the view of its entry there; both 0 for none.
 #[derive(Clone, Copy, Debug)]
-pub struct Last {
+pub struct Position {
     pub view: u32,
-    pub place: usize,
+    pub seqno: usize,
 }
 
 /// What a message says.
 #[derive(Debug, Drop)]
 pub enum Body {
     /// Asks for a vote, with the sender's last signature.
-    RequestVote(Last),
+    RequestVote(Position),
     VoteReply(bool),
-    /// The entries behind a place, and the sender's commit.
-    Append(Last, Vec<Entry>, usize),
-    /// Taken up to this place; or not taken, and where to try next.
+    /// The entries behind a seqno, and the sender's commit.
+    Append(Position, Vec<Entry>, usize),
+    /// Taken up to this seqno; or not taken, and where to try next.
     AppendReply(bool, usize),
     /// Asks the receiver to stand for the next view.
     ProposeVote,
@@ -54,15 +54,15 @@ pub enum Refusal {
     NotReserved(u64),
     /// Each leaf of the key is reserved; their number.
     KeyExhausted(u64),
-    /// The last entry, at this place, is a signature of this view.
+    /// The last entry, at this seqno, is a signature of this view.
     NothingToSign(usize),
-    /// A mark came before its removal was committed: the removal's place, and commit.
+    /// A mark came before its removal was committed: the removal's seqno, and commit.
     RemovalNotCommitted(usize, usize),
-    /// Commit, and the place below it down to which entries would be cut off.
+    /// Commit, and the seqno below it down to which entries would be cut off.
     BelowCommit(usize, usize),
     /// A message to a node that isn't to have one.
     NotPeer,
-    /// The entries asked for came by a snapshot up to this place.
+    /// The entries asked for came by a snapshot up to this seqno.
     BelowBase(usize),
     /// The view is the last one.
     ViewLimit,
@@ -82,11 +82,11 @@ pub enum Outcome {
     /// Became a candidate, and not a leader at once.
     BecameCandidate,
     BecameLeader,
-    /// An entry for a request: its view and place, and the answer.
+    /// An entry for a request: its view and seqno, and the answer.
     Accepted(u32, usize, u64),
-    /// A signature or an evidence entry: its view and place.
+    /// A signature or an evidence entry: its view and seqno.
     Signed(u32, usize),
-    /// Commit is now the entry of this view and place.
+    /// Commit is now the entry of this view and seqno.
     Committed(u32, usize),
     Refused(Refusal),
 }

@@ -1,5 +1,5 @@
 -- What the layer of the ledger tells the rules of consensus: the rules know no more of entries, requests and tables
--- than this record. Places count from 1, and a ledger is the list of its entries from place 1 on.
+-- than this record. Seqnos count from 1, and a ledger is the list of its entries from seqno 1 on.
 use Rattle.std.specs.Prelude.{ℕ, List, Bool, Option, Result}
 use Rattle.gl_rules.specs.Identity.{NodeId}
 
@@ -17,8 +17,8 @@ pub record Book (E Q G R A F : Type 0) : Type 0 where
   -- of a ledger: the set of trusted nodes, where its last entry changes that set
   pub configuration : List E → Option (List NodeId)
   -- the nodes that it records, in the order in which they were recorded
-  pub recorded : List E → List NodeId
-  -- the place of the entry that removed a node, and the place of the mark behind its removal
+  pub recorded_nodes : List E → List NodeId
+  -- the seqno of the entry that removed a node, and the seqno of the mark behind its removal
   pub removal : List E → NodeId → Option ℕ
   pub mark : List E → NodeId → Option ℕ
   -- of a node's key: how many one-time leaves it has
@@ -30,8 +30,8 @@ pub record Book (E Q G R A F : Type 0) : Type 0 where
   pub sign : NodeId → ℕ → List E → ℕ → ℕ → Result E F
   pub evidence : List E → ℕ → Result E F
   -- which node a governance request marks, if it is a mark, and why that node can't be marked
-  pub marks : G → Option NodeId
-  pub unmarkable : List E → NodeId → Option F
+  pub marked_node : G → Option NodeId
+  pub mark_refusal : List E → NodeId → Option F
   -- the refusal where a read key or map has changed above a length
   pub conflict : List E → ℕ → R → Option F
   -- the rule that an entry breaks behind a ledger; None: it may follow

@@ -1,4 +1,4 @@
--- Configurations: the sets of trusted nodes, each at the place where the set changes. Active are the last one at or
+-- Configurations: the sets of trusted nodes, each at the seqno where the set changes. Active are the last one at or
 -- below commit and all later ones in the log. A configuration counts from the moment that it is appended.
 use Rattle.std.specs.Prelude.{ℕ, zero, suc, List, [], ◌∷◌, ◌++◌, Bool, false, ◌||◌, ◌&&◌, not, Option, None, Some, length, take, filter, nat_lt, if◌then◌else◌}
 use Rattle.std.specs.Option.{option_to_list}
@@ -17,26 +17,26 @@ in_some x [] = false
 in_some x (c ∷ cs) = member x c || in_some x cs
 
 module _ {E Q G R A F : Type 0} (book : Book E Q G R A F) where
-  -- The last configuration at or below a place.
+  -- The last configuration at or below a seqno.
   unfoldable pub configuration_at : List E → ℕ → Option (List NodeId)
   configuration_at log zero = None
-  configuration_at log (suc place) = or_else (book.configuration (take (suc place) log)) (configuration_at log place)
+  configuration_at log (suc seqno) = or_else (book.configuration (take (suc seqno) log)) (configuration_at log seqno)
 
-  -- The configurations above one place, and at or below another, in order.
+  -- The configurations above one seqno, and at or below another, in order.
   unfoldable pub configurations_above : List E → ℕ → ℕ → List (List NodeId)
   configurations_above log commit zero = []
-  configurations_above log commit (suc place) =
-      if nat_lt commit (suc place)
-      then configurations_above log commit place ++ option_to_list (book.configuration (take (suc place) log))
+  configurations_above log commit (suc seqno) =
+      if nat_lt commit (suc seqno)
+      then configurations_above log commit seqno ++ option_to_list (book.configuration (take (suc seqno) log))
       else []
 
-  -- Of the configurations that are active at a commit, those at or below a place.
+  -- Of the configurations that are active at a commit, those at or below a seqno.
   abbrev pub active_upto : List E → ℕ → ℕ → List (List NodeId)
-  active_upto log commit place = option_to_list (configuration_at log commit) ++ configurations_above log commit place
+  active_upto log commit seqno = option_to_list (configuration_at log commit) ++ configurations_above log commit seqno
 
   abbrev pub active : List E → ℕ → List (List NodeId)
   active log commit = active_upto log commit (length log)
 
   -- The other nodes of the active configurations, in the order in which they were recorded.
   abbrev pub others : NodeId → Node E → List NodeId
-  others x n = filter (λ y. not (same y x) && in_some y (active n.log n.commit)) (book.recorded n.log)
+  others x n = filter (λ y. not (same y x) && in_some y (active n.log n.commit)) (book.recorded_nodes n.log)

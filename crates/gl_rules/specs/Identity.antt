@@ -20,5 +20,5 @@ abbrev pub put : {A : Type 0} → (NodeId → A) → NodeId → A → NodeId →
 put f x a y = if same y x then a else f y
 
 -- The list with this node in it once more only where it was not there.
-abbrev pub added : NodeId → List NodeId → List NodeId
-added x ys = if member x ys then ys else x ∷ ys
+abbrev pub with_node : NodeId → List NodeId → List NodeId
+with_node x ys = if member x ys then ys else x ∷ ys

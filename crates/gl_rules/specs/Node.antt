@@ -10,9 +10,9 @@ pub record Node (E : Type 0) : Type 0 where
   pub view : ℕ
   -- for whom it voted in this view
   pub vote : Option NodeId
-  -- its ledger, whole from place 1
+  -- its ledger, whole from seqno 1
   pub log : List E
-  -- the place up to which it came by a snapshot, 0 for none
+  -- the seqno up to which it came by a snapshot, 0 for none
   pub base : ℕ
   -- how many one-time leaves of its key are reserved
   pub reserved : ℕ
@@ -23,11 +23,11 @@ pub record Node (E : Type 0) : Type 0 where
   pub commit : ℕ
   -- who voted for it in this view
   pub votes : List NodeId
-  -- as a leader: up to which place each node is known to hold its log, 0 for none
+  -- as a leader: up to which seqno each node is known to hold its log, 0 for none
   pub matched : NodeId → ℕ
-  -- which place each node is sent next; None: start
+  -- which seqno each node is sent next; None: start
   pub next : NodeId → Option ℕ
-  -- the place behind its log when it became leader
+  -- the seqno behind its log when it became leader
   pub start : ℕ
   -- how many of the reserved leaves it has used
   pub used : ℕ

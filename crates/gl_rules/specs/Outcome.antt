@@ -16,8 +16,8 @@ pub data Refusal (F : Type 0) : Type 0 where
   -- the last entry is a signature of this view
   NothingToSign : (seqno : ℕ) → Refusal F
   -- a mark came before its removal was committed
-  RemovalNotCommitted : (place commit : ℕ) → Refusal F
-  -- entries would be cut off down to this place, below commit
+  RemovalNotCommitted : (seqno commit : ℕ) → Refusal F
+  -- entries would be cut off down to this seqno, below commit
   BelowCommit : (commit cut : ℕ) → Refusal F
   -- the log was cut since a transaction began
   RolledBack : (seen now : ℕ) → Refusal F

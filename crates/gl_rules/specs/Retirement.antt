@@ -12,7 +12,7 @@ pub data Stage : Type 0 where
   -- its mark is committed: only now it may be switched off
   RetiredCommitted : Stage
 
--- The last stage that holds, by the place of the removal and that of the mark, the last signature and commit.
+-- The last stage that holds, by the seqno of the removal and that of the mark, the last signature and commit.
 unfoldable pub stage : Option ℕ → Option ℕ → ℕ → ℕ → Option Stage
 stage None mark last_signature commit = None
 stage (Some removal) mark last_signature commit =

@@ -18,9 +18,9 @@ use Rattle.gl_rules.specs.World.{Event, Deliver, World, Start, after, happens, f
 abbrev pub IsPrefixOf : {A : Type 0} → List A → List A → Type 0
 IsPrefixOf {A} xs ys = (rest : List A) × (xs ++ rest ≡ ys)
 
--- A node's committed ledger, whole from place 1.
-abbrev pub committed : {E : Type 0} → Node E → List E
-committed n = take n.commit n.log
+-- A node's committed ledger, whole from seqno 1.
+abbrev pub committed_ledger : {E : Type 0} → Node E → List E
+committed_ledger n = take n.commit n.log
 
 -- What an event that is refused leaves: each node as it was, and no message.
 pub record LeavesAll {E : Type 0} (w v : World E) : Type 0 where
@@ -44,16 +44,16 @@ module _ {E Q G R A F : Type 0} (book : Book E Q G R A F) where
 
   -- An entry that marks no node.
   abbrev pub MarksNone : List E → E → Type 0
-  MarksNone log e = (y : NodeId) (place : ℕ) → book.mark (log ++ e ∷ []) y ≡ Some place → book.mark log y ≡ Some place
+  MarksNone log e = (y : NodeId) (seqno : ℕ) → book.mark (log ++ e ∷ []) y ≡ Some seqno → book.mark log y ≡ Some seqno
 
-  -- Where something stands in ledgers: at the place of the entry that brought it, and there it stays.
+  -- Where something stands in ledgers: at the seqno of the entry that brought it, and there it stays.
   pub record KeepsPlaces (Sound : List E → Type 0) (place_of : List E → NodeId → Option ℕ) : Type 0 where
     pub none : (y : NodeId) → place_of [] y ≡ None
-    pub stays : (log : List E) (e : E) (y : NodeId) (place : ℕ) → Sound (log ++ e ∷ []) → place_of log y ≡ Some place → place_of (log ++ e ∷ []) y ≡ Some place
-    pub comes : (log : List E) (e : E) (y : NodeId) (place : ℕ) → Sound (log ++ e ∷ []) → place_of (log ++ e ∷ []) y ≡ Some place →
-        (place_of log y ≡ Some place) ⊎ (place ≡ length log + 1)
+    pub stays : (log : List E) (e : E) (y : NodeId) (seqno : ℕ) → Sound (log ++ e ∷ []) → place_of log y ≡ Some seqno → place_of (log ++ e ∷ []) y ≡ Some seqno
+    pub comes : (log : List E) (e : E) (y : NodeId) (seqno : ℕ) → Sound (log ++ e ∷ []) → place_of (log ++ e ∷ []) y ≡ Some seqno →
+        (place_of log y ≡ Some seqno) ⊎ (seqno ≡ length log + 1)
 
-  -- A commit that a signature may record: the place of a signature, not below what an earlier signature records, and not
+  -- A commit that a signature may record: the seqno of a signature, not below what an earlier signature records, and not
   -- below the removal of a node that was marked since.
   pub record MayRecord (log : List E) (commit : ℕ) : Type 0 where
     pub signature : E
@@ -75,10 +75,10 @@ module _ {E Q G R A F : Type 0} (book : Book E Q G R A F) where
         book.evidence log view ≡ Ok e → Makes Sound log view e × (book.is_signature e ≡ false) × MarksNone log e
     -- what is taken
     pub taken : (log : List E) (e : E) → Sound log → book.breaks log e ≡ None → Sound (log ++ e ∷ [])
-    pub cut : (log : List E) (place : ℕ) → Sound log → Sound (take place log)
+    pub cut : (log : List E) (seqno : ℕ) → Sound log → Sound (take seqno log)
     -- an evidence entry stands right behind a signature
-    pub witnessed : (log : List E) (place : ℕ) (e : E) → Sound log → entry_at log (suc place) ≡ Some e → book.is_evidence e ≡ true →
-        (f : E) × (entry_at log place ≡ Some f) × (book.is_signature f ≡ true)
+    pub witnessed : (log : List E) (seqno : ℕ) (e : E) → Sound log → entry_at log (suc seqno) ≡ Some e → book.is_evidence e ≡ true →
+        (f : E) × (entry_at log seqno ≡ Some f) × (book.is_signature f ≡ true)
     -- removals and marks
     pub removals : KeepsPlaces Sound book.removal
     pub markings : KeepsPlaces Sound book.mark
@@ -86,8 +86,8 @@ module _ {E Q G R A F : Type 0} (book : Book E Q G R A F) where
     pub marked : (log : List E) (e : E) (y : NodeId) → Sound (log ++ e ∷ []) → book.mark (log ++ e ∷ []) y ≡ Some (length log + 1) →
         (book.is_signature e ≡ false) × ((removal : ℕ) × (book.removal log y ≡ Some removal))
     -- a governance request marks no node but the one that it is a mark of
-    pub marks : (log : List E) (view : ℕ) (g : G) (e : E) (a : A) (y : NodeId) (place : ℕ) → Sound log → ViewsUpTo view log →
-        book.govern log view g ≡ Ok (e, a) → book.mark (log ++ e ∷ []) y ≡ Some place → (book.mark log y ≡ Some place) ⊎ (book.marks g ≡ Some y)
+    pub marks : (log : List E) (view : ℕ) (g : G) (e : E) (a : A) (y : NodeId) (seqno : ℕ) → Sound log → ViewsUpTo view log →
+        book.govern log view g ≡ Ok (e, a) → book.mark (log ++ e ∷ []) y ≡ Some seqno → (book.mark log y ≡ Some seqno) ⊎ (book.marked_node g ≡ Some y)
 
   -- What retirement asks beside: from its removal on, a node is in no active configuration.
   pub record IsRetiring (Sound : List E → Type 0) : Type 0 where
@@ -95,7 +95,7 @@ module _ {E Q G R A F : Type 0} (book : Book E Q G R A F) where
         in_some y (active book log commit) ≡ false
 
   -- What the rules ask of the opening ledger: its entries are of the first view, a configuration stands in it, and its
-  -- last entry is its only signature and records its own place. The node that signed it is among those that start.
+  -- last entry is its only signature and records its own seqno. The node that signed it is among those that start.
   pub record IsOpening (Sound : List E → Type 0) (s : Start E) : Type 0 where
     pub sound : Sound s.opening
     pub views : (i : ℕ) (e : E) → slice_get s.opening i ≡ Some e → book.view_of e ≡ first_view
@@ -107,11 +107,11 @@ module _ {E Q G R A F : Type 0} (book : Book E Q G R A F) where
     pub signs : book.is_signature signature ≡ true
     pub records : book.recorded_commit signature ≡ suc before
     pub alone : (i : ℕ) (e : E) → slice_get s.opening i ≡ Some e → book.is_signature e ≡ true → i ≡ before
-    pub place : ℕ
-    pub counted : 0 < place
-    pub within : place ≤ before
+    pub configured_at : ℕ
+    pub counted : 0 < configured_at
+    pub within : configured_at ≤ before
     pub members : List NodeId
-    pub configured : book.configuration (take place s.opening) ≡ Some members
+    pub configured : book.configuration (take configured_at s.opening) ≡ Some members
     pub first_starts : member s.first s.starting ≡ true
 
   -- A service that the rules run: a book with its laws, and an opening.
@@ -124,21 +124,21 @@ module _ {E Q G R A F : Type 0} (book : Book E Q G R A F) where
   view_of None = None
   view_of (Some e) = Some (book.view_of e)
 
-  abbrev pub named : ℕ → Option ℕ → Option TxId
-  named place None = None
-  named place (Some view) = Some (record { view = view; seqno = place })
+  abbrev pub id_at : ℕ → Option ℕ → Option TxId
+  id_at seqno None = None
+  id_at seqno (Some view) = Some (record { view = view; seqno = seqno })
 
   -- The identifier of the last committed entry, if there is one.
   abbrev pub commit_id : Node E → Option TxId
-  commit_id n = named n.commit (view_of (entry_at n.log n.commit))
+  commit_id n = id_at n.commit (view_of (entry_at n.log n.commit))
 
   -- What a node tells of a transaction's status.
-  abbrev pub reported : Node E → TxId → Status
-  reported n id = status_of id (view_of (entry_at n.log id.seqno)) (commit_id n)
+  abbrev pub reported_status : Node E → TxId → Status
+  reported_status n id = status_of id (view_of (entry_at n.log id.seqno)) (commit_id n)
 
   -- Of two committed ledgers one is a prefix of the other.
   abbrev pub Agree : Node E → Node E → Type 0
-  Agree m n = IsPrefixOf (committed m) (committed n) ⊎ IsPrefixOf (committed n) (committed m)
+  Agree m n = IsPrefixOf (committed_ledger m) (committed_ledger n) ⊎ IsPrefixOf (committed_ledger n) (committed_ledger m)
 
   abbrev pub node_after : Start E → List (Event Q G R) → NodeId → Node E
   node_after s events x = (after book s events).nodes x
@@ -147,8 +147,8 @@ module _ {E Q G R A F : Type 0} (book : Book E Q G R A F) where
   pub record IsSafe (Sound : List E → Type 0) (s : Start E) (events : List (Event Q G R)) : Type 0 where
     pub prefix : (i j : ℕ) (x y : NodeId) → Agree (node_after s (take i events) x) (node_after s (take j events) y)
     pub status : (i j : ℕ) (x y : NodeId) (id : TxId) →
-        reported (node_after s (take i events) x) id ≡ Committed → reported (node_after s (take j events) y) id ≡ Invalid → ⊥
-    pub ledger : (i : ℕ) (x : NodeId) → Sound (committed (node_after s (take i events) x))
+        reported_status (node_after s (take i events) x) id ≡ Committed → reported_status (node_after s (take j events) y) id ≡ Invalid → ⊥
+    pub ledger : (i : ℕ) (x : NodeId) → Sound (committed_ledger (node_after s (take i events) x))
 
   -- Views, votes and leaders, at all pairs of moments and nodes.
   pub record LeadsByVote (s : Start E) (events : List (Event Q G R)) : Type 0 where
@@ -167,7 +167,7 @@ module _ {E Q G R A F : Type 0} (book : Book E Q G R A F) where
     -- a leader holds whatever a leader of an earlier view ever commits
     pub leader_keeps : (i j : ℕ) (x y : NodeId) → (node_after s (take i events) x).view < (node_after s (take j events) y).view →
         (node_after s (take i events) x).role ≡ Leader → (node_after s (take j events) y).role ≡ Leader →
-        IsPrefixOf (committed (node_after s (take i events) x)) (node_after s (take j events) y).log
+        IsPrefixOf (committed_ledger (node_after s (take i events) x)) (node_after s (take j events) y).log
 
   -- What a refusal of a message says of its receiver: never that an entry may not follow, and that entries below commit
   -- would be cut only of a node whose commit is its base, above 0.
@@ -183,7 +183,7 @@ module _ {E Q G R A F : Type 0} (book : Book E Q G R A F) where
 
   -- A mark of a node that is committed: then that node may be switched off.
   abbrev pub MarkCommitted : Node E → NodeId → Type 0
-  MarkCommitted n y = (place : ℕ) × (book.mark n.log y ≡ Some place) × (place ≤ n.commit)
+  MarkCommitted n y = (seqno : ℕ) × (book.mark n.log y ≡ Some seqno) × (seqno ≤ n.commit)
 
   abbrev pub IsActive : Node E → NodeId → Type 0
   IsActive n y = in_some y (active book n.log n.commit) ≡ true

@@ -1,13 +1,13 @@
 -- The world: all nodes, and every message ever sent. A message that is lost is one that is never delivered, and a
 -- message may be delivered as often as one likes, at any moment after it was sent.
-use Rattle.std.specs.Prelude.{ℕ, ◌+◌, List, [], ◌∷◌, ◌++◌, Option, None, Some, length, nat_lt, slice_get, if◌then◌else◌}
+use Rattle.std.specs.Prelude.{ℕ, ◌+◌, List, [], ◌∷◌, ◌++◌, Option, None, Some, length, slice_get, if◌then◌else◌}
 use Rattle.gl_rules.specs.Identity.{NodeId, same, member, put}
 use Rattle.gl_rules.specs.Book.{Book}
 use Rattle.gl_rules.specs.Node.{Node, Follower, Leader}
 use Rattle.gl_rules.specs.Message.{Message, Body, RequestVote, VoteReply, Append, AppendReply, ProposeVote}
 use Rattle.gl_rules.specs.Outcome.{Outcome, Step, idle}
 use Rattle.gl_rules.specs.Outcome as outcome
-use Rattle.gl_rules.specs.Steps.{rise}
+use Rattle.gl_rules.specs.Steps.{update_view}
 use Rattle.gl_rules.specs.Elections as elections
 use Rattle.gl_rules.specs.Replication as replication
 use Rattle.gl_rules.specs.Requests as requests
@@ -86,41 +86,37 @@ abbrev pub at : {E A F : Type 0} → World E → NodeId → Step E A F → Happe
 at w x step = record { world = record { nodes = put w.nodes x step.node; sent = w.sent ++ step.sent }; outcome = step.outcome }
 
 -- A refused delivery leaves the node as it was, whatever had risen.
-abbrev pub kept_by : {E A F : Type 0} → Outcome A F → Node E → Step E A F → Step E A F
-kept_by (outcome.Refused why) n step = record { node = n; sent = []; outcome = outcome.Refused why }
-kept_by outcome.Done n step = step
-kept_by outcome.Idle n step = step
-kept_by outcome.BecameCandidate n step = step
-kept_by outcome.BecameLeader n step = step
-kept_by (outcome.Accepted v s a) n step = step
-kept_by (outcome.Signed v s) n step = step
-kept_by (outcome.Committed v s) n step = step
+abbrev pub undo_if_refused : {E A F : Type 0} → Outcome A F → Node E → Step E A F → Step E A F
+undo_if_refused (outcome.Refused why) n step = record { node = n; sent = []; outcome = outcome.Refused why }
+undo_if_refused outcome.Done n step = step
+undo_if_refused outcome.Idle n step = step
+undo_if_refused outcome.BecameCandidate n step = step
+undo_if_refused outcome.BecameLeader n step = step
+undo_if_refused (outcome.Accepted v s a) n step = step
+undo_if_refused (outcome.Signed v s) n step = step
+undo_if_refused (outcome.Committed v s) n step = step
 
 module _ {E Q G R A F : Type 0} (book : Book E Q G R A F) where
   abbrev pub answer_as : Body E → NodeId → NodeId → ℕ → Node E → Step E A F
   answer_as (RequestVote theirs) x y view n = elections.on_request_vote book x y view theirs n
   answer_as (VoteReply granted) x y view n = elections.on_vote_reply book y view granted n
   answer_as (Append prev entries commit) x y view n = replication.on_append book x y view prev entries commit n
-  answer_as (AppendReply ok place) x y view n = replication.on_append_reply book y view ok place n
+  answer_as (AppendReply ok seqno) x y view n = replication.on_append_reply book y view ok seqno n
   answer_as ProposeVote x y view n = elections.on_propose_vote book x view n
-
-  -- A message of a higher view makes the view rise first.
-  abbrev pub risen : ℕ → Node E → Node E
-  risen view n = if nat_lt n.view view then rise book view n else n
 
   -- What a node does with a message to it.
   unfoldable pub on_message : Message E → Node E → Step E A F
   on_message m n =
-      let step = answer_as m.body m.receiver m.sender m.view (risen m.view n) in
-      kept_by step.outcome n step
+      let step = answer_as m.body m.receiver m.sender m.view (update_view book m.view n) in
+      undo_if_refused step.outcome n step
 
-  abbrev pub delivered : World E → Option (Message E) → Happened E A F
-  delivered w None = record { world = w; outcome = outcome.Idle }
-  delivered w (Some m) = at w m.receiver (on_message m (w.nodes m.receiver))
+  abbrev pub deliver : World E → Option (Message E) → Happened E A F
+  deliver w None = record { world = w; outcome = outcome.Idle }
+  deliver w (Some m) = at w m.receiver (on_message m (w.nodes m.receiver))
 
   unfoldable pub happens : World E → Event Q G R → Happened E A F
   happens w (Timeout x) = at w x (elections.timeout book x (w.nodes x))
-  happens w (Deliver which) = delivered w (slice_get w.sent which)
+  happens w (Deliver which) = deliver w (slice_get w.sent which)
   happens w (Submit x q) = at w x (requests.submit book q (w.nodes x))
   happens w (Finish x len cuts reads q) = at w x (requests.finish book len cuts reads q (w.nodes x))
   happens w (Govern x g) = at w x (requests.govern book g (w.nodes x))

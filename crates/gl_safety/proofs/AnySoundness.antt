@@ -57,12 +57,12 @@ module _ {E Q G R A F : Type 0} {b : Book E Q G R A F} {Sound : List E → Type 
     signed = λ x leaf log view commit e z v c h. let r = la.signed x leaf log view commit e (each_sound log z) v c h in (made log view e z r.0, r.1, r.2);
     evident = λ log view e z v d. let r = la.evident log view e (each_sound log z) v d in (made log view e z r.0, r.1, r.2);
     taken = λ log e z f. sound_push b log e z f;
-    cut = λ log place z. sound_cut b log place z;
-    witnessed = λ log place e z a d. la.witnessed log place e (each_sound log z) a d;
+    cut = λ log seqno z. sound_cut b log seqno z;
+    witnessed = λ log seqno e z a d. la.witnessed log seqno e (each_sound log z) a d;
     removals = places b.removal la.removals;
     markings = places b.mark la.markings;
     marked = λ log e y z a. la.marked log e y (each_sound (log ++ e ∷ []) z) a;
-    marks = λ log view g e a y place z v d c. la.marks log view g e a y place (each_sound log z) v d c;
+    marks = λ log view g e a y seqno z v d c. la.marks log view g e a y seqno (each_sound log z) v d c;
   }
 
   opening : IsOpening b (EachFollows b) s
@@ -77,7 +77,7 @@ module _ {E Q G R A F : Type 0} {b : Book E Q G R A F} {Sound : List E → Type 
     signs = o.signs;
     records = o.records;
     alone = o.alone;
-    place = o.place;
+    configured_at = o.configured_at;
     counted = o.counted;
     within = o.within;
     members = o.members;

@@ -52,7 +52,7 @@ module _ {E Q G R A F : Type 0} {b : Book E Q G R A F} {s : Start E} (o : IsOpen
       0,
       inr (record {
         i = o.before;
-        place = o.long;
+        seqno = o.long;
         entry = o.signature;
         at = o.last;
         signs = o.signs;

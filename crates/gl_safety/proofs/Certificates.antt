@@ -3,7 +3,7 @@
 use Rattle.std.proofs.Common.{◌≡◌, ◌⊎◌, inl, inr, ⊎_elim, ℕ, zero, suc, ◌≤◌, ◌<◌, List, [], length, take, Bool, true, Some, None, slice_get, ap, ◌∙◌, arith}
 use Rattle.gl_rules.specs.Identity.{NodeId}
 use Rattle.gl_rules.specs.Book.{Book}
-use Rattle.gl_rules.specs.Message.{Last}
+use Rattle.gl_rules.specs.Message.{Position}
 use Rattle.gl_rules.specs.World.{Start}
 use Rattle.gl_rules.specs.Safety.{IsOpening, EachFollows}
 use Rattle.gl_safety.proofs.Lists.{Same, same_take, there, within}
@@ -13,10 +13,10 @@ use Rattle.gl_safety.proofs.Places.{MarksKnown}
 use Rattle.gl_safety.proofs.Facts.{Holds, Matches, Bound, Rising, Mark, Ballots, mark_grow, holds_grow}
 
 module _ {E Q G R A F : Type 0} {b : Book E Q G R A F} {s : Start E} (o : IsOpening b (EachFollows b) s) where
-  -- the entry at place c of l is a signature, at or below a certified one of a view that is at most t
+  -- the entry at seqno c of l is a signature, at or below a certified one of a view that is at most t
   pub record SureOver (C : ℕ → ℕ → Type 0) (g : Story E) (l : List E) (c t : ℕ) : Type 0 where
     pub i : ℕ
-    pub place : c ≡ suc i
+    pub seqno : c ≡ suc i
     pub entry : E
     pub at : slice_get l i ≡ Some entry
     pub signs : b.is_signature entry ≡ true
@@ -61,7 +61,7 @@ module _ {E Q G R A F : Type 0} {b : Book E Q G R A F} {s : Start E} (o : IsOpen
     pub log : List E
     pub commit : ℕ
     pub votes : NodeId → Bool
-    pub bid : Last
+    pub bid : Position
     pub depth : ℕ
     pub top : ℕ
     pub less : top < u
@@ -74,8 +74,8 @@ module _ {E Q G R A F : Type 0} {b : Book E Q G R A F} {s : Start E} (o : IsOpen
     pub at : g.bid c u ≡ Some bid
     pub ballots : (y : NodeId) → votes y ≡ true → (g.ballot y u ≡ Some c) × (g.early y u ≡ true)
     pub bid_less : bid.view < u
-    pub bid_zero : bid.place ≡ 0 → bid.view ≡ 0
-    pub bid_top : (i : ℕ) → bid.place ≡ suc i → (e : E) × (slice_get log i ≡ Some e) × (b.view_of e ≡ bid.view)
+    pub bid_zero : bid.seqno ≡ 0 → bid.view ≡ 0
+    pub bid_top : (i : ℕ) → bid.seqno ≡ suc i → (e : E) × (slice_get log i ≡ Some e) × (b.view_of e ≡ bid.view)
     pub front : (i : ℕ) (e : E) → slice_get log i ≡ Some e → slice_get (g.led u) i ≡ Some e
 
   -- what holds of the story
@@ -89,9 +89,9 @@ module _ {E Q G R A F : Type 0} {b : Book E Q G R A F} {s : Start E} (o : IsOpen
     pub low : (v : ℕ) (c : NodeId) → g.chief v ≡ Some c → 1 < v
     pub won : (u : ℕ) (c : NodeId) → 2 < u → g.chief u ≡ Some c → Won g u c
     pub known : (v i : ℕ) (e : E) → slice_get (g.led v) i ≡ Some e → b.is_signature e ≡ true → (b.recorded_commit e ≤ suc i) × Sured g (g.led v) (b.recorded_commit e) v
-    pub bids : (c : NodeId) (w : ℕ) (l : Last) → g.bid c w ≡ Some l → (2 < w) × (l.view < w)
+    pub bids : (c : NodeId) (w : ℕ) (l : Position) → g.bid c w ≡ Some l → (2 < w) × (l.view < w)
     pub shuts : (c : NodeId) (w : ℕ) (y : NodeId) → g.shut c w y ≡ true → (v : ℕ) × (i : ℕ) × (e : E) × (w ≤ v) × Holds g y v i × Mark b g.led v i e
-    pub stood : (c : NodeId) (w : ℕ) (y : NodeId) → g.shut c w y ≡ true → (l : Last) × (g.bid c w ≡ Some l)
+    pub stood : (c : NodeId) (w : ℕ) (y : NodeId) → g.shut c w y ≡ true → (l : Position) × (g.bid c w ≡ Some l)
     pub ballots : (y : NodeId) → Ballots b g y
     pub follows : (v i : ℕ) (e : E) → slice_get (g.led v) i ≡ Some e → b.breaks (take i (g.led v)) e ≡ None
     pub marks : (v : ℕ) → MarksKnown b (g.led v)
@@ -116,7 +116,7 @@ module _ {E Q G R A F : Type 0} {b : Book E Q G R A F} {s : Start E} (o : IsOpen
         (λ (q : c ≡ 0). inl q)
         (λ (q : SureOver C g l c t). inr (record {
           i = q.i;
-          place = q.place;
+          seqno = q.seqno;
           entry = q.entry;
           at = a q.i q.entry q.at;
           signs = q.signs;

@@ -4,7 +4,7 @@ use Rattle.std.proofs.lemmas.Bool.{cases_eq, cases_lt}
 use Rattle.gl_rules.specs.Identity.{NodeId}
 use Rattle.gl_rules.specs.Majority.{majority}
 use Rattle.gl_rules.specs.Book.{Book}
-use Rattle.gl_rules.specs.Message.{Last}
+use Rattle.gl_rules.specs.Message.{Position}
 use Rattle.gl_rules.specs.World.{Start}
 use Rattle.gl_rules.specs.Safety.{IsOpening, EachFollows}
 use Rattle.gl_safety.proofs.Ids.{share}
@@ -20,7 +20,7 @@ module _ {E Q G R A F : Type 0} {b : Book E Q G R A F} {s : Start E} (o : IsOpen
     pub log : List E
     pub commit : ℕ
     pub votes : NodeId → Bool
-    pub bid : Last
+    pub bid : Position
     pub depth : ℕ
     pub top : ℕ
     pub less : top < w
@@ -35,8 +35,8 @@ module _ {E Q G R A F : Type 0} {b : Book E Q G R A F} {s : Start E} (o : IsOpen
     pub lim_most : lim ≤ suc w
     pub old : (y : NodeId) → votes y ≡ true → (v i : ℕ) (e : E) → v < w → Holds g y v i → Mark b g.led v i e → Covers bid v i ⊎ Lost b g.chief g.led v i lim
     pub bid_less : bid.view < w
-    pub bid_zero : bid.place ≡ 0 → bid.view ≡ 0
-    pub bid_top : (i : ℕ) → bid.place ≡ suc i → (e : E) × (slice_get log i ≡ Some e) × (b.view_of e ≡ bid.view)
+    pub bid_zero : bid.seqno ≡ 0 → bid.view ≡ 0
+    pub bid_top : (i : ℕ) → bid.seqno ≡ suc i → (e : E) × (slice_get log i ≡ Some e) × (b.view_of e ≡ bid.view)
 
   -- leaders of views below w have what was certified before them
   abbrev pub Before : Story E → ℕ → Type 0
@@ -56,8 +56,8 @@ module _ {E Q G R A F : Type 0} {b : Book E Q G R A F} {s : Start E} (o : IsOpen
   -- the opening's configuration stands in each log that begins with it
   pub newest_in : (l : List E) (c : ℕ) → Same (length s.opening) s.opening l → length s.opening ≤ c → (p : ℕ) × (m : List NodeId) × IsNewest b l c p m
   newest_in l c a h =
-      let cut : take o.place s.opening ≡ take o.place l = same_take o.place s.opening l (omega (arith, o.within, o.long)) (λ j x d e. a j x (omega (arith, o.within, o.long)) e) in
-      newest_exists b l o.place (c - o.place) c o.members o.counted (ap b.configuration (sym cut) ∙ o.configured) (omega (arith, o.within, o.long))
+      let cut : take o.configured_at s.opening ≡ take o.configured_at l = same_take o.configured_at s.opening l (omega (arith, o.within, o.long)) (λ j x d e. a j x (omega (arith, o.within, o.long)) e) in
+      newest_exists b l o.configured_at (c - o.configured_at) c o.members o.counted (ap b.configuration (sym cut) ∙ o.configured) (omega (arith, o.within, o.long))
 
   -- the certificate of a commit that isn't 0
   pub settled : (n c t : ℕ) (g : Story E) (l : List E) → length s.opening ≤ c → Sure o n g l c t → SureOver o (Cert o n g) g l c t
@@ -71,7 +71,7 @@ module _ {E Q G R A F : Type 0} {b : Book E Q G R A F} {s : Start E} (o : IsOpen
         not_lost : Lost b g.chief g.led v i x.lim → ⊥
         not_lost z = z.lacks e (before z.view z.by z.below z.won (suc n) v i e c m z.above) m.view
 
-        at_bid : (k : ℕ) → x.bid.place ≡ suc k → Covers x.bid v i → slice_get x.log i ≡ Some e
+        at_bid : (k : ℕ) → x.bid.seqno ≡ suc k → Covers x.bid v i → slice_get x.log i ≡ Some e
         at_bid k d z =
             let r = x.bid_top k d in
             ⊎_elim
@@ -80,15 +80,15 @@ module _ {E Q G R A F : Type 0} {b : Book E Q G R A F} {s : Start E} (o : IsOpen
             let a : slice_get (g.led x.bid.view) i ≡ Some e = before x.bid.view ch.0 (omega (arith, x.bid_less, x.lim_least)) ch.1 (suc n) v i e c m u in
             let low : i ≤ k = ⊎_elim (λ (q : k < i). absurd (omega (arith, (t.rising x.bid.view).rising k i r.0 e (omega arith) (is_led b g.led x.log x.bid.view k k r.0 r.0 x.matches r.1 r.2 (omega arith) r.1) a, r.2, m.view))) (λ (q : i ≤ k). q) (cases_lt k i) in
             led_is b g.led x.log x.bid.view k i r.0 e x.matches r.1 r.2 low a)
-            (λ (u : (v ≡ x.bid.view) × (i < x.bid.place)).
+            (λ (u : (v ≡ x.bid.view) × (i < x.bid.seqno)).
             led_is b g.led x.log v k i r.0 e x.matches r.1 (r.2 ∙ sym u.0) (omega (arith, u.1)) m.at)
             z
 
         by_bid : Covers x.bid v i → slice_get x.log i ≡ Some e
-        by_bid z = go x.bid.place refl
+        by_bid z = go x.bid.seqno refl
           where
-            go : (k : ℕ) → x.bid.place ≡ k → slice_get x.log i ≡ Some e
-            go zero d = absurd (⊎_elim (λ (u : v < x.bid.view). omega (arith, x.bid_zero d)) (λ (u : (v ≡ x.bid.view) × (i < x.bid.place)). omega (arith, u.1)) z)
+            go : (k : ℕ) → x.bid.seqno ≡ k → slice_get x.log i ≡ Some e
+            go zero d = absurd (⊎_elim (λ (u : v < x.bid.view). omega (arith, x.bid_zero d)) (λ (u : (v ≡ x.bid.view) × (i < x.bid.seqno)). omega (arith, u.1)) z)
             go (suc k) d = at_bid k d z
 
     -- a configuration that the winner and the certificate both count
@@ -117,8 +117,8 @@ module _ {E Q G R A F : Type 0} {b : Book E Q G R A F} {s : Start E} (o : IsOpen
         sooner : x.commit ≤ c.commit → slice_get x.log i ≡ Some e
         sooner d =
             let y = newest_in x.log c.commit x.begins (omega (arith, x.opened)) in
-            let long : c.commit ≤ length x.log = omega (arith, within x.log q.i q.entry own, q.place) in
-            let a : Same c.commit x.log (g.led v) = λ j u k f. own_led j u (omega (arith, q.place)) f in
+            let long : c.commit ≤ length x.log = omega (arith, within x.log q.i q.entry own, q.seqno) in
+            let a : Same c.commit x.log (g.led v) = λ j u k f. own_led j u (omega (arith, q.seqno)) f in
             finish y.0 y.1 c.commit y.2 (newest_same b x.log (g.led v) c.commit y.0 y.1 long a y.2) d (omega arith) long (omega (arith, c.less))
 
         -- the leader has the winner's commit
@@ -126,7 +126,7 @@ module _ {E Q G R A F : Type 0} {b : Book E Q G R A F} {s : Start E} (o : IsOpen
         shares d k a =
             let y = newest_in x.log x.commit x.begins x.opened in
             let f : Same (suc z.i) x.log (g.led v) = agree b g.led x.log (g.led v) z.i z.entry x.matches (t.matches v) z.at a in
-            finish y.0 y.1 x.commit y.2 (newest_same b x.log (g.led v) x.commit y.0 y.1 x.within (λ j u l r. f j u (omega (arith, z.place)) r) y.2) (omega arith) (omega arith) x.within (omega (arith, z.place))
+            finish y.0 y.1 x.commit y.2 (newest_same b x.log (g.led v) x.commit y.0 y.1 x.within (λ j u l r. f j u (omega (arith, z.seqno)) r) y.2) (omega arith) (omega arith) x.within (omega (arith, z.seqno))
 
         through : (u : ℕ) → slice_get (g.led u) z.i ≡ Some z.entry → slice_get (g.led u) i ≡ Some e → c.commit < x.commit → slice_get x.log i ≡ Some e
         through u a f d = ⊎_elim
@@ -176,9 +176,9 @@ module _ {E Q G R A F : Type 0} {b : Book E Q G R A F} {s : Start E} (o : IsOpen
         let a : slice_get x.log q.i ≡ Some q.entry = crossed z x q in
         let f : Same (suc q.i) z.log x.log = agree b g.led z.log x.log q.i q.entry z.matches x.matches q.at a in
         let n = newest_in z.log z.commit z.begins z.opened in
-        let r = newest_same b z.log x.log z.commit n.0 n.1 z.within (λ j u k d. f j u (omega (arith, q.place)) d) n.2 in
+        let r = newest_same b z.log x.log z.commit n.0 n.1 z.within (λ j u k d. f j u (omega (arith, q.seqno)) d) n.2 in
         share x.votes z.votes n.1
-        (backs b x.votes x.log x.commit (length x.log) z.commit n.0 n.1 x.backed h (omega (arith, q.place, within x.log q.i q.entry a)) r)
+        (backs b x.votes x.log x.commit (length x.log) z.commit n.0 n.1 x.backed h (omega (arith, q.seqno, within x.log q.i q.entry a)) r)
         (backs b z.votes z.log z.commit (length z.log) z.commit n.0 n.1 z.backed (omega arith) z.within n.2)
 
     pub one_voter : (y : NodeId) × (x.votes y ≡ true) × (z.votes y ≡ true)
@@ -209,7 +209,7 @@ module _ {E Q G R A F : Type 0} {b : Book E Q G R A F} {s : Start E} (o : IsOpen
         let k = q.ballots y a in
         let r = (t.ballots y).votes u c h k.0 in
         let same : r.bid ≡ q.bid = let z = sym r.at ∙ q.at in cc in
-        subst (λ (l : Last). Covers l v i ⊎ Lost b g.chief g.led v i u) same (r.old k.1 v i e d f m);
+        subst (λ (l : Position). Covers l v i ⊎ Lost b g.chief g.led v i u) same (r.old k.1 v i e d f m);
     bid_less = q.bid_less;
     bid_zero = q.bid_zero;
     bid_top = q.bid_top;
@@ -244,7 +244,7 @@ module _ {E Q G R A F : Type 0} {b : Book E Q G R A F} {s : Start E} (o : IsOpen
       0,
       inr (record {
         i = q.i;
-        place = q.place;
+        seqno = q.seqno;
         entry = q.entry;
         at = q.at;
         signs = q.signs;
@@ -267,7 +267,7 @@ module _ {E Q G R A F : Type 0} {b : Book E Q G R A F} {s : Start E} (o : IsOpen
           suc n,
           inr (record {
             i = q.i;
-            place = q.place;
+            seqno = q.seqno;
             entry = q.entry;
             at = q.at;
             signs = q.signs;
@@ -285,10 +285,10 @@ module _ {E Q G R A F : Type 0} {b : Book E Q G R A F} {s : Start E} (o : IsOpen
       (λ (k : w ≤ q.v). ⊎_elim
       (λ (d : q.i < q.cert.commit).
       let r = settled n q.cert.commit q.v g (g.led q.v) q.cert.opened q.cert.sure in
-      let a : slice_get (g.led r.v) q.i ≡ Some q.entry = agree b g.led (g.led q.v) (g.led r.v) r.i r.entry (t.matches q.v) (t.matches r.v) r.at r.leads q.i q.entry (omega (arith, r.place)) q.leads in
+      let a : slice_get (g.led r.v) q.i ≡ Some q.entry = agree b g.led (g.led q.v) (g.led r.v) r.i r.entry (t.matches q.v) (t.matches r.v) r.at r.leads q.i q.entry (omega (arith, r.seqno)) q.leads in
       descend g t w h n l c u p (record {
         i = q.i;
-        place = q.place;
+        seqno = q.seqno;
         entry = q.entry;
         at = q.at;
         signs = q.signs;
@@ -297,7 +297,7 @@ module _ {E Q G R A F : Type 0} {b : Book E Q G R A F} {s : Start E} (o : IsOpen
         last = r.last;
         mark = r.mark;
         cert = r.cert;
-        le = omega (arith, r.place, r.le);
+        le = omega (arith, r.seqno, r.le);
         top = omega (arith, r.top, q.top);
         leads = a;
       }))
@@ -306,8 +306,8 @@ module _ {E Q G R A F : Type 0} {b : Book E Q G R A F} {s : Start E} (o : IsOpen
       inr (
         q.cert.votes,
         (λ m mem z.
-            backs b q.cert.votes (g.led q.v) q.cert.commit (suc q.j) c m mem q.cert.backed (omega (arith, q.place)) (omega (arith, q.place, q.le))
-            (newest_same b l (g.led q.v) c m mem (omega (arith, q.place, within l q.i q.entry q.at)) (λ j x r e. f j x (omega (arith, q.place)) e) z)),
+            backs b q.cert.votes (g.led q.v) q.cert.commit (suc q.j) c m mem q.cert.backed (omega (arith, q.seqno)) (omega (arith, q.seqno, q.le))
+            (newest_same b l (g.led q.v) c m mem (omega (arith, q.seqno, within l q.i q.entry q.at)) (λ j x r e. f j x (omega (arith, q.seqno)) e) z)),
         (λ y z. (q.v, q.j, q.last, k, q.cert.holds y z, q.mark)),
       ))
       (cases_lt q.i q.cert.commit))

@@ -71,7 +71,7 @@ module _ {E Q G R A F : Type 0} (b : Book E Q G R A F) where
       last : (m : List NodeId) → quorum votes (option_to_list (Some m)) ≡ true → majority votes m ≡ true
       last m z = grind arith
 
-  -- the newest configuration at a later place, also where it isn't the newest at commit
+  -- the newest configuration at a later seqno, also where it isn't the newest at commit
   pub backs : (votes : NodeId → Bool) (l : List E) (c k d p : ℕ) (m : List NodeId) → Backed votes l c k → c ≤ d → d ≤ k → IsNewest l d p m → majority votes m ≡ true
   backs votes l c k d p m z h i n = ⊎_elim
       (λ (j : c < p). z.above p m j (omega (arith, n.below)) n.at)
@@ -105,7 +105,7 @@ module _ {E Q G R A F : Type 0} (b : Book E Q G R A F) where
         },
       )
 
-  pub newest_exists : (l : List E) (place more c : ℕ) (m : List NodeId) → 0 < place → b.configuration (take place l) ≡ Some m → c ≡ place + more → (p : ℕ) × (n : List NodeId) × IsNewest l c p n
-  newest_exists l place zero c m h e z = (place, m, record { counts = h; below = omega arith; at = e; none = λ q i j. absurd (omega arith) })
-  newest_exists l place (suc more) zero m h e z = absurd (omega arith)
-  newest_exists l place (suc more) (suc c) m h e z = step_up l c (newest_exists l place more c m h e (omega arith))
+  pub newest_exists : (l : List E) (seqno more c : ℕ) (m : List NodeId) → 0 < seqno → b.configuration (take seqno l) ≡ Some m → c ≡ seqno + more → (p : ℕ) × (n : List NodeId) × IsNewest l c p n
+  newest_exists l seqno zero c m h e z = (seqno, m, record { counts = h; below = omega arith; at = e; none = λ q i j. absurd (omega arith) })
+  newest_exists l seqno (suc more) zero m h e z = absurd (omega arith)
+  newest_exists l seqno (suc more) (suc c) m h e z = step_up l c (newest_exists l seqno more c m h e (omega arith))

@@ -2,7 +2,7 @@
 use Rattle.std.proofs.Common.{◌≡◌, ◌≢◌, ◌⊎◌, inl, inr, ⊎_elim, ℕ, suc, ◌+◌, ◌≤◌, ◌<◌, List, true, Option, Some, None, slice_get, sym, ap, ◌∙◌, arith}
 use Rattle.gl_rules.specs.Identity.{NodeId}
 use Rattle.gl_rules.specs.Book.{Book}
-use Rattle.gl_rules.specs.Message.{Last}
+use Rattle.gl_rules.specs.Message.{Position}
 use Rattle.gl_safety.proofs.Lists.{Same, within, there}
 use Rattle.gl_safety.proofs.Story.{Story, Grows}
 
@@ -11,8 +11,8 @@ abbrev pub Holds : {E : Type 0} → Story E → NodeId → ℕ → ℕ → Type 
 Holds g y v i = (i < g.held y v) ⊎ (g.chief v ≡ Some y)
 
 -- a last signature that is at least the one of view v at index i
-abbrev pub Covers : Last → ℕ → ℕ → Type 0
-Covers l v i = (v < l.view) ⊎ ((v ≡ l.view) × (i < l.place))
+abbrev pub Covers : Position → ℕ → ℕ → Type 0
+Covers l v i = (v < l.view) ⊎ ((v ≡ l.view) × (i < l.seqno))
 
 module _ {E Q G R A F : Type 0} (b : Book E Q G R A F) where
   -- up to each of its entries a log is the log of the leader of that entry's view
@@ -42,13 +42,13 @@ module _ {E Q G R A F : Type 0} (b : Book E Q G R A F) where
     pub lacks : (f : E) → slice_get (led view) i ≡ Some f → b.view_of f ≢ v
 
   -- es are the entries of l behind p
-  pub record Segment (l : List E) (p : Last) (es : List E) : Type 0 where
-    pub items : (i k : ℕ) (e : E) → k ≡ p.place + i → slice_get es i ≡ Some e → slice_get l k ≡ Some e
-    pub prev : (j : ℕ) → p.place ≡ suc j → 0 < p.view → (e : E) × (slice_get l j ≡ Some e) × (b.view_of e ≡ p.view)
+  pub record Segment (l : List E) (p : Position) (es : List E) : Type 0 where
+    pub items : (i k : ℕ) (e : E) → k ≡ p.seqno + i → slice_get es i ≡ Some e → slice_get l k ≡ Some e
+    pub prev : (j : ℕ) → p.seqno ≡ suc j → 0 < p.view → (e : E) × (slice_get l j ≡ Some e) × (b.view_of e ≡ p.view)
 
   -- x's vote for c in w: what x held below w is covered by what c stood with, or lost since
   pub record Voted (g : Story E) (x : NodeId) (w : ℕ) (c : NodeId) : Type 0 where
-    pub bid : Last
+    pub bid : Position
     pub at : g.bid c w ≡ Some bid
     pub old : g.early x w ≡ true → (v i : ℕ) (e : E) → v < w → Holds g x v i → Mark g.led v i e → Covers bid v i ⊎ Lost g.chief g.led v i w
     pub late : (v i : ℕ) (e : E) → v < w → Holds g x v i → Mark g.led v i e → Covers bid v i ⊎ Lost g.chief g.led v i (suc w)
@@ -59,7 +59,7 @@ module _ {E Q G R A F : Type 0} (b : Book E Q G R A F) where
     pub barred : (w : ℕ) (c : NodeId) → g.shut c w y ≡ true → g.ballot y w ≡ Some c → ⊥
     pub within : (v i : ℕ) → i < g.held y v → (e : E) × (slice_get (g.led v) i ≡ Some e)
 
-  -- two logs with one entry at one place are the same up to it
+  -- two logs with one entry at one seqno are the same up to it
   pub agree : (led : ℕ → List E) (l m : List E) (i : ℕ) (e : E) → Matches led l → Matches led m → slice_get l i ≡ Some e → slice_get m i ≡ Some e → Same (suc i) l m
   agree led l m i e p q a d j x h z =
       let y = there m j (omega (arith, within m i e d)) in
@@ -97,7 +97,7 @@ module _ {E Q G R A F : Type 0} (b : Book E Q G R A F) where
     pub lost_more : (v i t u : ℕ) → t ≤ u → Lost g.chief g.led v i t → Lost g.chief g.led v i u
     lost_more v i t u d z = record { view = z.view; above = z.above; below = omega (arith, z.below); by = z.by; won = z.won; lacks = z.lacks }
 
-    pub segment_grow : (v : ℕ) (p : Last) (es : List E) → Segment (g.led v) p es → Segment (h.led v) p es
+    pub segment_grow : (v : ℕ) (p : Position) (es : List E) → Segment (g.led v) p es → Segment (h.led v) p es
     segment_grow v p es z = record {
       items = λ i j e d a. k.led v j e (z.items i j e d a);
       prev = λ j d a. let r = z.prev j d a in (r.0, k.led v j r.0 r.1, r.2);
@@ -115,7 +115,7 @@ module _ {E Q G R A F : Type 0} (b : Book E Q G R A F) where
         (λ (s : g.chief v ≡ Some y). record { at = ap (λ l. slice_get l i) (sym (k.led_of v y d s)) ∙ m.at; view = m.view; signs = m.signs })
         z
 
-    covered_grow : (l : Last) (v i t : ℕ) → Covers l v i ⊎ Lost g.chief g.led v i t → Covers l v i ⊎ Lost h.chief h.led v i t
+    covered_grow : (l : Position) (v i t : ℕ) → Covers l v i ⊎ Lost g.chief g.led v i t → Covers l v i ⊎ Lost h.chief h.led v i t
     covered_grow l v i t z = ⊎_elim (λ (s : Covers l v i). inl s) (λ (s : Lost g.chief g.led v i t). inr (lost_grow v i t s)) z
 
     pub ballots_of : (y : NodeId) → y ≢ x → Ballots g y → Ballots h y

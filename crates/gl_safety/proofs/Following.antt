@@ -16,7 +16,7 @@ use Rattle.gl_safety.proofs.Certificates.{SureOver, Cert, Sured, Tale}
 use Rattle.gl_safety.proofs.Complete.{chief_of_led}
 use Rattle.gl_safety.proofs.Signatures.{last_take}
 use Rattle.gl_safety.proofs.Invariants.{Commits, Good, Reached, sure_to, recorded_sure, won_grow, sured_more, shuts_grow}
-use Rattle.gl_rules.specs.Replication.{takes}
+use Rattle.gl_rules.specs.Replication.{accept_entries}
 use Rattle.gl_safety.proofs.Merging.{Merged}
 
 module _ {E Q G R A F : Type 0} {b : Book E Q G R A F} {s : Start E} (o : IsOpening b (EachFollows b) s) where
@@ -71,38 +71,38 @@ module _ {E Q G R A F : Type 0} {b : Book E Q G R A F} {s : Start E} (o : IsOpen
   }
 
   -- a follower takes what the leader of its view sent
-  module _ (x : NodeId) (g : Story E) (n : Node E) (r : List E) (place theirs cuts : ℕ) (t : Tale o g) (z : Good o g x n) (follows : n.role ≡ Follower)
-      (m : Merged b n.log (g.led n.view) place r) (kept : Same n.commit n.log r) (sound : EachFollows b r) (sure_c : Sured o g (g.led n.view) theirs n.view) where
-    k : Grows b.view_of x g (told_held x n.view place g)
-    k = grows_held b.view_of x n.view place g
+  module _ (x : NodeId) (g : Story E) (n : Node E) (r : List E) (seqno theirs cuts : ℕ) (t : Tale o g) (z : Good o g x n) (follows : n.role ≡ Follower)
+      (m : Merged b n.log (g.led n.view) seqno r) (kept : Same n.commit n.log r) (sound : EachFollows b r) (sure_c : Sured o g (g.led n.view) theirs n.view) where
+    k : Grows b.view_of x g (told_held x n.view seqno g)
+    k = grows_held b.view_of x n.view seqno g
 
     matches : Matches b g.led r
     matches = ⊎_elim
         (λ (q : r ≡ n.log). subst (Matches b g.led) (sym q) z.logged.matches)
-        (λ (q : ((j : ℕ) (f : E) → slice_get r j ≡ Some f → slice_get (g.led n.view) j ≡ Some f) × (d : ℕ) × (d < place) × ((e f : E) → slice_get n.log d ≡ Some e → slice_get (g.led n.view) d ≡ Some f → b.view_of e ≢ b.view_of f)).
+        (λ (q : ((j : ℕ) (f : E) → slice_get r j ≡ Some f → slice_get (g.led n.view) j ≡ Some f) × (d : ℕ) × (d < seqno) × ((e f : E) → slice_get n.log d ≡ Some e → slice_get (g.led n.view) d ≡ Some f → b.view_of e ≢ b.view_of f)).
         matches_part b g.led (g.led n.view) r (t.matches n.view) q.0)
         m.way
 
     bound : Bound b n.view r
     bound = ⊎_elim
         (λ (q : r ≡ n.log). subst (Bound b n.view) (sym q) z.logged.bound)
-        (λ (q : ((j : ℕ) (f : E) → slice_get r j ≡ Some f → slice_get (g.led n.view) j ≡ Some f) × (d : ℕ) × (d < place) × ((e f : E) → slice_get n.log d ≡ Some e → slice_get (g.led n.view) d ≡ Some f → b.view_of e ≢ b.view_of f)).
+        (λ (q : ((j : ℕ) (f : E) → slice_get r j ≡ Some f → slice_get (g.led n.view) j ≡ Some f) × (d : ℕ) × (d < seqno) × ((e f : E) → slice_get n.log d ≡ Some e → slice_get (g.led n.view) d ≡ Some f → b.view_of e ≢ b.view_of f)).
         record { view = λ i e a. (t.bound n.view).view i e (q.0 i e a) })
         m.way
 
-    -- an entry of r below place
-    in_front : (i : ℕ) (e : E) → i < place → slice_get (g.led n.view) i ≡ Some e → slice_get r i ≡ Some e
+    -- an entry of r below seqno
+    in_front : (i : ℕ) (e : E) → i < seqno → slice_get (g.led n.view) i ≡ Some e → slice_get r i ≡ Some e
     in_front i e h a = let y = there r i (omega (arith, m.long)) in y.1 ∙ sym (m.front i y.0 h y.1) ∙ a
 
     -- a signature that stood stays, or the leader of this view lacks it
     stays : (v i : ℕ) (e : E) → Mark b g.led v i e → slice_get n.log i ≡ Some e → (slice_get r i ≡ Some e) ⊎ Lost b g.chief g.led v i (suc n.view)
     stays v i e w a = ⊎_elim
         (λ (q : r ≡ n.log). inl (ap (λ l. slice_get l i) q ∙ a))
-        (λ (q : ((j : ℕ) (f : E) → slice_get r j ≡ Some f → slice_get (g.led n.view) j ≡ Some f) × (d : ℕ) × (d < place) × ((e f : E) → slice_get n.log d ≡ Some e → slice_get (g.led n.view) d ≡ Some f → b.view_of e ≢ b.view_of f)).
+        (λ (q : ((j : ℕ) (f : E) → slice_get r j ≡ Some f → slice_get (g.led n.view) j ≡ Some f) × (d : ℕ) × (d < seqno) × ((e f : E) → slice_get n.log d ≡ Some e → slice_get (g.led n.view) d ≡ Some f → b.view_of e ≢ b.view_of f)).
         changed q.0 q.1 q.2 q.3)
         m.way
       where
-        changed : ((j : ℕ) (f : E) → slice_get r j ≡ Some f → slice_get (g.led n.view) j ≡ Some f) → (d : ℕ) → d < place → ((e f : E) → slice_get n.log d ≡ Some e → slice_get (g.led n.view) d ≡ Some f → b.view_of e ≢ b.view_of f) →
+        changed : ((j : ℕ) (f : E) → slice_get r j ≡ Some f → slice_get (g.led n.view) j ≡ Some f) → (d : ℕ) → d < seqno → ((e f : E) → slice_get n.log d ≡ Some e → slice_get (g.led n.view) d ≡ Some f → b.view_of e ≢ b.view_of f) →
             (slice_get r i ≡ Some e) ⊎ Lost b g.chief g.led v i (suc n.view)
         changed all d small differ = go (slice_get (g.led n.view) i) refl
           where
@@ -114,12 +114,12 @@ module _ {E Q G R A F : Type 0} {b : Book E Q G R A F} {s : Start E} (o : IsOpen
 
             has : slice_get (g.led n.view) i ≡ Some e → (slice_get r i ≡ Some e) ⊎ Lost b g.chief g.led v i (suc n.view)
             has f = ⊎_elim
-                (λ (q : i < place). inl (in_front i e q f))
-                (λ (q : place ≤ i).
+                (λ (q : i < seqno). inl (in_front i e q f))
+                (λ (q : seqno ≤ i).
                 let y = there n.log d (omega (arith, within n.log i e a)) in
                 let p = agree b g.led n.log (g.led n.view) i e z.logged.matches (t.matches n.view) a f d y.0 (omega arith) y.1 in
                 absurd (differ y.0 y.0 y.1 p refl))
-                (cases_lt i place)
+                (cases_lt i seqno)
 
             lost : ((f : E) → slice_get (g.led n.view) i ≡ Some f → b.view_of f ≢ v) → (v < n.view) → Lost b g.chief g.led v i (suc n.view)
             lost lacks low = let c = chief_of_led o g t n.view d top.0 at_d in record { view = n.view; above = low; below = omega arith; by = c.0; won = c.1; lacks = lacks }
@@ -142,7 +142,7 @@ module _ {E Q G R A F : Type 0} {b : Book E Q G R A F} {s : Start E} (o : IsOpen
                 (cases_eq v n.view))
                 (cases_eq (b.view_of u) v)
 
-    tale_held : Tale o (told_held x n.view place g)
+    tale_held : Tale o (told_held x n.view seqno g)
     tale_held = record {
       early = t.early;
       matches = t.matches;
@@ -156,15 +156,15 @@ module _ {E Q G R A F : Type 0} {b : Book E Q G R A F} {s : Start E} (o : IsOpen
       bids = t.bids;
       shuts = λ c w y a. shuts_grow o k 0 w y (t.shuts c w y a);
       stood = t.stood;
-      ballots = λ y. ⊎_elim (λ (q : y ≡ x). subst (Ballots b (told_held x n.view place g)) (sym q) own) (λ (q : y ≢ x). ballots_of b k y q (t.ballots y)) (cases_same y x);
+      ballots = λ y. ⊎_elim (λ (q : y ≡ x). subst (Ballots b (told_held x n.view seqno g)) (sym q) own) (λ (q : y ≢ x). ballots_of b k y q (t.ballots y)) (cases_same y x);
       follows = t.follows;
       marks = t.marks;
     }
       where
-        holds : (u i : ℕ) → u ≢ n.view → (i < put2 g.held x n.view (max (g.held x n.view) place) x u) ⊎ (g.chief u ≡ Some x) → Holds g x u i
-        holds u i d q = ⊎_elim (λ (f : i < put2 g.held x n.view (max (g.held x n.view) place) x u). inl (grind (arith, id_tests))) (λ (f : g.chief u ≡ Some x). inr f) q
+        holds : (u i : ℕ) → u ≢ n.view → (i < put2 g.held x n.view (max (g.held x n.view) seqno) x u) ⊎ (g.chief u ≡ Some x) → Holds g x u i
+        holds u i d q = ⊎_elim (λ (f : i < put2 g.held x n.view (max (g.held x n.view) seqno) x u). inl (grind (arith, id_tests))) (λ (f : g.chief u ≡ Some x). inr f) q
 
-        own : Ballots b (told_held x n.view place g) x
+        own : Ballots b (told_held x n.view seqno g) x
         own = record {
           votes = λ w c d a.
               let v = (t.ballots x).votes w c d a in
@@ -177,17 +177,17 @@ module _ {E Q G R A F : Type 0} {b : Book E Q G R A F} {s : Start E} (o : IsOpen
               };
           barred = (t.ballots x).barred;
           within = λ v i a. ⊎_elim
-              (λ (q : (x ≡ x) × (v ≡ n.view) × (put2 g.held x n.view (max (g.held x n.view) place) x v ≡ max (g.held x n.view) place)).
+              (λ (q : (x ≡ x) × (v ≡ n.view) × (put2 g.held x n.view (max (g.held x n.view) seqno) x v ≡ max (g.held x n.view) seqno)).
               ⊎_elim
-              (λ (h : i < place). let y = there r i (omega (arith, m.long)) in (y.0, ap (λ u. slice_get (g.led u) i) q.1 ∙ m.front i y.0 h y.1))
-              (λ (h : place ≤ i). let y = (t.ballots x).within n.view i (omega (arith, q.2)) in (y.0, ap (λ u. slice_get (g.led u) i) q.1 ∙ y.1))
-              (cases_lt i place))
-              (λ (q : put2 g.held x n.view (max (g.held x n.view) place) x v ≡ g.held x v). (t.ballots x).within v i (omega (arith, q)))
-              (put2_cases g.held x n.view (max (g.held x n.view) place) x v);
+              (λ (h : i < seqno). let y = there r i (omega (arith, m.long)) in (y.0, ap (λ u. slice_get (g.led u) i) q.1 ∙ m.front i y.0 h y.1))
+              (λ (h : seqno ≤ i). let y = (t.ballots x).within n.view i (omega (arith, q.2)) in (y.0, ap (λ u. slice_get (g.led u) i) q.1 ∙ y.1))
+              (cases_lt i seqno))
+              (λ (q : put2 g.held x n.view (max (g.held x n.view) seqno) x v ≡ g.held x v). (t.ballots x).within v i (omega (arith, q)))
+              (put2_cases g.held x n.view (max (g.held x n.view) seqno) x v);
         }
 
     -- the last signature at or below the sender's commit
-    sure_below : (q : ℕ) → last_signature b (take (min theirs place) r) ≡ q → Sured o g r q n.view
+    sure_below : (q : ℕ) → last_signature b (take (min theirs seqno) r) ≡ q → Sured o g r q n.view
     sure_below zero d = (0, inl refl)
     sure_below (suc i) d = (
       sure_c.0,
@@ -195,7 +195,7 @@ module _ {E Q G R A F : Type 0} {b : Book E Q G R A F} {s : Start E} (o : IsOpen
           (λ (q : theirs ≡ 0). absurd (omega (arith, y.1)))
           (λ (q : SureOver o (Cert o sure_c.0 g) g (g.led n.view) theirs n.view). inr (record {
             i = i;
-            place = refl;
+            seqno = refl;
             entry = y.0;
             at = y.2;
             signs = y.3;
@@ -204,27 +204,27 @@ module _ {E Q G R A F : Type 0} {b : Book E Q G R A F} {s : Start E} (o : IsOpen
             last = q.last;
             mark = q.mark;
             cert = q.cert;
-            le = omega (arith, q.le, q.place, y.1);
+            le = omega (arith, q.le, q.seqno, y.1);
             top = q.top;
-            leads = agree b g.led (g.led n.view) (g.led q.v) q.i q.entry (t.matches n.view) (t.matches q.v) q.at q.leads i y.0 (omega (arith, q.place, y.1)) (m.front i y.0 (omega (arith, y.1)) y.2);
+            leads = agree b g.led (g.led n.view) (g.led q.v) q.i q.entry (t.matches n.view) (t.matches q.v) q.at q.leads i y.0 (omega (arith, q.seqno, y.1)) (m.front i y.0 (omega (arith, y.1)) y.2);
           }))
           sure_c.1,
     )
       where
-        y : (e : E) × (i < min theirs place) × (slice_get r i ≡ Some e) × (b.is_signature e ≡ true)
-        y = last_take b (min theirs place) r i d
+        y : (e : E) × (i < min theirs seqno) × (slice_get r i ≡ Some e) × (b.is_signature e ≡ true)
+        y = last_take b (min theirs seqno) r i d
 
     after : ℕ
-    after = max (max n.commit (max n.base (greatest_recorded b r))) (last_signature b (take (min theirs place) r))
+    after = max (max n.commit (max n.base (greatest_recorded b r))) (last_signature b (take (min theirs seqno) r))
 
     stays_sure : (c u w : ℕ) → u ≤ w → c ≤ n.commit → Sured o g n.log c u → Sured o g r c w
     stays_sure c u w d h q = sure_to o g n.log r c u w d (λ i e p a f. kept i e (omega (arith, p)) a) q
 
-    after_sure : Sured o g r (max (max n.commit (max n.base (greatest_recorded b r))) (last_signature b (take (min theirs place) r))) n.view ⊎ (max (max n.commit (max n.base (greatest_recorded b r))) (last_signature b (take (min theirs place) r)) ≡ n.base)
+    after_sure : Sured o g r (max (max n.commit (max n.base (greatest_recorded b r))) (last_signature b (take (min theirs seqno) r))) n.view ⊎ (max (max n.commit (max n.base (greatest_recorded b r))) (last_signature b (take (min theirs seqno) r)) ≡ n.base)
     after_sure = ⊎_elim
-        (λ (h : max n.commit (max n.base (greatest_recorded b r)) < last_signature b (take (min theirs place) r)).
-        inl (subst (λ (c : ℕ). Sured o g r c n.view) (omega arith) (sure_below (last_signature b (take (min theirs place) r)) refl)))
-        (λ (h : last_signature b (take (min theirs place) r) ≤ max n.commit (max n.base (greatest_recorded b r))). ⊎_elim
+        (λ (h : max n.commit (max n.base (greatest_recorded b r)) < last_signature b (take (min theirs seqno) r)).
+        inl (subst (λ (c : ℕ). Sured o g r c n.view) (omega arith) (sure_below (last_signature b (take (min theirs seqno) r)) refl)))
+        (λ (h : last_signature b (take (min theirs seqno) r) ≤ max n.commit (max n.base (greatest_recorded b r))). ⊎_elim
         (λ (d : n.commit < max n.base (greatest_recorded b r)). ⊎_elim
         (λ (q : Sured o g r (max n.base (greatest_recorded b r)) n.view). inl (subst (λ (c : ℕ). Sured o g r c n.view) (omega arith) q))
         (λ (q : max n.base (greatest_recorded b r) ≡ n.base). inr (omega arith))
@@ -234,22 +234,22 @@ module _ {E Q G R A F : Type 0} {b : Book E Q G R A F} {s : Start E} (o : IsOpen
         (λ (q : n.commit ≡ n.base). inr (omega arith))
         z.commits.bounded)
         (cases_lt n.commit (max n.base (greatest_recorded b r))))
-        (cases_lt (max n.commit (max n.base (greatest_recorded b r))) (last_signature b (take (min theirs place) r)))
+        (cases_lt (max n.commit (max n.base (greatest_recorded b r))) (last_signature b (take (min theirs seqno) r)))
 
-    pub made_accept : (y : NodeId) → Reached o x g (takes b x y place theirs (record n { log = r; cuts = cuts })).node (takes b x y place theirs (record n { log = r; cuts = cuts })).sent
-    made_accept y = (told_held x n.view place g, record { grow = k; tale = tale_held; good = good; sent = (let q = put2_at g.held x n.view (max (g.held x n.view) place) in omega arith, tt) })
+    pub made_accept : (y : NodeId) → Reached o x g (accept_entries b x y seqno theirs (record n { log = r; cuts = cuts })).node (accept_entries b x y seqno theirs (record n { log = r; cuts = cuts })).sent
+    made_accept y = (told_held x n.view seqno g, record { grow = k; tale = tale_held; good = good; sent = (let q = put2_at g.held x n.view (max (g.held x n.view) seqno) in omega arith, tt) })
       where
         n1 : Node E
-        n1 = record n { log = r; cuts = cuts; commit = max (max n.commit (max n.base (greatest_recorded b r))) (last_signature b (take (min theirs place) r)) }
+        n1 = record n { log = r; cuts = cuts; commit = max (max n.commit (max n.base (greatest_recorded b r))) (last_signature b (take (min theirs seqno) r)) }
 
-        good : Good o (told_held x n.view place g) x (record n { log = r; cuts = cuts; commit = max (max n.commit (max n.base (greatest_recorded b r))) (last_signature b (take (min theirs place) r)) })
+        good : Good o (told_held x n.view seqno g) x (record n { log = r; cuts = cuts; commit = max (max n.commit (max n.base (greatest_recorded b r))) (last_signature b (take (min theirs seqno) r)) })
         good = record {
           voter = z.voter;
           logged = record {
             positive = z.logged.positive;
             mine = λ a. ⊎_elim
                 (λ (q : r ≡ n.log). q ∙ z.logged.mine a)
-                (λ (q : ((j : ℕ) (f : E) → slice_get r j ≡ Some f → slice_get (g.led n.view) j ≡ Some f) × (d : ℕ) × (d < place) × ((e f : E) → slice_get n.log d ≡ Some e → slice_get (g.led n.view) d ≡ Some f → b.view_of e ≢ b.view_of f)).
+                (λ (q : ((j : ℕ) (f : E) → slice_get r j ≡ Some f → slice_get (g.led n.view) j ≡ Some f) × (d : ℕ) × (d < seqno) × ((e f : E) → slice_get n.log d ≡ Some e → slice_get (g.led n.view) d ≡ Some f → b.view_of e ≢ b.view_of f)).
                 let y = there r q.1 (omega (arith, m.long, q.2)) in
                 let p = q.0 q.1 y.0 y.1 in
                 absurd (q.3 y.0 y.0 (ap (λ l. slice_get l q.1) (z.logged.mine a) ∙ p) p refl))
@@ -264,19 +264,19 @@ module _ {E Q G R A F : Type 0} {b : Book E Q G R A F} {s : Start E} (o : IsOpen
             ends = λ e. absurd (cc);
             future = λ v a. let q = z.kept.future v a in grind (arith, id_tests);
             keeps = λ v i e a w. ⊎_elim
-                (λ (q : i < put2 g.held x n.view (max (g.held x n.view) place) x v). ⊎_elim
-                (λ (d : (x ≡ x) × (v ≡ n.view) × (put2 g.held x n.view (max (g.held x n.view) place) x v ≡ max (g.held x n.view) place)). ⊎_elim
-                (λ (h : i < place). inl (in_front i e h (ap (λ u. slice_get (g.led u) i) (sym d.1) ∙ w.at)))
-                (λ (h : place ≤ i). again v i e w (inl (let f : i < g.held x n.view = omega (arith, d.2) in subst (λ (u : ℕ). i < g.held x u) (sym d.1) f)))
-                (cases_lt i place))
-                (λ (d : put2 g.held x n.view (max (g.held x n.view) place) x v ≡ g.held x v). again v i e w (inl (omega arith)))
-                (put2_cases g.held x n.view (max (g.held x n.view) place) x v))
+                (λ (q : i < put2 g.held x n.view (max (g.held x n.view) seqno) x v). ⊎_elim
+                (λ (d : (x ≡ x) × (v ≡ n.view) × (put2 g.held x n.view (max (g.held x n.view) seqno) x v ≡ max (g.held x n.view) seqno)). ⊎_elim
+                (λ (h : i < seqno). inl (in_front i e h (ap (λ u. slice_get (g.led u) i) (sym d.1) ∙ w.at)))
+                (λ (h : seqno ≤ i). again v i e w (inl (let f : i < g.held x n.view = omega (arith, d.2) in subst (λ (u : ℕ). i < g.held x u) (sym d.1) f)))
+                (cases_lt i seqno))
+                (λ (d : put2 g.held x n.view (max (g.held x n.view) seqno) x v ≡ g.held x v). again v i e w (inl (omega arith)))
+                (put2_cases g.held x n.view (max (g.held x n.view) seqno) x v))
                 (λ (q : g.chief v ≡ Some x). again v i e w (inr q))
                 a;
           };
           commits = record {
-            bounded = ⊎_elim (λ (q : Sured o g r (max (max n.commit (max n.base (greatest_recorded b r))) (last_signature b (take (min theirs place) r))) n.view). inl (sured_more o k r (max (max n.commit (max n.base (greatest_recorded b r))) (last_signature b (take (min theirs place) r))) n.view q))
-                (λ (q : max (max n.commit (max n.base (greatest_recorded b r))) (last_signature b (take (min theirs place) r)) ≡ n.base). inr q) after_sure;
+            bounded = ⊎_elim (λ (q : Sured o g r (max (max n.commit (max n.base (greatest_recorded b r))) (last_signature b (take (min theirs seqno) r))) n.view). inl (sured_more o k r (max (max n.commit (max n.base (greatest_recorded b r))) (last_signature b (take (min theirs seqno) r))) n.view q))
+                (λ (q : max (max n.commit (max n.base (greatest_recorded b r))) (last_signature b (take (min theirs seqno) r)) ≡ n.base). inr q) after_sure;
             based = let q = z.commits.based in (q.0, sured_more o k r n.base q.0 (stays_sure n.base q.0 q.0 (omega arith) z.commits.above q.1));
             above = omega (arith, z.commits.above);
             recorded = omega arith;

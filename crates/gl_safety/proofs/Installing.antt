@@ -5,7 +5,7 @@ use Rattle.gl_rules.specs.Identity.{NodeId}
 use Rattle.gl_rules.specs.Book.{Book}
 use Rattle.gl_rules.specs.Node.{Node, Candidate, Leader}
 use Rattle.gl_rules.specs.Log.{entry_at, view_at, last_signature}
-use Rattle.gl_rules.specs.Steps.{rise}
+use Rattle.gl_rules.specs.Steps.{enter_view}
 use Rattle.gl_rules.specs.World.{Start}
 use Rattle.gl_rules.specs.Safety.{IsOpening, IsLawful, EachFollows}
 use Rattle.gl_safety.proofs.Ids.{by_test}
@@ -16,7 +16,7 @@ use Rattle.gl_safety.proofs.Certificates.{SureOver, Cert, Settled, Tale}
 use Rattle.gl_safety.proofs.Signatures.{last_le, view_at_is, recorded_bound}
 use Rattle.gl_safety.proofs.Invariants.{Good, rising_of, sure_within, settled_of, known_in}
 use Rattle.gl_safety.proofs.Soundness.{sound_cut}
-use Rattle.gl_rules.specs.Replication.{greatest_evidence, snapshot_of, is_evidence_at, installed}
+use Rattle.gl_rules.specs.Replication.{greatest_evidence, snapshot_of, is_evidence_at, with_snapshot}
 use Rattle.gl_safety.proofs.Standing.{good_rise}
 
 module _ {E Q G R A F : Type 0} {b : Book E Q G R A F} {s : Start E} (o : IsOpening b (EachFollows b) s) (la : IsLawful b (EachFollows b)) where
@@ -89,7 +89,7 @@ module _ {E Q G R A F : Type 0} {b : Book E Q G R A F} {s : Start E} (o : IsOpen
           (sure_m.1).0,
           inr (record {
             i = j;
-            place = refl;
+            seqno = refl;
             entry = e;
             at = take_get (suc j) m.log j e (omega arith) a;
             signs = signs;
@@ -98,9 +98,9 @@ module _ {E Q G R A F : Type 0} {b : Book E Q G R A F} {s : Start E} (o : IsOpen
             last = q.last;
             mark = q.mark;
             cert = q.cert;
-            le = omega (arith, q.place, q.le);
+            le = omega (arith, q.seqno, q.le);
             top = q.top;
-            leads = agree b g.led m.log (g.led q.v) q.i q.entry w.logged.matches (t.matches q.v) q.at q.leads j e (omega (arith, q.place)) a;
+            leads = agree b g.led m.log (g.led q.v) q.i q.entry w.logged.matches (t.matches q.v) q.at q.leads j e (omega (arith, q.seqno)) a;
           }),
         ),
       );
@@ -136,15 +136,15 @@ module _ {E Q G R A F : Type 0} {b : Book E Q G R A F} {s : Start E} (o : IsOpen
           let d : length n.log ≡ 0 = ap length none in
           omega (arith, z.commits.opened r, sure_within o g n.log n.commit c.0 c.1, o.long)
 
-  rise_none : (v : ℕ) (n : Node E) → n.log ≡ [] → (rise b v n).log ≡ []
-  unfolding rise
+  rise_none : (v : ℕ) (n : Node E) → n.log ≡ [] → (enter_view b v n).log ≡ []
+  unfolding enter_view
   rise_none v n e = ap (take (last_signature b n.log)) e ∙ take_nothing (last_signature b n.log)
 
-  rise_view : (v : ℕ) (n : Node E) → (rise b v n).view ≡ v
-  unfolding rise
+  rise_view : (v : ℕ) (n : Node E) → (enter_view b v n).view ≡ v
+  unfolding enter_view
   rise_view v n = refl
 
-  pub good_install : (g : Story E) (x y : NodeId) (n m : Node E) (i : ℕ) → Tale o g → Good o g x n → Good o g y m → n.log ≡ [] → snapshot_of b m ≡ Some i → Good o g x (installed b m (i - 1) n)
+  pub good_install : (g : Story E) (x y : NodeId) (n m : Node E) (i : ℕ) → Tale o g → Good o g x n → Good o g y m → n.log ≡ [] → snapshot_of b m ≡ Some i → Good o g x (with_snapshot b m (i - 1) n)
   good_install g x y n m i t z w none a = go (nat_lt n.view (b.view_of r.3)) refl
     where
       r : (j : ℕ) × (i ≡ suc (suc j)) × (suc j ≤ m.commit) × (e : E) × (slice_get m.log j ≡ Some e) × (b.is_signature e ≡ true)
@@ -153,21 +153,21 @@ module _ {E Q G R A F : Type 0} {b : Book E Q G R A F} {s : Start E} (o : IsOpen
       at_place : view_at b m.log (i - 1) ≡ b.view_of r.3
       at_place = let d : i - 1 ≡ suc r.0 = omega (arith, r.1) in ap (view_at b m.log) d ∙ view_at_is b m.log r.0 r.3 r.4
 
-      place : suc r.0 ≡ i - 1
-      place = omega (arith, r.1)
+      seqno : suc r.0 ≡ i - 1
+      seqno = omega (arith, r.1)
 
-      go : (p : Bool) → nat_lt n.view (b.view_of r.3) ≡ p → Good o g x (installed b m (i - 1) n)
-      go p d = subst (λ (v : ℕ). Good o g x (record (if nat_lt n.view v then rise b v n else n) { log = take (i - 1) m.log; base = i - 1; commit = i - 1 })) (sym at_place)
-          (subst (λ (k : ℕ). Good o g x (record (if nat_lt n.view (b.view_of r.3) then rise b (b.view_of r.3) n else n) { log = take k m.log; base = k; commit = k })) place
-          (by_test (λ l. Good o g x (record l { log = take (suc r.0) m.log; base = suc r.0; commit = suc r.0 })) (nat_lt n.view (b.view_of r.3)) (rise b (b.view_of r.3) n) n higher same))
+      go : (p : Bool) → nat_lt n.view (b.view_of r.3) ≡ p → Good o g x (with_snapshot b m (i - 1) n)
+      go p d = subst (λ (v : ℕ). Good o g x (record (if nat_lt n.view v then enter_view b v n else n) { log = take (i - 1) m.log; base = i - 1; commit = i - 1 })) (sym at_place)
+          (subst (λ (k : ℕ). Good o g x (record (if nat_lt n.view (b.view_of r.3) then enter_view b (b.view_of r.3) n else n) { log = take k m.log; base = k; commit = k })) seqno
+          (by_test (λ l. Good o g x (record l { log = take (suc r.0) m.log; base = suc r.0; commit = suc r.0 })) (nat_lt n.view (b.view_of r.3)) (enter_view b (b.view_of r.3) n) n higher same))
         where
-          higher : nat_lt n.view (b.view_of r.3) ≡ true → Good o g x (record (rise b (b.view_of r.3) n) { log = take (suc r.0) m.log; base = suc r.0; commit = suc r.0 })
-          higher h = install_at g x y (rise b (b.view_of r.3) n) m r.0 r.3 t (good_rise o la g x n (b.view_of r.3) (grind (arith, nat_tests)) z) w risen_none r.2 r.4 r.5 risen_view
+          higher : nat_lt n.view (b.view_of r.3) ≡ true → Good o g x (record (enter_view b (b.view_of r.3) n) { log = take (suc r.0) m.log; base = suc r.0; commit = suc r.0 })
+          higher h = install_at g x y (enter_view b (b.view_of r.3) n) m r.0 r.3 t (good_rise o la g x n (b.view_of r.3) (grind (arith, nat_tests)) z) w risen_none r.2 r.4 r.5 risen_view
             where
-              risen_none : (rise b (b.view_of r.3) n).log ≡ []
+              risen_none : (enter_view b (b.view_of r.3) n).log ≡ []
               risen_none = rise_none (b.view_of r.3) n none
 
-              risen_view : b.view_of r.3 ≤ (rise b (b.view_of r.3) n).view
+              risen_view : b.view_of r.3 ≤ (enter_view b (b.view_of r.3) n).view
               risen_view = omega (arith, rise_view (b.view_of r.3) n)
 
           same : nat_lt n.view (b.view_of r.3) ≡ false → Good o g x (record n { log = take (suc r.0) m.log; base = suc r.0; commit = suc r.0 })

@@ -6,8 +6,8 @@ use Rattle.gl_rules.specs.Identity.{NodeId, member}
 use Rattle.gl_rules.specs.Majority.{majority}
 use Rattle.gl_rules.specs.Book.{Book}
 use Rattle.gl_rules.specs.Node.{Node, Role, Candidate, Leader}
-use Rattle.gl_rules.specs.Message.{Last, Message, Body, RequestVote, VoteReply, Append, AppendReply, ProposeVote}
-use Rattle.gl_rules.specs.Log.{last, last_signature, greatest_recorded}
+use Rattle.gl_rules.specs.Message.{Position, Message, Body, RequestVote, VoteReply, Append, AppendReply, ProposeVote}
+use Rattle.gl_rules.specs.Log.{last_signature_position, last_signature, greatest_recorded}
 use Rattle.gl_rules.specs.World.{Start}
 use Rattle.gl_rules.specs.Safety.{IsOpening, EachFollows}
 use Rattle.gl_safety.proofs.Lists.{Same, there, within}
@@ -35,8 +35,8 @@ module _ {E Q G R A F : Type 0} (b : Book E Q G R A F) where
     pub bound : Bound b view log
 
   -- what was acknowledged is still there, or was lost by a later leader
-  pub record Kept (bid : NodeId → ℕ → Option Last) (held : NodeId → ℕ → ℕ) (chief : ℕ → Option NodeId) (led : ℕ → List E) (x : NodeId) (view : ℕ) (role : Role) (log : List E) : Type 0 where
-    pub bid_is : role ≡ Candidate → bid x view ≡ Some (last b log)
+  pub record Kept (bid : NodeId → ℕ → Option Position) (held : NodeId → ℕ → ℕ) (chief : ℕ → Option NodeId) (led : ℕ → List E) (x : NodeId) (view : ℕ) (role : Role) (log : List E) : Type 0 where
+    pub bid_is : role ≡ Candidate → bid x view ≡ Some (last_signature_position b log)
     pub unbid : (v : ℕ) → view < v → bid x v ≡ None
     pub fresh : role ≡ Candidate → (i : ℕ) (e : E) → slice_get log i ≡ Some e → b.view_of e < view
     pub ends : role ≡ Candidate → length log ≤ last_signature b log
@@ -123,9 +123,9 @@ module _ {E Q G R A F : Type 0} {b : Book E Q G R A F} {s : Start E} (o : IsOpen
       go : (k : ℕ) → length s.opening ≤ suc i
       go k = ⊎_elim small (λ (h : length s.opening ≤ i). omega arith) (cases_lt i (length s.opening))
 
-  -- a sure commit is a place of the log
+  -- a sure commit is a seqno of the log
   pub sure_within : (g : Story E) (l : List E) (c t : ℕ) → Sured o g l c t → c ≤ length l
-  sure_within g l c t z = ⊎_elim (λ (q : c ≡ 0). omega arith) (λ (q : SureOver o (Cert o z.0 g) g l c t). omega (arith, q.place, within l q.i q.entry q.at)) z.1
+  sure_within g l c t z = ⊎_elim (λ (q : c ≡ 0). omega arith) (λ (q : SureOver o (Cert o z.0 g) g l c t). omega (arith, q.seqno, within l q.i q.entry q.at)) z.1
 
   pub settled_of : (g : Story E) (x : NodeId) (view : ℕ) (role : Role) (log : List E) (c base : ℕ) (matched : NodeId → ℕ) → Commits g x view role log c base matched → Settled o g log c
   settled_of g x view role log c base matched z = ⊎_elim
@@ -141,9 +141,9 @@ module _ {E Q G R A F : Type 0} {b : Book E Q G R A F} {s : Start E} (o : IsOpen
         (λ (q : c ≡ 0). inl q)
         (λ (q : SureOver o (Cert o z.0 g) g l c t). inr (record {
           i = q.i;
-          place = q.place;
+          seqno = q.seqno;
           entry = q.entry;
-          at = a q.i q.entry q.place q.at q.signs;
+          at = a q.i q.entry q.seqno q.at q.signs;
           signs = q.signs;
           v = q.v;
           j = q.j;
@@ -235,7 +235,7 @@ module _ {E Q G R A F : Type 0} {b : Book E Q G R A F} {s : Start E} (o : IsOpen
         bound = z.logged.bound;
       };
       kept = record {
-        bid_is = λ r. k.bid y n.view (last b n.log) (z.kept.bid_is r);
+        bid_is = λ r. k.bid y n.view (last_signature_position b n.log) (z.kept.bid_is r);
         unbid = λ v a. k.bid_of y v d ∙ z.kept.unbid v a;
         fresh = z.kept.fresh;
         ends = z.kept.ends;

@@ -5,8 +5,8 @@ use Rattle.gl_rules.specs.Identity.{NodeId}
 use Rattle.gl_rules.specs.Book.{Book}
 use Rattle.gl_rules.specs.Node.{Node, Leader}
 use Rattle.gl_rules.specs.Message.{Message}
-use Rattle.gl_rules.specs.World.{Start, Event, Timeout, Deliver, Submit, Finish, Govern, Reserve, Sign, Evidence, Replicate, Advance, StepDown, Restart, Install, World, at, on_message, delivered, happens, run, begin, after}
-use Rattle.gl_rules.specs.Safety.{IsOpening, IsLawful, EachFollows, IsPrefixOf, committed, node_after, LeadsByVote}
+use Rattle.gl_rules.specs.World.{Start, Event, Timeout, Deliver, Submit, Finish, Govern, Reserve, Sign, Evidence, Replicate, Advance, StepDown, Restart, Install, World, at, on_message, deliver, happens, run, begin, after}
+use Rattle.gl_rules.specs.Safety.{IsOpening, IsLawful, EachFollows, IsPrefixOf, committed_ledger, node_after, LeadsByVote}
 use Rattle.gl_safety.proofs.Ids.{put_all}
 use Rattle.gl_safety.proofs.Lists.{Same, take_whole, prefix_of}
 use Rattle.gl_safety.proofs.Story.{Story}
@@ -31,7 +31,7 @@ module _ {E Q G R A F : Type 0} (b : Book E Q G R A F) where
   event_up w (Timeout x) y = at_up w x y (elections.timeout b x (w.nodes x)) (timeout_up b x (w.nodes x))
   event_up w (Deliver which) y = go (slice_get w.sent which)
     where
-      go : (m : Option (Message E)) → (w.nodes y).view ≤ ((delivered b w m).world.nodes y).view
+      go : (m : Option (Message E)) → (w.nodes y).view ≤ ((deliver b w m).world.nodes y).view
       go None = omega arith
       go (Some m) = at_up w m.receiver y (on_message b m (w.nodes m.receiver)) (message_up b m (w.nodes m.receiver))
   event_up w (Submit x q) y = at_up w x y (requests.submit b q (w.nodes x)) (submit_up b q (w.nodes x))
@@ -95,11 +95,11 @@ module _ {E Q G R A F : Type 0} {b : Book E Q G R A F} {s : Start E} (o : IsOpen
         (λ (z : n.commit ≡ 0). absurd (omega arith))
         (λ (z : SureOver o (Cert o q.0 g) g n.log n.commit n.view).
         let top = complete o g t u y ch q.0 z.v z.j z.last z.cert z.mark (omega (arith, z.top)) in
-        agree b g.led (g.led z.v) (g.led u) z.j z.last (t.matches z.v) (t.matches u) z.mark.at top j f (omega (arith, z.le, z.place))
-        (agree b g.led n.log (g.led z.v) z.i z.entry p (t.matches z.v) z.at z.leads j f (omega (arith, z.place)) a))
+        agree b g.led (g.led z.v) (g.led u) z.j z.last (t.matches z.v) (t.matches u) z.mark.at top j f (omega (arith, z.le, z.seqno))
+        (agree b g.led n.log (g.led z.v) z.i z.entry p (t.matches z.v) z.at z.leads j f (omega (arith, z.seqno)) a))
         q.1
 
-    keeps_later : (x y : NodeId) → (v.nodes x).view < (w.nodes y).view → (v.nodes x).role ≡ Leader → (w.nodes y).role ≡ Leader → IsPrefixOf (committed (v.nodes x)) (w.nodes y).log
+    keeps_later : (x y : NodeId) → (v.nodes x).view < (w.nodes y).view → (v.nodes x).role ≡ Leader → (w.nodes y).role ≡ Leader → IsPrefixOf (committed_ledger (v.nodes x)) (w.nodes y).log
     keeps_later x y h p q =
         let n = v.nodes x in
         let sure_n : Sured o k.later_story (v.nodes x).log (v.nodes x).commit (v.nodes x).view = k.later.sured (v.nodes x).log (v.nodes x).commit (v.nodes x).view ((k.first.nodes x).commits.ruled p) in
@@ -110,7 +110,7 @@ module _ {E Q G R A F : Type 0} {b : Book E Q G R A F} {s : Start E} (o : IsOpen
         (λ i f d a. ap (λ l. slice_get l i) mine' ∙ in_led k.later_story (v.nodes x) x k.second.tale m sure_n (w.nodes y).view y ch h i f d a)
 
     -- also what is committed after the later leader led
-    keeps_before : (x y : NodeId) → (w.nodes x).view < (v.nodes y).view → (w.nodes x).role ≡ Leader → (v.nodes y).role ≡ Leader → IsPrefixOf (committed (w.nodes x)) (v.nodes y).log
+    keeps_before : (x y : NodeId) → (w.nodes x).view < (v.nodes y).view → (w.nodes x).role ≡ Leader → (v.nodes y).role ≡ Leader → IsPrefixOf (committed_ledger (w.nodes x)) (v.nodes y).log
     keeps_before x y h p q =
         let sure_n = (k.second.nodes x).commits.ruled p in
         let ch = (k.first.nodes y).voter.chief_is q in

@@ -6,9 +6,9 @@ use Rattle.gl_rules.specs.Identity.{NodeId, same}
 use Rattle.gl_rules.specs.Majority.{quorum}
 use Rattle.gl_rules.specs.Book.{Book}
 use Rattle.gl_rules.specs.Node.{Node, Leader}
-use Rattle.gl_rules.specs.Log.{last_signature}
+use Rattle.gl_rules.specs.Log.{last_signature, is_signature_in}
 use Rattle.gl_rules.specs.Configuration.{active_upto}
-use Rattle.gl_rules.specs.Steps.{appended}
+use Rattle.gl_rules.specs.Steps.{append_entry}
 use Rattle.gl_rules.specs.World.{Start}
 use Rattle.gl_rules.specs.Safety.{IsOpening, IsLawful, EachFollows}
 use Rattle.gl_safety.proofs.Ids.{id_tests, same_is, cases_same, put_all, by_test}
@@ -21,7 +21,7 @@ use Rattle.gl_safety.proofs.Signatures.{last_signs, recorded_le, recorded_bound,
 use Rattle.gl_safety.proofs.Invariants.{Good, Made, Reached, rising_of, sure_within, known_in, won_grow, shuts_grow}
 use Rattle.gl_safety.proofs.Soundness.{sound_push}
 use Rattle.gl_safety.proofs.Places.{MarksKnown, place_same, mark_entry, marks_known}
-use Rattle.gl_rules.specs.Replication.{acknowledged, sent_back, may_commit, signed_in}
+use Rattle.gl_rules.specs.Replication.{update_match, lower_next, may_commit}
 
 module _ {E Q G R A F : Type 0} {b : Book E Q G R A F} {s : Start E} (o : IsOpening b (EachFollows b) s) (la : IsLawful b (EachFollows b)) where
   -- a leader's log grows by an entry of its view
@@ -212,13 +212,13 @@ module _ {E Q G R A F : Type 0} {b : Book E Q G R A F} {s : Start E} (o : IsOpen
         follows_at u i f true a = follows_here i f a
         follows_at u i f false a = t.follows u i f a
 
-    pub made_append : Reached o x g (appended n e) []
+    pub made_append : Reached o x g (append_entry n e) []
     made_append = (told_led n.view (n.log ++ e ∷ []) g, record { grow = grows; tale = tale_append; good = good; sent = tt })
       where
         sure_h : (c u : ℕ) → Sured o g n.log c u → Sured o (told_led n.view (n.log ++ e ∷ []) g) (n.log ++ e ∷ []) c u
         sure_h c u q = sured_grow o grows n.log (n.log ++ e ∷ []) pushed c u q
 
-        good : Good o (told_led n.view (n.log ++ e ∷ []) g) x (appended n e)
+        good : Good o (told_led n.view (n.log ++ e ∷ []) g) x (append_entry n e)
         good = record {
           voter = z.voter;
           logged = record { positive = z.logged.positive; mine = λ a. sym here; matches = matches; bound = bound };
@@ -257,8 +257,8 @@ module _ {E Q G R A F : Type 0} {b : Book E Q G R A F} {s : Start E} (o : IsOpen
   pub good_used : (x : NodeId) (g h : Story E) (n : Node E) (k : ℕ) → Made o x g h n [] → Made o x g h (record n { used = k }) []
   good_used x g h n k m = record { grow = m.grow; tale = m.tale; good = record { voter = m.good.voter; logged = m.good.logged; kept = m.good.kept; commits = m.good.commits; sound = m.good.sound }; sent = m.sent }
 
-  pub good_acknowledged : (x y : NodeId) (place : ℕ) (g : Story E) (n : Node E) → Good o g x n → place ≤ g.held y n.view → Good o g x (acknowledged b y place n)
-  good_acknowledged x y place g n z h = record {
+  pub good_acknowledged : (x y : NodeId) (seqno : ℕ) (g : Story E) (n : Node E) → Good o g x n → seqno ≤ g.held y n.view → Good o g x (update_match b y seqno n)
+  good_acknowledged x y seqno g n z h = record {
     voter = z.voter;
     logged = z.logged;
     kept = z.kept;
@@ -270,21 +270,21 @@ module _ {E Q G R A F : Type 0} {b : Book E Q G R A F} {s : Start E} (o : IsOpen
       ruled = z.commits.ruled;
       young = z.commits.young;
       opened = z.commits.opened;
-      matches = λ r u. put_all (λ w m. m ≤ g.held w n.view) n.matched y (max (n.matched y) place) (omega (arith, z.commits.matches r y)) (λ w d. z.commits.matches r w) u;
+      matches = λ r u. put_all (λ w m. m ≤ g.held w n.view) n.matched y (max (n.matched y) seqno) (omega (arith, z.commits.matches r y)) (λ w d. z.commits.matches r w) u;
       marked = z.commits.marked;
     };
     sound = z.sound;
   }
 
-  pub good_sent_back : (x y : NodeId) (place : ℕ) (g : Story E) (n : Node E) → Good o g x n → Good o g x (sent_back b y place n)
-  good_sent_back x y place g n z = record { voter = z.voter; logged = z.logged; kept = z.kept; commits = z.commits; sound = z.sound }
+  pub good_sent_back : (x y : NodeId) (seqno : ℕ) (g : Story E) (n : Node E) → Good o g x n → Good o g x (lower_next b y seqno n)
+  good_sent_back x y seqno g n z = record { voter = z.voter; logged = z.logged; kept = z.kept; commits = z.commits; sound = z.sound }
 
   -- what a leader may commit
   committable : (x : NodeId) (n : Node E) (i : ℕ) → may_commit b x n (suc i) ≡ true →
       (e : E) × (slice_get n.log i ≡ Some e) × (b.is_signature e ≡ true) × (b.view_of e ≡ n.view) × (n.commit < suc i) × (quorum (λ y. same y x || nat_le (suc i) (n.matched y)) (active_upto b n.log n.commit (suc i)) ≡ true)
   committable x n i a = go (slice_get n.log i) refl a
     where
-      go : (m : Option E) → slice_get n.log i ≡ m → (nat_lt n.commit (suc i) && signed_in b n.view m && quorum (λ y. same y x || nat_le (suc i) (n.matched y)) (active_upto b n.log n.commit (suc i))) ≡ true →
+      go : (m : Option E) → slice_get n.log i ≡ m → (nat_lt n.commit (suc i) && is_signature_in b n.view m && quorum (λ y. same y x || nat_le (suc i) (n.matched y)) (active_upto b n.log n.commit (suc i))) ≡ true →
           (e : E) × (slice_get n.log i ≡ Some e) × (b.is_signature e ≡ true) × (b.view_of e ≡ n.view) × (n.commit < suc i) × (quorum (λ y. same y x || nat_le (suc i) (n.matched y)) (active_upto b n.log n.commit (suc i)) ≡ true)
       go None d w = absurd (grind (arith, nat_tests))
       go (Some e) d w = (e, d, grind (arith, nat_tests), grind (arith, nat_tests), grind (arith, nat_tests), grind (arith, nat_tests))
@@ -347,7 +347,7 @@ module _ {E Q G R A F : Type 0} {b : Book E Q G R A F} {s : Start E} (o : IsOpen
         suc ruled.0,
         inr (record {
           i = i;
-          place = refl;
+          seqno = refl;
           entry = c.0;
           at = c.1;
           signs = c.2;

@@ -1,4 +1,4 @@
--- Places of lists: what stands at an index of a list that is cut, joined or pushed to.
+-- Seqnos of lists: what stands at an index of a list that is cut, joined or pushed to.
 use Rattle.std.proofs.Common.{◌≡◌, ◌⊎◌, inl, inr, ℕ, zero, suc, ◌+◌, ◌≤◌, ◌<◌, List, [], ◌∷◌, ◌++◌, length, take, drop, Some, None, slice_get, refl, sym, ap, arith}
 use Rattle.std.proofs.lemmas.Option.{slice_get_within}
 use Rattle.gl_rules.specs.Safety.{IsPrefixOf}

@@ -7,7 +7,7 @@ use Rattle.gl_rules.specs.Safety.{EachFollows}
 use Rattle.gl_safety.proofs.Lists.{Same, there, within, get_take, drop_get, get_append, append_none, push_append}
 use Rattle.gl_safety.proofs.Facts.{Matches}
 use Rattle.gl_safety.proofs.Soundness.{sound_push}
-use Rattle.gl_rules.specs.Replication.{held_of, judged, applied}
+use Rattle.gl_rules.specs.Replication.{matching_prefix_len, unless_broken, checked_append}
 
 module _ {E Q G R A F : Type 0} (b : Book E Q G R A F) where
   -- r is l after it took the first n entries of m
@@ -16,39 +16,39 @@ module _ {E Q G R A F : Type 0} (b : Book E Q G R A F) where
     pub long : n ≤ length r
     pub way : (r ≡ l) ⊎ (((j : ℕ) (f : E) → slice_get r j ≡ Some f → slice_get m j ≡ Some f) × (d : ℕ) × (d < n) × ((e f : E) → slice_get l d ≡ Some e → slice_get m d ≡ Some f → b.view_of e ≢ b.view_of f))
 
-  pub held_le : (l es : List E) → held_of b l es ≤ length es
-  unfolding held_of
+  pub held_le : (l es : List E) → matching_prefix_len b l es ≤ length es
+  unfolding matching_prefix_len
   held_le l [] = omega arith
   held_le [] (e ∷ es) = omega arith
   held_le (f ∷ l) (e ∷ es) = go (b.view_of f == b.view_of e) (held_le l es)
     where
-      go : (m : Bool) → held_of b l es ≤ length es → (if m then suc (held_of b l es) else 0) ≤ suc (length es)
+      go : (m : Bool) → matching_prefix_len b l es ≤ length es → (if m then suc (matching_prefix_len b l es) else 0) ≤ suc (length es)
       go true h = omega arith
       go false h = omega arith
 
   -- the entries that are held stand in the log with their views
-  pub held_in : (l es : List E) (i : ℕ) → i < held_of b l es → (e : E) × (f : E) × (slice_get l i ≡ Some e) × (slice_get es i ≡ Some f) × (b.view_of e ≡ b.view_of f)
-  unfolding held_of
+  pub held_in : (l es : List E) (i : ℕ) → i < matching_prefix_len b l es → (e : E) × (f : E) × (slice_get l i ≡ Some e) × (slice_get es i ≡ Some f) × (b.view_of e ≡ b.view_of f)
+  unfolding matching_prefix_len
   held_in l [] i h = absurd (omega arith)
   held_in [] (e ∷ es) i h = absurd (omega arith)
   held_in (f ∷ l) (e ∷ es) i h = go (b.view_of f == b.view_of e) refl i h (held_in l es)
     where
-      go : (m : Bool) → (b.view_of f == b.view_of e) ≡ m → (k : ℕ) → k < (if m then suc (held_of b l es) else 0) →
-          ((j : ℕ) → j < held_of b l es → (e : E) × (f : E) × (slice_get l j ≡ Some e) × (slice_get es j ≡ Some f) × (b.view_of e ≡ b.view_of f)) →
+      go : (m : Bool) → (b.view_of f == b.view_of e) ≡ m → (k : ℕ) → k < (if m then suc (matching_prefix_len b l es) else 0) →
+          ((j : ℕ) → j < matching_prefix_len b l es → (e : E) × (f : E) × (slice_get l j ≡ Some e) × (slice_get es j ≡ Some f) × (b.view_of e ≡ b.view_of f)) →
           (d : E) × (c : E) × (slice_get (f ∷ l) k ≡ Some d) × (slice_get (e ∷ es) k ≡ Some c) × (b.view_of d ≡ b.view_of c)
       go true z zero h again = (f, e, refl, refl, grind (arith, nat_tests))
       go true z (suc k) h again = again k (omega arith)
       go false z k h again = absurd (omega arith)
 
   -- the first one that isn't held
-  pub held_ends : (l es : List E) (e f : E) → slice_get l (held_of b l es) ≡ Some e → slice_get es (held_of b l es) ≡ Some f → b.view_of e ≢ b.view_of f
-  unfolding held_of
+  pub held_ends : (l es : List E) (e f : E) → slice_get l (matching_prefix_len b l es) ≡ Some e → slice_get es (matching_prefix_len b l es) ≡ Some f → b.view_of e ≢ b.view_of f
+  unfolding matching_prefix_len
   held_ends l [] e f h k = absurd (cc)
   held_ends [] (d ∷ es) e f h k = absurd (cc)
   held_ends (c ∷ l) (d ∷ es) e f h k = go (b.view_of c == b.view_of d) refl h k (held_ends l es e f)
     where
-      go : (m : Bool) → (b.view_of c == b.view_of d) ≡ m → slice_get (c ∷ l) (if m then suc (held_of b l es) else 0) ≡ Some e → slice_get (d ∷ es) (if m then suc (held_of b l es) else 0) ≡ Some f →
-          (slice_get l (held_of b l es) ≡ Some e → slice_get es (held_of b l es) ≡ Some f → b.view_of e ≢ b.view_of f) → b.view_of e ≢ b.view_of f
+      go : (m : Bool) → (b.view_of c == b.view_of d) ≡ m → slice_get (c ∷ l) (if m then suc (matching_prefix_len b l es) else 0) ≡ Some e → slice_get (d ∷ es) (if m then suc (matching_prefix_len b l es) else 0) ≡ Some f →
+          (slice_get l (matching_prefix_len b l es) ≡ Some e → slice_get es (matching_prefix_len b l es) ≡ Some f → b.view_of e ≢ b.view_of f) → b.view_of e ≢ b.view_of f
       go true z h k again = again h k
       go false z h k again =
           let p : c ≡ e = cc in
@@ -56,22 +56,22 @@ module _ {E Q G R A F : Type 0} (b : Book E Q G R A F) where
           let r : b.view_of c ≢ b.view_of d = grind (arith, nat_tests) in
           λ (w : b.view_of e ≡ b.view_of f). r (ap b.view_of p ∙ w ∙ sym (ap b.view_of q))
 
-  pub applied_is : (l es r : List E) → applied b l es ≡ Ok r → EachFollows b l → (r ≡ l ++ es) × EachFollows b r
-  unfolding applied
+  pub applied_is : (l es r : List E) → checked_append b l es ≡ Ok r → EachFollows b l → (r ≡ l ++ es) × EachFollows b r
+  unfolding checked_append
   applied_is l [] r a z = let q : l ≡ r = cc in (sym q ∙ sym (append_none l), subst (EachFollows b) q z)
   applied_is l (e ∷ es) r a z = go (b.breaks l e) refl a (applied_is (l ++ e ∷ []) es r)
     where
-      go : (m : Option F) → b.breaks l e ≡ m → judged b m (applied b (l ++ e ∷ []) es) ≡ Ok r → (applied b (l ++ e ∷ []) es ≡ Ok r → EachFollows b (l ++ e ∷ []) → (r ≡ (l ++ e ∷ []) ++ es) × EachFollows b r) → (r ≡ l ++ e ∷ es) × EachFollows b r
+      go : (m : Option F) → b.breaks l e ≡ m → unless_broken b m (checked_append b (l ++ e ∷ []) es) ≡ Ok r → (checked_append b (l ++ e ∷ []) es ≡ Ok r → EachFollows b (l ++ e ∷ []) → (r ≡ (l ++ e ∷ []) ++ es) × EachFollows b r) → (r ≡ l ++ e ∷ es) × EachFollows b r
       go None d w again = let y = again w (sound_push b l e z d) in (y.0 ∙ push_append l e es, y.1)
       go (Some why) d w again = absurd (cc)
 
   -- the leader's log m has es behind p, and l is m up to p
   module _ (led : ℕ → List E) (l m es : List E) (p : ℕ) (ml : Matches b led l) (mm : Matches b led m) (short : p ≤ length l) (front : Same p l m) (items : (i k : ℕ) (e : E) → k ≡ p + i → slice_get es i ≡ Some e → slice_get m k ≡ Some e) where
     held : ℕ
-    held = held_of b (drop p l) es
+    held = matching_prefix_len b (drop p l) es
 
     -- up to the first entry that isn't held, the log is the leader's
-    pub agreed : (j : ℕ) (f : E) → j < p + held_of b (drop p l) es → slice_get l j ≡ Some f → slice_get m j ≡ Some f
+    pub agreed : (j : ℕ) (f : E) → j < p + matching_prefix_len b (drop p l) es → slice_get l j ≡ Some f → slice_get m j ≡ Some f
     agreed j f h a = ⊎_elim
         (λ (q : j < p). front j f q a)
         (λ (q : p ≤ j).
@@ -84,7 +84,7 @@ module _ {E Q G R A F : Type 0} (b : Book E Q G R A F) where
         in_m ∙ ap Some (sym same) ∙ sym in_l ∙ a)
         (cases_lt j p)
 
-    pub merged_all : held_of b (drop p l) es ≡ length es → Merged l m (p + length es) l
+    pub merged_all : matching_prefix_len b (drop p l) es ≡ length es → Merged l m (p + length es) l
     merged_all h = record {
       front = λ j f d a. agreed j f (omega arith) a;
       long = ⊎_elim
@@ -96,7 +96,7 @@ module _ {E Q G R A F : Type 0} (b : Book E Q G R A F) where
       way = inl refl;
     }
 
-    pub merged_new : held_of b (drop p l) es ≢ length es → Merged l m (p + length es) (take (p + held_of b (drop p l) es) l ++ drop (held_of b (drop p l) es) es)
+    pub merged_new : matching_prefix_len b (drop p l) es ≢ length es → Merged l m (p + length es) (take (p + matching_prefix_len b (drop p l) es) l ++ drop (matching_prefix_len b (drop p l) es) es)
     merged_new h = record {
       front = λ j f d a. new_in j f a;
       long = let q = length-append (take k l) (drop n es) in let u = length-take k l in let w = length-drop n es in omega (arith, q, u, w, n_le, k_le);
@@ -104,30 +104,30 @@ module _ {E Q G R A F : Type 0} (b : Book E Q G R A F) where
     }
       where
         n : ℕ
-        n = held_of b (drop p l) es
+        n = matching_prefix_len b (drop p l) es
 
         k : ℕ
-        k = p + held_of b (drop p l) es
+        k = p + matching_prefix_len b (drop p l) es
 
-        n_le : held_of b (drop p l) es ≤ length es
+        n_le : matching_prefix_len b (drop p l) es ≤ length es
         n_le = held_le (drop p l) es
 
-        k_le : p + held_of b (drop p l) es ≤ length l
+        k_le : p + matching_prefix_len b (drop p l) es ≤ length l
         k_le = ⊎_elim
-            (λ (q : held_of b (drop p l) es ≡ 0). omega arith)
-            (λ (q : held_of b (drop p l) es ≢ 0).
-            let y = held_in (drop p l) es (held_of b (drop p l) es - 1) (omega arith) in
-            let in_l : slice_get l (p + (held_of b (drop p l) es - 1)) ≡ Some y.0 = sym (drop_get p l (held_of b (drop p l) es - 1) (p + (held_of b (drop p l) es - 1)) (omega arith)) ∙ y.2 in
-            omega (arith, within l (p + (held_of b (drop p l) es - 1)) y.0 in_l))
-            (cases_eq (held_of b (drop p l) es) 0)
+            (λ (q : matching_prefix_len b (drop p l) es ≡ 0). omega arith)
+            (λ (q : matching_prefix_len b (drop p l) es ≢ 0).
+            let y = held_in (drop p l) es (matching_prefix_len b (drop p l) es - 1) (omega arith) in
+            let in_l : slice_get l (p + (matching_prefix_len b (drop p l) es - 1)) ≡ Some y.0 = sym (drop_get p l (matching_prefix_len b (drop p l) es - 1) (p + (matching_prefix_len b (drop p l) es - 1)) (omega arith)) ∙ y.2 in
+            omega (arith, within l (p + (matching_prefix_len b (drop p l) es - 1)) y.0 in_l))
+            (cases_eq (matching_prefix_len b (drop p l) es) 0)
 
-        in_es : (f : E) → slice_get m (p + held_of b (drop p l) es) ≡ Some f → slice_get es (held_of b (drop p l) es) ≡ Some f
-        in_es f c = let y = there es (held_of b (drop p l) es) (omega (arith, n_le)) in y.1 ∙ sym (items (held_of b (drop p l) es) (p + held_of b (drop p l) es) y.0 refl y.1) ∙ c
+        in_es : (f : E) → slice_get m (p + matching_prefix_len b (drop p l) es) ≡ Some f → slice_get es (matching_prefix_len b (drop p l) es) ≡ Some f
+        in_es f c = let y = there es (matching_prefix_len b (drop p l) es) (omega (arith, n_le)) in y.1 ∙ sym (items (matching_prefix_len b (drop p l) es) (p + matching_prefix_len b (drop p l) es) y.0 refl y.1) ∙ c
 
-        new_in : (j : ℕ) (f : E) → slice_get (take (p + held_of b (drop p l) es) l ++ drop (held_of b (drop p l) es) es) j ≡ Some f → slice_get m j ≡ Some f
+        new_in : (j : ℕ) (f : E) → slice_get (take (p + matching_prefix_len b (drop p l) es) l ++ drop (matching_prefix_len b (drop p l) es) es) j ≡ Some f → slice_get m j ≡ Some f
         new_in j f a = ⊎_elim
-            (λ (q : slice_get (take (p + held_of b (drop p l) es) l) j ≡ Some f). let y = get_take (p + held_of b (drop p l) es) l j f q in agreed j f y.0 y.1)
-            (λ (q : (i : ℕ) × (j ≡ length (take (p + held_of b (drop p l) es) l) + i) × (slice_get (drop (held_of b (drop p l) es) es) i ≡ Some f)).
-            let u = length-take (p + held_of b (drop p l) es) l in
-            items (held_of b (drop p l) es + q.0) j f (omega (arith, q.1, u, k_le)) (sym (drop_get (held_of b (drop p l) es) es q.0 (held_of b (drop p l) es + q.0) refl) ∙ q.2))
-            (get_append (take (p + held_of b (drop p l) es) l) (drop (held_of b (drop p l) es) es) j f a)
+            (λ (q : slice_get (take (p + matching_prefix_len b (drop p l) es) l) j ≡ Some f). let y = get_take (p + matching_prefix_len b (drop p l) es) l j f q in agreed j f y.0 y.1)
+            (λ (q : (i : ℕ) × (j ≡ length (take (p + matching_prefix_len b (drop p l) es) l) + i) × (slice_get (drop (matching_prefix_len b (drop p l) es) es) i ≡ Some f)).
+            let u = length-take (p + matching_prefix_len b (drop p l) es) l in
+            items (matching_prefix_len b (drop p l) es + q.0) j f (omega (arith, q.1, u, k_le)) (sym (drop_get (matching_prefix_len b (drop p l) es) es q.0 (matching_prefix_len b (drop p l) es + q.0) refl) ∙ q.2))
+            (get_append (take (p + matching_prefix_len b (drop p l) es) l) (drop (matching_prefix_len b (drop p l) es) es) j f a)

@@ -4,7 +4,7 @@ use Rattle.std.proofs.lemmas.Bool.{cases_eq, cases_lt}
 use Rattle.gl_rules.specs.Identity.{NodeId}
 use Rattle.gl_rules.specs.Book.{Book}
 use Rattle.gl_rules.specs.World.{Start, Event, World, run, begin, after}
-use Rattle.gl_rules.specs.Safety.{IsOpening, IsLawful, EachFollows, IsPrefixOf, committed, Agree, node_after}
+use Rattle.gl_rules.specs.Safety.{IsOpening, IsLawful, EachFollows, IsPrefixOf, committed_ledger, Agree, node_after}
 use Rattle.gl_safety.proofs.Lists.{Same, within, take_get, prefix_of}
 use Rattle.gl_safety.proofs.Story.{Story}
 use Rattle.gl_safety.proofs.Facts.{Matches, agree}
@@ -43,10 +43,10 @@ module _ {E Q G R A F : Type 0} {b : Book E Q G R A F} {s : Start E} (o : IsOpen
   one_way : (g : Story E) → Tale o g → (l m : List E) (c d t u : ℕ) (j k : ℕ) → Matches b g.led l → Matches b g.led m → (q : SureOver o (Cert o j g) g l c t) (r : SureOver o (Cert o k g) g m d u) → q.v ≤ r.v →
       IsPrefixOf (take c l) (take d m) ⊎ IsPrefixOf (take d m) (take c l)
   one_way g t l m c d a f j k p z q r h = ⊎_elim
-      (λ (e : d < c). inr (prefix_of d m (take c l) (omega (arith, r.place, within m r.i r.entry r.at))
-      (λ i x w y. take_get c l i x (omega arith) (l_led_up i x (omega (arith, q.place)) (m_led i x (omega (arith, r.place)) y)))))
-      (λ (e : c ≤ d). inl (prefix_of c l (take d m) (omega (arith, q.place, within l q.i q.entry q.at))
-      (λ i x w y. take_get d m i x (omega arith) (m_led_up i x (omega (arith, r.place)) (l_led i x (omega (arith, q.place)) y)))))
+      (λ (e : d < c). inr (prefix_of d m (take c l) (omega (arith, r.seqno, within m r.i r.entry r.at))
+      (λ i x w y. take_get c l i x (omega arith) (l_led_up i x (omega (arith, q.seqno)) (m_led i x (omega (arith, r.seqno)) y)))))
+      (λ (e : c ≤ d). inl (prefix_of c l (take d m) (omega (arith, q.seqno, within l q.i q.entry q.at))
+      (λ i x w y. take_get d m i x (omega arith) (m_led_up i x (omega (arith, r.seqno)) (l_led i x (omega (arith, q.seqno)) y)))))
       (cases_lt d c)
     where
       top : slice_get (g.led r.v) q.j ≡ Some q.last
@@ -104,7 +104,7 @@ module _ {E Q G R A F : Type 0} {b : Book E Q G R A F} {s : Start E} (o : IsOpen
       (λ (h : i ≤ j). both_at (after b s (take i es)) (after b s (take j es)) (moments es i j h) x y)
       (cases_lt j i)
 
-  pub ledger : (es : List (Event Q G R)) (i : ℕ) (x : NodeId) → EachFollows b (committed (node_after b s (take i es) x))
+  pub ledger : (es : List (Event Q G R)) (i : ℕ) (x : NodeId) → EachFollows b (committed_ledger (node_after b s (take i es) x))
   ledger es i x =
       let p = onward_run o la (take i es) (begin s) (first_story o la) (holding_first o la) in
       sound_cut b (node_after b s (take i es) x).log (node_after b s (take i es) x).commit (p.1.nodes x).sound

@@ -41,15 +41,15 @@ module _ {E Q G R A F : Type 0} {b : Book E Q G R A F} {s : Start E} (o : IsOpen
   held_by g n k y t p zn zk marks least long j u q held m a =
       let en = mark_entry b la n.log y m.0 zn m.1 in
       let top : slice_get k.log q.j ≡ Some q.last = held q.j q.last (omega arith) q.mark.at in
-      let front : Same n.commit n.log k.log = λ i e h c. held i e (omega (arith, q.le, q.place)) (agree b g.led n.log (g.led q.v) q.i q.entry p (t.matches q.v) q.at q.leads i e (omega (arith, q.place)) c) in
-      let wide : n.commit ≤ length n.log = omega (arith, q.place, within n.log q.i q.entry q.at) in
+      let front : Same n.commit n.log k.log = λ i e h c. held i e (omega (arith, q.le, q.seqno)) (agree b g.led n.log (g.led q.v) q.i q.entry p (t.matches q.v) q.at q.leads i e (omega (arith, q.seqno)) c) in
+      let wide : n.commit ≤ length n.log = omega (arith, q.seqno, within n.log q.i q.entry q.at) in
       let mark_k : b.mark k.log y ≡ Some m.0 = place_same b b.mark la.markings n.log k.log y m.0 n.commit zn zk wide front m.2 m.1 in
       let removal_k : b.removal k.log y ≡ Some en.5.0 = place_same b b.removal la.removals n.log k.log y en.5.0 n.commit zn zk wide front (omega (arith, en.5.1, en.1, m.2)) en.5.2 in
       let other : en.0 ≢ q.j = λ (w : en.0 ≡ q.j).
       let in_k : slice_get k.log q.j ≡ Some en.2 = ap (slice_get k.log) (sym w) ∙ front en.0 en.2 (omega (arith, en.1, m.2)) en.3 in
       let same : en.2 ≡ q.last = let v = sym in_k ∙ top in cc in
       true≢false (sym q.mark.signs ∙ ap b.is_signature (sym same) ∙ en.4) in
-      let low : m.0 ≤ q.j = omega (arith, en.1, m.2, q.place, q.le) in
+      let low : m.0 ≤ q.j = omega (arith, en.1, m.2, q.seqno, q.le) in
       gone k y en.5.0 zk long removal_k (omega (arith, marks.known y m.0 en.5.0 mark_k removal_k q.j q.last top q.mark.signs low, recorded_le b k.log q.j q.last top q.mark.signs, least)) a
 
   certified : (g : Story E) (x : NodeId) (n : Node E) → Good o g x n → n.role ≡ Leader → (d : ℕ) × SureOver o (Cert o d g) g n.log n.commit n.view

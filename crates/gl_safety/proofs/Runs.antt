@@ -5,8 +5,8 @@ use Rattle.gl_rules.specs.Identity.{NodeId}
 use Rattle.gl_rules.specs.Book.{Book}
 use Rattle.gl_rules.specs.Node.{Node}
 use Rattle.gl_rules.specs.Message.{Message, Body, RequestVote, VoteReply, Append, AppendReply, ProposeVote}
-use Rattle.gl_rules.specs.Steps.{rise}
-use Rattle.gl_rules.specs.World.{Start, Event, Timeout, Deliver, Submit, Finish, Govern, Reserve, Sign, Evidence, Replicate, Advance, StepDown, Restart, Install, World, at, kept_by, answer_as, risen, on_message, delivered, happens, run, node_at_start}
+use Rattle.gl_rules.specs.Steps.{enter_view, update_view}
+use Rattle.gl_rules.specs.World.{Start, Event, Timeout, Deliver, Submit, Finish, Govern, Reserve, Sign, Evidence, Replicate, Advance, StepDown, Restart, Install, World, at, undo_if_refused, answer_as, on_message, deliver, happens, run, node_at_start}
 use Rattle.gl_rules.specs.Safety.{IsOpening, IsLawful, EachFollows}
 use Rattle.gl_safety.proofs.Ids.{put_all, by_test}
 use Rattle.gl_safety.proofs.Story.{Story}
@@ -23,8 +23,8 @@ use Rattle.gl_safety.proofs.Replicas.{reached_replicate, reached_append, reached
 use Rattle.gl_safety.proofs.Makers.{reached_submit, reached_finish, reached_govern, reached_reserve, reached_sign, reached_evidence}
 
 module _ {E Q G R A F : Type 0} {b : Book E Q G R A F} {s : Start E} (o : IsOpening b (EachFollows b) s) (la : IsLawful b (EachFollows b)) where
-  rise_up : (v : ℕ) (n : Node E) → (rise b v n).view ≡ v
-  unfolding rise
+  rise_up : (v : ℕ) (n : Node E) → (enter_view b v n).view ≡ v
+  unfolding enter_view
   rise_up v n = refl
 
   -- a message: its view first
@@ -35,11 +35,11 @@ module _ {E Q G R A F : Type 0} {b : Book E Q G R A F} {s : Start E} (o : IsOpen
       go (RequestVote theirs) a = reached_request o la m.receiver m.sender m.view theirs g n t z up a
       go (VoteReply granted) a = reached_reply o la m.receiver m.sender m.view granted g n t z a
       go (Append prev es c) a = reached_append o la m.receiver m.sender m.view prev es c g n t z up a
-      go (AppendReply ok place) a = reached_append_reply o la m.receiver m.sender m.view ok place g n t z a
+      go (AppendReply ok seqno) a = reached_append_reply o la m.receiver m.sender m.view ok seqno g n t z a
       go ProposeVote a = reached_propose o la m.receiver m.view g n t z
 
   -- a refusal leaves the node
-  reached_kept : (x : NodeId) (g : Story E) (n : Node E) (w : Outcome A F) (step : Step E A F) → Tale o g → Good o g x n → By o la x g step → By o la x g (kept_by w n step)
+  reached_kept : (x : NodeId) (g : Story E) (n : Node E) (w : Outcome A F) (step : Step E A F) → Tale o g → Good o g x n → By o la x g step → By o la x g (undo_if_refused w n step)
   reached_kept x g n (outcome.Refused why) step t z r = stay o la x g n t z
   reached_kept x g n outcome.Done step t z r = r
   reached_kept x g n outcome.Idle step t z r = r
@@ -51,9 +51,9 @@ module _ {E Q G R A F : Type 0} {b : Book E Q G R A F} {s : Start E} (o : IsOpen
 
   pub reached_message : (m : Message E) (g : Story E) (n : Node E) → Tale o g → Good o g m.receiver n → BodySent o g m.sender m.receiver m.view m.body → By o la m.receiver g (on_message b m n)
   unfolding on_message
-  reached_message m g n t z said = reached_kept m.receiver g n (answer_as b m.body m.receiver m.sender m.view (risen b m.view n)).outcome (answer_as b m.body m.receiver m.sender m.view (risen b m.view n)) t z
-      (by_test (λ k. By o la m.receiver g (answer_as b m.body m.receiver m.sender m.view k)) (nat_lt n.view m.view) (rise b m.view n) n
-      (λ d. reached_risen m g (rise b m.view n) t (good_rise o la g m.receiver n m.view (grind (arith, nat_tests)) z) (omega (arith, rise_up m.view n)) said)
+  reached_message m g n t z said = reached_kept m.receiver g n (answer_as b m.body m.receiver m.sender m.view (update_view b m.view n)).outcome (answer_as b m.body m.receiver m.sender m.view (update_view b m.view n)) t z
+      (by_test (λ k. By o la m.receiver g (answer_as b m.body m.receiver m.sender m.view k)) (nat_lt n.view m.view) (enter_view b m.view n) n
+      (λ d. reached_risen m g (enter_view b m.view n) t (good_rise o la g m.receiver n m.view (grind (arith, nat_tests)) z) (omega (arith, rise_up m.view n)) said)
       (λ d. reached_risen m g n t z (grind (arith, nat_tests)) said))
 
   -- all that holds at a moment
@@ -101,7 +101,7 @@ module _ {E Q G R A F : Type 0} {b : Book E Q G R A F} {s : Start E} (o : IsOpen
   onward_event w g (Timeout x) k = onward_at w g x (elections.timeout b x (w.nodes x)) k (reached_timeout o la x g (w.nodes x) k.tale (k.nodes x))
   onward_event w g (Deliver which) k = go (slice_get w.sent which) refl
     where
-      go : (m : Option (Message E)) → slice_get w.sent which ≡ m → (h : Story E) × Holding (delivered b w m).world h × Later g h
+      go : (m : Option (Message E)) → slice_get w.sent which ≡ m → (h : Story E) × Holding (deliver b w m).world h × Later g h
       go None d = onward_same w g k
       go (Some m) d = onward_at w g m.receiver (on_message b m (w.nodes m.receiver)) k (reached_message m g (w.nodes m.receiver) k.tale (k.nodes m.receiver) (sent_at o g w.sent which m k.sent d))
   onward_event w g (Submit x q) k = onward_at w g x (requests.submit b q (w.nodes x)) k (reached_submit o la x q g (w.nodes x) k.tale (k.nodes x))

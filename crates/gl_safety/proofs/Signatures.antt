@@ -3,8 +3,8 @@ use Rattle.std.proofs.Common.{◌≡◌, ◌≢◌, inl, inr, ⊎_elim, ℕ, zer
 use Rattle.std.proofs.lemmas.Bool.{cases_eq}
 use Rattle.std.proofs.lemmas.Bool.Decides.{nat_tests}
 use Rattle.gl_rules.specs.Book.{Book}
-use Rattle.gl_rules.specs.Message.{Last}
-use Rattle.gl_rules.specs.Log.{place_before, is_at_least, view_at, last_signature, last, greatest_recorded}
+use Rattle.gl_rules.specs.Message.{Position}
+use Rattle.gl_rules.specs.Log.{seqno_with_first, is_up_to_date, view_at, last_signature, last_signature_position, greatest_recorded}
 use Rattle.gl_safety.proofs.Lists.{get_take, take_get}
 use Rattle.gl_safety.proofs.Facts.{Covers, Rising}
 
@@ -14,7 +14,7 @@ module _ {E Q G R A F : Type 0} (b : Book E Q G R A F) where
   last_le [] = omega arith
   last_le (e ∷ l) = go (b.is_signature e) (last_signature b l) (last_le l)
     where
-      go : (t : Bool) (k : ℕ) → k ≤ length l → place_before t k ≤ suc (length l)
+      go : (t : Bool) (k : ℕ) → k ≤ length l → seqno_with_first t k ≤ suc (length l)
       go t (suc k) h = omega arith
       go true zero h = omega arith
       go false zero h = omega arith
@@ -24,13 +24,13 @@ module _ {E Q G R A F : Type 0} (b : Book E Q G R A F) where
   last_above [] i e a s = absurd (cc)
   last_above (f ∷ l) zero e a s = go (b.is_signature f) (last_signature b l) (let z : f ≡ e = cc in ap b.is_signature z ∙ s)
     where
-      go : (t : Bool) (k : ℕ) → t ≡ true → 0 < place_before t k
+      go : (t : Bool) (k : ℕ) → t ≡ true → 0 < seqno_with_first t k
       go t (suc k) h = omega arith
       go true zero h = omega arith
       go false zero h = absurd (cc)
   last_above (f ∷ l) (suc i) e a s = go (b.is_signature f) (last_signature b l) (last_above l i e a s)
     where
-      go : (t : Bool) (k : ℕ) → i < k → suc i < place_before t k
+      go : (t : Bool) (k : ℕ) → i < k → suc i < seqno_with_first t k
       go t (suc k) h = omega arith
       go true zero h = absurd (omega arith)
       go false zero h = absurd (omega arith)
@@ -40,7 +40,7 @@ module _ {E Q G R A F : Type 0} (b : Book E Q G R A F) where
   last_signs [] i z = absurd (cc)
   last_signs (f ∷ l) i z = go (b.is_signature f) (last_signature b l) refl refl z (last_signs l)
     where
-      go : (t : Bool) (k : ℕ) → b.is_signature f ≡ t → last_signature b l ≡ k → place_before t k ≡ suc i → ((j : ℕ) → last_signature b l ≡ suc j → (e : E) × (slice_get l j ≡ Some e) × (b.is_signature e ≡ true)) →
+      go : (t : Bool) (k : ℕ) → b.is_signature f ≡ t → last_signature b l ≡ k → seqno_with_first t k ≡ suc i → ((j : ℕ) → last_signature b l ≡ suc j → (e : E) × (slice_get l j ≡ Some e) × (b.is_signature e ≡ true)) →
           (e : E) × (slice_get (f ∷ l) i ≡ Some e) × (b.is_signature e ≡ true)
       go t (suc k) a d w again = let y = again k d in let q : suc k ≡ i = omega arith in (y.0, ap (slice_get (f ∷ l)) (sym q) ∙ y.1, y.2)
       go true zero a d w again = let q : i ≡ zero = omega arith in (f, ap (slice_get (f ∷ l)) q, a)
@@ -59,29 +59,29 @@ module _ {E Q G R A F : Type 0} (b : Book E Q G R A F) where
   pub view_at_is : (l : List E) (i : ℕ) (e : E) → slice_get l i ≡ Some e → view_at b l (suc i) ≡ b.view_of e
   view_at_is l i e a = grind arith
 
-  pub last_view_is : (l : List E) (i : ℕ) → last_signature b l ≡ suc i → (e : E) × (slice_get l i ≡ Some e) × ((last b l).view ≡ b.view_of e) × (b.is_signature e ≡ true)
+  pub last_view_is : (l : List E) (i : ℕ) → last_signature b l ≡ suc i → (e : E) × (slice_get l i ≡ Some e) × ((last_signature_position b l).view ≡ b.view_of e) × (b.is_signature e ≡ true)
   last_view_is l i z =
       let y = last_signs l i z in
       (y.0, y.1, ap (view_at b l) z ∙ view_at_is l i y.0 y.1, y.2)
 
-  pub last_zero : (l : List E) → last_signature b l ≡ 0 → (last b l).view ≡ 0
+  pub last_zero : (l : List E) → last_signature b l ≡ 0 → (last_signature_position b l).view ≡ 0
   last_zero l z = ap (view_at b l) z
 
   -- each signature of a log is covered by its last one
-  pub covers_last : (l : List E) (i : ℕ) (e : E) → Rising b l → slice_get l i ≡ Some e → b.is_signature e ≡ true → Covers (last b l) (b.view_of e) i
+  pub covers_last : (l : List E) (i : ℕ) (e : E) → Rising b l → slice_get l i ≡ Some e → b.is_signature e ≡ true → Covers (last_signature_position b l) (b.view_of e) i
   covers_last l i e r a z = go (last_signature b l) refl
     where
       top : i < last_signature b l
       top = last_above l i e a z
 
-      go : (k : ℕ) → last_signature b l ≡ k → Covers (last b l) (b.view_of e) i
+      go : (k : ℕ) → last_signature b l ≡ k → Covers (last_signature_position b l) (b.view_of e) i
       go zero d = absurd (omega (arith, top))
       go (suc k) d =
           let y = last_view_is l k d in
           let up : b.view_of e ≤ b.view_of y.0 = r.rising i k e y.0 (omega (arith, top)) a y.1 in
           ⊎_elim (λ (q : b.view_of e ≡ b.view_of y.0). inr (q ∙ sym y.2, top)) (λ (q : b.view_of e ≢ b.view_of y.0). inl (omega (arith, y.2, up))) (cases_eq (b.view_of e) (b.view_of y.0))
 
-  pub covers_more : (l m : Last) (v i : ℕ) → is_at_least l m ≡ true → Covers m v i → Covers l v i
+  pub covers_more : (l m : Position) (v i : ℕ) → is_up_to_date l m ≡ true → Covers m v i → Covers l v i
   covers_more l m v i z c = grind (arith, nat_tests)
 
   -- recorded commits

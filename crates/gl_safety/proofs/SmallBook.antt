@@ -4,9 +4,9 @@ use Rattle.gl_rules.specs.Identity.{NodeId, same, member}
 use Rattle.gl_rules.specs.Book.{Book}
 use Rattle.gl_rules.specs.Log.{entry_at, last_signature, greatest_recorded}
 use Rattle.gl_rules.specs.Configuration.{configuration_at, configurations_above}
-use Rattle.gl_rules.specs.Steps.{rise, win}
+use Rattle.gl_rules.specs.Steps.{enter_view, lead_if_elected}
 use Rattle.gl_rules.specs.Elections.{timeout, on_request_vote, on_vote_reply}
-use Rattle.gl_rules.specs.Replication.{fitting, replicate, held_of, applied, last_at_most, on_append, on_append_reply, greatest_to_commit, advance, restart, greatest_evidence, install}
+use Rattle.gl_rules.specs.Replication.{fitting_prefix, replicate, matching_prefix_len, checked_append, highest_possible_match, on_append, on_append_reply, greatest_to_commit, advance, restart, greatest_evidence, install}
 use Rattle.gl_rules.specs.Requests.{submit, govern, reserve, sign, evidence}
 use Rattle.gl_rules.specs.Retirement.{stage}
 use Rattle.gl_rules.specs.World.{on_message, happens, run, Start}
@@ -84,9 +84,9 @@ is_mark_of y Evidence = false
 
 abbrev pub one_later : Option ℕ → Option ℕ
 one_later None = None
-one_later (Some place) = Some (suc place)
+one_later (Some seqno) = Some (suc seqno)
 
--- The place of the first entry that passes the test.
+-- The seqno of the first entry that passes the test.
 abbrev pub first_place : (Item → Bool) → List Item → Option ℕ
 first_place test [] = None
 first_place test (e ∷ es) = if test e then Some 1 else one_later (first_place test es)
@@ -157,7 +157,7 @@ small = record {
   recorded_commit = λ e. commit_in e.kind;
   frame_size = λ e. 1;
   configuration = λ log. set_at (entry_at log (length log));
-  recorded = λ log. recorded_from [] log;
+  recorded_nodes = λ log. recorded_from [] log;
   removal = removal_of;
   mark = mark_of;
   leaves = λ x. 32;
@@ -165,8 +165,8 @@ small = record {
   govern = λ log view g. made_if (fits log (kind_of g)) (record { view = view; kind = kind_of g }, 0);
   sign = λ x leaf log view commit. Ok (record { view = view; kind = Signature commit });
   evidence = λ log view. made_if (fits log Evidence) (record { view = view; kind = Evidence });
-  marks = marked_by;
-  unmarkable = λ log y. None;
+  marked_node = marked_by;
+  mark_refusal = λ log y. None;
   conflict = λ log len reads. None;
   breaks = λ log e. fault_of (fits log e.kind);
 }
@@ -192,5 +192,5 @@ start = record { opening = opening; starting = one ∷ two ∷ three ∷ []; fir
 
 -- A proof that names this opens all rules, so that runs compute.
 unfoldable pub rules_open : ℕ
-unfolding same timeout on_request_vote on_vote_reply rise win last_signature greatest_recorded configuration_at configurations_above fitting replicate held_of applied last_at_most on_append on_append_reply greatest_to_commit advance restart greatest_evidence install submit govern reserve sign evidence on_message happens run stage
+unfolding same timeout on_request_vote on_vote_reply enter_view lead_if_elected last_signature greatest_recorded configuration_at configurations_above fitting_prefix replicate matching_prefix_len checked_append highest_possible_match on_append on_append_reply greatest_to_commit advance restart greatest_evidence install submit govern reserve sign evidence on_message happens run stage
 rules_open = 0

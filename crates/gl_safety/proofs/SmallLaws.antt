@@ -138,18 +138,18 @@ ok_first x y q a r d e =
     ap (λ (p : Item × ℕ). p.0) (sym (ok_pair m n r d e))
 
 -- evidence stands right behind a signature
-witness : (log : List Item) (place : ℕ) (e : Item) → EachFollows small log → entry_at log (suc place) ≡ Some e → is_snapshot e.kind ≡ true → (f : Item) × (entry_at log place ≡ Some f) × (signs f.kind ≡ true)
-witness log place e z a d =
-    let fit = fit_from (take place log) e (z place e a) in
-    let long : length (take place log) ≡ place = omega (arith, length-take place log, within log place e a) in
-    let signed : signs_at (entry_at (take place log) place) ≡ true = ap (λ k. signs_at (entry_at (take place log) k)) (sym long) ∙ snapshot_kind (take place log) e.kind d fit in
-    go place refl signed
+witness : (log : List Item) (seqno : ℕ) (e : Item) → EachFollows small log → entry_at log (suc seqno) ≡ Some e → is_snapshot e.kind ≡ true → (f : Item) × (entry_at log seqno ≡ Some f) × (signs f.kind ≡ true)
+witness log seqno e z a d =
+    let fit = fit_from (take seqno log) e (z seqno e a) in
+    let long : length (take seqno log) ≡ seqno = omega (arith, length-take seqno log, within log seqno e a) in
+    let signed : signs_at (entry_at (take seqno log) seqno) ≡ true = ap (λ k. signs_at (entry_at (take seqno log) k)) (sym long) ∙ snapshot_kind (take seqno log) e.kind d fit in
+    go seqno refl signed
   where
-    go : (k : ℕ) → place ≡ k → signs_at (entry_at (take place log) k) ≡ true → (f : Item) × (entry_at log k ≡ Some f) × (signs f.kind ≡ true)
+    go : (k : ℕ) → seqno ≡ k → signs_at (entry_at (take seqno log) k) ≡ true → (f : Item) × (entry_at log k ≡ Some f) × (signs f.kind ≡ true)
     go zero h w = absurd (cc)
     go (suc i) h w =
-        let f = there log i (omega (arith, within log place e a)) in
-        let at : slice_get (take place log) i ≡ Some f.0 = take_get place log i f.0 (omega arith) f.1 in
+        let f = there log i (omega (arith, within log seqno e a)) in
+        let at : slice_get (take seqno log) i ≡ Some f.0 = take_get seqno log i f.0 (omega arith) f.1 in
         (f.0, f.1, ap signs_at (sym at) ∙ w)
 
 pub small_lawful : IsLawful small (EachFollows small)
@@ -172,19 +172,19 @@ small_lawful = record {
       subst (λ (f : Item). Makes small (EachFollows small) log view f × (signs f.kind ≡ false) × MarksNone small log f) (sym r.1)
       (makes log (record { view = view; kind = Evidence }) z r.0, refl, marks_none log (record { view = view; kind = Evidence }) (λ y. refl));
   taken = λ log e z f. sound_push small log e z f;
-  cut = λ log place z. sound_cut small log place z;
+  cut = λ log seqno z. sound_cut small log seqno z;
   witnessed = witness;
   removals = places_of (EachFollows small) (λ y e. removes y e.kind);
   markings = places_of (EachFollows small) (λ y e. is_mark_of y e.kind);
   marked = λ log e y z a. mark_kind log e.kind y (first_end (λ f. is_mark_of y f.kind) log e a) (fits_last log e z);
-  marks = λ log view g e a y place z v d c. ⊎_elim
-      (λ (q : mark_of log y ≡ Some place). inl q)
-      (λ (q : place ≡ length log + 1).
+  marks = λ log view g e a y seqno z v d c. ⊎_elim
+      (λ (q : mark_of log y ≡ Some seqno). inl q)
+      (λ (q : seqno ≡ length log + 1).
       let r = made_is (fits log (kind_of g)) (record { view = view; kind = kind_of g }, 0) (e, a) d in
       let eq : e ≡ record { view = view; kind = kind_of g } = ap (λ (p : Item × ℕ). p.0) r.1 in
       let m : is_mark_of y e.kind ≡ true = first_end (λ f. is_mark_of y f.kind) log e (c ∙ ap Some q) in
       inr (governs_mark g y (ap (λ (f : Item). is_mark_of y f.kind) (sym eq) ∙ m)))
-      (first_comes (λ f. is_mark_of y f.kind) log e place c);
+      (first_comes (λ f. is_mark_of y f.kind) log e seqno c);
 }
 
 opening_cases : (i : ℕ) (e : Item) → slice_get opening i ≡ Some e → ((i ≡ 0) × (record { view = 2; kind = Change (one ∷ two ∷ three ∷ []) } ≡ e)) ⊎ ((i ≡ 1) × (record { view = 2; kind = Signature 2 } ≡ e))
@@ -210,7 +210,7 @@ small_opening = record {
   signs = refl;
   records = refl;
   alone = by_case (λ i e. signs e.kind ≡ true → i ≡ 1) (λ a. absurd (cc)) (λ a. refl);
-  place = 1;
+  configured_at = 1;
   counted = omega arith;
   within = omega arith;
   members = one ∷ two ∷ three ∷ [];

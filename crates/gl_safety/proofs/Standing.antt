@@ -5,10 +5,10 @@ use Rattle.gl_rules.specs.Identity.{NodeId}
 use Rattle.gl_rules.specs.Majority.{majority}
 use Rattle.gl_rules.specs.Book.{Book}
 use Rattle.gl_rules.specs.Node.{Node, Follower, Candidate, Leader}
-use Rattle.gl_rules.specs.Message.{Last}
-use Rattle.gl_rules.specs.Log.{last_signature, last, signed_part}
+use Rattle.gl_rules.specs.Message.{Position}
+use Rattle.gl_rules.specs.Log.{last_signature, last_signature_position, signed_prefix}
 use Rattle.gl_rules.specs.Configuration.{configuration_at, configurations_above, active, in_some}
-use Rattle.gl_rules.specs.Steps.{rise}
+use Rattle.gl_rules.specs.Steps.{enter_view}
 use Rattle.gl_rules.specs.World.{Start}
 use Rattle.gl_rules.specs.Safety.{IsOpening, IsLawful, EachFollows}
 use Rattle.gl_safety.proofs.Ids.{id_tests, cases_same, put2, put2_cases, put2_at}
@@ -21,11 +21,11 @@ use Rattle.gl_safety.proofs.Complete.{descend, settled}
 use Rattle.gl_safety.proofs.Signatures.{last_above, last_signs, signed_keeps, last_view_is, last_zero, covers_last, recorded_le, recorded_part, signed_ends}
 use Rattle.gl_safety.proofs.Invariants.{Commits, Good, Reached, rising_of, begins_of, signature_above, settled_of, sure_to, won_grow, sured_more, shuts_grow, commits_more}
 use Rattle.gl_safety.proofs.Soundness.{sound_cut}
-use Rattle.gl_rules.specs.Elections.{may_stand, candidate}
+use Rattle.gl_rules.specs.Elections.{may_campaign, become_candidate}
 
 module _ {E Q G R A F : Type 0} {b : Book E Q G R A F} {s : Start E} (o : IsOpening b (EachFollows b) s) (la : IsLawful b (EachFollows b)) where
-  pub good_rise : (g : Story E) (x : NodeId) (n : Node E) (v : ℕ) → n.view < v → Good o g x n → Good o g x (rise b v n)
-  unfolding rise
+  pub good_rise : (g : Story E) (x : NodeId) (n : Node E) (v : ℕ) → n.view < v → Good o g x n → Good o g x (enter_view b v n)
+  unfolding enter_view
   good_rise g x n v h z = record {
     voter = record {
       cast = z.voter.later v h;
@@ -78,7 +78,7 @@ module _ {E Q G R A F : Type 0} {b : Book E Q G R A F} {s : Start E} (o : IsOpen
   none_active x (suc c) z e = omega arith
 
   -- a node that may stand has the opening, and has committed it
-  pub may_open : (g : Story E) → Tale o g → (x : NodeId) (n : Node E) → Good o g x n → may_stand b x n ≡ true → (length s.opening ≤ last_signature b n.log) × (length s.opening ≤ n.commit)
+  pub may_open : (g : Story E) → Tale o g → (x : NodeId) (n : Node E) → Good o g x n → may_campaign b x n ≡ true → (length s.opening ≤ last_signature b n.log) × (length s.opening ≤ n.commit)
   may_open g t x n z e = go (last_signature b n.log) refl e
     where
       sure_c : Settled o g n.log n.commit
@@ -96,7 +96,7 @@ module _ {E Q G R A F : Type 0} {b : Book E Q G R A F} {s : Start E} (o : IsOpen
           (omega arith, omega (arith, recorded_le b n.log o.before o.signature w o.signs, z.commits.recorded, o.records, o.long))
 
   -- the story of a stand
-  tale_stand : (x : NodeId) (g : Story E) (v : ℕ) (l : Last) (gone : NodeId → Bool) → Tale o g → 2 < v → l.view < v → g.ballot x v ≡ None → g.bid x v ≡ None →
+  tale_stand : (x : NodeId) (g : Story E) (v : ℕ) (l : Position) (gone : NodeId → Bool) → Tale o g → 2 < v → l.view < v → g.ballot x v ≡ None → g.bid x v ≡ None →
       ((y : NodeId) → gone y ≡ true → (u : ℕ) × (i : ℕ) × (e : E) × (v ≤ u) × Holds g y u i × Mark b g.led u i e) →
       ((u i : ℕ) → Holds g x u i → u < v) →
       ((u i : ℕ) (e : E) → u < v → Holds g x u i → Mark b g.led u i e → Covers l u i ⊎ Lost b g.chief g.led u i v) →
@@ -179,45 +179,45 @@ module _ {E Q G R A F : Type 0} {b : Book E Q G R A F} {s : Start E} (o : IsOpen
       }
 
   -- Candidate of the next view; gone are nodes that already went too far to vote for it there
-  stand_with : (x : NodeId) (g : Story E) (n : Node E) (gone : NodeId → Bool) → Tale o g → Good o g x n → may_stand b x n ≡ true →
+  stand_with : (x : NodeId) (g : Story E) (n : Node E) (gone : NodeId → Bool) → Tale o g → Good o g x n → may_campaign b x n ≡ true →
       ((y : NodeId) → gone y ≡ true → (v : ℕ) × (i : ℕ) × (e : E) × (n.view + 1 ≤ v) × Holds g y v i × Mark b g.led v i e) →
-      Below o g (signed_part b n.log) n.commit (n.view + 1) ⊎ ((p : ℕ) (m : List NodeId) → IsNewest b (signed_part b n.log) n.commit p m → majority gone m ≡ true) →
-      Reached o x g (candidate b x n) []
-  unfolding rise
+      Below o g (signed_prefix b n.log) n.commit (n.view + 1) ⊎ ((p : ℕ) (m : List NodeId) → IsNewest b (signed_prefix b n.log) n.commit p m → majority gone m ≡ true) →
+      Reached o x g (become_candidate b x n) []
+  unfolding enter_view
   stand_with x g n gone t z may far young = (h, record { grow = both.0; tale = both.1; good = good; sent = tt })
     where
       log : List E
-      log = signed_part b n.log
+      log = signed_prefix b n.log
 
-      risen : Good o g x (rise b (n.view + 1) n)
+      risen : Good o g x (enter_view b (n.view + 1) n)
       risen = good_rise g x n (n.view + 1) (omega arith) z
 
       h : Story E
-      h = told_stand x (n.view + 1) (last b (signed_part b n.log)) gone g
+      h = told_stand x (n.view + 1) (last_signature_position b (signed_prefix b n.log)) gone g
 
-      part : (i : ℕ) (e : E) → slice_get (signed_part b n.log) i ≡ Some e → slice_get n.log i ≡ Some e
+      part : (i : ℕ) (e : E) → slice_get (signed_prefix b n.log) i ≡ Some e → slice_get n.log i ≡ Some e
       part i e a = (get_take (last_signature b n.log) n.log i e a).1
 
-      fresh : (i : ℕ) (e : E) → slice_get (signed_part b n.log) i ≡ Some e → b.view_of e < n.view + 1
+      fresh : (i : ℕ) (e : E) → slice_get (signed_prefix b n.log) i ≡ Some e → b.view_of e < n.view + 1
       fresh i e a = omega (arith, (z.logged.bound.view i e (part i e a)).1)
 
-      less : (last b (signed_part b n.log)).view < n.view + 1
-      less = go (last_signature b (signed_part b n.log)) refl
+      less : (last_signature_position b (signed_prefix b n.log)).view < n.view + 1
+      less = go (last_signature b (signed_prefix b n.log)) refl
         where
-          go : (k : ℕ) → last_signature b (signed_part b n.log) ≡ k → (last b (signed_part b n.log)).view < n.view + 1
-          go zero d = omega (arith, last_zero b (signed_part b n.log) d)
-          go (suc k) d = let y = last_view_is b (signed_part b n.log) k d in omega (arith, y.2, fresh k y.0 y.1)
+          go : (k : ℕ) → last_signature b (signed_prefix b n.log) ≡ k → (last_signature_position b (signed_prefix b n.log)).view < n.view + 1
+          go zero d = omega (arith, last_zero b (signed_prefix b n.log) d)
+          go (suc k) d = let y = last_view_is b (signed_prefix b n.log) k d in omega (arith, y.2, fresh k y.0 y.1)
 
       both : Grows b.view_of x g h × Tale o h
-      both = tale_stand x g (n.view + 1) (last b (signed_part b n.log)) gone t (omega (arith, z.logged.positive)) less
+      both = tale_stand x g (n.view + 1) (last_signature_position b (signed_prefix b n.log)) gone t (omega (arith, z.logged.positive)) less
           (z.voter.later (n.view + 1) (omega arith)) (z.kept.unbid (n.view + 1) (omega arith)) far
           (λ u i f. ⊎_elim
           (λ (q : i < g.held x u). ⊎_elim (λ (r : n.view < u). absurd (omega (arith, z.kept.future u r))) (λ (r : u ≤ n.view). omega arith) (cases_lt n.view u))
           (λ (q : g.chief u ≡ Some x). omega (arith, z.voter.won u q)) f)
           (λ u i e d f m. ⊎_elim
           (λ (q : slice_get n.log i ≡ Some e).
-          let a : slice_get (signed_part b n.log) i ≡ Some e = signed_keeps b n.log i e q m.signs in
-          inl (subst (λ (w : ℕ). Covers (last b (signed_part b n.log)) w i) m.view (covers_last b (signed_part b n.log) i e (rising_of o g t (signed_part b n.log) risen.logged.matches) a m.signs)))
+          let a : slice_get (signed_prefix b n.log) i ≡ Some e = signed_keeps b n.log i e q m.signs in
+          inl (subst (λ (w : ℕ). Covers (last_signature_position b (signed_prefix b n.log)) w i) m.view (covers_last b (signed_prefix b n.log) i e (rising_of o g t (signed_prefix b n.log) risen.logged.matches) a m.signs)))
           (λ (q : Lost b g.chief g.led u i (suc n.view)). inr (lost_more b (grows_same b.view_of x g) u i (suc n.view) (n.view + 1) (omega arith) q))
           (z.kept.keeps u i e f m))
 
@@ -227,10 +227,10 @@ module _ {E Q G R A F : Type 0} {b : Book E Q G R A F} {s : Start E} (o : IsOpen
       open_ : (length s.opening ≤ last_signature b n.log) × (length s.opening ≤ n.commit)
       open_ = may_open g t x n z may
 
-      more : Commits o h x (n.view + 1) Follower (signed_part b n.log) n.commit n.base n.matched
-      more = commits_more o k x (n.view + 1) Follower (signed_part b n.log) n.commit n.base n.matched (λ r. absurd (cc)) risen.commits
+      more : Commits o h x (n.view + 1) Follower (signed_prefix b n.log) n.commit n.base n.matched
+      more = commits_more o k x (n.view + 1) Follower (signed_prefix b n.log) n.commit n.base n.matched (λ r. absurd (cc)) risen.commits
 
-      good : Good o h x (candidate b x n)
+      good : Good o h x (become_candidate b x n)
       good = record {
         voter = record {
           cast = put2_at g.ballot x (n.view + 1) (Some x);
@@ -242,7 +242,7 @@ module _ {E Q G R A F : Type 0} {b : Book E Q G R A F} {s : Start E} (o : IsOpen
         };
         logged = risen.logged;
         kept = record {
-          bid_is = λ r. put2_at g.bid x (n.view + 1) (Some (last b (signed_part b n.log)));
+          bid_is = λ r. put2_at g.bid x (n.view + 1) (Some (last_signature_position b (signed_prefix b n.log)));
           unbid = λ u a. let q = z.kept.unbid u (omega arith) in grind (arith, id_tests);
           fresh = λ r. fresh;
           ends = λ r. signed_ends b n.log;
@@ -256,8 +256,8 @@ module _ {E Q G R A F : Type 0} {b : Book E Q G R A F} {s : Start E} (o : IsOpen
           recorded = more.recorded;
           ruled = λ r. absurd (cc);
           young = λ r. ⊎_elim
-              (λ (q : Below o g (signed_part b n.log) n.commit (n.view + 1)). inl (q.0, q.1, sured_more o k (signed_part b n.log) n.commit q.0 q.2))
-              (λ (q : (p : ℕ) (m : List NodeId) → IsNewest b (signed_part b n.log) n.commit p m → majority gone m ≡ true).
+              (λ (q : Below o g (signed_prefix b n.log) n.commit (n.view + 1)). inl (q.0, q.1, sured_more o k (signed_prefix b n.log) n.commit q.0 q.2))
+              (λ (q : (p : ℕ) (m : List NodeId) → IsNewest b (signed_prefix b n.log) n.commit p m → majority gone m ≡ true).
               inr (λ p m a. ap (λ f. majority f m) (put2_at g.shut x (n.view + 1) gone) ∙ q p m a))
               young;
           opened = λ r. open_.1;
@@ -268,16 +268,16 @@ module _ {E Q G R A F : Type 0} {b : Book E Q G R A F} {s : Start E} (o : IsOpen
       }
 
   -- a node that may stand becomes a candidate of the next view
-  pub made_stand : (x : NodeId) (g : Story E) (n : Node E) → Tale o g → Good o g x n → may_stand b x n ≡ true → Reached o x g (candidate b x n) []
-  unfolding rise
+  pub made_stand : (x : NodeId) (g : Story E) (n : Node E) → Tale o g → Good o g x n → may_campaign b x n ≡ true → Reached o x g (become_candidate b x n) []
+  unfolding enter_view
   made_stand x g n t z may = ⊎_elim
-      (λ (q : Below o g (signed_part b n.log) n.commit (n.view + 1)). stand_with x g n (λ y. false) t z may (λ y a. absurd (cc)) (inl q))
-      (λ (q : (gone : NodeId → Bool) × ((p : ℕ) (m : List NodeId) → IsNewest b (signed_part b n.log) n.commit p m → majority gone m ≡ true) × ((y : NodeId) → gone y ≡ true → (v : ℕ) × (i : ℕ) × (e : E) × (n.view + 1 ≤ v) × Holds g y v i × Mark b g.led v i e)).
+      (λ (q : Below o g (signed_prefix b n.log) n.commit (n.view + 1)). stand_with x g n (λ y. false) t z may (λ y a. absurd (cc)) (inl q))
+      (λ (q : (gone : NodeId → Bool) × ((p : ℕ) (m : List NodeId) → IsNewest b (signed_prefix b n.log) n.commit p m → majority gone m ≡ true) × ((y : NodeId) → gone y ≡ true → (v : ℕ) × (i : ℕ) × (e : E) × (n.view + 1 ≤ v) × Holds g y v i × Mark b g.led v i e)).
       stand_with x g n q.0 t z may q.2 (inr q.1))
-      (descend o g t (n.view + 1) (omega (arith, z.logged.positive)) sure_c.1.0 (signed_part b n.log) n.commit sure_c.0 risen.logged.matches (settled o sure_c.1.0 n.commit sure_c.0 g (signed_part b n.log) (may_open g t x n z may).1 sure_c.1.1))
+      (descend o g t (n.view + 1) (omega (arith, z.logged.positive)) sure_c.1.0 (signed_prefix b n.log) n.commit sure_c.0 risen.logged.matches (settled o sure_c.1.0 n.commit sure_c.0 g (signed_prefix b n.log) (may_open g t x n z may).1 sure_c.1.1))
     where
-      risen : Good o g x (rise b (n.view + 1) n)
+      risen : Good o g x (enter_view b (n.view + 1) n)
       risen = good_rise g x n (n.view + 1) (omega arith) z
 
-      sure_c : Settled o g (signed_part b n.log) n.commit
-      sure_c = settled_of o g x (n.view + 1) Follower (signed_part b n.log) n.commit n.base n.matched risen.commits
+      sure_c : Settled o g (signed_prefix b n.log) n.commit
+      sure_c = settled_of o g x (n.view + 1) Follower (signed_prefix b n.log) n.commit n.base n.matched risen.commits

@@ -6,7 +6,7 @@ use Rattle.gl_rules.specs.Book.{Book}
 use Rattle.gl_rules.specs.Node.{Node}
 use Rattle.gl_rules.specs.Log.{entry_at}
 use Rattle.gl_rules.specs.World.{Start, Event, World, begin, after}
-use Rattle.gl_rules.specs.Safety.{IsOpening, IsLawful, EachFollows, IsPrefixOf, committed, Agree, node_after, view_of, named, commit_id, reported}
+use Rattle.gl_rules.specs.Safety.{IsOpening, IsLawful, EachFollows, IsPrefixOf, committed_ledger, Agree, node_after, view_of, id_at, commit_id, reported_status}
 use Rattle.gl_safety.proofs.Lists.{there, within, get_take, take_get, get_left}
 use Rattle.gl_safety.proofs.Story.{Story}
 use Rattle.gl_safety.proofs.Certificates.{SureOver, Cert}
@@ -47,10 +47,10 @@ module _ {E Q G R A F : Type 0} {b : Book E Q G R A F} {s : Start E} (o : IsOpen
   -- what two nodes have both committed
   at_both : (m n : Node E) (i : ℕ) (e : E) → Agree b m n → n.commit ≤ length n.log → i < m.commit → i < n.commit → slice_get m.log i ≡ Some e → slice_get n.log i ≡ Some e
   at_both m n i e p w h k a = ⊎_elim
-      (λ (q : IsPrefixOf (committed m) (committed n)). (get_take n.commit n.log i e (prefix_get (committed m) (committed n) i e q (take_get m.commit m.log i e h a))).1)
-      (λ (q : IsPrefixOf (committed n) (committed m)).
+      (λ (q : IsPrefixOf (committed_ledger m) (committed_ledger n)). (get_take n.commit n.log i e (prefix_get (committed_ledger m) (committed_ledger n) i e q (take_get m.commit m.log i e h a))).1)
+      (λ (q : IsPrefixOf (committed_ledger n) (committed_ledger m)).
       let y = there n.log i (omega arith) in
-      let c = (get_take m.commit m.log i y.0 (prefix_get (committed n) (committed m) i y.0 q (take_get n.commit n.log i y.0 k y.1))).1 in
+      let c = (get_take m.commit m.log i y.0 (prefix_get (committed_ledger n) (committed_ledger m) i y.0 q (take_get n.commit n.log i y.0 k y.1))).1 in
       let same : y.0 ≡ e = let d = sym c ∙ a in cc in
       y.1 ∙ ap Some same)
       p
@@ -58,11 +58,11 @@ module _ {E Q G R A F : Type 0} {b : Book E Q G R A F} {s : Start E} (o : IsOpen
   -- the identifier of commit
   commit_is : (n : Node E) (i : ℕ) (e : E) → n.commit ≡ suc i → slice_get n.log i ≡ Some e → (commit_seqno (commit_id b n) ≡ suc i) × (commit_view (commit_id b n) ≡ b.view_of e)
   commit_is n i e d a =
-      let c : commit_id b n ≡ Some (record { view = b.view_of e; seqno = suc i }) = ap (λ k. named b k (view_of b (entry_at n.log k))) d ∙ ap (λ m. named b (suc i) (view_of b m)) a in
+      let c : commit_id b n ≡ Some (record { view = b.view_of e; seqno = suc i }) = ap (λ k. id_at b k (view_of b (entry_at n.log k))) d ∙ ap (λ m. id_at b (suc i) (view_of b m)) a in
       (ap commit_seqno c, ap commit_view c)
 
   none_is : (n : Node E) → n.commit ≡ 0 → (commit_seqno (commit_id b n) ≡ 0) × (commit_view (commit_id b n) ≡ 0)
-  none_is n d = let c : commit_id b n ≡ None = ap (λ k. named b k (view_of b (entry_at n.log k))) d in (ap commit_seqno c, ap commit_view c)
+  none_is n d = let c : commit_id b n ≡ None = ap (λ k. id_at b k (view_of b (entry_at n.log k))) d in (ap commit_seqno c, ap commit_view c)
 
   held_is : (l : List E) (id : TxId) → is_held id (view_of b (entry_at l id.seqno)) ≡ true → (i : ℕ) × (e : E) × (id.seqno ≡ suc i) × (slice_get l i ≡ Some e) × (b.view_of e ≡ id.view)
   held_is l id a = go id.seqno refl a
@@ -78,11 +78,11 @@ module _ {E Q G R A F : Type 0} {b : Book E Q G R A F} {s : Start E} (o : IsOpen
   held_again : (l : List E) (id : TxId) (i : ℕ) (e : E) → id.seqno ≡ suc i → slice_get l i ≡ Some e → b.view_of e ≡ id.view → is_held id (view_of b (entry_at l id.seqno)) ≡ true
   held_again l id i e d a v = ap (λ k. is_held id (view_of b (entry_at l k))) d ∙ ap (λ m. is_held id (view_of b m)) a ∙ grind (arith, nat_tests)
 
-  -- a node's commit is a place of its log
+  -- a node's commit is a seqno of its log
   place_of : (w : World E) (g : Story E) → Holding o la w g → (x : NodeId) → ((w.nodes x).commit ≡ 0) ⊎ ((i : ℕ) × (e : E) × ((w.nodes x).commit ≡ suc i) × (slice_get (w.nodes x).log i ≡ Some e))
   place_of w g k x =
       let c = settled_at o la w g k x in
-      ⊎_elim (λ (q : (w.nodes x).commit ≡ 0). inl q) (λ (q : SureOver o (Cert o (c.1).0 g) g (w.nodes x).log (w.nodes x).commit c.0). inr (q.i, q.entry, q.place, q.at)) (c.1).1
+      ⊎_elim (λ (q : (w.nodes x).commit ≡ 0). inl q) (λ (q : SureOver o (Cert o (c.1).0 g) g (w.nodes x).log (w.nodes x).commit c.0). inr (q.i, q.entry, q.seqno, q.at)) (c.1).1
 
   seqno_is : (w : World E) (g : Story E) → Holding o la w g → (x : NodeId) → commit_seqno (commit_id b (w.nodes x)) ≡ (w.nodes x).commit
   seqno_is w g k x = ⊎_elim
@@ -91,7 +91,7 @@ module _ {E Q G R A F : Type 0} {b : Book E Q G R A F} {s : Start E} (o : IsOpen
       (place_of w g k x)
 
   -- never both
-  apart : (v w : World E) (g h : Story E) → Holding o la v g → Holding o la w h → (x y : NodeId) (id : TxId) → Agree b (v.nodes x) (w.nodes y) → reported b (v.nodes x) id ≡ Committed → reported b (w.nodes y) id ≡ Invalid → ⊥
+  apart : (v w : World E) (g h : Story E) → Holding o la v g → Holding o la w h → (x y : NodeId) (id : TxId) → Agree b (v.nodes x) (w.nodes y) → reported_status b (v.nodes x) id ≡ Committed → reported_status b (w.nodes y) id ≡ Invalid → ⊥
   apart v w g h k l x y id p a c = ⊎_elim below above r.1
     where
       m : Node E
@@ -137,7 +137,7 @@ module _ {E Q G R A F : Type 0} {b : Book E Q G R A F} {s : Start E} (o : IsOpen
           (λ (d : (i : ℕ) × (f : E) × ((w.nodes y).commit ≡ suc i) × (slice_get (w.nodes y).log i ≡ Some f)). later d.0 d.1 d.2 d.3 z)
           (place_of w h l y)
 
-  pub status : (es : List (Event Q G R)) (i j : ℕ) (x y : NodeId) (id : TxId) → reported b (node_after b s (take i es) x) id ≡ Committed → reported b (node_after b s (take j es) y) id ≡ Invalid → ⊥
+  pub status : (es : List (Event Q G R)) (i j : ℕ) (x y : NodeId) (id : TxId) → reported_status b (node_after b s (take i es) x) id ≡ Committed → reported_status b (node_after b s (take j es) y) id ≡ Invalid → ⊥
   status es i j x y id =
       let p = onward_run o la (take i es) (begin s) (first_story o la) (holding_first o la) in
       let q = onward_run o la (take j es) (begin s) (first_story o la) (holding_first o la) in

@@ -2,7 +2,7 @@
 -- never reads it. Every invariant is about one node and the story, one message and the story, or the story alone.
 use Rattle.std.proofs.Common.{◌≡◌, ◌≢◌, ◌⊎◌, inl, inr, ⊎_elim, ℕ, ◌≤◌, ◌<◌, max, List, [], Bool, true, false, ◌==◌, if◌then◌else◌, Option, Some, None, slice_get, refl, ◌∙◌, arith}
 use Rattle.gl_rules.specs.Identity.{NodeId}
-use Rattle.gl_rules.specs.Message.{Last}
+use Rattle.gl_rules.specs.Message.{Position}
 use Rattle.gl_safety.proofs.Ids.{put2, id_tests}
 
 pub record Story (E : Type 0) : Type 0 where
@@ -15,8 +15,8 @@ pub record Story (E : Type 0) : Type 0 where
   -- by view: the log of its leader, as far as it got
   pub led : ℕ → List E
   -- by candidate and view: with which last signature it stood
-  pub bid : NodeId → ℕ → Option Last
-  -- by node and view: up to which place it acknowledged
+  pub bid : NodeId → ℕ → Option Position
+  -- by node and view: up to which seqno it acknowledged
   pub held : NodeId → ℕ → ℕ
   -- by candidate and view: nodes that, when it stood, had gone too far ever to vote for it there
   pub shut : NodeId → ℕ → NodeId → Bool
@@ -34,7 +34,7 @@ module _ {E : Type 0} where
   abbrev pub told_ballot : NodeId → ℕ → NodeId → Story E → Story E
   told_ballot x v c g = record g { ballot = put2 g.ballot x v (Some c); early = put2 g.early x v (early_by (g.ballot x v) (g.chief v) (g.early x v)) }
 
-  abbrev pub told_stand : NodeId → ℕ → Last → (NodeId → Bool) → Story E → Story E
+  abbrev pub told_stand : NodeId → ℕ → Position → (NodeId → Bool) → Story E → Story E
   told_stand x v l gone g = record (told_ballot x v x g) { bid = put2 g.bid x v (Some l); shut = put2 g.shut x v gone }
 
   abbrev pub told_led : ℕ → List E → Story E → Story E
@@ -58,7 +58,7 @@ pub record Grows {E : Type 0} (view_of : E → ℕ) (x : NodeId) (g h : Story E)
   pub led : (v i : ℕ) (e : E) → slice_get (g.led v) i ≡ Some e → slice_get (h.led v) i ≡ Some e
   pub led_of : (v : ℕ) (c : NodeId) → c ≢ x → g.chief v ≡ Some c → h.led v ≡ g.led v
   pub fresh : (v : ℕ) (c : NodeId) (i : ℕ) (e : E) → g.chief v ≡ Some c → slice_get (h.led v) i ≡ Some e → (slice_get (g.led v) i ≡ Some e) ⊎ (view_of e ≡ v)
-  pub bid : (y : NodeId) (v : ℕ) (l : Last) → g.bid y v ≡ Some l → h.bid y v ≡ Some l
+  pub bid : (y : NodeId) (v : ℕ) (l : Position) → g.bid y v ≡ Some l → h.bid y v ≡ Some l
   pub bid_of : (y : NodeId) (v : ℕ) → y ≢ x → h.bid y v ≡ g.bid y v
   pub held : (y : NodeId) (v : ℕ) → g.held y v ≤ h.held y v
   pub held_of : (y : NodeId) (v : ℕ) → y ≢ x → h.held y v ≡ g.held y v
@@ -112,7 +112,7 @@ module _ {E : Type 0} (view_of : E → ℕ) where
       unbid : (c : NodeId) (v : ℕ) → h.bid c v ≡ None → g.bid c v ≡ None
       unbid c v e = go (g.bid c v) refl
         where
-          go : (m : Option Last) → g.bid c v ≡ m → m ≡ None
+          go : (m : Option Position) → g.bid c v ≡ m → m ≡ None
           go None z = refl
           go (Some l) z = absurd (let t = p.bid c v l z in cc)
 
@@ -137,7 +137,7 @@ module _ {E : Type 0} (view_of : E → ℕ) where
     shut_new = λ d u y e. inl e;
   }
 
-  pub grows_stand : (x : NodeId) (v : ℕ) (l : Last) (gone : NodeId → Bool) (g : Story E) → 2 < v → g.ballot x v ≡ None → g.bid x v ≡ None → ((y : NodeId) → g.shut x v y ≡ false) → Grows view_of x g (told_stand x v l gone g)
+  pub grows_stand : (x : NodeId) (v : ℕ) (l : Position) (gone : NodeId → Bool) (g : Story E) → 2 < v → g.ballot x v ≡ None → g.bid x v ≡ None → ((y : NodeId) → g.shut x v y ≡ false) → Grows view_of x g (told_stand x v l gone g)
   grows_stand x v l gone g high unvoted unbid unshut = record {
     ballot = λ y u d e. grind (arith, id_tests);
     ballot_of = λ y u d. grind (arith, id_tests);

@@ -6,13 +6,13 @@ use Rattle.gl_rules.specs.Node.{Node, Role, Follower, Candidate, Leader}
 use Rattle.gl_rules.specs.Message.{Message}
 use Rattle.gl_rules.specs.Outcome.{Outcome, Step, Refusal, Refused}
 use Rattle.gl_rules.specs.Outcome as outcome
-use Rattle.gl_rules.specs.Log.{entry_at}
+use Rattle.gl_rules.specs.Log.{entry_at, is_signature_in}
 use Rattle.gl_rules.specs.Configuration.{configurations_above, active, in_some}
-use Rattle.gl_rules.specs.Steps.{has_votes, standing_by, led_by, if_leader}
-use Rattle.gl_rules.specs.Elections.{may_stand, candidate, stands, last_view, timeout_as, timeout, steps_down, step_down}
-use Rattle.gl_rules.specs.Replication.{greatest_to_commit, commits, advance, restart, snapshot_of, installs, install, is_peer, sends, next_of, append_from, replicate}
-use Rattle.gl_rules.specs.Requests.{pending_limit, last_count, enters, executes, submit, unless_conflict, finishes, finish, removed_late, marked, if_markable, governs, govern, reserve, signs_for, signed, signs, sign, evident, evidence}
-use Rattle.gl_rules.specs.World.{Event, Timeout, Deliver, Submit, Finish, Govern, Reserve, Sign, Evidence, Replicate, Advance, StepDown, Restart, Install, World, at, answer_as, risen, kept_by, on_message, delivered, happens}
+use Rattle.gl_rules.specs.Steps.{has_votes, campaign_outcome, as_leader, if_leader, update_view}
+use Rattle.gl_rules.specs.Elections.{may_campaign, become_candidate, campaign, last_view, timeout_as, timeout, hand_over, step_down}
+use Rattle.gl_rules.specs.Replication.{greatest_to_commit, commit_to, advance, restart, snapshot_of, install_snapshot, install, is_peer, send_append, next_of, append_message, replicate}
+use Rattle.gl_rules.specs.Requests.{pending_limit, last_count, append_result, execute_request, submit, unless_conflict, finish_as_leader, finish, if_removal_committed, unless_mark_refused, if_markable, govern_as_leader, govern, reserve, append_signature, sign_as_leader, sign, append_evidence, evidence}
+use Rattle.gl_rules.specs.World.{Event, Timeout, Deliver, Submit, Finish, Govern, Reserve, Sign, Evidence, Replicate, Advance, StepDown, Restart, Install, World, at, answer_as, undo_if_refused, on_message, deliver, happens}
 use Rattle.gl_rules.specs.Safety.{LeavesAll}
 use Rattle.gl_safety.proofs.Ids.{by_test, put_all}
 use Rattle.gl_safety.proofs.Lists.{append_none}
@@ -25,7 +25,7 @@ module _ {E Q G R A F : Type 0} (b : Book E Q G R A F) where
   leader_keeps : (n : Node E) (step : Step E A F) → Keeps n step → Keeps n (if_leader n step)
   leader_keeps n step k = go n.role
     where
-      go : (r : Role) → Keeps n (led_by r n step)
+      go : (r : Role) → Keeps n (as_leader r n step)
       go Leader = k
       go Candidate = λ why e. (refl, refl)
       go Follower = λ why e. (refl, refl)
@@ -34,21 +34,21 @@ module _ {E Q G R A F : Type 0} (b : Book E Q G R A F) where
   unfolding timeout
   timeout_keeps x n = go n.role
     where
-      stood : (m : Bool) (why : Refusal F) → standing_by b m ≡ Refused why → (⊥)
+      stood : (m : Bool) (why : Refusal F) → campaign_outcome b m ≡ Refused why → (⊥)
       stood true why e = cc
       stood false why e = cc
 
-      allowed : (m l : Bool) → Keeps n (if m then (if l then outcome.refuse n outcome.ViewLimit else stands b x (candidate b x n)) else outcome.idle n)
+      allowed : (m l : Bool) → Keeps n (if m then (if l then outcome.refuse n outcome.ViewLimit else campaign b x (become_candidate b x n)) else outcome.idle n)
       allowed true true = λ why e. (refl, refl)
-      allowed true false = λ why e. absurd (stood (has_votes b (candidate b x n)) why e)
+      allowed true false = λ why e. absurd (stood (has_votes b (become_candidate b x n)) why e)
       allowed false l = λ why e. (refl, refl)
 
       go : (r : Role) → Keeps n (timeout_as b r x n)
       go Leader = λ why e. (refl, refl)
-      go Candidate = allowed (may_stand b x n) (n.view == last_view)
-      go Follower = allowed (may_stand b x n) (n.view == last_view)
+      go Candidate = allowed (may_campaign b x n) (n.view == last_view)
+      go Follower = allowed (may_campaign b x n) (n.view == last_view)
 
-  kept_keeps : (n : Node E) (w : Outcome A F) (step : Step E A F) → step.outcome ≡ w → Keeps n (kept_by w n step)
+  kept_keeps : (n : Node E) (w : Outcome A F) (step : Step E A F) → step.outcome ≡ w → Keeps n (undo_if_refused w n step)
   kept_keeps n (Refused why) step d = λ y e. (refl, refl)
   kept_keeps n outcome.Done step d = λ y e. absurd (let z = sym d ∙ e in cc)
   kept_keeps n outcome.Idle step d = λ y e. absurd (let z = sym d ∙ e in cc)
@@ -60,49 +60,49 @@ module _ {E Q G R A F : Type 0} (b : Book E Q G R A F) where
 
   message_keeps : (m : Message E) (n : Node E) → Keeps n (on_message b m n)
   unfolding on_message
-  message_keeps m n = kept_keeps n (answer_as b m.body m.receiver m.sender m.view (risen b m.view n)).outcome (answer_as b m.body m.receiver m.sender m.view (risen b m.view n)) refl
+  message_keeps m n = kept_keeps n (answer_as b m.body m.receiver m.sender m.view (update_view b m.view n)).outcome (answer_as b m.body m.receiver m.sender m.view (update_view b m.view n)) refl
 
   step_down_keeps : (x y : NodeId) (n : Node E) → Keeps n (step_down b x y n)
   unfolding step_down
-  step_down_keeps x y n = leader_keeps n (if not (same y x) && in_some y (active b n.log n.commit) then steps_down b x y n else outcome.refuse n outcome.NotPeer) (go (not (same y x) && in_some y (active b n.log n.commit)))
+  step_down_keeps x y n = leader_keeps n (if not (same y x) && in_some y (active b n.log n.commit) then hand_over b x y n else outcome.refuse n outcome.NotPeer) (go (not (same y x) && in_some y (active b n.log n.commit)))
     where
-      go : (m : Bool) → Keeps n (if m then steps_down b x y n else outcome.refuse n outcome.NotPeer)
+      go : (m : Bool) → Keeps n (if m then hand_over b x y n else outcome.refuse n outcome.NotPeer)
       go true = λ why e. absurd (cc)
       go false = λ why e. (refl, refl)
 
-  enters_keeps : (n : Node E) (m : Result (E × A) F) → Keeps n (enters b n m)
+  enters_keeps : (n : Node E) (m : Result (E × A) F) → Keeps n (append_result b n m)
   enters_keeps n (Err why) = λ y e. (refl, refl)
   enters_keeps n (Ok made) = λ y e. absurd (cc)
 
   submit_keeps : (q : Q) (n : Node E) → Keeps n (submit b q n)
   unfolding submit
-  submit_keeps q n = leader_keeps n (executes b q n) (enters_keeps n (b.execute n.log n.view q))
+  submit_keeps q n = leader_keeps n (execute_request b q n) (enters_keeps n (b.execute n.log n.view q))
 
   finish_keeps : (len cuts : ℕ) (reads : R) (q : Q) (n : Node E) → Keeps n (finish b len cuts reads q n)
   unfolding finish
-  finish_keeps len cuts reads q n = leader_keeps n (finishes b len cuts reads q n) (go (not (n.cuts == cuts) || (n.cuts == last_count)) (b.conflict n.log len reads))
+  finish_keeps len cuts reads q n = leader_keeps n (finish_as_leader b len cuts reads q n) (go (not (n.cuts == cuts) || (n.cuts == last_count)) (b.conflict n.log len reads))
     where
-      go : (m : Bool) (c : Option F) → Keeps n (if m then outcome.refuse n (outcome.RolledBack cuts n.cuts) else unless_conflict b c n (executes b q n))
+      go : (m : Bool) (c : Option F) → Keeps n (if m then outcome.refuse n (outcome.RolledBack cuts n.cuts) else unless_conflict b c n (execute_request b q n))
       go true c = λ why e. (refl, refl)
       go false None = enters_keeps n (b.execute n.log n.view q)
       go false (Some y) = λ why e. (refl, refl)
 
   govern_keeps : (q : G) (n : Node E) → Keeps n (govern b q n)
   unfolding govern
-  govern_keeps q n = leader_keeps n (governs b q n) (go (nat_le pending_limit (length (configurations_above b n.log n.commit (length n.log)))) (b.marks q))
+  govern_keeps q n = leader_keeps n (govern_as_leader b q n) (go (nat_le pending_limit (length (configurations_above b n.log n.commit (length n.log)))) (b.marked_node q))
     where
-      late : (m : Option ℕ) → Keeps n (removed_late b m n (enters b n (b.govern n.log n.view q)))
+      late : (m : Option ℕ) → Keeps n (if_removal_committed b m n (append_result b n (b.govern n.log n.view q)))
       late None = enters_keeps n (b.govern n.log n.view q)
-      late (Some place) = by_test (Keeps n) (nat_lt n.commit place) (outcome.refuse n (outcome.RemovalNotCommitted place n.commit)) (enters b n (b.govern n.log n.view q)) (λ d why e. (refl, refl)) (λ d. enters_keeps n (b.govern n.log n.view q))
+      late (Some seqno) = by_test (Keeps n) (nat_lt n.commit seqno) (outcome.refuse n (outcome.RemovalNotCommitted seqno n.commit)) (append_result b n (b.govern n.log n.view q)) (λ d why e. (refl, refl)) (λ d. enters_keeps n (b.govern n.log n.view q))
 
-      inner : (y : NodeId) (m : Option F) → Keeps n (marked b m y n (enters b n (b.govern n.log n.view q)))
+      inner : (y : NodeId) (m : Option F) → Keeps n (unless_mark_refused b m y n (append_result b n (b.govern n.log n.view q)))
       inner y (Some w) = λ why e. (refl, refl)
       inner y None = late (b.removal n.log y)
 
-      go : (m : Bool) (c : Option NodeId) → Keeps n (if m then outcome.refuse n (outcome.TooManyPending pending_limit) else if_markable b c n (enters b n (b.govern n.log n.view q)))
+      go : (m : Bool) (c : Option NodeId) → Keeps n (if m then outcome.refuse n (outcome.TooManyPending pending_limit) else if_markable b c n (append_result b n (b.govern n.log n.view q)))
       go true c = λ why e. (refl, refl)
       go false None = enters_keeps n (b.govern n.log n.view q)
-      go false (Some y) = inner y (b.unmarkable n.log y)
+      go false (Some y) = inner y (b.mark_refusal n.log y)
 
   reserve_keeps : (x : NodeId) (n : Node E) → Keeps n (reserve b x n)
   unfolding reserve
@@ -110,9 +110,9 @@ module _ {E Q G R A F : Type 0} (b : Book E Q G R A F) where
 
   sign_keeps : (x : NodeId) (n : Node E) → Keeps n (sign b x n)
   unfolding sign
-  sign_keeps x n = leader_keeps n (signs b x n) (go (n.used == n.reserved) (signs_for b n.view (entry_at n.log (length n.log))) (b.sign x n.used n.log n.view n.commit))
+  sign_keeps x n = leader_keeps n (sign_as_leader b x n) (go (n.used == n.reserved) (is_signature_in b n.view (entry_at n.log (length n.log))) (b.sign x n.used n.log n.view n.commit))
     where
-      go : (p q : Bool) (m : Result E F) → Keeps n (if p then outcome.refuse n (outcome.NotReserved n.reserved) else (if q then outcome.refuse n (outcome.NothingToSign (length n.log)) else signed b n m))
+      go : (p q : Bool) (m : Result E F) → Keeps n (if p then outcome.refuse n (outcome.NotReserved n.reserved) else (if q then outcome.refuse n (outcome.NothingToSign (length n.log)) else append_signature b n m))
       go true q m = λ why e. (refl, refl)
       go false true m = λ why e. (refl, refl)
       go false false (Err w) = λ why e. (refl, refl)
@@ -120,26 +120,26 @@ module _ {E Q G R A F : Type 0} (b : Book E Q G R A F) where
 
   evidence_keeps : (n : Node E) → Keeps n (evidence b n)
   unfolding evidence
-  evidence_keeps n = leader_keeps n (evident b n (b.evidence n.log n.view)) (go (b.evidence n.log n.view))
+  evidence_keeps n = leader_keeps n (append_evidence b n (b.evidence n.log n.view)) (go (b.evidence n.log n.view))
     where
-      go : (m : Result E F) → Keeps n (evident b n m)
+      go : (m : Result E F) → Keeps n (append_evidence b n m)
       go (Err w) = λ why e. (refl, refl)
       go (Ok f) = λ why e. absurd (cc)
 
   replicate_keeps : (x y : NodeId) (n : Node E) → Keeps n (replicate b x y n)
   unfolding replicate
-  replicate_keeps x y n = leader_keeps n (if is_peer b x y n then sends b x y (next_of b n y - 1) n else outcome.refuse n outcome.NotPeer)
-      (by_test (Keeps n) (is_peer b x y n) (sends b x y (next_of b n y - 1) n) (outcome.refuse n outcome.NotPeer)
-      (λ d. by_test (Keeps n) (nat_lt (next_of b n y - 1) n.base) (outcome.refuse n (outcome.BelowBase n.base)) (record { node = n; sent = append_from b x y (next_of b n y - 1) n ∷ []; outcome = outcome.Done }) (λ f why e. (refl, refl)) (λ f why e. absurd (cc)))
+  replicate_keeps x y n = leader_keeps n (if is_peer b x y n then send_append b x y (next_of b n y - 1) n else outcome.refuse n outcome.NotPeer)
+      (by_test (Keeps n) (is_peer b x y n) (send_append b x y (next_of b n y - 1) n) (outcome.refuse n outcome.NotPeer)
+      (λ d. by_test (Keeps n) (nat_lt (next_of b n y - 1) n.base) (outcome.refuse n (outcome.BelowBase n.base)) (record { node = n; sent = append_message b x y (next_of b n y - 1) n ∷ []; outcome = outcome.Done }) (λ f why e. (refl, refl)) (λ f why e. absurd (cc)))
       (λ d why e. (refl, refl)))
 
   advance_keeps : (x : NodeId) (n : Node E) → Keeps n (advance b x n)
   unfolding advance
-  advance_keeps x n = leader_keeps n (commits b n (greatest_to_commit b x n (length n.log))) (go (greatest_to_commit b x n (length n.log)))
+  advance_keeps x n = leader_keeps n (commit_to b n (greatest_to_commit b x n (length n.log))) (go (greatest_to_commit b x n (length n.log)))
     where
-      go : (m : Option ℕ) → Keeps n (commits b n m)
+      go : (m : Option ℕ) → Keeps n (commit_to b n m)
       go None = λ why e. (refl, refl)
-      go (Some place) = λ why e. absurd (cc)
+      go (Some seqno) = λ why e. absurd (cc)
 
   restart_keeps : (n : Node E) → Keeps n (restart b n)
   unfolding restart
@@ -147,9 +147,9 @@ module _ {E Q G R A F : Type 0} (b : Book E Q G R A F) where
 
   install_keeps : (m n : Node E) → Keeps n (install b m n)
   unfolding install
-  install_keeps m n = by_test (Keeps n) (length n.log == 0) (installs b m (snapshot_of b m) n) (outcome.idle n) (λ d. go (snapshot_of b m)) (λ d why e. (refl, refl))
+  install_keeps m n = by_test (Keeps n) (length n.log == 0) (install_snapshot b m (snapshot_of b m) n) (outcome.idle n) (λ d. go (snapshot_of b m)) (λ d why e. (refl, refl))
     where
-      go : (k : Option ℕ) → Keeps n (installs b m k n)
+      go : (k : Option ℕ) → Keeps n (install_snapshot b m k n)
       go None = λ why e. (refl, refl)
       go (Some i) = λ why e. absurd (cc)
 
@@ -167,7 +167,7 @@ module _ {E Q G R A F : Type 0} (b : Book E Q G R A F) where
   leaves_all w (Timeout x) why d = at_keeps w x (timeout b x (w.nodes x)) why (timeout_keeps x (w.nodes x)) d
   leaves_all w (Deliver which) why d = go (slice_get w.sent which) d
     where
-      go : (m : Option (Message E)) → (delivered b w m).outcome ≡ Refused why → LeavesAll w (delivered b w m).world
+      go : (m : Option (Message E)) → (deliver b w m).outcome ≡ Refused why → LeavesAll w (deliver b w m).world
       go None e = absurd (cc)
       go (Some m) e = at_keeps w m.receiver (on_message b m (w.nodes m.receiver)) why (message_keeps m (w.nodes m.receiver)) e
   leaves_all w (Submit x q) why d = at_keeps w x (submit b q (w.nodes x)) why (submit_keeps q (w.nodes x)) d

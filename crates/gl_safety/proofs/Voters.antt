@@ -4,10 +4,10 @@ use Rattle.std.proofs.lemmas.Bool.Decides.{nat_tests}
 use Rattle.gl_rules.specs.Identity.{NodeId, same}
 use Rattle.gl_rules.specs.Book.{Book}
 use Rattle.gl_rules.specs.Node.{Node, Role, Follower, Candidate, Leader}
-use Rattle.gl_rules.specs.Message.{Last, RequestVote, VoteReply, ProposeVote}
-use Rattle.gl_rules.specs.Log.{is_at_least, last}
+use Rattle.gl_rules.specs.Message.{Position, RequestVote, VoteReply, ProposeVote}
+use Rattle.gl_rules.specs.Log.{is_up_to_date, last_signature_position}
 use Rattle.gl_rules.specs.Configuration.{active, in_some, others}
-use Rattle.gl_rules.specs.Steps.{has_votes, won_by, win, led_by, if_leader}
+use Rattle.gl_rules.specs.Steps.{has_votes, lead_if, lead_if_elected, as_leader, if_leader}
 use Rattle.gl_rules.specs.World.{Start}
 use Rattle.gl_rules.specs.Safety.{IsOpening, IsLawful, EachFollows}
 use Rattle.gl_safety.proofs.Ids.{by_test}
@@ -15,7 +15,7 @@ use Rattle.gl_safety.proofs.Story.{Story, grows_then}
 use Rattle.gl_safety.proofs.Certificates.{Tale}
 use Rattle.gl_safety.proofs.Invariants.{Good, BodySent, AllSent, Reached, made_same}
 use Rattle.gl_rules.specs.Outcome.{Step, refuse, idle, NotPeer, ViewLimit}
-use Rattle.gl_rules.specs.Elections.{free_for, may_stand, candidate, stands, stands_if_allowed, last_view, timeout_as, timeout, reply_to_request, on_request_vote, with_vote, counts, vote_reply_as, on_vote_reply, on_propose_vote, steps_down, step_down}
+use Rattle.gl_rules.specs.Elections.{may_vote_for, may_campaign, become_candidate, campaign, campaign_if_allowed, last_view, timeout_as, timeout, reply_to_vote_request, on_request_vote, add_vote, count_votes, vote_reply_as, on_vote_reply, on_propose_vote, hand_over, step_down}
 use Rattle.gl_safety.proofs.Standing.{made_stand}
 use Rattle.gl_safety.proofs.Winning.{made_win}
 use Rattle.gl_safety.proofs.Voting.{made_vote, good_count}
@@ -29,35 +29,35 @@ module _ {E Q G R A F : Type 0} {b : Book E Q G R A F} {s : Start E} (o : IsOpen
   pub stay : (x : NodeId) (g : Story E) (n : Node E) → Tale o g → Good o g x n → Reached o x g n []
   stay x g n t z = (g, made_same o x g n [] t z tt)
 
-  pub reached_win : (x : NodeId) (g : Story E) (n : Node E) → Tale o g → Good o g x n → n.role ≡ Candidate → Reached o x g (win b n) []
-  unfolding win
+  pub reached_win : (x : NodeId) (g : Story E) (n : Node E) → Tale o g → Good o g x n → n.role ≡ Candidate → Reached o x g (lead_if_elected b n) []
+  unfolding lead_if_elected
   reached_win x g n t z r = go (has_votes b n) refl
     where
-      go : (m : Bool) → has_votes b n ≡ m → Reached o x g (won_by b m n) []
+      go : (m : Bool) → has_votes b n ≡ m → Reached o x g (lead_if b m n) []
       go true d = made_win o la x g n t z r d
       go false d = stay x g n t z
 
-  all_requests : (x : NodeId) (h : Story E) (v : ℕ) (l : Last) → h.bid x v ≡ Some l → (ys : List NodeId) → AllSent o h (map (λ y. record { sender = x; receiver = y; view = v; body = RequestVote l }) ys)
+  all_requests : (x : NodeId) (h : Story E) (v : ℕ) (l : Position) → h.bid x v ≡ Some l → (ys : List NodeId) → AllSent o h (map (λ y. record { sender = x; receiver = y; view = v; body = RequestVote l }) ys)
   all_requests x h v l a [] = tt
   all_requests x h v l a (y ∷ ys) = (a, all_requests x h v l a ys)
 
-  reached_stands : (x : NodeId) (g : Story E) (n : Node E) → Tale o g → Good o g x n → may_stand b x n ≡ true → By x g (stands b x (candidate b x n))
+  reached_stands : (x : NodeId) (g : Story E) (n : Node E) → Tale o g → Good o g x n → may_campaign b x n ≡ true → By x g (campaign b x (become_candidate b x n))
   reached_stands x g n t z may =
       let p = made_stand o la x g n t z may in
-      let q = reached_win x p.0 (candidate b x n) p.1.tale p.1.good refl in (
+      let q = reached_win x p.0 (become_candidate b x n) p.1.tale p.1.good refl in (
         q.0,
         record {
           grow = grows_then b.view_of x g p.0 q.0 p.1.grow q.1.grow;
           tale = q.1.tale;
           good = q.1.good;
-          sent = all_requests x q.0 (candidate b x n).view (last b (candidate b x n).log) (q.1.grow.bid x (candidate b x n).view (last b (candidate b x n).log) (p.1.good.kept.bid_is refl)) (others b x (candidate b x n));
+          sent = all_requests x q.0 (become_candidate b x n).view (last_signature_position b (become_candidate b x n).log) (q.1.grow.bid x (become_candidate b x n).view (last_signature_position b (become_candidate b x n).log) (p.1.good.kept.bid_is refl)) (others b x (become_candidate b x n));
         },
       )
 
-  reached_allowed : (x : NodeId) (g : Story E) (n : Node E) → Tale o g → Good o g x n → By x g (stands_if_allowed b x n)
-  reached_allowed x g n t z = go (may_stand b x n) refl (n.view == last_view)
+  reached_allowed : (x : NodeId) (g : Story E) (n : Node E) → Tale o g → Good o g x n → By x g (campaign_if_allowed b x n)
+  reached_allowed x g n t z = go (may_campaign b x n) refl (n.view == last_view)
     where
-      go : (m : Bool) → may_stand b x n ≡ m → (l : Bool) → By x g (if m then (if l then refuse n ViewLimit else stands b x (candidate b x n)) else idle n)
+      go : (m : Bool) → may_campaign b x n ≡ m → (l : Bool) → By x g (if m then (if l then refuse n ViewLimit else campaign b x (become_candidate b x n)) else idle n)
       go true d true = stay x g n t z
       go true d false = reached_stands x g n t z d
       go false d l = stay x g n t z
@@ -71,18 +71,18 @@ module _ {E Q G R A F : Type 0} {b : Book E Q G R A F} {s : Start E} (o : IsOpen
       go Candidate = reached_allowed x g n t z
       go Follower = reached_allowed x g n t z
 
-  pub reached_request : (x c : NodeId) (view : ℕ) (theirs : Last) (g : Story E) (n : Node E) → Tale o g → Good o g x n → view ≤ n.view → g.bid c view ≡ Some theirs → By x g (on_request_vote b x c view theirs n)
+  pub reached_request : (x c : NodeId) (view : ℕ) (theirs : Position) (g : Story E) (n : Node E) → Tale o g → Good o g x n → view ≤ n.view → g.bid c view ≡ Some theirs → By x g (on_request_vote b x c view theirs n)
   unfolding on_request_vote
-  reached_request x c view theirs g n t z up bid_is = by_test (By x g) (nat_lt view n.view) (reply_to_request b x c false n) (reply_to_request b x c (free_for n.vote c && is_at_least theirs (last b n.log)) n)
+  reached_request x c view theirs g n t z up bid_is = by_test (By x g) (nat_lt view n.view) (reply_to_vote_request b x c false n) (reply_to_vote_request b x c (may_vote_for n.vote c && is_up_to_date theirs (last_signature_position b n.log)) n)
       (λ d. not_granted) (λ d. here (grind (arith, nat_tests)))
     where
-      not_granted : By x g (reply_to_request b x c false n)
+      not_granted : By x g (reply_to_vote_request b x c false n)
       not_granted = (g, made_same o x g n (record { sender = x; receiver = c; view = n.view; body = VoteReply false } ∷ []) t z (tt, tt))
 
-      here : view ≡ n.view → By x g (reply_to_request b x c (free_for n.vote c && is_at_least theirs (last b n.log)) n)
-      here d = go (free_for n.vote c) (is_at_least theirs (last b n.log)) refl refl
+      here : view ≡ n.view → By x g (reply_to_vote_request b x c (may_vote_for n.vote c && is_up_to_date theirs (last_signature_position b n.log)) n)
+      here d = go (may_vote_for n.vote c) (is_up_to_date theirs (last_signature_position b n.log)) refl refl
         where
-          go : (p q : Bool) → free_for n.vote c ≡ p → is_at_least theirs (last b n.log) ≡ q → By x g (reply_to_request b x c (p && q) n)
+          go : (p q : Bool) → may_vote_for n.vote c ≡ p → is_up_to_date theirs (last_signature_position b n.log) ≡ q → By x g (reply_to_vote_request b x c (p && q) n)
           go true true f l = made_vote o x c theirs g n t z f l (ap (g.bid c) (sym d) ∙ bid_is)
           go true false f l = not_granted
           go false q f l = not_granted
@@ -96,10 +96,10 @@ module _ {E Q G R A F : Type 0} {b : Book E Q G R A F} {s : Start E} (o : IsOpen
       go Follower d = stay x g n t z
       go Candidate d = inner granted said
         where
-          inner : (m : Bool) → BodySent o g y x view (VoteReply m) → By x g (if m && (view == n.view) then counts b (with_vote b y n) else idle n)
+          inner : (m : Bool) → BodySent o g y x view (VoteReply m) → By x g (if m && (view == n.view) then count_votes b (add_vote b y n) else idle n)
           inner false a = stay x g n t z
-          inner true a = by_test (By x g) (view == n.view) (counts b (with_vote b y n)) (idle n)
-              (λ e. let q : view ≡ n.view = grind (arith, nat_tests) in reached_win x g (with_vote b y n) t (good_count o x y g n z (ap (g.ballot y) (sym q) ∙ a)) d)
+          inner true a = by_test (By x g) (view == n.view) (count_votes b (add_vote b y n)) (idle n)
+              (λ e. let q : view ≡ n.view = grind (arith, nat_tests) in reached_win x g (add_vote b y n) t (good_count o x y g n z (ap (g.ballot y) (sym q) ∙ a)) d)
               (λ e. stay x g n t z)
 
   pub reached_propose : (x : NodeId) (view : ℕ) (g : Story E) (n : Node E) → Tale o g → Good o g x n → By x g (on_propose_vote b x view n)
@@ -110,14 +110,14 @@ module _ {E Q G R A F : Type 0} {b : Book E Q G R A F} {s : Start E} (o : IsOpen
   pub reached_leader : (x : NodeId) (g : Story E) (n : Node E) (step : Step E A F) → Tale o g → Good o g x n → (n.role ≡ Leader → By x g step) → By x g (if_leader n step)
   reached_leader x g n step t z f = go n.role refl
     where
-      go : (r : Role) → n.role ≡ r → By x g (led_by r n step)
+      go : (r : Role) → n.role ≡ r → By x g (as_leader r n step)
       go Leader d = f d
       go Candidate d = stay x g n t z
       go Follower d = stay x g n t z
 
   pub reached_step_down : (x y : NodeId) (g : Story E) (n : Node E) → Tale o g → Good o g x n → By x g (step_down b x y n)
   unfolding step_down
-  reached_step_down x y g n t z = reached_leader x g n (if not (same y x) && in_some y (active b n.log n.commit) then steps_down b x y n else refuse n NotPeer) t z
-      (λ r. by_test (By x g) (not (same y x) && in_some y (active b n.log n.commit)) (steps_down b x y n) (refuse n NotPeer)
+  reached_step_down x y g n t z = reached_leader x g n (if not (same y x) && in_some y (active b n.log n.commit) then hand_over b x y n else refuse n NotPeer) t z
+      (λ r. by_test (By x g) (not (same y x) && in_some y (active b n.log n.commit)) (hand_over b x y n) (refuse n NotPeer)
       (λ d. (g, made_same o x g (record n { role = Follower; leader = None }) (record { sender = x; receiver = y; view = n.view; body = ProposeVote } ∷ []) t (good_follow o x g n None z) (tt, tt)))
       (λ d. stay x g n t z))

@@ -4,8 +4,8 @@ use Rattle.std.proofs.lemmas.Bool.{cases_eq, cases_lt}
 use Rattle.gl_rules.specs.Identity.{NodeId, member}
 use Rattle.gl_rules.specs.Book.{Book}
 use Rattle.gl_rules.specs.Node.{Node}
-use Rattle.gl_rules.specs.Message.{Last, VoteReply}
-use Rattle.gl_rules.specs.Log.{is_at_least, last}
+use Rattle.gl_rules.specs.Message.{Position, VoteReply}
+use Rattle.gl_rules.specs.Log.{is_up_to_date, last_signature_position}
 use Rattle.gl_rules.specs.World.{Start}
 use Rattle.gl_rules.specs.Safety.{IsOpening, EachFollows}
 use Rattle.gl_safety.proofs.Ids.{id_tests, same_is, cases_same, put2, put2_cases, put2_at}
@@ -14,18 +14,18 @@ use Rattle.gl_safety.proofs.Facts.{Holds, Covers, Mark, Lost, Ballots, lost_more
 use Rattle.gl_safety.proofs.Certificates.{Tale}
 use Rattle.gl_safety.proofs.Signatures.{covers_last, covers_more}
 use Rattle.gl_safety.proofs.Invariants.{Good, Reached, rising_of, won_grow, sured_more, shuts_grow, commits_more, made_same}
-use Rattle.gl_rules.specs.Elections.{free_for, voted_by, with_vote}
+use Rattle.gl_rules.specs.Elections.{may_vote_for, vote_if, add_vote}
 
 module _ {E Q G R A F : Type 0} {b : Book E Q G R A F} {s : Start E} (o : IsOpening b (EachFollows b) s) where
   -- the story of a vote that was free
-  module _ (x c : NodeId) (theirs : Last) (g : Story E) (n : Node E) (t : Tale o g) (z : Good o g x n) (unvoted : g.ballot x n.view ≡ None)
-      (least : is_at_least theirs (last b n.log) ≡ true) (bid_is : g.bid c n.view ≡ Some theirs) where
+  module _ (x c : NodeId) (theirs : Position) (g : Story E) (n : Node E) (t : Tale o g) (z : Good o g x n) (unvoted : g.ballot x n.view ≡ None)
+      (least : is_up_to_date theirs (last_signature_position b n.log) ≡ true) (bid_is : g.bid c n.view ≡ Some theirs) where
     grows : Grows b.view_of x g (told_ballot x n.view c g)
     grows = grows_ballot b.view_of x c n.view g (inl unvoted)
 
     covers : (v i : ℕ) (e : E) → slice_get n.log i ≡ Some e → Mark b g.led v i e → Covers theirs v i
-    covers v i e a m = covers_more b theirs (last b n.log) v i least
-        (subst (λ (w : ℕ). Covers (last b n.log) w i) m.view (covers_last b n.log i e (rising_of o g t n.log z.logged.matches) a m.signs))
+    covers v i e a m = covers_more b theirs (last_signature_position b n.log) v i least
+        (subst (λ (w : ℕ). Covers (last_signature_position b n.log) w i) m.view (covers_last b n.log i e (rising_of o g t n.log z.logged.matches) a m.signs))
 
     free : (w : ℕ) → w ≡ n.view → put2 g.early x n.view (early_by (g.ballot x n.view) (g.chief n.view) (g.early x n.view)) x w ≡ true → g.chief n.view ≡ None
     free w d f = go (g.chief n.view) refl (let q : put2 g.early x n.view (early_by (g.ballot x n.view) (g.chief n.view) (g.early x n.view)) x n.view ≡ true = ap (put2 g.early x n.view (early_by (g.ballot x n.view) (g.chief n.view) (g.early x n.view)) x) (sym d) ∙ f in
@@ -84,7 +84,7 @@ module _ {E Q G R A F : Type 0} {b : Book E Q G R A F} {s : Start E} (o : IsOpen
             (λ (p : i < g.held x v). ⊎_elim (λ (r : n.view < v). absurd (omega (arith, z.kept.future v r))) (λ (r : v ≤ n.view). omega arith) (cases_lt n.view v))
             (λ (p : g.chief v ≡ Some x). omega (arith, z.voter.won v p)) f in
             ⊎_elim
-            (λ (p : slice_get n.log i ≡ Some e). ⊎_elim (λ (r : v < theirs.view). omega arith) (λ (r : (v ≡ theirs.view) × (i < theirs.place)). omega (arith, r.0)) (covers v i e p m))
+            (λ (p : slice_get n.log i ≡ Some e). ⊎_elim (λ (r : v < theirs.view). omega arith) (λ (r : (v ≡ theirs.view) × (i < theirs.seqno)). omega (arith, r.0)) (covers v i e p m))
             (λ (p : Lost b g.chief g.led v i (suc n.view)). omega (arith, p.above, p.below))
             (z.kept.keeps v i e f m)
 
@@ -124,11 +124,11 @@ module _ {E Q G R A F : Type 0} {b : Book E Q G R A F} {s : Start E} (o : IsOpen
     }
 
   -- a vote that is granted, and its reply
-  pub made_vote : (x c : NodeId) (theirs : Last) (g : Story E) (n : Node E) → Tale o g → Good o g x n → free_for n.vote c ≡ true → is_at_least theirs (last b n.log) ≡ true → g.bid c n.view ≡ Some theirs →
-      Reached o x g (voted_by b true c n) (record { sender = x; receiver = c; view = n.view; body = VoteReply true } ∷ [])
+  pub made_vote : (x c : NodeId) (theirs : Position) (g : Story E) (n : Node E) → Tale o g → Good o g x n → may_vote_for n.vote c ≡ true → is_up_to_date theirs (last_signature_position b n.log) ≡ true → g.bid c n.view ≡ Some theirs →
+      Reached o x g (vote_if b true c n) (record { sender = x; receiver = c; view = n.view; body = VoteReply true } ∷ [])
   made_vote x c theirs g n t z free least bid_is = go n.vote refl free
     where
-      go : (m : Option NodeId) → n.vote ≡ m → free_for m c ≡ true → Reached o x g (voted_by b true c n) (record { sender = x; receiver = c; view = n.view; body = VoteReply true } ∷ [])
+      go : (m : Option NodeId) → n.vote ≡ m → may_vote_for m c ≡ true → Reached o x g (vote_if b true c n) (record { sender = x; receiver = c; view = n.view; body = VoteReply true } ∷ [])
       go None d f =
           let unvoted : g.ballot x n.view ≡ None = z.voter.cast ∙ d in (
             told_ballot x n.view c g,
@@ -142,7 +142,7 @@ module _ {E Q G R A F : Type 0} {b : Book E Q G R A F} {s : Start E} (o : IsOpen
       go (Some y) d f =
           let voted : g.ballot x n.view ≡ Some c = z.voter.cast ∙ d ∙ ap Some (same_is y c f) in (
             g,
-            made_same o x g (voted_by b true c n) (record { sender = x; receiver = c; view = n.view; body = VoteReply true } ∷ []) t (record {
+            made_same o x g (vote_if b true c n) (record { sender = x; receiver = c; view = n.view; body = VoteReply true } ∷ []) t (record {
               voter = record { cast = voted; later = z.voter.later; counted = z.voter.counted; won = z.voter.won; unwon = z.voter.unwon; chief_is = z.voter.chief_is };
               logged = z.logged;
               kept = z.kept;
@@ -151,7 +151,7 @@ module _ {E Q G R A F : Type 0} {b : Book E Q G R A F} {s : Start E} (o : IsOpen
             }) (voted, tt),
           )
 
-  pub good_count : (x y : NodeId) (g : Story E) (n : Node E) → Good o g x n → g.ballot y n.view ≡ Some x → Good o g x (with_vote b y n)
+  pub good_count : (x y : NodeId) (g : Story E) (n : Node E) → Good o g x n → g.ballot y n.view ≡ Some x → Good o g x (add_vote b y n)
   good_count x y g n z voted = record {
     voter = record {
       cast = z.voter.cast;

@@ -4,9 +4,9 @@ use Rattle.std.proofs.lemmas.Bool.{cases_eq, cases_lt}
 use Rattle.gl_rules.specs.Identity.{NodeId, member}
 use Rattle.gl_rules.specs.Book.{Book}
 use Rattle.gl_rules.specs.Node.{Node, Candidate}
-use Rattle.gl_rules.specs.Message.{Last}
-use Rattle.gl_rules.specs.Log.{last}
-use Rattle.gl_rules.specs.Steps.{leads, has_votes}
+use Rattle.gl_rules.specs.Message.{Position}
+use Rattle.gl_rules.specs.Log.{last_signature_position}
+use Rattle.gl_rules.specs.Steps.{become_leader, has_votes}
 use Rattle.gl_rules.specs.World.{Start}
 use Rattle.gl_rules.specs.Safety.{IsOpening, IsLawful, EachFollows}
 use Rattle.gl_safety.proofs.Ids.{id_tests, cases_same, by_test, share}
@@ -45,9 +45,9 @@ module _ {E Q G R A F : Type 0} {b : Book E Q G R A F} {s : Start E} (o : IsOpen
         (z.commits.young stood)
 
     high : 2 < n.view
-    high = (t.bids x n.view (last b n.log) (z.kept.bid_is stood)).0
+    high = (t.bids x n.view (last_signature_position b n.log) (z.kept.bid_is stood)).0
 
-    top_of : (i : ℕ) → (last b n.log).place ≡ suc i → (e : E) × (slice_get n.log i ≡ Some e) × (b.view_of e ≡ (last b n.log).view)
+    top_of : (i : ℕ) → (last_signature_position b n.log).seqno ≡ suc i → (e : E) × (slice_get n.log i ≡ Some e) × (b.view_of e ≡ (last_signature_position b n.log).view)
     top_of i d = let y = last_view_is b n.log i d in (y.0, y.1, sym y.2)
 
     winner : Winner o g n.view
@@ -55,7 +55,7 @@ module _ {E Q G R A F : Type 0} {b : Book E Q G R A F} {s : Start E} (o : IsOpen
       log = n.log;
       commit = n.commit;
       votes = λ y. member y n.votes;
-      bid = last b n.log;
+      bid = last_signature_position b n.log;
       depth = below.2.0;
       top = below.0;
       less = below.1;
@@ -70,9 +70,9 @@ module _ {E Q G R A F : Type 0} {b : Book E Q G R A F} {s : Start E} (o : IsOpen
       lim_most = omega arith;
       old = λ y a v i e d f m.
           let r = (t.ballots y).votes n.view x high (z.voter.counted stood y a) in
-          let same : r.bid ≡ last b n.log = let q = sym r.at ∙ z.kept.bid_is stood in cc in
-          subst (λ (l : Last). Covers l v i ⊎ Lost b g.chief g.led v i (suc n.view)) same (r.late v i e d f m);
-      bid_less = (t.bids x n.view (last b n.log) (z.kept.bid_is stood)).1;
+          let same : r.bid ≡ last_signature_position b n.log = let q = sym r.at ∙ z.kept.bid_is stood in cc in
+          subst (λ (l : Position). Covers l v i ⊎ Lost b g.chief g.led v i (suc n.view)) same (r.late v i e d f m);
+      bid_less = (t.bids x n.view (last_signature_position b n.log) (z.kept.bid_is stood)).1;
       bid_zero = last_zero b n.log;
       bid_top = top_of;
     }
@@ -157,7 +157,7 @@ module _ {E Q G R A F : Type 0} {b : Book E Q G R A F} {s : Start E} (o : IsOpen
           log = n.log;
           commit = n.commit;
           votes = λ y. member y n.votes;
-          bid = last b n.log;
+          bid = last_signature_position b n.log;
           depth = below_.2.0;
           top = below_.0;
           less = below_.1;
@@ -169,7 +169,7 @@ module _ {E Q G R A F : Type 0} {b : Book E Q G R A F} {s : Start E} (o : IsOpen
           sure = sure_grow o grows below_.2.0 n.log n.log (λ i e a. a) n.commit below_.0 below_.2.1;
           at = z.kept.bid_is stood;
           ballots = λ y a. let r = z.voter.counted stood y a in (r, t.early y n.view x r (alone x g n t z stood counts));
-          bid_less = (t.bids x n.view (last b n.log) (z.kept.bid_is stood)).1;
+          bid_less = (t.bids x n.view (last_signature_position b n.log) (z.kept.bid_is stood)).1;
           bid_zero = last_zero b n.log;
           bid_top = top_of x g n t z stood counts;
           front = led_new;
@@ -231,7 +231,7 @@ module _ {E Q G R A F : Type 0} {b : Book E Q G R A F} {s : Start E} (o : IsOpen
             back : {w : ℕ} {c : NodeId} (r : Voted b g x w c) (u i : ℕ) (e : E) (top : ℕ) → u ≢ n.view → Covers r.bid u i ⊎ Lost b g.chief g.led u i top → Covers r.bid u i ⊎ Lost b (at_view g.chief n.view (Some x)) (at_view g.led n.view n.log) u i top
             back r u i e top d q = ⊎_elim (λ (f : Covers r.bid u i). inl f) (λ (f : Lost b g.chief g.led u i top). inr (lost_grow b grows u i top f)) q
 
-    pub made_win : Reached o x g (leads n) []
+    pub made_win : Reached o x g (become_leader n) []
     made_win = (told_win x n.view n.log g, record { grow = grows; tale = tale_win; good = good; sent = tt })
       where
         at_new : (i : ℕ) (e : E) → slice_get (at_view g.led n.view n.log n.view) i ≡ Some e → slice_get n.log i ≡ Some e
@@ -243,7 +243,7 @@ module _ {E Q G R A F : Type 0} {b : Book E Q G R A F} {s : Start E} (o : IsOpen
         sure_h : (c u : ℕ) → Sured o g n.log c u → Sured o (told_win x n.view n.log g) n.log c u
         sure_h c u q = sured_more o grows n.log c u q
 
-        good : Good o (told_win x n.view n.log g) x (leads n)
+        good : Good o (told_win x n.view n.log g) x (become_leader n)
         good = record {
           voter = record {
             cast = z.voter.cast;

@@ -11,7 +11,7 @@ use Rattle.gl_rules.specs.Log.{last_signature}
 use Rattle.gl_rules.specs.Retirement.{Stage, Ordered, Completed, RetiredCommitted, stage}
 use Rattle.gl_rules.specs.Retirement as retirement
 use Rattle.gl_rules.specs.World.{Start, World, Event, Timeout, Deliver, Submit, Govern, Reserve, Sign, Evidence, Replicate, Advance, Restart, Install, happens, after, begin}
-use Rattle.gl_rules.specs.Safety.{reported}
+use Rattle.gl_rules.specs.Safety.{reported_status}
 use Rattle.gl_safety.proofs.SmallBook.{Item, Change, Signature, Order, SetNodes, RemoveNode, MarkNode, Fault, small, rules_open, one, two, three, four}
 
 abbrev five : NodeId
@@ -69,7 +69,7 @@ rollback_views : views ((after small three_nodes rollback).nodes one) ≡ 2 ∷ 
 unfolding rules_open
 rollback_views = refl
 
-rollback_status : reported small ((after small three_nodes rollback).nodes one) (record { view = 2; seqno = 3 }) ≡ Invalid
+rollback_status : reported_status small ((after small three_nodes rollback).nodes one) (record { view = 2; seqno = 3 }) ≡ Invalid
 unfolding rules_open
 rollback_status = refl
 
@@ -104,7 +104,7 @@ earlier =
     ∷ Timeout five ∷ Deliver 4 ∷ Deliver 5 ∷ Deliver 6 ∷ Deliver 7 ∷ Submit five 8 ∷ Reserve five ∷ Sign five
     -- node 1 wins view 4 by 2 and 3
     ∷ Restart one ∷ Timeout one ∷ Timeout one ∷ Deliver 12 ∷ Deliver 13 ∷ Deliver 16 ∷ Deliver 17
-    -- 2 and 3 come to hold place 4
+    -- 2 and 3 come to hold seqno 4
     ∷ Replicate one two ∷ Deliver 18 ∷ Deliver 19 ∷ Replicate one three ∷ Deliver 20 ∷ Deliver 21 ∷ Replicate one three ∷ Deliver 22 ∷ Deliver 23 ∷ []
 
 earlier_told : told (after small five_nodes earlier) (Advance one ∷ Reserve one ∷ Sign one ∷ Replicate one two ∷ Deliver 24 ∷ Deliver 25 ∷ Replicate one three ∷ Deliver 26 ∷ Deliver 27 ∷ Advance one ∷ []) ≡

@@ -17,7 +17,7 @@ use Rattle.gl_store.specs.Genesis.{service_map, service_key, is_acceptable, is_g
 use Rattle.gl_store.specs.Effect.{service_state, state_of_value, identity_in, identity_of_value}
 use Rattle.gl_store.specs.Serial.{IsLedger, IsSound}
 use Rattle.gl_store.specs.Tree.{writes_of, tables_of, leaves_of}
-use Rattle.gl_rules.specs.Log.{entry_at, last_signature, place_before}
+use Rattle.gl_rules.specs.Log.{entry_at, last_signature, seqno_with_first}
 use Rattle.gl_rules.specs.Safety.{ViewsUpTo}
 use Rattle.gl_store.specs.Ledger.{genesis_entry, signature_entry, opening_ledger, execute_result}
 use Rattle.gl_store.specs.Book.{service_book}
@@ -35,13 +35,13 @@ pub last_signature-push : (ledger : List Entry) (e : Entry) → is_signature e.c
     last_signature service_book (ledger ++ e ∷ []) ≡ last_signature service_book ledger
 unfolding last_signature
 last_signature-push [] e h = rw h refl
-last_signature-push (f ∷ ledger) e h = ap (λ (n : ℕ). place_before (is_signature f.content) n) (last_signature-push ledger e h)
+last_signature-push (f ∷ ledger) e h = ap (λ (n : ℕ). seqno_with_first (is_signature f.content) n) (last_signature-push ledger e h)
 
 -- a signature is the last one, at its place
 pub last_signature-signed : (ledger : List Entry) (e : Entry) → is_signature e.content ≡ true → last_signature service_book (ledger ++ e ∷ []) ≡ suc (length ledger)
 unfolding last_signature
 last_signature-signed [] e h = rw h refl
-last_signature-signed (f ∷ ledger) e h = ap (λ (n : ℕ). place_before (is_signature f.content) n) (last_signature-signed ledger e h)
+last_signature-signed (f ∷ ledger) e h = ap (λ (n : ℕ). seqno_with_first (is_signature f.content) n) (last_signature-signed ledger e h)
 
 -- a signature stays at its place
 pub signed_at-push : (ledger : List Entry) (e : Entry) (place : ℕ) → IsSignedAt ledger place → IsSignedAt (ledger ++ e ∷ []) place

@@ -76,7 +76,7 @@ const NO_DIGEST: Digest = [0; 32];
 impl Store {
     ghost use Rattle.gl_rules.specs.Log.{entry_at, last_signature};
     ghost use Rattle.gl_rules.specs.Node.{Node};
-    ghost use Rattle.gl_rules.specs.Safety.{reported, view_of, ViewsUpTo};
+    ghost use Rattle.gl_rules.specs.Safety.{reported_status, view_of, ViewsUpTo};
     ghost use Rattle.gl_store.specs.Genesis.{is_acceptable};
     ghost use Rattle.gl_store.specs.Ledger.{opening_ledger};
     ghost use Rattle.gl_store.specs.Tree.{writes_of, tables_of};
@@ -176,7 +176,7 @@ impl Store {
     /// The status of a transaction by what this store holds (CCF documentation, "Transaction
     /// status"). Only Committed and Invalid are final.
     pub fn status(&self, id: TxId) -> Status
-        ensures { (n : Node Entry) → IsNodeOf self.now n → result ≡ reported service_book n id }
+        ensures { (n : Node Entry) → IsNodeOf self.now n → result ≡ reported_status service_book n id }
     {
         let committed = match self.view_at(self.commit) {
             None => None,

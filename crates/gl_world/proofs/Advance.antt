@@ -7,10 +7,10 @@ use Rattle.gl_rules.specs.Identity.{NodeId, same}
 use Rattle.gl_rules.specs.Majority.{quorum}
 use Rattle.gl_rules.specs.Node.{Node, Role, Leader}
 use Rattle.gl_rules.specs.Configuration.{configuration_at, configurations_above, or_else, active_upto}
-use Rattle.gl_rules.specs.Steps.{led_by}
-use Rattle.gl_rules.specs.Replication.{advance, commits, may_commit, greatest_to_commit}
+use Rattle.gl_rules.specs.Steps.{as_leader}
+use Rattle.gl_rules.specs.Replication.{advance, commit_to, may_commit, greatest_to_commit}
 use Rattle.gl_entry.specs.Entry.{is_signature}
-use Rattle.gl_rules.specs.Log.{last_signature, place_before}
+use Rattle.gl_rules.specs.Log.{last_signature, seqno_with_first}
 use Rattle.gl_entry.specs.declared.entry.Entry.{Entry}
 use Rattle.gl_store.proofs.Keeping.{last_signature-push, last_signature-signed}
 use Rattle.gl_store.specs.Nodes.{configuration}
@@ -79,7 +79,7 @@ unfolding last_signature
 last_signature-le [] = omega arith
 last_signature-le (e ∷ ledger) = go (is_signature e.content) (last_signature service_book ledger) (last_signature-le ledger)
   where
-    go : (b : Bool) (place : ℕ) → place ≤ length ledger → place_before b place ≤ suc (length ledger)
+    go : (b : Bool) (place : ℕ) → place ≤ length ledger → seqno_with_first b place ≤ suc (length ledger)
     go b (suc place) h = omega arith
     go true zero h = omega arith
     go false zero h = omega arith
@@ -132,9 +132,9 @@ greatest_alone x n c is alone views (suc place) h =
 
 pub advance_alone : (x : NodeId) (n : Node Entry) (c : ℕ) → n.role ≡ Leader → n.commit ≡ suc c → IsAlone x n.log →
     ((i : ℕ) (e : Entry) → slice_get n.log i ≡ Some e → e.view ≡ n.view) →
-    advance service_book x n ≡ commits service_book n (above n.commit (last_signature service_book n.log))
+    advance service_book x n ≡ commit_to service_book n (above n.commit (last_signature service_book n.log))
 unfolding advance
 advance_alone x n c leads is alone views =
-    ap (λ (r : Role). led_by r n (commits service_book n (greatest_to_commit service_book x n (length n.log)))) leads
-    ∙ ap (commits service_book n) (greatest_alone x n c is alone views (length n.log) (omega arith)
+    ap (λ (r : Role). as_leader r n (commit_to service_book n (greatest_to_commit service_book x n (length n.log)))) leads
+    ∙ ap (commit_to service_book n) (greatest_alone x n c is alone views (length n.log) (omega arith)
     ∙ ap (λ (l : List Entry). above n.commit (last_signature service_book l)) (take-past n.log (length n.log) (omega arith)))

@@ -8,7 +8,7 @@ use Rattle.gl_base.specs.declared.status_kind.Status.TheVariants.{Committed, Inv
 use Rattle.gl_base.specs.Status.{is_held, decided, undecided, status_of}
 use Rattle.gl_rules.specs.Log.{entry_at}
 use Rattle.gl_rules.specs.Node.{Node}
-use Rattle.gl_rules.specs.Safety.{view_of, named, commit_id, reported}
+use Rattle.gl_rules.specs.Safety.{view_of, id_at, commit_id, reported_status}
 use Rattle.gl_rules.specs.World.{joiner}
 use Rattle.gl_entry.specs.declared.entry.Entry.{Entry}
 use Rattle.gl_world.specs.declared.settings.Settings.{Settings}
@@ -29,16 +29,16 @@ held_at s n h i within =
 pub commit_id-is : (s : Settings) (n : Node Entry) → IsSolo s n → commit_id service_book n ≡ Some (id 2 n.commit)
 commit_id-is s n h = go n.commit refl
   where
-    go : (c : ℕ) → n.commit ≡ c → named service_book c (view_of service_book (entry_at n.log c)) ≡ Some (id 2 c)
+    go : (c : ℕ) → n.commit ≡ c → id_at service_book c (view_of service_book (entry_at n.log c)) ≡ Some (id 2 c)
     go zero is = absurd (omega (arith, h.opened))
-    go (suc c) is = ap (named service_book (suc c)) (held_at s n h c (omega (arith, h.within)))
+    go (suc c) is = ap (id_at service_book (suc c)) (held_at s n h c (omega (arith, h.within)))
 
 -- what is reported, from what is held at the place
 abbrev from_held : ℕ → ℕ → ℕ → Option ℕ → Status
 from_held view place commit local = status_of (id view place) local (Some (id 2 commit))
 
 reported-is : (s : Settings) (n : Node Entry) → IsSolo s n → (view place : ℕ) →
-    reported service_book n (id view place) ≡ from_held view place n.commit (view_of service_book (entry_at n.log place))
+    reported_status service_book n (id view place) ≡ from_held view place n.commit (view_of service_book (entry_at n.log place))
 reported-is s n h view place = ap (status_of (id view place) (view_of service_book (entry_at n.log place))) (commit_id-is s n h)
 
 -- what isn't held is not committed
@@ -85,11 +85,11 @@ none_invalid place commit local held e = go (nat_le place commit) refl e
     go false test is = absurd (never (is_held (id 2 place) local) is)
 
 -- a node that holds nothing has nothing committed, and knows nothing of places from 1 on
-pub joiner_uncommitted : (view place : ℕ) → reported service_book joiner (id view place) ≢ Committed
+pub joiner_uncommitted : (view place : ℕ) → reported_status service_book joiner (id view place) ≢ Committed
 joiner_uncommitted view zero e = unheld (nat_le 0 0) (nat_lt view 0) e
 joiner_uncommitted view (suc i) e = unheld (nat_le (suc i) 0) (nat_lt view 0) e
 
-pub joiner_unknown : (view i : ℕ) → reported service_book joiner (id view (suc i)) ≢ Invalid
+pub joiner_unknown : (view i : ℕ) → reported_status service_book joiner (id view (suc i)) ≢ Invalid
 joiner_unknown view i e = go (nat_le (suc i) 0) (nat_lt view 0) refl refl e
   where
     go : (below passed : Bool) → nat_le (suc i) 0 ≡ below → nat_lt view 0 ≡ passed → (if below then decided false else undecided false passed) ≢ Invalid
@@ -101,13 +101,13 @@ held_upto : (s : Settings) (n : Node Entry) → IsSolo s n → (i : ℕ) → suc
 held_upto s n h i below = held_at s n h i (omega (arith, h.within))
 
 -- what the one node reports Committed is of the first view, at a place from 1 on
-pub solo_committed : (s : Settings) (n : Node Entry) → IsSolo s n → (view place : ℕ) → reported service_book n (id view place) ≡ Committed →
+pub solo_committed : (s : Settings) (n : Node Entry) → IsSolo s n → (view place : ℕ) → reported_status service_book n (id view place) ≡ Committed →
     (view ≡ 2) × (i : ℕ) × (place ≡ suc i)
 solo_committed s n h view zero e = absurd (none_at_zero view n.commit (sym (reported-is s n h view 0) ∙ e))
 solo_committed s n h view (suc i) e =
     (first_view_alone view (suc i) n.commit (view_of service_book (entry_at n.log (suc i))) (held_upto s n h i) (sym (reported-is s n h view (suc i)) ∙ e), i, refl)
 
 -- and it never reports such a one Invalid
-pub solo_never_invalid : (s : Settings) (n : Node Entry) → IsSolo s n → (i : ℕ) → reported service_book n (id 2 (suc i)) ≢ Invalid
+pub solo_never_invalid : (s : Settings) (n : Node Entry) → IsSolo s n → (i : ℕ) → reported_status service_book n (id 2 (suc i)) ≢ Invalid
 solo_never_invalid s n h i e =
     none_invalid (suc i) n.commit (view_of service_book (entry_at n.log (suc i))) (held_upto s n h i) (sym (reported-is s n h 2 (suc i)) ∙ e)

@@ -5,8 +5,8 @@ use Rattle.sha2.proofs.Facts256.{length-sha256}
 use Rattle.gl_rules.specs.Identity.{NodeId, member}
 use Rattle.gl_rules.specs.Node.{Node}
 use Rattle.gl_rules.specs.Outcome.{Step}
-use Rattle.gl_rules.specs.Requests.{submit, reserve, sign, enters}
-use Rattle.gl_rules.specs.Replication.{advance, commits}
+use Rattle.gl_rules.specs.Requests.{submit, reserve, sign, append_result}
+use Rattle.gl_rules.specs.Replication.{advance, commit_to}
 use Rattle.gl_rules.specs.Safety.{node_after}
 use Rattle.gl_rules.specs.World.{Submit, Reserve, Sign, Advance, begin, leader_at_start, starter, joiner, at, happens, run}
 use Rattle.gl_rules.specs.Log.{last_signature}
@@ -105,7 +105,7 @@ reply_small = let reply = reply_size in omega arith
 executed_first : (s : Settings) → IsSingle s → s.state ≡ Open → (submit service_book asked (first s)).node ≡ record (first s) { log = opening s ++ entry s ∷ [] }
 executed_first s h is =
     ap (λ (t : Step Entry Given Unmade). t.node) (submit-is s (first s) asked (solo_at_start s h)
-    ∙ ap (λ (r : Result (Entry × List Answer) Refusal). enters service_book (first s) (with_reply r))
+    ∙ ap (λ (r : Result (Entry × List Answer) Refusal). append_result service_book (first s) (with_reply r))
     (execute_ran (opening s) 2 asked ran (state_at_start s ∙ is) refl
     ∙ within_limits_made (opening s) (entry s) (Done ∷ []) (entry_small s) reply_small (omega arith)))
 
@@ -119,7 +119,7 @@ unfolding reserve sign
 signed_then s = refl
 
 abbrev advanced : Node Entry → Node Entry
-advanced n = (commits service_book n (if nat_lt n.commit (last_signature service_book n.log) then Some (last_signature service_book n.log) else None)).node
+advanced n = (commit_to service_book n (if nat_lt n.commit (last_signature service_book n.log) then Some (last_signature service_book n.log) else None)).node
 
 -- the request's entry is the third, and its signature the fourth, which is committed
 pub shown_commits : (s : Settings) → IsSingle s → s.state ≡ Open → (node_after service_book (start_of s) (shown (id_of s 1)) (id_of s 1)).commit ≡ 4

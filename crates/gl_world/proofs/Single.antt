@@ -5,7 +5,7 @@ use Rattle.gl_base.specs.declared.tx_id.TxId.{TxId}
 use Rattle.gl_base.specs.declared.status_kind.Status.TheVariants.{Committed, Invalid}
 use Rattle.gl_rules.specs.Identity.{NodeId}
 use Rattle.gl_rules.specs.Node.{Node}
-use Rattle.gl_rules.specs.Safety.{Agree, committed, reported}
+use Rattle.gl_rules.specs.Safety.{Agree, committed_ledger, reported_status}
 use Rattle.gl_rules.specs.World.{joiner, begin, after}
 use Rattle.gl_store.specs.Serial.{IsSound}
 use Rattle.gl_entry.specs.declared.entry.Entry.{Entry}
@@ -27,24 +27,24 @@ abbrev Stands : Settings → Node Entry → Type 0
 Stands s n = IsSolo s n ⊎ (n ≡ joiner)
 
 agree_joiner : (n m : Node Entry) → n ≡ joiner → Agree service_book n m
-agree_joiner n m is = subst (λ (k : Node Entry). Agree service_book k m) (sym is) (inl (committed m, refl))
+agree_joiner n m is = subst (λ (k : Node Entry). Agree service_book k m) (sym is) (inl (committed_ledger m, refl))
 
 agree_with_joiner : (n m : Node Entry) → m ≡ joiner → Agree service_book n m
-agree_with_joiner n m is = subst (λ (k : Node Entry). Agree service_book n k) (sym is) (inr (committed n, refl))
+agree_with_joiner n m is = subst (λ (k : Node Entry). Agree service_book n k) (sym is) (inr (committed_ledger n, refl))
 
-sound_of : (s : Settings) (n : Node Entry) → Stands s n → IsSound (committed n)
+sound_of : (s : Settings) (n : Node Entry) → Stands s n → IsSound (committed_ledger n)
 sound_of s n h = ⊎_elim
     (λ (solo : IsSolo s n). solo.ledger.sound n.commit)
-    (λ (is : n ≡ joiner). subst (λ (k : Node Entry). IsSound (committed k)) (sym is) nothing_sound) h
+    (λ (is : n ≡ joiner). subst (λ (k : Node Entry). IsSound (committed_ledger k)) (sym is) nothing_sound) h
 
 status_of_two : (s : Settings) (n m : Node Entry) (id : TxId) → Stands s n → Stands s m →
-    reported service_book n id ≡ Committed → reported service_book m id ≡ Invalid → ⊥
+    reported_status service_book n id ≡ Committed → reported_status service_book m id ≡ Invalid → ⊥
 status_of_two s n m id h k is other = ⊎_elim
     (λ (solo : IsSolo s n). let c = solo_committed s n solo id.view id.seqno is in
     ⊎_elim
-    (λ (z : IsSolo s m). solo_never_invalid s m z c.1 (ap (λ (x : TxId). reported service_book m x) (named c.1 c.0 c.2) ∙ other))
-    (λ (z : m ≡ joiner). joiner_unknown 2 c.1 (ap (λ (x : Node Entry). reported service_book x (record { view = 2; seqno = suc c.1 })) (sym z) ∙ ap (λ (x : TxId). reported service_book m x) (named c.1 c.0 c.2) ∙ other)) k)
-    (λ (z : n ≡ joiner). joiner_uncommitted id.view id.seqno (ap (λ (x : Node Entry). reported service_book x id) (sym z) ∙ is)) h
+    (λ (z : IsSolo s m). solo_never_invalid s m z c.1 (ap (λ (x : TxId). reported_status service_book m x) (named c.1 c.0 c.2) ∙ other))
+    (λ (z : m ≡ joiner). joiner_unknown 2 c.1 (ap (λ (x : Node Entry). reported_status service_book x (record { view = 2; seqno = suc c.1 })) (sym z) ∙ ap (λ (x : TxId). reported_status service_book m x) (named c.1 c.0 c.2) ∙ other)) k)
+    (λ (z : n ≡ joiner). joiner_uncommitted id.view id.seqno (ap (λ (x : Node Entry). reported_status service_book x id) (sym z) ∙ is)) h
   where
     named : (i : ℕ) → id.view ≡ 2 → id.seqno ≡ suc i → record { view = 2; seqno = suc i } ≡ id
     named i v p = ap₂ (λ (view seqno : ℕ). record { view = view; seqno = seqno }) (sym v) (sym p)

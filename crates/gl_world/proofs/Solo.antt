@@ -7,9 +7,9 @@ use Rattle.gl_rules.specs.Identity.{NodeId}
 use Rattle.gl_rules.specs.Node.{Node, Role, Leader}
 use Rattle.gl_rules.specs.Outcome.{Step, quiet, refuse, Done, NotReserved, KeyExhausted, NothingToSign}
 use Rattle.gl_rules.specs.Log.{entry_at, last_signature}
-use Rattle.gl_rules.specs.Steps.{appended, led_by}
-use Rattle.gl_rules.specs.Requests.{submit, reserve, sign, enters, executes, signs, signed}
-use Rattle.gl_rules.specs.Replication.{advance, commits}
+use Rattle.gl_rules.specs.Steps.{append_entry, as_leader}
+use Rattle.gl_rules.specs.Requests.{submit, reserve, sign, append_result, execute_request, sign_as_leader, append_signature}
+use Rattle.gl_rules.specs.Replication.{advance, commit_to}
 use Rattle.gl_store.specs.Serial.{IsSound}
 use Rattle.gl_rules.specs.Safety.{ViewsUpTo}
 use Rattle.gl_base.specs.TxId.{last_seqno}
@@ -77,7 +77,7 @@ pub grows_same : (s : Settings) (n : Node Entry) → IsSolo s n → Grows n n
 grows_same s n h = record { rest = []; log = sym (append-nil n.log); commit = omega arith; within = h.within }
 
 -- with one more entry
-goes_push : (s : Settings) (n : Node Entry) (e : Entry) (used : ℕ) → IsSolo s n → IsSoloLedger (id_of s 1) (n.log ++ e ∷ []) → Goes s n (record (appended n e) { used = used })
+goes_push : (s : Settings) (n : Node Entry) (e : Entry) (used : ℕ) → IsSolo s n → IsSoloLedger (id_of s 1) (n.log ++ e ∷ []) → Goes s n (record (append_entry n e) { used = used })
 goes_push s n e used h ledger = (
   record {
     view = h.view;
@@ -93,24 +93,24 @@ goes_push s n e used h ledger = (
 )
 
 -- a leader answers
-at_leader : (n : Node Entry) → n.role ≡ Leader → (t : Step Entry Given Unmade) → led_by n.role n t ≡ t
-at_leader n leads t = ap (λ (r : Role). led_by r n t) leads
+at_leader : (n : Node Entry) → n.role ≡ Leader → (t : Step Entry Given Unmade) → as_leader n.role n t ≡ t
+at_leader n leads t = ap (λ (r : Role). as_leader r n t) leads
 
 pub submit-is : (s : Settings) (n : Node Entry) (q : List Operation) → IsSolo s n →
-    submit service_book q n ≡ enters service_book n (request_result n.log n.view q)
+    submit service_book q n ≡ append_result service_book n (request_result n.log n.view q)
 unfolding submit
-submit-is s n q h = at_leader n h.role (executes service_book q n)
+submit-is s n q h = at_leader n h.role (execute_request service_book q n)
 
-pub sign-is : (s : Settings) (x : NodeId) (n : Node Entry) → IsSolo s n → sign service_book x n ≡ signs service_book x n
+pub sign-is : (s : Settings) (x : NodeId) (n : Node Entry) → IsSolo s n → sign service_book x n ≡ sign_as_leader service_book x n
 unfolding sign
-sign-is s x n h = at_leader n h.role (signs service_book x n)
+sign-is s x n h = at_leader n h.role (sign_as_leader service_book x n)
 
 pub goes_submit : (s : Settings) (n : Node Entry) (q : List Operation) → IsSolo s n → Goes s n (submit service_book q n).node
 goes_submit s n q h =
     subst (λ (t : Step Entry Given Unmade). Goes s n t.node) (sym (submit-is s n q h)) (go (is_request q) refl (execute_result n.log n.view q) refl)
   where
     go : (spelled : Bool) → is_request q ≡ spelled → (r : Result (Entry × List Answer) Refusal) → execute_result n.log n.view q ≡ r →
-        Goes s n (enters service_book n (if spelled then with_reply r else Err Unspelled)).node
+        Goes s n (append_result service_book n (if spelled then with_reply r else Err Unspelled)).node
     go false fits r is = (h, grows_same s n h)
     go true fits (Err why) is = (h, grows_same s n h)
     go true fits (Ok made) is =
@@ -165,7 +165,7 @@ pub goes_sign : (s : Settings) (x : NodeId) (n : Node Entry) → x ≡ id_of s 1
 goes_sign s x n named h =
     subst (λ (t : Step Entry Given Unmade). Goes s n t.node) (sym (sign-is s x n h))
     (either (λ t. Goes s n t.node) (n.used == n.reserved) (is_signed n.view (entry_at n.log (length n.log)))
-    (refuse n (NotReserved n.reserved)) (refuse n (NothingToSign (length n.log))) (signed service_book n (by_store (within_places n.log entry)))
+    (refuse n (NotReserved n.reserved)) (refuse n (NothingToSign (length n.log))) (append_signature service_book n (by_store (within_places n.log entry)))
     (h, grows_same s n h) (h, grows_same s n h) (made (nat_lt (length n.log) last_seqno) refl))
   where
     entry : Entry
@@ -176,14 +176,14 @@ goes_sign s x n named h =
         signature_fits n.view (length n.log + 1) n.commit x (root_of (leaves_of n.log)) no_digest (omega (arith, h.view)) (omega (arith, left)) (omega (arith, h.within, left))
         (ap is_digest named ∙ sha256_digest (node_of s 1).key) (root_is_digest n.log (omega (arith, h.ledger.long))) refl
 
-    pushed : length n.log < last_seqno → Goes s n (record (appended n entry) { used = n.used + 1 })
+    pushed : length n.log < last_seqno → Goes s n (record (append_entry n entry) { used = n.used + 1 })
     pushed left =
         goes_push s n entry (n.used + 1) h
         (solo_ledger-push (id_of s 1) n.log entry h.ledger
         (sound-push n.log entry (ledger_sound s n h) (entry_fits left) refl (ledger_views s n h) (record { writes_nothing = (refl, refl); root = refl }) tt tt) h.view tt)
 
     made : (left : Bool) → nat_lt (length n.log) last_seqno ≡ left →
-        Goes s n (signed service_book n (by_store (if left then Ok entry else Err refusals.SeqnoLimit))).node
+        Goes s n (append_signature service_book n (by_store (if left then Ok entry else Err refusals.SeqnoLimit))).node
     made true is = pushed (grind (arith, nat_tests))
     made false is = (h, grows_same s n h)
 
@@ -205,10 +205,10 @@ goes_commit s n place h more within = (
 
 -- commit comes to the last signature, if that is above it
 pub advance-is : (s : Settings) (n : Node Entry) → IsSolo s n →
-    advance service_book (id_of s 1) n ≡ commits service_book n (if nat_lt n.commit (last_signature service_book n.log) then Some (last_signature service_book n.log) else None)
+    advance service_book (id_of s 1) n ≡ commit_to service_book n (if nat_lt n.commit (last_signature service_book n.log) then Some (last_signature service_book n.log) else None)
 advance-is s n h = go n.commit refl h.opened
   where
-    go : (c : ℕ) → n.commit ≡ c → 2 ≤ c → advance service_book (id_of s 1) n ≡ commits service_book n (above n.commit (last_signature service_book n.log))
+    go : (c : ℕ) → n.commit ≡ c → 2 ≤ c → advance service_book (id_of s 1) n ≡ commit_to service_book n (above n.commit (last_signature service_book n.log))
     go zero is some = absurd (omega arith)
     go (suc c) is some = advance_alone (id_of s 1) n c h.role is h.ledger.alone (λ i e a. h.ledger.views i e a ∙ sym h.view)
 
@@ -216,7 +216,7 @@ pub goes_advance : (s : Settings) (n : Node Entry) → IsSolo s n → Goes s n (
 goes_advance s n h = subst (λ (t : Step Entry Given Unmade). Goes s n t.node) (sym (advance-is s n h)) (go (nat_lt n.commit (last_signature service_book n.log)) refl)
   where
     go : (b : Bool) → nat_lt n.commit (last_signature service_book n.log) ≡ b →
-        Goes s n (commits service_book n (if b then Some (last_signature service_book n.log) else None)).node
+        Goes s n (commit_to service_book n (if b then Some (last_signature service_book n.log) else None)).node
     go true is = goes_commit s n (last_signature service_book n.log) h (grind (arith, nat_tests)) (last_signature-le n.log)
     go false is = (h, grows_same s n h)
 

@@ -5,7 +5,7 @@ use Rattle.gl_rules.specs.Node.{Node}
 use Rattle.gl_rules.specs.Outcome.{Step}
 use Rattle.gl_rules.specs.Requests.{submit, reserve, sign}
 use Rattle.gl_rules.specs.Replication.{advance}
-use Rattle.gl_rules.specs.Safety.{IsPrefixOf, committed}
+use Rattle.gl_rules.specs.Safety.{IsPrefixOf, committed_ledger}
 use Rattle.gl_rules.specs.World.{Timeout, Deliver, Submit, Finish, Govern, Reserve, Sign, Evidence, Replicate, Advance, StepDown, Restart, Install, begin, starter, joiner, leader_at_start, at, happens, run}
 use Rattle.gl_entry.specs.declared.entry.Entry.{Entry}
 use Rattle.gl_world.specs.declared.settings.Settings.{Settings}
@@ -91,7 +91,7 @@ grows_between s (e ∷ es) w (suc i) (suc j) le here h =
     grows_between s es (happens service_book w e).world i j (omega arith) here.1 (goes_happens s w e here.0 h).0
 
 -- the committed ledger that has grown has the earlier one as a prefix
-pub prefix_of_grown : (n m : Node Entry) → n.commit ≤ length n.log → Grows n m → IsPrefixOf (committed n) (committed m)
+pub prefix_of_grown : (n m : Node Entry) → n.commit ≤ length n.log → Grows n m → IsPrefixOf (committed_ledger n) (committed_ledger m)
 prefix_of_grown n m within g =
     let r = fronts n.log g.rest n.commit m.commit g.commit within in
     (r.0, r.1 ∙ ap (take m.commit) (sym g.log))

@@ -1,7 +1,7 @@
 use Rattle.std.proofs.Common.{◌≡◌, List, IfOk, subst, arith}
 use Rattle.gl_replay_rules.specs.declared.entry.Entry.{Entry}
 use Rattle.gl_replay_delivery.proofs.Steps.{fitting_step}
-use Rattle.gl_replay_delivery.proofs.replication.+with_fitting.Goals as goal
+use Rattle.gl_replay_delivery.proofs.replication.+with_fitting_prefix.Goals as goal
 
 pub returns-in_ok-push-in-Some : goal.returns-in_ok-push-in-Some
 returns-in_ok-push-in-Some t c =

@@ -2,7 +2,7 @@ use Rattle.std.proofs.Common.{◌≡◌, true, false, nat_le, length, arith, rul
 use Rattle.std.proofs.lemmas.Bool.Decides.{nat_tests}
 use Rattle.gl_replay_rules.specs.Seen.{seen, seen_step}
 use Rattle.gl_replay_delivery.proofs.Replies.{answer_back, answer_ok, same_held}
-use Rattle.gl_replay_delivery.proofs.reply.answer.Goals as goal
+use Rattle.gl_replay_delivery.proofs.reply.update_progress.Goals as goal
 
 pub send_back-requires : goal.send_back-requires
 send_back-requires c = record { fits = omega (arith, same_held c.in_ok-copy.copy c.args.node.now c.args.y c.in_ok-copy.ensures, c.requires.fits) }
@@ -13,10 +13,10 @@ acknowledge-requires-clause-fits c = omega (arith, same_held c.in_ok-copy-2.copy
 pub returns-then-not-ok : goal.returns-then-not-ok
 returns-then-not-ok c =
     let denied : c.args.ok ≡ false = search rules in
-    answer_back c.args.ok c.args.y c.args.place (seen_step c.quiet.result) (seen c.in_ok-new.new) (seen c.in_ok-copy.copy) (seen c.args.node.now) denied c.quiet.ensures c.in_ok-new.ensures c.in_ok-copy.ensures
+    answer_back c.args.ok c.args.y c.args.seqno (seen_step c.quiet.result) (seen c.in_ok-new.new) (seen c.in_ok-copy.copy) (seen c.args.node.now) denied c.quiet.ensures c.in_ok-new.ensures c.in_ok-copy.ensures
 
 pub returns : goal.returns
 returns c =
     let granted : c.args.ok ≡ true = search rules in
-    let within : nat_le c.args.place (length c.args.node.now.log.items) ≡ true = grind (arith, nat_tests) in
-    answer_ok c.args.ok c.args.y c.args.place (seen_step c.quiet-2.result) (seen c.in_ok-new-2.new) (seen c.in_ok-copy-2.copy) (seen c.args.node.now) granted within c.quiet-2.ensures c.in_ok-new-2.ensures c.in_ok-copy-2.ensures
+    let within : nat_le c.args.seqno (length c.args.node.now.log.items) ≡ true = grind (arith, nat_tests) in
+    answer_ok c.args.ok c.args.y c.args.seqno (seen_step c.quiet-2.result) (seen c.in_ok-new-2.new) (seen c.in_ok-copy-2.copy) (seen c.args.node.now) granted within c.quiet-2.ensures c.in_ok-new-2.ensures c.in_ok-copy-2.ensures

@@ -1,4 +1,0 @@
-use Rattle.gl_replay_delivery.proofs.append.+last_at_most.Given as goal
-
-abbrev pub decreases-last_at_most : goal.decreases-last_at_most
-decreases-last_at_most l = l.place

@@ -70,6 +70,9 @@ asked_bytes g f =
     (flat_bytes member_bytes is_member g.members (λ m h. let p = and_parts (is_byte m.number) (are_sized 60 m.key) h in one_byte m.number m.key p.0 (sized_bytes 60 m.key p.1)) f.members))
     (dealt_bytes g.dealing f.threshold f.secret f.shares)
 
+pub request_are_bytes : (g : request.Genesis) → is_genesis g ≡ true → are_bytes (genesis_bytes g) ≡ true
+request_are_bytes g fits = asked_bytes g (fields_of g fits)
+
 -- ---- its rows
 
 row_fits : (table key value : List ℕ) → is_map_name table ≡ true → 1 ≤ length key → length key ≤ 1024 → are_bytes key ≡ true → length value ≤ 65536 → are_bytes value ≡ true →

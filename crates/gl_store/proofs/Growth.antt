@@ -67,8 +67,8 @@ in_order-push ledger e h fits at up = record {
       (λ (old : slice_get ledger i ≡ Some f). h.fits i f old)
       (λ (new : (i ≡ length ledger) × (f ≡ e)). subst (λ (x : Entry). is_entry x ≡ true) (sym new.1) fits)
       (slice_get-push ledger e i f s);
-  places = λ i f s. ⊎_elim
-      (λ (old : slice_get ledger i ≡ Some f). h.places i f old)
+  seqnos = λ i f s. ⊎_elim
+      (λ (old : slice_get ledger i ≡ Some f). h.seqnos i f old)
       (λ (new : (i ≡ length ledger) × (f ≡ e)). ap (λ (x : Entry). x.seqno) new.1 ∙ at ∙ ap suc (sym new.0))
       (slice_get-push ledger e i f s);
   views = λ i j f g le s r. ⊎_elim

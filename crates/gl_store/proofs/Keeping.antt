@@ -17,47 +17,17 @@ use Rattle.gl_store.specs.Genesis.{service_map, service_key, is_acceptable, is_g
 use Rattle.gl_store.specs.Effect.{service_state, state_of_value, identity_in, identity_of_value}
 use Rattle.gl_store.specs.Serial.{IsLedger, IsSound}
 use Rattle.gl_store.specs.Tree.{writes_of, tables_of, leaves_of}
-use Rattle.gl_rules.specs.Log.{entry_at, last_signature, seqno_with_first}
+use Rattle.gl_rules.specs.Log.{last_signature}
 use Rattle.gl_rules.specs.Safety.{ViewsUpTo}
 use Rattle.gl_store.specs.Ledger.{genesis_entry, signature_entry, opening_ledger, execute_result}
 use Rattle.gl_store.specs.Book.{service_book}
-use Rattle.gl_store.specs.Calls.{IsSignedAt, IsSignedUpTo}
 use Rattle.gl_store.specs.Kept.{Beside, IsTreeOf, IsKept}
 use Rattle.gl_store.specs.declared.genesis.Genesis as request
-use Rattle.gl_store.proofs.Lists.{within, slice_get-front}
+use Rattle.gl_store.proofs.Signatures.{last_signature-push, last_signature-signed, signed_up_to-push}
 use Rattle.gl_store.proofs.TablesLaws.{writes_of-push, tables_of-push, leaves_of-push, above_next}
 use Rattle.gl_store.proofs.Growth.{IsOutside, untouched, sound-push}
 use Rattle.gl_store.proofs.Applications.{execute_ok, application_sound, run_outside}
 use Rattle.gl_store.proofs.Openings.{genesis_sound, opening_sound, state_of_opening, identity_of_opening, identity_of_genesis}
-
--- an entry that is no signature leaves the last one
-pub last_signature-push : (ledger : List Entry) (e : Entry) → is_signature e.content ≡ false →
-    last_signature service_book (ledger ++ e ∷ []) ≡ last_signature service_book ledger
-unfolding last_signature
-last_signature-push [] e h = rw h refl
-last_signature-push (f ∷ ledger) e h = ap (λ (n : ℕ). seqno_with_first (is_signature f.content) n) (last_signature-push ledger e h)
-
--- a signature is the last one, at its place
-pub last_signature-signed : (ledger : List Entry) (e : Entry) → is_signature e.content ≡ true → last_signature service_book (ledger ++ e ∷ []) ≡ suc (length ledger)
-unfolding last_signature
-last_signature-signed [] e h = rw h refl
-last_signature-signed (f ∷ ledger) e h = ap (λ (n : ℕ). seqno_with_first (is_signature f.content) n) (last_signature-signed ledger e h)
-
--- a signature stays at its place
-pub signed_at-push : (ledger : List Entry) (e : Entry) (place : ℕ) → IsSignedAt ledger place → IsSignedAt (ledger ++ e ∷ []) place
-signed_at-push ledger e zero h = absurd (let at = h.1 in cc)
-signed_at-push ledger e (suc i) h = (h.0, slice_get-front ledger e i h.0 h.1, h.2)
-
-pub signed_up_to-push : (ledger : List Entry) (e : Entry) (place : ℕ) → IsSignedUpTo ledger place → IsSignedUpTo (ledger ++ e ∷ []) place
-signed_up_to-push ledger e place h some = signed_at-push ledger e place (h some)
-
--- a signature's place is within the ledger
-pub signed_within : (ledger : List Entry) (place : ℕ) → IsSignedUpTo ledger place → place ≤ length ledger
-signed_within ledger zero h = omega arith
-signed_within ledger (suc i) h =
-    let signature = h (omega arith) in
-    let inside : i < length ledger = within ledger i signature.0 signature.1 in
-    omega arith
 
 -- ---- what writes outside of governance leave
 
@@ -100,7 +70,7 @@ kept-push ledger items b e tables frontier last k sound left out is pushed writt
     subst (λ (es : List Entry). IsKept es (record b { last_signature = last; tables = tables; frontier = frontier })) (sym pushed) (record {
       sound = sound;
       opened = simp length-append (omega (arith, k.opened));
-      places = simp length-append (omega (arith, left));
+      named = simp length-append (omega (arith, left));
       within = simp length-append (omega (arith, k.within));
       committed = signed_up_to-push ledger e b.commit k.committed;
       signed = is;
@@ -191,7 +161,7 @@ kept_opening g signer first items first_tables tables old frontier e acceptable 
     subst (λ (es : List Entry). IsKept es (record { commit = 2; last_signature = 2; service_state = g.state; identity = g.identity; tables = tables; frontier = frontier })) (sym all) (record {
       sound = opening_sound g signer acceptable fits founding (subst (λ (x : Entry). is_entry x ≡ true) same one);
       opened = omega arith;
-      places = omega arith;
+      named = omega arith;
       within = omega arith;
       committed = λ some. (signature, refl, refl);
       signed = sym (last_signature-signed opening signature refl);

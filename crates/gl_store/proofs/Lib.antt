@@ -5,6 +5,7 @@ pub mod Growth
 pub mod WriteSets
 pub mod SetRows
 pub mod Openings
+pub mod Signatures
 pub mod Applications
 pub mod Following
 pub mod Keeping
@@ -12,6 +13,7 @@ pub mod Entries
 pub mod GenesisFields
 pub mod Digests
 pub mod Roots
+pub mod RequestBytes
 pub mod Fitting
 pub mod GenesisEntries
 pub mod NodesLaws

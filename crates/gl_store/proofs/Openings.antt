@@ -85,10 +85,10 @@ genesis_stands g acceptable fits = record {
 
 pub genesis_sound : (g : request.Genesis) → is_acceptable g ≡ true → is_genesis g ≡ true → is_entry (genesis_entry g) ≡ true → IsSound (genesis_entry g ∷ [])
 genesis_sound g acceptable fits entry = record {
-  in_order = record { fits = entries; places = places; views = views };
+  in_order = record { fits = entries; seqnos = places; views = views };
   serial = serial;
   governed = record {
-    requests = record { place = 1; request = requests.Genesis g } ∷ [];
+    requests = record { seqno = 1; request = requests.Genesis g } ∷ [];
     recorded = (requests.Genesis g, [], fits, refl, refl, refl);
     rows = λ map inside. ap (λ (t : Tables). t map) (tables_of-push [] (genesis_entry g));
   };

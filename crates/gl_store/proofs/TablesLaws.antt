@@ -86,7 +86,7 @@ above_each place (e ∷ es) below = above-append place (placed_in e) (writes_of 
 next_above : (ledger : List Entry) → IsLedger ledger → IsAbove (suc (length ledger)) (writes_of ledger)
 next_above ledger h =
     above_each (suc (length ledger)) ledger
-    (λ i e s. let there : i < length ledger = within ledger i e s in let place : e.seqno ≡ suc i = h.places i e s in omega arith)
+    (λ i e s. let there : i < length ledger = within ledger i e s in let place : e.seqno ≡ suc i = h.seqnos i e s in omega arith)
 
 -- the next place is above those of all writes
 pub above_next : (ledger : List Entry) (tables : List Placed) (place : ℕ) → IsLedger ledger → tables ≡ writes_of ledger → place ≡ length ledger + 1 → IsAbove place tables

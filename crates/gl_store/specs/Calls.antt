@@ -16,14 +16,14 @@ pub record IsNodeOf (held : Held) (n : Node Entry) : Type 0 where
   pub log : n.log ≡ held.ledger
   pub commit : n.commit ≡ held.commit
 
--- A signature stands at this place.
+-- A signature has this seqno.
 abbrev pub IsSignedAt : List Entry → ℕ → Type 0
-IsSignedAt ledger place =
-    (e : Entry) × (entry_at ledger place ≡ Some e) × (service_book.is_signature e ≡ true)
+IsSignedAt ledger seqno =
+    (e : Entry) × (entry_at ledger seqno ≡ Some e) × (service_book.is_signature e ≡ true)
 
--- The place is that of a signature, or 0.
+-- The seqno is that of a signature, or 0.
 abbrev pub IsSignedUpTo : List Entry → ℕ → Type 0
-IsSignedUpTo ledger place = 0 < place → IsSignedAt ledger place
+IsSignedUpTo ledger seqno = 0 < seqno → IsSignedAt ledger seqno
 
 -- The store has one more entry, which has this identifier.
 pub record Enters (old : Held) (view : ℕ) (e : Entry) (id : TxId) (new : Held) : Type 0 where

@@ -27,12 +27,12 @@ pub record IsTreeOf (leaves : List (List ℕ)) (f : frontiers.Content) : Type 0 
   pub peaks : f.peaks ≡ []
   pub leaves_are : f.leaves ≡ leaves
 
--- The ledger is sound and opened, commit is the place of one of its signatures or 0, and what is
+-- The ledger is sound and opened, commit is the seqno of one of its signatures or 0, and what is
 -- kept beside the ledger is what it has it be.
 pub record IsKept (ledger : List Entry) (b : Beside) : Type 0 where
   pub sound : IsSound ledger
   pub opened : 2 ≤ length ledger
-  pub places : length ledger ≤ last_seqno
+  pub named : length ledger ≤ last_seqno
   pub within : b.commit ≤ length ledger
   pub committed : IsSignedUpTo ledger b.commit
   pub signed : b.last_signature ≡ last_signature service_book ledger

@@ -20,12 +20,12 @@ use Rattle.gl_store.specs.declared.genesis.ServiceState.TheVariants.{Opening, Op
 use Rattle.gl_store.specs.declared.refusal.Refusal.{Refusal}
 use Rattle.gl_store.specs.declared.refusal.Refusal.TheVariants as refusals
 
--- What a store holds: its ledger, and up to which place it is committed.
+-- What a store holds: its ledger, and up to which seqno it is committed.
 pub record Held : Type 0 where
   pub ledger : List Entry
   pub commit : ℕ
 
--- The entry of a genesis, at place 1 in view 2.
+-- The entry of a genesis, with seqno 1 in view 2.
 abbrev pub genesis_entry : request.Genesis → Entry
 genesis_entry g = record {
   view = 2;
@@ -50,7 +50,7 @@ signature_entry node ledger view commit = record {
   claims = no_digest;
 }
 
--- The opening ledger: the genesis, and the first signature, which records its own place.
+-- The opening ledger: the genesis, and the first signature, which records its own seqno.
 abbrev pub opening_ledger : request.Genesis → List ℕ → List Entry
 opening_ledger g node = genesis_entry g ∷ signature_entry node (genesis_entry g ∷ []) 2 2 ∷ []
 
@@ -64,20 +64,20 @@ application_entry ledger view operations ran = record {
   claims = sha256 (reply_bytes ran.answers);
 }
 
--- Unless no place is left that an identifier can name.
-abbrev pub within_places : {X : Type 0} → List Entry → X → Result X Refusal
-within_places ledger made =
+-- Unless no seqno is left that an identifier can name.
+abbrev pub within_seqnos : {X : Type 0} → List Entry → X → Result X Refusal
+within_seqnos ledger made =
     if nat_lt (length ledger) last_seqno then Ok made else Err refusals.SeqnoLimit
 
 -- Unless a size is above the limit of bodies and replies.
 abbrev pub within_size : {X : Type 0} → ℕ → Result X Refusal → Result X Refusal
 within_size size made = if nat_lt body_limit size then Err (refusals.TooLarge size) else made
 
--- An entry and its reply. Too large may be the body or else the reply, and then no place is left.
+-- An entry and its reply, unless the body is too large, or else the reply, or no seqno is left.
 abbrev pub within_limits : List Entry → Entry → List Answer → Result (Entry × List Answer) Refusal
 within_limits ledger e answers =
     within_size (length (body_bytes e))
-    (within_size (length (reply_bytes answers)) (within_places ledger (e, answers)))
+    (within_size (length (reply_bytes answers)) (within_seqnos ledger (e, answers)))
 
 -- What a request that ran makes behind a ledger: its entry and its reply, or its abort.
 abbrev pub run_result : List Entry → ℕ → List Operation → Result Ran Abort →
@@ -101,4 +101,4 @@ execute_result ledger view operations =
 -- What a node's signature makes behind a ledger.
 abbrev pub sign_result : List ℕ → List Entry → ℕ → ℕ → Result Entry Refusal
 sign_result node ledger view commit =
-    within_places ledger (signature_entry node ledger view commit)
+    within_seqnos ledger (signature_entry node ledger view commit)

@@ -24,7 +24,7 @@ use Rattle.gl_store.specs.declared.genesis.GovernanceRequest.{GovernanceRequest}
 -- A list of entries that fit their format, whose i-th has seqno i, and whose views never fall.
 pub record IsLedger (ledger : List Entry) : Type 0 where
   pub fits : (i : ℕ) (e : Entry) → slice_get ledger i ≡ Some e → is_entry e ≡ true
-  pub places : (i : ℕ) (e : Entry) → slice_get ledger i ≡ Some e → e.seqno ≡ suc i
+  pub seqnos : (i : ℕ) (e : Entry) → slice_get ledger i ≡ Some e → e.seqno ≡ suc i
   pub views : (i j : ℕ) (e f : Entry) → i ≤ j → slice_get ledger i ≡ Some e →
       slice_get ledger j ≡ Some f → e.view ≤ f.view
 
@@ -44,7 +44,7 @@ pub record IsGovernanceEntry (before : List Entry) (e : Entry) (bytes : List ℕ
   pub spelled : bytes ≡ governance_bytes request
   pub accepted : IsAccepted requests request
   pub turns : Turns e.writes (effect requests)
-      (effect (requests ++ record { place = suc (length before); request = request } ∷ []))
+      (effect (requests ++ record { seqno = suc (length before); request = request } ∷ []))
   pub claims : e.claims ≡ no_digest
 
 -- An application entry: a request that runs in an open service, its write set, and the digest of

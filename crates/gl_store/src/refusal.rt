@@ -18,7 +18,7 @@ pub enum Refusal {
     Aborted(Abort),
     /// The entry's body, or else its reply, has so many bytes, which is more than 1 MiB.
     TooLarge { size: u64 },
-    /// No place is left that an identifier can name.
+    /// No seqno is left that an identifier can name.
     SeqnoLimit,
 }
 

@@ -31,11 +31,11 @@ use sha2::{Digest as _, Sha256};
 use std::alloc::{AllocError, Global};
 use std::marker::Model;
 
-/// A ledger of one node, and up to which place it is committed. Places count from 1. The ledger is
-/// sound at every moment: its entries fit their format, its places and views are in order, it is
+/// A ledger of one node, and up to which seqno it is committed. Seqnos count from 1. The ledger is
+/// sound at every moment: its entries fit their format, its seqnos and views are in order, it is
 /// one serial run of its requests, its governance tables are the effect of the governance requests that
 /// it records, and each signature has the root of the tree over all earlier entries. Commit is the
-/// place of a signature, or 0, and never falls.
+/// seqno of a signature, or 0, and never falls.
 #[derive(Drop)]
 pub struct Store {
     state: LedgerState,
@@ -64,7 +64,7 @@ impl Model for Store {
     }) };
 }
 
-/// The last place that an identifier can name.
+/// The last seqno that an identifier can name.
 const LAST_SEQNO: u64 = (1 << 40) - 1;
 
 /// The most bytes that a body or a reply has.
@@ -85,8 +85,8 @@ impl Store {
     ghost use Rattle.gl_store.specs.Book.{service_book};
     ghost use Rattle.gl_store.specs.Calls.{Executes, Signs, Refuses, IsNodeOf, IsSignedAt, IsSignedUpTo};
 
-    /// The store of a service that begins: the genesis at place 1, and the signature of its node at
-    /// place 2, both in view 2 and committed. Fails for want of memory alone.
+    /// The store of a service that begins: the genesis with seqno 1, and the signature of its node
+    /// with seqno 2, both in view 2 and committed. Fails for want of memory alone.
     pub fn opening(alloc: Global, genesis: &Genesis, signer: NodeId) -> Result<Self, AllocError>
         requires acceptable { is_acceptable genesis.now ≡ true }
         requires fits { is_genesis genesis.now ≡ true }
@@ -112,7 +112,7 @@ impl Store {
         })
     }
 
-    /// The number of entries, which is the place of the last one. It is at least 2.
+    /// The number of entries, which is the seqno of the last one. It is at least 2.
     pub fn ledger_len(&self) -> u64
         ensures len { result ≡ length self.now.ledger }
         ensures opened { 2 ≤ length self.now.ledger }
@@ -121,12 +121,12 @@ impl Store {
         self.state.entries.len() as u64
     }
 
-    /// The entry at a place. `None` at place 0 and above the last.
-    pub fn entry(&self, place: u64) -> Option<&Entry>
-        ensures entry { option_copied result ≡ entry_at self.now.ledger place }
+    /// The entry with a seqno. `None` at 0 and above the last.
+    pub fn entry(&self, seqno: u64) -> Option<&Entry>
+        ensures entry { option_copied result ≡ entry_at self.now.ledger seqno }
         ensures fits { IfSome result (λ e. is_entry e.now ≡ true) }
     {
-        match place.checked_sub(1) {
+        match seqno.checked_sub(1) {
             None => None,
             Some(index) => self.state.entries.get(index as usize),
         }
@@ -140,11 +140,11 @@ impl Store {
         &self.state.entries
     }
 
-    /// The view of the entry at a place. `None` at place 0 and above the last.
-    pub fn view_at(&self, place: u64) -> Option<u32>
-        ensures { result ≡ view_of service_book (entry_at self.now.ledger place) }
+    /// The view of the entry with a seqno. `None` at 0 and above the last.
+    pub fn view_at(&self, seqno: u64) -> Option<u32>
+        ensures { result ≡ view_of service_book (entry_at self.now.ledger seqno) }
     {
-        match self.entry(place) {
+        match self.entry(seqno) {
             None => None,
             Some(entry) => Some(entry.view),
         }
@@ -157,7 +157,7 @@ impl Store {
         &self.state.tables
     }
 
-    /// The place up to which the ledger is committed, itself included.
+    /// The seqno up to which the ledger is committed, itself included: that of a signature, or 0.
     pub fn commit(&self) -> u64
         ensures commit { result ≡ self.now.commit }
         ensures within { self.now.commit ≤ length self.now.ledger }
@@ -166,7 +166,7 @@ impl Store {
         self.commit
     }
 
-    /// The place of the last signature, committed or not.
+    /// The seqno of the last signature, committed or not.
     pub fn last_signature(&self) -> u64
         ensures { result ≡ last_signature service_book self.now.ledger }
     {
@@ -188,19 +188,19 @@ impl Store {
         status(id, self.view_at(id.seqno), committed)
     }
 
-    /// Commits the ledger up to the signature at this place, or up to 0. Commit never falls.
-    pub fn commit_to(&mut self, place: u64)
-        requires signed { IsSignedUpTo self.old.ledger place }
-        requires above { self.old.commit ≤ place }
-        ensures { self.new ≡ record self.old { commit = place } }
+    /// Commits the ledger up to the signature with this seqno, or up to 0. Commit never falls.
+    pub fn commit_to(&mut self, seqno: u64)
+        requires signed { IsSignedUpTo self.old.ledger seqno }
+        requires above { self.old.commit ≤ seqno }
+        ensures { self.new ≡ record self.old { commit = seqno } }
     {
-        self.commit = place;
+        self.commit = seqno;
     }
 
     /// Runs a request and makes its entry, in a view that isn't below that of any entry before.
     /// Gives the entry's identifier and the reply. Refused, in this order, where the service isn't
     /// open, where an operation fails, where the entry's body or the reply has more than 1 MiB, and
-    /// where no place is left. Want of memory, too, leaves the store as it was.
+    /// where no seqno is left. Want of memory, too, leaves the store as it was.
     pub fn execute(&mut self, view: u32, request: &Request) -> Result<(TxId, Reply), StoreError>
         requires { ViewsUpTo service_book view self.old.ledger }
         ensures made { IfOk result (λ made.
@@ -209,6 +209,7 @@ impl Store {
             Refuses (service_book.execute self.old.ledger view request.now) e) }
         ensures err { OnErr result (self.new ≡ self.old) }
     {
+        prove!(request.as_slice().len() <= 64);
         match self.service_state {
             ServiceState::Open => self.execute_open(view, request),
             ServiceState::Opening => {
@@ -221,6 +222,7 @@ impl Store {
     fn execute_open(&mut self, view: u32, request: &Request) -> Result<(TxId, Reply), StoreError>
         requires up_to { ViewsUpTo service_book view self.old.ledger }
         requires is_open { service_state (tables_of self.old.ledger) ≡ ServiceState.Open }
+        requires spelled { is_request request.now ≡ true }
         ensures made { IfOk result (λ made.
             Executes self.old view request.now made.0 made.1 self.new) }
         ensures refused { IfErr result (λ e.
@@ -242,7 +244,7 @@ impl Store {
 
     /// Makes the entry of a node's signature of the ledger so far, in a view that isn't below that
     /// of any entry before. It records the commit as it now is, and the root of the tree over all
-    /// entries before it. Refused where no place is left. Want of memory, too, leaves the store as
+    /// entries before it. Refused where no seqno is left. Want of memory, too, leaves the store as
     /// it was.
     pub fn sign(&mut self, node: NodeId, view: u32) -> Result<TxId, StoreError>
         requires { ViewsUpTo service_book view self.old.ledger }
@@ -344,11 +346,11 @@ fn application_entry(
     })
 }
 
-/// The first limit that an entry passes: the size of its body, that of its reply, its place.
+/// The first limit that an entry passes: the size of its body, that of its reply, its seqno.
 fn limit_passed(body: &[u8], reply: &[u8], seqno: u64) -> Option<Refusal>
     ensures body { IfNone result (length body.now ≤ body_limit) }
     ensures reply { IfNone result (length reply.now ≤ body_limit) }
-    ensures place { IfNone result (seqno ≤ last_seqno) }
+    ensures seqno { IfNone result (seqno ≤ last_seqno) }
     ensures owed { IfSome result (λ refusal.
         (ledger : List made.Entry) (e : made.Entry) (answers : List Answer) →
         body.now ≡ body_bytes e → reply.now ≡ reply_bytes answers → seqno ≡ length ledger + 1 →

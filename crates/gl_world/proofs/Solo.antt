@@ -14,7 +14,7 @@ use Rattle.gl_store.specs.Serial.{IsSound}
 use Rattle.gl_rules.specs.Safety.{ViewsUpTo}
 use Rattle.gl_base.specs.TxId.{last_seqno}
 use Rattle.gl_tx.specs.Request.{is_request}
-use Rattle.gl_store.specs.Ledger.{execute_result, within_places, signature_entry}
+use Rattle.gl_store.specs.Ledger.{execute_result, within_seqnos, signature_entry}
 use Rattle.gl_entry.specs.Entry.{no_digest, is_signature, is_digest, is_entry}
 use Rattle.gl_merkle.specs.Tree.{root_of}
 use Rattle.gl_store.specs.Tree.{tables_of, leaves_of}
@@ -165,7 +165,7 @@ pub goes_sign : (s : Settings) (x : NodeId) (n : Node Entry) → x ≡ id_of s 1
 goes_sign s x n named h =
     subst (λ (t : Step Entry Given Unmade). Goes s n t.node) (sym (sign-is s x n h))
     (either (λ t. Goes s n t.node) (n.used == n.reserved) (is_signed n.view (entry_at n.log (length n.log)))
-    (refuse n (NotReserved n.reserved)) (refuse n (NothingToSign (length n.log))) (append_signature service_book n (by_store (within_places n.log entry)))
+    (refuse n (NotReserved n.reserved)) (refuse n (NothingToSign (length n.log))) (append_signature service_book n (by_store (within_seqnos n.log entry)))
     (h, grows_same s n h) (h, grows_same s n h) (made (nat_lt (length n.log) last_seqno) refl))
   where
     entry : Entry

@@ -31,7 +31,7 @@ use Rattle.gl_world.specs.Solo.{IsSolo, IsSoloLedger}
 -- a ledger with no entry
 pub nothing_sound : IsSound []
 nothing_sound = record {
-  in_order = record { fits = λ i e a. absurd (cc); places = λ i e a. absurd (cc); views = λ i j e f le a b. absurd (cc) };
+  in_order = record { fits = λ i e a. absurd (cc); seqnos = λ i e a. absurd (cc); views = λ i j e f le a b. absurd (cc) };
   serial = λ i e a. absurd (cc);
   governed = record { requests = []; recorded = refl; rows = λ map inside. refl };
 }
@@ -39,10 +39,10 @@ nothing_sound = record {
 -- the genesis alone, of a sound opening ledger
 front_sound : (g : request.Genesis) (signer : List ℕ) → is_genesis g ≡ true → IsSound (opening_ledger g signer) → IsSound (genesis_entry g ∷ [])
 front_sound g signer fits h = record {
-  in_order = record { fits = λ i e a. h.in_order.fits i e (front i e a); places = λ i e a. h.in_order.places i e (front i e a); views = λ i j e f le a b. h.in_order.views i j e f le (front i e a) (front j f b) };
+  in_order = record { fits = λ i e a. h.in_order.fits i e (front i e a); seqnos = λ i e a. h.in_order.seqnos i e (front i e a); views = λ i j e f le a b. h.in_order.views i j e f le (front i e a) (front j f b) };
   serial = serial;
   governed = record {
-    requests = record { place = 1; request = requests.Genesis g } ∷ [];
+    requests = record { seqno = 1; request = requests.Genesis g } ∷ [];
     recorded = (requests.Genesis g, [], fits, refl, refl, refl);
     rows = λ map inside. ap (λ (t : Tables). t map) (tables_of-push [] (genesis_entry g));
   };

@@ -41,7 +41,7 @@ invariant_of-self-2 c =
     let reply : c.deref-3.result.now ≡ reply_bytes ran.answers = c.deref-3.ensures.value ∙ c.in_ok-reply.ensures.bytes in
     let small : length (body_bytes e) ≤ body_limit = subst (λ (xs : List ℕ). length xs ≤ body_limit) body c.in_default.ensures.body in
     let short : length (reply_bytes ran.answers) ≤ body_limit = subst (λ (xs : List ℕ). length xs ≤ body_limit) reply c.in_default.ensures.reply in
-    let place : c.len.result + 1 ≤ last_seqno = c.in_default.ensures.place in
+    let place : c.len.result + 1 ≤ last_seqno = c.in_default.ensures.seqno in
     let left : length ledger < last_seqno = omega arith in
     let gives : execute_result ledger c.args.view q ≡ Ok (e, ran.answers) =
     execute_within ledger c.args.view q ran e is_open runs made small short left in

@@ -1,8 +1,12 @@
+pub mod Lists
 pub mod Steps
 pub mod Numerals
 pub mod Pieces
 pub mod TxIdText
+pub mod ByteLists
 pub mod LittleEndianBytes
 pub mod Numbers
 pub mod LittleEndianLaws
 pub mod Fields
+pub mod Names
+pub mod RowLaws

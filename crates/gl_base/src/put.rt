@@ -1,8 +1,9 @@
 //! Fields written behind what a list of bytes holds. Numbers are written with their least
 //! significant byte first. Want of memory leaves the list as it was.
 
-ghost use Rattle.std.specs.Prelude.{◌≡◌, ◌++◌, ◌^◌, ◌<◌, OnOk, OnErr};
+ghost use Rattle.std.specs.Prelude.{◌≡◌, ◌++◌, ◌^◌, ◌<◌, take, OnOk, OnErr};
 ghost use Rattle.gl_base.specs.LittleEndian.{little_endian};
+ghost use Rattle.gl_base.specs.Field.{IsWidth, FitsWidth, field_spelling};
 
 use std::alloc::AllocError;
 
@@ -57,4 +58,47 @@ pub fn put_bytes(out: &mut Vec<u8>, value: &[u8]) -> Result<(), AllocError>
     ensures kept { OnErr result (out.new.items ≡ out.old.items) }
 {
     out.extend_from_slice(value)
+}
+
+/// Takes back what was written behind the first `before` bytes, if that failed.
+pub(crate) fn undo_on_err(
+    out: &mut Vec<u8>,
+    before: usize,
+    written: Result<(), AllocError>,
+) -> Result<(), AllocError>
+    ensures same { result ≡ written }
+    ensures ok { OnOk written (out.new.items ≡ out.old.items) }
+    ensures err { OnErr written (out.new.items ≡ take before out.old.items) }
+{
+    if written.is_err() {
+        out.truncate(before);
+    }
+    written
+}
+
+/// Writes bytes behind those of their length.
+fn put_sized(out: &mut Vec<u8>, len: &[u8], bytes: &[u8]) -> Result<(), AllocError>
+    ensures put { OnOk result (out.new.items ≡ out.old.items ++ (len.now ++ bytes.now)) }
+    ensures kept { OnErr result (out.new.items ≡ out.old.items) }
+{
+    let before = out.len();
+    out.extend_from_slice(len)?;
+    let written = out.extend_from_slice(bytes);
+    undo_on_err(out, before, written)
+}
+
+/// Bytes behind their length of `width` bits (8, 16 or 32). With the width 0 there is no length.
+#[tactic(auto, unfolding(crate::specs::LittleEndian::little_endian))]
+pub fn put_field(out: &mut Vec<u8>, width: u32, value: &[u8]) -> Result<(), AllocError>
+    requires width { IsWidth width }
+    requires fits { FitsWidth width value.now }
+    ensures put { OnOk result (out.new.items ≡ out.old.items ++ field_spelling width value.now) }
+    ensures kept { OnErr result (out.new.items ≡ out.old.items) }
+{
+    match width {
+        0 => put_bytes(out, value),
+        8 => put_sized(out, &[value.len() as u8], value),
+        16 => put_sized(out, &(value.len() as u16).to_le_bytes(), value),
+        _ => put_sized(out, &(value.len() as u32).to_le_bytes(), value),
+    }
 }

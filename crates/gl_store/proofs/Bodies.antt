@@ -8,10 +8,10 @@ use Rattle.std.proofs.lemmas.Bool.Decides.{nat_tests}
 use Rattle.std.proofs.lemmas.Grind.{flat_map-append}
 use Rattle.sha2.proofs.Facts256.{length-sha256}
 use Rattle.gl_base.specs.LittleEndian.{little_endian}
-use Rattle.gl_base.specs.Field.{are_bytes, is_byte}
+use Rattle.gl_base.specs.Bytes.{are_bytes, is_byte}
 use Rattle.gl_base.proofs.LittleEndianLaws.{length-little_endian}
 use Rattle.gl_vmaps.specs.Writes.{write_order, with_write, put_before}
-use Rattle.gl_vmaps.specs.Fields.{write_bytes}
+use Rattle.gl_entry.specs.Entry.{write_bytes}
 use Rattle.gl_vmaps.specs.declared.write.Write.{Write}
 use Rattle.gl_entry.specs.Entry.{are_sized, is_digest, body_bytes, body_limit}
 use Rattle.gl_store.specs.Genesis.{state_byte, node_id, node_bytes, member_bytes, share_bytes, dealing_bytes, genesis_bytes, is_node, is_member, is_share, is_dealing, is_genesis, are_nodes, are_members, numbers_of, is_dealing_among, are_distinct_bytes, is_acceptable, row, constitution_rows, constitution_map, dealing_map, dealing_key, members_map, nodes_map, service_map, service_key, member_row, node_row, node_rows, service_row, genesis_rows, genesis_writes, set_from}

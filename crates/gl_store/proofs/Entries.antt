@@ -4,13 +4,14 @@ use Rattle.std.specs.List.{list_all, flat_map, AllByRecursion}
 use Rattle.std.specs.Cmp.Lexicographic.{bytes_decides}
 use Rattle.std.proofs.lemmas.Bool.{and_parts, and_from}
 use Rattle.std.proofs.lemmas.Bool.Decides.{nat_tests}
-use Rattle.gl_base.specs.LittleEndian.{little_endian, AreBytes}
-use Rattle.gl_base.specs.Field.{are_bytes}
+use Rattle.gl_base.specs.LittleEndian.{little_endian}
+use Rattle.gl_base.specs.Bytes.{are_bytes}
 use Rattle.gl_base.proofs.LittleEndianLaws.{length-little_endian}
 use Rattle.gl_vmaps.specs.Writes.{is_write, is_ordered}
-use Rattle.gl_vmaps.specs.Fields.{write_bytes, map_bytes, key_bytes, optional_value_bytes}
+use Rattle.gl_base.specs.Row.{map_name_bytes, key_bytes, optional_value_bytes}
+use Rattle.gl_entry.specs.Entry.{write_bytes}
 use Rattle.gl_vmaps.specs.declared.write.Write.{Write}
-use Rattle.gl_vmaps.proofs.Bytes.{are_bytes-true}
+use Rattle.gl_base.proofs.ByteLists.{AreBytes, are_bytes-true}
 use Rattle.gl_vmaps.proofs.WriteLaws.{list_all-from_writes}
 use Rattle.gl_entry.specs.Entry.{no_digest, content_bytes, body_bytes, body_limit, kind_tag, is_digest, is_recorded_signature, is_content, may_write, may_claim, are_no_writes, is_no_digest, is_entry}
 use Rattle.gl_entry.specs.declared.entry.Signature as signatures
@@ -29,8 +30,8 @@ few_in [] = omega arith
 few_in (w ∷ ws) =
     let rest : length ws ≤ length (flat_map write_bytes ws) = few_in ws in
     let one : 1 ≤ length (optional_value_bytes w.value) = optional_value_some w.value in
-    let first : length (write_bytes w) ≡ length (map_bytes w.map ++ key_bytes w.key) + length (optional_value_bytes w.value) =
-    length-append (map_bytes w.map ++ key_bytes w.key) (optional_value_bytes w.value) in
+    let first : length (write_bytes w) ≡ length (map_name_bytes w.map ++ key_bytes w.key) + length (optional_value_bytes w.value) =
+    length-append (map_name_bytes w.map ++ key_bytes w.key) (optional_value_bytes w.value) in
     let all : length (write_bytes w ++ flat_map write_bytes ws) ≡ length (write_bytes w) + length (flat_map write_bytes ws) = length-append (write_bytes w) (flat_map write_bytes ws) in
     omega arith
 

@@ -8,20 +8,22 @@ use Rattle.sha2.proofs.Facts256.{length-sha256}
 use Rattle.gl_base.specs.LittleEndian.{from_little_endian, little_endian}
 use Rattle.gl_base.specs.TxId.{last_seqno}
 use Rattle.gl_vmaps.specs.Name.{is_key, is_value}
-use Rattle.gl_vmaps.specs.Tables.{Tables, value_in, has_key, size_of}
 use Rattle.gl_vmaps.specs.Writes.{is_write, is_written_value, is_ordered}
 use Rattle.gl_vmaps.specs.declared.write.Write.{Write}
-use Rattle.gl_vmaps.proofs.Bytes.{are_bytes-each}
+use Rattle.gl_base.proofs.ByteLists.{are_bytes-each}
 use Rattle.gl_vmaps.proofs.WriteLaws.{all_writes, within-with_write}
 use Rattle.gl_tx.specs.Request.{is_row, is_u64, is_operation, is_count, is_request, request_bytes, reply_bytes}
-use Rattle.gl_tx.specs.Run.{Performed, Ran, barred_in, unless_barred, performed, on_tables, answered_writing, yes_or_no, summed, added, checked, is_expected, followed, answered, value_or_none, run_from, goes_on, answered_first, with_writes, tables_after}
+use Rattle.gl_tx.specs.Run.{answer_only, answer_and_write, yes_or_no, value_or_none, sum_result, add_result, is_expected, check_result, follow_result, bar_on, unless_barred, on_seen, perform_result, with_writes, with_answer, goes_on, run_from}
+use Rattle.gl_tx.specs.Sees.{Sees, sees_in, has_key, behind}
+use Rattle.gl_tx.specs.declared.perform.Performed.{Performed}
+use Rattle.gl_tx.specs.declared.runs.Ran.{Ran}
 use Rattle.gl_tx.specs.declared.request.Operation.{Operation}
 use Rattle.gl_tx.specs.declared.request.Operation.TheVariants.{Get, Has, Put, Remove, Add, Check, Follow, Size}
 use Rattle.gl_tx.specs.declared.request.Answer.{Answer}
 use Rattle.gl_tx.specs.declared.request.Answer.TheVariants as answers
-use Rattle.gl_tx.specs.declared.request.Cause.{Cause}
-use Rattle.gl_tx.specs.declared.request.Cause.TheVariants as causes
-use Rattle.gl_tx.specs.declared.request.Abort.{Abort}
+use Rattle.gl_tx.specs.declared.abort.Cause.{Cause}
+use Rattle.gl_tx.specs.declared.abort.Cause.TheVariants as causes
+use Rattle.gl_tx.specs.declared.abort.Abort.{Abort}
 use Rattle.gl_tx.proofs.Values.{is_value-number}
 use Rattle.gl_entry.specs.Entry.{is_entry, body_bytes, body_limit}
 use Rattle.gl_entry.specs.declared.entry.Entry.{Entry}
@@ -39,62 +41,55 @@ MayFit None = Unit {0}
 MayFit (Some w) = is_write w ≡ true
 
 abbrev Fits : Result Performed Cause → Type 0
-Fits r = (done : Performed) → r ≡ Ok done → MayFit done.write
+Fits (Err cause) = Unit {0}
+Fits (Ok done) = MayFit done.write
 
-writing : (a : Answer) (map key : List ℕ) (value : Option (List ℕ)) → is_row map key ≡ true → is_written_value value ≡ true → Fits (answered_writing a map key value)
-writing a map key value row fits done e =
-    let given : Performed = record { answer = a; write = Some (record { map = map; key = key; value = value }) } in
-    let p : given ≡ done = cc in
-    subst (λ (d : Performed). MayFit d.write) p (and_from (is_row map key) (is_written_value value) row fits)
+writing : (a : Answer) (map key : List ℕ) (value : Option (List ℕ)) → is_row map key ≡ true → is_written_value value ≡ true → Fits (answer_and_write a map key value)
+writing a map key value row fits = and_from (is_row map key) (is_written_value value) row fits
 
-telling : (a : Answer) → Fits (answered a)
-telling a done e =
-    let given : Performed = record { answer = a; write = None } in
-    let p : given ≡ done = cc in subst (λ (d : Performed). MayFit d.write) p tt
-
-summing : (map key : List ℕ) (sum : ℕ) → is_row map key ≡ true → Fits (summed map key sum)
+summing : (map key : List ℕ) (sum : ℕ) → is_row map key ≡ true → Fits (sum_result map key sum)
 summing map key sum row = go (nat_lt sum (2 ^ 64))
   where
-    go : (b : Bool) → Fits (if b then answered_writing (answers.Number sum) map key (Some (little_endian 8 sum)) else Err causes.Overflow)
+    go : (b : Bool) → Fits (if b then answer_and_write (answers.Number sum) map key (Some (little_endian 8 sum)) else Err causes.Overflow)
     go true = writing (answers.Number sum) map key (Some (little_endian 8 sum)) row (is_value-number sum)
-    go false = λ done e. absurd (cc)
+    go false = tt
 
-adding : (map key : List ℕ) (amount : ℕ) (o : Option (List ℕ)) → is_row map key ≡ true → Fits (added map key amount o)
+adding : (map key : List ℕ) (amount : ℕ) (o : Option (List ℕ)) → is_row map key ≡ true → Fits (add_result map key amount o)
 adding map key amount None row = summing map key amount row
 adding map key amount (Some value) row = go (length value == 8)
   where
-    go : (b : Bool) → Fits (if b then summed map key (from_little_endian value + amount) else Err causes.NotNumber)
+    go : (b : Bool) → Fits (if b then sum_result map key (from_little_endian value + amount) else Err causes.NotNumber)
     go true = summing map key (from_little_endian value + amount) row
-    go false = λ done e. absurd (cc)
+    go false = tt
 
-checking : (b : Bool) → Fits (checked b)
-checking true = telling answers.Done
-checking false = λ done e. absurd (cc)
+checking : (b : Bool) → Fits (check_result b)
+checking true = tt
+checking false = tt
 
-following : (t : Tables) (target : List ℕ) (o : Option (List ℕ)) → Fits (followed t target o)
-following t target None = telling answers.None
-following t target (Some key) = go (is_key key)
+following : (s : Sees) (target : List ℕ) (o : Option (List ℕ)) → Fits (follow_result s target o)
+following s target None = tt
+following s target (Some key) = go (is_key key)
   where
-    go : (b : Bool) → Fits (if b then answered (value_or_none (value_in t target key)) else Err causes.BadKey)
-    go true = telling (value_or_none (value_in t target key))
-    go false = λ done e. absurd (cc)
+    go : (b : Bool) → Fits (if b then answer_only (value_or_none (s.value target key)) else Err causes.BadKey)
+    go true = tt
+    go false = tt
 
-on_tables_fits : (t : Tables) (o : Operation) → is_operation o ≡ true → Fits (on_tables t o)
-on_tables_fits t (Get map key) h = telling (value_or_none (value_in t map key))
-on_tables_fits t (Has map key) h = telling (yes_or_no (has_key t map key))
-on_tables_fits t (Put map key value) h = let p = and_parts (is_row map key) (is_value value) h in writing answers.Done map key (Some value) p.0 p.1
-on_tables_fits t (Remove map key) h = writing (yes_or_no (has_key t map key)) map key None h refl
-on_tables_fits t (Add map key amount) h = let p = and_parts (is_row map key) (is_u64 amount) h in adding map key amount (value_in t map key) p.0
-on_tables_fits t (Check map key expected) h = checking (is_expected expected (value_in t map key))
-on_tables_fits t (Follow map key target) h = following t target (value_in t map key)
-on_tables_fits t (Size map) h = telling (answers.Number (size_of t map))
+on_seen_fits : (s : Sees) (o : Operation) → is_operation o ≡ true → Fits (on_seen s o)
+on_seen_fits s (Get map key) h = tt
+on_seen_fits s (Has map key) h = tt
+on_seen_fits s (Put map key value) h = let p = and_parts (is_row map key) (is_value value) h in writing answers.Done map key (Some value) p.0 p.1
+on_seen_fits s (Remove map key) h = writing (yes_or_no (has_key s map key)) map key None h refl
+on_seen_fits s (Add map key amount) h = let p = and_parts (is_row map key) (is_u64 amount) h in adding map key amount (s.value map key) p.0
+on_seen_fits s (Check map key expected) h = checking (is_expected expected (s.value map key))
+on_seen_fits s (Follow map key target) h = following s target (s.value map key)
+on_seen_fits s (Size map) h = tt
 
-performed_fits : (o : Operation) (t : Tables) → is_operation o ≡ true → Fits (performed o t)
-performed_fits o t h = go (barred_in o)
+perform_fits : (o : Operation) (s : Sees) → is_operation o ≡ true → Fits (perform_result o s)
+perform_fits o s h = go (bar_on o)
   where
-    go : (b : Option Cause) → Fits (unless_barred b (on_tables t o))
-    go None = on_tables_fits t o h
-    go (Some cause) = λ done e. absurd (cc)
+    go : (b : Option Cause) → Fits (unless_barred b (on_seen s o))
+    go None = on_seen_fits s o h
+    go (Some cause) = tt
 
 abbrev AreFit : List Write → Type 0
 AreFit ws = (is_ordered ws && list_all is_write ws) ≡ true
@@ -103,25 +98,25 @@ with_writes_fit : (ws : List Write) (o : Option Write) → AreFit ws → MayFit 
 with_writes_fit ws None all one = all
 with_writes_fit ws (Some w) all one = within-with_write ws w all one
 
-answered_ok : (a : Answer) (r : Result Ran Abort) (ran : Ran) → answered_first a r ≡ Ok ran → (inner : Ran) × (r ≡ Ok inner) × (ran.writes ≡ inner.writes)
-answered_ok a (Ok inner) ran e = (inner, refl, ap (λ (x : Ran). x.writes) (let p : ran ≡ record inner { answers = a ∷ inner.answers } = cc in p))
-answered_ok a (Err abort) ran e = absurd (cc)
+with_answer_ok : (a : Answer) (r : Result Ran Abort) (ran : Ran) → with_answer a r ≡ Ok ran → (inner : Ran) × (r ≡ Ok inner) × (ran.writes ≡ inner.writes)
+with_answer_ok a (Ok inner) ran e = (inner, refl, ap (λ (x : Ran). x.writes) (let p : ran ≡ record inner { reply = a ∷ inner.reply } = cc in p))
+with_answer_ok a (Err abort) ran e = absurd (cc)
 
-run_fits : (n : ℕ) (os : List Operation) (t : Tables) (ws : List Write) (ran : Ran) → list_all is_operation os ≡ true → AreFit ws → run_from n os t ws ≡ Ok ran → AreFit ran.writes
-run_fits n [] t ws ran ops all e = subst (λ (x : Ran). AreFit x.writes) (let p : record { answers = []; writes = ws } ≡ ran = cc in p) all
-run_fits n (o ∷ os) t ws ran ops all e =
+run_fits : (n : ℕ) (os : List Operation) (s : Sees) (ws : List Write) (ran : Ran) → list_all is_operation os ≡ true → AreFit ws → run_from n os s ws ≡ Ok ran → AreFit ran.writes
+run_fits n [] s ws ran ops all e = subst (λ (x : Ran). AreFit x.writes) (let p : record { reply = []; writes = ws } ≡ ran = cc in p) all
+run_fits n (o ∷ os) s ws ran ops all e =
     let both = and_parts (is_operation o) (list_all is_operation os) ops in
-    go (performed o t) refl (performed_fits o t both.0) e (λ done. run_fits (suc n) os (tables_after t done.write) (with_writes ws done.write))
+    go (perform_result o (behind s ws)) (perform_fits o (behind s ws) both.0) e (λ done. run_fits (suc n) os s (with_writes ws done.write))
   where
-    go : (r : Result Performed Cause) → performed o t ≡ r → Fits r →
-        goes_on n (λ done. run_from (suc n) os (tables_after t done.write) (with_writes ws done.write)) r ≡ Ok ran →
+    go : (r : Result Performed Cause) → Fits r →
+        goes_on n (λ done. run_from (suc n) os s (with_writes ws done.write)) r ≡ Ok ran →
         ((done : Performed) (inner : Ran) → list_all is_operation os ≡ true → AreFit (with_writes ws done.write) →
-        run_from (suc n) os (tables_after t done.write) (with_writes ws done.write) ≡ Ok inner → AreFit inner.writes) → AreFit ran.writes
-    go (Err cause) is f h again = absurd (cc)
-    go (Ok done) is f h again =
-        let inner = answered_ok done.answer (run_from (suc n) os (tables_after t done.write) (with_writes ws done.write)) ran h in
+        run_from (suc n) os s (with_writes ws done.write) ≡ Ok inner → AreFit inner.writes) → AreFit ran.writes
+    go (Err cause) f h again = absurd (cc)
+    go (Ok done) f h again =
+        let inner = with_answer_ok done.answer (run_from (suc n) os s (with_writes ws done.write)) ran h in
         subst (λ (xs : List Write). AreFit xs) (sym inner.2)
-        (again done inner.0 (and_parts (is_operation o) (list_all is_operation os) ops).1 (with_writes_fit ws done.write all (f done refl)) inner.1)
+        (again done inner.0 (and_parts (is_operation o) (list_all is_operation os) ops).1 (with_writes_fit ws done.write all f) inner.1)
 
 -- ---- the entry
 
@@ -131,12 +126,12 @@ execute_fits ledger view q e a low fits h =
     let made = execute_ok ledger view q e a h in
     let ran = made.1 in
     let all = (and_parts (is_count (length q)) (list_all Rattle.gl_tx.specs.Request.is_operation q) fits).1 in
-    let writes = run_fits 1 q (tables_of ledger) [] ran all refl made.2 in
+    let writes = run_fits 1 q (sees_in (tables_of ledger)) [] ran all refl made.2 in
     let both = and_parts (is_ordered ran.writes) (list_all is_write ran.writes) writes in
     let left : length ledger < last_seqno = made.7 in
     subst (λ (x : Entry). is_entry x ≡ true) (sym made.3)
     (is_entry-from_fields (application_entry ledger view q ran)
-    (application_fits view (length ledger + 1) (request_bytes q) ran.writes (sha256 (reply_bytes ran.answers)) low (omega (arith, left))
+    (application_fits view (length ledger + 1) (request_bytes q) ran.writes (sha256 (reply_bytes ran.reply)) low (omega (arith, left))
     (request_are_bytes q fits)
-    (all_writes ran.writes both.1) both.0 (length-sha256 (reply_bytes ran.answers)) (are_bytes-each (sha256 (reply_bytes ran.answers)) (sha256_bytes (reply_bytes ran.answers))))
+    (all_writes ran.writes both.1) both.0 (length-sha256 (reply_bytes ran.reply)) (are_bytes-each (sha256 (reply_bytes ran.reply)) (sha256_bytes (reply_bytes ran.reply))))
     (subst (λ (x : Entry). length (body_bytes x) ≤ body_limit) made.3 made.5))

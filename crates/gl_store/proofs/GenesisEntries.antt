@@ -6,7 +6,8 @@ use Rattle.std.proofs.lemmas.Bool.Decides.{nat_tests}
 use Rattle.std.proofs.lemmas.List.Folds.{list_all-append}
 use Rattle.sha2.proofs.Facts256.{length-sha256}
 use Rattle.gl_base.specs.LittleEndian.{little_endian}
-use Rattle.gl_base.specs.Field.{is_byte, are_bytes, with_u32_length}
+use Rattle.gl_base.specs.Bytes.{is_byte, are_bytes}
+use Rattle.gl_base.specs.Field.{with_u32_length}
 use Rattle.gl_base.proofs.LittleEndianLaws.{length-little_endian}
 use Rattle.gl_vmaps.specs.Name.{is_map_name, is_key, is_value}
 use Rattle.gl_vmaps.specs.Writes.{is_write}

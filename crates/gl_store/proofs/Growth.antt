@@ -3,7 +3,8 @@ use Rattle.std.proofs.Common.{◌≡◌, ℕ, suc, ◌+◌, ◌<◌, ◌≤◌, 
 use Rattle.std.specs.List.{slice_get, AllByRecursion}
 use Rattle.std.proofs.lemmas.Bool.{false≢true}
 use Rattle.gl_vmaps.specs.Name.{is_governance}
-use Rattle.gl_vmaps.specs.Tables.{Tables, same_bytes, wrote, wrote_all, with_row}
+use Rattle.gl_base.specs.Bytes.{same_bytes}
+use Rattle.gl_vmaps.specs.Tables.{Tables, wrote, wrote_all, with_row}
 use Rattle.gl_store.specs.Effect.{Recorded, RecordsAt, RecordsFrom}
 use Rattle.gl_store.specs.Serial.{IsLedger, IsSerial, IsGoverned, IsSound, StandsAs}
 use Rattle.gl_store.specs.Tree.{tables_of}

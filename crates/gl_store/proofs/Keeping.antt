@@ -6,7 +6,9 @@ use Rattle.std.specs.FinMap as rows
 use Rattle.gl_base.specs.TxId.{last_seqno}
 use Rattle.gl_merkle.specs.Frontier as frontiers
 use Rattle.gl_vmaps.specs.Tables.{Tables, Rows, wrote_all}
-use Rattle.gl_vmaps.specs.Versions.{Placed, placed_at, IsAbove}
+use Rattle.gl_vmaps.specs.Kept as kept
+use Rattle.gl_vmaps.specs.Standing.{StandsFor}
+use Rattle.gl_vmaps.specs.Versions.{Placed, placed_at}
 use Rattle.gl_tx.specs.Request.{is_request}
 use Rattle.gl_tx.specs.declared.request.Operation.{Operation}
 use Rattle.gl_tx.specs.declared.request.Answer.{Answer}
@@ -24,7 +26,7 @@ use Rattle.gl_store.specs.Book.{service_book}
 use Rattle.gl_store.specs.Kept.{Beside, IsTreeOf, IsKept}
 use Rattle.gl_store.specs.declared.genesis.Genesis as request
 use Rattle.gl_store.proofs.Signatures.{last_signature-push, last_signature-signed, signed_up_to-push}
-use Rattle.gl_store.proofs.TablesLaws.{writes_of-push, tables_of-push, leaves_of-push, above_next}
+use Rattle.gl_store.proofs.TablesLaws.{writes_of-push, tables_of-push, leaves_of-push, versions_below}
 use Rattle.gl_store.proofs.Growth.{IsOutside, untouched, sound-push}
 use Rattle.gl_store.proofs.Applications.{execute_ok, application_sound, run_outside}
 use Rattle.gl_store.proofs.Openings.{genesis_sound, opening_sound, state_of_opening, identity_of_opening, identity_of_genesis}
@@ -60,10 +62,15 @@ tree-push ledger e identity old new stands is out grown = record {
       ∙ ap (λ (i : List ℕ). leaves_of ledger ++ leaf_of i e ∷ []) is ∙ sym (leaf-push ledger e out);
 }
 
+-- the tables have the writes of an entry behind what they stood for
+pub record HasWritten (old : kept.Kept) (e : Entry) (new : kept.Kept) : Type 0 where
+  pub stands : (ps : List Placed) → StandsFor old ps → StandsFor new (ps ++ placed_at e.seqno e.writes)
+  pub base : new.base ≡ old.base
+
 -- an entry that keeps the ledger sound and is none of governance, with its writes and its leaf
-pub kept-push : (ledger items : List Entry) (b : Beside) (e : Entry) (tables : List Placed) (frontier : frontiers.Content) (last : ℕ) →
+pub kept-push : (ledger items : List Entry) (b : Beside) (e : Entry) (tables : kept.Kept) (frontier : frontiers.Content) (last : ℕ) →
     IsKept ledger b → IsSound (ledger ++ e ∷ []) → length ledger < last_seqno → AllByRecursion IsOutside e.writes →
-    last ≡ last_signature service_book (ledger ++ e ∷ []) → items ≡ ledger ++ e ∷ [] → tables ≡ b.tables ++ placed_at e.seqno e.writes →
+    last ≡ last_signature service_book (ledger ++ e ∷ []) → items ≡ ledger ++ e ∷ [] → HasWritten b.tables e tables →
     frontiers.HasLeaves b.frontier frontier (b.frontier.leaves ++ leaf_of b.identity e ∷ []) →
     IsKept items (record b { last_signature = last; tables = tables; frontier = frontier })
 kept-push ledger items b e tables frontier last k sound left out is pushed written grown =
@@ -76,27 +83,28 @@ kept-push ledger items b e tables frontier last k sound left out is pushed writt
       signed = is;
       state_is = k.state_is ∙ sym (service_state-push ledger e out);
       identity_is = k.identity_is ∙ sym (identity_in-push ledger e out);
-      tables_are = written ∙ ap (λ (ps : List Placed). ps ++ placed_at e.seqno e.writes) k.tables_are ∙ sym (writes_of-push ledger e);
+      tables_are = subst (StandsFor tables) (sym (writes_of-push ledger e)) (written.stands (writes_of ledger) k.tables_are);
+      tables_from = written.base ∙ k.tables_from;
       tree = tree-push ledger e b.identity b.frontier frontier k.tree k.identity_is out grown;
     })
 
 -- an application entry
 pub kept_with_application : (ledger items : List Entry) (b : Beside) (view : ℕ) (q : List Operation) (e : Entry) (a : List Answer) (leaf : List ℕ)
-    (tables : List Placed) (frontier : frontiers.Content) → IsKept ledger b → ViewsUpTo service_book view ledger → is_request q ≡ true → execute_result ledger view q ≡ Ok (e, a) →
-    is_entry e ≡ true → leaf ≡ leaf_of b.identity e → items ≡ ledger ++ e ∷ [] → tables ≡ b.tables ++ placed_at e.seqno e.writes →
+    (tables : kept.Kept) (frontier : frontiers.Content) → IsKept ledger b → ViewsUpTo service_book view ledger → is_request q ≡ true → execute_result ledger view q ≡ Ok (e, a) →
+    is_entry e ≡ true → leaf ≡ leaf_of b.identity e → items ≡ ledger ++ e ∷ [] → HasWritten b.tables e tables →
     frontiers.HasLeaves b.frontier frontier (b.frontier.leaves ++ leaf ∷ []) → IsKept items (record b { tables = tables; frontier = frontier })
 kept_with_application ledger items b view q e a leaf tables frontier k up fits h one hashed pushed written grown =
     let made = execute_ok ledger view q e a h in
-    let out : AllByRecursion IsOutside e.writes = subst (λ (x : Entry). AllByRecursion IsOutside x.writes) (sym made.3) (run_outside 1 q (tables_of ledger) [] made.1 tt made.2) in
+    let out : AllByRecursion IsOutside e.writes = subst (λ (x : Entry). AllByRecursion IsOutside x.writes) (sym made.3) (run_outside q (tables_of ledger) made.1 made.2) in
     let other : is_signature e.content ≡ false = subst (λ (x : Entry). is_signature x.content ≡ false) (sym made.3) refl in
     kept-push ledger items b e tables frontier b.last_signature k (application_sound ledger view q e a k.sound up fits h one) made.7 out
     (k.signed ∙ sym (last_signature-push ledger e other)) pushed written
     (subst (λ (l : List ℕ). frontiers.HasLeaves b.frontier frontier (b.frontier.leaves ++ l ∷ [])) hashed grown)
 
 -- a signature
-pub kept_with_signature : (ledger items : List Entry) (b : Beside) (view : ℕ) (node : List ℕ) (e : Entry) (tables : List Placed) (frontier : frontiers.Content) (last : ℕ) →
+pub kept_with_signature : (ledger items : List Entry) (b : Beside) (view : ℕ) (node : List ℕ) (e : Entry) (tables : kept.Kept) (frontier : frontiers.Content) (last : ℕ) →
     IsKept ledger b → ViewsUpTo service_book view ledger → length ledger < last_seqno → e ≡ signature_entry node ledger view b.commit → is_entry e ≡ true → last ≡ length ledger + 1 →
-    items ≡ ledger ++ e ∷ [] → tables ≡ b.tables ++ placed_at e.seqno e.writes →
+    items ≡ ledger ++ e ∷ [] → HasWritten b.tables e tables →
     frontiers.HasLeaves b.frontier frontier (b.frontier.leaves ++ leaf_of b.identity e ∷ []) →
     IsKept items (record b { last_signature = last; tables = tables; frontier = frontier })
 kept_with_signature ledger items b view node e tables frontier last k up left made one place pushed written grown =
@@ -110,22 +118,25 @@ kept_with_signature ledger items b view node e tables frontier last k up left ma
 
 -- ---- the opening ledger
 
--- a log that holds the entry of a genesis alone
-pub record Founded (g : request.Genesis) (items : List Entry) (tables : List Placed) (frontier : frontiers.Content) : Type 0 where
+-- what holds the entry of a genesis alone
+pub record Founded (g : request.Genesis) (items : List Entry) (tables : kept.Kept) (frontier : frontiers.Content) : Type 0 where
   pub items_are : items ≡ genesis_entry g ∷ []
-  pub tables_are : tables ≡ writes_of items
+  pub tables_are : StandsFor tables (writes_of items)
+  pub tables_from : tables.base ≡ 0
   pub tree : IsTreeOf (leaves_of items) frontier
 
-pub founded : (g : request.Genesis) (none items : List Entry) (no_writes tables : List Placed) (old frontier : frontiers.Content) (e : Entry) →
-    none ≡ [] → no_writes ≡ [] → old.base ≡ 0 → old.peaks ≡ [] → old.leaves ≡ [] → e ≡ genesis_entry g → items ≡ none ++ e ∷ [] →
-    tables ≡ no_writes ++ placed_at e.seqno e.writes → frontiers.HasLeaves old frontier (old.leaves ++ leaf_of g.identity e ∷ []) → Founded g items tables frontier
-founded g none items no_writes tables old frontier e empty unwritten base peaks leaves made pushed written grown =
+pub founded : (g : request.Genesis) (none items : List Entry) (unwritten tables : kept.Kept) (old frontier : frontiers.Content) (e : Entry) →
+    none ≡ [] → StandsFor unwritten [] → unwritten.base ≡ 0 → old.base ≡ 0 → old.peaks ≡ [] → old.leaves ≡ [] → e ≡ genesis_entry g → items ≡ none ++ e ∷ [] →
+    HasWritten unwritten e tables → frontiers.HasLeaves old frontier (old.leaves ++ leaf_of g.identity e ∷ []) → Founded g items tables frontier
+founded g none items unwritten tables old frontier e empty nothing start base peaks leaves made pushed written grown =
     let one : items ≡ genesis_entry g ∷ [] = pushed ∙ ap (λ (es : List Entry). es ++ e ∷ []) empty ∙ ap (λ (x : Entry). x ∷ []) made in
     record {
       items_are = one;
       tables_are =
-          written ∙ ap (λ (ps : List Placed). ps ++ placed_at e.seqno e.writes) unwritten ∙ ap (λ (x : Entry). placed_at x.seqno x.writes) made
-          ∙ sym (append-nil (placed_at 1 (genesis_entry g).writes)) ∙ ap writes_of (sym one);
+          subst (StandsFor tables)
+          (ap (λ (x : Entry). placed_at x.seqno x.writes) made ∙ sym (append-nil (placed_at 1 (genesis_entry g).writes)) ∙ ap writes_of (sym one))
+          (written.stands [] nothing);
+      tables_from = written.base ∙ start;
       tree = record {
         base = grown.base ∙ base;
         peaks = grown.peaks ∙ peaks;
@@ -135,19 +146,19 @@ founded g none items no_writes tables old frontier e empty unwritten base peaks 
       };
     }
 
--- the place of its first signature is above that of all writes
-pub founded_above : (g : request.Genesis) (items : List Entry) (tables : List Placed) (frontier : frontiers.Content) (place : ℕ) → is_acceptable g ≡ true → is_genesis g ≡ true →
-    is_entry (genesis_entry g) ≡ true → Founded g items tables frontier → place ≡ length items + 1 → IsAbove place tables
-founded_above g items tables frontier place acceptable fits entry first at =
-    above_next items tables place (subst IsLedger (sym first.items_are) (genesis_sound g acceptable fits entry).in_order) first.tables_are at
+-- the seqno of its first signature is above the versions of all rows
+pub founded_below : (g : request.Genesis) (items : List Entry) (tables : kept.Kept) (frontier : frontiers.Content) (seqno : ℕ) → is_acceptable g ≡ true → is_genesis g ≡ true →
+    is_entry (genesis_entry g) ≡ true → Founded g items tables frontier → seqno ≡ length items + 1 → (map key : List ℕ) → kept.version_of tables map key < seqno
+founded_below g items tables frontier seqno acceptable fits entry first at =
+    versions_below items tables seqno (subst IsLedger (sym first.items_are) (genesis_sound g acceptable fits entry).in_order) first.tables_are at
 
 identity_founded : (g : request.Genesis) → g.identity ≡ identity_in (tables_of (genesis_entry g ∷ []))
 identity_founded g = sym (ap identity_in (tables_of-push [] (genesis_entry g)) ∙ identity_of_genesis g)
 
 -- what a store keeps of an opening ledger
-pub kept_opening : (g : request.Genesis) (signer : List ℕ) (first items : List Entry) (first_tables tables : List Placed) (old frontier : frontiers.Content) (e : Entry) →
+pub kept_opening : (g : request.Genesis) (signer : List ℕ) (first items : List Entry) (first_tables tables : kept.Kept) (old frontier : frontiers.Content) (e : Entry) →
     is_acceptable g ≡ true → is_genesis g ≡ true → is_entry (genesis_entry g) ≡ true → Founded g first first_tables old → e ≡ signature_entry signer first 2 2 →
-    is_entry e ≡ true → items ≡ first ++ e ∷ [] → tables ≡ first_tables ++ placed_at e.seqno e.writes →
+    is_entry e ≡ true → items ≡ first ++ e ∷ [] → HasWritten first_tables e tables →
     frontiers.HasLeaves old frontier (old.leaves ++ leaf_of g.identity e ∷ []) →
     IsKept items (record { commit = 2; last_signature = 2; service_state = g.state; identity = g.identity; tables = tables; frontier = frontier })
 kept_opening g signer first items first_tables tables old frontier e acceptable fits founding f made one pushed written grown =
@@ -168,7 +179,10 @@ kept_opening g signer first items first_tables tables old frontier e acceptable 
       state_is = sym (state_of_opening g signer);
       identity_is = sym (identity_of_opening g signer);
       tables_are =
-          written ∙ ap (λ (ps : List Placed). ps ++ placed_at e.seqno e.writes) (f.tables_are ∙ ap writes_of f.items_are)
-          ∙ ap (λ (x : Entry). writes_of opening ++ placed_at x.seqno x.writes) same ∙ sym (writes_of-push opening signature);
+          subst (StandsFor tables)
+          (ap (λ (es : List Entry). writes_of es ++ placed_at e.seqno e.writes) f.items_are
+          ∙ ap (λ (x : Entry). writes_of opening ++ placed_at x.seqno x.writes) same ∙ sym (writes_of-push opening signature))
+          (written.stands (writes_of first) f.tables_are);
+      tables_from = written.base ∙ f.tables_from;
       tree = tree;
     })

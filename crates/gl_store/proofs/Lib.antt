@@ -3,7 +3,6 @@ pub mod Lists
 pub mod TablesLaws
 pub mod Growth
 pub mod WriteSets
-pub mod SetRows
 pub mod Openings
 pub mod Signatures
 pub mod Applications

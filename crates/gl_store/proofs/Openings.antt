@@ -19,7 +19,7 @@ use Rattle.gl_store.specs.declared.genesis.Genesis as request
 use Rattle.gl_store.specs.declared.genesis.GovernanceRequest.TheVariants as requests
 use Rattle.gl_store.specs.declared.genesis.ServiceState.{ServiceState}
 use Rattle.gl_store.specs.declared.genesis.ServiceState.TheVariants.{Opening, Open}
-use Rattle.gl_store.proofs.WriteSets.{set_from-append, is_ordered-set_from, list_all-set_from, value_in-with_write, sets_value, changes-from_sets_value}
+use Rattle.gl_store.proofs.WriteSets.{set_from-append, is_ordered-set_from, list_all-set_from, value_in-put, sets_value, changes-from_sets_value}
 use Rattle.gl_store.proofs.TablesLaws.{tables_of-push}
 use Rattle.gl_store.proofs.Growth.{sound-push}
 
@@ -63,7 +63,7 @@ last_row g = ap write_set (rows_are g) ∙ set_from-append [] (rows_before g) (s
 pub service_value : (g : request.Genesis) → value_in (wrote_all no_tables (genesis_writes g)) service_map service_key ≡ Some (state_byte g.state ∷ 0 ∷ g.identity)
 service_value g =
     ap (λ (ws : List Write). value_in (wrote_all no_tables ws) service_map service_key) (last_row g)
-    ∙ value_in-with_write no_tables (write_set (rows_before g)) (service_row g) (is_ordered-set_from [] (rows_before g) refl)
+    ∙ value_in-put no_tables (write_set (rows_before g)) (service_row g) (is_ordered-set_from [] (rows_before g) refl)
 
 -- ---- the ledger is sound
 

@@ -1,5 +1,7 @@
 -- What the calls of a store come to, in the words of the rules over its book.
 use Rattle.std.specs.Prelude.{◌≡◌, ℕ, ◌+◌, ◌<◌, List, [], ◌∷◌, ◌++◌, Some, Result, Ok, Err, true, length}
+use Rattle.gl_base.specs.declared.or_no_memory.OrNoMemory.{OrNoMemory}
+use Rattle.gl_base.specs.declared.or_no_memory.OrNoMemory.TheVariants.{NoMemory, Fault}
 use Rattle.gl_base.specs.declared.tx_id.TxId.{TxId}
 use Rattle.gl_rules.specs.Log.{entry_at}
 use Rattle.gl_rules.specs.Node.{Node}
@@ -8,8 +10,7 @@ use Rattle.gl_tx.specs.declared.request.Operation.{Operation}
 use Rattle.gl_tx.specs.declared.request.Answer.{Answer}
 use Rattle.gl_store.specs.Ledger.{Held}
 use Rattle.gl_store.specs.Book.{service_book, Replied, Unmade, ByStore}
-use Rattle.gl_store.specs.declared.refusal.StoreError.{StoreError}
-use Rattle.gl_store.specs.declared.refusal.StoreError.TheVariants as errors
+use Rattle.gl_store.specs.declared.refusal.Refusal.{Refusal}
 
 -- The node's log and its commit are what the store holds.
 pub record IsNodeOf (held : Held) (n : Node Entry) : Type 0 where
@@ -44,7 +45,7 @@ pub record Signs (old : Held) (node : List ℕ) (view : ℕ) (id : TxId) (new : 
   pub made : (leaf : ℕ) → service_book.sign node leaf old.ledger view old.commit ≡ Ok entry
   pub enters : Enters old view entry id new
 
--- A refusal is the book's; want of memory may come at any time.
-abbrev pub Refuses : {X : Type 0} → Result X Unmade → StoreError → Type 0
-Refuses owed errors.Memory = Unit {0}
-Refuses owed (errors.Refused why) = owed ≡ Err (ByStore why)
+-- A refusal is the book's; memory may run out at any time.
+abbrev pub Refuses : {X : Type 0} → Result X Unmade → OrNoMemory Refusal → Type 0
+Refuses owed NoMemory = Unit {0}
+Refuses owed (Fault why) = owed ≡ Err (ByStore why)

@@ -3,8 +3,8 @@ use Rattle.std.specs.Prelude.{ℕ, suc, ◌^◌, ◌≤◌, List, [], ◌∷◌,
 use Rattle.std.specs.List.{flat_map, list_all, list_any, AllByRecursion}
 use Rattle.sha2.specs.Sha256.{sha256}
 use Rattle.gl_base.specs.LittleEndian.{little_endian}
-use Rattle.gl_base.specs.Field.{is_byte, are_bytes, with_u32_length}
-use Rattle.gl_vmaps.specs.Tables.{same_bytes}
+use Rattle.gl_base.specs.Bytes.{is_byte, are_bytes, same_bytes}
+use Rattle.gl_base.specs.Field.{with_u32_length}
 use Rattle.gl_vmaps.specs.Writes.{with_write}
 use Rattle.gl_vmaps.specs.declared.write.Write.{Write}
 use Rattle.gl_entry.specs.Entry.{are_sized, is_digest}

@@ -2,7 +2,8 @@
 use Rattle.std.specs.Prelude.{◌≡◌, ℕ, ◌≤◌, List, [], length}
 use Rattle.gl_base.specs.TxId.{last_seqno}
 use Rattle.gl_merkle.specs.Frontier as frontiers
-use Rattle.gl_vmaps.specs.Versions.{Placed}
+use Rattle.gl_vmaps.specs.Kept as tables
+use Rattle.gl_vmaps.specs.Standing.{StandsFor}
 use Rattle.gl_rules.specs.Log.{last_signature}
 use Rattle.gl_entry.specs.declared.entry.Entry.{Entry}
 use Rattle.gl_store.specs.Effect.{service_state, identity_in}
@@ -18,7 +19,7 @@ pub record Beside : Type 0 where
   pub last_signature : ℕ
   pub service_state : ServiceState
   pub identity : List ℕ
-  pub tables : List Placed
+  pub tables : tables.Kept
   pub frontier : frontiers.Content
 
 -- The frontier is the tree of these leaves, from the first.
@@ -38,5 +39,6 @@ pub record IsKept (ledger : List Entry) (b : Beside) : Type 0 where
   pub signed : b.last_signature ≡ last_signature service_book ledger
   pub state_is : b.service_state ≡ service_state (tables_of ledger)
   pub identity_is : b.identity ≡ identity_in (tables_of ledger)
-  pub tables_are : b.tables ≡ writes_of ledger
+  pub tables_are : StandsFor b.tables (writes_of ledger)
+  pub tables_from : b.tables.base ≡ 0
   pub tree : IsTreeOf (leaves_of ledger) b.frontier

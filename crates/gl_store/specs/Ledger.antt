@@ -4,10 +4,11 @@ use Rattle.sha2.specs.Sha256.{sha256}
 use Rattle.gl_merkle.specs.Tree.{root_of}
 use Rattle.gl_base.specs.TxId.{last_seqno}
 use Rattle.gl_tx.specs.Request.{request_bytes, reply_bytes}
-use Rattle.gl_tx.specs.Run.{Ran, run}
+use Rattle.gl_tx.specs.Run.{run}
+use Rattle.gl_tx.specs.declared.runs.Ran.{Ran}
 use Rattle.gl_tx.specs.declared.request.Operation.{Operation}
 use Rattle.gl_tx.specs.declared.request.Answer.{Answer}
-use Rattle.gl_tx.specs.declared.request.Abort.{Abort}
+use Rattle.gl_tx.specs.declared.abort.Abort.{Abort}
 use Rattle.gl_entry.specs.Entry.{no_digest, body_bytes, body_limit}
 use Rattle.gl_entry.specs.declared.entry.Content.TheVariants as content
 use Rattle.gl_entry.specs.declared.entry.Entry.{Entry}
@@ -61,7 +62,7 @@ application_entry ledger view operations ran = record {
   seqno = length ledger + 1;
   content = content.Application (request_bytes operations);
   writes = ran.writes;
-  claims = sha256 (reply_bytes ran.answers);
+  claims = sha256 (reply_bytes ran.reply);
 }
 
 -- Unless no seqno is left that an identifier can name.
@@ -84,7 +85,7 @@ abbrev pub run_result : List Entry → ℕ → List Operation → Result Ran Abo
     Result (Entry × List Answer) Refusal
 run_result ledger view operations (Err abort) = Err (refusals.Aborted abort)
 run_result ledger view operations (Ok ran) =
-    within_limits ledger (application_entry ledger view operations ran) ran.answers
+    within_limits ledger (application_entry ledger view operations ran) ran.reply
 
 -- The same, in a service that is in this state: unless it is open, the request is refused.
 abbrev pub execute_in : ServiceState → List Entry → ℕ → List Operation →

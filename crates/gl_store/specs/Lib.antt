@@ -7,4 +7,3 @@ pub mod Nodes
 pub mod Book
 pub mod Calls
 pub mod Kept
-pub mod Refusals

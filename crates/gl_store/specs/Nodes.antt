@@ -2,7 +2,8 @@
 -- tables tell it.
 use Rattle.std.specs.Prelude.{ℕ, zero, suc, ◌+◌, ◌-◌, ◌*◌, List, [], ◌∷◌, ◌++◌, Option, None, Some, Bool, true, false, ◌&&◌, ◌==◌, length, map, filter, take, slice_index, if◌then◌else◌}
 use Rattle.std.specs.FinMap as rows
-use Rattle.gl_vmaps.specs.Tables.{Rows, same_bytes}
+use Rattle.gl_base.specs.Bytes.{same_bytes}
+use Rattle.gl_vmaps.specs.Tables.{Rows}
 use Rattle.gl_store.specs.Tree.{tables_of}
 use Rattle.gl_store.specs.Genesis.{nodes_map}
 use Rattle.gl_entry.specs.declared.entry.Entry.{Entry}

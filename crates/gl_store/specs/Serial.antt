@@ -8,7 +8,8 @@ use Rattle.gl_vmaps.specs.Tables.{Tables, value_in, wrote_all}
 use Rattle.gl_vmaps.specs.Writes.{is_ordered}
 use Rattle.gl_vmaps.specs.declared.write.Write.{Write}
 use Rattle.gl_tx.specs.Request.{is_request, request_bytes, reply_bytes}
-use Rattle.gl_tx.specs.Run.{Ran, run}
+use Rattle.gl_tx.specs.Run.{run}
+use Rattle.gl_tx.specs.declared.runs.Ran.{Ran}
 use Rattle.gl_tx.specs.declared.request.Operation.{Operation}
 use Rattle.gl_entry.specs.Entry.{no_digest, is_entry}
 use Rattle.gl_entry.specs.declared.entry.Content.{Content}
@@ -59,7 +60,7 @@ pub record IsApplicationEntry (before : List Entry) (e : Entry) (bytes : List �
   pub ran : Ran
   pub runs : run request (tables_of before) ≡ Ok ran
   pub writes : e.writes ≡ ran.writes
-  pub claims : e.claims ≡ sha256 (reply_bytes ran.answers)
+  pub claims : e.claims ≡ sha256 (reply_bytes ran.reply)
 
 -- Signatures and evidence write nothing.
 abbrev pub WritesNothing : Entry → Type 0

@@ -1,7 +1,7 @@
 //! The request that founds a service, which is the first entry of its ledger.
 
-use gl_entry::{Bytes, Digest};
-use std::marker::Model;
+use gl_base::{Bytes, Sequence};
+use gl_entry::Digest;
 
 /// Whether a service takes requests of applications (CCF documentation, "Opening a Network").
 #[derive(Clone, Copy, Debug, PartialEq, Eq)]
@@ -47,118 +47,6 @@ pub struct ShareDigest {
     pub digest: Digest,
 }
 
-/// The nodes of a request, in its order. Nodes are numbered and listed in the order in which they
-/// were recorded.
-#[derive(Debug, Drop)]
-pub struct Nodes {
-    items: Vec<NewNode>,
-}
-
-impl Model for Nodes {
-    ghost use Rattle.std.specs.Prelude.{List};
-    ghost use Rattle.gl_store.specs.declared.genesis.NewNode.{NewNode};
-
-    ghost Value = { List NewNode };
-
-    ghost view = { λ n. n.items.items };
-}
-
-impl Nodes {
-    ghost use Rattle.std.specs.Prelude.{◌≡◌};
-
-    /// The nodes, in order.
-    pub fn as_slice(&self) -> &[NewNode]
-        ensures { result.now ≡ self.now }
-    {
-        &self.items
-    }
-}
-
-impl From<Vec<NewNode>> for Nodes {
-    ghost use Rattle.std.specs.Prelude.{◌≡◌};
-
-    ghost from_gives = { λ items nodes. nodes ≡ items.items };
-
-    /// The nodes as they are: takes no memory.
-    fn from(items: Vec<NewNode>) -> Nodes {
-        Nodes { items }
-    }
-}
-
-/// The members of a request, in its order.
-#[derive(Debug, Drop)]
-pub struct Members {
-    items: Vec<NewMember>,
-}
-
-impl Model for Members {
-    ghost use Rattle.std.specs.Prelude.{List};
-    ghost use Rattle.gl_store.specs.declared.genesis.NewMember.{NewMember};
-
-    ghost Value = { List NewMember };
-
-    ghost view = { λ m. m.items.items };
-}
-
-impl Members {
-    ghost use Rattle.std.specs.Prelude.{◌≡◌};
-
-    /// The members, in order.
-    pub fn as_slice(&self) -> &[NewMember]
-        ensures { result.now ≡ self.now }
-    {
-        &self.items
-    }
-}
-
-impl From<Vec<NewMember>> for Members {
-    ghost use Rattle.std.specs.Prelude.{◌≡◌};
-
-    ghost from_gives = { λ items members. members ≡ items.items };
-
-    /// The members as they are: takes no memory.
-    fn from(items: Vec<NewMember>) -> Members {
-        Members { items }
-    }
-}
-
-/// The digests of the shares that a dealing hands out, ascending by member.
-#[derive(Debug, Drop)]
-pub struct Shares {
-    items: Vec<ShareDigest>,
-}
-
-impl Model for Shares {
-    ghost use Rattle.std.specs.Prelude.{List};
-    ghost use Rattle.gl_store.specs.declared.genesis.ShareDigest.{ShareDigest};
-
-    ghost Value = { List ShareDigest };
-
-    ghost view = { λ s. s.items.items };
-}
-
-impl Shares {
-    ghost use Rattle.std.specs.Prelude.{◌≡◌};
-
-    /// The digests, in order.
-    pub fn as_slice(&self) -> &[ShareDigest]
-        ensures { result.now ≡ self.now }
-    {
-        &self.items
-    }
-}
-
-impl From<Vec<ShareDigest>> for Shares {
-    ghost use Rattle.std.specs.Prelude.{◌≡◌};
-
-    ghost from_gives = { λ items shares. shares ≡ items.items };
-
-    /// The digests as they are: takes no memory.
-    fn from(items: Vec<ShareDigest>) -> Shares {
-        Shares { items }
-    }
-}
-
 /// How a recovery secret was dealt among members (CCF documentation, "Disaster Recovery").
 #[derive(Debug, Drop)]
 pub struct Dealing {
@@ -166,8 +54,8 @@ pub struct Dealing {
     pub threshold: u8,
     /// The SHA-256 digest of the secret.
     pub secret_digest: Digest,
-    /// Who holds a share, and the share's digest.
-    pub shares: Shares,
+    /// Who holds a share, and the share's digest, ascending by member.
+    pub shares: Sequence<ShareDigest>,
 }
 
 /// The request that founds a service.
@@ -177,10 +65,10 @@ pub struct Genesis {
     pub state: ServiceState,
     /// The service's key, which endorses its nodes.
     pub identity: HssPublicKey,
-    /// The nodes that begin it, at most 32.
-    pub nodes: Nodes,
+    /// The nodes that begin it, at most 32. They are numbered and listed in this order.
+    pub nodes: Sequence<NewNode>,
     /// The members who govern it, at most 64.
-    pub members: Members,
+    pub members: Sequence<NewMember>,
     /// The dealing of its first recovery secret.
     pub dealing: Dealing,
 }

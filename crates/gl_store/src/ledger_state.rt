@@ -1,8 +1,10 @@
 //! A growing ledger, with the tables and the tree that its entries make.
 
-ghost use Rattle.std.specs.Prelude.{◌≡◌, ◌≤◌, ◌<◌, ◌^◌, [], ◌∷◌, ◌++◌, IfOk, OnOk, OnErr};
+ghost use Rattle.std.specs.Prelude.{◌≡◌, ◌≤◌, ◌<◌, ◌^◌, ℕ, List, [], ◌∷◌, ◌++◌, IfOk, OnOk, OnErr};
 ghost use Rattle.gl_merkle.specs.Frontier.{HasLeaves, IsUnchanged};
-ghost use Rattle.gl_vmaps.specs.Versions.{placed_at, IsAbove};
+ghost use Rattle.gl_vmaps.specs.Kept.{version_of};
+ghost use Rattle.gl_vmaps.specs.Standing.{StandsFor};
+ghost use Rattle.gl_vmaps.specs.Versions.{Placed, placed_at};
 
 use gl_entry::{Digest, Entry};
 use gl_merkle::Frontier;
@@ -30,7 +32,8 @@ impl LedgerState {
     /// Of no entries.
     pub fn new(alloc: Global) -> Result<Self, AllocError>
         ensures entries { IfOk result (λ state. state.entries.items ≡ []) }
-        ensures tables { IfOk result (λ state. state.tables ≡ []) }
+        ensures tables { IfOk result (λ state. StandsFor state.tables []) }
+        ensures from_start { IfOk result (λ state. state.tables.base ≡ 0) }
         ensures base { IfOk result (λ state. state.frontier.base ≡ 0) }
         ensures peaks { IfOk result (λ state. state.frontier.peaks ≡ []) }
         ensures leaves { IfOk result (λ state. state.frontier.leaves ≡ []) }
@@ -44,11 +47,13 @@ impl LedgerState {
 
     /// Adds an entry and its leaf. Want of memory leaves all as it was.
     pub fn push(&mut self, entry: Entry, leaf: Digest) -> Result<(), AllocError>
-        requires { IsAbove entry.seqno self.old.tables }
+        requires base { self.old.tables.base < entry.seqno }
+        requires above { (map key : List ℕ) → version_of self.old.tables map key < entry.seqno }
         ensures entries { OnOk result (self.new.entries.items
             ≡ self.old.entries.items ++ entry ∷ []) }
-        ensures tables { OnOk result (self.new.tables
-            ≡ self.old.tables ++ placed_at entry.seqno entry.writes) }
+        ensures tables { OnOk result ((ps : List Placed) → StandsFor self.old.tables ps →
+            StandsFor self.new.tables (ps ++ placed_at entry.seqno entry.writes)) }
+        ensures base { OnOk result (self.new.tables.base ≡ self.old.tables.base) }
         ensures leaves { OnOk result (HasLeaves self.old.frontier self.new.frontier
             (self.old.frontier.leaves ++ leaf ∷ [])) }
         ensures entries_kept { OnErr result (self.new.entries.items ≡ self.old.entries.items) }

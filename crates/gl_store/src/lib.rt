@@ -14,10 +14,10 @@ mod store;
 
 pub use encode::state_byte;
 pub use genesis::{
-    Dealing, Genesis, GovernanceRequest, HssPublicKey, LmsPublicKey, Members, NewMember, NewNode, Nodes,
-    ServiceState, ShareDigest, Shares,
+    Dealing, Genesis, GovernanceRequest, HssPublicKey, LmsPublicKey, NewMember, NewNode, ServiceState,
+    ShareDigest,
 };
-pub use refusal::{Refusal, StoreError};
+pub use refusal::Refusal;
 pub use store::Store;
 
 #[cfg(test)]

@@ -4,10 +4,11 @@ ghost use Rattle.std.specs.Prelude.{◌≡◌, ◌↔◌, ◌+◌, ◌≤◌, �
 ghost use Rattle.std.specs.List.{AllByRecursion};
 ghost use Rattle.std.specs.Option.{option_copied};
 ghost use Rattle.sha2.specs.Sha256.{sha256};
-ghost use Rattle.gl_base.specs.Field.{are_bytes};
 ghost use Rattle.gl_base.specs.TxId.{last_seqno};
 ghost use Rattle.gl_merkle.specs.Frontier.{HasLeaves, IsUnchanged};
-ghost use Rattle.gl_vmaps.specs.Versions.{placed_at, IsAbove};
+ghost use Rattle.gl_vmaps.specs.Kept.{version_of};
+ghost use Rattle.gl_vmaps.specs.Standing.{StandsFor};
+ghost use Rattle.gl_vmaps.specs.Versions.{Placed, placed_at};
 ghost use Rattle.gl_tx.specs.Request.{is_request, request_bytes, reply_bytes};
 ghost use Rattle.gl_tx.specs.declared.request.Answer.{Answer};
 ghost use Rattle.gl_entry.specs.Entry.{no_digest, is_entry, body_bytes, body_limit, content_bytes};
@@ -21,10 +22,10 @@ ghost use Rattle.gl_store.specs.Kept.{IsTreeOf};
 use crate::encode::genesis_bytes;
 use crate::genesis::{Genesis, HssPublicKey, ServiceState};
 use crate::ledger_state::LedgerState;
-use crate::refusal::{Refusal, StoreError};
+use crate::refusal::Refusal;
 use crate::rows::genesis_writes;
-use gl_base::{Status, TxId, status};
-use gl_entry::{Bytes, Content, Digest, Entry, NodeId, Signature, leaf_of_body};
+use gl_base::{Bytes, FIRST_VIEW, LAST_SEQNO, MEBIBYTE, OrNoMemory, Status, TxId, status};
+use gl_entry::{Content, Digest, Entry, NodeId, Signature, leaf_of_body};
 use gl_tx::{Ran, Reply, Request, run};
 use gl_vmaps::{Tables, Writes};
 use sha2::{Digest as _, Sha256};
@@ -64,12 +65,6 @@ impl Model for Store {
     }) };
 }
 
-/// The last seqno that an identifier can name.
-const LAST_SEQNO: u64 = (1 << 40) - 1;
-
-/// The most bytes that a body or a reply has.
-const SIZE_LIMIT: usize = 1_048_576;
-
 /// The digest field of an entry that has none.
 const NO_DIGEST: Digest = [0; 32];
 
@@ -100,7 +95,7 @@ impl Store {
         let founding = genesis_entry(alloc, genesis)?;
         let mut state = LedgerState::new(alloc)?;
         push_entry(alloc, &mut state, &genesis.identity, founding)?;
-        let opening = signature_entry(alloc, &state, signer, 2, 2);
+        let opening = signature_entry(alloc, &state, signer, FIRST_VIEW, 2);
         push_entry(alloc, &mut state, &genesis.identity, opening)?;
         Ok(Store {
             state,
@@ -150,9 +145,10 @@ impl Store {
         }
     }
 
-    /// The tables that the ledger's write sets make.
+    /// The tables that the ledger's write sets make: what they answer is what those make.
     pub fn tables(&self) -> &Tables
-        ensures { result.now ≡ writes_of self.now.ledger }
+        ensures stands { StandsFor result.now (writes_of self.now.ledger) }
+        ensures base { result.now.base ≡ 0 }
     {
         &self.state.tables
     }
@@ -201,7 +197,7 @@ impl Store {
     /// Gives the entry's identifier and the reply. Refused, in this order, where the service isn't
     /// open, where an operation fails, where the entry's body or the reply has more than 1 MiB, and
     /// where no seqno is left. Want of memory, too, leaves the store as it was.
-    pub fn execute(&mut self, view: u32, request: &Request) -> Result<(TxId, Reply), StoreError>
+    pub fn execute(&mut self, view: u32, request: &Request) -> Result<(TxId, Reply), OrNoMemory<Refusal>>
         requires { ViewsUpTo service_book view self.old.ledger }
         ensures made { IfOk result (λ made.
             Executes self.old view request.now made.0 made.1 self.new) }
@@ -214,12 +210,12 @@ impl Store {
             ServiceState::Open => self.execute_open(view, request),
             ServiceState::Opening => {
                 let closed = Refusal::ServiceState(self.service_state);
-                Err(StoreError::Refused(closed))
+                Err(OrNoMemory::Fault(closed))
             }
         }
     }
 
-    fn execute_open(&mut self, view: u32, request: &Request) -> Result<(TxId, Reply), StoreError>
+    fn execute_open(&mut self, view: u32, request: &Request) -> Result<(TxId, Reply), OrNoMemory<Refusal>>
         requires up_to { ViewsUpTo service_book view self.old.ledger }
         requires is_open { service_state (tables_of self.old.ledger) ≡ ServiceState.Open }
         requires spelled { is_request request.now ≡ true }
@@ -230,12 +226,15 @@ impl Store {
         ensures err { OnErr result (self.new ≡ self.old) }
     {
         let seqno = self.state.entries.len() as u64 + 1;
-        let ran = run(self.alloc, request, &self.state.tables)?;
+        let ran = match run(self.alloc, request, &self.state.tables) {
+            Ok(ran) => ran,
+            Err(error) => return Err(error.widen()),
+        };
         let reply = ran.reply.encode(self.alloc)?;
         let entry = application_entry(self.alloc, view, seqno, request, ran.writes, &reply)?;
         let body = entry.body(self.alloc)?;
         if let Some(refusal) = limit_passed(&body, &reply, seqno) {
-            return Err(StoreError::Refused(refusal));
+            return Err(OrNoMemory::Fault(refusal));
         }
         let leaf = leaf_of_body(self.alloc, &self.identity, &entry, &body)?;
         self.state.push(entry, leaf)?;
@@ -246,7 +245,7 @@ impl Store {
     /// of any entry before. It records the commit as it now is, and the root of the tree over all
     /// entries before it. Refused where no seqno is left. Want of memory, too, leaves the store as
     /// it was.
-    pub fn sign(&mut self, node: NodeId, view: u32) -> Result<TxId, StoreError>
+    pub fn sign(&mut self, node: NodeId, view: u32) -> Result<TxId, OrNoMemory<Refusal>>
         requires { ViewsUpTo service_book view self.old.ledger }
         ensures made { IfOk result (λ id. Signs self.old node view id self.new) }
         ensures refused { IfErr result (λ e. (leaf : ℕ) →
@@ -255,7 +254,7 @@ impl Store {
     {
         let seqno = self.state.entries.len() as u64 + 1;
         if seqno > LAST_SEQNO {
-            return Err(StoreError::Refused(Refusal::SeqnoLimit));
+            return Err(OrNoMemory::Fault(Refusal::SeqnoLimit));
         }
         let entry = signature_entry(self.alloc, &self.state, node, view, self.commit);
         push_entry(self.alloc, &mut self.state, &self.identity, entry)?;
@@ -276,7 +275,7 @@ fn genesis_entry(alloc: Global, genesis: &Genesis) -> Result<Entry, AllocError>
     let writes = genesis_writes(alloc, genesis)?;
     prove!(writes.as_slice().len() < 1 << 32);
     Ok(Entry {
-        view: 2,
+        view: FIRST_VIEW,
         seqno: 1,
         content: Content::Governance(request),
         writes,
@@ -356,14 +355,11 @@ fn limit_passed(body: &[u8], reply: &[u8], seqno: u64) -> Option<Refusal>
         body.now ≡ body_bytes e → reply.now ≡ reply_bytes answers → seqno ≡ length ledger + 1 →
         within_limits ledger e answers ≡ Err refusal) }
 {
-    if body.len() > SIZE_LIMIT {
-        Some(Refusal::TooLarge {
-            size: body.len() as u64,
-        })
-    } else if reply.len() > SIZE_LIMIT {
-        Some(Refusal::TooLarge {
-            size: reply.len() as u64,
-        })
+    let (body, reply) = (body.len() as u64, reply.len() as u64);
+    if body > MEBIBYTE {
+        Some(Refusal::TooLarge { size: body })
+    } else if reply > MEBIBYTE {
+        Some(Refusal::TooLarge { size: reply })
     } else if seqno > LAST_SEQNO {
         Some(Refusal::SeqnoLimit)
     } else {
@@ -378,12 +374,14 @@ fn push_entry(
     identity: &HssPublicKey,
     entry: Entry,
 ) -> Result<(), AllocError>
-    requires above { IsAbove entry.seqno state.old.tables }
+    requires base { state.old.tables.base < entry.seqno }
+    requires above { (map key : List ℕ) → version_of state.old.tables map key < entry.seqno }
     requires small { length (body_bytes entry) ≤ body_limit }
     ensures entries { OnOk result (state.new.entries.items
         ≡ state.old.entries.items ++ entry ∷ []) }
-    ensures tables { OnOk result (state.new.tables
-        ≡ state.old.tables ++ placed_at entry.seqno entry.writes) }
+    ensures tables { OnOk result ((ps : List Placed) → StandsFor state.old.tables ps →
+        StandsFor state.new.tables (ps ++ placed_at entry.seqno entry.writes)) }
+    ensures base { OnOk result (state.new.tables.base ≡ state.old.tables.base) }
     ensures leaves { OnOk result (HasLeaves state.old.frontier state.new.frontier
         (state.old.frontier.leaves ++ leaf_of identity.now entry ∷ [])) }
     ensures entries_kept { OnErr result (state.new.entries.items ≡ state.old.entries.items) }

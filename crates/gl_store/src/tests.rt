@@ -9,11 +9,10 @@ ghost use Rattle.gl_store.specs.Book.{service_book};
 ghost use Rattle.gl_store.specs.Calls.{IsSignedAt};
 
 use crate::{
-    Dealing, Genesis, Members, NewMember, NewNode, Nodes, Refusal, ServiceState, ShareDigest,
-    Shares, Store, StoreError,
+    Dealing, Genesis, NewMember, NewNode, Refusal, ServiceState, ShareDigest, Store,
 };
-use gl_base::{Status, TxId};
-use gl_entry::{Bytes, Content, Digest, NodeId};
+use gl_base::{Bytes, OrNoMemory, Sequence, Status, TxId};
+use gl_entry::{Content, Digest, NodeId};
 use gl_tx::{Abort, Answer, Cause, Operation, Reply, Request};
 use gl_vmaps::{Key, MapName, Value, Write};
 use std::alloc::{AllocError, Global};
@@ -75,12 +74,12 @@ fn genesis(alloc: Global, state: ServiceState) -> Result<Genesis, AllocError>
     Ok(Genesis {
         state,
         identity: IDENTITY,
-        nodes: Nodes::from(nodes),
-        members: Members::from(Vec::from_slice(alloc, &[first, second])?),
+        nodes: Sequence::from(nodes),
+        members: Sequence::from(Vec::from_slice(alloc, &[first, second])?),
         dealing: Dealing {
             threshold: 1,
             secret_digest: [5; 32],
-            shares: Shares::from(Vec::from_slice(alloc, &shares)?),
+            shares: Sequence::from(Vec::from_slice(alloc, &shares)?),
         },
     })
 }
@@ -108,7 +107,7 @@ fn put(alloc: Global, map: &[u8], key: &[u8], value: &[u8]) -> Result<Operation,
 }
 
 // An entry of the request, in a view in which more may follow.
-fn execute(store: &mut Store, view: u32, request: &Request) -> Result<(TxId, Reply), StoreError>
+fn execute(store: &mut Store, view: u32, request: &Request) -> Result<(TxId, Reply), OrNoMemory<Refusal>>
     requires { ViewsUpTo service_book view store.old.ledger }
     ensures { (later : ℕ) → view ≤ later → ViewsUpTo service_book later store.new.ledger }
 {
@@ -116,7 +115,7 @@ fn execute(store: &mut Store, view: u32, request: &Request) -> Result<(TxId, Rep
 }
 
 // A signature, in a view in which more may follow.
-fn sign(store: &mut Store, view: u32) -> Result<TxId, StoreError>
+fn sign(store: &mut Store, view: u32) -> Result<TxId, OrNoMemory<Refusal>>
     requires { ViewsUpTo service_book view store.old.ledger }
     ensures up_to { ViewsUpTo service_book view store.new.ledger }
     ensures signed { IfOk result (λ id. IsSignedAt store.new.ledger id.seqno) }
@@ -318,8 +317,8 @@ fn refusal_of(
     let mut store = opened(alloc, state)?;
     match execute(&mut store, 2, request) {
         Ok(_) => Ok(None),
-        Err(StoreError::Refused(refusal)) => Ok(Some(refusal)),
-        Err(StoreError::Memory) => Err(Fail::from("out of memory")),
+        Err(OrNoMemory::Fault(refusal)) => Ok(Some(refusal)),
+        Err(OrNoMemory::NoMemory) => Err(Fail::from("out of memory")),
     }
 }
 

@@ -3,7 +3,7 @@ use Rattle.std.proofs.Common.{◌≡◌, ℕ, ◌+◌, ◌^◌, ◌<◌, ◌≤�
 use Rattle.std.specs.List.{list_all, list_any, AllByRecursion}
 use Rattle.std.proofs.lemmas.Bool.{and_from}
 use Rattle.std.proofs.lemmas.Bool.Decides.{nat_tests}
-use Rattle.gl_base.specs.Field.{is_byte}
+use Rattle.gl_base.specs.Bytes.{is_byte}
 use Rattle.gl_store.specs.Genesis.{is_node, is_member, is_share, is_dealing, is_genesis, are_distinct, numbers_of, is_ascending, are_nodes, are_members, is_dealing_among, is_acceptable}
 use Rattle.gl_entry.specs.Entry.{body_bytes, body_limit, is_entry}
 use Rattle.gl_store.specs.Ledger.{genesis_entry}

@@ -4,7 +4,7 @@ use Rattle.std.proofs.lemmas.Bool.{and_parts, and_from}
 use Rattle.std.proofs.lemmas.List.{length-take-le}
 use Rattle.sha2.specs.Sha256.{sha256}
 use Rattle.sha2.proofs.Facts256.{length-sha256}
-use Rattle.gl_base.specs.Field.{is_byte, are_bytes}
+use Rattle.gl_base.specs.Bytes.{is_byte, are_bytes}
 use Rattle.gl_entry.specs.Entry.{are_sized}
 use Rattle.gl_store.proofs.Digests.{bytes-append, sha256_bytes, are_sized-true}
 use Rattle.gl_world.specs.Keys.{lms_key, hss_key}

@@ -1,7 +1,7 @@
 -- The keys of members: those left behind the next.
 use Rattle.std.proofs.Common.{◌≡◌, ℕ, suc, ◌+◌, ◌-◌, ◌<◌, List, ◌∷◌, map, Bool, true, false, not, ◌&&◌, ◌||◌, sym, ◌∙◌, ap, add-one}
 use Rattle.std.specs.List.{list_any}
-use Rattle.gl_vmaps.specs.Tables.{same_bytes}
+use Rattle.gl_base.specs.Bytes.{same_bytes}
 use Rattle.gl_store.specs.Genesis.{are_distinct_bytes}
 use Rattle.gl_store.specs.declared.genesis.NewMember.{NewMember}
 use Rattle.gl_world.specs.declared.settings.Settings.{Settings}

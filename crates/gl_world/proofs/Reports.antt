@@ -3,8 +3,8 @@ use Rattle.std.proofs.Common.{◌≡◌, ◌≢◌, ℕ, zero, suc, ◌<◌, ◌
 use Rattle.std.specs.List.{slice_get}
 use Rattle.std.proofs.lemmas.Bool.Decides.{nat_tests}
 use Rattle.gl_base.specs.declared.tx_id.TxId.{TxId}
-use Rattle.gl_base.specs.declared.status_kind.Status.{Status}
-use Rattle.gl_base.specs.declared.status_kind.Status.TheVariants.{Committed, Invalid}
+use Rattle.gl_base.specs.declared.tx_id.Status.{Status}
+use Rattle.gl_base.specs.declared.tx_id.Status.TheVariants.{Committed, Invalid}
 use Rattle.gl_base.specs.Status.{is_held, decided, undecided, status_of}
 use Rattle.gl_rules.specs.Log.{entry_at}
 use Rattle.gl_rules.specs.Node.{Node}

@@ -22,7 +22,7 @@ use Rattle.gl_store.proofs.TablesLaws.{tables_of-push}
 use Rattle.gl_store.proofs.Lists.{take-push, take-all}
 use Rattle.gl_store.specs.Nodes.{nodes_table, is_trusted, trusted_nodes, changed_set, configuration}
 use Rattle.gl_world.proofs.Lists.{take-past}
-use Rattle.gl_store.proofs.SetRows.{rows-write_set, wrote_all-append}
+use Rattle.gl_store.proofs.WriteSets.{rows-write_set, wrote_all-append}
 use Rattle.gl_store.proofs.NodesLaws.{configuration-push}
 use Rattle.gl_world.specs.Solo.{IsAlone}
 

@@ -12,10 +12,10 @@ use Rattle.gl_rules.specs.World.{Submit, Reserve, Sign, Advance, begin, leader_a
 use Rattle.gl_rules.specs.Log.{last_signature}
 use Rattle.gl_store.specs.Ledger.{application_entry, signature_entry}
 use Rattle.gl_base.specs.LittleEndian.{little_endian}
-use Rattle.gl_vmaps.specs.Fields.{write_bytes}
+use Rattle.gl_entry.specs.Entry.{write_bytes}
 use Rattle.gl_vmaps.specs.declared.write.Write.{Write}
 use Rattle.gl_tx.specs.Request.{request_bytes, reply_bytes}
-use Rattle.gl_tx.specs.Run.{Ran}
+use Rattle.gl_tx.specs.declared.runs.Ran.{Ran}
 use Rattle.gl_tx.specs.declared.request.Operation.{Operation}
 use Rattle.gl_tx.specs.declared.request.Operation.TheVariants.{Put}
 use Rattle.gl_tx.specs.declared.request.Answer.TheVariants.{Done}
@@ -68,7 +68,7 @@ run_shown w x =
     ∙ ap (λ (n : Node Entry). (reserve service_book x n).node) (here w x (submit service_book asked (w.nodes x)))))
 
 abbrev ran : Ran
-ran = record { answers = Done ∷ []; writes = write ∷ [] }
+ran = record { reply = Done ∷ []; writes = write ∷ [] }
 
 abbrev opening : Settings → List Entry
 opening s = (start_of s).opening

@@ -2,7 +2,7 @@
 use Rattle.std.proofs.Common.{◌≡◌, ◌≢◌, ◌⊎◌, inl, inr, ⊎_elim, ℕ, suc, ◌<◌, ◌≤◌, List, take, refl, sym, ◌∙◌, ap, ap₂, subst, arith}
 use Rattle.std.proofs.lemmas.Bool.{cases_lt}
 use Rattle.gl_base.specs.declared.tx_id.TxId.{TxId}
-use Rattle.gl_base.specs.declared.status_kind.Status.TheVariants.{Committed, Invalid}
+use Rattle.gl_base.specs.declared.tx_id.Status.TheVariants.{Committed, Invalid}
 use Rattle.gl_rules.specs.Identity.{NodeId}
 use Rattle.gl_rules.specs.Node.{Node}
 use Rattle.gl_rules.specs.Safety.{Agree, committed_ledger, reported_status}

@@ -120,7 +120,7 @@ goes_submit s n q h =
         (application_sound n.log n.view q made.0 made.1 (ledger_sound s n h) (ledger_views s n h) fits is
         (execute_fits n.log n.view q made.0 made.1 (omega (arith, h.view)) fits is))
         (ap (λ (e : Entry). e.view) ran.3 ∙ h.view)
-        (subst (λ (e : Entry). AllByRecursion IsOutside e.writes) (sym ran.3) (run_outside 1 q (tables_of n.log) [] ran.1 tt ran.2)))
+        (subst (λ (e : Entry). AllByRecursion IsOutside e.writes) (sym ran.3) (run_outside q (tables_of n.log) ran.1 ran.2)))
 
 -- one more leaf, or none
 abbrev more_or_none : Node Entry → Bool → Step Entry Given Unmade

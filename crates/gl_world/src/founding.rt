@@ -2,7 +2,7 @@
 
 ghost use Rattle.std.specs.Prelude.{◌≡◌, ◌≤◌, ◌-◌, ◌^◌, suc, true, length, IfOk};
 ghost use Rattle.std.specs.List.{list_any};
-ghost use Rattle.gl_vmaps.specs.Tables.{same_bytes};
+ghost use Rattle.gl_base.specs.Bytes.{same_bytes};
 ghost use Rattle.gl_entry.specs.Entry.{body_bytes, body_limit};
 ghost use Rattle.gl_store.specs.Genesis.{is_acceptable, is_genesis, HaveShortEndorsements};
 ghost use Rattle.gl_store.specs.Ledger.{genesis_entry};
@@ -12,9 +12,10 @@ ghost use Rattle.gl_world.specs.Single.{IsSingle};
 
 use crate::keys::{hss_key, lms_key, numbered_digest, word_digest};
 use crate::settings::Settings;
-use gl_entry::{Bytes, NodeId};
+use gl_base::{Bytes, Sequence};
+use gl_entry::NodeId;
 use gl_store::{
-    Dealing, Genesis, HssPublicKey, LmsPublicKey, Members, NewMember, NewNode, Nodes, ShareDigest, Shares,
+    Dealing, Genesis, HssPublicKey, LmsPublicKey, NewMember, NewNode, ShareDigest,
 };
 use sha2::{Digest, Sha256};
 use std::alloc::{AllocError, Global};
@@ -76,14 +77,14 @@ pub fn has_distinct_keys(settings: &Settings) -> bool
 }
 
 /// The members, numbered from 1.
-fn members(alloc: Global, settings: &Settings) -> Result<Members, AllocError>
+fn members(alloc: Global, settings: &Settings) -> Result<Sequence<NewMember>, AllocError>
     ensures { IfOk result (λ members. members ≡ (genesis_of settings.now).members) }
 {
     let mut members = Vec::new(alloc);
     for i in 0..settings.members {
         members.push(member(settings, i + 1))?;
     }
-    Ok(Members::from(members))
+    Ok(Sequence::from(members))
 }
 
 /// The dealing of the recovery secret, of which one share suffices: each member's share is the
@@ -102,7 +103,7 @@ fn dealing(alloc: Global, settings: &Settings) -> Result<Dealing, AllocError>
     Ok(Dealing {
         threshold: 1,
         secret_digest: digest,
-        shares: Shares::from(shares),
+        shares: Sequence::from(shares),
     })
 }
 
@@ -124,7 +125,7 @@ pub fn genesis(alloc: Global, settings: &Settings) -> Result<Genesis, AllocError
     Ok(Genesis {
         state: settings.state,
         identity: hss_key(2, &word_digest(b"svc", &settings.seed)),
-        nodes: Nodes::from(nodes),
+        nodes: Sequence::from(nodes),
         members: members(alloc, settings)?,
         dealing: dealing(alloc, settings)?,
     })

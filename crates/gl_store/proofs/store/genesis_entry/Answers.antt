@@ -1,5 +1,5 @@
 use Rattle.std.proofs.Common.{◌≡◌, ◌≤◌, ◌∙◌, length, ap, sym, subst, refl, arith, true}
-use Rattle.gl_base.specs.Field.{are_bytes}
+use Rattle.gl_base.specs.Bytes.{are_bytes}
 use Rattle.gl_entry.specs.Entry.{body_bytes, body_limit}
 use Rattle.gl_entry.specs.declared.entry.Entry.{Entry}
 use Rattle.gl_store.specs.Genesis.{genesis_bytes, genesis_writes}

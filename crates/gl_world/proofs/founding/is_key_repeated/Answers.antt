@@ -1,5 +1,5 @@
 use Rattle.std.proofs.Common.{sym, ◌∙◌, ap}
-use Rattle.gl_vmaps.specs.Tables.{same_bytes}
+use Rattle.gl_base.specs.Bytes.{same_bytes}
 use Rattle.gl_world.proofs.MemberKeys.{repeated-next}
 use Rattle.gl_world.proofs.founding.is_key_repeated.Goals as goal
 

@@ -1,6 +1,6 @@
 use Rattle.std.proofs.Common.{◌≡◌, ◌-◌, suc}
 use Rattle.std.specs.List.{list_any}
-use Rattle.gl_vmaps.specs.Tables.{same_bytes}
+use Rattle.gl_base.specs.Bytes.{same_bytes}
 use Rattle.gl_world.specs.Founding.{member_keys}
 use Rattle.gl_world.proofs.founding.is_key_repeated.Given as goal
 

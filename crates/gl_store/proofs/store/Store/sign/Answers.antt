@@ -4,14 +4,14 @@ use Rattle.gl_entry.specs.declared.entry.Entry.{Entry}
 use Rattle.gl_store.specs.Ledger.{Held}
 use Rattle.gl_rules.specs.Safety.{ViewsUpTo}
 use Rattle.gl_store.specs.Book.{service_book}
-use Rattle.gl_store.proofs.TablesLaws.{above_next}
+use Rattle.gl_store.proofs.TablesLaws.{versions_below}
 use Rattle.gl_store.proofs.Keeping.{kept_with_signature}
 use Rattle.gl_store.proofs.store.Store.sign.Goals as goal
 
 pub push_entry-requires-clause-above : goal.push_entry-requires-clause-above
 push_entry-requires-clause-above c =
     let k = c.self.inside in
-    above_next k.state.entries.items k.state.tables _ c.self.invariant.sound.in_order c.self.invariant.tables_are
+    versions_below k.state.entries.items k.state.tables _ c.self.invariant.sound.in_order c.self.invariant.tables_are
     (ap (λ (e : Entry). e.seqno) c.signature_entry-entry.ensures.made)
 
 pub invariant_of-self-2 : goal.invariant_of-self-2
@@ -23,4 +23,4 @@ invariant_of-self-2 c =
     subst (λ (h : Held). ViewsUpTo service_book c.args.view h.ledger) (sym c.self.view_is) c.requires in
     kept_with_signature k.state.entries.items c.push_entry.new.state.entries.items _ c.args.view c.args.node c.signature_entry-entry.result c.push_entry.new.state.tables
     c.push_entry.new.state.frontier (c.len.result + 1) c.self.invariant up left c.signature_entry-entry.ensures.made c.signature_entry-entry.ensures.fits place
-    c.in_ok-push_entry.ensures.entries c.in_ok-push_entry.ensures.tables c.in_ok-push_entry.ensures.leaves
+    c.in_ok-push_entry.ensures.entries (record { stands = c.in_ok-push_entry.ensures.tables; base = c.in_ok-push_entry.ensures.base }) c.in_ok-push_entry.ensures.leaves

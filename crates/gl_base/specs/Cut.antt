@@ -1,7 +1,7 @@
 -- Fields read from the front of bytes, from left to right, and the first fault that is met.
-use Rattle.std.specs.Prelude.{◌≡◌, ◌≢◌, ℕ, ◌+◌, ◌/◌, ◌^◌, ◌<◌, ◌≤◌, Bool, not, List, ◌++◌, length, take, drop, Option, None, Some, Result, Ok, Err, position, ◌==◌, nat_lt, if◌then◌else◌, ◌⊎◌}
+use Rattle.std.specs.Prelude.{◌≡◌, ◌≢◌, ℕ, ◌+◌, ◌/◌, ◌^◌, ◌<◌, ◌≤◌, Bool, not, List, length, take, drop, Option, None, Some, Result, Ok, Err, position, ◌==◌, nat_lt, if◌then◌else◌}
 use Rattle.std.specs.Char.{is_ascii_graphic}
-use Rattle.gl_base.specs.LittleEndian.{little_endian, from_little_endian}
+use Rattle.gl_base.specs.LittleEndian.{from_little_endian}
 use Rattle.gl_base.specs.Steps.{◌>>=◌}
 use Rattle.gl_base.specs.declared.fault.CutFault.{CutFault}
 use Rattle.gl_base.specs.declared.fault.CutFault.TheVariants.{Short, TooLong, NotText}

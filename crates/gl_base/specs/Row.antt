@@ -1,6 +1,6 @@
 -- A map's name, a key and a value as fields of bytes (CCF documentation, "Key-Value Store"): how they
 -- are spelled, how they are read, and within which limits.
-use Rattle.std.specs.Prelude.{ℕ, List, [], ◌∷◌, ◌++◌, Bool, true, ◌&&◌, Option, None, Some, Result, Ok, Err, length, nat_le, ◌==◌, if◌then◌else◌}
+use Rattle.std.specs.Prelude.{ℕ, List, [], ◌∷◌, Bool, true, ◌&&◌, Option, None, Some, Result, Ok, Err, length, nat_le, ◌==◌, if◌then◌else◌}
 use Rattle.std.specs.Char.{is_ascii_graphic}
 use Rattle.std.specs.List.{list_all}
 use Rattle.gl_base.specs.Steps.{◌>>=◌}

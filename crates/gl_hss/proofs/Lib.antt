@@ -13,3 +13,7 @@ pub mod Appends
 pub mod Blocks
 pub mod Signing
 pub mod Signers
+pub mod Endorsements
+pub mod Bounds
+pub mod LevelLemmas
+pub mod StepInputs

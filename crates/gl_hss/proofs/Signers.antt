@@ -9,7 +9,7 @@ use Rattle.gl_hss.specs.Profile.{randomizer_of, signature_by}
 use Rattle.gl_hss.specs.Signer.{levels_above, hss_signature, StandsUnder}
 use Rattle.gl_hss.proofs.Signing.{length-node_above, signature_by-IsSigned, leaf_of_signature}
 
-public_of-IsKey : (k : PrivateKey) → length k.identifier ≡ 16 → IsKey (public_of k)
+pub public_of-IsKey : (k : PrivateKey) → length k.identifier ≡ 16 → IsKey (public_of k)
 public_of-IsKey k len = record { identifier = len; root = length-node_above k (height k.types) 1 }
 
 -- the bytes of one level, and of two
@@ -32,18 +32,18 @@ signer-IsValid k None s q message hss_key len leaf is stands = record {
   top = public_of k;
   upper = [];
   last = signature_by k q message;
-  of_key = record { spelled = stands; form = public_of-IsKey k len; few = omega arith };
+  of_key = record { spelled = stands; form = public_of-IsKey k len; some = omega arith; few = omega arith };
   spelled = one_level_bytes k s q message is;
   signs = signature_by-IsSigned k q message leaf;
 }
 signer-IsValid k (Some e) s q message hss_key len leaf is stands =
-    let top = stands.0 in
-    let signs = stands.3 in
+    let top = stands.top in
+    let signs = stands.signs in
     record {
       top = top;
       upper = record { signature = signs.fields; key = public_of k } ∷ [];
       last = signature_by k q message;
-      of_key = stands.2;
+      of_key = stands.of_key;
       spelled = two_level_bytes k e s q message top signs.fields signs.spelled is;
       signs = (signs.signed, public_of-IsKey k len, signature_by-IsSigned k q message leaf);
     }
@@ -62,8 +62,8 @@ signer-HasLeaf k None s q message hss_key len leaf is stands =
       leaf = leaf_of_signature k q (randomizer_of k q) message;
     }
 signer-HasLeaf k (Some e) s q message hss_key len leaf is stands =
-    let top = stands.0 in
-    let signs = stands.3 in
+    let top = stands.top in
+    let signs = stands.signs in
     let signed = signature_by-IsSigned k q message leaf in
     record {
       types = top.types;

@@ -1,7 +1,7 @@
 -- Which text stands between two places of a string.
-use Rattle.std.proofs.Common.{◌≡◌, ℕ, ◌+◌, ◌^◌, ◌<◌, ◌≤◌, List, ◌++◌, length, get_or, take, drop, refl, sym, ap, subst, ◌∙◌, append_assoc, arith, inl, inr}
+use Rattle.std.proofs.Common.{◌≡◌, ℕ, ◌+◌, ◌-◌, ◌^◌, ◌<◌, ◌≤◌, List, ◌++◌, length, get_or, take, drop, refl, sym, ap, subst, ◌∙◌, append_assoc, arith, inl, inr}
 use Rattle.std.proofs.lemmas.Bool.{cases_lt}
-use Rattle.std.proofs.lemmas.List.{take_at, drop_at, drop_all, append-nil, take-append-drop, length-append, length-take, length-drop, drop-drop, get_or-drop, get_or-take, get_or_past}
+use Rattle.std.proofs.lemmas.List.{take_at, drop_at, drop_all, append-nil, take-append-drop, length-append, length-take, length-drop, drop-drop, drop-take, take-take, get_or-drop, get_or-take, get_or_past}
 use Rattle.std.proofs.lemmas.Nat.{be_bytes_4, from_be_bytes-to_be_bytes_4}
 use Rattle.std.specs.Int.{w32, from_be_bytes}
 use Rattle.gl_hss.specs.Bytes.{u32str, number_at, bytes_at}
@@ -81,3 +81,22 @@ number_at-Spans s a b n p h =
 -- the same text, its place written in another way
 pub Spans-from : (s : List ℕ) (a b to : ℕ) (x : List ℕ) → a ≡ b → Spans s a x to → Spans s b x to
 Spans-from s a b to x e p = subst (λ (n : ℕ). Spans s n x to) e p
+
+-- bytes of a copy of the n bytes from place `at` on
+pub bytes_at-bytes_at : (s : List ℕ) (at n from m to : ℕ) → from + m ≤ n → at + from ≡ to → bytes_at (bytes_at s at n) from m ≡ bytes_at s to m
+bytes_at-bytes_at s at n from m to h e =
+    let rest : from + (n - from) ≡ n = omega arith in
+    ap (λ (k : ℕ). take m (drop from (take k (drop at s)))) (sym rest)
+    ∙ ap (take m) (drop-take from (n - from) (drop at s))
+    ∙ take-take m (n - from) (drop from (drop at s)) (omega arith)
+    ∙ ap (take m) (drop-drop from at s)
+    ∙ ap (λ (k : ℕ). bytes_at s k m) e
+
+-- the bytes that spell the number that stands there
+pub number_spelled : (s : List ℕ) (at : ℕ) → IsBytes s → at + 4 ≤ length s → u32str (number_at s at) ≡ bytes_at s at 4
+unfolding u32str number_at
+number_spelled s at fits room = be_bytes_4 (bytes_at s at 4) _ (length-bytes_at s at 4 room) (bytes_at-fits s at 4 fits) refl
+
+pub number_read : (s : List ℕ) (at n : ℕ) → bytes_at s at 4 ≡ u32str n → n < 2 ^ 32 → number_at s at ≡ n
+unfolding u32str number_at
+number_read s at n e h = ap (λ (t : List ℕ). from_be_bytes w32 t) e ∙ from_be_bytes-to_be_bytes_4 n h

@@ -1,6 +1,6 @@
 -- A signature is accepted exactly where it is valid.
 use Rattle.std.proofs.Common.{◌≡◌, ℕ, suc, ◌+◌, ◌-◌, ◌≤◌, true, List, [], ◌∷◌, ◌++◌, length, drop, Result, Ok, Err, refl, sym, ap, subst, ◌∙◌, arith, ◌⊎◌, inl, inr}
-use Rattle.std.specs.Prelude.{◌==◌, ◌||◌, if◌then◌else◌, IsOk}
+use Rattle.std.specs.Prelude.{◌==◌, ◌||◌, if◌then◌else◌, IsOk, OnOk}
 use Rattle.std.proofs.lemmas.Bool.Decides.{nat_tests}
 use Rattle.std.proofs.lemmas.List.{length-append, length-drop}
 use Rattle.std.proofs.lemmas.Bool.{cases_eq}
@@ -55,22 +55,29 @@ pub record Accepted (k : PublicKey) (message s : List ℕ) (levels : ℕ) : Type
   pub span : Spans s 4 (levels_bytes k.types upper last) (length s)
   pub signs : SignsDown k upper last message
 
-pub one_level_ok : (k : PublicKey) (message s : List ℕ) (u : Unit {0}) → IsBytes s → one_level k message s ≡ Ok u → Accepted k message s 1
+-- from this place on nothing stands but a signature of the message by the key
+pub record IsLone (k : PublicKey) (message s : List ℕ) (at : ℕ) : Type 0 where
+  pub signature : Signature
+  pub span : Spans s at (signature_bytes k.types signature) (length s)
+  pub signed : IsSigned k message signature
+
+pub one_level_ok : (k : PublicKey) (message s : List ℕ) (at : ℕ) (u : Unit {0}) → IsBytes s → one_level k message s at ≡ Ok u → IsLone k message s at
 unfolding one_level
-one_level_ok k message s u fits e =
-    let len = 4 + signature_len k.types in
-    let read = bind_ok (signature_at k.types s 4 len) (λ (g : Signature). ends s len >> has_root k g message) u e in
+one_level_ok k message s at u fits e =
+    let len = at + signature_len k.types in
+    let read = bind_ok (signature_at k.types s at len) (λ (g : Signature). ends s len >> has_root k g message) u e in
     let g = read.0 in
     let rest = then_ok (ends s len) (has_root k g message) u read.2 in
     let end : length s ≡ len = ends_ok s len rest.0.0 rest.0.1 in
-    let found = signature_is k.types g s 4 fits (signature_at_ok k.types s 4 len g read.1) in
+    let found = signature_is k.types g s at fits (signature_at_ok k.types s at len g read.1) in
     record {
-      upper = [];
-      last = g;
-      count = refl;
+      signature = g;
       span = rw end found.span;
-      signs = record { form = found.form; root = has_root_ok k g message u rest.1 };
+      signed = record { form = found.form; root = has_root_ok k g message u rest.1 };
     }
+
+one_level_accepted : (k : PublicKey) (message s : List ℕ) → IsLone k message s 4 → Accepted k message s 1
+one_level_accepted k message s h = record { upper = []; last = h.signature; count = refl; span = h.span; signs = h.signed }
 
 pub two_levels_ok : (k : PublicKey) (message s : List ℕ) (u : Unit {0}) → IsBytes s → two_levels k message s ≡ Ok u → Accepted k message s 2
 unfolding two_levels
@@ -86,7 +93,7 @@ two_levels_ok k message s u fits e =
     let rest = then_ok (ends s len >> has_root k g (bytes_at s at 56)) (has_root next l message) u third.2 in
     let front = then_ok (ends s len) (has_root k g (bytes_at s at 56)) rest.0.0 rest.0.1 in
     let end : length s ≡ len = ends_ok s len front.0.0 front.0.1 in
-    let upper-is = signature_is k.types g s 4 fits (signature_at_ok k.types s 4 _ g first.1) in
+    let upper-is = signature_is k.types g s 4 fits (signature_at_ok k.types s 4 (at + 56 + signature_len H5W8) g first.1) in
     let key-is = key_is next s at fits (embedded_key_ok s at next second.1) in
     let last-is = signature_is next.types l s (at + 56) fits (signature_at_ok next.types s (at + 56) len l third.1) in
     let middle : bytes_at s at 56 ≡ key_bytes next = bytes_at-Spans s at (at + 56) 56 (key_bytes next) key-is.span (length-key_bytes next key-is.form) in
@@ -121,19 +128,19 @@ levels_of_key_ok key n e =
     let same : number_at key 0 ≡ n = cc (r.1) in
     (same, subst (λ (x : ℕ). (x ≡ 1) ⊎ (x ≡ 2)) same (either (number_at key 0) t))
 
-accepted : (levels : ℕ) (k : PublicKey) (message s : List ℕ) → (levels ≡ 1) ⊎ (levels ≡ 2) → IsBytes s → (if levels == 1 then one_level k message s else two_levels k message s) ≡ Ok tt → Accepted k message s levels
-accepted levels k message s (inl one) fits e = subst (λ (n : ℕ). Accepted k message s n) (sym one) (one_level_ok k message s tt fits (rw one at e))
+accepted : (levels : ℕ) (k : PublicKey) (message s : List ℕ) → (levels ≡ 1) ⊎ (levels ≡ 2) → IsBytes s → (if levels == 1 then one_level k message s 4 else two_levels k message s) ≡ Ok tt → Accepted k message s levels
+accepted levels k message s (inl one) fits e = subst (λ (n : ℕ). Accepted k message s n) (sym one) (one_level_accepted k message s (one_level_ok k message s 4 tt fits (rw one at e)))
 accepted levels k message s (inr two) fits e = subst (λ (n : ℕ). Accepted k message s n) (sym two) (two_levels_ok k message s tt fits (rw two at e))
 
 -- what is accepted is valid
 pub verdict_ok : (key message s : List ℕ) → IsBytes key → length key ≡ 60 → IsBytes s → verdict key message s ≡ Ok tt → IsValid key message s
 unfolding verdict
 verdict_ok key message s key-fits key-len fits e =
-    let levels-read = bind_ok (levels_of_key key) (λ (levels : ℕ). top_key key >>= λ (k : PublicKey). reaches s 4 (least_len k.types levels) >> check (number_at s 0 == levels - 1) (fault.Levels (levels - 1) (number_at s 0)) >> (if levels == 1 then one_level k message s else two_levels k message s)) tt e in
+    let levels-read = bind_ok (levels_of_key key) (λ (levels : ℕ). top_key key >>= λ (k : PublicKey). reaches s 4 (least_len k.types levels) >> check (number_at s 0 == levels - 1) (fault.Levels (levels - 1) (number_at s 0)) >> (if levels == 1 then one_level k message s 4 else two_levels k message s)) tt e in
     let levels = levels-read.0 in
-    let key-read = bind_ok (top_key key) (λ (k : PublicKey). reaches s 4 (least_len k.types levels) >> check (number_at s 0 == levels - 1) (fault.Levels (levels - 1) (number_at s 0)) >> (if levels == 1 then one_level k message s else two_levels k message s)) tt levels-read.2 in
+    let key-read = bind_ok (top_key key) (λ (k : PublicKey). reaches s 4 (least_len k.types levels) >> check (number_at s 0 == levels - 1) (fault.Levels (levels - 1) (number_at s 0)) >> (if levels == 1 then one_level k message s 4 else two_levels k message s)) tt levels-read.2 in
     let k = key-read.0 in
-    let last = then_ok (reaches s 4 (least_len k.types levels) >> check (number_at s 0 == levels - 1) (fault.Levels (levels - 1) (number_at s 0))) (if levels == 1 then one_level k message s else two_levels k message s) tt key-read.2 in
+    let last = then_ok (reaches s 4 (least_len k.types levels) >> check (number_at s 0 == levels - 1) (fault.Levels (levels - 1) (number_at s 0))) (if levels == 1 then one_level k message s 4 else two_levels k message s) tt key-read.2 in
     let front = then_ok (reaches s 4 (least_len k.types levels)) (check (number_at s 0 == levels - 1) (fault.Levels (levels - 1) (number_at s 0))) last.0.0 last.0.1 in
     let named = levels_of_key_ok key levels levels-read.1 in
     let room : 4 ≤ length s = reaches_ok s 4 _ front.0.0 front.0.1 in
@@ -151,6 +158,7 @@ verdict_ok key message s key-fits key-len fits e =
       of_key = record {
         spelled = spans_all key _ (rw key-len (Spans-append key 0 4 60 _ _ key-levels key-is.span));
         form = key-is.form;
+        some = omega (arith, a.count);
         few = omega (arith, a.count, few named.1);
       };
       spelled = spans_all s _ (Spans-append s 0 4 (length s) _ _ s-levels a.span);
@@ -164,18 +172,18 @@ unfolding levels_of_key
 levels_of_key_there key n e (inl one) = rw (e, one) refl
 levels_of_key_there key n e (inr two) = rw (e, two) refl
 
-pub one_level_there : (k : PublicKey) (message s : List ℕ) (g : Signature) → Spans s 4 (signature_bytes k.types g) (length s) → IsSigned k message g → one_level k message s ≡ Ok tt
-unfolding one_level
-one_level_there k message s g span signed =
-    let len = 4 + signature_len k.types in
-    let stands = signature_stands k.types g s 4 (length s) span signed.form in
-    let end : length s ≡ len = omega (arith, stands.room, ap length span.parts, length-drop 4 s, length-append (signature_bytes k.types g) (drop (length s) s), length-drop (length s) s, length-signature_bytes k.types g signed.form) in
-    rw (signature_at_there k.types g s 4 len stands signed.form.leaf, ends_there s len end, has_root_there k g message signed.root) refl
-
 -- where a last text ends, the string ends
 pub length-last : (s : List ℕ) (at : ℕ) (x : List ℕ) → Spans s at x (length s) → at ≤ length s → length s ≡ at + length x
 length-last s at x span room =
     omega (arith, ap length span.parts, length-drop at s, length-append x (drop (length s) s), length-drop (length s) s)
+
+pub one_level_there : (k : PublicKey) (message s : List ℕ) (at : ℕ) (g : Signature) → Spans s at (signature_bytes k.types g) (length s) → IsSigned k message g → one_level k message s at ≡ Ok tt
+unfolding one_level
+one_level_there k message s at g span signed =
+    let len = at + signature_len k.types in
+    let stands = signature_stands k.types g s at (length s) span signed.form in
+    let end : length s ≡ len = length-last s at (signature_bytes k.types g) span (omega (arith, stands.room)) ∙ ap (λ (n : ℕ). at + n) (length-signature_bytes k.types g signed.form) in
+    rw (signature_at_there k.types g s at len stands signed.form.leaf, ends_there s len end, has_root_there k g message signed.root) refl
 
 -- the parts of two levels
 pub record TwoStand (t : Types) (u : Upper) (last : Signature) (s : List ℕ) : Type 0 where
@@ -224,23 +232,37 @@ two_levels_there k message s u last span signs =
       has_root_there u.key last message signs.2.root,
     ) refl
 
+-- how an HSS key stands in its bytes
+pub record HssKeyStands (k : PublicKey) (key : List ℕ) (levels : ℕ) : Type 0 where
+  pub named : number_at key 0 ≡ levels
+  pub span : Spans key 4 (key_bytes k) (length key)
+  pub top : KeyStands k key 4
+
+pub hss_key_stands : (key : List ℕ) (k : PublicKey) (levels : ℕ) → IsHssKey key levels k → HssKeyStands k key levels
+hss_key_stands key k levels of_key =
+    let whole = all_spans key (u32str levels ++ key_bytes k) of_key.spelled in
+    let few = of_key.few in
+    let span = spans_right key 0 (length key) 4 (u32str levels) (key_bytes k) whole (length-u32str levels) in
+    record {
+      named = number_at-Spans key 0 4 levels (spans_left key 0 (length key) 4 (u32str levels) (key_bytes k) whole (length-u32str levels)) (omega arith);
+      span = span;
+      top = key_stands k key 4 (length key) span of_key.form;
+    }
+
 -- how the levels stand behind their number
 pub record HeadStands (k : PublicKey) (key s : List ℕ) (levels : ℕ) : Type 0 where
-  pub named : number_at key 0 ≡ levels
-  pub top : KeyStands k key 4
+  pub top : HssKeyStands k key levels
   pub room : 4 ≤ length s
   pub count : number_at s 0 ≡ levels - 1
 
 head_stands : (key s : List ℕ) (k : PublicKey) (us : List Upper) (t : Types) (last : Signature) → IsHssKey key (length us + 1) k → s ≡ hss_bytes t us last → HeadStands k key s (length us + 1)
 head_stands key s k us t last of_key spelled =
     let n = length us in
-    let key-span = all_spans key (u32str (n + 1) ++ key_bytes k) of_key.spelled in
     let s-span = all_spans s (u32str n ++ levels_bytes t us last) spelled in
     let few = of_key.few in
     let count = number_at-Spans s 0 4 n (spans_left s 0 (length s) 4 (u32str n) (levels_bytes t us last) s-span (length-u32str n)) (omega arith) in
     record {
-      named = number_at-Spans key 0 4 (n + 1) (spans_left key 0 (length key) 4 (u32str (n + 1)) (key_bytes k) key-span (length-u32str (n + 1))) (omega arith);
-      top = key_stands k key 4 (length key) (spans_right key 0 (length key) 4 (u32str (n + 1)) (key_bytes k) key-span (length-u32str (n + 1))) of_key.form;
+      top = hss_key_stands key k (n + 1) of_key;
       room = omega (arith, ap length spelled, length-append (u32str n) (levels_bytes t us last), length-u32str n);
       count = omega (arith, count);
     }
@@ -249,17 +271,17 @@ pub levels_span : (s : List ℕ) (t : Types) (us : List Upper) (last : Signature
 levels_span s t us last spelled =
     spans_right s 0 (length s) 4 (u32str (length us)) (levels_bytes t us last) (all_spans s (u32str (length us) ++ levels_bytes t us last) spelled) (length-u32str (length us))
 
-verdict_from : (key message s : List ℕ) (k : PublicKey) (levels : ℕ) → (levels ≡ 1) ⊎ (levels ≡ 2) → HeadStands k key s levels → (if levels == 1 then one_level k message s else two_levels k message s) ≡ Ok tt → verdict key message s ≡ Ok tt
+verdict_from : (key message s : List ℕ) (k : PublicKey) (levels : ℕ) → (levels ≡ 1) ⊎ (levels ≡ 2) → HeadStands k key s levels → (if levels == 1 then one_level k message s 4 else two_levels k message s) ≡ Ok tt → verdict key message s ≡ Ok tt
 unfolding verdict
 verdict_from key message s k levels which h e =
     let test : (number_at s 0 == levels - 1) ≡ true = grind (arith, nat_tests, h.count) in
-    rw (levels_of_key_there key levels h.named which, top_key_there k key h.top, reaches_room s 4 (least_len k.types levels) h.room, test) e
+    rw (levels_of_key_there key levels h.top.named which, top_key_there k key h.top.top, reaches_room s 4 (least_len k.types levels) h.room, test) e
 
 -- what is valid is accepted
 valid_levels : (key message s : List ℕ) (k : PublicKey) (us : List Upper) (last : Signature) → IsHssKey key (length us + 1) k → s ≡ hss_bytes k.types us last → SignsDown k us last message → verdict key message s ≡ Ok tt
 valid_levels key message s k [] last of_key spelled signs =
     verdict_from key message s k 1 (inl refl) (head_stands key s k [] k.types last of_key spelled)
-    (one_level_there k message s last (levels_span s k.types [] last spelled) signs)
+    (one_level_there k message s 4 last (levels_span s k.types [] last spelled) signs)
 valid_levels key message s k (u ∷ []) last of_key spelled signs =
     verdict_from key message s k 2 (inr refl) (head_stands key s k (u ∷ []) k.types last of_key spelled)
     (two_levels_there k message s u last (levels_span s k.types (u ∷ []) last spelled) signs)
@@ -278,3 +300,8 @@ ok_nothing (Err f) h = absurd cc
 pub nothing_ok : (r : Result (Unit {0}) HssFault) → r ≡ Ok tt → IsOk r
 nothing_ok (Ok u) e = refl
 nothing_ok (Err f) e = absurd cc
+
+-- what holds where an answer is Ok
+pub on_ok : (r : Result (Unit {0}) HssFault) (P : Type 0) → (IsOk r → P) → OnOk r P
+on_ok (Ok u) P h = h refl
+on_ok (Err f) P h = tt

@@ -7,4 +7,9 @@ abbrev pub key_of : LmsPublicKey → PublicKey
 key_of k = record { types = k.types; identifier = k.identifier.now; root = k.root.now }
 
 abbrev pub signature_of : LmsSignature → Signature
-signature_of s = record { leaf = s.leaf; randomizer = s.randomizer.now; chains = s.chains.now; path = s.path.now }
+signature_of s = record {
+  leaf = s.leaf;
+  randomizer = s.randomizer.now;
+  chains = s.chains.now;
+  path = s.path.now;
+}

@@ -2,6 +2,7 @@ pub mod Bytes
 pub mod Types
 pub mod Ots
 pub mod Tree
+pub mod Levels
 pub mod Hss
 pub mod Order
 pub mod Lent
@@ -9,4 +10,6 @@ pub mod Secrets
 pub mod Profile
 pub mod Source
 pub mod Nodes
+pub mod Steps
+pub mod Endorsement
 pub mod Signer

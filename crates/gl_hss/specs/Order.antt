@@ -46,10 +46,6 @@ has_code s at code = check (number_at s at == code) (fault.Types at)
 unfoldable pub has_leaf : Types → ℕ → Result (Unit {0}) HssFault
 has_leaf t q = check (nat_lt q (2 ^ height t)) (fault.Leaf q)
 
--- the number of levels is the one that is wanted
-unfoldable pub has_levels : ℕ → ℕ → Result (Unit {0}) HssFault
-has_levels want got = check (want == got) (fault.Levels want got)
-
 -- the option's value, else the fault
 abbrev pub known : {A : Type 0} → Option A → HssFault → Result A HssFault
 known (Some x) f = Ok x
@@ -71,7 +67,11 @@ types_at s at want =
 
 -- the fields of an LMS public key that begins at this place
 abbrev pub key_fields : Types → List ℕ → ℕ → PublicKey
-key_fields t s at = record { types = t; identifier = bytes_at s (at + 8) 16; root = bytes_at s (at + 24) 32 }
+key_fields t s at = record {
+  types = t;
+  identifier = bytes_at s (at + 8) 16;
+  root = bytes_at s (at + 24) 32;
+}
 
 -- the number of levels that the 60 bytes of an HSS public key name
 unfoldable pub levels_of_key : List ℕ → Result ℕ HssFault
@@ -113,14 +113,15 @@ signature_at t s at want =
     >> reaches s (at + signature_len t) want
     >> Ok (signature_fields t s at)
 
--- the types and the leaf of the LMS signature at place 4, by a key that isn't known. `behind` is the
--- least number of bytes behind it.
+-- the types and the leaf of the LMS signature at place 4, by a key that isn't known. `behind` is
+-- the least number of bytes behind it.
 unfoldable pub first_signature : List ℕ → ℕ → Result (Types × ℕ) HssFault
 first_signature s behind =
     reaches s 12 (4 + signature_len H5W8 + behind)
     >> known (least_types (number_at s 8)) (fault.Types 8) >>= λ least.
     reaches s (48 + 32 * chain_count least) (4 + signature_len least + behind)
-    >> known (types_of (number_at s (44 + 32 * chain_count least)) (number_at s 8)) (fault.Types (44 + 32 * chain_count least)) >>= λ t.
+    >> known (types_of (number_at s (44 + 32 * chain_count least)) (number_at s 8))
+    (fault.Types (44 + 32 * chain_count least)) >>= λ t.
     has_leaf t (number_at s 4)
     >> reaches s (4 + signature_len t) (4 + signature_len t + behind)
     >> Ok (t, number_at s 4)
@@ -133,12 +134,19 @@ has_root k s message =
     check (bytes_eq (root_candidate k.types k.identifier s message) k.root)
     (fault.Root k.root (root_candidate k.types k.identifier s message))
 
--- a signature of one level
-unfoldable pub one_level : PublicKey → List ℕ → List ℕ → Result (Unit {0}) HssFault
-one_level k message s =
-    signature_at k.types s 4 (4 + signature_len k.types) >>= λ last.
-    ends s (4 + signature_len k.types)
+-- from this place on nothing stands but one LMS signature
+unfoldable pub one_level : PublicKey → List ℕ → List ℕ → ℕ → Result (Unit {0}) HssFault
+one_level k message s at =
+    signature_at k.types s at (at + signature_len k.types) >>= λ last.
+    ends s (at + signature_len k.types)
     >> has_root k last message
+
+-- the endorsement of a key by an HSS key of two levels
+unfoldable pub endorsement_verdict : List ℕ → List ℕ → List ℕ → Result (Unit {0}) HssFault
+endorsement_verdict identity key endorsement =
+    check (number_at identity 0 == 2) (fault.Levels 2 (number_at identity 0))
+    >> top_key identity >>= λ k.
+    one_level k key endorsement 0
 
 -- a signature of two levels: the last one stands at place `at`, 56 bytes behind the upper one
 unfoldable pub two_levels : PublicKey → List ℕ → List ℕ → Result (Unit {0}) HssFault
@@ -153,7 +161,8 @@ two_levels k message s =
 
 -- the least length of a signature of so many levels under a key with these types
 abbrev pub least_len : Types → ℕ → ℕ
-least_len t levels = if levels == 1 then 4 + signature_len t else 4 + signature_len t + 56 + signature_len H5W8
+least_len t levels =
+    if levels == 1 then 4 + signature_len t else 4 + signature_len t + 56 + signature_len H5W8
 
 -- what verifying answers: nothing, or the first fault
 unfoldable pub verdict : List ℕ → List ℕ → List ℕ → Result (Unit {0}) HssFault
@@ -162,7 +171,7 @@ verdict key message s =
     top_key key >>= λ k.
     reaches s 4 (least_len k.types levels)
     >> check (number_at s 0 == levels - 1) (fault.Levels (levels - 1) (number_at s 0))
-    >> (if levels == 1 then one_level k message s else two_levels k message s)
+    >> (if levels == 1 then one_level k message s 4 else two_levels k message s)
 
 -- the leaf in a signature of one level
 unfoldable pub leaf_of_one : List ℕ → Result ℕ HssFault
@@ -190,3 +199,12 @@ leaf_verdict s =
     reaches s 4 (4 + signature_len H5W8)
     >> check (number_at s 0 == 0 || number_at s 0 == 1) (fault.Levels 1 (number_at s 0))
     >> (if number_at s 0 == 0 then leaf_of_one s else leaf_of_two s)
+
+-- the bytes of the key that makes the last LMS signature: those in the key, or in the signature
+unfoldable pub last_key_verdict : List ℕ → List ℕ → Result (List ℕ) HssFault
+last_key_verdict key s =
+    levels_of_key key >>= λ levels.
+    top_key key >>= λ k.
+    let at = 4 + signature_len k.types in
+    (if levels == 1 then Ok (bytes_at key 4 56)
+    else reaches s (at + 56) (at + 56 + signature_len H5W8) >> Ok (bytes_at s at 56))

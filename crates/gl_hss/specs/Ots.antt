@@ -48,13 +48,16 @@ chain identifier q i from to tmp = steps (chain_prefix identifier q i) from (to 
 
 -- Q = H(I || u32str(q) || u16str(D_MESG) || C || message) (4.5)
 unfoldable pub message_digest : List ℕ → ℕ → List ℕ → List ℕ → List ℕ
-message_digest identifier q randomizer message = sha256 (identifier ++ u32str q ++ d_mesg ++ randomizer ++ message)
+message_digest identifier q randomizer message =
+    sha256 (identifier ++ u32str q ++ d_mesg ++ randomizer ++ message)
 
--- z[0] || .. || z[n-1]: the first n chains, each from the place shown in y on to its end (4.6, algorithm 4b)
+-- z[0] || .. || z[n-1]: the first n chains, each from the place shown in y on to its end (4.6,
+-- algorithm 4b)
 unfoldable pub chain_ends : Types → List ℕ → ℕ → List ℕ → List ℕ → ℕ → List ℕ
 chain_ends t identifier q ds y zero = []
 chain_ends t identifier q ds y (suc n) =
-    chain_ends t identifier q ds y n ++ chain identifier q n (coef ds n (width t)) (2 ^ width t - 1) (block y n)
+    chain_ends t identifier q ds y n
+    ++ chain identifier q n (coef ds n (width t)) (2 ^ width t - 1) (block y n)
 
 -- K = H(I || u32str(q) || u16str(D_PBLC) || ends), of the ends of all chains (4.3)
 unfoldable pub one_time_key : List ℕ → ℕ → List ℕ → List ℕ
@@ -64,4 +67,5 @@ one_time_key identifier q ends = sha256 (identifier ++ u32str q ++ d_pblc ++ end
 unfoldable pub key_candidate : Types → List ℕ → ℕ → List ℕ → List ℕ → List ℕ → List ℕ
 key_candidate t identifier q randomizer y message =
     one_time_key identifier q
-    (chain_ends t identifier q (digits t (message_digest identifier q randomizer message)) y (chain_count t))
+    (chain_ends t identifier q (digits t (message_digest identifier q randomizer message)) y
+    (chain_count t))

@@ -13,8 +13,8 @@ identifier_of seed = take 16 (sha256 (codes "gl-id" ++ seed))
 abbrev pub key_of_seed : Types → List ℕ → PrivateKey
 key_of_seed t seed = record { types = t; identifier = identifier_of seed; seed = seed }
 
--- C of leaf q: H(I || u32str(q) || u16str(0xfffd) || u8str(0xff) || SEED), as a secret with a number
--- that no chain has. So it stays hidden until the leaf signs, and a leaf has one.
+-- C of leaf q: H(I || u32str(q) || u16str(0xfffd) || u8str(0xff) || SEED), as a secret with a
+-- number that no chain has. So it stays hidden until the leaf signs, and a leaf has one.
 abbrev pub randomizer_of : PrivateKey → ℕ → List ℕ
 randomizer_of k q = secret k q 0xfffd
 

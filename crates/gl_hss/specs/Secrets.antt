@@ -27,7 +27,7 @@ whole_chains k q (suc n) =
 unfoldable pub key_of_leaf : PrivateKey → ℕ → List ℕ
 key_of_leaf k q = one_time_key k.identifier q (whole_chains k q (chain_count k.types))
 
--- y[0] || .. || y[n-1]: the first n chains of leaf q, each up to the place that its digit names (4.5)
+-- y[0] || .. || y[n-1]: the first n chains of leaf q, each up to the place of its digit (4.5)
 unfoldable pub shown_chains : PrivateKey → ℕ → List ℕ → ℕ → List ℕ
 shown_chains k q ds zero = []
 shown_chains k q ds (suc n) =
@@ -37,7 +37,8 @@ shown_chains k q ds (suc n) =
 unfoldable pub node_above : PrivateKey → ℕ → ℕ → List ℕ
 node_above k zero r = leaf_node k.identifier r (key_of_leaf k (r - 2 ^ height k.types))
 node_above k (suc n) r =
-    if nat_le (2 ^ height k.types) r then leaf_node k.identifier r (key_of_leaf k (r - 2 ^ height k.types))
+    if nat_le (2 ^ height k.types) r
+    then leaf_node k.identifier r (key_of_leaf k (r - 2 ^ height k.types))
     else inner_node k.identifier r (node_above k n (2 * r)) (node_above k n (2 * r + 1))
 
 -- T[r] (5.3)
@@ -62,6 +63,7 @@ unfoldable pub signature_with : PrivateKey → ℕ → List ℕ → List ℕ →
 signature_with k q randomizer message = record {
   leaf = q;
   randomizer = randomizer;
-  chains = shown_chains k q (digits k.types (message_digest k.identifier q randomizer message)) (chain_count k.types);
+  chains = shown_chains k q (digits k.types (message_digest k.identifier q randomizer message))
+      (chain_count k.types);
   path = siblings k (2 ^ height k.types + q) (height k.types);
 }

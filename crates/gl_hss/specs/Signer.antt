@@ -4,8 +4,8 @@ use Rattle.std.specs.Global.{Global}
 use Rattle.gl_hss.specs.declared.signer.SignFault.{SignFault}
 use Rattle.gl_hss.specs.declared.signer.SignFault.TheVariants.{NotReserved, NoMemory}
 use Rattle.gl_hss.specs.Bytes.{u32str}
-use Rattle.gl_hss.specs.Tree.{PublicKey, key_bytes, signature_bytes}
-use Rattle.gl_hss.specs.Hss.{IsHssKey, Signs}
+use Rattle.gl_hss.specs.Tree.{key_bytes, signature_bytes}
+use Rattle.gl_hss.specs.Hss.{IsEndorsed}
 use Rattle.gl_hss.specs.Secrets.{PrivateKey, public_of}
 use Rattle.gl_hss.specs.Profile.{signature_by}
 
@@ -21,10 +21,15 @@ endorsement_of None = None
 endorsement_of (Some v) = Some v.items
 
 abbrev pub signer_of : PrivateKey → Option (Vec ℕ Global) → ℕ → ℕ → Signer
-signer_of k e reserved used = record { key = k; endorsement = endorsement_of e; reserved = reserved; used = used }
+signer_of k e reserved used = record {
+  key = k;
+  endorsement = endorsement_of e;
+  reserved = reserved;
+  used = used;
+}
 
--- the bytes before the last LMS signature: the number of upper levels, and with an endorsement that and
--- the key that it signs (RFC 8554, 6.2)
+-- the bytes before the last LMS signature: the number of upper levels, and with an endorsement that
+-- and the key that it signs (RFC 8554, 6.2)
 unfoldable pub levels_above : PrivateKey → Option (List ℕ) → List ℕ
 levels_above k None = u32str 0
 levels_above k (Some e) = u32str 1 ++ e ++ key_bytes (public_of k)
@@ -33,12 +38,11 @@ levels_above k (Some e) = u32str 1 ++ e ++ key_bytes (public_of k)
 abbrev pub hss_signature : PrivateKey → Option (List ℕ) → ℕ → List ℕ → List ℕ
 hss_signature k e q message = levels_above k e ++ signature_bytes k.types (signature_by k q message)
 
--- the signatures of a signer with this endorsement are to be valid under this HSS public key: without
--- an endorsement it is the key itself at one level; with one its key signs the signer's
+-- the signatures of a signer with this endorsement are to be valid under this HSS public key:
+-- without an endorsement it is the key itself at one level; with one its key signs the signer's
 unfoldable pub StandsUnder : PrivateKey → Option (List ℕ) → List ℕ → Type 0
 StandsUnder k None hss_key = hss_key ≡ u32str 1 ++ key_bytes (public_of k)
-StandsUnder k (Some e) hss_key =
-    (top : PublicKey) × (q : ℕ) × IsHssKey hss_key 2 top × Signs top q (key_bytes (public_of k)) e
+StandsUnder k (Some e) hss_key = IsEndorsed hss_key (key_bytes (public_of k)) e
 
 -- when a signer refuses to sign: every reserved leaf is used; want of memory says nothing
 abbrev pub Refuses : Signer → SignFault → Type 0

@@ -53,7 +53,8 @@ key_bytes k = u32str (lms_code k.types) ++ u32str (ots_code k.types) ++ k.identi
 -- the bytes of an LMS signature: q, the LM-OTS signature, the typecode and the path (5.4)
 unfoldable pub signature_bytes : Types → Signature → List ℕ
 signature_bytes t s =
-    u32str s.leaf ++ u32str (ots_code t) ++ s.randomizer ++ s.chains ++ u32str (lms_code t) ++ s.path
+    u32str s.leaf ++ u32str (ots_code t) ++ s.randomizer ++ s.chains
+    ++ u32str (lms_code t) ++ s.path
 
 -- Tc: the root that a signature of the message leads to (5.4.2, algorithm 6a)
 unfoldable pub root_candidate : Types → List ℕ → Signature → List ℕ → List ℕ

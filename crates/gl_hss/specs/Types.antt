@@ -53,5 +53,6 @@ signature_len t = 12 + 32 * (1 + chain_count t + height t)
 abbrev pub types_of : ℕ → ℕ → Option Types
 types_of lms ots =
     if lms == 5 then (if ots == 3 then Some H5W4 else (if ots == 4 then Some H5W8 else None))
-    else (if lms == 6 then (if ots == 3 then Some H10W4 else (if ots == 4 then Some H10W8 else None))
+    else (if lms == 6
+    then (if ots == 3 then Some H10W4 else (if ots == 4 then Some H10W8 else None))
     else None)

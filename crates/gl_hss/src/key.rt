@@ -5,16 +5,18 @@ ghost use Rattle.gl_hss.specs.Types.{height, chain_count};
 ghost use Rattle.gl_hss.specs.Tree.{key_bytes, signature_bytes};
 ghost use Rattle.gl_hss.specs.Secrets.{PrivateKey, public_of, sibling, siblings};
 ghost use Rattle.gl_hss.specs.Profile.{identifier_of, key_of_seed, signature_by};
-ghost use Rattle.gl_hss.specs.Hss.{Signs};
+ghost use Rattle.gl_hss.specs.Hss.{IsKey, IsHssKey, Signs};
+ghost use Rattle.gl_hss.specs.Bytes.{u32str};
+ghost use Rattle.gl_hss.specs.Levels.{level_count};
 ghost use Rattle.gl_hss.specs.Source.{private_of};
 ghost use Rattle.gl_hss.specs.Nodes.{HoldsTree};
 
-use crate::growing::grow;
-use crate::layout::u32str;
+use crate::bytes::u32str;
+use crate::levels::{HSS_KEY_LEN, Levels, hss_key};
+use crate::nodes::grow;
 use crate::ots::{digits, message_digest};
-use crate::reading::KEY_LEN;
 use crate::source::KeySource;
-use crate::types::Types;
+use crate::types::{LMS_KEY_LEN, Types};
 use sha2::{Digest, Sha256};
 use std::alloc::{AllocError, Global};
 use std::marker::Model;
@@ -38,14 +40,15 @@ fn identifier_of(seed: &[u8; 32]) -> [u8; 16]
 
 // The bytes of the public key with this root.
 #[tactic(auto, unfolding(crate::specs::Tree::key_bytes))]
-fn public_bytes(source: &KeySource, root: &[u8; 32]) -> [u8; KEY_LEN]
-    ensures { result ≡ key_bytes (record {
+fn public_bytes(source: &KeySource, root: &[u8; 32]) -> [u8; LMS_KEY_LEN]
+    ensures bytes { result ≡ key_bytes (record {
       types = source.now.types;
       identifier = source.now.identifier;
       root = root.now;
     }) }
+    ensures identifier { length source.now.identifier ≡ 16 }
 {
-    let mut out = [0; KEY_LEN];
+    let mut out = [0; LMS_KEY_LEN];
     let (codes, rest) = out.split_at_mut(8);
     let (lms, ots) = codes.split_at_mut(4);
     lms.copy_from_slice(&u32str(source.types.lms_code()));
@@ -75,7 +78,8 @@ fn push_path(
     requires nodes { HoldsTree (private_of source.now) nodes.now }
     requires leaf { q < 2 ^ height source.now.types }
     ensures { OnOk result (out.new.items ≡ out.old.items
-        ++ siblings (private_of source.now) (2 ^ height source.now.types + q) (height source.now.types)) }
+        ++ siblings (private_of source.now) (2 ^ height source.now.types + q)
+        (height source.now.types)) }
 {
     let mut node = source.types.leaf_count() + q;
     for i in 0..source.types.height() {
@@ -134,16 +138,16 @@ impl Model for LmsKey {
 }
 
 impl LmsKey {
-    /// The key that grows from a seed: the identifier I is the first 16 bytes of SHA-256 of `gl-id` and
-    /// the seed, and the seed is SEED of RFC 8554, appendix A.
+    /// The key that grows from a seed: the identifier I is the first 16 bytes of SHA-256 of `gl-id`
+    /// and the seed, and the seed is SEED of RFC 8554, appendix A.
     ///
-    /// Each chain of the tree is hashed once: some 35,000 hashes with h5w4, 280,000 with h5w8, and 32
-    /// times as many with a tree of height 10.
+    /// Each chain of the tree is hashed once: some 35,000 hashes with h5w4, 280,000 with h5w8, and
+    /// 32 times as many with a tree of height 10.
     pub fn make(alloc: Global, seed: [u8; 32], types: Types) -> Result<LmsKey, AllocError>
         ensures { IfOk result (λ k. k ≡ key_of_seed types seed) }
     {
         let identifier = identifier_of(&seed);
-        LmsKey::grown(
+        LmsKey::from_source(
             alloc,
             KeySource {
                 types,
@@ -154,25 +158,34 @@ impl LmsKey {
     }
 
     // The key with this identifier and seed.
-    pub(crate) fn grown(alloc: Global, source: KeySource) -> Result<LmsKey, AllocError>
+    pub(crate) fn from_source(alloc: Global, source: KeySource) -> Result<LmsKey, AllocError>
         ensures { IfOk result (λ k. k ≡ private_of source) }
     {
         let nodes = grow(alloc, &source)?;
         Ok(LmsKey { source, nodes })
     }
 
-    // The types of the key.
-    pub(crate) fn types(&self) -> Types
+    /// The key's parameter set.
+    pub fn types(&self) -> Types
         ensures { result ≡ self.now.types }
     {
         self.source.types
     }
 
     /// The LMS public key (section 5.3): two typecodes of four bytes, I of 16 and the root of 32.
-    pub fn public(&self) -> [u8; 56]
-        ensures { result ≡ key_bytes (public_of self.now) }
+    pub fn public(&self) -> [u8; LMS_KEY_LEN]
+        ensures bytes { result ≡ key_bytes (public_of self.now) }
+        ensures form { IsKey (public_of self.now) }
     {
         public_bytes(&self.source, &self.nodes[1])
+    }
+
+    /// The HSS public key of so many levels with this key on top (section 6.1).
+    pub fn hss_public(&self, levels: Levels) -> [u8; HSS_KEY_LEN]
+        ensures bytes { result ≡ u32str (level_count levels) ++ key_bytes (public_of self.now) }
+        ensures form { IsHssKey result (level_count levels) (public_of self.now) }
+    {
+        hss_key(levels, &self.public())
     }
 
     // Where the key has its memory from.

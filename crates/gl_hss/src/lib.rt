@@ -4,24 +4,29 @@
 //! LMOTS_SHA256_N32_W4 or LMOTS_SHA256_N32_W8. Numbers in keys and signatures are big-endian.
 #![tactic(auto)]
 
+mod bytes;
+mod endorsement;
 mod fault;
-mod growing;
+mod fields;
 mod key;
-mod layout;
+mod levels;
 mod lms;
+mod nodes;
 mod ots;
-mod reading;
+mod root;
 mod signer;
 mod source;
 mod tree;
 mod types;
-mod verifying;
+mod verdict;
 
+pub use endorsement::{EndorsedKey, verify_endorsement};
 pub use fault::HssFault;
 pub use key::LmsKey;
+pub use levels::{HSS_KEY_LEN, Levels, hss_key};
 pub use signer::{HssSigner, KeyExhausted, SignFault};
-pub use types::Types;
-pub use verifying::{leaf_of, verify};
+pub use types::{LMS_KEY_LEN, MAX_HSS_SIGNATURE_LEN, MAX_LEAF_COUNT, MAX_LMS_SIGNATURE_LEN, Types};
+pub use verdict::{last_key, leaf_of, verify, verify_below};
 
 #[cfg(test)]
 mod tests;

@@ -3,9 +3,10 @@
 ghost use Rattle.std.specs.Prelude.{◌≡◌, ◌+◌, ◌-◌, ◌*◌, ◌/◌, ◌^◌, ◌<◌, ◌≤◌, ◌++◌, length};
 ghost use Rattle.gl_hss.specs.Types.{width, chain_count};
 ghost use Rattle.gl_hss.specs.Bytes.{block};
+ghost use Rattle.gl_hss.specs.Steps.{step_prefix, step_value};
 ghost use Rattle.gl_hss.specs.Ots.{coef, digit_sum, checksum, digits, chain_prefix, step, steps, message_digest, chain_ends, one_time_key};
 
-use crate::layout::{block, u16str, u32str};
+use crate::bytes::{block, to_block, u16str, u32str};
 use crate::types::Types;
 use sha2::{Digest, Sha256};
 
@@ -16,6 +17,9 @@ const D_MESG: [u8; 2] = [0x81, 0x81];
 
 // The bytes before a step's number and value, which all steps of a chain share.
 pub(crate) const PREFIX_LEN: usize = 22;
+
+// What a step hashes: the prefix, its number and the value. With the padding that is one block.
+pub(crate) const STEP_LEN: usize = 55;
 
 // The i-th digit of `bytes`.
 pub(crate) fn coef(types: Types, bytes: &[u8], i: usize) -> u8
@@ -90,28 +94,59 @@ pub(crate) fn chain_prefix(identifier: &[u8], q: u32, i: u16) -> [u8; PREFIX_LEN
     out
 }
 
-// One step of a chain.
-#[tactic(auto, unfolding(crate::specs::Ots::step, crate::specs::Bytes::u8str))]
-pub(crate) fn step(prefix: &[u8; PREFIX_LEN], j: u8, value: &[u8; 32]) -> [u8; 32]
-    ensures { result ≡ step prefix.now j value.now }
+// What a step with this prefix and value hashes, but for the step's number.
+pub(crate) fn step_input(prefix: &[u8; PREFIX_LEN], value: &[u8; 32]) -> [u8; STEP_LEN]
+    ensures prefix { step_prefix result ≡ prefix.now }
+    ensures value { step_value result ≡ value.now }
 {
-    let mut hasher = Sha256::new();
-    hasher.update(prefix);
-    hasher.update([j]);
-    hasher.update(value);
-    hasher.finalize()
+    let mut out = [0; STEP_LEN];
+    let (front, back) = out.split_at_mut(PREFIX_LEN);
+    front.copy_from_slice(prefix);
+    let (_, end) = back.split_at_mut(1);
+    end.copy_from_slice(value);
+    out
+}
+
+// The value that the next step takes on.
+pub(crate) fn step_value(input: &[u8; STEP_LEN]) -> [u8; 32]
+    ensures { result ≡ step_value input.now }
+{
+    let (_, value) = input.split_at(PREFIX_LEN + 1);
+    to_block(value)
+}
+
+// One step of a chain, whose digest takes the value's place.
+#[tactic(auto, unfolding(crate::specs::Ots::step, crate::specs::Bytes::u8str))]
+pub(crate) fn step(input: &mut [u8; STEP_LEN], j: u8)
+    ensures prefix { step_prefix input.new ≡ step_prefix input.old }
+    ensures value { step_value input.new ≡ step (step_prefix input.old) j (step_value input.old) }
+{
+    input[PREFIX_LEN] = j;
+    let value = Sha256::digest(input.as_slice());
+    let (_, end) = input.split_at_mut(PREFIX_LEN + 1);
+    end.copy_from_slice(&value);
+}
+
+// The steps from `from` up to `to`, whose last digest takes the value's place.
+pub(crate) fn steps(input: &mut [u8; STEP_LEN], from: u8, to: u8)
+    requires { from ≤ to }
+    ensures prefix { step_prefix input.new ≡ step_prefix input.old }
+    ensures value { step_value input.new
+        ≡ steps (step_prefix input.old) from (to - from) (step_value input.old) }
+{
+    for j in from..to {
+        step(input, j);
+    }
 }
 
 // The value that the steps from `from` up to `to` lead to.
-pub(crate) fn chain(prefix: &[u8; PREFIX_LEN], from: u8, to: u8, start: [u8; 32]) -> [u8; 32]
+fn chain(prefix: &[u8; PREFIX_LEN], from: u8, to: u8, start: &[u8; 32]) -> [u8; 32]
     requires { from ≤ to }
-    ensures { result ≡ steps prefix.now from (to - from) start }
+    ensures { result ≡ steps prefix.now from (to - from) start.now }
 {
-    let mut value = start;
-    for j in from..to {
-        value = step(prefix, j, &value);
-    }
-    value
+    let mut input = step_input(prefix, start);
+    steps(&mut input, from, to);
+    step_value(&input)
 }
 
 // What is signed of a message: its digest with the randomizer.
@@ -154,7 +189,7 @@ pub(crate) fn key_of_chains(
     hasher.update(D_PBLC);
     for i in 0..types.chain_count() {
         let prefix = chain_prefix(identifier, q, i as u16);
-        let end = chain(&prefix, coef(types, digits, i), top, block(chains, i));
+        let end = chain(&prefix, coef(types, digits, i), top, &block(chains, i));
         hasher.update(end);
     }
     hasher.finalize()

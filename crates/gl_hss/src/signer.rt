@@ -1,12 +1,13 @@
 //! A signer that uses each leaf once.
 
-ghost use Rattle.std.specs.Prelude.{◌≡◌, ◌↔◌, ◌<◌, ◌≤◌, ◌^◌, ◌+◌, ◌++◌, List, ℕ, Option, Some, None, Ok, Err, IfOk, OnOk, OnErr, IfErr, IsErr, length};
+ghost use Rattle.std.specs.Prelude.{◌≡◌, ◌↔◌, ◌<◌, ◌≤◌, ◌^◌, ◌+◌, ◌++◌, List, ℕ, [], Option, Some, None, Ok, Err, IfOk, OnOk, OnErr, IfErr, IsErr, length};
 ghost use Rattle.gl_hss.specs.Types.{height};
 ghost use Rattle.gl_hss.specs.Signer.{Signer, signer_of, levels_above, hss_signature, StandsUnder, Refuses};
 ghost use Rattle.gl_hss.specs.Hss.{IsValid, HasLeaf};
 
+use crate::bytes::u32str;
 use crate::key::LmsKey;
-use crate::layout::u32str;
+use crate::types::LMS_KEY_LEN;
 use std::alloc::AllocError;
 use std::marker::Model;
 use thiserror::Error;
@@ -31,7 +32,7 @@ pub enum SignFault {
 
 /// A key that signs with one leaf after another, each once.
 ///
-/// A leaf is reserved before it is used. So whoever writes `reserved` down before he hands a signature
+/// A leaf is reserved before it is used. So whoever writes `reserved` down before a signature goes
 /// out, and begins there after a stop, never uses a leaf twice.
 #[derive(Drop)]
 pub struct HssSigner {
@@ -56,8 +57,8 @@ impl Model for HssSigner {
 impl HssSigner {
     /// A signer that has used the first `reserved` leaves of the key.
     ///
-    /// With an endorsement, an LMS signature of the key's 56 bytes by the key above, the signatures have
-    /// two levels, without one a single level.
+    /// With an endorsement, an LMS signature of the key's 56 bytes by the key above, the signatures
+    /// have two levels, without one a single level.
     pub fn new(key: LmsKey, endorsement: Option<Vec<u8>>, reserved: u32) -> HssSigner
         requires { reserved ≤ 2 ^ height key.types }
         ensures { result ≡ signer_of key endorsement reserved reserved }
@@ -89,6 +90,29 @@ impl HssSigner {
         Ok(self.reserved)
     }
 
+    /// The key that signs.
+    pub fn key(&self) -> &LmsKey
+        ensures { result.now ≡ self.now.key }
+    {
+        &self.key
+    }
+
+    /// How many leaves are reserved, from leaf 0 on.
+    pub fn reserved(&self) -> u32
+        ensures value { result ≡ self.now.reserved }
+        ensures most { result ≤ 2 ^ height self.now.key.types }
+    {
+        self.reserved
+    }
+
+    /// How many leaves are used, and which one signs next.
+    pub fn used(&self) -> u32
+        ensures value { result ≡ self.now.used }
+        ensures most { result ≤ self.now.reserved }
+    {
+        self.used
+    }
+
     // Writes what stands before the last LMS signature.
     #[tactic(auto, unfolding(crate::specs::Signer::levels_above))]
     fn push_levels_above(&self, out: &mut Vec<u8>) -> Result<(), AllocError>
@@ -106,18 +130,71 @@ impl HssSigner {
         Ok(())
     }
 
+    // An empty list with room for a signature.
+    fn buffer(&self) -> Result<Vec<u8>, AllocError>
+        ensures { IfOk result (λ out. out.items ≡ []) }
+    {
+        let above = match &self.endorsement {
+            None => 4,
+            Some(endorsement) => 4 + endorsement.len() + LMS_KEY_LEN,
+        };
+        let len = above + self.key.types().signature_len();
+        Vec::with_capacity(self.key.allocator(), len)
+    }
+
     // The signature of the message by the next leaf.
     fn next_signature(&self, message: &[u8]) -> Result<Vec<u8>, AllocError>
         requires { self.now.used < self.now.reserved }
         ensures bytes { IfOk result (λ s. s.items
             ≡ hss_signature self.now.key self.now.endorsement self.now.used message.now) }
-        ensures leaf { self.now.used < 2 ^ height self.now.key.types }
+        ensures leaf { OnOk result (self.now.used < 2 ^ height self.now.key.types) }
         ensures identifier { OnOk result (length self.now.key.identifier ≡ 16) }
     {
-        let mut out = Vec::new(self.key.allocator());
+        let mut out = self.buffer()?;
         self.push_levels_above(&mut out)?;
         self.key.push_signature(self.used, message, &mut out)?;
         Ok(out)
+    }
+
+    /// The HSS signature of the message by the next reserved leaf, which isn't used by that.
+    ///
+    /// It is the first half of `sign`, for callers that can still run out of memory before the
+    /// signature goes out. `spend` is the second: until then the same leaf signs again, and two
+    /// messages that it signed give it away to forgers. So nobody may see a signature whose leaf
+    /// isn't spent.
+    pub fn signature(&self, message: &[u8]) -> Result<Vec<u8>, SignFault>
+        ensures bytes { IfOk result (λ s. s.items
+            ≡ hss_signature self.now.key self.now.endorsement self.now.used message.now) }
+
+        // The signature is valid under each key under which the endorsement is, by leaf `used`.
+        ensures valid { IfOk result (λ s. (hss_key : List ℕ) →
+            StandsUnder self.now.key self.now.endorsement hss_key
+            → IsValid hss_key message.now s.items) }
+        ensures leaf { IfOk result (λ s. (hss_key : List ℕ) →
+            StandsUnder self.now.key self.now.endorsement hss_key → HasLeaf s.items self.now.used) }
+        ensures below { OnOk result (self.now.used < self.now.reserved) }
+
+        ensures not_reserved { self.now.used ≡ self.now.reserved
+            → result ≡ Err (SignFault.NotReserved self.now.reserved) }
+        ensures refused { IfErr result (Refuses self.now) }
+    {
+        if self.used == self.reserved {
+            return Err(SignFault::NotReserved {
+                reserved: self.reserved,
+            });
+        }
+        match self.next_signature(message) {
+            Ok(signature) => Ok(signature),
+            Err(_) => Err(SignFault::NoMemory),
+        }
+    }
+
+    /// Uses the next reserved leaf, whose signature goes out from here on. Nothing fails.
+    pub fn spend(&mut self)
+        requires { self.old.used < self.old.reserved }
+        ensures { self.new ≡ record self.old { used = self.old.used + 1 } }
+    {
+        self.used += 1;
     }
 
     /// The HSS signature of the message by the next reserved leaf, which is used from then on.
@@ -125,9 +202,10 @@ impl HssSigner {
         ensures bytes { IfOk result (λ s. s.items
             ≡ hss_signature self.old.key self.old.endorsement self.old.used message.now) }
 
-        // The signature is valid under each key under which the endorsement is, and has leaf `used`.
+        // The signature is valid under each key under which the endorsement is, by leaf `used`.
         ensures valid { IfOk result (λ s. (hss_key : List ℕ) →
-            StandsUnder self.old.key self.old.endorsement hss_key → IsValid hss_key message.now s.items) }
+            StandsUnder self.old.key self.old.endorsement hss_key
+            → IsValid hss_key message.now s.items) }
         ensures leaf { IfOk result (λ s. (hss_key : List ℕ) →
             StandsUnder self.old.key self.old.endorsement hss_key → HasLeaf s.items self.old.used) }
 
@@ -140,16 +218,8 @@ impl HssSigner {
         ensures refused { IfErr result (Refuses self.old) }
         ensures err { OnErr result (self.new ≡ self.old) }
     {
-        if self.used == self.reserved {
-            return Err(SignFault::NotReserved {
-                reserved: self.reserved,
-            });
-        }
-        let signature = match self.next_signature(message) {
-            Ok(signature) => signature,
-            Err(_) => return Err(SignFault::NoMemory),
-        };
-        self.used += 1;
+        let signature = self.signature(message)?;
+        self.spend();
         Ok(signature)
     }
 }

@@ -88,6 +88,19 @@ impl Case {
         answer
     }
 
+    // What is answered below the endorsed key once these bits of the signature are changed.
+    fn changed_below(
+        &mut self,
+        endorsed: &EndorsedKey,
+        place: usize,
+        bits: u8,
+    ) -> Result<(), HssFault> {
+        self.change(place, bits);
+        let answer = verify_below(endorsed, &self.message, &self.signature);
+        self.change(place, bits);
+        answer
+    }
+
     // What is answered once these bits of the key are changed.
     fn changed_key(&self, place: usize, bits: u8) -> Result<(), HssFault> {
         let mut key = self.key;
@@ -135,6 +148,48 @@ fn embedded_fields(case: &mut Case, rt: &impl Abort, at: usize)
     }
 }
 
+// The upper level of a signature of two is an endorsement, and below it each changed bit has the
+// same answer.
+fn endorsement(
+    case: &mut Case,
+    rt: &(impl Abort + Alloc<A = Global>),
+    at: usize,
+) -> Result<(), Fail>
+    requires { at < 65536 }
+{
+    let upper = case.signature.get(4..at).ok_or("an upper level")?;
+    let upper = Vec::from_slice(rt.alloc(), upper)?;
+    let mut key = last_key(&case.key, &case.signature)?;
+    let inside = case.signature.get(at..at + 56).ok_or("a key inside")?;
+    assert_eq!(rt; key.as_slice(), inside);
+    assert_eq!(rt; verify_endorsement(&case.key, &key, &upper), Ok(()));
+    key[55] ^= 1;
+    let other = verify_endorsement(&case.key, &key, &upper);
+    assert!(rt; matches!(other, Err(HssFault::Root { .. })));
+    key[55] ^= 1;
+    let endorsed = EndorsedKey::new(case.key, key, upper)?.copy()?;
+    for place in [
+        0,
+        3,
+        4,
+        7,
+        11,
+        20,
+        at,
+        at + 3,
+        at + 8,
+        at + 59,
+        at + 63,
+        at + 70,
+    ] {
+        let answer = case.changed_below(&endorsed, place, 1);
+        assert_eq!(rt; answer, case.changed(place, 1));
+    }
+    let answer = case.changed_below(&endorsed, 3, 0);
+    assert_eq!(rt; answer, Ok(()));
+    Ok(())
+}
+
 // A bit changed in each field of the key, and in the number of levels of key and signature.
 fn key_fields(case: &mut Case, rt: &impl Abort, levels: u32) {
     let got = levels ^ 4;
@@ -160,10 +215,13 @@ fn each_field(rt: &(impl Abort + Alloc<A = Global>), vector: Vector) -> Result<(
     if let Some(last) = vector.last {
         let at = 4 + vector.top.signature_len();
         embedded_fields(&mut case, rt, at);
+        endorsement(&mut case, rt, at)?;
         case.fields(rt, at + 56, last);
         key_fields(&mut case, rt, 2);
     } else {
         key_fields(&mut case, rt, 1);
+        let key = last_key(&case.key, &case.signature)?;
+        assert_eq!(rt; key.as_slice(), &case.key[4..]);
     }
     Ok(())
 }
@@ -203,7 +261,7 @@ fn keys_of_other_implementations(rt: HostRuntime) -> Result<(), Fail> {
             identifier,
             seed,
         };
-        let public = LmsKey::grown(rt.alloc(), source)?.public();
+        let public = LmsKey::from_source(rt.alloc(), source)?.public();
         assert_eq!(rt; &public[24..], root.as_slice());
     }
     Ok(())

@@ -6,7 +6,7 @@ ghost use Rattle.gl_hss.specs.Ots.{key_candidate};
 ghost use Rattle.gl_hss.specs.Tree.{leaf_node, inner_node, parent, climbed, root_candidate};
 ghost use Rattle.gl_hss.specs.Lent.{key_of, signature_of};
 
-use crate::layout::{block, u32str};
+use crate::bytes::{block, u32str};
 use crate::lms::{LmsPublicKey, LmsSignature};
 use crate::ots::{digits, key_of_chains, message_digest};
 use sha2::{Digest, Sha256};
@@ -97,7 +97,8 @@ pub(crate) fn root_candidate(
 ) -> [u8; 32]
     requires key { IsKey (key_of key.now) }
     requires signature { IsSignature key.now.types (signature_of signature.now) }
-    ensures { result ≡ root_candidate key.now.types key.now.identifier.now (signature_of signature.now) message.now }
+    ensures { result ≡ root_candidate key.now.types key.now.identifier.now
+        (signature_of signature.now) message.now }
 {
     let node = key.types.leaf_count() + signature.leaf;
     let one_time_key = key_candidate(key, signature, message);

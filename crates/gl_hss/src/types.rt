@@ -3,6 +3,19 @@
 ghost use Rattle.std.specs.Prelude.{◌≡◌, ◌^◌, ◌≤◌};
 ghost use Rattle.gl_hss.specs.Types.{height, width, chain_count, checksum_shift, lms_code, ots_code, signature_len};
 
+/// The bytes of an LMS public key (section 5.3): two typecodes of four bytes, I of 16 and the root
+/// of 32.
+pub const LMS_KEY_LEN: usize = 56;
+
+/// The most leaves of a tree: 2^10.
+pub const MAX_LEAF_COUNT: u32 = 1024;
+
+/// The most bytes of an LMS signature, those of `Types::H10W4`.
+pub const MAX_LMS_SIGNATURE_LEN: usize = 2508;
+
+/// The most bytes of an HSS signature of two levels, both of `Types::H10W4`.
+pub const MAX_HSS_SIGNATURE_LEN: usize = 5076;
+
 /// A parameter set: the height of the tree, and the width in bits of a digit that a chain signs.
 #[derive(Clone, Copy, Debug, PartialEq, Eq)]
 pub enum Types {
@@ -30,7 +43,7 @@ impl Types {
     /// The number of leaves, each of which signs once.
     pub fn leaf_count(self) -> u32
         ensures value { result ≡ 2 ^ height self }
-        ensures most { result ≤ 1024 }
+        ensures most { result ≤ MAX_LEAF_COUNT }
     {
         match self {
             Types::H5W4 | Types::H5W8 => 32,
@@ -40,7 +53,8 @@ impl Types {
 
     /// The number of bytes of an LMS signature (section 5.4).
     pub fn signature_len(self) -> usize
-        ensures { result ≡ signature_len self }
+        ensures value { result ≡ signature_len self }
+        ensures most { result ≤ MAX_LMS_SIGNATURE_LEN }
     {
         12 + 32 * (1 + self.chain_count() + self.height() as usize)
     }

@@ -84,7 +84,8 @@ impl Frontier {
         self.len
     }
 
-    /// Makes room: the next `more` pushes take no memory.
+    /// Makes room: the next `more` pushes take no memory. Where room lacks, as many leaves more as are
+    /// held find it too, so that a reserve before each push costs no more than the pushes.
     pub fn reserve(&mut self, more: usize) -> Result<(), AllocError>
         ensures ok { OnOk result (more ≤ self.new.spare) }
         ensures kept { self.old.spare ≤ self.new.spare }
@@ -95,13 +96,14 @@ impl Frontier {
             return Err(AllocError);
         };
         if limit > self.limit {
+            let limit = limit.max(self.len.saturating_add(self.len - self.base));
             reserve_levels(&mut self.levels, self.base, limit)?;
             self.limit = limit;
         }
         Ok(())
     }
 
-    // Makes room for one more leaf, and where there is none for as many as are held.
+    // Makes room for one more leaf, and where there is none for 16 at least.
     fn make_room(&mut self) -> Result<(), AllocError>
         ensures ok { OnOk result (0 < self.new.spare) }
         ensures kept { self.old.spare ≤ self.new.spare }
@@ -111,8 +113,7 @@ impl Frontier {
         if self.len < self.limit {
             return Ok(());
         }
-        let held = self.len - self.base;
-        self.reserve(held.max(16) as usize)
+        self.reserve(16)
     }
 
     /// Adds a leaf at the end. While there is room this takes no memory.

@@ -1,2 +1,7 @@
 pub mod Fronts
 pub mod Faults
+pub mod Plans
+pub mod Moments
+pub mod Tearing
+pub mod Recorded
+pub mod Results

@@ -1,4 +1,10 @@
 pub mod Fault
+pub mod Plan
 pub mod Source
 pub mod Sink
 pub mod Memory
+pub mod Disk
+pub mod Record
+pub mod SureDisk
+pub mod Link
+pub mod MemLink

@@ -1,6 +1,5 @@
 -- How the sources and sinks in memory cut what they give and take.
-use Rattle.std.specs.Prelude.{ℕ, ◌+◌, min, max, List, [], ◌∷◌, length}
-use Rattle.gl_outside.specs.Fault.{last_count}
+use Rattle.std.specs.Prelude.{ℕ, min, max, List, [], ◌∷◌, length}
 use Rattle.gl_outside.specs.declared.source.Got.{Got}
 use Rattle.gl_outside.specs.declared.source.Got.TheVariants.{Bytes, End}
 
@@ -12,7 +11,3 @@ piece_of piece = max piece 1
 abbrev pub piece_read : ℕ → List ℕ → ℕ → Got
 piece_read piece [] room = End
 piece_read piece (byte ∷ bytes) room = Bytes (min (piece_of piece) (min room (length (byte ∷ bytes))))
-
--- Calls are counted from 1, up to the last value of a u64.
-abbrev pub next_call : ℕ → ℕ
-next_call calls = min (calls + 1) last_count

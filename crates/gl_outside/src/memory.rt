@@ -1,12 +1,13 @@
 //! Sources and sinks in memory, for a run whose outside is known.
 
-ghost use Rattle.std.specs.Prelude.{◌≡◌, ◌⊎◌, ◌++◌, ◌↔◌, ◌||◌, ◌≤◌, length, take, Some, min, IsTrue, IfOk, Contains, [], false};
-ghost use Rattle.std.specs.Io.KnownBytes.{Appends, Consumes, IsAtEnd};
-ghost use Rattle.gl_outside.specs.Fault.{Rose};
-ghost use Rattle.gl_outside.specs.Memory.{piece_of, piece_read, next_call};
+ghost use Rattle.std.specs.Prelude.{◌≡◌, ◌⊎◌, ◌++◌, ◌↔◌, ◌||◌, ◌≤◌, length, take, Some, min, IsTrue, IfOk, [], false};
+ghost use Rattle.gl_outside.specs.Fault.{Rose, next_call};
+ghost use Rattle.gl_outside.specs.Memory.{piece_of, piece_read};
+ghost use Rattle.gl_outside.specs.Plan.{faults_of, fails_next};
 ghost use Rattle.gl_outside.specs.Sink.{taken_count};
 ghost use Rattle.gl_outside.specs.Source.{given_count, gave_end};
 
+use crate::fault_plan::FaultPlan;
 use crate::sink::{Put, Sink};
 use crate::source::{Got, Source};
 use std::alloc::Global;
@@ -70,25 +71,18 @@ impl Source for SureSource<'_> {
 pub struct MemSource<'a> {
     /// The bytes, and how they are read where no failure is chosen.
     pub inner: SureSource<'a>,
-    /// The numbers of the reads that are to fail. The first read is 1.
-    pub failing: &'a [u64],
-    /// How many reads there were.
-    pub calls: u64,
-    /// How many reads failed.
-    pub faults: u64,
+    /// Which reads are to fail.
+    pub plan: FaultPlan<'a>,
 }
 
 impl<'a> MemSource<'a> {
     pub fn new(bytes: &'a [u8], piece: usize, failing: &'a [u64]) -> Self
         ensures inner { result.inner ≡ record { left = bytes.entry; piece = piece; ended = false } }
-        ensures failing { result.failing ≡ failing.entry }
-        ensures none_yet { (result.calls ≡ 0) × (result.faults ≡ 0) }
+        ensures plan { result.plan ≡ record { failing = failing.entry; calls = 0 } }
     {
         MemSource {
             inner: SureSource::new(bytes, piece),
-            failing,
-            calls: 0,
-            faults: 0,
+            plan: FaultPlan::new(failing),
         }
     }
 }
@@ -96,14 +90,14 @@ impl<'a> MemSource<'a> {
 impl Source for MemSource<'_> {
     ghost left = { λ s. Some s.inner.left.now };
 
-    ghost faults = { λ s. s.faults };
+    ghost faults = { λ s. faults_of s.plan };
 
     ghost ended = { λ s. s.inner.ended };
 
     fn read(&mut self, buf: &mut [u8]) -> Got
         // The chosen reads fail, and the others are those of the source within.
-        ensures numbered { self.new.calls ≡ next_call self.old.calls }
-        ensures chosen { Contains self.old.failing.now self.new.calls ↔ (result ≡ Got.Failed) }
+        ensures numbered { self.new.plan.calls ≡ next_call self.old.plan.calls }
+        ensures chosen { IsTrue (fails_next self.old.plan) ↔ (result ≡ Got.Failed) }
         ensures given { (result ≡ Got.Failed → ⊥) →
             result ≡ piece_read self.old.inner.piece self.old.inner.left.now (length buf.new) }
 
@@ -113,16 +107,14 @@ impl Source for MemSource<'_> {
         ensures kept_end { self.new.inner.ended ≡
             (self.old.inner.ended || gave_end result (length buf.new)) }
 
-        ensures failed { result ≡ Got.Failed → Rose self.old.faults self.new.faults }
-        ensures quiet { (result ≡ Got.Failed → ⊥) → self.new.faults ≡ self.old.faults }
-        ensures never_falls { self.old.faults ≤ self.new.faults }
+        ensures failed { result ≡ Got.Failed → Rose (faults_of self.old.plan) (faults_of self.new.plan) }
+        ensures quiet { (result ≡ Got.Failed → ⊥) → faults_of self.new.plan ≡ faults_of self.old.plan }
+        ensures never_falls { faults_of self.old.plan ≤ faults_of self.new.plan }
 
         ensures piece { self.new.inner.piece ≡ self.old.inner.piece }
-        ensures failing { self.new.failing.now ≡ self.old.failing.now }
+        ensures failing { self.new.plan.failing ≡ self.old.plan.failing }
     {
-        self.calls = self.calls.saturating_add(1);
-        if self.failing.contains(&self.calls) {
-            self.faults = self.faults.saturating_add(1);
+        if self.plan.next_fails() {
             return Got::Failed;
         }
         self.inner.read(buf)
@@ -175,26 +167,19 @@ impl Sink for SureSink {
 pub struct MemSink<'a> {
     /// The bytes, and how they are written where no failure is chosen.
     pub inner: SureSink,
-    /// The numbers of the writes that are to fail. The first write is 1.
-    pub failing: &'a [u64],
-    /// How many writes there were.
-    pub calls: u64,
-    /// How many writes failed.
-    pub faults: u64,
+    /// Which writes are to fail.
+    pub plan: FaultPlan<'a>,
 }
 
 impl<'a> MemSink<'a> {
     pub fn new(alloc: Global, piece: usize, failing: &'a [u64]) -> Self
         ensures held { result.inner.held.items ≡ [] }
         ensures piece { result.inner.piece ≡ piece }
-        ensures failing { result.failing ≡ failing.entry }
-        ensures none_yet { (result.calls ≡ 0) × (result.faults ≡ 0) }
+        ensures plan { result.plan ≡ record { failing = failing.entry; calls = 0 } }
     {
         MemSink {
             inner: SureSink::new(alloc, piece),
-            failing,
-            calls: 0,
-            faults: 0,
+            plan: FaultPlan::new(failing),
         }
     }
 }
@@ -202,28 +187,26 @@ impl<'a> MemSink<'a> {
 impl Sink for MemSink<'_> {
     ghost holds = { λ s. Some s.inner.held.items };
 
-    ghost faults = { λ s. s.faults };
+    ghost faults = { λ s. faults_of s.plan };
 
     fn write(&mut self, piece: &[u8]) -> Put
         // The chosen writes fail, and the others are those of the sink within.
-        ensures numbered { self.new.calls ≡ next_call self.old.calls }
-        ensures chosen { Contains self.old.failing.now self.new.calls ↔ (result ≡ Put.Failed) }
+        ensures numbered { self.new.plan.calls ≡ next_call self.old.plan.calls }
+        ensures chosen { IsTrue (fails_next self.old.plan) ↔ (result ≡ Put.Failed) }
         ensures took { (result ≡ Put.Failed → ⊥) → (result ≡ Put.NoMemory
             ⊎ result ≡ Put.Took (min (piece_of self.old.inner.piece) (length piece.now))) }
         ensures within { taken_count result ≤ length piece.now }
         ensures some { result ≡ Put.Took 0 → piece.now ≡ [] }
         ensures appended { self.new.inner.held.items ≡ self.old.inner.held.items ++ take (taken_count result) piece.now }
 
-        ensures failed { result ≡ Put.Failed → Rose self.old.faults self.new.faults }
-        ensures quiet { (result ≡ Put.Failed → ⊥) → self.new.faults ≡ self.old.faults }
-        ensures never_falls { self.old.faults ≤ self.new.faults }
+        ensures failed { result ≡ Put.Failed → Rose (faults_of self.old.plan) (faults_of self.new.plan) }
+        ensures quiet { (result ≡ Put.Failed → ⊥) → faults_of self.new.plan ≡ faults_of self.old.plan }
+        ensures never_falls { faults_of self.old.plan ≤ faults_of self.new.plan }
 
         ensures piece { self.new.inner.piece ≡ self.old.inner.piece }
-        ensures failing { self.new.failing.now ≡ self.old.failing.now }
+        ensures failing { self.new.plan.failing ≡ self.old.plan.failing }
     {
-        self.calls = self.calls.saturating_add(1);
-        if self.failing.contains(&self.calls) {
-            self.faults = self.faults.saturating_add(1);
+        if self.plan.next_fails() {
             return Put::Failed;
         }
         self.inner.write(piece)

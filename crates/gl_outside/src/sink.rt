@@ -36,6 +36,16 @@ pub trait Sink {
         ensures never_falls { faults self.old ≤ faults self.new };
 }
 
+impl<K: Sink> Sink for &mut K {
+    ghost holds = { λ s. K.holds s.now };
+
+    ghost faults = { λ s. K.faults s.now };
+
+    fn write(&mut self, piece: &[u8]) -> Put {
+        Sink::write(&mut **self, piece)
+    }
+}
+
 /// Why not all of the bytes were written. A front of them may have been.
 #[derive(Clone, Copy, Debug, PartialEq, Eq, Error)]
 pub enum SinkFault {

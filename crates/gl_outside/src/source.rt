@@ -38,3 +38,15 @@ pub trait Source {
         ensures quiet { (result ≡ Got.Failed → ⊥) → faults self.new ≡ faults self.old }
         ensures never_falls { faults self.old ≤ faults self.new };
 }
+
+impl<S: Source> Source for &mut S {
+    ghost left = { λ s. S.left s.now };
+
+    ghost faults = { λ s. S.faults s.now };
+
+    ghost ended = { λ s. S.ended s.now };
+
+    fn read(&mut self, buf: &mut [u8]) -> Got {
+        Source::read(&mut **self, buf)
+    }
+}

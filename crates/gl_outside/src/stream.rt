@@ -1,8 +1,10 @@
-//! Streams of the operating system as a source and a sink. They tell nothing of what they hold.
+//! Streams as a source and a sink. What they have left or hold is what the stream tells of it.
 
-ghost use Rattle.std.specs.Prelude.{◌≡◌, ◌≤◌, None, [], length, false};
-ghost use Rattle.gl_outside.specs.Fault.{Rose};
+ghost use Rattle.std.specs.Prelude.{◌≡◌, ◌≤◌, ◌||◌, length, take, false, IsTrue, []};
+ghost use Rattle.std.specs.Io.KnownBytes.{Appends, Consumes, IsAtEnd};
+ghost use Rattle.gl_outside.specs.Fault.{Rose, next_call};
 ghost use Rattle.gl_outside.specs.Sink.{taken_count};
+ghost use Rattle.gl_outside.specs.Source.{given_count, gave_end};
 
 use crate::sink::{Put, Sink};
 use crate::source::{Got, Source};
@@ -31,13 +33,26 @@ impl<R> StreamSource<R> {
 }
 
 impl<R: Read> Source for StreamSource<R> {
-    ghost left = { λ _. None };
+    ghost left = { λ s. R.remaining s.inner };
 
     ghost faults = { λ s. s.faults };
 
     ghost ended = { λ s. s.ended };
 
-    fn read(&mut self, buf: &mut [u8]) -> Got {
+    fn read(&mut self, buf: &mut [u8]) -> Got
+        ensures within { given_count result ≤ length buf.new }
+        ensures taken { Consumes (R.remaining self.old.inner) (R.remaining self.new.inner)
+            (take (given_count result) buf.new) }
+
+        ensures end { IsTrue (gave_end result (length buf.new)) → IsAtEnd (R.remaining self.new.inner) }
+        ensures kept_end { self.new.ended ≡ (self.old.ended || gave_end result (length buf.new)) }
+
+        // Each error is counted once.
+        ensures counted { result ≡ Got.Failed → self.new.faults ≡ next_call self.old.faults }
+        ensures failed { result ≡ Got.Failed → Rose self.old.faults self.new.faults }
+        ensures quiet { (result ≡ Got.Failed → ⊥) → self.new.faults ≡ self.old.faults }
+        ensures never_falls { self.old.faults ≤ self.new.faults }
+    {
         match self.inner.read(buf) {
             Ok(0) if !buf.is_empty() => {
                 self.ended = true;
@@ -69,15 +84,19 @@ impl<W> StreamSink<W> {
 }
 
 impl<W: Write> Sink for StreamSink<W> {
-    ghost holds = { λ _. None };
+    ghost holds = { λ s. W.contents s.inner };
 
     ghost faults = { λ s. s.faults };
 
     fn write(&mut self, piece: &[u8]) -> Put
         ensures within { taken_count result ≤ length piece.now }
+        ensures appended { Appends (W.contents self.old.inner) (W.contents self.new.inner)
+            (take (taken_count result) piece.now) }
         ensures some { result ≡ Put.Took 0 → piece.now ≡ [] }
         ensures takes_no_memory { result ≡ Put.NoMemory → ⊥ }
 
+        // Each error is counted once, and so is a write that took nothing of a piece.
+        ensures counted { result ≡ Put.Failed → self.new.faults ≡ next_call self.old.faults }
         ensures failed { result ≡ Put.Failed → Rose self.old.faults self.new.faults }
         ensures quiet { (result ≡ Put.Failed → ⊥) → self.new.faults ≡ self.old.faults }
         ensures never_falls { self.old.faults ≤ self.new.faults }

@@ -5,10 +5,10 @@ use Rattle.gl_rules.specs.Node as rules
 use Rattle.gl_rules.specs.Outcome.{Step, Done, quiet, idle}
 use Rattle.gl_rules.specs.Steps.{enter_view, update_view}
 use Rattle.gl_rules.specs.Replication.{update_match, update_progress, lower_next}
-use Rattle.gl_replay_rules.specs.declared.entry.Entry.{Entry}
-use Rattle.gl_replay_rules.specs.declared.entry.Fault.{Fault}
+use Rattle.gl_safety.specs.declared.small_book.Entry.{Entry}
+use Rattle.gl_safety.specs.declared.small_book.Fault.{Fault}
 use Rattle.gl_replay_rules.specs.declared.node.Node.{Node}
-use Rattle.gl_replay_rules.specs.Entry.{small}
+use Rattle.gl_safety.specs.SmallBook.{small}
 use Rattle.gl_replay_rules.specs.Pairs.{held}
 use Rattle.gl_replay_rules.specs.Seen.{seen}
 

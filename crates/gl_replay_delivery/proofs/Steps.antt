@@ -6,8 +6,8 @@ use Rattle.gl_rules.specs.Identity.{NodeId, put}
 use Rattle.gl_rules.specs.Node.{Node}
 use Rattle.gl_rules.specs.Log.{entry_at, view_at}
 use Rattle.gl_rules.specs.Replication.{fitting_prefix, greatest_evidence, greatest_to_commit, is_evidence_at, highest_possible_match, may_commit}
-use Rattle.gl_replay_rules.specs.declared.entry.Entry.{Entry}
-use Rattle.gl_replay_rules.specs.Entry.{small}
+use Rattle.gl_safety.specs.declared.small_book.Entry.{Entry}
+use Rattle.gl_safety.specs.SmallBook.{small}
 use Rattle.gl_replay_rules.specs.Pairs.{held, tried}
 
 pub greatest_none : (x : NodeId) (n : Node Entry) (seqno : ℕ) → seqno ≡ 0 → greatest_to_commit small x n seqno ≡ None

@@ -4,7 +4,7 @@ ghost use Rattle.std.specs.Prelude.{◌≡◌, ◌≤◌, ◌<◌, ◌-◌, ◌+
 ghost use Rattle.gl_rules.specs.Steps.{update_view};
 ghost use Rattle.gl_rules.specs.Replication.{append_as, append_reply, append_reply_as, update_progress, checked_append, update_match, commit_after, accept_or_refuse, become_follower, merge_if_matching, greatest_evidence, matching_prefix_len, install, with_snapshot, install_snapshot, is_evidence_at, highest_possible_match, merge_entries, on_append, on_append_reply, lower_next, snapshot_of, accept_entries};
 ghost use Rattle.gl_rules.specs.Log.{entry_at};
-ghost use Rattle.gl_replay_rules.specs.Entry.{is_snapshot, small};
+ghost use Rattle.gl_safety.specs.SmallBook.{is_snapshot, small};
 ghost use Rattle.gl_replay_rules.specs.Pairs.{held};
 ghost use Rattle.gl_replay_rules.specs.Seen.{seen, seen_extended, seen_position, seen_message, seen_step};
 
@@ -15,7 +15,7 @@ use gl_replay_rules::elections::one_message;
 use gl_replay_rules::entry::{Entry, Fault, Kind, NodeId};
 use gl_replay_rules::ledger::{last_signature, view_at};
 use gl_replay_rules::node::{Node, Role};
-use gl_replay_rules::requests::is_fit;
+use gl_replay_rules::removals::is_fit;
 use gl_replay_rules::step::{Body, Extended, Position, Message, Outcome, Refusal, Step};
 use std::alloc::{AllocError, Global};
 

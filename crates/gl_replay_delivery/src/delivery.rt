@@ -3,7 +3,7 @@
 ghost use Rattle.std.specs.Prelude.{◌≡◌, ◌<◌, IfOk};
 ghost use Rattle.gl_rules.specs.Steps.{update_view};
 ghost use Rattle.gl_rules.specs.World.{answer_as, undo_if_refused, on_message};
-ghost use Rattle.gl_replay_rules.specs.Entry.{small};
+ghost use Rattle.gl_safety.specs.SmallBook.{small};
 ghost use Rattle.gl_replay_rules.specs.Pairs.{held};
 ghost use Rattle.gl_replay_rules.specs.Seen.{seen, seen_body, seen_message, seen_outcome, seen_step};
 

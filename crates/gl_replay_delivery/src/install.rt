@@ -4,7 +4,7 @@ ghost use Rattle.std.specs.Prelude.{◌≡◌, ◌&&◌, nat_lt, IfOk};
 ghost use Rattle.gl_rules.specs.Steps.{update_view};
 ghost use Rattle.gl_rules.specs.Log.{entry_at};
 ghost use Rattle.gl_rules.specs.Replication.{greatest_evidence, install, with_snapshot, is_evidence_at, snapshot_of};
-ghost use Rattle.gl_replay_rules.specs.Entry.{is_snapshot, small};
+ghost use Rattle.gl_safety.specs.SmallBook.{is_snapshot, small};
 ghost use Rattle.gl_replay_rules.specs.Seen.{seen, seen_step};
 
 use gl_replay_rules::changes::{copy_node, idle, quiet, refuse, enter_view};

@@ -5,7 +5,7 @@ ghost use Rattle.gl_rules.specs.Identity.{same};
 ghost use Rattle.gl_rules.specs.Majority.{majority, quorum, tally};
 ghost use Rattle.gl_rules.specs.Log.{entry_at, is_signature_in};
 ghost use Rattle.gl_rules.specs.Replication.{advance, append_message, batch, commit_to, fitting_prefix, greatest_to_commit, is_peer, is_reached, may_commit, next_of, replicate, restart, send_append};
-ghost use Rattle.gl_replay_rules.specs.Entry.{is_mark_of, mark_of, members, small};
+ghost use Rattle.gl_safety.specs.SmallBook.{members, small};
 ghost use Rattle.gl_replay_rules.specs.Pairs.{held, tried};
 ghost use Rattle.gl_replay_rules.specs.Seen.{holds, seen, seen_message, seen_step};
 
@@ -16,7 +16,7 @@ use gl_replay_rules::entry::{Entry, Kind, NodeId, Nodes, is_signature, members};
 use gl_replay_rules::ledger::view_at;
 use gl_replay_rules::majority::{is_in_some, is_same};
 use gl_replay_rules::node::{Node, Role};
-use gl_replay_rules::requests::removal_of;
+use gl_replay_rules::removals::{mark_of, removal_of};
 use gl_replay_rules::step::{Body, Position, Message, Outcome, Refusal, Step};
 use std::alloc::{AllocError, Global};
 
@@ -65,35 +65,6 @@ pub fn next_of(node: &Node, y: NodeId) -> usize
     match tried(&node.next, y) {
         None => node.start,
         Some(seqno) => seqno,
-    }
-}
-
-/// Whether an entry of this kind marks y.
-pub fn is_mark_of(y: NodeId, kind: &Kind) -> bool
-    ensures { result ≡ is_mark_of y kind.now }
-{
-    match kind {
-        Kind::Mark(node) => is_same(y, *node),
-        _ => false,
-    }
-}
-
-/// The seqno of the first entry that marks y.
-pub fn mark_of(log: &[Entry], y: NodeId) -> Option<usize>
-    ensures value { result ≡ mark_of log.now y }
-    ensures within { IfSome result (λ seqno. seqno ≤ length log.now) }
-{
-    match log.split_first() {
-        None => None,
-        Some((e, rest)) => {
-            if is_mark_of(y, &e.kind) {
-                return Some(1);
-            }
-            match mark_of(rest, y) {
-                None => None,
-                Some(seqno) => Some(seqno + 1),
-            }
-        }
     }
 }
 

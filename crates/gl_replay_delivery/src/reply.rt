@@ -2,7 +2,7 @@
 
 ghost use Rattle.std.specs.Prelude.{◌≡◌, ◌≤◌, ◌<◌, ◌+◌, length, min, IfOk};
 ghost use Rattle.gl_rules.specs.Replication.{update_match, update_progress, on_append_reply, lower_next};
-ghost use Rattle.gl_replay_rules.specs.Entry.{small};
+ghost use Rattle.gl_safety.specs.SmallBook.{small};
 ghost use Rattle.gl_replay_rules.specs.Pairs.{held};
 ghost use Rattle.gl_replay_rules.specs.Seen.{seen, seen_step};
 

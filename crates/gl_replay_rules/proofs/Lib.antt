@@ -1,4 +1,2 @@
 pub mod Same
 pub mod Steps
-pub mod BookLaws
-pub mod Beginning

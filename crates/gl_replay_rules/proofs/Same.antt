@@ -4,7 +4,7 @@ use Rattle.gl_rules.specs.Identity.{NodeId, same, member}
 use Rattle.gl_rules.specs.Majority.{quorum}
 use Rattle.gl_rules.specs.Configuration.{in_some}
 use Rattle.gl_rules.specs.Message.{Position, Message}
-use Rattle.gl_replay_rules.specs.declared.entry.Entry.{Entry}
+use Rattle.gl_safety.specs.declared.small_book.Entry.{Entry}
 use Rattle.gl_replay_rules.specs.Seen.{requests_from}
 
 pub quorum_by : (r : Bool) (u v : List NodeId) (s t : List (List NodeId)) → r ≡ quorum (λ y. member y u) s → u ≡ v → s ≡ t → r ≡ quorum (λ y. member y v) t

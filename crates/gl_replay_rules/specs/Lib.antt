@@ -1,4 +1,2 @@
-pub mod Entry
 pub mod Pairs
 pub mod Seen
-pub mod Opening

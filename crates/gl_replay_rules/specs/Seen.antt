@@ -5,8 +5,8 @@ use Rattle.gl_rules.specs.Node as rules
 use Rattle.gl_rules.specs.Message as messages
 use Rattle.gl_rules.specs.Outcome as outcomes
 use Rattle.gl_replay_rules.specs.Pairs.{held, tried}
-use Rattle.gl_replay_rules.specs.declared.entry.Entry.{Entry}
-use Rattle.gl_replay_rules.specs.declared.entry.Fault.{Fault}
+use Rattle.gl_safety.specs.declared.small_book.Entry.{Entry}
+use Rattle.gl_safety.specs.declared.small_book.Fault.{Fault}
 use Rattle.gl_replay_rules.specs.declared.node.Node.{Node}
 use Rattle.gl_replay_rules.specs.declared.node.Role.{Role}
 use Rattle.gl_replay_rules.specs.declared.node.Role.TheVariants as roles

@@ -3,7 +3,7 @@
 ghost use Rattle.std.specs.Prelude.{◌≡◌, ◌+◌, ◌<◌, [], ◌∷◌, length, map, IfOk};
 ghost use Rattle.gl_rules.specs.Outcome.{quiet, refuse, idle};
 ghost use Rattle.gl_rules.specs.Steps.{append_entry, cut_to, has_votes, known_commit, become_leader, enter_view, campaign_outcome, lead_if};
-ghost use Rattle.gl_replay_rules.specs.Entry.{small};
+ghost use Rattle.gl_safety.specs.SmallBook.{small};
 ghost use Rattle.gl_replay_rules.specs.Seen.{seen, seen_outcome, seen_refusal, seen_step};
 
 use crate::configuration::active;

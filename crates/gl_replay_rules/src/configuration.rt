@@ -4,7 +4,7 @@ ghost use Rattle.std.specs.Prelude.{◌≡◌, ◌++◌, map, take, filter, ◌&
 ghost use Rattle.std.specs.Option.{option_map};
 ghost use Rattle.gl_rules.specs.Identity.{same};
 ghost use Rattle.gl_rules.specs.Configuration.{active, active_upto, configuration_at, configurations_above, in_some};
-ghost use Rattle.gl_replay_rules.specs.Entry.{all_added, members, recorded_from, small};
+ghost use Rattle.gl_safety.specs.SmallBook.{all_added, members, recorded_from, small};
 
 use crate::entry::{Entry, NodeId, Nodes, members, set_in};
 use crate::majority::{is_in_some, is_member, is_same};

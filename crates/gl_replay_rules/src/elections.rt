@@ -5,7 +5,7 @@ ghost use Rattle.gl_rules.specs.Log.{is_up_to_date, last_signature_position};
 ghost use Rattle.gl_rules.specs.Configuration.{others};
 ghost use Rattle.gl_rules.specs.Message as messages;
 ghost use Rattle.gl_rules.specs.Elections.{become_candidate, count_votes, may_vote_for, on_propose_vote, on_request_vote, on_vote_reply, reply_to_vote_request, campaign, campaign_if_allowed, step_down, hand_over, timeout, vote_requests, vote_if, add_vote};
-ghost use Rattle.gl_replay_rules.specs.Entry.{small};
+ghost use Rattle.gl_safety.specs.SmallBook.{small};
 ghost use Rattle.gl_replay_rules.specs.Seen.{requests_from, seen, seen_position, seen_message, seen_step};
 
 use crate::changes::{copy_node, has_votes, idle, refuse, enter_view, campaign_outcome, lead_if};

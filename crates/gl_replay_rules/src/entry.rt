@@ -1,60 +1,12 @@
-//! The entries of the small book.
+//! What is read of an entry of the small book.
 
 ghost use Rattle.std.specs.Prelude.{◌≡◌};
 ghost use Rattle.std.specs.Option.{option_map};
-ghost use Rattle.gl_replay_rules.specs.Entry.{members, set_in, signs};
+ghost use Rattle.gl_safety.specs.SmallBook.{members, set_in, signs};
 
-/// A node's identifier.
-pub type NodeId = [u8; 1];
+use gl_safety::small_book::MAX_NODES;
 
-/// How many nodes a set has at most.
-pub const MAX_NODES: usize = 8;
-
-/// A set of trusted nodes: the first `count` of these identifiers.
-#[derive(Clone, Copy, Debug)]
-pub struct Nodes {
-    pub ids: [NodeId; 8],
-    pub count: usize,
-}
-
-/// What an entry is.
-#[derive(Clone, Copy, Debug)]
-pub enum Kind {
-    /// An application request.
-    Plain,
-    /// The set of trusted nodes is now this one.
-    Change(Nodes),
-    /// A node is removed, and these are left.
-    Removal(NodeId, Nodes),
-    /// The removal of this node is done with.
-    Mark(NodeId),
-    /// A signature over what stands below it, with the commit that it records.
-    Signature(usize),
-    /// The digest of a snapshot.
-    Evidence,
-}
-
-/// An entry of a ledger.
-#[derive(Clone, Copy, Debug)]
-pub struct Entry {
-    pub view: u32,
-    pub kind: Kind,
-}
-
-/// What a governance request asks for.
-#[derive(Clone, Copy, Debug)]
-pub enum Order {
-    SetNodes(Nodes),
-    RemoveNode(NodeId, Nodes),
-    MarkNode(NodeId),
-}
-
-/// Why the book makes no entry.
-#[derive(Clone, Copy, Debug)]
-pub enum Fault {
-    /// It may not follow.
-    Unfit,
-}
+pub use gl_safety::small_book::{Entry, Fault, Kind, NodeId, Nodes, Order};
 
 /// The nodes of a set.
 pub fn members(nodes: &Nodes) -> &[NodeId]

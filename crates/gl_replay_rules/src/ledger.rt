@@ -2,7 +2,7 @@
 
 ghost use Rattle.std.specs.Prelude.{◌≡◌, ◌≤◌, length};
 ghost use Rattle.gl_rules.specs.Log.{greatest_recorded, last_signature, view_at};
-ghost use Rattle.gl_replay_rules.specs.Entry.{commit_in, small};
+ghost use Rattle.gl_safety.specs.SmallBook.{bare, commit_in, small};
 
 use crate::entry::{Entry, Kind, is_signature};
 
@@ -20,6 +20,7 @@ pub fn view_at(log: &[Entry], seqno: usize) -> u32
 #[tactic(auto, unfolding(gl_rules::specs::Log::last_signature))]
 pub fn last_signature(log: &[Entry]) -> usize
     ensures value { result ≡ last_signature small log.now }
+    ensures untried { result ≡ last_signature bare log.now }
     ensures within { result ≤ length log.now }
 {
     match log.split_first() {
@@ -48,7 +49,8 @@ pub fn commit_in(kind: &Kind) -> usize
 /// The greatest commit that a signature of the log records, 0 where there is none.
 #[tactic(auto, unfolding(gl_rules::specs::Log::greatest_recorded))]
 pub fn greatest_recorded(log: &[Entry]) -> usize
-    ensures { result ≡ greatest_recorded small log.now }
+    ensures value { result ≡ greatest_recorded small log.now }
+    ensures untried { result ≡ greatest_recorded bare log.now }
 {
     match log.split_first() {
         None => 0,

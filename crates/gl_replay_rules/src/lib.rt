@@ -10,13 +10,13 @@ pub mod changes;
 pub mod configuration;
 pub mod elections;
 pub mod entry;
-pub mod laws;
 pub mod ledger;
 pub mod majority;
 pub mod node;
+pub mod removals;
 pub mod requests;
 pub mod step;
 
-pub use entry::{Entry, Fault, Kind, NodeId, Nodes, Order};
+pub use gl_safety::small_book::{Entry, Fault, Kind, NodeId, Nodes, Order};
 pub use node::{Node, Role};
 pub use step::{Body, Extended, Position, Message, Outcome, Refusal, Step};

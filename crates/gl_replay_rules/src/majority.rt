@@ -4,7 +4,7 @@ ghost use Rattle.std.specs.Prelude.{◌≡◌, ◌≤◌, length, map};
 ghost use Rattle.gl_rules.specs.Identity.{member, same};
 ghost use Rattle.gl_rules.specs.Majority.{majority, quorum, tally};
 ghost use Rattle.gl_rules.specs.Configuration.{in_some};
-ghost use Rattle.gl_replay_rules.specs.Entry.{members};
+ghost use Rattle.gl_safety.specs.SmallBook.{members};
 
 use crate::entry::{NodeId, Nodes, members};
 

@@ -3,14 +3,14 @@
 ghost use Rattle.std.specs.Prelude.{◌≡◌, ◌≤◌, length, is_some, IfOk, IfSome, Ok};
 ghost use Rattle.gl_rules.specs.Log.{entry_at, is_signature_in};
 ghost use Rattle.gl_rules.specs.Requests.{append_result, evidence, finish, finish_as_leader, govern, govern_as_leader, reserve, sign, sign_as_leader, submit};
-ghost use Rattle.gl_replay_rules.specs.Entry.{fits, is_mark_of, kind_of, mark_of, none_removed, removal_of, removes, signs_at, small};
+ghost use Rattle.gl_safety.specs.SmallBook.{kind_of, small};
 ghost use Rattle.gl_replay_rules.specs.Seen.{seen, seen_step};
 
 use crate::changes::{append_entry, copy_node, quiet, refuse};
 use crate::configuration::with_configurations_above;
-use crate::entry::{Entry, Fault, Kind, NodeId, Order, is_signature, members};
-use crate::majority::{is_member, is_same};
+use crate::entry::{Entry, Fault, Kind, NodeId, Order, is_signature};
 use crate::node::{Node, Role};
+use crate::removals::{ends_signed, is_fit, removal_of};
 use crate::step::{Outcome, Refusal, Step};
 use std::alloc::{AllocError, Global};
 
@@ -19,68 +19,6 @@ pub const PENDING_LIMIT: usize = 16;
 
 /// How many one-time leaves a node's key has.
 pub const LEAVES: u64 = 32;
-
-/// Whether an entry of this kind removes y.
-pub fn is_removal_of(y: NodeId, kind: &Kind) -> bool
-    ensures { result ≡ removes y kind.now }
-{
-    match kind {
-        Kind::Removal(node, _) => is_same(y, *node),
-        _ => false,
-    }
-}
-
-/// The seqno of the first entry that removes y.
-pub fn removal_of(log: &[Entry], y: NodeId) -> Option<usize>
-    ensures value { result ≡ removal_of log.now y }
-    ensures within { IfSome result (λ seqno. seqno ≤ length log.now) }
-{
-    match log.split_first() {
-        None => None,
-        Some((e, rest)) => {
-            if is_removal_of(y, &e.kind) {
-                return Some(1);
-            }
-            match removal_of(rest, y) {
-                None => None,
-                Some(seqno) => Some(seqno + 1),
-            }
-        }
-    }
-}
-
-/// Whether none of these nodes was removed.
-pub fn is_none_removed(log: &[Entry], nodes: &[NodeId]) -> bool
-    ensures { result ≡ none_removed log.now nodes.now }
-{
-    match nodes.split_first() {
-        None => true,
-        Some((y, rest)) => removal_of(log, *y).is_none() && is_none_removed(log, rest),
-    }
-}
-
-/// Whether the last entry is a signature.
-pub fn ends_signed(log: &[Entry]) -> bool
-    ensures { result ≡ signs_at (entry_at log.now (length log.now)) }
-{
-    let len = log.len();
-    len > 0 && is_signature(&log[len - 1].kind)
-}
-
-/// Whether an entry of this kind may follow.
-pub fn is_fit(log: &[Entry], kind: &Kind) -> bool
-    ensures { result ≡ fits log.now kind.now }
-{
-    match kind {
-        Kind::Plain => true,
-        Kind::Change(nodes) => is_none_removed(log, members(nodes)),
-        Kind::Removal(node, nodes) => !is_member(*node, members(nodes))
-            && is_none_removed(log, members(nodes)),
-        Kind::Mark(node) => removal_of(log, *node).is_some(),
-        Kind::Signature(_) => true,
-        Kind::Evidence => ends_signed(log),
-    }
-}
 
 /// The kind of entry that a governance request asks for.
 pub fn kind_of(order: Order) -> Kind

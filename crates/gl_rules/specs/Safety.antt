@@ -13,6 +13,7 @@ use Rattle.gl_rules.specs.Message.{Message}
 use Rattle.gl_rules.specs.Outcome.{Outcome, Refused, ByLedger, BelowCommit}
 use Rattle.gl_rules.specs.Log.{entry_at, last_signature, greatest_recorded}
 use Rattle.gl_rules.specs.Configuration.{active, in_some}
+use Rattle.gl_rules.specs.Retirement.{RetiredCommitted, stage_at}
 use Rattle.gl_rules.specs.World.{Event, Deliver, World, Start, after, happens, first_view}
 
 abbrev pub IsPrefixOf : {A : Type 0} → List A → List A → Type 0
@@ -181,17 +182,40 @@ module _ {E Q G R A F : Type 0} (book : Book E Q G R A F) where
     pub messages : (i which : ℕ) (m : Message E) → slice_get (after book s (take i events)).sent which ≡ Some m →
         RefusedOnlyAtBase (node_after s (take i events) m.receiver) (happens book (after book s (take i events)) (Deliver which)).outcome
 
-  -- A mark of a node that is committed: then that node may be switched off.
-  abbrev pub MarkCommitted : Node E → NodeId → Type 0
-  MarkCommitted n y = (seqno : ℕ) × (book.mark n.log y ≡ Some seqno) × (seqno ≤ n.commit)
+  -- A node that is in a configuration of a ledger, at whatever seqno.
+  abbrev pub IsConfigured : NodeId → List E → Type 0
+  IsConfigured x log = (seqno : ℕ) × (nodes : List NodeId) × (book.configuration (take seqno log) ≡ Some nodes) × (member x nodes ≡ true)
+
+  -- A leader's log may be added to and signed, so that no entry of its own need be refused.
+  pub record LeadersMayRecord (s : Start E) (events : List (Event Q G R)) : Type 0 where
+    -- each entry of its log may follow those before it
+    pub follows : (i : ℕ) (x : NodeId) → (node_after s (take i events) x).role ≡ Leader → EachFollows (node_after s (take i events) x).log
+    -- none is of a later view
+    pub views : (i : ℕ) (x : NodeId) → (node_after s (take i events) x).role ≡ Leader →
+        ViewsUpTo (node_after s (take i events) x).view (node_after s (take i events) x).log
+    -- a signature behind it may record its commit
+    pub commit : (i : ℕ) (x : NodeId) → (node_after s (take i events) x).role ≡ Leader →
+        MayRecord (node_after s (take i events) x).log (node_after s (take i events) x).commit
+    -- it is in a configuration of its log, where the first leader is in one of the opening
+    pub configured : IsConfigured s.first s.opening → (i : ℕ) (x : NodeId) → (node_after s (take i events) x).role ≡ Leader →
+        IsConfigured x (node_after s (take i events) x).log
+
+  -- A node says that the retirement of y is committed: then y may be switched off.
+  abbrev pub IsRetired : Node E → NodeId → Type 0
+  IsRetired n y = stage_at book n y ≡ Some RetiredCommitted
 
   abbrev pub IsActive : Node E → NodeId → Type 0
   IsActive n y = in_some y (active book n.log n.commit) ≡ true
 
-  -- A node with a committed mark is in no active configuration.
+  -- A node whose retirement is committed is in no active configuration, then and for good, restarts included.
   pub record RetiresSafely (s : Start E) (events : List (Event Q G R)) : Type 0 where
-    -- of a node that knows of it
-    pub here : (i : ℕ) (x y : NodeId) → MarkCommitted (node_after s (take i events) x) y → IsActive (node_after s (take i events) x) y → ⊥
-    -- of a leader whose view is later than that of the leader that committed it
-    pub later : (i j : ℕ) (x z y : NodeId) → (node_after s (take i events) x).role ≡ Leader → (node_after s (take j events) z).role ≡ Leader →
-        (node_after s (take i events) x).view < (node_after s (take j events) z).view → MarkCommitted (node_after s (take i events) x) y → IsActive (node_after s (take j events) z) y → ⊥
+    -- of a node that has said so
+    pub here : (i j : ℕ) (x y : NodeId) → i ≤ j → IsRetired (node_after s (take i events) x) y → IsActive (node_after s (take j events) x) y → ⊥
+    -- of a node that leads a later view than a leader that says so, whenever each of them leads
+    pub later : (i j k : ℕ) (x z y : NodeId) → j ≤ k →
+        (node_after s (take i events) x).role ≡ Leader → IsRetired (node_after s (take i events) x) y →
+        (node_after s (take j events) z).role ≡ Leader → (node_after s (take i events) x).view < (node_after s (take j events) z).view →
+        IsActive (node_after s (take k events) z) y → ⊥
+    -- where any node says so, a leader has said so before
+    pub led : (i : ℕ) (x y : NodeId) → IsRetired (node_after s (take i events) x) y →
+        (j : ℕ) × (z : NodeId) × (j ≤ i) × ((node_after s (take j events) z).role ≡ Leader) × IsRetired (node_after s (take j events) z) y

@@ -46,7 +46,7 @@ module _ {E Q G R A F : Type 0} {b : Book E Q G R A F} {s : Start E} (o : IsOpen
       let same : e ≡ o.signature = let w : slice_get s.opening o.before ≡ Some e = ap (slice_get s.opening) (sym q) ∙ a in let u = sym w ∙ o.last in cc in
       ap b.recorded_commit same ∙ o.records ∙ ap suc (sym q)
 
-  module _ (h : Story E) (led_is : h.led ≡ (λ v. if v == 2 then s.opening else [])) where
+  module _ (h : Story E) (led_is : h.led ≡ (λ v. if v == 2 then s.opening else [])) (committed_is : h.committed 2 ≡ length s.opening) where
     opening_sure : Sured o h s.opening (length s.opening) 2
     opening_sure = (
       0,
@@ -63,6 +63,7 @@ module _ {E Q G R A F : Type 0} {b : Book E Q G R A F} {s : Start E} (o : IsOpen
         cert = (refl, sym o.long);
         le = omega arith;
         top = omega arith;
+        done = omega (arith, committed_is);
         leads = ap (λ f. slice_get (f 2) o.before) led_is ∙ o.last;
       }),
     )
@@ -87,7 +88,7 @@ module _ {E Q G R A F : Type 0} {b : Book E Q G R A F} {s : Start E} (o : IsOpen
         let here : i ≡ o.before = o.alone i e q.1 d in (
           omega arith,
           subst (λ (w : ℕ). Sured o (first_story o la) (if w == 2 then s.opening else []) (b.recorded_commit e) w) (sym q.0)
-              (subst (λ (c : ℕ). Sured o (first_story o la) s.opening c 2) (o.long ∙ ap suc (sym here) ∙ sym r) (opening_sure (first_story o la) refl)),
+              (subst (λ (c : ℕ). Sured o (first_story o la) s.opening c 2) (o.long ∙ ap suc (sym here) ∙ sym r) (opening_sure (first_story o la) refl refl)),
         );
     bids = λ c w l a. absurd (cc);
     shuts = λ c w y a. absurd (cc);
@@ -124,11 +125,11 @@ module _ {E Q G R A F : Type 0} {b : Book E Q G R A F} {s : Start E} (o : IsOpen
       keeps = λ v i e a m. inl ((in_led v i e m.at).1);
     };
     commits = record {
-      bounded = inl (opening_sure (first_story o la) refl);
+      bounded = inl (opening_sure (first_story o la) refl refl);
       based = (0, (0, inl refl));
       above = omega arith;
       recorded = recorded_bound b s.opening (length s.opening) (λ i e a z. omega (arith, signature_is i e a z, within s.opening i e a));
-      ruled = λ d. opening_sure (first_story o la) refl;
+      ruled = λ d. opening_sure (first_story o la) refl refl;
       young = λ d. absurd (calm d);
       opened = λ d. omega arith;
       matches = λ d y. omega arith;

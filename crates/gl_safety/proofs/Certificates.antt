@@ -27,6 +27,8 @@ module _ {E Q G R A F : Type 0} {b : Book E Q G R A F} {s : Start E} (o : IsOpen
     pub cert : C v j
     pub le : i ≤ j
     pub top : v ≤ t
+    -- that view's leader committed as much
+    pub done : c ≤ g.committed v
     pub leads : slice_get (g.led v) i ≡ Some entry
 
   pub record CertOver (S : List E → ℕ → ℕ → Type 0) (g : Story E) (v i : ℕ) : Type 0 where
@@ -127,6 +129,7 @@ module _ {E Q G R A F : Type 0} {b : Book E Q G R A F} {s : Start E} (o : IsOpen
           cert = f q.v q.j q.cert;
           le = q.le;
           top = q.top;
+          done = omega (arith, q.done, k.committed q.v);
           leads = k.led q.v q.i q.entry q.leads;
         }))
         z

@@ -255,6 +255,7 @@ module _ {E Q G R A F : Type 0} {b : Book E Q G R A F} {s : Start E} (o : IsOpen
         cert = q.cert;
         le = q.le;
         top = omega arith;
+        done = q.done;
         leads = q.leads;
       }),
     ),
@@ -278,6 +279,7 @@ module _ {E Q G R A F : Type 0} {b : Book E Q G R A F} {s : Start E} (o : IsOpen
             cert = q.cert;
             le = q.le;
             top = omega arith;
+            done = q.done;
             leads = q.leads;
           }),
         ),
@@ -299,6 +301,7 @@ module _ {E Q G R A F : Type 0} {b : Book E Q G R A F} {s : Start E} (o : IsOpen
         cert = r.cert;
         le = omega (arith, r.seqno, r.le);
         top = omega (arith, r.top, q.top);
+        done = omega (arith, r.done, q.seqno);
         leads = a;
       }))
       (λ (d : q.cert.commit ≤ q.i).

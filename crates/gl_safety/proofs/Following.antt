@@ -206,6 +206,7 @@ module _ {E Q G R A F : Type 0} {b : Book E Q G R A F} {s : Start E} (o : IsOpen
             cert = q.cert;
             le = omega (arith, q.le, q.seqno, y.1);
             top = q.top;
+            done = omega (arith, q.done, y.1);
             leads = agree b g.led (g.led n.view) (g.led q.v) q.i q.entry (t.matches n.view) (t.matches q.v) q.at q.leads i y.0 (omega (arith, q.seqno, y.1)) (m.front i y.0 (omega (arith, y.1)) y.2);
           }))
           sure_c.1,
@@ -237,7 +238,7 @@ module _ {E Q G R A F : Type 0} {b : Book E Q G R A F} {s : Start E} (o : IsOpen
         (cases_lt (max n.commit (max n.base (greatest_recorded b r))) (last_signature b (take (min theirs seqno) r)))
 
     pub made_accept : (y : NodeId) → Reached o x g (accept_entries b x y seqno theirs (record n { log = r; cuts = cuts })).node (accept_entries b x y seqno theirs (record n { log = r; cuts = cuts })).sent
-    made_accept y = (told_held x n.view seqno g, record { grow = k; tale = tale_held; good = good; sent = (let q = put2_at g.held x n.view (max (g.held x n.view) seqno) in omega arith, tt) })
+    made_accept y = (told_held x n.view seqno g, record { grow = k; tale = tale_held; good = good; commits = λ v. inl refl; sent = (let q = put2_at g.held x n.view (max (g.held x n.view) seqno) in omega arith, tt) })
       where
         n1 : Node E
         n1 = record n { log = r; cuts = cuts; commit = max (max n.commit (max n.base (greatest_recorded b r))) (last_signature b (take (min theirs seqno) r)) }

@@ -100,6 +100,7 @@ module _ {E Q G R A F : Type 0} {b : Book E Q G R A F} {s : Start E} (o : IsOpen
             cert = q.cert;
             le = omega (arith, q.seqno, q.le);
             top = q.top;
+            done = omega (arith, q.done, q.seqno);
             leads = agree b g.led m.log (g.led q.v) q.i q.entry w.logged.matches (t.matches q.v) q.at q.leads j e (omega (arith, q.seqno)) a;
           }),
         ),

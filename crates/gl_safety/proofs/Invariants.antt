@@ -11,7 +11,7 @@ use Rattle.gl_rules.specs.Log.{last_signature_position, last_signature, greatest
 use Rattle.gl_rules.specs.World.{Start}
 use Rattle.gl_rules.specs.Safety.{IsOpening, EachFollows}
 use Rattle.gl_safety.proofs.Lists.{Same, there, within}
-use Rattle.gl_safety.proofs.Story.{Story, Grows, grows_same, grows_then}
+use Rattle.gl_safety.proofs.Story.{Story, Grows, grows_same}
 use Rattle.gl_safety.proofs.Configurations.{IsNewest}
 use Rattle.gl_safety.proofs.Facts.{Holds, Matches, Bound, Rising, Mark, Lost, Segment, Ballots, is_led, led_is, matches_grow, mark_grow, mark_back, lost_grow, holds_grow, holds_back, segment_grow}
 use Rattle.gl_safety.proofs.Certificates.{SureOver, Cert, Sured, Settled, Below, Won, Tale, sure_grow, sured_grow}
@@ -87,6 +87,7 @@ module _ {E Q G R A F : Type 0} {b : Book E Q G R A F} {s : Start E} (o : IsOpen
     pub tale : Tale o h
     pub good : Good h x n
     pub sent : AllSent h out
+    pub commits : (v : ℕ) → (h.committed v ≡ g.committed v) ⊎ ((n.role ≡ Leader) × (n.view ≡ v) × (h.committed v ≤ n.commit))
 
   abbrev pub Reached : NodeId → Story E → Node E → List (Message E) → Type 0
   Reached x g n out = (h : Story E) × Made x g h n out
@@ -152,6 +153,7 @@ module _ {E Q G R A F : Type 0} {b : Book E Q G R A F} {s : Start E} (o : IsOpen
           cert = q.cert;
           le = q.le;
           top = omega (arith, q.top);
+          done = q.done;
           leads = q.leads;
         }))
         z.1,
@@ -275,7 +277,4 @@ module _ {E Q G R A F : Type 0} {b : Book E Q G R A F} {s : Start E} (o : IsOpen
   sent_at g (n ∷ ms) (suc i) m z a = sent_at g ms i m z.1 a
 
   pub made_same : (x : NodeId) (g : Story E) (n : Node E) (out : List (Message E)) → Tale o g → Good g x n → AllSent g out → Made x g g n out
-  made_same x g n out t z w = record { grow = grows_same b.view_of x g; tale = t; good = z; sent = w }
-
-  pub made_then : (x : NodeId) (g h k : Story E) (m n : Node E) (out : List (Message E)) → Made x g h m [] → Made x h k n out → Made x g k n out
-  made_then x g h k m n out p q = record { grow = grows_then b.view_of x g h k p.grow q.grow; tale = q.tale; good = q.good; sent = q.sent }
+  made_same x g n out t z w = record { grow = grows_same b.view_of x g; tale = t; good = z; sent = w; commits = λ v. inl refl }

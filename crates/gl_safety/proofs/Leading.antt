@@ -13,12 +13,12 @@ use Rattle.gl_rules.specs.World.{Start}
 use Rattle.gl_rules.specs.Safety.{IsOpening, IsLawful, EachFollows}
 use Rattle.gl_safety.proofs.Ids.{id_tests, same_is, cases_same, put_all, by_test}
 use Rattle.gl_safety.proofs.Lists.{Same, same_take, within, get_left, get_push, take_whole}
-use Rattle.gl_safety.proofs.Story.{Story, Grows, at_view, told_led, grows_led}
+use Rattle.gl_safety.proofs.Story.{Story, Grows, at_view, told_led, told_committed, grows_led, grows_committed}
 use Rattle.gl_safety.proofs.Configurations.{Backed, backed_by}
 use Rattle.gl_safety.proofs.Facts.{Holds, Covers, Matches, Bound, Rising, Mark, Lost, Voted, Ballots, matches_grow, lost_grow, ballots_of}
 use Rattle.gl_safety.proofs.Certificates.{Cert, Sure, Sured, Tale, sured_grow}
 use Rattle.gl_safety.proofs.Signatures.{last_signs, recorded_le, recorded_bound, last_more}
-use Rattle.gl_safety.proofs.Invariants.{Good, Made, Reached, rising_of, sure_within, known_in, won_grow, shuts_grow}
+use Rattle.gl_safety.proofs.Invariants.{Good, Made, Reached, rising_of, sure_within, known_in, won_grow, sured_more, commits_more, shuts_grow}
 use Rattle.gl_safety.proofs.Soundness.{sound_push}
 use Rattle.gl_safety.proofs.Places.{MarksKnown, place_same, mark_entry, marks_known}
 use Rattle.gl_rules.specs.Replication.{update_match, lower_next, may_commit}
@@ -213,7 +213,7 @@ module _ {E Q G R A F : Type 0} {b : Book E Q G R A F} {s : Start E} (o : IsOpen
         follows_at u i f false a = t.follows u i f a
 
     pub made_append : Reached o x g (append_entry n e) []
-    made_append = (told_led n.view (n.log ++ e ∷ []) g, record { grow = grows; tale = tale_append; good = good; sent = tt })
+    made_append = (told_led n.view (n.log ++ e ∷ []) g, record { grow = grows; tale = tale_append; good = good; sent = tt; commits = λ v. inl refl })
       where
         sure_h : (c u : ℕ) → Sured o g n.log c u → Sured o (told_led n.view (n.log ++ e ∷ []) g) (n.log ++ e ∷ []) c u
         sure_h c u q = sured_grow o grows n.log (n.log ++ e ∷ []) pushed c u q
@@ -255,7 +255,7 @@ module _ {E Q G R A F : Type 0} {b : Book E Q G R A F} {s : Start E} (o : IsOpen
         }
 
   pub good_used : (x : NodeId) (g h : Story E) (n : Node E) (k : ℕ) → Made o x g h n [] → Made o x g h (record n { used = k }) []
-  good_used x g h n k m = record { grow = m.grow; tale = m.tale; good = record { voter = m.good.voter; logged = m.good.logged; kept = m.good.kept; commits = m.good.commits; sound = m.good.sound }; sent = m.sent }
+  good_used x g h n k m = record { commits = m.commits; grow = m.grow; tale = m.tale; good = record { voter = m.good.voter; logged = m.good.logged; kept = m.good.kept; commits = m.good.commits; sound = m.good.sound }; sent = m.sent }
 
   pub good_acknowledged : (x y : NodeId) (seqno : ℕ) (g : Story E) (n : Node E) → Good o g x n → seqno ≤ g.held y n.view → Good o g x (update_match b y seqno n)
   good_acknowledged x y seqno g n z h = record {
@@ -279,6 +279,43 @@ module _ {E Q G R A F : Type 0} {b : Book E Q G R A F} {s : Start E} (o : IsOpen
   pub good_sent_back : (x y : NodeId) (seqno : ℕ) (g : Story E) (n : Node E) → Good o g x n → Good o g x (lower_next b y seqno n)
   good_sent_back x y seqno g n z = record { voter = z.voter; logged = z.logged; kept = z.kept; commits = z.commits; sound = z.sound }
 
+  -- how far a leader committed is told
+  module _ (x : NodeId) (v k : ℕ) (g : Story E) where
+    committed_grows : Grows b.view_of x g (told_committed v k g)
+    committed_grows = grows_committed b.view_of x v k g
+
+    pub committed_tale : Tale o g → Tale o (told_committed v k g)
+    committed_tale t = record {
+      early = t.early;
+      matches = t.matches;
+      bound = t.bound;
+      rising = t.rising;
+      empty = t.empty;
+      begins = t.begins;
+      low = t.low;
+      won = λ u c d a. won_grow o committed_grows u c (t.won u c d a);
+      known = λ u i e a d. let r = t.known u i e a d in (r.0, sured_more o committed_grows (g.led u) (b.recorded_commit e) u r.1);
+      bids = t.bids;
+      shuts = t.shuts;
+      stood = t.stood;
+      ballots = λ y. record {
+        votes = λ w c d a. let r = (t.ballots y).votes w c d a in record { bid = r.bid; at = r.at; old = r.old; late = r.late };
+        barred = (t.ballots y).barred;
+        within = (t.ballots y).within;
+      };
+      follows = t.follows;
+      marks = t.marks;
+    }
+
+    pub committed_good : (y : NodeId) (n : Node E) → Good o g y n → Good o (told_committed v k g) y n
+    committed_good y n z = record {
+      voter = z.voter;
+      logged = z.logged;
+      kept = z.kept;
+      commits = commits_more o committed_grows y n.view n.role n.log n.commit n.base n.matched (λ r. refl) z.commits;
+      sound = z.sound;
+    }
+
   -- what a leader may commit
   committable : (x : NodeId) (n : Node E) (i : ℕ) → may_commit b x n (suc i) ≡ true →
       (e : E) × (slice_get n.log i ≡ Some e) × (b.is_signature e ≡ true) × (b.view_of e ≡ n.view) × (n.commit < suc i) × (quorum (λ y. same y x || nat_le (suc i) (n.matched y)) (active_upto b n.log n.commit (suc i)) ≡ true)
@@ -289,8 +326,8 @@ module _ {E Q G R A F : Type 0} {b : Book E Q G R A F} {s : Start E} (o : IsOpen
       go None d w = absurd (grind (arith, nat_tests))
       go (Some e) d w = (e, d, grind (arith, nat_tests), grind (arith, nat_tests), grind (arith, nat_tests), grind (arith, nat_tests))
 
-  pub good_commit : (x : NodeId) (g : Story E) (n : Node E) (i : ℕ) → Good o g x n → n.role ≡ Leader → may_commit b x n (suc i) ≡ true → Good o g x (record n { commit = suc i })
-  good_commit x g n i z rules may = record {
+  pub good_commit : (x : NodeId) (g : Story E) (n : Node E) (i : ℕ) → Good o g x n → n.role ≡ Leader → may_commit b x n (suc i) ≡ true → suc i ≤ g.committed n.view → Good o g x (record n { commit = suc i })
+  good_commit x g n i z rules may far = record {
     voter = z.voter;
     logged = z.logged;
     kept = z.kept;
@@ -358,6 +395,7 @@ module _ {E Q G R A F : Type 0} {b : Book E Q G R A F} {s : Start E} (o : IsOpen
           cert = cert;
           le = omega arith;
           top = omega arith;
+          done = omega (arith, far);
           leads = on_led;
         }),
       )

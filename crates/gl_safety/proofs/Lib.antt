@@ -28,9 +28,14 @@ pub mod Views
 pub mod Leaders
 pub mod Refusals
 pub mod AnySoundness
+pub mod Walk
+pub mod Lasting
+pub mod Membership
+pub mod Committing
 pub mod Retiring
-pub mod SmallBook
 pub mod SmallLaws
+pub mod SmallOpening
+pub mod SmallRuns
 pub mod Shown
 pub mod WorkedRuns
 pub mod Unchanged

@@ -1,6 +1,6 @@
 -- Events of replication, each as a composition of small steps.
-use Rattle.std.proofs.Common.{◌≡◌, ◌≢◌, ⊎_elim, ℕ, zero, suc, ◌+◌, ◌-◌, ◌≤◌, ◌<◌, min, List, [], ◌∷◌, ◌++◌, length, take, drop, Bool, true, false, ◌&&◌, ◌||◌, ◌==◌, nat_lt, nat_le, if◌then◌else◌, Option, Some, None, Result, Ok, Err, slice_get, refl, sym, ap, ◌∙◌, subst, arith}
-use Rattle.std.proofs.lemmas.Bool.{cases_lt}
+use Rattle.std.proofs.Common.{◌≡◌, ◌≢◌, inl, inr, max, ⊎_elim, ℕ, zero, suc, ◌+◌, ◌-◌, ◌≤◌, ◌<◌, min, List, [], ◌∷◌, ◌++◌, length, take, drop, Bool, true, false, ◌&&◌, ◌||◌, ◌==◌, nat_lt, nat_le, if◌then◌else◌, Option, Some, None, Result, Ok, Err, slice_get, refl, sym, ap, ◌∙◌, subst, arith}
+use Rattle.std.proofs.lemmas.Bool.{cases_eq, cases_lt}
 use Rattle.std.proofs.lemmas.Bool.Decides.{nat_tests}
 use Rattle.gl_rules.specs.Identity.{NodeId}
 use Rattle.gl_rules.specs.Book.{Book}
@@ -10,9 +10,9 @@ use Rattle.gl_rules.specs.Log.{view_at}
 use Rattle.gl_rules.specs.Steps.{cut_to}
 use Rattle.gl_rules.specs.World.{Start}
 use Rattle.gl_rules.specs.Safety.{IsOpening, IsLawful, EachFollows}
-use Rattle.gl_safety.proofs.Ids.{by_test}
+use Rattle.gl_safety.proofs.Ids.{by_test, id_tests}
 use Rattle.gl_safety.proofs.Lists.{Same, there, within, take_get, drop_get, get_left}
-use Rattle.gl_safety.proofs.Story.{Story}
+use Rattle.gl_safety.proofs.Story.{Story, at_view, told_committed, grows_committed}
 use Rattle.gl_safety.proofs.Facts.{Segment, agree}
 use Rattle.gl_safety.proofs.Certificates.{Sured, Tale}
 use Rattle.gl_safety.proofs.Signatures.{view_at_is}
@@ -22,7 +22,7 @@ use Rattle.gl_rules.specs.Outcome.{Step, Done, quiet, refuse, idle, NotPeer, Bel
 use Rattle.gl_rules.specs.Replication.{entries_limit, frames_limit, fitting_prefix, batch, next_of, is_peer, append_message, send_append, replicate, append_reply, matching_prefix_len, checked_append, highest_possible_match, accept_entries, accept_or_refuse, merge_entries, merge_if_matching, become_follower, append_as, on_append, update_match, lower_next, update_progress, append_reply_as, on_append_reply, may_commit, greatest_to_commit, commit_to, advance, restart, snapshot_of, with_snapshot, install_snapshot, install}
 use Rattle.gl_safety.proofs.Merging.{Merged, merged_all, merged_new, applied_is}
 use Rattle.gl_safety.proofs.Following.{good_follow, good_restart, made_accept}
-use Rattle.gl_safety.proofs.Leading.{good_acknowledged, good_sent_back, good_commit}
+use Rattle.gl_safety.proofs.Leading.{good_acknowledged, good_sent_back, committed_tale, committed_good, good_commit}
 use Rattle.gl_safety.proofs.Installing.{good_install}
 use Rattle.gl_safety.proofs.Voters.{By, stay, reached_leader}
 
@@ -204,7 +204,27 @@ module _ {E Q G R A F : Type 0} {b : Book E Q G R A F} {s : Start E} (o : IsOpen
       go r None d = stay o la x g n t z
       go r (Some p) d =
           let w = greatest_is x n (length n.log) p d in
-          stay o la x g (record n { commit = p }) t (subst (λ (k : ℕ). Good o g x (record n { commit = k })) (sym w.1) (good_commit o la x g n w.0 z r w.2))
+          let h = told_committed n.view p g in
+          let far : suc w.0 ≤ h.committed n.view = let u = w.1 in grind (arith, id_tests) in
+          (
+            h,
+            record {
+              grow = grows_committed b.view_of x n.view p g;
+              tale = committed_tale o la x n.view p g t;
+              good = subst (λ (k : ℕ). Good o h x (record n { commit = k })) (sym w.1) (good_commit o la x h n w.0 (committed_good o la x n.view p g x n z) r w.2 far);
+              sent = tt;
+              commits = λ v. ⊎_elim
+                  (λ (u : n.view ≡ v). ⊎_elim
+                  (λ (c : g.committed v < p). inr (r, u, let q = told_at v u in omega (arith, q)))
+                  (λ (c : p ≤ g.committed v). inl (let q = told_at v u in omega (arith, q)))
+                  (cases_lt (g.committed v) p))
+                  (λ (u : n.view ≢ v). inl (grind (arith, id_tests)))
+                  (cases_eq n.view v);
+            },
+          )
+        where
+          told_at : (v : ℕ) → n.view ≡ v → at_view g.committed n.view (max (g.committed n.view) p) v ≡ max (g.committed v) p
+          told_at v u = grind (arith, id_tests)
 
   pub reached_restart : (x : NodeId) (g : Story E) (n : Node E) → Tale o g → Good o g x n → By o la x g (restart b n)
   unfolding restart

@@ -1,14 +1,14 @@
 -- Each event, and so each list of events, keeps the invariants.
-use Rattle.std.proofs.Common.{◌≡◌, ◌⊎◌, inl, inr, ⊎_elim, ℕ, ◌≤◌, List, [], ◌∷◌, ◌++◌, false, ◌==◌, nat_lt, if◌then◌else◌, Option, Some, None, slice_get, refl, arith}
+use Rattle.std.proofs.Common.{◌∙◌, ◌≡◌, ◌⊎◌, inl, inr, ⊎_elim, sym, ap, subst, Bool, length, ℕ, ◌≤◌, List, [], ◌∷◌, ◌++◌, false, ◌==◌, nat_lt, if◌then◌else◌, Option, Some, None, slice_get, refl, arith}
 use Rattle.std.proofs.lemmas.Bool.Decides.{nat_tests}
-use Rattle.gl_rules.specs.Identity.{NodeId}
+use Rattle.gl_rules.specs.Identity.{NodeId, put}
 use Rattle.gl_rules.specs.Book.{Book}
-use Rattle.gl_rules.specs.Node.{Node}
+use Rattle.gl_rules.specs.Node.{Node, Leader}
 use Rattle.gl_rules.specs.Message.{Message, Body, RequestVote, VoteReply, Append, AppendReply, ProposeVote}
 use Rattle.gl_rules.specs.Steps.{enter_view, update_view}
 use Rattle.gl_rules.specs.World.{Start, Event, Timeout, Deliver, Submit, Finish, Govern, Reserve, Sign, Evidence, Replicate, Advance, StepDown, Restart, Install, World, at, undo_if_refused, answer_as, on_message, deliver, happens, run, node_at_start}
 use Rattle.gl_rules.specs.Safety.{IsOpening, IsLawful, EachFollows}
-use Rattle.gl_safety.proofs.Ids.{put_all, by_test}
+use Rattle.gl_safety.proofs.Ids.{put_all, by_test, same_self}
 use Rattle.gl_safety.proofs.Story.{Story}
 use Rattle.gl_safety.proofs.Certificates.{Sured, Tale}
 use Rattle.gl_safety.proofs.Invariants.{Good, BodySent, AllSent, sured_more, good_of, all_grow, all_append, sent_at}
@@ -70,10 +70,14 @@ module _ {E Q G R A F : Type 0} {b : Book E Q G R A F} {s : Start E} (o : IsOpen
     pub fresh : (v : ℕ) (c : NodeId) (i : ℕ) (e : E) → g.chief v ≡ Some c → slice_get (h.led v) i ≡ Some e → (slice_get (g.led v) i ≡ Some e) ⊎ (b.view_of e ≡ v)
     pub sured : (l : List E) (c t : ℕ) → Sured o g l c t → Sured o h l c t
 
-  later_same : (g : Story E) → Later g g
+  -- who committed what the story tells more of
+  abbrev pub Committers : Story E → Story E → World E → Type 0
+  Committers g h w = (v : ℕ) → (h.committed v ≡ g.committed v) ⊎ ((x : NodeId) × ((w.nodes x).role ≡ Leader) × ((w.nodes x).view ≡ v) × (h.committed v ≤ (w.nodes x).commit))
+
+  pub later_same : (g : Story E) → Later g g
   later_same g = record { ballot = λ y v c a. a; chief = λ v c a. a; led = λ v i e a. a; fresh = λ v c i e a d. inl d; sured = λ l c t a. a }
 
-  later_then : (g h k : Story E) → Later g h → Later h k → Later g k
+  pub later_then : (g h k : Story E) → Later g h → Later h k → Later g k
   later_then g h k p q = record {
     ballot = λ y v c a. q.ballot y v c (p.ballot y v c a);
     chief = λ v c a. q.chief v c (p.chief v c a);
@@ -82,7 +86,7 @@ module _ {E Q G R A F : Type 0} {b : Book E Q G R A F} {s : Start E} (o : IsOpen
     sured = λ l c t a. q.sured l c t (p.sured l c t a);
   }
 
-  onward_at : (w : World E) (g : Story E) (x : NodeId) (step : Step E A F) → Holding w g → By o la x g step → (h : Story E) × Holding (at w x step).world h × Later g h
+  onward_at : (w : World E) (g : Story E) (x : NodeId) (step : Step E A F) → Holding w g → By o la x g step → (h : Story E) × Holding (at w x step).world h × Later g h × Committers g h (at w x step).world
   onward_at w g x step k r = (
     r.0,
     record {
@@ -91,17 +95,25 @@ module _ {E Q G R A F : Type 0} {b : Book E Q G R A F} {s : Start E} (o : IsOpen
       sent = all_append o r.0 w.sent step.sent (all_grow o r.1.grow w.sent k.sent) r.1.sent;
     },
     record { ballot = r.1.grow.ballot; chief = r.1.grow.chief; led = r.1.grow.led; fresh = r.1.grow.fresh; sured = sured_more o r.1.grow },
+    λ v. ⊎_elim
+        (λ (c : (r.0).committed v ≡ g.committed v). inl c)
+        (λ (c : (step.node.role ≡ Leader) × (step.node.view ≡ v) × ((r.0).committed v ≤ step.node.commit)).
+        inr (x, ap (λ (n : Node E). n.role) here ∙ c.0, ap (λ (n : Node E). n.view) here ∙ c.1, omega (arith, ap (λ (n : Node E). n.commit) here, c.2)))
+        (r.1.commits v),
   )
+    where
+      here : put w.nodes x step.node x ≡ step.node
+      here = ap (λ (t : Bool). if t then step.node else w.nodes x) (same_self x)
 
-  onward_same : (w : World E) (g : Story E) → Holding w g → (h : Story E) × Holding w h × Later g h
-  onward_same w g k = (g, k, later_same g)
+  onward_same : (w : World E) (g : Story E) → Holding w g → (h : Story E) × Holding w h × Later g h × Committers g h w
+  onward_same w g k = (g, k, later_same g, λ v. inl refl)
 
-  onward_event : (w : World E) (g : Story E) (e : Event Q G R) → Holding w g → (h : Story E) × Holding (happens b w e).world h × Later g h
+  pub onward_event : (w : World E) (g : Story E) (e : Event Q G R) → Holding w g → (h : Story E) × Holding (happens b w e).world h × Later g h × Committers g h (happens b w e).world
   unfolding happens
   onward_event w g (Timeout x) k = onward_at w g x (elections.timeout b x (w.nodes x)) k (reached_timeout o la x g (w.nodes x) k.tale (k.nodes x))
   onward_event w g (Deliver which) k = go (slice_get w.sent which) refl
     where
-      go : (m : Option (Message E)) → slice_get w.sent which ≡ m → (h : Story E) × Holding (deliver b w m).world h × Later g h
+      go : (m : Option (Message E)) → slice_get w.sent which ≡ m → (h : Story E) × Holding (deliver b w m).world h × Later g h × Committers g h (deliver b w m).world
       go None d = onward_same w g k
       go (Some m) d = onward_at w g m.receiver (on_message b m (w.nodes m.receiver)) k (reached_message m g (w.nodes m.receiver) k.tale (k.nodes m.receiver) (sent_at o g w.sent which m k.sent d))
   onward_event w g (Submit x q) k = onward_at w g x (requests.submit b q (w.nodes x)) k (reached_submit o la x q g (w.nodes x) k.tale (k.nodes x))
@@ -118,7 +130,7 @@ module _ {E Q G R A F : Type 0} {b : Book E Q G R A F} {s : Start E} (o : IsOpen
 
   pub onward_run : (es : List (Event Q G R)) (w : World E) (g : Story E) → Holding w g → (h : Story E) × Holding (run b es w) h × Later g h
   unfolding run
-  onward_run [] w g k = onward_same w g k
+  onward_run [] w g k = (g, k, later_same g)
   onward_run (e ∷ es) w g k =
       let p = onward_event w g e k in
       let q = onward_run es (happens b w e).world p.0 p.1 in
@@ -133,6 +145,7 @@ module _ {E Q G R A F : Type 0} {b : Book E Q G R A F} {s : Start E} (o : IsOpen
     led = λ v. if v == 2 then s.opening else [];
     bid = λ y v. None;
     held = λ y v. 0;
+    committed = λ v. if v == 2 then length s.opening else 0;
     shut = λ c v y. false;
   }
 

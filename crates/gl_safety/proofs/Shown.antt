@@ -4,18 +4,20 @@ use Rattle.std.proofs.Common.{◌≡◌, ℕ, List, [], ◌∷◌, ◌++◌, ref
 use Rattle.gl_rules.specs.Node.{Leader}
 use Rattle.gl_rules.specs.Outcome.{Refused, BelowCommit}
 use Rattle.gl_rules.specs.World.{Event, Timeout, Deliver, Submit, Govern, Reserve, Sign, Evidence, Replicate, Advance, Install, happens, after}
-use Rattle.gl_rules.specs.Safety.{EachFollows, IsSafe, LeadsByVote, NeverConflicts, RetiresSafely}
-use Rattle.gl_safety.proofs.SmallBook.{Order, SetNodes, small, start, rules_open, one, two, three, four}
-use Rattle.gl_safety.proofs.SmallLaws.{small_lawful, small_opening, small_retiring}
-use Rattle.gl_safety.proofs.Headline.{safe}
-use Rattle.gl_safety.proofs.Leaders.{leads_by_vote}
-use Rattle.gl_safety.proofs.Refusals.{never_conflicts}
-use Rattle.gl_safety.proofs.Retiring.{retires_safely}
+use Rattle.gl_rules.specs.World.{Start}
+use Rattle.gl_safety.specs.declared.small_book.Entry.{Entry}
+use Rattle.gl_safety.specs.declared.small_book.Order.{Order}
+use Rattle.gl_safety.specs.declared.small_book.Order.TheVariants.{SetNodes}
+use Rattle.gl_safety.specs.SmallBook.{small}
+use Rattle.gl_safety.proofs.SmallRuns.{set, service, rules_open, one, two, three, four}
+
+abbrev start : Start Entry
+start = service one (two ∷ three ∷ [])
 
 -- Node 1 adds node 4, and commits that with 2 and 3; then it goes on alone.
 abbrev pub added : List (Event ℕ Order ℕ)
 added =
-    Govern one (SetNodes (one ∷ two ∷ three ∷ four ∷ []))
+    Govern one (SetNodes (set (one ∷ two ∷ three ∷ four ∷ [])))
     ∷ Reserve one ∷ Sign one
     ∷ Replicate one two ∷ Deliver 0 ∷ Deliver 1
     ∷ Replicate one three ∷ Deliver 2 ∷ Deliver 3
@@ -53,7 +55,3 @@ third_commits = refl
 below_base : (happens small (after small start (added ++ second ++ third)) (Deliver 10)).outcome ≡ Refused (BelowCommit 6 4)
 unfolding rules_open
 below_base = refl
-
--- and the laws hold of every run of it
-small_safe : (events : List (Event ℕ Order ℕ)) → IsSafe small (EachFollows small) start events × LeadsByVote small start events × NeverConflicts small start events × RetiresSafely small start events
-small_safe events = (safe small_opening small_lawful events, leads_by_vote small_opening small_lawful events, never_conflicts small_opening small_lawful events, retires_safely small_opening small_lawful small_retiring events)

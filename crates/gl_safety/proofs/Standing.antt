@@ -184,7 +184,7 @@ module _ {E Q G R A F : Type 0} {b : Book E Q G R A F} {s : Start E} (o : IsOpen
       Below o g (signed_prefix b n.log) n.commit (n.view + 1) ⊎ ((p : ℕ) (m : List NodeId) → IsNewest b (signed_prefix b n.log) n.commit p m → majority gone m ≡ true) →
       Reached o x g (become_candidate b x n) []
   unfolding enter_view
-  stand_with x g n gone t z may far young = (h, record { grow = both.0; tale = both.1; good = good; sent = tt })
+  stand_with x g n gone t z may far young = (h, record { grow = both.0; tale = both.1; good = good; sent = tt; commits = λ v. inl refl })
     where
       log : List E
       log = signed_prefix b n.log

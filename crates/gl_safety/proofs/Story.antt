@@ -18,6 +18,8 @@ pub record Story (E : Type 0) : Type 0 where
   pub bid : NodeId → ℕ → Option Position
   -- by node and view: up to which seqno it acknowledged
   pub held : NodeId → ℕ → ℕ
+  -- by view: how far its leader committed
+  pub committed : ℕ → ℕ
   -- by candidate and view: nodes that, when it stood, had gone too far ever to vote for it there
   pub shut : NodeId → ℕ → NodeId → Bool
 
@@ -46,6 +48,9 @@ module _ {E : Type 0} where
   abbrev pub told_held : NodeId → ℕ → ℕ → Story E → Story E
   told_held x v k g = record g { held = put2 g.held x v (max (g.held x v) k) }
 
+  abbrev pub told_committed : ℕ → ℕ → Story E → Story E
+  told_committed v k g = record g { committed = at_view g.committed v (max (g.committed v) k) }
+
 -- What x may change of the story.
 pub record Grows {E : Type 0} (view_of : E → ℕ) (x : NodeId) (g h : Story E) : Type 0 where
   pub ballot : (y : NodeId) (v : ℕ) (c : NodeId) → g.ballot y v ≡ Some c → h.ballot y v ≡ Some c
@@ -62,6 +67,7 @@ pub record Grows {E : Type 0} (view_of : E → ℕ) (x : NodeId) (g h : Story E)
   pub bid_of : (y : NodeId) (v : ℕ) → y ≢ x → h.bid y v ≡ g.bid y v
   pub held : (y : NodeId) (v : ℕ) → g.held y v ≤ h.held y v
   pub held_of : (y : NodeId) (v : ℕ) → y ≢ x → h.held y v ≡ g.held y v
+  pub committed : (v : ℕ) → g.committed v ≤ h.committed v
   pub shut : (c : NodeId) (v : ℕ) (y : NodeId) → g.shut c v y ≡ true → h.shut c v y ≡ true
   pub shut_of : (c : NodeId) (v : ℕ) → c ≢ x → h.shut c v ≡ g.shut c v
   pub shut_new : (c : NodeId) (v : ℕ) (y : NodeId) → h.shut c v y ≡ true → (g.shut c v y ≡ true) ⊎ ((2 < v) × (g.bid c v ≡ None))
@@ -83,6 +89,7 @@ module _ {E : Type 0} (view_of : E → ℕ) where
     bid_of = λ y v d. refl;
     held = λ y v. omega arith;
     held_of = λ y v d. refl;
+    committed = λ t. omega arith;
     shut = λ c v y e. e;
     shut_of = λ c v d. refl;
     shut_new = λ c v y e. inl e;
@@ -104,6 +111,7 @@ module _ {E : Type 0} (view_of : E → ℕ) where
     bid_of = λ y v d. q.bid_of y v d ∙ p.bid_of y v d;
     held = λ y v. omega (arith, p.held y v, q.held y v);
     held_of = λ y v d. q.held_of y v d ∙ p.held_of y v d;
+    committed = λ v. omega (arith, p.committed v, q.committed v);
     shut = λ c v y e. q.shut c v y (p.shut c v y e);
     shut_of = λ c v d. q.shut_of c v d ∙ p.shut_of c v d;
     shut_new = λ c v y e. ⊎_elim (λ (s : h.shut c v y ≡ true). p.shut_new c v y s) (λ (s : (2 < v) × (h.bid c v ≡ None)). inr (s.0, unbid c v s.1)) (q.shut_new c v y e);
@@ -132,6 +140,7 @@ module _ {E : Type 0} (view_of : E → ℕ) where
     bid_of = λ y u d. refl;
     held = λ y u. omega arith;
     held_of = λ y u d. refl;
+    committed = λ t. omega arith;
     shut = λ d u y e. e;
     shut_of = λ d u z. refl;
     shut_new = λ d u y e. inl e;
@@ -153,6 +162,7 @@ module _ {E : Type 0} (view_of : E → ℕ) where
     bid_of = λ y u d. grind (arith, id_tests);
     held = λ y u. omega arith;
     held_of = λ y u d. refl;
+    committed = λ t. omega arith;
     shut = λ d u y e. grind (arith, id_tests, unshut y);
     shut_of = λ d u z. grind (arith, id_tests);
     shut_new = λ d u y e. grind (arith, id_tests);
@@ -174,6 +184,7 @@ module _ {E : Type 0} (view_of : E → ℕ) where
     bid_of = λ y v d. refl;
     held = λ y u. grind (arith, id_tests);
     held_of = λ y u d. grind (arith, id_tests);
+    committed = λ t. omega arith;
     shut = λ c v y e. e;
     shut_of = λ c v d. refl;
     shut_new = λ c v y e. inl e;
@@ -195,6 +206,7 @@ module _ {E : Type 0} (view_of : E → ℕ) where
     bid_of = λ y v d. refl;
     held = λ y v. omega arith;
     held_of = λ y v d. refl;
+    committed = λ t. omega arith;
     shut = λ c v y e. e;
     shut_of = λ c v d. refl;
     shut_new = λ c v y e. inl e;
@@ -218,6 +230,29 @@ module _ {E : Type 0} (view_of : E → ℕ) where
     bid_of = λ y v d. refl;
     held = λ y v. omega arith;
     held_of = λ y v d. refl;
+    committed = λ t. omega arith;
+    shut = λ c v y e. e;
+    shut_of = λ c v d. refl;
+    shut_new = λ c v y e. inl e;
+  }
+
+  pub grows_committed : (x : NodeId) (v k : ℕ) (g : Story E) → Grows view_of x g (told_committed v k g)
+  grows_committed x v k g = record {
+    ballot = λ y v c e. e;
+    ballot_of = λ y v d. refl;
+    early = λ y v c e t. t;
+    early_of = λ y v d. refl;
+    chief = λ v c e. e;
+    chief_of = λ v c d e. e;
+    unchief = λ v e. e;
+    led = λ v i e z. z;
+    led_of = λ v c d z. refl;
+    fresh = λ v c i e z t. inl t;
+    bid = λ y v l e. e;
+    bid_of = λ y v d. refl;
+    held = λ y v. omega arith;
+    held_of = λ y v d. refl;
+    committed = λ u. grind (arith, id_tests);
     shut = λ c v y e. e;
     shut_of = λ c v d. refl;
     shut_new = λ c v y e. inl e;

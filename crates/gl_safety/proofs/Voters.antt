@@ -1,5 +1,5 @@
 -- Events of elections, each as a composition of small steps.
-use Rattle.std.proofs.Common.{◌≡◌, ℕ, ◌≤◌, List, [], ◌∷◌, Bool, true, false, ◌&&◌, not, ◌==◌, nat_lt, if◌then◌else◌, Some, None, refl, sym, ap, ◌∙◌, arith, map}
+use Rattle.std.proofs.Common.{◌≡◌, ⊎_elim, inl, inr, ℕ, ◌≤◌, List, [], ◌∷◌, Bool, true, false, ◌&&◌, not, ◌==◌, nat_lt, if◌then◌else◌, Some, None, refl, sym, ap, ◌∙◌, arith, map}
 use Rattle.std.proofs.lemmas.Bool.Decides.{nat_tests}
 use Rattle.gl_rules.specs.Identity.{NodeId, same}
 use Rattle.gl_rules.specs.Book.{Book}
@@ -50,6 +50,13 @@ module _ {E Q G R A F : Type 0} {b : Book E Q G R A F} {s : Start E} (o : IsOpen
           grow = grows_then b.view_of x g p.0 q.0 p.1.grow q.1.grow;
           tale = q.1.tale;
           good = q.1.good;
+          commits = λ v. ⊎_elim
+              (λ (r : q.0.committed v ≡ p.0.committed v). ⊎_elim
+              (λ (w : p.0.committed v ≡ g.committed v). inl (r ∙ w))
+              (λ (w : ((become_candidate b x n).role ≡ Leader) × ((become_candidate b x n).view ≡ v) × (p.0.committed v ≤ (become_candidate b x n).commit)). absurd (let u = w.0 in cc))
+              (p.1.commits v))
+              (λ (r : ((lead_if_elected b (become_candidate b x n)).role ≡ Leader) × ((lead_if_elected b (become_candidate b x n)).view ≡ v) × (q.0.committed v ≤ (lead_if_elected b (become_candidate b x n)).commit)). inr r)
+              (q.1.commits v);
           sent = all_requests x q.0 (become_candidate b x n).view (last_signature_position b (become_candidate b x n).log) (q.1.grow.bid x (become_candidate b x n).view (last_signature_position b (become_candidate b x n).log) (p.1.good.kept.bid_is refl)) (others b x (become_candidate b x n));
         },
       )

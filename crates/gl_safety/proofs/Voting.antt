@@ -137,6 +137,7 @@ module _ {E Q G R A F : Type 0} {b : Book E Q G R A F} {s : Start E} (o : IsOpen
               tale = tale_vote x c theirs g n t z unvoted least bid_is;
               good = good_vote x c theirs g n t z unvoted least bid_is;
               sent = (put2_at g.ballot x n.view (Some c), tt);
+              commits = λ v. inl refl;
             },
           )
       go (Some y) d f =

@@ -232,7 +232,7 @@ module _ {E Q G R A F : Type 0} {b : Book E Q G R A F} {s : Start E} (o : IsOpen
             back r u i e top d q = ⊎_elim (λ (f : Covers r.bid u i). inl f) (λ (f : Lost b g.chief g.led u i top). inr (lost_grow b grows u i top f)) q
 
     pub made_win : Reached o x g (become_leader n) []
-    made_win = (told_win x n.view n.log g, record { grow = grows; tale = tale_win; good = good; sent = tt })
+    made_win = (told_win x n.view n.log g, record { grow = grows; tale = tale_win; good = good; sent = tt; commits = λ v. inl refl })
       where
         at_new : (i : ℕ) (e : E) → slice_get (at_view g.led n.view n.log n.view) i ≡ Some e → slice_get n.log i ≡ Some e
         at_new i e d = grind (arith, id_tests)

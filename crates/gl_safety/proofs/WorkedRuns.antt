@@ -12,18 +12,12 @@ use Rattle.gl_rules.specs.Retirement.{Stage, Ordered, Completed, RetiredCommitte
 use Rattle.gl_rules.specs.Retirement as retirement
 use Rattle.gl_rules.specs.World.{Start, World, Event, Timeout, Deliver, Submit, Govern, Reserve, Sign, Evidence, Replicate, Advance, Restart, Install, happens, after, begin}
 use Rattle.gl_rules.specs.Safety.{reported_status}
-use Rattle.gl_safety.proofs.SmallBook.{Item, Change, Signature, Order, SetNodes, RemoveNode, MarkNode, Fault, small, rules_open, one, two, three, four}
-
-abbrev five : NodeId
-five = 5 ∷ []
-
--- A service of these nodes, the first of which signed the opening.
-abbrev service : NodeId → List NodeId → Start Item
-service first others = record {
-  opening = record { view = 2; kind = Change (first ∷ others) } ∷ record { view = 2; kind = Signature 2 } ∷ [];
-  starting = first ∷ others;
-  first = first;
-}
+use Rattle.gl_safety.specs.declared.small_book.Entry.{Entry}
+use Rattle.gl_safety.specs.declared.small_book.Order.{Order}
+use Rattle.gl_safety.specs.declared.small_book.Order.TheVariants.{SetNodes, RemoveNode, MarkNode}
+use Rattle.gl_safety.specs.declared.small_book.Fault.{Fault}
+use Rattle.gl_safety.specs.SmallBook.{small}
+use Rattle.gl_safety.proofs.SmallRuns.{set, service, rules_open, one, two, three, four, five}
 
 -- What an event answers, and how many messages it sends.
 pub record Line : Type 0 where
@@ -31,25 +25,25 @@ pub record Line : Type 0 where
   pub sent : ℕ
 
 -- what each of these events tells
-abbrev told : World Item → List (Event ℕ Order ℕ) → List Line
-told w [] = []
-told w (e ∷ es) = record { outcome = (happens small w e).outcome; sent = length (happens small w e).world.sent - length w.sent } ∷ told (happens small w e).world es
+abbrev reports : World Entry → List (Event ℕ Order ℕ) → List Line
+reports w [] = []
+reports w (e ∷ es) = record { outcome = (happens small w e).outcome; sent = length (happens small w e).world.sent - length w.sent } ∷ reports (happens small w e).world es
 
 abbrev line : Outcome ℕ Fault → ℕ → Line
 line o n = record { outcome = o; sent = n }
 
-abbrev views : Node Item → List ℕ
+abbrev views : Node Entry → List ℕ
 views n = map (λ e. e.view) n.log
 
-abbrev body_of : Option (Message Item) → Option (Body Item)
+abbrev body_of : Option (Message Entry) → Option (Body Entry)
 body_of None = None
 body_of (Some m) = Some m.body
 
-abbrev said : World Item → ℕ → Option (Body Item)
+abbrev said : World Entry → ℕ → Option (Body Entry)
 said w which = body_of (slice_get w.sent which)
 
 -- A leader's entry that nobody has is rolled back by the next leader's.
-abbrev three_nodes : Start Item
+abbrev three_nodes : Start Entry
 three_nodes = service one (two ∷ three ∷ [])
 
 abbrev rollback : List (Event ℕ Order ℕ)
@@ -57,7 +51,7 @@ rollback =
     Submit one 7 ∷ Timeout two ∷ Deliver 1 ∷ Deliver 2 ∷ Submit two 8 ∷ Reserve two ∷ Sign two
     ∷ Replicate two three ∷ Deliver 3 ∷ Deliver 4 ∷ Advance two ∷ Replicate two one ∷ Deliver 5 ∷ []
 
-rollback_told : told (begin three_nodes) rollback ≡
+rollback_told : reports (begin three_nodes) rollback ≡
     line (outcome.Accepted 2 3 7) 0 ∷ line outcome.BecameCandidate 2 ∷ line outcome.Done 1 ∷ line outcome.BecameLeader 0
     ∷ line (outcome.Accepted 3 3 8) 0 ∷ line outcome.Done 0 ∷ line (outcome.Signed 3 4) 0
     ∷ line outcome.Done 1 ∷ line outcome.Done 1 ∷ line outcome.Done 0 ∷ line (outcome.Committed 3 4) 0
@@ -75,7 +69,7 @@ rollback_status = refl
 
 -- Messages that come again: a counted vote is ignored, entries that are held are answered, and a request of the vote's view
 -- is refused once the voter has a later signature.
-again_told : told (after small three_nodes rollback) (Deliver 2 ∷ Deliver 3 ∷ Deliver 3 ∷ Deliver 1 ∷ []) ≡
+again_told : reports (after small three_nodes rollback) (Deliver 2 ∷ Deliver 3 ∷ Deliver 3 ∷ Deliver 1 ∷ []) ≡
     line outcome.Idle 0 ∷ line outcome.Done 1 ∷ line outcome.Done 1 ∷ line outcome.Done 1 ∷ []
 unfolding rules_open
 again_told = refl
@@ -94,7 +88,7 @@ unfolding rules_open
 restart_refused = refl
 
 -- A signature of an earlier view is not committed, though a majority holds it; one of the leader's own is.
-abbrev five_nodes : Start Item
+abbrev five_nodes : Start Entry
 five_nodes = service one (two ∷ three ∷ four ∷ five ∷ [])
 
 abbrev earlier : List (Event ℕ Order ℕ)
@@ -107,7 +101,7 @@ earlier =
     -- 2 and 3 come to hold seqno 4
     ∷ Replicate one two ∷ Deliver 18 ∷ Deliver 19 ∷ Replicate one three ∷ Deliver 20 ∷ Deliver 21 ∷ Replicate one three ∷ Deliver 22 ∷ Deliver 23 ∷ []
 
-earlier_told : told (after small five_nodes earlier) (Advance one ∷ Reserve one ∷ Sign one ∷ Replicate one two ∷ Deliver 24 ∷ Deliver 25 ∷ Replicate one three ∷ Deliver 26 ∷ Deliver 27 ∷ Advance one ∷ []) ≡
+earlier_told : reports (after small five_nodes earlier) (Advance one ∷ Reserve one ∷ Sign one ∷ Replicate one two ∷ Deliver 24 ∷ Deliver 25 ∷ Replicate one three ∷ Deliver 26 ∷ Deliver 27 ∷ Advance one ∷ []) ≡
     line outcome.Idle 0 ∷ line outcome.Done 0 ∷ line (outcome.Signed 4 5) 0
     ∷ line outcome.Done 1 ∷ line outcome.Done 1 ∷ line outcome.Done 0 ∷ line outcome.Done 1 ∷ line outcome.Done 1 ∷ line outcome.Done 0
     ∷ line (outcome.Committed 4 5) 0 ∷ []
@@ -121,10 +115,10 @@ earlier_held = refl
 -- A configuration {3, 4, 5} in place of {1, 2, 3}: both must agree.
 abbrev replaced : List (Event ℕ Order ℕ)
 replaced =
-    Govern one (SetNodes (three ∷ four ∷ five ∷ [])) ∷ Reserve one ∷ Sign one
+    Govern one (SetNodes (set (three ∷ four ∷ five ∷ []))) ∷ Reserve one ∷ Sign one
     ∷ Replicate one two ∷ Deliver 0 ∷ Deliver 1 ∷ Replicate one three ∷ Deliver 2 ∷ Deliver 3 ∷ []
 
-replaced_told : told (after small three_nodes replaced) (Advance one ∷ Replicate one four ∷ Deliver 4 ∷ Deliver 5 ∷ Replicate one four ∷ Deliver 6 ∷ Deliver 7 ∷ Advance one ∷ []) ≡
+replaced_told : reports (after small three_nodes replaced) (Advance one ∷ Replicate one four ∷ Deliver 4 ∷ Deliver 5 ∷ Replicate one four ∷ Deliver 6 ∷ Deliver 7 ∷ Advance one ∷ []) ≡
     line outcome.Idle 0 ∷ line outcome.Done 1 ∷ line outcome.Done 1 ∷ line outcome.Done 0
     ∷ line outcome.Done 1 ∷ line outcome.Done 1 ∷ line outcome.Done 0 ∷ line (outcome.Committed 2 4) 0 ∷ []
 unfolding rules_open
@@ -135,16 +129,16 @@ unfolding rules_open
 replaced_refused = refl
 
 -- A node that is in no configuration doesn't stand.
-joiner_idle : told (begin (service one [])) (Timeout two ∷ []) ≡ line outcome.Idle 0 ∷ []
+joiner_idle : reports (begin (service one [])) (Timeout two ∷ []) ≡ line outcome.Idle 0 ∷ []
 unfolding rules_open
 joiner_idle = refl
 
 -- Retirement of node 1, as it sees it itself.
-abbrev stage_of : World Item → Option Stage
+abbrev stage_of : World Entry → Option Stage
 stage_of w = let n = w.nodes one in stage (small.removal n.log one) (small.mark n.log one) (last_signature small n.log) n.commit
 
 abbrev removal : List (Event ℕ Order ℕ)
-removal = Govern one (RemoveNode one (two ∷ three ∷ [])) ∷ []
+removal = Govern one (RemoveNode one (set (two ∷ three ∷ []))) ∷ []
 
 abbrev removal_signed : List (Event ℕ Order ℕ)
 removal_signed = removal ++ Reserve one ∷ Sign one ∷ []
@@ -157,7 +151,7 @@ marked =
     removal_committed ++ Govern one (MarkNode one) ∷ Reserve one ∷ Sign one
     ∷ Replicate one two ∷ Deliver 4 ∷ Deliver 5 ∷ Replicate one three ∷ Deliver 6 ∷ Deliver 7 ∷ Advance one ∷ []
 
-mark_early : told (after small three_nodes removal) (Govern one (MarkNode one) ∷ []) ≡ line (Refused (RemovalNotCommitted 3 2)) 0 ∷ []
+mark_early : reports (after small three_nodes removal) (Govern one (MarkNode one) ∷ []) ≡ line (Refused (RemovalNotCommitted 3 2)) 0 ∷ []
 unfolding rules_open
 mark_early = refl
 
@@ -167,7 +161,7 @@ unfolding rules_open
 stages = refl
 
 -- node 2 knows from the last signature that the removal is committed, and asks node 3 alone
-after_marked : told (after small three_nodes marked) (Restart two ∷ Timeout two ∷ []) ≡ line outcome.Done 0 ∷ line outcome.BecameCandidate 1 ∷ []
+after_marked : reports (after small three_nodes marked) (Restart two ∷ Timeout two ∷ []) ≡ line outcome.Done 0 ∷ line outcome.BecameCandidate 1 ∷ []
 unfolding rules_open
 after_marked = refl
 
@@ -179,7 +173,7 @@ known_again = refl
 abbrev snapshot : List (Event ℕ Order ℕ)
 snapshot = Submit one 7 ∷ Reserve one ∷ Sign one ∷ Evidence one ∷ Reserve one ∷ Sign one ∷ Advance one ∷ []
 
-snapshot_told : told (begin (service one [])) (snapshot ++ Install two one ∷ []) ≡
+snapshot_told : reports (begin (service one [])) (snapshot ++ Install two one ∷ []) ≡
     line (outcome.Accepted 2 3 7) 0 ∷ line outcome.Done 0 ∷ line (outcome.Signed 2 4) 0 ∷ line (outcome.Signed 2 5) 0
     ∷ line outcome.Done 0 ∷ line (outcome.Signed 2 6) 0 ∷ line (outcome.Committed 2 6) 0 ∷ line outcome.Done 0 ∷ []
 unfolding rules_open

@@ -16,18 +16,40 @@ fn checksums(rt: HostRuntime) {
     assert_eq!(rt; coef(Types::H5W4, &four, 66), 0);
 }
 
-fn hss_key(levels: u8, key: &LmsKey) -> [u8; 60] {
-    let mut out = [0; 60];
-    let (front, back) = out.split_at_mut(4);
-    front.copy_from_slice(&[0, 0, 0, levels]);
-    back.copy_from_slice(&key.public());
-    out
+#[test]
+fn keys_of_levels(rt: HostRuntime) -> Result<(), Fail> {
+    let key = LmsKey::make(rt.alloc(), [1; 32], Types::H5W4)?;
+    assert_eq!(rt; key.types(), Types::H5W4);
+    for (levels, count) in [(Levels::One, 1), (Levels::Two, 2)] {
+        let public = key.hss_public(levels);
+        assert_eq!(rt; &public[..4], [0, 0, 0, count].as_slice());
+        assert_eq!(rt; &public[4..], key.public().as_slice());
+        assert_eq!(rt; Levels::of_key(&public), Some(levels));
+    }
+    assert_eq!(rt; Levels::of_key(&[0; 60]), None);
+    Ok(())
+}
+
+#[test]
+fn a_signature_and_its_leaf(rt: HostRuntime) -> Result<(), Fail> {
+    let key = LmsKey::make(rt.alloc(), [1; 32], Types::H5W4)?;
+    let mut signer = HssSigner::new(key, None, 3);
+    assert_eq!(rt; (signer.reserved(), signer.used()), (3, 3));
+    assert_eq!(rt; signer.reserve(), Ok(4));
+    let first = signer.signature(b"message")?;
+    assert_eq!(rt; (signer.reserved(), signer.used()), (4, 3));
+    let second = signer.sign(b"message")?;
+    assert_eq!(rt; first.as_slice(), second.as_slice());
+    assert_eq!(rt; (signer.reserved(), signer.used()), (4, 4));
+    let public = signer.key().hss_public(Levels::One);
+    assert_eq!(rt; verify(&public, b"message", &first), Ok(()));
+    Ok(())
 }
 
 #[test]
 fn each_leaf_once(rt: HostRuntime) -> Result<(), Fail> {
     let key = LmsKey::make(rt.alloc(), [1; 32], Types::H5W4)?;
-    let public = hss_key(1, &key);
+    let public = key.hss_public(Levels::One);
     let mut signer = HssSigner::new(key, None, 0);
     let refused = signer.sign(b"early").err();
     assert_eq!(rt; refused, Some(SignFault::NotReserved { reserved: 0 }));
@@ -46,7 +68,7 @@ fn each_leaf_once(rt: HostRuntime) -> Result<(), Fail> {
 #[test]
 fn two_levels(rt: HostRuntime) -> Result<(), Fail> {
     let top = LmsKey::make(rt.alloc(), [2; 32], Types::H5W4)?;
-    let public = hss_key(2, &top);
+    let public = top.hss_public(Levels::Two);
     let key = LmsKey::make(rt.alloc(), [3; 32], Types::H5W4)?;
     let endorsement = top.sign_leaf(7, &key.public())?;
     let mut signer = HssSigner::new(key, Some(endorsement), 5);
@@ -80,7 +102,7 @@ fn two_levels(rt: HostRuntime) -> Result<(), Fail> {
 #[test]
 fn lengths_wanted(rt: HostRuntime) -> Result<(), Fail> {
     let top = LmsKey::make(rt.alloc(), [2; 32], Types::H5W4)?;
-    let public = hss_key(2, &top);
+    let public = top.hss_public(Levels::Two);
     let key = LmsKey::make(rt.alloc(), [3; 32], Types::H5W4)?;
     let endorsement = top.sign_leaf(0, &key.public())?;
     let mut signer = HssSigner::new(key, Some(endorsement), 0);

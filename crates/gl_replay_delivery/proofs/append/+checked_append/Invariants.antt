@@ -1,5 +1,5 @@
 use Rattle.std.proofs.Common.{length}
 use Rattle.gl_replay_delivery.proofs.append.+checked_append.Given as goal
 
-abbrev pub decreases-applied : goal.decreases-applied
-decreases-applied l = length l.entries.now
+abbrev pub decreases-checked_append : goal.decreases-checked_append
+decreases-checked_append l = length l.entries.now

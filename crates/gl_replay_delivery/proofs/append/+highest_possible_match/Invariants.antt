@@ -1,4 +1,4 @@
 use Rattle.gl_replay_delivery.proofs.append.+highest_possible_match.Given as goal
 
-abbrev pub decreases-last_at_most : goal.decreases-last_at_most
-decreases-last_at_most l = l.seqno
+abbrev pub decreases-highest_possible_match : goal.decreases-highest_possible_match
+decreases-highest_possible_match l = l.seqno

@@ -4,11 +4,11 @@ use Rattle.gl_replay_rules.specs.Seen.{seen, seen_step}
 use Rattle.gl_replay_delivery.proofs.Replies.{answer_back, answer_ok, same_held}
 use Rattle.gl_replay_delivery.proofs.reply.update_progress.Goals as goal
 
-pub send_back-requires : goal.send_back-requires
-send_back-requires c = record { fits = omega (arith, same_held c.in_ok-copy.copy c.args.node.now c.args.y c.in_ok-copy.ensures, c.requires.fits) }
+pub lower_next-requires : goal.lower_next-requires
+lower_next-requires c = record { fits = omega (arith, same_held c.in_ok-copy.copy c.args.node.now c.args.y c.in_ok-copy.ensures, c.requires.fits) }
 
-pub acknowledge-requires-clause-fits : goal.acknowledge-requires-clause-fits
-acknowledge-requires-clause-fits c = omega (arith, same_held c.in_ok-copy-2.copy c.args.node.now c.args.y c.in_ok-copy-2.ensures, c.requires.fits)
+pub update_match-requires-clause-fits : goal.update_match-requires-clause-fits
+update_match-requires-clause-fits c = omega (arith, same_held c.in_ok-copy-2.copy c.args.node.now c.args.y c.in_ok-copy-2.ensures, c.requires.fits)
 
 pub returns-then-not-ok : goal.returns-then-not-ok
 returns-then-not-ok c =

@@ -1,7 +1,7 @@
 use Rattle.std.proofs.Common.{List, map, ap, ◌∙◌}
 use Rattle.gl_rules.specs.Configuration.{active}
-use Rattle.gl_replay_rules.specs.declared.entry.Entry.{Entry}
-use Rattle.gl_replay_rules.specs.Entry.{members, small}
+use Rattle.gl_safety.specs.declared.small_book.Entry.{Entry}
+use Rattle.gl_safety.specs.SmallBook.{members, small}
 use Rattle.gl_replay_rules.proofs.Same.{quorum_by}
 use Rattle.gl_replay_rules.proofs.changes.has_votes.Goals as goal
 

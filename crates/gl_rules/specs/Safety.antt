@@ -3,8 +3,8 @@
 -- ledger stands for. A moment is a prefix of the list of events.
 use Rattle.std.specs.Prelude.{◌≡◌, ℕ, suc, ◌+◌, ◌≤◌, ◌<◌, List, [], ◌∷◌, ◌++◌, true, false, Option, None, Some, Ok, length, take, slice_get, ◌⊎◌}
 use Rattle.gl_base.specs.declared.tx_id.TxId.{TxId}
-use Rattle.gl_base.specs.declared.status_kind.Status.{Status}
-use Rattle.gl_base.specs.declared.status_kind.Status.TheVariants.{Committed, Invalid}
+use Rattle.gl_base.specs.declared.tx_id.Status.{Status}
+use Rattle.gl_base.specs.declared.tx_id.Status.TheVariants.{Committed, Invalid}
 use Rattle.gl_base.specs.Status.{status_of}
 use Rattle.gl_rules.specs.Identity.{NodeId, member}
 use Rattle.gl_rules.specs.Book.{Book}

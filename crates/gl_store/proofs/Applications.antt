@@ -34,7 +34,7 @@ use Rattle.gl_store.specs.declared.genesis.ServiceState.{ServiceState}
 use Rattle.gl_store.specs.declared.genesis.ServiceState.TheVariants.{Opening, Open}
 use Rattle.gl_store.specs.declared.refusal.Refusal.{Refusal}
 use Rattle.gl_store.specs.declared.refusal.Refusal.TheVariants as refusals
-use Rattle.gl_store.proofs.Lists.{same_pair}
+use Rattle.gl_base.proofs.Steps.{same_pair}
 use Rattle.gl_store.proofs.Growth.{IsOutside, sound-push}
 
 -- ---- what a request writes is none of governance

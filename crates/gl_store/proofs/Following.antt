@@ -14,7 +14,7 @@ use Rattle.gl_store.specs.declared.refusal.Refusal.TheVariants as refusals
 use Rattle.gl_entry.specs.declared.entry.Entry.{Entry}
 use Rattle.gl_tx.specs.declared.request.Operation.{Operation}
 use Rattle.gl_tx.specs.declared.request.Answer.{Answer}
-use Rattle.gl_store.proofs.Lists.{slice_get-push, slice_get-last}
+use Rattle.gl_base.proofs.Lists.{slice_get-push, slice_get-last}
 use Rattle.gl_store.proofs.Applications.{execute_ok, request_ok}
 
 -- an entry of at most this view may be pushed

@@ -11,7 +11,7 @@ use Rattle.gl_store.specs.Genesis.{is_node, is_member, is_dealing, is_genesis, s
 use Rattle.gl_store.specs.declared.genesis.NewNode.{NewNode}
 use Rattle.gl_store.specs.declared.genesis.Genesis as request
 use Rattle.gl_store.proofs.GenesisFields.{node_fields, fields_of}
-use Rattle.gl_store.proofs.Lists.{map-drop}
+use Rattle.gl_base.proofs.Lists.{map-drop}
 use Rattle.gl_store.proofs.WriteSets.{set_from-append}
 
 -- ---- ranges

@@ -17,7 +17,7 @@ use Rattle.gl_entry.specs.declared.entry.Entry.{Entry}
 use Rattle.gl_vmaps.specs.declared.write.Write.{Write}
 use Rattle.std.specs.Cmp.Lexicographic.{bytes_decides}
 use Rattle.gl_store.proofs.TablesLaws.{tables_of-push}
-use Rattle.gl_store.proofs.Lists.{slice_get-push, take-push, take-all, within}
+use Rattle.gl_base.proofs.Lists.{slice_get-push, take-push, take-all, slice_get-within}
 
 -- a write to a table that is none of governance
 abbrev pub IsOutside : Write → Type 0
@@ -75,7 +75,7 @@ in_order-push ledger e h fits at up = record {
   views = λ i j f g le s r. ⊎_elim
       (λ (old : slice_get ledger j ≡ Some g). ⊎_elim
       (λ (first : slice_get ledger i ≡ Some f). h.views i j f g le first old)
-      (λ (new : (i ≡ length ledger) × (f ≡ e)). let w : j < length ledger = within ledger j g old in absurd (omega (arith, new.0)))
+      (λ (new : (i ≡ length ledger) × (f ≡ e)). let w : j < length ledger = slice_get-within ledger j g old in absurd (omega (arith, new.0)))
       (slice_get-push ledger e i f s))
       (λ (last : (j ≡ length ledger) × (g ≡ e)). subst (λ (x : Entry). f.view ≤ x.view) (sym last.1) (⊎_elim
       (λ (first : slice_get ledger i ≡ Some f). up i f first)
@@ -87,7 +87,7 @@ in_order-push ledger e h fits at up = record {
 serial-push : (ledger : List Entry) (e : Entry) → IsSerial ledger → StandsAs e.content ledger e → IsSerial (ledger ++ e ∷ [])
 serial-push ledger e h stands i f s = ⊎_elim
     (λ (old : slice_get ledger i ≡ Some f).
-    let w : i < length ledger = within ledger i f old in
+    let w : i < length ledger = slice_get-within ledger i f old in
     subst (λ (before : List Entry). StandsAs f.content before f) (sym (take-push ledger e i (omega arith))) (h i f old))
     (λ (new : (i ≡ length ledger) × (f ≡ e)).
     subst (λ (before : List Entry). StandsAs f.content before f)

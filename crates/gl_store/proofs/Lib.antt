@@ -1,5 +1,4 @@
 pub mod Sizes
-pub mod Lists
 pub mod TablesLaws
 pub mod Growth
 pub mod WriteSets

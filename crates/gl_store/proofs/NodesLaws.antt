@@ -9,7 +9,7 @@ use Rattle.gl_store.specs.Genesis.{nodes_map}
 use Rattle.gl_store.specs.Nodes.{nodes_table, trusted_nodes, same_lists, changed_set, configuration}
 use Rattle.gl_store.proofs.Growth.{IsOutside, untouched}
 use Rattle.gl_store.proofs.TablesLaws.{tables_of-push}
-use Rattle.gl_store.proofs.Lists.{take-push, take-all}
+use Rattle.gl_base.proofs.Lists.{take-push, take-all}
 
 same_itself : (xs : List (List ℕ)) → same_lists xs xs ≡ true
 same_itself [] = refl

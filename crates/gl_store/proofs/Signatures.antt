@@ -6,7 +6,7 @@ use Rattle.gl_entry.specs.Entry.{is_signature}
 use Rattle.gl_entry.specs.declared.entry.Entry.{Entry}
 use Rattle.gl_store.specs.Book.{service_book}
 use Rattle.gl_store.specs.Calls.{IsSignedAt, IsSignedUpTo}
-use Rattle.gl_store.proofs.Lists.{within, slice_get-front}
+use Rattle.gl_base.proofs.Lists.{slice_get-within, slice_get-append}
 
 -- an entry that is no signature leaves the last one
 pub last_signature-push : (ledger : List Entry) (e : Entry) → is_signature e.content ≡ false →
@@ -24,7 +24,7 @@ last_signature-signed (f ∷ ledger) e h = ap (λ (n : ℕ). seqno_with_first (i
 -- a signature stays at its place
 pub signed_at-push : (ledger : List Entry) (e : Entry) (place : ℕ) → IsSignedAt ledger place → IsSignedAt (ledger ++ e ∷ []) place
 signed_at-push ledger e zero h = absurd (let at = h.1 in cc)
-signed_at-push ledger e (suc i) h = (h.0, slice_get-front ledger e i h.0 h.1, h.2)
+signed_at-push ledger e (suc i) h = (h.0, slice_get-append ledger (e ∷ []) i h.0 h.1, h.2)
 
 pub signed_up_to-push : (ledger : List Entry) (e : Entry) (place : ℕ) → IsSignedUpTo ledger place → IsSignedUpTo (ledger ++ e ∷ []) place
 signed_up_to-push ledger e place h some = signed_at-push ledger e place (h some)
@@ -34,7 +34,7 @@ pub signed_within : (ledger : List Entry) (place : ℕ) → IsSignedUpTo ledger 
 signed_within ledger zero h = omega arith
 signed_within ledger (suc i) h =
     let signature = h (omega arith) in
-    let inside : i < length ledger = within ledger i signature.0 signature.1 in
+    let inside : i < length ledger = slice_get-within ledger i signature.0 signature.1 in
     omega arith
 
 -- a signature has the seqno of the last one

@@ -19,7 +19,7 @@ use Rattle.gl_store.specs.Effect.{identity_in}
 use Rattle.gl_store.specs.Serial.{IsLedger}
 use Rattle.gl_store.specs.Tree.{writes_of, tables_of, leaves_from, leaves_of}
 use Rattle.gl_store.specs.Kept.{IsTreeOf}
-use Rattle.gl_store.proofs.Lists.{within}
+use Rattle.gl_base.proofs.Lists.{slice_get-within}
 
 -- the writes of an entry, at its place
 abbrev pub placed_in : Entry → List Placed
@@ -89,7 +89,7 @@ above_each place (e ∷ es) below = above-append place (placed_in e) (writes_of 
 next_above : (ledger : List Entry) → IsLedger ledger → IsAbove (suc (length ledger)) (writes_of ledger)
 next_above ledger h =
     above_each (suc (length ledger)) ledger
-    (λ i e s. let there : i < length ledger = within ledger i e s in let place : e.seqno ≡ suc i = h.seqnos i e s in omega arith)
+    (λ i e s. let there : i < length ledger = slice_get-within ledger i e s in let place : e.seqno ≡ suc i = h.seqnos i e s in omega arith)
 
 greatest_below : (is_such : Write → Bool) (place : ℕ) (ps : List Placed) → 0 < place → IsAbove place ps → greatest_place is_such ps < place
 greatest_below is_such place [] some all = some

@@ -25,7 +25,7 @@ use crate::ledger_state::LedgerState;
 use crate::refusal::Refusal;
 use crate::rows::genesis_writes;
 use gl_base::{Bytes, FIRST_VIEW, LAST_SEQNO, MEBIBYTE, OrNoMemory, Status, TxId, status};
-use gl_entry::{Content, Digest, Entry, NodeId, Signature, leaf_of_body};
+use gl_entry::{Content, Digest, Entry, NodeId, Signature, leaf, leaf_of_body};
 use gl_tx::{Ran, Reply, Request, run};
 use gl_vmaps::{Tables, Writes};
 use sha2::{Digest as _, Sha256};
@@ -94,9 +94,9 @@ impl Store {
     {
         let founding = genesis_entry(alloc, genesis)?;
         let mut state = LedgerState::new(alloc)?;
-        push_entry(alloc, &mut state, &genesis.identity, founding)?;
+        push_entry(&mut state, &genesis.identity, founding)?;
         let opening = signature_entry(alloc, &state, signer, FIRST_VIEW, 2);
-        push_entry(alloc, &mut state, &genesis.identity, opening)?;
+        push_entry(&mut state, &genesis.identity, opening)?;
         Ok(Store {
             state,
             identity: genesis.identity,
@@ -236,7 +236,7 @@ impl Store {
         if let Some(refusal) = limit_passed(&body, &reply, seqno) {
             return Err(OrNoMemory::Fault(refusal));
         }
-        let leaf = leaf_of_body(self.alloc, &self.identity, &entry, &body)?;
+        let leaf = leaf_of_body(&self.identity, &entry, &body);
         self.state.push(entry, leaf)?;
         Ok((TxId { view, seqno }, ran.reply))
     }
@@ -257,7 +257,7 @@ impl Store {
             return Err(OrNoMemory::Fault(Refusal::SeqnoLimit));
         }
         let entry = signature_entry(self.alloc, &self.state, node, view, self.commit);
-        push_entry(self.alloc, &mut self.state, &self.identity, entry)?;
+        push_entry(&mut self.state, &self.identity, entry)?;
         self.last_signature = seqno;
         Ok(TxId { view, seqno })
     }
@@ -369,7 +369,6 @@ fn limit_passed(body: &[u8], reply: &[u8], seqno: u64) -> Option<Refusal>
 
 /// Adds an entry, with its leaf under the service's key. Want of memory leaves all as it was.
 fn push_entry(
-    alloc: Global,
     state: &mut LedgerState,
     identity: &HssPublicKey,
     entry: Entry,
@@ -388,7 +387,6 @@ fn push_entry(
     ensures tables_kept { OnErr result (state.new.tables ≡ state.old.tables) }
     ensures leaves_kept { OnErr result (IsUnchanged state.old.frontier state.new.frontier) }
 {
-    let body = entry.body(alloc)?;
-    let leaf = leaf_of_body(alloc, identity, &entry, &body)?;
+    let leaf = leaf(&entry, identity);
     state.push(entry, leaf)
 }

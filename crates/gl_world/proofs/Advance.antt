@@ -17,7 +17,8 @@ use Rattle.gl_store.specs.Nodes.{configuration}
 use Rattle.gl_store.specs.Book.{service_book}
 use Rattle.gl_world.specs.Solo.{IsAlone}
 use Rattle.gl_world.proofs.Ids.{same_itself}
-use Rattle.gl_world.proofs.Lists.{there, take-next, take-past, length-front}
+use Rattle.gl_base.proofs.Lists.{slice_get-below, take-next, take-past}
+use Rattle.std.proofs.lemmas.List.{length-take-le}
 
 pub configured : (x : NodeId) (log : List Entry) → IsAlone x log → (c : ℕ) → configuration_at service_book log (suc c) ≡ Some (x ∷ [])
 unfolding configuration_at
@@ -105,7 +106,7 @@ pub greatest_alone : (x : NodeId) (n : Node Entry) (c : ℕ) → n.commit ≡ su
 unfolding greatest_to_commit last_signature
 greatest_alone x n c is alone views zero h = sym (above_none n.commit 0 (omega arith))
 greatest_alone x n c is alone views (suc place) h =
-    let e = there n.log place (omega arith) in
+    let e = slice_get-below n.log place (omega arith) in
     step e.0 e.1 (greatest_alone x n c is alone views place (omega arith))
   where
     active : active_upto service_book n.log n.commit (suc place) ≡ (x ∷ []) ∷ []
@@ -117,8 +118,8 @@ greatest_alone x n c is alone views (suc place) h =
         ≡ above n.commit (last_signature service_book (take place n.log ++ e ∷ []))
     go e at before true signs =
         at_signature n.commit place (last_signature service_book (take place n.log)) (greatest_to_commit service_book x n place)
-        (let d = last_signature-le (take place n.log) in let l = length-front n.log place (omega arith) in omega (arith, d, l)) before
-        ∙ ap (above n.commit) (ap suc (sym (length-front n.log place (omega arith))) ∙ sym (last_signature-signed (take place n.log) e signs))
+        (let d = last_signature-le (take place n.log) in let l = length-take-le place n.log (omega arith) in omega (arith, d, l)) before
+        ∙ ap (above n.commit) (ap suc (sym (length-take-le place n.log (omega arith))) ∙ sym (last_signature-signed (take place n.log) e signs))
     go e at before false signs =
         at_other (nat_lt n.commit (suc place)) (suc place) (greatest_to_commit service_book x n place) ∙ before
         ∙ ap (above n.commit) (sym (last_signature-push (take place n.log) e signs))

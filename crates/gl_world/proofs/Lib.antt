@@ -1,5 +1,4 @@
 pub mod Ids
-pub mod Lists
 pub mod Numbers
 pub mod MemberKeys
 pub mod Digests

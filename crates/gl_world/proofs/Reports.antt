@@ -13,7 +13,7 @@ use Rattle.gl_rules.specs.World.{joiner}
 use Rattle.gl_entry.specs.declared.entry.Entry.{Entry}
 use Rattle.gl_world.specs.declared.settings.Settings.{Settings}
 use Rattle.gl_store.specs.Book.{service_book}
-use Rattle.gl_world.proofs.Lists.{there}
+use Rattle.gl_base.proofs.Lists.{slice_get-below}
 use Rattle.gl_world.specs.Solo.{IsSolo}
 
 -- the identifier of this view and place
@@ -23,7 +23,7 @@ id view place = record { view = view; seqno = place }
 -- a place of its log holds an entry of the first view
 pub held_at : (s : Settings) (n : Node Entry) → IsSolo s n → (i : ℕ) → i < length n.log → view_of service_book (slice_get n.log i) ≡ Some 2
 held_at s n h i within =
-    let e = there n.log i within in
+    let e = slice_get-below n.log i within in
     ap (view_of service_book) e.1 ∙ ap (λ (v : ℕ). Some v) (h.ledger.views i e.0 e.1)
 
 pub commit_id-is : (s : Settings) (n : Node Entry) → IsSolo s n → commit_id service_book n ≡ Some (id 2 n.commit)

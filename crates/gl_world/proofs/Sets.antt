@@ -18,9 +18,9 @@ use Rattle.gl_store.specs.declared.genesis.NewNode.{NewNode}
 use Rattle.gl_store.specs.declared.genesis.Genesis as request
 use Rattle.gl_store.proofs.Growth.{IsOutside}
 use Rattle.gl_store.proofs.TablesLaws.{tables_of-push}
-use Rattle.gl_store.proofs.Lists.{take-push}
+use Rattle.gl_base.proofs.Lists.{take-push}
 use Rattle.gl_store.specs.Nodes.{nodes_table, is_trusted, trusted_nodes, changed_set, configuration}
-use Rattle.gl_world.proofs.Lists.{take-past}
+use Rattle.gl_base.proofs.Lists.{take-past}
 use Rattle.gl_store.proofs.WriteSets.{rows-write_set, wrote_all-append}
 use Rattle.gl_store.proofs.NodesLaws.{configuration-push}
 use Rattle.gl_world.specs.Solo.{IsAlone}

@@ -29,13 +29,13 @@ use Rattle.gl_store.proofs.Fitting.{execute_fits}
 use Rattle.gl_store.proofs.Entries.{signature_fits}
 use Rattle.gl_store.proofs.Roots.{root_is_digest}
 use Rattle.gl_store.proofs.Digests.{sha256_digest}
-use Rattle.gl_store.proofs.Lists.{slice_get-push, take-push}
+use Rattle.gl_base.proofs.Lists.{slice_get-push, take-push}
 use Rattle.gl_world.specs.declared.settings.Settings.{Settings}
 use Rattle.gl_world.specs.Founding.{node_of, id_of}
 use Rattle.gl_store.specs.Book.{leaf_count}
 use Rattle.gl_store.specs.Book.{service_book, with_reply, request_result, by_store, Given, Unmade, Unspelled}
 use Rattle.gl_world.specs.Solo.{IsSoloLedger, IsSolo}
-use Rattle.gl_world.proofs.Lists.{take-past}
+use Rattle.gl_base.proofs.Lists.{take-past}
 use Rattle.gl_world.proofs.Advance.{advance_alone, above, last_signature-le}
 use Rattle.gl_world.proofs.Sets.{alone-push}
 

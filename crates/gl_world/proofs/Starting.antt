@@ -23,7 +23,7 @@ use Rattle.gl_world.specs.declared.settings.Settings.{Settings}
 use Rattle.gl_world.specs.Founding.{node_of, id_of, genesis_of}
 use Rattle.gl_world.specs.World.{start_of}
 use Rattle.gl_world.specs.Single.{IsSingle}
-use Rattle.gl_world.proofs.Lists.{take-past}
+use Rattle.gl_base.proofs.Lists.{take-past}
 use Rattle.gl_world.proofs.Acceptable.{one_node, genesis_acceptable, genesis_fits, genesis_entry_fits}
 use Rattle.gl_world.proofs.Sets.{alone_at_start}
 use Rattle.gl_world.specs.Solo.{IsSolo, IsSoloLedger}

@@ -14,7 +14,7 @@ use Rattle.gl_world.specs.World.{start_of, ServiceEvent, ServiceWorld}
 use Rattle.gl_store.specs.Book.{service_book, Given, Unmade}
 use Rattle.gl_world.specs.Single.{IsSingle, IsLocal, AreLocal}
 use Rattle.gl_world.proofs.Ids.{same_itself, same_other}
-use Rattle.gl_world.proofs.Lists.{fronts}
+use Rattle.gl_base.proofs.Lists.{fronts}
 use Rattle.gl_world.specs.Solo.{IsSolo}
 use Rattle.gl_world.proofs.Solo.{Grows, Goes, grows_same, goes_submit, goes_reserve, goes_sign, goes_advance}
 use Rattle.gl_world.proofs.Starting.{solo_at_start}

@@ -46,8 +46,8 @@ invariant_of-self-2 c =
     let left : length ledger < last_seqno = omega arith in
     let gives : execute_result ledger c.args.view q ≡ Ok (e, ran.reply) =
     execute_within ledger c.args.view q ran e is_open runs made small short left in
-    kept_with_application ledger c.push.new.self.entries.items _ c.args.view q e ran.reply c.in_ok-leaf.leaf c.push.new.self.tables c.push.new.self.frontier
-    c.self.invariant up c.in_ok-entry.ensures.request gives (c.in_ok-entry.ensures.fits small) c.in_ok-leaf.ensures c.in_ok-push.ensures.entries (record { stands = c.in_ok-push.ensures.tables; base = c.in_ok-push.ensures.base }) c.in_ok-push.ensures.leaves
+    kept_with_application ledger c.push.new.self.entries.items _ c.args.view q e ran.reply c.leaf_of_body-leaf.result c.push.new.self.tables c.push.new.self.frontier
+    c.self.invariant up c.in_ok-entry.ensures.request gives (c.in_ok-entry.ensures.fits small) c.leaf_of_body-leaf.ensures c.in_ok-push.ensures.entries (record { stands = c.in_ok-push.ensures.tables; base = c.in_ok-push.ensures.base }) c.in_ok-push.ensures.leaves
 
 -- a request that is aborted, or memory that ran out
 pub returns-in-Err-clause-refused : goal.returns-in-Err-clause-refused

@@ -34,9 +34,9 @@ use std::marker::Model;
 
 /// A ledger of one node, and up to which seqno it is committed. Seqnos count from 1. The ledger is
 /// sound at every moment: its entries fit their format, its seqnos and views are in order, it is
-/// one serial run of its requests, its governance tables are the effect of the governance requests that
-/// it records, and each signature has the root of the tree over all earlier entries. Commit is the
-/// seqno of a signature, or 0, and never falls.
+/// one serial run of its requests, its governance tables are the effect of the governance requests
+/// that it records, and each signature has the root of the tree over all earlier entries. Commit is
+/// the seqno of a signature, or 0, and never falls.
 #[derive(Drop)]
 pub struct Store {
     state: LedgerState,
@@ -172,7 +172,8 @@ impl Store {
     /// The status of a transaction by what this store holds (CCF documentation, "Transaction
     /// status"). Only Committed and Invalid are final.
     pub fn status(&self, id: TxId) -> Status
-        ensures { (n : Node Entry) → IsNodeOf self.now n → result ≡ reported_status service_book n id }
+        ensures { (n : Node Entry) → IsNodeOf self.now n →
+            result ≡ reported_status service_book n id }
     {
         let committed = match self.view_at(self.commit) {
             None => None,

@@ -8,8 +8,8 @@ use Rattle.gl_world.specs.World.{start_of, ServiceEvent}
 use Rattle.gl_store.specs.Book.{service_book}
 
 -- Of any two committed ledgers, at any nodes and moments, one is a prefix of the other. No
--- identifier that is reported Committed is ever reported Invalid. Each committed ledger is one serial
--- run of its requests, and its governance tables are the effect of the governance requests that it
--- records.
+-- identifier that is reported Committed is ever reported Invalid. Each committed ledger is one
+-- serial run of its requests, and its governance tables are the effect of the governance requests
+-- that it records.
 abbrev pub Headline : Settings → List ServiceEvent → Type 0
 Headline s events = IsSafe service_book IsSound (start_of s) events

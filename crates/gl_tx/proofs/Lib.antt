@@ -1,9 +1,10 @@
-pub mod Writing
 pub mod Values
-pub mod RunLaws
 pub mod Readings
 pub mod Repeated
 pub mod Fields
 pub mod Operations
 pub mod Replies
 pub mod Formats
+pub mod Alike
+pub mod Written
+pub mod Bounded

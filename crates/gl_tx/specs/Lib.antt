@@ -1,6 +1,9 @@
 pub mod Request
-pub mod Run
 pub mod Reading
-pub mod Runs
-pub mod Overlay
+pub mod Abort
+pub mod Sees
+pub mod Run
+pub mod Asks
+pub mod Attempt
 pub mod Performs
+pub mod Runs

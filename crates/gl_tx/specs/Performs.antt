@@ -3,8 +3,8 @@ use Rattle.std.specs.Prelude.{◌≡◌, ℕ, ◌^◌, List, Option, None, Some,
 use Rattle.gl_base.specs.LittleEndian.{from_little_endian}
 use Rattle.gl_vmaps.specs.Name.{is_key}
 use Rattle.gl_tx.specs.Run.{Performed}
-use Rattle.gl_tx.specs.declared.request.Cause.{Cause}
-use Rattle.gl_tx.specs.declared.request.Cause.TheVariants as causes
+use Rattle.gl_tx.specs.declared.abort.Cause.{Cause}
+use Rattle.gl_tx.specs.declared.abort.Cause.TheVariants as causes
 use Rattle.gl_tx.specs.declared.perform.Failure.{Failure}
 use Rattle.gl_tx.specs.declared.perform.Failure.TheVariants as failures
 use Rattle.gl_tx.specs.declared.perform.Performed.{Performed as Done}

@@ -1,9 +1,9 @@
 -- What a run that gave no result tells.
 use Rattle.std.specs.Prelude.{◌≡◌, Result, Err}
 use Rattle.gl_tx.specs.Run.{Ran}
-use Rattle.gl_tx.specs.declared.request.Abort.{Abort}
-use Rattle.gl_tx.specs.declared.running.RunError.{RunError}
-use Rattle.gl_tx.specs.declared.running.RunError.TheVariants as errors
+use Rattle.gl_tx.specs.declared.abort.Abort.{Abort}
+use Rattle.gl_tx.specs.declared.runs.RunError.{RunError}
+use Rattle.gl_tx.specs.declared.runs.RunError.TheVariants as errors
 
 -- A run fails with the abort that is owed, or for want of memory.
 abbrev pub Aborts : Result Ran Abort → RunError → Type 0

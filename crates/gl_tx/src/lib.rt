@@ -2,15 +2,26 @@
 //! documentation, "Key-Value Store").
 #![tactic(auto)]
 
+mod abort;
+mod asks;
+mod attempt;
+mod bytes;
+mod conflict;
 mod decoding;
 mod encoding;
+mod lookup;
+mod notes;
 mod overlay;
 mod perform;
 mod request;
-mod running;
+mod runs;
 
-pub use request::{Abort, Answer, Cause, Operation, Reply, Request};
-pub use running::{Ran, RunError, run};
+pub use abort::{Abort, Cause};
+pub use attempt::{Attempt, Fetched};
+pub use conflict::{Conflict, RolledBack, TxFault};
+pub use notes::{Ask, Note, Reads};
+pub use request::{Answer, Operation, Reply, Request};
+pub use runs::{Ran, RunError, run};
 
 #[cfg(test)]
 mod run_tests;

@@ -155,33 +155,6 @@ fn are_answers_within(answers: &[Answer]) -> bool
     answers.iter().all(|answer| answer.is_within())
 }
 
-/// Why an operation fails.
-#[derive(Clone, Copy, Debug, PartialEq, Eq)]
-pub enum Cause {
-    /// A map's name doesn't begin with `public:`.
-    NotPublic,
-    /// A map is a table of governance, `public:ccf.gov.`, or of the service itself,
-    /// `public:ccf.internal.` (CCF documentation, "Builtin Maps").
-    Reserved,
-    /// The value that is to be added to has not 8 bytes.
-    NotNumber,
-    /// The sum passes 64 bits.
-    Overflow,
-    /// The key has another value than the one that is expected.
-    Check,
-    /// The value that is to be followed is no key: it has no byte, or more than 1,024.
-    BadKey,
-}
-
-/// The first operation of a request that failed. The whole request then writes nothing.
-#[derive(Clone, Copy, Debug, PartialEq, Eq)]
-pub struct Abort {
-    /// Which operation it is, counted from 1.
-    pub operation: u8,
-    /// Why it failed.
-    pub cause: Cause,
-}
-
 /// A request of an application: 1 to 64 operations, run in order.
 #[derive(Debug, Drop)]
 pub struct Request {

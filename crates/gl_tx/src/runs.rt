@@ -1,16 +1,17 @@
-//! The run of a request on tables.
+//! The run of a request.
 
 ghost use Rattle.std.specs.Prelude.{◌≡◌, ◌+◌, ◌<◌, ◌≤◌, List, [], ◌∷◌, suc, length, Ok, IfOk, OnOk, IfErr};
-ghost use Rattle.gl_vmaps.specs.Versions.{written_by};
-ghost use Rattle.gl_tx.specs.Overlay.{seen};
-ghost use Rattle.gl_tx.specs.Run.{answered_first, run_from, run};
+ghost use Rattle.gl_tx.specs.Sees.{sees_of};
+ghost use Rattle.gl_tx.specs.Run.{with_answer, run_from, run_seeing};
 ghost use Rattle.gl_tx.specs.Runs.{Aborts};
 ghost use Rattle.gl_tx.specs.declared.request.Operation.{Operation};
-ghost use Rattle.gl_tx.specs.declared.running.RunError.TheVariants.{NoMemory};
+ghost use Rattle.gl_tx.specs.declared.runs.RunError.TheVariants.{NoMemory};
 
+use crate::abort::Abort;
+use crate::lookup::Lookup;
 use crate::overlay::Overlay;
 use crate::perform::{Failure, Performed, perform};
-use crate::request::{Abort, Answer, Operation, Reply, Request};
+use crate::request::{Answer, Operation, Reply, Request};
 use gl_vmaps::{Tables, Writes};
 use std::alloc::{AllocError, AllocFailed, Global};
 use thiserror::Error;
@@ -51,18 +52,19 @@ impl<T: Drop> From<AllocFailed<T>> for RunError {
 }
 
 /// Performs the operation with a number, and adds what it writes.
-fn step(
+fn step<L: Lookup>(
     alloc: Global,
-    overlay: &mut Overlay<'_>,
+    overlay: &mut Overlay<'_, L>,
     number: u8,
     operation: &Operation,
 ) -> Result<Answer, RunError>
     requires { length overlay.old.writes < 64 }
     ensures ok { IfOk result (λ answer. (rest : List Operation) →
-        run_from number (operation.now ∷ rest) (seen overlay.old) overlay.old.writes
-        ≡ answered_first answer (run_from (suc number) rest (seen overlay.new) overlay.new.writes)) }
+        run_from number (operation.now ∷ rest) (L.sees overlay.old.base.now) overlay.old.writes
+        ≡ with_answer answer (run_from (suc number) rest (L.sees overlay.new.base.now) overlay.new.writes)) }
+    ensures same { OnOk result (overlay.new.base.now ≡ overlay.old.base.now) }
     ensures aborted { IfErr result (λ e. (rest : List Operation) →
-        Aborts (run_from number (operation.now ∷ rest) (seen overlay.old) overlay.old.writes) e) }
+        Aborts (run_from number (operation.now ∷ rest) (L.sees overlay.old.base.now) overlay.old.writes) e) }
     ensures few { OnOk result (length overlay.new.writes ≤ length overlay.old.writes + 1) }
 {
     match perform(alloc, overlay, operation) {
@@ -81,17 +83,17 @@ fn step(
 }
 
 /// Performs the operations in order, and adds what they write.
-fn answers_to(
+fn answers_to<L: Lookup>(
     alloc: Global,
-    overlay: &mut Overlay<'_>,
+    overlay: &mut Overlay<'_, L>,
     operations: &[Operation],
 ) -> Result<Vec<Answer>, RunError>
     requires fresh { overlay.old.writes ≡ [] }
     requires few { length operations.now ≤ 64 }
-    ensures ok { IfOk result (λ answers. run_from 1 operations.now (seen overlay.old) []
+    ensures ok { IfOk result (λ answers. run_from 1 operations.now (L.sees overlay.old.base.now) []
         ≡ Ok (record { answers = answers.items; writes = overlay.new.writes })) }
     ensures each { IfOk result (λ answers. length answers.items ≡ length operations.now) }
-    ensures aborted { IfErr result (λ e. Aborts (run_from 1 operations.now (seen overlay.old) []) e) }
+    ensures aborted { IfErr result (λ e. Aborts (run_from 1 operations.now (L.sees overlay.old.base.now) []) e) }
 {
     let mut answers = Vec::new(alloc);
     for (i, operation) in operations.iter().enumerate() {
@@ -104,9 +106,9 @@ fn answers_to(
 /// ones wrote, up to the first that fails.
 pub fn run(alloc: Global, request: &Request, tables: &Tables) -> Result<Ran, RunError>
     ensures ok { IfOk result (λ ran.
-        run request.now (written_by tables.now) ≡ Ok (record { answers = ran.reply; writes = ran.writes })) }
+        run_seeing request.now (sees_of tables.now) ≡ Ok (record { answers = ran.reply; writes = ran.writes })) }
     ensures few { IfOk result (λ ran. length ran.writes ≤ 64) }
-    ensures aborted { IfErr result (λ e. Aborts (run request.now (written_by tables.now)) e) }
+    ensures aborted { IfErr result (λ e. Aborts (run_seeing request.now (sees_of tables.now)) e) }
 {
     let mut overlay = Overlay::new(alloc, tables);
     let answers = answers_to(alloc, &mut overlay, request.as_slice())?;

@@ -1,36 +1,19 @@
--- Lists of bytes: as a test, number by number, and their parts.
-use Rattle.std.proofs.Common.{◌≡◌, ℕ, zero, suc, ◌<◌, true, List, [], ◌∷◌, ◌++◌, take, refl, arith}
-use Rattle.std.proofs.lemmas.Bool.{and_parts, and_from}
+-- Lists of bytes: as a test, number by number, and which of them are keys and values.
+use Rattle.std.proofs.Common.{◌≡◌, ℕ, suc, ◌≤◌, ◌<◌, true, nat_lt, List, [], ◌∷◌, length, get_or, refl, arith}
+use Rattle.std.proofs.lemmas.Bool.{and_from}
 use Rattle.std.proofs.lemmas.Bool.Decides.{nat_tests}
-use Rattle.gl_base.specs.Field.{is_byte, are_bytes}
-use Rattle.gl_base.specs.LittleEndian.{AreBytes}
+use Rattle.gl_vmaps.specs.Name.{are_bytes, is_key, key_limit, is_value, value_limit}
 
--- where each number is a byte, the test finds them all
-pub are_bytes-true : (xs : List ℕ) → AreBytes xs → are_bytes xs ≡ true
+-- Where each number is a byte, the test finds them all.
+pub are_bytes-true : (xs : List ℕ) → ((i : ℕ) → get_or xs i 0 < 256) → are_bytes xs ≡ true
 are_bytes-true [] all = refl
 are_bytes-true (x ∷ xs) all =
     let first : x < 256 = all 0 in
-    let is : is_byte x ≡ true = grind (arith, nat_tests) in
-    and_from (is_byte x) (are_bytes xs) is (are_bytes-true xs (λ i. all (suc i)))
+    let is : nat_lt x 256 ≡ true = grind (arith, nat_tests) in
+    and_from (nat_lt x 256) (are_bytes xs) is (are_bytes-true xs (λ i. all (suc i)))
 
--- and what the test finds so is
-pub are_bytes-each : (xs : List ℕ) → are_bytes xs ≡ true → AreBytes xs
-are_bytes-each [] e i = omega arith
-are_bytes-each (x ∷ xs) e zero = let parts = and_parts (is_byte x) (are_bytes xs) e in grind (arith, nat_tests, parts.0)
-are_bytes-each (x ∷ xs) e (suc i) = are_bytes-each xs (and_parts (is_byte x) (are_bytes xs) e).1 i
+pub is_key-bytes : (xs : List ℕ) → ((i : ℕ) → get_or xs i 0 < 256) → 1 ≤ length xs → length xs ≤ key_limit → is_key xs ≡ true
+is_key-bytes xs all some within = rw (are_bytes-true xs all) (grind (arith, nat_tests))
 
--- those in front of others are bytes too, and those behind them
-pub AreBytes-front : (xs ys : List ℕ) → AreBytes (xs ++ ys) → AreBytes xs
-AreBytes-front [] ys all i = omega arith
-AreBytes-front (x ∷ xs) ys all zero = all zero
-AreBytes-front (x ∷ xs) ys all (suc i) = AreBytes-front xs ys (λ k. all (suc k)) i
-
-pub AreBytes-behind : (xs ys : List ℕ) → AreBytes (xs ++ ys) → AreBytes ys
-AreBytes-behind [] ys all = all
-AreBytes-behind (x ∷ xs) ys all = AreBytes-behind xs ys (λ k. all (suc k))
-
-pub AreBytes-take : (n : ℕ) (xs : List ℕ) → AreBytes xs → AreBytes (take n xs)
-AreBytes-take zero xs all i = omega arith
-AreBytes-take (suc n) [] all i = omega arith
-AreBytes-take (suc n) (x ∷ xs) all zero = all zero
-AreBytes-take (suc n) (x ∷ xs) all (suc i) = AreBytes-take n xs (λ k. all (suc k)) i
+pub is_value-bytes : (xs : List ℕ) → ((i : ℕ) → get_or xs i 0 < 256) → length xs ≤ value_limit → is_value xs ≡ true
+is_value-bytes xs all within = rw (are_bytes-true xs all) (grind (arith, nat_tests))

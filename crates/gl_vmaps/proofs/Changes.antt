@@ -8,11 +8,12 @@ use Rattle.std.proofs.lemmas.List.Elements.{recursion_from_All}
 use Rattle.std.proofs.lemmas.List.Sorted.{IsNonDecreasingBy-push}
 use Rattle.gl_vmaps.specs.Tables.{value_in}
 use Rattle.gl_vmaps.specs.Versions.{Placed, placed_at, is_to_row, greatest_place, up_to, IsAbove, written_by}
-use Rattle.gl_vmaps.specs.Scan.{last_such, last_write, value_behind, last_to_row}
-use Rattle.gl_vmaps.specs.Kept.{placed, changes_at, AreRising}
+use Rattle.gl_vmaps.specs.LastWrite.{last_such, last_write, value_behind}
+use Rattle.gl_vmaps.specs.Changes.{last_to_row}
+use Rattle.gl_vmaps.specs.Changes.{placed, changes_at, AreInOrder}
 use Rattle.gl_vmaps.specs.declared.write.Write.{Write}
 use Rattle.gl_vmaps.specs.declared.tables.Change.{Change}
-use Rattle.gl_vmaps.proofs.Scans.{last_such-cons, last_such-map, last_such-among}
+use Rattle.gl_vmaps.proofs.LastWrites.{last_such-cons, last_such-map, last_such-among}
 use Rattle.gl_vmaps.proofs.TablesLaws.{writes_of, value_in-written_by}
 
 -- ---- values
@@ -40,11 +41,11 @@ place_of None = 0
 place_of (Some c) = c.place
 
 -- in front of changes whose places do not fall stands one of no higher place
-pub AreRising-first : (c : Change) (cs : List Change) → AreRising (c ∷ cs) → AllByRecursion (λ (d : Change). c.place ≤ d.place) cs
-AreRising-first c cs rising = recursion_from_All (λ (d : Change). c.place ≤ d.place) cs (λ k d within. rising 0 (suc k) d (omega arith) (omega arith))
+pub AreInOrder-first : (c : Change) (cs : List Change) → AreInOrder (c ∷ cs) → AllByRecursion (λ (d : Change). c.place ≤ d.place) cs
+AreInOrder-first c cs rising = recursion_from_All (λ (d : Change). c.place ≤ d.place) cs (λ k d within. rising 0 (suc k) d (omega arith) (omega arith))
 
-pub AreRising-rest : (c : Change) (cs : List Change) → AreRising (c ∷ cs) → AreRising cs
-AreRising-rest c cs rising = λ i j d le within. rising (suc i) (suc j) d (omega arith) (omega arith)
+pub AreInOrder-rest : (c : Change) (cs : List Change) → AreInOrder (c ∷ cs) → AreInOrder cs
+AreInOrder-rest c cs rising = λ i j d le within. rising (suc i) (suc j) d (omega arith) (omega arith)
 
 greater : (b : Bool) (o : Option Change) (c : Change) → ((d : Change) → o ≡ Some d → c.place ≤ d.place) →
     max (if b then c.place else 0) (place_of o) ≡ place_of (option_or o (cond b (Some c) None))
@@ -53,13 +54,13 @@ greater true None c below = max-zero c.place
 greater false None c below = omega arith
 
 -- where places do not fall, the greatest place is that of the last such change
-pub greatest_place-last : (is_such : Write → Bool) (cs : List Change) → AreRising cs →
+pub greatest_place-last : (is_such : Write → Bool) (cs : List Change) → AreInOrder cs →
     greatest_place is_such (placed cs) ≡ place_of (last_such (λ (c : Change). is_such c.write) cs)
 greatest_place-last is_such [] rising = refl
 greatest_place-last is_such (c ∷ cs) rising =
     let such : Change → Bool = λ d. is_such d.write in
-    ap (max (if is_such c.write then c.place else 0)) (greatest_place-last is_such cs (AreRising-rest c cs rising))
-    ∙ greater (is_such c.write) (last_such such cs) c (λ d found. last_such-among (λ (e : Change). c.place ≤ e.place) such cs d (AreRising-first c cs rising) found)
+    ap (max (if is_such c.write then c.place else 0)) (greatest_place-last is_such cs (AreInOrder-rest c cs rising))
+    ∙ greater (is_such c.write) (last_such such cs) c (λ d found. last_such-among (λ (e : Change). c.place ≤ e.place) such cs d (AreInOrder-first c cs rising) found)
     ∙ ap place_of (sym (last_such-cons such c cs))
 
 -- ---- those up to a place
@@ -108,12 +109,12 @@ no_higher [] c below (suc k) d within = absurd (omega arith)
 no_higher (e ∷ cs) c below zero d within = below 0 d (omega arith)
 no_higher (e ∷ cs) c below (suc k) d within = no_higher cs c (λ i f h. below (suc i) f (omega arith)) k d (omega arith)
 
-rising-more : (cs : List Change) (place : ℕ) (ws : List Write) → AreRising cs → ((k : ℕ) (d : Change) → k < length cs → (get_or cs k d).place ≤ place) → AreRising (cs ++ changes_at place ws)
-rising-more cs place [] rising below = subst AreRising (sym (append-nil cs)) rising
+rising-more : (cs : List Change) (place : ℕ) (ws : List Write) → AreInOrder cs → ((k : ℕ) (d : Change) → k < length cs → (get_or cs k d).place ≤ place) → AreInOrder (cs ++ changes_at place ws)
+rising-more cs place [] rising below = subst AreInOrder (sym (append-nil cs)) rising
 rising-more cs place (w ∷ ws) rising below =
     let c : Change = record { place = place; write = w } in
-    let pushed : AreRising (cs ++ c ∷ []) = IsNonDecreasingBy-push (λ (d : Change). d.place) cs c rising (λ d some. below _ d (omega arith)) in
-    subst AreRising (append_assoc cs (c ∷ []) (changes_at place ws)) (rising-more (cs ++ c ∷ []) place ws pushed (no_higher cs c below))
+    let pushed : AreInOrder (cs ++ c ∷ []) = IsNonDecreasingBy-push (λ (d : Change). d.place) cs c rising (λ d some. below _ d (omega arith)) in
+    subst AreInOrder (append_assoc cs (c ∷ []) (changes_at place ws)) (rising-more (cs ++ c ∷ []) place ws pushed (no_higher cs c below))
 
-pub AreRising-applied : (cs : List Change) (place : ℕ) (ws : List Write) → AreRising cs → IsAbove place (placed cs) → AreRising (cs ++ changes_at place ws)
-AreRising-applied cs place ws rising above = rising-more cs place ws rising (last_below cs place above)
+pub AreInOrder-applied : (cs : List Change) (place : ℕ) (ws : List Write) → AreInOrder cs → IsAbove place (placed cs) → AreInOrder (cs ++ changes_at place ws)
+AreInOrder-applied cs place ws rising above = rising-more cs place ws rising (last_below cs place above)

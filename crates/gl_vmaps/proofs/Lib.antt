@@ -1,9 +1,11 @@
 pub mod Bytes
-pub mod Names
-pub mod Scans
+pub mod LastWrites
 pub mod TablesLaws
 pub mod Places
+pub mod VersionLists
+pub mod VersionLaws
+pub mod StandingLaws
 pub mod Changes
+pub mod ChangeTables
 pub mod Sizes
 pub mod WriteLaws
-pub mod FieldLaws

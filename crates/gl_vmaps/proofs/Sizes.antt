@@ -5,10 +5,11 @@ use Rattle.std.proofs.Math.ListN.{drop_of_length-le}
 use Rattle.std.proofs.lemmas.List.{append-nil}
 use Rattle.gl_vmaps.specs.Tables.{Tables, no_tables, same_bytes, wrote, has_key, size_of}
 use Rattle.gl_vmaps.specs.Versions.{is_to_map, is_to_row, written_by}
-use Rattle.gl_vmaps.specs.Scan.{last_to_row, value_behind, standing}
-use Rattle.gl_vmaps.specs.Kept.{placed}
+use Rattle.gl_vmaps.specs.LastWrite.{value_behind}
+use Rattle.gl_vmaps.specs.Changes.{last_to_row, standing}
+use Rattle.gl_vmaps.specs.Changes.{placed}
 use Rattle.gl_vmaps.specs.declared.tables.Change.{Change}
-use Rattle.gl_vmaps.proofs.Scans.{last_such-cons, last_such-push}
+use Rattle.gl_vmaps.proofs.LastWrites.{last_such-cons, last_such-push}
 use Rattle.gl_vmaps.proofs.TablesLaws.{same_bytes-symm, same_bytes-eq, sized, size_of-wrote, size_of-nothing, written_behind-append}
 use Rattle.gl_vmaps.proofs.Changes.{written, value_in-placed, placed-append}
 

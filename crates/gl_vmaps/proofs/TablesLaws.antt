@@ -11,9 +11,9 @@ use Rattle.std.proofs.lemmas.Cmp.{nat_list_cmp_total}
 use Rattle.std.proofs.lemmas.Map.Text.{is_eq-slice_cmp}
 use Rattle.gl_vmaps.specs.Tables.{Tables, Rows, no_tables, same_bytes, with_row, wrote, wrote_all, value_in, has_key, size_of}
 use Rattle.gl_vmaps.specs.Versions.{Placed, placed_at, is_to_map, is_to_row, written_behind, written_by}
-use Rattle.gl_vmaps.specs.Scan.{last_write, value_behind}
+use Rattle.gl_vmaps.specs.LastWrite.{last_write, value_behind}
 use Rattle.gl_vmaps.specs.declared.write.Write.{Write}
-use Rattle.gl_vmaps.proofs.Scans.{last_such-cons}
+use Rattle.gl_vmaps.proofs.LastWrites.{last_such-cons}
 
 -- ---- the same bytes
 

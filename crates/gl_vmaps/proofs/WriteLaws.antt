@@ -14,10 +14,10 @@ use Rattle.std.proofs.lemmas.List.Sums.{sum_by-cons}
 use Rattle.gl_vmaps.specs.Writes.{write_order, is_less, stands_before, is_ordered, with_write, put_before, is_write}
 use Rattle.gl_vmaps.specs.Tables.{Tables, wrote, wrote_all, value_in, has_key, size_of}
 use Rattle.gl_vmaps.specs.Versions.{is_to_map, is_to_row}
-use Rattle.gl_vmaps.specs.Scan.{last_write, value_behind}
+use Rattle.gl_vmaps.specs.LastWrite.{last_write, value_behind}
 use Rattle.gl_vmaps.specs.Growth.{gains, loses, gained, lost}
 use Rattle.gl_vmaps.specs.declared.write.Write.{Write}
-use Rattle.gl_vmaps.proofs.Scans.{last_such-cons}
+use Rattle.gl_vmaps.proofs.LastWrites.{last_such-cons}
 use Rattle.gl_vmaps.proofs.TablesLaws.{same_bytes-eq, row_of, value_in-wrote, value_in-wrote_all, size_of-wrote, size_of-some, sized}
 
 -- ---- the order of writes
@@ -261,7 +261,7 @@ other_kept t map w y before is = ap is_some (value_in-wrote t w map y.key ∙ go
         absurd (cc)
     go false not = refl
 
-gains_kept : (t : Tables) (map : List ℕ) (w y : Write) → write_order w y ≡ Less → gains (wrote t w) map y ≡ gains t map y
+gains_kept : (t : Tables) (map : List ℕ) (w y : Write) → write_order w y ≡ Less → gains (value_in (wrote t w)) map y ≡ gains (value_in t) map y
 gains_kept t map w y before = go (is_to_map map y) (λ is. other_kept t map w y before is)
   where
     go : (b : Bool) → (b ≡ true → has_key (wrote t w) map y.key ≡ has_key t map y.key) →
@@ -269,7 +269,7 @@ gains_kept t map w y before = go (is_to_map map y) (λ is. other_kept t map w y 
     go true kept = ap (λ has. true && is_some y.value && not has) (kept refl)
     go false kept = refl
 
-loses_kept : (t : Tables) (map : List ℕ) (w y : Write) → write_order w y ≡ Less → loses (wrote t w) map y ≡ loses t map y
+loses_kept : (t : Tables) (map : List ℕ) (w y : Write) → write_order w y ≡ Less → loses (value_in (wrote t w)) map y ≡ loses (value_in t) map y
 loses_kept t map w y before = go (is_to_map map y) (λ is. other_kept t map w y before is)
   where
     go : (b : Bool) → (b ≡ true → has_key (wrote t w) map y.key ≡ has_key t map y.key) →
@@ -292,20 +292,20 @@ one_sized true (Some value) false size some = omega arith
 
 -- the keys that a map gains by the writes of an ordered set come to it, and those that it loses go
 pub size_of-wrote_all : (t : Tables) (ws : List Write) (map : List ℕ) → is_ordered ws ≡ true →
-    size_of (wrote_all t ws) map + lost t map ws ≡ size_of t map + gained t map ws
+    size_of (wrote_all t ws) map + lost (value_in t) map ws ≡ size_of t map + gained (value_in t) map ws
 size_of-wrote_all t [] map ordered = refl
 size_of-wrote_all t (w ∷ ws) map ordered =
     let later = ordered_before w ws ordered in
     let rest = size_of-wrote_all (wrote t w) ws map (is_ordered-rest w ws ordered) in
     let one = one_sized (is_to_map map w) w.value (has_key t map w.key) (size_of t map) (λ has. size_of-some t map w.key has) in
     let size = size_of-wrote t w map in
-    let gained_rest : gained (wrote t w) map ws ≡ gained t map ws = counted_alike (gains (wrote t w) map) (gains t map) w ws (λ y before. gains_kept t map w y before) later in
-    let lost_rest : lost (wrote t w) map ws ≡ lost t map ws = counted_alike (loses (wrote t w) map) (loses t map) w ws (λ y before. loses_kept t map w y before) later in
-    let gained_all : gained t map (w ∷ ws) ≡ cond (gains t map w) 1 0 + gained t map ws = sum_by-cons (λ z. cond (gains t map z) 1 0) w ws in
-    let lost_all : lost t map (w ∷ ws) ≡ cond (loses t map w) 1 0 + lost t map ws = sum_by-cons (λ z. cond (loses t map z) 1 0) w ws in
+    let gained_rest : gained (value_in (wrote t w)) map ws ≡ gained (value_in t) map ws = counted_alike (gains (value_in (wrote t w)) map) (gains (value_in t) map) w ws (λ y before. gains_kept t map w y before) later in
+    let lost_rest : lost (value_in (wrote t w)) map ws ≡ lost (value_in t) map ws = counted_alike (loses (value_in (wrote t w)) map) (loses (value_in t) map) w ws (λ y before. loses_kept t map w y before) later in
+    let gained_all : gained (value_in t) map (w ∷ ws) ≡ cond (gains (value_in t) map w) 1 0 + gained (value_in t) map ws = sum_by-cons (λ z. cond (gains (value_in t) map z) 1 0) w ws in
+    let lost_all : lost (value_in t) map (w ∷ ws) ≡ cond (loses (value_in t) map w) 1 0 + lost (value_in t) map ws = sum_by-cons (λ z. cond (loses (value_in t) map z) 1 0) w ws in
     omega (arith, rest, one, size, gained_rest, lost_rest, gained_all, lost_all)
 
 -- so their number is that before, with the gain and without the loss
 pub size_of-changed : (t : Tables) (ws : List Write) (map : List ℕ) → is_ordered ws ≡ true →
-    size_of (wrote_all t ws) map ≡ size_of t map + gained t map ws - lost t map ws
+    size_of (wrote_all t ws) map ≡ size_of t map + gained (value_in t) map ws - lost (value_in t) map ws
 size_of-changed t ws map ordered = omega (arith, size_of-wrote_all t ws map ordered)

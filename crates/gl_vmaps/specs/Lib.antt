@@ -2,7 +2,8 @@ pub mod Name
 pub mod Writes
 pub mod Tables
 pub mod Versions
-pub mod Fields
-pub mod Scan
 pub mod Kept
+pub mod Standing
+pub mod LastWrite
+pub mod Changes
 pub mod Growth

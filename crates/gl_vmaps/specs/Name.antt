@@ -1,23 +1,34 @@
 -- The names of maps, keys and values, as bytes, with their limits (CCF documentation, "Key-Value Store").
-use Rattle.std.specs.Prelude.{ℕ, List, Bool, ◌&&◌, codes, length, nat_le, nat_eq}
+use Rattle.std.specs.Prelude.{ℕ, List, Bool, ◌&&◌, codes, length, nat_le, nat_lt, nat_eq}
+use Rattle.std.specs.Char.{is_ascii_graphic}
 use Rattle.std.specs.List.{list_all, starts_with}
-use Rattle.gl_base.specs.Field.{are_bytes}
 
--- A printable byte that is no space: 21 to 7e in hexadecimal.
-abbrev pub is_name_byte : ℕ → Bool
-is_name_byte byte = nat_le 33 byte && nat_le byte 126
+-- The greatest length of a map's name, of a key and of a value.
+abbrev pub map_name_limit : ℕ
+map_name_limit = 128
 
--- A map's name has 1 to 128 such bytes.
+abbrev pub key_limit : ℕ
+key_limit = 1024
+
+abbrev pub value_limit : ℕ
+value_limit = 65536
+
+-- Each number is a byte.
+abbrev pub are_bytes : List ℕ → Bool
+are_bytes xs = list_all (λ x. nat_lt x 256) xs
+
+-- A map's name has 1 byte at least, all of them ASCII that prints and is no space.
 abbrev pub is_map_name : List ℕ → Bool
-is_map_name name = nat_le 1 (length name) && nat_le (length name) 128 && list_all is_name_byte name
+is_map_name name =
+    nat_le 1 (length name) && nat_le (length name) map_name_limit && list_all is_ascii_graphic name
 
--- A key has 1 to 1,024 bytes.
+-- A key has 1 byte at least.
 abbrev pub is_key : List ℕ → Bool
-is_key key = nat_le 1 (length key) && nat_le (length key) 1024 && are_bytes key
+is_key key = nat_le 1 (length key) && nat_le (length key) key_limit && are_bytes key
 
--- A value has 0 to 65,536 bytes.
+-- A value may be empty.
 abbrev pub is_value : List ℕ → Bool
-is_value value = nat_le (length value) 65536 && are_bytes value
+is_value value = nat_le (length value) value_limit && are_bytes value
 
 -- Application requests may name public maps alone.
 abbrev pub is_public : List ℕ → Bool

@@ -1,5 +1,5 @@
 -- The writes of a ledger at their places, what they make of the tables, and the versions of keys and maps.
-use Rattle.std.specs.Prelude.{ℕ, ◌<◌, List, [], ◌∷◌, Bool, ◌&&◌, map, filter, max, nat_le, if◌then◌else◌}
+use Rattle.std.specs.Prelude.{ℕ, ◌<◌, ◌≤◌, List, [], ◌∷◌, Bool, ◌&&◌, map, filter, max, nat_le, if◌then◌else◌}
 use Rattle.std.specs.List.{AllByRecursion}
 use Rattle.gl_vmaps.specs.Tables.{Tables, no_tables, same_bytes, wrote}
 use Rattle.gl_vmaps.specs.declared.write.Write.{Write}
@@ -45,6 +45,11 @@ map_version_in ps map = greatest_place (is_to_map map) ps
 -- The writes at or below a place.
 abbrev pub up_to : ℕ → List Placed → List Placed
 up_to place ps = filter (λ (p : Placed). nat_le p.place place) ps
+
+-- No write has a place above that of one behind it.
+abbrev pub AreRising : List Placed → Type 0
+AreRising [] = Unit {0}
+AreRising (p ∷ ps) = AllByRecursion (λ (later : Placed). p.place ≤ later.place) ps × AreRising ps
 
 -- The place is above those of all these writes.
 abbrev pub IsAbove : ℕ → List Placed → Type 0

@@ -3,18 +3,13 @@
 //! make.
 #![tactic(auto)]
 
-mod fields;
 mod name;
 mod scan;
 mod tables;
 mod write;
 
-pub use fields::{
-    put_key, put_map, put_optional_value, put_value, put_write, read_key, read_map,
-    read_optional_value, read_value,
-};
-pub use name::{Key, MapName, Value};
-pub use tables::Tables;
+pub use name::{KEY_LIMIT, Key, MAP_NAME_LIMIT, MapName, VALUE_LIMIT, Value};
+pub use tables::{Tables, Version};
 pub use write::{Write, Writes};
 
 #[cfg(test)]

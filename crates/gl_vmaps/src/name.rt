@@ -1,34 +1,26 @@
 //! The names of maps, keys and values, within their limits (CCF documentation, "Key-Value Store").
 
 ghost use Rattle.std.specs.Prelude.{◌≡◌, ◌↔◌, IsTrue, IsSome, IfSome, IfOk};
+ghost use Rattle.std.specs.Char.{is_ascii_graphic};
 ghost use Rattle.std.specs.List.{list_all};
-ghost use Rattle.gl_vmaps.specs.Name.{is_name_byte, is_map_name, is_key, is_value, is_public, is_governance, is_internal};
+ghost use Rattle.gl_vmaps.specs.Name.{is_map_name, is_key, is_value};
 
 use std::alloc::{AllocError, Global};
 use std::marker::Model;
 
-fn is_printable(bytes: &[u8]) -> bool
-    ensures { result ≡ list_all is_name_byte bytes.now }
-{
-    bytes.iter().all(|byte| b'!' <= *byte && *byte <= b'~')
-}
+/// The greatest length of a map's name, in bytes.
+pub const MAP_NAME_LIMIT: usize = 128;
 
-pub(crate) fn is_map_name(bytes: &[u8]) -> bool
-    ensures { result ≡ is_map_name bytes.now }
-{
-    1 <= bytes.len() && bytes.len() <= 128 && is_printable(bytes)
-}
+/// The greatest length of a key, in bytes.
+pub const KEY_LIMIT: usize = 1024;
 
-pub(crate) fn is_key(bytes: &[u8]) -> bool
-    ensures { result ≡ is_key bytes.now }
-{
-    1 <= bytes.len() && bytes.len() <= 1024
-}
+/// The greatest length of a value, in bytes.
+pub const VALUE_LIMIT: usize = 65536;
 
-pub(crate) fn is_value(bytes: &[u8]) -> bool
-    ensures { result ≡ is_value bytes.now }
+fn are_printable(bytes: &[u8]) -> bool
+    ensures { result ≡ list_all is_ascii_graphic bytes.now }
 {
-    bytes.len() <= 65536
+    bytes.iter().all(|byte| byte.is_ascii_graphic())
 }
 
 /// The name of a map: 1 to 128 bytes from 21 to 7e (hexadecimal), which are the printable ones of
@@ -51,7 +43,36 @@ impl Model for MapName {
 }
 
 impl MapName {
-    /// A name in memory of its own. Fails for want of memory alone.
+    /// Whether the bytes are a map's name.
+    pub fn is_valid(bytes: &[u8]) -> bool
+        ensures { result ≡ is_map_name bytes.now }
+    {
+        1 <= bytes.len()
+            && bytes.len() <= MAP_NAME_LIMIT
+            && are_printable(bytes)
+    }
+
+    /// The name of these bytes, or `None` where they are none.
+    pub fn new(bytes: Vec<u8>) -> Option<Self>
+        ensures valid { IsSome result ↔ IsTrue (is_map_name bytes.items) }
+        ensures value { IfSome result (λ name. name ≡ bytes.items) }
+    {
+        if Self::is_valid(&bytes) {
+            Some(MapName { bytes })
+        } else {
+            None
+        }
+    }
+
+    /// The name of bytes that are known to be one. Takes no memory.
+    pub fn of(bytes: Vec<u8>) -> Self
+        requires { IsTrue (is_map_name bytes.items) }
+        ensures { result ≡ bytes.items }
+    {
+        MapName { bytes }
+    }
+
+    /// The same as `of`, in memory of its own. Fails for want of memory alone.
     pub fn from_slice(alloc: Global, bytes: &[u8]) -> Result<Self, AllocError>
         requires { IsTrue (is_map_name bytes.now) }
         ensures { IfOk result (λ name. name ≡ bytes.now) }
@@ -70,23 +91,10 @@ impl MapName {
         })
     }
 
-    /// The name of these bytes. `None` where they are too few or too many, or one of them is no
-    /// printable byte.
-    pub fn new(bytes: Vec<u8>) -> Option<Self>
-        ensures valid { IsSome result ↔ IsTrue (is_map_name bytes.items) }
-        ensures value { IfSome result (λ name. name ≡ bytes.items) }
-    {
-        if is_map_name(&bytes) {
-            Some(MapName { bytes })
-        } else {
-            None
-        }
-    }
-
     /// The bytes, in order.
     pub fn as_slice(&self) -> &[u8]
         ensures value { result.now ≡ self.now }
-        ensures name { IsTrue (is_map_name self.now) }
+        ensures valid { IsTrue (is_map_name self.now) }
     {
         &self.bytes
     }
@@ -110,7 +118,34 @@ impl Model for Key {
 }
 
 impl Key {
-    /// A key in memory of its own. Fails for want of memory alone.
+    /// Whether the bytes are a key.
+    pub fn is_valid(bytes: &[u8]) -> bool
+        ensures { result ≡ is_key bytes.now }
+    {
+        1 <= bytes.len() && bytes.len() <= KEY_LIMIT
+    }
+
+    /// The key of these bytes, or `None` where they are none.
+    pub fn new(bytes: Vec<u8>) -> Option<Self>
+        ensures valid { IsSome result ↔ IsTrue (is_key bytes.items) }
+        ensures value { IfSome result (λ key. key ≡ bytes.items) }
+    {
+        if Self::is_valid(&bytes) {
+            Some(Key { bytes })
+        } else {
+            None
+        }
+    }
+
+    /// The key of bytes that are known to be one. Takes no memory.
+    pub fn of(bytes: Vec<u8>) -> Self
+        requires { IsTrue (is_key bytes.items) }
+        ensures { result ≡ bytes.items }
+    {
+        Key { bytes }
+    }
+
+    /// The same as `of`, in memory of its own. Fails for want of memory alone.
     pub fn from_slice(alloc: Global, bytes: &[u8]) -> Result<Self, AllocError>
         requires { IsTrue (is_key bytes.now) }
         ensures { IfOk result (λ key. key ≡ bytes.now) }
@@ -129,22 +164,10 @@ impl Key {
         })
     }
 
-    /// The key of these bytes. `None` where there are none, or more than 1,024.
-    pub fn new(bytes: Vec<u8>) -> Option<Self>
-        ensures valid { IsSome result ↔ IsTrue (is_key bytes.items) }
-        ensures value { IfSome result (λ key. key ≡ bytes.items) }
-    {
-        if is_key(&bytes) {
-            Some(Key { bytes })
-        } else {
-            None
-        }
-    }
-
     /// The bytes, in order.
     pub fn as_slice(&self) -> &[u8]
         ensures value { result.now ≡ self.now }
-        ensures key { IsTrue (is_key self.now) }
+        ensures valid { IsTrue (is_key self.now) }
     {
         &self.bytes
     }
@@ -168,12 +191,41 @@ impl Model for Value {
 }
 
 impl Value {
-    /// A value of bytes that are known to be few enough.
+    /// Whether the bytes are a value.
+    pub fn is_valid(bytes: &[u8]) -> bool
+        ensures { result ≡ is_value bytes.now }
+    {
+        bytes.len() <= VALUE_LIMIT
+    }
+
+    /// The value of these bytes, or `None` where they are none.
+    pub fn new(bytes: Vec<u8>) -> Option<Self>
+        ensures valid { IsSome result ↔ IsTrue (is_value bytes.items) }
+        ensures value { IfSome result (λ value. value ≡ bytes.items) }
+    {
+        if Self::is_valid(&bytes) {
+            Some(Value { bytes })
+        } else {
+            None
+        }
+    }
+
+    /// The value of bytes that are known to be one. Takes no memory.
     pub fn of(bytes: Vec<u8>) -> Self
         requires { IsTrue (is_value bytes.items) }
         ensures { result ≡ bytes.items }
     {
         Value { bytes }
+    }
+
+    /// The same as `of`, in memory of its own. Fails for want of memory alone.
+    pub fn from_slice(alloc: Global, bytes: &[u8]) -> Result<Self, AllocError>
+        requires { IsTrue (is_value bytes.now) }
+        ensures { IfOk result (λ value. value ≡ bytes.now) }
+    {
+        Ok(Value {
+            bytes: Vec::from_slice(alloc, bytes)?,
+        })
     }
 
     /// The same bytes in memory of their own. Fails for want of memory alone.
@@ -185,22 +237,10 @@ impl Value {
         })
     }
 
-    /// The value of these bytes. `None` where they are more than 65,536.
-    pub fn new(bytes: Vec<u8>) -> Option<Self>
-        ensures valid { IsSome result ↔ IsTrue (is_value bytes.items) }
-        ensures value { IfSome result (λ value. value ≡ bytes.items) }
-    {
-        if is_value(&bytes) {
-            Some(Value { bytes })
-        } else {
-            None
-        }
-    }
-
     /// The bytes, in order.
     pub fn as_slice(&self) -> &[u8]
         ensures value { result.now ≡ self.now }
-        ensures limit { IsTrue (is_value self.now) }
+        ensures valid { IsTrue (is_value self.now) }
     {
         &self.bytes
     }

@@ -5,8 +5,8 @@ ghost use Rattle.std.specs.Option.{option_copied};
 ghost use Rattle.gl_vmaps.specs.Name.{is_value};
 ghost use Rattle.gl_vmaps.specs.Tables.{value_in, size_of};
 ghost use Rattle.gl_vmaps.specs.Versions.{is_to_map, is_to_row, written_by, version_in, map_version_in};
-ghost use Rattle.gl_vmaps.specs.Scan.{last_to_row, last_to_map, stands};
-ghost use Rattle.gl_vmaps.specs.Kept.{placed, AreRising};
+ghost use Rattle.gl_vmaps.specs.Changes.{last_to_row, last_to_map, stands};
+ghost use Rattle.gl_vmaps.specs.Changes.{placed, AreInOrder};
 
 use crate::tables::Change;
 use crate::write::Write;
@@ -64,7 +64,7 @@ pub(crate) fn value_in<'a>(changes: &'a [Change], map: &[u8], key: &[u8]) -> Opt
 
 /// The greatest place of a change to a row, 0 where there is none.
 pub(crate) fn version_in(changes: &[Change], map: &[u8], key: &[u8]) -> u64
-    requires { AreRising changes.now }
+    requires { AreInOrder changes.now }
     ensures { result ≡ version_in (placed changes.now) map.now key.now }
 {
     match last_to_row(changes, map, key) {
@@ -75,7 +75,7 @@ pub(crate) fn version_in(changes: &[Change], map: &[u8], key: &[u8]) -> u64
 
 /// The greatest place of a change to a map, 0 where there is none.
 pub(crate) fn map_version_in(changes: &[Change], map: &[u8]) -> u64
-    requires { AreRising changes.now }
+    requires { AreInOrder changes.now }
     ensures { result ≡ map_version_in (placed changes.now) map.now }
 {
     match last_to_map(changes, map) {

@@ -1,13 +1,10 @@
 //! The limits, the bytes and the tables against values worked out by hand.
 
-ghost use Rattle.std.specs.Prelude.{ℕ, ◌<◌};
-ghost use Rattle.gl_vmaps.specs.Versions.{IsAbove};
+ghost use Rattle.std.specs.Prelude.{ℕ, List, ◌≡◌, ◌≤◌, ◌<◌};
+ghost use Rattle.gl_vmaps.specs.Kept.{version_of};
 
-use crate::{
-    Key, MapName, Tables, Value, Write, Writes, put_optional_value, put_write, read_key, read_map,
-    read_optional_value, read_value,
-};
-use gl_base::{CodeError, CodeFault, Cut, CutFault};
+use crate::{Key, MapName, Tables, Value, Write, Writes};
+
 use std::alloc::{AllocError, Global};
 use std::test::Fail;
 
@@ -58,8 +55,11 @@ fn has_value(tables: &Tables, map: &[u8], key: &[u8], value: &[u8]) -> bool {
 
 // One more entry, behind which others may come.
 fn apply(tables: &mut Tables, place: u64, writes: &Writes) -> Result<(), AllocError>
-    requires { IsAbove place tables.old }
-    ensures { (later : ℕ) → place < later → IsAbove later tables.new }
+    requires base { tables.old.base < place }
+    requires above { (map key : List ℕ) → version_of tables.old map key < place }
+    ensures base { tables.new.base ≡ tables.old.base }
+    ensures compacted { tables.new.compacted ≡ tables.old.compacted }
+    ensures last { (map key : List ℕ) → version_of tables.new map key ≤ place }
 {
     tables.apply(place, writes)
 }
@@ -108,56 +108,6 @@ fn keeps_names_keys_and_values_within_their_limits(rt: HostRuntime) -> Result<()
         assert_eq!(rt; value.is_some(), want, "a value of {count}");
     }
     Ok(())
-}
-
-#[test]
-fn spells_a_write_and_reads_it_again(rt: HostRuntime) -> Result<(), Fail> {
-    let mut out = Vec::new(rt.alloc());
-    put_write(&mut out, &set(rt.alloc(), b"public:a", b"k", b"vw")?)?;
-    let spelled = b"\x08public:a\x01\x00k\x01\x02\x00\x00\x00vw";
-    assert_eq!(rt; out.as_slice(), spelled.as_slice());
-    put_optional_value(&mut out, None)?;
-
-    let mut cut = Cut::new(&out);
-    let map = read_map(rt.alloc(), &mut cut)?;
-    assert_eq!(rt; map.as_slice(), b"public:a".as_slice());
-    let key = read_key(rt.alloc(), &mut cut)?;
-    assert_eq!(rt; key.as_slice(), b"k".as_slice());
-    let value = read_optional_value(rt.alloc(), &mut cut)?.ok_or("no value")?;
-    assert_eq!(rt; value.as_slice(), b"vw".as_slice());
-    assert!(rt; read_optional_value(rt.alloc(), &mut cut)?.is_none());
-    assert_eq!(rt; cut.rest().len(), 0);
-    Ok(())
-}
-
-#[test]
-fn tells_which_field_is_wrong(rt: HostRuntime) {
-    let rows: [(&[u8], CodeFault); 4] = [
-        (b"\x00", CodeFault::Value { at: 0 }),
-        (b"\x02a ", CodeFault::Cut(CutFault::NotText { at: 2 })),
-        (
-            b"\x81",
-            CodeFault::Cut(CutFault::TooLong { at: 0, len: 129 }),
-        ),
-        (b"\x02a", CodeFault::Cut(CutFault::Short { at: 2 })),
-    ];
-    for (bytes, want) in rows {
-        match read_map(rt.alloc(), &mut Cut::new(bytes)) {
-            Ok(_) => panic!(&rt; "read {bytes:?}"),
-            Err(e) => assert_eq!(rt; e, CodeError::Fault(want), "of {bytes:?}"),
-        }
-    }
-    match read_value(rt.alloc(), &mut Cut::new(b"\x01\x00\x01\x00")) {
-        Ok(_) => panic!(&rt; "read a value that is too long"),
-        Err(e) => assert_eq!(rt;
-            e,
-            CodeError::Fault(CodeFault::Cut(CutFault::TooLong { at: 0, len: 65537 }))
-        ),
-    }
-    match read_optional_value(rt.alloc(), &mut Cut::new(b"\x02")) {
-        Ok(_) => panic!(&rt; "read a flag 2"),
-        Err(e) => assert_eq!(rt; e, CodeError::Fault(CodeFault::Value { at: 0 })),
-    }
 }
 
 #[test]

@@ -5,7 +5,7 @@ ghost use Rattle.std.specs.List.{insert, list_all};
 ghost use Rattle.std.specs.Result.{MatchResult};
 ghost use Rattle.gl_vmaps.specs.Writes.{is_write, with_write};
 
-use crate::name::{Key, MapName, Value, is_key, is_map_name, is_value};
+use crate::name::{Key, MapName, Value};
 use std::alloc::{AllocError, Global};
 use std::cmp::Ordering;
 use std::marker::Model;
@@ -53,12 +53,12 @@ impl Write {
         ensures value { result ≡ is_write self.now }
         ensures always { IsTrue result }
     {
-        is_map_name(self.map.as_slice())
-            && is_key(self.key.as_slice())
+        MapName::is_valid(self.map.as_slice())
+            && Key::is_valid(self.key.as_slice())
             && self
                 .value
                 .as_ref()
-                .is_none_or(|value| is_value(value.as_slice()))
+                .is_none_or(|value| Value::is_valid(value.as_slice()))
     }
 }
 
@@ -83,7 +83,7 @@ impl Model for Writes {
 }
 
 impl Writes {
-    ghost use Rattle.std.specs.Prelude.{◌≡◌, [], IsTrue, OnOk, OnErr};
+    ghost use Rattle.std.specs.Prelude.{◌≡◌, [], IsTrue, IfOk, OnOk, OnErr};
     ghost use Rattle.std.specs.List.{AllByRecursion};
     ghost use Rattle.gl_vmaps.specs.Writes.{is_ordered, is_write, with_write};
 
@@ -103,6 +103,17 @@ impl Writes {
     {
         prove!(are_within(&items));
         Writes { items }
+    }
+
+    /// The same writes in memory of their own. Fails for want of memory alone.
+    pub fn copy(&self, alloc: Global) -> Result<Self, AllocError>
+        ensures { IfOk result (λ writes. writes ≡ self.now) }
+    {
+        let mut items = Vec::new(alloc);
+        for write in &self.items {
+            items.push(write.copy(alloc)?)?;
+        }
+        Ok(Writes { items })
     }
 
     /// The writes, in their order.

@@ -1,5 +1,5 @@
 use Rattle.std.proofs.Common.{◌≡◌, ◌+◌, ◌≤◌, drop}
-use Rattle.gl_vmaps.specs.Scan.{standing}
+use Rattle.gl_vmaps.specs.Changes.{standing}
 use Rattle.gl_vmaps.proofs.scan.size_of.Given as goal
 
 -- with those of the changes that are left, all that stand are counted

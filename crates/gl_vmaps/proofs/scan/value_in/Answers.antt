@@ -1,6 +1,6 @@
 use Rattle.std.proofs.Common.{Option, None, ap, sym, ◌∙◌}
 use Rattle.std.specs.Option.{option_map}
-use Rattle.gl_vmaps.specs.Scan.{value_behind}
+use Rattle.gl_vmaps.specs.LastWrite.{value_behind}
 use Rattle.gl_vmaps.specs.declared.tables.Change.{Change}
 use Rattle.gl_vmaps.proofs.Changes.{written, value_in-placed}
 use Rattle.gl_vmaps.proofs.scan.value_in.Goals as goal

@@ -1,6 +1,6 @@
 use Rattle.std.proofs.Common.{nat_le, rules, tests, ap, sym, ◌∙◌}
 use Rattle.std.proofs.lemmas.List.Sorted.{IsPartitionedBy-leb, IsPartitionPoint-from_clause}
-use Rattle.gl_vmaps.specs.Kept.{placed}
+use Rattle.gl_vmaps.specs.Changes.{placed}
 use Rattle.gl_vmaps.specs.declared.tables.Change.{Change}
 use Rattle.gl_vmaps.proofs.Changes.{filter_front, up_to-placed}
 use Rattle.gl_vmaps.proofs.tables.count_up_to.Goals as goal

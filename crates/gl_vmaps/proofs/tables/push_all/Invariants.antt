@@ -1,5 +1,5 @@
 use Rattle.std.proofs.Common.{◌≡◌, ◌++◌, take}
-use Rattle.gl_vmaps.specs.Kept.{changes_at}
+use Rattle.gl_vmaps.specs.Changes.{changes_at}
 use Rattle.gl_vmaps.proofs.tables.push_all.Given as goal
 
 abbrev pub invariant-loop-write : goal.invariant-loop-write

@@ -5,7 +5,7 @@ use Rattle.std.specs.Option.{option_or, option_map}
 use Rattle.std.proofs.lemmas.Grind.{reverse_onto}
 use Rattle.std.proofs.lemmas.List.{reverse-append}
 use Rattle.std.proofs.lemmas.List.Folds.{find-append}
-use Rattle.gl_vmaps.specs.Scan.{last_such}
+use Rattle.gl_vmaps.specs.LastWrite.{last_such}
 
 -- that of a longer list is that of the rest, or the first
 pub last_such-cons : {A : Type 0} (is_such : A → Bool) (x : A) (xs : List A) →

@@ -7,7 +7,9 @@ use Rattle.std.proofs.lemmas.List.Folds.{list_all-append}
 use Rattle.gl_vmaps.specs.Name.{is_key}
 use Rattle.gl_vmaps.specs.Versions.{is_to_map}
 use Rattle.gl_vmaps.specs.declared.write.Write.{Write}
-use Rattle.gl_tx.specs.Sees.{Sees, write_to, value_behind, has_key, gains, loses, behind}
+use Rattle.gl_vmaps.specs.Growth.{gains, loses, gained, lost}
+use Rattle.gl_vmaps.specs.LastWrite.{value_behind}
+use Rattle.gl_tx.specs.Sees.{Sees, write_to, has_key, behind}
 use Rattle.gl_tx.specs.Run.{Performed, Ran, answer_only, answer_and_write, yes_or_no, value_or_none, add_result, is_expected, check_result, follow_result, bar_on, unless_barred, on_seen, perform_result, with_answer, goes_on, run_from, with_writes}
 use Rattle.gl_tx.specs.Asks.{row_asks, rows_written, key_asks, allowed_asks, asks_unless_barred, asks_of, asks_behind, asks_from}
 use Rattle.gl_tx.specs.declared.abort.Abort.{Abort}
@@ -39,29 +41,46 @@ value-alike known s t ws map key alike is = go (write_to map key ws) is
     go (Some w) h = refl
 
 -- the rows of a map that a write set writes were there in both, or in neither
-counted-alike : (known : Ask → Bool) (s t : Sees) (ws : List Write) (map : List ℕ) → AreAlike known s t →
-    list_all known (rows_written map ws) ≡ true →
-    (count_by (gains s map) ws ≡ count_by (gains t map) ws) × (count_by (loses s map) ws ≡ count_by (loses t map) ws)
-counted-alike known s t [] map alike is = (refl, refl)
-counted-alike known s t (w ∷ ws) map alike is = go (is_to_map map w) refl is
+gained-alike : (known : Ask → Bool) (s t : Sees) (ws : List Write) (map : List ℕ) → AreAlike known s t →
+    list_all known (rows_written map ws) ≡ true → gained s.value map ws ≡ gained t.value map ws
+gained-alike known s t [] map alike is = refl
+gained-alike known s t (w ∷ ws) map alike is = go (is_to_map map w) is (gained-alike known s t ws map alike)
   where
-    go : (b : Bool) → is_to_map map w ≡ b → list_all known (cond b (asks.Row w.map w.key ∷ rows_written map ws) (rows_written map ws)) ≡ true →
-        (count_by (gains s map) (w ∷ ws) ≡ count_by (gains t map) (w ∷ ws)) × (count_by (loses s map) (w ∷ ws) ≡ count_by (loses t map) (w ∷ ws))
-    go true e h =
-        let both = and_parts (known (asks.Row w.map w.key)) (list_all known (rows_written map ws)) h in
-        let rest = counted-alike known s t ws map alike both.1 in
-        let here = alike (asks.Row w.map w.key) both.0 in (rw (e, here, rest.0) refl, rw (e, here, rest.1) refl)
-    go false e h = let rest = counted-alike known s t ws map alike h in (rw (e, rest.0) refl, rw (e, rest.1) refl)
+    go : (b : Bool) → list_all known (cond b (asks.Row map w.key ∷ rows_written map ws) (rows_written map ws)) ≡ true →
+        (list_all known (rows_written map ws) ≡ true → gained s.value map ws ≡ gained t.value map ws) →
+        cond (b && is_some w.value && not (is_some (s.value map w.key))) 1 0 + gained s.value map ws
+        ≡ cond (b && is_some w.value && not (is_some (t.value map w.key))) 1 0 + gained t.value map ws
+    go true h again =
+        let both = and_parts (known (asks.Row map w.key)) (list_all known (rows_written map ws)) h in
+        ap (λ (v : Option (List ℕ)). cond (is_some w.value && not (is_some v)) 1 0 + gained s.value map ws) (alike (asks.Row map w.key) both.0)
+        ∙ ap (λ (n : ℕ). cond (is_some w.value && not (is_some (t.value map w.key))) 1 0 + n) (again both.1)
+    go false h again = ap (λ (n : ℕ). 0 + n) (again h)
+
+lost-alike : (known : Ask → Bool) (s t : Sees) (ws : List Write) (map : List ℕ) → AreAlike known s t →
+    list_all known (rows_written map ws) ≡ true → lost s.value map ws ≡ lost t.value map ws
+lost-alike known s t [] map alike is = refl
+lost-alike known s t (w ∷ ws) map alike is = go (is_to_map map w) is (lost-alike known s t ws map alike)
+  where
+    go : (b : Bool) → list_all known (cond b (asks.Row map w.key ∷ rows_written map ws) (rows_written map ws)) ≡ true →
+        (list_all known (rows_written map ws) ≡ true → lost s.value map ws ≡ lost t.value map ws) →
+        cond (b && is_none w.value && is_some (s.value map w.key)) 1 0 + lost s.value map ws
+        ≡ cond (b && is_none w.value && is_some (t.value map w.key)) 1 0 + lost t.value map ws
+    go true h again =
+        let both = and_parts (known (asks.Row map w.key)) (list_all known (rows_written map ws)) h in
+        ap (λ (v : Option (List ℕ)). cond (is_none w.value && is_some v) 1 0 + lost s.value map ws) (alike (asks.Row map w.key) both.0)
+        ∙ ap (λ (n : ℕ). cond (is_none w.value && is_some (t.value map w.key)) 1 0 + n) (again both.1)
+    go false h again = ap (λ (n : ℕ). 0 + n) (again h)
 
 size-alike : (known : Ask → Bool) (s t : Sees) (ws : List Write) (map : List ℕ) → AreAlike known s t →
     list_all known (asks.Map map ∷ rows_written map ws) ≡ true → (behind s ws).size map ≡ (behind t ws).size map
 size-alike known s t ws map alike is =
     let both = and_parts (known (asks.Map map)) (list_all known (rows_written map ws)) is in
     let before = alike (asks.Map map) both.0 in
-    let counted = counted-alike known s t ws map alike both.1 in
-    ap (λ (n : ℕ). n + count_by (gains s map) ws - count_by (loses s map) ws) before
-    ∙ ap (λ (n : ℕ). t.size map + n - count_by (loses s map) ws) counted.0
-    ∙ ap (λ (n : ℕ). t.size map + count_by (gains t map) ws - n) counted.1
+    let more = gained-alike known s t ws map alike both.1 in
+    let less = lost-alike known s t ws map alike both.1 in
+    ap (λ (n : ℕ). n + gained s.value map ws - lost s.value map ws) before
+    ∙ ap (λ (n : ℕ). t.size map + n - lost s.value map ws) more
+    ∙ ap (λ (n : ℕ). t.size map + gained t.value map ws - n) less
 
 -- a value that is followed, where the key that it is is known
 follow-alike : (known : Ask → Bool) (s t : Sees) (ws : List Write) (target : List ℕ) (v : Option (List ℕ)) → AreAlike known s t →

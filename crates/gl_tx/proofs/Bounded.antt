@@ -12,7 +12,7 @@ use Rattle.gl_vmaps.specs.Tables.{same_bytes}
 use Rattle.gl_vmaps.specs.Versions.{is_to_map}
 use Rattle.gl_vmaps.specs.Writes.{write_order, put_before, with_write}
 use Rattle.gl_vmaps.specs.declared.write.Write.{Write}
-use Rattle.gl_vmaps.proofs.TablesLaws.{same_bytes-itself}
+use Rattle.gl_vmaps.proofs.TablesLaws.{same_bytes-itself, same_bytes-eq}
 use Rattle.gl_tx.specs.Request.{is_count}
 use Rattle.gl_tx.specs.Sees.{Sees, write_to, behind}
 use Rattle.gl_tx.specs.Run.{Performed, perform_result, with_writes}
@@ -268,11 +268,15 @@ among-row_asks ws map key a h = go (is_some (write_to map key ws)) h
 
 among-rows_written : (map : List ℕ) (ws : List Write) (a : Ask) → Among (rows_written map ws) a → Among (rows ws) a
 among-rows_written map [] a h = h
-among-rows_written map (w ∷ ws) a h = go (is_to_map map w) h
+among-rows_written map (w ∷ ws) a h = go (is_to_map map w) refl h
   where
-    go : (b : Bool) → Among (cond b (row_of w ∷ rows_written map ws) (rows_written map ws)) a → Among (rows (w ∷ ws)) a
-    go true here = elim here [ inl e ↦ inl e | inr there ↦ inr (among-rows_written map ws a there) ]
-    go false there = inr (among-rows_written map ws a there)
+    go : (b : Bool) → is_to_map map w ≡ b → Among (cond b (asks.Row map w.key ∷ rows_written map ws) (rows_written map ws)) a → Among (rows (w ∷ ws)) a
+    go true is here =
+        elim here [
+          | inl e ↦ inl (ap (λ (m : List ℕ). asks.Row m w.key) (sym (same_bytes-eq map w.map is)) ∙ e)
+          | inr there ↦ inr (among-rows_written map ws a there)
+        ]
+    go false is there = inr (among-rows_written map ws a there)
 
 abbrev IsCharged : Operation → Sees → List Write → Ask → Type 0
 IsCharged o s ws a = Among (charges o s ws) a ⊎ Among (rows ws) a

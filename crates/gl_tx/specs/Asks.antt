@@ -22,7 +22,7 @@ row_asks ws map key = if is_some (write_to map key ws) then [] else asks.Row map
 abbrev pub rows_written : List ℕ → List Write → List Ask
 rows_written map [] = []
 rows_written map (w ∷ ws) =
-    if is_to_map map w then asks.Row w.map w.key ∷ rows_written map ws else rows_written map ws
+    if is_to_map map w then asks.Row map w.key ∷ rows_written map ws else rows_written map ws
 
 -- A value that is a key is asked for in the map in which it is followed.
 abbrev pub key_asks : List Write → List ℕ → Option (List ℕ) → List Ask

@@ -1,5 +1,6 @@
 -- A request that reads its rows one at a time and then runs at once, unless what it read has changed.
 use Rattle.std.specs.Prelude.{ℕ, ◌-◌, ◌^◌, List, [], ◌∷◌, ◌++◌, Option, None, Some, Result, Ok, Err, Bool, not, ◌||◌, ◌==◌, nat_lt, if◌then◌else◌}
+use Rattle.gl_vmaps.specs.Kept.{Kept, version_of, map_version_of}
 use Rattle.gl_vmaps.specs.Versions.{Placed, written_by, version_in, map_version_in}
 use Rattle.gl_tx.specs.Sees.{Sees, sees_in, sees_of}
 use Rattle.gl_tx.specs.Run.{Ran, run_seeing}
@@ -55,8 +56,8 @@ versioned_by ps = record {
 }
 
 -- The tables that a program keeps.
-abbrev pub versioned_of : List Placed → Versioned
-versioned_of t = record { sees = sees_of t; version = version_in t; map_version = map_version_in t }
+abbrev pub versioned_of : Kept → Versioned
+versioned_of t = record { sees = sees_of t; version = version_of t; map_version = map_version_of t }
 
 -- The count of cuts has changed, or stands at its last value, from which it doesn't rise.
 abbrev pub is_rolled_back : ℕ → ℕ → Bool

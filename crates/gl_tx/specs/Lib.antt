@@ -1,5 +1,4 @@
 pub mod Request
-pub mod Reading
 pub mod Abort
 pub mod Sees
 pub mod Run

@@ -1,8 +1,10 @@
 -- What a run sees: the value of each row, and the number of each map's keys.
-use Rattle.std.specs.Prelude.{ℕ, ◌+◌, ◌-◌, List, Option, None, Some, Bool, ◌&&◌, not, is_some, find, count_by}
-use Rattle.std.specs.Option.{is_none}
+use Rattle.std.specs.Prelude.{ℕ, ◌+◌, ◌-◌, List, Option, Bool, is_some, find}
+use Rattle.gl_vmaps.specs.Growth.{gained, lost}
+use Rattle.gl_vmaps.specs.Kept.{Kept, value_of, count_of}
+use Rattle.gl_vmaps.specs.LastWrite.{value_behind}
 use Rattle.gl_vmaps.specs.Tables.{Tables, value_in, size_of}
-use Rattle.gl_vmaps.specs.Versions.{Placed, written_by, is_to_map, is_to_row}
+use Rattle.gl_vmaps.specs.Versions.{is_to_row}
 use Rattle.gl_vmaps.specs.declared.write.Write.{Write}
 
 -- To each map and key the value, if the map has that key, and to each map the number of its keys.
@@ -15,8 +17,8 @@ abbrev pub sees_in : Tables → Sees
 sees_in tables = record { value = value_in tables; size = size_of tables }
 
 -- What is seen of the tables that a program keeps.
-abbrev pub sees_of : List Placed → Sees
-sees_of t = sees_in (written_by t)
+abbrev pub sees_of : Kept → Sees
+sees_of t = record { value = value_of t; size = count_of t }
 
 -- The map is seen to have the key.
 abbrev pub has_key : Sees → List ℕ → List ℕ → Bool
@@ -26,22 +28,10 @@ has_key sees map key = is_some (sees.value map key)
 abbrev pub write_to : List ℕ → List ℕ → List Write → Option Write
 write_to map key ws = find (is_to_row map key) ws
 
--- What a row was written to, and without a write what it was before.
-abbrev pub value_behind : Option Write → Option (List ℕ) → Option (List ℕ)
-value_behind None before = before
-value_behind (Some w) before = w.value
-
--- The write sets a row that its map did not have; or removes one that it had.
-abbrev pub gains : Sees → List ℕ → Write → Bool
-gains sees map w = is_to_map map w && is_some w.value && not (has_key sees w.map w.key)
-
-abbrev pub loses : Sees → List ℕ → Write → Bool
-loses sees map w = is_to_map map w && is_none w.value && has_key sees w.map w.key
-
 -- What is seen behind a write set: each row as the set has it, or else as it was; and each map's number
 -- of keys with those that the set adds, and without those that it removes.
 abbrev pub behind : Sees → List Write → Sees
 behind sees ws = record {
   value = λ map key. value_behind (write_to map key ws) (sees.value map key);
-  size = λ map. sees.size map + count_by (gains sees map) ws - count_by (loses sees map) ws;
+  size = λ map. sees.size map + gained sees.value map ws - lost sees.value map ws;
 }

@@ -7,8 +7,6 @@ mod asks;
 mod attempt;
 mod bytes;
 mod conflict;
-mod decoding;
-mod encoding;
 mod lookup;
 mod notes;
 mod overlay;
@@ -25,5 +23,3 @@ pub use runs::{Ran, RunError, run};
 
 #[cfg(test)]
 mod run_tests;
-#[cfg(test)]
-mod tests;

@@ -24,7 +24,8 @@ pub(crate) struct Overlay<'a, L: Lookup> {
 impl<'a, L: Lookup> Overlay<'a, L> {
     ghost use Rattle.std.specs.Prelude.{◌+◌, ◌<◌, [], is_some, OnOk};
     ghost use Rattle.gl_vmaps.specs.Writes.{with_write};
-    ghost use Rattle.gl_tx.specs.Sees.{behind, has_key, gains, loses};
+    ghost use Rattle.gl_tx.specs.Sees.{behind, has_key};
+    ghost use Rattle.gl_vmaps.specs.Growth.{gains, loses};
 
     /// What stands before a request, with nothing written.
     pub(crate) fn new(alloc: Global, base: &'a L) -> Self
@@ -64,25 +65,23 @@ impl<'a, L: Lookup> Overlay<'a, L> {
 
     /// Whether a write sets a row of the map that was absent.
     fn gains(&self, map: &[u8], write: &Write) -> bool
-        ensures { result ≡ gains (L.sees self.now.base.now) map.now write.now }
+        ensures { result ≡ gains (L.sees self.now.base.now).value map.now write.now }
     {
-        is_to_map(write, map) && write.value.is_some() && !self.had(write)
+        is_to_map(write, map) && write.value.is_some() && !self.had(map, write)
     }
 
     /// Whether a write removes a row of the map that was there.
     fn loses(&self, map: &[u8], write: &Write) -> bool
-        ensures { result ≡ loses (L.sees self.now.base.now) map.now write.now }
+        ensures { result ≡ loses (L.sees self.now.base.now).value map.now write.now }
     {
-        is_to_map(write, map) && write.value.is_none() && self.had(write)
+        is_to_map(write, map) && write.value.is_none() && self.had(map, write)
     }
 
-    /// Whether the row of a write was there before the request.
-    fn had(&self, write: &Write) -> bool
-        ensures { result ≡ has_key (L.sees self.now.base.now) write.now.map write.now.key }
+    /// Whether the map had the key of a write before the request.
+    fn had(&self, map: &[u8], write: &Write) -> bool
+        ensures { result ≡ has_key (L.sees self.now.base.now) map.now write.now.key }
     {
-        self.base
-            .get(write.map.as_slice(), write.key.as_slice())
-            .is_some()
+        self.base.get(map, write.key.as_slice()).is_some()
     }
 
     /// The number of keys that the map has.

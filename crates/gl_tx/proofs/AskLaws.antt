@@ -1,0 +1,46 @@
+-- The first ask that isn't noted, part by part.
+use Rattle.std.proofs.Common.{◌≡◌, ℕ, List, [], ◌∷◌, ◌++◌, Option, None, Some, Result, Ok, Err, Bool, true, false, not, ◌&&◌, ◌||◌, refl, sym, ap, ◌∙◌, cond, find, is_some}
+use Rattle.std.specs.Option.{option_or}
+use Rattle.std.proofs.lemmas.List.Folds.{find-append}
+use Rattle.gl_vmaps.specs.Name.{is_key}
+use Rattle.gl_vmaps.specs.Versions.{is_to_map}
+use Rattle.gl_vmaps.specs.declared.write.Write.{Write}
+use Rattle.gl_tx.specs.Sees.{Sees, write_to, behind}
+use Rattle.gl_tx.specs.Run.{Performed, perform_result, with_writes}
+use Rattle.gl_tx.specs.Asks.{row_asks, rows_written, key_asks, asks_of, asks_behind, asks_from, is_noted, first_unnoted}
+use Rattle.gl_tx.specs.declared.abort.Cause.{Cause}
+use Rattle.gl_tx.specs.declared.notes.Ask.{Ask}
+use Rattle.gl_tx.specs.declared.notes.Ask.TheVariants as asks
+use Rattle.gl_tx.specs.declared.notes.Note.{Note}
+use Rattle.gl_tx.specs.declared.request.Operation.{Operation}
+
+pub first_unnoted-append : (ns : List Note) (xs ys : List Ask) → first_unnoted ns (xs ++ ys) ≡ option_or (first_unnoted ns xs) (first_unnoted ns ys)
+first_unnoted-append ns xs ys = find-append (λ (ask : Ask). not (is_noted ns ask)) xs ys
+
+unless : (known : Bool) (ask : Ask) → cond (not known) (Some ask) None ≡ cond known None (Some ask)
+unless true ask = refl
+unless false ask = refl
+
+pub first_unnoted-row : (ns : List Note) (ws : List Write) (map key : List ℕ) → first_unnoted ns (row_asks ws map key)
+    ≡ cond (is_some (write_to map key ws) || is_noted ns (asks.Row map key)) None (Some (asks.Row map key))
+first_unnoted-row ns ws map key = go (is_some (write_to map key ws))
+  where
+    go : (b : Bool) → first_unnoted ns (cond b [] (asks.Row map key ∷ []))
+        ≡ cond (b || is_noted ns (asks.Row map key)) None (Some (asks.Row map key))
+    go true = refl
+    go false = unless (is_noted ns (asks.Row map key)) (asks.Row map key)
+
+pub first_unnoted-written : (ns : List Note) (map : List ℕ) (w : Write) (ws : List Write) → first_unnoted ns (rows_written map (w ∷ ws))
+    ≡ cond (is_to_map map w && not (is_noted ns (asks.Row map w.key))) (Some (asks.Row map w.key)) (first_unnoted ns (rows_written map ws))
+first_unnoted-written ns map w ws = go (is_to_map map w)
+  where
+    go : (b : Bool) → first_unnoted ns (cond b (asks.Row map w.key ∷ rows_written map ws) (rows_written map ws))
+        ≡ cond (b && not (is_noted ns (asks.Row map w.key))) (Some (asks.Row map w.key)) (first_unnoted ns (rows_written map ws))
+    go true = refl
+    go false = refl
+
+-- what a run asks for first is what its first operation does, or else what the rest does
+pub first_unnoted-from : (ns : List Note) (o : Operation) (os : List Operation) (s : Sees) (ws : List Write) → first_unnoted ns (asks_from (o ∷ os) s ws)
+    ≡ option_or (first_unnoted ns (asks_of o s ws))
+      (first_unnoted ns (asks_behind (λ done. asks_from os s (with_writes ws done.write)) (perform_result o (behind s ws))))
+first_unnoted-from ns o os s ws = first_unnoted-append ns (asks_of o s ws) (asks_behind (λ done. asks_from os s (with_writes ws done.write)) (perform_result o (behind s ws)))

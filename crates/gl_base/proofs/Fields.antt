@@ -4,9 +4,11 @@ use Rattle.std.specs.List.{position}
 use Rattle.std.proofs.Math.Seq.{take-append_seam, drop-append_seam}
 use Rattle.std.proofs.lemmas.Bool.Decides.{nat_tests}
 use Rattle.std.proofs.lemmas.List.{take-append-drop, length-take-le}
-use Rattle.gl_base.specs.LittleEndian.{little_endian, AreBytes}
-use Rattle.gl_base.specs.declared.cut_fault.CutFault.{CutFault}
-use Rattle.gl_base.specs.Cut.{Unread, bytes_at, number_at, string_at, text_at, all_text, is_no_text, field_spelling, FitsField, FitsText, Gives}
+use Rattle.gl_base.specs.LittleEndian.{little_endian}
+use Rattle.gl_base.proofs.ByteLists.{AreBytes}
+use Rattle.gl_base.specs.Field.{field_spelling}
+use Rattle.gl_base.specs.declared.fault.CutFault.{CutFault}
+use Rattle.gl_base.specs.Cut.{Unread, bytes_at, number_at, string_at, text_at, all_text, is_no_text, FitsField, FitsText, Gives}
 use Rattle.gl_base.proofs.LittleEndianLaws.{length-little_endian, from_little_endian-little_endian, little_endian-from_little_endian}
 use Rattle.gl_base.proofs.Numbers.{Taken, bytes_at_ok, bytes_at_length, number_at_ok, string_at_ok}
 use Rattle.gl_base.proofs.Steps.{bind_ok, ok_injective}

@@ -2,7 +2,10 @@ pub mod Steps
 pub mod Numerals
 pub mod Pieces
 pub mod TxIdText
+pub mod ByteLists
 pub mod LittleEndianBytes
 pub mod Numbers
 pub mod LittleEndianLaws
 pub mod Fields
+pub mod Names
+pub mod RowLaws

@@ -2,10 +2,8 @@
 use Rattle.std.proofs.Common.{◌≡◌, ℕ, zero, suc, ◌+◌, ◌*◌, ◌/◌, ◌%◌, ◌^◌, ◌<◌, List, [], ◌∷◌, length, refl, ap, arith}
 use Rattle.std.proofs.lemmas.Nat.{div-mul-add, mod-mul-add, div_below}
 use Rattle.std.proofs.Math.Nat.{pow-suc}
-use Rattle.gl_base.specs.LittleEndian.{little_endian, from_little_endian, AreBytes}
-
-pub AreBytes-tail : (x : ℕ) (xs : List ℕ) → AreBytes (x ∷ xs) → AreBytes xs
-AreBytes-tail x xs all i = all (suc i)
+use Rattle.gl_base.specs.LittleEndian.{little_endian, from_little_endian}
+use Rattle.gl_base.proofs.ByteLists.{AreBytes, AreBytes-tail}
 
 pub length-little_endian : (size n : ℕ) → length (little_endian size n) ≡ size
 unfolding little_endian

@@ -3,8 +3,8 @@ use Rattle.std.proofs.Common.{◌≡◌, ℕ, ◌+◌, ◌≤◌, nat_lt, cond, 
 use Rattle.std.proofs.lemmas.Bool.Decides.{nat_tests}
 use Rattle.std.proofs.lemmas.List.{length-take-le}
 use Rattle.gl_base.specs.LittleEndian.{from_little_endian}
-use Rattle.gl_base.specs.declared.cut_fault.CutFault.{CutFault}
-use Rattle.gl_base.specs.declared.cut_fault.CutFault.TheVariants.{Short, TooLong}
+use Rattle.gl_base.specs.declared.fault.CutFault.{CutFault}
+use Rattle.gl_base.specs.declared.fault.CutFault.TheVariants.{Short, TooLong}
 use Rattle.gl_base.specs.Cut.{Unread, end_of, bytes_at, number_at, string_at}
 use Rattle.gl_base.proofs.Steps.{cond_ok, bind_ok, ok_injective}
 

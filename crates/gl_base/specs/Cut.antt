@@ -1,10 +1,10 @@
 -- Fields read from the front of bytes, from left to right, and the first fault that is met.
 use Rattle.std.specs.Prelude.{◌≡◌, ◌≢◌, ℕ, ◌+◌, ◌/◌, ◌^◌, ◌<◌, ◌≤◌, Bool, not, List, ◌++◌, length, take, drop, Option, None, Some, Result, Ok, Err, position, ◌==◌, nat_lt, if◌then◌else◌, ◌⊎◌}
-use Rattle.std.specs.Int.{is_in_range}
+use Rattle.std.specs.Char.{is_ascii_graphic}
 use Rattle.gl_base.specs.LittleEndian.{little_endian, from_little_endian}
 use Rattle.gl_base.specs.Steps.{◌>>=◌}
-use Rattle.gl_base.specs.declared.cut_fault.CutFault.{CutFault}
-use Rattle.gl_base.specs.declared.cut_fault.CutFault.TheVariants.{Short, TooLong, NotText}
+use Rattle.gl_base.specs.declared.fault.CutFault.{CutFault}
+use Rattle.gl_base.specs.declared.fault.CutFault.TheVariants.{Short, TooLong, NotText}
 
 -- The bytes that are still to be read, and the place of the first of them among all the bytes.
 pub record Unread : Type 0 where
@@ -33,17 +33,9 @@ string_at size limit unread = do
   len ← number_at size unread
   if nat_lt limit len.0 then Err (TooLong unread.at len.0) else bytes_at len.0 len.1
 
--- The width of a length in bits; with the width 0 there is none, and the limit is the count.
-abbrev pub IsWidth : ℕ → Type 0
-IsWidth width = (width ≡ 0) ⊎ (width ≡ 8) ⊎ (width ≡ 16) ⊎ (width ≡ 32)
-
--- A field of bytes by the width of its length.
+-- A field of bytes by the width of its length in bits; with the width 0 the limit is the count.
 abbrev pub field_at : ℕ → ℕ → Unread → Result (List ℕ × Unread) CutFault
 field_at width limit unread = if width == 0 then bytes_at limit unread else string_at (width / 8) limit unread
-
--- How such a field is spelled.
-abbrev pub field_spelling : ℕ → List ℕ → List ℕ
-field_spelling width xs = if width == 0 then xs else little_endian (width / 8) (length xs) ++ xs
 
 -- The bytes that such a field may hold.
 pub record FitsField (width limit : ℕ) (xs : List ℕ) : Type 0 where
@@ -52,7 +44,7 @@ pub record FitsField (width limit : ℕ) (xs : List ℕ) : Type 0 where
 
 -- A byte of a name is a visible ASCII character.
 abbrev pub is_no_text : ℕ → Bool
-is_no_text byte = not (is_in_range 0x21 0x7e byte)
+is_no_text byte = not (is_ascii_graphic byte)
 
 -- The bytes of a field, which begin at a place, are all text, or else the place of the first that isn't is told.
 abbrev pub all_text : ℕ → (List ℕ × Unread) → Option ℕ → Result (List ℕ × Unread) CutFault
@@ -72,6 +64,6 @@ pub record FitsText (limit : ℕ) (xs : List ℕ) : Type 0 where
   pub visible : position is_no_text xs ≡ None
 
 -- What a read gave, seen by view, and what it left are what the reading gives; after a fault all is as before.
-abbrev pub Gives : {X Y : Type 0} → (X → Y) → Result X CutFault → Unread → Unread → Result (Y × Unread) CutFault → Type 0
+abbrev pub Gives : {X Y F : Type 0} → (X → Y) → Result X F → Unread → Unread → Result (Y × Unread) F → Type 0
 Gives view (Ok x) old new reading = reading ≡ Ok (view x, new)
 Gives view (Err fault) old new reading = (reading ≡ Err fault) × (new ≡ old)

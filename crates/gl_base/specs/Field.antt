@@ -1,14 +1,6 @@
--- Fields of bytes behind their length, which is a number with the low byte first.
-use Rattle.std.specs.Prelude.{ℕ, List, ◌++◌, Bool, length, nat_lt}
-use Rattle.std.specs.List.{list_all}
+-- How fields of bytes are spelled: behind their length, which is a number with the low byte first.
+use Rattle.std.specs.Prelude.{◌≡◌, ◌≢◌, ◌⊎◌, ℕ, List, ◌++◌, ◌<◌, ◌^◌, ◌/◌, ◌==◌, length, if◌then◌else◌}
 use Rattle.gl_base.specs.LittleEndian.{little_endian}
-
--- A number that a byte can hold.
-abbrev pub is_byte : ℕ → Bool
-is_byte n = nat_lt n 256
-
-abbrev pub are_bytes : List ℕ → Bool
-are_bytes xs = list_all is_byte xs
 
 -- A length in one byte, and so many bytes.
 abbrev pub with_u8_length : List ℕ → List ℕ
@@ -21,3 +13,15 @@ with_u16_length bytes = little_endian 2 (length bytes) ++ bytes
 -- A length in four bytes, and so many bytes.
 abbrev pub with_u32_length : List ℕ → List ℕ
 with_u32_length bytes = little_endian 4 (length bytes) ++ bytes
+
+-- The width of a length in bits; with the width 0 there is none.
+abbrev pub IsWidth : ℕ → Type 0
+IsWidth width = (width ≡ 0) ⊎ (width ≡ 8) ⊎ (width ≡ 16) ⊎ (width ≡ 32)
+
+-- Bytes behind a length of a width, or alone.
+abbrev pub field_spelling : ℕ → List ℕ → List ℕ
+field_spelling width xs = if width == 0 then xs else little_endian (width / 8) (length xs) ++ xs
+
+-- The length of the bytes can be spelled in this width, if there is a length.
+abbrev pub FitsWidth : ℕ → List ℕ → Type 0
+FitsWidth width xs = width ≢ 0 → length xs < 256 ^ (width / 8)

@@ -1,5 +1,5 @@
 -- Numbers as bytes, the least significant byte first.
-use Rattle.std.specs.Prelude.{ℕ, zero, suc, ◌+◌, ◌*◌, ◌/◌, ◌%◌, ◌<◌, List, [], ◌∷◌, slice_index}
+use Rattle.std.specs.Prelude.{ℕ, zero, suc, ◌+◌, ◌*◌, ◌/◌, ◌%◌, List, [], ◌∷◌}
 
 -- The bytes that spell a number, so many of them.
 unfoldable pub little_endian : ℕ → ℕ → List ℕ
@@ -10,7 +10,3 @@ little_endian (suc size) n = n % 256 ∷ little_endian size (n / 256)
 abbrev pub from_little_endian : List ℕ → ℕ
 from_little_endian [] = 0
 from_little_endian (byte ∷ bytes) = byte + 256 * from_little_endian bytes
-
--- Each number of the list is a byte.
-abbrev pub AreBytes : List ℕ → Type 0
-AreBytes xs = (i : ℕ) → slice_index xs i < 256

@@ -1,8 +1,8 @@
 -- The status of a transaction (CCF documentation, "Transaction status"), told by what one node knows.
 use Rattle.std.specs.Prelude.{ℕ, Bool, false, Option, Some, None, ◌==◌, nat_lt, nat_le, if◌then◌else◌}
 use Rattle.gl_base.specs.declared.tx_id.TxId.{TxId}
-use Rattle.gl_base.specs.declared.status_kind.Status.{Status}
-use Rattle.gl_base.specs.declared.status_kind.Status.TheVariants.{Unknown, Pending, Committed, Invalid}
+use Rattle.gl_base.specs.declared.tx_id.Status.{Status}
+use Rattle.gl_base.specs.declared.tx_id.Status.TheVariants.{Unknown, Pending, Committed, Invalid}
 
 -- The node holds this transaction: the entry at its place, if any, is of its view.
 abbrev pub is_held : TxId → Option ℕ → Bool

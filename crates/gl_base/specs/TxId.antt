@@ -7,12 +7,20 @@ use Rattle.gl_base.specs.declared.tx_id.TxId.{TxId}
 use Rattle.gl_base.specs.declared.tx_id.TxIdFault.{TxIdFault}
 use Rattle.gl_base.specs.declared.tx_id.TxIdFault.TheVariants.{Empty, Digit, LeadingZero, TooBig, Zero, NoDot}
 
+-- A service begins in view 2.
+abbrev pub first_view : ℕ
+first_view = 2
+
 -- A view is a u32, and a place has 40 bits.
 abbrev pub last_view : ℕ
 last_view = 2 ^ 32 - 1
 
 abbrev pub last_seqno : ℕ
 last_seqno = 2 ^ 40 - 1
+
+-- The greatest u64, at which a count stands still.
+abbrev pub last_count : ℕ
+last_count = 2 ^ 64 - 1
 
 -- An identifier that some transaction may have: view and seqno begin at 1.
 pub record IsTxId (id : TxId) : Type 0 where

@@ -1,23 +1,31 @@
-//! Transaction identifiers, their status, and the fields that every format is made of.
+//! What every other crate stands on: transaction identifiers and their status, the fields that every
+//! format is made of, lists of their own, and what a call answers that may run out of memory.
 #![tactic(auto)]
 
-mod code_fault;
+mod bytes;
 mod cut;
-mod cut_fault;
+mod fault;
+mod json;
 mod number;
+mod or_no_memory;
 mod put;
-mod status_kind;
-mod status_of;
+mod sequence;
 mod tx_id;
 mod tx_id_text;
+mod tx_status;
 
-pub use code_fault::{CodeError, CodeFault};
+pub use bytes::{MEBIBYTE, same_bytes};
 pub use cut::Cut;
-pub use cut_fault::CutFault;
-pub use put::{put_bytes, put_u8, put_u16, put_u32, put_u48, put_u64};
-pub use status_kind::Status;
-pub use status_of::status;
-pub use tx_id::{TxId, TxIdFault};
+pub use fault::{CodeFault, CutFault};
+pub use json::{FormsFault, Pointer};
+pub use or_no_memory::OrNoMemory;
+pub use put::{
+    put_bytes, put_field, put_key, put_map_name, put_optional_value, put_u8, put_u16, put_u32, put_u48,
+    put_u64, put_value,
+};
+pub use sequence::{Bytes, Sequence};
+pub use tx_id::{FIRST_VIEW, LAST_SEQNO, LAST_VIEW, Status, TxId, TxIdFault};
+pub use tx_status::status;
 
 #[cfg(test)]
 mod tests;

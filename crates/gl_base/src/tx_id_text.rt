@@ -1,21 +1,19 @@
 //! The text of a transaction identifier, both ways.
 
-ghost use Rattle.std.specs.Prelude.{◌≡◌, ◌++◌, ℕ, ◌+◌, ◌-◌, ◌^◌, ◌<◌, ◌≤◌, length, take, drop, position, min, Ok, None, Some, IfOk};
+ghost use Rattle.std.specs.Prelude.{◌≡◌, ◌++◌, ℕ, ◌+◌, ◌-◌, ◌^◌, ◌<◌, ◌≤◌, length, take, drop, position, min, vec_len, Ok, None, Some, IfOk, OnOk, OnErr};
 ghost use Rattle.std.specs.Str.Parse.{AllDigits, digits_value};
-ghost use Rattle.gl_base.specs.TxId.{last_view, last_seqno, IsTxId, text_of, is_dot, is_no_digit, in_range, digits_read, part_read, sides_read, parsed};
+ghost use Rattle.gl_base.specs.TxId.{last_view, last_seqno, last_count, IsTxId, text_of, is_dot, is_no_digit, in_range, digits_read, part_read, sides_read, parsed};
 ghost use Rattle.gl_base.specs.declared.tx_id.TxId.{TxId as Id};
 
-use crate::tx_id::{TxId, TxIdFault};
+use crate::put::{put_bytes, undo_on_err};
+use crate::tx_id::{LAST_SEQNO, LAST_VIEW, TxId, TxIdFault};
 use itoa::Buffer;
-
-const LAST_VIEW: u64 = 0xffff_ffff;
-
-const LAST_SEQNO: u64 = 0xff_ffff_ffff;
+use std::alloc::AllocError;
 
 /// The number that the digits spell, or the last u64 where it is greater.
 fn capped_value(digits: &[u8]) -> u64
     requires { AllDigits 10 digits.now }
-    ensures { result ≡ min (2 ^ 64 - 1) (digits_value 10 digits.now) }
+    ensures { result ≡ min last_count (digits_value 10 digits.now) }
 {
     let mut value: u64 = 0;
     for digit in digits {
@@ -42,7 +40,7 @@ fn in_range(limit: u64, value: u64) -> Result<u64, TxIdFault>
 #[tactic(auto, unfolding(crate::specs::TxId::digits_read))]
 fn read_digits(start: usize, limit: u64, digits: &[u8]) -> Result<u64, TxIdFault>
     requires digits { AllDigits 10 digits.now }
-    requires limit { limit < 2 ^ 64 - 1 }
+    requires limit { limit < last_count }
     ensures exact { result ≡ digits_read start limit digits.now }
     ensures within { IfOk result (λ n. n ≤ limit) }
 {
@@ -67,7 +65,7 @@ fn first_dot(text: &[u8]) -> Option<usize>
 #[tactic(auto, unfolding(crate::specs::TxId::part_read))]
 fn read_part(start: usize, limit: u64, part: &[u8]) -> Result<u64, TxIdFault>
     requires start { start + length part.now < 2 ^ 64 }
-    requires limit { limit < 2 ^ 64 - 1 }
+    requires limit { limit < last_count }
     ensures exact { result ≡ part_read start limit part.now }
     ensures within { IfOk result (λ n. n ≤ limit) }
 {
@@ -87,7 +85,7 @@ fn read_sides(text: &[u8], dot: usize) -> Result<TxId, TxIdFault>
 {
     let (left, _) = text.split_at(dot);
     let (_, right) = text.split_at(dot + 1);
-    let view = read_part(0, LAST_VIEW, left)?;
+    let view = read_part(0, u64::from(LAST_VIEW), left)?;
     let seqno = read_part(dot + 1, LAST_SEQNO, right)?;
     Ok(TxId {
         view: view as u32,
@@ -121,6 +119,17 @@ fn put(out: &mut [u8], at: usize, piece: &[u8]) -> usize
     at + piece.len()
 }
 
+/// Writes the text behind what the list holds. What was written before want of memory stays.
+fn put_text(out: &mut Vec<u8>, id: TxId) -> Result<(), AllocError>
+    ensures put { OnOk result (out.new.items ≡ out.old.items ++ text_of id) }
+    ensures front { take (vec_len out.old) out.new.items ≡ out.old.items }
+{
+    let mut buffer = Buffer::new();
+    put_bytes(out, buffer.format(id.view).as_bytes())?;
+    put_bytes(out, b".")?;
+    put_bytes(out, buffer.format(id.seqno).as_bytes())
+}
+
 impl TxId {
     /// Reads the text `view.seqno`, both in decimal without sign or leading zero.
     pub fn parse(text: &[u8]) -> Result<TxId, TxIdFault>
@@ -145,5 +154,16 @@ impl TxId {
         let len = put(out, 0, buffer.format(self.view).as_bytes());
         let len = put(out, len, b".");
         put(out, len, buffer.format(self.seqno).as_bytes())
+    }
+
+    /// Writes the text `view.seqno` behind what the list holds, also of numbers that no transaction
+    /// has. Want of memory leaves the list as it was.
+    pub fn push_text(self, out: &mut Vec<u8>) -> Result<(), AllocError>
+        ensures put { OnOk result (out.new.items ≡ out.old.items ++ text_of self) }
+        ensures kept { OnErr result (out.new.items ≡ out.old.items) }
+    {
+        let before = out.len();
+        let written = put_text(out, self);
+        undo_on_err(out, before, written)
     }
 }

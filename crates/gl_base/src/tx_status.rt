@@ -1,8 +1,7 @@
 ghost use Rattle.std.specs.Prelude.{◌≡◌};
 ghost use Rattle.gl_base.specs.Status.{status_of};
 
-use crate::status_kind::Status;
-use crate::tx_id::TxId;
+use crate::tx_id::{Status, TxId};
 
 /// The status of a transaction at a node: `local` is the view of the entry that the node holds at
 /// the asked place, if it holds one, and `committed` the last transaction that it knows committed.

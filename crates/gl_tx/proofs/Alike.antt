@@ -1,17 +1,19 @@
 -- A run rests on nothing but what it asks for.
-use Rattle.std.proofs.Common.{◌≡◌, ℕ, suc, ◌+◌, ◌-◌, List, [], ◌∷◌, ◌++◌, Option, None, Some, Result, Ok, Err, Bool, true, false, not, ◌&&◌, refl, sym, ap, ◌∙◌, subst, cond, find, is_some, count_by, absurd}
+use Rattle.std.proofs.Common.{◌≡◌, ℕ, suc, ◌+◌, ◌-◌, List, [], ◌∷◌, ◌++◌, Option, None, Some, Result, Ok, Err, Bool, true, false, not, ◌&&◌, refl, sym, ap, ◌∙◌, subst, cond, find, is_some, count_by}
 use Rattle.std.specs.Option.{is_none}
 use Rattle.std.specs.List.{list_all}
 use Rattle.std.proofs.lemmas.Bool.{and_parts}
 use Rattle.std.proofs.lemmas.List.Folds.{list_all-append}
+use Rattle.std.proofs.lemmas.List.Sums.{sum_by-cons}
 use Rattle.gl_vmaps.specs.Name.{is_key}
 use Rattle.gl_vmaps.specs.Versions.{is_to_map}
 use Rattle.gl_vmaps.specs.declared.write.Write.{Write}
 use Rattle.gl_vmaps.specs.Growth.{gains, loses, gained, lost}
 use Rattle.gl_vmaps.specs.LastWrite.{value_behind}
 use Rattle.gl_tx.specs.Sees.{Sees, write_to, has_key, behind}
-use Rattle.gl_tx.specs.Run.{Performed, Ran, answer_only, answer_and_write, yes_or_no, value_or_none, add_result, is_expected, check_result, follow_result, bar_on, unless_barred, on_seen, perform_result, with_answer, goes_on, run_from, with_writes}
+use Rattle.gl_tx.specs.Run.{answer_only, answer_and_write, yes_or_no, value_or_none, add_result, is_expected, check_result, follow_result, bar_on, unless_barred, on_seen, perform_result, with_answer, goes_on, run_from, with_writes}
 use Rattle.gl_tx.specs.Asks.{row_asks, rows_written, key_asks, allowed_asks, asks_unless_barred, asks_of, asks_behind, asks_from}
+use Rattle.gl_tx.specs.declared.perform.Performed.{Performed}
 use Rattle.gl_tx.specs.declared.abort.Abort.{Abort}
 use Rattle.gl_tx.specs.declared.abort.Cause.{Cause}
 use Rattle.gl_tx.specs.declared.abort.Cause.TheVariants as causes
@@ -44,7 +46,10 @@ value-alike known s t ws map key alike is = go (write_to map key ws) is
 gained-alike : (known : Ask → Bool) (s t : Sees) (ws : List Write) (map : List ℕ) → AreAlike known s t →
     list_all known (rows_written map ws) ≡ true → gained s.value map ws ≡ gained t.value map ws
 gained-alike known s t [] map alike is = refl
-gained-alike known s t (w ∷ ws) map alike is = go (is_to_map map w) is (gained-alike known s t ws map alike)
+gained-alike known s t (w ∷ ws) map alike is =
+    sum_by-cons (λ (z : Write). cond (gains s.value map z) 1 0) w ws
+    ∙ go (is_to_map map w) is (gained-alike known s t ws map alike)
+    ∙ sym (sum_by-cons (λ (z : Write). cond (gains t.value map z) 1 0) w ws)
   where
     go : (b : Bool) → list_all known (cond b (asks.Row map w.key ∷ rows_written map ws) (rows_written map ws)) ≡ true →
         (list_all known (rows_written map ws) ≡ true → gained s.value map ws ≡ gained t.value map ws) →
@@ -59,7 +64,10 @@ gained-alike known s t (w ∷ ws) map alike is = go (is_to_map map w) is (gained
 lost-alike : (known : Ask → Bool) (s t : Sees) (ws : List Write) (map : List ℕ) → AreAlike known s t →
     list_all known (rows_written map ws) ≡ true → lost s.value map ws ≡ lost t.value map ws
 lost-alike known s t [] map alike is = refl
-lost-alike known s t (w ∷ ws) map alike is = go (is_to_map map w) is (lost-alike known s t ws map alike)
+lost-alike known s t (w ∷ ws) map alike is =
+    sum_by-cons (λ (z : Write). cond (loses s.value map z) 1 0) w ws
+    ∙ go (is_to_map map w) is (lost-alike known s t ws map alike)
+    ∙ sym (sum_by-cons (λ (z : Write). cond (loses t.value map z) 1 0) w ws)
   where
     go : (b : Bool) → list_all known (cond b (asks.Row map w.key ∷ rows_written map ws) (rows_written map ws)) ≡ true →
         (list_all known (rows_written map ws) ≡ true → lost s.value map ws ≡ lost t.value map ws) →

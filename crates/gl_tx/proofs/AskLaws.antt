@@ -1,12 +1,12 @@
 -- The first ask that isn't noted, part by part.
-use Rattle.std.proofs.Common.{◌≡◌, ℕ, List, [], ◌∷◌, ◌++◌, Option, None, Some, Result, Ok, Err, Bool, true, false, not, ◌&&◌, ◌||◌, refl, sym, ap, ◌∙◌, cond, find, is_some}
+use Rattle.std.proofs.Common.{◌≡◌, ℕ, suc, ◌<◌, length, drop, drop-cons, get_or, List, [], ◌∷◌, ◌++◌, Option, None, Some, Result, Ok, Err, Bool, true, false, not, ◌&&◌, ◌||◌, refl, sym, ap, ◌∙◌, cond, find, is_some}
 use Rattle.std.specs.Option.{option_or}
 use Rattle.std.proofs.lemmas.List.Folds.{find-append}
 use Rattle.gl_vmaps.specs.Name.{is_key}
 use Rattle.gl_vmaps.specs.Versions.{is_to_map}
 use Rattle.gl_vmaps.specs.declared.write.Write.{Write}
 use Rattle.gl_tx.specs.Sees.{Sees, write_to, behind}
-use Rattle.gl_tx.specs.Run.{Performed, perform_result, with_writes}
+use Rattle.gl_tx.specs.Run.{perform_result, with_writes}
 use Rattle.gl_tx.specs.Asks.{row_asks, rows_written, key_asks, asks_of, asks_behind, asks_from, is_noted, first_unnoted}
 use Rattle.gl_tx.specs.declared.abort.Cause.{Cause}
 use Rattle.gl_tx.specs.declared.notes.Ask.{Ask}
@@ -44,3 +44,13 @@ pub first_unnoted-from : (ns : List Note) (o : Operation) (os : List Operation) 
     ≡ option_or (first_unnoted ns (asks_of o s ws))
       (first_unnoted ns (asks_behind (λ done. asks_from os s (with_writes ws done.write)) (perform_result o (behind s ws))))
 first_unnoted-from ns o os s ws = first_unnoted-append ns (asks_of o s ws) (asks_behind (λ done. asks_from os s (with_writes ws done.write)) (perform_result o (behind s ws)))
+
+-- the row that is found is the first that isn't noted
+pub written_found : (ns : List Note) (map : List ℕ) (ws : List Write) (i : ℕ) (w : Write) → i < length ws → w ≡ get_or ws i w →
+    is_to_map map w ≡ true → is_noted ns (asks.Row map w.key) ≡ false → first_unnoted ns (rows_written map (drop i ws)) ≡ Some (asks.Row map w.key)
+written_found ns map ws i w within is to new =
+    let next : drop i ws ≡ w ∷ drop (suc i) ws = drop-cons ws i w within ∙ ap (λ (x : Write). x ∷ drop (suc i) ws) (sym is) in
+    ap (λ (xs : List Write). first_unnoted ns (rows_written map xs)) next
+    ∙ first_unnoted-written ns map w (drop (suc i) ws)
+    ∙ ap (λ (b : Bool). cond (b && not (is_noted ns (asks.Row map w.key))) (Some (asks.Row map w.key)) (first_unnoted ns (rows_written map (drop (suc i) ws)))) to
+    ∙ ap (λ (b : Bool). cond (not b) (Some (asks.Row map w.key)) (first_unnoted ns (rows_written map (drop (suc i) ws)))) new

@@ -1,5 +1,5 @@
 -- However long a request is fetched for, at most 128 notes are made: two for each of its operations.
-use Rattle.std.proofs.Common.{◌≡◌, ◌⊎◌, inl, inr, ℕ, zero, suc, ◌+◌, ◌*◌, ◌≤◌, List, [], ◌∷◌, ◌++◌, Option, None, Some, Result, Ok, Err, Bool, true, false, not, ◌&&◌, refl, sym, ap, ◌∙◌, subst, cond, find, is_some, absurd, length, map, arith, length-append, append_assoc}
+use Rattle.std.proofs.Common.{◌≡◌, ◌⊎◌, inl, inr, ℕ, zero, suc, ◌+◌, ◌*◌, ◌≤◌, List, [], ◌∷◌, ◌++◌, Option, None, Some, Result, Ok, Err, Bool, true, false, not, ◌&&◌, refl, sym, ap, ◌∙◌, subst, cond, find, is_some, length, map, arith, length-append, append_assoc}
 use Rattle.std.specs.List.{list_all}
 use Rattle.std.specs.Option.{option_or}
 use Rattle.std.proofs.lemmas.List.{append-nil}
@@ -15,8 +15,9 @@ use Rattle.gl_vmaps.specs.declared.write.Write.{Write}
 use Rattle.gl_vmaps.proofs.TablesLaws.{same_bytes-itself, same_bytes-eq}
 use Rattle.gl_tx.specs.Request.{is_count}
 use Rattle.gl_tx.specs.Sees.{Sees, write_to, behind}
-use Rattle.gl_tx.specs.Run.{Performed, perform_result, with_writes}
+use Rattle.gl_tx.specs.Run.{perform_result, with_writes}
 use Rattle.gl_tx.specs.Asks.{row_asks, rows_written, key_asks, allowed_asks, asks_unless_barred, asks_of, asks_behind, asks_from, is_of_row, is_of_map, note_on, is_noted, value_in_note, size_in_note, sees_by, first_unnoted, next_ask, ask_of, AreAskedBehind, AreAsked}
+use Rattle.gl_tx.specs.declared.perform.Performed.{Performed}
 use Rattle.gl_tx.specs.declared.abort.Cause.{Cause}
 use Rattle.gl_tx.specs.declared.notes.Ask.{Ask}
 use Rattle.gl_tx.specs.declared.notes.Ask.TheVariants as asks
@@ -71,9 +72,9 @@ without (y ∷ ys) a (inr h) =
 
 length-different : {A : Type 0} → (xs ys : List A) → AreDifferent xs → AllAmong xs ys → length xs ≤ length ys
 length-different [] ys all among = omega arith
-length-different (x ∷ xs) ys all among =
+length-different {A} (x ∷ xs) ys all among =
     let less = without ys x (among x (inl refl)) in
-    let rest = length-different xs less.0 all.1 (λ z h. less.2 z (λ e. all.0 (subst (λ y. Among xs y) (sym e) h)) (among z (inr h))) in
+    let rest = length-different xs less.0 all.1 (λ z h. less.2 z (λ e. all.0 (subst (λ (y : A). Among xs y) (sym e) h)) (among z (inr h))) in
     omega (arith, rest, less.1)
 
 -- ---- the known front of a list, and the first behind it that isn't known
@@ -101,38 +102,41 @@ front-known {A} known (x ∷ xs) ys all =
 
 front-unknown : {A : Type 0} → (known : A → Bool) (xs ys : List A) → list_all known xs ≡ false → front known (xs ++ ys) ≡ front known xs
 front-unknown known [] ys all = absurd (cc)
-front-unknown {A} known (x ∷ xs) ys all = go (known x) all
+front-unknown {A} known (x ∷ xs) ys all = go (known x) all (front-unknown known xs ys)
   where
-    go : (b : Bool) → (b && list_all known xs) ≡ false → x ∷ cond b (front known (xs ++ ys)) [] ≡ x ∷ cond b (front known xs) []
-    go true h = ap (λ (zs : List A). x ∷ zs) (front-unknown known xs ys h)
-    go false h = refl
+    go : (b : Bool) → (b && list_all known xs) ≡ false → (list_all known xs ≡ false → front known (xs ++ ys) ≡ front known xs) →
+        x ∷ cond b (front known (xs ++ ys)) [] ≡ x ∷ cond b (front known xs) []
+    go true h again = ap (λ (zs : List A). x ∷ zs) (again h)
+    go false h again = refl
 
 -- the first that isn't known ends the front, and all before it are known
 front-found : {A : Type 0} → (known : A → Bool) (xs : List A) (a : A) → find (λ x. not (known x)) xs ≡ Some a → Among (front known xs) a
 front-found known [] a e = absurd (cc)
-front-found {A} known (x ∷ xs) a e = go (known x) e
+front-found {A} known (x ∷ xs) a e = go (known x) e (front-found known xs a)
   where
-    go : (b : Bool) → cond (not b) (Some x) (find (λ x. not (known x)) xs) ≡ Some a → Among (x ∷ cond b (front known xs) []) a
-    go true h = inr (front-found known xs a h)
-    go false h = let same : x ≡ a = cc in inl same
+    go : (b : Bool) → cond (not b) (Some x) (find (λ x. not (known x)) xs) ≡ Some a → (find (λ x. not (known x)) xs ≡ Some a → Among (front known xs) a) →
+        Among (x ∷ cond b (front known xs) []) a
+    go true h again = inr (again h)
+    go false h again = let same : x ≡ a = cc in inl same
 
 found-unknown : {A : Type 0} → (known : A → Bool) (xs : List A) (a : A) → find (λ x. not (known x)) xs ≡ Some a → known a ≡ false
 found-unknown known [] a e = absurd (cc)
-found-unknown {A} known (x ∷ xs) a e = go (known x) refl e
+found-unknown {A} known (x ∷ xs) a e = go (known x) refl e (found-unknown known xs a)
   where
-    go : (b : Bool) → known x ≡ b → cond (not b) (Some x) (find (λ x. not (known x)) xs) ≡ Some a → known a ≡ false
-    go true is h = found-unknown known xs a h
-    go false is h = let same : x ≡ a = cc in subst (λ (y : A). known y ≡ false) same is
+    go : (b : Bool) → known x ≡ b → cond (not b) (Some x) (find (λ x. not (known x)) xs) ≡ Some a → (find (λ x. not (known x)) xs ≡ Some a → known a ≡ false) → known a ≡ false
+    go true is h again = again h
+    go false is h again = let same : x ≡ a = cc in subst (λ (y : A). known y ≡ false) same is
 
 -- what is in front of it is known to whoever knows it and what was known before
 front-all : {A : Type 0} → (known wider : A → Bool) (xs : List A) (a : A) → ((x : A) → known x ≡ true → wider x ≡ true) → wider a ≡ true →
     find (λ x. not (known x)) xs ≡ Some a → list_all wider (front known xs) ≡ true
 front-all known wider [] a more here e = absurd (cc)
-front-all {A} known wider (x ∷ xs) a more here e = go (known x) refl e
+front-all {A} known wider (x ∷ xs) a more here e = go (known x) refl e (front-all known wider xs a more here)
   where
-    go : (b : Bool) → known x ≡ b → cond (not b) (Some x) (find (λ x. not (known x)) xs) ≡ Some a → list_all wider (x ∷ cond b (front known xs) []) ≡ true
-    go true is h = and_from (wider x) (list_all wider (front known xs)) (more x is) (front-all known wider xs a more here h)
-    go false is h = let same : a ≡ x = cc in and_from (wider x) true (subst (λ (y : A). wider y ≡ true) same here) refl
+    go : (b : Bool) → known x ≡ b → cond (not b) (Some x) (find (λ x. not (known x)) xs) ≡ Some a →
+        (find (λ x. not (known x)) xs ≡ Some a → list_all wider (front known xs) ≡ true) → list_all wider (x ∷ cond b (front known xs) []) ≡ true
+    go true is h again = and_from (wider x) (list_all wider (front known xs)) (more x is) (again h)
+    go false is h again = let same : a ≡ x = cc in and_from (wider x) true (subst (λ (y : A). wider y ≡ true) same here) refl
 
 -- ---- what was asked for so far stays asked for where nothing that is known changes
 
@@ -178,26 +182,29 @@ asks_next os s ws r = asks_behind (λ done. asks_from os s (with_writes ws done.
 
 asks_from-stays : (known : Ask → Bool) (s t : Sees) (os : List Operation) (ws : List Write) → AreAlike known s t → Begins (front known (asks_from os s ws)) (asks_from os t ws)
 asks_from-stays known s t [] ws alike = ([], refl)
-asks_from-stays known s t (o ∷ os) ws alike = go (list_all known (asks_of o s ws)) refl
+asks_from-stays known s t (o ∷ os) ws alike =
+    go (list_all known (asks_of o s ws)) refl (behind-stays (perform_result o (behind s ws)) (λ done. asks_from-stays known s t os (with_writes ws done.write) alike))
   where
     behind-stays : (r : Result Performed Cause) → ((done : Performed) → Begins (front known (asks_from os s (with_writes ws done.write))) (asks_from os t (with_writes ws done.write))) →
         Begins (front known (asks_next os s ws r)) (asks_next os t ws r)
     behind-stays (Err cause) again = ([], refl)
     behind-stays (Ok done) again = again done
 
-    go : (b : Bool) → list_all known (asks_of o s ws) ≡ b → Begins (front known (asks_from (o ∷ os) s ws)) (asks_from (o ∷ os) t ws)
-    go true is =
+    go : (b : Bool) → list_all known (asks_of o s ws) ≡ b →
+        Begins (front known (asks_next os s ws (perform_result o (behind s ws)))) (asks_next os t ws (perform_result o (behind s ws))) →
+        Begins (front known (asks_from (o ∷ os) s ws)) (asks_from (o ∷ os) t ws)
+    go true is again =
         let rest = asks_next os s ws (perform_result o (behind s ws)) in
         let after = asks_next os t ws (perform_result o (behind s ws)) in
         let begins : Begins (asks_of o s ws ++ front known rest) (asks_of o s ws ++ after) =
-        begins-behind (asks_of o s ws) (front known rest) after (behind-stays (perform_result o (behind s ws)) (λ done. asks_from-stays known s t os (with_writes ws done.write) alike)) in
+        begins-behind (asks_of o s ws) (front known rest) after again in
         let first : Begins (front known (asks_of o s ws ++ rest)) (asks_of o s ws ++ after) =
         subst (λ (xs : List Ask). Begins xs (asks_of o s ws ++ after)) (sym (front-known known (asks_of o s ws) rest is)) begins in
         subst (λ (xs : List Ask). Begins (front known (asks_of o s ws ++ rest)) xs)
         (ap (λ (xs : List Ask). xs ++ after) (asks_of-alike known s t ws o alike is)
         ∙ ap (λ (r : Result Performed Cause). asks_of o t ws ++ asks_next os t ws r) (perform_result-alike known s t ws o alike is))
         first
-    go false is =
+    go false is again =
         subst (λ (xs : List Ask). Begins xs (asks_from (o ∷ os) t ws))
         (sym (front-unknown known (asks_of o s ws) (asks_next os s ws (perform_result o (behind s ws))) is))
         (begins-append (front known (asks_of o s ws)) (asks_of o t ws) (asks_next os t ws (perform_result o (behind t ws))) (asks_of-stays known s t ws o alike))
@@ -268,15 +275,16 @@ among-row_asks ws map key a h = go (is_some (write_to map key ws)) h
 
 among-rows_written : (map : List ℕ) (ws : List Write) (a : Ask) → Among (rows_written map ws) a → Among (rows ws) a
 among-rows_written map [] a h = h
-among-rows_written map (w ∷ ws) a h = go (is_to_map map w) refl h
+among-rows_written map (w ∷ ws) a h = go (is_to_map map w) refl h (among-rows_written map ws a)
   where
-    go : (b : Bool) → is_to_map map w ≡ b → Among (cond b (asks.Row map w.key ∷ rows_written map ws) (rows_written map ws)) a → Among (rows (w ∷ ws)) a
-    go true is here =
+    go : (b : Bool) → is_to_map map w ≡ b → Among (cond b (asks.Row map w.key ∷ rows_written map ws) (rows_written map ws)) a →
+        (Among (rows_written map ws) a → Among (rows ws) a) → Among (rows (w ∷ ws)) a
+    go true is here again =
         elim here [
           | inl e ↦ inl (ap (λ (m : List ℕ). asks.Row m w.key) (sym (same_bytes-eq map w.map is)) ∙ e)
-          | inr there ↦ inr (among-rows_written map ws a there)
+          | inr there ↦ inr (again there)
         ]
-    go false is there = inr (among-rows_written map ws a there)
+    go false is there again = inr (again there)
 
 abbrev IsCharged : Operation → Sees → List Write → Ask → Type 0
 IsCharged o s ws a = Among (charges o s ws) a ⊎ Among (rows ws) a
@@ -322,9 +330,6 @@ asks_from-charged [] s ws a h = absurd h
 asks_from-charged (o ∷ os) s ws a h =
     go (perform_result o (behind s ws)) (perform_result-own o (behind s ws)) (λ done. asks_from-charged os s (with_writes ws done.write) a) h
   where
-    charged : Result Performed Cause → List Ask
-    charged r = charges o s ws ++ charges_behind (λ done. charges_from os s (with_writes ws done.write)) r
-
     go : (r : Result Performed Cause) → WritesOwn (own_ask o) r →
         ((done : Performed) → Among (asks_from os s (with_writes ws done.write)) a → Among (charges_from os s (with_writes ws done.write)) a ⊎ Among (rows (with_writes ws done.write)) a) →
         Among (asks_of o s ws ++ asks_next os s ws r) a →
@@ -357,7 +362,7 @@ length-asked (n ∷ ns) = ap suc (length-asked ns)
 
 asked-push : (ns : List Note) (n : Note) → asked (ns ++ n ∷ []) ≡ asked ns ++ ask_of n ∷ []
 asked-push [] n = refl
-asked-push (x ∷ ns) n = ap (λ (as : List Ask). ask_of x ∷ as) (asked-push ns n)
+asked-push (x ∷ ns) n = ap (λ (xs : List Ask). ask_of x ∷ xs) (asked-push ns n)
 
 is_some-or : {A : Type 0} → (a b : Option A) → is_some a ≡ true → option_or a b ≡ a
 is_some-or None b h = absurd (cc)
@@ -385,9 +390,9 @@ is_noted-among : (ns : List Note) (a : Ask) → Among (asked ns) a → is_noted 
 is_noted-among [] a h = absurd h
 is_noted-among (n ∷ ns) a h = go a n (elim h [ inl e ↦ inl e | inr there ↦ inr (is_noted-among ns a there) ])
   where
-    or_there : (b : Bool) (o : Option Note) → is_some o ≡ true → is_some (cond b (Some n) o) ≡ true
-    or_there true o h = refl
-    or_there false o h = h
+    or_there : (b : Bool) (m : Note) (o : Option Note) → is_some o ≡ true → is_some (cond b (Some m) o) ≡ true
+    or_there true m o h = refl
+    or_there false m o h = h
 
     go : (a : Ask) (m : Note) → (ask_of m ≡ a) ⊎ (is_noted ns a ≡ true) → is_noted (m ∷ ns) a ≡ true
     go (asks.Row map key) (notes.Row of at v) (inl e) =
@@ -397,13 +402,13 @@ is_noted-among (n ∷ ns) a h = go a n (elim h [ inl e ↦ inl e | inr there ↦
     go (asks.Row map key) (notes.Map of size) (inl e) = absurd (cc)
     go (asks.Map map) (notes.Row of at v) (inl e) = absurd (cc)
     go (asks.Map map) (notes.Map of size) (inl e) = let same_map : of ≡ map = cc in rw (same_map, same_bytes-itself map) refl
-    go (asks.Row map key) m (inr there) = or_there (is_of_row map key m) (find (is_of_row map key) ns) there
-    go (asks.Map map) m (inr there) = or_there (is_of_map map m) (find (is_of_map map) ns) there
+    go (asks.Row map key) m (inr there) = or_there (is_of_row map key m) m (find (is_of_row map key) ns) there
+    go (asks.Map map) m (inr there) = or_there (is_of_map map m) m (find (is_of_map map) ns) there
 
 is_noted-last : (ns : List Note) (n : Note) → is_noted (ns ++ n ∷ []) (ask_of n) ≡ true
 is_noted-last ns n =
     is_noted-among (ns ++ n ∷ []) (ask_of n)
-    (subst (λ (as : List Ask). Among as (ask_of n)) (sym (asked-push ns n)) (among-back (asked ns) (ask_of n ∷ []) (ask_of n) (inl refl)))
+    (subst (λ (xs : List Ask). Among xs (ask_of n)) (sym (asked-push ns n)) (among-back (asked ns) (ask_of n ∷ []) (ask_of n) (inl refl)))
 
 -- the notes are of different asks, and the run on them asks for each before the first that isn't noted
 abbrev known_asks : List Operation → List Note → List Ask
@@ -417,8 +422,6 @@ record AreReached (os : List Operation) (ns : List Note) : Type 0 where
 still_reached : (os : List Operation) (ns : List Note) (n : Note) (a : Ask) → next_ask os ns ≡ Some (ask_of n) →
     Among (known_asks os ns) a → Among (known_asks os (ns ++ n ∷ [])) a
 still_reached os ns n a next h =
-    let more : List Note = ns ++ n ∷ [] in
-    let earlier : List Ask = known_asks os ns in
     let stays = asks_from-stays (is_noted ns) (sees_by ns) (sees_by (ns ++ n ∷ [])) os [] (alike-more ns n) in
     let known = front-all (is_noted ns) (is_noted (ns ++ n ∷ [])) (asks_from os (sees_by ns) []) (ask_of n) (is_noted-more ns n) (is_noted-last ns n) next in
     subst (λ (xs : List Ask). Among (front (is_noted (ns ++ n ∷ [])) xs) a) stays.1
@@ -435,7 +438,7 @@ reached-more : (os : List Operation) (ns : List Note) (n : Note) → AreReached 
 reached-more os ns n before next = record {
   different = subst AreDifferent (sym (asked-push ns n)) (different-push (asked ns) (ask_of n) before.different (next-new os ns n next));
   reached = λ a h.
-      elim (among-append (asked ns) (ask_of n ∷ []) a (subst (λ (as : List Ask). Among as a) (asked-push ns n) h)) [
+      elim (among-append (asked ns) (ask_of n ∷ []) a (subst (λ (xs : List Ask). Among xs a) (asked-push ns n) h)) [
         | inl f ↦ still_reached os ns n a next (before.reached a f)
         | inr b ↦
             elim b [
@@ -455,7 +458,6 @@ reached-all os before (n ∷ ns) is h =
 -- at most two notes for each operation
 pub length-AreAsked : (os : List Operation) (ns : List Note) → length os ≤ 64 → AreAsked os ns → length ns ≤ 128
 length-AreAsked os ns few h =
-    let s : Sees = sees_by ns in
     let is = reached-all os [] ns (record { different = tt; reached = λ a no. absurd no }) h in
     let begins = front-begins (is_noted ns) (asks_from os (sees_by ns) []) in
     let charged : (a : Ask) → Among (asked ns) a → Among (charges_from os (sees_by ns) []) a =

@@ -1,7 +1,16 @@
 pub mod Values
+pub mod Readings
+pub mod Repeated
+pub mod Fields
+pub mod Operations
+pub mod Replies
+pub mod Formats
 pub mod Writing
 pub mod RunLaws
-pub mod Alike
 pub mod Written
+pub mod Alike
 pub mod Bounded
 pub mod AskLaws
+pub mod Fetching
+pub mod Notes
+pub mod AttemptLaws

@@ -13,17 +13,23 @@ use Rattle.gl_vmaps.specs.declared.write.Write.{Write}
 use Rattle.gl_vmaps.proofs.StandingLaws.{value_of-stands, count_of-stands}
 use Rattle.gl_vmaps.proofs.TablesLaws.{value_in-wrote_all}
 use Rattle.gl_vmaps.proofs.WriteLaws.{last_write-find, size_of-wrote_all}
+use Rattle.gl_base.specs.Answers.{Answers}
+use Rattle.gl_base.specs.declared.or_no_memory.OrNoMemory.{OrNoMemory}
+use Rattle.gl_tx.specs.Run.{run_seeing, run}
+use Rattle.gl_tx.specs.declared.abort.Abort.{Abort}
+use Rattle.gl_tx.specs.declared.request.Operation.{Operation}
+use Rattle.gl_tx.specs.declared.runs.Ran.{Ran}
 use Rattle.gl_tx.specs.Sees.{Sees, sees_in, sees_of, write_to, behind}
 
 -- What is seen behind a write set on a finite map is the finite map that the set was written to.
 pub behind-sees_in : (t : Tables) (ws : List Write) → IsTrue (is_ordered ws) → behind (sees_in t) ws ≡ sees_in (wrote_all t ws)
-behind-sees_in t ws ordered = λ i. record { value = λ map key. sym (value map key) i; size = λ map. size map i }
+behind-sees_in t ws ordered = λ i. record { value = λ map key. sym (value_same map key) i; size = λ map. size_same map i }
   where
-    value : (map key : List ℕ) → value_in (wrote_all t ws) map key ≡ value_behind (write_to map key ws) (value_in t map key)
-    value map key = value_in-wrote_all t ws map key ∙ ap (λ (o : Option Write). value_behind o (value_in t map key)) (last_write-find map key ws ordered)
+    value_same : (map key : List ℕ) → value_in (wrote_all t ws) map key ≡ value_behind (write_to map key ws) (value_in t map key)
+    value_same map key = value_in-wrote_all t ws map key ∙ ap (λ (o : Option Write). value_behind o (value_in t map key)) (last_write-find map key ws ordered)
 
-    size : (map : List ℕ) → size_of t map + gained (value_in t) map ws - lost (value_in t) map ws ≡ size_of (wrote_all t ws) map
-    size map = let all = size_of-wrote_all t ws map ordered in omega (arith, all)
+    size_same : (map : List ℕ) → size_of t map + gained (value_in t) map ws - lost (value_in t) map ws ≡ size_of (wrote_all t ws) map
+    size_same map = let all = size_of-wrote_all t ws map ordered in omega (arith, all)
 
 -- What is seen of tables is what is seen of the finite map that the writes make for which they stand.
 pub sees_of-stands : (t : Kept) (ps : List Placed) → StandsFor t ps → sees_of t ≡ sees_in (written_by ps)
@@ -49,3 +55,8 @@ pub behind_put : {E : Type 0} (P : List Write → Type 0) (r : Result (Unit {0})
     OnOk r (new ≡ owed) → OnErr r (new ≡ old) → P old → P owed → P new
 behind_put P (Ok x) old owed new put kept before after = subst P (sym put) after
 behind_put P (Err e) old owed new put kept before after = subst P (sym kept) before
+
+-- What a run gives on tables it gives on the finite map that the writes make for which they stand.
+pub run-stands : (r : Result Ran (OrNoMemory Abort)) (os : List Operation) (t : Kept) (ps : List Placed) → StandsFor t ps →
+    Answers (λ ran. ran) r (run_seeing os (sees_of t)) → Answers (λ ran. ran) r (run os (written_by ps))
+run-stands r os t ps stands h = subst (λ (s : Sees). Answers (λ ran. ran) r (run_seeing os s)) (sees_of-stands t ps stands) h

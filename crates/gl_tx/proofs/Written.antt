@@ -1,14 +1,16 @@
 -- What a run writes: rows that its operations name, in maps that a request may name.
-use Rattle.std.proofs.Common.{◌≡◌, ℕ, suc, ◌+◌, ◌^◌, nat_lt, List, [], ◌∷◌, Option, None, Some, Result, Ok, Err, Bool, true, false, ◌==◌, refl, sym, ap, ◌∙◌, subst, cond, is_some, absurd, length}
+use Rattle.std.proofs.Common.{◌≡◌, ℕ, suc, ◌+◌, ◌^◌, nat_lt, List, [], ◌∷◌, Option, None, Some, Result, Ok, Err, Bool, true, false, not, ◌||◌, ◌==◌, refl, sym, ap, ◌∙◌, subst, cond, is_some, length}
 use Rattle.std.specs.List.{AllByRecursion}
 use Rattle.std.specs.declared.cmp.Ordering.{Ordering}
 use Rattle.std.specs.declared.cmp.Ordering.TheVariants.{Less, Equal, Greater}
 use Rattle.gl_base.specs.LittleEndian.{little_endian, from_little_endian}
-use Rattle.gl_vmaps.specs.Name.{is_key}
+use Rattle.gl_vmaps.specs.Name.{is_key, is_public, is_governance, is_internal}
 use Rattle.gl_vmaps.specs.Writes.{write_order, put_before, with_write}
 use Rattle.gl_vmaps.specs.declared.write.Write.{Write}
 use Rattle.gl_tx.specs.Sees.{Sees, has_key, behind}
-use Rattle.gl_tx.specs.Run.{Performed, Ran, answer_only, answer_and_write, yes_or_no, value_or_none, sum_result, add_result, is_expected, check_result, follow_result, bar_on_map, bar_on_either, bar_on, unless_barred, on_seen, perform_result, with_answer, goes_on, run_from, with_writes}
+use Rattle.gl_tx.specs.Run.{answer_only, answer_and_write, yes_or_no, value_or_none, sum_result, add_result, is_expected, check_result, follow_result, bar_on_map, bar_on_either, bar_on, unless_barred, on_seen, perform_result, with_answer, goes_on, run_from, run_seeing, with_writes}
+use Rattle.gl_tx.specs.declared.perform.Performed.{Performed}
+use Rattle.gl_tx.specs.declared.runs.Ran.{Ran}
 use Rattle.gl_tx.specs.declared.abort.Abort.{Abort}
 use Rattle.gl_tx.specs.declared.abort.Cause.{Cause}
 use Rattle.gl_tx.specs.declared.abort.Cause.TheVariants as causes
@@ -142,12 +144,12 @@ with_writes-may ws None all may = all
 with_writes-may ws (Some w) all may = with_write-may ws w all may
 
 with_answer-ok : (a : Answer) (r : Result Ran Abort) (ran : Ran) → with_answer a r ≡ Ok ran → (inner : Ran) × (r ≡ Ok inner) × (ran.writes ≡ inner.writes)
-with_answer-ok a (Ok inner) ran e = (inner, refl, ap (λ (x : Ran). x.writes) (let p : ran ≡ record inner { answers = a ∷ inner.answers } = cc in p))
+with_answer-ok a (Ok inner) ran e = (inner, refl, ap (λ (x : Ran). x.writes) (let p : ran ≡ record inner { reply = a ∷ inner.reply } = cc in p))
 with_answer-ok a (Err abort) ran e = absurd (cc)
 
 -- a run writes to maps alone that a request may name
 pub run_from-may : (n : ℕ) (os : List Operation) (s : Sees) (ws : List Write) (ran : Ran) → AllByRecursion MayName ws → run_from n os s ws ≡ Ok ran → AllByRecursion MayName ran.writes
-run_from-may n [] s ws ran all e = subst (λ (x : Ran). AllByRecursion MayName x.writes) (let p : record { answers = []; writes = ws } ≡ ran = cc in p) all
+run_from-may n [] s ws ran all e = subst (λ (x : Ran). AllByRecursion MayName x.writes) (let p : record { reply = []; writes = ws } ≡ ran = cc in p) all
 run_from-may n (o ∷ os) s ws ran all e = go (perform_result o (behind s ws)) refl e (λ done. run_from-may (suc n) os s (with_writes ws done.write))
   where
     go : (r : Result Performed Cause) → perform_result o (behind s ws) ≡ r →
@@ -160,3 +162,19 @@ run_from-may n (o ∷ os) s ws ran all e = go (perform_result o (behind s ws)) r
         let inner = with_answer-ok done.answer (run_from (suc n) os s (with_writes ws done.write)) ran h in
         subst (λ (xs : List Write). AllByRecursion MayName xs) (sym inner.2)
         (again done inner.0 (with_writes-may ws done.write all (performed_may o (behind s ws) done is)) inner.1)
+
+-- A run writes to maps alone that a request may name.
+pub run_seeing-may : (os : List Operation) (s : Sees) (ran : Ran) → run_seeing os s ≡ Ok ran → AllByRecursion MayName ran.writes
+run_seeing-may os s ran e = run_from-may 1 os s [] ran tt e
+
+-- Such a map is public, and no table of governance or of the service itself.
+pub MayName-outside : (map : List ℕ) → bar_on_map map ≡ None → (is_public map ≡ true) × (is_governance map ≡ false) × (is_internal map ≡ false)
+MayName-outside map e = go (is_public map) (is_governance map) (is_internal map) refl refl refl e
+  where
+    go : (public governance internal : Bool) → is_public map ≡ public → is_governance map ≡ governance → is_internal map ≡ internal →
+        cond (not public) (Some causes.NotPublic) (cond (governance || internal) (Some causes.Reserved) None) ≡ None →
+        (is_public map ≡ true) × (is_governance map ≡ false) × (is_internal map ≡ false)
+    go false governance internal a b c h = absurd (cc)
+    go true true internal a b c h = absurd (cc)
+    go true false true a b c h = absurd (cc)
+    go true false false a b c h = (a, b, c)

@@ -5,7 +5,8 @@ use Rattle.gl_vmaps.specs.Tables.{same_bytes}
 use Rattle.gl_vmaps.specs.Versions.{is_to_map}
 use Rattle.gl_vmaps.specs.declared.write.Write.{Write}
 use Rattle.gl_tx.specs.Sees.{Sees, write_to, behind}
-use Rattle.gl_tx.specs.Run.{Performed, bar_on, perform_result, with_writes}
+use Rattle.gl_tx.specs.Run.{bar_on, perform_result, with_writes}
+use Rattle.gl_tx.specs.declared.perform.Performed.{Performed}
 use Rattle.gl_tx.specs.declared.abort.Cause.{Cause}
 use Rattle.gl_tx.specs.declared.request.Operation.{Operation}
 use Rattle.gl_tx.specs.declared.request.Operation.TheVariants.{Get, Has, Put, Remove, Add, Check, Follow, Size}
@@ -29,8 +30,8 @@ abbrev pub key_asks : List Write → List ℕ → Option (List ℕ) → List Ask
 key_asks ws target None = []
 key_asks ws target (Some key) = if is_key key then row_asks ws target key else []
 
--- What an operation that may be asks for, in order. The number of a map's keys behind a write set is
--- known by the number before and by which of the rows that the set writes were there.
+-- What an operation that may be asks for, in order. The number of a map's keys behind a write set
+-- is known by the number before and by which of the rows that the set writes were there.
 abbrev pub allowed_asks : Operation → Sees → List Write → List Ask
 allowed_asks (Get map key) sees ws = row_asks ws map key
 allowed_asks (Has map key) sees ws = row_asks ws map key
@@ -97,8 +98,8 @@ sees_by noted = record {
   size = λ map. size_in_note (note_on noted (asks.Map map));
 }
 
--- What the run on what is noted asks for next: the first that isn't noted, at which it stops. All that
--- it asked for before is noted.
+-- What the run on what is noted asks for next: the first that isn't noted, at which it stops. All
+-- that it asked for before is noted.
 abbrev pub first_unnoted : List Note → List Ask → Option Ask
 first_unnoted noted asked = find (λ ask. not (is_noted noted ask)) asked
 

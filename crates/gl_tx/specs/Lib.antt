@@ -1,8 +1,8 @@
 pub mod Request
+pub mod Reading
 pub mod Abort
 pub mod Sees
 pub mod Run
+pub mod Performs
 pub mod Asks
 pub mod Attempt
-pub mod Performs
-pub mod Runs

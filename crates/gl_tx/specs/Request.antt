@@ -1,7 +1,9 @@
 -- What an application asks of the tables, and what it is answered: which lists of operations are
--- requests, and which lists of answers are replies.
-use Rattle.std.specs.Prelude.{ℕ, ◌^◌, List, Bool, true, ◌&&◌, length, nat_le, nat_lt}
-use Rattle.std.specs.List.{list_all}
+-- requests, which lists of answers are replies, and the bytes of both.
+use Rattle.std.specs.Prelude.{ℕ, ◌^◌, List, [], ◌∷◌, ◌++◌, Bool, true, ◌&&◌, length, nat_le, nat_lt}
+use Rattle.std.specs.List.{flat_map, list_all}
+use Rattle.gl_base.specs.LittleEndian.{little_endian}
+use Rattle.gl_base.specs.Row.{map_name_bytes, key_bytes, value_bytes, optional_value_bytes}
 use Rattle.gl_vmaps.specs.Name.{is_map_name, is_key, is_value}
 use Rattle.gl_vmaps.specs.Writes.{is_written_value}
 use Rattle.gl_tx.specs.declared.request.Operation.{Operation}
@@ -44,3 +46,36 @@ is_answer (answers.Number number) = is_u64 number
 
 abbrev pub is_reply : List Answer → Bool
 is_reply answers = is_count (length answers) && list_all is_answer answers
+
+-- The bytes of an operation: its tag, then its fields.
+abbrev pub operation_bytes : Operation → List ℕ
+operation_bytes (Get map key) = (1 ∷ map_name_bytes map) ++ key_bytes key
+operation_bytes (Has map key) = (2 ∷ map_name_bytes map) ++ key_bytes key
+operation_bytes (Put map key value) =
+    (3 ∷ map_name_bytes map) ++ key_bytes key ++ value_bytes value
+operation_bytes (Remove map key) = (4 ∷ map_name_bytes map) ++ key_bytes key
+operation_bytes (Add map key amount) =
+    (5 ∷ map_name_bytes map) ++ key_bytes key ++ little_endian 8 amount
+operation_bytes (Check map key expected) =
+    (6 ∷ map_name_bytes map) ++ key_bytes key ++ optional_value_bytes expected
+operation_bytes (Follow map key target) =
+    (7 ∷ map_name_bytes map) ++ key_bytes key ++ map_name_bytes target
+operation_bytes (Size map) = 8 ∷ map_name_bytes map
+
+-- The bytes of a request: its count of operations, then each of them.
+abbrev pub request_bytes : List Operation → List ℕ
+request_bytes operations =
+    little_endian 2 (length operations) ++ flat_map operation_bytes operations
+
+-- The bytes of an answer: its tag, then the value or the number.
+abbrev pub answer_bytes : Answer → List ℕ
+answer_bytes answers.Done = 0 ∷ []
+answer_bytes answers.None = 1 ∷ []
+answer_bytes (answers.Value value) = 2 ∷ value_bytes value
+answer_bytes answers.No = 3 ∷ []
+answer_bytes answers.Yes = 4 ∷ []
+answer_bytes (answers.Number number) = 5 ∷ little_endian 8 number
+
+-- The bytes of a reply: its count of answers, then each of them.
+abbrev pub reply_bytes : List Answer → List ℕ
+reply_bytes answers = little_endian 2 (length answers) ++ flat_map answer_bytes answers

@@ -13,11 +13,8 @@ use Rattle.gl_tx.specs.declared.request.Answer.TheVariants as answers
 use Rattle.gl_tx.specs.declared.abort.Cause.{Cause}
 use Rattle.gl_tx.specs.declared.abort.Cause.TheVariants as causes
 use Rattle.gl_tx.specs.declared.abort.Abort.{Abort}
-
--- What an operation gives: its answer, and the write that it makes, if it makes one.
-pub record Performed : Type 0 where
-  pub answer : Answer
-  pub write : Option Write
+use Rattle.gl_tx.specs.declared.perform.Performed.{Performed}
+use Rattle.gl_tx.specs.declared.runs.Ran.{Ran}
 
 -- An answer, and nothing written.
 abbrev pub answer_only : Answer → Result Performed Cause
@@ -25,7 +22,10 @@ answer_only answer = Ok (record { answer = answer; write = None })
 
 -- An answer, and a row set to a value or removed.
 abbrev pub answer_and_write : Answer → List ℕ → List ℕ → Option (List ℕ) → Result Performed Cause
-answer_and_write answer map key value = Ok (record { answer = answer; write = Some (record { map = map; key = key; value = value }) })
+answer_and_write answer map key value = Ok (record {
+  answer = answer;
+  write = Some (record { map = map; key = key; value = value });
+})
 
 abbrev pub yes_or_no : Bool → Answer
 yes_or_no true = answers.Yes
@@ -35,16 +35,19 @@ abbrev pub value_or_none : Option (List ℕ) → Answer
 value_or_none None = answers.None
 value_or_none (Some value) = answers.Value value
 
--- The sum of a row's number and an amount, written in eight bytes, the lowest first. An absent row counts as 0.
+-- The sum of a row's number and an amount, written in eight bytes, the lowest first. An absent row
+-- counts as 0.
 abbrev pub sum_result : List ℕ → List ℕ → ℕ → Result Performed Cause
 sum_result map key sum =
-    if nat_lt sum (2 ^ 64) then answer_and_write (answers.Number sum) map key (Some (little_endian 8 sum))
+    if nat_lt sum (2 ^ 64)
+    then answer_and_write (answers.Number sum) map key (Some (little_endian 8 sum))
     else Err causes.Overflow
 
 abbrev pub add_result : List ℕ → List ℕ → ℕ → Option (List ℕ) → Result Performed Cause
 add_result map key amount None = sum_result map key amount
 add_result map key amount (Some value) =
-    if length value == 8 then sum_result map key (from_little_endian value + amount) else Err causes.NotNumber
+    if length value == 8 then sum_result map key (from_little_endian value + amount)
+    else Err causes.NotNumber
 
 -- The value, or its absence, is the one that is expected.
 abbrev pub is_expected : Option (List ℕ) → Option (List ℕ) → Bool
@@ -64,8 +67,8 @@ follow_result sees target None = answer_only answers.None
 follow_result sees target (Some key) =
     if is_key key then answer_only (value_or_none (sees.value target key)) else Err causes.BadKey
 
--- Why no request may name a map, if there is a reason: it isn't public, or it is a table of governance
--- or of the service itself.
+-- Why no request may name a map, if there is a reason: it isn't public, or it is a table of
+-- governance or of the service itself.
 abbrev pub bar_on_map : List ℕ → Option Cause
 bar_on_map map =
     if not (is_public map) then Some causes.NotPublic
@@ -86,8 +89,8 @@ bar_on (Check map key expected) = bar_on_map map
 bar_on (Follow map key target) = bar_on_either (bar_on_map map) (bar_on_map target)
 bar_on (Size map) = bar_on_map map
 
--- What one operation gives on what it sees, where it may be, or why it fails. A put writes also where
--- the value is equal, a removal also where nothing was there.
+-- What one operation gives on what it sees, where it may be, or why it fails. A put writes also
+-- where the value is equal, a removal also where nothing was there.
 abbrev pub on_seen : Sees → Operation → Result Performed Cause
 on_seen sees (Get map key) = answer_only (value_or_none (sees.value map key))
 on_seen sees (Has map key) = answer_only (yes_or_no (has_key sees map key))
@@ -111,30 +114,26 @@ abbrev pub with_writes : List Write → Option Write → List Write
 with_writes ws None = ws
 with_writes ws (Some w) = with_write ws w
 
--- What a request answers, and its write set.
-pub record Ran : Type 0 where
-  pub answers : List Answer
-  pub writes : List Write
-
 -- The answer of an operation before those of the operations behind it, unless one of these fails.
 abbrev pub with_answer : Answer → Result Ran Abort → Result Ran Abort
-with_answer answer (Ok ran) = Ok (record ran { answers = answer ∷ ran.answers })
+with_answer answer (Ok ran) = Ok (record ran { reply = answer ∷ ran.reply })
 with_answer answer (Err abort) = Err abort
 
--- What a request gives from an operation on: why that operation fails, or its answer and what the rest
--- gives.
+-- What a request gives from an operation on: why that operation fails, or its answer and what the
+-- rest gives.
 abbrev pub goes_on : ℕ → (Performed → Result Ran Abort) → Result Performed Cause → Result Ran Abort
 goes_on number rest (Err cause) = Err (record { operation = number; cause = cause })
 goes_on number rest (Ok done) = with_answer done.answer (rest done)
 
 -- The operations from the one with this number on, in order, each behind what earlier ones wrote.
 abbrev pub run_from : ℕ → List Operation → Sees → List Write → Result Ran Abort
-run_from number [] sees ws = Ok (record { answers = []; writes = ws })
+run_from number [] sees ws = Ok (record { reply = []; writes = ws })
 run_from number (operation ∷ operations) sees ws =
     goes_on number (λ done. run_from (suc number) operations sees (with_writes ws done.write))
     (perform_result operation (behind sees ws))
 
--- What a request gives on what it sees: it is aborted by its first operation that fails, counted from 1.
+-- What a request gives on what it sees: it is aborted by its first operation that fails, counted
+-- from 1.
 abbrev pub run_seeing : List Operation → Sees → Result Ran Abort
 run_seeing operations sees = run_from 1 operations sees []
 

@@ -28,8 +28,8 @@ has_key sees map key = is_some (sees.value map key)
 abbrev pub write_to : List ℕ → List ℕ → List Write → Option Write
 write_to map key ws = find (is_to_row map key) ws
 
--- What is seen behind a write set: each row as the set has it, or else as it was; and each map's number
--- of keys with those that the set adds, and without those that it removes.
+-- What is seen behind a write set: each row as the set has it, or else as it was; and each map's
+-- number of keys with those that the set adds, and without those that it removes.
 abbrev pub behind : Sees → List Write → Sees
 behind sees ws = record {
   value = λ map key. value_behind (write_to map key ws) (sees.value map key);

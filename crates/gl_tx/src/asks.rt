@@ -10,8 +10,9 @@ ghost use Rattle.gl_tx.specs.declared.notes.Ask.TheVariants as asks;
 
 use crate::notes::{Ask, Reads};
 use crate::overlay::{Overlay, is_to_map};
-use crate::perform::{Failure, Performed, bar_on, perform};
+use crate::perform::{Performed, bar_on, perform};
 use crate::request::{Operation, Request};
+use gl_base::OrNoMemory;
 use gl_vmaps::{Key, MapName};
 use std::alloc::{AllocError, Global};
 
@@ -64,7 +65,8 @@ fn follow_ask(
     target: &MapName,
 ) -> Result<Option<Ask>, AllocError>
     ensures { IfOk result (λ ask.
-        ask ≡ first_unnoted overlay.now.base.now (allowed_asks (Operation.Follow map.now key.now target.now)
+        ask ≡ first_unnoted overlay.now.base.now
+            (allowed_asks (Operation.Follow map.now key.now target.now)
             (sees_by overlay.now.base.now) overlay.now.writes)) }
 {
     match row_ask(alloc, overlay, map, key)? {
@@ -104,7 +106,8 @@ fn size_ask(
     map: &MapName,
 ) -> Result<Option<Ask>, AllocError>
     ensures { IfOk result (λ ask.
-        ask ≡ first_unnoted overlay.now.base.now (allowed_asks (Operation.Size map.now)
+        ask ≡ first_unnoted overlay.now.base.now
+            (allowed_asks (Operation.Size map.now)
             (sees_by overlay.now.base.now) overlay.now.writes)) }
 {
     if overlay.base.has_map(map.as_slice()) {
@@ -154,17 +157,19 @@ fn operation_ask(
     }
 }
 
-/// Performs an operation on what is noted, and adds what it writes. Whether the run goes on behind it.
+/// Performs an operation on what is noted, and adds what it writes. Whether the run goes on behind
+/// it.
 fn step(
     alloc: Global,
     overlay: &mut Overlay<'_, Reads>,
     operation: &Operation,
 ) -> Result<bool, AllocError>
     requires { length overlay.old.writes < 64 }
-    ensures rest { IfOk result (λ goes. (rest : List Operation) →
-        asks_behind (λ done. asks_from rest (sees_by overlay.old.base.now) (with_writes overlay.old.writes done.write))
-            (perform_result operation.now (behind (sees_by overlay.old.base.now) overlay.old.writes))
-        ≡ (if goes then asks_from rest (sees_by overlay.new.base.now) overlay.new.writes else [])) }
+    ensures rest { let sees = sees_by overlay.old.base.now in let writes = overlay.old.writes in
+        IfOk result (λ goes. (rest : List Operation) →
+        asks_behind (λ done. asks_from rest sees (with_writes writes done.write))
+            (perform_result operation.now (behind sees writes))
+        ≡ (if goes then asks_from rest sees overlay.new.writes else [])) }
     ensures same { OnOk result (overlay.new.base.now ≡ overlay.old.base.now) }
     ensures few { OnOk result (length overlay.new.writes ≤ length overlay.old.writes + 1) }
 {
@@ -175,8 +180,8 @@ fn step(
             }
             Ok(true)
         }
-        Err(Failure::NoMemory) => Err(AllocError),
-        Err(Failure::Cause(_)) => Ok(false),
+        Err(OrNoMemory::NoMemory) => Err(AllocError),
+        Err(OrNoMemory::Fault(_)) => Ok(false),
     }
 }
 

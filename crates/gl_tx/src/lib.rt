@@ -5,8 +5,9 @@
 mod abort;
 mod asks;
 mod attempt;
-mod bytes;
 mod conflict;
+mod decoding;
+mod encoding;
 mod lookup;
 mod notes;
 mod overlay;
@@ -19,7 +20,9 @@ pub use attempt::{Attempt, Fetched};
 pub use conflict::{Conflict, RolledBack, TxFault};
 pub use notes::{Ask, Note, Reads};
 pub use request::{Answer, Operation, Reply, Request};
-pub use runs::{Ran, RunError, run};
+pub use runs::{Ran, run};
 
 #[cfg(test)]
 mod run_tests;
+#[cfg(test)]
+mod tests;

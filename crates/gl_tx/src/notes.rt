@@ -1,8 +1,5 @@
 //! What is noted of the rows and maps that a request reads.
 
-ghost use Rattle.std.specs.Prelude.{◌≡◌, IfOk, IfSome, IsTrue, MatchOption};
-ghost use Rattle.std.specs.Option.{option_copied};
-ghost use Rattle.gl_vmaps.specs.Name.{is_value};
 ghost use Rattle.gl_tx.specs.Asks.{sees_by};
 
 use crate::lookup::Lookup;
@@ -33,8 +30,31 @@ pub enum Note {
 }
 
 impl Note {
-    ghost use Rattle.std.specs.Prelude.{◌≡◌};
+    ghost use Rattle.std.specs.Prelude.{◌≡◌, IfOk};
     ghost use Rattle.gl_tx.specs.Asks.{is_of_row, is_of_map};
+
+    /// The same note in memory of its own. Fails for want of memory alone.
+    pub fn copy(&self, alloc: Global) -> Result<Self, AllocError>
+        ensures { IfOk result (λ note. note ≡ self.now) }
+    {
+        match self {
+            Note::Row { map, key, value } => {
+                let value = match value {
+                    None => None,
+                    Some(value) => Some(value.copy(alloc)?),
+                };
+                Ok(Note::Row {
+                    map: map.copy(alloc)?,
+                    key: key.copy(alloc)?,
+                    value,
+                })
+            }
+            Note::Map { map, size } => Ok(Note::Map {
+                map: map.copy(alloc)?,
+                size: *size,
+            }),
+        }
+    }
 
     fn is_of_row(&self, map: &[u8], key: &[u8]) -> bool
         ensures { result ≡ is_of_row map.now key.now self.now }
@@ -102,7 +122,7 @@ impl Model for Reads {
 }
 
 impl Reads {
-    ghost use Rattle.std.specs.Prelude.{◌≡◌, ◌∷◌, ◌++◌, [], IsTrue, OnOk, OnErr};
+    ghost use Rattle.std.specs.Prelude.{◌≡◌, ◌∷◌, ◌++◌, [], IsTrue, IfOk, OnOk, OnErr};
     ghost use Rattle.std.specs.List.{list_all};
     ghost use Rattle.std.specs.Option.{option_copied};
     ghost use Rattle.gl_tx.specs.Asks.{is_note, is_noted, note_on};
@@ -123,6 +143,17 @@ impl Reads {
         ensures limits { IsTrue (list_all is_note self.now) }
     {
         &self.notes
+    }
+
+    /// The same notes in memory of their own. Fails for want of memory alone.
+    pub fn copy(&self, alloc: Global) -> Result<Self, AllocError>
+        ensures { IfOk result (λ reads. reads ≡ self.now) }
+    {
+        let mut notes = Vec::new(alloc);
+        for note in &self.notes {
+            notes.push(note.copy(alloc)?)?;
+        }
+        Ok(Reads { notes })
     }
 
     /// Adds a note. Want of memory leaves the notes as they were.
@@ -175,6 +206,7 @@ impl Lookup for Reads {
     }
 
     fn size(&self, map: &[u8]) -> u64 {
+        let _notes = self.as_slice();
         match self.of_map(map) {
             Some(Note::Map { size, .. }) => *size,
             _ => 0,

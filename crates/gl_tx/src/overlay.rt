@@ -1,5 +1,5 @@
-//! What an operation of a request sees: what stood before the request, and what its earlier operations
-//! wrote.
+//! What an operation of a request sees: what stood before the request, and what its earlier
+//! operations wrote.
 
 ghost use Rattle.std.specs.Prelude.{◌≡◌, ◌≤◌, length, IsTrue, IfSome};
 ghost use Rattle.std.specs.Option.{option_copied};
@@ -40,7 +40,8 @@ impl<'a, L: Lookup> Overlay<'a, L> {
 
     /// The value of a key in a map, if the map has that key.
     pub(crate) fn get(&self, map: &[u8], key: &[u8]) -> Option<&[u8]>
-        ensures value { option_copied result ≡ (behind (L.sees self.now.base.now) self.now.writes).value map.now key.now }
+        ensures value { let sees = behind (L.sees self.now.base.now) self.now.writes in
+            option_copied result ≡ sees.value map.now key.now }
         ensures limit { IfSome result (λ value. IsTrue (is_value value.now)) }
     {
         match write_to(self.writes.as_slice(), map, key) {
@@ -58,7 +59,8 @@ impl<'a, L: Lookup> Overlay<'a, L> {
 
     /// Whether the map has the key.
     pub(crate) fn has(&self, map: &[u8], key: &[u8]) -> bool
-        ensures { result ≡ has_key (behind (L.sees self.now.base.now) self.now.writes) map.now key.now }
+        ensures { let sees = behind (L.sees self.now.base.now) self.now.writes in
+            result ≡ has_key sees map.now key.now }
     {
         self.get(map, key).is_some()
     }
@@ -86,7 +88,8 @@ impl<'a, L: Lookup> Overlay<'a, L> {
 
     /// The number of keys that the map has.
     pub(crate) fn size(&self, map: &[u8]) -> u64
-        ensures { result ≡ (behind (L.sees self.now.base.now) self.now.writes).size map.now }
+        ensures { let sees = behind (L.sees self.now.base.now) self.now.writes in
+            result ≡ sees.size map.now }
     {
         let writes = self.writes.as_slice();
         let gained = writes.iter().filter(|write| self.gains(map, write)).count();

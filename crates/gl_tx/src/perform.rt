@@ -1,58 +1,27 @@
 //! One operation of a request.
 
-ghost use Rattle.std.specs.Prelude.{◌≡◌, ◌+◌, None, Some, IsTrue, IfOk};
+ghost use Rattle.std.specs.Prelude.{◌≡◌, ◌+◌, None, Some, Ok, IsTrue, IfOk};
 ghost use Rattle.std.specs.Option.{ForSome, option_copied};
+ghost use Rattle.gl_base.specs.Answers.{Answers};
 ghost use Rattle.gl_base.specs.LittleEndian.{little_endian};
 ghost use Rattle.gl_vmaps.specs.Name.{is_value};
 ghost use Rattle.gl_tx.specs.Sees.{behind, has_key};
 ghost use Rattle.gl_tx.specs.Run.{yes_or_no, value_or_none, add_result, is_expected, check_result, follow_result, bar_on_map, bar_on, answer_only, answer_and_write, on_seen, perform_result};
-ghost use Rattle.gl_tx.specs.Performs.{Gives, KeyGives, shown, number_in, sum_of};
-ghost use Rattle.gl_tx.specs.declared.perform.Failure.TheVariants as failures;
+ghost use Rattle.gl_tx.specs.Performs.{key_of, number_in, sum_of};
 
 use crate::abort::Cause;
 use crate::lookup::Lookup;
 use crate::overlay::Overlay;
 use crate::request::{Answer, Operation};
-use gl_base::put_u64;
+use gl_base::{OrNoMemory, put_u64};
 use gl_vmaps::{Key, MapName, Value, Write};
-use std::alloc::{AllocError, AllocFailed, Global};
+use std::alloc::{AllocError, Global};
 
 /// What an operation that was done answers, and the write that it makes, if it makes one.
 #[derive(Debug, Drop)]
 pub(crate) struct Performed {
     pub(crate) answer: Answer,
     pub(crate) write: Option<Write>,
-}
-
-/// Why an operation was not done.
-#[derive(Clone, Copy, Debug, PartialEq, Eq)]
-pub(crate) enum Failure {
-    NoMemory,
-    Cause(Cause),
-}
-
-impl From<AllocError> for Failure {
-    ghost from_gives = { λ _ e. e ≡ failures.NoMemory };
-
-    fn from(_e: AllocError) -> Failure {
-        Failure::NoMemory
-    }
-}
-
-impl<T: Drop> From<AllocFailed<T>> for Failure {
-    ghost from_gives = { λ _ e. e ≡ failures.NoMemory };
-
-    fn from(_e: AllocFailed<T>) -> Failure {
-        Failure::NoMemory
-    }
-}
-
-impl From<Cause> for Failure {
-    ghost from_gives = { λ cause e. e ≡ failures.Cause cause };
-
-    fn from(cause: Cause) -> Failure {
-        Failure::Cause(cause)
-    }
 }
 
 /// Why no request may name a map, if there is a reason.
@@ -70,8 +39,8 @@ fn bar_on_map(map: &[u8]) -> Option<Cause>
     }
 }
 
-/// Why an operation may not be, if there is a reason: that of the first of its maps which no request
-/// may name.
+/// Why an operation may not be, if there is a reason: that of the first of its maps that no
+/// request may name.
 pub(crate) fn bar_on(operation: &Operation) -> Option<Cause>
     ensures { result ≡ bar_on operation.now }
 {
@@ -90,7 +59,7 @@ pub(crate) fn bar_on(operation: &Operation) -> Option<Cause>
 }
 
 fn answer_only(answer: Answer) -> Performed
-    ensures { answer_only answer ≡ shown result }
+    ensures { answer_only answer ≡ Ok result }
 {
     Performed {
         answer,
@@ -106,7 +75,7 @@ fn answer_and_write(
     key: &Key,
     value: Option<Value>,
 ) -> Result<Performed, AllocError>
-    ensures { IfOk result (λ done. answer_and_write answer map.now key.now value ≡ shown done) }
+    ensures { IfOk result (λ done. answer_and_write answer map.now key.now value ≡ Ok done) }
 {
     let write = Write {
         map: map.copy(alloc)?,
@@ -148,21 +117,24 @@ fn number_in(value: Option<&[u8]>) -> Result<u64, Cause>
     }
 }
 
-fn get<L: Lookup>(alloc: Global, overlay: &Overlay<'_, L>, map: &MapName, key: &Key) -> Result<Performed, Failure>
-    ensures { Gives result (answer_only (value_or_none ((behind (L.sees overlay.now.base.now) overlay.now.writes).value map.now key.now))) }
+fn get<L: Lookup>(alloc: Global, overlay: &Overlay<'_, L>, map: &MapName, key: &Key) -> Result<Performed, OrNoMemory<Cause>>
+    ensures { let sees = behind (L.sees overlay.now.base.now) overlay.now.writes in
+        Answers (λ done. done) result (answer_only (value_or_none (sees.value map.now key.now))) }
 {
     let value = overlay.get(map.as_slice(), key.as_slice());
     Ok(answer_only(value_or_none(alloc, value)?))
 }
 
 fn has<L: Lookup>(overlay: &Overlay<'_, L>, map: &MapName, key: &Key) -> Performed
-    ensures { answer_only (yes_or_no (has_key (behind (L.sees overlay.now.base.now) overlay.now.writes) map.now key.now)) ≡ shown result }
+    ensures { let sees = behind (L.sees overlay.now.base.now) overlay.now.writes in
+        answer_only (yes_or_no (has_key sees map.now key.now)) ≡ Ok result }
 {
     answer_only(yes_or_no(overlay.has(map.as_slice(), key.as_slice())))
 }
 
-fn put(alloc: Global, map: &MapName, key: &Key, value: &Value) -> Result<Performed, Failure>
-    ensures { Gives result (answer_and_write Answer.Done map.now key.now (Some value.now)) }
+fn put(alloc: Global, map: &MapName, key: &Key, value: &Value) -> Result<Performed, OrNoMemory<Cause>>
+    ensures { Answers (λ done. done) result
+        (answer_and_write Answer.Done map.now key.now (Some value.now)) }
 {
     let value = value.copy(alloc)?;
     Ok(answer_and_write(alloc, Answer::Done, map, key, Some(value))?)
@@ -173,8 +145,10 @@ fn remove<L: Lookup>(
     overlay: &Overlay<'_, L>,
     map: &MapName,
     key: &Key,
-) -> Result<Performed, Failure>
-    ensures { Gives result (answer_and_write (yes_or_no (has_key (behind (L.sees overlay.now.base.now) overlay.now.writes) map.now key.now)) map.now key.now None) }
+) -> Result<Performed, OrNoMemory<Cause>>
+    ensures { let sees = behind (L.sees overlay.now.base.now) overlay.now.writes in
+        Answers (λ done. done) result
+            (answer_and_write (yes_or_no (has_key sees map.now key.now)) map.now key.now None) }
 {
     let there = overlay.has(map.as_slice(), key.as_slice());
     Ok(answer_and_write(alloc, yes_or_no(there), map, key, None)?)
@@ -201,8 +175,10 @@ fn add<L: Lookup>(
     map: &MapName,
     key: &Key,
     amount: u64,
-) -> Result<Performed, Failure>
-    ensures { Gives result (add_result map.now key.now amount ((behind (L.sees overlay.now.base.now) overlay.now.writes).value map.now key.now)) }
+) -> Result<Performed, OrNoMemory<Cause>>
+    ensures { let sees = behind (L.sees overlay.now.base.now) overlay.now.writes in
+        Answers (λ done. done) result
+            (add_result map.now key.now amount (sees.value map.now key.now)) }
 {
     let number = number_in(overlay.get(map.as_slice(), key.as_slice()))?;
     let sum = sum_of(number, amount)?;
@@ -226,24 +202,26 @@ fn check<L: Lookup>(
     map: &MapName,
     key: &Key,
     expected: Option<&Value>,
-) -> Result<Performed, Failure>
-    ensures { Gives result (check_result (is_expected (option_copied expected.entry) ((behind (L.sees overlay.now.base.now) overlay.now.writes).value map.now key.now))) }
+) -> Result<Performed, OrNoMemory<Cause>>
+    ensures { let sees = behind (L.sees overlay.now.base.now) overlay.now.writes in
+        Answers (λ done. done) result (check_result
+            (is_expected (option_copied expected.entry) (sees.value map.now key.now))) }
 {
     let value = overlay.get(map.as_slice(), key.as_slice());
     if is_expected(expected, value) {
         Ok(answer_only(Answer::Done))
     } else {
-        Err(Failure::Cause(Cause::Check))
+        Err(OrNoMemory::Fault(Cause::Check))
     }
 }
 
 /// The key that a value is, if it is one.
-fn key_of(alloc: Global, value: &[u8]) -> Result<Key, Failure>
-    ensures { KeyGives result value.now }
+fn key_of(alloc: Global, value: &[u8]) -> Result<Key, OrNoMemory<Cause>>
+    ensures { Answers (λ key. key) result (key_of value.now) }
 {
     match Key::new(Vec::from_slice(alloc, value)?) {
         Some(key) => Ok(key),
-        None => Err(Failure::Cause(Cause::BadKey)),
+        None => Err(OrNoMemory::Fault(Cause::BadKey)),
     }
 }
 
@@ -253,8 +231,9 @@ fn follow<L: Lookup>(
     map: &MapName,
     key: &Key,
     target: &MapName,
-) -> Result<Performed, Failure>
-    ensures { Gives result (follow_result (behind (L.sees overlay.now.base.now) overlay.now.writes) target.now ((behind (L.sees overlay.now.base.now) overlay.now.writes).value map.now key.now)) }
+) -> Result<Performed, OrNoMemory<Cause>>
+    ensures { let sees = behind (L.sees overlay.now.base.now) overlay.now.writes in
+        Answers (λ done. done) result (follow_result sees target.now (sees.value map.now key.now)) }
 {
     match overlay.get(map.as_slice(), key.as_slice()) {
         None => Ok(answer_only(Answer::None)),
@@ -266,7 +245,8 @@ fn follow<L: Lookup>(
 }
 
 fn size<L: Lookup>(overlay: &Overlay<'_, L>, map: &MapName) -> Performed
-    ensures { answer_only (Answer.Number ((behind (L.sees overlay.now.base.now) overlay.now.writes).size map.now)) ≡ shown result }
+    ensures { let sees = behind (L.sees overlay.now.base.now) overlay.now.writes in
+        answer_only (Answer.Number (sees.size map.now)) ≡ Ok result }
 {
     answer_only(Answer::Number(overlay.size(map.as_slice())))
 }
@@ -276,8 +256,9 @@ fn perform_allowed<L: Lookup>(
     alloc: Global,
     overlay: &Overlay<'_, L>,
     operation: &Operation,
-) -> Result<Performed, Failure>
-    ensures { Gives result (on_seen (behind (L.sees overlay.now.base.now) overlay.now.writes) operation.now) }
+) -> Result<Performed, OrNoMemory<Cause>>
+    ensures { let sees = behind (L.sees overlay.now.base.now) overlay.now.writes in
+        Answers (λ done. done) result (on_seen sees operation.now) }
 {
     match operation {
         Operation::Get { map, key } => get(alloc, overlay, map, key),
@@ -296,11 +277,12 @@ pub(crate) fn perform<L: Lookup>(
     alloc: Global,
     overlay: &Overlay<'_, L>,
     operation: &Operation,
-) -> Result<Performed, Failure>
-    ensures { Gives result (perform_result operation.now (behind (L.sees overlay.now.base.now) overlay.now.writes)) }
+) -> Result<Performed, OrNoMemory<Cause>>
+    ensures { let sees = behind (L.sees overlay.now.base.now) overlay.now.writes in
+        Answers (λ done. done) result (perform_result operation.now sees) }
 {
     match bar_on(operation) {
-        Some(cause) => Err(Failure::Cause(cause)),
+        Some(cause) => Err(OrNoMemory::Fault(cause)),
         None => perform_allowed(alloc, overlay, operation),
     }
 }

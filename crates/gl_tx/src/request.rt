@@ -1,7 +1,8 @@
 //! What an application asks of the tables, and what it is answered.
 
 ghost use Rattle.std.specs.Prelude.{◌≡◌, IsTrue, IfOk};
-ghost use Rattle.gl_tx.specs.Request.{is_row};
+ghost use Rattle.std.specs.List.{list_all};
+ghost use Rattle.gl_tx.specs.Request.{is_row, is_operation, is_answer};
 
 use gl_vmaps::{Key, MapName, Value};
 use std::alloc::{AllocError, Global};
@@ -153,6 +154,13 @@ impl Operation {
     }
 }
 
+fn are_operations(operations: &[Operation]) -> bool
+    ensures value { result ≡ list_all is_operation operations.now }
+    ensures always { IsTrue result }
+{
+    operations.iter().all(|operation| operation.is_valid())
+}
+
 /// What an operation answers.
 #[derive(Debug, Drop)]
 pub enum Answer {
@@ -200,6 +208,13 @@ impl Answer {
     }
 }
 
+fn are_answers(answers: &[Answer]) -> bool
+    ensures value { result ≡ list_all is_answer answers.now }
+    ensures always { IsTrue result }
+{
+    answers.iter().all(|answer| answer.is_valid())
+}
+
 /// A request of an application: 1 to 64 operations, run in order.
 #[derive(Debug, Drop)]
 pub struct Request {
@@ -239,7 +254,7 @@ impl Request {
         requires { IsTrue (is_count (length operations.items)) }
         ensures { result ≡ operations.items }
     {
-        prove!(operations.iter().all(|operation| operation.is_valid()));
+        prove!(are_operations(&operations));
         Request { operations }
     }
 
@@ -302,7 +317,7 @@ impl Reply {
         requires { IsTrue (is_count (length answers.items)) }
         ensures { result ≡ answers.items }
     {
-        prove!(answers.iter().all(|answer| answer.is_valid()));
+        prove!(are_answers(&answers));
         Reply { answers }
     }
 

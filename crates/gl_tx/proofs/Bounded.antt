@@ -15,7 +15,7 @@ use Rattle.gl_vmaps.specs.declared.write.Write.{Write}
 use Rattle.gl_vmaps.proofs.TablesLaws.{same_bytes-itself, same_bytes-eq}
 use Rattle.gl_tx.specs.Request.{is_count}
 use Rattle.gl_tx.specs.Sees.{Sees, write_to, behind}
-use Rattle.gl_tx.specs.Run.{perform_result, with_writes}
+use Rattle.gl_tx.specs.Run.{bar_on, perform_result, with_writes}
 use Rattle.gl_tx.specs.Asks.{row_asks, rows_written, key_asks, allowed_asks, asks_unless_barred, asks_of, asks_behind, asks_from, is_of_row, is_of_map, note_on, is_noted, value_in_note, size_in_note, sees_by, first_unnoted, next_ask, ask_of, AreAskedBehind, AreAsked}
 use Rattle.gl_tx.specs.declared.perform.Performed.{Performed}
 use Rattle.gl_tx.specs.declared.abort.Cause.{Cause}
@@ -60,7 +60,7 @@ different-push [] a all new = (λ h. h, tt)
 different-push (x ∷ xs) a all new = (go, different-push xs a all.1 (λ h. new (inr h)))
   where
     go : Among (xs ++ a ∷ []) x → ⊥
-    go h = elim (among-append xs (a ∷ []) x h) [ inl f ↦ all.0 f | inr b ↦ elim b [ inl e ↦ new (inl (sym e)) | inr no ↦ no ] ]
+    go h = elim (among-append xs (a ∷ []) x h) [ inl f ↦ all.0 f | inr b ↦ elim b [ inl e ↦ new (inl (sym e)) | inr never ↦ never ] ]
 
 -- a list without one of its elements
 without : {A : Type 0} → (ys : List A) (a : A) → Among ys a → (rest : List A) × (suc (length rest) ≡ length ys) × ((z : A) → (a ≡ z → ⊥) → Among ys z → Among rest z)
@@ -270,8 +270,8 @@ among-row_asks : (ws : List Write) (map key : List ℕ) (a : Ask) → Among (row
 among-row_asks ws map key a h = go (is_some (write_to map key ws)) h
   where
     go : (b : Bool) → Among (cond b [] (asks.Row map key ∷ [])) a → asks.Row map key ≡ a
-    go true no = absurd no
-    go false one = elim one [ inl e ↦ e | inr no ↦ absurd no ]
+    go true never = absurd never
+    go false one = elim one [ inl e ↦ e | inr never ↦ absurd never ]
 
 among-rows_written : (map : List ℕ) (ws : List Write) (a : Ask) → Among (rows_written map ws) a → Among (rows ws) a
 among-rows_written map [] a h = h
@@ -308,7 +308,7 @@ asks_of-charged o s ws a h = go (bar_on o) h
   where
     go : (b : Option Cause) → Among (asks_unless_barred b (allowed_asks o s ws)) a → IsCharged o s ws a
     go None there = allowed-charged o s ws a there
-    go (Some cause) no = absurd no
+    go (Some cause) never = absurd never
 
 among-put_before : (o : Ordering) (w x : Write) (xs rest : List Write) (a : Ask) → (Among (rows rest) a → Among (rows xs) a ⊎ (row_of w ≡ a)) →
     Among (rows (put_before o w x xs rest)) a → Among (rows (x ∷ xs)) a ⊎ (row_of w ≡ a)
@@ -317,7 +317,7 @@ among-put_before Equal w x xs rest a again h = elim h [ inl e ↦ inr e | inr th
 among-put_before Greater w x xs rest a again h = elim h [ inl e ↦ inl (inl e) | inr there ↦ elim (again there) [ inl f ↦ inl (inr f) | inr e ↦ inr e ] ]
 
 among-with_write : (ws : List Write) (w : Write) (a : Ask) → Among (rows (with_write ws w)) a → Among (rows ws) a ⊎ (row_of w ≡ a)
-among-with_write [] w a h = elim h [ inl e ↦ inr e | inr no ↦ absurd no ]
+among-with_write [] w a h = elim h [ inl e ↦ inr e | inr never ↦ absurd never ]
 among-with_write (x ∷ xs) w a h = among-put_before (write_order w x) w x xs (with_write xs w) a (among-with_write xs w a) h
 
 among-with_writes : (ws : List Write) (o : Option Write) (own a : Ask) → OwnRow own o → Among (rows (with_writes ws o)) a → Among (rows ws) a ⊎ (own ≡ a)
@@ -337,7 +337,7 @@ asks_from-charged (o ∷ os) s ws a h =
     go (Err cause) own again there =
         elim (among-append (asks_of o s ws) [] a there) [
           | inl f ↦ elim (asks_of-charged o s ws a f) [ inl c ↦ inl (among-front (charges o s ws) [] a c) | inr r ↦ inr r ]
-          | inr no ↦ absurd no
+          | inr never ↦ absurd never
         ]
     go (Ok done) own again there =
         let rest = charges_from os s (with_writes ws done.write) in
@@ -445,7 +445,7 @@ reached-more os ns n before next = record {
               | inl e ↦
                   subst (λ (x : Ask). Among (known_asks os (ns ++ n ∷ [])) x) e
                   (still_reached os ns n (ask_of n) next (front-found (is_noted ns) (asks_from os (sees_by ns) []) (ask_of n) next))
-              | inr no ↦ absurd no
+              | inr never ↦ absurd never
             ]
       ];
 }
@@ -458,12 +458,12 @@ reached-all os before (n ∷ ns) is h =
 -- at most two notes for each operation
 pub length-AreAsked : (os : List Operation) (ns : List Note) → length os ≤ 64 → AreAsked os ns → length ns ≤ 128
 length-AreAsked os ns few h =
-    let is = reached-all os [] ns (record { different = tt; reached = λ a no. absurd no }) h in
+    let is = reached-all os [] ns (record { different = tt; reached = λ a never. absurd never }) h in
     let begins = front-begins (is_noted ns) (asks_from os (sees_by ns) []) in
     let charged : (a : Ask) → Among (asked ns) a → Among (charges_from os (sees_by ns) []) a =
     λ a there.
         elim (asks_from-charged os (sees_by ns) [] a
-        (subst (λ (xs : List Ask). Among xs a) begins.1 (among-front (known_asks os ns) begins.0 a (is.reached a there)))) [ inl c ↦ c | inr no ↦ absurd no ] in
+        (subst (λ (xs : List Ask). Among xs a) begins.1 (among-front (known_asks os ns) begins.0 a (is.reached a there)))) [ inl c ↦ c | inr never ↦ absurd never ] in
     let within = length-different (asked ns) (charges_from os (sees_by ns) []) is.different charged in
     omega (arith, within, length-asked ns, length-charges_from os (sees_by ns) [])
 

@@ -12,5 +12,5 @@ pub mod Alike
 pub mod Bounded
 pub mod AskLaws
 pub mod Fetching
-pub mod Notes
+pub mod NotedSizes
 pub mod AttemptLaws

@@ -195,11 +195,13 @@ pub(crate) fn next_ask(
 {
     let mut overlay = Overlay::new(alloc, reads);
     for operation in request.as_slice() {
-        if let Some(ask) = operation_ask(alloc, &overlay, operation)? {
-            return Ok(Some(ask));
-        }
-        if !step(alloc, &mut overlay, operation)? {
-            return Ok(None);
+        match operation_ask(alloc, &overlay, operation)? {
+            Some(ask) => return Ok(Some(ask)),
+            None => {
+                if !step(alloc, &mut overlay, operation)? {
+                    return Ok(None);
+                }
+            }
         }
     }
     Ok(None)

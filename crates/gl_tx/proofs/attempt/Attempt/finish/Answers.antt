@@ -7,5 +7,5 @@ returns-clause-stands c = λ ps stands.
 
 pub returns-clause-noted : goal.returns-clause-noted
 returns-clause-noted c = λ ps stands since.
-    finish-noted c.run_if_unchanged.result c.args.self.now ps c.args.cuts c.requires since
+    finish-noted c.run_if_unchanged.result c.args.self.now ps c.args.cuts c.requires.ready since
     (finish-stands c.run_if_unchanged.result c.args.self.now c.args.tables.now ps c.args.cuts stands c.run_if_unchanged.ensures.exact)

@@ -42,7 +42,7 @@ first_unnoted-written ns map w ws = go (is_to_map map w)
 -- what a run asks for first is what its first operation does, or else what the rest does
 pub first_unnoted-from : (ns : List Note) (o : Operation) (os : List Operation) (s : Sees) (ws : List Write) → first_unnoted ns (asks_from (o ∷ os) s ws)
     ≡ option_or (first_unnoted ns (asks_of o s ws))
-      (first_unnoted ns (asks_behind (λ done. asks_from os s (with_writes ws done.write)) (perform_result o (behind s ws))))
+    (first_unnoted ns (asks_behind (λ done. asks_from os s (with_writes ws done.write)) (perform_result o (behind s ws))))
 first_unnoted-from ns o os s ws = first_unnoted-append ns (asks_of o s ws) (asks_behind (λ done. asks_from os s (with_writes ws done.write)) (perform_result o (behind s ws)))
 
 -- the row that is found is the first that isn't noted
@@ -58,7 +58,7 @@ written_found ns map ws i w within is to new =
 next_operation : (ns : List Note) (os : List Operation) (i : ℕ) (o : Operation) (s : Sees) (ws : List Write) → i < length os → o ≡ get_or os i o →
     first_unnoted ns (asks_from (drop i os) s ws)
     ≡ option_or (first_unnoted ns (asks_of o s ws))
-      (first_unnoted ns (asks_behind (λ done. asks_from (drop (suc i) os) s (with_writes ws done.write)) (perform_result o (behind s ws))))
+    (first_unnoted ns (asks_behind (λ done. asks_from (drop (suc i) os) s (with_writes ws done.write)) (perform_result o (behind s ws))))
 next_operation ns os i o s ws within is =
     ap (λ (ps : List Operation). first_unnoted ns (asks_from ps s ws)) (drop-cons os i o within ∙ ap (λ (x : Operation). x ∷ drop (suc i) os) (sym is))
     ∙ first_unnoted-from ns o (drop (suc i) os) s ws
@@ -83,7 +83,7 @@ next_behind ns os i o s ws total more within is told none behind_it =
 pub next_step : (base reads : List Note) (os : List Operation) (i : ℕ) (o : Operation) (ws new : List Write) (total : Option Ask) (goes : Bool) → i < length os → o ≡ get_or os i o →
     base ≡ reads → first_unnoted reads (asks_from (drop i os) (sees_by reads) ws) ≡ total → None ≡ first_unnoted base (asks_of o (sees_by base) ws) →
     ((rest : List Operation) → asks_behind (λ done. asks_from rest (sees_by base) (with_writes ws done.write)) (perform_result o (behind (sees_by base) ws))
-      ≡ cond goes (asks_from rest (sees_by base) new) []) →
+    ≡ cond goes (asks_from rest (sees_by base) new) []) →
     first_unnoted reads (cond goes (asks_from (drop (i + 1) os) (sees_by reads) new) []) ≡ total
 next_step base reads os i o ws new total goes within is same told none behind_it =
     let before : first_unnoted base (asks_from (drop i os) (sees_by base) ws) ≡ total =

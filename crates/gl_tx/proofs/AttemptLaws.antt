@@ -151,10 +151,9 @@ seen_now began now (n ∷ ns) none since =
     go true is h again = absurd (cc)
     go false is h again =
         let noted = since.0 in
-        let unchanged : changed_at (versioned_by now) n ≤ began = grind (arith, nat_tests) in
-        (
+        let unchanged : changed_at (versioned_by now) n ≤ began = grind (arith, nat_tests) in (
           subst (λ (ps : List Placed). IsSeen (sees_in (written_by ps)) n) noted.all
-          (still_seen noted.before noted.since began n noted.above (subst (λ (ps : List Placed). changed_at (versioned_by ps) n ≤ began) (sym noted.all) unchanged) noted.found),
+              (still_seen noted.before noted.since began n noted.above (subst (λ (ps : List Placed). changed_at (versioned_by ps) n ≤ began) (sym noted.all) unchanged) noted.found),
           again h,
         )
 

@@ -462,8 +462,8 @@ length-AreAsked os ns few h =
     let begins = front-begins (is_noted ns) (asks_from os (sees_by ns) []) in
     let charged : (a : Ask) → Among (asked ns) a → Among (charges_from os (sees_by ns) []) a =
     λ a there.
-        elim (asks_from-charged os (sees_by ns) [] a
-        (subst (λ (xs : List Ask). Among xs a) begins.1 (among-front (known_asks os ns) begins.0 a (is.reached a there)))) [ inl c ↦ c | inr never ↦ absurd never ] in
+    elim (asks_from-charged os (sees_by ns) [] a
+    (subst (λ (xs : List Ask). Among xs a) begins.1 (among-front (known_asks os ns) begins.0 a (is.reached a there)))) [ inl c ↦ c | inr never ↦ absurd never ] in
     let within = length-different (asked ns) (charges_from os (sees_by ns) []) is.different charged in
     omega (arith, within, length-asked ns, length-charges_from os (sees_by ns) [])
 

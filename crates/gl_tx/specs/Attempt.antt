@@ -114,7 +114,7 @@ finish_result a t cuts =
     if is_rolled_back a.cuts cuts
     then Err (faults.RolledBack (rolled_back_between a.cuts cuts))
     else
-      unless_conflict (conflict_of a.began t a.noted) (run_answer (run_seeing a.request t.sees))
+    unless_conflict (conflict_of a.began t a.noted) (run_answer (run_seeing a.request t.sees))
 
 -- The note is what is seen where its ask is asked.
 abbrev pub IsSeen : Sees → Note → Type 0

@@ -46,7 +46,7 @@ fn key_ask(
 ) -> Result<Option<Ask>, AllocError>
     ensures { IfOk result (λ ask.
         ask ≡ first_unnoted overlay.now.base.now
-            (key_asks overlay.now.writes target.now (option_copied value.entry))) }
+        (key_asks overlay.now.writes target.now (option_copied value.entry))) }
 {
     let Some(value) = value else {
         return Ok(None);
@@ -66,8 +66,8 @@ fn follow_ask(
 ) -> Result<Option<Ask>, AllocError>
     ensures { IfOk result (λ ask.
         ask ≡ first_unnoted overlay.now.base.now
-            (allowed_asks (Operation.Follow map.now key.now target.now)
-            (sees_by overlay.now.base.now) overlay.now.writes)) }
+        (allowed_asks (Operation.Follow map.now key.now target.now)
+        (sees_by overlay.now.base.now) overlay.now.writes)) }
 {
     match row_ask(alloc, overlay, map, key)? {
         Some(ask) => Ok(Some(ask)),
@@ -107,8 +107,8 @@ fn size_ask(
 ) -> Result<Option<Ask>, AllocError>
     ensures { IfOk result (λ ask.
         ask ≡ first_unnoted overlay.now.base.now
-            (allowed_asks (Operation.Size map.now)
-            (sees_by overlay.now.base.now) overlay.now.writes)) }
+        (allowed_asks (Operation.Size map.now)
+        (sees_by overlay.now.base.now) overlay.now.writes)) }
 {
     if overlay.base.has_map(map.as_slice()) {
         written_ask(alloc, overlay, map)
@@ -127,7 +127,7 @@ fn allowed_ask(
 ) -> Result<Option<Ask>, AllocError>
     ensures { IfOk result (λ ask.
         ask ≡ first_unnoted overlay.now.base.now
-            (allowed_asks operation.now (sees_by overlay.now.base.now) overlay.now.writes)) }
+        (allowed_asks operation.now (sees_by overlay.now.base.now) overlay.now.writes)) }
 {
     match operation {
         Operation::Get { map, key }
@@ -149,7 +149,7 @@ fn operation_ask(
 ) -> Result<Option<Ask>, AllocError>
     ensures { IfOk result (λ ask.
         ask ≡ first_unnoted overlay.now.base.now
-            (asks_of operation.now (sees_by overlay.now.base.now) overlay.now.writes)) }
+        (asks_of operation.now (sees_by overlay.now.base.now) overlay.now.writes)) }
 {
     match bar_on(operation) {
         Some(_) => Ok(None),
@@ -168,7 +168,7 @@ fn step(
     ensures rest { let sees = sees_by overlay.old.base.now in let writes = overlay.old.writes in
         IfOk result (λ goes. (rest : List Operation) →
         asks_behind (λ done. asks_from rest sees (with_writes writes done.write))
-            (perform_result operation.now (behind sees writes))
+        (perform_result operation.now (behind sees writes))
         ≡ (if goes then asks_from rest sees overlay.new.writes else [])) }
     ensures same { OnOk result (overlay.new.base.now ≡ overlay.old.base.now) }
     ensures few { OnOk result (length overlay.new.writes ≤ length overlay.old.writes + 1) }

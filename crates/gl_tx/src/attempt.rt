@@ -137,11 +137,7 @@ impl Attempt {
         self.run_if_unchanged(tables, cuts)
     }
 
-    fn run_if_unchanged(
-        &self,
-        tables: &Tables,
-        cuts: u64,
-    ) -> Result<Ran, OrNoMemory<TxFault>>
+    fn run_if_unchanged(&self, tables: &Tables, cuts: u64) -> Result<Ran, OrNoMemory<TxFault>>
         ensures exact { Answers (λ ran. ran) result
             (finish_result self.now (versioned_of tables.now) cuts) }
         ensures few { IfOk result (λ ran. length ran.writes ≤ 64) }

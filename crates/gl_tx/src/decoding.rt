@@ -226,7 +226,11 @@ fn read_answer(alloc: Global, cut: &mut Cut<'_>) -> Result<Answer, OrNoMemory<Co
     }
 }
 
-fn read_answers(alloc: Global, count: u16, cut: &mut Cut<'_>) -> Result<Vec<Answer>, OrNoMemory<CodeFault>>
+fn read_answers(
+    alloc: Global,
+    count: u16,
+    cut: &mut Cut<'_>,
+) -> Result<Vec<Answer>, OrNoMemory<CodeFault>>
     ensures { Answers (λ answers. (answers.items, cut.new)) result (answers_at count cut.old) }
 {
     let mut answers = Vec::new(alloc);

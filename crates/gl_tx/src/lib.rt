@@ -23,6 +23,8 @@ pub use request::{Answer, Operation, Reply, Request};
 pub use runs::{Ran, run};
 
 #[cfg(test)]
+mod attempt_tests;
+#[cfg(test)]
 mod run_tests;
 #[cfg(test)]
 mod tests;

@@ -26,7 +26,10 @@ pub enum Note {
         value: Option<Value>,
     },
     /// The number of a map's keys.
-    Map { map: MapName, size: u64 },
+    Map {
+        map: MapName,
+        size: u64,
+    },
 }
 
 impl Note {
@@ -61,7 +64,9 @@ impl Note {
     {
         match self {
             Note::Row {
-                map: of, key: at, ..
+                map: of,
+                key: at,
+                ..
             } => map == of.as_slice() && key == at.as_slice(),
             Note::Map { .. } => false,
         }

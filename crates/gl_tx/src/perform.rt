@@ -117,7 +117,12 @@ fn number_in(value: Option<&[u8]>) -> Result<u64, Cause>
     }
 }
 
-fn get<L: Lookup>(alloc: Global, overlay: &Overlay<'_, L>, map: &MapName, key: &Key) -> Result<Performed, OrNoMemory<Cause>>
+fn get<L: Lookup>(
+    alloc: Global,
+    overlay: &Overlay<'_, L>,
+    map: &MapName,
+    key: &Key,
+) -> Result<Performed, OrNoMemory<Cause>>
     ensures { let sees = behind (L.sees overlay.now.base.now) overlay.now.writes in
         Answers (λ done. done) result (answer_only (value_or_none (sees.value map.now key.now))) }
 {
@@ -132,7 +137,12 @@ fn has<L: Lookup>(overlay: &Overlay<'_, L>, map: &MapName, key: &Key) -> Perform
     answer_only(yes_or_no(overlay.has(map.as_slice(), key.as_slice())))
 }
 
-fn put(alloc: Global, map: &MapName, key: &Key, value: &Value) -> Result<Performed, OrNoMemory<Cause>>
+fn put(
+    alloc: Global,
+    map: &MapName,
+    key: &Key,
+    value: &Value,
+) -> Result<Performed, OrNoMemory<Cause>>
     ensures { Answers (λ done. done) result
         (answer_and_write Answer.Done map.now key.now (Some value.now)) }
 {
@@ -148,7 +158,7 @@ fn remove<L: Lookup>(
 ) -> Result<Performed, OrNoMemory<Cause>>
     ensures { let sees = behind (L.sees overlay.now.base.now) overlay.now.writes in
         Answers (λ done. done) result
-            (answer_and_write (yes_or_no (has_key sees map.now key.now)) map.now key.now None) }
+        (answer_and_write (yes_or_no (has_key sees map.now key.now)) map.now key.now None) }
 {
     let there = overlay.has(map.as_slice(), key.as_slice());
     Ok(answer_and_write(alloc, yes_or_no(there), map, key, None)?)
@@ -178,7 +188,7 @@ fn add<L: Lookup>(
 ) -> Result<Performed, OrNoMemory<Cause>>
     ensures { let sees = behind (L.sees overlay.now.base.now) overlay.now.writes in
         Answers (λ done. done) result
-            (add_result map.now key.now amount (sees.value map.now key.now)) }
+        (add_result map.now key.now amount (sees.value map.now key.now)) }
 {
     let number = number_in(overlay.get(map.as_slice(), key.as_slice()))?;
     let sum = sum_of(number, amount)?;
@@ -205,7 +215,7 @@ fn check<L: Lookup>(
 ) -> Result<Performed, OrNoMemory<Cause>>
     ensures { let sees = behind (L.sees overlay.now.base.now) overlay.now.writes in
         Answers (λ done. done) result (check_result
-            (is_expected (option_copied expected.entry) (sees.value map.now key.now))) }
+        (is_expected (option_copied expected.entry) (sees.value map.now key.now))) }
 {
     let value = overlay.get(map.as_slice(), key.as_slice());
     if is_expected(expected, value) {

@@ -41,7 +41,7 @@ fn step<L: Lookup>(
     ensures same { OnOk result (overlay.new.base.now ≡ overlay.old.base.now) }
     ensures aborted { IfErr result (λ e. (rest : List Operation) →
         Fails e (run_from number (operation.now ∷ rest)
-            (L.sees overlay.old.base.now) overlay.old.writes)) }
+        (L.sees overlay.old.base.now) overlay.old.writes)) }
     ensures few { OnOk result (length overlay.new.writes ≤ length overlay.old.writes + 1) }
 {
     match perform(alloc, overlay, operation) {
@@ -99,11 +99,7 @@ fn run_seeing<L: Lookup>(
 
 /// Runs a request on tables, which stay as they are: its operations in order, each on what the
 /// earlier ones wrote, up to the first that fails.
-pub fn run(
-    alloc: Global,
-    request: &Request,
-    tables: &Tables,
-) -> Result<Ran, OrNoMemory<Abort>>
+pub fn run(alloc: Global, request: &Request, tables: &Tables) -> Result<Ran, OrNoMemory<Abort>>
     ensures exact { Answers (λ ran. ran) result (run_seeing request.now (sees_of tables.now)) }
     ensures stands { (ps : List Placed) → StandsFor tables.now ps →
         Answers (λ ran. ran) result (run request.now (written_by ps)) }

@@ -21,8 +21,8 @@ returns-then-not-branch c =
     c.loop-operation-test.true c.operation-item.is c.loop-operation.invariant.same c.loop-operation.invariant.rest
     (sym c.in-None.is ∙ c.in_ok-ask.ensures) c.in_ok-step-in-None.ensures.rest in
     subst (λ (b : Bool). first_unnoted c.args.reads.now
-      (cond b (asks_from (drop (c.loop-operation.operation-index + 1) c.as_slice-operation-items.result.now) (sees_by c.args.reads.now) c.step.new.overlay.writes) [])
-      ≡ next_ask c.args.request.now c.args.reads.now) stops told
+    (cond b (asks_from (drop (c.loop-operation.operation-index + 1) c.as_slice-operation-items.result.now) (sees_by c.args.reads.now) c.step.new.overlay.writes) [])
+    ≡ next_ask c.args.request.now c.args.reads.now) stops told
 
 pub loop-operation-preserved : goal.loop-operation-preserved
 loop-operation-preserved c =
@@ -35,8 +35,8 @@ loop-operation-preserved c =
     record {
       rest =
           subst (λ (b : Bool). first_unnoted c.args.reads.now
-            (cond b (asks_from (drop (c.loop-operation.operation-index + 1) c.as_slice-operation-items.result.now) (sees_by c.args.reads.now) c.step.new.overlay.writes) [])
-            ≡ next_ask c.args.request.now c.args.reads.now) goes told;
+          (cond b (asks_from (drop (c.loop-operation.operation-index + 1) c.as_slice-operation-items.result.now) (sees_by c.args.reads.now) c.step.new.overlay.writes) [])
+          ≡ next_ask c.args.request.now c.args.reads.now) goes told;
       same = c.in_ok-step-in-None.ensures.same ∙ c.loop-operation.invariant.same;
       few = omega (arith, c.in_ok-step-in-None.ensures.few, c.loop-operation.invariant.few);
     }

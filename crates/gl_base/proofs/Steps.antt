@@ -1,5 +1,5 @@
 -- What a reading that succeeded went through.
-use Rattle.std.proofs.Common.{◌≡◌, Bool, true, false, cond, Result, Ok, Err, refl}
+use Rattle.std.proofs.Common.{◌≡◌, Bool, true, false, cond, Result, Ok, Err, refl, ap}
 use Rattle.gl_base.specs.Steps.{◌>>=◌}
 
 -- A test before a reading that succeeds was false.
@@ -14,3 +14,11 @@ bind_ok (Err e) f y h = cc
 
 pub ok_injective : {A E : Type 0} → (x y : A) → ◌≡◌ {A = Result A E} (Ok x) (Ok y) → x ≡ y
 ok_injective x y h = cc
+
+-- Two pairs that are given alike are one.
+pub same_pair : {A B F : Type 0} (r : Result (A × B) F) (x y : A) (a b : B) → r ≡ Ok (x, a) → r ≡ Ok (y, b) → (y ≡ x) × (b ≡ a)
+same_pair {A} {B} r x y a b d e =
+    let p : A × B = (x, a) in
+    let q : A × B = (y, b) in
+    let one : q ≡ p = cc in
+    (ap (λ (t : A × B). t.0) one, ap (λ (t : A × B). t.1) one)

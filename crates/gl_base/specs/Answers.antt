@@ -8,8 +8,8 @@ abbrev pub Fails : {Y F : Type 0} → OrNoMemory F → Result Y F → Type 0
 Fails NoMemory reading = Unit {0}
 Fails (Fault fault) reading = reading ≡ Err fault
 
--- The call answers this reading, seen by view, or memory ran out. Of a call that reads a value from the front of
--- bytes and leaves the rest, view pairs the value with the rest.
+-- The call answers this reading, seen by view, or memory ran out. Of a call that reads a value from
+-- the front of bytes and leaves the rest, view pairs the value with the rest.
 abbrev pub Answers : {X Y F : Type 0} → (X → Y) → Result X (OrNoMemory F) → Result Y F → Type 0
 Answers view (Ok x) reading = reading ≡ Ok (view x)
 Answers view (Err e) reading = Fails e reading

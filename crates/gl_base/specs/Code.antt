@@ -1,5 +1,5 @@
--- Values read from the front of bytes: beside the faults of their fields, what isn't allowed where it stands, and
--- bytes that are left over.
+-- Values read from the front of bytes: beside the faults of their fields, what isn't allowed where
+-- it stands, and bytes that are left over.
 use Rattle.std.specs.Prelude.{ℕ, List, Result, Ok, Err, length, ◌==◌, if◌then◌else◌}
 use Rattle.gl_base.specs.Cut.{Unread}
 use Rattle.gl_base.specs.Steps.{◌>>=◌}
@@ -21,9 +21,11 @@ abbrev pub ended : {X : Type 0} → X × Unread → Result X CodeFault
 ended read = if length read.1.bytes == 0 then Ok read.0 else Err (Trailing read.1.at)
 
 -- A value that is all of the bytes, of which the first stands at a place.
-abbrev pub whole_at : {X : Type 0} → (Unread → Result (X × Unread) CodeFault) → ℕ → List ℕ → Result X CodeFault
+abbrev pub whole_at : {X : Type 0} → (Unread → Result (X × Unread) CodeFault) → ℕ → List ℕ
+    → Result X CodeFault
 whole_at reading place bytes = reading (record { at = place; bytes = bytes }) >>= ended
 
 -- A value that is all of the bytes.
-abbrev pub whole : {X : Type 0} → (Unread → Result (X × Unread) CodeFault) → List ℕ → Result X CodeFault
+abbrev pub whole : {X : Type 0} → (Unread → Result (X × Unread) CodeFault) → List ℕ
+    → Result X CodeFault
 whole reading bytes = whole_at reading 0 bytes

@@ -1,7 +1,7 @@
 -- Fields read from the front of bytes, from left to right, and the first fault that is met.
-use Rattle.std.specs.Prelude.{◌≡◌, ◌≢◌, ℕ, ◌+◌, ◌/◌, ◌^◌, ◌<◌, ◌≤◌, Bool, not, List, ◌++◌, length, take, drop, Option, None, Some, Result, Ok, Err, position, ◌==◌, nat_lt, if◌then◌else◌, ◌⊎◌}
+use Rattle.std.specs.Prelude.{◌≡◌, ◌≢◌, ℕ, ◌+◌, ◌/◌, ◌^◌, ◌<◌, ◌≤◌, Bool, not, List, length, take, drop, Option, None, Some, Result, Ok, Err, position, ◌==◌, nat_lt, if◌then◌else◌}
 use Rattle.std.specs.Char.{is_ascii_graphic}
-use Rattle.gl_base.specs.LittleEndian.{little_endian, from_little_endian}
+use Rattle.gl_base.specs.LittleEndian.{from_little_endian}
 use Rattle.gl_base.specs.Steps.{◌>>=◌}
 use Rattle.gl_base.specs.declared.fault.CutFault.{CutFault}
 use Rattle.gl_base.specs.declared.fault.CutFault.TheVariants.{Short, TooLong, NotText}
@@ -19,7 +19,10 @@ end_of unread = unread.at + length unread.bytes
 unfoldable pub bytes_at : ℕ → Unread → Result (List ℕ × Unread) CutFault
 bytes_at count unread =
     if nat_lt (length unread.bytes) count then Err (Short (end_of unread))
-    else Ok (take count unread.bytes, record { at = unread.at + count; bytes = drop count unread.bytes })
+    else Ok (
+      take count unread.bytes,
+      record { at = unread.at + count; bytes = drop count unread.bytes },
+    )
 
 -- A number of so many bytes.
 unfoldable pub number_at : ℕ → Unread → Result (ℕ × Unread) CutFault
@@ -35,7 +38,8 @@ string_at size limit unread = do
 
 -- A field of bytes by the width of its length in bits; with the width 0 the limit is the count.
 abbrev pub field_at : ℕ → ℕ → Unread → Result (List ℕ × Unread) CutFault
-field_at width limit unread = if width == 0 then bytes_at limit unread else string_at (width / 8) limit unread
+field_at width limit unread =
+    if width == 0 then bytes_at limit unread else string_at (width / 8) limit unread
 
 -- The bytes that such a field may hold.
 pub record FitsField (width limit : ℕ) (xs : List ℕ) : Type 0 where
@@ -46,7 +50,8 @@ pub record FitsField (width limit : ℕ) (xs : List ℕ) : Type 0 where
 abbrev pub is_no_text : ℕ → Bool
 is_no_text byte = not (is_ascii_graphic byte)
 
--- The bytes of a field, which begin at a place, are all text, or else the place of the first that isn't is told.
+-- The bytes of a field, which begin at a place, are all text, or else the place of the first that
+-- isn't is told.
 abbrev pub all_text : ℕ → (List ℕ × Unread) → Option ℕ → Result (List ℕ × Unread) CutFault
 all_text start field None = Ok field
 all_text start field (Some i) = Err (NotText (start + i))
@@ -63,7 +68,9 @@ pub record FitsText (limit : ℕ) (xs : List ℕ) : Type 0 where
   pub small : length xs < 256
   pub visible : position is_no_text xs ≡ None
 
--- What a read gave, seen by view, and what it left are what the reading gives; after a fault all is as before.
-abbrev pub Gives : {X Y F : Type 0} → (X → Y) → Result X F → Unread → Unread → Result (Y × Unread) F → Type 0
+-- What a read gave, seen by view, and what it left are what the reading gives; after a fault all is
+-- as before.
+abbrev pub Gives : {X Y F : Type 0} → (X → Y) → Result X F → Unread → Unread
+    → Result (Y × Unread) F → Type 0
 Gives view (Ok x) old new reading = reading ≡ Ok (view x, new)
 Gives view (Err fault) old new reading = (reading ≡ Err fault) × (new ≡ old)

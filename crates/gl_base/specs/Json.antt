@@ -4,7 +4,9 @@ use Rattle.std.specs.List.{flat_map}
 
 -- A byte of a member's name: '~' is written '~0', and '/' is written '~1' (section 3).
 abbrev pub escaped_byte : ℕ → List ℕ
-escaped_byte byte = if byte == 126 then 126 ∷ 48 ∷ [] else (if byte == 47 then 126 ∷ 49 ∷ [] else byte ∷ [])
+escaped_byte byte =
+    if byte == 126 then 126 ∷ 48 ∷ []
+    else (if byte == 47 then 126 ∷ 49 ∷ [] else byte ∷ [])
 
 abbrev pub escaped : List ℕ → List ℕ
 escaped name = flat_map escaped_byte name

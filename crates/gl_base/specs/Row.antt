@@ -1,6 +1,6 @@
--- A map's name, a key and a value as fields of bytes (CCF documentation, "Key-Value Store"): how they are spelled, how they
--- are read, and within which limits.
-use Rattle.std.specs.Prelude.{ℕ, List, [], ◌∷◌, ◌++◌, Bool, true, ◌&&◌, Option, None, Some, Result, Ok, Err, length, nat_le, ◌==◌, if◌then◌else◌}
+-- A map's name, a key and a value as fields of bytes (CCF documentation, "Key-Value Store"): how they
+-- are spelled, how they are read, and within which limits.
+use Rattle.std.specs.Prelude.{ℕ, List, [], ◌∷◌, Bool, true, ◌&&◌, Option, None, Some, Result, Ok, Err, length, nat_le, ◌==◌, if◌then◌else◌}
 use Rattle.std.specs.Char.{is_ascii_graphic}
 use Rattle.std.specs.List.{list_all}
 use Rattle.gl_base.specs.Steps.{◌>>=◌}
@@ -68,11 +68,14 @@ key_at unread = field (string_at 2 key_limit unread) >>= some_bytes unread.at
 unfoldable pub value_at : ℕ → Unread → Result (List ℕ × Unread) CodeFault
 value_at limit unread = field (string_at 4 limit unread)
 
--- What stands behind a byte that says whether there is a value; the byte's place is told where it is neither 0 nor 1.
+-- What stands behind a byte that says whether there is a value; the byte's place is told where it is
+-- neither 0 nor 1.
 abbrev pub optional_behind : ℕ → ℕ → ℕ × Unread → Result (Option (List ℕ) × Unread) CodeFault
 optional_behind limit place flag =
     if flag.0 == 0 then Ok (None, flag.1)
-    else (if flag.0 == 1 then (value_at limit flag.1 >>= λ value. Ok (Some value.0, value.1)) else Err (faults.Value place))
+    else (if flag.0 == 1
+    then (value_at limit flag.1 >>= λ value. Ok (Some value.0, value.1))
+    else Err (faults.Value place))
 
 unfoldable pub optional_value_at : ℕ → Unread → Result (Option (List ℕ) × Unread) CodeFault
 optional_value_at limit unread = field (number_at 1 unread) >>= optional_behind limit unread.at

@@ -197,9 +197,10 @@ impl<'a> Cut<'a> {
     #[tactic(auto, unfolding(crate::specs::Cut::string_at))]
     fn string(&mut self, width: u32, limit: u64) -> Result<&'a [u8], CutFault>
         requires { (width ≡ 8) ⊎ (width ≡ 16) ⊎ (width ≡ 32) }
-        ensures exact { Gives (λ s. s.now) result self.old self.new (string_at (width / 8) limit self.old) }
-        ensures spelled { IfOk result (λ s.
-            self.old.bytes ≡ little_endian (width / 8) (length s.now) ++ (s.now ++ self.new.bytes)) }
+        ensures exact { Gives (λ s. s.now) result self.old self.new
+            (string_at (width / 8) limit self.old) }
+        ensures spelled { IfOk result (λ s. self.old.bytes ≡
+            little_endian (width / 8) (length s.now) ++ (s.now ++ self.new.bytes)) }
     {
         let mut ahead = self.copy();
         let len = ahead.length(width)?;
@@ -215,7 +216,8 @@ impl<'a> Cut<'a> {
     /// width 0 there is no length, and `limit` is the number of the bytes.
     pub fn bytes(&mut self, width: u32, limit: u64) -> Result<&'a [u8], CutFault>
         requires { IsWidth width }
-        ensures exact { Gives (λ s. s.now) result self.old self.new (field_at width limit self.old) }
+        ensures exact { Gives (λ s. s.now) result self.old self.new
+            (field_at width limit self.old) }
         ensures spelled { IfOk result (λ s.
             self.old.bytes ≡ field_spelling width s.now ++ self.new.bytes) }
         ensures only { (xs rest : List ℕ) → FitsField width limit xs →
@@ -252,7 +254,8 @@ impl<'a> Cut<'a> {
         ensures spelled { IfOk result (λ s.
             self.old.bytes ≡ little_endian 1 (length s.now) ++ (s.now ++ self.new.bytes)) }
         ensures only { (xs rest : List ℕ) → FitsText limit xs →
-            self.old.bytes ≡ little_endian 1 (length xs) ++ (xs ++ rest) → IsOkAnd result (λ s. s.now ≡ xs) }
+            self.old.bytes ≡ little_endian 1 (length xs) ++ (xs ++ rest) →
+            IsOkAnd result (λ s. s.now ≡ xs) }
     {
         self.name(limit)
     }
@@ -298,7 +301,8 @@ impl<'a> Cut<'a> {
     fn key_field(&mut self) -> Result<&'a [u8], CodeFault>
         ensures exact { Gives (λ key. key.now) result self.old self.new (key_at self.old) }
         ensures valid { IfOk result (λ key. IsTrue (is_key_field key.now)) }
-        ensures spelled { IfOk result (λ key. self.old.bytes ≡ key_bytes key.now ++ self.new.bytes) }
+        ensures spelled { IfOk result (λ key.
+            self.old.bytes ≡ key_bytes key.now ++ self.new.bytes) }
     {
         let mut ahead = self.copy();
         let bytes = ahead.bytes(16, KEY_LIMIT)?;
@@ -311,7 +315,8 @@ impl<'a> Cut<'a> {
     pub fn key(&mut self) -> Result<&'a [u8], CodeFault>
         ensures exact { Gives (λ key. key.now) result self.old self.new (key_at self.old) }
         ensures valid { IfOk result (λ key. IsTrue (is_key_field key.now)) }
-        ensures spelled { IfOk result (λ key. self.old.bytes ≡ key_bytes key.now ++ self.new.bytes) }
+        ensures spelled { IfOk result (λ key.
+            self.old.bytes ≡ key_bytes key.now ++ self.new.bytes) }
         ensures only { (xs rest : List ℕ) → IsTrue (is_key_field xs) →
             self.old.bytes ≡ key_bytes xs ++ rest → IsOkAnd result (λ key. key.now ≡ xs) }
     {
@@ -320,7 +325,8 @@ impl<'a> Cut<'a> {
 
     #[tactic(auto, unfolding(crate::specs::Row::value_at))]
     fn value_field(&mut self, limit: u64) -> Result<&'a [u8], CodeFault>
-        ensures exact { Gives (λ value. value.now) result self.old self.new (value_at limit self.old) }
+        ensures exact { Gives (λ value. value.now) result self.old self.new
+            (value_at limit self.old) }
         ensures valid { IfOk result (λ value. IsTrue (is_value_field limit value.now)) }
         ensures spelled { IfOk result (λ value.
             self.old.bytes ≡ value_bytes value.now ++ self.new.bytes) }
@@ -335,7 +341,8 @@ impl<'a> Cut<'a> {
     /// A value behind its length of four bytes, which is `limit` at most.
     pub fn value(&mut self, limit: u64) -> Result<&'a [u8], CodeFault>
         requires { limit < 2 ^ 32 }
-        ensures exact { Gives (λ value. value.now) result self.old self.new (value_at limit self.old) }
+        ensures exact { Gives (λ value. value.now) result self.old self.new
+            (value_at limit self.old) }
         ensures valid { IfOk result (λ value. IsTrue (is_value_field limit value.now)) }
         ensures spelled { IfOk result (λ value.
             self.old.bytes ≡ value_bytes value.now ++ self.new.bytes) }
@@ -348,7 +355,8 @@ impl<'a> Cut<'a> {
     #[tactic(auto, unfolding(crate::specs::Row::optional_value_at, crate::specs::LittleEndian::little_endian))]
     fn optional_value_field(&mut self, limit: u64) -> Result<Option<&'a [u8]>, CodeFault>
         requires { limit < 2 ^ 32 }
-        ensures exact { Gives option_copied result self.old self.new (optional_value_at limit self.old) }
+        ensures exact { Gives option_copied result self.old self.new
+            (optional_value_at limit self.old) }
         ensures valid { IfOk result (λ value.
             IsTrue (is_optional_value_field limit (option_copied value))) }
         ensures spelled { IfOk result (λ value.
@@ -372,12 +380,14 @@ impl<'a> Cut<'a> {
     /// A byte 0 and no value, or a byte 1 and a value of `limit` bytes at most.
     pub fn optional_value(&mut self, limit: u64) -> Result<Option<&'a [u8]>, CodeFault>
         requires { limit < 2 ^ 32 }
-        ensures exact { Gives option_copied result self.old self.new (optional_value_at limit self.old) }
+        ensures exact { Gives option_copied result self.old self.new
+            (optional_value_at limit self.old) }
         ensures valid { IfOk result (λ value.
             IsTrue (is_optional_value_field limit (option_copied value))) }
         ensures spelled { IfOk result (λ value.
             self.old.bytes ≡ optional_value_bytes (option_copied value) ++ self.new.bytes) }
-        ensures only { (v : Option (List ℕ)) (rest : List ℕ) → IsTrue (is_optional_value_field limit v) →
+        ensures only { (v : Option (List ℕ)) (rest : List ℕ) →
+            IsTrue (is_optional_value_field limit v) →
             self.old.bytes ≡ optional_value_bytes v ++ rest →
             IsOkAnd result (λ value. option_copied value ≡ v) }
     {
@@ -388,7 +398,8 @@ impl<'a> Cut<'a> {
 /// The bytes of a field that begins at `at`, of which there must be so many at least.
 fn at_least<'a>(least: usize, at: usize, bytes: &'a [u8]) -> Result<&'a [u8], CodeFault>
     ensures ok { IfOk result (λ s. (s.now ≡ bytes.now) × (least ≤ length bytes.now)) }
-    ensures err { IfErr result (λ fault. (fault ≡ CodeFault.Value at) × (length bytes.now < least)) }
+    ensures err { IfErr result (λ fault.
+        (fault ≡ CodeFault.Value at) × (length bytes.now < least)) }
     ensures each { IsTrue (are_bytes bytes.now) }
 {
     if bytes.len() < least {

@@ -2,7 +2,6 @@
 
 ghost use Rattle.std.specs.Prelude.{◌≡◌};
 ghost use Rattle.gl_base.specs.declared.fault.CodeFault.TheVariants.{Cut};
-ghost use Rattle.gl_base.specs.declared.or_no_memory.OrNoMemory.TheVariants.{Fault};
 
 use crate::or_no_memory::OrNoMemory;
 use thiserror::Error;
@@ -21,8 +20,8 @@ pub enum CutFault {
     NotText { at: usize },
 }
 
-/// Why bytes are not the spelling of a value: the first fault from the left. A place is counted from
-/// the first of all the bytes, from 0.
+/// Why bytes are not the spelling of a value: the first fault from the left. A place is counted
+/// from the first of all the bytes, from 0.
 #[derive(Clone, Copy, Debug, PartialEq, Eq, Error)]
 pub enum CodeFault {
     /// A field could not be read.
@@ -45,10 +44,12 @@ impl From<CutFault> for CodeFault {
     }
 }
 
-impl From<CodeFault> for OrNoMemory<CodeFault> {
-    ghost from_gives = { λ fault e. e ≡ Fault fault };
+impl<F: From<CodeFault> + Drop> From<CodeFault> for OrNoMemory<F> {
+    ghost use Rattle.gl_base.specs.Answers.{IsFault};
 
-    fn from(fault: CodeFault) -> OrNoMemory<CodeFault> {
-        OrNoMemory::Fault(fault)
+    ghost from_gives = { λ fault e. IsFault e (F.from_gives fault) };
+
+    fn from(fault: CodeFault) -> OrNoMemory<F> {
+        OrNoMemory::Fault(F::from(fault))
     }
 }

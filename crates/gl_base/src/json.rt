@@ -36,8 +36,8 @@ fn put_escaped_byte(out: &mut Vec<u8>, byte: u8) -> Result<(), AllocError>
     }
 }
 
-/// Writes a name with `~` as `~0` and `/` as `~1` (RFC 6901, section 3). What was written before want
-/// of memory stays.
+/// Writes a name with `~` as `~0` and `/` as `~1` (RFC 6901, section 3). What was written before
+/// want of memory stays.
 fn put_escaped(out: &mut Vec<u8>, name: &[u8]) -> Result<(), AllocError>
     ensures put { OnOk result (out.new.items ≡ out.old.items ++ escaped name.now) }
     ensures front { take (vec_len out.old) out.new.items ≡ out.old.items }

@@ -11,10 +11,10 @@ use std::fmt;
 /// Memory ran out, or a fault of this kind.
 ///
 /// A crate that has faults of its own writes `impl From<ItsFault> for OrNoMemory<ItsFault>` beside
-/// them, and `impl From<CutFault> for ItsFault` where it reads fields: `?` then goes from each of
-/// these, and from what an allocation answers, to `OrNoMemory<ItsFault>`. What another call answers
-/// becomes it by `map_err(OrNoMemory::widen)`.
-#[derive(Clone, Copy, Debug, PartialEq, Eq)]
+/// them, and `From<CutFault>` and `From<CodeFault>` for `ItsFault` where it reads fields: `?` then
+/// goes from each of these, and from what an allocation answers, to `OrNoMemory<ItsFault>`. What
+/// another crate's call answers becomes it by `map_err(OrNoMemory::widen)`.
+#[derive(Clone, Copy, Debug, Drop, PartialEq, Eq)]
 pub enum OrNoMemory<F> {
     /// Memory ran out. This may come at any time, and nothing is changed.
     NoMemory,

@@ -127,3 +127,122 @@ fn leaves_the_cut_as_it_was_after_a_fault(rt: HostRuntime) -> Result<(), Fail> {
     assert_eq!(rt; names.text(9)?, b"".as_slice());
     Ok(())
 }
+
+/// The fields of a row: a map's name, a key, a value, no value, and a value where one may be.
+const ROW: [u8; 28] = [
+    8, 0x70, 0x75, 0x62, 0x6c, 0x69, 0x63, 0x3a, 0x74, 2, 0, 0x6b, 0, 2, 0, 0, 0, 7, 8, 0, 1, 3, 0,
+    0, 0, 9, 9, 9,
+];
+
+#[test]
+fn reads_the_fields_of_a_row(rt: HostRuntime) -> Result<(), Fail> {
+    let mut cut = Cut::new(&ROW);
+    assert_eq!(rt; cut.map_name()?, b"public:t".as_slice());
+    assert_eq!(rt; cut.key()?, b"k\0".as_slice());
+    assert_eq!(rt; cut.value(2)?, [7, 8].as_slice());
+    assert!(rt; cut.optional_value(9)?.is_none());
+    assert_eq!(rt; cut.end(), Err(CodeFault::Trailing { at: 20 }));
+    let long = CodeFault::Cut(CutFault::TooLong { at: 21, len: 3 });
+    assert_eq!(rt; cut.optional_value(2).err(), Some(long));
+    assert_eq!(rt;
+        cut.key().err(),
+        Some(CodeFault::Cut(CutFault::Short { at: 28 }))
+    );
+    assert_eq!(rt; cut.optional_value(3)?.map_or(0, |value| value.len()), 3);
+    assert_eq!(rt; cut.end(), Ok(()));
+    Ok(())
+}
+
+#[test]
+fn refuses_fields_of_a_row_that_are_empty_or_flagged_wrongly(rt: HostRuntime) {
+    let empty = Err(CodeFault::Value { at: 5 });
+    assert_eq!(rt; Cut::new_at(&[0, 1], 5).map_name(), empty);
+    assert_eq!(rt; Cut::new_at(&[0, 0, 1], 5).key(), empty);
+    let flag = Some(CodeFault::Value { at: 5 });
+    assert_eq!(rt;
+        Cut::new_at(&[2, 0, 0, 0, 0], 5).optional_value(9).err(),
+        flag
+    );
+    assert_eq!(rt; Cut::new(&[0, 0, 0, 0]).value(0), Ok([].as_slice()));
+}
+
+#[test]
+fn writes_the_fields_of_a_row(rt: HostRuntime) -> Result<(), Fail> {
+    let mut out = Vec::new(rt.alloc());
+    put_map_name(&mut out, b"public:t")?;
+    put_key(&mut out, b"k\0")?;
+    put_value(&mut out, &[7, 8])?;
+    put_optional_value(&mut out, None)?;
+    put_optional_value(&mut out, Some(&[9, 9, 9]))?;
+    assert_eq!(rt; out.as_slice(), ROW.as_slice());
+    put_field(&mut out, 0, b"!")?;
+    assert_eq!(rt; out.len(), 29);
+    Ok(())
+}
+
+#[test]
+fn writes_any_identifier_behind_a_list(rt: HostRuntime) -> Result<(), Fail> {
+    let mut out = vec![in rt.alloc(); b'=']?;
+    let id = TxId {
+        view: 0,
+        seqno: 18_446_744_073_709_551_615,
+    };
+    id.push_text(&mut out)?;
+    assert_eq!(rt; out.as_slice(), b"=0.18446744073709551615".as_slice());
+    Ok(())
+}
+
+#[test]
+fn points_into_a_json_text(rt: HostRuntime) -> Result<(), Fail> {
+    let mut path = Pointer::new(rt.alloc());
+    assert_eq!(rt; path.as_slice(), b"".as_slice());
+    path.push_member(b"a/b")?;
+    path.push_item(10)?;
+    path.push_member(b"m~n")?;
+    assert_eq!(rt; path.as_slice(), b"/a~1b/10/m~0n".as_slice());
+    Ok(())
+}
+
+/// The fault of a member that has another shape.
+fn shape_of(rt: &HostRuntime, name: &[u8]) -> Result<(), OrNoMemory<FormsFault>> {
+    let mut path = Pointer::new(rt.alloc());
+    path.push_member(name)?;
+    Err(FormsFault::Shape { path })?;
+    Ok(())
+}
+
+#[test]
+fn tells_where_the_shape_differs(rt: HostRuntime) -> Result<(), Fail> {
+    let mut path = Pointer::new(rt.alloc());
+    path.push_member(b"kind")?;
+    let want = OrNoMemory::Fault(FormsFault::Shape { path });
+    assert!(rt; shape_of(&rt, b"kind") == Err(want));
+    assert!(rt; shape_of(&rt, b"op") != shape_of(&rt, b"kind"));
+    Ok(())
+}
+
+/// Reads bytes behind their length in memory of their own.
+fn read_bytes(rt: &HostRuntime, cut: &mut Cut<'_>) -> Result<Bytes, OrNoMemory<CodeFault>> {
+    let bytes = cut.bytes(8, 2)?;
+    let copy = Vec::from_slice(rt.alloc(), bytes)?;
+    cut.end()?;
+    Ok(Bytes::from(copy))
+}
+
+#[test]
+fn converts_each_fault(rt: HostRuntime) -> Result<(), Fail> {
+    let bytes = read_bytes(&rt, &mut Cut::new(&[2, 5, 6]))?;
+    assert_eq!(rt; (bytes.len(), bytes.is_empty()), (2, false));
+    assert!(rt; same_bytes(&bytes.into_vec(), &[5, 6]));
+    let long = CodeFault::Cut(CutFault::TooLong { at: 0, len: 3 });
+    let of = |bytes: &[u8]| read_bytes(&rt, &mut Cut::new(bytes)).err();
+    assert_eq!(rt; of(&[3, 5, 6, 7]), Some(OrNoMemory::Fault(long)));
+    let left = CodeFault::Trailing { at: 2 };
+    assert_eq!(rt; of(&[1, 5, 6]), Some(OrNoMemory::Fault(left)));
+    let wider: OrNoMemory<CodeFault> = OrNoMemory::Fault(CutFault::Short { at: 4 }).widen();
+    assert_eq!(rt;
+        wider,
+        OrNoMemory::Fault(CodeFault::Cut(CutFault::Short { at: 4 }))
+    );
+    Ok(())
+}

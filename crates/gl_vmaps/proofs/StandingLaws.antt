@@ -1,5 +1,5 @@
 -- Tables that stand for writes answer as those, and go on doing so behind a write set, a cut and a compaction.
-use Rattle.std.proofs.Common.{◌≡◌, ℕ, ◌≤◌, ◌<◌, max, nat_le, Bool, true, false, ◌||◌, cond, List, [], ◌∷◌, ◌++◌, Option, Some, None, refl, sym, ◌∙◌, ap, subst, is_some, unwrap_or, if◌then◌else◌, arith}
+use Rattle.std.proofs.Common.{◌≡◌, ℕ, ◌≤◌, ◌<◌, max, nat_le, Bool, true, false, ◌||◌, cond, List, [], ◌∷◌, ◌++◌, Option, Some, None, refl, sym, ◌∙◌, ap, subst, is_some, unwrap_or, if◌then◌else◌, Result, Ok, Err, OnOk, OnErr, arith}
 use Rattle.std.specs.Cmp.Lexicographic.{slice_cmp}
 use Rattle.std.specs.FinMap.{get, entries, get-entries, keys, contains_key, contains_key-keys, get-empty, len, same_map, slice_cmp-IsAntisymmetric, nat_cmp-IsAntisymmetric}
 use Rattle.std.specs.FinMap.Entries.{find}
@@ -89,11 +89,11 @@ version_of-map t map key = go (get (chains_of t map) key) refl
 pub map_version_of-stands : (t : Kept) (ps : List Placed) → StandsFor t ps → (map : List ℕ) → map_version_of t map ≡ map_version_in ps map
 map_version_of-stands t ps stands map =
     let up : map_version_of t map ≤ map_version_in ps map =
-        greatest-below (version_of t map) (keys (chains_of t map)) (map_version_in ps map)
-        (λ key. let same = version_of-stands t ps stands map key in let le = version_in-map ps map key in omega (arith, same, le)) in
+    greatest-below (version_of t map) (keys (chains_of t map)) (map_version_in ps map)
+    (λ key. let same = version_of-stands t ps stands map key in let le = version_in-map ps map key in omega (arith, same, le)) in
     let down : map_version_in ps map ≤ map_version_of t map =
-        map_version_in-below ps map (map_version_of t map)
-        (λ key. let same = version_of-stands t ps stands map key in let le = version_of-map t map key in omega (arith, same, le)) in
+    map_version_in-below ps map (map_version_of t map)
+    (λ key. let same = version_of-stands t ps stands map key in let le = version_of-map t map key in omega (arith, same, le)) in
     omega (arith, up, down)
 
 -- ---- a write set
@@ -129,11 +129,11 @@ stands-applied old place ws new ps above applied stands =
           let c = old.compacted in
           let more = versions_in (placed_at place ws) map key in
           let at_old : latest_from c (versions_of new map key) ≡ latest_from c (versions_in (ps ++ placed_at place ws) map key) =
-              ap (latest_from c) (applied.rows map key)
-              ∙ latest-append c (versions_of old map key) more
-              ∙ ap (λ vs. latest_from c (vs ++ more)) (stands.rows map key)
-              ∙ sym (latest-append c (versions_in ps map key) more)
-              ∙ ap (latest_from c) (sym (versions_in-append ps (placed_at place ws) map key)) in
+          ap (latest_from c) (applied.rows map key)
+          ∙ latest-append c (versions_of old map key) more
+          ∙ ap (λ vs. latest_from c (vs ++ more)) (stands.rows map key)
+          ∙ sym (latest-append c (versions_in ps map key) more)
+          ∙ ap (latest_from c) (sym (versions_in-append ps (placed_at place ws) map key)) in
           subst (λ d. latest_from d (versions_of new map key) ≡ latest_from d (versions_in (ps ++ placed_at place ws) map key)) (sym applied.compacted) at_old;
     }
 
@@ -161,11 +161,11 @@ stands-cut old to new ps le is stands = record {
   rows = λ map key.
       let c = old.compacted in
       let at_old : latest_from c (versions_of new map key) ≡ latest_from c (versions_in (up_to to ps) map key) =
-          ap (latest_from c) (is.rows map key)
-          ∙ latest-up_to (versions_of old map key) c to le
-          ∙ ap (versions_up_to to) (stands.rows map key)
-          ∙ sym (latest-up_to (versions_in ps map key) c to le)
-          ∙ ap (latest_from c) (sym (versions_in-up_to to ps map key)) in
+      ap (latest_from c) (is.rows map key)
+      ∙ latest-up_to (versions_of old map key) c to le
+      ∙ ap (versions_up_to to) (stands.rows map key)
+      ∙ sym (latest-up_to (versions_in ps map key) c to le)
+      ∙ ap (latest_from c) (sym (versions_in-up_to to ps map key)) in
       subst (λ d. latest_from d (versions_of new map key) ≡ latest_from d (versions_in (up_to to ps) map key)) (sym is.compacted) at_old;
 }
 
@@ -178,11 +178,11 @@ stands-compacted old to new ps is stands = record {
       let c = old.compacted in
       let d = max c to in
       let at_max : latest_from d (versions_of new map key) ≡ latest_from d (versions_in ps map key) =
-          ap (latest_from d) (is.rows map key)
-          ∙ latest-latest (versions_of old map key) to d (omega arith)
-          ∙ sym (latest-latest (versions_of old map key) c d (omega arith))
-          ∙ ap (latest_from d) (stands.rows map key)
-          ∙ latest-latest (versions_in ps map key) c d (omega arith) in
+      ap (latest_from d) (is.rows map key)
+      ∙ latest-latest (versions_of old map key) to d (omega arith)
+      ∙ sym (latest-latest (versions_of old map key) c d (omega arith))
+      ∙ ap (latest_from d) (stands.rows map key)
+      ∙ latest-latest (versions_in ps map key) c d (omega arith) in
       subst (λ n. latest_from n (versions_of new map key) ≡ latest_from n (versions_in ps map key)) (sym is.compacted) at_max;
 }
 
@@ -206,6 +206,19 @@ pub version_of-applied : (old : Kept) (place : ℕ) (ws : List Write) (new : Kep
 version_of-applied old place ws new above applied map key =
     let before = above map key in
     let e : version_of new map key ≡ place_or_zero (last_or (last_or None (versions_of old map key)) (versions_in (placed_at place ws) map key)) =
-        ap last_place (applied.rows map key) ∙ ap place_or_zero (last_or-append None (versions_of old map key) (versions_in (placed_at place ws) map key)) in
+    ap last_place (applied.rows map key) ∙ ap place_or_zero (last_or-append None (versions_of old map key) (versions_in (placed_at place ws) map key)) in
     let le = last_at place ws map key (last_or None (versions_of old map key)) (omega arith) in
     omega (arith, e, le)
+
+-- whether it was applied or not
+pub record IsAfter (old : Kept) (place : ℕ) (new : Kept) : Type 0 where
+  pub base : new.base ≡ old.base
+  pub compacted : new.compacted ≡ old.compacted
+  pub last : (map key : List ℕ) → version_of new map key ≤ place
+
+pub after-apply : {E : Type 0} (r : Result (Unit {0}) E) (old : Kept) (place : ℕ) (ws : List Write) (new : Kept) → ((map key : List ℕ) → version_of old map key < place) →
+    OnOk r (HasApplied old place ws new) → OnErr r (new ≡ old) → IsAfter old place new
+after-apply (Ok u) old place ws new above applied kept = record { base = applied.base; compacted = applied.compacted; last = version_of-applied old place ws new above applied }
+after-apply (Err e) old place ws new above applied kept =
+    subst (λ (t : Kept). IsAfter old place t) (sym kept)
+    (record { base = refl; compacted = refl; last = λ map key. let lt = above map key in omega (arith, lt) })

@@ -65,7 +65,7 @@ value_behind_all t (p ∷ ps) map key o before =
   where
     go : (b : Bool) → value_in (wrote t p.write) map key ≡ (if b then p.write.value else value_in t map key) →
         ((u : Option Version) → value_in (wrote t p.write) map key ≡ option_and_then (λ (v : Version). v.value) u →
-            value_in (written_behind (wrote t p.write) ps) map key ≡ option_and_then (λ (v : Version). v.value) (last_or u (versions_in ps map key))) →
+        value_in (written_behind (wrote t p.write) ps) map key ≡ option_and_then (λ (v : Version). v.value) (last_or u (versions_in ps map key))) →
         value_in (written_behind (wrote t p.write) ps) map key ≡ option_and_then (λ (v : Version). v.value) (last_or o (with_first b (version p) (versions_in ps map key)))
     go true after rest = rest (Some (version p)) after
     go false after rest = rest o (after ∙ before)
@@ -143,8 +143,8 @@ pub map_version_in-below : (ps : List Placed) (map : List ℕ) (n : ℕ) → ((k
 map_version_in-below ps map n each =
     map_below_all ps map n (widen (λ (p : Placed). p.place ≤ version_in ps p.write.map p.write.key) (λ (p : Placed). is_to_map map p.write ≡ true → p.place ≤ n) ps
     (λ p le is.
-        let same : map ≡ p.write.map = same_bytes-eq map p.write.map is in
-        let here : p.place ≤ version_in ps map p.write.key = subst (λ m. p.place ≤ version_in ps m p.write.key) (sym same) le in
-        let row = each p.write.key in
-        omega (arith, here, row))
+    let same : map ≡ p.write.map = same_bytes-eq map p.write.map is in
+    let here : p.place ≤ version_in ps map p.write.key = subst (λ m. p.place ≤ version_in ps m p.write.key) (sym same) le in
+    let row = each p.write.key in
+    omega (arith, here, row))
     (each_below ps))

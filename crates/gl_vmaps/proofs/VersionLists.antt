@@ -82,7 +82,7 @@ latest-append place (v ∷ xs) ys = rw (any_either (is_up_to place) xs ys) (go (
     go true true is any rest = rest
     go true false is any rest =
         let none : list_any (is_up_to place) (latest_from place xs ++ ys) ≡ list_any (is_up_to place) ys =
-            any_either (is_up_to place) (latest_from place xs) ys ∙ ap (λ b. b || list_any (is_up_to place) ys) (any-latest xs place place (omega arith) ∙ any) in
+        any_either (is_up_to place) (latest_from place xs) ys ∙ ap (λ b. b || list_any (is_up_to place) ys) (any-latest xs place place (omega arith) ∙ any) in
         rw (is, none, rest) refl
     go false b is any rest = rw (is, rest) refl
 
@@ -94,6 +94,7 @@ latest-latest (v ∷ vs) place later le = go (is_up_to place v) (list_any (is_up
     kept : latest_from later (latest_from place vs) ≡ latest_from later vs →
         latest_from later (v ∷ latest_from place vs) ≡ (if is_up_to later v && list_any (is_up_to later) vs then latest_from later vs else v ∷ latest_from later vs)
     kept rest = rw (any-latest vs place later le, rest) refl
+
     go : (a b : Bool) → is_up_to place v ≡ a → list_any (is_up_to place) vs ≡ b → latest_from later (latest_from place vs) ≡ latest_from later vs →
         latest_from later (if a && b then latest_from place vs else v ∷ latest_from place vs)
         ≡ (if is_up_to later v && list_any (is_up_to later) vs then latest_from later vs else v ∷ latest_from later vs)

@@ -47,9 +47,7 @@ impl MapName {
     pub fn is_valid(bytes: &[u8]) -> bool
         ensures { result ≡ is_map_name bytes.now }
     {
-        1 <= bytes.len()
-            && bytes.len() <= MAP_NAME_LIMIT
-            && are_printable(bytes)
+        1 <= bytes.len() && bytes.len() <= MAP_NAME_LIMIT && are_printable(bytes)
     }
 
     /// The name of these bytes, or `None` where they are none.

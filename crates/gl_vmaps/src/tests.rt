@@ -1,10 +1,9 @@
 //! The limits, the bytes and the tables against values worked out by hand.
 
-ghost use Rattle.std.specs.Prelude.{ℕ, List, ◌≡◌, ◌≤◌, ◌<◌};
+ghost use Rattle.std.specs.Prelude.{ℕ, List, ◌≡◌, ◌≤◌, ◌<◌, IfOk};
 ghost use Rattle.gl_vmaps.specs.Kept.{version_of};
 
 use crate::{Key, MapName, Tables, Value, Write, Writes};
-
 use std::alloc::{AllocError, Global};
 use std::test::Fail;
 
@@ -68,7 +67,9 @@ fn apply(tables: &mut Tables, place: u64, writes: &Writes) -> Result<(), AllocEr
 //     1   a = one in public:x, b = one in public:y
 //     2   a = two in public:x, c = no bytes in public:x
 //     4   a is removed from public:x
-fn worked(alloc: Global) -> Result<Tables, Fail> {
+fn worked(alloc: Global) -> Result<Tables, Fail>
+    ensures { IfOk result (λ tables. tables.compacted ≡ 0) }
+{
     let mut tables = Tables::new(alloc);
     let mut first = Writes::new(alloc);
     first.put(set(alloc, b"public:x", b"a", b"one")?)?;

@@ -4,5 +4,5 @@ use Rattle.gl_base.proofs.cut.Cut.value_field.Goals as goal
 pub returns-clause-valid : goal.returns-clause-valid
 returns-clause-valid c =
     rw c.in_ok-value.ensures.ok.0 (
-      value-valid _ _ c.in_ok-value.ensures.each (string_at_within 4 _ _ _ _ c.in_ok-bytes.ensures.exact)
+    value-valid _ _ c.in_ok-value.ensures.each (string_at_within 4 _ _ _ _ c.in_ok-bytes.ensures.exact)
     )

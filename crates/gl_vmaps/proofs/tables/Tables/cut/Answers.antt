@@ -11,7 +11,7 @@ pub returns-clause-exact : goal.returns-clause-exact
 returns-clause-exact c =
     let s = c.self.inside in
     let held : placed c.truncate.new.self.items ≡ up_to c.args.to (placed s.changes.items) =
-        ap placed (c.truncate.ensures.items) ∙ subst (λ cs. placed (Rattle.std.proofs.Common.take c.count_up_to-held.result cs) ≡ up_to c.args.to (placed cs)) c.deref.ensures.value c.count_up_to-held.ensures in
+    ap placed (c.truncate.ensures.items) ∙ subst (λ cs. placed (Rattle.std.proofs.Common.take c.count_up_to-held.result cs) ≡ up_to c.args.to (placed cs)) c.deref.ensures.value c.count_up_to-held.ensures in
     subst (λ (t : Kept). HasCut t c.args.to (kept_of s.base s.compacted c.truncate.new.self.items)) c.self.view_is
     (cut-kept s.base s.compacted s.changes.items c.truncate.new.self.items c.args.to held)
 

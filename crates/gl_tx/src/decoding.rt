@@ -35,19 +35,16 @@ fn read_value(alloc: Global, cut: &mut Cut<'_>) -> Result<Value, OrNoMemory<Code
     Ok(Value::from_slice(alloc, value)?)
 }
 
-/// Reads a byte 0 and no value, or a byte 1 and a value.
-#[tactic(auto, unfolding(gl_base::specs::Row::optional_value_at))]
 fn read_optional_value(
     alloc: Global,
     cut: &mut Cut<'_>,
 ) -> Result<Option<Value>, OrNoMemory<CodeFault>>
-    ensures { Answers (λ value. (value, cut.new)) result (optional_value_at value_limit cut.old) }
+    ensures { Answers (λ value. (value, cut.new)) result
+        (optional_value_at value_limit cut.old) }
 {
-    let place = cut.at();
-    match cut.u8()? {
-        0 => Ok(None),
-        1 => Ok(Some(read_value(alloc, cut)?)),
-        _ => Err(OrNoMemory::Fault(CodeFault::Value { at: place })),
+    match cut.optional_value(VALUE_LIMIT as u64)? {
+        None => Ok(None),
+        Some(value) => Ok(Some(Value::from_slice(alloc, value)?)),
     }
 }
 

@@ -1,9 +1,9 @@
 -- The fields of operations and answers: what is read is spelled so, and what is spelled so is read.
-use Rattle.std.proofs.Common.{◌≡◌, ℕ, suc, ◌+◌, ◌^◌, ◌<◌, false, nat_lt, List, ◌∷◌, length, Ok, refl, sym, ap, subst, ◌∙◌, add-zero, arith}
+use Rattle.std.proofs.Common.{Option, None, Some, ◌≡◌, ℕ, suc, ◌+◌, ◌^◌, ◌<◌, false, nat_lt, List, ◌∷◌, length, Ok, refl, sym, ap, subst, ◌∙◌, add-zero, arith}
 use Rattle.std.proofs.lemmas.Bool.{lt-ltb}
 use Rattle.std.proofs.lemmas.Bool.Decides.{nat_tests}
 use Rattle.std.proofs.lemmas.List.{length-take-le}
-use Rattle.gl_base.specs.LittleEndian.{little_endian, from_little_endian, AreBytes}
+use Rattle.gl_base.specs.LittleEndian.{little_endian, from_little_endian}
 use Rattle.gl_base.specs.Cut.{bytes_at, number_at}
 use Rattle.gl_base.specs.Code.{field}
 use Rattle.gl_base.proofs.LittleEndianLaws.{from_little_endian-lt}
@@ -11,17 +11,18 @@ use Rattle.gl_base.proofs.Numbers.{number_at_ok}
 use Rattle.gl_base.proofs.Fields.{number_at-spelled, number_spelled}
 use Rattle.gl_vmaps.specs.Name.{is_map_name, is_key, is_value}
 use Rattle.gl_vmaps.specs.Writes.{is_written_value}
-use Rattle.gl_vmaps.specs.Fields.{map_bytes, key_bytes, value_bytes, optional_value_bytes, map_at, key_at, value_at, optional_value_at}
-use Rattle.gl_vmaps.proofs.Bytes.{AreBytes-take}
-use Rattle.gl_vmaps.proofs.FieldLaws as laws
+use Rattle.gl_base.specs.Row.{is_optional_value_field, map_name_bytes, key_bytes, value_bytes, optional_value_bytes, map_name_at, key_at, value_at, optional_value_at}
+use Rattle.gl_vmaps.specs.Name.{value_limit}
+use Rattle.gl_base.proofs.ByteLists.{AreBytes, AreBytes-take}
+use Rattle.gl_base.proofs.RowLaws as laws
 use Rattle.gl_tx.specs.Request.{is_u64}
 use Rattle.gl_tx.proofs.Readings.{IsSpelled, IsRead, taken, bytes_left}
 
-pub map-spelled : IsSpelled map_at map_bytes is_map_name
-map-spelled old new map all e = taken map_bytes is_map_name old new map (laws.map-spelled old new map all e)
+pub map-spelled : IsSpelled map_name_at map_name_bytes is_map_name
+map-spelled old new map all e = taken map_name_bytes is_map_name old new map (laws.map_name-spelled old new map all e)
 
-pub map-read : IsRead map_at map_bytes is_map_name
-map-read at map rest is = record { place = at + length (map_bytes map); read = laws.map-reads at map rest is }
+pub map-read : IsRead map_name_at map_name_bytes is_map_name
+map-read at map rest is = record { place = at + length (map_name_bytes map); read = laws.map_name-reads at map rest is }
 
 pub key-spelled : IsSpelled key_at key_bytes is_key
 key-spelled old new key all e = taken key_bytes is_key old new key (laws.key-spelled old new key all e)
@@ -29,17 +30,29 @@ key-spelled old new key all e = taken key_bytes is_key old new key (laws.key-spe
 pub key-read : IsRead key_at key_bytes is_key
 key-read at key rest is = record { place = at + length (key_bytes key); read = laws.key-reads at key rest is }
 
-pub value-spelled : IsSpelled value_at value_bytes is_value
-value-spelled old new value all e = taken value_bytes is_value old new value (laws.value-spelled old new value all e)
+pub value-spelled : IsSpelled (value_at value_limit) value_bytes is_value
+value-spelled old new value all e = taken value_bytes is_value old new value (laws.value-spelled value_limit old new value all e)
 
-pub value-read : IsRead value_at value_bytes is_value
-value-read at value rest is = record { place = at + length (value_bytes value); read = laws.value-reads at value rest is }
+pub value-read : IsRead (value_at value_limit) value_bytes is_value
+value-read at value rest is =
+    record { place = at + length (value_bytes value); read = laws.value-reads value_limit at value rest (omega arith) is }
 
-pub optional-spelled : IsSpelled optional_value_at optional_value_bytes is_written_value
-optional-spelled old new value all e = taken optional_value_bytes is_written_value old new value (laws.optional_value-spelled old new value all e)
+-- The two crates have one meaning of a value that may be absent.
+written_value-same : (value : Option (List ℕ)) → is_optional_value_field value_limit value ≡ is_written_value value
+written_value-same None = refl
+written_value-same (Some value) = refl
 
-pub optional-read : IsRead optional_value_at optional_value_bytes is_written_value
-optional-read at value rest is = record { place = at + length (optional_value_bytes value); read = laws.optional_value-reads at value rest is }
+pub optional-spelled : IsSpelled (optional_value_at value_limit) optional_value_bytes is_written_value
+optional-spelled old new value all e =
+    let took = laws.optional_value-spelled value_limit old new value all e in
+    record { parts = took.bytes; left = took.rest; limits = sym (written_value-same value) ∙ took.valid }
+
+pub optional-read : IsRead (optional_value_at value_limit) optional_value_bytes is_written_value
+optional-read at value rest is =
+    record {
+      place = at + length (optional_value_bytes value);
+      read = laws.optional_value-reads value_limit at value rest (omega arith) (written_value-same value ∙ is);
+    }
 
 pub u64-spelled : IsSpelled (λ unread. field (number_at 8 unread)) (little_endian 8) is_u64
 u64-spelled old new n all e =

@@ -2,12 +2,13 @@
 use Rattle.std.proofs.Common.{◌≡◌, ℕ, ◌+◌, ◌^◌, ◌<◌, ◌≤◌, true, ◌&&◌, nat_le, List, ◌++◌, length, Option, None, Some, Ok, length-append, arith}
 use Rattle.std.specs.List.{list_all}
 use Rattle.std.proofs.lemmas.Bool.{and_parts, leb-true}
-use Rattle.gl_base.specs.LittleEndian.{little_endian, AreBytes}
-use Rattle.gl_base.specs.Field.{are_bytes}
+use Rattle.gl_base.specs.LittleEndian.{little_endian}
+use Rattle.std.specs.Char.{is_ascii_graphic}
 use Rattle.gl_base.proofs.LittleEndianLaws.{length-little_endian}
-use Rattle.gl_vmaps.specs.Name.{is_name_byte, is_map_name, is_key, is_value}
+use Rattle.gl_vmaps.specs.Name.{map_name_limit, key_limit, value_limit, are_bytes, is_map_name, is_key, is_value}
 use Rattle.gl_vmaps.specs.Writes.{is_written_value}
-use Rattle.gl_vmaps.specs.Fields.{map_bytes, key_bytes, value_bytes, optional_value_bytes}
+use Rattle.gl_base.specs.Row.{map_name_bytes, key_bytes, value_bytes, optional_value_bytes}
+use Rattle.gl_base.proofs.ByteLists.{AreBytes}
 use Rattle.gl_tx.specs.Request.{is_row, is_u64, is_operation, is_request, is_answer, is_reply, operation_bytes, request_bytes, answer_bytes, reply_bytes}
 use Rattle.gl_tx.specs.Reading.{request_at, request_of, reply_at, reply_of}
 use Rattle.gl_tx.specs.declared.request.Operation.{Operation}
@@ -51,9 +52,9 @@ reply-read = whole-read reply_at reply_bytes is_reply reply_at-read
 
 -- ---- lengths
 
-map_bytes-le : (map : List ℕ) → is_map_name map ≡ true → length (map_bytes map) ≤ 129
-map_bytes-le map is =
-    let counts = and_parts (nat_le 1 (length map) && nat_le (length map) 128) (list_all is_name_byte map) is in
+map_name_bytes-le : (map : List ℕ) → is_map_name map ≡ true → length (map_name_bytes map) ≤ 129
+map_name_bytes-le map is =
+    let counts = and_parts (nat_le 1 (length map) && nat_le (length map) 128) (list_all is_ascii_graphic map) is in
     let within = leb-true (length map) 128 (and_parts (nat_le 1 (length map)) (nat_le (length map) 128) counts.0).1 in
     omega (arith, length-append (little_endian 1 (length map)) map, length-little_endian 1 (length map))
 
@@ -72,14 +73,14 @@ optional_value_bytes-le : (value : Option (List ℕ)) → is_written_value value
 optional_value_bytes-le None is = omega arith
 optional_value_bytes-le (Some value) is = omega (arith, value_bytes-le value is)
 
-row_bytes-le : (map key : List ℕ) → is_row map key ≡ true → length (map_bytes map ++ key_bytes key) ≤ 1155
+row_bytes-le : (map key : List ℕ) → is_row map key ≡ true → length (map_name_bytes map ++ key_bytes key) ≤ 1155
 row_bytes-le map key is =
     let both = and_parts (is_map_name map) (is_key key) is in
-    omega (arith, length-append (map_bytes map) (key_bytes key), map_bytes-le map both.0, key_bytes-le key both.1)
+    omega (arith, length-append (map_name_bytes map) (key_bytes key), map_name_bytes-le map both.0, key_bytes-le key both.1)
 
-row_and_bytes-le : (map key field : List ℕ) (most : ℕ) → is_row map key ≡ true → length field ≤ most → length ((map_bytes map ++ key_bytes key) ++ field) ≤ 1155 + most
+row_and_bytes-le : (map key field : List ℕ) (most : ℕ) → is_row map key ≡ true → length field ≤ most → length ((map_name_bytes map ++ key_bytes key) ++ field) ≤ 1155 + most
 row_and_bytes-le map key field most is few =
-    omega (arith, length-append (map_bytes map ++ key_bytes key) field, row_bytes-le map key is)
+    omega (arith, length-append (map_name_bytes map ++ key_bytes key) field, row_bytes-le map key is)
 
 operation_bytes-le : (o : Operation) → is_operation o ≡ true → length (operation_bytes o) ≤ 66697
 operation_bytes-le (Get map key) is = omega (arith, row_bytes-le map key is)
@@ -97,8 +98,8 @@ operation_bytes-le (Check map key expected) is =
     omega (arith, row_and_bytes-le map key (optional_value_bytes expected) 65541 both.0 (optional_value_bytes-le expected both.1))
 operation_bytes-le (Follow map key target) is =
     let both = and_parts (is_row map key) (is_map_name target) is in
-    omega (arith, row_and_bytes-le map key (map_bytes target) 129 both.0 (map_bytes-le target both.1))
-operation_bytes-le (Size map) is = omega (arith, map_bytes-le map is)
+    omega (arith, row_and_bytes-le map key (map_name_bytes target) 129 both.0 (map_name_bytes-le target both.1))
+operation_bytes-le (Size map) is = omega (arith, map_name_bytes-le map is)
 
 pub request_bytes-few : (operations : List Operation) → is_request operations ≡ true → length (request_bytes operations) < 2 ^ 32
 request_bytes-few operations is =

@@ -1,16 +1,18 @@
 -- What an operation is spelled as reads back, and what reads is spelled so.
 use Rattle.std.proofs.Common.{◌≡◌, ℕ, ◌+◌, Bool, true, cond, ◌&&◌, ◌==◌, List, ◌∷◌, ◌++◌, Result, Ok, refl, sym, ap, subst, ◌∙◌, append_assoc, inl, inr}
 use Rattle.std.proofs.lemmas.Bool.{and_parts, and_from, eqb-true}
-use Rattle.gl_base.specs.LittleEndian.{little_endian, AreBytes}
+use Rattle.gl_base.specs.LittleEndian.{little_endian}
 use Rattle.gl_base.specs.Steps.{◌>>=◌}
 use Rattle.gl_base.specs.Cut.{Unread, number_at}
 use Rattle.gl_base.specs.Code.{field}
-use Rattle.gl_base.specs.declared.code_fault.CodeFault.{CodeFault}
+use Rattle.gl_base.specs.declared.fault.CodeFault.{CodeFault}
 use Rattle.gl_base.proofs.Steps.{bind_ok, ok_injective}
 use Rattle.gl_vmaps.specs.Name.{is_map_name, is_key, is_value}
 use Rattle.gl_vmaps.specs.Writes.{is_written_value}
-use Rattle.gl_vmaps.specs.Fields.{map_bytes, key_bytes, value_bytes, optional_value_bytes, map_at, key_at, value_at, optional_value_at}
-use Rattle.gl_vmaps.proofs.FieldLaws.{field_ok, flag-took}
+use Rattle.gl_base.specs.Row.{map_name_bytes, key_bytes, value_bytes, optional_value_bytes, map_name_at, key_at, value_at, optional_value_at}
+use Rattle.gl_vmaps.specs.Name.{value_limit}
+use Rattle.gl_base.proofs.RowLaws.{field_ok, flag-took}
+use Rattle.gl_base.proofs.ByteLists.{AreBytes}
 use Rattle.gl_tx.specs.Request.{is_u64, is_row, is_operation, operation_bytes}
 use Rattle.gl_tx.specs.Reading.{row_at, get_at, has_at, put_at, remove_at, add_at, check_at, follow_at, size_at, operation_behind, operation_at, operations_at}
 use Rattle.gl_tx.specs.declared.request.Operation.{Operation}
@@ -26,7 +28,7 @@ operations_repeat = record { none = λ unread. refl; more = λ n unread. refl }
 -- ---- a map and a key
 
 abbrev row_bytes : List ℕ × List ℕ → List ℕ
-row_bytes row = map_bytes row.0 ++ key_bytes row.1
+row_bytes row = map_name_bytes row.0 ++ key_bytes row.1
 
 abbrev is_such_row : List ℕ × List ℕ → Bool
 is_such_row row = is_row row.0 row.1
@@ -37,12 +39,12 @@ with_map map key = Ok ((map, key.0), key.1)
 row-spelled : IsSpelled row_at row_bytes is_such_row
 unfolding row_at
 row-spelled old new row all e =
-    let map = bind_ok {A = List ℕ × Unread} {B = (List ℕ × List ℕ) × Unread} {E = CodeFault} (map_at old)
+    let map = bind_ok {A = List ℕ × Unread} {B = (List ℕ × List ℕ) × Unread} {E = CodeFault} (map_name_at old)
     (λ (map : List ℕ × Unread). key_at map.1 >>= with_map map.0) (row, new) e in
     let key = bind_ok {A = List ℕ × Unread} {B = (List ℕ × List ℕ) × Unread} {E = CodeFault} (key_at map.0.1) (with_map map.0.0) (row, new) map.2 in
     let first = map-spelled old map.0.1 map.0.0 all map.1 in
     let second = key-spelled map.0.1 key.0.1 key.0.0 first.left key.1 in
-    let parts = both_parts old.bytes (map_bytes map.0.0) map.0.1.bytes (key_bytes key.0.0) key.0.1.bytes first.parts second.parts in
+    let parts = both_parts old.bytes (map_name_bytes map.0.0) map.0.1.bytes (key_bytes key.0.0) key.0.1.bytes first.parts second.parts in
     let limits = and_from (is_map_name map.0.0) (is_key key.0.0) first.limits second.limits in
     let same : ◌≡◌ {A = (List ℕ × List ℕ) × Unread} ((map.0.0, key.0.0), key.0.1) (row, new) =
     ok_injective {A = (List ℕ × List ℕ) × Unread} {E = CodeFault} ((map.0.0, key.0.0), key.0.1) (row, new) key.2 in
@@ -55,7 +57,7 @@ row-read at row rest is =
     let both = and_parts (is_map_name row.0) (is_key row.1) is in
     let map = map-read at row.0 (key_bytes row.1 ++ rest) both.0 in
     let key = key-read map.place row.1 rest both.1 in
-    let regrouped = append_assoc (map_bytes row.0) (key_bytes row.1) rest in
+    let regrouped = append_assoc (map_name_bytes row.0) (key_bytes row.1) rest in
     record {
       place = key.place;
       read = ap (λ (ys : List ℕ). row_at (record { at = at; bytes = ys })) regrouped ∙ rw (map.read, key.read) refl;
@@ -79,7 +81,7 @@ abbrev row_and : {Y : Type 0} → (Unread → Result (Y × Unread) CodeFault) �
 row_and field_at make unread = row_at unread >>= λ row. field_at row.1 >>= made_of make row.0
 
 row_behind : (tag : ℕ) (make : List ℕ → List ℕ → Operation)
-    → ((map key : List ℕ) → operation_bytes (make map key) ≡ (tag ∷ map_bytes map) ++ key_bytes key)
+    → ((map key : List ℕ) → operation_bytes (make map key) ≡ (tag ∷ map_name_bytes map) ++ key_bytes key)
     → ((map key : List ℕ) → is_operation (make map key) ≡ is_row map key)
     → IsBehind tag (λ unread. row_at unread >>= made_of_row make)
 row_behind tag make bytes is old new o all e =
@@ -95,7 +97,7 @@ row_behind tag make bytes is old new o all e =
 
 row_and_behind : {Y : Type 0} → (tag : ℕ) (field_at : Unread → Result (Y × Unread) CodeFault) (field_bytes : Y → List ℕ) (is_field : Y → Bool) (make : List ℕ → List ℕ → Y → Operation)
     → IsSpelled field_at field_bytes is_field
-    → ((map key : List ℕ) (y : Y) → operation_bytes (make map key y) ≡ (tag ∷ map_bytes map) ++ key_bytes key ++ field_bytes y)
+    → ((map key : List ℕ) (y : Y) → operation_bytes (make map key y) ≡ (tag ∷ map_name_bytes map) ++ key_bytes key ++ field_bytes y)
     → ((map key : List ℕ) (y : Y) → is_operation (make map key y) ≡ (is_row map key && is_field y))
     → IsBehind tag (row_and field_at make)
 row_and_behind {Y = Y} tag field_at field_bytes is_field make field-spelled bytes is old new o all e =
@@ -125,7 +127,7 @@ has_behind = row_behind 2 Has (λ map key. refl) (λ map key. refl)
 
 put_behind : IsBehind 3 put_at
 unfolding put_at
-put_behind = row_and_behind 3 value_at value_bytes is_value Put value-spelled (λ map key value. refl) (λ map key value. refl)
+put_behind = row_and_behind 3 (value_at value_limit) value_bytes is_value Put value-spelled (λ map key value. refl) (λ map key value. refl)
 
 remove_behind : IsBehind 4 remove_at
 unfolding remove_at
@@ -137,11 +139,11 @@ add_behind = row_and_behind 5 (λ unread. field (number_at 8 unread)) (little_en
 
 check_behind : IsBehind 6 check_at
 unfolding check_at
-check_behind = row_and_behind 6 optional_value_at optional_value_bytes is_written_value Check optional-spelled (λ map key expected. refl) (λ map key expected. refl)
+check_behind = row_and_behind 6 (optional_value_at value_limit) optional_value_bytes is_written_value Check optional-spelled (λ map key expected. refl) (λ map key expected. refl)
 
 follow_behind : IsBehind 7 follow_at
 unfolding follow_at
-follow_behind = row_and_behind 7 map_at map_bytes is_map_name Follow map-spelled (λ map key target. refl) (λ map key target. refl)
+follow_behind = row_and_behind 7 map_name_at map_name_bytes is_map_name Follow map-spelled (λ map key target. refl) (λ map key target. refl)
 
 abbrev made_of_map : List ℕ × Unread → Result (Operation × Unread) CodeFault
 made_of_map map = Ok (Size map.0, map.1)
@@ -149,7 +151,7 @@ made_of_map map = Ok (Size map.0, map.1)
 size_behind : IsBehind 8 size_at
 unfolding size_at
 size_behind old new o all e =
-    let map = bind_ok {A = List ℕ × Unread} {B = Operation × Unread} {E = CodeFault} (map_at old) made_of_map (o, new) e in
+    let map = bind_ok {A = List ℕ × Unread} {B = Operation × Unread} {E = CodeFault} (map_name_at old) made_of_map (o, new) e in
     let spelled = map-spelled old map.0.1 map.0.0 all map.1 in
     let same : ◌≡◌ {A = Operation × Unread} (Size map.0.0, map.0.1) (o, new) = ok_injective {A = Operation × Unread} {E = CodeFault} (Size map.0.0, map.0.1) (o, new) map.2 in
     subst (λ (y : Operation × Unread). (8 ∷ old.bytes ≡ operation_bytes y.0 ++ y.1.bytes) × (is_operation y.0 ≡ true)) {x = (Size map.0.0, map.0.1)} same
@@ -204,7 +206,7 @@ operation-read at (Has map key) rest is =
     let row = row-read (at + 1) (map, key) rest is in
     record { place = row.place; read = rw (tag_read at 2 (row_bytes (map, key) ++ rest), row.read) refl }
 operation-read at (Put map key value) rest is =
-    let all = row_and_read value_at value_bytes is_value Put value-read (at + 1) map key value rest is in
+    let all = row_and_read (value_at value_limit) value_bytes is_value Put value-read (at + 1) map key value rest is in
     record { place = all.place; read = rw (tag_read at 3 ((row_bytes (map, key) ++ value_bytes value) ++ rest)) all.read }
 operation-read at (Remove map key) rest is =
     let row = row-read (at + 1) (map, key) rest is in
@@ -213,11 +215,11 @@ operation-read at (Add map key amount) rest is =
     let all = row_and_read (λ unread. field (number_at 8 unread)) (little_endian 8) is_u64 Add u64-read (at + 1) map key amount rest is in
     record { place = all.place; read = rw (tag_read at 5 ((row_bytes (map, key) ++ little_endian 8 amount) ++ rest)) all.read }
 operation-read at (Check map key expected) rest is =
-    let all = row_and_read optional_value_at optional_value_bytes is_written_value Check optional-read (at + 1) map key expected rest is in
+    let all = row_and_read (optional_value_at value_limit) optional_value_bytes is_written_value Check optional-read (at + 1) map key expected rest is in
     record { place = all.place; read = rw (tag_read at 6 ((row_bytes (map, key) ++ optional_value_bytes expected) ++ rest)) all.read }
 operation-read at (Follow map key target) rest is =
-    let all = row_and_read map_at map_bytes is_map_name Follow map-read (at + 1) map key target rest is in
-    record { place = all.place; read = rw (tag_read at 7 ((row_bytes (map, key) ++ map_bytes target) ++ rest)) all.read }
+    let all = row_and_read map_name_at map_name_bytes is_map_name Follow map-read (at + 1) map key target rest is in
+    record { place = all.place; read = rw (tag_read at 7 ((row_bytes (map, key) ++ map_name_bytes target) ++ rest)) all.read }
 operation-read at (Size map) rest is =
     let name = map-read (at + 1) map rest is in
-    record { place = name.place; read = rw (tag_read at 8 (map_bytes map ++ rest), name.read) refl }
+    record { place = name.place; read = rw (tag_read at 8 (map_name_bytes map ++ rest), name.read) refl }

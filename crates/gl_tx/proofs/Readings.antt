@@ -2,15 +2,15 @@
 use Rattle.std.proofs.Common.{◌≡◌, ℕ, Bool, true, false, cond, ◌==◌, List, [], ◌++◌, length, Result, Ok, Err, IfOk, ◌⊎◌, inl, inr, refl, sym, ap, subst, ◌∙◌, append_assoc}
 use Rattle.std.proofs.lemmas.Bool.{eqb-true}
 use Rattle.std.proofs.lemmas.List.{append-nil, nil_from_length}
-use Rattle.gl_base.specs.LittleEndian.{AreBytes}
 use Rattle.gl_base.specs.Cut.{Unread}
-use Rattle.gl_base.specs.Code.{unread_of, ended, whole, Decodes}
-use Rattle.gl_base.specs.declared.code_fault.CodeFault.{CodeFault}
-use Rattle.gl_base.specs.declared.code_fault.CodeFault.TheVariants.{Trailing}
-use Rattle.gl_base.specs.declared.code_fault.CodeError.{CodeError}
+use Rattle.gl_base.specs.Code.{unread_of, ended, whole}
+use Rattle.gl_base.specs.declared.fault.CodeFault.{CodeFault}
+use Rattle.gl_base.specs.declared.fault.CodeFault.TheVariants.{Trailing}
+use Rattle.gl_base.specs.Answers.{Answers}
+use Rattle.gl_base.specs.declared.or_no_memory.OrNoMemory.{OrNoMemory}
 use Rattle.gl_base.proofs.Steps.{bind_ok, ok_injective}
-use Rattle.gl_vmaps.proofs.Bytes.{AreBytes-behind}
-use Rattle.gl_vmaps.proofs.FieldLaws.{Took}
+use Rattle.gl_base.proofs.ByteLists.{AreBytes, AreBytes-behind}
+use Rattle.gl_base.proofs.RowLaws.{Took}
 
 -- A value was read from the front of bytes that spell it, and is within its limits. What is left are bytes.
 pub record Spelled {X : Type 0} (bytes : X → List ℕ) (is : X → Bool) (old : Unread) (x : X) (new : Unread) : Type 0 where
@@ -72,6 +72,6 @@ whole-read reading bytes is read x limits =
 
 -- ---- what a call gives that decodes
 
-pub decoded : {X : Type 0} → (r : Result X CodeError) (reading : Result X CodeFault) (P : X → Type 0) → Decodes (λ x. x) r reading → ((x : X) → reading ≡ Ok x → P x) → IfOk r P
+pub decoded : {X : Type 0} → (r : Result X (OrNoMemory CodeFault)) (reading : Result X CodeFault) (P : X → Type 0) → Answers (λ x. x) r reading → ((x : X) → reading ≡ Ok x → P x) → IfOk r P
 decoded (Ok x) reading P given each = each x given
 decoded (Err e) reading P given each = tt

@@ -4,21 +4,22 @@ use Rattle.std.specs.List.{flat_map, list_all}
 use Rattle.std.proofs.lemmas.Bool.{and_parts, and_from, leb-true}
 use Rattle.std.proofs.lemmas.List.{append-nil}
 use Rattle.std.proofs.Math.Nat.{mul-le-mul_right}
-use Rattle.gl_base.specs.LittleEndian.{little_endian, AreBytes}
+use Rattle.gl_base.specs.LittleEndian.{little_endian}
 use Rattle.gl_base.specs.Steps.{◌>>=◌}
 use Rattle.gl_base.specs.Cut.{Unread, number_at}
-use Rattle.gl_base.specs.Code.{field, Fails}
-use Rattle.gl_base.specs.declared.code_fault.CodeFault.{CodeFault}
-use Rattle.gl_base.specs.declared.code_fault.CodeError.{CodeError}
-use Rattle.gl_base.specs.declared.code_fault.CodeError.TheVariants as errors
-use Rattle.gl_base.specs.declared.code_fault.CodeFault.TheVariants as faults
+use Rattle.gl_base.specs.Answers.{Fails}
+use Rattle.gl_base.specs.Code.{field}
+use Rattle.gl_base.specs.declared.fault.CodeFault.{CodeFault}
+use Rattle.gl_base.specs.declared.or_no_memory.OrNoMemory.{OrNoMemory}
+use Rattle.gl_base.specs.declared.or_no_memory.OrNoMemory.TheVariants.{NoMemory, Fault}
+use Rattle.gl_base.specs.declared.fault.CodeFault.TheVariants as faults
 use Rattle.gl_base.proofs.Steps.{bind_ok, ok_injective}
 use Rattle.gl_base.proofs.LittleEndianLaws.{length-little_endian}
 use Rattle.gl_base.proofs.Fields.{number_at-spelled, number_spelled}
-use Rattle.gl_vmaps.proofs.Bytes.{AreBytes-take}
-use Rattle.gl_vmaps.proofs.FieldLaws.{field_ok}
+use Rattle.gl_base.proofs.ByteLists.{AreBytes, AreBytes-take}
+use Rattle.gl_base.proofs.RowLaws.{field_ok}
 use Rattle.gl_tx.specs.Request.{is_count}
-use Rattle.gl_tx.specs.Reading.{counted, count_at}
+use Rattle.gl_tx.specs.Reading.{count_result, count_at}
 use Rattle.gl_tx.proofs.Readings.{Spelled, IsSpelled, Gets, IsRead, both_parts, bytes_left, chosen}
 
 -- The second reads what the first does, so many times.
@@ -50,10 +51,10 @@ pub goes_on : {X : Type 0} {one : Unread → Result (X × Unread) CodeFault} {ma
 goes_on repeats front count i old new x total within read so_far = sym (one_more repeats front count i old new x within read) ∙ so_far
 
 pub ends : {X : Type 0} {one : Unread → Result (X × Unread) CodeFault} {many : ℕ → Unread → Result (List X × Unread) CodeFault} → Repeats one many
-    → (e : CodeError) (front : List X) (count i : ℕ) (old : Unread) (total : Result (List X × Unread) CodeFault) → i < count → Fails e (one old)
+    → (e : OrNoMemory CodeFault) (front : List X) (count i : ℕ) (old : Unread) (total : Result (List X × Unread) CodeFault) → i < count → Fails e (one old)
     → with_front front (many (count - i) old) ≡ total → Fails e total
-ends repeats errors.NoMemory front count i old total within failed so_far = tt
-ends {X = X} {many = many} repeats (errors.Fault fault) front count i old total within failed so_far =
+ends repeats NoMemory front count i old total within failed so_far = tt
+ends {X = X} {many = many} repeats (Fault fault) front count i old total within failed so_far =
     let left : count - i ≡ suc (count - (i + 1)) = omega arith in
     let all : with_front front (many (count - i) old) ≡ Err fault = rw (left, repeats.more, failed) refl in
     sym so_far ∙ all
@@ -117,7 +118,7 @@ counted_bytes bytes xs = little_endian 2 (length xs) ++ flat_map bytes xs
 abbrev pub are_counted : {X : Type 0} → (X → Bool) → List X → Bool
 are_counted is xs = is_count (length xs) && list_all is xs
 
-count_ok : (place : ℕ) (count read : ℕ × Unread) → counted place count ≡ Ok read → (is_count read.0 ≡ true) × (count ≡ read)
+count_ok : (place : ℕ) (count read : ℕ × Unread) → count_result place count ≡ Ok read → (is_count read.0 ≡ true) × (count ≡ read)
 count_ok place count read e =
     elim (chosen {A = Result (ℕ × Unread) CodeFault} (is_count count.0) (Ok count) (Err (faults.Value place)) (Ok read) e) [
       | inl within ↦
@@ -129,7 +130,7 @@ count_ok place count read e =
 count-spelled : IsSpelled count_at (little_endian 2) is_count
 unfolding count_at
 count-spelled old new n all e =
-    let number = bind_ok {A = ℕ × Unread} {B = ℕ × Unread} {E = CodeFault} (field (number_at 2 old)) (counted old.at) (n, new) e in
+    let number = bind_ok {A = ℕ × Unread} {B = ℕ × Unread} {E = CodeFault} (field (number_at 2 old)) (count_result old.at) (n, new) e in
     let count = count_ok old.at number.0 (n, new) number.2 in
     let read : number_at 2 old ≡ Ok (n, new) = field_ok (number_at 2 old) number.0 number.1 ∙ ap (λ (y : ℕ × Unread). Ok y) count.1 in
     let parts = number_spelled 2 n old new (AreBytes-take 2 old.bytes all) read in

@@ -1,14 +1,15 @@
 -- What an answer is spelled as reads back, and what reads is spelled so.
 use Rattle.std.proofs.Common.{◌≡◌, ℕ, ◌+◌, true, cond, ◌==◌, List, [], ◌∷◌, ◌++◌, Result, Ok, refl, sym, ap, subst, ◌∙◌, inl, inr}
 use Rattle.std.proofs.lemmas.Bool.{eqb-true}
-use Rattle.gl_base.specs.LittleEndian.{AreBytes}
 use Rattle.gl_base.specs.Cut.{Unread, number_at}
 use Rattle.gl_base.specs.Code.{field}
-use Rattle.gl_base.specs.declared.code_fault.CodeFault.{CodeFault}
+use Rattle.gl_base.specs.declared.fault.CodeFault.{CodeFault}
 use Rattle.gl_base.proofs.Steps.{bind_ok, ok_injective}
-use Rattle.gl_vmaps.specs.Fields.{value_bytes, value_at}
+use Rattle.gl_base.specs.Row.{value_bytes, value_at}
+use Rattle.gl_vmaps.specs.Name.{value_limit}
 use Rattle.gl_base.specs.LittleEndian.{little_endian}
-use Rattle.gl_vmaps.proofs.FieldLaws.{field_ok, flag-took}
+use Rattle.gl_base.proofs.RowLaws.{field_ok, flag-took}
+use Rattle.gl_base.proofs.ByteLists.{AreBytes}
 use Rattle.gl_tx.specs.Request.{is_answer, answer_bytes}
 use Rattle.gl_tx.specs.Reading.{value_answer_at, number_answer_at, answer_behind, answer_at, answers_at}
 use Rattle.gl_tx.specs.declared.request.Answer.{Answer}
@@ -38,7 +39,7 @@ made_of_value value = Ok (answers.Value value.0, value.1)
 
 value_behind : IsBehind 2 value_answer_at
 value_behind old new answer all e =
-    let value = bind_ok {A = List ℕ × Unread} {B = Answer × Unread} {E = CodeFault} (value_at old) made_of_value (answer, new) e in
+    let value = bind_ok {A = List ℕ × Unread} {B = Answer × Unread} {E = CodeFault} (value_at value_limit old) made_of_value (answer, new) e in
     let spelled = value-spelled old value.0.1 value.0.0 all value.1 in
     let same : ◌≡◌ {A = Answer × Unread} (answers.Value value.0.0, value.0.1) (answer, new) = ok_injective {A = Answer × Unread} {E = CodeFault} (answers.Value value.0.0, value.0.1) (answer, new) value.2 in
     subst (λ (y : Answer × Unread). (2 ∷ old.bytes ≡ answer_bytes y.0 ++ y.1.bytes) × (is_answer y.0 ≡ true)) {x = (answers.Value value.0.0, value.0.1)} same

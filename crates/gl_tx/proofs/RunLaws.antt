@@ -1,29 +1,30 @@
 -- A run as far as it has come, and what is left of it.
 use Rattle.std.proofs.Common.{◌≡◌, ℕ, suc, ◌+◌, ◌<◌, List, [], ◌∷◌, ◌++◌, Result, Ok, Err, refl, sym, ◌∙◌, ap, length, drop, drop-cons, get_or, add-one}
-use Rattle.gl_vmaps.specs.Tables.{Tables}
+use Rattle.gl_tx.specs.Sees.{Sees}
 use Rattle.gl_vmaps.specs.declared.write.Write.{Write}
-use Rattle.gl_tx.specs.Run.{Ran, run_from}
-use Rattle.gl_tx.specs.Runs.{Aborts}
-use Rattle.gl_tx.specs.declared.running.RunError.{RunError}
-use Rattle.gl_tx.specs.declared.running.RunError.TheVariants as errors
+use Rattle.gl_tx.specs.Run.{run_from}
+use Rattle.gl_base.specs.Answers.{Fails}
+use Rattle.gl_base.specs.declared.or_no_memory.OrNoMemory.{OrNoMemory}
+use Rattle.gl_base.specs.declared.or_no_memory.OrNoMemory.TheVariants.{NoMemory, Fault}
+use Rattle.gl_tx.specs.declared.runs.Ran.{Ran}
 use Rattle.gl_tx.specs.declared.request.Operation.{Operation}
 use Rattle.gl_tx.specs.declared.request.Answer.{Answer}
-use Rattle.gl_tx.specs.declared.request.Abort.{Abort}
+use Rattle.gl_tx.specs.declared.abort.Abort.{Abort}
 
--- the answers so far before those of a run of the rest
-abbrev pub answered_so_far : List Answer → Result Ran Abort → Result Ran Abort
-answered_so_far answers (Ok ran) = Ok (record ran { answers = answers ++ ran.answers })
-answered_so_far answers (Err abort) = Err abort
+-- The answers so far, and then those of the rest.
+abbrev pub so_far : List Answer → Result Ran Abort → Result Ran Abort
+so_far answers (Ok ran) = Ok (record ran { reply = answers ++ ran.reply })
+so_far answers (Err abort) = Err abort
 
 -- where the operation that is next fails, the whole request does
-pub aborted_next : (answers : List Answer) (operations : List Operation) (operation : Operation) (i : ℕ) (t : Tables) (ws : List Write) (total : Result Ran Abort) (e : RunError) →
+pub aborted_next : (answers : List Answer) (operations : List Operation) (operation : Operation) (i : ℕ) (s : Sees) (ws : List Write) (total : Result Ran Abort) (e : OrNoMemory Abort) →
     i < length operations → operation ≡ get_or operations i operation →
-    answered_so_far answers (run_from (suc i) (drop i operations) t ws) ≡ total →
-    ((rest : List Operation) → Aborts (run_from (i + 1) (operation ∷ rest) t ws) e) → Aborts total e
-aborted_next answers operations operation i t ws total errors.NoMemory within is told fails = tt
-aborted_next answers operations operation i t ws total (errors.Aborted abort) within is told fails =
+    so_far answers (run_from (suc i) (drop i operations) s ws) ≡ total →
+    ((rest : List Operation) → Fails e (run_from (i + 1) (operation ∷ rest) s ws)) → Fails e total
+aborted_next answers operations operation i s ws total NoMemory within is told fails = tt
+aborted_next answers operations operation i s ws total (Fault abort) within is told fails =
     let next : drop i operations ≡ operation ∷ drop (suc i) operations =
     drop-cons operations i operation within ∙ ap (λ (o : Operation). o ∷ drop (suc i) operations) (sym is) in
-    sym told ∙ ap (λ (os : List Operation). answered_so_far answers (run_from (suc i) os t ws)) next
-    ∙ ap (λ (n : ℕ). answered_so_far answers (run_from n (operation ∷ drop (suc i) operations) t ws)) (sym (add-one i))
-    ∙ ap (answered_so_far answers) (fails (drop (suc i) operations))
+    sym told ∙ ap (λ (os : List Operation). so_far answers (run_from (suc i) os s ws)) next
+    ∙ ap (λ (n : ℕ). so_far answers (run_from n (operation ∷ drop (suc i) operations) s ws)) (sym (add-one i))
+    ∙ ap (so_far answers) (fails (drop (suc i) operations))

@@ -1,28 +1,39 @@
--- What an overlay's write set makes of the tables.
-use Rattle.std.proofs.Common.{◌≡◌, ◌≤◌, ℕ, ◌+◌, List, [], ◌∷◌, Option, Result, Ok, Err, OnOk, OnErr, IsTrue, sym, ◌∙◌, ap, subst, arith, length}
+-- What is seen behind the write set of a request.
+use Rattle.std.proofs.Common.{◌≡◌, ◌≤◌, ℕ, ◌+◌, ◌-◌, List, [], ◌∷◌, Option, Result, Ok, Err, OnOk, OnErr, IsTrue, sym, ◌∙◌, ap, subst, arith, length}
 use Rattle.std.specs.declared.cmp.Ordering.{Ordering}
 use Rattle.std.specs.declared.cmp.Ordering.TheVariants.{Less, Equal, Greater}
 use Rattle.gl_vmaps.specs.Growth.{gained, lost}
-use Rattle.gl_vmaps.specs.Scan.{last_write, value_behind}
-use Rattle.gl_vmaps.specs.Tables.{Tables, wrote, wrote_all, value_in, size_of}
+use Rattle.gl_vmaps.specs.LastWrite.{value_behind}
+use Rattle.gl_vmaps.specs.Kept.{Kept}
+use Rattle.gl_vmaps.specs.Standing.{StandsFor}
+use Rattle.gl_vmaps.specs.Tables.{Tables, wrote_all, value_in, size_of}
+use Rattle.gl_vmaps.specs.Versions.{Placed, written_by}
 use Rattle.gl_vmaps.specs.Writes.{write_order, is_ordered, put_before, with_write}
 use Rattle.gl_vmaps.specs.declared.write.Write.{Write}
+use Rattle.gl_vmaps.proofs.StandingLaws.{value_of-stands, count_of-stands}
 use Rattle.gl_vmaps.proofs.TablesLaws.{value_in-wrote_all}
-use Rattle.gl_vmaps.proofs.WriteLaws.{wrote_all-with_write, size_of-wrote_all}
+use Rattle.gl_vmaps.proofs.WriteLaws.{last_write-find, size_of-wrote_all}
+use Rattle.gl_base.specs.Answers.{Answers}
+use Rattle.gl_base.specs.declared.or_no_memory.OrNoMemory.{OrNoMemory}
+use Rattle.gl_tx.specs.Run.{run_seeing, run}
+use Rattle.gl_tx.specs.declared.abort.Abort.{Abort}
+use Rattle.gl_tx.specs.declared.request.Operation.{Operation}
+use Rattle.gl_tx.specs.declared.runs.Ran.{Ran}
+use Rattle.gl_tx.specs.Sees.{Sees, sees_in, sees_of, write_to, behind}
 
--- a row has what the write that was found wrote, and without one what it had
-pub value_in-found : (t : Tables) (ws : List Write) (map key : List ℕ) (found : Option Write) → found ≡ last_write map key ws →
-    value_in (wrote_all t ws) map key ≡ value_behind found (value_in t map key)
-value_in-found t ws map key found is = value_in-wrote_all t ws map key ∙ ap (λ (o : Option Write). value_behind o (value_in t map key)) (sym is)
+-- What is seen behind a write set on a finite map is the finite map that the set was written to.
+pub behind-sees_in : (t : Tables) (ws : List Write) → IsTrue (is_ordered ws) → behind (sees_in t) ws ≡ sees_in (wrote_all t ws)
+behind-sees_in t ws ordered = λ i. record { value = λ map key. sym (value_same map key) i; size = λ map. size_same map i }
+  where
+    value_same : (map key : List ℕ) → value_in (wrote_all t ws) map key ≡ value_behind (write_to map key ws) (value_in t map key)
+    value_same map key = value_in-wrote_all t ws map key ∙ ap (λ (o : Option Write). value_behind o (value_in t map key)) (last_write-find map key ws ordered)
 
--- a map has the keys of the tables and those that were counted as gained, less those that were counted as lost
-pub size_of-counted : (t : Tables) (ws there : List Write) (map : List ℕ) (size more less : ℕ) → IsTrue (is_ordered ws) → there ≡ ws →
-    size ≡ size_of t map → more ≡ gained t map there → less ≡ lost t map there → size_of (wrote_all t ws) map + less ≡ size + more
-size_of-counted t ws there map size more less ordered same before gain loss =
-    let all = size_of-wrote_all t ws map ordered in
-    let gain_all = gain ∙ ap (λ (xs : List Write). gained t map xs) same in
-    let loss_all = loss ∙ ap (λ (xs : List Write). lost t map xs) same in
-    omega (arith, all, gain_all, loss_all, before)
+    size_same : (map : List ℕ) → size_of t map + gained (value_in t) map ws - lost (value_in t) map ws ≡ size_of (wrote_all t ws) map
+    size_same map = let all = size_of-wrote_all t ws map ordered in omega (arith, all)
+
+-- What is seen of tables is what is seen of the finite map that the writes make for which they stand.
+pub sees_of-stands : (t : Kept) (ps : List Placed) → StandsFor t ps → sees_of t ≡ sees_in (written_by ps)
+sees_of-stands t ps stands = λ i. record { value = λ map key. value_of-stands t ps stands map key i; size = λ map. count_of-stands t ps stands map i }
 
 -- a set has one write more at most with one more
 pub length-with_write : (ws : List Write) (w : Write) → length (with_write ws w) ≤ length ws + 1
@@ -45,8 +56,7 @@ pub behind_put : {E : Type 0} (P : List Write → Type 0) (r : Result (Unit {0})
 behind_put P (Ok x) old owed new put kept before after = subst P (sym put) after
 behind_put P (Err e) old owed new put kept before after = subst P (sym kept) before
 
--- the tables that are seen have the write last
-pub wrote_all-put : {E : Type 0} (t : Tables) (r : Result (Unit {0}) E) (old new : List Write) (w : Write) → IsTrue (is_ordered old) →
-    OnOk r (new ≡ with_write old w) → OnOk r (wrote_all t new ≡ wrote (wrote_all t old) w)
-wrote_all-put t (Ok x) old new w ordered put = ap (wrote_all t) put ∙ (λ i map. wrote_all-with_write t old w ordered map i)
-wrote_all-put t (Err e) old new w ordered put = tt
+-- What a run gives on tables it gives on the finite map that the writes make for which they stand.
+pub run-stands : (r : Result Ran (OrNoMemory Abort)) (os : List Operation) (t : Kept) (ps : List Placed) → StandsFor t ps →
+    Answers (λ ran. ran) r (run_seeing os (sees_of t)) → Answers (λ ran. ran) r (run os (written_by ps))
+run-stands r os t ps stands h = subst (λ (s : Sees). Answers (λ ran. ran) r (run_seeing os s)) (sees_of-stands t ps stands) h

@@ -1,6 +1,8 @@
 pub mod Request
-pub mod Run
 pub mod Reading
-pub mod Runs
-pub mod Overlay
+pub mod Abort
+pub mod Sees
+pub mod Run
 pub mod Performs
+pub mod Asks
+pub mod Attempt

@@ -3,9 +3,10 @@ use Rattle.std.specs.Prelude.{ℕ, zero, suc, List, [], ◌∷◌, Result, Ok, E
 use Rattle.gl_base.specs.Steps.{◌>>=◌}
 use Rattle.gl_base.specs.Cut.{Unread, number_at}
 use Rattle.gl_base.specs.Code.{field, whole}
-use Rattle.gl_base.specs.declared.code_fault.CodeFault.{CodeFault}
-use Rattle.gl_base.specs.declared.code_fault.CodeFault.TheVariants as faults
-use Rattle.gl_vmaps.specs.Fields.{map_at, key_at, value_at, optional_value_at}
+use Rattle.gl_base.specs.Row.{map_name_at, key_at, value_at, optional_value_at}
+use Rattle.gl_base.specs.declared.fault.CodeFault.{CodeFault}
+use Rattle.gl_base.specs.declared.fault.CodeFault.TheVariants as faults
+use Rattle.gl_vmaps.specs.Name.{value_limit}
 use Rattle.gl_tx.specs.Request.{is_count}
 use Rattle.gl_tx.specs.declared.request.Operation.{Operation}
 use Rattle.gl_tx.specs.declared.request.Operation.TheVariants.{Get, Has, Put, Remove, Add, Check, Follow, Size}
@@ -15,7 +16,7 @@ use Rattle.gl_tx.specs.declared.request.Answer.TheVariants as answers
 -- A map and a key, which most operations begin with.
 unfoldable pub row_at : Unread → Result ((List ℕ × List ℕ) × Unread) CodeFault
 row_at unread = do
-  map ← map_at unread
+  map ← map_name_at unread
   key ← key_at map.1
   Ok ((map.0, key.0), key.1)
 
@@ -28,7 +29,7 @@ has_at unread = row_at unread >>= λ row. Ok (Has row.0.0 row.0.1, row.1)
 unfoldable pub put_at : Unread → Result (Operation × Unread) CodeFault
 put_at unread = do
   row ← row_at unread
-  value ← value_at row.1
+  value ← value_at value_limit row.1
   Ok (Put row.0.0 row.0.1 value.0, value.1)
 
 unfoldable pub remove_at : Unread → Result (Operation × Unread) CodeFault
@@ -43,17 +44,17 @@ add_at unread = do
 unfoldable pub check_at : Unread → Result (Operation × Unread) CodeFault
 check_at unread = do
   row ← row_at unread
-  expected ← optional_value_at row.1
+  expected ← optional_value_at value_limit row.1
   Ok (Check row.0.0 row.0.1 expected.0, expected.1)
 
 unfoldable pub follow_at : Unread → Result (Operation × Unread) CodeFault
 follow_at unread = do
   row ← row_at unread
-  target ← map_at row.1
+  target ← map_name_at row.1
   Ok (Follow row.0.0 row.0.1 target.0, target.1)
 
 unfoldable pub size_at : Unread → Result (Operation × Unread) CodeFault
-size_at unread = map_at unread >>= λ map. Ok (Size map.0, map.1)
+size_at unread = map_name_at unread >>= λ map. Ok (Size map.0, map.1)
 
 -- What stands behind a tag; the tag's place is told where it is none.
 abbrev pub operation_behind : ℕ → ℕ × Unread → Result (Operation × Unread) CodeFault
@@ -80,11 +81,11 @@ operations_at (suc count) unread = do
   Ok (first.0 ∷ rest.0, rest.1)
 
 -- A count from 1 to 64; its place is told where it is another.
-abbrev pub counted : ℕ → ℕ × Unread → Result (ℕ × Unread) CodeFault
-counted place count = if is_count count.0 then Ok count else Err (faults.Value place)
+abbrev pub count_result : ℕ → ℕ × Unread → Result (ℕ × Unread) CodeFault
+count_result place count = if is_count count.0 then Ok count else Err (faults.Value place)
 
 unfoldable pub count_at : Unread → Result (ℕ × Unread) CodeFault
-count_at unread = field (number_at 2 unread) >>= counted unread.at
+count_at unread = field (number_at 2 unread) >>= count_result unread.at
 
 unfoldable pub request_at : Unread → Result (List Operation × Unread) CodeFault
 request_at unread = count_at unread >>= λ count. operations_at count.0 count.1
@@ -94,10 +95,12 @@ abbrev pub request_of : List ℕ → Result (List Operation) CodeFault
 request_of bytes = whole request_at bytes
 
 abbrev pub value_answer_at : Unread → Result (Answer × Unread) CodeFault
-value_answer_at unread = value_at unread >>= λ value. Ok (answers.Value value.0, value.1)
+value_answer_at unread =
+    value_at value_limit unread >>= λ value. Ok (answers.Value value.0, value.1)
 
 abbrev pub number_answer_at : Unread → Result (Answer × Unread) CodeFault
-number_answer_at unread = field (number_at 8 unread) >>= λ number. Ok (answers.Number number.0, number.1)
+number_answer_at unread =
+    field (number_at 8 unread) >>= λ number. Ok (answers.Number number.0, number.1)
 
 abbrev pub answer_behind : ℕ → ℕ × Unread → Result (Answer × Unread) CodeFault
 answer_behind place tag =

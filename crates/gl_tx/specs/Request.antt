@@ -1,10 +1,11 @@
--- What an application asks of the tables and what it is answered: which lists of operations are requests, and the bytes of both.
-use Rattle.std.specs.Prelude.{ℕ, List, [], ◌∷◌, ◌++◌, Bool, true, ◌&&◌, length, nat_le, nat_lt, ◌^◌}
+-- What an application asks of the tables, and what it is answered: which lists of operations are
+-- requests, which lists of answers are replies, and the bytes of both.
+use Rattle.std.specs.Prelude.{ℕ, ◌^◌, List, [], ◌∷◌, ◌++◌, Bool, true, ◌&&◌, length, nat_le, nat_lt}
 use Rattle.std.specs.List.{flat_map, list_all}
 use Rattle.gl_base.specs.LittleEndian.{little_endian}
+use Rattle.gl_base.specs.Row.{map_name_bytes, key_bytes, value_bytes, optional_value_bytes}
 use Rattle.gl_vmaps.specs.Name.{is_map_name, is_key, is_value}
 use Rattle.gl_vmaps.specs.Writes.{is_written_value}
-use Rattle.gl_vmaps.specs.Fields.{map_bytes, key_bytes, value_bytes, optional_value_bytes}
 use Rattle.gl_tx.specs.declared.request.Operation.{Operation}
 use Rattle.gl_tx.specs.declared.request.Operation.TheVariants.{Get, Has, Put, Remove, Add, Check, Follow, Size}
 use Rattle.gl_tx.specs.declared.request.Answer.{Answer}
@@ -48,18 +49,23 @@ is_reply answers = is_count (length answers) && list_all is_answer answers
 
 -- The bytes of an operation: its tag, then its fields.
 abbrev pub operation_bytes : Operation → List ℕ
-operation_bytes (Get map key) = (1 ∷ map_bytes map) ++ key_bytes key
-operation_bytes (Has map key) = (2 ∷ map_bytes map) ++ key_bytes key
-operation_bytes (Put map key value) = (3 ∷ map_bytes map) ++ key_bytes key ++ value_bytes value
-operation_bytes (Remove map key) = (4 ∷ map_bytes map) ++ key_bytes key
-operation_bytes (Add map key amount) = (5 ∷ map_bytes map) ++ key_bytes key ++ little_endian 8 amount
-operation_bytes (Check map key expected) = (6 ∷ map_bytes map) ++ key_bytes key ++ optional_value_bytes expected
-operation_bytes (Follow map key target) = (7 ∷ map_bytes map) ++ key_bytes key ++ map_bytes target
-operation_bytes (Size map) = 8 ∷ map_bytes map
+operation_bytes (Get map key) = (1 ∷ map_name_bytes map) ++ key_bytes key
+operation_bytes (Has map key) = (2 ∷ map_name_bytes map) ++ key_bytes key
+operation_bytes (Put map key value) =
+    (3 ∷ map_name_bytes map) ++ key_bytes key ++ value_bytes value
+operation_bytes (Remove map key) = (4 ∷ map_name_bytes map) ++ key_bytes key
+operation_bytes (Add map key amount) =
+    (5 ∷ map_name_bytes map) ++ key_bytes key ++ little_endian 8 amount
+operation_bytes (Check map key expected) =
+    (6 ∷ map_name_bytes map) ++ key_bytes key ++ optional_value_bytes expected
+operation_bytes (Follow map key target) =
+    (7 ∷ map_name_bytes map) ++ key_bytes key ++ map_name_bytes target
+operation_bytes (Size map) = 8 ∷ map_name_bytes map
 
 -- The bytes of a request: its count of operations, then each of them.
 abbrev pub request_bytes : List Operation → List ℕ
-request_bytes operations = little_endian 2 (length operations) ++ flat_map operation_bytes operations
+request_bytes operations =
+    little_endian 2 (length operations) ++ flat_map operation_bytes operations
 
 -- The bytes of an answer: its tag, then the value or the number.
 abbrev pub answer_bytes : Answer → List ℕ

@@ -1,21 +1,57 @@
 //! Requests and replies read from bytes.
 
 ghost use Rattle.std.specs.Prelude.{◌≡◌, List, IsTrue, IfOk, Ok};
-ghost use Rattle.gl_base.specs.Code.{Reads, Decodes, ended};
+ghost use Rattle.gl_base.specs.Answers.{Answers};
+ghost use Rattle.gl_base.specs.Row.{map_name_at, key_at, value_at, optional_value_at};
+ghost use Rattle.gl_vmaps.specs.Name.{value_limit};
 ghost use Rattle.gl_tx.specs.Request.{is_request, is_reply, request_bytes, reply_bytes};
 ghost use Rattle.gl_tx.specs.Reading.{row_at, get_at, has_at, put_at, remove_at, add_at, check_at, follow_at, size_at, operation_at, operations_at, count_at, request_at, request_of, answer_at, answers_at, reply_at, reply_of};
 ghost use Rattle.gl_tx.specs.declared.request.Operation.{Operation};
 ghost use Rattle.gl_tx.specs.declared.request.Answer.{Answer};
 
 use crate::request::{Answer, Operation, Reply, Request};
-use gl_base::{CodeError, CodeFault, Cut};
-use gl_vmaps::{Key, MapName, read_key, read_map, read_optional_value, read_value};
+use gl_base::{CodeFault, Cut, OrNoMemory};
+use gl_vmaps::{Key, MapName, VALUE_LIMIT, Value};
 use std::alloc::Global;
+
+fn read_map(alloc: Global, cut: &mut Cut<'_>) -> Result<MapName, OrNoMemory<CodeFault>>
+    ensures { Answers (λ map. (map, cut.new)) result (map_name_at cut.old) }
+{
+    let name = cut.map_name()?;
+    Ok(MapName::from_slice(alloc, name)?)
+}
+
+fn read_key(alloc: Global, cut: &mut Cut<'_>) -> Result<Key, OrNoMemory<CodeFault>>
+    ensures { Answers (λ key. (key, cut.new)) result (key_at cut.old) }
+{
+    let key = cut.key()?;
+    Ok(Key::from_slice(alloc, key)?)
+}
+
+fn read_value(alloc: Global, cut: &mut Cut<'_>) -> Result<Value, OrNoMemory<CodeFault>>
+    ensures { Answers (λ value. (value, cut.new)) result (value_at value_limit cut.old) }
+{
+    let value = cut.value(VALUE_LIMIT as u64)?;
+    Ok(Value::from_slice(alloc, value)?)
+}
+
+fn read_optional_value(
+    alloc: Global,
+    cut: &mut Cut<'_>,
+) -> Result<Option<Value>, OrNoMemory<CodeFault>>
+    ensures { Answers (λ value. (value, cut.new)) result
+        (optional_value_at value_limit cut.old) }
+{
+    match cut.optional_value(VALUE_LIMIT as u64)? {
+        None => Ok(None),
+        Some(value) => Ok(Some(Value::from_slice(alloc, value)?)),
+    }
+}
 
 /// Reads a map's name and a key.
 #[tactic(auto, unfolding(crate::specs::Reading::row_at))]
-fn read_row(alloc: Global, cut: &mut Cut<'_>) -> Result<(MapName, Key), CodeError>
-    ensures { Reads (λ row. row) result cut.new (row_at cut.old) }
+fn read_row(alloc: Global, cut: &mut Cut<'_>) -> Result<(MapName, Key), OrNoMemory<CodeFault>>
+    ensures { Answers (λ row. (row, cut.new)) result (row_at cut.old) }
 {
     let map = read_map(alloc, cut)?;
     let key = read_key(alloc, cut)?;
@@ -23,24 +59,24 @@ fn read_row(alloc: Global, cut: &mut Cut<'_>) -> Result<(MapName, Key), CodeErro
 }
 
 #[tactic(auto, unfolding(crate::specs::Reading::get_at))]
-fn read_get(alloc: Global, cut: &mut Cut<'_>) -> Result<Operation, CodeError>
-    ensures { Reads (λ operation. operation) result cut.new (get_at cut.old) }
+fn read_get(alloc: Global, cut: &mut Cut<'_>) -> Result<Operation, OrNoMemory<CodeFault>>
+    ensures { Answers (λ operation. (operation, cut.new)) result (get_at cut.old) }
 {
     let (map, key) = read_row(alloc, cut)?;
     Ok(Operation::Get { map, key })
 }
 
 #[tactic(auto, unfolding(crate::specs::Reading::has_at))]
-fn read_has(alloc: Global, cut: &mut Cut<'_>) -> Result<Operation, CodeError>
-    ensures { Reads (λ operation. operation) result cut.new (has_at cut.old) }
+fn read_has(alloc: Global, cut: &mut Cut<'_>) -> Result<Operation, OrNoMemory<CodeFault>>
+    ensures { Answers (λ operation. (operation, cut.new)) result (has_at cut.old) }
 {
     let (map, key) = read_row(alloc, cut)?;
     Ok(Operation::Has { map, key })
 }
 
 #[tactic(auto, unfolding(crate::specs::Reading::put_at))]
-fn read_put(alloc: Global, cut: &mut Cut<'_>) -> Result<Operation, CodeError>
-    ensures { Reads (λ operation. operation) result cut.new (put_at cut.old) }
+fn read_put(alloc: Global, cut: &mut Cut<'_>) -> Result<Operation, OrNoMemory<CodeFault>>
+    ensures { Answers (λ operation. (operation, cut.new)) result (put_at cut.old) }
 {
     let (map, key) = read_row(alloc, cut)?;
     let value = read_value(alloc, cut)?;
@@ -48,16 +84,16 @@ fn read_put(alloc: Global, cut: &mut Cut<'_>) -> Result<Operation, CodeError>
 }
 
 #[tactic(auto, unfolding(crate::specs::Reading::remove_at))]
-fn read_remove(alloc: Global, cut: &mut Cut<'_>) -> Result<Operation, CodeError>
-    ensures { Reads (λ operation. operation) result cut.new (remove_at cut.old) }
+fn read_remove(alloc: Global, cut: &mut Cut<'_>) -> Result<Operation, OrNoMemory<CodeFault>>
+    ensures { Answers (λ operation. (operation, cut.new)) result (remove_at cut.old) }
 {
     let (map, key) = read_row(alloc, cut)?;
     Ok(Operation::Remove { map, key })
 }
 
 #[tactic(auto, unfolding(crate::specs::Reading::add_at))]
-fn read_add(alloc: Global, cut: &mut Cut<'_>) -> Result<Operation, CodeError>
-    ensures { Reads (λ operation. operation) result cut.new (add_at cut.old) }
+fn read_add(alloc: Global, cut: &mut Cut<'_>) -> Result<Operation, OrNoMemory<CodeFault>>
+    ensures { Answers (λ operation. (operation, cut.new)) result (add_at cut.old) }
 {
     let (map, key) = read_row(alloc, cut)?;
     let amount = cut.u64()?;
@@ -65,8 +101,8 @@ fn read_add(alloc: Global, cut: &mut Cut<'_>) -> Result<Operation, CodeError>
 }
 
 #[tactic(auto, unfolding(crate::specs::Reading::check_at))]
-fn read_check(alloc: Global, cut: &mut Cut<'_>) -> Result<Operation, CodeError>
-    ensures { Reads (λ operation. operation) result cut.new (check_at cut.old) }
+fn read_check(alloc: Global, cut: &mut Cut<'_>) -> Result<Operation, OrNoMemory<CodeFault>>
+    ensures { Answers (λ operation. (operation, cut.new)) result (check_at cut.old) }
 {
     let (map, key) = read_row(alloc, cut)?;
     let expected = read_optional_value(alloc, cut)?;
@@ -74,8 +110,8 @@ fn read_check(alloc: Global, cut: &mut Cut<'_>) -> Result<Operation, CodeError>
 }
 
 #[tactic(auto, unfolding(crate::specs::Reading::follow_at))]
-fn read_follow(alloc: Global, cut: &mut Cut<'_>) -> Result<Operation, CodeError>
-    ensures { Reads (λ operation. operation) result cut.new (follow_at cut.old) }
+fn read_follow(alloc: Global, cut: &mut Cut<'_>) -> Result<Operation, OrNoMemory<CodeFault>>
+    ensures { Answers (λ operation. (operation, cut.new)) result (follow_at cut.old) }
 {
     let (map, key) = read_row(alloc, cut)?;
     let target = read_map(alloc, cut)?;
@@ -83,8 +119,8 @@ fn read_follow(alloc: Global, cut: &mut Cut<'_>) -> Result<Operation, CodeError>
 }
 
 #[tactic(auto, unfolding(crate::specs::Reading::size_at))]
-fn read_size(alloc: Global, cut: &mut Cut<'_>) -> Result<Operation, CodeError>
-    ensures { Reads (λ operation. operation) result cut.new (size_at cut.old) }
+fn read_size(alloc: Global, cut: &mut Cut<'_>) -> Result<Operation, OrNoMemory<CodeFault>>
+    ensures { Answers (λ operation. (operation, cut.new)) result (size_at cut.old) }
 {
     let map = read_map(alloc, cut)?;
     Ok(Operation::Size { map })
@@ -92,8 +128,8 @@ fn read_size(alloc: Global, cut: &mut Cut<'_>) -> Result<Operation, CodeError>
 
 /// Reads a tag, and the operation behind it.
 #[tactic(auto, unfolding(crate::specs::Reading::operation_at))]
-fn read_operation(alloc: Global, cut: &mut Cut<'_>) -> Result<Operation, CodeError>
-    ensures { Reads (λ operation. operation) result cut.new (operation_at cut.old) }
+fn read_operation(alloc: Global, cut: &mut Cut<'_>) -> Result<Operation, OrNoMemory<CodeFault>>
+    ensures { Answers (λ operation. (operation, cut.new)) result (operation_at cut.old) }
 {
     let place = cut.at();
     match cut.u8()? {
@@ -105,7 +141,7 @@ fn read_operation(alloc: Global, cut: &mut Cut<'_>) -> Result<Operation, CodeErr
         6 => read_check(alloc, cut),
         7 => read_follow(alloc, cut),
         8 => read_size(alloc, cut),
-        _ => Err(CodeError::Fault(CodeFault::Value { at: place })),
+        _ => Err(OrNoMemory::Fault(CodeFault::Value { at: place })),
     }
 }
 
@@ -113,8 +149,9 @@ fn read_operations(
     alloc: Global,
     count: u16,
     cut: &mut Cut<'_>,
-) -> Result<Vec<Operation>, CodeError>
-    ensures { Reads (λ operations. operations.items) result cut.new (operations_at count cut.old) }
+) -> Result<Vec<Operation>, OrNoMemory<CodeFault>>
+    ensures { Answers (λ operations. (operations.items, cut.new)) result
+        (operations_at count cut.old) }
 {
     let mut operations = Vec::new(alloc);
     for _ in 0..count {
@@ -125,63 +162,54 @@ fn read_operations(
 
 /// Reads a count from 1 to 64.
 #[tactic(auto, unfolding(crate::specs::Reading::count_at))]
-fn read_count(cut: &mut Cut<'_>) -> Result<u16, CodeError>
-    ensures { Reads (λ count. count) result cut.new (count_at cut.old) }
+fn read_count(cut: &mut Cut<'_>) -> Result<u16, OrNoMemory<CodeFault>>
+    ensures { Answers (λ count. (count, cut.new)) result (count_at cut.old) }
 {
     let place = cut.at();
     let count = cut.u16()?;
     if count < 1 || count > 64 {
-        return Err(CodeError::Fault(CodeFault::Value { at: place }));
+        return Err(OrNoMemory::Fault(CodeFault::Value { at: place }));
     }
     Ok(count)
 }
 
-/// Nothing may be left over.
-fn check_end(cut: &Cut<'_>) -> Result<(), CodeError>
-    ensures { Decodes (λ nothing. nothing) result (ended (tt, cut.now)) }
-{
-    if cut.rest().is_empty() {
-        Ok(())
-    } else {
-        Err(CodeError::Fault(CodeFault::Trailing { at: cut.at() }))
-    }
-}
-
 #[tactic(auto, unfolding(crate::specs::Reading::request_at))]
-fn read_request(alloc: Global, cut: &mut Cut<'_>) -> Result<Vec<Operation>, CodeError>
-    ensures { Reads (λ operations. operations.items) result cut.new (request_at cut.old) }
+fn read_request(alloc: Global, cut: &mut Cut<'_>) -> Result<Vec<Operation>, OrNoMemory<CodeFault>>
+    ensures { Answers (λ operations. (operations.items, cut.new)) result (request_at cut.old) }
 {
     let count = read_count(cut)?;
     read_operations(alloc, count, cut)
 }
 
-fn read_whole_request(alloc: Global, bytes: &[u8]) -> Result<Request, CodeError>
-    ensures { Decodes (λ request. request) result (request_of bytes.now) }
+fn read_whole_request(alloc: Global, bytes: &[u8]) -> Result<Request, OrNoMemory<CodeFault>>
+    ensures { Answers (λ request. request) result (request_of bytes.now) }
 {
     let mut cut = Cut::new(bytes);
     let operations = read_request(alloc, &mut cut)?;
-    check_end(&cut)?;
+    cut.end()?;
     Ok(Request::of(operations))
 }
 
 impl Request {
     /// The request that the bytes spell, all of them.
-    pub fn decode(alloc: Global, bytes: &[u8]) -> Result<Self, CodeError>
+    pub fn decode(alloc: Global, bytes: &[u8]) -> Result<Self, OrNoMemory<CodeFault>>
         // What is read is spelled so.
-        ensures found { IfOk result (λ request. IsTrue (is_request request) × (bytes.now ≡ request_bytes request)) }
+        ensures found { IfOk result (λ request.
+            IsTrue (is_request request) × (bytes.now ≡ request_bytes request)) }
         // What is spelled so is read, unless memory runs out.
-        ensures only { (operations : List Operation) → IsTrue (is_request operations) → bytes.now ≡ request_bytes operations →
-            Decodes (λ request. request) result (Ok operations) }
+        ensures only { (operations : List Operation) → IsTrue (is_request operations) →
+            bytes.now ≡ request_bytes operations →
+            Answers (λ request. request) result (Ok operations) }
         // Which fault it is.
-        ensures exact { Decodes (λ request. request) result (request_of bytes.now) }
+        ensures exact { Answers (λ request. request) result (request_of bytes.now) }
     {
         read_whole_request(alloc, bytes)
     }
 }
 
 #[tactic(auto, unfolding(crate::specs::Reading::answer_at))]
-fn read_answer(alloc: Global, cut: &mut Cut<'_>) -> Result<Answer, CodeError>
-    ensures { Reads (λ answer. answer) result cut.new (answer_at cut.old) }
+fn read_answer(alloc: Global, cut: &mut Cut<'_>) -> Result<Answer, OrNoMemory<CodeFault>>
+    ensures { Answers (λ answer. (answer, cut.new)) result (answer_at cut.old) }
 {
     let place = cut.at();
     match cut.u8()? {
@@ -191,12 +219,16 @@ fn read_answer(alloc: Global, cut: &mut Cut<'_>) -> Result<Answer, CodeError>
         3 => Ok(Answer::No),
         4 => Ok(Answer::Yes),
         5 => Ok(Answer::Number(cut.u64()?)),
-        _ => Err(CodeError::Fault(CodeFault::Value { at: place })),
+        _ => Err(OrNoMemory::Fault(CodeFault::Value { at: place })),
     }
 }
 
-fn read_answers(alloc: Global, count: u16, cut: &mut Cut<'_>) -> Result<Vec<Answer>, CodeError>
-    ensures { Reads (λ answers. answers.items) result cut.new (answers_at count cut.old) }
+fn read_answers(
+    alloc: Global,
+    count: u16,
+    cut: &mut Cut<'_>,
+) -> Result<Vec<Answer>, OrNoMemory<CodeFault>>
+    ensures { Answers (λ answers. (answers.items, cut.new)) result (answers_at count cut.old) }
 {
     let mut answers = Vec::new(alloc);
     for _ in 0..count {
@@ -206,32 +238,34 @@ fn read_answers(alloc: Global, count: u16, cut: &mut Cut<'_>) -> Result<Vec<Answ
 }
 
 #[tactic(auto, unfolding(crate::specs::Reading::reply_at))]
-fn read_reply(alloc: Global, cut: &mut Cut<'_>) -> Result<Vec<Answer>, CodeError>
-    ensures { Reads (λ answers. answers.items) result cut.new (reply_at cut.old) }
+fn read_reply(alloc: Global, cut: &mut Cut<'_>) -> Result<Vec<Answer>, OrNoMemory<CodeFault>>
+    ensures { Answers (λ answers. (answers.items, cut.new)) result (reply_at cut.old) }
 {
     let count = read_count(cut)?;
     read_answers(alloc, count, cut)
 }
 
-fn read_whole_reply(alloc: Global, bytes: &[u8]) -> Result<Reply, CodeError>
-    ensures { Decodes (λ reply. reply) result (reply_of bytes.now) }
+fn read_whole_reply(alloc: Global, bytes: &[u8]) -> Result<Reply, OrNoMemory<CodeFault>>
+    ensures { Answers (λ reply. reply) result (reply_of bytes.now) }
 {
     let mut cut = Cut::new(bytes);
     let answers = read_reply(alloc, &mut cut)?;
-    check_end(&cut)?;
+    cut.end()?;
     Ok(Reply::of(answers))
 }
 
 impl Reply {
     /// The reply that the bytes spell, all of them.
-    pub fn decode(alloc: Global, bytes: &[u8]) -> Result<Self, CodeError>
+    pub fn decode(alloc: Global, bytes: &[u8]) -> Result<Self, OrNoMemory<CodeFault>>
         // What is read is spelled so.
-        ensures found { IfOk result (λ reply. IsTrue (is_reply reply) × (bytes.now ≡ reply_bytes reply)) }
+        ensures found { IfOk result (λ reply.
+            IsTrue (is_reply reply) × (bytes.now ≡ reply_bytes reply)) }
         // What is spelled so is read, unless memory runs out.
-        ensures only { (answers : List Answer) → IsTrue (is_reply answers) → bytes.now ≡ reply_bytes answers →
-            Decodes (λ reply. reply) result (Ok answers) }
+        ensures only { (answers : List Answer) → IsTrue (is_reply answers) →
+            bytes.now ≡ reply_bytes answers →
+            Answers (λ reply. reply) result (Ok answers) }
         // Which fault it is.
-        ensures exact { Decodes (λ reply. reply) result (reply_of bytes.now) }
+        ensures exact { Answers (λ reply. reply) result (reply_of bytes.now) }
     {
         read_whole_reply(alloc, bytes)
     }

@@ -1,23 +1,33 @@
-//! The bytes of requests and replies. Numbers have their least significant byte first, and bytes of no
-//! fixed length stand behind their length.
+//! The bytes of requests and replies. Numbers have their least significant byte first, and bytes of
+//! no fixed length stand behind their length.
 
 ghost use Rattle.std.specs.Prelude.{◌≡◌, ◌<◌, ◌^◌, ◌∷◌, ◌++◌, length, OnOk, IfOk};
 ghost use Rattle.std.specs.List.{flat_map};
-ghost use Rattle.gl_vmaps.specs.Fields.{map_bytes, key_bytes};
+ghost use Rattle.std.specs.Option.{option_copied};
+ghost use Rattle.gl_base.specs.Row.{map_name_bytes, key_bytes, optional_value_bytes};
 ghost use Rattle.gl_tx.specs.Request.{operation_bytes, request_bytes, answer_bytes, reply_bytes};
 
 use crate::request::{Answer, Operation, Reply, Request};
-use gl_base::{put_u16, put_u64};
-use gl_vmaps::{Key, MapName, put_key, put_map, put_optional_value, put_value};
+use gl_base::{put_key, put_map_name, put_optional_value, put_u16, put_u64, put_value};
+use gl_vmaps::{Key, MapName, Value};
 use std::alloc::{AllocError, Global};
+
+/// A byte 0 where no value is expected, and else a byte 1 and the value.
+fn put_expected(out: &mut Vec<u8>, expected: Option<&Value>) -> Result<(), AllocError>
+    ensures { OnOk result (out.new.items
+        ≡ out.old.items ++ optional_value_bytes (option_copied expected.entry)) }
+{
+    put_optional_value(out, expected.map(|value| value.as_slice()))
+}
 
 /// Writes a tag, a map's name and a key.
 fn put_row(out: &mut Vec<u8>, tag: u8, map: &MapName, key: &Key) -> Result<(), AllocError>
-    ensures { OnOk result (out.new.items ≡ out.old.items ++ ((tag ∷ map_bytes map.now) ++ key_bytes key.now)) }
+    ensures { OnOk result (out.new.items
+        ≡ out.old.items ++ ((tag ∷ map_name_bytes map.now) ++ key_bytes key.now)) }
 {
     out.push(tag)?;
-    put_map(out, map)?;
-    put_key(out, key)
+    put_map_name(out, map.as_slice())?;
+    put_key(out, key.as_slice())
 }
 
 fn put_operation(out: &mut Vec<u8>, operation: &Operation) -> Result<(), AllocError>
@@ -28,7 +38,7 @@ fn put_operation(out: &mut Vec<u8>, operation: &Operation) -> Result<(), AllocEr
         Operation::Has { map, key } => put_row(out, 2, map, key),
         Operation::Put { map, key, value } => {
             put_row(out, 3, map, key)?;
-            put_value(out, value)
+            put_value(out, value.as_slice())
         }
         Operation::Remove { map, key } => put_row(out, 4, map, key),
         Operation::Add { map, key, amount } => {
@@ -37,21 +47,22 @@ fn put_operation(out: &mut Vec<u8>, operation: &Operation) -> Result<(), AllocEr
         }
         Operation::Check { map, key, expected } => {
             put_row(out, 6, map, key)?;
-            put_optional_value(out, expected.as_ref())
+            put_expected(out, expected.as_ref())
         }
         Operation::Follow { map, key, target } => {
             put_row(out, 7, map, key)?;
-            put_map(out, target)
+            put_map_name(out, target.as_slice())
         }
         Operation::Size { map } => {
             out.push(8)?;
-            put_map(out, map)
+            put_map_name(out, map.as_slice())
         }
     }
 }
 
 fn put_operations(out: &mut Vec<u8>, operations: &[Operation]) -> Result<(), AllocError>
-    ensures { OnOk result (out.new.items ≡ out.old.items ++ flat_map operation_bytes operations.now) }
+    ensures { OnOk result (out.new.items
+        ≡ out.old.items ++ flat_map operation_bytes operations.now) }
 {
     for operation in operations {
         put_operation(out, operation)?;
@@ -67,7 +78,7 @@ fn put_answer(out: &mut Vec<u8>, answer: &Answer) -> Result<(), AllocError>
         Answer::None => out.push(1)?,
         Answer::Value(value) => {
             out.push(2)?;
-            put_value(out, value)?;
+            put_value(out, value.as_slice())?;
         }
         Answer::No => out.push(3)?,
         Answer::Yes => out.push(4)?,

@@ -1,20 +1,21 @@
 //! One operation of a request.
 
-ghost use Rattle.std.specs.Prelude.{◌≡◌, ◌+◌, None, Some, IsTrue, IfOk};
+ghost use Rattle.std.specs.Prelude.{◌≡◌, ◌+◌, None, Some, Ok, IsTrue, IfOk};
 ghost use Rattle.std.specs.Option.{ForSome, option_copied};
+ghost use Rattle.gl_base.specs.Answers.{Answers};
 ghost use Rattle.gl_base.specs.LittleEndian.{little_endian};
 ghost use Rattle.gl_vmaps.specs.Name.{is_value};
-ghost use Rattle.gl_vmaps.specs.Tables.{value_in, has_key, size_of};
-ghost use Rattle.gl_tx.specs.Overlay.{seen};
-ghost use Rattle.gl_tx.specs.Run.{yes_or_no, value_or_none, added, is_expected, checked, followed, barred, barred_in, answered, answered_writing, on_tables, performed};
-ghost use Rattle.gl_tx.specs.Performs.{Gives, KeyGives, shown, number_in, sum_of};
-ghost use Rattle.gl_tx.specs.declared.perform.Failure.TheVariants as failures;
+ghost use Rattle.gl_tx.specs.Sees.{behind, has_key};
+ghost use Rattle.gl_tx.specs.Run.{yes_or_no, value_or_none, add_result, is_expected, check_result, follow_result, bar_on_map, bar_on, answer_only, answer_and_write, on_seen, perform_result};
+ghost use Rattle.gl_tx.specs.Performs.{key_of, number_in, sum_of};
 
+use crate::abort::Cause;
+use crate::lookup::Lookup;
 use crate::overlay::Overlay;
-use crate::request::{Answer, Cause, Operation};
-use gl_base::put_u64;
+use crate::request::{Answer, Operation};
+use gl_base::{OrNoMemory, put_u64};
 use gl_vmaps::{Key, MapName, Value, Write};
-use std::alloc::{AllocError, AllocFailed, Global};
+use std::alloc::{AllocError, Global};
 
 /// What an operation that was done answers, and the write that it makes, if it makes one.
 #[derive(Debug, Drop)]
@@ -23,40 +24,9 @@ pub(crate) struct Performed {
     pub(crate) write: Option<Write>,
 }
 
-/// Why an operation was not done.
-#[derive(Clone, Copy, Debug, PartialEq, Eq)]
-pub(crate) enum Failure {
-    NoMemory,
-    Cause(Cause),
-}
-
-impl From<AllocError> for Failure {
-    ghost from_gives = { λ _ e. e ≡ failures.NoMemory };
-
-    fn from(_e: AllocError) -> Failure {
-        Failure::NoMemory
-    }
-}
-
-impl<T: Drop> From<AllocFailed<T>> for Failure {
-    ghost from_gives = { λ _ e. e ≡ failures.NoMemory };
-
-    fn from(_e: AllocFailed<T>) -> Failure {
-        Failure::NoMemory
-    }
-}
-
-impl From<Cause> for Failure {
-    ghost from_gives = { λ cause e. e ≡ failures.Cause cause };
-
-    fn from(cause: Cause) -> Failure {
-        Failure::Cause(cause)
-    }
-}
-
-/// Why no request may name a map, if so.
-fn barred(map: &[u8]) -> Option<Cause>
-    ensures { result ≡ barred map.now }
+/// Why no request may name a map, if there is a reason.
+fn bar_on_map(map: &[u8]) -> Option<Cause>
+    ensures { result ≡ bar_on_map map.now }
 {
     if !map.starts_with(b"public:".as_slice()) {
         Some(Cause::NotPublic)
@@ -69,9 +39,10 @@ fn barred(map: &[u8]) -> Option<Cause>
     }
 }
 
-/// Why an operation may not be, if so: what bars the first of its maps that is barred.
-fn barred_in(operation: &Operation) -> Option<Cause>
-    ensures { result ≡ barred_in operation.now }
+/// Why an operation may not be, if there is a reason: that of the first of its maps that no
+/// request may name.
+pub(crate) fn bar_on(operation: &Operation) -> Option<Cause>
+    ensures { result ≡ bar_on operation.now }
 {
     match operation {
         Operation::Get { map, .. }
@@ -80,15 +51,15 @@ fn barred_in(operation: &Operation) -> Option<Cause>
         | Operation::Remove { map, .. }
         | Operation::Add { map, .. }
         | Operation::Check { map, .. }
-        | Operation::Size { map } => barred(map.as_slice()),
+        | Operation::Size { map } => bar_on_map(map.as_slice()),
         Operation::Follow { map, target, .. } => {
-            barred(map.as_slice()).or(barred(target.as_slice()))
+            bar_on_map(map.as_slice()).or(bar_on_map(target.as_slice()))
         }
     }
 }
 
-fn answered(answer: Answer) -> Performed
-    ensures { answered answer ≡ shown result }
+fn answer_only(answer: Answer) -> Performed
+    ensures { answer_only answer ≡ Ok result }
 {
     Performed {
         answer,
@@ -97,14 +68,14 @@ fn answered(answer: Answer) -> Performed
 }
 
 /// An answer, and a row set to a value or removed.
-fn answered_writing(
+fn answer_and_write(
     alloc: Global,
     answer: Answer,
     map: &MapName,
     key: &Key,
     value: Option<Value>,
 ) -> Result<Performed, AllocError>
-    ensures { IfOk result (λ done. answered_writing answer map.now key.now value ≡ shown done) }
+    ensures { IfOk result (λ done. answer_and_write answer map.now key.now value ≡ Ok done) }
 {
     let write = Write {
         map: map.copy(alloc)?,
@@ -146,36 +117,51 @@ fn number_in(value: Option<&[u8]>) -> Result<u64, Cause>
     }
 }
 
-fn get(alloc: Global, overlay: &Overlay<'_>, map: &MapName, key: &Key) -> Result<Performed, Failure>
-    ensures { Gives result (answered (value_or_none (value_in (seen overlay.now) map.now key.now))) }
-{
-    let value = overlay.get(map.as_slice(), key.as_slice());
-    Ok(answered(value_or_none(alloc, value)?))
-}
-
-fn has(overlay: &Overlay<'_>, map: &MapName, key: &Key) -> Performed
-    ensures { answered (yes_or_no (has_key (seen overlay.now) map.now key.now)) ≡ shown result }
-{
-    answered(yes_or_no(overlay.has(map.as_slice(), key.as_slice())))
-}
-
-fn put(alloc: Global, map: &MapName, key: &Key, value: &Value) -> Result<Performed, Failure>
-    ensures { Gives result (answered_writing Answer.Done map.now key.now (Some value.now)) }
-{
-    let value = value.copy(alloc)?;
-    Ok(answered_writing(alloc, Answer::Done, map, key, Some(value))?)
-}
-
-fn remove(
+fn get<L: Lookup>(
     alloc: Global,
-    overlay: &Overlay<'_>,
+    overlay: &Overlay<'_, L>,
     map: &MapName,
     key: &Key,
-) -> Result<Performed, Failure>
-    ensures { Gives result (answered_writing (yes_or_no (has_key (seen overlay.now) map.now key.now)) map.now key.now None) }
+) -> Result<Performed, OrNoMemory<Cause>>
+    ensures { let sees = behind (L.sees overlay.now.base.now) overlay.now.writes in
+        Answers (λ done. done) result (answer_only (value_or_none (sees.value map.now key.now))) }
+{
+    let value = overlay.get(map.as_slice(), key.as_slice());
+    Ok(answer_only(value_or_none(alloc, value)?))
+}
+
+fn has<L: Lookup>(overlay: &Overlay<'_, L>, map: &MapName, key: &Key) -> Performed
+    ensures { let sees = behind (L.sees overlay.now.base.now) overlay.now.writes in
+        answer_only (yes_or_no (has_key sees map.now key.now)) ≡ Ok result }
+{
+    answer_only(yes_or_no(overlay.has(map.as_slice(), key.as_slice())))
+}
+
+fn put(
+    alloc: Global,
+    map: &MapName,
+    key: &Key,
+    value: &Value,
+) -> Result<Performed, OrNoMemory<Cause>>
+    ensures { Answers (λ done. done) result
+        (answer_and_write Answer.Done map.now key.now (Some value.now)) }
+{
+    let value = value.copy(alloc)?;
+    Ok(answer_and_write(alloc, Answer::Done, map, key, Some(value))?)
+}
+
+fn remove<L: Lookup>(
+    alloc: Global,
+    overlay: &Overlay<'_, L>,
+    map: &MapName,
+    key: &Key,
+) -> Result<Performed, OrNoMemory<Cause>>
+    ensures { let sees = behind (L.sees overlay.now.base.now) overlay.now.writes in
+        Answers (λ done. done) result
+        (answer_and_write (yes_or_no (has_key sees map.now key.now)) map.now key.now None) }
 {
     let there = overlay.has(map.as_slice(), key.as_slice());
-    Ok(answered_writing(alloc, yes_or_no(there), map, key, None)?)
+    Ok(answer_and_write(alloc, yes_or_no(there), map, key, None)?)
 }
 
 /// The value that spells a number: 8 bytes, the lowest first.
@@ -193,19 +179,21 @@ fn sum_of(number: u64, amount: u64) -> Result<u64, Cause>
     number.checked_add(amount).ok_or(Cause::Overflow)
 }
 
-fn add(
+fn add<L: Lookup>(
     alloc: Global,
-    overlay: &Overlay<'_>,
+    overlay: &Overlay<'_, L>,
     map: &MapName,
     key: &Key,
     amount: u64,
-) -> Result<Performed, Failure>
-    ensures { Gives result (added map.now key.now amount (value_in (seen overlay.now) map.now key.now)) }
+) -> Result<Performed, OrNoMemory<Cause>>
+    ensures { let sees = behind (L.sees overlay.now.base.now) overlay.now.writes in
+        Answers (λ done. done) result
+        (add_result map.now key.now amount (sees.value map.now key.now)) }
 {
     let number = number_in(overlay.get(map.as_slice(), key.as_slice()))?;
     let sum = sum_of(number, amount)?;
     let value = value_of(alloc, sum)?;
-    Ok(answered_writing(alloc, Answer::Number(sum), map, key, Some(value))?)
+    Ok(answer_and_write(alloc, Answer::Number(sum), map, key, Some(value))?)
 }
 
 /// Whether the value, or its absence, is the one that is expected.
@@ -219,43 +207,46 @@ fn is_expected(expected: Option<&Value>, value: Option<&[u8]>) -> bool
     }
 }
 
-fn check(
-    overlay: &Overlay<'_>,
+fn check<L: Lookup>(
+    overlay: &Overlay<'_, L>,
     map: &MapName,
     key: &Key,
     expected: Option<&Value>,
-) -> Result<Performed, Failure>
-    ensures { Gives result (checked (is_expected (option_copied expected.entry) (value_in (seen overlay.now) map.now key.now))) }
+) -> Result<Performed, OrNoMemory<Cause>>
+    ensures { let sees = behind (L.sees overlay.now.base.now) overlay.now.writes in
+        Answers (λ done. done) result (check_result
+        (is_expected (option_copied expected.entry) (sees.value map.now key.now))) }
 {
     let value = overlay.get(map.as_slice(), key.as_slice());
     if is_expected(expected, value) {
-        Ok(answered(Answer::Done))
+        Ok(answer_only(Answer::Done))
     } else {
-        Err(Failure::Cause(Cause::Check))
+        Err(OrNoMemory::Fault(Cause::Check))
     }
 }
 
 /// The key that a value is, if it is one.
-fn key_of(alloc: Global, value: &[u8]) -> Result<Key, Failure>
-    ensures { KeyGives result value.now }
+fn key_of(alloc: Global, value: &[u8]) -> Result<Key, OrNoMemory<Cause>>
+    ensures { Answers (λ key. key) result (key_of value.now) }
 {
     match Key::new(Vec::from_slice(alloc, value)?) {
         Some(key) => Ok(key),
-        None => Err(Failure::Cause(Cause::BadKey)),
+        None => Err(OrNoMemory::Fault(Cause::BadKey)),
     }
 }
 
-fn follow(
+fn follow<L: Lookup>(
     alloc: Global,
-    overlay: &Overlay<'_>,
+    overlay: &Overlay<'_, L>,
     map: &MapName,
     key: &Key,
     target: &MapName,
-) -> Result<Performed, Failure>
-    ensures { Gives result (followed (seen overlay.now) target.now (value_in (seen overlay.now) map.now key.now)) }
+) -> Result<Performed, OrNoMemory<Cause>>
+    ensures { let sees = behind (L.sees overlay.now.base.now) overlay.now.writes in
+        Answers (λ done. done) result (follow_result sees target.now (sees.value map.now key.now)) }
 {
     match overlay.get(map.as_slice(), key.as_slice()) {
-        None => Ok(answered(Answer::None)),
+        None => Ok(answer_only(Answer::None)),
         Some(value) => {
             let key = key_of(alloc, value)?;
             get(alloc, overlay, target, &key)
@@ -263,19 +254,21 @@ fn follow(
     }
 }
 
-fn size(overlay: &Overlay<'_>, map: &MapName) -> Performed
-    ensures { answered (Answer.Number (size_of (seen overlay.now) map.now)) ≡ shown result }
+fn size<L: Lookup>(overlay: &Overlay<'_, L>, map: &MapName) -> Performed
+    ensures { let sees = behind (L.sees overlay.now.base.now) overlay.now.writes in
+        answer_only (Answer.Number (sees.size map.now)) ≡ Ok result }
 {
-    answered(Answer::Number(overlay.size(map.as_slice())))
+    answer_only(Answer::Number(overlay.size(map.as_slice())))
 }
 
 /// Performs an operation on maps that it may name.
-fn perform_allowed(
+fn perform_allowed<L: Lookup>(
     alloc: Global,
-    overlay: &Overlay<'_>,
+    overlay: &Overlay<'_, L>,
     operation: &Operation,
-) -> Result<Performed, Failure>
-    ensures { Gives result (on_tables (seen overlay.now) operation.now) }
+) -> Result<Performed, OrNoMemory<Cause>>
+    ensures { let sees = behind (L.sees overlay.now.base.now) overlay.now.writes in
+        Answers (λ done. done) result (on_seen sees operation.now) }
 {
     match operation {
         Operation::Get { map, key } => get(alloc, overlay, map, key),
@@ -290,15 +283,16 @@ fn perform_allowed(
 }
 
 /// What an operation answers and writes on the tables that it sees. It writes nothing itself.
-pub(crate) fn perform(
+pub(crate) fn perform<L: Lookup>(
     alloc: Global,
-    overlay: &Overlay<'_>,
+    overlay: &Overlay<'_, L>,
     operation: &Operation,
-) -> Result<Performed, Failure>
-    ensures { Gives result (performed operation.now (seen overlay.now)) }
+) -> Result<Performed, OrNoMemory<Cause>>
+    ensures { let sees = behind (L.sees overlay.now.base.now) overlay.now.writes in
+        Answers (λ done. done) result (perform_result operation.now sees) }
 {
-    match barred_in(operation) {
-        Some(cause) => Err(Failure::Cause(cause)),
+    match bar_on(operation) {
+        Some(cause) => Err(OrNoMemory::Fault(cause)),
         None => perform_allowed(alloc, overlay, operation),
     }
 }

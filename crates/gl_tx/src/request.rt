@@ -1,11 +1,11 @@
 //! What an application asks of the tables, and what it is answered.
 
-ghost use Rattle.std.specs.Prelude.{◌≡◌, IsTrue};
+ghost use Rattle.std.specs.Prelude.{◌≡◌, IsTrue, IfOk};
 ghost use Rattle.std.specs.List.{list_all};
-ghost use Rattle.gl_vmaps.specs.Name.{is_map_name, is_value};
 ghost use Rattle.gl_tx.specs.Request.{is_row, is_operation, is_answer};
 
 use gl_vmaps::{Key, MapName, Value};
+use std::alloc::{AllocError, Global};
 use std::marker::Model;
 
 /// One step of a request, on the tables that earlier steps left. Only maps that are public and not
@@ -57,62 +57,108 @@ pub enum Operation {
     },
 }
 
-/// Whether the name and the key are within their limits, as they always are.
-fn is_row_within(map: &MapName, key: &Key) -> bool
+fn is_row(map: &MapName, key: &Key) -> bool
     ensures value { result ≡ is_row map.now key.now }
     ensures always { IsTrue result }
 {
-    map.as_slice().len() <= 128 && key.as_slice().len() <= 1024
+    MapName::is_valid(map.as_slice()) && Key::is_valid(key.as_slice())
 }
 
-fn is_map_within(map: &MapName) -> bool
-    ensures value { result ≡ is_map_name map.now }
-    ensures always { IsTrue result }
+/// A map's name and a key in memory of their own.
+fn copy_row(alloc: Global, map: &MapName, key: &Key) -> Result<(MapName, Key), AllocError>
+    ensures { IfOk result (λ row. row ≡ (map.now, key.now)) }
 {
-    map.as_slice().len() <= 128
-}
-
-fn is_value_within(value: &Value) -> bool
-    ensures value { result ≡ is_value value.now }
-    ensures always { IsTrue result }
-{
-    value.as_slice().len() <= 65536
+    Ok((map.copy(alloc)?, key.copy(alloc)?))
 }
 
 impl Operation {
-    ghost use Rattle.std.specs.Prelude.{◌≡◌, IsTrue};
+    ghost use Rattle.std.specs.Prelude.{◌≡◌, IsTrue, IfOk};
     ghost use Rattle.gl_tx.specs.Request.{is_operation};
 
     /// Whether the names, the key and the value are within their limits, as they always are.
-    fn is_within(&self) -> bool
+    fn is_valid(&self) -> bool
         ensures value { result ≡ is_operation self.now }
         ensures always { IsTrue result }
     {
         match self {
-            Operation::Get { map, key } => is_row_within(map, key),
-            Operation::Has { map, key } => is_row_within(map, key),
-            Operation::Put { map, key, value } => is_row_within(map, key) && is_value_within(value),
-            Operation::Remove { map, key } => is_row_within(map, key),
+            Operation::Get { map, key }
+            | Operation::Has { map, key }
+            | Operation::Remove { map, key } => is_row(map, key),
+            Operation::Put { map, key, value } => {
+                is_row(map, key) && Value::is_valid(value.as_slice())
+            }
             Operation::Add { map, key, amount } => {
                 let _any = *amount;
-                is_row_within(map, key)
+                is_row(map, key)
             }
             Operation::Check { map, key, expected } => {
-                is_row_within(map, key) && expected.as_ref().is_none_or(is_value_within)
+                is_row(map, key)
+                    && expected
+                        .as_ref()
+                        .is_none_or(|value| Value::is_valid(value.as_slice()))
             }
             Operation::Follow { map, key, target } => {
-                is_row_within(map, key) && is_map_within(target)
+                is_row(map, key) && MapName::is_valid(target.as_slice())
             }
-            Operation::Size { map } => is_map_within(map),
+            Operation::Size { map } => MapName::is_valid(map.as_slice()),
+        }
+    }
+
+    /// The same operation in memory of its own. Fails for want of memory alone.
+    pub fn copy(&self, alloc: Global) -> Result<Self, AllocError>
+        ensures { IfOk result (λ operation. operation ≡ self.now) }
+    {
+        match self {
+            Operation::Get { map, key } => {
+                let (map, key) = copy_row(alloc, map, key)?;
+                Ok(Operation::Get { map, key })
+            }
+            Operation::Has { map, key } => {
+                let (map, key) = copy_row(alloc, map, key)?;
+                Ok(Operation::Has { map, key })
+            }
+            Operation::Put { map, key, value } => {
+                let (map, key) = copy_row(alloc, map, key)?;
+                let value = value.copy(alloc)?;
+                Ok(Operation::Put { map, key, value })
+            }
+            Operation::Remove { map, key } => {
+                let (map, key) = copy_row(alloc, map, key)?;
+                Ok(Operation::Remove { map, key })
+            }
+            Operation::Add { map, key, amount } => {
+                let (map, key) = copy_row(alloc, map, key)?;
+                Ok(Operation::Add {
+                    map,
+                    key,
+                    amount: *amount,
+                })
+            }
+            Operation::Check { map, key, expected } => {
+                let (map, key) = copy_row(alloc, map, key)?;
+                let expected = match expected {
+                    None => None,
+                    Some(value) => Some(value.copy(alloc)?),
+                };
+                Ok(Operation::Check { map, key, expected })
+            }
+            Operation::Follow { map, key, target } => {
+                let (map, key) = copy_row(alloc, map, key)?;
+                let target = target.copy(alloc)?;
+                Ok(Operation::Follow { map, key, target })
+            }
+            Operation::Size { map } => Ok(Operation::Size {
+                map: map.copy(alloc)?,
+            }),
         }
     }
 }
 
-fn are_operations_within(operations: &[Operation]) -> bool
+fn are_operations(operations: &[Operation]) -> bool
     ensures value { result ≡ list_all is_operation operations.now }
     ensures always { IsTrue result }
 {
-    operations.iter().all(|operation| operation.is_within())
+    operations.iter().all(|operation| operation.is_valid())
 }
 
 /// What an operation answers.
@@ -129,16 +175,16 @@ pub enum Answer {
 }
 
 impl Answer {
-    ghost use Rattle.std.specs.Prelude.{◌≡◌, IsTrue};
+    ghost use Rattle.std.specs.Prelude.{◌≡◌, IsTrue, IfOk};
     ghost use Rattle.gl_tx.specs.Request.{is_answer};
 
     /// Whether the value is within its limit, as it always is.
-    fn is_within(&self) -> bool
+    fn is_valid(&self) -> bool
         ensures value { result ≡ is_answer self.now }
         ensures always { IsTrue result }
     {
         match self {
-            Answer::Value(value) => is_value_within(value),
+            Answer::Value(value) => Value::is_valid(value.as_slice()),
             Answer::Number(number) => {
                 let _any = *number;
                 true
@@ -146,40 +192,27 @@ impl Answer {
             Answer::Done | Answer::None | Answer::No | Answer::Yes => true,
         }
     }
+
+    /// The same answer in memory of its own. Fails for want of memory alone.
+    pub fn copy(&self, alloc: Global) -> Result<Self, AllocError>
+        ensures { IfOk result (λ answer. answer ≡ self.now) }
+    {
+        match self {
+            Answer::Done => Ok(Answer::Done),
+            Answer::None => Ok(Answer::None),
+            Answer::Value(value) => Ok(Answer::Value(value.copy(alloc)?)),
+            Answer::No => Ok(Answer::No),
+            Answer::Yes => Ok(Answer::Yes),
+            Answer::Number(number) => Ok(Answer::Number(*number)),
+        }
+    }
 }
 
-fn are_answers_within(answers: &[Answer]) -> bool
+fn are_answers(answers: &[Answer]) -> bool
     ensures value { result ≡ list_all is_answer answers.now }
     ensures always { IsTrue result }
 {
-    answers.iter().all(|answer| answer.is_within())
-}
-
-/// Why an operation fails.
-#[derive(Clone, Copy, Debug, PartialEq, Eq)]
-pub enum Cause {
-    /// A map's name doesn't begin with `public:`.
-    NotPublic,
-    /// A map is a table of governance, `public:ccf.gov.`, or of the service itself,
-    /// `public:ccf.internal.` (CCF documentation, "Builtin Maps").
-    Reserved,
-    /// The value that is to be added to has not 8 bytes.
-    NotNumber,
-    /// The sum passes 64 bits.
-    Overflow,
-    /// The key has another value than the one that is expected.
-    Check,
-    /// The value that is to be followed is no key: it has no byte, or more than 1,024.
-    BadKey,
-}
-
-/// The first operation of a request that failed. The whole request then writes nothing.
-#[derive(Clone, Copy, Debug, PartialEq, Eq)]
-pub struct Abort {
-    /// Which operation it is, counted from 1.
-    pub operation: u8,
-    /// Why it failed.
-    pub cause: Cause,
+    answers.iter().all(|answer| answer.is_valid())
 }
 
 /// A request of an application: 1 to 64 operations, run in order.
@@ -201,7 +234,7 @@ impl Model for Request {
 }
 
 impl Request {
-    ghost use Rattle.std.specs.Prelude.{◌≡◌, ◌↔◌, IsTrue, IsSome, IfSome, length};
+    ghost use Rattle.std.specs.Prelude.{◌≡◌, ◌↔◌, IsTrue, IsSome, IfSome, IfOk, length};
     ghost use Rattle.gl_tx.specs.Request.{is_count, is_request};
 
     /// The request of these operations. `None` where there are none, or more than 64.
@@ -221,14 +254,25 @@ impl Request {
         requires { IsTrue (is_count (length operations.items)) }
         ensures { result ≡ operations.items }
     {
-        prove!(are_operations_within(&operations));
+        prove!(are_operations(&operations));
         Request { operations }
+    }
+
+    /// The same request in memory of its own. Fails for want of memory alone.
+    pub fn copy(&self, alloc: Global) -> Result<Self, AllocError>
+        ensures { IfOk result (λ request. request ≡ self.now) }
+    {
+        let mut operations = Vec::new(alloc);
+        for operation in &self.operations {
+            operations.push(operation.copy(alloc)?)?;
+        }
+        Ok(Request { operations })
     }
 
     /// The operations, in order.
     pub fn as_slice(&self) -> &[Operation]
         ensures value { result.now ≡ self.now }
-        ensures request { IsTrue (is_request self.now) }
+        ensures valid { IsTrue (is_request self.now) }
     {
         &self.operations
     }
@@ -253,7 +297,7 @@ impl Model for Reply {
 }
 
 impl Reply {
-    ghost use Rattle.std.specs.Prelude.{◌≡◌, ◌↔◌, IsTrue, IsSome, IfSome, length};
+    ghost use Rattle.std.specs.Prelude.{◌≡◌, ◌↔◌, IsTrue, IsSome, IfSome, IfOk, length};
     ghost use Rattle.gl_tx.specs.Request.{is_count, is_reply};
 
     /// The reply of these answers. `None` where there are none, or more than 64.
@@ -273,14 +317,25 @@ impl Reply {
         requires { IsTrue (is_count (length answers.items)) }
         ensures { result ≡ answers.items }
     {
-        prove!(are_answers_within(&answers));
+        prove!(are_answers(&answers));
         Reply { answers }
+    }
+
+    /// The same reply in memory of its own. Fails for want of memory alone.
+    pub fn copy(&self, alloc: Global) -> Result<Self, AllocError>
+        ensures { IfOk result (λ reply. reply ≡ self.now) }
+    {
+        let mut answers = Vec::new(alloc);
+        for answer in &self.answers {
+            answers.push(answer.copy(alloc)?)?;
+        }
+        Ok(Reply { answers })
     }
 
     /// The answers, in the order of the operations.
     pub fn as_slice(&self) -> &[Answer]
         ensures value { result.now ≡ self.now }
-        ensures reply { IsTrue (is_reply self.now) }
+        ensures valid { IsTrue (is_reply self.now) }
     {
         &self.answers
     }

@@ -1,6 +1,7 @@
 //! Runs of requests against answers and write sets worked out by hand.
 
-use crate::{Answer, Operation, Ran, Request, RunError, run};
+use crate::{Abort, Answer, Operation, Ran, Request, run};
+use gl_base::OrNoMemory;
 use gl_vmaps::{Key, MapName, Tables, Value, Write};
 use std::alloc::{AllocError, Global};
 use std::str;
@@ -119,7 +120,7 @@ fn tell_write(out: &mut String, write: &Write) -> Result<(), Fail> {
 }
 
 /// The answers and then the writes, or which operation failed and why.
-fn told(alloc: Global, ran: &Result<Ran, RunError>) -> Result<String, Fail> {
+fn told(alloc: Global, ran: &Result<Ran, OrNoMemory<Abort>>) -> Result<String, Fail> {
     let mut out = String::new(alloc);
     match ran {
         Ok(ran) => {
@@ -131,8 +132,8 @@ fn told(alloc: Global, ran: &Result<Ran, RunError>) -> Result<String, Fail> {
                 tell_write(&mut out, write)?;
             }
         }
-        Err(RunError::NoMemory) => out.push_str("no memory ")?,
-        Err(RunError::Aborted(abort)) => {
+        Err(OrNoMemory::NoMemory) => out.push_str("no memory ")?,
+        Err(OrNoMemory::Fault(abort)) => {
             write!(out, "{} {:?} ", abort.operation, abort.cause)?;
         }
     }

@@ -1,5 +1,5 @@
 use super::*;
-use gl_base::{CodeError, CodeFault, CutFault};
+use gl_base::{CodeFault, CutFault, OrNoMemory};
 use gl_vmaps::{Key, MapName, Value};
 use std::test::*;
 
@@ -145,7 +145,7 @@ fn tells_the_first_fault_of_a_request(rt: HostRuntime) {
     ];
     for (bytes, fault) in rows {
         let read = Request::decode(rt.alloc(), bytes).err();
-        assert_eq!(rt; read, Some(CodeError::Fault(fault)), "of {bytes:?}");
+        assert_eq!(rt; read, Some(OrNoMemory::Fault(fault)), "of {bytes:?}");
     }
 }
 
@@ -164,7 +164,7 @@ fn tells_the_first_fault_of_a_reply(rt: HostRuntime) {
     ];
     for (bytes, fault) in rows {
         let read = Reply::decode(rt.alloc(), bytes).err();
-        assert_eq!(rt; read, Some(CodeError::Fault(fault)), "of {bytes:?}");
+        assert_eq!(rt; read, Some(OrNoMemory::Fault(fault)), "of {bytes:?}");
     }
 }
 
@@ -173,12 +173,12 @@ fn is_short_wherever_it_is_cut(rt: HostRuntime) {
     for end in 0..ONE_PUT.len() {
         let read = Request::decode(rt.alloc(), &ONE_PUT[..end]).err();
         let short = CodeFault::Cut(CutFault::Short { at: end });
-        assert_eq!(rt; read, Some(CodeError::Fault(short)));
+        assert_eq!(rt; read, Some(OrNoMemory::Fault(short)));
     }
     for end in 0..ANSWERS.len() {
         let read = Reply::decode(rt.alloc(), &ANSWERS[..end]).err();
         let short = CodeFault::Cut(CutFault::Short { at: end });
-        assert_eq!(rt; read, Some(CodeError::Fault(short)));
+        assert_eq!(rt; read, Some(OrNoMemory::Fault(short)));
     }
 }
 

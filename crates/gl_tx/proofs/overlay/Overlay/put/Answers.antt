@@ -1,14 +1,13 @@
--- One more write keeps the order, and the tables that are seen have it last.
+-- One more write keeps the order.
 use Rattle.std.proofs.Common.{◌≤◌, List, length, arith, IsTrue}
-use Rattle.gl_vmaps.specs.Versions.{written_by}
 use Rattle.gl_vmaps.specs.Writes.{is_ordered, with_write}
 use Rattle.gl_vmaps.specs.declared.write.Write.{Write}
 use Rattle.gl_vmaps.proofs.WriteLaws.{is_ordered-with_write}
-use Rattle.gl_tx.proofs.Writing.{behind_put, length-with_write, length-put, wrote_all-put}
+use Rattle.gl_tx.proofs.Writing.{behind_put, length-with_write, length-put}
 use Rattle.gl_tx.proofs.overlay.Overlay.put.Goals as goal
 
 pub invariant_of-self : goal.invariant_of-self
-invariant_of-self c =
+invariant_of-self g c =
     let old = c.args.self.now.writes in
     let longer = length-with_write old c.args.write in
     let fits : length (with_write old c.args.write) ≤ 64 = omega arith in
@@ -19,9 +18,5 @@ invariant_of-self c =
           c.args.self.now.few fits;
     }
 
-pub returns-clause-seen : goal.returns-clause-seen
-returns-clause-seen c =
-    wrote_all-put (written_by c.args.self.now.tables.now) c.put.result c.args.self.now.writes c.put.new.self c.args.write c.args.self.now.ordered c.put.ensures.ok
-
 pub returns-clause-longer : goal.returns-clause-longer
-returns-clause-longer c = length-put c.put.result c.args.self.now.writes c.put.new.self c.args.write c.put.ensures.ok
+returns-clause-longer g c = length-put c.put.result c.args.self.now.writes c.put.new.self c.args.write c.put.ensures.ok

@@ -1,6 +1,6 @@
 use Rattle.std.proofs.Common.{◌≡◌, ◌∙◌, ap, subst, arith, true, Result}
-use Rattle.gl_base.specs.Code.{Decodes}
-use Rattle.gl_base.specs.declared.code_fault.CodeFault.{CodeFault}
+use Rattle.gl_base.specs.Answers.{Answers}
+use Rattle.gl_base.specs.declared.fault.CodeFault.{CodeFault}
 use Rattle.gl_tx.specs.Request.{is_reply, reply_bytes}
 use Rattle.gl_tx.specs.Reading.{reply_of}
 use Rattle.gl_tx.specs.declared.request.Reply.{Reply}
@@ -15,5 +15,5 @@ returns-clause-found c =
 
 pub returns-clause-only : goal.returns-clause-only
 returns-clause-only c answers limits spelled =
-    subst (λ (reading : Result Reply CodeFault). Decodes (λ reply. reply) c.read_whole_reply.result reading)
+    subst (λ (reading : Result Reply CodeFault). Answers (λ reply. reply) c.read_whole_reply.result reading)
     (ap reply_of spelled ∙ reply-read answers limits) c.read_whole_reply.ensures

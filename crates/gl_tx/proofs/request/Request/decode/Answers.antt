@@ -1,6 +1,6 @@
 use Rattle.std.proofs.Common.{◌≡◌, ◌∙◌, ap, subst, arith, true, Result}
-use Rattle.gl_base.specs.Code.{Decodes}
-use Rattle.gl_base.specs.declared.code_fault.CodeFault.{CodeFault}
+use Rattle.gl_base.specs.Answers.{Answers}
+use Rattle.gl_base.specs.declared.fault.CodeFault.{CodeFault}
 use Rattle.gl_tx.specs.Request.{is_request, request_bytes}
 use Rattle.gl_tx.specs.Reading.{request_of}
 use Rattle.gl_tx.specs.declared.request.Request.{Request}
@@ -15,5 +15,5 @@ returns-clause-found c =
 
 pub returns-clause-only : goal.returns-clause-only
 returns-clause-only c operations limits spelled =
-    subst (λ (reading : Result Request CodeFault). Decodes (λ request. request) c.read_whole_request.result reading)
+    subst (λ (reading : Result Request CodeFault). Answers (λ request. request) c.read_whole_request.result reading)
     (ap request_of spelled ∙ request-read operations limits) c.read_whole_request.ensures

@@ -5,24 +5,26 @@ use Rattle.std.proofs.lemmas.Bool.{and_from, and_parts}
 use Rattle.std.proofs.lemmas.Bool.Decides.{nat_tests}
 use Rattle.gl_base.specs.Code.{ended, field, unread_of}
 use Rattle.gl_base.specs.Cut.{Unread, bytes_at, number_at, string_at}
-use Rattle.gl_base.specs.Field.{are_bytes, with_u32_length}
-use Rattle.gl_base.specs.LittleEndian.{little_endian, AreBytes}
-use Rattle.gl_base.specs.declared.cut_fault.CutFault.{CutFault}
-use Rattle.gl_base.specs.declared.code_fault.CodeFault.TheVariants as codes
+use Rattle.gl_base.specs.Bytes.{are_bytes}
+use Rattle.gl_base.specs.Field.{with_u32_length}
+use Rattle.gl_base.specs.LittleEndian.{little_endian}
+use Rattle.gl_base.proofs.ByteLists.{AreBytes}
+use Rattle.gl_base.specs.declared.fault.CutFault.{CutFault}
+use Rattle.gl_base.specs.declared.fault.CodeFault.TheVariants as codes
 use Rattle.gl_base.proofs.LittleEndianLaws.{length-little_endian}
 use Rattle.gl_base.proofs.Steps.{bind_ok, ok_injective}
 use Rattle.gl_vmaps.specs.Writes.{is_write, is_ordered}
-use Rattle.gl_vmaps.specs.Fields.{write_bytes}
+use Rattle.gl_entry.specs.Entry.{write_bytes}
 use Rattle.gl_vmaps.specs.declared.write.Write.{Write}
-use Rattle.gl_vmaps.proofs.FieldLaws.{Took, field_ok, TookFlag, flag-took}
-use Rattle.gl_vmaps.proofs.Bytes.{are_bytes-each}
+use Rattle.gl_base.proofs.RowLaws.{Took, field_ok, TookFlag, flag-took}
+use Rattle.gl_base.proofs.ByteLists.{are_bytes-each}
 use Rattle.gl_entry.specs.declared.entry.Content.{Content}
 use Rattle.gl_entry.specs.declared.entry.Content.TheVariants as content
 use Rattle.gl_entry.specs.declared.entry.Entry.{Entry}
 use Rattle.gl_entry.specs.declared.fault.EntryFault.{EntryFault}
 use Rattle.gl_entry.specs.declared.fault.EntryFault.TheVariants as faults
 use Rattle.gl_entry.specs.Entry.{body_limit, kind_tag, content_bytes, body_bytes, frame_bytes, frame_size, is_content, are_sized, is_digest, is_no_digest, are_no_writes, may_write, may_claim, is_entry}
-use Rattle.gl_entry.specs.Reading.{part, entry_field, required, is_kind, kind_at, content_of, content_at, writes_from, writes_at, claims_at, body_at, whole_body, size_at, frame_at, first_entry}
+use Rattle.gl_entry.specs.Reading.{part, entry_field, required, is_kind, kind_at, content_of, content_at, writes_from, writes_at, claims_at, body_at, whole_body, size_at, frame_at, entry_at}
 use Rattle.gl_entry.proofs.Sizes.{content_within, writes_counted}
 use Rattle.gl_entry.proofs.Ordered.{part_ok, required_ok, writes_ordered, first_behind}
 use Rattle.gl_entry.proofs.Parts.{took_then, number-took, bytes-took, sized-took, Lies, lie_both, number-reads, bytes-reads, sized-reads}
@@ -336,29 +338,43 @@ body_within e is =
 pub length-frame_bytes : (e : Entry) → length (frame_bytes e) ≡ frame_size e
 length-frame_bytes e = omega (arith, length-append (little_endian 6 (length (body_bytes e))) (body_bytes e), length-little_endian 6 (length (body_bytes e)))
 
--- It lies at the front of bytes.
-first_lies : (e : Entry) (rest : List ℕ) → Lies (frame_bytes e) (unread_of (frame_bytes e ++ rest)) (record { at = frame_size e; bytes = rest })
-first_lies e rest = record { bytes = refl; place = sym (length-frame_bytes e) ∙ omega arith }
+-- It lies at the front of bytes, of which the first stands at a place.
+abbrev pub framed : ℕ → Entry → List ℕ → Unread
+framed place e rest = record { at = place; bytes = frame_bytes e ++ rest }
 
-pub first_frame-reads : (e : Entry) (rest : List ℕ) → is_entry e ≡ true → frame_at (unread_of (frame_bytes e ++ rest)) ≡ Ok (e, record { at = frame_size e; bytes = rest })
-first_frame-reads e rest is = frame-reads e (unread_of (frame_bytes e ++ rest)) (record { at = frame_size e; bytes = rest }) is (first_lies e rest)
+abbrev pub behind_frame : ℕ → Entry → List ℕ → Unread
+behind_frame place e rest = record { at = place + frame_size e; bytes = rest }
 
-pub first_entry-spelled : (bytes : List ℕ) (read : Entry × ℕ) → AreBytes bytes → first_entry bytes ≡ Ok read → (is_entry read.0 ≡ true) × (read.1 ≡ frame_size read.0) × (rest : List ℕ) × (bytes ≡ frame_bytes read.0 ++ rest)
-first_entry-spelled bytes read all e =
-    let there = bind_ok {E = EntryFault} (frame_at (unread_of bytes)) _ read e in
-    let gave : Entry × ℕ = (there.0.0, there.0.1.at) in
+frame_lies : (place : ℕ) (e : Entry) (rest : List ℕ) → Lies (frame_bytes e) (framed place e rest) (behind_frame place e rest)
+frame_lies place e rest = record { bytes = refl; place = ap (λ (n : ℕ). place + n) (sym (length-frame_bytes e)) }
+
+pub first_frame-reads : (place : ℕ) (e : Entry) (rest : List ℕ) → is_entry e ≡ true
+    → frame_at (framed place e rest) ≡ Ok (e, behind_frame place e rest)
+first_frame-reads place e rest is = frame-reads e (framed place e rest) (behind_frame place e rest) is (frame_lies place e rest)
+
+-- How many bytes of a frame are read.
+pub frame_taken : (old : Unread) (read : Entry × Unread) → AreBytes old.bytes → frame_at old ≡ Ok read
+    → length old.bytes ≡ frame_size read.0 + length read.1.bytes
+frame_taken old read all e =
+    let took = frame-spelled old read all e in
+    omega (arith, ap length took.bytes, length-append (frame_bytes read.0) read.1.bytes, length-frame_bytes read.0)
+
+pub entry_at-spelled : (place : ℕ) (bytes : List ℕ) (read : Entry × ℕ) → AreBytes bytes → entry_at place bytes ≡ Ok read
+    → (is_entry read.0 ≡ true) × (read.1 ≡ frame_size read.0) × (rest : List ℕ) × (bytes ≡ frame_bytes read.0 ++ rest)
+entry_at-spelled place bytes read all e =
+    let there = bind_ok {E = EntryFault} (frame_at (record { at = place; bytes = bytes })) _ read e in
+    let gave : Entry × ℕ = (there.0.0, frame_size there.0.0) in
     let same : gave ≡ read = ok_injective {E = EntryFault} gave read there.2 in
-    let took = frame-spelled (unread_of bytes) there.0 all there.1 in
-    let place : there.0.1.at ≡ frame_size there.0.0 = omega (arith, took.place, length-frame_bytes there.0.0) in
-    subst (λ (x : Entry × ℕ). (is_entry x.0 ≡ true) × (x.1 ≡ frame_size x.0) × (rest : List ℕ) × (bytes ≡ frame_bytes x.0 ++ rest)) same (took.valid, place, there.0.1.bytes, took.bytes)
+    let took = frame-spelled (record { at = place; bytes = bytes }) there.0 all there.1 in
+    subst (λ (x : Entry × ℕ). (is_entry x.0 ≡ true) × (x.1 ≡ frame_size x.0) × (rest : List ℕ) × (bytes ≡ frame_bytes x.0 ++ rest)) same (took.valid, refl, there.0.1.bytes, took.bytes)
 
-pub first_entry-reads : (e : Entry) (rest : List ℕ) → is_entry e ≡ true → first_entry (frame_bytes e ++ rest) ≡ Ok (e, frame_size e)
-first_entry-reads e rest is = rw (first_frame-reads e rest is) refl
+pub entry_at-reads : (place : ℕ) (e : Entry) (rest : List ℕ) → is_entry e ≡ true → entry_at place (frame_bytes e ++ rest) ≡ Ok (e, frame_size e)
+entry_at-reads place e rest is = rw (first_frame-reads place e rest is) refl
 
 -- No frame is a proper front of another.
 pub frames_differ : (e f : Entry) (x y : List ℕ) → is_entry e ≡ true → is_entry f ≡ true → frame_bytes e ++ x ≡ frame_bytes f ++ y → (e ≡ f) × (x ≡ y)
 frames_differ e f x y is_e is_f h =
-    let both : ◌≡◌ {A = Result (Entry × Unread) EntryFault} (Ok (e, record { at = frame_size e; bytes = x })) (Ok (f, record { at = frame_size f; bytes = y })) =
-    sym (first_frame-reads e x is_e) ∙ ap (λ (xs : List ℕ). frame_at (unread_of xs)) h ∙ first_frame-reads f y is_f in
+    let both : ◌≡◌ {A = Result (Entry × Unread) EntryFault} (Ok (e, behind_frame 0 e x)) (Ok (f, behind_frame 0 f y)) =
+    sym (first_frame-reads 0 e x is_e) ∙ ap (λ (xs : List ℕ). frame_at (unread_of xs)) h ∙ first_frame-reads 0 f y is_f in
     let pair = ok_injective {A = Entry × Unread} {E = EntryFault} _ _ both in
     (ap (λ (p : Entry × Unread). p.0) pair, ap (λ (p : Entry × Unread). p.1.bytes) pair)

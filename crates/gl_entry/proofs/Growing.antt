@@ -6,7 +6,7 @@ use Rattle.std.proofs.Math.Seq.{drop-append-le}
 use Rattle.gl_base.specs.Code.{unread_of}
 use Rattle.gl_base.specs.Cut.{Unread, bytes_at, number_at}
 use Rattle.gl_base.specs.Steps.{◌>>=◌}
-use Rattle.gl_base.specs.declared.cut_fault.CutFault.{CutFault}
+use Rattle.gl_base.specs.declared.fault.CutFault.{CutFault}
 use Rattle.gl_base.proofs.Numbers.{number_at_ok}
 use Rattle.gl_base.proofs.Steps.{bind_ok}
 use Rattle.gl_entry.specs.declared.entry.Entry.{Entry}

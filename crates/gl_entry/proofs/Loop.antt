@@ -8,9 +8,9 @@ use Rattle.gl_base.specs.Steps.{◌>>=◌}
 use Rattle.gl_base.specs.Cut.{Unread}
 use Rattle.gl_vmaps.specs.declared.write.Write.{Write}
 use Rattle.gl_entry.specs.declared.fault.EntryFault.{EntryFault}
-use Rattle.gl_entry.specs.declared.fault.EntryError.{EntryError}
-use Rattle.gl_entry.specs.declared.fault.EntryError.TheVariants as errors
-use Rattle.gl_entry.specs.Gives.{Fails}
+use Rattle.gl_base.specs.declared.or_no_memory.OrNoMemory.{OrNoMemory}
+use Rattle.gl_base.specs.declared.or_no_memory.OrNoMemory.TheVariants as errors
+use Rattle.gl_base.specs.Answers.{Fails}
 use Rattle.gl_entry.specs.Reading.{row_of, write_at, writes_from}
 
 -- the last of the writes, if there is one
@@ -49,7 +49,7 @@ goes_on front count i old new w total lt h so_far =
     let one : behind front count i old ≡ behind (front ++ w ∷ []) count (i + 1) new = rw (k, h, next, row) (regroup front w (writes_from (i + 1 + 1) (row_of (last_of (front ++ w ∷ []))) (count - (i + 1)) new)) in
     sym one ∙ so_far
 
-pub ends : (e : EntryError) (front : List Write) (count i : ℕ) (old : Unread) (total : Reading) → i < count → Fails e (write_at (i + 1) (row_of (last_of front)) old)
+pub ends : (e : OrNoMemory EntryFault) (front : List Write) (count i : ℕ) (old : Unread) (total : Reading) → i < count → Fails e (write_at (i + 1) (row_of (last_of front)) old)
     → behind front count i old ≡ total → Fails e total
 unfolding writes_from
 ends errors.NoMemory front count i old total lt h so_far = tt

@@ -2,10 +2,11 @@
 use Rattle.std.proofs.Common.{◌≡◌, ℕ, zero, suc, Bool, true, false, List, [], ◌∷◌, Option, None, Some, Result, Ok, Err, refl, sym, ap, subst, ◌∙◌}
 use Rattle.std.proofs.lemmas.Bool.{and_from}
 use Rattle.gl_base.specs.Cut.{Unread}
-use Rattle.gl_base.specs.declared.code_fault.CodeFault.{CodeFault}
+use Rattle.gl_base.specs.declared.fault.CodeFault.{CodeFault}
 use Rattle.gl_base.proofs.Steps.{bind_ok, ok_injective}
+use Rattle.gl_vmaps.specs.Name.{value_limit}
 use Rattle.gl_vmaps.specs.Writes.{stands_before, is_ordered}
-use Rattle.gl_vmaps.specs.Fields.{map_at, key_at, optional_value_at}
+use Rattle.gl_base.specs.Row.{map_name_at, key_at, optional_value_at}
 use Rattle.gl_vmaps.specs.declared.write.Write.{Write}
 use Rattle.gl_entry.specs.declared.fault.EntryFault.{EntryFault}
 use Rattle.gl_entry.specs.declared.fault.EntryFault.TheVariants.{Writes}
@@ -29,10 +30,10 @@ is_behind-row (Some row) w = refl
 pub write_at_behind : (number : ℕ) (before : Option (List ℕ × List ℕ)) (unread : Unread) (read : Write × Unread) → write_at number before unread ≡ Ok read → is_behind before read.0 ≡ true
 unfolding write_at
 write_at_behind number before unread read e =
-    let map = bind_ok {E = EntryFault} (part (map_at unread)) _ read e in
+    let map = bind_ok {E = EntryFault} (part (map_name_at unread)) _ read e in
     let key = bind_ok {E = EntryFault} (part (key_at map.0.1)) _ read map.2 in
     let row = bind_ok {E = EntryFault} (required (is_behind before (removal_of map.0.0 key.0.0)) (Writes number) key.0) _ read key.2 in
-    let value = bind_ok {E = EntryFault} (part (optional_value_at row.0.1)) _ read row.2 in
+    let value = bind_ok {E = EntryFault} (part (optional_value_at value_limit row.0.1)) _ read row.2 in
     let holds = required_ok (is_behind before (removal_of map.0.0 key.0.0)) (Writes number) key.0 row.0 row.1 in
     let w : Write = record { map = map.0.0; key = key.0.0; value = value.0.0 } in
     let gave : Write × Unread = (w, value.0.1) in

@@ -4,13 +4,15 @@ use Rattle.std.proofs.lemmas.Bool.{and_from}
 use Rattle.std.proofs.lemmas.Bool.Decides.{nat_tests}
 use Rattle.std.proofs.lemmas.List.{length-take-le}
 use Rattle.gl_base.specs.Cut.{Unread, bytes_at, number_at, string_at}
-use Rattle.gl_base.specs.Field.{are_bytes, with_u32_length}
-use Rattle.gl_base.specs.LittleEndian.{little_endian, AreBytes}
+use Rattle.gl_base.specs.Bytes.{are_bytes}
+use Rattle.gl_base.specs.Field.{with_u32_length}
+use Rattle.gl_base.specs.LittleEndian.{little_endian}
+use Rattle.gl_base.proofs.ByteLists.{AreBytes}
 use Rattle.gl_base.proofs.Fields.{bytes_at-spelled, bytes_at-append, number_spelled, number_at-spelled}
 use Rattle.gl_base.proofs.LittleEndianLaws.{length-little_endian, from_little_endian-lt}
 use Rattle.gl_base.proofs.Numbers.{bytes_at_ok, bytes_at_length, number_at_ok}
-use Rattle.gl_vmaps.proofs.Bytes.{are_bytes-true, AreBytes-front, AreBytes-behind, AreBytes-take}
-use Rattle.gl_vmaps.proofs.FieldLaws.{Took, string-took, string-reads}
+use Rattle.gl_base.proofs.ByteLists.{are_bytes-true, AreBytes-front, AreBytes-behind, AreBytes-take}
+use Rattle.gl_base.proofs.RowLaws.{Took, string-took, string-reads}
 use Rattle.gl_entry.specs.Entry.{are_sized}
 
 -- ---- what was read

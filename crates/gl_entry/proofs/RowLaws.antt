@@ -4,13 +4,14 @@ use Rattle.std.specs.List.{flat_map, list_all}
 use Rattle.std.proofs.lemmas.Bool.{and_parts}
 use Rattle.std.proofs.lemmas.List.Concat.{flat_map-cons}
 use Rattle.gl_base.specs.Cut.{Unread}
-use Rattle.gl_base.specs.LittleEndian.{AreBytes}
+use Rattle.gl_base.proofs.ByteLists.{AreBytes}
 use Rattle.gl_base.proofs.Steps.{bind_ok, ok_injective}
-use Rattle.gl_vmaps.specs.Name.{is_map_name, is_key}
+use Rattle.gl_vmaps.specs.Name.{value_limit, is_map_name, is_key}
 use Rattle.gl_vmaps.specs.Writes.{is_write, is_written_value, is_ordered, stands_before}
-use Rattle.gl_vmaps.specs.Fields.{map_bytes, key_bytes, optional_value_bytes, write_bytes, map_at, key_at, optional_value_at}
+use Rattle.gl_base.specs.Row.{map_name_bytes, key_bytes, optional_value_bytes, map_name_at, key_at, optional_value_at}
+use Rattle.gl_entry.specs.Entry.{write_bytes}
 use Rattle.gl_vmaps.specs.declared.write.Write.{Write}
-use Rattle.gl_vmaps.proofs.FieldLaws.{Took, map-spelled, map-reads, key-spelled, key-reads, optional_value-spelled, optional_value-reads}
+use Rattle.gl_base.proofs.RowLaws.{Took, map_name-spelled, map_name-reads, key-spelled, key-reads, optional_value-spelled, optional_value-reads}
 use Rattle.gl_entry.specs.declared.fault.EntryFault.{EntryFault}
 use Rattle.gl_entry.specs.declared.fault.EntryFault.TheVariants.{Writes}
 use Rattle.gl_entry.specs.Reading.{part, required, is_behind, removal_of, write_at, writes_from}
@@ -22,33 +23,33 @@ use Rattle.gl_entry.proofs.Parts.{took_then, Lies, lie_both, reads_there}
 pub write-spelled : (number : ℕ) (before : Option (List ℕ × List ℕ)) (old : Unread) (read : Write × Unread) → AreBytes old.bytes → write_at number before old ≡ Ok read → Took (write_bytes read.0) (is_write read.0) old read.1
 unfolding write_at
 write-spelled number before old read all e =
-    let map = bind_ok {E = EntryFault} (part (map_at old)) _ read e in
+    let map = bind_ok {E = EntryFault} (part (map_name_at old)) _ read e in
     let key = bind_ok {E = EntryFault} (part (key_at map.0.1)) _ read map.2 in
     let row = bind_ok {E = EntryFault} (required (is_behind before (removal_of map.0.0 key.0.0)) (Writes number) key.0) _ read key.2 in
-    let value = bind_ok {E = EntryFault} (part (optional_value_at row.0.1)) _ read row.2 in
+    let value = bind_ok {E = EntryFault} (part (optional_value_at value_limit row.0.1)) _ read row.2 in
     let holds = required_ok (is_behind before (removal_of map.0.0 key.0.0)) (Writes number) key.0 row.0 row.1 in
     let w : Write = record { map = map.0.0; key = key.0.0; value = value.0.0 } in
     let gave : Write × Unread = (w, value.0.1) in
     let same : gave ≡ read = ok_injective {E = EntryFault} gave read value.2 in
-    let a = map-spelled old map.0.1 map.0.0 all (part_ok (map_at old) map.0 map.1) in
+    let a = map_name-spelled old map.0.1 map.0.0 all (part_ok (map_name_at old) map.0 map.1) in
     let b = key-spelled map.0.1 key.0.1 key.0.0 a.rest (part_ok (key_at map.0.1) key.0 key.1) in
     let behind : key.0.1 ≡ row.0.1 = ap (λ (x : List ℕ × Unread). x.1) holds.1 in
-    let value_read : optional_value_at key.0.1 ≡ Ok value.0 = ap optional_value_at behind ∙ part_ok (optional_value_at row.0.1) value.0 value.1 in
-    let c = optional_value-spelled key.0.1 value.0.1 value.0.0 b.rest value_read in
-    let ab = took_then (map_bytes w.map) (key_bytes w.key) (is_map_name w.map) (is_key w.key) old map.0.1 key.0.1 a b in
-    let whole : Took (write_bytes w) (is_write w) old value.0.1 = took_then (map_bytes w.map ++ key_bytes w.key) (optional_value_bytes w.value) (is_map_name w.map && is_key w.key) (is_written_value w.value) old key.0.1 value.0.1 ab c in
+    let value_read : optional_value_at value_limit key.0.1 ≡ Ok value.0 = ap (optional_value_at value_limit) behind ∙ part_ok (optional_value_at value_limit row.0.1) value.0 value.1 in
+    let c = optional_value-spelled value_limit key.0.1 value.0.1 value.0.0 b.rest value_read in
+    let ab = took_then (map_name_bytes w.map) (key_bytes w.key) (is_map_name w.map) (is_key w.key) old map.0.1 key.0.1 a b in
+    let whole : Took (write_bytes w) (is_write w) old value.0.1 = took_then (map_name_bytes w.map ++ key_bytes w.key) (optional_value_bytes w.value) (is_map_name w.map && is_key w.key) (is_written_value w.value) old key.0.1 value.0.1 ab c in
     subst (λ (x : Write × Unread). Took (write_bytes x.0) (is_write x.0) old x.1) same whole
 
 pub write-reads : (number : ℕ) (before : Option (List ℕ × List ℕ)) (w : Write) (old new : Unread) → is_write w ≡ true → is_behind before w ≡ true → Lies (write_bytes w) old new → write_at number before old ≡ Ok (w, new)
 unfolding write_at
 write-reads number before w old new is stands there =
-    let c = lie_both (map_bytes w.map ++ key_bytes w.key) (optional_value_bytes w.value) old new there in
-    let b = lie_both (map_bytes w.map) (key_bytes w.key) old c.mid c.first in
+    let c = lie_both (map_name_bytes w.map ++ key_bytes w.key) (optional_value_bytes w.value) old new there in
+    let b = lie_both (map_name_bytes w.map) (key_bytes w.key) old c.mid c.first in
     let p = and_parts (is_map_name w.map && is_key w.key) (is_written_value w.value) is in
     let q = and_parts (is_map_name w.map) (is_key w.key) p.0 in
-    let map_read = reads_there map_at w.map (map_bytes w.map) old b.mid b.first (map-reads old.at w.map b.mid.bytes q.0) in
+    let map_read = reads_there map_name_at w.map (map_name_bytes w.map) old b.mid b.first (map_name-reads old.at w.map b.mid.bytes q.0) in
     let key_read = reads_there key_at w.key (key_bytes w.key) b.mid c.mid b.second (key-reads b.mid.at w.key c.mid.bytes q.1) in
-    let value_read = reads_there optional_value_at w.value (optional_value_bytes w.value) c.mid new c.second (optional_value-reads c.mid.at w.value new.bytes p.1) in
+    let value_read = reads_there (optional_value_at value_limit) w.value (optional_value_bytes w.value) c.mid new c.second (optional_value-reads value_limit c.mid.at w.value new.bytes (omega arith) p.1) in
     let row : is_behind before (removal_of w.map w.key) ≡ true = is_behind-row before w ∙ stands in
     rw (map_read, key_read, row, value_read) refl
 

@@ -4,15 +4,16 @@ use Rattle.std.specs.Io.KnownBytes.{Keeps}
 use Rattle.std.proofs.Math.Seq.{drop-append_seam}
 use Rattle.gl_base.specs.Code.{unread_of}
 use Rattle.gl_base.specs.Cut.{Unread}
-use Rattle.gl_base.specs.LittleEndian.{AreBytes}
+use Rattle.gl_base.proofs.ByteLists.{AreBytes}
 use Rattle.gl_base.specs.Steps.{◌>>=◌}
 use Rattle.gl_base.proofs.Steps.{bind_ok, ok_injective}
 use Rattle.gl_entry.specs.declared.entry.Entry.{Entry}
 use Rattle.gl_entry.specs.declared.fault.EntryFault.{EntryFault}
-use Rattle.gl_entry.specs.declared.fault.EntryError.{EntryError}
-use Rattle.gl_entry.specs.declared.fault.EntryError.TheVariants as errors
-use Rattle.gl_entry.specs.declared.fault.LedgerError.TheVariants as ledger
-use Rattle.gl_entry.specs.Gives.{Decodes, of_entry}
+use Rattle.gl_entry.specs.declared.fault.LedgerFault.{LedgerFault}
+use Rattle.gl_entry.specs.declared.fault.LedgerFault.TheVariants as ledgers
+use Rattle.gl_base.specs.Answers.{Answers, Widens}
+use Rattle.gl_base.specs.declared.or_no_memory.OrNoMemory.{OrNoMemory}
+use Rattle.gl_base.specs.declared.or_no_memory.OrNoMemory.TheVariants as errors
 use Rattle.gl_entry.specs.Entry.{is_entry, frame_bytes, frame_size}
 use Rattle.gl_entry.specs.Reading.{frame_at, first_entry, size_at}
 use Rattle.gl_entry.specs.Stream.{next_entry, to_read, GivesNext, wanted, IsSettled, TakesNext}
@@ -34,11 +35,10 @@ next_found-some : (byte : ℕ) (bytes : List ℕ) (e : Entry) (n : ℕ) → AreB
 unfolding next_entry
 next_found-some byte bytes e n all h =
     let there = bind_ok {E = EntryFault} (frame_at (unread_of (byte ∷ bytes))) _ (e, n) h in
-    let gave : Entry × ℕ = (there.0.0, there.0.1.at) in
+    let gave : Entry × ℕ = (there.0.0, frame_size there.0.0) in
     let same : gave ≡ (e, n) = ok_injective {E = EntryFault} gave (e, n) there.2 in
     let took = frame-spelled (unread_of (byte ∷ bytes)) there.0 all there.1 in
-    let size : there.0.1.at ≡ length (frame_bytes there.0.0) = omega (arith, took.place) in
-    let counted : n ≡ length (frame_bytes there.0.0) = ap (λ (p : Entry × ℕ). p.1) (sym same) ∙ size in
+    let counted : n ≡ length (frame_bytes there.0.0) = ap (λ (p : Entry × ℕ). p.1) (sym same) ∙ sym (length-frame_bytes there.0.0) in
     let behind : there.0.1.bytes ≡ drop n (byte ∷ bytes) =
     sym (drop-append_seam (frame_bytes there.0.0) there.0.1.bytes) ∙ ap (drop (length (frame_bytes there.0.0))) (sym took.bytes) ∙ ap (λ (k : ℕ). drop k (byte ∷ bytes)) (sym counted) in
     let entry : there.0.0 ≡ e = ap (λ (p : Entry × ℕ). p.0) same in
@@ -49,7 +49,7 @@ pub next_found : (xs : List ℕ) (e : Entry) (n : ℕ) → 1 ≤ length xs → A
 next_found [] e n some all h = absurd (omega arith)
 next_found (byte ∷ bytes) e n some all h = next_found-some byte bytes e n all h
 
-next_failed-at : (read : Result (Entry × Unread) EntryFault) (f : EntryFault) → ◌≡◌ {A = Result (Entry × ℕ) EntryFault} (read >>= λ entry. Ok (entry.0, entry.1.at)) (Err f)
+next_failed-at : (read : Result (Entry × Unread) EntryFault) (f : EntryFault) → ◌≡◌ {A = Result (Entry × ℕ) EntryFault} (read >>= λ entry. Ok (entry.0, frame_size entry.0)) (Err f)
     → ◌≡◌ {A = Result (Option (Entry × List ℕ)) EntryFault} (read >>= λ read. Ok (Some (read.0, read.1.bytes))) (Err f)
 next_failed-at (Ok read) f h = absurd cc
 next_failed-at (Err fault) f h = let same : fault ≡ f = cc in ap (λ (x : EntryFault). Err x) same
@@ -60,16 +60,16 @@ next_failed [] f some h = absurd (omega arith)
 next_failed (byte ∷ bytes) f some h = next_failed-at (frame_at (unread_of (byte ∷ bytes))) f h
 
 -- What a call gave that read the first entry.
-pub found_next : (xs : List ℕ) (r : Result (Entry × ℕ) EntryError) → 1 ≤ length xs → AreBytes xs → Decodes (λ read. read) r (first_entry xs) → IfOk r (λ read. next_entry xs ≡ Ok (Some (read.0, drop read.1 xs)))
+pub found_next : (xs : List ℕ) (r : Result (Entry × ℕ) (OrNoMemory EntryFault)) → 1 ≤ length xs → AreBytes xs → Answers (λ read. read) r (first_entry xs) → IfOk r (λ read. next_entry xs ≡ Ok (Some (read.0, drop read.1 xs)))
 found_next xs (Ok read) some all given = next_found xs read.0 read.1 some all given
 found_next xs (Err e) some all given = tt
 
-pub within_next : (xs : List ℕ) (r : Result (Entry × ℕ) EntryError) → IfOk r (λ read. (is_entry read.0 ≡ true) × (read.1 ≡ frame_size read.0) × (rest : List ℕ) × (xs ≡ frame_bytes read.0 ++ rest)) → IfOk r (λ read. read.1 ≤ length xs)
+pub within_next : (xs : List ℕ) (r : Result (Entry × ℕ) (OrNoMemory EntryFault)) → IfOk r (λ read. (is_entry read.0 ≡ true) × (read.1 ≡ frame_size read.0) × (rest : List ℕ) × (xs ≡ frame_bytes read.0 ++ rest)) → IfOk r (λ read. read.1 ≤ length xs)
 within_next xs (Ok read) found = frame_within read.0 read.1 xs found
 within_next xs (Err e) found = tt
 
-pub failed_next : (xs : List ℕ) (r : Result (Entry × ℕ) EntryError) → 1 ≤ length xs → Decodes (λ read. read) r (first_entry xs) → (f : EntryFault) → r ≡ Err (errors.Fault f) → next_entry xs ≡ Err f
-failed_next xs r some given f e = next_failed xs f some (subst (λ (s : Result (Entry × ℕ) EntryError). Decodes (λ read. read) s (first_entry xs)) e given)
+pub failed_next : (xs : List ℕ) (r : Result (Entry × ℕ) (OrNoMemory EntryFault)) → 1 ≤ length xs → Answers (λ read. read) r (first_entry xs) → (f : EntryFault) → r ≡ Err (errors.Fault f) → next_entry xs ≡ Err f
+failed_next xs r some given f e = next_failed xs f some (subst (λ (s : Result (Entry × ℕ) (OrNoMemory EntryFault)). Answers (λ read. read) s (first_entry xs)) e given)
 
 -- ---- with what the source has left
 
@@ -110,6 +110,11 @@ fails (Some bytes) kept after (Some left) ended f keeps is e same =
     (ap next_entry (sym keeps) ∙ settled kept left ended is ∙ ap (next_leaving left) e, ap (λ (xs : List ℕ). Some (xs ++ left)) same ∙ ap (λ (xs : List ℕ). Some xs) keeps)
 
 -- A reader's fault is that of the bytes.
-pub of_entry-fault : (e : EntryError) (f : EntryFault) → of_entry e ≡ ledger.Fault f → e ≡ errors.Fault f
-of_entry-fault errors.NoMemory f e = absurd cc
-of_entry-fault (errors.Fault g) f e = let same : g ≡ f = cc in ap errors.Fault same
+pub widened-entry : (e : OrNoMemory EntryFault) (w : OrNoMemory LedgerFault) (f : EntryFault) → Widens (λ fault x. x ≡ ledgers.Entry fault) e w
+    → w ≡ errors.Fault (ledgers.Entry f) → e ≡ errors.Fault f
+widened-entry errors.NoMemory w f is h = absurd cc
+widened-entry (errors.Fault g) w f is h =
+    let fault = is.1 in
+    let held = is.2 in
+    let same : g ≡ f = cc in
+    ap errors.Fault same

@@ -1,11 +1,11 @@
 -- Entries of a ledger (CCF documentation, "Ledger"), and the bytes of their frames.
-use Rattle.std.specs.Prelude.{ℕ, ◌+◌, ◌^◌, List, [], ◌∷◌, ◌++◌, Bool, true, false, ◌&&◌, length, replicate, nat_le, nat_lt, nat_eq, ◌==◌, ◌||◌}
-use Rattle.std.specs.Cmp.Lexicographic.{pointwise}
+use Rattle.std.specs.Prelude.{ℕ, ◌+◌, ◌^◌, List, [], ◌∷◌, ◌++◌, Bool, true, false, ◌&&◌, length, replicate, nat_le, nat_lt, ◌==◌, ◌||◌}
 use Rattle.std.specs.List.{flat_map, list_all}
 use Rattle.gl_base.specs.LittleEndian.{little_endian}
-use Rattle.gl_base.specs.Field.{are_bytes, with_u32_length}
+use Rattle.gl_base.specs.Bytes.{are_bytes, same_bytes, mebibyte}
+use Rattle.gl_base.specs.Field.{with_u32_length}
+use Rattle.gl_base.specs.Row.{map_name_bytes, key_bytes, optional_value_bytes}
 use Rattle.gl_vmaps.specs.Writes.{is_write, is_ordered}
-use Rattle.gl_vmaps.specs.Fields.{write_bytes}
 use Rattle.gl_vmaps.specs.declared.write.Write.{Write}
 use Rattle.gl_entry.specs.declared.entry.Signature as signatures
 use Rattle.gl_entry.specs.declared.entry.Content.{Content}
@@ -55,10 +55,16 @@ content_bytes (content.Application b) = b
 content_bytes (content.Signature s) = signature_bytes s
 content_bytes (content.Evidence d) = d
 
--- The body of an entry's frame: view, place, what it records, its writes behind their count, and its claims.
+-- A write: its map, its key, and the new value, or none where the row is removed.
+abbrev pub write_bytes : Write → List ℕ
+write_bytes w = map_name_bytes w.map ++ key_bytes w.key ++ optional_value_bytes w.value
+
+-- The body of an entry's frame: view, place, what it records, its writes behind their count, and
+-- its claims.
 abbrev pub body_bytes : Entry → List ℕ
 body_bytes e =
-    little_endian 4 e.view ++ little_endian 8 e.seqno ++ (kind_tag e.content ∷ with_u32_length (content_bytes e.content))
+    little_endian 4 e.view ++ little_endian 8 e.seqno
+    ++ (kind_tag e.content ∷ with_u32_length (content_bytes e.content))
     ++ little_endian 4 (length e.writes) ++ flat_map write_bytes e.writes ++ e.claims
 
 -- A frame has a version, 1, flags, 0, and the body's size in 6 bytes before the body.
@@ -70,7 +76,7 @@ frame_size e = 8 + length (body_bytes e)
 
 -- A body has at most 1 MiB.
 abbrev pub body_limit : ℕ
-body_limit = 1048576
+body_limit = mebibyte
 
 -- Which values are entries
 
@@ -82,7 +88,8 @@ abbrev pub is_digest : List ℕ → Bool
 is_digest bytes = are_sized 32 bytes
 
 abbrev pub is_recorded_signature : signatures.Signature → Bool
-is_recorded_signature s = is_digest s.node && nat_lt s.commit (2 ^ 64) && is_digest s.root && are_bytes s.signature
+is_recorded_signature s =
+    is_digest s.node && nat_lt s.commit (2 ^ 64) && is_digest s.root && are_bytes s.signature
 
 abbrev pub is_content : Content → Bool
 is_content (content.Governance b) = are_bytes b
@@ -109,12 +116,14 @@ are_no_writes [] = true
 are_no_writes (w ∷ ws) = false
 
 abbrev pub is_no_digest : List ℕ → Bool
-is_no_digest bytes = pointwise nat_eq bytes no_digest
+is_no_digest bytes = same_bytes bytes no_digest
 
--- The fields of an entry are in their ranges: its writes are in order, and only the kinds that may write and claim do.
+-- The fields of an entry are in their ranges: its writes are in order, and only the kinds that may
+-- write and claim do.
 abbrev pub is_entry : Entry → Bool
 is_entry e =
     nat_lt e.view (2 ^ 32) && nat_lt e.seqno (2 ^ 64) && is_content e.content
-    && list_all is_write e.writes && is_ordered e.writes && (may_write e.content || are_no_writes e.writes)
+    && list_all is_write e.writes && is_ordered e.writes
+    && (may_write e.content || are_no_writes e.writes)
     && is_digest e.claims && (may_claim e.content || is_no_digest e.claims)
     && nat_le (length (body_bytes e)) body_limit

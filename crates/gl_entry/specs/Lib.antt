@@ -2,4 +2,3 @@ pub mod Entry
 pub mod Leaf
 pub mod Reading
 pub mod Stream
-pub mod Gives

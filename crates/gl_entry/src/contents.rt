@@ -1,14 +1,70 @@
-//! What an entry records, read from its bytes.
+//! What an entry records, as bytes both ways. Numbers have their least significant byte first, and
+//! bytes of no fixed length stand behind their length.
 
-ghost use Rattle.std.specs.Prelude.{◌≡◌, ◌+◌, ◌^◌, ◌<◌, length, IfOk};
+ghost use Rattle.std.specs.Prelude.{◌≡◌, ◌+◌, ◌++◌, ◌^◌, ◌<◌, length, IfOk, OnOk};
+ghost use Rattle.gl_base.specs.Answers.{Answers};
 ghost use Rattle.gl_base.specs.Cut.{Gives, bytes_at};
-ghost use Rattle.gl_base.specs.Code.{Reads, Decodes, ended};
-ghost use Rattle.gl_entry.specs.Reading.{signature_at, evidence_at, whole_at, content_of};
+ghost use Rattle.gl_base.specs.Code.{whole_at};
+ghost use Rattle.gl_base.specs.Field.{with_u32_length};
+ghost use Rattle.gl_entry.specs.Entry.{kind_tag, signature_bytes, content_bytes};
+ghost use Rattle.gl_entry.specs.Reading.{signature_at, evidence_at, content_of};
 
-use crate::bytes::Bytes;
 use crate::entry::{BODY_LIMIT, Content, Digest, Signature};
-use gl_base::{CodeError, CodeFault, Cut, CutFault};
+use gl_base::{
+    Bytes, CodeFault, Cut, CutFault, OrNoMemory, put_bytes, put_field, put_u32, put_u64,
+};
 use std::alloc::{AllocError, Global};
+
+pub(crate) fn kind_tag(content: &Content) -> u8
+    ensures { result ≡ kind_tag content.now }
+{
+    match content {
+        Content::Governance(_) => 1,
+        Content::Application(_) => 2,
+        Content::Signature(_) => 3,
+        Content::Evidence(_) => 4,
+    }
+}
+
+/// How many bytes a signature records.
+#[tactic(auto, using(crate::proofs::Sizes::signature_size))]
+pub(crate) fn signature_len(signature: &Signature) -> u32
+    requires { length (signature_bytes signature.now) < 2 ^ 32 }
+    ensures { result ≡ length (signature_bytes signature.now) }
+{
+    let (node, root) = (signature.node.as_slice(), signature.root.as_slice());
+    (node.len() + root.len() + signature.signature.len() + 12) as u32
+}
+
+/// Writes what a signature records behind its length.
+#[tactic(auto, using(crate::proofs::Sizes::signature_size))]
+fn put_signature(out: &mut Vec<u8>, signature: &Signature) -> Result<(), AllocError>
+    requires { length (signature_bytes signature.now) < 2 ^ 32 }
+    ensures { OnOk result (out.new.items ≡
+        out.old.items ++ with_u32_length (signature_bytes signature.now)) }
+{
+    put_u32(out, signature_len(signature))?;
+    put_bytes(out, &signature.node)?;
+    put_u64(out, signature.commit)?;
+    put_bytes(out, &signature.root)?;
+    put_field(out, 32, signature.signature.as_slice())?;
+    Ok(())
+}
+
+/// Writes what an entry records behind its length.
+pub(crate) fn put_content(out: &mut Vec<u8>, content: &Content) -> Result<(), AllocError>
+    requires { length (content_bytes content.now) < 2 ^ 32 }
+    ensures { OnOk result (out.new.items ≡
+        out.old.items ++ with_u32_length (content_bytes content.now)) }
+{
+    match content {
+        Content::Governance(request) | Content::Application(request) => {
+            put_field(out, 32, request.as_slice())
+        }
+        Content::Signature(signature) => put_signature(out, signature),
+        Content::Evidence(digest) => put_field(out, 32, digest),
+    }
+}
 
 fn bytes_of(alloc: Global, bytes: &[u8]) -> Result<Bytes, AllocError>
     ensures { IfOk result (λ copy. copy ≡ bytes.now) }
@@ -24,20 +80,9 @@ pub(crate) fn read_digest(cut: &mut Cut<'_>) -> Result<Digest, CutFault>
     Ok(digest)
 }
 
-/// Nothing may be left over.
-pub(crate) fn ended(cut: &Cut<'_>) -> Result<(), CodeError>
-    ensures { Decodes (λ done. done) result (ended (tt, cut.now)) }
-{
-    if cut.rest().is_empty() {
-        Ok(())
-    } else {
-        Err(CodeError::Fault(CodeFault::Trailing { at: cut.at() }))
-    }
-}
-
 #[tactic(auto, unfolding(crate::specs::Reading::signature_at))]
-fn read_signature(alloc: Global, cut: &mut Cut<'_>) -> Result<Content, CodeError>
-    ensures { Reads (λ content. content) result cut.new (signature_at cut.old) }
+fn read_signature(alloc: Global, cut: &mut Cut<'_>) -> Result<Content, OrNoMemory<CodeFault>>
+    ensures { Answers (λ content. (content, cut.new)) result (signature_at cut.old) }
 {
     let node = read_digest(cut)?;
     let commit = cut.u64()?;
@@ -52,43 +97,43 @@ fn read_signature(alloc: Global, cut: &mut Cut<'_>) -> Result<Content, CodeError
 }
 
 #[tactic(auto, unfolding(crate::specs::Reading::evidence_at))]
-fn read_evidence(cut: &mut Cut<'_>) -> Result<Content, CodeError>
-    ensures { Reads (λ content. content) result cut.new (evidence_at cut.old) }
+fn read_evidence(cut: &mut Cut<'_>) -> Result<Content, CodeFault>
+    ensures { Gives (λ content. content) result cut.old cut.new (evidence_at cut.old) }
 {
     Ok(Content::Evidence(read_digest(cut)?))
 }
 
-fn signature_of(alloc: Global, place: usize, bytes: &[u8]) -> Result<Content, CodeError>
+fn signature_of(alloc: Global, place: usize, bytes: &[u8]) -> Result<Content, OrNoMemory<CodeFault>>
     requires { place + length bytes.now < 2 ^ 64 }
-    ensures { Decodes (λ content. content) result (whole_at signature_at place bytes.now) }
+    ensures { Answers (λ content. content) result (whole_at signature_at place bytes.now) }
 {
     let mut cut = Cut::new_at(bytes, place);
     let content = read_signature(alloc, &mut cut)?;
-    ended(&cut)?;
+    cut.end()?;
     Ok(content)
 }
 
-fn evidence_of(place: usize, bytes: &[u8]) -> Result<Content, CodeError>
+fn evidence_of(place: usize, bytes: &[u8]) -> Result<Content, OrNoMemory<CodeFault>>
     requires { place + length bytes.now < 2 ^ 64 }
-    ensures { Decodes (λ content. content) result (whole_at evidence_at place bytes.now) }
+    ensures { Answers (λ content. content) result (whole_at evidence_at place bytes.now) }
 {
     let mut cut = Cut::new_at(bytes, place);
     let content = read_evidence(&mut cut)?;
-    ended(&cut)?;
+    cut.end()?;
     Ok(content)
 }
 
-/// What an entry of this kind, 1 to 4, records, from all of the bytes of its request, the first of which
-/// stands at this place.
+/// What an entry of this kind, 1 to 4, records, from all of the bytes of its request, the first of
+/// which stands at this place.
 #[tactic(auto, unfolding(crate::specs::Reading::content_of))]
 pub(crate) fn content_of(
     alloc: Global,
     kind: u8,
     place: usize,
     bytes: &[u8],
-) -> Result<Content, CodeError>
+) -> Result<Content, OrNoMemory<CodeFault>>
     requires { place + length bytes.now < 2 ^ 64 }
-    ensures { Decodes (λ content. content) result (content_of kind place bytes.now) }
+    ensures { Answers (λ content. content) result (content_of kind place bytes.now) }
 {
     match kind {
         1 => Ok(Content::Governance(bytes_of(alloc, bytes)?)),

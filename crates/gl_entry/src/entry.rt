@@ -1,13 +1,13 @@
 //! Entries of the ledger (CCF documentation, "Ledger").
 
-use crate::bytes::Bytes;
+use gl_base::{Bytes, MEBIBYTE};
 use gl_vmaps::Writes;
 
 /// A SHA-256 digest (FIPS 180-4): 32 bytes.
 pub type Digest = [u8; 32];
 
 /// The most bytes of a body: 1 MiB.
-pub(crate) const BODY_LIMIT: u64 = 1_048_576;
+pub(crate) const BODY_LIMIT: u64 = MEBIBYTE;
 
 /// A node's identifier: the SHA-256 digest of its LMS key's 56 bytes.
 pub type NodeId = Digest;

@@ -1,23 +1,22 @@
-//! The entries of a ledger (CCF documentation, "Ledger"): their frames, their leaves in the Merkle tree,
-//! and a reader of whole ledgers.
+//! The entries of a ledger (CCF documentation, "Ledger"): their frames, their leaves in the Merkle
+//! tree, and a reader of whole ledgers.
 #![tactic(auto)]
 
-mod bytes;
+mod body;
+mod body_digest;
+mod buffer;
 mod contents;
-mod decoding;
-mod encoding;
 mod entry;
 mod fault;
-mod kept;
+mod frame;
 mod leaves;
 mod reader;
-mod reading;
+mod writes;
 
-pub use bytes::Bytes;
-pub use decoding::one_frame;
+pub use buffer::ReadBuffer;
 pub use entry::{Content, Digest, Entry, NodeId, Signature};
-pub use fault::{EntryError, EntryFault, LedgerError};
-pub use kept::Kept;
+pub use fault::{EntryFault, LedgerFault};
+pub use frame::one_frame;
 pub use leaves::{evidence, leaf, leaf_of_body};
 pub use reader::LedgerReader;
 

@@ -4,7 +4,7 @@ ghost use Rattle.std.specs.Prelude.{◌≡◌, ◌<◌, ◌≤◌, ◌^◌, leng
 ghost use Rattle.gl_entry.specs.Entry.{content_bytes, is_entry};
 
 use super::*;
-use gl_base::{CodeFault, CutFault, TxId};
+use gl_base::{Bytes, CodeFault, CutFault, OrNoMemory, TxId};
 use gl_outside::{MemSource, Source};
 use gl_vmaps::{Key, MapName, Value, Write, Writes};
 use std::alloc::{AllocError, Global};
@@ -44,8 +44,8 @@ const RULED: [u8; 96] = [
     0x00, 0x00, 0x00, 0x00, 0x00, 0x00, 0x00, 0x00, 0x00, 0x00, 0x00, 0x00, 0x00, 0x00, 0x00, 0x00,
 ];
 
-// The ledger of one put, in a service of one member, in hexadecimal: a genesis and its signature, the put, and another
-// signature. A program in Python made it that knows the format alone.
+// The ledger of one put, in a service of one member, in hexadecimal: a genesis and its signature,
+// the put, and another signature. A program in Python made it that knows the format alone.
 const LEDGER: &[u8] = b"\
     0100eb030000000002000000010000000000000001fc000000010200000002000000050000000358d23188ef65\
     205d9e7e3a23be51785572f2c0e680a057a6fb37ec5cc532f23d618cb741b6ced4303c4b7c7a477da92e010000\
@@ -125,8 +125,8 @@ fn spells_the_entry_of_a_put(rt: HostRuntime) -> Result<(), Fail> {
     assert_eq!(rt; entry.encode(rt.alloc())?.as_slice(), PUT.as_slice());
     let id = TxId { view: 2, seqno: 3 };
     assert_eq!(rt; evidence(rt.alloc(), &IDENTITY, id)?.as_slice(), EVIDENCE);
-    assert_eq!(rt; leaf_of_body(rt.alloc(), &IDENTITY, &entry, &body)?, LEAF);
-    assert_eq!(rt; leaf(rt.alloc(), &entry, &IDENTITY)?, LEAF);
+    assert_eq!(rt; leaf_of_body(&IDENTITY, &entry, &body), LEAF);
+    assert_eq!(rt; leaf(&entry, &IDENTITY), LEAF);
     Ok(())
 }
 
@@ -157,7 +157,7 @@ fn reads_each_kind_of_entry(rt: HostRuntime) -> Result<(), Fail> {
     Ok(())
 }
 
-fn fault_of(alloc: Global, bytes: &[u8]) -> Option<EntryError> {
+fn fault_of(alloc: Global, bytes: &[u8]) -> Option<OrNoMemory<EntryFault>> {
     Entry::decode(alloc, bytes).err()
 }
 
@@ -198,7 +198,7 @@ fn tells_the_first_fault(rt: HostRuntime) -> Result<(), Fail> {
         changed[at + 1] = bytes[1];
         assert_eq!(rt;
             fault_of(rt.alloc(), &changed),
-            Some(EntryError::Fault(want)),
+            Some(OrNoMemory::Fault(want)),
             "at {at}"
         );
     }
@@ -215,20 +215,30 @@ fn measures_the_body_by_its_size(rt: HostRuntime) -> Result<(), Fail> {
     let trailing = EntryFault::Code(CodeFault::Trailing { at: 99 });
     assert_eq!(rt;
         fault_of(rt.alloc(), &longer),
-        Some(EntryError::Fault(trailing))
+        Some(OrNoMemory::Fault(trailing))
     );
     for len in 0..99 {
         let short = EntryFault::Code(CodeFault::Cut(CutFault::Short { at: len }));
         assert_eq!(rt;
             fault_of(rt.alloc(), &PUT[..len]),
-            Some(EntryError::Fault(short))
+            Some(OrNoMemory::Fault(short))
         );
     }
     let size = EntryFault::Size {
         size: 281_474_976_710_655,
     };
     let large = [1, 0, 0xff, 0xff, 0xff, 0xff, 0xff, 0xff, 2, 0];
-    assert_eq!(rt; fault_of(rt.alloc(), &large), Some(EntryError::Fault(size)));
+    assert_eq!(rt; fault_of(rt.alloc(), &large), Some(OrNoMemory::Fault(size)));
+    Ok(())
+}
+
+#[test]
+fn counts_places_on_inside_other_bytes(rt: HostRuntime) -> Result<(), Fail> {
+    let (entry, size) = Entry::decode_at(rt.alloc(), 1000, &PUT)?;
+    assert_eq!(rt; (entry.seqno, size), (3, 99));
+    let short = EntryFault::Code(CodeFault::Cut(CutFault::Short { at: 1098 }));
+    let fault = Entry::decode_at(rt.alloc(), 1000, &PUT[..98]).err();
+    assert_eq!(rt; fault, Some(OrNoMemory::Fault(short)));
     Ok(())
 }
 
@@ -236,7 +246,7 @@ fn measures_the_body_by_its_size(rt: HostRuntime) -> Result<(), Fail> {
 fn drain<S: Source>(
     alloc: Global,
     reader: &mut LedgerReader<S>,
-) -> Result<(Vec<u8>, Option<LedgerError>), AllocError> {
+) -> Result<(Vec<u8>, Option<OrNoMemory<LedgerFault>>), AllocError> {
     let mut frames = Vec::new(alloc);
     for _ in 0..5 {
         match reader.next() {
@@ -277,7 +287,7 @@ fn tells_where_a_ledger_is_cut(rt: HostRuntime) -> Result<(), Fail> {
         let want = if len == whole {
             None
         } else {
-            Some(LedgerError::Fault(short))
+            Some(OrNoMemory::Fault(LedgerFault::Entry(short)))
         };
         let mut reader = LedgerReader::new(rt.alloc(), MemSource::new(&bytes[..len], 100, &[]));
         let (frames, fault) = drain(rt.alloc(), &mut reader)?;
@@ -297,7 +307,7 @@ fn goes_on_where_a_read_failed(rt: HostRuntime) -> Result<(), Fail> {
         let failing = [failing];
         let mut reader = LedgerReader::new(rt.alloc(), MemSource::new(&bytes, 90, &failing));
         let (before, fault) = drain(rt.alloc(), &mut reader)?;
-        assert_eq!(rt; fault, Some(LedgerError::ReadFault));
+        assert_eq!(rt; fault, Some(OrNoMemory::Fault(LedgerFault::Read)));
         assert_eq!(rt; reader.source.faults, 1);
         let (behind, fault) = drain(rt.alloc(), &mut reader)?;
         assert_eq!(rt; fault, None);

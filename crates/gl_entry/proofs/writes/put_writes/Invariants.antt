@@ -1,7 +1,7 @@
 use Rattle.std.proofs.Common.{◌≡◌, ◌++◌, drop}
 use Rattle.std.specs.List.{flat_map}
-use Rattle.gl_vmaps.specs.Fields.{write_bytes}
-use Rattle.gl_entry.proofs.encoding.put_writes.Given as goal
+use Rattle.gl_entry.specs.Entry.{write_bytes}
+use Rattle.gl_entry.proofs.writes.put_writes.Given as goal
 
 -- what is written and what is left to write make the whole
 abbrev pub invariant-loop-write : goal.invariant-loop-write

@@ -1,7 +1,7 @@
 use Rattle.std.proofs.Common.{◌≡◌, None}
 use Rattle.gl_entry.specs.Reading.{writes_from}
 use Rattle.gl_entry.proofs.Loop.{behind}
-use Rattle.gl_entry.proofs.reading.read_rows.Given as goal
+use Rattle.gl_entry.proofs.writes.read_rows.Given as goal
 
 -- what was read and what is still to be read make the whole
 abbrev pub invariant-loop-index : goal.invariant-loop-index

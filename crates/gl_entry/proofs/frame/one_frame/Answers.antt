@@ -1,5 +1,5 @@
 use Rattle.gl_entry.proofs.EntryLaws.{frames_differ}
-use Rattle.gl_entry.proofs.decoding.one_frame.Goals as goal
+use Rattle.gl_entry.proofs.frame.one_frame.Goals as goal
 
 pub returns : goal.returns
 returns c = frames_differ

@@ -13,15 +13,15 @@ use std::marker::Model;
 /// The most bytes that one read gives.
 const PIECE: usize = 65536;
 
-/// Bytes of which the front was taken.
+/// Bytes that were read, of which the front was taken.
 #[derive(Debug, Drop)]
-pub struct Kept {
+pub struct ReadBuffer {
     buffer: Vec<u8>,
     /// How many bytes were taken.
     start: usize,
 }
 
-impl Model for Kept {
+impl Model for ReadBuffer {
     ghost use Rattle.std.specs.Prelude.{ℕ, List, drop, length, ◌≤◌};
 
     ghost Value = { List ℕ };
@@ -44,10 +44,12 @@ fn drop_front(buffer: &mut Vec<u8>, count: usize)
     buffer.truncate(rest);
 }
 
-/// Reads one piece to the end of the buffer. Where memory is wanting nothing was read.
+/// Reads one piece to the end of the buffer. Where memory runs out nothing was read.
 fn read_piece<S: Source>(source: &mut S, buffer: &mut Vec<u8>) -> Result<Got, AllocError>
-    ensures kept { Keeps (to_read buffer.old.items (S.left source.old)) (to_read buffer.new.items (S.left source.new)) }
-    ensures more { IfOk result (λ got. length buffer.new.items ≡ length buffer.old.items + given_count got) }
+    ensures kept { Keeps (to_read buffer.old.items (S.left source.old))
+        (to_read buffer.new.items (S.left source.new)) }
+    ensures more { IfOk result (λ got.
+        length buffer.new.items ≡ length buffer.old.items + given_count got) }
     ensures end { IfOk result (λ got. IsTrue (gave_end got 65536) →
         IsAtEnd (S.left source.new) × (S.ended source.new ≡ true)) }
     ensures failed { result ≡ Ok Got.Failed → Rose (S.faults source.old) (S.faults source.new) }
@@ -63,12 +65,12 @@ fn read_piece<S: Source>(source: &mut S, buffer: &mut Vec<u8>) -> Result<Got, Al
     Ok(got)
 }
 
-impl Kept {
+impl ReadBuffer {
     /// No bytes.
     pub(crate) fn new(alloc: Global) -> Self
         ensures { result ≡ [] }
     {
-        Kept {
+        ReadBuffer {
             buffer: Vec::new(alloc),
             start: 0,
         }
@@ -90,10 +92,11 @@ impl Kept {
         self.start += count;
     }
 
-    /// Reads one piece behind the others. Where memory is wanting nothing was read. The bytes move to
+    /// Reads one piece behind the others. Where memory runs out nothing was read. The bytes move to
     /// the front of the buffer, if any were taken since the last read.
     pub(crate) fn read_from<S: Source>(&mut self, source: &mut S) -> Result<Got, AllocError>
-        ensures kept { Keeps (to_read self.old (S.left source.old)) (to_read self.new (S.left source.new)) }
+        ensures kept { Keeps (to_read self.old (S.left source.old))
+            (to_read self.new (S.left source.new)) }
         ensures more { IfOk result (λ got. length self.new ≡ length self.old + given_count got) }
         ensures end { IfOk result (λ got. IsTrue (gave_end got 65536) →
             IsAtEnd (S.left source.new) × (S.ended source.new ≡ true)) }

@@ -1,6 +1,7 @@
 -- What an application request writes is none of governance, and its entry keeps a ledger sound.
-use Rattle.std.proofs.Common.{◌≡◌, ℕ, ◌<◌, ◌≤◌, nat_lt, List, [], ◌∷◌, ◌++◌, length, Option, Some, None, Result, Ok, Err, Bool, true, false, not, ◌||◌, refl, sym, ◌∙◌, ap, ap₂, subst, if◌then◌else◌, arith}
+use Rattle.std.proofs.Common.{◌≡◌, ℕ, ◌+◌, ◌<◌, ◌≤◌, nat_lt, List, [], ◌∷◌, ◌++◌, length, Option, Some, None, Result, Ok, Err, Bool, true, false, not, ◌||◌, refl, sym, ◌∙◌, ap, ap₂, subst, if◌then◌else◌, arith}
 use Rattle.std.specs.List.{AllByRecursion}
+use Rattle.std.specs.FinMap as rows
 use Rattle.std.proofs.lemmas.Bool.Decides.{nat_tests}
 use Rattle.sha2.specs.Sha256.{sha256}
 use Rattle.gl_base.specs.Answers.{Fails, Widens}
@@ -27,9 +28,10 @@ use Rattle.gl_store.specs.Effect.{service_state, state_of_value}
 use Rattle.gl_store.specs.Tree.{tables_of}
 use Rattle.gl_store.specs.Serial.{IsSound, IsApplicationEntry}
 use Rattle.gl_rules.specs.Safety.{ViewsUpTo}
-use Rattle.gl_store.specs.Ledger.{application_entry, execute_result, execute_in, run_result, within_limits}
+use Rattle.gl_store.specs.Ledger.{Held, application_entry, execute_result, execute_in, run_result, within_limits}
 use Rattle.gl_store.specs.Book.{service_book, with_reply, request_result, Given, Replied, Unmade, ByStore, Unspelled}
-use Rattle.gl_store.specs.Calls.{Refuses}
+use Rattle.gl_base.specs.declared.tx_id.TxId.{TxId}
+use Rattle.gl_store.specs.Calls.{Executes, Refuses}
 use Rattle.gl_store.specs.declared.genesis.ServiceState.{ServiceState}
 use Rattle.gl_store.specs.declared.genesis.ServiceState.TheVariants.{Opening, Open}
 use Rattle.gl_store.specs.declared.refusal.Refusal.{Refusal}
@@ -161,6 +163,16 @@ pub application_made : (ledger : List Entry) (view place : ℕ) (q : List Operat
     place ≡ length ledger + 1 → reply ≡ reply_bytes ran.reply → e ≡ application_entry ledger view q ran
 application_made ledger view place q ran reply e made at spelled = made ∙ rw (at, spelled) refl
 
+-- the entry that is made where the request ran, and the body, the reply and the seqno are within their limits
+pub made_within : (ledger : List Entry) (view seqno : ℕ) (q : List Operation) (ran : Ran) (reply body : List ℕ) (e : Entry) → service_state (tables_of ledger) ≡ Open →
+    run q (tables_of ledger) ≡ Ok ran →
+    e ≡ record { view = view; seqno = seqno; content = content.Application (request_bytes q); writes = ran.writes; claims = sha256 reply } →
+    seqno ≡ length ledger + 1 → reply ≡ reply_bytes ran.reply → body ≡ body_bytes e → length body ≤ body_limit → length reply ≤ body_limit → seqno ≤ last_seqno →
+    execute_result ledger view q ≡ Ok (e, ran.reply)
+made_within ledger view seqno q ran reply body e is_open runs made at spelled sized small short named =
+    execute_within ledger view q ran e is_open runs (application_made ledger view seqno q ran reply e made at spelled)
+    (subst (λ (xs : List ℕ). length xs ≤ body_limit) sized small) (subst (λ (xs : List ℕ). length xs ≤ body_limit) spelled short) (omega (arith, at, named))
+
 -- ---- the same of the book
 
 -- a request that bytes spell
@@ -179,6 +191,22 @@ request_refused ledger view q why fits refused = request_spelled ledger view q f
 
 abbrev replying : Entry → List Answer → Result (Entry × Given) Unmade
 replying e a = Ok (e, Replied a)
+
+-- a store with that entry executed the request
+pub executes_made : (ledger items : List Entry) (commit view seqno : ℕ) (q : List Operation) (e : Entry) (a : List Answer) → is_request q ≡ true →
+    execute_result ledger view q ≡ Ok (e, a) → seqno ≡ length ledger + 1 → items ≡ ledger ++ e ∷ [] →
+    Executes (record { ledger = ledger; commit = commit }) view q (record { view = view; seqno = seqno }) a (record { ledger = items; commit = commit })
+executes_made ledger items commit view seqno q e a fits gives at pushed = record {
+  entry = e;
+  made = request_made ledger view q e a fits gives;
+  enters = record { named = ap named at; entered = ap held pushed };
+}
+  where
+    named : ℕ → TxId
+    named n = record { view = view; seqno = n }
+
+    held : List Entry → Held
+    held es = record { ledger = es; commit = commit }
 
 -- what the book makes of a request, the store makes
 pub request_ok : (ledger : List Entry) (view : ℕ) (q : List Operation) (e : Entry) (a : List Answer) →

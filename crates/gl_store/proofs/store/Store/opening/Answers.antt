@@ -1,7 +1,8 @@
-use Rattle.std.proofs.Common.{◌≡◌, ap, subst, true}
+use Rattle.std.proofs.Common.{◌≡◌, ap, subst, true, arith}
 use Rattle.gl_entry.specs.Entry.{is_entry}
 use Rattle.gl_entry.specs.declared.entry.Entry.{Entry}
 use Rattle.gl_store.proofs.Keeping.{founded, founded_below, kept_opening}
+use Rattle.gl_store.proofs.TablesLaws.{nothing_below}
 use Rattle.gl_store.proofs.store.Store.opening.Goals as goal
 
 pub signature_entry-opening-requires-clause-tree : goal.signature_entry-opening-requires-clause-tree
@@ -40,3 +41,8 @@ invariant_of-result c =
     (founded g log.entries.items first.entries.items log.tables first.tables log.frontier first.frontier c.in_ok-founding.founding
     made.entries made.tables made.from_start made.base made.peaks made.leaves c.in_ok-founding.ensures.made pushed.entries (record { stands = pushed.tables; base = pushed.base }) pushed.leaves)
     c.signature_entry-opening.ensures.made c.signature_entry-opening.ensures.fits again.entries (record { stands = again.tables; base = again.base }) again.leaves
+
+pub push_entry-requires-clause-above : goal.push_entry-requires-clause-above
+push_entry-requires-clause-above c =
+    let one : c.in_ok-founding.founding.seqno ≡ 1 = ap (λ (e : Entry). e.seqno) c.in_ok-founding.ensures.made in
+    nothing_below c.in_ok-state.state.tables c.in_ok-founding.founding.seqno c.in_ok-state.ensures.tables (omega (arith, one))

@@ -8,10 +8,10 @@ use Rattle.std.proofs.lemmas.Bool.Decides.{nat_tests}
 use Rattle.std.proofs.lemmas.Grind.{flat_map-append}
 use Rattle.sha2.proofs.Facts256.{length-sha256}
 use Rattle.gl_base.specs.LittleEndian.{little_endian}
-use Rattle.gl_base.specs.Field.{are_bytes, is_byte}
+use Rattle.gl_base.specs.Bytes.{are_bytes, is_byte}
 use Rattle.gl_base.proofs.LittleEndianLaws.{length-little_endian}
 use Rattle.gl_vmaps.specs.Writes.{write_order, with_write, put_before}
-use Rattle.gl_vmaps.specs.Fields.{write_bytes}
+use Rattle.gl_entry.specs.Entry.{write_bytes}
 use Rattle.gl_vmaps.specs.declared.write.Write.{Write}
 use Rattle.gl_entry.specs.Entry.{are_sized, is_digest, body_bytes, body_limit}
 use Rattle.gl_store.specs.Genesis.{state_byte, node_id, node_bytes, member_bytes, share_bytes, dealing_bytes, genesis_bytes, is_node, is_member, is_share, is_dealing, is_genesis, are_nodes, are_members, numbers_of, is_dealing_among, are_distinct_bytes, is_acceptable, row, constitution_rows, constitution_map, dealing_map, dealing_key, members_map, nodes_map, service_map, service_key, member_row, node_row, node_rows, service_row, genesis_rows, genesis_writes, set_from}
@@ -22,6 +22,7 @@ use Rattle.gl_store.specs.declared.genesis.ShareDigest.{ShareDigest}
 use Rattle.gl_store.specs.declared.genesis.Dealing.{Dealing}
 use Rattle.gl_store.specs.declared.genesis.Genesis as request
 use Rattle.gl_store.proofs.Entries.{length-body_bytes}
+use Rattle.gl_store.proofs.GenesisFields.{sized_length, node_fields, fields_of, few_nodes}
 
 -- ---- write sets
 
@@ -59,9 +60,6 @@ set_from_size set (w ∷ ws) =
 pub length-row : (table key value : List ℕ) → length (write_bytes (row table key value)) ≡ 8 + length table + length key + length value
 length-row table key value = simp (length-append, length-little_endian) (omega arith)
 
-sized : (n : ℕ) (xs : List ℕ) → are_sized n xs ≡ true → length xs ≡ n
-sized n xs h = let both = and_parts (length xs == n) (are_bytes xs) h in grind (arith, nat_tests, both.0)
-
 rules_size : size constitution_rows ≡ 280
 unfolding little_endian
 rules_size = refl
@@ -74,18 +72,18 @@ members_size [] all = (omega arith, omega arith)
 members_size (m ∷ ms) all =
     let both = and_parts (is_member m) (list_all is_member ms) all in
     let parts = and_parts (is_byte m.number) (are_sized 60 m.key) both.0 in
-    let one = member_size m (sized 60 m.key parts.1) in
+    let one = member_size m (sized_length 60 m.key parts.1) in
     let rest = members_size ms both.1 in
     let bytes = length-append (member_bytes m) (flat_map member_bytes ms) in
     let rows = size-cons (member_row m) (map member_row ms) in
     (omega (arith, one.0, rest.0), omega (arith, one.1, rest.1))
 
-shares_size : (ss : List ShareDigest) → list_all is_share ss ≡ true → length (flat_map share_bytes ss) ≡ length ss * 33
+pub shares_size : (ss : List ShareDigest) → list_all is_share ss ≡ true → length (flat_map share_bytes ss) ≡ length ss * 33
 shares_size [] all = omega arith
 shares_size (s ∷ ss) all =
     let both = and_parts (is_share s) (list_all is_share ss) all in
     let parts = and_parts (is_byte s.member) (is_digest s.digest) both.0 in
-    let digest = sized 32 s.digest parts.1 in
+    let digest = sized_length 32 s.digest parts.1 in
     let rest = shares_size ss both.1 in
     let bytes = length-append (share_bytes s) (flat_map share_bytes ss) in
     omega arith
@@ -100,9 +98,7 @@ nodes_size : (ns : List NewNode) (order : ℕ) → list_all is_node ns ≡ true 
 nodes_size [] order all short = (omega arith, omega arith)
 nodes_size (n ∷ ns) order all short =
     let both = and_parts (is_node n) (list_all is_node ns) all in
-    let parts = and_parts (are_sized 56 n.key && are_bytes n.endorsement) (nat_lt (length n.endorsement) (2 ^ 32)) both.0 in
-    let key = and_parts (are_sized 56 n.key) (are_bytes n.endorsement) parts.0 in
-    let one = node_size n order (sized 56 n.key key.0) short.0 in
+    let one = node_size n order (node_fields n both.0).long short.0 in
     let rest = nodes_size ns (suc order) both.1 short.1 in
     let bytes = length-append (node_bytes n) (flat_map node_bytes ns) in
     let rows = size-cons (node_row order n) (node_rows (suc order) ns) in
@@ -125,35 +121,20 @@ record Sizes (g : request.Genesis) : Type 0 where
 
 sizes_of : (g : request.Genesis) → is_genesis g ≡ true → is_acceptable g ≡ true → AllByRecursion (λ (n : NewNode). length n.endorsement ≤ 2 ^ 13) g.nodes → Sizes g
 sizes_of g fits acceptable short =
-    let identity : Bool = are_sized 60 g.identity in
-    let few_nodes : Bool = nat_lt (length g.nodes) 256 in
-    let nodes : Bool = list_all is_node g.nodes in
-    let few_members : Bool = nat_lt (length g.members) 256 in
-    let members : Bool = list_all is_member g.members in
-    let a = and_parts (identity && few_nodes && nodes && few_members && members) (is_dealing g.dealing) fits in
-    let b = and_parts (identity && few_nodes && nodes && few_members) members a.0 in
-    let c = and_parts (identity && few_nodes && nodes) few_members b.0 in
-    let d = and_parts (identity && few_nodes) nodes c.0 in
-    let e = and_parts identity few_nodes d.0 in
-    let f = and_parts (is_byte g.dealing.threshold && is_digest g.dealing.secret_digest && nat_lt (length g.dealing.shares) 256) (list_all is_share g.dealing.shares) a.1 in
-    let h = and_parts (is_byte g.dealing.threshold && is_digest g.dealing.secret_digest) (nat_lt (length g.dealing.shares) 256) f.0 in
-    let i = and_parts (is_byte g.dealing.threshold) (is_digest g.dealing.secret_digest) h.0 in
-    let j = and_parts (are_members g.members && is_dealing_among (numbers_of g.members) g.dealing) (are_nodes g.nodes) acceptable in
-    let k = and_parts (nat_le 1 (length g.nodes) && nat_le (length g.nodes) 32) (are_distinct_bytes (map node_id g.nodes)) j.1 in
-    let l = and_parts (nat_le 1 (length g.nodes)) (nat_le (length g.nodes) 32) k.0 in
-    let some_nodes = nodes_size g.nodes 1 d.1 short in
-    let some_members = members_size g.members b.1 in
+    let f = fields_of g fits in
+    let some_nodes = nodes_size g.nodes 1 f.nodes short in
+    let some_members = members_size g.members f.members in
     record {
-      identity = sized 60 g.identity e.0;
-      nodes = grind (arith, nat_tests, l.1);
+      identity = sized_length 60 g.identity f.identity;
+      nodes = few_nodes g acceptable;
       node_bytes_few = some_nodes.0;
       node_rows_few = some_nodes.1;
-      members = grind (arith, nat_tests, c.1);
+      members = f.few_members;
       member_bytes_few = some_members.0;
       member_rows_few = some_members.1;
-      secret = sized 32 g.dealing.secret_digest i.1;
-      shares = grind (arith, nat_tests, h.1);
-      share_bytes_few = shares_size g.dealing.shares f.1;
+      secret = sized_length 32 g.dealing.secret_digest f.secret;
+      shares = f.few_shares;
+      share_bytes_few = shares_size g.dealing.shares f.shares;
     }
 
 dealing_size : (d : Dealing) → length (dealing_bytes d) ≡ 2 + length d.secret_digest + length (flat_map share_bytes d.shares)

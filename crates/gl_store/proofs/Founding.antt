@@ -3,14 +3,15 @@ use Rattle.std.proofs.Common.{◌≡◌, ℕ, ◌+◌, ◌<◌, ◌^◌, nat_lt,
 use Rattle.std.specs.List.{list_all, AllByRecursion}
 use Rattle.std.proofs.lemmas.Bool.{and_parts}
 use Rattle.std.proofs.lemmas.Bool.Decides.{nat_tests}
-use Rattle.gl_base.specs.Field.{are_bytes}
+use Rattle.gl_base.specs.Bytes.{are_bytes}
 use Rattle.gl_vmaps.specs.Writes.{with_write}
 use Rattle.gl_vmaps.specs.declared.write.Write.{Write}
 use Rattle.gl_entry.specs.Entry.{are_sized}
 use Rattle.gl_store.specs.Genesis.{is_node, is_member, is_dealing, is_genesis, set_from, constitution_rows, row, dealing_map, dealing_key, dealing_bytes, member_row, node_row, node_rows, service_row, genesis_writes}
 use Rattle.gl_store.specs.declared.genesis.NewNode.{NewNode}
 use Rattle.gl_store.specs.declared.genesis.Genesis as request
-use Rattle.gl_store.proofs.Lists.{map-drop}
+use Rattle.gl_store.proofs.GenesisFields.{node_fields, fields_of}
+use Rattle.gl_base.proofs.Lists.{map-drop}
 use Rattle.gl_store.proofs.WriteSets.{set_from-append}
 
 -- ---- ranges
@@ -18,23 +19,11 @@ use Rattle.gl_store.proofs.WriteSets.{set_from-append}
 endorsements_within : (nodes : List NewNode) → list_all is_node nodes ≡ true → AllByRecursion (λ (n : NewNode). length n.endorsement < 2 ^ 32) nodes
 endorsements_within [] all = tt
 endorsements_within (n ∷ ns) all =
-    let both = and_parts (is_node n) (list_all is_node ns) all in
-    let last = and_parts (are_sized 56 n.key && are_bytes n.endorsement) (nat_lt (length n.endorsement) (2 ^ 32)) both.0 in
-    (grind (arith, nat_tests, last.1), endorsements_within ns both.1)
+    let both = and_parts (is_node n) (list_all is_node ns) all in ((node_fields n both.0).few, endorsements_within ns both.1)
 
 -- each endorsement of a genesis in its ranges has a length of four bytes
 pub endorsements_of : (g : request.Genesis) → is_genesis g ≡ true → AllByRecursion (λ (n : NewNode). length n.endorsement < 2 ^ 32) g.nodes
-endorsements_of g fits =
-    let identity : Bool = are_sized 60 g.identity in
-    let few_nodes : Bool = nat_lt (length g.nodes) 256 in
-    let nodes : Bool = list_all is_node g.nodes in
-    let few_members : Bool = nat_lt (length g.members) 256 in
-    let members : Bool = list_all is_member g.members in
-    let a = and_parts (identity && few_nodes && nodes && few_members && members) (is_dealing g.dealing) fits in
-    let b = and_parts (identity && few_nodes && nodes && few_members) members a.0 in
-    let c = and_parts (identity && few_nodes && nodes) few_members b.0 in
-    let d = and_parts (identity && few_nodes) nodes c.0 in
-    endorsements_within g.nodes d.1
+endorsements_of g fits = endorsements_within g.nodes (fields_of g fits).nodes
 
 -- ---- one more row put
 

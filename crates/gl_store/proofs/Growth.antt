@@ -3,18 +3,21 @@ use Rattle.std.proofs.Common.{◌≡◌, ℕ, suc, ◌+◌, ◌<◌, ◌≤◌, 
 use Rattle.std.specs.List.{slice_get, AllByRecursion}
 use Rattle.std.proofs.lemmas.Bool.{false≢true}
 use Rattle.gl_vmaps.specs.Name.{is_governance}
-use Rattle.gl_vmaps.specs.Tables.{Tables, same_bytes, wrote, wrote_all, with_row}
+use Rattle.gl_base.specs.Bytes.{same_bytes}
+use Rattle.gl_vmaps.specs.Tables.{Tables, wrote, wrote_all, with_row}
 use Rattle.gl_store.specs.Effect.{Recorded, RecordsAt, RecordsFrom}
 use Rattle.gl_store.specs.Serial.{IsLedger, IsSerial, IsGoverned, IsSound, StandsAs}
 use Rattle.gl_store.specs.Tree.{tables_of}
-use Rattle.gl_store.specs.Kept.{IsUpTo}
+use Rattle.gl_rules.specs.Safety.{ViewsUpTo}
+use Rattle.gl_entry.specs.Entry.{is_entry}
+use Rattle.gl_store.specs.Book.{service_book}
 use Rattle.gl_entry.specs.declared.entry.Content.{Content}
 use Rattle.gl_entry.specs.declared.entry.Content.TheVariants as content
 use Rattle.gl_entry.specs.declared.entry.Entry.{Entry}
 use Rattle.gl_vmaps.specs.declared.write.Write.{Write}
 use Rattle.std.specs.Cmp.Lexicographic.{bytes_decides}
 use Rattle.gl_store.proofs.TablesLaws.{tables_of-push}
-use Rattle.gl_store.proofs.Lists.{slice_get-push, take-push, take-all, within}
+use Rattle.gl_base.proofs.Lists.{slice_get-push, take-push, take-all, slice_get-within}
 
 -- a write to a table that is none of governance
 abbrev pub IsOutside : Write → Type 0
@@ -58,19 +61,24 @@ records-push place (f ∷ es) e rs none h =
     records-behind place f.content (λ rest. RecordsFrom (suc place) es rest) (λ rest. RecordsFrom (suc place) (es ++ e ∷ []) rest) rs
     (λ rest. records-push (suc place) es e rest none) h
 
-in_order-push : (ledger : List Entry) (e : Entry) → IsLedger ledger → e.seqno ≡ suc (length ledger) → IsUpTo ledger e.view → IsLedger (ledger ++ e ∷ [])
-in_order-push ledger e h at up = record {
-  places = λ i f s. ⊎_elim
-      (λ (old : slice_get ledger i ≡ Some f). h.places i f old)
+in_order-push : (ledger : List Entry) (e : Entry) → IsLedger ledger → is_entry e ≡ true → e.seqno ≡ suc (length ledger) →
+    ViewsUpTo service_book e.view ledger → IsLedger (ledger ++ e ∷ [])
+in_order-push ledger e h fits at up = record {
+  fits = λ i f s. ⊎_elim
+      (λ (old : slice_get ledger i ≡ Some f). h.fits i f old)
+      (λ (new : (i ≡ length ledger) × (f ≡ e)). subst (λ (x : Entry). is_entry x ≡ true) (sym new.1) fits)
+      (slice_get-push ledger e i f s);
+  seqnos = λ i f s. ⊎_elim
+      (λ (old : slice_get ledger i ≡ Some f). h.seqnos i f old)
       (λ (new : (i ≡ length ledger) × (f ≡ e)). ap (λ (x : Entry). x.seqno) new.1 ∙ at ∙ ap suc (sym new.0))
       (slice_get-push ledger e i f s);
   views = λ i j f g le s r. ⊎_elim
       (λ (old : slice_get ledger j ≡ Some g). ⊎_elim
       (λ (first : slice_get ledger i ≡ Some f). h.views i j f g le first old)
-      (λ (new : (i ≡ length ledger) × (f ≡ e)). let w : j < length ledger = within ledger j g old in absurd (omega (arith, new.0)))
+      (λ (new : (i ≡ length ledger) × (f ≡ e)). let w : j < length ledger = slice_get-within ledger j g old in absurd (omega (arith, new.0)))
       (slice_get-push ledger e i f s))
       (λ (last : (j ≡ length ledger) × (g ≡ e)). subst (λ (x : Entry). f.view ≤ x.view) (sym last.1) (⊎_elim
-      (λ (first : slice_get ledger i ≡ Some f). up.each i f first)
+      (λ (first : slice_get ledger i ≡ Some f). up i f first)
       (λ (new : (i ≡ length ledger) × (f ≡ e)). subst (λ (x : Entry). x.view ≤ e.view) (sym new.1) (omega arith))
       (slice_get-push ledger e i f s)))
       (slice_get-push ledger e j g r);
@@ -79,7 +87,7 @@ in_order-push ledger e h at up = record {
 serial-push : (ledger : List Entry) (e : Entry) → IsSerial ledger → StandsAs e.content ledger e → IsSerial (ledger ++ e ∷ [])
 serial-push ledger e h stands i f s = ⊎_elim
     (λ (old : slice_get ledger i ≡ Some f).
-    let w : i < length ledger = within ledger i f old in
+    let w : i < length ledger = slice_get-within ledger i f old in
     subst (λ (before : List Entry). StandsAs f.content before f) (sym (take-push ledger e i (omega arith))) (h i f old))
     (λ (new : (i ≡ length ledger) × (f ≡ e)).
     subst (λ (before : List Entry). StandsAs f.content before f)
@@ -95,10 +103,11 @@ governed-push ledger e h none out = record {
       ap (λ (t : Tables). t map) (tables_of-push ledger e) ∙ untouched (tables_of ledger) e.writes map out inside ∙ h.rows map inside;
 }
 
-pub sound-push : (ledger : List Entry) (e : Entry) → IsSound ledger → e.seqno ≡ length ledger + 1 → IsUpTo ledger e.view →
-    StandsAs e.content ledger e → IsNoGovernance e.content → AllByRecursion IsOutside e.writes → IsSound (ledger ++ e ∷ [])
-sound-push ledger e h at up stands none out = record {
-  in_order = in_order-push ledger e h.in_order (omega (arith, at)) up;
+pub sound-push : (ledger : List Entry) (e : Entry) → IsSound ledger → is_entry e ≡ true → e.seqno ≡ length ledger + 1 →
+    ViewsUpTo service_book e.view ledger → StandsAs e.content ledger e → IsNoGovernance e.content → AllByRecursion IsOutside e.writes →
+    IsSound (ledger ++ e ∷ [])
+sound-push ledger e h fits at up stands none out = record {
+  in_order = in_order-push ledger e h.in_order fits (omega (arith, at)) up;
   serial = serial-push ledger e h.serial stands;
   governed = governed-push ledger e h.governed none out;
 }

@@ -1,12 +1,14 @@
 -- What a store keeps goes on with one more entry.
-use Rattle.std.proofs.Common.{◌≡◌, ℕ, suc, ◌+◌, ◌<◌, List, [], ◌∷◌, ◌++◌, length, Ok, true, false, refl, sym, ◌∙◌, ap, subst, arith, length-append}
-use Rattle.std.specs.List.{AllByRecursion}
+use Rattle.std.proofs.Common.{◌≡◌, ℕ, zero, suc, ◌+◌, ◌<◌, ◌≤◌, List, [], ◌∷◌, ◌++◌, length, Some, Ok, true, false, refl, sym, ◌∙◌, ap, subst, arith, length-append}
+use Rattle.std.specs.List.{slice_get, AllByRecursion}
 use Rattle.std.proofs.lemmas.List.{append-nil}
 use Rattle.std.specs.FinMap as rows
 use Rattle.gl_base.specs.TxId.{last_seqno}
 use Rattle.gl_merkle.specs.Frontier as frontiers
 use Rattle.gl_vmaps.specs.Tables.{Tables, Rows, wrote_all}
-use Rattle.gl_vmaps.specs.Versions.{Placed, placed_at, IsAbove}
+use Rattle.gl_vmaps.specs.Kept as kept
+use Rattle.gl_vmaps.specs.Standing.{StandsFor}
+use Rattle.gl_vmaps.specs.Versions.{Placed, placed_at}
 use Rattle.gl_tx.specs.Request.{is_request}
 use Rattle.gl_tx.specs.declared.request.Operation.{Operation}
 use Rattle.gl_tx.specs.declared.request.Answer.{Answer}
@@ -17,23 +19,17 @@ use Rattle.gl_store.specs.Genesis.{service_map, service_key, is_acceptable, is_g
 use Rattle.gl_store.specs.Effect.{service_state, state_of_value, identity_in, identity_of_value}
 use Rattle.gl_store.specs.Serial.{IsLedger, IsSound}
 use Rattle.gl_store.specs.Tree.{writes_of, tables_of, leaves_of}
-use Rattle.gl_store.specs.Ledger.{last_signature, signature_place, genesis_entry, signature_entry, opening_ledger, executed}
-use Rattle.gl_store.specs.Kept.{Beside, StandsFor, IsKept, IsUpTo}
+use Rattle.gl_rules.specs.Log.{last_signature}
+use Rattle.gl_rules.specs.Safety.{ViewsUpTo}
+use Rattle.gl_store.specs.Ledger.{genesis_entry, signature_entry, opening_ledger, execute_result}
+use Rattle.gl_store.specs.Book.{service_book}
+use Rattle.gl_store.specs.Kept.{Beside, IsTreeOf, IsKept}
 use Rattle.gl_store.specs.declared.genesis.Genesis as request
-use Rattle.gl_store.proofs.TablesLaws.{writes_of-push, tables_of-push, leaves_of-push, above_next}
+use Rattle.gl_store.proofs.Signatures.{last_signature-push, last_signature-signed, signed_up_to-push}
+use Rattle.gl_store.proofs.TablesLaws.{writes_of-push, tables_of-push, leaves_of-push, versions_below}
 use Rattle.gl_store.proofs.Growth.{IsOutside, untouched, sound-push}
-use Rattle.gl_store.proofs.Applications.{executed_ok, application_sound, run_outside}
+use Rattle.gl_store.proofs.Applications.{execute_ok, application_sound, run_outside}
 use Rattle.gl_store.proofs.Openings.{genesis_sound, opening_sound, state_of_opening, identity_of_opening, identity_of_genesis}
-
--- an entry that is no signature leaves the last one
-pub last_signature-push : (ledger : List Entry) (e : Entry) → is_signature e.content ≡ false → last_signature (ledger ++ e ∷ []) ≡ last_signature ledger
-last_signature-push [] e h = rw h refl
-last_signature-push (f ∷ ledger) e h = ap (λ (n : ℕ). signature_place (is_signature f.content) n) (last_signature-push ledger e h)
-
--- a signature is the last one, at its place
-pub last_signature-signed : (ledger : List Entry) (e : Entry) → is_signature e.content ≡ true → last_signature (ledger ++ e ∷ []) ≡ suc (length ledger)
-last_signature-signed [] e h = rw h refl
-last_signature-signed (f ∷ ledger) e h = ap (λ (n : ℕ). signature_place (is_signature f.content) n) (last_signature-signed ledger e h)
 
 -- ---- what writes outside of governance leave
 
@@ -55,13 +51,9 @@ leaf-push ledger e out =
 
 -- ---- one more entry
 
-entries-push : (es : List Entry) (e : Entry) → AllByRecursion (λ (x : Entry). is_entry x ≡ true) es → is_entry e ≡ true → AllByRecursion (λ (x : Entry). is_entry x ≡ true) (es ++ e ∷ [])
-entries-push [] e all one = (one, tt)
-entries-push (x ∷ es) e all one = (all.0, entries-push es e all.1 one)
-
 -- the tree of a ledger with its leaf
-tree-push : (ledger : List Entry) (e : Entry) (identity : List ℕ) (old new : frontiers.Content) → StandsFor old (leaves_of ledger) → identity ≡ identity_in (tables_of ledger) →
-    AllByRecursion IsOutside e.writes → frontiers.HasLeaves old new (old.leaves ++ leaf_of identity e ∷ []) → StandsFor new (leaves_of (ledger ++ e ∷ []))
+tree-push : (ledger : List Entry) (e : Entry) (identity : List ℕ) (old new : frontiers.Content) → IsTreeOf (leaves_of ledger) old → identity ≡ identity_in (tables_of ledger) →
+    AllByRecursion IsOutside e.writes → frontiers.HasLeaves old new (old.leaves ++ leaf_of identity e ∷ []) → IsTreeOf (leaves_of (ledger ++ e ∷ [])) new
 tree-push ledger e identity old new stands is out grown = record {
   base = grown.base ∙ stands.base;
   peaks = grown.peaks ∙ stands.peaks;
@@ -70,71 +62,81 @@ tree-push ledger e identity old new stands is out grown = record {
       ∙ ap (λ (i : List ℕ). leaves_of ledger ++ leaf_of i e ∷ []) is ∙ sym (leaf-push ledger e out);
 }
 
+-- the tables have the writes of an entry behind what they stood for
+pub record HasWritten (old : kept.Kept) (e : Entry) (new : kept.Kept) : Type 0 where
+  pub stands : (ps : List Placed) → StandsFor old ps → StandsFor new (ps ++ placed_at e.seqno e.writes)
+  pub base : new.base ≡ old.base
+
 -- an entry that keeps the ledger sound and is none of governance, with its writes and its leaf
-pub kept-push : (ledger items : List Entry) (b : Beside) (e : Entry) (tables : List Placed) (frontier : frontiers.Content) (last : ℕ) →
-    IsKept ledger b → IsSound (ledger ++ e ∷ []) → is_entry e ≡ true → length ledger < last_seqno → AllByRecursion IsOutside e.writes →
-    last ≡ last_signature (ledger ++ e ∷ []) → items ≡ ledger ++ e ∷ [] → tables ≡ b.tables ++ placed_at e.seqno e.writes →
+pub kept-push : (ledger items : List Entry) (b : Beside) (e : Entry) (tables : kept.Kept) (frontier : frontiers.Content) (last : ℕ) →
+    IsKept ledger b → IsSound (ledger ++ e ∷ []) → length ledger < last_seqno → AllByRecursion IsOutside e.writes →
+    last ≡ last_signature service_book (ledger ++ e ∷ []) → items ≡ ledger ++ e ∷ [] → HasWritten b.tables e tables →
     frontiers.HasLeaves b.frontier frontier (b.frontier.leaves ++ leaf_of b.identity e ∷ []) →
     IsKept items (record b { last_signature = last; tables = tables; frontier = frontier })
-kept-push ledger items b e tables frontier last k sound one left out is pushed written grown =
+kept-push ledger items b e tables frontier last k sound left out is pushed written grown =
     subst (λ (es : List Entry). IsKept es (record b { last_signature = last; tables = tables; frontier = frontier })) (sym pushed) (record {
       sound = sound;
-      entries = entries-push ledger e k.entries one;
       opened = simp length-append (omega (arith, k.opened));
-      places = simp length-append (omega (arith, left));
+      named = simp length-append (omega (arith, left));
       within = simp length-append (omega (arith, k.within));
+      committed = signed_up_to-push ledger e b.commit k.committed;
       signed = is;
       state_is = k.state_is ∙ sym (service_state-push ledger e out);
       identity_is = k.identity_is ∙ sym (identity_in-push ledger e out);
-      tables_are = written ∙ ap (λ (ps : List Placed). ps ++ placed_at e.seqno e.writes) k.tables_are ∙ sym (writes_of-push ledger e);
+      tables_are = subst (StandsFor tables) (sym (writes_of-push ledger e)) (written.stands (writes_of ledger) k.tables_are);
+      tables_from = written.base ∙ k.tables_from;
       tree = tree-push ledger e b.identity b.frontier frontier k.tree k.identity_is out grown;
     })
 
 -- an application entry
 pub kept_with_application : (ledger items : List Entry) (b : Beside) (view : ℕ) (q : List Operation) (e : Entry) (a : List Answer) (leaf : List ℕ)
-    (tables : List Placed) (frontier : frontiers.Content) → IsKept ledger b → IsUpTo ledger view → is_request q ≡ true → executed ledger view q ≡ Ok (e, a) →
-    is_entry e ≡ true → leaf ≡ leaf_of b.identity e → items ≡ ledger ++ e ∷ [] → tables ≡ b.tables ++ placed_at e.seqno e.writes →
+    (tables : kept.Kept) (frontier : frontiers.Content) → IsKept ledger b → ViewsUpTo service_book view ledger → is_request q ≡ true → execute_result ledger view q ≡ Ok (e, a) →
+    is_entry e ≡ true → leaf ≡ leaf_of b.identity e → items ≡ ledger ++ e ∷ [] → HasWritten b.tables e tables →
     frontiers.HasLeaves b.frontier frontier (b.frontier.leaves ++ leaf ∷ []) → IsKept items (record b { tables = tables; frontier = frontier })
 kept_with_application ledger items b view q e a leaf tables frontier k up fits h one hashed pushed written grown =
-    let made = executed_ok ledger view q e a h in
-    let out : AllByRecursion IsOutside e.writes = subst (λ (x : Entry). AllByRecursion IsOutside x.writes) (sym made.3) (run_outside 1 q (tables_of ledger) [] made.1 tt made.2) in
+    let made = execute_ok ledger view q e a h in
+    let out : AllByRecursion IsOutside e.writes = subst (λ (x : Entry). AllByRecursion IsOutside x.writes) (sym made.3) (run_outside q (tables_of ledger) made.1 made.2) in
     let other : is_signature e.content ≡ false = subst (λ (x : Entry). is_signature x.content ≡ false) (sym made.3) refl in
-    kept-push ledger items b e tables frontier b.last_signature k (application_sound ledger view q e a k.sound up fits h) one made.7 out
+    kept-push ledger items b e tables frontier b.last_signature k (application_sound ledger view q e a k.sound up fits h one) made.7 out
     (k.signed ∙ sym (last_signature-push ledger e other)) pushed written
     (subst (λ (l : List ℕ). frontiers.HasLeaves b.frontier frontier (b.frontier.leaves ++ l ∷ [])) hashed grown)
 
 -- a signature
-pub kept_with_signature : (ledger items : List Entry) (b : Beside) (view : ℕ) (node : List ℕ) (e : Entry) (tables : List Placed) (frontier : frontiers.Content) (last : ℕ) →
-    IsKept ledger b → IsUpTo ledger view → length ledger < last_seqno → e ≡ signature_entry node ledger view b.commit → is_entry e ≡ true → last ≡ length ledger + 1 →
-    items ≡ ledger ++ e ∷ [] → tables ≡ b.tables ++ placed_at e.seqno e.writes →
+pub kept_with_signature : (ledger items : List Entry) (b : Beside) (view : ℕ) (node : List ℕ) (e : Entry) (tables : kept.Kept) (frontier : frontiers.Content) (last : ℕ) →
+    IsKept ledger b → ViewsUpTo service_book view ledger → length ledger < last_seqno → e ≡ signature_entry node ledger view b.commit → is_entry e ≡ true → last ≡ length ledger + 1 →
+    items ≡ ledger ++ e ∷ [] → HasWritten b.tables e tables →
     frontiers.HasLeaves b.frontier frontier (b.frontier.leaves ++ leaf_of b.identity e ∷ []) →
     IsKept items (record b { last_signature = last; tables = tables; frontier = frontier })
 kept_with_signature ledger items b view node e tables frontier last k up left made one place pushed written grown =
     let signature = signature_entry node ledger view b.commit in
-    let sound : IsSound (ledger ++ signature ∷ []) = sound-push ledger signature k.sound refl up (record { writes_nothing = (refl, refl); root = refl }) tt tt in
+    let sound : IsSound (ledger ++ signature ∷ []) =
+    sound-push ledger signature k.sound (subst (λ (x : Entry). is_entry x ≡ true) made one) refl up (record { writes_nothing = (refl, refl); root = refl }) tt tt in
     let signs : is_signature e.content ≡ true = ap (λ (x : Entry). is_signature x.content) made in
     let out : AllByRecursion IsOutside e.writes = subst (λ (x : Entry). AllByRecursion IsOutside x.writes) (sym made) tt in
-    kept-push ledger items b e tables frontier last k (subst (λ (x : Entry). IsSound (ledger ++ x ∷ [])) (sym made) sound) one left out
+    kept-push ledger items b e tables frontier last k (subst (λ (x : Entry). IsSound (ledger ++ x ∷ [])) (sym made) sound) left out
     (omega (arith, last_signature-signed ledger e signs)) pushed written grown
 
 -- ---- the opening ledger
 
--- a log that holds the entry of a genesis alone
-pub record Founded (g : request.Genesis) (items : List Entry) (tables : List Placed) (frontier : frontiers.Content) : Type 0 where
+-- what holds the entry of a genesis alone
+pub record Founded (g : request.Genesis) (items : List Entry) (tables : kept.Kept) (frontier : frontiers.Content) : Type 0 where
   pub items_are : items ≡ genesis_entry g ∷ []
-  pub tables_are : tables ≡ writes_of items
-  pub tree : StandsFor frontier (leaves_of items)
+  pub tables_are : StandsFor tables (writes_of items)
+  pub tables_from : tables.base ≡ 0
+  pub tree : IsTreeOf (leaves_of items) frontier
 
-pub founded : (g : request.Genesis) (none items : List Entry) (no_writes tables : List Placed) (old frontier : frontiers.Content) (e : Entry) →
-    none ≡ [] → no_writes ≡ [] → old.base ≡ 0 → old.peaks ≡ [] → old.leaves ≡ [] → e ≡ genesis_entry g → items ≡ none ++ e ∷ [] →
-    tables ≡ no_writes ++ placed_at e.seqno e.writes → frontiers.HasLeaves old frontier (old.leaves ++ leaf_of g.identity e ∷ []) → Founded g items tables frontier
-founded g none items no_writes tables old frontier e empty unwritten base peaks leaves made pushed written grown =
+pub founded : (g : request.Genesis) (none items : List Entry) (unwritten tables : kept.Kept) (old frontier : frontiers.Content) (e : Entry) →
+    none ≡ [] → StandsFor unwritten [] → unwritten.base ≡ 0 → old.base ≡ 0 → old.peaks ≡ [] → old.leaves ≡ [] → e ≡ genesis_entry g → items ≡ none ++ e ∷ [] →
+    HasWritten unwritten e tables → frontiers.HasLeaves old frontier (old.leaves ++ leaf_of g.identity e ∷ []) → Founded g items tables frontier
+founded g none items unwritten tables old frontier e empty nothing start base peaks leaves made pushed written grown =
     let one : items ≡ genesis_entry g ∷ [] = pushed ∙ ap (λ (es : List Entry). es ++ e ∷ []) empty ∙ ap (λ (x : Entry). x ∷ []) made in
     record {
       items_are = one;
       tables_are =
-          written ∙ ap (λ (ps : List Placed). ps ++ placed_at e.seqno e.writes) unwritten ∙ ap (λ (x : Entry). placed_at x.seqno x.writes) made
-          ∙ sym (append-nil (placed_at 1 (genesis_entry g).writes)) ∙ ap writes_of (sym one);
+          subst (StandsFor tables)
+          (ap (λ (x : Entry). placed_at x.seqno x.writes) made ∙ sym (append-nil (placed_at 1 (genesis_entry g).writes)) ∙ ap writes_of (sym one))
+          (written.stands [] nothing);
+      tables_from = written.base ∙ start;
       tree = record {
         base = grown.base ∙ base;
         peaks = grown.peaks ∙ peaks;
@@ -144,40 +146,43 @@ founded g none items no_writes tables old frontier e empty unwritten base peaks 
       };
     }
 
--- the place of its first signature is above that of all writes
-pub founded_above : (g : request.Genesis) (items : List Entry) (tables : List Placed) (frontier : frontiers.Content) (place : ℕ) → is_acceptable g ≡ true → is_genesis g ≡ true →
-    Founded g items tables frontier → place ≡ length items + 1 → IsAbove place tables
-founded_above g items tables frontier place acceptable fits first at =
-    above_next items tables place (subst IsLedger (sym first.items_are) (genesis_sound g acceptable fits).in_order) first.tables_are at
+-- the seqno of its first signature is above the versions of all rows
+pub founded_below : (g : request.Genesis) (items : List Entry) (tables : kept.Kept) (frontier : frontiers.Content) (seqno : ℕ) → is_acceptable g ≡ true → is_genesis g ≡ true →
+    is_entry (genesis_entry g) ≡ true → Founded g items tables frontier → seqno ≡ length items + 1 → (map key : List ℕ) → kept.version_of tables map key < seqno
+founded_below g items tables frontier seqno acceptable fits entry first at =
+    versions_below items tables seqno (subst IsLedger (sym first.items_are) (genesis_sound g acceptable fits entry).in_order) first.tables_are at
 
 identity_founded : (g : request.Genesis) → g.identity ≡ identity_in (tables_of (genesis_entry g ∷ []))
 identity_founded g = sym (ap identity_in (tables_of-push [] (genesis_entry g)) ∙ identity_of_genesis g)
 
 -- what a store keeps of an opening ledger
-pub kept_opening : (g : request.Genesis) (signer : List ℕ) (first items : List Entry) (first_tables tables : List Placed) (old frontier : frontiers.Content) (e : Entry) →
+pub kept_opening : (g : request.Genesis) (signer : List ℕ) (first items : List Entry) (first_tables tables : kept.Kept) (old frontier : frontiers.Content) (e : Entry) →
     is_acceptable g ≡ true → is_genesis g ≡ true → is_entry (genesis_entry g) ≡ true → Founded g first first_tables old → e ≡ signature_entry signer first 2 2 →
-    is_entry e ≡ true → items ≡ first ++ e ∷ [] → tables ≡ first_tables ++ placed_at e.seqno e.writes →
+    is_entry e ≡ true → items ≡ first ++ e ∷ [] → HasWritten first_tables e tables →
     frontiers.HasLeaves old frontier (old.leaves ++ leaf_of g.identity e ∷ []) →
-    IsKept items (record { commit = 2; last_signature = 2; state = g.state; identity = g.identity; tables = tables; frontier = frontier })
+    IsKept items (record { commit = 2; last_signature = 2; service_state = g.state; identity = g.identity; tables = tables; frontier = frontier })
 kept_opening g signer first items first_tables tables old frontier e acceptable fits founding f made one pushed written grown =
     let opening : List Entry = genesis_entry g ∷ [] in
     let signature : Entry = signature_entry signer opening 2 2 in
     let same : e ≡ signature = made ∙ ap (λ (es : List Entry). signature_entry signer es 2 2) f.items_are in
     let all : items ≡ opening_ledger g signer = pushed ∙ ap (λ (es : List Entry). es ++ e ∷ []) f.items_are ∙ ap (λ (x : Entry). opening ++ x ∷ []) same in
-    let tree : StandsFor frontier (leaves_of (opening ++ signature ∷ [])) =
-    tree-push opening signature g.identity old frontier (subst (λ (es : List Entry). StandsFor old (leaves_of es)) f.items_are f.tree) (identity_founded g) tt
+    let tree : IsTreeOf (leaves_of (opening ++ signature ∷ [])) frontier =
+    tree-push opening signature g.identity old frontier (subst (λ (es : List Entry). IsTreeOf (leaves_of es) old) f.items_are f.tree) (identity_founded g) tt
     (subst (λ (x : Entry). frontiers.HasLeaves old frontier (old.leaves ++ leaf_of g.identity x ∷ [])) same grown) in
-    subst (λ (es : List Entry). IsKept es (record { commit = 2; last_signature = 2; state = g.state; identity = g.identity; tables = tables; frontier = frontier })) (sym all) (record {
-      sound = opening_sound g signer acceptable fits;
-      entries = (founding, (subst (λ (x : Entry). is_entry x ≡ true) same one, tt));
+    subst (λ (es : List Entry). IsKept es (record { commit = 2; last_signature = 2; service_state = g.state; identity = g.identity; tables = tables; frontier = frontier })) (sym all) (record {
+      sound = opening_sound g signer acceptable fits founding (subst (λ (x : Entry). is_entry x ≡ true) same one);
       opened = omega arith;
-      places = omega arith;
+      named = omega arith;
       within = omega arith;
-      signed = refl;
+      committed = λ some. (signature, refl, refl);
+      signed = sym (last_signature-signed opening signature refl);
       state_is = sym (state_of_opening g signer);
       identity_is = sym (identity_of_opening g signer);
       tables_are =
-          written ∙ ap (λ (ps : List Placed). ps ++ placed_at e.seqno e.writes) (f.tables_are ∙ ap writes_of f.items_are)
-          ∙ ap (λ (x : Entry). writes_of opening ++ placed_at x.seqno x.writes) same ∙ sym (writes_of-push opening signature);
+          subst (StandsFor tables)
+          (ap (λ (es : List Entry). writes_of es ++ placed_at e.seqno e.writes) f.items_are
+          ∙ ap (λ (x : Entry). writes_of opening ++ placed_at x.seqno x.writes) same ∙ sym (writes_of-push opening signature))
+          (written.stands (writes_of first) f.tables_are);
+      tables_from = written.base ∙ f.tables_from;
       tree = tree;
     })

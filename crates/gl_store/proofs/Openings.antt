@@ -6,6 +6,7 @@ use Rattle.std.proofs.lemmas.List.Folds.{list_all-append}
 use Rattle.gl_vmaps.specs.Tables.{Tables, no_tables, value_in, wrote_all}
 use Rattle.gl_vmaps.specs.Writes.{with_write}
 use Rattle.gl_vmaps.specs.declared.write.Write.{Write}
+use Rattle.gl_entry.specs.Entry.{is_entry}
 use Rattle.gl_entry.specs.declared.entry.Entry.{Entry}
 use Rattle.gl_store.specs.Genesis.{genesis_bytes, genesis_rows, genesis_writes, constitution_rows, row, dealing_map, dealing_key, dealing_bytes, member_row, node_row, node_rows, service_row, service_map, service_key, write_set, state_byte, is_acceptable, is_genesis}
 use Rattle.gl_store.specs.Effect.{state_of_value, service_state, identity_of_value, identity_in}
@@ -18,7 +19,7 @@ use Rattle.gl_store.specs.declared.genesis.Genesis as request
 use Rattle.gl_store.specs.declared.genesis.GovernanceRequest.TheVariants as requests
 use Rattle.gl_store.specs.declared.genesis.ServiceState.{ServiceState}
 use Rattle.gl_store.specs.declared.genesis.ServiceState.TheVariants.{Opening, Open}
-use Rattle.gl_store.proofs.WriteSets.{set_from-append, is_ordered-set_from, list_all-set_from, value_in-with_write, sets_value, changes-from_sets_value}
+use Rattle.gl_store.proofs.WriteSets.{set_from-append, is_ordered-set_from, list_all-set_from, value_in-put, sets_value, changes-from_sets_value}
 use Rattle.gl_store.proofs.TablesLaws.{tables_of-push}
 use Rattle.gl_store.proofs.Growth.{sound-push}
 
@@ -62,7 +63,7 @@ last_row g = ap write_set (rows_are g) ∙ set_from-append [] (rows_before g) (s
 pub service_value : (g : request.Genesis) → value_in (wrote_all no_tables (genesis_writes g)) service_map service_key ≡ Some (state_byte g.state ∷ 0 ∷ g.identity)
 service_value g =
     ap (λ (ws : List Write). value_in (wrote_all no_tables ws) service_map service_key) (last_row g)
-    ∙ value_in-with_write no_tables (write_set (rows_before g)) (service_row g) (is_ordered-set_from [] (rows_before g) refl)
+    ∙ value_in-put no_tables (write_set (rows_before g)) (service_row g) (is_ordered-set_from [] (rows_before g) refl)
 
 -- ---- the ledger is sound
 
@@ -82,17 +83,21 @@ genesis_stands g acceptable fits = record {
   claims = refl;
 }
 
-pub genesis_sound : (g : request.Genesis) → is_acceptable g ≡ true → is_genesis g ≡ true → IsSound (genesis_entry g ∷ [])
-genesis_sound g acceptable fits = record {
-  in_order = record { places = places; views = views };
+pub genesis_sound : (g : request.Genesis) → is_acceptable g ≡ true → is_genesis g ≡ true → is_entry (genesis_entry g) ≡ true → IsSound (genesis_entry g ∷ [])
+genesis_sound g acceptable fits entry = record {
+  in_order = record { fits = entries; seqnos = places; views = views };
   serial = serial;
   governed = record {
-    requests = record { place = 1; request = requests.Genesis g } ∷ [];
+    requests = record { seqno = 1; request = requests.Genesis g } ∷ [];
     recorded = (requests.Genesis g, [], fits, refl, refl, refl);
     rows = λ map inside. ap (λ (t : Tables). t map) (tables_of-push [] (genesis_entry g));
   };
 }
   where
+    entries : (i : ℕ) (e : Entry) → slice_get (genesis_entry g ∷ []) i ≡ Some e → is_entry e ≡ true
+    entries zero e s = subst (λ (x : Entry). is_entry x ≡ true) (let p : genesis_entry g ≡ e = cc in p) entry
+    entries (suc i) e s = absurd (cc)
+
     places : (i : ℕ) (e : Entry) → slice_get (genesis_entry g ∷ []) i ≡ Some e → e.seqno ≡ suc i
     places zero e s = ap (λ (x : Entry). x.seqno) (let p : e ≡ genesis_entry g = cc in p)
     places (suc i) e s = absurd (cc)
@@ -106,10 +111,11 @@ genesis_sound g acceptable fits = record {
     serial zero e s = subst (λ (x : Entry). StandsAs x.content [] x) (let p : genesis_entry g ≡ e = cc in p) (genesis_stands g acceptable fits)
     serial (suc i) e s = absurd (cc)
 
-pub opening_sound : (g : request.Genesis) (node : List ℕ) → is_acceptable g ≡ true → is_genesis g ≡ true → IsSound (opening_ledger g node)
-opening_sound g node acceptable fits =
+pub opening_sound : (g : request.Genesis) (node : List ℕ) → is_acceptable g ≡ true → is_genesis g ≡ true → is_entry (genesis_entry g) ≡ true →
+    is_entry (signature_entry node (genesis_entry g ∷ []) 2 2) ≡ true → IsSound (opening_ledger g node)
+opening_sound g node acceptable fits entry signature =
     sound-push (genesis_entry g ∷ []) (signature_entry node (genesis_entry g ∷ []) 2 2)
-    (genesis_sound g acceptable fits) refl (record { each = up }) (record { writes_nothing = (refl, refl); root = refl }) tt tt
+    (genesis_sound g acceptable fits entry) signature refl up (record { writes_nothing = (refl, refl); root = refl }) tt tt
   where
     up : (i : ℕ) (e : Entry) → slice_get (genesis_entry g ∷ []) i ≡ Some e → e.view ≤ 2
     up zero e s = let p : genesis_entry g ≡ e = cc in subst (λ (x : Entry). x.view ≤ 2) p (omega arith)

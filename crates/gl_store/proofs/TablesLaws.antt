@@ -1,5 +1,5 @@
 -- The tables and the leaves of a ledger with one more entry.
-use Rattle.std.proofs.Common.{◌≡◌, ℕ, suc, ◌+◌, ◌<◌, List, [], ◌∷◌, ◌++◌, length, Some, refl, sym, ◌∙◌, ap, subst, arith}
+use Rattle.std.proofs.Common.{◌≡◌, ℕ, suc, ◌+◌, ◌<◌, List, [], ◌∷◌, ◌++◌, length, Some, Bool, true, false, max, if◌then◌else◌, refl, sym, ◌∙◌, ap, subst, arith}
 use Rattle.std.specs.List.{slice_get}
 use Rattle.std.proofs.lemmas.Grind.{flat_map-append}
 use Rattle.std.proofs.lemmas.List.{append-nil}
@@ -7,7 +7,10 @@ use Rattle.gl_merkle.specs.Tree.{root_of}
 use Rattle.gl_merkle.specs.Peaks.{peaks_of, peaks_within}
 use Rattle.gl_merkle.specs.Frontier.{Content, count_of, ForLeaves}
 use Rattle.gl_vmaps.specs.Tables.{Tables, no_tables, wrote, wrote_all}
-use Rattle.gl_vmaps.specs.Versions.{Placed, placed_at, written_behind, IsAbove}
+use Rattle.gl_vmaps.specs.Kept.{Kept, version_of}
+use Rattle.gl_vmaps.specs.Standing.{StandsFor}
+use Rattle.gl_vmaps.specs.Versions.{Placed, placed_at, written_behind, greatest_place, version_in, is_to_row, IsAbove}
+use Rattle.gl_vmaps.proofs.StandingLaws.{version_of-stands}
 use Rattle.gl_vmaps.proofs.TablesLaws.{written_behind-append}
 use Rattle.gl_vmaps.specs.declared.write.Write.{Write}
 use Rattle.gl_entry.specs.Leaf.{leaf_of}
@@ -15,8 +18,8 @@ use Rattle.gl_entry.specs.declared.entry.Entry.{Entry}
 use Rattle.gl_store.specs.Effect.{identity_in}
 use Rattle.gl_store.specs.Serial.{IsLedger}
 use Rattle.gl_store.specs.Tree.{writes_of, tables_of, leaves_from, leaves_of}
-use Rattle.gl_store.specs.Kept.{StandsFor}
-use Rattle.gl_store.proofs.Lists.{within}
+use Rattle.gl_store.specs.Kept.{IsTreeOf}
+use Rattle.gl_base.proofs.Lists.{slice_get-within}
 
 -- the writes of an entry, at its place
 abbrev pub placed_in : Entry → List Placed
@@ -86,22 +89,37 @@ above_each place (e ∷ es) below = above-append place (placed_in e) (writes_of 
 next_above : (ledger : List Entry) → IsLedger ledger → IsAbove (suc (length ledger)) (writes_of ledger)
 next_above ledger h =
     above_each (suc (length ledger)) ledger
-    (λ i e s. let there : i < length ledger = within ledger i e s in let place : e.seqno ≡ suc i = h.places i e s in omega arith)
+    (λ i e s. let there : i < length ledger = slice_get-within ledger i e s in let place : e.seqno ≡ suc i = h.seqnos i e s in omega arith)
 
--- the next place is above those of all writes
-pub above_next : (ledger : List Entry) (tables : List Placed) (place : ℕ) → IsLedger ledger → tables ≡ writes_of ledger → place ≡ length ledger + 1 → IsAbove place tables
-above_next ledger tables place h are at =
-    let next : suc (length ledger) ≡ place = omega arith in
-    subst (λ (ps : List Placed). IsAbove place ps) (sym are) (subst (λ (n : ℕ). IsAbove n (writes_of ledger)) next (next_above ledger h))
+greatest_below : (is_such : Write → Bool) (place : ℕ) (ps : List Placed) → 0 < place → IsAbove place ps → greatest_place is_such ps < place
+greatest_below is_such place [] some all = some
+greatest_below is_such place (p ∷ ps) some all = go (is_such p.write) (greatest_below is_such place ps some all.1)
+  where
+    go : (b : Bool) → greatest_place is_such ps < place → max (if b then p.place else 0) (greatest_place is_such ps) < place
+    go true rest = let first : p.place < place = all.0 in omega arith
+    go false rest = omega arith
+
+-- the next seqno is above the versions of all rows
+pub versions_below : (ledger : List Entry) (t : Kept) (seqno : ℕ) → IsLedger ledger → StandsFor t (writes_of ledger) → seqno ≡ length ledger + 1 →
+    (map key : List ℕ) → version_of t map key < seqno
+versions_below ledger t seqno h stands at map key =
+    let below : version_in (writes_of ledger) map key < suc (length ledger) =
+    greatest_below (is_to_row map key) (suc (length ledger)) (writes_of ledger) (omega arith) (next_above ledger h) in
+    let same : version_of t map key ≡ version_in (writes_of ledger) map key = version_of-stands t (writes_of ledger) stands map key in
+    omega (arith, below, same, at)
+
+-- tables of no writes have no version
+pub nothing_below : (t : Kept) (seqno : ℕ) → StandsFor t [] → 0 < seqno → (map key : List ℕ) → version_of t map key < seqno
+nothing_below t seqno stands some map key = let none : version_of t map key ≡ 0 = version_of-stands t [] stands map key in omega (arith, none, some)
 
 -- ---- the root
 
 -- a frontier that stands for leaves has their root
-pub root_of_frontier : (f : Content) (leaves : List (List ℕ)) (root : List ℕ) → StandsFor f leaves → ForLeaves f (λ ls. root ≡ root_of ls) → root ≡ root_of leaves
+pub root_of_frontier : (f : Content) (leaves : List (List ℕ)) (root : List ℕ) → IsTreeOf leaves f → ForLeaves f (λ ls. root ≡ root_of ls) → root ≡ root_of leaves
 unfolding peaks_of peaks_within
 root_of_frontier f leaves root stands all = all [] (record { count = sym stands.base; peaks = sym stands.peaks }) ∙ ap root_of stands.leaves_are
 
-pub count_of_frontier : (f : Content) (ledger : List Entry) → StandsFor f (leaves_of ledger) → count_of f ≡ length ledger
+pub count_of_frontier : (f : Content) (ledger : List Entry) → IsTreeOf (leaves_of ledger) f → count_of f ≡ length ledger
 count_of_frontier f ledger stands =
     let leaves : length f.leaves ≡ length ledger = ap length stands.leaves_are ∙ length-leaves_of ledger in
     omega (arith, stands.base)

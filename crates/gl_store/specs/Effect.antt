@@ -11,26 +11,28 @@ use Rattle.gl_store.specs.declared.genesis.ServiceState.TheVariants.{Opening, Op
 use Rattle.gl_store.specs.declared.genesis.GovernanceRequest.{GovernanceRequest}
 use Rattle.gl_store.specs.declared.genesis.GovernanceRequest.TheVariants as requests
 
--- A governance request and the place of the entry that records it.
+-- A governance request and the seqno of the entry that records it.
 pub record Recorded : Type 0 where
-  pub place : ℕ
+  pub seqno : ℕ
   pub request : GovernanceRequest
 
--- What an entry at a place records of these requests, with what the entries behind it record.
+-- What an entry with a seqno records of these requests, with what the entries behind it record.
 abbrev pub RecordsAt : ℕ → Content → (List Recorded → Type 0) → List Recorded → Type 0
-RecordsAt place (content.Governance bytes) behind requests =
-    (g : GovernanceRequest) × (rest : List Recorded) × (is_governance_request g ≡ true) × (bytes ≡ governance_bytes g)
-    × (requests ≡ record { place = place; request = g } ∷ rest) × behind rest
-RecordsAt place (content.Application bytes) behind requests = behind requests
-RecordsAt place (content.Signature s) behind requests = behind requests
-RecordsAt place (content.Evidence d) behind requests = behind requests
+RecordsAt seqno (content.Governance bytes) behind requests =
+    (g : GovernanceRequest) × (rest : List Recorded) × (is_governance_request g ≡ true)
+    × (bytes ≡ governance_bytes g)
+    × (requests ≡ record { seqno = seqno; request = g } ∷ rest) × behind rest
+RecordsAt seqno (content.Application bytes) behind requests = behind requests
+RecordsAt seqno (content.Signature s) behind requests = behind requests
+RecordsAt seqno (content.Evidence d) behind requests = behind requests
 
--- These are the governance requests of the entries from a place on, in order.
+-- These are the governance requests of the entries from a seqno on, in order.
 abbrev pub RecordsFrom : ℕ → List Entry → List Recorded → Type 0
-RecordsFrom place [] requests = requests ≡ []
-RecordsFrom place (e ∷ es) requests = RecordsAt place e.content (λ rest. RecordsFrom (suc place) es rest) requests
+RecordsFrom seqno [] requests = requests ≡ []
+RecordsFrom seqno (e ∷ es) requests =
+    RecordsAt seqno e.content (λ rest. RecordsFrom (suc seqno) es rest) requests
 
--- These are the governance requests of a ledger, whose first place is 1.
+-- These are the governance requests of a ledger, whose first seqno is 1.
 abbrev pub Records : List Entry → List Recorded → Type 0
 Records ledger requests = RecordsFrom 1 ledger requests
 

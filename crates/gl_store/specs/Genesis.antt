@@ -1,10 +1,10 @@
 -- The request that founds a service: its bytes, when it is acceptable, and the rows that it makes.
-use Rattle.std.specs.Prelude.{ℕ, suc, ◌^◌, List, [], ◌∷◌, ◌++◌, Some, Bool, true, ◌&&◌, not, codes, length, map, nat_le, nat_lt, nat_eq}
-use Rattle.std.specs.List.{flat_map, list_all, list_any}
+use Rattle.std.specs.Prelude.{ℕ, suc, ◌^◌, ◌≤◌, List, [], ◌∷◌, ◌++◌, Some, Bool, true, ◌&&◌, not, codes, length, map, nat_le, nat_lt, nat_eq}
+use Rattle.std.specs.List.{flat_map, list_all, list_any, AllByRecursion}
 use Rattle.sha2.specs.Sha256.{sha256}
 use Rattle.gl_base.specs.LittleEndian.{little_endian}
-use Rattle.gl_base.specs.Field.{is_byte, are_bytes, with_u32_length}
-use Rattle.gl_vmaps.specs.Tables.{same_bytes}
+use Rattle.gl_base.specs.Bytes.{is_byte, are_bytes, same_bytes}
+use Rattle.gl_base.specs.Field.{with_u32_length}
 use Rattle.gl_vmaps.specs.Writes.{with_write}
 use Rattle.gl_vmaps.specs.declared.write.Write.{Write}
 use Rattle.gl_entry.specs.Entry.{are_sized, is_digest}
@@ -43,9 +43,12 @@ share_bytes s = s.member ∷ s.digest
 
 -- A dealing: its threshold, the secret's digest, and the count of shares with their digests.
 abbrev pub dealing_bytes : Dealing → List ℕ
-dealing_bytes d = (d.threshold ∷ d.secret_digest) ++ little_endian 1 (length d.shares) ++ flat_map share_bytes d.shares
+dealing_bytes d =
+    (d.threshold ∷ d.secret_digest) ++ little_endian 1 (length d.shares)
+    ++ flat_map share_bytes d.shares
 
--- A genesis: its tag, the state, the service's key, the nodes and the members behind their counts, and the dealing.
+-- A genesis: its tag, the state, the service's key, the nodes and the members behind their counts,
+-- and the dealing.
 abbrev pub genesis_bytes : request.Genesis → List ℕ
 genesis_bytes g =
     (1 ∷ state_byte g.state ∷ g.identity)
@@ -69,7 +72,9 @@ abbrev pub is_share : ShareDigest → Bool
 is_share s = is_byte s.member && is_digest s.digest
 
 abbrev pub is_dealing : Dealing → Bool
-is_dealing d = is_byte d.threshold && is_digest d.secret_digest && nat_lt (length d.shares) 256 && list_all is_share d.shares
+is_dealing d =
+    is_byte d.threshold && is_digest d.secret_digest && nat_lt (length d.shares) 256
+    && list_all is_share d.shares
 
 abbrev pub is_genesis : request.Genesis → Bool
 is_genesis g =
@@ -103,24 +108,36 @@ numbers_of members = map (λ (m : NewMember). m.number) members
 
 -- There is a node, no identifier stands twice, and they are no more than may be trusted, 32.
 abbrev pub are_nodes : List NewNode → Bool
-are_nodes nodes = nat_le 1 (length nodes) && nat_le (length nodes) 32 && are_distinct_bytes (map node_id nodes)
+are_nodes nodes =
+    nat_le 1 (length nodes) && nat_le (length nodes) 32 && are_distinct_bytes (map node_id nodes)
 
--- Their numbers begin at 1, no number and no key stands twice, and they are no more than may be present, 64.
+-- Their numbers begin at 1, no number and no key stands twice, and they are no more than may be
+-- present, 64.
 abbrev pub are_members : List NewMember → Bool
 are_members members =
     nat_le (length members) 64 && list_all (λ number. nat_le 1 number) (numbers_of members)
-    && are_distinct nat_eq (numbers_of members) && are_distinct_bytes (map (λ (m : NewMember). m.key) members)
+    && are_distinct nat_eq (numbers_of members)
+    && are_distinct_bytes (map (λ (m : NewMember). m.key) members)
 
--- Shares for distinct members that are present, in ascending order, and at least as many as the threshold.
+-- Shares for distinct members that are present, in ascending order, and at least as many as the
+-- threshold.
 abbrev pub is_dealing_among : List ℕ → Dealing → Bool
 is_dealing_among present d =
     nat_le 1 d.threshold && nat_le d.threshold (length d.shares)
     && is_ascending (map (λ (s : ShareDigest). s.member) d.shares)
     && list_all (λ (s : ShareDigest). list_any (nat_eq s.member) present) d.shares
 
--- A genesis that founds a service: its members, its dealing among them, and its nodes are as they must be.
+-- A genesis that founds a service: its members, its dealing among them, and its nodes are as they
+-- must be.
 abbrev pub is_acceptable : request.Genesis → Bool
-is_acceptable g = are_members g.members && is_dealing_among (numbers_of g.members) g.dealing && are_nodes g.nodes
+is_acceptable g =
+    are_members g.members && is_dealing_among (numbers_of g.members) g.dealing
+    && are_nodes g.nodes
+
+-- Endorsements of at most 32,768 bytes, so that each node's row is within the limit of a value.
+abbrev pub HaveShortEndorsements : List NewNode → Type 0
+HaveShortEndorsements nodes =
+    AllByRecursion (λ (n : NewNode). length n.endorsement ≤ 2 ^ 15) nodes
 
 -- Rows (CCF documentation, "Builtin Maps")
 
@@ -161,9 +178,12 @@ constitution_rows = map rule_row (1 ∷ 2 ∷ 3 ∷ 4 ∷ 5 ∷ 6 ∷ 7 ∷ [])
 abbrev pub member_row : NewMember → Write
 member_row m = row members_map (m.number ∷ []) ((1 ∷ m.key) ++ little_endian 4 0)
 
--- A node's row: its number in the order of nodes, trusted, its key and endorsement, and no place at which it was removed.
+-- A node's row: its number in the order of nodes, trusted, its key and endorsement, and no place at
+-- which it was removed.
 abbrev pub node_row : ℕ → NewNode → Write
-node_row order n = row nodes_map (node_id n) (little_endian 2 order ++ (2 ∷ n.key) ++ with_u32_length n.endorsement ++ little_endian 8 0)
+node_row order n =
+    row nodes_map (node_id n)
+    (little_endian 2 order ++ (2 ∷ n.key) ++ with_u32_length n.endorsement ++ little_endian 8 0)
 
 -- The rows of nodes, numbered from here on.
 abbrev pub node_rows : ℕ → List NewNode → List Write

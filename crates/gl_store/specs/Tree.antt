@@ -7,7 +7,7 @@ use Rattle.gl_entry.specs.Leaf.{leaf_of}
 use Rattle.gl_entry.specs.declared.entry.Entry.{Entry}
 use Rattle.gl_store.specs.Effect.{identity_in}
 
--- The writes of a ledger, each at the place of its entry.
+-- The writes of a ledger, each at the seqno of its entry.
 abbrev pub writes_of : List Entry → List Placed
 writes_of ledger = flat_map (λ (e : Entry). placed_at e.seqno e.writes) ledger
 
@@ -15,11 +15,12 @@ writes_of ledger = flat_map (λ (e : Entry). placed_at e.seqno e.writes) ledger
 abbrev pub tables_of : List Entry → Tables
 tables_of ledger = written_by (writes_of ledger)
 
--- The leaves of entries behind tables, each under the identity that is in force at its place: that of an entry which names one
--- is its own.
+-- The leaves of entries behind tables, each under the identity that is in force there: that of an
+-- entry which names one is its own.
 abbrev pub leaves_from : Tables → List Entry → List (List ℕ)
 leaves_from tables [] = []
-leaves_from tables (e ∷ es) = leaf_of (identity_in (wrote_all tables e.writes)) e ∷ leaves_from (wrote_all tables e.writes) es
+leaves_from tables (e ∷ es) =
+    leaf_of (identity_in (wrote_all tables e.writes)) e ∷ leaves_from (wrote_all tables e.writes) es
 
 abbrev pub leaves_of : List Entry → List (List ℕ)
 leaves_of ledger = leaves_from no_tables ledger

@@ -1,5 +1,5 @@
-//! The bytes of the request that founds a service. Numbers have their least significant byte first, and
-//! bytes of no fixed length stand behind their length.
+//! The bytes of the request that founds a service. Numbers have their least significant byte first,
+//! and bytes of no fixed length stand behind their length.
 
 ghost use Rattle.std.specs.Prelude.{◌≡◌, ◌≤◌, ◌<◌, ◌^◌, ◌+◌, ◌*◌, ◌++◌, ◌∷◌, [], true, length, IfOk, OnOk};
 ghost use Rattle.std.specs.List.{flat_map, AllByRecursion};
@@ -58,7 +58,8 @@ fn put_members(out: &mut Vec<u8>, members: &[NewMember]) -> Result<(), AllocErro
 
 fn put_shares(out: &mut Vec<u8>, shares: &[ShareDigest]) -> Result<(), AllocError>
     ensures bytes { OnOk result (out.new.items ≡ out.old.items ++ flat_map share_bytes shares.now) }
-    ensures size { OnOk result (length out.new.items ≡ length out.old.items + 33 * length shares.now) }
+    ensures size { OnOk result (length out.new.items
+        ≡ length out.old.items + 33 * length shares.now) }
 {
     for share in shares {
         put_share(out, share)?;
@@ -70,7 +71,8 @@ fn put_shares(out: &mut Vec<u8>, shares: &[ShareDigest]) -> Result<(), AllocErro
 fn put_dealing(out: &mut Vec<u8>, dealing: &Dealing) -> Result<(), AllocError>
     requires { length dealing.now.shares < 2 ^ 8 }
     ensures bytes { OnOk result (out.new.items ≡ out.old.items ++ dealing_bytes dealing.now) }
-    ensures size { OnOk result (length out.new.items ≡ length out.old.items + 34 + 33 * length dealing.now.shares) }
+    ensures size { OnOk result (length out.new.items
+        ≡ length out.old.items + 34 + 33 * length dealing.now.shares) }
 {
     let shares = dealing.shares.as_slice();
     out.push(dealing.threshold)?;

@@ -1,61 +1,43 @@
 //! Why a store makes no entry.
 
 ghost use Rattle.std.specs.Prelude.{◌≡◌};
-ghost use Rattle.gl_store.specs.declared.refusal.StoreError.TheVariants.{Memory};
-ghost use Rattle.gl_store.specs.Refusals.{refused_run};
+ghost use Rattle.gl_base.specs.declared.or_no_memory.OrNoMemory.TheVariants.{Fault};
+ghost use Rattle.gl_store.specs.declared.refusal.Refusal.TheVariants.{Aborted};
 
 use crate::genesis::ServiceState;
-use gl_tx::{Abort, RunError};
-use std::alloc::{AllocError, AllocFailed};
+use gl_base::OrNoMemory;
+use gl_tx::Abort;
 use thiserror::Error;
 
-/// Why a store makes no entry.
-#[derive(Clone, Copy, Debug, PartialEq, Eq)]
+/// Why a store makes no entry. It is then as it was.
+#[derive(Clone, Copy, Debug, PartialEq, Eq, Error)]
 pub enum Refusal {
     /// The service is in this state, and takes requests of applications only when it is open.
+    #[error("the service is not open")]
     ServiceState(ServiceState),
     /// An operation of the request failed.
+    #[error("the request is aborted: {0}")]
     Aborted(Abort),
     /// The entry's body, or else its reply, has so many bytes, which is more than 1 MiB.
+    #[error("{size} bytes are more than 1 MiB")]
     TooLarge { size: u64 },
-    /// No place is left that an identifier can name.
+    /// No seqno is left that an identifier can name.
+    #[error("no seqno is left")]
     SeqnoLimit,
 }
 
-/// Why a store did not do what it was asked. It is then as it was.
-#[derive(Debug, Drop, Error)]
-pub enum StoreError {
-    /// There was no memory for the entry or the reply.
-    #[error("out of memory")]
-    Memory,
-    /// The request makes no entry.
-    #[error("the request is refused")]
-    Refused(Refusal),
-}
+impl From<Abort> for Refusal {
+    ghost from_gives = { λ abort refusal. refusal ≡ Aborted abort };
 
-impl From<AllocError> for StoreError {
-    ghost from_gives = { λ _ e. e ≡ Memory };
-
-    fn from(_e: AllocError) -> StoreError {
-        StoreError::Memory
+    fn from(abort: Abort) -> Refusal {
+        Refusal::Aborted(abort)
     }
 }
 
-impl<T: Drop> From<AllocFailed<T>> for StoreError {
-    ghost from_gives = { λ _ e. e ≡ Memory };
+impl From<Refusal> for OrNoMemory<Refusal> {
+    ghost from_gives = { λ refusal e. e ≡ Fault refusal };
 
-    fn from(_e: AllocFailed<T>) -> StoreError {
-        StoreError::Memory
-    }
-}
-
-impl From<RunError> for StoreError {
-    ghost from_gives = { λ run e. e ≡ refused_run run };
-
-    fn from(error: RunError) -> StoreError {
-        match error {
-            RunError::NoMemory => StoreError::Memory,
-            RunError::Aborted(abort) => StoreError::Refused(Refusal::Aborted(abort)),
-        }
+    fn from(refusal: Refusal) -> OrNoMemory<Refusal> {
+        OrNoMemory::Fault(refusal)
     }
 }

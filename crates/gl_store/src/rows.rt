@@ -1,9 +1,8 @@
 //! The rows that a genesis makes.
 
 ghost use Rattle.std.specs.Prelude.{◌≡◌, ◌≤◌, ◌<◌, ◌^◌, ◌++◌, ◌∷◌, [], true, codes, length, map, IfOk, IsTrue, OnOk, Some};
-ghost use Rattle.std.specs.List.{AllByRecursion};
 ghost use Rattle.gl_vmaps.specs.Name.{is_map_name};
-ghost use Rattle.gl_store.specs.Genesis.{node_id, row, rule_row, constitution_rows, dealing_bytes, dealing_map, dealing_key, member_row, node_row, node_rows, service_row, is_genesis, set_from, genesis_writes};
+ghost use Rattle.gl_store.specs.Genesis.{node_id, row, rule_row, constitution_rows, dealing_bytes, dealing_map, dealing_key, member_row, node_row, node_rows, service_row, is_genesis, set_from, genesis_writes, HaveShortEndorsements};
 
 use crate::encode::{dealing_bytes, state_byte};
 use crate::genesis::{Dealing, Genesis, NewMember, NewNode};
@@ -60,7 +59,8 @@ fn put_constitution(alloc: Global, writes: &mut Writes) -> Result<(), AllocError
 
 fn dealing_row(alloc: Global, dealing: &Dealing) -> Result<Write, AllocError>
     requires { length dealing.now.shares < 2 ^ 8 }
-    ensures { IfOk result (λ write. write ≡ row dealing_map dealing_key (dealing_bytes dealing.now)) }
+    ensures { IfOk result (λ write.
+        write ≡ row dealing_map dealing_key (dealing_bytes dealing.now)) }
 {
     let value = dealing_bytes(alloc, dealing)?;
     row(alloc, b"public:ccf.gov.dealing", b"d", &value)
@@ -121,7 +121,7 @@ fn put_members(alloc: Global, members: &[NewMember], writes: &mut Writes) -> Res
 
 fn put_nodes(alloc: Global, nodes: &[NewNode], writes: &mut Writes) -> Result<(), AllocError>
     requires count { length nodes.now < 2 ^ 8 }
-    requires endorsements { AllByRecursion (λ node. length node.endorsement ≤ 2 ^ 15) nodes.now }
+    requires endorsements { HaveShortEndorsements nodes.now }
     ensures { OnOk result (writes.new ≡ set_from writes.old (node_rows 1 nodes.now)) }
 {
     for (i, node) in nodes.iter().enumerate() {
@@ -133,7 +133,7 @@ fn put_nodes(alloc: Global, nodes: &[NewNode], writes: &mut Writes) -> Result<()
 /// The write set of a genesis.
 pub fn genesis_writes(alloc: Global, genesis: &Genesis) -> Result<Writes, AllocError>
     requires fits { is_genesis genesis.now ≡ true }
-    requires endorsements { AllByRecursion (λ node. length node.endorsement ≤ 2 ^ 15) genesis.now.nodes }
+    requires endorsements { HaveShortEndorsements genesis.now.nodes }
     ensures { IfOk result (λ writes. writes ≡ genesis_writes genesis.now) }
 {
     let mut writes = Writes::new(alloc);

@@ -1,47 +1,49 @@
 //! The store of one node: what it holds, and what it makes of requests.
 
-ghost use Rattle.std.specs.Prelude.{◌≡◌, ◌↔◌, ◌+◌, ◌≤◌, ◌<◌, ◌^◌, [], ◌∷◌, ◌++◌, List, true, length, IsTrue, Err, IfOk, IfErr, IfSome, IfNone, OnErr, OnOk};
+ghost use Rattle.std.specs.Prelude.{◌≡◌, ◌↔◌, ◌+◌, ◌≤◌, ◌<◌, ◌^◌, [], ◌∷◌, ◌++◌, ℕ, List, true, length, IsTrue, Err, IfOk, IfErr, IfSome, IfNone, OnErr, OnOk};
 ghost use Rattle.std.specs.List.{AllByRecursion};
 ghost use Rattle.std.specs.Option.{option_copied};
 ghost use Rattle.sha2.specs.Sha256.{sha256};
-ghost use Rattle.gl_base.specs.Field.{are_bytes};
 ghost use Rattle.gl_base.specs.TxId.{last_seqno};
 ghost use Rattle.gl_merkle.specs.Frontier.{HasLeaves, IsUnchanged};
-ghost use Rattle.gl_vmaps.specs.Versions.{placed_at, IsAbove};
+ghost use Rattle.gl_vmaps.specs.Kept.{version_of};
+ghost use Rattle.gl_vmaps.specs.Standing.{StandsFor};
+ghost use Rattle.gl_vmaps.specs.Versions.{Placed, placed_at};
 ghost use Rattle.gl_tx.specs.Request.{is_request, request_bytes, reply_bytes};
 ghost use Rattle.gl_tx.specs.declared.request.Answer.{Answer};
 ghost use Rattle.gl_entry.specs.Entry.{no_digest, is_entry, body_bytes, body_limit, content_bytes};
 ghost use Rattle.gl_entry.specs.Leaf.{leaf_of};
 ghost use Rattle.gl_entry.specs.declared.entry.Entry as made;
-ghost use Rattle.gl_store.specs.Genesis.{is_genesis};
+ghost use Rattle.gl_store.specs.Genesis.{is_genesis, HaveShortEndorsements};
 ghost use Rattle.gl_store.specs.Tree.{leaves_of};
-ghost use Rattle.gl_store.specs.Ledger.{genesis_entry, signature_entry, limited};
-ghost use Rattle.gl_store.specs.Kept.{StandsFor};
+ghost use Rattle.gl_store.specs.Ledger.{genesis_entry, signature_entry, within_limits};
+ghost use Rattle.gl_store.specs.Kept.{IsTreeOf};
 
 use crate::encode::genesis_bytes;
-use crate::genesis::{Genesis, HssKey, ServiceState};
-use crate::log::Log;
-use crate::refusal::{Refusal, StoreError};
+use crate::genesis::{Genesis, HssPublicKey, ServiceState};
+use crate::ledger_state::LedgerState;
+use crate::refusal::Refusal;
 use crate::rows::genesis_writes;
-use gl_base::{Status, TxId, status};
-use gl_entry::{Bytes, Content, Digest, Entry, NodeId, Signature, leaf_of_body};
+use gl_base::{Bytes, FIRST_VIEW, LAST_SEQNO, MEBIBYTE, OrNoMemory, Status, TxId, status};
+use gl_entry::{Content, Digest, Entry, NodeId, Signature, leaf, leaf_of_body};
 use gl_tx::{Ran, Reply, Request, run};
 use gl_vmaps::{Tables, Writes};
 use sha2::{Digest as _, Sha256};
 use std::alloc::{AllocError, Global};
 use std::marker::Model;
 
-/// A ledger of one node, and up to which place it is committed. Places count from 1. The ledger is
-/// sound at every moment: its places and views are in order, it is one serial run of its requests,
-/// its governance tables are the effect of the governance requests that it records, and each signature
-/// has the root of the tree over all earlier entries.
+/// A ledger of one node, and up to which seqno it is committed. Seqnos count from 1. The ledger is
+/// sound at every moment: its entries fit their format, its seqnos and views are in order, it is
+/// one serial run of its requests, its governance tables are the effect of the governance requests
+/// that it records, and each signature has the root of the tree over all earlier entries. Commit is
+/// the seqno of a signature, or 0, and never falls.
 #[derive(Drop)]
 pub struct Store {
-    log: Log,
-    identity: HssKey,
+    state: LedgerState,
+    identity: HssPublicKey,
     commit: u64,
     last_signature: u64,
-    state: ServiceState,
+    service_state: ServiceState,
     alloc: Global,
 }
 
@@ -51,76 +53,77 @@ impl Model for Store {
 
     ghost Value = { Held };
 
-    ghost view = { λ s. record { ledger = s.log.entries.items; commit = s.commit } };
+    ghost view = { λ s. record { ledger = s.state.entries.items; commit = s.commit } };
 
-    ghost invariant = { λ s. IsKept s.log.entries.items (record {
+    ghost invariant = { λ s. IsKept s.state.entries.items (record {
       commit = s.commit;
       last_signature = s.last_signature;
-      state = s.state;
+      service_state = s.service_state;
       identity = s.identity;
-      tables = s.log.tables;
-      frontier = s.log.frontier;
+      tables = s.state.tables;
+      frontier = s.state.frontier;
     }) };
 }
-
-/// The last place that an identifier can name.
-const LAST_SEQNO: u64 = (1 << 40) - 1;
-
-/// The most bytes that a body or a reply has.
-const SIZE_LIMIT: usize = 1_048_576;
 
 /// The digest field of an entry that has none.
 const NO_DIGEST: Digest = [0; 32];
 
 impl Store {
+    ghost use Rattle.gl_rules.specs.Log.{entry_at, last_signature};
+    ghost use Rattle.gl_rules.specs.Node.{Node};
+    ghost use Rattle.gl_rules.specs.Safety.{reported_status, view_of, ViewsUpTo};
     ghost use Rattle.gl_store.specs.Genesis.{is_acceptable};
-    ghost use Rattle.gl_store.specs.Ledger.{Executes, Signs, Refuses, executed, signed, opening_ledger, entry_at, view_at, held_status, commit_of, last_signature, IsSignedAt};
+    ghost use Rattle.gl_store.specs.Ledger.{opening_ledger};
     ghost use Rattle.gl_store.specs.Tree.{writes_of, tables_of};
     ghost use Rattle.gl_store.specs.Effect.{service_state};
     ghost use Rattle.gl_store.specs.Serial.{IsSound};
-    ghost use Rattle.gl_store.specs.Kept.{IsUpTo};
+    ghost use Rattle.gl_store.specs.Book.{service_book};
+    ghost use Rattle.gl_store.specs.Calls.{Executes, Signs, Refuses, IsNodeOf, IsSignedAt, IsSignedUpTo};
 
-    /// The store of a service that begins: the genesis at place 1, and the signature of its node at
-    /// place 2, both in view 2 and committed. Fails for want of memory alone.
+    /// The store of a service that begins: the genesis with seqno 1, and the signature of its node
+    /// with seqno 2, both in view 2 and committed. Fails for want of memory alone.
     pub fn opening(alloc: Global, genesis: &Genesis, signer: NodeId) -> Result<Self, AllocError>
         requires acceptable { is_acceptable genesis.now ≡ true }
         requires fits { is_genesis genesis.now ≡ true }
-        requires endorsements { AllByRecursion (λ node. length node.endorsement ≤ 2 ^ 15) genesis.now.nodes }
+        requires endorsements { HaveShortEndorsements genesis.now.nodes }
         requires small { length (body_bytes (genesis_entry genesis.now)) ≤ body_limit }
-        ensures { IfOk result (λ store. store ≡ record { ledger = opening_ledger genesis.now signer; commit = 2 }) }
+        ensures { IfOk result (λ store. store ≡ record {
+          ledger = opening_ledger genesis.now signer;
+          commit = 2;
+        }) }
     {
         let founding = genesis_entry(alloc, genesis)?;
-        let mut log = Log::new(alloc)?;
-        push_entry(alloc, &mut log, &genesis.identity, founding)?;
-        let opening = signature_entry(alloc, &log, signer, 2, 2);
-        push_entry(alloc, &mut log, &genesis.identity, opening)?;
+        let mut state = LedgerState::new(alloc)?;
+        push_entry(&mut state, &genesis.identity, founding)?;
+        let opening = signature_entry(alloc, &state, signer, FIRST_VIEW, 2);
+        push_entry(&mut state, &genesis.identity, opening)?;
         Ok(Store {
-            log,
+            state,
             identity: genesis.identity,
             commit: 2,
             last_signature: 2,
-            state: genesis.state,
+            service_state: genesis.state,
             alloc,
         })
     }
 
-    /// The number of entries, which is the place of the last one. It is at least 2.
+    /// The number of entries, which is the seqno of the last one. It is at least 2.
     pub fn ledger_len(&self) -> u64
         ensures len { result ≡ length self.now.ledger }
         ensures opened { 2 ≤ length self.now.ledger }
         ensures sound { IsSound self.now.ledger }
     {
-        self.log.entries.len() as u64
+        self.state.entries.len() as u64
     }
 
-    /// The entry at a place. `None` at place 0 and above the last.
-    pub fn entry(&self, place: u64) -> Option<&Entry>
-        ensures entry { option_copied result ≡ entry_at self.now.ledger place }
+    /// The entry with a seqno. `None` at 0 and above the last.
+    pub fn entry(&self, seqno: u64) -> Option<&Entry>
+        ensures entry { option_copied result ≡ entry_at self.now.ledger seqno }
         ensures fits { IfSome result (λ e. is_entry e.now ≡ true) }
     {
-        match place.checked_sub(1) {
+        match seqno.checked_sub(1) {
             None => None,
-            Some(index) => self.log.entries.get(index as usize),
+            Some(index) => self.state.entries.get(index as usize),
         }
     }
 
@@ -129,45 +132,48 @@ impl Store {
         ensures entries { result.now ≡ self.now.ledger }
         ensures fit { AllByRecursion (λ e. is_entry e ≡ true) self.now.ledger }
     {
-        &self.log.entries
+        &self.state.entries
     }
 
-    /// The view of the entry at a place. `None` at place 0 and above the last.
-    pub fn view_at(&self, place: u64) -> Option<u32>
-        ensures { result ≡ view_at self.now.ledger place }
+    /// The view of the entry with a seqno. `None` at 0 and above the last.
+    pub fn view_at(&self, seqno: u64) -> Option<u32>
+        ensures { result ≡ view_of service_book (entry_at self.now.ledger seqno) }
     {
-        match self.entry(place) {
+        match self.entry(seqno) {
             None => None,
             Some(entry) => Some(entry.view),
         }
     }
 
-    /// The tables that the ledger's write sets make.
+    /// The tables that the ledger's write sets make: what they answer is what those make.
     pub fn tables(&self) -> &Tables
-        ensures { result.now ≡ writes_of self.now.ledger }
+        ensures stands { StandsFor result.now (writes_of self.now.ledger) }
+        ensures base { result.now.base ≡ 0 }
     {
-        &self.log.tables
+        &self.state.tables
     }
 
-    /// The place up to which the ledger is committed, itself included.
+    /// The seqno up to which the ledger is committed, itself included: that of a signature, or 0.
     pub fn commit(&self) -> u64
         ensures commit { result ≡ self.now.commit }
         ensures within { self.now.commit ≤ length self.now.ledger }
+        ensures signed { IsSignedUpTo self.now.ledger self.now.commit }
     {
         self.commit
     }
 
-    /// The place of the last signature, committed or not.
+    /// The seqno of the last signature, committed or not.
     pub fn last_signature(&self) -> u64
-        ensures { result ≡ last_signature self.now.ledger }
+        ensures { result ≡ last_signature service_book self.now.ledger }
     {
         self.last_signature
     }
 
-    /// The status of a transaction by what this store holds (CCF documentation, "Transaction status").
-    /// Only Committed and Invalid are final.
+    /// The status of a transaction by what this store holds (CCF documentation, "Transaction
+    /// status"). Only Committed and Invalid are final.
     pub fn status(&self, id: TxId) -> Status
-        ensures { result ≡ held_status self.now id }
+        ensures { (n : Node Entry) → IsNodeOf self.now n →
+            result ≡ reported_status service_book n id }
     {
         let committed = match self.view_at(self.commit) {
             None => None,
@@ -179,92 +185,98 @@ impl Store {
         status(id, self.view_at(id.seqno), committed)
     }
 
-    /// Commits the ledger up to the signature at this place.
-    pub fn commit_to(&mut self, place: u64)
-        requires { IsSignedAt self.old.ledger place }
-        ensures { self.new ≡ record self.old { commit = place } }
+    /// Commits the ledger up to the signature with this seqno, or up to 0. Commit never falls.
+    pub fn commit_to(&mut self, seqno: u64)
+        requires signed { IsSignedUpTo self.old.ledger seqno }
+        requires above { self.old.commit ≤ seqno }
+        ensures { self.new ≡ record self.old { commit = seqno } }
     {
-        self.commit = place;
+        self.commit = seqno;
     }
 
-    /// Runs a request and makes its entry, in a view that isn't below that of any entry before. Gives
-    /// the entry's identifier and the reply. Refused, in this order, where the service isn't open, where
-    /// an operation fails, where the entry's body or the reply has more than 1 MiB, and where no place
-    /// is left. Want of memory, too, leaves the store as it was.
-    pub fn execute(&mut self, view: u32, request: &Request) -> Result<(TxId, Reply), StoreError>
-        requires { IsUpTo self.old.ledger view }
-        ensures made { IfOk result (λ made. Executes self.old view request.now made.0 made.1 self.new) }
-        ensures refused { IfErr result (λ e. Refuses (executed self.old.ledger view request.now) e) }
+    /// Runs a request and makes its entry, in a view that isn't below that of any entry before.
+    /// Gives the entry's identifier and the reply. Refused, in this order, where the service isn't
+    /// open, where an operation fails, where the entry's body or the reply has more than 1 MiB, and
+    /// where no seqno is left. Want of memory, too, leaves the store as it was.
+    pub fn execute(&mut self, view: u32, request: &Request) -> Result<(TxId, Reply), OrNoMemory<Refusal>>
+        requires { ViewsUpTo service_book view self.old.ledger }
+        ensures made { IfOk result (λ made.
+            Executes self.old view request.now made.0 made.1 self.new) }
+        ensures refused { IfErr result (λ e.
+            Refuses (service_book.execute self.old.ledger view request.now) e) }
         ensures err { OnErr result (self.new ≡ self.old) }
     {
-        match self.state {
+        prove!(request.as_slice().len() <= 64);
+        match self.service_state {
             ServiceState::Open => self.execute_open(view, request),
-            ServiceState::Opening => Err(StoreError::Refused(Refusal::ServiceState(self.state))),
+            ServiceState::Opening => {
+                let closed = Refusal::ServiceState(self.service_state);
+                Err(OrNoMemory::Fault(closed))
+            }
         }
     }
 
-    fn execute_open(&mut self, view: u32, request: &Request) -> Result<(TxId, Reply), StoreError>
-        requires up_to { IsUpTo self.old.ledger view }
+    fn execute_open(&mut self, view: u32, request: &Request) -> Result<(TxId, Reply), OrNoMemory<Refusal>>
+        requires up_to { ViewsUpTo service_book view self.old.ledger }
         requires is_open { service_state (tables_of self.old.ledger) ≡ ServiceState.Open }
-        ensures made { IfOk result (λ made. Executes self.old view request.now made.0 made.1 self.new) }
-        ensures refused { IfErr result (λ e. Refuses (executed self.old.ledger view request.now) e) }
+        requires spelled { is_request request.now ≡ true }
+        ensures made { IfOk result (λ made.
+            Executes self.old view request.now made.0 made.1 self.new) }
+        ensures refused { IfErr result (λ e.
+            Refuses (service_book.execute self.old.ledger view request.now) e) }
         ensures err { OnErr result (self.new ≡ self.old) }
     {
-        let seqno = self.log.entries.len() as u64 + 1;
-        let ran = run(self.alloc, request, &self.log.tables)?;
+        let seqno = self.state.entries.len() as u64 + 1;
+        let ran = match run(self.alloc, request, &self.state.tables) {
+            Ok(ran) => ran,
+            Err(error) => return Err(error.widen()),
+        };
         let reply = ran.reply.encode(self.alloc)?;
         let entry = application_entry(self.alloc, view, seqno, request, ran.writes, &reply)?;
         let body = entry.body(self.alloc)?;
         if let Some(refusal) = limit_passed(&body, &reply, seqno) {
-            return Err(StoreError::Refused(refusal));
+            return Err(OrNoMemory::Fault(refusal));
         }
-        let leaf = leaf_of_body(self.alloc, &self.identity, &entry, &body)?;
-        self.log.push(entry, leaf)?;
+        let leaf = leaf_of_body(&self.identity, &entry, &body);
+        self.state.push(entry, leaf)?;
         Ok((TxId { view, seqno }, ran.reply))
     }
 
-    /// Makes the entry of a node's signature of the ledger so far, in a view that isn't below that of
-    /// any entry before. It records the commit as it now is, and the root of the tree over all entries
-    /// before it. Refused where no place is left. Want of memory, too, leaves the store as it was.
-    pub fn sign(&mut self, node: NodeId, view: u32) -> Result<TxId, StoreError>
-        requires { IsUpTo self.old.ledger view }
+    /// Makes the entry of a node's signature of the ledger so far, in a view that isn't below that
+    /// of any entry before. It records the commit as it now is, and the root of the tree over all
+    /// entries before it. Refused where no seqno is left. Want of memory, too, leaves the store as
+    /// it was.
+    pub fn sign(&mut self, node: NodeId, view: u32) -> Result<TxId, OrNoMemory<Refusal>>
+        requires { ViewsUpTo service_book view self.old.ledger }
         ensures made { IfOk result (λ id. Signs self.old node view id self.new) }
-        ensures refused { IfErr result (λ e. Refuses (signed node self.old.ledger view self.old.commit) e) }
+        ensures refused { IfErr result (λ e. (leaf : ℕ) →
+            Refuses (service_book.sign node leaf self.old.ledger view self.old.commit) e) }
         ensures err { OnErr result (self.new ≡ self.old) }
     {
-        let seqno = self.log.entries.len() as u64 + 1;
+        let seqno = self.state.entries.len() as u64 + 1;
         if seqno > LAST_SEQNO {
-            return Err(StoreError::Refused(Refusal::SeqnoLimit));
+            return Err(OrNoMemory::Fault(Refusal::SeqnoLimit));
         }
-        let entry = signature_entry(self.alloc, &self.log, node, view, self.commit);
-        push_entry(self.alloc, &mut self.log, &self.identity, entry)?;
+        let entry = signature_entry(self.alloc, &self.state, node, view, self.commit);
+        push_entry(&mut self.state, &self.identity, entry)?;
         self.last_signature = seqno;
         Ok(TxId { view, seqno })
     }
 }
 
-/// Whether bytes are few enough that their length is spelled in four bytes.
-fn is_short(bytes: &[u8]) -> bool
-    ensures short { IsTrue result ↔ (length bytes.now < 2 ^ 32) }
-    ensures bytes { are_bytes bytes.now ≡ true }
-{
-    bytes.len() < 1 << 32
-}
-
 /// The entry of a genesis.
 fn genesis_entry(alloc: Global, genesis: &Genesis) -> Result<Entry, AllocError>
     requires fits { is_genesis genesis.now ≡ true }
-    requires endorsements { AllByRecursion (λ node. length node.endorsement ≤ 2 ^ 15) genesis.now.nodes }
+    requires endorsements { HaveShortEndorsements genesis.now.nodes }
     requires small { length (body_bytes (genesis_entry genesis.now)) ≤ body_limit }
     ensures made { IfOk result (λ entry. entry ≡ genesis_entry genesis.now) }
     ensures fits { IfOk result (λ entry. is_entry entry ≡ true) }
 {
     let request = Bytes::from(genesis_bytes(alloc, genesis)?);
     let writes = genesis_writes(alloc, genesis)?;
-    prove!(is_short(request.as_slice()));
     prove!(writes.as_slice().len() < 1 << 32);
     Ok(Entry {
-        view: 2,
+        view: FIRST_VIEW,
         seqno: 1,
         content: Content::Governance(request),
         writes,
@@ -272,21 +284,27 @@ fn genesis_entry(alloc: Global, genesis: &Genesis) -> Result<Entry, AllocError>
     })
 }
 
-/// A signature behind the entries of a log.
-fn signature_entry(alloc: Global, log: &Log, node: NodeId, view: u32, commit: u64) -> Entry
-    requires some { 0 < length log.now.entries.items }
-    requires left { length log.now.entries.items < last_seqno }
-    requires tree { StandsFor log.now.frontier (leaves_of log.now.entries.items) }
-    ensures made { result ≡ signature_entry node log.now.entries.items view commit }
+/// The entry of a node's signature behind a ledger.
+fn signature_entry(
+    alloc: Global,
+    state: &LedgerState,
+    node: NodeId,
+    view: u32,
+    commit: u64,
+) -> Entry
+    requires some { 0 < length state.now.entries.items }
+    requires left { length state.now.entries.items < last_seqno }
+    requires tree { IsTreeOf (leaves_of state.now.entries.items) state.now.frontier }
+    ensures made { result ≡ signature_entry node state.now.entries.items view commit }
     ensures fits { is_entry result ≡ true }
 {
     Entry {
         view,
-        seqno: log.entries.len() as u64 + 1,
+        seqno: state.entries.len() as u64 + 1,
         content: Content::Signature(Signature {
             node,
             commit,
-            root: log.frontier.root(),
+            root: state.frontier.root(),
             signature: Bytes::from(Vec::new(alloc)),
         }),
         writes: Writes::new(alloc),
@@ -313,11 +331,11 @@ fn application_entry(
       claims = sha256 reply.now;
     }) }
     ensures recorded { IfOk result (λ entry. length (content_bytes entry.content) < 2 ^ 32) }
-    ensures fits { IfOk result (λ entry. length (body_bytes entry) ≤ body_limit → is_entry entry ≡ true) }
+    ensures fits { IfOk result (λ entry.
+        length (body_bytes entry) ≤ body_limit → is_entry entry ≡ true) }
 {
     prove!(request.as_slice().len() <= 64);
     let recorded = Bytes::from(request.encode(alloc)?);
-    prove!(is_short(recorded.as_slice()));
     prove!(writes.as_slice().len() <= 64);
     Ok(Entry {
         view,
@@ -328,23 +346,21 @@ fn application_entry(
     })
 }
 
-/// The first limit that an entry passes: the size of its body, that of its reply, its place.
+/// The first limit that an entry passes: the size of its body, that of its reply, its seqno.
 fn limit_passed(body: &[u8], reply: &[u8], seqno: u64) -> Option<Refusal>
     ensures body { IfNone result (length body.now ≤ body_limit) }
     ensures reply { IfNone result (length reply.now ≤ body_limit) }
-    ensures place { IfNone result (seqno ≤ last_seqno) }
-    ensures owed { IfSome result (λ refusal. (ledger : List made.Entry) (e : made.Entry) (answers : List Answer) →
+    ensures seqno { IfNone result (seqno ≤ last_seqno) }
+    ensures owed { IfSome result (λ refusal.
+        (ledger : List made.Entry) (e : made.Entry) (answers : List Answer) →
         body.now ≡ body_bytes e → reply.now ≡ reply_bytes answers → seqno ≡ length ledger + 1 →
-        limited ledger e answers ≡ Err refusal) }
+        within_limits ledger e answers ≡ Err refusal) }
 {
-    if body.len() > SIZE_LIMIT {
-        Some(Refusal::TooLarge {
-            size: body.len() as u64,
-        })
-    } else if reply.len() > SIZE_LIMIT {
-        Some(Refusal::TooLarge {
-            size: reply.len() as u64,
-        })
+    let (body, reply) = (body.len() as u64, reply.len() as u64);
+    if body > MEBIBYTE {
+        Some(Refusal::TooLarge { size: body })
+    } else if reply > MEBIBYTE {
+        Some(Refusal::TooLarge { size: reply })
     } else if seqno > LAST_SEQNO {
         Some(Refusal::SeqnoLimit)
     } else {
@@ -354,21 +370,24 @@ fn limit_passed(body: &[u8], reply: &[u8], seqno: u64) -> Option<Refusal>
 
 /// Adds an entry, with its leaf under the service's key. Want of memory leaves all as it was.
 fn push_entry(
-    alloc: Global,
-    log: &mut Log,
-    identity: &HssKey,
+    state: &mut LedgerState,
+    identity: &HssPublicKey,
     entry: Entry,
 ) -> Result<(), AllocError>
-    requires above { IsAbove entry.seqno log.old.tables }
+    requires base { state.old.tables.base < entry.seqno }
+    requires above { (map key : List ℕ) → version_of state.old.tables map key < entry.seqno }
     requires small { length (body_bytes entry) ≤ body_limit }
-    ensures entries { OnOk result (log.new.entries.items ≡ log.old.entries.items ++ entry ∷ []) }
-    ensures tables { OnOk result (log.new.tables ≡ log.old.tables ++ placed_at entry.seqno entry.writes) }
-    ensures leaves { OnOk result (HasLeaves log.old.frontier log.new.frontier (log.old.frontier.leaves ++ leaf_of identity.now entry ∷ [])) }
-    ensures entries_kept { OnErr result (log.new.entries.items ≡ log.old.entries.items) }
-    ensures tables_kept { OnErr result (log.new.tables ≡ log.old.tables) }
-    ensures leaves_kept { OnErr result (IsUnchanged log.old.frontier log.new.frontier) }
+    ensures entries { OnOk result (state.new.entries.items
+        ≡ state.old.entries.items ++ entry ∷ []) }
+    ensures tables { OnOk result ((ps : List Placed) → StandsFor state.old.tables ps →
+        StandsFor state.new.tables (ps ++ placed_at entry.seqno entry.writes)) }
+    ensures base { OnOk result (state.new.tables.base ≡ state.old.tables.base) }
+    ensures leaves { OnOk result (HasLeaves state.old.frontier state.new.frontier
+        (state.old.frontier.leaves ++ leaf_of identity.now entry ∷ [])) }
+    ensures entries_kept { OnErr result (state.new.entries.items ≡ state.old.entries.items) }
+    ensures tables_kept { OnErr result (state.new.tables ≡ state.old.tables) }
+    ensures leaves_kept { OnErr result (IsUnchanged state.old.frontier state.new.frontier) }
 {
-    let body = entry.body(alloc)?;
-    let leaf = leaf_of_body(alloc, identity, &entry, &body)?;
-    log.push(entry, leaf)
+    let leaf = leaf(&entry, identity);
+    state.push(entry, leaf)
 }

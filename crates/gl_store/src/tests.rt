@@ -4,15 +4,15 @@
 ghost use Rattle.std.specs.Prelude.{◌≡◌, ◌≤◌, ◌<◌, ◌^◌, ℕ, length, true, IfOk};
 ghost use Rattle.std.specs.List.{AllByRecursion};
 ghost use Rattle.gl_store.specs.Genesis.{is_acceptable, is_genesis};
-ghost use Rattle.gl_store.specs.Kept.{IsUpTo};
-ghost use Rattle.gl_store.specs.Ledger.{IsSignedAt};
+ghost use Rattle.gl_rules.specs.Safety.{ViewsUpTo};
+ghost use Rattle.gl_store.specs.Book.{service_book};
+ghost use Rattle.gl_store.specs.Calls.{IsSignedAt};
 
 use crate::{
-    Dealing, Genesis, Members, NewMember, NewNode, Nodes, Refusal, ServiceState, ShareDigest,
-    Shares, Store, StoreError,
+    Dealing, Genesis, NewMember, NewNode, Refusal, ServiceState, ShareDigest, Store,
 };
-use gl_base::{Status, TxId};
-use gl_entry::{Bytes, Content, Digest, NodeId};
+use gl_base::{Bytes, OrNoMemory, Sequence, Status, TxId};
+use gl_entry::{Content, Digest, NodeId};
 use gl_tx::{Abort, Answer, Cause, Operation, Reply, Request};
 use gl_vmaps::{Key, MapName, Value, Write};
 use std::alloc::{AllocError, Global};
@@ -49,7 +49,8 @@ const IDENTITY: [u8; 60] = [9; 60];
 fn genesis(alloc: Global, state: ServiceState) -> Result<Genesis, AllocError>
     ensures acceptable { IfOk result (λ g. is_acceptable g ≡ true) }
     ensures fits { IfOk result (λ g. is_genesis g ≡ true) }
-    ensures endorsements { IfOk result (λ g. AllByRecursion (λ node. length node.endorsement ≤ 2 ^ 13) g.nodes) }
+    ensures endorsements { IfOk result (λ g.
+        AllByRecursion (λ node. length node.endorsement ≤ 2 ^ 13) g.nodes) }
 {
     let endorsement = Bytes::from(Vec::from_slice(alloc, &[0xaa, 0xbb])?);
     let mut nodes = Vec::new(alloc);
@@ -73,12 +74,12 @@ fn genesis(alloc: Global, state: ServiceState) -> Result<Genesis, AllocError>
     Ok(Genesis {
         state,
         identity: IDENTITY,
-        nodes: Nodes::from(nodes),
-        members: Members::from(Vec::from_slice(alloc, &[first, second])?),
+        nodes: Sequence::from(nodes),
+        members: Sequence::from(Vec::from_slice(alloc, &[first, second])?),
         dealing: Dealing {
             threshold: 1,
             secret_digest: [5; 32],
-            shares: Shares::from(Vec::from_slice(alloc, &shares)?),
+            shares: Sequence::from(Vec::from_slice(alloc, &shares)?),
         },
     })
 }
@@ -86,7 +87,7 @@ fn genesis(alloc: Global, state: ServiceState) -> Result<Genesis, AllocError>
 // The store of such a service.
 #[tactic(auto, using(crate::proofs::Bodies::small_founding))]
 fn opened(alloc: Global, state: ServiceState) -> Result<Store, AllocError>
-    ensures { IfOk result (λ s. (view : ℕ) → 2 ≤ view → IsUpTo s.ledger view) }
+    ensures { IfOk result (λ s. (view : ℕ) → 2 ≤ view → ViewsUpTo service_book view s.ledger) }
 {
     Store::opening(alloc, &genesis(alloc, state)?, NODE)
 }
@@ -106,17 +107,17 @@ fn put(alloc: Global, map: &[u8], key: &[u8], value: &[u8]) -> Result<Operation,
 }
 
 // An entry of the request, in a view in which more may follow.
-fn execute(store: &mut Store, view: u32, request: &Request) -> Result<(TxId, Reply), StoreError>
-    requires { IsUpTo store.old.ledger view }
-    ensures { (later : ℕ) → view ≤ later → IsUpTo store.new.ledger later }
+fn execute(store: &mut Store, view: u32, request: &Request) -> Result<(TxId, Reply), OrNoMemory<Refusal>>
+    requires { ViewsUpTo service_book view store.old.ledger }
+    ensures { (later : ℕ) → view ≤ later → ViewsUpTo service_book later store.new.ledger }
 {
     store.execute(view, request)
 }
 
 // A signature, in a view in which more may follow.
-fn sign(store: &mut Store, view: u32) -> Result<TxId, StoreError>
-    requires { IsUpTo store.old.ledger view }
-    ensures up_to { IsUpTo store.new.ledger view }
+fn sign(store: &mut Store, view: u32) -> Result<TxId, OrNoMemory<Refusal>>
+    requires { ViewsUpTo service_book view store.old.ledger }
+    ensures up_to { ViewsUpTo service_book view store.new.ledger }
     ensures signed { IfOk result (λ id. IsSignedAt store.new.ledger id.seqno) }
 {
     store.sign(NODE, view)
@@ -151,7 +152,8 @@ fn is_row(write: &Write, map: &[u8], key: &[u8], value: &[u8]) -> bool {
     }
 }
 
-// Whether the first entry's write with this number, from 0, sets this row, and the tables have it so.
+// Whether the first entry's write with this number, from 0, sets this row, and the tables have it
+// so.
 fn has_row(
     alloc: Global,
     store: &Store,
@@ -315,8 +317,8 @@ fn refusal_of(
     let mut store = opened(alloc, state)?;
     match execute(&mut store, 2, request) {
         Ok(_) => Ok(None),
-        Err(StoreError::Refused(refusal)) => Ok(Some(refusal)),
-        Err(StoreError::Memory) => Err(Fail::from("out of memory")),
+        Err(OrNoMemory::Fault(refusal)) => Ok(Some(refusal)),
+        Err(OrNoMemory::NoMemory) => Err(Fail::from("out of memory")),
     }
 }
 
@@ -346,7 +348,8 @@ fn refuses_closed_services_and_maps_that_are_no_applications(rt: HostRuntime) ->
     Ok(())
 }
 
-// Puts of 65,536 bytes at so many keys: of eight the body has 1,048,903 bytes, 327 more than it may.
+// Puts of 65,536 bytes at so many keys: of eight the body has 1,048,903 bytes, 327 more than it
+// may.
 fn large_puts(alloc: Global, count: u8) -> Result<Request, Fail> {
     let value = runs(alloc, &[(8, 65536)])?;
     let mut operations = Vec::new(alloc);

@@ -1,5 +1,5 @@
 use Rattle.std.proofs.Common.{arith}
-use Rattle.gl_vmaps.proofs.Names.{is_key-bytes, is_value-bytes}
+use Rattle.gl_vmaps.proofs.Bytes.{is_key-bytes, is_value-bytes}
 use Rattle.gl_store.proofs.rows.row.Goals as goal
 
 pub from_slice-requires-2 : goal.from_slice-requires-2

@@ -1,17 +1,18 @@
-use Rattle.std.proofs.Common.{◌≡◌, ◌≤◌, ◌∙◌, length, ap, sym, subst, refl, arith, rules, true}
-use Rattle.gl_base.specs.Field.{are_bytes}
+use Rattle.std.proofs.Common.{◌≡◌, ◌≤◌, ◌∙◌, length, ap, sym, subst, refl, arith, true}
+use Rattle.gl_base.specs.Bytes.{are_bytes}
 use Rattle.gl_entry.specs.Entry.{body_bytes, body_limit}
 use Rattle.gl_entry.specs.declared.entry.Entry.{Entry}
 use Rattle.gl_store.specs.Genesis.{genesis_bytes, genesis_writes}
 use Rattle.gl_store.specs.Ledger.{genesis_entry}
+use Rattle.gl_store.proofs.GenesisEntries.{request_are_bytes}
 use Rattle.gl_store.proofs.Entries.{writes_within, governance_fits, is_entry-from_fields}
 use Rattle.gl_store.proofs.store.genesis_entry.Goals as goal
 
-pub prove-unreachable-requires-2 : goal.prove-unreachable-requires-2
-prove-unreachable-requires-2 c =
+pub prove-unreachable-requires : goal.prove-unreachable-requires
+prove-unreachable-requires c =
     let g = c.args.genesis.now in
     let few : length (genesis_writes g) ≤ length (body_bytes (genesis_entry g)) = writes_within (genesis_entry g) in
-    let same : length c.as_slice-2.result.now ≡ length (genesis_writes g) = ap length (c.as_slice-2.ensures.value ∙ c.in_ok-writes.ensures) in
+    let same : length c.as_slice.result.now ≡ length (genesis_writes g) = ap length (c.as_slice.ensures.value ∙ c.in_ok-writes.ensures) in
     omega (arith, c.requires.small)
 
 pub returns-clause-made : goal.returns-clause-made
@@ -23,7 +24,8 @@ returns-clause-made c =
 
 pub returns-clause-fits : goal.returns-clause-fits
 returns-clause-fits c =
-    let recorded : are_bytes c.from-request.result ≡ true = search rules in
+    let recorded : are_bytes c.from-request.result ≡ true =
+    ap are_bytes (c.from-request.ensures ∙ c.in_ok-genesis_bytes.ensures) ∙ request_are_bytes c.args.genesis.now c.requires.fits in
     is_entry-from_fields _
-    (governance_fits 2 1 c.from-request.result c.in_ok-writes.writes _ (omega arith) (omega arith) recorded c.as_slice-2.ensures.limits c.as_slice-2.ensures.ordered refl)
+    (governance_fits 2 1 c.from-request.result c.in_ok-writes.writes _ (omega arith) (omega arith) recorded c.as_slice.ensures.limits c.as_slice.ensures.ordered refl)
     (subst (λ (e : Entry). length (body_bytes e) ≤ body_limit) (sym (returns-clause-made c)) c.requires.small)

@@ -3,7 +3,7 @@ use Rattle.gl_entry.specs.Entry.{body_bytes}
 use Rattle.gl_store.proofs.Entries.{writes_within}
 use Rattle.gl_store.proofs.store.push_entry.Goals as goal
 
-pub body-requires-clause-writes : goal.body-requires-clause-writes
-body-requires-clause-writes c =
+pub leaf-leaf-requires-clause-writes : goal.leaf-leaf-requires-clause-writes
+leaf-leaf-requires-clause-writes c =
     let few : length c.args.entry.writes ≤ length (body_bytes c.args.entry) = writes_within c.args.entry in
     omega arith

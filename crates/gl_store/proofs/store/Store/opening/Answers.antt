@@ -1,41 +1,48 @@
-use Rattle.std.proofs.Common.{◌≡◌, ap, subst, true}
+use Rattle.std.proofs.Common.{◌≡◌, ap, subst, true, arith}
 use Rattle.gl_entry.specs.Entry.{is_entry}
 use Rattle.gl_entry.specs.declared.entry.Entry.{Entry}
-use Rattle.gl_store.proofs.Keeping.{founded, founded_above, kept_opening}
+use Rattle.gl_store.proofs.Keeping.{founded, founded_below, kept_opening}
+use Rattle.gl_store.proofs.TablesLaws.{nothing_below}
 use Rattle.gl_store.proofs.store.Store.opening.Goals as goal
 
 pub signature_entry-opening-requires-clause-tree : goal.signature_entry-opening-requires-clause-tree
 signature_entry-opening-requires-clause-tree c =
-    let log = c.in_ok-log.log in
-    let new = c.push_entry.new.log in
-    let made = c.in_ok-log.ensures in
+    let log = c.in_ok-state.state in
+    let new = c.push_entry.new.state in
+    let made = c.in_ok-state.ensures in
     let pushed = c.in_ok-push_entry.ensures in
     (founded c.args.genesis.now log.entries.items new.entries.items log.tables new.tables log.frontier new.frontier c.in_ok-founding.founding
-    made.entries made.tables made.base made.peaks made.leaves c.in_ok-founding.ensures.made pushed.entries pushed.tables pushed.leaves).tree
+    made.entries made.tables made.from_start made.base made.peaks made.leaves c.in_ok-founding.ensures.made pushed.entries (record { stands = pushed.tables; base = pushed.base }) pushed.leaves).tree
 
 pub push_entry-requires-2-clause-above : goal.push_entry-requires-2-clause-above
 push_entry-requires-2-clause-above c =
     let g = c.args.genesis.now in
-    let log = c.in_ok-log.log in
-    let new = c.push_entry.new.log in
-    let made = c.in_ok-log.ensures in
+    let log = c.in_ok-state.state in
+    let new = c.push_entry.new.state in
+    let made = c.in_ok-state.ensures in
     let pushed = c.in_ok-push_entry.ensures in
-    founded_above g new.entries.items new.tables new.frontier _ c.requires.acceptable c.requires.fits
+    founded_below g new.entries.items new.tables new.frontier _ c.requires.acceptable c.requires.fits
+    (subst (λ (e : Entry). is_entry e ≡ true) c.in_ok-founding.ensures.made c.in_ok-founding.ensures.fits)
     (founded g log.entries.items new.entries.items log.tables new.tables log.frontier new.frontier c.in_ok-founding.founding
-    made.entries made.tables made.base made.peaks made.leaves c.in_ok-founding.ensures.made pushed.entries pushed.tables pushed.leaves)
+    made.entries made.tables made.from_start made.base made.peaks made.leaves c.in_ok-founding.ensures.made pushed.entries (record { stands = pushed.tables; base = pushed.base }) pushed.leaves)
     (ap (λ (e : Entry). e.seqno) c.signature_entry-opening.ensures.made)
 
 pub invariant_of-result : goal.invariant_of-result
 invariant_of-result c =
     let g = c.args.genesis.now in
-    let log = c.in_ok-log.log in
-    let first = c.push_entry.new.log in
-    let new = c.push_entry-2.new.log in
-    let made = c.in_ok-log.ensures in
+    let log = c.in_ok-state.state in
+    let first = c.push_entry.new.state in
+    let new = c.push_entry-2.new.state in
+    let made = c.in_ok-state.ensures in
     let pushed = c.in_ok-push_entry.ensures in
     let again = c.in_ok-push_entry-2.ensures in
     kept_opening g c.args.signer first.entries.items new.entries.items first.tables new.tables first.frontier new.frontier c.signature_entry-opening.result
     c.requires.acceptable c.requires.fits (subst (λ (e : Entry). is_entry e ≡ true) c.in_ok-founding.ensures.made c.in_ok-founding.ensures.fits)
     (founded g log.entries.items first.entries.items log.tables first.tables log.frontier first.frontier c.in_ok-founding.founding
-    made.entries made.tables made.base made.peaks made.leaves c.in_ok-founding.ensures.made pushed.entries pushed.tables pushed.leaves)
-    c.signature_entry-opening.ensures.made c.signature_entry-opening.ensures.fits again.entries again.tables again.leaves
+    made.entries made.tables made.from_start made.base made.peaks made.leaves c.in_ok-founding.ensures.made pushed.entries (record { stands = pushed.tables; base = pushed.base }) pushed.leaves)
+    c.signature_entry-opening.ensures.made c.signature_entry-opening.ensures.fits again.entries (record { stands = again.tables; base = again.base }) again.leaves
+
+pub push_entry-requires-clause-above : goal.push_entry-requires-clause-above
+push_entry-requires-clause-above c =
+    let one : c.in_ok-founding.founding.seqno ≡ 1 = ap (λ (e : Entry). e.seqno) c.in_ok-founding.ensures.made in
+    nothing_below c.in_ok-state.state.tables c.in_ok-founding.founding.seqno c.in_ok-state.ensures.tables (omega (arith, one))

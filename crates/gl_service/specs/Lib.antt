@@ -1,7 +1,0 @@
-pub mod Keys
-pub mod Founding
-pub mod Nodes
-pub mod Service
-pub mod Headline
-pub mod Single
-pub mod Solo

@@ -1,0 +1,13 @@
+pub mod Ids
+pub mod Numbers
+pub mod MemberKeys
+pub mod Digests
+pub mod Acceptable
+pub mod Advance
+pub mod Reports
+pub mod Sets
+pub mod Solo
+pub mod Starting
+pub mod Worlds
+pub mod Single
+pub mod Shown

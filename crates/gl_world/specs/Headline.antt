@@ -1,0 +1,15 @@
+-- What is promised of a service: over any number of nodes, whatever list of events, and all pairs
+-- of moments.
+use Rattle.std.specs.Prelude.{List}
+use Rattle.gl_rules.specs.Safety.{IsSafe}
+use Rattle.gl_store.specs.Serial.{IsSound}
+use Rattle.gl_world.specs.declared.settings.Settings.{Settings}
+use Rattle.gl_world.specs.World.{start_of, ServiceEvent}
+use Rattle.gl_store.specs.Book.{service_book}
+
+-- Of any two committed ledgers, at any nodes and moments, one is a prefix of the other. No
+-- identifier that is reported Committed is ever reported Invalid. Each committed ledger is one
+-- serial run of its requests, and its governance tables are the effect of the governance requests
+-- that it records.
+abbrev pub Headline : Settings → List ServiceEvent → Type 0
+Headline s events = IsSafe service_book IsSound (start_of s) events

@@ -1,0 +1,6 @@
+pub mod Keys
+pub mod Founding
+pub mod World
+pub mod Headline
+pub mod Single
+pub mod Solo

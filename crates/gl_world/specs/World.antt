@@ -1,0 +1,27 @@
+-- With what a service of a schedule begins, and its events, outcomes and worlds.
+use Rattle.std.specs.Prelude.{List, map}
+use Rattle.gl_rules.specs.World.{Start, Event, World}
+use Rattle.gl_rules.specs.Outcome.{Outcome}
+use Rattle.gl_entry.specs.declared.entry.Entry.{Entry}
+use Rattle.gl_tx.specs.declared.request.Operation.{Operation}
+use Rattle.gl_store.specs.Ledger.{opening_ledger}
+use Rattle.gl_store.specs.Book.{MemberRequest, Reads, Given, Unmade}
+use Rattle.gl_world.specs.declared.settings.Settings.{Settings}
+use Rattle.gl_world.specs.Founding.{numbers_from, id_of, genesis_of}
+
+-- The service of these settings begins with the opening ledger of its genesis, signed by node 1.
+abbrev pub start_of : Settings → Start Entry
+start_of s = record {
+  opening = opening_ledger (genesis_of s) (id_of s 1);
+  starting = map (id_of s) (numbers_from 1 s.starting);
+  first = id_of s 1;
+}
+
+abbrev pub ServiceEvent : Type 0
+ServiceEvent = Event (List Operation) MemberRequest Reads
+
+abbrev pub ServiceOutcome : Type 0
+ServiceOutcome = Outcome Given Unmade
+
+abbrev pub ServiceWorld : Type 0
+ServiceWorld = World Entry

@@ -2,13 +2,13 @@
 #![tactic(auto)]
 
 mod ending;
-mod loading;
+mod load;
 mod machine;
 mod outcome;
-mod playing;
-mod printing;
+mod play;
 mod program;
-mod schedules;
+mod schedule;
+mod text;
 #[cfg(test)]
 mod tests;
 

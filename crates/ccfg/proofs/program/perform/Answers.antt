@@ -1,7 +1,7 @@
 use Rattle.std.proofs.Common.{◌≡◌, refl, ap, subst, Err}
 use Rattle.std.specs.Io.KnownBytes.{Appends}
 use Rattle.gl_outside.specs.Sink.{AppendsFront}
-use Rattle.gl_service.specs.declared.settings.Settings.{Settings}
+use Rattle.gl_world.specs.declared.settings.Settings.{Settings}
 use Rattle.ccfg.specs.Schedules.{settings_of}
 use Rattle.ccfg.specs.Text.{text_of_service}
 use Rattle.ccfg.proofs.program.perform.Goals as goal

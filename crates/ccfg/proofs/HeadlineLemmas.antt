@@ -1,13 +1,11 @@
 -- The headline of what a text reads as, and the moments in which its lines are told.
-use Rattle.std.proofs.Common.{◌≡◌, ℕ, zero, suc, ◌≤◌, List, [], ◌∷◌, ◌++◌, Result, Ok, Err, IfOk, Bool, true, false, fold, length, if◌then◌else◌, refl, sym, ◌∙◌, ap, subst, arith, ◌==◌}
+use Rattle.std.proofs.Common.{◌≡◌, ℕ, zero, suc, ◌≤◌, List, [], ◌∷◌, ◌++◌, Result, Ok, Err, Bool, true, false, fold, length, if◌then◌else◌, refl, sym, ◌∙◌, ap, subst, arith, ◌==◌}
 use Rattle.gl_rules.specs.Identity.{NodeId}
 use Rattle.gl_rules.specs.World as event
 use Rattle.gl_lines.specs.declared.line.Line.{Line}
 use Rattle.gl_lines.specs.declared.line.Line.TheVariants.{Submit, Reserve, Sign, Advance, Status, Ids, Ledger}
-use Rattle.gl_lines.specs.declared.stop.ReadError.{ReadError}
 use Rattle.gl_lines.specs.declared.world.WorldLine.{WorldLine}
 use Rattle.gl_lines.specs.Reading.{first_line, lines_behind, then_read}
-use Rattle.gl_lines.specs.Stops.{ReadsAs}
 use Rattle.gl_lines.specs.Worlds.{IsSmall}
 use Rattle.gl_lines.proofs.FirstLines.{first_small}
 use Rattle.gl_world.specs.declared.settings.Settings.{Settings}
@@ -91,10 +89,12 @@ one_read given = one_if (length given == 0) _ (first (first_line given) refl)
     last : (s : Settings) → IsSingle s → (r : Result (List Line) ℕ) → OfOne (then_read r (λ lines. Ok (Service s lines)))
     last s single (Ok lines) = single
     last s single (Err number) = tt
+
     second : (w : WorldLine) (rest : List ℕ) → IsSmall w → (r : Result Settings ℕ) → service_of w ≡ r →
         OfOne (then_read r (λ settings. then_read (lines_behind rest) (λ lines. Ok (Service settings lines))))
     second w rest small (Ok s) is = last s (single_service w s small is) (lines_behind rest)
     second w rest small (Err number) is = tt
+
     first : (r : Result (WorldLine × List ℕ) ℕ) → first_line given ≡ r →
         OfOne (then_read r (λ first. then_read (service_of first.0) (λ settings. then_read (lines_behind first.1) (λ lines. Ok (Service settings lines)))))
     first (Ok (w, rest)) is = second w rest (first_small given w rest is) (service_of w) refl
@@ -117,7 +117,6 @@ tells (Ok (Service s lines)) = told_in_moments s lines
 pub tells_moments : (given : List ℕ) → TellsMoments (reads given)
 tells_moments given = tells (reads given)
 
--- what a reading gives, unless it gives none
-pub one_node_read : (given : List ℕ) (r : Result Schedule ReadError) → ReadsAs (λ (s : Schedule). s) r (reads given) → IfOk r (λ (s : Schedule). HasOneNode s)
-one_node_read given (Ok schedule) read = subst OfOne read (one_read given)
-one_node_read given (Err e) read = tt
+-- the service of a schedule that is read
+pub single_read : (text : List ℕ) (w : WorldLine) (rest : List ℕ) (s : Settings) → first_line text ≡ Ok (w, rest) → service_of w ≡ Ok s → IsSingle s
+single_read text w rest s first service = single_service w s (first_small text w rest first) service

@@ -32,8 +32,10 @@ use Rattle.ccfg.specs.declared.outcome.Outcome as outcomes
 use Rattle.ccfg.specs.Machine.{node_in, rules_outcome, IsMachine, Steps}
 use Rattle.ccfg.specs.Play.{IsIn, Tells, Extends, ExtendsFront}
 use Rattle.ccfg.specs.LineAnswers.{line_answer_text}
-use Rattle.ccfg.specs.Text.{committed_entries, held_entries, ids_text, ledger_text, new_messages, no_node_text, outcome_text, sent_text, status_text}
-use Rattle.ccfg.specs.Told.{Told, Effect, Happens, Answers, at_named, at_node, effect_of, next_text, node_named, told_effect}
+use Rattle.gl_outside.proofs.Fronts.{front_none}
+use Rattle.ccfg.proofs.ToldLemmas.{on_line}
+use Rattle.ccfg.specs.Text.{committed_entries, held_entries, ids_text, ledger_text, new_messages, no_node_text, numbered, outcome_text, sent_text, status_text}
+use Rattle.ccfg.specs.Told.{Told, Effect, Happens, Answers, at_named, at_node, effect_of, next_text, node_named, told, told_effect}
 
 -- a number is that of the one node, or names none
 pub first_named : (s : Settings) → IsSingle s → (number : ℕ) → number ≡ 1 → node_named s number ≡ Some (id_of s 1)
@@ -75,10 +77,10 @@ quiet_text s t x step n o is = subst (λ (u : Step Entry Given Unmade).
     (next_text t (outcome_text s (at t.world x u).outcome ++ sent_text t.world (at t.world x u).world) ≡ next_text t (outcome_text s o))
     × ((at t.world x u).world.nodes x ≡ n)) (sym is) (
       ap (next_text t) (
-        ap (λ (k : ℕ). outcome_text s o ++ new_messages k (length t.world.sent))
-            (ap (λ (l : List (Message Entry)). length l - length t.world.sent) (append-nil t.world.sent) ∙ nothing_new (length t.world.sent))
-            ∙ append-nil (outcome_text s o)
-      ),
+          ap (λ (k : ℕ). outcome_text s o ++ new_messages k (length t.world.sent))
+          (ap (λ (l : List (Message Entry)). length l - length t.world.sent) (append-nil t.world.sent) ∙ nothing_new (length t.world.sent))
+          ∙ append-nil (outcome_text s o)
+          ),
       ap (λ (b : Bool). if b then n else t.world.nodes x) (same_itself x),
     )
 
@@ -123,8 +125,8 @@ pub tells_reserve : (t : Told) (old new : Machine) (node : ℕ) (o : outcomes.Ou
     Steps (reserve service_book old.id (node_in old)) new o → Tells t (lines.Reserve node) old new (answer.Event o)
 tells_reserve t old new node o m one is_in step =
     let shown = shows_reserve old.settings t (node_in new) (rules_outcome o) (
-      ap (λ (n : Node Entry). reserve service_book (id_of old.settings 1) n) is_in
-      ∙ ap (λ (x : List ℕ). reserve service_book x (node_in old)) (sym m.named) ∙ step
+    ap (λ (n : Node Entry). reserve service_book (id_of old.settings 1) n) is_in
+    ∙ ap (λ (x : List ℕ). reserve service_book x (node_in old)) (sym m.named) ∙ step
     ) in
     by_effect t (lines.Reserve node) old new (answer.Event o) (Happens (event.Reserve (id_of old.settings 1)))
     (at_first old.settings m.single node one (λ x. Happens (event.Reserve x))) shown.0 shown.1
@@ -133,8 +135,8 @@ pub tells_sign : (t : Told) (old new : Machine) (node : ℕ) (o : outcomes.Outco
     Steps (sign service_book old.id (node_in old)) new o → Tells t (lines.Sign node) old new (answer.Event o)
 tells_sign t old new node o m one is_in step =
     let shown = shows_sign old.settings t (node_in new) (rules_outcome o) (
-      ap (λ (n : Node Entry). sign service_book (id_of old.settings 1) n) is_in
-      ∙ ap (λ (x : List ℕ). sign service_book x (node_in old)) (sym m.named) ∙ step
+    ap (λ (n : Node Entry). sign service_book (id_of old.settings 1) n) is_in
+    ∙ ap (λ (x : List ℕ). sign service_book x (node_in old)) (sym m.named) ∙ step
     ) in
     by_effect t (lines.Sign node) old new (answer.Event o) (Happens (event.Sign (id_of old.settings 1)))
     (at_first old.settings m.single node one (λ x. Happens (event.Sign x))) shown.0 shown.1
@@ -143,8 +145,8 @@ pub tells_advance : (t : Told) (old new : Machine) (node : ℕ) (o : outcomes.Ou
     Steps (advance service_book old.id (node_in old)) new o → Tells t (lines.Advance node) old new (answer.Event o)
 tells_advance t old new node o m one is_in step =
     let shown = shows_advance old.settings t (node_in new) (rules_outcome o) (
-      ap (λ (n : Node Entry). advance service_book (id_of old.settings 1) n) is_in
-      ∙ ap (λ (x : List ℕ). advance service_book x (node_in old)) (sym m.named) ∙ step
+    ap (λ (n : Node Entry). advance service_book (id_of old.settings 1) n) is_in
+    ∙ ap (λ (x : List ℕ). advance service_book x (node_in old)) (sym m.named) ∙ step
     ) in
     by_effect t (lines.Advance node) old new (answer.Event o) (Happens (event.Advance (id_of old.settings 1)))
     (at_first old.settings m.single node one (λ x. Happens (event.Advance x))) shown.0 shown.1
@@ -182,6 +184,16 @@ none_effect s t (lines.Ledger node) single other = at_none s single node other _
 pub tells_none : (t : Told) (line : Line) (m : Machine) → IsSingle m.settings → (node_of line ≡ 1 → ⊥) → IsIn t m → Tells t line m m answer.NoNode
 tells_none t line m single other is_in =
     by_effect t line m m answer.NoNode (Answers no_node_text) (none_effect m.settings t line single other) refl is_in
+
+-- the line that tells it
+pub line_is : (t : Told) (line : Line) (old new : Machine) (a : LineAnswer) (number : ℕ) (text : List ℕ) → Tells t line old new a → suc t.lines ≡ number →
+    text ≡ numbered number (line_answer_text old.settings (node_in new) a) → (told old.settings t line).text ≡ t.text ++ text
+line_is t line old new a number text tells is made =
+    tells.text ∙ ap (λ (n : ℕ). t.text ++ numbered n (line_answer_text old.settings (node_in new) a)) is ∙ ap (λ (l : List ℕ). t.text ++ l) (sym made)
+
+-- nothing is a front of what any line adds
+pub nothing_added : (s : Settings) (t : Told) (line : Line) (a : Option (List ℕ)) → ExtendsFront a a t.text (told s t line).text
+nothing_added s t line a = let on = on_line s t line in (on.more, on.text, front_none a on.more)
 
 -- a front of a line's text is a front of what the line adds
 pub front_in : {T E : Type 0} (r : Result T E) (a b : Option (List ℕ)) (text : List ℕ) (F G : Told → Type 0) (longer : Told → List ℕ) →

@@ -1,6 +1,7 @@
 -- What the fold over the lines of a schedule keeps.
 use Rattle.std.proofs.Common.{◌≡◌, ℕ, suc, ◌+◌, ◌<◌, List, [], ◌∷◌, ◌++◌, length, take, drop, get_or, fold, refl, sym, ◌∙◌, ap, arith, append_assoc, append-nil}
-use Rattle.std.proofs.lemmas.List.{take_more}
+use Rattle.std.proofs.lemmas.List.{take_more, take-append-drop}
+use Rattle.std.proofs.Math.Seq.{take-append_seam}
 use Rattle.std.proofs.lemmas.List.Sums.{fold-append}
 use Rattle.gl_rules.specs.World.{World, begin, after, happens, run}
 use Rattle.gl_entry.specs.declared.entry.Entry.{Entry}
@@ -59,6 +60,9 @@ on_effect : (s : Settings) (t : Told) (e : Effect) → GoesOn t (told_effect s t
 on_effect s t (Happens e) = record { later = e ∷ []; events = refl; more = _; text = refl }
 on_effect s t (Answers text) = record { later = []; events = sym (append-nil t.events); more = _; text = refl }
 
+pub on_line : (s : Settings) (t : Told) (line : Line) → GoesOn t (told s t line)
+on_line s t line = on_effect s t (effect_of s t line)
+
 on_fold : (s : Settings) (t : Told) (lines : List Line) → GoesOn t (fold (told s) t lines)
 on_fold s t [] = on_same t
 on_fold s t (line ∷ lines) =
@@ -69,7 +73,7 @@ pub on_lines : (s : Settings) (lines : List Line) (k : ℕ) → GoesOn (told_of 
 unfolding told_of
 on_lines s lines k =
     let split : fold (told s) (told_at_start s) lines ≡ fold (told s) (fold (told s) (told_at_start s) (take k lines)) (drop k lines) =
-    ap (λ (ls : List Line). fold (told s) (told_at_start s) ls) (sym (take-drop k lines)) ∙ fold-append (told s) (told_at_start s) (take k lines) (drop k lines) in
+    ap (λ (ls : List Line). fold (told s) (told_at_start s) ls) (sym (take-append-drop k lines)) ∙ fold-append (told s) (told_at_start s) (take k lines) (drop k lines) in
     rw split (on_fold s (fold (told s) (told_at_start s) (take k lines)) (drop k lines))
 
 -- the world is that of the events
@@ -102,10 +106,8 @@ made s lines = made_fold s (told_at_start s) lines (made_at_start s)
 pub told_in_moments : (s : Settings) (lines : List Line) → IsToldInMoments s lines
 told_in_moments s lines k =
     let on = on_lines s lines k in
-    let here = (told_of s (take k lines)).events in
-    (length here, made s (take k lines)
-    ∙ ap (after service_book (start_of s)) (sym (take_front here on.later) ∙ ap (take (length here)) (sym on.events)))
-  where
-    take_front : (xs ys : List ServiceEvent) → take (length xs) (xs ++ ys) ≡ xs
-    take_front [] ys = refl
-    take_front (x ∷ xs) ys = ap (λ (l : List ServiceEvent). x ∷ l) (take_front xs ys)
+    let here = (told_of s (take k lines)).events in (
+      length here,
+      made s (take k lines)
+          ∙ ap (after service_book (start_of s)) (sym (take-append_seam here on.later) ∙ ap (take (length here)) (sym on.events)),
+    )

@@ -267,7 +267,11 @@ fn refuses_what_is_no_schedule(rt: HostRuntime) -> Result<(), Fail> {
         (b"submit 1 put public:t 61 01 ;\n", 2),
     ];
     for (lines, number) in rows {
-        let first = if number == 1 { Vec::new(alloc) } else { one_open(alloc)? };
+        let first = if number == 1 {
+            Vec::new(alloc)
+        } else {
+            one_open(alloc)?
+        };
         let text = join(alloc, &[&first, lines])?;
         let (status, written) = run(alloc, &["replay"], &text)?;
         assert_eq!(rt; status, 9, "of {text:?}");

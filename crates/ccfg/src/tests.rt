@@ -39,7 +39,7 @@ fn bad_line(alloc: Global, number: usize) -> Result<Vec<u8>, AllocError> {
 }
 
 /// The words of a command line.
-fn owned(alloc: Global, words: &[&str]) -> Result<Vec<String>, AllocError> {
+fn to_words(alloc: Global, words: &[&str]) -> Result<Vec<String>, AllocError> {
     let mut held = Vec::new(alloc);
     for word in words {
         held.push(String::from_str(alloc, word)?)?;
@@ -49,16 +49,25 @@ fn owned(alloc: Global, words: &[&str]) -> Result<Vec<String>, AllocError> {
 
 /// The status of a run over a source and a sink that never fail, and what was written.
 fn run(alloc: Global, called: &[&str], text: &[u8]) -> Result<(u8, Vec<u8>), AllocError> {
-    let called = owned(alloc, called)?;
+    let called = to_words(alloc, called)?;
     let mut source = SureSource::new(text, 50);
     let mut sink = SureSink::new(alloc, 7);
     let status = top(alloc, &called, &mut source, &mut sink);
     Ok((status, sink.held))
 }
 
+/// The same, of the bytes read in pieces as large as the program takes them.
+fn run_in_large_pieces(alloc: Global, text: &[u8]) -> Result<(u8, Vec<u8>), AllocError> {
+    let called = to_words(alloc, &["replay"])?;
+    let mut source = SureSource::new(text, 65536);
+    let mut sink = SureSink::new(alloc, 50);
+    let status = top(alloc, &called, &mut source, &mut sink);
+    Ok((status, sink.held))
+}
+
 /// The same, of the bytes read in pieces of one, of whose reads one fails.
 fn run_over_failed_read(alloc: Global, text: &[u8], at: u64) -> Result<(u8, Vec<u8>), AllocError> {
-    let called = owned(alloc, &["replay"])?;
+    let called = to_words(alloc, &["replay"])?;
     let failing = [at];
     let mut source = MemSource::new(text, 1, &failing);
     let mut sink = SureSink::new(alloc, 50);
@@ -68,7 +77,7 @@ fn run_over_failed_read(alloc: Global, text: &[u8], at: u64) -> Result<(u8, Vec<
 
 /// The same, with a sink that takes each line whole, and of whose writes one fails.
 fn run_over_failed_write(alloc: Global, text: &[u8], at: u64) -> Result<(u8, Vec<u8>), AllocError> {
-    let called = owned(alloc, &["replay"])?;
+    let called = to_words(alloc, &["replay"])?;
     let failing = [at];
     let mut source = SureSource::new(text, 50);
     let mut sink = MemSink::new(alloc, 50, &failing);
@@ -232,7 +241,7 @@ fn refuses_what_is_too_large(rt: HostRuntime) -> Result<(), Fail> {
     let put = join(alloc, &[b"put public:t 61 ", &value])?;
     let more = join(alloc, &[b" ; ", &put])?.repeat(alloc, 15)?;
     let gets = b" ; get public:t 61".repeat(alloc, 15)?;
-    let text = joined(
+    let text = join(
         alloc,
         &[
             &one_open(alloc)?,
@@ -388,7 +397,7 @@ fn tells_its_limits(rt: HostRuntime) -> Result<(), Fail> {
     ];
     for (byte, count, want, due) in rows {
         let text = [byte].repeat(alloc, count)?;
-        let (status, written) = run(alloc, &["replay"], &text)?;
+        let (status, written) = run_in_large_pieces(alloc, &text)?;
         assert_eq!(rt; status, want, "of {count} bytes {byte}");
         assert_eq!(rt; written.as_slice(), due);
     }

@@ -14,8 +14,8 @@ mod store;
 
 pub use encode::state_byte;
 pub use genesis::{
-    Dealing, Genesis, GovernanceRequest, HssPublicKey, LmsPublicKey, Members, NewMember, NewNode, Nodes,
-    ServiceState, ShareDigest, Shares,
+    Dealing, Genesis, GovernanceRequest, HssPublicKey, LmsPublicKey, Members, NewMember, NewNode,
+    Nodes, ServiceState, ShareDigest, Shares,
 };
 pub use refusal::{Refusal, StoreError};
 pub use store::Store;

@@ -93,8 +93,8 @@ impl Store {
         requires endorsements { HaveShortEndorsements genesis.now.nodes }
         requires small { length (body_bytes (genesis_entry genesis.now)) ≤ body_limit }
         ensures { IfOk result (λ store. store ≡ record {
-            ledger = opening_ledger genesis.now signer;
-            commit = 2;
+          ledger = opening_ledger genesis.now signer;
+          commit = 2;
         }) }
     {
         let founding = genesis_entry(alloc, genesis)?;

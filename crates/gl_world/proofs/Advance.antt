@@ -12,7 +12,7 @@ use Rattle.gl_rules.specs.Replication.{advance, commit_to, may_commit, greatest_
 use Rattle.gl_entry.specs.Entry.{is_signature}
 use Rattle.gl_rules.specs.Log.{last_signature, seqno_with_first}
 use Rattle.gl_entry.specs.declared.entry.Entry.{Entry}
-use Rattle.gl_store.proofs.Keeping.{last_signature-push, last_signature-signed}
+use Rattle.gl_store.proofs.Signatures.{last_signature-push, last_signature-signed}
 use Rattle.gl_store.specs.Nodes.{configuration}
 use Rattle.gl_store.specs.Book.{service_book}
 use Rattle.gl_world.specs.Solo.{IsAlone}
@@ -102,7 +102,7 @@ at_other false place rest = refl
 pub greatest_alone : (x : NodeId) (n : Node Entry) (c : ℕ) → n.commit ≡ suc c → IsAlone x n.log →
     ((i : ℕ) (e : Entry) → slice_get n.log i ≡ Some e → e.view ≡ n.view) → (place : ℕ) → place ≤ length n.log →
     greatest_to_commit service_book x n place ≡ above n.commit (last_signature service_book (take place n.log))
-unfolding greatest_to_commit
+unfolding greatest_to_commit last_signature
 greatest_alone x n c is alone views zero h = sym (above_none n.commit 0 (omega arith))
 greatest_alone x n c is alone views (suc place) h =
     let e = there n.log place (omega arith) in

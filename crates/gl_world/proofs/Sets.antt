@@ -1,15 +1,14 @@
 -- The set of trusted nodes: what the genesis makes it, and that no other entry changes it.
-use Rattle.std.proofs.Common.{◌≡◌, ℕ, suc, ◌-◌, ◌<◌, ◌≤◌, List, [], ◌∷◌, ◌++◌, length, take, map, filter, Some, None, Bool, true, ◌&&◌, if◌then◌else◌, refl, sym, ◌∙◌, ap, ap₂, arith, append_assoc, length-append, ⊎_elim}
+use Rattle.std.proofs.Common.{◌≡◌, ℕ, suc, ◌<◌, ◌≤◌, List, [], ◌∷◌, ◌++◌, length, take, map, filter, Some, None, refl, sym, ◌∙◌, ap, ap₂, arith, append_assoc, length-append, ⊎_elim}
 use Rattle.std.specs.List.{AllByRecursion}
 use Rattle.std.proofs.lemmas.Bool.{cases_lt}
-use Rattle.std.specs.Cmp.Lexicographic.{slice_cmp, bytes_decides, nat_list_cmp_total}
+use Rattle.std.specs.Cmp.Lexicographic.{slice_cmp, nat_list_cmp_total}
 use Rattle.std.specs.Ordering.{nat_cmp}
 use Rattle.std.specs.FinMap as rows
 use Rattle.gl_base.specs.LittleEndian.{little_endian}
 use Rattle.gl_base.specs.Field.{with_u32_length}
 use Rattle.gl_vmaps.specs.Tables.{Tables, Rows, no_tables, wrote, wrote_all}
 use Rattle.gl_vmaps.specs.declared.write.Write.{Write}
-use Rattle.gl_store.specs.Tree.{tables_of}
 use Rattle.gl_store.specs.Genesis.{nodes_map, node_id, dealing_map, dealing_key, dealing_bytes, row, constitution_rows, member_row, node_row, service_row, genesis_rows, genesis_writes}
 use Rattle.gl_store.specs.Genesis as founding
 use Rattle.gl_store.specs.Ledger.{genesis_entry, signature_entry, opening_ledger}
@@ -17,9 +16,9 @@ use Rattle.gl_entry.specs.declared.entry.Entry.{Entry}
 use Rattle.gl_store.specs.declared.genesis.NewMember.{NewMember}
 use Rattle.gl_store.specs.declared.genesis.NewNode.{NewNode}
 use Rattle.gl_store.specs.declared.genesis.Genesis as request
-use Rattle.gl_store.proofs.Growth.{IsOutside, untouched}
+use Rattle.gl_store.proofs.Growth.{IsOutside}
 use Rattle.gl_store.proofs.TablesLaws.{tables_of-push}
-use Rattle.gl_store.proofs.Lists.{take-push, take-all}
+use Rattle.gl_store.proofs.Lists.{take-push}
 use Rattle.gl_store.specs.Nodes.{nodes_table, is_trusted, trusted_nodes, changed_set, configuration}
 use Rattle.gl_world.proofs.Lists.{take-past}
 use Rattle.gl_store.proofs.SetRows.{rows-write_set, wrote_all-append}

@@ -123,6 +123,7 @@ advanced n = (commit_to service_book n (if nat_lt n.commit (last_signature servi
 
 -- the request's entry is the third, and its signature the fourth, which is committed
 pub shown_commits : (s : Settings) → IsSingle s → s.state ≡ Open → (node_after service_book (start_of s) (shown (id_of s 1)) (id_of s 1)).commit ≡ 4
+unfolding last_signature
 shown_commits s h is =
     let x = id_of s 1 in
     let submitted = submit service_book asked (first s) in

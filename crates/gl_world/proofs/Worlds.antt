@@ -1,5 +1,5 @@
 -- The world of a service of one node: that node is alone at every moment, and no other ever changes.
-use Rattle.std.proofs.Common.{◌≡◌, ◌≢◌, ℕ, zero, suc, ◌≤◌, List, [], ◌∷◌, ◌++◌, length, take, map, Bool, false, ◌||◌, if◌then◌else◌, sym, ◌∙◌, ap, ap₂, subst, arith, append_assoc}
+use Rattle.std.proofs.Common.{◌≡◌, refl, ◌≢◌, ℕ, zero, suc, ◌≤◌, List, [], ◌∷◌, ◌++◌, length, take, map, Bool, false, ◌||◌, if◌then◌else◌, sym, ◌∙◌, ap, ap₂, subst, arith, append_assoc}
 use Rattle.gl_rules.specs.Identity.{NodeId, member}
 use Rattle.gl_rules.specs.Node.{Node}
 use Rattle.gl_rules.specs.Outcome.{Step}

@@ -6,9 +6,9 @@ use crate::outcome::{LineAnswer, Outcome, Refusal};
 use gl_base::{Status, TxId};
 use gl_entry::NodeId;
 use gl_lines::Line;
-use gl_world::{Settings, genesis, node_id};
 use gl_store::{Store, StoreError};
 use gl_tx::Request;
+use gl_world::{Settings, genesis, node_id};
 use std::alloc::{AllocError, Global};
 
 /// The view that the node leads.

@@ -8,9 +8,9 @@ mod outcome;
 mod play;
 mod program;
 mod schedule;
-mod text;
 #[cfg(test)]
 mod tests;
+mod text;
 
 use ending::Ending;
 use gl_outside::{StreamSink, StreamSource};

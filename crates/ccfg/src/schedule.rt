@@ -6,8 +6,8 @@ ghost use Rattle.ccfg.specs.Plans.{HasOneNode};
 ghost use Rattle.ccfg.specs.Schedules.{reads, service_of, settings_of};
 
 use gl_lines::{Lines, ReadError, WorldLine, read_first_line, read_lines};
-use gl_world::{Settings, has_distinct_keys};
 use gl_store::ServiceState;
+use gl_world::{Settings, has_distinct_keys};
 use std::alloc::Global;
 
 /// A schedule. One of no bytes has no service.

@@ -1,7 +1,6 @@
 -- The headline of what a text reads as, and the moments in which its lines are told.
-use Rattle.std.proofs.Common.{◌≡◌, ℕ, zero, suc, ◌≤◌, List, [], ◌∷◌, ◌++◌, Result, Ok, Err, Bool, true, false, fold, length, if◌then◌else◌, refl, sym, ◌∙◌, ap, subst, arith, ◌==◌}
+use Rattle.std.proofs.Common.{◌≡◌, ℕ, zero, suc, List, [], ◌∷◌, ◌++◌, Result, Ok, Err, Bool, true, false, fold, length, if◌then◌else◌, refl, subst, arith, ◌==◌}
 use Rattle.gl_rules.specs.Identity.{NodeId}
-use Rattle.gl_rules.specs.World as event
 use Rattle.gl_lines.specs.declared.line.Line.{Line}
 use Rattle.gl_lines.specs.declared.line.Line.TheVariants.{Submit, Reserve, Sign, Advance, Status, Ids, Ledger}
 use Rattle.gl_lines.specs.declared.world.WorldLine.{WorldLine}
@@ -18,7 +17,7 @@ use Rattle.ccfg.specs.declared.schedule.Schedule.TheVariants.{Empty, Service}
 use Rattle.ccfg.specs.Moments.{KeepsHeadline, TellsMoments}
 use Rattle.ccfg.specs.Plans.{HasOneNode}
 use Rattle.ccfg.specs.Schedules.{reads, service_of, settings_of}
-use Rattle.ccfg.specs.Told.{Told, Effect, Happens, Answers, at_named, at_node, effect_of, node_named, told, told_at_start, told_effect, told_of}
+use Rattle.ccfg.specs.Told.{Told, Effect, Happens, Answers, at_node, effect_of, told, told_at_start, told_effect, told_of}
 use Rattle.ccfg.proofs.PlayLemmas.{first_named, none_named}
 use Rattle.ccfg.proofs.ToldLemmas.{told_in_moments}
 

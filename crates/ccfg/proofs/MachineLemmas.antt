@@ -1,6 +1,5 @@
 -- The machine's steps are those of the rules.
-use Rattle.std.proofs.Common.{◌≡◌, ℕ, zero, suc, ◌+◌, ◌<◌, ◌≤◌, List, [], ◌∷◌, ◌++◌, length, Option, Some, None, Result, Ok, Err, Bool, true, false, ◌==◌, nat_lt, nat_le, if◌then◌else◌, refl, sym, ◌∙◌, ap, subst, arith}
-use Rattle.std.specs.List.{slice_get}
+use Rattle.std.proofs.Common.{◌≡◌, ℕ, zero, suc, ◌+◌, ◌<◌, ◌≤◌, List, [], length, Option, Some, None, Result, Err, Bool, true, false, ◌==◌, nat_lt, nat_le, if◌then◌else◌, refl, sym, ◌∙◌, ap, subst, arith}
 use Rattle.std.proofs.lemmas.Bool.Decides.{nat_tests}
 use Rattle.std.proofs.Math.Bool.{and-true}
 use Rattle.gl_world.proofs.Lists.{there}
@@ -15,11 +14,8 @@ use Rattle.gl_rules.specs.Log.{entry_at, is_signature_in, last_signature}
 use Rattle.gl_rules.specs.World.{leader_at_start}
 use Rattle.gl_entry.specs.Entry.{is_signature}
 use Rattle.gl_rules.specs.Safety.{ViewsUpTo}
-use Rattle.gl_base.specs.TxId.{last_seqno}
-use Rattle.gl_tx.specs.Request.{is_request}
 use Rattle.gl_store.specs.Ledger.{Held, opening_ledger}
 use Rattle.gl_store.specs.Calls.{Executes, Signs, IsSignedAt}
-use Rattle.gl_store.specs.declared.refusal.Refusal.TheVariants as refusals
 use Rattle.gl_entry.specs.declared.entry.Entry.{Entry}
 use Rattle.gl_tx.specs.declared.request.Operation.{Operation}
 use Rattle.gl_tx.specs.declared.request.Answer.{Answer}

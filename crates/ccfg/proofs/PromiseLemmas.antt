@@ -14,7 +14,7 @@ use Rattle.ccfg.specs.declared.schedule.Schedule.{Schedule}
 use Rattle.gl_lines.specs.Lines.{line_count}
 use Rattle.ccfg.specs.Schedules.{reads}
 use Rattle.ccfg.specs.Told.{text_of_schedule}
-use Rattle.ccfg.specs.Owed.{fault_line, exit_status, bytes_limit, lines_limit, Due, due_of_fault, due_of_reading, due_of, OfBytes, Writes, Run, Owes, AreWords, Answers}
+use Rattle.ccfg.specs.Owed.{fault_line, exit_status, bytes_limit, lines_limit, Due, due_of_fault, due_of_reading, due_of, OfBytes, Writes, Run, AreWords, Answers}
 use Rattle.ccfg.specs.Promises.{HasTooManyBytes, HasTooManyLines, PassesLimit, IsWithinLimits, HasBadLine, HasNoReading, ReadsAs, HasReading, WritesText, TellsLimit, TellsNoReading}
 
 first_same : (x y : List ℕ) → x ∷ [] ≡ y ∷ [] → x ≡ y

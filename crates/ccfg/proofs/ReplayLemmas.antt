@@ -1,5 +1,5 @@
 -- What a replay owes to the bytes of its source, whether the source tells them or not.
-use Rattle.std.proofs.Common.{◌≡◌, ℕ, ◌<◌, List, [], ◌++◌, length, Option, None, Some, Bool, true, nat_lt, if◌then◌else◌, IfSome, sym, ◌∙◌, ap, subst, arith, length-append}
+use Rattle.std.proofs.Common.{◌≡◌, ℕ, ◌<◌, List, [], length, Option, None, Some, Bool, true, nat_lt, if◌then◌else◌, IfSome, sym, ap, subst, arith, length-append}
 use Rattle.std.proofs.lemmas.Bool.Decides.{nat_tests}
 use Rattle.std.specs.Io.KnownBytes.{Consumes}
 use Rattle.gl_outside.specs.Sink.{AppendsFront}

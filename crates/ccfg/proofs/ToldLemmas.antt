@@ -3,13 +3,12 @@ use Rattle.std.proofs.Common.{◌≡◌, ℕ, suc, ◌+◌, ◌<◌, List, [], �
 use Rattle.std.proofs.lemmas.List.{take_more, take-append-drop}
 use Rattle.std.proofs.Math.Seq.{take-append_seam}
 use Rattle.std.proofs.lemmas.List.Sums.{fold-append}
-use Rattle.gl_rules.specs.World.{World, begin, after, happens, run}
-use Rattle.gl_entry.specs.declared.entry.Entry.{Entry}
+use Rattle.gl_rules.specs.World.{begin, after, happens, run}
 use Rattle.gl_world.specs.declared.settings.Settings.{Settings}
 use Rattle.gl_world.specs.World.{ServiceEvent, ServiceWorld, start_of}
 use Rattle.gl_store.specs.Book.{service_book}
 use Rattle.gl_lines.specs.declared.line.Line.{Line}
-use Rattle.ccfg.specs.Moments.{IsMoment, IsToldInMoments}
+use Rattle.ccfg.specs.Moments.{IsToldInMoments}
 use Rattle.ccfg.specs.Told.{Told, Effect, Happens, Answers, effect_of, told, told_at_start, told_effect, told_of}
 
 -- one line more is counted

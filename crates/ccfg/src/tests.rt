@@ -32,6 +32,13 @@ fn one_open(alloc: Global) -> Result<Vec<u8>, AllocError> {
     world(alloc, b"1 0 1 open")
 }
 
+/// A first line of these settings, and the lines behind it.
+fn schedule(alloc: Global, settings: &[u8], lines: &[u8]) -> Result<Vec<u8>, AllocError> {
+    let mut text = world(alloc, settings)?;
+    text.extend_from_slice(lines)?;
+    Ok(text)
+}
+
 /// The line that tells the first bad line.
 fn bad_line(alloc: Global, number: usize) -> Result<Vec<u8>, AllocError> {
     let text = format!(in alloc; "fault line {number}\n")?;
@@ -137,7 +144,7 @@ fn replays_schedules(rt: HostRuntime) -> Result<(), Fail> {
         ),
     ];
     for (settings, lines, due) in rows {
-        let text = join(alloc, &[&world(alloc, settings)?, lines])?;
+        let text = schedule(alloc, settings, lines)?;
         let (status, written) = run(alloc, &["replay"], &text)?;
         assert_eq!(rt; status, 0, "of {text:?}");
         assert_eq!(rt; written.as_slice(), due);
@@ -149,7 +156,7 @@ fn replays_schedules(rt: HostRuntime) -> Result<(), Fail> {
 fn reserves_no_more_than_the_key_has(rt: HostRuntime) -> Result<(), Fail> {
     let alloc = rt.alloc();
     let reserves = b"reserve 1\n".repeat(alloc, 32)?;
-    let text = join(alloc, &[&one_open(alloc)?, &reserves])?;
+    let text = schedule(alloc, b"1 0 1 open", &reserves)?;
     let (status, written) = run(alloc, &["replay"], &text)?;
     let mut due = Vec::from_slice(alloc, b"1 ok\n")?;
     for number in 2..33 {
@@ -237,6 +244,7 @@ fn runs_each_operation(rt: HostRuntime) -> Result<(), Fail> {
 #[test]
 fn refuses_what_is_too_large(rt: HostRuntime) -> Result<(), Fail> {
     let alloc = rt.alloc();
+    let first = one_open(alloc)?;
     let value = b"00".repeat(alloc, 65536)?;
     let put = join(alloc, &[b"put public:t 61 ", &value])?;
     let more = join(alloc, &[b" ; ", &put])?.repeat(alloc, 15)?;
@@ -244,7 +252,7 @@ fn refuses_what_is_too_large(rt: HostRuntime) -> Result<(), Fail> {
     let text = join(
         alloc,
         &[
-            &one_open(alloc)?,
+            &first,
             b"submit 1 ",
             &put,
             b"\nsubmit 1 ",
@@ -263,25 +271,26 @@ fn refuses_what_is_too_large(rt: HostRuntime) -> Result<(), Fail> {
 }
 
 #[test]
+fn refuses_a_first_line_that_begins_no_service(rt: HostRuntime) -> Result<(), Fail> {
+    let (status, written) = run(rt.alloc(), &["replay"], b"word\n")?;
+    assert_eq!(rt; status, 9);
+    assert_eq!(rt; written.as_slice(), b"fault line 1\n".as_slice());
+    Ok(())
+}
+
+#[test]
 fn refuses_what_is_no_schedule(rt: HostRuntime) -> Result<(), Fail> {
     let alloc = rt.alloc();
-    let rows: [(&[u8], usize); 8] = [
-        (b"world 1 0 1 open 00\n", 1),
+    let rows: [(&[u8], usize); 6] = [
         (b"\n", 2),
         (b"sign 1", 2),
-        (b"world 1 0 1 open 00\n", 2),
         (b"sign 1\nsign 1 1\nsign\n", 3),
         (b"status 1 02.3\n", 2),
         (b"submit 1 put public:t 61\n", 2),
         (b"submit 1 put public:t 61 01 ;\n", 2),
     ];
     for (lines, number) in rows {
-        let first = if number == 1 {
-            Vec::new(alloc)
-        } else {
-            one_open(alloc)?
-        };
-        let text = join(alloc, &[&first, lines])?;
+        let text = schedule(alloc, b"1 0 1 open", lines)?;
         let (status, written) = run(alloc, &["replay"], &text)?;
         assert_eq!(rt; status, 9, "of {text:?}");
         assert_eq!(rt; written.as_slice(), bad_line(alloc, number)?.as_slice());
@@ -293,8 +302,9 @@ fn refuses_what_is_no_schedule(rt: HostRuntime) -> Result<(), Fail> {
 fn takes_one_word_alone(rt: HostRuntime) -> Result<(), Fail> {
     let alloc = rt.alloc();
     let rows: [&[&str]; 5] = [&[], &[""], &["play"], &["Replay"], &["replay", "replay"]];
+    let text = one_open(alloc)?;
     for called in rows {
-        let (status, written) = run(alloc, called, &one_open(alloc)?)?;
+        let (status, written) = run(alloc, called, &text)?;
         assert_eq!(rt; status, 2, "of {called:?}");
         assert_eq!(rt; written.as_slice(), b"fault words\n".as_slice());
     }

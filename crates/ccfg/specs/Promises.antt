@@ -1,11 +1,11 @@
 -- Which bytes are a schedule, pass a limit, or have no reading; and what is then written.
 use Rattle.std.specs.Prelude.{◌≡◌, ℕ, ◌<◌, ◌≤◌, ◌⊎◌, List, Option, Ok, Err, length}
 use Rattle.std.specs.Io.KnownBytes.{Appends}
-use Rattle.ccfg.specs.declared.ending.Fault.TheVariants as faults
-use Rattle.gl_lines.specs.declared.schedule.Schedule.{Schedule}
+use Rattle.ccfg.specs.declared.ending.InputFault.TheVariants as faults
+use Rattle.ccfg.specs.declared.schedule.Schedule.{Schedule}
 use Rattle.gl_lines.specs.Lines.{line_count}
 use Rattle.ccfg.specs.Schedules.{reads}
-use Rattle.ccfg.specs.Text.{text_of_schedule}
+use Rattle.ccfg.specs.Told.{text_of_schedule}
 use Rattle.ccfg.specs.Owed.{bytes_limit, lines_limit, fault_line}
 
 abbrev pub HasTooManyBytes : List ℕ → Type 0
@@ -44,8 +44,8 @@ WritesText given held holds = (schedule : Schedule) × ReadsAs given schedule ×
 -- The bytes pass a limit, and exactly the line that names this limit was written.
 abbrev pub TellsLimit : List ℕ → Option (List ℕ) → Option (List ℕ) → Type 0
 TellsLimit given held holds =
-    (HasTooManyBytes given × Appends held holds (fault_line faults.Bytes)) ⊎ (HasTooManyLines given × Appends held holds (fault_line faults.Lines))
+    (HasTooManyBytes given × Appends held holds (fault_line faults.TooManyBytes)) ⊎ (HasTooManyLines given × Appends held holds (fault_line faults.TooManyLines))
 
 -- The bytes have no reading, and exactly the line that tells their first bad line was written.
 abbrev pub TellsNoReading : List ℕ → Option (List ℕ) → Option (List ℕ) → Type 0
-TellsNoReading given held holds = (number : ℕ) × HasBadLine given number × Appends held holds (fault_line (faults.Line number))
+TellsNoReading given held holds = (number : ℕ) × HasBadLine given number × Appends held holds (fault_line (faults.BadLine number))

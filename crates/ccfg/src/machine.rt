@@ -2,13 +2,13 @@
 
 ghost use Rattle.std.specs.Prelude.{◌≡◌, ◌≤◌, IfOk, OnErr, OnOk};
 
-use crate::outcome::{Answered, Outcome, Refusal};
+use crate::outcome::{LineAnswer, Outcome, Refusal};
 use gl_base::{Status, TxId};
 use gl_entry::NodeId;
-use gl_lines::{Command, Line};
-use gl_service::{Settings, genesis, node_id};
+use gl_lines::Line;
 use gl_store::{Store, StoreError};
 use gl_tx::Request;
+use gl_world::{Settings, genesis, node_id};
 use std::alloc::{AllocError, Global};
 
 /// The view that the node leads.
@@ -34,9 +34,12 @@ impl Machine {
     ghost use Rattle.gl_rules.specs.Replication.{advance};
     ghost use Rattle.gl_rules.specs.Safety.{reported_status};
     ghost use Rattle.gl_rules.specs.World.{leader_at_start};
-    ghost use Rattle.gl_service.specs.Single.{IsSingle};
-    ghost use Rattle.gl_service.specs.Service.{ServiceWorld, service_book, start_of};
-    ghost use Rattle.ccfg.specs.Playing.{IsIn, Prints, PrintsAt};
+    ghost use Rattle.gl_world.specs.Single.{IsSingle};
+    ghost use Rattle.gl_lines.specs.Nodes.{node_of};
+    ghost use Rattle.gl_world.specs.World.{start_of};
+    ghost use Rattle.gl_store.specs.Book.{service_book};
+    ghost use Rattle.ccfg.specs.Play.{IsIn, Tells};
+    ghost use Rattle.ccfg.specs.Told.{Told};
     ghost use Rattle.ccfg.specs.Machine.{IsMachine, GoesOn, Steps, node_in};
 
     /// The node as its service begins.
@@ -64,7 +67,6 @@ impl Machine {
         ensures steps { IfOk result (λ outcome. Steps (submit service_book request.now (node_in self.old)) self.new outcome) }
         ensures goes_on { OnOk result (GoesOn self.old self.new) }
     {
-        let _operations = request.as_slice();
         match self.store.execute(VIEW, request) {
             Ok((id, reply)) => Ok(Outcome::Accepted(id, reply)),
             Err(StoreError::Refused(why)) => Ok(Outcome::Refused(Refusal::Store(why))),
@@ -132,39 +134,42 @@ impl Machine {
         self.store.status(id)
     }
 
-    /// What a command comes to at this node.
-    fn perform(&mut self, command: &Command) -> Result<Answered, AllocError>
-        requires { IsMachine self.old }
-        ensures prints { IfOk result (λ answered. (w : ServiceWorld) → IsIn w self.old → PrintsAt w command.now self.old self.new answered) }
+    /// What a line about this node comes to.
+    fn perform(&mut self, line: &Line) -> Result<LineAnswer, AllocError>
+        requires machine { IsMachine self.old }
+        requires node { node_of line.now ≡ 1 }
+        ensures tells { IfOk result (λ answer. (t : Told) → IsIn t self.old →
+            Tells t line.now self.old self.new answer) }
         ensures goes_on { OnOk result (GoesOn self.old self.new) }
     {
-        match command {
-            Command::Submit(request) => {
+        match line {
+            Line::Submit { request, .. } => {
                 let outcome = self.submit(request)?;
-                Ok(Answered::Event(outcome))
+                Ok(LineAnswer::Event(outcome))
             }
-            Command::Reserve => Ok(Answered::Event(self.reserve())),
-            Command::Sign => {
+            Line::Reserve { .. } => Ok(LineAnswer::Event(self.reserve())),
+            Line::Sign { .. } => {
                 let outcome = self.sign()?;
-                Ok(Answered::Event(outcome))
+                Ok(LineAnswer::Event(outcome))
             }
-            Command::Advance => Ok(Answered::Event(self.advance())),
-            Command::Status(id) => Ok(Answered::Status(self.status(*id))),
-            Command::Ids => Ok(Answered::Ids),
-            Command::Ledger => Ok(Answered::Ledger),
+            Line::Advance { .. } => Ok(LineAnswer::Event(self.advance())),
+            Line::Status { id, .. } => Ok(LineAnswer::Status(self.status(*id))),
+            Line::Ids { .. } => Ok(LineAnswer::Ids),
+            Line::Ledger { .. } => Ok(LineAnswer::Ledger),
         }
     }
 
     /// What a line comes to.
-    pub fn answer(&mut self, line: &Line) -> Result<Answered, AllocError>
+    pub fn answer(&mut self, line: &Line) -> Result<LineAnswer, AllocError>
         requires { IsMachine self.old }
-        ensures prints { IfOk result (λ answered. (w : ServiceWorld) → IsIn w self.old → Prints w line.now self.old self.new answered) }
+        ensures tells { IfOk result (λ answer. (t : Told) → IsIn t self.old →
+            Tells t line.now self.old self.new answer) }
         ensures goes_on { OnOk result (GoesOn self.old self.new) }
     {
-        if line.node == 1 {
-            self.perform(&line.command)
+        if line.node() == 1 {
+            self.perform(line)
         } else {
-            Ok(Answered::NoNode)
+            Ok(LineAnswer::NoNode)
         }
     }
 }

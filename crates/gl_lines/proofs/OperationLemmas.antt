@@ -4,8 +4,8 @@ use Rattle.gl_tx.specs.declared.request.Operation.{Operation}
 use Rattle.gl_lines.specs.declared.stop.Stop.{Stop}
 use Rattle.gl_lines.specs.declared.stop.Stop.TheVariants.{Memory, NoReading}
 use Rattle.gl_lines.specs.Stops.{Stops}
-use Rattle.gl_lines.specs.Reading.{◌>>=◌, grouped, operation_of, each_operation}
-use Rattle.gl_lines.specs.Groups.{grouped_behind, group_before}
+use Rattle.gl_lines.specs.Operations.{◌>>=◌, groups_of, operation_of, each_operation}
+use Rattle.gl_lines.specs.Groups.{groups_behind, group_before}
 
 -- the operations that were read, and those to be read
 abbrev pub with_operations : List Operation → Option (List Operation) → Option (List Operation)
@@ -37,15 +37,15 @@ each_before group (Some others) = refl
 
 -- the operations behind a semicolon
 abbrev pub operations_behind : Option (List (List ℕ)) → Option (List Operation)
-operations_behind behind = grouped_behind behind >>= each_operation
+operations_behind behind = groups_behind behind >>= each_operation
 
 -- the first operation, and those behind it
-first_read : (words group : List (List ℕ)) (behind : Option (List (List ℕ))) → grouped words ≡ group_before group behind →
+first_read : (words group : List (List ℕ)) (behind : Option (List (List ℕ))) → groups_of words ≡ group_before group behind →
     operations_behind (Some words) ≡ before (operation_of group) (operations_behind behind)
-first_read words group behind e = ap (λ (r : Option (List (List (List ℕ)))). r >>= each_operation) e ∙ each_before group (grouped_behind behind)
+first_read words group behind e = ap (λ (r : Option (List (List (List ℕ)))). r >>= each_operation) e ∙ each_before group (groups_behind behind)
 
 pub step : (R : Option (List Operation)) (front front' : List Operation) (words group : List (List ℕ)) (behind : Option (List (List ℕ))) (operation : Operation) →
-    grouped words ≡ group_before group behind → operation_of group ≡ Some operation → front' ≡ front ++ operation ∷ [] →
+    groups_of words ≡ group_before group behind → operation_of group ≡ Some operation → front' ≡ front ++ operation ∷ [] →
     with_operations front (operations_behind (Some words)) ≡ R → with_operations front' (operations_behind behind) ≡ R
 step R front front' words group behind operation e reads taken so_far =
     ap (λ (f : List Operation). with_operations f (operations_behind behind)) taken
@@ -55,7 +55,7 @@ step R front front' words group behind operation e reads taken so_far =
     ∙ so_far
 
 pub stop_step : (stop : Stop) (R : Option (List Operation)) (front : List Operation) (words group : List (List ℕ)) (behind : Option (List (List ℕ))) →
-    grouped words ≡ group_before group behind → Stops stop (operation_of group) → with_operations front (operations_behind (Some words)) ≡ R → Stops stop R
+    groups_of words ≡ group_before group behind → Stops stop (operation_of group) → with_operations front (operations_behind (Some words)) ≡ R → Stops stop R
 stop_step Memory R front words group behind e stopped so_far = tt
 stop_step NoReading R front words group behind e stopped so_far =
     sym so_far

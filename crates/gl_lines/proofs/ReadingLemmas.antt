@@ -1,7 +1,7 @@
 -- Reading the lines of a schedule one after another.
 use Rattle.std.proofs.Common.{◌≡◌, ℕ, suc, ◌+◌, ◌<◌, ◌≤◌, Bool, true, false, List, [], ◌∷◌, ◌++◌, length, drop, get_or, Option, None, Some, Result, Ok, Err, refl, sym, subst, ◌∙◌, ap, append_assoc, append-nil, arith, Bor, add-one, drop-cons, if◌then◌else◌}
 use Rattle.std.proofs.Math.ListN.{drop_of_length-le}
-use Rattle.gl_lines.specs.declared.schedule.Line.{Line}
+use Rattle.gl_lines.specs.declared.line.Line.{Line}
 use Rattle.gl_lines.specs.declared.stop.Stop.{Stop}
 use Rattle.gl_lines.specs.declared.stop.Stop.TheVariants.{NoReading}
 use Rattle.gl_lines.specs.Stops.{Stops}

@@ -1,5 +1,5 @@
 -- The lines of a text. Each ends with a newline; what stands behind the last newline is an open line.
-use Rattle.std.specs.Prelude.{ℕ, ◌+◌, ◌-◌, List, [], ◌∷◌, ◌++◌, Option, None, Some, length, count_by, slice_get, Bool, nat_lt, ◌==◌, if◌then◌else◌}
+use Rattle.std.specs.Prelude.{ℕ, ◌+◌, ◌-◌, List, [], ◌∷◌, ◌++◌, Option, None, Some, length, take, drop, position, count_by, slice_get, Bool, nat_lt, ◌==◌, if◌then◌else◌}
 
 abbrev pub newline : ℕ
 newline = 10
@@ -19,7 +19,8 @@ with_line line split = record split { lines = line ∷ split.lines }
 abbrev pub lines_from : List ℕ → List ℕ → Split
 lines_from line [] = record { lines = []; open_line = line }
 lines_from line (byte ∷ bytes) =
-    if is_newline byte then with_line line (lines_from [] bytes) else lines_from (line ++ byte ∷ []) bytes
+    if is_newline byte then with_line line (lines_from [] bytes)
+    else lines_from (line ++ byte ∷ []) bytes
 
 abbrev pub lines_of : List ℕ → Split
 lines_of text = lines_from [] text
@@ -35,3 +36,18 @@ open_line_count (Some byte) = if is_newline byte then 0 else 1
 
 abbrev pub line_count : List ℕ → ℕ
 line_count text = count_by is_newline text + open_line_count (slice_get text (length text - 1))
+
+-- A text up to the first such byte, and what stands behind that byte, if the text has one.
+pub record Cut : Type 0 where
+  pub front : List ℕ
+  pub behind : Option (List ℕ)
+
+abbrev pub cut_at : List ℕ → Option ℕ → Cut
+cut_at text None = record { front = text; behind = None }
+cut_at text (Some place) = record { front = take place text; behind = Some (drop 1 (drop place text)) }
+
+abbrev pub is_byte : ℕ → ℕ → Bool
+is_byte byte other = other == byte
+
+abbrev pub cut : ℕ → List ℕ → Cut
+cut byte text = cut_at text (position (is_byte byte) text)

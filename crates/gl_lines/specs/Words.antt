@@ -4,13 +4,18 @@ use Rattle.std.specs.List.{list_all}
 use Rattle.std.specs.Cmp.Lexicographic.{pointwise}
 use Rattle.hex.specs.Hex.{decode_of, decode_sized}
 
+abbrev pub space : ℕ
+space = 32
+
 abbrev pub is_space : ℕ → Bool
-is_space byte = byte == 32
+is_space byte = byte == space
 
 -- The words of a line that goes on a word which has these bytes so far.
 abbrev pub words_from : List ℕ → List ℕ → List (List ℕ)
 words_from word [] = word ∷ []
-words_from word (byte ∷ bytes) = if is_space byte then word ∷ words_from [] bytes else words_from (word ++ byte ∷ []) bytes
+words_from word (byte ∷ bytes) =
+    if is_space byte then word ∷ words_from [] bytes
+    else words_from (word ++ byte ∷ []) bytes
 
 abbrev pub words_of : List ℕ → List (List ℕ)
 words_of line = words_from [] line
@@ -35,4 +40,5 @@ hex_sized text size = if list_all is_lower_digit text then if_ok (decode_sized t
 
 -- No bytes are spelled by a full stop.
 abbrev pub value_bytes : List ℕ → Option (List ℕ)
-value_bytes text = if is text (codes ".") then Some [] else (if length text == 0 then None else hex_bytes text)
+value_bytes text =
+    if is text (codes ".") then Some [] else (if length text == 0 then None else hex_bytes text)

@@ -5,7 +5,7 @@ ghost use Rattle.std.specs.List.{list_all};
 ghost use Rattle.gl_vmaps.specs.Name.{is_map_name, is_key, is_value};
 ghost use Rattle.gl_lines.specs.Stops.{Gives};
 ghost use Rattle.gl_lines.specs.Words.{is_lower_digit, hex_bytes, hex_sized, value_bytes};
-ghost use Rattle.gl_lines.specs.Reading.{checked, map_of, key_of, value_of, expected_of};
+ghost use Rattle.gl_lines.specs.Operations.{only_if, map_of, key_of, value_of, expected_of};
 
 use crate::stop::Stop;
 use gl_vmaps::{Key, MapName, Value};
@@ -68,8 +68,8 @@ pub(crate) fn map_of(alloc: Global, word: &[u8]) -> Result<MapName, Stop>
     }
 }
 
-fn checked_key(bytes: Vec<u8>) -> Result<Key, Stop>
-    ensures { Gives (λ x. x) result (checked is_key bytes.items) }
+fn key_from(bytes: Vec<u8>) -> Result<Key, Stop>
+    ensures { Gives (λ x. x) result (only_if is_key bytes.items) }
 {
     match Key::new(bytes) {
         Some(key) => Ok(key),
@@ -77,15 +77,15 @@ fn checked_key(bytes: Vec<u8>) -> Result<Key, Stop>
     }
 }
 
-#[tactic(auto, unfolding(crate::specs::Reading::key_of))]
+#[tactic(auto, unfolding(crate::specs::Operations::key_of))]
 pub(crate) fn key_of(alloc: Global, word: &[u8]) -> Result<Key, Stop>
     ensures { Gives (λ x. x) result (key_of word.now) }
 {
-    checked_key(hex_bytes(alloc, word)?)
+    key_from(hex_bytes(alloc, word)?)
 }
 
-fn checked_value(bytes: Vec<u8>) -> Result<Value, Stop>
-    ensures { Gives (λ x. x) result (checked is_value bytes.items) }
+fn value_from(bytes: Vec<u8>) -> Result<Value, Stop>
+    ensures { Gives (λ x. x) result (only_if is_value bytes.items) }
 {
     match Value::new(bytes) {
         Some(value) => Ok(value),
@@ -93,15 +93,15 @@ fn checked_value(bytes: Vec<u8>) -> Result<Value, Stop>
     }
 }
 
-#[tactic(auto, unfolding(crate::specs::Reading::value_of))]
+#[tactic(auto, unfolding(crate::specs::Operations::value_of))]
 pub(crate) fn value_of(alloc: Global, word: &[u8]) -> Result<Value, Stop>
     ensures { Gives (λ x. x) result (value_of word.now) }
 {
-    checked_value(value_bytes(alloc, word)?)
+    value_from(value_bytes(alloc, word)?)
 }
 
 /// A value, or none where the word is a hyphen.
-#[tactic(auto, unfolding(crate::specs::Reading::expected_of))]
+#[tactic(auto, unfolding(crate::specs::Operations::expected_of))]
 pub(crate) fn expected_of(alloc: Global, word: &[u8]) -> Result<Option<Value>, Stop>
     ensures { Gives (λ x. x) result (expected_of word.now) }
 {

@@ -5,7 +5,7 @@ ghost use Rattle.std.specs.Option.{option_copied, option_map};
 ghost use Rattle.gl_lines.specs.Stops.{Gives};
 ghost use Rattle.gl_lines.specs.Groups.{group_before};
 ghost use Rattle.gl_lines.specs.Parts.{bytes_of};
-ghost use Rattle.gl_lines.specs.Reading.{row_of, put_of, add_of, check_of, follow_of, arity, operation_of_two, operation_of_three, size_of, operation_of, grouped, operations_of};
+ghost use Rattle.gl_lines.specs.Operations.{row_of, put_of, add_of, check_of, follow_of, arity, operation_of_two, operation_of_three, size_of, operation_of, groups_of, operations_of};
 
 use crate::names::{expected_of, key_of, map_of, value_of};
 use crate::numbers::amount_of;
@@ -14,7 +14,7 @@ use gl_tx::Operation;
 use gl_vmaps::{Key, MapName};
 use std::alloc::Global;
 
-#[tactic(auto, unfolding(crate::specs::Reading::row_of))]
+#[tactic(auto, unfolding(crate::specs::Operations::row_of))]
 fn row_of(alloc: Global, map: &[u8], key: &[u8]) -> Result<(MapName, Key), Stop>
     ensures { Gives (λ x. (x.0, x.1)) result (row_of map.now key.now) }
 {
@@ -23,7 +23,7 @@ fn row_of(alloc: Global, map: &[u8], key: &[u8]) -> Result<(MapName, Key), Stop>
     Ok((map, key))
 }
 
-#[tactic(auto, unfolding(crate::specs::Reading::put_of))]
+#[tactic(auto, unfolding(crate::specs::Operations::put_of))]
 fn put_of(alloc: Global, map: &[u8], key: &[u8], value: &[u8]) -> Result<Operation, Stop>
     ensures { Gives (λ x. x) result (put_of map.now key.now value.now) }
 {
@@ -32,7 +32,7 @@ fn put_of(alloc: Global, map: &[u8], key: &[u8], value: &[u8]) -> Result<Operati
     Ok(Operation::Put { map, key, value })
 }
 
-#[tactic(auto, unfolding(crate::specs::Reading::add_of))]
+#[tactic(auto, unfolding(crate::specs::Operations::add_of))]
 fn add_of(alloc: Global, map: &[u8], key: &[u8], amount: &[u8]) -> Result<Operation, Stop>
     ensures { Gives (λ x. x) result (add_of map.now key.now amount.now) }
 {
@@ -43,7 +43,7 @@ fn add_of(alloc: Global, map: &[u8], key: &[u8], amount: &[u8]) -> Result<Operat
     }
 }
 
-#[tactic(auto, unfolding(crate::specs::Reading::check_of))]
+#[tactic(auto, unfolding(crate::specs::Operations::check_of))]
 fn check_of(alloc: Global, map: &[u8], key: &[u8], expected: &[u8]) -> Result<Operation, Stop>
     ensures { Gives (λ x. x) result (check_of map.now key.now expected.now) }
 {
@@ -52,7 +52,7 @@ fn check_of(alloc: Global, map: &[u8], key: &[u8], expected: &[u8]) -> Result<Op
     Ok(Operation::Check { map, key, expected })
 }
 
-#[tactic(auto, unfolding(crate::specs::Reading::follow_of))]
+#[tactic(auto, unfolding(crate::specs::Operations::follow_of))]
 fn follow_of(alloc: Global, map: &[u8], key: &[u8], target: &[u8]) -> Result<Operation, Stop>
     ensures { Gives (λ x. x) result (follow_of map.now key.now target.now) }
 {
@@ -109,7 +109,7 @@ fn operation_of_three(
 }
 
 /// The operation of a name and the words behind it.
-#[tactic(auto, unfolding(crate::specs::Reading::operation_of))]
+#[tactic(auto, unfolding(crate::specs::Operations::operation_of))]
 fn operation_of(alloc: Global, words: &[&[u8]]) -> Result<Operation, Stop>
     ensures { Gives (λ x. x) result (operation_of (bytes_of words.now)) }
 {
@@ -147,8 +147,8 @@ fn arity(name: &[u8]) -> Option<usize>
 /// does. `None` where the words are those of no operations.
 fn first_group<'a, 'b>(words: &'a [&'b [u8]]) -> Option<(&'a [&'b [u8]], Option<&'a [&'b [u8]]>)>
     ensures group { MatchOption result
-        (grouped (bytes_of words.now) ≡ None)
-        (λ x. grouped (bytes_of words.now)
+        (groups_of (bytes_of words.now) ≡ None)
+        (λ x. groups_of (bytes_of words.now)
         ≡ group_before (bytes_of x.0.now) (option_map bytes_of (option_copied x.1))) }
     ensures fewer { IfSome result (λ x. IfSome x.1 (λ rest. length rest.now < length words.now)) }
 {

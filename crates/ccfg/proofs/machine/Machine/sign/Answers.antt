@@ -23,10 +23,10 @@ pub returns-in-Err-Refused-clause-steps : goal.returns-in-Err-Refused-clause-ste
 returns-in-Err-Refused-clause-steps c =
     (sign_refused c.args.self.now c.sign.new.self c.in-Err-Refused.why c.requires (λ p. absurd (omega (arith, p, c.if-self.false)))
     (λ p. c.if-last_signature-len.false (omega (arith, p, c.ledger_len-len.ensures.len, c.last_signature.ensures)))
-    (rw c.in-Err-Refused.field-0-is at c.in-Err-Refused.ensures.refused) c.in-Err-Refused.ensures.err).0
+    (λ leaf. rw c.in-Err-Refused.field-0-is at c.in-Err-Refused.ensures.refused leaf) c.in-Err-Refused.ensures.err).0
 
 pub returns-in-Err-Refused-clause-goes_on : goal.returns-in-Err-Refused-clause-goes_on
 returns-in-Err-Refused-clause-goes_on c =
     (sign_refused c.args.self.now c.sign.new.self c.in-Err-Refused.why c.requires (λ p. absurd (omega (arith, p, c.if-self.false)))
     (λ p. c.if-last_signature-len.false (omega (arith, p, c.ledger_len-len.ensures.len, c.last_signature.ensures)))
-    (rw c.in-Err-Refused.field-0-is at c.in-Err-Refused.ensures.refused) c.in-Err-Refused.ensures.err).1
+    (λ leaf. rw c.in-Err-Refused.field-0-is at c.in-Err-Refused.ensures.refused leaf) c.in-Err-Refused.ensures.err).1

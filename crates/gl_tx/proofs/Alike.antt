@@ -1,5 +1,5 @@
 -- A run rests on nothing but what it asks for.
-use Rattle.std.proofs.Common.{◌≡◌, ℕ, suc, ◌+◌, ◌-◌, List, [], ◌∷◌, ◌++◌, Option, None, Some, Result, Ok, Err, Bool, true, false, not, ◌&&◌, refl, sym, ap, ◌∙◌, subst, cond, find, is_some, count_by}
+use Rattle.std.proofs.Common.{◌≡◌, ℕ, suc, ◌+◌, ◌-◌, List, [], ◌∷◌, ◌++◌, Option, None, Some, Result, Ok, Err, Bool, true, false, not, ◌&&◌, refl, sym, ap, ◌∙◌, cond, is_some}
 use Rattle.std.specs.Option.{is_none}
 use Rattle.std.specs.List.{list_all}
 use Rattle.std.proofs.lemmas.Bool.{and_parts}
@@ -10,11 +10,10 @@ use Rattle.gl_vmaps.specs.Versions.{is_to_map}
 use Rattle.gl_vmaps.specs.declared.write.Write.{Write}
 use Rattle.gl_vmaps.specs.Growth.{gains, loses, gained, lost}
 use Rattle.gl_vmaps.specs.LastWrite.{value_behind}
-use Rattle.gl_tx.specs.Sees.{Sees, write_to, has_key, behind}
+use Rattle.gl_tx.specs.Sees.{Sees, write_to, behind}
 use Rattle.gl_tx.specs.Run.{answer_only, answer_and_write, yes_or_no, value_or_none, add_result, is_expected, check_result, follow_result, bar_on, unless_barred, on_seen, perform_result, with_answer, goes_on, run_from, with_writes}
 use Rattle.gl_tx.specs.Asks.{row_asks, rows_written, key_asks, allowed_asks, asks_unless_barred, asks_of, asks_behind, asks_from}
 use Rattle.gl_tx.specs.declared.perform.Performed.{Performed}
-use Rattle.gl_tx.specs.declared.abort.Abort.{Abort}
 use Rattle.gl_tx.specs.declared.abort.Cause.{Cause}
 use Rattle.gl_tx.specs.declared.abort.Cause.TheVariants as causes
 use Rattle.gl_tx.specs.declared.request.Answer.TheVariants as answers

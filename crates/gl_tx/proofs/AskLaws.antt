@@ -1,14 +1,12 @@
 -- The first ask that isn't noted, part by part.
-use Rattle.std.proofs.Common.{◌≡◌, ℕ, suc, ◌+◌, ◌<◌, subst, add-one, length, drop, drop-cons, get_or, List, [], ◌∷◌, ◌++◌, Option, None, Some, Result, Ok, Err, Bool, true, false, not, ◌&&◌, ◌||◌, refl, sym, ap, ◌∙◌, cond, find, is_some}
+use Rattle.std.proofs.Common.{◌≡◌, ℕ, suc, ◌+◌, ◌<◌, subst, add-one, length, drop, drop-cons, get_or, List, [], ◌∷◌, ◌++◌, Option, None, Some, Bool, true, false, not, ◌&&◌, ◌||◌, refl, sym, ap, ◌∙◌, cond, is_some}
 use Rattle.std.specs.Option.{option_or}
 use Rattle.std.proofs.lemmas.List.Folds.{find-append}
-use Rattle.gl_vmaps.specs.Name.{is_key}
 use Rattle.gl_vmaps.specs.Versions.{is_to_map}
 use Rattle.gl_vmaps.specs.declared.write.Write.{Write}
 use Rattle.gl_tx.specs.Sees.{Sees, write_to, behind}
 use Rattle.gl_tx.specs.Run.{perform_result, with_writes}
-use Rattle.gl_tx.specs.Asks.{row_asks, rows_written, key_asks, asks_of, asks_behind, asks_from, is_noted, sees_by, first_unnoted}
-use Rattle.gl_tx.specs.declared.abort.Cause.{Cause}
+use Rattle.gl_tx.specs.Asks.{row_asks, rows_written, asks_of, asks_behind, asks_from, is_noted, sees_by, first_unnoted}
 use Rattle.gl_tx.specs.declared.notes.Ask.{Ask}
 use Rattle.gl_tx.specs.declared.notes.Ask.TheVariants as asks
 use Rattle.gl_tx.specs.declared.notes.Note.{Note}

@@ -1,5 +1,5 @@
 -- An attempt that meets no conflict runs on what it noted.
-use Rattle.std.proofs.Common.{◌≡◌, ℕ, ◌+◌, ◌<◌, ◌≤◌, nat_lt, max, List, [], ◌∷◌, ◌++◌, Option, None, Some, Result, Ok, Err, IfOk, Bool, true, false, not, ◌&&◌, refl, sym, ap, ◌∙◌, subst, cond, find, is_some, arith}
+use Rattle.std.proofs.Common.{◌≡◌, ℕ, ◌<◌, ◌≤◌, nat_lt, max, List, [], ◌∷◌, ◌++◌, Option, None, Some, Result, Ok, Err, IfOk, Bool, true, false, not, ◌&&◌, refl, sym, ap, ◌∙◌, subst, cond, find, is_some, arith}
 use Rattle.std.specs.List.{list_all, AllByRecursion}
 use Rattle.std.proofs.lemmas.Bool.{and_parts, and_from}
 use Rattle.std.proofs.lemmas.Bool.Decides.{nat_tests}
@@ -8,14 +8,14 @@ use Rattle.gl_base.specs.Answers.{Answers}
 use Rattle.gl_base.specs.declared.or_no_memory.OrNoMemory.{OrNoMemory}
 use Rattle.gl_vmaps.specs.Kept.{Kept}
 use Rattle.gl_vmaps.specs.Standing.{StandsFor}
-use Rattle.gl_vmaps.specs.Tables.{Tables, no_tables, same_bytes, with_row, wrote, value_in, size_of}
-use Rattle.gl_vmaps.specs.Versions.{Placed, written_by, written_behind, is_to_map, is_to_row, greatest_place, version_in, map_version_in}
+use Rattle.gl_vmaps.specs.Tables.{Tables, no_tables, same_bytes, with_row, wrote, value_in}
+use Rattle.gl_vmaps.specs.Versions.{Placed, written_by, written_behind, is_to_map, is_to_row, greatest_place}
 use Rattle.gl_vmaps.specs.declared.write.Write.{Write}
 use Rattle.gl_vmaps.proofs.StandingLaws.{version_of-stands, map_version_of-stands}
 use Rattle.gl_vmaps.proofs.TablesLaws.{same_bytes-eq, value_in-wrote, written_behind-append}
-use Rattle.gl_tx.specs.Sees.{Sees, sees_in, sees_of}
+use Rattle.gl_tx.specs.Sees.{Sees, sees_in}
 use Rattle.gl_tx.specs.Run.{run_seeing}
-use Rattle.gl_tx.specs.Asks.{is_of_row, is_of_map, note_on, is_noted, value_in_note, size_in_note, sees_by, asks_from, first_unnoted, next_ask, note_of, ask_of}
+use Rattle.gl_tx.specs.Asks.{is_of_row, is_of_map, is_noted, value_in_note, size_in_note, sees_by, asks_from, next_ask}
 use Rattle.gl_tx.specs.Attempt.{State, next_of, Versioned, versioned_by, versioned_of, changed_at, conflict_at, conflict_of, is_rolled_back, rolled_back_between, unless_conflict, run_answer, finish_result, IsSeen, IsNotedSince}
 use Rattle.gl_tx.specs.declared.abort.Abort.{Abort}
 use Rattle.gl_tx.specs.declared.conflict.Conflict.{Conflict}

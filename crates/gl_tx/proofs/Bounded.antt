@@ -1,22 +1,21 @@
 -- However long a request is fetched for, at most 128 notes are made: two for each of its operations.
-use Rattle.std.proofs.Common.{◌≡◌, ◌⊎◌, inl, inr, ℕ, zero, suc, ◌+◌, ◌*◌, ◌≤◌, List, [], ◌∷◌, ◌++◌, Option, None, Some, Result, Ok, Err, Bool, true, false, not, ◌&&◌, refl, sym, ap, ◌∙◌, subst, cond, find, is_some, length, map, arith, length-append, append_assoc}
+use Rattle.std.proofs.Common.{◌≡◌, ◌⊎◌, inl, inr, ℕ, suc, ◌*◌, ◌≤◌, List, [], ◌∷◌, ◌++◌, Option, None, Some, Result, Ok, Err, Bool, true, false, not, ◌&&◌, refl, sym, ap, ◌∙◌, subst, cond, find, is_some, length, map, arith, length-append, append_assoc}
 use Rattle.std.specs.List.{list_all}
 use Rattle.std.specs.Option.{option_or}
 use Rattle.std.proofs.lemmas.List.{append-nil}
 use Rattle.std.specs.declared.cmp.Ordering.{Ordering}
 use Rattle.std.specs.declared.cmp.Ordering.TheVariants.{Less, Equal, Greater}
 use Rattle.std.proofs.lemmas.Bool.{and_parts, and_from}
-use Rattle.std.proofs.lemmas.List.Folds.{list_all-append, find-append}
+use Rattle.std.proofs.lemmas.List.Folds.{find-append}
 use Rattle.gl_vmaps.specs.Name.{is_key}
 use Rattle.gl_vmaps.specs.Tables.{same_bytes}
 use Rattle.gl_vmaps.specs.Versions.{is_to_map}
 use Rattle.gl_vmaps.specs.Writes.{write_order, put_before, with_write}
 use Rattle.gl_vmaps.specs.declared.write.Write.{Write}
 use Rattle.gl_vmaps.proofs.TablesLaws.{same_bytes-itself, same_bytes-eq}
-use Rattle.gl_tx.specs.Request.{is_count}
 use Rattle.gl_tx.specs.Sees.{Sees, write_to, behind}
 use Rattle.gl_tx.specs.Run.{bar_on, perform_result, with_writes}
-use Rattle.gl_tx.specs.Asks.{row_asks, rows_written, key_asks, allowed_asks, asks_unless_barred, asks_of, asks_behind, asks_from, is_of_row, is_of_map, note_on, is_noted, value_in_note, size_in_note, sees_by, first_unnoted, next_ask, ask_of, AreAskedBehind, AreAsked}
+use Rattle.gl_tx.specs.Asks.{row_asks, rows_written, key_asks, allowed_asks, asks_unless_barred, asks_of, asks_behind, asks_from, is_of_row, is_of_map, note_on, is_noted, value_in_note, size_in_note, sees_by, next_ask, ask_of, AreAskedBehind, AreAsked}
 use Rattle.gl_tx.specs.declared.perform.Performed.{Performed}
 use Rattle.gl_tx.specs.declared.abort.Cause.{Cause}
 use Rattle.gl_tx.specs.declared.notes.Ask.{Ask}
@@ -25,7 +24,7 @@ use Rattle.gl_tx.specs.declared.notes.Note.{Note}
 use Rattle.gl_tx.specs.declared.notes.Note.TheVariants as notes
 use Rattle.gl_tx.specs.declared.request.Operation.{Operation}
 use Rattle.gl_tx.specs.declared.request.Operation.TheVariants.{Get, Has, Put, Remove, Add, Check, Follow, Size}
-use Rattle.gl_tx.proofs.Alike.{IsSameAt, AreAlike, value-alike, perform_result-alike, asks_of-alike}
+use Rattle.gl_tx.proofs.Alike.{AreAlike, value-alike, perform_result-alike, asks_of-alike}
 use Rattle.gl_tx.proofs.Written.{row_of, own_ask, OwnRow, WritesOwn, perform_result-own}
 
 -- ---- lists whose elements differ, all among others, are no longer than those

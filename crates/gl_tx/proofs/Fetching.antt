@@ -1,8 +1,8 @@
 -- One more note keeps an attempt under way.
-use Rattle.std.proofs.Common.{◌≡◌, ◌≤◌, List, [], ◌∷◌, ◌++◌, Option, Some, None, Result, Ok, Err, OnOk, OnErr, refl, sym, ap, ◌∙◌, subst, length}
+use Rattle.std.proofs.Common.{◌≡◌, ◌≤◌, List, [], ◌∷◌, ◌++◌, Some, refl, sym, ap, ◌∙◌, length}
 use Rattle.gl_tx.specs.Sees.{Sees}
 use Rattle.gl_tx.specs.Asks.{next_ask, note_of, ask_of}
-use Rattle.gl_tx.specs.Attempt.{State, IsUnderWay, next_of, notes_with, with_fetch, fetch_answer}
+use Rattle.gl_tx.specs.Attempt.{IsUnderWay}
 use Rattle.gl_tx.specs.declared.notes.Ask.{Ask}
 use Rattle.gl_tx.specs.declared.notes.Ask.TheVariants as asks
 use Rattle.gl_tx.specs.declared.notes.Note.{Note}

@@ -5,7 +5,7 @@ use Rattle.std.proofs.lemmas.Bool.{and_parts, leb-true}
 use Rattle.gl_base.specs.LittleEndian.{little_endian}
 use Rattle.std.specs.Char.{is_ascii_graphic}
 use Rattle.gl_base.proofs.LittleEndianLaws.{length-little_endian}
-use Rattle.gl_vmaps.specs.Name.{map_name_limit, key_limit, value_limit, are_bytes, is_map_name, is_key, is_value}
+use Rattle.gl_vmaps.specs.Name.{are_bytes, is_map_name, is_key, is_value}
 use Rattle.gl_vmaps.specs.Writes.{is_written_value}
 use Rattle.gl_base.specs.Row.{map_name_bytes, key_bytes, value_bytes, optional_value_bytes}
 use Rattle.gl_base.proofs.ByteLists.{AreBytes}

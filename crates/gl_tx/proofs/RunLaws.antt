@@ -1,5 +1,5 @@
 -- A run as far as it has come, and what is left of it.
-use Rattle.std.proofs.Common.{◌≡◌, ℕ, suc, ◌+◌, ◌<◌, List, [], ◌∷◌, ◌++◌, Result, Ok, Err, refl, sym, ◌∙◌, ap, length, drop, drop-cons, get_or, add-one}
+use Rattle.std.proofs.Common.{◌≡◌, ℕ, suc, ◌+◌, ◌<◌, List, ◌∷◌, ◌++◌, Result, Ok, Err, sym, ◌∙◌, ap, length, drop, drop-cons, get_or, add-one}
 use Rattle.gl_tx.specs.Sees.{Sees}
 use Rattle.gl_vmaps.specs.declared.write.Write.{Write}
 use Rattle.gl_tx.specs.Run.{run_from}

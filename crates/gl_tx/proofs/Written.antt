@@ -1,5 +1,5 @@
 -- What a run writes: rows that its operations name, in maps that a request may name.
-use Rattle.std.proofs.Common.{◌≡◌, ℕ, suc, ◌+◌, ◌^◌, nat_lt, List, [], ◌∷◌, Option, None, Some, Result, Ok, Err, Bool, true, false, not, ◌||◌, ◌==◌, refl, sym, ap, ◌∙◌, subst, cond, is_some, length}
+use Rattle.std.proofs.Common.{◌≡◌, ℕ, suc, ◌+◌, ◌^◌, nat_lt, List, [], ◌∷◌, Option, None, Some, Result, Ok, Err, Bool, true, false, not, ◌||◌, ◌==◌, refl, sym, ap, subst, cond, length}
 use Rattle.std.specs.List.{AllByRecursion}
 use Rattle.std.specs.declared.cmp.Ordering.{Ordering}
 use Rattle.std.specs.declared.cmp.Ordering.TheVariants.{Less, Equal, Greater}
@@ -7,8 +7,8 @@ use Rattle.gl_base.specs.LittleEndian.{little_endian, from_little_endian}
 use Rattle.gl_vmaps.specs.Name.{is_key, is_public, is_governance, is_internal}
 use Rattle.gl_vmaps.specs.Writes.{write_order, put_before, with_write}
 use Rattle.gl_vmaps.specs.declared.write.Write.{Write}
-use Rattle.gl_tx.specs.Sees.{Sees, has_key, behind}
-use Rattle.gl_tx.specs.Run.{answer_only, answer_and_write, yes_or_no, value_or_none, sum_result, add_result, is_expected, check_result, follow_result, bar_on_map, bar_on_either, bar_on, unless_barred, on_seen, perform_result, with_answer, goes_on, run_from, run_seeing, with_writes}
+use Rattle.gl_tx.specs.Sees.{Sees, behind}
+use Rattle.gl_tx.specs.Run.{answer_only, answer_and_write, value_or_none, sum_result, add_result, is_expected, check_result, follow_result, bar_on_map, bar_on_either, bar_on, unless_barred, on_seen, perform_result, with_answer, goes_on, run_from, run_seeing, with_writes}
 use Rattle.gl_tx.specs.declared.perform.Performed.{Performed}
 use Rattle.gl_tx.specs.declared.runs.Ran.{Ran}
 use Rattle.gl_tx.specs.declared.abort.Abort.{Abort}

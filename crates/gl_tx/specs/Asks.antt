@@ -1,5 +1,5 @@
 -- What a run asks of tables, in order, and how far it comes with what is noted of them.
-use Rattle.std.specs.Prelude.{◌≡◌, ℕ, ◌^◌, List, [], ◌∷◌, ◌++◌, Option, None, Some, Result, Ok, Err, Bool, true, false, not, ◌&&◌, is_some, find, nat_lt, slice_get, take, if◌then◌else◌}
+use Rattle.std.specs.Prelude.{◌≡◌, ℕ, ◌^◌, List, [], ◌∷◌, ◌++◌, Option, None, Some, Result, Ok, Err, Bool, true, false, not, ◌&&◌, is_some, find, nat_lt, if◌then◌else◌}
 use Rattle.gl_vmaps.specs.Name.{is_key}
 use Rattle.gl_vmaps.specs.Tables.{same_bytes}
 use Rattle.gl_vmaps.specs.Versions.{is_to_map}

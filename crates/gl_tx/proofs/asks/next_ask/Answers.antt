@@ -1,5 +1,5 @@
 -- All that the operations so far ask for is noted; the next one asks, or fails, or the run goes on behind it.
-use Rattle.std.proofs.Common.{◌≡◌, ◌+◌, ◌≤◌, Bool, List, Some, true, false, ap, sym, ◌∙◌, subst, cond, [], drop, length, rules, arith}
+use Rattle.std.proofs.Common.{◌≡◌, ◌+◌, Bool, List, true, false, ap, sym, ◌∙◌, subst, cond, [], drop, rules, arith}
 use Rattle.gl_tx.specs.Asks.{asks_of, asks_from, sees_by, first_unnoted, next_ask}
 use Rattle.gl_tx.specs.declared.notes.Note.{Note}
 use Rattle.gl_tx.proofs.AskLaws.{next_found, next_step}

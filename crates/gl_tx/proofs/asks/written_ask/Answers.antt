@@ -2,7 +2,6 @@
 use Rattle.std.proofs.Common.{◌≡◌, ℕ, List, Some, true, false, ap, sym, ◌∙◌, rules}
 use Rattle.gl_vmaps.specs.Versions.{is_to_map}
 use Rattle.gl_tx.specs.Asks.{is_noted}
-use Rattle.gl_tx.specs.declared.notes.Ask.{Ask}
 use Rattle.gl_tx.specs.declared.notes.Ask.TheVariants as asks
 use Rattle.gl_tx.proofs.AskLaws.{written_found}
 use Rattle.gl_tx.proofs.asks.written_ask.Goals as goal

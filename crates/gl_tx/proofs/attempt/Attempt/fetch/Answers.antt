@@ -1,7 +1,6 @@
 -- A note of what is asked for next keeps the attempt under way, and so its notes few.
-use Rattle.std.proofs.Common.{◌≡◌, ◌≤◌, List, Some, length, subst, sym, ◌∙◌}
+use Rattle.std.proofs.Common.{◌≤◌, List, length, subst, sym, ◌∙◌}
 use Rattle.gl_tx.specs.Sees.{sees_of}
-use Rattle.gl_tx.specs.Asks.{next_ask, note_of}
 use Rattle.gl_tx.specs.Attempt.{State, IsUnderWay}
 use Rattle.gl_tx.specs.declared.notes.Note.{Note}
 use Rattle.gl_tx.proofs.Fetching.{IsUnderWay-push, length-under_way}

@@ -25,10 +25,15 @@ abbrev pub evidence_text : List ℕ → TxId → List ℕ
 evidence_text identity id =
     codes "ce:" ++ text_of id ++ codes ":" ++ encode_lower (evidence_digest identity id)
 
--- The leaf: a digest of the digest of the body, the digest of the evidence, and the claims.
+-- The leaf of its components: the digest of the digest of a body, the digest of a commit evidence, and
+-- claims.
+abbrev pub leaf_of_components : List ℕ → List ℕ → List ℕ → List ℕ
+leaf_of_components body evidence claims = sha256 (body ++ evidence ++ claims)
+
+-- The leaf of an entry.
 abbrev pub leaf_of : List ℕ → Entry → List ℕ
 leaf_of identity e =
-    sha256 (sha256 (body_bytes e) ++ sha256 (evidence_text identity (id_of e)) ++ e.claims)
+    leaf_of_components (sha256 (body_bytes e)) (sha256 (evidence_text identity (id_of e))) e.claims
 
 -- The hasher was fed with these bytes behind what it held.
 abbrev pub Feeds : Sha256 → Sha256 → List ℕ → Type 0

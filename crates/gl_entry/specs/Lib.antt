@@ -1,4 +1,5 @@
 pub mod Entry
 pub mod Leaf
 pub mod Reading
+pub mod SignedMessage
 pub mod Stream

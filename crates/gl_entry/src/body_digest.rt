@@ -82,20 +82,23 @@ fn feed_writes(hasher: &mut Sha256, writes: &[Write])
     }
 }
 
-#[tactic(auto, unfolding(gl_base::specs::LittleEndian::little_endian))]
-pub(crate) fn body_digest(entry: &Entry) -> Digest
-    requires recorded { length (content_bytes entry.now.content) < 2 ^ 32 }
-    requires writes { length entry.now.writes < 2 ^ 32 }
-    ensures { result ≡ sha256 (body_bytes entry.now) }
-{
-    let writes = entry.writes.as_slice();
-    let mut hasher = Sha256::new();
-    hasher.update(&entry.view.to_le_bytes());
-    hasher.update(&entry.seqno.to_le_bytes());
-    hasher.update(&[kind_tag(&entry.content)]);
-    feed_content(&mut hasher, &entry.content);
-    hasher.update(&(writes.len() as u32).to_le_bytes());
-    feed_writes(&mut hasher, writes);
-    hasher.update(&entry.claims);
-    hasher.finalize()
+impl Entry {
+    /// The SHA-256 digest of the body's bytes. Takes no memory.
+    #[tactic(auto, unfolding(gl_base::specs::LittleEndian::little_endian))]
+    pub fn body_digest(&self) -> Digest
+        requires recorded { length (content_bytes self.now.content) < 2 ^ 32 }
+        requires writes { length self.now.writes < 2 ^ 32 }
+        ensures { result ≡ sha256 (body_bytes self.now) }
+    {
+        let writes = self.writes.as_slice();
+        let mut hasher = Sha256::new();
+        hasher.update(&self.view.to_le_bytes());
+        hasher.update(&self.seqno.to_le_bytes());
+        hasher.update(&[kind_tag(&self.content)]);
+        feed_content(&mut hasher, &self.content);
+        hasher.update(&(writes.len() as u32).to_le_bytes());
+        feed_writes(&mut hasher, writes);
+        hasher.update(&self.claims);
+        hasher.finalize()
+    }
 }

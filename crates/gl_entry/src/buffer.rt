@@ -53,6 +53,7 @@ fn read_piece<S: Source>(source: &mut S, buffer: &mut Vec<u8>) -> Result<Got, Al
     ensures end { IfOk result (λ got. IsTrue (gave_end got 65536) →
         IsAtEnd (S.left source.new) × (S.ended source.new ≡ true)) }
     ensures failed { result ≡ Ok Got.Failed → Rose (S.faults source.old) (S.faults source.new) }
+    ensures quiet { (result ≡ Ok Got.Failed → ⊥) → S.faults source.new ≡ S.faults source.old }
     ensures never_falls { S.faults source.old ≤ S.faults source.new }
 {
     buffer.reserve(PIECE)?;
@@ -101,6 +102,7 @@ impl ReadBuffer {
         ensures end { IfOk result (λ got. IsTrue (gave_end got 65536) →
             IsAtEnd (S.left source.new) × (S.ended source.new ≡ true)) }
         ensures failed { result ≡ Ok Got.Failed → Rose (S.faults source.old) (S.faults source.new) }
+        ensures quiet { (result ≡ Ok Got.Failed → ⊥) → S.faults source.new ≡ S.faults source.old }
         ensures never_falls { S.faults source.old ≤ S.faults source.new }
     {
         drop_front(&mut self.buffer, self.start);

@@ -66,7 +66,8 @@ pub(crate) fn put_content(out: &mut Vec<u8>, content: &Content) -> Result<(), Al
     }
 }
 
-fn bytes_of(alloc: Global, bytes: &[u8]) -> Result<Bytes, AllocError>
+/// The same bytes in memory of their own.
+pub(crate) fn bytes_of(alloc: Global, bytes: &[u8]) -> Result<Bytes, AllocError>
     ensures { IfOk result (λ copy. copy ≡ bytes.now) }
 {
     Ok(Bytes::from(Vec::from_slice(alloc, bytes)?))

@@ -23,7 +23,8 @@ pub struct Signature {
     pub commit: u64,
     /// The root of the Merkle tree over the leaves of all earlier entries.
     pub root: Digest,
-    /// The node's LMS signature (RFC 8554, section 5.4). Empty for now, until keys sign.
+    /// The node's HSS signature (RFC 8554, section 6.2) of the signed message, of two levels: the
+    /// service's endorsement of the node's key stands in it. Empty for now, until keys sign.
     pub signature: Bytes,
 }
 

@@ -1,14 +1,15 @@
 //! The leaves of entries in the Merkle tree of their ledger. None of this takes memory but the text
 //! of the evidence.
 
-ghost use Rattle.std.specs.Prelude.{◌≡◌, ◌<◌, ◌^◌, length, IfOk};
+ghost use Rattle.std.specs.Prelude.{◌≡◌, ◌≢◌, ◌↔◌, ◌<◌, ◌^◌, ◌++◌, ℕ, List, length, codes, IsTrue, IfOk, IfSome, IfNone};
 ghost use Rattle.sha2.specs.Sha256.{sha256};
+ghost use Rattle.hex.specs.Hex.{encode_lower};
+ghost use Rattle.gl_base.specs.TxId.{text_of};
 ghost use Rattle.gl_entry.specs.Entry.{body_bytes, content_bytes};
-ghost use Rattle.gl_entry.specs.Leaf.{evidence_digest, evidence_text, leaf_of};
+ghost use Rattle.gl_entry.specs.Leaf.{evidence_digest, evidence_text, leaf_of_components, leaf_of};
 
-use crate::body_digest::body_digest;
 use crate::entry::{Digest, Entry};
-use gl_base::{TxId, put_bytes};
+use gl_base::{TxId, put_bytes, same_bytes};
 use itoa::Buffer;
 use sha2::{Digest as _, Sha256};
 use std::alloc::{AllocError, Global};
@@ -39,13 +40,62 @@ pub fn evidence(alloc: Global, identity: &[u8; 60], id: TxId) -> Result<Vec<u8>,
     Ok(text)
 }
 
-/// The digest of the commit evidence.
-fn evidence_hash(identity: &[u8; 60], id: TxId) -> Digest
+/// The digest of the key and the identifier, in hexadecimal.
+fn evidence_digits(identity: &[u8; 60], id: TxId) -> [u8; 64]
+    ensures { result ≡ encode_lower (evidence_digest identity.now id) }
+{
+    let mut digits = [0; 64];
+    hex::encode_to_slice(evidence_digest(identity, id).as_slice(), &mut digits).unwrap();
+    digits
+}
+
+/// What stands behind the piece at the front of the text, if it does stand there.
+fn behind<'a>(text: &'a [u8], piece: &[u8]) -> Option<&'a [u8]>
+    ensures some { IfSome result (λ rest. text.now ≡ piece.now ++ rest.now) }
+    ensures none { IfNone result ((rest : List ℕ) → text.now ≢ piece.now ++ rest) }
+{
+    text.strip_prefix(piece)
+}
+
+/// What stands behind the text of the identifier.
+fn behind_id<'a>(text: &'a [u8], id: TxId) -> Option<&'a [u8]>
+    ensures some { IfSome result (λ rest. text.now ≡ text_of id ++ rest.now) }
+    ensures none { IfNone result ((rest : List ℕ) → text.now ≢ text_of id ++ rest) }
+{
+    let mut buffer = Buffer::new();
+    let rest = behind(text, buffer.format(id.view).as_bytes())?;
+    let rest = behind(rest, b".")?;
+    behind(rest, buffer.format(id.seqno).as_bytes())
+}
+
+/// What stands behind `ce:`, the identifier and `:`.
+fn behind_evidence_id<'a>(text: &'a [u8], id: TxId) -> Option<&'a [u8]>
+    ensures some { IfSome result (λ rest.
+        text.now ≡ codes "ce:" ++ text_of id ++ codes ":" ++ rest.now) }
+    ensures none { IfNone result ((rest : List ℕ) →
+        text.now ≢ codes "ce:" ++ text_of id ++ codes ":" ++ rest) }
+{
+    let rest = behind(text, b"ce:")?;
+    let rest = behind_id(rest, id)?;
+    behind(rest, b":")
+}
+
+/// Whether the text is the commit evidence of this transaction of the service with this key. Takes
+/// no memory.
+pub fn is_evidence(text: &[u8], identity: &[u8; 60], id: TxId) -> bool
+    ensures { IsTrue result ↔ (text.now ≡ evidence_text identity.now id) }
+{
+    match behind_evidence_id(text, id) {
+        None => false,
+        Some(digits) => same_bytes(digits, &evidence_digits(identity, id)),
+    }
+}
+
+/// The digest of the commit evidence's text. Takes no memory.
+pub fn commit_evidence_digest(identity: &[u8; 60], id: TxId) -> Digest
     ensures { result ≡ sha256 (evidence_text identity.now id) }
 {
-    let digest = evidence_digest(identity, id);
-    let mut digits = [0; 64];
-    hex::encode_to_slice(digest.as_slice(), &mut digits).unwrap();
+    let digits = evidence_digits(identity, id);
     let mut buffer = Buffer::new();
     let mut hasher = Sha256::new();
     hasher.update(b"ce:");
@@ -54,6 +104,18 @@ fn evidence_hash(identity: &[u8; 60], id: TxId) -> Digest
     hasher.update(buffer.format(id.seqno).as_bytes());
     hasher.update(b":");
     hasher.update(&digits);
+    hasher.finalize()
+}
+
+/// The leaf of an entry whose body and commit evidence have these digests, and which has these
+/// claims (CCF documentation, "Receipts"). Takes no memory.
+pub fn leaf_of_components(body: &Digest, evidence: &Digest, claims: &Digest) -> Digest
+    ensures { result ≡ leaf_of_components body.now evidence.now claims.now }
+{
+    let mut hasher = Sha256::new();
+    hasher.update(body);
+    hasher.update(evidence);
+    hasher.update(claims);
     hasher.finalize()
 }
 
@@ -66,11 +128,7 @@ fn leaf_of_digest(identity: &[u8; 60], entry: &Entry, body: &Digest) -> Digest
         view: entry.view,
         seqno: entry.seqno,
     };
-    let mut hasher = Sha256::new();
-    hasher.update(body);
-    hasher.update(&evidence_hash(identity, id));
-    hasher.update(&entry.claims);
-    hasher.finalize()
+    leaf_of_components(body, &commit_evidence_digest(identity, id), &entry.claims)
 }
 
 /// The leaf of an entry whose body has these bytes, in the tree of the service with this key.
@@ -87,5 +145,5 @@ pub fn leaf(entry: &Entry, identity: &[u8; 60]) -> Digest
     requires writes { length entry.now.writes < 2 ^ 32 }
     ensures { result ≡ leaf_of identity.now entry.now }
 {
-    leaf_of_digest(identity, entry, &body_digest(entry))
+    leaf_of_digest(identity, entry, &entry.body_digest())
 }

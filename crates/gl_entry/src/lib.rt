@@ -1,15 +1,18 @@
 //! The entries of a ledger (CCF documentation, "Ledger"): their frames, their leaves in the Merkle
-//! tree, and a reader of whole ledgers.
+//! tree, the message that a node signs, and a reader of whole ledgers.
 #![tactic(auto)]
 
 mod body;
 mod body_digest;
 mod buffer;
 mod contents;
+mod copies;
 mod entry;
 mod fault;
 mod frame;
 mod leaves;
+mod lengths;
+mod message;
 mod reader;
 mod writes;
 
@@ -17,7 +20,10 @@ pub use buffer::ReadBuffer;
 pub use entry::{Content, Digest, Entry, NodeId, Signature};
 pub use fault::{EntryFault, LedgerFault};
 pub use frame::one_frame;
-pub use leaves::{evidence, leaf, leaf_of_body};
+pub use leaves::{
+    commit_evidence_digest, evidence, is_evidence, leaf, leaf_of_body, leaf_of_components,
+};
+pub use message::signed_message;
 pub use reader::LedgerReader;
 
 #[cfg(test)]

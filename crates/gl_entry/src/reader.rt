@@ -37,6 +37,8 @@ fn fill<S: Source>(source: &mut S, kept: &mut ReadBuffer) -> Result<(), OrNoMemo
     ensures no_fault { (f : Fault) → result ≡ Err (OrNoMemory.Fault (LedgerFault.Entry f)) → ⊥ }
     ensures failed { result ≡ Err (OrNoMemory.Fault LedgerFault.Read) →
         Rose (S.faults source.old) (S.faults source.new) }
+    ensures quiet { (result ≡ Err (OrNoMemory.Fault LedgerFault.Read) → ⊥) →
+        S.faults source.new ≡ S.faults source.old }
     ensures never_falls { S.faults source.old ≤ S.faults source.new }
 {
     while kept.as_slice().len() < wanted(kept.as_slice()) {
@@ -121,6 +123,8 @@ impl<S: Source> LedgerReader<S> {
             (to_read self.new.kept (S.left self.new.source))) }
         ensures failed { result ≡ Err (OrNoMemory.Fault LedgerFault.Read) →
             Rose (S.faults self.old.source) (S.faults self.new.source) }
+        ensures quiet { (result ≡ Err (OrNoMemory.Fault LedgerFault.Read) → ⊥) →
+            S.faults self.new.source ≡ S.faults self.old.source }
         ensures never_falls { S.faults self.old.source ≤ S.faults self.new.source }
     {
         fill(&mut self.source, &mut self.kept)?;

@@ -127,6 +127,11 @@ fn spells_the_entry_of_a_put(rt: HostRuntime) -> Result<(), Fail> {
     assert_eq!(rt; evidence(rt.alloc(), &IDENTITY, id)?.as_slice(), EVIDENCE);
     assert_eq!(rt; leaf_of_body(&IDENTITY, &entry, &body), LEAF);
     assert_eq!(rt; leaf(&entry, &IDENTITY), LEAF);
+    let (body, text) = (entry.body_digest(), commit_evidence_digest(&IDENTITY, id));
+    assert_eq!(rt; leaf_of_components(&body, &text, &entry.claims), LEAF);
+    assert!(rt; is_evidence(EVIDENCE, &IDENTITY, id));
+    assert!(rt; !is_evidence(EVIDENCE, &IDENTITY, TxId { view: 23, ..id }));
+    assert_eq!(rt; (entry.body_len(), entry.frame_len()), (91, 99));
     Ok(())
 }
 
@@ -143,6 +148,8 @@ fn reads_each_kind_of_entry(rt: HostRuntime) -> Result<(), Fail> {
         let (entry, size) = Entry::decode(rt.alloc(), frame)?;
         assert_eq!(rt; size, frame.len());
         assert_eq!(rt; encoded(rt.alloc(), &entry)?.as_slice(), frame);
+        let copy = entry.copy(rt.alloc())?;
+        assert_eq!(rt; encoded(rt.alloc(), &copy)?.as_slice(), frame);
     }
     let (entry, _) = Entry::decode(rt.alloc(), &SIGNED)?;
     assert_eq!(rt; (entry.view, entry.seqno), (2, 4));
@@ -151,6 +158,10 @@ fn reads_each_kind_of_entry(rt: HostRuntime) -> Result<(), Fail> {
             assert_eq!(rt; (signature.node, signature.commit), ([0xaa; 32], 3));
             assert_eq!(rt; signature.root, [0xbb; 32]);
             assert_eq!(rt; signature.signature.as_slice(), [5, 6].as_slice());
+            let message = signed_message(&signature.root, 2, 4, signature.commit);
+            let numbers = b"\x02\0\0\0\x04\0\0\0\0\0\0\0\x03\0\0\0\0\0\0\0";
+            assert_eq!(rt; &message[..32], [0xbb; 32].as_slice());
+            assert_eq!(rt; &message[32..], numbers.as_slice());
         }
         _ => panic!(rt; "a signature"),
     }
@@ -308,7 +319,7 @@ fn goes_on_where_a_read_failed(rt: HostRuntime) -> Result<(), Fail> {
         let mut reader = LedgerReader::new(rt.alloc(), MemSource::new(&bytes, 90, &failing));
         let (before, fault) = drain(rt.alloc(), &mut reader)?;
         assert_eq!(rt; fault, Some(OrNoMemory::Fault(LedgerFault::Read)));
-        assert_eq!(rt; reader.source.faults, 1);
+        assert_eq!(rt; reader.source.plan.faults(), 1);
         let (behind, fault) = drain(rt.alloc(), &mut reader)?;
         assert_eq!(rt; fault, None);
         let mut frames = before;

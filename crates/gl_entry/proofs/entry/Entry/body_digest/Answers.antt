@@ -8,11 +8,11 @@ use Rattle.gl_base.proofs.Lists.{push-append}
 use Rattle.gl_vmaps.specs.declared.write.Write.{Write}
 use Rattle.gl_entry.specs.Entry.{write_bytes, content_bytes, body_bytes}
 use Rattle.gl_entry.proofs.NumberBytes.{to_le_bytes-u32, to_le_bytes-u64}
-use Rattle.gl_entry.proofs.body_digest.body_digest.Goals as goal
+use Rattle.gl_entry.proofs.entry.Entry.body_digest.Goals as goal
 
 pub returns : goal.returns
 returns c =
-    let e = c.args.entry.now in
+    let e = c.args.self.now in
     let writes : List Write = c.as_slice-writes.result.now in
     let content : List ℕ = with_u32_length (content_bytes e.content) in
     let fed : List ℕ =

@@ -14,8 +14,8 @@ mod store;
 
 pub use encode::state_byte;
 pub use genesis::{
-    Dealing, Genesis, GovernanceRequest, HssPublicKey, LmsPublicKey, NewMember, NewNode, ServiceState,
-    ShareDigest,
+    Dealing, Genesis, GovernanceRequest, HssPublicKey, LmsPublicKey, NewMember, NewNode,
+    ServiceState, ShareDigest,
 };
 pub use refusal::Refusal;
 pub use store::Store;

@@ -198,7 +198,11 @@ impl Store {
     /// Gives the entry's identifier and the reply. Refused, in this order, where the service isn't
     /// open, where an operation fails, where the entry's body or the reply has more than 1 MiB, and
     /// where no seqno is left. Want of memory, too, leaves the store as it was.
-    pub fn execute(&mut self, view: u32, request: &Request) -> Result<(TxId, Reply), OrNoMemory<Refusal>>
+    pub fn execute(
+        &mut self,
+        view: u32,
+        request: &Request,
+    ) -> Result<(TxId, Reply), OrNoMemory<Refusal>>
         requires { ViewsUpTo service_book view self.old.ledger }
         ensures made { IfOk result (λ made.
             Executes self.old view request.now made.0 made.1 self.new) }
@@ -216,7 +220,11 @@ impl Store {
         }
     }
 
-    fn execute_open(&mut self, view: u32, request: &Request) -> Result<(TxId, Reply), OrNoMemory<Refusal>>
+    fn execute_open(
+        &mut self,
+        view: u32,
+        request: &Request,
+    ) -> Result<(TxId, Reply), OrNoMemory<Refusal>>
         requires up_to { ViewsUpTo service_book view self.old.ledger }
         requires is_open { service_state (tables_of self.old.ledger) ≡ ServiceState.Open }
         requires spelled { is_request request.now ≡ true }

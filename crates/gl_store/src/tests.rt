@@ -8,9 +8,7 @@ ghost use Rattle.gl_rules.specs.Safety.{ViewsUpTo};
 ghost use Rattle.gl_store.specs.Book.{service_book};
 ghost use Rattle.gl_store.specs.Calls.{IsSignedAt};
 
-use crate::{
-    Dealing, Genesis, NewMember, NewNode, Refusal, ServiceState, ShareDigest, Store,
-};
+use crate::{Dealing, Genesis, NewMember, NewNode, Refusal, ServiceState, ShareDigest, Store};
 use gl_base::{Bytes, OrNoMemory, Sequence, Status, TxId};
 use gl_entry::{Content, Digest, NodeId};
 use gl_tx::{Abort, Answer, Cause, Operation, Reply, Request};
@@ -107,7 +105,11 @@ fn put(alloc: Global, map: &[u8], key: &[u8], value: &[u8]) -> Result<Operation,
 }
 
 // An entry of the request, in a view in which more may follow.
-fn execute(store: &mut Store, view: u32, request: &Request) -> Result<(TxId, Reply), OrNoMemory<Refusal>>
+fn execute(
+    store: &mut Store,
+    view: u32,
+    request: &Request,
+) -> Result<(TxId, Reply), OrNoMemory<Refusal>>
     requires { ViewsUpTo service_book view store.old.ledger }
     ensures { (later : ℕ) → view ≤ later → ViewsUpTo service_book later store.new.ledger }
 {

@@ -14,9 +14,7 @@ use crate::keys::{hss_key, lms_key, numbered_digest, word_digest};
 use crate::settings::Settings;
 use gl_base::{Bytes, Sequence};
 use gl_entry::NodeId;
-use gl_store::{
-    Dealing, Genesis, HssPublicKey, LmsPublicKey, NewMember, NewNode, ShareDigest,
-};
+use gl_store::{Dealing, Genesis, HssPublicKey, LmsPublicKey, NewMember, NewNode, ShareDigest};
 use sha2::{Digest, Sha256};
 use std::alloc::{AllocError, Global};
 
@@ -36,7 +34,10 @@ pub fn node_id(settings: &Settings, number: u8) -> NodeId
 fn member_key(settings: &Settings, number: u8) -> HssPublicKey
     ensures { result ≡ (member_of settings.now number).key }
 {
-    hss_key(1, &numbered_digest(b"mem", u32::from(number), &settings.seed))
+    hss_key(
+        1,
+        &numbered_digest(b"mem", u32::from(number), &settings.seed),
+    )
 }
 
 fn member(settings: &Settings, number: u8) -> NewMember

@@ -1,9 +1,8 @@
 -- The machine's steps are those of the rules.
-use Rattle.std.proofs.Common.{◌≡◌, ℕ, zero, suc, ◌+◌, ◌<◌, ◌≤◌, List, [], ◌∷◌, ◌++◌, length, Option, Some, None, Result, Ok, Err, Bool, true, false, ◌==◌, nat_lt, nat_le, if◌then◌else◌, refl, sym, ◌∙◌, ap, subst, arith}
-use Rattle.std.specs.List.{slice_get}
+use Rattle.std.proofs.Common.{◌≡◌, ℕ, zero, suc, ◌+◌, ◌<◌, ◌≤◌, List, [], length, Option, Some, None, Result, Err, Bool, true, false, ◌==◌, nat_lt, nat_le, if◌then◌else◌, refl, sym, ◌∙◌, ap, subst, arith}
 use Rattle.std.proofs.lemmas.Bool.Decides.{nat_tests}
 use Rattle.std.proofs.Math.Bool.{and-true}
-use Rattle.gl_service.proofs.Lists.{there}
+use Rattle.gl_world.proofs.Lists.{there}
 use Rattle.gl_base.specs.declared.tx_id.TxId.{TxId}
 use Rattle.gl_rules.specs.Node.{Node, Leader}
 use Rattle.gl_rules.specs.Outcome.{Step, quiet, refuse, idle, KeyExhausted, NotReserved, NothingToSign, ByLedger}
@@ -11,28 +10,28 @@ use Rattle.gl_rules.specs.Outcome as outcome
 use Rattle.gl_rules.specs.Steps.{append_entry}
 use Rattle.gl_rules.specs.Requests.{submit, reserve, sign, sign_as_leader, append_signature, append_result}
 use Rattle.gl_rules.specs.Replication.{advance, commit_to}
-use Rattle.gl_rules.specs.Log.{entry_at, is_signature_in}
+use Rattle.gl_rules.specs.Log.{entry_at, is_signature_in, last_signature}
 use Rattle.gl_rules.specs.World.{leader_at_start}
 use Rattle.gl_entry.specs.Entry.{is_signature}
-use Rattle.gl_store.specs.Kept.{IsUpTo}
-use Rattle.gl_base.specs.TxId.{last_seqno}
-use Rattle.gl_tx.specs.Request.{is_request}
-use Rattle.gl_store.specs.Ledger.{Held, Executes, Signs, executed, signature_entry, signature_place, last_signature, opening_ledger, IsSignedAt}
-use Rattle.gl_store.specs.Ledger as made
-use Rattle.gl_store.specs.declared.refusal.Refusal.TheVariants as refusals
+use Rattle.gl_rules.specs.Safety.{ViewsUpTo}
+use Rattle.gl_store.specs.Ledger.{Held, opening_ledger}
+use Rattle.gl_store.specs.Calls.{Executes, Signs, IsSignedAt}
 use Rattle.gl_entry.specs.declared.entry.Entry.{Entry}
 use Rattle.gl_tx.specs.declared.request.Operation.{Operation}
 use Rattle.gl_tx.specs.declared.request.Answer.{Answer}
 use Rattle.gl_store.specs.declared.refusal.Refusal.{Refusal}
-use Rattle.gl_store.proofs.Applications.{executed_ok}
-use Rattle.gl_service.specs.declared.settings.Settings.{Settings}
-use Rattle.gl_service.specs.Founding.{id_of, genesis_of}
-use Rattle.gl_service.specs.Keys.{leaf_count}
-use Rattle.gl_service.specs.Single.{IsSingle}
-use Rattle.gl_service.specs.Solo.{IsSolo}
-use Rattle.gl_service.specs.Service.{service_book, start_of, replied, by_store, Given, Replied, Unmade, ByStore, Unspelled}
-use Rattle.gl_service.proofs.Solo.{submit-is, sign-is, advance-is, solo_submit, solo_sign, solo_advance, ledger_views}
-use Rattle.gl_service.proofs.Starting.{solo_at_start}
+use Rattle.gl_store.proofs.Applications.{execute_ok, request_ok}
+use Rattle.gl_store.proofs.Following.{book_sign_ok}
+use Rattle.gl_store.proofs.Signatures.{last_is_signed, signed_at_last, last_if_signed}
+use Rattle.gl_world.specs.declared.settings.Settings.{Settings}
+use Rattle.gl_world.specs.Founding.{id_of, genesis_of}
+use Rattle.gl_store.specs.Book.{leaf_count}
+use Rattle.gl_world.specs.Single.{IsSingle}
+use Rattle.gl_world.specs.Solo.{IsSolo}
+use Rattle.gl_world.specs.World.{start_of}
+use Rattle.gl_store.specs.Book.{service_book, Given, Replied, Unmade, ByStore}
+use Rattle.gl_world.proofs.Solo.{submit-is, sign-is, advance-is, solo_submit, solo_sign, solo_advance, ledger_views}
+use Rattle.gl_world.proofs.Starting.{solo_at_start}
 use Rattle.ccfg.specs.declared.machine.Machine.{Machine}
 use Rattle.ccfg.specs.Machine.{node_in, IsMachine, GoesOn}
 
@@ -96,46 +95,23 @@ unfolding reserve
 reserve_more x n more = ap (λ (b : Bool). if b then refuse n (KeyExhausted n.reserved) else quiet (record n { reserved = n.reserved + 1 }) outcome.Done)
     (let t : nat_le leaf_count n.reserved ≡ false = grind (arith, nat_tests) in t)
 
--- a signature stands at the place of the last one
-pub last_is_signed : (ledger : List Entry) (i : ℕ) → last_signature ledger ≡ suc i → (e : Entry) × (slice_get ledger i ≡ Some e) × (is_signature e.content ≡ true)
-last_is_signed [] i is = absurd (omega arith)
-last_is_signed (e ∷ es) i is = go (is_signature e.content) (last_signature es) i refl refl is (λ j q. last_is_signed es j q)
-  where
-    go : (b : Bool) (n : ℕ) (j : ℕ) → is_signature e.content ≡ b → last_signature es ≡ n → signature_place b n ≡ suc j →
-        ((k : ℕ) → last_signature es ≡ suc k → (f : Entry) × (slice_get es k ≡ Some f) × (is_signature f.content ≡ true)) →
-        (f : Entry) × (slice_get (e ∷ es) j ≡ Some f) × (is_signature f.content ≡ true)
-    go true zero zero sign_as_leader none p again = (e, refl, sign_as_leader)
-    go true zero (suc j) sign_as_leader none p again = absurd (omega arith)
-    go false zero j sign_as_leader none p again = absurd (omega arith)
-    go b (suc n) zero sign_as_leader some p again = absurd (let q : suc (suc n) ≡ suc zero = p in omega (arith, q))
-    go b (suc n) (suc j) sign_as_leader some p again =
-        let q : last_signature es ≡ suc j = some ∙ (let r : suc (suc n) ≡ suc (suc j) = p in omega (arith, r)) in
-        again j q
-
-pub signed_at_last : (ledger : List Entry) → 0 < last_signature ledger → IsSignedAt ledger (last_signature ledger)
-signed_at_last ledger some = go (last_signature ledger) refl some
-  where
-    go : (n : ℕ) → last_signature ledger ≡ n → 0 < n → IsSignedAt ledger n
-    go zero is p = absurd (omega arith)
-    go (suc i) is p = last_is_signed ledger i is
-
-pub advance_idle : (m : Machine) → IsMachine m → last_signature m.store.ledger ≤ m.store.commit → advance service_book m.id (node_in m) ≡ idle (node_in m)
+pub advance_idle : (m : Machine) → IsMachine m → last_signature service_book m.store.ledger ≤ m.store.commit → advance service_book m.id (node_in m) ≡ idle (node_in m)
 advance_idle m h below =
     ap (λ (x : List ℕ). advance service_book x (node_in m)) h.named ∙ advance-is m.settings (node_in m) h.solo
-    ∙ ap (λ (b : Bool). commit_to service_book (node_in m) (if b then Some (last_signature m.store.ledger) else None))
-    (let t : nat_lt m.store.commit (last_signature m.store.ledger) ≡ false = grind (arith, nat_tests) in t)
+    ∙ ap (λ (b : Bool). commit_to service_book (node_in m) (if b then Some (last_signature service_book m.store.ledger) else None))
+    (let t : nat_lt m.store.commit (last_signature service_book m.store.ledger) ≡ false = grind (arith, nat_tests) in t)
 
 view_there : (m : Machine) → IsMachine m → (place : ℕ) → IsSignedAt m.store.ledger place → Rattle.gl_rules.specs.Log.view_at service_book m.store.ledger place ≡ 2
 view_there m h zero at = absurd (let q = at.1 in cc)
 view_there m h (suc i) at =
     ap (λ (o : Option Entry). Rattle.gl_rules.specs.Log.view_of_entry service_book o) at.1 ∙ h.solo.ledger.views i at.0 at.1
 
-pub advance_commits : (m : Machine) → IsMachine m → m.store.commit < last_signature m.store.ledger →
-    let place = last_signature m.store.ledger in
+pub advance_commits : (m : Machine) → IsMachine m → m.store.commit < last_signature service_book m.store.ledger →
+    let place = last_signature service_book m.store.ledger in
     let new = record m { store = record { ledger = m.store.ledger; commit = place } } in
     (advance service_book m.id (node_in m) ≡ quiet (node_in new) (outcome.Committed 2 place)) × GoesOn m new
 advance_commits m h above =
-    let place = last_signature m.store.ledger in
+    let place = last_signature service_book m.store.ledger in
     let new : Machine = record m { store = record { ledger = m.store.ledger; commit = place } } in
     let signed_there : IsSignedAt m.store.ledger place = signed_at_last m.store.ledger (omega (arith, above)) in
     let named : advance service_book m.id (node_in m) ≡ advance service_book (id_of m.settings 1) (node_in m) =
@@ -147,42 +123,36 @@ advance_commits m h above =
     ∙ ap (λ (v : ℕ). quiet {E = Entry} {A = Given} {F = Unmade} (node_in new) (outcome.Committed v place)) (view_there m h place signed_there) in
     (named ∙ is, goes_on m new (advance service_book (id_of m.settings 1) (node_in m)) (outcome.Committed 2 place) h refl refl (solo_advance m.settings (node_in m) h.solo) is h.leaves)
 
-up_to : (m : Machine) → IsMachine m → IsUpTo m.store.ledger 2
+up_to : (m : Machine) → IsMachine m → ViewsUpTo service_book 2 m.store.ledger
 up_to m h = ledger_views m.settings (node_in m) h.solo
 
--- a request that bytes spell
-abbrev requested_if : Machine → List Operation → Bool → ServiceStep
-requested_if m q spelled = append_result service_book (node_in m) (if spelled then replied (executed m.store.ledger 2 q) else Err Unspelled)
-
 -- an accepted request
-pub submit_accepted : (m : Machine) (st : Held) (q : List Operation) (id : TxId) (reply : List Answer) → IsMachine m → is_request q ≡ true → Executes m.store 2 q id reply st →
+pub submit_accepted : (m : Machine) (st : Held) (q : List Operation) (id : TxId) (reply : List Answer) → IsMachine m → Executes m.store 2 q id reply st →
     let new = record m { store = st } in
     (submit service_book q (node_in m) ≡ quiet (node_in new) (outcome.Accepted id.view id.seqno (Replied reply))) × GoesOn m new
-submit_accepted m st q id reply h fits ran =
+submit_accepted m st q id reply h ran =
     let new : Machine = record m { store = st } in
-    let made = executed_ok m.store.ledger 2 q ran.entry reply ran.made in
+    let made = execute_ok m.store.ledger 2 q ran.entry reply (request_ok m.store.ledger 2 q ran.entry reply ran.made).1 in
     let view : ran.entry.view ≡ 2 = ap (λ (e : Entry). e.view) made.3 in
-    let node : append_entry (node_in m) ran.entry ≡ node_in new = ap (λ (x : Held). node_in (record m { store = x })) (sym ran.entered) in
+    let node : append_entry (node_in m) ran.entry ≡ node_in new = ap (λ (x : Held). node_in (record m { store = x })) (sym ran.enters.entered) in
     let is : submit service_book q (node_in m) ≡ quiet (node_in new) (outcome.Accepted id.view id.seqno (Replied reply)) =
     submit-is m.settings (node_in m) q h.solo
-    ∙ ap (requested_if m q) fits
-    ∙ ap (λ (r : Result (Entry × List Answer) Refusal). append_result service_book (node_in m) (replied r)) ran.made
+    ∙ ap (λ (r : Result (Entry × Given) Unmade). append_result service_book (node_in m) r) ran.made
     ∙ ap (λ (v : ℕ). quiet {E = Entry} {A = Given} {F = Unmade} (append_entry (node_in m) ran.entry) (outcome.Accepted v (length m.store.ledger + 1) (Replied reply))) view
     ∙ ap (λ (n : Node Entry). quiet {E = Entry} {A = Given} {F = Unmade} n (outcome.Accepted 2 (length m.store.ledger + 1) (Replied reply))) node
-    ∙ ap (λ (t : TxId). quiet {E = Entry} {A = Given} {F = Unmade} (node_in new) (outcome.Accepted t.view t.seqno (Replied reply))) (sym ran.named) in
+    ∙ ap (λ (t : TxId). quiet {E = Entry} {A = Given} {F = Unmade} (node_in new) (outcome.Accepted t.view t.seqno (Replied reply))) (sym ran.enters.named) in
     (is, goes_on m new (submit service_book q (node_in m)) _ h refl refl (solo_submit m.settings (node_in m) q h.solo) is h.leaves)
 
 -- a refused one
-pub submit_refused : (m : Machine) (st : Held) (q : List Operation) (why : Refusal) → IsMachine m → is_request q ≡ true → executed m.store.ledger 2 q ≡ Err why → st ≡ m.store →
+pub submit_refused : (m : Machine) (st : Held) (q : List Operation) (why : Refusal) → IsMachine m → service_book.execute m.store.ledger 2 q ≡ Err (ByStore why) → st ≡ m.store →
     let new = record m { store = st } in
     (submit service_book q (node_in m) ≡ quiet (node_in new) (outcome.Refused (ByLedger (ByStore why)))) × GoesOn m new
-submit_refused m st q why h fits refused same =
+submit_refused m st q why h refused same =
     let new : Machine = record m { store = st } in
     let node : node_in m ≡ node_in new = ap (λ (x : Held). node_in (record m { store = x })) (sym same) in
     let is : submit service_book q (node_in m) ≡ quiet (node_in new) (outcome.Refused (ByLedger (ByStore why))) =
     submit-is m.settings (node_in m) q h.solo
-    ∙ ap (requested_if m q) fits
-    ∙ ap (λ (r : Result (Entry × List Answer) Refusal). append_result service_book (node_in m) (replied r)) refused
+    ∙ ap (λ (r : Result (Entry × Given) Unmade). append_result service_book (node_in m) r) refused
     ∙ ap (λ (n : Node Entry). quiet {E = Entry} {A = Given} {F = Unmade} n (outcome.Refused (ByLedger (ByStore why)))) node in
     (is, goes_on m new (submit service_book q (node_in m)) _ h refl refl (solo_submit m.settings (node_in m) q h.solo) is h.leaves)
 
@@ -193,19 +163,10 @@ not-true : (b : Bool) → (b ≡ true → ⊥) → b ≡ false
 not-true true n = absurd (n refl)
 not-true false n = refl
 
--- the last entry is a signature where the last signature stands at the ledger's length, and nowhere else
-last_if_signed : (ledger : List Entry) (i : ℕ) (e : Entry) → length ledger ≡ suc i → slice_get ledger i ≡ Some e → is_signature e.content ≡ true → last_signature ledger ≡ suc i
-last_if_signed [] i e long at signs = absurd (omega arith)
-last_if_signed (f ∷ []) zero e long at signs = let p : f ≡ e = cc in rw (p, sign_as_leader) refl
-last_if_signed (f ∷ []) (suc i) e long at signs = absurd (omega arith)
-last_if_signed (f ∷ g ∷ es) zero e long at signs = absurd (omega arith)
-last_if_signed (f ∷ g ∷ es) (suc i) e long at sign_as_leader =
-    ap (λ (n : ℕ). signature_place (is_signature f.content) n) (last_if_signed (g ∷ es) i e (omega arith) at sign_as_leader)
-
 signs_two : (e : Entry) → e.view ≡ 2 → is_signature_in service_book 2 (Some e) ≡ is_signature e.content
 signs_two e view = rw view (and-true (is_signature e.content))
 
-last_entry_signs : (m : Machine) → IsMachine m → last_signature m.store.ledger ≡ length m.store.ledger →
+last_entry_signs : (m : Machine) → IsMachine m → last_signature service_book m.store.ledger ≡ length m.store.ledger →
     is_signature_in service_book 2 (entry_at m.store.ledger (length m.store.ledger)) ≡ true
 last_entry_signs m h is = go (length m.store.ledger) refl
   where
@@ -215,7 +176,7 @@ last_entry_signs m h is = go (length m.store.ledger) refl
         let last = last_is_signed m.store.ledger i (is ∙ some) in
         ap (λ (o : Option Entry). is_signature_in service_book 2 o) last.1 ∙ signs_two last.0 (h.solo.ledger.views i last.0 last.1) ∙ last.2
 
-last_entry_unsigned : (m : Machine) → IsMachine m → (last_signature m.store.ledger ≡ length m.store.ledger → ⊥) →
+last_entry_unsigned : (m : Machine) → IsMachine m → (last_signature service_book m.store.ledger ≡ length m.store.ledger → ⊥) →
     is_signature_in service_book 2 (entry_at m.store.ledger (length m.store.ledger)) ≡ false
 last_entry_unsigned m h other = go (length m.store.ledger) refl
   where
@@ -224,14 +185,14 @@ last_entry_unsigned m h other = go (length m.store.ledger) refl
     go (suc i) some =
         let last = there m.store.ledger i (omega arith) in
         ap (λ (o : Option Entry). is_signature_in service_book 2 o) last.1 ∙ signs_two last.0 (h.solo.ledger.views i last.0 last.1)
-        ∙ not-true (is_signature last.0.content) (λ sign_as_leader. other (last_if_signed m.store.ledger i last.0 some last.1 sign_as_leader ∙ sym some))
+        ∙ not-true (is_signature last.0.content) (λ signs. other (last_if_signed m.store.ledger i last.0 some last.1 signs ∙ sym some))
 
 sign_choice : (m : Machine) → Bool → Bool → ServiceStep
 sign_choice m used unsigned =
     if used then refuse (node_in m) (NotReserved m.reserved) else (
     if unsigned
     then refuse (node_in m) (NothingToSign (length m.store.ledger))
-    else append_signature service_book (node_in m) (by_store (made.signed m.id m.store.ledger 2 m.store.commit))
+    else append_signature service_book (node_in m) (service_book.sign m.id m.used m.store.ledger 2 m.store.commit)
     )
 
 sign_chosen : (m : Machine) (used unsigned : Bool) → IsMachine m → (m.used == m.reserved) ≡ used →
@@ -242,20 +203,12 @@ sign_chosen m used unsigned h is_used is_unsigned =
     sign_of m h ∙ ap (λ (b : Bool). sign_choice m b (is_signature_in service_book 2 (entry_at m.store.ledger (length m.store.ledger)))) is_used
     ∙ ap (λ (b : Bool). sign_choice m used b) is_unsigned
 
-pub sign_nothing : (m : Machine) → IsMachine m → (m.used ≡ m.reserved → ⊥) → last_signature m.store.ledger ≡ length m.store.ledger →
+pub sign_nothing : (m : Machine) → IsMachine m → (m.used ≡ m.reserved → ⊥) → last_signature service_book m.store.ledger ≡ length m.store.ledger →
     sign service_book m.id (node_in m) ≡ quiet (node_in m) (outcome.Refused (NothingToSign (length m.store.ledger)))
 unfolding sign_choice
 sign_nothing m h free last = sign_chosen m false true h (let t : (m.used == m.reserved) ≡ false = grind (arith, nat_tests) in t) (last_entry_signs m h last)
 
--- a signature that is made is the node's, behind its ledger
-pub made_signature : (node : List ℕ) (ledger : List Entry) (view commit : ℕ) (e : Entry) → made.signed node ledger view commit ≡ Ok e → e ≡ signature_entry node ledger view commit
-made_signature node ledger view commit e is = go (nat_lt (length ledger) last_seqno) is
-  where
-    go : (b : Bool) → (if b then Ok (signature_entry node ledger view commit) else Err refusals.SeqnoLimit) ≡ Ok e → e ≡ signature_entry node ledger view commit
-    go true p = cc
-    go false p = absurd (cc)
-
-pub sign_signs : (m : Machine) (st : Held) (id : TxId) → IsMachine m → (m.used ≡ m.reserved → ⊥) → (last_signature m.store.ledger ≡ length m.store.ledger → ⊥) →
+pub sign_signs : (m : Machine) (st : Held) (id : TxId) → IsMachine m → (m.used ≡ m.reserved → ⊥) → (last_signature service_book m.store.ledger ≡ length m.store.ledger → ⊥) →
     Signs m.store m.id 2 id st →
     let new = record m { store = st; used = m.used + 1 } in
     (sign service_book m.id (node_in m) ≡ quiet (node_in new) (outcome.Signed id.view id.seqno)) × GoesOn m new
@@ -263,18 +216,18 @@ unfolding sign_choice
 sign_signs m st id h free other s =
     let leaves : m.used + 1 ≤ m.reserved = let l = h.leaves in grind (arith, nat_tests, free) in
     let new : Machine = record m { store = st; used = m.used + 1 } in
-    let view : s.entry.view ≡ 2 = ap (λ (e : Entry). e.view) (made_signature m.id m.store.ledger 2 m.store.commit s.entry s.made) in
+    let view : s.entry.view ≡ 2 = ap (λ (e : Entry). e.view) (book_sign_ok m.id m.used m.store.ledger 2 m.store.commit s.entry (s.made m.used)).0 in
     let is : sign service_book m.id (node_in m) ≡ quiet (node_in new) (outcome.Signed id.view id.seqno) =
     sign_chosen m false false h (let t : (m.used == m.reserved) ≡ false = grind (arith, nat_tests) in t) (last_entry_unsigned m h other)
-    ∙ ap (λ (r : Result Entry Refusal). append_signature service_book (node_in m) (by_store r)) s.made
+    ∙ ap (λ (r : Result Entry Unmade). append_signature service_book (node_in m) r) (s.made m.used)
     ∙ ap (λ (v : ℕ). quiet {E = Entry} {A = Given} {F = Unmade} (record (append_entry (node_in m) s.entry) { used = m.used + 1 }) (outcome.Signed v (length m.store.ledger + 1))) view
-    ∙ ap (λ (x : Held). quiet {E = Entry} {A = Given} {F = Unmade} (node_in (record m { store = x; used = m.used + 1 })) (outcome.Signed 2 (length m.store.ledger + 1))) (sym s.entered)
-    ∙ ap (λ (t : TxId). quiet {E = Entry} {A = Given} {F = Unmade} (node_in new) (outcome.Signed t.view t.seqno)) (sym s.named) in
-    (is, goes_on m new (sign service_book m.id (node_in m)) _ h refl refl (solo_sign m.settings m.id (node_in m) h.solo) is leaves)
+    ∙ ap (λ (x : Held). quiet {E = Entry} {A = Given} {F = Unmade} (node_in (record m { store = x; used = m.used + 1 })) (outcome.Signed 2 (length m.store.ledger + 1))) (sym s.enters.entered)
+    ∙ ap (λ (t : TxId). quiet {E = Entry} {A = Given} {F = Unmade} (node_in new) (outcome.Signed t.view t.seqno)) (sym s.enters.named) in
+    (is, goes_on m new (sign service_book m.id (node_in m)) _ h refl refl (solo_sign m.settings m.id (node_in m) h.named h.solo) is leaves)
 
 -- one that isn't made
-pub sign_refused : (m : Machine) (st : Held) (why : Refusal) → IsMachine m → (m.used ≡ m.reserved → ⊥) → (last_signature m.store.ledger ≡ length m.store.ledger → ⊥) →
-    made.signed m.id m.store.ledger 2 m.store.commit ≡ Err why → st ≡ m.store →
+pub sign_refused : (m : Machine) (st : Held) (why : Refusal) → IsMachine m → (m.used ≡ m.reserved → ⊥) → (last_signature service_book m.store.ledger ≡ length m.store.ledger → ⊥) →
+    ((leaf : ℕ) → service_book.sign m.id leaf m.store.ledger 2 m.store.commit ≡ Err (ByStore why)) → st ≡ m.store →
     let new = record m { store = st } in
     (sign service_book m.id (node_in m) ≡ quiet (node_in new) (outcome.Refused (ByLedger (ByStore why)))) × GoesOn m new
 unfolding sign_choice
@@ -283,9 +236,9 @@ sign_refused m st why h free other refused same =
     let node : node_in m ≡ node_in new = ap (λ (x : Held). node_in (record m { store = x })) (sym same) in
     let is : sign service_book m.id (node_in m) ≡ quiet (node_in new) (outcome.Refused (ByLedger (ByStore why))) =
     sign_chosen m false false h (let t : (m.used == m.reserved) ≡ false = grind (arith, nat_tests) in t) (last_entry_unsigned m h other)
-    ∙ ap (λ (r : Result Entry Refusal). append_signature service_book (node_in m) (by_store r)) refused
+    ∙ ap (λ (r : Result Entry Unmade). append_signature service_book (node_in m) r) (refused m.used)
     ∙ ap (λ (n : Node Entry). quiet {E = Entry} {A = Given} {F = Unmade} n (outcome.Refused (ByLedger (ByStore why)))) node in
-    (is, goes_on m new (sign service_book m.id (node_in m)) _ h refl refl (solo_sign m.settings m.id (node_in m) h.solo) is h.leaves)
+    (is, goes_on m new (sign service_book m.id (node_in m)) _ h refl refl (solo_sign m.settings m.id (node_in m) h.named h.solo) is h.leaves)
 
 pub sign_unreserved : (m : Machine) → IsMachine m → m.used ≡ m.reserved → sign service_book m.id (node_in m) ≡ quiet (node_in m) (outcome.Refused (NotReserved m.reserved))
 unfolding sign_choice

@@ -1,9 +1,12 @@
--- What is printed of a line is what the machine answers.
+-- What is told of a line is what the machine answers.
 use Rattle.std.proofs.Common.{◌≡◌, ℕ, zero, suc, ◌+◌, ◌-◌, List, ◌++◌, length, Bool, false, ◌&&◌, nat_le, Some, None, true, ap₂, refl, sym, ◌∙◌, ap, subst, arith, append-nil, if◌then◌else◌, Option, Result, Ok, Err, OnErr, OnOk}
 use Rattle.std.proofs.lemmas.Bool.Decides.{nat_tests}
 use Rattle.std.specs.Io.KnownBytes.{Appends}
 use Rattle.gl_outside.specs.Sink.{AppendsFront}
 use Rattle.gl_base.specs.declared.tx_id.TxId.{TxId}
+use Rattle.gl_base.specs.declared.tx_id.Status.{Status}
+use Rattle.gl_rules.specs.Identity.{NodeId}
+use Rattle.gl_rules.specs.Message.{Message}
 use Rattle.gl_rules.specs.Node.{Node}
 use Rattle.gl_rules.specs.Outcome.{Step, Outcome, quiet}
 use Rattle.gl_rules.specs.World.{at, happens}
@@ -13,143 +16,196 @@ use Rattle.gl_rules.specs.Replication.{advance}
 use Rattle.gl_rules.specs.Safety.{reported_status}
 use Rattle.gl_entry.specs.declared.entry.Entry.{Entry}
 use Rattle.gl_tx.specs.declared.request.Operation.{Operation}
-use Rattle.gl_service.specs.declared.settings.Settings.{Settings}
-use Rattle.gl_service.specs.Founding.{id_of}
-use Rattle.gl_service.specs.Service.{Given, Unmade, ServiceWorld, ServiceEvent, service_book}
-use Rattle.gl_service.proofs.Ids.{same_itself}
+use Rattle.gl_world.specs.declared.settings.Settings.{Settings}
+use Rattle.gl_world.specs.Founding.{id_of}
+use Rattle.gl_world.specs.World.{ServiceEvent}
+use Rattle.gl_store.specs.Book.{Given, Unmade, service_book}
+use Rattle.gl_world.specs.Single.{IsSingle}
+use Rattle.gl_world.proofs.Ids.{same_itself}
+use Rattle.gl_lines.specs.declared.line.Line.{Line}
+use Rattle.gl_lines.specs.declared.line.Line.TheVariants as lines
+use Rattle.gl_lines.specs.Nodes.{node_of}
 use Rattle.ccfg.specs.declared.machine.Machine.{Machine}
+use Rattle.ccfg.specs.declared.outcome.LineAnswer.{LineAnswer}
+use Rattle.ccfg.specs.declared.outcome.LineAnswer.TheVariants as answer
 use Rattle.ccfg.specs.declared.outcome.Outcome as outcomes
-use Rattle.ccfg.specs.declared.outcome.Answered.TheVariants as answered
-use Rattle.gl_lines.specs.declared.schedule.Command.TheVariants as commands
-use Rattle.ccfg.specs.Machine.{node_in, seen, IsMachine, Steps}
-use Rattle.gl_lines.specs.declared.schedule.Line.{Line}
-use Rattle.gl_rules.specs.Identity.{NodeId}
-use Rattle.gl_service.specs.Single.{IsSingle}
-use Rattle.ccfg.specs.declared.outcome.Answered.{Answered}
-use Rattle.ccfg.specs.Text.{outcome_text, sent_text, new_messages, printed_event, printed_if, node_named, ids_text, ledger_text, committed_above, held_above}
-use Rattle.ccfg.specs.Playing.{IsIn, Prints, PrintsAt}
+use Rattle.ccfg.specs.Machine.{node_in, rules_outcome, IsMachine, Steps}
+use Rattle.ccfg.specs.Play.{IsIn, Tells, Extends, ExtendsFront}
+use Rattle.ccfg.specs.LineAnswers.{line_answer_text}
+use Rattle.gl_outside.proofs.Fronts.{front_none}
+use Rattle.ccfg.proofs.ToldLemmas.{on_line}
+use Rattle.ccfg.specs.Text.{committed_entries, held_entries, ids_text, ledger_text, new_messages, no_node_text, numbered, outcome_text, sent_text, status_text}
+use Rattle.ccfg.specs.Told.{Told, Effect, Happens, Answers, at_named, at_node, effect_of, next_text, node_named, told, told_effect}
 
 -- a number is that of the one node, or names none
-first_named : (s : Settings) → IsSingle s → node_named s 1 ≡ Some (id_of s 1)
-first_named s single = ap₂ (λ (a b : ℕ). if nat_le 1 1 && nat_le 1 (a + b) then Some (id_of s 1) else None) single.starting single.joiners
+pub first_named : (s : Settings) → IsSingle s → (number : ℕ) → number ≡ 1 → node_named s number ≡ Some (id_of s 1)
+first_named s single number one =
+    ap (node_named s) one
+    ∙ ap₂ (λ (a b : ℕ). if nat_le 1 1 && nat_le 1 (a + b) then Some (id_of s 1) else None) single.starting single.joiners
 
-none_else : (s : Settings) → IsSingle s → (number : ℕ) → (number ≡ 1 → ⊥) → node_named s number ≡ None
-none_else s single number other =
+pub none_named : (s : Settings) → IsSingle s → (number : ℕ) → (number ≡ 1 → ⊥) → node_named s number ≡ None
+none_named s single number other =
     ap₂ (λ (a b : ℕ). if nat_le 1 number && nat_le number (a + b) then Some (id_of s number) else None) single.starting single.joiners
     ∙ ap (λ (b : Bool). if b then Some (id_of s number) else None) (outside number other)
   where
     outside : (n : ℕ) → (n ≡ 1 → ⊥) → (nat_le 1 n && nat_le n 1) ≡ false
     outside zero apart = refl
     outside (suc zero) apart = absurd (apart refl)
-    outside (suc (suc n)) apart = let high : nat_le 1 (suc (suc n)) ≡ true = grind (arith, nat_tests) in let low : nat_le (suc (suc n)) 1 ≡ false = grind (arith, nat_tests) in ap₂ (λ (a b : Bool). a && b) high low
+    outside (suc (suc n)) apart =
+        let high : nat_le 1 (suc (suc n)) ≡ true = grind (arith, nat_tests) in
+        let low : nat_le (suc (suc n)) 1 ≡ false = grind (arith, nat_tests) in
+        ap₂ (λ (a b : Bool). a && b) high low
+
+pub at_first : (s : Settings) → IsSingle s → (number : ℕ) → number ≡ 1 → (effect : NodeId → Effect) → at_node s number effect ≡ effect (id_of s 1)
+at_first s single number one effect = ap (λ (o : Option NodeId). at_named o effect) (first_named s single number one)
+
+pub at_none : (s : Settings) → IsSingle s → (number : ℕ) → (number ≡ 1 → ⊥) → (effect : NodeId → Effect) → at_node s number effect ≡ Answers no_node_text
+at_none s single number other effect = ap (λ (o : Option NodeId). at_named o effect) (none_named s single number other)
 
 nothing_new : (n : ℕ) → n - n ≡ 0
 nothing_new n = omega arith
 
--- a step that sends nothing
-quiet_text : (s : Settings) (w : ServiceWorld) (x : List ℕ) (step : Step Entry Given Unmade) (n : Node Entry) (o : Outcome Given Unmade) → step ≡ quiet n o →
-    (outcome_text s (at w x step).outcome ++ sent_text w (at w x step).world ≡ outcome_text s o) × ((at w x step).world.nodes x ≡ n)
-quiet_text s w x step n o is = subst (λ (t : Step Entry Given Unmade).
-    (outcome_text s (at w x t).outcome ++ sent_text w (at w x t).world ≡ outcome_text s o) × ((at w x t).world.nodes x ≡ n)) (sym is) (
-      ap (λ (k : ℕ). outcome_text s o ++ new_messages k (length w.sent))
-          (ap (λ (l : List (Rattle.gl_rules.specs.Message.Message Entry)). length l - length w.sent) (append-nil w.sent) ∙ nothing_new (length w.sent))
-          ∙ append-nil (outcome_text s o),
-      ap (λ (b : Bool). if b then n else w.nodes x) (same_itself x),
+-- an event that sends nothing
+abbrev Shows : Settings → Told → ServiceEvent → Node Entry → Outcome Given Unmade → Type 0
+Shows s t e n o =
+    ((told_effect s t (Happens e)).text ≡ next_text t (outcome_text s o)) × ((told_effect s t (Happens e)).world.nodes (id_of s 1) ≡ n)
+
+quiet_text : (s : Settings) (t : Told) (x : List ℕ) (step : Step Entry Given Unmade) (n : Node Entry) (o : Outcome Given Unmade) → step ≡ quiet n o →
+    (next_text t (outcome_text s (at t.world x step).outcome ++ sent_text t.world (at t.world x step).world) ≡ next_text t (outcome_text s o))
+    × ((at t.world x step).world.nodes x ≡ n)
+quiet_text s t x step n o is = subst (λ (u : Step Entry Given Unmade).
+    (next_text t (outcome_text s (at t.world x u).outcome ++ sent_text t.world (at t.world x u).world) ≡ next_text t (outcome_text s o))
+    × ((at t.world x u).world.nodes x ≡ n)) (sym is) (
+      ap (next_text t) (
+          ap (λ (k : ℕ). outcome_text s o ++ new_messages k (length t.world.sent))
+          (ap (λ (l : List (Message Entry)). length l - length t.world.sent) (append-nil t.world.sent) ∙ nothing_new (length t.world.sent))
+          ∙ append-nil (outcome_text s o)
+          ),
+      ap (λ (b : Bool). if b then n else t.world.nodes x) (same_itself x),
     )
 
-abbrev Shows : Settings → ServiceWorld → ServiceEvent → Node Entry → Outcome Given Unmade → Type 0
-Shows s w e n o = ((printed_event s w e).text ≡ outcome_text s o) × ((printed_event s w e).world.nodes (id_of s 1) ≡ n)
-
-shows_submit : (s : Settings) (w : ServiceWorld) (q : List Operation) (n : Node Entry) (o : Outcome Given Unmade) →
-    submit service_book q (w.nodes (id_of s 1)) ≡ quiet n o → Shows s w (event.Submit (id_of s 1) q) n o
+shows_submit : (s : Settings) (t : Told) (q : List Operation) (n : Node Entry) (o : Outcome Given Unmade) →
+    submit service_book q (t.world.nodes (id_of s 1)) ≡ quiet n o → Shows s t (event.Submit (id_of s 1) q) n o
 unfolding happens
-shows_submit s w q n o is = quiet_text s w (id_of s 1) (submit service_book q (w.nodes (id_of s 1))) n o is
+shows_submit s t q n o is = quiet_text s t (id_of s 1) (submit service_book q (t.world.nodes (id_of s 1))) n o is
 
-shows_reserve : (s : Settings) (w : ServiceWorld) (n : Node Entry) (o : Outcome Given Unmade) →
-    reserve service_book (id_of s 1) (w.nodes (id_of s 1)) ≡ quiet n o → Shows s w (event.Reserve (id_of s 1)) n o
+shows_reserve : (s : Settings) (t : Told) (n : Node Entry) (o : Outcome Given Unmade) →
+    reserve service_book (id_of s 1) (t.world.nodes (id_of s 1)) ≡ quiet n o → Shows s t (event.Reserve (id_of s 1)) n o
 unfolding happens
-shows_reserve s w n o is = quiet_text s w (id_of s 1) (reserve service_book (id_of s 1) (w.nodes (id_of s 1))) n o is
+shows_reserve s t n o is = quiet_text s t (id_of s 1) (reserve service_book (id_of s 1) (t.world.nodes (id_of s 1))) n o is
 
-shows_sign : (s : Settings) (w : ServiceWorld) (n : Node Entry) (o : Outcome Given Unmade) →
-    sign service_book (id_of s 1) (w.nodes (id_of s 1)) ≡ quiet n o → Shows s w (event.Sign (id_of s 1)) n o
+shows_sign : (s : Settings) (t : Told) (n : Node Entry) (o : Outcome Given Unmade) →
+    sign service_book (id_of s 1) (t.world.nodes (id_of s 1)) ≡ quiet n o → Shows s t (event.Sign (id_of s 1)) n o
 unfolding happens
-shows_sign s w n o is = quiet_text s w (id_of s 1) (sign service_book (id_of s 1) (w.nodes (id_of s 1))) n o is
+shows_sign s t n o is = quiet_text s t (id_of s 1) (sign service_book (id_of s 1) (t.world.nodes (id_of s 1))) n o is
 
-shows_advance : (s : Settings) (w : ServiceWorld) (n : Node Entry) (o : Outcome Given Unmade) →
-    advance service_book (id_of s 1) (w.nodes (id_of s 1)) ≡ quiet n o → Shows s w (event.Advance (id_of s 1)) n o
+shows_advance : (s : Settings) (t : Told) (n : Node Entry) (o : Outcome Given Unmade) →
+    advance service_book (id_of s 1) (t.world.nodes (id_of s 1)) ≡ quiet n o → Shows s t (event.Advance (id_of s 1)) n o
 unfolding happens
-shows_advance s w n o is = quiet_text s w (id_of s 1) (advance service_book (id_of s 1) (w.nodes (id_of s 1))) n o is
+shows_advance s t n o is = quiet_text s t (id_of s 1) (advance service_book (id_of s 1) (t.world.nodes (id_of s 1))) n o is
 
--- the machine's step at its node in the world
-pub prints_submit : (w : ServiceWorld) (old new : Machine) (q : List Operation) (o : outcomes.Outcome) → IsIn w old →
-    Steps (submit service_book q (node_in old)) new o → PrintsAt w (commands.Submit q) old new (answered.Event o)
-prints_submit w old new q o is_in step =
-    let shown = shows_submit old.settings w q (node_in new) (seen o) (ap (λ (n : Node Entry). submit service_book q n) is_in ∙ step) in
-    record { text = shown.0; node = shown.1 }
-
-pub prints_reserve : (w : ServiceWorld) (old new : Machine) (o : outcomes.Outcome) → IsMachine old → IsIn w old →
-    Steps (reserve service_book old.id (node_in old)) new o → PrintsAt w commands.Reserve old new (answered.Event o)
-prints_reserve w old new o m is_in step =
-    let shown = shows_reserve old.settings w (node_in new) (seen o)
-    (ap (λ (n : Node Entry). reserve service_book (id_of old.settings 1) n) is_in ∙ ap (λ (x : List ℕ). reserve service_book x (node_in old)) (sym m.named) ∙ step) in
-    record { text = shown.0; node = shown.1 }
-
-pub prints_sign : (w : ServiceWorld) (old new : Machine) (o : outcomes.Outcome) → IsMachine old → IsIn w old →
-    Steps (sign service_book old.id (node_in old)) new o → PrintsAt w commands.Sign old new (answered.Event o)
-prints_sign w old new o m is_in step =
-    let shown = shows_sign old.settings w (node_in new) (seen o)
-    (ap (λ (n : Node Entry). sign service_book (id_of old.settings 1) n) is_in ∙ ap (λ (x : List ℕ). sign service_book x (node_in old)) (sym m.named) ∙ step) in
-    record { text = shown.0; node = shown.1 }
-
-pub prints_advance : (w : ServiceWorld) (old new : Machine) (o : outcomes.Outcome) → IsMachine old → IsIn w old →
-    Steps (advance service_book old.id (node_in old)) new o → PrintsAt w commands.Advance old new (answered.Event o)
-prints_advance w old new o m is_in step =
-    let shown = shows_advance old.settings w (node_in new) (seen o)
-    (ap (λ (n : Node Entry). advance service_book (id_of old.settings 1) n) is_in ∙ ap (λ (x : List ℕ). advance service_book x (node_in old)) (sym m.named) ∙ step) in
-    record { text = shown.0; node = shown.1 }
-
-pub prints_status : (w : ServiceWorld) (m : Machine) (id : TxId) (st : Rattle.gl_base.specs.declared.status_kind.Status.Status) → IsIn w m →
-    st ≡ reported_status service_book (node_in m) id → PrintsAt w (commands.Status id) m m (answered.Status st)
-prints_status w m id st is_in is = record {
-  text = ap (λ (n : Node Entry). Rattle.ccfg.specs.Text.status_text (reported_status service_book n id)) is_in ∙ ap (λ (x : Rattle.gl_base.specs.declared.status_kind.Status.Status). Rattle.ccfg.specs.Text.status_text x) (sym is);
-  node = is_in;
+-- what a line tells, by its effect
+by_effect : (t : Told) (line : Line) (old new : Machine) (a : LineAnswer) (e : Effect) → effect_of old.settings t line ≡ e →
+    (told_effect old.settings t e).text ≡ next_text t (line_answer_text old.settings (node_in new) a) →
+    (told_effect old.settings t e).world.nodes (id_of old.settings 1) ≡ node_in new → Tells t line old new a
+by_effect t line old new a e is text node = record {
+  text = ap (λ (f : Effect). (told_effect old.settings t f).text) is ∙ text;
+  node = ap (λ (f : Effect). (told_effect old.settings t f).world.nodes (id_of old.settings 1)) is ∙ node;
 }
 
-pub prints_ids : (w : ServiceWorld) (m : Machine) → IsIn w m → PrintsAt w commands.Ids m m answered.Ids
-prints_ids w m is_in = record { text = ap (λ (n : Node Entry). ids_text (committed_above n)) is_in; node = is_in }
+-- the machine's step at its node in the world
+pub tells_submit : (t : Told) (old new : Machine) (node : ℕ) (q : List Operation) (o : outcomes.Outcome) → IsMachine old → node ≡ 1 → IsIn t old →
+    Steps (submit service_book q (node_in old)) new o → Tells t (lines.Submit node q) old new (answer.Event o)
+tells_submit t old new node q o m one is_in step =
+    let shown = shows_submit old.settings t q (node_in new) (rules_outcome o) (ap (λ (n : Node Entry). submit service_book q n) is_in ∙ step) in
+    by_effect t (lines.Submit node q) old new (answer.Event o) (Happens (event.Submit (id_of old.settings 1) q))
+    (at_first old.settings m.single node one (λ x. Happens (event.Submit x q))) shown.0 shown.1
 
-pub prints_ledger : (w : ServiceWorld) (m : Machine) → IsIn w m → PrintsAt w commands.Ledger m m answered.Ledger
-prints_ledger w m is_in = record { text = ap (λ (n : Node Entry). ledger_text (held_above n)) is_in; node = is_in }
+pub tells_reserve : (t : Told) (old new : Machine) (node : ℕ) (o : outcomes.Outcome) → IsMachine old → node ≡ 1 → IsIn t old →
+    Steps (reserve service_book old.id (node_in old)) new o → Tells t (lines.Reserve node) old new (answer.Event o)
+tells_reserve t old new node o m one is_in step =
+    let shown = shows_reserve old.settings t (node_in new) (rules_outcome o) (
+    ap (λ (n : Node Entry). reserve service_book (id_of old.settings 1) n) is_in
+    ∙ ap (λ (x : List ℕ). reserve service_book x (node_in old)) (sym m.named) ∙ step
+    ) in
+    by_effect t (lines.Reserve node) old new (answer.Event o) (Happens (event.Reserve (id_of old.settings 1)))
+    (at_first old.settings m.single node one (λ x. Happens (event.Reserve x))) shown.0 shown.1
 
--- a line about the one node
-pub prints_line : (w : ServiceWorld) (line : Line) (old new : Machine) (a : Answered) → IsSingle old.settings → line.node ≡ 1 → PrintsAt w line.command old new a → Prints w line old new a
-prints_line w line old new a single one p =
-    let named : node_named old.settings line.node ≡ Some (id_of old.settings 1) = ap (node_named old.settings) one ∙ first_named old.settings single in
-    record {
-      text = ap (λ (o : Option NodeId). (printed_if old.settings w o line.command).text) named ∙ p.text;
-      node = ap (λ (o : Option NodeId). (printed_if old.settings w o line.command).world.nodes (id_of old.settings 1)) named ∙ p.node;
-    }
+pub tells_sign : (t : Told) (old new : Machine) (node : ℕ) (o : outcomes.Outcome) → IsMachine old → node ≡ 1 → IsIn t old →
+    Steps (sign service_book old.id (node_in old)) new o → Tells t (lines.Sign node) old new (answer.Event o)
+tells_sign t old new node o m one is_in step =
+    let shown = shows_sign old.settings t (node_in new) (rules_outcome o) (
+    ap (λ (n : Node Entry). sign service_book (id_of old.settings 1) n) is_in
+    ∙ ap (λ (x : List ℕ). sign service_book x (node_in old)) (sym m.named) ∙ step
+    ) in
+    by_effect t (lines.Sign node) old new (answer.Event o) (Happens (event.Sign (id_of old.settings 1)))
+    (at_first old.settings m.single node one (λ x. Happens (event.Sign x))) shown.0 shown.1
 
--- and one about a node that there isn't
-pub prints_none : (w : ServiceWorld) (line : Line) (m : Machine) → IsSingle m.settings → (line.node ≡ 1 → ⊥) → IsIn w m → Prints w line m m answered.NoNode
-prints_none w line m single other is_in =
-    let named : node_named m.settings line.node ≡ None = none_else m.settings single line.node other in
-    record {
-      text = ap (λ (o : Option NodeId). (printed_if m.settings w o line.command).text) named;
-      node = ap (λ (o : Option NodeId). (printed_if m.settings w o line.command).world.nodes (id_of m.settings 1)) named ∙ is_in;
-    }
+pub tells_advance : (t : Told) (old new : Machine) (node : ℕ) (o : outcomes.Outcome) → IsMachine old → node ≡ 1 → IsIn t old →
+    Steps (advance service_book old.id (node_in old)) new o → Tells t (lines.Advance node) old new (answer.Event o)
+tells_advance t old new node o m one is_in step =
+    let shown = shows_advance old.settings t (node_in new) (rules_outcome o) (
+    ap (λ (n : Node Entry). advance service_book (id_of old.settings 1) n) is_in
+    ∙ ap (λ (x : List ℕ). advance service_book x (node_in old)) (sym m.named) ∙ step
+    ) in
+    by_effect t (lines.Advance node) old new (answer.Event o) (Happens (event.Advance (id_of old.settings 1)))
+    (at_first old.settings m.single node one (λ x. Happens (event.Advance x))) shown.0 shown.1
 
--- a front of a text is a front of what the text is, in whatever world
-pub front_in : {T E : Type 0} (r : Result T E) (a b : Option (List ℕ)) (text : List ℕ) (F : ServiceWorld → Type 0) (due : ServiceWorld → List ℕ) →
-    ((w : ServiceWorld) → F w → text ≡ due w) → OnErr r (AppendsFront a b text) → OnErr r ((w : ServiceWorld) → F w → AppendsFront a b (due w))
-front_in (Ok t) a b text F due is front = tt
-front_in (Err e) a b text F due is front = λ w f. subst (λ (x : List ℕ). AppendsFront a b x) (is w f) front
+-- and what it answers a question
+pub tells_status : (t : Told) (m : Machine) (node : ℕ) (id : TxId) (status : Status) → IsMachine m → node ≡ 1 → IsIn t m →
+    status ≡ reported_status service_book (node_in m) id → Tells t (lines.Status node id) m m (answer.Status status)
+tells_status t m node id status machine one is_in is =
+    by_effect t (lines.Status node id) m m (answer.Status status) (Answers (status_text (reported_status service_book (t.world.nodes (id_of m.settings 1)) id)))
+    (at_first m.settings machine.single node one (λ x. Answers (status_text (reported_status service_book (t.world.nodes x) id))))
+    (ap (λ (n : Node Entry). next_text t (status_text (reported_status service_book n id))) is_in ∙ ap (λ (k : Status). next_text t (status_text k)) (sym is)) is_in
+
+pub tells_ids : (t : Told) (m : Machine) (node : ℕ) → IsMachine m → node ≡ 1 → IsIn t m → Tells t (lines.Ids node) m m answer.Ids
+tells_ids t m node machine one is_in =
+    by_effect t (lines.Ids node) m m answer.Ids (Answers (ids_text (committed_entries (t.world.nodes (id_of m.settings 1)))))
+    (at_first m.settings machine.single node one (λ x. Answers (ids_text (committed_entries (t.world.nodes x)))))
+    (ap (λ (n : Node Entry). next_text t (ids_text (committed_entries n))) is_in) is_in
+
+pub tells_ledger : (t : Told) (m : Machine) (node : ℕ) → IsMachine m → node ≡ 1 → IsIn t m → Tells t (lines.Ledger node) m m answer.Ledger
+tells_ledger t m node machine one is_in =
+    by_effect t (lines.Ledger node) m m answer.Ledger (Answers (ledger_text (held_entries (t.world.nodes (id_of m.settings 1)))))
+    (at_first m.settings machine.single node one (λ x. Answers (ledger_text (held_entries (t.world.nodes x)))))
+    (ap (λ (n : Node Entry). next_text t (ledger_text (held_entries n))) is_in) is_in
+
+-- a line about a node that there isn't
+none_effect : (s : Settings) (t : Told) (line : Line) → IsSingle s → (node_of line ≡ 1 → ⊥) → effect_of s t line ≡ Answers no_node_text
+none_effect s t (lines.Submit node q) single other = at_none s single node other _
+none_effect s t (lines.Reserve node) single other = at_none s single node other _
+none_effect s t (lines.Sign node) single other = at_none s single node other _
+none_effect s t (lines.Advance node) single other = at_none s single node other _
+none_effect s t (lines.Status node id) single other = at_none s single node other _
+none_effect s t (lines.Ids node) single other = at_none s single node other _
+none_effect s t (lines.Ledger node) single other = at_none s single node other _
+
+pub tells_none : (t : Told) (line : Line) (m : Machine) → IsSingle m.settings → (node_of line ≡ 1 → ⊥) → IsIn t m → Tells t line m m answer.NoNode
+tells_none t line m single other is_in =
+    by_effect t line m m answer.NoNode (Answers no_node_text) (none_effect m.settings t line single other) refl is_in
+
+-- the line that tells it
+pub line_is : (t : Told) (line : Line) (old new : Machine) (a : LineAnswer) (number : ℕ) (text : List ℕ) → Tells t line old new a → suc t.lines ≡ number →
+    text ≡ numbered number (line_answer_text old.settings (node_in new) a) → (told old.settings t line).text ≡ t.text ++ text
+line_is t line old new a number text tells is made =
+    tells.text ∙ ap (λ (n : ℕ). t.text ++ numbered n (line_answer_text old.settings (node_in new) a)) is ∙ ap (λ (l : List ℕ). t.text ++ l) (sym made)
+
+-- nothing is a front of what any line adds
+pub nothing_added : (s : Settings) (t : Told) (line : Line) (a : Option (List ℕ)) → ExtendsFront a a t.text (told s t line).text
+nothing_added s t line a = let on = on_line s t line in (on.more, on.text, front_none a on.more)
+
+-- a front of a line's text is a front of what the line adds
+pub front_in : {T E : Type 0} (r : Result T E) (a b : Option (List ℕ)) (text : List ℕ) (F G : Told → Type 0) (longer : Told → List ℕ) →
+    ((t : Told) → F t → G t → longer t ≡ t.text ++ text) → OnErr r (AppendsFront a b text) → OnErr r ((t : Told) → F t → G t → ExtendsFront a b t.text (longer t))
+front_in (Ok v) a b text F G longer is front = tt
+front_in (Err e) a b text F G longer is front = λ t f g. (text, is t f g, front)
 
 -- and so is the whole of it
-pub whole_in : {T E : Type 0} (r : Result T E) (a b : Option (List ℕ)) (text : List ℕ) (F : ServiceWorld → Type 0) (due : ServiceWorld → List ℕ) →
-    ((w : ServiceWorld) → F w → text ≡ due w) → OnOk r (Appends a b text) → OnOk r ((w : ServiceWorld) → F w → Appends a b (due w))
-whole_in (Ok t) a b text F due is whole = λ w f. subst (λ (x : List ℕ). Appends a b x) (is w f) whole
-whole_in (Err e) a b text F due is whole = tt
+pub whole_in : {T E : Type 0} (r : Result T E) (a b : Option (List ℕ)) (text : List ℕ) (F G : Told → Type 0) (longer : Told → List ℕ) →
+    ((t : Told) → F t → G t → longer t ≡ t.text ++ text) → OnOk r (Appends a b text) → OnOk r ((t : Told) → F t → G t → Extends a b t.text (longer t))
+whole_in (Ok v) a b text F G longer is whole = λ t f g. (text, is t f g, whole)
+whole_in (Err e) a b text F G longer is whole = tt
 
 -- what holds anyway
 pub always_ok : {T E P : Type 0} (r : Result T E) → P → OnOk r P

@@ -1,8 +1,10 @@
 pub mod Schedules
 pub mod Text
+pub mod Told
+pub mod Moments
 pub mod Machine
-pub mod Printing
-pub mod Playing
+pub mod LineAnswers
+pub mod Play
 pub mod Owed
 pub mod Promises
 pub mod Plans

@@ -4,10 +4,11 @@ use Rattle.gl_rules.specs.Node.{Node, Leader}
 use Rattle.gl_rules.specs.Outcome as outcome
 use Rattle.gl_rules.specs.Outcome.{Step, quiet}
 use Rattle.gl_entry.specs.declared.entry.Entry.{Entry}
-use Rattle.gl_service.specs.Founding.{id_of}
-use Rattle.gl_service.specs.Single.{IsSingle}
-use Rattle.gl_service.specs.Solo.{IsSolo}
-use Rattle.gl_service.specs.Service.{Given, Replied, Unmade, ByStore, ServiceOutcome}
+use Rattle.gl_world.specs.Founding.{id_of}
+use Rattle.gl_world.specs.Single.{IsSingle}
+use Rattle.gl_world.specs.Solo.{IsSolo}
+use Rattle.gl_world.specs.World.{ServiceOutcome}
+use Rattle.gl_store.specs.Book.{Given, Replied, Unmade, ByStore}
 use Rattle.ccfg.specs.declared.machine.Machine.{Machine}
 use Rattle.ccfg.specs.declared.outcome.Outcome.{Outcome}
 use Rattle.ccfg.specs.declared.outcome.Outcome.TheVariants as outcomes
@@ -33,23 +34,23 @@ node_in m = record {
   cuts = 0;
 }
 
-abbrev pub seen_refusal : Refusal → outcome.Refusal Unmade
-seen_refusal (refusals.NotReserved reserved) = outcome.NotReserved reserved
-seen_refusal (refusals.KeyExhausted reserved) = outcome.KeyExhausted reserved
-seen_refusal (refusals.NothingToSign seqno) = outcome.NothingToSign seqno
-seen_refusal (refusals.Store why) = outcome.ByLedger (ByStore why)
+abbrev pub rules_refusal : Refusal → outcome.Refusal Unmade
+rules_refusal (refusals.NotReserved reserved) = outcome.NotReserved reserved
+rules_refusal (refusals.KeyExhausted reserved) = outcome.KeyExhausted reserved
+rules_refusal (refusals.NothingToSign seqno) = outcome.NothingToSign seqno
+rules_refusal (refusals.Store why) = outcome.ByLedger (ByStore why)
 
-abbrev pub seen : Outcome → ServiceOutcome
-seen outcomes.Done = outcome.Done
-seen outcomes.Idle = outcome.Idle
-seen (outcomes.Accepted id reply) = outcome.Accepted id.view id.seqno (Replied reply)
-seen (outcomes.Signed id) = outcome.Signed id.view id.seqno
-seen (outcomes.Committed id) = outcome.Committed id.view id.seqno
-seen (outcomes.Refused why) = outcome.Refused (seen_refusal why)
+abbrev pub rules_outcome : Outcome → ServiceOutcome
+rules_outcome outcomes.Done = outcome.Done
+rules_outcome outcomes.Idle = outcome.Idle
+rules_outcome (outcomes.Accepted id reply) = outcome.Accepted id.view id.seqno (Replied reply)
+rules_outcome (outcomes.Signed id) = outcome.Signed id.view id.seqno
+rules_outcome (outcomes.Committed id) = outcome.Committed id.view id.seqno
+rules_outcome (outcomes.Refused why) = outcome.Refused (rules_refusal why)
 
 -- The step of the rules took the machine from old to new, with this outcome; nothing was sent.
 abbrev pub Steps : Step Entry Given Unmade → Machine → Outcome → Type 0
-Steps step new o = step ≡ quiet (node_in new) (seen o)
+Steps step new o = step ≡ quiet (node_in new) (rules_outcome o)
 
 -- What holds of the machine at every moment.
 pub record IsMachine (m : Machine) : Type 0 where

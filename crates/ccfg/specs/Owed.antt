@@ -3,28 +3,29 @@ use Rattle.std.specs.Prelude.{◌≡◌, ℕ, List, [], ◌∷◌, ◌++◌, Opt
 use Rattle.std.specs.Io.KnownBytes.{Appends, Keeps}
 use Rattle.gl_outside.specs.Fault.{Rose}
 use Rattle.gl_outside.specs.Sink.{AppendsFront}
-use Rattle.gl_service.specs.Headline.{Headline}
-use Rattle.ccfg.specs.declared.ending.Fault.{Fault}
-use Rattle.ccfg.specs.declared.ending.Fault.TheVariants as faults
+use Rattle.ccfg.specs.declared.ending.InputFault.{InputFault}
+use Rattle.ccfg.specs.declared.ending.InputFault.TheVariants as faults
 use Rattle.ccfg.specs.declared.ending.Ending.{Ending}
 use Rattle.ccfg.specs.declared.ending.Ending.TheVariants.{Done, Refused, SourceFailed, SinkFailed, Memory}
-use Rattle.gl_lines.specs.declared.schedule.Schedule.{Schedule}
-use Rattle.gl_lines.specs.declared.schedule.Schedule.TheVariants.{Empty, Service}
+use Rattle.ccfg.specs.declared.schedule.Schedule.{Schedule}
+use Rattle.gl_lines.specs.declared.fault.ScheduleFault.{ScheduleFault}
+use Rattle.gl_lines.specs.declared.fault.ScheduleFault.TheVariants.{BadLine}
 use Rattle.gl_lines.specs.Lines.{line_count}
-use Rattle.ccfg.specs.Schedules.{settings_of, reads}
-use Rattle.ccfg.specs.Text.{events_of, text_of_schedule}
+use Rattle.ccfg.specs.Schedules.{reads}
+use Rattle.ccfg.specs.Told.{text_of_schedule}
 
-abbrev pub fault_line : Fault → List ℕ
+-- The line that tells a fault.
+abbrev pub fault_line : InputFault → List ℕ
 fault_line faults.Words = codes "fault words\n"
-fault_line faults.Bytes = codes "fault bytes 16777216\n"
-fault_line faults.Lines = codes "fault lines 100000\n"
-fault_line (faults.Line number) = codes "fault line " ++ decimal number ++ codes "\n"
+fault_line faults.TooManyBytes = codes "fault bytes 16777216\n"
+fault_line faults.TooManyLines = codes "fault lines 100000\n"
+fault_line (faults.BadLine number) = codes "fault line " ++ decimal number ++ codes "\n"
 
-abbrev pub refusal_status : Fault → ℕ
+abbrev pub refusal_status : InputFault → ℕ
 refusal_status faults.Words = 2
-refusal_status faults.Bytes = 8
-refusal_status faults.Lines = 8
-refusal_status (faults.Line number) = 9
+refusal_status faults.TooManyBytes = 8
+refusal_status faults.TooManyLines = 8
+refusal_status (faults.BadLine number) = 9
 
 abbrev pub exit_status : Ending → ℕ
 exit_status Done = 0
@@ -44,24 +45,26 @@ pub record Due : Type 0 where
   pub ending : Ending
   pub text : List ℕ
 
-abbrev pub refused : Fault → Due
-refused fault = record { ending = Refused fault; text = fault_line fault }
+abbrev pub due_of_fault : InputFault → Due
+due_of_fault fault = record { ending = Refused fault; text = fault_line fault }
 
-abbrev pub of_reading : Result Schedule ℕ → Due
-of_reading (Err number) = refused (faults.Line number)
-of_reading (Ok schedule) = record { ending = Done; text = text_of_schedule schedule }
+abbrev pub due_of_reading : Result Schedule ScheduleFault → Due
+due_of_reading (Err (BadLine number)) = due_of_fault (faults.BadLine number)
+due_of_reading (Ok schedule) = record { ending = Done; text = text_of_schedule schedule }
 
 -- What these bytes are owed. The limits are tried before the reading, the one on bytes first.
-unfoldable pub owed : List ℕ → Due
-owed given =
-    if nat_lt bytes_limit (length given) then refused faults.Bytes
-    else (if nat_lt lines_limit (line_count given) then refused faults.Lines else of_reading (reads given))
+unfoldable pub due_of : List ℕ → Due
+due_of given =
+    if nat_lt bytes_limit (length given) then due_of_fault faults.TooManyBytes
+    else (if nat_lt lines_limit (line_count given) then due_of_fault faults.TooManyLines
+    else due_of_reading (reads given))
 
--- What the sink came to hold: all of the text that is due, and then the run ends as is due; or a front of it, where the sink
--- failed, by its count of faults, or memory ran out.
+-- What a sink came to hold, by how the run ended: done or refused, all of the text that is due;
+-- where the sink failed, by its count of faults, or memory ran out, a front of it.
 abbrev pub Writes : Ending → Option (List ℕ) → Option (List ℕ) → ℕ → ℕ → Due → Type 0
 Writes Done held holds before now due = (due.ending ≡ Done) × Appends held holds due.text
-Writes (Refused fault) held holds before now due = (due.ending ≡ Refused fault) × Appends held holds due.text
+Writes (Refused fault) held holds before now due =
+    (due.ending ≡ Refused fault) × Appends held holds due.text
 Writes SourceFailed held holds before now due = ⊥
 Writes SinkFailed held holds before now due = Rose before now × AppendsFront held holds due.text
 Writes Memory held holds before now due = AppendsFront held holds due.text
@@ -80,30 +83,33 @@ pub record Run : Type 0 where
   pub write_faults : ℕ
   pub write_faults_now : ℕ
 
--- What the bytes are owed, where the source tells them.
-abbrev pub Owes : Ending → Option (List ℕ) → Run → Type 0
-Owes e None r = Unit {0}
-Owes e (Some given) r = Writes e r.held r.holds r.write_faults r.write_faults_now (owed given)
+-- What holds of the bytes that a source has to give: of those that it tells, or of some bytes,
+-- where it tells none.
+abbrev pub OfBytes : Option (List ℕ) → (List ℕ → Type 0) → Type 0
+OfBytes None P = (given : List ℕ) × P given
+OfBytes (Some given) P = P given
 
--- What a replay does: nothing is written where the source failed, by its count of faults; and else what the bytes are owed,
--- all of them read where the run is done. Of a source that doesn't tell its bytes the causes still hold.
+-- What the bytes are owed.
+abbrev pub Owes : Ending → Run → Type 0
+Owes e r =
+    OfBytes r.given (λ given.
+    Writes e r.held r.holds r.write_faults r.write_faults_now (due_of given))
+
+-- What a replay does. Where the source failed, by its count of faults, nothing is written. Else it
+-- writes what the bytes are owed; and where it is done, the source gave its end.
 abbrev pub Replays : Ending → Run → Type 0
 Replays SourceFailed r = Rose r.read_faults r.read_faults_now × Keeps r.held r.holds
-Replays Done r = (r.ended ≡ true) × Owes Done r.given r
-Replays (Refused fault) r = Owes (Refused fault) r.given r
-Replays SinkFailed r = Rose r.write_faults r.write_faults_now × Owes SinkFailed r.given r
-Replays Memory r = Owes Memory r.given r
+Replays Done r = (r.ended ≡ true) × Owes Done r
+Replays (Refused fault) r = Owes (Refused fault) r
+Replays SinkFailed r = Owes SinkFailed r
+Replays Memory r = Owes Memory r
 
 abbrev pub AreWords : List (List ℕ) → Type 0
 AreWords words = words ≡ codes "replay" ∷ []
 
--- What the program does: other words are refused, and the one word replays the schedule that is given.
+-- What the program does: other words are refused, and the one word replays the schedule that is
+-- given.
 pub record Answers (e : Ending) (r : Run) : Type 0 where
-  pub other_words : (AreWords r.words → ⊥) → Writes e r.held r.holds r.write_faults r.write_faults_now (refused faults.Words)
+  pub other_words : (AreWords r.words → ⊥) →
+      Writes e r.held r.holds r.write_faults r.write_faults_now (due_of_fault faults.Words)
   pub replays : AreWords r.words → Replays e r
-
--- What is promised of the service of a schedule.
-abbrev pub KeepsHeadline : Result Schedule ℕ → Type 0
-KeepsHeadline (Err number) = Unit {0}
-KeepsHeadline (Ok Empty) = Unit {0}
-KeepsHeadline (Ok (Service world lines)) = Headline (settings_of world) (events_of (settings_of world) lines)

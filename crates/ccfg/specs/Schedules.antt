@@ -1,28 +1,34 @@
 -- The service of a schedule, and which texts are schedules.
-use Rattle.std.specs.Prelude.{ℕ, List, Option, None, Some, Result, Err, Bool, false, not, if◌then◌else◌}
+use Rattle.std.specs.Prelude.{ℕ, List, Result, Ok, Err, length, ◌==◌, if◌then◌else◌}
 use Rattle.gl_store.specs.declared.genesis.ServiceState.TheVariants.{Opening, Open}
-use Rattle.gl_lines.specs.declared.schedule.WorldLine.{WorldLine}
-use Rattle.gl_lines.specs.declared.schedule.Schedule.{Schedule}
-use Rattle.gl_lines.specs.Reading.{first_world}
-use Rattle.gl_lines.specs.Reading as lines
-use Rattle.gl_service.specs.declared.settings.Settings.{Settings}
-use Rattle.gl_service.specs.Founding.{has_distinct_keys}
+use Rattle.gl_lines.specs.declared.world.WorldLine.{WorldLine}
+use Rattle.gl_base.specs.Steps.{◌>>=◌}
+use Rattle.gl_lines.specs.declared.fault.ScheduleFault.{ScheduleFault}
+use Rattle.gl_lines.specs.declared.fault.ScheduleFault.TheVariants.{BadLine}
+use Rattle.gl_lines.specs.Reading.{first_line, lines_behind}
+use Rattle.gl_world.specs.declared.settings.Settings.{Settings}
+use Rattle.gl_world.specs.Founding.{has_distinct_keys}
+use Rattle.ccfg.specs.declared.schedule.Schedule.{Schedule}
+use Rattle.ccfg.specs.declared.schedule.Schedule.TheVariants.{Empty, Service}
 
--- The service that a first line begins: one node, no joiners.
 abbrev pub settings_of : WorldLine → Settings
 settings_of world = record {
-  starting = 1;
-  joiners = 0;
+  starting = world.starting;
+  joiners = world.joiners;
   members = world.members;
   state = if world.is_open then Open else Opening;
   seed = world.seed;
 }
 
--- A seed that gives two members one key is none.
-abbrev pub clashes : Option WorldLine → Bool
-clashes None = false
-clashes (Some world) = not (has_distinct_keys (settings_of world))
+-- The service that a first line begins. A seed that gives two members one key begins none.
+abbrev pub service_of : WorldLine → Result Settings ScheduleFault
+service_of world =
+    if has_distinct_keys (settings_of world) then Ok (settings_of world) else Err (BadLine 1)
 
--- The schedule that a text is, or the number of its first bad line.
-unfoldable pub reads : List ℕ → Result Schedule ℕ
-reads text = if clashes (first_world text) then Err 1 else lines.reads text
+-- The schedule that a text is, or the number of its first bad line, from 1. No bytes are a schedule
+-- without a service.
+unfoldable pub reads : List ℕ → Result Schedule ScheduleFault
+reads text =
+    if length text == 0 then Ok Empty
+    else (first_line text >>= λ first. service_of first.0 >>= λ settings.
+    lines_behind first.1 >>= λ lines. Ok (Service settings lines))

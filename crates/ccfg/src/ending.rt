@@ -1,41 +1,39 @@
 //! How a run of the program ends.
 
 ghost use Rattle.std.specs.Prelude.{◌≡◌, IfOk};
-ghost use Rattle.ccfg.specs.declared.ending.Fault.TheVariants.{Line};
+ghost use Rattle.ccfg.specs.declared.ending.InputFault.TheVariants.{BadLine};
 ghost use Rattle.ccfg.specs.Owed.{fault_line, exit_status};
 
 use itoa::Buffer;
 use std::alloc::{AllocError, Global};
 
-/// Why a run was refused before its first event.
+/// What is wrong with the words or the schedule of a run, so that nothing happens.
 #[derive(Clone, Copy, Debug, PartialEq, Eq)]
-pub enum Fault {
+pub enum InputFault {
     /// The words are not those of a command.
     Words,
-    /// The schedule has too many bytes.
-    Bytes,
-    /// The schedule has too many lines.
-    Lines,
+    TooManyBytes,
+    TooManyLines,
     /// The bytes are no schedule: this line is the first bad one, counted from 1.
-    Line(u64),
+    BadLine(u64),
 }
 
-impl Fault {
+impl InputFault {
     /// The line that tells it.
     pub fn line(self, alloc: Global) -> Result<Vec<u8>, AllocError>
         ensures { IfOk result (λ line. line.items ≡ fault_line self) }
     {
         match self {
-            Fault::Words => Vec::from_slice(alloc, b"fault words\n"),
-            Fault::Bytes => Vec::from_slice(alloc, b"fault bytes 16777216\n"),
-            Fault::Lines => Vec::from_slice(alloc, b"fault lines 100000\n"),
-            Fault::Line(number) => numbered_fault(alloc, number),
+            InputFault::Words => Vec::from_slice(alloc, b"fault words\n"),
+            InputFault::TooManyBytes => Vec::from_slice(alloc, b"fault bytes 16777216\n"),
+            InputFault::TooManyLines => Vec::from_slice(alloc, b"fault lines 100000\n"),
+            InputFault::BadLine(number) => bad_line(alloc, number),
         }
     }
 }
 
-fn numbered_fault(alloc: Global, number: u64) -> Result<Vec<u8>, AllocError>
-    ensures { IfOk result (λ line. line.items ≡ fault_line (Line number)) }
+fn bad_line(alloc: Global, number: u64) -> Result<Vec<u8>, AllocError>
+    ensures { IfOk result (λ line. line.items ≡ fault_line (BadLine number)) }
 {
     let mut line = Vec::from_slice(alloc, b"fault line ")?;
     line.extend_from_slice(Buffer::new().format(number).as_bytes())?;
@@ -47,7 +45,7 @@ fn numbered_fault(alloc: Global, number: u64) -> Result<Vec<u8>, AllocError>
 #[derive(Clone, Copy, Debug, PartialEq, Eq)]
 pub enum Ending {
     Done,
-    Refused(Fault),
+    Refused(InputFault),
     SourceFailed,
     SinkFailed,
     Memory,
@@ -60,12 +58,12 @@ impl Ending {
     {
         match self {
             Ending::Done => 0,
-            Ending::Refused(Fault::Words) => 2,
+            Ending::Refused(InputFault::Words) => 2,
             Ending::SourceFailed => 3,
             Ending::SinkFailed => 4,
             Ending::Memory => 7,
-            Ending::Refused(Fault::Bytes | Fault::Lines) => 8,
-            Ending::Refused(Fault::Line(_)) => 9,
+            Ending::Refused(InputFault::TooManyBytes | InputFault::TooManyLines) => 8,
+            Ending::Refused(InputFault::BadLine(_)) => 9,
         }
     }
 }

@@ -2,13 +2,13 @@
 
 ghost use Rattle.std.specs.Prelude.{◌≡◌, ◌≤◌, IfOk, OnErr, OnOk};
 
-use crate::outcome::{Answered, Outcome, Refusal};
-use gl_base::{Status, TxId};
+use crate::outcome::{LineAnswer, Outcome, Refusal};
+use gl_base::{OrNoMemory, Status, TxId};
 use gl_entry::NodeId;
-use gl_lines::{Command, Line};
-use gl_service::{Settings, genesis, node_id};
-use gl_store::{Store, StoreError};
+use gl_lines::Line;
+use gl_store::Store;
 use gl_tx::Request;
+use gl_world::{Settings, genesis, node_id};
 use std::alloc::{AllocError, Global};
 
 /// The view that the node leads.
@@ -34,9 +34,12 @@ impl Machine {
     ghost use Rattle.gl_rules.specs.Replication.{advance};
     ghost use Rattle.gl_rules.specs.Safety.{reported_status};
     ghost use Rattle.gl_rules.specs.World.{leader_at_start};
-    ghost use Rattle.gl_service.specs.Single.{IsSingle};
-    ghost use Rattle.gl_service.specs.Service.{ServiceWorld, service_book, start_of};
-    ghost use Rattle.ccfg.specs.Playing.{IsIn, Prints, PrintsAt};
+    ghost use Rattle.gl_world.specs.Single.{IsSingle};
+    ghost use Rattle.gl_lines.specs.Nodes.{node_of};
+    ghost use Rattle.gl_world.specs.World.{start_of};
+    ghost use Rattle.gl_store.specs.Book.{service_book};
+    ghost use Rattle.ccfg.specs.Play.{IsIn, Tells};
+    ghost use Rattle.ccfg.specs.Told.{Told};
     ghost use Rattle.ccfg.specs.Machine.{IsMachine, GoesOn, Steps, node_in};
 
     /// The node as its service begins.
@@ -44,7 +47,8 @@ impl Machine {
         requires { IsSingle settings }
         ensures machine { IfOk result (λ machine. IsMachine machine) }
         ensures settings { IfOk result (λ machine. machine.settings ≡ settings) }
-        ensures node { IfOk result (λ machine. node_in machine ≡ leader_at_start (start_of settings)) }
+        ensures node { IfOk result (λ machine.
+            node_in machine ≡ leader_at_start (start_of settings)) }
     {
         let id = node_id(&settings, 1);
         let genesis = genesis(alloc, &settings)?;
@@ -61,21 +65,22 @@ impl Machine {
     /// An application request.
     pub fn submit(&mut self, request: &Request) -> Result<Outcome, AllocError>
         requires { IsMachine self.old }
-        ensures steps { IfOk result (λ outcome. Steps (submit service_book request.now (node_in self.old)) self.new outcome) }
+        ensures steps { IfOk result (λ outcome.
+            Steps (submit service_book request.now (node_in self.old)) self.new outcome) }
         ensures goes_on { OnOk result (GoesOn self.old self.new) }
     {
-        let _operations = request.as_slice();
         match self.store.execute(VIEW, request) {
             Ok((id, reply)) => Ok(Outcome::Accepted(id, reply)),
-            Err(StoreError::Refused(why)) => Ok(Outcome::Refused(Refusal::Store(why))),
-            Err(StoreError::Memory) => Err(AllocError),
+            Err(OrNoMemory::Fault(why)) => Ok(Outcome::Refused(Refusal::Store(why))),
+            Err(OrNoMemory::NoMemory) => Err(AllocError),
         }
     }
 
     /// One more reserved leaf.
     pub fn reserve(&mut self) -> Outcome
         requires { IsMachine self.old }
-        ensures steps { Steps (reserve service_book self.old.id (node_in self.old)) self.new result }
+        ensures steps {
+            Steps (reserve service_book self.old.id (node_in self.old)) self.new result }
         ensures goes_on { GoesOn self.old self.new }
     {
         if self.reserved >= LEAVES {
@@ -88,7 +93,8 @@ impl Machine {
     /// A signature over the ledger so far.
     pub fn sign(&mut self) -> Result<Outcome, AllocError>
         requires { IsMachine self.old }
-        ensures steps { IfOk result (λ outcome. Steps (sign service_book self.old.id (node_in self.old)) self.new outcome) }
+        ensures steps { IfOk result (λ outcome.
+            Steps (sign service_book self.old.id (node_in self.old)) self.new outcome) }
         ensures goes_on { OnOk result (GoesOn self.old self.new) }
     {
         if self.used >= self.reserved {
@@ -103,15 +109,16 @@ impl Machine {
                 self.used += 1;
                 Ok(Outcome::Signed(id))
             }
-            Err(StoreError::Refused(why)) => Ok(Outcome::Refused(Refusal::Store(why))),
-            Err(StoreError::Memory) => Err(AllocError),
+            Err(OrNoMemory::Fault(why)) => Ok(Outcome::Refused(Refusal::Store(why))),
+            Err(OrNoMemory::NoMemory) => Err(AllocError),
         }
     }
 
     /// Commits what is signed: the node alone is a majority.
     pub fn advance(&mut self) -> Outcome
         requires { IsMachine self.old }
-        ensures steps { Steps (advance service_book self.old.id (node_in self.old)) self.new result }
+        ensures steps {
+            Steps (advance service_book self.old.id (node_in self.old)) self.new result }
         ensures goes_on { GoesOn self.old self.new }
     {
         let place = self.store.last_signature();
@@ -132,39 +139,42 @@ impl Machine {
         self.store.status(id)
     }
 
-    /// What a command comes to at this node.
-    fn perform(&mut self, command: &Command) -> Result<Answered, AllocError>
-        requires { IsMachine self.old }
-        ensures prints { IfOk result (λ answered. (w : ServiceWorld) → IsIn w self.old → PrintsAt w command.now self.old self.new answered) }
+    /// What a line about this node comes to.
+    fn perform(&mut self, line: &Line) -> Result<LineAnswer, AllocError>
+        requires machine { IsMachine self.old }
+        requires node { node_of line.now ≡ 1 }
+        ensures tells { IfOk result (λ answer. (t : Told) → IsIn t self.old →
+            Tells t line.now self.old self.new answer) }
         ensures goes_on { OnOk result (GoesOn self.old self.new) }
     {
-        match command {
-            Command::Submit(request) => {
+        match line {
+            Line::Submit { request, .. } => {
                 let outcome = self.submit(request)?;
-                Ok(Answered::Event(outcome))
+                Ok(LineAnswer::Event(outcome))
             }
-            Command::Reserve => Ok(Answered::Event(self.reserve())),
-            Command::Sign => {
+            Line::Reserve { .. } => Ok(LineAnswer::Event(self.reserve())),
+            Line::Sign { .. } => {
                 let outcome = self.sign()?;
-                Ok(Answered::Event(outcome))
+                Ok(LineAnswer::Event(outcome))
             }
-            Command::Advance => Ok(Answered::Event(self.advance())),
-            Command::Status(id) => Ok(Answered::Status(self.status(*id))),
-            Command::Ids => Ok(Answered::Ids),
-            Command::Ledger => Ok(Answered::Ledger),
+            Line::Advance { .. } => Ok(LineAnswer::Event(self.advance())),
+            Line::Status { id, .. } => Ok(LineAnswer::Status(self.status(*id))),
+            Line::Ids { .. } => Ok(LineAnswer::Ids),
+            Line::Ledger { .. } => Ok(LineAnswer::Ledger),
         }
     }
 
     /// What a line comes to.
-    pub fn answer(&mut self, line: &Line) -> Result<Answered, AllocError>
+    pub fn answer(&mut self, line: &Line) -> Result<LineAnswer, AllocError>
         requires { IsMachine self.old }
-        ensures prints { IfOk result (λ answered. (w : ServiceWorld) → IsIn w self.old → Prints w line.now self.old self.new answered) }
+        ensures tells { IfOk result (λ answer. (t : Told) → IsIn t self.old →
+            Tells t line.now self.old self.new answer) }
         ensures goes_on { OnOk result (GoesOn self.old self.new) }
     {
-        if line.node == 1 {
-            self.perform(&line.command)
+        if line.node() == 1 {
+            self.perform(line)
         } else {
-            Ok(Answered::NoNode)
+            Ok(LineAnswer::NoNode)
         }
     }
 }

@@ -2,15 +2,15 @@
 #![tactic(auto)]
 
 mod ending;
-mod loading;
+mod load;
 mod machine;
 mod outcome;
-mod playing;
-mod printing;
+mod play;
 mod program;
-mod schedules;
+mod schedule;
 #[cfg(test)]
 mod tests;
+mod text;
 
 use ending::Ending;
 use gl_outside::{StreamSink, StreamSource};

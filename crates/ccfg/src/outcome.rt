@@ -29,7 +29,7 @@ pub enum Outcome {
 
 /// What a line came to.
 #[derive(Debug, Drop)]
-pub enum Answered {
+pub enum LineAnswer {
     Event(Outcome),
     Status(Status),
     /// The identifiers of the committed ledger, as the node now has it.

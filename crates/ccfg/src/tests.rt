@@ -2,21 +2,12 @@
 
 use crate::program::top;
 use gl_outside::{MemSink, MemSource, SureSink, SureSource};
-use sha2::{Digest, Sha256};
 use std::alloc::{AllocError, Global};
 use std::process::Abort;
 use std::test::Fail;
 
-/// The first line of each schedule here.
-const WORLD: &[u8] =
-    b"world 1 0 1 open 0000000000000000000000000000000000000000000000000000000000000000\n";
-
-/// The lines of one schedule without their newlines, each with what is written for it.
-const ROW: [(&[u8], &[u8]); 8] = [
-    (
-        b"world 1 0 1 open 0000000000000000000000000000000000000000000000000000000000000000",
-        b"1 ok\n",
-    ),
+/// Lines behind a first one without their newlines, each with what is written for it.
+const ROW: [(&[u8], &[u8]); 7] = [
     (b"submit 1 put public:t 61 01", b"2 accepted 2.3 done\n"),
     (b"status 1 2.3", b"3 Pending\n"),
     (b"reserve 1", b"4 ok\n"),
@@ -26,12 +17,27 @@ const ROW: [(&[u8], &[u8]); 8] = [
     (b"ids 1", b"8 ids 2.1 2.2 2.3 2.4\n"),
 ];
 
-// The digest of what `ledger 1` writes as the ninth line behind these: 2,823 bytes, made by a program
-// in Python that knows the format alone.
-const LEDGER: [u8; 32] = [
-    0xef, 0xd8, 0x5b, 0x4e, 0x75, 0x58, 0xaf, 0xc3, 0x43, 0xb6, 0x6e, 0x9e, 0xa5, 0xb9, 0xd4, 0x37,
-    0x4b, 0x08, 0x55, 0xe0, 0x55, 0x2b, 0xda, 0xac, 0x84, 0x55, 0xfb, 0xde, 0x36, 0xda, 0x4f, 0xb4,
-];
+/// A first line with these numbers and this state and a seed of zeros, with its newline.
+fn world(alloc: Global, settings: &[u8]) -> Result<Vec<u8>, AllocError> {
+    let mut text = Vec::from_slice(alloc, b"world ")?;
+    text.extend_from_slice(settings)?;
+    text.push(b' ')?;
+    text.extend_from_slice(&[b'0'; 64])?;
+    text.push(b'\n')?;
+    Ok(text)
+}
+
+/// The first line of a service of one open node and one member.
+fn one_open(alloc: Global) -> Result<Vec<u8>, AllocError> {
+    world(alloc, b"1 0 1 open")
+}
+
+/// A first line of these settings, and the lines behind it.
+fn schedule(alloc: Global, settings: &[u8], lines: &[u8]) -> Result<Vec<u8>, AllocError> {
+    let mut text = world(alloc, settings)?;
+    text.extend_from_slice(lines)?;
+    Ok(text)
+}
 
 /// The line that tells the first bad line.
 fn bad_line(alloc: Global, number: usize) -> Result<Vec<u8>, AllocError> {
@@ -40,7 +46,7 @@ fn bad_line(alloc: Global, number: usize) -> Result<Vec<u8>, AllocError> {
 }
 
 /// The words of a command line.
-fn words(alloc: Global, words: &[&str]) -> Result<Vec<String>, AllocError> {
+fn to_words(alloc: Global, words: &[&str]) -> Result<Vec<String>, AllocError> {
     let mut held = Vec::new(alloc);
     for word in words {
         held.push(String::from_str(alloc, word)?)?;
@@ -50,16 +56,25 @@ fn words(alloc: Global, words: &[&str]) -> Result<Vec<String>, AllocError> {
 
 /// The status of a run over a source and a sink that never fail, and what was written.
 fn run(alloc: Global, called: &[&str], text: &[u8]) -> Result<(u8, Vec<u8>), AllocError> {
-    let called = words(alloc, called)?;
+    let called = to_words(alloc, called)?;
     let mut source = SureSource::new(text, 50);
     let mut sink = SureSink::new(alloc, 7);
     let status = top(alloc, &called, &mut source, &mut sink);
     Ok((status, sink.held))
 }
 
+/// The same, of the bytes read in pieces as large as the program takes them.
+fn run_in_large_pieces(alloc: Global, text: &[u8]) -> Result<(u8, Vec<u8>), AllocError> {
+    let called = to_words(alloc, &["replay"])?;
+    let mut source = SureSource::new(text, 65536);
+    let mut sink = SureSink::new(alloc, 50);
+    let status = top(alloc, &called, &mut source, &mut sink);
+    Ok((status, sink.held))
+}
+
 /// The same, of the bytes read in pieces of one, of whose reads one fails.
 fn run_over_failed_read(alloc: Global, text: &[u8], at: u64) -> Result<(u8, Vec<u8>), AllocError> {
-    let called = words(alloc, &["replay"])?;
+    let called = to_words(alloc, &["replay"])?;
     let failing = [at];
     let mut source = MemSource::new(text, 1, &failing);
     let mut sink = SureSink::new(alloc, 50);
@@ -69,7 +84,7 @@ fn run_over_failed_read(alloc: Global, text: &[u8], at: u64) -> Result<(u8, Vec<
 
 /// The same, with a sink that takes each line whole, and of whose writes one fails.
 fn run_over_failed_write(alloc: Global, text: &[u8], at: u64) -> Result<(u8, Vec<u8>), AllocError> {
-    let called = words(alloc, &["replay"])?;
+    let called = to_words(alloc, &["replay"])?;
     let failing = [at];
     let mut source = SureSource::new(text, 50);
     let mut sink = MemSink::new(alloc, 50, &failing);
@@ -78,7 +93,7 @@ fn run_over_failed_write(alloc: Global, text: &[u8], at: u64) -> Result<(u8, Vec
 }
 
 /// These parts, one behind the other.
-fn joined(alloc: Global, parts: &[&[u8]]) -> Result<Vec<u8>, AllocError> {
+fn join(alloc: Global, parts: &[&[u8]]) -> Result<Vec<u8>, AllocError> {
     let mut text = Vec::new(alloc);
     for part in parts {
         text.extend_from_slice(part)?;
@@ -88,8 +103,8 @@ fn joined(alloc: Global, parts: &[&[u8]]) -> Result<Vec<u8>, AllocError> {
 
 /// The text of the row, and what is written for it.
 fn row(alloc: Global) -> Result<(Vec<u8>, Vec<u8>), AllocError> {
-    let mut text = Vec::new(alloc);
-    let mut due = Vec::new(alloc);
+    let mut text = one_open(alloc)?;
+    let mut due = Vec::from_slice(alloc, b"1 ok\n")?;
     for (line, answer) in ROW {
         text.extend_from_slice(line)?;
         text.push(b'\n')?;
@@ -99,39 +114,37 @@ fn row(alloc: Global) -> Result<(Vec<u8>, Vec<u8>), AllocError> {
 }
 
 #[test]
+fn replays_no_bytes(rt: HostRuntime) -> Result<(), Fail> {
+    let (status, written) = run(rt.alloc(), &["replay"], b"")?;
+    assert_eq!(rt; status, 0);
+    assert_eq!(rt; written.len(), 0);
+    Ok(())
+}
+
+#[test]
 fn replays_schedules(rt: HostRuntime) -> Result<(), Fail> {
     let alloc = rt.alloc();
-    let rows: [(&[&[u8]], &[u8]); 6] = [
-        (&[], b""),
-        (&[WORLD], b"1 ok\n"),
+    let rows: [(&[u8], &[u8], &[u8]); 5] = [
+        (b"1 0 1 open", b"", b"1 ok\n"),
         (
-            &[
-                WORLD,
-                b"submit 1 put public:t 61 01\n",
-                b"status 1 2.3\n",
-                b"reserve 1\n",
-                b"sign 1\n",
-                b"advance 1\n",
-                b"status 1 2.3\n",
-            ],
+            b"1 0 1 open",
+            b"submit 1 put public:t 61 01\nstatus 1 2.3\nreserve 1\nsign 1\nadvance 1\nstatus 1 2.3\n",
             b"1 ok\n2 accepted 2.3 done\n3 Pending\n4 ok\n5 signed 2.4\n6 commit 2.4\n7 Committed\n",
         ),
         (
-            &[WORLD, b"sign 1\n", b"reserve 1\n", b"sign 1\n"],
+            b"1 0 1 open",
+            b"sign 1\nreserve 1\nsign 1\n",
             b"1 ok\n2 refused 112 1\n3 ok\n4 refused 114 2\n",
         ),
-        (&[WORLD, b"advance 1\n"], b"1 ok\n2 idle\n"),
+        (b"1 0 1 open", b"advance 1\n", b"1 ok\n2 idle\n"),
         (
-            &[
-                b"world 1 0 64 opening 0000000000000000000000000000000000000000000000000000000000000000\n",
-                b"submit 1 put public:t 61 01\n",
-                b"sign 2\n",
-            ],
+            b"1 0 64 opening",
+            b"submit 1 put public:t 61 01\nsign 2\n",
             b"1 ok\n2 refused 51 1\n3 refused 0\n",
         ),
     ];
-    for (lines, due) in rows {
-        let text = joined(alloc, lines)?;
+    for (settings, lines, due) in rows {
+        let text = schedule(alloc, settings, lines)?;
         let (status, written) = run(alloc, &["replay"], &text)?;
         assert_eq!(rt; status, 0, "of {text:?}");
         assert_eq!(rt; written.as_slice(), due);
@@ -143,13 +156,15 @@ fn replays_schedules(rt: HostRuntime) -> Result<(), Fail> {
 fn reserves_no_more_than_the_key_has(rt: HostRuntime) -> Result<(), Fail> {
     let alloc = rt.alloc();
     let reserves = b"reserve 1\n".repeat(alloc, 32)?;
-    let text = joined(alloc, &[WORLD, &reserves])?;
+    let text = schedule(alloc, b"1 0 1 open", &reserves)?;
     let (status, written) = run(alloc, &["replay"], &text)?;
-    let due: &[u8] = b"1 ok\n2 ok\n3 ok\n4 ok\n5 ok\n6 ok\n7 ok\n8 ok\n9 ok\n10 ok\n11 ok\n12 ok\n\
-        13 ok\n14 ok\n15 ok\n16 ok\n17 ok\n18 ok\n19 ok\n20 ok\n21 ok\n22 ok\n23 ok\n24 ok\n\
-        25 ok\n26 ok\n27 ok\n28 ok\n29 ok\n30 ok\n31 ok\n32 ok\n33 refused 113 32\n";
+    let mut due = Vec::from_slice(alloc, b"1 ok\n")?;
+    for number in 2..33 {
+        due.extend_from_slice(format!(in alloc; "{number} ok\n")?.as_bytes())?;
+    }
+    due.extend_from_slice(b"33 refused 113 32\n")?;
     assert_eq!(rt; status, 0);
-    assert_eq!(rt; written.as_slice(), due);
+    assert_eq!(rt; written.as_slice(), due.as_slice());
     Ok(())
 }
 
@@ -209,7 +224,7 @@ fn runs_each_operation(rt: HostRuntime) -> Result<(), Fail> {
         (b"submit 2 size public:t", b"refused 0"),
         (b"ids 0", b"refused 0"),
     ];
-    let mut text = Vec::from_slice(alloc, WORLD)?;
+    let mut text = one_open(alloc)?;
     let mut due = Vec::from_slice(alloc, b"1 ok\n")?;
     for (i, (line, answer)) in rows.iter().enumerate() {
         text.extend_from_slice(line)?;
@@ -225,32 +240,19 @@ fn runs_each_operation(rt: HostRuntime) -> Result<(), Fail> {
     Ok(())
 }
 
-#[test]
-fn prints_the_ledger(rt: HostRuntime) -> Result<(), Fail> {
-    let alloc = rt.alloc();
-    let (text, due) = row(alloc)?;
-    let text = joined(alloc, &[&text, b"ledger 1\n"])?;
-    let (status, written) = run(alloc, &["replay"], &text)?;
-    assert_eq!(rt; status, 0);
-    assert_eq!(rt; written.len(), due.len() + 2823);
-    let (front, ledger) = written.split_at(due.len());
-    assert_eq!(rt; front, due.as_slice());
-    assert_eq!(rt; Sha256::digest(ledger), LEDGER);
-    Ok(())
-}
-
 /// A value of the greatest size, and 16 gets of it, of which the reply is larger than 1 MiB.
 #[test]
 fn refuses_what_is_too_large(rt: HostRuntime) -> Result<(), Fail> {
     let alloc = rt.alloc();
+    let first = one_open(alloc)?;
     let value = b"00".repeat(alloc, 65536)?;
-    let put = joined(alloc, &[b"put public:t 61 ", &value])?;
-    let more = joined(alloc, &[b" ; ", &put])?.repeat(alloc, 15)?;
+    let put = join(alloc, &[b"put public:t 61 ", &value])?;
+    let more = join(alloc, &[b" ; ", &put])?.repeat(alloc, 15)?;
     let gets = b" ; get public:t 61".repeat(alloc, 15)?;
-    let text = joined(
+    let text = join(
         alloc,
         &[
-            WORLD,
+            &first,
             b"submit 1 ",
             &put,
             b"\nsubmit 1 ",
@@ -269,50 +271,26 @@ fn refuses_what_is_too_large(rt: HostRuntime) -> Result<(), Fail> {
 }
 
 #[test]
+fn refuses_a_first_line_that_begins_no_service(rt: HostRuntime) -> Result<(), Fail> {
+    let (status, written) = run(rt.alloc(), &["replay"], b"word\n")?;
+    assert_eq!(rt; status, 9);
+    assert_eq!(rt; written.as_slice(), b"fault line 1\n".as_slice());
+    Ok(())
+}
+
+#[test]
 fn refuses_what_is_no_schedule(rt: HostRuntime) -> Result<(), Fail> {
     let alloc = rt.alloc();
-    let rows: [(&[&[u8]], usize); 15] = [
-        (&[b"word\n"], 1),
-        (&[b"\n"], 1),
-        (&[b"word"], 1),
-        (
-            &[
-                b"world 2 0 1 open 0000000000000000000000000000000000000000000000000000000000000000\n",
-            ],
-            1,
-        ),
-        (
-            &[
-                b"world 1 1 1 open 0000000000000000000000000000000000000000000000000000000000000000\n",
-            ],
-            1,
-        ),
-        (
-            &[
-                b"world 1 0 65 open 0000000000000000000000000000000000000000000000000000000000000000\n",
-            ],
-            1,
-        ),
-        (
-            &[
-                b"world 1 0 1 closed 0000000000000000000000000000000000000000000000000000000000000000\n",
-            ],
-            1,
-        ),
-        (
-            &[b"world 1 0 1 open 00000000000000000000000000000000000000000000000000000000000000\n"],
-            1,
-        ),
-        (&[WORLD, WORLD], 2),
-        (&[WORLD, b"\n"], 2),
-        (&[WORLD, b"sign 1"], 2),
-        (&[WORLD, b"sign 1\n", b"sign 1 1\n", b"sign\n"], 3),
-        (&[WORLD, b"status 1 02.3\n"], 2),
-        (&[WORLD, b"submit 1 put public:t 61\n"], 2),
-        (&[WORLD, b"submit 1 put public:t 61 01 ;\n"], 2),
+    let rows: [(&[u8], usize); 6] = [
+        (b"\n", 2),
+        (b"sign 1", 2),
+        (b"sign 1\nsign 1 1\nsign\n", 3),
+        (b"status 1 02.3\n", 2),
+        (b"submit 1 put public:t 61\n", 2),
+        (b"submit 1 put public:t 61 01 ;\n", 2),
     ];
     for (lines, number) in rows {
-        let text = joined(alloc, lines)?;
+        let text = schedule(alloc, b"1 0 1 open", lines)?;
         let (status, written) = run(alloc, &["replay"], &text)?;
         assert_eq!(rt; status, 9, "of {text:?}");
         assert_eq!(rt; written.as_slice(), bad_line(alloc, number)?.as_slice());
@@ -324,8 +302,9 @@ fn refuses_what_is_no_schedule(rt: HostRuntime) -> Result<(), Fail> {
 fn takes_one_word_alone(rt: HostRuntime) -> Result<(), Fail> {
     let alloc = rt.alloc();
     let rows: [&[&str]; 5] = [&[], &[""], &["play"], &["Replay"], &["replay", "replay"]];
+    let text = one_open(alloc)?;
     for called in rows {
-        let (status, written) = run(alloc, called, WORLD)?;
+        let (status, written) = run(alloc, called, &text)?;
         assert_eq!(rt; status, 2, "of {called:?}");
         assert_eq!(rt; written.as_slice(), b"fault words\n".as_slice());
     }
@@ -356,10 +335,10 @@ fn replays_a_schedule_cut_at_a_line_and_refuses_each_other_front(
     rt: HostRuntime,
 ) -> Result<(), Fail> {
     let alloc = rt.alloc();
-    let mut text = Vec::new(alloc);
-    let mut due = Vec::new(alloc);
+    let mut text = one_open(alloc)?;
+    let mut due = Vec::from_slice(alloc, b"1 ok\n")?;
     for (i, (line, answer)) in ROW.iter().enumerate() {
-        add_line(&rt, alloc, &mut text, line, i + 1)?;
+        add_line(&rt, alloc, &mut text, line, i + 2)?;
         due.extend_from_slice(answer)?;
         let (status, written) = run(alloc, &["replay"], &text)?;
         assert_eq!(rt; status, 0, "of {text:?}");
@@ -387,10 +366,13 @@ fn ends_with_3_and_writes_nothing_whichever_read_fails(rt: HostRuntime) -> Resul
 #[test]
 fn ends_with_4_behind_the_lines_before_the_failed_write(rt: HostRuntime) -> Result<(), Fail> {
     let alloc = rt.alloc();
-    let (text, _) = row(alloc)?;
-    let mut due = Vec::new(alloc);
+    let (text, whole) = row(alloc)?;
+    let (status, written) = run_over_failed_write(alloc, &text, 1)?;
+    assert_eq!(rt; status, 4);
+    assert_eq!(rt; written.len(), 0);
+    let mut due = Vec::from_slice(alloc, b"1 ok\n")?;
     for (i, (_, answer)) in ROW.iter().enumerate() {
-        let at = i as u64 + 1;
+        let at = i as u64 + 2;
         let (status, written) = run_over_failed_write(alloc, &text, at)?;
         assert_eq!(rt; status, 4, "at write {at}");
         assert_eq!(rt; written.as_slice(), due.as_slice());
@@ -398,7 +380,7 @@ fn ends_with_4_behind_the_lines_before_the_failed_write(rt: HostRuntime) -> Resu
     }
     let (status, written) = run_over_failed_write(alloc, &text, 9)?;
     assert_eq!(rt; status, 0);
-    assert_eq!(rt; written.as_slice(), due.as_slice());
+    assert_eq!(rt; written.as_slice(), whole.as_slice());
     Ok(())
 }
 
@@ -425,7 +407,7 @@ fn tells_its_limits(rt: HostRuntime) -> Result<(), Fail> {
     ];
     for (byte, count, want, due) in rows {
         let text = [byte].repeat(alloc, count)?;
-        let (status, written) = run(alloc, &["replay"], &text)?;
+        let (status, written) = run_in_large_pieces(alloc, &text)?;
         assert_eq!(rt; status, want, "of {count} bytes {byte}");
         assert_eq!(rt; written.as_slice(), due);
     }

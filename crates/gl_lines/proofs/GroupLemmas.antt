@@ -1,7 +1,7 @@
 -- The words of operations, operation by operation.
 use Rattle.std.proofs.Common.{◌≡◌, ℕ, zero, suc, ◌+◌, ◌<◌, ◌≤◌, Bool, true, false, List, [], ◌∷◌, ◌++◌, length, take, drop, Option, None, Some, refl, sym, ◌∙◌, ap, arith, append_assoc, append-nil, add-one, codes, Bor, if◌then◌else◌}
 use Rattle.gl_lines.specs.Words.{is}
-use Rattle.gl_lines.specs.Reading.{arity, groups, grouped}
+use Rattle.gl_lines.specs.Operations.{arity, groups, groups_of}
 use Rattle.gl_lines.specs.Groups.{group_before}
 use Rattle.gl_lines.specs.Parts.{bytes_of}
 
@@ -32,19 +32,19 @@ behind_group group word (name ∷ words) = refl
 
 -- the words up to the end of the first operation
 group_front : (words others : List (Bor (List ℕ))) (name : Bor (List ℕ)) (n : ℕ) → words ≡ name ∷ others → arity name.now ≡ Some n → n < length words →
-    grouped (bytes_of words) ≡ groups (bytes_of (take (n + 1) words)) (Some 0) (bytes_of (drop (n + 1) words))
+    groups_of (bytes_of words) ≡ groups (bytes_of (take (n + 1) words)) (Some 0) (bytes_of (drop (n + 1) words))
 group_front words others name n first asks enough =
     let behind : (List (Bor (List ℕ)) → ℕ → Option (List (List (List ℕ)))) = λ ws m. groups (bytes_of (take m ws)) (Some 0) (bytes_of (drop m ws)) in
-    ap (λ (ws : List (Bor (List ℕ))). grouped (bytes_of ws)) first
+    ap (λ (ws : List (Bor (List ℕ))). groups_of (bytes_of ws)) first
     ∙ ap (λ (o : Option ℕ). groups (name.now ∷ []) o (bytes_of others)) asks
     ∙ taken (name.now ∷ []) n others (omega (arith, ap length first))
     ∙ ap (λ (m : ℕ). behind (name ∷ others) m) (sym (add-one n))
     ∙ ap (λ (ws : List (Bor (List ℕ))). behind ws (n + 1)) (sym first)
 
 pub group_missing : (words others : List (Bor (List ℕ))) (name : Bor (List ℕ)) (n : ℕ) → words ≡ name ∷ others → arity name.now ≡ Some n → length words ≤ n →
-    grouped (bytes_of words) ≡ None
+    groups_of (bytes_of words) ≡ None
 group_missing words others name n first asks few =
-    ap (λ (ws : List (Bor (List ℕ))). grouped (bytes_of ws)) first
+    ap (λ (ws : List (Bor (List ℕ))). groups_of (bytes_of ws)) first
     ∙ ap (λ (o : Option ℕ). groups (name.now ∷ []) o (bytes_of others)) asks
     ∙ missing (name.now ∷ []) n others (omega (arith, ap length first))
 
@@ -54,7 +54,7 @@ empty (x ∷ xs) none = absurd (omega arith)
 
 -- the operation is the last
 pub group_last : (words others front behind : List (Bor (List ℕ))) (name : Bor (List ℕ)) (n : ℕ) → words ≡ name ∷ others → arity name.now ≡ Some n → n < length words →
-    front ≡ take (n + 1) words → behind ≡ drop (n + 1) words → length behind ≡ 0 → grouped (bytes_of words) ≡ Some (bytes_of front ∷ [])
+    front ≡ take (n + 1) words → behind ≡ drop (n + 1) words → length behind ≡ 0 → groups_of (bytes_of words) ≡ Some (bytes_of front ∷ [])
 group_last words others front behind name n first asks enough taken left none =
     group_front words others name n first asks enough
     ∙ ap (λ (ws : List (Bor (List ℕ))). groups (bytes_of ws) (Some 0) (bytes_of (drop (n + 1) words))) (sym taken)
@@ -63,7 +63,7 @@ group_last words others front behind name n first asks enough taken left none =
 -- others follow behind a semicolon
 pub group_first : (words others front behind rest : List (Bor (List ℕ))) (name semicolon : Bor (List ℕ)) (n : ℕ) → words ≡ name ∷ others → arity name.now ≡ Some n → n < length words →
     front ≡ take (n + 1) words → behind ≡ drop (n + 1) words → behind ≡ semicolon ∷ rest → is semicolon.now (codes ";") ≡ true →
-    grouped (bytes_of words) ≡ group_before (bytes_of front) (Some (bytes_of rest))
+    groups_of (bytes_of words) ≡ group_before (bytes_of front) (Some (bytes_of rest))
 group_first words others front behind rest name semicolon n first asks enough taken left next apart =
     group_front words others name n first asks enough
     ∙ ap (λ (ws : List (Bor (List ℕ))). groups (bytes_of ws) (Some 0) (bytes_of (drop (n + 1) words))) (sym taken)
@@ -73,7 +73,7 @@ group_first words others front behind rest name semicolon n first asks enough ta
 
 -- another word follows
 pub group_unread : (words others front behind rest : List (Bor (List ℕ))) (name word : Bor (List ℕ)) (n : ℕ) → words ≡ name ∷ others → arity name.now ≡ Some n → n < length words →
-    front ≡ take (n + 1) words → behind ≡ drop (n + 1) words → behind ≡ word ∷ rest → is word.now (codes ";") ≡ false → grouped (bytes_of words) ≡ None
+    front ≡ take (n + 1) words → behind ≡ drop (n + 1) words → behind ≡ word ∷ rest → is word.now (codes ";") ≡ false → groups_of (bytes_of words) ≡ None
 group_unread words others front behind rest name word n first asks enough taken left next other =
     group_front words others name n first asks enough
     ∙ ap (λ (ws : List (Bor (List ℕ))). groups (bytes_of ws) (Some 0) (bytes_of (drop (n + 1) words))) (sym taken)

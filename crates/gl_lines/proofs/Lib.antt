@@ -2,6 +2,5 @@ pub mod PartLemmas
 pub mod NumberLemmas
 pub mod GroupLemmas
 pub mod OperationLemmas
-pub mod WorldLemmas
 pub mod ReadingLemmas
 pub mod FirstLines

@@ -1,16 +1,13 @@
 -- Taking a text apart, part by part.
-use Rattle.std.proofs.Common.{◌≡◌, ℕ, ◌+◌, ◌<◌, ◌≤◌, zero, suc, Some, None, List, [], ◌∷◌, ◌++◌, length, take, drop, get_or, Bool, true, false, refl, sym, ◌∙◌, ap, arith, append_assoc, append-nil, add-one, drop-cons, if◌then◌else◌, cond, ◌≢◌, ⊎_elim}
+use Rattle.std.proofs.Common.{◌≡◌, ℕ, ◌+◌, ◌<◌, ◌≤◌, List, [], ◌∷◌, ◌++◌, length, take, drop, get_or, Bool, true, false, refl, sym, ◌∙◌, ap, arith, append_assoc, append-nil, add-one, drop-cons, if◌then◌else◌, ◌≢◌, ⊎_elim}
 use Rattle.std.proofs.Math.Dec.{eqb}
 use Rattle.std.proofs.lemmas.Bool.{eq-eqb}
-use Rattle.std.proofs.lemmas.Bool.Decides.{eqb_tells, nat_tests}
+use Rattle.std.proofs.lemmas.Bool.Decides.{eqb_tells}
 use Rattle.std.proofs.lemmas.List.{take_more, take_all, drop-append-le, length-take-le}
 use Rattle.std.proofs.Math.ListN.{drop_of_length-le}
-use Rattle.std.specs.List.{position, position_or_len}
-use Rattle.std.proofs.lemmas.List.Sums.{fails_before_first}
-use Rattle.std.proofs.lemmas.List.Quantifiers.{position-Some}
-use Rattle.gl_lines.specs.Lines.{Split, with_line}
-use Rattle.gl_lines.specs.Words.{words_from, words_of, is_space}
-use Rattle.gl_lines.specs.Parts.{parts_from, parts_of, is_byte}
+use Rattle.gl_lines.specs.Lines.{Split, with_line, is_byte}
+use Rattle.gl_lines.specs.Words.{words_from, is_space}
+use Rattle.gl_lines.specs.Parts.{parts_from}
 
 -- the parts that were found, and those to be found
 abbrev pub with_parts : List (List ℕ) → Split → Split
@@ -78,41 +75,6 @@ last_step end R front text start i past so_far =
     ∙ ap (λ (t : List ℕ). with_parts front (parts_from end (drop start t) [])) (take_all i text past)
     ∙ ap (λ (parts : List (List ℕ)). record { lines = parts; open_line = drop start text }) (append-nil front)
 
--- a first part behind which the byte stands
-part_before : (end : ℕ) (part text : List ℕ) (i : ℕ) → i < length text → ((k : ℕ) → k < i → is_byte end (get_or text k 0) ≡ false) → is_byte end (get_or text i 0) ≡ true →
-    parts_from end part text ≡ with_line (part ++ take i text) (parts_of end (drop 1 (drop i text)))
-part_before end part [] i within before at = absurd (omega arith)
-part_before end part (byte ∷ bytes) zero within before at =
-    ap (λ (b : Bool). if b then with_line part (parts_from end [] bytes) else parts_from end (part ++ byte ∷ []) bytes) at
-    ∙ ap (λ (p : List ℕ). with_line p (parts_of end bytes)) (sym (append-nil part))
-part_before end part (byte ∷ bytes) (suc i) within before at =
-    ap (λ (b : Bool). if b then with_line part (parts_from end [] bytes) else parts_from end (part ++ byte ∷ []) bytes) (before 0 (omega arith))
-    ∙ part_before end (part ++ byte ∷ []) bytes i (omega arith) (λ k below. before (suc k) (omega arith)) at
-    ∙ ap (λ (p : List ℕ). with_line p (parts_of end (drop 1 (drop i bytes)))) (append_assoc part (byte ∷ []) (take i bytes))
-
--- and an open part alone
-open_part : (end : ℕ) (part text : List ℕ) → ((k : ℕ) → k < length text → is_byte end (get_or text k 0) ≡ false) →
-    parts_from end part text ≡ record { lines = []; open_line = part ++ text }
-open_part end part [] none = ap (λ (p : List ℕ). record { lines = []; open_line = p }) (sym (append-nil part))
-open_part end part (byte ∷ bytes) none =
-    ap (λ (b : Bool). if b then with_line part (parts_from end [] bytes) else parts_from end (part ++ byte ∷ []) bytes) (none 0 (omega arith))
-    ∙ open_part end (part ++ byte ∷ []) bytes (λ k below. none (suc k) (omega arith))
-    ∙ ap (λ (p : List ℕ). record { lines = []; open_line = p }) (append_assoc part (byte ∷ []) bytes)
-
-pub first_part_found : (end : ℕ) (text : List ℕ) (i : ℕ) → position (is_byte end) text ≡ Some i → parts_of end text ≡ with_line (take i text) (parts_of end (drop 1 (drop i text)))
-first_part_found end text i e =
-    let there = position-Some (is_byte end) text i 0 e in
-    part_before end [] text i there.0 there.2 there.1
-
-not_found : (b : Bool) (n : ℕ) → cond b (Some n) None ≡ None → b ≡ false
-not_found true n e = cc
-not_found false n e = refl
-
-pub first_part_open : (end : ℕ) (text : List ℕ) → position (is_byte end) text ≡ None → parts_of end text ≡ record { lines = []; open_line = text }
-first_part_open end text e =
-    let none : length text ≤ position_or_len (is_byte end) text = grind (arith, nat_tests, not_found _ _ e) in
-    open_part end [] text (λ k below. fails_before_first (is_byte end) text k 0 (omega arith))
-
 -- the words of a line are the parts that a space ends, and the last
 abbrev pub all_parts : Split → List (List ℕ)
 all_parts split = split.lines ++ split.open_line ∷ []
@@ -127,9 +89,3 @@ words_are_parts word (byte ∷ bytes) =
     ap (λ (ws : List (List ℕ)). if is_space byte then word ∷ ws else words_from (word ++ byte ∷ []) bytes) (words_are_parts [] bytes)
     ∙ ap (λ (ws : List (List ℕ)). if is_space byte then word ∷ all_parts (parts_from 32 [] bytes) else ws) (words_are_parts (word ++ byte ∷ []) bytes)
     ∙ sym (all_parts_cond (is_space byte) word (parts_from 32 [] bytes) (parts_from 32 (word ++ byte ∷ []) bytes))
-
-pub last_word : (text : List ℕ) → parts_of 32 text ≡ record { lines = []; open_line = text } → words_of text ≡ text ∷ []
-last_word text e = words_are_parts [] text ∙ ap all_parts e
-
-pub next_word : (text word rest : List ℕ) → parts_of 32 text ≡ with_line word (parts_of 32 rest) → words_of text ≡ word ∷ words_of rest
-next_word text word rest e = words_are_parts [] text ∙ ap all_parts e ∙ ap (λ (ws : List (List ℕ)). word ∷ ws) (sym (words_are_parts [] rest))

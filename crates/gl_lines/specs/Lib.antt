@@ -2,7 +2,9 @@ pub mod Lines
 pub mod Words
 pub mod Parts
 pub mod Numbers
-pub mod Reading
+pub mod Operations
 pub mod Groups
-pub mod Stops
-pub mod Schedules
+pub mod Reading
+pub mod Worlds
+pub mod Nodes
+pub mod AtLines

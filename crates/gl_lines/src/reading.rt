@@ -1,140 +1,170 @@
 //! What the text of a schedule says.
 
-ghost use Rattle.std.specs.Prelude.{◌≡◌, IfOk};
-ghost use Rattle.gl_lines.specs.Stops.{Gives, ReadsAs};
+ghost use Rattle.std.specs.Prelude.{◌≡◌};
+ghost use Rattle.std.specs.Option.{option_copied};
+ghost use Rattle.gl_base.specs.Answers.{Answers};
+ghost use Rattle.gl_base.specs.declared.or_no_memory.OrNoMemory.TheVariants.{Fault};
+ghost use Rattle.gl_lines.specs.declared.fault.ScheduleFault.TheVariants.{BadLine};
 ghost use Rattle.gl_lines.specs.Parts.{bytes_of};
-ghost use Rattle.gl_lines.specs.Schedules.{HasFewMembers};
-ghost use Rattle.gl_lines.specs.Reading.{request_of, alone, status_of, command_of, words_read, line_of, lines_read, schedule_of, reads};
+ghost use Rattle.gl_lines.specs.AtLines.{AtLine};
+ghost use Rattle.gl_lines.specs.Reading.{first_line, line_of, lines_behind, lines_read, long_line, node_line, request_of, short_line, submit_line};
 
+use crate::fault::{LineFault, ScheduleFault};
+use crate::line::{Line, Lines};
 use crate::numbers::counted_number;
 use crate::operations::operations_of;
-use crate::schedule::{Command, Line, Lines, Schedule};
-use crate::split::{lines_of, words_of};
-use crate::stop::{ReadError, Stop};
-use crate::world::world_of;
-use gl_base::TxId;
+use crate::split::{cut, lines_of, words_of};
+use crate::world::{WorldLine, world_of};
+use gl_base::{OrNoMemory, TxId};
 use gl_tx::{Operation, Request};
 use std::alloc::Global;
 
-fn request_of(operations: Vec<Operation>) -> Result<Command, Stop>
-    ensures { Gives (λ x. x) result (request_of operations.items) }
-{
-    match Request::new(operations) {
-        Some(request) => Ok(Command::Submit(request)),
-        None => Err(Stop::NoReading),
-    }
-}
-
-fn alone(name: &[u8]) -> Result<Command, Stop>
-    ensures { Gives (λ x. x) result (alone name.now) }
+/// A command that asks for nothing but its node.
+fn short_line(name: &[u8], node: u128) -> Result<Line, LineFault>
+    ensures { result ≡ short_line name.now node }
 {
     if name == b"reserve".as_slice() {
-        Ok(Command::Reserve)
+        Ok(Line::Reserve { node })
     } else if name == b"sign".as_slice() {
-        Ok(Command::Sign)
+        Ok(Line::Sign { node })
     } else if name == b"advance".as_slice() {
-        Ok(Command::Advance)
+        Ok(Line::Advance { node })
     } else if name == b"ids".as_slice() {
-        Ok(Command::Ids)
+        Ok(Line::Ids { node })
     } else if name == b"ledger".as_slice() {
-        Ok(Command::Ledger)
+        Ok(Line::Ledger { node })
     } else {
-        Err(Stop::NoReading)
+        Err(LineFault::NoReading)
     }
 }
 
-fn status_of(words: &[&[u8]]) -> Result<Command, Stop>
-    ensures { Gives (λ x. x) result (status_of (bytes_of words.now)) }
+fn request_of(node: u128, operations: Vec<Operation>) -> Result<Line, LineFault>
+    ensures { result ≡ request_of node operations.items }
 {
-    match words {
-        [id] => match TxId::parse(id) {
-            Ok(id) => Ok(Command::Status(id)),
-            Err(_) => Err(Stop::NoReading),
-        },
-        _ => Err(Stop::NoReading),
+    match Request::new(operations) {
+        Some(request) => Ok(Line::Submit { node, request }),
+        None => Err(LineFault::NoReading),
     }
 }
 
-/// A command, and the words behind the number of its node.
-#[tactic(auto, unfolding(crate::specs::Reading::command_of))]
-fn command_of(alloc: Global, name: &[u8], words: &[&[u8]]) -> Result<Command, Stop>
-    ensures { Gives (λ x. x) result (command_of name.now (bytes_of words.now)) }
+fn submit_line(alloc: Global, node: u128, rest: &[u8]) -> Result<Line, OrNoMemory<LineFault>>
+    ensures { Answers (λ x. x) result (submit_line node rest.now) }
 {
-    match words {
-        [] => alone(name),
-        _ if name == b"submit".as_slice() => request_of(operations_of(alloc, words)?),
-        _ if name == b"status".as_slice() => status_of(words),
-        _ => Err(Stop::NoReading),
+    let words = words_of(alloc, rest)?;
+    let operations = operations_of(alloc, &words)?;
+    Ok(request_of(node, operations)?)
+}
+
+/// A command that asks for what stands behind its node.
+fn long_line(
+    alloc: Global,
+    name: &[u8],
+    node: u128,
+    rest: &[u8],
+) -> Result<Line, OrNoMemory<LineFault>>
+    ensures { Answers (λ x. x) result (long_line name.now node rest.now) }
+{
+    if name == b"submit".as_slice() {
+        submit_line(alloc, node, rest)
+    } else if name == b"status".as_slice() {
+        match TxId::parse(rest) {
+            Ok(id) => Ok(Line::Status { node, id }),
+            Err(_) => Err(OrNoMemory::Fault(LineFault::NoReading)),
+        }
+    } else {
+        Err(OrNoMemory::Fault(LineFault::NoReading))
     }
 }
 
-#[tactic(auto, unfolding(crate::specs::Reading::words_read))]
-fn words_read(alloc: Global, words: &[&[u8]]) -> Result<Line, Stop>
-    ensures { Gives (λ x. x) result (words_read (bytes_of words.now)) }
+#[tactic(auto, unfolding(crate::specs::Reading::node_line))]
+fn node_line(
+    alloc: Global,
+    name: &[u8],
+    node: u128,
+    rest: Option<&[u8]>,
+) -> Result<Line, OrNoMemory<LineFault>>
+    ensures { Answers (λ x. x) result (node_line name.now node (option_copied rest.entry)) }
 {
-    match words {
-        [name, node, words @ ..] => match counted_number(node) {
-            Some(node) => {
-                let command = command_of(alloc, name, words)?;
-                Ok(Line { node, command })
-            }
-            None => Err(Stop::NoReading),
-        },
-        _ => Err(Stop::NoReading),
+    match rest {
+        None => Ok(short_line(name, node)?),
+        Some(rest) => long_line(alloc, name, node, rest),
     }
 }
 
 /// What a line behind the first one says.
-#[tactic(auto, unfolding(crate::specs::Reading::line_of))]
-fn line_of(alloc: Global, line: &[u8]) -> Result<Line, Stop>
-    ensures { Gives (λ x. x) result (line_of line.now) }
+#[tactic(auto, unfolding(crate::specs::Reading::line_of, crate::specs::Reading::command_line))]
+fn line_of(alloc: Global, line: &[u8]) -> Result<Line, OrNoMemory<LineFault>>
+    ensures { Answers (λ x. x) result (line_of line.now) }
 {
-    let words = words_of(alloc, line)?;
-    words_read(alloc, &words)
+    let (name, Some(behind)) = cut(line, b' ') else {
+        return Err(OrNoMemory::Fault(LineFault::NoReading));
+    };
+    let (number, rest) = cut(behind, b' ');
+    let node = counted_number(number)?;
+    node_line(alloc, name, node, rest)
+}
+
+fn bad_line(number: u64) -> OrNoMemory<ScheduleFault>
+    ensures { result ≡ Fault (BadLine number) }
+{
+    OrNoMemory::Fault(ScheduleFault::BadLine(number))
+}
+
+/// What stops the reading of the line with this number stops that of the schedule.
+fn at_line(number: u64, stop: OrNoMemory<LineFault>) -> OrNoMemory<ScheduleFault>
+    ensures { AtLine number stop result }
+{
+    match stop {
+        OrNoMemory::NoMemory => OrNoMemory::NoMemory,
+        OrNoMemory::Fault(LineFault::NoReading) => bad_line(number),
+    }
 }
 
 /// The lines behind the first one. An open line, which has no newline, says nothing.
-fn lines_read(alloc: Global, lines: &[&[u8]], is_open: bool) -> Result<Vec<Line>, ReadError>
-    ensures { ReadsAs (λ all. all.items) result (lines_read 2 (bytes_of lines.now) is_open) }
+fn lines_read(
+    alloc: Global,
+    lines: &[&[u8]],
+    is_open: bool,
+) -> Result<Vec<Line>, OrNoMemory<ScheduleFault>>
+    ensures { Answers (λ all. all.items) result (lines_read 2 (bytes_of lines.now) is_open) }
 {
     let mut all = Vec::new(alloc);
     for (i, line) in lines.iter().enumerate() {
         match line_of(alloc, line) {
             Ok(line) => all.push(line)?,
-            Err(Stop::Memory) => return Err(ReadError::NoMemory),
-            Err(Stop::NoReading) => return Err(ReadError::BadLine(i as u64 + 2)),
+            Err(stop) => return Err(at_line(i as u64 + 2, stop)),
         }
     }
     if is_open {
-        return Err(ReadError::BadLine(lines.len() as u64 + 2));
+        return Err(bad_line(lines.len() as u64 + 2));
     }
     Ok(all)
 }
 
-#[tactic(auto, unfolding(crate::specs::Reading::schedule_of))]
-fn schedule_of(alloc: Global, lines: &[&[u8]], is_open: bool) -> Result<Schedule, ReadError>
-    ensures gives { ReadsAs (λ x. x) result (schedule_of (bytes_of lines.now) is_open) }
-    ensures members { IfOk result (λ schedule. HasFewMembers schedule) }
-{
-    match lines {
-        [] if is_open => Err(ReadError::BadLine(1)),
-        [] => Ok(Schedule::Empty),
-        [first, rest @ ..] => match world_of(first) {
-            Some(world) => {
-                let lines = lines_read(alloc, rest, is_open)?;
-                Ok(Schedule::Service(world, Lines::from(lines)))
-            }
-            None => Err(ReadError::BadLine(1)),
-        },
-    }
-}
-
-/// The schedule that a text is, or else the first of its lines that says nothing.
-#[tactic(auto, unfolding(crate::specs::Reading::reads))]
-pub fn read(alloc: Global, text: &[u8]) -> Result<Schedule, ReadError>
-    ensures gives { ReadsAs (λ x. x) result (reads text.now) }
-    ensures members { IfOk result (λ schedule. HasFewMembers schedule) }
+/// The lines of the text behind the first line, or else the first of them that says nothing.
+#[tactic(auto, unfolding(crate::specs::Reading::lines_behind))]
+pub fn read_lines(alloc: Global, text: &[u8]) -> Result<Lines, OrNoMemory<ScheduleFault>>
+    ensures { Answers (λ x. x) result (lines_behind text.now) }
 {
     let (lines, open) = lines_of(alloc, text)?;
-    schedule_of(alloc, &lines, !open.is_empty())
+    let lines = lines_read(alloc, &lines, !open.is_empty())?;
+    Ok(Lines::from(lines))
+}
+
+/// What the first line of a text says, and the text behind that line. A text without a newline has
+/// no first line.
+#[tactic(auto, unfolding(crate::specs::Reading::first_line))]
+pub fn read_first_line(
+    alloc: Global,
+    text: &[u8],
+) -> Result<(WorldLine, &[u8]), OrNoMemory<ScheduleFault>>
+    ensures { Answers (λ x. (x.0, x.1.now)) result (first_line text.now) }
+{
+    let (line, Some(rest)) = cut(text, b'\n') else {
+        return Err(bad_line(1));
+    };
+    match world_of(alloc, line) {
+        Ok(world) => Ok((world, rest)),
+        Err(stop) => Err(at_line(1, stop)),
+    }
 }

@@ -1,10 +1,10 @@
 //! The lines of a text, and the words of a line.
 
-ghost use Rattle.std.specs.Prelude.{◌≡◌, ◌+◌, ◌<◌, [], ◌∷◌, IfOk, length, position, count_by, MatchOption};
+ghost use Rattle.std.specs.Prelude.{◌≡◌, IfOk, position};
 ghost use Rattle.std.specs.Option.{option_copied};
-ghost use Rattle.gl_lines.specs.Lines.{line_count, lines_of, with_line};
+ghost use Rattle.gl_lines.specs.Lines.{cut, is_byte, line_count, lines_of};
 ghost use Rattle.gl_lines.specs.Words.{words_of};
-ghost use Rattle.gl_lines.specs.Parts.{is_byte, parts_of, words_left, bytes_of};
+ghost use Rattle.gl_lines.specs.Parts.{parts_of, bytes_of};
 
 use std::alloc::{AllocError, Global};
 
@@ -61,47 +61,16 @@ fn first_place(text: &[u8], byte: u8) -> Option<usize>
     text.iter().position(|other| *other == byte)
 }
 
-/// What stands before the first such byte of a text and what stands behind it, if there is one.
-#[tactic(auto, using(crate::proofs::PartLemmas::first_part_found, crate::proofs::PartLemmas::first_part_open))]
-pub(crate) fn first_part(text: &[u8], end: u8) -> Option<(&[u8], &[u8])>
-    ensures { MatchOption result
-        (parts_of end text.now ≡ record { lines = []; open_line = text.now })
-        (λ x. parts_of end text.now ≡ with_line x.0.now (parts_of end x.1.now)) }
+/// A text up to the first such byte, and what stands behind that byte, if the text has one.
+pub(crate) fn cut(text: &[u8], byte: u8) -> (&[u8], Option<&[u8]>)
+    ensures { cut byte text.now ≡ record { front = result.0.now; behind = option_copied result.1 } }
 {
-    match first_place(text, end) {
-        None => None,
+    match first_place(text, byte) {
+        None => (text, None),
         Some(place) => {
-            let (part, behind) = text.split_at(place);
+            let (front, behind) = text.split_at(place);
             let (_, rest) = behind.split_at(1);
-            Some((part, rest))
+            (front, Some(rest))
         }
     }
-}
-
-/// The next word of what is left of a line, and what is left behind it. `None` where nothing is left.
-#[tactic(auto, using(crate::proofs::PartLemmas::next_word, crate::proofs::PartLemmas::last_word))]
-fn next_word(left: Option<&[u8]>) -> Option<(&[u8], Option<&[u8]>)>
-    ensures { MatchOption result
-        (words_left (option_copied left.entry) ≡ [])
-        (λ x. words_left (option_copied left.entry) ≡ x.0.now ∷ words_left (option_copied x.1)) }
-{
-    let text = left?;
-    match first_part(text, b' ') {
-        None => Some((text, None)),
-        Some((word, rest)) => Some((word, Some(rest))),
-    }
-}
-
-/// The next three words of what is left of a line, and what is left behind them. `None` where fewer
-/// are left.
-pub(crate) fn three_words(left: Option<&[u8]>) -> Option<(&[u8], &[u8], &[u8], Option<&[u8]>)>
-    ensures { MatchOption result
-        (length (words_left (option_copied left.entry)) < 3)
-        (λ x. words_left (option_copied left.entry)
-        ≡ x.0.now ∷ x.1.now ∷ x.2.now ∷ words_left (option_copied x.3)) }
-{
-    let (first, left) = next_word(left)?;
-    let (second, left) = next_word(left)?;
-    let (third, left) = next_word(left)?;
-    Some((first, second, third, left))
 }

@@ -1,15 +1,16 @@
 //! Schedules and what they read as, worked out by hand.
 
 use super::*;
+use gl_base::OrNoMemory;
 use std::alloc::{AllocError, Global};
 use std::test::Fail;
 
-/// The first line of each schedule here.
-const WORLD: &[u8] =
-    b"world 1 0 3 open 00000000000000000000000000000000000000000000000000000000000000ff";
+fn bad_line(number: u64) -> OrNoMemory<ScheduleFault> {
+    OrNoMemory::Fault(ScheduleFault::BadLine(number))
+}
 
 /// These lines, each with its newline.
-fn joined(alloc: Global, lines: &[&[u8]]) -> Result<Vec<u8>, AllocError> {
+fn join_lines(alloc: Global, lines: &[&[u8]]) -> Result<Vec<u8>, AllocError> {
     let mut text = Vec::new(alloc);
     for line in lines {
         text.extend_from_slice(line)?;
@@ -19,23 +20,15 @@ fn joined(alloc: Global, lines: &[&[u8]]) -> Result<Vec<u8>, AllocError> {
 }
 
 /// What a line reads as behind the first: its operations, or its node and command.
-fn shown(alloc: Global, line: &[u8]) -> Result<String, AllocError> {
-    let text = joined(alloc, &[WORLD, line])?;
-    match read(alloc, &text) {
-        Ok(Schedule::Service(_, lines)) => match lines.as_slice() {
-            [line] => shown_line(alloc, line),
+fn line_shown(alloc: Global, line: &[u8]) -> Result<String, AllocError> {
+    let text = join_lines(alloc, &[line])?;
+    match read_lines(alloc, &text) {
+        Ok(lines) => match lines.as_slice() {
+            [Line::Submit { request, .. }] => format!(in alloc; "{:?}", request.as_slice()),
+            [line] => format!(in alloc; "{line:?}"),
             _ => String::from_str(alloc, "other lines"),
         },
-        Ok(Schedule::Empty) => String::from_str(alloc, "empty"),
         Err(e) => format!(in alloc; "{e:?}"),
-    }
-}
-
-fn shown_line(alloc: Global, line: &Line) -> Result<String, AllocError> {
-    let node = line.node;
-    match &line.command {
-        Command::Submit(request) => format!(in alloc; "{:?}", request.as_slice()),
-        command => format!(in alloc; "{node} {command:?}"),
     }
 }
 
@@ -90,7 +83,7 @@ fn reads_operations(rt: HostRuntime) -> Result<(), Fail> {
     ];
     let alloc = rt.alloc();
     for (line, want) in rows {
-        assert_eq!(rt; shown(alloc, line)?.as_str(), want, "of {line:?}");
+        assert_eq!(rt; line_shown(alloc, line)?.as_str(), want, "of {line:?}");
     }
     Ok(())
 }
@@ -98,23 +91,26 @@ fn reads_operations(rt: HostRuntime) -> Result<(), Fail> {
 #[test]
 fn reads_commands(rt: HostRuntime) -> Result<(), Fail> {
     let rows: [(&[u8], &str); 7] = [
-        (b"reserve 0", "0 Reserve"),
-        (b"sign 9", "9 Sign"),
+        (b"reserve 0", "Reserve { node: 0 }"),
+        (b"sign 9", "Sign { node: 9 }"),
         (
             b"advance 340282366920938463463374607431768211455",
-            "340282366920938463463374607431768211455 Advance",
+            "Advance { node: 340282366920938463463374607431768211455 }",
         ),
-        (b"ids 10", "10 Ids"),
-        (b"ledger 1", "1 Ledger"),
+        (b"ids 10", "Ids { node: 10 }"),
+        (b"ledger 1", "Ledger { node: 1 }"),
         (
             b"status 1 4294967295.1099511627775",
-            "1 Status(TxId { view: 4294967295, seqno: 1099511627775 })",
+            "Status { node: 1, id: TxId { view: 4294967295, seqno: 1099511627775 } }",
         ),
-        (b"status 2 2.3", "2 Status(TxId { view: 2, seqno: 3 })"),
+        (
+            b"status 2 2.3",
+            "Status { node: 2, id: TxId { view: 2, seqno: 3 } }",
+        ),
     ];
     let alloc = rt.alloc();
     for (line, want) in rows {
-        assert_eq!(rt; shown(alloc, line)?.as_str(), want, "of {line:?}");
+        assert_eq!(rt; line_shown(alloc, line)?.as_str(), want, "of {line:?}");
     }
     Ok(())
 }
@@ -157,7 +153,11 @@ fn refuses_lines(rt: HostRuntime) -> Result<(), Fail> {
     ];
     let alloc = rt.alloc();
     for line in rows {
-        assert_eq!(rt; shown(alloc, line)?.as_str(), "BadLine(2)", "of {line:?}");
+        assert_eq!(rt;
+            line_shown(alloc, line)?.as_str(),
+            "Fault(BadLine(2))",
+            "of {line:?}"
+        );
     }
     Ok(())
 }
@@ -179,108 +179,94 @@ fn many_operations(alloc: Global, count: usize) -> Result<Vec<u8>, AllocError> {
 fn reads_64_operations_and_no_more(rt: HostRuntime) -> Result<(), Fail> {
     let alloc = rt.alloc();
     let line = many_operations(alloc, 64)?;
-    let text = joined(alloc, &[WORLD, &line])?;
-    assert!(rt; read(alloc, &text).is_ok());
+    let text = join_lines(alloc, &[&line])?;
+    assert!(rt; read_lines(alloc, &text).is_ok());
     let line = many_operations(alloc, 65)?;
-    let text = joined(alloc, &[WORLD, &line])?;
-    assert_eq!(rt; read(alloc, &text).err(), Some(ReadError::BadLine(2)));
+    let text = join_lines(alloc, &[&line])?;
+    assert_eq!(rt; read_lines(alloc, &text).err(), Some(bad_line(2)));
     Ok(())
 }
 
-/// The members and the state that a first line tells, of which this stands before the seed.
-fn shown_world(alloc: Global, settings: &[u8]) -> Result<Option<(u8, bool, u8)>, AllocError> {
-    let (_, seed) = WORLD.split_at(17);
-    let mut text = Vec::new(alloc);
-    text.extend_from_slice(settings)?;
-    text.extend_from_slice(seed)?;
-    text.push(b'\n')?;
-    match first_world(&text) {
-        Some(world) => Ok(Some((world.members, world.is_open, world.seed[31]))),
-        None => Ok(None),
-    }
+/// A first line with these settings and a seed of zeros that ends so.
+fn world_line(alloc: Global, settings: &[u8], end: &[u8]) -> Result<Vec<u8>, AllocError> {
+    let mut text = Vec::from_slice(alloc, settings)?;
+    text.extend_from_slice(&[b'0'; 62])?;
+    text.extend_from_slice(end)?;
+    Ok(text)
 }
 
 #[test]
 fn reads_first_lines(rt: HostRuntime) -> Result<(), Fail> {
-    let rows: [(&[u8], Option<(u8, bool, u8)>); 15] = [
-        (b"world 1 0 1 open ", Some((1, true, 255))),
-        (b"world 1 0 64 opening ", Some((64, false, 255))),
-        (b"world 1 0 0 open ", None),
-        (b"world 1 0 65 open ", None),
-        (b"world 1 0 064 open ", None),
-        (b"world 1 0 1 closed ", None),
-        (b"world 2 0 1 open ", None),
-        (b"world 1 1 1 open ", None),
-        (b"world 01 0 1 open ", None),
-        (b"word 1 0 1 open ", None),
-        (b"world 1 0 1  open ", None),
-        (b"world 1 0 1 open 00 ", None),
-        (b"world 1 0 1 open 0", None),
-        (b"world 1 0 1 open 00", None),
-        (b"world 1 0 1 ", None),
-    ];
     let alloc = rt.alloc();
-    for (settings, want) in rows {
-        assert_eq!(rt; shown_world(alloc, settings)?, want, "of {settings:?}");
+    let rows: [(&[u8], u8, bool); 3] = [
+        (b"world 1 0 1 open ", 1, true),
+        (b"world 1 0 64 opening ", 64, false),
+        (b"world 1 0 3 open ", 3, true),
+    ];
+    for (settings, members, is_open) in rows {
+        let text = world_line(alloc, settings, b"ff\nsign 1\n")?;
+        let (world, behind) = read_first_line(alloc, &text)?;
+        assert_eq!(rt; (world.starting, world.joiners), (1, 0));
+        assert_eq!(rt; (world.members, world.is_open), (members, is_open));
+        assert_eq!(rt; (world.seed[0], world.seed[31]), (0, 255));
+        assert_eq!(rt; behind, b"sign 1\n".as_slice());
     }
     Ok(())
 }
 
 #[test]
-fn tells_a_bad_first_line(rt: HostRuntime) {
-    let rows: [&[u8]; 4] = [
-        b"\n",
-        b"sign 1\n",
-        b"word 1 0 3 open 00000000000000000000000000000000000000000000000000000000000000ff\nsign\n",
-        // A digit of the seed is missing.
-        b"world 1 0 3 open 0000000000000000000000000000000000000000000000000000000000000ff\nsign\n",
+fn refuses_first_lines(rt: HostRuntime) -> Result<(), Fail> {
+    let alloc = rt.alloc();
+    let rows: [(&[u8], &[u8]); 19] = [
+        (b"world 1 0 0 open ", b"ff\n"),
+        (b"world 1 0 65 open ", b"ff\n"),
+        (b"world 1 0 064 open ", b"ff\n"),
+        (b"world 1 0 1 closed ", b"ff\n"),
+        (b"world 0 0 1 open ", b"ff\n"),
+        (b"world 2 0 1 open ", b"ff\n"),
+        (b"world 1 1 1 open ", b"ff\n"),
+        (b"world 01 0 1 open ", b"ff\n"),
+        (b"word 1 0 1 open ", b"ff\n"),
+        (b"world 1 0 1  open ", b"ff\n"),
+        (b"world 1 0 1 ", b"ff\n"),
+        (b"world 1 0 1 open 00 ", b"ff\n"),
+        (b"world 1 0 1 open 0", b"ff\n"),
+        (b"world 1 0 1 open ", b"f\n"),
+        (b"world 1 0 1 open ", b"FF\n"),
+        (b"world 1 0 1 open ", b"ff \n"),
+        (b"world 1 0 1 open ", b"ff"),
+        (b"\nworld 1 0 1 open ", b"ff\n"),
+        (b"", b""),
     ];
-    for text in rows {
+    for (settings, end) in rows {
+        let text = world_line(alloc, settings, end)?;
         assert_eq!(rt;
-            read(rt.alloc(), text).err(),
-            Some(ReadError::BadLine(1)),
-            "of {text:?}"
+            read_first_line(alloc, &text).err(),
+            Some(bad_line(1)),
+            "of {settings:?} {end:?}"
         );
-        assert!(rt; first_world(text).is_none());
     }
+    Ok(())
 }
 
 #[test]
 fn tells_the_first_bad_line(rt: HostRuntime) -> Result<(), Fail> {
-    let rows: [(&[u8], u64, usize); 4] = [
-        (b"", 1, 1),
-        (b"\nsign 1\nsign\nsign 1", 3, 4),
-        (b"\n\nsign 1\nsign\n", 2, 4),
-        (b"\nsign 1\nsign 1\nsign 1", 4, 4),
+    let rows: [(&[u8], Option<u64>, usize); 6] = [
+        (b"", None, 0),
+        (b"sign 1\n", None, 1),
+        (b"sign 1", Some(2), 1),
+        (b"sign 1\nsign\nsign 1", Some(3), 3),
+        (b"\nsign 1\nsign\n", Some(2), 3),
+        (b"sign 1\nsign 1\nsign 1", Some(4), 3),
     ];
     let alloc = rt.alloc();
-    for (behind, number, count) in rows {
-        let mut text = Vec::from_slice(alloc, WORLD)?;
-        text.extend_from_slice(behind)?;
+    for (text, bad, count) in rows {
         assert_eq!(rt;
-            read(alloc, &text).err(),
-            Some(ReadError::BadLine(number)),
+            read_lines(alloc, text).err(),
+            bad.map(bad_line),
             "of {text:?}"
         );
-        assert_eq!(rt; line_count(&text), count);
-    }
-    Ok(())
-}
-
-#[test]
-fn reads_no_bytes_and_no_lines(rt: HostRuntime) -> Result<(), Fail> {
-    let alloc = rt.alloc();
-    assert!(rt; matches!(read(alloc, b"")?, Schedule::Empty));
-    assert_eq!(rt; line_count(b""), 0);
-    assert!(rt; first_world(b"").is_none());
-    assert!(rt; first_world(WORLD).is_none());
-    let text = joined(alloc, &[WORLD])?;
-    match read(alloc, &text)? {
-        Schedule::Service(world, lines) => {
-            assert_eq!(rt; (world.members, world.is_open), (3, true));
-            assert_eq!(rt; lines.as_slice().len(), 0);
-        }
-        Schedule::Empty => assert!(rt; false),
+        assert_eq!(rt; line_count(text), count);
     }
     Ok(())
 }

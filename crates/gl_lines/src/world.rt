@@ -1,83 +1,107 @@
-//! The first line of a schedule, which is read in place.
+//! The first line of a schedule, with which a service begins.
 
-ghost use Rattle.std.specs.Prelude.{◌≡◌, ◌≤◌, ◌&&◌, IfSome, codes};
-ghost use Rattle.gl_lines.specs.Words.{is};
-ghost use Rattle.gl_lines.specs.Reading.{state_of, in_members, settings_read, world_of, first_world};
+ghost use Rattle.std.specs.Prelude.{◌≡◌};
+ghost use Rattle.gl_base.specs.Answers.{Answers};
+ghost use Rattle.gl_lines.specs.Parts.{bytes_of};
+ghost use Rattle.gl_lines.specs.Reading.{number_within, settings_read, state_of, world_of, world_read};
 
+use crate::fault::LineFault;
 use crate::names::seed_of;
 use crate::numbers::counted_number;
-use crate::schedule::WorldLine;
-use crate::split::{first_part, three_words};
+use crate::split::words_of;
+use gl_base::OrNoMemory;
+use std::alloc::Global;
 
-fn state_of(word: &[u8]) -> Option<bool>
-    ensures { result ≡ state_of word.now }
+/// How many nodes may start: one, until schedules have many nodes.
+const STARTING_LIMIT: u8 = 1;
+
+/// How many nodes may join.
+const JOINERS_LIMIT: u8 = 0;
+
+/// How many members may govern the service.
+const MEMBERS_LIMIT: u8 = 64;
+
+/// The first line of a schedule: a service that begins.
+#[derive(Clone, Copy, Debug)]
+pub struct WorldLine {
+    /// How many nodes start: 1.
+    pub starting: u8,
+    /// How many nodes join later: none.
+    pub joiners: u8,
+    /// How many members govern the service, from 1 to 64.
+    pub members: u8,
+    /// Whether the service begins open; else it begins opening.
+    pub is_open: bool,
+    /// All keys of the service come from this seed.
+    pub seed: [u8; 32],
+}
+
+/// A number from one to another.
+#[tactic(auto, unfolding(crate::specs::Reading::number_within))]
+fn number_within(least: u8, most: u8, word: &[u8]) -> Result<u8, LineFault>
+    ensures { result ≡ number_within least most word.now }
 {
-    if word == b"open".as_slice() {
-        Some(true)
-    } else if word == b"opening".as_slice() {
-        Some(false)
-    } else {
-        None
+    match counted_number(word) {
+        Ok(number) if u128::from(least) <= number && number <= u128::from(most) => {
+            Ok(number as u8)
+        }
+        _ => Err(LineFault::NoReading),
     }
 }
 
-fn in_members(number: u128) -> Option<u8>
-    ensures value { result ≡ in_members number }
-    ensures members { IfSome result (λ n. (1 ≤ n) × (n ≤ 64)) }
+fn state_of(word: &[u8]) -> Result<bool, LineFault>
+    ensures { result ≡ state_of word.now }
 {
-    if 1 <= number && number <= 64 {
-        Some(number as u8)
+    if word == b"open".as_slice() {
+        Ok(true)
+    } else if word == b"opening".as_slice() {
+        Ok(false)
     } else {
-        None
+        Err(LineFault::NoReading)
     }
 }
 
 #[tactic(auto, unfolding(crate::specs::Reading::settings_read))]
-fn settings_of(members: &[u8], state: &[u8], seed: &[u8]) -> Option<WorldLine>
-    ensures value { result ≡ settings_read members.now state.now seed.now }
-    ensures members { IfSome result (λ world. (1 ≤ world.members) × (world.members ≤ 64)) }
+fn settings_read(
+    starting: &[u8],
+    joiners: &[u8],
+    members: &[u8],
+    state: &[u8],
+    seed: &[u8],
+) -> Result<WorldLine, LineFault>
+    ensures { result ≡ settings_read starting.now joiners.now members.now state.now seed.now }
 {
-    let members = in_members(counted_number(members)?)?;
+    let starting = number_within(1, STARTING_LIMIT, starting)?;
+    let joiners = number_within(0, JOINERS_LIMIT, joiners)?;
+    let members = number_within(1, MEMBERS_LIMIT, members)?;
     let is_open = state_of(state)?;
     let seed = seed_of(seed)?;
-    Some(WorldLine {
+    Ok(WorldLine {
+        starting,
+        joiners,
         members,
         is_open,
         seed,
     })
 }
 
-fn is_single_node(world: &[u8], starting: &[u8], joiners: &[u8]) -> bool
-    ensures { result ≡ (is world.now (codes "world") && is starting.now (codes "1") && is joiners.now (codes "0")) }
+#[tactic(auto, unfolding(crate::specs::Reading::world_read))]
+fn world_read(words: &[&[u8]]) -> Result<WorldLine, LineFault>
+    ensures { result ≡ world_read (bytes_of words.now) }
 {
-    world == b"world".as_slice() && starting == b"1".as_slice() && joiners == b"0".as_slice()
-}
-
-/// What the first line says: a service of one node without joiners, its members, its state and seed.
-#[tactic(auto, using(crate::proofs::WorldLemmas::too_few, crate::proofs::WorldLemmas::still_too_few, crate::proofs::WorldLemmas::too_many))]
-pub(crate) fn world_of(line: &[u8]) -> Option<WorldLine>
-    ensures value { result ≡ world_of line.now }
-    ensures members { IfSome result (λ world. (1 ≤ world.members) × (world.members ≤ 64)) }
-{
-    let (world, starting, joiners, left) = three_words(Some(line))?;
-    let (members, state, seed, None) = three_words(left)? else {
-        return None;
-    };
-    if is_single_node(world, starting, joiners) {
-        settings_of(members, state, seed)
-    } else {
-        None
+    match words {
+        [world, starting, joiners, members, state, seed] if *world == b"world".as_slice() => {
+            settings_read(starting, joiners, members, state, seed)
+        }
+        _ => Err(LineFault::NoReading),
     }
 }
 
-/// What the first line of a text says, if it is the first line of a schedule and ends with a newline.
-/// Takes no memory.
-#[tactic(auto, unfolding(crate::specs::Reading::first_world))]
-pub fn first_world(text: &[u8]) -> Option<WorldLine>
-    ensures { result ≡ first_world text.now }
+/// What the first line says.
+#[tactic(auto, unfolding(crate::specs::Reading::world_of))]
+pub(crate) fn world_of(alloc: Global, line: &[u8]) -> Result<WorldLine, OrNoMemory<LineFault>>
+    ensures { Answers (λ x. x) result (world_of line.now) }
 {
-    match first_part(text, b'\n') {
-        Some((line, _)) => world_of(line),
-        None => None,
-    }
+    let words = words_of(alloc, line)?;
+    Ok(world_read(&words)?)
 }

@@ -1,10 +1,16 @@
 use Rattle.std.proofs.Common.{sym, ◌∙◌}
-use Rattle.ccfg.proofs.HeadlineLemmas.{keeps_headline}
+use Rattle.ccfg.proofs.HeadlineLemmas.{keeps_headline, tells_moments}
 use Rattle.ccfg.proofs.PromiseLemmas as ends
 use Rattle.ccfg.proofs.program.top.Goals as goal
 
 pub returns-clause-headline : goal.returns-clause-headline
 returns-clause-headline c status g = keeps_headline g
+
+pub returns-clause-moments : goal.returns-clause-moments
+returns-clause-moments c status g = tells_moments g
+
+pub returns-clause-front : goal.returns-clause-front
+returns-clause-front g c = rw c.status.ensures (ends.front c.run.result _ c.run.ensures.answers)
 
 pub returns-clause-done : goal.returns-clause-done
 returns-clause-done g c is = ends.done c.run.result _ c.run.ensures.answers (sym c.status.ensures ∙ is)

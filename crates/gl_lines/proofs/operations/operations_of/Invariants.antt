@@ -1,7 +1,7 @@
 use Rattle.std.proofs.Common.{◌≡◌}
 use Rattle.std.specs.Option.{option_copied, option_map}
 use Rattle.gl_lines.specs.Parts.{bytes_of}
-use Rattle.gl_lines.specs.Reading.{operations_of}
+use Rattle.gl_lines.specs.Operations.{operations_of}
 use Rattle.gl_lines.proofs.OperationLemmas.{with_operations, operations_behind, left_count}
 use Rattle.gl_lines.proofs.operations.operations_of.Given as goal
 

@@ -1,0 +1,6 @@
+use Rattle.std.proofs.Common.{refl}
+use Rattle.ccfg.specs.Machine.{node_in}
+use Rattle.ccfg.proofs.machine.Machine.status.Goals as goal
+
+pub returns : goal.returns
+returns c = c.status.ensures (node_in c.args.self.now) (record { log = refl; commit = refl })

@@ -1,0 +1,16 @@
+-- The text of what the machine answers.
+use Rattle.std.specs.Prelude.{ℕ, List}
+use Rattle.gl_rules.specs.Node.{Node}
+use Rattle.gl_entry.specs.declared.entry.Entry.{Entry}
+use Rattle.gl_world.specs.declared.settings.Settings.{Settings}
+use Rattle.ccfg.specs.declared.outcome.LineAnswer.{LineAnswer}
+use Rattle.ccfg.specs.declared.outcome.LineAnswer.TheVariants.{Event, Status, Ids, Ledger, NoNode}
+use Rattle.ccfg.specs.Machine.{rules_outcome}
+use Rattle.ccfg.specs.Text.{outcome_text, status_text, ids_text, ledger_text, committed_entries, held_entries, no_node_text}
+
+abbrev pub line_answer_text : Settings → Node Entry → LineAnswer → List ℕ
+line_answer_text s n (Event o) = outcome_text s (rules_outcome o)
+line_answer_text s n (Status status) = status_text status
+line_answer_text s n Ids = ids_text (committed_entries n)
+line_answer_text s n Ledger = ledger_text (held_entries n)
+line_answer_text s n NoNode = no_node_text

@@ -1,0 +1,48 @@
+//! The bytes of a source, read whole.
+
+ghost use Rattle.std.specs.Prelude.{◌≡◌, ◌≤◌, ◌<◌, ◌^◌, length, true, Err, IfOk, IfSome, OnOk};
+ghost use Rattle.gl_outside.specs.Fault.{Rose};
+ghost use Rattle.ccfg.specs.Owed.{OfBytes};
+
+use gl_outside::{Got, Source};
+use std::alloc::Global;
+
+/// Why a source was not read whole.
+#[derive(Clone, Copy, Debug, PartialEq, Eq)]
+pub enum LoadStop {
+    Memory,
+    /// The source failed.
+    Failed,
+    /// The source has more bytes than the limit.
+    TooLong,
+}
+
+/// Reads a source to its end, if that comes within so many bytes.
+pub fn load<S: Source>(alloc: Global, limit: usize, source: &mut S) -> Result<Vec<u8>, LoadStop>
+    requires { limit < 2 ^ 62 }
+    ensures whole { IfOk result (λ text. IfSome (S.left source.old) (λ given. text.items ≡ given)) }
+    ensures ended { OnOk result (S.ended source.new ≡ true) }
+    ensures within { IfOk result (λ text. length text.items ≤ limit) }
+    ensures long { result ≡ Err LoadStop.TooLong →
+        OfBytes (S.left source.old) (λ given. limit < length given) }
+    ensures failed { result ≡ Err LoadStop.Failed →
+        Rose (S.faults source.old) (S.faults source.new) }
+    ensures never_falls { S.faults source.old ≤ S.faults source.new }
+{
+    let mut text = Vec::new(alloc);
+    let mut buffer = [0; 65536];
+    while text.len() <= limit {
+        match source.read(&mut buffer) {
+            Got::Bytes(0) | Got::End => return Ok(text),
+            Got::Bytes(count) => {
+                let (front, _) = buffer.split_at(count);
+                match text.extend_from_slice(front) {
+                    Ok(()) => {}
+                    Err(_) => return Err(LoadStop::Memory),
+                }
+            }
+            Got::Failed => return Err(LoadStop::Failed),
+        }
+    }
+    Err(LoadStop::TooLong)
+}

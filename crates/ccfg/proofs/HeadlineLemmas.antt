@@ -4,7 +4,10 @@ use Rattle.gl_rules.specs.Identity.{NodeId}
 use Rattle.gl_lines.specs.declared.line.Line.{Line}
 use Rattle.gl_lines.specs.declared.line.Line.TheVariants.{Submit, Reserve, Sign, Advance, Status, Ids, Ledger}
 use Rattle.gl_lines.specs.declared.world.WorldLine.{WorldLine}
-use Rattle.gl_lines.specs.Reading.{first_line, lines_behind, then_read}
+use Rattle.gl_base.specs.Steps.{◌>>=◌}
+use Rattle.gl_lines.specs.declared.fault.ScheduleFault.{ScheduleFault}
+use Rattle.gl_lines.specs.declared.fault.ScheduleFault.TheVariants.{BadLine}
+use Rattle.gl_lines.specs.Reading.{first_line, lines_behind}
 use Rattle.gl_lines.specs.Worlds.{IsSmall}
 use Rattle.gl_lines.proofs.FirstLines.{first_small}
 use Rattle.gl_world.specs.declared.settings.Settings.{Settings}
@@ -64,7 +67,7 @@ service_keeps s lines single = headline s (told_of s lines).events single (local
 single_service : (w : WorldLine) (s : Settings) → IsSmall w → service_of w ≡ Ok s → IsSingle s
 single_service w s small is = go (has_distinct_keys (settings_of w)) refl is
   where
-    go : (b : Bool) → has_distinct_keys (settings_of w) ≡ b → ◌≡◌ {A = Result Settings ℕ} (if b then Ok (settings_of w) else Err 1) (Ok s) → IsSingle s
+    go : (b : Bool) → has_distinct_keys (settings_of w) ≡ b → ◌≡◌ {A = Result Settings ScheduleFault} (if b then Ok (settings_of w) else Err (BadLine 1)) (Ok s) → IsSingle s
     go true distinct p =
         let same : settings_of w ≡ s = cc in
         let single : IsSingle (settings_of w) = record { starting = small.starting; joiners = small.joiners; some = small.some; few = small.few; distinct = distinct } in
@@ -72,11 +75,11 @@ single_service w s small is = go (has_distinct_keys (settings_of w)) refl is
     go false distinct p = absurd (cc)
 
 -- what a schedule has that is read
-abbrev OfOne : Result Schedule ℕ → Type 0
-OfOne (Err number) = Unit {0}
+abbrev OfOne : Result Schedule ScheduleFault → Type 0
+OfOne (Err fault) = Unit {0}
 OfOne (Ok schedule) = HasOneNode schedule
 
-one_if : (b : Bool) (r : Result Schedule ℕ) → OfOne r → OfOne (if b then Ok Empty else r)
+one_if : (b : Bool) (r : Result Schedule ScheduleFault) → OfOne r → OfOne (if b then Ok Empty else r)
 one_if true r h = tt
 one_if false r h = h
 
@@ -85,22 +88,22 @@ one_read : (given : List ℕ) → OfOne (reads given)
 unfolding reads
 one_read given = one_if (length given == 0) _ (first (first_line given) refl)
   where
-    last : (s : Settings) → IsSingle s → (r : Result (List Line) ℕ) → OfOne (then_read r (λ lines. Ok (Service s lines)))
+    last : (s : Settings) → IsSingle s → (r : Result (List Line) ScheduleFault) → OfOne (r >>= λ lines. Ok (Service s lines))
     last s single (Ok lines) = single
-    last s single (Err number) = tt
+    last s single (Err fault) = tt
 
-    second : (w : WorldLine) (rest : List ℕ) → IsSmall w → (r : Result Settings ℕ) → service_of w ≡ r →
-        OfOne (then_read r (λ settings. then_read (lines_behind rest) (λ lines. Ok (Service settings lines))))
+    second : (w : WorldLine) (rest : List ℕ) → IsSmall w → (r : Result Settings ScheduleFault) → service_of w ≡ r →
+        OfOne (r >>= λ settings. lines_behind rest >>= λ lines. Ok (Service settings lines))
     second w rest small (Ok s) is = last s (single_service w s small is) (lines_behind rest)
-    second w rest small (Err number) is = tt
+    second w rest small (Err fault) is = tt
 
-    first : (r : Result (WorldLine × List ℕ) ℕ) → first_line given ≡ r →
-        OfOne (then_read r (λ first. then_read (service_of first.0) (λ settings. then_read (lines_behind first.1) (λ lines. Ok (Service settings lines)))))
+    first : (r : Result (WorldLine × List ℕ) ScheduleFault) → first_line given ≡ r →
+        OfOne (r >>= λ first. service_of first.0 >>= λ settings. lines_behind first.1 >>= λ lines. Ok (Service settings lines))
     first (Ok (w, rest)) is = second w rest (first_small given w rest is) (service_of w) refl
-    first (Err number) is = tt
+    first (Err fault) is = tt
 
-keeps : (r : Result Schedule ℕ) → OfOne r → KeepsHeadline r
-keeps (Err number) one = tt
+keeps : (r : Result Schedule ScheduleFault) → OfOne r → KeepsHeadline r
+keeps (Err fault) one = tt
 keeps (Ok Empty) one = tt
 keeps (Ok (Service s lines)) one = service_keeps s lines one
 
@@ -108,8 +111,8 @@ keeps (Ok (Service s lines)) one = service_keeps s lines one
 pub keeps_headline : (given : List ℕ) → KeepsHeadline (reads given)
 keeps_headline given = keeps (reads given) (one_read given)
 
-tells : (r : Result Schedule ℕ) → TellsMoments r
-tells (Err number) = tt
+tells : (r : Result Schedule ScheduleFault) → TellsMoments r
+tells (Err fault) = tt
 tells (Ok Empty) = tt
 tells (Ok (Service s lines)) = told_in_moments s lines
 

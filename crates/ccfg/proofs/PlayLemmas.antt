@@ -4,7 +4,7 @@ use Rattle.std.proofs.lemmas.Bool.Decides.{nat_tests}
 use Rattle.std.specs.Io.KnownBytes.{Appends}
 use Rattle.gl_outside.specs.Sink.{AppendsFront}
 use Rattle.gl_base.specs.declared.tx_id.TxId.{TxId}
-use Rattle.gl_base.specs.declared.status_kind.Status.{Status}
+use Rattle.gl_base.specs.declared.tx_id.Status.{Status}
 use Rattle.gl_rules.specs.Identity.{NodeId}
 use Rattle.gl_rules.specs.Message.{Message}
 use Rattle.gl_rules.specs.Node.{Node}

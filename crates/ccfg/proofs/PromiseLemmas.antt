@@ -11,6 +11,8 @@ use Rattle.ccfg.specs.declared.ending.InputFault.TheVariants as faults
 use Rattle.ccfg.specs.declared.ending.Ending.{Ending}
 use Rattle.ccfg.specs.declared.ending.Ending.TheVariants.{Done, Refused, SourceFailed, SinkFailed, Memory}
 use Rattle.ccfg.specs.declared.schedule.Schedule.{Schedule}
+use Rattle.gl_lines.specs.declared.fault.ScheduleFault.{ScheduleFault}
+use Rattle.gl_lines.specs.declared.fault.ScheduleFault.TheVariants.{BadLine}
 use Rattle.gl_lines.specs.Lines.{line_count}
 use Rattle.ccfg.specs.Schedules.{reads}
 use Rattle.ccfg.specs.Told.{text_of_schedule}
@@ -38,7 +40,7 @@ DueCase given due =
     ⊎ ((number : ℕ) × HasBadLine given number × (due ≡ due_of_fault (faults.BadLine number)))
     ⊎ ((schedule : Schedule) × ReadsAs given schedule × (due ≡ record { ending = Done; text = text_of_schedule schedule }))
 
-abbrev due_by : Bool → Bool → Result Schedule ℕ → Due
+abbrev due_by : Bool → Bool → Result Schedule ScheduleFault → Due
 due_by bytes lines read = if bytes then due_of_fault faults.TooManyBytes else (if lines then due_of_fault faults.TooManyLines else due_of_reading read)
 
 -- what bytes are owed, case by case
@@ -46,10 +48,10 @@ due_case : (given : List ℕ) → DueCase given (due_of given)
 unfolding due_of
 due_case given = go (nat_lt bytes_limit (length given)) (nat_lt lines_limit (line_count given)) (reads given) refl refl refl
   where
-    go : (b l : Bool) (s : Result Schedule ℕ) → nat_lt bytes_limit (length given) ≡ b → nat_lt lines_limit (line_count given) ≡ l → reads given ≡ s → DueCase given (due_by b l s)
+    go : (b l : Bool) (s : Result Schedule ScheduleFault) → nat_lt bytes_limit (length given) ≡ b → nat_lt lines_limit (line_count given) ≡ l → reads given ≡ s → DueCase given (due_by b l s)
     go true l s bytes lines read = inl (grind (arith, nat_tests), refl)
     go false true s bytes lines read = inr (inl ((grind (arith, nat_tests), grind (arith, nat_tests)), refl))
-    go false false (Err number) bytes lines read = inr (inr (inl (number, ((grind (arith, nat_tests), grind (arith, nat_tests)), read), refl)))
+    go false false (Err (BadLine number)) bytes lines read = inr (inr (inl (number, ((grind (arith, nat_tests), grind (arith, nat_tests)), read), refl)))
     go false false (Ok schedule) bytes lines read = inr (inr (inr (schedule, ((grind (arith, nat_tests), grind (arith, nat_tests)), read), refl)))
 
 -- What is written of what is due.
@@ -122,7 +124,7 @@ past_no_limit : (given : List ℕ) → IsWithinLimits given → PassesLimit give
 past_no_limit given within (inl p) = omega (arith, within.0, p)
 past_no_limit given within (inr p) = omega (arith, within.1, p.1)
 
-read_or_not : (given : List ℕ) (schedule : Schedule) (number : ℕ) → reads given ≡ Ok schedule → reads given ≡ Err number → ⊥
+read_or_not : (given : List ℕ) (schedule : Schedule) (number : ℕ) → reads given ≡ Ok schedule → reads given ≡ Err (BadLine number) → ⊥
 read_or_not given schedule number some none = cc
 
 -- other words end by 2, 4 or 7

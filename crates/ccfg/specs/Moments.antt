@@ -5,6 +5,7 @@ use Rattle.gl_world.specs.declared.settings.Settings.{Settings}
 use Rattle.gl_world.specs.Headline.{Headline}
 use Rattle.gl_world.specs.World.{ServiceEvent, ServiceWorld, start_of}
 use Rattle.gl_store.specs.Book.{service_book}
+use Rattle.gl_lines.specs.declared.fault.ScheduleFault.{ScheduleFault}
 use Rattle.gl_lines.specs.declared.line.Line.{Line}
 use Rattle.ccfg.specs.declared.schedule.Schedule.{Schedule}
 use Rattle.ccfg.specs.declared.schedule.Schedule.TheVariants.{Empty, Service}
@@ -14,18 +15,20 @@ use Rattle.ccfg.specs.Told.{told_of}
 abbrev pub IsMoment : Settings → List ServiceEvent → ServiceWorld → Type 0
 IsMoment s events w = (i : ℕ) × (w ≡ after service_book (start_of s) (take i events))
 
--- Whichever line is told next, it is told in a moment of the events of all lines.
+-- After any number of lines, the world is one that the service comes to by some front of the events
+-- of all lines.
 abbrev pub IsToldInMoments : Settings → List Line → Type 0
 IsToldInMoments s lines =
     (k : ℕ) → IsMoment s (told_of s lines).events (told_of s (take k lines)).world
 
-abbrev pub TellsMoments : Result Schedule ℕ → Type 0
-TellsMoments (Err number) = Unit {0}
+-- Where bytes are a schedule with a service, each line of it is told in a moment.
+abbrev pub TellsMoments : Result Schedule ScheduleFault → Type 0
+TellsMoments (Err fault) = Unit {0}
 TellsMoments (Ok Empty) = Unit {0}
 TellsMoments (Ok (Service settings lines)) = IsToldInMoments settings lines
 
 -- What is promised of the service of a schedule, over the same events.
-abbrev pub KeepsHeadline : Result Schedule ℕ → Type 0
-KeepsHeadline (Err number) = Unit {0}
+abbrev pub KeepsHeadline : Result Schedule ScheduleFault → Type 0
+KeepsHeadline (Err fault) = Unit {0}
 KeepsHeadline (Ok Empty) = Unit {0}
 KeepsHeadline (Ok (Service settings lines)) = Headline settings (told_of settings lines).events

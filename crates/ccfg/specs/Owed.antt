@@ -8,10 +8,13 @@ use Rattle.ccfg.specs.declared.ending.InputFault.TheVariants as faults
 use Rattle.ccfg.specs.declared.ending.Ending.{Ending}
 use Rattle.ccfg.specs.declared.ending.Ending.TheVariants.{Done, Refused, SourceFailed, SinkFailed, Memory}
 use Rattle.ccfg.specs.declared.schedule.Schedule.{Schedule}
+use Rattle.gl_lines.specs.declared.fault.ScheduleFault.{ScheduleFault}
+use Rattle.gl_lines.specs.declared.fault.ScheduleFault.TheVariants.{BadLine}
 use Rattle.gl_lines.specs.Lines.{line_count}
 use Rattle.ccfg.specs.Schedules.{reads}
 use Rattle.ccfg.specs.Told.{text_of_schedule}
 
+-- The line that tells a fault.
 abbrev pub fault_line : InputFault → List ℕ
 fault_line faults.Words = codes "fault words\n"
 fault_line faults.TooManyBytes = codes "fault bytes 16777216\n"
@@ -45,8 +48,8 @@ pub record Due : Type 0 where
 abbrev pub due_of_fault : InputFault → Due
 due_of_fault fault = record { ending = Refused fault; text = fault_line fault }
 
-abbrev pub due_of_reading : Result Schedule ℕ → Due
-due_of_reading (Err number) = due_of_fault (faults.BadLine number)
+abbrev pub due_of_reading : Result Schedule ScheduleFault → Due
+due_of_reading (Err (BadLine number)) = due_of_fault (faults.BadLine number)
 due_of_reading (Ok schedule) = record { ending = Done; text = text_of_schedule schedule }
 
 -- What these bytes are owed. The limits are tried before the reading, the one on bytes first.
@@ -56,8 +59,8 @@ due_of given =
     else (if nat_lt lines_limit (line_count given) then due_of_fault faults.TooManyLines
     else due_of_reading (reads given))
 
--- What the sink came to hold: all of the text that is due, and then the run ends as is due; or a
--- front of it, where the sink failed, by its count of faults, or memory ran out.
+-- What a sink came to hold, by how the run ended: done or refused, all of the text that is due;
+-- where the sink failed, by its count of faults, or memory ran out, a front of it.
 abbrev pub Writes : Ending → Option (List ℕ) → Option (List ℕ) → ℕ → ℕ → Due → Type 0
 Writes Done held holds before now due = (due.ending ≡ Done) × Appends held holds due.text
 Writes (Refused fault) held holds before now due =
@@ -80,8 +83,8 @@ pub record Run : Type 0 where
   pub write_faults : ℕ
   pub write_faults_now : ℕ
 
--- What holds of the bytes that a source has to give: of those that it tells, or of some bytes, where
--- it tells none.
+-- What holds of the bytes that a source has to give: of those that it tells, or of some bytes,
+-- where it tells none.
 abbrev pub OfBytes : Option (List ℕ) → (List ℕ → Type 0) → Type 0
 OfBytes None P = (given : List ℕ) × P given
 OfBytes (Some given) P = P given
@@ -89,10 +92,11 @@ OfBytes (Some given) P = P given
 -- What the bytes are owed.
 abbrev pub Owes : Ending → Run → Type 0
 Owes e r =
-    OfBytes r.given (λ given. Writes e r.held r.holds r.write_faults r.write_faults_now (due_of given))
+    OfBytes r.given (λ given.
+    Writes e r.held r.holds r.write_faults r.write_faults_now (due_of given))
 
--- What a replay does: nothing is written where the source failed, by its count of faults; and else
--- what the bytes are owed, all of them read where the run is done.
+-- What a replay does. Where the source failed, by its count of faults, nothing is written. Else it
+-- writes what the bytes are owed; and where it is done, the source gave its end.
 abbrev pub Replays : Ending → Run → Type 0
 Replays SourceFailed r = Rose r.read_faults r.read_faults_now × Keeps r.held r.holds
 Replays Done r = (r.ended ≡ true) × Owes Done r

@@ -3,6 +3,7 @@ use Rattle.std.specs.Prelude.{◌≡◌, ℕ, ◌<◌, ◌≤◌, ◌⊎◌, Lis
 use Rattle.std.specs.Io.KnownBytes.{Appends}
 use Rattle.ccfg.specs.declared.ending.InputFault.TheVariants as faults
 use Rattle.ccfg.specs.declared.schedule.Schedule.{Schedule}
+use Rattle.gl_lines.specs.declared.fault.ScheduleFault.TheVariants.{BadLine}
 use Rattle.gl_lines.specs.Lines.{line_count}
 use Rattle.ccfg.specs.Schedules.{reads}
 use Rattle.ccfg.specs.Told.{text_of_schedule}
@@ -23,7 +24,7 @@ IsWithinLimits given = (length given ≤ bytes_limit) × (line_count given ≤ l
 
 -- The bytes are within the limits and are no schedule: this line is the first bad one.
 abbrev pub HasBadLine : List ℕ → ℕ → Type 0
-HasBadLine given number = IsWithinLimits given × (reads given ≡ Err number)
+HasBadLine given number = IsWithinLimits given × (reads given ≡ Err (BadLine number))
 
 -- The bytes are within the limits and are no schedule.
 abbrev pub HasNoReading : List ℕ → Type 0
@@ -39,13 +40,18 @@ HasReading given = (schedule : Schedule) × ReadsAs given schedule
 
 -- The bytes are a schedule, and exactly its text was written.
 abbrev pub WritesText : List ℕ → Option (List ℕ) → Option (List ℕ) → Type 0
-WritesText given held holds = (schedule : Schedule) × ReadsAs given schedule × Appends held holds (text_of_schedule schedule)
+WritesText given held holds =
+    (schedule : Schedule) × ReadsAs given schedule
+    × Appends held holds (text_of_schedule schedule)
 
 -- The bytes pass a limit, and exactly the line that names this limit was written.
 abbrev pub TellsLimit : List ℕ → Option (List ℕ) → Option (List ℕ) → Type 0
 TellsLimit given held holds =
-    (HasTooManyBytes given × Appends held holds (fault_line faults.TooManyBytes)) ⊎ (HasTooManyLines given × Appends held holds (fault_line faults.TooManyLines))
+    (HasTooManyBytes given × Appends held holds (fault_line faults.TooManyBytes))
+    ⊎ (HasTooManyLines given × Appends held holds (fault_line faults.TooManyLines))
 
 -- The bytes have no reading, and exactly the line that tells their first bad line was written.
 abbrev pub TellsNoReading : List ℕ → Option (List ℕ) → Option (List ℕ) → Type 0
-TellsNoReading given held holds = (number : ℕ) × HasBadLine given number × Appends held holds (fault_line (faults.BadLine number))
+TellsNoReading given held holds =
+    (number : ℕ) × HasBadLine given number
+    × Appends held holds (fault_line (faults.BadLine number))

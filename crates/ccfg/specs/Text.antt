@@ -15,8 +15,7 @@ use Rattle.gl_entry.specs.declared.entry.Entry.{Entry}
 use Rattle.gl_store.specs.Genesis.{state_byte}
 use Rattle.gl_tx.specs.declared.request.Answer.{Answer}
 use Rattle.gl_tx.specs.declared.request.Answer.TheVariants as answers
-use Rattle.gl_tx.specs.declared.request.Cause.{Cause}
-use Rattle.gl_tx.specs.declared.request.Cause.TheVariants as causes
+use Rattle.gl_tx.specs.Abort.{number_of}
 use Rattle.gl_store.specs.declared.refusal.Refusal.TheVariants as refusals
 use Rattle.gl_world.specs.declared.settings.Settings.{Settings}
 use Rattle.gl_world.specs.Founding.{id_of, numbers_from}
@@ -53,17 +52,11 @@ answers_text (a ∷ rest) = answer_text a ++ answers_behind rest
 abbrev pub given_text : Given → List ℕ
 given_text (Replied answers) = codes " " ++ answers_text answers
 
-abbrev pub cause_number : Cause → ℕ
-cause_number causes.NotPublic = 1
-cause_number causes.Reserved = 2
-cause_number causes.NotNumber = 3
-cause_number causes.Overflow = 4
-cause_number causes.Check = 5
-cause_number causes.BadKey = 6
-
 abbrev pub unmade_text : Unmade → List ℕ
-unmade_text (ByStore (refusals.ServiceState state)) = with_numbers (codes "51") (state_byte state ∷ [])
-unmade_text (ByStore (refusals.Aborted abort)) = with_numbers (codes "122") (abort.operation ∷ cause_number abort.cause ∷ [])
+unmade_text (ByStore (refusals.ServiceState state)) =
+    with_numbers (codes "51") (state_byte state ∷ [])
+unmade_text (ByStore (refusals.Aborted abort)) =
+    with_numbers (codes "122") (abort.operation ∷ number_of abort.cause ∷ [])
 unmade_text (ByStore (refusals.TooLarge size)) = with_numbers (codes "119") (size ∷ [])
 unmade_text (ByStore refusals.SeqnoLimit) = codes "130"
 unmade_text Unspelled = codes "117"
@@ -80,12 +73,14 @@ leader_text s (Some y) = number_among s y (numbers_from 1 (s.starting + s.joiner
 
 -- A refusal's number and its values.
 abbrev pub refusal_text : Settings → Refusal Unmade → List ℕ
-refusal_text s (outcome.NotPrimary view leader) = with_numbers (codes "110") (view ∷ []) ++ codes " " ++ leader_text s leader
+refusal_text s (outcome.NotPrimary view leader) =
+    with_numbers (codes "110") (view ∷ []) ++ codes " " ++ leader_text s leader
 refusal_text s (outcome.TooManyPending limit) = with_numbers (codes "111") (limit ∷ [])
 refusal_text s (outcome.NotReserved reserved) = with_numbers (codes "112") (reserved ∷ [])
 refusal_text s (outcome.KeyExhausted reserved) = with_numbers (codes "113") (reserved ∷ [])
 refusal_text s (outcome.NothingToSign seqno) = with_numbers (codes "114") (seqno ∷ [])
-refusal_text s (outcome.RemovalNotCommitted place commit) = with_numbers (codes "115") (place ∷ commit ∷ [])
+refusal_text s (outcome.RemovalNotCommitted place commit) =
+    with_numbers (codes "115") (place ∷ commit ∷ [])
 refusal_text s (outcome.BelowCommit commit cut) = with_numbers (codes "116") (commit ∷ cut ∷ [])
 refusal_text s (outcome.RolledBack before now) = with_numbers (codes "124") (before ∷ now ∷ [])
 refusal_text s outcome.NotPeer = codes "126"
@@ -102,7 +97,8 @@ outcome_text s outcome.Done = codes "ok"
 outcome_text s outcome.Idle = codes "idle"
 outcome_text s outcome.BecameCandidate = codes "candidate"
 outcome_text s outcome.BecameLeader = codes "leader"
-outcome_text s (outcome.Accepted view seqno given) = codes "accepted " ++ id_text view seqno ++ given_text given
+outcome_text s (outcome.Accepted view seqno given) =
+    codes "accepted " ++ id_text view seqno ++ given_text given
 outcome_text s (outcome.Signed view seqno) = codes "signed " ++ id_text view seqno
 outcome_text s (outcome.Committed view seqno) = codes "commit " ++ id_text view seqno
 outcome_text s (outcome.Refused why) = codes "refused " ++ refusal_text s why
@@ -131,11 +127,13 @@ held_entries n = drop n.base n.log
 
 -- The identifiers of the committed ledger.
 abbrev pub ids_text : List Entry → List ℕ
-ids_text entries = codes "ids" ++ flat_map (λ (e : Entry). codes " " ++ id_text e.view e.seqno) entries
+ids_text entries =
+    codes "ids" ++ flat_map (λ (e : Entry). codes " " ++ id_text e.view e.seqno) entries
 
 -- The number of the entries, and for each of them a line with its identifier and its frame.
 abbrev pub entry_text : Entry → List ℕ
-entry_text e = codes "\nentry " ++ id_text e.view e.seqno ++ codes " " ++ encode_lower (frame_bytes e)
+entry_text e =
+    codes "\nentry " ++ id_text e.view e.seqno ++ codes " " ++ encode_lower (frame_bytes e)
 
 abbrev pub ledger_text : List Entry → List ℕ
 ledger_text entries = codes "ledger " ++ decimal (length entries) ++ flat_map entry_text entries

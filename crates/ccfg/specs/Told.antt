@@ -32,7 +32,8 @@ pub data Effect : Type 0 where
 -- The node with a number, from 1, if the service has so many.
 abbrev pub node_named : Settings → ℕ → Option NodeId
 node_named s number =
-    if nat_le 1 number && nat_le number (s.starting + s.joiners) then Some (id_of s number) else None
+    if nat_le 1 number && nat_le number (s.starting + s.joiners) then Some (id_of s number)
+    else None
 
 -- A number that names no node is refused, and nothing happens.
 abbrev pub at_named : Option NodeId → (NodeId → Effect) → Effect

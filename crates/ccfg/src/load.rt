@@ -23,8 +23,10 @@ pub fn load<S: Source>(alloc: Global, limit: usize, source: &mut S) -> Result<Ve
     ensures whole { IfOk result (λ text. IfSome (S.left source.old) (λ given. text.items ≡ given)) }
     ensures ended { OnOk result (S.ended source.new ≡ true) }
     ensures within { IfOk result (λ text. length text.items ≤ limit) }
-    ensures long { result ≡ Err LoadStop.TooLong → OfBytes (S.left source.old) (λ given. limit < length given) }
-    ensures failed { result ≡ Err LoadStop.Failed → Rose (S.faults source.old) (S.faults source.new) }
+    ensures long { result ≡ Err LoadStop.TooLong →
+        OfBytes (S.left source.old) (λ given. limit < length given) }
+    ensures failed { result ≡ Err LoadStop.Failed →
+        Rose (S.faults source.old) (S.faults source.new) }
     ensures never_falls { S.faults source.old ≤ S.faults source.new }
 {
     let mut text = Vec::new(alloc);

@@ -3,10 +3,10 @@
 ghost use Rattle.std.specs.Prelude.{◌≡◌, ◌≤◌, IfOk, OnErr, OnOk};
 
 use crate::outcome::{LineAnswer, Outcome, Refusal};
-use gl_base::{Status, TxId};
+use gl_base::{OrNoMemory, Status, TxId};
 use gl_entry::NodeId;
 use gl_lines::Line;
-use gl_store::{Store, StoreError};
+use gl_store::Store;
 use gl_tx::Request;
 use gl_world::{Settings, genesis, node_id};
 use std::alloc::{AllocError, Global};
@@ -47,7 +47,8 @@ impl Machine {
         requires { IsSingle settings }
         ensures machine { IfOk result (λ machine. IsMachine machine) }
         ensures settings { IfOk result (λ machine. machine.settings ≡ settings) }
-        ensures node { IfOk result (λ machine. node_in machine ≡ leader_at_start (start_of settings)) }
+        ensures node { IfOk result (λ machine.
+            node_in machine ≡ leader_at_start (start_of settings)) }
     {
         let id = node_id(&settings, 1);
         let genesis = genesis(alloc, &settings)?;
@@ -64,20 +65,22 @@ impl Machine {
     /// An application request.
     pub fn submit(&mut self, request: &Request) -> Result<Outcome, AllocError>
         requires { IsMachine self.old }
-        ensures steps { IfOk result (λ outcome. Steps (submit service_book request.now (node_in self.old)) self.new outcome) }
+        ensures steps { IfOk result (λ outcome.
+            Steps (submit service_book request.now (node_in self.old)) self.new outcome) }
         ensures goes_on { OnOk result (GoesOn self.old self.new) }
     {
         match self.store.execute(VIEW, request) {
             Ok((id, reply)) => Ok(Outcome::Accepted(id, reply)),
-            Err(StoreError::Refused(why)) => Ok(Outcome::Refused(Refusal::Store(why))),
-            Err(StoreError::Memory) => Err(AllocError),
+            Err(OrNoMemory::Fault(why)) => Ok(Outcome::Refused(Refusal::Store(why))),
+            Err(OrNoMemory::NoMemory) => Err(AllocError),
         }
     }
 
     /// One more reserved leaf.
     pub fn reserve(&mut self) -> Outcome
         requires { IsMachine self.old }
-        ensures steps { Steps (reserve service_book self.old.id (node_in self.old)) self.new result }
+        ensures steps {
+            Steps (reserve service_book self.old.id (node_in self.old)) self.new result }
         ensures goes_on { GoesOn self.old self.new }
     {
         if self.reserved >= LEAVES {
@@ -90,7 +93,8 @@ impl Machine {
     /// A signature over the ledger so far.
     pub fn sign(&mut self) -> Result<Outcome, AllocError>
         requires { IsMachine self.old }
-        ensures steps { IfOk result (λ outcome. Steps (sign service_book self.old.id (node_in self.old)) self.new outcome) }
+        ensures steps { IfOk result (λ outcome.
+            Steps (sign service_book self.old.id (node_in self.old)) self.new outcome) }
         ensures goes_on { OnOk result (GoesOn self.old self.new) }
     {
         if self.used >= self.reserved {
@@ -105,15 +109,16 @@ impl Machine {
                 self.used += 1;
                 Ok(Outcome::Signed(id))
             }
-            Err(StoreError::Refused(why)) => Ok(Outcome::Refused(Refusal::Store(why))),
-            Err(StoreError::Memory) => Err(AllocError),
+            Err(OrNoMemory::Fault(why)) => Ok(Outcome::Refused(Refusal::Store(why))),
+            Err(OrNoMemory::NoMemory) => Err(AllocError),
         }
     }
 
     /// Commits what is signed: the node alone is a majority.
     pub fn advance(&mut self) -> Outcome
         requires { IsMachine self.old }
-        ensures steps { Steps (advance service_book self.old.id (node_in self.old)) self.new result }
+        ensures steps {
+            Steps (advance service_book self.old.id (node_in self.old)) self.new result }
         ensures goes_on { GoesOn self.old self.new }
     {
         let place = self.store.last_signature();

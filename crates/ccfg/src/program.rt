@@ -19,7 +19,8 @@ use crate::ending::{Ending, InputFault};
 use crate::load::{LoadStop, load};
 use crate::play::play;
 use crate::schedule::{Schedule, read};
-use gl_lines::{ReadError, line_count};
+use gl_base::OrNoMemory;
+use gl_lines::{ScheduleFault, line_count};
 use gl_outside::{Sink, SinkFault, Source, write_whole};
 use std::alloc::{AllocError, Global};
 
@@ -58,8 +59,10 @@ fn plan_of(alloc: Global, text: &[u8]) -> Result<Plan, AllocError>
     }
     match read(alloc, text) {
         Ok(schedule) => Ok(Plan::Play(schedule)),
-        Err(ReadError::BadLine(number)) => Ok(Plan::Refuse(InputFault::BadLine(number))),
-        Err(ReadError::NoMemory) => Err(AllocError),
+        Err(OrNoMemory::Fault(ScheduleFault::BadLine(number))) => {
+            Ok(Plan::Refuse(InputFault::BadLine(number)))
+        }
+        Err(OrNoMemory::NoMemory) => Err(AllocError),
     }
 }
 
@@ -78,7 +81,8 @@ fn read_plan<S: Source>(alloc: Global, source: &mut S) -> Result<Plan, PlanStop>
     ensures ended { IfOk result (λ plan. EndsPlayed plan (S.ended source.new)) }
     ensures one_node { IfOk result (λ plan. PlaysOneNode plan) }
     ensures not_words { result ≢ Ok (Refuse Words) }
-    ensures failed { result ≡ Err PlanStop.SourceFailed → Rose (S.faults source.old) (S.faults source.new) }
+    ensures failed { result ≡ Err PlanStop.SourceFailed →
+        Rose (S.faults source.old) (S.faults source.new) }
 {
     match load(alloc, BYTES_LIMIT, source) {
         Ok(text) => match plan_of(alloc, &text) {
@@ -233,8 +237,8 @@ pub fn top<S: Source, K: Sink>(alloc: Global, words: &[String], source: &mut S, 
     ensures past_limits { AreWords (map string_bytes words.now)
         → IfSome (S.left source.old) (λ given.
         PassesLimit given → (result ≡ 8) ⊎ (result ≡ 3) ⊎ (result ≡ 4) ⊎ (result ≡ 7)) }
-    // Bytes within the limits without a reading give 9, unless the source or the sink fails or memory
-    // runs out.
+    // Bytes within the limits without a reading give 9, unless the source or the sink fails or
+    // memory runs out.
     ensures unread { AreWords (map string_bytes words.now)
         → IfSome (S.left source.old) (λ given.
         HasNoReading given → (result ≡ 9) ⊎ (result ≡ 3) ⊎ (result ≡ 4) ⊎ (result ≡ 7)) }
@@ -249,7 +253,8 @@ pub fn top<S: Source, K: Sink>(alloc: Global, words: &[String], source: &mut S, 
     // Whatever bytes are read: each line of their schedule, if they are one, is told in a moment of
     // the events of which the headline speaks.
     ensures moments { (given : List ℕ) → TellsMoments (reads given) }
-    // Whatever bytes are read: of the service of their schedule, if they are one, the headline holds.
+    // Whatever bytes are read: of the service of their schedule, if they are one, the headline
+    // holds.
     ensures headline { (given : List ℕ) → KeepsHeadline (reads given) }
 {
     run(alloc, words, source, sink).status()

@@ -1,11 +1,12 @@
 //! A schedule: a service, and the lines of what happens to it.
 
 ghost use Rattle.std.specs.Prelude.{◌≡◌, IfOk};
-ghost use Rattle.gl_lines.specs.Stops.{ReadsAs};
+ghost use Rattle.gl_base.specs.Answers.{Answers};
 ghost use Rattle.ccfg.specs.Plans.{HasOneNode};
 ghost use Rattle.ccfg.specs.Schedules.{reads, service_of, settings_of};
 
-use gl_lines::{Lines, ReadError, WorldLine, read_first_line, read_lines};
+use gl_base::OrNoMemory;
+use gl_lines::{Lines, ScheduleFault, WorldLine, read_first_line, read_lines};
 use gl_store::ServiceState;
 use gl_world::{Settings, has_distinct_keys};
 use std::alloc::Global;
@@ -34,21 +35,21 @@ fn settings_of(world: &WorldLine) -> Settings
 }
 
 /// The service that a first line begins. A seed that gives two members one key begins none.
-fn service_of(world: &WorldLine) -> Result<Settings, ReadError>
-    ensures { ReadsAs (λ settings. settings) result (service_of world.now) }
+fn service_of(world: &WorldLine) -> Result<Settings, ScheduleFault>
+    ensures { result ≡ service_of world.now }
 {
     let settings = settings_of(world);
     if has_distinct_keys(&settings) {
         Ok(settings)
     } else {
-        Err(ReadError::BadLine(1))
+        Err(ScheduleFault::BadLine(1))
     }
 }
 
 /// The schedule that a text is, or else the first of its lines that says nothing.
 #[tactic(auto, unfolding(crate::specs::Schedules::reads))]
-pub fn read(alloc: Global, text: &[u8]) -> Result<Schedule, ReadError>
-    ensures gives { ReadsAs (λ schedule. schedule) result (reads text.now) }
+pub fn read(alloc: Global, text: &[u8]) -> Result<Schedule, OrNoMemory<ScheduleFault>>
+    ensures gives { Answers (λ schedule. schedule) result (reads text.now) }
     ensures one_node { IfOk result (λ schedule. HasOneNode schedule) }
 {
     if text.is_empty() {

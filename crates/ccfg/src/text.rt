@@ -1,11 +1,10 @@
 //! The text of what came of a line.
 
 ghost use Rattle.std.specs.Prelude.{◌≡◌, ◌≤◌, ◌++◌, ◌∷◌, [], codes, decimal, length, take, true, OnOk, IfOk};
-ghost use Rattle.gl_base.specs.TxId.{text_of};
 ghost use Rattle.std.specs.List.{AllByRecursion, flat_map};
 ghost use Rattle.hex.specs.Hex.{encode_lower};
 ghost use Rattle.gl_entry.specs.Entry.{is_entry};
-ghost use Rattle.ccfg.specs.Text.{value_text, answer_text, answers_behind, answers_text, cause_number, refusal_text, outcome_text, status_text, with_numbers, numbered, unmade_text, id_text, ids_text, entry_text, ledger_text};
+ghost use Rattle.ccfg.specs.Text.{value_text, answer_text, answers_behind, answers_text, refusal_text, outcome_text, status_text, with_numbers, numbered, unmade_text, id_text, ids_text, entry_text, ledger_text};
 ghost use Rattle.ccfg.specs.LineAnswers.{line_answer_text};
 ghost use Rattle.ccfg.specs.Machine.{node_in, rules_outcome, rules_refusal};
 ghost use Rattle.gl_store.specs.Book.{ByStore};
@@ -16,7 +15,7 @@ use crate::outcome::{LineAnswer, Outcome, Refusal};
 use gl_base::{Status, TxId};
 use gl_entry::Entry;
 use gl_store::{Store, state_byte};
-use gl_tx::{Answer, Cause, Reply};
+use gl_tx::{Answer, Reply};
 use itoa::Buffer;
 use std::alloc::{AllocError, Global};
 
@@ -32,14 +31,6 @@ fn put_value(out: &mut Vec<u8>, n: u64) -> Result<(), AllocError>
 {
     out.extend_from_slice(b" ")?;
     put_number(out, n)
-}
-
-fn put_id(out: &mut Vec<u8>, id: TxId) -> Result<(), AllocError>
-    ensures { OnOk result (out.new.items ≡ out.old.items ++ text_of id) }
-{
-    put_number(out, u64::from(id.view))?;
-    out.extend_from_slice(b".")?;
-    put_number(out, id.seqno)
 }
 
 /// Bytes in lower-case hexadecimal.
@@ -105,19 +96,6 @@ fn put_answers(alloc: Global, out: &mut Vec<u8>, reply: &Reply) -> Result<(), Al
     }
 }
 
-fn cause_number(cause: Cause) -> u64
-    ensures { result ≡ cause_number cause }
-{
-    match cause {
-        Cause::NotPublic => 1,
-        Cause::Reserved => 2,
-        Cause::NotNumber => 3,
-        Cause::Overflow => 4,
-        Cause::Check => 5,
-        Cause::BadKey => 6,
-    }
-}
-
 fn put_store_refusal(out: &mut Vec<u8>, refusal: gl_store::Refusal) -> Result<(), AllocError>
     ensures { OnOk result (out.new.items ≡ out.old.items ++ unmade_text (ByStore refusal)) }
 {
@@ -129,7 +107,7 @@ fn put_store_refusal(out: &mut Vec<u8>, refusal: gl_store::Refusal) -> Result<()
         gl_store::Refusal::Aborted(abort) => {
             out.extend_from_slice(b"122")?;
             put_value(out, u64::from(abort.operation))?;
-            put_value(out, cause_number(abort.cause))
+            put_value(out, u64::from(abort.cause.number()))
         }
         gl_store::Refusal::TooLarge { size } => {
             out.extend_from_slice(b"119")?;
@@ -141,7 +119,8 @@ fn put_store_refusal(out: &mut Vec<u8>, refusal: gl_store::Refusal) -> Result<()
 
 /// The number of a refusal and its values. They name no leader, so the settings don't matter.
 fn put_refusal(out: &mut Vec<u8>, refusal: Refusal) -> Result<(), AllocError>
-    ensures { OnOk result ((s : Settings) → out.new.items ≡ out.old.items ++ refusal_text s (rules_refusal refusal)) }
+    ensures { OnOk result ((s : Settings) →
+        out.new.items ≡ out.old.items ++ refusal_text s (rules_refusal refusal)) }
 {
     match refusal {
         Refusal::NotReserved(reserved) => {
@@ -161,24 +140,25 @@ fn put_refusal(out: &mut Vec<u8>, refusal: Refusal) -> Result<(), AllocError>
 }
 
 fn put_outcome(alloc: Global, out: &mut Vec<u8>, outcome: &Outcome) -> Result<(), AllocError>
-    ensures { OnOk result ((s : Settings) → out.new.items ≡ out.old.items ++ outcome_text s (rules_outcome outcome.now)) }
+    ensures { OnOk result ((s : Settings) →
+        out.new.items ≡ out.old.items ++ outcome_text s (rules_outcome outcome.now)) }
 {
     match outcome {
         Outcome::Done => out.extend_from_slice(b"ok"),
         Outcome::Idle => out.extend_from_slice(b"idle"),
         Outcome::Accepted(id, reply) => {
             out.extend_from_slice(b"accepted ")?;
-            put_id(out, *id)?;
+            id.push_text(out)?;
             out.extend_from_slice(b" ")?;
             put_answers(alloc, out, reply)
         }
         Outcome::Signed(id) => {
             out.extend_from_slice(b"signed ")?;
-            put_id(out, *id)
+            id.push_text(out)
         }
         Outcome::Committed(id) => {
             out.extend_from_slice(b"commit ")?;
-            put_id(out, *id)
+            id.push_text(out)
         }
         Outcome::Refused(why) => {
             out.extend_from_slice(b"refused ")?;
@@ -198,19 +178,23 @@ fn put_status(out: &mut Vec<u8>, status: Status) -> Result<(), AllocError>
     }
 }
 
+fn id_of(entry: &Entry) -> TxId
+    ensures { result ≡ record { view = entry.now.view; seqno = entry.now.seqno } }
+{
+    TxId {
+        view: entry.view,
+        seqno: entry.seqno,
+    }
+}
+
 /// The identifiers of entries, each behind a space.
 fn put_ids_behind(out: &mut Vec<u8>, entries: &[Entry]) -> Result<(), AllocError>
-    ensures { OnOk result (out.new.items ≡ out.old.items ++ flat_map (λ e. codes " " ++ id_text e.view e.seqno) entries.now) }
+    ensures { OnOk result (out.new.items
+        ≡ out.old.items ++ flat_map (λ e. codes " " ++ id_text e.view e.seqno) entries.now) }
 {
     for entry in entries {
         out.extend_from_slice(b" ")?;
-        put_id(
-            out,
-            TxId {
-                view: entry.view,
-                seqno: entry.seqno,
-            },
-        )?;
+        id_of(entry).push_text(out)?;
     }
     Ok(())
 }
@@ -227,13 +211,7 @@ fn put_entry(alloc: Global, out: &mut Vec<u8>, entry: &Entry) -> Result<(), Allo
     ensures { OnOk result (out.new.items ≡ out.old.items ++ entry_text entry.now) }
 {
     out.extend_from_slice(b"\nentry ")?;
-    put_id(
-        out,
-        TxId {
-            view: entry.view,
-            seqno: entry.seqno,
-        },
-    )?;
+    id_of(entry).push_text(out)?;
     out.extend_from_slice(b" ")?;
     put_hex(alloc, out, &entry.encode(alloc)?)
 }
@@ -271,7 +249,8 @@ fn put_line_answer(
     machine: &Machine,
     answer: &LineAnswer,
 ) -> Result<(), AllocError>
-    ensures { OnOk result ((s : Settings) → out.new.items ≡ out.old.items ++ line_answer_text s (node_in machine.now) answer.now) }
+    ensures { OnOk result ((s : Settings) →
+        out.new.items ≡ out.old.items ++ line_answer_text s (node_in machine.now) answer.now) }
 {
     match answer {
         LineAnswer::Event(outcome) => put_outcome(alloc, out, outcome),
@@ -289,7 +268,8 @@ pub fn answer_line(
     machine: &Machine,
     answer: &LineAnswer,
 ) -> Result<Vec<u8>, AllocError>
-    ensures { IfOk result (λ line. (s : Settings) → line.items ≡ numbered number (line_answer_text s (node_in machine.now) answer.now)) }
+    ensures { IfOk result (λ line. (s : Settings) →
+        line.items ≡ numbered number (line_answer_text s (node_in machine.now) answer.now)) }
 {
     let mut line = Vec::new(alloc);
     put_number(&mut line, number)?;

@@ -6,38 +6,41 @@ use Rattle.gl_lines.specs.Worlds.{IsSmall}
 use Rattle.gl_lines.specs.Lines.{cut, newline}
 use Rattle.gl_lines.specs.Words.{words_of, is, hex_sized}
 use Rattle.gl_lines.specs.Numbers.{counted_number}
-use Rattle.gl_lines.specs.Operations.{◌>>=◌}
-use Rattle.gl_lines.specs.Reading.{first_line, first_line_of, number_within, settings_read, state_of, then_read, or_line, world_of, world_read}
+use Rattle.gl_base.specs.Steps.{◌>>=◌}
+use Rattle.gl_lines.specs.declared.fault.LineFault.{LineFault}
+use Rattle.gl_lines.specs.declared.fault.LineFault.TheVariants.{NoReading}
+use Rattle.gl_lines.specs.declared.fault.ScheduleFault.{ScheduleFault}
+use Rattle.gl_lines.specs.Reading.{first_line, first_line_of, number_within, settings_read, state_of, or_line, world_of, world_read}
 
 -- a number that is read is within its limits
-within : (least most : ℕ) (word : List ℕ) (n : ℕ) → number_within least most word ≡ Some n → (least ≤ n) × (n ≤ most)
+within : (least most : ℕ) (word : List ℕ) (n : ℕ) → number_within least most word ≡ Ok n → (least ≤ n) × (n ≤ most)
 unfolding number_within
 within least most word n e = go (counted_number word) e
   where
-    go : (r : Option ℕ) → (r >>= λ m. (if nat_le least m && nat_le m most then Some m else None)) ≡ Some n → (least ≤ n) × (n ≤ most)
-    go None p = absurd (cc)
-    go (Some m) p = tests (nat_le least m) (nat_le m most) refl refl p
+    go : (r : Result ℕ LineFault) → (r >>= λ m. (if nat_le least m && nat_le m most then Ok m else Err NoReading)) ≡ Ok n → (least ≤ n) × (n ≤ most)
+    go (Err fault) p = absurd (cc)
+    go (Ok m) p = tests (nat_le least m) (nat_le m most) refl refl p
       where
-        tests : (a b : Bool) → nat_le least m ≡ a → nat_le m most ≡ b → (if a && b then Some m else None) ≡ Some n → (least ≤ n) × (n ≤ most)
+        tests : (a b : Bool) → nat_le least m ≡ a → nat_le m most ≡ b → ◌≡◌ {A = Result ℕ LineFault} (if a && b then Ok m else Err NoReading) (Ok n) → (least ≤ n) × (n ≤ most)
         tests true true s t p = let same : m ≡ n = cc in (grind (arith, nat_tests), grind (arith, nat_tests))
         tests true false s t p = absurd (cc)
         tests false b s t p = absurd (cc)
 
-settings_small : (starting joiners members state seed : List ℕ) (w : WorldLine) → settings_read starting joiners members state seed ≡ Some w → IsSmall w
+settings_small : (starting joiners members state seed : List ℕ) (w : WorldLine) → settings_read starting joiners members state seed ≡ Ok w → IsSmall w
 unfolding settings_read
 settings_small starting joiners members state seed w e =
     go (number_within 1 1 starting) (number_within 0 0 joiners) (number_within 1 64 members) (state_of state) (hex_sized seed 32) refl refl refl e
   where
-    go : (n m k : Option ℕ) (s : Option Bool) (h : Option (List ℕ)) →
+    go : (n m k : Result ℕ LineFault) (s : Result Bool LineFault) (h : Result (List ℕ) LineFault) →
         number_within 1 1 starting ≡ n → number_within 0 0 joiners ≡ m → number_within 1 64 members ≡ k →
-        (n >>= λ n. m >>= λ m. k >>= λ k. s >>= λ is_open. h >>= λ bytes.
-        Some (record { starting = n; joiners = m; members = k; is_open = is_open; seed = bytes })) ≡ Some w → IsSmall w
-    go None m k s h a b c p = absurd (cc)
-    go (Some n) None k s h a b c p = absurd (cc)
-    go (Some n) (Some m) None s h a b c p = absurd (cc)
-    go (Some n) (Some m) (Some k) None h a b c p = absurd (cc)
-    go (Some n) (Some m) (Some k) (Some o) None a b c p = absurd (cc)
-    go (Some n) (Some m) (Some k) (Some o) (Some bytes) a b c p =
+        ◌≡◌ {A = Result WorldLine LineFault} (n >>= λ n. m >>= λ m. k >>= λ k. s >>= λ is_open. h >>= λ bytes.
+        Ok (record { starting = n; joiners = m; members = k; is_open = is_open; seed = bytes })) (Ok w) → IsSmall w
+    go (Err x) m k s h a b c p = absurd (cc)
+    go (Ok n) (Err x) k s h a b c p = absurd (cc)
+    go (Ok n) (Ok m) (Err x) s h a b c p = absurd (cc)
+    go (Ok n) (Ok m) (Ok k) (Err x) h a b c p = absurd (cc)
+    go (Ok n) (Ok m) (Ok k) (Ok o) (Err x) a b c p = absurd (cc)
+    go (Ok n) (Ok m) (Ok k) (Ok o) (Ok bytes) a b c p =
         let q : record { starting = n; joiners = m; members = k; is_open = o; seed = bytes } ≡ w = cc in
         let start = within 1 1 starting n a in
         let join = within 0 0 joiners m b in
@@ -51,11 +54,11 @@ settings_small starting joiners members state seed w e =
         subst IsSmall q small
 
 if_world : (b : Bool) (starting joiners members state seed : List ℕ) (w : WorldLine) →
-    (if b then settings_read starting joiners members state seed else None) ≡ Some w → IsSmall w
+    ◌≡◌ {A = Result WorldLine LineFault} (if b then settings_read starting joiners members state seed else Err NoReading) (Ok w) → IsSmall w
 if_world true starting joiners members state seed w e = settings_small starting joiners members state seed w e
 if_world false starting joiners members state seed w e = absurd (cc)
 
-words_small : (words : List (List ℕ)) (w : WorldLine) → world_read words ≡ Some w → IsSmall w
+words_small : (words : List (List ℕ)) (w : WorldLine) → world_read words ≡ Ok w → IsSmall w
 unfolding world_read
 words_small [] w e = absurd (cc)
 words_small (a ∷ []) w e = absurd (cc)
@@ -66,22 +69,23 @@ words_small (a ∷ b ∷ c ∷ d ∷ f ∷ []) w e = absurd (cc)
 words_small (a ∷ b ∷ c ∷ d ∷ f ∷ g ∷ []) w e = if_world (is a (codes "world")) b c d f g w e
 words_small (a ∷ b ∷ c ∷ d ∷ f ∷ g ∷ h ∷ rest) w e = absurd (cc)
 
-world_small : (line : List ℕ) (w : WorldLine) → world_of line ≡ Some w → IsSmall w
+world_small : (line : List ℕ) (w : WorldLine) → world_of line ≡ Ok w → IsSmall w
 unfolding world_of
 world_small line w e = words_small (words_of line) w e
 
-world_in : WorldLine → Result (WorldLine × List ℕ) ℕ → WorldLine
+world_in : WorldLine → Result (WorldLine × List ℕ) ScheduleFault → WorldLine
 world_in other (Ok (w, rest)) = w
-world_in other (Err number) = other
+world_in other (Err fault) = other
 
 from_first : (line : List ℕ) (behind : Option (List ℕ)) (w : WorldLine) (rest : List ℕ) → first_line_of line behind ≡ Ok (w, rest) → IsSmall w
 unfolding world_in
 from_first line None w rest e = absurd (cc)
 from_first line (Some text) w rest e = go (world_of line) refl e
   where
-    go : (o : Option WorldLine) → world_of line ≡ o → then_read {B = WorldLine × List ℕ} (or_line 1 o) (λ world. Ok (world, text)) ≡ Ok (w, rest) → IsSmall w
-    go None at p = absurd (cc)
-    go (Some v) at p = let same : v ≡ w = ap (world_in w) p in subst IsSmall same (world_small line v at)
+    go : (o : Result WorldLine LineFault) → world_of line ≡ o →
+        ◌≡◌ {A = Result (WorldLine × List ℕ) ScheduleFault} (or_line 1 o >>= λ world. Ok (world, text)) (Ok (w, rest)) → IsSmall w
+    go (Err x) at p = absurd (cc)
+    go (Ok v) at p = let same : v ≡ w = ap (world_in w) p in subst IsSmall same (world_small line v at)
 
 -- the service of a first line that is read
 pub first_small : (text : List ℕ) (w : WorldLine) (rest : List ℕ) → first_line text ≡ Ok (w, rest) → IsSmall w

@@ -1,27 +1,32 @@
 -- Reading the lines of a schedule one after another.
-use Rattle.std.proofs.Common.{◌≡◌, ℕ, suc, ◌+◌, ◌<◌, ◌≤◌, Bool, true, false, List, [], ◌∷◌, ◌++◌, length, drop, get_or, Option, None, Some, Result, Ok, Err, refl, sym, subst, ◌∙◌, ap, append_assoc, append-nil, arith, Bor, add-one, drop-cons, if◌then◌else◌}
+use Rattle.std.proofs.Common.{◌≡◌, ℕ, suc, ◌+◌, ◌<◌, ◌≤◌, Bool, true, false, List, [], ◌∷◌, ◌++◌, length, drop, get_or, Result, Ok, Err, refl, sym, subst, ◌∙◌, ap, append_assoc, append-nil, arith, Bor, add-one, drop-cons, if◌then◌else◌}
 use Rattle.std.proofs.Math.ListN.{drop_of_length-le}
 use Rattle.gl_lines.specs.declared.line.Line.{Line}
-use Rattle.gl_lines.specs.declared.stop.Stop.{Stop}
-use Rattle.gl_lines.specs.declared.stop.Stop.TheVariants.{NoReading}
-use Rattle.gl_lines.specs.Stops.{Stops}
+use Rattle.gl_base.specs.Answers.{Fails}
+use Rattle.gl_base.specs.Steps.{◌>>=◌}
+use Rattle.gl_base.specs.declared.or_no_memory.OrNoMemory.{OrNoMemory}
+use Rattle.gl_base.specs.declared.or_no_memory.OrNoMemory.TheVariants.{NoMemory, Fault}
+use Rattle.gl_lines.specs.declared.fault.LineFault.{LineFault}
+use Rattle.gl_lines.specs.declared.fault.ScheduleFault.{ScheduleFault}
+use Rattle.gl_lines.specs.declared.fault.ScheduleFault.TheVariants.{BadLine}
+use Rattle.gl_lines.specs.AtLines.{AtLine}
 use Rattle.gl_lines.specs.Parts.{bytes_of}
-use Rattle.gl_lines.specs.Reading.{line_of, lines_read, or_line, then_read}
+use Rattle.gl_lines.specs.Reading.{line_of, lines_read, or_line}
 
 -- the lines that were read, and those to be read
-abbrev pub with_lines : List Line → Result (List Line) ℕ → Result (List Line) ℕ
+abbrev pub with_lines : List Line → Result (List Line) ScheduleFault → Result (List Line) ScheduleFault
 with_lines front (Ok lines) = Ok (front ++ lines)
 with_lines front (Err number) = Err number
 
-pub with_no_lines : (r : Result (List Line) ℕ) → with_lines [] r ≡ r
+pub with_no_lines : (r : Result (List Line) ScheduleFault) → with_lines [] r ≡ r
 with_no_lines (Ok lines) = refl
 with_no_lines (Err number) = refl
 
 -- a line, which has a number, before others
-before : ℕ → Option Line → Result (List Line) ℕ → Result (List Line) ℕ
-before number first others = then_read (or_line number first) (λ line. then_read others (λ rest. Ok (line ∷ rest)))
+before : ℕ → Result Line LineFault → Result (List Line) ScheduleFault → Result (List Line) ScheduleFault
+before number first others = or_line number first >>= λ line. others >>= λ rest. Ok (line ∷ rest)
 
-one_more : (number : ℕ) (front : List Line) (line : Line) (r : Result (List Line) ℕ) → with_lines front (before number (Some line) r) ≡ with_lines (front ++ line ∷ []) r
+one_more : (number : ℕ) (front : List Line) (line : Line) (r : Result (List Line) ScheduleFault) → with_lines front (before number (Ok line) r) ≡ with_lines (front ++ line ∷ []) r
 unfolding before
 one_more number front line (Ok lines) = ap Ok (sym (append_assoc front (line ∷ []) lines))
 one_more number front line (Err other) = refl
@@ -46,47 +51,47 @@ read_here lines i d open_behind within =
     ∙ ap (λ (n : ℕ). before (2 + i) (line_of (get_or lines i d).now) (lines_read n (bytes_of (drop (i + 1) lines)) open_behind)) next
 
 -- one more line that reads
-pub read_step : (R : Result (List Line) ℕ) (front front' : List Line) (lines : List (Bor (List ℕ))) (i : ℕ) (d : Bor (List ℕ)) (line : Line) (open_behind : Bool) → i < length lines →
-    line_of (get_or lines i d).now ≡ Some line → front' ≡ front ++ line ∷ [] →
+pub read_step : (R : Result (List Line) ScheduleFault) (front front' : List Line) (lines : List (Bor (List ℕ))) (i : ℕ) (d : Bor (List ℕ)) (line : Line) (open_behind : Bool) → i < length lines →
+    line_of (get_or lines i d).now ≡ Ok line → front' ≡ front ++ line ∷ [] →
     with_lines front (lines_read (2 + i) (bytes_of (drop i lines)) open_behind) ≡ R →
     with_lines front' (lines_read (2 + (i + 1)) (bytes_of (drop (i + 1) lines)) open_behind) ≡ R
 read_step R front front' lines i d line open_behind within reads taken so_far =
     let rest = lines_read (2 + (i + 1)) (bytes_of (drop (i + 1) lines)) open_behind in
     ap (λ (f : List Line). with_lines f rest) taken
     ∙ sym (one_more (2 + i) front line rest)
-    ∙ ap (λ (o : Option Line). with_lines front (before (2 + i) o rest)) (sym reads)
+    ∙ ap (λ (o : Result Line LineFault). with_lines front (before (2 + i) o rest)) (sym reads)
     ∙ ap (with_lines front) (sym (read_here lines i d open_behind within))
     ∙ so_far
 
-no_reading : {A : Type 0} (stop : Stop) (reading : Option A) → stop ≡ NoReading → Stops stop reading → reading ≡ None
-no_reading stop reading e stopped = subst (λ (s : Stop). Stops s reading) e stopped
-
 -- one that says nothing
-pub bad_step : (stop : Stop) (R : Result (List Line) ℕ) (front : List Line) (lines : List (Bor (List ℕ))) (i : ℕ) (d : Bor (List ℕ)) (open_behind : Bool) → i < length lines →
-    stop ≡ NoReading → Stops stop (line_of (get_or lines i d).now) →
-    with_lines front (lines_read (2 + i) (bytes_of (drop i lines)) open_behind) ≡ R → R ≡ Err (i + 2)
+pub bad_step : (stop : OrNoMemory LineFault) (answer : OrNoMemory ScheduleFault) (R : Result (List Line) ScheduleFault) (front : List Line) (lines : List (Bor (List ℕ))) (i : ℕ) (d : Bor (List ℕ)) (open_behind : Bool) → i < length lines →
+    Fails stop (line_of (get_or lines i d).now) → AtLine (i + 2) stop answer →
+    with_lines front (lines_read (2 + i) (bytes_of (drop i lines)) open_behind) ≡ R → Fails answer R
 unfolding before
-bad_step stop R front lines i d open_behind within none stopped so_far =
+bad_step NoMemory answer R front lines i d open_behind within stopped is so_far = subst (λ (a : OrNoMemory ScheduleFault). Fails a R) (sym is) tt
+bad_step (Fault fault) answer R front lines i d open_behind within stopped is so_far =
     let number : 2 + i ≡ i + 2 = omega arith in
+    subst (λ (a : OrNoMemory ScheduleFault). Fails a R) (sym is) (
     sym so_far
     ∙ ap (with_lines front) (read_here lines i d open_behind within)
-    ∙ ap (λ (o : Option Line). with_lines front (before (2 + i) o (lines_read (2 + (i + 1)) (bytes_of (drop (i + 1) lines)) open_behind))) (no_reading stop _ none stopped)
-    ∙ ap Err number
+    ∙ ap (λ (o : Result Line LineFault). with_lines front (before (2 + i) o (lines_read (2 + (i + 1)) (bytes_of (drop (i + 1) lines)) open_behind))) stopped
+    ∙ ap (λ (n : ℕ). Err (BadLine n)) number
+    )
 
 -- and behind the last one
-at_end : (R : Result (List Line) ℕ) (front : List Line) (lines : List (Bor (List ℕ))) (i : ℕ) (open_behind : Bool) → length lines ≤ i →
-    with_lines front (lines_read (2 + i) (bytes_of (drop i lines)) open_behind) ≡ R → R ≡ with_lines front (if open_behind then Err (2 + i) else Ok [])
+at_end : (R : Result (List Line) ScheduleFault) (front : List Line) (lines : List (Bor (List ℕ))) (i : ℕ) (open_behind : Bool) → length lines ≤ i →
+    with_lines front (lines_read (2 + i) (bytes_of (drop i lines)) open_behind) ≡ R → R ≡ with_lines front (if open_behind then Err (BadLine (2 + i)) else Ok [])
 unfolding lines_read
 at_end R front lines i open_behind past so_far =
     sym so_far ∙ ap (λ (ls : List (Bor (List ℕ))). with_lines front (lines_read (2 + i) (bytes_of ls) open_behind)) (drop_of_length-le lines past)
 
-pub open_step : (R : Result (List Line) ℕ) (front : List Line) (lines : List (Bor (List ℕ))) (i : ℕ) (open_behind : Bool) → length lines ≤ i → i ≤ length lines → open_behind ≡ true →
-    with_lines front (lines_read (2 + i) (bytes_of (drop i lines)) open_behind) ≡ R → R ≡ Err (length lines + 2)
+pub open_step : (R : Result (List Line) ScheduleFault) (front : List Line) (lines : List (Bor (List ℕ))) (i : ℕ) (open_behind : Bool) → length lines ≤ i → i ≤ length lines → open_behind ≡ true →
+    with_lines front (lines_read (2 + i) (bytes_of (drop i lines)) open_behind) ≡ R → R ≡ Err (BadLine (length lines + 2))
 open_step R front lines i open_behind past within is_open so_far =
     let number : 2 + i ≡ length lines + 2 = omega arith in
-    at_end R front lines i open_behind past so_far ∙ ap (λ (b : Bool). with_lines front (if b then Err (2 + i) else Ok [])) is_open ∙ ap Err number
+    at_end R front lines i open_behind past so_far ∙ ap (λ (b : Bool). with_lines front (if b then Err (BadLine (2 + i)) else Ok [])) is_open ∙ ap (λ (n : ℕ). Err (BadLine n)) number
 
-pub end_step : (R : Result (List Line) ℕ) (front : List Line) (lines : List (Bor (List ℕ))) (i : ℕ) (open_behind : Bool) → length lines ≤ i → open_behind ≡ false →
+pub end_step : (R : Result (List Line) ScheduleFault) (front : List Line) (lines : List (Bor (List ℕ))) (i : ℕ) (open_behind : Bool) → length lines ≤ i → open_behind ≡ false →
     with_lines front (lines_read (2 + i) (bytes_of (drop i lines)) open_behind) ≡ R → R ≡ Ok front
 end_step R front lines i open_behind past none so_far =
-    at_end R front lines i open_behind past so_far ∙ ap (λ (b : Bool). with_lines front (if b then Err (2 + i) else Ok [])) none ∙ ap Ok (append-nil front)
+    at_end R front lines i open_behind past so_far ∙ ap (λ (b : Bool). with_lines front (if b then Err (BadLine (2 + i)) else Ok [])) none ∙ ap Ok (append-nil front)

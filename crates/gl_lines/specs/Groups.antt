@@ -1,6 +1,6 @@
 -- The words of operations that are still to be read.
-use Rattle.std.specs.Prelude.{ℕ, List, [], ◌∷◌, Option, None, Some}
-use Rattle.gl_lines.specs.Operations.{◌>>=◌, groups_of}
+use Rattle.std.specs.Prelude.{ℕ, List, [], Option, None, Some}
+use Rattle.gl_lines.specs.Operations.{groups_of, with_group}
 
 -- The words of the operations behind a semicolon, operation by operation; nothing may stand behind.
 abbrev pub groups_behind : Option (List (List ℕ)) → Option (List (List (List ℕ)))
@@ -9,4 +9,4 @@ groups_behind (Some words) = groups_of words
 
 -- The words of one operation before those.
 abbrev pub group_before : List (List ℕ) → Option (List (List ℕ)) → Option (List (List (List ℕ)))
-group_before group behind = groups_behind behind >>= λ others. Some (group ∷ others)
+group_before group behind = with_group group (groups_behind behind)

@@ -7,4 +7,4 @@ pub mod Groups
 pub mod Reading
 pub mod Worlds
 pub mod Nodes
-pub mod Stops
+pub mod AtLines

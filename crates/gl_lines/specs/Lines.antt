@@ -1,4 +1,4 @@
--- The lines of a text. Each ends with a newline; what stands behind the last newline is an open line.
+-- The lines of a text. Each ends with a newline; what stands behind the last one is an open line.
 use Rattle.std.specs.Prelude.{ℕ, ◌+◌, ◌-◌, List, [], ◌∷◌, ◌++◌, Option, None, Some, length, take, drop, position, count_by, slice_get, Bool, nat_lt, ◌==◌, if◌then◌else◌}
 
 abbrev pub newline : ℕ
@@ -22,6 +22,7 @@ lines_from line (byte ∷ bytes) =
     if is_newline byte then with_line line (lines_from [] bytes)
     else lines_from (line ++ byte ∷ []) bytes
 
+-- The lines of a text, and its open line.
 abbrev pub lines_of : List ℕ → Split
 lines_of text = lines_from [] text
 
@@ -29,25 +30,28 @@ lines_of text = lines_from [] text
 abbrev pub is_open : Split → Bool
 is_open split = nat_lt 0 (length split.open_line)
 
--- How many lines there are, a last one without its newline too.
+-- A last line without its newline is one line more.
 abbrev pub open_line_count : Option ℕ → ℕ
 open_line_count None = 0
 open_line_count (Some byte) = if is_newline byte then 0 else 1
 
+-- How many lines there are, a last one without its newline too.
 abbrev pub line_count : List ℕ → ℕ
 line_count text = count_by is_newline text + open_line_count (slice_get text (length text - 1))
 
--- A text up to the first such byte, and what stands behind that byte, if the text has one.
+-- The front of a text, and what stands behind it, if something does.
 pub record Cut : Type 0 where
   pub front : List ℕ
   pub behind : Option (List ℕ)
 
 abbrev pub cut_at : List ℕ → Option ℕ → Cut
 cut_at text None = record { front = text; behind = None }
-cut_at text (Some place) = record { front = take place text; behind = Some (drop 1 (drop place text)) }
+cut_at text (Some place) =
+    record { front = take place text; behind = Some (drop 1 (drop place text)) }
 
 abbrev pub is_byte : ℕ → ℕ → Bool
 is_byte byte other = other == byte
 
+-- A text up to the first such byte, and what stands behind that byte, if the text has one.
 abbrev pub cut : ℕ → List ℕ → Cut
 cut byte text = cut_at text (position (is_byte byte) text)

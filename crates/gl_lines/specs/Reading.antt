@@ -1,66 +1,72 @@
 -- What the text of a schedule says. It is read whole before the first event.
 use Rattle.std.specs.Prelude.{ℕ, suc, List, [], ◌∷◌, Option, None, Some, Result, Ok, Err, Bool, true, false, ◌&&◌, nat_le, codes, length, if◌then◌else◌}
+use Rattle.gl_base.specs.Steps.{◌>>=◌}
 use Rattle.gl_base.specs.TxId.{parsed}
 use Rattle.gl_base.specs.declared.tx_id.TxId.{TxId}
 use Rattle.gl_base.specs.declared.tx_id.TxIdFault.{TxIdFault}
 use Rattle.gl_tx.specs.Request.{is_count}
 use Rattle.gl_tx.specs.declared.request.Operation.{Operation}
+use Rattle.gl_lines.specs.declared.fault.LineFault.{LineFault}
+use Rattle.gl_lines.specs.declared.fault.LineFault.TheVariants.{NoReading}
+use Rattle.gl_lines.specs.declared.fault.ScheduleFault.{ScheduleFault}
+use Rattle.gl_lines.specs.declared.fault.ScheduleFault.TheVariants.{BadLine}
 use Rattle.gl_lines.specs.declared.line.Line.{Line}
 use Rattle.gl_lines.specs.declared.line.Line.TheVariants as lines
 use Rattle.gl_lines.specs.declared.world.WorldLine.{WorldLine}
 use Rattle.gl_lines.specs.Lines.{cut, newline, lines_of, is_open}
 use Rattle.gl_lines.specs.Words.{space, words_of, is, hex_sized}
 use Rattle.gl_lines.specs.Numbers.{counted_number}
-use Rattle.gl_lines.specs.Operations.{◌>>=◌, operations_of}
+use Rattle.gl_lines.specs.Operations.{operations_of}
 
 -- A line behind the first: the name of its command, the number of a node, and what the command asks
 -- for behind that. Each stands apart by one space, and what is left may have spaces of its own.
 
 -- A command that asks for nothing more.
-abbrev pub short_line : List ℕ → ℕ → Option Line
+abbrev pub short_line : List ℕ → ℕ → Result Line LineFault
 short_line name node =
-    if is name (codes "reserve") then Some (lines.Reserve node)
-    else (if is name (codes "sign") then Some (lines.Sign node)
-    else (if is name (codes "advance") then Some (lines.Advance node)
-    else (if is name (codes "ids") then Some (lines.Ids node)
-    else (if is name (codes "ledger") then Some (lines.Ledger node) else None))))
+    if is name (codes "reserve") then Ok (lines.Reserve node)
+    else (if is name (codes "sign") then Ok (lines.Sign node)
+    else (if is name (codes "advance") then Ok (lines.Advance node)
+    else (if is name (codes "ids") then Ok (lines.Ids node)
+    else (if is name (codes "ledger") then Ok (lines.Ledger node) else Err NoReading))))
 
 -- A request of 1 to 64 operations.
-abbrev pub request_of : ℕ → List Operation → Option Line
-request_of node all = if is_count (length all) then Some (lines.Submit node all) else None
+abbrev pub request_of : ℕ → List Operation → Result Line LineFault
+request_of node all = if is_count (length all) then Ok (lines.Submit node all) else Err NoReading
 
-abbrev pub submit_line : ℕ → List ℕ → Option Line
+abbrev pub submit_line : ℕ → List ℕ → Result Line LineFault
 submit_line node rest = operations_of (words_of rest) >>= request_of node
 
-abbrev pub if_parsed : ℕ → Result TxId TxIdFault → Option Line
-if_parsed node (Ok id) = Some (lines.Status node id)
-if_parsed node (Err fault) = None
+abbrev pub if_parsed : ℕ → Result TxId TxIdFault → Result Line LineFault
+if_parsed node (Ok id) = Ok (lines.Status node id)
+if_parsed node (Err fault) = Err NoReading
 
 -- A command that asks for what stands behind its node.
-abbrev pub long_line : List ℕ → ℕ → List ℕ → Option Line
+abbrev pub long_line : List ℕ → ℕ → List ℕ → Result Line LineFault
 long_line name node rest =
     if is name (codes "submit") then submit_line node rest
-    else (if is name (codes "status") then if_parsed node (parsed rest) else None)
+    else (if is name (codes "status") then if_parsed node (parsed rest) else Err NoReading)
 
-unfoldable pub node_line : List ℕ → ℕ → Option (List ℕ) → Option Line
+unfoldable pub node_line : List ℕ → ℕ → Option (List ℕ) → Result Line LineFault
 node_line name node None = short_line name node
 node_line name node (Some rest) = long_line name node rest
 
-unfoldable pub command_line : List ℕ → Option (List ℕ) → Option Line
-command_line name None = None
+unfoldable pub command_line : List ℕ → Option (List ℕ) → Result Line LineFault
+command_line name None = Err NoReading
 command_line name (Some text) =
     counted_number (cut space text).front >>= λ node. node_line name node (cut space text).behind
 
-unfoldable pub line_of : List ℕ → Option Line
+-- What a line behind the first says, if it says something.
+unfoldable pub line_of : List ℕ → Result Line LineFault
 line_of line = command_line (cut space line).front (cut space line).behind
 
 -- The first line: so many nodes that start and nodes that join, so many members, the state in which
 -- the service begins, and its seed.
 
 -- A number from one to another.
-unfoldable pub number_within : ℕ → ℕ → List ℕ → Option ℕ
+unfoldable pub number_within : ℕ → ℕ → List ℕ → Result ℕ LineFault
 number_within least most word =
-    counted_number word >>= λ n. (if nat_le least n && nat_le n most then Some n else None)
+    counted_number word >>= λ n. (if nat_le least n && nat_le n most then Ok n else Err NoReading)
 
 -- Until schedules have many nodes, one starts and none joins.
 abbrev pub starting_limit : ℕ
@@ -72,55 +78,53 @@ joiners_limit = 0
 abbrev pub members_limit : ℕ
 members_limit = 64
 
-abbrev pub state_of : List ℕ → Option Bool
+abbrev pub state_of : List ℕ → Result Bool LineFault
 state_of word =
-    if is word (codes "open") then Some true
-    else (if is word (codes "opening") then Some false else None)
+    if is word (codes "open") then Ok true
+    else (if is word (codes "opening") then Ok false else Err NoReading)
 
-unfoldable pub settings_read : List ℕ → List ℕ → List ℕ → List ℕ → List ℕ → Option WorldLine
+unfoldable pub settings_read : List ℕ → List ℕ → List ℕ → List ℕ → List ℕ →
+    Result WorldLine LineFault
 settings_read starting joiners members state seed =
     number_within 1 starting_limit starting >>= λ n.
     number_within 0 joiners_limit joiners >>= λ m.
     number_within 1 members_limit members >>= λ k.
     state_of state >>= λ is_open. hex_sized seed 32 >>= λ bytes.
-    Some (record { starting = n; joiners = m; members = k; is_open = is_open; seed = bytes })
+    Ok (record { starting = n; joiners = m; members = k; is_open = is_open; seed = bytes })
 
-unfoldable pub world_read : List (List ℕ) → Option WorldLine
+unfoldable pub world_read : List (List ℕ) → Result WorldLine LineFault
 world_read (world ∷ starting ∷ joiners ∷ members ∷ state ∷ seed ∷ []) =
-    if is world (codes "world") then settings_read starting joiners members state seed else None
-world_read words = None
+    if is world (codes "world") then settings_read starting joiners members state seed
+    else Err NoReading
+world_read words = Err NoReading
 
-unfoldable pub world_of : List ℕ → Option WorldLine
+unfoldable pub world_of : List ℕ → Result WorldLine LineFault
 world_of line = world_read (words_of line)
 
 -- The lines of a schedule
 
 -- What a line says, or that the line with this number says nothing.
-abbrev pub or_line : {A : Type 0} → ℕ → Option A → Result A ℕ
-or_line number None = Err number
-or_line number (Some a) = Ok a
+abbrev pub or_line : {A : Type 0} → ℕ → Result A LineFault → Result A ScheduleFault
+or_line number (Ok a) = Ok a
+or_line number (Err fault) = Err (BadLine number)
 
-abbrev pub then_read : {A B : Type 0} → Result A ℕ → (A → Result B ℕ) → Result B ℕ
-then_read (Ok a) f = f a
-then_read (Err line) f = Err line
+-- Without a newline there is no first line.
+abbrev pub first_line_of : List ℕ → Option (List ℕ) → Result (WorldLine × List ℕ) ScheduleFault
+first_line_of line None = Err (BadLine 1)
+first_line_of line (Some rest) = or_line 1 (world_of line) >>= λ world. Ok (world, rest)
 
--- What the first line says, and the text behind it. Without a newline there is no first line.
-abbrev pub first_line_of : List ℕ → Option (List ℕ) → Result (WorldLine × List ℕ) ℕ
-first_line_of line None = Err 1
-first_line_of line (Some rest) =
-    then_read (or_line 1 (world_of line)) (λ world. Ok (world, rest))
-
-unfoldable pub first_line : List ℕ → Result (WorldLine × List ℕ) ℕ
+-- What the first line of a text says, and the text behind it.
+unfoldable pub first_line : List ℕ → Result (WorldLine × List ℕ) ScheduleFault
 first_line text = first_line_of (cut newline text).front (cut newline text).behind
 
--- The lines from one with this number on, or the number of the first that says nothing; an open line
--- says nothing.
-unfoldable pub lines_read : ℕ → List (List ℕ) → Bool → Result (List Line) ℕ
-lines_read number [] open_behind = if open_behind then Err number else Ok []
+-- The lines from one with this number on, or the first that says nothing; an open line says
+-- nothing.
+unfoldable pub lines_read : ℕ → List (List ℕ) → Bool → Result (List Line) ScheduleFault
+lines_read number [] open_behind = if open_behind then Err (BadLine number) else Ok []
 lines_read number (line ∷ lines) open_behind =
-    then_read (or_line number (line_of line)) (λ first.
-    then_read (lines_read (suc number) lines open_behind) (λ rest. Ok (first ∷ rest)))
+    or_line number (line_of line) >>= λ first.
+    lines_read (suc number) lines open_behind >>= λ rest. Ok (first ∷ rest)
 
 -- The lines of the text behind the first line.
-unfoldable pub lines_behind : List ℕ → Result (List Line) ℕ
+unfoldable pub lines_behind : List ℕ → Result (List Line) ScheduleFault
 lines_behind text = lines_read 2 (lines_of text).lines (is_open (lines_of text))

@@ -1,8 +1,7 @@
 //! A line of a schedule: what happens to a service, or what is asked of it.
 
-use gl_base::TxId;
+use gl_base::{Sequence, TxId};
 use gl_tx::Request;
-use std::marker::Model;
 
 /// A line of a schedule behind its first. It names a node by its number, from 1; other numbers name
 /// no node.
@@ -45,38 +44,4 @@ impl Line {
 }
 
 /// The lines of a schedule behind its first.
-#[derive(Debug, Drop)]
-pub struct Lines {
-    items: Vec<Line>,
-}
-
-impl Model for Lines {
-    ghost use Rattle.std.specs.Prelude.{List};
-    ghost use Rattle.gl_lines.specs.declared.line.Line.{Line};
-
-    ghost Value = { List Line };
-
-    ghost view = { λ l. l.items.items };
-}
-
-impl Lines {
-    ghost use Rattle.std.specs.Prelude.{◌≡◌};
-
-    /// The lines, in order.
-    pub fn as_slice(&self) -> &[Line]
-        ensures { result.now ≡ self.now }
-    {
-        &self.items
-    }
-}
-
-impl From<Vec<Line>> for Lines {
-    ghost use Rattle.std.specs.Prelude.{◌≡◌};
-
-    ghost from_gives = { λ items lines. lines ≡ items.items };
-
-    /// The lines as they are: takes no memory.
-    fn from(items: Vec<Line>) -> Lines {
-        Lines { items }
-    }
-}
+pub type Lines = Sequence<Line>;

@@ -3,11 +3,12 @@
 ghost use Rattle.std.specs.Prelude.{◌≡◌};
 ghost use Rattle.std.specs.List.{list_all};
 ghost use Rattle.gl_vmaps.specs.Name.{is_map_name, is_key, is_value};
-ghost use Rattle.gl_lines.specs.Stops.{Gives};
+ghost use Rattle.gl_base.specs.Answers.{Answers};
 ghost use Rattle.gl_lines.specs.Words.{is_lower_digit, hex_bytes, hex_sized, value_bytes};
 ghost use Rattle.gl_lines.specs.Operations.{only_if, map_of, key_of, value_of, expected_of};
 
-use crate::stop::Stop;
+use crate::fault::LineFault;
+use gl_base::OrNoMemory;
 use gl_vmaps::{Key, MapName, Value};
 use hex::FromHex;
 use std::alloc::Global;
@@ -19,91 +20,96 @@ fn is_lower_hex(text: &[u8]) -> bool
 }
 
 /// The bytes of lower-case hexadecimal digits.
-fn hex_bytes(alloc: Global, text: &[u8]) -> Result<Vec<u8>, Stop>
-    ensures { Gives (λ bytes. bytes.items) result (hex_bytes text.now) }
+fn hex_bytes(alloc: Global, text: &[u8]) -> Result<Vec<u8>, OrNoMemory<LineFault>>
+    ensures { Answers (λ bytes. bytes.items) result (hex_bytes text.now) }
 {
     if !is_lower_hex(text) {
-        return Err(Stop::NoReading);
+        return Err(OrNoMemory::Fault(LineFault::NoReading));
     }
     match hex::decode(alloc, text) {
         Ok(bytes) => Ok(bytes),
-        Err(hex::FromHexError::OutOfMemory) => Err(Stop::Memory),
-        Err(_) => Err(Stop::NoReading),
+        Err(hex::FromHexError::OutOfMemory) => Err(OrNoMemory::NoMemory),
+        Err(_) => Err(OrNoMemory::Fault(LineFault::NoReading)),
     }
 }
 
 /// The 32 bytes that lower-case hexadecimal digits spell.
-pub(crate) fn seed_of(text: &[u8]) -> Option<[u8; 32]>
+pub(crate) fn seed_of(text: &[u8]) -> Result<[u8; 32], LineFault>
     ensures { result ≡ hex_sized text.now 32 }
 {
     if !is_lower_hex(text) {
-        return None;
+        return Err(LineFault::NoReading);
     }
     match <[u8; 32] as FromHex>::from_hex(text) {
-        Ok(seed) => Some(seed),
-        Err(_) => None,
+        Ok(seed) => Ok(seed),
+        Err(_) => Err(LineFault::NoReading),
     }
 }
 
 /// The bytes of a value, of which a full stop spells none.
-fn value_bytes(alloc: Global, text: &[u8]) -> Result<Vec<u8>, Stop>
-    ensures { Gives (λ bytes. bytes.items) result (value_bytes text.now) }
+fn value_bytes(alloc: Global, text: &[u8]) -> Result<Vec<u8>, OrNoMemory<LineFault>>
+    ensures { Answers (λ bytes. bytes.items) result (value_bytes text.now) }
 {
     if text == b".".as_slice() {
         Ok(Vec::new(alloc))
     } else if text.is_empty() {
-        Err(Stop::NoReading)
+        Err(OrNoMemory::Fault(LineFault::NoReading))
     } else {
         hex_bytes(alloc, text)
     }
 }
 
 /// The name of a map, which is the word itself.
-pub(crate) fn map_of(alloc: Global, word: &[u8]) -> Result<MapName, Stop>
-    ensures { Gives (λ x. x) result (map_of word.now) }
+pub(crate) fn map_of(alloc: Global, word: &[u8]) -> Result<MapName, OrNoMemory<LineFault>>
+    ensures { Answers (λ x. x) result (map_of word.now) }
 {
     match MapName::new(Vec::from_slice(alloc, word)?) {
         Some(name) => Ok(name),
-        None => Err(Stop::NoReading),
+        None => Err(OrNoMemory::Fault(LineFault::NoReading)),
     }
 }
 
-fn key_from(bytes: Vec<u8>) -> Result<Key, Stop>
-    ensures { Gives (λ x. x) result (only_if is_key bytes.items) }
+fn key_from(bytes: Vec<u8>) -> Result<Key, LineFault>
+    ensures { result ≡ only_if is_key bytes.items }
 {
     match Key::new(bytes) {
         Some(key) => Ok(key),
-        None => Err(Stop::NoReading),
+        None => Err(LineFault::NoReading),
     }
 }
 
 #[tactic(auto, unfolding(crate::specs::Operations::key_of))]
-pub(crate) fn key_of(alloc: Global, word: &[u8]) -> Result<Key, Stop>
-    ensures { Gives (λ x. x) result (key_of word.now) }
+pub(crate) fn key_of(alloc: Global, word: &[u8]) -> Result<Key, OrNoMemory<LineFault>>
+    ensures { Answers (λ x. x) result (key_of word.now) }
 {
-    key_from(hex_bytes(alloc, word)?)
+    let bytes = hex_bytes(alloc, word)?;
+    Ok(key_from(bytes)?)
 }
 
-fn value_from(bytes: Vec<u8>) -> Result<Value, Stop>
-    ensures { Gives (λ x. x) result (only_if is_value bytes.items) }
+fn value_from(bytes: Vec<u8>) -> Result<Value, LineFault>
+    ensures { result ≡ only_if is_value bytes.items }
 {
     match Value::new(bytes) {
         Some(value) => Ok(value),
-        None => Err(Stop::NoReading),
+        None => Err(LineFault::NoReading),
     }
 }
 
 #[tactic(auto, unfolding(crate::specs::Operations::value_of))]
-pub(crate) fn value_of(alloc: Global, word: &[u8]) -> Result<Value, Stop>
-    ensures { Gives (λ x. x) result (value_of word.now) }
+pub(crate) fn value_of(alloc: Global, word: &[u8]) -> Result<Value, OrNoMemory<LineFault>>
+    ensures { Answers (λ x. x) result (value_of word.now) }
 {
-    value_from(value_bytes(alloc, word)?)
+    let bytes = value_bytes(alloc, word)?;
+    Ok(value_from(bytes)?)
 }
 
 /// A value, or none where the word is a hyphen.
 #[tactic(auto, unfolding(crate::specs::Operations::expected_of))]
-pub(crate) fn expected_of(alloc: Global, word: &[u8]) -> Result<Option<Value>, Stop>
-    ensures { Gives (λ x. x) result (expected_of word.now) }
+pub(crate) fn expected_of(
+    alloc: Global,
+    word: &[u8],
+) -> Result<Option<Value>, OrNoMemory<LineFault>>
+    ensures { Answers (λ x. x) result (expected_of word.now) }
 {
     if word == b"-".as_slice() {
         Ok(None)

@@ -8,6 +8,8 @@ ghost use Rattle.std.specs.List.{list_all};
 ghost use Rattle.std.specs.Str.Parse.{AllDigits, digits_value};
 ghost use Rattle.gl_lines.specs.Numbers.{is_decimal, counted_number, amount_of};
 
+use crate::fault::LineFault;
+
 fn are_digits(text: &[u8]) -> bool
     ensures { result ≡ list_all is_ascii_digit text.now }
 {
@@ -45,22 +47,25 @@ fn digits_value(digits: &[u8]) -> Option<u128>
 }
 
 /// The number of a node, of a line or of something else that is counted.
-pub(crate) fn counted_number(text: &[u8]) -> Option<u128>
+pub(crate) fn counted_number(text: &[u8]) -> Result<u128, LineFault>
     ensures { result ≡ counted_number text.now }
 {
     if is_decimal(text) {
-        digits_value(text)
+        match digits_value(text) {
+            Some(number) => Ok(number),
+            None => Err(LineFault::NoReading),
+        }
     } else {
-        None
+        Err(LineFault::NoReading)
     }
 }
 
 /// An amount that is added.
-pub(crate) fn amount_of(text: &[u8]) -> Option<u64>
+pub(crate) fn amount_of(text: &[u8]) -> Result<u64, LineFault>
     ensures { result ≡ amount_of text.now }
 {
     match counted_number(text) {
-        Some(number) if number <= u128::from(u64::MAX) => Some(number as u64),
-        _ => None,
+        Ok(number) if number <= u128::from(u64::MAX) => Ok(number as u64),
+        _ => Err(LineFault::NoReading),
     }
 }

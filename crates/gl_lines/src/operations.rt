@@ -2,21 +2,22 @@
 
 ghost use Rattle.std.specs.Prelude.{◌≡◌, ◌<◌, None, MatchOption, IfSome, length};
 ghost use Rattle.std.specs.Option.{option_copied, option_map};
-ghost use Rattle.gl_lines.specs.Stops.{Gives};
+ghost use Rattle.gl_base.specs.Answers.{Answers};
 ghost use Rattle.gl_lines.specs.Groups.{group_before};
 ghost use Rattle.gl_lines.specs.Parts.{bytes_of};
 ghost use Rattle.gl_lines.specs.Operations.{row_of, put_of, add_of, check_of, follow_of, arity, operation_of_two, operation_of_three, size_of, operation_of, groups_of, operations_of};
 
+use crate::fault::LineFault;
 use crate::names::{expected_of, key_of, map_of, value_of};
 use crate::numbers::amount_of;
-use crate::stop::Stop;
+use gl_base::OrNoMemory;
 use gl_tx::Operation;
 use gl_vmaps::{Key, MapName};
 use std::alloc::Global;
 
 #[tactic(auto, unfolding(crate::specs::Operations::row_of))]
-fn row_of(alloc: Global, map: &[u8], key: &[u8]) -> Result<(MapName, Key), Stop>
-    ensures { Gives (λ x. (x.0, x.1)) result (row_of map.now key.now) }
+fn row_of(alloc: Global, map: &[u8], key: &[u8]) -> Result<(MapName, Key), OrNoMemory<LineFault>>
+    ensures { Answers (λ x. (x.0, x.1)) result (row_of map.now key.now) }
 {
     let map = map_of(alloc, map)?;
     let key = key_of(alloc, key)?;
@@ -24,8 +25,13 @@ fn row_of(alloc: Global, map: &[u8], key: &[u8]) -> Result<(MapName, Key), Stop>
 }
 
 #[tactic(auto, unfolding(crate::specs::Operations::put_of))]
-fn put_of(alloc: Global, map: &[u8], key: &[u8], value: &[u8]) -> Result<Operation, Stop>
-    ensures { Gives (λ x. x) result (put_of map.now key.now value.now) }
+fn put_of(
+    alloc: Global,
+    map: &[u8],
+    key: &[u8],
+    value: &[u8],
+) -> Result<Operation, OrNoMemory<LineFault>>
+    ensures { Answers (λ x. x) result (put_of map.now key.now value.now) }
 {
     let (map, key) = row_of(alloc, map, key)?;
     let value = value_of(alloc, value)?;
@@ -33,19 +39,27 @@ fn put_of(alloc: Global, map: &[u8], key: &[u8], value: &[u8]) -> Result<Operati
 }
 
 #[tactic(auto, unfolding(crate::specs::Operations::add_of))]
-fn add_of(alloc: Global, map: &[u8], key: &[u8], amount: &[u8]) -> Result<Operation, Stop>
-    ensures { Gives (λ x. x) result (add_of map.now key.now amount.now) }
+fn add_of(
+    alloc: Global,
+    map: &[u8],
+    key: &[u8],
+    amount: &[u8],
+) -> Result<Operation, OrNoMemory<LineFault>>
+    ensures { Answers (λ x. x) result (add_of map.now key.now amount.now) }
 {
     let (map, key) = row_of(alloc, map, key)?;
-    match amount_of(amount) {
-        Some(amount) => Ok(Operation::Add { map, key, amount }),
-        None => Err(Stop::NoReading),
-    }
+    let amount = amount_of(amount)?;
+    Ok(Operation::Add { map, key, amount })
 }
 
 #[tactic(auto, unfolding(crate::specs::Operations::check_of))]
-fn check_of(alloc: Global, map: &[u8], key: &[u8], expected: &[u8]) -> Result<Operation, Stop>
-    ensures { Gives (λ x. x) result (check_of map.now key.now expected.now) }
+fn check_of(
+    alloc: Global,
+    map: &[u8],
+    key: &[u8],
+    expected: &[u8],
+) -> Result<Operation, OrNoMemory<LineFault>>
+    ensures { Answers (λ x. x) result (check_of map.now key.now expected.now) }
 {
     let (map, key) = row_of(alloc, map, key)?;
     let expected = expected_of(alloc, expected)?;
@@ -53,27 +67,32 @@ fn check_of(alloc: Global, map: &[u8], key: &[u8], expected: &[u8]) -> Result<Op
 }
 
 #[tactic(auto, unfolding(crate::specs::Operations::follow_of))]
-fn follow_of(alloc: Global, map: &[u8], key: &[u8], target: &[u8]) -> Result<Operation, Stop>
-    ensures { Gives (λ x. x) result (follow_of map.now key.now target.now) }
+fn follow_of(
+    alloc: Global,
+    map: &[u8],
+    key: &[u8],
+    target: &[u8],
+) -> Result<Operation, OrNoMemory<LineFault>>
+    ensures { Answers (λ x. x) result (follow_of map.now key.now target.now) }
 {
     let (map, key) = row_of(alloc, map, key)?;
     let target = map_of(alloc, target)?;
     Ok(Operation::Follow { map, key, target })
 }
 
-fn size_of(alloc: Global, name: &[u8], map: &[u8]) -> Result<Operation, Stop>
-    ensures { Gives (λ x. x) result (size_of name.now map.now) }
+fn size_of(alloc: Global, name: &[u8], map: &[u8]) -> Result<Operation, OrNoMemory<LineFault>>
+    ensures { Answers (λ x. x) result (size_of name.now map.now) }
 {
     if name == b"size".as_slice() {
         let map = map_of(alloc, map)?;
         Ok(Operation::Size { map })
     } else {
-        Err(Stop::NoReading)
+        Err(OrNoMemory::Fault(LineFault::NoReading))
     }
 }
 
-fn operation_of_two(name: &[u8], map: MapName, key: Key) -> Result<Operation, Stop>
-    ensures { Gives (λ x. x) result (operation_of_two name.now (map, key)) }
+fn operation_of_two(name: &[u8], map: MapName, key: Key) -> Result<Operation, LineFault>
+    ensures { result ≡ operation_of_two name.now (map, key) }
 {
     if name == b"get".as_slice() {
         Ok(Operation::Get { map, key })
@@ -82,7 +101,7 @@ fn operation_of_two(name: &[u8], map: MapName, key: Key) -> Result<Operation, St
     } else if name == b"remove".as_slice() {
         Ok(Operation::Remove { map, key })
     } else {
-        Err(Stop::NoReading)
+        Err(LineFault::NoReading)
     }
 }
 
@@ -92,8 +111,8 @@ fn operation_of_three(
     map: &[u8],
     key: &[u8],
     last: &[u8],
-) -> Result<Operation, Stop>
-    ensures { Gives (λ x. x) result (operation_of_three name.now map.now key.now last.now) }
+) -> Result<Operation, OrNoMemory<LineFault>>
+    ensures { Answers (λ x. x) result (operation_of_three name.now map.now key.now last.now) }
 {
     if name == b"put".as_slice() {
         put_of(alloc, map, key, last)
@@ -104,23 +123,23 @@ fn operation_of_three(
     } else if name == b"follow".as_slice() {
         follow_of(alloc, map, key, last)
     } else {
-        Err(Stop::NoReading)
+        Err(OrNoMemory::Fault(LineFault::NoReading))
     }
 }
 
 /// The operation of a name and the words behind it.
 #[tactic(auto, unfolding(crate::specs::Operations::operation_of))]
-fn operation_of(alloc: Global, words: &[&[u8]]) -> Result<Operation, Stop>
-    ensures { Gives (λ x. x) result (operation_of (bytes_of words.now)) }
+fn operation_of(alloc: Global, words: &[&[u8]]) -> Result<Operation, OrNoMemory<LineFault>>
+    ensures { Answers (λ x. x) result (operation_of (bytes_of words.now)) }
 {
     match words {
         [name, map] => size_of(alloc, name, map),
         [name, map, key] => {
             let (map, key) = row_of(alloc, map, key)?;
-            operation_of_two(name, map, key)
+            Ok(operation_of_two(name, map, key)?)
         }
         [name, map, key, last] => operation_of_three(alloc, name, map, key, last),
-        _ => Err(Stop::NoReading),
+        _ => Err(OrNoMemory::Fault(LineFault::NoReading)),
     }
 }
 
@@ -166,8 +185,11 @@ fn first_group<'a, 'b>(words: &'a [&'b [u8]]) -> Option<(&'a [&'b [u8]], Option<
 }
 
 /// The operations that words spell, with a semicolon between two.
-pub(crate) fn operations_of(alloc: Global, words: &[&[u8]]) -> Result<Vec<Operation>, Stop>
-    ensures { Gives (λ all. all.items) result (operations_of (bytes_of words.now)) }
+pub(crate) fn operations_of(
+    alloc: Global,
+    words: &[&[u8]],
+) -> Result<Vec<Operation>, OrNoMemory<LineFault>>
+    ensures { Answers (λ all. all.items) result (operations_of (bytes_of words.now)) }
 {
     // Most requests have one operation.
     let mut operations = Vec::with_capacity(alloc, 1)?;
@@ -175,7 +197,7 @@ pub(crate) fn operations_of(alloc: Global, words: &[&[u8]]) -> Result<Vec<Operat
     while let Some(words) = left {
         let (group, behind) = match first_group(words) {
             Some(first) => first,
-            None => return Err(Stop::NoReading),
+            None => return Err(OrNoMemory::Fault(LineFault::NoReading)),
         };
         match operation_of(alloc, group) {
             Ok(operation) => operations.push(operation)?,

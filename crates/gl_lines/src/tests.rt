@@ -1,8 +1,13 @@
 //! Schedules and what they read as, worked out by hand.
 
 use super::*;
+use gl_base::OrNoMemory;
 use std::alloc::{AllocError, Global};
 use std::test::Fail;
+
+fn bad_line(number: u64) -> OrNoMemory<ScheduleFault> {
+    OrNoMemory::Fault(ScheduleFault::BadLine(number))
+}
 
 /// These lines, each with its newline.
 fn join_lines(alloc: Global, lines: &[&[u8]]) -> Result<Vec<u8>, AllocError> {
@@ -150,7 +155,7 @@ fn refuses_lines(rt: HostRuntime) -> Result<(), Fail> {
     for line in rows {
         assert_eq!(rt;
             line_shown(alloc, line)?.as_str(),
-            "BadLine(2)",
+            "Fault(BadLine(2))",
             "of {line:?}"
         );
     }
@@ -178,7 +183,7 @@ fn reads_64_operations_and_no_more(rt: HostRuntime) -> Result<(), Fail> {
     assert!(rt; read_lines(alloc, &text).is_ok());
     let line = many_operations(alloc, 65)?;
     let text = join_lines(alloc, &[&line])?;
-    assert_eq!(rt; read_lines(alloc, &text).err(), Some(ReadError::BadLine(2)));
+    assert_eq!(rt; read_lines(alloc, &text).err(), Some(bad_line(2)));
     Ok(())
 }
 
@@ -237,7 +242,7 @@ fn refuses_first_lines(rt: HostRuntime) -> Result<(), Fail> {
         let text = world_line(alloc, settings, end)?;
         assert_eq!(rt;
             read_first_line(alloc, &text).err(),
-            Some(ReadError::BadLine(1)),
+            Some(bad_line(1)),
             "of {settings:?} {end:?}"
         );
     }
@@ -258,7 +263,7 @@ fn tells_the_first_bad_line(rt: HostRuntime) -> Result<(), Fail> {
     for (text, bad, count) in rows {
         assert_eq!(rt;
             read_lines(alloc, text).err(),
-            bad.map(ReadError::BadLine),
+            bad.map(bad_line),
             "of {text:?}"
         );
         assert_eq!(rt; line_count(text), count);

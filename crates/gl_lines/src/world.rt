@@ -1,14 +1,15 @@
 //! The first line of a schedule, with which a service begins.
 
 ghost use Rattle.std.specs.Prelude.{◌≡◌};
+ghost use Rattle.gl_base.specs.Answers.{Answers};
 ghost use Rattle.gl_lines.specs.Parts.{bytes_of};
 ghost use Rattle.gl_lines.specs.Reading.{number_within, settings_read, state_of, world_of, world_read};
-ghost use Rattle.gl_lines.specs.Stops.{Gives};
 
+use crate::fault::LineFault;
 use crate::names::seed_of;
 use crate::numbers::counted_number;
 use crate::split::words_of;
-use crate::stop::Stop;
+use gl_base::OrNoMemory;
 use std::alloc::Global;
 
 /// How many nodes may start: one, until schedules have many nodes.
@@ -37,26 +38,26 @@ pub struct WorldLine {
 
 /// A number from one to another.
 #[tactic(auto, unfolding(crate::specs::Reading::number_within))]
-fn number_within(least: u8, most: u8, word: &[u8]) -> Option<u8>
+fn number_within(least: u8, most: u8, word: &[u8]) -> Result<u8, LineFault>
     ensures { result ≡ number_within least most word.now }
 {
     match counted_number(word) {
-        Some(number) if u128::from(least) <= number && number <= u128::from(most) => {
-            Some(number as u8)
+        Ok(number) if u128::from(least) <= number && number <= u128::from(most) => {
+            Ok(number as u8)
         }
-        _ => None,
+        _ => Err(LineFault::NoReading),
     }
 }
 
-fn state_of(word: &[u8]) -> Option<bool>
+fn state_of(word: &[u8]) -> Result<bool, LineFault>
     ensures { result ≡ state_of word.now }
 {
     if word == b"open".as_slice() {
-        Some(true)
+        Ok(true)
     } else if word == b"opening".as_slice() {
-        Some(false)
+        Ok(false)
     } else {
-        None
+        Err(LineFault::NoReading)
     }
 }
 
@@ -67,7 +68,7 @@ fn settings_read(
     members: &[u8],
     state: &[u8],
     seed: &[u8],
-) -> Option<WorldLine>
+) -> Result<WorldLine, LineFault>
     ensures { result ≡ settings_read starting.now joiners.now members.now state.now seed.now }
 {
     let starting = number_within(1, STARTING_LIMIT, starting)?;
@@ -75,7 +76,7 @@ fn settings_read(
     let members = number_within(1, MEMBERS_LIMIT, members)?;
     let is_open = state_of(state)?;
     let seed = seed_of(seed)?;
-    Some(WorldLine {
+    Ok(WorldLine {
         starting,
         joiners,
         members,
@@ -85,25 +86,22 @@ fn settings_read(
 }
 
 #[tactic(auto, unfolding(crate::specs::Reading::world_read))]
-fn world_read(words: &[&[u8]]) -> Option<WorldLine>
+fn world_read(words: &[&[u8]]) -> Result<WorldLine, LineFault>
     ensures { result ≡ world_read (bytes_of words.now) }
 {
     match words {
         [world, starting, joiners, members, state, seed] if *world == b"world".as_slice() => {
             settings_read(starting, joiners, members, state, seed)
         }
-        _ => None,
+        _ => Err(LineFault::NoReading),
     }
 }
 
 /// What the first line says.
 #[tactic(auto, unfolding(crate::specs::Reading::world_of))]
-pub(crate) fn world_of(alloc: Global, line: &[u8]) -> Result<WorldLine, Stop>
-    ensures { Gives (λ x. x) result (world_of line.now) }
+pub(crate) fn world_of(alloc: Global, line: &[u8]) -> Result<WorldLine, OrNoMemory<LineFault>>
+    ensures { Answers (λ x. x) result (world_of line.now) }
 {
     let words = words_of(alloc, line)?;
-    match world_read(&words) {
-        Some(world) => Ok(world),
-        None => Err(Stop::NoReading),
-    }
+    Ok(world_read(&words)?)
 }

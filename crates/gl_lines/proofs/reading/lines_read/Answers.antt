@@ -1,9 +1,9 @@
 use Rattle.gl_lines.proofs.ReadingLemmas.{read_step, bad_step, open_step, end_step}
 use Rattle.gl_lines.proofs.reading.lines_read.Goals as goal
 
-pub returns-in-Err-NoReading : goal.returns-in-Err-NoReading
-returns-in-Err-NoReading c =
-    bad_step c.in-Err-NoReading.field-0 _ c.loop-i.all.items c.args.lines.now c.loop-i.i _ c.args.is_open c.loop-i-test.true c.in-Err-NoReading.field-0-is c.in-Err-NoReading.ensures c.loop-i.invariant
+pub returns-in-Err : goal.returns-in-Err
+returns-in-Err c =
+    bad_step c.in-Err.stop _ _ c.loop-i.all.items c.args.lines.now c.loop-i.i _ c.args.is_open c.loop-i-test.true c.in-Err.ensures c.at_line.ensures c.loop-i.invariant
 
 pub loop-i-preserved : goal.loop-i-preserved
 loop-i-preserved c =
@@ -12,7 +12,7 @@ loop-i-preserved c =
 
 pub returns-then-is_open : goal.returns-then-is_open
 returns-then-is_open c =
-    open_step _ c.loop-i.all.items c.args.lines.now c.loop-i.i c.args.is_open c.loop-i-test.false c.loop-i.auto.i-end c.if-is_open.true c.loop-i.invariant
+    rw c.bad_line.ensures (open_step _ c.loop-i.all.items c.args.lines.now c.loop-i.i c.args.is_open c.loop-i-test.false c.loop-i.auto.i-end c.if-is_open.true c.loop-i.invariant)
 
 pub returns : goal.returns
 returns c = end_step _ c.loop-i.all.items c.args.lines.now c.loop-i.i c.args.is_open c.loop-i-test.false c.if-is_open.false c.loop-i.invariant

@@ -1,12 +1,10 @@
 #!/usr/bin/env -S python3 -B
 # Prints the table of sizes that stands in docs/ARCHITECTURE.md: of each crate the lines of code without its tests, of
-# definitions and of proof, and how many wrong bodies it has. The processor time of the proofs, of the tests and of the wrong
-# bodies is written in by hand, from a run of the gate from nothing.
+# definitions and of proof, and how many wrong bodies it has.
 import re
 from pathlib import Path
 
 TOP = Path(__file__).resolve().parent.parent
-TIME = "@TIME@"
 TESTS = re.compile(r"#\[cfg\(test\)\]\s*(?:pub )?mod (\w+)")
 
 
@@ -37,12 +35,12 @@ def row(crate):
 
 
 def main():
-    print("| crate | code | definitions | proof | at the gate | in `wrong-bodies/` | proofs, s | tests, s | wrong bodies, s |")
-    print("|---|---|---|---|---|---|---|---|---|")
+    print("| crate | code | definitions | proof | at the gate | in `wrong-bodies/` |")
+    print("|---|---|---|---|---|---|")
     rows = [(f"`{crate}`", row(crate)) for crate in crates()]
     rows.append(("all", [sum(column) for column in zip(*(sizes for _, sizes in rows))]))
     for name, sizes in rows:
-        print(" | ".join([f"| {name}"] + [f"{size:,}" for size in sizes] + [TIME] * 3) + " |")
+        print(" | ".join([f"| {name}"] + [f"{size:,}" for size in sizes]) + " |")
 
 
 main()

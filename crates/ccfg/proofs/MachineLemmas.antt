@@ -2,7 +2,7 @@
 use Rattle.std.proofs.Common.{◌≡◌, ℕ, zero, suc, ◌+◌, ◌<◌, ◌≤◌, List, [], length, Option, Some, None, Result, Err, Bool, true, false, ◌==◌, nat_lt, nat_le, if◌then◌else◌, refl, sym, ◌∙◌, ap, subst, arith}
 use Rattle.std.proofs.lemmas.Bool.Decides.{nat_tests}
 use Rattle.std.proofs.Math.Bool.{and-true}
-use Rattle.gl_world.proofs.Lists.{there}
+use Rattle.gl_base.proofs.Lists.{slice_get-below}
 use Rattle.gl_base.specs.declared.tx_id.TxId.{TxId}
 use Rattle.gl_rules.specs.Node.{Node, Leader}
 use Rattle.gl_rules.specs.Outcome.{Step, quiet, refuse, idle, KeyExhausted, NotReserved, NothingToSign, ByLedger}
@@ -183,7 +183,7 @@ last_entry_unsigned m h other = go (length m.store.ledger) refl
     go : (n : ℕ) → length m.store.ledger ≡ n → is_signature_in service_book 2 (entry_at m.store.ledger n) ≡ false
     go zero none = absurd (let l = h.solo.ledger.long in omega arith)
     go (suc i) some =
-        let last = there m.store.ledger i (omega arith) in
+        let last = slice_get-below m.store.ledger i (omega arith) in
         ap (λ (o : Option Entry). is_signature_in service_book 2 o) last.1 ∙ signs_two last.0 (h.solo.ledger.views i last.0 last.1)
         ∙ not-true (is_signature last.0.content) (λ signs. other (last_if_signed m.store.ledger i last.0 some last.1 signs ∙ sym some))
 

@@ -1,4 +1,4 @@
-use Rattle.std.proofs.Common.{Result, arith, ap, ◌∙◌, subst}
+use Rattle.std.proofs.Common.{arith, ap, ◌∙◌, subst}
 use Rattle.gl_base.specs.Answers.{Answers}
 use Rattle.gl_entry.specs.Reading.{entry_at}
 use Rattle.gl_entry.proofs.EntryLaws.{entry_at-reads}

@@ -14,3 +14,4 @@ pub mod AskLaws
 pub mod Fetching
 pub mod NotedSizes
 pub mod AttemptLaws
+pub mod Limits

@@ -79,8 +79,7 @@ impl Machine {
     /// One more reserved leaf.
     pub fn reserve(&mut self) -> Outcome
         requires { IsMachine self.old }
-        ensures steps {
-            Steps (reserve service_book self.old.id (node_in self.old)) self.new result }
+        ensures steps { Steps (reserve service_book self.old.id (node_in self.old)) self.new result }
         ensures goes_on { GoesOn self.old self.new }
     {
         if self.reserved >= LEAVES {
@@ -117,8 +116,7 @@ impl Machine {
     /// Commits what is signed: the node alone is a majority.
     pub fn advance(&mut self) -> Outcome
         requires { IsMachine self.old }
-        ensures steps {
-            Steps (advance service_book self.old.id (node_in self.old)) self.new result }
+        ensures steps { Steps (advance service_book self.old.id (node_in self.old)) self.new result }
         ensures goes_on { GoesOn self.old self.new }
     {
         let place = self.store.last_signature();

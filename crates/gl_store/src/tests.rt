@@ -6,10 +6,9 @@ ghost use Rattle.std.specs.List.{AllByRecursion};
 ghost use Rattle.gl_store.specs.Genesis.{is_acceptable, is_genesis};
 ghost use Rattle.gl_rules.specs.Safety.{ViewsUpTo};
 ghost use Rattle.gl_store.specs.Book.{service_book};
-ghost use Rattle.gl_store.specs.Calls.{IsSignedAt};
 
 use crate::{Dealing, Genesis, NewMember, NewNode, Refusal, ServiceState, ShareDigest, Store};
-use gl_base::{Bytes, OrNoMemory, Sequence, Status, TxId};
+use gl_base::{Bytes, OrNoMemory, Sequence, TxId};
 use gl_entry::{Content, Digest, NodeId};
 use gl_tx::{Abort, Answer, Cause, Operation, Reply, Request};
 use gl_vmaps::{Key, MapName, Value, Write};
@@ -32,12 +31,6 @@ const DONE: Digest = [
 const FIRST_LEAF: Digest = [
     0x8d, 0xdc, 0x71, 0xa1, 0xd7, 0x18, 0x16, 0x41, 0xd2, 0x46, 0x54, 0x1a, 0xdd, 0xf7, 0xb9, 0x8a,
     0xc6, 0xea, 0xed, 0x04, 0xd5, 0x92, 0xda, 0x7c, 0x00, 0xa1, 0xfb, 0x0f, 0xae, 0xfe, 0xa1, 0x7f,
-];
-
-// The root over the opening ledger of a service that is open, and a put of one byte 01.
-const ROOT_BEHIND_PUT: Digest = [
-    0x7c, 0x57, 0x1c, 0xa6, 0x12, 0xb9, 0x12, 0xd9, 0xa4, 0x4d, 0x1c, 0x8a, 0x0a, 0xec, 0x85, 0xdd,
-    0x42, 0xa1, 0xce, 0xff, 0x3e, 0xfe, 0xe6, 0x76, 0xd3, 0x82, 0x48, 0x17, 0x40, 0x79, 0x2e, 0x6d,
 ];
 
 // The service's key.
@@ -114,15 +107,6 @@ fn execute(
     ensures { (later : ℕ) → view ≤ later → ViewsUpTo service_book later store.new.ledger }
 {
     store.execute(view, request)
-}
-
-// A signature, in a view in which more may follow.
-fn sign(store: &mut Store, view: u32) -> Result<TxId, OrNoMemory<Refusal>>
-    requires { ViewsUpTo service_book view store.old.ledger }
-    ensures up_to { ViewsUpTo service_book view store.new.ledger }
-    ensures signed { IfOk result (λ id. IsSignedAt store.new.ledger id.seqno) }
-{
-    store.sign(NODE, view)
 }
 
 // The bytes that these runs of a byte make.
@@ -367,42 +351,6 @@ fn refuses_bodies_that_are_too_large(rt: HostRuntime) -> Result<(), Fail> {
     for (count, want) in [(7, None), (8, Some(Refusal::TooLarge { size: 1_048_903 }))] {
         let request = large_puts(alloc, count)?;
         assert_eq!(rt; refusal_of(alloc, ServiceState::Open, &request)?, want);
-    }
-    Ok(())
-}
-
-#[test]
-fn signs_and_commits(rt: HostRuntime) -> Result<(), Fail> {
-    let alloc = rt.alloc();
-    let mut store = opened(alloc, ServiceState::Open)?;
-    let (put, _) = execute(&mut store, 2, &put_request(alloc, b"public:t", &[1])?)?;
-    assert_eq!(rt; store.status(put), Status::Pending);
-    let signed = sign(&mut store, 2)?;
-    assert_eq!(rt; signed, TxId { view: 2, seqno: 4 });
-    assert_eq!(rt; store.last_signature(), 4);
-    let entry = store.entry(4).ok_or("no entry")?;
-    assert!(rt; is_signature_of(&entry.content, 2, &ROOT_BEHIND_PUT));
-    store.commit_to(signed.seqno);
-    assert_eq!(rt; store.commit(), 4);
-    assert_eq!(rt; store.status(put), Status::Committed);
-    Ok(())
-}
-
-// With 4.4 committed and nothing held above it.
-#[test]
-fn tells_statuses(rt: HostRuntime) -> Result<(), Fail> {
-    let mut store = opened(rt.alloc(), ServiceState::Open)?;
-    sign(&mut store, 4)?;
-    let last = sign(&mut store, 4)?;
-    store.commit_to(last.seqno);
-    for (view, seqno, want) in [
-        (4, 4, Status::Committed),
-        (3, 4, Status::Invalid),
-        (3, 6, Status::Invalid),
-        (4, 6, Status::Unknown),
-        (5, 5, Status::Unknown),
-    ] {
-        assert_eq!(rt; store.status(TxId { view, seqno }), want);
     }
     Ok(())
 }

@@ -162,7 +162,7 @@ pub none_by_length : (vs : List Version) → length vs ≡ 0 → vs ≡ []
 none_by_length [] e = refl
 none_by_length (v ∷ vs) e = absurd (omega arith)
 
-last_or-at : (o : Option Version) (v : Version) (vs : List Version) (d : Version) → last_or o (v ∷ vs) ≡ Some (get_or (v ∷ vs) (length vs) d)
+pub last_or-at : (o : Option Version) (v : Version) (vs : List Version) (d : Version) → last_or o (v ∷ vs) ≡ Some (get_or (v ∷ vs) (length vs) d)
 last_or-at o v [] d = refl
 last_or-at o v (w ∷ vs) d = last_or-at (Some v) w vs d
 

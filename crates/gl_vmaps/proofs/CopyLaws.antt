@@ -26,7 +26,7 @@ abbrev pub AreAscending : {X : Type 0} → List (Vec ℕ Global × X) → Type 0
 AreAscending es = IsStrictlySortedBy (λ x y. slice_cmp nat_cmp x.items y.items) (keys_of es)
 
 -- no later key is the first one
-not_later : {X : Type 0} (key : List ℕ) (es : List (Vec ℕ Global × X)) → AllByRecursion (λ (y : Vec ℕ Global). slice_cmp nat_cmp key y.items ≡ Less) (keys_of es) → found key es ≡ None
+pub not_later : {X : Type 0} (key : List ℕ) (es : List (Vec ℕ Global × X)) → AllByRecursion (λ (y : Vec ℕ Global). slice_cmp nat_cmp key y.items ≡ Less) (keys_of es) → found key es ≡ None
 not_later key [] all = refl
 not_later key (e ∷ es) all = ap (λ o. cond (is_eq o) (Some e.1) (found key es)) all.0 ∙ not_later key es all.1
 

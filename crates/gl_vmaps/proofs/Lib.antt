@@ -11,3 +11,6 @@ pub mod CopyLaws
 pub mod Settling
 pub mod BaseLaws
 pub mod WriteLaws
+pub mod InOrder
+pub mod RowsUpToLaws
+pub mod RowsLaws

@@ -10,7 +10,7 @@ use Rattle.std.proofs.lemmas.Map.Text.{is_eq-slice_cmp}
 use Rattle.gl_vmaps.specs.Tables.{Rows, same_bytes, value_in, has_key, size_of}
 use Rattle.gl_vmaps.specs.Versions.{Placed, placed_at, is_to_row, written_by, version_in, map_version_in, up_to, AreRising}
 use Rattle.gl_vmaps.specs.Kept.{Kept, chains_of, versions_of, last_value, last_place, place_or_zero, value_of, has_row, version_of, greatest, map_version_of, present_rows, tables_of, count_of}
-use Rattle.gl_vmaps.specs.Standing.{StandsFor, HasApplied, HasCut, HasCompacted, versions_in, versions_up_to, latest_from}
+use Rattle.gl_vmaps.specs.Standing.{StandsFor, HasApplied, HasCut, HasCompacted, value_up_to, versions_in, versions_up_to, latest_from}
 use Rattle.gl_vmaps.specs.declared.table.Version.{Version}
 use Rattle.gl_vmaps.specs.declared.write.Write.{Write}
 use Rattle.gl_vmaps.proofs.TablesLaws.{get-with_row, same_bytes-eq}
@@ -167,6 +167,23 @@ stands-cut old to new ps le is stands = record {
       ∙ ap (latest_from c) (sym (versions_in-up_to to ps map key)) in
       subst (λ d. latest_from d (versions_of new map key) ≡ latest_from d (versions_in (up_to to ps) map key)) (sym is.compacted) at_old;
 }
+
+-- the values of a place are those of the writes up to it
+pub value_up_to-stands : (t : Kept) (to : ℕ) (ps : List Placed) → t.compacted ≤ to → StandsFor t ps → (map key : List ℕ) → value_up_to t to map key ≡ value_in (written_by (up_to to ps)) map key
+value_up_to-stands t to ps le stands map key =
+    let c = t.compacted in
+    let vs = versions_of t map key in
+    let us = versions_in ps map key in
+    ap (λ (o : Option Version). Rattle.std.specs.Option.option_and_then (λ (v : Version). v.value) o)
+    (sym (last_or-latest None c (versions_up_to to vs))
+    ∙ ap (last_or None) (latest-up_to vs c to le ∙ ap (versions_up_to to) (stands.rows map key) ∙ sym (latest-up_to us c to le))
+    ∙ last_or-latest None c (versions_up_to to us)
+    ∙ ap (last_or None) (sym (versions_in-up_to to ps map key)))
+    ∙ sym (value_in-versions (up_to to ps) map key)
+
+-- and those of the tables cut to it
+pub value_up_to-cut : (t : Kept) (to : ℕ) (cut : Kept) → HasCut t to cut → (map key : List ℕ) → value_up_to t to map key ≡ value_in (tables_of cut) map key
+value_up_to-cut t to cut is map key = ap last_value (sym (is.rows map key)) ∙ sym (value_in-tables_of cut map key)
 
 -- ---- a compaction
 

@@ -1,7 +1,9 @@
 -- What was written and can still be taken back: which rows, in their order.
-use Rattle.std.specs.Prelude.{◌≡◌, ℕ, ◌<◌, ◌≤◌, Bool, false, nat_lt, nat_le, List, [], ◌∷◌, ◌++◌, Some}
+use Rattle.std.specs.Prelude.{◌≡◌, ℕ, ◌<◌, ◌≤◌, IsTrue, Bool, false, nat_lt, nat_le, List, [], ◌∷◌, ◌++◌, Some}
 use Rattle.std.specs.FinMap as finite
 use Rattle.std.specs.List.{AllByRecursion}
+use Rattle.std.specs.List.Sorted.{IsNonDecreasingBy}
+use Rattle.gl_vmaps.specs.Name.{is_map_name, is_key}
 use Rattle.gl_vmaps.specs.Kept.{last_place}
 use Rattle.gl_vmaps.specs.Chains.{Maps, rows_in, found_in, with_versions, without_last, newest_place, trimmed}
 use Rattle.gl_vmaps.specs.declared.table.Version.{Version}
@@ -36,6 +38,20 @@ IsJournal compacted maps (w ∷ earlier) =
 -- No row is kept without a version.
 abbrev pub IsTidy : Maps → Type 0
 IsTidy maps = (name key : List ℕ) → finite.get (rows_in maps name) key ≡ Some [] → ⊥
+
+-- Where there are versions of a row, its map's name and its key are within their limits.
+abbrev pub IsNamed : List ℕ → List ℕ → List Version → Type 0
+IsNamed name key [] = Unit {0}
+IsNamed name key (v ∷ vs) = IsTrue (is_map_name name) × IsTrue (is_key key)
+
+-- So are all rows.
+abbrev pub AreNamed : Maps → Type 0
+AreNamed maps = (name key : List ℕ) → IsNamed name key (found_in maps name key)
+
+-- A row is named so, and the places of its versions do not fall.
+pub record IsInOrder (name key : List ℕ) (vs : List Version) : Type 0 where
+  pub named : IsNamed name key vs
+  pub rising : IsNonDecreasingBy (λ (v : Version). v.place) vs
 
 -- The last write is above a place.
 abbrev pub is_last_above : ℕ → List Written → Bool

@@ -7,5 +7,6 @@ pub mod Kept
 pub mod Chains
 pub mod Journal
 pub mod Standing
+pub mod RowsUpTo
 pub mod LastWrite
 pub mod Growth

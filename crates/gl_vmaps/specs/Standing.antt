@@ -1,8 +1,8 @@
 -- Which lists of writes tables stand for, and what a write set, a cut and a compaction make of
 -- them.
-use Rattle.std.specs.Prelude.{◌≡◌, ℕ, List, [], ◌∷◌, ◌++◌, Bool, ◌&&◌, map, filter, max, nat_le, if◌then◌else◌}
+use Rattle.std.specs.Prelude.{◌≡◌, ℕ, List, [], ◌∷◌, ◌++◌, Option, Bool, ◌&&◌, map, filter, max, nat_le, if◌then◌else◌}
 use Rattle.std.specs.List.{list_any}
-use Rattle.gl_vmaps.specs.Kept.{Kept, versions_of}
+use Rattle.gl_vmaps.specs.Kept.{Kept, versions_of, last_value}
 use Rattle.gl_vmaps.specs.Versions.{Placed, placed_at, is_to_row, AreRising}
 use Rattle.gl_vmaps.specs.declared.table.Version.{Version}
 use Rattle.gl_vmaps.specs.declared.write.Write.{Write}
@@ -21,6 +21,10 @@ is_up_to place v = nat_le v.place place
 -- The versions at or below a place.
 abbrev pub versions_up_to : ℕ → List Version → List Version
 versions_up_to place vs = filter (is_up_to place) vs
+
+-- The value that a row had at a place, if it had one: that of its last version at or below it.
+abbrev pub value_up_to : Kept → ℕ → List ℕ → List ℕ → Option (List ℕ)
+value_up_to t to map key = last_value (versions_up_to to (versions_of t map key))
 
 -- Of the versions at or below a place the last one only, and all above it.
 abbrev pub latest_from : ℕ → List Version → List Version

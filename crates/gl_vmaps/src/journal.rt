@@ -3,8 +3,11 @@
 ghost use Rattle.std.specs.Prelude.{◌≡◌, ◌≤◌, ◌-◌, ◌∷◌, [], ◌++◌, ℕ, List, IsTrue, IfOk, OnOk, OnErr, take, drop, length, reverse};
 ghost use Rattle.std.specs.FinMap as finite;
 ghost use Rattle.gl_vmaps.specs.Chains.{maps_by, rows_in, found_in, with_versions, without_last, newest_place, trimmed};
-ghost use Rattle.gl_vmaps.specs.Rows.{row_writes};
-ghost use Rattle.gl_vmaps.specs.Journal.{is_first_up_to, settled_first, is_last_above, CanPop, popped_last, IsTidy, AreFresh, pushed, written, pushed_maps, pushed_journal};
+ghost use Rattle.gl_vmaps.specs.Kept.{last_value};
+ghost use Rattle.gl_vmaps.specs.Tables.{value_in};
+ghost use Rattle.gl_vmaps.specs.Rows.{row_writes, are_ascending, tables_with};
+ghost use Rattle.gl_vmaps.specs.Standing.{versions_up_to};
+ghost use Rattle.gl_vmaps.specs.Journal.{is_first_up_to, settled_first, is_last_above, CanPop, popped_last, IsTidy, AreNamed, IsInOrder, AreFresh, pushed, written, pushed_maps, pushed_journal};
 
 use crate::name::{Key, MapName};
 use crate::row::Row;
@@ -246,8 +249,9 @@ pub(crate) fn copy_journal(
 
 /// Maps with these rows, each with one version at place 0.
 pub(crate) fn maps_of_rows(alloc: Global, rows: Vec<Row>) -> Result<Maps, AllocError>
-    ensures { IfOk result (λ maps. maps_by maps.entries ≡
+    ensures maps { IfOk result (λ maps. maps_by maps.entries ≡
         pushed_maps finite.empty 0 (row_writes rows.items)) }
+    ensures named { IfOk result (λ maps. AreNamed (maps_by maps.entries)) }
 {
     let mut maps = BTreeMap::new(alloc);
     for row in rows {
@@ -264,4 +268,21 @@ pub(crate) fn maps_of_rows(alloc: Global, rows: Vec<Row>) -> Result<Maps, AllocE
         )?;
     }
     Ok(maps)
+}
+
+/// The rows that all maps had at a place, each with its value, in their order. Fails for want of
+/// memory alone.
+pub(crate) fn rows_of_maps(alloc: Global, maps: &Maps, to: u64) -> Result<Vec<Row>, AllocError>
+    requires { (name key : List ℕ) →
+        IsInOrder name key (found_in (maps_by maps.now.entries) name key) }
+    ensures ascending { IfOk result (λ rows. IsTrue (are_ascending rows.items)) }
+    ensures values { IfOk result (λ rows. (name key : List ℕ) →
+        value_in (tables_with rows.items) name key ≡
+        last_value (versions_up_to to (found_in (maps_by maps.now.entries) name key))) }
+{
+    let mut rows = Vec::new(alloc);
+    for (map, table) in maps {
+        table.push_rows(alloc, &mut rows, map, to)?;
+    }
+    Ok(rows)
 }

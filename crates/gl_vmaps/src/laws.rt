@@ -1,8 +1,10 @@
-//! What holds of all tables at a base, as the contract of a function that does nothing.
+//! What holds of all tables at a base, as the contracts of functions that do nothing.
 
-ghost use Rattle.std.specs.Prelude.{◌≡◌, ℕ, List, ◌++◌};
-ghost use Rattle.gl_vmaps.specs.Rows.{row_writes, above, AreRowsOf, AreUpTo, AreAbove};
-ghost use Rattle.gl_vmaps.specs.Tables.{value_in, size_of};
+ghost use Rattle.std.specs.Prelude.{◌≡◌, ℕ, List, ◌++◌, IsTrue};
+ghost use Rattle.gl_vmaps.specs.Kept.{Kept, versions_of, value_of, tables_of, count_of};
+ghost use Rattle.gl_vmaps.specs.Rows.{row_writes, are_ascending, above, AreRowsOf, AreUpTo, AreAbove};
+ghost use Rattle.gl_vmaps.specs.Standing.{versions_in};
+ghost use Rattle.gl_vmaps.specs.Tables.{Tables, value_in, size_of};
 ghost use Rattle.gl_vmaps.specs.Versions.{Placed, placed_at, written_by, version_in, map_version_in};
 ghost use Rattle.gl_vmaps.specs.declared.row.Row.{Row};
 
@@ -23,4 +25,20 @@ pub fn law_of_base()
         AreUpTo base qs → AreAbove base ps →
         (map : List ℕ) → map_version_in (above base (qs ++ ps)) map ≡
         map_version_in (placed_at 0 (row_writes rows) ++ ps) map }
+{}
+
+/// Tables at a base made of the rows of others answer as those do: values and sizes are the same.
+/// And tables determine their rows: no two ascending lists are those of the same tables.
+pub fn law_of_rows()
+    ensures values { (cut fresh : Kept) (rows : List Row) → AreRowsOf rows (tables_of cut) →
+        ((map key : List ℕ) → versions_of fresh map key ≡
+        versions_in (placed_at 0 (row_writes rows)) map key) →
+        (map key : List ℕ) → value_of fresh map key ≡ value_of cut map key }
+    ensures sizes { (cut fresh : Kept) (rows : List Row) → AreRowsOf rows (tables_of cut) →
+        ((map key : List ℕ) → versions_of fresh map key ≡
+        versions_in (placed_at 0 (row_writes rows)) map key) →
+        (map : List ℕ) → count_of fresh map ≡ count_of cut map }
+    ensures determined { (rows others : List Row) (tables : Tables) →
+        IsTrue (are_ascending rows) → IsTrue (are_ascending others) →
+        AreRowsOf rows tables → AreRowsOf others tables → rows ≡ others }
 {}

@@ -11,7 +11,7 @@ mod table;
 mod tables;
 mod write;
 
-pub use laws::law_of_base;
+pub use laws::{law_of_base, law_of_rows};
 pub use name::{KEY_LIMIT, Key, MAP_NAME_LIMIT, MapName, VALUE_LIMIT, Value};
 pub use row::{Row, Rows};
 pub use table::Version;

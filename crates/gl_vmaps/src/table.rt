@@ -3,9 +3,15 @@
 ghost use Rattle.std.specs.Prelude.{None, IsTrue, is_some, if◌then◌else◌, ◌^◌, ◌<◌, ◌≤◌, ◌≡◌, ◌+◌, ◌-◌, ◌∷◌, [], ◌++◌, IfOk, OnOk, OnErr, take, length};
 ghost use Rattle.std.specs.Option.{option_copied, option_and_then};
 ghost use Rattle.std.specs.List.{last_or};
+ghost use Rattle.std.specs.List.Sorted.{IsNonDecreasingBy};
+ghost use Rattle.gl_vmaps.specs.Kept.{last_value};
 ghost use Rattle.gl_vmaps.specs.Chains.{chains_by, chain_of, with_chain, is_first_below, trimmed};
+ghost use Rattle.gl_vmaps.specs.Journal.{IsInOrder};
+ghost use Rattle.gl_vmaps.specs.Standing.{versions_up_to};
+ghost use Rattle.gl_vmaps.specs.RowsUpTo.{row_up_to};
 
-use crate::name::Value;
+use crate::name::{Key, MapName, Value};
+use crate::row::Row;
 use std::alloc::{AllocError, Global};
 use std::collections::{BTreeMap, VecDeque};
 use std::marker::Model;
@@ -145,6 +151,44 @@ fn copy_rows(alloc: Global, rows: &Rows) -> Result<Rows, AllocError>
     Ok(copy)
 }
 
+/// The value that a row had at a place, if it had one.
+fn value_up_to(chain: &VecDeque<Version>, to: u64) -> Option<&Value>
+    requires { IsNonDecreasingBy (λ version. version.place) chain.now.items }
+    ensures { option_copied result ≡ last_value (versions_up_to to chain.now.items) }
+{
+    let count = chain.partition_point(|version| version.place <= to);
+    if count == 0 {
+        return None;
+    }
+    match chain.get(count - 1) {
+        None => None,
+        Some(version) => version.value.as_ref(),
+    }
+}
+
+/// Adds a row with the value that it had at a place, if it had one.
+fn push_row(
+    alloc: Global,
+    rows: &mut Vec<Row>,
+    map: &[u8],
+    key: &[u8],
+    chain: &VecDeque<Version>,
+    to: u64,
+) -> Result<(), AllocError>
+    requires { IsInOrder map.now key.now chain.now.items }
+    ensures { OnOk result (rows.new.items ≡
+        rows.old.items ++ row_up_to to map.now key.now chain.now.items) }
+{
+    if let Some(value) = value_up_to(chain, to) {
+        rows.push(Row {
+            map: MapName::from_slice(alloc, map)?,
+            key: Key::from_slice(alloc, key)?,
+            value: value.copy(alloc)?,
+        })?;
+    }
+    Ok(())
+}
+
 /// Whether there is a version, and it has a value.
 fn has_value(last: Option<&Version>) -> bool
     ensures { result ≡ is_some (option_and_then (λ v. v.value) (option_copied last.entry)) }
@@ -200,6 +244,8 @@ impl Table {
     ghost use Rattle.std.specs.Prelude.{◌≡◌, ◌^◌, ◌<◌, ◌≤◌, ◌-◌, ℕ, List, [], ◌∷◌, ◌++◌, IsTrue, IfOk, OnOk, OnErr, take, length};
     ghost use Rattle.std.specs.FinMap as finite;
     ghost use Rattle.gl_vmaps.specs.Chains.{chain_of, present, newest_place, with_chain, trimmed};
+    ghost use Rattle.gl_vmaps.specs.Journal.{IsInOrder};
+    ghost use Rattle.gl_vmaps.specs.RowsUpTo.{rows_up_to};
 
     /// No rows.
     pub(crate) fn new(alloc: Global) -> Self
@@ -286,6 +332,25 @@ impl Table {
             with_chain self.old key.now (trimmed place (chain_of self.old key.now)) }
     {
         trim_in(&mut self.rows, key, place);
+    }
+
+    /// Adds the rows that the map with this name had at a place, each with its value. Fails for
+    /// want of memory alone.
+    pub(crate) fn push_rows(
+        &self,
+        alloc: Global,
+        rows: &mut Vec<Row>,
+        map: &[u8],
+        to: u64,
+    ) -> Result<(), AllocError>
+        requires { (key : List ℕ) → IsInOrder map.now key (chain_of self.now key) }
+        ensures { OnOk result (rows.new.items ≡
+            rows.old.items ++ rows_up_to to map.now (finite.entries self.now)) }
+    {
+        for (key, chain) in &self.rows {
+            push_row(alloc, rows, map, key, chain, to)?;
+        }
+        Ok(())
     }
 
     /// The same rows in memory of their own. Fails for want of memory alone.

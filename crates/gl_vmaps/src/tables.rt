@@ -8,7 +8,7 @@ ghost use Rattle.gl_vmaps.specs.Chains.{maps_by, rows_in, found_in, present};
 
 use crate::journal::{
     Maps, Written, copy_journal, copy_maps, ends_above, maps_of_rows, newest_of, pop_last,
-    push_writes, settle_first, starts_up_to,
+    push_writes, rows_of_maps, settle_first, starts_up_to,
 };
 use crate::row::Rows;
 use crate::table::Version;
@@ -39,7 +39,7 @@ impl Model for Tables {
 
     ghost use Rattle.std.specs.Prelude.{reverse};
     ghost use Rattle.gl_vmaps.specs.Chains.{maps_by};
-    ghost use Rattle.gl_vmaps.specs.Journal.{IsTidy, IsJournal};
+    ghost use Rattle.gl_vmaps.specs.Journal.{IsTidy, AreNamed, IsJournal};
 
     ghost view = { λ t. record {
       base = t.base;
@@ -49,6 +49,7 @@ impl Model for Tables {
 
     ghost invariant = { λ t. record {
       tidy : IsTidy (maps_by t.maps.entries);
+      named : AreNamed (maps_by t.maps.entries);
       undone : IsJournal t.compacted (maps_by t.maps.entries) (reverse t.journal.items);
     } };
 }
@@ -86,9 +87,9 @@ fn value_in(version: &Version) -> Option<&[u8]>
 impl Tables {
     ghost use Rattle.std.specs.Prelude.{◌≡◌, ℕ, ◌<◌, ◌≤◌, ◌^◌, List, [], ◌++◌, IsTrue, IfSome, IfOk, OnOk, OnErr};
     ghost use Rattle.gl_vmaps.specs.Name.{is_value};
-    ghost use Rattle.gl_vmaps.specs.Rows.{row_writes};
-    ghost use Rattle.gl_vmaps.specs.Kept.{versions_of, value_of, has_row, count_of, version_of, map_version_of};
-    ghost use Rattle.gl_vmaps.specs.Standing.{versions_in, StandsFor, HasApplied, HasCut, HasCompacted};
+    ghost use Rattle.gl_vmaps.specs.Rows.{row_writes, tables_with, AreRowsOf};
+    ghost use Rattle.gl_vmaps.specs.Kept.{Kept, versions_of, value_of, has_row, tables_of, count_of, version_of, map_version_of};
+    ghost use Rattle.gl_vmaps.specs.Standing.{versions_in, value_up_to, StandsFor, HasApplied, HasCut, HasCompacted};
     ghost use Rattle.gl_vmaps.specs.Tables.{value_in, has_key, size_of};
     ghost use Rattle.gl_vmaps.specs.Versions.{Placed, placed_at, written_by, version_in, map_version_in, up_to};
 
@@ -216,6 +217,20 @@ impl Tables {
             settle_first(&mut self.maps, &mut self.journal);
         }
         self.compacted = self.compacted.max(to);
+    }
+
+    /// The rows after the entries up to a place, which is not below the compacted one: what a
+    /// snapshot at the place holds. Fails for want of memory alone.
+    pub fn rows(&self, to: u64) -> Result<Rows, AllocError>
+        requires { self.now.compacted ≤ to }
+        ensures value { IfOk result (λ rows. (map key : List ℕ) →
+            value_in (tables_with rows) map key ≡ value_up_to self.now to map key) }
+        ensures cut { IfOk result (λ rows. (cut : Kept) → HasCut self.now to cut →
+            AreRowsOf rows (tables_of cut)) }
+        ensures stands { IfOk result (λ rows. (ps : List Placed) → StandsFor self.now ps →
+            AreRowsOf rows (written_by (up_to to ps))) }
+    {
+        Ok(Rows::of(rows_of_maps(self.alloc, &self.maps, to)?))
     }
 
     /// Tables of their own with the same rows and versions. Fails for want of memory alone.

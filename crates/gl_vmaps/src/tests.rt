@@ -231,3 +231,26 @@ fn keeps_the_version_of_a_removal(rt: HostRuntime) -> Result<(), Fail> {
     );
     Ok(())
 }
+
+#[test]
+fn gives_the_rows_of_a_place(rt: HostRuntime) -> Result<(), Fail> {
+    let tables = three_writes(rt.alloc())?;
+    let wanted: [(&[u8], &[u8]); 2] = [(b"a", b"\x01"), (b"b", b"\x02")];
+    let rows = tables.rows(2)?;
+    assert_eq!(rt; rows.as_slice().len(), wanted.len());
+    for (row, (key, value)) in rows.as_slice().iter().zip(wanted) {
+        assert_eq!(rt; row.map.as_slice(), b"public:x".as_slice());
+        assert_eq!(rt; row.key.as_slice(), key);
+        assert_eq!(rt; row.value.as_slice(), value);
+    }
+    let last = tables.rows(3)?;
+    assert_eq!(rt; last.as_slice().len(), 1);
+    for row in last.as_slice() {
+        assert_eq!(rt; row.key.as_slice(), b"b".as_slice());
+        assert_eq!(rt; row.value.as_slice(), b"\x02".as_slice());
+    }
+    let begun = Tables::at_base(rt.alloc(), 2, rows)?;
+    assert!(rt; has_value(&begun, b"public:x", b"a", b"\x01"));
+    assert_eq!(rt; begun.size(b"public:x"), 2);
+    Ok(())
+}

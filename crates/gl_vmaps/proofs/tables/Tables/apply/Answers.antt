@@ -1,11 +1,14 @@
-use Rattle.std.proofs.Common.{ℕ, ◌<◌, List, ◌++◌, ap, sym, ◌∙◌, subst, reverse, arith}
+use Rattle.std.proofs.Common.{◌≡◌, ℕ, ◌<◌, true, List, ◌++◌, ap, sym, ◌∙◌, subst, reverse, arith}
+use Rattle.std.specs.List.{AllByRecursion}
+use Rattle.gl_vmaps.specs.Writes.{is_write}
 use Rattle.gl_vmaps.specs.Kept.{Kept, last_place, version_of}
 use Rattle.gl_vmaps.specs.Chains.{Maps, maps_by, found_in}
-use Rattle.gl_vmaps.specs.Journal.{IsTidy, IsJournal, AreFresh, pushed_maps}
+use Rattle.gl_vmaps.specs.Journal.{IsTidy, AreNamed, IsJournal, AreFresh, pushed_maps}
 use Rattle.gl_vmaps.specs.Standing.{versions_in}
 use Rattle.gl_vmaps.specs.Versions.{placed_at}
 use Rattle.gl_vmaps.specs.declared.write.Write.{Write}
 use Rattle.gl_vmaps.proofs.MapLaws.{proper-by}
+use Rattle.gl_vmaps.proofs.InOrder.{named-pushed_maps}
 use Rattle.gl_vmaps.proofs.JournalLaws.{fresh-above, pushed_maps-tidy, journal-pushed, found_in-pushed}
 use Rattle.gl_vmaps.proofs.StandingLaws.{stands-applied}
 use Rattle.gl_vmaps.proofs.tables.Tables.apply.Goals as goal
@@ -31,6 +34,8 @@ invariant_of-self-2 c =
     (λ name key. let lt = above name key in omega (arith, lt)) fresh in
     record {
       tidy = subst IsTidy (sym c.in_ok-push_writes.ensures.maps) (pushed_maps-tidy maps place ws c.self.invariant.tidy);
+      named = subst AreNamed (sym c.in_ok-push_writes.ensures.maps)
+          (named-pushed_maps maps place ws (subst (AllByRecursion (λ (w : Write). is_write w ≡ true)) (sym c.as_slice-writes.ensures.value) c.as_slice-writes.ensures.limits) c.self.invariant.named);
       undone = subst (λ (m : Maps). IsJournal s.compacted m (reverse c.push_writes.new.journal.items)) (sym c.in_ok-push_writes.ensures.maps)
           (subst (IsJournal s.compacted (pushed_maps maps place ws)) (sym c.in_ok-push_writes.ensures.journal) undone);
     }

@@ -13,7 +13,7 @@ use Rattle.gl_vmaps.proofs.tables.Tables.at_base.Goals as goal
 
 pub returns-clause-rows : goal.returns-clause-rows
 returns-clause-rows c = λ name key.
-    ap (λ (m : Maps). found_in m name key) (c.in_ok-maps_of_rows.ensures ∙ ap (λ rs. pushed_maps empty 0 (row_writes rs)) c.into_vec.ensures.value)
+    ap (λ (m : Maps). found_in m name key) (c.in_ok-maps_of_rows.ensures.maps ∙ ap (λ rs. pushed_maps empty 0 (row_writes rs)) c.into_vec.ensures.value)
     ∙ found_in-pushed empty 0 (row_writes c.args.rows) name key
     ∙ ap (λ vs. vs ++ versions_in (placed_at 0 (row_writes c.args.rows)) name key) (found_in-empty name key)
 
@@ -21,9 +21,10 @@ pub invariant_of-result : goal.invariant_of-result
 invariant_of-result c =
     let ws = row_writes c.args.rows in
     let maps : maps_by c.in_ok-maps_of_rows.field-0.entries ≡ pushed_maps empty 0 ws =
-    c.in_ok-maps_of_rows.ensures ∙ ap (λ rs. pushed_maps empty 0 (row_writes rs)) c.into_vec.ensures.value in
+    c.in_ok-maps_of_rows.ensures.maps ∙ ap (λ rs. pushed_maps empty 0 (row_writes rs)) c.into_vec.ensures.value in
     record {
       tidy = subst IsTidy (sym maps) (pushed_maps-tidy empty 0 ws tidy-empty);
+      named = c.in_ok-maps_of_rows.ensures.named;
       undone = subst (λ (js : List Written). IsJournal c.args.base (maps_by c.in_ok-maps_of_rows.field-0.entries) (reverse js)) (sym c.new.ensures.items)
           (λ name key. subst (IsSettled c.args.base) (sym (returns-clause-rows c name key)) (settled-once c.args.base ws c.into_vec.ensures.ascending name key));
     }

@@ -1,8 +1,9 @@
-use Rattle.std.proofs.Common.{◌≡◌, true, false, reverse, max, ap, sym, ◌∙◌, arith}
+use Rattle.std.proofs.Common.{◌≡◌, true, false, reverse, max, ap, sym, ◌∙◌, subst, arith}
 use Rattle.gl_vmaps.specs.Kept.{Kept, versions_of}
 use Rattle.gl_vmaps.specs.Standing.{latest_from}
 use Rattle.gl_vmaps.specs.Chains.{maps_by}
-use Rattle.gl_vmaps.specs.Journal.{is_first_up_to}
+use Rattle.gl_vmaps.specs.Journal.{AreNamed, is_first_up_to}
+use Rattle.gl_vmaps.proofs.InOrder.{named-settled_first}
 use Rattle.gl_vmaps.proofs.MapLaws.{proper-by}
 use Rattle.gl_vmaps.proofs.Settling.{journal-later, settles-step, first-some, nothing_left, all_above}
 use Rattle.gl_vmaps.proofs.StandingLaws.{stands-compacted}
@@ -13,6 +14,7 @@ loop-self-init c = record {
   base = ap (λ (t : Kept). t.base) c.self.view_is;
   compacted = ap (λ (t : Kept). t.compacted) c.self.view_is;
   tidy = c.self.invariant.tidy;
+  named = c.self.invariant.named;
   undone = journal-later c.self.inside.compacted (max c.self.inside.compacted c.args.to) _ _ (omega arith) c.self.invariant.undone;
   rows = λ name key. ap (λ (t : Kept). latest_from c.args.to (versions_of t name key)) c.self.view_is;
 }
@@ -27,6 +29,7 @@ loop-self-preserved c =
       base = c.loop-self.invariant.base;
       compacted = c.loop-self.invariant.compacted;
       tidy = step.tidy;
+      named = subst AreNamed (sym c.settle_first.ensures.maps) (named-settled_first (maps_by s.maps.entries) s.journal.items c.loop-self.invariant.named);
       undone = step.undone;
       rows = λ name key. step.rows name key ∙ c.loop-self.invariant.rows name key;
     }

@@ -1,8 +1,9 @@
-use Rattle.std.proofs.Common.{◌≡◌, true, false, reverse, ap, sym, ◌∙◌, arith}
+use Rattle.std.proofs.Common.{◌≡◌, true, false, reverse, ap, sym, ◌∙◌, subst, arith}
 use Rattle.gl_vmaps.specs.Kept.{Kept, versions_of}
 use Rattle.gl_vmaps.specs.Standing.{versions_up_to}
 use Rattle.gl_vmaps.specs.Chains.{maps_by}
-use Rattle.gl_vmaps.specs.Journal.{is_last_above}
+use Rattle.gl_vmaps.specs.Journal.{AreNamed, is_last_above}
+use Rattle.gl_vmaps.proofs.InOrder.{named-popped_last}
 use Rattle.gl_vmaps.proofs.JournalLaws.{can_pop, cuts-step, above-some, all_up_to, none_above}
 use Rattle.gl_vmaps.proofs.StandingLaws.{stands-cut}
 use Rattle.gl_vmaps.proofs.tables.Tables.cut.Goals as goal
@@ -12,12 +13,13 @@ loop-self-init c = record {
   base = ap (λ (t : Kept). t.base) c.self.view_is;
   compacted = ap (λ (t : Kept). t.compacted) c.self.view_is;
   tidy = c.self.invariant.tidy;
+  named = c.self.invariant.named;
   undone = c.self.invariant.undone;
   rows = λ name key. ap (λ (t : Kept). versions_up_to c.args.to (versions_of t name key)) c.self.view_is;
 }
 
 pub invariant_of-self : goal.invariant_of-self
-invariant_of-self c = record { tidy = c.loop-self.invariant.tidy; undone = c.loop-self.invariant.undone }
+invariant_of-self c = record { tidy = c.loop-self.invariant.tidy; named = c.loop-self.invariant.named; undone = c.loop-self.invariant.undone }
 
 pub pop_last-requires : goal.pop_last-requires
 pop_last-requires c = can_pop c.loop-self.self-inside.compacted _ _ c.loop-self.invariant.undone
@@ -32,6 +34,7 @@ loop-self-preserved c =
       base = c.loop-self.invariant.base;
       compacted = c.loop-self.invariant.compacted;
       tidy = step.tidy;
+      named = subst AreNamed (sym c.pop_last.ensures.maps) (named-popped_last (maps_by s.maps.entries) (reverse s.journal.items) c.loop-self.invariant.named);
       undone = step.undone;
       rows = λ name key. step.rows name key ∙ c.loop-self.invariant.rows name key;
     }

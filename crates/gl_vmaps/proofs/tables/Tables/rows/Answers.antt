@@ -1,0 +1,27 @@
+use Rattle.std.proofs.Common.{reverse, ap, ◌∙◌}
+use Rattle.gl_vmaps.specs.Tables.{value_in}
+use Rattle.gl_vmaps.specs.Rows.{tables_with}
+use Rattle.gl_vmaps.specs.Kept.{Kept}
+use Rattle.gl_vmaps.specs.Standing.{value_up_to}
+use Rattle.gl_vmaps.specs.Chains.{maps_by}
+use Rattle.gl_vmaps.proofs.InOrder.{rising-in}
+use Rattle.gl_vmaps.proofs.StandingLaws.{value_up_to-stands, value_up_to-cut}
+use Rattle.gl_vmaps.proofs.tables.Tables.rows.Goals as goal
+
+pub rows_of_maps-requires : goal.rows_of_maps-requires
+rows_of_maps-requires c = λ name key. record {
+  named = c.self.invariant.named name key;
+  rising = rising-in c.self.inside.compacted (maps_by c.self.inside.maps.entries) (reverse c.self.inside.journal.items) c.self.invariant.undone name key;
+}
+
+pub returns-clause-value : goal.returns-clause-value
+returns-clause-value c = λ name key.
+    ap (λ rows. value_in (tables_with rows) name key) c.of.ensures
+    ∙ c.in_ok-rows_of_maps.ensures.values name key
+    ∙ ap (λ (t : Kept). value_up_to t c.args.to name key) c.self.view_is
+
+pub returns-clause-cut : goal.returns-clause-cut
+returns-clause-cut c = λ cut is name key. returns-clause-value c name key ∙ value_up_to-cut c.args.self.now c.args.to cut is name key
+
+pub returns-clause-stands : goal.returns-clause-stands
+returns-clause-stands c = λ ps stands name key. returns-clause-value c name key ∙ value_up_to-stands c.args.self.now c.args.to ps c.requires stands name key

@@ -66,7 +66,8 @@ fn push_into(rows: &mut Rows, alloc: Global, key: &[u8], version: Version) -> Re
     match rows.get_mut(key) {
         Some(chain) => chain.push_back(version)?,
         None => {
-            let mut chain = VecDeque::new(alloc);
+            // most rows are written once
+            let mut chain = VecDeque::with_capacity(alloc, 1)?;
             chain.push_back(version)?;
             rows.insert(Vec::from_slice(alloc, key)?, chain)?;
         }

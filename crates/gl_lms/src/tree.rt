@@ -87,8 +87,9 @@ fn key_candidate(key: &LmsPublicKey<'_>, signature: &LmsSignature<'_>, message: 
     key_of_chains(key.types, key.identifier, q, &digits, signature.chains)
 }
 
-/// Tc: the root that the signature of the message leads to (section 5.4.2, algorithm 6a). The signature
-/// is valid exactly if that is the root of the key.
+/// Tc: the root that the signature of the message leads to (section 5.4.2, algorithm 6a).
+///
+/// The signature is valid exactly if that is the root of the key.
 #[tactic(auto, unfolding(crate::specs::Tree::root_candidate))]
 pub fn root_candidate(
     key: &LmsPublicKey<'_>,

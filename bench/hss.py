@@ -1,8 +1,8 @@
 #!/usr/bin/env -S python3 -B
 # Measures hash-based signatures against the SHA-256 digests that they need: making a key, signing, verifying, and verifying
-# below an endorsed key. All times are processor times of one run of a program over crates/gl_hss and crates/gl_lms, built in a folder of its own,
-# and each is divided by the time of as many digests of one block in the same run. Prints the least ratio of three rounds, and
-# fails where one is above its limit.
+# below an endorsed key. All times are processor times of one run of a program over crates/gl_lms and crates/gl_hss, built in a
+# folder of its own, and each is divided by the time of as many digests of one block in the same run. Prints the least ratio of
+# three rounds, and fails where one is above its limit.
 import hashlib
 import json
 import os

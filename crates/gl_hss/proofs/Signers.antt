@@ -1,16 +1,13 @@
 -- What a signer signs is valid under each key under which its endorsement is, and has its leaf.
-use Rattle.std.proofs.Common.{◌≡◌, ℕ, ◌^◌, ◌<◌, List, [], ◌∷◌, ◌++◌, length, Option, Some, None, ap, ◌∙◌, append_assoc, arith}
-use Rattle.gl_hss.specs.Bytes.{u32str}
-use Rattle.gl_hss.specs.Types.{height}
-use Rattle.gl_hss.specs.Tree.{Signature, PublicKey, key_bytes, signature_bytes}
-use Rattle.gl_hss.specs.Hss.{IsKey, hss_bytes, IsValid, HasLeaf}
-use Rattle.gl_hss.specs.Secrets.{PrivateKey, public_of}
-use Rattle.gl_hss.specs.Profile.{randomizer_of, signature_by}
+use Rattle.std.proofs.Common.{◌≡◌, ℕ, ◌^◌, ◌<◌, List, [], ◌∷◌, ◌++◌, Option, Some, None, ap, ◌∙◌, append_assoc, arith}
+use Rattle.gl_lms.specs.Bytes.{u32str}
+use Rattle.gl_lms.specs.Types.{height}
+use Rattle.gl_lms.specs.Tree.{Signature, PublicKey, key_bytes, signature_bytes, IsKey}
+use Rattle.gl_hss.specs.Hss.{hss_bytes, IsValid, HasLeaf}
+use Rattle.gl_lms.specs.Secrets.{PrivateKey, public_of}
+use Rattle.gl_lms.specs.Profile.{randomizer_of, signature_by}
 use Rattle.gl_hss.specs.Signer.{levels_above, hss_signature, StandsUnder}
-use Rattle.gl_hss.proofs.Signing.{length-node_above, signature_by-IsSigned, leaf_of_signature}
-
-pub public_of-IsKey : (k : PrivateKey) → length k.identifier ≡ 16 → IsKey (public_of k)
-public_of-IsKey k len = record { identifier = len; root = length-node_above k (height k.types) 1 }
+use Rattle.gl_lms.proofs.Signing.{signature_by-IsSigned, leaf_of_signature}
 
 -- the bytes of one level, and of two
 one_level_bytes : (k : PrivateKey) (s : List ℕ) (q : ℕ) (message : List ℕ) → s ≡ hss_signature k None q message → s ≡ hss_bytes k.types [] (signature_by k q message)
@@ -26,17 +23,17 @@ two_level_bytes k e s q message top fields spelled is =
     ∙ ap (λ (x : List ℕ). x ++ last) (append_assoc (u32str 1) (signature_bytes top.types fields) key)
     ∙ append_assoc (u32str 1) (signature_bytes top.types fields ++ key) last
 
-pub signer-IsValid : (k : PrivateKey) (e : Option (List ℕ)) (s : List ℕ) (q : ℕ) (message hss_key : List ℕ) → length k.identifier ≡ 16 → q < 2 ^ height k.types → s ≡ hss_signature k e q message → StandsUnder k e hss_key → IsValid hss_key message s
+pub signer-IsValid : (k : PrivateKey) (e : Option (List ℕ)) (s : List ℕ) (q : ℕ) (message hss_key : List ℕ) → IsKey (public_of k) → q < 2 ^ height k.types → s ≡ hss_signature k e q message → StandsUnder k e hss_key → IsValid hss_key message s
 unfolding StandsUnder
-signer-IsValid k None s q message hss_key len leaf is stands = record {
+signer-IsValid k None s q message hss_key form leaf is stands = record {
   top = public_of k;
   upper = [];
   last = signature_by k q message;
-  of_key = record { spelled = stands; form = public_of-IsKey k len; some = omega arith; few = omega arith };
+  of_key = record { spelled = stands; form = form; some = omega arith; few = omega arith };
   spelled = one_level_bytes k s q message is;
   signs = signature_by-IsSigned k q message leaf;
 }
-signer-IsValid k (Some e) s q message hss_key len leaf is stands =
+signer-IsValid k (Some e) s q message hss_key form leaf is stands =
     let top = stands.top in
     let signs = stands.signs in
     record {
@@ -45,12 +42,12 @@ signer-IsValid k (Some e) s q message hss_key len leaf is stands =
       last = signature_by k q message;
       of_key = stands.of_key;
       spelled = two_level_bytes k e s q message top signs.fields signs.spelled is;
-      signs = (signs.signed, public_of-IsKey k len, signature_by-IsSigned k q message leaf);
+      signs = (signs.signed, form, signature_by-IsSigned k q message leaf);
     }
 
-pub signer-HasLeaf : (k : PrivateKey) (e : Option (List ℕ)) (s : List ℕ) (q : ℕ) (message hss_key : List ℕ) → length k.identifier ≡ 16 → q < 2 ^ height k.types → s ≡ hss_signature k e q message → StandsUnder k e hss_key → HasLeaf s q
+pub signer-HasLeaf : (k : PrivateKey) (e : Option (List ℕ)) (s : List ℕ) (q : ℕ) (message hss_key : List ℕ) → IsKey (public_of k) → q < 2 ^ height k.types → s ≡ hss_signature k e q message → StandsUnder k e hss_key → HasLeaf s q
 unfolding StandsUnder
-signer-HasLeaf k None s q message hss_key len leaf is stands =
+signer-HasLeaf k None s q message hss_key form leaf is stands =
     let signed = signature_by-IsSigned k q message leaf in
     record {
       types = k.types;
@@ -61,7 +58,7 @@ signer-HasLeaf k None s q message hss_key len leaf is stands =
       spelled = one_level_bytes k s q message is;
       leaf = leaf_of_signature k q (randomizer_of k q) message;
     }
-signer-HasLeaf k (Some e) s q message hss_key len leaf is stands =
+signer-HasLeaf k (Some e) s q message hss_key form leaf is stands =
     let top = stands.top in
     let signs = stands.signs in
     let signed = signature_by-IsSigned k q message leaf in
@@ -70,7 +67,7 @@ signer-HasLeaf k (Some e) s q message hss_key len leaf is stands =
       upper = record { signature = signs.fields; key = public_of k } ∷ [];
       last = signature_by k q message;
       few = omega arith;
-      form = (signs.signed.form, public_of-IsKey k len, signed.form);
+      form = (signs.signed.form, form, signed.form);
       spelled = two_level_bytes k e s q message top signs.fields signs.spelled is;
       leaf = leaf_of_signature k q (randomizer_of k q) message;
     }

@@ -1,26 +1,8 @@
 -- Signatures of one or two levels, HSS (RFC 8554, 6), and when one is valid.
-use Rattle.std.specs.Prelude.{ℕ, ◌≡◌, ◌<◌, ◌≤◌, ◌+◌, ◌*◌, ◌^◌, List, [], ◌∷◌, ◌++◌, length}
-use Rattle.gl_hss.specs.declared.types.Types.{Types}
-use Rattle.gl_hss.specs.Bytes.{u32str}
-use Rattle.gl_hss.specs.Types.{height, chain_count}
-use Rattle.gl_hss.specs.Tree.{Signature, PublicKey, key_bytes, signature_bytes, root_candidate}
-
--- the fields of an LMS public key have their lengths (5.3)
-pub record IsKey (k : PublicKey) : Type 0 where
-  pub identifier : length k.identifier ≡ 16
-  pub root : length k.root ≡ 32
-
--- the fields of an LMS signature have their lengths, and the tree has the leaf (5.4)
-pub record IsSignature (t : Types) (s : Signature) : Type 0 where
-  pub leaf : s.leaf < 2 ^ height t
-  pub randomizer : length s.randomizer ≡ 32
-  pub chains : length s.chains ≡ 32 * chain_count t
-  pub path : length s.path ≡ 32 * height t
-
--- the signature of the message is valid under the key: it leads to the key's T[1] (5.4.2)
-pub record IsSigned (k : PublicKey) (message : List ℕ) (s : Signature) : Type 0 where
-  pub form : IsSignature k.types s
-  pub root : root_candidate k.types k.identifier s message ≡ k.root
+use Rattle.std.specs.Prelude.{ℕ, ◌≡◌, ◌≤◌, ◌+◌, List, [], ◌∷◌, ◌++◌, length}
+use Rattle.gl_lms.specs.declared.types.Types.{Types}
+use Rattle.gl_lms.specs.Bytes.{u32str}
+use Rattle.gl_lms.specs.Tree.{Signature, PublicKey, key_bytes, signature_bytes, IsKey, IsSignature, IsSigned, Signs}
 
 -- a level above the last: a signature, and the key that it signs (6.2)
 pub record Upper : Type 0 where
@@ -84,13 +66,6 @@ pub record HasLeaf (signature : List ℕ) (q : ℕ) : Type 0 where
   pub form : AreLevels types upper last
   pub spelled : signature ≡ hss_bytes types upper last
   pub leaf : last.leaf ≡ q
-
--- the bytes are a signature of the message by leaf q, valid under the LMS public key (5.4)
-pub record Signs (k : PublicKey) (q : ℕ) (message bytes : List ℕ) : Type 0 where
-  pub fields : Signature
-  pub spelled : bytes ≡ signature_bytes k.types fields
-  pub leaf : fields.leaf ≡ q
-  pub signed : IsSigned k message fields
 
 -- the bytes are an endorsement of the key: a signature of its bytes by an HSS key of two levels, as
 -- it stands in the upper level of a signature (6.2 and 6.3)

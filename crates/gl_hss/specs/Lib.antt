@@ -1,15 +1,5 @@
-pub mod Bytes
-pub mod Types
-pub mod Ots
-pub mod Tree
 pub mod Levels
 pub mod Hss
 pub mod Order
-pub mod Lent
-pub mod Secrets
-pub mod Profile
-pub mod Source
-pub mod Nodes
-pub mod Steps
 pub mod Endorsement
 pub mod Signer

@@ -1,13 +1,14 @@
 -- Which fault comes first: a key and a signature read from left to right, and then the roots.
 use Rattle.std.specs.Prelude.{ℕ, ◌≡◌, ◌+◌, ◌-◌, ◌*◌, ◌^◌, Bool, true, false, List, length, Option, Some, None, Result, Ok, Err, ok_or, ◌==◌, ◌||◌, nat_lt, nat_le, if◌then◌else◌}
 use Rattle.std.specs.Str.{bytes_eq}
-use Rattle.gl_hss.specs.declared.types.Types.{Types}
-use Rattle.gl_hss.specs.declared.types.Types.TheVariants.{H5W4, H5W8}
+use Rattle.gl_lms.specs.declared.types.Types.{Types}
+use Rattle.gl_lms.specs.declared.types.Types.TheVariants.{H5W4, H5W8}
 use Rattle.gl_hss.specs.declared.fault.HssFault.{HssFault}
 use Rattle.gl_hss.specs.declared.fault.HssFault.TheVariants as fault
-use Rattle.gl_hss.specs.Bytes.{bytes_at, number_at}
-use Rattle.gl_hss.specs.Types.{height, chain_count, lms_code, ots_code, signature_len, types_of}
-use Rattle.gl_hss.specs.Tree.{Signature, PublicKey, root_candidate}
+use Rattle.gl_lms.specs.Bytes.{bytes_at, number_at}
+use Rattle.gl_lms.specs.Types.{height, chain_count, lms_code, ots_code, signature_len, types_of}
+use Rattle.gl_lms.specs.Tree.{Signature, PublicKey, root_candidate}
+use Rattle.gl_lms.specs.Lent.{key_fields, signature_fields}
 
 -- what a function returned, seen by view, is this reading
 abbrev pub Gives : {X Y : Type 0} → (X → Y) → Result X HssFault → Result Y HssFault → Type 0
@@ -60,14 +61,6 @@ types_at s at want =
     >> reaches s (at + 8) want
     >> ok_or (types_of (number_at s at) (number_at s (at + 4))) (fault.Types (at + 4))
 
--- the fields of an LMS public key that begins at this place
-abbrev pub key_fields : Types → List ℕ → ℕ → PublicKey
-key_fields t s at = record {
-  types = t;
-  identifier = bytes_at s (at + 8) 16;
-  root = bytes_at s (at + 24) 32;
-}
-
 -- the number of levels that the 60 bytes of an HSS public key name
 unfoldable pub levels_of_key : List ℕ → Result ℕ HssFault
 levels_of_key key =
@@ -86,15 +79,6 @@ embedded_key s at =
     reaches s (at + 56) (at + 56 + signature_len t) >> Ok (key_fields t s at)
 
 -- ---- an LMS signature
-
--- the fields of an LMS signature that begins at this place
-abbrev pub signature_fields : Types → List ℕ → ℕ → Signature
-signature_fields t s at = record {
-  leaf = number_at s at;
-  randomizer = bytes_at s (at + 8) 32;
-  chains = bytes_at s (at + 40) (32 * chain_count t);
-  path = bytes_at s (at + 44 + 32 * chain_count t) (32 * height t);
-}
 
 -- an LMS signature from this place on, by a key that has these types
 unfoldable pub signature_at : Types → List ℕ → ℕ → ℕ → Result Signature HssFault

@@ -1,16 +1,15 @@
 //! Keys and signatures read from left to right, up to the first fault.
 
 ghost use Rattle.std.specs.Prelude.{◌≡◌, ◌+◌, ◌*◌, ◌<◌, ◌≤◌, ◌^◌, length, IfOk, OnOk};
-ghost use Rattle.gl_hss.specs.Types.{height, chain_count, signature_len, types_of};
-ghost use Rattle.gl_hss.specs.Bytes.{bytes_at, number_at};
-ghost use Rattle.gl_hss.specs.Hss.{IsKey, IsSignature};
-ghost use Rattle.gl_hss.specs.Lent.{key_of, signature_of};
-ghost use Rattle.gl_hss.specs.Order.{Gives, reaches, ends, has_code, has_leaf, least_types, types_at, levels_of_key, top_key, embedded_key, key_fields, signature_fields, signature_at, first_signature};
+ghost use Rattle.gl_lms.specs.Types.{height, chain_count, signature_len};
+ghost use Rattle.gl_lms.specs.Bytes.{bytes_at, number_at};
+ghost use Rattle.gl_lms.specs.Tree.{IsKey, IsSignature};
+ghost use Rattle.gl_lms.specs.Lent.{key_of, signature_of, key_fields, signature_fields};
+ghost use Rattle.gl_hss.specs.Order.{Gives, reaches, ends, has_code, has_leaf, least_types, types_at, levels_of_key, top_key, embedded_key, signature_at, first_signature};
 
-use crate::bytes::{bytes_at, number_at};
 use crate::fault::HssFault;
-use crate::lms::{LmsPublicKey, LmsSignature};
-use crate::types::{LMS_KEY_LEN, Types};
+use gl_lms::bytes::{bytes_at, number_at};
+use gl_lms::{LMS_KEY_LEN, LmsPublicKey, LmsSignature, Types, key_fields, signature_fields};
 
 // The bytes before the chains of an LMS signature: q, the typecode and C.
 const BEFORE_CHAINS: usize = 40;
@@ -74,19 +73,6 @@ fn has_leaf(types: Types, q: u32) -> Result<(), HssFault>
     }
 }
 
-// The parameter set that has these typecodes.
-fn types_of(lms: u32, ots: u32) -> Option<Types>
-    ensures { result ≡ types_of lms ots }
-{
-    match (lms, ots) {
-        (5, 3) => Some(Types::H5W4),
-        (5, 4) => Some(Types::H5W8),
-        (6, 3) => Some(Types::H10W4),
-        (6, 4) => Some(Types::H10W8),
-        _ => None,
-    }
-}
-
 // The two typecodes of a key from this place on.
 #[tactic(auto, unfolding(crate::specs::Order::types_at))]
 fn types_at(bytes: &[u8], at: usize, want: usize) -> Result<Types, HssFault>
@@ -100,20 +86,7 @@ fn types_at(bytes: &[u8], at: usize, want: usize) -> Result<Types, HssFault>
     }
     reaches(bytes, at + 8, want)?;
     let ots = number_at(bytes, at + 4);
-    types_of(lms, ots).ok_or(HssFault::Types { at: at as u64 + 4 })
-}
-
-// The fields of a key that begins at this place.
-fn key_fields(types: Types, bytes: &[u8], at: usize) -> LmsPublicKey<'_>
-    requires { at + 56 ≤ length bytes.now }
-    ensures value { key_of result ≡ key_fields types bytes.now at }
-    ensures form { IsKey (key_of result) }
-{
-    LmsPublicKey {
-        types,
-        identifier: bytes_at(bytes, at + 8, 16),
-        root: bytes_at(bytes, at + 24, 32),
-    }
+    Types::of_codes(lms, ots).ok_or(HssFault::Types { at: at as u64 + 4 })
 }
 
 // The bytes of a key from this place on.
@@ -167,23 +140,6 @@ pub(crate) fn embedded_key(signature: &[u8], at: usize) -> Result<LmsPublicKey<'
     Ok(key_fields(types, signature, at))
 }
 
-// The fields of an LMS signature that begins at this place.
-fn signature_fields(types: Types, signature: &[u8], at: usize) -> LmsSignature<'_>
-    requires room { at + signature_len types ≤ length signature.now }
-    requires leaf { number_at signature.now at < 2 ^ height types }
-    ensures value { signature_of result ≡ signature_fields types signature.now at }
-    ensures form { IsSignature types (signature_of result) }
-{
-    let chains_len = 32 * types.chain_count();
-    let path_len = 32 * types.height() as usize;
-    LmsSignature {
-        leaf: number_at(signature, at),
-        randomizer: bytes_at(signature, at + 8, 32),
-        chains: bytes_at(signature, at + BEFORE_CHAINS, chains_len),
-        path: bytes_at(signature, at + 44 + chains_len, path_len),
-    }
-}
-
 // An LMS signature from this place on, by a key that has these types.
 #[tactic(auto, unfolding(crate::specs::Order::signature_at))]
 pub(crate) fn signature_at(
@@ -234,7 +190,7 @@ pub(crate) fn first_signature(signature: &[u8], behind: usize) -> Result<(Types,
     let code_at = 44 + 32 * least.chain_count();
     reaches(signature, code_at + 4, 4 + least.signature_len() + behind)?;
     let code = HssFault::Types { at: code_at as u64 };
-    let types = types_of(number_at(signature, code_at), ots).ok_or(code)?;
+    let types = Types::of_codes(number_at(signature, code_at), ots).ok_or(code)?;
     let q = number_at(signature, 4);
     has_leaf(types, q)?;
     let end = 4 + types.signature_len();

@@ -1,11 +1,14 @@
 //! HSS public keys of one and of two levels (section 6.1).
 
 ghost use Rattle.std.specs.Prelude.{◌≡◌, ◌↔◌, ◌++◌, Some, take};
-ghost use Rattle.gl_hss.specs.Bytes.{u32str};
+ghost use Rattle.gl_lms.specs.Bytes.{u32str};
+ghost use Rattle.gl_lms.specs.Tree.{key_bytes};
+ghost use Rattle.gl_lms.specs.Secrets.{public_of};
 ghost use Rattle.gl_hss.specs.Levels.{level_count, levels_named};
+ghost use Rattle.gl_hss.specs.Hss.{IsHssKey};
 
-use crate::bytes::{number_at, u32str};
-use crate::types::LMS_KEY_LEN;
+use gl_lms::bytes::{number_at, u32str};
+use gl_lms::{LMS_KEY_LEN, LmsKey};
 
 /// The bytes of an HSS public key: the number of levels in four bytes, and an LMS public key.
 pub const HSS_KEY_LEN: usize = 60;
@@ -59,4 +62,19 @@ pub fn hss_key(levels: Levels, key: &[u8; LMS_KEY_LEN]) -> [u8; HSS_KEY_LEN]
     front.copy_from_slice(&u32str(levels.count()));
     back.copy_from_slice(key);
     out
+}
+
+/// The HSS public keys that stand on an LMS key.
+pub trait HssPublic {
+    /// The HSS public key of so many levels with this key on top (section 6.1).
+    fn hss_public(&self, levels: Levels) -> [u8; HSS_KEY_LEN];
+}
+
+impl HssPublic for LmsKey {
+    fn hss_public(&self, levels: Levels) -> [u8; HSS_KEY_LEN]
+        ensures bytes { result ≡ u32str (level_count levels) ++ key_bytes (public_of self.now) }
+        ensures form { IsHssKey result (level_count levels) (public_of self.now) }
+    {
+        hss_key(levels, &self.public())
+    }
 }

@@ -1,15 +1,13 @@
 //! Whether a signature leads to the root of the key that it is to be by (section 5.4.2).
 
 ghost use Rattle.std.specs.Prelude.{◌≡◌, ◌<◌};
-ghost use Rattle.gl_hss.specs.Hss.{IsKey, IsSignature};
-ghost use Rattle.gl_hss.specs.Lent.{key_of, signature_of};
+ghost use Rattle.gl_lms.specs.Tree.{IsKey, IsSignature};
+ghost use Rattle.gl_lms.specs.Lent.{key_of, signature_of};
 ghost use Rattle.gl_hss.specs.Order.{has_root, one_level};
 
-use crate::bytes::to_block;
 use crate::fault::HssFault;
 use crate::fields::{ends, signature_at};
-use crate::lms::{LmsPublicKey, LmsSignature};
-use crate::tree::root_candidate;
+use gl_lms::{LmsPublicKey, LmsSignature, root_candidate};
 
 // The root that the signature leads to is the key's.
 #[tactic(auto, unfolding(crate::specs::Order::has_root))]
@@ -26,7 +24,8 @@ pub(crate) fn has_root(
     if got.as_slice() == key.root {
         Ok(())
     } else {
-        let want = to_block(key.root);
+        let mut want = [0; 32];
+        want.copy_from_slice(key.root);
         Err(HssFault::Root { want, got })
     }
 }

@@ -1,13 +1,14 @@
 //! A signer that uses each leaf once.
 
-ghost use Rattle.std.specs.Prelude.{◌≡◌, ◌↔◌, ◌<◌, ◌≤◌, ◌^◌, ◌+◌, ◌++◌, List, ℕ, [], Option, Some, None, Ok, Err, IfOk, OnOk, OnErr, IfErr, IsErr, length};
-ghost use Rattle.gl_hss.specs.Types.{height};
+ghost use Rattle.std.specs.Prelude.{◌≡◌, ◌↔◌, ◌<◌, ◌≤◌, ◌^◌, ◌+◌, ◌++◌, List, ℕ, [], Option, Some, None, Ok, Err, IfOk, OnOk, OnErr, IfErr, IsErr};
+ghost use Rattle.gl_lms.specs.Types.{height};
+ghost use Rattle.gl_lms.specs.Tree.{IsKey};
+ghost use Rattle.gl_lms.specs.Secrets.{public_of};
 ghost use Rattle.gl_hss.specs.Signer.{Signer, endorsement_of, signer_of, levels_above, hss_signature, StandsUnder, Refuses};
 ghost use Rattle.gl_hss.specs.Hss.{IsValid, HasLeaf};
 
-use crate::bytes::u32str;
-use crate::key::LmsKey;
-use crate::types::LMS_KEY_LEN;
+use gl_lms::bytes::u32str;
+use gl_lms::{LMS_KEY_LEN, LmsKey};
 use std::alloc::AllocError;
 use std::marker::Model;
 use thiserror::Error;
@@ -44,7 +45,7 @@ pub struct HssSigner {
 
 impl Model for HssSigner {
     ghost use Rattle.std.specs.Prelude.{◌≤◌, ◌^◌};
-    ghost use Rattle.gl_hss.specs.Types.{height};
+    ghost use Rattle.gl_lms.specs.Types.{height};
     ghost use Rattle.gl_hss.specs.Signer.{Signer, signer_of};
 
     ghost Value = { Signer };
@@ -176,7 +177,7 @@ impl HssSigner {
         ensures bytes { IfOk result (λ s. s.items
             ≡ hss_signature self.now.key self.now.endorsement self.now.used message.now) }
         ensures leaf { OnOk result (self.now.used < 2 ^ height self.now.key.types) }
-        ensures identifier { OnOk result (length self.now.key.identifier ≡ 16) }
+        ensures form { OnOk result (IsKey (public_of self.now.key)) }
     {
         let mut out = self.buffer()?;
         self.push_levels_above(&mut out)?;

@@ -1,18 +1,14 @@
 ghost use Rattle.std.specs.Prelude.{◌<◌};
 
-use crate::source::KeySource;
-use crate::tests::keys::KEYS;
 use crate::tests::vectors::{
     Vector, vector_0, vector_1, vector_2, vector_3, vector_4, vector_5, vector_6, vector_7,
     vector_8, vector_9, vector_10, vector_11, vector_12,
 };
 use crate::*;
-use sha2::{Digest, Sha256};
 use std::alloc::{AllocError, Global};
 use std::process::Abort;
 use std::test::Fail;
 
-mod keys;
 mod signers;
 mod vectors;
 
@@ -245,43 +241,4 @@ fn signatures_of_two_levels(rt: HostRuntime) -> Result<(), Fail> {
     each_field(&rt, vector_10())?;
     each_field(&rt, vector_11())?;
     each_field(&rt, vector_12())
-}
-
-// ---- keys of other implementations
-
-#[test]
-fn keys_of_other_implementations(rt: HostRuntime) -> Result<(), Fail> {
-    for vector in &KEYS {
-        let identifier = array_of(&rt, vector.identifier)?;
-        let seed = array_of(&rt, vector.seed)?;
-        let root = bytes_of(rt.alloc(), vector.root)?;
-        let types = vector.types;
-        let source = KeySource {
-            types,
-            identifier,
-            seed,
-        };
-        let public = LmsKey::from_source(rt.alloc(), source)?.public();
-        assert_eq!(rt; &public[24..], root.as_slice());
-    }
-    Ok(())
-}
-
-// ---- keys and signatures of a seed, as another program computes them
-
-#[test]
-fn key_and_signature_of_a_seed(rt: HostRuntime) -> Result<(), Fail> {
-    let mut seed = [0; 32];
-    for (i, byte) in seed.iter_mut().enumerate() {
-        *byte = i as u8;
-    }
-    let key = LmsKey::make(rt.alloc(), seed, Types::H5W4)?;
-    let public = "0000000500000003bb94c0738d17e0f9329212bce706acf0\
-        c0cd26738938c6138e3bad21ed5bdc3b718f25cb33865a7c68dcc23a8b43d1c3";
-    assert_eq!(rt; key.public(), array_of::<56>(&rt, public)?);
-    let signature = key.sign_leaf(3, b"abc")?;
-    let digest = "617017b9dcbb57f8bccb39e4fbf755242fe4e7e63ac1bb55c25aad99cf1642b5";
-    assert_eq!(rt; signature.len(), 2348);
-    assert_eq!(rt; Sha256::digest(&signature), array_of::<32>(&rt, digest)?);
-    Ok(())
 }

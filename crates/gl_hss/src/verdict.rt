@@ -1,22 +1,25 @@
 //! Whether an HSS signature is valid (section 6.3), and which key and leaf made it.
 
 ghost use Rattle.std.specs.Prelude.{◌≡◌, ◌↔◌, ◌+◌, ◌<◌, ◌≤◌, ℕ, List, length, IsOk, IfOk, OnOk, Ok};
-ghost use Rattle.gl_hss.specs.Types.{signature_len};
-ghost use Rattle.gl_hss.specs.Bytes.{bytes_at};
-ghost use Rattle.gl_hss.specs.Hss.{IsKey, IsSignature, IsValid, IsValidBy, HasLeaf};
-ghost use Rattle.gl_hss.specs.Lent.{key_of, signature_of};
-ghost use Rattle.gl_hss.specs.Order.{signature_fields, top_key, has_root, two_levels, verdict, last_key_verdict, leaf_of_one, leaf_below, leaf_of_two, leaf_verdict, least_len};
+ghost use Rattle.gl_lms.specs.Types.{signature_len};
+ghost use Rattle.gl_lms.specs.Bytes.{bytes_at};
+ghost use Rattle.gl_lms.specs.Tree.{IsKey, IsSignature};
+ghost use Rattle.gl_hss.specs.Hss.{IsValid, IsValidBy, HasLeaf};
+ghost use Rattle.gl_lms.specs.Lent.{key_of, signature_of, signature_fields};
+ghost use Rattle.gl_hss.specs.Order.{top_key, has_root, two_levels, verdict, last_key_verdict, leaf_of_one, leaf_below, leaf_of_two, leaf_verdict, least_len};
 
-use crate::bytes::{bytes_at, number_at};
 use crate::endorsement::EndorsedKey;
 use crate::fault::HssFault;
 use crate::fields::{
     embedded_key, ends, first_signature, levels_of_key, lms_key_at, reaches, signature_at, top_key,
 };
 use crate::levels::HSS_KEY_LEN;
-use crate::lms::{LmsPublicKey, LmsSignature};
 use crate::root::{has_root, one_level};
-use crate::types::{LMS_KEY_LEN, MAX_HSS_SIGNATURE_LEN, MAX_LEAF_COUNT, Types};
+use gl_lms::bytes::{bytes_at, number_at};
+use gl_lms::{LMS_KEY_LEN, LmsPublicKey, LmsSignature, MAX_LEAF_COUNT, Types};
+
+/// The most bytes of an HSS signature of two levels, both of `Types::H10W4`.
+pub const MAX_HSS_SIGNATURE_LEN: usize = 5076;
 
 // The upper level signs the key behind it: it is the endorsement of the known key, or it leads to
 // the root of the key on top.

@@ -1,20 +1,8 @@
-//! The worked rows of signers, checksums and lengths.
+//! The worked rows of signers and lengths.
 
-use crate::ots::{coef, digits};
 use crate::*;
 use std::alloc::AllocError;
 use std::test::Fail;
-
-#[test]
-fn checksums(rt: HostRuntime) {
-    let eight = digits(Types::H5W8, &[0; 32]);
-    assert_eq!(rt; &eight[32..], [0x1f, 0xe0].as_slice());
-    let four = digits(Types::H5W4, &[0; 32]);
-    assert_eq!(rt; &four[32..], [0x3c, 0x00].as_slice());
-    assert_eq!(rt; coef(Types::H5W4, &four, 64), 3);
-    assert_eq!(rt; coef(Types::H5W4, &four, 65), 12);
-    assert_eq!(rt; coef(Types::H5W4, &four, 66), 0);
-}
 
 #[test]
 fn keys_of_levels(rt: HostRuntime) -> Result<(), Fail> {

@@ -1,0 +1,12 @@
+pub mod Digits
+pub mod Chains
+pub mod Parameters
+pub mod Climbing
+pub mod Spans
+pub mod Spelled
+pub mod Trees
+pub mod Paths
+pub mod Appends
+pub mod Blocks
+pub mod Signing
+pub mod StepInputs

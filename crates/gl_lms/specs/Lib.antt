@@ -1,0 +1,10 @@
+pub mod Bytes
+pub mod Types
+pub mod Ots
+pub mod Tree
+pub mod Lent
+pub mod Secrets
+pub mod Profile
+pub mod Source
+pub mod Nodes
+pub mod Steps

@@ -1,5 +1,5 @@
 -- The ledger of a service as the book that the rules of consensus read. Its cases grow with the
--- requests that there are.
+-- kinds of requests.
 use Rattle.std.specs.Prelude.{ℕ, List, Option, None, Some, Result, Ok, Err, if◌then◌else◌}
 use Rattle.gl_rules.specs.Book.{Book}
 use Rattle.gl_entry.specs.Entry.{is_signature, is_evidence, recorded_commit, frame_size}
@@ -26,12 +26,13 @@ pub data Unmade : Type 0 where
   -- no bytes spell such a request, so none ever comes
   Unspelled : Unmade
   -- for now no evidence entry is made, and no entry taken from another node
-  NotByNow : Unmade
+  NotYet : Unmade
 
 -- How many one-time leaves a node's key has: those of a tree of height 5 (RFC 8554, section 5.1).
 abbrev pub leaf_count : ℕ
 leaf_count = 32
 
+-- What an executed request makes, in the book's words.
 abbrev pub with_reply : Result (Entry × List Answer) Refusal → Result (Entry × Given) Unmade
 with_reply (Ok made) = Ok (made.0, Replied made.1)
 with_reply (Err why) = Err (ByStore why)
@@ -41,6 +42,7 @@ abbrev pub request_result : List Entry → ℕ → List Operation → Result (En
 request_result ledger view q =
     if is_request q then with_reply (execute_result ledger view q) else Err Unspelled
 
+-- What a signature makes, in the book's words.
 abbrev pub by_store : Result Entry Refusal → Result Entry Unmade
 by_store (Ok e) = Ok e
 by_store (Err why) = Err (ByStore why)
@@ -66,9 +68,9 @@ service_book = record {
   execute = request_result;
   govern = λ ledger view g. govern_request g;
   sign = λ x leaf ledger view commit. by_store (sign_result x ledger view commit);
-  evidence = λ ledger view. Err NotByNow;
+  evidence = λ ledger view. Err NotYet;
   marked_node = no_mark;
   mark_refusal = λ ledger x. None;
   conflict = λ ledger len reads. None;
-  breaks = λ ledger e. Some NotByNow;
+  breaks = λ ledger e. Some NotYet;
 }

@@ -38,8 +38,8 @@ pub record Executes (old : Held) (view : ℕ) (q : List Operation)
   pub made : service_book.execute old.ledger view q ≡ Ok (entry, Replied reply)
   pub enters : Enters old view entry id new
 
--- The store made the entry of a node's signature, with this identifier. For now it is the same
--- with each leaf of the node's key.
+-- The store made the entry of a node's signature, with this identifier. For now the entry is the
+-- same whichever leaf of the node's key signs.
 pub record Signs (old : Held) (node : List ℕ) (view : ℕ) (id : TxId) (new : Held) : Type 0 where
   pub entry : Entry
   pub made : (leaf : ℕ) → service_book.sign node leaf old.ledger view old.commit ≡ Ok entry

@@ -106,13 +106,14 @@ is_ascending (x ∷ xs) = list_all (λ y. nat_lt x y) xs && is_ascending xs
 abbrev pub numbers_of : List NewMember → List ℕ
 numbers_of members = map (λ (m : NewMember). m.number) members
 
--- There is a node, no identifier stands twice, and they are no more than may be trusted, 32.
+-- There is at least one node and at most 32, which is how many may be trusted, and no identifier
+-- stands twice.
 abbrev pub are_nodes : List NewNode → Bool
 are_nodes nodes =
     nat_le 1 (length nodes) && nat_le (length nodes) 32 && are_distinct_bytes (map node_id nodes)
 
--- Their numbers begin at 1, no number and no key stands twice, and they are no more than may be
--- present, 64.
+-- There are at most 64 members, which is how many may be present, each number is at least 1, and no
+-- number and no key stands twice.
 abbrev pub are_members : List NewMember → Bool
 are_members members =
     nat_le (length members) 64 && list_all (λ number. nat_le 1 number) (numbers_of members)
@@ -127,8 +128,7 @@ is_dealing_among present d =
     && is_ascending (map (λ (s : ShareDigest). s.member) d.shares)
     && list_all (λ (s : ShareDigest). list_any (nat_eq s.member) present) d.shares
 
--- A genesis that founds a service: its members, its dealing among them, and its nodes are as they
--- must be.
+-- A genesis that may found a service, by its members, its dealing among them and its nodes.
 abbrev pub is_acceptable : request.Genesis → Bool
 is_acceptable g =
     are_members g.members && is_dealing_among (numbers_of g.members) g.dealing
@@ -185,7 +185,7 @@ node_row order n =
     row nodes_map (node_id n)
     (little_endian 2 order ++ (2 ∷ n.key) ++ with_u32_length n.endorsement ++ little_endian 8 0)
 
--- The rows of nodes, numbered from here on.
+-- The rows of nodes, the first of which has this number in the order of nodes.
 abbrev pub node_rows : ℕ → List NewNode → List Write
 node_rows order [] = []
 node_rows order (n ∷ ns) = node_row order n ∷ node_rows (suc order) ns

@@ -28,8 +28,8 @@ pub record IsTreeOf (leaves : List (List ℕ)) (f : frontiers.Content) : Type 0 
   pub peaks : f.peaks ≡ []
   pub leaves_are : f.leaves ≡ leaves
 
--- The ledger is sound and opened, commit is the seqno of one of its signatures or 0, and what is
--- kept beside the ledger is what it has it be.
+-- The ledger is sound and opened, commit is the seqno of one of its signatures or 0, and all that
+-- is kept beside the ledger is what a scan of it would find.
 pub record IsKept (ledger : List Entry) (b : Beside) : Type 0 where
   pub sound : IsSound ledger
   pub opened : 2 ≤ length ledger

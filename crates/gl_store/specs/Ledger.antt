@@ -65,12 +65,12 @@ application_entry ledger view operations ran = record {
   claims = sha256 (reply_bytes ran.reply);
 }
 
--- Unless no seqno is left that an identifier can name.
+-- What was made, unless no seqno is left that an identifier can name.
 abbrev pub within_seqnos : {X : Type 0} → List Entry → X → Result X Refusal
 within_seqnos ledger made =
     if nat_lt (length ledger) last_seqno then Ok made else Err refusals.SeqnoLimit
 
--- Unless a size is above the limit of bodies and replies.
+-- What was made, unless a size is above the limit of bodies and replies.
 abbrev pub within_size : {X : Type 0} → ℕ → Result X Refusal → Result X Refusal
 within_size size made = if nat_lt body_limit size then Err (refusals.TooLarge size) else made
 

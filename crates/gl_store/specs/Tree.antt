@@ -15,12 +15,13 @@ writes_of ledger = flat_map (λ (e : Entry). placed_at e.seqno e.writes) ledger
 abbrev pub tables_of : List Entry → Tables
 tables_of ledger = written_by (writes_of ledger)
 
--- The leaves of entries behind tables, each under the identity that is in force there: that of an
--- entry which names one is its own.
+-- The leaves of entries that stand behind tables, each under the identity that is in force once the
+-- entry's own writes are made.
 abbrev pub leaves_from : Tables → List Entry → List (List ℕ)
 leaves_from tables [] = []
 leaves_from tables (e ∷ es) =
     leaf_of (identity_in (wrote_all tables e.writes)) e ∷ leaves_from (wrote_all tables e.writes) es
 
+-- The leaves of a ledger, from its first entry.
 abbrev pub leaves_of : List Entry → List (List ℕ)
 leaves_of ledger = leaves_from no_tables ledger

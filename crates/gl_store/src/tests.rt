@@ -6,14 +6,17 @@ ghost use Rattle.std.specs.List.{AllByRecursion};
 ghost use Rattle.gl_store.specs.Genesis.{is_acceptable, is_genesis};
 ghost use Rattle.gl_rules.specs.Safety.{ViewsUpTo};
 ghost use Rattle.gl_store.specs.Book.{service_book};
+ghost use Rattle.gl_store.specs.Calls.{IsSignedAt};
 
 use crate::{Dealing, Genesis, NewMember, NewNode, Refusal, ServiceState, ShareDigest, Store};
-use gl_base::{Bytes, OrNoMemory, Sequence, TxId};
-use gl_entry::{Content, Digest, NodeId};
+use gl_base::{Bytes, OrNoMemory, Sequence, Status, TxId};
+use gl_entry::{Content, Digest, Entry, NodeId};
 use gl_tx::{Abort, Answer, Cause, Operation, Reply, Request};
 use gl_vmaps::{Key, MapName, Value, Write};
 use std::alloc::{AllocError, Global};
 use std::test::Fail;
+
+mod opening;
 
 // The digest of 56 bytes 07.
 const NODE: NodeId = [
@@ -27,10 +30,10 @@ const DONE: Digest = [
     0xef, 0x6d, 0x92, 0x47, 0x85, 0x96, 0x80, 0xb1, 0x1a, 0x19, 0xfb, 0x70, 0x77, 0xf5, 0xf2, 0x22,
 ];
 
-// The leaf of the genesis of a service that is opening, which is the root over it alone.
-const FIRST_LEAF: Digest = [
-    0x8d, 0xdc, 0x71, 0xa1, 0xd7, 0x18, 0x16, 0x41, 0xd2, 0x46, 0x54, 0x1a, 0xdd, 0xf7, 0xb9, 0x8a,
-    0xc6, 0xea, 0xed, 0x04, 0xd5, 0x92, 0xda, 0x7c, 0x00, 0xa1, 0xfb, 0x0f, 0xae, 0xfe, 0xa1, 0x7f,
+// The root over the opening ledger of a service that is open, and a put of one byte 01.
+const ROOT_BEHIND_PUT: Digest = [
+    0x7c, 0x57, 0x1c, 0xa6, 0x12, 0xb9, 0x12, 0xd9, 0xa4, 0x4d, 0x1c, 0x8a, 0x0a, 0xec, 0x85, 0xdd,
+    0x42, 0xa1, 0xce, 0xff, 0x3e, 0xfe, 0xe6, 0x76, 0xd3, 0x82, 0x48, 0x17, 0x40, 0x79, 0x2e, 0x6d,
 ];
 
 // The service's key.
@@ -109,6 +112,15 @@ fn execute(
     store.execute(view, request)
 }
 
+// A signature, in a view in which more may follow.
+fn sign(store: &mut Store, view: u32) -> Result<TxId, OrNoMemory<Refusal>>
+    requires { ViewsUpTo service_book view store.old.ledger }
+    ensures up_to { ViewsUpTo service_book view store.new.ledger }
+    ensures signed { IfOk result (λ id. IsSignedAt store.new.ledger id.seqno) }
+{
+    store.sign(NODE, view)
+}
+
 // The bytes that these runs of a byte make.
 fn runs(alloc: Global, runs: &[(u8, usize)]) -> Result<Vec<u8>, AllocError> {
     let mut bytes = Vec::new(alloc);
@@ -138,115 +150,12 @@ fn is_row(write: &Write, map: &[u8], key: &[u8], value: &[u8]) -> bool {
     }
 }
 
-// Whether the first entry's write with this number, from 0, sets this row, and the tables have it
-// so.
-fn has_row(
-    alloc: Global,
-    store: &Store,
-    number: usize,
-    map: &[u8],
-    key: &[u8],
-    value: &[(u8, usize)],
-) -> Result<bool, Fail> {
-    let value = runs(alloc, value)?;
-    let entry = store.entry(1).ok_or("no entry")?;
-    match entry.writes.as_slice().get(number) {
-        None => Ok(false),
-        Some(write) => Ok(is_row(write, map, key, &value) && has_value(store, map, key, &value)),
+// The identifier that an entry's fields make.
+fn id_of(entry: &Entry) -> TxId {
+    TxId {
+        view: entry.view,
+        seqno: entry.seqno,
     }
-}
-
-#[test]
-fn opens_with_places_of_two_entries(rt: HostRuntime) -> Result<(), Fail> {
-    let store = opened(rt.alloc(), ServiceState::Open)?;
-    assert_eq!(rt; store.ledger_len(), 2);
-    assert_eq!(rt; store.commit(), 2);
-    assert_eq!(rt; store.last_signature(), 2);
-    assert_eq!(rt; store.view_at(0), None);
-    assert_eq!(rt; store.view_at(1), Some(2));
-    assert_eq!(rt; store.view_at(3), None);
-    Ok(())
-}
-
-#[test]
-fn opens_with_the_rows_of_its_constitution(rt: HostRuntime) -> Result<(), Fail> {
-    let alloc = rt.alloc();
-    let store = opened(alloc, ServiceState::Open)?;
-    let map = b"public:ccf.gov.constitution";
-    let rule = [(1, 1), (0, 1), (2, 1), (0, 1)];
-    for action in 0..7u8 {
-        let number = usize::from(action);
-        assert!(rt; has_row(alloc, &store, number, map, &[action + 1], &rule)?);
-    }
-    Ok(())
-}
-
-#[test]
-fn opens_with_the_rows_of_its_members(rt: HostRuntime) -> Result<(), Fail> {
-    let alloc = rt.alloc();
-    let store = opened(alloc, ServiceState::Open)?;
-    let map = b"public:ccf.gov.dealing";
-    let dealing = [(1, 1), (5, 32), (2, 1), (1, 1), (6, 32), (2, 1), (6, 32)];
-    assert!(rt; has_row(alloc, &store, 7, map, b"d", &dealing)?);
-    let map = b"public:ccf.gov.members";
-    let member = [(1, 1), (3, 60), (0, 4)];
-    assert!(rt; has_row(alloc, &store, 8, map, &[1], &member)?);
-    let member = [(1, 1), (4, 60), (0, 4)];
-    assert!(rt; has_row(alloc, &store, 9, map, &[2], &member)?);
-    Ok(())
-}
-
-#[test]
-fn opens_with_the_rows_of_its_node_and_service(rt: HostRuntime) -> Result<(), Fail> {
-    let alloc = rt.alloc();
-    let store = opened(alloc, ServiceState::Open)?;
-    let node = [
-        (1, 1),
-        (0, 1),
-        (2, 1),
-        (7, 56),
-        (2, 1),
-        (0, 3),
-        (0xaa, 1),
-        (0xbb, 1),
-        (0, 8),
-    ];
-    let map = b"public:ccf.gov.nodes";
-    assert!(rt; has_row(alloc, &store, 10, map, &NODE, &node)?);
-    let service = [(2, 1), (0, 1), (9, 60)];
-    let map = b"public:ccf.gov.service";
-    assert!(rt; has_row(alloc, &store, 11, map, b"s", &service)?);
-    let entry = store.entry(1).ok_or("no entry")?;
-    assert_eq!(rt; entry.writes.as_slice().len(), 12);
-    Ok(())
-}
-
-#[test]
-fn opens_with_the_entries_of_its_genesis(rt: HostRuntime) -> Result<(), Fail> {
-    let alloc = rt.alloc();
-    let store = opened(alloc, ServiceState::Opening)?;
-    let head: &[(u8, usize)] = &[(1, 2), (9, 60)];
-    let node: &[(u8, usize)] = &[(1, 1), (7, 56), (2, 1), (0, 3), (0xaa, 1), (0xbb, 1)];
-    let members: &[(u8, usize)] = &[(2, 1), (1, 1), (3, 60), (2, 1), (4, 60)];
-    let dealing: &[(u8, usize)] = &[(1, 1), (5, 32), (2, 1), (1, 1), (6, 32), (2, 1), (6, 32)];
-    let mut request = Vec::new(alloc);
-    for part in [head, node, members, dealing] {
-        request.extend_from_slice(&runs(alloc, part)?)?;
-    }
-    let genesis = store.entry(1).ok_or("no entry")?;
-    assert_eq!(rt; genesis.view, 2);
-    assert_eq!(rt; genesis.seqno, 1);
-    assert!(rt;
-        matches!(&genesis.content, Content::Governance(bytes) if bytes.as_slice() == request.as_slice())
-    );
-    assert_eq!(rt; genesis.claims, [0; 32]);
-    let opening = store.entry(2).ok_or("no entry")?;
-    assert_eq!(rt; opening.view, 2);
-    assert_eq!(rt; opening.seqno, 2);
-    assert!(rt; is_signature_of(&opening.content, 2, &FIRST_LEAF));
-    assert_eq!(rt; opening.writes.as_slice().len(), 0);
-    assert_eq!(rt; opening.claims, [0; 32]);
-    Ok(())
 }
 
 // The node's signature, until keys sign, with this commit and this root.
@@ -262,28 +171,51 @@ fn is_signature_of(content: &Content, commit: u64, root: &Digest) -> bool {
     }
 }
 
+// Whether the content is a request of an application with these bytes.
+fn is_application_of(content: &Content, request: &[u8]) -> bool {
+    match content {
+        Content::Application(bytes) => bytes.as_slice() == request,
+        _ => false,
+    }
+}
+
+// Whether an entry writes this row alone.
+fn writes_row(entry: &Entry, map: &[u8], key: &[u8], value: &[u8]) -> bool {
+    match entry.writes.as_slice() {
+        [write] => is_row(write, map, key, value),
+        _ => false,
+    }
+}
+
 #[test]
-fn records_a_put_and_gives_its_last_value(rt: HostRuntime) -> Result<(), Fail> {
-    let alloc = rt.alloc();
-    let mut store = opened(alloc, ServiceState::Open)?;
-    let (id, reply) = execute(&mut store, 2, &put_request(alloc, b"public:t", &[1])?)?;
+fn records_a_put(rt: HostRuntime) -> Result<(), Fail> {
+    let mut store = opened(rt.alloc(), ServiceState::Open)?;
+    let request = put_request(rt.alloc(), b"public:t", &[1])?;
+    let (id, reply) = execute(&mut store, 2, &request)?;
     assert_eq!(rt; id, TxId { view: 2, seqno: 3 });
     assert!(rt; matches!(reply.as_slice(), [Answer::Done]));
     assert!(rt; has_value(&store, b"public:t", b"a", &[1]));
     let entry = store.entry(3).ok_or("no entry")?;
-    let request: &[u8] = b"\x01\x00\x03\x08public:t\x01\x00a\x01\x00\x00\x00\x01";
-    assert!(rt;
-        matches!(&entry.content, Content::Application(bytes) if bytes.as_slice() == request)
-    );
-    assert_eq!(rt; entry.view, 2);
-    assert_eq!(rt; entry.seqno, 3);
+    assert_eq!(rt; id_of(entry), id);
+    let request = b"\x01\x00\x03\x08public:t\x01\x00a\x01\x00\x00\x00\x01";
+    assert!(rt; is_application_of(&entry.content, request));
+    assert!(rt; writes_row(entry, b"public:t", b"a", &[1]));
     assert_eq!(rt; entry.claims, DONE);
-    match entry.writes.as_slice() {
-        [write] => assert!(rt; is_row(write, b"public:t", b"a", &[1])),
-        _ => assert!(rt; false, "one write"),
-    }
+    Ok(())
+}
+
+// A store with puts of 1 and 2 at one key and of 3 at another, the last in a later view.
+fn with_three_puts(alloc: Global) -> Result<Store, Fail> {
+    let mut store = opened(alloc, ServiceState::Open)?;
+    execute(&mut store, 2, &put_request(alloc, b"public:t", &[1])?)?;
     execute(&mut store, 2, &put_request(alloc, b"public:t", &[2])?)?;
     execute(&mut store, 3, &put_request(alloc, b"public:u", &[3])?)?;
+    Ok(store)
+}
+
+#[test]
+fn gives_the_last_value_of_a_key(rt: HostRuntime) -> Result<(), Fail> {
+    let store = with_three_puts(rt.alloc())?;
     assert!(rt; has_value(&store, b"public:t", b"a", &[2]));
     assert!(rt; has_value(&store, b"public:u", b"a", &[3]));
     assert!(rt; store.tables().get(b"public:t", b"b").is_none());
@@ -308,29 +240,40 @@ fn refusal_of(
     }
 }
 
+// What a store in this state refuses a put into a map with.
+fn refusal_in(alloc: Global, state: ServiceState, map: &[u8]) -> Result<Option<Refusal>, Fail> {
+    refusal_of(alloc, state, &put_request(alloc, map, &[1])?)
+}
+
+// The first operation fails with this cause.
+fn aborted(cause: Cause) -> Option<Refusal> {
+    Some(Refusal::Aborted(Abort {
+        operation: 1,
+        cause,
+    }))
+}
+
 #[test]
-fn refuses_closed_services_and_maps_that_are_no_applications(rt: HostRuntime) -> Result<(), Fail> {
-    let alloc = rt.alloc();
-    let not_public = Refusal::Aborted(Abort {
-        operation: 1,
-        cause: Cause::NotPublic,
-    });
-    let reserved = Refusal::Aborted(Abort {
-        operation: 1,
-        cause: Cause::Reserved,
-    });
-    let closed = Refusal::ServiceState(ServiceState::Opening);
-    let rows: [(ServiceState, &[u8], Option<Refusal>); 5] = [
-        (ServiceState::Open, b"public:ccf.gov", None),
-        (ServiceState::Open, b"private", Some(not_public)),
-        (ServiceState::Open, b"public:ccf.gov.nodes", Some(reserved)),
-        (ServiceState::Opening, b"public:t", Some(closed)),
-        (ServiceState::Opening, b"private", Some(closed)),
-    ];
-    for (state, map, want) in rows {
-        let request = put_request(alloc, map, &[1])?;
-        assert_eq!(rt; refusal_of(alloc, state, &request)?, want);
-    }
+fn refuses_maps_that_are_no_applications(rt: HostRuntime) -> Result<(), Fail> {
+    let (alloc, open) = (rt.alloc(), ServiceState::Open);
+    assert_eq!(rt; refusal_in(alloc, open, b"public:ccf.gov")?, None);
+    assert_eq!(rt;
+        refusal_in(alloc, open, b"private")?,
+        aborted(Cause::NotPublic)
+    );
+    assert_eq!(rt;
+        refusal_in(alloc, open, b"public:ccf.gov.nodes")?,
+        aborted(Cause::Reserved)
+    );
+    Ok(())
+}
+
+#[test]
+fn refuses_requests_to_a_closed_service(rt: HostRuntime) -> Result<(), Fail> {
+    let (alloc, opening) = (rt.alloc(), ServiceState::Opening);
+    let closed = Some(Refusal::ServiceState(opening));
+    assert_eq!(rt; refusal_in(alloc, opening, b"public:t")?, closed);
+    assert_eq!(rt; refusal_in(alloc, opening, b"private")?, closed);
     Ok(())
 }
 
@@ -345,12 +288,60 @@ fn large_puts(alloc: Global, count: u8) -> Result<Request, Fail> {
     Ok(Request::new(operations).ok_or("a request")?)
 }
 
+// What an open store refuses so many large puts with.
+fn refusal_of_puts(alloc: Global, count: u8) -> Result<Option<Refusal>, Fail> {
+    refusal_of(alloc, ServiceState::Open, &large_puts(alloc, count)?)
+}
+
 #[test]
 fn refuses_bodies_that_are_too_large(rt: HostRuntime) -> Result<(), Fail> {
-    let alloc = rt.alloc();
-    for (count, want) in [(7, None), (8, Some(Refusal::TooLarge { size: 1_048_903 }))] {
-        let request = large_puts(alloc, count)?;
-        assert_eq!(rt; refusal_of(alloc, ServiceState::Open, &request)?, want);
+    let too_large = Refusal::TooLarge { size: 1_048_903 };
+    assert_eq!(rt; refusal_of_puts(rt.alloc(), 7)?, None);
+    assert_eq!(rt; refusal_of_puts(rt.alloc(), 8)?, Some(too_large));
+    Ok(())
+}
+
+// Whether the last entry of a store is the node's signature, with this commit and this root.
+fn ends_with_signature(store: &Store, commit: u64, root: &Digest) -> bool {
+    match store.entry(store.ledger_len()) {
+        None => false,
+        Some(entry) => is_signature_of(&entry.content, commit, root),
     }
+}
+
+#[test]
+fn signs_and_commits(rt: HostRuntime) -> Result<(), Fail> {
+    let mut store = opened(rt.alloc(), ServiceState::Open)?;
+    let (put, _) = execute(&mut store, 2, &put_request(rt.alloc(), b"public:t", &[1])?)?;
+    assert_eq!(rt; store.status(put), Status::Pending);
+    let signed = sign(&mut store, 2)?;
+    assert_eq!(rt; signed, TxId { view: 2, seqno: 4 });
+    assert_eq!(rt; store.last_signature(), 4);
+    assert!(rt; ends_with_signature(&store, 2, &ROOT_BEHIND_PUT));
+    assert!(rt; store.commit() < signed.seqno);
+    store.commit_to(signed.seqno);
+    assert_eq!(rt; store.commit(), 4);
+    assert_eq!(rt; store.status(put), Status::Committed);
+    Ok(())
+}
+
+// The status of a transaction.
+fn status_of(store: &Store, view: u32, seqno: u64) -> Status {
+    store.status(TxId { view, seqno })
+}
+
+// With 4.4 committed and nothing held above it.
+#[test]
+fn tells_statuses(rt: HostRuntime) -> Result<(), Fail> {
+    let mut store = opened(rt.alloc(), ServiceState::Open)?;
+    sign(&mut store, 4)?;
+    let last = sign(&mut store, 4)?;
+    assert!(rt; store.commit() < last.seqno);
+    store.commit_to(last.seqno);
+    assert_eq!(rt; status_of(&store, 4, 4), Status::Committed);
+    assert_eq!(rt; status_of(&store, 3, 4), Status::Invalid);
+    assert_eq!(rt; status_of(&store, 3, 6), Status::Invalid);
+    assert_eq!(rt; status_of(&store, 4, 6), Status::Unknown);
+    assert_eq!(rt; status_of(&store, 5, 5), Status::Unknown);
     Ok(())
 }

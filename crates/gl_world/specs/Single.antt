@@ -1,4 +1,4 @@
--- A service of one node, and the events of which its schedules are made by now.
+-- A service of one node, and the events of which its schedules are made for now.
 use Rattle.std.specs.Prelude.{◌≡◌, ◌≤◌, List, [], ◌∷◌, true}
 use Rattle.gl_rules.specs.Identity.{NodeId}
 use Rattle.gl_rules.specs.World.{Timeout, Deliver, Submit, Finish, Govern, Reserve, Sign, Evidence, Replicate, Advance, StepDown, Restart, Install}

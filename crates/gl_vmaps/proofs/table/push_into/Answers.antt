@@ -18,6 +18,6 @@ returns-in_ok-push_back-in-Some-clause-ok c =
 
 pub returns-in_ok-insert-in-None-clause-ok : goal.returns-in_ok-insert-in-None-clause-ok
 returns-in_ok-insert-in-None-clause-ok c =
-    chains_by-new c.args.rows.now c.get_mut.follows.lender-at-none c.insert.new.self c.args.key.now c.in_ok-from_slice-in-None.field-0 c.new-chain.result c.push_back-in-None.new.self c.args.version
+    chains_by-new c.args.rows.now c.get_mut.follows.lender-at-none c.insert.new.self c.args.key.now c.in_ok-from_slice-in-None.field-0 c.in_ok-chain-in-None.chain c.push_back-in-None.new.self c.args.version
     c.get_mut.follows.holds-at-none (sym c.in-None.ensures.value) c.in_ok-insert-in-None.ensures.updates
-    c.in_ok-from_slice-in-None.ensures.items c.new-chain.ensures.items c.in_ok-push_back-in-None.ensures.items
+    c.in_ok-from_slice-in-None.ensures.items c.in_ok-chain-in-None.ensures.items c.in_ok-push_back-in-None.ensures.items

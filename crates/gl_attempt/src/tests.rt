@@ -71,29 +71,42 @@ fn tell(alloc: Global, finished: &Result<Ran, OrNoMemory<TxFault>>) -> Result<St
     Ok(out)
 }
 
+/// Whether an attempt finishes so on these tables and at this count of cuts.
+fn ends_as(
+    alloc: Global,
+    attempt: &Attempt,
+    tables: &Tables,
+    cuts: u64,
+    want: &str,
+) -> Result<bool, Fail>
+    requires { next_of attempt.now ≡ None }
+{
+    Ok(tell(alloc, &attempt.finish(tables, cuts))?.as_str() == want)
+}
+
 #[test]
-fn finishes_unless_what_was_read_has_changed(rt: HostRuntime) -> Result<(), Fail> {
+fn finishes_unless_a_row_that_was_read_has_changed(rt: HostRuntime) -> Result<(), Fail> {
     let alloc = rt.alloc();
     let before = tables_at(alloc, 3, PUT)?;
     let after = tables_at(alloc, 5, PUT)?;
     let get = attempt(alloc, GET, &before)?;
+    assert!(rt; ends_as(alloc, &get, &before, 0, "ran 1")?);
+    assert!(rt; ends_as(alloc, &get, &after, 0, "conflict [97] 4 5")?);
+    assert!(rt; ends_as(alloc, &get, &before, 1, "rolled back 0 1")?);
+    Ok(())
+}
+
+#[test]
+fn finishes_unless_a_map_that_was_read_has_changed(rt: HostRuntime) -> Result<(), Fail> {
+    let alloc = rt.alloc();
+    let before = tables_at(alloc, 3, PUT)?;
+    let after = tables_at(alloc, 5, PUT)?;
     let size = attempt(alloc, SIZE, &before)?;
+    assert!(rt; ends_as(alloc, &size, &before, 0, "ran 1")?);
+    let conflict = "conflict [112, 117, 98, 108, 105, 99, 58, 116] 4 5";
+    assert!(rt; ends_as(alloc, &size, &after, 0, conflict)?);
     let put = attempt(alloc, PUT, &before)?;
-    let rows = [
-        (get.finish(&before, 0), "ran 1"),
-        (get.finish(&after, 0), "conflict [97] 4 5"),
-        (get.finish(&before, 1), "rolled back 0 1"),
-        (size.finish(&before, 0), "ran 1"),
-        (
-            size.finish(&after, 0),
-            "conflict [112, 117, 98, 108, 105, 99, 58, 116] 4 5",
-        ),
-        (put.finish(&after, 0), "ran 1"),
-    ];
-    for (finished, want) in &rows {
-        let told = tell(alloc, finished)?;
-        assert_eq!(rt; told.as_str(), *want);
-    }
+    assert!(rt; ends_as(alloc, &put, &after, 0, "ran 1")?);
     Ok(())
 }
 
@@ -103,7 +116,6 @@ fn notes_each_row_once_and_none_that_it_wrote_itself(rt: HostRuntime) -> Result<
     let many = attempt(rt.alloc(), MANY, &tables)?;
     // 61 of t; 01 of u, which 62 of t was written to; t; and whether 62 was in t.
     assert_eq!(rt; many.reads().as_slice().len(), 4);
-    let told = tell(rt.alloc(), &many.finish(&tables, 0))?;
-    assert_eq!(rt; told.as_str(), "ran 5");
+    assert!(rt; ends_as(rt.alloc(), &many, &tables, 0, "ran 5")?);
     Ok(())
 }

@@ -1,7 +1,8 @@
 use crate::{Answer, Operation, Reply, Request};
 use gl_base::{CodeFault, CutFault, OrNoMemory};
 use gl_vmaps::{Key, MapName, Value};
-use std::test::*;
+use std::alloc::Global;
+use std::test::Fail;
 
 /// `01` is put at the key `61` of the map `public:t`.
 const ONE_PUT: &[u8] = b"\x01\x00\x03\x08public:t\x01\x00a\x01\x00\x00\x00\x01";
@@ -98,87 +99,92 @@ fn writes_a_put(rt: HostRuntime) -> Result<(), Fail> {
     Ok(())
 }
 
-#[test]
-fn tells_the_first_fault_of_a_request(rt: HostRuntime) {
-    let rows: [(&[u8], CodeFault); 17] = [
-        (b"\x00\x00", CodeFault::Value { at: 0 }),
-        (b"\x41\x00", CodeFault::Value { at: 0 }),
-        (b"\x01\x01", CodeFault::Value { at: 0 }),
-        (b"\x01\x00\x00", CodeFault::Value { at: 2 }),
-        (b"\x01\x00\x09", CodeFault::Value { at: 2 }),
-        (b"\x01\x00\x08\x00", CodeFault::Value { at: 3 }),
-        (
-            b"\x01\x00\x08\x81",
-            CodeFault::Cut(CutFault::TooLong { at: 3, len: 129 }),
-        ),
-        (
-            b"\x01\x00\x08\x02a ",
-            CodeFault::Cut(CutFault::NotText { at: 5 }),
-        ),
-        (b"\x01\x00\x01\x01m\x00\x00", CodeFault::Value { at: 5 }),
-        (
-            b"\x01\x00\x01\x01m\x01\x04",
-            CodeFault::Cut(CutFault::TooLong { at: 5, len: 1025 }),
-        ),
-        (
-            b"\x01\x00\x03\x01m\x01\x00k\x01\x00\x01\x00",
-            CodeFault::Cut(CutFault::TooLong { at: 8, len: 65_537 }),
-        ),
-        (
-            b"\x01\x00\x06\x01m\x01\x00k\x02",
-            CodeFault::Value { at: 8 },
-        ),
-        (
-            b"\x01\x00\x07\x01m\x01\x00k\x00",
-            CodeFault::Value { at: 8 },
-        ),
-        (b"\x02\x00\x08\x01m\x09", CodeFault::Value { at: 5 }),
-        (b"\x01\x00\x08\x01m\x00", CodeFault::Trailing { at: 5 }),
-        (
-            b"\x02\x00\x08\x01m",
-            CodeFault::Cut(CutFault::Short { at: 5 }),
-        ),
-        (
-            b"\x01\x00\x05\x01m\x01\x00k\x00\x00\x00",
-            CodeFault::Cut(CutFault::Short { at: 11 }),
-        ),
-    ];
-    for (bytes, fault) in rows {
-        let read = Request::decode(rt.alloc(), bytes).err();
-        assert_eq!(rt; read, Some(OrNoMemory::Fault(fault)), "of {bytes:?}");
-    }
+/// Whether this is the first fault of bytes that are read as a request.
+fn is_request_fault(alloc: Global, bytes: &[u8], fault: CodeFault) -> bool {
+    Request::decode(alloc, bytes).err() == Some(OrNoMemory::Fault(fault))
+}
+
+/// Whether this is the first fault of bytes that are read as a reply.
+fn is_reply_fault(alloc: Global, bytes: &[u8], fault: CodeFault) -> bool {
+    Reply::decode(alloc, bytes).err() == Some(OrNoMemory::Fault(fault))
+}
+
+fn bad_value(at: usize) -> CodeFault {
+    CodeFault::Value { at }
+}
+
+fn too_long(at: usize, len: u64) -> CodeFault {
+    CodeFault::Cut(CutFault::TooLong { at, len })
+}
+
+fn short(at: usize) -> CodeFault {
+    CodeFault::Cut(CutFault::Short { at })
 }
 
 #[test]
-fn tells_the_first_fault_of_a_reply(rt: HostRuntime) {
-    let rows: [(&[u8], CodeFault); 6] = [
-        (b"\x00\x00", CodeFault::Value { at: 0 }),
-        (b"\x41\x00", CodeFault::Value { at: 0 }),
-        (b"\x01\x00\x06", CodeFault::Value { at: 2 }),
-        (
-            b"\x01\x00\x02\x01\x00\x01\x00",
-            CodeFault::Cut(CutFault::TooLong { at: 3, len: 65_537 }),
-        ),
-        (b"\x02\x00\x00\x06", CodeFault::Value { at: 3 }),
-        (b"\x01\x00\x00\x00", CodeFault::Trailing { at: 3 }),
-    ];
-    for (bytes, fault) in rows {
-        let read = Reply::decode(rt.alloc(), bytes).err();
-        assert_eq!(rt; read, Some(OrNoMemory::Fault(fault)), "of {bytes:?}");
-    }
+fn tells_a_count_that_is_none(rt: HostRuntime) {
+    let alloc = rt.alloc();
+    assert!(rt; is_request_fault(alloc, b"\x00\x00", bad_value(0)));
+    assert!(rt; is_request_fault(alloc, b"\x41\x00", bad_value(0)));
+    assert!(rt; is_request_fault(alloc, b"\x01\x01", bad_value(0)));
+    assert!(rt; is_reply_fault(alloc, b"\x00\x00", bad_value(0)));
+    assert!(rt; is_reply_fault(alloc, b"\x41\x00", bad_value(0)));
+}
+
+#[test]
+fn tells_a_tag_that_is_none(rt: HostRuntime) {
+    let alloc = rt.alloc();
+    assert!(rt; is_request_fault(alloc, b"\x01\x00\x00", bad_value(2)));
+    assert!(rt; is_request_fault(alloc, b"\x01\x00\x09", bad_value(2)));
+    assert!(rt; is_request_fault(alloc, b"\x02\x00\x08\x01m\x09", bad_value(5)));
+    assert!(rt; is_reply_fault(alloc, b"\x01\x00\x06", bad_value(2)));
+    assert!(rt; is_reply_fault(alloc, b"\x02\x00\x00\x06", bad_value(3)));
+}
+
+#[test]
+fn tells_a_name_that_is_none(rt: HostRuntime) {
+    let alloc = rt.alloc();
+    assert!(rt; is_request_fault(alloc, b"\x01\x00\x08\x00", bad_value(3)));
+    assert!(rt; is_request_fault(alloc, b"\x01\x00\x08\x81", too_long(3, 129)));
+    let not_text = CodeFault::Cut(CutFault::NotText { at: 5 });
+    assert!(rt; is_request_fault(alloc, b"\x01\x00\x08\x02a ", not_text));
+    assert!(rt; is_request_fault(alloc, b"\x01\x00\x07\x01m\x01\x00k\x00", bad_value(8)));
+}
+
+#[test]
+fn tells_a_key_or_a_value_that_is_none(rt: HostRuntime) {
+    let alloc = rt.alloc();
+    assert!(rt; is_request_fault(alloc, b"\x01\x00\x01\x01m\x00\x00", bad_value(5)));
+    assert!(rt; is_request_fault(alloc, b"\x01\x00\x01\x01m\x01\x04", too_long(5, 1025)));
+    let put = b"\x01\x00\x03\x01m\x01\x00k\x01\x00\x01\x00";
+    assert!(rt; is_request_fault(alloc, put, too_long(8, 65_537)));
+    assert!(rt; is_request_fault(alloc, b"\x01\x00\x06\x01m\x01\x00k\x02", bad_value(8)));
+    assert!(rt; is_reply_fault(alloc, b"\x01\x00\x02\x01\x00\x01\x00", too_long(3, 65_537)));
+}
+
+#[test]
+fn tells_an_end_at_another_place(rt: HostRuntime) {
+    let alloc = rt.alloc();
+    let trailing = CodeFault::Trailing { at: 5 };
+    assert!(rt; is_request_fault(alloc, b"\x01\x00\x08\x01m\x00", trailing));
+    assert!(rt; is_request_fault(alloc, b"\x02\x00\x08\x01m", short(5)));
+    assert!(rt; is_request_fault(alloc, b"\x01\x00\x05\x01m\x01\x00k\x00\x00\x00", short(11)));
+    assert!(rt; is_reply_fault(alloc, b"\x01\x00\x00\x00", CodeFault::Trailing { at: 3 }));
 }
 
 #[test]
 fn is_short_wherever_it_is_cut(rt: HostRuntime) {
     for end in 0..ONE_PUT.len() {
-        let read = Request::decode(rt.alloc(), &ONE_PUT[..end]).err();
-        let short = CodeFault::Cut(CutFault::Short { at: end });
-        assert_eq!(rt; read, Some(OrNoMemory::Fault(short)));
+        assert!(rt;
+            is_request_fault(rt.alloc(), &ONE_PUT[..end], short(end)),
+            "at {end}"
+        );
     }
     for end in 0..ANSWERS.len() {
-        let read = Reply::decode(rt.alloc(), &ANSWERS[..end]).err();
-        let short = CodeFault::Cut(CutFault::Short { at: end });
-        assert_eq!(rt; read, Some(OrNoMemory::Fault(short)));
+        assert!(rt;
+            is_reply_fault(rt.alloc(), &ANSWERS[..end], short(end)),
+            "at {end}"
+        );
     }
 }
 

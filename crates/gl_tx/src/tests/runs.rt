@@ -7,93 +7,77 @@ use std::alloc::{AllocError, Global};
 use std::str;
 use std::test::Fail;
 
-const MAP: &[u8] = b"public:t";
+const MAP: &str = "public:t";
 
-/// An operation, as the rows of a test have it. Those without a map are on `public:t`.
-#[derive(Clone, Copy)]
-enum Step<'a> {
-    Get(&'a [u8]),
-    Has(&'a [u8]),
-    Put(&'a [u8], &'a [u8]),
-    PutTo(&'a [u8], &'a [u8], &'a [u8]),
-    Remove(&'a [u8]),
-    Add(&'a [u8], u64),
-    Check(&'a [u8], Option<&'a [u8]>),
-    Follow(&'a [u8], &'a [u8]),
-    Size,
-}
-
-fn map_name(alloc: Global, map: &[u8]) -> Result<MapName, Fail> {
-    let map = MapName::new(Vec::from_slice(alloc, map)?).ok_or("no name of a map")?;
+fn map_name(alloc: Global, map: &str) -> Result<MapName, Fail> {
+    let map = MapName::new(map.as_bytes().to_vec(alloc)?).ok_or("no name of a map")?;
     Ok(map)
 }
 
-fn key(alloc: Global, key: &[u8]) -> Result<Key, Fail> {
-    let key = Key::new(Vec::from_slice(alloc, key)?).ok_or("no key")?;
+fn key(alloc: Global, key: &str) -> Result<Key, Fail> {
+    let key = Key::new(key.as_bytes().to_vec(alloc)?).ok_or("no key")?;
     Ok(key)
 }
 
-fn value(alloc: Global, value: &[u8]) -> Result<Value, Fail> {
-    let value = Value::new(Vec::from_slice(alloc, value)?).ok_or("no value")?;
+fn value(alloc: Global, value: &str) -> Result<Value, Fail> {
+    let value = Value::new(value.as_bytes().to_vec(alloc)?).ok_or("no value")?;
     Ok(value)
 }
 
-fn put(alloc: Global, map: &[u8], at: &[u8], to: &[u8]) -> Result<Operation, Fail> {
-    Ok(Operation::Put {
-        map: map_name(alloc, map)?,
-        key: key(alloc, at)?,
-        value: value(alloc, to)?,
-    })
-}
-
-fn check(alloc: Global, at: &[u8], expected: Option<&[u8]>) -> Result<Operation, Fail> {
-    let expected = match expected {
-        None => None,
-        Some(expected) => Some(value(alloc, expected)?),
-    };
-    Ok(Operation::Check {
-        map: map_name(alloc, MAP)?,
-        key: key(alloc, at)?,
-        expected,
-    })
-}
-
-fn operation(alloc: Global, step: Step<'_>) -> Result<Operation, Fail> {
-    let map = map_name(alloc, MAP)?;
-    match step {
-        Step::Get(at) => Ok(Operation::Get {
+/// The operation of a name, a row and the word behind them. `absent` checks that a key has no value.
+fn row_operation(
+    alloc: Global,
+    name: &str,
+    map: MapName,
+    key: Key,
+    last: &str,
+) -> Result<Operation, Fail> {
+    match name {
+        "get" => Ok(Operation::Get { map, key }),
+        "has" => Ok(Operation::Has { map, key }),
+        "put" => {
+            let value = value(alloc, last)?;
+            Ok(Operation::Put { map, key, value })
+        }
+        "remove" => Ok(Operation::Remove { map, key }),
+        "add" => {
+            let amount = last.parse::<u64>()?;
+            Ok(Operation::Add { map, key, amount })
+        }
+        "absent" => Ok(Operation::Check {
             map,
-            key: key(alloc, at)?,
+            key,
+            expected: None,
         }),
-        Step::Has(at) => Ok(Operation::Has {
-            map,
-            key: key(alloc, at)?,
-        }),
-        Step::Put(at, to) => put(alloc, MAP, at, to),
-        Step::PutTo(map, at, to) => put(alloc, map, at, to),
-        Step::Remove(at) => Ok(Operation::Remove {
-            map,
-            key: key(alloc, at)?,
-        }),
-        Step::Add(at, amount) => Ok(Operation::Add {
-            map,
-            key: key(alloc, at)?,
-            amount,
-        }),
-        Step::Check(at, expected) => check(alloc, at, expected),
-        Step::Follow(at, target) => Ok(Operation::Follow {
-            map,
-            key: key(alloc, at)?,
-            target: map_name(alloc, target)?,
-        }),
-        Step::Size => Ok(Operation::Size { map }),
+        "check" => {
+            let expected = Some(value(alloc, last)?);
+            Ok(Operation::Check { map, key, expected })
+        }
+        "follow" => {
+            let target = map_name(alloc, last)?;
+            Ok(Operation::Follow { map, key, target })
+        }
+        _ => Err("no operation")?,
     }
 }
 
-fn request(alloc: Global, steps: &[Step<'_>]) -> Result<Request, Fail> {
+/// The operation on a map that words spell. A value that isn't there is the empty one.
+fn operation(alloc: Global, map: &str, text: &str) -> Result<Operation, Fail> {
+    let mut words = text.split_whitespace();
+    let name = words.next().unwrap_or("");
+    let map = map_name(alloc, map)?;
+    if name == "size" {
+        return Ok(Operation::Size { map });
+    }
+    let key = key(alloc, words.next().unwrap_or(""))?;
+    row_operation(alloc, name, map, key, words.next().unwrap_or(""))
+}
+
+/// The request on a map whose operations stand between semicolons.
+fn request(alloc: Global, map: &str, text: &str) -> Result<Request, Fail> {
     let mut operations = Vec::new(alloc);
-    for step in steps {
-        operations.push(operation(alloc, *step)?)?;
+    for part in text.split(';') {
+        operations.push(operation(alloc, map, part)?)?;
     }
     let request = Request::new(operations).ok_or("no request")?;
     Ok(request)
@@ -140,130 +124,114 @@ fn told(alloc: Global, ran: &Result<Ran, OrNoMemory<Abort>>) -> Result<String, F
     Ok(out)
 }
 
-/// What a request comes to on the tables that another one made, if it has operations.
-fn played(alloc: Global, before: &[Step<'_>], steps: &[Step<'_>]) -> Result<String, Fail> {
+/// What a request on a map comes to on the tables that another one made, if it has operations.
+fn played(alloc: Global, map: &str, before: &str, text: &str) -> Result<String, Fail> {
     let mut tables = Tables::new(alloc);
     if !before.is_empty() {
-        let ran = run(alloc, &request(alloc, before)?, &tables)?;
+        let ran = run(alloc, &request(alloc, map, before)?, &tables)?;
         tables.apply(1, &ran.writes)?;
     }
-    let request = request(alloc, steps)?;
+    let request = request(alloc, map, text)?;
     told(alloc, &run(alloc, &request, &tables))
+}
+
+/// Whether a request comes to this on the tables that another one made.
+fn comes_to(alloc: Global, before: &str, text: &str, want: &str) -> Result<bool, Fail> {
+    Ok(played(alloc, MAP, before, text)?.as_str() == want)
+}
+
+#[test]
+fn adds(rt: HostRuntime) -> Result<(), Fail> {
+    let alloc = rt.alloc();
+    assert!(rt; comes_to(alloc, "", "add k 5", "5 / k=[5, 0, 0, 0, 0, 0, 0, 0] ")?);
+    assert!(rt; comes_to(alloc, "put k 1234567", "add k 5", "1 NotNumber ")?);
+    assert!(rt;
+        comes_to(
+            alloc,
+            "add k 5",
+            "add k 18446744073709551611",
+            "1 Overflow "
+        )?
+    );
+    let most = "18446744073709551615 / k=[255, 255, 255, 255, 255, 255, 255, 255] ";
+    assert!(rt; comes_to(alloc, "add k 5", "add k 18446744073709551610", most)?);
+    Ok(())
 }
 
 #[test]
 fn answers_on_the_tables_of_an_earlier_run(rt: HostRuntime) -> Result<(), Fail> {
-    let before: &[Step<'_>] = &[Step::Add(b"k", 5)];
-    let rows: [(&[Step<'_>], &str); 10] = [
-        (&[Step::Add(b"k", u64::MAX)], "1 Overflow "),
-        (
-            &[Step::Add(b"k", u64::MAX - 5)],
-            "18446744073709551615 / k=[255, 255, 255, 255, 255, 255, 255, 255] ",
-        ),
-        (&[Step::Check(b"a", None)], "done / "),
-        (&[Step::Check(b"k", None)], "1 Check "),
-        (&[Step::Check(b"a", Some(b""))], "1 Check "),
-        (&[Step::Follow(b"a", MAP)], "none / "),
-        (&[Step::Size], "1 / "),
-        (&[Step::Get(b"k")], "[5, 0, 0, 0, 0, 0, 0, 0] / "),
-        (&[Step::Remove(b"a")], "no / -a "),
-        (&[Step::Remove(b"k")], "yes / -k "),
-    ];
-    for (steps, want) in rows {
-        let told = played(rt.alloc(), before, steps)?;
-        assert_eq!(rt; told.as_str(), want);
-    }
+    let alloc = rt.alloc();
+    assert!(rt; comes_to(alloc, "put k 5", "get k", "[53] / ")?);
+    assert!(rt; comes_to(alloc, "put k 5", "size", "1 / ")?);
+    assert!(rt; comes_to(alloc, "put k 5", "remove a", "no / -a ")?);
+    assert!(rt; comes_to(alloc, "put k 5", "remove k", "yes / -k ")?);
     Ok(())
 }
 
 #[test]
-fn adds_to_nothing_and_to_no_number(rt: HostRuntime) -> Result<(), Fail> {
-    let add: &[Step<'_>] = &[Step::Add(b"k", 5)];
-    let told = played(rt.alloc(), &[], add)?;
-    assert_eq!(rt; told.as_str(), "5 / k=[5, 0, 0, 0, 0, 0, 0, 0] ");
-    let told = played(rt.alloc(), &[Step::Put(b"k", b"1234567")], add)?;
-    assert_eq!(rt; told.as_str(), "1 NotNumber ");
+fn checks(rt: HostRuntime) -> Result<(), Fail> {
+    let alloc = rt.alloc();
+    assert!(rt; comes_to(alloc, "put k 5", "absent a", "done / ")?);
+    assert!(rt; comes_to(alloc, "put k 5", "absent k", "1 Check ")?);
+    assert!(rt; comes_to(alloc, "put k 5", "check a", "1 Check ")?);
+    assert!(rt; comes_to(alloc, "put k 5", "check k 5", "done / ")?);
     Ok(())
+}
+
+/// Whether an empty value that is put into a map comes to this.
+fn put_comes_to(alloc: Global, map: &str, want: &str) -> Result<bool, Fail> {
+    Ok(played(alloc, map, "", "put k")?.as_str() == want)
 }
 
 #[test]
 fn bars_maps_that_are_not_public_or_reserved(rt: HostRuntime) -> Result<(), Fail> {
-    let rows: [(&[u8], &str); 5] = [
-        (b"private:t", "1 NotPublic "),
-        (b"public:ccf.gov.x", "1 Reserved "),
-        (b"public:ccf.internal.x", "1 Reserved "),
-        (b"public:ccf.gov", "done / k=[] "),
-        (b"public:", "done / k=[] "),
-    ];
-    for (map, want) in rows {
-        let told = played(rt.alloc(), &[], &[Step::PutTo(map, b"k", b"")])?;
-        assert_eq!(rt; told.as_str(), want);
-    }
+    let alloc = rt.alloc();
+    assert!(rt; put_comes_to(alloc, "private:t", "1 NotPublic ")?);
+    assert!(rt; put_comes_to(alloc, "public:ccf.gov.x", "1 Reserved ")?);
+    assert!(rt; put_comes_to(alloc, "public:ccf.internal.x", "1 Reserved ")?);
+    assert!(rt; put_comes_to(alloc, "public:ccf.gov", "done / k=[] ")?);
+    assert!(rt; put_comes_to(alloc, "public:", "done / k=[] ")?);
     Ok(())
 }
 
 #[test]
 fn answers_by_what_earlier_operations_wrote(rt: HostRuntime) -> Result<(), Fail> {
-    let before: &[Step<'_>] = &[Step::Put(b"a", b"1"), Step::Put(b"b", b"2")];
-    let rows: [(&[Step<'_>], &str); 3] = [
-        (
-            &[
-                Step::Put(b"c", b"3"),
-                Step::Remove(b"a"),
-                Step::Put(b"c", b"4"),
-                Step::Get(b"c"),
-                Step::Has(b"a"),
-                Step::Size,
-                Step::Add(b"a", 1),
-                Step::Size,
-                Step::Remove(b"d"),
-                Step::Size,
-            ],
-            "done yes done [52] no 2 1 3 no 3 / a=[1, 0, 0, 0, 0, 0, 0, 0] c=[52] -d ",
-        ),
-        (
-            &[
-                Step::Put(b"z", b"1"),
-                Step::Put(b"y", b"2"),
-                Step::Check(b"z", Some(b"1")),
-            ],
-            "done done done / y=[50] z=[49] ",
-        ),
-        (
-            &[
-                Step::Put(b"a", b"3"),
-                Step::Size,
-                Step::Add(b"a", 1),
-                Step::Size,
-            ],
-            "3 NotNumber ",
-        ),
-    ];
-    for (steps, want) in rows {
-        let told = played(rt.alloc(), before, steps)?;
-        assert_eq!(rt; told.as_str(), want);
-    }
+    let alloc = rt.alloc();
+    let before = "put a 1; put b 2";
+    let text = "put c 3; remove a; put c 4; get c; has a; size; add a 1; size; remove d; size";
+    let want = "done yes done [52] no 2 1 3 no 3 / a=[1, 0, 0, 0, 0, 0, 0, 0] c=[52] -d ";
+    assert!(rt; comes_to(alloc, before, text, want)?);
+    let ordered = "done done done / y=[50] z=[49] ";
+    assert!(rt; comes_to(alloc, before, "put z 1; put y 2; check z 1", ordered)?);
+    assert!(rt;
+        comes_to(
+            alloc,
+            before,
+            "put a 3; size; add a 1; size",
+            "3 NotNumber "
+        )?
+    );
     Ok(())
+}
+
+/// The text of a put of a value of so many bytes.
+fn long_put(alloc: Global, len: usize) -> Result<String, Fail> {
+    let mut text = String::from_str(alloc, "put a ")?;
+    for _ in 0..len {
+        text.push('k')?;
+    }
+    Ok(text)
 }
 
 #[test]
 fn follows_a_value_that_is_a_key(rt: HostRuntime) -> Result<(), Fail> {
-    let long = vec![in rt.alloc(); b'k'; 1024]?;
-    let too_long = vec![in rt.alloc(); b'k'; 1025]?;
-    let rows: [(&[u8], &[u8], &str); 5] = [
-        (b"", MAP, "1 BadKey "),
-        (&too_long, MAP, "1 BadKey "),
-        (&long, MAP, "none / "),
-        (b"a", MAP, "[97] / "),
-        (b"a", b"public:ccf.gov.x", "1 Reserved "),
-    ];
-    for (value, target, want) in rows {
-        let told = played(
-            rt.alloc(),
-            &[Step::Put(b"a", value)],
-            &[Step::Follow(b"a", target)],
-        )?;
-        assert_eq!(rt; told.as_str(), want);
-    }
+    let alloc = rt.alloc();
+    let follow = "follow a public:t";
+    assert!(rt; comes_to(alloc, "put a a", follow, "[97] / ")?);
+    assert!(rt; comes_to(alloc, "put a", follow, "1 BadKey ")?);
+    assert!(rt; comes_to(alloc, &long_put(alloc, 1024)?, follow, "none / ")?);
+    assert!(rt; comes_to(alloc, &long_put(alloc, 1025)?, follow, "1 BadKey ")?);
+    assert!(rt; comes_to(alloc, "put a a", "follow b public:t", "none / ")?);
+    assert!(rt; comes_to(alloc, "put a a", "follow a public:ccf.gov.x", "1 Reserved ")?);
     Ok(())
 }

@@ -8,10 +8,4 @@ pub mod Formats
 pub mod Writing
 pub mod RunLaws
 pub mod Written
-pub mod Alike
-pub mod Bounded
-pub mod AskLaws
-pub mod Fetching
-pub mod NotedSizes
-pub mod AttemptLaws
 pub mod Limits

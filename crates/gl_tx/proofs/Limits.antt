@@ -10,7 +10,7 @@ use Rattle.gl_vmaps.proofs.WriteLaws.{within-with_write}
 use Rattle.gl_tx.specs.Request.{is_row, is_u64, is_operation}
 use Rattle.gl_tx.specs.Run.{answer_only, answer_and_write, yes_or_no, value_or_none, sum_result, add_result, is_expected, check_result, follow_result, bar_on, unless_barred, on_seen, perform_result, with_writes, with_answer, goes_on, run_from}
 use Rattle.gl_tx.specs.Sees.{Sees, has_key, behind}
-use Rattle.gl_tx.specs.declared.perform.Performed.{Performed}
+use Rattle.gl_tx.specs.declared.performed.Performed.{Performed}
 use Rattle.gl_tx.specs.declared.runs.Ran.{Ran}
 use Rattle.gl_tx.specs.declared.request.Operation.{Operation}
 use Rattle.gl_tx.specs.declared.request.Operation.TheVariants.{Get, Has, Put, Remove, Add, Check, Follow, Size}

@@ -9,83 +9,82 @@ use Rattle.gl_vmaps.specs.Writes.{write_order, put_before, with_write}
 use Rattle.gl_vmaps.specs.declared.write.Write.{Write}
 use Rattle.gl_tx.specs.Sees.{Sees, behind}
 use Rattle.gl_tx.specs.Run.{answer_only, answer_and_write, value_or_none, sum_result, add_result, is_expected, check_result, follow_result, bar_on_map, bar_on_either, bar_on, unless_barred, on_seen, perform_result, with_answer, goes_on, run_from, run_seeing, with_writes}
-use Rattle.gl_tx.specs.declared.perform.Performed.{Performed}
+use Rattle.gl_tx.specs.declared.performed.Performed.{Performed}
 use Rattle.gl_tx.specs.declared.runs.Ran.{Ran}
 use Rattle.gl_tx.specs.declared.abort.Abort.{Abort}
 use Rattle.gl_tx.specs.declared.abort.Cause.{Cause}
 use Rattle.gl_tx.specs.declared.abort.Cause.TheVariants as causes
-use Rattle.gl_tx.specs.declared.notes.Ask.{Ask}
-use Rattle.gl_tx.specs.declared.notes.Ask.TheVariants as asks
 use Rattle.gl_tx.specs.declared.request.Answer.{Answer}
 use Rattle.gl_tx.specs.declared.request.Answer.TheVariants as answers
 use Rattle.gl_tx.specs.declared.request.Operation.{Operation}
 use Rattle.gl_tx.specs.declared.request.Operation.TheVariants.{Get, Has, Put, Remove, Add, Check, Follow, Size}
 
--- the row of a write
-abbrev pub row_of : Write → Ask
-row_of w = asks.Row w.map w.key
+-- the row of a write: its map and its key
+abbrev pub row_of : Write → List ℕ × List ℕ
+row_of w = (w.map, w.key)
 
--- what an operation names
-abbrev pub own_ask : Operation → Ask
-own_ask (Get map key) = asks.Row map key
-own_ask (Has map key) = asks.Row map key
-own_ask (Put map key value) = asks.Row map key
-own_ask (Remove map key) = asks.Row map key
-own_ask (Add map key amount) = asks.Row map key
-own_ask (Check map key expected) = asks.Row map key
-own_ask (Follow map key target) = asks.Row map key
-own_ask (Size map) = asks.Map map
+-- the row that an operation names, if it names one
+abbrev pub own_row : Operation → Option (List ℕ × List ℕ)
+own_row (Get map key) = Some (map, key)
+own_row (Has map key) = Some (map, key)
+own_row (Put map key value) = Some (map, key)
+own_row (Remove map key) = Some (map, key)
+own_row (Add map key amount) = Some (map, key)
+own_row (Check map key expected) = Some (map, key)
+own_row (Follow map key target) = Some (map, key)
+own_row (Size map) = None
 
-abbrev pub OwnRow : Ask → Option Write → Type 0
-OwnRow ask None = Unit {0}
-OwnRow ask (Some w) = ask ≡ row_of w
+-- a write, if there is one, is to this row
+abbrev pub IsTo : Option (List ℕ × List ℕ) → Option Write → Type 0
+IsTo row None = Unit {0}
+IsTo row (Some w) = row ≡ Some (row_of w)
 
-abbrev pub WritesOwn : Ask → Result Performed Cause → Type 0
-WritesOwn ask (Err cause) = Unit {0}
-WritesOwn ask (Ok done) = OwnRow ask done.write
+abbrev pub WritesTo : Option (List ℕ × List ℕ) → Result Performed Cause → Type 0
+WritesTo row (Err cause) = Unit {0}
+WritesTo row (Ok done) = IsTo row done.write
 
-own_sum : (map key : List ℕ) (sum : ℕ) → WritesOwn (asks.Row map key) (sum_result map key sum)
+own_sum : (map key : List ℕ) (sum : ℕ) → WritesTo (Some (map, key)) (sum_result map key sum)
 own_sum map key sum = go (nat_lt sum (2 ^ 64))
   where
-    go : (b : Bool) → WritesOwn (asks.Row map key) (cond b (answer_and_write (answers.Number sum) map key (Some (little_endian 8 sum))) (Err causes.Overflow))
+    go : (b : Bool) → WritesTo (Some (map, key)) (cond b (answer_and_write (answers.Number sum) map key (Some (little_endian 8 sum))) (Err causes.Overflow))
     go true = refl
     go false = tt
 
-own_add : (map key : List ℕ) (amount : ℕ) (o : Option (List ℕ)) → WritesOwn (asks.Row map key) (add_result map key amount o)
+own_add : (map key : List ℕ) (amount : ℕ) (o : Option (List ℕ)) → WritesTo (Some (map, key)) (add_result map key amount o)
 own_add map key amount None = own_sum map key amount
 own_add map key amount (Some value) = go (length value == 8)
   where
-    go : (b : Bool) → WritesOwn (asks.Row map key) (cond b (sum_result map key (from_little_endian value + amount)) (Err causes.NotNumber))
+    go : (b : Bool) → WritesTo (Some (map, key)) (cond b (sum_result map key (from_little_endian value + amount)) (Err causes.NotNumber))
     go true = own_sum map key (from_little_endian value + amount)
     go false = tt
 
-own_check : (ask : Ask) (b : Bool) → WritesOwn ask (check_result b)
-own_check ask true = tt
-own_check ask false = tt
+own_check : (row : Option (List ℕ × List ℕ)) (b : Bool) → WritesTo row (check_result b)
+own_check row true = tt
+own_check row false = tt
 
-own_follow : (ask : Ask) (s : Sees) (target : List ℕ) (o : Option (List ℕ)) → WritesOwn ask (follow_result s target o)
-own_follow ask s target None = tt
-own_follow ask s target (Some key) = go (is_key key)
+own_follow : (row : Option (List ℕ × List ℕ)) (s : Sees) (target : List ℕ) (o : Option (List ℕ)) → WritesTo row (follow_result s target o)
+own_follow row s target None = tt
+own_follow row s target (Some key) = go (is_key key)
   where
-    go : (b : Bool) → WritesOwn ask (cond b (answer_only (value_or_none (s.value target key))) (Err causes.BadKey))
+    go : (b : Bool) → WritesTo row (cond b (answer_only (value_or_none (s.value target key))) (Err causes.BadKey))
     go true = tt
     go false = tt
 
-on_seen-own : (s : Sees) (o : Operation) → WritesOwn (own_ask o) (on_seen s o)
+on_seen-own : (s : Sees) (o : Operation) → WritesTo (own_row o) (on_seen s o)
 on_seen-own s (Get map key) = tt
 on_seen-own s (Has map key) = tt
 on_seen-own s (Put map key value) = refl
 on_seen-own s (Remove map key) = refl
 on_seen-own s (Add map key amount) = own_add map key amount (s.value map key)
-on_seen-own s (Check map key expected) = own_check (asks.Row map key) (is_expected expected (s.value map key))
-on_seen-own s (Follow map key target) = own_follow (asks.Row map key) s target (s.value map key)
+on_seen-own s (Check map key expected) = own_check (Some (map, key)) (is_expected expected (s.value map key))
+on_seen-own s (Follow map key target) = own_follow (Some (map, key)) s target (s.value map key)
 on_seen-own s (Size map) = tt
 
 -- an operation writes the row that it names, if it writes one
-pub perform_result-own : (o : Operation) (s : Sees) → WritesOwn (own_ask o) (perform_result o s)
+pub perform_result-own : (o : Operation) (s : Sees) → WritesTo (own_row o) (perform_result o s)
 perform_result-own o s = go (bar_on o)
   where
-    go : (b : Option Cause) → WritesOwn (own_ask o) (unless_barred b (on_seen s o))
+    go : (b : Option Cause) → WritesTo (own_row o) (unless_barred b (on_seen s o))
     go None = on_seen-own s o
     go (Some cause) = tt
 
@@ -95,12 +94,13 @@ perform_result-own o s = go (bar_on o)
 abbrev pub MayName : Write → Type 0
 MayName w = bar_on_map w.map ≡ None
 
-abbrev map_of : Ask → List ℕ
-map_of (asks.Row map key) = map
-map_of (asks.Map map) = map
+-- the row, if there is one, is in such a map
+abbrev MayHold : Option (List ℕ × List ℕ) → Type 0
+MayHold None = Unit {0}
+MayHold (Some row) = bar_on_map row.0 ≡ None
 
 -- where an operation may be, its map may be named
-may_name : (o : Operation) → bar_on o ≡ None → bar_on_map (map_of (own_ask o)) ≡ None
+may_name : (o : Operation) → bar_on o ≡ None → MayHold (own_row o)
 may_name (Get map key) e = e
 may_name (Has map key) e = e
 may_name (Put map key value) e = e
@@ -112,21 +112,21 @@ may_name (Follow map key target) e = first (bar_on_map map) (bar_on_map target) 
     first : (a b : Option Cause) → bar_on_either a b ≡ None → a ≡ None
     first None b is = refl
     first (Some cause) b is = absurd (cc)
-may_name (Size map) e = e
+may_name (Size map) e = tt
 
 abbrev MayWrite : Option Write → Type 0
 MayWrite None = Unit {0}
 MayWrite (Some w) = MayName w
 
-own_may : (ask : Ask) (o : Option Write) → bar_on_map (map_of ask) ≡ None → OwnRow ask o → MayWrite o
-own_may ask None e own = tt
-own_may ask (Some w) e own = subst (λ (a : Ask). bar_on_map (map_of a) ≡ None) own e
+own_may : (row : Option (List ℕ × List ℕ)) (o : Option Write) → MayHold row → IsTo row o → MayWrite o
+own_may row None may own = tt
+own_may row (Some w) may own = subst MayHold own may
 
 performed_may : (o : Operation) (s : Sees) (done : Performed) → perform_result o s ≡ Ok done → MayWrite done.write
 performed_may o s done e = go (bar_on o) refl e
   where
     go : (b : Option Cause) → bar_on o ≡ b → unless_barred b (on_seen s o) ≡ Ok done → MayWrite done.write
-    go None is h = own_may (own_ask o) done.write (may_name o is) (subst (WritesOwn (own_ask o)) h (on_seen-own s o))
+    go None is h = own_may (own_row o) done.write (may_name o is) (subst (WritesTo (own_row o)) h (on_seen-own s o))
     go (Some cause) is h = absurd (cc)
 
 put_before-may : (o : Ordering) (w x : Write) (xs rest : List Write) → MayName w → MayName x → AllByRecursion MayName xs → AllByRecursion MayName rest →

@@ -4,5 +4,3 @@ pub mod Abort
 pub mod Sees
 pub mod Run
 pub mod Performs
-pub mod Asks
-pub mod Attempt

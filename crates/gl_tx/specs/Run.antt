@@ -13,7 +13,7 @@ use Rattle.gl_tx.specs.declared.request.Answer.TheVariants as answers
 use Rattle.gl_tx.specs.declared.abort.Cause.{Cause}
 use Rattle.gl_tx.specs.declared.abort.Cause.TheVariants as causes
 use Rattle.gl_tx.specs.declared.abort.Abort.{Abort}
-use Rattle.gl_tx.specs.declared.perform.Performed.{Performed}
+use Rattle.gl_tx.specs.declared.performed.Performed.{Performed}
 use Rattle.gl_tx.specs.declared.runs.Ran.{Ran}
 
 -- An answer, and nothing written.

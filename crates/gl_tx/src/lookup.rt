@@ -7,8 +7,8 @@ ghost use Rattle.gl_tx.specs.Sees.{Sees, sees_of};
 
 use gl_vmaps::Tables;
 
-/// Rows by their map and key, and the number of each map's keys.
-pub(crate) trait Lookup {
+/// What a run looks its rows up in: rows by their map and key, and the number of each map's keys.
+pub trait Lookup {
     /// What is seen of it.
     ghost sees: { Self → Sees };
 

@@ -1,5 +1,4 @@
-//! What an operation of a request sees: what stood before the request, and what its earlier
-//! operations wrote.
+//! What an operation of a request sees.
 
 ghost use Rattle.std.specs.Prelude.{◌≡◌, ◌≤◌, length, IsTrue, IfSome};
 ghost use Rattle.std.specs.Option.{option_copied};
@@ -12,23 +11,26 @@ use crate::lookup::Lookup;
 use gl_vmaps::{Write, Writes};
 use std::alloc::{AllocError, Global};
 
-/// Rows as they stood before a request, and what its earlier operations wrote.
+/// What an operation of a request sees: what stood before the request, behind what its earlier
+/// operations wrote.
 #[derive(Drop)]
-pub(crate) struct Overlay<'a, L: Lookup> {
-    pub(crate) base: &'a L,
-    pub(crate) writes: Writes,
+pub struct Overlay<'a, L: Lookup> {
+    /// What stood before the request. It stays as it is.
+    pub base: &'a L,
+    /// The last write to each row that the earlier operations wrote.
+    pub writes: Writes,
     ghost ordered: { IsTrue (is_ordered writes) },
     ghost few: { length writes ≤ 64 },
 }
 
 impl<'a, L: Lookup> Overlay<'a, L> {
-    ghost use Rattle.std.specs.Prelude.{◌+◌, ◌<◌, [], is_some, OnOk};
+    ghost use Rattle.std.specs.Prelude.{◌+◌, ◌<◌, [], is_some, OnOk, OnErr};
     ghost use Rattle.gl_vmaps.specs.Writes.{with_write};
     ghost use Rattle.gl_tx.specs.Sees.{behind, has_key};
     ghost use Rattle.gl_vmaps.specs.Growth.{gains, loses};
 
-    /// What stands before a request, with nothing written.
-    pub(crate) fn new(alloc: Global, base: &'a L) -> Self
+    /// What the first operation of a request sees: nothing is written yet. Takes no memory.
+    pub fn new(alloc: Global, base: &'a L) -> Self
         ensures base { result.base.now ≡ base.now }
         ensures writes { result.writes ≡ [] }
     {
@@ -39,7 +41,7 @@ impl<'a, L: Lookup> Overlay<'a, L> {
     }
 
     /// The value of a key in a map, if the map has that key.
-    pub(crate) fn get(&self, map: &[u8], key: &[u8]) -> Option<&[u8]>
+    pub fn get(&self, map: &[u8], key: &[u8]) -> Option<&[u8]>
         ensures value { let sees = behind (L.sees self.now.base.now) self.now.writes in
             option_copied result ≡ sees.value map.now key.now }
         ensures limit { IfSome result (λ value. IsTrue (is_value value.now)) }
@@ -50,15 +52,15 @@ impl<'a, L: Lookup> Overlay<'a, L> {
         }
     }
 
-    /// Whether an operation wrote the row.
-    pub(crate) fn wrote(&self, map: &[u8], key: &[u8]) -> bool
+    /// Whether an earlier operation set the row or removed it.
+    pub fn wrote(&self, map: &[u8], key: &[u8]) -> bool
         ensures { result ≡ is_some (write_to map.now key.now self.now.writes) }
     {
         write_to(self.writes.as_slice(), map, key).is_some()
     }
 
     /// Whether the map has the key.
-    pub(crate) fn has(&self, map: &[u8], key: &[u8]) -> bool
+    pub fn has(&self, map: &[u8], key: &[u8]) -> bool
         ensures { let sees = behind (L.sees self.now.base.now) self.now.writes in
             result ≡ has_key sees map.now key.now }
     {
@@ -87,7 +89,7 @@ impl<'a, L: Lookup> Overlay<'a, L> {
     }
 
     /// The number of keys that the map has.
-    pub(crate) fn size(&self, map: &[u8]) -> u64
+    pub fn size(&self, map: &[u8]) -> u64
         ensures { let sees = behind (L.sees self.now.base.now) self.now.writes in
             result ≡ sees.size map.now }
     {
@@ -97,23 +99,26 @@ impl<'a, L: Lookup> Overlay<'a, L> {
         (self.base.size(map) + gained as u64).saturating_sub(lost as u64)
     }
 
-    /// Writes a row.
-    pub(crate) fn put(&mut self, write: Write) -> Result<(), AllocError>
+    /// Writes a row, for the operations that come next. Want of memory leaves all as it was.
+    pub fn put(&mut self, write: Write) -> Result<(), AllocError>
         requires { length self.old.writes < 64 }
         ensures ok { OnOk result (self.new.writes ≡ with_write self.old.writes write) }
         ensures longer { OnOk result (length self.new.writes ≤ length self.old.writes + 1) }
+        ensures err { OnErr result (self.new.writes ≡ self.old.writes) }
         ensures same { self.new.base.now ≡ self.old.base.now }
     {
         self.writes.put(write)
     }
 }
 
-pub(crate) fn is_to_map(write: &Write, map: &[u8]) -> bool
+/// Whether a write is to a map.
+fn is_to_map(write: &Write, map: &[u8]) -> bool
     ensures { result ≡ is_to_map map.now write.now }
 {
     map == write.map.as_slice()
 }
 
+/// Whether a write is to a row.
 fn is_to_row(write: &Write, map: &[u8], key: &[u8]) -> bool
     ensures { result ≡ is_to_row map.now key.now write.now }
 {

@@ -11,7 +11,7 @@ ghost use Rattle.gl_vmaps.specs.Versions.{Placed, written_by};
 use crate::abort::Abort;
 use crate::lookup::Lookup;
 use crate::overlay::Overlay;
-use crate::perform::{Performed, perform};
+use crate::performed::{Performed, perform};
 use crate::request::{Answer, Operation, Reply, Request};
 use gl_base::OrNoMemory;
 use gl_vmaps::{Tables, Writes};

@@ -1,0 +1,15 @@
+//! Requests of applications that read their rows one at a time, each maybe at another moment, and
+//! then run at once.
+#![tactic(auto)]
+
+mod asks;
+mod attempt;
+mod conflict;
+mod notes;
+
+pub use attempt::{Attempt, Fetched};
+pub use conflict::{Conflict, RolledBack, TxFault};
+pub use notes::{Ask, Note, Reads};
+
+#[cfg(test)]
+mod tests;

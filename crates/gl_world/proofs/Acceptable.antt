@@ -4,20 +4,20 @@ use Rattle.std.specs.List.{list_all, list_any, AllByRecursion}
 use Rattle.std.proofs.lemmas.Bool.{and_from}
 use Rattle.std.proofs.lemmas.Bool.Decides.{nat_tests}
 use Rattle.gl_base.specs.Bytes.{is_byte}
-use Rattle.gl_store.specs.Genesis.{is_node, is_member, is_share, is_dealing, is_genesis, are_distinct, numbers_of, is_ascending, are_nodes, are_members, is_dealing_among, is_acceptable}
+use Rattle.gl_ledger.specs.Genesis.{is_node, is_member, is_share, is_dealing, is_genesis, are_distinct, numbers_of, is_ascending, are_nodes, are_members, is_dealing_among, is_acceptable}
 use Rattle.gl_entry.specs.Entry.{body_bytes, body_limit, is_entry}
-use Rattle.gl_store.specs.Ledger.{genesis_entry}
-use Rattle.gl_store.specs.declared.genesis.NewNode.{NewNode}
-use Rattle.gl_store.specs.declared.genesis.NewMember.{NewMember}
-use Rattle.gl_store.specs.declared.genesis.ShareDigest.{ShareDigest}
+use Rattle.gl_ledger.specs.Ledger.{genesis_entry}
+use Rattle.gl_ledger.specs.declared.genesis.NewNode.{NewNode}
+use Rattle.gl_ledger.specs.declared.genesis.NewMember.{NewMember}
+use Rattle.gl_ledger.specs.declared.genesis.ShareDigest.{ShareDigest}
 use Rattle.gl_world.specs.declared.settings.Settings.{Settings}
 use Rattle.gl_world.specs.Keys.{service_seed, node_seed, member_seed, recovery_secret}
 use Rattle.gl_world.specs.Founding.{numbers_from, node_of, member_of, share_of, dealing_of, genesis_of}
 use Rattle.gl_world.specs.Single.{IsSingle}
 use Rattle.gl_world.proofs.Numbers.{all_made, all_numbers, numbers_ascend, numbers_distinct, among, length-made, numbers_told}
-use Rattle.gl_store.proofs.Bodies.{small_founding}
-use Rattle.gl_store.proofs.Digests.{sha256_digest}
-use Rattle.gl_store.proofs.GenesisEntries.{genesis_is_entry}
+use Rattle.gl_ledger.proofs.Bodies.{small_founding}
+use Rattle.gl_ledger.proofs.Digests.{sha256_digest}
+use Rattle.gl_ledger.proofs.GenesisEntries.{genesis_is_entry}
 use Rattle.gl_world.proofs.Digests.{lms_key_sized, hss_key_sized}
 
 pub one_node : (s : Settings) → IsSingle s → (genesis_of s).nodes ≡ node_of s 1 ∷ []

@@ -16,3 +16,7 @@ pub mod GenesisEntries
 pub mod NodesLaws
 pub mod Founding
 pub mod Bodies
+pub mod Passing
+pub mod SameWrites
+pub mod Lawful
+pub mod Pushes

@@ -6,3 +6,12 @@ pub mod Ledger
 pub mod Nodes
 pub mod Book
 pub mod Signed
+pub mod Layers
+pub mod Recordings
+pub mod Changes
+pub mod Acceptance
+pub mod Broken
+pub mod Sound
+pub mod Makers
+pub mod LedgerBook
+pub mod Audit

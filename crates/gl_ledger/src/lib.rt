@@ -5,16 +5,20 @@
 //! nodes are and whether the service is open ("Builtin Maps").
 #![tactic(auto)]
 
+mod breach;
 mod encode;
 mod genesis;
+mod laws;
 mod refusal;
 mod rows;
 
+pub use breach::{EntryRefusal, GenesisFault};
 pub use encode::{genesis_bytes, state_byte};
 pub use genesis::{
     Dealing, Genesis, GovernanceRequest, HssPublicKey, LmsPublicKey, NewMember, NewNode,
     ServiceState, ShareDigest,
 };
+pub use laws::is_lawful;
 pub use refusal::Refusal;
 pub use rows::genesis_writes;
 

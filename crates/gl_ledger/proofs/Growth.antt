@@ -61,7 +61,7 @@ records-push place (f ∷ es) e rs none h =
     records-behind place f.content (λ rest. RecordsFrom (suc place) es rest) (λ rest. RecordsFrom (suc place) (es ++ e ∷ []) rest) rs
     (λ rest. records-push (suc place) es e rest none) h
 
-in_order-push : (ledger : List Entry) (e : Entry) → IsLedger ledger → is_entry e ≡ true → e.seqno ≡ suc (length ledger) →
+pub in_order-push : (ledger : List Entry) (e : Entry) → IsLedger ledger → is_entry e ≡ true → e.seqno ≡ suc (length ledger) →
     ViewsUpTo service_book e.view ledger → IsLedger (ledger ++ e ∷ [])
 in_order-push ledger e h fits at up = record {
   fits = λ i f s. ⊎_elim

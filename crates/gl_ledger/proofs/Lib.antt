@@ -20,3 +20,6 @@ pub mod Passing
 pub mod SameWrites
 pub mod Lawful
 pub mod Pushes
+pub mod Changes
+pub mod Gathering
+pub mod Sounding

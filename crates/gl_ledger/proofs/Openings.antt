@@ -52,7 +52,7 @@ before_set g =
     (both_set (constitution_rows ++ dealing) (map member_row g.members) refl (member_rows_set g.members))
     (node_rows_set 1 g.nodes)
 
-rows_set : (g : request.Genesis) → list_all sets_value (genesis_rows g) ≡ true
+pub rows_set : (g : request.Genesis) → list_all sets_value (genesis_rows g) ≡ true
 rows_set g = ap (list_all sets_value) (rows_are g) ∙ both_set (rows_before g) (service_row g ∷ []) (before_set g) refl
 
 -- the service's row is put last

@@ -21,26 +21,13 @@ use Rattle.gl_entry.specs.declared.entry.Signature as signatures
 use Rattle.gl_ledger.specs.Genesis.{governance_bytes, is_governance_request}
 use Rattle.gl_ledger.specs.Effect.{effect, service_state}
 use Rattle.gl_ledger.specs.Tree.{tables_of, leaves_of}
+use Rattle.gl_ledger.specs.Serial.{IsLedger, Turns}
 use Rattle.gl_ledger.specs.declared.genesis.ServiceState.TheVariants.{Open}
 use Rattle.gl_ledger.specs.declared.genesis.GovernanceRequest.{GovernanceRequest}
 use Rattle.gl_ledger.specs.Layers.{Layers}
 use Rattle.gl_ledger.specs.Recordings.{founds, requests_of, recorded_nodes}
 use Rattle.gl_ledger.specs.Acceptance.{IsAccepted}
 use Rattle.gl_ledger.specs.Broken.{may_record, fault_of_signature}
-
--- A list of entries that fit their format, whose i-th has seqno i, and whose views never fall.
-pub record IsLedger (ledger : List Entry) : Type 0 where
-  pub fits : (i : ℕ) (e : Entry) → slice_get ledger i ≡ Some e → is_entry e ≡ true
-  pub seqnos : (i : ℕ) (e : Entry) → slice_get ledger i ≡ Some e → e.seqno ≡ suc i
-  pub views : (i j : ℕ) (e f : Entry) → i ≤ j → slice_get ledger i ≡ Some e →
-      slice_get ledger j ≡ Some f → e.view ≤ f.view
-
--- A write set that turns tables into others: it puts the rows whose bytes are new or changed, and
--- removes those that are gone.
-pub record Turns (writes : List Write) (before after : Tables) : Type 0 where
-  pub turns : (map : List ℕ) → wrote_all before writes map ≡ after map
-  pub changes : AllByRecursion (λ (w : Write). value_in before w.map w.key ≢ w.value) writes
-  pub ordered : is_ordered writes ≡ true
 
 module _ (layers : Layers) where
   -- The first entry founds the service, in the first view, and no other does; the second is the

@@ -23,3 +23,11 @@ pub mod Pushes
 pub mod Changes
 pub mod Gathering
 pub mod Sounding
+pub mod Auditing
+pub mod Commits
+pub mod SignatureEntries
+pub mod Opening
+pub mod Opened
+pub mod NodeOrder
+pub mod Making
+pub mod Leading

@@ -38,8 +38,8 @@ use Rattle.gl_ledger.proofs.Fitting.{execute_fits}
 use Rattle.gl_ledger.specs.Layers.{Layers}
 use Rattle.gl_ledger.specs.Recordings.{Recording, OfGovernance, OfApplication, OfSignature, governance_recording, application_recording, is_founding, is_signing, last_entry, founds, requests_of, recorded_nodes, removal, mark}
 use Rattle.gl_ledger.specs.Acceptance.{required, request_fault}
-use Rattle.gl_ledger.specs.Broken.{Broken, breach, is_next_view, is_unopened, is_in_order, broken_of_run, broken_in_state, effect_writes, unless_refused, with_writes, signs_at, last_signed, commit_behind, commit_from, last_commit, is_above_removal, is_later_commit, may_record, fault_of_signature, broken_by_fault, are_same_writes, broken}
-use Rattle.gl_ledger.specs.Makers.{Given, Replied, Unspelled, MayMake, with_reply, request_result, guarded, unless_broken, governance_entry, signature_behind, signed_entry}
+use Rattle.gl_ledger.specs.Broken.{Broken, breach, is_next_view, is_unopened, is_in_order, broken_of_run, broken_in_state, effect_writes, unless_refused, with_writes, signs_at, last_signed, commit_behind, commit_from, last_commit, is_above_removal, is_later_commit, may_record, broken_by_fault, are_same_writes, broken}
+use Rattle.gl_ledger.specs.Makers.{Given, Replied, Unspelled, MayMake, with_reply, request_result, guarded, unless_broken, governance_entry, signature_made, signed_entry, MakesValid}
 use Rattle.gl_ledger.specs.LedgerBook.{ledger_book}
 use Rattle.gl_ledger.proofs.SameWrites.{same_bytes_self, same_writes_self}
 use Rattle.gl_ledger.proofs.Passing.{passes, passing_all}
@@ -95,18 +95,9 @@ module _ (layers : Layers) (ledger : List Entry) (view : ℕ) (m : MayMake layer
             ∙ passes (are_same_writes writes writes) _ None (same_writes_self writes) refl;
       })
 
-  -- the signature that a node makes behind the ledger
-  abbrev pub signature_made : NodeId → ℕ → ℕ → signatures.Signature
-  signature_made x leaf commit = record {
-    node = x;
-    commit = commit;
-    root = root_of (leaves_of ledger);
-    signature = signature_behind layers x leaf ledger view commit;
-  }
-
   -- what the trial of a signature comes to
   pub signed_broken : (x : NodeId) (leaf commit : ℕ) → is_entry (signed_entry layers x leaf ledger view commit) ≡ true →
-      fault_of_signature layers ledger (signed_entry layers x leaf ledger view commit) (signature_made x leaf commit) ≡ None →
+      MakesValid layers x leaf ledger view commit →
       broken layers ledger (signed_entry layers x leaf ledger view commit)
       ≡ required (member x (recorded_nodes layers ledger)) (breach 9 (length ledger + 1) (signed_entry layers x leaf ledger view commit))
       (required (may_record layers ledger commit) (breach 10 (length ledger + 1) (signed_entry layers x leaf ledger view commit)) None)
@@ -114,14 +105,14 @@ module _ (layers : Layers) (ledger : List Entry) (view : ℕ) (m : MayMake layer
   signed_broken x leaf commit fits valid =
       let e = signed_entry layers x leaf ledger view commit in
       let seqno = length ledger + 1 in
-      let s = signature_made x leaf commit in
+      let s = signature_made layers x leaf ledger view commit in
       true_first (is_entry e) _ _ fits
       ∙ true_first (seqno == seqno) _ _ (itself seqno)
       ∙ true_first (is_next_view (last_entry ledger) (OfSignature s) view) _ _ (in_view (OfSignature s))
       ∙ true_first (is_in_order layers (last_entry ledger) (OfSignature s) view) _ _ (in_order (OfSignature s) refl)
       ∙ ap (λ (rest : Option Broken). required (member x (recorded_nodes layers ledger)) (breach 9 seqno e) rest)
       (true_first (same_bytes (root_of (leaves_of ledger)) (root_of (leaves_of ledger))) _ _ (same_bytes_self (root_of (leaves_of ledger)))
-      ∙ ap (λ (rest : Option Broken). required (may_record layers ledger commit) (breach 10 seqno e) rest) (ap (broken_by_fault seqno) valid))
+      ∙ ap (λ (rest : Option Broken). required (may_record layers ledger commit) (breach 10 seqno e) rest) (ap (broken_by_fault seqno) valid.valid))
     where
       true_first : (holds : Bool) (b : Broken) (rest : Option Broken) → holds ≡ true → required holds b rest ≡ rest
       true_first true b rest h = refl
@@ -174,9 +165,9 @@ module _ (layers : Layers) where
 
   -- so a recorded node's signature breaks no rule
   pub signed_unbroken : (ledger : List Entry) (view : ℕ) → MayMake layers ledger view → (x : NodeId) (leaf commit : ℕ) → is_entry (signed_entry layers x leaf ledger view commit) ≡ true →
-      (m : MayMake layers ledger view) → fault_of_signature layers ledger (signed_entry layers x leaf ledger view commit) (signature_made layers ledger view m x leaf commit) ≡ None →
+      MakesValid layers x leaf ledger view commit →
       member x (recorded_nodes layers ledger) ≡ true → MayRecord (ledger_book layers) ledger commit → broken layers ledger (signed_entry layers x leaf ledger view commit) ≡ None
-  signed_unbroken ledger view k x leaf commit fits m valid named may =
+  signed_unbroken ledger view m x leaf commit fits valid named may =
       let e = signed_entry layers x leaf ledger view commit in
       let seqno = length ledger + 1 in
       let records : may_record layers ledger commit ≡ true =

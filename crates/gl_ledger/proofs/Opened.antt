@@ -1,5 +1,5 @@
 -- A ledger that the opening's check takes opens a service lawfully, whatever its genesis.
-use Rattle.std.proofs.Common.{◌≡◌, ℕ, zero, suc, ◌+◌, ◌-◌, List, [], ◌∷◌, ◌++◌, length, map, take, Option, Some, None, Result, Ok, Err, Bool, true, false, not, ◌&&◌, ◌||◌, ◌==◌, nat_le, if◌then◌else◌, refl, sym, ◌∙◌, ap, subst, arith, slice_get}
+use Rattle.std.proofs.Common.{◌≡◌, ℕ, zero, suc, ◌+◌, ◌-◌, List, [], ◌∷◌, ◌++◌, length, map, take, Option, Some, None, Result, Ok, Err, Bool, true, false, not, ◌&&◌, ◌||◌, ◌==◌, nat_le, nat_eq, if◌then◌else◌, refl, sym, ◌∙◌, ap, ap₂, subst, arith, slice_get}
 use Rattle.std.proofs.lemmas.Bool.{and_parts}
 use Rattle.std.proofs.lemmas.Bool.Decides.{nat_tests}
 use Rattle.std.proofs.lemmas.List.{append-nil}
@@ -7,8 +7,8 @@ use Rattle.gl_base.specs.Bytes.{same_bytes}
 use Rattle.gl_base.specs.declared.fault.CodeFault.{CodeFault}
 use Rattle.gl_merkle.specs.Tree.{root_of}
 use Rattle.gl_rules.specs.Identity.{NodeId, member}
-use Rattle.gl_rules.specs.World.{Event, first_view}
-use Rattle.gl_rules.specs.Safety.{IsOpening, IsSafe, EachFollows}
+use Rattle.gl_rules.specs.World.{Start, first_view}
+use Rattle.gl_rules.specs.Safety.{IsOpening, IsSafe, IsConfigured, EachFollows}
 use Rattle.gl_safety.proofs.Soundness.{sound_cut}
 use Rattle.gl_safety.proofs.AnySoundness.{safe_for}
 use Rattle.gl_tx.specs.Reading.{request_of}
@@ -18,7 +18,8 @@ use Rattle.gl_entry.specs.declared.entry.Content.{Content}
 use Rattle.gl_entry.specs.declared.entry.Content.TheVariants as content
 use Rattle.gl_entry.specs.declared.entry.Entry.{Entry}
 use Rattle.gl_entry.specs.declared.entry.Signature as signatures
-use Rattle.gl_ledger.specs.Genesis.{node_id}
+use Rattle.gl_ledger.specs.Genesis.{node_id, are_distinct, are_distinct_bytes, numbers_of, is_dealing_among}
+use Rattle.gl_ledger.specs.declared.genesis.NewMember.{NewMember}
 use Rattle.gl_ledger.specs.Effect.{Recorded}
 use Rattle.gl_ledger.specs.Tree.{leaves_of}
 use Rattle.gl_ledger.specs.Ledger.{genesis_entry}
@@ -28,25 +29,26 @@ use Rattle.gl_ledger.specs.declared.genesis.GovernanceRequest.{GovernanceRequest
 use Rattle.gl_ledger.specs.declared.genesis.GovernanceRequest.TheVariants as requests
 use Rattle.gl_ledger.specs.declared.breach.GenesisFault.{GenesisFault}
 use Rattle.gl_ledger.specs.Layers.{Layers, ReadsSpellings}
-use Rattle.gl_ledger.specs.Recordings.{Recording, OfGovernance, OfSignature, last_entry, recording_of, governance_recording, application_recording, is_founding, is_founding_or_none, is_signing, founds, requests_of, recorded_at, recorded_in, trusted_of, changed_set, recorded_nodes, trusted_nodes, configuration}
+use Rattle.gl_ledger.specs.Recordings.{Recording, OfGovernance, OfSignature, last_entry, recording_of, governance_recording, application_recording, is_founding, is_founding_or_none, is_signing, founds, requests_of, recorded_at, recorded_in, nodes_of, trusted_of, changed_set, recorded_nodes, trusted_nodes, configuration}
 use Rattle.gl_ledger.specs.Acceptance.{required, genesis_fault}
 use Rattle.gl_ledger.specs.Broken.{Broken, unless_refused, is_in_order, is_unopened, broken_by, is_later_commit, may_record}
 use Rattle.gl_ledger.specs.Sound.{IsSound}
 use Rattle.gl_ledger.specs.Makers.{opening_of}
-use Rattle.gl_ledger.specs.LedgerBook.{Reads, ledger_book, by_rule}
+use Rattle.gl_ledger.specs.LedgerBook.{ledger_book, by_rule}
 use Rattle.gl_ledger.specs.Audit.{LedgerFault, audited, signer_in, signer_of, opened_where, opened_unless, opened}
 use Rattle.gl_ledger.proofs.Passing.{passed, Passes, passing}
 use Rattle.gl_ledger.proofs.Lawful.{lawful, unbroken}
 use Rattle.gl_ledger.proofs.Pushes.{no_last}
 use Rattle.gl_ledger.proofs.Sounding.{sound-push, sound_empty}
 use Rattle.gl_ledger.proofs.Auditing.{audited_none, audited_all}
-use Rattle.gl_ledger.proofs.Opening.{Founds, founded, follow}
+use Rattle.gl_ledger.specs.Services.{ServiceEvent, Begins, Founds}
+use Rattle.gl_ledger.proofs.Opening.{founded, follow}
 
 module _ (layers : Layers) where
   -- ---- two entries
 
   -- an entry that founds stands alone where it is the last
-  alone : (es : List Entry) (f : Entry) → EachFollows (ledger_book layers) es → last_entry es ≡ Some f → founds layers f ≡ true → es ≡ f ∷ []
+  pub alone : (es : List Entry) (f : Entry) → EachFollows (ledger_book layers) es → last_entry es ≡ Some f → founds layers f ≡ true → es ≡ f ∷ []
   alone es f z last founded =
       let p = passing layers (take (length es - 1) es) f (unbroken layers (take (length es - 1) es) f (z (length es - 1) f last)) in
       let t : is_founding p.recording ≡ true = sym (ap is_founding_or_none p.reads) ∙ founded in
@@ -121,12 +123,12 @@ module _ (layers : Layers) where
 
   some_nodes : (g : request.Genesis) → genesis_fault layers g ≡ None → (n : NewNode) × (ns : List NewNode) × (g.nodes ≡ n ∷ ns)
   some_nodes g h =
-      let a = passed _ _ _ h in
-      let b = passed _ _ _ a.1 in
-      let c = passed _ _ _ b.1 in
-      let d = passed _ _ _ c.1 in
-      let e = passed _ _ _ d.1 in
-      let f = passed _ _ _ e.1 in
+      let a = passed (are_distinct nat_eq (numbers_of g.members)) _ _ h in
+      let b = passed (are_distinct_bytes (map (λ (m : NewMember). m.key) g.members)) _ _ a.1 in
+      let c = passed (nat_le (length g.members) 64) _ _ b.1 in
+      let d = passed (is_dealing_among (numbers_of g.members) g.dealing) _ _ c.1 in
+      let e = passed (are_distinct_bytes (map node_id g.nodes)) _ _ d.1 in
+      let f = passed (nat_le (length g.nodes) 32) _ _ e.1 in
       let k = passed (nat_le 1 (length g.nodes)) _ _ f.1 in
       go g.nodes k.0
     where
@@ -181,7 +183,7 @@ module _ (layers : Layers) where
 
     -- its nodes, in their order
     configured : configuration layers (f ∷ []) ≡ Some (map node_id by.genesis.nodes)
-    unfolding configuration, trusted_nodes
+    unfolding configuration trusted_nodes
     configured =
         let rs : requests_of layers (f ∷ []) ≡ record { seqno = 1; request = requests.Genesis by.genesis } ∷ [] =
         ap (λ (c : Content). recorded_in layers 1 c ++ []) by.content_is ∙ ap (λ (o : Option GovernanceRequest). recorded_at layers 1 o ++ []) by.reads in
@@ -190,6 +192,23 @@ module _ (layers : Layers) where
         some : (ns : List NewNode) (n : NewNode) (rest : List NewNode) → ns ≡ n ∷ rest → changed_set [] (map node_id ns) ≡ Some (map node_id ns)
         some [] n rest h = absurd (cc)
         some (m ∷ ms) n rest h = refl
+
+    signed_by : member x (map node_id by.genesis.nodes) ≡ true
+    unfolding recorded_nodes
+    signed_by =
+        let s = signature_in e.content signer in
+        let is_read : second.recording ≡ OfSignature s.0 = let k = sym second.reads ∙ ap (recording_of layers) s.1 in cc in
+        let all : broken_by layers (OfSignature s.0) (f ∷ []) e ≡ None = ap (λ (t : Recording). broken_by layers t (f ∷ []) e) (sym is_read) ∙ second.rest in
+        let one = passed (member s.0.node (recorded_nodes layers (f ∷ []))) _ _ all in
+        let node : s.0.node ≡ x = let k = sym (ap signer_in s.1) ∙ signer in cc in
+        let rs : requests_of layers (f ∷ []) ≡ record { seqno = 1; request = requests.Genesis by.genesis } ∷ [] =
+        ap (λ (c : Content). recorded_in layers 1 c ++ []) by.content_is ∙ ap (λ (o : Option GovernanceRequest). recorded_at layers 1 o ++ []) by.reads in
+        let nodes : recorded_nodes layers (f ∷ []) ≡ map node_id by.genesis.nodes = ap nodes_of rs ∙ append-nil (map node_id by.genesis.nodes) in
+        sym (ap₂ member node nodes) ∙ one.0
+
+    -- the node that signed is in the configuration
+    configures : IsConfigured (ledger_book layers) x (f ∷ e ∷ [])
+    configures = (1, map node_id by.genesis.nodes, configured, signed_by)
 
     by_case : (P : ℕ → Entry → Type 0) → P 0 f → P 1 e → (i : ℕ) (d : Entry) → slice_get (f ∷ e ∷ []) i ≡ Some d → P i d
     by_case P a b zero d s = subst (P 0) (let p : f ≡ d = cc in p) a
@@ -219,26 +238,54 @@ module _ (layers : Layers) where
       first_starts = there;
     }
 
-  pub opened_opens : (ledger : List Entry) (x : NodeId) → opened layers ledger ≡ Ok x → (starting : List NodeId) → member x starting ≡ true →
-      IsOpening (ledger_book layers) (EachFollows (ledger_book layers)) (record { opening = ledger; starting = starting; first = x })
-  opened_opens ledger x h starting there =
+  -- the two entries of a ledger that the check takes
+  record Pair (ledger : List Entry) (x : NodeId) : Type 0 where
+    genesis : Entry
+    signature : Entry
+    both : ledger ≡ genesis ∷ signature ∷ []
+    each : EachFollows (ledger_book layers) (genesis ∷ signature ∷ [])
+    founding : founds layers genesis ≡ true
+    signer : signer_in signature.content ≡ Some x
+
+  pair_of : (ledger : List Entry) (x : NodeId) → opened layers ledger ≡ Ok x → Pair ledger x
+  pair_of ledger x h =
       let parts = opened_parts ledger x h in
       let z : EachFollows (ledger_book layers) ledger = λ i e at. ap by_rule (audited_none layers ledger parts.0 i e at) in
       let f = founding_is (last_entry (take (length ledger - 1) ledger)) parts.1 in
       let founded : founds layers f.0 ≡ true = ap (is_unopened layers) (sym f.1) ∙ parts.1 in
       let front = alone (take (length ledger - 1) ledger) f.0 (sound_cut (ledger_book layers) ledger (length ledger - 1) z) f.1 founded in
       let two = pair ledger f.0 front in
-      let signer : signer_in two.0.content ≡ Some x = ap (λ (l : List Entry). signer_of (last_entry l)) (sym two.1) ∙ parts.2 in
-      subst (λ (l : List Entry). IsOpening (ledger_book layers) (EachFollows (ledger_book layers)) (record { opening = l; starting = starting; first = x })) (sym two.1)
-      (opens f.0 two.0 x (subst (EachFollows (ledger_book layers)) two.1 z) founded signer starting there)
+      record {
+        genesis = f.0;
+        signature = two.0;
+        both = two.1;
+        each = subst (EachFollows (ledger_book layers)) two.1 z;
+        founding = founded;
+        signer = ap (λ (l : List Entry). signer_of (last_entry l)) (sym two.1) ∙ parts.2;
+      }
+
+  pub opened_opens : (ledger : List Entry) (x : NodeId) → opened layers ledger ≡ Ok x → (starting : List NodeId) → member x starting ≡ true →
+      IsOpening (ledger_book layers) (EachFollows (ledger_book layers)) (record { opening = ledger; starting = starting; first = x })
+  opened_opens ledger x h starting there =
+      let p = pair_of ledger x h in
+      subst (λ (l : List Entry). IsOpening (ledger_book layers) (EachFollows (ledger_book layers)) (record { opening = l; starting = starting; first = x })) (sym p.both)
+      (opens p.genesis p.signature x p.each p.founding p.signer starting there)
+
+  -- the node that signed it is in its configuration
+  pub opened_configured : (ledger : List Entry) (x : NodeId) → opened layers ledger ≡ Ok x → IsConfigured (ledger_book layers) x ledger
+  opened_configured ledger x h =
+      let p = pair_of ledger x h in
+      subst (IsConfigured (ledger_book layers) x) (sym p.both) (configures p.genesis p.signature x p.each p.founding p.signer)
+
+  pub begins_opening : (s : Start Entry) → Begins layers s → IsOpening (ledger_book layers) (EachFollows (ledger_book layers)) s
+  begins_opening s h = opened_opens s.opening s.first h.checked s.starting h.starts
 
   -- so such a service is safe
-  pub opened_safe : ReadsSpellings layers → (ledger : List Entry) (x : NodeId) → opened layers ledger ≡ Ok x → (starting : List NodeId) → member x starting ≡ true →
-      (events : List (Event (List Operation) GovernanceRequest Reads)) → IsSafe (ledger_book layers) (IsSound layers) (record { opening = ledger; starting = starting; first = x }) events
-  opened_safe readings ledger x h starting there events =
+  pub begins_safe : ReadsSpellings layers → (s : Start Entry) → Begins layers s → (events : List ServiceEvent) → IsSafe (ledger_book layers) (IsSound layers) s events
+  begins_safe readings s h events =
       safe_for (ledger_book layers) (IsSound layers) (sound_empty layers)
       (λ log e each sound one. sound-push layers readings log e sound (unbroken layers log e one))
-      (opened_opens ledger x h starting there) (lawful layers) events
+      (begins_opening s h) (lawful layers) events
 
 -- the check takes the opening of an acceptable genesis, and tells who signed it
 pub opening_opened : (layers : Layers) (g : request.Genesis) (x : NodeId) → Founds layers g x → opened layers (opening_of layers g x) ≡ Ok x

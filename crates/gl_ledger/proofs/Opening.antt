@@ -2,15 +2,13 @@
 use Rattle.std.proofs.Common.{◌≡◌, ℕ, zero, suc, List, [], ◌∷◌, ◌++◌, map, take, Option, Some, None, Bool, true, false, not, ◌||◌, ◌==◌, if◌then◌else◌, refl, ◌∙◌, ap, subst, arith, slice_get}
 use Rattle.std.proofs.lemmas.List.{append-nil}
 use Rattle.gl_base.specs.Bytes.{same_bytes}
-use Rattle.gl_hss.specs.declared.fault.HssFault.{HssFault}
 use Rattle.gl_merkle.specs.Tree.{root_of}
 use Rattle.gl_rules.specs.Identity.{NodeId, same, member}
 use Rattle.gl_rules.specs.Safety.{IsOpening, EachFollows}
 use Rattle.gl_rules.specs.World.{first_view}
-use Rattle.gl_entry.specs.Entry.{is_signature, is_entry}
+use Rattle.gl_entry.specs.Entry.{is_signature}
 use Rattle.gl_entry.specs.declared.entry.Content.TheVariants as content
 use Rattle.gl_entry.specs.declared.entry.Entry.{Entry}
-use Rattle.gl_entry.specs.declared.entry.Signature as signatures
 use Rattle.gl_ledger.specs.Genesis.{node_id, genesis_bytes, genesis_writes}
 use Rattle.gl_ledger.specs.Effect.{Recorded, identity_in}
 use Rattle.gl_ledger.specs.Tree.{tables_of, leaves_of}
@@ -23,9 +21,11 @@ use Rattle.gl_ledger.specs.Layers.{Layers}
 use Rattle.gl_ledger.specs.Recordings.{OfGovernance, OfSignature, recording_of, governance_recording, is_founding_or_none, founds, requests_of, recorded_at, nodes_of, trusted_of, changed_set, recorded_nodes, trusted_nodes, configuration}
 use Rattle.gl_ledger.specs.Changes.{changes}
 use Rattle.gl_ledger.specs.Acceptance.{genesis_fault}
-use Rattle.gl_ledger.specs.Broken.{Broken, unless_refused, with_writes, is_unopened, is_later_commit, may_record, fault_of_signature, broken_by_fault, are_same_writes, broken}
-use Rattle.gl_ledger.specs.Makers.{signed_entry, signature_behind, opening_of}
+use Rattle.gl_ledger.specs.Broken.{Broken, unless_refused, with_writes, is_unopened, is_later_commit, may_record, broken_by_fault, are_same_writes, broken}
+use Rattle.gl_ledger.specs.Makers.{signature_made, signed_entry, opening_of}
 use Rattle.gl_ledger.specs.LedgerBook.{by_rule, ledger_book}
+use Rattle.gl_ledger.specs.Services.{Founds}
+use Rattle.gl_ledger.proofs.SignatureEntries.{named_digests, among, signed_is_entry}
 use Rattle.gl_ledger.proofs.SameWrites.{same_bytes_self, same_writes_self}
 use Rattle.gl_ledger.proofs.Changes.{changes_from_none}
 use Rattle.gl_ledger.proofs.Sounding.{are_effect_rows}
@@ -39,16 +39,6 @@ pub member_first : (x : NodeId) (ys : List NodeId) → member x (x ∷ ys) ≡ t
 unfolding same
 member_first x ys = ap (λ (b : Bool). b || member x ys) (same_bytes_self x)
 
--- what a genesis must be, and what the layers must say of it
-pub record Founds (layers : Layers) (g : request.Genesis) (x : NodeId) : Type 0 where
-  pub reads : layers.request_in (genesis_bytes g) ≡ Some (requests.Genesis g)
-  pub accepted : genesis_fault layers g ≡ None
-  pub founding_fits : is_entry (genesis_entry g) ≡ true
-  pub named : member x (map node_id g.nodes) ≡ true
-  pub signature_fits : is_entry (signed_entry layers x 0 (genesis_entry g ∷ []) first_view 2) ≡ true
-  pub valid : fault_of_signature layers (genesis_entry g ∷ []) (signed_entry layers x 0 (genesis_entry g ∷ []) first_view 2)
-      (record { node = x; commit = 2; root = root_of (leaves_of (genesis_entry g ∷ [])); signature = signature_behind layers x 0 (genesis_entry g ∷ []) first_view 2 }) ≡ None
-
 module _ (layers : Layers) (g : request.Genesis) (x : NodeId) (h : Founds layers g x) where
   genesis_read : recording_of layers (content.Governance (genesis_bytes g)) ≡ Some (OfGovernance (requests.Genesis g))
   genesis_read = ap governance_recording h.reads
@@ -60,7 +50,7 @@ module _ (layers : Layers) (g : request.Genesis) (x : NodeId) (h : Founds layers
   genesis_breaks_nothing = passing_all layers [] (genesis_entry g) (record {
     recording = OfGovernance (requests.Genesis g);
     reads = genesis_read;
-    fits = h.founding_fits;
+    fits = h.fits;
     seqno = refl;
     view = refl;
     order = refl;
@@ -79,7 +69,7 @@ module _ (layers : Layers) (g : request.Genesis) (x : NodeId) (h : Founds layers
 
   -- and they are the configuration that begins with it
   pub nodes_configured : configuration layers (genesis_entry g ∷ []) ≡ Some (map node_id g.nodes)
-  unfolding configuration, trusted_nodes
+  unfolding configuration trusted_nodes
   nodes_configured = ap (λ (rs : List Recorded). changed_set [] (trusted_of rs)) recorded_first ∙ ap (changed_set []) (append-nil (map node_id g.nodes)) ∙ some (map node_id g.nodes) h.named
     where
       some : (ys : List NodeId) → member x ys ≡ true → changed_set [] ys ≡ Some ys
@@ -88,22 +78,17 @@ module _ (layers : Layers) (g : request.Genesis) (x : NodeId) (h : Founds layers
 
   pub signature_breaks_nothing : broken layers (genesis_entry g ∷ []) (signed_entry layers x 0 (genesis_entry g ∷ []) first_view 2) ≡ None
   signature_breaks_nothing =
-      let s : signatures.Signature = record {
-        node = x;
-        commit = 2;
-        root = root_of (leaves_of (genesis_entry g ∷ []));
-        signature = signature_behind layers x 0 (genesis_entry g ∷ []) first_view 2;
-      } in
+      let s = signature_made layers x 0 (genesis_entry g ∷ []) first_view 2 in
       passing_all layers (genesis_entry g ∷ []) (signed_entry layers x 0 (genesis_entry g ∷ []) first_view 2) (record {
         recording = OfSignature s;
         reads = refl;
-        fits = h.signature_fits;
+        fits = signed_is_entry layers x 0 (genesis_entry g ∷ []) first_view 2 (among x (map node_id g.nodes) (named_digests g.nodes) h.named) (omega arith) (omega arith) (omega arith) (omega arith) h.valid;
         seqno = refl;
         view = refl;
         order = or_true (not (founds layers (genesis_entry g)));
         rest = passes (member x (recorded_nodes layers (genesis_entry g ∷ []))) _ _ (ap (member x) nodes_recorded ∙ h.named)
             (passes (same_bytes s.root s.root) _ _ (same_bytes_self s.root)
-            (passes (may_record layers (genesis_entry g ∷ []) 2) _ _ (ap (λ (b : Bool). if b then (2 == 2) else is_later_commit layers (genesis_entry g ∷ []) 2) founded) (ap (broken_by_fault 2) h.valid)));
+            (passes (may_record layers (genesis_entry g ∷ []) 2) _ _ (ap (λ (b : Bool). if b then (2 == 2) else is_later_commit layers (genesis_entry g ∷ []) 2) founded) (ap (broken_by_fault 2) h.valid.valid)));
       })
 
   -- ---- the opening ledger

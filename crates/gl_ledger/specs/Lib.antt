@@ -15,3 +15,4 @@ pub mod Sound
 pub mod Makers
 pub mod LedgerBook
 pub mod Audit
+pub mod Services

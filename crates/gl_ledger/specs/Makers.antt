@@ -1,6 +1,7 @@
 -- The entries that a ledger takes of requests, of governance and of signatures, and where an entry
 -- may be made.
-use Rattle.std.specs.Prelude.{◌≡◌, ◌≤◌, ℕ, suc, ◌+◌, List, [], ◌∷◌, Option, None, Some, Result, Ok, Err, false, length, if◌then◌else◌}
+use Rattle.std.specs.Prelude.{◌≡◌, ◌≤◌, ◌^◌, ℕ, suc, ◌+◌, List, [], ◌∷◌, Option, None, Some, Result, Ok, Err, true, false, length, if◌then◌else◌}
+use Rattle.gl_base.specs.Bytes.{are_bytes}
 use Rattle.gl_merkle.specs.Tree.{root_of}
 use Rattle.gl_rules.specs.Identity.{NodeId}
 use Rattle.gl_rules.specs.World.{first_view}
@@ -11,6 +12,7 @@ use Rattle.gl_entry.specs.Entry.{no_digest, body_bytes}
 use Rattle.gl_entry.specs.SignedMessage.{signed_message}
 use Rattle.gl_entry.specs.declared.entry.Content.TheVariants as content
 use Rattle.gl_entry.specs.declared.entry.Entry.{Entry}
+use Rattle.gl_entry.specs.declared.entry.Signature as signatures
 use Rattle.gl_ledger.specs.Genesis.{governance_bytes, is_governance_request}
 use Rattle.gl_ledger.specs.Tree.{leaves_of}
 use Rattle.gl_ledger.specs.Ledger.{genesis_entry, execute_result, within_size, within_seqnos}
@@ -21,7 +23,7 @@ use Rattle.gl_ledger.specs.declared.refusal.Refusal.{Refusal}
 use Rattle.gl_ledger.specs.Layers.{Layers}
 use Rattle.gl_ledger.specs.Recordings.{last_entry, requests_of}
 use Rattle.gl_ledger.specs.Acceptance.{request_fault}
-use Rattle.gl_ledger.specs.Broken.{Broken, is_unopened, effect_writes, broken}
+use Rattle.gl_ledger.specs.Broken.{Broken, is_unopened, effect_writes, fault_of_signature, broken}
 
 -- What a request is answered.
 pub data Given : Type 0 where
@@ -97,20 +99,33 @@ module _ (layers : Layers) where
       layers.signature_by x leaf
       (signed_message (root_of (leaves_of ledger)) view (length ledger + 1) commit)
 
+  -- What its entry records.
+  abbrev pub signature_made : NodeId → ℕ → List Entry → ℕ → ℕ → signatures.Signature
+  signature_made x leaf ledger view commit = record {
+    node = x;
+    commit = commit;
+    root = root_of (leaves_of ledger);
+    signature = signature_behind x leaf ledger view commit;
+  }
+
   -- Its entry.
   abbrev pub signed_entry : NodeId → ℕ → List Entry → ℕ → ℕ → Entry
   signed_entry x leaf ledger view commit = record {
     view = view;
     seqno = length ledger + 1;
-    content = content.Signature (record {
-      node = x;
-      commit = commit;
-      root = root_of (leaves_of ledger);
-      signature = signature_behind x leaf ledger view commit;
-    });
+    content = content.Signature (signature_made x leaf ledger view commit);
     writes = [];
     claims = no_digest;
   }
+
+  -- It is valid there, and an entry has room for it.
+  pub record MakesValid (x : NodeId) (leaf : ℕ) (ledger : List Entry) (view commit : ℕ) :
+      Type 0 where
+    pub bytes : are_bytes (signature_behind x leaf ledger view commit) ≡ true
+    pub short : length (signature_behind x leaf ledger view commit) ≤ 2 ^ 16
+    pub valid : fault_of_signature layers ledger (signed_entry x leaf ledger view commit)
+        (signature_made x leaf ledger view commit)
+        ≡ None
 
   abbrev pub signing_result : NodeId → ℕ → List Entry → ℕ → ℕ → Result Entry Unmade
   signing_result x leaf ledger view commit =

@@ -33,11 +33,12 @@ use Rattle.gl_ledger.specs.Recordings.{last_entry, recording_of, is_founding_or_
 use Rattle.gl_ledger.specs.Broken.{is_unopened, broken}
 use Rattle.gl_ledger.specs.Makers.{MayMake, MakesValid, by_store, guarded, request_result, signed_entry, signing_result}
 use Rattle.gl_ledger.specs.LedgerBook.{ledger_book}
-use Rattle.gl_ledger.specs.Services.{ServiceEvent, LeadsAt, node_of}
+use Rattle.gl_ledger.specs.Services.{ServiceEvent, Leads, node_of}
 use Rattle.gl_tx.specs.declared.request.Operation.{Operation}
 use Rattle.gl_ledger.proofs.SignatureEntries.{recorded_digest, signed_is_entry}
 use Rattle.gl_ledger.proofs.Pushes.{no_last}
 use Rattle.gl_ledger.proofs.Opened.{alone}
+use Rattle.gl_ledger.proofs.ViewLimits.{views_low}
 use Rattle.gl_ledger.proofs.Lawful.{lawful}
 use Rattle.gl_ledger.proofs.Making.{signed_unbroken, unless_none, execute_is}
 
@@ -164,7 +165,7 @@ module _ (layers : Layers) where
 
   -- ---- a leader of a service
 
-  module _ (s : Start Entry) (opening : IsOpening (ledger_book layers) (EachFollows (ledger_book layers)) s) (first : IsConfigured (ledger_book layers) s.first s.opening) (events : List ServiceEvent) (x : NodeId) (leads : LeadsAt layers s events x) where
+  module _ (s : Start Entry) (opening : IsOpening (ledger_book layers) (EachFollows (ledger_book layers)) s) (first : IsConfigured (ledger_book layers) s.first s.opening) (events : List ServiceEvent) (x : NodeId) (leads : Leads layers s events x) where
     abbrev pub n : Node Entry
     n = node_of layers s events x
 
@@ -179,7 +180,7 @@ module _ (layers : Layers) where
     at_end P h = subst (λ (es : List ServiceEvent). P (node_after (ledger_book layers) s es x)) whole h
 
     leads_there : (node_at (ledger_book layers) s events (length events) x).role ≡ Leader
-    leads_there = subst (λ (es : List ServiceEvent). (node_after (ledger_book layers) s es x).role ≡ Leader) (sym whole) leads.leads
+    leads_there = subst (λ (es : List ServiceEvent). (node_after (ledger_book layers) s es x).role ≡ Leader) (sym whole) leads
 
     follows : EachFollows (ledger_book layers) n.log
     follows = at_end (λ m. EachFollows (ledger_book layers) m.log) (all.follows (length events) x leads_there)
@@ -193,8 +194,11 @@ module _ (layers : Layers) where
     recorded : member x (recorded_nodes layers n.log) ≡ true
     recorded = configured_recorded layers x n.log (at_end (λ m. IsConfigured (ledger_book layers) x m.log) (all.configured first (length events) x leads_there))
 
+    four_bytes : n.view < 2 ^ 32
+    four_bytes = let v = views_low opening (lawful layers) events x in omega (arith, v)
+
     pub leader_executes : (q : List Operation) → (ledger_book layers).execute n.log n.view q ≡ request_result n.log n.view q
-    leader_executes q = execute_is layers n.log n.view leads.view (may_make layers n.log n.view n.commit follows views may) q
+    leader_executes q = execute_is layers n.log n.view four_bytes (may_make layers n.log n.view n.commit follows views may) q
 
     pub leader_signs : (leaf : ℕ) → MakesValid layers x leaf n.log n.view n.commit → (ledger_book layers).sign x leaf n.log n.view n.commit ≡ signing_result layers x leaf n.log n.view n.commit
-    leader_signs leaf valid = sign_is n.log n.view n.commit leads.view (may_make layers n.log n.view n.commit follows views may) x leaf recorded may valid
+    leader_signs leaf valid = sign_is n.log n.view n.commit four_bytes (may_make layers n.log n.view n.commit follows views may) x leaf recorded may valid

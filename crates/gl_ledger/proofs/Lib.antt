@@ -30,4 +30,5 @@ pub mod Opening
 pub mod Opened
 pub mod NodeOrder
 pub mod Making
+pub mod ViewLimits
 pub mod Leading

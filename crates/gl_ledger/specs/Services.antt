@@ -1,5 +1,5 @@
 -- Services that begin with an opening ledger, and what is asked of a genesis that founds one.
-use Rattle.std.specs.Prelude.{◌≡◌, ◌<◌, ◌^◌, ℕ, List, [], ◌∷◌, None, Some, Ok, true, map}
+use Rattle.std.specs.Prelude.{◌≡◌, List, [], ◌∷◌, None, Some, Ok, true, map}
 use Rattle.gl_rules.specs.Identity.{NodeId, member}
 use Rattle.gl_rules.specs.Node.{Node, Leader}
 use Rattle.gl_rules.specs.World.{Start, Event, first_view}
@@ -41,7 +41,5 @@ module _ (layers : Layers) where
   abbrev pub node_of : Start Entry → List ServiceEvent → NodeId → Node Entry
   node_of s events x = node_after (ledger_book layers) s events x
 
-  -- It leads, in a view of four bytes.
-  pub record LeadsAt (s : Start Entry) (events : List ServiceEvent) (x : NodeId) : Type 0 where
-    pub leads : (node_of s events x).role ≡ Leader
-    pub view : (node_of s events x).view < 2 ^ 32
+  abbrev pub Leads : Start Entry → List ServiceEvent → NodeId → Type 0
+  Leads s events x = (node_of s events x).role ≡ Leader

@@ -20,7 +20,7 @@ ghost use Rattle.gl_ledger.specs.Sound.{IsSound};
 ghost use Rattle.gl_ledger.specs.Makers.{MayMake, MakesValid, opening_of, request_result, signing_result};
 ghost use Rattle.gl_ledger.specs.LedgerBook.{ledger_book};
 ghost use Rattle.gl_ledger.specs.Audit.{LedgerFault, IsFaultOf, audited, opened};
-ghost use Rattle.gl_ledger.specs.Services.{Begins, Founds, LeadsAt, ServiceEvent, node_of};
+ghost use Rattle.gl_ledger.specs.Services.{Begins, Founds, Leads, ServiceEvent, node_of};
 
 /// The ledger has the laws that the rules of consensus ask of a book.
 pub fn is_lawful()
@@ -83,12 +83,12 @@ pub fn is_unguarded()
         (ledger_book layers).sign node leaf ledger view commit
         ≡ signing_result layers node leaf ledger view commit }
     ensures leader_executes { (layers : Layers) (s : Start Entry) → Begins layers s →
-        (events : List ServiceEvent) (x : NodeId) → LeadsAt layers s events x →
+        (events : List ServiceEvent) (x : NodeId) → Leads layers s events x →
         (request : List Operation) →
         let n = node_of layers s events x in
         (ledger_book layers).execute n.log n.view request ≡ request_result n.log n.view request }
     ensures leader_signs { (layers : Layers) (s : Start Entry) → Begins layers s →
-        (events : List ServiceEvent) (x : NodeId) → LeadsAt layers s events x → (leaf : ℕ) →
+        (events : List ServiceEvent) (x : NodeId) → Leads layers s events x → (leaf : ℕ) →
         let n = node_of layers s events x in
         MakesValid layers x leaf n.log n.view n.commit →
         (ledger_book layers).sign x leaf n.log n.view n.commit

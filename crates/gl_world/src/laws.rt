@@ -6,7 +6,7 @@ ghost use Rattle.gl_rules.specs.Safety.{EachFollows, IsOpening, NeverConflicts};
 ghost use Rattle.gl_tx.specs.declared.request.Operation.{Operation};
 ghost use Rattle.gl_ledger.specs.declared.genesis.ServiceState.{ServiceState};
 ghost use Rattle.gl_ledger.specs.Makers.{request_result, signing_result};
-ghost use Rattle.gl_ledger.specs.Services.{Begins, LeadsAt, ServiceEvent, node_of};
+ghost use Rattle.gl_ledger.specs.Services.{Begins, Leads, ServiceEvent, node_of};
 ghost use Rattle.gl_world.specs.declared.settings.Settings.{Settings};
 ghost use Rattle.gl_world.specs.Group.{IsGroup, IsSafeGroup, book_of, group_start, layers_of};
 
@@ -28,11 +28,11 @@ pub fn is_safe()
 /// audit, whatever happened before.
 pub fn is_unguarded()
     ensures executes { (s : Settings) → IsGroup s → (events : List ServiceEvent) (x : NodeId) →
-        LeadsAt (layers_of s) (group_start s) events x → (request : List Operation) →
+        Leads (layers_of s) (group_start s) events x → (request : List Operation) →
         let n = node_of (layers_of s) (group_start s) events x in
         (book_of s).execute n.log n.view request ≡ request_result n.log n.view request }
     ensures signs { (s : Settings) → IsGroup s → (events : List ServiceEvent) (x : NodeId) →
-        LeadsAt (layers_of s) (group_start s) events x → (leaf : ℕ) →
+        Leads (layers_of s) (group_start s) events x → (leaf : ℕ) →
         let n = node_of (layers_of s) (group_start s) events x in
         (book_of s).sign x leaf n.log n.view n.commit
         ≡ signing_result (layers_of s) x leaf n.log n.view n.commit }

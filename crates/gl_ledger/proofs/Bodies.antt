@@ -22,7 +22,7 @@ use Rattle.gl_ledger.specs.declared.genesis.ShareDigest.{ShareDigest}
 use Rattle.gl_ledger.specs.declared.genesis.Dealing.{Dealing}
 use Rattle.gl_ledger.specs.declared.genesis.Genesis as request
 use Rattle.gl_ledger.proofs.Entries.{length-body_bytes}
-use Rattle.gl_ledger.proofs.GenesisFields.{sized_length, node_fields, fields_of, few_nodes}
+use Rattle.gl_ledger.proofs.GenesisFields.{sized_length, node_fields, fields_of, few_nodes, member_parts, share_parts}
 
 -- ---- write sets
 
@@ -71,7 +71,7 @@ members_size : (ms : List NewMember) → list_all is_member ms ≡ true → (len
 members_size [] all = (omega arith, omega arith)
 members_size (m ∷ ms) all =
     let both = and_parts (is_member m) (list_all is_member ms) all in
-    let parts = and_parts (is_byte m.number) (are_sized 60 m.key) both.0 in
+    let parts = member_parts m both.0 in
     let one = member_size m (sized_length 60 m.key parts.1) in
     let rest = members_size ms both.1 in
     let bytes = length-append (member_bytes m) (flat_map member_bytes ms) in
@@ -82,7 +82,7 @@ pub shares_size : (ss : List ShareDigest) → list_all is_share ss ≡ true → 
 shares_size [] all = omega arith
 shares_size (s ∷ ss) all =
     let both = and_parts (is_share s) (list_all is_share ss) all in
-    let parts = and_parts (is_byte s.member) (is_digest s.digest) both.0 in
+    let parts = share_parts s both.0 in
     let digest = sized_length 32 s.digest parts.1 in
     let rest = shares_size ss both.1 in
     let bytes = length-append (share_bytes s) (flat_map share_bytes ss) in

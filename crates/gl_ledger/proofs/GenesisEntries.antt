@@ -26,7 +26,7 @@ use Rattle.gl_ledger.specs.declared.genesis.Genesis as request
 use Rattle.gl_ledger.proofs.WriteSets.{is_ordered-set_from, list_all-set_from}
 use Rattle.gl_ledger.proofs.Entries.{governance_fits, is_entry-from_fields}
 use Rattle.gl_ledger.proofs.Bodies.{shares_size, small_founding}
-use Rattle.gl_ledger.proofs.GenesisFields.{sized_bytes, sized_length, node_fields, Fields, fields_of}
+use Rattle.gl_ledger.proofs.GenesisFields.{sized_bytes, sized_length, node_fields, Fields, fields_of, member_parts, share_parts}
 use Rattle.gl_ledger.proofs.Digests.{bytes-append, number_bytes, sha256_bytes}
 
 -- ---- bytes
@@ -53,7 +53,7 @@ dealt_bytes : (d : Dealing) → is_byte d.threshold ≡ true → is_digest d.sec
 dealt_bytes d a b c =
     bytes-append ((d.threshold ∷ d.secret_digest) ++ little_endian 1 (length d.shares)) (flat_map share_bytes d.shares)
     (bytes-append (d.threshold ∷ d.secret_digest) (little_endian 1 (length d.shares)) (one_byte d.threshold d.secret_digest a (sized_bytes 32 d.secret_digest b)) (number_bytes 1 (length d.shares)))
-    (flat_bytes share_bytes is_share d.shares (λ s h. let p = and_parts (is_byte s.member) (is_digest s.digest) h in one_byte s.member s.digest p.0 (sized_bytes 32 s.digest p.1)) c)
+    (flat_bytes share_bytes is_share d.shares (λ s h. let p = share_parts s h in one_byte s.member s.digest p.0 (sized_bytes 32 s.digest p.1)) c)
 
 asked_bytes : (g : request.Genesis) → Fields g → are_bytes (genesis_bytes g) ≡ true
 asked_bytes g f =
@@ -68,7 +68,7 @@ asked_bytes g f =
     (number_bytes 1 (length g.nodes)))
     (flat_bytes node_bytes is_node g.nodes (λ n h. let p = node_fields n h in bytes-append n.key (with_u32_length n.endorsement) p.key (length_bytes n.endorsement p.endorsement)) f.nodes))
     (number_bytes 1 (length g.members)))
-    (flat_bytes member_bytes is_member g.members (λ m h. let p = and_parts (is_byte m.number) (are_sized 60 m.key) h in one_byte m.number m.key p.0 (sized_bytes 60 m.key p.1)) f.members))
+    (flat_bytes member_bytes is_member g.members (λ m h. let p = member_parts m h in one_byte m.number m.key p.0 (sized_bytes 60 m.key p.1)) f.members))
     (dealt_bytes g.dealing f.threshold f.secret f.shares)
 
 pub request_are_bytes : (g : request.Genesis) → is_genesis g ≡ true → are_bytes (genesis_bytes g) ≡ true
@@ -92,7 +92,7 @@ rules_fit = refl
 
 member_fits : (m : NewMember) → is_member m ≡ true → is_write (member_row m) ≡ true
 member_fits m h =
-    let p = and_parts (is_byte m.number) (are_sized 60 m.key) h in
+    let p = member_parts m h in
     let long = sized_length 60 m.key p.1 in
     row_fits members_map (m.number ∷ []) ((1 ∷ m.key) ++ little_endian 4 0) refl (omega arith) (omega arith) (one_byte m.number [] p.0 refl)
     (simp (length-append, length-little_endian) (omega (arith, long)))

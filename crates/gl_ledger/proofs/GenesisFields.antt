@@ -5,8 +5,10 @@ use Rattle.std.proofs.lemmas.Bool.{and_parts}
 use Rattle.std.proofs.lemmas.Bool.Decides.{nat_tests}
 use Rattle.gl_base.specs.Bytes.{is_byte, are_bytes}
 use Rattle.gl_entry.specs.Entry.{are_sized, is_digest}
-use Rattle.gl_ledger.specs.Genesis.{node_id, is_node, is_member, is_share, is_dealing, is_genesis, are_nodes, are_members, numbers_of, is_dealing_among, are_distinct_bytes, is_acceptable}
+use Rattle.gl_ledger.specs.Genesis.{node_id, is_node, is_member_number, is_member, is_share, is_dealing, is_genesis, are_nodes, are_members, numbers_of, is_dealing_among, are_distinct_bytes, is_acceptable}
 use Rattle.gl_ledger.specs.declared.genesis.NewNode.{NewNode}
+use Rattle.gl_ledger.specs.declared.genesis.NewMember.{NewMember}
+use Rattle.gl_ledger.specs.declared.genesis.ShareDigest.{ShareDigest}
 use Rattle.gl_ledger.specs.declared.genesis.Genesis as request
 
 pub sized_bytes : (n : ℕ) (xs : List ℕ) → are_sized n xs ≡ true → are_bytes xs ≡ true
@@ -31,6 +33,17 @@ node_fields n h =
       endorsement = b.1;
       few = grind (arith, nat_tests, a.1);
     }
+
+-- the number of a member is a byte
+pub member_parts : (m : NewMember) → is_member m ≡ true → (is_byte m.number ≡ true) × (are_sized 60 m.key ≡ true)
+member_parts m h =
+    let p = and_parts (is_member_number m.number) (are_sized 60 m.key) h in
+    ((and_parts (nat_le 1 m.number) (is_byte m.number) p.0).1, p.1)
+
+pub share_parts : (s : ShareDigest) → is_share s ≡ true → (is_byte s.member ≡ true) × (is_digest s.digest ≡ true)
+share_parts s h =
+    let p = and_parts (is_member_number s.member) (is_digest s.digest) h in
+    ((and_parts (nat_le 1 s.member) (is_byte s.member) p.0).1, p.1)
 
 pub record Fields (g : request.Genesis) : Type 0 where
   pub identity : are_sized 60 g.identity ≡ true

@@ -1,5 +1,5 @@
 -- The ledger has the laws of a book: what is made was tried by the rules.
-use Rattle.std.proofs.Common.{◌≡◌, ℕ, ◌+◌, List, [], ◌∷◌, ◌++◌, length, take, Option, Some, None, Result, Ok, Err, Bool, true, false, refl, sym, ◌∙◌, ap, subst, if◌then◌else◌, nat_lt}
+use Rattle.std.proofs.Common.{◌≡◌, ℕ, List, [], ◌∷◌, ◌++◌, length, take, Option, Some, None, Result, Ok, Err, Bool, true, false, refl, sym, ◌∙◌, ap, subst, if◌then◌else◌, nat_lt}
 use Rattle.gl_base.specs.TxId.{last_seqno}
 use Rattle.gl_rules.specs.Identity.{NodeId}
 use Rattle.gl_rules.specs.Safety.{IsLawful, IsRetiring, EachFollows, Makes, MarksNone, KeepsPlaces}
@@ -22,7 +22,7 @@ use Rattle.gl_ledger.specs.Layers.{Layers}
 use Rattle.gl_ledger.specs.Recordings.{Recording, OfEvidence, requests_of, removal, mark, recording_of}
 use Rattle.gl_ledger.specs.Acceptance.{request_fault}
 use Rattle.gl_ledger.specs.Broken.{Broken, broken, broken_by}
-use Rattle.gl_ledger.specs.Makers.{Given, Replied, Governed, Unmade, Unspelled, ByStore, with_reply, request_result, by_store, unless_fault, unless_broken, guarded, governance_entry, govern_result, signed_entry, signing_result}
+use Rattle.gl_ledger.specs.Makers.{Given, Replied, Governed, Unmade, Unspelled, with_reply, request_result, by_store, unless_fault, unless_broken, guarded, governance_entry, govern_result, signed_entry, signing_result}
 use Rattle.gl_ledger.specs.LedgerBook.{ServiceBook, by_rule, ledger_book}
 use Rattle.gl_ledger.proofs.Passing.{passing}
 

@@ -1,13 +1,11 @@
 -- What the ledger makes breaks no rule: the guard refuses no application request, and of signatures only those of a node
 -- that isn't recorded, or with a commit that may not be recorded.
-use Rattle.std.proofs.Common.{◌≡◌, ℕ, zero, suc, ◌+◌, ◌<◌, ◌≤◌, ◌^◌, List, [], ◌∷◌, length, Option, Some, None, Result, Ok, Err, Bool, true, false, not, ◌&&◌, ◌||◌, ◌==◌, nat_le, nat_lt, max, if◌then◌else◌, refl, sym, ◌∙◌, ap, subst, arith}
+use Rattle.std.proofs.Common.{◌≡◌, ℕ, ◌+◌, ◌<◌, ◌≤◌, ◌^◌, List, [], ◌∷◌, length, Option, Some, None, Result, Ok, Err, Bool, true, false, not, ◌&&◌, ◌||◌, ◌==◌, nat_le, max, if◌then◌else◌, refl, sym, ◌∙◌, ap, subst, arith}
 use Rattle.std.specs.List.{list_all}
 use Rattle.std.proofs.lemmas.Bool.{and_from}
 use Rattle.std.proofs.lemmas.Bool.Decides.{nat_tests}
 use Rattle.sha2.specs.Sha256.{sha256}
 use Rattle.gl_base.specs.Bytes.{same_bytes}
-use Rattle.gl_base.specs.TxId.{last_seqno}
-use Rattle.gl_hss.specs.declared.fault.HssFault.{HssFault}
 use Rattle.gl_merkle.specs.Tree.{root_of}
 use Rattle.gl_rules.specs.Identity.{NodeId, member}
 use Rattle.gl_rules.specs.Log.{entry_at, seqno_with_first, last_signature, greatest_recorded}
@@ -24,9 +22,7 @@ use Rattle.gl_entry.specs.Entry.{is_signature, is_entry, recorded_commit}
 use Rattle.gl_entry.specs.declared.entry.Content.{Content}
 use Rattle.gl_entry.specs.declared.entry.Content.TheVariants as content
 use Rattle.gl_entry.specs.declared.entry.Entry.{Entry}
-use Rattle.gl_entry.specs.declared.entry.Signature as signatures
 use Rattle.gl_ledger.specs.Genesis.{governance_bytes}
-use Rattle.gl_ledger.specs.Effect.{service_state}
 use Rattle.gl_ledger.specs.Tree.{tables_of, leaves_of}
 use Rattle.gl_ledger.specs.Ledger.{execute_result, application_entry}
 use Rattle.gl_ledger.specs.declared.refusal.Refusal.{Refusal}

@@ -30,7 +30,7 @@ use Rattle.gl_ledger.specs.declared.genesis.GovernanceRequest.TheVariants as req
 use Rattle.gl_ledger.specs.declared.breach.GenesisFault.{GenesisFault}
 use Rattle.gl_ledger.specs.Layers.{Layers, ReadsSpellings}
 use Rattle.gl_ledger.specs.Recordings.{Recording, OfGovernance, OfSignature, last_entry, recording_of, governance_recording, application_recording, is_founding, is_founding_or_none, is_signing, founds, requests_of, recorded_at, recorded_in, nodes_of, trusted_of, changed_set, recorded_nodes, trusted_nodes, configuration}
-use Rattle.gl_ledger.specs.Acceptance.{required, genesis_fault}
+use Rattle.gl_ledger.specs.Acceptance.{genesis_fault}
 use Rattle.gl_ledger.specs.Broken.{Broken, unless_refused, is_in_order, is_unopened, broken_by, is_later_commit, may_record}
 use Rattle.gl_ledger.specs.Sound.{IsSound}
 use Rattle.gl_ledger.specs.Makers.{opening_of}

@@ -2,7 +2,6 @@
 use Rattle.std.proofs.Common.{◌≡◌, ℕ, zero, suc, List, [], ◌∷◌, ◌++◌, map, take, Option, Some, None, Bool, true, false, not, ◌||◌, ◌==◌, if◌then◌else◌, refl, ◌∙◌, ap, subst, arith, slice_get}
 use Rattle.std.proofs.lemmas.List.{append-nil}
 use Rattle.gl_base.specs.Bytes.{same_bytes}
-use Rattle.gl_merkle.specs.Tree.{root_of}
 use Rattle.gl_rules.specs.Identity.{NodeId, same, member}
 use Rattle.gl_rules.specs.Safety.{IsOpening, EachFollows}
 use Rattle.gl_rules.specs.World.{first_view}
@@ -10,8 +9,7 @@ use Rattle.gl_entry.specs.Entry.{is_signature}
 use Rattle.gl_entry.specs.declared.entry.Content.TheVariants as content
 use Rattle.gl_entry.specs.declared.entry.Entry.{Entry}
 use Rattle.gl_ledger.specs.Genesis.{node_id, genesis_bytes, genesis_writes}
-use Rattle.gl_ledger.specs.Effect.{Recorded, identity_in}
-use Rattle.gl_ledger.specs.Tree.{tables_of, leaves_of}
+use Rattle.gl_ledger.specs.Effect.{Recorded}
 use Rattle.gl_ledger.specs.Ledger.{genesis_entry}
 use Rattle.gl_ledger.specs.declared.genesis.Genesis as request
 use Rattle.gl_ledger.specs.declared.genesis.GovernanceRequest.{GovernanceRequest}
@@ -20,8 +18,7 @@ use Rattle.gl_ledger.specs.declared.breach.GenesisFault.{GenesisFault}
 use Rattle.gl_ledger.specs.Layers.{Layers}
 use Rattle.gl_ledger.specs.Recordings.{OfGovernance, OfSignature, recording_of, governance_recording, is_founding_or_none, founds, requests_of, recorded_at, nodes_of, trusted_of, changed_set, recorded_nodes, trusted_nodes, configuration}
 use Rattle.gl_ledger.specs.Changes.{changes}
-use Rattle.gl_ledger.specs.Acceptance.{genesis_fault}
-use Rattle.gl_ledger.specs.Broken.{Broken, unless_refused, with_writes, is_unopened, is_later_commit, may_record, broken_by_fault, are_same_writes, broken}
+use Rattle.gl_ledger.specs.Broken.{unless_refused, with_writes, is_later_commit, may_record, broken_by_fault, are_same_writes, broken}
 use Rattle.gl_ledger.specs.Makers.{signature_made, signed_entry, opening_of}
 use Rattle.gl_ledger.specs.LedgerBook.{by_rule, ledger_book}
 use Rattle.gl_ledger.specs.Services.{Founds}

@@ -1,5 +1,5 @@
 -- An entry that breaks no rule keeps a ledger sound.
-use Rattle.std.proofs.Common.{◌≡◌, ⊎_elim, ℕ, zero, suc, ◌+◌, ◌-◌, ◌<◌, ◌≤◌, ◌^◌, nat_lt, nat_le, List, [], ◌∷◌, ◌++◌, length, take, Option, Some, None, Result, Ok, Err, Bool, true, false, not, ◌&&◌, ◌||◌, ◌==◌, refl, sym, ◌∙◌, ap, subst, arith, slice_get, if◌then◌else◌}
+use Rattle.std.proofs.Common.{◌≡◌, ⊎_elim, ℕ, suc, ◌+◌, ◌-◌, ◌≤◌, ◌^◌, nat_lt, nat_le, List, [], ◌∷◌, ◌++◌, length, Option, Some, None, Result, Ok, Err, Bool, true, not, ◌&&◌, ◌||◌, ◌==◌, refl, sym, ◌∙◌, ap, subst, arith, slice_get, if◌then◌else◌}
 use Rattle.std.specs.List.{list_all, AllByRecursion}
 use Rattle.std.specs.FinMap as rows
 use Rattle.std.specs.Cmp.Lexicographic.{bytes_decides}
@@ -14,7 +14,6 @@ use Rattle.gl_hss.specs.declared.fault.HssFault.{HssFault}
 use Rattle.gl_merkle.specs.Tree.{root_of}
 use Rattle.gl_rules.specs.Identity.{member}
 use Rattle.gl_rules.specs.World.{first_view}
-use Rattle.gl_vmaps.specs.Name.{is_governance}
 use Rattle.gl_vmaps.specs.Tables.{Tables, Rows, wrote, wrote_all, with_row}
 use Rattle.gl_vmaps.specs.Writes.{is_write, is_ordered}
 use Rattle.gl_vmaps.specs.declared.write.Write.{Write}
@@ -33,7 +32,7 @@ use Rattle.gl_entry.specs.declared.entry.Signature as signatures
 use Rattle.gl_ledger.specs.Genesis.{service_map, service_key, genesis_rows, genesis_writes}
 use Rattle.gl_ledger.specs.Effect.{Recorded, effect, effect_rows, service_state, state_of_value}
 use Rattle.gl_ledger.specs.Tree.{tables_of, leaves_of}
-use Rattle.gl_ledger.specs.Serial.{IsLedger, Turns}
+use Rattle.gl_ledger.specs.Serial.{Turns}
 use Rattle.gl_ledger.specs.declared.genesis.ServiceState.{ServiceState}
 use Rattle.gl_ledger.specs.declared.genesis.ServiceState.TheVariants.{Opening, Open}
 use Rattle.gl_ledger.specs.declared.genesis.GovernanceRequest.{GovernanceRequest}
@@ -43,8 +42,8 @@ use Rattle.gl_ledger.specs.Layers.{Layers, ReadsSpellings}
 use Rattle.gl_ledger.specs.Recordings.{Recording, OfGovernance, OfApplication, OfSignature, OfEvidence, governance_recording, application_recording, is_founding, is_founding_or_none, is_signing, last_entry, recording_of, founds, requests_of, recorded_nodes}
 use Rattle.gl_ledger.specs.Changes.{are_rows}
 use Rattle.gl_ledger.specs.Acceptance.{request_fault}
-use Rattle.gl_ledger.specs.Broken.{Broken, breach, replay, writes_digest, is_next_view, is_in_order, are_same_writes, with_writes, broken_of_run, broken_in_state, effect_writes, unless_refused, broken_by_fault, may_record, fault_of_signature, broken_by_signature, broken_by_governance, broken_by_application, broken_by, broken}
-use Rattle.gl_ledger.specs.Sound.{IsFounded, IsGovernanceEntry, IsApplicationEntry, IsSignatureEntry, StandsAs, IsSerial, IsGoverned, IsSound}
+use Rattle.gl_ledger.specs.Broken.{Broken, is_next_view, is_in_order, are_same_writes, broken_in_state, effect_writes, unless_refused, broken_by_fault, may_record, fault_of_signature, broken_by, broken}
+use Rattle.gl_ledger.specs.Sound.{IsFounded, IsGovernanceEntry, IsApplicationEntry, IsSignatureEntry, StandsAs, IsGoverned, IsSound}
 use Rattle.gl_ledger.proofs.TablesLaws.{tables_of-push}
 use Rattle.gl_ledger.proofs.WriteSets.{sets_value, is_ordered-set_from, list_all-set_from}
 use Rattle.gl_ledger.proofs.Growth.{IsOutside, IsNoGovernance, untouched, in_order-push}

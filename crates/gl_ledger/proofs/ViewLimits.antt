@@ -11,7 +11,7 @@ use Rattle.gl_rules.specs.Log.{view_of_entry, entry_at, last_signature_position,
 use Rattle.gl_rules.specs.Configuration.{configurations_above, active, in_some, others}
 use Rattle.gl_rules.specs.Steps.{cut_to, enter_view, update_view, has_votes, lead_if, lead_if_elected, as_leader, if_leader}
 use Rattle.gl_rules.specs.Elections.{may_vote_for, may_campaign, become_candidate, campaign, campaign_if_allowed, last_view, timeout_as, timeout, reply_to_vote_request, on_request_vote, add_vote, count_votes, vote_reply_as, on_vote_reply, on_propose_vote, hand_over, step_down}
-use Rattle.gl_rules.specs.Replication.{accept_entries, append_reply, highest_possible_match, update_match, matching_prefix_len, checked_append, accept_or_refuse, merge_entries, merge_if_matching, become_follower, append_as, on_append, update_progress, append_reply_as, on_append_reply, greatest_to_commit, commit_to, advance, restart, snapshot_of, with_snapshot, install_snapshot, install, is_peer, send_append, next_of, append_message, replicate}
+use Rattle.gl_rules.specs.Replication.{accept_entries, append_reply, highest_possible_match, update_match, matching_prefix_len, checked_append, accept_or_refuse, merge_entries, merge_if_matching, become_follower, append_as, on_append, update_progress, append_reply_as, on_append_reply, greatest_to_commit, commit_to, advance, restart, snapshot_of, install_snapshot, install, is_peer, send_append, next_of, append_message, replicate}
 use Rattle.gl_rules.specs.Requests.{pending_limit, last_count, append_result, execute_request, submit, unless_conflict, finish_as_leader, finish, if_removal_committed, unless_mark_refused, if_markable, govern_as_leader, govern, reserve, append_signature, sign_as_leader, sign, append_evidence, evidence}
 use Rattle.std.specs.List.{AllByRecursion}
 use Rattle.gl_rules.specs.World.{Start, Event, Timeout, Deliver, Submit, Finish, Govern, Reserve, Sign, Evidence, Replicate, Advance, StepDown, Restart, Install, World, at, answer_as, undo_if_refused, on_message, deliver, happens, run, begin, leader_at_start, starter, joiner}

@@ -1,7 +1,7 @@
 -- The rules of the audit, and the first of them that an entry breaks behind a ledger. A ledger is
 -- valid where no entry of it breaks one behind those before it. A node refuses an entry from
 -- another node for the same answer.
-use Rattle.std.specs.Prelude.{ℕ, suc, ◌+◌, List, [], ◌∷◌, ◌++◌, Option, None, Some, Result, Ok, Err, Bool, true, false, not, ◌&&◌, ◌||◌, ◌==◌, nat_le, length, if◌then◌else◌}
+use Rattle.std.specs.Prelude.{ℕ, ◌+◌, List, [], ◌∷◌, ◌++◌, Option, None, Some, Result, Ok, Err, Bool, true, false, not, ◌&&◌, ◌||◌, ◌==◌, nat_le, length, if◌then◌else◌}
 use Rattle.std.specs.List.{list_all, flat_map}
 use Rattle.sha2.specs.Sha256.{sha256}
 use Rattle.gl_base.specs.LittleEndian.{little_endian}

@@ -65,11 +65,15 @@ governance_bytes (requests.Genesis g) = genesis_bytes g
 abbrev pub is_node : NewNode → Bool
 is_node n = are_sized 56 n.key && are_bytes n.endorsement && nat_lt (length n.endorsement) (2 ^ 32)
 
+-- The number of a member, from 1 to 255.
+abbrev pub is_member_number : ℕ → Bool
+is_member_number number = nat_le 1 number && is_byte number
+
 abbrev pub is_member : NewMember → Bool
-is_member m = is_byte m.number && are_sized 60 m.key
+is_member m = is_member_number m.number && are_sized 60 m.key
 
 abbrev pub is_share : ShareDigest → Bool
-is_share s = is_byte s.member && is_digest s.digest
+is_share s = is_member_number s.member && is_digest s.digest
 
 abbrev pub is_dealing : Dealing → Bool
 is_dealing d =

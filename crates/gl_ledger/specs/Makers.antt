@@ -1,6 +1,6 @@
 -- The entries that a ledger takes of requests, of governance and of signatures, and where an entry
 -- may be made.
-use Rattle.std.specs.Prelude.{◌≡◌, ◌≤◌, ◌^◌, ℕ, suc, ◌+◌, List, [], ◌∷◌, Option, None, Some, Result, Ok, Err, true, false, length, if◌then◌else◌}
+use Rattle.std.specs.Prelude.{◌≡◌, ◌≤◌, ◌^◌, ℕ, ◌+◌, List, [], ◌∷◌, Option, None, Some, Result, Ok, Err, true, false, length, if◌then◌else◌}
 use Rattle.gl_base.specs.Bytes.{are_bytes}
 use Rattle.gl_merkle.specs.Tree.{root_of}
 use Rattle.gl_rules.specs.Identity.{NodeId}

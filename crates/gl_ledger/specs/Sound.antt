@@ -1,19 +1,15 @@
 -- What is said of each ledger of a service.
-use Rattle.std.specs.Prelude.{◌≡◌, ◌≢◌, ℕ, suc, ◌+◌, ◌≤◌, List, [], ◌∷◌, ◌++◌, None, Some, Ok, true, length, take, slice_get}
-use Rattle.std.specs.List.{AllByRecursion}
+use Rattle.std.specs.Prelude.{◌≡◌, ℕ, ◌+◌, List, [], ◌∷◌, ◌++◌, None, Some, Ok, true, length, take, slice_get}
 use Rattle.sha2.specs.Sha256.{sha256}
 use Rattle.gl_merkle.specs.Tree.{root_of}
 use Rattle.gl_rules.specs.Identity.{member}
 use Rattle.gl_rules.specs.World.{first_view}
 use Rattle.gl_vmaps.specs.Name.{is_governance}
-use Rattle.gl_vmaps.specs.Tables.{Tables, value_in, wrote_all}
-use Rattle.gl_vmaps.specs.Writes.{is_ordered}
-use Rattle.gl_vmaps.specs.declared.write.Write.{Write}
 use Rattle.gl_tx.specs.Request.{is_request, request_bytes, reply_bytes}
 use Rattle.gl_tx.specs.Run.{run}
 use Rattle.gl_tx.specs.declared.runs.Ran.{Ran}
 use Rattle.gl_tx.specs.declared.request.Operation.{Operation}
-use Rattle.gl_entry.specs.Entry.{no_digest, is_signature, is_entry}
+use Rattle.gl_entry.specs.Entry.{no_digest, is_signature}
 use Rattle.gl_entry.specs.declared.entry.Content.{Content}
 use Rattle.gl_entry.specs.declared.entry.Content.TheVariants as content
 use Rattle.gl_entry.specs.declared.entry.Entry.{Entry}

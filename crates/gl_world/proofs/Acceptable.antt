@@ -4,7 +4,7 @@ use Rattle.std.specs.List.{list_all, list_any, AllByRecursion}
 use Rattle.std.proofs.lemmas.Bool.{and_from}
 use Rattle.std.proofs.lemmas.Bool.Decides.{nat_tests}
 use Rattle.gl_base.specs.Bytes.{is_byte}
-use Rattle.gl_ledger.specs.Genesis.{node_id, are_distinct_bytes, is_node, is_member, is_share, is_dealing, is_genesis, are_distinct, numbers_of, is_ascending, are_nodes, are_members, is_dealing_among, is_acceptable}
+use Rattle.gl_ledger.specs.Genesis.{node_id, are_distinct_bytes, is_node, is_member_number, is_member, is_share, is_dealing, is_genesis, are_distinct, numbers_of, is_ascending, are_nodes, are_members, is_dealing_among, is_acceptable}
 use Rattle.gl_entry.specs.Entry.{body_bytes, body_limit, is_entry}
 use Rattle.gl_ledger.specs.Ledger.{genesis_entry}
 use Rattle.gl_ledger.specs.declared.genesis.NewNode.{NewNode}
@@ -75,6 +75,9 @@ node_fits s k = and_from _ _ (and_from _ _ (lms_key_sized (node_seed s k)) refl)
 byte_within : (s : Settings) → IsGroup s → (k : ℕ) → k < 1 + s.members → is_byte k ≡ true
 byte_within s h k high = let most = h.few in grind (arith, nat_tests)
 
+number_within : (s : Settings) → IsGroup s → (k : ℕ) → 1 ≤ k → k < 1 + s.members → is_member_number k ≡ true
+number_within s h k low high = and_from (nat_le 1 k) (is_byte k) (grind (arith, nat_tests)) (byte_within s h k high)
+
 count_fits : (s : Settings) → IsGroup s → (n : ℕ) → n ≡ s.members → nat_lt n 256 ≡ true
 count_fits s h n is = let most = h.few in grind (arith, nat_tests)
 
@@ -84,14 +87,14 @@ nodes_fit s h = let long = length-made (node_of s) 1 s.starting in let most = h.
 dealing_fits : (s : Settings) → IsGroup s → is_dealing (dealing_of s) ≡ true
 dealing_fits s h =
     and_from _ _ (and_from _ _ (sha256_digest (recovery_secret s)) (count_fits s h (length (dealing_of s).shares) (length-made (share_of s) 1 s.members)))
-    (all_made is_share (share_of s) 1 s.members (λ k low high. and_from _ _ (byte_within s h k high) (sha256_digest (recovery_secret s))))
+    (all_made is_share (share_of s) 1 s.members (λ k low high. and_from _ _ (number_within s h k low high) (sha256_digest (recovery_secret s))))
 
 pub group_fits : (s : Settings) → IsGroup s → is_genesis (genesis_of s) ≡ true
 group_fits s h =
     and_from _ _ (and_from _ _ (and_from _ _ (and_from _ _ (and_from _ _ (hss_key_sized 2 (service_seed s) refl) (nodes_fit s h))
     (all_made is_node (node_of s) 1 s.starting (λ k low high. node_fits s k)))
     (count_fits s h (length (genesis_of s).members) (length-made (member_of s) 1 s.members)))
-    (all_made is_member (member_of s) 1 s.members (λ k low high. and_from _ _ (byte_within s h k high) (hss_key_sized 1 (member_seed s k) refl)))) (dealing_fits s h)
+    (all_made is_member (member_of s) 1 s.members (λ k low high. and_from _ _ (number_within s h k low high) (hss_key_sized 1 (member_seed s k) refl)))) (dealing_fits s h)
 
 short_from : (s : Settings) (first count : ℕ) → AllByRecursion (λ (n : NewNode). length n.endorsement ≤ 2 ^ 13) (map (node_of s) (numbers_from first count))
 short_from s first zero = tt

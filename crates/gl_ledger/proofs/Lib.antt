@@ -32,3 +32,4 @@ pub mod NodeOrder
 pub mod Making
 pub mod ViewLimits
 pub mod Leading
+pub mod NodeSignatures

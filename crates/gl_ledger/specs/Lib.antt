@@ -16,3 +16,4 @@ pub mod Makers
 pub mod LedgerBook
 pub mod Audit
 pub mod Services
+pub mod NodeKeys

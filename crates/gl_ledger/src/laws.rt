@@ -1,6 +1,7 @@
 //! What holds of the ledger as a book: laws, and no code.
 
 ghost use Rattle.std.specs.Prelude.{◌≡◌, ◌<◌, ◌≤◌, ◌↔◌, ◌+◌, ◌^◌, ℕ, suc, List, [], ◌∷◌, ◌++◌, None, Some, Ok, length, map, slice_get, true};
+ghost use Rattle.gl_hss.specs.Types.{height};
 ghost use Rattle.gl_vmaps.specs.Tables.{value_in};
 ghost use Rattle.gl_tx.specs.declared.request.Operation.{Operation};
 ghost use Rattle.gl_entry.specs.declared.entry.Entry.{Entry};
@@ -20,6 +21,7 @@ ghost use Rattle.gl_ledger.specs.Sound.{IsSound};
 ghost use Rattle.gl_ledger.specs.Makers.{MayMake, MakesValid, opening_of, request_result, signing_result};
 ghost use Rattle.gl_ledger.specs.LedgerBook.{ledger_book};
 ghost use Rattle.gl_ledger.specs.Audit.{LedgerFault, IsFaultOf, audited, opened};
+ghost use Rattle.gl_ledger.specs.NodeKeys.{IsNodeKey, NodeKeys, node_signature, node_signature_fault};
 ghost use Rattle.gl_ledger.specs.Services.{Begins, Founds, Leads, ServiceEvent, node_of};
 
 /// The ledger has the laws that the rules of consensus ask of a book.
@@ -93,4 +95,12 @@ pub fn is_unguarded()
         MakesValid layers x leaf n.log n.view n.commit →
         (ledger_book layers).sign x leaf n.log n.view n.commit
         ≡ signing_result layers x leaf n.log n.view n.commit }
+{}
+
+/// What a node signs with one of its leaves, where the service's key endorses its own, is valid by
+/// the test that entries are tried by.
+pub fn is_signed()
+    ensures valid { (keys : NodeKeys) (identity : List ℕ) (x : NodeId) (leaf : ℕ) (message : List ℕ) →
+        IsNodeKey keys identity x → leaf < 2 ^ height (keys.key_of x).types →
+        node_signature_fault identity x message (node_signature keys x leaf message) ≡ None }
 {}

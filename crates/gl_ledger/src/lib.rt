@@ -18,7 +18,7 @@ pub use genesis::{
     Dealing, Genesis, GovernanceRequest, HssPublicKey, LmsPublicKey, NewMember, NewNode,
     ServiceState, ShareDigest,
 };
-pub use laws::{is_audited, is_kept_sound, is_lawful, is_opened, is_unguarded};
+pub use laws::{is_audited, is_kept_sound, is_lawful, is_opened, is_signed, is_unguarded};
 pub use refusal::Refusal;
 pub use rows::genesis_writes;
 

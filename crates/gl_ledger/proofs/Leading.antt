@@ -17,8 +17,16 @@ use Rattle.gl_ledger.specs.Effect.{Recorded}
 use Rattle.gl_ledger.specs.declared.refusal.Refusal.TheVariants as refusals
 use Rattle.gl_ledger.specs.Layers.{Layers}
 use Rattle.gl_ledger.specs.Recordings.{last_entry, recording_of, is_founding_or_none, founds, recorded_in, requests_from, requests_of, nodes_named, nodes_of, same_nodes, recorded_nodes, trusted_nodes, configuration}
+use Rattle.gl_ledger.specs.declared.breach.GenesisFault.{GenesisFault}
+use Rattle.gl_ledger.specs.declared.breach.GenesisFault.TheVariants as faults
+use Rattle.gl_ledger.specs.Genesis.{is_governance_request}
+use Rattle.gl_ledger.specs.Ledger.{within_size, within_seqnos}
+use Rattle.gl_ledger.specs.Acceptance.{request_fault}
+use Rattle.gl_entry.specs.Entry.{body_bytes}
+use Rattle.gl_ledger.specs.declared.genesis.GovernanceRequest.{GovernanceRequest}
+use Rattle.gl_ledger.specs.declared.genesis.GovernanceRequest.TheVariants as requests
 use Rattle.gl_ledger.specs.Broken.{broken}
-use Rattle.gl_ledger.specs.Makers.{MayMake, MakesValid, by_store, guarded, request_result, signed_entry, signing_result}
+use Rattle.gl_ledger.specs.Makers.{MayMake, MakesValid, by_store, guarded, request_result, signed_entry, signing_result, Given, Governed, Unspelled, unless_fault, governance_entry, govern_result}
 use Rattle.gl_ledger.specs.LedgerBook.{ledger_book}
 use Rattle.gl_ledger.specs.Services.{ServiceEvent, Leads, node_of}
 use Rattle.gl_tx.specs.declared.request.Operation.{Operation}
@@ -189,3 +197,26 @@ module _ (layers : Layers) where
 
     pub leader_signs : (leaf : ℕ) → MakesValid layers x leaf n.log n.view n.commit → (ledger_book layers).sign x leaf n.log n.view n.commit ≡ signing_result layers x leaf n.log n.view n.commit
     leader_signs leaf valid = sign_is n.log n.view n.commit four_bytes (may_make layers n.log n.view n.commit follows views may) x leaf recorded may valid
+
+    -- for now a leader refuses each request of governance, as it doesn't come first
+    pub leader_governs : (g : GovernanceRequest) → (ledger_book layers).govern n.log n.view g ≡ govern_result layers n.log n.view g
+    unfolding recorded_nodes
+    leader_governs g = go (is_governance_request g) (request_fault layers (requests_of layers n.log) g) (not_first (requests_of layers n.log) g some_recorded)
+      where
+        e : Entry
+        e = governance_entry layers g n.log n.view
+
+        some_recorded : member x (nodes_of (requests_of layers n.log)) ≡ true
+        some_recorded = recorded
+
+        not_first : (rs : List Recorded) (g : GovernanceRequest) → member x (nodes_of rs) ≡ true → request_fault layers rs g ≡ Some faults.NotFirst
+        not_first [] g h = absurd (cc)
+        not_first (r ∷ rs) (requests.Genesis g) h = refl
+
+        go : (t : Bool) (o : Option GenesisFault) → o ≡ Some faults.NotFirst →
+            guarded layers (λ (made : Entry × Given). made.0) n.log
+            (if t then unless_fault o (by_store (within_size (length (body_bytes e)) (within_seqnos n.log (e, Governed)))) else Err Unspelled)
+            ≡ (if t then unless_fault o (by_store (within_size (length (body_bytes e)) (within_seqnos n.log (e, Governed)))) else Err Unspelled)
+        go false o h = refl
+        go true None h = absurd (cc)
+        go true (Some fault) h = refl

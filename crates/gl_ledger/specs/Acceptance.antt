@@ -1,5 +1,5 @@
 -- Which requests of governance are accepted behind a ledger, and why others are not.
-use Rattle.std.specs.Prelude.{◌≡◌, ℕ, List, Option, None, Some, Bool, true, false, map, length, nat_le, nat_eq}
+use Rattle.std.specs.Prelude.{◌≡◌, ℕ, List, [], ◌∷◌, Option, None, Some, Bool, true, false, map, length, nat_le, nat_eq}
 use Rattle.std.specs.List.{list_all}
 use Rattle.gl_ledger.specs.Genesis.{node_id, are_distinct, are_distinct_bytes, numbers_of, is_dealing_among}
 use Rattle.gl_ledger.specs.Effect.{Recorded}
@@ -37,9 +37,10 @@ module _ (layers : Layers) where
       required (are_endorsed g.identity g.nodes) faults.NotEndorsed None
       )))))))
 
-  -- Why a request is refused behind those that are recorded, if it is.
+  -- Why a request is refused behind those that are recorded, if it is. A genesis comes first.
   abbrev pub request_fault : List Recorded → GovernanceRequest → Option GenesisFault
-  request_fault recorded (requests.Genesis g) = genesis_fault g
+  request_fault [] (requests.Genesis g) = genesis_fault g
+  request_fault (r ∷ rs) (requests.Genesis g) = Some faults.NotFirst
 
   -- No rule refuses the request.
   abbrev pub IsAccepted : List Recorded → GovernanceRequest → Type 0

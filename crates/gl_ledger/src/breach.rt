@@ -9,6 +9,9 @@ use thiserror::Error;
 /// The first thing that is wrong with a genesis.
 #[derive(Clone, Copy, Debug, PartialEq, Eq, Error)]
 pub enum GenesisFault {
+    /// The service is founded already.
+    #[error("a genesis behind others")]
+    NotFirst,
     /// Two members have one number.
     #[error("a member's number stands twice")]
     NumberTwice,

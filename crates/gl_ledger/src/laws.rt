@@ -14,11 +14,12 @@ ghost use Rattle.gl_ledger.specs.Tree.{tables_of};
 ghost use Rattle.gl_ledger.specs.Ledger.{genesis_entry};
 ghost use Rattle.gl_ledger.specs.declared.genesis.Genesis.{Genesis};
 ghost use Rattle.gl_ledger.specs.declared.genesis.NewNode.{NewNode};
+ghost use Rattle.gl_ledger.specs.declared.genesis.GovernanceRequest.{GovernanceRequest};
 ghost use Rattle.gl_ledger.specs.Layers.{Layers, ReadsSpellings};
 ghost use Rattle.gl_ledger.specs.Recordings.{recorded_nodes};
 ghost use Rattle.gl_ledger.specs.Broken.{broken, last_commit};
 ghost use Rattle.gl_ledger.specs.Sound.{IsSound};
-ghost use Rattle.gl_ledger.specs.Makers.{MayMake, MakesValid, opening_of, request_result, signing_result};
+ghost use Rattle.gl_ledger.specs.Makers.{MayMake, MakesValid, govern_result, opening_of, request_result, signing_result};
 ghost use Rattle.gl_ledger.specs.LedgerBook.{ledger_book};
 ghost use Rattle.gl_ledger.specs.Audit.{LedgerFault, IsFaultOf, audited, opened};
 ghost use Rattle.gl_ledger.specs.NodeKeys.{IsNodeKey, NodeKeys, node_signature, node_signature_fault};
@@ -72,7 +73,7 @@ pub fn is_opened()
 
 /// Where an entry may be made, the book refuses no application request for a rule of the audit, and
 /// no valid signature of a recorded node with a commit that the rules of consensus let it record. So
-/// it refuses none of a leader, whatever happened before.
+/// it refuses none of a leader, whatever happened before, and no request of governance either.
 pub fn is_unguarded()
     ensures executes { (layers : Layers) (ledger : List Entry) (view : ℕ) → view < 2 ^ 32 →
         MayMake layers ledger view → (request : List Operation) →
@@ -89,6 +90,12 @@ pub fn is_unguarded()
         (request : List Operation) →
         let n = node_of layers s events x in
         (ledger_book layers).execute n.log n.view request ≡ request_result n.log n.view request }
+    ensures leader_governs { (layers : Layers) (s : Start Entry) → Begins layers s →
+        (events : List ServiceEvent) (x : NodeId) → Leads layers s events x →
+        (request : GovernanceRequest) →
+        let n = node_of layers s events x in
+        (ledger_book layers).govern n.log n.view request
+        ≡ govern_result layers n.log n.view request }
     ensures leader_signs { (layers : Layers) (s : Start Entry) → Begins layers s →
         (events : List ServiceEvent) (x : NodeId) → Leads layers s events x → (leaf : ℕ) →
         let n = node_of layers s events x in

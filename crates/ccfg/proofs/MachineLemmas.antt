@@ -14,22 +14,24 @@ use Rattle.gl_rules.specs.Log.{entry_at, is_signature_in, last_signature}
 use Rattle.gl_rules.specs.World.{leader_at_start}
 use Rattle.gl_entry.specs.Entry.{is_signature}
 use Rattle.gl_rules.specs.Safety.{ViewsUpTo}
-use Rattle.gl_store.specs.Ledger.{Held, opening_ledger}
-use Rattle.gl_store.specs.Calls.{Executes, Signs, IsSignedAt}
+use Rattle.gl_ledger.specs.Ledger.{opening_ledger}
+use Rattle.gl_ledger.specs.Signed.{IsSignedAt}
+use Rattle.gl_store.specs.Kept.{Held}
+use Rattle.gl_store.specs.Calls.{Executes, Signs}
 use Rattle.gl_entry.specs.declared.entry.Entry.{Entry}
 use Rattle.gl_tx.specs.declared.request.Operation.{Operation}
 use Rattle.gl_tx.specs.declared.request.Answer.{Answer}
-use Rattle.gl_store.specs.declared.refusal.Refusal.{Refusal}
-use Rattle.gl_store.proofs.Applications.{execute_ok, request_ok}
-use Rattle.gl_store.proofs.Following.{book_sign_ok}
-use Rattle.gl_store.proofs.Signatures.{last_is_signed, signed_at_last, last_if_signed}
+use Rattle.gl_ledger.specs.declared.refusal.Refusal.{Refusal}
+use Rattle.gl_ledger.proofs.Applications.{execute_ok, request_ok}
+use Rattle.gl_ledger.proofs.Following.{book_sign_ok}
+use Rattle.gl_ledger.proofs.Signatures.{last_is_signed, signed_at_last, last_if_signed}
 use Rattle.gl_world.specs.declared.settings.Settings.{Settings}
 use Rattle.gl_world.specs.Founding.{id_of, genesis_of}
-use Rattle.gl_store.specs.Book.{leaf_count}
+use Rattle.gl_ledger.specs.Book.{leaf_count}
 use Rattle.gl_world.specs.Single.{IsSingle}
 use Rattle.gl_world.specs.Solo.{IsSolo}
 use Rattle.gl_world.specs.World.{start_of}
-use Rattle.gl_store.specs.Book.{service_book, Given, Replied, Unmade, ByStore}
+use Rattle.gl_ledger.specs.Book.{service_book, Given, Replied, Unmade, ByStore}
 use Rattle.gl_world.proofs.Solo.{submit-is, sign-is, advance-is, solo_submit, solo_sign, solo_advance, ledger_views}
 use Rattle.gl_world.proofs.Starting.{solo_at_start}
 use Rattle.ccfg.specs.declared.machine.Machine.{Machine}

@@ -19,7 +19,7 @@ use Rattle.gl_tx.specs.declared.request.Operation.{Operation}
 use Rattle.gl_world.specs.declared.settings.Settings.{Settings}
 use Rattle.gl_world.specs.Founding.{id_of}
 use Rattle.gl_world.specs.World.{ServiceEvent}
-use Rattle.gl_store.specs.Book.{Given, Unmade, service_book}
+use Rattle.gl_ledger.specs.Book.{Given, Unmade, service_book}
 use Rattle.gl_world.specs.Single.{IsSingle}
 use Rattle.gl_world.proofs.Ids.{same_itself}
 use Rattle.gl_lines.specs.declared.line.Line.{Line}

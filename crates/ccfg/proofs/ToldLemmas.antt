@@ -6,7 +6,7 @@ use Rattle.std.proofs.lemmas.List.Sums.{fold-append}
 use Rattle.gl_rules.specs.World.{begin, after, happens, run}
 use Rattle.gl_world.specs.declared.settings.Settings.{Settings}
 use Rattle.gl_world.specs.World.{ServiceEvent, ServiceWorld, start_of}
-use Rattle.gl_store.specs.Book.{service_book}
+use Rattle.gl_ledger.specs.Book.{service_book}
 use Rattle.gl_lines.specs.declared.line.Line.{Line}
 use Rattle.ccfg.specs.Moments.{IsToldInMoments}
 use Rattle.ccfg.specs.Told.{Told, Effect, Happens, Answers, effect_of, told, told_at_start, told_effect, told_of}

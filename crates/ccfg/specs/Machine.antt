@@ -8,7 +8,7 @@ use Rattle.gl_world.specs.Founding.{id_of}
 use Rattle.gl_world.specs.Single.{IsSingle}
 use Rattle.gl_world.specs.Solo.{IsSolo}
 use Rattle.gl_world.specs.World.{ServiceOutcome}
-use Rattle.gl_store.specs.Book.{Given, Replied, Unmade, ByStore}
+use Rattle.gl_ledger.specs.Book.{Given, Replied, Unmade, ByStore}
 use Rattle.ccfg.specs.declared.machine.Machine.{Machine}
 use Rattle.ccfg.specs.declared.outcome.Outcome.{Outcome}
 use Rattle.ccfg.specs.declared.outcome.Outcome.TheVariants as outcomes

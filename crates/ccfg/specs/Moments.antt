@@ -4,7 +4,7 @@ use Rattle.gl_rules.specs.World.{after}
 use Rattle.gl_world.specs.declared.settings.Settings.{Settings}
 use Rattle.gl_world.specs.Headline.{Headline}
 use Rattle.gl_world.specs.World.{ServiceEvent, ServiceWorld, start_of}
-use Rattle.gl_store.specs.Book.{service_book}
+use Rattle.gl_ledger.specs.Book.{service_book}
 use Rattle.gl_lines.specs.declared.fault.ScheduleFault.{ScheduleFault}
 use Rattle.gl_lines.specs.declared.line.Line.{Line}
 use Rattle.ccfg.specs.declared.schedule.Schedule.{Schedule}

@@ -12,15 +12,15 @@ use Rattle.gl_rules.specs.Node.{Node}
 use Rattle.gl_rules.specs.Safety.{committed_ledger}
 use Rattle.gl_entry.specs.Entry.{frame_bytes}
 use Rattle.gl_entry.specs.declared.entry.Entry.{Entry}
-use Rattle.gl_store.specs.Genesis.{state_byte}
+use Rattle.gl_ledger.specs.Genesis.{state_byte}
 use Rattle.gl_tx.specs.declared.request.Answer.{Answer}
 use Rattle.gl_tx.specs.declared.request.Answer.TheVariants as answers
 use Rattle.gl_tx.specs.Abort.{number_of}
-use Rattle.gl_store.specs.declared.refusal.Refusal.TheVariants as refusals
+use Rattle.gl_ledger.specs.declared.refusal.Refusal.TheVariants as refusals
 use Rattle.gl_world.specs.declared.settings.Settings.{Settings}
 use Rattle.gl_world.specs.Founding.{id_of, numbers_from}
 use Rattle.gl_world.specs.World.{ServiceOutcome, ServiceWorld}
-use Rattle.gl_store.specs.Book.{Given, Replied, Unmade, ByStore, Unspelled, NotYet}
+use Rattle.gl_ledger.specs.Book.{Given, Replied, Unmade, ByStore, Unspelled, NotYet}
 
 -- Numbers behind a word, each behind a space.
 abbrev pub with_numbers : List ℕ → List ℕ → List ℕ

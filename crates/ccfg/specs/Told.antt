@@ -7,7 +7,7 @@ use Rattle.gl_rules.specs.Safety.{reported_status}
 use Rattle.gl_world.specs.declared.settings.Settings.{Settings}
 use Rattle.gl_world.specs.Founding.{id_of}
 use Rattle.gl_world.specs.World.{ServiceEvent, ServiceWorld, start_of}
-use Rattle.gl_store.specs.Book.{service_book}
+use Rattle.gl_ledger.specs.Book.{service_book}
 use Rattle.gl_lines.specs.declared.line.Line.{Line}
 use Rattle.gl_lines.specs.declared.line.Line.TheVariants as lines
 use Rattle.ccfg.specs.declared.schedule.Schedule.{Schedule}

@@ -37,7 +37,7 @@ impl Machine {
     ghost use Rattle.gl_world.specs.Single.{IsSingle};
     ghost use Rattle.gl_lines.specs.Nodes.{node_of};
     ghost use Rattle.gl_world.specs.World.{start_of};
-    ghost use Rattle.gl_store.specs.Book.{service_book};
+    ghost use Rattle.gl_ledger.specs.Book.{service_book};
     ghost use Rattle.ccfg.specs.Play.{IsIn, Tells};
     ghost use Rattle.ccfg.specs.Told.{Told};
     ghost use Rattle.ccfg.specs.Machine.{IsMachine, GoesOn, Steps, node_in};

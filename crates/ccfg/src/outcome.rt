@@ -13,7 +13,7 @@ pub enum Refusal {
     /// The last entry, at this place, is a signature of this view.
     NothingToSign(u64),
     /// The store made no entry.
-    Store(gl_store::Refusal),
+    Store(gl_ledger::Refusal),
 }
 
 /// What an event came to.

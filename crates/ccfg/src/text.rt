@@ -7,14 +7,15 @@ ghost use Rattle.gl_entry.specs.Entry.{is_entry};
 ghost use Rattle.ccfg.specs.Text.{value_text, answer_text, answers_behind, answers_text, refusal_text, outcome_text, status_text, with_numbers, numbered, unmade_text, id_text, ids_text, entry_text, ledger_text};
 ghost use Rattle.ccfg.specs.LineAnswers.{line_answer_text};
 ghost use Rattle.ccfg.specs.Machine.{node_in, rules_outcome, rules_refusal};
-ghost use Rattle.gl_store.specs.Book.{ByStore};
+ghost use Rattle.gl_ledger.specs.Book.{ByStore};
 ghost use Rattle.gl_world.specs.declared.settings.Settings.{Settings};
 
 use crate::machine::Machine;
 use crate::outcome::{LineAnswer, Outcome, Refusal};
 use gl_base::{Status, TxId};
 use gl_entry::Entry;
-use gl_store::{Store, state_byte};
+use gl_ledger::state_byte;
+use gl_store::Store;
 use gl_tx::{Answer, Reply};
 use itoa::Buffer;
 use std::alloc::{AllocError, Global};
@@ -96,24 +97,24 @@ fn put_answers(alloc: Global, out: &mut Vec<u8>, reply: &Reply) -> Result<(), Al
     }
 }
 
-fn put_store_refusal(out: &mut Vec<u8>, refusal: gl_store::Refusal) -> Result<(), AllocError>
+fn put_store_refusal(out: &mut Vec<u8>, refusal: gl_ledger::Refusal) -> Result<(), AllocError>
     ensures { OnOk result (out.new.items ≡ out.old.items ++ unmade_text (ByStore refusal)) }
 {
     match refusal {
-        gl_store::Refusal::ServiceState(state) => {
+        gl_ledger::Refusal::ServiceState(state) => {
             out.extend_from_slice(b"51")?;
             put_value(out, u64::from(state_byte(state)))
         }
-        gl_store::Refusal::Aborted(abort) => {
+        gl_ledger::Refusal::Aborted(abort) => {
             out.extend_from_slice(b"122")?;
             put_value(out, u64::from(abort.operation))?;
             put_value(out, u64::from(abort.cause.number()))
         }
-        gl_store::Refusal::TooLarge { size } => {
+        gl_ledger::Refusal::TooLarge { size } => {
             out.extend_from_slice(b"119")?;
             put_value(out, size)
         }
-        gl_store::Refusal::SeqnoLimit => out.extend_from_slice(b"130"),
+        gl_ledger::Refusal::SeqnoLimit => out.extend_from_slice(b"130"),
     }
 }
 

@@ -15,21 +15,22 @@ use Rattle.gl_tx.specs.declared.request.Answer.{Answer}
 use Rattle.gl_entry.specs.Entry.{is_signature, is_entry}
 use Rattle.gl_entry.specs.Leaf.{leaf_of}
 use Rattle.gl_entry.specs.declared.entry.Entry.{Entry}
-use Rattle.gl_store.specs.Genesis.{service_map, service_key, is_acceptable, is_genesis}
-use Rattle.gl_store.specs.Effect.{service_state, state_of_value, identity_in, identity_of_value}
-use Rattle.gl_store.specs.Serial.{IsLedger, IsSound}
-use Rattle.gl_store.specs.Tree.{writes_of, tables_of, leaves_of}
+use Rattle.gl_ledger.specs.Genesis.{service_map, service_key, is_acceptable, is_genesis}
+use Rattle.gl_ledger.specs.Effect.{service_state, state_of_value, identity_in, identity_of_value}
+use Rattle.gl_ledger.specs.Serial.{IsLedger, IsSound}
+use Rattle.gl_ledger.specs.Tree.{writes_of, tables_of, leaves_of}
 use Rattle.gl_rules.specs.Log.{last_signature}
 use Rattle.gl_rules.specs.Safety.{ViewsUpTo}
-use Rattle.gl_store.specs.Ledger.{genesis_entry, signature_entry, opening_ledger, execute_result}
-use Rattle.gl_store.specs.Book.{service_book}
+use Rattle.gl_ledger.specs.Ledger.{genesis_entry, signature_entry, opening_ledger, execute_result}
+use Rattle.gl_ledger.specs.Book.{service_book}
 use Rattle.gl_store.specs.Kept.{Beside, IsTreeOf, IsKept}
-use Rattle.gl_store.specs.declared.genesis.Genesis as request
-use Rattle.gl_store.proofs.Signatures.{last_signature-push, last_signature-signed, signed_up_to-push}
-use Rattle.gl_store.proofs.TablesLaws.{writes_of-push, tables_of-push, leaves_of-push, versions_below}
-use Rattle.gl_store.proofs.Growth.{IsOutside, untouched, sound-push}
-use Rattle.gl_store.proofs.Applications.{execute_ok, application_sound, run_outside}
-use Rattle.gl_store.proofs.Openings.{genesis_sound, opening_sound, state_of_opening, identity_of_opening, identity_of_genesis}
+use Rattle.gl_ledger.specs.declared.genesis.Genesis as request
+use Rattle.gl_ledger.proofs.Signatures.{last_signature-push, last_signature-signed, signed_up_to-push}
+use Rattle.gl_ledger.proofs.TablesLaws.{writes_of-push, tables_of-push, leaves_of-push}
+use Rattle.gl_store.proofs.TablesLaws.{versions_below}
+use Rattle.gl_ledger.proofs.Growth.{IsOutside, untouched, sound-push}
+use Rattle.gl_ledger.proofs.Applications.{execute_ok, application_sound, run_outside}
+use Rattle.gl_ledger.proofs.Openings.{genesis_sound, opening_sound, state_of_opening, identity_of_opening, identity_of_genesis}
 
 -- ---- what writes outside of governance leave
 

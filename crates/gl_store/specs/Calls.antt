@@ -1,30 +1,20 @@
 -- What the calls of a store come to, in the words of the rules over its book.
-use Rattle.std.specs.Prelude.{◌≡◌, ℕ, ◌+◌, ◌<◌, List, [], ◌∷◌, ◌++◌, Some, Result, Ok, Err, true, length}
+use Rattle.std.specs.Prelude.{◌≡◌, ℕ, ◌+◌, List, [], ◌∷◌, ◌++◌, Result, Ok, Err, length}
 use Rattle.gl_base.specs.declared.or_no_memory.OrNoMemory.{OrNoMemory}
 use Rattle.gl_base.specs.declared.or_no_memory.OrNoMemory.TheVariants.{NoMemory, Fault}
 use Rattle.gl_base.specs.declared.tx_id.TxId.{TxId}
-use Rattle.gl_rules.specs.Log.{entry_at}
 use Rattle.gl_rules.specs.Node.{Node}
 use Rattle.gl_entry.specs.declared.entry.Entry.{Entry}
 use Rattle.gl_tx.specs.declared.request.Operation.{Operation}
 use Rattle.gl_tx.specs.declared.request.Answer.{Answer}
-use Rattle.gl_store.specs.Ledger.{Held}
-use Rattle.gl_store.specs.Book.{service_book, Replied, Unmade, ByStore}
-use Rattle.gl_store.specs.declared.refusal.Refusal.{Refusal}
+use Rattle.gl_ledger.specs.Book.{service_book, Replied, Unmade, ByStore}
+use Rattle.gl_ledger.specs.declared.refusal.Refusal.{Refusal}
+use Rattle.gl_store.specs.Kept.{Held}
 
 -- The node's log and its commit are what the store holds.
 pub record IsNodeOf (held : Held) (n : Node Entry) : Type 0 where
   pub log : n.log ≡ held.ledger
   pub commit : n.commit ≡ held.commit
-
--- A signature has this seqno.
-abbrev pub IsSignedAt : List Entry → ℕ → Type 0
-IsSignedAt ledger seqno =
-    (e : Entry) × (entry_at ledger seqno ≡ Some e) × (service_book.is_signature e ≡ true)
-
--- The seqno is that of a signature, or 0.
-abbrev pub IsSignedUpTo : List Entry → ℕ → Type 0
-IsSignedUpTo ledger seqno = 0 < seqno → IsSignedAt ledger seqno
 
 -- The store has one more entry, which has this identifier.
 pub record Enters (old : Held) (view : ℕ) (e : Entry) (id : TxId) (new : Held) : Type 0 where

@@ -1,4 +1,4 @@
--- What a store keeps beside its ledger, so that answers need no scan of it.
+-- What a store holds, and what it keeps beside its ledger, so that answers need no scan of it.
 use Rattle.std.specs.Prelude.{◌≡◌, ℕ, ◌≤◌, List, [], length}
 use Rattle.gl_base.specs.TxId.{last_seqno}
 use Rattle.gl_merkle.specs.Frontier as frontiers
@@ -6,12 +6,17 @@ use Rattle.gl_vmaps.specs.Kept as tables
 use Rattle.gl_vmaps.specs.Standing.{StandsFor}
 use Rattle.gl_rules.specs.Log.{last_signature}
 use Rattle.gl_entry.specs.declared.entry.Entry.{Entry}
-use Rattle.gl_store.specs.Effect.{service_state, identity_in}
-use Rattle.gl_store.specs.Serial.{IsSound}
-use Rattle.gl_store.specs.Tree.{writes_of, tables_of, leaves_of}
-use Rattle.gl_store.specs.Book.{service_book}
-use Rattle.gl_store.specs.Calls.{IsSignedUpTo}
-use Rattle.gl_store.specs.declared.genesis.ServiceState.{ServiceState}
+use Rattle.gl_ledger.specs.Effect.{service_state, identity_in}
+use Rattle.gl_ledger.specs.Serial.{IsSound}
+use Rattle.gl_ledger.specs.Tree.{writes_of, tables_of, leaves_of}
+use Rattle.gl_ledger.specs.Book.{service_book}
+use Rattle.gl_ledger.specs.Signed.{IsSignedUpTo}
+use Rattle.gl_ledger.specs.declared.genesis.ServiceState.{ServiceState}
+
+-- What a store holds: its ledger, and up to which seqno it is committed.
+pub record Held : Type 0 where
+  pub ledger : List Entry
+  pub commit : ℕ
 
 -- What stands beside the ledger.
 pub record Beside : Type 0 where

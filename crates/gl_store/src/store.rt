@@ -11,21 +11,18 @@ ghost use Rattle.gl_vmaps.specs.Standing.{StandsFor};
 ghost use Rattle.gl_vmaps.specs.Versions.{Placed, placed_at};
 ghost use Rattle.gl_tx.specs.Request.{is_request, request_bytes, reply_bytes};
 ghost use Rattle.gl_tx.specs.declared.request.Answer.{Answer};
-ghost use Rattle.gl_entry.specs.Entry.{no_digest, is_entry, body_bytes, body_limit, content_bytes};
+ghost use Rattle.gl_entry.specs.Entry.{is_entry, body_bytes, body_limit, content_bytes};
 ghost use Rattle.gl_entry.specs.Leaf.{leaf_of};
 ghost use Rattle.gl_entry.specs.declared.entry.Entry as made;
-ghost use Rattle.gl_store.specs.Genesis.{is_genesis, HaveShortEndorsements};
-ghost use Rattle.gl_store.specs.Tree.{leaves_of};
-ghost use Rattle.gl_store.specs.Ledger.{genesis_entry, signature_entry, within_limits};
+ghost use Rattle.gl_ledger.specs.Genesis.{is_genesis, HaveShortEndorsements};
+ghost use Rattle.gl_ledger.specs.Tree.{leaves_of};
+ghost use Rattle.gl_ledger.specs.Ledger.{genesis_entry, signature_entry, within_limits};
 ghost use Rattle.gl_store.specs.Kept.{IsTreeOf};
 
-use crate::encode::genesis_bytes;
-use crate::genesis::{Genesis, HssPublicKey, ServiceState};
 use crate::ledger_state::LedgerState;
-use crate::refusal::Refusal;
-use crate::rows::genesis_writes;
 use gl_base::{Bytes, FIRST_VIEW, LAST_SEQNO, MEBIBYTE, OrNoMemory, Status, TxId, status};
 use gl_entry::{Content, Digest, Entry, NodeId, Signature, leaf, leaf_of_body};
+use gl_ledger::{Genesis, HssPublicKey, Refusal, ServiceState, genesis_bytes, genesis_writes};
 use gl_tx::{Ran, Reply, Request, run};
 use gl_vmaps::{Tables, Writes};
 use sha2::{Digest as _, Sha256};
@@ -48,8 +45,7 @@ pub struct Store {
 }
 
 impl Model for Store {
-    ghost use Rattle.gl_store.specs.Ledger.{Held};
-    ghost use Rattle.gl_store.specs.Kept.{IsKept};
+    ghost use Rattle.gl_store.specs.Kept.{Held, IsKept};
 
     ghost Value = { Held };
 
@@ -72,13 +68,14 @@ impl Store {
     ghost use Rattle.gl_rules.specs.Log.{entry_at, last_signature};
     ghost use Rattle.gl_rules.specs.Node.{Node};
     ghost use Rattle.gl_rules.specs.Safety.{reported_status, view_of, ViewsUpTo};
-    ghost use Rattle.gl_store.specs.Genesis.{is_acceptable};
-    ghost use Rattle.gl_store.specs.Ledger.{opening_ledger};
-    ghost use Rattle.gl_store.specs.Tree.{writes_of, tables_of};
-    ghost use Rattle.gl_store.specs.Effect.{service_state};
-    ghost use Rattle.gl_store.specs.Serial.{IsSound};
-    ghost use Rattle.gl_store.specs.Book.{service_book};
-    ghost use Rattle.gl_store.specs.Calls.{Executes, Signs, Refuses, IsNodeOf, IsSignedAt, IsSignedUpTo};
+    ghost use Rattle.gl_ledger.specs.Genesis.{is_acceptable};
+    ghost use Rattle.gl_ledger.specs.Ledger.{opening_ledger};
+    ghost use Rattle.gl_ledger.specs.Tree.{writes_of, tables_of};
+    ghost use Rattle.gl_ledger.specs.Effect.{service_state};
+    ghost use Rattle.gl_ledger.specs.Serial.{IsSound};
+    ghost use Rattle.gl_ledger.specs.Book.{service_book};
+    ghost use Rattle.gl_ledger.specs.Signed.{IsSignedUpTo};
+    ghost use Rattle.gl_store.specs.Calls.{Executes, Signs, Refuses, IsNodeOf};
 
     /// The store of a service that begins: the genesis with seqno 1, and the signature of its node
     /// with seqno 2, both in view 2 and committed. Fails for want of memory alone.

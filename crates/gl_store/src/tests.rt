@@ -3,14 +3,15 @@
 
 ghost use Rattle.std.specs.Prelude.{◌≡◌, ◌≤◌, ◌<◌, ◌^◌, ℕ, length, true, IfOk};
 ghost use Rattle.std.specs.List.{AllByRecursion};
-ghost use Rattle.gl_store.specs.Genesis.{is_acceptable, is_genesis};
+ghost use Rattle.gl_ledger.specs.Genesis.{is_acceptable, is_genesis};
 ghost use Rattle.gl_rules.specs.Safety.{ViewsUpTo};
-ghost use Rattle.gl_store.specs.Book.{service_book};
-ghost use Rattle.gl_store.specs.Calls.{IsSignedAt};
+ghost use Rattle.gl_ledger.specs.Book.{service_book};
+ghost use Rattle.gl_ledger.specs.Signed.{IsSignedAt};
 
-use crate::{Dealing, Genesis, NewMember, NewNode, Refusal, ServiceState, ShareDigest, Store};
+use crate::Store;
 use gl_base::{Bytes, OrNoMemory, Sequence, Status, TxId};
 use gl_entry::{Content, Digest, Entry, NodeId};
+use gl_ledger::{Dealing, Genesis, NewMember, NewNode, Refusal, ServiceState, ShareDigest};
 use gl_tx::{Abort, Answer, Cause, Operation, Reply, Request};
 use gl_vmaps::{Key, MapName, Value, Write};
 use std::alloc::{AllocError, Global};
@@ -79,7 +80,7 @@ fn genesis(alloc: Global, state: ServiceState) -> Result<Genesis, AllocError>
 }
 
 // The store of such a service.
-#[tactic(auto, using(crate::proofs::Bodies::small_founding))]
+#[tactic(auto, using(gl_ledger::proofs::Bodies::small_founding))]
 fn opened(alloc: Global, state: ServiceState) -> Result<Store, AllocError>
     ensures { IfOk result (λ s. (view : ℕ) → 2 ≤ view → ViewsUpTo service_book view s.ledger) }
 {

@@ -12,9 +12,9 @@ use Rattle.gl_rules.specs.Replication.{advance, commit_to, may_commit, greatest_
 use Rattle.gl_entry.specs.Entry.{is_signature}
 use Rattle.gl_rules.specs.Log.{last_signature, seqno_with_first}
 use Rattle.gl_entry.specs.declared.entry.Entry.{Entry}
-use Rattle.gl_store.proofs.Signatures.{last_signature-push, last_signature-signed}
-use Rattle.gl_store.specs.Nodes.{configuration}
-use Rattle.gl_store.specs.Book.{service_book}
+use Rattle.gl_ledger.proofs.Signatures.{last_signature-push, last_signature-signed}
+use Rattle.gl_ledger.specs.Nodes.{configuration}
+use Rattle.gl_ledger.specs.Book.{service_book}
 use Rattle.gl_world.specs.Solo.{IsAlone}
 use Rattle.gl_world.proofs.Ids.{same_itself}
 use Rattle.gl_base.proofs.Lists.{slice_get-below, take-next, take-past}

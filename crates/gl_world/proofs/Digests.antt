@@ -6,7 +6,7 @@ use Rattle.sha2.specs.Sha256.{sha256}
 use Rattle.sha2.proofs.Facts256.{length-sha256}
 use Rattle.gl_base.specs.Bytes.{is_byte, are_bytes}
 use Rattle.gl_entry.specs.Entry.{are_sized}
-use Rattle.gl_store.proofs.Digests.{bytes-append, sha256_bytes, are_sized-true}
+use Rattle.gl_ledger.proofs.Digests.{bytes-append, sha256_bytes, are_sized-true}
 use Rattle.gl_world.specs.Keys.{lms_key, hss_key}
 
 bytes-take : (n : ℕ) (xs : List ℕ) → are_bytes xs ≡ true → are_bytes (take n xs) ≡ true

@@ -11,3 +11,4 @@ pub mod Starting
 pub mod Worlds
 pub mod Single
 pub mod Shown
+pub mod Groups

@@ -2,8 +2,8 @@
 use Rattle.std.proofs.Common.{◌≡◌, ℕ, suc, ◌+◌, ◌-◌, ◌<◌, List, ◌∷◌, map, Bool, true, false, not, ◌&&◌, ◌||◌, sym, ◌∙◌, ap, add-one}
 use Rattle.std.specs.List.{list_any}
 use Rattle.gl_base.specs.Bytes.{same_bytes}
-use Rattle.gl_store.specs.Genesis.{are_distinct_bytes}
-use Rattle.gl_store.specs.declared.genesis.NewMember.{NewMember}
+use Rattle.gl_ledger.specs.Genesis.{are_distinct_bytes}
+use Rattle.gl_ledger.specs.declared.genesis.NewMember.{NewMember}
 use Rattle.gl_world.specs.declared.settings.Settings.{Settings}
 use Rattle.gl_world.specs.Founding.{member_of, member_keys}
 use Rattle.gl_world.proofs.Numbers.{numbers-next}

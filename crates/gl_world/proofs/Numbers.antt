@@ -3,7 +3,7 @@ use Rattle.std.proofs.Common.{◌≡◌, ℕ, zero, suc, ◌+◌, ◌-◌, ◌*�
 use Rattle.std.specs.List.{list_all, list_any, flat_map}
 use Rattle.std.proofs.lemmas.Bool.{and_from}
 use Rattle.std.proofs.lemmas.Bool.Decides.{nat_tests}
-use Rattle.gl_store.specs.Genesis.{are_distinct, is_ascending}
+use Rattle.gl_ledger.specs.Genesis.{are_distinct, is_ascending}
 use Rattle.gl_world.specs.Founding.{numbers_from}
 
 pub length-numbers_from : (first count : ℕ) → length (numbers_from first count) ≡ count

@@ -12,7 +12,7 @@ use Rattle.gl_rules.specs.Safety.{view_of, id_at, commit_id, reported_status}
 use Rattle.gl_rules.specs.World.{joiner}
 use Rattle.gl_entry.specs.declared.entry.Entry.{Entry}
 use Rattle.gl_world.specs.declared.settings.Settings.{Settings}
-use Rattle.gl_store.specs.Book.{service_book}
+use Rattle.gl_ledger.specs.Book.{service_book}
 use Rattle.gl_base.proofs.Lists.{slice_get-below}
 use Rattle.gl_world.specs.Solo.{IsSolo}
 

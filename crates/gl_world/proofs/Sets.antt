@@ -9,20 +9,20 @@ use Rattle.gl_base.specs.LittleEndian.{little_endian}
 use Rattle.gl_base.specs.Field.{with_u32_length}
 use Rattle.gl_vmaps.specs.Tables.{Tables, Rows, no_tables, wrote, wrote_all}
 use Rattle.gl_vmaps.specs.declared.write.Write.{Write}
-use Rattle.gl_store.specs.Genesis.{nodes_map, node_id, dealing_map, dealing_key, dealing_bytes, row, constitution_rows, member_row, node_row, service_row, genesis_rows, genesis_writes}
-use Rattle.gl_store.specs.Genesis as founding
-use Rattle.gl_store.specs.Ledger.{genesis_entry, signature_entry, opening_ledger}
+use Rattle.gl_ledger.specs.Genesis.{nodes_map, node_id, dealing_map, dealing_key, dealing_bytes, row, constitution_rows, member_row, node_row, service_row, genesis_rows, genesis_writes}
+use Rattle.gl_ledger.specs.Genesis as founding
+use Rattle.gl_ledger.specs.Ledger.{genesis_entry, signature_entry, opening_ledger}
 use Rattle.gl_entry.specs.declared.entry.Entry.{Entry}
-use Rattle.gl_store.specs.declared.genesis.NewMember.{NewMember}
-use Rattle.gl_store.specs.declared.genesis.NewNode.{NewNode}
-use Rattle.gl_store.specs.declared.genesis.Genesis as request
-use Rattle.gl_store.proofs.Growth.{IsOutside}
-use Rattle.gl_store.proofs.TablesLaws.{tables_of-push}
+use Rattle.gl_ledger.specs.declared.genesis.NewMember.{NewMember}
+use Rattle.gl_ledger.specs.declared.genesis.NewNode.{NewNode}
+use Rattle.gl_ledger.specs.declared.genesis.Genesis as request
+use Rattle.gl_ledger.proofs.Growth.{IsOutside}
+use Rattle.gl_ledger.proofs.TablesLaws.{tables_of-push}
 use Rattle.gl_base.proofs.Lists.{take-push}
-use Rattle.gl_store.specs.Nodes.{nodes_table, is_trusted, trusted_nodes, changed_set, configuration}
+use Rattle.gl_ledger.specs.Nodes.{nodes_table, is_trusted, trusted_nodes, changed_set, configuration}
 use Rattle.gl_base.proofs.Lists.{take-past}
-use Rattle.gl_store.proofs.WriteSets.{rows-write_set, wrote_all-append}
-use Rattle.gl_store.proofs.NodesLaws.{configuration-push}
+use Rattle.gl_ledger.proofs.WriteSets.{rows-write_set, wrote_all-append}
+use Rattle.gl_ledger.proofs.NodesLaws.{configuration-push}
 use Rattle.gl_world.specs.Solo.{IsAlone}
 
 -- a node that is alone stays so behind such an entry

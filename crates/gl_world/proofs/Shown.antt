@@ -10,7 +10,7 @@ use Rattle.gl_rules.specs.Replication.{advance, commit_to}
 use Rattle.gl_rules.specs.Safety.{node_after}
 use Rattle.gl_rules.specs.World.{Submit, Reserve, Sign, Advance, begin, leader_at_start, starter, joiner, at, happens, run}
 use Rattle.gl_rules.specs.Log.{last_signature}
-use Rattle.gl_store.specs.Ledger.{application_entry, signature_entry}
+use Rattle.gl_ledger.specs.Ledger.{application_entry, signature_entry}
 use Rattle.gl_base.specs.LittleEndian.{little_endian}
 use Rattle.gl_entry.specs.Entry.{write_bytes}
 use Rattle.gl_vmaps.specs.declared.write.Write.{Write}
@@ -21,15 +21,15 @@ use Rattle.gl_tx.specs.declared.request.Operation.TheVariants.{Put}
 use Rattle.gl_tx.specs.declared.request.Answer.TheVariants.{Done}
 use Rattle.gl_entry.specs.Entry.{body_bytes, body_limit}
 use Rattle.gl_entry.specs.declared.entry.Entry.{Entry}
-use Rattle.gl_store.specs.declared.genesis.ServiceState.TheVariants.{Open}
+use Rattle.gl_ledger.specs.declared.genesis.ServiceState.TheVariants.{Open}
 use Rattle.gl_tx.specs.declared.request.Answer.{Answer}
-use Rattle.gl_store.specs.declared.refusal.Refusal.{Refusal}
-use Rattle.gl_store.proofs.Applications.{execute_ran, within_limits_made}
-use Rattle.gl_store.proofs.Entries.{length-body_bytes}
+use Rattle.gl_ledger.specs.declared.refusal.Refusal.{Refusal}
+use Rattle.gl_ledger.proofs.Applications.{execute_ran, within_limits_made}
+use Rattle.gl_ledger.proofs.Entries.{length-body_bytes}
 use Rattle.gl_world.specs.declared.settings.Settings.{Settings}
 use Rattle.gl_world.specs.Founding.{id_of}
 use Rattle.gl_world.specs.World.{start_of, ServiceEvent, ServiceWorld}
-use Rattle.gl_store.specs.Book.{service_book, with_reply, Given, Unmade}
+use Rattle.gl_ledger.specs.Book.{service_book, with_reply, Given, Unmade}
 use Rattle.gl_world.specs.Single.{IsSingle, AreLocal}
 use Rattle.gl_world.proofs.Ids.{same_itself}
 use Rattle.gl_world.proofs.Solo.{advance-is, submit-is, solo_submit, solo_reserve, solo_sign}

@@ -7,12 +7,12 @@ use Rattle.gl_rules.specs.Identity.{NodeId}
 use Rattle.gl_rules.specs.Node.{Node}
 use Rattle.gl_rules.specs.Safety.{Agree, committed_ledger, reported_status}
 use Rattle.gl_rules.specs.World.{joiner, begin, after}
-use Rattle.gl_store.specs.Serial.{IsSound}
+use Rattle.gl_ledger.specs.Serial.{IsSound}
 use Rattle.gl_entry.specs.declared.entry.Entry.{Entry}
 use Rattle.gl_world.specs.declared.settings.Settings.{Settings}
 use Rattle.gl_world.specs.Founding.{id_of}
 use Rattle.gl_world.specs.World.{start_of, ServiceEvent, ServiceWorld}
-use Rattle.gl_store.specs.Book.{service_book}
+use Rattle.gl_ledger.specs.Book.{service_book}
 use Rattle.gl_world.specs.Single.{IsSingle, AreLocal}
 use Rattle.gl_world.specs.Headline.{Headline}
 use Rattle.gl_world.proofs.Ids.{cases_same}

@@ -10,30 +10,30 @@ use Rattle.gl_rules.specs.Log.{entry_at, last_signature}
 use Rattle.gl_rules.specs.Steps.{append_entry, as_leader}
 use Rattle.gl_rules.specs.Requests.{submit, reserve, sign, append_result, execute_request, sign_as_leader, append_signature}
 use Rattle.gl_rules.specs.Replication.{advance, commit_to}
-use Rattle.gl_store.specs.Serial.{IsSound}
+use Rattle.gl_ledger.specs.Serial.{IsSound}
 use Rattle.gl_rules.specs.Safety.{ViewsUpTo}
 use Rattle.gl_base.specs.TxId.{last_seqno}
 use Rattle.gl_tx.specs.Request.{is_request}
-use Rattle.gl_store.specs.Ledger.{execute_result, within_seqnos, signature_entry}
+use Rattle.gl_ledger.specs.Ledger.{execute_result, within_seqnos, signature_entry}
 use Rattle.gl_entry.specs.Entry.{no_digest, is_signature, is_digest, is_entry}
 use Rattle.gl_merkle.specs.Tree.{root_of}
-use Rattle.gl_store.specs.Tree.{tables_of, leaves_of}
+use Rattle.gl_ledger.specs.Tree.{tables_of, leaves_of}
 use Rattle.gl_entry.specs.declared.entry.Entry.{Entry}
 use Rattle.gl_tx.specs.declared.request.Operation.{Operation}
 use Rattle.gl_tx.specs.declared.request.Answer.{Answer}
-use Rattle.gl_store.specs.declared.refusal.Refusal.{Refusal}
-use Rattle.gl_store.specs.declared.refusal.Refusal.TheVariants as refusals
-use Rattle.gl_store.proofs.Growth.{IsOutside, sound-push}
-use Rattle.gl_store.proofs.Applications.{execute_ok, application_sound, run_outside}
-use Rattle.gl_store.proofs.Fitting.{execute_fits}
-use Rattle.gl_store.proofs.Entries.{signature_fits}
-use Rattle.gl_store.proofs.Roots.{root_is_digest}
-use Rattle.gl_store.proofs.Digests.{sha256_digest}
+use Rattle.gl_ledger.specs.declared.refusal.Refusal.{Refusal}
+use Rattle.gl_ledger.specs.declared.refusal.Refusal.TheVariants as refusals
+use Rattle.gl_ledger.proofs.Growth.{IsOutside, sound-push}
+use Rattle.gl_ledger.proofs.Applications.{execute_ok, application_sound, run_outside}
+use Rattle.gl_ledger.proofs.Fitting.{execute_fits}
+use Rattle.gl_ledger.proofs.Entries.{signature_fits}
+use Rattle.gl_ledger.proofs.Roots.{root_is_digest}
+use Rattle.gl_ledger.proofs.Digests.{sha256_digest}
 use Rattle.gl_base.proofs.Lists.{slice_get-push, take-push}
 use Rattle.gl_world.specs.declared.settings.Settings.{Settings}
 use Rattle.gl_world.specs.Founding.{node_of, id_of}
-use Rattle.gl_store.specs.Book.{leaf_count}
-use Rattle.gl_store.specs.Book.{service_book, with_reply, request_result, by_store, Given, Unmade, Unspelled}
+use Rattle.gl_ledger.specs.Book.{leaf_count}
+use Rattle.gl_ledger.specs.Book.{service_book, with_reply, request_result, by_store, Given, Unmade, Unspelled}
 use Rattle.gl_world.specs.Solo.{IsSoloLedger, IsSolo}
 use Rattle.gl_base.proofs.Lists.{take-past}
 use Rattle.gl_world.proofs.Advance.{advance_alone, above, last_signature-le}

@@ -2,23 +2,23 @@
 use Rattle.std.proofs.Common.{◌≡◌, ℕ, zero, suc, List, [], ◌∷◌, take, Some, true, refl, sym, ap, subst, arith}
 use Rattle.std.specs.List.{slice_get}
 use Rattle.gl_rules.specs.World.{leader_at_start}
-use Rattle.gl_store.specs.Serial.{IsSound, StandsAs}
+use Rattle.gl_ledger.specs.Serial.{IsSound, StandsAs}
 use Rattle.gl_vmaps.specs.Tables.{Tables}
-use Rattle.gl_store.specs.Genesis.{is_acceptable, is_genesis, node_id}
-use Rattle.gl_store.specs.Ledger.{genesis_entry, signature_entry, opening_ledger}
-use Rattle.gl_store.specs.Effect.{service_state}
+use Rattle.gl_ledger.specs.Genesis.{is_acceptable, is_genesis, node_id}
+use Rattle.gl_ledger.specs.Ledger.{genesis_entry, signature_entry, opening_ledger}
+use Rattle.gl_ledger.specs.Effect.{service_state}
 use Rattle.gl_merkle.specs.Tree.{root_of}
 use Rattle.gl_entry.specs.Entry.{no_digest, is_digest, is_entry}
-use Rattle.gl_store.specs.Tree.{tables_of, leaves_of}
+use Rattle.gl_ledger.specs.Tree.{tables_of, leaves_of}
 use Rattle.gl_entry.specs.declared.entry.Entry.{Entry}
-use Rattle.gl_store.specs.declared.genesis.NewNode.{NewNode}
-use Rattle.gl_store.specs.declared.genesis.Genesis as request
-use Rattle.gl_store.specs.declared.genesis.GovernanceRequest.TheVariants as requests
-use Rattle.gl_store.proofs.TablesLaws.{tables_of-push}
-use Rattle.gl_store.proofs.Openings.{opening_sound, state_of_opening}
-use Rattle.gl_store.proofs.Digests.{sha256_digest}
-use Rattle.gl_store.proofs.Entries.{signature_fits}
-use Rattle.gl_store.proofs.Roots.{root_is_digest}
+use Rattle.gl_ledger.specs.declared.genesis.NewNode.{NewNode}
+use Rattle.gl_ledger.specs.declared.genesis.Genesis as request
+use Rattle.gl_ledger.specs.declared.genesis.GovernanceRequest.TheVariants as requests
+use Rattle.gl_ledger.proofs.TablesLaws.{tables_of-push}
+use Rattle.gl_ledger.proofs.Openings.{opening_sound, state_of_opening}
+use Rattle.gl_ledger.proofs.Digests.{sha256_digest}
+use Rattle.gl_ledger.proofs.Entries.{signature_fits}
+use Rattle.gl_ledger.proofs.Roots.{root_is_digest}
 use Rattle.gl_world.specs.declared.settings.Settings.{Settings}
 use Rattle.gl_world.specs.Founding.{node_of, id_of, genesis_of}
 use Rattle.gl_world.specs.World.{start_of}

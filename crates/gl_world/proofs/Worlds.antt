@@ -11,7 +11,7 @@ use Rattle.gl_entry.specs.declared.entry.Entry.{Entry}
 use Rattle.gl_world.specs.declared.settings.Settings.{Settings}
 use Rattle.gl_world.specs.Founding.{numbers_from, id_of}
 use Rattle.gl_world.specs.World.{start_of, ServiceEvent, ServiceWorld}
-use Rattle.gl_store.specs.Book.{service_book, Given, Unmade}
+use Rattle.gl_ledger.specs.Book.{service_book, Given, Unmade}
 use Rattle.gl_world.specs.Single.{IsSingle, IsLocal, AreLocal}
 use Rattle.gl_world.proofs.Ids.{same_itself, same_other}
 use Rattle.gl_base.proofs.Lists.{fronts}

@@ -1,12 +1,12 @@
 -- The genesis of a service of a schedule.
 use Rattle.std.specs.Prelude.{ℕ, zero, suc, List, [], ◌∷◌, Bool, map}
 use Rattle.sha2.specs.Sha256.{sha256}
-use Rattle.gl_store.specs.Genesis.{node_id, are_distinct_bytes}
-use Rattle.gl_store.specs.declared.genesis.NewNode.{NewNode}
-use Rattle.gl_store.specs.declared.genesis.NewMember.{NewMember}
-use Rattle.gl_store.specs.declared.genesis.ShareDigest.{ShareDigest}
-use Rattle.gl_store.specs.declared.genesis.Dealing.{Dealing}
-use Rattle.gl_store.specs.declared.genesis.Genesis as request
+use Rattle.gl_ledger.specs.Genesis.{node_id, are_distinct_bytes}
+use Rattle.gl_ledger.specs.declared.genesis.NewNode.{NewNode}
+use Rattle.gl_ledger.specs.declared.genesis.NewMember.{NewMember}
+use Rattle.gl_ledger.specs.declared.genesis.ShareDigest.{ShareDigest}
+use Rattle.gl_ledger.specs.declared.genesis.Dealing.{Dealing}
+use Rattle.gl_ledger.specs.declared.genesis.Genesis as request
 use Rattle.gl_world.specs.declared.settings.Settings.{Settings}
 use Rattle.gl_world.specs.Keys.{lms_key, hss_key, service_seed, node_seed, member_seed, recovery_secret}
 

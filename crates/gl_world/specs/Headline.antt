@@ -2,10 +2,10 @@
 -- of moments.
 use Rattle.std.specs.Prelude.{List}
 use Rattle.gl_rules.specs.Safety.{IsSafe}
-use Rattle.gl_store.specs.Serial.{IsSound}
+use Rattle.gl_ledger.specs.Serial.{IsSound}
 use Rattle.gl_world.specs.declared.settings.Settings.{Settings}
 use Rattle.gl_world.specs.World.{start_of, ServiceEvent}
-use Rattle.gl_store.specs.Book.{service_book}
+use Rattle.gl_ledger.specs.Book.{service_book}
 
 -- Of any two committed ledgers, at any nodes and moments, one is a prefix of the other. No
 -- identifier that is reported Committed is ever reported Invalid. Each committed ledger is one

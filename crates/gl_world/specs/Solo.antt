@@ -2,11 +2,11 @@
 use Rattle.std.specs.Prelude.{◌≡◌, ℕ, suc, ◌≤◌, List, [], ◌∷◌, None, Some, length, take, slice_get}
 use Rattle.gl_rules.specs.Identity.{NodeId}
 use Rattle.gl_rules.specs.Node.{Node, Leader}
-use Rattle.gl_store.specs.Serial.{IsSound}
+use Rattle.gl_ledger.specs.Serial.{IsSound}
 use Rattle.gl_entry.specs.declared.entry.Entry.{Entry}
 use Rattle.gl_world.specs.declared.settings.Settings.{Settings}
 use Rattle.gl_world.specs.Founding.{id_of}
-use Rattle.gl_store.specs.Nodes.{configuration}
+use Rattle.gl_ledger.specs.Nodes.{configuration}
 
 -- One configuration stands at place 1, and no other: that of x alone.
 pub record IsAlone (x : NodeId) (log : List Entry) : Type 0 where

@@ -4,8 +4,8 @@ use Rattle.gl_rules.specs.World.{Start, Event, World}
 use Rattle.gl_rules.specs.Outcome.{Outcome}
 use Rattle.gl_entry.specs.declared.entry.Entry.{Entry}
 use Rattle.gl_tx.specs.declared.request.Operation.{Operation}
-use Rattle.gl_store.specs.Ledger.{opening_ledger}
-use Rattle.gl_store.specs.Book.{MemberRequest, Reads, Given, Unmade}
+use Rattle.gl_ledger.specs.Ledger.{opening_ledger}
+use Rattle.gl_ledger.specs.Book.{MemberRequest, Reads, Given, Unmade}
 use Rattle.gl_world.specs.declared.settings.Settings.{Settings}
 use Rattle.gl_world.specs.Founding.{numbers_from, id_of, genesis_of}
 

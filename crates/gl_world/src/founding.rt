@@ -4,8 +4,8 @@ ghost use Rattle.std.specs.Prelude.{◌≡◌, ◌≤◌, ◌-◌, ◌^◌, suc,
 ghost use Rattle.std.specs.List.{list_any};
 ghost use Rattle.gl_base.specs.Bytes.{same_bytes};
 ghost use Rattle.gl_entry.specs.Entry.{body_bytes, body_limit};
-ghost use Rattle.gl_store.specs.Genesis.{is_acceptable, is_genesis, HaveShortEndorsements};
-ghost use Rattle.gl_store.specs.Ledger.{genesis_entry};
+ghost use Rattle.gl_ledger.specs.Genesis.{is_acceptable, is_genesis, HaveShortEndorsements};
+ghost use Rattle.gl_ledger.specs.Ledger.{genesis_entry};
 ghost use Rattle.gl_world.specs.Keys.{recovery_secret};
 ghost use Rattle.gl_world.specs.Founding.{node_of, id_of, member_of, share_of, dealing_of, genesis_of, member_keys, has_distinct_keys};
 ghost use Rattle.gl_world.specs.Single.{IsSingle};
@@ -14,7 +14,7 @@ use crate::keys::{hss_key, lms_key, numbered_digest, word_digest};
 use crate::settings::Settings;
 use gl_base::{Bytes, Sequence};
 use gl_entry::NodeId;
-use gl_store::{Dealing, Genesis, HssPublicKey, LmsPublicKey, NewMember, NewNode, ShareDigest};
+use gl_ledger::{Dealing, Genesis, HssPublicKey, LmsPublicKey, NewMember, NewNode, ShareDigest};
 use sha2::{Digest, Sha256};
 use std::alloc::{AllocError, Global};
 

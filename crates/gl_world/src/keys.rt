@@ -6,7 +6,7 @@ ghost use Rattle.gl_base.specs.LittleEndian.{little_endian};
 ghost use Rattle.gl_world.specs.Keys.{lms_key, hss_key};
 
 use gl_entry::Digest;
-use gl_store::{HssPublicKey, LmsPublicKey};
+use gl_ledger::{HssPublicKey, LmsPublicKey};
 use sha2::{Digest as _, Sha256};
 
 /// LMS_SHA256_M32_H5 and LMOTS_SHA256_N32_W4 (RFC 8554, sections 5.1 and 4.1), four bytes each.

@@ -3,9 +3,11 @@
 
 mod founding;
 mod keys;
+mod laws;
 mod settings;
 
 pub use founding::{genesis, has_distinct_keys, node_id};
+pub use laws::{is_safe, is_unguarded};
 pub use settings::Settings;
 
 #[cfg(test)]

@@ -1,6 +1,6 @@
 //! With what a service of a schedule begins.
 
-use gl_store::ServiceState;
+use gl_ledger::ServiceState;
 
 /// The settings of a service. All its keys come from one seed.
 #[derive(Clone, Copy, Debug)]

@@ -1,7 +1,7 @@
 //! Keys and digests by Python's hashlib, from a seed of 32 bytes 07.
 
 use crate::{Settings, genesis, has_distinct_keys, node_id};
-use gl_store::ServiceState;
+use gl_ledger::ServiceState;
 use std::test::Fail;
 
 // The digest of the first node's key.

@@ -1,7 +1,7 @@
 use Rattle.std.proofs.Common.{rules, arith, ◌≡◌, ◌<◌, ℕ, length, get_or, true, ap, ◌∙◌}
 use Rattle.gl_base.specs.Bytes.{are_bytes}
-use Rattle.gl_store.proofs.RequestBytes.{request_are_bytes}
-use Rattle.gl_store.proofs.Entries.{application_fits, is_entry-from_fields}
+use Rattle.gl_ledger.proofs.RequestBytes.{request_are_bytes}
+use Rattle.gl_ledger.proofs.Entries.{application_fits, is_entry-from_fields}
 use Rattle.gl_store.proofs.store.application_entry.Goals as goal
 
 pub returns-clause-fits : goal.returns-clause-fits

@@ -1,6 +1,6 @@
 use Rattle.std.proofs.Common.{◌≤◌, length, arith}
 use Rattle.gl_entry.specs.Entry.{body_bytes}
-use Rattle.gl_store.proofs.Entries.{writes_within}
+use Rattle.gl_ledger.proofs.Entries.{writes_within}
 use Rattle.gl_store.proofs.store.push_entry.Goals as goal
 
 pub leaf-leaf-requires-clause-writes : goal.leaf-leaf-requires-clause-writes

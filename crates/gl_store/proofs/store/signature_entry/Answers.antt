@@ -1,10 +1,10 @@
 use Rattle.std.proofs.Common.{rules, arith, ◌≡◌, ◌+◌, true, length, refl}
 use Rattle.gl_merkle.specs.Tree.{root_of}
 use Rattle.gl_merkle.specs.Frontier.{count_of}
-use Rattle.gl_store.specs.Tree.{leaves_of}
+use Rattle.gl_ledger.specs.Tree.{leaves_of}
 use Rattle.gl_store.proofs.TablesLaws.{root_of_frontier, count_of_frontier}
 use Rattle.gl_entry.specs.Entry.{is_digest}
-use Rattle.gl_store.proofs.Entries.{is_digest-from, signature_fits}
+use Rattle.gl_ledger.proofs.Entries.{is_digest-from, signature_fits}
 use Rattle.gl_store.proofs.store.signature_entry.Goals as goal
 
 pub root-requires : goal.root-requires

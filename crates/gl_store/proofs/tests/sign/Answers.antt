@@ -2,9 +2,10 @@ use Rattle.std.proofs.Common.{◌≡◌, ℕ, List, Result, Ok, Err, sym, subst}
 use Rattle.std.specs.Result.{IfOk, OnErr}
 use Rattle.gl_base.specs.declared.tx_id.TxId.{TxId}
 use Rattle.gl_rules.specs.Safety.{ViewsUpTo}
-use Rattle.gl_store.specs.Ledger.{Held}
-use Rattle.gl_store.specs.Book.{service_book}
-use Rattle.gl_store.specs.Calls.{Signs, IsSignedAt}
+use Rattle.gl_store.specs.Kept.{Held}
+use Rattle.gl_ledger.specs.Book.{service_book}
+use Rattle.gl_store.specs.Calls.{Signs}
+use Rattle.gl_ledger.specs.Signed.{IsSignedAt}
 use Rattle.gl_store.proofs.Following.{up_to-signed, signed-last}
 use Rattle.gl_store.proofs.tests.sign.Goals as goal
 

@@ -1,6 +1,6 @@
 use Rattle.std.proofs.Common.{List, ℕ, ◌+◌, ◌∙◌, ap}
 use Rattle.sha2.specs.Sha256.{sha256}
-use Rattle.gl_store.specs.declared.genesis.ShareDigest.{ShareDigest}
+use Rattle.gl_ledger.specs.declared.genesis.ShareDigest.{ShareDigest}
 use Rattle.gl_world.specs.Founding.{share_of, dealing_of}
 use Rattle.gl_world.proofs.Numbers.{push-next}
 use Rattle.gl_world.proofs.founding.dealing.Goals as goal

@@ -1,9 +1,9 @@
 -- What is made is the genesis of the settings, of which the rest is known.
 use Rattle.std.proofs.Common.{rules, ◌≡◌, ◌≤◌, length, true, sym, subst}
 use Rattle.gl_entry.specs.Entry.{body_bytes, body_limit}
-use Rattle.gl_store.specs.Genesis.{is_acceptable, is_genesis}
-use Rattle.gl_store.specs.Ledger.{genesis_entry}
-use Rattle.gl_store.specs.declared.genesis.Genesis as request
+use Rattle.gl_ledger.specs.Genesis.{is_acceptable, is_genesis}
+use Rattle.gl_ledger.specs.Ledger.{genesis_entry}
+use Rattle.gl_ledger.specs.declared.genesis.Genesis as request
 use Rattle.gl_world.proofs.Acceptable.{genesis_acceptable, genesis_fits, genesis_small}
 use Rattle.gl_world.proofs.founding.genesis.Goals as goal
 

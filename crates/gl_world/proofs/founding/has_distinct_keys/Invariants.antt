@@ -1,5 +1,5 @@
 use Rattle.std.proofs.Common.{◌≡◌, ◌-◌, suc}
-use Rattle.gl_store.specs.Genesis.{are_distinct_bytes}
+use Rattle.gl_ledger.specs.Genesis.{are_distinct_bytes}
 use Rattle.gl_world.specs.Founding.{member_keys, has_distinct_keys}
 use Rattle.gl_world.proofs.founding.has_distinct_keys.Given as goal
 

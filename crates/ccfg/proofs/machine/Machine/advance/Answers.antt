@@ -1,7 +1,7 @@
 use Rattle.std.proofs.Common.{◌<◌, arith}
 use Rattle.gl_rules.specs.Log.{last_signature}
-use Rattle.gl_store.specs.Book.{service_book}
-use Rattle.gl_store.proofs.Signatures.{signed_at_last}
+use Rattle.gl_ledger.specs.Book.{service_book}
+use Rattle.gl_ledger.proofs.Signatures.{signed_at_last}
 use Rattle.ccfg.proofs.MachineLemmas.{advance_idle, advance_commits}
 use Rattle.ccfg.proofs.machine.Machine.advance.Goals as goal
 

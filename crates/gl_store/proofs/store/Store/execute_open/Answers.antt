@@ -5,14 +5,16 @@ use Rattle.gl_entry.specs.declared.entry.Entry.{Entry}
 use Rattle.gl_rules.specs.Safety.{ViewsUpTo}
 use Rattle.gl_tx.specs.declared.runs.Ran.{Ran}
 use Rattle.gl_tx.specs.declared.request.Operation.{Operation}
-use Rattle.gl_store.specs.Effect.{service_state}
-use Rattle.gl_store.specs.Tree.{writes_of, tables_of}
-use Rattle.gl_store.specs.Ledger.{Held, execute_result}
-use Rattle.gl_store.specs.Book.{service_book}
+use Rattle.gl_ledger.specs.Effect.{service_state}
+use Rattle.gl_ledger.specs.Tree.{writes_of, tables_of}
+use Rattle.gl_ledger.specs.Ledger.{execute_result}
+use Rattle.gl_store.specs.Kept.{Held}
+use Rattle.gl_ledger.specs.Book.{service_book}
 use Rattle.gl_store.specs.Calls.{Executes, Refuses}
-use Rattle.gl_store.specs.declared.genesis.ServiceState.TheVariants.{Open}
+use Rattle.gl_ledger.specs.declared.genesis.ServiceState.TheVariants.{Open}
 use Rattle.gl_store.proofs.TablesLaws.{versions_below}
-use Rattle.gl_store.proofs.Applications.{made_within, executes_made, refused_run}
+use Rattle.gl_ledger.proofs.Applications.{made_within}
+use Rattle.gl_store.proofs.Applications.{executes_made, refused_run}
 use Rattle.gl_store.proofs.Keeping.{kept_with_application}
 use Rattle.gl_store.proofs.store.Store.execute_open.Goals as goal
 

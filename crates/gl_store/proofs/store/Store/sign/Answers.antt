@@ -1,9 +1,9 @@
 use Rattle.std.proofs.Common.{◌≡◌, ◌+◌, ◌<◌, length, subst, sym, ap, arith}
 use Rattle.gl_base.specs.TxId.{last_seqno}
 use Rattle.gl_entry.specs.declared.entry.Entry.{Entry}
-use Rattle.gl_store.specs.Ledger.{Held}
+use Rattle.gl_store.specs.Kept.{Held}
 use Rattle.gl_rules.specs.Safety.{ViewsUpTo}
-use Rattle.gl_store.specs.Book.{service_book}
+use Rattle.gl_ledger.specs.Book.{service_book}
 use Rattle.gl_store.proofs.TablesLaws.{versions_below}
 use Rattle.gl_store.proofs.Keeping.{kept_with_signature}
 use Rattle.gl_store.proofs.store.Store.sign.Goals as goal

@@ -1,0 +1,203 @@
+-- What an application request writes is none of governance, and its entry keeps a ledger sound.
+use Rattle.std.proofs.Common.{◌≡◌, ℕ, ◌+◌, ◌<◌, ◌≤◌, nat_lt, List, [], ◌∷◌, ◌++◌, length, Some, None, Result, Ok, Err, Bool, true, false, not, ◌||◌, refl, sym, ◌∙◌, ap, ap₂, subst, if◌then◌else◌, arith}
+use Rattle.std.specs.List.{AllByRecursion}
+use Rattle.std.specs.FinMap as rows
+use Rattle.std.proofs.lemmas.Bool.Decides.{nat_tests}
+use Rattle.sha2.specs.Sha256.{sha256}
+use Rattle.gl_base.specs.TxId.{last_seqno}
+use Rattle.gl_vmaps.specs.Name.{is_public, is_governance, is_internal}
+use Rattle.gl_vmaps.specs.Tables.{Tables, Rows}
+use Rattle.gl_vmaps.specs.declared.write.Write.{Write}
+use Rattle.gl_tx.specs.Request.{is_request, request_bytes, reply_bytes}
+use Rattle.gl_tx.specs.Run.{bar_on_map, run}
+use Rattle.gl_tx.specs.Sees.{sees_in}
+use Rattle.gl_tx.specs.declared.runs.Ran.{Ran}
+use Rattle.gl_tx.specs.declared.request.Operation.{Operation}
+use Rattle.gl_tx.specs.declared.request.Answer.{Answer}
+use Rattle.gl_tx.specs.declared.abort.Cause.TheVariants as causes
+use Rattle.gl_tx.specs.declared.abort.Abort.{Abort}
+use Rattle.gl_tx.proofs.Written.{MayName, run_from-may}
+use Rattle.gl_entry.specs.Entry.{body_bytes, body_limit, is_entry}
+use Rattle.gl_entry.specs.declared.entry.Content.TheVariants as content
+use Rattle.gl_entry.specs.declared.entry.Entry.{Entry}
+use Rattle.gl_ledger.specs.Genesis.{service_map, service_key}
+use Rattle.gl_ledger.specs.Effect.{service_state, state_of_value}
+use Rattle.gl_ledger.specs.Tree.{tables_of}
+use Rattle.gl_ledger.specs.Serial.{IsSound, IsApplicationEntry}
+use Rattle.gl_rules.specs.Safety.{ViewsUpTo}
+use Rattle.gl_ledger.specs.Ledger.{application_entry, execute_result, execute_in, run_result, within_limits}
+use Rattle.gl_ledger.specs.Book.{service_book, with_reply, request_result, Given, Replied, Unmade, ByStore, Unspelled}
+use Rattle.gl_ledger.specs.declared.genesis.ServiceState.{ServiceState}
+use Rattle.gl_ledger.specs.declared.genesis.ServiceState.TheVariants.{Opening, Open}
+use Rattle.gl_ledger.specs.declared.refusal.Refusal.{Refusal}
+use Rattle.gl_ledger.specs.declared.refusal.Refusal.TheVariants as refusals
+use Rattle.gl_base.proofs.Steps.{same_pair}
+use Rattle.gl_ledger.proofs.Growth.{IsOutside, sound-push}
+
+-- ---- what a request writes is none of governance
+
+-- what no rule bars is none of governance
+outside : (map : List ℕ) → bar_on_map map ≡ None → is_governance map ≡ false
+outside map h = go (is_public map) (is_governance map) (is_internal map) refl h
+  where
+    go : (a b c : Bool) → is_governance map ≡ b →
+        (if not a then Some causes.NotPublic else (if b || c then Some causes.Reserved else None)) ≡ None → is_governance map ≡ false
+    go false b c is e = absurd (cc)
+    go true true c is e = absurd (cc)
+    go true false true is e = absurd (cc)
+    go true false false is e = is
+
+all_outside : (ws : List Write) → AllByRecursion MayName ws → AllByRecursion IsOutside ws
+all_outside [] all = tt
+all_outside (w ∷ ws) all = (outside w.map all.0, all_outside ws all.1)
+
+pub run_outside : (q : List Operation) (t : Tables) (ran : Ran) → run q t ≡ Ok ran → AllByRecursion IsOutside ran.writes
+run_outside q t ran e = all_outside ran.writes (run_from-may 1 q (sees_in t) [] ran tt e)
+
+-- ---- what a request makes, told by cases
+
+abbrev given : Entry → List Answer → Result (Entry × List Answer) Refusal
+given made reply = Ok (made, reply)
+
+-- an entry and a reply that are let through are within their sizes, and a place is left
+within_limits_ok : (ledger : List Entry) (made e : Entry) (reply a : List Answer) → within_limits ledger made reply ≡ Ok (e, a) →
+    (e ≡ made) × (a ≡ reply) × (length (body_bytes made) ≤ body_limit) × (length (reply_bytes reply) ≤ body_limit) × (length ledger < last_seqno)
+within_limits_ok ledger made e reply a h =
+    go (nat_lt body_limit (length (body_bytes made))) (nat_lt body_limit (length (reply_bytes reply))) (nat_lt (length ledger) last_seqno) refl refl refl h
+  where
+    go : (large long left : Bool) → nat_lt body_limit (length (body_bytes made)) ≡ large → nat_lt body_limit (length (reply_bytes reply)) ≡ long →
+        nat_lt (length ledger) last_seqno ≡ left →
+        (if large then Err (refusals.TooLarge (length (body_bytes made)))
+        else (if long then Err (refusals.TooLarge (length (reply_bytes reply))) else (if left then given made reply else Err refusals.SeqnoLimit))) ≡ given e a →
+        (e ≡ made) × (a ≡ reply) × (length (body_bytes made) ≤ body_limit) × (length (reply_bytes reply) ≤ body_limit) × (length ledger < last_seqno)
+    go true long left is1 is2 is3 p = absurd (cc)
+    go false true left is1 is2 is3 p = absurd (cc)
+    go false false false is1 is2 is3 p = absurd (cc)
+    go false false true is1 is2 is3 p =
+        let both = same_pair {F = Refusal} (given made reply) made e reply a refl p in
+        let small : length (body_bytes made) ≤ body_limit = grind (arith, nat_tests) in
+        let short : length (reply_bytes reply) ≤ body_limit = grind (arith, nat_tests) in
+        let place : length ledger < last_seqno = grind (arith, nat_tests) in
+        (both.0, both.1, small, short, place)
+
+-- what execute_result gives: an open service, a run, its entry and its answers, and that nothing is above its limit
+pub execute_ok : (ledger : List Entry) (view : ℕ) (q : List Operation) (e : Entry) (a : List Answer) → execute_result ledger view q ≡ Ok (e, a) →
+    (service_state (tables_of ledger) ≡ Open) × (ran : Ran) × (run q (tables_of ledger) ≡ Ok ran) × (e ≡ application_entry ledger view q ran) × (a ≡ ran.reply)
+    × (length (body_bytes e) ≤ body_limit) × (length (reply_bytes a) ≤ body_limit) × (length ledger < last_seqno)
+execute_ok ledger view q e a h = go (service_state (tables_of ledger)) refl h
+  where
+    ran_ok : (r : Result Ran Abort) → run_result ledger view q r ≡ Ok (e, a) → (ran : Ran) × (r ≡ Ok ran) × (e ≡ application_entry ledger view q ran) × (a ≡ ran.reply)
+        × (length (body_bytes e) ≤ body_limit) × (length (reply_bytes a) ≤ body_limit) × (length ledger < last_seqno)
+    ran_ok (Err abort) p = absurd (cc)
+    ran_ok (Ok ran) p =
+        let is = within_limits_ok ledger (application_entry ledger view q ran) e ran.reply a p in (
+          ran,
+          refl,
+          is.0,
+          is.1,
+          subst (λ (x : Entry). length (body_bytes x) ≤ body_limit) (sym is.0) is.2,
+          subst (λ (x : List Answer). length (reply_bytes x) ≤ body_limit) (sym is.1) is.3,
+          is.4,
+        )
+
+    go : (s : ServiceState) → service_state (tables_of ledger) ≡ s → execute_in s ledger view q ≡ Ok (e, a) →
+        (service_state (tables_of ledger) ≡ Open) × (ran : Ran) × (run q (tables_of ledger) ≡ Ok ran) × (e ≡ application_entry ledger view q ran) × (a ≡ ran.reply)
+        × (length (body_bytes e) ≤ body_limit) × (length (reply_bytes a) ≤ body_limit) × (length ledger < last_seqno)
+    go Opening is p = absurd (cc)
+    go Open is p = let r = ran_ok (run q (tables_of ledger)) p in (is, r.0, r.1, r.2, r.3, r.4, r.5, r.6)
+
+application_stands : (ledger : List Entry) (view : ℕ) (q : List Operation) (ran : Ran) → IsSound ledger → is_request q ≡ true → service_state (tables_of ledger) ≡ Open →
+    run q (tables_of ledger) ≡ Ok ran → (bytes : List ℕ) → bytes ≡ request_bytes q → IsApplicationEntry ledger (application_entry ledger view q ran) bytes
+application_stands ledger view q ran sound fits is_open runs bytes spelled = record {
+  requests = sound.governed.requests;
+  recorded = sound.governed.recorded;
+  is_open = ap (λ (r : Rows). state_of_value (rows.get r service_key)) (sym (sound.governed.rows service_map refl)) ∙ is_open;
+  request = q;
+  fits = fits;
+  spelled = spelled;
+  ran = ran;
+  runs = runs;
+  writes = refl;
+  claims = refl;
+}
+
+-- the entry of a request that ran keeps the ledger sound
+pub application_sound : (ledger : List Entry) (view : ℕ) (q : List Operation) (e : Entry) (a : List Answer) → IsSound ledger →
+    ViewsUpTo service_book view ledger → is_request q ≡ true → execute_result ledger view q ≡ Ok (e, a) → is_entry e ≡ true → IsSound (ledger ++ e ∷ [])
+application_sound ledger view q e a sound up fits h entry =
+    let made = execute_ok ledger view q e a h in
+    subst (λ (x : Entry). IsSound (ledger ++ x ∷ [])) (sym made.3)
+    (sound-push ledger (application_entry ledger view q made.1) sound (subst (λ (x : Entry). is_entry x ≡ true) made.3 entry) refl up
+    (application_stands ledger view q made.1 sound fits made.0 made.2 _ refl) tt
+    (run_outside q (tables_of ledger) made.1 made.2))
+
+-- what execute_result gives where the request ran: its entry and its answers, unless a limit is passed
+pub execute_ran : (ledger : List Entry) (view : ℕ) (q : List Operation) (ran : Ran) → service_state (tables_of ledger) ≡ Open →
+    run q (tables_of ledger) ≡ Ok ran → execute_result ledger view q ≡ within_limits ledger (application_entry ledger view q ran) ran.reply
+execute_ran ledger view q ran is_open runs =
+    ap (λ (s : ServiceState). execute_in s ledger view q) is_open ∙ ap (λ (r : Result Ran Abort). run_result ledger view q r) runs
+
+-- within the limits it is the entry and the answers
+pub within_limits_made : (ledger : List Entry) (e : Entry) (a : List Answer) → length (body_bytes e) ≤ body_limit → length (reply_bytes a) ≤ body_limit →
+    length ledger < last_seqno → within_limits ledger e a ≡ Ok (e, a)
+within_limits_made ledger e a body reply left =
+    let small : nat_lt body_limit (length (body_bytes e)) ≡ false = grind (arith, nat_tests) in
+    let short : nat_lt body_limit (length (reply_bytes a)) ≡ false = grind (arith, nat_tests) in
+    let place : nat_lt (length ledger) last_seqno ≡ true = grind (arith, nat_tests) in
+    rw (small, short, place) refl
+
+pub execute_within : (ledger : List Entry) (view : ℕ) (q : List Operation) (ran : Ran) (e : Entry) → service_state (tables_of ledger) ≡ Open →
+    run q (tables_of ledger) ≡ Ok ran → e ≡ application_entry ledger view q ran → length (body_bytes e) ≤ body_limit → length (reply_bytes ran.reply) ≤ body_limit →
+    length ledger < last_seqno → execute_result ledger view q ≡ Ok (e, ran.reply)
+execute_within ledger view q ran e is_open runs made body reply left =
+    execute_ran ledger view q ran is_open runs ∙ ap (λ (x : Entry). within_limits ledger x ran.reply) (sym made) ∙ within_limits_made ledger e ran.reply body reply left
+
+-- an entry of these fields is the one of the request that ran
+pub application_made : (ledger : List Entry) (view place : ℕ) (q : List Operation) (ran : Ran) (reply : List ℕ) (e : Entry) →
+    e ≡ record { view = view; seqno = place; content = content.Application (request_bytes q); writes = ran.writes; claims = sha256 reply } →
+    place ≡ length ledger + 1 → reply ≡ reply_bytes ran.reply → e ≡ application_entry ledger view q ran
+application_made ledger view place q ran reply e made at spelled = made ∙ rw (at, spelled) refl
+
+-- the entry that is made where the request ran, and the body, the reply and the seqno are within their limits
+pub made_within : (ledger : List Entry) (view seqno : ℕ) (q : List Operation) (ran : Ran) (reply body : List ℕ) (e : Entry) → service_state (tables_of ledger) ≡ Open →
+    run q (tables_of ledger) ≡ Ok ran →
+    e ≡ record { view = view; seqno = seqno; content = content.Application (request_bytes q); writes = ran.writes; claims = sha256 reply } →
+    seqno ≡ length ledger + 1 → reply ≡ reply_bytes ran.reply → body ≡ body_bytes e → length body ≤ body_limit → length reply ≤ body_limit → seqno ≤ last_seqno →
+    execute_result ledger view q ≡ Ok (e, ran.reply)
+made_within ledger view seqno q ran reply body e is_open runs made at spelled sized small short named =
+    execute_within ledger view q ran e is_open runs (application_made ledger view seqno q ran reply e made at spelled)
+    (subst (λ (xs : List ℕ). length xs ≤ body_limit) sized small) (subst (λ (xs : List ℕ). length xs ≤ body_limit) spelled short) (omega (arith, at, named))
+
+-- ---- the same of the book
+
+-- a request that bytes spell
+pub request_spelled : (ledger : List Entry) (view : ℕ) (q : List Operation) → is_request q ≡ true →
+    request_result ledger view q ≡ with_reply (execute_result ledger view q)
+request_spelled ledger view q fits =
+    ap (λ (b : Bool). if b then with_reply (execute_result ledger view q) else Err Unspelled) fits
+
+pub request_made : (ledger : List Entry) (view : ℕ) (q : List Operation) (e : Entry) (a : List Answer) → is_request q ≡ true →
+    execute_result ledger view q ≡ Ok (e, a) → request_result ledger view q ≡ Ok (e, Replied a)
+request_made ledger view q e a fits made = request_spelled ledger view q fits ∙ ap with_reply made
+
+pub request_refused : (ledger : List Entry) (view : ℕ) (q : List Operation) (why : Refusal) → is_request q ≡ true →
+    execute_result ledger view q ≡ Err why → request_result ledger view q ≡ Err (ByStore why)
+request_refused ledger view q why fits refused = request_spelled ledger view q fits ∙ ap with_reply refused
+
+abbrev replying : Entry → List Answer → Result (Entry × Given) Unmade
+replying e a = Ok (e, Replied a)
+
+-- what the book makes of a request is what the ledger makes of it
+pub request_ok : (ledger : List Entry) (view : ℕ) (q : List Operation) (e : Entry) (a : List Answer) →
+    request_result ledger view q ≡ Ok (e, Replied a) → (is_request q ≡ true) × (execute_result ledger view q ≡ Ok (e, a))
+request_ok ledger view q e a h = go (is_request q) refl (execute_result ledger view q) refl h
+  where
+    go : (b : Bool) → is_request q ≡ b → (r : Result (Entry × List Answer) Refusal) → execute_result ledger view q ≡ r →
+        (if b then with_reply r else Err Unspelled) ≡ replying e a → (is_request q ≡ true) × (execute_result ledger view q ≡ Ok (e, a))
+    go false is r from p = absurd (cc)
+    go true is (Err why) from p = absurd (cc)
+    go true is (Ok done) from p =
+        let one : (done.0, Replied done.1) ≡ (e, Replied a) = cc in
+        let reply : Replied done.1 ≡ Replied a = ap (λ (t : Entry × Given). t.1) one in
+        let answers : done.1 ≡ a = cc in
+        (is, from ∙ ap₂ given (ap (λ (t : Entry × Given). t.0) one) answers)

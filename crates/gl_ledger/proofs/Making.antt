@@ -1,0 +1,189 @@
+-- What the ledger makes breaks no rule: the guard refuses no application request, and of signatures only those of a node
+-- that isn't recorded, or with a commit that may not be recorded.
+use Rattle.std.proofs.Common.{◌≡◌, ℕ, ◌+◌, ◌<◌, ◌≤◌, ◌^◌, List, [], ◌∷◌, length, Option, Some, None, Result, Ok, Err, Bool, true, false, not, ◌&&◌, ◌||◌, ◌==◌, nat_le, max, if◌then◌else◌, refl, sym, ◌∙◌, ap, subst, arith}
+use Rattle.std.specs.List.{list_all}
+use Rattle.std.proofs.lemmas.Bool.{and_from}
+use Rattle.std.proofs.lemmas.Bool.Decides.{nat_tests}
+use Rattle.sha2.specs.Sha256.{sha256}
+use Rattle.gl_base.specs.Bytes.{same_bytes}
+use Rattle.gl_merkle.specs.Tree.{root_of}
+use Rattle.gl_rules.specs.Identity.{NodeId, member}
+use Rattle.gl_rules.specs.Log.{entry_at, seqno_with_first, last_signature, greatest_recorded}
+use Rattle.gl_rules.specs.Safety.{MayRecord}
+use Rattle.gl_tx.specs.Request.{is_request, request_bytes, reply_bytes}
+use Rattle.gl_tx.specs.Reading.{request_of}
+use Rattle.gl_tx.specs.Run.{run}
+use Rattle.gl_tx.specs.declared.runs.Ran.{Ran}
+use Rattle.gl_tx.specs.declared.abort.Abort.{Abort}
+use Rattle.gl_tx.specs.declared.request.Operation.{Operation}
+use Rattle.gl_tx.specs.declared.request.Answer.{Answer}
+use Rattle.gl_tx.proofs.Formats.{request-read}
+use Rattle.gl_entry.specs.Entry.{is_signature, is_entry, recorded_commit}
+use Rattle.gl_entry.specs.declared.entry.Content.{Content}
+use Rattle.gl_entry.specs.declared.entry.Content.TheVariants as content
+use Rattle.gl_entry.specs.declared.entry.Entry.{Entry}
+use Rattle.gl_ledger.specs.Genesis.{governance_bytes}
+use Rattle.gl_ledger.specs.Tree.{tables_of, leaves_of}
+use Rattle.gl_ledger.specs.Ledger.{execute_result, application_entry}
+use Rattle.gl_ledger.specs.declared.refusal.Refusal.{Refusal}
+use Rattle.gl_ledger.specs.declared.genesis.ServiceState.{ServiceState}
+use Rattle.gl_ledger.specs.declared.genesis.GovernanceRequest.{GovernanceRequest}
+use Rattle.gl_ledger.specs.declared.breach.GenesisFault.{GenesisFault}
+use Rattle.gl_ledger.proofs.Applications.{execute_ok}
+use Rattle.gl_ledger.proofs.Fitting.{execute_fits}
+use Rattle.gl_ledger.specs.Layers.{Layers}
+use Rattle.gl_ledger.specs.Recordings.{Recording, OfGovernance, OfApplication, OfSignature, governance_recording, application_recording, is_founding, is_signing, last_entry, founds, requests_of, recorded_nodes, removal, mark}
+use Rattle.gl_ledger.specs.Acceptance.{required, request_fault}
+use Rattle.gl_ledger.specs.Broken.{Broken, breach, is_next_view, is_unopened, is_in_order, broken_of_run, broken_in_state, effect_writes, unless_refused, with_writes, signs_at, last_signed, commit_behind, commit_from, last_commit, is_above_removal, is_later_commit, may_record, broken_by_fault, are_same_writes, broken}
+use Rattle.gl_ledger.specs.Makers.{Given, Replied, Unspelled, MayMake, with_reply, request_result, guarded, unless_broken, governance_entry, signature_made, signed_entry, MakesValid}
+use Rattle.gl_ledger.specs.LedgerBook.{ledger_book}
+use Rattle.gl_ledger.proofs.SameWrites.{same_bytes_self, same_writes_self}
+use Rattle.gl_ledger.proofs.Passing.{passes, passing_all}
+
+itself : (n : ℕ) → (n == n) ≡ true
+itself n = grind (arith, nat_tests)
+
+module _ (layers : Layers) (ledger : List Entry) (view : ℕ) (m : MayMake layers ledger view) where
+  in_view : (t : Recording) → is_next_view (last_entry ledger) t view ≡ true
+  in_view t = ap (λ (o : Option Entry). is_next_view o t view) m.is_last ∙ (let h = m.up in grind (arith, nat_tests))
+
+  in_order : (t : Recording) → is_founding t ≡ false → is_in_order layers (last_entry ledger) t view ≡ true
+  in_order t other =
+      ap (λ (o : Option Entry). is_in_order layers o t view) m.is_last
+      ∙ and_from (not (is_founding t)) (not (founds layers m.last) || (is_signing t && (view == m.last.view))) (ap not other)
+      (ap (λ (b : Bool). not b || (is_signing t && (view == m.last.view))) m.behind)
+
+  -- an application request that isn't refused makes an entry that breaks no rule
+  pub executed_unbroken : (q : List Operation) (e : Entry) (a : List Answer) → is_request q ≡ true → execute_result ledger view q ≡ Ok (e, a) → is_entry e ≡ true → broken layers ledger e ≡ None
+  executed_unbroken q e a fits h one =
+      let made = execute_ok ledger view q e a h in
+      let ran = made.1 in
+      let reads : request_of (request_bytes q) ≡ Ok q = request-read q fits in
+      let entry = application_entry ledger view q ran in
+      let seqno = length ledger + 1 in
+      let all : broken layers ledger entry ≡ None = passing_all layers ledger entry (record {
+        recording = OfApplication q;
+        reads = ap application_recording reads;
+        fits = subst (λ (x : Entry). is_entry x ≡ true) made.3 one;
+        seqno = itself (length ledger + 1);
+        view = in_view (OfApplication q);
+        order = in_order (OfApplication q) refl;
+        rest = ap (λ (s : ServiceState). broken_in_state seqno s (run q (tables_of ledger)) entry) made.0 ∙ ap (λ (r : Result Ran Abort). broken_of_run seqno r entry) made.2
+            ∙ passes (are_same_writes ran.writes ran.writes) _ _ (same_writes_self ran.writes)
+            (passes (same_bytes (sha256 (reply_bytes ran.reply)) (sha256 (reply_bytes ran.reply))) _ None (same_bytes_self (sha256 (reply_bytes ran.reply))) refl);
+      }) in
+      subst (λ (x : Entry). broken layers ledger x ≡ None) (sym made.3) all
+
+  -- an accepted request of governance that doesn't found makes an entry that breaks no rule
+  pub governed_unbroken : (g : GovernanceRequest) → layers.request_in (governance_bytes g) ≡ Some g → request_fault layers (requests_of layers ledger) g ≡ None → is_founding (OfGovernance g) ≡ false →
+      is_entry (governance_entry layers g ledger view) ≡ true → broken layers ledger (governance_entry layers g ledger view) ≡ None
+  governed_unbroken g reads accepted other fits =
+      let seqno = length ledger + 1 in
+      let writes = effect_writes (requests_of layers ledger) (record { seqno = seqno; request = g }) in
+      passing_all layers ledger (governance_entry layers g ledger view) (record {
+        recording = OfGovernance g;
+        reads = ap governance_recording reads;
+        fits = fits;
+        seqno = itself seqno;
+        view = in_view (OfGovernance g);
+        order = in_order (OfGovernance g) other;
+        rest = ap (λ (o : Option GenesisFault). unless_refused o (with_writes 8 seqno writes (governance_entry layers g ledger view) None)) accepted
+            ∙ passes (are_same_writes writes writes) _ None (same_writes_self writes) refl;
+      })
+
+  -- what the trial of a signature comes to
+  pub signed_broken : (x : NodeId) (leaf commit : ℕ) → is_entry (signed_entry layers x leaf ledger view commit) ≡ true →
+      MakesValid layers x leaf ledger view commit →
+      broken layers ledger (signed_entry layers x leaf ledger view commit)
+      ≡ required (member x (recorded_nodes layers ledger)) (breach 9 (length ledger + 1) (signed_entry layers x leaf ledger view commit))
+      (required (may_record layers ledger commit) (breach 10 (length ledger + 1) (signed_entry layers x leaf ledger view commit)) None)
+  unfolding broken
+  signed_broken x leaf commit fits valid =
+      let e = signed_entry layers x leaf ledger view commit in
+      let seqno = length ledger + 1 in
+      let s = signature_made layers x leaf ledger view commit in
+      true_first (is_entry e) _ _ fits
+      ∙ true_first (seqno == seqno) _ _ (itself seqno)
+      ∙ true_first (is_next_view (last_entry ledger) (OfSignature s) view) _ _ (in_view (OfSignature s))
+      ∙ true_first (is_in_order layers (last_entry ledger) (OfSignature s) view) _ _ (in_order (OfSignature s) refl)
+      ∙ ap (λ (rest : Option Broken). required (member x (recorded_nodes layers ledger)) (breach 9 seqno e) rest)
+      (true_first (same_bytes (root_of (leaves_of ledger)) (root_of (leaves_of ledger))) _ _ (same_bytes_self (root_of (leaves_of ledger)))
+      ∙ ap (λ (rest : Option Broken). required (may_record layers ledger commit) (breach 10 seqno e) rest) (ap (broken_by_fault seqno) valid.valid))
+    where
+      true_first : (holds : Bool) (b : Broken) (rest : Option Broken) → holds ≡ true → required holds b rest ≡ rest
+      true_first true b rest h = refl
+      true_first false b rest h = absurd (cc)
+
+-- ---- the commit that a leader may record
+
+module _ (layers : Layers) where
+  last_same : (ledger : List Entry) → last_signature (ledger_book layers) ledger ≡ last_signed ledger
+  unfolding last_signature
+  last_same [] = refl
+  last_same (e ∷ es) = ap (seqno_with_first (is_signature e.content)) (last_same es)
+
+  -- the last commit is one of those that are recorded
+  last_within : (commit : ℕ) (es : List Entry) → commit_from commit es ≤ max commit (greatest_recorded (ledger_book layers) es)
+  unfolding greatest_recorded
+  last_within commit [] = omega arith
+  last_within commit (e ∷ es) = go e.content (last_within (commit_behind commit e.content) es)
+    where
+      go : (c : Content) → commit_from (commit_behind commit c) es ≤ max (commit_behind commit c) (greatest_recorded (ledger_book layers) es) →
+          commit_from (commit_behind commit c) es ≤ max commit (max (if is_signature c then recorded_commit c else 0) (greatest_recorded (ledger_book layers) es))
+      go (content.Signature s) h = omega arith
+      go (content.Governance b) h = omega arith
+      go (content.Application b) h = omega arith
+      go (content.Evidence d) h = omega arith
+
+  -- what the rules of consensus let a leader record, the audit lets it record
+  pub may_go_on : (ledger : List Entry) (commit : ℕ) → MayRecord (ledger_book layers) ledger commit → is_later_commit layers ledger commit ≡ true
+  may_go_on ledger commit h =
+      let low : last_commit ledger ≤ commit = let a = last_within 0 ledger in let b = h.least in omega arith in
+      and_from (signs_at (entry_at ledger commit) && nat_le (last_commit ledger) commit) _
+      (and_from (signs_at (entry_at ledger commit)) (nat_le (last_commit ledger) commit) (ap signs_at h.at ∙ h.signs) (grind (arith, nat_tests)))
+      (each (recorded_nodes layers ledger))
+    where
+      above : (y : NodeId) (m r : Option ℕ) → mark layers ledger y ≡ m → removal layers ledger y ≡ r → is_above_removal m r (last_signed ledger) commit ≡ true
+      above y None r a b = refl
+      above y (Some place) None a b = refl
+      above y (Some place) (Some low) a b = go (nat_le place (last_signed ledger)) refl
+        where
+          go : (t : Bool) → nat_le place (last_signed ledger) ≡ t → (t || nat_le low commit) ≡ true
+          go true is = refl
+          go false is =
+              let behind : last_signature (ledger_book layers) ledger < place = let s = last_same ledger in let d : last_signed ledger < place = grind (arith, nat_tests) in omega arith in
+              let le : low ≤ commit = h.removals y place low a behind b in
+              grind (arith, nat_tests)
+
+      each : (ys : List NodeId) → list_all (λ (y : NodeId). is_above_removal (mark layers ledger y) (removal layers ledger y) (last_signed ledger) commit) ys ≡ true
+      each [] = refl
+      each (y ∷ ys) = and_from _ _ (above y (mark layers ledger y) (removal layers ledger y) refl refl) (each ys)
+
+  -- so a recorded node's signature breaks no rule
+  pub signed_unbroken : (ledger : List Entry) (view : ℕ) → MayMake layers ledger view → (x : NodeId) (leaf commit : ℕ) → is_entry (signed_entry layers x leaf ledger view commit) ≡ true →
+      MakesValid layers x leaf ledger view commit →
+      member x (recorded_nodes layers ledger) ≡ true → MayRecord (ledger_book layers) ledger commit → broken layers ledger (signed_entry layers x leaf ledger view commit) ≡ None
+  signed_unbroken ledger view m x leaf commit fits valid named may =
+      let e = signed_entry layers x leaf ledger view commit in
+      let seqno = length ledger + 1 in
+      let records : may_record layers ledger commit ≡ true =
+      ap (λ (o : Option Entry). if is_unopened layers o then commit == seqno else is_later_commit layers ledger commit) m.is_last
+      ∙ ap (λ (b : Bool). if b then commit == seqno else is_later_commit layers ledger commit) m.behind ∙ may_go_on ledger commit may in
+      signed_broken layers ledger view m x leaf commit fits valid ∙ passes (member x (recorded_nodes layers ledger)) (breach 9 seqno e) _ named (passes (may_record layers ledger commit) (breach 10 seqno e) None records refl)
+
+  pub unless_none : {X : Type 0} (o : Option Broken) (x : X) → o ≡ None → unless_broken o x ≡ Ok x
+  unless_none None x h = refl
+  unless_none (Some why) x h = absurd (cc)
+
+  -- the guard refuses no application request
+  pub execute_is : (ledger : List Entry) (view : ℕ) → view < 2 ^ 32 → MayMake layers ledger view → (q : List Operation) → (ledger_book layers).execute ledger view q ≡ request_result ledger view q
+  execute_is ledger view low m q = go (is_request q) refl
+    where
+      answered : is_request q ≡ true → (r : Result (Entry × List Answer) Refusal) → execute_result ledger view q ≡ r → guarded layers (λ (made : Entry × Given). made.0) ledger (with_reply r) ≡ with_reply r
+      answered fits (Err why) is = refl
+      answered fits (Ok made) is =
+          unless_none (broken layers ledger made.0) (made.0, Replied made.1) (executed_unbroken layers ledger view m q made.0 made.1 fits is (execute_fits ledger view q made.0 made.1 low fits is))
+
+      go : (b : Bool) → is_request q ≡ b → guarded layers (λ (made : Entry × Given). made.0) ledger (if b then with_reply (execute_result ledger view q) else Err Unspelled) ≡ (if b then with_reply (execute_result ledger view q) else Err Unspelled)
+      go false is = refl
+      go true is = answered is (execute_result ledger view q) refl

@@ -1,0 +1,91 @@
+-- Identifiers of nodes are digests, and the entry of a node's signature fits its format.
+use Rattle.std.proofs.Common.{◌≡◌, ℕ, ◌+◌, ◌≤◌, ◌<◌, ◌^◌, List, [], ◌∷◌, ◌++◌, length, map, Bool, true, false, ◌&&◌, ◌||◌, ◌==◌, nat_lt, refl, ◌∙◌, ap, arith, length-append}
+use Rattle.std.specs.List.{list_all}
+use Rattle.std.specs.Cmp.Lexicographic.{bytes_decides}
+use Rattle.std.proofs.lemmas.Bool.{and_parts, and_from}
+use Rattle.std.proofs.lemmas.Bool.Decides.{nat_tests}
+use Rattle.gl_base.specs.Bytes.{are_bytes}
+use Rattle.gl_base.specs.LittleEndian.{little_endian}
+use Rattle.gl_base.proofs.LittleEndianLaws.{length-little_endian}
+use Rattle.gl_merkle.specs.Tree.{root_of}
+use Rattle.gl_rules.specs.Identity.{NodeId, same, member}
+use Rattle.gl_safety.proofs.Ids.{same_is}
+use Rattle.gl_entry.specs.Entry.{no_digest, is_digest, is_entry}
+use Rattle.gl_entry.specs.declared.entry.Content.TheVariants as content
+use Rattle.gl_entry.specs.declared.entry.Entry.{Entry}
+use Rattle.gl_entry.specs.declared.entry.Signature as signatures
+use Rattle.gl_ledger.specs.Genesis.{node_id}
+use Rattle.gl_ledger.specs.Effect.{Recorded}
+use Rattle.gl_ledger.specs.Tree.{leaves_of}
+use Rattle.gl_ledger.specs.declared.genesis.NewNode.{NewNode}
+use Rattle.gl_ledger.specs.declared.genesis.GovernanceRequest.{GovernanceRequest}
+use Rattle.gl_ledger.specs.declared.genesis.GovernanceRequest.TheVariants as requests
+use Rattle.gl_ledger.specs.Layers.{Layers}
+use Rattle.gl_ledger.specs.Recordings.{requests_of, nodes_named, nodes_of, recorded_nodes}
+use Rattle.gl_ledger.specs.Makers.{MakesValid, signature_behind, signed_entry}
+use Rattle.gl_ledger.proofs.Digests.{sha256_digest}
+use Rattle.gl_ledger.proofs.Roots.{root_is_digest}
+use Rattle.gl_ledger.proofs.Entries.{is_entry-from_fields, length-body_bytes}
+
+-- ---- identifiers
+
+pub named_digests : (ns : List NewNode) → list_all is_digest (map node_id ns) ≡ true
+named_digests [] = refl
+named_digests (n ∷ ns) = and_from (is_digest (node_id n)) (list_all is_digest (map node_id ns)) (sha256_digest n.key) (named_digests ns)
+
+all_both : (xs ys : List NodeId) → list_all is_digest xs ≡ true → list_all is_digest ys ≡ true → list_all is_digest (xs ++ ys) ≡ true
+all_both [] ys a b = b
+all_both (x ∷ xs) ys a b = let p = and_parts (is_digest x) (list_all is_digest xs) a in and_from (is_digest x) (list_all is_digest (xs ++ ys)) p.0 (all_both xs ys p.1 b)
+
+named_all : (g : GovernanceRequest) → list_all is_digest (nodes_named g) ≡ true
+named_all (requests.Genesis g) = named_digests g.nodes
+
+nodes_digests : (rs : List Recorded) → list_all is_digest (nodes_of rs) ≡ true
+nodes_digests [] = refl
+nodes_digests (r ∷ rs) = all_both (nodes_named r.request) (nodes_of rs) (named_all r.request) (nodes_digests rs)
+
+pub among : (x : NodeId) (ys : List NodeId) → list_all is_digest ys ≡ true → member x ys ≡ true → is_digest x ≡ true
+among x [] all h = absurd (cc)
+among x (y ∷ ys) all h = go (same x y) refl h (among x ys)
+  where
+    go : (t : Bool) → same x y ≡ t → (t || member x ys) ≡ true → (list_all is_digest ys ≡ true → member x ys ≡ true → is_digest x ≡ true) → is_digest x ≡ true
+    go true is w again = ap is_digest (same_is x y is) ∙ (and_parts (is_digest y) (list_all is_digest ys) all).0
+    go false is w again = again (and_parts (is_digest y) (list_all is_digest ys) all).1 w
+
+pub recorded_digest : (layers : Layers) (x : NodeId) (es : List Entry) → member x (recorded_nodes layers es) ≡ true → is_digest x ≡ true
+unfolding recorded_nodes
+recorded_digest layers x es h = among x (nodes_of (requests_of layers es)) (nodes_digests (requests_of layers es)) h
+
+-- ---- signatures
+
+digest_length : (xs : List ℕ) → is_digest xs ≡ true → length xs ≡ 32
+digest_length xs h = let both = and_parts (length xs == 32) (are_bytes xs) h in grind (arith, nat_tests, both.0)
+
+-- a signature of whatever bytes, so many that the body has room for them
+signed_fits : (node root signature : List ℕ) (view seqno commit : ℕ) → is_digest node ≡ true → is_digest root ≡ true → view < 2 ^ 32 → seqno < 2 ^ 64 → commit < 2 ^ 64 → are_bytes signature ≡ true → length signature ≤ 2 ^ 16 →
+    is_entry (record { view = view; seqno = seqno; content = content.Signature (record { node = node; commit = commit; root = root; signature = signature }); writes = []; claims = no_digest }) ≡ true
+signed_fits node root signature view seqno commit named digest low fits number bytes short =
+    let s : signatures.Signature = record { node = node; commit = commit; root = root; signature = signature } in
+    let e : Entry = record { view = view; seqno = seqno; content = content.Signature s; writes = []; claims = no_digest } in
+    let small : nat_lt commit (2 ^ 64) ≡ true = grind (arith, nat_tests) in
+    let node_long = digest_length node named in
+    let root_long = digest_length root digest in
+    let recorded : length (node ++ little_endian 8 commit ++ root ++ (little_endian 4 (length signature) ++ signature)) ≡ length node + 8 + length root + 4 + length signature = simp (length-append, length-little_endian) (omega arith) in
+    is_entry-from_fields e
+    (record {
+      view = low;
+      seqno = fits;
+      recorded = and_from (is_digest node && nat_lt commit (2 ^ 64) && is_digest root) (are_bytes signature)
+          (and_from (is_digest node && nat_lt commit (2 ^ 64)) (is_digest root) (and_from (is_digest node) (nat_lt commit (2 ^ 64)) named small) digest) bytes;
+      limits = refl;
+      ordered = refl;
+      writes = refl;
+      digest = refl;
+      claims = (bytes_decides no_digest no_digest).1 refl;
+    })
+    (omega (arith, length-body_bytes e, recorded, node_long, root_long, short))
+
+pub signed_is_entry : (layers : Layers) (x : NodeId) (leaf : ℕ) (ledger : List Entry) (view commit : ℕ) → is_digest x ≡ true → 1 ≤ length ledger → view < 2 ^ 32 → length ledger + 1 < 2 ^ 64 → commit < 2 ^ 64 →
+    MakesValid layers x leaf ledger view commit → is_entry (signed_entry layers x leaf ledger view commit) ≡ true
+signed_is_entry layers x leaf ledger view commit named some low fits number v =
+    signed_fits x (root_of (leaves_of ledger)) (signature_behind layers x leaf ledger view commit) view (length ledger + 1) commit named (root_is_digest ledger some) low fits number v.bytes v.short

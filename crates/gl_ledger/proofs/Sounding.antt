@@ -1,0 +1,330 @@
+-- An entry that breaks no rule keeps a ledger sound.
+use Rattle.std.proofs.Common.{◌≡◌, ⊎_elim, ℕ, suc, ◌+◌, ◌-◌, ◌≤◌, ◌^◌, nat_lt, nat_le, List, [], ◌∷◌, ◌++◌, length, Option, Some, None, Result, Ok, Err, Bool, true, not, ◌&&◌, ◌||◌, ◌==◌, refl, sym, ◌∙◌, ap, subst, arith, slice_get, if◌then◌else◌}
+use Rattle.std.specs.List.{list_all, AllByRecursion}
+use Rattle.std.specs.FinMap as rows
+use Rattle.std.specs.Cmp.Lexicographic.{bytes_decides}
+use Rattle.std.proofs.lemmas.Bool.{and_parts, and_from}
+use Rattle.std.proofs.lemmas.Bool.Decides.{nat_tests}
+use Rattle.sha2.specs.Sha256.{sha256}
+use Rattle.gl_base.specs.Bytes.{are_bytes, same_bytes}
+use Rattle.gl_base.specs.declared.fault.CodeFault.{CodeFault}
+use Rattle.gl_base.proofs.ByteLists.{are_bytes-each}
+use Rattle.gl_base.proofs.Lists.{slice_get-push, slice_get-within}
+use Rattle.gl_hss.specs.declared.fault.HssFault.{HssFault}
+use Rattle.gl_merkle.specs.Tree.{root_of}
+use Rattle.gl_rules.specs.Identity.{member}
+use Rattle.gl_rules.specs.World.{first_view}
+use Rattle.gl_vmaps.specs.Tables.{Tables, Rows, wrote, wrote_all, with_row}
+use Rattle.gl_vmaps.specs.Writes.{is_write, is_ordered}
+use Rattle.gl_vmaps.specs.declared.write.Write.{Write}
+use Rattle.gl_tx.specs.Request.{reply_bytes}
+use Rattle.gl_tx.specs.Reading.{request_of}
+use Rattle.gl_tx.specs.Run.{run}
+use Rattle.gl_tx.specs.declared.runs.Ran.{Ran}
+use Rattle.gl_tx.specs.declared.request.Operation.{Operation}
+use Rattle.gl_tx.specs.declared.abort.Abort.{Abort}
+use Rattle.gl_tx.proofs.Formats.{request-spelled}
+use Rattle.gl_entry.specs.Entry.{no_digest, is_signature, is_entry, is_content, is_digest, may_write, may_claim, are_no_writes, is_no_digest, body_bytes, body_limit}
+use Rattle.gl_entry.specs.declared.entry.Content.{Content}
+use Rattle.gl_entry.specs.declared.entry.Content.TheVariants as content
+use Rattle.gl_entry.specs.declared.entry.Entry.{Entry}
+use Rattle.gl_entry.specs.declared.entry.Signature as signatures
+use Rattle.gl_ledger.specs.Genesis.{service_map, service_key, genesis_rows, genesis_writes}
+use Rattle.gl_ledger.specs.Effect.{Recorded, effect, effect_rows, service_state, state_of_value}
+use Rattle.gl_ledger.specs.Tree.{tables_of, leaves_of}
+use Rattle.gl_ledger.specs.Serial.{Turns}
+use Rattle.gl_ledger.specs.declared.genesis.ServiceState.{ServiceState}
+use Rattle.gl_ledger.specs.declared.genesis.ServiceState.TheVariants.{Opening, Open}
+use Rattle.gl_ledger.specs.declared.genesis.GovernanceRequest.{GovernanceRequest}
+use Rattle.gl_ledger.specs.declared.genesis.GovernanceRequest.TheVariants as requests
+use Rattle.gl_ledger.specs.declared.breach.GenesisFault.{GenesisFault}
+use Rattle.gl_ledger.specs.Layers.{Layers, ReadsSpellings}
+use Rattle.gl_ledger.specs.Recordings.{Recording, OfGovernance, OfApplication, OfSignature, OfEvidence, governance_recording, application_recording, is_founding, is_founding_or_none, is_signing, last_entry, recording_of, founds, requests_of, recorded_nodes}
+use Rattle.gl_ledger.specs.Changes.{are_rows}
+use Rattle.gl_ledger.specs.Acceptance.{request_fault}
+use Rattle.gl_ledger.specs.Broken.{Broken, is_next_view, is_in_order, are_same_writes, broken_in_state, effect_writes, unless_refused, broken_by_fault, may_record, fault_of_signature, broken_by, broken}
+use Rattle.gl_ledger.specs.Sound.{IsFounded, IsGovernanceEntry, IsApplicationEntry, IsSignatureEntry, StandsAs, IsGoverned, IsSound}
+use Rattle.gl_ledger.proofs.TablesLaws.{tables_of-push}
+use Rattle.gl_ledger.proofs.WriteSets.{sets_value, is_ordered-set_from, list_all-set_from}
+use Rattle.gl_ledger.proofs.Growth.{IsOutside, IsNoGovernance, untouched, in_order-push}
+use Rattle.gl_ledger.proofs.Applications.{run_outside}
+use Rattle.gl_ledger.proofs.Openings.{rows_set}
+use Rattle.gl_ledger.proofs.SameWrites.{same_bytes_is, same_writes_are}
+use Rattle.gl_ledger.proofs.Pushes.{each-push, no_last}
+use Rattle.gl_ledger.proofs.Changes.{changes_turn}
+use Rattle.gl_ledger.proofs.Gathering.{requests-quiet, requests-more, signing_is}
+use Rattle.gl_ledger.proofs.Passing.{passed, Passes, passing}
+
+-- ---- what fits its format
+
+pub record Fits (e : Entry) : Type 0 where
+  pub content : is_content e.content ≡ true
+  pub writes : (may_write e.content || are_no_writes e.writes) ≡ true
+  pub claims : (may_claim e.content || is_no_digest e.claims) ≡ true
+
+pub fits_parts : (e : Entry) → is_entry e ≡ true → Fits e
+fits_parts e h =
+    let v = nat_lt e.view (2 ^ 32) in
+    let p = nat_lt e.seqno (2 ^ 64) in
+    let c = is_content e.content in
+    let l = list_all is_write e.writes in
+    let o = is_ordered e.writes in
+    let w = may_write e.content || are_no_writes e.writes in
+    let d = is_digest e.claims in
+    let m = may_claim e.content || is_no_digest e.claims in
+    let a9 = and_parts (v && p && c && l && o && w && d && m) (nat_le (length (body_bytes e)) body_limit) h in
+    let a8 = and_parts (v && p && c && l && o && w && d) m a9.0 in
+    let a7 = and_parts (v && p && c && l && o && w) d a8.0 in
+    let a6 = and_parts (v && p && c && l && o) w a7.0 in
+    let a5 = and_parts (v && p && c && l) o a6.0 in
+    let a4 = and_parts (v && p && c) l a5.0 in
+    let a3 = and_parts (v && p) c a4.0 in
+    record { content = a3.1; writes = a6.1; claims = a8.1 }
+
+none_written : (ws : List Write) → are_no_writes ws ≡ true → ws ≡ []
+none_written [] h = refl
+none_written (w ∷ ws) h = absurd (cc)
+
+none_claimed : (bytes : List ℕ) → is_no_digest bytes ≡ true → bytes ≡ no_digest
+none_claimed bytes h = (bytes_decides bytes no_digest).0 h
+
+-- ---- the rows of an effect
+
+-- they are in order, each with a value
+pub are_effect_rows : (rs : List Recorded) → are_rows (effect_rows rs) ≡ true
+are_effect_rows [] = refl
+are_effect_rows (r ∷ rs) = of_request r.request
+  where
+    of_request : (g : GovernanceRequest) → are_rows (effect_rows (record { seqno = r.seqno; request = g } ∷ rs)) ≡ true
+    of_request (requests.Genesis g) = and_from (is_ordered (genesis_writes g)) (list_all sets_value (genesis_writes g)) (is_ordered-set_from [] (genesis_rows g) refl) (list_all-set_from sets_value [] (genesis_rows g) refl (rows_set g))
+
+-- what is written to a table depends on that table alone
+wrote_local : (t u : Tables) (w : Write) (map : List ℕ) → t map ≡ u map → wrote t w map ≡ wrote u w map
+wrote_local t u w map h = ap (λ (r : Rows). if same_bytes map w.map then with_row r w.key w.value else r) h
+
+wrote_all_local : (t u : Tables) (ws : List Write) (map : List ℕ) → t map ≡ u map → wrote_all t ws map ≡ wrote_all u ws map
+wrote_all_local t u [] map h = h
+wrote_all_local t u (w ∷ ws) map h = wrote_all_local (wrote t w) (wrote u w) ws map (wrote_local t u w map h)
+
+-- ---- one more entry
+
+module _ (layers : Layers) (readings : ReadsSpellings layers) (ledger : List Entry) (e : Entry) (sound : IsSound layers ledger) (p : Passes layers ledger e) where
+  fits : Fits e
+  fits = fits_parts e p.fits
+
+  seqno : e.seqno ≡ suc (length ledger)
+  seqno = let h = p.seqno in let u : e.seqno ≡ length ledger + 1 = grind (arith, nat_tests) in omega arith
+
+  -- an entry behind the last one has a view that none is above
+  up : (i : ℕ) (f : Entry) → slice_get ledger i ≡ Some f → f.view ≤ e.view
+  up i f s = go (last_entry ledger) refl p.view
+    where
+      go : (o : Option Entry) → last_entry ledger ≡ o → is_next_view o p.recording e.view ≡ true → f.view ≤ e.view
+      go None is w = absurd (let q : slice_get ledger i ≡ None = ap (λ (l : List Entry). slice_get l i) (no_last ledger is) in cc)
+      go (Some last) is w =
+          let here = slice_get-within ledger i f s in
+          let le : f.view ≤ last.view = sound.in_order.views i (length ledger - 1) f last (omega arith) s is in
+          let more : last.view ≤ e.view = grind (arith, nat_tests) in
+          omega arith
+
+  read_as : (r : Recording) → recording_of layers e.content ≡ Some r → p.recording ≡ r
+  read_as r reads = let k = sym p.reads ∙ reads in cc
+
+  rest_of : (r : Recording) → recording_of layers e.content ≡ Some r → broken_by layers r ledger e ≡ None
+  rest_of r reads = ap (λ (t : Recording). broken_by layers t ledger e) (sym (read_as r reads)) ∙ p.rest
+
+  -- what each kind of entry comes to
+  record Stands : Type 0 where
+    as_content : StandsAs layers e.content ledger e
+    governed : IsGoverned layers (ledger ++ e ∷ [])
+
+  -- nothing of governance is recorded or written
+  quietly : IsNoGovernance e.content → AllByRecursion IsOutside e.writes → StandsAs layers e.content ledger e → Stands
+  quietly none out stands = record {
+    as_content = stands;
+    governed = λ map inside.
+        ap (λ (t : Tables). t map) (tables_of-push ledger e) ∙ untouched (tables_of ledger) e.writes map out inside ∙ sound.governed map inside
+        ∙ ap (λ (rs : List Recorded). effect rs map) (sym (requests-quiet layers ledger e none));
+  }
+
+  application : (bytes : List ℕ) (q : List Operation) → e.content ≡ content.Application bytes → request_of bytes ≡ Ok q → Stands
+  application bytes q is reads =
+      in_state (service_state (tables_of ledger)) refl (run q (tables_of ledger)) refl (rest_of (OfApplication q) (ap (recording_of layers) is ∙ ap application_recording reads))
+    where
+      all : are_bytes bytes ≡ true
+      all = sym (ap is_content is) ∙ fits.content
+
+      in_state : (s : ServiceState) → service_state (tables_of ledger) ≡ s → (r : Result Ran Abort) → run q (tables_of ledger) ≡ r → broken_in_state (length ledger + 1) s r e ≡ None → Stands
+      in_state Opening is_state r runs w = absurd (cc)
+      in_state Open is_state (Err abort) runs w = absurd (cc)
+      in_state Open is_state (Ok ran) runs w =
+          let one = passed (are_same_writes e.writes ran.writes) _ _ w in
+          let two = passed (same_bytes e.claims (sha256 (reply_bytes ran.reply))) _ None one.1 in
+          let writes : e.writes ≡ ran.writes = same_writes_are e.writes ran.writes one.0 in
+          let spelled = request-spelled bytes q (are_bytes-each bytes all) reads in
+          let stands : IsApplicationEntry layers ledger e bytes = record {
+            is_open = ap (λ (r : Rows). state_of_value (rows.get r service_key)) (sym (sound.governed service_map refl)) ∙ is_state;
+            request = q;
+            fits = spelled.0;
+            spelled = spelled.1;
+            ran = ran;
+            runs = runs;
+            writes = writes;
+            claims = same_bytes_is e.claims (sha256 (reply_bytes ran.reply)) two.0;
+          } in
+          quietly (subst IsNoGovernance (sym is) tt) (subst (λ (ws : List Write). AllByRecursion IsOutside ws) (sym writes) (run_outside q (tables_of ledger) ran runs))
+          (subst (λ (c : Content). StandsAs layers c ledger e) (sym is) stands)
+
+  signature : (s : signatures.Signature) → e.content ≡ content.Signature s → Stands
+  signature s is =
+      let h = rest_of (OfSignature s) (ap (recording_of layers) is) in
+      let one = passed (member s.node (recorded_nodes layers ledger)) _ _ h in
+      let two = passed (same_bytes s.root (root_of (leaves_of ledger))) _ _ one.1 in
+      let three = passed (may_record layers ledger s.commit) _ _ two.1 in
+      let writes : e.writes ≡ [] = none_written e.writes (sym (ap (λ (x : Bool). x || are_no_writes e.writes) (ap may_write is)) ∙ fits.writes) in
+      let stands : IsSignatureEntry layers ledger e s = record {
+        writes = writes;
+        claims = none_claimed e.claims (sym (ap (λ (x : Bool). x || is_no_digest e.claims) (ap may_claim is)) ∙ fits.claims);
+        node = one.0;
+        root = same_bytes_is s.root (root_of (leaves_of ledger)) two.0;
+        commit = three.0;
+        valid = valid (fault_of_signature layers ledger e s) three.1;
+      } in
+      quietly (subst IsNoGovernance (sym is) tt) (subst (λ (ws : List Write). AllByRecursion IsOutside ws) (sym writes) tt)
+      (subst (λ (c : Content). StandsAs layers c ledger e) (sym is) stands)
+    where
+      valid : (o : Option HssFault) → broken_by_fault (length ledger + 1) o ≡ None → o ≡ None
+      valid None w = refl
+      valid (Some fault) w = absurd (cc)
+
+  governance : (bytes : List ℕ) (g : GovernanceRequest) → e.content ≡ content.Governance bytes → layers.request_in bytes ≡ Some g → Stands
+  governance bytes g is reads =
+      let one = accepted (request_fault layers before g) _ (rest_of (OfGovernance g) (ap (recording_of layers) is ∙ ap governance_recording reads)) in
+      let two = passed (are_same_writes e.writes (effect_writes before r)) _ None one.1 in
+      let spelled = readings.spelled bytes g (sym (ap is_content is) ∙ fits.content) reads in
+      let turns : Turns e.writes (effect before) (effect (before ++ r ∷ [])) =
+      subst (λ (ws : List Write). Turns ws (effect before) (effect (before ++ r ∷ []))) (sym (same_writes_are e.writes (effect_writes before r) two.0))
+      (changes_turn (effect_rows before) (effect_rows (before ++ r ∷ [])) (are_effect_rows before) (are_effect_rows (before ++ r ∷ []))) in
+      let stands : IsGovernanceEntry layers ledger e bytes = record {
+        request = g;
+        reads = reads;
+        fits = spelled.0;
+        spelled = spelled.1;
+        accepted = one.0;
+        turns = turns;
+        claims = none_claimed e.claims (sym (ap (λ (x : Bool). x || is_no_digest e.claims) (ap may_claim is)) ∙ fits.claims);
+      } in
+      record {
+        as_content = subst (λ (c : Content). StandsAs layers c ledger e) (sym is) stands;
+        governed = λ map inside.
+            ap (λ (t : Tables). t map) (tables_of-push ledger e) ∙ wrote_all_local (tables_of ledger) (effect before) e.writes map (sound.governed map inside) ∙ turns.turns map
+            ∙ ap (λ (rs : List Recorded). effect rs map) (sym (requests-more layers ledger e bytes g is reads));
+      }
+    where
+      before : List Recorded
+      before = requests_of layers ledger
+
+      r : Recorded
+      r = record { seqno = length ledger + 1; request = g }
+
+      accepted : (o : Option GenesisFault) (rest : Option Broken) → unless_refused o rest ≡ None → (o ≡ None) × (rest ≡ None)
+      accepted None rest w = (refl, w)
+      accepted (Some fault) rest w = absurd (cc)
+
+  unread : {X : Type 0} → recording_of layers e.content ≡ None → X
+  unread h = absurd (let k = sym p.reads ∙ h in cc)
+
+  stands_by : (c : Content) → e.content ≡ c → Stands
+  stands_by (content.Signature s) is = signature s is
+  stands_by (content.Evidence d) is = absurd (let h = rest_of (OfEvidence d) (ap (recording_of layers) is) in cc)
+  stands_by (content.Application bytes) is = go (request_of bytes) refl
+    where
+      go : (r : Result (List Operation) CodeFault) → request_of bytes ≡ r → Stands
+      go (Err fault) reads = unread (ap (recording_of layers) is ∙ ap application_recording reads)
+      go (Ok q) reads = application bytes q is reads
+  stands_by (content.Governance bytes) is = go (layers.request_in bytes) refl
+    where
+      go : (o : Option GovernanceRequest) → layers.request_in bytes ≡ o → Stands
+      go None reads = unread (ap (recording_of layers) is ∙ ap governance_recording reads)
+      go (Some g) reads = governance bytes g is reads
+
+  -- ---- what comes first
+
+  founding_as : founds layers e ≡ is_founding p.recording
+  founding_as = ap is_founding_or_none p.reads
+
+  first_of : 0 ≡ length ledger → (founds layers e ≡ true) × (e.view ≡ first_view)
+  first_of none =
+      let both = and_parts (is_founding p.recording) (e.view == first_view) (ap (λ (l : List Entry). is_next_view (last_entry l) p.recording e.view) (sym (empty ledger none)) ∙ p.view) in
+      (founding_as ∙ both.0, let h = both.1 in grind (arith, nat_tests))
+    where
+      empty : (l : List Entry) → 0 ≡ length l → l ≡ []
+      empty [] h = refl
+      empty (x ∷ xs) h = absurd (omega (arith, h))
+
+  once_of : founds layers e ≡ true → length ledger ≡ 0
+  once_of h = go (last_entry ledger) refl p.order
+    where
+      go : (o : Option Entry) → last_entry ledger ≡ o → is_in_order layers o p.recording e.view ≡ true → length ledger ≡ 0
+      go None is w = ap length (no_last ledger is)
+      go (Some last) is w = absurd (let k = (and_parts (not (is_founding p.recording)) _ w).0 in let t = sym founding_as ∙ h in let u = ap not t in cc)
+
+  second_of : 1 ≡ length ledger → (is_signature e.content ≡ true) × (e.view ≡ first_view)
+  second_of one = go (slice_get ledger 0) refl
+    where
+      at : length ledger - 1 ≡ 0
+      at = omega (arith, one)
+
+      there : (l : List Entry) → 1 ≡ length l → slice_get l 0 ≡ None → ⊥
+      there [] h w = omega (arith, h)
+      there (x ∷ xs) h w = cc
+
+      go : (o : Option Entry) → slice_get ledger 0 ≡ o → (is_signature e.content ≡ true) × (e.view ≡ first_view)
+      go None is = absurd (there ledger one is)
+      go (Some f) is =
+          let first = sound.founded.first f is in
+          let last : last_entry ledger ≡ Some f = ap (slice_get ledger) at ∙ is in
+          let w : is_in_order layers (Some f) p.recording e.view ≡ true = ap (λ (o : Option Entry). is_in_order layers o p.recording e.view) (sym last) ∙ p.order in
+          let both = and_parts (not (is_founding p.recording)) (not (founds layers f) || (is_signing p.recording && (e.view == f.view))) w in
+          let opening : (is_signing p.recording && (e.view == f.view)) ≡ true = sym (ap (λ (x : Bool). not x || (is_signing p.recording && (e.view == f.view))) first.0) ∙ both.1 in
+          let parts = and_parts (is_signing p.recording) (e.view == f.view) opening in
+          let same : e.view ≡ f.view = let h = parts.1 in grind (arith, nat_tests) in
+          (sym (signing_is layers e.content p.recording p.reads) ∙ parts.0, same ∙ first.1)
+
+  founded : IsFounded layers (ledger ++ e ∷ [])
+  founded = record {
+    first = λ f s. ⊎_elim
+        (λ (old : slice_get ledger 0 ≡ Some f). sound.founded.first f old)
+        (λ (new : (0 ≡ length ledger) × (f ≡ e)). subst (λ (x : Entry). (founds layers x ≡ true) × (x.view ≡ first_view)) (sym new.1) (first_of new.0))
+        (slice_get-push ledger e 0 f s);
+    once = λ i f s h. ⊎_elim
+        (λ (old : slice_get ledger i ≡ Some f). sound.founded.once i f old h)
+        (λ (new : (i ≡ length ledger) × (f ≡ e)). new.0 ∙ once_of (ap (founds layers) (sym new.1) ∙ h))
+        (slice_get-push ledger e i f s);
+    opened = λ f s. ⊎_elim
+        (λ (old : slice_get ledger 1 ≡ Some f). sound.founded.opened f old)
+        (λ (new : (1 ≡ length ledger) × (f ≡ e)). subst (λ (x : Entry). (is_signature x.content ≡ true) × (x.view ≡ first_view)) (sym new.1) (second_of new.0))
+        (slice_get-push ledger e 1 f s);
+  }
+
+  all_sound : IsSound layers (ledger ++ e ∷ [])
+  all_sound =
+      let stands = stands_by e.content refl in
+      record {
+        in_order = in_order-push ledger e sound.in_order p.fits seqno up;
+        founded = founded;
+        serial = each-push (λ i before f. StandsAs layers f.content before f) ledger e sound.serial stands.as_content;
+        governed = stands.governed;
+      }
+
+-- what is said of a ledger is kept by an entry that breaks no rule
+pub sound-push : (layers : Layers) → ReadsSpellings layers → (ledger : List Entry) (e : Entry) → IsSound layers ledger → broken layers ledger e ≡ None → IsSound layers (ledger ++ e ∷ [])
+sound-push layers readings ledger e sound h = all_sound layers readings ledger e sound (passing layers ledger e h)
+
+pub sound_empty : (layers : Layers) → IsSound layers []
+sound_empty layers = record {
+  in_order = record { fits = λ i e a. absurd (cc); seqnos = λ i e a. absurd (cc); views = λ i j e f le a b. absurd (cc) };
+  founded = record { first = λ e a. absurd (cc); once = λ i e a h. absurd (cc); opened = λ e a. absurd (cc) };
+  serial = λ i e a. absurd (cc);
+  governed = λ map inside. refl;
+}

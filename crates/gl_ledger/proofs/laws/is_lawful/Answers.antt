@@ -1,0 +1,8 @@
+use Rattle.gl_ledger.proofs.Lawful.{lawful, retiring}
+use Rattle.gl_ledger.proofs.laws.is_lawful.Goals as goal
+
+pub returns : goal.returns
+returns c = record {
+  lawful = λ layers. lawful layers;
+  retiring = λ layers. retiring layers;
+}

@@ -1,0 +1,5 @@
+use Rattle.gl_ledger.proofs.NodeSignatures.{node_signs}
+use Rattle.gl_ledger.proofs.laws.is_signed.Goals as goal
+
+pub returns : goal.returns
+returns c = record { valid = λ keys identity x leaf message h low. node_signs keys identity x leaf message h low }

@@ -1,0 +1,226 @@
+-- The rules of the audit, and the first of them that an entry breaks behind a ledger. A ledger is
+-- valid where no entry of it breaks one behind those before it. A node refuses an entry from
+-- another node for the same answer.
+use Rattle.std.specs.Prelude.{ℕ, ◌+◌, List, [], ◌∷◌, ◌++◌, Option, None, Some, Result, Ok, Err, Bool, true, false, not, ◌&&◌, ◌||◌, ◌==◌, nat_le, length, if◌then◌else◌}
+use Rattle.std.specs.List.{list_all, flat_map}
+use Rattle.sha2.specs.Sha256.{sha256}
+use Rattle.gl_base.specs.LittleEndian.{little_endian}
+use Rattle.gl_base.specs.Bytes.{same_bytes}
+use Rattle.gl_hss.specs.declared.fault.HssFault.{HssFault}
+use Rattle.gl_merkle.specs.Tree.{root_of}
+use Rattle.gl_rules.specs.Identity.{NodeId, member}
+use Rattle.gl_rules.specs.Log.{entry_at, seqno_with_first}
+use Rattle.gl_rules.specs.World.{first_view}
+use Rattle.gl_vmaps.specs.declared.write.Write.{Write}
+use Rattle.gl_tx.specs.Request.{reply_bytes}
+use Rattle.gl_tx.specs.Run.{run, is_expected}
+use Rattle.gl_tx.specs.declared.request.Operation.{Operation}
+use Rattle.gl_tx.specs.declared.runs.Ran.{Ran}
+use Rattle.gl_tx.specs.declared.abort.Abort.{Abort}
+use Rattle.gl_entry.specs.Entry.{no_digest, is_signature, is_entry, body_bytes, write_bytes}
+use Rattle.gl_entry.specs.SignedMessage.{signed_message}
+use Rattle.gl_entry.specs.declared.entry.Content.{Content}
+use Rattle.gl_entry.specs.declared.entry.Content.TheVariants as content
+use Rattle.gl_entry.specs.declared.entry.Entry.{Entry}
+use Rattle.gl_entry.specs.declared.entry.Signature as signatures
+use Rattle.gl_ledger.specs.Effect.{Recorded, effect_rows, service_state, identity_in}
+use Rattle.gl_ledger.specs.Tree.{tables_of, leaves_of}
+use Rattle.gl_ledger.specs.declared.genesis.ServiceState.{ServiceState}
+use Rattle.gl_ledger.specs.declared.genesis.ServiceState.TheVariants.{Opening, Open}
+use Rattle.gl_ledger.specs.declared.genesis.GovernanceRequest.{GovernanceRequest}
+use Rattle.gl_ledger.specs.declared.breach.GenesisFault.{GenesisFault}
+use Rattle.gl_ledger.specs.declared.breach.EntryRefusal.{EntryRefusal}
+use Rattle.gl_ledger.specs.declared.breach.EntryRefusal.TheVariants as refusals
+use Rattle.gl_ledger.specs.Layers.{Layers}
+use Rattle.gl_ledger.specs.Recordings.{Recording, OfGovernance, OfApplication, OfSignature, OfEvidence, is_founding, is_signing, last_entry, recording_of, founds, requests_of, recorded_nodes, removal, mark}
+use Rattle.gl_ledger.specs.Changes.{changes}
+use Rattle.gl_ledger.specs.Acceptance.{required, request_fault}
+
+-- The number of a rule, and what an entry is refused for that breaks it.
+pub record Broken : Type 0 where
+  pub rule : ℕ
+  pub refusal : EntryRefusal
+
+-- At this seqno another digest is wanted than the one that is found.
+abbrev pub replay : ℕ → ℕ → List ℕ → List ℕ → Broken
+replay rule seqno wanted found = record {
+  rule = rule;
+  refusal = refusals.Replay seqno wanted found;
+}
+
+-- A rule without a digest of its own: that of the body is found where none is wanted.
+abbrev pub breach : ℕ → ℕ → Entry → Broken
+breach rule seqno e = replay rule seqno no_digest (sha256 (body_bytes e))
+
+-- Rules 3 and 4: views and what comes first
+
+-- The first entry founds the service, in the first view, and behind it views never fall.
+abbrev pub is_next_view : Option Entry → Recording → ℕ → Bool
+is_next_view None recording view = is_founding recording && (view == first_view)
+is_next_view (Some last) recording view = nat_le last.view view
+
+-- Rules 5 and 6: an application request
+
+abbrev pub is_same_write : Write → Write → Bool
+is_same_write v w =
+    same_bytes v.map w.map && same_bytes v.key w.key && is_expected v.value w.value
+
+abbrev pub are_same_writes : List Write → List Write → Bool
+are_same_writes [] [] = true
+are_same_writes [] (w ∷ ws) = false
+are_same_writes (v ∷ vs) [] = false
+are_same_writes (v ∷ vs) (w ∷ ws) = is_same_write v w && are_same_writes vs ws
+
+-- The digest of a write set: of its bytes in a body, behind its count.
+abbrev pub writes_digest : List Write → List ℕ
+writes_digest ws = sha256 (little_endian 4 (length ws) ++ flat_map write_bytes ws)
+
+-- The entry has this write set.
+abbrev pub with_writes : ℕ → ℕ → List Write → Entry → Option Broken → Option Broken
+with_writes rule seqno wanted e rest =
+    required (are_same_writes e.writes wanted)
+    (replay rule seqno (writes_digest wanted) (writes_digest e.writes)) rest
+
+-- The entry of a request that ran has its write set, and the digest of its reply.
+abbrev pub broken_of_run : ℕ → Result Ran Abort → Entry → Option Broken
+broken_of_run seqno (Err abort) e = Some (record { rule = 5; refusal = refusals.Aborted abort })
+broken_of_run seqno (Ok ran) e =
+    with_writes 6 seqno ran.writes e (
+    required (same_bytes e.claims (sha256 (reply_bytes ran.reply)))
+    (replay 6 seqno (sha256 (reply_bytes ran.reply)) e.claims) None
+    )
+
+abbrev pub broken_in_state : ℕ → ServiceState → Result Ran Abort → Entry → Option Broken
+broken_in_state seqno Opening ran e =
+    Some (record { rule = 5; refusal = refusals.ServiceState Opening })
+broken_in_state seqno Open ran e = broken_of_run seqno ran e
+
+-- Rules 7 and 8: a request of governance
+
+-- The write set of its effect, which turns the rows of the requests before it into the rows with it.
+abbrev pub effect_writes : List Recorded → Recorded → List Write
+effect_writes recorded r = changes (effect_rows recorded) (effect_rows (recorded ++ r ∷ []))
+
+abbrev pub unless_refused : Option GenesisFault → Option Broken → Option Broken
+unless_refused None rest = rest
+unless_refused (Some fault) rest = Some (record { rule = 7; refusal = refusals.Genesis fault })
+
+-- Rules 9 to 11: a signature
+
+abbrev pub signs_at : Option Entry → Bool
+signs_at None = false
+signs_at (Some e) = is_signature e.content
+
+-- The seqno of the last signature of a ledger, 0 where there is none.
+abbrev pub last_signed : List Entry → ℕ
+last_signed [] = 0
+last_signed (e ∷ es) = seqno_with_first (is_signature e.content) (last_signed es)
+
+abbrev pub commit_behind : ℕ → Content → ℕ
+commit_behind commit (content.Signature s) = s.commit
+commit_behind commit (content.Governance bytes) = commit
+commit_behind commit (content.Application bytes) = commit
+commit_behind commit (content.Evidence d) = commit
+
+abbrev pub commit_from : ℕ → List Entry → ℕ
+commit_from commit [] = commit
+commit_from commit (e ∷ es) = commit_from (commit_behind commit e.content) es
+
+-- The commit that the last signature of a ledger records, 0 where there is none.
+abbrev pub last_commit : List Entry → ℕ
+last_commit ledger = commit_from 0 ledger
+
+-- Of a node that is marked behind a seqno, the removal is not above commit.
+abbrev pub is_above_removal : Option ℕ → Option ℕ → ℕ → ℕ → Bool
+is_above_removal None removal seqno commit = true
+is_above_removal (Some mark) None seqno commit = true
+is_above_removal (Some mark) (Some removal) seqno commit =
+    nat_le mark seqno || nat_le removal commit
+
+abbrev pub broken_by_fault : ℕ → Option HssFault → Option Broken
+broken_by_fault seqno None = None
+broken_by_fault seqno (Some fault) =
+    Some (record { rule = 11; refusal = refusals.BadSignature seqno fault })
+
+module _ (layers : Layers) where
+  -- An entry that founds a service stands first, and the one behind it is a signature of its view.
+  abbrev pub is_in_order : Option Entry → Recording → ℕ → Bool
+  is_in_order None recording view = true
+  is_in_order (Some last) recording view =
+      not (is_founding recording)
+      && (not (founds layers last) || (is_signing recording && (view == last.view)))
+
+  -- The ledger's last entry founds the service, so that a signature opens it.
+  abbrev pub is_unopened : Option Entry → Bool
+  is_unopened None = false
+  is_unopened (Some last) = founds layers last
+
+  -- The commit of a signature that doesn't open a service: the seqno of an earlier signature, not
+  -- below the commit of the last one, nor below the removal of a node that was marked since.
+  abbrev pub is_later_commit : List Entry → ℕ → Bool
+  is_later_commit ledger commit =
+      signs_at (entry_at ledger commit) && nat_le (last_commit ledger) commit
+      && list_all (λ (y : NodeId).
+      is_above_removal (mark layers ledger y) (removal layers ledger y) (last_signed ledger) commit)
+      (recorded_nodes layers ledger)
+
+  -- The commit that a signature behind a ledger may record: its own seqno, where it opens the
+  -- service.
+  abbrev pub may_record : List Entry → ℕ → Bool
+  may_record ledger commit =
+      if is_unopened (last_entry ledger)
+      then commit == length ledger + 1
+      else is_later_commit ledger commit
+
+  -- Why the signature of an entry isn't valid behind a ledger, under the identity in force.
+  abbrev pub fault_of_signature : List Entry → Entry → signatures.Signature → Option HssFault
+  fault_of_signature ledger e s =
+      layers.signature_fault (identity_in (tables_of ledger)) s.node
+      (signed_message s.root e.view e.seqno s.commit) s.signature
+
+  abbrev pub broken_by_signature : signatures.Signature → List Entry → Entry → Option Broken
+  broken_by_signature s ledger e =
+      let seqno = length ledger + 1 in
+      let root = root_of (leaves_of ledger) in
+      required (member s.node (recorded_nodes layers ledger)) (breach 9 seqno e) (
+      required (same_bytes s.root root) (replay 9 seqno root s.root) (
+      required (may_record ledger s.commit) (breach 10 seqno e)
+      (broken_by_fault seqno (fault_of_signature ledger e s))
+      ))
+
+  abbrev pub broken_by_governance : GovernanceRequest → List Entry → Entry → Option Broken
+  broken_by_governance g ledger e =
+      let seqno = length ledger + 1 in
+      let recorded = requests_of layers ledger in
+      unless_refused (request_fault layers recorded g) (
+      with_writes 8 seqno (effect_writes recorded (record { seqno = seqno; request = g })) e None
+      )
+
+  abbrev pub broken_by_application : List Operation → List Entry → Entry → Option Broken
+  broken_by_application q ledger e =
+      broken_in_state (length ledger + 1) (service_state (tables_of ledger))
+      (run q (tables_of ledger)) e
+
+  -- All rules
+
+  -- Rules 5 to 12, by what the entry records. For now no evidence entry may follow.
+  abbrev pub broken_by : Recording → List Entry → Entry → Option Broken
+  broken_by (OfApplication q) ledger e = broken_by_application q ledger e
+  broken_by (OfGovernance g) ledger e = broken_by_governance g ledger e
+  broken_by (OfSignature s) ledger e = broken_by_signature s ledger e
+  broken_by (OfEvidence d) ledger e = Some (breach 12 (length ledger + 1) e)
+
+  abbrev pub broken_where : Option Recording → List Entry → Entry → Option Broken
+  broken_where None ledger e = Some (breach 1 (length ledger + 1) e)
+  broken_where (Some recording) ledger e =
+      let seqno = length ledger + 1 in
+      required (is_entry e) (breach 1 seqno e) (
+      required (e.seqno == seqno) (breach 2 seqno e) (
+      required (is_next_view (last_entry ledger) recording e.view) (breach 3 seqno e) (
+      required (is_in_order (last_entry ledger) recording e.view) (breach 4 seqno e)
+      (broken_by recording ledger e)
+      )))
+
+  -- The first rule that an entry breaks behind a ledger, if it breaks one.
+  unfoldable pub broken : List Entry → Entry → Option Broken
+  broken ledger e = broken_where (recording_of layers e.content) ledger e

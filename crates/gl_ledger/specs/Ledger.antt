@@ -1,0 +1,100 @@
+-- The entries that are made of requests behind a ledger, and why none is made.
+use Rattle.std.specs.Prelude.{ℕ, ◌+◌, List, [], ◌∷◌, Result, Ok, Err, length, nat_lt, if◌then◌else◌}
+use Rattle.sha2.specs.Sha256.{sha256}
+use Rattle.gl_merkle.specs.Tree.{root_of}
+use Rattle.gl_base.specs.TxId.{last_seqno}
+use Rattle.gl_tx.specs.Request.{request_bytes, reply_bytes}
+use Rattle.gl_tx.specs.Run.{run}
+use Rattle.gl_tx.specs.declared.runs.Ran.{Ran}
+use Rattle.gl_tx.specs.declared.request.Operation.{Operation}
+use Rattle.gl_tx.specs.declared.request.Answer.{Answer}
+use Rattle.gl_tx.specs.declared.abort.Abort.{Abort}
+use Rattle.gl_entry.specs.Entry.{no_digest, body_bytes, body_limit}
+use Rattle.gl_entry.specs.declared.entry.Content.TheVariants as content
+use Rattle.gl_entry.specs.declared.entry.Entry.{Entry}
+use Rattle.gl_ledger.specs.Genesis.{genesis_bytes, genesis_writes}
+use Rattle.gl_ledger.specs.Effect.{service_state}
+use Rattle.gl_ledger.specs.Tree.{tables_of, leaves_of}
+use Rattle.gl_ledger.specs.declared.genesis.Genesis as request
+use Rattle.gl_ledger.specs.declared.genesis.ServiceState.{ServiceState}
+use Rattle.gl_ledger.specs.declared.genesis.ServiceState.TheVariants.{Opening, Open}
+use Rattle.gl_ledger.specs.declared.refusal.Refusal.{Refusal}
+use Rattle.gl_ledger.specs.declared.refusal.Refusal.TheVariants as refusals
+
+-- The entry of a genesis, with seqno 1 in view 2.
+abbrev pub genesis_entry : request.Genesis → Entry
+genesis_entry g = record {
+  view = 2;
+  seqno = 1;
+  content = content.Governance (genesis_bytes g);
+  writes = genesis_writes g;
+  claims = no_digest;
+}
+
+-- The entry of a node's signature behind a ledger. Until keys sign, its signature is empty.
+abbrev pub signature_entry : List ℕ → List Entry → ℕ → ℕ → Entry
+signature_entry node ledger view commit = record {
+  view = view;
+  seqno = length ledger + 1;
+  content = content.Signature (record {
+    node = node;
+    commit = commit;
+    root = root_of (leaves_of ledger);
+    signature = [];
+  });
+  writes = [];
+  claims = no_digest;
+}
+
+-- The opening ledger: the genesis, and the first signature, which records its own seqno.
+abbrev pub opening_ledger : request.Genesis → List ℕ → List Entry
+opening_ledger g node = genesis_entry g ∷ signature_entry node (genesis_entry g ∷ []) 2 2 ∷ []
+
+-- The entry of a request that ran behind a ledger.
+abbrev pub application_entry : List Entry → ℕ → List Operation → Ran → Entry
+application_entry ledger view operations ran = record {
+  view = view;
+  seqno = length ledger + 1;
+  content = content.Application (request_bytes operations);
+  writes = ran.writes;
+  claims = sha256 (reply_bytes ran.reply);
+}
+
+-- What was made, unless no seqno is left that an identifier can name.
+abbrev pub within_seqnos : {X : Type 0} → List Entry → X → Result X Refusal
+within_seqnos ledger made =
+    if nat_lt (length ledger) last_seqno then Ok made else Err refusals.SeqnoLimit
+
+-- What was made, unless a size is above the limit of bodies and replies.
+abbrev pub within_size : {X : Type 0} → ℕ → Result X Refusal → Result X Refusal
+within_size size made = if nat_lt body_limit size then Err (refusals.TooLarge size) else made
+
+-- An entry and its reply, unless the body is too large, or else the reply, or no seqno is left.
+abbrev pub within_limits : List Entry → Entry → List Answer → Result (Entry × List Answer) Refusal
+within_limits ledger e answers =
+    within_size (length (body_bytes e))
+    (within_size (length (reply_bytes answers)) (within_seqnos ledger (e, answers)))
+
+-- What a request that ran makes behind a ledger: its entry and its reply, or its abort.
+abbrev pub run_result : List Entry → ℕ → List Operation → Result Ran Abort →
+    Result (Entry × List Answer) Refusal
+run_result ledger view operations (Err abort) = Err (refusals.Aborted abort)
+run_result ledger view operations (Ok ran) =
+    within_limits ledger (application_entry ledger view operations ran) ran.reply
+
+-- The same, in a service that is in this state: unless it is open, the request is refused.
+abbrev pub execute_in : ServiceState → List Entry → ℕ → List Operation →
+    Result (Entry × List Answer) Refusal
+execute_in Opening ledger view operations = Err (refusals.ServiceState Opening)
+execute_in Open ledger view operations =
+    run_result ledger view operations (run operations (tables_of ledger))
+
+-- What an application request makes behind a ledger: an entry and a reply, or its refusal.
+abbrev pub execute_result : List Entry → ℕ → List Operation → Result (Entry × List Answer) Refusal
+execute_result ledger view operations =
+    execute_in (service_state (tables_of ledger)) ledger view operations
+
+-- What a node's signature makes behind a ledger.
+abbrev pub sign_result : List ℕ → List Entry → ℕ → ℕ → Result Entry Refusal
+sign_result node ledger view commit =
+    within_seqnos ledger (signature_entry node ledger view commit)

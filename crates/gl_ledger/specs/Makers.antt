@@ -1,0 +1,145 @@
+-- The entries that a ledger takes of requests, of governance and of signatures, and where an entry
+-- may be made.
+use Rattle.std.specs.Prelude.{◌≡◌, ◌≤◌, ◌^◌, ℕ, ◌+◌, List, [], ◌∷◌, Option, None, Some, Result, Ok, Err, true, false, length, if◌then◌else◌}
+use Rattle.gl_base.specs.Bytes.{are_bytes}
+use Rattle.gl_merkle.specs.Tree.{root_of}
+use Rattle.gl_rules.specs.Identity.{NodeId}
+use Rattle.gl_rules.specs.World.{first_view}
+use Rattle.gl_tx.specs.Request.{is_request}
+use Rattle.gl_tx.specs.declared.request.Operation.{Operation}
+use Rattle.gl_tx.specs.declared.request.Answer.{Answer}
+use Rattle.gl_entry.specs.Entry.{no_digest, body_bytes}
+use Rattle.gl_entry.specs.SignedMessage.{signed_message}
+use Rattle.gl_entry.specs.declared.entry.Content.TheVariants as content
+use Rattle.gl_entry.specs.declared.entry.Entry.{Entry}
+use Rattle.gl_entry.specs.declared.entry.Signature as signatures
+use Rattle.gl_ledger.specs.Genesis.{governance_bytes, is_governance_request}
+use Rattle.gl_ledger.specs.Tree.{leaves_of}
+use Rattle.gl_ledger.specs.Ledger.{genesis_entry, execute_result, within_size, within_seqnos}
+use Rattle.gl_ledger.specs.declared.genesis.Genesis as request
+use Rattle.gl_ledger.specs.declared.genesis.GovernanceRequest.{GovernanceRequest}
+use Rattle.gl_ledger.specs.declared.breach.GenesisFault.{GenesisFault}
+use Rattle.gl_ledger.specs.declared.refusal.Refusal.{Refusal}
+use Rattle.gl_ledger.specs.Layers.{Layers}
+use Rattle.gl_ledger.specs.Recordings.{last_entry, requests_of}
+use Rattle.gl_ledger.specs.Acceptance.{request_fault}
+use Rattle.gl_ledger.specs.Broken.{Broken, is_unopened, effect_writes, fault_of_signature, broken}
+
+-- What a request is answered.
+pub data Given : Type 0 where
+  Replied : (answers : List Answer) → Given
+  Governed : Given
+
+-- Why the ledger takes no entry.
+pub data Unmade : Type 0 where
+  ByStore : (why : Refusal) → Unmade
+  -- no bytes spell such a request, so none ever comes
+  Unspelled : Unmade
+  -- for now no evidence entry is made
+  NotByNow : Unmade
+  -- a request of governance that isn't accepted
+  NotAccepted : (fault : GenesisFault) → Unmade
+  -- the entry would break a rule of the audit
+  ByRule : (broken : Broken) → Unmade
+
+abbrev pub with_reply : Result (Entry × List Answer) Refusal → Result (Entry × Given) Unmade
+with_reply (Ok made) = Ok (made.0, Replied made.1)
+with_reply (Err why) = Err (ByStore why)
+
+-- What an application request makes, where bytes spell it.
+abbrev pub request_result : List Entry → ℕ → List Operation → Result (Entry × Given) Unmade
+request_result ledger view q =
+    if is_request q then with_reply (execute_result ledger view q) else Err Unspelled
+
+abbrev pub by_store : {X : Type 0} → Result X Refusal → Result X Unmade
+by_store (Ok made) = Ok made
+by_store (Err why) = Err (ByStore why)
+
+abbrev pub unless_fault : Option GenesisFault → Result (Entry × Given) Unmade →
+    Result (Entry × Given) Unmade
+unless_fault None made = made
+unless_fault (Some fault) made = Err (NotAccepted fault)
+
+abbrev pub unless_broken : {X : Type 0} → Option Broken → X → Result X Unmade
+unless_broken None made = Ok made
+unless_broken (Some why) made = Err (ByRule why)
+
+module _ (layers : Layers) where
+  -- What was made, unless its entry breaks a rule.
+  abbrev pub guarded : {X : Type 0} → (X → Entry) → List Entry → Result X Unmade → Result X Unmade
+  guarded entry_of ledger (Ok made) = unless_broken (broken layers ledger (entry_of made)) made
+  guarded entry_of ledger (Err why) = Err why
+
+  -- The entry of a request of governance behind a ledger, with the write set of its effect.
+  abbrev pub governance_entry : GovernanceRequest → List Entry → ℕ → Entry
+  governance_entry g ledger view = record {
+    view = view;
+    seqno = length ledger + 1;
+    content = content.Governance (governance_bytes g);
+    writes = effect_writes (requests_of layers ledger)
+        (record { seqno = length ledger + 1; request = g });
+    claims = no_digest;
+  }
+
+  -- What a request of governance makes, where bytes spell it: first it may be refused for what it
+  -- asks, then for its size, then for want of a seqno.
+  abbrev pub govern_result : List Entry → ℕ → GovernanceRequest → Result (Entry × Given) Unmade
+  govern_result ledger view g =
+      if is_governance_request g
+      then (
+      let e = governance_entry g ledger view in
+      unless_fault (request_fault layers (requests_of layers ledger) g)
+      (by_store (within_size (length (body_bytes e)) (within_seqnos ledger (e, Governed))))
+      )
+      else Err Unspelled
+
+  -- The signature of a node behind a ledger, with one of its leaves, which records this commit.
+  abbrev pub signature_behind : NodeId → ℕ → List Entry → ℕ → ℕ → List ℕ
+  signature_behind x leaf ledger view commit =
+      layers.signature_by x leaf
+      (signed_message (root_of (leaves_of ledger)) view (length ledger + 1) commit)
+
+  -- What its entry records.
+  abbrev pub signature_made : NodeId → ℕ → List Entry → ℕ → ℕ → signatures.Signature
+  signature_made x leaf ledger view commit = record {
+    node = x;
+    commit = commit;
+    root = root_of (leaves_of ledger);
+    signature = signature_behind x leaf ledger view commit;
+  }
+
+  -- Its entry.
+  abbrev pub signed_entry : NodeId → ℕ → List Entry → ℕ → ℕ → Entry
+  signed_entry x leaf ledger view commit = record {
+    view = view;
+    seqno = length ledger + 1;
+    content = content.Signature (signature_made x leaf ledger view commit);
+    writes = [];
+    claims = no_digest;
+  }
+
+  -- It is valid there, and an entry has room for it.
+  pub record MakesValid (x : NodeId) (leaf : ℕ) (ledger : List Entry) (view commit : ℕ) :
+      Type 0 where
+    pub bytes : are_bytes (signature_behind x leaf ledger view commit) ≡ true
+    pub short : length (signature_behind x leaf ledger view commit) ≤ 2 ^ 16
+    pub valid : fault_of_signature layers ledger (signed_entry x leaf ledger view commit)
+        (signature_made x leaf ledger view commit)
+        ≡ None
+
+  abbrev pub signing_result : NodeId → ℕ → List Entry → ℕ → ℕ → Result Entry Unmade
+  signing_result x leaf ledger view commit =
+      by_store (within_seqnos ledger (signed_entry x leaf ledger view commit))
+
+  -- The opening ledger: the genesis, and a node's signature with its first leaf, which records its
+  -- own seqno.
+  abbrev pub opening_of : request.Genesis → NodeId → List Entry
+  opening_of g x = genesis_entry g ∷ signed_entry x 0 (genesis_entry g ∷ []) first_view 2 ∷ []
+
+  -- An entry may be made in a view behind a ledger: the ledger has an entry, the last one doesn't
+  -- found the service, and its view is not above this one.
+  pub record MayMake (ledger : List Entry) (view : ℕ) : Type 0 where
+    pub last : Entry
+    pub is_last : last_entry ledger ≡ Some last
+    pub behind : is_unopened layers (Some last) ≡ false
+    pub up : last.view ≤ view

@@ -1,0 +1,61 @@
+-- Nodes that sign with HSS keys of two levels (RFC 8554, section 6): the service's key endorses that
+-- of each node, whose leaves sign.
+use Rattle.std.specs.Prelude.{◌≡◌, ℕ, List, Option, None, Some, Result, Ok, Err, Bool, true, false, length, if◌then◌else◌}
+use Rattle.sha2.specs.Sha256.{sha256}
+use Rattle.gl_base.specs.Bytes.{same_bytes}
+use Rattle.gl_hss.specs.declared.fault.HssFault.{HssFault}
+use Rattle.gl_hss.specs.declared.fault.HssFault.TheVariants as faults
+use Rattle.gl_hss.specs.Tree.{key_bytes}
+use Rattle.gl_hss.specs.Order.{verdict, last_key_verdict, endorsement_verdict}
+use Rattle.gl_hss.specs.Secrets.{PrivateKey, public_of}
+use Rattle.gl_hss.specs.Signer.{hss_signature, StandsUnder}
+use Rattle.gl_rules.specs.Identity.{NodeId}
+use Rattle.gl_ledger.specs.declared.genesis.GovernanceRequest.{GovernanceRequest}
+use Rattle.gl_ledger.specs.Layers.{Layers}
+
+-- The key of each node, and the service's signature of its public key.
+pub record NodeKeys : Type 0 where
+  pub key_of : NodeId → PrivateKey
+  pub endorsement_of : NodeId → List ℕ
+
+-- A node's signature of a message with one of its leaves.
+abbrev pub node_signature : NodeKeys → NodeId → ℕ → List ℕ → List ℕ
+node_signature keys x leaf message =
+    hss_signature (keys.key_of x) (Some (keys.endorsement_of x)) leaf message
+
+-- The key that signed is the node's: its digest is the node's identifier.
+abbrev pub signer_fault : NodeId → Result (List ℕ) HssFault → Option HssFault
+signer_fault x (Err fault) = Some fault
+signer_fault x (Ok key) =
+    if same_bytes (sha256 key) x then None else Some (faults.Root x (sha256 key))
+
+abbrev pub fault_or_else : Result (Unit {0}) HssFault → Option HssFault → Option HssFault
+fault_or_else (Err fault) rest = Some fault
+fault_or_else (Ok u) rest = rest
+
+-- Why bytes are no signature of a message by a node, in a service with this key: that they are no
+-- signature under it, or else that another key signed.
+abbrev pub node_signature_fault : List ℕ → NodeId → List ℕ → List ℕ → Option HssFault
+node_signature_fault identity x message signature =
+    fault_or_else (verdict identity message signature)
+    (signer_fault x (last_key_verdict identity signature))
+
+abbrev pub is_verified : Result (Unit {0}) HssFault → Bool
+is_verified (Ok u) = true
+is_verified (Err fault) = false
+
+-- The layers of a service whose nodes have these keys.
+abbrev pub layers_with : (List ℕ → Option GovernanceRequest) → NodeKeys → Layers
+layers_with request_in keys = record {
+  request_in = request_in;
+  is_endorsed = λ identity key endorsement.
+      is_verified (endorsement_verdict identity key endorsement);
+  signature_by = node_signature keys;
+  signature_fault = node_signature_fault;
+}
+
+-- The service's key endorses the node's, and the node's identifier is the digest of its public key.
+pub record IsNodeKey (keys : NodeKeys) (identity : List ℕ) (x : NodeId) : Type 0 where
+  pub identifier : length (keys.key_of x).identifier ≡ 16
+  pub stands : StandsUnder (keys.key_of x) (Some (keys.endorsement_of x)) identity
+  pub named : x ≡ sha256 (key_bytes (public_of (keys.key_of x)))

@@ -1,0 +1,43 @@
+//! Why no entry is made.
+
+ghost use Rattle.std.specs.Prelude.{◌≡◌};
+ghost use Rattle.gl_base.specs.declared.or_no_memory.OrNoMemory.TheVariants.{Fault};
+ghost use Rattle.gl_ledger.specs.declared.refusal.Refusal.TheVariants.{Aborted};
+
+use crate::genesis::ServiceState;
+use gl_base::OrNoMemory;
+use gl_tx::Abort;
+use thiserror::Error;
+
+/// Why no entry is made behind a ledger.
+#[derive(Clone, Copy, Debug, PartialEq, Eq, Error)]
+pub enum Refusal {
+    /// The service is in this state, and takes requests of applications only when it is open.
+    #[error("the service is not open")]
+    ServiceState(ServiceState),
+    /// An operation of the request failed.
+    #[error("the request is aborted: {0}")]
+    Aborted(Abort),
+    /// The entry's body, or else its reply, has so many bytes, which is more than 1 MiB.
+    #[error("{size} bytes are more than 1 MiB")]
+    TooLarge { size: u64 },
+    /// No seqno is left that an identifier can name.
+    #[error("no seqno is left")]
+    SeqnoLimit,
+}
+
+impl From<Abort> for Refusal {
+    ghost from_gives = { λ abort refusal. refusal ≡ Aborted abort };
+
+    fn from(abort: Abort) -> Refusal {
+        Refusal::Aborted(abort)
+    }
+}
+
+impl From<Refusal> for OrNoMemory<Refusal> {
+    ghost from_gives = { λ refusal e. e ≡ Fault refusal };
+
+    fn from(refusal: Refusal) -> OrNoMemory<Refusal> {
+        OrNoMemory::Fault(refusal)
+    }
+}

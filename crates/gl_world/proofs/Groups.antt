@@ -1,0 +1,92 @@
+-- A service of several nodes begins lawfully, and is safe.
+use Rattle.std.proofs.Common.{◌≡◌, ℕ, zero, suc, ◌+◌, ◌≤◌, List, [], ◌∷◌, length, map, Option, Some, None, Bool, true, false, ◌&&◌, if◌then◌else◌, nat_eq, nat_le, refl, ◌∙◌, ap, subst, arith}
+use Rattle.std.specs.List.{list_all}
+use Rattle.std.proofs.lemmas.Bool.{and_parts, and_from}
+use Rattle.gl_base.specs.Bytes.{same_bytes}
+use Rattle.gl_rules.specs.Identity.{NodeId, member}
+use Rattle.gl_rules.specs.Safety.{IsOpening, NeverConflicts, EachFollows}
+use Rattle.gl_safety.proofs.Refusals.{never_conflicts}
+use Rattle.gl_entry.specs.declared.entry.Entry.{Entry}
+use Rattle.gl_ledger.specs.Genesis.{node_id, genesis_bytes, governance_bytes, is_governance_request, are_distinct, are_distinct_bytes, numbers_of, are_members, are_nodes, is_dealing_among, is_acceptable}
+use Rattle.gl_ledger.specs.Ledger.{genesis_entry}
+use Rattle.gl_ledger.specs.declared.genesis.Genesis as request
+use Rattle.gl_ledger.specs.declared.genesis.NewNode.{NewNode}
+use Rattle.gl_ledger.specs.declared.genesis.NewMember.{NewMember}
+use Rattle.gl_ledger.specs.declared.genesis.GovernanceRequest.{GovernanceRequest}
+use Rattle.gl_ledger.specs.declared.genesis.GovernanceRequest.TheVariants as requests
+use Rattle.gl_ledger.specs.Layers.{Layers, ReadsSpellings}
+use Rattle.gl_ledger.specs.Acceptance.{are_endorsed, genesis_fault}
+use Rattle.gl_ledger.specs.Services.{ServiceEvent, Begins, Founds}
+use Rattle.gl_ledger.proofs.GenesisEntries.{genesis_is_entry}
+use Rattle.gl_ledger.proofs.SameWrites.{same_bytes_is, same_bytes_self}
+use Rattle.gl_ledger.proofs.Passing.{passes}
+use Rattle.gl_ledger.proofs.Lawful.{lawful}
+use Rattle.gl_ledger.proofs.Opening.{member_first}
+use Rattle.gl_ledger.proofs.Opened.{begins_opening, begins_safe, opening_opened}
+use Rattle.gl_world.specs.declared.settings.Settings.{Settings}
+use Rattle.gl_world.specs.Founding.{numbers_from, node_of, id_of, genesis_of}
+use Rattle.gl_world.specs.Group.{IsGroup, layers_of, book_of, group_start, IsSafeGroup}
+use Rattle.gl_world.proofs.Acceptable.{group_acceptable, group_fits, group_endorsements}
+
+pub reads_spellings : (s : Settings) → IsGroup s → ReadsSpellings (layers_of s)
+reads_spellings s h = record { spelled = λ bytes g all reads. go bytes g (same_bytes bytes (genesis_bytes (genesis_of s))) refl reads }
+  where
+    go : (bytes : List ℕ) (g : GovernanceRequest) (b : Bool) → same_bytes bytes (genesis_bytes (genesis_of s)) ≡ b → (if b then Some (requests.Genesis (genesis_of s)) else None) ≡ Some g →
+        (is_governance_request g ≡ true) × (bytes ≡ governance_bytes g)
+    go bytes g false is reads = absurd (cc)
+    go bytes g true is reads =
+        let same : requests.Genesis (genesis_of s) ≡ g = cc in
+        subst (λ (r : GovernanceRequest). (is_governance_request r ≡ true) × (bytes ≡ governance_bytes r)) same (group_fits s h, same_bytes_is bytes (genesis_bytes (genesis_of s)) is)
+
+ids : (s : Settings) (first count : ℕ) → map node_id (map (node_of s) (numbers_from first count)) ≡ map (id_of s) (numbers_from first count)
+ids s first zero = refl
+ids s first (suc count) = ap (λ (xs : List NodeId). id_of s first ∷ xs) (ids s (suc first) count)
+
+first_in : (s : Settings) (count : ℕ) → 1 ≤ count → member (id_of s 1) (map (id_of s) (numbers_from 1 count)) ≡ true
+first_in s zero h = absurd (omega arith)
+first_in s (suc count) h = member_first (id_of s 1) (map (id_of s) (numbers_from 2 count))
+
+all_endorsed : (s : Settings) (ns : List NewNode) → are_endorsed (layers_of s) (genesis_of s).identity ns ≡ true
+all_endorsed s [] = refl
+all_endorsed s (n ∷ ns) = all_endorsed s ns
+
+-- an acceptable genesis whose nodes are endorsed is without a fault
+accepted : (layers : Layers) (g : request.Genesis) → is_acceptable g ≡ true → are_endorsed layers g.identity g.nodes ≡ true → genesis_fault layers g ≡ None
+accepted layers g h endorsed =
+    let keys : Bool = are_distinct_bytes (map (λ (m : NewMember). m.key) g.members) in
+    let few : Bool = nat_le (length g.members) 64 in
+    let some : Bool = list_all (λ number. nat_le 1 number) (numbers_of g.members) in
+    let numbers : Bool = are_distinct nat_eq (numbers_of g.members) in
+    let a = and_parts (are_members g.members && is_dealing_among (numbers_of g.members) g.dealing) (are_nodes g.nodes) h in
+    let b = and_parts (are_members g.members) (is_dealing_among (numbers_of g.members) g.dealing) a.0 in
+    let c = and_parts (few && some && numbers) keys b.0 in
+    let d = and_parts (few && some) numbers c.0 in
+    let e = and_parts few some d.0 in
+    let k = and_parts (nat_le 1 (length g.nodes) && nat_le (length g.nodes) 32) (are_distinct_bytes (map node_id g.nodes)) a.1 in
+    let l = and_parts (nat_le 1 (length g.nodes)) (nat_le (length g.nodes) 32) k.0 in
+    passes numbers _ _ d.1 (passes keys _ _ c.1 (passes few _ _ e.0 (passes (is_dealing_among (numbers_of g.members) g.dealing) _ _ b.1
+    (passes (are_distinct_bytes (map node_id g.nodes)) _ _ k.1 (passes (nat_le (length g.nodes) 32) _ _ l.1 (passes (nat_le 1 (length g.nodes)) _ _ l.0 (passes (are_endorsed layers g.identity g.nodes) _ None endorsed refl)))))))
+
+pub group_founds : (s : Settings) → IsGroup s → Founds (layers_of s) (genesis_of s) (id_of s 1)
+group_founds s h = record {
+  reads = ap (λ (b : Bool). if b then Some (requests.Genesis (genesis_of s)) else None) (same_bytes_self (genesis_bytes (genesis_of s)));
+  accepted = accepted (layers_of s) (genesis_of s) (group_acceptable s h) (all_endorsed s (genesis_of s).nodes);
+  fits = genesis_is_entry (genesis_of s) (group_fits s h) (group_acceptable s h) (group_endorsements s);
+  named = ap (member (id_of s 1)) (ids s 1 s.starting) ∙ first_in s s.starting h.first;
+  valid = record { bytes = refl; short = omega arith; valid = refl };
+}
+
+pub group_begins : (s : Settings) → IsGroup s → Begins (layers_of s) (group_start s)
+group_begins s h = record {
+  checked = opening_opened (layers_of s) (genesis_of s) (id_of s 1) (group_founds s h);
+  starts = first_in s s.starting h.first;
+}
+
+pub group_opens : (s : Settings) → IsGroup s → IsOpening (book_of s) (EachFollows (book_of s)) (group_start s)
+group_opens s h = begins_opening (layers_of s) (group_start s) (group_begins s h)
+
+pub group_safe : (s : Settings) → IsGroup s → (events : List ServiceEvent) → IsSafeGroup s events
+group_safe s h events = begins_safe (layers_of s) (reads_spellings s h) (group_start s) (group_begins s h) events
+
+pub group_never_conflicts : (s : Settings) → IsGroup s → (events : List ServiceEvent) → NeverConflicts (book_of s) (group_start s) events
+group_never_conflicts s h events = never_conflicts (group_opens s h) (lawful (layers_of s)) events

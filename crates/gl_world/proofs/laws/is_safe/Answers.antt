@@ -1,0 +1,20 @@
+use Rattle.std.proofs.Common.{refl, arith}
+use Rattle.gl_world.proofs.Groups.{group_begins, group_opens, group_safe, group_never_conflicts}
+use Rattle.gl_world.proofs.laws.is_safe.Goals as goal
+
+pub returns : goal.returns
+returns c = record {
+  headline = λ s h events. group_safe s h events;
+  opening = λ s h. group_opens s h;
+  begins = λ s h. group_begins s h;
+  no_conflict = λ s h events. group_never_conflicts s h events;
+  smallest = λ state seed. record {
+    first = omega arith;
+    starting = omega arith;
+    joiners = omega arith;
+    some = omega arith;
+    few = omega arith;
+    distinct = refl;
+    apart = refl;
+  };
+}

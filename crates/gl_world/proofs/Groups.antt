@@ -1,14 +1,12 @@
 -- A service of several nodes begins lawfully, and is safe.
-use Rattle.std.proofs.Common.{◌≡◌, ℕ, zero, suc, ◌+◌, ◌≤◌, List, [], ◌∷◌, length, map, Option, Some, None, Bool, true, false, ◌&&◌, if◌then◌else◌, nat_eq, nat_le, refl, ◌∙◌, ap, subst, arith}
+use Rattle.std.proofs.Common.{◌≡◌, ℕ, zero, suc, ◌≤◌, List, [], ◌∷◌, length, map, Some, None, Bool, true, false, ◌&&◌, if◌then◌else◌, nat_eq, nat_le, refl, ◌∙◌, ap, subst, arith}
 use Rattle.std.specs.List.{list_all}
-use Rattle.std.proofs.lemmas.Bool.{and_parts, and_from}
+use Rattle.std.proofs.lemmas.Bool.{and_parts}
 use Rattle.gl_base.specs.Bytes.{same_bytes}
 use Rattle.gl_rules.specs.Identity.{NodeId, member}
 use Rattle.gl_rules.specs.Safety.{IsOpening, NeverConflicts, EachFollows}
 use Rattle.gl_safety.proofs.Refusals.{never_conflicts}
-use Rattle.gl_entry.specs.declared.entry.Entry.{Entry}
 use Rattle.gl_ledger.specs.Genesis.{node_id, genesis_bytes, governance_bytes, is_governance_request, are_distinct, are_distinct_bytes, numbers_of, are_members, are_nodes, is_dealing_among, is_acceptable}
-use Rattle.gl_ledger.specs.Ledger.{genesis_entry}
 use Rattle.gl_ledger.specs.declared.genesis.Genesis as request
 use Rattle.gl_ledger.specs.declared.genesis.NewNode.{NewNode}
 use Rattle.gl_ledger.specs.declared.genesis.NewMember.{NewMember}

@@ -1,5 +1,5 @@
 use Rattle.std.proofs.Common.{refl, arith}
-use Rattle.gl_ledger.proofs.Opened.{begins_opening, opened_configured}
+use Rattle.gl_ledger.proofs.Opened.{opened_configured}
 use Rattle.gl_ledger.proofs.Leading.{leader_executes, leader_governs, leader_signs}
 use Rattle.gl_world.specs.Group.{layers_of, group_start}
 use Rattle.gl_world.proofs.Groups.{group_begins, group_opens}

@@ -4,16 +4,15 @@ use Rattle.std.specs.Cmp.Lexicographic.{bytes_decides}
 use Rattle.sha2.specs.Sha256.{sha256}
 use Rattle.gl_hss.specs.declared.fault.HssFault.{HssFault}
 use Rattle.gl_hss.specs.declared.fault.HssFault.TheVariants as faults
-use Rattle.gl_hss.specs.Bytes.{u32str}
-use Rattle.gl_hss.specs.Types.{height}
-use Rattle.gl_hss.specs.Tree.{PublicKey, Signature, key_bytes, signature_bytes}
+use Rattle.gl_lms.specs.Bytes.{u32str}
+use Rattle.gl_lms.specs.Types.{height}
+use Rattle.gl_lms.specs.Tree.{PublicKey, Signature, key_bytes, signature_bytes}
 use Rattle.gl_hss.specs.Hss.{IsValid, hss_bytes}
 use Rattle.gl_hss.specs.Order.{verdict, last_key_verdict}
-use Rattle.gl_hss.specs.Secrets.{PrivateKey, public_of}
-use Rattle.gl_hss.specs.Profile.{signature_by}
+use Rattle.gl_lms.specs.Secrets.{PrivateKey, public_of}
+use Rattle.gl_lms.specs.Profile.{signature_by}
 use Rattle.gl_hss.specs.Signer.{hss_signature, StandsUnder, levels_above}
-use Rattle.gl_hss.proofs.Signers.{public_of-IsKey}
-use Rattle.gl_hss.proofs.Signing.{signature_by-IsSigned}
+use Rattle.gl_lms.proofs.Signing.{signature_by-IsSigned}
 use Rattle.gl_hss.proofs.Verdicts.{valid_verdict}
 use Rattle.gl_hss.proofs.Bounds.{last_key_valid}
 use Rattle.gl_rules.specs.Identity.{NodeId}
@@ -45,7 +44,7 @@ node_signs keys identity x leaf message h low =
       last = signature_by k leaf message;
       of_key = h.stands.of_key;
       spelled = two_levels k (keys.endorsement_of x) leaf message top signs.fields signs.spelled;
-      signs = (signs.signed, public_of-IsKey k h.identifier, signature_by-IsSigned k leaf message low);
+      signs = (signs.signed, h.form, signature_by-IsSigned k leaf message low);
     } in
     ap (λ (r : Result (Unit {0}) HssFault). fault_or_else r (signer_fault x (last_key_verdict identity s))) (valid_verdict identity message s v)
     ∙ ap (signer_fault x) (last_key_valid identity message s v)

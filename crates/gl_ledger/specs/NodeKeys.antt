@@ -1,13 +1,13 @@
 -- Nodes that sign with HSS keys of two levels (RFC 8554, section 6): the service's key endorses that
 -- of each node, whose leaves sign.
-use Rattle.std.specs.Prelude.{◌≡◌, ℕ, List, Option, None, Some, Result, Ok, Err, Bool, true, false, length, if◌then◌else◌}
+use Rattle.std.specs.Prelude.{◌≡◌, ℕ, List, Option, None, Some, Result, Ok, Err, Bool, true, false, if◌then◌else◌}
 use Rattle.sha2.specs.Sha256.{sha256}
 use Rattle.gl_base.specs.Bytes.{same_bytes}
 use Rattle.gl_hss.specs.declared.fault.HssFault.{HssFault}
 use Rattle.gl_hss.specs.declared.fault.HssFault.TheVariants as faults
-use Rattle.gl_hss.specs.Tree.{key_bytes}
+use Rattle.gl_lms.specs.Tree.{key_bytes, IsKey}
 use Rattle.gl_hss.specs.Order.{verdict, last_key_verdict, endorsement_verdict}
-use Rattle.gl_hss.specs.Secrets.{PrivateKey, public_of}
+use Rattle.gl_lms.specs.Secrets.{PrivateKey, public_of}
 use Rattle.gl_hss.specs.Signer.{hss_signature, StandsUnder}
 use Rattle.gl_rules.specs.Identity.{NodeId}
 use Rattle.gl_ledger.specs.declared.genesis.GovernanceRequest.{GovernanceRequest}
@@ -56,6 +56,6 @@ layers_with request_in keys = record {
 
 -- The service's key endorses the node's, and the node's identifier is the digest of its public key.
 pub record IsNodeKey (keys : NodeKeys) (identity : List ℕ) (x : NodeId) : Type 0 where
-  pub identifier : length (keys.key_of x).identifier ≡ 16
+  pub form : IsKey (public_of (keys.key_of x))
   pub stands : StandsUnder (keys.key_of x) (Some (keys.endorsement_of x)) identity
   pub named : x ≡ sha256 (key_bytes (public_of (keys.key_of x)))

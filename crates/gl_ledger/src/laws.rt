@@ -1,7 +1,7 @@
 //! What holds of the ledger as a book: laws, and no code.
 
 ghost use Rattle.std.specs.Prelude.{◌≡◌, ◌<◌, ◌≤◌, ◌↔◌, ◌+◌, ◌^◌, ℕ, suc, List, [], ◌∷◌, ◌++◌, None, Some, Ok, length, map, slice_get, true};
-ghost use Rattle.gl_hss.specs.Types.{height};
+ghost use Rattle.gl_lms.specs.Types.{height};
 ghost use Rattle.gl_vmaps.specs.Tables.{value_in};
 ghost use Rattle.gl_tx.specs.declared.request.Operation.{Operation};
 ghost use Rattle.gl_entry.specs.declared.entry.Entry.{Entry};

@@ -16,7 +16,7 @@ use Rattle.gl_entry.specs.declared.entry.Entry.{Entry}
 use Rattle.gl_ledger.specs.Effect.{Recorded}
 use Rattle.gl_ledger.specs.declared.refusal.Refusal.TheVariants as refusals
 use Rattle.gl_ledger.specs.Layers.{Layers}
-use Rattle.gl_ledger.specs.Recordings.{last_entry, recording_of, is_founding_or_none, founds, recorded_in, requests_from, requests_of, nodes_named, nodes_of, same_nodes, recorded_nodes, trusted_nodes, configuration}
+use Rattle.gl_ledger.specs.Recordings.{last_entry, recording_of, records_founding, founds, recorded_in, requests_from, requests_of, nodes_named, nodes_of, same_nodes, recorded_nodes, trusted_nodes, configuration}
 use Rattle.gl_ledger.specs.declared.breach.GenesisFault.{GenesisFault}
 use Rattle.gl_ledger.specs.declared.breach.GenesisFault.TheVariants as faults
 use Rattle.gl_ledger.specs.Genesis.{is_governance_request}
@@ -107,7 +107,7 @@ module _ (layers : Layers) where
       founds layers f ≡ false
   not_founding es f g seqno z last at signs = go (founds layers f) refl
     where
-      no_signature : (c : Content) → is_signature c ≡ true → is_founding_or_none (recording_of layers c) ≡ true → ⊥
+      no_signature : (c : Content) → is_signature c ≡ true → records_founding (recording_of layers c) ≡ true → ⊥
       no_signature (content.Signature s) a d = absurd (cc)
       no_signature (content.Governance bytes) a d = absurd (cc)
       no_signature (content.Application bytes) a d = absurd (cc)
@@ -155,7 +155,7 @@ module _ (layers : Layers) where
       go some within true is =
           let place : length ledger < last_seqno = grind (arith, nat_tests) in
           unless_none layers (broken layers ledger (signed_entry layers x leaf ledger view commit)) (signed_entry layers x leaf ledger view commit)
-          (signed_unbroken layers ledger view may x leaf commit
+          (signed_unbroken layers ledger view may x leaf commit place
           (signed_is_entry layers x leaf ledger view commit (recorded_digest layers x ledger named) some low (omega arith) (omega arith) valid) valid named records)
 
   -- ---- a leader of a service

@@ -6,6 +6,7 @@ use Rattle.std.proofs.lemmas.Bool.{and_from}
 use Rattle.std.proofs.lemmas.Bool.Decides.{nat_tests}
 use Rattle.sha2.specs.Sha256.{sha256}
 use Rattle.gl_base.specs.Bytes.{same_bytes}
+use Rattle.gl_base.specs.TxId.{last_seqno}
 use Rattle.gl_merkle.specs.Tree.{root_of}
 use Rattle.gl_rules.specs.Identity.{NodeId, member}
 use Rattle.gl_rules.specs.Log.{entry_at, seqno_with_first, last_signature, greatest_recorded}
@@ -43,6 +44,9 @@ use Rattle.gl_ledger.proofs.Passing.{passes, passing_all}
 itself : (n : ℕ) → (n == n) ≡ true
 itself n = grind (arith, nat_tests)
 
+within : (n : ℕ) → n < last_seqno → nat_le (n + 1) last_seqno ≡ true
+within n h = grind (arith, nat_tests)
+
 module _ (layers : Layers) (ledger : List Entry) (view : ℕ) (m : MayMake layers ledger view) where
   in_view : (t : Recording) → is_next_view (last_entry ledger) t view ≡ true
   in_view t = ap (λ (o : Option Entry). is_next_view o t view) m.is_last ∙ (let h = m.up in grind (arith, nat_tests))
@@ -66,6 +70,7 @@ module _ (layers : Layers) (ledger : List Entry) (view : ℕ) (m : MayMake layer
         reads = ap application_recording reads;
         fits = subst (λ (x : Entry). is_entry x ≡ true) made.3 one;
         seqno = itself (length ledger + 1);
+        named = within (length ledger) made.7;
         view = in_view (OfApplication q);
         order = in_order (OfApplication q) refl;
         rest = ap (λ (s : ServiceState). broken_in_state seqno s (run q (tables_of ledger)) entry) made.0 ∙ ap (λ (r : Result Ran Abort). broken_of_run seqno r entry) made.2
@@ -76,8 +81,8 @@ module _ (layers : Layers) (ledger : List Entry) (view : ℕ) (m : MayMake layer
 
   -- an accepted request of governance that doesn't found makes an entry that breaks no rule
   pub governed_unbroken : (g : GovernanceRequest) → layers.request_in (governance_bytes g) ≡ Some g → request_fault layers (requests_of layers ledger) g ≡ None → is_founding (OfGovernance g) ≡ false →
-      is_entry (governance_entry layers g ledger view) ≡ true → broken layers ledger (governance_entry layers g ledger view) ≡ None
-  governed_unbroken g reads accepted other fits =
+      length ledger < last_seqno → is_entry (governance_entry layers g ledger view) ≡ true → broken layers ledger (governance_entry layers g ledger view) ≡ None
+  governed_unbroken g reads accepted other left fits =
       let seqno = length ledger + 1 in
       let writes = effect_writes (requests_of layers ledger) (record { seqno = seqno; request = g }) in
       passing_all layers ledger (governance_entry layers g ledger view) (record {
@@ -85,6 +90,7 @@ module _ (layers : Layers) (ledger : List Entry) (view : ℕ) (m : MayMake layer
         reads = ap governance_recording reads;
         fits = fits;
         seqno = itself seqno;
+        named = within (length ledger) left;
         view = in_view (OfGovernance g);
         order = in_order (OfGovernance g) other;
         rest = ap (λ (o : Option GenesisFault). unless_refused o (with_writes 8 seqno writes (governance_entry layers g ledger view) None)) accepted
@@ -92,18 +98,19 @@ module _ (layers : Layers) (ledger : List Entry) (view : ℕ) (m : MayMake layer
       })
 
   -- what the trial of a signature comes to
-  pub signed_broken : (x : NodeId) (leaf commit : ℕ) → is_entry (signed_entry layers x leaf ledger view commit) ≡ true →
+  pub signed_broken : (x : NodeId) (leaf commit : ℕ) → length ledger < last_seqno → is_entry (signed_entry layers x leaf ledger view commit) ≡ true →
       MakesValid layers x leaf ledger view commit →
       broken layers ledger (signed_entry layers x leaf ledger view commit)
       ≡ required (member x (recorded_nodes layers ledger)) (breach 9 (length ledger + 1) (signed_entry layers x leaf ledger view commit))
       (required (may_record layers ledger commit) (breach 10 (length ledger + 1) (signed_entry layers x leaf ledger view commit)) None)
   unfolding broken
-  signed_broken x leaf commit fits valid =
+  signed_broken x leaf commit left fits valid =
       let e = signed_entry layers x leaf ledger view commit in
       let seqno = length ledger + 1 in
       let s = signature_made layers x leaf ledger view commit in
       true_first (is_entry e) _ _ fits
       ∙ true_first (seqno == seqno) _ _ (itself seqno)
+      ∙ true_first (nat_le seqno last_seqno) _ _ (within (length ledger) left)
       ∙ true_first (is_next_view (last_entry ledger) (OfSignature s) view) _ _ (in_view (OfSignature s))
       ∙ true_first (is_in_order layers (last_entry ledger) (OfSignature s) view) _ _ (in_order (OfSignature s) refl)
       ∙ ap (λ (rest : Option Broken). required (member x (recorded_nodes layers ledger)) (breach 9 seqno e) rest)
@@ -160,16 +167,16 @@ module _ (layers : Layers) where
       each (y ∷ ys) = and_from _ _ (above y (mark layers ledger y) (removal layers ledger y) refl refl) (each ys)
 
   -- so a recorded node's signature breaks no rule
-  pub signed_unbroken : (ledger : List Entry) (view : ℕ) → MayMake layers ledger view → (x : NodeId) (leaf commit : ℕ) → is_entry (signed_entry layers x leaf ledger view commit) ≡ true →
+  pub signed_unbroken : (ledger : List Entry) (view : ℕ) → MayMake layers ledger view → (x : NodeId) (leaf commit : ℕ) → length ledger < last_seqno → is_entry (signed_entry layers x leaf ledger view commit) ≡ true →
       MakesValid layers x leaf ledger view commit →
       member x (recorded_nodes layers ledger) ≡ true → MayRecord (ledger_book layers) ledger commit → broken layers ledger (signed_entry layers x leaf ledger view commit) ≡ None
-  signed_unbroken ledger view m x leaf commit fits valid named may =
+  signed_unbroken ledger view m x leaf commit left fits valid named may =
       let e = signed_entry layers x leaf ledger view commit in
       let seqno = length ledger + 1 in
       let records : may_record layers ledger commit ≡ true =
       ap (λ (o : Option Entry). if is_unopened layers o then commit == seqno else is_later_commit layers ledger commit) m.is_last
       ∙ ap (λ (b : Bool). if b then commit == seqno else is_later_commit layers ledger commit) m.behind ∙ may_go_on ledger commit may in
-      signed_broken layers ledger view m x leaf commit fits valid ∙ passes (member x (recorded_nodes layers ledger)) (breach 9 seqno e) _ named (passes (may_record layers ledger commit) (breach 10 seqno e) None records refl)
+      signed_broken layers ledger view m x leaf commit left fits valid ∙ passes (member x (recorded_nodes layers ledger)) (breach 9 seqno e) _ named (passes (may_record layers ledger commit) (breach 10 seqno e) None records refl)
 
   pub unless_none : {X : Type 0} (o : Option Broken) (x : X) → o ≡ None → unless_broken o x ≡ Ok x
   unless_none None x h = refl

@@ -29,7 +29,7 @@ use Rattle.gl_ledger.specs.declared.genesis.GovernanceRequest.{GovernanceRequest
 use Rattle.gl_ledger.specs.declared.genesis.GovernanceRequest.TheVariants as requests
 use Rattle.gl_ledger.specs.declared.breach.GenesisFault.{GenesisFault}
 use Rattle.gl_ledger.specs.Layers.{Layers, ReadsSpellings}
-use Rattle.gl_ledger.specs.Recordings.{Recording, OfGovernance, OfSignature, last_entry, recording_of, governance_recording, application_recording, is_founding, is_founding_or_none, is_signing, founds, requests_of, recorded_at, recorded_in, nodes_of, trusted_of, changed_set, recorded_nodes, trusted_nodes, configuration}
+use Rattle.gl_ledger.specs.Recordings.{Recording, OfGovernance, OfSignature, last_entry, recording_of, governance_recording, application_recording, is_founding, records_founding, is_signing, founds, requests_of, recorded_at, recorded_in, nodes_of, trusted_of, changed_set, recorded_nodes, trusted_nodes, configuration}
 use Rattle.gl_ledger.specs.Acceptance.{genesis_fault}
 use Rattle.gl_ledger.specs.Broken.{Broken, unless_refused, is_in_order, is_unopened, broken_by, is_later_commit, may_record}
 use Rattle.gl_ledger.specs.Sound.{IsSound}
@@ -51,7 +51,7 @@ module _ (layers : Layers) where
   pub alone : (es : List Entry) (f : Entry) → EachFollows (ledger_book layers) es → last_entry es ≡ Some f → founds layers f ≡ true → es ≡ f ∷ []
   alone es f z last founded =
       let p = passing layers (take (length es - 1) es) f (unbroken layers (take (length es - 1) es) f (z (length es - 1) f last)) in
-      let t : is_founding p.recording ≡ true = sym (ap is_founding_or_none p.reads) ∙ founded in
+      let t : is_founding p.recording ≡ true = sym (ap records_founding p.reads) ∙ founded in
       one es last (no_last (take (length es - 1) es) (none p.recording f.view (last_entry (take (length es - 1) es)) t p.order))
     where
       none : (t : Recording) (view : ℕ) (o : Option Entry) → is_founding t ≡ true → is_in_order layers o t view ≡ true → o ≡ None
@@ -100,10 +100,10 @@ module _ (layers : Layers) where
     content_is : f.content ≡ content.Governance bytes
     reads : layers.request_in bytes ≡ Some (requests.Genesis genesis)
 
-  founded_from : (f : Entry) (c : Content) → f.content ≡ c → is_founding_or_none (recording_of layers c) ≡ true → FoundedBy f
+  founded_from : (f : Entry) (c : Content) → f.content ≡ c → records_founding (recording_of layers c) ≡ true → FoundedBy f
   founded_from f (content.Application bytes) is h = absurd (go (request_of bytes) h)
     where
-      go : (r : Result (List Operation) CodeFault) → is_founding_or_none (application_recording r) ≡ true → ⊥
+      go : (r : Result (List Operation) CodeFault) → records_founding (application_recording r) ≡ true → ⊥
       go (Ok q) w = cc
       go (Err fault) w = cc
   founded_from f (content.Signature s) is h = absurd (cc)
@@ -113,7 +113,7 @@ module _ (layers : Layers) where
       by_request : (g : GovernanceRequest) → layers.request_in bytes ≡ Some g → FoundedBy f
       by_request (requests.Genesis g) reads = record { genesis = g; bytes = bytes; content_is = is; reads = reads }
 
-      go : (o : Option GovernanceRequest) → layers.request_in bytes ≡ o → is_founding_or_none (governance_recording o) ≡ true → FoundedBy f
+      go : (o : Option GovernanceRequest) → layers.request_in bytes ≡ o → records_founding (governance_recording o) ≡ true → FoundedBy f
       go None reads w = absurd (cc)
       go (Some g) reads w = by_request g reads
 

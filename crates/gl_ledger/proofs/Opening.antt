@@ -16,7 +16,7 @@ use Rattle.gl_ledger.specs.declared.genesis.GovernanceRequest.{GovernanceRequest
 use Rattle.gl_ledger.specs.declared.genesis.GovernanceRequest.TheVariants as requests
 use Rattle.gl_ledger.specs.declared.breach.GenesisFault.{GenesisFault}
 use Rattle.gl_ledger.specs.Layers.{Layers}
-use Rattle.gl_ledger.specs.Recordings.{OfGovernance, OfSignature, recording_of, governance_recording, is_founding_or_none, founds, requests_of, recorded_at, nodes_of, trusted_of, changed_set, recorded_nodes, trusted_nodes, configuration}
+use Rattle.gl_ledger.specs.Recordings.{OfGovernance, OfSignature, recording_of, governance_recording, records_founding, founds, requests_of, recorded_at, nodes_of, trusted_of, changed_set, recorded_nodes, trusted_nodes, configuration}
 use Rattle.gl_ledger.specs.Changes.{changes}
 use Rattle.gl_ledger.specs.Broken.{unless_refused, with_writes, is_later_commit, may_record, broken_by_fault, are_same_writes, broken}
 use Rattle.gl_ledger.specs.Makers.{signature_made, signed_entry, opening_of}
@@ -41,7 +41,7 @@ module _ (layers : Layers) (g : request.Genesis) (x : NodeId) (h : Founds layers
   genesis_read = ap governance_recording h.reads
 
   pub founded : founds layers (genesis_entry g) ≡ true
-  founded = ap is_founding_or_none genesis_read
+  founded = ap records_founding genesis_read
 
   pub genesis_breaks_nothing : broken layers [] (genesis_entry g) ≡ None
   genesis_breaks_nothing = passing_all layers [] (genesis_entry g) (record {
@@ -49,6 +49,7 @@ module _ (layers : Layers) (g : request.Genesis) (x : NodeId) (h : Founds layers
     reads = genesis_read;
     fits = h.fits;
     seqno = refl;
+    named = refl;
     view = refl;
     order = refl;
     rest = ap (λ (o : Option GenesisFault). unless_refused o (with_writes 8 1 (changes [] (genesis_writes g)) (genesis_entry g) None)) h.accepted
@@ -81,6 +82,7 @@ module _ (layers : Layers) (g : request.Genesis) (x : NodeId) (h : Founds layers
         reads = refl;
         fits = signed_is_entry layers x 0 (genesis_entry g ∷ []) first_view 2 (among x (map node_id g.nodes) (named_digests g.nodes) h.named) (omega arith) (omega arith) (omega arith) (omega arith) h.valid;
         seqno = refl;
+        named = refl;
         view = refl;
         order = or_true (not (founds layers (genesis_entry g)));
         rest = passes (member x (recorded_nodes layers (genesis_entry g ∷ []))) _ _ (ap (member x) nodes_recorded ∙ h.named)

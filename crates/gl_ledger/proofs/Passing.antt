@@ -1,5 +1,6 @@
 -- What an entry that breaks no rule has passed.
-use Rattle.std.proofs.Common.{◌≡◌, ◌+◌, List, length, Option, Some, None, Bool, true, false, ◌==◌, refl, ◌∙◌, ap}
+use Rattle.std.proofs.Common.{◌≡◌, ◌+◌, List, length, Option, Some, None, Bool, true, false, ◌==◌, nat_le, refl, ◌∙◌, ap}
+use Rattle.gl_base.specs.TxId.{last_seqno}
 use Rattle.gl_entry.specs.Entry.{is_entry}
 use Rattle.gl_entry.specs.declared.entry.Entry.{Entry}
 use Rattle.gl_ledger.specs.Layers.{Layers}
@@ -20,6 +21,7 @@ pub record Passes (layers : Layers) (ledger : List Entry) (e : Entry) : Type 0 w
   pub reads : recording_of layers e.content ≡ Some recording
   pub fits : is_entry e ≡ true
   pub seqno : (e.seqno == length ledger + 1) ≡ true
+  pub named : nat_le (length ledger + 1) last_seqno ≡ true
   pub view : is_next_view (last_entry ledger) recording e.view ≡ true
   pub order : is_in_order layers (last_entry ledger) recording e.view ≡ true
   pub rest : broken_by layers recording ledger e ≡ None
@@ -34,9 +36,10 @@ passing layers ledger e h = go (recording_of layers e.content) refl h
         let seqno = length ledger + 1 in
         let a = passed (is_entry e) (breach 1 seqno e) _ r in
         let b = passed (e.seqno == seqno) (breach 2 seqno e) _ a.1 in
-        let c = passed (is_next_view (last_entry ledger) t e.view) (breach 3 seqno e) _ b.1 in
+        let n = passed (nat_le seqno last_seqno) (breach 2 seqno e) _ b.1 in
+        let c = passed (is_next_view (last_entry ledger) t e.view) (breach 3 seqno e) _ n.1 in
         let d = passed (is_in_order layers (last_entry ledger) t e.view) (breach 4 seqno e) (broken_by layers t ledger e) c.1 in
-        record { recording = t; reads = is; fits = a.0; seqno = b.0; view = c.0; order = d.0; rest = d.1 }
+        record { recording = t; reads = is; fits = a.0; seqno = b.0; named = n.0; view = c.0; order = d.0; rest = d.1 }
 
 -- and the other way round
 pub passing_all : (layers : Layers) (ledger : List Entry) (e : Entry) → Passes layers ledger e → broken layers ledger e ≡ None
@@ -44,5 +47,5 @@ unfolding broken
 passing_all layers ledger e p =
     let seqno = length ledger + 1 in
     ap (λ (o : Option Recording). broken_where layers o ledger e) p.reads
-    ∙ passes (is_entry e) (breach 1 seqno e) _ p.fits (passes (e.seqno == seqno) (breach 2 seqno e) _ p.seqno
-    (passes (is_next_view (last_entry ledger) p.recording e.view) (breach 3 seqno e) _ p.view (passes (is_in_order layers (last_entry ledger) p.recording e.view) (breach 4 seqno e) _ p.order p.rest)))
+    ∙ passes (is_entry e) (breach 1 seqno e) _ p.fits (passes (e.seqno == seqno) (breach 2 seqno e) _ p.seqno (passes (nat_le seqno last_seqno) (breach 2 seqno e) _ p.named
+    (passes (is_next_view (last_entry ledger) p.recording e.view) (breach 3 seqno e) _ p.view (passes (is_in_order layers (last_entry ledger) p.recording e.view) (breach 4 seqno e) _ p.order p.rest))))

@@ -39,7 +39,7 @@ use Rattle.gl_ledger.specs.declared.genesis.GovernanceRequest.{GovernanceRequest
 use Rattle.gl_ledger.specs.declared.genesis.GovernanceRequest.TheVariants as requests
 use Rattle.gl_ledger.specs.declared.breach.GenesisFault.{GenesisFault}
 use Rattle.gl_ledger.specs.Layers.{Layers, ReadsSpellings}
-use Rattle.gl_ledger.specs.Recordings.{Recording, OfGovernance, OfApplication, OfSignature, OfEvidence, governance_recording, application_recording, is_founding, is_founding_or_none, is_signing, last_entry, recording_of, founds, requests_of, recorded_nodes}
+use Rattle.gl_ledger.specs.Recordings.{Recording, OfGovernance, OfApplication, OfSignature, OfEvidence, governance_recording, application_recording, is_founding, records_founding, is_signing, last_entry, recording_of, founds, requests_of, recorded_nodes}
 use Rattle.gl_ledger.specs.Changes.{are_rows}
 use Rattle.gl_ledger.specs.Acceptance.{request_fault}
 use Rattle.gl_ledger.specs.Broken.{Broken, is_next_view, is_in_order, are_same_writes, broken_in_state, effect_writes, unless_refused, broken_by_fault, may_record, fault_of_signature, broken_by, broken}
@@ -251,7 +251,7 @@ module _ (layers : Layers) (readings : ReadsSpellings layers) (ledger : List Ent
   -- ---- what comes first
 
   founding_as : founds layers e ≡ is_founding p.recording
-  founding_as = ap is_founding_or_none p.reads
+  founding_as = ap records_founding p.reads
 
   first_of : 0 ≡ length ledger → (founds layers e ≡ true) × (e.view ≡ first_view)
   first_of none =

@@ -6,6 +6,7 @@ use Rattle.std.specs.List.{list_all, flat_map}
 use Rattle.sha2.specs.Sha256.{sha256}
 use Rattle.gl_base.specs.LittleEndian.{little_endian}
 use Rattle.gl_base.specs.Bytes.{same_bytes}
+use Rattle.gl_base.specs.TxId.{last_seqno}
 use Rattle.gl_hss.specs.declared.fault.HssFault.{HssFault}
 use Rattle.gl_merkle.specs.Tree.{root_of}
 use Rattle.gl_rules.specs.Identity.{NodeId, member}
@@ -52,7 +53,7 @@ replay rule seqno wanted found = record {
 abbrev pub breach : ℕ → ℕ → Entry → Broken
 breach rule seqno e = replay rule seqno no_digest (sha256 (body_bytes e))
 
--- Rules 3 and 4: views and what comes first
+-- Rules 3 and 4: views and what comes first. Rule 2 is that of seqnos, which identifiers can name.
 
 -- The first entry founds the service, in the first view, and behind it views never fall.
 abbrev pub is_next_view : Option Entry → Recording → ℕ → Bool
@@ -216,10 +217,11 @@ module _ (layers : Layers) where
       let seqno = length ledger + 1 in
       required (is_entry e) (breach 1 seqno e) (
       required (e.seqno == seqno) (breach 2 seqno e) (
+      required (nat_le seqno last_seqno) (breach 2 seqno e) (
       required (is_next_view (last_entry ledger) recording e.view) (breach 3 seqno e) (
       required (is_in_order (last_entry ledger) recording e.view) (breach 4 seqno e)
       (broken_by recording ledger e)
-      )))
+      ))))
 
   -- The first rule that an entry breaks behind a ledger, if it breaks one.
   unfoldable pub broken : List Entry → Entry → Option Broken

@@ -7,7 +7,8 @@ use Rattle.gl_rules.specs.Identity.{NodeId}
 use Rattle.gl_ledger.specs.Genesis.{governance_bytes, is_governance_request}
 use Rattle.gl_ledger.specs.declared.genesis.GovernanceRequest.{GovernanceRequest}
 
--- Each definition of the ledger holds whatever these are.
+-- The definitions of the ledger take these as they are. The laws hold whatever they are, those on
+-- soundness where the reading reads what is spelled.
 pub record Layers : Type 0 where
   -- the request of governance that these bytes spell, all of them
   pub request_in : List ℕ → Option GovernanceRequest

@@ -44,9 +44,10 @@ is_signing (OfApplication request) = false
 is_signing (OfSignature s) = true
 is_signing (OfEvidence d) = false
 
-abbrev pub is_founding_or_none : Option Recording → Bool
-is_founding_or_none None = false
-is_founding_or_none (Some recording) = is_founding recording
+-- Something is recorded, and it is such a request.
+abbrev pub records_founding : Option Recording → Bool
+records_founding None = false
+records_founding (Some recording) = is_founding recording
 
 -- The last entry of a ledger, if there is one.
 abbrev pub last_entry : List Entry → Option Entry
@@ -62,7 +63,7 @@ module _ (layers : Layers) where
 
   -- The entry founds a service.
   abbrev pub founds : Entry → Bool
-  founds e = is_founding_or_none (recording_of e.content)
+  founds e = records_founding (recording_of e.content)
 
   abbrev pub recorded_at : ℕ → Option GovernanceRequest → List Recorded
   recorded_at seqno None = []

@@ -16,7 +16,7 @@ ghost use Rattle.gl_ledger.specs.declared.genesis.Genesis.{Genesis};
 ghost use Rattle.gl_ledger.specs.declared.genesis.NewNode.{NewNode};
 ghost use Rattle.gl_ledger.specs.declared.genesis.GovernanceRequest.{GovernanceRequest};
 ghost use Rattle.gl_ledger.specs.Layers.{Layers, ReadsSpellings};
-ghost use Rattle.gl_ledger.specs.Recordings.{recorded_nodes};
+ghost use Rattle.gl_ledger.specs.Recordings.{configuration, recorded_nodes};
 ghost use Rattle.gl_ledger.specs.Broken.{broken, last_commit};
 ghost use Rattle.gl_ledger.specs.Sound.{IsSound};
 ghost use Rattle.gl_ledger.specs.Makers.{MayMake, MakesValid, govern_result, opening_of, request_result, signing_result};
@@ -56,7 +56,8 @@ pub fn is_audited()
 
 /// A service that begins with a ledger which the check of an opening takes begins as the rules of
 /// consensus ask, and it is safe, whatever nodes start and whatever happens. The check takes the
-/// opening ledger of each genesis that founds a service, and tells who signed it.
+/// opening ledger of each genesis that founds a service, and tells who signed it. The nodes of that
+/// genesis are recorded, in its order, and are the first configuration.
 pub fn is_opened()
     ensures opening { (layers : Layers) (s : Start Entry) → Begins layers s →
         IsOpening (ledger_book layers) (EachFollows (ledger_book layers)) s }
@@ -65,6 +66,11 @@ pub fn is_opened()
         IsSafe (ledger_book layers) (IsSound layers) s events }
     ensures genesis { (layers : Layers) (g : Genesis) (first : NodeId) → Founds layers g first →
         opened layers (opening_of layers g first) ≡ Ok first }
+    ensures recorded { (layers : Layers) (g : Genesis) (first : NodeId) → Founds layers g first →
+        recorded_nodes layers (genesis_entry g ∷ []) ≡ map node_id g.nodes }
+    ensures configured { (layers : Layers) (g : Genesis) (first : NodeId) →
+        Founds layers g first →
+        configuration layers (genesis_entry g ∷ []) ≡ Some (map node_id g.nodes) }
     ensures rows { (g : Genesis) (i : ℕ) (node : NewNode) →
         are_distinct_bytes (map node_id g.nodes) ≡ true → slice_get g.nodes i ≡ Some node →
         value_in (tables_of (genesis_entry g ∷ [])) nodes_map (node_id node)
@@ -73,7 +79,9 @@ pub fn is_opened()
 
 /// Where an entry may be made, the book refuses no application request for a rule of the audit, and
 /// no valid signature of a recorded node with a commit that the rules of consensus let it record. So
-/// it refuses none of a leader, whatever happened before, and no request of governance either.
+/// it refuses none of a leader, whatever happened before. What a leader answers to a request of
+/// governance is never due to the guard: for now it refuses each, as a genesis comes first or not
+/// at all.
 pub fn is_unguarded()
     ensures executes { (layers : Layers) (ledger : List Entry) (view : ℕ) → view < 2 ^ 32 →
         MayMake layers ledger view → (request : List Operation) →

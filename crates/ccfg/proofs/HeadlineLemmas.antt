@@ -1,8 +1,6 @@
 -- The headline of what a text reads as, and the moments in which its lines are told.
-use Rattle.std.proofs.Common.{◌≡◌, ℕ, zero, suc, List, [], ◌∷◌, ◌++◌, Result, Ok, Err, Bool, true, false, fold, length, if◌then◌else◌, refl, subst, arith, ◌==◌}
-use Rattle.gl_rules.specs.Identity.{NodeId}
+use Rattle.std.proofs.Common.{◌≡◌, ℕ, List, Result, Ok, Err, Bool, true, false, length, if◌then◌else◌, refl, subst, ◌==◌}
 use Rattle.gl_lines.specs.declared.line.Line.{Line}
-use Rattle.gl_lines.specs.declared.line.Line.TheVariants.{Submit, Reserve, Sign, Advance, Status, Ids, Ledger}
 use Rattle.gl_lines.specs.declared.world.WorldLine.{WorldLine}
 use Rattle.gl_base.specs.Steps.{◌>>=◌}
 use Rattle.gl_lines.specs.declared.fault.ScheduleFault.{ScheduleFault}
@@ -11,57 +9,20 @@ use Rattle.gl_lines.specs.Reading.{first_line, lines_behind}
 use Rattle.gl_lines.specs.Worlds.{IsSmall}
 use Rattle.gl_lines.proofs.FirstLines.{first_small}
 use Rattle.gl_world.specs.declared.settings.Settings.{Settings}
-use Rattle.gl_world.specs.Founding.{id_of, has_distinct_keys}
-use Rattle.gl_world.specs.World.{ServiceEvent}
-use Rattle.gl_world.specs.Single.{IsSingle, IsLocal, AreLocal}
-use Rattle.gl_world.proofs.Single.{headline}
+use Rattle.gl_world.specs.Founding.{has_distinct_keys}
+use Rattle.gl_world.specs.Single.{IsSingle}
+use Rattle.gl_world.proofs.Acceptable.{single_group}
+use Rattle.gl_world.proofs.Groups.{group_safe}
 use Rattle.ccfg.specs.declared.schedule.Schedule.{Schedule}
 use Rattle.ccfg.specs.declared.schedule.Schedule.TheVariants.{Empty, Service}
 use Rattle.ccfg.specs.Moments.{KeepsHeadline, TellsMoments}
 use Rattle.ccfg.specs.Plans.{HasOneNode}
 use Rattle.ccfg.specs.Schedules.{reads, service_of, settings_of}
-use Rattle.ccfg.specs.Told.{Told, Effect, Happens, Answers, at_node, effect_of, told, told_at_start, told_effect, told_of}
-use Rattle.ccfg.proofs.PlayLemmas.{first_named, none_named}
+use Rattle.ccfg.specs.Told.{told_of}
 use Rattle.ccfg.proofs.ToldLemmas.{told_in_moments}
 
--- an effect that is about the one node
-abbrev IsEffectAt : NodeId → Effect → Type 0
-IsEffectAt x (Happens e) = IsLocal x e
-IsEffectAt x (Answers text) = Unit {0}
-
-local_named : (s : Settings) → IsSingle s → (number : ℕ) (effect : NodeId → Effect) → IsEffectAt (id_of s 1) (effect (id_of s 1)) → IsEffectAt (id_of s 1) (at_node s number effect)
-local_named s single zero effect h = tt
-local_named s single (suc zero) effect h = rw (first_named s single 1 refl) h
-local_named s single (suc (suc n)) effect h = rw (none_named s single (suc (suc n)) (λ e. absurd (omega (arith, e)))) tt
-
-local_line : (s : Settings) → IsSingle s → (t : Told) (line : Line) → IsEffectAt (id_of s 1) (effect_of s t line)
-local_line s single t (Submit node q) = local_named s single node _ refl
-local_line s single t (Reserve node) = local_named s single node _ refl
-local_line s single t (Sign node) = local_named s single node _ refl
-local_line s single t (Advance node) = local_named s single node _ refl
-local_line s single t (Status node id) = local_named s single node _ tt
-local_line s single t (Ids node) = local_named s single node _ tt
-local_line s single t (Ledger node) = local_named s single node _ tt
-
-one_more : (x : NodeId) (events : List ServiceEvent) (e : ServiceEvent) → AreLocal x events → IsLocal x e → AreLocal x (events ++ e ∷ [])
-one_more x [] e h here = (here, tt)
-one_more x (f ∷ events) e h here = (h.0, one_more x events e h.1 here)
-
-local_effect : (s : Settings) (t : Told) (e : Effect) → AreLocal (id_of s 1) t.events → IsEffectAt (id_of s 1) e → AreLocal (id_of s 1) (told_effect s t e).events
-local_effect s t (Happens e) h here = one_more (id_of s 1) t.events e h here
-local_effect s t (Answers text) h here = h
-
-local_fold : (s : Settings) → IsSingle s → (t : Told) (lines : List Line) → AreLocal (id_of s 1) t.events → AreLocal (id_of s 1) (fold (told s) t lines).events
-local_fold s single t [] h = h
-local_fold s single t (line ∷ lines) h = local_fold s single (told s t line) lines (local_effect s t (effect_of s t line) h (local_line s single t line))
-
--- each event is about the one node
-local_events : (s : Settings) → IsSingle s → (lines : List Line) → AreLocal (id_of s 1) (told_of s lines).events
-unfolding told_of
-local_events s single lines = local_fold s single (told_at_start s) lines tt
-
 service_keeps : (s : Settings) (lines : List Line) → IsSingle s → KeepsHeadline (Ok (Service s lines))
-service_keeps s lines single = headline s (told_of s lines).events single (local_events s single lines)
+service_keeps s lines single = group_safe s (single_group s single) (told_of s lines).events
 
 -- the service of a first line has one node
 single_service : (w : WorldLine) (s : Settings) → IsSmall w → service_of w ≡ Ok s → IsSingle s

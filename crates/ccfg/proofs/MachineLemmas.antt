@@ -1,61 +1,137 @@
 -- The machine's steps are those of the rules.
-use Rattle.std.proofs.Common.{◌≡◌, ℕ, zero, suc, ◌+◌, ◌<◌, ◌≤◌, List, [], length, Option, Some, None, Result, Err, Bool, true, false, ◌==◌, nat_lt, nat_le, if◌then◌else◌, refl, sym, ◌∙◌, ap, subst, arith}
+use Rattle.std.proofs.Common.{◌≡◌, ℕ, zero, suc, ◌+◌, ◌<◌, ◌≤◌, List, [], ◌∷◌, ◌++◌, length, Option, Some, None, Result, Err, Bool, true, false, ◌==◌, nat_lt, nat_le, if◌then◌else◌, refl, sym, ◌∙◌, ap, subst, arith}
 use Rattle.std.proofs.lemmas.Bool.Decides.{nat_tests}
 use Rattle.std.proofs.Math.Bool.{and-true}
 use Rattle.gl_base.proofs.Lists.{slice_get-below}
 use Rattle.gl_base.specs.declared.tx_id.TxId.{TxId}
+use Rattle.gl_rules.specs.Identity.{NodeId, member}
 use Rattle.gl_rules.specs.Node.{Node, Leader}
 use Rattle.gl_rules.specs.Outcome.{Step, quiet, refuse, idle, KeyExhausted, NotReserved, NothingToSign, ByLedger}
 use Rattle.gl_rules.specs.Outcome as outcome
 use Rattle.gl_rules.specs.Steps.{append_entry}
 use Rattle.gl_rules.specs.Requests.{submit, reserve, sign, sign_as_leader, append_signature, append_result}
 use Rattle.gl_rules.specs.Replication.{advance, commit_to}
-use Rattle.gl_rules.specs.Log.{entry_at, is_signature_in, last_signature}
-use Rattle.gl_rules.specs.World.{leader_at_start}
+use Rattle.gl_rules.specs.Log.{entry_at, is_signature_in}
+use Rattle.gl_rules.specs.Safety.{node_after}
+use Rattle.gl_rules.specs.World.{Happened, begin, after, run, happens, at, leader_at_start, starter, joiner}
+use Rattle.gl_rules.specs.World as event
 use Rattle.gl_entry.specs.Entry.{is_signature}
-use Rattle.gl_rules.specs.Safety.{ViewsUpTo}
-use Rattle.gl_ledger.specs.Ledger.{opening_ledger}
-use Rattle.gl_ledger.specs.Signed.{IsSignedAt}
-use Rattle.gl_store.specs.Kept.{Held}
-use Rattle.gl_store.specs.Calls.{Executes, Signs}
 use Rattle.gl_entry.specs.declared.entry.Entry.{Entry}
 use Rattle.gl_tx.specs.declared.request.Operation.{Operation}
 use Rattle.gl_tx.specs.declared.request.Answer.{Answer}
+use Rattle.gl_ledger.specs.Broken.{last_signed}
+use Rattle.gl_ledger.specs.Ledger.{HasViewsUpTo, opening_ledger, sign_result}
+use Rattle.gl_ledger.specs.LedgerBook.{leaf_count}
+use Rattle.gl_ledger.specs.Makers.{Given, Replied, Unmade, ByStore, by_store, request_result, signing_result}
+use Rattle.gl_ledger.specs.Services.{ServiceEvent}
+use Rattle.gl_ledger.specs.Signed.{IsSignedAt}
 use Rattle.gl_ledger.specs.declared.refusal.Refusal.{Refusal}
 use Rattle.gl_ledger.proofs.Applications.{execute_ok, request_ok}
 use Rattle.gl_ledger.proofs.Following.{book_sign_ok}
+use Rattle.gl_ledger.proofs.Growth.{IsNoGovernance}
 use Rattle.gl_ledger.proofs.Signatures.{last_is_signed, signed_at_last, last_if_signed}
+use Rattle.gl_store.specs.Kept.{Held}
+use Rattle.gl_store.specs.Calls.{Executes, Signs}
 use Rattle.gl_world.specs.declared.settings.Settings.{Settings}
 use Rattle.gl_world.specs.Founding.{id_of, genesis_of}
-use Rattle.gl_ledger.specs.Book.{leaf_count}
+use Rattle.gl_world.specs.Group.{layers_of, book_of}
 use Rattle.gl_world.specs.Single.{IsSingle}
-use Rattle.gl_world.specs.Solo.{IsSolo}
-use Rattle.gl_world.specs.World.{start_of}
-use Rattle.gl_ledger.specs.Book.{service_book, Given, Replied, Unmade, ByStore}
-use Rattle.gl_world.proofs.Solo.{submit-is, sign-is, advance-is, solo_submit, solo_sign, solo_advance, ledger_views}
-use Rattle.gl_world.proofs.Starting.{solo_at_start}
+use Rattle.gl_world.specs.Solo.{IsSoloLedger}
+use Rattle.gl_world.specs.World.{ServiceWorld, start_of}
+use Rattle.gl_world.proofs.Acceptable.{single_group}
+use Rattle.gl_world.proofs.Groups.{group_executes, group_signs}
+use Rattle.gl_world.proofs.Ids.{same_itself}
+use Rattle.gl_world.proofs.Solo.{advance-is, solo-push, solo_at_start}
 use Rattle.ccfg.specs.declared.machine.Machine.{Machine}
 use Rattle.ccfg.specs.Machine.{node_in, IsMachine, GoesOn}
+use Rattle.ccfg.proofs.ToldLemmas.{one_event_more}
 
 abbrev pub ServiceStep : Type 0
 ServiceStep = Step Entry Given Unmade
 
--- a machine that made a step of the rules goes on
-goes_on : (old new : Machine) (step : ServiceStep) (o : outcome.Outcome Given Unmade) → IsMachine old → new.id ≡ old.id → new.settings ≡ old.settings →
-    IsSolo old.settings step.node → step ≡ quiet (node_in new) o → new.used ≤ new.reserved → GoesOn old new
-goes_on old new step o m same_id same_settings solo is leaves = record {
+-- ---- the machine as its events make it
+
+-- a node behind one more event, which takes it by a rule
+node_then : (s : Settings) (events : List ServiceEvent) (e : ServiceEvent) (x : NodeId) (rule : Node Entry → ServiceStep) (n m : Node Entry) (o : outcome.Outcome Given Unmade) →
+    ((w : ServiceWorld) → happens (book_of s) w e ≡ at w x (rule (w.nodes x))) → node_after (book_of s) (start_of s) events x ≡ n → rule n ≡ quiet m o →
+    node_after (book_of s) (start_of s) (events ++ e ∷ []) x ≡ m
+node_then s events e x rule n m o happened is step =
+    let w : ServiceWorld = after (book_of s) (start_of s) events in
+    ap (λ (v : ServiceWorld). v.nodes x) (one_event_more s events e (begin (start_of s)))
+    ∙ ap (λ (h : Happened Entry Given Unmade). h.world.nodes x) (happened w)
+    ∙ ap (λ (b : Bool). if b then (rule (w.nodes x)).node else w.nodes x) (same_itself x)
+    ∙ ap (λ (k : Node Entry). (rule k).node) is
+    ∙ ap (λ (t : ServiceStep). t.node) step
+
+-- the machine that a step of the rules made of one goes on
+goes_on : (m : Machine) (st : Held) (reserved used : ℕ) (e : ServiceEvent) (rule : Node Entry → ServiceStep) (o : outcome.Outcome Given Unmade) → IsMachine m →
+    ((w : ServiceWorld) → happens (book_of m.settings) w e ≡ at w m.id (rule (w.nodes m.id))) →
+    (let new : Machine = record m { store = st; reserved = reserved; used = used } in rule (node_in m) ≡ quiet (node_in new) o) →
+    IsSoloLedger (layers_of m.settings) m.id st.ledger → 2 ≤ st.commit → used ≤ reserved → GoesOn m (record m { store = st; reserved = reserved; used = used })
+goes_on m st reserved used e rule o h happened step ledger opened leaves = record {
   machine = record {
-    single = subst IsSingle (sym same_settings) m.single;
-    named = same_id ∙ m.named ∙ ap (λ (s : Settings). id_of s 1) (sym same_settings);
-    solo = subst (λ (s : Settings). IsSolo s (node_in new)) (sym same_settings)
-        (subst (λ (t : ServiceStep). IsSolo old.settings t.node) is solo);
+    single = h.single;
+    named = h.named;
+    events = h.events ++ e ∷ [];
+    reached = node_then m.settings h.events e m.id rule (node_in m) (node_in (record m { store = st; reserved = reserved; used = used })) o happened h.reached step;
+    ledger = ledger;
+    opened = opened;
     leaves = leaves;
   };
-  settings = same_settings;
+  settings = refl;
 }
 
+submitted : (s : Settings) (x : NodeId) (q : List Operation) (w : ServiceWorld) → happens (book_of s) w (event.Submit x q) ≡ at w x (submit (book_of s) q (w.nodes x))
+unfolding happens
+submitted s x q w = refl
+
+reserves : (s : Settings) (x : NodeId) (w : ServiceWorld) → happens (book_of s) w (event.Reserve x) ≡ at w x (reserve (book_of s) x (w.nodes x))
+unfolding happens
+reserves s x w = refl
+
+signed : (s : Settings) (x : NodeId) (w : ServiceWorld) → happens (book_of s) w (event.Sign x) ≡ at w x (sign (book_of s) x (w.nodes x))
+unfolding happens
+signed s x w = refl
+
+advanced : (s : Settings) (x : NodeId) (w : ServiceWorld) → happens (book_of s) w (event.Advance x) ≡ at w x (advance (book_of s) x (w.nodes x))
+unfolding happens
+advanced s x w = refl
+
 pub begins : (m : Machine) → IsSingle m.settings → m.id ≡ id_of m.settings 1 → node_in m ≡ leader_at_start (start_of m.settings) → m.used ≤ m.reserved → IsMachine m
-begins m single named is leaves = record { single = single; leaves = leaves; named = named; solo = subst (λ (n : Node Entry). IsSolo m.settings n) (sym is) (solo_at_start m.settings single) }
+unfolding run
+begins m single named is leaves =
+    let s = m.settings in
+    let commit : m.store.commit ≡ 2 = ap (λ (n : Node Entry). n.commit) is in
+    record {
+      single = single;
+      named = named;
+      events = [];
+      reached = ap (λ (x : NodeId). (begin (start_of s)).nodes x) named
+          ∙ ap (λ (b : Bool). if b then leader_at_start (start_of s) else (if member (id_of s 1) (start_of s).starting then starter (start_of s) else joiner)) (same_itself (id_of s 1))
+          ∙ sym is;
+      ledger = subst (λ (x : NodeId). IsSoloLedger (layers_of s) x m.store.ledger) (sym named)
+          (subst (λ (l : List Entry). IsSoloLedger (layers_of s) (id_of s 1) l) (sym (ap (λ (n : Node Entry). n.log) is)) (solo_at_start s single));
+      opened = omega (arith, commit);
+      leaves = leaves;
+    }
+
+-- what the book of the service makes at the machine is not guarded
+executes-is : (m : Machine) → IsMachine m → (q : List Operation) → (book_of m.settings).execute m.store.ledger 2 q ≡ request_result m.store.ledger 2 q
+executes-is m h q =
+    subst (λ (n : Node Entry). (book_of m.settings).execute n.log n.view q ≡ request_result n.log n.view q) h.reached
+    (group_executes m.settings (single_group m.settings h.single) h.events m.id (ap (λ (n : Node Entry). n.role) h.reached) q)
+
+signs-is : (m : Machine) → IsMachine m → (leaf : ℕ) →
+    (book_of m.settings).sign m.id leaf m.store.ledger 2 m.store.commit ≡ by_store (sign_result m.id m.store.ledger 2 m.store.commit)
+signs-is m h leaf =
+    subst (λ (n : Node Entry). (book_of m.settings).sign m.id leaf n.log n.view n.commit ≡ signing_result (layers_of m.settings) m.id leaf n.log n.view n.commit) h.reached
+    (group_signs m.settings (single_group m.settings h.single) h.events m.id (ap (λ (n : Node Entry). n.role) h.reached) leaf)
+
+submit-is : (m : Machine) (q : List Operation) → submit (book_of m.settings) q (node_in m) ≡ append_result (book_of m.settings) (node_in m) ((book_of m.settings).execute m.store.ledger 2 q)
+unfolding submit
+submit-is m q = refl
+
+-- ---- its store
 
 -- the node of a store, with so many leaves reserved and used
 abbrev node_of_store : List ℕ → Held → ℕ → ℕ → Node Entry
@@ -87,106 +163,133 @@ begin_is m s named opened one first =
     ∙ ap (λ (n : ℕ). node_of_store (id_of s 1) (opened_store s) n m.used) one
     ∙ ap (λ (n : ℕ). node_of_store (id_of s 1) (opened_store s) 1 n) first
 
-pub reserve_full : (x : List ℕ) (n : Node Entry) → leaf_count ≤ n.reserved → reserve service_book x n ≡ quiet n (outcome.Refused (KeyExhausted n.reserved))
+-- ---- leaves and commit
+
+pub reserve_full : (s : Settings) (x : List ℕ) (n : Node Entry) → leaf_count ≤ n.reserved → reserve (book_of s) x n ≡ quiet n (outcome.Refused (KeyExhausted n.reserved))
 unfolding reserve
-reserve_full x n full = ap (λ (b : Bool). if b then refuse n (KeyExhausted n.reserved) else quiet (record n { reserved = n.reserved + 1 }) outcome.Done)
+reserve_full s x n full = ap (λ (b : Bool). if b then refuse n (KeyExhausted n.reserved) else quiet (record n { reserved = n.reserved + 1 }) outcome.Done)
     (let t : nat_le leaf_count n.reserved ≡ true = grind (arith, nat_tests) in t)
 
-pub reserve_more : (x : List ℕ) (n : Node Entry) → n.reserved < leaf_count → reserve service_book x n ≡ quiet (record n { reserved = n.reserved + 1 }) outcome.Done
+pub reserve_more : (s : Settings) (x : List ℕ) (n : Node Entry) → n.reserved < leaf_count → reserve (book_of s) x n ≡ quiet (record n { reserved = n.reserved + 1 }) outcome.Done
 unfolding reserve
-reserve_more x n more = ap (λ (b : Bool). if b then refuse n (KeyExhausted n.reserved) else quiet (record n { reserved = n.reserved + 1 }) outcome.Done)
+reserve_more s x n more = ap (λ (b : Bool). if b then refuse n (KeyExhausted n.reserved) else quiet (record n { reserved = n.reserved + 1 }) outcome.Done)
     (let t : nat_le leaf_count n.reserved ≡ false = grind (arith, nat_tests) in t)
 
-pub advance_idle : (m : Machine) → IsMachine m → last_signature service_book m.store.ledger ≤ m.store.commit → advance service_book m.id (node_in m) ≡ idle (node_in m)
-advance_idle m h below =
-    ap (λ (x : List ℕ). advance service_book x (node_in m)) h.named ∙ advance-is m.settings (node_in m) h.solo
-    ∙ ap (λ (b : Bool). commit_to service_book (node_in m) (if b then Some (last_signature service_book m.store.ledger) else None))
-    (let t : nat_lt m.store.commit (last_signature service_book m.store.ledger) ≡ false = grind (arith, nat_tests) in t)
+pub reserve_goes : (m : Machine) → IsMachine m → m.reserved < leaf_count → GoesOn m (record m { reserved = m.reserved + 1 })
+reserve_goes m h more =
+    let leaves : m.used ≤ m.reserved + 1 = omega (arith, h.leaves) in
+    goes_on m m.store (m.reserved + 1) m.used (event.Reserve m.id) (reserve (book_of m.settings) m.id) outcome.Done h (reserves m.settings m.id)
+    (reserve_more m.settings m.id (node_in m) more) h.ledger h.opened leaves
 
-view_there : (m : Machine) → IsMachine m → (place : ℕ) → IsSignedAt m.store.ledger place → Rattle.gl_rules.specs.Log.view_at service_book m.store.ledger place ≡ 2
+advance-at : (m : Machine) → IsMachine m → advance (book_of m.settings) m.id (node_in m)
+    ≡ commit_to (book_of m.settings) (node_in m) (if nat_lt m.store.commit (last_signed m.store.ledger) then Some (last_signed m.store.ledger) else None)
+advance-at m h = advance-is (layers_of m.settings) m.id (node_in m) refl refl h.opened h.ledger
+
+pub advance_idle : (m : Machine) → IsMachine m → last_signed m.store.ledger ≤ m.store.commit → advance (book_of m.settings) m.id (node_in m) ≡ idle (node_in m)
+advance_idle m h below =
+    advance-at m h
+    ∙ ap (λ (b : Bool). commit_to (book_of m.settings) (node_in m) (if b then Some (last_signed m.store.ledger) else None))
+    (let t : nat_lt m.store.commit (last_signed m.store.ledger) ≡ false = grind (arith, nat_tests) in t)
+
+view_there : (m : Machine) → IsMachine m → (place : ℕ) → IsSignedAt m.store.ledger place → Rattle.gl_rules.specs.Log.view_at (book_of m.settings) m.store.ledger place ≡ 2
 view_there m h zero at = absurd (let q = at.1 in cc)
 view_there m h (suc i) at =
-    ap (λ (o : Option Entry). Rattle.gl_rules.specs.Log.view_of_entry service_book o) at.1 ∙ h.solo.ledger.views i at.0 at.1
+    ap (λ (o : Option Entry). Rattle.gl_rules.specs.Log.view_of_entry (book_of m.settings) o) at.1 ∙ h.ledger.views i at.0 at.1
 
-pub advance_commits : (m : Machine) → IsMachine m → m.store.commit < last_signature service_book m.store.ledger →
-    let place = last_signature service_book m.store.ledger in
+pub advance_commits : (m : Machine) → IsMachine m → m.store.commit < last_signed m.store.ledger →
+    let place = last_signed m.store.ledger in
     let new = record m { store = record { ledger = m.store.ledger; commit = place } } in
-    (advance service_book m.id (node_in m) ≡ quiet (node_in new) (outcome.Committed 2 place)) × GoesOn m new
+    (advance (book_of m.settings) m.id (node_in m) ≡ quiet (node_in new) (outcome.Committed 2 place)) × GoesOn m new
 advance_commits m h above =
-    let place = last_signature service_book m.store.ledger in
-    let new : Machine = record m { store = record { ledger = m.store.ledger; commit = place } } in
+    let place = last_signed m.store.ledger in
+    let st : Held = record { ledger = m.store.ledger; commit = place } in
+    let new : Machine = record m { store = st } in
     let signed_there : IsSignedAt m.store.ledger place = signed_at_last m.store.ledger (omega (arith, above)) in
-    let named : advance service_book m.id (node_in m) ≡ advance service_book (id_of m.settings 1) (node_in m) =
-    ap (λ (x : List ℕ). advance service_book x (node_in m)) h.named in
-    let is : advance service_book (id_of m.settings 1) (node_in m) ≡ quiet (node_in new) (outcome.Committed 2 place) =
-    advance-is m.settings (node_in m) h.solo
-    ∙ ap (λ (b : Bool). commit_to service_book (node_in m) (if b then Some place else None))
+    let is : advance (book_of m.settings) m.id (node_in m) ≡ quiet (node_in new) (outcome.Committed 2 place) =
+    advance-at m h
+    ∙ ap (λ (b : Bool). commit_to (book_of m.settings) (node_in m) (if b then Some place else None))
     (let t : nat_lt m.store.commit place ≡ true = grind (arith, nat_tests) in t)
     ∙ ap (λ (v : ℕ). quiet {E = Entry} {A = Given} {F = Unmade} (node_in new) (outcome.Committed v place)) (view_there m h place signed_there) in
-    (named ∙ is, goes_on m new (advance service_book (id_of m.settings 1) (node_in m)) (outcome.Committed 2 place) h refl refl (solo_advance m.settings (node_in m) h.solo) is h.leaves)
+    let opened : 2 ≤ place = omega (arith, h.opened, above) in
+    (is, goes_on m st m.reserved m.used (event.Advance m.id) (advance (book_of m.settings) m.id) (outcome.Committed 2 place) h (advanced m.settings m.id) is h.ledger opened h.leaves)
 
-up_to : (m : Machine) → IsMachine m → ViewsUpTo service_book 2 m.store.ledger
-up_to m h = ledger_views m.settings (node_in m) h.solo
+pub up_to : (m : Machine) → IsMachine m → HasViewsUpTo 2 m.store.ledger
+up_to m h i e at = omega (arith, h.ledger.views i e at)
+
+-- ---- requests
 
 -- an accepted request
 pub submit_accepted : (m : Machine) (st : Held) (q : List Operation) (id : TxId) (reply : List Answer) → IsMachine m → Executes m.store 2 q id reply st →
     let new = record m { store = st } in
-    (submit service_book q (node_in m) ≡ quiet (node_in new) (outcome.Accepted id.view id.seqno (Replied reply))) × GoesOn m new
+    (submit (book_of m.settings) q (node_in m) ≡ quiet (node_in new) (outcome.Accepted id.view id.seqno (Replied reply))) × GoesOn m new
 submit_accepted m st q id reply h ran =
     let new : Machine = record m { store = st } in
     let made = execute_ok m.store.ledger 2 q ran.entry reply (request_ok m.store.ledger 2 q ran.entry reply ran.made).1 in
     let view : ran.entry.view ≡ 2 = ap (λ (e : Entry). e.view) made.3 in
     let node : append_entry (node_in m) ran.entry ≡ node_in new = ap (λ (x : Held). node_in (record m { store = x })) (sym ran.enters.entered) in
-    let is : submit service_book q (node_in m) ≡ quiet (node_in new) (outcome.Accepted id.view id.seqno (Replied reply)) =
-    submit-is m.settings (node_in m) q h.solo
-    ∙ ap (λ (r : Result (Entry × Given) Unmade). append_result service_book (node_in m) r) ran.made
+    let is : submit (book_of m.settings) q (node_in m) ≡ quiet (node_in new) (outcome.Accepted id.view id.seqno (Replied reply)) =
+    submit-is m q
+    ∙ ap (λ (r : Result (Entry × Given) Unmade). append_result (book_of m.settings) (node_in m) r) (executes-is m h q ∙ ran.made)
     ∙ ap (λ (v : ℕ). quiet {E = Entry} {A = Given} {F = Unmade} (append_entry (node_in m) ran.entry) (outcome.Accepted v (length m.store.ledger + 1) (Replied reply))) view
     ∙ ap (λ (n : Node Entry). quiet {E = Entry} {A = Given} {F = Unmade} n (outcome.Accepted 2 (length m.store.ledger + 1) (Replied reply))) node
     ∙ ap (λ (t : TxId). quiet {E = Entry} {A = Given} {F = Unmade} (node_in new) (outcome.Accepted t.view t.seqno (Replied reply))) (sym ran.enters.named) in
-    (is, goes_on m new (submit service_book q (node_in m)) _ h refl refl (solo_submit m.settings (node_in m) q h.solo) is h.leaves)
+    let quiet_one : IsNoGovernance ran.entry.content = subst (λ (e : Entry). IsNoGovernance e.content) (sym made.3) tt in
+    let ledger : IsSoloLedger (layers_of m.settings) m.id st.ledger = subst (λ (x : Held). IsSoloLedger (layers_of m.settings) m.id x.ledger) (sym ran.enters.entered)
+    (solo-push (layers_of m.settings) m.id m.store.ledger ran.entry h.ledger view quiet_one) in
+    let opened : 2 ≤ st.commit = subst (λ (x : Held). 2 ≤ x.commit) (sym ran.enters.entered) h.opened in
+    (is, goes_on m st m.reserved m.used (event.Submit m.id q) (submit (book_of m.settings) q) _ h (submitted m.settings m.id q) is ledger opened h.leaves)
+
+same_ledger : (m : Machine) (st : Held) → IsMachine m → st ≡ m.store → IsSoloLedger (layers_of m.settings) m.id st.ledger
+same_ledger m st h same = subst (λ (x : Held). IsSoloLedger (layers_of m.settings) m.id x.ledger) (sym same) h.ledger
+
+same_opened : (m : Machine) (st : Held) → IsMachine m → st ≡ m.store → 2 ≤ st.commit
+same_opened m st h same = subst (λ (x : Held). 2 ≤ x.commit) (sym same) h.opened
 
 -- a refused one
-pub submit_refused : (m : Machine) (st : Held) (q : List Operation) (why : Refusal) → IsMachine m → service_book.execute m.store.ledger 2 q ≡ Err (ByStore why) → st ≡ m.store →
+pub submit_refused : (m : Machine) (st : Held) (q : List Operation) (why : Refusal) → IsMachine m → request_result m.store.ledger 2 q ≡ Err (ByStore why) → st ≡ m.store →
     let new = record m { store = st } in
-    (submit service_book q (node_in m) ≡ quiet (node_in new) (outcome.Refused (ByLedger (ByStore why)))) × GoesOn m new
+    (submit (book_of m.settings) q (node_in m) ≡ quiet (node_in new) (outcome.Refused (ByLedger (ByStore why)))) × GoesOn m new
 submit_refused m st q why h refused same =
     let new : Machine = record m { store = st } in
     let node : node_in m ≡ node_in new = ap (λ (x : Held). node_in (record m { store = x })) (sym same) in
-    let is : submit service_book q (node_in m) ≡ quiet (node_in new) (outcome.Refused (ByLedger (ByStore why))) =
-    submit-is m.settings (node_in m) q h.solo
-    ∙ ap (λ (r : Result (Entry × Given) Unmade). append_result service_book (node_in m) r) refused
+    let is : submit (book_of m.settings) q (node_in m) ≡ quiet (node_in new) (outcome.Refused (ByLedger (ByStore why))) =
+    submit-is m q
+    ∙ ap (λ (r : Result (Entry × Given) Unmade). append_result (book_of m.settings) (node_in m) r) (executes-is m h q ∙ refused)
     ∙ ap (λ (n : Node Entry). quiet {E = Entry} {A = Given} {F = Unmade} n (outcome.Refused (ByLedger (ByStore why)))) node in
-    (is, goes_on m new (submit service_book q (node_in m)) _ h refl refl (solo_submit m.settings (node_in m) q h.solo) is h.leaves)
+    (is, goes_on m st m.reserved m.used (event.Submit m.id q) (submit (book_of m.settings) q) _ h (submitted m.settings m.id q) is (same_ledger m st h same) (same_opened m st h same) h.leaves)
 
-sign_of : (m : Machine) → IsMachine m → sign service_book m.id (node_in m) ≡ sign_as_leader service_book m.id (node_in m)
-sign_of m h = sign-is m.settings m.id (node_in m) h.solo
+-- ---- signatures
+
+sign_of : (m : Machine) → sign (book_of m.settings) m.id (node_in m) ≡ sign_as_leader (book_of m.settings) m.id (node_in m)
+unfolding sign
+sign_of m = refl
 
 not-true : (b : Bool) → (b ≡ true → ⊥) → b ≡ false
 not-true true n = absurd (n refl)
 not-true false n = refl
 
-signs_two : (e : Entry) → e.view ≡ 2 → is_signature_in service_book 2 (Some e) ≡ is_signature e.content
-signs_two e view = rw view (and-true (is_signature e.content))
+signs_two : (s : Settings) (e : Entry) → e.view ≡ 2 → is_signature_in (book_of s) 2 (Some e) ≡ is_signature e.content
+signs_two s e view = rw view (and-true (is_signature e.content))
 
-last_entry_signs : (m : Machine) → IsMachine m → last_signature service_book m.store.ledger ≡ length m.store.ledger →
-    is_signature_in service_book 2 (entry_at m.store.ledger (length m.store.ledger)) ≡ true
+last_entry_signs : (m : Machine) → IsMachine m → last_signed m.store.ledger ≡ length m.store.ledger →
+    is_signature_in (book_of m.settings) 2 (entry_at m.store.ledger (length m.store.ledger)) ≡ true
 last_entry_signs m h is = go (length m.store.ledger) refl
   where
-    go : (n : ℕ) → length m.store.ledger ≡ n → is_signature_in service_book 2 (entry_at m.store.ledger n) ≡ true
-    go zero none = absurd (let l = h.solo.ledger.long in omega arith)
+    go : (n : ℕ) → length m.store.ledger ≡ n → is_signature_in (book_of m.settings) 2 (entry_at m.store.ledger n) ≡ true
+    go zero none = absurd (let l = h.ledger.long in omega arith)
     go (suc i) some =
         let last = last_is_signed m.store.ledger i (is ∙ some) in
-        ap (λ (o : Option Entry). is_signature_in service_book 2 o) last.1 ∙ signs_two last.0 (h.solo.ledger.views i last.0 last.1) ∙ last.2
+        ap (λ (o : Option Entry). is_signature_in (book_of m.settings) 2 o) last.1 ∙ signs_two m.settings last.0 (h.ledger.views i last.0 last.1) ∙ last.2
 
-last_entry_unsigned : (m : Machine) → IsMachine m → (last_signature service_book m.store.ledger ≡ length m.store.ledger → ⊥) →
-    is_signature_in service_book 2 (entry_at m.store.ledger (length m.store.ledger)) ≡ false
+last_entry_unsigned : (m : Machine) → IsMachine m → (last_signed m.store.ledger ≡ length m.store.ledger → ⊥) →
+    is_signature_in (book_of m.settings) 2 (entry_at m.store.ledger (length m.store.ledger)) ≡ false
 last_entry_unsigned m h other = go (length m.store.ledger) refl
   where
-    go : (n : ℕ) → length m.store.ledger ≡ n → is_signature_in service_book 2 (entry_at m.store.ledger n) ≡ false
-    go zero none = absurd (let l = h.solo.ledger.long in omega arith)
+    go : (n : ℕ) → length m.store.ledger ≡ n → is_signature_in (book_of m.settings) 2 (entry_at m.store.ledger n) ≡ false
+    go zero none = absurd (let l = h.ledger.long in omega arith)
     go (suc i) some =
         let last = slice_get-below m.store.ledger i (omega arith) in
-        ap (λ (o : Option Entry). is_signature_in service_book 2 o) last.1 ∙ signs_two last.0 (h.solo.ledger.views i last.0 last.1)
+        ap (λ (o : Option Entry). is_signature_in (book_of m.settings) 2 o) last.1 ∙ signs_two m.settings last.0 (h.ledger.views i last.0 last.1)
         ∙ not-true (is_signature last.0.content) (λ signs. other (last_if_signed m.store.ledger i last.0 some last.1 signs ∙ sym some))
 
 sign_choice : (m : Machine) → Bool → Bool → ServiceStep
@@ -194,54 +297,59 @@ sign_choice m used unsigned =
     if used then refuse (node_in m) (NotReserved m.reserved) else (
     if unsigned
     then refuse (node_in m) (NothingToSign (length m.store.ledger))
-    else append_signature service_book (node_in m) (service_book.sign m.id m.used m.store.ledger 2 m.store.commit)
+    else append_signature (book_of m.settings) (node_in m) ((book_of m.settings).sign m.id m.used m.store.ledger 2 m.store.commit)
     )
 
 sign_chosen : (m : Machine) (used unsigned : Bool) → IsMachine m → (m.used == m.reserved) ≡ used →
-    is_signature_in service_book 2 (entry_at m.store.ledger (length m.store.ledger)) ≡ unsigned →
-    sign service_book m.id (node_in m) ≡ sign_choice m used unsigned
+    is_signature_in (book_of m.settings) 2 (entry_at m.store.ledger (length m.store.ledger)) ≡ unsigned →
+    sign (book_of m.settings) m.id (node_in m) ≡ sign_choice m used unsigned
 unfolding sign_choice
 sign_chosen m used unsigned h is_used is_unsigned =
-    sign_of m h ∙ ap (λ (b : Bool). sign_choice m b (is_signature_in service_book 2 (entry_at m.store.ledger (length m.store.ledger)))) is_used
+    sign_of m ∙ ap (λ (b : Bool). sign_choice m b (is_signature_in (book_of m.settings) 2 (entry_at m.store.ledger (length m.store.ledger)))) is_used
     ∙ ap (λ (b : Bool). sign_choice m used b) is_unsigned
 
-pub sign_nothing : (m : Machine) → IsMachine m → (m.used ≡ m.reserved → ⊥) → last_signature service_book m.store.ledger ≡ length m.store.ledger →
-    sign service_book m.id (node_in m) ≡ quiet (node_in m) (outcome.Refused (NothingToSign (length m.store.ledger)))
+pub sign_nothing : (m : Machine) → IsMachine m → (m.used ≡ m.reserved → ⊥) → last_signed m.store.ledger ≡ length m.store.ledger →
+    sign (book_of m.settings) m.id (node_in m) ≡ quiet (node_in m) (outcome.Refused (NothingToSign (length m.store.ledger)))
 unfolding sign_choice
 sign_nothing m h free last = sign_chosen m false true h (let t : (m.used == m.reserved) ≡ false = grind (arith, nat_tests) in t) (last_entry_signs m h last)
 
-pub sign_signs : (m : Machine) (st : Held) (id : TxId) → IsMachine m → (m.used ≡ m.reserved → ⊥) → (last_signature service_book m.store.ledger ≡ length m.store.ledger → ⊥) →
+pub sign_signs : (m : Machine) (st : Held) (id : TxId) → IsMachine m → (m.used ≡ m.reserved → ⊥) → (last_signed m.store.ledger ≡ length m.store.ledger → ⊥) →
     Signs m.store m.id 2 id st →
     let new = record m { store = st; used = m.used + 1 } in
-    (sign service_book m.id (node_in m) ≡ quiet (node_in new) (outcome.Signed id.view id.seqno)) × GoesOn m new
+    (sign (book_of m.settings) m.id (node_in m) ≡ quiet (node_in new) (outcome.Signed id.view id.seqno)) × GoesOn m new
 unfolding sign_choice
 sign_signs m st id h free other s =
     let leaves : m.used + 1 ≤ m.reserved = let l = h.leaves in grind (arith, nat_tests, free) in
     let new : Machine = record m { store = st; used = m.used + 1 } in
-    let view : s.entry.view ≡ 2 = ap (λ (e : Entry). e.view) (book_sign_ok m.id m.used m.store.ledger 2 m.store.commit s.entry (s.made m.used)).0 in
-    let is : sign service_book m.id (node_in m) ≡ quiet (node_in new) (outcome.Signed id.view id.seqno) =
+    let made = (book_sign_ok m.id m.store.ledger 2 m.store.commit s.entry s.made).0 in
+    let view : s.entry.view ≡ 2 = ap (λ (e : Entry). e.view) made in
+    let is : sign (book_of m.settings) m.id (node_in m) ≡ quiet (node_in new) (outcome.Signed id.view id.seqno) =
     sign_chosen m false false h (let t : (m.used == m.reserved) ≡ false = grind (arith, nat_tests) in t) (last_entry_unsigned m h other)
-    ∙ ap (λ (r : Result Entry Unmade). append_signature service_book (node_in m) r) (s.made m.used)
+    ∙ ap (λ (r : Result Entry Unmade). append_signature (book_of m.settings) (node_in m) r) (signs-is m h m.used ∙ s.made)
     ∙ ap (λ (v : ℕ). quiet {E = Entry} {A = Given} {F = Unmade} (record (append_entry (node_in m) s.entry) { used = m.used + 1 }) (outcome.Signed v (length m.store.ledger + 1))) view
     ∙ ap (λ (x : Held). quiet {E = Entry} {A = Given} {F = Unmade} (node_in (record m { store = x; used = m.used + 1 })) (outcome.Signed 2 (length m.store.ledger + 1))) (sym s.enters.entered)
     ∙ ap (λ (t : TxId). quiet {E = Entry} {A = Given} {F = Unmade} (node_in new) (outcome.Signed t.view t.seqno)) (sym s.enters.named) in
-    (is, goes_on m new (sign service_book m.id (node_in m)) _ h refl refl (solo_sign m.settings m.id (node_in m) h.named h.solo) is leaves)
+    let quiet_one : IsNoGovernance s.entry.content = subst (λ (e : Entry). IsNoGovernance e.content) (sym made) tt in
+    let ledger : IsSoloLedger (layers_of m.settings) m.id st.ledger = subst (λ (x : Held). IsSoloLedger (layers_of m.settings) m.id x.ledger) (sym s.enters.entered)
+    (solo-push (layers_of m.settings) m.id m.store.ledger s.entry h.ledger view quiet_one) in
+    let opened : 2 ≤ st.commit = subst (λ (x : Held). 2 ≤ x.commit) (sym s.enters.entered) h.opened in
+    (is, goes_on m st m.reserved (m.used + 1) (event.Sign m.id) (sign (book_of m.settings) m.id) _ h (signed m.settings m.id) is ledger opened leaves)
 
 -- one that isn't made
-pub sign_refused : (m : Machine) (st : Held) (why : Refusal) → IsMachine m → (m.used ≡ m.reserved → ⊥) → (last_signature service_book m.store.ledger ≡ length m.store.ledger → ⊥) →
-    ((leaf : ℕ) → service_book.sign m.id leaf m.store.ledger 2 m.store.commit ≡ Err (ByStore why)) → st ≡ m.store →
+pub sign_refused : (m : Machine) (st : Held) (why : Refusal) → IsMachine m → (m.used ≡ m.reserved → ⊥) → (last_signed m.store.ledger ≡ length m.store.ledger → ⊥) →
+    by_store (sign_result m.id m.store.ledger 2 m.store.commit) ≡ Err (ByStore why) → st ≡ m.store →
     let new = record m { store = st } in
-    (sign service_book m.id (node_in m) ≡ quiet (node_in new) (outcome.Refused (ByLedger (ByStore why)))) × GoesOn m new
+    (sign (book_of m.settings) m.id (node_in m) ≡ quiet (node_in new) (outcome.Refused (ByLedger (ByStore why)))) × GoesOn m new
 unfolding sign_choice
 sign_refused m st why h free other refused same =
     let new : Machine = record m { store = st } in
     let node : node_in m ≡ node_in new = ap (λ (x : Held). node_in (record m { store = x })) (sym same) in
-    let is : sign service_book m.id (node_in m) ≡ quiet (node_in new) (outcome.Refused (ByLedger (ByStore why))) =
+    let is : sign (book_of m.settings) m.id (node_in m) ≡ quiet (node_in new) (outcome.Refused (ByLedger (ByStore why))) =
     sign_chosen m false false h (let t : (m.used == m.reserved) ≡ false = grind (arith, nat_tests) in t) (last_entry_unsigned m h other)
-    ∙ ap (λ (r : Result Entry Unmade). append_signature service_book (node_in m) r) (refused m.used)
+    ∙ ap (λ (r : Result Entry Unmade). append_signature (book_of m.settings) (node_in m) r) (signs-is m h m.used ∙ refused)
     ∙ ap (λ (n : Node Entry). quiet {E = Entry} {A = Given} {F = Unmade} n (outcome.Refused (ByLedger (ByStore why)))) node in
-    (is, goes_on m new (sign service_book m.id (node_in m)) _ h refl refl (solo_sign m.settings m.id (node_in m) h.named h.solo) is h.leaves)
+    (is, goes_on m st m.reserved m.used (event.Sign m.id) (sign (book_of m.settings) m.id) _ h (signed m.settings m.id) is (same_ledger m st h same) (same_opened m st h same) h.leaves)
 
-pub sign_unreserved : (m : Machine) → IsMachine m → m.used ≡ m.reserved → sign service_book m.id (node_in m) ≡ quiet (node_in m) (outcome.Refused (NotReserved m.reserved))
+pub sign_unreserved : (m : Machine) → IsMachine m → m.used ≡ m.reserved → sign (book_of m.settings) m.id (node_in m) ≡ quiet (node_in m) (outcome.Refused (NotReserved m.reserved))
 unfolding sign_choice
-sign_unreserved m h equal = sign_chosen m true (is_signature_in service_book 2 (entry_at m.store.ledger (length m.store.ledger))) h (let t : (m.used == m.reserved) ≡ true = grind (arith, nat_tests) in t) refl
+sign_unreserved m h equal = sign_chosen m true (is_signature_in (book_of m.settings) 2 (entry_at m.store.ledger (length m.store.ledger))) h (let t : (m.used == m.reserved) ≡ true = grind (arith, nat_tests) in t) refl

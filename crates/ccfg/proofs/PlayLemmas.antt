@@ -18,8 +18,9 @@ use Rattle.gl_entry.specs.declared.entry.Entry.{Entry}
 use Rattle.gl_tx.specs.declared.request.Operation.{Operation}
 use Rattle.gl_world.specs.declared.settings.Settings.{Settings}
 use Rattle.gl_world.specs.Founding.{id_of}
-use Rattle.gl_world.specs.World.{ServiceEvent}
-use Rattle.gl_ledger.specs.Book.{Given, Unmade, service_book}
+use Rattle.gl_ledger.specs.Makers.{Given, Unmade}
+use Rattle.gl_ledger.specs.Services.{ServiceEvent}
+use Rattle.gl_world.specs.Group.{book_of}
 use Rattle.gl_world.specs.Single.{IsSingle}
 use Rattle.gl_world.proofs.Ids.{same_itself}
 use Rattle.gl_lines.specs.declared.line.Line.{Line}
@@ -85,24 +86,24 @@ quiet_text s t x step n o is = subst (λ (u : Step Entry Given Unmade).
     )
 
 shows_submit : (s : Settings) (t : Told) (q : List Operation) (n : Node Entry) (o : Outcome Given Unmade) →
-    submit service_book q (t.world.nodes (id_of s 1)) ≡ quiet n o → Shows s t (event.Submit (id_of s 1) q) n o
+    submit (book_of s) q (t.world.nodes (id_of s 1)) ≡ quiet n o → Shows s t (event.Submit (id_of s 1) q) n o
 unfolding happens
-shows_submit s t q n o is = quiet_text s t (id_of s 1) (submit service_book q (t.world.nodes (id_of s 1))) n o is
+shows_submit s t q n o is = quiet_text s t (id_of s 1) (submit (book_of s) q (t.world.nodes (id_of s 1))) n o is
 
 shows_reserve : (s : Settings) (t : Told) (n : Node Entry) (o : Outcome Given Unmade) →
-    reserve service_book (id_of s 1) (t.world.nodes (id_of s 1)) ≡ quiet n o → Shows s t (event.Reserve (id_of s 1)) n o
+    reserve (book_of s) (id_of s 1) (t.world.nodes (id_of s 1)) ≡ quiet n o → Shows s t (event.Reserve (id_of s 1)) n o
 unfolding happens
-shows_reserve s t n o is = quiet_text s t (id_of s 1) (reserve service_book (id_of s 1) (t.world.nodes (id_of s 1))) n o is
+shows_reserve s t n o is = quiet_text s t (id_of s 1) (reserve (book_of s) (id_of s 1) (t.world.nodes (id_of s 1))) n o is
 
 shows_sign : (s : Settings) (t : Told) (n : Node Entry) (o : Outcome Given Unmade) →
-    sign service_book (id_of s 1) (t.world.nodes (id_of s 1)) ≡ quiet n o → Shows s t (event.Sign (id_of s 1)) n o
+    sign (book_of s) (id_of s 1) (t.world.nodes (id_of s 1)) ≡ quiet n o → Shows s t (event.Sign (id_of s 1)) n o
 unfolding happens
-shows_sign s t n o is = quiet_text s t (id_of s 1) (sign service_book (id_of s 1) (t.world.nodes (id_of s 1))) n o is
+shows_sign s t n o is = quiet_text s t (id_of s 1) (sign (book_of s) (id_of s 1) (t.world.nodes (id_of s 1))) n o is
 
 shows_advance : (s : Settings) (t : Told) (n : Node Entry) (o : Outcome Given Unmade) →
-    advance service_book (id_of s 1) (t.world.nodes (id_of s 1)) ≡ quiet n o → Shows s t (event.Advance (id_of s 1)) n o
+    advance (book_of s) (id_of s 1) (t.world.nodes (id_of s 1)) ≡ quiet n o → Shows s t (event.Advance (id_of s 1)) n o
 unfolding happens
-shows_advance s t n o is = quiet_text s t (id_of s 1) (advance service_book (id_of s 1) (t.world.nodes (id_of s 1))) n o is
+shows_advance s t n o is = quiet_text s t (id_of s 1) (advance (book_of s) (id_of s 1) (t.world.nodes (id_of s 1))) n o is
 
 -- what a line tells, by its effect
 by_effect : (t : Told) (line : Line) (old new : Machine) (a : LineAnswer) (e : Effect) → effect_of old.settings t line ≡ e →
@@ -115,49 +116,49 @@ by_effect t line old new a e is text node = record {
 
 -- the machine's step at its node in the world
 pub tells_submit : (t : Told) (old new : Machine) (node : ℕ) (q : List Operation) (o : outcomes.Outcome) → IsMachine old → node ≡ 1 → IsIn t old →
-    Steps (submit service_book q (node_in old)) new o → Tells t (lines.Submit node q) old new (answer.Event o)
+    Steps (submit (book_of old.settings) q (node_in old)) new o → Tells t (lines.Submit node q) old new (answer.Event o)
 tells_submit t old new node q o m one is_in step =
-    let shown = shows_submit old.settings t q (node_in new) (rules_outcome o) (ap (λ (n : Node Entry). submit service_book q n) is_in ∙ step) in
+    let shown = shows_submit old.settings t q (node_in new) (rules_outcome o) (ap (λ (n : Node Entry). submit (book_of old.settings) q n) is_in ∙ step) in
     by_effect t (lines.Submit node q) old new (answer.Event o) (Happens (event.Submit (id_of old.settings 1) q))
     (at_first old.settings m.single node one (λ x. Happens (event.Submit x q))) shown.0 shown.1
 
 pub tells_reserve : (t : Told) (old new : Machine) (node : ℕ) (o : outcomes.Outcome) → IsMachine old → node ≡ 1 → IsIn t old →
-    Steps (reserve service_book old.id (node_in old)) new o → Tells t (lines.Reserve node) old new (answer.Event o)
+    Steps (reserve (book_of old.settings) old.id (node_in old)) new o → Tells t (lines.Reserve node) old new (answer.Event o)
 tells_reserve t old new node o m one is_in step =
     let shown = shows_reserve old.settings t (node_in new) (rules_outcome o) (
-    ap (λ (n : Node Entry). reserve service_book (id_of old.settings 1) n) is_in
-    ∙ ap (λ (x : List ℕ). reserve service_book x (node_in old)) (sym m.named) ∙ step
+    ap (λ (n : Node Entry). reserve (book_of old.settings) (id_of old.settings 1) n) is_in
+    ∙ ap (λ (x : List ℕ). reserve (book_of old.settings) x (node_in old)) (sym m.named) ∙ step
     ) in
     by_effect t (lines.Reserve node) old new (answer.Event o) (Happens (event.Reserve (id_of old.settings 1)))
     (at_first old.settings m.single node one (λ x. Happens (event.Reserve x))) shown.0 shown.1
 
 pub tells_sign : (t : Told) (old new : Machine) (node : ℕ) (o : outcomes.Outcome) → IsMachine old → node ≡ 1 → IsIn t old →
-    Steps (sign service_book old.id (node_in old)) new o → Tells t (lines.Sign node) old new (answer.Event o)
+    Steps (sign (book_of old.settings) old.id (node_in old)) new o → Tells t (lines.Sign node) old new (answer.Event o)
 tells_sign t old new node o m one is_in step =
     let shown = shows_sign old.settings t (node_in new) (rules_outcome o) (
-    ap (λ (n : Node Entry). sign service_book (id_of old.settings 1) n) is_in
-    ∙ ap (λ (x : List ℕ). sign service_book x (node_in old)) (sym m.named) ∙ step
+    ap (λ (n : Node Entry). sign (book_of old.settings) (id_of old.settings 1) n) is_in
+    ∙ ap (λ (x : List ℕ). sign (book_of old.settings) x (node_in old)) (sym m.named) ∙ step
     ) in
     by_effect t (lines.Sign node) old new (answer.Event o) (Happens (event.Sign (id_of old.settings 1)))
     (at_first old.settings m.single node one (λ x. Happens (event.Sign x))) shown.0 shown.1
 
 pub tells_advance : (t : Told) (old new : Machine) (node : ℕ) (o : outcomes.Outcome) → IsMachine old → node ≡ 1 → IsIn t old →
-    Steps (advance service_book old.id (node_in old)) new o → Tells t (lines.Advance node) old new (answer.Event o)
+    Steps (advance (book_of old.settings) old.id (node_in old)) new o → Tells t (lines.Advance node) old new (answer.Event o)
 tells_advance t old new node o m one is_in step =
     let shown = shows_advance old.settings t (node_in new) (rules_outcome o) (
-    ap (λ (n : Node Entry). advance service_book (id_of old.settings 1) n) is_in
-    ∙ ap (λ (x : List ℕ). advance service_book x (node_in old)) (sym m.named) ∙ step
+    ap (λ (n : Node Entry). advance (book_of old.settings) (id_of old.settings 1) n) is_in
+    ∙ ap (λ (x : List ℕ). advance (book_of old.settings) x (node_in old)) (sym m.named) ∙ step
     ) in
     by_effect t (lines.Advance node) old new (answer.Event o) (Happens (event.Advance (id_of old.settings 1)))
     (at_first old.settings m.single node one (λ x. Happens (event.Advance x))) shown.0 shown.1
 
 -- and what it answers a question
 pub tells_status : (t : Told) (m : Machine) (node : ℕ) (id : TxId) (status : Status) → IsMachine m → node ≡ 1 → IsIn t m →
-    status ≡ reported_status service_book (node_in m) id → Tells t (lines.Status node id) m m (answer.Status status)
+    status ≡ reported_status (book_of m.settings) (node_in m) id → Tells t (lines.Status node id) m m (answer.Status status)
 tells_status t m node id status machine one is_in is =
-    by_effect t (lines.Status node id) m m (answer.Status status) (Answers (status_text (reported_status service_book (t.world.nodes (id_of m.settings 1)) id)))
-    (at_first m.settings machine.single node one (λ x. Answers (status_text (reported_status service_book (t.world.nodes x) id))))
-    (ap (λ (n : Node Entry). next_text t (status_text (reported_status service_book n id))) is_in ∙ ap (λ (k : Status). next_text t (status_text k)) (sym is)) is_in
+    by_effect t (lines.Status node id) m m (answer.Status status) (Answers (status_text (reported_status (book_of m.settings) (t.world.nodes (id_of m.settings 1)) id)))
+    (at_first m.settings machine.single node one (λ x. Answers (status_text (reported_status (book_of m.settings) (t.world.nodes x) id))))
+    (ap (λ (n : Node Entry). next_text t (status_text (reported_status (book_of m.settings) n id))) is_in ∙ ap (λ (k : Status). next_text t (status_text k)) (sym is)) is_in
 
 pub tells_ids : (t : Told) (m : Machine) (node : ℕ) → IsMachine m → node ≡ 1 → IsIn t m → Tells t (lines.Ids node) m m answer.Ids
 tells_ids t m node machine one is_in =

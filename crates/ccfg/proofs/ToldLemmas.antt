@@ -5,8 +5,9 @@ use Rattle.std.proofs.Math.Seq.{take-append_seam}
 use Rattle.std.proofs.lemmas.List.Sums.{fold-append}
 use Rattle.gl_rules.specs.World.{begin, after, happens, run}
 use Rattle.gl_world.specs.declared.settings.Settings.{Settings}
-use Rattle.gl_world.specs.World.{ServiceEvent, ServiceWorld, start_of}
-use Rattle.gl_ledger.specs.Book.{service_book}
+use Rattle.gl_ledger.specs.Services.{ServiceEvent}
+use Rattle.gl_world.specs.Group.{book_of}
+use Rattle.gl_world.specs.World.{ServiceWorld, start_of}
 use Rattle.gl_lines.specs.declared.line.Line.{Line}
 use Rattle.ccfg.specs.Moments.{IsToldInMoments}
 use Rattle.ccfg.specs.Told.{Told, Effect, Happens, Answers, effect_of, told, told_at_start, told_effect, told_of}
@@ -77,16 +78,16 @@ on_lines s lines k =
 
 -- the world is that of the events
 abbrev IsMade : Settings → Told → Type 0
-IsMade s t = t.world ≡ after service_book (start_of s) t.events
+IsMade s t = t.world ≡ after (book_of s) (start_of s) t.events
 
-one_event_more : (es : List ServiceEvent) (e : ServiceEvent) (w : ServiceWorld) → run service_book (es ++ e ∷ []) w ≡ (happens service_book (run service_book es w) e).world
+pub one_event_more : (s : Settings) (es : List ServiceEvent) (e : ServiceEvent) (w : ServiceWorld) → run (book_of s) (es ++ e ∷ []) w ≡ (happens (book_of s) (run (book_of s) es w) e).world
 unfolding run
-one_event_more [] e w = refl
-one_event_more (f ∷ es) e w = one_event_more es e (happens service_book w f).world
+one_event_more s [] e w = refl
+one_event_more s (f ∷ es) e w = one_event_more s es e (happens (book_of s) w f).world
 
 made_effect : (s : Settings) (t : Told) (e : Effect) → IsMade s t → IsMade s (told_effect s t e)
 made_effect s t (Happens e) made =
-    ap (λ (w : ServiceWorld). (happens service_book w e).world) made ∙ sym (one_event_more t.events e (begin (start_of s)))
+    ap (λ (w : ServiceWorld). (happens (book_of s) w e).world) made ∙ sym (one_event_more s t.events e (begin (start_of s)))
 made_effect s t (Answers text) made = made
 
 made_fold : (s : Settings) (t : Told) (lines : List Line) → IsMade s t → IsMade s (fold (told s) t lines)
@@ -108,5 +109,5 @@ told_in_moments s lines k =
     let here = (told_of s (take k lines)).events in (
       length here,
       made s (take k lines)
-          ∙ ap (after service_book (start_of s)) (sym (take-append_seam here on.later) ∙ ap (take (length here)) (sym on.events)),
+          ∙ ap (after (book_of s) (start_of s)) (sym (take-append_seam here on.later) ∙ ap (take (length here)) (sym on.events)),
     )

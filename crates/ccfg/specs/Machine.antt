@@ -1,14 +1,17 @@
 -- The program's node as the rules of consensus see it.
-use Rattle.std.specs.Prelude.{◌≡◌, ◌≤◌, [], None, Some}
+use Rattle.std.specs.Prelude.{◌≡◌, ◌≤◌, List, [], None, Some}
 use Rattle.gl_rules.specs.Node.{Node, Leader}
 use Rattle.gl_rules.specs.Outcome as outcome
 use Rattle.gl_rules.specs.Outcome.{Step, quiet}
+use Rattle.gl_rules.specs.Safety.{node_after}
 use Rattle.gl_entry.specs.declared.entry.Entry.{Entry}
 use Rattle.gl_world.specs.Founding.{id_of}
+use Rattle.gl_world.specs.Group.{layers_of, book_of}
 use Rattle.gl_world.specs.Single.{IsSingle}
-use Rattle.gl_world.specs.Solo.{IsSolo}
-use Rattle.gl_world.specs.World.{ServiceOutcome}
-use Rattle.gl_ledger.specs.Book.{Given, Replied, Unmade, ByStore}
+use Rattle.gl_world.specs.Solo.{IsSoloLedger}
+use Rattle.gl_world.specs.World.{ServiceOutcome, start_of}
+use Rattle.gl_ledger.specs.Makers.{Given, Replied, Unmade, ByStore}
+use Rattle.gl_ledger.specs.Services.{ServiceEvent}
 use Rattle.ccfg.specs.declared.machine.Machine.{Machine}
 use Rattle.ccfg.specs.declared.outcome.Outcome.{Outcome}
 use Rattle.ccfg.specs.declared.outcome.Outcome.TheVariants as outcomes
@@ -52,11 +55,15 @@ rules_outcome (outcomes.Refused why) = outcome.Refused (rules_refusal why)
 abbrev pub Steps : Step Entry Given Unmade → Machine → Outcome → Type 0
 Steps step new o = step ≡ quiet (node_in new) (rules_outcome o)
 
--- What holds of the machine at every moment.
+-- What holds of the machine at every moment: it is the one node of its service, as some events make
+-- it.
 pub record IsMachine (m : Machine) : Type 0 where
   pub single : IsSingle m.settings
   pub named : m.id ≡ id_of m.settings 1
-  pub solo : IsSolo m.settings (node_in m)
+  pub events : List ServiceEvent
+  pub reached : node_after (book_of m.settings) (start_of m.settings) events m.id ≡ node_in m
+  pub ledger : IsSoloLedger (layers_of m.settings) m.id m.store.ledger
+  pub opened : 2 ≤ m.store.commit
   pub leaves : m.used ≤ m.reserved
 
 -- Later, with the same settings.

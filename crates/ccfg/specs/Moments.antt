@@ -2,9 +2,10 @@
 use Rattle.std.specs.Prelude.{◌≡◌, ℕ, List, Result, Ok, Err, take}
 use Rattle.gl_rules.specs.World.{after}
 use Rattle.gl_world.specs.declared.settings.Settings.{Settings}
+use Rattle.gl_ledger.specs.Services.{ServiceEvent}
+use Rattle.gl_world.specs.Group.{book_of}
 use Rattle.gl_world.specs.Headline.{Headline}
-use Rattle.gl_world.specs.World.{ServiceEvent, ServiceWorld, start_of}
-use Rattle.gl_ledger.specs.Book.{service_book}
+use Rattle.gl_world.specs.World.{ServiceWorld, start_of}
 use Rattle.gl_lines.specs.declared.fault.ScheduleFault.{ScheduleFault}
 use Rattle.gl_lines.specs.declared.line.Line.{Line}
 use Rattle.ccfg.specs.declared.schedule.Schedule.{Schedule}
@@ -13,7 +14,7 @@ use Rattle.ccfg.specs.Told.{told_of}
 
 -- A world that the service comes to by some of these events, from the first on.
 abbrev pub IsMoment : Settings → List ServiceEvent → ServiceWorld → Type 0
-IsMoment s events w = (i : ℕ) × (w ≡ after service_book (start_of s) (take i events))
+IsMoment s events w = (i : ℕ) × (w ≡ after (book_of s) (start_of s) (take i events))
 
 -- After any number of lines, the world is one that the service comes to by some front of the events
 -- of all lines.

@@ -6,8 +6,9 @@ use Rattle.gl_rules.specs.World as event
 use Rattle.gl_rules.specs.Safety.{reported_status}
 use Rattle.gl_world.specs.declared.settings.Settings.{Settings}
 use Rattle.gl_world.specs.Founding.{id_of}
-use Rattle.gl_world.specs.World.{ServiceEvent, ServiceWorld, start_of}
-use Rattle.gl_ledger.specs.Book.{service_book}
+use Rattle.gl_ledger.specs.Services.{ServiceEvent}
+use Rattle.gl_world.specs.Group.{book_of}
+use Rattle.gl_world.specs.World.{ServiceWorld, start_of}
 use Rattle.gl_lines.specs.declared.line.Line.{Line}
 use Rattle.gl_lines.specs.declared.line.Line.TheVariants as lines
 use Rattle.ccfg.specs.declared.schedule.Schedule.{Schedule}
@@ -51,7 +52,8 @@ effect_of s t (lines.Reserve node) = at_node s node (λ x. Happens (event.Reserv
 effect_of s t (lines.Sign node) = at_node s node (λ x. Happens (event.Sign x))
 effect_of s t (lines.Advance node) = at_node s node (λ x. Happens (event.Advance x))
 effect_of s t (lines.Status node id) =
-    at_node s node (λ x. Answers (status_text (reported_status service_book (t.world.nodes x) id)))
+    at_node s node (λ x.
+    Answers (status_text (reported_status (book_of s) (t.world.nodes x) id)))
 effect_of s t (lines.Ids node) =
     at_node s node (λ x. Answers (ids_text (committed_entries (t.world.nodes x))))
 effect_of s t (lines.Ledger node) =
@@ -65,7 +67,7 @@ next_text t text = t.text ++ numbered (suc t.lines) text
 -- told alone.
 abbrev pub told_effect : Settings → Told → Effect → Told
 told_effect s t (Happens e) =
-    let done = happens service_book t.world e in
+    let done = happens (book_of s) t.world e in
     record {
       lines = suc t.lines;
       world = done.world;

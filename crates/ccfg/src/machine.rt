@@ -34,10 +34,10 @@ impl Machine {
     ghost use Rattle.gl_rules.specs.Replication.{advance};
     ghost use Rattle.gl_rules.specs.Safety.{reported_status};
     ghost use Rattle.gl_rules.specs.World.{leader_at_start};
+    ghost use Rattle.gl_world.specs.Group.{book_of};
     ghost use Rattle.gl_world.specs.Single.{IsSingle};
     ghost use Rattle.gl_lines.specs.Nodes.{node_of};
     ghost use Rattle.gl_world.specs.World.{start_of};
-    ghost use Rattle.gl_ledger.specs.Book.{service_book};
     ghost use Rattle.ccfg.specs.Play.{IsIn, Tells};
     ghost use Rattle.ccfg.specs.Told.{Told};
     ghost use Rattle.ccfg.specs.Machine.{IsMachine, GoesOn, Steps, node_in};
@@ -66,7 +66,8 @@ impl Machine {
     pub fn submit(&mut self, request: &Request) -> Result<Outcome, AllocError>
         requires { IsMachine self.old }
         ensures steps { IfOk result (λ outcome.
-            Steps (submit service_book request.now (node_in self.old)) self.new outcome) }
+            Steps (submit (book_of self.old.settings) request.now (node_in self.old))
+            self.new outcome) }
         ensures goes_on { OnOk result (GoesOn self.old self.new) }
     {
         match self.store.execute(VIEW, request) {
@@ -79,7 +80,8 @@ impl Machine {
     /// One more reserved leaf.
     pub fn reserve(&mut self) -> Outcome
         requires { IsMachine self.old }
-        ensures steps { Steps (reserve service_book self.old.id (node_in self.old)) self.new result }
+        ensures steps { Steps (reserve (book_of self.old.settings) self.old.id (node_in self.old))
+            self.new result }
         ensures goes_on { GoesOn self.old self.new }
     {
         if self.reserved >= LEAVES {
@@ -93,7 +95,8 @@ impl Machine {
     pub fn sign(&mut self) -> Result<Outcome, AllocError>
         requires { IsMachine self.old }
         ensures steps { IfOk result (λ outcome.
-            Steps (sign service_book self.old.id (node_in self.old)) self.new outcome) }
+            Steps (sign (book_of self.old.settings) self.old.id (node_in self.old))
+            self.new outcome) }
         ensures goes_on { OnOk result (GoesOn self.old self.new) }
     {
         if self.used >= self.reserved {
@@ -116,7 +119,8 @@ impl Machine {
     /// Commits what is signed: the node alone is a majority.
     pub fn advance(&mut self) -> Outcome
         requires { IsMachine self.old }
-        ensures steps { Steps (advance service_book self.old.id (node_in self.old)) self.new result }
+        ensures steps { Steps (advance (book_of self.old.settings) self.old.id (node_in self.old))
+            self.new result }
         ensures goes_on { GoesOn self.old self.new }
     {
         let place = self.store.last_signature();
@@ -132,7 +136,7 @@ impl Machine {
 
     /// The status of a transaction.
     pub fn status(&self, id: TxId) -> Status
-        ensures { result ≡ reported_status service_book (node_in self.now) id }
+        ensures { result ≡ reported_status (book_of self.now.settings) (node_in self.now) id }
     {
         self.store.status(id)
     }

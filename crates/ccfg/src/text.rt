@@ -7,7 +7,7 @@ ghost use Rattle.gl_entry.specs.Entry.{is_entry};
 ghost use Rattle.ccfg.specs.Text.{value_text, answer_text, answers_behind, answers_text, refusal_text, outcome_text, status_text, with_numbers, numbered, unmade_text, id_text, ids_text, entry_text, ledger_text};
 ghost use Rattle.ccfg.specs.LineAnswers.{line_answer_text};
 ghost use Rattle.ccfg.specs.Machine.{node_in, rules_outcome, rules_refusal};
-ghost use Rattle.gl_ledger.specs.Book.{ByStore};
+ghost use Rattle.gl_ledger.specs.Makers.{ByStore};
 ghost use Rattle.gl_world.specs.declared.settings.Settings.{Settings};
 
 use crate::machine::Machine;

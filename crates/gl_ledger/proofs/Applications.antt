@@ -23,10 +23,9 @@ use Rattle.gl_entry.specs.declared.entry.Entry.{Entry}
 use Rattle.gl_ledger.specs.Genesis.{service_map, service_key}
 use Rattle.gl_ledger.specs.Effect.{service_state, state_of_value}
 use Rattle.gl_ledger.specs.Tree.{tables_of}
-use Rattle.gl_ledger.specs.Serial.{IsSound, IsApplicationEntry}
-use Rattle.gl_rules.specs.Safety.{ViewsUpTo}
-use Rattle.gl_ledger.specs.Ledger.{application_entry, execute_result, execute_in, run_result, within_limits}
-use Rattle.gl_ledger.specs.Book.{service_book, with_reply, request_result, Given, Replied, Unmade, ByStore, Unspelled}
+use Rattle.gl_ledger.specs.Serial.{IsSerialRun, IsApplicationEntry}
+use Rattle.gl_ledger.specs.Ledger.{HasViewsUpTo, application_entry, execute_result, execute_in, run_result, within_limits}
+use Rattle.gl_ledger.specs.Makers.{with_reply, request_result, Given, Replied, Governed, Unmade, ByStore, Unspelled}
 use Rattle.gl_ledger.specs.declared.genesis.ServiceState.{ServiceState}
 use Rattle.gl_ledger.specs.declared.genesis.ServiceState.TheVariants.{Opening, Open}
 use Rattle.gl_ledger.specs.declared.refusal.Refusal.{Refusal}
@@ -106,7 +105,7 @@ execute_ok ledger view q e a h = go (service_state (tables_of ledger)) refl h
     go Opening is p = absurd (cc)
     go Open is p = let r = ran_ok (run q (tables_of ledger)) p in (is, r.0, r.1, r.2, r.3, r.4, r.5, r.6)
 
-application_stands : (ledger : List Entry) (view : ℕ) (q : List Operation) (ran : Ran) → IsSound ledger → is_request q ≡ true → service_state (tables_of ledger) ≡ Open →
+application_stands : (ledger : List Entry) (view : ℕ) (q : List Operation) (ran : Ran) → IsSerialRun ledger → is_request q ≡ true → service_state (tables_of ledger) ≡ Open →
     run q (tables_of ledger) ≡ Ok ran → (bytes : List ℕ) → bytes ≡ request_bytes q → IsApplicationEntry ledger (application_entry ledger view q ran) bytes
 application_stands ledger view q ran sound fits is_open runs bytes spelled = record {
   requests = sound.governed.requests;
@@ -122,11 +121,11 @@ application_stands ledger view q ran sound fits is_open runs bytes spelled = rec
 }
 
 -- the entry of a request that ran keeps the ledger sound
-pub application_sound : (ledger : List Entry) (view : ℕ) (q : List Operation) (e : Entry) (a : List Answer) → IsSound ledger →
-    ViewsUpTo service_book view ledger → is_request q ≡ true → execute_result ledger view q ≡ Ok (e, a) → is_entry e ≡ true → IsSound (ledger ++ e ∷ [])
+pub application_sound : (ledger : List Entry) (view : ℕ) (q : List Operation) (e : Entry) (a : List Answer) → IsSerialRun ledger →
+    HasViewsUpTo view ledger → is_request q ≡ true → execute_result ledger view q ≡ Ok (e, a) → is_entry e ≡ true → IsSerialRun (ledger ++ e ∷ [])
 application_sound ledger view q e a sound up fits h entry =
     let made = execute_ok ledger view q e a h in
-    subst (λ (x : Entry). IsSound (ledger ++ x ∷ [])) (sym made.3)
+    subst (λ (x : Entry). IsSerialRun (ledger ++ x ∷ [])) (sym made.3)
     (sound-push ledger (application_entry ledger view q made.1) sound (subst (λ (x : Entry). is_entry x ≡ true) made.3 entry) refl up
     (application_stands ledger view q made.1 sound fits made.0 made.2 _ refl) tt
     (run_outside q (tables_of ledger) made.1 made.2))
@@ -168,7 +167,7 @@ made_within ledger view seqno q ran reply body e is_open runs made at spelled si
     execute_within ledger view q ran e is_open runs (application_made ledger view seqno q ran reply e made at spelled)
     (subst (λ (xs : List ℕ). length xs ≤ body_limit) sized small) (subst (λ (xs : List ℕ). length xs ≤ body_limit) spelled short) (omega (arith, at, named))
 
--- ---- the same of the book
+-- ---- the same in the book's words
 
 -- a request that bytes spell
 pub request_spelled : (ledger : List Entry) (view : ℕ) (q : List Operation) → is_request q ≡ true →
@@ -187,7 +186,7 @@ request_refused ledger view q why fits refused = request_spelled ledger view q f
 abbrev replying : Entry → List Answer → Result (Entry × Given) Unmade
 replying e a = Ok (e, Replied a)
 
--- what the book makes of a request is what the ledger makes of it
+-- what an application request makes in the book's words is what the ledger makes of it
 pub request_ok : (ledger : List Entry) (view : ℕ) (q : List Operation) (e : Entry) (a : List Answer) →
     request_result ledger view q ≡ Ok (e, Replied a) → (is_request q ≡ true) × (execute_result ledger view q ≡ Ok (e, a))
 request_ok ledger view q e a h = go (is_request q) refl (execute_result ledger view q) refl h

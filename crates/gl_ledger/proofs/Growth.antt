@@ -6,11 +6,10 @@ use Rattle.gl_vmaps.specs.Name.{is_governance}
 use Rattle.gl_base.specs.Bytes.{same_bytes}
 use Rattle.gl_vmaps.specs.Tables.{Tables, wrote, wrote_all, with_row}
 use Rattle.gl_ledger.specs.Effect.{Recorded, RecordsAt, RecordsFrom}
-use Rattle.gl_ledger.specs.Serial.{IsLedger, IsSerial, IsGoverned, IsSound, StandsAs}
+use Rattle.gl_ledger.specs.Serial.{IsLedger, IsSerial, IsGoverned, IsSerialRun, StandsAs}
 use Rattle.gl_ledger.specs.Tree.{tables_of}
-use Rattle.gl_rules.specs.Safety.{ViewsUpTo}
 use Rattle.gl_entry.specs.Entry.{is_entry}
-use Rattle.gl_ledger.specs.Book.{service_book}
+use Rattle.gl_ledger.specs.Ledger.{HasViewsUpTo}
 use Rattle.gl_entry.specs.declared.entry.Content.{Content}
 use Rattle.gl_entry.specs.declared.entry.Content.TheVariants as content
 use Rattle.gl_entry.specs.declared.entry.Entry.{Entry}
@@ -62,7 +61,7 @@ records-push place (f ∷ es) e rs none h =
     (λ rest. records-push (suc place) es e rest none) h
 
 pub in_order-push : (ledger : List Entry) (e : Entry) → IsLedger ledger → is_entry e ≡ true → e.seqno ≡ suc (length ledger) →
-    ViewsUpTo service_book e.view ledger → IsLedger (ledger ++ e ∷ [])
+    HasViewsUpTo e.view ledger → IsLedger (ledger ++ e ∷ [])
 in_order-push ledger e h fits at up = record {
   fits = λ i f s. ⊎_elim
       (λ (old : slice_get ledger i ≡ Some f). h.fits i f old)
@@ -103,9 +102,9 @@ governed-push ledger e h none out = record {
       ap (λ (t : Tables). t map) (tables_of-push ledger e) ∙ untouched (tables_of ledger) e.writes map out inside ∙ h.rows map inside;
 }
 
-pub sound-push : (ledger : List Entry) (e : Entry) → IsSound ledger → is_entry e ≡ true → e.seqno ≡ length ledger + 1 →
-    ViewsUpTo service_book e.view ledger → StandsAs e.content ledger e → IsNoGovernance e.content → AllByRecursion IsOutside e.writes →
-    IsSound (ledger ++ e ∷ [])
+pub sound-push : (ledger : List Entry) (e : Entry) → IsSerialRun ledger → is_entry e ≡ true → e.seqno ≡ length ledger + 1 →
+    HasViewsUpTo e.view ledger → StandsAs e.content ledger e → IsNoGovernance e.content → AllByRecursion IsOutside e.writes →
+    IsSerialRun (ledger ++ e ∷ [])
 sound-push ledger e h fits at up stands none out = record {
   in_order = in_order-push ledger e h.in_order fits (omega (arith, at)) up;
   serial = serial-push ledger e h.serial stands;

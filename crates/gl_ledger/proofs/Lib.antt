@@ -13,7 +13,6 @@ pub mod Roots
 pub mod RequestBytes
 pub mod Fitting
 pub mod GenesisEntries
-pub mod NodesLaws
 pub mod Founding
 pub mod Bodies
 pub mod Passing

@@ -10,7 +10,7 @@ use Rattle.gl_entry.specs.Entry.{is_entry}
 use Rattle.gl_entry.specs.declared.entry.Entry.{Entry}
 use Rattle.gl_ledger.specs.Genesis.{genesis_bytes, genesis_rows, genesis_writes, constitution_rows, row, dealing_map, dealing_key, dealing_bytes, member_row, node_row, node_rows, service_row, service_map, service_key, write_set, state_byte, is_acceptable, is_genesis}
 use Rattle.gl_ledger.specs.Effect.{state_of_value, service_state, identity_of_value, identity_in}
-use Rattle.gl_ledger.specs.Serial.{IsSound, IsGovernanceEntry, StandsAs}
+use Rattle.gl_ledger.specs.Serial.{IsSerialRun, IsGovernanceEntry, StandsAs}
 use Rattle.gl_ledger.specs.Tree.{tables_of}
 use Rattle.gl_ledger.specs.Ledger.{genesis_entry, signature_entry, opening_ledger}
 use Rattle.gl_ledger.specs.declared.genesis.NewMember.{NewMember}
@@ -83,7 +83,7 @@ genesis_stands g acceptable fits = record {
   claims = refl;
 }
 
-pub genesis_sound : (g : request.Genesis) → is_acceptable g ≡ true → is_genesis g ≡ true → is_entry (genesis_entry g) ≡ true → IsSound (genesis_entry g ∷ [])
+pub genesis_sound : (g : request.Genesis) → is_acceptable g ≡ true → is_genesis g ≡ true → is_entry (genesis_entry g) ≡ true → IsSerialRun (genesis_entry g ∷ [])
 genesis_sound g acceptable fits entry = record {
   in_order = record { fits = entries; seqnos = places; views = views };
   serial = serial;
@@ -112,7 +112,7 @@ genesis_sound g acceptable fits entry = record {
     serial (suc i) e s = absurd (cc)
 
 pub opening_sound : (g : request.Genesis) (node : List ℕ) → is_acceptable g ≡ true → is_genesis g ≡ true → is_entry (genesis_entry g) ≡ true →
-    is_entry (signature_entry node (genesis_entry g ∷ []) 2 2) ≡ true → IsSound (opening_ledger g node)
+    is_entry (signature_entry node (genesis_entry g ∷ []) 2 2) ≡ true → IsSerialRun (opening_ledger g node)
 opening_sound g node acceptable fits entry signature =
     sound-push (genesis_entry g ∷ []) (signature_entry node (genesis_entry g ∷ []) 2 2)
     (genesis_sound g acceptable fits entry) signature refl up (record { writes_nothing = (refl, refl); root = refl }) tt tt

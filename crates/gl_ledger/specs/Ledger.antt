@@ -1,5 +1,5 @@
 -- The entries that are made of requests behind a ledger, and why none is made.
-use Rattle.std.specs.Prelude.{ℕ, ◌+◌, List, [], ◌∷◌, Result, Ok, Err, length, nat_lt, if◌then◌else◌}
+use Rattle.std.specs.Prelude.{◌≡◌, ℕ, ◌+◌, ◌≤◌, List, [], ◌∷◌, Some, Result, Ok, Err, length, nat_lt, slice_get, if◌then◌else◌}
 use Rattle.sha2.specs.Sha256.{sha256}
 use Rattle.gl_merkle.specs.Tree.{root_of}
 use Rattle.gl_base.specs.TxId.{last_seqno}
@@ -49,6 +49,11 @@ signature_entry node ledger view commit = record {
 -- The opening ledger: the genesis, and the first signature, which records its own seqno.
 abbrev pub opening_ledger : request.Genesis → List ℕ → List Entry
 opening_ledger g node = genesis_entry g ∷ signature_entry node (genesis_entry g ∷ []) 2 2 ∷ []
+
+-- No entry has a view above this one.
+abbrev pub HasViewsUpTo : ℕ → List Entry → Type 0
+HasViewsUpTo view ledger =
+    (i : ℕ) (e : Entry) → slice_get ledger i ≡ Some e → e.view ≤ view
 
 -- The entry of a request that ran behind a ledger.
 abbrev pub application_entry : List Entry → ℕ → List Operation → Ran → Entry

@@ -3,8 +3,6 @@ pub mod Effect
 pub mod Tree
 pub mod Serial
 pub mod Ledger
-pub mod Nodes
-pub mod Book
 pub mod Signed
 pub mod Layers
 pub mod Recordings

@@ -91,9 +91,9 @@ pub record IsGoverned (ledger : List Entry) : Type 0 where
   pub recorded : Records ledger requests
   pub rows : (map : List ℕ) → is_governance map ≡ true → tables_of ledger map ≡ effect requests map
 
--- What is said of each ledger of the service: it is in order, one serial run, and its governance
--- tables are the effect of its governance requests.
-pub record IsSound (ledger : List Entry) : Type 0 where
+-- What is said of each ledger that a store makes, whatever it was asked for: it is in order, one
+-- serial run, and its governance tables are the effect of its governance requests.
+pub record IsSerialRun (ledger : List Entry) : Type 0 where
   pub in_order : IsLedger ledger
   pub serial : IsSerial ledger
   pub governed : IsGoverned ledger

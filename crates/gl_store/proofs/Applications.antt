@@ -14,7 +14,7 @@ use Rattle.gl_entry.specs.declared.entry.Entry.{Entry}
 use Rattle.gl_ledger.specs.Effect.{service_state}
 use Rattle.gl_ledger.specs.Tree.{tables_of}
 use Rattle.gl_ledger.specs.Ledger.{execute_result, execute_in, run_result}
-use Rattle.gl_ledger.specs.Book.{request_result}
+use Rattle.gl_ledger.specs.Makers.{request_result}
 use Rattle.gl_ledger.specs.declared.genesis.ServiceState.{ServiceState}
 use Rattle.gl_ledger.specs.declared.genesis.ServiceState.TheVariants.{Open}
 use Rattle.gl_ledger.specs.declared.refusal.Refusal.{Refusal}

@@ -17,12 +17,10 @@ use Rattle.gl_entry.specs.Leaf.{leaf_of}
 use Rattle.gl_entry.specs.declared.entry.Entry.{Entry}
 use Rattle.gl_ledger.specs.Genesis.{service_map, service_key, is_acceptable, is_genesis}
 use Rattle.gl_ledger.specs.Effect.{service_state, state_of_value, identity_in, identity_of_value}
-use Rattle.gl_ledger.specs.Serial.{IsLedger, IsSound}
+use Rattle.gl_ledger.specs.Serial.{IsLedger, IsSerialRun}
 use Rattle.gl_ledger.specs.Tree.{writes_of, tables_of, leaves_of}
-use Rattle.gl_rules.specs.Log.{last_signature}
-use Rattle.gl_rules.specs.Safety.{ViewsUpTo}
-use Rattle.gl_ledger.specs.Ledger.{genesis_entry, signature_entry, opening_ledger, execute_result}
-use Rattle.gl_ledger.specs.Book.{service_book}
+use Rattle.gl_ledger.specs.Ledger.{HasViewsUpTo, genesis_entry, signature_entry, opening_ledger, execute_result}
+use Rattle.gl_ledger.specs.Broken.{last_signed}
 use Rattle.gl_store.specs.Kept.{Beside, IsTreeOf, IsKept}
 use Rattle.gl_ledger.specs.declared.genesis.Genesis as request
 use Rattle.gl_ledger.proofs.Signatures.{last_signature-push, last_signature-signed, signed_up_to-push}
@@ -70,8 +68,8 @@ pub record HasWritten (old : kept.Kept) (e : Entry) (new : kept.Kept) : Type 0 w
 
 -- an entry that keeps the ledger sound and is none of governance, with its writes and its leaf
 pub kept-push : (ledger items : List Entry) (b : Beside) (e : Entry) (tables : kept.Kept) (frontier : frontiers.Content) (last : ℕ) →
-    IsKept ledger b → IsSound (ledger ++ e ∷ []) → length ledger < last_seqno → AllByRecursion IsOutside e.writes →
-    last ≡ last_signature service_book (ledger ++ e ∷ []) → items ≡ ledger ++ e ∷ [] → HasWritten b.tables e tables →
+    IsKept ledger b → IsSerialRun (ledger ++ e ∷ []) → length ledger < last_seqno → AllByRecursion IsOutside e.writes →
+    last ≡ last_signed (ledger ++ e ∷ []) → items ≡ ledger ++ e ∷ [] → HasWritten b.tables e tables →
     frontiers.HasLeaves b.frontier frontier (b.frontier.leaves ++ leaf_of b.identity e ∷ []) →
     IsKept items (record b { last_signature = last; tables = tables; frontier = frontier })
 kept-push ledger items b e tables frontier last k sound left out is pushed written grown =
@@ -91,7 +89,7 @@ kept-push ledger items b e tables frontier last k sound left out is pushed writt
 
 -- an application entry
 pub kept_with_application : (ledger items : List Entry) (b : Beside) (view : ℕ) (q : List Operation) (e : Entry) (a : List Answer) (leaf : List ℕ)
-    (tables : kept.Kept) (frontier : frontiers.Content) → IsKept ledger b → ViewsUpTo service_book view ledger → is_request q ≡ true → execute_result ledger view q ≡ Ok (e, a) →
+    (tables : kept.Kept) (frontier : frontiers.Content) → IsKept ledger b → HasViewsUpTo view ledger → is_request q ≡ true → execute_result ledger view q ≡ Ok (e, a) →
     is_entry e ≡ true → leaf ≡ leaf_of b.identity e → items ≡ ledger ++ e ∷ [] → HasWritten b.tables e tables →
     frontiers.HasLeaves b.frontier frontier (b.frontier.leaves ++ leaf ∷ []) → IsKept items (record b { tables = tables; frontier = frontier })
 kept_with_application ledger items b view q e a leaf tables frontier k up fits h one hashed pushed written grown =
@@ -104,17 +102,17 @@ kept_with_application ledger items b view q e a leaf tables frontier k up fits h
 
 -- a signature
 pub kept_with_signature : (ledger items : List Entry) (b : Beside) (view : ℕ) (node : List ℕ) (e : Entry) (tables : kept.Kept) (frontier : frontiers.Content) (last : ℕ) →
-    IsKept ledger b → ViewsUpTo service_book view ledger → length ledger < last_seqno → e ≡ signature_entry node ledger view b.commit → is_entry e ≡ true → last ≡ length ledger + 1 →
+    IsKept ledger b → HasViewsUpTo view ledger → length ledger < last_seqno → e ≡ signature_entry node ledger view b.commit → is_entry e ≡ true → last ≡ length ledger + 1 →
     items ≡ ledger ++ e ∷ [] → HasWritten b.tables e tables →
     frontiers.HasLeaves b.frontier frontier (b.frontier.leaves ++ leaf_of b.identity e ∷ []) →
     IsKept items (record b { last_signature = last; tables = tables; frontier = frontier })
 kept_with_signature ledger items b view node e tables frontier last k up left made one place pushed written grown =
     let signature = signature_entry node ledger view b.commit in
-    let sound : IsSound (ledger ++ signature ∷ []) =
+    let sound : IsSerialRun (ledger ++ signature ∷ []) =
     sound-push ledger signature k.sound (subst (λ (x : Entry). is_entry x ≡ true) made one) refl up (record { writes_nothing = (refl, refl); root = refl }) tt tt in
     let signs : is_signature e.content ≡ true = ap (λ (x : Entry). is_signature x.content) made in
     let out : AllByRecursion IsOutside e.writes = subst (λ (x : Entry). AllByRecursion IsOutside x.writes) (sym made) tt in
-    kept-push ledger items b e tables frontier last k (subst (λ (x : Entry). IsSound (ledger ++ x ∷ [])) (sym made) sound) left out
+    kept-push ledger items b e tables frontier last k (subst (λ (x : Entry). IsSerialRun (ledger ++ x ∷ [])) (sym made) sound) left out
     (omega (arith, last_signature-signed ledger e signs)) pushed written grown
 
 -- ---- the opening ledger

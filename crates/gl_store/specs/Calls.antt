@@ -1,4 +1,4 @@
--- What the calls of a store come to, in the words of the rules over its book.
+-- What the calls of a store come to, in the words of the rules of consensus over a ledger's book.
 use Rattle.std.specs.Prelude.{◌≡◌, ℕ, ◌+◌, List, [], ◌∷◌, ◌++◌, Result, Ok, Err, length}
 use Rattle.gl_base.specs.declared.or_no_memory.OrNoMemory.{OrNoMemory}
 use Rattle.gl_base.specs.declared.or_no_memory.OrNoMemory.TheVariants.{NoMemory, Fault}
@@ -7,7 +7,8 @@ use Rattle.gl_rules.specs.Node.{Node}
 use Rattle.gl_entry.specs.declared.entry.Entry.{Entry}
 use Rattle.gl_tx.specs.declared.request.Operation.{Operation}
 use Rattle.gl_tx.specs.declared.request.Answer.{Answer}
-use Rattle.gl_ledger.specs.Book.{service_book, Replied, Unmade, ByStore}
+use Rattle.gl_ledger.specs.Ledger.{sign_result}
+use Rattle.gl_ledger.specs.Makers.{Replied, Unmade, ByStore, request_result, by_store}
 use Rattle.gl_ledger.specs.declared.refusal.Refusal.{Refusal}
 use Rattle.gl_store.specs.Kept.{Held}
 
@@ -25,17 +26,17 @@ pub record Enters (old : Held) (view : ℕ) (e : Entry) (id : TxId) (new : Held)
 pub record Executes (old : Held) (view : ℕ) (q : List Operation)
     (id : TxId) (reply : List Answer) (new : Held) : Type 0 where
   pub entry : Entry
-  pub made : service_book.execute old.ledger view q ≡ Ok (entry, Replied reply)
+  pub made : request_result old.ledger view q ≡ Ok (entry, Replied reply)
   pub enters : Enters old view entry id new
 
 -- The store made the entry of a node's signature, with this identifier. For now the entry is the
 -- same whichever leaf of the node's key signs.
 pub record Signs (old : Held) (node : List ℕ) (view : ℕ) (id : TxId) (new : Held) : Type 0 where
   pub entry : Entry
-  pub made : (leaf : ℕ) → service_book.sign node leaf old.ledger view old.commit ≡ Ok entry
+  pub made : by_store (sign_result node old.ledger view old.commit) ≡ Ok entry
   pub enters : Enters old view entry id new
 
--- A refusal is the book's; memory may run out at any time.
+-- A refusal is the one that is owed; memory may run out at any time.
 abbrev pub Refuses : {X : Type 0} → Result X Unmade → OrNoMemory Refusal → Type 0
 Refuses owed NoMemory = Unit {0}
 Refuses owed (Fault why) = owed ≡ Err (ByStore why)

@@ -4,12 +4,11 @@ use Rattle.gl_base.specs.TxId.{last_seqno}
 use Rattle.gl_merkle.specs.Frontier as frontiers
 use Rattle.gl_vmaps.specs.Kept as tables
 use Rattle.gl_vmaps.specs.Standing.{StandsFor}
-use Rattle.gl_rules.specs.Log.{last_signature}
 use Rattle.gl_entry.specs.declared.entry.Entry.{Entry}
 use Rattle.gl_ledger.specs.Effect.{service_state, identity_in}
-use Rattle.gl_ledger.specs.Serial.{IsSound}
+use Rattle.gl_ledger.specs.Serial.{IsSerialRun}
 use Rattle.gl_ledger.specs.Tree.{writes_of, tables_of, leaves_of}
-use Rattle.gl_ledger.specs.Book.{service_book}
+use Rattle.gl_ledger.specs.Broken.{last_signed}
 use Rattle.gl_ledger.specs.Signed.{IsSignedUpTo}
 use Rattle.gl_ledger.specs.declared.genesis.ServiceState.{ServiceState}
 
@@ -33,15 +32,15 @@ pub record IsTreeOf (leaves : List (List ℕ)) (f : frontiers.Content) : Type 0 
   pub peaks : f.peaks ≡ []
   pub leaves_are : f.leaves ≡ leaves
 
--- The ledger is sound and opened, commit is the seqno of one of its signatures or 0, and all that
--- is kept beside the ledger is what a scan of it would find.
+-- The ledger is a serial run and opened, commit is the seqno of one of its signatures or 0, and all
+-- that is kept beside the ledger is what a scan of it would find.
 pub record IsKept (ledger : List Entry) (b : Beside) : Type 0 where
-  pub sound : IsSound ledger
+  pub sound : IsSerialRun ledger
   pub opened : 2 ≤ length ledger
   pub named : length ledger ≤ last_seqno
   pub within : b.commit ≤ length ledger
   pub committed : IsSignedUpTo ledger b.commit
-  pub signed : b.last_signature ≡ last_signature service_book ledger
+  pub signed : b.last_signature ≡ last_signed ledger
   pub state_is : b.service_state ≡ service_state (tables_of ledger)
   pub identity_is : b.identity ≡ identity_in (tables_of ledger)
   pub tables_are : StandsFor b.tables (writes_of ledger)

@@ -29,11 +29,11 @@ use sha2::{Digest as _, Sha256};
 use std::alloc::{AllocError, Global};
 use std::marker::Model;
 
-/// A ledger of one node, and up to which seqno it is committed. Seqnos count from 1. The ledger is
-/// sound at every moment: its entries fit their format, its seqnos and views are in order, it is
-/// one serial run of its requests, its governance tables are the effect of the governance requests
-/// that it records, and each signature has the root of the tree over all earlier entries. Commit is
-/// the seqno of a signature, or 0, and never falls.
+/// A ledger of one node, and up to which seqno it is committed. Seqnos count from 1. At every
+/// moment the ledger is one serial run of its requests: its entries fit their format, its seqnos
+/// and views are in order, its governance tables are the effect of the governance requests that it
+/// records, and each signature has the root of the tree over all earlier entries. Commit is the
+/// seqno of a signature, or 0, and never falls.
 #[derive(Drop)]
 pub struct Store {
     state: LedgerState,
@@ -65,15 +65,18 @@ impl Model for Store {
 const NO_DIGEST: Digest = [0; 32];
 
 impl Store {
-    ghost use Rattle.gl_rules.specs.Log.{entry_at, last_signature};
+    ghost use Rattle.gl_rules.specs.Log.{entry_at};
     ghost use Rattle.gl_rules.specs.Node.{Node};
-    ghost use Rattle.gl_rules.specs.Safety.{reported_status, view_of, ViewsUpTo};
+    ghost use Rattle.gl_rules.specs.Safety.{reported_status, view_of};
     ghost use Rattle.gl_ledger.specs.Genesis.{is_acceptable};
-    ghost use Rattle.gl_ledger.specs.Ledger.{opening_ledger};
+    ghost use Rattle.gl_ledger.specs.Ledger.{HasViewsUpTo, opening_ledger, sign_result};
     ghost use Rattle.gl_ledger.specs.Tree.{writes_of, tables_of};
     ghost use Rattle.gl_ledger.specs.Effect.{service_state};
-    ghost use Rattle.gl_ledger.specs.Serial.{IsSound};
-    ghost use Rattle.gl_ledger.specs.Book.{service_book};
+    ghost use Rattle.gl_ledger.specs.Serial.{IsSerialRun};
+    ghost use Rattle.gl_ledger.specs.Broken.{last_signed};
+    ghost use Rattle.gl_ledger.specs.Layers.{Layers};
+    ghost use Rattle.gl_ledger.specs.LedgerBook.{ledger_book};
+    ghost use Rattle.gl_ledger.specs.Makers.{by_store, request_result};
     ghost use Rattle.gl_ledger.specs.Signed.{IsSignedUpTo};
     ghost use Rattle.gl_store.specs.Calls.{Executes, Signs, Refuses, IsNodeOf};
 
@@ -108,7 +111,7 @@ impl Store {
     pub fn ledger_len(&self) -> u64
         ensures len { result ≡ length self.now.ledger }
         ensures opened { 2 ≤ length self.now.ledger }
-        ensures sound { IsSound self.now.ledger }
+        ensures sound { IsSerialRun self.now.ledger }
     {
         self.state.entries.len() as u64
     }
@@ -134,7 +137,8 @@ impl Store {
 
     /// The view of the entry with a seqno. `None` at 0 and above the last.
     pub fn view_at(&self, seqno: u64) -> Option<u32>
-        ensures { result ≡ view_of service_book (entry_at self.now.ledger seqno) }
+        ensures { (layers : Layers) →
+            result ≡ view_of (ledger_book layers) (entry_at self.now.ledger seqno) }
     {
         match self.entry(seqno) {
             None => None,
@@ -161,7 +165,7 @@ impl Store {
 
     /// The seqno of the last signature, committed or not.
     pub fn last_signature(&self) -> u64
-        ensures { result ≡ last_signature service_book self.now.ledger }
+        ensures { result ≡ last_signed self.now.ledger }
     {
         self.last_signature
     }
@@ -169,8 +173,8 @@ impl Store {
     /// The status of a transaction by what this store holds (CCF documentation, "Transaction
     /// status"). Only Committed and Invalid are final.
     pub fn status(&self, id: TxId) -> Status
-        ensures { (n : Node Entry) → IsNodeOf self.now n →
-            result ≡ reported_status service_book n id }
+        ensures { (layers : Layers) (n : Node Entry) → IsNodeOf self.now n →
+            result ≡ reported_status (ledger_book layers) n id }
     {
         let committed = match self.view_at(self.commit) {
             None => None,
@@ -200,11 +204,11 @@ impl Store {
         view: u32,
         request: &Request,
     ) -> Result<(TxId, Reply), OrNoMemory<Refusal>>
-        requires { ViewsUpTo service_book view self.old.ledger }
+        requires { HasViewsUpTo view self.old.ledger }
         ensures made { IfOk result (λ made.
             Executes self.old view request.now made.0 made.1 self.new) }
         ensures refused { IfErr result (λ e.
-            Refuses (service_book.execute self.old.ledger view request.now) e) }
+            Refuses (request_result self.old.ledger view request.now) e) }
         ensures err { OnErr result (self.new ≡ self.old) }
     {
         prove!(request.as_slice().len() <= 64);
@@ -222,13 +226,13 @@ impl Store {
         view: u32,
         request: &Request,
     ) -> Result<(TxId, Reply), OrNoMemory<Refusal>>
-        requires up_to { ViewsUpTo service_book view self.old.ledger }
+        requires up_to { HasViewsUpTo view self.old.ledger }
         requires is_open { service_state (tables_of self.old.ledger) ≡ ServiceState.Open }
         requires spelled { is_request request.now ≡ true }
         ensures made { IfOk result (λ made.
             Executes self.old view request.now made.0 made.1 self.new) }
         ensures refused { IfErr result (λ e.
-            Refuses (service_book.execute self.old.ledger view request.now) e) }
+            Refuses (request_result self.old.ledger view request.now) e) }
         ensures err { OnErr result (self.new ≡ self.old) }
     {
         let seqno = self.state.entries.len() as u64 + 1;
@@ -252,10 +256,10 @@ impl Store {
     /// entries before it. Refused where no seqno is left. Want of memory, too, leaves the store as
     /// it was.
     pub fn sign(&mut self, node: NodeId, view: u32) -> Result<TxId, OrNoMemory<Refusal>>
-        requires { ViewsUpTo service_book view self.old.ledger }
+        requires { HasViewsUpTo view self.old.ledger }
         ensures made { IfOk result (λ id. Signs self.old node view id self.new) }
-        ensures refused { IfErr result (λ e. (leaf : ℕ) →
-            Refuses (service_book.sign node leaf self.old.ledger view self.old.commit) e) }
+        ensures refused { IfErr result (λ e.
+            Refuses (by_store (sign_result node self.old.ledger view self.old.commit)) e) }
         ensures err { OnErr result (self.new ≡ self.old) }
     {
         let seqno = self.state.entries.len() as u64 + 1;

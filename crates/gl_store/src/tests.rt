@@ -4,8 +4,7 @@
 ghost use Rattle.std.specs.Prelude.{◌≡◌, ◌≤◌, ◌<◌, ◌^◌, ℕ, length, true, IfOk};
 ghost use Rattle.std.specs.List.{AllByRecursion};
 ghost use Rattle.gl_ledger.specs.Genesis.{is_acceptable, is_genesis};
-ghost use Rattle.gl_rules.specs.Safety.{ViewsUpTo};
-ghost use Rattle.gl_ledger.specs.Book.{service_book};
+ghost use Rattle.gl_ledger.specs.Ledger.{HasViewsUpTo};
 ghost use Rattle.gl_ledger.specs.Signed.{IsSignedAt};
 
 use crate::Store;
@@ -82,7 +81,7 @@ fn genesis(alloc: Global, state: ServiceState) -> Result<Genesis, AllocError>
 // The store of such a service.
 #[tactic(auto, using(gl_ledger::proofs::Bodies::small_founding))]
 fn opened(alloc: Global, state: ServiceState) -> Result<Store, AllocError>
-    ensures { IfOk result (λ s. (view : ℕ) → 2 ≤ view → ViewsUpTo service_book view s.ledger) }
+    ensures { IfOk result (λ s. (view : ℕ) → 2 ≤ view → HasViewsUpTo view s.ledger) }
 {
     Store::opening(alloc, &genesis(alloc, state)?, NODE)
 }
@@ -107,16 +106,16 @@ fn execute(
     view: u32,
     request: &Request,
 ) -> Result<(TxId, Reply), OrNoMemory<Refusal>>
-    requires { ViewsUpTo service_book view store.old.ledger }
-    ensures { (later : ℕ) → view ≤ later → ViewsUpTo service_book later store.new.ledger }
+    requires { HasViewsUpTo view store.old.ledger }
+    ensures { (later : ℕ) → view ≤ later → HasViewsUpTo later store.new.ledger }
 {
     store.execute(view, request)
 }
 
 // A signature, in a view in which more may follow.
 fn sign(store: &mut Store, view: u32) -> Result<TxId, OrNoMemory<Refusal>>
-    requires { ViewsUpTo service_book view store.old.ledger }
-    ensures up_to { ViewsUpTo service_book view store.new.ledger }
+    requires { HasViewsUpTo view store.old.ledger }
+    ensures up_to { HasViewsUpTo view store.new.ledger }
     ensures signed { IfOk result (λ id. IsSignedAt store.new.ledger id.seqno) }
 {
     store.sign(NODE, view)

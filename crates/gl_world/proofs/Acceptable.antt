@@ -106,7 +106,7 @@ group_endorsements s = short_from s 1 s.starting
 
 -- ---- one node
 
-single_group : (s : Settings) → IsSingle s → IsGroup s
+pub single_group : (s : Settings) → IsSingle s → IsGroup s
 single_group s h = record {
   first = let one = h.starting in omega arith;
   starting = let one = h.starting in omega arith;

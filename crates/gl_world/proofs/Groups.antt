@@ -4,7 +4,7 @@ use Rattle.std.specs.List.{list_all}
 use Rattle.std.proofs.lemmas.Bool.{and_parts}
 use Rattle.gl_base.specs.Bytes.{same_bytes}
 use Rattle.gl_rules.specs.Identity.{NodeId, member}
-use Rattle.gl_rules.specs.Safety.{IsOpening, NeverConflicts, EachFollows}
+use Rattle.gl_rules.specs.Safety.{IsConfigured, IsOpening, NeverConflicts, EachFollows}
 use Rattle.gl_safety.proofs.Refusals.{never_conflicts}
 use Rattle.gl_ledger.specs.Genesis.{node_id, genesis_bytes, governance_bytes, is_governance_request, are_distinct, are_distinct_bytes, numbers_of, are_members, are_nodes, is_dealing_among, is_acceptable}
 use Rattle.gl_ledger.specs.declared.genesis.Genesis as request
@@ -13,17 +13,23 @@ use Rattle.gl_ledger.specs.declared.genesis.NewMember.{NewMember}
 use Rattle.gl_ledger.specs.declared.genesis.GovernanceRequest.{GovernanceRequest}
 use Rattle.gl_ledger.specs.declared.genesis.GovernanceRequest.TheVariants as requests
 use Rattle.gl_ledger.specs.Layers.{Layers, ReadsSpellings}
+use Rattle.gl_tx.specs.declared.request.Operation.{Operation}
 use Rattle.gl_ledger.specs.Acceptance.{are_endorsed, genesis_fault}
-use Rattle.gl_ledger.specs.Services.{ServiceEvent, Begins, Founds}
+use Rattle.gl_ledger.specs.Makers.{request_result, signing_result}
+use Rattle.gl_ledger.specs.Services.{ServiceEvent, Begins, Founds, Leads}
+use Rattle.gl_ledger.specs.Services as services
 use Rattle.gl_ledger.proofs.GenesisEntries.{genesis_is_entry}
 use Rattle.gl_ledger.proofs.SameWrites.{same_bytes_is, same_bytes_self}
 use Rattle.gl_ledger.proofs.Passing.{passes}
 use Rattle.gl_ledger.proofs.Lawful.{lawful}
 use Rattle.gl_ledger.proofs.Opening.{member_first}
-use Rattle.gl_ledger.proofs.Opened.{begins_opening, begins_safe, opening_opened}
+use Rattle.gl_ledger.proofs.Leading.{leader_executes, leader_signs}
+use Rattle.gl_ledger.proofs.Opened.{begins_opening, begins_safe, opening_opened, opened_configured}
 use Rattle.gl_world.specs.declared.settings.Settings.{Settings}
 use Rattle.gl_world.specs.Founding.{numbers_from, node_of, id_of, genesis_of}
-use Rattle.gl_world.specs.Group.{IsGroup, layers_of, book_of, group_start, IsSafeGroup}
+use Rattle.gl_world.specs.Group.{IsGroup, layers_of, book_of}
+use Rattle.gl_world.specs.Headline.{Headline}
+use Rattle.gl_world.specs.World.{start_of}
 use Rattle.gl_world.proofs.Acceptable.{group_acceptable, group_fits, group_endorsements}
 
 pub reads_spellings : (s : Settings) → IsGroup s → ReadsSpellings (layers_of s)
@@ -74,17 +80,33 @@ group_founds s h = record {
   valid = record { bytes = refl; short = omega arith; valid = refl };
 }
 
-pub group_begins : (s : Settings) → IsGroup s → Begins (layers_of s) (group_start s)
+pub group_begins : (s : Settings) → IsGroup s → Begins (layers_of s) (start_of s)
 group_begins s h = record {
   checked = opening_opened (layers_of s) (genesis_of s) (id_of s 1) (group_founds s h);
   starts = first_in s s.starting h.first;
 }
 
-pub group_opens : (s : Settings) → IsGroup s → IsOpening (book_of s) (EachFollows (book_of s)) (group_start s)
-group_opens s h = begins_opening (layers_of s) (group_start s) (group_begins s h)
+pub group_opens : (s : Settings) → IsGroup s → IsOpening (book_of s) (EachFollows (book_of s)) (start_of s)
+group_opens s h = begins_opening (layers_of s) (start_of s) (group_begins s h)
 
-pub group_safe : (s : Settings) → IsGroup s → (events : List ServiceEvent) → IsSafeGroup s events
-group_safe s h events = begins_safe (layers_of s) (reads_spellings s h) (group_start s) (group_begins s h) events
+pub group_safe : (s : Settings) → IsGroup s → (events : List ServiceEvent) → Headline s events
+group_safe s h events = begins_safe (layers_of s) (reads_spellings s h) (start_of s) (group_begins s h) events
 
-pub group_never_conflicts : (s : Settings) → IsGroup s → (events : List ServiceEvent) → NeverConflicts (book_of s) (group_start s) events
+pub group_never_conflicts : (s : Settings) → IsGroup s → (events : List ServiceEvent) → NeverConflicts (book_of s) (start_of s) events
 group_never_conflicts s h events = never_conflicts (group_opens s h) (lawful (layers_of s)) events
+
+-- ---- the guard refuses a leader nothing
+
+pub group_configured : (s : Settings) → IsGroup s → IsConfigured (book_of s) (id_of s 1) (start_of s).opening
+group_configured s h = opened_configured (layers_of s) (start_of s).opening (start_of s).first (group_begins s h).checked
+
+pub group_executes : (s : Settings) → IsGroup s → (events : List ServiceEvent) (x : NodeId) → Leads (layers_of s) (start_of s) events x → (request : List Operation) →
+    let n = services.node_of (layers_of s) (start_of s) events x in
+    (book_of s).execute n.log n.view request ≡ request_result n.log n.view request
+group_executes s h events x leads request = leader_executes (layers_of s) (start_of s) (group_opens s h) (group_configured s h) events x leads request
+
+pub group_signs : (s : Settings) → IsGroup s → (events : List ServiceEvent) (x : NodeId) → Leads (layers_of s) (start_of s) events x → (leaf : ℕ) →
+    let n = services.node_of (layers_of s) (start_of s) events x in
+    (book_of s).sign x leaf n.log n.view n.commit ≡ signing_result (layers_of s) x leaf n.log n.view n.commit
+group_signs s h events x leads leaf =
+    leader_signs (layers_of s) (start_of s) (group_opens s h) (group_configured s h) events x leads leaf (record { bytes = refl; short = omega arith; valid = refl })

@@ -4,11 +4,5 @@ pub mod MemberKeys
 pub mod Digests
 pub mod Acceptable
 pub mod Advance
-pub mod Reports
-pub mod Sets
 pub mod Solo
-pub mod Starting
-pub mod Worlds
-pub mod Single
-pub mod Shown
 pub mod Groups

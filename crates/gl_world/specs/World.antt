@@ -1,24 +1,20 @@
--- With what a service of a schedule begins, and its events, outcomes and worlds.
-use Rattle.std.specs.Prelude.{List, map}
-use Rattle.gl_rules.specs.World.{Start, Event, World}
+-- With what a service of a schedule begins, and its outcomes and worlds.
+use Rattle.std.specs.Prelude.{map}
+use Rattle.gl_rules.specs.World.{Start, World}
 use Rattle.gl_rules.specs.Outcome.{Outcome}
 use Rattle.gl_entry.specs.declared.entry.Entry.{Entry}
-use Rattle.gl_tx.specs.declared.request.Operation.{Operation}
-use Rattle.gl_ledger.specs.Ledger.{opening_ledger}
-use Rattle.gl_ledger.specs.Book.{MemberRequest, Reads, Given, Unmade}
+use Rattle.gl_ledger.specs.Makers.{Given, Unmade, opening_of}
 use Rattle.gl_world.specs.declared.settings.Settings.{Settings}
 use Rattle.gl_world.specs.Founding.{numbers_from, id_of, genesis_of}
+use Rattle.gl_world.specs.Group.{layers_of}
 
 -- The service of these settings begins with the opening ledger of its genesis, signed by node 1.
 abbrev pub start_of : Settings → Start Entry
 start_of s = record {
-  opening = opening_ledger (genesis_of s) (id_of s 1);
+  opening = opening_of (layers_of s) (genesis_of s) (id_of s 1);
   starting = map (id_of s) (numbers_from 1 s.starting);
   first = id_of s 1;
 }
-
-abbrev pub ServiceEvent : Type 0
-ServiceEvent = Event (List Operation) MemberRequest Reads
 
 abbrev pub ServiceOutcome : Type 0
 ServiceOutcome = Outcome Given Unmade

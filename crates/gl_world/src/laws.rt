@@ -9,18 +9,20 @@ ghost use Rattle.gl_ledger.specs.declared.genesis.ServiceState.{ServiceState};
 ghost use Rattle.gl_ledger.specs.Makers.{govern_result, request_result, signing_result};
 ghost use Rattle.gl_ledger.specs.Services.{Begins, Leads, ServiceEvent, node_of};
 ghost use Rattle.gl_world.specs.declared.settings.Settings.{Settings};
-ghost use Rattle.gl_world.specs.Group.{IsGroup, IsSafeGroup, book_of, group_start, layers_of};
+ghost use Rattle.gl_world.specs.Group.{IsGroup, book_of, layers_of};
+ghost use Rattle.gl_world.specs.Headline.{Headline};
+ghost use Rattle.gl_world.specs.World.{start_of};
 
 /// A service of 1 to 9 nodes that start, and up to 9 that join, is safe, whatever events happen in
 /// whatever order.
 pub fn is_safe()
     ensures headline { (s : Settings) → IsGroup s → (events : List ServiceEvent) →
-        IsSafeGroup s events }
+        Headline s events }
     ensures opening { (s : Settings) → IsGroup s →
-        IsOpening (book_of s) (EachFollows (book_of s)) (group_start s) }
-    ensures begins { (s : Settings) → IsGroup s → Begins (layers_of s) (group_start s) }
+        IsOpening (book_of s) (EachFollows (book_of s)) (start_of s) }
+    ensures begins { (s : Settings) → IsGroup s → Begins (layers_of s) (start_of s) }
     ensures no_conflict { (s : Settings) → IsGroup s → (events : List ServiceEvent) →
-        NeverConflicts (book_of s) (group_start s) events }
+        NeverConflicts (book_of s) (start_of s) events }
     ensures smallest { (state : ServiceState) (seed : List ℕ) →
         IsGroup (record { starting = 1; joiners = 0; members = 1; state = state; seed = seed }) }
 {}
@@ -29,17 +31,17 @@ pub fn is_safe()
 /// happened before.
 pub fn is_unguarded()
     ensures executes { (s : Settings) → IsGroup s → (events : List ServiceEvent) (x : NodeId) →
-        Leads (layers_of s) (group_start s) events x → (request : List Operation) →
-        let n = node_of (layers_of s) (group_start s) events x in
+        Leads (layers_of s) (start_of s) events x → (request : List Operation) →
+        let n = node_of (layers_of s) (start_of s) events x in
         (book_of s).execute n.log n.view request ≡ request_result n.log n.view request }
     ensures governs { (s : Settings) → IsGroup s → (events : List ServiceEvent) (x : NodeId) →
-        Leads (layers_of s) (group_start s) events x → (request : GovernanceRequest) →
-        let n = node_of (layers_of s) (group_start s) events x in
+        Leads (layers_of s) (start_of s) events x → (request : GovernanceRequest) →
+        let n = node_of (layers_of s) (start_of s) events x in
         (book_of s).govern n.log n.view request
         ≡ govern_result (layers_of s) n.log n.view request }
     ensures signs { (s : Settings) → IsGroup s → (events : List ServiceEvent) (x : NodeId) →
-        Leads (layers_of s) (group_start s) events x → (leaf : ℕ) →
-        let n = node_of (layers_of s) (group_start s) events x in
+        Leads (layers_of s) (start_of s) events x → (leaf : ℕ) →
+        let n = node_of (layers_of s) (start_of s) events x in
         (book_of s).sign x leaf n.log n.view n.commit
         ≡ signing_result (layers_of s) x leaf n.log n.view n.commit }
 {}

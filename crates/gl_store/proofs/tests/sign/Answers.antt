@@ -1,18 +1,17 @@
 use Rattle.std.proofs.Common.{◌≡◌, ℕ, List, Result, Ok, Err, sym, subst}
 use Rattle.std.specs.Result.{IfOk, OnErr}
 use Rattle.gl_base.specs.declared.tx_id.TxId.{TxId}
-use Rattle.gl_rules.specs.Safety.{ViewsUpTo}
 use Rattle.gl_store.specs.Kept.{Held}
-use Rattle.gl_ledger.specs.Book.{service_book}
+use Rattle.gl_ledger.specs.Ledger.{HasViewsUpTo}
 use Rattle.gl_store.specs.Calls.{Signs}
 use Rattle.gl_ledger.specs.Signed.{IsSignedAt}
 use Rattle.gl_store.proofs.Following.{up_to-signed, signed-last}
 use Rattle.gl_store.proofs.tests.sign.Goals as goal
 
-up_to : {E : Type 0} (r : Result TxId E) (old new : Held) (node : List ℕ) (view : ℕ) → ViewsUpTo service_book view old.ledger →
-    IfOk r (λ (id : TxId). Signs old node view id new) → OnErr r (new ≡ old) → ViewsUpTo service_book view new.ledger
+up_to : {E : Type 0} (r : Result TxId E) (old new : Held) (node : List ℕ) (view : ℕ) → HasViewsUpTo view old.ledger →
+    IfOk r (λ (id : TxId). Signs old node view id new) → OnErr r (new ≡ old) → HasViewsUpTo view new.ledger
 up_to (Ok id) old new node view up made kept = up_to-signed old new node view id up made
-up_to (Err e) old new node view up made kept = subst (λ (h : Held). ViewsUpTo service_book view h.ledger) (sym kept) up
+up_to (Err e) old new node view up made kept = subst (λ (h : Held). HasViewsUpTo view h.ledger) (sym kept) up
 
 signed : {E : Type 0} (r : Result TxId E) (old new : Held) (node : List ℕ) (view : ℕ) → IfOk r (λ (id : TxId). Signs old node view id new) →
     IfOk r (λ (id : TxId). IsSignedAt new.ledger id.seqno)

@@ -1,6 +1,5 @@
 use Rattle.std.proofs.Common.{◌<◌, arith}
-use Rattle.gl_rules.specs.Log.{last_signature}
-use Rattle.gl_ledger.specs.Book.{service_book}
+use Rattle.gl_ledger.specs.Broken.{last_signed}
 use Rattle.gl_ledger.proofs.Signatures.{signed_at_last}
 use Rattle.ccfg.proofs.MachineLemmas.{advance_idle, advance_commits}
 use Rattle.ccfg.proofs.machine.Machine.advance.Goals as goal
@@ -13,10 +12,10 @@ commit_to-requires-clause-signed c = λ some. rw c.last_signature-place.ensures 
 
 pub returns-clause-steps : goal.returns-clause-steps
 returns-clause-steps c =
-    let above : c.args.self.now.store.commit < last_signature service_book c.args.self.now.store.ledger = omega (arith, c.last_signature-place.ensures, c.commit.ensures.commit, c.if-place-commit.false) in
+    let above : c.args.self.now.store.commit < last_signed c.args.self.now.store.ledger = omega (arith, c.last_signature-place.ensures, c.commit.ensures.commit, c.if-place-commit.false) in
     rw (c.commit_to.ensures, c.last_signature-place.ensures) (advance_commits c.args.self.now c.requires above).0
 
 pub returns-clause-goes_on : goal.returns-clause-goes_on
 returns-clause-goes_on c =
-    let above : c.args.self.now.store.commit < last_signature service_book c.args.self.now.store.ledger = omega (arith, c.last_signature-place.ensures, c.commit.ensures.commit, c.if-place-commit.false) in
+    let above : c.args.self.now.store.commit < last_signed c.args.self.now.store.ledger = omega (arith, c.last_signature-place.ensures, c.commit.ensures.commit, c.if-place-commit.false) in
     rw (c.commit_to.ensures, c.last_signature-place.ensures) (advance_commits c.args.self.now c.requires above).1

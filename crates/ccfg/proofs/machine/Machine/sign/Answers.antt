@@ -23,10 +23,10 @@ pub returns-in-Err-Fault-clause-steps : goal.returns-in-Err-Fault-clause-steps
 returns-in-Err-Fault-clause-steps c =
     (sign_refused c.args.self.now c.sign.new.self c.in-Err-Fault.why c.requires (λ p. absurd (omega (arith, p, c.if-self.false)))
     (λ p. c.if-last_signature-len.false (omega (arith, p, c.ledger_len-len.ensures.len, c.last_signature.ensures)))
-    (λ leaf. rw c.in-Err-Fault.field-0-is at c.in-Err-Fault.ensures.refused leaf) c.in-Err-Fault.ensures.err).0
+    (rw c.in-Err-Fault.field-0-is at c.in-Err-Fault.ensures.refused) c.in-Err-Fault.ensures.err).0
 
 pub returns-in-Err-Fault-clause-goes_on : goal.returns-in-Err-Fault-clause-goes_on
 returns-in-Err-Fault-clause-goes_on c =
     (sign_refused c.args.self.now c.sign.new.self c.in-Err-Fault.why c.requires (λ p. absurd (omega (arith, p, c.if-self.false)))
     (λ p. c.if-last_signature-len.false (omega (arith, p, c.ledger_len-len.ensures.len, c.last_signature.ensures)))
-    (λ leaf. rw c.in-Err-Fault.field-0-is at c.in-Err-Fault.ensures.refused leaf) c.in-Err-Fault.ensures.err).1
+    (rw c.in-Err-Fault.field-0-is at c.in-Err-Fault.ensures.refused) c.in-Err-Fault.ensures.err).1

@@ -13,3 +13,8 @@ pub returns-in-Err-Fault-clause-steps : goal.returns-in-Err-Fault-clause-steps
 returns-in-Err-Fault-clause-steps c =
     (submit_refused c.args.self.now c.execute.new.self c.args.request.now c.in-Err-Fault.why c.requires
     (rw c.in-Err-Fault.field-0-is at c.in-Err-Fault.ensures.refused) c.in-Err-Fault.ensures.err).0
+
+pub returns-in-Err-Fault-clause-goes_on : goal.returns-in-Err-Fault-clause-goes_on
+returns-in-Err-Fault-clause-goes_on c =
+    (submit_refused c.args.self.now c.execute.new.self c.args.request.now c.in-Err-Fault.why c.requires
+    (rw c.in-Err-Fault.field-0-is at c.in-Err-Fault.ensures.refused) c.in-Err-Fault.ensures.err).1

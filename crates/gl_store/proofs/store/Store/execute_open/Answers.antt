@@ -2,14 +2,13 @@ use Rattle.std.proofs.Common.{◌≡◌, ◌+◌, ◌≤◌, ◌∙◌, ℕ, Lis
 use Rattle.gl_base.specs.declared.tx_id.TxId.{TxId}
 use Rattle.gl_entry.specs.Entry.{body_bytes, body_limit}
 use Rattle.gl_entry.specs.declared.entry.Entry.{Entry}
-use Rattle.gl_rules.specs.Safety.{ViewsUpTo}
 use Rattle.gl_tx.specs.declared.runs.Ran.{Ran}
 use Rattle.gl_tx.specs.declared.request.Operation.{Operation}
 use Rattle.gl_ledger.specs.Effect.{service_state}
 use Rattle.gl_ledger.specs.Tree.{writes_of, tables_of}
-use Rattle.gl_ledger.specs.Ledger.{execute_result}
+use Rattle.gl_ledger.specs.Ledger.{HasViewsUpTo, execute_result}
 use Rattle.gl_store.specs.Kept.{Held}
-use Rattle.gl_ledger.specs.Book.{service_book}
+use Rattle.gl_ledger.specs.Makers.{request_result}
 use Rattle.gl_store.specs.Calls.{Executes, Refuses}
 use Rattle.gl_ledger.specs.declared.genesis.ServiceState.TheVariants.{Open}
 use Rattle.gl_store.proofs.TablesLaws.{versions_below}
@@ -32,8 +31,8 @@ invariant_of-self-2 c =
     let e : Entry = c.in_ok-entry.entry in
     let ran : Ran = c.in-Ok.ran in
     let is_open : service_state (tables_of ledger) ≡ Open = subst (λ (h : Held). service_state (tables_of h.ledger) ≡ Open) (sym c.self.view_is) c.requires.is_open in
-    let up : ViewsUpTo service_book c.args.view ledger =
-    subst (λ (h : Held). ViewsUpTo service_book c.args.view h.ledger) (sym c.self.view_is) c.requires.up_to in
+    let up : HasViewsUpTo c.args.view ledger =
+    subst (λ (h : Held). HasViewsUpTo c.args.view h.ledger) (sym c.self.view_is) c.requires.up_to in
     let body : c.deref-2.result.now ≡ body_bytes e = c.deref-2.ensures.value ∙ c.in_ok-body.ensures in
     let small : length (body_bytes e) ≤ body_limit = subst (λ (xs : List ℕ). length xs ≤ body_limit) body c.in_default.ensures.body in
     let gives : execute_result ledger c.args.view q ≡ Ok (e, ran.reply) =
@@ -68,6 +67,6 @@ pub returns-in-Err-clause-refused : goal.returns-in-Err-clause-refused
 returns-in-Err-clause-refused c =
     let ledger : List Entry = c.self.inside.state.entries.items in
     let is_open : service_state (tables_of ledger) ≡ Open = subst (λ (h : Held). service_state (tables_of h.ledger) ≡ Open) (sym c.self.view_is) c.requires.is_open in
-    subst (λ (h : Held). Refuses (service_book.execute h.ledger c.args.view c.args.request.now) c.widen.result) c.self.view_is
+    subst (λ (h : Held). Refuses (request_result h.ledger c.args.view c.args.request.now) c.widen.result) c.self.view_is
     (refused_run ledger c.args.view c.args.request.now c.in-Err.error c.widen.result c.requires.spelled is_open
     (c.in-Err.ensures.stands (writes_of ledger) c.self.invariant.tables_are) c.widen.ensures)

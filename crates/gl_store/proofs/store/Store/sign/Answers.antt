@@ -2,8 +2,7 @@ use Rattle.std.proofs.Common.{◌≡◌, ◌+◌, ◌<◌, length, subst, sym, a
 use Rattle.gl_base.specs.TxId.{last_seqno}
 use Rattle.gl_entry.specs.declared.entry.Entry.{Entry}
 use Rattle.gl_store.specs.Kept.{Held}
-use Rattle.gl_rules.specs.Safety.{ViewsUpTo}
-use Rattle.gl_ledger.specs.Book.{service_book}
+use Rattle.gl_ledger.specs.Ledger.{HasViewsUpTo}
 use Rattle.gl_store.proofs.TablesLaws.{versions_below}
 use Rattle.gl_store.proofs.Keeping.{kept_with_signature}
 use Rattle.gl_store.proofs.store.Store.sign.Goals as goal
@@ -19,8 +18,8 @@ invariant_of-self-2 c =
     let k = c.self.inside in
     let place : c.len.result + 1 ≡ length k.state.entries.items + 1 = omega arith in
     let left : length k.state.entries.items < last_seqno = omega arith in
-    let up : ViewsUpTo service_book c.args.view k.state.entries.items =
-    subst (λ (h : Held). ViewsUpTo service_book c.args.view h.ledger) (sym c.self.view_is) c.requires in
+    let up : HasViewsUpTo c.args.view k.state.entries.items =
+    subst (λ (h : Held). HasViewsUpTo c.args.view h.ledger) (sym c.self.view_is) c.requires in
     kept_with_signature k.state.entries.items c.push_entry.new.state.entries.items _ c.args.view c.args.node c.signature_entry-entry.result c.push_entry.new.state.tables
     c.push_entry.new.state.frontier (c.len.result + 1) c.self.invariant up left c.signature_entry-entry.ensures.made c.signature_entry-entry.ensures.fits place
     c.in_ok-push_entry.ensures.entries (record { stands = c.in_ok-push_entry.ensures.tables; base = c.in_ok-push_entry.ensures.base }) c.in_ok-push_entry.ensures.leaves

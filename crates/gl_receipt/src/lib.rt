@@ -1,0 +1,26 @@
+//! Receipts (CCF documentation, "Receipts"): the proof that a service committed a transaction, for
+//! whoever knows the service's key and nothing else. They are verified, and read and written as
+//! JSON.
+#![tactic(auto)]
+
+mod components;
+mod evidence;
+mod fault;
+mod form;
+mod laws;
+mod reading;
+mod text;
+mod tree;
+mod verdict;
+mod writing;
+
+pub use components::{LeafComponents, Receipt, Signed};
+pub use fault::ReceiptFault;
+pub use laws::law_of_receipts;
+pub use reading::read_receipt;
+pub use text::Text;
+pub use verdict::verify;
+pub use writing::write_receipt;
+
+#[cfg(test)]
+mod tests;

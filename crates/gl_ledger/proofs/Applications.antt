@@ -25,7 +25,7 @@ use Rattle.gl_ledger.specs.Effect.{service_state, state_of_value}
 use Rattle.gl_ledger.specs.Tree.{tables_of}
 use Rattle.gl_ledger.specs.Serial.{IsSerialRun, IsApplicationEntry}
 use Rattle.gl_ledger.specs.Ledger.{HasViewsUpTo, application_entry, execute_result, execute_in, run_result, within_limits}
-use Rattle.gl_ledger.specs.Makers.{with_reply, request_result, Given, Replied, Governed, Unmade, ByStore, Unspelled}
+use Rattle.gl_ledger.specs.Makers.{with_reply, request_result, Given, Replied, Unmade, ByStore, Unspelled}
 use Rattle.gl_ledger.specs.declared.genesis.ServiceState.{ServiceState}
 use Rattle.gl_ledger.specs.declared.genesis.ServiceState.TheVariants.{Opening, Open}
 use Rattle.gl_ledger.specs.declared.refusal.Refusal.{Refusal}

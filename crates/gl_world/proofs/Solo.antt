@@ -1,5 +1,5 @@
 -- The ledger of a node that is its own quorum, as it begins and with one more entry, and what advances there.
-use Rattle.std.proofs.Common.{◌≡◌, ℕ, zero, suc, ◌-◌, ◌<◌, ◌≤◌, List, [], ◌∷◌, ◌++◌, length, take, map, Option, Some, None, Bool, true, ◌&&◌, nat_lt, if◌then◌else◌, refl, sym, ◌∙◌, ap, ap₂, arith, length-append, ⊎_elim}
+use Rattle.std.proofs.Common.{◌≡◌, ℕ, zero, suc, ◌-◌, ◌<◌, ◌≤◌, List, [], ◌∷◌, ◌++◌, length, take, map, Some, None, Bool, true, ◌&&◌, nat_lt, if◌then◌else◌, refl, sym, ◌∙◌, ap, ap₂, arith, length-append, ⊎_elim}
 use Rattle.std.specs.List.{slice_get}
 use Rattle.std.proofs.lemmas.Bool.{cases_lt}
 use Rattle.gl_base.proofs.Lists.{slice_get-push, take-push, take-past, take-all}

@@ -1,20 +1,18 @@
 -- How many bytes the entry of a genesis has: fewer than the limit of a body, where its endorsements are short.
-use Rattle.std.proofs.Common.{◌≡◌, ℕ, suc, ◌+◌, ◌*◌, ◌<◌, ◌≤◌, ◌^◌, ◌==◌, nat_lt, nat_le, List, [], ◌∷◌, ◌++◌, length, map, Bool, true, ◌&&◌, refl, sym, ◌∙◌, ap, arith, length-append}
+use Rattle.std.proofs.Common.{◌≡◌, ℕ, suc, ◌+◌, ◌*◌, ◌<◌, ◌≤◌, ◌^◌, List, [], ◌∷◌, ◌++◌, length, map, true, refl, ◌∙◌, ap, arith, length-append}
 use Rattle.std.specs.List.{flat_map, list_all, AllByRecursion}
 use Rattle.std.specs.declared.cmp.Ordering.{Ordering}
 use Rattle.std.specs.declared.cmp.Ordering.TheVariants.{Less, Equal, Greater}
 use Rattle.std.proofs.lemmas.Bool.{and_parts}
-use Rattle.std.proofs.lemmas.Bool.Decides.{nat_tests}
 use Rattle.std.proofs.lemmas.Grind.{flat_map-append}
 use Rattle.sha2.proofs.Facts256.{length-sha256}
 use Rattle.gl_base.specs.LittleEndian.{little_endian}
-use Rattle.gl_base.specs.Bytes.{are_bytes, is_byte}
 use Rattle.gl_base.proofs.LittleEndianLaws.{length-little_endian}
 use Rattle.gl_vmaps.specs.Writes.{write_order, with_write, put_before}
 use Rattle.gl_entry.specs.Entry.{write_bytes}
 use Rattle.gl_vmaps.specs.declared.write.Write.{Write}
-use Rattle.gl_entry.specs.Entry.{are_sized, is_digest, body_bytes, body_limit}
-use Rattle.gl_ledger.specs.Genesis.{state_byte, node_id, node_bytes, member_bytes, share_bytes, dealing_bytes, genesis_bytes, is_node, is_member, is_share, is_dealing, is_genesis, are_nodes, are_members, numbers_of, is_dealing_among, are_distinct_bytes, is_acceptable, row, constitution_rows, constitution_map, dealing_map, dealing_key, members_map, nodes_map, service_map, service_key, member_row, node_row, node_rows, service_row, genesis_rows, genesis_writes, set_from}
+use Rattle.gl_entry.specs.Entry.{body_bytes, body_limit}
+use Rattle.gl_ledger.specs.Genesis.{state_byte, node_bytes, member_bytes, share_bytes, dealing_bytes, genesis_bytes, is_node, is_member, is_share, is_genesis, is_acceptable, row, constitution_rows, dealing_map, dealing_key, service_map, service_key, member_row, node_row, node_rows, service_row, genesis_rows, set_from}
 use Rattle.gl_ledger.specs.Ledger.{genesis_entry}
 use Rattle.gl_ledger.specs.declared.genesis.NewNode.{NewNode}
 use Rattle.gl_ledger.specs.declared.genesis.NewMember.{NewMember}

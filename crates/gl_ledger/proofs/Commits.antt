@@ -5,7 +5,7 @@ use Rattle.std.proofs.lemmas.Bool.{and_parts}
 use Rattle.std.proofs.lemmas.Bool.Decides.{nat_tests}
 use Rattle.gl_rules.specs.Log.{greatest_recorded}
 use Rattle.gl_rules.specs.Safety.{EachFollows}
-use Rattle.gl_safety.proofs.AnySoundness.{follows_sound}
+use Rattle.gl_rules.proofs.Soundness.{follows_sound}
 use Rattle.gl_entry.specs.Entry.{is_signature, recorded_commit}
 use Rattle.gl_entry.specs.declared.entry.Content.{Content}
 use Rattle.gl_entry.specs.declared.entry.Content.TheVariants as content
@@ -18,22 +18,23 @@ use Rattle.gl_ledger.specs.Tree.{leaves_of}
 use Rattle.gl_rules.specs.Log.{entry_at}
 use Rattle.gl_base.proofs.Lists.{slice_get-within}
 use Rattle.gl_ledger.specs.Layers.{Layers}
+use Rattle.gl_ledger.specs.NodeKeys.{NodeKeys}
 use Rattle.gl_ledger.specs.Recordings.{Recording, OfSignature, last_entry, recording_of, recorded_nodes}
 use Rattle.gl_ledger.specs.Broken.{is_unopened, broken_by, signs_at, commit_behind, commit_from, last_commit, is_later_commit, may_record, broken}
 use Rattle.gl_ledger.specs.LedgerBook.{ledger_book}
 use Rattle.gl_ledger.proofs.Passing.{passed, Passes, passing}
 use Rattle.gl_ledger.proofs.Lawful.{unbroken}
 
-module _ (layers : Layers) where
+module _ (layers : Layers) (keys : NodeKeys) where
   pub record KeepsCommits (ledger : List Entry) : Type 0 where
-    pub greatest : greatest_recorded (ledger_book layers) ledger ≤ last_commit ledger
+    pub greatest : greatest_recorded (ledger_book layers keys) ledger ≤ last_commit ledger
     pub within : last_commit ledger ≤ length ledger
 
   commit_push : (commit : ℕ) (es : List Entry) (e : Entry) → commit_from commit (es ++ e ∷ []) ≡ commit_behind (commit_from commit es) e.content
   commit_push commit [] e = refl
   commit_push commit (f ∷ es) e = commit_push (commit_behind commit f.content) es e
 
-  greatest_push : (es : List Entry) (e : Entry) → greatest_recorded (ledger_book layers) (es ++ e ∷ []) ≡ max (greatest_recorded (ledger_book layers) es) (if is_signature e.content then recorded_commit e.content else 0)
+  greatest_push : (es : List Entry) (e : Entry) → greatest_recorded (ledger_book layers keys) (es ++ e ∷ []) ≡ max (greatest_recorded (ledger_book layers keys) es) (if is_signature e.content then recorded_commit e.content else 0)
   unfolding greatest_recorded
   greatest_push [] e = go (if is_signature e.content then recorded_commit e.content else 0)
     where
@@ -41,7 +42,7 @@ module _ (layers : Layers) where
       go n = omega arith
   greatest_push (f ∷ es) e =
       ap (max (if is_signature f.content then recorded_commit f.content else 0)) (greatest_push es e)
-      ∙ go (if is_signature f.content then recorded_commit f.content else 0) (greatest_recorded (ledger_book layers) es) (if is_signature e.content then recorded_commit e.content else 0)
+      ∙ go (if is_signature f.content then recorded_commit f.content else 0) (greatest_recorded (ledger_book layers keys) es) (if is_signature e.content then recorded_commit e.content else 0)
     where
       go : (a b c : ℕ) → max a (max b c) ≡ max (max a b) c
       go a b c = omega arith
@@ -78,7 +79,7 @@ module _ (layers : Layers) where
       p = passing layers ledger e h
 
       go : (x : Content) → e.content ≡ x → last_commit (ledger ++ e ∷ []) ≡ commit_behind (last_commit ledger) e.content →
-          greatest_recorded (ledger_book layers) (ledger ++ e ∷ []) ≡ max (greatest_recorded (ledger_book layers) ledger) (if is_signature e.content then recorded_commit e.content else 0) →
+          greatest_recorded (ledger_book layers keys) (ledger ++ e ∷ []) ≡ max (greatest_recorded (ledger_book layers keys) ledger) (if is_signature e.content then recorded_commit e.content else 0) →
           length (ledger ++ e ∷ []) ≡ length ledger + 1 → KeepsCommits (ledger ++ e ∷ [])
       go (content.Signature s) is c g l =
           let is_read : p.recording ≡ OfSignature s = let w = sym p.reads ∙ ap (recording_of layers) is in cc in
@@ -88,28 +89,28 @@ module _ (layers : Layers) where
           let three = passed (may_record layers ledger s.commit) _ _ two.1 in
           let low = signed_commit ledger s s.commit k three.0 in
           let c' : last_commit (ledger ++ e ∷ []) ≡ s.commit = c ∙ ap (commit_behind (last_commit ledger)) is in
-          let g' : greatest_recorded (ledger_book layers) (ledger ++ e ∷ []) ≡ max (greatest_recorded (ledger_book layers) ledger) s.commit =
-          g ∙ ap (λ (x : Content). max (greatest_recorded (ledger_book layers) ledger) (if is_signature x then recorded_commit x else 0)) is in
+          let g' : greatest_recorded (ledger_book layers keys) (ledger ++ e ∷ []) ≡ max (greatest_recorded (ledger_book layers keys) ledger) s.commit =
+          g ∙ ap (λ (x : Content). max (greatest_recorded (ledger_book layers keys) ledger) (if is_signature x then recorded_commit x else 0)) is in
           record { greatest = omega (arith, k.greatest, low.0); within = omega (arith, low.1) }
       go (content.Governance b) is c g l =
           let c' : last_commit (ledger ++ e ∷ []) ≡ last_commit ledger = c ∙ ap (commit_behind (last_commit ledger)) is in
-          let g' : greatest_recorded (ledger_book layers) (ledger ++ e ∷ []) ≡ max (greatest_recorded (ledger_book layers) ledger) 0 =
-          g ∙ ap (λ (x : Content). max (greatest_recorded (ledger_book layers) ledger) (if is_signature x then recorded_commit x else 0)) is in
+          let g' : greatest_recorded (ledger_book layers keys) (ledger ++ e ∷ []) ≡ max (greatest_recorded (ledger_book layers keys) ledger) 0 =
+          g ∙ ap (λ (x : Content). max (greatest_recorded (ledger_book layers keys) ledger) (if is_signature x then recorded_commit x else 0)) is in
           record { greatest = omega (arith, k.greatest); within = omega (arith, k.within) }
       go (content.Application b) is c g l =
           let c' : last_commit (ledger ++ e ∷ []) ≡ last_commit ledger = c ∙ ap (commit_behind (last_commit ledger)) is in
-          let g' : greatest_recorded (ledger_book layers) (ledger ++ e ∷ []) ≡ max (greatest_recorded (ledger_book layers) ledger) 0 =
-          g ∙ ap (λ (x : Content). max (greatest_recorded (ledger_book layers) ledger) (if is_signature x then recorded_commit x else 0)) is in
+          let g' : greatest_recorded (ledger_book layers keys) (ledger ++ e ∷ []) ≡ max (greatest_recorded (ledger_book layers keys) ledger) 0 =
+          g ∙ ap (λ (x : Content). max (greatest_recorded (ledger_book layers keys) ledger) (if is_signature x then recorded_commit x else 0)) is in
           record { greatest = omega (arith, k.greatest); within = omega (arith, k.within) }
       go (content.Evidence d) is c g l =
           let c' : last_commit (ledger ++ e ∷ []) ≡ last_commit ledger = c ∙ ap (commit_behind (last_commit ledger)) is in
-          let g' : greatest_recorded (ledger_book layers) (ledger ++ e ∷ []) ≡ max (greatest_recorded (ledger_book layers) ledger) 0 =
-          g ∙ ap (λ (x : Content). max (greatest_recorded (ledger_book layers) ledger) (if is_signature x then recorded_commit x else 0)) is in
+          let g' : greatest_recorded (ledger_book layers keys) (ledger ++ e ∷ []) ≡ max (greatest_recorded (ledger_book layers keys) ledger) 0 =
+          g ∙ ap (λ (x : Content). max (greatest_recorded (ledger_book layers keys) ledger) (if is_signature x then recorded_commit x else 0)) is in
           record { greatest = omega (arith, k.greatest); within = omega (arith, k.within) }
 
   none_kept : KeepsCommits []
   unfolding greatest_recorded
   none_kept = record { greatest = omega arith; within = omega arith }
 
-  pub commits_kept : (ledger : List Entry) → EachFollows (ledger_book layers) ledger → KeepsCommits ledger
-  commits_kept ledger z = follows_sound (ledger_book layers) KeepsCommits none_kept (λ log e f k d. kept log e k (unbroken layers log e d)) ledger z
+  pub commits_kept : (ledger : List Entry) → EachFollows (ledger_book layers keys) ledger → KeepsCommits ledger
+  commits_kept ledger z = follows_sound (ledger_book layers keys) KeepsCommits none_kept (λ log e f k d. kept log e k (unbroken layers keys log e d)) ledger z

@@ -23,42 +23,42 @@ up_to-push ledger e view up low i f s = ⊎_elim
 pub up_to-later : (ledger : List Entry) (view later : ℕ) → HasViewsUpTo view ledger → view ≤ later → HasViewsUpTo later ledger
 up_to-later ledger view later up low i f s = let h : f.view ≤ view = up i f s in omega arith
 
-pub up_to-opening : (g : request.Genesis) (node : List ℕ) → HasViewsUpTo 2 (opening_ledger g node)
-up_to-opening g node zero e s = let p : genesis_entry g ≡ e = cc in subst (λ (x : Entry). x.view ≤ 2) p (omega arith)
-up_to-opening g node (suc zero) e s =
-    let p : signature_entry node (genesis_entry g ∷ []) 2 2 ≡ e = cc in subst (λ (x : Entry). x.view ≤ 2) p (omega arith)
-up_to-opening g node (suc (suc i)) e s = absurd (cc)
+pub up_to-opening : (g : request.Genesis) (node bytes : List ℕ) → HasViewsUpTo 2 (opening_ledger g node bytes)
+up_to-opening g node bytes zero e s = let p : genesis_entry g ≡ e = cc in subst (λ (x : Entry). x.view ≤ 2) p (omega arith)
+up_to-opening g node bytes (suc zero) e s =
+    let p : signature_entry node bytes (genesis_entry g ∷ []) 2 2 ≡ e = cc in subst (λ (x : Entry). x.view ≤ 2) p (omega arith)
+up_to-opening g node bytes (suc (suc i)) e s = absurd (cc)
 
 -- a signature is made where a place is left
-pub sign_ok : (node : List ℕ) (ledger : List Entry) (view commit : ℕ) (e : Entry) → sign_result node ledger view commit ≡ Ok e →
-    (e ≡ signature_entry node ledger view commit) × (length ledger < last_seqno)
-sign_ok node ledger view commit e h = go (nat_lt (length ledger) last_seqno) refl h
+pub sign_ok : (node bytes : List ℕ) (ledger : List Entry) (view commit : ℕ) (e : Entry) → sign_result node bytes ledger view commit ≡ Ok e →
+    (e ≡ signature_entry node bytes ledger view commit) × (length ledger < last_seqno)
+sign_ok node bytes ledger view commit e h = go (nat_lt (length ledger) last_seqno) refl h
   where
     go : (left : Bool) → nat_lt (length ledger) last_seqno ≡ left →
-        (if left then Ok (signature_entry node ledger view commit) else Err refusals.SeqnoLimit) ≡ Ok e →
-        (e ≡ signature_entry node ledger view commit) × (length ledger < last_seqno)
-    go true is p = let same : signature_entry node ledger view commit ≡ e = cc in (sym same, grind (arith, nat_tests))
+        (if left then Ok (signature_entry node bytes ledger view commit) else Err refusals.SeqnoLimit) ≡ Ok e →
+        (e ≡ signature_entry node bytes ledger view commit) × (length ledger < last_seqno)
+    go true is p = let same : signature_entry node bytes ledger view commit ≡ e = cc in (sym same, grind (arith, nat_tests))
     go false is p = absurd (cc)
 
 -- and in the book's words it is the same
-pub book_sign_ok : (node : List ℕ) (ledger : List Entry) (view commit : ℕ) (e : Entry) → by_store (sign_result node ledger view commit) ≡ Ok e →
-    (e ≡ signature_entry node ledger view commit) × (length ledger < last_seqno)
-book_sign_ok node ledger view commit e h = go (nat_lt (length ledger) last_seqno) refl h
+pub book_sign_ok : (node bytes : List ℕ) (ledger : List Entry) (view commit : ℕ) (e : Entry) → by_store (sign_result node bytes ledger view commit) ≡ Ok e →
+    (e ≡ signature_entry node bytes ledger view commit) × (length ledger < last_seqno)
+book_sign_ok node bytes ledger view commit e h = go (nat_lt (length ledger) last_seqno) refl h
   where
     go : (left : Bool) → nat_lt (length ledger) last_seqno ≡ left →
-        by_store (if left then Ok (signature_entry node ledger view commit) else Err refusals.SeqnoLimit) ≡ Ok e →
-        (e ≡ signature_entry node ledger view commit) × (length ledger < last_seqno)
-    go true is p = let same : signature_entry node ledger view commit ≡ e = cc in (sym same, grind (arith, nat_tests))
+        by_store (if left then Ok (signature_entry node bytes ledger view commit) else Err refusals.SeqnoLimit) ≡ Ok e →
+        (e ≡ signature_entry node bytes ledger view commit) × (length ledger < last_seqno)
+    go true is p = let same : signature_entry node bytes ledger view commit ≡ e = cc in (sym same, grind (arith, nat_tests))
     go false is p = absurd (cc)
 
-pub up_to-signature : (ledger : List Entry) (node : List ℕ) (view commit : ℕ) → HasViewsUpTo view ledger →
-    HasViewsUpTo view (ledger ++ signature_entry node ledger view commit ∷ [])
-up_to-signature ledger node view commit up = up_to-push ledger (signature_entry node ledger view commit) view up (omega arith)
+pub up_to-signature : (ledger : List Entry) (node bytes : List ℕ) (view commit : ℕ) → HasViewsUpTo view ledger →
+    HasViewsUpTo view (ledger ++ signature_entry node bytes ledger view commit ∷ [])
+up_to-signature ledger node bytes view commit up = up_to-push ledger (signature_entry node bytes ledger view commit) view up (omega arith)
 
 -- a signature that was made stands at the place that it was given
-pub signature-last : (ledger : List Entry) (node : List ℕ) (view commit : ℕ) → IsSignedAt (ledger ++ signature_entry node ledger view commit ∷ []) (length ledger + 1)
-signature-last ledger node view commit =
-    let e = signature_entry node ledger view commit in
+pub signature-last : (ledger : List Entry) (node bytes : List ℕ) (view commit : ℕ) → IsSignedAt (ledger ++ signature_entry node bytes ledger view commit ∷ []) (length ledger + 1)
+signature-last ledger node bytes view commit =
+    let e = signature_entry node bytes ledger view commit in
     let same : suc (length ledger) ≡ length ledger + 1 = omega arith in
     let at : entry_at (ledger ++ e ∷ []) (suc (length ledger)) ≡ Some e = slice_get-last ledger e in
     subst (λ (n : ℕ). IsSignedAt (ledger ++ e ∷ []) n) same (e, at, refl)

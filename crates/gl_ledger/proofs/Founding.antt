@@ -1,13 +1,10 @@
 -- What the fields of a genesis in their ranges are, and its write set put row by row.
-use Rattle.std.proofs.Common.{◌≡◌, ℕ, ◌+◌, ◌<◌, ◌^◌, nat_lt, List, [], ◌∷◌, ◌++◌, length, drop, map, get_or, Bool, true, ◌&&◌, refl, sym, ◌∙◌, ap, arith, add-one, drop-cons}
+use Rattle.std.proofs.Common.{◌≡◌, ℕ, ◌+◌, ◌<◌, ◌^◌, List, [], ◌∷◌, ◌++◌, length, drop, map, get_or, true, refl, sym, ◌∙◌, ap, add-one, drop-cons}
 use Rattle.std.specs.List.{list_all, AllByRecursion}
 use Rattle.std.proofs.lemmas.Bool.{and_parts}
-use Rattle.std.proofs.lemmas.Bool.Decides.{nat_tests}
-use Rattle.gl_base.specs.Bytes.{are_bytes}
 use Rattle.gl_vmaps.specs.Writes.{with_write}
 use Rattle.gl_vmaps.specs.declared.write.Write.{Write}
-use Rattle.gl_entry.specs.Entry.{are_sized}
-use Rattle.gl_ledger.specs.Genesis.{is_node, is_member, is_dealing, is_genesis, set_from, constitution_rows, row, dealing_map, dealing_key, dealing_bytes, member_row, node_row, node_rows, service_row, genesis_writes}
+use Rattle.gl_ledger.specs.Genesis.{is_node, is_genesis, set_from, constitution_rows, row, dealing_map, dealing_key, dealing_bytes, member_row, node_row, node_rows, service_row, genesis_writes}
 use Rattle.gl_ledger.specs.declared.genesis.NewNode.{NewNode}
 use Rattle.gl_ledger.specs.declared.genesis.Genesis as request
 use Rattle.gl_ledger.proofs.GenesisFields.{node_fields, fields_of}

@@ -1,5 +1,5 @@
 -- The entry of an acceptable genesis with short endorsements fits its format.
-use Rattle.std.proofs.Common.{◌≡◌, ℕ, zero, suc, ◌*◌, ◌<◌, ◌≤◌, ◌^◌, ◌/◌, ◌%◌, nat_lt, nat_le, List, [], ◌∷◌, ◌++◌, length, map, Bool, true, ◌&&◌, ◌==◌, refl, ◌∙◌, arith, length-append}
+use Rattle.std.proofs.Common.{◌≡◌, ℕ, suc, ◌<◌, ◌≤◌, ◌^◌, nat_le, List, [], ◌∷◌, ◌++◌, length, map, Bool, true, ◌&&◌, refl, ◌∙◌, arith, length-append}
 use Rattle.std.specs.List.{list_all, flat_map, AllByRecursion}
 use Rattle.std.proofs.lemmas.Bool.{and_parts, and_from}
 use Rattle.std.proofs.lemmas.Bool.Decides.{nat_tests}
@@ -13,14 +13,13 @@ use Rattle.gl_vmaps.specs.Name.{is_map_name, is_key, is_value}
 use Rattle.gl_vmaps.specs.Writes.{is_write}
 use Rattle.gl_vmaps.specs.declared.write.Write.{Write}
 use Rattle.gl_vmaps.proofs.WriteLaws.{all_writes}
-use Rattle.gl_entry.specs.Entry.{no_digest, are_sized, is_digest, is_entry}
-use Rattle.gl_ledger.specs.Genesis.{state_byte, node_id, node_bytes, member_bytes, share_bytes, dealing_bytes, genesis_bytes, is_node, is_member, is_share, is_dealing, is_genesis, is_acceptable, row, rule_row, constitution_rows, dealing_map, dealing_key, members_map, nodes_map, service_map, service_key, member_row, node_row, node_rows, service_row, genesis_rows, genesis_writes}
+use Rattle.gl_entry.specs.Entry.{no_digest, is_digest, is_entry}
+use Rattle.gl_ledger.specs.Genesis.{state_byte, node_id, node_bytes, member_bytes, share_bytes, dealing_bytes, genesis_bytes, is_node, is_member, is_share, is_genesis, is_acceptable, row, constitution_rows, dealing_map, dealing_key, members_map, nodes_map, service_map, service_key, member_row, node_row, node_rows, service_row, genesis_rows, genesis_writes}
 use Rattle.gl_ledger.specs.Ledger.{genesis_entry}
 use Rattle.gl_ledger.specs.declared.genesis.ServiceState.{ServiceState}
 use Rattle.gl_ledger.specs.declared.genesis.ServiceState.TheVariants.{Opening, Open}
 use Rattle.gl_ledger.specs.declared.genesis.NewNode.{NewNode}
 use Rattle.gl_ledger.specs.declared.genesis.NewMember.{NewMember}
-use Rattle.gl_ledger.specs.declared.genesis.ShareDigest.{ShareDigest}
 use Rattle.gl_ledger.specs.declared.genesis.Dealing.{Dealing}
 use Rattle.gl_ledger.specs.declared.genesis.Genesis as request
 use Rattle.gl_ledger.proofs.WriteSets.{is_ordered-set_from, list_all-set_from}

@@ -3,7 +3,7 @@ use Rattle.std.proofs.Common.{◌≡◌, ℕ, List, [], ◌∷◌, ◌++◌, len
 use Rattle.gl_base.specs.TxId.{last_seqno}
 use Rattle.gl_rules.specs.Identity.{NodeId}
 use Rattle.gl_rules.specs.Safety.{IsLawful, IsRetiring, EachFollows, Makes, MarksNone, KeepsPlaces}
-use Rattle.gl_safety.proofs.Soundness.{sound_cut, sound_push}
+use Rattle.gl_rules.proofs.Soundness.{sound_cut, sound_push}
 use Rattle.gl_tx.specs.Request.{is_request}
 use Rattle.gl_tx.specs.declared.request.Operation.{Operation}
 use Rattle.gl_tx.specs.declared.request.Answer.{Answer}
@@ -19,6 +19,7 @@ use Rattle.gl_ledger.specs.declared.genesis.GovernanceRequest.{GovernanceRequest
 use Rattle.gl_ledger.specs.declared.breach.GenesisFault.{GenesisFault}
 use Rattle.gl_ledger.proofs.Applications.{execute_ok}
 use Rattle.gl_ledger.specs.Layers.{Layers}
+use Rattle.gl_ledger.specs.NodeKeys.{NodeKeys}
 use Rattle.gl_ledger.specs.Recordings.{Recording, OfEvidence, requests_of, removal, mark, recording_of}
 use Rattle.gl_ledger.specs.Acceptance.{request_fault}
 use Rattle.gl_ledger.specs.Broken.{Broken, broken, broken_by}
@@ -51,9 +52,9 @@ by_store_ok : {X : Type 0} (made : Result X Refusal) (x : X) → by_store made �
 by_store_ok {X} (Ok y) x h = let p : y ≡ x = cc in ap Ok p
 by_store_ok {X} (Err why) x h = absurd (cc)
 
-module _ (layers : Layers) where
+module _ (layers : Layers) (keys : NodeKeys) where
   abbrev pub book : ServiceBook
-  book = ledger_book layers
+  book = ledger_book layers keys
 
   -- what is let through was made, and its entry breaks nothing
   pub guarded_ok : {X : Type 0} (entry_of : X → Entry) (ledger : List Entry) (r : Result X Unmade) (x : X) → guarded layers entry_of ledger r ≡ Ok x →
@@ -80,9 +81,9 @@ module _ (layers : Layers) where
       go false is w = absurd (cc)
       go true is w = let r = answered (execute_result ledger view q) w in (is, r.0, r.1)
 
-  signing_ok : (x : NodeId) (leaf : ℕ) (ledger : List Entry) (view commit : ℕ) (e : Entry) → signing_result layers x leaf ledger view commit ≡ Ok e → e ≡ signed_entry layers x leaf ledger view commit
+  signing_ok : (x : NodeId) (leaf : ℕ) (ledger : List Entry) (view commit : ℕ) (e : Entry) → signing_result keys x leaf ledger view commit ≡ Ok e → e ≡ signed_entry keys x leaf ledger view commit
   signing_ok x leaf ledger view commit e h =
-      let made = signed_entry layers x leaf ledger view commit in
+      let made = signed_entry keys x leaf ledger view commit in
       within_seqnos_ok ledger made e (by_store_ok (within_seqnos ledger made) e h)
 
   followed : (ledger : List Entry) (e : Entry) → broken layers ledger e ≡ None → book.breaks ledger e ≡ None
@@ -116,7 +117,7 @@ module _ (layers : Layers) where
   signed_lawful : (x : NodeId) (leaf : ℕ) (ledger : List Entry) (view commit : ℕ) (e : Entry) → EachFollows book ledger →
       book.sign x leaf ledger view commit ≡ Ok e → Makes book (EachFollows book) ledger view e × (book.is_signature e ≡ true) × (book.recorded_commit e ≡ commit)
   signed_lawful x leaf ledger view commit e z h =
-      let one = guarded_ok (λ (made : Entry). made) ledger (signing_result layers x leaf ledger view commit) e h in
+      let one = guarded_ok (λ (made : Entry). made) ledger (signing_result keys x leaf ledger view commit) e h in
       let is = signing_ok x leaf ledger view commit e one.0 in (
         makes ledger view e z (ap (λ (f : Entry). f.view) is) one.1,
         ap (λ (f : Entry). is_signature f.content) is,

@@ -29,6 +29,5 @@ pub mod Opening
 pub mod Opened
 pub mod NodeOrder
 pub mod Making
-pub mod ViewLimits
-pub mod Leading
+pub mod Signing
 pub mod NodeSignatures

@@ -33,6 +33,7 @@ use Rattle.gl_ledger.specs.declared.breach.GenesisFault.{GenesisFault}
 use Rattle.gl_ledger.proofs.Applications.{execute_ok}
 use Rattle.gl_ledger.proofs.Fitting.{execute_fits}
 use Rattle.gl_ledger.specs.Layers.{Layers}
+use Rattle.gl_ledger.specs.NodeKeys.{NodeKeys}
 use Rattle.gl_ledger.specs.Recordings.{Recording, OfGovernance, OfApplication, OfSignature, governance_recording, application_recording, is_founding, is_signing, last_entry, founds, requests_of, recorded_nodes, removal, mark}
 use Rattle.gl_ledger.specs.Acceptance.{required, request_fault}
 use Rattle.gl_ledger.specs.Broken.{Broken, breach, is_next_view, is_unopened, is_in_order, broken_of_run, broken_in_state, effect_writes, unless_refused, with_writes, signs_at, last_signed, commit_behind, commit_from, last_commit, is_above_removal, is_later_commit, may_record, broken_by_fault, are_same_writes, broken}
@@ -47,7 +48,7 @@ itself n = grind (arith, nat_tests)
 within : (n : ℕ) → n < last_seqno → nat_le (n + 1) last_seqno ≡ true
 within n h = grind (arith, nat_tests)
 
-module _ (layers : Layers) (ledger : List Entry) (view : ℕ) (m : MayMake layers ledger view) where
+module _ (layers : Layers) (keys : NodeKeys) (ledger : List Entry) (view : ℕ) (m : MayMake layers ledger view) where
   in_view : (t : Recording) → is_next_view (last_entry ledger) t view ≡ true
   in_view t = ap (λ (o : Option Entry). is_next_view o t view) m.is_last ∙ (let h = m.up in grind (arith, nat_tests))
 
@@ -98,16 +99,16 @@ module _ (layers : Layers) (ledger : List Entry) (view : ℕ) (m : MayMake layer
       })
 
   -- what the trial of a signature comes to
-  pub signed_broken : (x : NodeId) (leaf commit : ℕ) → length ledger < last_seqno → is_entry (signed_entry layers x leaf ledger view commit) ≡ true →
-      MakesValid layers x leaf ledger view commit →
-      broken layers ledger (signed_entry layers x leaf ledger view commit)
-      ≡ required (member x (recorded_nodes layers ledger)) (breach 9 (length ledger + 1) (signed_entry layers x leaf ledger view commit))
-      (required (may_record layers ledger commit) (breach 10 (length ledger + 1) (signed_entry layers x leaf ledger view commit)) None)
+  pub signed_broken : (x : NodeId) (leaf commit : ℕ) → length ledger < last_seqno → is_entry (signed_entry keys x leaf ledger view commit) ≡ true →
+      MakesValid layers keys x leaf ledger view commit →
+      broken layers ledger (signed_entry keys x leaf ledger view commit)
+      ≡ required (member x (recorded_nodes layers ledger)) (breach 9 (length ledger + 1) (signed_entry keys x leaf ledger view commit))
+      (required (may_record layers ledger commit) (breach 10 (length ledger + 1) (signed_entry keys x leaf ledger view commit)) None)
   unfolding broken
   signed_broken x leaf commit left fits valid =
-      let e = signed_entry layers x leaf ledger view commit in
+      let e = signed_entry keys x leaf ledger view commit in
       let seqno = length ledger + 1 in
-      let s = signature_made layers x leaf ledger view commit in
+      let s = signature_made keys x leaf ledger view commit in
       true_first (is_entry e) _ _ fits
       ∙ true_first (seqno == seqno) _ _ (itself seqno)
       ∙ true_first (nat_le seqno last_seqno) _ _ (within (length ledger) left)
@@ -123,27 +124,27 @@ module _ (layers : Layers) (ledger : List Entry) (view : ℕ) (m : MayMake layer
 
 -- ---- the commit that a leader may record
 
-module _ (layers : Layers) where
-  last_same : (ledger : List Entry) → last_signature (ledger_book layers) ledger ≡ last_signed ledger
+module _ (layers : Layers) (keys : NodeKeys) where
+  last_same : (ledger : List Entry) → last_signature (ledger_book layers keys) ledger ≡ last_signed ledger
   unfolding last_signature
   last_same [] = refl
   last_same (e ∷ es) = ap (seqno_with_first (is_signature e.content)) (last_same es)
 
   -- the last commit is one of those that are recorded
-  last_within : (commit : ℕ) (es : List Entry) → commit_from commit es ≤ max commit (greatest_recorded (ledger_book layers) es)
+  last_within : (commit : ℕ) (es : List Entry) → commit_from commit es ≤ max commit (greatest_recorded (ledger_book layers keys) es)
   unfolding greatest_recorded
   last_within commit [] = omega arith
   last_within commit (e ∷ es) = go e.content (last_within (commit_behind commit e.content) es)
     where
-      go : (c : Content) → commit_from (commit_behind commit c) es ≤ max (commit_behind commit c) (greatest_recorded (ledger_book layers) es) →
-          commit_from (commit_behind commit c) es ≤ max commit (max (if is_signature c then recorded_commit c else 0) (greatest_recorded (ledger_book layers) es))
+      go : (c : Content) → commit_from (commit_behind commit c) es ≤ max (commit_behind commit c) (greatest_recorded (ledger_book layers keys) es) →
+          commit_from (commit_behind commit c) es ≤ max commit (max (if is_signature c then recorded_commit c else 0) (greatest_recorded (ledger_book layers keys) es))
       go (content.Signature s) h = omega arith
       go (content.Governance b) h = omega arith
       go (content.Application b) h = omega arith
       go (content.Evidence d) h = omega arith
 
   -- what the rules of consensus let a leader record, the audit lets it record
-  pub may_go_on : (ledger : List Entry) (commit : ℕ) → MayRecord (ledger_book layers) ledger commit → is_later_commit layers ledger commit ≡ true
+  pub may_go_on : (ledger : List Entry) (commit : ℕ) → MayRecord (ledger_book layers keys) ledger commit → is_later_commit layers ledger commit ≡ true
   may_go_on ledger commit h =
       let low : last_commit ledger ≤ commit = let a = last_within 0 ledger in let b = h.least in omega arith in
       and_from (signs_at (entry_at ledger commit) && nat_le (last_commit ledger) commit) _
@@ -158,7 +159,7 @@ module _ (layers : Layers) where
           go : (t : Bool) → nat_le place (last_signed ledger) ≡ t → (t || nat_le low commit) ≡ true
           go true is = refl
           go false is =
-              let behind : last_signature (ledger_book layers) ledger < place = let s = last_same ledger in let d : last_signed ledger < place = grind (arith, nat_tests) in omega arith in
+              let behind : last_signature (ledger_book layers keys) ledger < place = let s = last_same ledger in let d : last_signed ledger < place = grind (arith, nat_tests) in omega arith in
               let le : low ≤ commit = h.removals y place low a behind b in
               grind (arith, nat_tests)
 
@@ -167,29 +168,29 @@ module _ (layers : Layers) where
       each (y ∷ ys) = and_from _ _ (above y (mark layers ledger y) (removal layers ledger y) refl refl) (each ys)
 
   -- so a recorded node's signature breaks no rule
-  pub signed_unbroken : (ledger : List Entry) (view : ℕ) → MayMake layers ledger view → (x : NodeId) (leaf commit : ℕ) → length ledger < last_seqno → is_entry (signed_entry layers x leaf ledger view commit) ≡ true →
-      MakesValid layers x leaf ledger view commit →
-      member x (recorded_nodes layers ledger) ≡ true → MayRecord (ledger_book layers) ledger commit → broken layers ledger (signed_entry layers x leaf ledger view commit) ≡ None
+  pub signed_unbroken : (ledger : List Entry) (view : ℕ) → MayMake layers ledger view → (x : NodeId) (leaf commit : ℕ) → length ledger < last_seqno → is_entry (signed_entry keys x leaf ledger view commit) ≡ true →
+      MakesValid layers keys x leaf ledger view commit →
+      member x (recorded_nodes layers ledger) ≡ true → MayRecord (ledger_book layers keys) ledger commit → broken layers ledger (signed_entry keys x leaf ledger view commit) ≡ None
   signed_unbroken ledger view m x leaf commit left fits valid named may =
-      let e = signed_entry layers x leaf ledger view commit in
+      let e = signed_entry keys x leaf ledger view commit in
       let seqno = length ledger + 1 in
       let records : may_record layers ledger commit ≡ true =
       ap (λ (o : Option Entry). if is_unopened layers o then commit == seqno else is_later_commit layers ledger commit) m.is_last
       ∙ ap (λ (b : Bool). if b then commit == seqno else is_later_commit layers ledger commit) m.behind ∙ may_go_on ledger commit may in
-      signed_broken layers ledger view m x leaf commit left fits valid ∙ passes (member x (recorded_nodes layers ledger)) (breach 9 seqno e) _ named (passes (may_record layers ledger commit) (breach 10 seqno e) None records refl)
+      signed_broken layers keys ledger view m x leaf commit left fits valid ∙ passes (member x (recorded_nodes layers ledger)) (breach 9 seqno e) _ named (passes (may_record layers ledger commit) (breach 10 seqno e) None records refl)
 
   pub unless_none : {X : Type 0} (o : Option Broken) (x : X) → o ≡ None → unless_broken o x ≡ Ok x
   unless_none None x h = refl
   unless_none (Some why) x h = absurd (cc)
 
   -- the guard refuses no application request
-  pub execute_is : (ledger : List Entry) (view : ℕ) → view < 2 ^ 32 → MayMake layers ledger view → (q : List Operation) → (ledger_book layers).execute ledger view q ≡ request_result ledger view q
+  pub execute_is : (ledger : List Entry) (view : ℕ) → view < 2 ^ 32 → MayMake layers ledger view → (q : List Operation) → (ledger_book layers keys).execute ledger view q ≡ request_result ledger view q
   execute_is ledger view low m q = go (is_request q) refl
     where
       answered : is_request q ≡ true → (r : Result (Entry × List Answer) Refusal) → execute_result ledger view q ≡ r → guarded layers (λ (made : Entry × Given). made.0) ledger (with_reply r) ≡ with_reply r
       answered fits (Err why) is = refl
       answered fits (Ok made) is =
-          unless_none (broken layers ledger made.0) (made.0, Replied made.1) (executed_unbroken layers ledger view m q made.0 made.1 fits is (execute_fits ledger view q made.0 made.1 low fits is))
+          unless_none (broken layers ledger made.0) (made.0, Replied made.1) (executed_unbroken layers keys ledger view m q made.0 made.1 fits is (execute_fits ledger view q made.0 made.1 low fits is))
 
       go : (b : Bool) → is_request q ≡ b → guarded layers (λ (made : Entry × Given). made.0) ledger (if b then with_reply (execute_result ledger view q) else Err Unspelled) ≡ (if b then with_reply (execute_result ledger view q) else Err Unspelled)
       go false is = refl

@@ -1,5 +1,5 @@
 -- What a node signs with one of its leaves is a signature of it.
-use Rattle.std.proofs.Common.{◌≡◌, ℕ, ◌<◌, ◌^◌, List, [], ◌∷◌, ◌++◌, length, Option, Some, None, Result, Ok, Bool, if◌then◌else◌, refl, sym, ap, ◌∙◌, append_assoc}
+use Rattle.std.proofs.Common.{◌≡◌, ℕ, ◌<◌, ◌^◌, List, [], ◌∷◌, ◌++◌, Some, None, Result, Bool, if◌then◌else◌, sym, ap, ◌∙◌, append_assoc}
 use Rattle.std.specs.Cmp.Lexicographic.{bytes_decides}
 use Rattle.sha2.specs.Sha256.{sha256}
 use Rattle.gl_hss.specs.declared.fault.HssFault.{HssFault}
@@ -8,7 +8,7 @@ use Rattle.gl_lms.specs.Bytes.{u32str}
 use Rattle.gl_lms.specs.Types.{height}
 use Rattle.gl_lms.specs.Tree.{PublicKey, Signature, key_bytes, signature_bytes}
 use Rattle.gl_hss.specs.Hss.{IsValid, hss_bytes}
-use Rattle.gl_hss.specs.Order.{verdict, last_key_verdict}
+use Rattle.gl_hss.specs.Order.{last_key_verdict}
 use Rattle.gl_lms.specs.Secrets.{PrivateKey, public_of}
 use Rattle.gl_lms.specs.Profile.{signature_by}
 use Rattle.gl_hss.specs.Signer.{hss_signature, StandsUnder, levels_above}

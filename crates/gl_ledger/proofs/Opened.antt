@@ -8,9 +8,8 @@ use Rattle.gl_base.specs.declared.fault.CodeFault.{CodeFault}
 use Rattle.gl_merkle.specs.Tree.{root_of}
 use Rattle.gl_rules.specs.Identity.{NodeId, member}
 use Rattle.gl_rules.specs.World.{Start, first_view}
-use Rattle.gl_rules.specs.Safety.{IsOpening, IsSafe, IsConfigured, EachFollows}
-use Rattle.gl_safety.proofs.Soundness.{sound_cut}
-use Rattle.gl_safety.proofs.AnySoundness.{safe_for}
+use Rattle.gl_rules.specs.Safety.{IsOpening, IsConfigured, EachFollows}
+use Rattle.gl_rules.proofs.Soundness.{sound_cut}
 use Rattle.gl_tx.specs.Reading.{request_of}
 use Rattle.gl_tx.specs.declared.request.Operation.{Operation}
 use Rattle.gl_entry.specs.Entry.{is_signature, recorded_commit}
@@ -28,29 +27,28 @@ use Rattle.gl_ledger.specs.declared.genesis.Genesis as request
 use Rattle.gl_ledger.specs.declared.genesis.GovernanceRequest.{GovernanceRequest}
 use Rattle.gl_ledger.specs.declared.genesis.GovernanceRequest.TheVariants as requests
 use Rattle.gl_ledger.specs.declared.breach.GenesisFault.{GenesisFault}
-use Rattle.gl_ledger.specs.Layers.{Layers, ReadsSpellings}
+use Rattle.gl_ledger.specs.Layers.{Layers}
+use Rattle.gl_ledger.specs.NodeKeys.{NodeKeys}
 use Rattle.gl_ledger.specs.Recordings.{Recording, OfGovernance, OfSignature, last_entry, recording_of, governance_recording, application_recording, is_founding, records_founding, is_signing, founds, requests_of, recorded_at, recorded_in, nodes_of, trusted_of, changed_set, recorded_nodes, trusted_nodes, configuration}
 use Rattle.gl_ledger.specs.Acceptance.{genesis_fault}
 use Rattle.gl_ledger.specs.Broken.{Broken, unless_refused, is_in_order, is_unopened, broken_by, is_later_commit, may_record}
-use Rattle.gl_ledger.specs.Sound.{IsSound}
 use Rattle.gl_ledger.specs.Makers.{opening_of}
 use Rattle.gl_ledger.specs.LedgerBook.{ledger_book, by_rule}
 use Rattle.gl_ledger.specs.Audit.{LedgerFault, audited, signer_in, signer_of, opened_where, opened_unless, opened}
 use Rattle.gl_ledger.proofs.Passing.{passed, Passes, passing}
-use Rattle.gl_ledger.proofs.Lawful.{lawful, unbroken}
+use Rattle.gl_ledger.proofs.Lawful.{unbroken}
 use Rattle.gl_ledger.proofs.Pushes.{no_last}
-use Rattle.gl_ledger.proofs.Sounding.{sound-push, sound_empty}
 use Rattle.gl_ledger.proofs.Auditing.{audited_none, audited_all}
-use Rattle.gl_ledger.specs.Services.{ServiceEvent, Begins, Founds}
+use Rattle.gl_ledger.specs.Opening.{Begins, Founds}
 use Rattle.gl_ledger.proofs.Opening.{founded, follow}
 
-module _ (layers : Layers) where
+module _ (layers : Layers) (keys : NodeKeys) where
   -- ---- two entries
 
   -- an entry that founds stands alone where it is the last
-  pub alone : (es : List Entry) (f : Entry) → EachFollows (ledger_book layers) es → last_entry es ≡ Some f → founds layers f ≡ true → es ≡ f ∷ []
+  pub alone : (es : List Entry) (f : Entry) → EachFollows (ledger_book layers keys) es → last_entry es ≡ Some f → founds layers f ≡ true → es ≡ f ∷ []
   alone es f z last founded =
-      let p = passing layers (take (length es - 1) es) f (unbroken layers (take (length es - 1) es) f (z (length es - 1) f last)) in
+      let p = passing layers (take (length es - 1) es) f (unbroken layers keys (take (length es - 1) es) f (z (length es - 1) f last)) in
       let t : is_founding p.recording ≡ true = sym (ap records_founding p.reads) ∙ founded in
       one es last (no_last (take (length es - 1) es) (none p.recording f.view (last_entry (take (length es - 1) es)) t p.order))
     where
@@ -138,12 +136,12 @@ module _ (layers : Layers) where
 
   -- ---- the opening
 
-  module _ (f e : Entry) (x : NodeId) (z : EachFollows (ledger_book layers) (f ∷ e ∷ [])) (founded : founds layers f ≡ true) (signer : signer_in e.content ≡ Some x) where
+  module _ (f e : Entry) (x : NodeId) (z : EachFollows (ledger_book layers keys) (f ∷ e ∷ [])) (founded : founds layers f ≡ true) (signer : signer_in e.content ≡ Some x) where
     first : Passes layers [] f
-    first = passing layers [] f (unbroken layers [] f (z 0 f refl))
+    first = passing layers [] f (unbroken layers keys [] f (z 0 f refl))
 
     second : Passes layers (f ∷ []) e
-    second = passing layers (f ∷ []) e (unbroken layers (f ∷ []) e (z 1 e refl))
+    second = passing layers (f ∷ []) e (unbroken layers keys (f ∷ []) e (z 1 e refl))
 
     view_of_first : f.view ≡ first_view
     view_of_first = let h = (and_parts (is_founding first.recording) (f.view == first_view) first.view).1 in grind (arith, nat_tests)
@@ -207,7 +205,7 @@ module _ (layers : Layers) where
         sym (ap₂ member node nodes) ∙ one.0
 
     -- the node that signed is in the configuration
-    configures : IsConfigured (ledger_book layers) x (f ∷ e ∷ [])
+    configures : IsConfigured (ledger_book layers keys) x (f ∷ e ∷ [])
     configures = (1, map node_id by.genesis.nodes, configured, signed_by)
 
     by_case : (P : ℕ → Entry → Type 0) → P 0 f → P 1 e → (i : ℕ) (d : Entry) → slice_get (f ∷ e ∷ []) i ≡ Some d → P i d
@@ -218,7 +216,7 @@ module _ (layers : Layers) where
     no_signature : is_signature f.content ≡ true → ⊥
     no_signature h = let k = sym (ap is_signature by.content_is) ∙ h in cc
 
-    opens : (starting : List NodeId) → member x starting ≡ true → IsOpening (ledger_book layers) (EachFollows (ledger_book layers)) (record { opening = f ∷ e ∷ []; starting = starting; first = x })
+    opens : (starting : List NodeId) → member x starting ≡ true → IsOpening (ledger_book layers keys) (EachFollows (ledger_book layers keys)) (record { opening = f ∷ e ∷ []; starting = starting; first = x })
     opens starting there = record {
       sound = z;
       views = by_case (λ i d. d.view ≡ first_view) view_of_first view_of_second;
@@ -243,59 +241,53 @@ module _ (layers : Layers) where
     genesis : Entry
     signature : Entry
     both : ledger ≡ genesis ∷ signature ∷ []
-    each : EachFollows (ledger_book layers) (genesis ∷ signature ∷ [])
+    each : EachFollows (ledger_book layers keys) (genesis ∷ signature ∷ [])
     founding : founds layers genesis ≡ true
     signer : signer_in signature.content ≡ Some x
 
   pair_of : (ledger : List Entry) (x : NodeId) → opened layers ledger ≡ Ok x → Pair ledger x
   pair_of ledger x h =
       let parts = opened_parts ledger x h in
-      let z : EachFollows (ledger_book layers) ledger = λ i e at. ap by_rule (audited_none layers ledger parts.0 i e at) in
+      let z : EachFollows (ledger_book layers keys) ledger = λ i e at. ap by_rule (audited_none layers ledger parts.0 i e at) in
       let f = founding_is (last_entry (take (length ledger - 1) ledger)) parts.1 in
       let founded : founds layers f.0 ≡ true = ap (is_unopened layers) (sym f.1) ∙ parts.1 in
-      let front = alone (take (length ledger - 1) ledger) f.0 (sound_cut (ledger_book layers) ledger (length ledger - 1) z) f.1 founded in
+      let front = alone (take (length ledger - 1) ledger) f.0 (sound_cut (ledger_book layers keys) ledger (length ledger - 1) z) f.1 founded in
       let two = pair ledger f.0 front in
       record {
         genesis = f.0;
         signature = two.0;
         both = two.1;
-        each = subst (EachFollows (ledger_book layers)) two.1 z;
+        each = subst (EachFollows (ledger_book layers keys)) two.1 z;
         founding = founded;
         signer = ap (λ (l : List Entry). signer_of (last_entry l)) (sym two.1) ∙ parts.2;
       }
 
   pub opened_opens : (ledger : List Entry) (x : NodeId) → opened layers ledger ≡ Ok x → (starting : List NodeId) → member x starting ≡ true →
-      IsOpening (ledger_book layers) (EachFollows (ledger_book layers)) (record { opening = ledger; starting = starting; first = x })
+      IsOpening (ledger_book layers keys) (EachFollows (ledger_book layers keys)) (record { opening = ledger; starting = starting; first = x })
   opened_opens ledger x h starting there =
       let p = pair_of ledger x h in
-      subst (λ (l : List Entry). IsOpening (ledger_book layers) (EachFollows (ledger_book layers)) (record { opening = l; starting = starting; first = x })) (sym p.both)
+      subst (λ (l : List Entry). IsOpening (ledger_book layers keys) (EachFollows (ledger_book layers keys)) (record { opening = l; starting = starting; first = x })) (sym p.both)
       (opens p.genesis p.signature x p.each p.founding p.signer starting there)
 
   -- the node that signed it is in its configuration
-  pub opened_configured : (ledger : List Entry) (x : NodeId) → opened layers ledger ≡ Ok x → IsConfigured (ledger_book layers) x ledger
+  pub opened_configured : (ledger : List Entry) (x : NodeId) → opened layers ledger ≡ Ok x → IsConfigured (ledger_book layers keys) x ledger
   opened_configured ledger x h =
       let p = pair_of ledger x h in
-      subst (IsConfigured (ledger_book layers) x) (sym p.both) (configures p.genesis p.signature x p.each p.founding p.signer)
+      subst (IsConfigured (ledger_book layers keys) x) (sym p.both) (configures p.genesis p.signature x p.each p.founding p.signer)
 
-  pub begins_opening : (s : Start Entry) → Begins layers s → IsOpening (ledger_book layers) (EachFollows (ledger_book layers)) s
+  pub begins_opening : (s : Start Entry) → Begins layers s → IsOpening (ledger_book layers keys) (EachFollows (ledger_book layers keys)) s
   begins_opening s h = opened_opens s.opening s.first h.checked s.starting h.starts
 
   -- so such a service is safe
-  pub begins_safe : ReadsSpellings layers → (s : Start Entry) → Begins layers s → (events : List ServiceEvent) → IsSafe (ledger_book layers) (IsSound layers) s events
-  begins_safe readings s h events =
-      safe_for (ledger_book layers) (IsSound layers) (sound_empty layers)
-      (λ log e each sound one. sound-push layers readings log e sound (unbroken layers log e one))
-      (begins_opening s h) (lawful layers) events
 
--- the check takes the opening of an acceptable genesis, and tells who signed it
-pub opening_opened : (layers : Layers) (g : request.Genesis) (x : NodeId) → Founds layers g x → opened layers (opening_of layers g x) ≡ Ok x
+pub opening_opened : (layers : Layers) (keys : NodeKeys) (g : request.Genesis) (x : NodeId) → Founds layers keys g x → opened layers (opening_of keys g x) ≡ Ok x
 unfolding opened
-opening_opened layers g x h =
-    let ledger = opening_of layers g x in
-    let none : audited layers ledger ≡ None = audited_all layers ledger (λ i e at. unbroken layers _ e (follow layers g x h i e at)) in
-    let one : length (opening_of layers g x) - 1 ≡ 1 = omega arith in
+opening_opened layers keys g x h =
+    let ledger = opening_of keys g x in
+    let none : audited layers ledger ≡ None = audited_all layers ledger (λ i e at. unbroken layers keys _ e (follow layers keys g x h i e at)) in
+    let one : length (opening_of keys g x) - 1 ≡ 1 = omega arith in
     let first : length (genesis_entry g ∷ []) - 1 ≡ 0 = omega arith in
-    ap (λ (o : Option LedgerFault). opened_unless layers o (opening_of layers g x)) none
-    ∙ ap (λ (j : ℕ). opened_where (is_unopened layers (last_entry (take j (opening_of layers g x)))) (signer_of (slice_get (opening_of layers g x) j)) (length (opening_of layers g x))) one
-    ∙ ap (λ (j : ℕ). opened_where (is_unopened layers (slice_get (genesis_entry g ∷ []) j)) (Some x) (length (opening_of layers g x))) first
-    ∙ ap (λ (b : Bool). opened_where b (Some x) (length (opening_of layers g x))) (founded layers g x h)
+    ap (λ (o : Option LedgerFault). opened_unless layers o (opening_of keys g x)) none
+    ∙ ap (λ (j : ℕ). opened_where (is_unopened layers (last_entry (take j (opening_of keys g x)))) (signer_of (slice_get (opening_of keys g x) j)) (length (opening_of keys g x))) one
+    ∙ ap (λ (j : ℕ). opened_where (is_unopened layers (slice_get (genesis_entry g ∷ []) j)) (Some x) (length (opening_of keys g x))) first
+    ∙ ap (λ (b : Bool). opened_where b (Some x) (length (opening_of keys g x))) (founded layers keys g x h)

@@ -16,12 +16,13 @@ use Rattle.gl_ledger.specs.declared.genesis.GovernanceRequest.{GovernanceRequest
 use Rattle.gl_ledger.specs.declared.genesis.GovernanceRequest.TheVariants as requests
 use Rattle.gl_ledger.specs.declared.breach.GenesisFault.{GenesisFault}
 use Rattle.gl_ledger.specs.Layers.{Layers}
+use Rattle.gl_ledger.specs.NodeKeys.{NodeKeys}
 use Rattle.gl_ledger.specs.Recordings.{OfGovernance, OfSignature, recording_of, governance_recording, records_founding, founds, requests_of, recorded_at, nodes_of, trusted_of, changed_set, recorded_nodes, trusted_nodes, configuration}
 use Rattle.gl_ledger.specs.Changes.{changes}
 use Rattle.gl_ledger.specs.Broken.{unless_refused, with_writes, is_later_commit, may_record, broken_by_fault, are_same_writes, broken}
 use Rattle.gl_ledger.specs.Makers.{signature_made, signed_entry, opening_of}
 use Rattle.gl_ledger.specs.LedgerBook.{by_rule, ledger_book}
-use Rattle.gl_ledger.specs.Services.{Founds}
+use Rattle.gl_ledger.specs.Opening.{Founds}
 use Rattle.gl_ledger.proofs.SignatureEntries.{named_digests, among, signed_is_entry}
 use Rattle.gl_ledger.proofs.SameWrites.{same_bytes_self, same_writes_self}
 use Rattle.gl_ledger.proofs.Changes.{changes_from_none}
@@ -36,7 +37,7 @@ pub member_first : (x : NodeId) (ys : List NodeId) → member x (x ∷ ys) ≡ t
 unfolding same
 member_first x ys = ap (λ (b : Bool). b || member x ys) (same_bytes_self x)
 
-module _ (layers : Layers) (g : request.Genesis) (x : NodeId) (h : Founds layers g x) where
+module _ (layers : Layers) (keys : NodeKeys) (g : request.Genesis) (x : NodeId) (h : Founds layers keys g x) where
   genesis_read : recording_of layers (content.Governance (genesis_bytes g)) ≡ Some (OfGovernance (requests.Genesis g))
   genesis_read = ap governance_recording h.reads
 
@@ -74,13 +75,13 @@ module _ (layers : Layers) (g : request.Genesis) (x : NodeId) (h : Founds layers
       some [] w = absurd (cc)
       some (y ∷ ys) w = refl
 
-  pub signature_breaks_nothing : broken layers (genesis_entry g ∷ []) (signed_entry layers x 0 (genesis_entry g ∷ []) first_view 2) ≡ None
+  pub signature_breaks_nothing : broken layers (genesis_entry g ∷ []) (signed_entry keys x 0 (genesis_entry g ∷ []) first_view 2) ≡ None
   signature_breaks_nothing =
-      let s = signature_made layers x 0 (genesis_entry g ∷ []) first_view 2 in
-      passing_all layers (genesis_entry g ∷ []) (signed_entry layers x 0 (genesis_entry g ∷ []) first_view 2) (record {
+      let s = signature_made keys x 0 (genesis_entry g ∷ []) first_view 2 in
+      passing_all layers (genesis_entry g ∷ []) (signed_entry keys x 0 (genesis_entry g ∷ []) first_view 2) (record {
         recording = OfSignature s;
         reads = refl;
-        fits = signed_is_entry layers x 0 (genesis_entry g ∷ []) first_view 2 (among x (map node_id g.nodes) (named_digests g.nodes) h.named) (omega arith) (omega arith) (omega arith) (omega arith) h.valid;
+        fits = signed_is_entry layers keys x 0 (genesis_entry g ∷ []) first_view 2 (among x (map node_id g.nodes) (named_digests g.nodes) h.named) (omega arith) (omega arith) (omega arith) (omega arith) h.valid;
         seqno = refl;
         named = refl;
         view = refl;
@@ -92,23 +93,23 @@ module _ (layers : Layers) (g : request.Genesis) (x : NodeId) (h : Founds layers
 
   -- ---- the opening ledger
 
-  by_case : (P : ℕ → Entry → Type 0) → P 0 (genesis_entry g) → P 1 (signed_entry layers x 0 (genesis_entry g ∷ []) first_view 2) → (i : ℕ) (e : Entry) → slice_get (opening_of layers g x) i ≡ Some e → P i e
+  by_case : (P : ℕ → Entry → Type 0) → P 0 (genesis_entry g) → P 1 (signed_entry keys x 0 (genesis_entry g ∷ []) first_view 2) → (i : ℕ) (e : Entry) → slice_get (opening_of keys g x) i ≡ Some e → P i e
   by_case P a b zero e s = subst (P 0) (let p : genesis_entry g ≡ e = cc in p) a
-  by_case P a b (suc zero) e s = subst (P 1) (let p : signed_entry layers x 0 (genesis_entry g ∷ []) first_view 2 ≡ e = cc in p) b
+  by_case P a b (suc zero) e s = subst (P 1) (let p : signed_entry keys x 0 (genesis_entry g ∷ []) first_view 2 ≡ e = cc in p) b
   by_case P a b (suc (suc i)) e s = absurd (cc)
 
-  pub follow : EachFollows (ledger_book layers) (opening_of layers g x)
-  follow = by_case (λ i e. (ledger_book layers).breaks (take i (opening_of layers g x)) e ≡ None) (ap by_rule genesis_breaks_nothing) (ap by_rule signature_breaks_nothing)
+  pub follow : EachFollows (ledger_book layers keys) (opening_of keys g x)
+  follow = by_case (λ i e. (ledger_book layers keys).breaks (take i (opening_of keys g x)) e ≡ None) (ap by_rule genesis_breaks_nothing) (ap by_rule signature_breaks_nothing)
 
   pub is_opening : (starting : List NodeId) → member x starting ≡ true →
-      IsOpening (ledger_book layers) (EachFollows (ledger_book layers)) (record { opening = opening_of layers g x; starting = starting; first = x })
+      IsOpening (ledger_book layers keys) (EachFollows (ledger_book layers keys)) (record { opening = opening_of keys g x; starting = starting; first = x })
   is_opening starting there = record {
     sound = follow;
     views = by_case (λ i e. e.view ≡ first_view) refl refl;
     follow = follow;
     before = 1;
     long = refl;
-    signature = signed_entry layers x 0 (genesis_entry g ∷ []) first_view 2;
+    signature = signed_entry keys x 0 (genesis_entry g ∷ []) first_view 2;
     last = refl;
     signs = refl;
     records = refl;

@@ -111,11 +111,11 @@ genesis_sound g acceptable fits entry = record {
     serial zero e s = subst (λ (x : Entry). StandsAs x.content [] x) (let p : genesis_entry g ≡ e = cc in p) (genesis_stands g acceptable fits)
     serial (suc i) e s = absurd (cc)
 
-pub opening_sound : (g : request.Genesis) (node : List ℕ) → is_acceptable g ≡ true → is_genesis g ≡ true → is_entry (genesis_entry g) ≡ true →
-    is_entry (signature_entry node (genesis_entry g ∷ []) 2 2) ≡ true → IsSerialRun (opening_ledger g node)
-opening_sound g node acceptable fits entry signature =
-    sound-push (genesis_entry g ∷ []) (signature_entry node (genesis_entry g ∷ []) 2 2)
-    (genesis_sound g acceptable fits entry) signature refl up (record { writes_nothing = (refl, refl); root = refl }) tt tt
+pub opening_sound : (g : request.Genesis) (node bytes : List ℕ) → is_acceptable g ≡ true → is_genesis g ≡ true → is_entry (genesis_entry g) ≡ true →
+    is_entry (signature_entry node bytes (genesis_entry g ∷ []) 2 2) ≡ true → IsSerialRun (opening_ledger g node bytes)
+opening_sound g node bytes acceptable fits entry one =
+    sound-push (genesis_entry g ∷ []) (signature_entry node bytes (genesis_entry g ∷ []) 2 2)
+    (genesis_sound g acceptable fits entry) one refl up (record { writes_nothing = (refl, refl); root = refl }) tt tt
   where
     up : (i : ℕ) (e : Entry) → slice_get (genesis_entry g ∷ []) i ≡ Some e → e.view ≤ 2
     up zero e s = let p : genesis_entry g ≡ e = cc in subst (λ (x : Entry). x.view ≤ 2) p (omega arith)
@@ -123,22 +123,22 @@ opening_sound g node acceptable fits entry signature =
 
 -- ---- what its tables tell
 
-tables_of_opening : (g : request.Genesis) (node : List ℕ) → tables_of (opening_ledger g node) ≡ wrote_all no_tables (genesis_writes g)
-tables_of_opening g node =
-    tables_of-push (genesis_entry g ∷ []) (signature_entry node (genesis_entry g ∷ []) 2 2) ∙ tables_of-push [] (genesis_entry g)
+tables_of_opening : (g : request.Genesis) (node bytes : List ℕ) → tables_of (opening_ledger g node bytes) ≡ wrote_all no_tables (genesis_writes g)
+tables_of_opening g node bytes =
+    tables_of-push (genesis_entry g ∷ []) (signature_entry node bytes (genesis_entry g ∷ []) 2 2) ∙ tables_of-push [] (genesis_entry g)
 
 state_read : (s : ServiceState) (bytes : List ℕ) → state_of_value (Some (state_byte s ∷ bytes)) ≡ s
 state_read Opening bytes = refl
 state_read Open bytes = refl
 
 -- the service's state in the opening ledger is that of the genesis
-pub state_of_opening : (g : request.Genesis) (node : List ℕ) → service_state (tables_of (opening_ledger g node)) ≡ g.state
-state_of_opening g node =
-    ap service_state (tables_of_opening g node) ∙ ap state_of_value (service_value g) ∙ state_read g.state (0 ∷ g.identity)
+pub state_of_opening : (g : request.Genesis) (node bytes : List ℕ) → service_state (tables_of (opening_ledger g node bytes)) ≡ g.state
+state_of_opening g node bytes =
+    ap service_state (tables_of_opening g node bytes) ∙ ap state_of_value (service_value g) ∙ state_read g.state (0 ∷ g.identity)
 
 -- and so is its key
 pub identity_of_genesis : (g : request.Genesis) → identity_in (wrote_all no_tables (genesis_writes g)) ≡ g.identity
 identity_of_genesis g = ap identity_of_value (service_value g)
 
-pub identity_of_opening : (g : request.Genesis) (node : List ℕ) → identity_in (tables_of (opening_ledger g node)) ≡ g.identity
-identity_of_opening g node = ap identity_in (tables_of_opening g node) ∙ identity_of_genesis g
+pub identity_of_opening : (g : request.Genesis) (node bytes : List ℕ) → identity_in (tables_of (opening_ledger g node bytes)) ≡ g.identity
+identity_of_opening g node bytes = ap identity_in (tables_of_opening g node bytes) ∙ identity_of_genesis g

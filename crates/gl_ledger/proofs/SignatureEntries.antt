@@ -9,7 +9,7 @@ use Rattle.gl_base.specs.LittleEndian.{little_endian}
 use Rattle.gl_base.proofs.LittleEndianLaws.{length-little_endian}
 use Rattle.gl_merkle.specs.Tree.{root_of}
 use Rattle.gl_rules.specs.Identity.{NodeId, same, member}
-use Rattle.gl_safety.proofs.Ids.{same_is}
+use Rattle.gl_rules.proofs.Ids.{same_is}
 use Rattle.gl_entry.specs.Entry.{no_digest, is_digest, is_entry}
 use Rattle.gl_entry.specs.declared.entry.Content.TheVariants as content
 use Rattle.gl_entry.specs.declared.entry.Entry.{Entry}
@@ -21,6 +21,7 @@ use Rattle.gl_ledger.specs.declared.genesis.NewNode.{NewNode}
 use Rattle.gl_ledger.specs.declared.genesis.GovernanceRequest.{GovernanceRequest}
 use Rattle.gl_ledger.specs.declared.genesis.GovernanceRequest.TheVariants as requests
 use Rattle.gl_ledger.specs.Layers.{Layers}
+use Rattle.gl_ledger.specs.NodeKeys.{NodeKeys}
 use Rattle.gl_ledger.specs.Recordings.{requests_of, nodes_named, nodes_of, recorded_nodes}
 use Rattle.gl_ledger.specs.Makers.{MakesValid, signature_behind, signed_entry}
 use Rattle.gl_ledger.proofs.Digests.{sha256_digest}
@@ -85,7 +86,7 @@ signed_fits node root signature view seqno commit named digest low fits number b
     })
     (omega (arith, length-body_bytes e, recorded, node_long, root_long, short))
 
-pub signed_is_entry : (layers : Layers) (x : NodeId) (leaf : ℕ) (ledger : List Entry) (view commit : ℕ) → is_digest x ≡ true → 1 ≤ length ledger → view < 2 ^ 32 → length ledger + 1 < 2 ^ 64 → commit < 2 ^ 64 →
-    MakesValid layers x leaf ledger view commit → is_entry (signed_entry layers x leaf ledger view commit) ≡ true
-signed_is_entry layers x leaf ledger view commit named some low fits number v =
-    signed_fits x (root_of (leaves_of ledger)) (signature_behind layers x leaf ledger view commit) view (length ledger + 1) commit named (root_is_digest ledger some) low fits number v.bytes v.short
+pub signed_is_entry : (layers : Layers) (keys : NodeKeys) (x : NodeId) (leaf : ℕ) (ledger : List Entry) (view commit : ℕ) → is_digest x ≡ true → 1 ≤ length ledger → view < 2 ^ 32 → length ledger + 1 < 2 ^ 64 → commit < 2 ^ 64 →
+    MakesValid layers keys x leaf ledger view commit → is_entry (signed_entry keys x leaf ledger view commit) ≡ true
+signed_is_entry layers keys x leaf ledger view commit named some low fits number v =
+    signed_fits x (root_of (leaves_of ledger)) (signature_behind keys x leaf ledger view commit) view (length ledger + 1) commit named (root_is_digest ledger some) low fits number v.bytes v.short

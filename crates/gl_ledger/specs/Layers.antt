@@ -1,5 +1,5 @@
--- What the ledger takes from two other layers: the reading of governance requests, and the keys of
--- nodes.
+-- What the ledger takes from two other layers: the reading of governance requests, and which
+-- endorsements and signatures are valid.
 use Rattle.std.specs.Prelude.{◌≡◌, ℕ, List, Option, Some, Bool, true}
 use Rattle.gl_base.specs.Bytes.{are_bytes}
 use Rattle.gl_hss.specs.declared.fault.HssFault.{HssFault}
@@ -14,8 +14,6 @@ pub record Layers : Type 0 where
   pub request_in : List ℕ → Option GovernanceRequest
   -- whether bytes are the endorsement, by a service with this key, of a node's key
   pub is_endorsed : List ℕ → List ℕ → List ℕ → Bool
-  -- the signature by a node, with one of its leaves, of a message
-  pub signature_by : NodeId → ℕ → List ℕ → List ℕ
   -- in a service with this key, why bytes are no signature by a node of a message
   pub signature_fault : List ℕ → NodeId → List ℕ → List ℕ → Option HssFault
 

@@ -3,6 +3,7 @@ use Rattle.std.specs.Prelude.{◌≡◌, ℕ, ◌+◌, ◌≤◌, List, [], ◌�
 use Rattle.sha2.specs.Sha256.{sha256}
 use Rattle.gl_merkle.specs.Tree.{root_of}
 use Rattle.gl_base.specs.TxId.{last_seqno}
+use Rattle.gl_rules.specs.Identity.{NodeId}
 use Rattle.gl_tx.specs.Request.{request_bytes, reply_bytes}
 use Rattle.gl_tx.specs.Run.{run}
 use Rattle.gl_tx.specs.declared.runs.Ran.{Ran}
@@ -10,6 +11,7 @@ use Rattle.gl_tx.specs.declared.request.Operation.{Operation}
 use Rattle.gl_tx.specs.declared.request.Answer.{Answer}
 use Rattle.gl_tx.specs.declared.abort.Abort.{Abort}
 use Rattle.gl_entry.specs.Entry.{no_digest, body_bytes, body_limit}
+use Rattle.gl_entry.specs.SignedMessage.{signed_message}
 use Rattle.gl_entry.specs.declared.entry.Content.TheVariants as content
 use Rattle.gl_entry.specs.declared.entry.Entry.{Entry}
 use Rattle.gl_ledger.specs.Genesis.{genesis_bytes, genesis_writes}
@@ -31,24 +33,31 @@ genesis_entry g = record {
   claims = no_digest;
 }
 
--- The entry of a node's signature behind a ledger. Until keys sign, its signature is empty.
-abbrev pub signature_entry : List ℕ → List Entry → ℕ → ℕ → Entry
-signature_entry node ledger view commit = record {
+-- The entry of a node's signature behind a ledger, of these bytes, which records this commit.
+abbrev pub signature_entry : NodeId → List ℕ → List Entry → ℕ → ℕ → Entry
+signature_entry node signature ledger view commit = record {
   view = view;
   seqno = length ledger + 1;
   content = content.Signature (record {
     node = node;
     commit = commit;
     root = root_of (leaves_of ledger);
-    signature = [];
+    signature = signature;
   });
   writes = [];
   claims = no_digest;
 }
 
+-- What a node signs behind a ledger: the root of the tree of its entries, and the signature's
+-- identifier and commit.
+abbrev pub message_behind : List Entry → ℕ → ℕ → List ℕ
+message_behind ledger view commit =
+    signed_message (root_of (leaves_of ledger)) view (length ledger + 1) commit
+
 -- The opening ledger: the genesis, and the first signature, which records its own seqno.
-abbrev pub opening_ledger : request.Genesis → List ℕ → List Entry
-opening_ledger g node = genesis_entry g ∷ signature_entry node (genesis_entry g ∷ []) 2 2 ∷ []
+abbrev pub opening_ledger : request.Genesis → NodeId → List ℕ → List Entry
+opening_ledger g node signature =
+    genesis_entry g ∷ signature_entry node signature (genesis_entry g ∷ []) 2 2 ∷ []
 
 -- No entry has a view above this one.
 abbrev pub HasViewsUpTo : ℕ → List Entry → Type 0
@@ -99,7 +108,7 @@ abbrev pub execute_result : List Entry → ℕ → List Operation → Result (En
 execute_result ledger view operations =
     execute_in (service_state (tables_of ledger)) ledger view operations
 
--- What a node's signature makes behind a ledger.
-abbrev pub sign_result : List ℕ → List Entry → ℕ → ℕ → Result Entry Refusal
-sign_result node ledger view commit =
-    within_seqnos ledger (signature_entry node ledger view commit)
+-- What a node's signature, of these bytes, makes behind a ledger.
+abbrev pub sign_result : NodeId → List ℕ → List Entry → ℕ → ℕ → Result Entry Refusal
+sign_result node signature ledger view commit =
+    within_seqnos ledger (signature_entry node signature ledger view commit)

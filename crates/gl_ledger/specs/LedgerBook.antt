@@ -1,6 +1,6 @@
 -- The ledger of a service as the book that the rules of consensus read. Whatever it makes is tried
 -- by the rules of the audit, and refused where it breaks one.
-use Rattle.std.specs.Prelude.{ℕ, List, Option, None, Some, Err}
+use Rattle.std.specs.Prelude.{List, Option, None, Some, Err}
 use Rattle.gl_rules.specs.Identity.{NodeId}
 use Rattle.gl_rules.specs.Book.{Book}
 use Rattle.gl_tx.specs.declared.request.Operation.{Operation}
@@ -8,16 +8,13 @@ use Rattle.gl_entry.specs.Entry.{is_signature, is_evidence, recorded_commit, fra
 use Rattle.gl_entry.specs.declared.entry.Entry.{Entry}
 use Rattle.gl_ledger.specs.declared.genesis.GovernanceRequest.{GovernanceRequest}
 use Rattle.gl_ledger.specs.Layers.{Layers}
+use Rattle.gl_ledger.specs.NodeKeys.{NodeKeys, leaf_count}
 use Rattle.gl_ledger.specs.Recordings.{recorded_nodes, configuration, removal, mark}
 use Rattle.gl_ledger.specs.Broken.{Broken, broken}
 use Rattle.gl_ledger.specs.Makers.{Given, Unmade, NotByNow, ByRule, guarded, request_result, govern_result, signing_result}
 
 -- For now no transaction notes what it reads.
 pub data Reads : Type 0 where
-
--- How many one-time leaves a node's key has: those of a tree of height 5 (RFC 8554, section 5.1).
-abbrev pub leaf_count : ℕ
-leaf_count = 32
 
 -- For now no request marks a node.
 abbrev pub no_mark : GovernanceRequest → Option NodeId
@@ -30,8 +27,8 @@ by_rule (Some why) = Some (ByRule why)
 abbrev pub ServiceBook : Type 0
 ServiceBook = Book Entry (List Operation) GovernanceRequest Reads Given Unmade
 
-abbrev pub ledger_book : Layers → ServiceBook
-ledger_book layers = record {
+abbrev pub ledger_book : Layers → NodeKeys → ServiceBook
+ledger_book layers keys = record {
   view_of = λ e. e.view;
   is_signature = λ e. is_signature e.content;
   is_evidence = λ e. is_evidence e.content;
@@ -41,13 +38,13 @@ ledger_book layers = record {
   recorded_nodes = recorded_nodes layers;
   removal = removal layers;
   mark = mark layers;
-  leaves = λ x. leaf_count;
+  leaves = leaf_count keys;
   execute = λ ledger view q.
       guarded layers (λ made. made.0) ledger (request_result ledger view q);
   govern = λ ledger view g.
       guarded layers (λ made. made.0) ledger (govern_result layers ledger view g);
   sign = λ x leaf ledger view commit.
-      guarded layers (λ made. made) ledger (signing_result layers x leaf ledger view commit);
+      guarded layers (λ made. made) ledger (signing_result keys x leaf ledger view commit);
   evidence = λ ledger view. guarded layers (λ made. made) ledger (Err NotByNow);
   marked_node = no_mark;
   mark_refusal = λ ledger x. None;

@@ -5,6 +5,7 @@ pub mod Serial
 pub mod Ledger
 pub mod Signed
 pub mod Layers
+pub mod NodeKeys
 pub mod Recordings
 pub mod Changes
 pub mod Acceptance
@@ -13,5 +14,4 @@ pub mod Sound
 pub mod Makers
 pub mod LedgerBook
 pub mod Audit
-pub mod Services
-pub mod NodeKeys
+pub mod Opening

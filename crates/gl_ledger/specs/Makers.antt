@@ -9,18 +9,18 @@ use Rattle.gl_tx.specs.Request.{is_request}
 use Rattle.gl_tx.specs.declared.request.Operation.{Operation}
 use Rattle.gl_tx.specs.declared.request.Answer.{Answer}
 use Rattle.gl_entry.specs.Entry.{no_digest, body_bytes}
-use Rattle.gl_entry.specs.SignedMessage.{signed_message}
 use Rattle.gl_entry.specs.declared.entry.Content.TheVariants as content
 use Rattle.gl_entry.specs.declared.entry.Entry.{Entry}
 use Rattle.gl_entry.specs.declared.entry.Signature as signatures
 use Rattle.gl_ledger.specs.Genesis.{governance_bytes, is_governance_request}
 use Rattle.gl_ledger.specs.Tree.{leaves_of}
-use Rattle.gl_ledger.specs.Ledger.{genesis_entry, execute_result, within_size, within_seqnos}
+use Rattle.gl_ledger.specs.Ledger.{genesis_entry, signature_entry, opening_ledger, message_behind, execute_result, sign_result, within_size, within_seqnos}
 use Rattle.gl_ledger.specs.declared.genesis.Genesis as request
 use Rattle.gl_ledger.specs.declared.genesis.GovernanceRequest.{GovernanceRequest}
 use Rattle.gl_ledger.specs.declared.breach.GenesisFault.{GenesisFault}
 use Rattle.gl_ledger.specs.declared.refusal.Refusal.{Refusal}
 use Rattle.gl_ledger.specs.Layers.{Layers}
+use Rattle.gl_ledger.specs.NodeKeys.{NodeKeys, node_signature}
 use Rattle.gl_ledger.specs.Recordings.{last_entry, requests_of}
 use Rattle.gl_ledger.specs.Acceptance.{request_fault}
 use Rattle.gl_ledger.specs.Broken.{Broken, is_unopened, effect_writes, fault_of_signature, broken}
@@ -93,11 +93,19 @@ module _ (layers : Layers) where
       )
       else Err Unspelled
 
+  -- An entry may be made in a view behind a ledger: the ledger has an entry, the last one doesn't
+  -- found the service, and its view is not above this one.
+  pub record MayMake (ledger : List Entry) (view : ℕ) : Type 0 where
+    pub last : Entry
+    pub is_last : last_entry ledger ≡ Some last
+    pub behind : is_unopened layers (Some last) ≡ false
+    pub up : last.view ≤ view
+
+module _ (keys : NodeKeys) where
   -- The signature of a node behind a ledger, with one of its leaves, which records this commit.
   abbrev pub signature_behind : NodeId → ℕ → List Entry → ℕ → ℕ → List ℕ
   signature_behind x leaf ledger view commit =
-      layers.signature_by x leaf
-      (signed_message (root_of (leaves_of ledger)) view (length ledger + 1) commit)
+      node_signature keys x leaf (message_behind ledger view commit)
 
   -- What its entry records.
   abbrev pub signature_made : NodeId → ℕ → List Entry → ℕ → ℕ → signatures.Signature
@@ -110,36 +118,24 @@ module _ (layers : Layers) where
 
   -- Its entry.
   abbrev pub signed_entry : NodeId → ℕ → List Entry → ℕ → ℕ → Entry
-  signed_entry x leaf ledger view commit = record {
-    view = view;
-    seqno = length ledger + 1;
-    content = content.Signature (signature_made x leaf ledger view commit);
-    writes = [];
-    claims = no_digest;
-  }
-
-  -- It is valid there, and an entry has room for it.
-  pub record MakesValid (x : NodeId) (leaf : ℕ) (ledger : List Entry) (view commit : ℕ) :
-      Type 0 where
-    pub bytes : are_bytes (signature_behind x leaf ledger view commit) ≡ true
-    pub short : length (signature_behind x leaf ledger view commit) ≤ 2 ^ 16
-    pub valid : fault_of_signature layers ledger (signed_entry x leaf ledger view commit)
-        (signature_made x leaf ledger view commit)
-        ≡ None
+  signed_entry x leaf ledger view commit =
+      signature_entry x (signature_behind x leaf ledger view commit) ledger view commit
 
   abbrev pub signing_result : NodeId → ℕ → List Entry → ℕ → ℕ → Result Entry Unmade
   signing_result x leaf ledger view commit =
-      by_store (within_seqnos ledger (signed_entry x leaf ledger view commit))
+      by_store (sign_result x (signature_behind x leaf ledger view commit) ledger view commit)
 
   -- The opening ledger: the genesis, and a node's signature with its first leaf, which records its
   -- own seqno.
   abbrev pub opening_of : request.Genesis → NodeId → List Entry
-  opening_of g x = genesis_entry g ∷ signed_entry x 0 (genesis_entry g ∷ []) first_view 2 ∷ []
+  opening_of g x =
+      opening_ledger g x (signature_behind x 0 (genesis_entry g ∷ []) first_view 2)
 
-  -- An entry may be made in a view behind a ledger: the ledger has an entry, the last one doesn't
-  -- found the service, and its view is not above this one.
-  pub record MayMake (ledger : List Entry) (view : ℕ) : Type 0 where
-    pub last : Entry
-    pub is_last : last_entry ledger ≡ Some last
-    pub behind : is_unopened layers (Some last) ≡ false
-    pub up : last.view ≤ view
+-- What a node signs behind a ledger is valid there, and an entry has room for it.
+pub record MakesValid (layers : Layers) (keys : NodeKeys) (x : NodeId) (leaf : ℕ)
+    (ledger : List Entry) (view commit : ℕ) : Type 0 where
+  pub bytes : are_bytes (signature_behind keys x leaf ledger view commit) ≡ true
+  pub short : length (signature_behind keys x leaf ledger view commit) ≤ 2 ^ 16
+  pub valid : fault_of_signature layers ledger (signed_entry keys x leaf ledger view commit)
+      (signature_made keys x leaf ledger view commit)
+      ≡ None

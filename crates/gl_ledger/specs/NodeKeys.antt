@@ -1,10 +1,11 @@
 -- Nodes that sign with HSS keys of two levels (RFC 8554, section 6): the service's key endorses that
 -- of each node, whose leaves sign.
-use Rattle.std.specs.Prelude.{◌≡◌, ℕ, List, Option, None, Some, Result, Ok, Err, Bool, true, false, if◌then◌else◌}
+use Rattle.std.specs.Prelude.{◌≡◌, ℕ, ◌^◌, List, Option, None, Some, Result, Ok, Err, Bool, true, false, if◌then◌else◌}
 use Rattle.sha2.specs.Sha256.{sha256}
 use Rattle.gl_base.specs.Bytes.{same_bytes}
 use Rattle.gl_hss.specs.declared.fault.HssFault.{HssFault}
 use Rattle.gl_hss.specs.declared.fault.HssFault.TheVariants as faults
+use Rattle.gl_lms.specs.Types.{height}
 use Rattle.gl_lms.specs.Tree.{key_bytes, IsKey}
 use Rattle.gl_hss.specs.Order.{verdict, last_key_verdict, endorsement_verdict}
 use Rattle.gl_lms.specs.Secrets.{PrivateKey, public_of}
@@ -17,6 +18,10 @@ use Rattle.gl_ledger.specs.Layers.{Layers}
 pub record NodeKeys : Type 0 where
   pub key_of : NodeId → PrivateKey
   pub endorsement_of : NodeId → List ℕ
+
+-- How many one-time leaves a node's key has (RFC 8554, section 5.1).
+abbrev pub leaf_count : NodeKeys → NodeId → ℕ
+leaf_count keys x = 2 ^ height (keys.key_of x).types
 
 -- A node's signature of a message with one of its leaves.
 abbrev pub node_signature : NodeKeys → NodeId → ℕ → List ℕ → List ℕ
@@ -44,13 +49,12 @@ abbrev pub is_verified : Result (Unit {0}) HssFault → Bool
 is_verified (Ok u) = true
 is_verified (Err fault) = false
 
--- The layers of a service whose nodes have these keys.
-abbrev pub layers_with : (List ℕ → Option GovernanceRequest) → NodeKeys → Layers
-layers_with request_in keys = record {
+-- The layers of a service whose keys are HSS keys of two levels.
+abbrev pub hss_layers : (List ℕ → Option GovernanceRequest) → Layers
+hss_layers request_in = record {
   request_in = request_in;
   is_endorsed = λ identity key endorsement.
       is_verified (endorsement_verdict identity key endorsement);
-  signature_by = node_signature keys;
   signature_fault = node_signature_fault;
 }
 

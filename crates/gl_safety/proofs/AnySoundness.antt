@@ -5,32 +5,15 @@ use Rattle.gl_rules.specs.Book.{Book}
 use Rattle.gl_rules.specs.World.{Start, Event}
 use Rattle.gl_rules.specs.Safety.{IsLawful, IsOpening, IsSafe, EachFollows, Makes, KeepsPlaces}
 use Rattle.gl_rules.specs.Identity.{NodeId}
-use Rattle.gl_safety.proofs.Lists.{there, take_whole, take_one_more}
-use Rattle.gl_safety.proofs.Soundness.{sound_cut, sound_push}
+use Rattle.gl_rules.proofs.Soundness.{sound_cut, sound_push, follows_sound}
 use Rattle.gl_safety.proofs.Headline.{safe}
 
 -- what holds of the empty ledger, and is kept by an entry that may follow
 module _ {E Q G R A F : Type 0} (b : Book E Q G R A F) (Sound : List E → Type 0) (none : Sound [])
     (taken : (log : List E) (e : E) → EachFollows b log → Sound log → b.breaks log e ≡ None → Sound (log ++ e ∷ [])) where
-  upto : (l : List E) → EachFollows b l → (k : ℕ) → Sound (take k l)
-  upto l z zero = none
-  upto l z (suc k) = ⊎_elim
-      (λ (h : k < length l). let e = there l k h in subst Sound (take_one_more l k e.0 e.1) (taken (take k l) e.0 (sound_cut b l k z) (upto l z k) (z k e.0 e.1)))
-      (λ (h : length l ≤ k). subst Sound (same_all l k h) (upto l z k))
-      (cases_lt k (length l))
-    where
-      same_all : (l : List E) (i : ℕ) → length l ≤ i → take i l ≡ take (suc i) l
-      same_all [] zero d = refl
-      same_all [] (suc i) d = refl
-      same_all (x ∷ l) zero d = absurd (omega arith)
-      same_all (x ∷ l) (suc i) d = ap (λ r. x ∷ r) (same_all l i (omega arith))
-
-  pub follows_sound : (l : List E) → EachFollows b l → Sound l
-  follows_sound l z = subst Sound (take_whole l) (upto l z (length l))
-
   -- the headline, with what a layer says of a ledger
   pub safe_for : {s : Start E} → IsOpening b (EachFollows b) s → IsLawful b (EachFollows b) → (es : List (Event Q G R)) → IsSafe b Sound s es
-  safe_for o la es = let r = safe o la es in record { prefix = r.prefix; status = r.status; ledger = λ i x. follows_sound _ (r.ledger i x) }
+  safe_for o la es = let r = safe o la es in record { prefix = r.prefix; status = r.status; ledger = λ i x. follows_sound b Sound none taken _ (r.ledger i x) }
 
 -- where the layer states its laws for such ledgers
 module _ {E Q G R A F : Type 0} {b : Book E Q G R A F} {Sound : List E → Type 0} {s : Start E} (o : IsOpening b Sound s) (la : IsLawful b Sound) where

@@ -6,14 +6,14 @@ use Rattle.gl_rules.specs.Book.{Book}
 use Rattle.gl_rules.specs.Node.{Role, Follower, Candidate, Leader}
 use Rattle.gl_rules.specs.World.{Start, begin, joiner, starter, leader_at_start, node_at_start}
 use Rattle.gl_rules.specs.Safety.{IsOpening, IsLawful, EachFollows}
-use Rattle.gl_safety.proofs.Ids.{same_is, same_self, by_test}
-use Rattle.gl_safety.proofs.Lists.{within}
+use Rattle.gl_rules.proofs.Ids.{same_is, same_self, by_test}
+use Rattle.gl_rules.proofs.Lists.{within}
 use Rattle.gl_safety.proofs.Story.{Story}
 use Rattle.gl_safety.proofs.Facts.{Matches, Bound, Rising}
 use Rattle.gl_safety.proofs.Certificates.{Sured, Tale}
 use Rattle.gl_safety.proofs.Signatures.{last_above, recorded_bound}
 use Rattle.gl_safety.proofs.Invariants.{Good}
-use Rattle.gl_safety.proofs.Soundness.{sound_cut}
+use Rattle.gl_rules.proofs.Soundness.{sound_cut}
 use Rattle.gl_safety.proofs.Places.{MarksKnown, place_within}
 use Rattle.gl_safety.proofs.Runs.{Holding, first_story}
 

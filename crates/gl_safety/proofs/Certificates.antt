@@ -6,7 +6,7 @@ use Rattle.gl_rules.specs.Book.{Book}
 use Rattle.gl_rules.specs.Message.{Position}
 use Rattle.gl_rules.specs.World.{Start}
 use Rattle.gl_rules.specs.Safety.{IsOpening, EachFollows}
-use Rattle.gl_safety.proofs.Lists.{Same, same_take, there, within}
+use Rattle.gl_rules.proofs.Lists.{Same, same_take, there, within}
 use Rattle.gl_safety.proofs.Story.{Story, Grows}
 use Rattle.gl_safety.proofs.Configurations.{Backed}
 use Rattle.gl_safety.proofs.Places.{MarksKnown}

@@ -7,8 +7,8 @@ use Rattle.gl_rules.specs.Book.{Book}
 use Rattle.gl_rules.specs.Node.{Node, Leader}
 use Rattle.gl_rules.specs.World.{Start, Event, World, happens, run, begin, after, starter, joiner, leader_at_start, node_at_start}
 use Rattle.gl_rules.specs.Safety.{IsOpening, IsLawful, EachFollows, IsPrefixOf, committed_ledger}
-use Rattle.gl_safety.proofs.Ids.{same_self}
-use Rattle.gl_safety.proofs.Lists.{Same, there, take_get, get_take, get_left, take_one_more, take_past}
+use Rattle.gl_rules.proofs.Ids.{same_self}
+use Rattle.gl_rules.proofs.Lists.{Same, there, take_get, get_take, get_left, take_one_more, take_past}
 use Rattle.gl_safety.proofs.Story.{Story}
 use Rattle.gl_safety.proofs.Certificates.{SureOver, Cert}
 use Rattle.gl_safety.proofs.Invariants.{settled_of, sure_within}

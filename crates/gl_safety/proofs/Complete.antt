@@ -7,8 +7,8 @@ use Rattle.gl_rules.specs.Book.{Book}
 use Rattle.gl_rules.specs.Message.{Position}
 use Rattle.gl_rules.specs.World.{Start}
 use Rattle.gl_rules.specs.Safety.{IsOpening, EachFollows}
-use Rattle.gl_safety.proofs.Ids.{share}
-use Rattle.gl_safety.proofs.Lists.{Same, same_take, there, within}
+use Rattle.gl_rules.proofs.Ids.{share}
+use Rattle.gl_rules.proofs.Lists.{Same, same_take, there, within}
 use Rattle.gl_safety.proofs.Story.{Story}
 use Rattle.gl_safety.proofs.Configurations.{IsNewest, Backed, newest_same, newest_exists, backs}
 use Rattle.gl_safety.proofs.Facts.{Holds, Covers, Matches, Mark, Lost, agree, is_led, led_is}

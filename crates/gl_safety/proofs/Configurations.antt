@@ -7,7 +7,7 @@ use Rattle.gl_rules.specs.Identity.{NodeId}
 use Rattle.gl_rules.specs.Majority.{majority, quorum}
 use Rattle.gl_rules.specs.Book.{Book}
 use Rattle.gl_rules.specs.Configuration.{or_else, configuration_at, configurations_above, active_upto}
-use Rattle.gl_safety.proofs.Lists.{Same, same_take}
+use Rattle.gl_rules.proofs.Lists.{Same, same_take}
 
 pub quorum_append : (votes : NodeId → Bool) (xs ys : List (List NodeId)) → quorum votes (xs ++ ys) ≡ true → (quorum votes xs ≡ true) × (quorum votes ys ≡ true)
 quorum_append votes [] ys e = (refl, e)

@@ -3,7 +3,7 @@ use Rattle.std.proofs.Common.{◌≡◌, ◌≢◌, ◌⊎◌, inl, inr, ⊎_eli
 use Rattle.gl_rules.specs.Identity.{NodeId}
 use Rattle.gl_rules.specs.Book.{Book}
 use Rattle.gl_rules.specs.Message.{Position}
-use Rattle.gl_safety.proofs.Lists.{Same, within, there}
+use Rattle.gl_rules.proofs.Lists.{Same, within, there}
 use Rattle.gl_safety.proofs.Story.{Story, Grows}
 
 -- y acknowledged the entry at index i to the leader of v, or led v itself

@@ -8,8 +8,8 @@ use Rattle.gl_rules.specs.Log.{last_signature, greatest_recorded}
 use Rattle.gl_rules.specs.Steps.{known_commit}
 use Rattle.gl_rules.specs.World.{Start}
 use Rattle.gl_rules.specs.Safety.{IsOpening, EachFollows}
-use Rattle.gl_safety.proofs.Ids.{id_tests, cases_same, put2, put2_cases, put2_at}
-use Rattle.gl_safety.proofs.Lists.{Same, there, within}
+use Rattle.gl_rules.proofs.Ids.{id_tests, cases_same, put2, put2_cases, put2_at}
+use Rattle.gl_rules.proofs.Lists.{Same, there, within}
 use Rattle.gl_safety.proofs.Story.{Story, Grows, told_held, grows_held}
 use Rattle.gl_safety.proofs.Facts.{Holds, Matches, Bound, Mark, Lost, Ballots, agree, is_led, matches_part, ballots_of}
 use Rattle.gl_safety.proofs.Certificates.{SureOver, Cert, Sured, Tale}

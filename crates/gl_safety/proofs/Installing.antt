@@ -8,14 +8,14 @@ use Rattle.gl_rules.specs.Log.{entry_at, view_at, last_signature}
 use Rattle.gl_rules.specs.Steps.{enter_view}
 use Rattle.gl_rules.specs.World.{Start}
 use Rattle.gl_rules.specs.Safety.{IsOpening, IsLawful, EachFollows}
-use Rattle.gl_safety.proofs.Ids.{by_test}
-use Rattle.gl_safety.proofs.Lists.{there, get_take, take_get, take_nothing}
+use Rattle.gl_rules.proofs.Ids.{by_test}
+use Rattle.gl_rules.proofs.Lists.{there, get_take, take_get, take_nothing}
 use Rattle.gl_safety.proofs.Story.{Story}
 use Rattle.gl_safety.proofs.Facts.{Lost, agree, matches_part}
 use Rattle.gl_safety.proofs.Certificates.{SureOver, Cert, Settled, Tale}
 use Rattle.gl_safety.proofs.Signatures.{last_le, view_at_is, recorded_bound}
 use Rattle.gl_safety.proofs.Invariants.{Good, rising_of, sure_within, settled_of, known_in}
-use Rattle.gl_safety.proofs.Soundness.{sound_cut}
+use Rattle.gl_rules.proofs.Soundness.{sound_cut}
 use Rattle.gl_rules.specs.Replication.{greatest_evidence, snapshot_of, is_evidence_at, with_snapshot}
 use Rattle.gl_safety.proofs.Standing.{good_rise}
 

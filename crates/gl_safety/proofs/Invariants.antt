@@ -10,7 +10,7 @@ use Rattle.gl_rules.specs.Message.{Position, Message, Body, RequestVote, VoteRep
 use Rattle.gl_rules.specs.Log.{last_signature_position, last_signature, greatest_recorded}
 use Rattle.gl_rules.specs.World.{Start}
 use Rattle.gl_rules.specs.Safety.{IsOpening, EachFollows}
-use Rattle.gl_safety.proofs.Lists.{Same, there, within}
+use Rattle.gl_rules.proofs.Lists.{Same, there, within}
 use Rattle.gl_safety.proofs.Story.{Story, Grows, grows_same}
 use Rattle.gl_safety.proofs.Configurations.{IsNewest}
 use Rattle.gl_safety.proofs.Facts.{Holds, Matches, Bound, Rising, Mark, Lost, Segment, Ballots, is_led, led_is, matches_grow, mark_grow, mark_back, lost_grow, holds_grow, holds_back, segment_grow}

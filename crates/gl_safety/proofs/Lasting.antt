@@ -15,15 +15,15 @@ use Rattle.gl_rules.specs.Elections.{may_campaign, become_candidate}
 use Rattle.gl_rules.specs.Replication.{matching_prefix_len, checked_append, accept_entries, append_reply, highest_possible_match, accept_or_refuse, merge_entries, merge_if_matching, become_follower, append_as, on_append, with_snapshot}
 use Rattle.gl_rules.specs.World.{Start, Event, World, happens, run, begin, after}
 use Rattle.gl_rules.specs.Safety.{IsOpening, IsLawful, EachFollows}
-use Rattle.gl_safety.proofs.Ids.{by_test}
-use Rattle.gl_safety.proofs.Lists.{there, within, take_get, drop_get, get_left}
+use Rattle.gl_rules.proofs.Ids.{by_test}
+use Rattle.gl_rules.proofs.Lists.{there, within, take_get, drop_get, get_left}
 use Rattle.gl_safety.proofs.Story.{Story}
 use Rattle.gl_safety.proofs.Facts.{Segment, Mark, agree}
 use Rattle.gl_safety.proofs.Certificates.{Cert, Sured, Tale}
 use Rattle.gl_safety.proofs.Complete.{chief_of_led, complete}
 use Rattle.gl_safety.proofs.Signatures.{signed_keeps}
 use Rattle.gl_safety.proofs.Invariants.{Good, BodySent, sent_at}
-use Rattle.gl_safety.proofs.Soundness.{sound_cut}
+use Rattle.gl_rules.proofs.Soundness.{sound_cut}
 use Rattle.gl_safety.proofs.Standing.{good_rise}
 use Rattle.gl_safety.proofs.Following.{good_follow}
 use Rattle.gl_safety.proofs.Merging.{held_le, held_ends, applied_is}

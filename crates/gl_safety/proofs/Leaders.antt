@@ -7,8 +7,8 @@ use Rattle.gl_rules.specs.Node.{Node, Leader}
 use Rattle.gl_rules.specs.Message.{Message}
 use Rattle.gl_rules.specs.World.{Start, Event, Timeout, Deliver, Submit, Finish, Govern, Reserve, Sign, Evidence, Replicate, Advance, StepDown, Restart, Install, World, at, on_message, deliver, happens, run, begin, after}
 use Rattle.gl_rules.specs.Safety.{IsOpening, IsLawful, EachFollows, IsPrefixOf, committed_ledger, node_after, LeadsByVote}
-use Rattle.gl_safety.proofs.Ids.{put_all}
-use Rattle.gl_safety.proofs.Lists.{Same, take_whole, prefix_of}
+use Rattle.gl_rules.proofs.Ids.{put_all}
+use Rattle.gl_rules.proofs.Lists.{Same, take_whole, prefix_of}
 use Rattle.gl_safety.proofs.Story.{Story}
 use Rattle.gl_safety.proofs.Facts.{Matches, agree}
 use Rattle.gl_safety.proofs.Certificates.{SureOver, Cert, Sured, Tale}

@@ -11,15 +11,15 @@ use Rattle.gl_rules.specs.Configuration.{active_upto}
 use Rattle.gl_rules.specs.Steps.{append_entry}
 use Rattle.gl_rules.specs.World.{Start}
 use Rattle.gl_rules.specs.Safety.{IsOpening, IsLawful, EachFollows}
-use Rattle.gl_safety.proofs.Ids.{id_tests, same_is, cases_same, put_all, by_test}
-use Rattle.gl_safety.proofs.Lists.{Same, same_take, within, get_left, get_push, take_whole}
+use Rattle.gl_rules.proofs.Ids.{id_tests, same_is, cases_same, put_all, by_test}
+use Rattle.gl_rules.proofs.Lists.{Same, same_take, within, get_left, get_push, take_whole}
 use Rattle.gl_safety.proofs.Story.{Story, Grows, at_view, told_led, told_committed, grows_led, grows_committed}
 use Rattle.gl_safety.proofs.Configurations.{Backed, backed_by}
 use Rattle.gl_safety.proofs.Facts.{Holds, Covers, Matches, Bound, Rising, Mark, Lost, Voted, Ballots, matches_grow, lost_grow, ballots_of}
 use Rattle.gl_safety.proofs.Certificates.{Cert, Sure, Sured, Tale, sured_grow}
 use Rattle.gl_safety.proofs.Signatures.{last_signs, recorded_le, recorded_bound, last_more}
 use Rattle.gl_safety.proofs.Invariants.{Good, Made, Reached, rising_of, sure_within, known_in, won_grow, sured_more, commits_more, shuts_grow}
-use Rattle.gl_safety.proofs.Soundness.{sound_push}
+use Rattle.gl_rules.proofs.Soundness.{sound_push}
 use Rattle.gl_safety.proofs.Places.{MarksKnown, place_same, mark_entry, marks_known}
 use Rattle.gl_rules.specs.Replication.{update_match, lower_next, may_commit}
 

@@ -1,6 +1,3 @@
-pub mod Ids
-pub mod Lists
-pub mod Soundness
 pub mod Story
 pub mod Configurations
 pub mod Facts

@@ -9,12 +9,12 @@ use Rattle.gl_rules.specs.Configuration.{configurations_above}
 use Rattle.gl_rules.specs.Steps.{append_entry}
 use Rattle.gl_rules.specs.World.{Start}
 use Rattle.gl_rules.specs.Safety.{IsOpening, IsLawful, EachFollows, Makes, ViewsUpTo}
-use Rattle.gl_safety.proofs.Ids.{by_test}
+use Rattle.gl_rules.proofs.Ids.{by_test}
 use Rattle.gl_safety.proofs.Story.{Story}
 use Rattle.gl_safety.proofs.Certificates.{Tale}
 use Rattle.gl_safety.proofs.Complete.{settled}
 use Rattle.gl_safety.proofs.Invariants.{Good}
-use Rattle.gl_safety.proofs.Soundness.{sound_push}
+use Rattle.gl_rules.proofs.Soundness.{sound_push}
 use Rattle.gl_rules.specs.Outcome.{Done, quiet, refuse, TooManyPending, NotReserved, KeyExhausted, NothingToSign, RemovalNotCommitted, RolledBack}
 use Rattle.gl_rules.specs.Requests.{pending_limit, last_count, append_result, execute_request, submit, unless_conflict, finish_as_leader, finish, if_removal_committed, unless_mark_refused, if_markable, govern_as_leader, govern, reserve, append_signature, sign_as_leader, sign, append_evidence, evidence}
 use Rattle.gl_safety.proofs.Leading.{made_append, good_used}

@@ -16,8 +16,8 @@ use Rattle.gl_rules.specs.Elections.{may_campaign, become_candidate}
 use Rattle.gl_rules.specs.Replication.{matching_prefix_len, checked_append, accept_entries, append_reply, highest_possible_match, accept_or_refuse, merge_entries, merge_if_matching, become_follower, append_as, on_append, with_snapshot}
 use Rattle.gl_rules.specs.World.{Start, Event, World, happens, run, begin, node_at_start, starter, joiner, leader_at_start}
 use Rattle.gl_rules.specs.Safety.{IsOpening, IsLawful, EachFollows, IsConfigured, LeadersMayRecord, node_after}
-use Rattle.gl_safety.proofs.Ids.{by_test, same_is}
-use Rattle.gl_safety.proofs.Lists.{same_take, get_left, take_past}
+use Rattle.gl_rules.proofs.Ids.{by_test, same_is}
+use Rattle.gl_rules.proofs.Lists.{same_take, get_left, take_past}
 use Rattle.gl_safety.proofs.Complete.{settled}
 use Rattle.gl_safety.proofs.Runs.{Holding, first_story, onward_run}
 use Rattle.gl_safety.proofs.Story.{Story}

@@ -4,9 +4,9 @@ use Rattle.std.proofs.lemmas.Bool.{cases_eq, cases_lt}
 use Rattle.std.proofs.lemmas.Bool.Decides.{nat_tests}
 use Rattle.gl_rules.specs.Book.{Book}
 use Rattle.gl_rules.specs.Safety.{EachFollows}
-use Rattle.gl_safety.proofs.Lists.{Same, there, within, get_take, drop_get, get_append, append_none, push_append}
+use Rattle.gl_rules.proofs.Lists.{Same, there, within, get_take, drop_get, get_append, append_none, push_append}
 use Rattle.gl_safety.proofs.Facts.{Matches}
-use Rattle.gl_safety.proofs.Soundness.{sound_push}
+use Rattle.gl_rules.proofs.Soundness.{sound_push}
 use Rattle.gl_rules.specs.Replication.{matching_prefix_len, unless_broken, checked_append}
 
 module _ {E Q G R A F : Type 0} (b : Book E Q G R A F) where

@@ -4,8 +4,8 @@ use Rattle.std.proofs.lemmas.Bool.{cases_lt}
 use Rattle.gl_rules.specs.Identity.{NodeId}
 use Rattle.gl_rules.specs.Book.{Book}
 use Rattle.gl_rules.specs.Safety.{IsLawful, EachFollows, KeepsPlaces}
-use Rattle.gl_safety.proofs.Lists.{Same, same_take, there, within, take_whole, take_one_more, take_past}
-use Rattle.gl_safety.proofs.Soundness.{sound_cut}
+use Rattle.gl_rules.proofs.Lists.{Same, same_take, there, within, take_whole, take_one_more, take_past}
+use Rattle.gl_rules.proofs.Soundness.{sound_cut}
 use Rattle.gl_safety.proofs.Facts.{Matches, agree}
 
 module _ {E Q G R A F : Type 0} (b : Book E Q G R A F) where

@@ -5,13 +5,13 @@ use Rattle.gl_rules.specs.Identity.{NodeId}
 use Rattle.gl_rules.specs.Book.{Book}
 use Rattle.gl_rules.specs.World.{Start, Event, World, run, begin, after}
 use Rattle.gl_rules.specs.Safety.{IsOpening, IsLawful, EachFollows, IsPrefixOf, committed_ledger, Agree, node_after}
-use Rattle.gl_safety.proofs.Lists.{Same, within, take_get, prefix_of}
+use Rattle.gl_rules.proofs.Lists.{Same, within, take_get, prefix_of}
 use Rattle.gl_safety.proofs.Story.{Story}
 use Rattle.gl_safety.proofs.Facts.{Matches, agree}
 use Rattle.gl_safety.proofs.Certificates.{SureOver, Cert, Settled, Tale}
 use Rattle.gl_safety.proofs.Complete.{chief_of_led, complete}
 use Rattle.gl_safety.proofs.Invariants.{settled_of}
-use Rattle.gl_safety.proofs.Soundness.{sound_cut}
+use Rattle.gl_rules.proofs.Soundness.{sound_cut}
 use Rattle.gl_safety.proofs.Runs.{Holding, Later, first_story, onward_run, run_append}
 use Rattle.gl_safety.proofs.Beginning.{holding_first}
 

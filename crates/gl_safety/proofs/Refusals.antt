@@ -10,8 +10,8 @@ use Rattle.gl_rules.specs.Log.{is_up_to_date, view_at, last_signature_position}
 use Rattle.gl_rules.specs.Steps.{cut_to, enter_view, has_votes, campaign_outcome, update_view}
 use Rattle.gl_rules.specs.World.{Start, Event, Deliver, World, answer_as, undo_if_refused, on_message, happens, begin, after}
 use Rattle.gl_rules.specs.Safety.{IsOpening, IsLawful, EachFollows, RefusedOnlyAtBase, NeverConflicts}
-use Rattle.gl_safety.proofs.Ids.{by_test}
-use Rattle.gl_safety.proofs.Lists.{Same, same_take, there, within, drop_get, take_one_more}
+use Rattle.gl_rules.proofs.Ids.{by_test}
+use Rattle.gl_rules.proofs.Lists.{Same, same_take, there, within, drop_get, take_one_more}
 use Rattle.gl_safety.proofs.Story.{Story}
 use Rattle.gl_safety.proofs.Facts.{Segment, agree}
 use Rattle.gl_safety.proofs.Certificates.{SureOver, Cert, Sured, Tale}

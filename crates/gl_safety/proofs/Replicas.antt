@@ -10,14 +10,14 @@ use Rattle.gl_rules.specs.Log.{view_at}
 use Rattle.gl_rules.specs.Steps.{cut_to}
 use Rattle.gl_rules.specs.World.{Start}
 use Rattle.gl_rules.specs.Safety.{IsOpening, IsLawful, EachFollows}
-use Rattle.gl_safety.proofs.Ids.{by_test, id_tests}
-use Rattle.gl_safety.proofs.Lists.{Same, there, within, take_get, drop_get, get_left}
+use Rattle.gl_rules.proofs.Ids.{by_test, id_tests}
+use Rattle.gl_rules.proofs.Lists.{Same, there, within, take_get, drop_get, get_left}
 use Rattle.gl_safety.proofs.Story.{Story, at_view, told_committed, grows_committed}
 use Rattle.gl_safety.proofs.Facts.{Segment, agree}
 use Rattle.gl_safety.proofs.Certificates.{Sured, Tale}
 use Rattle.gl_safety.proofs.Signatures.{view_at_is}
 use Rattle.gl_safety.proofs.Invariants.{Good, BodySent, Reached, made_same}
-use Rattle.gl_safety.proofs.Soundness.{sound_cut}
+use Rattle.gl_rules.proofs.Soundness.{sound_cut}
 use Rattle.gl_rules.specs.Outcome.{Step, Done, quiet, refuse, idle, NotPeer, BelowBase, BelowCommit}
 use Rattle.gl_rules.specs.Replication.{entries_limit, frames_limit, fitting_prefix, batch, next_of, is_peer, append_message, send_append, replicate, append_reply, matching_prefix_len, checked_append, highest_possible_match, accept_entries, accept_or_refuse, merge_entries, merge_if_matching, become_follower, append_as, on_append, update_match, lower_next, update_progress, append_reply_as, on_append_reply, may_commit, greatest_to_commit, commit_to, advance, restart, snapshot_of, with_snapshot, install_snapshot, install}
 use Rattle.gl_safety.proofs.Merging.{Merged, merged_all, merged_new, applied_is}

@@ -9,7 +9,7 @@ use Rattle.gl_rules.specs.Log.{greatest_recorded, last_signature}
 use Rattle.gl_rules.specs.Retirement.{Ordered, Signed, Completed, RetiredCommitted, stage}
 use Rattle.gl_rules.specs.World.{Start, Event, World, after}
 use Rattle.gl_rules.specs.Safety.{IsOpening, IsLawful, EachFollows, IsRetiring, IsRetired, IsActive, RetiresSafely}
-use Rattle.gl_safety.proofs.Lists.{Same, within}
+use Rattle.gl_rules.proofs.Lists.{Same, within}
 use Rattle.gl_safety.proofs.Story.{Story}
 use Rattle.gl_safety.proofs.Facts.{Matches, agree}
 use Rattle.gl_safety.proofs.Certificates.{SureOver, Cert, Sured, Tale}

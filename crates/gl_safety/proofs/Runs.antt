@@ -8,7 +8,7 @@ use Rattle.gl_rules.specs.Message.{Message, Body, RequestVote, VoteReply, Append
 use Rattle.gl_rules.specs.Steps.{enter_view, update_view}
 use Rattle.gl_rules.specs.World.{Start, Event, Timeout, Deliver, Submit, Finish, Govern, Reserve, Sign, Evidence, Replicate, Advance, StepDown, Restart, Install, World, at, undo_if_refused, answer_as, on_message, deliver, happens, run, node_at_start}
 use Rattle.gl_rules.specs.Safety.{IsOpening, IsLawful, EachFollows}
-use Rattle.gl_safety.proofs.Ids.{put_all, by_test, same_self}
+use Rattle.gl_rules.proofs.Ids.{put_all, by_test, same_self}
 use Rattle.gl_safety.proofs.Story.{Story}
 use Rattle.gl_safety.proofs.Certificates.{Sured, Tale}
 use Rattle.gl_safety.proofs.Invariants.{Good, BodySent, AllSent, sured_more, good_of, all_grow, all_append, sent_at}

@@ -5,7 +5,7 @@ use Rattle.std.proofs.lemmas.Bool.Decides.{nat_tests}
 use Rattle.gl_rules.specs.Book.{Book}
 use Rattle.gl_rules.specs.Message.{Position}
 use Rattle.gl_rules.specs.Log.{seqno_with_first, is_up_to_date, view_at, last_signature, last_signature_position, greatest_recorded}
-use Rattle.gl_safety.proofs.Lists.{get_take, take_get}
+use Rattle.gl_rules.proofs.Lists.{get_take, take_get}
 use Rattle.gl_safety.proofs.Facts.{Covers, Rising}
 
 module _ {E Q G R A F : Type 0} (b : Book E Q G R A F) where

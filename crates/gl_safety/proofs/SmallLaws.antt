@@ -7,9 +7,9 @@ use Rattle.gl_rules.specs.Identity.{NodeId, same, member}
 use Rattle.gl_rules.specs.Log.{entry_at, seqno_with_first, last_signature, greatest_recorded}
 use Rattle.gl_rules.specs.Configuration.{or_else, in_some, configuration_at, configurations_above}
 use Rattle.gl_rules.specs.Safety.{IsLawful, IsRetiring, EachFollows, KeepsPlaces, Makes, MarksNone, MayRecord}
-use Rattle.gl_safety.proofs.Ids.{same_is}
-use Rattle.gl_safety.proofs.Lists.{there, within, take_get, push_get}
-use Rattle.gl_safety.proofs.Soundness.{sound_cut, sound_push}
+use Rattle.gl_rules.proofs.Ids.{same_is}
+use Rattle.gl_rules.proofs.Lists.{there, within, take_get, push_get}
+use Rattle.gl_rules.proofs.Soundness.{sound_cut, sound_push}
 use Rattle.gl_safety.proofs.Places.{place_cut, place_within}
 use Rattle.gl_safety.proofs.Signatures.{last_above}
 use Rattle.gl_safety.specs.declared.small_book.Entry.{Entry}

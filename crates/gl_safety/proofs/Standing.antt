@@ -11,8 +11,8 @@ use Rattle.gl_rules.specs.Configuration.{configuration_at, configurations_above,
 use Rattle.gl_rules.specs.Steps.{enter_view}
 use Rattle.gl_rules.specs.World.{Start}
 use Rattle.gl_rules.specs.Safety.{IsOpening, IsLawful, EachFollows}
-use Rattle.gl_safety.proofs.Ids.{id_tests, cases_same, put2, put2_cases, put2_at}
-use Rattle.gl_safety.proofs.Lists.{within, get_take}
+use Rattle.gl_rules.proofs.Ids.{id_tests, cases_same, put2, put2_cases, put2_at}
+use Rattle.gl_rules.proofs.Lists.{within, get_take}
 use Rattle.gl_safety.proofs.Story.{Story, Grows, early_by, told_stand, grows_same, grows_stand}
 use Rattle.gl_safety.proofs.Configurations.{IsNewest}
 use Rattle.gl_safety.proofs.Facts.{Holds, Covers, Mark, Lost, Ballots, matches_part, lost_more, ballots_of}
@@ -20,7 +20,7 @@ use Rattle.gl_safety.proofs.Certificates.{SureOver, Cert, Sured, Settled, Below,
 use Rattle.gl_safety.proofs.Complete.{descend, settled}
 use Rattle.gl_safety.proofs.Signatures.{last_above, last_signs, signed_keeps, last_view_is, last_zero, covers_last, recorded_le, recorded_part, signed_ends}
 use Rattle.gl_safety.proofs.Invariants.{Commits, Good, Reached, rising_of, begins_of, signature_above, settled_of, sure_to, won_grow, sured_more, shuts_grow, commits_more}
-use Rattle.gl_safety.proofs.Soundness.{sound_cut}
+use Rattle.gl_rules.proofs.Soundness.{sound_cut}
 use Rattle.gl_rules.specs.Elections.{may_campaign, become_candidate}
 
 module _ {E Q G R A F : Type 0} {b : Book E Q G R A F} {s : Start E} (o : IsOpening b (EachFollows b) s) (la : IsLawful b (EachFollows b)) where

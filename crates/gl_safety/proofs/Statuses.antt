@@ -7,7 +7,7 @@ use Rattle.gl_rules.specs.Node.{Node}
 use Rattle.gl_rules.specs.Log.{entry_at}
 use Rattle.gl_rules.specs.World.{Start, Event, World, begin, after}
 use Rattle.gl_rules.specs.Safety.{IsOpening, IsLawful, EachFollows, IsPrefixOf, committed_ledger, Agree, node_after, view_of, id_at, commit_id, reported_status}
-use Rattle.gl_safety.proofs.Lists.{there, within, get_take, take_get, get_left}
+use Rattle.gl_rules.proofs.Lists.{there, within, get_take, take_get, get_left}
 use Rattle.gl_safety.proofs.Story.{Story}
 use Rattle.gl_safety.proofs.Certificates.{SureOver, Cert}
 use Rattle.gl_safety.proofs.Invariants.{rising_of, sure_within}

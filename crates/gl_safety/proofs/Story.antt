@@ -3,7 +3,7 @@
 use Rattle.std.proofs.Common.{◌≡◌, ◌≢◌, ◌⊎◌, inl, inr, ⊎_elim, ℕ, ◌≤◌, ◌<◌, max, List, [], Bool, true, false, ◌==◌, if◌then◌else◌, Option, Some, None, slice_get, refl, ◌∙◌, arith}
 use Rattle.gl_rules.specs.Identity.{NodeId}
 use Rattle.gl_rules.specs.Message.{Position}
-use Rattle.gl_safety.proofs.Ids.{put2, id_tests}
+use Rattle.gl_rules.proofs.Ids.{put2, id_tests}
 
 pub record Story (E : Type 0) : Type 0 where
   -- by node and view: for whom it voted

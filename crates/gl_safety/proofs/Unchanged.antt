@@ -14,8 +14,8 @@ use Rattle.gl_rules.specs.Replication.{greatest_to_commit, commit_to, advance, r
 use Rattle.gl_rules.specs.Requests.{pending_limit, last_count, append_result, execute_request, submit, unless_conflict, finish_as_leader, finish, if_removal_committed, unless_mark_refused, if_markable, govern_as_leader, govern, reserve, append_signature, sign_as_leader, sign, append_evidence, evidence}
 use Rattle.gl_rules.specs.World.{Event, Timeout, Deliver, Submit, Finish, Govern, Reserve, Sign, Evidence, Replicate, Advance, StepDown, Restart, Install, World, at, answer_as, undo_if_refused, on_message, deliver, happens}
 use Rattle.gl_rules.specs.Safety.{LeavesAll}
-use Rattle.gl_safety.proofs.Ids.{by_test, put_all}
-use Rattle.gl_safety.proofs.Lists.{append_none}
+use Rattle.gl_rules.proofs.Ids.{by_test, put_all}
+use Rattle.gl_rules.proofs.Lists.{append_none}
 
 module _ {E Q G R A F : Type 0} (b : Book E Q G R A F) where
   -- a step that, where it refuses, leaves the node and sends nothing

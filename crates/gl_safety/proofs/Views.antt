@@ -14,7 +14,7 @@ use Rattle.gl_rules.specs.Elections.{may_vote_for, may_campaign, become_candidat
 use Rattle.gl_rules.specs.Replication.{accept_entries, append_reply, highest_possible_match, update_match, matching_prefix_len, checked_append, accept_or_refuse, merge_entries, merge_if_matching, become_follower, append_as, on_append, update_progress, append_reply_as, on_append_reply, greatest_to_commit, commit_to, advance, restart, snapshot_of, install_snapshot, install, is_peer, send_append, next_of, append_message, replicate}
 use Rattle.gl_rules.specs.Requests.{pending_limit, last_count, append_result, execute_request, submit, unless_conflict, finish_as_leader, finish, if_removal_committed, unless_mark_refused, if_markable, govern_as_leader, govern, reserve, append_signature, sign_as_leader, sign, append_evidence, evidence}
 use Rattle.gl_rules.specs.World.{answer_as, undo_if_refused, on_message}
-use Rattle.gl_safety.proofs.Ids.{by_test}
+use Rattle.gl_rules.proofs.Ids.{by_test}
 
 module _ {E Q G R A F : Type 0} (b : Book E Q G R A F) where
   abbrev pub Up : ℕ → Step E A F → Type 0

@@ -10,7 +10,7 @@ use Rattle.gl_rules.specs.Configuration.{active, in_some, others}
 use Rattle.gl_rules.specs.Steps.{has_votes, lead_if, lead_if_elected, as_leader, if_leader}
 use Rattle.gl_rules.specs.World.{Start}
 use Rattle.gl_rules.specs.Safety.{IsOpening, IsLawful, EachFollows}
-use Rattle.gl_safety.proofs.Ids.{by_test}
+use Rattle.gl_rules.proofs.Ids.{by_test}
 use Rattle.gl_safety.proofs.Story.{Story, grows_then}
 use Rattle.gl_safety.proofs.Certificates.{Tale}
 use Rattle.gl_safety.proofs.Invariants.{Good, BodySent, AllSent, Reached, made_same}

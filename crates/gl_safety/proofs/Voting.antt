@@ -8,7 +8,7 @@ use Rattle.gl_rules.specs.Message.{Position, VoteReply}
 use Rattle.gl_rules.specs.Log.{is_up_to_date, last_signature_position}
 use Rattle.gl_rules.specs.World.{Start}
 use Rattle.gl_rules.specs.Safety.{IsOpening, EachFollows}
-use Rattle.gl_safety.proofs.Ids.{id_tests, same_is, cases_same, put2, put2_cases, put2_at}
+use Rattle.gl_rules.proofs.Ids.{id_tests, same_is, cases_same, put2, put2_cases, put2_at}
 use Rattle.gl_safety.proofs.Story.{Story, Grows, early_by, told_ballot, grows_same, grows_ballot}
 use Rattle.gl_safety.proofs.Facts.{Holds, Covers, Mark, Lost, Ballots, lost_more, ballots_of}
 use Rattle.gl_safety.proofs.Certificates.{Tale}

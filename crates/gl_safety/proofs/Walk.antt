@@ -15,7 +15,7 @@ use Rattle.gl_rules.specs.Elections.{may_vote_for, may_campaign, become_candidat
 use Rattle.gl_rules.specs.Replication.{on_append, update_match, update_progress, append_reply_as, on_append_reply, greatest_to_commit, commit_to, advance, restart, snapshot_of, with_snapshot, install_snapshot, install, is_peer, next_of, append_message, send_append, replicate}
 use Rattle.gl_rules.specs.Requests.{pending_limit, last_count, append_result, execute_request, submit, unless_conflict, finish_as_leader, finish, if_removal_committed, unless_mark_refused, if_markable, govern_as_leader, govern, reserve, append_signature, sign_as_leader, sign, append_evidence, evidence}
 use Rattle.gl_rules.specs.World.{Event, Timeout, Deliver, Submit, Finish, Govern, Reserve, Sign, Evidence, Replicate, Advance, StepDown, Restart, Install, World, at, answer_as, undo_if_refused, on_message, deliver, happens}
-use Rattle.gl_safety.proofs.Ids.{by_test, put_all}
+use Rattle.gl_rules.proofs.Ids.{by_test, put_all}
 
 -- a node whose log, view and base are those of another, and which leads at most where that one led or was a candidate
 pub record Alike {E : Type 0} (n m : Node E) : Type 0 where

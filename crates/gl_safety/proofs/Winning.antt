@@ -9,8 +9,8 @@ use Rattle.gl_rules.specs.Log.{last_signature_position}
 use Rattle.gl_rules.specs.Steps.{become_leader, has_votes}
 use Rattle.gl_rules.specs.World.{Start}
 use Rattle.gl_rules.specs.Safety.{IsOpening, IsLawful, EachFollows}
-use Rattle.gl_safety.proofs.Ids.{id_tests, cases_same, by_test, share}
-use Rattle.gl_safety.proofs.Lists.{Same, same_take, within}
+use Rattle.gl_rules.proofs.Ids.{id_tests, cases_same, by_test, share}
+use Rattle.gl_rules.proofs.Lists.{Same, same_take, within}
 use Rattle.gl_safety.proofs.Story.{Story, Grows, at_view, told_win, grows_win}
 use Rattle.gl_safety.proofs.Configurations.{Backed, backed_by}
 use Rattle.gl_safety.proofs.Facts.{Holds, Covers, Matches, Bound, Rising, Mark, Lost, Voted, Ballots, matches_grow, lost_grow, ballots_of}

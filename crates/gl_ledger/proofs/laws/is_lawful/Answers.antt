@@ -3,6 +3,6 @@ use Rattle.gl_ledger.proofs.laws.is_lawful.Goals as goal
 
 pub returns : goal.returns
 returns c = record {
-  lawful = λ layers. lawful layers;
-  retiring = λ layers. retiring layers;
+  lawful = λ layers keys. lawful layers keys;
+  retiring = λ layers keys. retiring layers keys;
 }

@@ -19,7 +19,7 @@ use Rattle.gl_rules.specs.Safety.{IsOpening, IsLawful, EachFollows, ViewsUpTo, n
 use Rattle.gl_safety.proofs.Story.{Story}
 use Rattle.gl_safety.proofs.Runs.{Holding, first_story, onward_run}
 use Rattle.gl_safety.proofs.Beginning.{holding_first}
-use Rattle.gl_safety.proofs.Ids.{by_test, put_all}
+use Rattle.gl_rules.proofs.Ids.{by_test, put_all}
 
 module _ {E Q G R A F : Type 0} (b : Book E Q G R A F) where
   abbrev Low : Node E → Type 0

@@ -1,0 +1,90 @@
+-- What a leader makes: its log and its commit are as the rules of consensus have them, so the guard refuses nothing.
+use Rattle.std.proofs.Common.{◌≡◌, ℕ, ◌<◌, ◌^◌, List, [], ◌∷◌, length, take, Bool, true, false, if◌then◌else◌, Option, Some, None, Err, refl, sym, subst, arith}
+use Rattle.gl_base.proofs.Lists.{take-all}
+use Rattle.gl_rules.specs.Identity.{NodeId, member}
+use Rattle.gl_rules.specs.Node.{Node, Leader}
+use Rattle.gl_rules.specs.World.{Start}
+use Rattle.gl_rules.specs.Safety.{EachFollows, ViewsUpTo, MayRecord, IsConfigured, IsOpening, LeadersMayRecord, node_after, node_at}
+use Rattle.gl_safety.proofs.Membership.{leaders_may_record}
+use Rattle.gl_tx.specs.declared.request.Operation.{Operation}
+use Rattle.gl_entry.specs.Entry.{body_bytes}
+use Rattle.gl_entry.specs.declared.entry.Entry.{Entry}
+use Rattle.gl_ledger.specs.Genesis.{is_governance_request}
+use Rattle.gl_ledger.specs.Effect.{Recorded}
+use Rattle.gl_ledger.specs.Ledger.{within_size, within_seqnos}
+use Rattle.gl_ledger.specs.declared.breach.GenesisFault.{GenesisFault}
+use Rattle.gl_ledger.specs.declared.breach.GenesisFault.TheVariants as faults
+use Rattle.gl_ledger.specs.declared.genesis.GovernanceRequest.{GovernanceRequest}
+use Rattle.gl_ledger.specs.declared.genesis.GovernanceRequest.TheVariants as requests
+use Rattle.gl_ledger.specs.Layers.{Layers}
+use Rattle.gl_ledger.specs.NodeKeys.{NodeKeys}
+use Rattle.gl_ledger.specs.Recordings.{requests_of, nodes_of, recorded_nodes}
+use Rattle.gl_ledger.specs.Acceptance.{request_fault}
+use Rattle.gl_ledger.specs.Makers.{MakesValid, by_store, guarded, request_result, signing_result, Given, Governed, Unspelled, unless_fault, governance_entry, govern_result}
+use Rattle.gl_ledger.specs.LedgerBook.{ledger_book}
+use Rattle.gl_ledger.proofs.Lawful.{lawful}
+use Rattle.gl_ledger.proofs.Making.{execute_is}
+use Rattle.gl_ledger.proofs.Signing.{sign_is, may_make, configured_recorded}
+use Rattle.gl_service.specs.Service.{ServiceEvent, Leads, node_of}
+use Rattle.gl_service.proofs.ViewLimits.{views_low}
+
+module _ (layers : Layers) (keys : NodeKeys) (s : Start Entry) (opening : IsOpening (ledger_book layers keys) (EachFollows (ledger_book layers keys)) s) (first : IsConfigured (ledger_book layers keys) s.first s.opening) (events : List ServiceEvent) (x : NodeId) (leads : Leads layers keys s events x) where
+  abbrev pub n : Node Entry
+  n = node_of layers keys s events x
+
+  all : LeadersMayRecord (ledger_book layers keys) s events
+  all = leaders_may_record opening (lawful layers keys) events
+
+  -- the moment behind all events
+  whole : take (length events) events ≡ events
+  whole = take-all events
+
+  at_end : (P : Node Entry → Type 0) → P (node_at (ledger_book layers keys) s events (length events) x) → P n
+  at_end P h = subst (λ (es : List ServiceEvent). P (node_after (ledger_book layers keys) s es x)) whole h
+
+  leads_there : (node_at (ledger_book layers keys) s events (length events) x).role ≡ Leader
+  leads_there = subst (λ (es : List ServiceEvent). (node_after (ledger_book layers keys) s es x).role ≡ Leader) (sym whole) leads
+
+  follows : EachFollows (ledger_book layers keys) n.log
+  follows = at_end (λ m. EachFollows (ledger_book layers keys) m.log) (all.follows (length events) x leads_there)
+
+  views : ViewsUpTo (ledger_book layers keys) n.view n.log
+  views = at_end (λ m. ViewsUpTo (ledger_book layers keys) m.view m.log) (all.views (length events) x leads_there)
+
+  may : MayRecord (ledger_book layers keys) n.log n.commit
+  may = at_end (λ m. MayRecord (ledger_book layers keys) m.log m.commit) (all.commit (length events) x leads_there)
+
+  recorded : member x (recorded_nodes layers n.log) ≡ true
+  recorded = configured_recorded layers keys x n.log (at_end (λ m. IsConfigured (ledger_book layers keys) x m.log) (all.configured first (length events) x leads_there))
+
+  four_bytes : n.view < 2 ^ 32
+  four_bytes = let v = views_low opening (lawful layers keys) events x in omega (arith, v)
+
+  pub leader_executes : (q : List Operation) → (ledger_book layers keys).execute n.log n.view q ≡ request_result n.log n.view q
+  leader_executes q = execute_is layers keys n.log n.view four_bytes (may_make layers keys n.log n.view n.commit follows views may) q
+
+  pub leader_signs : (leaf : ℕ) → MakesValid layers keys x leaf n.log n.view n.commit → (ledger_book layers keys).sign x leaf n.log n.view n.commit ≡ signing_result keys x leaf n.log n.view n.commit
+  leader_signs leaf valid = sign_is layers keys n.log n.view n.commit four_bytes (may_make layers keys n.log n.view n.commit follows views may) x leaf recorded may valid
+
+  -- for now a leader refuses each request of governance, as it doesn't come first
+  pub leader_governs : (g : GovernanceRequest) → (ledger_book layers keys).govern n.log n.view g ≡ govern_result layers n.log n.view g
+  unfolding recorded_nodes
+  leader_governs g = go (is_governance_request g) (request_fault layers (requests_of layers n.log) g) (not_first (requests_of layers n.log) g some_recorded)
+    where
+      e : Entry
+      e = governance_entry layers g n.log n.view
+
+      some_recorded : member x (nodes_of (requests_of layers n.log)) ≡ true
+      some_recorded = recorded
+
+      not_first : (rs : List Recorded) (g : GovernanceRequest) → member x (nodes_of rs) ≡ true → request_fault layers rs g ≡ Some faults.NotFirst
+      not_first [] g h = absurd (cc)
+      not_first (r ∷ rs) (requests.Genesis g) h = refl
+
+      go : (t : Bool) (o : Option GenesisFault) → o ≡ Some faults.NotFirst →
+          guarded layers (λ (made : Entry × Given). made.0) n.log
+          (if t then unless_fault o (by_store (within_size (length (body_bytes e)) (within_seqnos n.log (e, Governed)))) else Err Unspelled)
+          ≡ (if t then unless_fault o (by_store (within_size (length (body_bytes e)) (within_seqnos n.log (e, Governed)))) else Err Unspelled)
+      go false o h = refl
+      go true None h = absurd (cc)
+      go true (Some fault) h = refl

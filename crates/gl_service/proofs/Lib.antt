@@ -1,0 +1,3 @@
+pub mod ViewLimits
+pub mod Safe
+pub mod Leading

@@ -1,0 +1,48 @@
+//! What holds of a service, whatever nodes start and whatever happens: laws, and no code.
+
+ghost use Rattle.std.specs.Prelude.{◌≡◌, ℕ, List};
+ghost use Rattle.gl_tx.specs.declared.request.Operation.{Operation};
+ghost use Rattle.gl_entry.specs.declared.entry.Entry.{Entry};
+ghost use Rattle.gl_rules.specs.Identity.{NodeId};
+ghost use Rattle.gl_rules.specs.Safety.{IsSafe};
+ghost use Rattle.gl_rules.specs.World.{Start};
+ghost use Rattle.gl_ledger.specs.declared.genesis.GovernanceRequest.{GovernanceRequest};
+ghost use Rattle.gl_ledger.specs.Layers.{Layers, ReadsSpellings};
+ghost use Rattle.gl_ledger.specs.NodeKeys.{NodeKeys};
+ghost use Rattle.gl_ledger.specs.Sound.{IsSound};
+ghost use Rattle.gl_ledger.specs.Makers.{MakesValid, govern_result, request_result, signing_result};
+ghost use Rattle.gl_ledger.specs.LedgerBook.{ledger_book};
+ghost use Rattle.gl_ledger.specs.Opening.{Begins};
+ghost use Rattle.gl_service.specs.Service.{Leads, ServiceEvent, node_of};
+
+/// A service that begins with a ledger which the check of an opening takes is safe: its committed
+/// ledgers are sound.
+pub fn is_safe()
+    ensures safe { (layers : Layers) (keys : NodeKeys) → ReadsSpellings layers →
+        (s : Start Entry) → Begins layers s → (events : List ServiceEvent) →
+        IsSafe (ledger_book layers keys) (IsSound layers) s events }
+{}
+
+/// The book refuses a leader no request, and no valid signature, for a rule of the audit. What a
+/// leader answers to a request of governance is never due to the guard: for now it refuses each, as
+/// a genesis comes first or not at all.
+pub fn is_unguarded()
+    ensures executes { (layers : Layers) (keys : NodeKeys) (s : Start Entry) → Begins layers s →
+        (events : List ServiceEvent) (x : NodeId) → Leads layers keys s events x →
+        (request : List Operation) →
+        let n = node_of layers keys s events x in
+        (ledger_book layers keys).execute n.log n.view request
+        ≡ request_result n.log n.view request }
+    ensures governs { (layers : Layers) (keys : NodeKeys) (s : Start Entry) → Begins layers s →
+        (events : List ServiceEvent) (x : NodeId) → Leads layers keys s events x →
+        (request : GovernanceRequest) →
+        let n = node_of layers keys s events x in
+        (ledger_book layers keys).govern n.log n.view request
+        ≡ govern_result layers n.log n.view request }
+    ensures signs { (layers : Layers) (keys : NodeKeys) (s : Start Entry) → Begins layers s →
+        (events : List ServiceEvent) (x : NodeId) → Leads layers keys s events x → (leaf : ℕ) →
+        let n = node_of layers keys s events x in
+        MakesValid layers keys x leaf n.log n.view n.commit →
+        (ledger_book layers keys).sign x leaf n.log n.view n.commit
+        ≡ signing_result keys x leaf n.log n.view n.commit }
+{}

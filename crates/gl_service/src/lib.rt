@@ -1,0 +1,7 @@
+//! A service that began with an opening ledger, as the rules of consensus move it: it is safe, and
+//! the guard of its ledger refuses its leaders nothing. Laws, and no code.
+#![tactic(auto)]
+
+mod laws;
+
+pub use laws::{is_safe, is_unguarded};

@@ -1,13 +1,15 @@
 -- What the calls of a store come to, in the words of the rules of consensus over a ledger's book.
-use Rattle.std.specs.Prelude.{◌≡◌, ℕ, ◌+◌, List, [], ◌∷◌, ◌++◌, Result, Ok, Err, length}
+use Rattle.std.specs.Prelude.{◌≡◌, ◌<◌, ◌≤◌, ◌^◌, ℕ, ◌+◌, List, [], ◌∷◌, ◌++◌, Result, Ok, Err, IfSome, length}
 use Rattle.gl_base.specs.declared.or_no_memory.OrNoMemory.{OrNoMemory}
 use Rattle.gl_base.specs.declared.or_no_memory.OrNoMemory.TheVariants.{NoMemory, Fault}
 use Rattle.gl_base.specs.declared.tx_id.TxId.{TxId}
+use Rattle.gl_hss.specs.Signer.{Signer, hss_signature}
+use Rattle.gl_rules.specs.Identity.{NodeId}
 use Rattle.gl_rules.specs.Node.{Node}
 use Rattle.gl_entry.specs.declared.entry.Entry.{Entry}
 use Rattle.gl_tx.specs.declared.request.Operation.{Operation}
 use Rattle.gl_tx.specs.declared.request.Answer.{Answer}
-use Rattle.gl_ledger.specs.Ledger.{sign_result}
+use Rattle.gl_ledger.specs.Ledger.{message_behind, sign_result}
 use Rattle.gl_ledger.specs.Makers.{Replied, Unmade, ByStore, request_result, by_store}
 use Rattle.gl_ledger.specs.declared.refusal.Refusal.{Refusal}
 use Rattle.gl_store.specs.Kept.{Held}
@@ -29,11 +31,24 @@ pub record Executes (old : Held) (view : ℕ) (q : List Operation)
   pub made : request_result old.ledger view q ≡ Ok (entry, Replied reply)
   pub enters : Enters old view entry id new
 
--- The store made the entry of a node's signature, with this identifier. For now the entry is the
--- same whichever leaf of the node's key signs.
-pub record Signs (old : Held) (node : List ℕ) (view : ℕ) (id : TxId) (new : Held) : Type 0 where
+-- A signer has a reserved leaf that isn't used, and its endorsement, if it has one, is short enough
+-- for a node's row.
+pub record IsReady (signer : Signer) : Type 0 where
+  pub reserved : signer.used < signer.reserved
+  pub endorsement : IfSome signer.endorsement (λ bytes. length bytes ≤ 2 ^ 15)
+
+-- What a signer signs behind a ledger with its next leaf, in a view and with a commit.
+abbrev pub signature_of : Signer → List Entry → ℕ → ℕ → List ℕ
+signature_of signer ledger view commit =
+    hss_signature signer.key signer.endorsement signer.used (message_behind ledger view commit)
+
+-- The store made the entry of a node's signature, with this identifier.
+pub record Signs (old : Held) (node : NodeId) (signer : Signer) (view : ℕ) (id : TxId)
+    (new : Held) : Type 0 where
   pub entry : Entry
-  pub made : by_store (sign_result node old.ledger view old.commit) ≡ Ok entry
+  pub made : by_store (sign_result node (signature_of signer old.ledger view old.commit) old.ledger
+      view old.commit)
+      ≡ Ok entry
   pub enters : Enters old view entry id new
 
 -- A refusal is the one that is owed; memory may run out at any time.

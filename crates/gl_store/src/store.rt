@@ -4,7 +4,9 @@ ghost use Rattle.std.specs.Prelude.{◌≡◌, ◌↔◌, ◌+◌, ◌≤◌, �
 ghost use Rattle.std.specs.List.{AllByRecursion};
 ghost use Rattle.std.specs.Option.{option_copied};
 ghost use Rattle.sha2.specs.Sha256.{sha256};
+ghost use Rattle.gl_base.specs.Bytes.{are_bytes};
 ghost use Rattle.gl_base.specs.TxId.{last_seqno};
+ghost use Rattle.gl_hss.specs.Signer.{hss_signature};
 ghost use Rattle.gl_merkle.specs.Frontier.{HasLeaves, IsUnchanged};
 ghost use Rattle.gl_vmaps.specs.Kept.{version_of};
 ghost use Rattle.gl_vmaps.specs.Standing.{StandsFor};
@@ -17,11 +19,13 @@ ghost use Rattle.gl_entry.specs.declared.entry.Entry as made;
 ghost use Rattle.gl_ledger.specs.Genesis.{is_genesis, HaveShortEndorsements};
 ghost use Rattle.gl_ledger.specs.Tree.{leaves_of};
 ghost use Rattle.gl_ledger.specs.Ledger.{genesis_entry, signature_entry, within_limits};
+ghost use Rattle.gl_store.specs.Calls.{IsReady, signature_of};
 ghost use Rattle.gl_store.specs.Kept.{IsTreeOf};
 
 use crate::ledger_state::LedgerState;
 use gl_base::{Bytes, FIRST_VIEW, LAST_SEQNO, MEBIBYTE, OrNoMemory, Status, TxId, status};
-use gl_entry::{Content, Digest, Entry, NodeId, Signature, leaf, leaf_of_body};
+use gl_entry::{Content, Digest, Entry, NodeId, Signature, leaf, leaf_of_body, signed_message};
+use gl_hss::HssSigner;
 use gl_ledger::{Genesis, HssPublicKey, Refusal, ServiceState, genesis_bytes, genesis_writes};
 use gl_tx::{Ran, Reply, Request, run};
 use gl_vmaps::{Tables, Writes};
@@ -81,22 +85,35 @@ impl Store {
     ghost use Rattle.gl_store.specs.Calls.{Executes, Signs, Refuses, IsNodeOf};
 
     /// The store of a service that begins: the genesis with seqno 1, and the signature of its node
-    /// with seqno 2, both in view 2 and committed. Fails for want of memory alone.
-    pub fn opening(alloc: Global, genesis: &Genesis, signer: NodeId) -> Result<Self, AllocError>
+    /// with seqno 2, both in view 2 and committed. The signer's next leaf is spent. Fails for want
+    /// of memory alone, and then no leaf is spent.
+    pub fn opening(
+        alloc: Global,
+        genesis: &Genesis,
+        node: NodeId,
+        signer: &mut HssSigner,
+    ) -> Result<Self, AllocError>
         requires acceptable { is_acceptable genesis.now ≡ true }
         requires fits { is_genesis genesis.now ≡ true }
         requires endorsements { HaveShortEndorsements genesis.now.nodes }
         requires small { length (body_bytes (genesis_entry genesis.now)) ≤ body_limit }
-        ensures { IfOk result (λ store. store ≡ record {
-          ledger = opening_ledger genesis.now signer;
+        requires ready { IsReady signer.old }
+        ensures opened { IfOk result (λ store. store ≡ record {
+          ledger = opening_ledger genesis.now node
+              (signature_of signer.old (genesis_entry genesis.now ∷ []) 2 2);
           commit = 2;
         }) }
+        ensures spent { OnOk result (signer.new ≡ record signer.old {
+          used = signer.old.used + 1;
+        }) }
+        ensures err { OnErr result (signer.new ≡ signer.old) }
     {
         let founding = genesis_entry(alloc, genesis)?;
         let mut state = LedgerState::new(alloc)?;
         push_entry(&mut state, &genesis.identity, founding)?;
-        let opening = signature_entry(alloc, &state, signer, FIRST_VIEW, 2);
+        let opening = signature_entry(alloc, &state, node, FIRST_VIEW, 2, signer)?;
         push_entry(&mut state, &genesis.identity, opening)?;
+        signer.spend();
         Ok(Store {
             state,
             identity: genesis.identity,
@@ -253,21 +270,34 @@ impl Store {
 
     /// Makes the entry of a node's signature of the ledger so far, in a view that isn't below that
     /// of any entry before. It records the commit as it now is, and the root of the tree over all
-    /// entries before it. Refused where no seqno is left. Want of memory, too, leaves the store as
-    /// it was.
-    pub fn sign(&mut self, node: NodeId, view: u32) -> Result<TxId, OrNoMemory<Refusal>>
-        requires { HasViewsUpTo view self.old.ledger }
-        ensures made { IfOk result (λ id. Signs self.old node view id self.new) }
-        ensures refused { IfErr result (λ e.
-            Refuses (by_store (sign_result node self.old.ledger view self.old.commit)) e) }
+    /// entries before it. The signer's next leaf is spent, and nothing can fail behind that.
+    /// Refused where no seqno is left. Want of memory, too, leaves the store and the signer as they
+    /// were.
+    pub fn sign(
+        &mut self,
+        node: NodeId,
+        view: u32,
+        signer: &mut HssSigner,
+    ) -> Result<TxId, OrNoMemory<Refusal>>
+        requires up_to { HasViewsUpTo view self.old.ledger }
+        requires ready { IsReady signer.old }
+        ensures made { IfOk result (λ id. Signs self.old node signer.old view id self.new) }
+        ensures refused { IfErr result (λ e. Refuses (by_store (sign_result node
+            (signature_of signer.old self.old.ledger view self.old.commit)
+            self.old.ledger view self.old.commit)) e) }
+        ensures spent { OnOk result (signer.new ≡ record signer.old {
+          used = signer.old.used + 1;
+        }) }
         ensures err { OnErr result (self.new ≡ self.old) }
+        ensures unspent { OnErr result (signer.new ≡ signer.old) }
     {
         let seqno = self.state.entries.len() as u64 + 1;
         if seqno > LAST_SEQNO {
             return Err(OrNoMemory::Fault(Refusal::SeqnoLimit));
         }
-        let entry = signature_entry(self.alloc, &self.state, node, view, self.commit);
+        let entry = signature_entry(self.alloc, &self.state, node, view, self.commit, signer)?;
         push_entry(&mut self.state, &self.identity, entry)?;
+        signer.spend();
         self.last_signature = seqno;
         Ok(TxId { view, seqno })
     }
@@ -293,31 +323,53 @@ fn genesis_entry(alloc: Global, genesis: &Genesis) -> Result<Entry, AllocError>
     })
 }
 
-/// The entry of a node's signature behind a ledger.
+/// The entry of a node's signature behind a ledger, by the signer's next leaf, which isn't spent by
+/// that.
 fn signature_entry(
     alloc: Global,
     state: &LedgerState,
     node: NodeId,
     view: u32,
     commit: u64,
-) -> Entry
+    signer: &HssSigner,
+) -> Result<Entry, AllocError>
     requires some { 0 < length state.now.entries.items }
     requires left { length state.now.entries.items < last_seqno }
     requires tree { IsTreeOf (leaves_of state.now.entries.items) state.now.frontier }
-    ensures made { result ≡ signature_entry node state.now.entries.items view commit }
-    ensures fits { is_entry result ≡ true }
+    requires ready { IsReady signer.now }
+    ensures made { IfOk result (λ entry. entry ≡ signature_entry node
+        (signature_of signer.now state.now.entries.items view commit)
+        state.now.entries.items view commit) }
+    ensures fits { IfOk result (λ entry. is_entry entry ≡ true) }
 {
-    Entry {
+    let seqno = state.entries.len() as u64 + 1;
+    let root = state.frontier.root();
+    let signature = next_signature(signer, &signed_message(&root, view, seqno, commit))?;
+    Ok(Entry {
         view,
-        seqno: state.entries.len() as u64 + 1,
+        seqno,
         content: Content::Signature(Signature {
             node,
             commit,
-            root: state.frontier.root(),
-            signature: Bytes::from(Vec::new(alloc)),
+            root,
+            signature,
         }),
         writes: Writes::new(alloc),
         claims: NO_DIGEST,
+    })
+}
+
+/// The signature of a message by the signer's next leaf, which isn't spent by that.
+fn next_signature(signer: &HssSigner, message: &[u8]) -> Result<Bytes, AllocError>
+    requires { IsReady signer.now }
+    ensures bytes { IfOk result (λ signature. signature
+        ≡ hss_signature signer.now.key signer.now.endorsement signer.now.used message.now) }
+    ensures are_bytes { IfOk result (λ signature. are_bytes signature ≡ true) }
+    ensures short { IfOk result (λ signature. length signature ≤ 2 ^ 16) }
+{
+    match signer.signature(message) {
+        Ok(signature) => Ok(Bytes::from(signature)),
+        Err(_) => Err(AllocError),
     }
 }
 

@@ -1,9 +1,13 @@
 -- The machine's steps are those of the rules.
-use Rattle.std.proofs.Common.{◌≡◌, ℕ, zero, suc, ◌+◌, ◌<◌, ◌≤◌, List, [], ◌∷◌, ◌++◌, length, Option, Some, None, Result, Err, Bool, true, false, ◌==◌, nat_lt, nat_le, if◌then◌else◌, refl, sym, ◌∙◌, ap, subst, arith}
+use Rattle.std.proofs.Common.{◌≡◌, ⊎_elim, ℕ, zero, suc, ◌+◌, ◌^◌, ◌<◌, ◌≤◌, List, [], ◌∷◌, ◌++◌, length, Option, Some, None, Result, Err, Bool, true, false, ◌==◌, nat_lt, nat_le, if◌then◌else◌, refl, sym, ◌∙◌, ap, subst, arith}
 use Rattle.std.proofs.lemmas.Bool.Decides.{nat_tests}
+use Rattle.std.proofs.lemmas.Bool.{cases_lt}
 use Rattle.std.proofs.Math.Bool.{and-true}
 use Rattle.gl_base.proofs.Lists.{slice_get-below}
 use Rattle.gl_base.specs.declared.tx_id.TxId.{TxId}
+use Rattle.gl_lms.specs.Types.{height}
+use Rattle.gl_lms.specs.Secrets.{PrivateKey}
+use Rattle.gl_hss.specs.Signer.{Signer, hss_signature}
 use Rattle.gl_rules.specs.Identity.{NodeId, member}
 use Rattle.gl_rules.specs.Node.{Node, Leader}
 use Rattle.gl_rules.specs.Outcome.{Step, quiet, refuse, idle, KeyExhausted, NotReserved, NothingToSign, ByLedger}
@@ -20,10 +24,10 @@ use Rattle.gl_entry.specs.declared.entry.Entry.{Entry}
 use Rattle.gl_tx.specs.declared.request.Operation.{Operation}
 use Rattle.gl_tx.specs.declared.request.Answer.{Answer}
 use Rattle.gl_ledger.specs.Broken.{last_signed}
-use Rattle.gl_ledger.specs.Ledger.{HasViewsUpTo, opening_ledger, sign_result}
-use Rattle.gl_ledger.specs.LedgerBook.{leaf_count}
-use Rattle.gl_ledger.specs.Makers.{Given, Replied, Unmade, ByStore, by_store, request_result, signing_result}
-use Rattle.gl_ledger.specs.Services.{ServiceEvent}
+use Rattle.gl_ledger.specs.Ledger.{HasViewsUpTo, message_behind, sign_result}
+use Rattle.gl_ledger.specs.NodeKeys.{leaf_count}
+use Rattle.gl_ledger.specs.Makers.{Given, Replied, Unmade, ByStore, by_store, request_result, signing_result, opening_of}
+use Rattle.gl_service.specs.Service.{ServiceEvent}
 use Rattle.gl_ledger.specs.Signed.{IsSignedAt}
 use Rattle.gl_ledger.specs.declared.refusal.Refusal.{Refusal}
 use Rattle.gl_ledger.proofs.Applications.{execute_ok, request_ok}
@@ -31,9 +35,9 @@ use Rattle.gl_ledger.proofs.Following.{book_sign_ok}
 use Rattle.gl_ledger.proofs.Growth.{IsNoGovernance}
 use Rattle.gl_ledger.proofs.Signatures.{last_is_signed, signed_at_last, last_if_signed}
 use Rattle.gl_store.specs.Kept.{Held}
-use Rattle.gl_store.specs.Calls.{Executes, Signs}
+use Rattle.gl_store.specs.Calls.{Executes, Signs, signature_of}
 use Rattle.gl_world.specs.declared.settings.Settings.{Settings}
-use Rattle.gl_world.specs.Founding.{id_of, genesis_of}
+use Rattle.gl_world.specs.Founding.{id_of, genesis_of, keys_of}
 use Rattle.gl_world.specs.Group.{layers_of, book_of}
 use Rattle.gl_world.specs.Single.{IsSingle}
 use Rattle.gl_world.specs.Solo.{IsSoloLedger}
@@ -43,7 +47,7 @@ use Rattle.gl_world.proofs.Groups.{group_executes, group_signs}
 use Rattle.gl_world.proofs.Ids.{same_itself}
 use Rattle.gl_world.proofs.Solo.{advance-is, solo-push, solo_at_start}
 use Rattle.ccfg.specs.declared.machine.Machine.{Machine}
-use Rattle.ccfg.specs.Machine.{node_in, IsMachine, GoesOn}
+use Rattle.ccfg.specs.Machine.{node_in, IsSignerOf, IsMachine, GoesOn}
 use Rattle.ccfg.proofs.ToldLemmas.{one_event_more}
 
 abbrev pub ServiceStep : Type 0
@@ -64,19 +68,19 @@ node_then s events e x rule n m o happened is step =
     ∙ ap (λ (t : ServiceStep). t.node) step
 
 -- the machine that a step of the rules made of one goes on
-goes_on : (m : Machine) (st : Held) (reserved used : ℕ) (e : ServiceEvent) (rule : Node Entry → ServiceStep) (o : outcome.Outcome Given Unmade) → IsMachine m →
+goes_on : (m : Machine) (st : Held) (signer : Signer) (e : ServiceEvent) (rule : Node Entry → ServiceStep) (o : outcome.Outcome Given Unmade) → IsMachine m →
     ((w : ServiceWorld) → happens (book_of m.settings) w e ≡ at w m.id (rule (w.nodes m.id))) →
-    (let new : Machine = record m { store = st; reserved = reserved; used = used } in rule (node_in m) ≡ quiet (node_in new) o) →
-    IsSoloLedger (layers_of m.settings) m.id st.ledger → 2 ≤ st.commit → used ≤ reserved → GoesOn m (record m { store = st; reserved = reserved; used = used })
-goes_on m st reserved used e rule o h happened step ledger opened leaves = record {
+    (let new : Machine = record m { store = st; signer = signer } in rule (node_in m) ≡ quiet (node_in new) o) →
+    IsSoloLedger (layers_of m.settings) m.id st.ledger → 2 ≤ st.commit → IsSignerOf m.settings m.id signer → GoesOn m (record m { store = st; signer = signer })
+goes_on m st signer e rule o h happened step ledger opened signs = record {
   machine = record {
     single = h.single;
     named = h.named;
     events = h.events ++ e ∷ [];
-    reached = node_then m.settings h.events e m.id rule (node_in m) (node_in (record m { store = st; reserved = reserved; used = used })) o happened h.reached step;
+    reached = node_then m.settings h.events e m.id rule (node_in m) (node_in (record m { store = st; signer = signer })) o happened h.reached step;
     ledger = ledger;
     opened = opened;
-    leaves = leaves;
+    signer = signs;
   };
   settings = refl;
 }
@@ -97,9 +101,9 @@ advanced : (s : Settings) (x : NodeId) (w : ServiceWorld) → happens (book_of s
 unfolding happens
 advanced s x w = refl
 
-pub begins : (m : Machine) → IsSingle m.settings → m.id ≡ id_of m.settings 1 → node_in m ≡ leader_at_start (start_of m.settings) → m.used ≤ m.reserved → IsMachine m
+pub begins : (m : Machine) → IsSingle m.settings → m.id ≡ id_of m.settings 1 → node_in m ≡ leader_at_start (start_of m.settings) → IsSignerOf m.settings m.id m.signer → IsMachine m
 unfolding run
-begins m single named is leaves =
+begins m single named is signs =
     let s = m.settings in
     let commit : m.store.commit ≡ 2 = ap (λ (n : Node Entry). n.commit) is in
     record {
@@ -112,7 +116,7 @@ begins m single named is leaves =
       ledger = subst (λ (x : NodeId). IsSoloLedger (layers_of s) x m.store.ledger) (sym named)
           (subst (λ (l : List Entry). IsSoloLedger (layers_of s) (id_of s 1) l) (sym (ap (λ (n : Node Entry). n.log) is)) (solo_at_start s single));
       opened = omega (arith, commit);
-      leaves = leaves;
+      signer = signs;
     }
 
 -- what the book of the service makes at the machine is not guarded
@@ -121,11 +125,19 @@ executes-is m h q =
     subst (λ (n : Node Entry). (book_of m.settings).execute n.log n.view q ≡ request_result n.log n.view q) h.reached
     (group_executes m.settings (single_group m.settings h.single) h.events m.id (ap (λ (n : Node Entry). n.role) h.reached) q)
 
-signs-is : (m : Machine) → IsMachine m → (leaf : ℕ) →
-    (book_of m.settings).sign m.id leaf m.store.ledger 2 m.store.commit ≡ by_store (sign_result m.id m.store.ledger 2 m.store.commit)
-signs-is m h leaf =
-    subst (λ (n : Node Entry). (book_of m.settings).sign m.id leaf n.log n.view n.commit ≡ signing_result (layers_of m.settings) m.id leaf n.log n.view n.commit) h.reached
-    (group_signs m.settings (single_group m.settings h.single) h.events m.id (ap (λ (n : Node Entry). n.role) h.reached) leaf)
+signs-is : (m : Machine) → IsMachine m → m.signer.used < m.signer.reserved →
+    (book_of m.settings).sign m.id m.signer.used m.store.ledger 2 m.store.commit
+    ≡ by_store (sign_result m.id (signature_of m.signer m.store.ledger 2 m.store.commit) m.store.ledger 2 m.store.commit)
+signs-is m h left =
+    let s = m.settings in
+    let keys = keys_of s in
+    let low : m.signer.used < leaf_count keys m.id = omega (arith, left, h.signer.reserved) in
+    let message = message_behind m.store.ledger 2 m.store.commit in
+    let made : PrivateKey → Option (List ℕ) → Result Entry Unmade = λ k e. by_store (sign_result m.id (hss_signature k e m.signer.used message) m.store.ledger 2 m.store.commit) in
+    subst (λ (n : Node Entry). (book_of s).sign m.id m.signer.used n.log n.view n.commit ≡ signing_result keys m.id m.signer.used n.log n.view n.commit) h.reached
+    (group_signs s (single_group s h.single) h.events m.id (ap (λ (n : Node Entry). n.role) h.reached) m.signer.used low)
+    ∙ ap (λ (k : PrivateKey). made k (Some (keys.endorsement_of m.id))) (sym h.signer.key)
+    ∙ ap (made m.signer.key) (sym h.signer.endorsement)
 
 submit-is : (m : Machine) (q : List Operation) → submit (book_of m.settings) q (node_in m) ≡ append_result (book_of m.settings) (node_in m) ((book_of m.settings).execute m.store.ledger 2 q)
 unfolding submit
@@ -153,33 +165,47 @@ node_of_store x store reserved used = record {
 }
 
 abbrev pub opened_store : Settings → Held
-opened_store s = record { ledger = opening_ledger (genesis_of s) (id_of s 1); commit = 2 }
+opened_store s = record { ledger = opening_of (keys_of s) (genesis_of s) (id_of s 1); commit = 2 }
 
-pub begin_is : (m : Machine) (s : Settings) → m.id ≡ id_of s 1 → m.store ≡ opened_store s → m.reserved ≡ 1 → m.used ≡ 1 →
+pub begin_is : (m : Machine) (s : Settings) → m.id ≡ id_of s 1 → m.store ≡ opened_store s → m.signer.reserved ≡ 1 → m.signer.used ≡ 1 →
     node_in m ≡ leader_at_start (start_of s)
 begin_is m s named opened one first =
-    ap (λ (x : List ℕ). node_of_store x m.store m.reserved m.used) named
-    ∙ ap (λ (h : Held). node_of_store (id_of s 1) h m.reserved m.used) opened
-    ∙ ap (λ (n : ℕ). node_of_store (id_of s 1) (opened_store s) n m.used) one
+    ap (λ (x : List ℕ). node_of_store x m.store m.signer.reserved m.signer.used) named
+    ∙ ap (λ (h : Held). node_of_store (id_of s 1) h m.signer.reserved m.signer.used) opened
+    ∙ ap (λ (n : ℕ). node_of_store (id_of s 1) (opened_store s) n m.signer.used) one
     ∙ ap (λ (n : ℕ). node_of_store (id_of s 1) (opened_store s) 1 n) first
 
 -- ---- leaves and commit
 
-pub reserve_full : (s : Settings) (x : List ℕ) (n : Node Entry) → leaf_count ≤ n.reserved → reserve (book_of s) x n ≡ quiet n (outcome.Refused (KeyExhausted n.reserved))
+pub reserve_full : (s : Settings) (x : List ℕ) (n : Node Entry) → leaf_count (keys_of s) x ≤ n.reserved → reserve (book_of s) x n ≡ quiet n (outcome.Refused (KeyExhausted n.reserved))
 unfolding reserve
 reserve_full s x n full = ap (λ (b : Bool). if b then refuse n (KeyExhausted n.reserved) else quiet (record n { reserved = n.reserved + 1 }) outcome.Done)
-    (let t : nat_le leaf_count n.reserved ≡ true = grind (arith, nat_tests) in t)
+    (let t : nat_le (leaf_count (keys_of s) x) n.reserved ≡ true = grind (arith, nat_tests) in t)
 
-pub reserve_more : (s : Settings) (x : List ℕ) (n : Node Entry) → n.reserved < leaf_count → reserve (book_of s) x n ≡ quiet (record n { reserved = n.reserved + 1 }) outcome.Done
+pub reserve_more : (s : Settings) (x : List ℕ) (n : Node Entry) → n.reserved < leaf_count (keys_of s) x → reserve (book_of s) x n ≡ quiet (record n { reserved = n.reserved + 1 }) outcome.Done
 unfolding reserve
 reserve_more s x n more = ap (λ (b : Bool). if b then refuse n (KeyExhausted n.reserved) else quiet (record n { reserved = n.reserved + 1 }) outcome.Done)
-    (let t : nat_le leaf_count n.reserved ≡ false = grind (arith, nat_tests) in t)
+    (let t : nat_le (leaf_count (keys_of s) x) n.reserved ≡ false = grind (arith, nat_tests) in t)
 
-pub reserve_goes : (m : Machine) → IsMachine m → m.reserved < leaf_count → GoesOn m (record m { reserved = m.reserved + 1 })
-reserve_goes m h more =
-    let leaves : m.used ≤ m.reserved + 1 = omega (arith, h.leaves) in
-    goes_on m m.store (m.reserved + 1) m.used (event.Reserve m.id) (reserve (book_of m.settings) m.id) outcome.Done h (reserves m.settings m.id)
-    (reserve_more m.settings m.id (node_in m) more) h.ledger h.opened leaves
+-- the key has as many leaves as its types say
+leaves_of_signer : (m : Machine) → IsMachine m → 2 ^ height m.signer.key.types ≡ leaf_count (keys_of m.settings) m.id
+leaves_of_signer m h = ap (λ (k : PrivateKey). 2 ^ height k.types) h.signer.key
+
+pub reserve_refused : (m : Machine) → IsMachine m → m.signer.reserved ≡ 2 ^ height m.signer.key.types →
+    reserve (book_of m.settings) m.id (node_in m) ≡ quiet (node_in m) (outcome.Refused (KeyExhausted m.signer.reserved))
+reserve_refused m h full = reserve_full m.settings m.id (node_in m) (omega (arith, full, leaves_of_signer m h))
+
+-- one more leaf
+pub reserve_goes : (m : Machine) → IsMachine m → (m.signer.reserved ≡ 2 ^ height m.signer.key.types → ⊥) →
+    let new = record m { signer = record m.signer { reserved = m.signer.reserved + 1 } } in
+    (reserve (book_of m.settings) m.id (node_in m) ≡ quiet (node_in new) outcome.Done) × GoesOn m new
+reserve_goes m h free =
+    let all = leaves_of_signer m h in
+    let more : m.signer.reserved < leaf_count (keys_of m.settings) m.id = ⊎_elim (λ (l : m.signer.reserved < leaf_count (keys_of m.settings) m.id). l)
+        (λ (g : leaf_count (keys_of m.settings) m.id ≤ m.signer.reserved). absurd (free (omega (arith, g, all, h.signer.reserved)))) (cases_lt m.signer.reserved (leaf_count (keys_of m.settings) m.id)) in
+    let is = reserve_more m.settings m.id (node_in m) more in
+    (is, goes_on m m.store (record m.signer { reserved = m.signer.reserved + 1 }) (event.Reserve m.id) (reserve (book_of m.settings) m.id) outcome.Done h (reserves m.settings m.id) is h.ledger h.opened
+    (record { key = h.signer.key; endorsement = h.signer.endorsement; used = omega (arith, h.signer.used); reserved = omega (arith, more) }))
 
 advance-at : (m : Machine) → IsMachine m → advance (book_of m.settings) m.id (node_in m)
     ≡ commit_to (book_of m.settings) (node_in m) (if nat_lt m.store.commit (last_signed m.store.ledger) then Some (last_signed m.store.ledger) else None)
@@ -211,7 +237,7 @@ advance_commits m h above =
     (let t : nat_lt m.store.commit place ≡ true = grind (arith, nat_tests) in t)
     ∙ ap (λ (v : ℕ). quiet {E = Entry} {A = Given} {F = Unmade} (node_in new) (outcome.Committed v place)) (view_there m h place signed_there) in
     let opened : 2 ≤ place = omega (arith, h.opened, above) in
-    (is, goes_on m st m.reserved m.used (event.Advance m.id) (advance (book_of m.settings) m.id) (outcome.Committed 2 place) h (advanced m.settings m.id) is h.ledger opened h.leaves)
+    (is, goes_on m st m.signer (event.Advance m.id) (advance (book_of m.settings) m.id) (outcome.Committed 2 place) h (advanced m.settings m.id) is h.ledger opened h.signer)
 
 pub up_to : (m : Machine) → IsMachine m → HasViewsUpTo 2 m.store.ledger
 up_to m h i e at = omega (arith, h.ledger.views i e at)
@@ -237,7 +263,7 @@ submit_accepted m st q id reply h ran =
     let ledger : IsSoloLedger (layers_of m.settings) m.id st.ledger = subst (λ (x : Held). IsSoloLedger (layers_of m.settings) m.id x.ledger) (sym ran.enters.entered)
     (solo-push (layers_of m.settings) m.id m.store.ledger ran.entry h.ledger view quiet_one) in
     let opened : 2 ≤ st.commit = subst (λ (x : Held). 2 ≤ x.commit) (sym ran.enters.entered) h.opened in
-    (is, goes_on m st m.reserved m.used (event.Submit m.id q) (submit (book_of m.settings) q) _ h (submitted m.settings m.id q) is ledger opened h.leaves)
+    (is, goes_on m st m.signer (event.Submit m.id q) (submit (book_of m.settings) q) _ h (submitted m.settings m.id q) is ledger opened h.signer)
 
 same_ledger : (m : Machine) (st : Held) → IsMachine m → st ≡ m.store → IsSoloLedger (layers_of m.settings) m.id st.ledger
 same_ledger m st h same = subst (λ (x : Held). IsSoloLedger (layers_of m.settings) m.id x.ledger) (sym same) h.ledger
@@ -256,7 +282,7 @@ submit_refused m st q why h refused same =
     submit-is m q
     ∙ ap (λ (r : Result (Entry × Given) Unmade). append_result (book_of m.settings) (node_in m) r) (executes-is m h q ∙ refused)
     ∙ ap (λ (n : Node Entry). quiet {E = Entry} {A = Given} {F = Unmade} n (outcome.Refused (ByLedger (ByStore why)))) node in
-    (is, goes_on m st m.reserved m.used (event.Submit m.id q) (submit (book_of m.settings) q) _ h (submitted m.settings m.id q) is (same_ledger m st h same) (same_opened m st h same) h.leaves)
+    (is, goes_on m st m.signer (event.Submit m.id q) (submit (book_of m.settings) q) _ h (submitted m.settings m.id q) is (same_ledger m st h same) (same_opened m st h same) h.signer)
 
 -- ---- signatures
 
@@ -294,13 +320,13 @@ last_entry_unsigned m h other = go (length m.store.ledger) refl
 
 sign_choice : (m : Machine) → Bool → Bool → ServiceStep
 sign_choice m used unsigned =
-    if used then refuse (node_in m) (NotReserved m.reserved) else (
+    if used then refuse (node_in m) (NotReserved m.signer.reserved) else (
     if unsigned
     then refuse (node_in m) (NothingToSign (length m.store.ledger))
-    else append_signature (book_of m.settings) (node_in m) ((book_of m.settings).sign m.id m.used m.store.ledger 2 m.store.commit)
+    else append_signature (book_of m.settings) (node_in m) ((book_of m.settings).sign m.id m.signer.used m.store.ledger 2 m.store.commit)
     )
 
-sign_chosen : (m : Machine) (used unsigned : Bool) → IsMachine m → (m.used == m.reserved) ≡ used →
+sign_chosen : (m : Machine) (used unsigned : Bool) → IsMachine m → (m.signer.used == m.signer.reserved) ≡ used →
     is_signature_in (book_of m.settings) 2 (entry_at m.store.ledger (length m.store.ledger)) ≡ unsigned →
     sign (book_of m.settings) m.id (node_in m) ≡ sign_choice m used unsigned
 unfolding sign_choice
@@ -308,36 +334,38 @@ sign_chosen m used unsigned h is_used is_unsigned =
     sign_of m ∙ ap (λ (b : Bool). sign_choice m b (is_signature_in (book_of m.settings) 2 (entry_at m.store.ledger (length m.store.ledger)))) is_used
     ∙ ap (λ (b : Bool). sign_choice m used b) is_unsigned
 
-pub sign_nothing : (m : Machine) → IsMachine m → (m.used ≡ m.reserved → ⊥) → last_signed m.store.ledger ≡ length m.store.ledger →
+pub sign_nothing : (m : Machine) → IsMachine m → (m.signer.used ≡ m.signer.reserved → ⊥) → last_signed m.store.ledger ≡ length m.store.ledger →
     sign (book_of m.settings) m.id (node_in m) ≡ quiet (node_in m) (outcome.Refused (NothingToSign (length m.store.ledger)))
 unfolding sign_choice
-sign_nothing m h free last = sign_chosen m false true h (let t : (m.used == m.reserved) ≡ false = grind (arith, nat_tests) in t) (last_entry_signs m h last)
+sign_nothing m h free last = sign_chosen m false true h (let t : (m.signer.used == m.signer.reserved) ≡ false = grind (arith, nat_tests) in t) (last_entry_signs m h last)
 
-pub sign_signs : (m : Machine) (st : Held) (id : TxId) → IsMachine m → (m.used ≡ m.reserved → ⊥) → (last_signed m.store.ledger ≡ length m.store.ledger → ⊥) →
-    Signs m.store m.id 2 id st →
-    let new = record m { store = st; used = m.used + 1 } in
+pub sign_signs : (m : Machine) (st : Held) (id : TxId) → IsMachine m → (m.signer.used ≡ m.signer.reserved → ⊥) → (last_signed m.store.ledger ≡ length m.store.ledger → ⊥) →
+    Signs m.store m.id m.signer 2 id st →
+    let new = record m { store = st; signer = record m.signer { used = m.signer.used + 1 } } in
     (sign (book_of m.settings) m.id (node_in m) ≡ quiet (node_in new) (outcome.Signed id.view id.seqno)) × GoesOn m new
 unfolding sign_choice
 sign_signs m st id h free other s =
-    let leaves : m.used + 1 ≤ m.reserved = let l = h.leaves in grind (arith, nat_tests, free) in
-    let new : Machine = record m { store = st; used = m.used + 1 } in
-    let made = (book_sign_ok m.id m.store.ledger 2 m.store.commit s.entry s.made).0 in
+    let spent : Signer = record m.signer { used = m.signer.used + 1 } in
+    let left : m.signer.used + 1 ≤ m.signer.reserved = let l = h.signer.used in grind (arith, nat_tests, free) in
+    let new : Machine = record m { store = st; signer = spent } in
+    let made = (book_sign_ok m.id (signature_of m.signer m.store.ledger 2 m.store.commit) m.store.ledger 2 m.store.commit s.entry s.made).0 in
     let view : s.entry.view ≡ 2 = ap (λ (e : Entry). e.view) made in
     let is : sign (book_of m.settings) m.id (node_in m) ≡ quiet (node_in new) (outcome.Signed id.view id.seqno) =
-    sign_chosen m false false h (let t : (m.used == m.reserved) ≡ false = grind (arith, nat_tests) in t) (last_entry_unsigned m h other)
-    ∙ ap (λ (r : Result Entry Unmade). append_signature (book_of m.settings) (node_in m) r) (signs-is m h m.used ∙ s.made)
-    ∙ ap (λ (v : ℕ). quiet {E = Entry} {A = Given} {F = Unmade} (record (append_entry (node_in m) s.entry) { used = m.used + 1 }) (outcome.Signed v (length m.store.ledger + 1))) view
-    ∙ ap (λ (x : Held). quiet {E = Entry} {A = Given} {F = Unmade} (node_in (record m { store = x; used = m.used + 1 })) (outcome.Signed 2 (length m.store.ledger + 1))) (sym s.enters.entered)
+    sign_chosen m false false h (let t : (m.signer.used == m.signer.reserved) ≡ false = grind (arith, nat_tests) in t) (last_entry_unsigned m h other)
+    ∙ ap (λ (r : Result Entry Unmade). append_signature (book_of m.settings) (node_in m) r) (signs-is m h left ∙ s.made)
+    ∙ ap (λ (v : ℕ). quiet {E = Entry} {A = Given} {F = Unmade} (record (append_entry (node_in m) s.entry) { used = m.signer.used + 1 }) (outcome.Signed v (length m.store.ledger + 1))) view
+    ∙ ap (λ (x : Held). quiet {E = Entry} {A = Given} {F = Unmade} (node_in (record m { store = x; signer = spent })) (outcome.Signed 2 (length m.store.ledger + 1))) (sym s.enters.entered)
     ∙ ap (λ (t : TxId). quiet {E = Entry} {A = Given} {F = Unmade} (node_in new) (outcome.Signed t.view t.seqno)) (sym s.enters.named) in
     let quiet_one : IsNoGovernance s.entry.content = subst (λ (e : Entry). IsNoGovernance e.content) (sym made) tt in
     let ledger : IsSoloLedger (layers_of m.settings) m.id st.ledger = subst (λ (x : Held). IsSoloLedger (layers_of m.settings) m.id x.ledger) (sym s.enters.entered)
     (solo-push (layers_of m.settings) m.id m.store.ledger s.entry h.ledger view quiet_one) in
     let opened : 2 ≤ st.commit = subst (λ (x : Held). 2 ≤ x.commit) (sym s.enters.entered) h.opened in
-    (is, goes_on m st m.reserved (m.used + 1) (event.Sign m.id) (sign (book_of m.settings) m.id) _ h (signed m.settings m.id) is ledger opened leaves)
+    (is, goes_on m st spent (event.Sign m.id) (sign (book_of m.settings) m.id) _ h (signed m.settings m.id) is ledger opened
+    (record { key = h.signer.key; endorsement = h.signer.endorsement; used = left; reserved = h.signer.reserved }))
 
 -- one that isn't made
-pub sign_refused : (m : Machine) (st : Held) (why : Refusal) → IsMachine m → (m.used ≡ m.reserved → ⊥) → (last_signed m.store.ledger ≡ length m.store.ledger → ⊥) →
-    by_store (sign_result m.id m.store.ledger 2 m.store.commit) ≡ Err (ByStore why) → st ≡ m.store →
+pub sign_refused : (m : Machine) (st : Held) (why : Refusal) → IsMachine m → (m.signer.used ≡ m.signer.reserved → ⊥) → (last_signed m.store.ledger ≡ length m.store.ledger → ⊥) →
+    by_store (sign_result m.id (signature_of m.signer m.store.ledger 2 m.store.commit) m.store.ledger 2 m.store.commit) ≡ Err (ByStore why) → st ≡ m.store →
     let new = record m { store = st } in
     (sign (book_of m.settings) m.id (node_in m) ≡ quiet (node_in new) (outcome.Refused (ByLedger (ByStore why)))) × GoesOn m new
 unfolding sign_choice
@@ -345,11 +373,11 @@ sign_refused m st why h free other refused same =
     let new : Machine = record m { store = st } in
     let node : node_in m ≡ node_in new = ap (λ (x : Held). node_in (record m { store = x })) (sym same) in
     let is : sign (book_of m.settings) m.id (node_in m) ≡ quiet (node_in new) (outcome.Refused (ByLedger (ByStore why))) =
-    sign_chosen m false false h (let t : (m.used == m.reserved) ≡ false = grind (arith, nat_tests) in t) (last_entry_unsigned m h other)
-    ∙ ap (λ (r : Result Entry Unmade). append_signature (book_of m.settings) (node_in m) r) (signs-is m h m.used ∙ refused)
+    sign_chosen m false false h (let t : (m.signer.used == m.signer.reserved) ≡ false = grind (arith, nat_tests) in t) (last_entry_unsigned m h other)
+    ∙ ap (λ (r : Result Entry Unmade). append_signature (book_of m.settings) (node_in m) r) (signs-is m h (let l = h.signer.used in grind (arith, nat_tests, free)) ∙ refused)
     ∙ ap (λ (n : Node Entry). quiet {E = Entry} {A = Given} {F = Unmade} n (outcome.Refused (ByLedger (ByStore why)))) node in
-    (is, goes_on m st m.reserved m.used (event.Sign m.id) (sign (book_of m.settings) m.id) _ h (signed m.settings m.id) is (same_ledger m st h same) (same_opened m st h same) h.leaves)
+    (is, goes_on m st m.signer (event.Sign m.id) (sign (book_of m.settings) m.id) _ h (signed m.settings m.id) is (same_ledger m st h same) (same_opened m st h same) h.signer)
 
-pub sign_unreserved : (m : Machine) → IsMachine m → m.used ≡ m.reserved → sign (book_of m.settings) m.id (node_in m) ≡ quiet (node_in m) (outcome.Refused (NotReserved m.reserved))
+pub sign_unreserved : (m : Machine) → IsMachine m → m.signer.used ≡ m.signer.reserved → sign (book_of m.settings) m.id (node_in m) ≡ quiet (node_in m) (outcome.Refused (NotReserved m.signer.reserved))
 unfolding sign_choice
-sign_unreserved m h equal = sign_chosen m true (is_signature_in (book_of m.settings) 2 (entry_at m.store.ledger (length m.store.ledger))) h (let t : (m.used == m.reserved) ≡ true = grind (arith, nat_tests) in t) refl
+sign_unreserved m h equal = sign_chosen m true (is_signature_in (book_of m.settings) 2 (entry_at m.store.ledger (length m.store.ledger))) h (let t : (m.signer.used == m.signer.reserved) ≡ true = grind (arith, nat_tests) in t) refl

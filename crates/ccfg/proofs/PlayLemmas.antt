@@ -19,7 +19,7 @@ use Rattle.gl_tx.specs.declared.request.Operation.{Operation}
 use Rattle.gl_world.specs.declared.settings.Settings.{Settings}
 use Rattle.gl_world.specs.Founding.{id_of}
 use Rattle.gl_ledger.specs.Makers.{Given, Unmade}
-use Rattle.gl_ledger.specs.Services.{ServiceEvent}
+use Rattle.gl_service.specs.Service.{ServiceEvent}
 use Rattle.gl_world.specs.Group.{book_of}
 use Rattle.gl_world.specs.Single.{IsSingle}
 use Rattle.gl_world.proofs.Ids.{same_itself}

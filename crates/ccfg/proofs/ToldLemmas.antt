@@ -5,7 +5,7 @@ use Rattle.std.proofs.Math.Seq.{take-append_seam}
 use Rattle.std.proofs.lemmas.List.Sums.{fold-append}
 use Rattle.gl_rules.specs.World.{begin, after, happens, run}
 use Rattle.gl_world.specs.declared.settings.Settings.{Settings}
-use Rattle.gl_ledger.specs.Services.{ServiceEvent}
+use Rattle.gl_service.specs.Service.{ServiceEvent}
 use Rattle.gl_world.specs.Group.{book_of}
 use Rattle.gl_world.specs.World.{ServiceWorld, start_of}
 use Rattle.gl_lines.specs.declared.line.Line.{Line}

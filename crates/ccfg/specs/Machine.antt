@@ -1,17 +1,21 @@
 -- The program's node as the rules of consensus see it.
 use Rattle.std.specs.Prelude.{◌≡◌, ◌≤◌, List, [], None, Some}
+use Rattle.gl_hss.specs.Signer.{Signer}
+use Rattle.gl_rules.specs.Identity.{NodeId}
 use Rattle.gl_rules.specs.Node.{Node, Leader}
 use Rattle.gl_rules.specs.Outcome as outcome
 use Rattle.gl_rules.specs.Outcome.{Step, quiet}
 use Rattle.gl_rules.specs.Safety.{node_after}
 use Rattle.gl_entry.specs.declared.entry.Entry.{Entry}
-use Rattle.gl_world.specs.Founding.{id_of}
+use Rattle.gl_world.specs.declared.settings.Settings.{Settings}
+use Rattle.gl_world.specs.Founding.{id_of, keys_of}
 use Rattle.gl_world.specs.Group.{layers_of, book_of}
 use Rattle.gl_world.specs.Single.{IsSingle}
 use Rattle.gl_world.specs.Solo.{IsSoloLedger}
 use Rattle.gl_world.specs.World.{ServiceOutcome, start_of}
 use Rattle.gl_ledger.specs.Makers.{Given, Replied, Unmade, ByStore}
-use Rattle.gl_ledger.specs.Services.{ServiceEvent}
+use Rattle.gl_ledger.specs.NodeKeys.{leaf_count}
+use Rattle.gl_service.specs.Service.{ServiceEvent}
 use Rattle.ccfg.specs.declared.machine.Machine.{Machine}
 use Rattle.ccfg.specs.declared.outcome.Outcome.{Outcome}
 use Rattle.ccfg.specs.declared.outcome.Outcome.TheVariants as outcomes
@@ -25,7 +29,7 @@ node_in m = record {
   vote = Some m.id;
   log = m.store.ledger;
   base = 0;
-  reserved = m.reserved;
+  reserved = m.signer.reserved;
   role = Leader;
   leader = None;
   commit = m.store.commit;
@@ -33,7 +37,7 @@ node_in m = record {
   matched = λ _. 0;
   next = λ _. None;
   start = 3;
-  used = m.used;
+  used = m.signer.used;
   cuts = 0;
 }
 
@@ -55,6 +59,13 @@ rules_outcome (outcomes.Refused why) = outcome.Refused (rules_refusal why)
 abbrev pub Steps : Step Entry Given Unmade → Machine → Outcome → Type 0
 Steps step new o = step ≡ quiet (node_in new) (rules_outcome o)
 
+-- A signer of node x: it has the node's key and endorsement, and no leaf is used that isn't reserved.
+pub record IsSignerOf (s : Settings) (x : NodeId) (signer : Signer) : Type 0 where
+  pub key : signer.key ≡ (keys_of s).key_of x
+  pub endorsement : signer.endorsement ≡ Some ((keys_of s).endorsement_of x)
+  pub used : signer.used ≤ signer.reserved
+  pub reserved : signer.reserved ≤ leaf_count (keys_of s) x
+
 -- What holds of the machine at every moment: it is the one node of its service, as some events make
 -- it.
 pub record IsMachine (m : Machine) : Type 0 where
@@ -64,7 +75,7 @@ pub record IsMachine (m : Machine) : Type 0 where
   pub reached : node_after (book_of m.settings) (start_of m.settings) events m.id ≡ node_in m
   pub ledger : IsSoloLedger (layers_of m.settings) m.id m.store.ledger
   pub opened : 2 ≤ m.store.commit
-  pub leaves : m.used ≤ m.reserved
+  pub signer : IsSignerOf m.settings m.id m.signer
 
 -- Later, with the same settings.
 pub record GoesOn (old new : Machine) : Type 0 where

@@ -6,7 +6,7 @@ use Rattle.gl_rules.specs.World as event
 use Rattle.gl_rules.specs.Safety.{reported_status}
 use Rattle.gl_world.specs.declared.settings.Settings.{Settings}
 use Rattle.gl_world.specs.Founding.{id_of}
-use Rattle.gl_ledger.specs.Services.{ServiceEvent}
+use Rattle.gl_service.specs.Service.{ServiceEvent}
 use Rattle.gl_world.specs.Group.{book_of}
 use Rattle.gl_world.specs.World.{ServiceWorld, start_of}
 use Rattle.gl_lines.specs.declared.line.Line.{Line}

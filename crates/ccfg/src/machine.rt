@@ -5,28 +5,23 @@ ghost use Rattle.std.specs.Prelude.{◌≡◌, ◌≤◌, IfOk, OnErr, OnOk};
 use crate::outcome::{LineAnswer, Outcome, Refusal};
 use gl_base::{OrNoMemory, Status, TxId};
 use gl_entry::NodeId;
+use gl_hss::HssSigner;
 use gl_lines::Line;
 use gl_store::Store;
 use gl_tx::Request;
-use gl_world::{Settings, genesis, node_id};
+use gl_world::{Founding, Settings};
 use std::alloc::{AllocError, Global};
 
 /// The view that the node leads.
 const VIEW: u32 = 2;
 
-/// How many one-time leaves the node's key has.
-const LEAVES: u64 = 32;
-
-/// The node: its store, and the leaves of its key.
+/// The node: its store, and the signer of its key.
 #[derive(Drop)]
 pub struct Machine {
     pub settings: Settings,
     pub id: NodeId,
     pub store: Store,
-    /// How many leaves are reserved.
-    pub reserved: u64,
-    /// How many of these are used.
-    pub used: u64,
+    pub signer: HssSigner,
 }
 
 impl Machine {
@@ -50,15 +45,16 @@ impl Machine {
         ensures node { IfOk result (λ machine.
             node_in machine ≡ leader_at_start (start_of settings)) }
     {
-        let id = node_id(&settings, 1);
-        let genesis = genesis(alloc, &settings)?;
-        let store = Store::opening(alloc, &genesis, id)?;
+        let mut founding = Founding::make(alloc, &settings)?;
+        let id = founding.node_id();
+        // No leaf of the new key is reserved yet, so one is left.
+        let _ = founding.signer.reserve();
+        let store = Store::opening(alloc, &founding.genesis, id, &mut founding.signer)?;
         Ok(Machine {
             settings,
             id,
             store,
-            reserved: 1,
-            used: 1,
+            signer: founding.signer,
         })
     }
 
@@ -84,11 +80,10 @@ impl Machine {
             self.new result }
         ensures goes_on { GoesOn self.old self.new }
     {
-        if self.reserved >= LEAVES {
-            return Outcome::Refused(Refusal::KeyExhausted(self.reserved));
+        match self.signer.reserve() {
+            Ok(_) => Outcome::Done,
+            Err(exhausted) => Outcome::Refused(Refusal::KeyExhausted(u64::from(exhausted.reserved))),
         }
-        self.reserved += 1;
-        Outcome::Done
     }
 
     /// A signature over the ledger so far.
@@ -99,18 +94,16 @@ impl Machine {
             self.new outcome) }
         ensures goes_on { OnOk result (GoesOn self.old self.new) }
     {
-        if self.used >= self.reserved {
-            return Ok(Outcome::Refused(Refusal::NotReserved(self.reserved)));
+        let reserved = self.signer.reserved();
+        if self.signer.used() >= reserved {
+            return Ok(Outcome::Refused(Refusal::NotReserved(u64::from(reserved))));
         }
         let len = self.store.ledger_len();
         if self.store.last_signature() == len {
             return Ok(Outcome::Refused(Refusal::NothingToSign(len)));
         }
-        match self.store.sign(self.id, VIEW) {
-            Ok(id) => {
-                self.used += 1;
-                Ok(Outcome::Signed(id))
-            }
+        match self.store.sign(self.id, VIEW, &mut self.signer) {
+            Ok(id) => Ok(Outcome::Signed(id)),
             Err(OrNoMemory::Fault(why)) => Ok(Outcome::Refused(Refusal::Store(why))),
             Err(OrNoMemory::NoMemory) => Err(AllocError),
         }

@@ -35,14 +35,14 @@ fn settings_of(world: &WorldLine) -> Settings
 }
 
 /// The service that a first line begins. A seed that gives two members one key begins none.
-fn service_of(world: &WorldLine) -> Result<Settings, ScheduleFault>
-    ensures { result ≡ service_of world.now }
+fn service_of(alloc: Global, world: &WorldLine) -> Result<Settings, OrNoMemory<ScheduleFault>>
+    ensures { Answers (λ settings. settings) result (service_of world.now) }
 {
     let settings = settings_of(world);
-    if has_distinct_keys(&settings) {
+    if has_distinct_keys(alloc, &settings)? {
         Ok(settings)
     } else {
-        Err(ScheduleFault::BadLine(1))
+        Err(OrNoMemory::Fault(ScheduleFault::BadLine(1)))
     }
 }
 
@@ -56,7 +56,7 @@ pub fn read(alloc: Global, text: &[u8]) -> Result<Schedule, OrNoMemory<ScheduleF
         return Ok(Schedule::Empty);
     }
     let (world, behind) = read_first_line(alloc, text)?;
-    let settings = service_of(&world)?;
+    let settings = service_of(alloc, &world)?;
     let lines = read_lines(alloc, behind)?;
     Ok(Schedule::Service(settings, lines))
 }

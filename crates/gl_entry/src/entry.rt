@@ -24,7 +24,7 @@ pub struct Signature {
     /// The root of the Merkle tree over the leaves of all earlier entries.
     pub root: Digest,
     /// The node's HSS signature (RFC 8554, section 6.2) of the signed message, of two levels: the
-    /// service's endorsement of the node's key stands in it. Empty for now, until keys sign.
+    /// service's endorsement of the node's key stands in it.
     pub signature: Bytes,
 }
 

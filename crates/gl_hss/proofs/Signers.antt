@@ -1,12 +1,14 @@
--- What a signer signs is valid under each key under which its endorsement is, and has its leaf.
-use Rattle.std.proofs.Common.{◌≡◌, ℕ, ◌^◌, ◌<◌, List, [], ◌∷◌, ◌++◌, Option, Some, None, ap, ◌∙◌, append_assoc, arith}
+-- What a signer signs is valid under each key under which its endorsement is, has its leaf, and has so many bytes.
+use Rattle.std.proofs.Common.{◌≡◌, ℕ, ◌^◌, ◌<◌, List, [], ◌∷◌, ◌++◌, length, Option, Some, None, ap, ◌∙◌, append_assoc, length-append, arith}
 use Rattle.gl_lms.specs.Bytes.{u32str}
 use Rattle.gl_lms.specs.Types.{height}
 use Rattle.gl_lms.specs.Tree.{Signature, PublicKey, key_bytes, signature_bytes, IsKey}
 use Rattle.gl_hss.specs.Hss.{hss_bytes, IsValid, HasLeaf}
 use Rattle.gl_lms.specs.Secrets.{PrivateKey, public_of}
 use Rattle.gl_lms.specs.Profile.{randomizer_of, signature_by}
-use Rattle.gl_hss.specs.Signer.{levels_above, hss_signature, StandsUnder}
+use Rattle.gl_hss.specs.Signer.{levels_above, hss_signature, signature_size, StandsUnder}
+use Rattle.gl_lms.proofs.Spans.{length-u32str}
+use Rattle.gl_lms.proofs.Spelled.{length-key_bytes, length-signature_bytes}
 use Rattle.gl_lms.proofs.Signing.{signature_by-IsSigned, leaf_of_signature}
 
 -- the bytes of one level, and of two
@@ -22,6 +24,18 @@ two_level_bytes k e s q message top fields spelled is =
     is ∙ ap (λ (x : List ℕ). u32str 1 ++ x ++ key ++ last) spelled
     ∙ ap (λ (x : List ℕ). x ++ last) (append_assoc (u32str 1) (signature_bytes top.types fields) key)
     ∙ append_assoc (u32str 1) (signature_bytes top.types fields ++ key) last
+
+-- and how many they are
+pub hss_signature_size : (k : PrivateKey) (e : Option (List ℕ)) (q : ℕ) (message : List ℕ) → IsKey (public_of k) → q < 2 ^ height k.types → length (hss_signature k e q message) ≡ signature_size k.types e
+unfolding levels_above
+hss_signature_size k None q message form leaf =
+    let last = signature_bytes k.types (signature_by k q message) in
+    omega (arith, length-append (u32str 0) last, length-u32str 0, length-signature_bytes k.types (signature_by k q message) (signature_by-IsSigned k q message leaf).form)
+hss_signature_size k (Some e) q message form leaf =
+    let key = key_bytes (public_of k) in
+    let last = signature_bytes k.types (signature_by k q message) in
+    omega (arith, length-append (u32str 1 ++ e ++ key) last, length-append (u32str 1 ++ e) key, length-append (u32str 1) e, length-u32str 1, length-key_bytes (public_of k) form,
+    length-signature_bytes k.types (signature_by k q message) (signature_by-IsSigned k q message leaf).form)
 
 pub signer-IsValid : (k : PrivateKey) (e : Option (List ℕ)) (s : List ℕ) (q : ℕ) (message hss_key : List ℕ) → IsKey (public_of k) → q < 2 ^ height k.types → s ≡ hss_signature k e q message → StandsUnder k e hss_key → IsValid hss_key message s
 unfolding StandsUnder

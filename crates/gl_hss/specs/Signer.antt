@@ -1,9 +1,11 @@
 -- A signer, as its callers see it, and what it signs.
-use Rattle.std.specs.Prelude.{ℕ, ◌≡◌, List, ◌++◌, Option, Some, None, Vec}
+use Rattle.std.specs.Prelude.{ℕ, ◌≡◌, ◌+◌, List, ◌++◌, Option, Some, None, Vec, length}
 use Rattle.std.specs.Global.{Global}
 use Rattle.gl_hss.specs.declared.signer.SignFault.{SignFault}
 use Rattle.gl_hss.specs.declared.signer.SignFault.TheVariants.{NotReserved, NoMemory}
+use Rattle.gl_lms.specs.declared.types.Types.{Types}
 use Rattle.gl_lms.specs.Bytes.{u32str}
+use Rattle.gl_lms.specs.Types.{signature_len}
 use Rattle.gl_lms.specs.Tree.{key_bytes, signature_bytes}
 use Rattle.gl_hss.specs.Hss.{IsEndorsed}
 use Rattle.gl_lms.specs.Secrets.{PrivateKey, public_of}
@@ -37,6 +39,11 @@ levels_above k (Some e) = u32str 1 ++ e ++ key_bytes (public_of k)
 -- the HSS signature of a message by leaf q
 abbrev pub hss_signature : PrivateKey → Option (List ℕ) → ℕ → List ℕ → List ℕ
 hss_signature k e q message = levels_above k e ++ signature_bytes k.types (signature_by k q message)
+
+-- how many bytes a signature has, by a key of these types
+abbrev pub signature_size : Types → Option (List ℕ) → ℕ
+signature_size t None = 4 + signature_len t
+signature_size t (Some e) = 60 + length e + signature_len t
 
 -- the signatures of a signer with this endorsement are to be valid under this HSS public key:
 -- without an endorsement it is the key itself at one level; with one its key signs the signer's

@@ -1,10 +1,10 @@
 //! A signer that uses each leaf once.
 
-ghost use Rattle.std.specs.Prelude.{◌≡◌, ◌↔◌, ◌<◌, ◌≤◌, ◌^◌, ◌+◌, ◌++◌, List, ℕ, [], Option, Some, None, Ok, Err, IfOk, OnOk, OnErr, IfErr, IsErr};
+ghost use Rattle.std.specs.Prelude.{◌≡◌, ◌↔◌, ◌<◌, ◌≤◌, ◌^◌, ◌+◌, ◌++◌, List, ℕ, [], length, Option, Some, None, Ok, Err, IfOk, OnOk, OnErr, IfErr, IsErr};
 ghost use Rattle.gl_lms.specs.Types.{height};
 ghost use Rattle.gl_lms.specs.Tree.{IsKey};
 ghost use Rattle.gl_lms.specs.Secrets.{public_of};
-ghost use Rattle.gl_hss.specs.Signer.{Signer, endorsement_of, signer_of, levels_above, hss_signature, StandsUnder, Refuses};
+ghost use Rattle.gl_hss.specs.Signer.{Signer, endorsement_of, signer_of, levels_above, hss_signature, signature_size, StandsUnder, Refuses};
 ghost use Rattle.gl_hss.specs.Hss.{IsValid, HasLeaf};
 
 use gl_lms::bytes::u32str;
@@ -172,10 +172,13 @@ impl HssSigner {
     }
 
     // The signature of the message by the next leaf.
+    #[tactic(auto, using(crate::proofs::Signers::hss_signature_size))]
     fn next_signature(&self, message: &[u8]) -> Result<Vec<u8>, AllocError>
         requires { self.now.used < self.now.reserved }
         ensures bytes { IfOk result (λ s. s.items
             ≡ hss_signature self.now.key self.now.endorsement self.now.used message.now) }
+        ensures size { IfOk result (λ s. length s.items
+            ≡ signature_size self.now.key.types self.now.endorsement) }
         ensures leaf { OnOk result (self.now.used < 2 ^ height self.now.key.types) }
         ensures form { OnOk result (IsKey (public_of self.now.key)) }
     {
@@ -194,6 +197,8 @@ impl HssSigner {
     pub fn signature(&self, message: &[u8]) -> Result<Vec<u8>, SignFault>
         ensures bytes { IfOk result (λ s. s.items
             ≡ hss_signature self.now.key self.now.endorsement self.now.used message.now) }
+        ensures size { IfOk result (λ s. length s.items
+            ≡ signature_size self.now.key.types self.now.endorsement) }
 
         // The signature is valid under each key under which the endorsement is, by leaf `used`.
         ensures valid { IfOk result (λ s. (hss_key : List ℕ) →
@@ -230,6 +235,8 @@ impl HssSigner {
     pub fn sign(&mut self, message: &[u8]) -> Result<Vec<u8>, SignFault>
         ensures bytes { IfOk result (λ s. s.items
             ≡ hss_signature self.old.key self.old.endorsement self.old.used message.now) }
+        ensures size { IfOk result (λ s. length s.items
+            ≡ signature_size self.old.key.types self.old.endorsement) }
 
         // The signature is valid under each key under which the endorsement is, by leaf `used`.
         ensures valid { IfOk result (λ s. (hss_key : List ℕ) →

@@ -2,7 +2,7 @@
 use Rattle.std.proofs.Common.{◌≡◌, ℕ, ◌+◌, ◌<◌, ◌≤◌, ◌^◌, ◌==◌, nat_lt, nat_le, List, [], ◌∷◌, ◌++◌, length, Option, Some, None, Bool, true, ◌&&◌, ◌||◌, refl, ◌∙◌, ap, arith, length-append}
 use Rattle.std.specs.List.{list_all, flat_map, AllByRecursion}
 use Rattle.std.specs.Cmp.Lexicographic.{bytes_decides}
-use Rattle.std.proofs.lemmas.Bool.{and_parts, and_from}
+use Rattle.std.proofs.lemmas.Bool.{and_from}
 use Rattle.std.proofs.lemmas.Bool.Decides.{nat_tests}
 use Rattle.gl_base.specs.LittleEndian.{little_endian}
 use Rattle.gl_base.specs.Bytes.{are_bytes}
@@ -13,8 +13,7 @@ use Rattle.gl_entry.specs.Entry.{write_bytes}
 use Rattle.gl_vmaps.specs.declared.write.Write.{Write}
 use Rattle.gl_base.proofs.ByteLists.{AreBytes, are_bytes-true}
 use Rattle.gl_vmaps.proofs.WriteLaws.{list_all-from_writes}
-use Rattle.gl_entry.specs.Entry.{no_digest, content_bytes, body_bytes, body_limit, kind_tag, is_digest, is_recorded_signature, is_content, may_write, may_claim, are_no_writes, is_no_digest, is_entry}
-use Rattle.gl_entry.specs.declared.entry.Signature as signatures
+use Rattle.gl_entry.specs.Entry.{no_digest, content_bytes, body_bytes, body_limit, kind_tag, is_digest, is_content, may_write, may_claim, are_no_writes, is_no_digest, is_entry}
 use Rattle.gl_entry.specs.declared.entry.Content.TheVariants as content
 use Rattle.gl_entry.specs.declared.entry.Entry.{Entry}
 
@@ -115,45 +114,3 @@ application_fits view place bytes ws claims low fits all limits ordered long dig
   digest = is_digest-from claims long digest;
   claims = refl;
 }
-
-recorded_signature : (node root : List ℕ) (commit : ℕ) → is_digest node ≡ true → commit < 2 ^ 64 → is_digest root ≡ true →
-    is_recorded_signature (record { node = node; commit = commit; root = root; signature = [] }) ≡ true
-recorded_signature node root commit node_fits fits root_fits =
-    let number : nat_lt commit (2 ^ 64) ≡ true = grind (arith, nat_tests) in
-    and_from (is_digest node && nat_lt commit (2 ^ 64) && is_digest root) true
-    (and_from (is_digest node && nat_lt commit (2 ^ 64)) (is_digest root)
-    (and_from (is_digest node) (nat_lt commit (2 ^ 64)) node_fits number) root_fits) refl
-
-digest_length : (xs : List ℕ) → is_digest xs ≡ true → length xs ≡ 32
-digest_length xs h = let both = and_parts (length xs == 32) (are_bytes xs) h in grind (arith, nat_tests, both.0)
-
--- a signature that is still empty has a body of 129 bytes
-pub signature_fits : (view place commit : ℕ) (node root claims : List ℕ) → view < 2 ^ 32 → place < 2 ^ 64 → commit < 2 ^ 64 → is_digest node ≡ true →
-    is_digest root ≡ true → claims ≡ no_digest →
-    is_entry (record {
-      view = view;
-      seqno = place;
-      content = content.Signature (record { node = node; commit = commit; root = root; signature = [] });
-      writes = [];
-      claims = claims;
-    }) ≡ true
-signature_fits view place commit node root claims low fits number node_fits root_fits none =
-    let s : signatures.Signature = record { node = node; commit = commit; root = root; signature = [] } in
-    let e : Entry = record { view = view; seqno = place; content = content.Signature s; writes = []; claims = claims } in
-    let recorded : length (node ++ little_endian 8 commit ++ root ++ (little_endian 4 0 ++ [])) ≡ length node + 8 + length root + 4 =
-    simp (length-append, length-little_endian) (omega arith) in
-    let long : length claims ≡ 32 = ap length none in
-    let node_long = digest_length node node_fits in
-    let root_long = digest_length root root_fits in
-    is_entry-from_fields e
-    (record {
-      view = low;
-      seqno = fits;
-      recorded = recorded_signature node root commit node_fits number root_fits;
-      limits = refl;
-      ordered = refl;
-      writes = refl;
-      digest = ap is_digest none ∙ no_digest_digest;
-      claims = (bytes_decides claims no_digest).1 none;
-    })
-    (omega (arith, length-body_bytes e, recorded, node_long, root_long))

@@ -63,7 +63,7 @@ digest_length : (xs : List ℕ) → is_digest xs ≡ true → length xs ≡ 32
 digest_length xs h = let both = and_parts (length xs == 32) (are_bytes xs) h in grind (arith, nat_tests, both.0)
 
 -- a signature of whatever bytes, so many that the body has room for them
-signed_fits : (node root signature : List ℕ) (view seqno commit : ℕ) → is_digest node ≡ true → is_digest root ≡ true → view < 2 ^ 32 → seqno < 2 ^ 64 → commit < 2 ^ 64 → are_bytes signature ≡ true → length signature ≤ 2 ^ 16 →
+pub signed_fits : (node root signature : List ℕ) (view seqno commit : ℕ) → is_digest node ≡ true → is_digest root ≡ true → view < 2 ^ 32 → seqno < 2 ^ 64 → commit < 2 ^ 64 → are_bytes signature ≡ true → length signature ≤ 2 ^ 16 →
     is_entry (record { view = view; seqno = seqno; content = content.Signature (record { node = node; commit = commit; root = root; signature = signature }); writes = []; claims = no_digest }) ≡ true
 signed_fits node root signature view seqno commit named digest low fits number bytes short =
     let s : signatures.Signature = record { node = node; commit = commit; root = root; signature = signature } in

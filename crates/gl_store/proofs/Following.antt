@@ -1,6 +1,7 @@
 -- What may follow behind a store's calls: the view that the next entry may have, and the places that may be committed.
 use Rattle.std.proofs.Common.{ℕ, ◌+◌, ◌≤◌, List, [], ◌∷◌, ◌++◌, length, sym, subst, arith}
 use Rattle.gl_base.specs.declared.tx_id.TxId.{TxId}
+use Rattle.gl_hss.specs.Signer.{Signer}
 use Rattle.gl_tx.specs.declared.request.Operation.{Operation}
 use Rattle.gl_tx.specs.declared.request.Answer.{Answer}
 use Rattle.gl_entry.specs.declared.entry.Entry.{Entry}
@@ -9,12 +10,12 @@ use Rattle.gl_ledger.specs.Signed.{IsSignedAt}
 use Rattle.gl_ledger.proofs.Applications.{execute_ok, request_ok}
 use Rattle.gl_ledger.proofs.Following.{book_sign_ok, up_to-push, signature-last}
 use Rattle.gl_store.specs.Kept.{Held}
-use Rattle.gl_store.specs.Calls.{Executes, Signs}
+use Rattle.gl_store.specs.Calls.{Executes, Signs, signature_of}
 
 -- what a call left may be followed in the view of the call
-pub up_to-signed : (old new : Held) (node : List ℕ) (view : ℕ) (id : TxId) → HasViewsUpTo view old.ledger → Signs old node view id new → HasViewsUpTo view new.ledger
-up_to-signed old new node view id up done =
-    let made = book_sign_ok node old.ledger view old.commit done.entry done.made in
+pub up_to-signed : (old new : Held) (node : List ℕ) (signer : Signer) (view : ℕ) (id : TxId) → HasViewsUpTo view old.ledger → Signs old node signer view id new → HasViewsUpTo view new.ledger
+up_to-signed old new node signer view id up done =
+    let made = book_sign_ok node (signature_of signer old.ledger view old.commit) old.ledger view old.commit done.entry done.made in
     let low : done.entry.view ≤ view = subst (λ (x : Entry). x.view ≤ view) (sym made.0) (omega arith) in
     subst (λ (h : Held). HasViewsUpTo view h.ledger) (sym done.enters.entered) (up_to-push old.ledger done.entry view up low)
 
@@ -26,10 +27,10 @@ up_to-executed old new view q id reply up done =
     subst (λ (h : Held). HasViewsUpTo view h.ledger) (sym done.enters.entered) (up_to-push old.ledger done.entry view up low)
 
 -- a signature that was made stands at its seqno
-pub signed-last : (old new : Held) (node : List ℕ) (view : ℕ) (id : TxId) → Signs old node view id new → IsSignedAt new.ledger id.seqno
-signed-last old new node view id done =
-    let made = book_sign_ok node old.ledger view old.commit done.entry done.made in
+pub signed-last : (old new : Held) (node : List ℕ) (signer : Signer) (view : ℕ) (id : TxId) → Signs old node signer view id new → IsSignedAt new.ledger id.seqno
+signed-last old new node signer view id done =
+    let made = book_sign_ok node (signature_of signer old.ledger view old.commit) old.ledger view old.commit done.entry done.made in
     let last : IsSignedAt (old.ledger ++ done.entry ∷ []) (length old.ledger + 1) =
-    subst (λ (x : Entry). IsSignedAt (old.ledger ++ x ∷ []) (length old.ledger + 1)) (sym made.0) (signature-last old.ledger node view old.commit) in
+    subst (λ (x : Entry). IsSignedAt (old.ledger ++ x ∷ []) (length old.ledger + 1)) (sym made.0) (signature-last old.ledger node (signature_of signer old.ledger view old.commit) view old.commit) in
     subst (λ (h : Held). IsSignedAt h.ledger id.seqno) (sym done.enters.entered)
     (subst (λ (i : TxId). IsSignedAt (old.ledger ++ done.entry ∷ []) i.seqno) (sym done.enters.named) last)

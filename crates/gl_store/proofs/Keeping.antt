@@ -101,13 +101,13 @@ kept_with_application ledger items b view q e a leaf tables frontier k up fits h
     (subst (λ (l : List ℕ). frontiers.HasLeaves b.frontier frontier (b.frontier.leaves ++ l ∷ [])) hashed grown)
 
 -- a signature
-pub kept_with_signature : (ledger items : List Entry) (b : Beside) (view : ℕ) (node : List ℕ) (e : Entry) (tables : kept.Kept) (frontier : frontiers.Content) (last : ℕ) →
-    IsKept ledger b → HasViewsUpTo view ledger → length ledger < last_seqno → e ≡ signature_entry node ledger view b.commit → is_entry e ≡ true → last ≡ length ledger + 1 →
+pub kept_with_signature : (ledger items : List Entry) (b : Beside) (view : ℕ) (node bytes : List ℕ) (e : Entry) (tables : kept.Kept) (frontier : frontiers.Content) (last : ℕ) →
+    IsKept ledger b → HasViewsUpTo view ledger → length ledger < last_seqno → e ≡ signature_entry node bytes ledger view b.commit → is_entry e ≡ true → last ≡ length ledger + 1 →
     items ≡ ledger ++ e ∷ [] → HasWritten b.tables e tables →
     frontiers.HasLeaves b.frontier frontier (b.frontier.leaves ++ leaf_of b.identity e ∷ []) →
     IsKept items (record b { last_signature = last; tables = tables; frontier = frontier })
-kept_with_signature ledger items b view node e tables frontier last k up left made one place pushed written grown =
-    let signature = signature_entry node ledger view b.commit in
+kept_with_signature ledger items b view node bytes e tables frontier last k up left made one place pushed written grown =
+    let signature = signature_entry node bytes ledger view b.commit in
     let sound : IsSerialRun (ledger ++ signature ∷ []) =
     sound-push ledger signature k.sound (subst (λ (x : Entry). is_entry x ≡ true) made one) refl up (record { writes_nothing = (refl, refl); root = refl }) tt tt in
     let signs : is_signature e.content ≡ true = ap (λ (x : Entry). is_signature x.content) made in
@@ -155,28 +155,28 @@ identity_founded : (g : request.Genesis) → g.identity ≡ identity_in (tables_
 identity_founded g = sym (ap identity_in (tables_of-push [] (genesis_entry g)) ∙ identity_of_genesis g)
 
 -- what a store keeps of an opening ledger
-pub kept_opening : (g : request.Genesis) (signer : List ℕ) (first items : List Entry) (first_tables tables : kept.Kept) (old frontier : frontiers.Content) (e : Entry) →
-    is_acceptable g ≡ true → is_genesis g ≡ true → is_entry (genesis_entry g) ≡ true → Founded g first first_tables old → e ≡ signature_entry signer first 2 2 →
+pub kept_opening : (g : request.Genesis) (node bytes : List ℕ) (first items : List Entry) (first_tables tables : kept.Kept) (old frontier : frontiers.Content) (e : Entry) →
+    is_acceptable g ≡ true → is_genesis g ≡ true → is_entry (genesis_entry g) ≡ true → Founded g first first_tables old → e ≡ signature_entry node bytes first 2 2 →
     is_entry e ≡ true → items ≡ first ++ e ∷ [] → HasWritten first_tables e tables →
     frontiers.HasLeaves old frontier (old.leaves ++ leaf_of g.identity e ∷ []) →
     IsKept items (record { commit = 2; last_signature = 2; service_state = g.state; identity = g.identity; tables = tables; frontier = frontier })
-kept_opening g signer first items first_tables tables old frontier e acceptable fits founding f made one pushed written grown =
+kept_opening g node bytes first items first_tables tables old frontier e acceptable fits founding f made one pushed written grown =
     let opening : List Entry = genesis_entry g ∷ [] in
-    let signature : Entry = signature_entry signer opening 2 2 in
-    let same : e ≡ signature = made ∙ ap (λ (es : List Entry). signature_entry signer es 2 2) f.items_are in
-    let all : items ≡ opening_ledger g signer = pushed ∙ ap (λ (es : List Entry). es ++ e ∷ []) f.items_are ∙ ap (λ (x : Entry). opening ++ x ∷ []) same in
+    let signature : Entry = signature_entry node bytes opening 2 2 in
+    let same : e ≡ signature = made ∙ ap (λ (es : List Entry). signature_entry node bytes es 2 2) f.items_are in
+    let all : items ≡ opening_ledger g node bytes = pushed ∙ ap (λ (es : List Entry). es ++ e ∷ []) f.items_are ∙ ap (λ (x : Entry). opening ++ x ∷ []) same in
     let tree : IsTreeOf (leaves_of (opening ++ signature ∷ [])) frontier =
     tree-push opening signature g.identity old frontier (subst (λ (es : List Entry). IsTreeOf (leaves_of es) old) f.items_are f.tree) (identity_founded g) tt
     (subst (λ (x : Entry). frontiers.HasLeaves old frontier (old.leaves ++ leaf_of g.identity x ∷ [])) same grown) in
     subst (λ (es : List Entry). IsKept es (record { commit = 2; last_signature = 2; service_state = g.state; identity = g.identity; tables = tables; frontier = frontier })) (sym all) (record {
-      sound = opening_sound g signer acceptable fits founding (subst (λ (x : Entry). is_entry x ≡ true) same one);
+      sound = opening_sound g node bytes acceptable fits founding (subst (λ (x : Entry). is_entry x ≡ true) same one);
       opened = omega arith;
       named = omega arith;
       within = omega arith;
       committed = λ some. (signature, refl, refl);
       signed = sym (last_signature-signed opening signature refl);
-      state_is = sym (state_of_opening g signer);
-      identity_is = sym (identity_of_opening g signer);
+      state_is = sym (state_of_opening g node bytes);
+      identity_is = sym (identity_of_opening g node bytes);
       tables_are =
           subst (StandsFor tables)
           (ap (λ (es : List Entry). writes_of es ++ placed_at e.seqno e.writes) f.items_are

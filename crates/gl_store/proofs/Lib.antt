@@ -1,4 +1,5 @@
 pub mod TablesLaws
+pub mod Recorded
 pub mod Applications
 pub mod Following
 pub mod Keeping

@@ -79,6 +79,7 @@ impl Store {
     ghost use Rattle.gl_ledger.specs.Serial.{IsSerialRun};
     ghost use Rattle.gl_ledger.specs.Broken.{last_signed};
     ghost use Rattle.gl_ledger.specs.Layers.{Layers};
+    ghost use Rattle.gl_ledger.specs.NodeKeys.{NodeKeys};
     ghost use Rattle.gl_ledger.specs.LedgerBook.{ledger_book};
     ghost use Rattle.gl_ledger.specs.Makers.{by_store, request_result};
     ghost use Rattle.gl_ledger.specs.Signed.{IsSignedUpTo};
@@ -154,8 +155,8 @@ impl Store {
 
     /// The view of the entry with a seqno. `None` at 0 and above the last.
     pub fn view_at(&self, seqno: u64) -> Option<u32>
-        ensures { (layers : Layers) →
-            result ≡ view_of (ledger_book layers) (entry_at self.now.ledger seqno) }
+        ensures { (layers : Layers) (keys : NodeKeys) →
+            result ≡ view_of (ledger_book layers keys) (entry_at self.now.ledger seqno) }
     {
         match self.entry(seqno) {
             None => None,
@@ -190,8 +191,8 @@ impl Store {
     /// The status of a transaction by what this store holds (CCF documentation, "Transaction
     /// status"). Only Committed and Invalid are final.
     pub fn status(&self, id: TxId) -> Status
-        ensures { (layers : Layers) (n : Node Entry) → IsNodeOf self.now n →
-            result ≡ reported_status (ledger_book layers) n id }
+        ensures { (layers : Layers) (keys : NodeKeys) (n : Node Entry) → IsNodeOf self.now n →
+            result ≡ reported_status (ledger_book layers keys) n id }
     {
         let committed = match self.view_at(self.commit) {
             None => None,
@@ -368,9 +369,17 @@ fn next_signature(signer: &HssSigner, message: &[u8]) -> Result<Bytes, AllocErro
     ensures short { IfOk result (λ signature. length signature ≤ 2 ^ 16) }
 {
     match signer.signature(message) {
-        Ok(signature) => Ok(Bytes::from(signature)),
+        Ok(signature) => Ok(to_record(signature)),
         Err(_) => Err(AllocError),
     }
+}
+
+/// A signature's bytes, as an entry records them.
+fn to_record(signature: Vec<u8>) -> Bytes
+    ensures value { result ≡ signature.items }
+    ensures are_bytes { are_bytes result ≡ true }
+{
+    Bytes::from(signature)
 }
 
 /// The entry of a request that ran with these writes and this reply.

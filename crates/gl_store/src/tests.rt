@@ -1,7 +1,7 @@
 //! The rows, the entries and the roots against bytes worked out by hand, with digests by Python's
 //! hashlib.
 
-ghost use Rattle.std.specs.Prelude.{◌≡◌, ◌≤◌, ◌<◌, ◌^◌, ℕ, length, true, IfOk};
+ghost use Rattle.std.specs.Prelude.{◌≡◌, ◌≤◌, ◌<◌, ◌^◌, ℕ, length, true, IfOk, None};
 ghost use Rattle.std.specs.List.{AllByRecursion};
 ghost use Rattle.gl_ledger.specs.Genesis.{is_acceptable, is_genesis};
 ghost use Rattle.gl_ledger.specs.Ledger.{HasViewsUpTo};
@@ -10,9 +10,12 @@ ghost use Rattle.gl_ledger.specs.Signed.{IsSignedAt};
 use crate::Store;
 use gl_base::{Bytes, OrNoMemory, Sequence, Status, TxId};
 use gl_entry::{Content, Digest, Entry, NodeId};
+use gl_hss::HssSigner;
 use gl_ledger::{Dealing, Genesis, NewMember, NewNode, Refusal, ServiceState, ShareDigest};
+use gl_lms::{LmsKey, Types};
 use gl_tx::{Abort, Answer, Cause, Operation, Reply, Request};
 use gl_vmaps::{Key, MapName, Value, Write};
+use sha2::{Digest as _, Sha256};
 use std::alloc::{AllocError, Global};
 use std::test::Fail;
 
@@ -32,8 +35,14 @@ const DONE: Digest = [
 
 // The root over the opening ledger of a service that is open, and a put of one byte 01.
 const ROOT_BEHIND_PUT: Digest = [
-    0x7c, 0x57, 0x1c, 0xa6, 0x12, 0xb9, 0x12, 0xd9, 0xa4, 0x4d, 0x1c, 0x8a, 0x0a, 0xec, 0x85, 0xdd,
-    0x42, 0xa1, 0xce, 0xff, 0x3e, 0xfe, 0xe6, 0x76, 0xd3, 0x82, 0x48, 0x17, 0x40, 0x79, 0x2e, 0x6d,
+    0x19, 0x12, 0x8c, 0xbc, 0xfc, 0xed, 0x72, 0xef, 0x65, 0x13, 0x60, 0x21, 0xc5, 0x6b, 0x69, 0x17,
+    0x3c, 0x07, 0xf9, 0xbd, 0x1b, 0x02, 0xf6, 0x33, 0xca, 0x5e, 0x88, 0xac, 0x4b, 0xe0, 0x0c, 0xa6,
+];
+
+// The digest of the signature over these, by leaf 1.
+const SIGNATURE_BEHIND_PUT: Digest = [
+    0x19, 0xf7, 0x8c, 0x70, 0x24, 0xa4, 0x18, 0xb1, 0x7c, 0x18, 0xd0, 0x13, 0xfe, 0xb9, 0x71, 0x0c,
+    0xfa, 0x1e, 0xe4, 0xaf, 0x65, 0xc2, 0x41, 0xc3, 0xa9, 0xe1, 0xf5, 0xa8, 0x8e, 0x76, 0x48, 0xd7,
 ];
 
 // The service's key.
@@ -78,12 +87,36 @@ fn genesis(alloc: Global, state: ServiceState) -> Result<Genesis, AllocError>
     })
 }
 
-// The store of such a service.
-#[tactic(auto, using(gl_ledger::proofs::Bodies::small_founding))]
-fn opened(alloc: Global, state: ServiceState) -> Result<Store, AllocError>
+// The node's signer: a key that a seed of bytes 07 makes, with no endorsement and no leaf reserved.
+fn signer(alloc: Global) -> Result<HssSigner, AllocError>
+    ensures { IfOk result (λ s. s.endorsement ≡ None) }
+{
+    let key = LmsKey::make(alloc, [7; 32], Types::H5W4)?;
+    Ok(HssSigner::new(key, None, 0))
+}
+
+// The store of such a service, opened with the signer's next leaf.
+fn opened_by(
+    alloc: Global,
+    state: ServiceState,
+    signer: &mut HssSigner,
+) -> Result<Store, Fail>
+    requires { signer.old.endorsement ≡ None }
+    ensures up_to { IfOk result (λ s. (view : ℕ) → 2 ≤ view → HasViewsUpTo view s.ledger) }
+    ensures unendorsed { signer.new.endorsement ≡ None }
+{
+    let genesis = genesis(alloc, state)?;
+    prove!(signer.used() <= signer.reserved());
+    signer.reserve()?;
+    Ok(Store::opening(alloc, &genesis, NODE, signer)?)
+}
+
+// The same, of which no more is signed.
+fn opened(alloc: Global, state: ServiceState) -> Result<Store, Fail>
     ensures { IfOk result (λ s. (view : ℕ) → 2 ≤ view → HasViewsUpTo view s.ledger) }
 {
-    Store::opening(alloc, &genesis(alloc, state)?, NODE)
+    let mut signer = signer(alloc)?;
+    opened_by(alloc, state, &mut signer)
 }
 
 // A request that puts a value at the key `a`.
@@ -112,13 +145,17 @@ fn execute(
     store.execute(view, request)
 }
 
-// A signature, in a view in which more may follow.
-fn sign(store: &mut Store, view: u32) -> Result<TxId, OrNoMemory<Refusal>>
-    requires { HasViewsUpTo view store.old.ledger }
+// A signature by the signer's next leaf, in a view in which more may follow.
+fn sign(store: &mut Store, signer: &mut HssSigner, view: u32) -> Result<TxId, Fail>
+    requires up_to { HasViewsUpTo view store.old.ledger }
+    requires unendorsed { signer.old.endorsement ≡ None }
     ensures up_to { HasViewsUpTo view store.new.ledger }
     ensures signed { IfOk result (λ id. IsSignedAt store.new.ledger id.seqno) }
+    ensures unendorsed { signer.new.endorsement ≡ None }
 {
-    store.sign(NODE, view)
+    prove!(signer.used() <= signer.reserved());
+    signer.reserve()?;
+    Ok(store.sign(NODE, view, signer)?)
 }
 
 // The bytes that these runs of a byte make.
@@ -158,14 +195,14 @@ fn id_of(entry: &Entry) -> TxId {
     }
 }
 
-// The node's signature, until keys sign, with this commit and this root.
-fn is_signature_of(content: &Content, commit: u64, root: &Digest) -> bool {
+// The node's signature with this commit and this root, whose bytes have this digest.
+fn is_signature_of(content: &Content, commit: u64, root: &Digest, digest: &Digest) -> bool {
     match content {
         Content::Signature(signed) => {
             signed.node == NODE
                 && signed.commit == commit
                 && signed.root == *root
-                && signed.signature.as_slice().is_empty()
+                && Sha256::digest(signed.signature.as_slice()) == *digest
         }
         _ => false,
     }
@@ -301,23 +338,18 @@ fn refuses_bodies_that_are_too_large(rt: HostRuntime) -> Result<(), Fail> {
     Ok(())
 }
 
-// Whether the last entry of a store is the node's signature, with this commit and this root.
-fn ends_with_signature(store: &Store, commit: u64, root: &Digest) -> bool {
-    match store.entry(store.ledger_len()) {
-        None => false,
-        Some(entry) => is_signature_of(&entry.content, commit, root),
-    }
-}
-
 #[test]
 fn signs_and_commits(rt: HostRuntime) -> Result<(), Fail> {
-    let mut store = opened(rt.alloc(), ServiceState::Open)?;
+    let mut signer = signer(rt.alloc())?;
+    let mut store = opened_by(rt.alloc(), ServiceState::Open, &mut signer)?;
     let (put, _) = execute(&mut store, 2, &put_request(rt.alloc(), b"public:t", &[1])?)?;
     assert_eq!(rt; store.status(put), Status::Pending);
-    let signed = sign(&mut store, 2)?;
+    let signed = sign(&mut store, &mut signer, 2)?;
     assert_eq!(rt; signed, TxId { view: 2, seqno: 4 });
     assert_eq!(rt; store.last_signature(), 4);
-    assert!(rt; ends_with_signature(&store, 2, &ROOT_BEHIND_PUT));
+    let last = store.entry(4).ok_or("no entry")?;
+    assert!(rt; is_signature_of(&last.content, 2, &ROOT_BEHIND_PUT, &SIGNATURE_BEHIND_PUT));
+    assert_eq!(rt; (signer.reserved(), signer.used()), (2, 2));
     assert!(rt; store.commit() < signed.seqno);
     store.commit_to(signed.seqno);
     assert_eq!(rt; store.commit(), 4);
@@ -333,9 +365,10 @@ fn status_of(store: &Store, view: u32, seqno: u64) -> Status {
 // With 4.4 committed and nothing held above it.
 #[test]
 fn tells_statuses(rt: HostRuntime) -> Result<(), Fail> {
-    let mut store = opened(rt.alloc(), ServiceState::Open)?;
-    sign(&mut store, 4)?;
-    let last = sign(&mut store, 4)?;
+    let mut signer = signer(rt.alloc())?;
+    let mut store = opened_by(rt.alloc(), ServiceState::Open, &mut signer)?;
+    sign(&mut store, &mut signer, 4)?;
+    let last = sign(&mut store, &mut signer, 4)?;
     assert!(rt; store.commit() < last.seqno);
     store.commit_to(last.seqno);
     assert_eq!(rt; status_of(&store, 4, 4), Status::Committed);

@@ -8,6 +8,12 @@ const FIRST_LEAF: Digest = [
     0xc6, 0xea, 0xed, 0x04, 0xd5, 0x92, 0xda, 0x7c, 0x00, 0xa1, 0xfb, 0x0f, 0xae, 0xfe, 0xa1, 0x7f,
 ];
 
+// The digest of the signature of it, by leaf 0.
+const FIRST_SIGNATURE: Digest = [
+    0x7b, 0x42, 0x40, 0xcb, 0x1c, 0x3b, 0x15, 0x8a, 0xa7, 0xab, 0x82, 0x87, 0xbd, 0x0f, 0x4a, 0x12,
+    0x26, 0xa7, 0xf9, 0xe0, 0xdb, 0x60, 0xaf, 0x29, 0xc7, 0x06, 0x1f, 0xd3, 0x28, 0xa4, 0xcd, 0xf8,
+];
+
 // Whether the first entry's write with this number, from 0, sets this row, and the tables have it
 // so.
 fn has_row(store: &Store, number: usize, map: &[u8], key: &[u8], value: &[u8]) -> bool {
@@ -139,7 +145,7 @@ fn opens_with_a_signature_of_its_genesis(rt: HostRuntime) -> Result<(), Fail> {
     let store = opened(rt.alloc(), ServiceState::Opening)?;
     let entry = store.entry(2).ok_or("no entry")?;
     assert_eq!(rt; id_of(entry), TxId { view: 2, seqno: 2 });
-    assert!(rt; is_signature_of(&entry.content, 2, &FIRST_LEAF));
+    assert!(rt; is_signature_of(&entry.content, 2, &FIRST_LEAF, &FIRST_SIGNATURE));
     assert_eq!(rt; entry.writes.as_slice().len(), 0);
     assert_eq!(rt; entry.claims, [0; 32]);
     Ok(())

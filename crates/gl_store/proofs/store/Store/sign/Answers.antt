@@ -11,7 +11,7 @@ pub push_entry-requires-clause-above : goal.push_entry-requires-clause-above
 push_entry-requires-clause-above c =
     let k = c.self.inside in
     versions_below k.state.entries.items k.state.tables _ c.self.invariant.sound.in_order c.self.invariant.tables_are
-    (ap (λ (e : Entry). e.seqno) c.signature_entry-entry.ensures.made)
+    (ap (λ (e : Entry). e.seqno) c.in_ok-entry.ensures.made)
 
 pub invariant_of-self-2 : goal.invariant_of-self-2
 invariant_of-self-2 c =
@@ -19,7 +19,7 @@ invariant_of-self-2 c =
     let place : c.len.result + 1 ≡ length k.state.entries.items + 1 = omega arith in
     let left : length k.state.entries.items < last_seqno = omega arith in
     let up : HasViewsUpTo c.args.view k.state.entries.items =
-    subst (λ (h : Held). HasViewsUpTo c.args.view h.ledger) (sym c.self.view_is) c.requires in
-    kept_with_signature k.state.entries.items c.push_entry.new.state.entries.items _ c.args.view c.args.node c.signature_entry-entry.result c.push_entry.new.state.tables
-    c.push_entry.new.state.frontier (c.len.result + 1) c.self.invariant up left c.signature_entry-entry.ensures.made c.signature_entry-entry.ensures.fits place
+    subst (λ (h : Held). HasViewsUpTo c.args.view h.ledger) (sym c.self.view_is) c.requires.up_to in
+    kept_with_signature k.state.entries.items c.push_entry.new.state.entries.items _ c.args.view c.args.node _ c.in_ok-entry.entry c.push_entry.new.state.tables
+    c.push_entry.new.state.frontier (c.len.result + 1) c.self.invariant up left c.in_ok-entry.ensures.made c.in_ok-entry.ensures.fits place
     c.in_ok-push_entry.ensures.entries (record { stands = c.in_ok-push_entry.ensures.tables; base = c.in_ok-push_entry.ensures.base }) c.in_ok-push_entry.ensures.leaves

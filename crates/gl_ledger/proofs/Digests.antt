@@ -1,18 +1,16 @@
 -- Digests are bytes, 32 of them, and numbers in bytes are bytes.
-use Rattle.std.proofs.Common.{◌≡◌, ℕ, zero, suc, ◌<◌, List, ◌++◌, ◌/◌, ◌%◌, length, true, refl, ◌∙◌, arith}
-use Rattle.std.specs.Int.{w32, to_be_bytes}
-use Rattle.std.specs.Prelude.{slice_index}
+use Rattle.std.proofs.Common.{◌≡◌, ℕ, zero, suc, ◌<◌, List, ◌++◌, ◌/◌, ◌%◌, length, true, refl, arith}
 use Rattle.std.proofs.lemmas.Bool.{and_from}
 use Rattle.std.proofs.lemmas.Bool.Decides.{nat_tests}
-use Rattle.std.proofs.lemmas.List.Folds.{list_all-append}
-use Rattle.sha2.specs.Sha256.{sha256, digest_bytes}
+use Rattle.sha2.specs.Sha256.{sha256}
 use Rattle.sha2.proofs.Facts256.{length-sha256}
+use Rattle.gl_lms.proofs.Octets as lms
 use Rattle.gl_base.specs.LittleEndian.{little_endian}
 use Rattle.gl_base.specs.Bytes.{is_byte, are_bytes}
 use Rattle.gl_entry.specs.Entry.{are_sized, is_digest}
 
 pub bytes-append : (xs ys : List ℕ) → are_bytes xs ≡ true → are_bytes ys ≡ true → are_bytes (xs ++ ys) ≡ true
-bytes-append xs ys left right = list_all-append is_byte xs ys ∙ and_from (are_bytes xs) (are_bytes ys) left right
+bytes-append xs ys left right = lms.bytes-append xs ys left right
 
 below : (n : ℕ) → is_byte (n % 256) ≡ true
 below n = let small : n % 256 < 256 = omega arith in grind (arith, nat_tests)
@@ -22,17 +20,8 @@ unfolding little_endian
 number_bytes zero n = refl
 number_bytes (suc size) n = and_from (is_byte (n % 256)) (are_bytes (little_endian size (n / 256))) (below n) (number_bytes size (n / 256))
 
-word_bytes : (n : ℕ) → are_bytes (to_be_bytes w32 n) ≡ true
-word_bytes n = rw (below (n / 16777216), below (n / 65536), below (n / 256), below n) refl
-
-digest_bytes-bytes : (h : List ℕ) (n : ℕ) → are_bytes (digest_bytes h n) ≡ true
-unfolding digest_bytes
-digest_bytes-bytes h zero = refl
-digest_bytes-bytes h (suc n) = bytes-append (digest_bytes h n) (to_be_bytes w32 (slice_index h n)) (digest_bytes-bytes h n) (word_bytes (slice_index h n))
-
 pub sha256_bytes : (m : List ℕ) → are_bytes (sha256 m) ≡ true
-unfolding sha256
-sha256_bytes m = digest_bytes-bytes _ 8
+sha256_bytes m = lms.sha256_bytes m
 
 pub are_sized-true : (size : ℕ) (xs : List ℕ) → length xs ≡ size → are_bytes xs ≡ true → are_sized size xs ≡ true
 are_sized-true size xs long all = rw (long, all) (grind (arith, nat_tests))

@@ -31,3 +31,4 @@ pub mod NodeOrder
 pub mod Making
 pub mod Signing
 pub mod NodeSignatures
+pub mod Founded

@@ -1,11 +1,10 @@
--- What a node signs with one of its leaves is a signature of it.
-use Rattle.std.proofs.Common.{◌≡◌, ℕ, ◌<◌, ◌^◌, List, [], ◌∷◌, ◌++◌, Some, None, Result, Bool, if◌then◌else◌, sym, ap, ◌∙◌, append_assoc}
+-- What a node signs with one of its leaves is a signature of it, valid behind a ledger of its service.
+use Rattle.std.proofs.Common.{◌≡◌, ℕ, ◌<◌, ◌≤◌, ◌^◌, List, [], ◌∷◌, ◌++◌, length, Option, Some, None, Result, Ok, Bool, true, if◌then◌else◌, sym, ap, ◌∙◌, append_assoc, arith}
 use Rattle.std.specs.Cmp.Lexicographic.{bytes_decides}
 use Rattle.sha2.specs.Sha256.{sha256}
 use Rattle.gl_hss.specs.declared.fault.HssFault.{HssFault}
 use Rattle.gl_hss.specs.declared.fault.HssFault.TheVariants as faults
 use Rattle.gl_lms.specs.Bytes.{u32str}
-use Rattle.gl_lms.specs.Types.{height}
 use Rattle.gl_lms.specs.Tree.{PublicKey, Signature, key_bytes, signature_bytes}
 use Rattle.gl_hss.specs.Hss.{IsValid, hss_bytes}
 use Rattle.gl_hss.specs.Order.{last_key_verdict}
@@ -14,9 +13,18 @@ use Rattle.gl_lms.specs.Profile.{signature_by}
 use Rattle.gl_hss.specs.Signer.{hss_signature, StandsUnder, levels_above}
 use Rattle.gl_lms.proofs.Signing.{signature_by-IsSigned}
 use Rattle.gl_hss.proofs.Verdicts.{valid_verdict}
-use Rattle.gl_hss.proofs.Bounds.{last_key_valid}
+use Rattle.gl_hss.proofs.Bounds.{last_key_valid, length-valid}
+use Rattle.gl_lms.proofs.Octets.{u32str_bytes, signed_bytes}
+use Rattle.gl_base.specs.Bytes.{are_bytes}
 use Rattle.gl_rules.specs.Identity.{NodeId}
-use Rattle.gl_ledger.specs.NodeKeys.{NodeKeys, node_signature, signer_fault, fault_or_else, node_signature_fault, IsNodeKey}
+use Rattle.gl_entry.specs.declared.entry.Entry.{Entry}
+use Rattle.gl_ledger.specs.Effect.{identity_in}
+use Rattle.gl_ledger.specs.Tree.{tables_of}
+use Rattle.gl_ledger.specs.Ledger.{message_behind}
+use Rattle.gl_ledger.specs.declared.genesis.GovernanceRequest.{GovernanceRequest}
+use Rattle.gl_ledger.specs.Makers.{MakesValid}
+use Rattle.gl_ledger.proofs.Digests.{bytes-append}
+use Rattle.gl_ledger.specs.NodeKeys.{NodeKeys, leaf_count, node_signature, signer_fault, fault_or_else, node_signature_fault, hss_layers, IsNodeKey}
 
 -- the bytes of a node's signature, level by level
 two_levels : (k : PrivateKey) (e : List ℕ) (q : ℕ) (message : List ℕ) (top : PublicKey) (fields : Signature) → e ≡ signature_bytes top.types fields →
@@ -29,23 +37,57 @@ two_levels k e q message top fields spelled =
     ∙ ap (λ (x : List ℕ). x ++ last) (append_assoc (u32str 1) (signature_bytes top.types fields) key)
     ∙ append_assoc (u32str 1) (signature_bytes top.types fields ++ key) last
 
-pub node_signs : (keys : NodeKeys) (identity : List ℕ) (x : NodeId) (leaf : ℕ) (message : List ℕ) → IsNodeKey keys identity x → leaf < 2 ^ height (keys.key_of x).types →
-    node_signature_fault identity x message (node_signature keys x leaf message) ≡ None
-unfolding StandsUnder
-node_signs keys identity x leaf message h low =
-    let k = keys.key_of x in
-    let top = h.stands.top in
-    let signs = h.stands.signs in
-    let s = node_signature keys x leaf message in
-    let key = key_bytes (public_of k) in
-    let v : IsValid identity message s = record {
-      top = top;
-      upper = record { signature = signs.fields; key = public_of k } ∷ [];
-      last = signature_by k leaf message;
-      of_key = h.stands.of_key;
-      spelled = two_levels k (keys.endorsement_of x) leaf message top signs.fields signs.spelled;
-      signs = (signs.signed, h.form, signature_by-IsSigned k leaf message low);
-    } in
-    ap (λ (r : Result (Unit {0}) HssFault). fault_or_else r (signer_fault x (last_key_verdict identity s))) (valid_verdict identity message s v)
-    ∙ ap (signer_fault x) (last_key_valid identity message s v)
-    ∙ ap (λ (b : Bool). if b then None else Some (faults.Root x (sha256 key))) ((bytes_decides (sha256 key) x).1 (sym h.named))
+module _ (keys : NodeKeys) (identity : List ℕ) (x : NodeId) (leaf : ℕ) (message : List ℕ) (h : IsNodeKey keys identity x) where
+  pub node_bytes : are_bytes (node_signature keys x leaf message) ≡ true
+  unfolding levels_above
+  node_bytes =
+      let k = keys.key_of x in
+      let e = keys.endorsement_of x in
+      let key = key_bytes (public_of k) in
+      let one = u32str 1 in
+      bytes-append (one ++ e ++ key) (signature_bytes k.types (signature_by k leaf message))
+      (bytes-append (one ++ e) key (bytes-append one e (u32str_bytes 1) h.bytes) h.key)
+      (signed_bytes k leaf message)
+
+  module _ (low : leaf < leaf_count keys x) where
+    valid : IsValid identity message (node_signature keys x leaf message)
+    unfolding StandsUnder
+    valid =
+        let k = keys.key_of x in
+        let top = h.stands.top in
+        let signs = h.stands.signs in
+        record {
+          top = top;
+          upper = record { signature = signs.fields; key = public_of k } ∷ [];
+          last = signature_by k leaf message;
+          of_key = h.stands.of_key;
+          spelled = two_levels k (keys.endorsement_of x) leaf message top signs.fields signs.spelled;
+          signs = (signs.signed, h.form, signature_by-IsSigned k leaf message low);
+        }
+
+    -- the key that made its last level is the node's
+    signer : last_key_verdict identity (node_signature keys x leaf message) ≡ Ok (key_bytes (public_of (keys.key_of x)))
+    unfolding StandsUnder valid
+    signer = last_key_valid identity message (node_signature keys x leaf message) valid
+
+    pub node_signs : node_signature_fault identity x message (node_signature keys x leaf message) ≡ None
+    node_signs =
+        let s = node_signature keys x leaf message in
+        let key = key_bytes (public_of (keys.key_of x)) in
+        ap (λ (r : Result (Unit {0}) HssFault). fault_or_else r (signer_fault x (last_key_verdict identity s))) (valid_verdict identity message s valid)
+        ∙ ap (signer_fault x) signer
+        ∙ ap (λ (b : Bool). if b then None else Some (faults.Root x (sha256 key))) ((bytes_decides (sha256 key) x).1 (sym h.named))
+
+    pub node_short : length (node_signature keys x leaf message) ≤ 2 ^ 16
+    node_short = let most = length-valid identity message (node_signature keys x leaf message) valid in omega (arith, most)
+
+-- so what it signs behind a ledger whose service it is of is valid there
+pub node_makes : (request_in : List ℕ → Option GovernanceRequest) (keys : NodeKeys) (identity : List ℕ) (x : NodeId) (leaf : ℕ) (ledger : List Entry) (view commit : ℕ) →
+    IsNodeKey keys identity x → leaf < leaf_count keys x → identity_in (tables_of ledger) ≡ identity → MakesValid (hss_layers request_in) keys x leaf ledger view commit
+node_makes request_in keys identity x leaf ledger view commit h low is =
+    let message = message_behind ledger view commit in
+    record {
+      bytes = node_bytes keys identity x leaf message h;
+      short = node_short keys identity x leaf message h low;
+      valid = ap (λ (i : List ℕ). node_signature_fault i x message (node_signature keys x leaf message)) is ∙ node_signs keys identity x leaf message h low;
+    }

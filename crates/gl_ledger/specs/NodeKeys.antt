@@ -2,7 +2,7 @@
 -- of each node, whose leaves sign.
 use Rattle.std.specs.Prelude.{◌≡◌, ℕ, ◌^◌, List, Option, None, Some, Result, Ok, Err, Bool, true, false, if◌then◌else◌}
 use Rattle.sha2.specs.Sha256.{sha256}
-use Rattle.gl_base.specs.Bytes.{same_bytes}
+use Rattle.gl_base.specs.Bytes.{are_bytes, same_bytes}
 use Rattle.gl_hss.specs.declared.fault.HssFault.{HssFault}
 use Rattle.gl_hss.specs.declared.fault.HssFault.TheVariants as faults
 use Rattle.gl_lms.specs.Types.{height}
@@ -59,7 +59,10 @@ hss_layers request_in = record {
 }
 
 -- The service's key endorses the node's, and the node's identifier is the digest of its public key.
+-- The key and the endorsement are bytes.
 pub record IsNodeKey (keys : NodeKeys) (identity : List ℕ) (x : NodeId) : Type 0 where
   pub form : IsKey (public_of (keys.key_of x))
   pub stands : StandsUnder (keys.key_of x) (Some (keys.endorsement_of x)) identity
   pub named : x ≡ sha256 (key_bytes (public_of (keys.key_of x)))
+  pub key : are_bytes (key_bytes (public_of (keys.key_of x))) ≡ true
+  pub bytes : are_bytes (keys.endorsement_of x) ≡ true

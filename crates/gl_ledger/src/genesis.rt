@@ -25,7 +25,7 @@ pub type HssPublicKey = [u8; 60];
 pub struct NewNode {
     /// The key that its signatures are checked by. Its digest is the node's identifier.
     pub key: LmsPublicKey,
-    /// The service's LMS signature of the key's 56 bytes (RFC 8554, section 6.2).
+    /// The service's LMS signature of the key's 56 bytes (RFC 8554, section 5.4).
     pub endorsement: Bytes,
 }
 

@@ -1,7 +1,6 @@
 //! What holds of the ledger as a book: laws, and no code.
 
-ghost use Rattle.std.specs.Prelude.{◌≡◌, ◌<◌, ◌≤◌, ◌↔◌, ◌+◌, ◌^◌, ℕ, suc, List, [], ◌∷◌, ◌++◌, None, Some, Ok, length, map, slice_get, true};
-ghost use Rattle.gl_lms.specs.Types.{height};
+ghost use Rattle.std.specs.Prelude.{◌≡◌, ◌<◌, ◌≤◌, ◌↔◌, ◌+◌, ◌^◌, ℕ, suc, List, [], ◌∷◌, ◌++◌, Option, None, Some, Ok, length, map, slice_get, true};
 ghost use Rattle.gl_vmaps.specs.Tables.{value_in};
 ghost use Rattle.gl_tx.specs.declared.request.Operation.{Operation};
 ghost use Rattle.gl_entry.specs.declared.entry.Entry.{Entry};
@@ -10,10 +9,12 @@ ghost use Rattle.gl_rules.specs.Log.{greatest_recorded};
 ghost use Rattle.gl_rules.specs.Safety.{EachFollows, IsLawful, IsOpening, IsRetiring, MayRecord};
 ghost use Rattle.gl_rules.specs.World.{Start};
 ghost use Rattle.gl_ledger.specs.Genesis.{are_distinct_bytes, node_id, node_row, nodes_map};
+ghost use Rattle.gl_ledger.specs.Effect.{identity_in};
 ghost use Rattle.gl_ledger.specs.Tree.{tables_of};
 ghost use Rattle.gl_ledger.specs.Ledger.{genesis_entry};
 ghost use Rattle.gl_ledger.specs.declared.genesis.Genesis.{Genesis};
 ghost use Rattle.gl_ledger.specs.declared.genesis.NewNode.{NewNode};
+ghost use Rattle.gl_ledger.specs.declared.genesis.GovernanceRequest.{GovernanceRequest};
 ghost use Rattle.gl_ledger.specs.Layers.{Layers, ReadsSpellings};
 ghost use Rattle.gl_ledger.specs.Recordings.{configuration, recorded_nodes};
 ghost use Rattle.gl_ledger.specs.Broken.{broken, last_commit};
@@ -21,7 +22,7 @@ ghost use Rattle.gl_ledger.specs.Sound.{IsSound};
 ghost use Rattle.gl_ledger.specs.Makers.{MayMake, MakesValid, opening_of, request_result, signing_result};
 ghost use Rattle.gl_ledger.specs.LedgerBook.{ledger_book};
 ghost use Rattle.gl_ledger.specs.Audit.{LedgerFault, IsFaultOf, audited, opened};
-ghost use Rattle.gl_ledger.specs.NodeKeys.{IsNodeKey, NodeKeys, node_signature, node_signature_fault};
+ghost use Rattle.gl_ledger.specs.NodeKeys.{IsNodeKey, NodeKeys, hss_layers, leaf_count, node_signature, node_signature_fault};
 ghost use Rattle.gl_ledger.specs.Opening.{Begins, Founds};
 
 /// The ledger has the laws that the rules of consensus ask of a book.
@@ -90,9 +91,14 @@ pub fn is_unguarded()
 {}
 
 /// What a node signs with one of its leaves, where the service's key endorses its own, is valid by
-/// the test that entries are tried by.
+/// the test that entries are tried by, and behind a ledger of its service it is valid and has room.
 pub fn is_signed()
     ensures valid { (keys : NodeKeys) (identity : List ℕ) (x : NodeId) (leaf : ℕ) (message : List ℕ) →
-        IsNodeKey keys identity x → leaf < 2 ^ height (keys.key_of x).types →
+        IsNodeKey keys identity x → leaf < leaf_count keys x →
         node_signature_fault identity x message (node_signature keys x leaf message) ≡ None }
+    ensures makes { (request_in : List ℕ → Option GovernanceRequest) (keys : NodeKeys)
+        (identity : List ℕ) (x : NodeId) (leaf : ℕ) (ledger : List Entry) (view commit : ℕ) →
+        IsNodeKey keys identity x → leaf < leaf_count keys x →
+        identity_in (tables_of ledger) ≡ identity →
+        MakesValid (hss_layers request_in) keys x leaf ledger view commit }
 {}

@@ -10,3 +10,4 @@ pub mod Appends
 pub mod Blocks
 pub mod Signing
 pub mod StepInputs
+pub mod Octets

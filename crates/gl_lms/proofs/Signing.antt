@@ -45,14 +45,14 @@ unfolding node_above
 length-node_above k zero r = length-leaf_node _ _ _
 length-node_above k (suc n) r = length-cond _ _ _ (length-leaf_node _ _ _) (length-inner_node _ _ _ _)
 
-shown_blocks : (k : PrivateKey) (q : ℕ) (ds : List ℕ) → AreBlocks (shown_chains k q ds) (λ i. chain k.identifier q i 0 (coef ds i (width k.types)) (secret k q i))
+pub shown_blocks : (k : PrivateKey) (q : ℕ) (ds : List ℕ) → AreBlocks (shown_chains k q ds) (λ i. chain k.identifier q i 0 (coef ds i (width k.types)) (secret k q i))
 shown_blocks k q ds = record {
   none = shown_chains-none k q ds;
   more = shown_chains-more k q ds;
   sized = λ i. length-steps (chain_prefix k.identifier q i) 0 _ (secret k q i) (length-secret k q i);
 }
 
-sibling_blocks : (k : PrivateKey) (r : ℕ) → AreBlocks (siblings k r) (λ i. node k (sibling (r / 2 ^ i)))
+pub sibling_blocks : (k : PrivateKey) (r : ℕ) → AreBlocks (siblings k r) (λ i. node k (sibling (r / 2 ^ i)))
 sibling_blocks k r = record {
   none = siblings-none k r;
   more = siblings-more k r;

@@ -20,9 +20,9 @@ use std::marker::Model;
 // The number that stands in a chain's place where the randomizer is made. No key has such a chain.
 const RANDOMIZER_CHAIN: u16 = 0xfffd;
 
-// The identifier I of a seed's key.
+/// The identifier I of the key that `LmsKey::make` grows from a seed, without the tree.
 #[tactic(auto, unfolding(crate::specs::Profile::identifier_of))]
-fn identifier_of(seed: &[u8; 32]) -> [u8; 16]
+pub fn identifier_of(seed: &[u8; 32]) -> [u8; 16]
     ensures { result ≡ identifier_of seed.now }
 {
     let mut hasher = Sha256::new();

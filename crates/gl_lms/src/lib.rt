@@ -13,7 +13,7 @@ mod source;
 mod tree;
 mod types;
 
-pub use key::LmsKey;
+pub use key::{LmsKey, identifier_of};
 pub use lms::{LmsPublicKey, LmsSignature, key_fields, signature_fields};
 pub use tree::root_candidate;
 pub use types::{LMS_KEY_LEN, MAX_LEAF_COUNT, MAX_LMS_SIGNATURE_LEN, Types};

@@ -79,6 +79,8 @@ fn key_and_signature_of_a_seed(rt: HostRuntime) -> Result<(), Fail> {
     for (i, byte) in seed.iter_mut().enumerate() {
         *byte = i as u8;
     }
+    let identifier = "bb94c0738d17e0f9329212bce706acf0";
+    assert_eq!(rt; identifier_of(&seed), array_of::<16>(&rt, identifier)?);
     let key = LmsKey::make(rt.alloc(), seed, Types::H5W4)?;
     assert_eq!(rt; key.types(), Types::H5W4);
     let public = "0000000500000003bb94c0738d17e0f9329212bce706acf0\

@@ -1,3 +1,4 @@
 pub mod ViewLimits
 pub mod Safe
 pub mod Leading
+pub mod Founded

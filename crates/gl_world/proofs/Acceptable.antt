@@ -12,14 +12,15 @@ use Rattle.gl_ledger.specs.declared.genesis.NewMember.{NewMember}
 use Rattle.gl_ledger.specs.declared.genesis.ShareDigest.{ShareDigest}
 use Rattle.gl_world.specs.declared.settings.Settings.{Settings}
 use Rattle.gl_world.specs.Keys.{service_seed, node_seed, member_seed, recovery_secret}
-use Rattle.gl_world.specs.Founding.{numbers_from, node_of, member_of, share_of, dealing_of, genesis_of}
+use Rattle.gl_world.specs.Founding.{numbers_from, node_of, id_of, member_of, share_of, dealing_of, genesis_of}
 use Rattle.gl_world.specs.Single.{IsSingle}
 use Rattle.gl_world.specs.Group.{IsGroup}
-use Rattle.gl_world.proofs.Numbers.{all_made, all_numbers, numbers_ascend, numbers_distinct, among, length-made, numbers_told}
+use Rattle.gl_world.proofs.Numbers.{all_made, all_numbers, numbers_ascend, numbers_distinct, distinct_fewer, among, length-made, numbers_told}
 use Rattle.gl_ledger.proofs.Bodies.{small_founding}
 use Rattle.gl_ledger.proofs.Digests.{sha256_digest}
 use Rattle.gl_ledger.proofs.GenesisEntries.{genesis_is_entry}
 use Rattle.gl_world.proofs.Digests.{lms_key_sized, hss_key_sized}
+use Rattle.gl_world.proofs.Endorsements.{IsEndorsable, endorsement_bytes, length-endorsement_of}
 
 pub one_node : (s : Settings) → IsSingle s → (genesis_of s).nodes ≡ node_of s 1 ∷ []
 one_node s h = ap (λ (n : ℕ). map (node_of s) (numbers_from 1 n)) h.starting
@@ -55,8 +56,13 @@ dealing_acceptable s h = and_from _ _ (and_from _ _ enough ascending) present
     present = all_made (λ (d : ShareDigest). list_any (nat_eq d.member) (numbers_of (genesis_of s).members)) (share_of s) 1 s.members
         (λ k low high. ap (list_any (nat_eq k)) (member_numbers s) ∙ among k 1 s.members low high)
 
+-- the identifiers of so many nodes
+pub ids_told : (s : Settings) (first count : ℕ) → map node_id (map (node_of s) (numbers_from first count)) ≡ map (id_of s) (numbers_from first count)
+ids_told s first zero = refl
+ids_told s first (suc count) = ap (λ (xs : List (List ℕ)). id_of s first ∷ xs) (ids_told s (suc first) count)
+
 nodes_acceptable : (s : Settings) → IsGroup s → are_nodes (genesis_of s).nodes ≡ true
-nodes_acceptable s h = and_from _ _ (and_from _ _ some few) h.apart
+nodes_acceptable s h = and_from _ _ (and_from _ _ some few) (ap are_distinct_bytes (ids_told s 1 s.starting) ∙ distinct_fewer (id_of s) 1 s.starting (s.starting + s.joiners) (omega arith) h.apart)
   where
     some : nat_le 1 (length (genesis_of s).nodes) ≡ true
     some = let long = length-made (node_of s) 1 s.starting in let least = h.first in grind (arith, nat_tests)
@@ -69,8 +75,11 @@ group_acceptable s h = and_from _ _ (and_from _ _ (members_acceptable s h) (deal
 
 -- ---- format
 
-node_fits : (s : Settings) (k : ℕ) → is_node (node_of s k) ≡ true
-node_fits s k = and_from _ _ (and_from _ _ (lms_key_sized (node_seed s k)) refl) refl
+node_fits : (s : Settings) (k : ℕ) → IsEndorsable k → is_node (node_of s k) ≡ true
+node_fits s k h = and_from _ _ (and_from _ _ (lms_key_sized (node_seed s k)) (endorsement_bytes s k)) (let long = length-endorsement_of s k h in grind (arith, nat_tests))
+
+pub few_nodes : (s : Settings) → IsGroup s → (k : ℕ) → k < 1 + s.starting → k ≤ 32
+few_nodes s h k high = let most = h.starting in omega arith
 
 byte_within : (s : Settings) → IsGroup s → (k : ℕ) → k < 1 + s.members → is_byte k ≡ true
 byte_within s h k high = let most = h.few in grind (arith, nat_tests)
@@ -91,18 +100,18 @@ dealing_fits s h =
 
 pub group_fits : (s : Settings) → IsGroup s → is_genesis (genesis_of s) ≡ true
 group_fits s h =
-    and_from _ _ (and_from _ _ (and_from _ _ (and_from _ _ (and_from _ _ (hss_key_sized 2 (service_seed s) refl) (nodes_fit s h))
-    (all_made is_node (node_of s) 1 s.starting (λ k low high. node_fits s k)))
+    and_from _ _ (and_from _ _ (and_from _ _ (and_from _ _ (and_from _ _ (hss_key_sized 2 (service_seed s)) (nodes_fit s h))
+    (all_made is_node (node_of s) 1 s.starting (λ k low high. node_fits s k (low, few_nodes s h k high))))
     (count_fits s h (length (genesis_of s).members) (length-made (member_of s) 1 s.members)))
-    (all_made is_member (member_of s) 1 s.members (λ k low high. and_from _ _ (number_within s h k low high) (hss_key_sized 1 (member_seed s k) refl)))) (dealing_fits s h)
+    (all_made is_member (member_of s) 1 s.members (λ k low high. and_from _ _ (number_within s h k low high) (hss_key_sized 1 (member_seed s k))))) (dealing_fits s h)
 
-short_from : (s : Settings) (first count : ℕ) → AllByRecursion (λ (n : NewNode). length n.endorsement ≤ 2 ^ 13) (map (node_of s) (numbers_from first count))
-short_from s first zero = tt
-short_from s first (suc count) = (omega arith, short_from s (suc first) count)
+short_from : (s : Settings) (first count : ℕ) → 1 ≤ first → first + count ≤ 33 → AllByRecursion (λ (n : NewNode). length n.endorsement ≤ 2 ^ 13) (map (node_of s) (numbers_from first count))
+short_from s first zero low high = tt
+short_from s first (suc count) low high = (let long = length-endorsement_of s first (low, omega arith) in omega arith, short_from s (suc first) count (omega arith) (omega arith))
 
--- for now no node's key is endorsed
-pub group_endorsements : (s : Settings) → AllByRecursion (λ (n : NewNode). length n.endorsement ≤ 2 ^ 13) (genesis_of s).nodes
-group_endorsements s = short_from s 1 s.starting
+-- an endorsement has 2,348 bytes
+pub group_endorsements : (s : Settings) → IsGroup s → AllByRecursion (λ (n : NewNode). length n.endorsement ≤ 2 ^ 13) (genesis_of s).nodes
+group_endorsements s h = short_from s 1 s.starting (omega arith) (let most = h.starting in omega arith)
 
 -- ---- one node
 
@@ -114,7 +123,7 @@ single_group s h = record {
   some = h.some;
   few = h.few;
   distinct = h.distinct;
-  apart = ap (λ (ns : List NewNode). are_distinct_bytes (map node_id ns)) (one_node s h);
+  apart = let one = h.starting in let none = h.joiners in let all : s.starting + s.joiners ≡ 1 = omega arith in ap (λ (n : ℕ). are_distinct_bytes (map (id_of s) (numbers_from 1 n))) all;
 }
 
 pub genesis_acceptable : (s : Settings) → IsSingle s → is_acceptable (genesis_of s) ≡ true
@@ -123,12 +132,12 @@ genesis_acceptable s h = group_acceptable s (single_group s h)
 pub genesis_fits : (s : Settings) → IsSingle s → is_genesis (genesis_of s) ≡ true
 genesis_fits s h = group_fits s (single_group s h)
 
--- no node's key is endorsed, so the body of its entry is small, and the entry fits
+-- so the body of its entry is small, and the entry fits
 pub genesis_small : (s : Settings) → IsSingle s → length (body_bytes (genesis_entry (genesis_of s))) ≤ body_limit
-genesis_small s h = small_founding (genesis_of s) (genesis_fits s h) (genesis_acceptable s h) (group_endorsements s)
+genesis_small s h = small_founding (genesis_of s) (genesis_fits s h) (genesis_acceptable s h) (group_endorsements s (single_group s h))
 
 pub genesis_entry_fits : (s : Settings) → IsSingle s → is_entry (genesis_entry (genesis_of s)) ≡ true
-genesis_entry_fits s h = genesis_is_entry (genesis_of s) (genesis_fits s h) (genesis_acceptable s h) (group_endorsements s)
+genesis_entry_fits s h = genesis_is_entry (genesis_of s) (genesis_fits s h) (genesis_acceptable s h) (group_endorsements s (single_group s h))
 
 pub endorsements_short : (s : Settings) → IsSingle s → AllByRecursion (λ (n : NewNode). length n.endorsement ≤ 2 ^ 15) (genesis_of s).nodes
-endorsements_short s h = subst (AllByRecursion (λ (n : NewNode). length n.endorsement ≤ 2 ^ 15)) (sym (one_node s h)) (omega arith, tt)
+endorsements_short s h = subst (AllByRecursion (λ (n : NewNode). length n.endorsement ≤ 2 ^ 15)) (sym (one_node s h)) (let long = length-endorsement_of s 1 (omega arith, omega arith) in omega arith, tt)

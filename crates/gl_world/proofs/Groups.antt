@@ -1,10 +1,12 @@
 -- A service of several nodes begins lawfully, and is safe.
-use Rattle.std.proofs.Common.{◌≡◌, ℕ, zero, suc, ◌≤◌, List, [], ◌∷◌, length, map, Some, None, Bool, true, false, ◌&&◌, if◌then◌else◌, nat_eq, nat_le, refl, ◌∙◌, ap, subst, arith}
+use Rattle.std.proofs.Common.{◌≡◌, ℕ, zero, suc, ◌+◌, ◌≤◌, ◌<◌, List, [], ◌∷◌, length, map, Some, None, Bool, true, false, ◌&&◌, ◌||◌, if◌then◌else◌, nat_eq, nat_le, refl, sym, ◌∙◌, ap, subst, arith}
 use Rattle.std.specs.List.{list_all}
 use Rattle.std.proofs.lemmas.Bool.{and_parts}
 use Rattle.gl_base.specs.Bytes.{same_bytes}
-use Rattle.gl_rules.specs.Identity.{NodeId, member}
+use Rattle.gl_rules.specs.Identity.{NodeId, same, member}
+use Rattle.gl_rules.specs.World.{first_view}
 use Rattle.gl_rules.specs.Safety.{IsConfigured, IsOpening, NeverConflicts, EachFollows}
+use Rattle.gl_rules.proofs.Ids.{same_is}
 use Rattle.gl_safety.proofs.Refusals.{never_conflicts}
 use Rattle.gl_ledger.specs.Genesis.{node_id, genesis_bytes, governance_bytes, is_governance_request, are_distinct, are_distinct_bytes, numbers_of, are_members, are_nodes, is_dealing_among, is_acceptable}
 use Rattle.gl_ledger.specs.declared.genesis.Genesis as request
@@ -13,24 +15,36 @@ use Rattle.gl_ledger.specs.declared.genesis.NewMember.{NewMember}
 use Rattle.gl_ledger.specs.declared.genesis.GovernanceRequest.{GovernanceRequest}
 use Rattle.gl_ledger.specs.declared.genesis.GovernanceRequest.TheVariants as requests
 use Rattle.gl_ledger.specs.Layers.{Layers, ReadsSpellings}
+use Rattle.gl_ledger.specs.NodeKeys.{IsNodeKey, is_verified}
+use Rattle.gl_ledger.specs.Effect.{identity_in}
+use Rattle.gl_ledger.specs.Ledger.{genesis_entry}
+use Rattle.gl_hss.specs.Order.{endorsement_verdict}
 use Rattle.gl_tx.specs.declared.request.Operation.{Operation}
 use Rattle.gl_ledger.specs.Acceptance.{are_endorsed, genesis_fault}
 use Rattle.gl_ledger.specs.Makers.{request_result, signing_result}
-use Rattle.gl_ledger.specs.Services.{ServiceEvent, Begins, Founds, Leads}
-use Rattle.gl_ledger.specs.Services as services
+use Rattle.gl_ledger.specs.Opening.{Begins, Founds}
 use Rattle.gl_ledger.proofs.GenesisEntries.{genesis_is_entry}
 use Rattle.gl_ledger.proofs.SameWrites.{same_bytes_is, same_bytes_self}
 use Rattle.gl_ledger.proofs.Passing.{passes}
 use Rattle.gl_ledger.proofs.Lawful.{lawful}
 use Rattle.gl_ledger.proofs.Opening.{member_first}
-use Rattle.gl_ledger.proofs.Leading.{leader_executes, leader_signs}
-use Rattle.gl_ledger.proofs.Opened.{begins_opening, begins_safe, opening_opened, opened_configured}
+use Rattle.gl_ledger.proofs.Opened.{begins_opening, opening_opened, opened_configured}
+use Rattle.gl_ledger.proofs.NodeSignatures.{node_makes}
+use Rattle.gl_ledger.proofs.Openings.{identity_of_genesis}
+use Rattle.gl_ledger.proofs.TablesLaws.{tables_of-push}
+use Rattle.gl_service.specs.Service.{ServiceEvent, Leads}
+use Rattle.gl_service.specs.Service as service
+use Rattle.gl_service.proofs.Safe.{begins_safe}
+use Rattle.gl_service.proofs.Leading.{leader_executes}
+use Rattle.gl_service.proofs.Founded.{leader_signs_with_key}
 use Rattle.gl_world.specs.declared.settings.Settings.{Settings}
-use Rattle.gl_world.specs.Founding.{numbers_from, node_of, id_of, genesis_of}
-use Rattle.gl_world.specs.Group.{IsGroup, layers_of, book_of}
+use Rattle.gl_world.specs.Founding.{numbers_from, node_of, id_of, keys_of, genesis_of}
+use Rattle.gl_world.specs.Group.{IsGroup, read_genesis, layers_of, book_of}
 use Rattle.gl_world.specs.Headline.{Headline}
 use Rattle.gl_world.specs.World.{start_of}
-use Rattle.gl_world.proofs.Acceptable.{group_acceptable, group_fits, group_endorsements}
+use Rattle.gl_world.proofs.Acceptable.{ids_told, few_nodes, group_acceptable, group_fits, group_endorsements}
+use Rattle.gl_world.proofs.Endorsements.{endorsement_valid, is_node_key}
+use Rattle.gl_world.proofs.Numbers.{all_made}
 
 pub reads_spellings : (s : Settings) → IsGroup s → ReadsSpellings (layers_of s)
 reads_spellings s h = record { spelled = λ bytes g all reads. go bytes g (same_bytes bytes (genesis_bytes (genesis_of s))) refl reads }
@@ -42,17 +56,25 @@ reads_spellings s h = record { spelled = λ bytes g all reads. go bytes g (same_
         let same : requests.Genesis (genesis_of s) ≡ g = cc in
         subst (λ (r : GovernanceRequest). (is_governance_request r ≡ true) × (bytes ≡ governance_bytes r)) same (group_fits s h, same_bytes_is bytes (genesis_bytes (genesis_of s)) is)
 
-ids : (s : Settings) (first count : ℕ) → map node_id (map (node_of s) (numbers_from first count)) ≡ map (id_of s) (numbers_from first count)
-ids s first zero = refl
-ids s first (suc count) = ap (λ (xs : List NodeId). id_of s first ∷ xs) (ids s (suc first) count)
-
 first_in : (s : Settings) (count : ℕ) → 1 ≤ count → member (id_of s 1) (map (id_of s) (numbers_from 1 count)) ≡ true
 first_in s zero h = absurd (omega arith)
 first_in s (suc count) h = member_first (id_of s 1) (map (id_of s) (numbers_from 2 count))
 
-all_endorsed : (s : Settings) (ns : List NewNode) → are_endorsed (layers_of s) (genesis_of s).identity ns ≡ true
-all_endorsed s [] = refl
-all_endorsed s (n ∷ ns) = all_endorsed s ns
+all_endorsed : (s : Settings) → IsGroup s → are_endorsed (layers_of s) (genesis_of s).identity (genesis_of s).nodes ≡ true
+all_endorsed s h =
+    all_made (λ (n : NewNode). is_verified (endorsement_verdict (genesis_of s).identity n.key n.endorsement)) (node_of s) 1 s.starting
+    (λ k low high. ap is_verified (endorsement_valid s k (low, few_nodes s h k high)))
+
+-- what is among those made of numbers is made of one
+member_made : (f : ℕ → NodeId) (y : NodeId) (first count : ℕ) → member y (map f (numbers_from first count)) ≡ true → (number : ℕ) × (first ≤ number) × (number < first + count) × (f number ≡ y)
+member_made f y first zero h = absurd (cc)
+member_made f y first (suc count) h = go (same y (f first)) refl h (member_made f y (suc first) count)
+  where
+    go : (b : Bool) → same y (f first) ≡ b → (b || member y (map f (numbers_from (suc first) count))) ≡ true →
+        (member y (map f (numbers_from (suc first) count)) ≡ true → (number : ℕ) × (suc first ≤ number) × (number < suc first + count) × (f number ≡ y)) →
+        (number : ℕ) × (first ≤ number) × (number < first + suc count) × (f number ≡ y)
+    go true is w behind = (first, omega arith, omega arith, sym (same_is y (f first) is))
+    go false is w behind = let r = behind w in (r.0, omega (arith, r.1), omega (arith, r.2), r.3)
 
 -- an acceptable genesis whose nodes are endorsed is without a fault
 accepted : (layers : Layers) (g : request.Genesis) → is_acceptable g ≡ true → are_endorsed layers g.identity g.nodes ≡ true → genesis_fault layers g ≡ None
@@ -71,42 +93,57 @@ accepted layers g h endorsed =
     passes numbers _ _ d.1 (passes keys _ _ c.1 (passes few _ _ e.0 (passes (is_dealing_among (numbers_of g.members) g.dealing) _ _ b.1
     (passes (are_distinct_bytes (map node_id g.nodes)) _ _ k.1 (passes (nat_le (length g.nodes) 32) _ _ l.1 (passes (nat_le 1 (length g.nodes)) _ _ l.0 (passes (are_endorsed layers g.identity g.nodes) _ None endorsed refl)))))))
 
-pub group_founds : (s : Settings) → IsGroup s → Founds (layers_of s) (genesis_of s) (id_of s 1)
+-- each node that starts has its key
+node_has_key : (s : Settings) → IsGroup s → (number : ℕ) → 1 ≤ number → number ≤ s.starting → IsNodeKey (keys_of s) (genesis_of s).identity (id_of s number)
+node_has_key s h number low high =
+    is_node_key s number low (omega arith) (let nodes = h.starting in let more = h.joiners in omega arith)
+
+pub group_founds : (s : Settings) → IsGroup s → Founds (layers_of s) (keys_of s) (genesis_of s) (id_of s 1)
 group_founds s h = record {
   reads = ap (λ (b : Bool). if b then Some (requests.Genesis (genesis_of s)) else None) (same_bytes_self (genesis_bytes (genesis_of s)));
-  accepted = accepted (layers_of s) (genesis_of s) (group_acceptable s h) (all_endorsed s (genesis_of s).nodes);
-  fits = genesis_is_entry (genesis_of s) (group_fits s h) (group_acceptable s h) (group_endorsements s);
-  named = ap (member (id_of s 1)) (ids s 1 s.starting) ∙ first_in s s.starting h.first;
-  valid = record { bytes = refl; short = omega arith; valid = refl };
+  accepted = accepted (layers_of s) (genesis_of s) (group_acceptable s h) (all_endorsed s h);
+  fits = genesis_is_entry (genesis_of s) (group_fits s h) (group_acceptable s h) (group_endorsements s h);
+  named = ap (member (id_of s 1)) (ids_told s 1 s.starting) ∙ first_in s s.starting h.first;
+  valid = node_makes (read_genesis s) (keys_of s) (genesis_of s).identity (id_of s 1) 0 (genesis_entry (genesis_of s) ∷ []) first_view 2
+      (node_has_key s h 1 (omega arith) h.first) (omega arith)
+      (ap identity_in (tables_of-push [] (genesis_entry (genesis_of s))) ∙ identity_of_genesis (genesis_of s));
 }
 
 pub group_begins : (s : Settings) → IsGroup s → Begins (layers_of s) (start_of s)
 group_begins s h = record {
-  checked = opening_opened (layers_of s) (genesis_of s) (id_of s 1) (group_founds s h);
+  checked = opening_opened (layers_of s) (keys_of s) (genesis_of s) (id_of s 1) (group_founds s h);
   starts = first_in s s.starting h.first;
 }
 
 pub group_opens : (s : Settings) → IsGroup s → IsOpening (book_of s) (EachFollows (book_of s)) (start_of s)
-group_opens s h = begins_opening (layers_of s) (start_of s) (group_begins s h)
+group_opens s h = begins_opening (layers_of s) (keys_of s) (start_of s) (group_begins s h)
 
 pub group_safe : (s : Settings) → IsGroup s → (events : List ServiceEvent) → Headline s events
-group_safe s h events = begins_safe (layers_of s) (reads_spellings s h) (start_of s) (group_begins s h) events
+group_safe s h events = begins_safe (layers_of s) (keys_of s) (reads_spellings s h) (start_of s) (group_begins s h) events
 
 pub group_never_conflicts : (s : Settings) → IsGroup s → (events : List ServiceEvent) → NeverConflicts (book_of s) (start_of s) events
-group_never_conflicts s h events = never_conflicts (group_opens s h) (lawful (layers_of s)) events
+group_never_conflicts s h events = never_conflicts (group_opens s h) (lawful (layers_of s) (keys_of s)) events
 
 -- ---- the guard refuses a leader nothing
 
 pub group_configured : (s : Settings) → IsGroup s → IsConfigured (book_of s) (id_of s 1) (start_of s).opening
-group_configured s h = opened_configured (layers_of s) (start_of s).opening (start_of s).first (group_begins s h).checked
+group_configured s h = opened_configured (layers_of s) (keys_of s) (start_of s).opening (start_of s).first (group_begins s h).checked
 
-pub group_executes : (s : Settings) → IsGroup s → (events : List ServiceEvent) (x : NodeId) → Leads (layers_of s) (start_of s) events x → (request : List Operation) →
-    let n = services.node_of (layers_of s) (start_of s) events x in
+pub group_executes : (s : Settings) → IsGroup s → (events : List ServiceEvent) (x : NodeId) → Leads (layers_of s) (keys_of s) (start_of s) events x → (request : List Operation) →
+    let n = service.node_of (layers_of s) (keys_of s) (start_of s) events x in
     (book_of s).execute n.log n.view request ≡ request_result n.log n.view request
-group_executes s h events x leads request = leader_executes (layers_of s) (start_of s) (group_opens s h) (group_configured s h) events x leads request
+group_executes s h events x leads request = leader_executes (layers_of s) (keys_of s) (start_of s) (group_opens s h) (group_configured s h) events x leads request
 
-pub group_signs : (s : Settings) → IsGroup s → (events : List ServiceEvent) (x : NodeId) → Leads (layers_of s) (start_of s) events x → (leaf : ℕ) →
-    let n = services.node_of (layers_of s) (start_of s) events x in
-    (book_of s).sign x leaf n.log n.view n.commit ≡ signing_result (layers_of s) x leaf n.log n.view n.commit
-group_signs s h events x leads leaf =
-    leader_signs (layers_of s) (start_of s) (group_opens s h) (group_configured s h) events x leads leaf (record { bytes = refl; short = omega arith; valid = refl })
+-- a node that the genesis names has its key
+named_has_key : (s : Settings) → IsGroup s → (y : NodeId) → member y (map node_id (genesis_of s).nodes) ≡ true → IsNodeKey (keys_of s) (genesis_of s).identity y
+named_has_key s h y named =
+    let number = member_made (id_of s) y 1 s.starting (sym (ap (member y) (ids_told s 1 s.starting)) ∙ named) in
+    subst (IsNodeKey (keys_of s) (genesis_of s).identity) number.3 (node_has_key s h number.0 number.1 (omega (arith, number.2)))
+
+pub group_signs : (s : Settings) → IsGroup s → (events : List ServiceEvent) (x : NodeId) → Leads (layers_of s) (keys_of s) (start_of s) events x → (leaf : ℕ) → leaf < (book_of s).leaves x →
+    let n = service.node_of (layers_of s) (keys_of s) (start_of s) events x in
+    (book_of s).sign x leaf n.log n.view n.commit ≡ signing_result (keys_of s) x leaf n.log n.view n.commit
+group_signs s h events x leads leaf low =
+    leader_signs_with_key (read_genesis s) (keys_of s) (reads_spellings s h) (start_of s) (genesis_of s)
+    (record { begins = group_begins s h; reads = (group_founds s h).reads; first = refl })
+    (named_has_key s h) events x leads leaf low

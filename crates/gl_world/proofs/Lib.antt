@@ -2,6 +2,7 @@ pub mod Ids
 pub mod Numbers
 pub mod MemberKeys
 pub mod Digests
+pub mod Endorsements
 pub mod Acceptable
 pub mod Advance
 pub mod Solo

@@ -1,10 +1,21 @@
 -- The keys of members: those left behind the next.
-use Rattle.std.proofs.Common.{◌≡◌, ℕ, suc, ◌+◌, ◌-◌, ◌<◌, List, ◌∷◌, map, Bool, true, false, not, ◌&&◌, ◌||◌, sym, ◌∙◌, ap, add-one}
+use Rattle.std.proofs.Common.{◌≡◌, ℕ, suc, ◌+◌, ◌-◌, ◌<◌, List, ◌∷◌, ◌++◌, map, length, take, drop, Bool, true, false, not, ◌&&◌, ◌||◌, refl, sym, ◌∙◌, ap, add-one, arith, length-append}
 use Rattle.std.specs.List.{list_any}
+use Rattle.std.specs.Cmp.Lexicographic.{bytes_decides}
+use Rattle.std.proofs.lemmas.List.{take_at, drop_at}
+use Rattle.gl_lms.specs.declared.types.Types.TheVariants.{H5W4}
+use Rattle.gl_lms.specs.Bytes.{u32str}
+use Rattle.gl_lms.specs.Types.{lms_code, ots_code}
+use Rattle.gl_lms.specs.Tree.{key_bytes}
+use Rattle.gl_lms.specs.Secrets.{node}
+use Rattle.gl_lms.specs.Profile.{identifier_of}
+use Rattle.gl_lms.proofs.Spans.{length-u32str}
+use Rattle.gl_lms.proofs.Octets.{seed_IsKey}
 use Rattle.gl_base.specs.Bytes.{same_bytes}
 use Rattle.gl_ledger.specs.Genesis.{are_distinct_bytes}
 use Rattle.gl_ledger.specs.declared.genesis.NewMember.{NewMember}
 use Rattle.gl_world.specs.declared.settings.Settings.{Settings}
+use Rattle.gl_world.specs.Keys.{private_key, lms_key, hss_key}
 use Rattle.gl_world.specs.Founding.{member_of, member_keys}
 use Rattle.gl_world.proofs.Numbers.{numbers-next}
 
@@ -13,6 +24,31 @@ key_of s number = (member_of s number).key
 
 keys-next : (s : Settings) (i n : ℕ) → i < n → member_keys s (suc i) (n - i) ≡ key_of s (suc i) ∷ member_keys s (suc (suc i)) (n - suc i)
 keys-next s i n below = ap (λ (ns : List ℕ). map (λ (m : NewMember). m.key) (map (member_of s) ns)) (numbers-next i n below)
+
+-- where I stands in an HSS key: behind the levels and two typecodes
+identifier_in : (levels : ℕ) (seed : List ℕ) → drop 8 (take 24 (drop 4 (hss_key levels seed))) ≡ identifier_of seed
+unfolding key_bytes
+identifier_in levels seed =
+    let k = private_key seed in
+    let codes = u32str (lms_code k.types) ++ u32str (ots_code k.types) in
+    let form = seed_IsKey H5W4 seed in
+    let eight : length codes ≡ 8 = omega (arith, length-append (u32str (lms_code k.types)) (u32str (ots_code k.types)), length-u32str (lms_code k.types), length-u32str (ots_code k.types)) in
+    let front : length (codes ++ k.identifier) ≡ 24 = omega (arith, length-append codes k.identifier, eight, form.identifier) in
+    ap (λ (l : List ℕ). drop 8 (take 24 l)) (drop_at (u32str levels) (lms_key seed) 4 (length-u32str levels))
+    ∙ ap (drop 8) (take_at (codes ++ k.identifier) (node k 1) 24 front)
+    ∙ drop_at codes k.identifier 8 eight
+
+-- so seeds with different I have different keys
+pub keys_differ : (levels : ℕ) (a b : List ℕ) → same_bytes (identifier_of a) (identifier_of b) ≡ false → same_bytes (hss_key levels a) (hss_key levels b) ≡ false
+keys_differ levels a b other = go (same_bytes (hss_key levels a) (hss_key levels b)) refl
+  where
+    go : (t : Bool) → same_bytes (hss_key levels a) (hss_key levels b) ≡ t → t ≡ false
+    go false is = refl
+    go true is = absurd (
+        let key = (bytes_decides (hss_key levels a) (hss_key levels b)).0 is in
+        let identifier : identifier_of a ≡ identifier_of b = sym (identifier_in levels a) ∙ ap (λ (l : List ℕ). drop 8 (take 24 (drop 4 l))) key ∙ identifier_in levels b in
+        let one = (bytes_decides (identifier_of a) (identifier_of b)).1 identifier in
+        let w = sym other ∙ one in cc)
 
 -- a key that the next member doesn't have is among all where it is among those left
 pub repeated-next : (s : Settings) (key : List ℕ) (i n : ℕ) → i < n → same_bytes key (key_of s (i + 1)) ≡ false →

@@ -1,9 +1,10 @@
 -- The numbers from one on, and what is made of them.
 use Rattle.std.proofs.Common.{◌≡◌, ℕ, zero, suc, ◌+◌, ◌-◌, ◌*◌, ◌<◌, ◌≤◌, List, [], ◌∷◌, ◌++◌, length, map, Bool, true, false, not, ◌||◌, nat_eq, nat_lt, refl, sym, ◌∙◌, ap, ap₂, arith, add-one, append_assoc, length-append}
 use Rattle.std.specs.List.{list_all, list_any, flat_map}
-use Rattle.std.proofs.lemmas.Bool.{and_from}
+use Rattle.std.proofs.lemmas.Bool.{and_parts, and_from}
 use Rattle.std.proofs.lemmas.Bool.Decides.{nat_tests}
-use Rattle.gl_ledger.specs.Genesis.{are_distinct, is_ascending}
+use Rattle.gl_base.specs.Bytes.{same_bytes}
+use Rattle.gl_ledger.specs.Genesis.{are_distinct, are_distinct_bytes, is_ascending}
 use Rattle.gl_world.specs.Founding.{numbers_from}
 
 pub length-numbers_from : (first count : ℕ) → length (numbers_from first count) ≡ count
@@ -69,6 +70,33 @@ or_right false b h = h
 one_of : (b : Bool) (n first : ℕ) (rest : Bool) → nat_eq n first ≡ b → first ≤ n → (first < n → rest ≡ true) → (b || rest) ≡ true
 one_of true n first rest is low behind = refl
 one_of false n first rest is low behind = behind (grind (arith, nat_tests))
+
+-- what none of the first so many passes, none of fewer does
+any_fewer : {A : Type 0} (test : A → Bool) (f : ℕ → A) (first n m : ℕ) → n ≤ m → list_any test (map f (numbers_from first m)) ≡ false → list_any test (map f (numbers_from first n)) ≡ false
+any_fewer test f first zero m le none = refl
+any_fewer test f first (suc n) zero le none = absurd (omega arith)
+any_fewer test f first (suc n) (suc m) le none = go (test (f first)) none (any_fewer test f (suc first) n m (omega arith))
+  where
+    go : (b : Bool) → (b || list_any test (map f (numbers_from (suc first) m))) ≡ false →
+        (list_any test (map f (numbers_from (suc first) m)) ≡ false → list_any test (map f (numbers_from (suc first) n)) ≡ false) →
+        (b || list_any test (map f (numbers_from (suc first) n))) ≡ false
+    go true w behind = absurd (cc)
+    go false w behind = behind w
+
+pub not_true : (b : Bool) → not b ≡ true → b ≡ false
+not_true true w = absurd (cc)
+not_true false w = refl
+
+-- where the first so many are distinct, fewer are
+pub distinct_fewer : (f : ℕ → List ℕ) (first n m : ℕ) → n ≤ m → are_distinct_bytes (map f (numbers_from first m)) ≡ true → are_distinct_bytes (map f (numbers_from first n)) ≡ true
+distinct_fewer f first zero m le all = refl
+distinct_fewer f first (suc n) zero le all = absurd (omega arith)
+distinct_fewer f first (suc n) (suc m) le all =
+    let again = list_any (same_bytes (f first)) (map f (numbers_from (suc first) m)) in
+    let both = and_parts (not again) (are_distinct_bytes (map f (numbers_from (suc first) m))) all in
+    and_from (not (list_any (same_bytes (f first)) (map f (numbers_from (suc first) n)))) (are_distinct_bytes (map f (numbers_from (suc first) n)))
+    (ap not (any_fewer (same_bytes (f first)) f (suc first) n m (omega arith) (not_true again both.0)))
+    (distinct_fewer f (suc first) n m (omega arith) both.1)
 
 -- each number between is among them
 pub among : (n first count : ℕ) → first ≤ n → n < first + count → list_any (nat_eq n) (numbers_from first count) ≡ true

@@ -15,6 +15,7 @@ use Rattle.gl_ledger.specs.Layers.{Layers}
 use Rattle.gl_ledger.specs.Recordings.{requests_of, trusted_of, same_nodes, changed_set, trusted_nodes, configuration}
 use Rattle.gl_ledger.specs.Broken.{last_signed}
 use Rattle.gl_ledger.specs.Makers.{signed_entry}
+use Rattle.gl_ledger.specs.NodeKeys.{NodeKeys}
 use Rattle.gl_ledger.specs.LedgerBook.{ledger_book}
 use Rattle.gl_ledger.specs.declared.genesis.NewNode.{NewNode}
 use Rattle.gl_ledger.proofs.Gathering.{requests-quiet}
@@ -22,7 +23,7 @@ use Rattle.gl_ledger.proofs.Growth.{IsNoGovernance}
 use Rattle.gl_ledger.proofs.Opening.{nodes_configured}
 use Rattle.gl_ledger.proofs.SameWrites.{same_bytes_self}
 use Rattle.gl_world.specs.declared.settings.Settings.{Settings}
-use Rattle.gl_world.specs.Founding.{id_of, genesis_of}
+use Rattle.gl_world.specs.Founding.{id_of, keys_of, genesis_of}
 use Rattle.gl_world.specs.Group.{layers_of}
 use Rattle.gl_world.specs.World.{start_of}
 use Rattle.gl_world.specs.Single.{IsSingle}
@@ -73,13 +74,13 @@ module _ (layers : Layers) where
   }
 
   -- commit comes to the last signature, if that is above it
-  pub advance-is : (x : NodeId) (n : Node Entry) → n.role ≡ Leader → n.view ≡ first_view → 2 ≤ n.commit → IsSoloLedger layers x n.log →
-      advance (ledger_book layers) x n ≡ commit_to (ledger_book layers) n (if nat_lt n.commit (last_signed n.log) then Some (last_signed n.log) else None)
-  advance-is x n leads first opened h = go n.commit refl opened
+  pub advance-is : (keys : NodeKeys) (x : NodeId) (n : Node Entry) → n.role ≡ Leader → n.view ≡ first_view → 2 ≤ n.commit → IsSoloLedger layers x n.log →
+      advance (ledger_book layers keys) x n ≡ commit_to (ledger_book layers keys) n (if nat_lt n.commit (last_signed n.log) then Some (last_signed n.log) else None)
+  advance-is keys x n leads first opened h = go n.commit refl opened
     where
-      go : (c : ℕ) → n.commit ≡ c → 2 ≤ c → advance (ledger_book layers) x n ≡ commit_to (ledger_book layers) n (above layers n.commit (last_signed n.log))
+      go : (c : ℕ) → n.commit ≡ c → 2 ≤ c → advance (ledger_book layers keys) x n ≡ commit_to (ledger_book layers keys) n (above layers keys n.commit (last_signed n.log))
       go zero is some = absurd (omega arith)
-      go (suc c) is some = advance_alone layers x n c leads is h.alone (λ i e at. h.views i e at ∙ sym first)
+      go (suc c) is some = advance_alone layers keys x n c leads is h.alone (λ i e at. h.views i e at ∙ sym first)
 
 -- the opening ledger of one node
 pub solo_at_start : (s : Settings) → IsSingle s → IsSoloLedger (layers_of s) (id_of s 1) (start_of s).opening
@@ -90,11 +91,11 @@ solo_at_start s h = record {
 }
   where
     signature : Entry
-    signature = signed_entry (layers_of s) (id_of s 1) 0 (genesis_entry (genesis_of s) ∷ []) first_view 2
+    signature = signed_entry (keys_of s) (id_of s 1) 0 (genesis_entry (genesis_of s) ∷ []) first_view 2
 
     first : configuration (layers_of s) (genesis_entry (genesis_of s) ∷ []) ≡ Some (id_of s 1 ∷ [])
     first =
-        nodes_configured (layers_of s) (genesis_of s) (id_of s 1) (group_founds s (single_group s h))
+        nodes_configured (layers_of s) (keys_of s) (genesis_of s) (id_of s 1) (group_founds s (single_group s h))
         ∙ ap (λ (nodes : List NewNode). Some (map node_id nodes)) (one_node s h)
 
     later : (k : ℕ) → configuration (layers_of s) (take (suc (suc k)) (start_of s).opening) ≡ None

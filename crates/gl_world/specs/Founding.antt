@@ -1,26 +1,71 @@
--- The genesis of a service of a schedule.
-use Rattle.std.specs.Prelude.{ℕ, zero, suc, List, [], ◌∷◌, Bool, map}
+-- The genesis of a service of a schedule, and the keys of its nodes.
+use Rattle.std.specs.Prelude.{ℕ, zero, suc, ◌+◌, ◌-◌, List, [], ◌∷◌, Some, Bool, map, find, unwrap_or}
 use Rattle.sha2.specs.Sha256.{sha256}
+use Rattle.gl_base.specs.Bytes.{same_bytes}
+use Rattle.gl_lms.specs.Tree.{signature_bytes}
+use Rattle.gl_lms.specs.Secrets.{PrivateKey}
+use Rattle.gl_lms.specs.Profile.{signature_by}
+use Rattle.gl_hss.specs.Signer.{Signer}
 use Rattle.gl_ledger.specs.Genesis.{node_id, are_distinct_bytes}
+use Rattle.gl_ledger.specs.NodeKeys.{NodeKeys}
 use Rattle.gl_ledger.specs.declared.genesis.NewNode.{NewNode}
 use Rattle.gl_ledger.specs.declared.genesis.NewMember.{NewMember}
 use Rattle.gl_ledger.specs.declared.genesis.ShareDigest.{ShareDigest}
 use Rattle.gl_ledger.specs.declared.genesis.Dealing.{Dealing}
 use Rattle.gl_ledger.specs.declared.genesis.Genesis as request
+use Rattle.gl_rules.specs.Identity.{NodeId}
 use Rattle.gl_world.specs.declared.settings.Settings.{Settings}
-use Rattle.gl_world.specs.Keys.{lms_key, hss_key, service_seed, node_seed, member_seed, recovery_secret}
+use Rattle.gl_world.specs.Keys.{private_key, lms_key, hss_key, service_seed, node_seed, member_seed, recovery_secret}
 
 -- The numbers from one on, so many of them.
 abbrev pub numbers_from : ℕ → ℕ → List ℕ
 numbers_from first zero = []
 numbers_from first (suc count) = first ∷ numbers_from (suc first) count
 
--- Node i of a schedule. Until keys sign, no key is endorsed.
+-- The LMS signature (RFC 8554, section 5.4) by a key, with one of its leaves, of a public key.
+abbrev pub endorsement_by : PrivateKey → ℕ → List ℕ → List ℕ
+endorsement_by k leaf key = signature_bytes k.types (signature_by k leaf key)
+
+-- The service's key endorses that of node i, with leaf i - 1.
+abbrev pub endorsement_of : Settings → ℕ → List ℕ
+endorsement_of s number =
+    endorsement_by (private_key (service_seed s)) (number - 1) (lms_key (node_seed s number))
+
+-- Node i of a schedule.
 abbrev pub node_of : Settings → ℕ → NewNode
-node_of s number = record { key = lms_key (node_seed s number); endorsement = [] }
+node_of s number = record {
+  key = lms_key (node_seed s number);
+  endorsement = endorsement_of s number;
+}
 
 abbrev pub id_of : Settings → ℕ → List ℕ
 id_of s number = node_id (node_of s number)
+
+-- The signer of node i: its key with its endorsement, no leaf of which is reserved or used.
+abbrev pub signer_of : Settings → ℕ → Signer
+signer_of s number = record {
+  key = private_key (node_seed s number);
+  endorsement = Some (endorsement_of s number);
+  reserved = 0;
+  used = 0;
+}
+
+-- The identifiers of the nodes that start and of those that join, in the order of their numbers.
+abbrev pub node_ids : Settings → List NodeId
+node_ids s = map (id_of s) (numbers_from 1 (s.starting + s.joiners))
+
+-- The number of the first node that has this identifier, of those that start or join; 1 if none has.
+abbrev pub number_of : Settings → NodeId → ℕ
+number_of s x =
+    unwrap_or (find (λ number. same_bytes (id_of s number) x)
+    (numbers_from 1 (s.starting + s.joiners))) 1
+
+-- The key and the endorsement of each node.
+abbrev pub keys_of : Settings → NodeKeys
+keys_of s = record {
+  key_of = λ x. private_key (node_seed s (number_of s x));
+  endorsement_of = λ x. endorsement_of s (number_of s x);
+}
 
 abbrev pub member_of : Settings → ℕ → NewMember
 member_of s number = record { number = number; key = hss_key 1 (member_seed s number) }

@@ -1,19 +1,26 @@
--- Keys and identifiers from seeds. The form of a key is that of RFC 8554; until the tree of a key
--- is there, the last field of an LMS key, its root T[1], is the digest of the seed.
-use Rattle.std.specs.Prelude.{ℕ, List, [], ◌∷◌, ◌++◌, codes, take}
+-- Keys from seeds. All have the types LMS_SHA256_M32_H5 and LMOTS_SHA256_N32_W4 (RFC 8554, sections
+-- 5.1 and 4.1).
+use Rattle.std.specs.Prelude.{ℕ, List, ◌++◌, codes}
 use Rattle.sha2.specs.Sha256.{sha256}
+use Rattle.gl_lms.specs.declared.types.Types.TheVariants.{H5W4}
+use Rattle.gl_lms.specs.Bytes.{u32str}
+use Rattle.gl_lms.specs.Tree.{key_bytes}
+use Rattle.gl_lms.specs.Secrets.{PrivateKey, public_of}
+use Rattle.gl_lms.specs.Profile.{key_of_seed}
 use Rattle.gl_base.specs.LittleEndian.{little_endian}
 use Rattle.gl_world.specs.declared.settings.Settings.{Settings}
 
--- An LMS public key (RFC 8554, section 5.3) of types LMS_SHA256_M32_H5 and LMOTS_SHA256_N32_W4:
--- both types, I and T[1].
+-- The key that grows from a seed.
+abbrev pub private_key : List ℕ → PrivateKey
+private_key seed = key_of_seed H5W4 seed
+
+-- Its LMS public key (RFC 8554, section 5.3).
 abbrev pub lms_key : List ℕ → List ℕ
-lms_key seed =
-    (0 ∷ 0 ∷ 0 ∷ 5 ∷ 0 ∷ 0 ∷ 0 ∷ 3 ∷ []) ++ take 16 (sha256 (codes "gl-id" ++ seed)) ++ sha256 seed
+lms_key seed = key_bytes (public_of (private_key seed))
 
 -- An HSS public key (RFC 8554, section 6.1): the number of levels, and the LMS key of the first.
 abbrev pub hss_key : ℕ → List ℕ → List ℕ
-hss_key levels seed = (0 ∷ 0 ∷ 0 ∷ levels ∷ []) ++ lms_key seed
+hss_key levels seed = u32str levels ++ lms_key seed
 
 abbrev pub service_seed : Settings → List ℕ
 service_seed s = sha256 (codes "svc" ++ s.seed)

@@ -1,80 +1,94 @@
-//! The genesis of a service of one node.
+//! The genesis of a service of one node, and who signs for that node.
 
 ghost use Rattle.std.specs.Prelude.{◌≡◌, ◌≤◌, ◌-◌, ◌^◌, suc, true, length, IfOk};
 ghost use Rattle.std.specs.List.{list_any};
+ghost use Rattle.sha2.specs.Sha256.{sha256};
 ghost use Rattle.gl_base.specs.Bytes.{same_bytes};
+ghost use Rattle.gl_lms.specs.Tree.{key_bytes};
+ghost use Rattle.gl_lms.specs.Secrets.{public_of};
 ghost use Rattle.gl_entry.specs.Entry.{body_bytes, body_limit};
 ghost use Rattle.gl_ledger.specs.Genesis.{is_acceptable, is_genesis, HaveShortEndorsements};
 ghost use Rattle.gl_ledger.specs.Ledger.{genesis_entry};
-ghost use Rattle.gl_world.specs.Keys.{recovery_secret};
-ghost use Rattle.gl_world.specs.Founding.{node_of, id_of, member_of, share_of, dealing_of, genesis_of, member_keys, has_distinct_keys};
+ghost use Rattle.gl_world.specs.Keys.{member_seed, recovery_secret};
+ghost use Rattle.gl_world.specs.Founding.{node_of, member_of, share_of, dealing_of, genesis_of, member_keys, signer_of, has_distinct_keys};
 ghost use Rattle.gl_world.specs.Single.{IsSingle};
 
-use crate::keys::{hss_key, lms_key, numbered_digest, word_digest};
+use crate::keys::{hss_key, numbered_digest, private_key, word_digest};
 use crate::settings::Settings;
 use gl_base::{Bytes, Sequence};
-use gl_entry::NodeId;
-use gl_ledger::{Dealing, Genesis, HssPublicKey, LmsPublicKey, NewMember, NewNode, ShareDigest};
+use gl_entry::{Digest as ByteDigest, NodeId};
+use gl_hss::{HssPublic, HssSigner, Levels};
+use gl_ledger::{Dealing, Genesis, HssPublicKey, NewMember, NewNode, ShareDigest};
+use gl_lms::identifier_of;
 use sha2::{Digest, Sha256};
 use std::alloc::{AllocError, Global};
 
-fn node_key(settings: &Settings, number: u8) -> LmsPublicKey
-    ensures { result ≡ (node_of settings.now number).key }
+fn member_seed(settings: &Settings, number: u8) -> ByteDigest
+    ensures { result ≡ member_seed settings.now number }
 {
-    lms_key(&numbered_digest(b"node", u32::from(number), &settings.seed))
+    numbered_digest(b"mem", u32::from(number), &settings.seed)
 }
 
-/// The identifier of the node with this number.
-pub fn node_id(settings: &Settings, number: u8) -> NodeId
-    ensures { result ≡ id_of settings.now number }
+fn member_key(alloc: Global, settings: &Settings, number: u8) -> Result<HssPublicKey, AllocError>
+    ensures { IfOk result (λ key. key ≡ (member_of settings.now number).key) }
 {
-    Sha256::digest(&node_key(settings, number))
+    hss_key(alloc, Levels::One, &member_seed(settings, number))
 }
 
-fn member_key(settings: &Settings, number: u8) -> HssPublicKey
-    ensures { result ≡ (member_of settings.now number).key }
+fn member(alloc: Global, settings: &Settings, number: u8) -> Result<NewMember, AllocError>
+    ensures { IfOk result (λ member. member ≡ member_of settings.now number) }
 {
-    hss_key(
-        1,
-        &numbered_digest(b"mem", u32::from(number), &settings.seed),
-    )
-}
-
-fn member(settings: &Settings, number: u8) -> NewMember
-    ensures { result ≡ member_of settings.now number }
-{
-    NewMember {
+    Ok(NewMember {
         number,
-        key: member_key(settings, number),
+        key: member_key(alloc, settings, number)?,
+    })
+}
+
+/// Whether two members have one key. A key tells the digest I of its seed, so no tree is grown where
+/// these differ.
+fn have_one_key(
+    alloc: Global,
+    settings: &Settings,
+    number: u8,
+    other: u8,
+) -> Result<bool, AllocError>
+    ensures { IfOk result (λ same. same
+        ≡ same_bytes (member_of settings.now number).key (member_of settings.now other).key) }
+{
+    if identifier_of(&member_seed(settings, number))
+        != identifier_of(&member_seed(settings, other))
+    {
+        return Ok(false);
     }
+    Ok(member_key(alloc, settings, number)? == member_key(alloc, settings, other)?)
 }
 
 /// Whether a member behind this one has its key.
-fn is_key_repeated(settings: &Settings, number: u8) -> bool
+fn is_key_repeated(alloc: Global, settings: &Settings, number: u8) -> Result<bool, AllocError>
     requires { number ≤ settings.now.members }
-    ensures { result ≡ list_any (same_bytes (member_of settings.now number).key)
-        (member_keys settings.now (suc number) (settings.now.members - number)) }
+    ensures { IfOk result (λ repeated. repeated
+        ≡ list_any (same_bytes (member_of settings.now number).key)
+        (member_keys settings.now (suc number) (settings.now.members - number))) }
 {
-    let key = member_key(settings, number);
     for i in number..settings.members {
-        if key == member_key(settings, i + 1) {
-            return true;
+        if have_one_key(alloc, settings, number, i + 1)? {
+            return Ok(true);
         }
     }
-    false
+    Ok(false)
 }
 
-/// Whether no two members have one key. Each member's key is compared with those of all behind it,
-/// and none is kept, so this takes time that grows with the square of their count.
-pub fn has_distinct_keys(settings: &Settings) -> bool
-    ensures { result ≡ has_distinct_keys settings.now }
+/// Whether no two members have one key. Each member is compared with all behind it, which takes four
+/// digests each time, and memory only where the identifiers I of two keys are the same.
+pub fn has_distinct_keys(alloc: Global, settings: &Settings) -> Result<bool, AllocError>
+    ensures { IfOk result (λ distinct. distinct ≡ has_distinct_keys settings.now) }
 {
     for i in 0..settings.members {
-        if is_key_repeated(settings, i + 1) {
-            return false;
+        if is_key_repeated(alloc, settings, i + 1)? {
+            return Ok(false);
         }
     }
-    true
+    Ok(true)
 }
 
 /// The members, numbered from 1.
@@ -83,7 +97,7 @@ fn members(alloc: Global, settings: &Settings) -> Result<Sequence<NewMember>, Al
 {
     let mut members = Vec::new(alloc);
     for i in 0..settings.members {
-        members.push(member(settings, i + 1))?;
+        members.push(member(alloc, settings, i + 1)?)?;
     }
     Ok(Sequence::from(members))
 }
@@ -108,26 +122,69 @@ fn dealing(alloc: Global, settings: &Settings) -> Result<Dealing, AllocError>
     })
 }
 
-/// The genesis of a service of one node and 1 to 64 members. It is acceptable, and fits its format.
-pub fn genesis(alloc: Global, settings: &Settings) -> Result<Genesis, AllocError>
-    requires { IsSingle settings.now }
-    ensures value { IfOk result (λ genesis. genesis ≡ genesis_of settings.now) }
-    ensures acceptable { IfOk result (λ genesis. is_acceptable genesis ≡ true) }
-    ensures fits { IfOk result (λ genesis. is_genesis genesis ≡ true) }
-    ensures endorsements { IfOk result (λ genesis. HaveShortEndorsements genesis.nodes) }
-    ensures small { IfOk result (λ genesis.
-        length (body_bytes (genesis_entry genesis)) ≤ body_limit) }
+/// The genesis of a service of one node, with the service's key and this node.
+fn genesis(
+    alloc: Global,
+    settings: &Settings,
+    identity: HssPublicKey,
+    node: NewNode,
+) -> Result<Genesis, AllocError>
+    requires single { IsSingle settings.now }
+    requires identity { identity ≡ (genesis_of settings.now).identity }
+    requires node { node ≡ node_of settings.now 1 }
+    ensures { IfOk result (λ genesis. genesis ≡ genesis_of settings.now) }
 {
     let mut nodes = Vec::new(alloc);
-    nodes.push(NewNode {
-        key: node_key(settings, 1),
-        endorsement: Bytes::from(Vec::new(alloc)),
-    })?;
+    nodes.push(node)?;
     Ok(Genesis {
         state: settings.state,
-        identity: hss_key(2, &word_digest(b"svc", &settings.seed)),
+        identity,
         nodes: Sequence::from(nodes),
         members: members(alloc, settings)?,
         dealing: dealing(alloc, settings)?,
     })
+}
+
+/// What a service of one node begins with. Making it grows the tree of each key once: those of the
+/// service, of the node and of the members.
+#[derive(Drop)]
+pub struct Founding {
+    /// The request that founds the service.
+    pub genesis: Genesis,
+    /// Signs for node 1, with its endorsement. No leaf is reserved yet.
+    pub signer: HssSigner,
+}
+
+impl Founding {
+    /// Founds a service of one node and 1 to 64 members. The genesis is acceptable, and fits its
+    /// format.
+    pub fn make(alloc: Global, settings: &Settings) -> Result<Founding, AllocError>
+        requires { IsSingle settings.now }
+        ensures genesis { IfOk result (λ f. f.genesis ≡ genesis_of settings.now) }
+        ensures signer { IfOk result (λ f. f.signer ≡ signer_of settings.now 1) }
+        ensures acceptable { IfOk result (λ f. is_acceptable f.genesis ≡ true) }
+        ensures fits { IfOk result (λ f. is_genesis f.genesis ≡ true) }
+        ensures endorsements { IfOk result (λ f. HaveShortEndorsements f.genesis.nodes) }
+        ensures small { IfOk result (λ f.
+            length (body_bytes (genesis_entry f.genesis)) ≤ body_limit) }
+    {
+        let service = private_key(alloc, &word_digest(b"svc", &settings.seed))?;
+        let key = private_key(alloc, &numbered_digest(b"node", 1, &settings.seed))?;
+        let endorsement = service.sign_leaf(0, &key.public())?;
+        let node = NewNode {
+            key: key.public(),
+            endorsement: Bytes::from(Vec::from_slice(alloc, &endorsement)?),
+        };
+        Ok(Founding {
+            genesis: genesis(alloc, settings, service.hss_public(Levels::Two), node)?,
+            signer: HssSigner::new(key, Some(endorsement), 0),
+        })
+    }
+
+    /// The identifier of node 1: the digest of its key.
+    pub fn node_id(&self) -> NodeId
+        ensures { result ≡ sha256 (key_bytes (public_of self.now.signer.key)) }
+    {
+        Sha256::digest(&self.signer.key().public())
+    }
 }

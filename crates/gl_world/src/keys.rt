@@ -1,16 +1,16 @@
-//! Keys and identifiers from seeds.
+//! Keys and digests from seeds.
 
-ghost use Rattle.std.specs.Prelude.{◌≡◌, ◌++◌, ◌≤◌, codes, take};
+ghost use Rattle.std.specs.Prelude.{◌≡◌, ◌++◌, codes, IfOk};
 ghost use Rattle.sha2.specs.Sha256.{sha256};
 ghost use Rattle.gl_base.specs.LittleEndian.{little_endian};
-ghost use Rattle.gl_world.specs.Keys.{lms_key, hss_key};
+ghost use Rattle.gl_hss.specs.Levels.{level_count};
+ghost use Rattle.gl_world.specs.Keys.{private_key, hss_key};
 
 use gl_entry::Digest;
-use gl_ledger::{HssPublicKey, LmsPublicKey};
+use gl_hss::{HssPublic, Levels, LmsKey, Types};
+use gl_ledger::HssPublicKey;
 use sha2::{Digest as _, Sha256};
-
-/// LMS_SHA256_M32_H5 and LMOTS_SHA256_N32_W4 (RFC 8554, sections 5.1 and 4.1), four bytes each.
-const TYPES: [u8; 8] = [0, 0, 0, 5, 0, 0, 0, 3];
+use std::alloc::{AllocError, Global};
 
 /// The digest of a word and a seed.
 pub fn word_digest(word: &[u8], seed: &[u8]) -> Digest
@@ -34,25 +34,16 @@ pub fn numbered_digest(word: &[u8], number: u32, seed: &[u8]) -> Digest
     hasher.finalize()
 }
 
-/// The LMS key of a seed.
-pub fn lms_key(seed: &Digest) -> LmsPublicKey
-    ensures { result ≡ lms_key seed.now }
+/// The key that grows from a seed. Its tree takes some 35,000 digests.
+pub fn private_key(alloc: Global, seed: &Digest) -> Result<LmsKey, AllocError>
+    ensures { IfOk result (λ key. key ≡ private_key seed.now) }
 {
-    let identifier = word_digest(b"gl-id", seed);
-    let root = Sha256::digest(seed);
-    let mut key = [0; 56];
-    key[..8].copy_from_slice(&TYPES);
-    key[8..24].copy_from_slice(&identifier[..16]);
-    key[24..].copy_from_slice(&root);
-    key
+    LmsKey::make(alloc, *seed, Types::H5W4)
 }
 
 /// The HSS key of a seed, with so many levels.
-pub fn hss_key(levels: u8, seed: &Digest) -> HssPublicKey
-    ensures { result ≡ hss_key levels seed.now }
+pub fn hss_key(alloc: Global, levels: Levels, seed: &Digest) -> Result<HssPublicKey, AllocError>
+    ensures { IfOk result (λ key. key ≡ hss_key (level_count levels) seed.now) }
 {
-    let mut key = [0; 60];
-    key[3] = levels;
-    key[4..].copy_from_slice(&lms_key(seed));
-    key
+    Ok(private_key(alloc, seed)?.hss_public(levels))
 }

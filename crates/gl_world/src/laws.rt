@@ -1,14 +1,16 @@
 //! What is promised of a service of any number of nodes: laws, and no code.
 
-ghost use Rattle.std.specs.Prelude.{◌≡◌, ℕ, List};
+ghost use Rattle.std.specs.Prelude.{◌≡◌, ◌<◌, ℕ, List};
 ghost use Rattle.gl_rules.specs.Identity.{NodeId};
 ghost use Rattle.gl_rules.specs.Safety.{EachFollows, IsOpening, NeverConflicts};
 ghost use Rattle.gl_tx.specs.declared.request.Operation.{Operation};
 ghost use Rattle.gl_ledger.specs.declared.genesis.GovernanceRequest.{GovernanceRequest};
 ghost use Rattle.gl_ledger.specs.declared.genesis.ServiceState.{ServiceState};
 ghost use Rattle.gl_ledger.specs.Makers.{govern_result, request_result, signing_result};
-ghost use Rattle.gl_ledger.specs.Services.{Begins, Leads, ServiceEvent, node_of};
+ghost use Rattle.gl_ledger.specs.Opening.{Begins};
+ghost use Rattle.gl_service.specs.Service.{Leads, ServiceEvent, node_of};
 ghost use Rattle.gl_world.specs.declared.settings.Settings.{Settings};
+ghost use Rattle.gl_world.specs.Founding.{keys_of};
 ghost use Rattle.gl_world.specs.Group.{IsGroup, book_of, layers_of};
 ghost use Rattle.gl_world.specs.Headline.{Headline};
 ghost use Rattle.gl_world.specs.World.{start_of};
@@ -27,21 +29,21 @@ pub fn is_safe()
         IsGroup (record { starting = 1; joiners = 0; members = 1; state = state; seed = seed }) }
 {}
 
-/// A leader of such a service refuses no request, and no signature, for a rule of the audit, whatever
-/// happened before.
+/// A leader of such a service refuses no request, and no signature with a leaf that its key has, for
+/// a rule of the audit, whatever happened before.
 pub fn is_unguarded()
     ensures executes { (s : Settings) → IsGroup s → (events : List ServiceEvent) (x : NodeId) →
-        Leads (layers_of s) (start_of s) events x → (request : List Operation) →
-        let n = node_of (layers_of s) (start_of s) events x in
+        Leads (layers_of s) (keys_of s) (start_of s) events x → (request : List Operation) →
+        let n = node_of (layers_of s) (keys_of s) (start_of s) events x in
         (book_of s).execute n.log n.view request ≡ request_result n.log n.view request }
     ensures governs { (s : Settings) → IsGroup s → (events : List ServiceEvent) (x : NodeId) →
-        Leads (layers_of s) (start_of s) events x → (request : GovernanceRequest) →
-        let n = node_of (layers_of s) (start_of s) events x in
+        Leads (layers_of s) (keys_of s) (start_of s) events x → (request : GovernanceRequest) →
+        let n = node_of (layers_of s) (keys_of s) (start_of s) events x in
         (book_of s).govern n.log n.view request
         ≡ govern_result (layers_of s) n.log n.view request }
     ensures signs { (s : Settings) → IsGroup s → (events : List ServiceEvent) (x : NodeId) →
-        Leads (layers_of s) (start_of s) events x → (leaf : ℕ) →
-        let n = node_of (layers_of s) (start_of s) events x in
+        Leads (layers_of s) (keys_of s) (start_of s) events x → (leaf : ℕ) → leaf < (book_of s).leaves x →
+        let n = node_of (layers_of s) (keys_of s) (start_of s) events x in
         (book_of s).sign x leaf n.log n.view n.commit
-        ≡ signing_result (layers_of s) x leaf n.log n.view n.commit }
+        ≡ signing_result (keys_of s) x leaf n.log n.view n.commit }
 {}

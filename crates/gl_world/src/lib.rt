@@ -6,7 +6,7 @@ mod keys;
 mod laws;
 mod settings;
 
-pub use founding::{genesis, has_distinct_keys, node_id};
+pub use founding::{Founding, has_distinct_keys};
 pub use laws::{is_safe, is_unguarded};
 pub use settings::Settings;
 

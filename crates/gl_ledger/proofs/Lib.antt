@@ -32,3 +32,6 @@ pub mod Making
 pub mod ViewLimits
 pub mod Leading
 pub mod NodeSignatures
+pub mod FieldReadings
+pub mod PartReadings
+pub mod GovernanceReadings

@@ -16,7 +16,7 @@ use Rattle.gl_ledger.proofs.WriteSets.{set_from-append}
 endorsements_within : (nodes : List NewNode) → list_all is_node nodes ≡ true → AllByRecursion (λ (n : NewNode). length n.endorsement < 2 ^ 32) nodes
 endorsements_within [] all = tt
 endorsements_within (n ∷ ns) all =
-    let both = and_parts (is_node n) (list_all is_node ns) all in ((node_fields n both.0).few, endorsements_within ns both.1)
+    let both = and_parts (is_node n) (list_all is_node ns) all in (omega (arith, (node_fields n both.0).within), endorsements_within ns both.1)
 
 -- each endorsement of a genesis in its ranges has a length of four bytes
 pub endorsements_of : (g : request.Genesis) → is_genesis g ≡ true → AllByRecursion (λ (n : NewNode). length n.endorsement < 2 ^ 32) g.nodes

@@ -1,9 +1,9 @@
 -- The parts of what a genesis in its ranges, and an acceptable one, are tested for.
-use Rattle.std.proofs.Common.{◌≡◌, ℕ, ◌<◌, ◌≤◌, ◌^◌, nat_lt, nat_le, List, length, map, Bool, true, ◌&&◌, ◌==◌, arith}
+use Rattle.std.proofs.Common.{◌≡◌, ℕ, ◌<◌, ◌≤◌, nat_lt, nat_le, List, length, map, Bool, true, ◌&&◌, ◌==◌, arith}
 use Rattle.std.specs.List.{list_all}
 use Rattle.std.proofs.lemmas.Bool.{and_parts}
 use Rattle.std.proofs.lemmas.Bool.Decides.{nat_tests}
-use Rattle.gl_base.specs.Bytes.{is_byte, are_bytes}
+use Rattle.gl_base.specs.Bytes.{is_byte, are_bytes, mebibyte}
 use Rattle.gl_entry.specs.Entry.{are_sized, is_digest}
 use Rattle.gl_ledger.specs.Genesis.{node_id, is_node, is_member_number, is_member, is_share, is_dealing, is_genesis, are_nodes, are_members, numbers_of, is_dealing_among, are_distinct_bytes, is_acceptable}
 use Rattle.gl_ledger.specs.declared.genesis.NewNode.{NewNode}
@@ -21,17 +21,17 @@ pub record NodeFields (n : NewNode) : Type 0 where
   pub key : are_bytes n.key ≡ true
   pub long : length n.key ≡ 56
   pub endorsement : are_bytes n.endorsement ≡ true
-  pub few : length n.endorsement < 2 ^ 32
+  pub within : length n.endorsement ≤ mebibyte
 
 pub node_fields : (n : NewNode) → is_node n ≡ true → NodeFields n
 node_fields n h =
-    let a = and_parts (are_sized 56 n.key && are_bytes n.endorsement) (nat_lt (length n.endorsement) (2 ^ 32)) h in
+    let a = and_parts (are_sized 56 n.key && are_bytes n.endorsement) (nat_le (length n.endorsement) mebibyte) h in
     let b = and_parts (are_sized 56 n.key) (are_bytes n.endorsement) a.0 in
     record {
       key = sized_bytes 56 n.key b.0;
       long = sized_length 56 n.key b.0;
       endorsement = b.1;
-      few = grind (arith, nat_tests, a.1);
+      within = grind (arith, nat_tests, a.1);
     }
 
 -- the number of a member is a byte

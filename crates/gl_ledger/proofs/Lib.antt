@@ -32,3 +32,6 @@ pub mod Making
 pub mod Signing
 pub mod NodeSignatures
 pub mod Founded
+pub mod FieldReadings
+pub mod PartReadings
+pub mod GovernanceReadings

@@ -3,7 +3,7 @@ use Rattle.std.specs.Prelude.{ℕ, suc, ◌^◌, ◌≤◌, List, [], ◌∷◌,
 use Rattle.std.specs.List.{flat_map, list_all, list_any, AllByRecursion}
 use Rattle.sha2.specs.Sha256.{sha256}
 use Rattle.gl_base.specs.LittleEndian.{little_endian}
-use Rattle.gl_base.specs.Bytes.{is_byte, are_bytes, same_bytes}
+use Rattle.gl_base.specs.Bytes.{is_byte, are_bytes, same_bytes, mebibyte}
 use Rattle.gl_base.specs.Field.{with_u32_length}
 use Rattle.gl_vmaps.specs.Writes.{with_write}
 use Rattle.gl_vmaps.specs.declared.write.Write.{Write}
@@ -62,8 +62,10 @@ governance_bytes (requests.Genesis g) = genesis_bytes g
 
 -- Which values have bytes
 
+-- A node: an endorsement has 1 MiB at most.
 abbrev pub is_node : NewNode → Bool
-is_node n = are_sized 56 n.key && are_bytes n.endorsement && nat_lt (length n.endorsement) (2 ^ 32)
+is_node n =
+    are_sized 56 n.key && are_bytes n.endorsement && nat_le (length n.endorsement) mebibyte
 
 -- The number of a member, from 1 to 255.
 abbrev pub is_member_number : ℕ → Bool

@@ -1,4 +1,5 @@
 pub mod Genesis
+pub mod Reading
 pub mod Effect
 pub mod Tree
 pub mod Serial

@@ -10,6 +10,9 @@ ghost use Rattle.gl_rules.specs.Safety.{EachFollows, IsLawful, IsOpening, IsReti
 ghost use Rattle.gl_rules.specs.World.{Start};
 ghost use Rattle.gl_ledger.specs.Genesis.{are_distinct_bytes, node_id, node_row, nodes_map};
 ghost use Rattle.gl_ledger.specs.Effect.{identity_in};
+ghost use Rattle.gl_base.specs.Bytes.{are_bytes};
+ghost use Rattle.gl_ledger.specs.Genesis.{governance_bytes, is_governance_request};
+ghost use Rattle.gl_ledger.specs.Reading.{request_in};
 ghost use Rattle.gl_ledger.specs.Tree.{tables_of};
 ghost use Rattle.gl_ledger.specs.Ledger.{genesis_entry};
 ghost use Rattle.gl_ledger.specs.declared.genesis.Genesis.{Genesis};
@@ -31,6 +34,16 @@ pub fn is_lawful()
         IsLawful (ledger_book layers keys) (EachFollows (ledger_book layers keys)) }
     ensures retiring { (layers : Layers) (keys : NodeKeys) →
         IsRetiring (ledger_book layers keys) (EachFollows (ledger_book layers keys)) }
+{}
+
+/// The bytes of a request of governance whose fields are in their ranges are read as that request,
+/// and bytes that are read as a request are the bytes of it, and its fields are in their ranges.
+pub fn is_read()
+    ensures round_trip { (g : GovernanceRequest) → is_governance_request g ≡ true →
+        request_in (governance_bytes g) ≡ Some g }
+    ensures only { (bytes : List ℕ) (g : GovernanceRequest) → are_bytes bytes ≡ true →
+        request_in bytes ≡ Some g →
+        (is_governance_request g ≡ true) × (bytes ≡ governance_bytes g) }
 {}
 
 /// An entry that breaks no rule of the audit keeps a ledger sound.

@@ -6,6 +6,7 @@
 #![tactic(auto)]
 
 mod breach;
+mod decode;
 mod encode;
 mod genesis;
 mod laws;
@@ -18,7 +19,7 @@ pub use genesis::{
     Dealing, Genesis, GovernanceRequest, HssPublicKey, LmsPublicKey, NewMember, NewNode,
     ServiceState, ShareDigest,
 };
-pub use laws::{is_audited, is_kept_sound, is_lawful, is_opened, is_signed, is_unguarded};
+pub use laws::{is_audited, is_kept_sound, is_lawful, is_opened, is_read, is_signed, is_unguarded};
 pub use refusal::Refusal;
 pub use rows::genesis_writes;
 

@@ -1,5 +1,5 @@
 -- The machine's steps are those of the rules.
-use Rattle.std.proofs.Common.{◌≡◌, ⊎_elim, ℕ, zero, suc, ◌+◌, ◌^◌, ◌<◌, ◌≤◌, List, [], ◌∷◌, ◌++◌, length, Option, Some, None, Result, Err, Bool, true, false, ◌==◌, nat_lt, nat_le, if◌then◌else◌, refl, sym, ◌∙◌, ap, subst, arith}
+use Rattle.std.proofs.Common.{◌≡◌, ⊎_elim, ℕ, zero, suc, ◌+◌, ◌^◌, ◌<◌, ◌≤◌, List, [], ◌∷◌, ◌++◌, length, Option, Some, None, Result, Ok, Err, IsErr, OnOk, IfSome, ◌↔◌, Bool, true, false, ◌==◌, nat_lt, nat_le, if◌then◌else◌, refl, sym, ◌∙◌, ap, subst, arith}
 use Rattle.std.proofs.lemmas.Bool.Decides.{nat_tests}
 use Rattle.std.proofs.lemmas.Bool.{cases_lt}
 use Rattle.std.proofs.Math.Bool.{and-true}
@@ -8,6 +8,7 @@ use Rattle.gl_base.specs.declared.tx_id.TxId.{TxId}
 use Rattle.gl_lms.specs.Types.{height}
 use Rattle.gl_lms.specs.Secrets.{PrivateKey}
 use Rattle.gl_hss.specs.Signer.{Signer, hss_signature}
+use Rattle.gl_hss.specs.declared.signer.KeyExhausted.{KeyExhausted}
 use Rattle.gl_rules.specs.Identity.{NodeId, member}
 use Rattle.gl_rules.specs.Node.{Node, Leader}
 use Rattle.gl_rules.specs.Outcome.{Step, quiet, refuse, idle, KeyExhausted, NotReserved, NothingToSign, ByLedger}
@@ -25,7 +26,7 @@ use Rattle.gl_tx.specs.declared.request.Operation.{Operation}
 use Rattle.gl_tx.specs.declared.request.Answer.{Answer}
 use Rattle.gl_ledger.specs.Broken.{last_signed}
 use Rattle.gl_ledger.specs.Ledger.{HasViewsUpTo, message_behind, sign_result}
-use Rattle.gl_ledger.specs.NodeKeys.{leaf_count}
+use Rattle.gl_ledger.specs.NodeKeys.{service_layers, leaf_count}
 use Rattle.gl_ledger.specs.Makers.{Given, Replied, Unmade, ByStore, by_store, request_result, signing_result, opening_of}
 use Rattle.gl_service.specs.Service.{ServiceEvent}
 use Rattle.gl_ledger.specs.Signed.{IsSignedAt}
@@ -35,14 +36,16 @@ use Rattle.gl_ledger.proofs.Following.{book_sign_ok}
 use Rattle.gl_ledger.proofs.Growth.{IsNoGovernance}
 use Rattle.gl_ledger.proofs.Signatures.{last_is_signed, signed_at_last, last_if_signed}
 use Rattle.gl_store.specs.Kept.{Held}
-use Rattle.gl_store.specs.Calls.{Executes, Signs, signature_of}
+use Rattle.gl_store.specs.Calls.{Executes, Signs, IsReady, signature_of}
 use Rattle.gl_world.specs.declared.settings.Settings.{Settings}
-use Rattle.gl_world.specs.Founding.{id_of, genesis_of, keys_of}
-use Rattle.gl_world.specs.Group.{layers_of, book_of}
+use Rattle.gl_world.specs.Keys.{private_key, node_seed}
+use Rattle.gl_world.specs.Founding.{id_of, genesis_of, keys_of, endorsement_of, signer_of, number_of}
+use Rattle.gl_world.specs.Group.{book_of}
 use Rattle.gl_world.specs.Single.{IsSingle}
 use Rattle.gl_world.specs.Solo.{IsSoloLedger}
 use Rattle.gl_world.specs.World.{ServiceWorld, start_of}
 use Rattle.gl_world.proofs.Acceptable.{single_group}
+use Rattle.gl_world.proofs.Endorsements.{length-endorsement_of, numbered}
 use Rattle.gl_world.proofs.Groups.{group_executes, group_signs}
 use Rattle.gl_world.proofs.Ids.{same_itself}
 use Rattle.gl_world.proofs.Solo.{advance-is, solo-push, solo_at_start}
@@ -71,7 +74,7 @@ node_then s events e x rule n m o happened is step =
 goes_on : (m : Machine) (st : Held) (signer : Signer) (e : ServiceEvent) (rule : Node Entry → ServiceStep) (o : outcome.Outcome Given Unmade) → IsMachine m →
     ((w : ServiceWorld) → happens (book_of m.settings) w e ≡ at w m.id (rule (w.nodes m.id))) →
     (let new : Machine = record m { store = st; signer = signer } in rule (node_in m) ≡ quiet (node_in new) o) →
-    IsSoloLedger (layers_of m.settings) m.id st.ledger → 2 ≤ st.commit → IsSignerOf m.settings m.id signer → GoesOn m (record m { store = st; signer = signer })
+    IsSoloLedger service_layers m.id st.ledger → 2 ≤ st.commit → IsSignerOf m.settings m.id signer → GoesOn m (record m { store = st; signer = signer })
 goes_on m st signer e rule o h happened step ledger opened signs = record {
   machine = record {
     single = h.single;
@@ -113,10 +116,52 @@ begins m single named is signs =
       reached = ap (λ (x : NodeId). (begin (start_of s)).nodes x) named
           ∙ ap (λ (b : Bool). if b then leader_at_start (start_of s) else (if member (id_of s 1) (start_of s).starting then starter (start_of s) else joiner)) (same_itself (id_of s 1))
           ∙ sym is;
-      ledger = subst (λ (x : NodeId). IsSoloLedger (layers_of s) x m.store.ledger) (sym named)
-          (subst (λ (l : List Entry). IsSoloLedger (layers_of s) (id_of s 1) l) (sym (ap (λ (n : Node Entry). n.log) is)) (solo_at_start s single));
+      ledger = subst (λ (x : NodeId). IsSoloLedger service_layers x m.store.ledger) (sym named)
+          (subst (λ (l : List Entry). IsSoloLedger service_layers (id_of s 1) l) (sym (ap (λ (n : Node Entry). n.log) is)) (solo_at_start s single));
       opened = omega (arith, commit);
       signer = signs;
+    }
+
+-- ---- its signer
+
+-- the one node has number 1
+one_numbered : (s : Settings) → IsSingle s → (x : NodeId) → x ≡ id_of s 1 → number_of s x ≡ 1
+one_numbered s h x is =
+    let n = numbered s 1 (omega arith) (omega (arith, h.starting)) in
+    ap (number_of s) is ∙ omega (arith, n.low, n.high, h.starting, h.joiners)
+
+-- the signer of a new service, once its first leaf has signed the opening
+pub first_signer : Settings → Signer
+first_signer s = record (signer_of s 1) { reserved = 1; used = 1 }
+
+pub first_signs : (s : Settings) → IsSingle s → (x : NodeId) → x ≡ id_of s 1 → (signer : Signer) → signer ≡ first_signer s → IsSignerOf s x signer
+unfolding first_signer
+first_signs s h x is signer same =
+    let one = one_numbered s h x is in
+    subst (IsSignerOf s x) (sym same) (record {
+      key = ap (λ (n : ℕ). private_key (node_seed s n)) (sym one);
+      endorsement = ap (λ (n : ℕ). Some (endorsement_of s n)) (sym one);
+      used = omega arith;
+      reserved = omega arith;
+    })
+
+-- a new key has a leaf to reserve
+pub first_reserved : (s : Settings) (signer reserved : Signer) (r : Result ℕ KeyExhausted) → signer ≡ signer_of s 1 → (IsErr r ↔ signer.reserved ≡ 2 ^ height signer.key.types) →
+    OnOk r (reserved ≡ record signer { reserved = signer.reserved + 1 }) → reserved ≡ record (signer_of s 1) { reserved = 1 }
+first_reserved s signer reserved (Ok n) new full more = more ∙ ap (λ (k : Signer). record k { reserved = k.reserved + 1 }) new
+first_reserved s signer reserved (Err e) new full more =
+    let none : signer.reserved ≡ 0 = ap (λ (k : Signer). k.reserved) new in
+    let all : 2 ^ height signer.key.types ≡ 32 = ap (λ (k : Signer). 2 ^ height k.key.types) new in
+    absurd (omega (arith, full.0 tt, none, all))
+
+-- it is ready to sign where a reserved leaf is left
+pub ready : (m : Machine) → IsMachine m → m.signer.used < m.signer.reserved → IsReady m.signer
+ready m h left =
+    let one = one_numbered m.settings h.single m.id h.named in
+    let long = length-endorsement_of m.settings (number_of m.settings m.id) (omega (arith, one), omega (arith, one)) in
+    record {
+      reserved = left;
+      endorsement = subst (λ (o : Option (List ℕ)). IfSome o (λ (bytes : List ℕ). length bytes ≤ 2 ^ 15)) (sym h.signer.endorsement) (omega (arith, long));
     }
 
 -- what the book of the service makes at the machine is not guarded
@@ -209,7 +254,7 @@ reserve_goes m h free =
 
 advance-at : (m : Machine) → IsMachine m → advance (book_of m.settings) m.id (node_in m)
     ≡ commit_to (book_of m.settings) (node_in m) (if nat_lt m.store.commit (last_signed m.store.ledger) then Some (last_signed m.store.ledger) else None)
-advance-at m h = advance-is (layers_of m.settings) m.id (node_in m) refl refl h.opened h.ledger
+advance-at m h = advance-is service_layers m.id (node_in m) refl refl h.opened h.ledger
 
 pub advance_idle : (m : Machine) → IsMachine m → last_signed m.store.ledger ≤ m.store.commit → advance (book_of m.settings) m.id (node_in m) ≡ idle (node_in m)
 advance_idle m h below =
@@ -260,13 +305,13 @@ submit_accepted m st q id reply h ran =
     ∙ ap (λ (n : Node Entry). quiet {E = Entry} {A = Given} {F = Unmade} n (outcome.Accepted 2 (length m.store.ledger + 1) (Replied reply))) node
     ∙ ap (λ (t : TxId). quiet {E = Entry} {A = Given} {F = Unmade} (node_in new) (outcome.Accepted t.view t.seqno (Replied reply))) (sym ran.enters.named) in
     let quiet_one : IsNoGovernance ran.entry.content = subst (λ (e : Entry). IsNoGovernance e.content) (sym made.3) tt in
-    let ledger : IsSoloLedger (layers_of m.settings) m.id st.ledger = subst (λ (x : Held). IsSoloLedger (layers_of m.settings) m.id x.ledger) (sym ran.enters.entered)
-    (solo-push (layers_of m.settings) m.id m.store.ledger ran.entry h.ledger view quiet_one) in
+    let ledger : IsSoloLedger service_layers m.id st.ledger = subst (λ (x : Held). IsSoloLedger service_layers m.id x.ledger) (sym ran.enters.entered)
+    (solo-push service_layers m.id m.store.ledger ran.entry h.ledger view quiet_one) in
     let opened : 2 ≤ st.commit = subst (λ (x : Held). 2 ≤ x.commit) (sym ran.enters.entered) h.opened in
     (is, goes_on m st m.signer (event.Submit m.id q) (submit (book_of m.settings) q) _ h (submitted m.settings m.id q) is ledger opened h.signer)
 
-same_ledger : (m : Machine) (st : Held) → IsMachine m → st ≡ m.store → IsSoloLedger (layers_of m.settings) m.id st.ledger
-same_ledger m st h same = subst (λ (x : Held). IsSoloLedger (layers_of m.settings) m.id x.ledger) (sym same) h.ledger
+same_ledger : (m : Machine) (st : Held) → IsMachine m → st ≡ m.store → IsSoloLedger service_layers m.id st.ledger
+same_ledger m st h same = subst (λ (x : Held). IsSoloLedger service_layers m.id x.ledger) (sym same) h.ledger
 
 same_opened : (m : Machine) (st : Held) → IsMachine m → st ≡ m.store → 2 ≤ st.commit
 same_opened m st h same = subst (λ (x : Held). 2 ≤ x.commit) (sym same) h.opened
@@ -357,8 +402,8 @@ sign_signs m st id h free other s =
     ∙ ap (λ (x : Held). quiet {E = Entry} {A = Given} {F = Unmade} (node_in (record m { store = x; signer = spent })) (outcome.Signed 2 (length m.store.ledger + 1))) (sym s.enters.entered)
     ∙ ap (λ (t : TxId). quiet {E = Entry} {A = Given} {F = Unmade} (node_in new) (outcome.Signed t.view t.seqno)) (sym s.enters.named) in
     let quiet_one : IsNoGovernance s.entry.content = subst (λ (e : Entry). IsNoGovernance e.content) (sym made) tt in
-    let ledger : IsSoloLedger (layers_of m.settings) m.id st.ledger = subst (λ (x : Held). IsSoloLedger (layers_of m.settings) m.id x.ledger) (sym s.enters.entered)
-    (solo-push (layers_of m.settings) m.id m.store.ledger s.entry h.ledger view quiet_one) in
+    let ledger : IsSoloLedger service_layers m.id st.ledger = subst (λ (x : Held). IsSoloLedger service_layers m.id x.ledger) (sym s.enters.entered)
+    (solo-push service_layers m.id m.store.ledger s.entry h.ledger view quiet_one) in
     let opened : 2 ≤ st.commit = subst (λ (x : Held). 2 ≤ x.commit) (sym s.enters.entered) h.opened in
     (is, goes_on m st spent (event.Sign m.id) (sign (book_of m.settings) m.id) _ h (signed m.settings m.id) is ledger opened
     (record { key = h.signer.key; endorsement = h.signer.endorsement; used = left; reserved = h.signer.reserved }))

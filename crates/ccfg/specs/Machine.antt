@@ -9,12 +9,12 @@ use Rattle.gl_rules.specs.Safety.{node_after}
 use Rattle.gl_entry.specs.declared.entry.Entry.{Entry}
 use Rattle.gl_world.specs.declared.settings.Settings.{Settings}
 use Rattle.gl_world.specs.Founding.{id_of, keys_of}
-use Rattle.gl_world.specs.Group.{layers_of, book_of}
+use Rattle.gl_world.specs.Group.{book_of}
 use Rattle.gl_world.specs.Single.{IsSingle}
 use Rattle.gl_world.specs.Solo.{IsSoloLedger}
 use Rattle.gl_world.specs.World.{ServiceOutcome, start_of}
 use Rattle.gl_ledger.specs.Makers.{Given, Replied, Unmade, ByStore}
-use Rattle.gl_ledger.specs.NodeKeys.{leaf_count}
+use Rattle.gl_ledger.specs.NodeKeys.{service_layers, leaf_count}
 use Rattle.gl_service.specs.Service.{ServiceEvent}
 use Rattle.ccfg.specs.declared.machine.Machine.{Machine}
 use Rattle.ccfg.specs.declared.outcome.Outcome.{Outcome}
@@ -73,7 +73,7 @@ pub record IsMachine (m : Machine) : Type 0 where
   pub named : m.id ≡ id_of m.settings 1
   pub events : List ServiceEvent
   pub reached : node_after (book_of m.settings) (start_of m.settings) events m.id ≡ node_in m
-  pub ledger : IsSoloLedger (layers_of m.settings) m.id m.store.ledger
+  pub ledger : IsSoloLedger service_layers m.id m.store.ledger
   pub opened : 2 ≤ m.store.commit
   pub signer : IsSignerOf m.settings m.id m.signer
 

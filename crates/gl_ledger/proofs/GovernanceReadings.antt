@@ -14,6 +14,8 @@ use Rattle.gl_base.proofs.Steps.{bind_ok, ok_injective}
 use Rattle.gl_entry.specs.Entry.{are_sized}
 use Rattle.gl_tx.proofs.Fields.{tag_read}
 use Rattle.gl_tx.proofs.Readings.{IsSpelled, Gets, IsRead, whole-spelled, whole-read, chosen}
+use Rattle.gl_ledger.specs.Layers.{ReadsSpellings}
+use Rattle.gl_ledger.specs.NodeKeys.{service_layers}
 use Rattle.gl_ledger.specs.declared.genesis.ServiceState.{ServiceState}
 use Rattle.gl_ledger.specs.declared.genesis.NewNode.{NewNode}
 use Rattle.gl_ledger.specs.declared.genesis.NewMember.{NewMember}
@@ -163,3 +165,6 @@ read_of (Err fault) g e = cc
 -- and the request in any bytes is in its ranges and has these bytes
 pub request_in-spelled : (bytes : List ℕ) (g : GovernanceRequest) → are_bytes bytes ≡ true → request_in bytes ≡ Some g → (is_governance_request g ≡ true) × (bytes ≡ governance_bytes g)
 request_in-spelled bytes g all e = governance-spelled bytes g (are_bytes-each bytes all) (read_of (governance_of bytes) g e)
+
+pub service_reads : ReadsSpellings service_layers
+service_reads = record { spelled = λ bytes g all e. request_in-spelled bytes g all e }

@@ -1,11 +1,11 @@
 pub mod Genesis
-pub mod Reading
 pub mod Effect
 pub mod Tree
 pub mod Serial
 pub mod Ledger
 pub mod Signed
 pub mod Layers
+pub mod Reading
 pub mod NodeKeys
 pub mod Recordings
 pub mod Changes

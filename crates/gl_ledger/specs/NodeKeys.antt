@@ -13,6 +13,7 @@ use Rattle.gl_hss.specs.Signer.{hss_signature, StandsUnder}
 use Rattle.gl_rules.specs.Identity.{NodeId}
 use Rattle.gl_ledger.specs.declared.genesis.GovernanceRequest.{GovernanceRequest}
 use Rattle.gl_ledger.specs.Layers.{Layers}
+use Rattle.gl_ledger.specs.Reading.{request_in}
 
 -- The key of each node, and the service's signature of its public key.
 pub record NodeKeys : Type 0 where
@@ -51,12 +52,16 @@ is_verified (Err fault) = false
 
 -- The layers of a service whose keys are HSS keys of two levels.
 abbrev pub hss_layers : (List ℕ → Option GovernanceRequest) → Layers
-hss_layers request_in = record {
-  request_in = request_in;
+hss_layers reading = record {
+  request_in = reading;
   is_endorsed = λ identity key endorsement.
       is_verified (endorsement_verdict identity key endorsement);
   signature_fault = node_signature_fault;
 }
+
+-- The layers of a service: requests of governance as they are read from their bytes, and HSS keys.
+abbrev pub service_layers : Layers
+service_layers = hss_layers request_in
 
 -- The service's key endorses the node's, and the node's identifier is the digest of its public key.
 -- The key and the endorsement are bytes.

@@ -1,6 +1,7 @@
 //! What holds of the ledger as a book: laws, and no code.
 
 ghost use Rattle.std.specs.Prelude.{◌≡◌, ◌<◌, ◌≤◌, ◌↔◌, ◌+◌, ◌^◌, ℕ, suc, List, [], ◌∷◌, ◌++◌, Option, None, Some, Ok, length, map, slice_get, true};
+ghost use Rattle.gl_base.specs.Bytes.{are_bytes};
 ghost use Rattle.gl_vmaps.specs.Tables.{value_in};
 ghost use Rattle.gl_tx.specs.declared.request.Operation.{Operation};
 ghost use Rattle.gl_entry.specs.declared.entry.Entry.{Entry};
@@ -8,10 +9,8 @@ ghost use Rattle.gl_rules.specs.Identity.{NodeId, member};
 ghost use Rattle.gl_rules.specs.Log.{greatest_recorded};
 ghost use Rattle.gl_rules.specs.Safety.{EachFollows, IsLawful, IsOpening, IsRetiring, MayRecord};
 ghost use Rattle.gl_rules.specs.World.{Start};
-ghost use Rattle.gl_ledger.specs.Genesis.{are_distinct_bytes, node_id, node_row, nodes_map};
+ghost use Rattle.gl_ledger.specs.Genesis.{are_distinct_bytes, governance_bytes, is_governance_request, node_id, node_row, nodes_map};
 ghost use Rattle.gl_ledger.specs.Effect.{identity_in};
-ghost use Rattle.gl_base.specs.Bytes.{are_bytes};
-ghost use Rattle.gl_ledger.specs.Genesis.{governance_bytes, is_governance_request};
 ghost use Rattle.gl_ledger.specs.Reading.{request_in};
 ghost use Rattle.gl_ledger.specs.Tree.{tables_of};
 ghost use Rattle.gl_ledger.specs.Ledger.{genesis_entry};
@@ -25,7 +24,7 @@ ghost use Rattle.gl_ledger.specs.Sound.{IsSound};
 ghost use Rattle.gl_ledger.specs.Makers.{MayMake, MakesValid, opening_of, request_result, signing_result};
 ghost use Rattle.gl_ledger.specs.LedgerBook.{ledger_book};
 ghost use Rattle.gl_ledger.specs.Audit.{LedgerFault, IsFaultOf, audited, opened};
-ghost use Rattle.gl_ledger.specs.NodeKeys.{IsNodeKey, NodeKeys, hss_layers, leaf_count, node_signature, node_signature_fault};
+ghost use Rattle.gl_ledger.specs.NodeKeys.{IsNodeKey, NodeKeys, hss_layers, leaf_count, node_signature, node_signature_fault, service_layers};
 ghost use Rattle.gl_ledger.specs.Opening.{Begins, Founds};
 
 /// The ledger has the laws that the rules of consensus ask of a book.
@@ -44,6 +43,7 @@ pub fn is_read()
     ensures only { (bytes : List ℕ) (g : GovernanceRequest) → are_bytes bytes ≡ true →
         request_in bytes ≡ Some g →
         (is_governance_request g ≡ true) × (bytes ≡ governance_bytes g) }
+    ensures layers { ReadsSpellings service_layers }
 {}
 
 /// An entry that breaks no rule of the audit keeps a ledger sound.

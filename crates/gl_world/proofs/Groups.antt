@@ -15,7 +15,8 @@ use Rattle.gl_ledger.specs.declared.genesis.NewMember.{NewMember}
 use Rattle.gl_ledger.specs.declared.genesis.GovernanceRequest.{GovernanceRequest}
 use Rattle.gl_ledger.specs.declared.genesis.GovernanceRequest.TheVariants as requests
 use Rattle.gl_ledger.specs.Layers.{Layers, ReadsSpellings}
-use Rattle.gl_ledger.specs.NodeKeys.{IsNodeKey, is_verified}
+use Rattle.gl_ledger.specs.Reading.{request_in}
+use Rattle.gl_ledger.specs.NodeKeys.{service_layers, IsNodeKey, is_verified}
 use Rattle.gl_ledger.specs.Effect.{identity_in}
 use Rattle.gl_ledger.specs.Ledger.{genesis_entry}
 use Rattle.gl_hss.specs.Order.{endorsement_verdict}
@@ -23,6 +24,7 @@ use Rattle.gl_tx.specs.declared.request.Operation.{Operation}
 use Rattle.gl_ledger.specs.Acceptance.{are_endorsed, genesis_fault}
 use Rattle.gl_ledger.specs.Makers.{request_result, signing_result}
 use Rattle.gl_ledger.specs.Opening.{Begins, Founds}
+use Rattle.gl_ledger.proofs.GovernanceReadings.{request_in-read, service_reads}
 use Rattle.gl_ledger.proofs.GenesisEntries.{genesis_is_entry}
 use Rattle.gl_ledger.proofs.SameWrites.{same_bytes_is, same_bytes_self}
 use Rattle.gl_ledger.proofs.Passing.{passes}
@@ -39,28 +41,18 @@ use Rattle.gl_service.proofs.Leading.{leader_executes}
 use Rattle.gl_service.proofs.Founded.{leader_signs_with_key}
 use Rattle.gl_world.specs.declared.settings.Settings.{Settings}
 use Rattle.gl_world.specs.Founding.{numbers_from, node_of, id_of, keys_of, genesis_of}
-use Rattle.gl_world.specs.Group.{IsGroup, read_genesis, layers_of, book_of}
+use Rattle.gl_world.specs.Group.{IsGroup, book_of}
 use Rattle.gl_world.specs.Headline.{Headline}
 use Rattle.gl_world.specs.World.{start_of}
 use Rattle.gl_world.proofs.Acceptable.{ids_told, few_nodes, group_acceptable, group_fits, group_endorsements}
 use Rattle.gl_world.proofs.Endorsements.{endorsement_valid, is_node_key}
 use Rattle.gl_world.proofs.Numbers.{all_made}
 
-pub reads_spellings : (s : Settings) → IsGroup s → ReadsSpellings (layers_of s)
-reads_spellings s h = record { spelled = λ bytes g all reads. go bytes g (same_bytes bytes (genesis_bytes (genesis_of s))) refl reads }
-  where
-    go : (bytes : List ℕ) (g : GovernanceRequest) (b : Bool) → same_bytes bytes (genesis_bytes (genesis_of s)) ≡ b → (if b then Some (requests.Genesis (genesis_of s)) else None) ≡ Some g →
-        (is_governance_request g ≡ true) × (bytes ≡ governance_bytes g)
-    go bytes g false is reads = absurd (cc)
-    go bytes g true is reads =
-        let same : requests.Genesis (genesis_of s) ≡ g = cc in
-        subst (λ (r : GovernanceRequest). (is_governance_request r ≡ true) × (bytes ≡ governance_bytes r)) same (group_fits s h, same_bytes_is bytes (genesis_bytes (genesis_of s)) is)
-
 first_in : (s : Settings) (count : ℕ) → 1 ≤ count → member (id_of s 1) (map (id_of s) (numbers_from 1 count)) ≡ true
 first_in s zero h = absurd (omega arith)
 first_in s (suc count) h = member_first (id_of s 1) (map (id_of s) (numbers_from 2 count))
 
-all_endorsed : (s : Settings) → IsGroup s → are_endorsed (layers_of s) (genesis_of s).identity (genesis_of s).nodes ≡ true
+all_endorsed : (s : Settings) → IsGroup s → are_endorsed service_layers (genesis_of s).identity (genesis_of s).nodes ≡ true
 all_endorsed s h =
     all_made (λ (n : NewNode). is_verified (endorsement_verdict (genesis_of s).identity n.key n.endorsement)) (node_of s) 1 s.starting
     (λ k low high. ap is_verified (endorsement_valid s k (low, few_nodes s h k high)))
@@ -98,41 +90,41 @@ node_has_key : (s : Settings) → IsGroup s → (number : ℕ) → 1 ≤ number 
 node_has_key s h number low high =
     is_node_key s number low (omega arith) (let nodes = h.starting in let more = h.joiners in omega arith)
 
-pub group_founds : (s : Settings) → IsGroup s → Founds (layers_of s) (keys_of s) (genesis_of s) (id_of s 1)
+pub group_founds : (s : Settings) → IsGroup s → Founds service_layers (keys_of s) (genesis_of s) (id_of s 1)
 group_founds s h = record {
-  reads = ap (λ (b : Bool). if b then Some (requests.Genesis (genesis_of s)) else None) (same_bytes_self (genesis_bytes (genesis_of s)));
-  accepted = accepted (layers_of s) (genesis_of s) (group_acceptable s h) (all_endorsed s h);
+  reads = request_in-read (requests.Genesis (genesis_of s)) (group_fits s h);
+  accepted = accepted service_layers (genesis_of s) (group_acceptable s h) (all_endorsed s h);
   fits = genesis_is_entry (genesis_of s) (group_fits s h) (group_acceptable s h) (group_endorsements s h);
   named = ap (member (id_of s 1)) (ids_told s 1 s.starting) ∙ first_in s s.starting h.first;
-  valid = node_makes (read_genesis s) (keys_of s) (genesis_of s).identity (id_of s 1) 0 (genesis_entry (genesis_of s) ∷ []) first_view 2
+  valid = node_makes request_in (keys_of s) (genesis_of s).identity (id_of s 1) 0 (genesis_entry (genesis_of s) ∷ []) first_view 2
       (node_has_key s h 1 (omega arith) h.first) (omega arith)
       (ap identity_in (tables_of-push [] (genesis_entry (genesis_of s))) ∙ identity_of_genesis (genesis_of s));
 }
 
-pub group_begins : (s : Settings) → IsGroup s → Begins (layers_of s) (start_of s)
+pub group_begins : (s : Settings) → IsGroup s → Begins service_layers (start_of s)
 group_begins s h = record {
-  checked = opening_opened (layers_of s) (keys_of s) (genesis_of s) (id_of s 1) (group_founds s h);
+  checked = opening_opened service_layers (keys_of s) (genesis_of s) (id_of s 1) (group_founds s h);
   starts = first_in s s.starting h.first;
 }
 
 pub group_opens : (s : Settings) → IsGroup s → IsOpening (book_of s) (EachFollows (book_of s)) (start_of s)
-group_opens s h = begins_opening (layers_of s) (keys_of s) (start_of s) (group_begins s h)
+group_opens s h = begins_opening service_layers (keys_of s) (start_of s) (group_begins s h)
 
 pub group_safe : (s : Settings) → IsGroup s → (events : List ServiceEvent) → Headline s events
-group_safe s h events = begins_safe (layers_of s) (keys_of s) (reads_spellings s h) (start_of s) (group_begins s h) events
+group_safe s h events = begins_safe service_layers (keys_of s) service_reads (start_of s) (group_begins s h) events
 
 pub group_never_conflicts : (s : Settings) → IsGroup s → (events : List ServiceEvent) → NeverConflicts (book_of s) (start_of s) events
-group_never_conflicts s h events = never_conflicts (group_opens s h) (lawful (layers_of s) (keys_of s)) events
+group_never_conflicts s h events = never_conflicts (group_opens s h) (lawful service_layers (keys_of s)) events
 
 -- ---- the guard refuses a leader nothing
 
 pub group_configured : (s : Settings) → IsGroup s → IsConfigured (book_of s) (id_of s 1) (start_of s).opening
-group_configured s h = opened_configured (layers_of s) (keys_of s) (start_of s).opening (start_of s).first (group_begins s h).checked
+group_configured s h = opened_configured service_layers (keys_of s) (start_of s).opening (start_of s).first (group_begins s h).checked
 
-pub group_executes : (s : Settings) → IsGroup s → (events : List ServiceEvent) (x : NodeId) → Leads (layers_of s) (keys_of s) (start_of s) events x → (request : List Operation) →
-    let n = service.node_of (layers_of s) (keys_of s) (start_of s) events x in
+pub group_executes : (s : Settings) → IsGroup s → (events : List ServiceEvent) (x : NodeId) → Leads service_layers (keys_of s) (start_of s) events x → (request : List Operation) →
+    let n = service.node_of service_layers (keys_of s) (start_of s) events x in
     (book_of s).execute n.log n.view request ≡ request_result n.log n.view request
-group_executes s h events x leads request = leader_executes (layers_of s) (keys_of s) (start_of s) (group_opens s h) (group_configured s h) events x leads request
+group_executes s h events x leads request = leader_executes service_layers (keys_of s) (start_of s) (group_opens s h) (group_configured s h) events x leads request
 
 -- a node that the genesis names has its key
 named_has_key : (s : Settings) → IsGroup s → (y : NodeId) → member y (map node_id (genesis_of s).nodes) ≡ true → IsNodeKey (keys_of s) (genesis_of s).identity y
@@ -140,10 +132,10 @@ named_has_key s h y named =
     let number = member_made (id_of s) y 1 s.starting (sym (ap (member y) (ids_told s 1 s.starting)) ∙ named) in
     subst (IsNodeKey (keys_of s) (genesis_of s).identity) number.3 (node_has_key s h number.0 number.1 (omega (arith, number.2)))
 
-pub group_signs : (s : Settings) → IsGroup s → (events : List ServiceEvent) (x : NodeId) → Leads (layers_of s) (keys_of s) (start_of s) events x → (leaf : ℕ) → leaf < (book_of s).leaves x →
-    let n = service.node_of (layers_of s) (keys_of s) (start_of s) events x in
+pub group_signs : (s : Settings) → IsGroup s → (events : List ServiceEvent) (x : NodeId) → Leads service_layers (keys_of s) (start_of s) events x → (leaf : ℕ) → leaf < (book_of s).leaves x →
+    let n = service.node_of service_layers (keys_of s) (start_of s) events x in
     (book_of s).sign x leaf n.log n.view n.commit ≡ signing_result (keys_of s) x leaf n.log n.view n.commit
 group_signs s h events x leads leaf low =
-    leader_signs_with_key (read_genesis s) (keys_of s) (reads_spellings s h) (start_of s) (genesis_of s)
+    leader_signs_with_key request_in (keys_of s) service_reads (start_of s) (genesis_of s)
     (record { begins = group_begins s h; reads = (group_founds s h).reads; first = refl })
     (named_has_key s h) events x leads leaf low

@@ -15,7 +15,7 @@ use Rattle.gl_ledger.specs.Layers.{Layers}
 use Rattle.gl_ledger.specs.Recordings.{requests_of, trusted_of, same_nodes, changed_set, trusted_nodes, configuration}
 use Rattle.gl_ledger.specs.Broken.{last_signed}
 use Rattle.gl_ledger.specs.Makers.{signed_entry}
-use Rattle.gl_ledger.specs.NodeKeys.{NodeKeys}
+use Rattle.gl_ledger.specs.NodeKeys.{service_layers, NodeKeys}
 use Rattle.gl_ledger.specs.LedgerBook.{ledger_book}
 use Rattle.gl_ledger.specs.declared.genesis.NewNode.{NewNode}
 use Rattle.gl_ledger.proofs.Gathering.{requests-quiet}
@@ -24,7 +24,6 @@ use Rattle.gl_ledger.proofs.Opening.{nodes_configured}
 use Rattle.gl_ledger.proofs.SameWrites.{same_bytes_self}
 use Rattle.gl_world.specs.declared.settings.Settings.{Settings}
 use Rattle.gl_world.specs.Founding.{id_of, keys_of, genesis_of}
-use Rattle.gl_world.specs.Group.{layers_of}
 use Rattle.gl_world.specs.World.{start_of}
 use Rattle.gl_world.specs.Single.{IsSingle}
 use Rattle.gl_world.specs.Solo.{IsAlone, IsSoloLedger}
@@ -83,7 +82,7 @@ module _ (layers : Layers) where
       go (suc c) is some = advance_alone layers keys x n c leads is h.alone (λ i e at. h.views i e at ∙ sym first)
 
 -- the opening ledger of one node
-pub solo_at_start : (s : Settings) → IsSingle s → IsSoloLedger (layers_of s) (id_of s 1) (start_of s).opening
+pub solo_at_start : (s : Settings) → IsSingle s → IsSoloLedger service_layers (id_of s 1) (start_of s).opening
 solo_at_start s h = record {
   views = (group_opens s (single_group s h)).views;
   long = omega arith;
@@ -93,12 +92,12 @@ solo_at_start s h = record {
     signature : Entry
     signature = signed_entry (keys_of s) (id_of s 1) 0 (genesis_entry (genesis_of s) ∷ []) first_view 2
 
-    first : configuration (layers_of s) (genesis_entry (genesis_of s) ∷ []) ≡ Some (id_of s 1 ∷ [])
+    first : configuration service_layers (genesis_entry (genesis_of s) ∷ []) ≡ Some (id_of s 1 ∷ [])
     first =
-        nodes_configured (layers_of s) (keys_of s) (genesis_of s) (id_of s 1) (group_founds s (single_group s h))
+        nodes_configured service_layers (keys_of s) (genesis_of s) (id_of s 1) (group_founds s (single_group s h))
         ∙ ap (λ (nodes : List NewNode). Some (map node_id nodes)) (one_node s h)
 
-    later : (k : ℕ) → configuration (layers_of s) (take (suc (suc k)) (start_of s).opening) ≡ None
+    later : (k : ℕ) → configuration service_layers (take (suc (suc k)) (start_of s).opening) ≡ None
     later k =
-        ap (configuration (layers_of s)) (take-past (start_of s).opening (suc (suc k)) (omega arith))
-        ∙ configuration-quiet (layers_of s) (genesis_entry (genesis_of s) ∷ []) signature tt
+        ap (configuration service_layers) (take-past (start_of s).opening (suc (suc k)) (omega arith))
+        ∙ configuration-quiet service_layers (genesis_entry (genesis_of s) ∷ []) signature tt

@@ -4,8 +4,9 @@ use Rattle.std.specs.Prelude.{List}
 use Rattle.gl_rules.specs.Safety.{IsSafe}
 use Rattle.gl_ledger.specs.Sound.{IsSound}
 use Rattle.gl_service.specs.Service.{ServiceEvent}
+use Rattle.gl_ledger.specs.NodeKeys.{service_layers}
 use Rattle.gl_world.specs.declared.settings.Settings.{Settings}
-use Rattle.gl_world.specs.Group.{layers_of, book_of}
+use Rattle.gl_world.specs.Group.{book_of}
 use Rattle.gl_world.specs.World.{start_of}
 
 -- Of any two committed ledgers, at any nodes and moments, one is a prefix of the other. No
@@ -13,4 +14,4 @@ use Rattle.gl_world.specs.World.{start_of}
 -- in order and founded, one serial run of its requests, and its governance tables are the effect of
 -- the governance requests that it records.
 abbrev pub Headline : Settings → List ServiceEvent → Type 0
-Headline s events = IsSafe (book_of s) (IsSound (layers_of s)) (start_of s) events
+Headline s events = IsSafe (book_of s) (IsSound service_layers) (start_of s) events

@@ -9,9 +9,10 @@ ghost use Rattle.gl_ledger.specs.declared.genesis.ServiceState.{ServiceState};
 ghost use Rattle.gl_ledger.specs.Makers.{govern_result, request_result, signing_result};
 ghost use Rattle.gl_ledger.specs.Opening.{Begins};
 ghost use Rattle.gl_service.specs.Service.{Leads, ServiceEvent, node_of};
+ghost use Rattle.gl_ledger.specs.NodeKeys.{service_layers};
 ghost use Rattle.gl_world.specs.declared.settings.Settings.{Settings};
 ghost use Rattle.gl_world.specs.Founding.{keys_of};
-ghost use Rattle.gl_world.specs.Group.{IsGroup, book_of, layers_of};
+ghost use Rattle.gl_world.specs.Group.{IsGroup, book_of};
 ghost use Rattle.gl_world.specs.Headline.{Headline};
 ghost use Rattle.gl_world.specs.World.{start_of};
 
@@ -22,7 +23,7 @@ pub fn is_safe()
         Headline s events }
     ensures opening { (s : Settings) → IsGroup s →
         IsOpening (book_of s) (EachFollows (book_of s)) (start_of s) }
-    ensures begins { (s : Settings) → IsGroup s → Begins (layers_of s) (start_of s) }
+    ensures begins { (s : Settings) → IsGroup s → Begins service_layers (start_of s) }
     ensures no_conflict { (s : Settings) → IsGroup s → (events : List ServiceEvent) →
         NeverConflicts (book_of s) (start_of s) events }
     ensures smallest { (state : ServiceState) (seed : List ℕ) →
@@ -33,17 +34,17 @@ pub fn is_safe()
 /// a rule of the audit, whatever happened before.
 pub fn is_unguarded()
     ensures executes { (s : Settings) → IsGroup s → (events : List ServiceEvent) (x : NodeId) →
-        Leads (layers_of s) (keys_of s) (start_of s) events x → (request : List Operation) →
-        let n = node_of (layers_of s) (keys_of s) (start_of s) events x in
+        Leads service_layers (keys_of s) (start_of s) events x → (request : List Operation) →
+        let n = node_of service_layers (keys_of s) (start_of s) events x in
         (book_of s).execute n.log n.view request ≡ request_result n.log n.view request }
     ensures governs { (s : Settings) → IsGroup s → (events : List ServiceEvent) (x : NodeId) →
-        Leads (layers_of s) (keys_of s) (start_of s) events x → (request : GovernanceRequest) →
-        let n = node_of (layers_of s) (keys_of s) (start_of s) events x in
+        Leads service_layers (keys_of s) (start_of s) events x → (request : GovernanceRequest) →
+        let n = node_of service_layers (keys_of s) (start_of s) events x in
         (book_of s).govern n.log n.view request
-        ≡ govern_result (layers_of s) n.log n.view request }
+        ≡ govern_result service_layers n.log n.view request }
     ensures signs { (s : Settings) → IsGroup s → (events : List ServiceEvent) (x : NodeId) →
-        Leads (layers_of s) (keys_of s) (start_of s) events x → (leaf : ℕ) → leaf < (book_of s).leaves x →
-        let n = node_of (layers_of s) (keys_of s) (start_of s) events x in
+        Leads service_layers (keys_of s) (start_of s) events x → (leaf : ℕ) → leaf < (book_of s).leaves x →
+        let n = node_of service_layers (keys_of s) (start_of s) events x in
         (book_of s).sign x leaf n.log n.view n.commit
         ≡ signing_result (keys_of s) x leaf n.log n.view n.commit }
 {}

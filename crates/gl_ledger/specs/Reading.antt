@@ -39,6 +39,7 @@ state_in place byte =
     if byte.0 == 1 then Ok (Opening, byte.1)
     else (if byte.0 == 2 then Ok (Open, byte.1) else Err (faults.Value place))
 
+-- The state in which the service begins.
 unfoldable pub state_at : Unread → Result (ServiceState × Unread) CodeFault
 state_at unread = field (number_at 1 unread) >>= state_in unread.at
 
@@ -56,18 +57,21 @@ member_number_in place number = if number.0 == 0 then Err (faults.Value place) e
 unfoldable pub member_number_at : Unread → Result (ℕ × Unread) CodeFault
 member_number_at unread = field (number_at 1 unread) >>= member_number_in unread.at
 
+-- A member: its number and its key.
 unfoldable pub member_at : Unread → Result (NewMember × Unread) CodeFault
 member_at unread = do
   number ← member_number_at unread
   key ← field (bytes_at 60 number.1)
   Ok (record { number = number.0; key = key.0 }, key.1)
 
+-- A share's digest: the member who holds it, and the digest.
 unfoldable pub share_at : Unread → Result (ShareDigest × Unread) CodeFault
 share_at unread = do
   member ← member_number_at unread
   digest ← field (bytes_at 32 member.1)
   Ok (record { member = member.0; digest = digest.0 }, digest.1)
 
+-- A dealing: its threshold, the secret's digest, and the shares' digests behind their count.
 unfoldable pub dealing_at : Unread → Result (Dealing × Unread) CodeFault
 dealing_at unread = do
   threshold ← field (number_at 1 unread)
@@ -104,6 +108,7 @@ request_behind place tag =
     then (genesis_at tag.1 >>= λ genesis. Ok (requests.Genesis genesis.0, genesis.1))
     else Err (faults.Value place)
 
+-- A tag, and the request behind it.
 unfoldable pub governance_at : Unread → Result (GovernanceRequest × Unread) CodeFault
 governance_at unread = field (number_at 1 unread) >>= request_behind unread.at
 

@@ -5,10 +5,11 @@ use Rattle.std.proofs.lemmas.Bool.{cases_lt}
 use Rattle.std.proofs.Math.Bool.{and-true}
 use Rattle.gl_base.proofs.Lists.{slice_get-below}
 use Rattle.gl_base.specs.declared.tx_id.TxId.{TxId}
+use Rattle.sha2.specs.Sha256.{sha256}
 use Rattle.gl_lms.specs.Types.{height}
-use Rattle.gl_lms.specs.Secrets.{PrivateKey}
+use Rattle.gl_lms.specs.Tree.{key_bytes}
+use Rattle.gl_lms.specs.Secrets.{PrivateKey, public_of}
 use Rattle.gl_hss.specs.Signer.{Signer, hss_signature}
-use Rattle.gl_hss.specs.declared.signer.KeyExhausted.{KeyExhausted}
 use Rattle.gl_rules.specs.Identity.{NodeId, member}
 use Rattle.gl_rules.specs.Node.{Node, Leader}
 use Rattle.gl_rules.specs.Outcome.{Step, quiet, refuse, idle, KeyExhausted, NotReserved, NothingToSign, ByLedger}
@@ -25,7 +26,8 @@ use Rattle.gl_entry.specs.declared.entry.Entry.{Entry}
 use Rattle.gl_tx.specs.declared.request.Operation.{Operation}
 use Rattle.gl_tx.specs.declared.request.Answer.{Answer}
 use Rattle.gl_ledger.specs.Broken.{last_signed}
-use Rattle.gl_ledger.specs.Ledger.{HasViewsUpTo, message_behind, sign_result}
+use Rattle.gl_ledger.specs.Ledger.{HasViewsUpTo, genesis_entry, message_behind, opening_ledger, sign_result}
+use Rattle.gl_ledger.specs.declared.genesis.Genesis as request
 use Rattle.gl_ledger.specs.NodeKeys.{service_layers, leaf_count}
 use Rattle.gl_ledger.specs.Makers.{Given, Replied, Unmade, ByStore, by_store, request_result, signing_result, opening_of}
 use Rattle.gl_service.specs.Service.{ServiceEvent}
@@ -146,13 +148,13 @@ first_signs s h x is signer same =
     })
 
 -- a new key has a leaf to reserve
-pub first_reserved : (s : Settings) (signer reserved : Signer) (r : Result ℕ KeyExhausted) → signer ≡ signer_of s 1 → (IsErr r ↔ signer.reserved ≡ 2 ^ height signer.key.types) →
+pub first_reserved : {E : Type 0} (s : Settings) (signer reserved : Signer) (r : Result ℕ E) → signer ≡ signer_of s 1 → (IsErr r ↔ signer.reserved ≡ 2 ^ height signer.key.types) →
     OnOk r (reserved ≡ record signer { reserved = signer.reserved + 1 }) → reserved ≡ record (signer_of s 1) { reserved = 1 }
 first_reserved s signer reserved (Ok n) new full more = more ∙ ap (λ (k : Signer). record k { reserved = k.reserved + 1 }) new
 first_reserved s signer reserved (Err e) new full more =
     let none : signer.reserved ≡ 0 = ap (λ (k : Signer). k.reserved) new in
     let all : 2 ^ height signer.key.types ≡ 32 = ap (λ (k : Signer). 2 ^ height k.key.types) new in
-    absurd (omega (arith, full.0 tt, none, all))
+    absurd (omega (arith, full.0 refl, none, all))
 
 -- it is ready to sign where a reserved leaf is left
 pub ready : (m : Machine) → IsMachine m → m.signer.used < m.signer.reserved → IsReady m.signer
@@ -220,6 +222,32 @@ begin_is m s named opened one first =
     ∙ ap (λ (n : ℕ). node_of_store (id_of s 1) (opened_store s) n m.signer.used) one
     ∙ ap (λ (n : ℕ). node_of_store (id_of s 1) (opened_store s) 1 n) first
 
+-- the store that opens with the genesis of the settings, signed by node 1
+begin_store : (s : Settings) → IsSingle s → (g : request.Genesis) (x : NodeId) (signer : Signer) (st : Held) → g ≡ genesis_of s → x ≡ id_of s 1 → signer ≡ record (signer_of s 1) { reserved = 1 } →
+    st ≡ record { ledger = opening_ledger g x (signature_of signer (genesis_entry g ∷ []) 2 2); commit = 2 } → st ≡ opened_store s
+begin_store s h g x signer st founded named new opened =
+    opened ∙ ap (λ (f : request.Genesis). held f x signer) founded ∙ ap (λ (y : NodeId). held (genesis_of s) y signer) named ∙ ap (held (genesis_of s) (id_of s 1)) new
+    ∙ ap (λ (n : ℕ). signed_with (hss_signature (private_key (node_seed s n)) (Some (endorsement_of s n)) 0 (message_behind (genesis_entry (genesis_of s) ∷ []) 2 2))) (sym (one_numbered s h (id_of s 1) refl))
+  where
+    held : request.Genesis → NodeId → Signer → Held
+    held f y k = record { ledger = opening_ledger f y (signature_of k (genesis_entry f ∷ []) 2 2); commit = 2 }
+
+    signed_with : List ℕ → Held
+    signed_with bytes = record { ledger = opening_ledger (genesis_of s) (id_of s 1) bytes; commit = 2 }
+
+-- the machine as its service begins
+pub begin_machine : (m : Machine) (g : request.Genesis) (founding reserved : Signer) → IsSingle m.settings → g ≡ genesis_of m.settings → founding ≡ signer_of m.settings 1 →
+    m.id ≡ sha256 (key_bytes (public_of founding.key)) → reserved ≡ record (signer_of m.settings 1) { reserved = 1 } → m.signer ≡ record reserved { used = reserved.used + 1 } →
+    m.store ≡ record { ledger = opening_ledger g m.id (signature_of reserved (genesis_entry g ∷ []) 2 2); commit = 2 } →
+    IsMachine m × (node_in m ≡ leader_at_start (start_of m.settings))
+unfolding first_signer
+begin_machine m g founding reserved single founded new id one spent opened =
+    let s = m.settings in
+    let named : m.id ≡ id_of s 1 = id ∙ ap (λ (k : Signer). sha256 (key_bytes (public_of k.key))) new in
+    let signer : m.signer ≡ first_signer s = spent ∙ ap (λ (k : Signer). record k { used = k.used + 1 }) one in
+    let node = begin_is m s named (begin_store s single g m.id reserved m.store founded named one opened) (ap (λ (k : Signer). k.reserved) signer) (ap (λ (k : Signer). k.used) signer) in
+    (begins m single named node (first_signs s single m.id named m.signer signer), node)
+
 -- ---- leaves and commit
 
 pub reserve_full : (s : Settings) (x : List ℕ) (n : Node Entry) → leaf_count (keys_of s) x ≤ n.reserved → reserve (book_of s) x n ≡ quiet n (outcome.Refused (KeyExhausted n.reserved))
@@ -254,7 +282,7 @@ reserve_goes m h free =
 
 advance-at : (m : Machine) → IsMachine m → advance (book_of m.settings) m.id (node_in m)
     ≡ commit_to (book_of m.settings) (node_in m) (if nat_lt m.store.commit (last_signed m.store.ledger) then Some (last_signed m.store.ledger) else None)
-advance-at m h = advance-is service_layers m.id (node_in m) refl refl h.opened h.ledger
+advance-at m h = advance-is service_layers (keys_of m.settings) m.id (node_in m) refl refl h.opened h.ledger
 
 pub advance_idle : (m : Machine) → IsMachine m → last_signed m.store.ledger ≤ m.store.commit → advance (book_of m.settings) m.id (node_in m) ≡ idle (node_in m)
 advance_idle m h below =
@@ -397,7 +425,7 @@ sign_signs m st id h free other s =
     let view : s.entry.view ≡ 2 = ap (λ (e : Entry). e.view) made in
     let is : sign (book_of m.settings) m.id (node_in m) ≡ quiet (node_in new) (outcome.Signed id.view id.seqno) =
     sign_chosen m false false h (let t : (m.signer.used == m.signer.reserved) ≡ false = grind (arith, nat_tests) in t) (last_entry_unsigned m h other)
-    ∙ ap (λ (r : Result Entry Unmade). append_signature (book_of m.settings) (node_in m) r) (signs-is m h left ∙ s.made)
+    ∙ ap (λ (r : Result Entry Unmade). append_signature (book_of m.settings) (node_in m) r) (signs-is m h (omega (arith, left)) ∙ s.made)
     ∙ ap (λ (v : ℕ). quiet {E = Entry} {A = Given} {F = Unmade} (record (append_entry (node_in m) s.entry) { used = m.signer.used + 1 }) (outcome.Signed v (length m.store.ledger + 1))) view
     ∙ ap (λ (x : Held). quiet {E = Entry} {A = Given} {F = Unmade} (node_in (record m { store = x; signer = spent })) (outcome.Signed 2 (length m.store.ledger + 1))) (sym s.enters.entered)
     ∙ ap (λ (t : TxId). quiet {E = Entry} {A = Given} {F = Unmade} (node_in new) (outcome.Signed t.view t.seqno)) (sym s.enters.named) in

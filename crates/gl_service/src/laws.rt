@@ -29,19 +29,17 @@ pub fn is_safe()
 pub fn is_unguarded()
     ensures executes { (layers : Layers) (keys : NodeKeys) (s : Start Entry) → Begins layers s →
         (events : List ServiceEvent) (x : NodeId) → Leads layers keys s events x →
-        (request : List Operation) →
-        let n = node_of layers keys s events x in
+        (request : List Operation) → let n = node_of layers keys s events x in
         (ledger_book layers keys).execute n.log n.view request
         ≡ request_result n.log n.view request }
     ensures governs { (layers : Layers) (keys : NodeKeys) (s : Start Entry) → Begins layers s →
         (events : List ServiceEvent) (x : NodeId) → Leads layers keys s events x →
-        (request : GovernanceRequest) →
-        let n = node_of layers keys s events x in
+        (request : GovernanceRequest) → let n = node_of layers keys s events x in
         (ledger_book layers keys).govern n.log n.view request
         ≡ govern_result layers n.log n.view request }
     ensures signs { (layers : Layers) (keys : NodeKeys) (s : Start Entry) → Begins layers s →
-        (events : List ServiceEvent) (x : NodeId) → Leads layers keys s events x → (leaf : ℕ) →
-        let n = node_of layers keys s events x in
+        (events : List ServiceEvent) (x : NodeId) → Leads layers keys s events x →
+        (leaf : ℕ) → let n = node_of layers keys s events x in
         MakesValid layers keys x leaf n.log n.view n.commit →
         (ledger_book layers keys).sign x leaf n.log n.view n.commit
         ≡ signing_result keys x leaf n.log n.view n.commit }

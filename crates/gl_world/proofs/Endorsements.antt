@@ -1,5 +1,5 @@
 -- The service's key endorses that of each node, and each node's key is found by its identifier.
-use Rattle.std.proofs.Common.{◌≡◌, ℕ, zero, suc, ◌+◌, ◌-◌, ◌<◌, ◌≤◌, length, Option, Some, Ok, Bool, true, false, cond, refl, sym, ◌∙◌, ap, arith, inl, inr}
+use Rattle.std.proofs.Common.{◌≡◌, ℕ, zero, suc, ◌+◌, ◌-◌, ◌<◌, ◌≤◌, length, Option, Some, Ok, Bool, true, false, cond, refl, sym, ◌∙◌, ap, subst, arith, inl, inr}
 use Rattle.std.specs.Prelude.{find, unwrap_or}
 use Rattle.std.proofs.lemmas.Bool.{cases_eq}
 use Rattle.std.specs.Cmp.Lexicographic.{bytes_decides}
@@ -12,12 +12,13 @@ use Rattle.gl_hss.specs.Order.{endorsement_verdict}
 use Rattle.gl_hss.specs.Signer.{StandsUnder}
 use Rattle.gl_hss.proofs.Endorsements.{endorsement_there}
 use Rattle.gl_base.specs.Bytes.{are_bytes, same_bytes}
-use Rattle.gl_rules.specs.Identity.{NodeId}
+use Rattle.gl_rules.specs.Identity.{NodeId, member}
 use Rattle.gl_ledger.specs.NodeKeys.{IsNodeKey}
 use Rattle.gl_world.specs.declared.settings.Settings.{Settings}
 use Rattle.gl_world.specs.Keys.{private_key, lms_key, service_seed, node_seed}
-use Rattle.gl_world.specs.Founding.{numbers_from, endorsement_of, id_of, number_of, keys_of, genesis_of}
+use Rattle.gl_world.specs.Founding.{numbers_from, endorsement_of, id_of, node_ids, number_of, keys_of, genesis_of}
 use Rattle.gl_world.proofs.Digests.{lms_key_bytes}
+use Rattle.gl_world.proofs.Numbers.{member_made}
 
 -- the numbers of nodes whose keys the service's endorses: it has 32 leaves
 abbrev pub IsEndorsable : ℕ → Type 0
@@ -113,3 +114,16 @@ is_node_key s number low high few =
       key = lms_key_bytes (node_seed s j);
       bytes = endorsement_bytes s j;
     }
+
+-- so has each node that starts or joins
+pub member_has_key : (s : Settings) (x : NodeId) → s.starting + s.joiners ≤ 32 → member x (node_ids s) ≡ true → IsNodeKey (keys_of s) (genesis_of s).identity x
+member_has_key s x few h =
+    let k = member_made (id_of s) x 1 (s.starting + s.joiners) h in
+    subst (IsNodeKey (keys_of s) (genesis_of s).identity) k.3 (is_node_key s k.0 k.1 (omega (arith, k.2)) few)
+
+pub member_endorsement : (s : Settings) (x : NodeId) → s.starting + s.joiners ≤ 32 → member x (node_ids s) ≡ true → length ((keys_of s).endorsement_of x) ≡ 2348
+member_endorsement s x few h =
+    let k = member_made (id_of s) x 1 (s.starting + s.joiners) h in
+    subst (λ (y : NodeId). length ((keys_of s).endorsement_of y) ≡ 2348) k.3 (
+    let r = numbered s k.0 k.1 (omega (arith, k.2)) in
+    length-endorsement_of s (number_of s (id_of s k.0)) (r.low, omega (arith, r.high, few)))

@@ -1,32 +1,28 @@
 -- A service of several nodes begins lawfully, and is safe.
-use Rattle.std.proofs.Common.{◌≡◌, ℕ, zero, suc, ◌+◌, ◌≤◌, ◌<◌, List, [], ◌∷◌, length, map, Some, None, Bool, true, false, ◌&&◌, ◌||◌, if◌then◌else◌, nat_eq, nat_le, refl, sym, ◌∙◌, ap, subst, arith}
+use Rattle.std.proofs.Common.{◌≡◌, ℕ, zero, suc, ◌+◌, ◌≤◌, ◌<◌, List, [], ◌∷◌, length, map, None, Bool, true, ◌&&◌, nat_eq, nat_le, refl, sym, ◌∙◌, ap, subst, arith}
 use Rattle.std.specs.List.{list_all}
 use Rattle.std.proofs.lemmas.Bool.{and_parts}
-use Rattle.gl_base.specs.Bytes.{same_bytes}
-use Rattle.gl_rules.specs.Identity.{NodeId, same, member}
+use Rattle.gl_hss.specs.Order.{endorsement_verdict}
+use Rattle.gl_rules.specs.Identity.{NodeId, member}
 use Rattle.gl_rules.specs.World.{first_view}
 use Rattle.gl_rules.specs.Safety.{IsConfigured, IsOpening, NeverConflicts, EachFollows}
-use Rattle.gl_rules.proofs.Ids.{same_is}
 use Rattle.gl_safety.proofs.Refusals.{never_conflicts}
-use Rattle.gl_ledger.specs.Genesis.{node_id, genesis_bytes, governance_bytes, is_governance_request, are_distinct, are_distinct_bytes, numbers_of, are_members, are_nodes, is_dealing_among, is_acceptable}
+use Rattle.gl_ledger.specs.Genesis.{node_id, are_distinct, are_distinct_bytes, numbers_of, are_members, are_nodes, is_dealing_among, is_acceptable}
 use Rattle.gl_ledger.specs.declared.genesis.Genesis as request
 use Rattle.gl_ledger.specs.declared.genesis.NewNode.{NewNode}
 use Rattle.gl_ledger.specs.declared.genesis.NewMember.{NewMember}
-use Rattle.gl_ledger.specs.declared.genesis.GovernanceRequest.{GovernanceRequest}
 use Rattle.gl_ledger.specs.declared.genesis.GovernanceRequest.TheVariants as requests
-use Rattle.gl_ledger.specs.Layers.{Layers, ReadsSpellings}
+use Rattle.gl_ledger.specs.Layers.{Layers}
 use Rattle.gl_ledger.specs.Reading.{request_in}
 use Rattle.gl_ledger.specs.NodeKeys.{service_layers, IsNodeKey, is_verified}
 use Rattle.gl_ledger.specs.Effect.{identity_in}
 use Rattle.gl_ledger.specs.Ledger.{genesis_entry}
-use Rattle.gl_hss.specs.Order.{endorsement_verdict}
 use Rattle.gl_tx.specs.declared.request.Operation.{Operation}
 use Rattle.gl_ledger.specs.Acceptance.{are_endorsed, genesis_fault}
 use Rattle.gl_ledger.specs.Makers.{request_result, signing_result}
 use Rattle.gl_ledger.specs.Opening.{Begins, Founds}
 use Rattle.gl_ledger.proofs.GovernanceReadings.{request_in-read, service_reads}
 use Rattle.gl_ledger.proofs.GenesisEntries.{genesis_is_entry}
-use Rattle.gl_ledger.proofs.SameWrites.{same_bytes_is, same_bytes_self}
 use Rattle.gl_ledger.proofs.Passing.{passes}
 use Rattle.gl_ledger.proofs.Lawful.{lawful}
 use Rattle.gl_ledger.proofs.Opening.{member_first}
@@ -40,13 +36,13 @@ use Rattle.gl_service.proofs.Safe.{begins_safe}
 use Rattle.gl_service.proofs.Leading.{leader_executes}
 use Rattle.gl_service.proofs.Founded.{leader_signs_with_key}
 use Rattle.gl_world.specs.declared.settings.Settings.{Settings}
-use Rattle.gl_world.specs.Founding.{numbers_from, node_of, id_of, keys_of, genesis_of}
+use Rattle.gl_world.specs.Founding.{numbers_from, node_of, id_of, node_ids, keys_of, genesis_of}
 use Rattle.gl_world.specs.Group.{IsGroup, book_of}
 use Rattle.gl_world.specs.Headline.{Headline}
 use Rattle.gl_world.specs.World.{start_of}
 use Rattle.gl_world.proofs.Acceptable.{ids_told, few_nodes, group_acceptable, group_fits, group_endorsements}
-use Rattle.gl_world.proofs.Endorsements.{endorsement_valid, is_node_key}
-use Rattle.gl_world.proofs.Numbers.{all_made}
+use Rattle.gl_world.proofs.Endorsements.{endorsement_valid, is_node_key, member_has_key, member_endorsement}
+use Rattle.gl_world.proofs.Numbers.{all_made, member_made}
 
 first_in : (s : Settings) (count : ℕ) → 1 ≤ count → member (id_of s 1) (map (id_of s) (numbers_from 1 count)) ≡ true
 first_in s zero h = absurd (omega arith)
@@ -56,17 +52,6 @@ all_endorsed : (s : Settings) → IsGroup s → are_endorsed service_layers (gen
 all_endorsed s h =
     all_made (λ (n : NewNode). is_verified (endorsement_verdict (genesis_of s).identity n.key n.endorsement)) (node_of s) 1 s.starting
     (λ k low high. ap is_verified (endorsement_valid s k (low, few_nodes s h k high)))
-
--- what is among those made of numbers is made of one
-member_made : (f : ℕ → NodeId) (y : NodeId) (first count : ℕ) → member y (map f (numbers_from first count)) ≡ true → (number : ℕ) × (first ≤ number) × (number < first + count) × (f number ≡ y)
-member_made f y first zero h = absurd (cc)
-member_made f y first (suc count) h = go (same y (f first)) refl h (member_made f y (suc first) count)
-  where
-    go : (b : Bool) → same y (f first) ≡ b → (b || member y (map f (numbers_from (suc first) count))) ≡ true →
-        (member y (map f (numbers_from (suc first) count)) ≡ true → (number : ℕ) × (suc first ≤ number) × (number < suc first + count) × (f number ≡ y)) →
-        (number : ℕ) × (first ≤ number) × (number < first + suc count) × (f number ≡ y)
-    go true is w behind = (first, omega arith, omega arith, sym (same_is y (f first) is))
-    go false is w behind = let r = behind w in (r.0, omega (arith, r.1), omega (arith, r.2), r.3)
 
 -- an acceptable genesis whose nodes are endorsed is without a fault
 accepted : (layers : Layers) (g : request.Genesis) → is_acceptable g ≡ true → are_endorsed layers g.identity g.nodes ≡ true → genesis_fault layers g ≡ None
@@ -85,10 +70,19 @@ accepted layers g h endorsed =
     passes numbers _ _ d.1 (passes keys _ _ c.1 (passes few _ _ e.0 (passes (is_dealing_among (numbers_of g.members) g.dealing) _ _ b.1
     (passes (are_distinct_bytes (map node_id g.nodes)) _ _ k.1 (passes (nat_le (length g.nodes) 32) _ _ l.1 (passes (nat_le 1 (length g.nodes)) _ _ l.0 (passes (are_endorsed layers g.identity g.nodes) _ None endorsed refl)))))))
 
--- each node that starts has its key
+few_numbers : (s : Settings) → IsGroup s → s.starting + s.joiners ≤ 32
+few_numbers s h = let nodes = h.starting in let more = h.joiners in omega arith
+
+-- each node that starts or joins has its key
+pub group_has_key : (s : Settings) → IsGroup s → (x : NodeId) → member x (node_ids s) ≡ true → IsNodeKey (keys_of s) (genesis_of s).identity x
+group_has_key s h x named = member_has_key s x (few_numbers s h) named
+
+pub group_endorsement : (s : Settings) → IsGroup s → (x : NodeId) → member x (node_ids s) ≡ true → length ((keys_of s).endorsement_of x) ≡ 2348
+group_endorsement s h x named = member_endorsement s x (few_numbers s h) named
+
+-- and so each that starts
 node_has_key : (s : Settings) → IsGroup s → (number : ℕ) → 1 ≤ number → number ≤ s.starting → IsNodeKey (keys_of s) (genesis_of s).identity (id_of s number)
-node_has_key s h number low high =
-    is_node_key s number low (omega arith) (let nodes = h.starting in let more = h.joiners in omega arith)
+node_has_key s h number low high = is_node_key s number low (omega arith) (few_numbers s h)
 
 pub group_founds : (s : Settings) → IsGroup s → Founds service_layers (keys_of s) (genesis_of s) (id_of s 1)
 group_founds s h = record {

@@ -4,6 +4,8 @@ use Rattle.std.specs.List.{list_all, list_any, flat_map}
 use Rattle.std.proofs.lemmas.Bool.{and_parts, and_from}
 use Rattle.std.proofs.lemmas.Bool.Decides.{nat_tests}
 use Rattle.gl_base.specs.Bytes.{same_bytes}
+use Rattle.gl_rules.specs.Identity.{NodeId, same, member}
+use Rattle.gl_rules.proofs.Ids.{same_is}
 use Rattle.gl_ledger.specs.Genesis.{are_distinct, are_distinct_bytes, is_ascending}
 use Rattle.gl_world.specs.Founding.{numbers_from}
 
@@ -123,3 +125,14 @@ pub numbers_told : {A : Type 0} (f : ℕ → A) (number : A → ℕ) (first coun
     map number (map f (numbers_from first count)) ≡ numbers_from first count
 numbers_told f number first zero each = refl
 numbers_told f number first (suc count) each = ap₂ (λ (x : ℕ) (xs : List ℕ). x ∷ xs) (each first) (numbers_told f number (suc first) count each)
+
+-- what is among those made of numbers is made of one
+pub member_made : (f : ℕ → NodeId) (y : NodeId) (first count : ℕ) → member y (map f (numbers_from first count)) ≡ true → (number : ℕ) × (first ≤ number) × (number < first + count) × (f number ≡ y)
+member_made f y first zero h = absurd (cc)
+member_made f y first (suc count) h = go (same y (f first)) refl h (member_made f y (suc first) count)
+  where
+    go : (b : Bool) → same y (f first) ≡ b → (b || member y (map f (numbers_from (suc first) count))) ≡ true →
+        (member y (map f (numbers_from (suc first) count)) ≡ true → (number : ℕ) × (suc first ≤ number) × (number < suc first + count) × (f number ≡ y)) →
+        (number : ℕ) × (first ≤ number) × (number < first + suc count) × (f number ≡ y)
+    go true is w behind = (first, omega arith, omega arith, sym (same_is y (f first) is))
+    go false is w behind = let r = behind w in (r.0, omega (arith, r.1), omega (arith, r.2), r.3)

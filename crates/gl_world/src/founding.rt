@@ -44,8 +44,8 @@ fn member(alloc: Global, settings: &Settings, number: u8) -> Result<NewMember, A
     })
 }
 
-/// Whether two members have one key. A key tells the digest I of its seed, so no tree is grown where
-/// these differ.
+/// Whether two members have one key. A key holds the identifier I that its seed gives, so where these
+/// differ no tree is grown.
 fn have_one_key(
     alloc: Global,
     settings: &Settings,

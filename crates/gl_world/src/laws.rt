@@ -1,7 +1,7 @@
 //! What is promised of a service of any number of nodes: laws, and no code.
 
-ghost use Rattle.std.specs.Prelude.{◌≡◌, ◌<◌, ℕ, List};
-ghost use Rattle.gl_rules.specs.Identity.{NodeId};
+ghost use Rattle.std.specs.Prelude.{◌≡◌, ◌<◌, ℕ, List, length, true};
+ghost use Rattle.gl_rules.specs.Identity.{NodeId, member};
 ghost use Rattle.gl_rules.specs.Safety.{EachFollows, IsOpening, NeverConflicts};
 ghost use Rattle.gl_tx.specs.declared.request.Operation.{Operation};
 ghost use Rattle.gl_ledger.specs.declared.genesis.GovernanceRequest.{GovernanceRequest};
@@ -9,9 +9,9 @@ ghost use Rattle.gl_ledger.specs.declared.genesis.ServiceState.{ServiceState};
 ghost use Rattle.gl_ledger.specs.Makers.{govern_result, request_result, signing_result};
 ghost use Rattle.gl_ledger.specs.Opening.{Begins};
 ghost use Rattle.gl_service.specs.Service.{Leads, ServiceEvent, node_of};
-ghost use Rattle.gl_ledger.specs.NodeKeys.{service_layers};
+ghost use Rattle.gl_ledger.specs.NodeKeys.{IsNodeKey, service_layers};
 ghost use Rattle.gl_world.specs.declared.settings.Settings.{Settings};
-ghost use Rattle.gl_world.specs.Founding.{keys_of};
+ghost use Rattle.gl_world.specs.Founding.{genesis_of, keys_of, node_ids};
 ghost use Rattle.gl_world.specs.Group.{IsGroup, book_of};
 ghost use Rattle.gl_world.specs.Headline.{Headline};
 ghost use Rattle.gl_world.specs.World.{start_of};
@@ -30,6 +30,16 @@ pub fn is_safe()
         IsGroup (record { starting = 1; joiners = 0; members = 1; state = state; seed = seed }) }
 {}
 
+/// The service's key endorses the key of each node that starts or joins, and the node's identifier is
+/// the digest of its key. An endorsement has the 2,348 bytes of an LMS signature (RFC 8554, section
+/// 5.4).
+pub fn has_node_keys()
+    ensures keys { (s : Settings) → IsGroup s → (x : NodeId) → member x (node_ids s) ≡ true →
+        IsNodeKey (keys_of s) (genesis_of s).identity x }
+    ensures sizes { (s : Settings) → IsGroup s → (x : NodeId) → member x (node_ids s) ≡ true →
+        length ((keys_of s).endorsement_of x) ≡ 2348 }
+{}
+
 /// A leader of such a service refuses no request, and no signature with a leaf that its key has, for
 /// a rule of the audit, whatever happened before.
 pub fn is_unguarded()
@@ -43,7 +53,8 @@ pub fn is_unguarded()
         (book_of s).govern n.log n.view request
         ≡ govern_result service_layers n.log n.view request }
     ensures signs { (s : Settings) → IsGroup s → (events : List ServiceEvent) (x : NodeId) →
-        Leads service_layers (keys_of s) (start_of s) events x → (leaf : ℕ) → leaf < (book_of s).leaves x →
+        Leads service_layers (keys_of s) (start_of s) events x → (leaf : ℕ) →
+        leaf < (book_of s).leaves x →
         let n = node_of service_layers (keys_of s) (start_of s) events x in
         (book_of s).sign x leaf n.log n.view n.commit
         ≡ signing_result (keys_of s) x leaf n.log n.view n.commit }

@@ -7,7 +7,7 @@ mod laws;
 mod settings;
 
 pub use founding::{Founding, has_distinct_keys};
-pub use laws::{is_safe, is_unguarded};
+pub use laws::{has_node_keys, is_safe, is_unguarded};
 pub use settings::Settings;
 
 #[cfg(test)]

@@ -19,7 +19,9 @@ use Rattle.gl_rules.specs.Log.{entry_at}
 use Rattle.gl_base.proofs.Lists.{slice_get-within}
 use Rattle.gl_ledger.specs.Layers.{Layers}
 use Rattle.gl_ledger.specs.NodeKeys.{NodeKeys}
-use Rattle.gl_ledger.specs.Recordings.{Recording, OfSignature, last_entry, recording_of, recorded_nodes}
+use Rattle.gl_ledger.specs.declared.recording.Recording.{Recording}
+use Rattle.gl_ledger.specs.declared.recording.Recording.TheVariants as recordings
+use Rattle.gl_ledger.specs.Recordings.{last_entry, recording_of, recorded_nodes}
 use Rattle.gl_ledger.specs.Broken.{is_unopened, broken_by, signs_at, commit_behind, commit_from, last_commit, is_later_commit, may_record, broken}
 use Rattle.gl_ledger.specs.LedgerBook.{ledger_book}
 use Rattle.gl_ledger.proofs.Passing.{passed, Passes, passing}
@@ -82,8 +84,8 @@ module _ (layers : Layers) (keys : NodeKeys) where
           greatest_recorded (ledger_book layers keys) (ledger ++ e ∷ []) ≡ max (greatest_recorded (ledger_book layers keys) ledger) (if is_signature e.content then recorded_commit e.content else 0) →
           length (ledger ++ e ∷ []) ≡ length ledger + 1 → KeepsCommits (ledger ++ e ∷ [])
       go (content.Signature s) is c g l =
-          let is_read : p.recording ≡ OfSignature s = let w = sym p.reads ∙ ap (recording_of layers) is in cc in
-          let all : broken_by layers (OfSignature s) ledger e ≡ None = ap (λ (t : Recording). broken_by layers t ledger e) (sym is_read) ∙ p.rest in
+          let is_read : p.recording ≡ recordings.Signature s = let w = sym p.reads ∙ ap (recording_of layers) is in cc in
+          let all : broken_by layers (recordings.Signature s) ledger e ≡ None = ap (λ (t : Recording). broken_by layers t ledger e) (sym is_read) ∙ p.rest in
           let one = passed (member s.node (recorded_nodes layers ledger)) _ _ all in
           let two = passed (same_bytes s.root (root_of (leaves_of ledger))) _ _ one.1 in
           let three = passed (may_record layers ledger s.commit) _ _ two.1 in

@@ -11,7 +11,9 @@ use Rattle.gl_entry.specs.declared.entry.Entry.{Entry}
 use Rattle.gl_ledger.specs.Effect.{Recorded}
 use Rattle.gl_ledger.specs.declared.genesis.GovernanceRequest.{GovernanceRequest}
 use Rattle.gl_ledger.specs.Layers.{Layers}
-use Rattle.gl_ledger.specs.Recordings.{Recording, OfGovernance, OfApplication, OfSignature, OfEvidence, governance_recording, application_recording, is_signing, recording_of, recorded_at, recorded_in, requests_from, requests_of}
+use Rattle.gl_ledger.specs.declared.recording.Recording.{Recording}
+use Rattle.gl_ledger.specs.declared.recording.Recording.TheVariants as recordings
+use Rattle.gl_ledger.specs.Recordings.{governance_recording, application_recording, is_signing, recording_of, recorded_at, recorded_in, requests_from, requests_of}
 use Rattle.gl_ledger.proofs.Growth.{IsNoGovernance}
 
 module _ (layers : Layers) where
@@ -44,15 +46,15 @@ module _ (layers : Layers) where
 
   -- only a signature is read as one
   pub signing_is : (c : Content) (r : Recording) → recording_of layers c ≡ Some r → is_signing r ≡ is_signature c
-  signing_is (content.Signature s) r h = let k : OfSignature s ≡ r = cc in sym (ap is_signing k)
-  signing_is (content.Evidence d) r h = let k : OfEvidence d ≡ r = cc in sym (ap is_signing k)
+  signing_is (content.Signature s) r h = let k : recordings.Signature s ≡ r = cc in sym (ap is_signing k)
+  signing_is (content.Evidence d) r h = let k : recordings.Evidence d ≡ r = cc in sym (ap is_signing k)
   signing_is (content.Application bytes) r h = go (request_of bytes) h
     where
       go : (o : Result (List Operation) CodeFault) → application_recording o ≡ Some r → is_signing r ≡ false
       go (Err fault) w = absurd (cc)
-      go (Ok q) w = let k : OfApplication q ≡ r = cc in sym (ap is_signing k)
+      go (Ok q) w = let k : recordings.Application q ≡ r = cc in sym (ap is_signing k)
   signing_is (content.Governance bytes) r h = go (layers.request_in bytes) h
     where
       go : (o : Option GovernanceRequest) → governance_recording o ≡ Some r → is_signing r ≡ false
       go None w = absurd (cc)
-      go (Some g) w = let k : OfGovernance g ≡ r = cc in sym (ap is_signing k)
+      go (Some g) w = let k : recordings.Governance g ≡ r = cc in sym (ap is_signing k)

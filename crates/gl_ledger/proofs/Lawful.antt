@@ -20,7 +20,9 @@ use Rattle.gl_ledger.specs.declared.breach.GenesisFault.{GenesisFault}
 use Rattle.gl_ledger.proofs.Applications.{execute_ok}
 use Rattle.gl_ledger.specs.Layers.{Layers}
 use Rattle.gl_ledger.specs.NodeKeys.{NodeKeys}
-use Rattle.gl_ledger.specs.Recordings.{Recording, OfEvidence, requests_of, removal, mark, recording_of}
+use Rattle.gl_ledger.specs.declared.recording.Recording.{Recording}
+use Rattle.gl_ledger.specs.declared.recording.Recording.TheVariants as recordings
+use Rattle.gl_ledger.specs.Recordings.{requests_of, removal, mark, recording_of}
 use Rattle.gl_ledger.specs.Acceptance.{request_fault}
 use Rattle.gl_ledger.specs.Broken.{Broken, broken, broken_by}
 use Rattle.gl_ledger.specs.Makers.{Given, Replied, Governed, Unmade, Unspelled, with_reply, request_result, by_store, unless_fault, unless_broken, guarded, governance_entry, govern_result, signed_entry, signing_result}
@@ -158,9 +160,9 @@ module _ (layers : Layers) (keys : NodeKeys) where
       go (content.Application b) is w t r s = absurd (cc)
       go (content.Signature b) is w t r s = absurd (cc)
       go (content.Evidence b) is w t r s =
-          let k : Some (OfEvidence b) ≡ Some t = sym (ap (recording_of layers) is) ∙ r in
-          let same : OfEvidence b ≡ t = cc in
-          let none : broken_by layers (OfEvidence b) ledger e ≡ None = ap (λ (u : Recording). broken_by layers u ledger e) same ∙ s in
+          let k : Some (recordings.Evidence b) ≡ Some t = sym (ap (recording_of layers) is) ∙ r in
+          let same : recordings.Evidence b ≡ t = cc in
+          let none : broken_by layers (recordings.Evidence b) ledger e ≡ None = ap (λ (u : Recording). broken_by layers u ledger e) same ∙ s in
           absurd (cc)
 
   keeps_none : (place_of : List Entry → NodeId → Option ℕ) → ((ledger : List Entry) (y : NodeId) → place_of ledger y ≡ None) → KeepsPlaces book (EachFollows book) place_of

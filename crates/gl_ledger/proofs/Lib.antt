@@ -35,3 +35,4 @@ pub mod Founded
 pub mod FieldReadings
 pub mod PartReadings
 pub mod GovernanceReadings
+pub mod Acceptances

@@ -34,7 +34,9 @@ use Rattle.gl_ledger.proofs.Applications.{execute_ok}
 use Rattle.gl_ledger.proofs.Fitting.{execute_fits}
 use Rattle.gl_ledger.specs.Layers.{Layers}
 use Rattle.gl_ledger.specs.NodeKeys.{NodeKeys}
-use Rattle.gl_ledger.specs.Recordings.{Recording, OfGovernance, OfApplication, OfSignature, governance_recording, application_recording, is_founding, is_signing, last_entry, founds, requests_of, recorded_nodes, removal, mark}
+use Rattle.gl_ledger.specs.declared.recording.Recording.{Recording}
+use Rattle.gl_ledger.specs.declared.recording.Recording.TheVariants as recordings
+use Rattle.gl_ledger.specs.Recordings.{governance_recording, application_recording, is_founding, is_signing, last_entry, founds, requests_of, recorded_nodes, removal, mark}
 use Rattle.gl_ledger.specs.Acceptance.{required, request_fault}
 use Rattle.gl_ledger.specs.Broken.{Broken, breach, is_next_view, is_unopened, is_in_order, broken_of_run, broken_in_state, effect_writes, unless_refused, with_writes, signs_at, last_signed, commit_behind, commit_from, last_commit, is_above_removal, is_later_commit, may_record, broken_by_fault, are_same_writes, broken}
 use Rattle.gl_ledger.specs.Makers.{Given, Replied, Unspelled, MayMake, with_reply, request_result, guarded, unless_broken, governance_entry, signature_made, signed_entry, MakesValid}
@@ -67,13 +69,13 @@ module _ (layers : Layers) (keys : NodeKeys) (ledger : List Entry) (view : ℕ) 
       let entry = application_entry ledger view q ran in
       let seqno = length ledger + 1 in
       let all : broken layers ledger entry ≡ None = passing_all layers ledger entry (record {
-        recording = OfApplication q;
+        recording = recordings.Application q;
         reads = ap application_recording reads;
         fits = subst (λ (x : Entry). is_entry x ≡ true) made.3 one;
         seqno = itself (length ledger + 1);
         named = within (length ledger) made.7;
-        view = in_view (OfApplication q);
-        order = in_order (OfApplication q) refl;
+        view = in_view (recordings.Application q);
+        order = in_order (recordings.Application q) refl;
         rest = ap (λ (s : ServiceState). broken_in_state seqno s (run q (tables_of ledger)) entry) made.0 ∙ ap (λ (r : Result Ran Abort). broken_of_run seqno r entry) made.2
             ∙ passes (are_same_writes ran.writes ran.writes) _ _ (same_writes_self ran.writes)
             (passes (same_bytes (sha256 (reply_bytes ran.reply)) (sha256 (reply_bytes ran.reply))) _ None (same_bytes_self (sha256 (reply_bytes ran.reply))) refl);
@@ -81,19 +83,19 @@ module _ (layers : Layers) (keys : NodeKeys) (ledger : List Entry) (view : ℕ) 
       subst (λ (x : Entry). broken layers ledger x ≡ None) (sym made.3) all
 
   -- an accepted request of governance that doesn't found makes an entry that breaks no rule
-  pub governed_unbroken : (g : GovernanceRequest) → layers.request_in (governance_bytes g) ≡ Some g → request_fault layers (requests_of layers ledger) g ≡ None → is_founding (OfGovernance g) ≡ false →
+  pub governed_unbroken : (g : GovernanceRequest) → layers.request_in (governance_bytes g) ≡ Some g → request_fault layers (requests_of layers ledger) g ≡ None → is_founding (recordings.Governance g) ≡ false →
       length ledger < last_seqno → is_entry (governance_entry layers g ledger view) ≡ true → broken layers ledger (governance_entry layers g ledger view) ≡ None
   governed_unbroken g reads accepted other left fits =
       let seqno = length ledger + 1 in
       let writes = effect_writes (requests_of layers ledger) (record { seqno = seqno; request = g }) in
       passing_all layers ledger (governance_entry layers g ledger view) (record {
-        recording = OfGovernance g;
+        recording = recordings.Governance g;
         reads = ap governance_recording reads;
         fits = fits;
         seqno = itself seqno;
         named = within (length ledger) left;
-        view = in_view (OfGovernance g);
-        order = in_order (OfGovernance g) other;
+        view = in_view (recordings.Governance g);
+        order = in_order (recordings.Governance g) other;
         rest = ap (λ (o : Option GenesisFault). unless_refused o (with_writes 8 seqno writes (governance_entry layers g ledger view) None)) accepted
             ∙ passes (are_same_writes writes writes) _ None (same_writes_self writes) refl;
       })
@@ -112,8 +114,8 @@ module _ (layers : Layers) (keys : NodeKeys) (ledger : List Entry) (view : ℕ) 
       true_first (is_entry e) _ _ fits
       ∙ true_first (seqno == seqno) _ _ (itself seqno)
       ∙ true_first (nat_le seqno last_seqno) _ _ (within (length ledger) left)
-      ∙ true_first (is_next_view (last_entry ledger) (OfSignature s) view) _ _ (in_view (OfSignature s))
-      ∙ true_first (is_in_order layers (last_entry ledger) (OfSignature s) view) _ _ (in_order (OfSignature s) refl)
+      ∙ true_first (is_next_view (last_entry ledger) (recordings.Signature s) view) _ _ (in_view (recordings.Signature s))
+      ∙ true_first (is_in_order layers (last_entry ledger) (recordings.Signature s) view) _ _ (in_order (recordings.Signature s) refl)
       ∙ ap (λ (rest : Option Broken). required (member x (recorded_nodes layers ledger)) (breach 9 seqno e) rest)
       (true_first (same_bytes (root_of (leaves_of ledger)) (root_of (leaves_of ledger))) _ _ (same_bytes_self (root_of (leaves_of ledger)))
       ∙ ap (λ (rest : Option Broken). required (may_record layers ledger commit) (breach 10 seqno e) rest) (ap (broken_by_fault seqno) valid.valid))

@@ -29,7 +29,9 @@ use Rattle.gl_ledger.specs.declared.genesis.GovernanceRequest.TheVariants as req
 use Rattle.gl_ledger.specs.declared.breach.GenesisFault.{GenesisFault}
 use Rattle.gl_ledger.specs.Layers.{Layers}
 use Rattle.gl_ledger.specs.NodeKeys.{NodeKeys}
-use Rattle.gl_ledger.specs.Recordings.{Recording, OfGovernance, OfSignature, last_entry, recording_of, governance_recording, application_recording, is_founding, records_founding, is_signing, founds, requests_of, recorded_at, recorded_in, nodes_of, trusted_of, changed_set, recorded_nodes, trusted_nodes, configuration}
+use Rattle.gl_ledger.specs.declared.recording.Recording.{Recording}
+use Rattle.gl_ledger.specs.declared.recording.Recording.TheVariants as recordings
+use Rattle.gl_ledger.specs.Recordings.{last_entry, recording_of, governance_recording, application_recording, is_founding, records_founding, is_signing, founds, requests_of, recorded_at, recorded_in, nodes_of, trusted_of, changed_set, recorded_nodes, trusted_nodes, configuration}
 use Rattle.gl_ledger.specs.Acceptance.{genesis_fault}
 use Rattle.gl_ledger.specs.Broken.{Broken, unless_refused, is_in_order, is_unopened, broken_by, is_later_commit, may_record}
 use Rattle.gl_ledger.specs.Makers.{opening_of}
@@ -163,8 +165,8 @@ module _ (layers : Layers) (keys : NodeKeys) where
     records_two : recorded_commit e.content ≡ 2
     records_two =
         let s = signature_in e.content signer in
-        let is_read : second.recording ≡ OfSignature s.0 = let k = sym second.reads ∙ ap (recording_of layers) s.1 in cc in
-        let all : broken_by layers (OfSignature s.0) (f ∷ []) e ≡ None = ap (λ (t : Recording). broken_by layers t (f ∷ []) e) (sym is_read) ∙ second.rest in
+        let is_read : second.recording ≡ recordings.Signature s.0 = let k = sym second.reads ∙ ap (recording_of layers) s.1 in cc in
+        let all : broken_by layers (recordings.Signature s.0) (f ∷ []) e ≡ None = ap (λ (t : Recording). broken_by layers t (f ∷ []) e) (sym is_read) ∙ second.rest in
         let one = passed (member s.0.node (recorded_nodes layers (f ∷ []))) _ _ all in
         let two = passed (same_bytes s.0.root (root_of (leaves_of (f ∷ [])))) _ _ one.1 in
         let three = passed (may_record layers (f ∷ []) s.0.commit) _ _ two.1 in
@@ -176,7 +178,7 @@ module _ (layers : Layers) (keys : NodeKeys) where
 
     accepted : genesis_fault layers by.genesis ≡ None
     accepted =
-        let is_read : first.recording ≡ OfGovernance (requests.Genesis by.genesis) = let k = sym first.reads ∙ ap (recording_of layers) by.content_is ∙ ap governance_recording by.reads in cc in
+        let is_read : first.recording ≡ recordings.Governance (requests.Genesis by.genesis) = let k = sym first.reads ∙ ap (recording_of layers) by.content_is ∙ ap governance_recording by.reads in cc in
         unless_ok (genesis_fault layers by.genesis) _ (ap (λ (t : Recording). broken_by layers t [] f) (sym is_read) ∙ first.rest)
 
     -- its nodes, in their order
@@ -195,8 +197,8 @@ module _ (layers : Layers) (keys : NodeKeys) where
     unfolding recorded_nodes
     signed_by =
         let s = signature_in e.content signer in
-        let is_read : second.recording ≡ OfSignature s.0 = let k = sym second.reads ∙ ap (recording_of layers) s.1 in cc in
-        let all : broken_by layers (OfSignature s.0) (f ∷ []) e ≡ None = ap (λ (t : Recording). broken_by layers t (f ∷ []) e) (sym is_read) ∙ second.rest in
+        let is_read : second.recording ≡ recordings.Signature s.0 = let k = sym second.reads ∙ ap (recording_of layers) s.1 in cc in
+        let all : broken_by layers (recordings.Signature s.0) (f ∷ []) e ≡ None = ap (λ (t : Recording). broken_by layers t (f ∷ []) e) (sym is_read) ∙ second.rest in
         let one = passed (member s.0.node (recorded_nodes layers (f ∷ []))) _ _ all in
         let node : s.0.node ≡ x = let k = sym (ap signer_in s.1) ∙ signer in cc in
         let rs : requests_of layers (f ∷ []) ≡ record { seqno = 1; request = requests.Genesis by.genesis } ∷ [] =
@@ -277,8 +279,6 @@ module _ (layers : Layers) (keys : NodeKeys) where
 
   pub begins_opening : (s : Start Entry) → Begins layers s → IsOpening (ledger_book layers keys) (EachFollows (ledger_book layers keys)) s
   begins_opening s h = opened_opens s.opening s.first h.checked s.starting h.starts
-
-  -- so such a service is safe
 
 pub opening_opened : (layers : Layers) (keys : NodeKeys) (g : request.Genesis) (x : NodeId) → Founds layers keys g x → opened layers (opening_of keys g x) ≡ Ok x
 unfolding opened

@@ -17,7 +17,8 @@ use Rattle.gl_ledger.specs.declared.genesis.GovernanceRequest.TheVariants as req
 use Rattle.gl_ledger.specs.declared.breach.GenesisFault.{GenesisFault}
 use Rattle.gl_ledger.specs.Layers.{Layers}
 use Rattle.gl_ledger.specs.NodeKeys.{NodeKeys}
-use Rattle.gl_ledger.specs.Recordings.{OfGovernance, OfSignature, recording_of, governance_recording, records_founding, founds, requests_of, recorded_at, nodes_of, trusted_of, changed_set, recorded_nodes, trusted_nodes, configuration}
+use Rattle.gl_ledger.specs.declared.recording.Recording.TheVariants as recordings
+use Rattle.gl_ledger.specs.Recordings.{recording_of, governance_recording, records_founding, founds, requests_of, recorded_at, nodes_of, trusted_of, changed_set, recorded_nodes, trusted_nodes, configuration}
 use Rattle.gl_ledger.specs.Changes.{changes}
 use Rattle.gl_ledger.specs.Broken.{unless_refused, with_writes, is_later_commit, may_record, broken_by_fault, are_same_writes, broken}
 use Rattle.gl_ledger.specs.Makers.{signature_made, signed_entry, opening_of}
@@ -38,7 +39,7 @@ unfolding same
 member_first x ys = ap (λ (b : Bool). b || member x ys) (same_bytes_self x)
 
 module _ (layers : Layers) (keys : NodeKeys) (g : request.Genesis) (x : NodeId) (h : Founds layers keys g x) where
-  genesis_read : recording_of layers (content.Governance (genesis_bytes g)) ≡ Some (OfGovernance (requests.Genesis g))
+  genesis_read : recording_of layers (content.Governance (genesis_bytes g)) ≡ Some (recordings.Governance (requests.Genesis g))
   genesis_read = ap governance_recording h.reads
 
   pub founded : founds layers (genesis_entry g) ≡ true
@@ -46,7 +47,7 @@ module _ (layers : Layers) (keys : NodeKeys) (g : request.Genesis) (x : NodeId) 
 
   pub genesis_breaks_nothing : broken layers [] (genesis_entry g) ≡ None
   genesis_breaks_nothing = passing_all layers [] (genesis_entry g) (record {
-    recording = OfGovernance (requests.Genesis g);
+    recording = recordings.Governance (requests.Genesis g);
     reads = genesis_read;
     fits = h.fits;
     seqno = refl;
@@ -79,7 +80,7 @@ module _ (layers : Layers) (keys : NodeKeys) (g : request.Genesis) (x : NodeId) 
   signature_breaks_nothing =
       let s = signature_made keys x 0 (genesis_entry g ∷ []) first_view 2 in
       passing_all layers (genesis_entry g ∷ []) (signed_entry keys x 0 (genesis_entry g ∷ []) first_view 2) (record {
-        recording = OfSignature s;
+        recording = recordings.Signature s;
         reads = refl;
         fits = signed_is_entry layers keys x 0 (genesis_entry g ∷ []) first_view 2 (among x (map node_id g.nodes) (named_digests g.nodes) h.named) (omega arith) (omega arith) (omega arith) (omega arith) h.valid;
         seqno = refl;

@@ -4,7 +4,8 @@ use Rattle.gl_base.specs.TxId.{last_seqno}
 use Rattle.gl_entry.specs.Entry.{is_entry}
 use Rattle.gl_entry.specs.declared.entry.Entry.{Entry}
 use Rattle.gl_ledger.specs.Layers.{Layers}
-use Rattle.gl_ledger.specs.Recordings.{Recording, last_entry, recording_of}
+use Rattle.gl_ledger.specs.declared.recording.Recording.{Recording}
+use Rattle.gl_ledger.specs.Recordings.{last_entry, recording_of}
 use Rattle.gl_ledger.specs.Acceptance.{required}
 use Rattle.gl_ledger.specs.Broken.{breach, is_next_view, is_in_order, broken_by, broken_where, broken}
 

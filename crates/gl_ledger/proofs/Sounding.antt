@@ -39,7 +39,9 @@ use Rattle.gl_ledger.specs.declared.genesis.GovernanceRequest.{GovernanceRequest
 use Rattle.gl_ledger.specs.declared.genesis.GovernanceRequest.TheVariants as requests
 use Rattle.gl_ledger.specs.declared.breach.GenesisFault.{GenesisFault}
 use Rattle.gl_ledger.specs.Layers.{Layers, ReadsSpellings}
-use Rattle.gl_ledger.specs.Recordings.{Recording, OfGovernance, OfApplication, OfSignature, OfEvidence, governance_recording, application_recording, is_founding, records_founding, is_signing, last_entry, recording_of, founds, requests_of, recorded_nodes}
+use Rattle.gl_ledger.specs.declared.recording.Recording.{Recording}
+use Rattle.gl_ledger.specs.declared.recording.Recording.TheVariants as recordings
+use Rattle.gl_ledger.specs.Recordings.{governance_recording, application_recording, is_founding, records_founding, is_signing, last_entry, recording_of, founds, requests_of, recorded_nodes}
 use Rattle.gl_ledger.specs.Changes.{are_rows}
 use Rattle.gl_ledger.specs.Acceptance.{request_fault}
 use Rattle.gl_ledger.specs.Broken.{Broken, is_next_view, is_in_order, are_same_writes, broken_in_state, effect_writes, unless_refused, broken_by_fault, may_record, fault_of_signature, broken_by, broken}
@@ -149,7 +151,7 @@ module _ (layers : Layers) (readings : ReadsSpellings layers) (ledger : List Ent
 
   application : (bytes : List ℕ) (q : List Operation) → e.content ≡ content.Application bytes → request_of bytes ≡ Ok q → Stands
   application bytes q is reads =
-      in_state (service_state (tables_of ledger)) refl (run q (tables_of ledger)) refl (rest_of (OfApplication q) (ap (recording_of layers) is ∙ ap application_recording reads))
+      in_state (service_state (tables_of ledger)) refl (run q (tables_of ledger)) refl (rest_of (recordings.Application q) (ap (recording_of layers) is ∙ ap application_recording reads))
     where
       all : are_bytes bytes ≡ true
       all = sym (ap is_content is) ∙ fits.content
@@ -177,7 +179,7 @@ module _ (layers : Layers) (readings : ReadsSpellings layers) (ledger : List Ent
 
   signature : (s : signatures.Signature) → e.content ≡ content.Signature s → Stands
   signature s is =
-      let h = rest_of (OfSignature s) (ap (recording_of layers) is) in
+      let h = rest_of (recordings.Signature s) (ap (recording_of layers) is) in
       let one = passed (member s.node (recorded_nodes layers ledger)) _ _ h in
       let two = passed (same_bytes s.root (root_of (leaves_of ledger))) _ _ one.1 in
       let three = passed (may_record layers ledger s.commit) _ _ two.1 in
@@ -199,7 +201,7 @@ module _ (layers : Layers) (readings : ReadsSpellings layers) (ledger : List Ent
 
   governance : (bytes : List ℕ) (g : GovernanceRequest) → e.content ≡ content.Governance bytes → layers.request_in bytes ≡ Some g → Stands
   governance bytes g is reads =
-      let one = accepted (request_fault layers before g) _ (rest_of (OfGovernance g) (ap (recording_of layers) is ∙ ap governance_recording reads)) in
+      let one = accepted (request_fault layers before g) _ (rest_of (recordings.Governance g) (ap (recording_of layers) is ∙ ap governance_recording reads)) in
       let two = passed (are_same_writes e.writes (effect_writes before r)) _ None one.1 in
       let spelled = readings.spelled bytes g (sym (ap is_content is) ∙ fits.content) reads in
       let turns : Turns e.writes (effect before) (effect (before ++ r ∷ [])) =
@@ -236,7 +238,7 @@ module _ (layers : Layers) (readings : ReadsSpellings layers) (ledger : List Ent
 
   stands_by : (c : Content) → e.content ≡ c → Stands
   stands_by (content.Signature s) is = signature s is
-  stands_by (content.Evidence d) is = absurd (let h = rest_of (OfEvidence d) (ap (recording_of layers) is) in cc)
+  stands_by (content.Evidence d) is = absurd (let h = rest_of (recordings.Evidence d) (ap (recording_of layers) is) in cc)
   stands_by (content.Application bytes) is = go (request_of bytes) refl
     where
       go : (r : Result (List Operation) CodeFault) → request_of bytes ≡ r → Stands

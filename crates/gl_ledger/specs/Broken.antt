@@ -33,7 +33,9 @@ use Rattle.gl_ledger.specs.declared.breach.GenesisFault.{GenesisFault}
 use Rattle.gl_ledger.specs.declared.breach.EntryRefusal.{EntryRefusal}
 use Rattle.gl_ledger.specs.declared.breach.EntryRefusal.TheVariants as refusals
 use Rattle.gl_ledger.specs.Layers.{Layers}
-use Rattle.gl_ledger.specs.Recordings.{Recording, OfGovernance, OfApplication, OfSignature, OfEvidence, is_founding, is_signing, last_entry, recording_of, founds, requests_of, recorded_nodes, removal, mark}
+use Rattle.gl_ledger.specs.declared.recording.Recording.{Recording}
+use Rattle.gl_ledger.specs.declared.recording.Recording.TheVariants as recordings
+use Rattle.gl_ledger.specs.Recordings.{is_founding, is_signing, last_entry, recording_of, founds, requests_of, recorded_nodes, removal, mark}
 use Rattle.gl_ledger.specs.Changes.{changes}
 use Rattle.gl_ledger.specs.Acceptance.{required, request_fault}
 
@@ -206,10 +208,10 @@ module _ (layers : Layers) where
 
   -- Rules 5 to 12, by what the entry records. For now no evidence entry may follow.
   abbrev pub broken_by : Recording → List Entry → Entry → Option Broken
-  broken_by (OfApplication q) ledger e = broken_by_application q ledger e
-  broken_by (OfGovernance g) ledger e = broken_by_governance g ledger e
-  broken_by (OfSignature s) ledger e = broken_by_signature s ledger e
-  broken_by (OfEvidence d) ledger e = Some (breach 12 (length ledger + 1) e)
+  broken_by (recordings.Application q) ledger e = broken_by_application q ledger e
+  broken_by (recordings.Governance g) ledger e = broken_by_governance g ledger e
+  broken_by (recordings.Signature s) ledger e = broken_by_signature s ledger e
+  broken_by (recordings.Evidence d) ledger e = Some (breach 12 (length ledger + 1) e)
 
   abbrev pub broken_where : Option Recording → List Entry → Entry → Option Broken
   broken_where None ledger e = Some (breach 1 (length ledger + 1) e)

@@ -9,40 +9,34 @@ use Rattle.gl_tx.specs.declared.request.Operation.{Operation}
 use Rattle.gl_entry.specs.declared.entry.Content.{Content}
 use Rattle.gl_entry.specs.declared.entry.Content.TheVariants as content
 use Rattle.gl_entry.specs.declared.entry.Entry.{Entry}
-use Rattle.gl_entry.specs.declared.entry.Signature as signatures
 use Rattle.gl_ledger.specs.Genesis.{node_id}
 use Rattle.gl_ledger.specs.Effect.{Recorded}
 use Rattle.gl_ledger.specs.declared.genesis.GovernanceRequest.{GovernanceRequest}
 use Rattle.gl_ledger.specs.declared.genesis.GovernanceRequest.TheVariants as requests
+use Rattle.gl_ledger.specs.declared.recording.Recording.{Recording}
+use Rattle.gl_ledger.specs.declared.recording.Recording.TheVariants as recordings
 use Rattle.gl_ledger.specs.Layers.{Layers}
-
--- What an entry records.
-pub data Recording : Type 0 where
-  OfGovernance : (request : GovernanceRequest) → Recording
-  OfApplication : (request : List Operation) → Recording
-  OfSignature : (signature : signatures.Signature) → Recording
-  OfEvidence : (digest : List ℕ) → Recording
 
 abbrev pub governance_recording : Option GovernanceRequest → Option Recording
 governance_recording None = None
-governance_recording (Some request) = Some (OfGovernance request)
+governance_recording (Some request) = Some (recordings.Governance request)
 
 abbrev pub application_recording : Result (List Operation) CodeFault → Option Recording
 application_recording (Err fault) = None
-application_recording (Ok request) = Some (OfApplication request)
+application_recording (Ok request) = Some (recordings.Application request)
 
 -- It is a request that founds a service.
 abbrev pub is_founding : Recording → Bool
-is_founding (OfGovernance (requests.Genesis g)) = true
-is_founding (OfApplication request) = false
-is_founding (OfSignature s) = false
-is_founding (OfEvidence d) = false
+is_founding (recordings.Governance (requests.Genesis g)) = true
+is_founding (recordings.Application request) = false
+is_founding (recordings.Signature s) = false
+is_founding (recordings.Evidence d) = false
 
 abbrev pub is_signing : Recording → Bool
-is_signing (OfGovernance request) = false
-is_signing (OfApplication request) = false
-is_signing (OfSignature s) = true
-is_signing (OfEvidence d) = false
+is_signing (recordings.Governance request) = false
+is_signing (recordings.Application request) = false
+is_signing (recordings.Signature s) = true
+is_signing (recordings.Evidence d) = false
 
 -- Something is recorded, and it is such a request.
 abbrev pub records_founding : Option Recording → Bool
@@ -58,8 +52,8 @@ module _ (layers : Layers) where
   abbrev pub recording_of : Content → Option Recording
   recording_of (content.Governance bytes) = governance_recording (layers.request_in bytes)
   recording_of (content.Application bytes) = application_recording (request_of bytes)
-  recording_of (content.Signature s) = Some (OfSignature s)
-  recording_of (content.Evidence d) = Some (OfEvidence d)
+  recording_of (content.Signature s) = Some (recordings.Signature s)
+  recording_of (content.Evidence d) = Some (recordings.Evidence d)
 
   -- The entry founds a service.
   abbrev pub founds : Entry → Bool

@@ -5,14 +5,18 @@
 //! nodes are and whether the service is open ("Builtin Maps").
 #![tactic(auto)]
 
+mod acceptance;
 mod breach;
 mod decode;
 mod encode;
 mod genesis;
 mod laws;
+mod node_signature;
+mod recording;
 mod refusal;
 mod rows;
 
+pub use acceptance::genesis_fault;
 pub use breach::{EntryRefusal, GenesisFault};
 pub use encode::{genesis_bytes, state_byte};
 pub use genesis::{
@@ -20,6 +24,8 @@ pub use genesis::{
     ServiceState, ShareDigest,
 };
 pub use laws::{is_audited, is_kept_sound, is_lawful, is_opened, is_read, is_signed, is_unguarded};
+pub use node_signature::node_signature_fault;
+pub use recording::{Recording, recording_of};
 pub use refusal::Refusal;
 pub use rows::genesis_writes;
 

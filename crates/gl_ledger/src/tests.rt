@@ -13,7 +13,9 @@ use gl_vmaps::Write;
 use std::alloc::{AllocError, Global};
 use std::test::Fail;
 
+mod acceptance;
 mod decode;
+mod recording;
 
 // The digest of 56 bytes 07.
 const NODE: [u8; 32] = [

@@ -6,6 +6,9 @@ use std::alloc::{AllocError, Global};
 use std::process::Abort;
 use std::test::Fail;
 
+mod receipts;
+mod words;
+
 /// Lines behind a first one without their newlines, each with what is written for it.
 const ROW: [(&[u8], &[u8]); 7] = [
     (b"submit 1 put public:t 61 01", b"2 accepted 2.3 done\n"),
@@ -294,19 +297,6 @@ fn refuses_what_is_no_schedule(rt: HostRuntime) -> Result<(), Fail> {
         let (status, written) = run(alloc, &["replay"], &text)?;
         assert_eq!(rt; status, 9, "of {text:?}");
         assert_eq!(rt; written.as_slice(), bad_line(alloc, number)?.as_slice());
-    }
-    Ok(())
-}
-
-#[test]
-fn takes_one_word_alone(rt: HostRuntime) -> Result<(), Fail> {
-    let alloc = rt.alloc();
-    let rows: [&[&str]; 5] = [&[], &[""], &["play"], &["Replay"], &["replay", "replay"]];
-    let text = one_open(alloc)?;
-    for called in rows {
-        let (status, written) = run(alloc, called, &text)?;
-        assert_eq!(rt; status, 2, "of {called:?}");
-        assert_eq!(rt; written.as_slice(), b"fault words\n".as_slice());
     }
     Ok(())
 }

@@ -2,8 +2,7 @@
 -- tells them or not.
 use Rattle.std.proofs.Common.{◌≡◌, ℕ, ◌<◌, List, [], length, Option, None, Some, Bool, true, nat_lt, if◌then◌else◌, IfSome, refl, sym, ap, subst, arith, length-append}
 use Rattle.std.proofs.lemmas.Bool.Decides.{nat_tests}
-use Rattle.std.specs.Io.KnownBytes.{Appends, Consumes, Keeps}
-use Rattle.gl_outside.specs.Fault.{Rose}
+use Rattle.std.specs.Io.KnownBytes.{Appends, Consumes}
 use Rattle.gl_outside.specs.Sink.{AppendsFront}
 use Rattle.gl_lines.specs.Lines.{line_count}
 use Rattle.gl_receipt.specs.Form.{receipt_from}
@@ -11,12 +10,11 @@ use Rattle.ccfg.specs.declared.ending.Ending.{Ending}
 use Rattle.ccfg.specs.declared.ending.Ending.TheVariants as endings
 use Rattle.ccfg.specs.declared.fault.Fault.{Fault}
 use Rattle.ccfg.specs.declared.fault.Fault.TheVariants as faults
-use Rattle.ccfg.specs.declared.plan.Plan.{Plan}
 use Rattle.ccfg.specs.declared.words.Task.{Task}
 use Rattle.ccfg.specs.declared.words.Task.TheVariants as tasks
 use Rattle.ccfg.specs.Faults.{fault_line}
 use Rattle.ccfg.specs.Owed.{Due, OfBytes, Owes, Run, Runs, Written, WritesDue, bytes_limit, due_of, due_of_fault, due_of_form, due_of_reading, due_of_receipt, due_of_schedule, ending_of_fault, json_limit, lines_limit}
-use Rattle.ccfg.specs.Plans.{EndsSource, due_of_plan, fault_of_length, limit_of}
+use Rattle.ccfg.specs.Plans.{EndsSource, fault_of_length, limit_of}
 use Rattle.ccfg.specs.Schedules.{reads}
 
 -- a fault that is told

@@ -18,7 +18,9 @@ mod verify;
 mod words;
 
 use ending::Ending;
-use gl_outside::{Sink, SinkFault, StreamSink, StreamSource, write_whole};
+use gl_outside::{
+    NoDisk, OpenGate, Sink, SinkFault, StreamSink, StreamSource, SureLink, write_whole,
+};
 use help::{HELP, VERSION};
 use std::alloc::{AllocError, Global};
 use std::process::ExitCode;
@@ -62,7 +64,17 @@ fn status(rt: &HostRuntime) -> Result<u8, AllocError> {
         return Ok(print(text.as_str(), &mut sink).status());
     }
     let mut source = StreamSource::new(rt.reader());
-    Ok(program::top(rt.alloc(), &words, &mut source, &mut sink))
+    let mut disk = NoDisk::new();
+    let mut link = SureLink::new(rt.alloc(), &[]);
+    Ok(program::top(
+        rt.alloc(),
+        &words,
+        &mut source,
+        &mut sink,
+        &mut disk,
+        &mut link,
+        &OpenGate,
+    ))
 }
 
 /// Runs the program over the standard streams.

@@ -24,7 +24,7 @@ use crate::schedule::Schedule;
 use crate::verify::valid_line;
 use crate::words::{Task, WordsFault, read_words};
 use gl_base::TxId;
-use gl_outside::{Sink, SinkFault, Source, write_whole};
+use gl_outside::{Disk, Gate, Link, Sink, SinkFault, Source, write_whole};
 use std::alloc::Global;
 
 /// Tells a fault.
@@ -150,8 +150,17 @@ fn run<S: Source, K: Sink>(alloc: Global, words: &[String], source: &mut S, sink
 /// came of each of its lines; `verify --identity HEX` verifies the receipt that the source gives,
 /// under the service's key HEX, and prints which transaction it shows. The answer is the exit
 /// status: 0 done, 1 the receipt is not valid, 2 other words, 3 the source failed, 4 the sink
-/// failed, 7 want of memory, 8 a limit is passed, 9 no schedule or no receipt.
-pub fn top<S: Source, K: Sink>(alloc: Global, words: &[String], source: &mut S, sink: &mut K) -> u8
+/// failed, 7 want of memory, 8 a limit is passed, 9 no schedule or no receipt. No command uses the
+/// disk, the link or the gate yet.
+pub fn top<S: Source, K: Sink, D: Disk + Send, L: Link, G: Gate + Sync>(
+    alloc: Global,
+    words: &[String],
+    source: &mut S,
+    sink: &mut K,
+    disk: &mut D,
+    link: &mut L,
+    gate: &G,
+) -> u8
     // How the run ends, by its words, its source and its sink, and what was written.
     ensures answers { (e : Endings) × (result ≡ exit_status e)
         × Answers (asked (map string_bytes words.now)) e (record {
@@ -214,6 +223,9 @@ pub fn top<S: Source, K: Sink>(alloc: Global, words: &[String], source: &mut S, 
     // They leave the source unread: it is as it was.
     ensures source { (kinds : Kinds) → asked (map string_bytes words.now) ≡ Err kinds
         → source.new ≡ source.old }
+    // No command uses the disk or the link.
+    ensures disk { disk.new ≡ disk.old }
+    ensures link { link.new ≡ link.old }
     // Unless the source or the sink fails or memory runs out: bytes with an answer give 0,
     ensures answered { (task : Tasks) → asked (map string_bytes words.now) ≡ Ok task
         → IfSome (S.left source.old) (λ given. (text : List ℕ) → IsAnswer task given text

@@ -1,7 +1,9 @@
 //! Schedules and the text that is due for them, worked out by hand.
 
 use crate::program::top;
-use gl_outside::{MemSink, MemSource, SureSink, SureSource};
+use gl_outside::{
+    MemSink, MemSource, NoDisk, OpenGate, Sink, Source, SureLink, SureSink, SureSource,
+};
 use std::alloc::{AllocError, Global};
 use std::process::Abort;
 use std::test::Fail;
@@ -57,12 +59,24 @@ fn to_words(alloc: Global, words: &[&str]) -> Result<Vec<String>, AllocError> {
     Ok(held)
 }
 
+/// The status of a run without a disk, over a link on which nothing comes.
+fn status_of<S: Source, K: Sink>(
+    alloc: Global,
+    called: &[String],
+    source: &mut S,
+    sink: &mut K,
+) -> u8 {
+    let mut disk = NoDisk::new();
+    let mut link = SureLink::new(alloc, &[]);
+    top(alloc, called, source, sink, &mut disk, &mut link, &OpenGate)
+}
+
 /// The status of a run over a source and a sink that never fail, and what was written.
 fn run(alloc: Global, called: &[&str], text: &[u8]) -> Result<(u8, Vec<u8>), AllocError> {
     let called = to_words(alloc, called)?;
     let mut source = SureSource::new(text, 50);
     let mut sink = SureSink::new(alloc, 7);
-    let status = top(alloc, &called, &mut source, &mut sink);
+    let status = status_of(alloc, &called, &mut source, &mut sink);
     Ok((status, sink.held))
 }
 
@@ -71,7 +85,7 @@ fn run_in_large_pieces(alloc: Global, text: &[u8]) -> Result<(u8, Vec<u8>), Allo
     let called = to_words(alloc, &["replay"])?;
     let mut source = SureSource::new(text, 65536);
     let mut sink = SureSink::new(alloc, 50);
-    let status = top(alloc, &called, &mut source, &mut sink);
+    let status = status_of(alloc, &called, &mut source, &mut sink);
     Ok((status, sink.held))
 }
 
@@ -81,7 +95,7 @@ fn run_over_failed_read(alloc: Global, text: &[u8], at: u64) -> Result<(u8, Vec<
     let failing = [at];
     let mut source = MemSource::new(text, 1, &failing);
     let mut sink = SureSink::new(alloc, 50);
-    let status = top(alloc, &called, &mut source, &mut sink);
+    let status = status_of(alloc, &called, &mut source, &mut sink);
     Ok((status, sink.held))
 }
 
@@ -91,7 +105,7 @@ fn run_over_failed_write(alloc: Global, text: &[u8], at: u64) -> Result<(u8, Vec
     let failing = [at];
     let mut source = SureSource::new(text, 50);
     let mut sink = MemSink::new(alloc, 50, &failing);
-    let status = top(alloc, &called, &mut source, &mut sink);
+    let status = status_of(alloc, &called, &mut source, &mut sink);
     Ok((status, sink.inner.held))
 }
 

@@ -1,8 +1,7 @@
 //! Receipts that are verified. What is due for a changed one is what `examples/receipt/verify.py`
 //! prints for it.
 
-use crate::program::top;
-use crate::tests::{join, run, to_words};
+use crate::tests::{join, run, status_of, to_words};
 use gl_outside::{MemSink, MemSource, SureSink, SureSource};
 use std::alloc::{AllocError, Global};
 use std::test::Fail;
@@ -11,6 +10,11 @@ use std::test::Fail;
 pub(crate) const IDENTITY: &str = "\
     000000020000000500000004c00d2e39cbe697efbbf49e528e1da22e3c8d981478775288251eae18295c29a50a6\
     c0425d60a46a45eccedd059ce1460";
+
+/// Another key.
+const OTHER_IDENTITY: &str = "\
+    000000020000000500000004c00d2e39cbe697efbbf49e528e1da22e3c8d981478775288251eae18295c29a50a6\
+    c0425d60a46a45eccedd059ce1461";
 
 /// A receipt of its transaction 2.3, made by `examples/receipt/make.py`.
 const RECEIPT: &str = "\
@@ -147,9 +151,7 @@ fn tells_why_a_receipt_is_not_valid(rt: HostRuntime) -> Result<(), Fail> {
 #[test]
 fn verifies_under_one_key_alone(rt: HostRuntime) -> Result<(), Fail> {
     let alloc = rt.alloc();
-    let (front, _) = IDENTITY.split_at(119);
-    let other = format!(in alloc; "{front}1")?;
-    let called = ["verify", "--identity", other.as_str()];
+    let called = ["verify", "--identity", OTHER_IDENTITY];
     let (status, written) = run(alloc, &called, RECEIPT.as_bytes())?;
     assert_eq!(rt; status, 1);
     assert_eq!(rt; written.as_slice(), b"fault Evidence\n".as_slice());
@@ -189,7 +191,7 @@ fn tells_its_limit(rt: HostRuntime) -> Result<(), Fail> {
         let mut source = SureSource::new(&text, 65536);
         let mut sink = SureSink::new(alloc, 50);
         let called = verify_under(alloc, IDENTITY)?;
-        assert_eq!(rt; top(alloc, &called, &mut source, &mut sink), want);
+        assert_eq!(rt; status_of(alloc, &called, &mut source, &mut sink), want);
         assert_eq!(rt; sink.held.as_slice(), due);
     }
     Ok(())
@@ -204,7 +206,7 @@ fn ends_with_3_where_a_read_fails(rt: HostRuntime) -> Result<(), Fail> {
         let mut source = MemSource::new(RECEIPT.as_bytes(), 3000, &failing);
         let mut sink = SureSink::new(alloc, 50);
         assert_eq!(rt;
-            top(alloc, &called, &mut source, &mut sink),
+            status_of(alloc, &called, &mut source, &mut sink),
             3,
             "at read {at}"
         );
@@ -223,7 +225,7 @@ fn ends_with_4_behind_what_was_written(rt: HostRuntime) -> Result<(), Fail> {
         let mut source = SureSource::new(RECEIPT.as_bytes(), 3000);
         let mut sink = MemSink::new(alloc, 5, &failing);
         assert_eq!(rt;
-            top(alloc, &called, &mut source, &mut sink),
+            status_of(alloc, &called, &mut source, &mut sink),
             4,
             "at write {at}"
         );

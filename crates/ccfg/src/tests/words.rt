@@ -1,20 +1,23 @@
 //! Words that ask for nothing, and the kind of fault that is told.
 
-use crate::program::top;
 use crate::tests::receipts::IDENTITY;
-use crate::tests::{one_open, run, to_words};
+use crate::tests::{one_open, run, status_of, to_words};
 use gl_outside::{MemSource, SureSink};
 use std::test::Fail;
 
+/// The key in upper-case digits.
 const UPPER: &str = "\
     000000020000000500000004C00D2E39CBE697EFBBF49E528E1DA22E3C8D981478775288251EAE18295C29A50A6\
     C0425D60A46A45ECCEDD059CE1460";
 
+/// A digit too few.
+const SHORT: &str = "\
+    000000020000000500000004c00d2e39cbe697efbbf49e528e1da22e3c8d981478775288251eae18295c29a50a6\
+    c0425d60a46a45eccedd059ce146";
+
 #[test]
 fn tells_one_kind_of_fault(rt: HostRuntime) -> Result<(), Fail> {
     let alloc = rt.alloc();
-    let (short, _) = IDENTITY.split_at(119);
-    let joined = format!(in alloc; "--identity={IDENTITY}")?;
     let rows: [(&[&str], &str); 19] = [
         (&[], "MissingSubcommand"),
         (&[""], "InvalidSubcommand"),
@@ -33,9 +36,9 @@ fn tells_one_kind_of_fault(rt: HostRuntime) -> Result<(), Fail> {
             "ArgumentConflict",
         ),
         (&["verify", "--identity", UPPER], "ValueValidation"),
-        (&["verify", "--identity", short], "ValueValidation"),
+        (&["verify", "--identity", SHORT], "ValueValidation"),
         (&["verify", "--identity", ""], "ValueValidation"),
-        (&["verify", joined.as_str(), "x"], "UnknownArgument"),
+        (&["verify", "--identity=00", "x"], "UnknownArgument"),
         (&["--help"], "DisplayHelp"),
         (&["--version"], "DisplayVersion"),
     ];
@@ -56,6 +59,6 @@ fn leaves_the_source_unread(rt: HostRuntime) -> Result<(), Fail> {
     let failing = [1];
     let mut source = MemSource::new(b"world", 1, &failing);
     let mut sink = SureSink::new(alloc, 50);
-    assert_eq!(rt; top(alloc, &called, &mut source, &mut sink), 2);
+    assert_eq!(rt; status_of(alloc, &called, &mut source, &mut sink), 2);
     Ok(())
 }

@@ -1,4 +1,3 @@
-use Rattle.std.proofs.Common.{refl, ◌∙◌}
 use Rattle.ccfg.proofs.WordLemmas.{entered_as, faultless, kind_found}
 use Rattle.ccfg.proofs.words.matches_of.Goals as goal
 

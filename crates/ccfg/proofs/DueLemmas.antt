@@ -10,11 +10,14 @@ use Rattle.ccfg.specs.declared.ending.Ending.{Ending}
 use Rattle.ccfg.specs.declared.ending.Ending.TheVariants as endings
 use Rattle.ccfg.specs.declared.fault.Fault.{Fault}
 use Rattle.ccfg.specs.declared.fault.Fault.TheVariants as faults
+use Rattle.ccfg.specs.declared.plan.Plan.{Plan}
+use Rattle.ccfg.specs.declared.plan.Plan.TheVariants.{Play, Show, Refuse}
 use Rattle.ccfg.specs.declared.words.Task.{Task}
 use Rattle.ccfg.specs.declared.words.Task.TheVariants as tasks
 use Rattle.ccfg.specs.Faults.{fault_line}
 use Rattle.ccfg.specs.Owed.{Due, OfBytes, Owes, Run, Runs, Written, WritesDue, bytes_limit, due_of, due_of_fault, due_of_form, due_of_reading, due_of_receipt, due_of_schedule, ending_of_fault, json_limit, lines_limit}
-use Rattle.ccfg.specs.Plans.{EndsSource, fault_of_length, limit_of}
+use Rattle.ccfg.specs.Plans.{EndsSource, ShowsAccepted, due_of_plan, fault_of_length, limit_of}
+use Rattle.ccfg.specs.Promises.{TellsAccepted}
 use Rattle.ccfg.specs.Schedules.{reads}
 
 -- a fault that is told
@@ -78,6 +81,42 @@ whole_ends endings.SinkFailed ended is = tt
 whole_ends endings.Memory ended is = tt
 whole_ends endings.PastLimit ended is = tt
 whole_ends endings.NoReading ended is = tt
+
+-- a fault shows nothing
+pub sound_refusal : (task : Task) (given : List ℕ) (fault : Fault) → ShowsAccepted task given (Refuse fault)
+sound_refusal tasks.Replay given fault = tt
+sound_refusal (tasks.Verify identity) given fault = tt
+
+pub of_sound_refusal : (task : Task) (given : Option (List ℕ)) (fault : Fault) → OfBytes given (λ g. ShowsAccepted task g (Refuse fault))
+of_sound_refusal task None fault = ([], sound_refusal task [] fault)
+of_sound_refusal task (Some g) fault = sound_refusal task g fault
+
+no_fault_done : (fault : Fault) → ending_of_fault fault ≡ endings.Done → ⊥
+no_fault_done (faults.Words kind) is = cc
+no_fault_done faults.TooManyBytes is = cc
+no_fault_done faults.TooManyLines is = cc
+no_fault_done faults.TooMuchJson is = cc
+no_fault_done (faults.BadLine number) is = cc
+no_fault_done (faults.Form fault) is = cc
+no_fault_done (faults.NotValid fault) is = cc
+
+-- a plan that was carried out under a key
+accepted_by : (identity : List ℕ) (plan : Plan) (w : Written) (g : List ℕ) → ShowsAccepted (tasks.Verify identity) g plan → WritesDue endings.Done w (due_of_plan plan) → TellsAccepted identity g w.held w.holds
+accepted_by identity (Play schedule) w g sound writes = absurd sound
+accepted_by identity (Show id) w g sound writes = (sound.0, sound.1, id, sound.2, writes.1)
+accepted_by identity (Refuse fault) w g sound writes = absurd (no_fault_done fault writes.0)
+
+pub accepted : (task : Task) (identity : List ℕ) (plan : Plan) (e : Ending) (w : Written) (given : Option (List ℕ)) → task ≡ tasks.Verify identity → OfBytes given (λ g. ShowsAccepted task g plan) →
+    e ≡ endings.Done → WritesDue e w (due_of_plan plan) → OfBytes given (λ g. TellsAccepted identity g w.held w.holds)
+accepted task identity plan e w given asks sound is writes =
+    go given (subst (λ (t : Task). OfBytes given (λ g. ShowsAccepted t g plan)) asks sound)
+  where
+    done : WritesDue endings.Done w (due_of_plan plan)
+    done = subst (λ (x : Ending). WritesDue x w (due_of_plan plan)) is writes
+
+    go : (given : Option (List ℕ)) → OfBytes given (λ g. ShowsAccepted (tasks.Verify identity) g plan) → OfBytes given (λ g. TellsAccepted identity g w.held w.holds)
+    go None sound = (sound.0, accepted_by identity plan w sound.0 sound.1 done)
+    go (Some g) sound = accepted_by identity plan w g sound done
 
 -- what is due of a plan is due of the bytes
 owes_due : (e : Ending) (r : Run) (owed : List ℕ → Due) (due : Due) → OfBytes r.given (λ g. owed g ≡ due) → WritesDue e r.written due → Owes e r owed

@@ -88,7 +88,7 @@ runs_as : (asks : Result Task Kinds) (task : Task) (e : Ending) (r : Run) → as
 runs_as asks task e r is a = subst (λ (x : Result Task Kinds). Answers x e r) is a
 
 -- The endings, by the status.
-status_done : (e : Ending) → exit_status e ≡ 0 → e ≡ endings.Done
+pub status_done : (e : Ending) → exit_status e ≡ 0 → e ≡ endings.Done
 status_done endings.Done is = refl
 status_done e is = absurd (omega (arith, is))
 

@@ -1,5 +1,8 @@
 -- What a plan owes.
-use Rattle.std.specs.Prelude.{◌≡◌, ℕ, Bool, true}
+use Rattle.std.specs.Prelude.{◌≡◌, ℕ, Bool, List, Ok, true}
+use Rattle.gl_receipt.specs.Form.{receipt_from}
+use Rattle.gl_receipt.specs.Receipt.{Accepts}
+use Rattle.gl_receipt.specs.declared.components.Receipt.{Receipt}
 use Rattle.gl_world.specs.Single.{IsSingle}
 use Rattle.ccfg.specs.declared.ending.Ending.{Ending}
 use Rattle.ccfg.specs.declared.ending.Ending.TheVariants as endings
@@ -28,6 +31,15 @@ abbrev pub PlaysOneNode : Plan → Type 0
 PlaysOneNode (Play schedule) = HasOneNode schedule
 PlaysOneNode (Show id) = Unit {0}
 PlaysOneNode (Refuse fault) = Unit {0}
+
+-- Under a service's key nothing is played, and a transaction is shown only of a receipt that shows
+-- it.
+abbrev pub ShowsAccepted : Task → List ℕ → Plan → Type 0
+ShowsAccepted tasks.Replay given plan = Unit {0}
+ShowsAccepted (tasks.Verify identity) given (Play schedule) = ⊥
+ShowsAccepted (tasks.Verify identity) given (Show id) =
+    (receipt : Receipt) × (receipt_from given ≡ Ok receipt) × Accepts identity receipt id
+ShowsAccepted (tasks.Verify identity) given (Refuse fault) = Unit {0}
 
 -- The source gives its end where a run is done, or the verdict is no.
 abbrev pub EndsSource : Ending → Bool → Type 0

@@ -9,6 +9,7 @@ use Rattle.gl_lines.specs.declared.fault.ScheduleFault.TheVariants.{BadLine}
 use Rattle.gl_lines.specs.Lines.{line_count}
 use Rattle.gl_outside.specs.Sink.{AppendsFront}
 use Rattle.gl_receipt.specs.Form.{receipt_from}
+use Rattle.gl_receipt.specs.Receipt.{Accepts}
 use Rattle.gl_receipt.specs.Verdict.{verdict}
 use Rattle.gl_receipt.specs.declared.components.Receipt.{Receipt}
 use Rattle.gl_receipt.specs.declared.fault.ReceiptFault.{ReceiptFault}
@@ -93,6 +94,13 @@ IsUnread (tasks.Verify identity) given text =
 abbrev pub IsKindLine : Kinds → List ℕ → Type 0
 IsKindLine kinds text =
     (kind : ErrorKind) × IsAmong kind kinds × (text ≡ fault_line (faults.Words kind))
+
+-- The bytes are a receipt which shows that the service with this key committed a transaction, and
+-- exactly the line of this transaction was written.
+abbrev pub TellsAccepted : List ℕ → List ℕ → Option (List ℕ) → Option (List ℕ) → Type 0
+TellsAccepted identity given held holds =
+    (receipt : Receipt) × (receipt_from given ≡ Ok receipt)
+    × (id : TxId) × Accepts identity receipt id × Appends held holds (valid_line id)
 
 -- Exactly such a text was written.
 abbrev pub Tells : (List ℕ → Type 0) → Option (List ℕ) → Option (List ℕ) → Type 0

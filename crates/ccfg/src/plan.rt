@@ -3,7 +3,7 @@
 ghost use Rattle.std.specs.Prelude.{◌≡◌, ◌≤◌, ◌<◌, ◌^◌, Err, IfOk, length};
 ghost use Rattle.gl_outside.specs.Fault.{Rose};
 ghost use Rattle.ccfg.specs.Owed.{OfBytes, bytes_limit, due_of, due_of_schedule};
-ghost use Rattle.ccfg.specs.Plans.{EndsSource, PlaysOneNode, due_of_plan, fault_of_length, limit_of};
+ghost use Rattle.ccfg.specs.Plans.{EndsSource, ShowsAccepted, PlaysOneNode, due_of_plan, fault_of_length, limit_of};
 
 use crate::fault::Fault;
 use crate::load::{LoadStop, load};
@@ -80,6 +80,7 @@ fn schedule_plan(alloc: Global, text: &[u8]) -> Result<Plan, AllocError>
 fn plan_of(alloc: Global, task: &Task, text: &[u8]) -> Result<Plan, AllocError>
     requires { length text.now ≤ limit_of task.now }
     ensures due { IfOk result (λ plan. due_of task.now text.now ≡ due_of_plan plan) }
+    ensures sound { IfOk result (λ plan. ShowsAccepted task.now text.now plan) }
     ensures one_node { IfOk result (λ plan. PlaysOneNode plan) }
 {
     match task {
@@ -99,6 +100,8 @@ pub enum PlanStop {
 pub fn read_plan<S: Source>(alloc: Global, task: &Task, source: &mut S) -> Result<Plan, PlanStop>
     ensures due { IfOk result (λ plan.
         OfBytes (S.left source.old) (λ given. due_of task.now given ≡ due_of_plan plan)) }
+    ensures sound { IfOk result (λ plan.
+        OfBytes (S.left source.old) (λ given. ShowsAccepted task.now given plan)) }
     ensures ended { IfOk result (λ plan.
         EndsSource (due_of_plan plan).ending (S.ended source.new)) }
     ensures one_node { IfOk result (λ plan. PlaysOneNode plan) }

@@ -7,12 +7,14 @@ ghost use Rattle.clap.specs.Kinds.{Kinds};
 ghost use Rattle.gl_outside.specs.Fault.{Rose};
 ghost use Rattle.gl_outside.specs.Sink.{AppendsFront};
 ghost use Rattle.ccfg.specs.declared.ending.Ending.{Ending as Endings};
+ghost use Rattle.ccfg.specs.declared.ending.Ending.TheVariants.{Done};
 ghost use Rattle.ccfg.specs.declared.plan.Plan.TheVariants.{Play, Show};
+ghost use Rattle.ccfg.specs.declared.words.Task.TheVariants.{Verify};
 ghost use Rattle.ccfg.specs.declared.words.Task.{Task as Tasks};
 ghost use Rattle.ccfg.specs.Moments.{KeepsHeadline, TellsMoments};
 ghost use Rattle.ccfg.specs.Owed.{Answers, OfBytes, Runs, WritesDue, due_of, due_of_fault, exit_status};
 ghost use Rattle.ccfg.specs.Plans.{HasOneNode, PlaysOneNode, due_of_plan};
-ghost use Rattle.ccfg.specs.Promises.{IsAnswer, IsKindLine, IsPastLimit, IsRefusal, IsUnread, Tells, TellsFront};
+ghost use Rattle.ccfg.specs.Promises.{IsAnswer, IsKindLine, IsPastLimit, IsRefusal, IsUnread, Tells, TellsAccepted, TellsFront};
 ghost use Rattle.ccfg.specs.Schedules.{reads};
 ghost use Rattle.ccfg.specs.Words.{asked};
 
@@ -103,7 +105,10 @@ fn carry_out<K: Sink>(alloc: Global, plan: &Plan, sink: &mut K) -> Ending
 
 /// Does what the words ask for with the bytes of the source.
 fn execute<S: Source, K: Sink>(alloc: Global, task: &Task, source: &mut S, sink: &mut K) -> Ending
-    ensures { Runs result (record {
+    ensures accepted { result ≡ Done → (identity : List ℕ) → task.now ≡ Verify identity
+        → OfBytes (S.left source.old) (λ given.
+        TellsAccepted identity given (K.holds sink.old) (K.holds sink.new)) }
+    ensures runs { Runs result (record {
       given = S.left source.old;
       ended = S.ended source.new;
       faults = S.faults source.old;
@@ -126,6 +131,10 @@ fn execute<S: Source, K: Sink>(alloc: Global, task: &Task, source: &mut S, sink:
 fn run<S: Source, K: Sink>(alloc: Global, words: &[String], source: &mut S, sink: &mut K) -> Ending
     ensures source { (kinds : Kinds) → asked (map string_bytes words.now) ≡ Err kinds
         → source.new ≡ source.old }
+    ensures accepted { result ≡ Done → (identity : List ℕ)
+        → asked (map string_bytes words.now) ≡ Ok (Verify identity)
+        → OfBytes (S.left source.old) (λ given.
+        TellsAccepted identity given (K.holds sink.old) (K.holds sink.new)) }
     ensures answers { Answers (asked (map string_bytes words.now)) result (record {
       given = S.left source.old;
       ended = S.ended source.new;
@@ -181,7 +190,13 @@ pub fn top<S: Source, K: Sink, D: Disk + Send, L: Link, G: Gate + Sync>(
         × (S.ended source.new ≡ true)
         × OfBytes (S.left source.old) (λ given.
         Tells (IsAnswer task given) (K.holds sink.old) (K.holds sink.new)) }
-    // 1: the same, and exactly the line was written that tells why the bytes' receipt is not valid.
+    // 0, for `verify`: the bytes are a receipt which shows that the service with the key committed
+    // the transaction that is told.
+    ensures accepted { result ≡ 0 → (identity : List ℕ)
+        → asked (map string_bytes words.now) ≡ Ok (Verify identity)
+        → OfBytes (S.left source.old) (λ given.
+        TellsAccepted identity given (K.holds sink.old) (K.holds sink.new)) }
+    // 1: the words ask for a task, the source gave its end, and exactly the line was written that tells why the bytes' receipt is not valid.
     ensures not_valid { result ≡ 1 → (task : Tasks)
         × (asked (map string_bytes words.now) ≡ Ok task)
         × (S.ended source.new ≡ true)

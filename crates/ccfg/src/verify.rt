@@ -1,36 +1,30 @@
 //! What there is to do with a receipt.
 
 ghost use Rattle.std.specs.Prelude.{◌≡◌, ◌≤◌, ◌++◌, IfOk, OnOk, length};
-ghost use Rattle.ccfg.specs.Owed.{due_of_receipt, due_of_verdict, json_limit, valid_line};
-ghost use Rattle.ccfg.specs.Plans.{PlaysOneNode, due_of_plan};
+ghost use Rattle.ccfg.specs.Owed.{due_of_receipt, json_limit, valid_line};
+ghost use Rattle.ccfg.specs.Plans.{ShowsAccepted, PlaysOneNode, due_of_plan};
+ghost use Rattle.ccfg.specs.declared.words.Task.TheVariants.{Verify};
 
 use crate::fault::Fault;
 use crate::plan::Plan;
 use gl_base::{OrNoMemory, TxId};
 use gl_ledger::HssPublicKey;
-use gl_receipt::{ReceiptFault, read_receipt, verify};
+use gl_receipt::{read_receipt, verify};
 use std::alloc::{AllocError, Global};
-
-/// What there is to do with a receipt's verdict.
-fn verdict_plan(verdict: Result<TxId, ReceiptFault>) -> Plan
-    ensures due { due_of_verdict verdict ≡ due_of_plan result }
-    ensures one_node { PlaysOneNode result }
-{
-    match verdict {
-        Ok(id) => Plan::Show(id),
-        Err(fault) => Plan::Refuse(Fault::NotValid(fault)),
-    }
-}
 
 /// What there is to do with a text within the limit on JSON that is to be a receipt under this key.
 #[tactic(auto, unfolding(crate::specs::Owed::due_of_receipt))]
 pub fn receipt_plan(alloc: Global, identity: &HssPublicKey, text: &[u8]) -> Result<Plan, AllocError>
     requires { length text.now ≤ json_limit }
     ensures due { IfOk result (λ plan. due_of_receipt identity.now text.now ≡ due_of_plan plan) }
+    ensures sound { IfOk result (λ plan. ShowsAccepted (Verify identity.now) text.now plan) }
     ensures one_node { IfOk result (λ plan. PlaysOneNode plan) }
 {
     match read_receipt(alloc, text) {
-        Ok(receipt) => Ok(verdict_plan(verify(identity, &receipt))),
+        Ok(receipt) => match verify(identity, &receipt) {
+            Ok(id) => Ok(Plan::Show(id)),
+            Err(fault) => Ok(Plan::Refuse(Fault::NotValid(fault))),
+        },
         Err(OrNoMemory::Fault(fault)) => Ok(Plan::Refuse(Fault::Form(fault))),
         Err(OrNoMemory::NoMemory) => Err(AllocError),
     }

@@ -50,3 +50,6 @@ returns-clause-unread g c = rw c.status.ensures (ends.unread _ c.run.result _ c.
 
 pub returns-clause-complete : goal.returns-clause-complete
 returns-clause-complete g c = rw c.status.ensures (ends.complete _ c.run.result _ c.run.ensures.answers)
+
+pub returns-clause-accepted : goal.returns-clause-accepted
+returns-clause-accepted g c is = c.run.ensures.accepted (ends.status_done c.run.result (sym c.status.ensures ∙ is))

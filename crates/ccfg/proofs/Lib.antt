@@ -3,6 +3,7 @@ pub mod ToldLemmas
 pub mod PlayLemmas
 pub mod Played
 pub mod WordLemmas
+pub mod DueLemmas
+pub mod MeaningLemmas
 pub mod HeadlineLemmas
-pub mod ReplayLemmas
 mod PromiseLemmas

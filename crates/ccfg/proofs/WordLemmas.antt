@@ -1,20 +1,128 @@
--- The words of a command line that is one word.
-use Rattle.std.proofs.Common.{◌≡◌, ℕ, ◌<◌, ◌≤◌, List, [], ◌∷◌, length, map, get_or, Bool, IsTrue, ◌↔◌, sym, ◌∙◌, ap, arith}
-use Rattle.std.specs.Cmp.Lexicographic.{pointwise, bytes_decides}
-use Rattle.std.specs.Prelude.{nat_eq}
+-- What words ask for, and that of those which ask for nothing some kind of fault is told.
+use Rattle.std.proofs.Common.{◌≡◌, ℕ, List, [], ◌∷◌, Bool, true, false, Option, None, Some, Result, Ok, Err, if◌then◌else◌, refl, ap, ◌∙◌, ◌⊎◌, inl, inr, subst, sym, option_map, codes, Global}
+use Rattle.std.specs.Str.{bytes_eq}
+use Rattle.clap.proofs.OnLiterals.{clap_on_literals}
+use Rattle.clap.specs.Faults.{fault_of, is_simple_and_free}
+use Rattle.clap.specs.Kinds.{Kinds, IsAmong}
+use Rattle.clap.specs.Matches.{subcommand_name_of}
+use Rattle.clap.specs.Simple.{App, HasMatchesOf, is_simple, subcommand_of, subcommand_rows, subcommand_rows_of}
+use Rattle.clap.specs.declared.parser.matches.ArgMatches.{ArgMatches}
+use Rattle.clap.specs.declared.parser.matches.ArgMatches.TheViews.{out-ArgMatches, out-SubCommand}
+use Rattle.clap.specs.declared.parser.matches.SubCommand.{SubCommand}
+use Rattle.std.specs.Box.{box_value}
+use Rattle.std.specs.Prelude.{Box}
+use Rattle.clap.specs.Walk.{Row, Text, first_of}
+use Rattle.clap.specs.declared.error.kind.ErrorKind.{ErrorKind}
+use Rattle.clap.specs.declared.error.kind.ErrorKind.TheVariants as kinds
+use Rattle.gl_lines.specs.Words.{hex_sized}
+use Rattle.gl_lines.specs.declared.fault.LineFault.{LineFault}
+use Rattle.gl_outside.specs.Sink.{AppendsFront}
+use Rattle.ccfg.specs.declared.ending.Ending.{Ending}
+use Rattle.ccfg.specs.declared.ending.Ending.TheVariants as endings
+use Rattle.ccfg.specs.declared.fault.Fault.TheVariants as faults
+use Rattle.ccfg.specs.declared.words.Task.{Task}
+use Rattle.ccfg.specs.declared.words.Task.TheVariants as tasks
+use Rattle.ccfg.specs.Faults.{fault_line}
+use Rattle.ccfg.specs.Owed.{Answers, Run, Runs, WritesDue, due_of, due_of_fault}
+use Rattle.ccfg.specs.Words.{Refuses, asked, asked_command, asked_identity, program, to_verify, unless_faulty}
+use Rattle.ccfg.proofs.DueLemmas.{nothing_owed}
 
--- a list of one element
-pub only : {A B : Type 0} (f : A → B) (xs : List A) (x : A) → 1 ≤ length xs → length xs < 2 → x ≡ get_or xs 0 x → map f xs ≡ f x ∷ []
-only f [] x some few at = absurd (omega arith)
-only f (y ∷ []) x some few at = ap (λ z. f z ∷ []) (sym at)
-only f (y ∷ z ∷ xs) x some few at = absurd (omega arith)
+-- Some kind is told, if the words ask for nothing.
+abbrev HasKind : Result Task Kinds → Type 0
+HasKind (Ok task) = Unit {0}
+HasKind (Err told) = (kind : ErrorKind) × IsAmong kind told
 
-first_same : (x y : List ℕ) → x ∷ [] ≡ y ∷ [] → x ≡ y
-first_same x y e = cc
+kind_of_hex : (key : Result (List ℕ) LineFault) → HasKind (to_verify key)
+kind_of_hex (Ok key) = tt
+kind_of_hex (Err fault) = (kinds.ValueValidation, inl refl)
 
--- one word is another where their bytes are the same
-pub is_word : (words : List (List ℕ)) (word name : List ℕ) (b : Bool) → words ≡ word ∷ [] → b ≡ pointwise nat_eq word name → IsTrue b ↔ (words ≡ name ∷ [])
-is_word words word name b one test = (
-  λ t. one ∙ ap (λ (w : List ℕ). w ∷ []) ((bytes_decides word name).0 (sym test ∙ t)),
-  λ e. test ∙ (bytes_decides word name).1 (first_same word name (sym one ∙ e)),
-)
+kind_of_identity : (word : Option Text) → HasKind (asked_identity word)
+kind_of_identity None = (kinds.MissingRequiredArgument, inl refl)
+kind_of_identity (Some word) = kind_of_hex (hex_sized word 60)
+
+kind_of_command : (command : Option (Text × List Row)) → HasKind (asked_command command)
+kind_of_command None = (kinds.MissingSubcommand, inl refl)
+kind_of_command (Some command) = go (bytes_eq command.0 (codes "replay"))
+  where
+    go : (b : Bool) → HasKind (if b then Ok tasks.Replay else asked_identity (first_of (codes "identity") command.1))
+    go true = tt
+    go false = kind_of_identity (first_of (codes "identity") command.1)
+
+kind_of_faults : (told : Kinds) (task : Result Task Kinds) → HasKind task → HasKind (unless_faulty told task)
+kind_of_faults [] task has = has
+kind_of_faults (kind ∷ more) task has = (kind, inl refl)
+
+some_kind : (words : List Text) → HasKind (asked words)
+unfolding asked
+some_kind words = kind_of_faults (fault_of program words) (asked_command (subcommand_of program words)) (kind_of_command (subcommand_of program words))
+
+-- The program as the library has it
+
+free : is_simple_and_free program ≡ true
+unfolding clap_on_literals program
+free = refl
+
+simple : is_simple program ≡ true
+unfolding clap_on_literals program
+simple = refl
+
+-- The subcommand that was met, from its name and its rows.
+pub met : (m : ArgMatches) (name : Text) (rows : List Row) → Some name ≡ subcommand_name_of m → Some rows ≡ option_map (λ (p : Text × List Row). p.1) (subcommand_rows_of m) →
+    subcommand_rows_of m ≡ Some (name, rows)
+met m name rows named found = go (out-ArgMatches m).subcommand named found
+  where
+    go : (o : Option (Box SubCommand Global)) → Some name ≡ option_map (λ b. (out-SubCommand (box_value b)).name.now) o → Some rows ≡ option_map (λ (p : Text × List Row). p.1) (subcommand_rows o) →
+        subcommand_rows o ≡ Some (name, rows)
+    go None named found = cc
+    go (Some b) named found = cc
+
+-- a command that is not `replay`
+pub other_command : (m : ArgMatches) (name : Text) (rows : List Row) → Some name ≡ subcommand_name_of m → Some rows ≡ option_map (λ (p : Text × List Row). p.1) (subcommand_rows_of m) →
+    false ≡ bytes_eq name (codes "replay") → asked_command (subcommand_rows_of m) ≡ asked_identity (first_of (codes "identity") rows)
+other_command m name rows named found other =
+    ap asked_command (met m name rows named found)
+    ∙ ap (λ (b : Bool). if b then Ok tasks.Replay else asked_identity (first_of (codes "identity") rows)) (sym other)
+
+-- words in which the library found no fault
+pub asked_found : (words : List Text) (found : Option (Text × List Row)) → fault_of program words ≡ [] → found ≡ subcommand_of program words → asked words ≡ asked_command found
+unfolding asked
+asked_found words found none same = ap (λ (k : Kinds). unless_faulty k (asked_command (subcommand_of program words))) none ∙ ap asked_command (sym same)
+
+found_kinds : (words : List Text) (kind : ErrorKind) → IsAmong kind (fault_of program words) → Refuses (asked words) kind
+unfolding asked
+found_kinds words kind among = go (fault_of program words) among
+  where
+    go : (told : Kinds) → IsAmong kind told → Refuses (unless_faulty told (asked_command (subcommand_of program words))) kind
+    go [] among = absurd among
+    go (k ∷ ks) among = (k ∷ ks, refl, among)
+
+-- what the library gives of the program
+pub faultless : (app : App) (words : List Text) → app ≡ program → (is_simple_and_free app ≡ true → fault_of app words ≡ []) → fault_of program words ≡ []
+faultless app words is none = ap (λ (a : App). fault_of a words) (sym is) ∙ none (ap is_simple_and_free is ∙ free)
+
+pub entered_as : (app : App) (words : List Text) (m : ArgMatches) → app ≡ program → HasMatchesOf app words m → subcommand_rows_of m ≡ subcommand_of program words
+entered_as app words m is matches = (matches (ap is_simple is ∙ simple)).1 ∙ ap (λ (a : App). subcommand_of a words) is
+
+pub kind_found : (app : App) (words : List Text) (kind found : ErrorKind) → app ≡ program → kind ≡ found →
+    (is_simple_and_free app ≡ true → (found ≡ kinds.OutOfMemory) ⊎ IsAmong found (fault_of app words)) → (kind ≡ kinds.OutOfMemory → ⊥) → Refuses (asked words) kind
+kind_found app words kind found is same told other = go (told (ap is_simple_and_free is ∙ free))
+  where
+    go : (found ≡ kinds.OutOfMemory) ⊎ IsAmong found (fault_of app words) → Refuses (asked words) kind
+    go (inl memory) = absurd (other (same ∙ memory))
+    go (inr among) = found_kinds words kind (subst (λ (k : ErrorKind). IsAmong k (fault_of program words)) (sym same) (subst (λ (a : App). IsAmong found (fault_of a words)) is among))
+
+-- a task is run
+pub task_answers : (asks : Result Task Kinds) (task : Task) (e : Ending) (r : Run) → asks ≡ Ok task → Runs e r (due_of task) → Answers asks e r
+task_answers asks task e r is runs = subst (λ (a : Result Task Kinds). Answers a e r) (sym is) runs
+
+-- a kind of fault is told
+pub kind_answers : (asks : Result Task Kinds) (kind : ErrorKind) (e : Ending) (r : Run) → Refuses asks kind → WritesDue e r.written (due_of_fault (faults.Words kind)) → Answers asks e r
+kind_answers asks kind e r refused writes = subst (λ (a : Result Task Kinds). Answers a e r) (sym refused.1) (kind, refused.2, writes)
+
+-- memory ran out before the words were read
+pub memory_answers : (words : List Text) (r : Run) → ((text : List ℕ) → AppendsFront r.written.held r.written.holds text) → Answers (asked words) endings.Memory r
+memory_answers words r front = go (asked words) (some_kind words)
+  where
+    go : (asks : Result Task Kinds) → HasKind asks → Answers asks endings.Memory r
+    go (Ok task) has = nothing_owed r (due_of task) front
+    go (Err told) has = (has.0, has.1, front (fault_line (faults.Words has.0)))

@@ -5,6 +5,8 @@ pub mod Moments
 pub mod Machine
 pub mod LineAnswers
 pub mod Play
+pub mod Words
+pub mod Faults
 pub mod Owed
 pub mod Promises
 pub mod Plans

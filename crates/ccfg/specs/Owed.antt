@@ -1,87 +1,143 @@
 -- What a run of the program owes to its words and its source: how it ends, and what it writes.
-use Rattle.std.specs.Prelude.{◌≡◌, ℕ, List, [], ◌∷◌, ◌++◌, Option, None, Some, Result, Ok, Err, Bool, true, codes, decimal, length, nat_lt, if◌then◌else◌}
+use Rattle.std.specs.Prelude.{◌≡◌, ℕ, List, ◌++◌, Option, None, Some, Result, Ok, Err, Bool, true, codes, length, nat_lt, if◌then◌else◌}
 use Rattle.std.specs.Io.KnownBytes.{Appends, Keeps}
+use Rattle.clap.specs.Kinds.{Kinds, IsAmong}
+use Rattle.clap.specs.declared.error.kind.ErrorKind.{ErrorKind}
+use Rattle.gl_base.specs.TxId.{text_of}
+use Rattle.gl_base.specs.declared.json.FormsFault.{FormsFault}
+use Rattle.gl_base.specs.declared.tx_id.TxId.{TxId}
 use Rattle.gl_outside.specs.Fault.{Rose}
 use Rattle.gl_outside.specs.Sink.{AppendsFront}
-use Rattle.ccfg.specs.declared.ending.InputFault.{InputFault}
-use Rattle.ccfg.specs.declared.ending.InputFault.TheVariants as faults
-use Rattle.ccfg.specs.declared.ending.Ending.{Ending}
-use Rattle.ccfg.specs.declared.ending.Ending.TheVariants.{Done, Refused, SourceFailed, SinkFailed, Memory}
-use Rattle.ccfg.specs.declared.schedule.Schedule.{Schedule}
 use Rattle.gl_lines.specs.declared.fault.ScheduleFault.{ScheduleFault}
 use Rattle.gl_lines.specs.declared.fault.ScheduleFault.TheVariants.{BadLine}
 use Rattle.gl_lines.specs.Lines.{line_count}
+use Rattle.gl_receipt.specs.Form.{receipt_from}
+use Rattle.gl_receipt.specs.Verdict.{verdict}
+use Rattle.gl_receipt.specs.declared.components.Receipt.{Receipt}
+use Rattle.gl_receipt.specs.declared.fault.ReceiptFault.{ReceiptFault}
+use Rattle.ccfg.specs.declared.fault.Fault.{Fault}
+use Rattle.ccfg.specs.declared.fault.Fault.TheVariants as faults
+use Rattle.ccfg.specs.declared.ending.Ending.{Ending}
+use Rattle.ccfg.specs.declared.ending.Ending.TheVariants as endings
+use Rattle.ccfg.specs.declared.schedule.Schedule.{Schedule}
+use Rattle.ccfg.specs.declared.words.Task.{Task}
+use Rattle.ccfg.specs.declared.words.Task.TheVariants as tasks
+use Rattle.ccfg.specs.Faults.{fault_line}
 use Rattle.ccfg.specs.Schedules.{reads}
 use Rattle.ccfg.specs.Told.{text_of_schedule}
 
--- The line that tells a fault.
-abbrev pub fault_line : InputFault → List ℕ
-fault_line faults.Words = codes "fault words\n"
-fault_line faults.TooManyBytes = codes "fault bytes 16777216\n"
-fault_line faults.TooManyLines = codes "fault lines 100000\n"
-fault_line (faults.BadLine number) = codes "fault line " ++ decimal number ++ codes "\n"
-
-abbrev pub refusal_status : InputFault → ℕ
-refusal_status faults.Words = 2
-refusal_status faults.TooManyBytes = 8
-refusal_status faults.TooManyLines = 8
-refusal_status (faults.BadLine number) = 9
-
 abbrev pub exit_status : Ending → ℕ
-exit_status Done = 0
-exit_status (Refused fault) = refusal_status fault
-exit_status SourceFailed = 3
-exit_status SinkFailed = 4
-exit_status Memory = 7
+exit_status endings.Done = 0
+exit_status endings.NotValid = 1
+exit_status endings.OtherWords = 2
+exit_status endings.SourceFailed = 3
+exit_status endings.SinkFailed = 4
+exit_status endings.Memory = 7
+exit_status endings.PastLimit = 8
+exit_status endings.NoReading = 9
 
-abbrev pub bytes_limit : ℕ
-bytes_limit = 16777216
+-- How a run ends that tells a fault.
+abbrev pub ending_of_fault : Fault → Ending
+ending_of_fault (faults.Words kind) = endings.OtherWords
+ending_of_fault faults.TooManyBytes = endings.PastLimit
+ending_of_fault faults.TooManyLines = endings.PastLimit
+ending_of_fault faults.TooMuchJson = endings.PastLimit
+ending_of_fault (faults.BadLine number) = endings.NoReading
+ending_of_fault (faults.Form fault) = endings.NoReading
+ending_of_fault (faults.NotValid fault) = endings.NotValid
 
-abbrev pub lines_limit : ℕ
-lines_limit = 100000
+-- What is owed
 
 -- An ending, and the text that belongs to it.
 pub record Due : Type 0 where
   pub ending : Ending
   pub text : List ℕ
 
-abbrev pub due_of_fault : InputFault → Due
-due_of_fault fault = record { ending = Refused fault; text = fault_line fault }
+abbrev pub due_of_fault : Fault → Due
+due_of_fault fault = record { ending = ending_of_fault fault; text = fault_line fault }
+
+-- The most bytes and lines that a schedule has.
+abbrev pub bytes_limit : ℕ
+bytes_limit = 16777216
+
+abbrev pub lines_limit : ℕ
+lines_limit = 100000
 
 abbrev pub due_of_reading : Result Schedule ScheduleFault → Due
 due_of_reading (Err (BadLine number)) = due_of_fault (faults.BadLine number)
-due_of_reading (Ok schedule) = record { ending = Done; text = text_of_schedule schedule }
+due_of_reading (Ok schedule) = record { ending = endings.Done; text = text_of_schedule schedule }
 
--- What these bytes are owed. The limits are tried before the reading, the one on bytes first.
-unfoldable pub due_of : List ℕ → Due
-due_of given =
+-- What is owed to bytes that are to be a schedule. The limits are tried before the reading, the one
+-- on bytes first.
+unfoldable pub due_of_schedule : List ℕ → Due
+due_of_schedule given =
     if nat_lt bytes_limit (length given) then due_of_fault faults.TooManyBytes
     else (if nat_lt lines_limit (line_count given) then due_of_fault faults.TooManyLines
     else due_of_reading (reads given))
 
--- What a sink came to hold, by how the run ended: done or refused, all of the text that is due;
--- where the sink failed, by its count of faults, or memory ran out, a front of it.
-abbrev pub Writes : Ending → Option (List ℕ) → Option (List ℕ) → ℕ → ℕ → Due → Type 0
-Writes Done held holds before now due = (due.ending ≡ Done) × Appends held holds due.text
-Writes (Refused fault) held holds before now due =
-    (due.ending ≡ Refused fault) × Appends held holds due.text
-Writes SourceFailed held holds before now due = ⊥
-Writes SinkFailed held holds before now due = Rose before now × AppendsFront held holds due.text
-Writes Memory held holds before now due = AppendsFront held holds due.text
+-- The most bytes that JSON has.
+abbrev pub json_limit : ℕ
+json_limit = 1048576
+
+-- The line that tells which transaction a receipt shows.
+abbrev pub valid_line : TxId → List ℕ
+valid_line id = codes "valid " ++ text_of id ++ codes "\n"
+
+abbrev pub due_of_verdict : Result TxId ReceiptFault → Due
+due_of_verdict (Ok id) = record { ending = endings.Done; text = valid_line id }
+due_of_verdict (Err fault) = due_of_fault (faults.NotValid fault)
+
+abbrev pub due_of_form : List ℕ → Result Receipt FormsFault → Due
+due_of_form identity (Err fault) = due_of_fault (faults.Form fault)
+due_of_form identity (Ok receipt) = due_of_verdict (verdict identity receipt)
+
+-- What is owed to bytes that are to be a receipt under a service's key. The limit is tried before
+-- the form, and the form before the verdict.
+unfoldable pub due_of_receipt : List ℕ → List ℕ → Due
+due_of_receipt identity given =
+    if nat_lt json_limit (length given) then due_of_fault faults.TooMuchJson
+    else due_of_form identity (receipt_from given)
+
+-- What a task owes to the bytes of its source.
+abbrev pub due_of : Task → List ℕ → Due
+due_of tasks.Replay given = due_of_schedule given
+due_of (tasks.Verify identity) given = due_of_receipt identity given
+
+-- What a run does
+
+-- What a sink held before a run and behind it, where it tells that, and its counts of faults then.
+pub record Written : Type 0 where
+  pub held : Option (List ℕ)
+  pub holds : Option (List ℕ)
+  pub faults : ℕ
+  pub faults_now : ℕ
+
+-- All of the text that is due was written, and the run ends as is due.
+abbrev pub Writes : Ending → Written → Due → Type 0
+Writes e w due = (due.ending ≡ e) × Appends w.held w.holds due.text
+
+-- What was written, by how the run ended: where the sink failed, by its count of faults, or memory
+-- ran out, a front of what is due; else all of it.
+abbrev pub WritesDue : Ending → Written → Due → Type 0
+WritesDue endings.SourceFailed w due = ⊥
+WritesDue endings.SinkFailed w due =
+    Rose w.faults w.faults_now × AppendsFront w.held w.holds due.text
+WritesDue endings.Memory w due = AppendsFront w.held w.holds due.text
+WritesDue endings.Done w due = Writes endings.Done w due
+WritesDue endings.NotValid w due = Writes endings.NotValid w due
+WritesDue endings.OtherWords w due = Writes endings.OtherWords w due
+WritesDue endings.PastLimit w due = Writes endings.PastLimit w due
+WritesDue endings.NoReading w due = Writes endings.NoReading w due
 
 -- With what a run began, and what it left.
 pub record Run : Type 0 where
-  pub words : List (List ℕ)
-  -- what the source had to give, where it tells that, and whether it gave its end
+  -- what the source had to give, where it tells that, whether it gave its end, and its counts of
+  -- faults
   pub given : Option (List ℕ)
   pub ended : Bool
-  pub read_faults : ℕ
-  pub read_faults_now : ℕ
-  -- what the sink held, where it tells that
-  pub held : Option (List ℕ)
-  pub holds : Option (List ℕ)
-  pub write_faults : ℕ
-  pub write_faults_now : ℕ
+  pub faults : ℕ
+  pub faults_now : ℕ
+  pub written : Written
 
 -- What holds of the bytes that a source has to give: of those that it tells, or of some bytes,
 -- where it tells none.
@@ -89,27 +145,27 @@ abbrev pub OfBytes : Option (List ℕ) → (List ℕ → Type 0) → Type 0
 OfBytes None P = (given : List ℕ) × P given
 OfBytes (Some given) P = P given
 
--- What the bytes are owed.
-abbrev pub Owes : Ending → Run → Type 0
-Owes e r =
-    OfBytes r.given (λ given.
-    Writes e r.held r.holds r.write_faults r.write_faults_now (due_of given))
+abbrev pub Owes : Ending → Run → (List ℕ → Due) → Type 0
+Owes e r due = OfBytes r.given (λ given. WritesDue e r.written (due given))
 
--- What a replay does. Where the source failed, by its count of faults, nothing is written. Else it
--- writes what the bytes are owed; and where it is done, the source gave its end.
-abbrev pub Replays : Ending → Run → Type 0
-Replays SourceFailed r = Rose r.read_faults r.read_faults_now × Keeps r.held r.holds
-Replays Done r = (r.ended ≡ true) × Owes Done r
-Replays (Refused fault) r = Owes (Refused fault) r
-Replays SinkFailed r = Owes SinkFailed r
-Replays Memory r = Owes Memory r
+-- What a task does that owes this to the bytes of its source. Where the source failed, by its count
+-- of faults, nothing is written. Else what is owed to the bytes is; and where it is done, or the
+-- verdict is no, the source gave its end.
+abbrev pub Runs : Ending → Run → (List ℕ → Due) → Type 0
+Runs endings.SourceFailed r due =
+    Rose r.faults r.faults_now × Keeps r.written.held r.written.holds
+Runs endings.Done r due = (r.ended ≡ true) × Owes endings.Done r due
+Runs endings.NotValid r due = (r.ended ≡ true) × Owes endings.NotValid r due
+Runs endings.OtherWords r due = Owes endings.OtherWords r due
+Runs endings.SinkFailed r due = Owes endings.SinkFailed r due
+Runs endings.Memory r due = Owes endings.Memory r due
+Runs endings.PastLimit r due = Owes endings.PastLimit r due
+Runs endings.NoReading r due = Owes endings.NoReading r due
 
-abbrev pub AreWords : List (List ℕ) → Type 0
-AreWords words = words ≡ codes "replay" ∷ []
-
--- What the program does: other words are refused, and the one word replays the schedule that is
--- given.
-pub record Answers (e : Ending) (r : Run) : Type 0 where
-  pub other_words : (AreWords r.words → ⊥) →
-      Writes e r.held r.holds r.write_faults r.write_faults_now (due_of_fault faults.Words)
-  pub replays : AreWords r.words → Replays e r
+-- What the program does, by what its words ask for: a task is run, and of words that ask for
+-- nothing one kind of fault is told.
+abbrev pub Answers : Result Task Kinds → Ending → Run → Type 0
+Answers (Ok task) e r = Runs e r (due_of task)
+Answers (Err kinds) e r =
+    (kind : ErrorKind) × IsAmong kind kinds
+    × WritesDue e r.written (due_of_fault (faults.Words kind))

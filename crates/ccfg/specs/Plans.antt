@@ -1,16 +1,25 @@
 -- What a plan owes.
-use Rattle.std.specs.Prelude.{◌≡◌, Bool, true}
+use Rattle.std.specs.Prelude.{◌≡◌, ℕ, Bool, List, Ok, true}
+use Rattle.gl_receipt.specs.Form.{receipt_from}
+use Rattle.gl_receipt.specs.Receipt.{Accepts}
+use Rattle.gl_receipt.specs.declared.components.Receipt.{Receipt}
 use Rattle.gl_world.specs.Single.{IsSingle}
+use Rattle.ccfg.specs.declared.ending.Ending.{Ending}
+use Rattle.ccfg.specs.declared.ending.Ending.TheVariants as endings
+use Rattle.ccfg.specs.declared.fault.Fault.{Fault}
+use Rattle.ccfg.specs.declared.fault.Fault.TheVariants as faults
+use Rattle.ccfg.specs.declared.plan.Plan.{Plan}
+use Rattle.ccfg.specs.declared.plan.Plan.TheVariants.{Play, Show, Refuse}
 use Rattle.ccfg.specs.declared.schedule.Schedule.{Schedule}
 use Rattle.ccfg.specs.declared.schedule.Schedule.TheVariants.{Empty, Service}
-use Rattle.ccfg.specs.declared.program.Plan.{Plan}
-use Rattle.ccfg.specs.declared.program.Plan.TheVariants.{Play, Refuse}
-use Rattle.ccfg.specs.declared.ending.Ending.TheVariants.{Done}
-use Rattle.ccfg.specs.Owed.{Due, due_of_fault}
+use Rattle.ccfg.specs.declared.words.Task.{Task}
+use Rattle.ccfg.specs.declared.words.Task.TheVariants as tasks
+use Rattle.ccfg.specs.Owed.{Due, bytes_limit, due_of_fault, json_limit, valid_line}
 use Rattle.ccfg.specs.Told.{text_of_schedule}
 
 abbrev pub due_of_plan : Plan → Due
-due_of_plan (Play schedule) = record { ending = Done; text = text_of_schedule schedule }
+due_of_plan (Play schedule) = record { ending = endings.Done; text = text_of_schedule schedule }
+due_of_plan (Show id) = record { ending = endings.Done; text = valid_line id }
 due_of_plan (Refuse fault) = due_of_fault fault
 
 -- The service of a schedule, if it has one, is of one node.
@@ -20,9 +29,34 @@ HasOneNode (Service settings lines) = IsSingle settings
 
 abbrev pub PlaysOneNode : Plan → Type 0
 PlaysOneNode (Play schedule) = HasOneNode schedule
+PlaysOneNode (Show id) = Unit {0}
 PlaysOneNode (Refuse fault) = Unit {0}
 
--- A schedule is played only where its source gave its end.
-abbrev pub EndsPlayed : Plan → Bool → Type 0
-EndsPlayed (Play schedule) ended = ended ≡ true
-EndsPlayed (Refuse fault) ended = Unit {0}
+-- Under a service's key nothing is played, and a transaction is shown only of a receipt that shows
+-- it.
+abbrev pub ShowsAccepted : Task → List ℕ → Plan → Type 0
+ShowsAccepted tasks.Replay given plan = Unit {0}
+ShowsAccepted (tasks.Verify identity) given (Play schedule) = ⊥
+ShowsAccepted (tasks.Verify identity) given (Show id) =
+    (receipt : Receipt) × (receipt_from given ≡ Ok receipt) × Accepts identity receipt id
+ShowsAccepted (tasks.Verify identity) given (Refuse fault) = Unit {0}
+
+-- The source gives its end where a run is done, or the verdict is no.
+abbrev pub EndsSource : Ending → Bool → Type 0
+EndsSource endings.Done ended = ended ≡ true
+EndsSource endings.NotValid ended = ended ≡ true
+EndsSource endings.OtherWords ended = Unit {0}
+EndsSource endings.SourceFailed ended = Unit {0}
+EndsSource endings.SinkFailed ended = Unit {0}
+EndsSource endings.Memory ended = Unit {0}
+EndsSource endings.PastLimit ended = Unit {0}
+EndsSource endings.NoReading ended = Unit {0}
+
+-- The most bytes of a source that a task reads, and the fault of more.
+abbrev pub limit_of : Task → ℕ
+limit_of tasks.Replay = bytes_limit
+limit_of (tasks.Verify identity) = json_limit
+
+abbrev pub fault_of_length : Task → Fault
+fault_of_length tasks.Replay = faults.TooManyBytes
+fault_of_length (tasks.Verify identity) = faults.TooMuchJson

@@ -1,13 +1,28 @@
--- Which bytes are a schedule, pass a limit, or have no reading; and what is then written.
+-- What is written, by what the words ask for and what the bytes are.
 use Rattle.std.specs.Prelude.{◌≡◌, ℕ, ◌<◌, ◌≤◌, ◌⊎◌, List, Option, Ok, Err, length}
 use Rattle.std.specs.Io.KnownBytes.{Appends}
-use Rattle.ccfg.specs.declared.ending.InputFault.TheVariants as faults
-use Rattle.ccfg.specs.declared.schedule.Schedule.{Schedule}
+use Rattle.clap.specs.Kinds.{Kinds, IsAmong}
+use Rattle.clap.specs.declared.error.kind.ErrorKind.{ErrorKind}
+use Rattle.gl_base.specs.declared.json.FormsFault.{FormsFault}
+use Rattle.gl_base.specs.declared.tx_id.TxId.{TxId}
 use Rattle.gl_lines.specs.declared.fault.ScheduleFault.TheVariants.{BadLine}
 use Rattle.gl_lines.specs.Lines.{line_count}
+use Rattle.gl_outside.specs.Sink.{AppendsFront}
+use Rattle.gl_receipt.specs.Form.{receipt_from}
+use Rattle.gl_receipt.specs.Receipt.{Accepts}
+use Rattle.gl_receipt.specs.Verdict.{verdict}
+use Rattle.gl_receipt.specs.declared.components.Receipt.{Receipt}
+use Rattle.gl_receipt.specs.declared.fault.ReceiptFault.{ReceiptFault}
+use Rattle.ccfg.specs.declared.fault.Fault.TheVariants as faults
+use Rattle.ccfg.specs.declared.schedule.Schedule.{Schedule}
+use Rattle.ccfg.specs.declared.words.Task.{Task}
+use Rattle.ccfg.specs.declared.words.Task.TheVariants as tasks
+use Rattle.ccfg.specs.Faults.{fault_line}
+use Rattle.ccfg.specs.Owed.{bytes_limit, json_limit, lines_limit, valid_line}
 use Rattle.ccfg.specs.Schedules.{reads}
 use Rattle.ccfg.specs.Told.{text_of_schedule}
-use Rattle.ccfg.specs.Owed.{bytes_limit, lines_limit, fault_line}
+
+-- Schedules
 
 abbrev pub HasTooManyBytes : List ℕ → Type 0
 HasTooManyBytes given = bytes_limit < length given
@@ -16,9 +31,6 @@ HasTooManyBytes given = bytes_limit < length given
 abbrev pub HasTooManyLines : List ℕ → Type 0
 HasTooManyLines given = (length given ≤ bytes_limit) × (lines_limit < line_count given)
 
-abbrev pub PassesLimit : List ℕ → Type 0
-PassesLimit given = HasTooManyBytes given ⊎ HasTooManyLines given
-
 abbrev pub IsWithinLimits : List ℕ → Type 0
 IsWithinLimits given = (length given ≤ bytes_limit) × (line_count given ≤ lines_limit)
 
@@ -26,32 +38,74 @@ IsWithinLimits given = (length given ≤ bytes_limit) × (line_count given ≤ l
 abbrev pub HasBadLine : List ℕ → ℕ → Type 0
 HasBadLine given number = IsWithinLimits given × (reads given ≡ Err (BadLine number))
 
--- The bytes are within the limits and are no schedule.
-abbrev pub HasNoReading : List ℕ → Type 0
-HasNoReading given = (number : ℕ) × HasBadLine given number
-
 -- The bytes are within the limits and are this schedule.
 abbrev pub ReadsAs : List ℕ → Schedule → Type 0
 ReadsAs given schedule = IsWithinLimits given × (reads given ≡ Ok schedule)
 
--- The bytes are within the limits and are a schedule.
-abbrev pub HasReading : List ℕ → Type 0
-HasReading given = (schedule : Schedule) × ReadsAs given schedule
+-- Receipts
 
--- The bytes are a schedule, and exactly its text was written.
-abbrev pub WritesText : List ℕ → Option (List ℕ) → Option (List ℕ) → Type 0
-WritesText given held holds =
-    (schedule : Schedule) × ReadsAs given schedule
-    × Appends held holds (text_of_schedule schedule)
+abbrev pub HasTooMuchJson : List ℕ → Type 0
+HasTooMuchJson given = json_limit < length given
 
--- The bytes pass a limit, and exactly the line that names this limit was written.
-abbrev pub TellsLimit : List ℕ → Option (List ℕ) → Option (List ℕ) → Type 0
-TellsLimit given held holds =
-    (HasTooManyBytes given × Appends held holds (fault_line faults.TooManyBytes))
-    ⊎ (HasTooManyLines given × Appends held holds (fault_line faults.TooManyLines))
+-- The bytes are within the limit and are no receipt: this is what differs first.
+abbrev pub HasOtherForm : List ℕ → FormsFault → Type 0
+HasOtherForm given fault = (length given ≤ json_limit) × (receipt_from given ≡ Err fault)
 
--- The bytes have no reading, and exactly the line that tells their first bad line was written.
-abbrev pub TellsNoReading : List ℕ → Option (List ℕ) → Option (List ℕ) → Type 0
-TellsNoReading given held holds =
-    (number : ℕ) × HasBadLine given number
-    × Appends held holds (fault_line (faults.BadLine number))
+-- The bytes are within the limit and are this receipt.
+abbrev pub IsReceipt : List ℕ → Receipt → Type 0
+IsReceipt given receipt = (length given ≤ json_limit) × (receipt_from given ≡ Ok receipt)
+
+-- Texts. Each says of the bytes of a source what they have to be for the text.
+
+-- At 0: the bytes are a schedule, and the text is what it tells; or they are a receipt of which the
+-- verdict under the key is a transaction, and the text tells that.
+abbrev pub IsAnswer : Task → List ℕ → List ℕ → Type 0
+IsAnswer tasks.Replay given text =
+    (schedule : Schedule) × ReadsAs given schedule × (text ≡ text_of_schedule schedule)
+IsAnswer (tasks.Verify identity) given text =
+    (receipt : Receipt) × IsReceipt given receipt
+    × (id : TxId) × (verdict identity receipt ≡ Ok id) × (text ≡ valid_line id)
+
+-- At 1: the bytes are a receipt that is not valid under the key, and the text tells why.
+abbrev pub IsRefusal : Task → List ℕ → List ℕ → Type 0
+IsRefusal tasks.Replay given text = ⊥
+IsRefusal (tasks.Verify identity) given text =
+    (receipt : Receipt) × IsReceipt given receipt
+    × (fault : ReceiptFault) × (verdict identity receipt ≡ Err fault)
+    × (text ≡ fault_line (faults.NotValid fault))
+
+-- At 8: the bytes pass a limit, and the text names it.
+abbrev pub IsPastLimit : Task → List ℕ → List ℕ → Type 0
+IsPastLimit tasks.Replay given text =
+    (HasTooManyBytes given × (text ≡ fault_line faults.TooManyBytes))
+    ⊎ (HasTooManyLines given × (text ≡ fault_line faults.TooManyLines))
+IsPastLimit (tasks.Verify identity) given text =
+    HasTooMuchJson given × (text ≡ fault_line faults.TooMuchJson)
+
+-- At 9: the bytes are within the limits and have no reading, and the text tells their first bad
+-- line, or what differs first from a receipt.
+abbrev pub IsUnread : Task → List ℕ → List ℕ → Type 0
+IsUnread tasks.Replay given text =
+    (number : ℕ) × HasBadLine given number × (text ≡ fault_line (faults.BadLine number))
+IsUnread (tasks.Verify identity) given text =
+    (fault : FormsFault) × HasOtherForm given fault × (text ≡ fault_line (faults.Form fault))
+
+-- At 2: the line of one of these kinds of fault.
+abbrev pub IsKindLine : Kinds → List ℕ → Type 0
+IsKindLine kinds text =
+    (kind : ErrorKind) × IsAmong kind kinds × (text ≡ fault_line (faults.Words kind))
+
+-- The bytes are a receipt which shows that the service with this key committed a transaction, and
+-- exactly the line of this transaction was written.
+abbrev pub TellsAccepted : List ℕ → List ℕ → Option (List ℕ) → Option (List ℕ) → Type 0
+TellsAccepted identity given held holds =
+    (receipt : Receipt) × (receipt_from given ≡ Ok receipt)
+    × (id : TxId) × Accepts identity receipt id × Appends held holds (valid_line id)
+
+-- Exactly such a text was written.
+abbrev pub Tells : (List ℕ → Type 0) → Option (List ℕ) → Option (List ℕ) → Type 0
+Tells P held holds = (text : List ℕ) × P text × Appends held holds text
+
+-- A front of such a text was written.
+abbrev pub TellsFront : (List ℕ → Type 0) → Option (List ℕ) → Option (List ℕ) → Type 0
+TellsFront P held holds = (text : List ℕ) × P text × AppendsFront held holds text

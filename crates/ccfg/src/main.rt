@@ -2,25 +2,33 @@
 #![tactic(auto)]
 
 mod ending;
+mod fault;
+mod help;
 mod load;
 mod machine;
 mod outcome;
+mod plan;
 mod play;
 mod program;
 mod schedule;
 #[cfg(test)]
 mod tests;
 mod text;
+mod verify;
+mod words;
 
 use ending::Ending;
-use gl_outside::{StreamSink, StreamSource};
-use std::alloc::AllocError;
+use gl_outside::{
+    NoDisk, OpenGate, Sink, SinkFault, StreamSink, StreamSource, SureLink, write_whole,
+};
+use help::{HELP, VERSION};
+use std::alloc::{AllocError, Global};
 use std::process::ExitCode;
 use std::{env, io};
 
-/// The words that the program was called with. One that is no text stands for no words at all,
-/// since no command has such a word.
-fn words(rt: &HostRuntime) -> Result<Vec<String>, AllocError> {
+/// The words behind the program's name. One that is no text stands for no words at all, since no
+/// command has such a word.
+fn words_behind_name(rt: &HostRuntime) -> Result<Vec<String>, AllocError> {
     match env::args(rt) {
         Ok(all) => all.skip(1).collect(rt.alloc()),
         Err(error) if error.kind() == io::ErrorKind::InvalidData => Ok(Vec::new(rt.alloc())),
@@ -28,12 +36,48 @@ fn words(rt: &HostRuntime) -> Result<Vec<String>, AllocError> {
     }
 }
 
+/// What the program tells of itself, if the words ask for that alone.
+fn told_of_itself(alloc: Global, words: &[String]) -> Result<Option<String>, AllocError> {
+    match words {
+        [word] if word.as_str() == "--help" => Ok(Some(String::from_str(alloc, HELP)?)),
+        [word] if word.as_str() == "--version" => Ok(Some(format!(in alloc;
+            "ccfg {}\n",
+            VERSION
+        )?)),
+        _ => Ok(None),
+    }
+}
+
+fn print<K: Sink>(text: &str, sink: &mut K) -> Ending {
+    match write_whole(sink, text.as_bytes()) {
+        Ok(()) => Ending::Done,
+        Err(SinkFault::Failed) => Ending::SinkFailed,
+        Err(SinkFault::NoMemory) => Ending::Memory,
+    }
+}
+
+/// The exit status of a run over the standard streams.
+fn status(rt: &HostRuntime) -> Result<u8, AllocError> {
+    let words = words_behind_name(rt)?;
+    let mut sink = StreamSink::new(io::writer(rt));
+    if let Some(text) = told_of_itself(rt.alloc(), &words)? {
+        return Ok(print(text.as_str(), &mut sink).status());
+    }
+    let mut source = StreamSource::new(rt.reader());
+    let mut disk = NoDisk::new();
+    let mut link = SureLink::new(rt.alloc(), &[]);
+    Ok(program::top(
+        rt.alloc(),
+        &words,
+        &mut source,
+        &mut sink,
+        &mut disk,
+        &mut link,
+        &OpenGate,
+    ))
+}
+
 /// Runs the program over the standard streams.
 fn main(rt: HostRuntime) -> ExitCode {
-    let Ok(words) = words(&rt) else {
-        return ExitCode::from(Ending::Memory.status());
-    };
-    let mut source = StreamSource::new(rt.reader());
-    let mut sink = StreamSink::new(io::writer(&rt));
-    ExitCode::from(program::top(rt.alloc(), &words, &mut source, &mut sink))
+    ExitCode::from(status(&rt).unwrap_or(Ending::Memory.status()))
 }

@@ -1,111 +1,67 @@
 //! The whole program, over the objects that are handed in.
 
-ghost use Rattle.std.specs.Prelude.{◌≡◌, ◌≤◌, [], true, List, ℕ, IsTrue, ◌↔◌, ◌≢◌, ◌⊎◌, Ok, Err, IfOk, IfErr, IfSome, length, map};
+ghost use Rattle.std.specs.Prelude.{◌≡◌, ◌≢◌, ◌⊎◌, true, ℕ, List, Err, IfSome, Ok, map};
 ghost use Rattle.std.specs.String.{string_bytes};
-ghost use Rattle.std.specs.Io.KnownBytes.{Appends, Keeps};
+ghost use Rattle.std.specs.Io.KnownBytes.{Keeps};
+ghost use Rattle.clap.specs.Kinds.{Kinds};
 ghost use Rattle.gl_outside.specs.Fault.{Rose};
 ghost use Rattle.gl_outside.specs.Sink.{AppendsFront};
-ghost use Rattle.ccfg.specs.declared.ending.InputFault.TheVariants.{Words};
-ghost use Rattle.ccfg.specs.declared.ending.Ending.{Ending};
-ghost use Rattle.ccfg.specs.declared.ending.Ending.TheVariants.{Done, Refused};
-ghost use Rattle.ccfg.specs.Schedules.{reads};
+ghost use Rattle.ccfg.specs.declared.ending.Ending.{Ending as Endings};
+ghost use Rattle.ccfg.specs.declared.ending.Ending.TheVariants.{Done};
+ghost use Rattle.ccfg.specs.declared.plan.Plan.TheVariants.{Play, Show};
+ghost use Rattle.ccfg.specs.declared.words.Task.TheVariants.{Verify};
+ghost use Rattle.ccfg.specs.declared.words.Task.{Task as Tasks};
 ghost use Rattle.ccfg.specs.Moments.{KeepsHeadline, TellsMoments};
-ghost use Rattle.ccfg.specs.Owed.{AreWords, Answers, OfBytes, Replays, Writes, bytes_limit, due_of, due_of_fault, due_of_reading, exit_status, fault_line};
-ghost use Rattle.ccfg.specs.Promises.{HasNoReading, HasReading, PassesLimit, TellsLimit, TellsNoReading, WritesText};
-ghost use Rattle.ccfg.specs.declared.program.Plan.TheVariants.{Play, Refuse};
-ghost use Rattle.ccfg.specs.Plans.{due_of_plan, HasOneNode, PlaysOneNode, EndsPlayed};
+ghost use Rattle.ccfg.specs.Owed.{Answers, OfBytes, Runs, WritesDue, due_of, due_of_fault, exit_status};
+ghost use Rattle.ccfg.specs.Plans.{HasOneNode, PlaysOneNode, due_of_plan};
+ghost use Rattle.ccfg.specs.Promises.{IsAnswer, IsKindLine, IsPastLimit, IsRefusal, IsUnread, Tells, TellsAccepted, TellsFront};
+ghost use Rattle.ccfg.specs.Schedules.{reads};
+ghost use Rattle.ccfg.specs.Words.{asked};
 
-use crate::ending::{Ending, InputFault};
-use crate::load::{LoadStop, load};
+use crate::ending::Ending;
+use crate::fault::Fault;
+use crate::plan::{Plan, PlanStop, read_plan};
 use crate::play::play;
-use crate::schedule::{Schedule, read};
-use gl_base::OrNoMemory;
-use gl_lines::{ScheduleFault, line_count};
-use gl_outside::{Sink, SinkFault, Source, write_whole};
-use std::alloc::{AllocError, Global};
-
-/// The most bytes that a schedule has.
-const BYTES_LIMIT: usize = 16_777_216;
-
-/// The most lines that a schedule has.
-const LINES_LIMIT: usize = 100_000;
-
-/// What there is to do: a schedule to play, or a fault to tell.
-#[derive(Debug, Drop)]
-pub enum Plan {
-    Play(Schedule),
-    Refuse(InputFault),
-}
-
-fn is_replay(words: &[String]) -> bool
-    ensures { IsTrue result ↔ AreWords (map string_bytes words.now) }
-{
-    match words {
-        [word] => word.as_bytes() == b"replay".as_slice(),
-        _ => false,
-    }
-}
-
-/// What there is to do with a text within the limit on bytes.
-#[tactic(auto, unfolding(crate::specs::Owed::due_of))]
-fn plan_of(alloc: Global, text: &[u8]) -> Result<Plan, AllocError>
-    requires { length text.now ≤ bytes_limit }
-    ensures due { IfOk result (λ plan. due_of text.now ≡ due_of_plan plan) }
-    ensures one_node { IfOk result (λ plan. PlaysOneNode plan) }
-    ensures not_words { result ≢ Ok (Refuse Words) }
-{
-    if line_count(text) > LINES_LIMIT {
-        return Ok(Plan::Refuse(InputFault::TooManyLines));
-    }
-    match read(alloc, text) {
-        Ok(schedule) => Ok(Plan::Play(schedule)),
-        Err(OrNoMemory::Fault(ScheduleFault::BadLine(number))) => {
-            Ok(Plan::Refuse(InputFault::BadLine(number)))
-        }
-        Err(OrNoMemory::NoMemory) => Err(AllocError),
-    }
-}
-
-/// Why there is no plan.
-#[derive(Clone, Copy, Debug, PartialEq, Eq)]
-enum PlanStop {
-    Memory,
-    SourceFailed,
-}
-
-/// What there is to do with what a source gives.
-#[tactic(auto, unfolding(crate::specs::Owed::due_of))]
-fn read_plan<S: Source>(alloc: Global, source: &mut S) -> Result<Plan, PlanStop>
-    ensures due { IfOk result (λ plan.
-        OfBytes (S.left source.old) (λ given. due_of given ≡ due_of_plan plan)) }
-    ensures ended { IfOk result (λ plan. EndsPlayed plan (S.ended source.new)) }
-    ensures one_node { IfOk result (λ plan. PlaysOneNode plan) }
-    ensures not_words { result ≢ Ok (Refuse Words) }
-    ensures failed { result ≡ Err PlanStop.SourceFailed →
-        Rose (S.faults source.old) (S.faults source.new) }
-{
-    match load(alloc, BYTES_LIMIT, source) {
-        Ok(text) => match plan_of(alloc, &text) {
-            Ok(plan) => Ok(plan),
-            Err(_) => Err(PlanStop::Memory),
-        },
-        Err(LoadStop::TooLong) => Ok(Plan::Refuse(InputFault::TooManyBytes)),
-        Err(LoadStop::Memory) => Err(PlanStop::Memory),
-        Err(LoadStop::Failed) => Err(PlanStop::SourceFailed),
-    }
-}
+use crate::schedule::Schedule;
+use crate::verify::valid_line;
+use crate::words::{Task, WordsFault, read_words};
+use gl_base::TxId;
+use gl_outside::{Disk, Gate, Link, Sink, SinkFault, Source, write_whole};
+use std::alloc::Global;
 
 /// Tells a fault.
-fn refuse<K: Sink>(alloc: Global, fault: InputFault, sink: &mut K) -> Ending
-    ensures fault { result ≡ Refused Words → fault ≡ Words }
-    ensures writes { Writes result (K.holds sink.old) (K.holds sink.new)
-        (K.faults sink.old) (K.faults sink.new) (due_of_fault fault) }
+fn refuse<K: Sink>(alloc: Global, fault: &Fault, sink: &mut K) -> Ending
+    ensures { WritesDue result (record {
+      held = K.holds sink.old;
+      holds = K.holds sink.new;
+      faults = K.faults sink.old;
+      faults_now = K.faults sink.new;
+    }) (due_of_fault fault.now) }
 {
     let Ok(line) = fault.line(alloc) else {
         return Ending::Memory;
     };
     match write_whole(sink, &line) {
-        Ok(()) => Ending::Refused(fault),
+        Ok(()) => fault.ending(),
+        Err(SinkFault::Failed) => Ending::SinkFailed,
+        Err(SinkFault::NoMemory) => Ending::Memory,
+    }
+}
+
+/// Tells the transaction of a valid receipt.
+fn show<K: Sink>(alloc: Global, id: TxId, sink: &mut K) -> Ending
+    ensures { WritesDue result (record {
+      held = K.holds sink.old;
+      holds = K.holds sink.new;
+      faults = K.faults sink.old;
+      faults_now = K.faults sink.new;
+    }) (due_of_plan (Show id)) }
+{
+    let Ok(line) = valid_line(alloc, id) else {
+        return Ending::Memory;
+    };
+    match write_whole(sink, &line) {
+        Ok(()) => Ending::Done,
         Err(SinkFault::Failed) => Ending::SinkFailed,
         Err(SinkFault::NoMemory) => Ending::Memory,
     }
@@ -114,9 +70,12 @@ fn refuse<K: Sink>(alloc: Global, fault: InputFault, sink: &mut K) -> Ending
 /// Plays a schedule; one without a service prints nothing.
 fn perform<K: Sink>(alloc: Global, schedule: &Schedule, sink: &mut K) -> Ending
     requires { HasOneNode schedule.now }
-    ensures not_words { result ≢ Refused Words }
-    ensures writes { Writes result (K.holds sink.old) (K.holds sink.new)
-        (K.faults sink.old) (K.faults sink.new) (due_of_plan (Play schedule.now)) }
+    ensures { WritesDue result (record {
+      held = K.holds sink.old;
+      holds = K.holds sink.new;
+      faults = K.faults sink.old;
+      faults_now = K.faults sink.new;
+    }) (due_of_plan (Play schedule.now)) }
 {
     match schedule {
         Schedule::Empty => Ending::Done,
@@ -130,31 +89,39 @@ fn perform<K: Sink>(alloc: Global, schedule: &Schedule, sink: &mut K) -> Ending
 
 fn carry_out<K: Sink>(alloc: Global, plan: &Plan, sink: &mut K) -> Ending
     requires { PlaysOneNode plan.now }
-    ensures words { result ≡ Refused Words → plan.now ≡ Refuse Words }
-    ensures writes { Writes result (K.holds sink.old) (K.holds sink.new)
-        (K.faults sink.old) (K.faults sink.new) (due_of_plan plan.now) }
+    ensures { WritesDue result (record {
+      held = K.holds sink.old;
+      holds = K.holds sink.new;
+      faults = K.faults sink.old;
+      faults_now = K.faults sink.new;
+    }) (due_of_plan plan.now) }
 {
     match plan {
-        Plan::Refuse(fault) => refuse(alloc, *fault, sink),
         Plan::Play(schedule) => perform(alloc, schedule, sink),
+        Plan::Show(id) => show(alloc, *id, sink),
+        Plan::Refuse(fault) => refuse(alloc, fault, sink),
     }
 }
 
-fn replay<S: Source, K: Sink>(alloc: Global, source: &mut S, sink: &mut K) -> Ending
-    ensures not_words { result ≢ Refused Words }
-    ensures replays { Replays result (record {
-      words = [];
+/// Does what the words ask for with the bytes of the source.
+fn execute<S: Source, K: Sink>(alloc: Global, task: &Task, source: &mut S, sink: &mut K) -> Ending
+    ensures accepted { result ≡ Done → (identity : List ℕ) → task.now ≡ Verify identity
+        → OfBytes (S.left source.old) (λ given.
+        TellsAccepted identity given (K.holds sink.old) (K.holds sink.new)) }
+    ensures runs { Runs result (record {
       given = S.left source.old;
       ended = S.ended source.new;
-      read_faults = S.faults source.old;
-      read_faults_now = S.faults source.new;
-      held = K.holds sink.old;
-      holds = K.holds sink.new;
-      write_faults = K.faults sink.old;
-      write_faults_now = K.faults sink.new;
-    }) }
+      faults = S.faults source.old;
+      faults_now = S.faults source.new;
+      written = record {
+        held = K.holds sink.old;
+        holds = K.holds sink.new;
+        faults = K.faults sink.old;
+        faults_now = K.faults sink.new;
+      };
+    }) (due_of task.now) }
 {
-    match read_plan(alloc, source) {
+    match read_plan(alloc, task, source) {
         Ok(plan) => carry_out(alloc, &plan, sink),
         Err(PlanStop::Memory) => Ending::Memory,
         Err(PlanStop::SourceFailed) => Ending::SourceFailed,
@@ -162,94 +129,140 @@ fn replay<S: Source, K: Sink>(alloc: Global, source: &mut S, sink: &mut K) -> En
 }
 
 fn run<S: Source, K: Sink>(alloc: Global, words: &[String], source: &mut S, sink: &mut K) -> Ending
-    ensures words { result ≡ Refused Words → AreWords (map string_bytes words.now) → ⊥ }
-    ensures source { (AreWords (map string_bytes words.now) → ⊥) → source.new ≡ source.old }
-    ensures answers { Answers result (record {
-      words = map string_bytes words.now;
+    ensures source { (kinds : Kinds) → asked (map string_bytes words.now) ≡ Err kinds
+        → source.new ≡ source.old }
+    ensures accepted { result ≡ Done → (identity : List ℕ)
+        → asked (map string_bytes words.now) ≡ Ok (Verify identity)
+        → OfBytes (S.left source.old) (λ given.
+        TellsAccepted identity given (K.holds sink.old) (K.holds sink.new)) }
+    ensures answers { Answers (asked (map string_bytes words.now)) result (record {
       given = S.left source.old;
       ended = S.ended source.new;
-      read_faults = S.faults source.old;
-      read_faults_now = S.faults source.new;
-      held = K.holds sink.old;
-      holds = K.holds sink.new;
-      write_faults = K.faults sink.old;
-      write_faults_now = K.faults sink.new;
+      faults = S.faults source.old;
+      faults_now = S.faults source.new;
+      written = record {
+        held = K.holds sink.old;
+        holds = K.holds sink.new;
+        faults = K.faults sink.old;
+        faults_now = K.faults sink.new;
+      };
     }) }
 {
-    if is_replay(words) {
-        replay(alloc, source, sink)
-    } else {
-        refuse(alloc, InputFault::Words, sink)
+    match read_words(alloc, words) {
+        Ok(task) => execute(alloc, &task, source, sink),
+        Err(WordsFault::Refused(kind)) => refuse(alloc, &Fault::Words(kind), sink),
+        Err(WordsFault::NoMemory) => Ending::Memory,
     }
 }
 
-/// The whole program: the one word `replay` replays the schedule that the source gives, and prints
-/// what came of each of its lines. The answer is the exit status: 0 done, 2 other words, 3 the
-/// source failed, 4 the sink failed, 7 want of memory, 8 a limit is passed, 9 no schedule.
-pub fn top<S: Source, K: Sink>(alloc: Global, words: &[String], source: &mut S, sink: &mut K) -> u8
+/// The whole program. The word `replay` replays the schedule that the source gives, and prints what
+/// came of each of its lines; `verify --identity HEX` verifies the receipt that the source gives,
+/// under the service's key HEX, and prints which transaction it shows. The answer is the exit
+/// status: 0 done, 1 the receipt is not valid, 2 other words, 3 the source failed, 4 the sink
+/// failed, 7 want of memory, 8 a limit is passed, 9 no schedule or no receipt. No command uses the
+/// disk, the link or the gate yet.
+pub fn top<S: Source, K: Sink, D: Disk + Send, L: Link, G: Gate + Sync>(
+    alloc: Global,
+    words: &[String],
+    source: &mut S,
+    sink: &mut K,
+    disk: &mut D,
+    link: &mut L,
+    gate: &G,
+) -> u8
     // How the run ends, by its words, its source and its sink, and what was written.
-    ensures answers { (e : Ending) × (result ≡ exit_status e) × Answers e (record {
-      words = map string_bytes words.now;
-      given = S.left source.old;
-      ended = S.ended source.new;
-      read_faults = S.faults source.old;
-      read_faults_now = S.faults source.new;
-      held = K.holds sink.old;
-      holds = K.holds sink.new;
-      write_faults = K.faults sink.old;
-      write_faults_now = K.faults sink.new;
-    }) }
-    // 0: the words are the one word, the source gave its end, and exactly the text of its schedule
-    // was written.
-    ensures done { result ≡ 0 → AreWords (map string_bytes words.now)
+    ensures answers { (e : Endings) × (result ≡ exit_status e)
+        × Answers (asked (map string_bytes words.now)) e (record {
+          given = S.left source.old;
+          ended = S.ended source.new;
+          faults = S.faults source.old;
+          faults_now = S.faults source.new;
+          written = record {
+            held = K.holds sink.old;
+            holds = K.holds sink.new;
+            faults = K.faults sink.old;
+            faults_now = K.faults sink.new;
+          };
+        }) }
+    // 0: the words ask for a task, the source gave its end, and exactly the answer to its bytes was
+    // written.
+    ensures done { result ≡ 0 → (task : Tasks) × (asked (map string_bytes words.now) ≡ Ok task)
         × (S.ended source.new ≡ true)
         × OfBytes (S.left source.old) (λ given.
-        WritesText given (K.holds sink.old) (K.holds sink.new)) }
-    // 4 and 7: a front of what is due was written.
-    ensures front { (result ≡ 4) ⊎ (result ≡ 7) → AreWords (map string_bytes words.now)
+        Tells (IsAnswer task given) (K.holds sink.old) (K.holds sink.new)) }
+    // 0, for `verify`: the bytes are a receipt which shows that the service with the key committed
+    // the transaction that is told.
+    ensures accepted { result ≡ 0 → (identity : List ℕ)
+        → asked (map string_bytes words.now) ≡ Ok (Verify identity)
         → OfBytes (S.left source.old) (λ given.
-        AppendsFront (K.holds sink.old) (K.holds sink.new) (due_of given).text) }
-    // Other words: 2 and the one line, or 4 or 7 and a front of it.
-    ensures other_words { (AreWords (map string_bytes words.now) → ⊥)
-        → (result ≡ 2) × Appends (K.holds sink.old) (K.holds sink.new) (fault_line Words)
-        ⊎ ((result ≡ 4) ⊎ (result ≡ 7))
-        × AppendsFront (K.holds sink.old) (K.holds sink.new) (fault_line Words) }
-    // Other words leave the source unread: it is as it was.
-    ensures source { (AreWords (map string_bytes words.now) → ⊥) → source.new ≡ source.old }
-    // 2: the words are other words.
-    ensures words { result ≡ 2 → AreWords (map string_bytes words.now) → ⊥ }
-    // 3: the source failed, by its count of faults, and nothing was written.
-    ensures source_failed { result ≡ 3 → AreWords (map string_bytes words.now)
+        TellsAccepted identity given (K.holds sink.old) (K.holds sink.new)) }
+    // 1: the words ask for a task, the source gave its end, and exactly the line was written that tells why the bytes' receipt is not valid.
+    ensures not_valid { result ≡ 1 → (task : Tasks)
+        × (asked (map string_bytes words.now) ≡ Ok task)
+        × (S.ended source.new ≡ true)
+        × OfBytes (S.left source.old) (λ given.
+        Tells (IsRefusal task given) (K.holds sink.old) (K.holds sink.new)) }
+    // 2: the words ask for nothing, and exactly the line of a kind of their fault was written.
+    ensures words { result ≡ 2 → (kinds : Kinds) × (asked (map string_bytes words.now) ≡ Err kinds)
+        × Tells (IsKindLine kinds) (K.holds sink.old) (K.holds sink.new) }
+    // 3: the words ask for a task, the source failed, by its count of faults, and nothing was
+    // written.
+    ensures source_failed { result ≡ 3 → (task : Tasks)
+        × (asked (map string_bytes words.now) ≡ Ok task)
         × Rose (S.faults source.old) (S.faults source.new)
         × Keeps (K.holds sink.old) (K.holds sink.new) }
     // 4: the sink failed, by its count of faults.
     ensures sink_failed { result ≡ 4 → Rose (K.faults sink.old) (K.faults sink.new) }
-    // 8: the bytes pass a limit, and exactly the line that names it was written.
-    ensures limits { result ≡ 8 → AreWords (map string_bytes words.now)
+    // 4 and 7: a front of what is due was written.
+    ensures front { (result ≡ 4) ⊎ (result ≡ 7) → (task : Tasks)
+        → asked (map string_bytes words.now) ≡ Ok task
+        → OfBytes (S.left source.old) (λ given.
+        AppendsFront (K.holds sink.old) (K.holds sink.new) (due_of task given).text) }
+    // 8: the bytes pass a limit of the task, and exactly the line that names it was written.
+    ensures limits { result ≡ 8 → (task : Tasks) × (asked (map string_bytes words.now) ≡ Ok task)
         × OfBytes (S.left source.old) (λ given.
-        TellsLimit given (K.holds sink.old) (K.holds sink.new)) }
-    // 9: the bytes are within the limits and have no reading, and exactly the line that tells their
-    // first bad line was written.
-    ensures no_reading { result ≡ 9 → AreWords (map string_bytes words.now)
+        Tells (IsPastLimit task given) (K.holds sink.old) (K.holds sink.new)) }
+    // 9: the bytes are within the limits and have no reading, and exactly the line was written that
+    // tells where.
+    ensures no_reading { result ≡ 9 → (task : Tasks)
+        × (asked (map string_bytes words.now) ≡ Ok task)
         × OfBytes (S.left source.old) (λ given.
-        TellsNoReading given (K.holds sink.old) (K.holds sink.new)) }
-    // Bytes that pass a limit give 8, unless the source or the sink fails or memory runs out.
-    ensures past_limits { AreWords (map string_bytes words.now)
-        → IfSome (S.left source.old) (λ given.
-        PassesLimit given → (result ≡ 8) ⊎ (result ≡ 3) ⊎ (result ≡ 4) ⊎ (result ≡ 7)) }
-    // Bytes within the limits without a reading give 9, unless the source or the sink fails or
-    // memory runs out.
-    ensures unread { AreWords (map string_bytes words.now)
-        → IfSome (S.left source.old) (λ given.
-        HasNoReading given → (result ≡ 9) ⊎ (result ≡ 3) ⊎ (result ≡ 4) ⊎ (result ≡ 7)) }
+        Tells (IsUnread task given) (K.holds sink.old) (K.holds sink.new)) }
     // These never come.
-    ensures never { (result ≢ 1) × (result ≢ 5) × (result ≢ 6) }
-    // A schedule within the limits, a source and a sink that don't fail: 0 or want of memory.
-    ensures complete { AreWords (map string_bytes words.now)
+    ensures never { (result ≢ 5) × (result ≢ 6) }
+    // Words that ask for nothing: 2 and the line of a kind of their fault, or 4 or 7 and a front.
+    ensures other_words { (kinds : Kinds) → asked (map string_bytes words.now) ≡ Err kinds
+        → (result ≡ 2) × Tells (IsKindLine kinds) (K.holds sink.old) (K.holds sink.new)
+        ⊎ ((result ≡ 4) ⊎ (result ≡ 7))
+        × TellsFront (IsKindLine kinds) (K.holds sink.old) (K.holds sink.new) }
+    // They leave the source unread: it is as it was.
+    ensures source { (kinds : Kinds) → asked (map string_bytes words.now) ≡ Err kinds
+        → source.new ≡ source.old }
+    // No command uses the disk or the link.
+    ensures disk { disk.new ≡ disk.old }
+    ensures link { link.new ≡ link.old }
+    // Unless the source or the sink fails or memory runs out: bytes with an answer give 0,
+    ensures answered { (task : Tasks) → asked (map string_bytes words.now) ≡ Ok task
+        → IfSome (S.left source.old) (λ given. (text : List ℕ) → IsAnswer task given text
+        → (result ≡ 0) ⊎ (result ≡ 3) ⊎ (result ≡ 4) ⊎ (result ≡ 7)) }
+    // a receipt that is not valid gives 1,
+    ensures refused { (task : Tasks) → asked (map string_bytes words.now) ≡ Ok task
+        → IfSome (S.left source.old) (λ given. (text : List ℕ) → IsRefusal task given text
+        → (result ≡ 1) ⊎ (result ≡ 3) ⊎ (result ≡ 4) ⊎ (result ≡ 7)) }
+    // bytes that pass a limit give 8,
+    ensures past_limits { (task : Tasks) → asked (map string_bytes words.now) ≡ Ok task
+        → IfSome (S.left source.old) (λ given. (text : List ℕ) → IsPastLimit task given text
+        → (result ≡ 8) ⊎ (result ≡ 3) ⊎ (result ≡ 4) ⊎ (result ≡ 7)) }
+    // and bytes within the limits without a reading give 9.
+    ensures unread { (task : Tasks) → asked (map string_bytes words.now) ≡ Ok task
+        → IfSome (S.left source.old) (λ given. (text : List ℕ) → IsUnread task given text
+        → (result ≡ 9) ⊎ (result ≡ 3) ⊎ (result ≡ 4) ⊎ (result ≡ 7)) }
+    // A source and a sink that don't fail: the status that is owed to the bytes, or want of memory.
+    ensures complete { (task : Tasks) → asked (map string_bytes words.now) ≡ Ok task
         → (Rose (S.faults source.old) (S.faults source.new) → ⊥)
         → (Rose (K.faults sink.old) (K.faults sink.new) → ⊥)
         → IfSome (S.left source.old) (λ given.
-        HasReading given → (result ≡ 0) ⊎ (result ≡ 7)) }
+        (result ≡ exit_status (due_of task given).ending) ⊎ (result ≡ 7)) }
     // Whatever bytes are read: each line of their schedule, if they are one, is told in a moment of
     // the events of which the headline speaks.
     ensures moments { (given : List ℕ) → TellsMoments (reads given) }

@@ -1,0 +1,131 @@
+-- What it says of bytes that they are owed an ending and a text, and the other way round.
+use Rattle.std.proofs.Common.{◌≡◌, ℕ, inl, inr, List, length, Bool, true, false, Result, Ok, Err, nat_lt, if◌then◌else◌, refl, ap, ◌∙◌, arith}
+use Rattle.std.proofs.lemmas.Bool.Decides.{nat_tests}
+use Rattle.gl_base.specs.declared.json.FormsFault.{FormsFault}
+use Rattle.gl_base.specs.declared.tx_id.TxId.{TxId}
+use Rattle.gl_lines.specs.declared.fault.ScheduleFault.{ScheduleFault}
+use Rattle.gl_lines.specs.declared.fault.ScheduleFault.TheVariants.{BadLine}
+use Rattle.gl_lines.specs.Lines.{line_count}
+use Rattle.gl_receipt.specs.Form.{receipt_from}
+use Rattle.gl_receipt.specs.Verdict.{verdict}
+use Rattle.gl_receipt.specs.declared.components.Receipt.{Receipt}
+use Rattle.gl_receipt.specs.declared.fault.ReceiptFault.{ReceiptFault}
+use Rattle.ccfg.specs.declared.ending.Ending.{Ending}
+use Rattle.ccfg.specs.declared.ending.Ending.TheVariants as endings
+use Rattle.ccfg.specs.declared.fault.Fault.TheVariants as faults
+use Rattle.ccfg.specs.declared.schedule.Schedule.{Schedule}
+use Rattle.ccfg.specs.declared.words.Task.{Task}
+use Rattle.ccfg.specs.declared.words.Task.TheVariants as tasks
+use Rattle.ccfg.specs.Owed.{Due, bytes_limit, due_of, due_of_fault, due_of_form, due_of_reading, due_of_receipt, due_of_schedule, due_of_verdict, json_limit, lines_limit}
+use Rattle.ccfg.specs.Promises.{HasBadLine, HasOtherForm, HasTooManyBytes, HasTooManyLines, HasTooMuchJson, IsAnswer, IsPastLimit, IsReceipt, IsRefusal, IsUnread, ReadsAs}
+use Rattle.ccfg.specs.Schedules.{reads}
+
+-- What an ending and a text say of the bytes that are owed them.
+abbrev pub Means : Task → List ℕ → Ending → List ℕ → Type 0
+Means task given endings.Done text = IsAnswer task given text
+Means task given endings.NotValid text = IsRefusal task given text
+Means task given endings.OtherWords text = ⊥
+Means task given endings.SourceFailed text = ⊥
+Means task given endings.SinkFailed text = ⊥
+Means task given endings.Memory text = ⊥
+Means task given endings.PastLimit text = IsPastLimit task given text
+Means task given endings.NoReading text = IsUnread task given text
+
+abbrev DueMeans : Task → List ℕ → Due → Type 0
+DueMeans task given due = Means task given due.ending due.text
+
+-- Schedules
+
+abbrev schedule_due : Bool → Bool → Result Schedule ScheduleFault → Due
+schedule_due bytes lines read = if bytes then due_of_fault faults.TooManyBytes else (if lines then due_of_fault faults.TooManyLines else due_of_reading read)
+
+schedule_means : (given : List ℕ) → DueMeans tasks.Replay given (due_of_schedule given)
+unfolding due_of_schedule
+schedule_means given = go (nat_lt bytes_limit (length given)) (nat_lt lines_limit (line_count given)) (reads given) refl refl refl
+  where
+    go : (b l : Bool) (s : Result Schedule ScheduleFault) → nat_lt bytes_limit (length given) ≡ b → nat_lt lines_limit (line_count given) ≡ l → reads given ≡ s → DueMeans tasks.Replay given (schedule_due b l s)
+    go true l s bytes lines read = inl (grind (arith, nat_tests), refl)
+    go false true s bytes lines read = inr ((grind (arith, nat_tests), grind (arith, nat_tests)), refl)
+    go false false (Err (BadLine number)) bytes lines read = (number, ((grind (arith, nat_tests), grind (arith, nat_tests)), read), refl)
+    go false false (Ok schedule) bytes lines read = (schedule, ((grind (arith, nat_tests), grind (arith, nat_tests)), read), refl)
+
+schedule_is : (given : List ℕ) (b l : Bool) (s : Result Schedule ScheduleFault) → nat_lt bytes_limit (length given) ≡ b → nat_lt lines_limit (line_count given) ≡ l → reads given ≡ s → due_of_schedule given ≡ schedule_due b l s
+unfolding due_of_schedule
+schedule_is given b l s bytes lines read = rw (bytes, lines, read) refl
+
+too_many_bytes : (given : List ℕ) → HasTooManyBytes given → due_of_schedule given ≡ due_of_fault faults.TooManyBytes
+too_many_bytes given more =
+    schedule_is given true (nat_lt lines_limit (line_count given)) (reads given) (grind (arith, nat_tests)) refl refl
+
+too_many_lines : (given : List ℕ) → HasTooManyLines given → due_of_schedule given ≡ due_of_fault faults.TooManyLines
+too_many_lines given more = schedule_is given false true (reads given) (let within = more.0 in grind (arith, nat_tests)) (let past = more.1 in grind (arith, nat_tests)) refl
+
+bad_line : (given : List ℕ) (number : ℕ) → HasBadLine given number → due_of_schedule given ≡ due_of_fault (faults.BadLine number)
+bad_line given number bad = schedule_is given false false (Err (BadLine number)) (let bytes = bad.0.0 in grind (arith, nat_tests)) (let lines = bad.0.1 in grind (arith, nat_tests)) bad.1
+
+good_lines : (given : List ℕ) (schedule : Schedule) → ReadsAs given schedule → due_of_schedule given ≡ due_of_reading (Ok schedule)
+good_lines given schedule good = schedule_is given false false (Ok schedule) (let bytes = good.0.0 in grind (arith, nat_tests)) (let lines = good.0.1 in grind (arith, nat_tests)) good.1
+
+-- Receipts
+
+abbrev receipt_due : List ℕ → Bool → Result Receipt FormsFault → Due
+receipt_due identity bytes read = if bytes then due_of_fault faults.TooMuchJson else due_of_form identity read
+
+receipt_means : (identity given : List ℕ) → DueMeans (tasks.Verify identity) given (due_of_receipt identity given)
+unfolding due_of_receipt
+receipt_means identity given = go (nat_lt json_limit (length given)) (receipt_from given) refl refl
+  where
+    of_verdict : (receipt : Receipt) → IsReceipt given receipt → (v : Result TxId ReceiptFault) → verdict identity receipt ≡ v → DueMeans (tasks.Verify identity) given (due_of_verdict v)
+    of_verdict receipt reads (Ok id) is = (receipt, reads, id, is, refl)
+    of_verdict receipt reads (Err fault) is = (receipt, reads, fault, is, refl)
+
+    go : (b : Bool) (s : Result Receipt FormsFault) → nat_lt json_limit (length given) ≡ b → receipt_from given ≡ s → DueMeans (tasks.Verify identity) given (receipt_due identity b s)
+    go true s bytes read = (grind (arith, nat_tests), refl)
+    go false (Err fault) bytes read = (fault, (grind (arith, nat_tests), read), refl)
+    go false (Ok receipt) bytes read = of_verdict receipt (grind (arith, nat_tests), read) (verdict identity receipt) refl
+
+receipt_is : (identity given : List ℕ) (b : Bool) (s : Result Receipt FormsFault) → nat_lt json_limit (length given) ≡ b → receipt_from given ≡ s → due_of_receipt identity given ≡ receipt_due identity b s
+unfolding due_of_receipt
+receipt_is identity given b s bytes read = rw (bytes, read) refl
+
+too_much_json : (identity given : List ℕ) → HasTooMuchJson given → due_of_receipt identity given ≡ due_of_fault faults.TooMuchJson
+too_much_json identity given more = receipt_is identity given true (receipt_from given) (grind (arith, nat_tests)) refl
+
+other_form : (identity given : List ℕ) (fault : FormsFault) → HasOtherForm given fault → due_of_receipt identity given ≡ due_of_fault (faults.Form fault)
+other_form identity given fault other = receipt_is identity given false (Err fault) (let within = other.0 in grind (arith, nat_tests)) other.1
+
+of_form : (identity given : List ℕ) (receipt : Receipt) (v : Result TxId ReceiptFault) → IsReceipt given receipt → verdict identity receipt ≡ v → due_of_receipt identity given ≡ due_of_verdict v
+of_form identity given receipt v is told =
+    receipt_is identity given false (Ok receipt) (let within = is.0 in grind (arith, nat_tests)) is.1 ∙ ap due_of_verdict told
+
+-- Both
+
+pub means : (task : Task) (given : List ℕ) → Means task given (due_of task given).ending (due_of task given).text
+means tasks.Replay given = schedule_means given
+means (tasks.Verify identity) given = receipt_means identity given
+
+-- The ending that is owed.
+abbrev EndsWith : Ending → Due → Type 0
+EndsWith e due = due.ending ≡ e
+
+ending_of : (due other : Due) → due ≡ other → due.ending ≡ other.ending
+ending_of due other is = ap (λ (d : Due). d.ending) is
+
+pub answer_ends : (task : Task) (given text : List ℕ) → IsAnswer task given text → EndsWith endings.Done (due_of task given)
+answer_ends tasks.Replay given text a = ending_of (due_of_schedule given) (due_of_reading (Ok a.0)) (good_lines given a.0 a.1)
+answer_ends (tasks.Verify identity) given text a =
+    ending_of (due_of_receipt identity given) (due_of_verdict (Ok a.2)) (of_form identity given a.0 (Ok a.2) a.1 a.3)
+
+pub refusal_ends : (task : Task) (given text : List ℕ) → IsRefusal task given text → EndsWith endings.NotValid (due_of task given)
+refusal_ends tasks.Replay given text a = absurd a
+refusal_ends (tasks.Verify identity) given text a =
+    ending_of (due_of_receipt identity given) (due_of_verdict (Err a.2)) (of_form identity given a.0 (Err a.2) a.1 a.3)
+
+pub limit_ends : (task : Task) (given text : List ℕ) → IsPastLimit task given text → EndsWith endings.PastLimit (due_of task given)
+limit_ends tasks.Replay given text (inl a) = ending_of (due_of_schedule given) (due_of_fault faults.TooManyBytes) (too_many_bytes given a.0)
+limit_ends tasks.Replay given text (inr a) = ending_of (due_of_schedule given) (due_of_fault faults.TooManyLines) (too_many_lines given a.0)
+limit_ends (tasks.Verify identity) given text a = ending_of (due_of_receipt identity given) (due_of_fault faults.TooMuchJson) (too_much_json identity given a.0)
+
+pub unread_ends : (task : Task) (given text : List ℕ) → IsUnread task given text → EndsWith endings.NoReading (due_of task given)
+unread_ends tasks.Replay given text a = ending_of (due_of_schedule given) (due_of_fault (faults.BadLine a.0)) (bad_line given a.0 a.1)
+unread_ends (tasks.Verify identity) given text a = ending_of (due_of_receipt identity given) (due_of_fault (faults.Form a.0)) (other_form identity given a.0 a.1)

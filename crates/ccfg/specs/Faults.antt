@@ -1,0 +1,71 @@
+-- The one line that tells why words or bytes are refused.
+use Rattle.std.specs.Prelude.{ℕ, List, [], ◌∷◌, ◌++◌, codes, decimal}
+use Rattle.hex.specs.Hex.{encode_lower}
+use Rattle.clap.specs.declared.error.kind.ErrorKind.{ErrorKind}
+use Rattle.clap.specs.declared.error.kind.ErrorKind.TheVariants as kinds
+use Rattle.gl_base.specs.declared.json.FormsFault.{FormsFault}
+use Rattle.gl_base.specs.declared.json.FormsFault.TheVariants as forms
+use Rattle.gl_hss.specs.declared.fault.HssFault.{HssFault}
+use Rattle.gl_hss.specs.declared.fault.HssFault.TheVariants as hss
+use Rattle.gl_receipt.specs.declared.fault.ReceiptFault.{ReceiptFault}
+use Rattle.gl_receipt.specs.declared.fault.ReceiptFault.TheVariants as receipts
+use Rattle.ccfg.specs.declared.fault.Fault.{Fault}
+use Rattle.ccfg.specs.declared.fault.Fault.TheVariants as faults
+
+-- The name of a kind of fault that the library for command lines finds.
+abbrev pub kind_name : ErrorKind → List ℕ
+kind_name kinds.InvalidValue = codes "InvalidValue"
+kind_name kinds.UnknownArgument = codes "UnknownArgument"
+kind_name kinds.InvalidSubcommand = codes "InvalidSubcommand"
+kind_name kinds.NoEquals = codes "NoEquals"
+kind_name kinds.ValueValidation = codes "ValueValidation"
+kind_name kinds.TooManyValues = codes "TooManyValues"
+kind_name kinds.TooFewValues = codes "TooFewValues"
+kind_name kinds.WrongNumberOfValues = codes "WrongNumberOfValues"
+kind_name kinds.ArgumentConflict = codes "ArgumentConflict"
+kind_name kinds.MissingRequiredArgument = codes "MissingRequiredArgument"
+kind_name kinds.MissingSubcommand = codes "MissingSubcommand"
+kind_name kinds.DisplayHelp = codes "DisplayHelp"
+kind_name kinds.DisplayHelpOnMissingArgumentOrSubcommand =
+    codes "DisplayHelpOnMissingArgumentOrSubcommand"
+kind_name kinds.DisplayVersion = codes "DisplayVersion"
+kind_name kinds.Io = codes "Io"
+kind_name kinds.Format = codes "Format"
+kind_name kinds.OutOfMemory = codes "OutOfMemory"
+
+-- A path as it stands; that of the whole text, which is empty, as a full stop.
+abbrev pub path_text : List ℕ → List ℕ
+path_text [] = codes "."
+path_text (byte ∷ path) = byte ∷ path
+
+-- Why JSON is no receipt.
+abbrev pub form_text : FormsFault → List ℕ
+form_text forms.NotJson = codes "NotJson"
+form_text (forms.Shape path) = codes "Shape " ++ path_text path
+form_text (forms.Hex path) = codes "Hex " ++ path_text path
+
+-- What is wrong with a signature. Where two values are told, the one that is wanted comes first.
+abbrev pub hss_text : HssFault → List ℕ
+hss_text (hss.Types at) = codes "Types " ++ decimal at
+hss_text (hss.Length want got) = codes "Length " ++ decimal want ++ codes " " ++ decimal got
+hss_text (hss.Levels want got) = codes "Levels " ++ decimal want ++ codes " " ++ decimal got
+hss_text (hss.Root want got) = codes "Root " ++ encode_lower want ++ codes " " ++ encode_lower got
+hss_text (hss.Leaf q) = codes "Leaf " ++ decimal q
+
+-- Why a receipt is not valid.
+abbrev pub receipt_text : ReceiptFault → List ℕ
+receipt_text receipts.Evidence = codes "Evidence"
+receipt_text (receipts.Hss fault) = codes "Hss " ++ hss_text fault
+
+abbrev pub fault_text : Fault → List ℕ
+fault_text (faults.Words kind) = kind_name kind
+fault_text faults.TooManyBytes = codes "bytes 16777216"
+fault_text faults.TooManyLines = codes "lines 100000"
+fault_text faults.TooMuchJson = codes "json 1048576"
+fault_text (faults.BadLine number) = codes "line " ++ decimal number
+fault_text (faults.Form fault) = form_text fault
+fault_text (faults.NotValid fault) = receipt_text fault
+
+-- The line.
+abbrev pub fault_line : Fault → List ℕ
+fault_line fault = codes "fault " ++ fault_text fault ++ codes "\n"

@@ -1,0 +1,203 @@
+//! Why words or bytes are refused, and the one line that tells it.
+
+ghost use Rattle.std.specs.Prelude.{◌≡◌, ◌++◌, IfOk, OnOk, codes, decimal};
+ghost use Rattle.hex.specs.Hex.{encode_lower};
+ghost use Rattle.ccfg.specs.Faults.{fault_line, fault_text, form_text, hss_text, kind_name, path_text, receipt_text};
+ghost use Rattle.ccfg.specs.Owed.{ending_of_fault};
+
+use crate::ending::Ending;
+use clap::error::ErrorKind;
+use gl_base::{FormsFault, Pointer};
+use gl_hss::HssFault;
+use gl_receipt::ReceiptFault;
+use itoa::Buffer;
+use std::alloc::{AllocError, Global};
+
+/// Why nothing happens, or that a verdict is no.
+#[derive(Debug, Drop)]
+pub enum Fault {
+    /// The words are not those of a command.
+    Words(ErrorKind),
+    /// A schedule has more bytes than the limit.
+    TooManyBytes,
+    /// A schedule has more lines than the limit.
+    TooManyLines,
+    /// JSON has more bytes than the limit.
+    TooMuchJson,
+    /// The bytes are no schedule: this line is the first bad one, counted from 1.
+    BadLine(u64),
+    /// The bytes are no receipt.
+    Form(FormsFault),
+    /// The receipt is not valid under the service's key.
+    NotValid(ReceiptFault),
+}
+
+/// The kind's name, as Rust has it.
+fn kind_name(kind: ErrorKind) -> &'static str
+    ensures { result.now ≡ kind_name kind }
+{
+    match kind {
+        ErrorKind::InvalidValue => "InvalidValue",
+        ErrorKind::UnknownArgument => "UnknownArgument",
+        ErrorKind::InvalidSubcommand => "InvalidSubcommand",
+        ErrorKind::NoEquals => "NoEquals",
+        ErrorKind::ValueValidation => "ValueValidation",
+        ErrorKind::TooManyValues => "TooManyValues",
+        ErrorKind::TooFewValues => "TooFewValues",
+        ErrorKind::WrongNumberOfValues => "WrongNumberOfValues",
+        ErrorKind::ArgumentConflict => "ArgumentConflict",
+        ErrorKind::MissingRequiredArgument => "MissingRequiredArgument",
+        ErrorKind::MissingSubcommand => "MissingSubcommand",
+        ErrorKind::DisplayHelp => "DisplayHelp",
+        ErrorKind::DisplayHelpOnMissingArgumentOrSubcommand => {
+            "DisplayHelpOnMissingArgumentOrSubcommand"
+        }
+        ErrorKind::DisplayVersion => "DisplayVersion",
+        ErrorKind::Io => "Io",
+        ErrorKind::Format => "Format",
+        ErrorKind::OutOfMemory => "OutOfMemory",
+    }
+}
+
+fn put_number(out: &mut Vec<u8>, n: u64) -> Result<(), AllocError>
+    ensures { OnOk result (out.new.items ≡ out.old.items ++ decimal n) }
+{
+    out.extend_from_slice(Buffer::new().format(n).as_bytes())
+}
+
+/// Two numbers, a space between them.
+fn put_numbers(out: &mut Vec<u8>, first: u64, second: u64) -> Result<(), AllocError>
+    ensures { OnOk result (out.new.items
+        ≡ out.old.items ++ (decimal first ++ codes " " ++ decimal second)) }
+{
+    put_number(out, first)?;
+    out.extend_from_slice(b" ")?;
+    put_number(out, second)
+}
+
+/// Bytes in lower-case hexadecimal.
+fn put_hex(alloc: Global, out: &mut Vec<u8>, bytes: &[u8]) -> Result<(), AllocError>
+    ensures { OnOk result (out.new.items ≡ out.old.items ++ encode_lower bytes.now) }
+{
+    out.extend_from_slice(hex::encode(alloc, bytes)?.as_bytes())
+}
+
+fn put_path(out: &mut Vec<u8>, path: &Pointer) -> Result<(), AllocError>
+    ensures { OnOk result (out.new.items ≡ out.old.items ++ path_text path.now) }
+{
+    match path.as_slice() {
+        [] => out.extend_from_slice(b"."),
+        path => out.extend_from_slice(path),
+    }
+}
+
+fn put_form(out: &mut Vec<u8>, fault: &FormsFault) -> Result<(), AllocError>
+    ensures { OnOk result (out.new.items ≡ out.old.items ++ form_text fault.now) }
+{
+    match fault {
+        FormsFault::NotJson => out.extend_from_slice(b"NotJson"),
+        FormsFault::Shape { path } => {
+            out.extend_from_slice(b"Shape ")?;
+            put_path(out, path)
+        }
+        FormsFault::Hex { path } => {
+            out.extend_from_slice(b"Hex ")?;
+            put_path(out, path)
+        }
+    }
+}
+
+fn put_roots(
+    alloc: Global,
+    out: &mut Vec<u8>,
+    want: &[u8; 32],
+    got: &[u8; 32],
+) -> Result<(), AllocError>
+    ensures { OnOk result (out.new.items
+        ≡ out.old.items ++ (encode_lower want.now ++ codes " " ++ encode_lower got.now)) }
+{
+    put_hex(alloc, out, want)?;
+    out.extend_from_slice(b" ")?;
+    put_hex(alloc, out, got)
+}
+
+fn put_hss(alloc: Global, out: &mut Vec<u8>, fault: HssFault) -> Result<(), AllocError>
+    ensures { OnOk result (out.new.items ≡ out.old.items ++ hss_text fault) }
+{
+    match fault {
+        HssFault::Types { at } => {
+            out.extend_from_slice(b"Types ")?;
+            put_number(out, at)
+        }
+        HssFault::Length { want, got } => {
+            out.extend_from_slice(b"Length ")?;
+            put_numbers(out, want, got)
+        }
+        HssFault::Levels { want, got } => {
+            out.extend_from_slice(b"Levels ")?;
+            put_numbers(out, u64::from(want), u64::from(got))
+        }
+        HssFault::Root { want, got } => {
+            out.extend_from_slice(b"Root ")?;
+            put_roots(alloc, out, &want, &got)
+        }
+        HssFault::Leaf { q } => {
+            out.extend_from_slice(b"Leaf ")?;
+            put_number(out, u64::from(q))
+        }
+    }
+}
+
+fn put_receipt(alloc: Global, out: &mut Vec<u8>, fault: ReceiptFault) -> Result<(), AllocError>
+    ensures { OnOk result (out.new.items ≡ out.old.items ++ receipt_text fault) }
+{
+    match fault {
+        ReceiptFault::Evidence => out.extend_from_slice(b"Evidence"),
+        ReceiptFault::Hss(fault) => {
+            out.extend_from_slice(b"Hss ")?;
+            put_hss(alloc, out, fault)
+        }
+    }
+}
+
+impl Fault {
+    /// The name of the fault, and its values.
+    fn put_text(&self, alloc: Global, out: &mut Vec<u8>) -> Result<(), AllocError>
+        ensures { OnOk result (out.new.items ≡ out.old.items ++ fault_text self.now) }
+    {
+        match self {
+            Fault::Words(kind) => out.extend_from_slice(kind_name(*kind).as_bytes()),
+            Fault::TooManyBytes => out.extend_from_slice(b"bytes 16777216"),
+            Fault::TooManyLines => out.extend_from_slice(b"lines 100000"),
+            Fault::TooMuchJson => out.extend_from_slice(b"json 1048576"),
+            Fault::BadLine(number) => {
+                out.extend_from_slice(b"line ")?;
+                put_number(out, *number)
+            }
+            Fault::Form(fault) => put_form(out, fault),
+            Fault::NotValid(fault) => put_receipt(alloc, out, *fault),
+        }
+    }
+
+    /// The line that tells it.
+    pub fn line(&self, alloc: Global) -> Result<Vec<u8>, AllocError>
+        ensures { IfOk result (λ line. line.items ≡ fault_line self.now) }
+    {
+        let mut line = Vec::from_slice(alloc, b"fault ")?;
+        self.put_text(alloc, &mut line)?;
+        line.extend_from_slice(b"\n")?;
+        Ok(line)
+    }
+
+    /// How a run ends that tells it.
+    pub fn ending(&self) -> Ending
+        ensures { result ≡ ending_of_fault self.now }
+    {
+        match self {
+            Fault::Words(_) => Ending::OtherWords,
+            Fault::TooManyBytes | Fault::TooManyLines | Fault::TooMuchJson => Ending::PastLimit,
+            Fault::BadLine(_) | Fault::Form(_) => Ending::NoReading,
+            Fault::NotValid(_) => Ending::NotValid,
+        }
+    }
+}

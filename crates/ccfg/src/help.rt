@@ -1,0 +1,34 @@
+//! What the program tells of itself.
+
+/// The version of the program.
+pub const VERSION: &str = "0.1.0";
+
+/// What `--help` alone prints.
+pub const HELP: &str = "\
+ccfg: a governed ledger
+
+Commands:
+  ccfg replay
+      reads a schedule from standard input, replays it, and writes what each of
+      its lines came to
+  ccfg verify --identity HEX
+      reads a receipt as JSON from standard input, verifies it under the
+      service's key, which is 120 digits of lower-case hexadecimal, and writes
+      'valid' and the transaction that it shows
+  ccfg --help, ccfg --version
+      write this text, and the version
+
+Exit statuses:
+  0  done
+  1  the receipt is not valid
+  2  the words are not those of a command
+  3  standard input failed
+  4  standard output failed
+  7  out of memory
+  8  the input passes a limit
+  9  the input is no schedule, or no receipt
+At 1, 2, 8 and 9 exactly one line is written, 'fault' and why.
+
+Example:
+  printf 'world 1 0 1 open %064d\\nids 1\\n' 0 | ccfg replay
+";

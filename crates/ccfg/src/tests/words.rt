@@ -1,0 +1,64 @@
+//! Words that ask for nothing, and the kind of fault that is told.
+
+use crate::tests::receipts::IDENTITY;
+use crate::tests::{one_open, run, status_of, to_words};
+use gl_outside::{MemSource, SureSink};
+use std::test::Fail;
+
+/// The key in upper-case digits.
+const UPPER: &str = "\
+    000000020000000500000004C00D2E39CBE697EFBBF49E528E1DA22E3C8D981478775288251EAE18295C29A50A6\
+    C0425D60A46A45ECCEDD059CE1460";
+
+/// A digit too few.
+const SHORT: &str = "\
+    000000020000000500000004c00d2e39cbe697efbbf49e528e1da22e3c8d981478775288251eae18295c29a50a6\
+    c0425d60a46a45eccedd059ce146";
+
+#[test]
+fn tells_one_kind_of_fault(rt: HostRuntime) -> Result<(), Fail> {
+    let alloc = rt.alloc();
+    let rows: [(&[&str], &str); 19] = [
+        (&[], "MissingSubcommand"),
+        (&[""], "InvalidSubcommand"),
+        (&["foo"], "InvalidSubcommand"),
+        (&["Replay"], "InvalidSubcommand"),
+        (&["help"], "InvalidSubcommand"),
+        (&["--", "replay"], "UnknownArgument"),
+        (&["replay", "x"], "UnknownArgument"),
+        (&["replay", "replay"], "UnknownArgument"),
+        (&["replay", "--identity", IDENTITY], "UnknownArgument"),
+        (&["verify"], "MissingRequiredArgument"),
+        (&["verify", IDENTITY], "UnknownArgument"),
+        (&["verify", "--identity"], "InvalidValue"),
+        (
+            &["verify", "--identity", IDENTITY, "--identity", IDENTITY],
+            "ArgumentConflict",
+        ),
+        (&["verify", "--identity", UPPER], "ValueValidation"),
+        (&["verify", "--identity", SHORT], "ValueValidation"),
+        (&["verify", "--identity", ""], "ValueValidation"),
+        (&["verify", "--identity=00", "x"], "UnknownArgument"),
+        (&["--help"], "DisplayHelp"),
+        (&["--version"], "DisplayVersion"),
+    ];
+    let text = one_open(alloc)?;
+    for (called, kind) in rows {
+        let (status, written) = run(alloc, called, &text)?;
+        let due = format!(in alloc; "fault {kind}\n")?;
+        assert_eq!(rt; status, 2, "of {called:?}");
+        assert_eq!(rt; written.as_slice(), due.as_bytes(), "of {called:?}");
+    }
+    Ok(())
+}
+
+#[test]
+fn leaves_the_source_unread(rt: HostRuntime) -> Result<(), Fail> {
+    let alloc = rt.alloc();
+    let called = to_words(alloc, &["play"])?;
+    let failing = [1];
+    let mut source = MemSource::new(b"world", 1, &failing);
+    let mut sink = SureSink::new(alloc, 50);
+    assert_eq!(rt; status_of(alloc, &called, &mut source, &mut sink), 2);
+    Ok(())
+}

@@ -1,0 +1,41 @@
+//! What there is to do with a receipt.
+
+ghost use Rattle.std.specs.Prelude.{◌≡◌, ◌≤◌, ◌++◌, IfOk, OnOk, length};
+ghost use Rattle.ccfg.specs.Owed.{due_of_receipt, json_limit, valid_line};
+ghost use Rattle.ccfg.specs.Plans.{ShowsAccepted, PlaysOneNode, due_of_plan};
+ghost use Rattle.ccfg.specs.declared.words.Task.TheVariants.{Verify};
+
+use crate::fault::Fault;
+use crate::plan::Plan;
+use gl_base::{OrNoMemory, TxId};
+use gl_ledger::HssPublicKey;
+use gl_receipt::{read_receipt, verify};
+use std::alloc::{AllocError, Global};
+
+/// What there is to do with a text within the limit on JSON that is to be a receipt under this key.
+#[tactic(auto, unfolding(crate::specs::Owed::due_of_receipt))]
+pub fn receipt_plan(alloc: Global, identity: &HssPublicKey, text: &[u8]) -> Result<Plan, AllocError>
+    requires { length text.now ≤ json_limit }
+    ensures due { IfOk result (λ plan. due_of_receipt identity.now text.now ≡ due_of_plan plan) }
+    ensures sound { IfOk result (λ plan. ShowsAccepted (Verify identity.now) text.now plan) }
+    ensures one_node { IfOk result (λ plan. PlaysOneNode plan) }
+{
+    match read_receipt(alloc, text) {
+        Ok(receipt) => match verify(identity, &receipt) {
+            Ok(id) => Ok(Plan::Show(id)),
+            Err(fault) => Ok(Plan::Refuse(Fault::NotValid(fault))),
+        },
+        Err(OrNoMemory::Fault(fault)) => Ok(Plan::Refuse(Fault::Form(fault))),
+        Err(OrNoMemory::NoMemory) => Err(AllocError),
+    }
+}
+
+/// The line that tells a valid receipt's transaction.
+pub fn valid_line(alloc: Global, id: TxId) -> Result<Vec<u8>, AllocError>
+    ensures { IfOk result (λ line. line.items ≡ valid_line id) }
+{
+    let mut line = Vec::from_slice(alloc, b"valid ")?;
+    id.push_text(&mut line)?;
+    line.extend_from_slice(b"\n")?;
+    Ok(line)
+}

@@ -1,0 +1,155 @@
+//! The words that the program is called with.
+
+ghost use Rattle.std.specs.Prelude.{◌≡◌, ◌∷◌, [], Err, IfErr, IfOk, Ok, codes, false, map, option_map};
+ghost use Rattle.std.specs.String.{string_bytes};
+ghost use Rattle.clap.specs.Faults.{fault_of};
+ghost use Rattle.clap.specs.Simple.{subcommand_of, subcommand_rows_of};
+ghost use Rattle.clap.specs.Walk.{rule_of};
+ghost use Rattle.gl_lines.specs.Words.{hex_sized, is_lower_digit};
+ghost use Rattle.std.specs.List.{list_all};
+ghost use Rattle.ccfg.specs.Words.{IsCommand, RefusesWords, asked, asked_command, asked_identity, bare_program, identity_option, program, to_verify, verify_command};
+
+use crate::help::VERSION;
+use clap::error::ErrorKind;
+use clap::{Arg, ArgMatches, Command};
+use gl_ledger::HssPublicKey;
+use hex::FromHex;
+use std::alloc::{AllocError, Global};
+
+/// What the words ask for.
+#[derive(Clone, Copy, Debug, PartialEq, Eq)]
+pub enum Task {
+    /// To replay a schedule.
+    Replay,
+    /// To verify a receipt under a service's key.
+    Verify { identity: HssPublicKey },
+}
+
+/// Why words ask for nothing.
+#[derive(Clone, Copy, Debug, PartialEq, Eq)]
+pub enum WordsFault {
+    NoMemory,
+    /// They are not those of a command: what `clap` finds wrong with them, or that a word isn't the
+    /// hexadecimal that is wanted.
+    Refused(ErrorKind),
+}
+
+fn identity_option<'a>(alloc: Global) -> Arg<'a>
+    ensures rule { rule_of result ≡ identity_option }
+    ensures local { result.global ≡ false }
+{
+    Arg::new(alloc, "identity").long("identity").required(true)
+}
+
+fn verify_command<'a>(alloc: Global) -> Result<Command<'a>, AllocError>
+    ensures { IfOk result (IsCommand verify_command) }
+{
+    Command::new(alloc, "verify").arg(identity_option(alloc))
+}
+
+/// The program without its commands.
+fn bare_program<'a>(alloc: Global) -> Command<'a>
+    ensures { IsCommand bare_program result }
+{
+    Command::new(alloc, "ccfg")
+        .version(VERSION)
+        .no_binary_name(true)
+        .subcommand_required(true)
+        .disable_help_subcommand(true)
+}
+
+#[tactic(auto, unfolding(crate::specs::Words::program))]
+fn program<'a>(alloc: Global) -> Result<Command<'a>, AllocError>
+    ensures { IfOk result (IsCommand program) }
+{
+    bare_program(alloc)
+        .subcommand(Command::new(alloc, "replay"))?
+        .subcommand(verify_command(alloc)?)
+}
+
+fn is_lower_hex(word: &str) -> bool
+    ensures { result ≡ list_all is_lower_digit word.now }
+{
+    word.as_bytes()
+        .iter()
+        .all(|byte| matches!(*byte, b'0'..=b'9' | b'a'..=b'f'))
+}
+
+/// The task of verifying under the key that a word spells.
+fn to_verify(word: &str) -> Result<Task, ErrorKind>
+    ensures found { IfOk result (λ task. to_verify (hex_sized word.now 60) ≡ Ok task) }
+    ensures refused { IfErr result (λ kind. to_verify (hex_sized word.now 60) ≡ Err (kind ∷ [])) }
+{
+    if !is_lower_hex(word) {
+        return Err(ErrorKind::ValueValidation);
+    }
+    match <HssPublicKey as FromHex>::from_hex(word) {
+        Ok(identity) => Ok(Task::Verify { identity }),
+        Err(_) => Err(ErrorKind::ValueValidation),
+    }
+}
+
+/// What a command asks for that has this option.
+fn asked_identity(word: Option<&str>) -> Result<Task, ErrorKind>
+    ensures found { IfOk result (λ task.
+        asked_identity (option_map (λ s. s.now) word.entry) ≡ Ok task) }
+    ensures refused { IfErr result (λ kind.
+        asked_identity (option_map (λ s. s.now) word.entry) ≡ Err (kind ∷ [])) }
+{
+    match word {
+        Some(word) => to_verify(word),
+        None => Err(ErrorKind::MissingRequiredArgument),
+    }
+}
+
+/// What the command that was met asks for.
+fn asked_command(matches: &ArgMatches) -> Result<Task, ErrorKind>
+    ensures found { IfOk result (λ task. asked_command (subcommand_rows_of matches.now) ≡ Ok task) }
+    ensures refused { IfErr result (λ kind.
+        asked_command (subcommand_rows_of matches.now) ≡ Err (kind ∷ [])) }
+{
+    match matches.subcommand() {
+        Some((name, options)) => {
+            if name == "replay" {
+                Ok(Task::Replay)
+            } else {
+                asked_identity(options.get_str("identity"))
+            }
+        }
+        None => Err(ErrorKind::MissingSubcommand),
+    }
+}
+
+/// What `clap` finds in the words.
+fn matches_of<'a>(alloc: Global, words: &'a [String]) -> Result<ArgMatches<'a>, WordsFault>
+    ensures found { IfOk result (λ matches.
+        (fault_of program (map string_bytes words.entry.now) ≡ [])
+        × (subcommand_rows_of matches
+        ≡ subcommand_of program (map string_bytes words.entry.now))) }
+    ensures refused { IfErr result (RefusesWords (asked (map string_bytes words.entry.now))) }
+{
+    let program = match program(alloc) {
+        Ok(program) => program,
+        Err(_) => return Err(WordsFault::NoMemory),
+    };
+    match program.try_get_matches_from(words) {
+        Ok(matches) => Ok(matches),
+        Err(error) => match error.kind() {
+            ErrorKind::OutOfMemory => Err(WordsFault::NoMemory),
+            kind => Err(WordsFault::Refused(kind)),
+        },
+    }
+}
+
+/// What the words ask for, which are those behind the program's name. What `clap` finds wrong with
+/// them comes before the test of the key.
+pub fn read_words(alloc: Global, words: &[String]) -> Result<Task, WordsFault>
+    ensures found { IfOk result (λ task. asked (map string_bytes words.now) ≡ Ok task) }
+    ensures refused { IfErr result (RefusesWords (asked (map string_bytes words.now))) }
+{
+    let matches = matches_of(alloc, words)?;
+    match asked_command(&matches) {
+        Ok(task) => Ok(task),
+        Err(kind) => Err(WordsFault::Refused(kind)),
+    }
+}

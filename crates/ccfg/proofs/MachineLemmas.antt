@@ -275,10 +275,12 @@ pub reserve_goes : (m : Machine) → IsMachine m → (m.signer.reserved ≡ 2 ^ 
 reserve_goes m h free =
     let all = leaves_of_signer m h in
     let more : m.signer.reserved < leaf_count (keys_of m.settings) m.id = ⊎_elim (λ (l : m.signer.reserved < leaf_count (keys_of m.settings) m.id). l)
-        (λ (g : leaf_count (keys_of m.settings) m.id ≤ m.signer.reserved). absurd (free (omega (arith, g, all, h.signer.reserved)))) (cases_lt m.signer.reserved (leaf_count (keys_of m.settings) m.id)) in
-    let is = reserve_more m.settings m.id (node_in m) more in
-    (is, goes_on m m.store (record m.signer { reserved = m.signer.reserved + 1 }) (event.Reserve m.id) (reserve (book_of m.settings) m.id) outcome.Done h (reserves m.settings m.id) is h.ledger h.opened
-    (record { key = h.signer.key; endorsement = h.signer.endorsement; used = omega (arith, h.signer.used); reserved = omega (arith, more) }))
+    (λ (g : leaf_count (keys_of m.settings) m.id ≤ m.signer.reserved). absurd (free (omega (arith, g, all, h.signer.reserved)))) (cases_lt m.signer.reserved (leaf_count (keys_of m.settings) m.id)) in
+    let is = reserve_more m.settings m.id (node_in m) more in (
+      is,
+      goes_on m m.store (record m.signer { reserved = m.signer.reserved + 1 }) (event.Reserve m.id) (reserve (book_of m.settings) m.id) outcome.Done h (reserves m.settings m.id) is h.ledger h.opened
+          (record { key = h.signer.key; endorsement = h.signer.endorsement; used = omega (arith, h.signer.used); reserved = omega (arith, more) }),
+    )
 
 advance-at : (m : Machine) → IsMachine m → advance (book_of m.settings) m.id (node_in m)
     ≡ commit_to (book_of m.settings) (node_in m) (if nat_lt m.store.commit (last_signed m.store.ledger) then Some (last_signed m.store.ledger) else None)
@@ -432,9 +434,11 @@ sign_signs m st id h free other s =
     let quiet_one : IsNoGovernance s.entry.content = subst (λ (e : Entry). IsNoGovernance e.content) (sym made) tt in
     let ledger : IsSoloLedger service_layers m.id st.ledger = subst (λ (x : Held). IsSoloLedger service_layers m.id x.ledger) (sym s.enters.entered)
     (solo-push service_layers m.id m.store.ledger s.entry h.ledger view quiet_one) in
-    let opened : 2 ≤ st.commit = subst (λ (x : Held). 2 ≤ x.commit) (sym s.enters.entered) h.opened in
-    (is, goes_on m st spent (event.Sign m.id) (sign (book_of m.settings) m.id) _ h (signed m.settings m.id) is ledger opened
-    (record { key = h.signer.key; endorsement = h.signer.endorsement; used = left; reserved = h.signer.reserved }))
+    let opened : 2 ≤ st.commit = subst (λ (x : Held). 2 ≤ x.commit) (sym s.enters.entered) h.opened in (
+      is,
+      goes_on m st spent (event.Sign m.id) (sign (book_of m.settings) m.id) _ h (signed m.settings m.id) is ledger opened
+          (record { key = h.signer.key; endorsement = h.signer.endorsement; used = left; reserved = h.signer.reserved }),
+    )
 
 -- one that isn't made
 pub sign_refused : (m : Machine) (st : Held) (why : Refusal) → IsMachine m → (m.signer.used ≡ m.signer.reserved → ⊥) → (last_signed m.store.ledger ≡ length m.store.ledger → ⊥) →

@@ -82,7 +82,9 @@ impl Machine {
     {
         match self.signer.reserve() {
             Ok(_) => Outcome::Done,
-            Err(exhausted) => Outcome::Refused(Refusal::KeyExhausted(u64::from(exhausted.reserved))),
+            Err(exhausted) => Outcome::Refused(Refusal::KeyExhausted(u64::from(
+                exhausted.reserved,
+            ))),
         }
     }
 

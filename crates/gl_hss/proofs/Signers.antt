@@ -34,8 +34,15 @@ hss_signature_size k None q message form leaf =
 hss_signature_size k (Some e) q message form leaf =
     let key = key_bytes (public_of k) in
     let last = signature_bytes k.types (signature_by k q message) in
-    omega (arith, length-append (u32str 1 ++ e ++ key) last, length-append (u32str 1 ++ e) key, length-append (u32str 1) e, length-u32str 1, length-key_bytes (public_of k) form,
-    length-signature_bytes k.types (signature_by k q message) (signature_by-IsSigned k q message leaf).form)
+    omega (
+      arith,
+      length-append (u32str 1 ++ e ++ key) last,
+      length-append (u32str 1 ++ e) key,
+      length-append (u32str 1) e,
+      length-u32str 1,
+      length-key_bytes (public_of k) form,
+      length-signature_bytes k.types (signature_by k q message) (signature_by-IsSigned k q message leaf).form,
+    )
 
 pub signer-IsValid : (k : PrivateKey) (e : Option (List ℕ)) (s : List ℕ) (q : ℕ) (message hss_key : List ℕ) → IsKey (public_of k) → q < 2 ^ height k.types → s ≡ hss_signature k e q message → StandsUnder k e hss_key → IsValid hss_key message s
 unfolding StandsUnder

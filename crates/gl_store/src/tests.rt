@@ -96,11 +96,7 @@ fn signer(alloc: Global) -> Result<HssSigner, AllocError>
 }
 
 // The store of such a service, opened with the signer's next leaf.
-fn opened_by(
-    alloc: Global,
-    state: ServiceState,
-    signer: &mut HssSigner,
-) -> Result<Store, Fail>
+fn opened_by(alloc: Global, state: ServiceState, signer: &mut HssSigner) -> Result<Store, Fail>
     requires { signer.old.endorsement ≡ None }
     ensures up_to { IfOk result (λ s. (view : ℕ) → 2 ≤ view → HasViewsUpTo view s.ledger) }
     ensures unendorsed { signer.new.endorsement ≡ None }

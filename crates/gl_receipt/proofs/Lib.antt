@@ -6,3 +6,4 @@ pub mod LawLemmas
 pub mod StepLemmas
 pub mod TextLemmas
 pub mod AcceptLemmas
+pub mod MakeLemmas

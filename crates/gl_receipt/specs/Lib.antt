@@ -4,3 +4,4 @@ pub mod Form
 pub mod Tree
 pub mod Law
 pub mod Ranges
+pub mod Made

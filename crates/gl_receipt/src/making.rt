@@ -1,0 +1,168 @@
+//! The receipts that a ledger gives.
+
+ghost use Rattle.std.specs.Prelude.{◌≡◌, ◌-◌, ◌<◌, ◌^◌, [], length, true, Ok, Err, Some, IfOk, IfErr, OnOk};
+ghost use Rattle.std.specs.Option.{option_copied};
+ghost use Rattle.sha2.specs.Sha256.{sha256};
+ghost use Rattle.gl_base.specs.Answers.{Fails};
+ghost use Rattle.gl_entry.specs.Entry.{is_entry, is_signature, body_bytes, recorded_commit};
+ghost use Rattle.gl_entry.specs.Leaf.{evidence_text};
+ghost use Rattle.gl_receipt.specs.Made.{status_in, view_at, commit_id, committed_entry, later_signature, entry_at, components_of, recorded_signature, signed_in_entry, receipt_of, IsOfService};
+ghost use Rattle.gl_receipt.specs.Receipt.{Accepts};
+
+use crate::components::{LeafComponents, Receipt, Signed};
+use crate::ledger::CommittedLedger;
+use crate::make_fault::MakeFault;
+use crate::text::Text;
+use gl_base::{Bytes, OrNoMemory, Sequence, Status, TxId, status};
+use gl_entry::{Content, Digest, Entry, evidence};
+use std::alloc::{AllocError, Global};
+
+/// The view of the entry with a seqno.
+fn view_at<L: CommittedLedger>(ledger: &L, seqno: u64) -> Option<u32>
+    ensures { result ≡ view_at (L.ledger ledger.now).entries seqno }
+{
+    match ledger.entry(seqno) {
+        None => None,
+        Some(entry) => Some(entry.view),
+    }
+}
+
+/// The identifier of the last committed entry.
+fn commit_id<L: CommittedLedger>(ledger: &L) -> Option<TxId>
+    ensures { result ≡ commit_id (L.ledger ledger.now) }
+{
+    let seqno = ledger.commit();
+    match view_at(ledger, seqno) {
+        None => None,
+        Some(view) => Some(TxId { view, seqno }),
+    }
+}
+
+/// The status of a transaction by this ledger.
+fn status_in<L: CommittedLedger>(ledger: &L, id: TxId) -> Status
+    ensures { result ≡ status_in (L.ledger ledger.now) id }
+{
+    status(id, view_at(ledger, id.seqno), commit_id(ledger))
+}
+
+/// The entry of a committed transaction.
+fn committed_entry<L: CommittedLedger>(ledger: &L, id: TxId) -> Result<&Entry, MakeFault>
+    ensures found { IfOk result (λ e. committed_entry (L.ledger ledger.now) id ≡ Ok e.now) }
+    ensures refused { IfErr result (λ fault.
+        committed_entry (L.ledger ledger.now) id ≡ Err fault) }
+    ensures numbered { IfOk result (λ e. e.now.seqno ≡ id.seqno) }
+    ensures fits { IfOk result (λ e. is_entry e.now ≡ true) }
+{
+    match (status_in(ledger, id), ledger.entry(id.seqno)) {
+        (Status::Committed, Some(entry)) => Ok(entry),
+        (status, _) => Err(MakeFault::NotCommitted { status }),
+    }
+}
+
+/// The first signature above a seqno, where it is committed.
+fn later_signature<L: CommittedLedger>(ledger: &L, seqno: u64) -> Result<&Entry, MakeFault>
+    ensures found { IfOk result (λ e. later_signature (L.ledger ledger.now) seqno ≡ Ok e.now) }
+    ensures refused { IfErr result (λ fault.
+        later_signature (L.ledger ledger.now) seqno ≡ Err fault) }
+    ensures above { IfOk result (λ e. seqno < e.now.seqno) }
+    ensures numbered { IfOk result (λ e.
+        entry_at (L.ledger ledger.now).entries e.now.seqno ≡ Some e.now) }
+    ensures signs { IfOk result (λ e. is_signature e.now.content ≡ true) }
+{
+    let commit = ledger.commit();
+    match ledger.signature_above(seqno) {
+        Some(entry) if entry.seqno <= commit => Ok(entry),
+        _ => Err(MakeFault::NoLaterSignature { commit }),
+    }
+}
+
+/// The commit evidence of a transaction, as a text.
+fn evidence_of(alloc: Global, identity: &[u8; 60], id: TxId) -> Result<Text, AllocError>
+    ensures { IfOk result (λ text. text ≡ evidence_text identity.now id) }
+{
+    let bytes = evidence(alloc, identity, id)?;
+    Ok(Text::from(String::from_utf8(bytes).unwrap()))
+}
+
+/// The digest of an entry's body.
+fn body_digest(entry: &Entry) -> Digest
+    requires { is_entry entry.now ≡ true }
+    ensures { result ≡ sha256 (body_bytes entry.now) }
+{
+    entry.body_digest()
+}
+
+/// What the leaf of an entry is made of.
+fn components(
+    alloc: Global,
+    identity: &[u8; 60],
+    id: TxId,
+    entry: &Entry,
+) -> Result<LeafComponents, AllocError>
+    requires { is_entry entry.now ≡ true }
+    ensures { IfOk result (λ c. c ≡ components_of identity.now id entry.now) }
+{
+    Ok(LeafComponents {
+        claims_digest: entry.claims,
+        commit_evidence: evidence_of(alloc, identity, id)?,
+        write_set_digest: body_digest(entry),
+    })
+}
+
+/// The bytes of a signature entry's signature.
+fn recorded_signature(content: &Content) -> &[u8]
+    ensures { result.now ≡ recorded_signature content.now }
+{
+    match content {
+        Content::Signature(signature) => signature.signature.as_slice(),
+        _ => &[],
+    }
+}
+
+/// The commit that a signature entry records.
+fn recorded_commit(content: &Content) -> u64
+    ensures { result ≡ recorded_commit content.now }
+{
+    match content {
+        Content::Signature(signature) => signature.commit,
+        _ => 0,
+    }
+}
+
+/// What a node signed in a signature entry beside the root.
+fn signed_in_entry(entry: &Entry) -> Signed
+    ensures { result ≡ signed_in_entry entry.now }
+{
+    Signed {
+        commit: recorded_commit(&entry.content),
+        seqno: entry.seqno,
+        view: entry.view,
+    }
+}
+
+/// The receipt of a committed transaction by its ledger (CCF documentation, "Receipts"). The
+/// signature is the first one above it, which has to be committed too. Refused where the ledger's
+/// status of the transaction isn't Committed, and then where no such signature is there.
+#[tactic(auto, unfolding(crate::specs::Made::receipt_of))]
+pub fn make<L: CommittedLedger>(
+    alloc: Global,
+    ledger: &L,
+    id: TxId,
+) -> Result<Receipt, OrNoMemory<MakeFault>>
+    ensures made { IfOk result (λ r. receipt_of (L.ledger ledger.now) id ≡ Ok r) }
+    ensures refused { IfErr result (λ e. Fails e (receipt_of (L.ledger ledger.now) id)) }
+    // In a ledger of the service the receipt is accepted as that of the transaction.
+    ensures accepted { IsOfService (L.ledger ledger.now) →
+        IfOk result (λ r. Accepts (L.ledger ledger.now).identity r id) }
+{
+    let entry = committed_entry(ledger, id)?;
+    let signature = later_signature(ledger, id.seqno)?;
+    let proof = ledger.path(id.seqno, signature.seqno - 1)?;
+    let bytes = Vec::from_slice(alloc, recorded_signature(&signature.content))?;
+    Ok(Receipt {
+        leaf_components: components(alloc, ledger.identity(), id, entry)?,
+        proof: Sequence::from(proof),
+        signature: Bytes::from(bytes),
+        signed: signed_in_entry(signature),
+    })
+}

@@ -55,11 +55,12 @@ rules_outcome (outcomes.Signed id) = outcome.Signed id.view id.seqno
 rules_outcome (outcomes.Committed id) = outcome.Committed id.view id.seqno
 rules_outcome (outcomes.Refused why) = outcome.Refused (rules_refusal why)
 
--- The step of the rules took the machine from old to new, with this outcome; nothing was sent.
+-- This step of the rules ends in the machine new, with this outcome; nothing was sent.
 abbrev pub Steps : Step Entry Given Unmade → Machine → Outcome → Type 0
 Steps step new o = step ≡ quiet (node_in new) (rules_outcome o)
 
--- A signer of node x: it has the node's key and endorsement, and no leaf is used that isn't reserved.
+-- A signer of node x: it has the node's key and endorsement, no leaf is used that isn't reserved,
+-- and no more leaves are reserved than the key has.
 pub record IsSignerOf (s : Settings) (x : NodeId) (signer : Signer) : Type 0 where
   pub key : signer.key ≡ (keys_of s).key_of x
   pub endorsement : signer.endorsement ≡ Some ((keys_of s).endorsement_of x)
@@ -77,7 +78,7 @@ pub record IsMachine (m : Machine) : Type 0 where
   pub opened : 2 ≤ m.store.commit
   pub signer : IsSignerOf m.settings m.id m.signer
 
--- Later, with the same settings.
+-- A machine that the old one became, with its settings.
 pub record GoesOn (old new : Machine) : Type 0 where
   pub machine : IsMachine new
   pub settings : new.settings ≡ old.settings

@@ -105,7 +105,7 @@ due_of (tasks.Verify identity) given = due_of_receipt identity given
 
 -- What a run does
 
--- What a sink held before a run and behind it, where it tells that, and its counts of faults then.
+-- What a sink held before a run and after it, where it tells that, and its counts of faults then.
 pub record Written : Type 0 where
   pub held : Option (List ℕ)
   pub holds : Option (List ℕ)

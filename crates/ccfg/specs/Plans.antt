@@ -32,8 +32,8 @@ PlaysOneNode (Play schedule) = HasOneNode schedule
 PlaysOneNode (Show id) = Unit {0}
 PlaysOneNode (Refuse fault) = Unit {0}
 
--- Under a service's key nothing is played, and a transaction is shown only of a receipt that shows
--- it.
+-- With a key nothing is played, and a transaction is told only where the bytes are a receipt that
+-- is accepted for it.
 abbrev pub ShowsAccepted : Task → List ℕ → Plan → Type 0
 ShowsAccepted tasks.Replay given plan = Unit {0}
 ShowsAccepted (tasks.Verify identity) given (Play schedule) = ⊥

@@ -95,8 +95,8 @@ abbrev pub IsKindLine : Kinds → List ℕ → Type 0
 IsKindLine kinds text =
     (kind : ErrorKind) × IsAmong kind kinds × (text ≡ fault_line (faults.Words kind))
 
--- The bytes are a receipt which shows that the service with this key committed a transaction, and
--- exactly the line of this transaction was written.
+-- The bytes are a receipt that is accepted for a transaction under this key, and exactly the line
+-- of this transaction was written.
 abbrev pub TellsAccepted : List ℕ → List ℕ → Option (List ℕ) → Option (List ℕ) → Type 0
 TellsAccepted identity given held holds =
     (receipt : Receipt) × (receipt_from given ≡ Ok receipt)

@@ -20,7 +20,7 @@ use Rattle.gl_ledger.specs.declared.refusal.Refusal.TheVariants as refusals
 use Rattle.gl_world.specs.declared.settings.Settings.{Settings}
 use Rattle.gl_world.specs.Founding.{id_of, numbers_from}
 use Rattle.gl_world.specs.World.{ServiceOutcome, ServiceWorld}
-use Rattle.gl_ledger.specs.Makers.{Given, Replied, Governed, Unmade, ByStore, Unspelled, NotByNow, NotAccepted, ByRule}
+use Rattle.gl_ledger.specs.Makers.{Given, Replied, Governed, Unmade, ByStore, Unspelled, NoEvidenceYet, NotAccepted, ByRule}
 
 -- Numbers behind a word, each behind a space.
 abbrev pub with_numbers : List ℕ → List ℕ → List ℕ
@@ -61,7 +61,7 @@ unmade_text (ByStore (refusals.Aborted abort)) =
 unmade_text (ByStore (refusals.TooLarge size)) = with_numbers (codes "119") (size ∷ [])
 unmade_text (ByStore refusals.SeqnoLimit) = codes "130"
 unmade_text Unspelled = codes "117"
-unmade_text NotByNow = codes "117"
+unmade_text NoEvidenceYet = codes "117"
 unmade_text (NotAccepted fault) = codes "117"
 unmade_text (ByRule broken) = codes "117"
 

@@ -190,13 +190,14 @@ pub fn top<S: Source, K: Sink, D: Disk + Send, L: Link, G: Gate + Sync>(
         × (S.ended source.new ≡ true)
         × OfBytes (S.left source.old) (λ given.
         Tells (IsAnswer task given) (K.holds sink.old) (K.holds sink.new)) }
-    // 0, for `verify`: the bytes are a receipt which shows that the service with the key committed
-    // the transaction that is told.
+    // 0, for `verify`: the bytes are a receipt that is accepted for the transaction that is told
+    // under the key.
     ensures accepted { result ≡ 0 → (identity : List ℕ)
         → asked (map string_bytes words.now) ≡ Ok (Verify identity)
         → OfBytes (S.left source.old) (λ given.
         TellsAccepted identity given (K.holds sink.old) (K.holds sink.new)) }
-    // 1: the words ask for a task, the source gave its end, and exactly the line was written that tells why the bytes' receipt is not valid.
+    // 1: the words ask for a task, the source gave its end, and exactly the line was written that
+    // tells why the bytes' receipt is not valid.
     ensures not_valid { result ≡ 1 → (task : Tasks)
         × (asked (map string_bytes words.now) ≡ Ok task)
         × (S.ended source.new ≡ true)

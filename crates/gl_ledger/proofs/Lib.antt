@@ -36,3 +36,4 @@ pub mod FieldReadings
 pub mod PartReadings
 pub mod GovernanceReadings
 pub mod Acceptances
+pub mod SignatureMeanings

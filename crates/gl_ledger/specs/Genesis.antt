@@ -180,7 +180,7 @@ rule_row action = row constitution_map (action ∷ []) (little_endian 2 1 ++ lit
 abbrev pub constitution_rows : List Write
 constitution_rows = map rule_row (1 ∷ 2 ∷ 3 ∷ 4 ∷ 5 ∷ 6 ∷ 7 ∷ [])
 
--- A member's row: accepted, its key, and no leaf used.
+-- A member's row: accepted, its key, and no request signed yet.
 abbrev pub member_row : NewMember → Write
 member_row m = row members_map (m.number ∷ []) ((1 ∷ m.key) ++ little_endian 4 0)
 

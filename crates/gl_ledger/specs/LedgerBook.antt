@@ -11,7 +11,7 @@ use Rattle.gl_ledger.specs.Layers.{Layers}
 use Rattle.gl_ledger.specs.NodeKeys.{NodeKeys, leaf_count}
 use Rattle.gl_ledger.specs.Recordings.{recorded_nodes, configuration, removal, mark}
 use Rattle.gl_ledger.specs.Broken.{Broken, broken}
-use Rattle.gl_ledger.specs.Makers.{Given, Unmade, NotByNow, ByRule, guarded, request_result, govern_result, signing_result}
+use Rattle.gl_ledger.specs.Makers.{Given, Unmade, NoEvidenceYet, ByRule, guarded, request_result, govern_result, signing_result}
 
 -- For now no transaction notes what it reads.
 pub data Reads : Type 0 where
@@ -45,7 +45,7 @@ ledger_book layers keys = record {
       guarded layers (λ made. made.0) ledger (govern_result layers ledger view g);
   sign = λ x leaf ledger view commit.
       guarded layers (λ made. made) ledger (signing_result keys x leaf ledger view commit);
-  evidence = λ ledger view. guarded layers (λ made. made) ledger (Err NotByNow);
+  evidence = λ ledger view. guarded layers (λ made. made) ledger (Err NoEvidenceYet);
   marked_node = no_mark;
   mark_refusal = λ ledger x. None;
   conflict = λ ledger len reads. None;

@@ -1,5 +1,5 @@
--- The entries that a ledger takes of requests, of governance and of signatures, and where an entry
--- may be made.
+-- The entries that a ledger makes of requests of applications and of governance, and of signatures;
+-- and where one may be made.
 use Rattle.std.specs.Prelude.{◌≡◌, ◌≤◌, ◌^◌, ℕ, ◌+◌, List, [], ◌∷◌, Option, None, Some, Result, Ok, Err, true, false, length, if◌then◌else◌}
 use Rattle.gl_base.specs.Bytes.{are_bytes}
 use Rattle.gl_merkle.specs.Tree.{root_of}
@@ -36,7 +36,7 @@ pub data Unmade : Type 0 where
   -- no bytes spell such a request, so none ever comes
   Unspelled : Unmade
   -- for now no evidence entry is made
-  NotByNow : Unmade
+  NoEvidenceYet : Unmade
   -- a request of governance that isn't accepted
   NotAccepted : (fault : GenesisFault) → Unmade
   -- the entry would break a rule of the audit

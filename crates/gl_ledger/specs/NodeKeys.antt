@@ -7,6 +7,7 @@ use Rattle.gl_hss.specs.declared.fault.HssFault.{HssFault}
 use Rattle.gl_hss.specs.declared.fault.HssFault.TheVariants as faults
 use Rattle.gl_lms.specs.Types.{height}
 use Rattle.gl_lms.specs.Tree.{key_bytes, IsKey}
+use Rattle.gl_hss.specs.Hss.{IsValidBy}
 use Rattle.gl_hss.specs.Order.{verdict, last_key_verdict, endorsement_verdict}
 use Rattle.gl_lms.specs.Secrets.{PrivateKey, public_of}
 use Rattle.gl_hss.specs.Signer.{hss_signature, StandsUnder}
@@ -46,6 +47,13 @@ node_signature_fault identity x message signature =
     fault_or_else (verdict identity message signature)
     (signer_fault x (last_key_verdict identity signature))
 
+-- The bytes are a valid HSS signature of a message under the service's key (RFC 8554, section 6.3),
+-- whose last level is by the node's key: that key's digest is the node's identifier.
+pub record IsSignedBy (identity : List ℕ) (x : NodeId) (message signature : List ℕ) : Type 0 where
+  pub key : List ℕ
+  pub valid : IsValidBy identity key message signature
+  pub named : x ≡ sha256 key
+
 abbrev pub is_verified : Result (Unit {0}) HssFault → Bool
 is_verified (Ok u) = true
 is_verified (Err fault) = false
@@ -63,7 +71,8 @@ hss_layers reading = record {
 abbrev pub service_layers : Layers
 service_layers = hss_layers request_in
 
--- The service's key endorses the node's, and the node's identifier is the digest of its public key.
+-- The service's key endorses the node's, and the node's identifier is the digest of its public key,
+-- which has the form that RFC 8554 gives it; key and endorsement are bytes.
 -- The key and the endorsement are bytes.
 pub record IsNodeKey (keys : NodeKeys) (identity : List ℕ) (x : NodeId) : Type 0 where
   pub form : IsKey (public_of (keys.key_of x))

@@ -2,6 +2,7 @@
 
 ghost use Rattle.std.specs.Prelude.{◌≡◌, ◌<◌, ◌≤◌, ◌↔◌, ◌+◌, ◌^◌, ℕ, suc, List, [], ◌∷◌, ◌++◌, Option, None, Some, Ok, length, map, slice_get, true};
 ghost use Rattle.gl_base.specs.Bytes.{are_bytes};
+ghost use Rattle.gl_hss.specs.Hss.{IsEndorsed};
 ghost use Rattle.gl_vmaps.specs.Tables.{value_in};
 ghost use Rattle.gl_tx.specs.declared.request.Operation.{Operation};
 ghost use Rattle.gl_entry.specs.declared.entry.Entry.{Entry};
@@ -24,7 +25,7 @@ ghost use Rattle.gl_ledger.specs.Sound.{IsSound};
 ghost use Rattle.gl_ledger.specs.Makers.{MayMake, MakesValid, opening_of, request_result, signing_result};
 ghost use Rattle.gl_ledger.specs.LedgerBook.{ledger_book};
 ghost use Rattle.gl_ledger.specs.Audit.{LedgerFault, IsFaultOf, audited, opened};
-ghost use Rattle.gl_ledger.specs.NodeKeys.{IsNodeKey, NodeKeys, hss_layers, leaf_count, node_signature, node_signature_fault, service_layers};
+ghost use Rattle.gl_ledger.specs.NodeKeys.{IsNodeKey, IsSignedBy, NodeKeys, hss_layers, leaf_count, node_signature, node_signature_fault, service_layers};
 ghost use Rattle.gl_ledger.specs.Opening.{Begins, Founds};
 
 /// The ledger has the laws that the rules of consensus ask of a book.
@@ -103,8 +104,8 @@ pub fn is_unguarded()
         ≡ signing_result keys node leaf ledger view commit }
 {}
 
-/// What a node signs with one of its leaves, where the service's key endorses its own, is valid by
-/// the test that entries are tried by, and behind a ledger of its service it is valid and has room.
+/// A node whose key the service's key endorses signs validly: by the test of signatures, and behind
+/// each ledger of its service, in an entry that has room for it.
 pub fn is_signed()
     ensures valid { (keys : NodeKeys) (identity : List ℕ) (x : NodeId) (leaf : ℕ) (message : List ℕ) →
         IsNodeKey keys identity x → leaf < leaf_count keys x →
@@ -114,4 +115,17 @@ pub fn is_signed()
         IsNodeKey keys identity x → leaf < leaf_count keys x →
         identity_in (tables_of ledger) ≡ identity →
         MakesValid (hss_layers request_in) keys x leaf ledger view commit }
+{}
+
+/// What the tests of an entry's signature and of an endorsement mean by RFC 8554: a signature has no
+/// fault exactly where it is valid and by the node's key, and exactly endorsements are taken as such.
+pub fn is_meant()
+    ensures signature { (identity : List ℕ) (x : NodeId) (message signature : List ℕ) →
+        length identity ≡ 60 → are_bytes identity ≡ true → are_bytes signature ≡ true →
+        node_signature_fault identity x message signature ≡ None
+        ↔ IsSignedBy identity x message signature }
+    ensures endorsement { (identity key endorsement : List ℕ) → length identity ≡ 60 →
+        are_bytes identity ≡ true → are_bytes endorsement ≡ true →
+        service_layers.is_endorsed identity key endorsement ≡ true
+        ↔ IsEndorsed identity key endorsement }
 {}

@@ -23,7 +23,9 @@ pub use genesis::{
     Dealing, Genesis, GovernanceRequest, HssPublicKey, LmsPublicKey, NewMember, NewNode,
     ServiceState, ShareDigest,
 };
-pub use laws::{is_audited, is_kept_sound, is_lawful, is_opened, is_read, is_signed, is_unguarded};
+pub use laws::{
+    is_audited, is_kept_sound, is_lawful, is_meant, is_opened, is_read, is_signed, is_unguarded,
+};
 pub use node_signature::node_signature_fault;
 pub use recording::{Recording, recording_of};
 pub use refusal::Refusal;

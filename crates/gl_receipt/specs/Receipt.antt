@@ -28,8 +28,8 @@ pub record IsEvidence (identity text : List ℕ) (id : TxId) : Type 0 where
   pub named : IsTxId id
   pub spelled : text ≡ evidence_text identity id
 
--- The receipt shows that the service with this key committed this transaction: the evidence is its
--- own, and the signature is valid (RFC 8554, section 6.3).
+-- The receipt is accepted for this transaction under this key: the evidence is its own, and the
+-- signature of the root to which its path leads is valid (RFC 8554, section 6.3).
 pub record Accepts (identity : List ℕ) (r : Receipt) (id : TxId) : Type 0 where
   pub evidence : IsEvidence identity r.leaf_components.commit_evidence id
   pub signature : IsValid identity (message_of r) r.signature

@@ -25,7 +25,8 @@ pub struct Signed {
     pub view: u32,
 }
 
-/// That a service committed a transaction.
+/// That a node of a service signed a ledger which has a transaction. What `make` gives is of a
+/// committed one.
 #[derive(Debug, Drop)]
 pub struct Receipt {
     pub leaf_components: LeafComponents,

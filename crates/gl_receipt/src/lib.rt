@@ -1,4 +1,4 @@
-//! Receipts (CCF documentation, "Receipts"): the proof that a service committed a transaction, for
+//! Receipts (CCF documentation, "Receipts"): the proof that a service signed a transaction, for
 //! whoever knows the service's key and nothing else. They are verified, and read and written as
 //! JSON.
 #![tactic(auto)]

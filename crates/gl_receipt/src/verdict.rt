@@ -47,7 +47,7 @@ fn check_signature(identity: &[u8; 60], receipt: &Receipt) -> Result<(), Receipt
     Ok(())
 }
 
-/// The transaction that the receipt shows committed by the service with this key, a 60-byte HSS
+/// The transaction for which the receipt is accepted under the service's key, a 60-byte HSS
 /// public key (RFC 8554, section 6.1). Takes no memory.
 #[tactic(auto, unfolding(crate::specs::Verdict::verdict))]
 pub fn verify(identity: &[u8; 60], receipt: &Receipt) -> Result<TxId, ReceiptFault>

@@ -19,5 +19,6 @@ module _ (layers : Layers) (keys : NodeKeys) where
   abbrev pub node_of : Start Entry → List ServiceEvent → NodeId → Node Entry
   node_of s events x = node_after (ledger_book layers keys) s events x
 
+  -- Node x leads after these events.
   abbrev pub Leads : Start Entry → List ServiceEvent → NodeId → Type 0
   Leads s events x = (node_of s events x).role ≡ Leader

@@ -23,9 +23,9 @@ pub fn is_safe()
         IsSafe (ledger_book layers keys) (IsSound layers) s events }
 {}
 
-/// The book refuses a leader no request, and no valid signature, for a rule of the audit. What a
-/// leader answers to a request of governance is never due to the guard: for now it refuses each, as
-/// a genesis comes first or not at all.
+/// For a rule of the audit the book refuses a leader nothing: no request, and no valid signature.
+/// For now each request of governance is refused for another reason: a genesis comes first or not
+/// at all.
 pub fn is_unguarded()
     ensures executes { (layers : Layers) (keys : NodeKeys) (s : Start Entry) → Begins layers s →
         (events : List ServiceEvent) (x : NodeId) → Leads layers keys s events x →

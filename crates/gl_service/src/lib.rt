@@ -1,5 +1,5 @@
 //! A service that began with an opening ledger, as the rules of consensus move it: it is safe, and
-//! the guard of its ledger refuses its leaders nothing. Laws, and no code.
+//! no rule of the audit refuses its leaders anything. Laws, and no code.
 #![tactic(auto)]
 
 mod laws;

@@ -17,7 +17,7 @@ use Rattle.gl_rules.specs.Identity.{NodeId}
 use Rattle.gl_world.specs.declared.settings.Settings.{Settings}
 use Rattle.gl_world.specs.Keys.{private_key, lms_key, hss_key, service_seed, node_seed, member_seed, recovery_secret}
 
--- The numbers from one on, so many of them.
+-- So many numbers, from the first on.
 abbrev pub numbers_from : ℕ → ℕ → List ℕ
 numbers_from first zero = []
 numbers_from first (suc count) = first ∷ numbers_from (suc first) count
@@ -60,7 +60,7 @@ number_of s x =
     unwrap_or (find (λ number. same_bytes (id_of s number) x)
     (numbers_from 1 (s.starting + s.joiners))) 1
 
--- The key and the endorsement of each node.
+-- The key and the endorsement of each node; of an identifier that is no node's, those of node 1.
 abbrev pub keys_of : Settings → NodeKeys
 keys_of s = record {
   key_of = λ x. private_key (node_seed s (number_of s x));

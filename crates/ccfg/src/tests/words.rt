@@ -1,7 +1,9 @@
 //! Words that ask for nothing, and the kind of fault that is told.
 
+use crate::help::HELP;
 use crate::tests::receipts::IDENTITY;
 use crate::tests::{one_open, run, status_of, to_words};
+use crate::told_of_itself;
 use gl_outside::{MemSource, SureSink};
 use std::test::Fail;
 
@@ -60,5 +62,16 @@ fn leaves_the_source_unread(rt: HostRuntime) -> Result<(), Fail> {
     let mut source = MemSource::new(b"world", 1, &failing);
     let mut sink = SureSink::new(alloc, 50);
     assert_eq!(rt; status_of(alloc, &called, &mut source, &mut sink), 2);
+    Ok(())
+}
+
+#[test]
+fn tells_of_itself(rt: HostRuntime) -> Result<(), Fail> {
+    let alloc = rt.alloc();
+    let help = told_of_itself(alloc, &to_words(alloc, &["--help"])?)?.ok_or("no help")?;
+    assert_eq!(rt; help.as_str(), HELP);
+    let version = told_of_itself(alloc, &to_words(alloc, &["--version"])?)?.ok_or("no version")?;
+    assert_eq!(rt; version.as_str(), "ccfg 0.1.0\n");
+    assert!(rt; told_of_itself(alloc, &to_words(alloc, &["--help", "replay"])?)?.is_none());
     Ok(())
 }

@@ -7,3 +7,4 @@ pub mod StepLemmas
 pub mod TextLemmas
 pub mod AcceptLemmas
 pub mod MakeLemmas
+pub mod OrderLemmas

@@ -9,6 +9,9 @@ use hex::FromHex;
 use std::alloc::{AllocError, Global};
 use std::test::*;
 
+mod made;
+mod mem_ledger;
+
 // The service's key, of two levels.
 const IDENTITY: &str = "\
     000000020000000500000004c00d2e39cbe697efbbf49e528e1da22e3c8d981478775288251eae18295c29a50a6\

@@ -1,0 +1,125 @@
+//! A ledger in memory, which is asked by scans.
+
+ghost use Rattle.std.specs.Prelude.{◌≡◌};
+ghost use Rattle.std.specs.List.{find};
+ghost use Rattle.std.specs.Option.{option_copied};
+ghost use Rattle.gl_entry.specs.Entry.{is_signature};
+ghost use Rattle.gl_receipt.specs.Made.{entry_at, signature_above};
+
+use crate::ledger::CommittedLedger;
+use gl_entry::{Content, Digest, Entry, leaf};
+use gl_merkle::{Step, path};
+use std::alloc::{AllocError, Global};
+use std::marker::Model;
+use std::test::Fail;
+
+/// Entries whose i-th has seqno i, and as many leaves.
+#[derive(Drop)]
+pub(crate) struct MemLedger {
+    alloc: Global,
+    identity: [u8; 60],
+    commit: u64,
+    entries: Vec<Entry>,
+    leaves: Vec<Digest>,
+}
+
+impl Model for MemLedger {
+    ghost use Rattle.std.specs.Prelude.{◌≡◌, ℕ, suc, Some, true, length, slice_get};
+    ghost use Rattle.gl_entry.specs.Entry.{is_entry};
+    ghost use Rattle.gl_entry.specs.declared.entry.Entry.{Entry};
+    ghost use Rattle.gl_receipt.specs.Made.{Ledger};
+
+    ghost Value = { Ledger };
+
+    ghost view = { λ l. record {
+      entries = l.entries.items;
+      leaves = l.leaves.items;
+      commit = l.commit;
+      identity = l.identity;
+    } };
+
+    ghost invariant = { λ l. (length l.leaves.items ≡ length l.entries.items)
+        × ((i : ℕ) (e : Entry) → slice_get l.entries.items i ≡ Some e →
+        (e.seqno ≡ suc i) × (is_entry e ≡ true)) };
+}
+
+fn is_signature(content: &Content) -> bool
+    ensures { result ≡ is_signature content.now }
+{
+    matches!(content, Content::Signature(_))
+}
+
+/// The first signature of these entries.
+fn first_signature(entries: &[Entry]) -> Option<&Entry>
+    ensures { option_copied result ≡ find (λ e. is_signature e.content) entries.now }
+{
+    entries.iter().find(|entry| is_signature(&entry.content))
+}
+
+/// The first signature above a seqno among entries from seqno 1 on.
+fn signature_in(entries: &[Entry], seqno: u64) -> Option<&Entry>
+    ensures { option_copied result ≡ signature_above entries.now seqno }
+{
+    first_signature(entries.get(seqno as usize..)?)
+}
+
+/// The entry with a seqno among entries from seqno 1 on.
+fn entry_in(entries: &[Entry], seqno: u64) -> Option<&Entry>
+    ensures { option_copied result ≡ entry_at entries.now seqno }
+{
+    match seqno.checked_sub(1) {
+        None => None,
+        Some(index) => entries.get(index as usize),
+    }
+}
+
+impl MemLedger {
+    /// Of no entries, with the service's key and a commit.
+    pub(crate) fn new(alloc: Global, identity: [u8; 60], commit: u64) -> MemLedger {
+        MemLedger {
+            alloc,
+            identity,
+            commit,
+            entries: Vec::new(alloc),
+            leaves: Vec::new(alloc),
+        }
+    }
+
+    /// Adds the entry of a frame, and its leaf.
+    #[tactic(auto, using(crate::proofs::MakeLemmas::writes_counted))]
+    pub(crate) fn push(&mut self, frame: &[u8]) -> Result<(), Fail> {
+        let (entry, _) = Entry::decode(self.alloc, frame)?;
+        if entry.seqno != self.entries.len() as u64 + 1 {
+            return Err(Fail::from("another seqno"));
+        }
+        self.leaves.reserve(1)?;
+        let leaf = leaf(&entry, &self.identity);
+        self.entries.push(entry)?;
+        self.leaves.push(leaf)?;
+        Ok(())
+    }
+}
+
+impl CommittedLedger for MemLedger {
+    ghost ledger = { λ l. l };
+
+    fn identity(&self) -> &[u8; 60] {
+        &self.identity
+    }
+
+    fn commit(&self) -> u64 {
+        self.commit
+    }
+
+    fn entry(&self, seqno: u64) -> Option<&Entry> {
+        entry_in(&self.entries, seqno)
+    }
+
+    fn signature_above(&self, seqno: u64) -> Option<&Entry> {
+        signature_in(&self.entries, seqno)
+    }
+
+    fn path(&self, seqno: u64, size: u64) -> Result<Vec<Step>, AllocError> {
+        path(self.alloc, &self.leaves[..size as usize], seqno as usize)
+    }
+}

@@ -1,5 +1,5 @@
 -- The machine's steps are those of the rules.
-use Rattle.std.proofs.Common.{◌≡◌, ⊎_elim, ℕ, zero, suc, ◌+◌, ◌^◌, ◌<◌, ◌≤◌, List, [], ◌∷◌, ◌++◌, length, Option, Some, None, Result, Ok, Err, IsErr, OnOk, IfSome, ◌↔◌, Bool, true, false, ◌==◌, nat_lt, nat_le, if◌then◌else◌, refl, sym, ◌∙◌, ap, subst, arith}
+use Rattle.std.proofs.Common.{◌≡◌, ⊎_elim, ℕ, zero, suc, ◌+◌, ◌^◌, ◌<◌, ◌≤◌, List, [], ◌∷◌, ◌++◌, length, map, Option, Some, None, Result, Ok, Err, IsErr, OnOk, IfSome, ◌↔◌, Bool, true, false, ◌==◌, nat_lt, nat_le, if◌then◌else◌, refl, sym, ◌∙◌, ap, subst, arith}
 use Rattle.std.proofs.lemmas.Bool.Decides.{nat_tests}
 use Rattle.std.proofs.lemmas.Bool.{cases_lt}
 use Rattle.std.proofs.Math.Bool.{and-true}
@@ -28,7 +28,13 @@ use Rattle.gl_tx.specs.declared.request.Answer.{Answer}
 use Rattle.gl_ledger.specs.Broken.{last_signed}
 use Rattle.gl_ledger.specs.Ledger.{HasViewsUpTo, genesis_entry, message_behind, opening_ledger, sign_result}
 use Rattle.gl_ledger.specs.declared.genesis.Genesis as request
-use Rattle.gl_ledger.specs.NodeKeys.{service_layers, leaf_count}
+use Rattle.gl_ledger.specs.NodeKeys.{service_layers, leaf_count, IsNodeKey}
+use Rattle.gl_ledger.specs.Genesis.{node_id}
+use Rattle.gl_ledger.specs.Effect.{identity_in}
+use Rattle.gl_ledger.specs.Tree.{tables_of}
+use Rattle.gl_ledger.specs.Recordings.{recorded_nodes}
+use Rattle.gl_ledger.specs.Acceptance.{genesis_fault}
+use Rattle.gl_ledger.specs.Broken.{may_record}
 use Rattle.gl_ledger.specs.Makers.{Given, Replied, Unmade, ByStore, by_store, request_result, signing_result, opening_of}
 use Rattle.gl_service.specs.Service.{ServiceEvent}
 use Rattle.gl_ledger.specs.Signed.{IsSignedAt}
@@ -38,7 +44,7 @@ use Rattle.gl_ledger.proofs.Following.{book_sign_ok}
 use Rattle.gl_ledger.proofs.Growth.{IsNoGovernance}
 use Rattle.gl_ledger.proofs.Signatures.{last_is_signed, signed_at_last, last_if_signed}
 use Rattle.gl_store.specs.Kept.{Held}
-use Rattle.gl_store.specs.Calls.{Executes, Signs, IsReady, signature_of}
+use Rattle.gl_store.specs.Calls.{Executes, Signs, SignsFor, IsReady, signature_of}
 use Rattle.gl_world.specs.declared.settings.Settings.{Settings}
 use Rattle.gl_world.specs.Keys.{private_key, node_seed}
 use Rattle.gl_world.specs.Founding.{id_of, genesis_of, keys_of, endorsement_of, signer_of, number_of}
@@ -47,8 +53,8 @@ use Rattle.gl_world.specs.Single.{IsSingle}
 use Rattle.gl_world.specs.Solo.{IsSoloLedger}
 use Rattle.gl_world.specs.World.{ServiceWorld, start_of}
 use Rattle.gl_world.proofs.Acceptable.{single_group}
-use Rattle.gl_world.proofs.Endorsements.{length-endorsement_of, numbered}
-use Rattle.gl_world.proofs.Groups.{group_executes, group_signs}
+use Rattle.gl_world.proofs.Endorsements.{length-endorsement_of, numbered, is_node_key}
+use Rattle.gl_world.proofs.Groups.{group_founds, group_executes, group_signs, group_recorded, group_records, group_identity}
 use Rattle.gl_world.proofs.Ids.{same_itself}
 use Rattle.gl_world.proofs.Solo.{advance-is, solo-push, solo_at_start}
 use Rattle.ccfg.specs.declared.machine.Machine.{Machine}
@@ -155,6 +161,57 @@ first_reserved s signer reserved (Err e) new full more =
     let none : signer.reserved ≡ 0 = ap (λ (k : Signer). k.reserved) new in
     let all : 2 ^ height signer.key.types ≡ 32 = ap (λ (k : Signer). 2 ^ height k.key.types) new in
     absurd (omega (arith, full.0 refl, none, all))
+
+-- a signer of the node has its key and its endorsement by the service
+signer_for : (s : Settings) → IsSingle s → (x : NodeId) → x ≡ id_of s 1 → (identity : List ℕ) → identity ≡ (genesis_of s).identity → (signer : Signer) → IsSignerOf s x signer → SignsFor x identity signer
+signer_for s h x is identity same signer signs = record {
+  keys = keys_of s;
+  key = signs.key;
+  endorsement = signs.endorsement;
+  endorsed = subst (λ (y : NodeId). IsNodeKey (keys_of s) identity y) (sym is)
+      (subst (λ (i : List ℕ). IsNodeKey (keys_of s) i (id_of s 1)) (sym same) (is_node_key s 1 (omega arith) (omega (arith, h.starting)) (omega (arith, h.starting, h.joiners))));
+}
+
+pub opening_signs : (s : Settings) → IsSingle s → (x : NodeId) → x ≡ id_of s 1 → (g : request.Genesis) → g ≡ genesis_of s → (signer : Signer) → signer ≡ record (signer_of s 1) { reserved = 1 } → SignsFor x g.identity signer
+opening_signs s h x is g founded signer same =
+    let one = one_numbered s h x is in
+    signer_for s h x is g.identity (ap (λ (f : request.Genesis). f.identity) founded) signer
+    (subst (IsSignerOf s x) (sym same) (record {
+      key = ap (λ (n : ℕ). private_key (node_seed s n)) (sym one);
+      endorsement = ap (λ (n : ℕ). Some (endorsement_of s n)) (sym one);
+      used = omega arith;
+      reserved = omega arith;
+    }))
+
+pub opening_ready : (s : Settings) → (signer : Signer) → signer ≡ record (signer_of s 1) { reserved = 1 } → IsReady signer
+opening_ready s signer same =
+    let long = length-endorsement_of s 1 (omega arith, omega arith) in
+    subst IsReady (sym same) (record { reserved = omega arith; endorsement = omega (arith, long) })
+
+pub opening_accepted : (s : Settings) → IsSingle s → (g : request.Genesis) → g ≡ genesis_of s → genesis_fault service_layers g ≡ None
+opening_accepted s h g founded = ap (genesis_fault service_layers) founded ∙ (group_founds s (single_group s h)).accepted
+
+pub opening_named : (s : Settings) → IsSingle s → (g : request.Genesis) → g ≡ genesis_of s → (x : NodeId) → x ≡ id_of s 1 → member x (map node_id g.nodes) ≡ true
+opening_named s h g founded x is =
+    ap (λ (y : NodeId). member y (map node_id g.nodes)) is ∙ ap (λ (f : request.Genesis). member (id_of s 1) (map node_id f.nodes)) founded ∙ (group_founds s (single_group s h)).named
+
+-- a leader's machine may sign
+pub machine_recorded : (m : Machine) → IsMachine m → member m.id (recorded_nodes service_layers m.store.ledger) ≡ true
+machine_recorded m h =
+    subst (λ (n : Node Entry). member m.id (recorded_nodes service_layers n.log) ≡ true) h.reached
+    (group_recorded m.settings (single_group m.settings h.single) h.events m.id (ap (λ (n : Node Entry). n.role) h.reached))
+
+pub machine_records : (m : Machine) → IsMachine m → may_record service_layers m.store.ledger m.store.commit ≡ true
+machine_records m h =
+    subst (λ (n : Node Entry). may_record service_layers n.log n.commit ≡ true) h.reached
+    (group_records m.settings (single_group m.settings h.single) h.events m.id (ap (λ (n : Node Entry). n.role) h.reached))
+
+pub machine_signs : (m : Machine) → IsMachine m → SignsFor m.id (identity_in (tables_of m.store.ledger)) m.signer
+machine_signs m h =
+    signer_for m.settings h.single m.id h.named (identity_in (tables_of m.store.ledger))
+    (subst (λ (n : Node Entry). identity_in (tables_of n.log) ≡ (genesis_of m.settings).identity) h.reached
+    (group_identity m.settings (single_group m.settings h.single) h.events m.id (ap (λ (n : Node Entry). n.role) h.reached)))
+    m.signer h.signer
 
 -- it is ready to sign where a reserved leaf is left
 pub ready : (m : Machine) → IsMachine m → m.signer.used < m.signer.reserved → IsReady m.signer

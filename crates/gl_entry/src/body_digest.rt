@@ -4,33 +4,40 @@ ghost use Rattle.std.specs.Prelude.{◌≡◌, ◌++◌, ◌<◌, ◌^◌, lengt
 ghost use Rattle.std.specs.List.{flat_map};
 ghost use Rattle.std.specs.Option.{option_copied};
 ghost use Rattle.sha2.specs.Sha256.{sha256};
+ghost use Rattle.gl_base.specs.LittleEndian.{little_endian};
 ghost use Rattle.gl_base.specs.Field.{with_u32_length};
 ghost use Rattle.gl_base.specs.Row.{optional_value_bytes};
 ghost use Rattle.gl_entry.specs.Entry.{write_bytes, body_bytes, content_bytes, signature_bytes};
 ghost use Rattle.gl_entry.specs.Leaf.{Feeds};
 
-use crate::contents::{kind_tag, signature_len};
+use crate::contents::{kind_tag, signature_size};
 use crate::entry::{Content, Digest, Entry, Signature};
 use gl_vmaps::{Value, Write};
 use sha2::{Digest as _, Sha256};
 
-/// Feeds bytes behind their length.
+/// Feeds the lower four bytes of a length or a count: all of it, where an entry fits its format.
 #[tactic(auto, unfolding(gl_base::specs::LittleEndian::little_endian))]
+fn feed_len(hasher: &mut Sha256, len: usize)
+    ensures { Feeds hasher.old hasher.new (little_endian 4 len) }
+{
+    let [a, b, c, d, ..] = (len as u64).to_le_bytes();
+    hasher.update(&[a, b, c, d]);
+}
+
+/// Feeds bytes behind their length.
 fn feed_sized(hasher: &mut Sha256, bytes: &[u8])
-    requires { length bytes.now < 2 ^ 32 }
     ensures { Feeds hasher.old hasher.new (with_u32_length bytes.now) }
 {
-    hasher.update(&(bytes.len() as u32).to_le_bytes());
+    feed_len(hasher, bytes.len());
     hasher.update(bytes);
 }
 
 /// Feeds what a signature records behind its length.
 #[tactic(auto, unfolding(gl_base::specs::LittleEndian::little_endian))]
 fn feed_signature(hasher: &mut Sha256, signature: &Signature)
-    requires { length (signature_bytes signature.now) < 2 ^ 32 }
     ensures { Feeds hasher.old hasher.new (with_u32_length (signature_bytes signature.now)) }
 {
-    hasher.update(&signature_len(signature).to_le_bytes());
+    feed_len(hasher, signature_size(signature));
     hasher.update(&signature.node);
     hasher.update(&signature.commit.to_le_bytes());
     hasher.update(&signature.root);
@@ -38,7 +45,6 @@ fn feed_signature(hasher: &mut Sha256, signature: &Signature)
 }
 
 fn feed_content(hasher: &mut Sha256, content: &Content)
-    requires { length (content_bytes content.now) < 2 ^ 32 }
     ensures { Feeds hasher.old hasher.new (with_u32_length (content_bytes content.now)) }
 {
     match content {
@@ -83,11 +89,10 @@ fn feed_writes(hasher: &mut Sha256, writes: &[Write])
 }
 
 impl Entry {
-    /// The SHA-256 digest of the body's bytes. Takes no memory.
+    /// The SHA-256 digest of the body's bytes. Takes no memory. Of an entry that doesn't fit its
+    /// format the lower four bytes of each length and count stand in the body.
     #[tactic(auto, unfolding(gl_base::specs::LittleEndian::little_endian))]
     pub fn body_digest(&self) -> Digest
-        requires recorded { length (content_bytes self.now.content) < 2 ^ 32 }
-        requires writes { length self.now.writes < 2 ^ 32 }
         ensures { result ≡ sha256 (body_bytes self.now) }
     {
         let writes = self.writes.as_slice();
@@ -96,9 +101,21 @@ impl Entry {
         hasher.update(&self.seqno.to_le_bytes());
         hasher.update(&[kind_tag(&self.content)]);
         feed_content(&mut hasher, &self.content);
-        hasher.update(&(writes.len() as u32).to_le_bytes());
+        feed_len(&mut hasher, writes.len());
         feed_writes(&mut hasher, writes);
         hasher.update(&self.claims);
         hasher.finalize()
     }
+}
+
+/// The SHA-256 digest of the bytes of writes behind their count, as they stand in a body. Takes no
+/// memory.
+pub fn writes_digest(writes: &[Write]) -> Digest
+    ensures { result
+        ≡ sha256 (little_endian 4 (length writes.now) ++ flat_map write_bytes writes.now) }
+{
+    let mut hasher = Sha256::new();
+    feed_len(&mut hasher, writes.len());
+    feed_writes(&mut hasher, writes);
+    hasher.finalize()
 }

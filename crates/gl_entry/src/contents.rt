@@ -28,12 +28,19 @@ pub(crate) fn kind_tag(content: &Content) -> u8
 
 /// How many bytes a signature records.
 #[tactic(auto, using(crate::proofs::Sizes::signature_size))]
+pub(crate) fn signature_size(signature: &Signature) -> usize
+    ensures { result ≡ length (signature_bytes signature.now) }
+{
+    let (node, root) = (signature.node.as_slice(), signature.root.as_slice());
+    node.len() + root.len() + signature.signature.as_slice().len() + 12
+}
+
+/// The same as it stands in an entry that fits its format.
 pub(crate) fn signature_len(signature: &Signature) -> u32
     requires { length (signature_bytes signature.now) < 2 ^ 32 }
     ensures { result ≡ length (signature_bytes signature.now) }
 {
-    let (node, root) = (signature.node.as_slice(), signature.root.as_slice());
-    (node.len() + root.len() + signature.signature.len() + 12) as u32
+    signature_size(signature) as u32
 }
 
 /// Writes what a signature records behind its length.

@@ -1,11 +1,11 @@
 //! The leaves of entries in the Merkle tree of their ledger. None of this takes memory but the text
 //! of the evidence.
 
-ghost use Rattle.std.specs.Prelude.{◌≡◌, ◌≢◌, ◌↔◌, ◌<◌, ◌^◌, ◌++◌, ℕ, List, length, codes, IsTrue, IfOk, IfSome, IfNone};
+ghost use Rattle.std.specs.Prelude.{◌≡◌, ◌≢◌, ◌↔◌, ◌<◌, ◌++◌, ℕ, List, codes, IsTrue, IfOk, IfSome, IfNone};
 ghost use Rattle.sha2.specs.Sha256.{sha256};
 ghost use Rattle.hex.specs.Hex.{encode_lower};
 ghost use Rattle.gl_base.specs.TxId.{text_of};
-ghost use Rattle.gl_entry.specs.Entry.{body_bytes, content_bytes};
+ghost use Rattle.gl_entry.specs.Entry.{body_bytes};
 ghost use Rattle.gl_entry.specs.Leaf.{evidence_digest, evidence_text, leaf_of_components, leaf_of};
 
 use crate::entry::{Digest, Entry};
@@ -139,10 +139,8 @@ pub fn leaf_of_body(identity: &[u8; 60], entry: &Entry, body: &[u8]) -> Digest
     leaf_of_digest(identity, entry, &Sha256::digest(body))
 }
 
-/// The leaf of an entry in the tree of the service with this key.
+/// The leaf of an entry in the tree of the service with this key. Takes no memory.
 pub fn leaf(entry: &Entry, identity: &[u8; 60]) -> Digest
-    requires recorded { length (content_bytes entry.now.content) < 2 ^ 32 }
-    requires writes { length entry.now.writes < 2 ^ 32 }
     ensures { result ≡ leaf_of identity.now entry.now }
 {
     leaf_of_digest(identity, entry, &entry.body_digest())

@@ -16,6 +16,7 @@ mod message;
 mod reader;
 mod writes;
 
+pub use body_digest::writes_digest;
 pub use buffer::ReadBuffer;
 pub use entry::{Content, Digest, Entry, NodeId, Signature};
 pub use fault::{EntryFault, LedgerFault};

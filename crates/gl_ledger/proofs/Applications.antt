@@ -1,12 +1,11 @@
 -- What an application request writes is none of governance, and its entry keeps a ledger sound.
-use Rattle.std.proofs.Common.{◌≡◌, ℕ, ◌+◌, ◌<◌, ◌≤◌, nat_lt, List, [], ◌∷◌, ◌++◌, length, Some, None, Result, Ok, Err, Bool, true, false, not, ◌||◌, refl, sym, ◌∙◌, ap, ap₂, subst, if◌then◌else◌, arith}
+use Rattle.std.proofs.Common.{◌≡◌, ℕ, ◌+◌, ◌<◌, ◌≤◌, nat_lt, List, [], ◌∷◌, length, Some, None, Result, Ok, Err, Bool, true, false, not, ◌||◌, refl, sym, ◌∙◌, ap, ap₂, subst, if◌then◌else◌, arith}
 use Rattle.std.specs.List.{AllByRecursion}
-use Rattle.std.specs.FinMap as rows
 use Rattle.std.proofs.lemmas.Bool.Decides.{nat_tests}
 use Rattle.sha2.specs.Sha256.{sha256}
 use Rattle.gl_base.specs.TxId.{last_seqno}
 use Rattle.gl_vmaps.specs.Name.{is_public, is_governance, is_internal}
-use Rattle.gl_vmaps.specs.Tables.{Tables, Rows}
+use Rattle.gl_vmaps.specs.Tables.{Tables}
 use Rattle.gl_vmaps.specs.declared.write.Write.{Write}
 use Rattle.gl_tx.specs.Request.{is_request, request_bytes, reply_bytes}
 use Rattle.gl_tx.specs.Run.{bar_on_map, run}
@@ -17,21 +16,19 @@ use Rattle.gl_tx.specs.declared.request.Answer.{Answer}
 use Rattle.gl_tx.specs.declared.abort.Cause.TheVariants as causes
 use Rattle.gl_tx.specs.declared.abort.Abort.{Abort}
 use Rattle.gl_tx.proofs.Written.{MayName, run_from-may}
-use Rattle.gl_entry.specs.Entry.{body_bytes, body_limit, is_entry}
+use Rattle.gl_entry.specs.Entry.{body_bytes, body_limit}
 use Rattle.gl_entry.specs.declared.entry.Content.TheVariants as content
 use Rattle.gl_entry.specs.declared.entry.Entry.{Entry}
-use Rattle.gl_ledger.specs.Genesis.{service_map, service_key}
-use Rattle.gl_ledger.specs.Effect.{service_state, state_of_value}
+use Rattle.gl_ledger.specs.Effect.{service_state}
 use Rattle.gl_ledger.specs.Tree.{tables_of}
-use Rattle.gl_ledger.specs.Serial.{IsSerialRun, IsApplicationEntry}
-use Rattle.gl_ledger.specs.Ledger.{HasViewsUpTo, application_entry, execute_result, execute_in, run_result, within_limits}
+use Rattle.gl_ledger.specs.Ledger.{application_entry, execute_result, execute_in, run_result, within_limits}
 use Rattle.gl_ledger.specs.Makers.{with_reply, request_result, Given, Replied, Unmade, ByStore, Unspelled}
 use Rattle.gl_ledger.specs.declared.genesis.ServiceState.{ServiceState}
 use Rattle.gl_ledger.specs.declared.genesis.ServiceState.TheVariants.{Opening, Open}
 use Rattle.gl_ledger.specs.declared.refusal.Refusal.{Refusal}
 use Rattle.gl_ledger.specs.declared.refusal.Refusal.TheVariants as refusals
 use Rattle.gl_base.proofs.Steps.{same_pair}
-use Rattle.gl_ledger.proofs.Growth.{IsOutside, sound-push}
+use Rattle.gl_ledger.proofs.Growth.{IsOutside}
 
 -- ---- what a request writes is none of governance
 
@@ -104,31 +101,6 @@ execute_ok ledger view q e a h = go (service_state (tables_of ledger)) refl h
         × (length (body_bytes e) ≤ body_limit) × (length (reply_bytes a) ≤ body_limit) × (length ledger < last_seqno)
     go Opening is p = absurd (cc)
     go Open is p = let r = ran_ok (run q (tables_of ledger)) p in (is, r.0, r.1, r.2, r.3, r.4, r.5, r.6)
-
-application_stands : (ledger : List Entry) (view : ℕ) (q : List Operation) (ran : Ran) → IsSerialRun ledger → is_request q ≡ true → service_state (tables_of ledger) ≡ Open →
-    run q (tables_of ledger) ≡ Ok ran → (bytes : List ℕ) → bytes ≡ request_bytes q → IsApplicationEntry ledger (application_entry ledger view q ran) bytes
-application_stands ledger view q ran sound fits is_open runs bytes spelled = record {
-  requests = sound.governed.requests;
-  recorded = sound.governed.recorded;
-  is_open = ap (λ (r : Rows). state_of_value (rows.get r service_key)) (sym (sound.governed.rows service_map refl)) ∙ is_open;
-  request = q;
-  fits = fits;
-  spelled = spelled;
-  ran = ran;
-  runs = runs;
-  writes = refl;
-  claims = refl;
-}
-
--- the entry of a request that ran keeps the ledger sound
-pub application_sound : (ledger : List Entry) (view : ℕ) (q : List Operation) (e : Entry) (a : List Answer) → IsSerialRun ledger →
-    HasViewsUpTo view ledger → is_request q ≡ true → execute_result ledger view q ≡ Ok (e, a) → is_entry e ≡ true → IsSerialRun (ledger ++ e ∷ [])
-application_sound ledger view q e a sound up fits h entry =
-    let made = execute_ok ledger view q e a h in
-    subst (λ (x : Entry). IsSerialRun (ledger ++ x ∷ [])) (sym made.3)
-    (sound-push ledger (application_entry ledger view q made.1) sound (subst (λ (x : Entry). is_entry x ≡ true) made.3 entry) refl up
-    (application_stands ledger view q made.1 sound fits made.0 made.2 _ refl) tt
-    (run_outside q (tables_of ledger) made.1 made.2))
 
 -- what execute_result gives where the request ran: its entry and its answers, unless a limit is passed
 pub execute_ran : (ledger : List Entry) (view : ℕ) (q : List Operation) (ran : Ran) → service_state (tables_of ledger) ≡ Open →

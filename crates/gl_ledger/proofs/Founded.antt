@@ -20,7 +20,7 @@ use Rattle.gl_ledger.proofs.Openings.{identity_of_genesis}
 
 module _ (layers : Layers) where
   -- entries of which none founds record nothing: for now each request of governance founds
-  unfounding : (seqno : ℕ) (es : List Entry) → ((i : ℕ) (e : Entry) → slice_get es i ≡ Some e → founds layers e ≡ false) → requests_from layers seqno es ≡ []
+  pub unfounding : (seqno : ℕ) (es : List Entry) → ((i : ℕ) (e : Entry) → slice_get es i ≡ Some e → founds layers e ≡ false) → requests_from layers seqno es ≡ []
   unfounding seqno [] h = refl
   unfounding seqno (e ∷ es) h = ap₂ (λ (rs ts : List Recorded). rs ++ ts) (nothing e.content (h 0 e refl)) (unfounding (suc seqno) es (λ i f at. h (suc i) f at))
     where

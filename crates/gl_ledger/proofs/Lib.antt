@@ -37,3 +37,5 @@ pub mod PartReadings
 pub mod GovernanceReadings
 pub mod Acceptances
 pub mod SignatureMeanings
+pub mod Valid
+pub mod NodeRows

@@ -1,27 +1,22 @@
 -- The opening ledger of an acceptable genesis is sound, and its tables tell the service's state and key.
-use Rattle.std.proofs.Common.{◌≡◌, ℕ, zero, suc, ◌≤◌, List, [], ◌∷◌, ◌++◌, Some, true, map, refl, ◌∙◌, ap, subst, arith, take}
-use Rattle.std.specs.List.{slice_get, list_all}
+use Rattle.std.proofs.Common.{◌≡◌, ℕ, suc, List, [], ◌∷◌, ◌++◌, Some, true, map, refl, ◌∙◌, ap}
+use Rattle.std.specs.List.{list_all}
 use Rattle.std.proofs.lemmas.Bool.{and_from}
 use Rattle.std.proofs.lemmas.List.Folds.{list_all-append}
-use Rattle.gl_vmaps.specs.Tables.{Tables, no_tables, value_in, wrote_all}
+use Rattle.gl_vmaps.specs.Tables.{no_tables, value_in, wrote_all}
 use Rattle.gl_vmaps.specs.Writes.{with_write}
 use Rattle.gl_vmaps.specs.declared.write.Write.{Write}
-use Rattle.gl_entry.specs.Entry.{is_entry}
-use Rattle.gl_entry.specs.declared.entry.Entry.{Entry}
-use Rattle.gl_ledger.specs.Genesis.{genesis_bytes, genesis_rows, genesis_writes, constitution_rows, row, dealing_map, dealing_key, dealing_bytes, member_row, node_row, node_rows, service_row, service_map, service_key, write_set, state_byte, is_acceptable, is_genesis}
+use Rattle.gl_ledger.specs.Genesis.{genesis_rows, genesis_writes, constitution_rows, row, dealing_map, dealing_key, dealing_bytes, member_row, node_row, node_rows, service_row, service_map, service_key, write_set, state_byte}
 use Rattle.gl_ledger.specs.Effect.{state_of_value, service_state, identity_of_value, identity_in}
-use Rattle.gl_ledger.specs.Serial.{IsSerialRun, IsGovernanceEntry, StandsAs}
 use Rattle.gl_ledger.specs.Tree.{tables_of}
 use Rattle.gl_ledger.specs.Ledger.{genesis_entry, signature_entry, opening_ledger}
 use Rattle.gl_ledger.specs.declared.genesis.NewMember.{NewMember}
 use Rattle.gl_ledger.specs.declared.genesis.NewNode.{NewNode}
 use Rattle.gl_ledger.specs.declared.genesis.Genesis as request
-use Rattle.gl_ledger.specs.declared.genesis.GovernanceRequest.TheVariants as requests
 use Rattle.gl_ledger.specs.declared.genesis.ServiceState.{ServiceState}
 use Rattle.gl_ledger.specs.declared.genesis.ServiceState.TheVariants.{Opening, Open}
-use Rattle.gl_ledger.proofs.WriteSets.{set_from-append, is_ordered-set_from, list_all-set_from, value_in-put, sets_value, changes-from_sets_value}
+use Rattle.gl_ledger.proofs.WriteSets.{set_from-append, is_ordered-set_from, value_in-put, sets_value}
 use Rattle.gl_ledger.proofs.TablesLaws.{tables_of-push}
-use Rattle.gl_ledger.proofs.Growth.{sound-push}
 
 -- ---- the rows of a genesis set values
 
@@ -64,62 +59,6 @@ pub service_value : (g : request.Genesis) → value_in (wrote_all no_tables (gen
 service_value g =
     ap (λ (ws : List Write). value_in (wrote_all no_tables ws) service_map service_key) (last_row g)
     ∙ value_in-put no_tables (write_set (rows_before g)) (service_row g) (is_ordered-set_from [] (rows_before g) refl)
-
--- ---- the ledger is sound
-
-genesis_stands : (g : request.Genesis) → is_acceptable g ≡ true → is_genesis g ≡ true → IsGovernanceEntry [] (genesis_entry g) (genesis_bytes g)
-genesis_stands g acceptable fits = record {
-  requests = [];
-  recorded = refl;
-  request = requests.Genesis g;
-  fits = fits;
-  spelled = refl;
-  accepted = (refl, acceptable);
-  turns = record {
-    turns = λ map. refl;
-    changes = changes-from_sets_value (genesis_writes g) (list_all-set_from sets_value [] (genesis_rows g) refl (rows_set g));
-    ordered = is_ordered-set_from [] (genesis_rows g) refl;
-  };
-  claims = refl;
-}
-
-pub genesis_sound : (g : request.Genesis) → is_acceptable g ≡ true → is_genesis g ≡ true → is_entry (genesis_entry g) ≡ true → IsSerialRun (genesis_entry g ∷ [])
-genesis_sound g acceptable fits entry = record {
-  in_order = record { fits = entries; seqnos = places; views = views };
-  serial = serial;
-  governed = record {
-    requests = record { seqno = 1; request = requests.Genesis g } ∷ [];
-    recorded = (requests.Genesis g, [], fits, refl, refl, refl);
-    rows = λ map inside. ap (λ (t : Tables). t map) (tables_of-push [] (genesis_entry g));
-  };
-}
-  where
-    entries : (i : ℕ) (e : Entry) → slice_get (genesis_entry g ∷ []) i ≡ Some e → is_entry e ≡ true
-    entries zero e s = subst (λ (x : Entry). is_entry x ≡ true) (let p : genesis_entry g ≡ e = cc in p) entry
-    entries (suc i) e s = absurd (cc)
-
-    places : (i : ℕ) (e : Entry) → slice_get (genesis_entry g ∷ []) i ≡ Some e → e.seqno ≡ suc i
-    places zero e s = ap (λ (x : Entry). x.seqno) (let p : e ≡ genesis_entry g = cc in p)
-    places (suc i) e s = absurd (cc)
-
-    views : (i j : ℕ) (e f : Entry) → i ≤ j → slice_get (genesis_entry g ∷ []) i ≡ Some e → slice_get (genesis_entry g ∷ []) j ≡ Some f → e.view ≤ f.view
-    views zero zero e f le s t = let p : e ≡ f = cc in subst (λ (x : Entry). e.view ≤ x.view) p (omega arith)
-    views zero (suc j) e f le s t = absurd (cc)
-    views (suc i) j e f le s t = absurd (cc)
-
-    serial : (i : ℕ) (e : Entry) → slice_get (genesis_entry g ∷ []) i ≡ Some e → StandsAs e.content (take i (genesis_entry g ∷ [])) e
-    serial zero e s = subst (λ (x : Entry). StandsAs x.content [] x) (let p : genesis_entry g ≡ e = cc in p) (genesis_stands g acceptable fits)
-    serial (suc i) e s = absurd (cc)
-
-pub opening_sound : (g : request.Genesis) (node bytes : List ℕ) → is_acceptable g ≡ true → is_genesis g ≡ true → is_entry (genesis_entry g) ≡ true →
-    is_entry (signature_entry node bytes (genesis_entry g ∷ []) 2 2) ≡ true → IsSerialRun (opening_ledger g node bytes)
-opening_sound g node bytes acceptable fits entry one =
-    sound-push (genesis_entry g ∷ []) (signature_entry node bytes (genesis_entry g ∷ []) 2 2)
-    (genesis_sound g acceptable fits entry) one refl up (record { writes_nothing = (refl, refl); root = refl }) tt tt
-  where
-    up : (i : ℕ) (e : Entry) → slice_get (genesis_entry g ∷ []) i ≡ Some e → e.view ≤ 2
-    up zero e s = let p : genesis_entry g ≡ e = cc in subst (λ (x : Entry). x.view ≤ 2) p (omega arith)
-    up (suc i) e s = absurd (cc)
 
 -- ---- what its tables tell
 

@@ -3,8 +3,11 @@ use Rattle.std.proofs.Common.{◌≡◌, ℕ, zero, suc, ◌<◌, ◌≤◌, Lis
 use Rattle.std.specs.List.{slice_get}
 use Rattle.gl_rules.specs.Log.{seqno_with_first}
 use Rattle.gl_entry.specs.Entry.{is_signature}
+use Rattle.gl_entry.specs.declared.entry.Content.{Content}
+use Rattle.gl_entry.specs.declared.entry.Content.TheVariants as content
 use Rattle.gl_entry.specs.declared.entry.Entry.{Entry}
-use Rattle.gl_ledger.specs.Broken.{last_signed}
+use Rattle.gl_entry.specs.declared.entry.Signature as signatures
+use Rattle.gl_ledger.specs.Broken.{last_signed, commit_behind, commit_from, last_commit}
 use Rattle.gl_ledger.specs.Signed.{IsSignedAt, IsSignedUpTo}
 use Rattle.gl_base.proofs.Lists.{slice_get-within, slice_get-append}
 
@@ -18,6 +21,23 @@ last_signature-push (f ∷ ledger) e h = ap (λ (n : ℕ). seqno_with_first (is_
 pub last_signature-signed : (ledger : List Entry) (e : Entry) → is_signature e.content ≡ true → last_signed (ledger ++ e ∷ []) ≡ suc (length ledger)
 last_signature-signed [] e h = rw h refl
 last_signature-signed (f ∷ ledger) e h = ap (λ (n : ℕ). seqno_with_first (is_signature f.content) n) (last_signature-signed ledger e h)
+
+-- the same of the last commit
+commit-push : (commit : ℕ) (ledger : List Entry) (e : Entry) → commit_from commit (ledger ++ e ∷ []) ≡ commit_behind (commit_from commit ledger) e.content
+commit-push commit [] e = refl
+commit-push commit (f ∷ ledger) e = commit-push (commit_behind commit f.content) ledger e
+
+pub last_commit-push : (ledger : List Entry) (e : Entry) → is_signature e.content ≡ false → last_commit (ledger ++ e ∷ []) ≡ last_commit ledger
+last_commit-push ledger e h = commit-push 0 ledger e ∙ stays e.content h
+  where
+    stays : (c : Content) → is_signature c ≡ false → commit_behind (last_commit ledger) c ≡ last_commit ledger
+    stays (content.Governance b) other = refl
+    stays (content.Application b) other = refl
+    stays (content.Signature s) other = absurd (cc)
+    stays (content.Evidence d) other = refl
+
+pub last_commit-signed : (ledger : List Entry) (e : Entry) (s : signatures.Signature) → e.content ≡ content.Signature s → last_commit (ledger ++ e ∷ []) ≡ s.commit
+last_commit-signed ledger e s is = commit-push 0 ledger e ∙ ap (commit_behind (last_commit ledger)) is
 
 -- a signature stays at its place
 pub signed_at-push : (ledger : List Entry) (e : Entry) (place : ℕ) → IsSignedAt ledger place → IsSignedAt (ledger ++ e ∷ []) place

@@ -1,7 +1,7 @@
 -- What a ledger's parts tell of the receipts that it gives, and that these are accepted.
-use Rattle.std.proofs.Common.{◌≡◌, ℕ, zero, suc, ◌+◌, ◌-◌, ◌^◌, ◌<◌, ◌≤◌, Bool, true, false, cond, List, [], ◌∷◌, ◌++◌, length, map, take, get_or, slice_get, Option, None, Some, option_map, Ok, codes, nat_le, nat_lt, refl, sym, ap, subst, ◌∙◌, arith, length-append}
+use Rattle.std.proofs.Common.{◌≡◌, ℕ, zero, suc, ◌+◌, ◌-◌, ◌^◌, ◌<◌, ◌≤◌, Bool, true, false, cond, List, [], ◌∷◌, ◌++◌, length, map, take, get_or, slice_get, Option, None, Some, option_map, Ok, codes, nat_le, nat_lt, refl, sym, ap, subst, ◌∙◌, arith}
 use Rattle.std.specs.Fmt.{decimal}
-use Rattle.std.specs.List.{find, flat_map, list_all}
+use Rattle.std.specs.List.{find, list_all}
 use Rattle.std.specs.Str.{IsAscii, IsUtf8}
 use Rattle.std.proofs.lemmas.Bool.{and_parts}
 use Rattle.std.proofs.lemmas.Bool.Decides.{nat_tests}
@@ -12,20 +12,16 @@ use Rattle.std.proofs.lemmas.Str.Ascii.{IsAscii-cons, IsAscii-nil}
 use Rattle.sha2.specs.Sha256.{sha256}
 use Rattle.hex.specs.Hex.{encode_lower, lower_digits}
 use Rattle.hex.proofs.HexLemmas.{IsAscii-encode_with}
-use Rattle.gl_base.specs.Field.{with_u32_length}
-use Rattle.gl_base.specs.LittleEndian.{little_endian}
-use Rattle.gl_base.specs.Row.{map_name_bytes, key_bytes, optional_value_bytes}
 use Rattle.gl_base.specs.Status.{is_held, decided, undecided, commit_seqno, commit_view}
 use Rattle.gl_base.specs.TxId.{text_of, IsTxId}
 use Rattle.gl_base.specs.declared.tx_id.Status.{Status}
 use Rattle.gl_base.specs.declared.tx_id.Status.TheVariants as statuses
 use Rattle.gl_base.specs.declared.tx_id.TxId.{TxId}
 use Rattle.gl_base.proofs.Lists.{slice_get-within}
-use Rattle.gl_entry.specs.Entry.{kind_tag, content_bytes, write_bytes, body_bytes, is_signature, recorded_commit, is_entry}
+use Rattle.gl_entry.specs.Entry.{body_bytes, is_signature, recorded_commit}
 use Rattle.gl_entry.specs.Leaf.{evidence_text, evidence_digest, leaf_of_components, leaf_of, id_of}
 use Rattle.gl_entry.specs.SignedMessage.{signed_message}
 use Rattle.gl_entry.specs.declared.entry.Entry.{Entry}
-use Rattle.gl_entry.proofs.EntryLaws.{body_within}
 use Rattle.gl_hss.specs.Hss.{IsValid}
 use Rattle.gl_merkle.specs.Path.{path_of, climb_of}
 use Rattle.gl_merkle.specs.Tree.{root_of}
@@ -33,35 +29,6 @@ use Rattle.gl_merkle.proofs.PathLemmas.{climb-within}
 use Rattle.gl_merkle.proofs.TreeLemmas.{below_pow}
 use Rattle.gl_receipt.specs.Made.{Ledger, entry_at, view_at, commit_id, status_in, if_committed, committed_entry, receipt_by, recorded_signature, IsOfService}
 use Rattle.gl_receipt.specs.Receipt.{Accepts}
-
--- ---- an entry's writes
-
--- pieces that are not empty are no more than what they make
-pieces_few : {X : Type 0} (f : X → List ℕ) → ((x : X) → 1 ≤ length (f x)) → (xs : List X) → length xs ≤ length (flat_map f xs)
-pieces_few f each [] = omega arith
-pieces_few f each (x ∷ xs) =
-    let all : length (f x ++ flat_map f xs) ≡ length (f x) + length (flat_map f xs) = length-append (f x) (flat_map f xs) in
-    omega (arith, pieces_few f each xs, each x, all)
-
--- each write has a byte at least
-value_some : (o : Option (List ℕ)) → 1 ≤ length (optional_value_bytes o)
-value_some None = omega arith
-value_some (Some value) = omega arith
-
-writes_few : (e : Entry) → length e.writes ≤ length (flat_map write_bytes e.writes)
-writes_few e = pieces_few write_bytes (λ w.
-    let first : length (write_bytes w) ≡ length (map_name_bytes w.map ++ key_bytes w.key) + length (optional_value_bytes w.value) =
-    length-append (map_name_bytes w.map ++ key_bytes w.key) (optional_value_bytes w.value) in
-    omega (arith, first, value_some w.value)) e.writes
-
--- a piece is no longer than the body
-within_body : (a b c d piece z : List ℕ) → length piece ≤ length (a ++ b ++ c ++ d ++ piece ++ z)
-within_body a b c d piece z = simp length-append (omega arith)
-
-pub writes_counted : (e : Entry) → is_entry e ≡ true → length e.writes < 2 ^ 32
-writes_counted e is =
-    let piece : length (flat_map write_bytes e.writes) ≤ length (body_bytes e) = within_body (little_endian 4 e.view) (little_endian 8 e.seqno) (kind_tag e.content ∷ with_u32_length (content_bytes e.content)) (little_endian 4 (length e.writes)) (flat_map write_bytes e.writes) e.claims in
-    omega (arith, piece, writes_few e, body_within e is)
 
 -- ---- a text of commit evidence
 

@@ -1,25 +1,25 @@
 -- A list of entries whose i-th has seqno i: what is found in it has its seqno.
-use Rattle.std.proofs.Common.{◌≡◌, ℕ, zero, suc, ◌+◌, ◌<◌, true, List, [], ◌∷◌, ◌++◌, length, drop, Option, None, Some, slice_get, Bor, IfSome, refl, sym, ap, ◌∙◌, inl, inr, arith}
+use Rattle.std.proofs.Common.{◌≡◌, ℕ, zero, suc, ◌+◌, ◌<◌, List, [], ◌∷◌, ◌++◌, length, drop, Option, None, Some, slice_get, Bor, IfSome, refl, sym, ap, ◌∙◌, inl, inr, arith}
 use Rattle.std.specs.List.{position_or_len}
 use Rattle.std.specs.Option.{option_copied}
 use Rattle.std.proofs.lemmas.List.Folds.{find_at}
 use Rattle.gl_base.proofs.Lists.{slice_get-drop, slice_get-of_append}
-use Rattle.gl_entry.specs.Entry.{is_signature, is_entry}
+use Rattle.gl_entry.specs.Entry.{is_signature}
 use Rattle.gl_entry.specs.declared.entry.Entry.{Entry}
 use Rattle.gl_receipt.specs.Made.{entry_at, signature_above}
 
--- the entry at each index has the seqno of its place, and fits its format
+-- the entry at each index has the seqno of its place
 abbrev pub AreInOrder : List Entry → Type 0
-AreInOrder es = (i : ℕ) (e : Entry) → slice_get es i ≡ Some e → (e.seqno ≡ suc i) × (is_entry e ≡ true)
+AreInOrder es = (i : ℕ) (e : Entry) → slice_get es i ≡ Some e → e.seqno ≡ suc i
 
-pub in_order-push : (es : List Entry) (e : Entry) → AreInOrder es → e.seqno ≡ length es + 1 → is_entry e ≡ true → AreInOrder (es ++ e ∷ [])
-in_order-push es e order at fits i f h = elim (slice_get-of_append es (e ∷ []) i f h) [
+pub in_order-push : (es : List Entry) (e : Entry) → AreInOrder es → e.seqno ≡ length es + 1 → AreInOrder (es ++ e ∷ [])
+in_order-push es e order at i f h = elim (slice_get-of_append es (e ∷ []) i f h) [
   | inl before ↦ order i f before
   | inr last ↦ go last.0 last.1 last.2
 ]
   where
-    go : (j : ℕ) → i ≡ length es + j → slice_get (e ∷ []) j ≡ Some f → (f.seqno ≡ suc i) × (is_entry f ≡ true)
-    go zero place there = let same : e ≡ f = cc in (ap (λ (x : Entry). x.seqno) (sym same) ∙ at ∙ omega (arith, place), ap is_entry (sym same) ∙ fits)
+    go : (j : ℕ) → i ≡ length es + j → slice_get (e ∷ []) j ≡ Some f → f.seqno ≡ suc i
+    go zero place there = let same : e ≡ f = cc in ap (λ (x : Entry). x.seqno) (sym same) ∙ at ∙ omega (arith, place)
     go (suc j) place there = absurd (cc)
 
 -- ---- an entry
@@ -27,12 +27,7 @@ in_order-push es e order at fits i f h = elim (slice_get-of_append es (e ∷ [])
 pub entry_numbered : (es : List Entry) (seqno : ℕ) (o : Option (Bor Entry)) → AreInOrder es → option_copied o ≡ entry_at es seqno → IfSome o (λ e. e.now.seqno ≡ seqno)
 entry_numbered es seqno None order there = tt
 entry_numbered es zero (Some e) order there = absurd (cc)
-entry_numbered es (suc i) (Some e) order there = (order i e.now (sym there)).0
-
-pub entry_fits : (es : List Entry) (seqno : ℕ) (o : Option (Bor Entry)) → AreInOrder es → option_copied o ≡ entry_at es seqno → IfSome o (λ e. is_entry e.now ≡ true)
-entry_fits es seqno None order there = tt
-entry_fits es zero (Some e) order there = absurd (cc)
-entry_fits es (suc i) (Some e) order there = (order i e.now (sym there)).1
+entry_numbered es (suc i) (Some e) order there = order i e.now (sym there)
 
 -- ---- the first signature above a seqno
 
@@ -41,7 +36,7 @@ found_at es n f order found =
     let j : ℕ = position_or_len (λ (e : Entry). is_signature e.content) (drop n es) in
     let there : slice_get es (n + j) ≡ Some f =
     sym (slice_get-drop n es j (n + j) refl) ∙ sym (find_at (λ (e : Entry). is_signature e.content) (drop n es)) ∙ found in
-    let place : f.seqno ≡ suc (n + j) = (order (n + j) f there).0 in
+    let place : f.seqno ≡ suc (n + j) = order (n + j) f there in
     (omega (arith, place), ap (entry_at es) place ∙ there)
 
 pub signature_behind : (es : List Entry) (n : ℕ) (o : Option (Bor Entry)) → AreInOrder es → option_copied o ≡ signature_above es n → IfSome o (λ e. n < e.now.seqno)

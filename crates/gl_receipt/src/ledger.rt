@@ -1,8 +1,7 @@
 //! What receipts ask of a ledger.
 
-ghost use Rattle.std.specs.Prelude.{◌≡◌, ℕ, ◌-◌, ◌<◌, ◌≤◌, length, take, true, IfOk, IfSome};
+ghost use Rattle.std.specs.Prelude.{◌≡◌, ◌-◌, ◌<◌, ◌≤◌, length, take, IfOk, IfSome};
 ghost use Rattle.std.specs.Option.{option_copied};
-ghost use Rattle.gl_entry.specs.Entry.{is_entry};
 ghost use Rattle.gl_merkle.specs.Path.{path_of};
 ghost use Rattle.gl_receipt.specs.Made.{Ledger, entry_at, signature_above};
 
@@ -27,8 +26,7 @@ pub trait CommittedLedger {
     /// The entry with a seqno. `None` at 0 and above the last.
     fn entry(&self, seqno: u64) -> Option<&Entry>
         ensures entry { option_copied result ≡ entry_at (ledger self.now).entries seqno }
-        ensures numbered { IfSome result (λ e. e.now.seqno ≡ seqno) }
-        ensures fits { IfSome result (λ e. is_entry e.now ≡ true) };
+        ensures numbered { IfSome result (λ e. e.now.seqno ≡ seqno) };
 
     /// The first signature above a seqno, committed or not.
     fn signature_above(&self, seqno: u64) -> Option<&Entry>

@@ -1,10 +1,8 @@
 //! The receipts that a ledger gives.
 
-ghost use Rattle.std.specs.Prelude.{◌≡◌, ◌-◌, ◌<◌, ◌^◌, [], length, true, Ok, Err, Some, IfOk, IfErr, OnOk};
-ghost use Rattle.std.specs.Option.{option_copied};
-ghost use Rattle.sha2.specs.Sha256.{sha256};
+ghost use Rattle.std.specs.Prelude.{◌≡◌, ◌-◌, ◌<◌, [], true, Ok, Err, Some, IfOk, IfErr};
 ghost use Rattle.gl_base.specs.Answers.{Fails};
-ghost use Rattle.gl_entry.specs.Entry.{is_entry, is_signature, body_bytes, recorded_commit};
+ghost use Rattle.gl_entry.specs.Entry.{is_signature, recorded_commit};
 ghost use Rattle.gl_entry.specs.Leaf.{evidence_text};
 ghost use Rattle.gl_receipt.specs.Made.{status_in, view_at, commit_id, committed_entry, later_signature, entry_at, components_of, recorded_signature, signed_in_entry, receipt_of, IsOfService};
 ghost use Rattle.gl_receipt.specs.Receipt.{Accepts};
@@ -14,7 +12,7 @@ use crate::ledger::CommittedLedger;
 use crate::make_fault::MakeFault;
 use crate::text::Text;
 use gl_base::{Bytes, OrNoMemory, Sequence, Status, TxId, status};
-use gl_entry::{Content, Digest, Entry, evidence};
+use gl_entry::{Content, Entry, evidence};
 use std::alloc::{AllocError, Global};
 
 /// The view of the entry with a seqno.
@@ -51,7 +49,6 @@ fn committed_entry<L: CommittedLedger>(ledger: &L, id: TxId) -> Result<&Entry, M
     ensures refused { IfErr result (λ fault.
         committed_entry (L.ledger ledger.now) id ≡ Err fault) }
     ensures numbered { IfOk result (λ e. e.now.seqno ≡ id.seqno) }
-    ensures fits { IfOk result (λ e. is_entry e.now ≡ true) }
 {
     match (status_in(ledger, id), ledger.entry(id.seqno)) {
         (Status::Committed, Some(entry)) => Ok(entry),
@@ -84,14 +81,6 @@ fn evidence_of(alloc: Global, identity: &[u8; 60], id: TxId) -> Result<Text, All
     Ok(Text::from(String::from_utf8(bytes).unwrap()))
 }
 
-/// The digest of an entry's body.
-fn body_digest(entry: &Entry) -> Digest
-    requires { is_entry entry.now ≡ true }
-    ensures { result ≡ sha256 (body_bytes entry.now) }
-{
-    entry.body_digest()
-}
-
 /// What the leaf of an entry is made of.
 fn components(
     alloc: Global,
@@ -99,13 +88,12 @@ fn components(
     id: TxId,
     entry: &Entry,
 ) -> Result<LeafComponents, AllocError>
-    requires { is_entry entry.now ≡ true }
     ensures { IfOk result (λ c. c ≡ components_of identity.now id entry.now) }
 {
     Ok(LeafComponents {
         claims_digest: entry.claims,
         commit_evidence: evidence_of(alloc, identity, id)?,
-        write_set_digest: body_digest(entry),
+        write_set_digest: entry.body_digest(),
     })
 }
 

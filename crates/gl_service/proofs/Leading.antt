@@ -1,5 +1,5 @@
 -- Where the log of a leader begins, and what a leader makes: its log and its commit are as the rules of consensus have them, so the guard refuses nothing.
-use Rattle.std.proofs.Common.{◌≡◌, ◌⊎◌, inl, inr, ℕ, zero, suc, ◌<◌, ◌^◌, List, [], ◌∷◌, length, take, slice_get, Bool, true, false, if◌then◌else◌, Option, Some, None, Err, refl, sym, ◌∙◌, ap, subst, arith}
+use Rattle.std.proofs.Common.{◌==◌, ◌+◌, ◌≡◌, ◌⊎◌, inl, inr, ℕ, zero, suc, ◌<◌, ◌^◌, List, [], ◌∷◌, length, take, slice_get, Bool, true, false, if◌then◌else◌, Option, Some, None, Err, refl, sym, ◌∙◌, ap, subst, arith}
 use Rattle.gl_base.proofs.Lists.{take-all, slice_get-append}
 use Rattle.gl_rules.specs.Identity.{NodeId, member}
 use Rattle.gl_rules.specs.Log.{entry_at}
@@ -23,10 +23,11 @@ use Rattle.gl_ledger.specs.Layers.{Layers}
 use Rattle.gl_ledger.specs.NodeKeys.{NodeKeys}
 use Rattle.gl_ledger.specs.Recordings.{requests_of, nodes_of, recorded_nodes}
 use Rattle.gl_ledger.specs.Acceptance.{request_fault}
+use Rattle.gl_ledger.specs.Broken.{is_unopened, is_later_commit, may_record}
 use Rattle.gl_ledger.specs.Makers.{MakesValid, by_store, guarded, request_result, signing_result, Given, Governed, Unspelled, unless_fault, governance_entry, govern_result}
 use Rattle.gl_ledger.specs.LedgerBook.{ledger_book}
 use Rattle.gl_ledger.proofs.Lawful.{lawful}
-use Rattle.gl_ledger.proofs.Making.{execute_is}
+use Rattle.gl_ledger.proofs.Making.{execute_is, may_go_on}
 use Rattle.gl_ledger.proofs.Signing.{sign_is, may_make, configured_recorded}
 use Rattle.gl_service.specs.Service.{ServiceEvent, Leads, node_of}
 use Rattle.gl_service.proofs.ViewLimits.{views_low}
@@ -59,6 +60,14 @@ module _ (layers : Layers) (keys : NodeKeys) (s : Start Entry) (opening : IsOpen
 
   pub recorded : member x (recorded_nodes layers n.log) ≡ true
   recorded = configured_recorded layers keys x n.log (at_end (λ m. IsConfigured (ledger_book layers keys) x m.log) (all.configured first (length events) x leads_there))
+
+  -- what the rules of consensus let it record, the audit lets it record
+  pub records : may_record layers n.log n.commit ≡ true
+  records =
+      let m = may_make layers keys n.log n.view n.commit follows views may in
+      ap (λ (o : Option Entry). if is_unopened layers o then n.commit == length n.log + 1 else is_later_commit layers n.log n.commit) m.is_last
+      ∙ ap (λ (b : Bool). if b then n.commit == length n.log + 1 else is_later_commit layers n.log n.commit) m.behind
+      ∙ may_go_on layers keys n.log n.commit may
 
   four_bytes : n.view < 2 ^ 32
   four_bytes = let v = views_low opening (lawful layers keys) events x in omega (arith, v)

@@ -1,14 +1,16 @@
 //! What holds of a service, whatever nodes start and whatever happens: laws, and no code.
 
-ghost use Rattle.std.specs.Prelude.{◌≡◌, ℕ, List};
+ghost use Rattle.std.specs.Prelude.{◌≡◌, ℕ, List, true};
 ghost use Rattle.gl_tx.specs.declared.request.Operation.{Operation};
 ghost use Rattle.gl_entry.specs.declared.entry.Entry.{Entry};
-ghost use Rattle.gl_rules.specs.Identity.{NodeId};
+ghost use Rattle.gl_rules.specs.Identity.{NodeId, member};
 ghost use Rattle.gl_rules.specs.Safety.{IsSafe};
 ghost use Rattle.gl_rules.specs.World.{Start};
 ghost use Rattle.gl_ledger.specs.declared.genesis.GovernanceRequest.{GovernanceRequest};
 ghost use Rattle.gl_ledger.specs.Layers.{Layers, ReadsSpellings};
 ghost use Rattle.gl_ledger.specs.NodeKeys.{NodeKeys};
+ghost use Rattle.gl_ledger.specs.Recordings.{recorded_nodes};
+ghost use Rattle.gl_ledger.specs.Broken.{may_record};
 ghost use Rattle.gl_ledger.specs.Sound.{IsSound};
 ghost use Rattle.gl_ledger.specs.Makers.{MakesValid, govern_result, request_result, signing_result};
 ghost use Rattle.gl_ledger.specs.LedgerBook.{ledger_book};
@@ -43,4 +45,15 @@ pub fn is_unguarded()
         MakesValid layers keys x leaf n.log n.view n.commit →
         (ledger_book layers keys).sign x leaf n.log n.view n.commit
         ≡ signing_result keys x leaf n.log n.view n.commit }
+{}
+
+/// A leader is a recorded node, and may record its commit in a signature, by the rules of the audit.
+pub fn may_sign()
+    ensures recorded { (layers : Layers) (keys : NodeKeys) (s : Start Entry) → Begins layers s →
+        (events : List ServiceEvent) (x : NodeId) → Leads layers keys s events x →
+        member x (recorded_nodes layers (node_of layers keys s events x).log) ≡ true }
+    ensures commit { (layers : Layers) (keys : NodeKeys) (s : Start Entry) → Begins layers s →
+        (events : List ServiceEvent) (x : NodeId) → Leads layers keys s events x →
+        may_record layers (node_of layers keys s events x).log (node_of layers keys s events x).commit
+        ≡ true }
 {}

@@ -4,4 +4,4 @@
 
 mod laws;
 
-pub use laws::{is_safe, is_unguarded};
+pub use laws::{is_safe, is_unguarded, may_sign};

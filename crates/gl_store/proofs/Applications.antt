@@ -1,5 +1,8 @@
--- What the book makes of an application request, as what a store answers.
-use Rattle.std.proofs.Common.{◌≡◌, ℕ, ◌+◌, List, [], ◌∷◌, ◌++◌, length, Result, Ok, true, sym, ◌∙◌, ap, subst}
+-- What the book makes of an application request and of a signature, as what a store answers.
+use Rattle.std.proofs.Common.{◌≡◌, ℕ, ◌+◌, ◌<◌, List, [], ◌∷◌, ◌++◌, length, Result, Ok, Err, Bool, true, nat_lt, if◌then◌else◌, sym, ◌∙◌, ap, subst, arith}
+use Rattle.std.proofs.lemmas.Bool.Decides.{nat_tests}
+use Rattle.gl_base.specs.TxId.{last_seqno}
+use Rattle.gl_hss.specs.Signer.{Signer}
 use Rattle.gl_base.specs.Answers.{Fails, Widens}
 use Rattle.gl_base.specs.declared.or_no_memory.OrNoMemory.{OrNoMemory}
 use Rattle.gl_base.specs.declared.or_no_memory.OrNoMemory.TheVariants.{NoMemory, Fault}
@@ -13,15 +16,15 @@ use Rattle.gl_tx.specs.declared.abort.Abort.{Abort}
 use Rattle.gl_entry.specs.declared.entry.Entry.{Entry}
 use Rattle.gl_ledger.specs.Effect.{service_state}
 use Rattle.gl_ledger.specs.Tree.{tables_of}
-use Rattle.gl_ledger.specs.Ledger.{execute_result, execute_in, run_result}
-use Rattle.gl_ledger.specs.Makers.{request_result}
+use Rattle.gl_ledger.specs.Ledger.{signature_entry, execute_result, execute_in, run_result}
+use Rattle.gl_ledger.specs.Makers.{by_store, request_result}
 use Rattle.gl_ledger.specs.declared.genesis.ServiceState.{ServiceState}
 use Rattle.gl_ledger.specs.declared.genesis.ServiceState.TheVariants.{Open}
 use Rattle.gl_ledger.specs.declared.refusal.Refusal.{Refusal}
 use Rattle.gl_ledger.specs.declared.refusal.Refusal.TheVariants as refusals
 use Rattle.gl_ledger.proofs.Applications.{request_made, request_refused}
 use Rattle.gl_store.specs.Kept.{Held}
-use Rattle.gl_store.specs.Calls.{Executes, Refuses}
+use Rattle.gl_store.specs.Calls.{Executes, Signs, Refuses, signature_of}
 
 -- a store with that entry executed the request
 pub executes_made : (ledger items : List Entry) (commit view seqno : ℕ) (q : List Operation) (e : Entry) (a : List Answer) → is_request q ≡ true →
@@ -48,3 +51,22 @@ refused_run ledger view q (Fault abort) w fits is_open h is =
     subst (Refuses (request_result ledger view q)) (sym (is.2 ∙ ap (λ (r : Refusal). Fault r) is.1))
     (request_refused ledger view q (refusals.Aborted abort) fits
     (ap (λ (s : ServiceState). execute_in s ledger view q) is_open ∙ ap (λ (r : Result Ran Abort). run_result ledger view q r) h))
+
+-- a store with the entry of a node's signature signed
+pub signs_made : (ledger items : List Entry) (commit view seqno : ℕ) (node : List ℕ) (signer : Signer) (e : Entry) → length ledger < last_seqno →
+    e ≡ signature_entry node (signature_of signer ledger view commit) ledger view commit → seqno ≡ length ledger + 1 → items ≡ ledger ++ e ∷ [] →
+    Signs (record { ledger = ledger; commit = commit }) node signer view (record { view = view; seqno = seqno }) (record { ledger = items; commit = commit })
+signs_made ledger items commit view seqno node signer e left is at pushed = record {
+  entry = e;
+  made = ap (λ (b : Bool). by_store (if b then Ok made else Err refusals.SeqnoLimit)) (let t : nat_lt (length ledger) last_seqno ≡ true = grind (arith, nat_tests) in t) ∙ ap (λ (x : Entry). Ok x) (sym is);
+  enters = record { named = ap named at; entered = ap held pushed };
+}
+  where
+    made : Entry
+    made = signature_entry node (signature_of signer ledger view commit) ledger view commit
+
+    named : ℕ → TxId
+    named n = record { view = view; seqno = n }
+
+    held : List Entry → Held
+    held es = record { ledger = es; commit = commit }

@@ -1,5 +1,5 @@
 -- What the calls of a store come to, in the words of the rules of consensus over a ledger's book.
-use Rattle.std.specs.Prelude.{◌≡◌, ◌<◌, ◌≤◌, ◌^◌, ℕ, ◌+◌, List, [], ◌∷◌, ◌++◌, Result, Ok, Err, IfSome, length}
+use Rattle.std.specs.Prelude.{◌≡◌, ◌<◌, ◌≤◌, ◌^◌, ℕ, ◌+◌, List, [], ◌∷◌, ◌++◌, Some, Result, Ok, Err, IfSome, length}
 use Rattle.gl_base.specs.declared.or_no_memory.OrNoMemory.{OrNoMemory}
 use Rattle.gl_base.specs.declared.or_no_memory.OrNoMemory.TheVariants.{NoMemory, Fault}
 use Rattle.gl_base.specs.declared.tx_id.TxId.{TxId}
@@ -9,6 +9,7 @@ use Rattle.gl_rules.specs.Node.{Node}
 use Rattle.gl_entry.specs.declared.entry.Entry.{Entry}
 use Rattle.gl_tx.specs.declared.request.Operation.{Operation}
 use Rattle.gl_tx.specs.declared.request.Answer.{Answer}
+use Rattle.gl_ledger.specs.NodeKeys.{IsNodeKey, NodeKeys}
 use Rattle.gl_ledger.specs.Ledger.{message_behind, sign_result}
 use Rattle.gl_ledger.specs.Makers.{Replied, Unmade, ByStore, request_result, by_store}
 use Rattle.gl_ledger.specs.declared.refusal.Refusal.{Refusal}
@@ -36,6 +37,14 @@ pub record Executes (old : Held) (view : ℕ) (q : List Operation)
 pub record IsReady (signer : Signer) : Type 0 where
   pub reserved : signer.used < signer.reserved
   pub endorsement : IfSome signer.endorsement (λ bytes. length bytes ≤ 2 ^ 15)
+
+-- The signer signs for a node of the service with this key: it has the key of which the node's
+-- identifier is the digest, and that key's endorsement by the service.
+pub record SignsFor (node : NodeId) (identity : List ℕ) (signer : Signer) : Type 0 where
+  pub keys : NodeKeys
+  pub key : signer.key ≡ keys.key_of node
+  pub endorsement : signer.endorsement ≡ Some (keys.endorsement_of node)
+  pub endorsed : IsNodeKey keys identity node
 
 -- What a signer signs behind a ledger with its next leaf, in a view and with a commit.
 abbrev pub signature_of : Signer → List Entry → ℕ → ℕ → List ℕ

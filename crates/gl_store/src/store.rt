@@ -1,11 +1,12 @@
 //! The store of one node: what it holds, and what it makes of requests.
 
-ghost use Rattle.std.specs.Prelude.{◌≡◌, ◌↔◌, ◌+◌, ◌≤◌, ◌<◌, ◌^◌, [], ◌∷◌, ◌++◌, ℕ, List, true, length, IsTrue, Err, IfOk, IfErr, IfSome, IfNone, OnErr, OnOk};
+ghost use Rattle.std.specs.Prelude.{◌≡◌, ◌↔◌, ◌+◌, ◌≤◌, ◌<◌, ◌^◌, [], ◌∷◌, ◌++◌, ℕ, List, true, length, map, None, IsTrue, Err, IfOk, IfErr, IfSome, IfNone, OnErr, OnOk};
 ghost use Rattle.std.specs.List.{AllByRecursion};
 ghost use Rattle.std.specs.Option.{option_copied};
 ghost use Rattle.sha2.specs.Sha256.{sha256};
 ghost use Rattle.gl_base.specs.Bytes.{are_bytes};
 ghost use Rattle.gl_base.specs.TxId.{last_seqno};
+ghost use Rattle.gl_lms.specs.Types.{height};
 ghost use Rattle.gl_hss.specs.Signer.{hss_signature};
 ghost use Rattle.gl_merkle.specs.Frontier.{HasLeaves, IsUnchanged};
 ghost use Rattle.gl_vmaps.specs.Kept.{version_of};
@@ -34,16 +35,17 @@ use std::alloc::{AllocError, Global};
 use std::marker::Model;
 
 /// A ledger of one node, and up to which seqno it is committed. Seqnos count from 1. At every
-/// moment the ledger is one serial run of its requests: its entries fit their format, its seqnos
-/// and views are in order, its governance tables are the effect of the governance requests that it
-/// records, and each signature has the root of the tree over all earlier entries. Commit is the
-/// seqno of a signature, or 0, and never falls.
+/// moment the ledger is valid: no entry of it breaks a rule of the audit behind those before it. So
+/// it is one serial run of its requests, its governance tables are the effect of the governance
+/// requests that it records, and each signature is the valid one of a recorded node, over the root
+/// of the tree over all earlier entries. Commit is the seqno of a signature, or 0, and never falls.
 #[derive(Drop)]
 pub struct Store {
     state: LedgerState,
     identity: HssPublicKey,
     commit: u64,
     last_signature: u64,
+    last_commit: u64,
     service_state: ServiceState,
     alloc: Global,
 }
@@ -58,12 +60,16 @@ impl Model for Store {
     ghost invariant = { λ s. IsKept s.state.entries.items (record {
       commit = s.commit;
       last_signature = s.last_signature;
+      last_commit = s.last_commit;
       service_state = s.service_state;
       identity = s.identity;
       tables = s.state.tables;
       frontier = s.state.frontier;
     }) };
 }
+
+/// The map of the rows of nodes (CCF documentation, "Builtin Maps").
+const NODES_MAP: &[u8] = b"public:ccf.gov.nodes";
 
 /// The digest field of an entry that has none.
 const NO_DIGEST: Digest = [0; 32];
@@ -72,32 +78,38 @@ impl Store {
     ghost use Rattle.gl_rules.specs.Log.{entry_at};
     ghost use Rattle.gl_rules.specs.Node.{Node};
     ghost use Rattle.gl_rules.specs.Safety.{reported_status, view_of};
-    ghost use Rattle.gl_ledger.specs.Genesis.{is_acceptable};
+    ghost use Rattle.gl_rules.specs.Identity.{member};
+    ghost use Rattle.gl_ledger.specs.Genesis.{node_id};
     ghost use Rattle.gl_ledger.specs.Ledger.{HasViewsUpTo, opening_ledger, sign_result};
     ghost use Rattle.gl_ledger.specs.Tree.{writes_of, tables_of};
-    ghost use Rattle.gl_ledger.specs.Effect.{service_state};
-    ghost use Rattle.gl_ledger.specs.Serial.{IsSerialRun};
-    ghost use Rattle.gl_ledger.specs.Broken.{last_signed};
+    ghost use Rattle.gl_ledger.specs.Effect.{identity_in, service_state};
+    ghost use Rattle.gl_ledger.specs.Recordings.{recorded_nodes};
+    ghost use Rattle.gl_ledger.specs.Acceptance.{genesis_fault};
+    ghost use Rattle.gl_ledger.specs.Broken.{last_signed, may_record, signs_at};
+    ghost use Rattle.gl_ledger.specs.Sound.{IsSound};
+    ghost use Rattle.gl_ledger.specs.Audit.{audited};
     ghost use Rattle.gl_ledger.specs.Layers.{Layers};
-    ghost use Rattle.gl_ledger.specs.NodeKeys.{NodeKeys};
+    ghost use Rattle.gl_ledger.specs.NodeKeys.{NodeKeys, service_layers};
     ghost use Rattle.gl_ledger.specs.LedgerBook.{ledger_book};
     ghost use Rattle.gl_ledger.specs.Makers.{by_store, request_result};
     ghost use Rattle.gl_ledger.specs.Signed.{IsSignedUpTo};
-    ghost use Rattle.gl_store.specs.Calls.{Executes, Signs, Refuses, IsNodeOf};
+    ghost use Rattle.gl_store.specs.Calls.{Executes, Signs, SignsFor, Refuses, IsNodeOf};
 
-    /// The store of a service that begins: the genesis with seqno 1, and the signature of its node
-    /// with seqno 2, both in view 2 and committed. The signer's next leaf is spent. Fails for want
-    /// of memory alone, and then no leaf is spent.
+    /// The store of a service that begins: the genesis with seqno 1, and the signature of one of its
+    /// nodes with seqno 2, both in view 2 and committed. The signer's next leaf is spent. Fails for
+    /// want of memory alone, and then no leaf is spent.
     pub fn opening(
         alloc: Global,
         genesis: &Genesis,
         node: NodeId,
         signer: &mut HssSigner,
     ) -> Result<Self, AllocError>
-        requires acceptable { is_acceptable genesis.now ≡ true }
+        requires accepted { genesis_fault service_layers genesis.now ≡ None }
         requires fits { is_genesis genesis.now ≡ true }
         requires endorsements { HaveShortEndorsements genesis.now.nodes }
         requires small { length (body_bytes (genesis_entry genesis.now)) ≤ body_limit }
+        requires named { member node (map node_id genesis.now.nodes) ≡ true }
+        requires signer { SignsFor node genesis.now.identity signer.old }
         requires ready { IsReady signer.old }
         ensures opened { IfOk result (λ store. store ≡ record {
           ledger = opening_ledger genesis.now node
@@ -120,6 +132,7 @@ impl Store {
             identity: genesis.identity,
             commit: 2,
             last_signature: 2,
+            last_commit: 2,
             service_state: genesis.state,
             alloc,
         })
@@ -129,7 +142,8 @@ impl Store {
     pub fn ledger_len(&self) -> u64
         ensures len { result ≡ length self.now.ledger }
         ensures opened { 2 ≤ length self.now.ledger }
-        ensures sound { IsSerialRun self.now.ledger }
+        ensures valid { audited service_layers self.now.ledger ≡ None }
+        ensures sound { IsSound service_layers self.now.ledger }
     {
         self.state.entries.len() as u64
     }
@@ -186,6 +200,38 @@ impl Store {
         ensures { result ≡ last_signed self.now.ledger }
     {
         self.last_signature
+    }
+
+    /// The service's key, as the ledger has it.
+    pub fn identity(&self) -> &HssPublicKey
+        ensures { result.now ≡ identity_in (tables_of self.now.ledger) }
+    {
+        &self.identity
+    }
+
+    /// Whether a node is recorded.
+    pub fn is_recorded(&self, node: &NodeId) -> bool
+        ensures { result ≡ member node.now (recorded_nodes service_layers self.now.ledger) }
+    {
+        self.state.tables.has(NODES_MAP, node)
+    }
+
+    /// Whether the next signature may record this commit: it is the seqno of a signature, and not
+    /// below the commit that the last signature recorded.
+    pub fn may_record(&self, commit: u64) -> bool
+        ensures { result ≡ may_record service_layers self.now.ledger commit }
+    {
+        self.signs_at(commit) && self.last_commit <= commit
+    }
+
+    /// Whether the entry with a seqno is a signature.
+    fn signs_at(&self, seqno: u64) -> bool
+        ensures { result ≡ signs_at (entry_at self.now.ledger seqno) }
+    {
+        match self.entry(seqno) {
+            None => false,
+            Some(entry) => matches!(entry.content, Content::Signature(_)),
+        }
     }
 
     /// The status of a transaction by what this store holds (CCF documentation, "Transaction
@@ -270,8 +316,8 @@ impl Store {
     }
 
     /// Makes the entry of a node's signature of the ledger so far, in a view that isn't below that
-    /// of any entry before. It records the commit as it now is, and the root of the tree over all
-    /// entries before it. The signer's next leaf is spent, and nothing can fail behind that.
+    /// of any entry before. The node is recorded, the signer is its own, and the commit as it now is
+    /// may be recorded. The entry records that, and the root of the tree over all entries before it. The signer's next leaf is spent, and nothing can fail behind that.
     /// Refused where no seqno is left. Want of memory, too, leaves the store and the signer as they
     /// were.
     pub fn sign(
@@ -281,6 +327,9 @@ impl Store {
         signer: &mut HssSigner,
     ) -> Result<TxId, OrNoMemory<Refusal>>
         requires up_to { HasViewsUpTo view self.old.ledger }
+        requires recorded { member node (recorded_nodes service_layers self.old.ledger) ≡ true }
+        requires commit { may_record service_layers self.old.ledger self.old.commit ≡ true }
+        requires signer { SignsFor node (identity_in (tables_of self.old.ledger)) signer.old }
         requires ready { IsReady signer.old }
         ensures made { IfOk result (λ id. Signs self.old node signer.old view id self.new) }
         ensures refused { IfErr result (λ e. Refuses (by_store (sign_result node
@@ -300,6 +349,7 @@ impl Store {
         push_entry(&mut self.state, &self.identity, entry)?;
         signer.spend();
         self.last_signature = seqno;
+        self.last_commit = self.commit;
         Ok(TxId { view, seqno })
     }
 }
@@ -342,7 +392,9 @@ fn signature_entry(
         (signature_of signer.now state.now.entries.items view commit)
         state.now.entries.items view commit) }
     ensures fits { IfOk result (λ entry. is_entry entry ≡ true) }
+    ensures leaf { OnOk result (signer.now.used < 2 ^ height signer.now.key.types) }
 {
+    prove!(signer.used() < signer.reserved());
     let seqno = state.entries.len() as u64 + 1;
     let root = state.frontier.root();
     let signature = next_signature(signer, &signed_message(&root, view, seqno, commit))?;
@@ -446,7 +498,6 @@ fn push_entry(
 ) -> Result<(), AllocError>
     requires base { state.old.tables.base < entry.seqno }
     requires above { (map key : List ℕ) → version_of state.old.tables map key < entry.seqno }
-    requires small { length (body_bytes entry) ≤ body_limit }
     ensures entries { OnOk result (state.new.entries.items
         ≡ state.old.entries.items ++ entry ∷ []) }
     ensures tables { OnOk result ((ps : List Placed) → StandsFor state.old.tables ps →

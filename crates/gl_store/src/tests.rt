@@ -1,18 +1,25 @@
 //! The rows, the entries and the roots against bytes worked out by hand, with digests by Python's
 //! hashlib.
 
-ghost use Rattle.std.specs.Prelude.{◌≡◌, ◌≤◌, ◌<◌, ◌^◌, ℕ, length, true, IfOk, None};
+ghost use Rattle.std.specs.Prelude.{◌≡◌, ◌≤◌, ◌<◌, ◌^◌, ◌∷◌, [], ℕ, length, map, true, IfOk, IfSome};
 ghost use Rattle.std.specs.List.{AllByRecursion};
-ghost use Rattle.gl_ledger.specs.Genesis.{is_acceptable, is_genesis};
+ghost use Rattle.gl_lms.specs.Tree.{key_bytes};
+ghost use Rattle.gl_lms.specs.Secrets.{public_of};
+ghost use Rattle.gl_hss.specs.Hss.{IsEndorsed};
+ghost use Rattle.gl_ledger.specs.Genesis.{is_acceptable, is_genesis, is_node};
 ghost use Rattle.gl_ledger.specs.Ledger.{HasViewsUpTo};
 ghost use Rattle.gl_ledger.specs.Signed.{IsSignedAt};
+ghost use Rattle.gl_store.specs.Calls.{SignsFor};
 
 use crate::Store;
 use gl_base::{Bytes, OrNoMemory, Sequence, Status, TxId};
 use gl_entry::{Content, Digest, Entry, NodeId};
-use gl_hss::HssSigner;
-use gl_ledger::{Dealing, Genesis, NewMember, NewNode, Refusal, ServiceState, ShareDigest};
-use gl_lms::{LmsKey, Types};
+use gl_hss::{HssSigner, verify_endorsement};
+use gl_ledger::{
+    Dealing, Genesis, HssPublicKey, NewMember, NewNode, Refusal, ServiceState, ShareDigest,
+    genesis_fault,
+};
+use gl_lms::{LMS_KEY_LEN, LmsKey, Types};
 use gl_tx::{Abort, Answer, Cause, Operation, Reply, Request};
 use gl_vmaps::{Key, MapName, Value, Write};
 use sha2::{Digest as _, Sha256};
@@ -21,10 +28,18 @@ use std::test::Fail;
 
 mod opening;
 
-// The digest of 56 bytes 07.
+// The service's key: that of a seed of 32 bytes 09, of two levels.
+const IDENTITY: HssPublicKey = [
+    0x00, 0x00, 0x00, 0x02, 0x00, 0x00, 0x00, 0x05, 0x00, 0x00, 0x00, 0x03, 0xf0, 0x5c, 0x52, 0xfc,
+    0x64, 0x50, 0x3b, 0x55, 0x90, 0x7f, 0xa2, 0xc6, 0x02, 0x47, 0x33, 0xa5, 0x28, 0x40, 0x01, 0xc2,
+    0x82, 0x76, 0x1c, 0x54, 0xf0, 0x71, 0xd6, 0xa3, 0x56, 0x38, 0xfb, 0x89, 0xf1, 0xc8, 0x2f, 0xf9,
+    0xef, 0x79, 0x88, 0xd0, 0x8f, 0x8a, 0xe4, 0xef, 0x02, 0x5c, 0x2a, 0x16,
+];
+
+// The digest of the node's key, which a seed of 32 bytes 07 makes.
 const NODE: NodeId = [
-    0x84, 0x9e, 0x69, 0x94, 0xb0, 0x2d, 0x46, 0x06, 0x80, 0xd1, 0xd4, 0xd9, 0xed, 0x69, 0x0a, 0xa3,
-    0x58, 0x11, 0xc8, 0x80, 0x56, 0x98, 0x7e, 0x0b, 0x6c, 0xad, 0x0e, 0xb8, 0x5c, 0xb7, 0xd9, 0x8d,
+    0x29, 0xc7, 0xcc, 0xcf, 0x04, 0xa1, 0xd8, 0x85, 0x47, 0xef, 0xc3, 0x36, 0x04, 0x5b, 0xa1, 0xfa,
+    0x92, 0x9d, 0xcb, 0x74, 0x7a, 0x37, 0xee, 0x6a, 0xd2, 0x15, 0x0c, 0xce, 0xb5, 0xf6, 0x7a, 0xa7,
 ];
 
 // The digest of the bytes 01 00 00, a reply of one operation that was done.
@@ -35,32 +50,55 @@ const DONE: Digest = [
 
 // The root over the opening ledger of a service that is open, and a put of one byte 01.
 const ROOT_BEHIND_PUT: Digest = [
-    0x19, 0x12, 0x8c, 0xbc, 0xfc, 0xed, 0x72, 0xef, 0x65, 0x13, 0x60, 0x21, 0xc5, 0x6b, 0x69, 0x17,
-    0x3c, 0x07, 0xf9, 0xbd, 0x1b, 0x02, 0xf6, 0x33, 0xca, 0x5e, 0x88, 0xac, 0x4b, 0xe0, 0x0c, 0xa6,
+    0x6f, 0x9c, 0xa2, 0xf5, 0x98, 0xe3, 0xdc, 0x29, 0x36, 0xa7, 0xb8, 0x6a, 0xc3, 0xfd, 0x90, 0xfc,
+    0x02, 0x13, 0x35, 0xf5, 0x07, 0xa1, 0x61, 0xf8, 0xb9, 0x1a, 0xa4, 0x44, 0x73, 0xed, 0x78, 0x93,
 ];
 
 // The digest of the signature over these, by leaf 1.
 const SIGNATURE_BEHIND_PUT: Digest = [
-    0x19, 0xf7, 0x8c, 0x70, 0x24, 0xa4, 0x18, 0xb1, 0x7c, 0x18, 0xd0, 0x13, 0xfe, 0xb9, 0x71, 0x0c,
-    0xfa, 0x1e, 0xe4, 0xaf, 0x65, 0xc2, 0x41, 0xc3, 0xa9, 0xe1, 0xf5, 0xa8, 0x8e, 0x76, 0x48, 0xd7,
+    0x79, 0x43, 0x93, 0x8d, 0xa6, 0xbf, 0x2d, 0x80, 0x6b, 0xa9, 0xd0, 0x68, 0x57, 0x69, 0x50, 0x7c,
+    0x1f, 0x7e, 0x1c, 0x05, 0xaf, 0xc4, 0xab, 0x7d, 0xce, 0x43, 0x6c, 0x66, 0xff, 0x05, 0xaf, 0xf1,
 ];
 
-// The service's key.
-const IDENTITY: [u8; 60] = [9; 60];
+// The signature of a node's key by leaf 0 of the service's.
+fn endorsement(alloc: Global, node: &[u8; LMS_KEY_LEN]) -> Result<Vec<u8>, Fail>
+    ensures short { IfOk result (λ e. length e.items ≤ 2 ^ 13) }
+    ensures valid { IfOk result (λ e. IsEndorsed IDENTITY node.now e.items) }
+{
+    let service = LmsKey::make(alloc, [9; 32], Types::H5W4)?;
+    let endorsement = service.sign_leaf(0, node)?;
+    match verify_endorsement(&IDENTITY, node, &endorsement) {
+        Ok(()) => Ok(endorsement),
+        Err(_) => Err(Fail::from("no endorsement")),
+    }
+}
 
-// A service of one node, with an endorsement of two bytes, and two members.
-fn genesis(alloc: Global, state: ServiceState) -> Result<Genesis, AllocError>
+// A node as a genesis names it.
+fn named(key: [u8; LMS_KEY_LEN], endorsement: Vec<u8>) -> NewNode
+    requires { length endorsement.items ≤ 2 ^ 13 }
+    ensures key { result.key ≡ key }
+    ensures fits { is_node result ≡ true }
+    ensures short { length result.endorsement ≤ 2 ^ 13 }
+{
+    NewNode {
+        key,
+        endorsement: Bytes::from(endorsement),
+    }
+}
+
+// A service of one node and two members.
+fn genesis(alloc: Global, state: ServiceState, node: NewNode) -> Result<Genesis, AllocError>
+    requires fits { is_node node ≡ true }
+    requires short { length node.endorsement ≤ 2 ^ 13 }
+    ensures identity { IfOk result (λ g. g.identity ≡ IDENTITY) }
     ensures acceptable { IfOk result (λ g. is_acceptable g ≡ true) }
     ensures fits { IfOk result (λ g. is_genesis g ≡ true) }
     ensures endorsements { IfOk result (λ g.
         AllByRecursion (λ node. length node.endorsement ≤ 2 ^ 13) g.nodes) }
+    ensures node { IfOk result (λ g. g.nodes ≡ node ∷ []) }
 {
-    let endorsement = Bytes::from(Vec::from_slice(alloc, &[0xaa, 0xbb])?);
     let mut nodes = Vec::new(alloc);
-    nodes.push(NewNode {
-        key: [7; 56],
-        endorsement,
-    })?;
+    nodes.push(node)?;
     let first = NewMember {
         number: 1,
         key: [3; 60],
@@ -87,21 +125,43 @@ fn genesis(alloc: Global, state: ServiceState) -> Result<Genesis, AllocError>
     })
 }
 
-// The node's signer: a key that a seed of bytes 07 makes, with no endorsement and no leaf reserved.
-fn signer(alloc: Global) -> Result<HssSigner, AllocError>
-    ensures { IfOk result (λ s. s.endorsement ≡ None) }
+// What signs for the node with this key and endorsement. No leaf is reserved.
+fn endorsed(key: LmsKey, endorsement: Vec<u8>) -> Result<HssSigner, Fail>
+    requires valid { IsEndorsed IDENTITY (key_bytes (public_of key)) endorsement.items }
+    requires short { length endorsement.items ≤ 2 ^ 13 }
+    ensures signs { IfOk result (λ s. SignsFor NODE IDENTITY s) }
+    ensures short { IfOk result (λ s. IfSome s.endorsement (λ e. length e ≤ 2 ^ 15)) }
+{
+    if Sha256::digest(&key.public()) != NODE {
+        return Err(Fail::from("the key of another node"));
+    }
+    Ok(HssSigner::new(key, Some(endorsement), 0))
+}
+
+// The node's signer.
+fn signer(alloc: Global) -> Result<HssSigner, Fail>
+    ensures signs { IfOk result (λ s. SignsFor NODE IDENTITY s) }
+    ensures short { IfOk result (λ s. IfSome s.endorsement (λ e. length e ≤ 2 ^ 15)) }
 {
     let key = LmsKey::make(alloc, [7; 32], Types::H5W4)?;
-    Ok(HssSigner::new(key, None, 0))
+    let endorsement = endorsement(alloc, &key.public())?;
+    endorsed(key, endorsement)
 }
 
 // The store of such a service, opened with the signer's next leaf.
 fn opened_by(alloc: Global, state: ServiceState, signer: &mut HssSigner) -> Result<Store, Fail>
-    requires { signer.old.endorsement ≡ None }
+    requires signs { SignsFor NODE IDENTITY signer.old }
+    requires short { IfSome signer.old.endorsement (λ e. length e ≤ 2 ^ 15) }
     ensures up_to { IfOk result (λ s. (view : ℕ) → 2 ≤ view → HasViewsUpTo view s.ledger) }
-    ensures unendorsed { signer.new.endorsement ≡ None }
+    ensures signs { SignsFor NODE IDENTITY signer.new }
+    ensures short { IfSome signer.new.endorsement (λ e. length e ≤ 2 ^ 15) }
 {
-    let genesis = genesis(alloc, state)?;
+    let key = signer.key().public();
+    let node = named(key, endorsement(alloc, &key)?);
+    let genesis = genesis(alloc, state, node)?;
+    if genesis_fault(alloc, &genesis)?.is_some() {
+        return Err(Fail::from("a genesis with a fault"));
+    }
     prove!(signer.used() <= signer.reserved());
     signer.reserve()?;
     Ok(Store::opening(alloc, &genesis, NODE, signer)?)
@@ -144,11 +204,19 @@ fn execute(
 // A signature by the signer's next leaf, in a view in which more may follow.
 fn sign(store: &mut Store, signer: &mut HssSigner, view: u32) -> Result<TxId, Fail>
     requires up_to { HasViewsUpTo view store.old.ledger }
-    requires unendorsed { signer.old.endorsement ≡ None }
+    requires signs { SignsFor NODE IDENTITY signer.old }
+    requires short { IfSome signer.old.endorsement (λ e. length e ≤ 2 ^ 15) }
     ensures up_to { HasViewsUpTo view store.new.ledger }
     ensures signed { IfOk result (λ id. IsSignedAt store.new.ledger id.seqno) }
-    ensures unendorsed { signer.new.endorsement ≡ None }
+    ensures signs { SignsFor NODE IDENTITY signer.new }
+    ensures short { IfSome signer.new.endorsement (λ e. length e ≤ 2 ^ 15) }
 {
+    if *store.identity() != IDENTITY || !store.is_recorded(&NODE) {
+        return Err(Fail::from("a node of no such service"));
+    }
+    if !store.may_record(store.commit()) {
+        return Err(Fail::from("a commit that may not be recorded"));
+    }
     prove!(signer.used() <= signer.reserved());
     signer.reserve()?;
     Ok(store.sign(NODE, view, signer)?)

@@ -16,6 +16,9 @@ use Rattle.gl_ledger.specs.Layers.{Layers}
 use Rattle.gl_ledger.specs.Reading.{request_in}
 use Rattle.gl_ledger.specs.NodeKeys.{service_layers, IsNodeKey, is_verified}
 use Rattle.gl_ledger.specs.Effect.{identity_in}
+use Rattle.gl_ledger.specs.Tree.{tables_of}
+use Rattle.gl_ledger.specs.Recordings.{recorded_nodes}
+use Rattle.gl_ledger.specs.Broken.{may_record}
 use Rattle.gl_ledger.specs.Ledger.{genesis_entry}
 use Rattle.gl_tx.specs.declared.request.Operation.{Operation}
 use Rattle.gl_ledger.specs.Acceptance.{are_endorsed, genesis_fault}
@@ -33,8 +36,8 @@ use Rattle.gl_ledger.proofs.TablesLaws.{tables_of-push}
 use Rattle.gl_service.specs.Service.{ServiceEvent, Leads}
 use Rattle.gl_service.specs.Service as service
 use Rattle.gl_service.proofs.Safe.{begins_safe}
-use Rattle.gl_service.proofs.Leading.{leader_executes}
-use Rattle.gl_service.proofs.Founded.{leader_signs_with_key}
+use Rattle.gl_service.proofs.Leading.{recorded, records, leader_executes}
+use Rattle.gl_service.proofs.Founded.{leader_identity, leader_signs_with_key}
 use Rattle.gl_world.specs.declared.settings.Settings.{Settings}
 use Rattle.gl_world.specs.Founding.{numbers_from, node_of, id_of, node_ids, keys_of, genesis_of}
 use Rattle.gl_world.specs.Group.{IsGroup, book_of}
@@ -133,3 +136,23 @@ group_signs s h events x leads leaf low =
     leader_signs_with_key request_in (keys_of s) service_reads (start_of s) (genesis_of s)
     (record { begins = group_begins s h; reads = (group_founds s h).reads; first = refl })
     (named_has_key s h) events x leads leaf low
+
+-- ---- what a leader may sign
+
+-- it is a recorded node
+pub group_recorded : (s : Settings) → IsGroup s → (events : List ServiceEvent) (x : NodeId) → Leads service_layers (keys_of s) (start_of s) events x →
+    member x (recorded_nodes service_layers (service.node_of service_layers (keys_of s) (start_of s) events x).log) ≡ true
+group_recorded s h events x leads = recorded service_layers (keys_of s) (start_of s) (group_opens s h) (group_configured s h) events x leads
+
+-- it may record its commit
+pub group_records : (s : Settings) → IsGroup s → (events : List ServiceEvent) (x : NodeId) → Leads service_layers (keys_of s) (start_of s) events x →
+    let n = service.node_of service_layers (keys_of s) (start_of s) events x in
+    may_record service_layers n.log n.commit ≡ true
+group_records s h events x leads = records service_layers (keys_of s) (start_of s) (group_opens s h) (group_configured s h) events x leads
+
+-- and the service's key in force there is that of the genesis
+pub group_identity : (s : Settings) → IsGroup s → (events : List ServiceEvent) (x : NodeId) → Leads service_layers (keys_of s) (start_of s) events x →
+    identity_in (tables_of (service.node_of service_layers (keys_of s) (start_of s) events x).log) ≡ (genesis_of s).identity
+group_identity s h events x leads =
+    leader_identity service_layers (keys_of s) service_reads (start_of s) (genesis_of s)
+    (record { begins = group_begins s h; reads = (group_founds s h).reads; first = refl }) events x leads

@@ -24,8 +24,7 @@ pub(crate) struct MemLedger {
 }
 
 impl Model for MemLedger {
-    ghost use Rattle.std.specs.Prelude.{◌≡◌, ℕ, suc, Some, true, length, slice_get};
-    ghost use Rattle.gl_entry.specs.Entry.{is_entry};
+    ghost use Rattle.std.specs.Prelude.{◌≡◌, ℕ, suc, Some, length, slice_get};
     ghost use Rattle.gl_entry.specs.declared.entry.Entry.{Entry};
     ghost use Rattle.gl_receipt.specs.Made.{Ledger};
 
@@ -39,8 +38,7 @@ impl Model for MemLedger {
     } };
 
     ghost invariant = { λ l. (length l.leaves.items ≡ length l.entries.items)
-        × ((i : ℕ) (e : Entry) → slice_get l.entries.items i ≡ Some e →
-        (e.seqno ≡ suc i) × (is_entry e ≡ true)) };
+        × ((i : ℕ) (e : Entry) → slice_get l.entries.items i ≡ Some e → e.seqno ≡ suc i) };
 }
 
 fn is_signature(content: &Content) -> bool
@@ -86,7 +84,6 @@ impl MemLedger {
     }
 
     /// Adds the entry of a frame, and its leaf.
-    #[tactic(auto, using(crate::proofs::MakeLemmas::writes_counted))]
     pub(crate) fn push(&mut self, frame: &[u8]) -> Result<(), Fail> {
         let (entry, _) = Entry::decode(self.alloc, frame)?;
         if entry.seqno != self.entries.len() as u64 + 1 {

@@ -4,14 +4,26 @@ use super::*;
 
 // The leaf of the genesis of a service that is opening, which is the root over it alone.
 const FIRST_LEAF: Digest = [
-    0x8d, 0xdc, 0x71, 0xa1, 0xd7, 0x18, 0x16, 0x41, 0xd2, 0x46, 0x54, 0x1a, 0xdd, 0xf7, 0xb9, 0x8a,
-    0xc6, 0xea, 0xed, 0x04, 0xd5, 0x92, 0xda, 0x7c, 0x00, 0xa1, 0xfb, 0x0f, 0xae, 0xfe, 0xa1, 0x7f,
+    0x04, 0x39, 0x04, 0x87, 0x3d, 0xc9, 0x32, 0xa6, 0xde, 0xd3, 0xbb, 0xf4, 0xc3, 0x33, 0x48, 0xdb,
+    0xa2, 0x5d, 0xb1, 0xd8, 0x91, 0x69, 0x76, 0x6c, 0x63, 0x18, 0x81, 0x1f, 0x5a, 0xa7, 0x30, 0x54,
 ];
 
 // The digest of the signature of it, by leaf 0.
 const FIRST_SIGNATURE: Digest = [
-    0x7b, 0x42, 0x40, 0xcb, 0x1c, 0x3b, 0x15, 0x8a, 0xa7, 0xab, 0x82, 0x87, 0xbd, 0x0f, 0x4a, 0x12,
-    0x26, 0xa7, 0xf9, 0xe0, 0xdb, 0x60, 0xaf, 0x29, 0xc7, 0x06, 0x1f, 0xd3, 0x28, 0xa4, 0xcd, 0xf8,
+    0xcc, 0x26, 0xd1, 0xa9, 0x01, 0x1a, 0xdd, 0x16, 0x9f, 0x1a, 0x5d, 0xf1, 0xf9, 0x4c, 0xf6, 0xb0,
+    0x86, 0x7c, 0xc5, 0x31, 0x24, 0x53, 0x54, 0x32, 0x2e, 0x31, 0x2b, 0x8f, 0x4b, 0xf2, 0x34, 0xb4,
+];
+
+// The digest of the request that founds a service which is opening, of 2,694 bytes.
+const REQUEST: Digest = [
+    0x42, 0x4b, 0x75, 0xdb, 0x04, 0xa1, 0x68, 0x35, 0x46, 0xdb, 0x87, 0x01, 0xae, 0xe3, 0x8b, 0x55,
+    0x76, 0x59, 0x79, 0x53, 0x41, 0x2b, 0x31, 0x72, 0xd1, 0xc3, 0x37, 0x67, 0x91, 0x62, 0x70, 0xac,
+];
+
+// The digest of the value of the node's row.
+const NODE_ROW: Digest = [
+    0x39, 0x2b, 0xd1, 0x6e, 0x0a, 0x03, 0x40, 0x64, 0x5a, 0x0e, 0xbf, 0xfb, 0xee, 0x42, 0x04, 0x02,
+    0x43, 0xc6, 0x9c, 0x89, 0x9f, 0x29, 0xc3, 0xf8, 0x13, 0xd0, 0xfd, 0x20, 0x53, 0xd6, 0xa1, 0x1f,
 ];
 
 // Whether the first entry's write with this number, from 0, sets this row, and the tables have it
@@ -31,7 +43,7 @@ fn rule_value(alloc: Global) -> Result<Vec<u8>, AllocError> {
     runs(alloc, &[(1, 1), (0, 1), (2, 1), (0, 1)])
 }
 
-// The value of the dealing's row, which is also the end of the request.
+// The value of the dealing's row.
 fn dealing_value(alloc: Global) -> Result<Vec<u8>, AllocError> {
     runs(
         alloc,
@@ -44,36 +56,11 @@ fn member_value(alloc: Global, key: u8) -> Result<Vec<u8>, AllocError> {
     runs(alloc, &[(1, 1), (key, 60), (0, 4)])
 }
 
-// The bytes of the node in the request, without its count.
-fn node_bytes(alloc: Global) -> Result<Vec<u8>, AllocError> {
-    runs(alloc, &[(7, 56), (2, 1), (0, 3), (0xaa, 1), (0xbb, 1)])
-}
-
-// The value of the node's row.
-fn node_value(alloc: Global) -> Result<Vec<u8>, AllocError> {
-    let mut value = runs(alloc, &[(1, 1), (0, 1), (2, 1)])?;
-    value.extend_from_slice(&node_bytes(alloc)?)?;
-    value.extend_from_slice(&[0; 8])?;
-    Ok(value)
-}
-
 // The value of the row of a service that is open.
 fn service_value(alloc: Global) -> Result<Vec<u8>, AllocError> {
-    runs(alloc, &[(2, 1), (0, 1), (9, 60)])
-}
-
-// The bytes of the members in the request, behind their count.
-fn members_bytes(alloc: Global) -> Result<Vec<u8>, AllocError> {
-    runs(alloc, &[(2, 1), (1, 1), (3, 60), (2, 1), (4, 60)])
-}
-
-// The bytes of the request that founds a service which is opening.
-fn genesis_request(alloc: Global) -> Result<Vec<u8>, AllocError> {
-    let mut request = runs(alloc, &[(1, 2), (9, 60), (1, 1)])?;
-    request.extend_from_slice(&node_bytes(alloc)?)?;
-    request.extend_from_slice(&members_bytes(alloc)?)?;
-    request.extend_from_slice(&dealing_value(alloc)?)?;
-    Ok(request)
+    let mut value = runs(alloc, &[(2, 1), (0, 1)])?;
+    value.extend_from_slice(&IDENTITY)?;
+    Ok(value)
 }
 
 #[test]
@@ -113,8 +100,10 @@ fn opens_with_the_rows_of_its_members(rt: HostRuntime) -> Result<(), Fail> {
 #[test]
 fn opens_with_the_rows_of_its_node_and_service(rt: HostRuntime) -> Result<(), Fail> {
     let store = opened(rt.alloc(), ServiceState::Open)?;
-    let node = node_value(rt.alloc())?;
-    assert!(rt; has_row(&store, 10, b"public:ccf.gov.nodes", &NODE, &node));
+    let map = b"public:ccf.gov.nodes";
+    let node = store.tables().get(map, &NODE).ok_or("no row")?;
+    assert_eq!(rt; Sha256::digest(node), NODE_ROW);
+    assert!(rt; has_row(&store, 10, map, &NODE, node));
     let service = service_value(rt.alloc())?;
     assert!(rt; has_row(&store, 11, b"public:ccf.gov.service", b"s", &service));
     let entry = store.entry(1).ok_or("no entry")?;
@@ -122,10 +111,10 @@ fn opens_with_the_rows_of_its_node_and_service(rt: HostRuntime) -> Result<(), Fa
     Ok(())
 }
 
-// Whether the content is a request of governance with these bytes.
-fn is_governance_of(content: &Content, request: &[u8]) -> bool {
+// Whether the content is a request of governance whose bytes have this digest.
+fn is_governance_of(content: &Content, digest: &Digest) -> bool {
     match content {
-        Content::Governance(bytes) => bytes.as_slice() == request,
+        Content::Governance(bytes) => Sha256::digest(bytes.as_slice()) == *digest,
         _ => false,
     }
 }
@@ -135,7 +124,7 @@ fn opens_with_its_genesis(rt: HostRuntime) -> Result<(), Fail> {
     let store = opened(rt.alloc(), ServiceState::Opening)?;
     let entry = store.entry(1).ok_or("no entry")?;
     assert_eq!(rt; id_of(entry), TxId { view: 2, seqno: 1 });
-    assert!(rt; is_governance_of(&entry.content, &genesis_request(rt.alloc())?));
+    assert!(rt; is_governance_of(&entry.content, &REQUEST));
     assert_eq!(rt; entry.claims, [0; 32]);
     Ok(())
 }

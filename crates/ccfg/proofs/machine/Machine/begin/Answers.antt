@@ -1,5 +1,10 @@
+use Rattle.std.proofs.Common.{◌∙◌, ap}
+use Rattle.sha2.specs.Sha256.{sha256}
+use Rattle.gl_lms.specs.Tree.{key_bytes}
+use Rattle.gl_lms.specs.Secrets.{public_of}
+use Rattle.gl_hss.specs.Signer.{Signer}
 use Rattle.ccfg.specs.declared.machine.Machine.{Machine}
-use Rattle.ccfg.proofs.MachineLemmas.{first_reserved, begin_machine}
+use Rattle.ccfg.proofs.MachineLemmas.{first_reserved, begin_machine, opening_accepted, opening_named, opening_signs}
 use Rattle.ccfg.proofs.machine.Machine.begin.Goals as goal
 
 pub returns-clause-machine : goal.returns-clause-machine
@@ -19,3 +24,18 @@ returns-clause-node c =
     (begin_machine machine f.genesis f.signer c.reserve.new.self c.requires made.genesis made.signer c.node_id-id.ensures
     (first_reserved c.args.settings f.signer c.reserve.new.self c.reserve.result made.signer c.reserve.ensures.exhausted c.reserve.ensures.ok)
     c.in_ok-store.ensures.spent c.in_ok-store.ensures.opened).1
+
+pub opening-requires-clause-accepted : goal.opening-requires-clause-accepted
+opening-requires-clause-accepted c = opening_accepted c.args.settings c.requires c.in_ok-founding.founding.genesis c.in_ok-founding.ensures.genesis
+
+pub opening-requires-clause-named : goal.opening-requires-clause-named
+opening-requires-clause-named c =
+    opening_named c.args.settings c.requires c.in_ok-founding.founding.genesis c.in_ok-founding.ensures.genesis c.node_id-id.result
+    (c.node_id-id.ensures ∙ ap (λ (k : Signer). sha256 (key_bytes (public_of k.key))) c.in_ok-founding.ensures.signer)
+
+pub opening-requires-clause-signer : goal.opening-requires-clause-signer
+opening-requires-clause-signer c =
+    let made = c.in_ok-founding.ensures in
+    opening_signs c.args.settings c.requires c.node_id-id.result (c.node_id-id.ensures ∙ ap (λ (k : Signer). sha256 (key_bytes (public_of k.key))) made.signer)
+    c.in_ok-founding.founding.genesis made.genesis c.reserve.new.self
+    (first_reserved c.args.settings c.in_ok-founding.founding.signer c.reserve.new.self c.reserve.result made.signer c.reserve.ensures.exhausted c.reserve.ensures.ok)

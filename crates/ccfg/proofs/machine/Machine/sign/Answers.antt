@@ -1,5 +1,5 @@
 use Rattle.std.proofs.Common.{arith}
-use Rattle.ccfg.proofs.MachineLemmas.{ready, sign_unreserved, sign_nothing, sign_signs, sign_refused}
+use Rattle.ccfg.proofs.MachineLemmas.{machine_recorded, machine_records, machine_signs, ready, sign_unreserved, sign_nothing, sign_signs, sign_refused}
 use Rattle.ccfg.proofs.machine.Machine.sign.Goals as goal
 
 pub returns-then-used-reserved-clause-steps : goal.returns-then-used-reserved-clause-steps
@@ -11,6 +11,15 @@ pub returns-then-last_signature-len-clause-steps : goal.returns-then-last_signat
 returns-then-last_signature-len-clause-steps c =
     rw c.ledger_len-len.ensures.len (sign_nothing c.args.self.now c.requires (λ p. absurd (omega (arith, p, c.used.ensures.value, c.reserved-reserved.ensures.value, c.if-used-reserved.false)))
     (omega (arith, c.ledger_len-len.ensures.len, c.last_signature.ensures, c.if-last_signature-len.true)))
+
+pub sign-requires-clause-recorded : goal.sign-requires-clause-recorded
+sign-requires-clause-recorded c = machine_recorded c.args.self.now c.requires
+
+pub sign-requires-clause-commit : goal.sign-requires-clause-commit
+sign-requires-clause-commit c = machine_records c.args.self.now c.requires
+
+pub sign-requires-clause-signer : goal.sign-requires-clause-signer
+sign-requires-clause-signer c = machine_signs c.args.self.now c.requires
 
 pub sign-requires-clause-ready : goal.sign-requires-clause-ready
 sign-requires-clause-ready c = ready c.args.self.now c.requires (omega (arith, c.used.ensures.value, c.reserved-reserved.ensures.value, c.if-used-reserved.false))

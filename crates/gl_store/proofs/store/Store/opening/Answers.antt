@@ -21,7 +21,7 @@ push_entry-requires-2-clause-above c =
     let new = c.push_entry.new.state in
     let made = c.in_ok-state.ensures in
     let pushed = c.in_ok-push_entry.ensures in
-    founded_below g new.entries.items new.tables new.frontier _ c.requires.acceptable c.requires.fits
+    founded_below g new.entries.items new.tables new.frontier _ c.requires.accepted c.requires.fits
     (subst (λ (e : Entry). is_entry e ≡ true) c.in_ok-founding.ensures.made c.in_ok-founding.ensures.fits)
     (founded g log.entries.items new.entries.items log.tables new.tables log.frontier new.frontier c.in_ok-founding.founding
     made.entries made.tables made.from_start made.base made.peaks made.leaves c.in_ok-founding.ensures.made pushed.entries (record { stands = pushed.tables; base = pushed.base }) pushed.leaves)
@@ -36,8 +36,9 @@ invariant_of-result c =
     let made = c.in_ok-state.ensures in
     let pushed = c.in_ok-push_entry.ensures in
     let again = c.in_ok-push_entry-2.ensures in
-    kept_opening g c.args.node _ first.entries.items new.entries.items first.tables new.tables first.frontier new.frontier c.in_ok-opening.opening
-    c.requires.acceptable c.requires.fits (subst (λ (e : Entry). is_entry e ≡ true) c.in_ok-founding.ensures.made c.in_ok-founding.ensures.fits)
+    kept_opening g c.args.node c.args.signer.now first.entries.items new.entries.items first.tables new.tables first.frontier new.frontier c.in_ok-opening.opening
+    c.requires.accepted c.requires.fits (subst (λ (e : Entry). is_entry e ≡ true) c.in_ok-founding.ensures.made c.in_ok-founding.ensures.fits)
+    c.requires.named c.requires.signer c.in_ok-opening.ensures.leaf
     (founded g log.entries.items first.entries.items log.tables first.tables log.frontier first.frontier c.in_ok-founding.founding
     made.entries made.tables made.from_start made.base made.peaks made.leaves c.in_ok-founding.ensures.made pushed.entries (record { stands = pushed.tables; base = pushed.base }) pushed.leaves)
     c.in_ok-opening.ensures.made c.in_ok-opening.ensures.fits again.entries (record { stands = again.tables; base = again.base }) again.leaves

@@ -17,5 +17,5 @@ invariant_of-self-2 c =
     let entries : c.push.new.self.items ≡ c.self.inside.entries.items ++ c.in_ok-entry.entry ∷ [] = search rules in (
       size,
       subst AreInOrder (sym entries)
-          (in_order-push c.self.inside.entries.items c.in_ok-entry.entry c.self.invariant.1 at c.in_ok-entry.ensures.found.0),
+          (in_order-push c.self.inside.entries.items c.in_ok-entry.entry c.self.invariant.1 at),
     )

@@ -1,7 +1,7 @@
 use Rattle.std.proofs.Common.{◌≡◌, rules, subst}
 use Rattle.std.specs.Option.{option_copied}
 use Rattle.gl_receipt.specs.Made.{entry_at}
-use Rattle.gl_receipt.proofs.OrderLemmas.{AreInOrder, entry_numbered, entry_fits}
+use Rattle.gl_receipt.proofs.OrderLemmas.{AreInOrder, entry_numbered}
 use Rattle.gl_receipt.proofs.tests.mem_ledger.MemLedgerCommittedLedger.entry.Goals as goal
 
 pub returns-clause-numbered : goal.returns-clause-numbered
@@ -9,9 +9,3 @@ returns-clause-numbered c =
     let same : c.self.inside.entries.items ≡ c.args.self.now.entries = search rules in
     let there : option_copied c.entry_in.result ≡ entry_at c.args.self.now.entries c.args.seqno = search rules in
     entry_numbered c.args.self.now.entries c.args.seqno c.entry_in.result (subst AreInOrder same c.self.invariant.1) there
-
-pub returns-clause-fits : goal.returns-clause-fits
-returns-clause-fits c =
-    let same : c.self.inside.entries.items ≡ c.args.self.now.entries = search rules in
-    let there : option_copied c.entry_in.result ≡ entry_at c.args.self.now.entries c.args.seqno = search rules in
-    entry_fits c.args.self.now.entries c.args.seqno c.entry_in.result (subst AreInOrder same c.self.invariant.1) there

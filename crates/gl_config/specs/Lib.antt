@@ -1,0 +1,3 @@
+pub mod NodeSet
+pub mod Stages
+pub mod Active

@@ -1,0 +1,9 @@
+pub mod AnswerLaws
+pub mod AppendLaws
+pub mod Appending
+pub mod ClientLaws
+pub mod CodecLaws
+pub mod FieldLaws
+pub mod MessageLaws
+pub mod StreamLaws
+pub mod Tagged

@@ -1,0 +1,7 @@
+pub mod Answer
+pub mod Client
+pub mod Codec
+pub mod Fields
+pub mod Frames
+pub mod Message
+pub mod MessageReading

@@ -3,8 +3,6 @@
 # made from their seeds, and 10,000 puts with the 31 signatures that a key of 32 leaves has left. All times are least processor
 # times of whole runs of the built program, each divided by the time of as many digests of one block, of a program that does
 # nothing else. Fails where one is above its limit.
-import os
-import subprocess
 import sys
 import tempfile
 
@@ -13,55 +11,18 @@ import program
 LIMITS = {"begin with 64 members": 1.25, "10,000 puts and 31 signatures": 1.7}
 LEAVES, CHAINS, ROUNDS = 32, 67, 5
 
-DIGESTS = """#![tactic(auto)]
-
-use sha2::{Digest, Sha256};
-
-fn main(rt: HostRuntime) -> Result<(), anyhow::Error> {
-    let mut value = [7; 32];
-    for _ in 0..5_000_000u32 {
-        value = Sha256::digest(value.as_slice());
-    }
-    println!(rt; "{}", value[0])?;
-    Ok(())
-}
-"""
-
-
-def blocks(length):
-    return (length + 9 + 63) // 64
-
-
 # Of a key: each chain's secret and its 15 steps, the key and the node of each leaf, and the nodes above.
-KEY = LEAVES * (CHAINS * 16 + blocks(22 + 32 * CHAINS) + blocks(54)) + (LEAVES - 1) * blocks(86)
-
+KEY = LEAVES * (CHAINS * 16 + program.blocks(22 + 32 * CHAINS) + program.blocks(54)) + (LEAVES - 1) * program.blocks(86)
 
 # A signature's chains, whose digits are 7 or 8 at the mean, the message's digest, and the randomizer.
-SIGNATURE = CHAINS * 8 + blocks(54 + 52) + 1
+SIGNATURE = CHAINS * 8 + program.blocks(54 + 52) + 1
 
 
 # Of an entry whose body has so many bytes: the body's digest, that of the reply, the two of its commit evidence, its leaf, and
 # one node of the tree.
 def entry(body, reply):
-    return blocks(body) + (blocks(reply) if reply else 0) + blocks(72) + blocks(76) + blocks(96) + blocks(64)
-
-
-# The time of one digest of one block.
-def digest(work):
-    crate = os.path.join(work, "crates", "digests")
-    os.makedirs(os.path.join(crate, "src"))
-    for path, text in [
-        (os.path.join(work, "crates.txt"), "digests: sha2 anyhow\n"),
-        (os.path.join(crate, "stdin"), ""),
-        (os.path.join(crate, "src", "main.rt"), DIGESTS),
-    ]:
-        with open(path, "w") as file:
-            file.write(text)
-    made = subprocess.run(["rt", "run"], cwd=crate, stdout=subprocess.PIPE, stderr=subprocess.STDOUT, text=True)
-    if made.returncode != 0:
-        sys.exit(made.stdout)
-    command = [os.path.join(crate, "out", "digests")]
-    return min(program.run(command, os.devnull, f"{work}/out")[0] for _ in range(ROUNDS)) / 5_000_000
+    parts = [body, 72, 76, 96, 64] + ([reply] if reply else [])
+    return sum(program.blocks(length) for length in parts)
 
 
 def members():
@@ -81,13 +42,13 @@ def main():
     program.build()
     ratios = {}
     with tempfile.TemporaryDirectory() as work:
-        one = digest(work)
+        one = program.digest(work)
         time, _, _, lines = program.replay(work, members(), ROUNDS)
         assert lines == ["1 ok"], lines
         ratios["begin with 64 members"] = time / (66 * KEY * one)
         time, _, _, lines = program.replay(work, puts(), ROUNDS)
         assert sum(" signed " in line for line in lines) == 31 and not any(" refused " in line for line in lines)
-        needed = 3 * KEY + 33 * SIGNATURE + 10_000 * entry(99, 3) + 32 * (entry(4_885, 0) + 14 * blocks(64))
+        needed = 3 * KEY + 33 * SIGNATURE + 10_000 * entry(99, 3) + 32 * (entry(4_885, 0) + 14 * program.blocks(64))
         ratios["10,000 puts and 31 signatures"] = time / (needed * one)
         for name, ratio in ratios.items():
             print(f"{name}: {ratio:.2f} times its digests, at most {LIMITS[name]}")

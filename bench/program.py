@@ -7,6 +7,21 @@ CRATE = os.path.join(os.path.dirname(os.path.abspath(__file__)), "..", "crates",
 PROGRAM = os.path.join(CRATE, "out", "ccfg")
 WORLD = "world 1 0 1 open " + "00" * 32
 
+# Digests of one block, one after the other, and nothing else.
+DIGESTS = """#![tactic(auto)]
+
+use sha2::{Digest, Sha256};
+
+fn main(rt: HostRuntime) -> Result<(), anyhow::Error> {
+    let mut value = [7; 32];
+    for _ in 0..5_000_000u32 {
+        value = Sha256::digest(value.as_slice());
+    }
+    println!(rt; "{}", value[0])?;
+    Ok(())
+}
+"""
+
 
 # Proves the program and compiles it, where that was not done yet.
 def build():
@@ -40,3 +55,26 @@ def replay(work, lines, times):
     with open(out) as file:
         written = file.read().splitlines()
     return min(time for time, _ in runs), max(peak for _, peak in runs), os.path.getsize(text), written
+
+
+# The blocks of SHA-256's input of so many bytes.
+def blocks(length):
+    return (length + 9 + 63) // 64
+
+
+# The time of one digest of one block.
+def digest(work):
+    crate = os.path.join(work, "crates", "digests")
+    os.makedirs(os.path.join(crate, "src"))
+    for path, text in [
+        (os.path.join(work, "crates.txt"), "digests: sha2 anyhow\n"),
+        (os.path.join(crate, "stdin"), ""),
+        (os.path.join(crate, "src", "main.rt"), DIGESTS),
+    ]:
+        with open(path, "w") as file:
+            file.write(text)
+    made = subprocess.run(["rt", "run"], cwd=crate, stdout=subprocess.PIPE, stderr=subprocess.STDOUT, text=True)
+    if made.returncode != 0:
+        sys.exit(made.stdout)
+    command = [os.path.join(crate, "out", "digests")]
+    return min(run(command, os.devnull, f"{work}/out")[0] for _ in range(5)) / 5_000_000

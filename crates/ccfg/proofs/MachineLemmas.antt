@@ -44,7 +44,7 @@ use Rattle.gl_ledger.proofs.Following.{book_sign_ok}
 use Rattle.gl_ledger.proofs.Growth.{IsNoGovernance}
 use Rattle.gl_ledger.proofs.Signatures.{last_is_signed, signed_at_last, last_if_signed}
 use Rattle.gl_store.specs.Kept.{Held}
-use Rattle.gl_store.specs.Calls.{Executes, Signs, SignsFor, IsReady, signature_of}
+use Rattle.gl_store.specs.Calls.{Executes, Signs, SignsFor, signature_of}
 use Rattle.gl_world.specs.declared.settings.Settings.{Settings}
 use Rattle.gl_world.specs.Keys.{private_key, node_seed}
 use Rattle.gl_world.specs.Founding.{id_of, genesis_of, keys_of, endorsement_of, signer_of, number_of}
@@ -183,11 +183,6 @@ opening_signs s h x is g founded signer same =
       reserved = omega arith;
     }))
 
-pub opening_ready : (s : Settings) → (signer : Signer) → signer ≡ record (signer_of s 1) { reserved = 1 } → IsReady signer
-opening_ready s signer same =
-    let long = length-endorsement_of s 1 (omega arith, omega arith) in
-    subst IsReady (sym same) (record { reserved = omega arith; endorsement = omega (arith, long) })
-
 pub opening_accepted : (s : Settings) → IsSingle s → (g : request.Genesis) → g ≡ genesis_of s → genesis_fault service_layers g ≡ None
 opening_accepted s h g founded = ap (genesis_fault service_layers) founded ∙ (group_founds s (single_group s h)).accepted
 
@@ -212,16 +207,6 @@ machine_signs m h =
     (subst (λ (n : Node Entry). identity_in (tables_of n.log) ≡ (genesis_of m.settings).identity) h.reached
     (group_identity m.settings (single_group m.settings h.single) h.events m.id (ap (λ (n : Node Entry). n.role) h.reached)))
     m.signer h.signer
-
--- it is ready to sign where a reserved leaf is left
-pub ready : (m : Machine) → IsMachine m → m.signer.used < m.signer.reserved → IsReady m.signer
-ready m h left =
-    let one = one_numbered m.settings h.single m.id h.named in
-    let long = length-endorsement_of m.settings (number_of m.settings m.id) (omega (arith, one), omega (arith, one)) in
-    record {
-      reserved = left;
-      endorsement = subst (λ (o : Option (List ℕ)). IfSome o (λ (bytes : List ℕ). length bytes ≤ 2 ^ 15)) (sym h.signer.endorsement) (omega (arith, long));
-    }
 
 -- what the book of the service makes at the machine is not guarded
 executes-is : (m : Machine) → IsMachine m → (q : List Operation) → (book_of m.settings).execute m.store.ledger 2 q ≡ request_result m.store.ledger 2 q

@@ -49,7 +49,7 @@ impl Machine {
         let id = founding.node_id();
         // No leaf of the new key is reserved yet, so one is left.
         let _ = founding.signer.reserve();
-        let store = Store::opening(alloc, &founding.genesis, id, &mut founding.signer)?;
+        let store = Store::begin(alloc, &founding.genesis, id, &mut founding.signer)?;
         Ok(Machine {
             settings,
             id,
@@ -66,6 +66,7 @@ impl Machine {
             self.new outcome) }
         ensures goes_on { OnOk result (GoesOn self.old self.new) }
     {
+        prove!(self.store.commit() <= self.store.ledger_len());
         match self.store.execute(VIEW, request) {
             Ok((id, reply)) => Ok(Outcome::Accepted(id, reply)),
             Err(OrNoMemory::Fault(why)) => Ok(Outcome::Refused(Refusal::Store(why))),

@@ -66,7 +66,7 @@ fn read_content(alloc: Global, cut: &mut Cut<'_>) -> Result<Content, OrNoMemory<
     Ok(content_of(alloc, kind, place, request).map_err(OrNoMemory::widen)?)
 }
 
-fn is_no_digest(digest: &Digest) -> bool
+pub(crate) fn is_no_digest(digest: &Digest) -> bool
     ensures { result ≡ is_no_digest digest.now }
 {
     same_bytes(digest, &[0; 32])
@@ -84,13 +84,13 @@ fn read_claims(cut: &mut Cut<'_>, may_claim: bool) -> Result<Digest, OrNoMemory<
     Ok(claims)
 }
 
-fn may_write(content: &Content) -> bool
+pub(crate) fn may_write(content: &Content) -> bool
     ensures { result ≡ may_write content.now }
 {
     matches!(content, Content::Governance(_) | Content::Application(_))
 }
 
-fn may_claim(content: &Content) -> bool
+pub(crate) fn may_claim(content: &Content) -> bool
     ensures { result ≡ may_claim content.now }
 {
     matches!(content, Content::Application(_))

@@ -6,7 +6,7 @@ ghost use Rattle.gl_base.specs.Answers.{Answers};
 ghost use Rattle.gl_base.specs.Cut.{Gives, bytes_at};
 ghost use Rattle.gl_base.specs.Code.{whole_at};
 ghost use Rattle.gl_base.specs.Field.{with_u32_length};
-ghost use Rattle.gl_entry.specs.Entry.{kind_tag, signature_bytes, content_bytes};
+ghost use Rattle.gl_entry.specs.Entry.{kind_tag, recorded_commit, signature_bytes, content_bytes};
 ghost use Rattle.gl_entry.specs.Reading.{signature_at, evidence_at, content_of};
 
 use crate::entry::{BODY_LIMIT, Content, Digest, Signature};
@@ -23,6 +23,18 @@ pub(crate) fn kind_tag(content: &Content) -> u8
         Content::Application(_) => 2,
         Content::Signature(_) => 3,
         Content::Evidence(_) => 4,
+    }
+}
+
+impl Content {
+    /// The commit that a signature records, 0 for any other entry.
+    pub fn recorded_commit(&self) -> u64
+        ensures { result ≡ recorded_commit self.now }
+    {
+        match self {
+            Content::Signature(signature) => signature.commit,
+            _ => 0,
+        }
     }
 }
 

@@ -1,23 +1,50 @@
 //! How many bytes entries have, of which none are made.
 
-ghost use Rattle.std.specs.Prelude.{◌≡◌, ◌*◌, ◌^◌, ◌<◌, ◌≤◌, length};
+ghost use Rattle.std.specs.Prelude.{◌≡◌, ◌*◌, ◌^◌, ◌<◌, ◌≤◌, length, true};
 ghost use Rattle.std.specs.List.{flat_map};
 ghost use Rattle.std.specs.Option.{option_copied};
+ghost use Rattle.gl_base.specs.Bytes.{are_bytes};
 ghost use Rattle.gl_base.specs.Row.{optional_value_bytes};
-ghost use Rattle.gl_entry.specs.Entry.{write_bytes, content_bytes, body_bytes, frame_size};
+ghost use Rattle.gl_entry.specs.Entry.{write_bytes, signature_bytes, content_bytes, body_bytes, frame_size, is_digest, is_recorded_signature, is_content};
 
-use crate::contents::signature_len;
-use crate::entry::{Content, Entry};
+use crate::entry::{Content, Digest, Entry, Signature};
 use gl_vmaps::{Value, Write};
 
-fn content_len(content: &Content) -> u64
-    requires { length (content_bytes content.now) < 2 ^ 32 }
-    ensures { result ≡ length (content_bytes content.now) }
+// Each number in a list of the type is a byte: here that is said of the list that contracts see.
+fn bytes_len(bytes: &[u8]) -> u64
+    ensures len { result ≡ length bytes.now }
+    ensures bytes { are_bytes bytes.now ≡ true }
+{
+    bytes.len() as u64
+}
+
+fn digest_len(digest: &Digest) -> u64
+    ensures len { result ≡ length digest.now }
+    ensures fits { is_digest digest.now ≡ true }
+{
+    digest.as_slice().len() as u64
+}
+
+#[tactic(auto, using(crate::proofs::Sizes::signature_size))]
+fn signature_len(signature: &Signature) -> u64
+    ensures len { result ≡ length (signature_bytes signature.now) }
+    ensures fits { is_recorded_signature signature.now ≡ true }
+{
+    let digests = digest_len(&signature.node) + digest_len(&signature.root);
+    digests + bytes_len(signature.signature.as_slice()) + 12
+}
+
+/// How many bytes the content has. Its fields are in their ranges, as its type has it.
+pub(crate) fn content_len(content: &Content) -> u64
+    ensures len { result ≡ length (content_bytes content.now) }
+    ensures fits { is_content content.now ≡ true }
 {
     match content {
-        Content::Governance(request) | Content::Application(request) => request.len() as u64,
-        Content::Signature(signature) => u64::from(signature_len(signature)),
-        Content::Evidence(digest) => digest.as_slice().len() as u64,
+        Content::Governance(request) | Content::Application(request) => {
+            bytes_len(request.as_slice())
+        }
+        Content::Signature(signature) => signature_len(signature),
+        Content::Evidence(digest) => digest_len(digest),
     }
 }
 

@@ -9,6 +9,7 @@ mod contents;
 mod copies;
 mod entry;
 mod fault;
+mod fits;
 mod frame;
 mod leaves;
 mod lengths;

@@ -5,7 +5,8 @@ use Rattle.std.proofs.lemmas.Bool.{cases_lt}
 use Rattle.gl_entry.specs.declared.entry.Entry.{Entry}
 use Rattle.gl_base.proofs.Lists.{slice_get-within}
 use Rattle.gl_ledger.specs.Layers.{Layers}
-use Rattle.gl_ledger.specs.Broken.{Broken, broken}
+use Rattle.gl_ledger.specs.declared.breach.Broken.{Broken}
+use Rattle.gl_ledger.specs.Broken.{broken}
 use Rattle.gl_ledger.specs.Audit.{LedgerFault, fault_or, fault_from, audited, IsFaultOf}
 
 module _ (layers : Layers) where

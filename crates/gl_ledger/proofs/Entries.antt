@@ -16,23 +16,9 @@ use Rattle.gl_vmaps.proofs.WriteLaws.{list_all-from_writes}
 use Rattle.gl_entry.specs.Entry.{no_digest, content_bytes, body_bytes, body_limit, kind_tag, is_digest, is_content, may_write, may_claim, are_no_writes, is_no_digest, is_entry}
 use Rattle.gl_entry.specs.declared.entry.Content.TheVariants as content
 use Rattle.gl_entry.specs.declared.entry.Entry.{Entry}
+use Rattle.gl_entry.proofs.Fitting.{is_digest-from}
 
 -- ---- sizes
-
--- each write has a byte at least
-optional_value_some : (o : Option (List ℕ)) → 1 ≤ length (optional_value_bytes o)
-optional_value_some None = omega arith
-optional_value_some (Some value) = omega arith
-
-few_in : (ws : List Write) → length ws ≤ length (flat_map write_bytes ws)
-few_in [] = omega arith
-few_in (w ∷ ws) =
-    let rest : length ws ≤ length (flat_map write_bytes ws) = few_in ws in
-    let one : 1 ≤ length (optional_value_bytes w.value) = optional_value_some w.value in
-    let first : length (write_bytes w) ≡ length (map_name_bytes w.map ++ key_bytes w.key) + length (optional_value_bytes w.value) =
-    length-append (map_name_bytes w.map ++ key_bytes w.key) (optional_value_bytes w.value) in
-    let all : length (write_bytes w ++ flat_map write_bytes ws) ≡ length (write_bytes w) + length (flat_map write_bytes ws) = length-append (write_bytes w) (flat_map write_bytes ws) in
-    omega arith
 
 body_length : (view place tag count : ℕ) (recorded writes claims : List ℕ) →
     length (little_endian 4 view ++ little_endian 8 place ++ (tag ∷ little_endian 4 (length recorded) ++ recorded) ++ little_endian 4 count ++ writes ++ claims)
@@ -43,19 +29,7 @@ body_length view place tag count recorded writes claims = simp (length-append, l
 pub length-body_bytes : (e : Entry) → length (body_bytes e) ≡ 21 + length (content_bytes e.content) + length (flat_map write_bytes e.writes) + length e.claims
 length-body_bytes e = body_length e.view e.seqno (kind_tag e.content) (length e.writes) (content_bytes e.content) (flat_map write_bytes e.writes) e.claims
 
--- what it records, and how many writes it has, are no more than its bytes
-pub content_within : (e : Entry) → length (content_bytes e.content) ≤ length (body_bytes e)
-content_within e = omega (arith, length-body_bytes e)
-
-pub writes_within : (e : Entry) → length e.writes ≤ length (body_bytes e)
-writes_within e = omega (arith, length-body_bytes e, few_in e.writes)
-
 -- ---- ranges
-
-pub is_digest-from : (xs : List ℕ) → length xs ≡ 32 → AreBytes xs → is_digest xs ≡ true
-is_digest-from xs long all =
-    let size : (length xs == 32) ≡ true = grind (arith, nat_tests) in
-    and_from (length xs == 32) (are_bytes xs) size (are_bytes-true xs all)
 
 -- the fields of an entry are in their ranges
 pub record HasFields (e : Entry) : Type 0 where

@@ -24,7 +24,8 @@ use Rattle.gl_ledger.specs.declared.recording.Recording.{Recording}
 use Rattle.gl_ledger.specs.declared.recording.Recording.TheVariants as recordings
 use Rattle.gl_ledger.specs.Recordings.{requests_of, removal, mark, recording_of}
 use Rattle.gl_ledger.specs.Acceptance.{request_fault}
-use Rattle.gl_ledger.specs.Broken.{Broken, broken, broken_by}
+use Rattle.gl_ledger.specs.declared.breach.Broken.{Broken}
+use Rattle.gl_ledger.specs.Broken.{broken, broken_by}
 use Rattle.gl_ledger.specs.Makers.{Given, Replied, Governed, Unmade, Unspelled, with_reply, request_result, by_store, unless_fault, unless_broken, guarded, governance_entry, govern_result, signed_entry, signing_result}
 use Rattle.gl_ledger.specs.LedgerBook.{ServiceBook, by_rule, ledger_book}
 use Rattle.gl_ledger.proofs.Passing.{passing}

@@ -39,3 +39,4 @@ pub mod Acceptances
 pub mod SignatureMeanings
 pub mod Valid
 pub mod NodeRows
+pub mod Accepted

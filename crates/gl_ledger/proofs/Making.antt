@@ -38,7 +38,8 @@ use Rattle.gl_ledger.specs.declared.recording.Recording.{Recording}
 use Rattle.gl_ledger.specs.declared.recording.Recording.TheVariants as recordings
 use Rattle.gl_ledger.specs.Recordings.{governance_recording, application_recording, is_founding, is_signing, last_entry, founds, requests_of, recorded_nodes, removal, mark}
 use Rattle.gl_ledger.specs.Acceptance.{required, request_fault}
-use Rattle.gl_ledger.specs.Broken.{Broken, breach, is_next_view, is_unopened, is_in_order, broken_of_run, broken_in_state, effect_writes, unless_refused, with_writes, signs_at, last_signed, commit_behind, commit_from, last_commit, is_above_removal, is_later_commit, may_record, broken_by_fault, are_same_writes, broken}
+use Rattle.gl_ledger.specs.declared.breach.Broken.{Broken}
+use Rattle.gl_ledger.specs.Broken.{breach, is_next_view, is_unopened, is_in_order, broken_of_run, broken_in_state, effect_writes, unless_refused, with_writes, signs_at, last_signed, commit_behind, commit_from, last_commit, is_above_removal, is_later_commit, may_record, broken_by_fault, are_same_writes, broken}
 use Rattle.gl_ledger.specs.Makers.{Given, Replied, Unspelled, MayMake, with_reply, request_result, guarded, unless_broken, governance_entry, signature_made, signed_entry, MakesValid}
 use Rattle.gl_ledger.specs.LedgerBook.{ledger_book}
 use Rattle.gl_ledger.proofs.SameWrites.{same_bytes_self, same_writes_self}

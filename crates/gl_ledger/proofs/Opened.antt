@@ -33,7 +33,8 @@ use Rattle.gl_ledger.specs.declared.recording.Recording.{Recording}
 use Rattle.gl_ledger.specs.declared.recording.Recording.TheVariants as recordings
 use Rattle.gl_ledger.specs.Recordings.{last_entry, recording_of, governance_recording, application_recording, is_founding, records_founding, is_signing, founds, requests_of, recorded_at, recorded_in, nodes_of, trusted_of, changed_set, recorded_nodes, trusted_nodes, configuration}
 use Rattle.gl_ledger.specs.Acceptance.{genesis_fault}
-use Rattle.gl_ledger.specs.Broken.{Broken, unless_refused, is_in_order, is_unopened, broken_by, is_later_commit, may_record}
+use Rattle.gl_ledger.specs.declared.breach.Broken.{Broken}
+use Rattle.gl_ledger.specs.Broken.{unless_refused, is_in_order, is_unopened, broken_by, is_later_commit, may_record}
 use Rattle.gl_ledger.specs.Makers.{opening_of}
 use Rattle.gl_ledger.specs.LedgerBook.{ledger_book, by_rule}
 use Rattle.gl_ledger.specs.Audit.{LedgerFault, audited, signer_in, signer_of, opened_where, opened_unless, opened}

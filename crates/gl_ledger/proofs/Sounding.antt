@@ -44,7 +44,8 @@ use Rattle.gl_ledger.specs.declared.recording.Recording.TheVariants as recording
 use Rattle.gl_ledger.specs.Recordings.{governance_recording, application_recording, is_founding, records_founding, is_signing, last_entry, recording_of, founds, requests_of, recorded_nodes}
 use Rattle.gl_ledger.specs.Changes.{are_rows}
 use Rattle.gl_ledger.specs.Acceptance.{request_fault}
-use Rattle.gl_ledger.specs.Broken.{Broken, is_next_view, is_in_order, are_same_writes, broken_in_state, effect_writes, unless_refused, broken_by_fault, may_record, fault_of_signature, broken_by, broken}
+use Rattle.gl_ledger.specs.declared.breach.Broken.{Broken}
+use Rattle.gl_ledger.specs.Broken.{is_next_view, is_in_order, are_same_writes, broken_in_state, effect_writes, unless_refused, broken_by_fault, may_record, fault_of_signature, broken_by, broken}
 use Rattle.gl_ledger.specs.Sound.{IsFounded, IsGovernanceEntry, IsApplicationEntry, IsSignatureEntry, StandsAs, IsGoverned, IsSound}
 use Rattle.gl_ledger.proofs.TablesLaws.{tables_of-push}
 use Rattle.gl_ledger.proofs.WriteSets.{sets_value, is_ordered-set_from, list_all-set_from}

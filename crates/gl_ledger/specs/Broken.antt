@@ -29,6 +29,7 @@ use Rattle.gl_ledger.specs.Tree.{tables_of, leaves_of}
 use Rattle.gl_ledger.specs.declared.genesis.ServiceState.{ServiceState}
 use Rattle.gl_ledger.specs.declared.genesis.ServiceState.TheVariants.{Opening, Open}
 use Rattle.gl_ledger.specs.declared.genesis.GovernanceRequest.{GovernanceRequest}
+use Rattle.gl_ledger.specs.declared.breach.Broken.{Broken}
 use Rattle.gl_ledger.specs.declared.breach.GenesisFault.{GenesisFault}
 use Rattle.gl_ledger.specs.declared.breach.EntryRefusal.{EntryRefusal}
 use Rattle.gl_ledger.specs.declared.breach.EntryRefusal.TheVariants as refusals
@@ -38,11 +39,6 @@ use Rattle.gl_ledger.specs.declared.recording.Recording.TheVariants as recording
 use Rattle.gl_ledger.specs.Recordings.{is_founding, is_signing, last_entry, recording_of, founds, requests_of, recorded_nodes, removal, mark}
 use Rattle.gl_ledger.specs.Changes.{changes}
 use Rattle.gl_ledger.specs.Acceptance.{required, request_fault}
-
--- The number of a rule, and what an entry is refused for that breaks it.
-pub record Broken : Type 0 where
-  pub rule : ℕ
-  pub refusal : EntryRefusal
 
 -- At this seqno another digest is wanted than the one that is found.
 abbrev pub replay : ℕ → ℕ → List ℕ → List ℕ → Broken

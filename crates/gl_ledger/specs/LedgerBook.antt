@@ -10,7 +10,8 @@ use Rattle.gl_ledger.specs.declared.genesis.GovernanceRequest.{GovernanceRequest
 use Rattle.gl_ledger.specs.Layers.{Layers}
 use Rattle.gl_ledger.specs.NodeKeys.{NodeKeys, leaf_count}
 use Rattle.gl_ledger.specs.Recordings.{recorded_nodes, configuration, removal, mark}
-use Rattle.gl_ledger.specs.Broken.{Broken, broken}
+use Rattle.gl_ledger.specs.declared.breach.Broken.{Broken}
+use Rattle.gl_ledger.specs.Broken.{broken}
 use Rattle.gl_ledger.specs.Makers.{Given, Unmade, NoEvidenceYet, ByRule, guarded, request_result, govern_result, signing_result}
 
 -- For now no transaction notes what it reads.

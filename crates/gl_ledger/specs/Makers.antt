@@ -23,7 +23,8 @@ use Rattle.gl_ledger.specs.Layers.{Layers}
 use Rattle.gl_ledger.specs.NodeKeys.{NodeKeys, node_signature}
 use Rattle.gl_ledger.specs.Recordings.{last_entry, requests_of}
 use Rattle.gl_ledger.specs.Acceptance.{request_fault}
-use Rattle.gl_ledger.specs.Broken.{Broken, is_unopened, effect_writes, fault_of_signature, broken}
+use Rattle.gl_ledger.specs.declared.breach.Broken.{Broken}
+use Rattle.gl_ledger.specs.Broken.{is_unopened, effect_writes, fault_of_signature, broken}
 
 -- What a request is answered.
 pub data Given : Type 0 where

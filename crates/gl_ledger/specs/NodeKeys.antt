@@ -73,7 +73,6 @@ service_layers = hss_layers request_in
 
 -- The service's key endorses the node's, and the node's identifier is the digest of its public key,
 -- which has the form that RFC 8554 gives it; key and endorsement are bytes.
--- The key and the endorsement are bytes.
 pub record IsNodeKey (keys : NodeKeys) (identity : List ℕ) (x : NodeId) : Type 0 where
   pub form : IsKey (public_of (keys.key_of x))
   pub stands : StandsUnder (keys.key_of x) (Some (keys.endorsement_of x)) identity

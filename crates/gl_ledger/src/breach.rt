@@ -1,6 +1,10 @@
 //! Why an entry may not follow in a ledger.
 
+ghost use Rattle.std.specs.Prelude.{◌≡◌};
+ghost use Rattle.gl_base.specs.declared.or_no_memory.OrNoMemory.TheVariants.{Fault};
+
 use crate::genesis::ServiceState;
+use gl_base::OrNoMemory;
 use gl_entry::Digest;
 use gl_hss::HssFault;
 use gl_tx::Abort;
@@ -64,4 +68,22 @@ pub enum EntryRefusal {
         seqno: u64,
         fault: HssFault,
     },
+}
+
+/// The first rule of the audit that an entry breaks behind a ledger.
+#[derive(Clone, Copy, Debug, PartialEq, Eq, Error)]
+#[error("rule {rule}: {refusal}")]
+pub struct Broken {
+    /// The rule's number, from 1 to 12. The README of this crate tells the rules.
+    pub rule: u8,
+    /// What the entry is refused for.
+    pub refusal: EntryRefusal,
+}
+
+impl From<Broken> for OrNoMemory<Broken> {
+    ghost from_gives = { λ broken e. e ≡ Fault broken };
+
+    fn from(broken: Broken) -> OrNoMemory<Broken> {
+        OrNoMemory::Fault(broken)
+    }
 }

@@ -17,7 +17,7 @@ mod refusal;
 mod rows;
 
 pub use acceptance::genesis_fault;
-pub use breach::{EntryRefusal, GenesisFault};
+pub use breach::{Broken, EntryRefusal, GenesisFault};
 pub use encode::{genesis_bytes, state_byte};
 pub use genesis::{
     Dealing, Genesis, GovernanceRequest, HssPublicKey, LmsPublicKey, NewMember, NewNode,

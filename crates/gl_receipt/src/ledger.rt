@@ -15,8 +15,9 @@ pub trait CommittedLedger {
     // Its entries, their leaves, its commit and the service's key.
     ghost ledger: { Self → Ledger };
 
-    /// The service's key: an HSS public key (RFC 8554, section 6.1).
+    /// The service's key: an HSS public key (RFC 8554, section 6.1). The first entry names it.
     fn identity(&self) -> &[u8; 60]
+        requires { 0 < length (ledger self.now).entries }
         ensures { result.now ≡ (ledger self.now).identity };
 
     /// The seqno up to which the ledger is committed, itself included; 0 where nothing is.

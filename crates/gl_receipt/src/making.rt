@@ -1,8 +1,8 @@
 //! The receipts that a ledger gives.
 
-ghost use Rattle.std.specs.Prelude.{◌≡◌, ◌-◌, ◌<◌, [], true, Ok, Err, Some, IfOk, IfErr};
+ghost use Rattle.std.specs.Prelude.{◌≡◌, ◌-◌, ◌<◌, [], true, Ok, Err, Some, IfOk, IfErr, length};
 ghost use Rattle.gl_base.specs.Answers.{Fails};
-ghost use Rattle.gl_entry.specs.Entry.{is_signature, recorded_commit};
+ghost use Rattle.gl_entry.specs.Entry.{is_signature};
 ghost use Rattle.gl_entry.specs.Leaf.{evidence_text};
 ghost use Rattle.gl_receipt.specs.Made.{status_in, view_at, commit_id, committed_entry, later_signature, entry_at, components_of, recorded_signature, signed_in_entry, receipt_of, IsOfService};
 ghost use Rattle.gl_receipt.specs.Receipt.{Accepts};
@@ -49,6 +49,7 @@ fn committed_entry<L: CommittedLedger>(ledger: &L, id: TxId) -> Result<&Entry, M
     ensures refused { IfErr result (λ fault.
         committed_entry (L.ledger ledger.now) id ≡ Err fault) }
     ensures numbered { IfOk result (λ e. e.now.seqno ≡ id.seqno) }
+    ensures some { IfOk result (λ e. 0 < length (L.ledger ledger.now).entries) }
 {
     match (status_in(ledger, id), ledger.entry(id.seqno)) {
         (Status::Committed, Some(entry)) => Ok(entry),
@@ -107,22 +108,12 @@ fn recorded_signature(content: &Content) -> &[u8]
     }
 }
 
-/// The commit that a signature entry records.
-fn recorded_commit(content: &Content) -> u64
-    ensures { result ≡ recorded_commit content.now }
-{
-    match content {
-        Content::Signature(signature) => signature.commit,
-        _ => 0,
-    }
-}
-
 /// What a node signed in a signature entry beside the root.
 fn signed_in_entry(entry: &Entry) -> Signed
     ensures { result ≡ signed_in_entry entry.now }
 {
     Signed {
-        commit: recorded_commit(&entry.content),
+        commit: entry.content.recorded_commit(),
         seqno: entry.seqno,
         view: entry.view,
     }

@@ -27,20 +27,17 @@ use Rattle.gl_store.specs.Kept.{Held}
 use Rattle.gl_store.specs.Calls.{Executes, Signs, Refuses, signature_of}
 
 -- a store with that entry executed the request
-pub executes_made : (ledger items : List Entry) (commit view seqno : ℕ) (q : List Operation) (e : Entry) (a : List Answer) → is_request q ≡ true →
-    execute_result ledger view q ≡ Ok (e, a) → seqno ≡ length ledger + 1 → items ≡ ledger ++ e ∷ [] →
-    Executes (record { ledger = ledger; commit = commit }) view q (record { view = view; seqno = seqno }) a (record { ledger = items; commit = commit })
-executes_made ledger items commit view seqno q e a fits gives at pushed = record {
+pub executes_made : (old new : Held) (view seqno : ℕ) (q : List Operation) (e : Entry) (a : List Answer) → is_request q ≡ true →
+    execute_result old.ledger view q ≡ Ok (e, a) → seqno ≡ length old.ledger + 1 → new ≡ record old { ledger = old.ledger ++ e ∷ [] } →
+    Executes old view q (record { view = view; seqno = seqno }) a new
+executes_made old new view seqno q e a fits gives at grown = record {
   entry = e;
-  made = request_made ledger view q e a fits gives;
-  enters = record { named = ap named at; entered = ap held pushed };
+  made = request_made old.ledger view q e a fits gives;
+  enters = record { named = ap named at; entered = grown };
 }
   where
     named : ℕ → TxId
     named n = record { view = view; seqno = n }
-
-    held : List Entry → Held
-    held es = record { ledger = es; commit = commit }
 
 -- a request that was aborted, as what a store answers
 pub refused_run : (ledger : List Entry) (view : ℕ) (q : List Operation) (e : OrNoMemory Abort) (w : OrNoMemory Refusal) → is_request q ≡ true →
@@ -53,20 +50,17 @@ refused_run ledger view q (Fault abort) w fits is_open h is =
     (ap (λ (s : ServiceState). execute_in s ledger view q) is_open ∙ ap (λ (r : Result Ran Abort). run_result ledger view q r) h))
 
 -- a store with the entry of a node's signature signed
-pub signs_made : (ledger items : List Entry) (commit view seqno : ℕ) (node : List ℕ) (signer : Signer) (e : Entry) → length ledger < last_seqno →
-    e ≡ signature_entry node (signature_of signer ledger view commit) ledger view commit → seqno ≡ length ledger + 1 → items ≡ ledger ++ e ∷ [] →
-    Signs (record { ledger = ledger; commit = commit }) node signer view (record { view = view; seqno = seqno }) (record { ledger = items; commit = commit })
-signs_made ledger items commit view seqno node signer e left is at pushed = record {
+pub signs_made : (old new : Held) (view seqno : ℕ) (node : List ℕ) (signer : Signer) (e : Entry) → length old.ledger < last_seqno →
+    e ≡ signature_entry node (signature_of signer old.ledger view old.commit) old.ledger view old.commit → seqno ≡ length old.ledger + 1 →
+    new ≡ record old { ledger = old.ledger ++ e ∷ [] } → Signs old node signer view (record { view = view; seqno = seqno }) new
+signs_made old new view seqno node signer e left is at grown = record {
   entry = e;
-  made = ap (λ (b : Bool). by_store (if b then Ok made else Err refusals.SeqnoLimit)) (let t : nat_lt (length ledger) last_seqno ≡ true = grind (arith, nat_tests) in t) ∙ ap (λ (x : Entry). Ok x) (sym is);
-  enters = record { named = ap named at; entered = ap held pushed };
+  made = ap (λ (b : Bool). by_store (if b then Ok made else Err refusals.SeqnoLimit)) (let t : nat_lt (length old.ledger) last_seqno ≡ true = grind (arith, nat_tests) in t) ∙ ap (λ (x : Entry). Ok x) (sym is);
+  enters = record { named = ap named at; entered = grown };
 }
   where
     made : Entry
-    made = signature_entry node (signature_of signer ledger view commit) ledger view commit
+    made = signature_entry node (signature_of signer old.ledger view old.commit) old.ledger view old.commit
 
     named : ℕ → TxId
     named n = record { view = view; seqno = n }
-
-    held : List Entry → Held
-    held es = record { ledger = es; commit = commit }

@@ -1,5 +1,15 @@
 pub mod TablesLaws
 pub mod Recorded
+pub mod SignatureSeqnos
+pub mod Serving
+pub mod Cutting
 pub mod Applications
-pub mod Following
 pub mod Keeping
+pub mod OpeningLedgers
+pub mod Following
+pub mod InForce
+pub mod Spellings
+pub mod Hashed
+pub mod Binding
+pub mod OfService
+pub mod RowReading

@@ -1,6 +1,5 @@
 -- What the tables and the frontier that stand for a ledger tell of it.
-use Rattle.std.proofs.Common.{◌≡◌, ℕ, suc, ◌+◌, ◌<◌, List, [], length, sym, ◌∙◌, ap, arith}
-use Rattle.gl_merkle.specs.Tree.{root_of}
+use Rattle.std.proofs.Common.{◌≡◌, ℕ, suc, subst, Result, Ok, Err, IfOk, ◌+◌, ◌<◌, List, [], length, sym, ◌∙◌, ap, arith}
 use Rattle.gl_merkle.specs.Peaks.{peaks_of, peaks_within}
 use Rattle.gl_merkle.specs.Frontier.{Content, count_of, ForLeaves}
 use Rattle.gl_vmaps.specs.Kept.{Kept, version_of}
@@ -29,10 +28,16 @@ nothing_below t seqno stands some map key = let none : version_of t map key ≡ 
 
 -- ---- the root
 
--- a frontier that stands for leaves has their root
-pub root_of_frontier : (f : Content) (leaves : List (List ℕ)) (root : List ℕ) → IsTreeOf leaves f → ForLeaves f (λ ls. root ≡ root_of ls) → root ≡ root_of leaves
+-- what holds of the whole list of a frontier's leaves holds of those that it is the tree of
+pub of_frontier : (f : Content) (leaves : List (List ℕ)) (P : List (List ℕ) → Type 0) → IsTreeOf leaves f → ForLeaves f P → P leaves
 unfolding peaks_of peaks_within
-root_of_frontier f leaves root stands all = all [] (record { count = sym stands.base; peaks = sym stands.peaks }) ∙ ap root_of stands.leaves_are
+of_frontier f leaves P stands all = subst P stands.leaves_are (all [] (record { count = sym stands.base; peaks = sym stands.peaks }))
+
+-- so does what a call gives
+pub given_of_frontier : {X E : Type 0} (f : Content) (leaves : List (List ℕ)) (P : X → List (List ℕ) → Type 0) (r : Result X E) → IsTreeOf leaves f → IfOk r (λ x. ForLeaves f (P x)) →
+    IfOk r (λ x. P x leaves)
+given_of_frontier f leaves P (Ok x) stands all = of_frontier f leaves (P x) stands all
+given_of_frontier f leaves P (Err e) stands all = tt
 
 pub count_of_frontier : (f : Content) (ledger : List Entry) → IsTreeOf (leaves_of ledger) f → count_of f ≡ length ledger
 count_of_frontier f ledger stands =

@@ -1,5 +1,5 @@
 -- What the calls of a store come to, in the words of the rules of consensus over a ledger's book.
-use Rattle.std.specs.Prelude.{◌≡◌, ◌<◌, ◌≤◌, ◌^◌, ℕ, ◌+◌, List, [], ◌∷◌, ◌++◌, Some, Result, Ok, Err, IfSome, length}
+use Rattle.std.specs.Prelude.{◌≡◌, ◌<◌, ◌≤◌, ◌^◌, ℕ, ◌+◌, List, [], ◌∷◌, ◌++◌, Option, Some, Result, Ok, Err, length, take}
 use Rattle.gl_base.specs.declared.or_no_memory.OrNoMemory.{OrNoMemory}
 use Rattle.gl_base.specs.declared.or_no_memory.OrNoMemory.TheVariants.{NoMemory, Fault}
 use Rattle.gl_base.specs.declared.tx_id.TxId.{TxId}
@@ -13,6 +13,13 @@ use Rattle.gl_ledger.specs.NodeKeys.{IsNodeKey, NodeKeys}
 use Rattle.gl_ledger.specs.Ledger.{message_behind, sign_result}
 use Rattle.gl_ledger.specs.Makers.{Replied, Unmade, ByStore, request_result, by_store}
 use Rattle.gl_ledger.specs.declared.refusal.Refusal.{Refusal}
+use Rattle.gl_receipt.specs.Made.{Ledger}
+use Rattle.gl_ledger.specs.Effect.{identity_in}
+use Rattle.gl_ledger.specs.Tree.{tables_of, leaves_of}
+use Rattle.gl_ledger.specs.NodeKeys.{service_layers}
+use Rattle.gl_ledger.specs.Audit.{LedgerFault, opened}
+use Rattle.gl_ledger.specs.declared.breach.Broken.{Broken}
+use Rattle.gl_store.specs.declared.not_opening.NotOpening.{NotOpening}
 use Rattle.gl_store.specs.Kept.{Held}
 
 -- The node's log and its commit are what the store holds.
@@ -31,12 +38,6 @@ pub record Executes (old : Held) (view : ℕ) (q : List Operation)
   pub entry : Entry
   pub made : request_result old.ledger view q ≡ Ok (entry, Replied reply)
   pub enters : Enters old view entry id new
-
--- A signer has a reserved leaf that isn't used, and its endorsement, if it has one, is short enough
--- for a node's row.
-pub record IsReady (signer : Signer) : Type 0 where
-  pub reserved : signer.used < signer.reserved
-  pub endorsement : IfSome signer.endorsement (λ bytes. length bytes ≤ 2 ^ 15)
 
 -- The signer signs for a node of the service with this key: it has the key of which the node's
 -- identifier is the digest, and that key's endorsement by the service.
@@ -64,3 +65,33 @@ pub record Signs (old : Held) (node : NodeId) (signer : Signer) (view : ℕ) (id
 abbrev pub Refuses : {X : Type 0} → Result X Unmade → OrNoMemory Refusal → Type 0
 Refuses owed NoMemory = Unit {0}
 Refuses owed (Fault why) = owed ≡ Err (ByStore why)
+
+-- An entry is refused for the first rule that it breaks.
+abbrev pub Breaks : Option Broken → OrNoMemory Broken → Type 0
+Breaks owed NoMemory = Unit {0}
+Breaks owed (Fault broken) = owed ≡ Some broken
+
+-- Entries are refused from the first on that breaks a rule, which has this seqno.
+abbrev pub StopsAt : ℕ → Option LedgerFault → OrNoMemory Broken → Type 0
+StopsAt seqno owed NoMemory = Unit {0}
+StopsAt seqno owed (Fault broken) = owed ≡ Some (record { seqno = seqno; broken = broken })
+
+-- The store holds an opening ledger, which a node signed, all of it committed.
+pub record Opens (entries : List Entry) (held : Held) : Type 0 where
+  pub node : NodeId
+  pub opened_by : opened service_layers entries ≡ Ok node
+  pub holds : held ≡ record { ledger = entries; commit = length entries }
+
+-- Entries are no opening ledger, by the entry with this seqno.
+abbrev pub IsNotOpened : List Entry → OrNoMemory NotOpening → Type 0
+IsNotOpened entries NoMemory = Unit {0}
+IsNotOpened entries (Fault fault) = opened service_layers entries ≡ Err fault.seqno
+
+-- What a store holds, as receipts see it.
+abbrev pub receipts_of : Held → Ledger
+receipts_of held = record {
+  entries = held.ledger;
+  leaves = leaves_of held.ledger;
+  commit = held.commit;
+  identity = identity_in (tables_of held.ledger);
+}

@@ -1,2 +1,4 @@
 pub mod Kept
 pub mod Calls
+pub mod Binding
+pub mod Known

@@ -1,70 +1,286 @@
-//! A growing ledger, with the tables and the tree that its entries make.
+//! A growing ledger, with what its entries make.
 
-ghost use Rattle.std.specs.Prelude.{◌≡◌, ◌≤◌, ◌<◌, ◌^◌, ℕ, List, [], ◌∷◌, ◌++◌, IfOk, OnOk, OnErr};
-ghost use Rattle.gl_merkle.specs.Frontier.{HasLeaves, IsUnchanged};
+ghost use Rattle.std.specs.Prelude.{◌≡◌, ◌+◌, ◌-◌, ◌≤◌, ◌<◌, ◌^◌, ℕ, List, [], ◌∷◌, ◌++◌, None, Some, take, length, nat_le, slice_get, true, false, vec_len, vec_capacity, IfOk, OnOk, OnErr};
+ghost use Rattle.std.specs.List.Sorted.{IsPartitionPoint, IsPartitionedBy};
+ghost use Rattle.gl_merkle.specs.Frontier.{HasLeaves, IsUnchanged, count_of};
 ghost use Rattle.gl_vmaps.specs.Kept.{version_of};
 ghost use Rattle.gl_vmaps.specs.Standing.{StandsFor};
-ghost use Rattle.gl_vmaps.specs.Versions.{Placed, placed_at};
+ghost use Rattle.gl_vmaps.specs.Versions.{Placed, placed_at, written_by, up_to};
+ghost use Rattle.gl_entry.specs.Entry.{is_signature};
+ghost use Rattle.gl_entry.specs.Leaf.{leaf_of};
+ghost use Rattle.gl_ledger.specs.Effect.{state_of_value, identity_of_value, service_state, identity_in};
+ghost use Rattle.gl_store.specs.Kept.{seqno_if, key_of};
 
-use gl_entry::{Digest, Entry};
+use gl_entry::{Content, Digest, Entry, leaf};
+use gl_ledger::{HssPublicKey, ServiceState, state_byte};
 use gl_merkle::Frontier;
 use gl_vmaps::Tables;
 use std::alloc::{AllocError, Global};
 
-/// The entries of a ledger, the tables that their write sets make, and the tree of their leaves.
+/// The map of the service's row, and its key there (CCF documentation, "Builtin Maps").
+const SERVICE_MAP: &[u8] = b"public:ccf.gov.service";
+
+const SERVICE_KEY: &[u8] = b"s";
+
+/// The entries of a ledger, the seqnos of its signatures, the tables that its write sets make, what
+/// these tell of the service, and the tree of its leaves.
 #[derive(Drop)]
 pub struct LedgerState {
     pub entries: Vec<Entry>,
+    pub signatures: Vec<u64>,
     pub tables: Tables,
+    pub service_state: ServiceState,
+    pub identity: Option<HssPublicKey>,
     pub frontier: Frontier,
 }
 
-/// How many leaves a tree of so many is given room for, where it needs room for one more: up to a
-/// power of two, so that the levels of the tree grow only when the leaves have doubled.
-fn room_behind(leaves: usize) -> usize
-    requires { leaves < 2 ^ 63 }
-    ensures { 1 ≤ result }
+/// The state that the service's row begins with. Any other byte than that of an open service counts
+/// as not open.
+fn state_of(value: &[u8]) -> ServiceState
+    ensures { result ≡ state_of_value (Some value.now) }
 {
-    (leaves + 1).next_power_of_two().max(16) - leaves
+    match value {
+        [state, ..] if *state == state_byte(ServiceState::Open) => ServiceState::Open,
+        _ => ServiceState::Opening,
+    }
+}
+
+fn state_in(tables: &Tables) -> ServiceState
+    ensures { (ps : List Placed) → StandsFor tables.now ps →
+        result ≡ service_state (written_by ps) }
+{
+    match tables.get(SERVICE_MAP, SERVICE_KEY) {
+        None => ServiceState::Opening,
+        Some(value) => state_of(value),
+    }
+}
+
+/// The service's key, which stands in its row behind two bytes.
+fn key_in(value: &[u8]) -> Option<HssPublicKey>
+    ensures { result ≡ key_of (identity_of_value (Some value.now)) }
+{
+    match value {
+        [_, _, key @ ..] => key_from(key),
+        _ => None,
+    }
+}
+
+fn key_from(bytes: &[u8]) -> Option<HssPublicKey>
+    ensures { result ≡ key_of bytes.now }
+{
+    match bytes.as_array::<60>() {
+        None => None,
+        Some(key) => Some(*key),
+    }
+}
+
+fn identity_in(tables: &Tables) -> Option<HssPublicKey>
+    ensures { (ps : List Placed) → StandsFor tables.now ps →
+        result ≡ key_of (identity_in (written_by ps)) }
+{
+    match tables.get(SERVICE_MAP, SERVICE_KEY) {
+        None => None,
+        Some(value) => key_in(value),
+    }
+}
+
+/// How many leaves a tree of so many is given room for, where it needs room for so many more: up to a
+/// power of two at least, so that the levels of the tree grow only when the leaves have doubled.
+fn room_behind(leaves: usize, more: usize) -> usize
+    requires { leaves < 2 ^ 63 }
+    ensures least { more ≤ result }
+    ensures one { 1 ≤ result }
+{
+    more.max((leaves + 1).next_power_of_two().max(16) - leaves)
 }
 
 impl LedgerState {
     /// Of no entries.
     pub fn new(alloc: Global) -> Result<Self, AllocError>
         ensures entries { IfOk result (λ state. state.entries.items ≡ []) }
+        ensures signatures { IfOk result (λ state. state.signatures.items ≡ []) }
         ensures tables { IfOk result (λ state. StandsFor state.tables []) }
         ensures from_start { IfOk result (λ state. state.tables.base ≡ 0) }
+        ensures whole { IfOk result (λ state. state.tables.compacted ≡ 0) }
+        ensures service_state { IfOk result (λ state. state.service_state ≡ ServiceState.Opening) }
+        ensures identity { IfOk result (λ state. state.identity ≡ None) }
         ensures base { IfOk result (λ state. state.frontier.base ≡ 0) }
         ensures peaks { IfOk result (λ state. state.frontier.peaks ≡ []) }
         ensures leaves { IfOk result (λ state. state.frontier.leaves ≡ []) }
     {
         Ok(LedgerState {
             entries: Vec::new(alloc),
+            signatures: Vec::new(alloc),
             tables: Tables::new(alloc),
+            service_state: ServiceState::Opening,
+            identity: None,
             frontier: Frontier::new(alloc)?,
         })
     }
 
-    /// Adds an entry and its leaf. Want of memory leaves all as it was.
-    pub fn push(&mut self, entry: Entry, leaf: Digest) -> Result<(), AllocError>
+    /// Makes room for so many more entries and their leaves.
+    pub fn reserve(&mut self, more: usize) -> Result<(), AllocError>
+        requires { 1 ≤ more }
+        ensures entries { OnOk result
+            (vec_len self.new.entries + more ≤ vec_capacity self.new.entries) }
+        ensures signatures { OnOk result
+            (vec_len self.new.signatures + more ≤ vec_capacity self.new.signatures) }
+        ensures frontier { OnOk result (more ≤ self.new.frontier.spare) }
+        ensures entries_kept { self.new.entries.items ≡ self.old.entries.items }
+        ensures signatures_kept { self.new.signatures.items ≡ self.old.signatures.items }
+        ensures tables_kept { self.new.tables ≡ self.old.tables }
+        ensures state_kept { self.new.service_state ≡ self.old.service_state }
+        ensures identity_kept { self.new.identity ≡ self.old.identity }
+        ensures leaves_kept { IsUnchanged self.old.frontier self.new.frontier }
+    {
+        self.frontier
+            .reserve(room_behind(self.entries.len(), more))?;
+        self.entries.reserve(more)?;
+        self.signatures.reserve(more)?;
+        Ok(())
+    }
+
+    /// Adds an entry and its leaf, for which there is room.
+    fn add(&mut self, entry: Entry, leaf: Digest)
+        requires entries { vec_len self.old.entries < vec_capacity self.old.entries }
+        requires signatures { vec_len self.old.signatures < vec_capacity self.old.signatures }
+        requires frontier { 0 < self.old.frontier.spare }
+        ensures entries { self.new.entries.items ≡ self.old.entries.items ++ entry ∷ [] }
+        ensures signatures { self.new.signatures.items ≡ self.old.signatures.items
+            ++ seqno_if (is_signature entry.content) entry.seqno [] }
+        ensures tables { self.new.tables ≡ self.old.tables }
+        ensures state { self.new.service_state ≡ self.old.service_state }
+        ensures identity { self.new.identity ≡ self.old.identity }
+        ensures leaves { HasLeaves self.old.frontier self.new.frontier
+            (self.old.frontier.leaves ++ leaf ∷ []) }
+    {
+        if self.frontier.push(leaf).is_err() {
+            unreachable!();
+        }
+        if matches!(entry.content, Content::Signature(_)) {
+            self.signatures.push_reserved(entry.seqno);
+        }
+        self.entries.push_reserved(entry);
+    }
+
+    /// Adds an entry behind which the tables tell the service's key. Want of memory leaves all as it
+    /// was.
+    pub fn push(&mut self, entry: Entry) -> Result<(), AllocError>
         requires base { self.old.tables.base < entry.seqno }
         requires above { (map key : List ℕ) → version_of self.old.tables map key < entry.seqno }
+        requires keyed { (ps : List Placed) × StandsFor self.old.tables ps
+            × (length (identity_in (written_by (ps ++ placed_at entry.seqno entry.writes))) ≡ 60) }
         ensures entries { OnOk result (self.new.entries.items
             ≡ self.old.entries.items ++ entry ∷ []) }
+        ensures signatures { OnOk result (self.new.signatures.items
+            ≡ self.old.signatures.items ++ seqno_if (is_signature entry.content) entry.seqno []) }
         ensures tables { OnOk result ((ps : List Placed) → StandsFor self.old.tables ps →
             StandsFor self.new.tables (ps ++ placed_at entry.seqno entry.writes)) }
         ensures base { OnOk result (self.new.tables.base ≡ self.old.tables.base) }
-        ensures leaves { OnOk result (HasLeaves self.old.frontier self.new.frontier
-            (self.old.frontier.leaves ++ leaf ∷ [])) }
+        ensures whole { OnOk result (self.new.tables.compacted ≡ self.old.tables.compacted) }
+        ensures state { OnOk result ((ps : List Placed) → StandsFor self.new.tables ps →
+            self.new.service_state ≡ service_state (written_by ps)) }
+        ensures identity { OnOk result ((ps : List Placed) → StandsFor self.new.tables ps →
+            self.new.identity ≡ key_of (identity_in (written_by ps))) }
+        ensures leaves { OnOk result ((ps : List Placed) → StandsFor self.new.tables ps →
+            HasLeaves self.old.frontier self.new.frontier
+            (self.old.frontier.leaves ++ leaf_of (identity_in (written_by ps)) entry ∷ [])) }
         ensures entries_kept { OnErr result (self.new.entries.items ≡ self.old.entries.items) }
+        ensures signatures_kept { OnErr result
+            (self.new.signatures.items ≡ self.old.signatures.items) }
         ensures tables_kept { OnErr result (self.new.tables ≡ self.old.tables) }
+        ensures state_kept { OnErr result (self.new.service_state ≡ self.old.service_state) }
+        ensures identity_kept { OnErr result (self.new.identity ≡ self.old.identity) }
         ensures leaves_kept { OnErr result (IsUnchanged self.old.frontier self.new.frontier) }
     {
-        self.frontier.reserve(room_behind(self.entries.len()))?;
-        self.entries.reserve(1)?;
+        self.reserve(1)?;
         self.tables.apply(entry.seqno, &entry.writes)?;
-        self.frontier.push(leaf)?;
-        self.entries.push(entry)?;
+        self.service_state = state_in(&self.tables);
+        self.identity = identity_in(&self.tables);
+        let Some(identity) = &self.identity else {
+            unreachable!();
+        };
+        let leaf = leaf(&entry, identity);
+        self.add(entry, leaf);
         Ok(())
     }
+
+    /// Takes back the entries above a seqno. Takes no memory.
+    pub fn cut(&mut self, to: u64)
+        requires base { self.old.frontier.base ≤ to }
+        requires within { to ≤ count_of self.old.frontier }
+        requires whole { self.old.tables.compacted ≤ to }
+        ensures entries { self.new.entries.items ≡ take to self.old.entries.items }
+        ensures signatures { IsPartitionedBy (λ seqno. nat_le seqno to) self.old.signatures.items →
+            (n : ℕ) × IsPartitionPoint (λ seqno. nat_le seqno to ≡ true)
+            (λ seqno. nat_le seqno to ≡ false) self.old.signatures.items n
+            × (self.new.signatures.items ≡ take n self.old.signatures.items) }
+        ensures tables { (ps : List Placed) → StandsFor self.old.tables ps →
+            StandsFor self.new.tables (up_to to ps) }
+        ensures base { self.new.tables.base ≡ self.old.tables.base }
+        ensures whole { self.new.tables.compacted ≡ self.old.tables.compacted }
+        ensures state { (ps : List Placed) → StandsFor self.new.tables ps →
+            self.new.service_state ≡ service_state (written_by ps) }
+        ensures identity { (ps : List Placed) → StandsFor self.new.tables ps →
+            self.new.identity ≡ key_of (identity_in (written_by ps)) }
+        ensures leaves { HasLeaves self.old.frontier self.new.frontier
+            (take (to - self.old.frontier.base) self.old.frontier.leaves) }
+    {
+        let signed = count_up_to(&self.signatures, to);
+        self.entries.truncate(to as usize);
+        self.signatures.truncate(signed);
+        self.tables.cut(to);
+        self.frontier.cut(to);
+        self.service_state = state_in(&self.tables);
+        self.identity = identity_in(&self.tables);
+    }
+
+    /// The same in memory of its own.
+    pub fn copy(&self, alloc: Global) -> Result<Self, AllocError>
+        ensures entries { IfOk result (λ state. state.entries.items ≡ self.now.entries.items) }
+        ensures signatures { IfOk result (λ state.
+            state.signatures.items ≡ self.now.signatures.items) }
+        ensures tables { IfOk result (λ state. state.tables ≡ self.now.tables) }
+        ensures state { IfOk result (λ state. state.service_state ≡ self.now.service_state) }
+        ensures identity { IfOk result (λ state. state.identity ≡ self.now.identity) }
+        ensures leaves { IfOk result (λ state. IsUnchanged self.now.frontier state.frontier) }
+    {
+        Ok(LedgerState {
+            entries: copy_entries(alloc, &self.entries)?,
+            signatures: Vec::from_slice(alloc, &self.signatures)?,
+            tables: self.tables.copy()?,
+            service_state: self.service_state,
+            identity: self.identity,
+            frontier: self.frontier.copy()?,
+        })
+    }
+}
+
+/// How many of the seqnos, which ascend, are at most this one.
+pub fn count_up_to(seqnos: &[u64], limit: u64) -> usize
+    ensures { IsPartitionedBy (λ seqno. nat_le seqno limit) seqnos.now →
+        IsPartitionPoint (λ seqno. nat_le seqno limit ≡ true) (λ seqno. nat_le seqno limit ≡ false)
+        seqnos.now result }
+{
+    seqnos.partition_point(
+        |seqno: &u64| -> bool
+            ensures { result ≡ nat_le seqno.now limit }
+        { *seqno <= limit },
+    )
+}
+
+pub fn seqno_at(seqnos: &[u64], place: usize) -> Option<u64>
+    ensures { result ≡ slice_get seqnos.now place }
+{
+    seqnos.get(place).copied()
+}
+
+fn copy_entries(alloc: Global, entries: &[Entry]) -> Result<Vec<Entry>, AllocError>
+    ensures { IfOk result (λ copies. copies.items ≡ entries.now) }
+{
+    let mut copies = Vec::with_capacity(alloc, entries.len())?;
+    for entry in entries {
+        copies.push(entry.copy(alloc)?)?;
+    }
+    Ok(copies)
 }

@@ -2,9 +2,15 @@
 //! the Merkle tree over its entries. The ledger is the book that the rules of consensus read.
 #![tactic(auto)]
 
+mod entries;
+mod known_nodes;
+mod laws;
 mod ledger_state;
+mod not_opening;
 mod store;
 
+pub use laws::law_of_receipts_in_ledgers;
+pub use not_opening::NotOpening;
 pub use store::Store;
 
 #[cfg(test)]

@@ -1,12 +1,11 @@
 //! The rows, the entries and the roots against bytes worked out by hand, with digests by Python's
 //! hashlib.
 
-ghost use Rattle.std.specs.Prelude.{◌≡◌, ◌≤◌, ◌<◌, ◌^◌, ◌∷◌, [], ℕ, length, map, true, IfOk, IfSome};
-ghost use Rattle.std.specs.List.{AllByRecursion};
+ghost use Rattle.std.specs.Prelude.{◌≡◌, ◌≤◌, ◌<◌, ◌^◌, ◌∷◌, [], ℕ, length, map, true, IfOk};
 ghost use Rattle.gl_lms.specs.Tree.{key_bytes};
 ghost use Rattle.gl_lms.specs.Secrets.{public_of};
 ghost use Rattle.gl_hss.specs.Hss.{IsEndorsed};
-ghost use Rattle.gl_ledger.specs.Genesis.{is_acceptable, is_genesis, is_node};
+ghost use Rattle.gl_ledger.specs.Genesis.{is_genesis, is_node};
 ghost use Rattle.gl_ledger.specs.Ledger.{HasViewsUpTo};
 ghost use Rattle.gl_ledger.specs.Signed.{IsSignedAt};
 ghost use Rattle.gl_store.specs.Calls.{SignsFor};
@@ -21,11 +20,12 @@ use gl_ledger::{
 };
 use gl_lms::{LMS_KEY_LEN, LmsKey, Types};
 use gl_tx::{Abort, Answer, Cause, Operation, Reply, Request};
-use gl_vmaps::{Key, MapName, Value, Write};
+use gl_vmaps::{Key, MapName, Value, Write, Writes};
 use sha2::{Digest as _, Sha256};
 use std::alloc::{AllocError, Global};
 use std::test::Fail;
 
+mod applying;
 mod opening;
 
 // The service's key: that of a seed of 32 bytes 09, of two levels.
@@ -78,7 +78,6 @@ fn named(key: [u8; LMS_KEY_LEN], endorsement: Vec<u8>) -> NewNode
     requires { length endorsement.items ≤ 2 ^ 13 }
     ensures key { result.key ≡ key }
     ensures fits { is_node result ≡ true }
-    ensures short { length result.endorsement ≤ 2 ^ 13 }
 {
     NewNode {
         key,
@@ -88,13 +87,9 @@ fn named(key: [u8; LMS_KEY_LEN], endorsement: Vec<u8>) -> NewNode
 
 // A service of one node and two members.
 fn genesis(alloc: Global, state: ServiceState, node: NewNode) -> Result<Genesis, AllocError>
-    requires fits { is_node node ≡ true }
-    requires short { length node.endorsement ≤ 2 ^ 13 }
+    requires { is_node node ≡ true }
     ensures identity { IfOk result (λ g. g.identity ≡ IDENTITY) }
-    ensures acceptable { IfOk result (λ g. is_acceptable g ≡ true) }
     ensures fits { IfOk result (λ g. is_genesis g ≡ true) }
-    ensures endorsements { IfOk result (λ g.
-        AllByRecursion (λ node. length node.endorsement ≤ 2 ^ 13) g.nodes) }
     ensures node { IfOk result (λ g. g.nodes ≡ node ∷ []) }
 {
     let mut nodes = Vec::new(alloc);
@@ -127,10 +122,8 @@ fn genesis(alloc: Global, state: ServiceState, node: NewNode) -> Result<Genesis,
 
 // What signs for the node with this key and endorsement. No leaf is reserved.
 fn endorsed(key: LmsKey, endorsement: Vec<u8>) -> Result<HssSigner, Fail>
-    requires valid { IsEndorsed IDENTITY (key_bytes (public_of key)) endorsement.items }
-    requires short { length endorsement.items ≤ 2 ^ 13 }
-    ensures signs { IfOk result (λ s. SignsFor NODE IDENTITY s) }
-    ensures short { IfOk result (λ s. IfSome s.endorsement (λ e. length e ≤ 2 ^ 15)) }
+    requires { IsEndorsed IDENTITY (key_bytes (public_of key)) endorsement.items }
+    ensures { IfOk result (λ s. SignsFor NODE IDENTITY s) }
 {
     if Sha256::digest(&key.public()) != NODE {
         return Err(Fail::from("the key of another node"));
@@ -140,8 +133,7 @@ fn endorsed(key: LmsKey, endorsement: Vec<u8>) -> Result<HssSigner, Fail>
 
 // The node's signer.
 fn signer(alloc: Global) -> Result<HssSigner, Fail>
-    ensures signs { IfOk result (λ s. SignsFor NODE IDENTITY s) }
-    ensures short { IfOk result (λ s. IfSome s.endorsement (λ e. length e ≤ 2 ^ 15)) }
+    ensures { IfOk result (λ s. SignsFor NODE IDENTITY s) }
 {
     let key = LmsKey::make(alloc, [7; 32], Types::H5W4)?;
     let endorsement = endorsement(alloc, &key.public())?;
@@ -150,11 +142,9 @@ fn signer(alloc: Global) -> Result<HssSigner, Fail>
 
 // The store of such a service, opened with the signer's next leaf.
 fn opened_by(alloc: Global, state: ServiceState, signer: &mut HssSigner) -> Result<Store, Fail>
-    requires signs { SignsFor NODE IDENTITY signer.old }
-    requires short { IfSome signer.old.endorsement (λ e. length e ≤ 2 ^ 15) }
+    requires { SignsFor NODE IDENTITY signer.old }
     ensures up_to { IfOk result (λ s. (view : ℕ) → 2 ≤ view → HasViewsUpTo view s.ledger) }
     ensures signs { SignsFor NODE IDENTITY signer.new }
-    ensures short { IfSome signer.new.endorsement (λ e. length e ≤ 2 ^ 15) }
 {
     let key = signer.key().public();
     let node = named(key, endorsement(alloc, &key)?);
@@ -164,7 +154,7 @@ fn opened_by(alloc: Global, state: ServiceState, signer: &mut HssSigner) -> Resu
     }
     prove!(signer.used() <= signer.reserved());
     signer.reserve()?;
-    Ok(Store::opening(alloc, &genesis, NODE, signer)?)
+    Ok(Store::begin(alloc, &genesis, NODE, signer)?)
 }
 
 // The same, of which no more is signed.
@@ -198,6 +188,9 @@ fn execute(
     requires { HasViewsUpTo view store.old.ledger }
     ensures { (later : ℕ) → view ≤ later → HasViewsUpTo later store.new.ledger }
 {
+    if store.ledger_len() < 2 {
+        return Err(OrNoMemory::NoMemory);
+    }
     store.execute(view, request)
 }
 
@@ -205,13 +198,12 @@ fn execute(
 fn sign(store: &mut Store, signer: &mut HssSigner, view: u32) -> Result<TxId, Fail>
     requires up_to { HasViewsUpTo view store.old.ledger }
     requires signs { SignsFor NODE IDENTITY signer.old }
-    requires short { IfSome signer.old.endorsement (λ e. length e ≤ 2 ^ 15) }
     ensures up_to { HasViewsUpTo view store.new.ledger }
     ensures signed { IfOk result (λ id. IsSignedAt store.new.ledger id.seqno) }
     ensures signs { SignsFor NODE IDENTITY signer.new }
-    ensures short { IfSome signer.new.endorsement (λ e. length e ≤ 2 ^ 15) }
 {
-    if *store.identity() != IDENTITY || !store.is_recorded(&NODE) {
+    let identity = store.identity().ok_or("no service")?;
+    if *identity != IDENTITY || !store.is_recorded(&NODE) {
         return Err(Fail::from("a node of no such service"));
     }
     if !store.may_record(store.commit()) {

@@ -131,13 +131,3 @@ genesis_acceptable s h = group_acceptable s (single_group s h)
 
 pub genesis_fits : (s : Settings) → IsSingle s → is_genesis (genesis_of s) ≡ true
 genesis_fits s h = group_fits s (single_group s h)
-
--- so the body of its entry is small, and the entry fits
-pub genesis_small : (s : Settings) → IsSingle s → length (body_bytes (genesis_entry (genesis_of s))) ≤ body_limit
-genesis_small s h = small_founding (genesis_of s) (genesis_fits s h) (genesis_acceptable s h) (group_endorsements s (single_group s h))
-
-pub genesis_entry_fits : (s : Settings) → IsSingle s → is_entry (genesis_entry (genesis_of s)) ≡ true
-genesis_entry_fits s h = genesis_is_entry (genesis_of s) (genesis_fits s h) (genesis_acceptable s h) (group_endorsements s (single_group s h))
-
-pub endorsements_short : (s : Settings) → IsSingle s → AllByRecursion (λ (n : NewNode). length n.endorsement ≤ 2 ^ 15) (genesis_of s).nodes
-endorsements_short s h = subst (AllByRecursion (λ (n : NewNode). length n.endorsement ≤ 2 ^ 15)) (sym (one_node s h)) (let long = length-endorsement_of s 1 (omega arith, omega arith) in omega arith, tt)

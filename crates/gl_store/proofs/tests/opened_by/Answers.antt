@@ -7,7 +7,6 @@ use Rattle.gl_rules.proofs.Ids.{same_self}
 use Rattle.gl_hss.specs.Signer.{Signer}
 use Rattle.gl_ledger.specs.Genesis.{node_id}
 use Rattle.gl_ledger.specs.declared.genesis.NewNode.{NewNode}
-use Rattle.gl_ledger.proofs.Bodies.{small_founding}
 use Rattle.gl_store.specs.Calls.{SignsFor}
 use Rattle.gl_store.specs.declared.tests.TheConstants.{NODE, IDENTITY}
 use Rattle.gl_store.proofs.tests.opened_by.Goals as goal
@@ -19,12 +18,7 @@ node_named x identity signer signs n key ns one =
     signs.endorsed.named ∙ ap (λ (k : PrivateKey). sha256 (key_bytes (public_of k))) (sym signs.key) ∙ ap sha256 (sym key) in
     ap (λ (l : List NewNode). member x (map node_id l)) one ∙ subst (λ (y : NodeId). member x (y ∷ []) ≡ true) named (rw (same_self x) refl)
 
-pub opening-requires-clause-named : goal.opening-requires-clause-named
-opening-requires-clause-named c =
+pub begin-requires-clause-named : goal.begin-requires-clause-named
+begin-requires-clause-named c =
     let key : c.named-node.result.key ≡ key_bytes (public_of c.args.signer.now.key) = search rules in
-    node_named NODE IDENTITY c.args.signer.now c.requires.signs c.named-node.result key c.in_ok-genesis.genesis.nodes c.in_ok-genesis.ensures.node
-
-pub opening-requires-clause-small : goal.opening-requires-clause-small
-opening-requires-clause-small c =
-    let made = c.in_ok-genesis.ensures in
-    small_founding c.in_ok-genesis.genesis made.fits made.acceptable made.endorsements
+    node_named NODE IDENTITY c.args.signer.now c.requires c.named-node.result key c.in_ok-genesis.genesis.nodes c.in_ok-genesis.ensures.node

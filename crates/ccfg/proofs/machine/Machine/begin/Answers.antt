@@ -11,7 +11,7 @@ pub returns-clause-machine : goal.returns-clause-machine
 returns-clause-machine c =
     let f = c.in_ok-founding.founding in
     let made = c.in_ok-founding.ensures in
-    let machine : Machine = record { settings = c.args.settings; id = c.node_id-id.result; store = c.in_ok-store.store; signer = c.opening.new.signer } in
+    let machine : Machine = record { settings = c.args.settings; id = c.node_id-id.result; store = c.in_ok-store.store; signer = c.begin.new.signer } in
     (begin_machine machine f.genesis f.signer c.reserve.new.self c.requires made.genesis made.signer c.node_id-id.ensures
     (first_reserved c.args.settings f.signer c.reserve.new.self c.reserve.result made.signer c.reserve.ensures.exhausted c.reserve.ensures.ok)
     c.in_ok-store.ensures.spent c.in_ok-store.ensures.opened).0
@@ -20,21 +20,21 @@ pub returns-clause-node : goal.returns-clause-node
 returns-clause-node c =
     let f = c.in_ok-founding.founding in
     let made = c.in_ok-founding.ensures in
-    let machine : Machine = record { settings = c.args.settings; id = c.node_id-id.result; store = c.in_ok-store.store; signer = c.opening.new.signer } in
+    let machine : Machine = record { settings = c.args.settings; id = c.node_id-id.result; store = c.in_ok-store.store; signer = c.begin.new.signer } in
     (begin_machine machine f.genesis f.signer c.reserve.new.self c.requires made.genesis made.signer c.node_id-id.ensures
     (first_reserved c.args.settings f.signer c.reserve.new.self c.reserve.result made.signer c.reserve.ensures.exhausted c.reserve.ensures.ok)
     c.in_ok-store.ensures.spent c.in_ok-store.ensures.opened).1
 
-pub opening-requires-clause-accepted : goal.opening-requires-clause-accepted
-opening-requires-clause-accepted c = opening_accepted c.args.settings c.requires c.in_ok-founding.founding.genesis c.in_ok-founding.ensures.genesis
+pub begin-requires-clause-accepted : goal.begin-requires-clause-accepted
+begin-requires-clause-accepted c = opening_accepted c.args.settings c.requires c.in_ok-founding.founding.genesis c.in_ok-founding.ensures.genesis
 
-pub opening-requires-clause-named : goal.opening-requires-clause-named
-opening-requires-clause-named c =
+pub begin-requires-clause-named : goal.begin-requires-clause-named
+begin-requires-clause-named c =
     opening_named c.args.settings c.requires c.in_ok-founding.founding.genesis c.in_ok-founding.ensures.genesis c.node_id-id.result
     (c.node_id-id.ensures ∙ ap (λ (k : Signer). sha256 (key_bytes (public_of k.key))) c.in_ok-founding.ensures.signer)
 
-pub opening-requires-clause-signer : goal.opening-requires-clause-signer
-opening-requires-clause-signer c =
+pub begin-requires-clause-signer : goal.begin-requires-clause-signer
+begin-requires-clause-signer c =
     let made = c.in_ok-founding.ensures in
     opening_signs c.args.settings c.requires c.node_id-id.result (c.node_id-id.ensures ∙ ap (λ (k : Signer). sha256 (key_bytes (public_of k.key))) made.signer)
     c.in_ok-founding.founding.genesis made.genesis c.reserve.new.self

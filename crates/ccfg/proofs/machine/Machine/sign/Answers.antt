@@ -1,5 +1,5 @@
 use Rattle.std.proofs.Common.{arith}
-use Rattle.ccfg.proofs.MachineLemmas.{machine_recorded, machine_records, machine_signs, ready, sign_unreserved, sign_nothing, sign_signs, sign_refused}
+use Rattle.ccfg.proofs.MachineLemmas.{machine_recorded, machine_records, machine_signs, sign_unreserved, sign_nothing, sign_signs, sign_refused}
 use Rattle.ccfg.proofs.machine.Machine.sign.Goals as goal
 
 pub returns-then-used-reserved-clause-steps : goal.returns-then-used-reserved-clause-steps
@@ -20,9 +20,6 @@ sign-requires-clause-commit c = machine_records c.args.self.now c.requires
 
 pub sign-requires-clause-signer : goal.sign-requires-clause-signer
 sign-requires-clause-signer c = machine_signs c.args.self.now c.requires
-
-pub sign-requires-clause-ready : goal.sign-requires-clause-ready
-sign-requires-clause-ready c = ready c.args.self.now c.requires (omega (arith, c.used.ensures.value, c.reserved-reserved.ensures.value, c.if-used-reserved.false))
 
 pub returns-in-Ok-clause-steps : goal.returns-in-Ok-clause-steps
 returns-in-Ok-clause-steps c =

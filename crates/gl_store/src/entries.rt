@@ -1,0 +1,125 @@
+//! The entries that a store makes.
+
+ghost use Rattle.std.specs.Prelude.{◌≡◌, ◌+◌, ◌≤◌, ◌<◌, ◌^◌, List, true, length, None, Err, IfOk, IfSome, IfNone, OnOk};
+ghost use Rattle.sha2.specs.Sha256.{sha256};
+ghost use Rattle.gl_base.specs.Bytes.{are_bytes};
+ghost use Rattle.gl_base.specs.TxId.{last_seqno};
+ghost use Rattle.gl_hss.specs.Signer.{hss_signature};
+ghost use Rattle.gl_tx.specs.Request.{is_request, request_bytes, reply_bytes};
+ghost use Rattle.gl_tx.specs.declared.request.Answer.{Answer};
+ghost use Rattle.gl_entry.specs.Entry.{is_entry, body_bytes, body_limit, content_bytes};
+ghost use Rattle.gl_entry.specs.declared.entry.Entry as made;
+ghost use Rattle.gl_ledger.specs.Acceptance.{genesis_fault};
+ghost use Rattle.gl_ledger.specs.Genesis.{is_genesis};
+ghost use Rattle.gl_ledger.specs.NodeKeys.{service_layers};
+ghost use Rattle.gl_ledger.specs.Ledger.{genesis_entry, within_limits};
+
+use gl_base::{Bytes, FIRST_VIEW, LAST_SEQNO, MEBIBYTE};
+use gl_entry::{Content, Digest, Entry};
+use gl_hss::HssSigner;
+use gl_ledger::{Genesis, Refusal, genesis_bytes, genesis_writes};
+use gl_tx::Request;
+use gl_vmaps::Writes;
+use sha2::{Digest as _, Sha256};
+use std::alloc::{AllocError, Global};
+
+/// The digest field of an entry that has none.
+pub const NO_DIGEST: Digest = [0; 32];
+
+/// The entry of a genesis.
+pub fn genesis_entry(alloc: Global, genesis: &Genesis) -> Result<Entry, AllocError>
+    requires fits { is_genesis genesis.now ≡ true }
+    requires accepted { genesis_fault service_layers genesis.now ≡ None }
+    ensures made { IfOk result (λ entry. entry ≡ genesis_entry genesis.now) }
+    ensures fits { IfOk result (λ entry. is_entry entry ≡ true) }
+{
+    let request = Bytes::from(genesis_bytes(alloc, genesis)?);
+    let writes = genesis_writes(alloc, genesis)?;
+    prove!(writes.as_slice().len() < 1 << 32);
+    Ok(Entry {
+        view: FIRST_VIEW,
+        seqno: 1,
+        content: Content::Governance(request),
+        writes,
+        claims: NO_DIGEST,
+    })
+}
+
+/// The signature of a message by the signer's next leaf, which isn't spent by that.
+pub fn next_signature(signer: &HssSigner, message: &[u8]) -> Result<Bytes, AllocError>
+    requires left { signer.now.used < signer.now.reserved }
+    requires endorsement { IfSome signer.now.endorsement (λ bytes. length bytes ≤ 2 ^ 15) }
+    ensures bytes { IfOk result (λ signature. signature
+        ≡ hss_signature signer.now.key signer.now.endorsement signer.now.used message.now) }
+    ensures are_bytes { IfOk result (λ signature. are_bytes signature ≡ true) }
+    ensures short { IfOk result (λ signature. length signature ≤ 2 ^ 16) }
+{
+    match signer.signature(message) {
+        Ok(signature) => Ok(to_record(signature)),
+        Err(_) => Err(AllocError),
+    }
+}
+
+/// A signature's bytes, as an entry records them.
+fn to_record(signature: Vec<u8>) -> Bytes
+    ensures value { result ≡ signature.items }
+    ensures are_bytes { are_bytes result ≡ true }
+{
+    Bytes::from(signature)
+}
+
+/// The entry of a request that ran with these writes and this reply.
+pub fn application_entry(
+    alloc: Global,
+    view: u32,
+    seqno: u64,
+    request: &Request,
+    writes: Writes,
+    reply: &[u8],
+) -> Result<Entry, AllocError>
+    requires { length writes ≤ 64 }
+    ensures request { OnOk result (is_request request.now ≡ true) }
+    ensures made { IfOk result (λ entry. entry ≡ record {
+      view = view;
+      seqno = seqno;
+      content = Content.Application (request_bytes request.now);
+      writes = writes;
+      claims = sha256 reply.now;
+    }) }
+    ensures recorded { IfOk result (λ entry. length (content_bytes entry.content) < 2 ^ 32) }
+    ensures fits { IfOk result (λ entry.
+        length (body_bytes entry) ≤ body_limit → is_entry entry ≡ true) }
+{
+    prove!(request.as_slice().len() <= 64);
+    let recorded = Bytes::from(request.encode(alloc)?);
+    prove!(writes.as_slice().len() <= 64);
+    Ok(Entry {
+        view,
+        seqno,
+        content: Content::Application(recorded),
+        writes,
+        claims: Sha256::digest(reply),
+    })
+}
+
+/// The first limit that an entry passes: the size of its body, that of its reply, its seqno.
+pub fn limit_passed(body_len: u64, reply: &[u8], seqno: u64) -> Option<Refusal>
+    ensures body { IfNone result (body_len ≤ body_limit) }
+    ensures reply { IfNone result (length reply.now ≤ body_limit) }
+    ensures seqno { IfNone result (seqno ≤ last_seqno) }
+    ensures owed { IfSome result (λ refusal.
+        (ledger : List made.Entry) (e : made.Entry) (answers : List Answer) →
+        body_len ≡ length (body_bytes e) → reply.now ≡ reply_bytes answers → seqno ≡ length ledger + 1 →
+        within_limits ledger e answers ≡ Err refusal) }
+{
+    let reply_len = reply.len() as u64;
+    if body_len > MEBIBYTE {
+        Some(Refusal::TooLarge { size: body_len })
+    } else if reply_len > MEBIBYTE {
+        Some(Refusal::TooLarge { size: reply_len })
+    } else if seqno > LAST_SEQNO {
+        Some(Refusal::SeqnoLimit)
+    } else {
+        None
+    }
+}

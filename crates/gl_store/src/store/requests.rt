@@ -1,0 +1,158 @@
+//! What a store makes of requests.
+
+ghost use Rattle.std.specs.Prelude.{◌≡◌, ◌+◌, ◌≤◌, ◌<◌, ◌^◌, true, length, IfOk, IfErr, IfSome, OnErr, OnOk};
+ghost use Rattle.gl_base.specs.TxId.{last_seqno};
+ghost use Rattle.gl_lms.specs.Types.{height};
+ghost use Rattle.gl_tx.specs.Request.{is_request};
+ghost use Rattle.gl_entry.specs.Entry.{is_entry};
+ghost use Rattle.gl_store.specs.Calls.{signature_of};
+
+use super::Store;
+use crate::entries::{NO_DIGEST, application_entry, limit_passed, next_signature};
+use gl_base::{LAST_SEQNO, OrNoMemory, TxId};
+use gl_entry::{Content, Entry, NodeId, Signature, signed_message};
+use gl_hss::HssSigner;
+use gl_ledger::{Refusal, ServiceState};
+use gl_tx::{Reply, Request, run};
+use gl_vmaps::Writes;
+use std::alloc::AllocError;
+
+impl Store {
+    ghost use Rattle.gl_rules.specs.Identity.{member};
+    ghost use Rattle.gl_ledger.specs.Ledger.{HasViewsUpTo, signature_entry, sign_result};
+    ghost use Rattle.gl_ledger.specs.Tree.{tables_of};
+    ghost use Rattle.gl_ledger.specs.Effect.{identity_in, service_state};
+    ghost use Rattle.gl_ledger.specs.Recordings.{recorded_nodes};
+    ghost use Rattle.gl_ledger.specs.Broken.{may_record};
+    ghost use Rattle.gl_ledger.specs.NodeKeys.{service_layers};
+    ghost use Rattle.gl_ledger.specs.Makers.{by_store, request_result};
+    ghost use Rattle.gl_store.specs.Calls.{Executes, Signs, SignsFor, Refuses};
+
+    /// Runs a request and makes its entry, in a view that isn't below that of any entry before.
+    /// Gives the entry's identifier and the reply. Refused, in this order, where the service isn't
+    /// open, where an operation fails, where the entry's body or the reply has more than 1 MiB, and
+    /// where no seqno is left. Want of memory, too, leaves the store as it was.
+    pub fn execute(
+        &mut self,
+        view: u32,
+        request: &Request,
+    ) -> Result<(TxId, Reply), OrNoMemory<Refusal>>
+        requires up_to { HasViewsUpTo view self.old.ledger }
+        requires opened { 2 ≤ length self.old.ledger }
+        ensures made { IfOk result (λ made.
+            Executes self.old view request.now made.0 made.1 self.new) }
+        ensures refused { IfErr result (λ e.
+            Refuses (request_result self.old.ledger view request.now) e) }
+        ensures err { OnErr result (self.new ≡ self.old) }
+    {
+        prove!(request.as_slice().len() <= 64);
+        match self.state.service_state {
+            ServiceState::Open => self.execute_open(view, request),
+            ServiceState::Opening => {
+                let closed = Refusal::ServiceState(ServiceState::Opening);
+                Err(OrNoMemory::Fault(closed))
+            }
+        }
+    }
+
+    fn execute_open(
+        &mut self,
+        view: u32,
+        request: &Request,
+    ) -> Result<(TxId, Reply), OrNoMemory<Refusal>>
+        requires up_to { HasViewsUpTo view self.old.ledger }
+        requires opened { 2 ≤ length self.old.ledger }
+        requires is_open { service_state (tables_of self.old.ledger) ≡ ServiceState.Open }
+        requires spelled { is_request request.now ≡ true }
+        ensures made { IfOk result (λ made.
+            Executes self.old view request.now made.0 made.1 self.new) }
+        ensures refused { IfErr result (λ e.
+            Refuses (request_result self.old.ledger view request.now) e) }
+        ensures err { OnErr result (self.new ≡ self.old) }
+    {
+        let seqno = self.state.entries.len() as u64 + 1;
+        let ran = match run(self.alloc, request, &self.state.tables) {
+            Ok(ran) => ran,
+            Err(error) => return Err(error.widen()),
+        };
+        let reply = ran.reply.encode(self.alloc)?;
+        let entry = application_entry(self.alloc, view, seqno, request, ran.writes, &reply)?;
+        if let Some(refusal) = limit_passed(entry.body_len(), &reply, seqno) {
+            return Err(OrNoMemory::Fault(refusal));
+        }
+        self.push(entry)?;
+        Ok((TxId { view, seqno }, ran.reply))
+    }
+
+    /// Makes the entry of a node's signature of the ledger so far, in a view that isn't below that
+    /// of any entry before. The node is recorded, the signer is its own, and the commit as it now is
+    /// may be recorded. The entry records that, and the root of the tree over all entries before it.
+    /// The signer's next leaf is spent, and nothing can fail behind that. Refused where no seqno is
+    /// left. Want of memory, too, leaves the store and the signer as they were.
+    pub fn sign(
+        &mut self,
+        node: NodeId,
+        view: u32,
+        signer: &mut HssSigner,
+    ) -> Result<TxId, OrNoMemory<Refusal>>
+        requires up_to { HasViewsUpTo view self.old.ledger }
+        requires recorded { member node (recorded_nodes service_layers self.old.ledger) ≡ true }
+        requires commit { may_record service_layers self.old.ledger self.old.commit ≡ true }
+        requires signer { SignsFor node (identity_in (tables_of self.old.ledger)) signer.old }
+        requires left { signer.old.used < signer.old.reserved }
+        ensures made { IfOk result (λ id. Signs self.old node signer.old view id self.new) }
+        ensures refused { IfErr result (λ e. Refuses (by_store (sign_result node
+            (signature_of signer.old self.old.ledger view self.old.commit)
+            self.old.ledger view self.old.commit)) e) }
+        ensures spent { OnOk result (signer.new ≡ record signer.old {
+          used = signer.old.used + 1;
+        }) }
+        ensures err { OnErr result (self.new ≡ self.old) }
+        ensures unspent { OnErr result (signer.new ≡ signer.old) }
+    {
+        let seqno = self.state.entries.len() as u64 + 1;
+        if seqno > LAST_SEQNO {
+            return Err(OrNoMemory::Fault(Refusal::SeqnoLimit));
+        }
+        let entry = self.signature_entry(node, view, self.commit, signer)?;
+        self.push(entry)?;
+        signer.spend();
+        Ok(TxId { view, seqno })
+    }
+
+    /// The entry of a node's signature behind the ledger, by the signer's next leaf, which isn't
+    /// spent by that.
+    pub(super) fn signature_entry(
+        &self,
+        node: NodeId,
+        view: u32,
+        commit: u64,
+        signer: &HssSigner,
+    ) -> Result<Entry, AllocError>
+        requires some { 0 < length self.now.ledger }
+        requires room { length self.now.ledger < last_seqno }
+        requires left { signer.now.used < signer.now.reserved }
+        requires endorsement { IfSome signer.now.endorsement (λ bytes. length bytes ≤ 2 ^ 15) }
+        ensures made { IfOk result (λ entry. entry ≡ signature_entry node
+            (signature_of signer.now self.now.ledger view commit) self.now.ledger view commit) }
+        ensures fits { IfOk result (λ entry. is_entry entry ≡ true) }
+        ensures leaf { OnOk result (signer.now.used < 2 ^ height signer.now.key.types) }
+    {
+        prove!(signer.used() < signer.reserved());
+        let seqno = self.state.entries.len() as u64 + 1;
+        let root = self.state.frontier.root();
+        let signature = next_signature(signer, &signed_message(&root, view, seqno, commit))?;
+        Ok(Entry {
+            view,
+            seqno,
+            content: Content::Signature(Signature {
+                node,
+                commit,
+                root,
+                signature,
+            }),
+            writes: Writes::new(self.alloc),
+            claims: NO_DIGEST,
+        })
+    }
+}

@@ -1,8 +1,8 @@
 #!/usr/bin/env -S python3 -B
 # Measures verifying a receipt against the SHA-256 digests that it needs. The digests are those that the Python verifier in
 # examples/receipt makes of the same receipt, counted in blocks. The time is the processor time of the built program's `verify`
-# less that of an empty `replay`, which starts and ends alike: the least of some rounds, as the time of the digests is. Fails where
-# it is above its limit.
+# less that of an empty `replay`, which starts and ends alike: the least of many single runs of each, as the time of the digests is
+# the least of its rounds. Fails where it is above its limit.
 import importlib.util
 import json
 import os
@@ -13,7 +13,7 @@ import program
 
 EXAMPLE = os.path.join(os.path.dirname(os.path.abspath(__file__)), "..", "examples", "receipt")
 LIMIT = 1.3
-ROUNDS, RUNS = 5, 300
+RUNS = 500
 
 
 def read(name):
@@ -45,14 +45,10 @@ def main():
         one = program.digest(work)
         verify = [program.PROGRAM, "verify", "--identity", identity]
         idle = [program.PROGRAM, "replay"]
-        times = []
-        for _ in range(ROUNDS):
-            time = 0
-            for _ in range(RUNS):
-                time += program.run(verify, os.path.join(EXAMPLE, "receipt.json"), f"{work}/out")[0]
-                time -= program.run(idle, os.devnull, f"{work}/out")[0]
-            times.append(time / RUNS)
-    ratio = min(times) / (needed * one)
+        source = os.path.join(EXAMPLE, "receipt.json")
+        times = [program.run(verify, source, f"{work}/out")[0] for _ in range(RUNS)]
+        idle_times = [program.run(idle, os.devnull, f"{work}/out")[0] for _ in range(RUNS)]
+    ratio = (min(times) - min(idle_times)) / (needed * one)
     print(f"a receipt of {needed} digests of one block: {ratio:.2f} times these, at most {LIMIT}")
     sys.exit(0 if ratio <= LIMIT else 1)
 

@@ -11,7 +11,8 @@ use Rattle.gl_vmaps.specs.declared.write.Write.{Write}
 use Rattle.gl_vmaps.specs.Growth.{gains, loses, gained, lost}
 use Rattle.gl_vmaps.specs.LastWrite.{value_behind}
 use Rattle.gl_tx.specs.Sees.{Sees, write_to, behind}
-use Rattle.gl_tx.specs.Run.{answer_only, answer_and_write, yes_or_no, value_or_none, add_result, is_expected, check_result, follow_result, bar_on, unless_barred, on_seen, perform_result, with_answer, goes_on, run_from, with_writes}
+use Rattle.gl_tx.specs.Run.{answer_only, answer_and_write, yes_or_no, value_or_none, add_result, check_result, follow_result, bar_on, unless_barred, on_seen, perform_result, with_answer, goes_on, run_from, with_writes}
+use Rattle.gl_vmaps.specs.Tables.{same_value}
 use Rattle.gl_attempt.specs.Asks.{row_asks, rows_written, key_asks, allowed_asks, asks_unless_barred, asks_of, asks_behind, asks_from}
 use Rattle.gl_tx.specs.declared.performed.Performed.{Performed}
 use Rattle.gl_tx.specs.declared.abort.Cause.{Cause}
@@ -115,7 +116,7 @@ on_seen-alike known s t ws (Put map key value) alike is = refl
 on_seen-alike known s t ws (Remove map key) alike is =
     ap (λ (v : Option (List ℕ)). answer_and_write (yes_or_no (is_some v)) map key None) (value-alike known s t ws map key alike is)
 on_seen-alike known s t ws (Add map key amount) alike is = ap (λ (v : Option (List ℕ)). add_result map key amount v) (value-alike known s t ws map key alike is)
-on_seen-alike known s t ws (Check map key expected) alike is = ap (λ (v : Option (List ℕ)). check_result (is_expected expected v)) (value-alike known s t ws map key alike is)
+on_seen-alike known s t ws (Check map key expected) alike is = ap (λ (v : Option (List ℕ)). check_result (same_value expected v)) (value-alike known s t ws map key alike is)
 on_seen-alike known s t ws (Follow map key target) alike is =
     let parts = follow_parts known s ws map key target is in
     follow-alike known s t ws target ((behind s ws).value map key) alike parts.1

@@ -1,5 +1,5 @@
 -- What is spelled as a field reads back, and what reads is spelled so.
-use Rattle.std.proofs.Common.{append_assoc, Result, Bool, cond, false, ◌==◌, IfOk, IsOkAnd, ◌/◌, ◌≢◌, ◌≡◌, ℕ, ◌+◌, ◌^◌, ◌<◌, ◌≤◌, nat_lt, false, List, ◌++◌, length, take, Option, None, Some, Ok, Err, refl, sym, ap, ◌∙◌, subst, length-append, arith}
+use Rattle.std.proofs.Common.{append_assoc, ◌∷◌, suc, add-zero, Result, Bool, cond, false, ◌==◌, IfOk, IsOkAnd, ◌/◌, ◌≢◌, ◌≡◌, ℕ, ◌+◌, ◌^◌, ◌<◌, ◌≤◌, nat_lt, false, List, ◌++◌, length, take, Option, None, Some, Ok, Err, refl, sym, ap, ◌∙◌, subst, length-append, arith}
 use Rattle.std.specs.List.{position}
 use Rattle.std.proofs.Math.Seq.{take-append_seam, drop-append_seam}
 use Rattle.std.proofs.lemmas.Bool.Decides.{nat_tests}
@@ -162,3 +162,10 @@ pub text_only : {X : Type 0} → (view : X → List ℕ) (limit : ℕ) (old new 
 text_only view limit old new r g xs rest fits e =
     gives_only view old new _ r (text_at limit old) xs g
     (ap (λ (bytes : List ℕ). text_at limit (record { at = old.at; bytes = bytes })) e ∙ text_at-spelled limit old.at xs rest fits.within fits.small fits.visible)
+
+-- A tag.
+pub tag_read : (at tag : ℕ) (rest : List ℕ) → number_at 1 (record { at = at; bytes = tag ∷ rest }) ≡ Ok (tag, record { at = at + 1; bytes = rest })
+unfolding number_at bytes_at
+tag_read at tag rest =
+    let enough : nat_lt (suc (length rest)) 1 ≡ false = grind (arith, nat_tests) in
+    rw (enough, add-zero tag) refl

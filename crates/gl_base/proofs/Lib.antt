@@ -10,3 +10,5 @@ pub mod LittleEndianLaws
 pub mod Fields
 pub mod Names
 pub mod RowLaws
+pub mod Readings
+pub mod Repeated

@@ -1,5 +1,5 @@
 -- Lists of bytes.
-use Rattle.std.specs.Prelude.{ℕ, List, Bool, nat_eq, nat_lt}
+use Rattle.std.specs.Prelude.{ℕ, List, Bool, ◌&&◌, ◌==◌, length, nat_eq, nat_lt}
 use Rattle.std.specs.Cmp.Lexicographic.{pointwise}
 use Rattle.std.specs.List.{list_all}
 
@@ -10,6 +10,14 @@ is_byte n = nat_lt n 256
 -- Each number is a byte.
 abbrev pub are_bytes : List ℕ → Bool
 are_bytes xs = list_all is_byte xs
+
+-- So many bytes.
+abbrev pub are_sized : ℕ → List ℕ → Bool
+are_sized size bytes = (length bytes == size) && are_bytes bytes
+
+-- The bytes of a SHA-256 digest.
+abbrev pub is_digest : List ℕ → Bool
+is_digest bytes = are_sized 32 bytes
 
 -- The test whether two lists of bytes are the same.
 abbrev pub same_bytes : List ℕ → List ℕ → Bool

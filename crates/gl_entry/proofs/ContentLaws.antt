@@ -5,7 +5,7 @@ use Rattle.std.proofs.lemmas.Bool.Decides.{nat_tests}
 use Rattle.std.proofs.lemmas.List.{nil_from_length}
 use Rattle.gl_base.specs.Code.{field, ended, whole_at}
 use Rattle.gl_base.specs.Cut.{Unread, bytes_at, number_at, string_at}
-use Rattle.gl_base.specs.Bytes.{are_bytes}
+use Rattle.gl_base.specs.Bytes.{are_bytes, is_digest}
 use Rattle.gl_base.specs.Field.{with_u32_length}
 use Rattle.gl_base.specs.LittleEndian.{little_endian}
 use Rattle.gl_base.proofs.ByteLists.{AreBytes}
@@ -17,7 +17,7 @@ use Rattle.gl_base.proofs.RowLaws.{Took, field_ok}
 use Rattle.gl_entry.specs.declared.entry.Signature as signatures
 use Rattle.gl_entry.specs.declared.entry.Content.{Content}
 use Rattle.gl_entry.specs.declared.entry.Content.TheVariants as content
-use Rattle.gl_entry.specs.Entry.{body_limit, kind_tag, signature_bytes, content_bytes, is_digest, is_recorded_signature, is_content}
+use Rattle.gl_entry.specs.Entry.{body_limit, kind_tag, signature_bytes, content_bytes, is_recorded_signature, is_content}
 use Rattle.gl_entry.specs.Reading.{is_kind, signature_at, evidence_at, content_of}
 use Rattle.gl_entry.proofs.Sizes.{length-signature_bytes}
 use Rattle.gl_entry.proofs.Parts.{took_then, number-took, bytes-took, sized-took, Lies, lie_both, number-reads, bytes-reads, sized-reads}

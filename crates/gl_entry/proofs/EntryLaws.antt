@@ -5,7 +5,7 @@ use Rattle.std.proofs.lemmas.Bool.{and_from, and_parts}
 use Rattle.std.proofs.lemmas.Bool.Decides.{nat_tests}
 use Rattle.gl_base.specs.Code.{ended, field, unread_of}
 use Rattle.gl_base.specs.Cut.{Unread, bytes_at, number_at, string_at}
-use Rattle.gl_base.specs.Bytes.{are_bytes}
+use Rattle.gl_base.specs.Bytes.{are_bytes, are_sized, is_digest}
 use Rattle.gl_base.specs.Field.{with_u32_length}
 use Rattle.gl_base.specs.LittleEndian.{little_endian}
 use Rattle.gl_base.proofs.ByteLists.{AreBytes}
@@ -23,7 +23,7 @@ use Rattle.gl_entry.specs.declared.entry.Content.TheVariants as content
 use Rattle.gl_entry.specs.declared.entry.Entry.{Entry}
 use Rattle.gl_entry.specs.declared.fault.EntryFault.{EntryFault}
 use Rattle.gl_entry.specs.declared.fault.EntryFault.TheVariants as faults
-use Rattle.gl_entry.specs.Entry.{body_limit, kind_tag, content_bytes, body_bytes, frame_bytes, frame_size, is_content, are_sized, is_digest, is_no_digest, are_no_writes, may_write, may_claim, is_entry}
+use Rattle.gl_entry.specs.Entry.{body_limit, kind_tag, content_bytes, body_bytes, frame_bytes, frame_size, is_content, is_no_digest, are_no_writes, may_write, may_claim, is_entry}
 use Rattle.gl_entry.specs.Reading.{part, entry_field, required, is_kind, kind_at, content_of, content_at, writes_from, writes_at, claims_at, body_at, whole_body, size_at, frame_at, entry_at}
 use Rattle.gl_entry.proofs.Sizes.{content_within, writes_counted}
 use Rattle.gl_entry.proofs.Ordered.{part_ok, required_ok, writes_ordered, first_behind}

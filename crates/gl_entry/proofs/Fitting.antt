@@ -3,10 +3,10 @@ use Rattle.std.proofs.Common.{◌≡◌, ℕ, ◌<◌, ◌^◌, ◌==◌, nat_lt
 use Rattle.std.specs.List.{list_all}
 use Rattle.std.proofs.lemmas.Bool.{and_from}
 use Rattle.std.proofs.lemmas.Bool.Decides.{nat_tests}
-use Rattle.gl_base.specs.Bytes.{are_bytes}
+use Rattle.gl_base.specs.Bytes.{are_bytes, is_digest}
 use Rattle.gl_base.proofs.ByteLists.{AreBytes, are_bytes-true}
 use Rattle.gl_vmaps.specs.Writes.{is_write, is_ordered}
-use Rattle.gl_entry.specs.Entry.{body_bytes, body_limit, is_digest, is_content, may_write, may_claim, are_no_writes, is_no_digest, is_entry}
+use Rattle.gl_entry.specs.Entry.{body_bytes, body_limit, is_content, may_write, may_claim, are_no_writes, is_no_digest, is_entry}
 use Rattle.gl_entry.specs.declared.entry.Entry.{Entry}
 
 pub is_digest-from : (xs : List ℕ) → length xs ≡ 32 → AreBytes xs → is_digest xs ≡ true

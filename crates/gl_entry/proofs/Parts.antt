@@ -4,7 +4,7 @@ use Rattle.std.proofs.lemmas.Bool.{and_from}
 use Rattle.std.proofs.lemmas.Bool.Decides.{nat_tests}
 use Rattle.std.proofs.lemmas.List.{length-take-le}
 use Rattle.gl_base.specs.Cut.{Unread, bytes_at, number_at, string_at}
-use Rattle.gl_base.specs.Bytes.{are_bytes}
+use Rattle.gl_base.specs.Bytes.{are_bytes, are_sized}
 use Rattle.gl_base.specs.Field.{with_u32_length}
 use Rattle.gl_base.specs.LittleEndian.{little_endian}
 use Rattle.gl_base.proofs.ByteLists.{AreBytes}
@@ -13,7 +13,6 @@ use Rattle.gl_base.proofs.LittleEndianLaws.{length-little_endian, from_little_en
 use Rattle.gl_base.proofs.Numbers.{bytes_at_ok, bytes_at_length, number_at_ok}
 use Rattle.gl_base.proofs.ByteLists.{are_bytes-true, AreBytes-front, AreBytes-behind, AreBytes-take}
 use Rattle.gl_base.proofs.RowLaws.{Took, string-took, string-reads}
-use Rattle.gl_entry.specs.Entry.{are_sized}
 
 -- ---- what was read
 

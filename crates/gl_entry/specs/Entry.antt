@@ -1,8 +1,8 @@
 -- Entries of a ledger (CCF documentation, "Ledger"), and the bytes of their frames.
-use Rattle.std.specs.Prelude.{ℕ, ◌+◌, ◌^◌, List, [], ◌∷◌, ◌++◌, Bool, true, false, ◌&&◌, length, replicate, nat_le, nat_lt, ◌==◌, ◌||◌}
+use Rattle.std.specs.Prelude.{ℕ, ◌+◌, ◌^◌, List, [], ◌∷◌, ◌++◌, Bool, true, false, ◌&&◌, length, replicate, nat_le, nat_lt, ◌||◌}
 use Rattle.std.specs.List.{flat_map, list_all}
 use Rattle.gl_base.specs.LittleEndian.{little_endian}
-use Rattle.gl_base.specs.Bytes.{are_bytes, same_bytes, mebibyte}
+use Rattle.gl_base.specs.Bytes.{are_bytes, are_sized, is_digest, same_bytes, mebibyte}
 use Rattle.gl_base.specs.Field.{with_u32_length}
 use Rattle.gl_base.specs.Row.{map_name_bytes, key_bytes, optional_value_bytes}
 use Rattle.gl_vmaps.specs.Writes.{is_write, is_ordered}
@@ -79,13 +79,6 @@ abbrev pub body_limit : ℕ
 body_limit = mebibyte
 
 -- Which values are entries
-
--- So many bytes.
-abbrev pub are_sized : ℕ → List ℕ → Bool
-are_sized size bytes = (length bytes == size) && are_bytes bytes
-
-abbrev pub is_digest : List ℕ → Bool
-is_digest bytes = are_sized 32 bytes
 
 abbrev pub is_recorded_signature : signatures.Signature → Bool
 is_recorded_signature s =

@@ -3,7 +3,8 @@
 ghost use Rattle.std.specs.Prelude.{◌≡◌, ◌&&◌, ◌||◌, nat_le, length, true};
 ghost use Rattle.std.specs.List.{list_all};
 ghost use Rattle.gl_vmaps.specs.Writes.{is_write, is_ordered};
-ghost use Rattle.gl_entry.specs.Entry.{body_bytes, body_limit, is_content, is_digest, may_write, may_claim, are_no_writes, is_no_digest, is_entry};
+ghost use Rattle.gl_entry.specs.Entry.{body_bytes, body_limit, is_content, may_write, may_claim, are_no_writes, is_no_digest, is_entry};
+ghost use Rattle.gl_base.specs.Bytes.{is_digest};
 
 use crate::body::{is_no_digest, may_claim, may_write};
 use crate::entry::{BODY_LIMIT, Content, Digest, Entry};

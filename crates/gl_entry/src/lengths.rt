@@ -3,9 +3,9 @@
 ghost use Rattle.std.specs.Prelude.{◌≡◌, ◌*◌, ◌^◌, ◌<◌, ◌≤◌, length, true};
 ghost use Rattle.std.specs.List.{flat_map};
 ghost use Rattle.std.specs.Option.{option_copied};
-ghost use Rattle.gl_base.specs.Bytes.{are_bytes};
+ghost use Rattle.gl_base.specs.Bytes.{are_bytes, is_digest};
 ghost use Rattle.gl_base.specs.Row.{optional_value_bytes};
-ghost use Rattle.gl_entry.specs.Entry.{write_bytes, signature_bytes, content_bytes, body_bytes, frame_size, is_digest, is_recorded_signature, is_content};
+ghost use Rattle.gl_entry.specs.Entry.{write_bytes, signature_bytes, content_bytes, body_bytes, frame_size, is_recorded_signature, is_content};
 
 use crate::entry::{Content, Digest, Entry, Signature};
 use gl_vmaps::{Value, Write};

@@ -2,8 +2,8 @@
 use Rattle.std.proofs.Common.{◌≡◌, ℕ, ◌≤◌, ◌^◌, List, [], ◌∷◌, length, map, None, true, ◌&&◌, nat_eq, nat_le, refl, arith}
 use Rattle.std.specs.List.{list_all, AllByRecursion}
 use Rattle.std.proofs.lemmas.Bool.{and_parts, and_from}
-use Rattle.gl_base.specs.Bytes.{is_byte, are_bytes}
-use Rattle.gl_entry.specs.Entry.{are_sized, body_bytes, body_limit}
+use Rattle.gl_base.specs.Bytes.{is_byte, are_bytes, are_sized}
+use Rattle.gl_entry.specs.Entry.{body_bytes, body_limit}
 use Rattle.gl_hss.specs.Order.{endorsement_verdict}
 use Rattle.gl_hss.proofs.Bounds.{length-endorsement}
 use Rattle.gl_ledger.specs.Genesis.{node_id, is_node, is_member_number, is_member, is_genesis, numbers_of, are_distinct, are_distinct_bytes, are_members, are_nodes, is_dealing_among, is_acceptable, HaveShortEndorsements}

@@ -12,7 +12,8 @@ use Rattle.gl_vmaps.specs.Writes.{write_order, with_write, put_before}
 use Rattle.gl_entry.specs.Entry.{write_bytes}
 use Rattle.gl_vmaps.specs.declared.write.Write.{Write}
 use Rattle.gl_entry.specs.Entry.{body_bytes, body_limit}
-use Rattle.gl_ledger.specs.Genesis.{state_byte, node_bytes, member_bytes, share_bytes, dealing_bytes, genesis_bytes, is_node, is_member, is_share, is_genesis, is_acceptable, row, constitution_rows, dealing_map, dealing_key, service_map, service_key, member_row, node_row, node_rows, service_row, genesis_rows, set_from}
+use Rattle.gl_ledger.specs.Genesis.{state_byte, node_bytes, member_bytes, share_bytes, dealing_bytes, genesis_bytes, is_node, is_member, is_share, is_genesis, is_acceptable, constitution_rows, dealing_map, dealing_key, service_map, service_key, member_row, node_row, node_rows, service_row, genesis_rows}
+use Rattle.gl_vmaps.specs.Changes.{row, set_from}
 use Rattle.gl_ledger.specs.Ledger.{genesis_entry}
 use Rattle.gl_ledger.specs.declared.genesis.NewNode.{NewNode}
 use Rattle.gl_ledger.specs.declared.genesis.NewMember.{NewMember}

@@ -6,8 +6,7 @@ use Rattle.sha2.specs.Sha256.{sha256}
 use Rattle.sha2.proofs.Facts256.{length-sha256}
 use Rattle.gl_lms.proofs.Octets as lms
 use Rattle.gl_base.specs.LittleEndian.{little_endian}
-use Rattle.gl_base.specs.Bytes.{is_byte, are_bytes}
-use Rattle.gl_entry.specs.Entry.{are_sized, is_digest}
+use Rattle.gl_base.specs.Bytes.{is_byte, are_bytes, are_sized, is_digest}
 
 pub bytes-append : (xs ys : List ℕ) → are_bytes xs ≡ true → are_bytes ys ≡ true → are_bytes (xs ++ ys) ≡ true
 bytes-append xs ys left right = lms.bytes-append xs ys left right

@@ -5,7 +5,7 @@ use Rattle.std.specs.Cmp.Lexicographic.{bytes_decides}
 use Rattle.std.proofs.lemmas.Bool.{and_from}
 use Rattle.std.proofs.lemmas.Bool.Decides.{nat_tests}
 use Rattle.gl_base.specs.LittleEndian.{little_endian}
-use Rattle.gl_base.specs.Bytes.{are_bytes}
+use Rattle.gl_base.specs.Bytes.{are_bytes, is_digest}
 use Rattle.gl_base.proofs.LittleEndianLaws.{length-little_endian}
 use Rattle.gl_vmaps.specs.Writes.{is_write, is_ordered}
 use Rattle.gl_base.specs.Row.{map_name_bytes, key_bytes, optional_value_bytes}
@@ -13,7 +13,7 @@ use Rattle.gl_entry.specs.Entry.{write_bytes}
 use Rattle.gl_vmaps.specs.declared.write.Write.{Write}
 use Rattle.gl_base.proofs.ByteLists.{AreBytes, are_bytes-true}
 use Rattle.gl_vmaps.proofs.WriteLaws.{list_all-from_writes}
-use Rattle.gl_entry.specs.Entry.{no_digest, content_bytes, body_bytes, body_limit, kind_tag, is_digest, is_content, may_write, may_claim, are_no_writes, is_no_digest, is_entry}
+use Rattle.gl_entry.specs.Entry.{no_digest, content_bytes, body_bytes, body_limit, kind_tag, is_content, may_write, may_claim, are_no_writes, is_no_digest, is_entry}
 use Rattle.gl_entry.specs.declared.entry.Content.TheVariants as content
 use Rattle.gl_entry.specs.declared.entry.Entry.{Entry}
 use Rattle.gl_entry.proofs.Fitting.{is_digest-from}

@@ -4,21 +4,19 @@ use Rattle.std.specs.List.{list_all, flat_map}
 use Rattle.std.proofs.lemmas.Bool.{and_parts, and_from}
 use Rattle.std.proofs.lemmas.Bool.Decides.{nat_tests}
 use Rattle.gl_base.specs.LittleEndian.{little_endian}
-use Rattle.gl_base.specs.Bytes.{is_byte, are_bytes, mebibyte}
+use Rattle.gl_base.specs.Bytes.{is_byte, are_bytes, mebibyte, are_sized}
 use Rattle.gl_base.specs.Field.{with_u32_length}
 use Rattle.gl_base.specs.Cut.{Unread, bytes_at, number_at, string_at}
 use Rattle.gl_base.specs.Code.{field}
 use Rattle.gl_base.specs.declared.fault.CodeFault.{CodeFault}
 use Rattle.gl_base.specs.declared.fault.CodeFault.TheVariants as faults
 use Rattle.gl_base.proofs.ByteLists.{AreBytes, are_bytes-true, AreBytes-front, AreBytes-take}
-use Rattle.gl_base.proofs.Fields.{bytes_at-append, bytes_at-spelled, number_at-spelled, number_spelled}
+use Rattle.gl_base.proofs.Fields.{bytes_at-append, bytes_at-spelled, number_at-spelled, number_spelled, tag_read}
 use Rattle.gl_base.proofs.Numbers.{bytes_at_length}
 use Rattle.gl_base.proofs.RowLaws.{field_ok, flag-took, string-took, string-reads}
 use Rattle.gl_base.proofs.Steps.{bind_ok, cond_ok, ok_injective}
-use Rattle.gl_entry.specs.Entry.{are_sized}
-use Rattle.gl_tx.proofs.Fields.{tag_read}
-use Rattle.gl_tx.proofs.Readings.{IsSpelled, IsRead, both_parts, bytes_left}
-use Rattle.gl_tx.proofs.Repeated.{Repeats, many-spelled, many-read}
+use Rattle.gl_base.proofs.Readings.{IsSpelled, IsRead, both_parts, bytes_left}
+use Rattle.gl_base.proofs.Repeated.{Repeats, many-spelled, many-read}
 use Rattle.gl_ledger.specs.Genesis.{is_member_number}
 use Rattle.gl_ledger.specs.Reading.{repeated_at, counted_at, member_number_in, member_number_at}
 use Rattle.gl_ledger.proofs.Digests.{are_sized-true}

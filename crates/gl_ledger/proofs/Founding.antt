@@ -4,12 +4,13 @@ use Rattle.std.specs.List.{list_all, AllByRecursion}
 use Rattle.std.proofs.lemmas.Bool.{and_parts}
 use Rattle.gl_vmaps.specs.Writes.{with_write}
 use Rattle.gl_vmaps.specs.declared.write.Write.{Write}
-use Rattle.gl_ledger.specs.Genesis.{is_node, is_genesis, set_from, constitution_rows, row, dealing_map, dealing_key, dealing_bytes, member_row, node_row, node_rows, service_row, genesis_writes}
+use Rattle.gl_ledger.specs.Genesis.{is_node, is_genesis, constitution_rows, dealing_map, dealing_key, dealing_bytes, member_row, node_row, node_rows, service_row, genesis_writes}
+use Rattle.gl_vmaps.specs.Changes.{set_from, row}
 use Rattle.gl_ledger.specs.declared.genesis.NewNode.{NewNode}
 use Rattle.gl_ledger.specs.declared.genesis.Genesis as request
 use Rattle.gl_ledger.proofs.GenesisFields.{node_fields, fields_of}
 use Rattle.gl_base.proofs.Lists.{map-drop}
-use Rattle.gl_ledger.proofs.WriteSets.{set_from-append}
+use Rattle.gl_vmaps.proofs.WriteSets.{set_from-append}
 
 -- ---- ranges
 

@@ -6,15 +6,16 @@ use Rattle.std.proofs.lemmas.Bool.Decides.{nat_tests}
 use Rattle.std.proofs.lemmas.List.Folds.{list_all-append}
 use Rattle.sha2.proofs.Facts256.{length-sha256}
 use Rattle.gl_base.specs.LittleEndian.{little_endian}
-use Rattle.gl_base.specs.Bytes.{is_byte, are_bytes}
+use Rattle.gl_base.specs.Bytes.{is_byte, are_bytes, is_digest}
 use Rattle.gl_base.specs.Field.{with_u32_length}
 use Rattle.gl_base.proofs.LittleEndianLaws.{length-little_endian}
 use Rattle.gl_vmaps.specs.Name.{is_map_name, is_key, is_value}
 use Rattle.gl_vmaps.specs.Writes.{is_write}
 use Rattle.gl_vmaps.specs.declared.write.Write.{Write}
 use Rattle.gl_vmaps.proofs.WriteLaws.{all_writes}
-use Rattle.gl_entry.specs.Entry.{no_digest, is_digest, is_entry}
-use Rattle.gl_ledger.specs.Genesis.{state_byte, node_id, node_bytes, member_bytes, share_bytes, dealing_bytes, genesis_bytes, is_node, is_member, is_share, is_genesis, is_acceptable, row, constitution_rows, dealing_map, dealing_key, members_map, nodes_map, service_map, service_key, member_row, node_row, node_rows, service_row, genesis_rows, genesis_writes}
+use Rattle.gl_entry.specs.Entry.{no_digest, is_entry}
+use Rattle.gl_ledger.specs.Genesis.{state_byte, node_id, node_bytes, member_bytes, share_bytes, dealing_bytes, genesis_bytes, is_node, is_member, is_share, is_genesis, is_acceptable, constitution_rows, dealing_map, dealing_key, members_map, nodes_map, service_map, service_key, member_row, node_row, node_rows, service_row, genesis_rows, genesis_writes}
+use Rattle.gl_vmaps.specs.Changes.{row}
 use Rattle.gl_ledger.specs.Ledger.{genesis_entry}
 use Rattle.gl_ledger.specs.declared.genesis.ServiceState.{ServiceState}
 use Rattle.gl_ledger.specs.declared.genesis.ServiceState.TheVariants.{Opening, Open}
@@ -22,7 +23,7 @@ use Rattle.gl_ledger.specs.declared.genesis.NewNode.{NewNode}
 use Rattle.gl_ledger.specs.declared.genesis.NewMember.{NewMember}
 use Rattle.gl_ledger.specs.declared.genesis.Dealing.{Dealing}
 use Rattle.gl_ledger.specs.declared.genesis.Genesis as request
-use Rattle.gl_ledger.proofs.WriteSets.{is_ordered-set_from, list_all-set_from}
+use Rattle.gl_vmaps.proofs.WriteSets.{is_ordered-set_from, list_all-set_from}
 use Rattle.gl_ledger.proofs.Entries.{governance_fits, is_entry-from_fields}
 use Rattle.gl_ledger.proofs.Bodies.{shares_size, small_founding}
 use Rattle.gl_ledger.proofs.GenesisFields.{sized_bytes, sized_length, node_fields, Fields, fields_of, member_parts, share_parts}

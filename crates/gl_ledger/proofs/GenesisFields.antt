@@ -3,8 +3,7 @@ use Rattle.std.proofs.Common.{◌≡◌, ℕ, ◌<◌, ◌≤◌, nat_lt, nat_le
 use Rattle.std.specs.List.{list_all}
 use Rattle.std.proofs.lemmas.Bool.{and_parts}
 use Rattle.std.proofs.lemmas.Bool.Decides.{nat_tests}
-use Rattle.gl_base.specs.Bytes.{is_byte, are_bytes, mebibyte}
-use Rattle.gl_entry.specs.Entry.{are_sized, is_digest}
+use Rattle.gl_base.specs.Bytes.{is_byte, are_bytes, mebibyte, are_sized, is_digest}
 use Rattle.gl_ledger.specs.Genesis.{node_id, is_node, is_member_number, is_member, is_share, is_dealing, is_genesis, are_nodes, are_members, numbers_of, is_dealing_among, are_distinct_bytes, is_acceptable}
 use Rattle.gl_ledger.specs.declared.genesis.NewNode.{NewNode}
 use Rattle.gl_ledger.specs.declared.genesis.NewMember.{NewMember}

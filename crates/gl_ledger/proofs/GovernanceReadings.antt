@@ -4,16 +4,15 @@ use Rattle.std.specs.List.{list_all, flat_map}
 use Rattle.std.specs.Result.{result_ok}
 use Rattle.std.proofs.lemmas.Bool.{and_parts, and_from, eqb-true}
 use Rattle.gl_base.specs.LittleEndian.{little_endian}
-use Rattle.gl_base.specs.Bytes.{are_bytes}
+use Rattle.gl_base.specs.Bytes.{are_bytes, are_sized}
 use Rattle.gl_base.specs.Cut.{Unread}
 use Rattle.gl_base.specs.Steps.{◌>>=◌}
 use Rattle.gl_base.specs.declared.fault.CodeFault.{CodeFault}
 use Rattle.gl_base.specs.declared.fault.CodeFault.TheVariants as faults
 use Rattle.gl_base.proofs.ByteLists.{AreBytes, are_bytes-each}
 use Rattle.gl_base.proofs.Steps.{bind_ok, ok_injective}
-use Rattle.gl_entry.specs.Entry.{are_sized}
-use Rattle.gl_tx.proofs.Fields.{tag_read}
-use Rattle.gl_tx.proofs.Readings.{IsSpelled, Gets, IsRead, whole-spelled, whole-read, chosen}
+use Rattle.gl_base.proofs.Fields.{tag_read}
+use Rattle.gl_base.proofs.Readings.{IsSpelled, Gets, IsRead, whole-spelled, whole-read, chosen}
 use Rattle.gl_ledger.specs.Layers.{ReadsSpellings}
 use Rattle.gl_ledger.specs.NodeKeys.{service_layers}
 use Rattle.gl_ledger.specs.declared.genesis.ServiceState.{ServiceState}

@@ -1,7 +1,6 @@
 pub mod Sizes
 pub mod TablesLaws
 pub mod Growth
-pub mod WriteSets
 pub mod Openings
 pub mod Signatures
 pub mod Applications
@@ -19,7 +18,6 @@ pub mod Passing
 pub mod SameWrites
 pub mod Lawful
 pub mod Pushes
-pub mod Changes
 pub mod Gathering
 pub mod Sounding
 pub mod Auditing

@@ -42,7 +42,8 @@ use Rattle.gl_ledger.specs.declared.breach.Broken.{Broken}
 use Rattle.gl_ledger.specs.Broken.{breach, is_next_view, is_unopened, is_in_order, broken_of_run, broken_in_state, effect_writes, unless_refused, with_writes, signs_at, last_signed, commit_behind, commit_from, last_commit, is_above_removal, is_later_commit, may_record, broken_by_fault, are_same_writes, broken}
 use Rattle.gl_ledger.specs.Makers.{Given, Replied, Unspelled, MayMake, with_reply, request_result, guarded, unless_broken, governance_entry, signature_made, signed_entry, MakesValid}
 use Rattle.gl_ledger.specs.LedgerBook.{ledger_book}
-use Rattle.gl_ledger.proofs.SameWrites.{same_bytes_self, same_writes_self}
+use Rattle.gl_ledger.proofs.SameWrites.{same_writes_self}
+use Rattle.gl_vmaps.proofs.SameValues.{same_bytes_self}
 use Rattle.gl_ledger.proofs.Passing.{passes, passing_all}
 
 itself : (n : ℕ) → (n == n) ≡ true

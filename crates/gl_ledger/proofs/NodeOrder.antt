@@ -9,14 +9,15 @@ use Rattle.gl_vmaps.specs.LastWrite.{last_write, value_behind}
 use Rattle.gl_vmaps.specs.declared.write.Write.{Write}
 use Rattle.gl_vmaps.proofs.LastWrites.{last_such-cons}
 use Rattle.gl_vmaps.proofs.TablesLaws.{value_in-wrote_all}
-use Rattle.gl_ledger.specs.Genesis.{node_id, nodes_map, node_row, node_rows, are_distinct_bytes, constitution_rows, row, dealing_map, dealing_key, dealing_bytes, member_row, service_row, genesis_rows}
+use Rattle.gl_ledger.specs.Genesis.{node_id, nodes_map, node_row, node_rows, are_distinct_bytes, constitution_rows, dealing_map, dealing_key, dealing_bytes, member_row, service_row, genesis_rows}
+use Rattle.gl_vmaps.specs.Changes.{row}
 use Rattle.gl_ledger.specs.Tree.{tables_of}
 use Rattle.gl_ledger.specs.Ledger.{genesis_entry}
 use Rattle.gl_ledger.specs.declared.genesis.NewNode.{NewNode}
 use Rattle.gl_ledger.specs.declared.genesis.Genesis as request
 use Rattle.gl_ledger.proofs.TablesLaws.{tables_of-push}
-use Rattle.gl_ledger.proofs.WriteSets.{rows-write_set, wrote_all-append}
-use Rattle.gl_ledger.proofs.SameWrites.{same_bytes_self}
+use Rattle.gl_vmaps.proofs.WriteSets.{rows-write_set, wrote_all-append}
+use Rattle.gl_vmaps.proofs.SameValues.{same_bytes_self}
 
 to_node : (key : List ℕ) (order : ℕ) (n : NewNode) → is_to_row nodes_map key (node_row order n) ≡ same_bytes key (node_id n)
 to_node key order n = ap (λ (b : Bool). b && same_bytes key (node_id n)) (same_bytes_self nodes_map)

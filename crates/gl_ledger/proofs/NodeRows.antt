@@ -13,7 +13,8 @@ use Rattle.gl_vmaps.proofs.TablesLaws.{value_in-wrote, value_in-nothing}
 use Rattle.gl_entry.specs.declared.entry.Content.{Content}
 use Rattle.gl_entry.specs.declared.entry.Content.TheVariants as content
 use Rattle.gl_entry.specs.declared.entry.Entry.{Entry}
-use Rattle.gl_ledger.specs.Genesis.{node_id, nodes_map, node_row, node_rows, constitution_rows, row, dealing_map, dealing_key, dealing_bytes, member_row, service_row, genesis_rows, genesis_writes}
+use Rattle.gl_ledger.specs.Genesis.{node_id, nodes_map, node_row, node_rows, constitution_rows, dealing_map, dealing_key, dealing_bytes, member_row, service_row, genesis_rows, genesis_writes}
+use Rattle.gl_vmaps.specs.Changes.{row}
 use Rattle.gl_ledger.specs.Effect.{Recorded, effect}
 use Rattle.gl_ledger.specs.Tree.{tables_of}
 use Rattle.gl_ledger.specs.declared.genesis.NewNode.{NewNode}
@@ -27,8 +28,8 @@ use Rattle.gl_ledger.specs.Broken.{signs_at, last_signed, last_commit, is_above_
 use Rattle.gl_ledger.specs.Sound.{IsSound}
 use Rattle.gl_ledger.specs.Makers.{MayMake}
 use Rattle.gl_ledger.proofs.Founded.{unfounding}
-use Rattle.gl_ledger.proofs.WriteSets.{rows-write_set, wrote_all-append}
-use Rattle.gl_ledger.proofs.SameWrites.{same_bytes_self}
+use Rattle.gl_vmaps.proofs.WriteSets.{rows-write_set, wrote_all-append}
+use Rattle.gl_vmaps.proofs.SameValues.{same_bytes_self}
 
 -- ---- rows
 

@@ -22,15 +22,16 @@ use Rattle.gl_ledger.specs.Layers.{Layers}
 use Rattle.gl_ledger.specs.NodeKeys.{NodeKeys}
 use Rattle.gl_ledger.specs.declared.recording.Recording.TheVariants as recordings
 use Rattle.gl_ledger.specs.Recordings.{recording_of, governance_recording, records_founding, founds, requests_of, recorded_at, nodes_of, trusted_of, changed_set, recorded_nodes, trusted_nodes, configuration}
-use Rattle.gl_ledger.specs.Changes.{changes}
+use Rattle.gl_vmaps.specs.Changes.{changes}
 use Rattle.gl_ledger.specs.Broken.{unless_refused, with_writes, is_later_commit, may_record, fault_of_signature, broken_by_fault, are_same_writes, broken}
 use Rattle.gl_ledger.specs.Makers.{signature_behind, signed_entry, opening_of}
 use Rattle.gl_ledger.specs.LedgerBook.{by_rule, ledger_book}
 use Rattle.gl_ledger.specs.Acceptance.{genesis_fault}
 use Rattle.gl_ledger.specs.Opening.{Founds}
 use Rattle.gl_ledger.proofs.SignatureEntries.{named_digests, among, signed_is_entry}
-use Rattle.gl_ledger.proofs.SameWrites.{same_bytes_self, same_writes_self}
-use Rattle.gl_ledger.proofs.Changes.{changes_from_none}
+use Rattle.gl_ledger.proofs.SameWrites.{same_writes_self}
+use Rattle.gl_vmaps.proofs.SameValues.{same_bytes_self}
+use Rattle.gl_vmaps.proofs.Changes.{changes_from_none}
 use Rattle.gl_ledger.proofs.Sounding.{are_effect_rows}
 use Rattle.gl_ledger.proofs.Passing.{passes, passing_all}
 

@@ -6,7 +6,8 @@ use Rattle.std.proofs.lemmas.List.Folds.{list_all-append}
 use Rattle.gl_vmaps.specs.Tables.{no_tables, value_in, wrote_all}
 use Rattle.gl_vmaps.specs.Writes.{with_write}
 use Rattle.gl_vmaps.specs.declared.write.Write.{Write}
-use Rattle.gl_ledger.specs.Genesis.{genesis_rows, genesis_writes, constitution_rows, row, dealing_map, dealing_key, dealing_bytes, member_row, node_row, node_rows, service_row, service_map, service_key, write_set, state_byte}
+use Rattle.gl_ledger.specs.Genesis.{genesis_rows, genesis_writes, constitution_rows, dealing_map, dealing_key, dealing_bytes, member_row, node_row, node_rows, service_row, service_map, service_key, state_byte}
+use Rattle.gl_vmaps.specs.Changes.{row, write_set}
 use Rattle.gl_ledger.specs.Effect.{state_of_value, service_state, identity_of_value, identity_in}
 use Rattle.gl_ledger.specs.Tree.{tables_of}
 use Rattle.gl_ledger.specs.Ledger.{genesis_entry, signature_entry, opening_ledger}
@@ -15,7 +16,7 @@ use Rattle.gl_ledger.specs.declared.genesis.NewNode.{NewNode}
 use Rattle.gl_ledger.specs.declared.genesis.Genesis as request
 use Rattle.gl_ledger.specs.declared.genesis.ServiceState.{ServiceState}
 use Rattle.gl_ledger.specs.declared.genesis.ServiceState.TheVariants.{Opening, Open}
-use Rattle.gl_ledger.proofs.WriteSets.{set_from-append, is_ordered-set_from, value_in-put, sets_value}
+use Rattle.gl_vmaps.proofs.WriteSets.{set_from-append, is_ordered-set_from, value_in-put, sets_value}
 use Rattle.gl_ledger.proofs.TablesLaws.{tables_of-push}
 
 -- ---- the rows of a genesis set values

@@ -3,7 +3,7 @@ use Rattle.std.proofs.Common.{◌≡◌, ℕ, ◌+◌, Bool, true, cond, ◌&&�
 use Rattle.std.specs.List.{list_all, flat_map}
 use Rattle.std.proofs.lemmas.Bool.{and_parts, and_from, eqb-true}
 use Rattle.gl_base.specs.LittleEndian.{little_endian}
-use Rattle.gl_base.specs.Bytes.{is_byte, are_bytes, mebibyte}
+use Rattle.gl_base.specs.Bytes.{is_byte, are_bytes, mebibyte, are_sized, is_digest}
 use Rattle.gl_base.specs.Field.{with_u32_length}
 use Rattle.gl_base.specs.Steps.{◌>>=◌}
 use Rattle.gl_base.specs.Cut.{Unread}
@@ -11,9 +11,8 @@ use Rattle.gl_base.specs.declared.fault.CodeFault.{CodeFault}
 use Rattle.gl_base.specs.declared.fault.CodeFault.TheVariants as faults
 use Rattle.gl_base.proofs.ByteLists.{AreBytes}
 use Rattle.gl_base.proofs.Steps.{bind_ok, ok_injective}
-use Rattle.gl_entry.specs.Entry.{are_sized, is_digest}
-use Rattle.gl_tx.proofs.Fields.{tag_read}
-use Rattle.gl_tx.proofs.Readings.{IsSpelled, IsRead, chosen}
+use Rattle.gl_base.proofs.Fields.{tag_read}
+use Rattle.gl_base.proofs.Readings.{IsSpelled, IsRead, chosen}
 use Rattle.gl_ledger.specs.declared.genesis.ServiceState.{ServiceState}
 use Rattle.gl_ledger.specs.declared.genesis.ServiceState.TheVariants.{Opening, Open}
 use Rattle.gl_ledger.specs.declared.genesis.ShareDigest.{ShareDigest}

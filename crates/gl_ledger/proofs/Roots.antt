@@ -6,7 +6,7 @@ use Rattle.std.proofs.lemmas.Bool.{and_parts, and_from}
 use Rattle.std.proofs.lemmas.Bool.Decides.{nat_tests}
 use Rattle.gl_merkle.specs.Tree.{root_of, root_within, inner_of}
 use Rattle.gl_vmaps.specs.Tables.{Tables, wrote_all}
-use Rattle.gl_entry.specs.Entry.{is_digest}
+use Rattle.gl_base.specs.Bytes.{is_digest}
 use Rattle.gl_entry.specs.Leaf.{leaf_of}
 use Rattle.gl_entry.specs.declared.entry.Entry.{Entry}
 use Rattle.gl_ledger.specs.Effect.{identity_in}

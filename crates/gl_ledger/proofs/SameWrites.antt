@@ -1,27 +1,11 @@
--- Bytes, values and write sets that the tests find the same are one.
+-- Write sets that the tests find the same are one.
 use Rattle.std.proofs.Common.{◌≡◌, ℕ, List, [], ◌∷◌, Option, Some, None, true, ◌&&◌, refl, ◌∙◌, ap}
 use Rattle.std.proofs.lemmas.Bool.{and_parts, and_from}
-use Rattle.std.specs.Cmp.Lexicographic.{bytes_decides}
 use Rattle.gl_base.specs.Bytes.{same_bytes}
 use Rattle.gl_vmaps.specs.declared.write.Write.{Write}
-use Rattle.gl_tx.specs.Run.{is_expected}
+use Rattle.gl_vmaps.specs.Tables.{same_value}
+use Rattle.gl_vmaps.proofs.SameValues.{same_bytes_is, same_bytes_self, same_value_is, same_value_self}
 use Rattle.gl_ledger.specs.Broken.{is_same_write, are_same_writes}
-
-pub same_bytes_is : (xs ys : List ℕ) → same_bytes xs ys ≡ true → xs ≡ ys
-same_bytes_is xs ys h = (bytes_decides xs ys).0 h
-
-pub same_bytes_self : (xs : List ℕ) → same_bytes xs xs ≡ true
-same_bytes_self xs = (bytes_decides xs xs).1 refl
-
-pub same_value_is : (a b : Option (List ℕ)) → is_expected a b ≡ true → a ≡ b
-same_value_is None None h = refl
-same_value_is None (Some y) h = absurd (cc)
-same_value_is (Some x) None h = absurd (cc)
-same_value_is (Some x) (Some y) h = ap Some (same_bytes_is x y h)
-
-pub same_value_self : (a : Option (List ℕ)) → is_expected a a ≡ true
-same_value_self None = refl
-same_value_self (Some x) = same_bytes_self x
 
 write_is : (v w : Write) → v.map ≡ w.map → v.key ≡ w.key → v.value ≡ w.value → v ≡ w
 write_is v w a b c =
@@ -35,7 +19,7 @@ same_writes_are [] (w ∷ ws) h = absurd (cc)
 same_writes_are (v ∷ vs) [] h = absurd (cc)
 same_writes_are (v ∷ vs) (w ∷ ws) h =
     let both = and_parts (is_same_write v w) (are_same_writes vs ws) h in
-    let row = and_parts (same_bytes v.map w.map && same_bytes v.key w.key) (is_expected v.value w.value) both.0 in
+    let row = and_parts (same_bytes v.map w.map && same_bytes v.key w.key) (same_value v.value w.value) both.0 in
     let names = and_parts (same_bytes v.map w.map) (same_bytes v.key w.key) row.0 in
     let one : v ≡ w = write_is v w (same_bytes_is v.map w.map names.0) (same_bytes_is v.key w.key names.1) (same_value_is v.value w.value row.1) in
     ap (λ (x : Write). x ∷ vs) one ∙ ap (λ (xs : List Write). w ∷ xs) (same_writes_are vs ws both.1)
@@ -44,6 +28,6 @@ pub same_writes_self : (ws : List Write) → are_same_writes ws ws ≡ true
 same_writes_self [] = refl
 same_writes_self (w ∷ ws) =
     and_from (is_same_write w w) (are_same_writes ws ws)
-    (and_from (same_bytes w.map w.map && same_bytes w.key w.key) (is_expected w.value w.value)
+    (and_from (same_bytes w.map w.map && same_bytes w.key w.key) (same_value w.value w.value)
     (and_from (same_bytes w.map w.map) (same_bytes w.key w.key) (same_bytes_self w.map) (same_bytes_self w.key)) (same_value_self w.value))
     (same_writes_self ws)

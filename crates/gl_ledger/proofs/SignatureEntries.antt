@@ -4,13 +4,13 @@ use Rattle.std.specs.List.{list_all}
 use Rattle.std.specs.Cmp.Lexicographic.{bytes_decides}
 use Rattle.std.proofs.lemmas.Bool.{and_parts, and_from}
 use Rattle.std.proofs.lemmas.Bool.Decides.{nat_tests}
-use Rattle.gl_base.specs.Bytes.{are_bytes}
+use Rattle.gl_base.specs.Bytes.{are_bytes, is_digest}
 use Rattle.gl_base.specs.LittleEndian.{little_endian}
 use Rattle.gl_base.proofs.LittleEndianLaws.{length-little_endian}
 use Rattle.gl_merkle.specs.Tree.{root_of}
 use Rattle.gl_rules.specs.Identity.{NodeId, same, member}
 use Rattle.gl_rules.proofs.Ids.{same_is}
-use Rattle.gl_entry.specs.Entry.{no_digest, is_digest, is_entry}
+use Rattle.gl_entry.specs.Entry.{no_digest, is_entry}
 use Rattle.gl_entry.specs.declared.entry.Content.TheVariants as content
 use Rattle.gl_entry.specs.declared.entry.Entry.{Entry}
 use Rattle.gl_entry.specs.declared.entry.Signature as signatures

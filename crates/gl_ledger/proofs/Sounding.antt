@@ -6,7 +6,7 @@ use Rattle.std.specs.Cmp.Lexicographic.{bytes_decides}
 use Rattle.std.proofs.lemmas.Bool.{and_parts, and_from}
 use Rattle.std.proofs.lemmas.Bool.Decides.{nat_tests}
 use Rattle.sha2.specs.Sha256.{sha256}
-use Rattle.gl_base.specs.Bytes.{are_bytes, same_bytes}
+use Rattle.gl_base.specs.Bytes.{are_bytes, same_bytes, is_digest}
 use Rattle.gl_base.specs.declared.fault.CodeFault.{CodeFault}
 use Rattle.gl_base.proofs.ByteLists.{are_bytes-each}
 use Rattle.gl_base.proofs.Lists.{slice_get-push, slice_get-within}
@@ -24,7 +24,7 @@ use Rattle.gl_tx.specs.declared.runs.Ran.{Ran}
 use Rattle.gl_tx.specs.declared.request.Operation.{Operation}
 use Rattle.gl_tx.specs.declared.abort.Abort.{Abort}
 use Rattle.gl_tx.proofs.Formats.{request-spelled}
-use Rattle.gl_entry.specs.Entry.{no_digest, is_signature, is_entry, is_content, is_digest, may_write, may_claim, are_no_writes, is_no_digest, body_bytes, body_limit}
+use Rattle.gl_entry.specs.Entry.{no_digest, is_signature, is_entry, is_content, may_write, may_claim, are_no_writes, is_no_digest, body_bytes, body_limit}
 use Rattle.gl_entry.specs.declared.entry.Content.{Content}
 use Rattle.gl_entry.specs.declared.entry.Content.TheVariants as content
 use Rattle.gl_entry.specs.declared.entry.Entry.{Entry}
@@ -32,7 +32,7 @@ use Rattle.gl_entry.specs.declared.entry.Signature as signatures
 use Rattle.gl_ledger.specs.Genesis.{service_map, service_key, genesis_rows, genesis_writes}
 use Rattle.gl_ledger.specs.Effect.{Recorded, effect, effect_rows, service_state, state_of_value}
 use Rattle.gl_ledger.specs.Tree.{tables_of, leaves_of}
-use Rattle.gl_ledger.specs.Serial.{Turns}
+use Rattle.gl_vmaps.specs.Changes.{Turns, are_rows}
 use Rattle.gl_ledger.specs.declared.genesis.ServiceState.{ServiceState}
 use Rattle.gl_ledger.specs.declared.genesis.ServiceState.TheVariants.{Opening, Open}
 use Rattle.gl_ledger.specs.declared.genesis.GovernanceRequest.{GovernanceRequest}
@@ -42,19 +42,19 @@ use Rattle.gl_ledger.specs.Layers.{Layers, ReadsSpellings}
 use Rattle.gl_ledger.specs.declared.recording.Recording.{Recording}
 use Rattle.gl_ledger.specs.declared.recording.Recording.TheVariants as recordings
 use Rattle.gl_ledger.specs.Recordings.{governance_recording, application_recording, is_founding, records_founding, is_signing, last_entry, recording_of, founds, requests_of, recorded_nodes}
-use Rattle.gl_ledger.specs.Changes.{are_rows}
 use Rattle.gl_ledger.specs.Acceptance.{request_fault}
 use Rattle.gl_ledger.specs.declared.breach.Broken.{Broken}
 use Rattle.gl_ledger.specs.Broken.{is_next_view, is_in_order, are_same_writes, broken_in_state, effect_writes, unless_refused, broken_by_fault, may_record, fault_of_signature, broken_by, broken}
 use Rattle.gl_ledger.specs.Sound.{IsFounded, IsGovernanceEntry, IsApplicationEntry, IsSignatureEntry, StandsAs, IsGoverned, IsSound}
 use Rattle.gl_ledger.proofs.TablesLaws.{tables_of-push}
-use Rattle.gl_ledger.proofs.WriteSets.{sets_value, is_ordered-set_from, list_all-set_from}
+use Rattle.gl_vmaps.proofs.WriteSets.{sets_value, is_ordered-set_from, list_all-set_from}
 use Rattle.gl_ledger.proofs.Growth.{IsOutside, IsNoGovernance, untouched, in_order-push}
 use Rattle.gl_ledger.proofs.Applications.{run_outside}
 use Rattle.gl_ledger.proofs.Openings.{rows_set}
-use Rattle.gl_ledger.proofs.SameWrites.{same_bytes_is, same_writes_are}
+use Rattle.gl_ledger.proofs.SameWrites.{same_writes_are}
+use Rattle.gl_vmaps.proofs.SameValues.{same_bytes_is}
 use Rattle.gl_ledger.proofs.Pushes.{each-push, no_last}
-use Rattle.gl_ledger.proofs.Changes.{changes_turn}
+use Rattle.gl_vmaps.proofs.Changes.{changes_turn}
 use Rattle.gl_ledger.proofs.Gathering.{requests-quiet, requests-more, signing_is}
 use Rattle.gl_ledger.proofs.Passing.{passed, Passes, passing}
 

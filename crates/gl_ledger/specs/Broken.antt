@@ -14,7 +14,8 @@ use Rattle.gl_rules.specs.Log.{entry_at, seqno_with_first}
 use Rattle.gl_rules.specs.World.{first_view}
 use Rattle.gl_vmaps.specs.declared.write.Write.{Write}
 use Rattle.gl_tx.specs.Request.{reply_bytes}
-use Rattle.gl_tx.specs.Run.{run, is_expected}
+use Rattle.gl_tx.specs.Run.{run}
+use Rattle.gl_vmaps.specs.Tables.{same_value}
 use Rattle.gl_tx.specs.declared.request.Operation.{Operation}
 use Rattle.gl_tx.specs.declared.runs.Ran.{Ran}
 use Rattle.gl_tx.specs.declared.abort.Abort.{Abort}
@@ -37,7 +38,7 @@ use Rattle.gl_ledger.specs.Layers.{Layers}
 use Rattle.gl_ledger.specs.declared.recording.Recording.{Recording}
 use Rattle.gl_ledger.specs.declared.recording.Recording.TheVariants as recordings
 use Rattle.gl_ledger.specs.Recordings.{is_founding, is_signing, last_entry, recording_of, founds, requests_of, recorded_nodes, removal, mark}
-use Rattle.gl_ledger.specs.Changes.{changes}
+use Rattle.gl_vmaps.specs.Changes.{changes}
 use Rattle.gl_ledger.specs.Acceptance.{required, request_fault}
 
 -- At this seqno another digest is wanted than the one that is found.
@@ -62,7 +63,7 @@ is_next_view (Some last) recording view = nat_le last.view view
 
 abbrev pub is_same_write : Write → Write → Bool
 is_same_write v w =
-    same_bytes v.map w.map && same_bytes v.key w.key && is_expected v.value w.value
+    same_bytes v.map w.map && same_bytes v.key w.key && same_value v.value w.value
 
 abbrev pub are_same_writes : List Write → List Write → Bool
 are_same_writes [] [] = true

@@ -3,11 +3,10 @@ use Rattle.std.specs.Prelude.{ℕ, suc, ◌^◌, ◌≤◌, List, [], ◌∷◌,
 use Rattle.std.specs.List.{flat_map, list_all, list_any, AllByRecursion}
 use Rattle.sha2.specs.Sha256.{sha256}
 use Rattle.gl_base.specs.LittleEndian.{little_endian}
-use Rattle.gl_base.specs.Bytes.{is_byte, are_bytes, same_bytes, mebibyte}
+use Rattle.gl_base.specs.Bytes.{is_byte, are_bytes, same_bytes, mebibyte, are_sized, is_digest}
 use Rattle.gl_base.specs.Field.{with_u32_length}
-use Rattle.gl_vmaps.specs.Writes.{with_write}
+use Rattle.gl_vmaps.specs.Changes.{row, write_set}
 use Rattle.gl_vmaps.specs.declared.write.Write.{Write}
-use Rattle.gl_entry.specs.Entry.{are_sized, is_digest}
 use Rattle.gl_ledger.specs.declared.genesis.ServiceState.{ServiceState}
 use Rattle.gl_ledger.specs.declared.genesis.ServiceState.TheVariants.{Opening, Open}
 use Rattle.gl_ledger.specs.declared.genesis.NewNode.{NewNode}
@@ -147,10 +146,6 @@ HaveShortEndorsements nodes =
 
 -- Rows (CCF documentation, "Builtin Maps")
 
--- The write that sets a row of a table.
-abbrev pub row : List ℕ → List ℕ → List ℕ → Write
-row table key value = record { map = table; key = key; value = Some value }
-
 abbrev pub constitution_map : List ℕ
 constitution_map = codes "public:ccf.gov.constitution"
 
@@ -205,14 +200,6 @@ abbrev pub genesis_rows : request.Genesis → List Write
 genesis_rows g =
     constitution_rows ++ row dealing_map dealing_key (dealing_bytes g.dealing) ∷ []
     ++ map member_row g.members ++ node_rows 1 g.nodes ++ service_row g ∷ []
-
--- The write set that holds these writes, in order.
-abbrev pub set_from : List Write → List Write → List Write
-set_from set [] = set
-set_from set (w ∷ ws) = set_from (with_write set w) ws
-
-abbrev pub write_set : List Write → List Write
-write_set ws = set_from [] ws
 
 abbrev pub genesis_writes : request.Genesis → List Write
 genesis_writes g = write_set (genesis_rows g)

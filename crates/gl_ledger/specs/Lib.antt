@@ -8,7 +8,6 @@ pub mod Layers
 pub mod Reading
 pub mod NodeKeys
 pub mod Recordings
-pub mod Changes
 pub mod Acceptance
 pub mod Broken
 pub mod Sound

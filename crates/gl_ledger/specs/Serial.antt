@@ -13,10 +13,3 @@ pub record IsLedger (ledger : List Entry) : Type 0 where
   pub seqnos : (i : ℕ) (e : Entry) → slice_get ledger i ≡ Some e → e.seqno ≡ suc i
   pub views : (i j : ℕ) (e f : Entry) → i ≤ j → slice_get ledger i ≡ Some e →
       slice_get ledger j ≡ Some f → e.view ≤ f.view
-
--- A write set that turns tables into others: it puts the rows whose bytes are new or changed, and
--- removes those that are gone.
-pub record Turns (writes : List Write) (before after : Tables) : Type 0 where
-  pub turns : (map : List ℕ) → wrote_all before writes map ≡ after map
-  pub changes : AllByRecursion (λ (w : Write). value_in before w.map w.key ≢ w.value) writes
-  pub ordered : is_ordered writes ≡ true

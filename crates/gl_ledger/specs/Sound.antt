@@ -17,7 +17,8 @@ use Rattle.gl_entry.specs.declared.entry.Signature as signatures
 use Rattle.gl_ledger.specs.Genesis.{governance_bytes, is_governance_request}
 use Rattle.gl_ledger.specs.Effect.{effect, service_state}
 use Rattle.gl_ledger.specs.Tree.{tables_of, leaves_of}
-use Rattle.gl_ledger.specs.Serial.{IsLedger, Turns}
+use Rattle.gl_ledger.specs.Serial.{IsLedger}
+use Rattle.gl_vmaps.specs.Changes.{Turns}
 use Rattle.gl_ledger.specs.declared.genesis.ServiceState.TheVariants.{Open}
 use Rattle.gl_ledger.specs.declared.genesis.GovernanceRequest.{GovernanceRequest}
 use Rattle.gl_ledger.specs.Layers.{Layers}

@@ -2,7 +2,8 @@
 
 ghost use Rattle.std.specs.Prelude.{◌≡◌, ◌≤◌, ◌<◌, ◌^◌, ◌++◌, ◌∷◌, [], true, codes, length, map, IfOk, IsTrue, OnOk, Some};
 ghost use Rattle.gl_vmaps.specs.Name.{is_map_name};
-ghost use Rattle.gl_ledger.specs.Genesis.{node_id, row, rule_row, constitution_rows, dealing_bytes, dealing_map, dealing_key, member_row, node_row, node_rows, service_row, is_genesis, set_from, genesis_writes, HaveShortEndorsements};
+ghost use Rattle.gl_ledger.specs.Genesis.{node_id, rule_row, constitution_rows, dealing_bytes, dealing_map, dealing_key, member_row, node_row, node_rows, service_row, is_genesis, genesis_writes, HaveShortEndorsements};
+ghost use Rattle.gl_vmaps.specs.Changes.{row, set_from};
 
 use crate::encode::{dealing_bytes, state_byte};
 use crate::genesis::{Dealing, Genesis, NewMember, NewNode};

@@ -14,7 +14,8 @@ use Rattle.gl_base.proofs.ByteLists.{AreBytes}
 use Rattle.gl_base.proofs.LittleEndianLaws.{length-little_endian}
 use Rattle.gl_base.proofs.RowLaws.{Took, field_ok, flag-took, flag-reads}
 use Rattle.gl_entry.specs.Entry as entries
-use Rattle.gl_entry.specs.Entry.{body_limit, is_entry, is_digest}
+use Rattle.gl_entry.specs.Entry.{body_limit, is_entry}
+use Rattle.gl_base.specs.Bytes.{is_digest}
 use Rattle.gl_entry.specs.declared.entry.Entry.{Entry}
 use Rattle.gl_entry.proofs.Parts.{took_then, bytes-took, bytes-reads, Lies, lie_both}
 use Rattle.gl_entry.proofs.ContentLaws.{ended_ok}

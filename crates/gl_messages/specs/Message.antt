@@ -3,7 +3,8 @@ use Rattle.std.specs.Prelude.{ℕ, ◌+◌, ◌^◌, List, [], ◌∷◌, ◌++�
 use Rattle.std.specs.List.{flat_map, list_all}
 use Rattle.gl_base.specs.LittleEndian.{little_endian}
 use Rattle.gl_base.specs.Code.{flag_byte}
-use Rattle.gl_entry.specs.Entry.{body_limit, is_digest, is_entry, frame_bytes, frame_size}
+use Rattle.gl_entry.specs.Entry.{body_limit, is_entry, frame_bytes, frame_size}
+use Rattle.gl_base.specs.Bytes.{is_digest}
 use Rattle.gl_entry.specs.Entry as entries
 use Rattle.gl_entry.specs.declared.entry.Entry.{Entry}
 use Rattle.gl_messages.specs.Fields.{is_u64, id_bytes, is_id}

@@ -18,7 +18,8 @@ use Rattle.gl_merkle.specs.Tree as merkle
 use Rattle.gl_merkle.proofs.ReachLemmas.{reached}
 use Rattle.gl_vmaps.specs.Tables.{no_tables}
 use Rattle.gl_vmaps.specs.Writes.{is_write, is_ordered}
-use Rattle.gl_entry.specs.Entry.{is_entry, is_content, is_digest, may_write, may_claim, are_no_writes, is_no_digest, body_bytes, body_limit}
+use Rattle.gl_entry.specs.Entry.{is_entry, is_content, may_write, may_claim, are_no_writes, is_no_digest, body_bytes, body_limit}
+use Rattle.gl_base.specs.Bytes.{is_digest}
 use Rattle.gl_entry.specs.Leaf.{id_of, evidence_text}
 use Rattle.gl_entry.specs.declared.entry.Content.{Content}
 use Rattle.gl_entry.specs.declared.entry.Content.TheVariants as content

@@ -17,7 +17,7 @@ use Rattle.gl_rules.specs.Identity.{member}
 use Rattle.gl_tx.specs.Request.{is_request}
 use Rattle.gl_tx.specs.declared.request.Operation.{Operation}
 use Rattle.gl_tx.specs.declared.request.Answer.{Answer}
-use Rattle.gl_base.specs.Bytes.{are_bytes, same_bytes}
+use Rattle.gl_base.specs.Bytes.{are_bytes, same_bytes, is_digest}
 use Rattle.gl_base.specs.declared.fault.CodeFault.{CodeFault}
 use Rattle.gl_merkle.specs.Tree.{root_of}
 use Rattle.gl_vmaps.specs.declared.write.Write.{Write}
@@ -27,12 +27,12 @@ use Rattle.gl_entry.specs.declared.entry.Content.TheVariants as content
 use Rattle.gl_entry.specs.declared.entry.Signature as signatures
 use Rattle.std.specs.List.{list_all}
 use Rattle.gl_vmaps.specs.Writes.{is_write, is_ordered}
-use Rattle.gl_entry.specs.Entry.{is_signature, is_entry, is_content, may_write, may_claim, are_no_writes, is_digest, is_no_digest, body_bytes, body_limit}
+use Rattle.gl_entry.specs.Entry.{is_signature, is_entry, is_content, may_write, may_claim, are_no_writes, is_no_digest, body_bytes, body_limit}
 use Rattle.gl_entry.specs.Leaf.{leaf_of}
 use Rattle.gl_entry.specs.declared.entry.Entry.{Entry}
 use Rattle.gl_vmaps.proofs.TablesLaws.{value_in-nothing}
 use Rattle.gl_ledger.specs.Genesis.{node_id, is_genesis, is_governance_request, genesis_writes, service_map, service_key}
-use Rattle.gl_ledger.specs.Changes.{changes}
+use Rattle.gl_vmaps.specs.Changes.{changes}
 use Rattle.gl_ledger.specs.declared.breach.GenesisFault.{GenesisFault}
 use Rattle.gl_ledger.specs.declared.breach.EntryRefusal.TheVariants as refusals
 use Rattle.gl_ledger.specs.declared.recording.Recording.{Recording}
@@ -61,7 +61,7 @@ use Rattle.gl_ledger.proofs.Opening.{founding_unbroken, opening_unbroken}
 use Rattle.gl_ledger.proofs.Openings.{identity_of_genesis}
 use Rattle.gl_ledger.proofs.Passing.{passing}
 use Rattle.gl_ledger.proofs.Signatures.{signed_up_to-push}
-use Rattle.gl_ledger.proofs.Changes.{changes_from_none}
+use Rattle.gl_vmaps.proofs.Changes.{changes_from_none}
 use Rattle.gl_ledger.proofs.Sounding.{sound-push, sound_empty, are_effect_rows}
 use Rattle.gl_ledger.proofs.TablesLaws.{writes_of-push, tables_of-push, leaves_of-push, length-leaves_of}
 use Rattle.gl_ledger.proofs.Valid.{valid_sound, valid-push, may_make_behind, request_unbroken, signature_unbroken}

@@ -5,13 +5,13 @@ use Rattle.std.specs.FinMap as rows
 use Rattle.std.proofs.lemmas.Bool.{and_parts, false≢true}
 use Rattle.std.proofs.lemmas.Bool.Decides.{nat_tests}
 use Rattle.std.proofs.lemmas.List.{length-take-le}
-use Rattle.gl_base.specs.Bytes.{are_bytes}
+use Rattle.gl_base.specs.Bytes.{are_bytes, is_digest}
 use Rattle.gl_base.specs.TxId.{IsTxId, last_seqno}
 use Rattle.gl_base.proofs.Lists.{slice_get-within, slice_get-below}
 use Rattle.gl_merkle.specs.Tree.{root_of}
 use Rattle.gl_hss.specs.Hss.{IsValid}
 use Rattle.gl_vmaps.specs.Tables.{Tables, Rows, no_tables, wrote_all}
-use Rattle.gl_entry.specs.Entry.{is_signature, is_recorded_signature, is_content, is_digest, recorded_commit}
+use Rattle.gl_entry.specs.Entry.{is_signature, is_recorded_signature, is_content, recorded_commit}
 use Rattle.gl_entry.specs.Leaf.{id_of, leaf_of}
 use Rattle.gl_entry.specs.SignedMessage.{signed_message}
 use Rattle.gl_entry.specs.declared.entry.Content.{Content}

@@ -12,7 +12,7 @@ use Rattle.gl_rules.specs.Log.{entry_at}
 use Rattle.gl_vmaps.specs.Tables.{Rows}
 use Rattle.gl_tx.specs.Reading.{request_of}
 use Rattle.gl_tx.specs.declared.request.Operation.{Operation}
-use Rattle.gl_entry.specs.Entry.{are_sized}
+use Rattle.gl_base.specs.Bytes.{are_sized}
 use Rattle.gl_entry.specs.declared.entry.Content.{Content}
 use Rattle.gl_entry.specs.declared.entry.Content.TheVariants as content
 use Rattle.gl_entry.specs.declared.entry.Entry.{Entry}

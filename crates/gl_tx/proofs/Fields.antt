@@ -16,7 +16,7 @@ use Rattle.gl_vmaps.specs.Name.{value_limit}
 use Rattle.gl_base.proofs.ByteLists.{AreBytes, AreBytes-take}
 use Rattle.gl_base.proofs.RowLaws as laws
 use Rattle.gl_tx.specs.Request.{is_u64}
-use Rattle.gl_tx.proofs.Readings.{IsSpelled, IsRead, taken, bytes_left}
+use Rattle.gl_base.proofs.Readings.{IsSpelled, IsRead, taken, bytes_left}
 
 pub map-spelled : IsSpelled map_name_at map_name_bytes is_map_name
 map-spelled old new map all e = taken map_name_bytes is_map_name old new map (laws.map_name-spelled old new map all e)
@@ -69,10 +69,3 @@ pub u64-read : IsRead (λ unread. field (number_at 8 unread)) (little_endian 8) 
 u64-read at n rest is =
     let small : n < 2 ^ 64 = grind (arith, nat_tests) in
     record { place = at + 8; read = ap field (number_at-spelled 8 at n rest small) }
-
--- A tag.
-pub tag_read : (at tag : ℕ) (rest : List ℕ) → number_at 1 (record { at = at; bytes = tag ∷ rest }) ≡ Ok (tag, record { at = at + 1; bytes = rest })
-unfolding number_at bytes_at
-tag_read at tag rest =
-    let enough : nat_lt (suc (length rest)) 1 ≡ false = grind (arith, nat_tests) in
-    rw (enough, add-zero tag) refl

@@ -15,8 +15,8 @@ use Rattle.gl_tx.specs.declared.request.Operation.{Operation}
 use Rattle.gl_tx.specs.declared.request.Operation.TheVariants.{Get, Has, Put, Remove, Add, Check, Follow, Size}
 use Rattle.gl_tx.specs.declared.request.Answer.{Answer}
 use Rattle.gl_tx.specs.declared.request.Answer.TheVariants as answers
-use Rattle.gl_tx.proofs.Readings.{IsSpelled, IsRead, whole-spelled, whole-read}
-use Rattle.gl_tx.proofs.Repeated.{counted-spelled, counted-read, length-counted_bytes-le}
+use Rattle.gl_base.proofs.Readings.{IsSpelled, IsRead, whole-spelled, whole-read}
+use Rattle.gl_tx.proofs.Counted.{counted-spelled, counted-read, length-counted_bytes-le}
 use Rattle.gl_tx.proofs.Operations.{operations_repeat, operation-spelled, operation-read}
 use Rattle.gl_tx.proofs.Replies.{answers_repeat, answer-spelled, answer-read}
 

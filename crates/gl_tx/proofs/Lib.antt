@@ -1,7 +1,6 @@
 pub mod Values
-pub mod Readings
-pub mod Repeated
 pub mod Fields
+pub mod Counted
 pub mod Operations
 pub mod Replies
 pub mod Formats

@@ -8,7 +8,8 @@ use Rattle.gl_vmaps.specs.Writes.{is_write, is_written_value, is_ordered}
 use Rattle.gl_vmaps.specs.declared.write.Write.{Write}
 use Rattle.gl_vmaps.proofs.WriteLaws.{within-with_write}
 use Rattle.gl_tx.specs.Request.{is_row, is_u64, is_operation}
-use Rattle.gl_tx.specs.Run.{answer_only, answer_and_write, yes_or_no, value_or_none, sum_result, add_result, is_expected, check_result, follow_result, bar_on, unless_barred, on_seen, perform_result, with_writes, with_answer, goes_on, run_from}
+use Rattle.gl_tx.specs.Run.{answer_only, answer_and_write, yes_or_no, value_or_none, sum_result, add_result, check_result, follow_result, bar_on, unless_barred, on_seen, perform_result, with_writes, with_answer, goes_on, run_from}
+use Rattle.gl_vmaps.specs.Tables.{same_value}
 use Rattle.gl_tx.specs.Sees.{Sees, has_key, behind}
 use Rattle.gl_tx.specs.declared.performed.Performed.{Performed}
 use Rattle.gl_tx.specs.declared.runs.Ran.{Ran}
@@ -65,7 +66,7 @@ on_seen_fits s (Has map key) h = tt
 on_seen_fits s (Put map key value) h = let p = and_parts (is_row map key) (is_value value) h in writing answers.Done map key (Some value) p.0 p.1
 on_seen_fits s (Remove map key) h = writing (yes_or_no (has_key s map key)) map key None h refl
 on_seen_fits s (Add map key amount) h = let p = and_parts (is_row map key) (is_u64 amount) h in adding map key amount (s.value map key) p.0
-on_seen_fits s (Check map key expected) h = checking (is_expected expected (s.value map key))
+on_seen_fits s (Check map key expected) h = checking (same_value expected (s.value map key))
 on_seen_fits s (Follow map key target) h = following s target (s.value map key)
 on_seen_fits s (Size map) h = tt
 

@@ -17,9 +17,10 @@ use Rattle.gl_tx.specs.Request.{is_u64, is_row, is_operation, operation_bytes}
 use Rattle.gl_tx.specs.Reading.{row_at, get_at, has_at, put_at, remove_at, add_at, check_at, follow_at, size_at, operation_behind, operation_at, operations_at}
 use Rattle.gl_tx.specs.declared.request.Operation.{Operation}
 use Rattle.gl_tx.specs.declared.request.Operation.TheVariants.{Get, Has, Put, Remove, Add, Check, Follow, Size}
-use Rattle.gl_tx.proofs.Readings.{Spelled, IsSpelled, Gets, IsRead, both_parts, bytes_left, chosen}
-use Rattle.gl_tx.proofs.Repeated.{Repeats}
-use Rattle.gl_tx.proofs.Fields.{tag_read, u64-spelled, u64-read, map-spelled, map-read, key-spelled, key-read, value-spelled, value-read, optional-spelled, optional-read}
+use Rattle.gl_base.proofs.Readings.{Spelled, IsSpelled, Gets, IsRead, both_parts, bytes_left, chosen}
+use Rattle.gl_base.proofs.Repeated.{Repeats}
+use Rattle.gl_tx.proofs.Fields.{u64-spelled, u64-read, map-spelled, map-read, key-spelled, key-read, value-spelled, value-read, optional-spelled, optional-read}
+use Rattle.gl_base.proofs.Fields.{tag_read}
 
 pub operations_repeat : Repeats operation_at operations_at
 unfolding operations_at

@@ -14,9 +14,10 @@ use Rattle.gl_tx.specs.Request.{is_answer, answer_bytes}
 use Rattle.gl_tx.specs.Reading.{value_answer_at, number_answer_at, answer_behind, answer_at, answers_at}
 use Rattle.gl_tx.specs.declared.request.Answer.{Answer}
 use Rattle.gl_tx.specs.declared.request.Answer.TheVariants as answers
-use Rattle.gl_tx.proofs.Readings.{IsSpelled, IsRead, bytes_left, chosen}
-use Rattle.gl_tx.proofs.Repeated.{Repeats}
-use Rattle.gl_tx.proofs.Fields.{tag_read, u64-spelled, u64-read, value-spelled, value-read}
+use Rattle.gl_base.proofs.Readings.{IsSpelled, IsRead, bytes_left, chosen}
+use Rattle.gl_base.proofs.Repeated.{Repeats}
+use Rattle.gl_tx.proofs.Fields.{u64-spelled, u64-read, value-spelled, value-read}
+use Rattle.gl_base.proofs.Fields.{tag_read}
 
 pub answers_repeat : Repeats answer_at answers_at
 unfolding answers_at

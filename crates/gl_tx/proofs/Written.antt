@@ -8,7 +8,8 @@ use Rattle.gl_vmaps.specs.Name.{is_key, is_public, is_governance, is_internal}
 use Rattle.gl_vmaps.specs.Writes.{write_order, put_before, with_write}
 use Rattle.gl_vmaps.specs.declared.write.Write.{Write}
 use Rattle.gl_tx.specs.Sees.{Sees, behind}
-use Rattle.gl_tx.specs.Run.{answer_only, answer_and_write, value_or_none, sum_result, add_result, is_expected, check_result, follow_result, bar_on_map, bar_on_either, bar_on, unless_barred, on_seen, perform_result, with_answer, goes_on, run_from, run_seeing, with_writes}
+use Rattle.gl_tx.specs.Run.{answer_only, answer_and_write, value_or_none, sum_result, add_result, check_result, follow_result, bar_on_map, bar_on_either, bar_on, unless_barred, on_seen, perform_result, with_answer, goes_on, run_from, run_seeing, with_writes}
+use Rattle.gl_vmaps.specs.Tables.{same_value}
 use Rattle.gl_tx.specs.declared.performed.Performed.{Performed}
 use Rattle.gl_tx.specs.declared.runs.Ran.{Ran}
 use Rattle.gl_tx.specs.declared.abort.Abort.{Abort}
@@ -76,7 +77,7 @@ on_seen-own s (Has map key) = tt
 on_seen-own s (Put map key value) = refl
 on_seen-own s (Remove map key) = refl
 on_seen-own s (Add map key amount) = own_add map key amount (s.value map key)
-on_seen-own s (Check map key expected) = own_check (Some (map, key)) (is_expected expected (s.value map key))
+on_seen-own s (Check map key expected) = own_check (Some (map, key)) (same_value expected (s.value map key))
 on_seen-own s (Follow map key target) = own_follow (Some (map, key)) s target (s.value map key)
 on_seen-own s (Size map) = tt
 

@@ -2,7 +2,7 @@
 use Rattle.std.specs.Prelude.{ℕ, suc, ◌+◌, ◌^◌, List, [], ◌∷◌, Option, None, Some, Result, Ok, Err, Bool, true, false, not, ◌||◌, ◌==◌, length, nat_lt, if◌then◌else◌}
 use Rattle.gl_base.specs.LittleEndian.{little_endian, from_little_endian}
 use Rattle.gl_vmaps.specs.Name.{is_public, is_governance, is_internal, is_key}
-use Rattle.gl_vmaps.specs.Tables.{Tables, same_bytes}
+use Rattle.gl_vmaps.specs.Tables.{Tables, same_bytes, same_value}
 use Rattle.gl_vmaps.specs.Writes.{with_write}
 use Rattle.gl_vmaps.specs.declared.write.Write.{Write}
 use Rattle.gl_tx.specs.Sees.{Sees, sees_in, has_key, behind}
@@ -49,13 +49,6 @@ add_result map key amount (Some value) =
     if length value == 8 then sum_result map key (from_little_endian value + amount)
     else Err causes.NotNumber
 
--- The value, or its absence, is the one that is expected.
-abbrev pub is_expected : Option (List ℕ) → Option (List ℕ) → Bool
-is_expected None None = true
-is_expected None (Some value) = false
-is_expected (Some expected) None = false
-is_expected (Some expected) (Some value) = same_bytes expected value
-
 abbrev pub check_result : Bool → Result Performed Cause
 check_result true = answer_only answers.Done
 check_result false = Err causes.Check
@@ -97,7 +90,7 @@ on_seen sees (Has map key) = answer_only (yes_or_no (has_key sees map key))
 on_seen sees (Put map key value) = answer_and_write answers.Done map key (Some value)
 on_seen sees (Remove map key) = answer_and_write (yes_or_no (has_key sees map key)) map key None
 on_seen sees (Add map key amount) = add_result map key amount (sees.value map key)
-on_seen sees (Check map key expected) = check_result (is_expected expected (sees.value map key))
+on_seen sees (Check map key expected) = check_result (same_value expected (sees.value map key))
 on_seen sees (Follow map key target) = follow_result sees target (sees.value map key)
 on_seen sees (Size map) = answer_only (answers.Number (sees.size map))
 

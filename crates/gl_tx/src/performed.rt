@@ -6,7 +6,8 @@ ghost use Rattle.gl_base.specs.Answers.{Answers};
 ghost use Rattle.gl_base.specs.LittleEndian.{little_endian};
 ghost use Rattle.gl_vmaps.specs.Name.{is_value};
 ghost use Rattle.gl_tx.specs.Sees.{behind, has_key};
-ghost use Rattle.gl_tx.specs.Run.{yes_or_no, value_or_none, add_result, is_expected, check_result, follow_result, bar_on_map, bar_on, answer_only, answer_and_write, on_seen, perform_result};
+ghost use Rattle.gl_tx.specs.Run.{yes_or_no, value_or_none, add_result, check_result, follow_result, bar_on_map, bar_on, answer_only, answer_and_write, on_seen, perform_result};
+ghost use Rattle.gl_vmaps.specs.Tables.{same_value};
 ghost use Rattle.gl_tx.specs.Performs.{key_of, number_in, sum_of};
 
 use crate::abort::Cause;
@@ -200,8 +201,8 @@ fn add<L: Lookup>(
 }
 
 /// Whether the value, or its absence, is the one that is expected.
-fn is_expected(expected: Option<&Value>, value: Option<&[u8]>) -> bool
-    ensures { result ≡ is_expected (option_copied expected.entry) (option_copied value.entry) }
+fn same_value(expected: Option<&Value>, value: Option<&[u8]>) -> bool
+    ensures { result ≡ same_value (option_copied expected.entry) (option_copied value.entry) }
 {
     match (expected, value) {
         (None, None) => true,
@@ -218,10 +219,10 @@ fn check<L: Lookup>(
 ) -> Result<Performed, OrNoMemory<Cause>>
     ensures { let sees = behind (L.sees overlay.now.base.now) overlay.now.writes in
         Answers (λ done. done) result (check_result
-        (is_expected (option_copied expected.entry) (sees.value map.now key.now))) }
+        (same_value (option_copied expected.entry) (sees.value map.now key.now))) }
 {
     let value = overlay.get(map.as_slice(), key.as_slice());
-    if is_expected(expected, value) {
+    if same_value(expected, value) {
         Ok(answer_only(Answer::Done))
     } else {
         Err(OrNoMemory::Fault(Cause::Check))

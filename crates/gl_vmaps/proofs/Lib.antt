@@ -14,3 +14,6 @@ pub mod WriteLaws
 pub mod InOrder
 pub mod RowsUpToLaws
 pub mod RowsLaws
+pub mod SameValues
+pub mod WriteSets
+pub mod Changes

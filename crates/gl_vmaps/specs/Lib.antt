@@ -10,3 +10,4 @@ pub mod Standing
 pub mod RowsUpTo
 pub mod LastWrite
 pub mod Growth
+pub mod Changes

@@ -1,5 +1,5 @@
 -- Tables: to each map's name its rows, from keys to values (CCF documentation, "Key-Value Store").
-use Rattle.std.specs.Prelude.{ℕ, List, [], ◌∷◌, Option, None, Some, Bool, nat_eq, is_some, if◌then◌else◌}
+use Rattle.std.specs.Prelude.{ℕ, List, [], ◌∷◌, Option, None, Some, Bool, true, false, nat_eq, is_some, if◌then◌else◌}
 use Rattle.std.specs.Ordering.{nat_cmp}
 use Rattle.std.specs.Cmp.Lexicographic.{pointwise, slice_cmp}
 use Rattle.std.specs.FinMap.{FinMap}
@@ -38,6 +38,13 @@ with_row t key None = rows.remove t key
 -- The two are byte for byte the same.
 abbrev pub same_bytes : List ℕ → List ℕ → Bool
 same_bytes xs ys = pointwise nat_eq xs ys
+
+-- Both are absent, or the same bytes.
+abbrev pub same_value : Option (List ℕ) → Option (List ℕ) → Bool
+same_value None None = true
+same_value None (Some value) = false
+same_value (Some one) None = false
+same_value (Some one) (Some other) = same_bytes one other
 
 -- The tables after one write: the map that it names has the row set or removed, and all others
 -- stay.

@@ -21,7 +21,7 @@ use Rattle.gl_ledger.specs.declared.genesis.NewNode.{NewNode}
 use Rattle.gl_ledger.proofs.Gathering.{requests-quiet}
 use Rattle.gl_ledger.proofs.Growth.{IsNoGovernance}
 use Rattle.gl_ledger.proofs.Opening.{nodes_configured}
-use Rattle.gl_ledger.proofs.SameWrites.{same_bytes_self}
+use Rattle.gl_vmaps.proofs.SameValues.{same_bytes_self}
 use Rattle.gl_world.specs.declared.settings.Settings.{Settings}
 use Rattle.gl_world.specs.Founding.{id_of, keys_of, genesis_of}
 use Rattle.gl_world.specs.World.{start_of}

@@ -4,7 +4,7 @@ ghost use Rattle.std.specs.Prelude.{◌≡◌, ◌+◌, ◌≤◌, ◌<◌, [], 
 ghost use Rattle.std.specs.Option.{option_copied};
 ghost use Rattle.gl_rules.specs.Log.{entry_at};
 ghost use Rattle.gl_entry.specs.Entry.{is_entry};
-ghost use Rattle.gl_tx.specs.Run.{is_expected};
+ghost use Rattle.gl_vmaps.specs.Tables.{same_value};
 ghost use Rattle.gl_ledger.specs.Genesis.{is_genesis, is_governance_request, genesis_writes};
 ghost use Rattle.gl_ledger.specs.Acceptance.{genesis_fault};
 ghost use Rattle.gl_ledger.specs.Recordings.{is_founding, is_signing};
@@ -56,7 +56,7 @@ fn is_signing(recording: &Recording) -> bool
 }
 
 fn is_same_value(one: Option<&Value>, other: Option<&Value>) -> bool
-    ensures { result ≡ is_expected (option_copied one.entry) (option_copied other.entry) }
+    ensures { result ≡ same_value (option_copied one.entry) (option_copied other.entry) }
 {
     match (one, other) {
         (None, None) => true,

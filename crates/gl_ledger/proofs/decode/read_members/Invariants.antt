@@ -1,6 +1,6 @@
 use Rattle.std.proofs.Common.{◌≡◌, ◌-◌}
 use Rattle.gl_ledger.specs.Reading.{repeated_at, member_at}
-use Rattle.gl_tx.proofs.Repeated.{with_front}
+use Rattle.gl_base.proofs.Repeated.{with_front}
 use Rattle.gl_ledger.proofs.decode.read_members.Given as goal
 
 abbrev pub invariant-loop : goal.invariant-loop

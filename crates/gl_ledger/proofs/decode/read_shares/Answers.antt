@@ -1,6 +1,6 @@
 use Rattle.std.proofs.lemmas.Result.{err_from_is_err_and}
 use Rattle.gl_ledger.specs.Reading.{repeated_at, share_at}
-use Rattle.gl_tx.proofs.Repeated.{goes_on, ends, is_done}
+use Rattle.gl_base.proofs.Repeated.{goes_on, ends, is_done}
 use Rattle.gl_ledger.proofs.FieldReadings.{repeats}
 use Rattle.gl_ledger.proofs.decode.read_shares.Goals as goal
 

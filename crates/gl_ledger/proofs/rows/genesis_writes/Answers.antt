@@ -1,6 +1,7 @@
 use Rattle.std.proofs.Common.{◌∙◌, ap, List, map}
 use Rattle.gl_vmaps.specs.declared.write.Write.{Write}
-use Rattle.gl_ledger.specs.Genesis.{constitution_rows, member_row, node_rows, set_from}
+use Rattle.gl_ledger.specs.Genesis.{constitution_rows, member_row, node_rows}
+use Rattle.gl_vmaps.specs.Changes.{set_from}
 use Rattle.gl_ledger.specs.declared.genesis.NewMember.{NewMember}
 use Rattle.gl_ledger.specs.declared.genesis.NewNode.{NewNode}
 use Rattle.gl_ledger.proofs.Founding.{genesis_writes-parts}

@@ -1,5 +1,6 @@
 use Rattle.std.proofs.Common.{◌≡◌, drop, map}
-use Rattle.gl_ledger.specs.Genesis.{rule_row, constitution_rows, set_from}
+use Rattle.gl_ledger.specs.Genesis.{rule_row, constitution_rows}
+use Rattle.gl_vmaps.specs.Changes.{set_from}
 use Rattle.gl_ledger.proofs.rows.put_constitution.Given as goal
 
 -- what is put and what is left to put make the whole

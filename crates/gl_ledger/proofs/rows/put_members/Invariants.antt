@@ -1,5 +1,6 @@
 use Rattle.std.proofs.Common.{◌≡◌, drop, map}
-use Rattle.gl_ledger.specs.Genesis.{member_row, set_from}
+use Rattle.gl_ledger.specs.Genesis.{member_row}
+use Rattle.gl_vmaps.specs.Changes.{set_from}
 use Rattle.gl_ledger.proofs.rows.put_members.Given as goal
 
 -- what is put and what is left to put make the whole

@@ -1,6 +1,7 @@
 use Rattle.std.proofs.Common.{◌≡◌, ◌≤◌, ◌+◌, ◌^◌, length, drop}
 use Rattle.std.specs.List.{AllByRecursion}
-use Rattle.gl_ledger.specs.Genesis.{node_rows, set_from}
+use Rattle.gl_ledger.specs.Genesis.{node_rows}
+use Rattle.gl_vmaps.specs.Changes.{set_from}
 use Rattle.gl_ledger.proofs.rows.put_nodes.Given as goal
 
 -- what is put and what is left to put make the whole

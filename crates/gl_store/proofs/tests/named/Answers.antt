@@ -1,8 +1,7 @@
 use Rattle.std.proofs.Common.{rules, ◌≡◌, ◌&&◌, true, length, nat_le, arith}
 use Rattle.std.proofs.lemmas.Bool.{and_from}
 use Rattle.std.proofs.lemmas.Bool.Decides.{nat_tests}
-use Rattle.gl_base.specs.Bytes.{are_bytes, mebibyte}
-use Rattle.gl_entry.specs.Entry.{are_sized}
+use Rattle.gl_base.specs.Bytes.{are_bytes, mebibyte, are_sized}
 use Rattle.gl_ledger.proofs.Digests.{are_sized-true}
 use Rattle.gl_store.proofs.Recorded.{bytes_within}
 use Rattle.gl_store.proofs.tests.named.Goals as goal

@@ -1,6 +1,6 @@
 use Rattle.std.proofs.Common.{◌≡◌, ◌-◌}
 use Rattle.gl_tx.specs.Reading.{operations_at}
-use Rattle.gl_tx.proofs.Repeated.{with_front}
+use Rattle.gl_base.proofs.Repeated.{with_front}
 use Rattle.gl_tx.proofs.decoding.read_operations.Given as goal
 
 abbrev pub invariant-loop : goal.invariant-loop

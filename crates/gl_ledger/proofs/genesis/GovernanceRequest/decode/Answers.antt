@@ -1,7 +1,7 @@
 use Rattle.std.proofs.Common.{◌≡◌, ◌∙◌, ap, subst, arith, true, Result}
 use Rattle.gl_base.specs.Answers.{Answers}
 use Rattle.gl_base.specs.declared.fault.CodeFault.{CodeFault}
-use Rattle.gl_tx.proofs.Readings.{decoded}
+use Rattle.gl_base.proofs.Readings.{decoded}
 use Rattle.gl_ledger.specs.Genesis.{is_governance_request, governance_bytes}
 use Rattle.gl_ledger.specs.Reading.{governance_of}
 use Rattle.gl_ledger.specs.declared.genesis.GovernanceRequest.{GovernanceRequest}

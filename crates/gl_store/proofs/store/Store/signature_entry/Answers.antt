@@ -1,7 +1,7 @@
 use Rattle.std.proofs.Common.{rules, arith, ◌≡◌, ◌+◌, ◌<◌, true, length, refl, subst, sym}
 use Rattle.gl_merkle.specs.Tree.{root_of}
 use Rattle.gl_merkle.specs.Frontier.{count_of}
-use Rattle.gl_entry.specs.Entry.{is_digest}
+use Rattle.gl_base.specs.Bytes.{is_digest}
 use Rattle.gl_entry.proofs.Fitting.{is_digest-from}
 use Rattle.gl_ledger.specs.Tree.{leaves_of}
 use Rattle.gl_ledger.proofs.SignatureEntries.{signed_fits}

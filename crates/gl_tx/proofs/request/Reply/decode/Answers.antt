@@ -4,7 +4,7 @@ use Rattle.gl_base.specs.declared.fault.CodeFault.{CodeFault}
 use Rattle.gl_tx.specs.Request.{is_reply, reply_bytes}
 use Rattle.gl_tx.specs.Reading.{reply_of}
 use Rattle.gl_tx.specs.declared.request.Reply.{Reply}
-use Rattle.gl_tx.proofs.Readings.{decoded}
+use Rattle.gl_base.proofs.Readings.{decoded}
 use Rattle.gl_tx.proofs.Formats.{reply-spelled, reply-read}
 use Rattle.gl_tx.proofs.request.Reply.decode.Goals as goal
 

@@ -4,7 +4,7 @@ use Rattle.gl_base.specs.declared.fault.CodeFault.{CodeFault}
 use Rattle.gl_tx.specs.Request.{is_request, request_bytes}
 use Rattle.gl_tx.specs.Reading.{request_of}
 use Rattle.gl_tx.specs.declared.request.Request.{Request}
-use Rattle.gl_tx.proofs.Readings.{decoded}
+use Rattle.gl_base.proofs.Readings.{decoded}
 use Rattle.gl_tx.proofs.Formats.{request-spelled, request-read}
 use Rattle.gl_tx.proofs.request.Request.decode.Goals as goal
 

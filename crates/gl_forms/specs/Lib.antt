@@ -1,0 +1,9 @@
+pub mod Place
+pub mod Form
+pub mod Text
+pub mod Parts
+pub mod Actions
+pub mod Requests
+pub mod Settings
+pub mod Key
+pub mod Ranges

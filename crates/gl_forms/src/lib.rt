@@ -1,0 +1,23 @@
+//! Requests of governance and keys as JSON, read and written.
+#![tactic(auto)]
+
+mod action;
+mod element;
+mod key;
+mod key_tree;
+mod misfit;
+mod object;
+mod part;
+mod place;
+mod request;
+mod settings;
+mod tree;
+mod value;
+
+pub use key::{KeyForm, read_key};
+pub use key_tree::write_key;
+pub use request::{read_proposal, read_request};
+pub use settings::{read_recovery, read_settings};
+
+#[cfg(test)]
+mod tests;

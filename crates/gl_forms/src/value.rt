@@ -1,0 +1,149 @@
+//! Values of a JSON tree that have the form that is wanted. One that is missing has another shape.
+
+ghost use Rattle.std.specs.Prelude.{◌≡◌, ◌≤◌, map, option_map, is_some, IfOk};
+ghost use Rattle.std.specs.List.{list_all};
+ghost use Rattle.gl_forms.specs.Form.{Finds, value_in, text_in, flag_in, number_in, has_so_many, list_in, pair_in, some_object_in, not_too_long, lower_digits, long_digits_in, sized_in, has_count, only_members_in, is_lower_digit};
+ghost use Rattle.serde_json.specs.Find.{get, as_object};
+ghost use Rattle.serde_json.specs.View.{view, items_view};
+
+use crate::misfit::Misfit;
+use gl_base::MEBIBYTE;
+use hex::FromHex;
+use serde_json::Value;
+
+pub(crate) fn value_in(value: Option<&Value>) -> Result<&Value, Misfit>
+    ensures { Finds (λ v. view v.now) result (value_in (option_map (λ v. view v.now) value.entry)) }
+{
+    value.ok_or(Misfit::Shape)
+}
+
+pub(crate) fn text_in(value: Option<&Value>) -> Result<&str, Misfit>
+    ensures { Finds (λ s. s.now) result (text_in (option_map (λ v. view v.now) value.entry)) }
+{
+    value.and_then(Value::as_str).ok_or(Misfit::Shape)
+}
+
+pub(crate) fn flag_in(value: Option<&Value>) -> Result<bool, Misfit>
+    ensures { result ≡ flag_in (option_map (λ v. view v.now) value.entry) }
+{
+    value.and_then(Value::as_bool).ok_or(Misfit::Shape)
+}
+
+/// A number from `low` to `high`.
+pub(crate) fn number_in(value: Option<&Value>, low: u64, high: u64) -> Result<u64, Misfit>
+    ensures value { result ≡ number_in low high (option_map (λ v. view v.now) value.entry) }
+    ensures bound { IfOk result (λ n. n ≤ high) }
+{
+    let number = value.and_then(Value::as_u64).ok_or(Misfit::Shape)?;
+    if number < low || high < number {
+        return Err(Misfit::Shape);
+    }
+    Ok(number)
+}
+
+fn has_so_many(elements: &[Value], low: usize, high: usize) -> bool
+    ensures { result ≡ has_so_many low high (items_view elements.now) }
+{
+    low <= elements.len() && elements.len() <= high
+}
+
+/// The elements of a list that has from `low` to `high` of them.
+pub(crate) fn list_in(value: Option<&Value>, low: usize, high: usize) -> Result<&Vec<Value>, Misfit>
+    ensures { Finds (λ v. items_view v.now.items) result
+        (list_in low high (option_map (λ v. view v.now) value.entry)) }
+{
+    let elements = value.and_then(Value::as_array).ok_or(Misfit::Shape)?;
+    if has_so_many(elements, low, high) {
+        Ok(elements)
+    } else {
+        Err(Misfit::Shape)
+    }
+}
+
+/// A list of two elements, as it is.
+pub(crate) fn pair_in(value: Option<&Value>) -> Result<&Value, Misfit>
+    ensures { Finds (λ v. view v.now) result (pair_in (option_map (λ v. view v.now) value.entry)) }
+{
+    list_in(value, 2, 2)?;
+    value_in(value)
+}
+
+/// Some object, as it is.
+pub(crate) fn some_object_in(value: Option<&Value>) -> Result<&Value, Misfit>
+    ensures { Finds (λ v. view v.now) result
+        (some_object_in (option_map (λ v. view v.now) value.entry)) }
+{
+    value.and_then(Value::as_object).ok_or(Misfit::Shape)?;
+    value_in(value)
+}
+
+fn is_lower_hex(text: &[u8]) -> bool
+    ensures { result ≡ list_all is_lower_digit text.now }
+{
+    text.iter()
+        .all(|byte| matches!(*byte, b'0'..=b'9' | b'a'..=b'f'))
+}
+
+/// The text, if it has digits of lower-case hexadecimal alone.
+fn lower_digits(text: &str) -> Result<&str, Misfit>
+    ensures { Finds (λ s. s.now) result (lower_digits text.now) }
+{
+    if is_lower_hex(text.as_bytes()) {
+        Ok(text)
+    } else {
+        Err(Misfit::Hex)
+    }
+}
+
+/// The text, if it is not too long for 1 MiB of bytes.
+fn not_too_long(text: &str) -> Result<&str, Misfit>
+    ensures { Finds (λ s. s.now) result (not_too_long text.now) }
+{
+    if text.len() as u64 <= 2 * MEBIBYTE {
+        Ok(text)
+    } else {
+        Err(Misfit::Shape)
+    }
+}
+
+/// The digits of lower-case hexadecimal, for at most 1 MiB of bytes, that a text is.
+pub(crate) fn long_digits_in(value: Option<&Value>) -> Result<&str, Misfit>
+    ensures { Finds (λ s. s.now) result
+        (long_digits_in (option_map (λ v. view v.now) value.entry)) }
+{
+    lower_digits(not_too_long(text_in(value)?)?)
+}
+
+/// The `N` bytes of a text in lower-case hexadecimal.
+pub(crate) fn sized_in<const N: usize>(value: Option<&Value>) -> Result<[u8; N], Misfit>
+    ensures { result ≡ sized_in N (option_map (λ v. view v.now) value.entry) }
+{
+    let digits = lower_digits(text_in(value)?)?;
+    <[u8; N] as FromHex>::from_hex(digits).map_err(|_| Misfit::Hex)
+}
+
+fn has_count(value: &Value, count: usize) -> bool
+    ensures { result ≡ has_count count (as_object (view value.now)) }
+{
+    match value.as_object() {
+        Some(members) => members.len() == count,
+        None => false,
+    }
+}
+
+fn has_each(value: &Value, names: &[&str]) -> bool
+    ensures { result ≡ list_all (λ name. is_some (get name.now (view value.now))) names.now }
+{
+    names.iter().all(|name| value.get(*name).is_some())
+}
+
+/// Nothing, if the value is an object with exactly the members of these names.
+pub(crate) fn only_members_in(names: &[&str], value: &Value) -> Result<(), Misfit>
+    ensures { result ≡ only_members_in (map (λ s. s.now) names.now) (view value.now) }
+{
+    if has_count(value, names.len()) && has_each(value, names) {
+        Ok(())
+    } else {
+        Err(Misfit::Shape)
+    }
+}

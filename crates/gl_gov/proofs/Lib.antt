@@ -1,0 +1,7 @@
+mod Sizes
+mod Putting
+mod Numbers
+mod RowSizes
+mod RowsSet
+mod States
+mod Effects

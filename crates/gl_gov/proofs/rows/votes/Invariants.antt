@@ -1,0 +1,10 @@
+use Rattle.std.proofs.Common.{◌≡◌, ◌≤◌, length, filter_map}
+use Rattle.std.specs.List.{range_with_len}
+use Rattle.gl_gov_rules.specs.Rows.{vote_of}
+use Rattle.gl_gov.proofs.rows.votes.Given as goal
+
+abbrev pub invariant-loop-i : goal.invariant-loop-i
+invariant-loop-i l = record {
+  found : l.ballots.items ≡ filter_map (vote_of l.past.requests l.id) (range_with_len 1 l.i);
+  few : length l.ballots.items ≤ l.i;
+}

@@ -1,0 +1,14 @@
+//! The state of a service's governance: its requests so far, and the rows that they come to.
+#![tactic(auto)]
+
+pub use effect::{GovernanceEffect, ProposalStatus, ShareCount};
+pub use laws::law_of_effects;
+pub use state::{GovState, is_founding};
+
+mod between;
+mod effect;
+mod laws;
+mod rows;
+mod state;
+#[cfg(test)]
+mod tests;

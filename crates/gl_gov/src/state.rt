@@ -1,0 +1,323 @@
+//! The state of governance behind the requests so far.
+
+ghost use Rattle.std.specs.Prelude.{◌≡◌, true, count_by, is_some, length, IfOk};
+ghost use Rattle.gl_vmaps.specs.Changes.{changes};
+ghost use Rattle.gl_requests.specs.Ranges.{is_request, is_member_request};
+ghost use Rattle.gl_gov_rules.specs.Service.{dealing, threshold_of, share_behind, shares_given};
+ghost use Rattle.gl_gov_rules.specs.Rows.{rows};
+ghost use Rattle.gl_gov_rules.specs.Governed.{is_founding, IsBounded};
+ghost use Rattle.gl_gov.specs.State.{proposal_in_act, proposal_named, status_with, proposal_status, share_count};
+
+use crate::between::changes;
+use crate::effect::{GovernanceEffect, ProposalStatus, ShareCount};
+use crate::rows::{member_rows, node_rows, proposal_row, rows, service_row};
+use gl_base::OrNoMemory;
+use gl_gov_rules::refusals::refusal;
+use gl_gov_rules::{
+    GovernanceRefusal, History, MemberRow, NodeRow, ProposalRow, Recorded, ServiceRow, with_request,
+};
+use gl_requests::{Digest, GovernanceRequest, MemberAct, MemberRequest};
+use gl_vmaps::Writes;
+use std::alloc::{AllocError, Global};
+use std::marker::Model;
+
+/// The requests of governance so far, each at the seqno of its entry. At every moment each of them
+/// was accepted behind those before it.
+#[derive(Drop)]
+pub struct GovState {
+    past: History,
+    alloc: Global,
+}
+
+impl Model for GovState {
+    ghost use Rattle.std.specs.Prelude.{◌≡◌, List};
+    ghost use Rattle.gl_gov_rules.specs.Changes.{history};
+    ghost use Rattle.gl_gov_rules.specs.Governed.{IsGoverned};
+    ghost use Rattle.gl_gov_rules.specs.declared.change.Recorded.{Recorded};
+
+    ghost Value = { List Recorded };
+
+    ghost view = { λ s. s.past.requests };
+
+    ghost invariant = { λ s. (s.past ≡ history s.past.requests) × IsGoverned s.past.requests };
+}
+
+impl GovState {
+    ghost use Rattle.std.specs.Prelude.{◌≡◌, ◌<◌, ℕ, [], ◌∷◌, ◌++◌, true, not, None, length, option_map, IfOk, OnOk, IfErr, OnErr};
+    ghost use Rattle.gl_requests.specs.Ranges.{is_request};
+    ghost use Rattle.gl_gov_rules.specs.Refusals.{refusal};
+    ghost use Rattle.gl_gov_rules.specs.Proposals.{proposal};
+    ghost use Rattle.gl_gov_rules.specs.Changes.{history};
+    ghost use Rattle.gl_gov_rules.specs.Rows.{rows, effect_writes, service_row, member_rows, node_rows, proposal_row};
+    ghost use Rattle.gl_gov_rules.specs.Governed.{is_founding, is_nothing, IsAbove, IsGoverned, up_to};
+    ghost use Rattle.gl_gov.specs.State.{Refuses, last_seqno, proposal_status, share_count};
+
+    /// No request yet.
+    pub fn new(alloc: Global) -> Self
+        ensures { result ≡ [] }
+    {
+        GovState {
+            past: History::new(alloc),
+            alloc,
+        }
+    }
+
+    /// The number of requests so far.
+    pub fn len(&self) -> usize
+        ensures len { result ≡ length self.now }
+        ensures governed { IsGoverned self.now }
+    {
+        self.past.requests().len()
+    }
+
+    /// Whether a service is founded: no request but a founding comes before that.
+    pub fn is_founded(&self) -> bool
+        ensures { result ≡ not (is_nothing self.now) }
+    {
+        !self.past.requests().is_empty()
+    }
+
+    /// The seqno of the last request, 0 without one.
+    pub fn last_seqno(&self) -> u64
+        ensures last { result ≡ last_seqno self.now }
+        ensures above { (seqno : ℕ) → result < seqno → IsAbove seqno self.now }
+    {
+        match self.past.requests().last() {
+            None => 0,
+            Some(last) => last.seqno,
+        }
+    }
+
+    /// Takes the request of the entry with a seqno, and tells what it does. Refused for the first
+    /// rule that it breaks, if it breaks one. Want of memory, too, leaves all as it was.
+    pub fn step(
+        &mut self,
+        seqno: u64,
+        request: &GovernanceRequest,
+    ) -> Result<GovernanceEffect, OrNoMemory<GovernanceRefusal>>
+        requires above { IsAbove seqno self.old }
+        requires founding { is_founding request.now ≡ is_nothing self.old }
+        requires fits { is_request request.now ≡ true }
+        ensures accepted { OnOk result (refusal (history self.old) seqno request.now ≡ None) }
+        ensures recorded { OnOk result (self.new
+            ≡ self.old ++ record { seqno = seqno; request = request.now } ∷ []) }
+        ensures writes { IfOk result (λ effect. effect.writes
+            ≡ effect_writes self.old (record { seqno = seqno; request = request.now })) }
+        ensures proposal { IfOk result (λ effect.
+            effect.proposal ≡ proposal_status (history self.new) request.now) }
+        ensures shares { IfOk result (λ effect.
+            effect.shares ≡ share_count (history self.new)) }
+        ensures refused { IfErr result (λ e.
+            Refuses (refusal (history self.old) seqno request.now) e) }
+        ensures kept { OnErr result (self.new ≡ self.old) }
+    {
+        if let Some(why) = refusal(self.alloc, &self.past, seqno, request)? {
+            return Err(OrNoMemory::Fault(why));
+        }
+        let next = with_request(self.alloc, &self.past, seqno, request)?;
+        let effect = effect_between(self.alloc, &self.past, &next, request)?;
+        self.past = next;
+        Ok(effect)
+    }
+
+    /// Takes back the requests of entries above a seqno. Takes no memory.
+    pub fn cut(&mut self, to: u64)
+        ensures { self.new ≡ up_to to self.old }
+    {
+        self.past.cut(to);
+    }
+
+    /// The same state in memory of its own. Fails for want of memory alone.
+    pub fn copy(&self) -> Result<Self, AllocError>
+        ensures { IfOk result (λ copy. copy ≡ self.now) }
+    {
+        Ok(GovState {
+            past: self.past.copy(self.alloc)?,
+            alloc: self.alloc,
+        })
+    }
+
+    /// All rows of the governance tables, ascending by map and key.
+    pub fn rows(&self) -> Result<Writes, AllocError>
+        ensures rows { IfOk result (λ writes. writes ≡ rows (history self.now)) }
+    {
+        rows(self.alloc, &self.past)
+    }
+
+    /// The rows of all members that there ever were, in the order in which they came.
+    pub fn members(&self) -> Result<Vec<MemberRow>, AllocError>
+        ensures members { IfOk result (λ members. members.items ≡ member_rows (history self.now)) }
+    {
+        member_rows(self.alloc, &self.past)
+    }
+
+    /// The rows of all nodes that were ever recorded, in that order.
+    pub fn nodes(&self) -> Result<Vec<NodeRow>, AllocError>
+        ensures nodes { IfOk result (λ nodes. nodes.items ≡ node_rows (history self.now)) }
+    {
+        node_rows(self.alloc, &self.past)
+    }
+
+    /// What is known of the proposal with an identifier, if there is one.
+    pub fn proposal(&self, id: &Digest) -> Result<Option<ProposalRow>, AllocError>
+        ensures proposal { IfOk result (λ row. row
+            ≡ option_map (proposal_row (history self.now)) (proposal (history self.now) id.now)) }
+    {
+        match self.past.proposal(id) {
+            None => Ok(None),
+            Some(proposal) => Ok(Some(proposal_row(self.alloc, &self.past, proposal)?)),
+        }
+    }
+
+    /// What is known of the service. `None` before it is founded.
+    pub fn service(&self) -> Option<ServiceRow>
+        ensures service { result ≡ service_row (history self.now) }
+    {
+        service_row(&self.past)
+    }
+
+    /// How many shares of the recovery secret are given, and how many the dealing asks for.
+    pub fn shares(&self) -> ShareCount
+        ensures shares { result ≡ share_count (history self.now) }
+    {
+        share_count(&self.past)
+    }
+}
+
+/// Whether the request founds a service.
+pub fn is_founding(request: &GovernanceRequest) -> bool
+    ensures { result ≡ is_founding request.now }
+{
+    matches!(request, GovernanceRequest::Genesis(_))
+}
+
+/// The write set that turns the rows of a history into those of another.
+fn writes_between(alloc: Global, before: &History, after: &History) -> Result<Writes, AllocError>
+    requires before { IsBounded before.now }
+    requires after { IsBounded after.now }
+    ensures { IfOk result (λ writes. writes ≡ changes (rows before.now) (rows after.now)) }
+{
+    let before = rows(alloc, before)?;
+    let after = rows(alloc, after)?;
+    changes(alloc, &before, &after)
+}
+
+/// What a request did that turned a history into another.
+fn effect_between(
+    alloc: Global,
+    before: &History,
+    after: &History,
+    request: &GovernanceRequest,
+) -> Result<GovernanceEffect, AllocError>
+    requires before { IsBounded before.now }
+    requires after { IsBounded after.now }
+    requires fits { is_request request.now ≡ true }
+    ensures writes { IfOk result (λ effect.
+        effect.writes ≡ changes (rows before.now) (rows after.now)) }
+    ensures proposal { IfOk result (λ effect.
+        effect.proposal ≡ proposal_status after.now request.now) }
+    ensures shares { IfOk result (λ effect. effect.shares ≡ share_count after.now) }
+{
+    Ok(GovernanceEffect {
+        writes: writes_between(alloc, before, after)?,
+        proposal: proposal_status(alloc, after, request)?,
+        shares: share_count(after),
+    })
+}
+
+/// The proposal that a member's request makes, answers or takes back.
+fn proposal_in_act(alloc: Global, request: &MemberRequest) -> Result<Option<Digest>, AllocError>
+    requires { is_member_request request.now ≡ true }
+    ensures { IfOk result (λ id. id ≡ proposal_in_act request.now request.now.act) }
+{
+    match &request.act {
+        MemberAct::Propose(_) => Ok(Some(request.proposal_id(alloc)?)),
+        MemberAct::Ballot { proposal, .. } | MemberAct::Withdraw { proposal } => Ok(Some(
+            *proposal,
+        )),
+        MemberAct::Ack | MemberAct::Share { .. } => Ok(None),
+    }
+}
+
+fn proposal_named(alloc: Global, request: &GovernanceRequest) -> Result<Option<Digest>, AllocError>
+    requires { is_request request.now ≡ true }
+    ensures { IfOk result (λ id. id ≡ proposal_named request.now) }
+{
+    match request {
+        GovernanceRequest::Member(request) => proposal_in_act(alloc, request),
+        _ => Ok(None),
+    }
+}
+
+/// A proposal's state, if there is such a proposal.
+fn status_with(past: &History, id: Option<Digest>) -> Option<ProposalStatus>
+    ensures { result ≡ status_with past.now id }
+{
+    let id = id?;
+    let proposal = past.proposal(&id)?;
+    Some(ProposalStatus {
+        id: proposal.id,
+        state: past.proposal_state(proposal),
+    })
+}
+
+#[tactic(auto, unfolding(crate::specs::State::proposal_status))]
+fn proposal_status(
+    alloc: Global,
+    past: &History,
+    request: &GovernanceRequest,
+) -> Result<Option<ProposalStatus>, AllocError>
+    requires { is_request request.now ≡ true }
+    ensures { IfOk result (λ status. status ≡ proposal_status past.now request.now) }
+{
+    Ok(status_with(past, proposal_named(alloc, request)?))
+}
+
+/// How many shares the dealing asks for.
+fn threshold(past: &History) -> u8
+    ensures { result ≡ threshold_of (dealing past.now) }
+{
+    match past.dealing() {
+        None => 0,
+        Some(dealing) => dealing.threshold,
+    }
+}
+
+/// Whether a request gives a share behind a seqno.
+fn gives_share_behind(seqno: u64, recorded: &Recorded) -> bool
+    ensures { result ≡ is_some (share_behind seqno recorded.now) }
+{
+    match &recorded.request {
+        GovernanceRequest::Member(request) => {
+            seqno < recorded.seqno && matches!(request.act, MemberAct::Share { .. })
+        }
+        _ => false,
+    }
+}
+
+fn count_behind(seqno: u64, requests: &[Recorded]) -> usize
+    ensures { result ≡ count_by (λ r. is_some (share_behind seqno r)) requests.now }
+{
+    requests
+        .iter()
+        .filter(|recorded| gives_share_behind(seqno, recorded))
+        .count()
+}
+
+fn shares_given_count(past: &History) -> usize
+    ensures { result ≡ length (shares_given past.now) }
+{
+    let seqno = past.last_clearing();
+    let requests = past.requests();
+    count_behind(seqno, requests)
+}
+
+#[tactic(auto, unfolding(crate::specs::State::share_count))]
+fn share_count(past: &History) -> ShareCount
+    ensures { result ≡ share_count past.now }
+{
+    ShareCount {
+        have: shares_given_count(past) as u64,
+        need: threshold(past),
+    }
+}

@@ -1,0 +1,57 @@
+//! The founding of a service, and the first words of its members.
+
+use super::bench::{Act, Bench, Told, bad, deal, refused, rows};
+use gl_gov_rules::{Cause, GovernanceRefusal};
+use std::process::Abort;
+use std::test::Fail;
+
+/// Foundings with something wrong, and one that is taken.
+pub fn found(rt: &impl Abort, bench: &mut Bench) -> Result<(), Fail> {
+    let two = deal(2, &[1, 2]);
+    assert_eq!(rt;
+        bench.found(&[1, 2], &[1, 2, 1], two)?,
+        bad(0, Cause::NumberUsed)
+    );
+    let other = deal(2, &[1, 3]);
+    assert_eq!(rt;
+        bench.found(&[1, 2], &[1, 2], other)?,
+        bad(0, Cause::Dealing)
+    );
+    assert_eq!(rt;
+        bench.found(&[1, 1], &[1, 2], two)?,
+        bad(0, Cause::NodeStatus)
+    );
+    assert_eq!(rt; bench.found(&[], &[1, 2], two)?, bad(0, Cause::LastTrusted));
+    let three = deal(2, &[1, 2, 3]);
+    let told = bench.found(&[1, 2], &[1, 2, 3, 4, 5], three)?;
+    assert_eq!(rt; told, rows(0xe8a26606cabc3b4a));
+    Ok(())
+}
+
+/// Members acknowledge it.
+pub fn acknowledge(rt: &impl Abort, bench: &mut Bench) -> Result<(), Fail> {
+    let early = bench.propose(2, &[Act::Open])?;
+    assert_eq!(rt; early, refused(GovernanceRefusal::NotActive));
+    assert_eq!(rt; bench.ack(1)?, rows(0x156b5b410e475871));
+    let used = GovernanceRefusal::LeafNotGreater { last: 0, got: 0 };
+    assert_eq!(rt; bench.again()?, refused(used));
+    assert_eq!(rt; bench.ack_by(2, 1)?, refused(GovernanceRefusal::Signature));
+    assert_eq!(rt; bench.ack(2)?, rows(0x501f14a78b13ef8e));
+    assert_eq!(rt; bench.ack(3)?, rows(0xb0885103ac2bcf88));
+    assert_eq!(rt; bench.ack(4)?, rows(0x2b31efe589d54806));
+    assert_eq!(rt; bench.ack(5)?, rows(0x9b79dd67092af12d));
+    assert_eq!(rt; bench.ack(6)?, refused(GovernanceRefusal::NotMember));
+    Ok(())
+}
+
+#[test]
+fn counts_64_members(rt: HostRuntime) -> Result<(), Fail> {
+    let mut bench = Bench::new(rt.alloc(), 1, 1, 1)?;
+    let members: Vec<u8> = (1..=64).collect(rt.alloc())?;
+    let told = bench.found(&[1], &members, deal(1, &[1]))?;
+    assert!(rt; matches!(told, Told::Rows(_)));
+    assert!(rt; matches!(bench.ack(1)?, Told::Rows(_)));
+    let told = bench.propose(1, &[Act::SetMember(65, 65)])?;
+    assert_eq!(rt; told, bad(1, Cause::Full));
+    Ok(())
+}

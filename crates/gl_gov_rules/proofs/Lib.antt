@@ -1,0 +1,22 @@
+mod Kept
+pub mod Rising
+pub mod Cutting
+pub mod CutLists
+pub mod Endorsements
+pub mod Counting
+pub mod Prefixes
+pub mod NoneStands
+pub mod MembersLeft
+pub mod Ranges
+pub mod ActionSizes
+pub mod FewMembers
+pub mod FewNodes
+pub mod SmallProposals
+pub mod Bounded
+pub mod Finding
+pub mod HistoryLists
+pub mod Removals
+pub mod NewNodes
+pub mod Statuses
+pub mod TrustedBy
+pub mod SomeTrusted

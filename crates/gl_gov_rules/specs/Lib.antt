@@ -1,0 +1,14 @@
+pub mod History
+pub mod Signatures
+pub mod Members
+pub mod Nodes
+pub mod Service
+pub mod Proposals
+pub mod Kept
+pub mod Actions
+pub mod Tally
+pub mod Changes
+pub mod Rows
+pub mod Refusals
+pub mod Governed
+pub mod Rising

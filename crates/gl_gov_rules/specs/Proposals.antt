@@ -1,0 +1,94 @@
+-- Proposals, the ballots on them, and the state of each (CCF documentation, "Proposals").
+use Rattle.std.specs.Prelude.{ℕ, List, [], ◌∷◌, Option, None, Some, Bool, true, false, ◌&&◌, ◌||◌, not, find, filter_map, count_by, nat_lt, nat_eq, if◌then◌else◌}
+use Rattle.std.specs.List.{list_any}
+use Rattle.gl_base.specs.Bytes.{same_bytes}
+use Rattle.gl_requests.specs.Spelling.{proposal_id}
+use Rattle.gl_requests.specs.declared.action.Action.TheVariants as actions
+use Rattle.gl_requests.specs.declared.request.MemberAct.{MemberAct}
+use Rattle.gl_requests.specs.declared.request.MemberAct.TheVariants as acts
+use Rattle.gl_requests.specs.declared.request.MemberRequest.{MemberRequest}
+use Rattle.gl_requests.specs.declared.request.GovernanceRequest.{GovernanceRequest}
+use Rattle.gl_requests.specs.declared.request.GovernanceRequest.TheVariants as requests
+use Rattle.gl_gov_rules.specs.declared.change.Recorded.{Recorded}
+use Rattle.gl_gov_rules.specs.declared.change.Proposal.{Proposal}
+use Rattle.gl_gov_rules.specs.declared.change.ProposalState.{ProposalState}
+use Rattle.gl_gov_rules.specs.declared.change.ProposalState.TheVariants as states
+use Rattle.gl_gov_rules.specs.declared.change.Change.{Change}
+use Rattle.gl_gov_rules.specs.declared.change.Change.TheVariants as changes
+use Rattle.gl_gov_rules.specs.declared.change.Changed.{Changed}
+use Rattle.gl_gov_rules.specs.History.{History}
+
+-- The proposal that a request makes.
+abbrev pub proposal_in_act : ℕ → MemberRequest → MemberAct → Option Proposal
+proposal_in_act seqno m (acts.Propose list) =
+    Some (record { id = proposal_id m; seqno = seqno; proposer = m.member; actions = list })
+proposal_in_act seqno m other = None
+
+abbrev pub proposal_in : ℕ → GovernanceRequest → Option Proposal
+proposal_in seqno (requests.Member m) = proposal_in_act seqno m m.act
+proposal_in seqno other = None
+
+-- All proposals, in order.
+unfoldable pub proposals : History → List Proposal
+proposals h = filter_map (λ (r : Recorded). proposal_in r.seqno r.request) h.requests
+
+-- The proposal with this identifier, if there is one.
+abbrev pub has_proposal_id : List ℕ → Proposal → Bool
+has_proposal_id id p = same_bytes p.id id
+
+unfoldable pub proposal : History → List ℕ → Option Proposal
+proposal h id = find (has_proposal_id id) (proposals h)
+
+-- Dropped, where what drops proposals stands behind the proposal.
+abbrev pub dropped_if : Bool → Option ProposalState
+dropped_if later = if later then Some states.Dropped else None
+
+-- The state in which a change at a seqno settles a proposal: its own settling; and Dropped by a
+-- recovery or a new constitution that comes later than it was made.
+abbrev pub state_settled : Proposal → ℕ → Change → Option ProposalState
+state_settled p seqno (changes.Recovered key) = dropped_if (nat_lt p.seqno seqno)
+state_settled p seqno (changes.Applied (actions.SetConstitution rules)) =
+    dropped_if (nat_lt p.seqno seqno)
+state_settled p seqno (changes.Settled id state) = if same_bytes p.id id then Some state else None
+state_settled p seqno other = None
+
+-- The first of these states; with none a proposal is Open.
+abbrev pub first_or_open : List ProposalState → ProposalState
+first_or_open [] = states.Open
+first_or_open (s ∷ ss) = s
+
+-- A proposal has the state in which the first change settles it.
+unfoldable pub proposal_state : History → Proposal → ProposalState
+proposal_state h p =
+    first_or_open (filter_map (λ (c : Changed). state_settled p c.seqno c.change) h.changes)
+
+abbrev pub is_open_state : ProposalState → Bool
+is_open_state states.Open = true
+is_open_state other = false
+
+-- How many proposals are open.
+unfoldable pub open_count : History → ℕ
+open_count h = count_by (λ (p : Proposal). is_open_state (proposal_state h p)) (proposals h)
+
+-- The two answers are the same.
+abbrev pub same_answer : Bool → Bool → Bool
+same_answer true b = b
+same_answer false b = not b
+
+-- The request is the member's ballot on this proposal, with this answer.
+abbrev pub is_answer_on : List ℕ → Bool → MemberAct → Bool
+is_answer_on id agrees (acts.Ballot on given) = same_bytes on id && same_answer given agrees
+is_answer_on id agrees other = false
+
+abbrev pub is_ballot : List ℕ → ℕ → Bool → GovernanceRequest → Bool
+is_ballot id number agrees (requests.Member m) =
+    nat_eq m.member number && is_answer_on id agrees m.act
+is_ballot id number agrees other = false
+
+-- Among these requests is the member's ballot on this proposal, with this answer; or with any.
+unfoldable pub has_answered : List Recorded → List ℕ → Bool → ℕ → Bool
+has_answered rs id agrees number =
+    list_any (λ (r : Recorded). is_ballot id number agrees r.request) rs
+
+unfoldable pub has_ballot : List Recorded → List ℕ → ℕ → Bool
+has_ballot rs id number = has_answered rs id true number || has_answered rs id false number

@@ -1,0 +1,200 @@
+//! Which nodes were recorded, and the status of each.
+
+ghost use Rattle.std.specs.Prelude.{◌≡◌, ◌++◌, ◌∷◌, [], true, false, map, IfOk, OnOk};
+ghost use Rattle.std.specs.Option.{option_copied};
+ghost use Rattle.gl_gov_rules.specs.Nodes.{recorded_node, nodes_recorded, trusts, retires, marks};
+
+use crate::change::{Change, Changed, RecordedNode};
+use crate::history::History;
+use crate::refusal::NodeStatus;
+use gl_requests::{Action, GovernanceRequest, NewNode, NodeId};
+use std::alloc::{AllocError, Global};
+
+/// The node as it is recorded at a seqno.
+fn recorded_node(
+    alloc: Global,
+    seqno: u64,
+    is_founding: bool,
+    node: &NewNode,
+) -> Result<RecordedNode, AllocError>
+    ensures { IfOk result (λ out. out ≡ recorded_node seqno is_founding node.now) }
+{
+    let id = node.id();
+    let node = node.copy(alloc)?;
+    Ok(RecordedNode {
+        id,
+        seqno,
+        is_founding,
+        node,
+    })
+}
+
+/// Adds the nodes that a founding at a seqno names.
+fn push_founding_nodes(
+    alloc: Global,
+    nodes: &mut Vec<RecordedNode>,
+    seqno: u64,
+    more: &[NewNode],
+) -> Result<(), AllocError>
+    ensures { OnOk result
+        (nodes.new.items ≡ nodes.old.items ++ map (recorded_node seqno true) more.now) }
+{
+    for node in more {
+        nodes.push(recorded_node(alloc, seqno, true, node)?)?;
+    }
+    Ok(())
+}
+
+/// Adds the node that a join at a seqno names.
+fn push_node_joining(
+    alloc: Global,
+    nodes: &mut Vec<RecordedNode>,
+    seqno: u64,
+    node: &NewNode,
+) -> Result<(), AllocError>
+    ensures { OnOk result
+        (nodes.new.items ≡ nodes.old.items ++ recorded_node seqno false node.now ∷ []) }
+{
+    nodes.push(recorded_node(alloc, seqno, false, node)?)?;
+    Ok(())
+}
+
+/// Adds the nodes that the request at a seqno records.
+pub(crate) fn push_nodes_recorded(
+    alloc: Global,
+    nodes: &mut Vec<RecordedNode>,
+    seqno: u64,
+    request: &GovernanceRequest,
+) -> Result<(), AllocError>
+    ensures { OnOk result
+        (nodes.new.items ≡ nodes.old.items ++ nodes_recorded seqno request.now) }
+{
+    match request {
+        GovernanceRequest::Genesis(genesis) => {
+            push_founding_nodes(alloc, nodes, seqno, genesis.nodes.as_slice())
+        }
+        GovernanceRequest::Recover(recovery) => {
+            push_founding_nodes(alloc, nodes, seqno, recovery.nodes.as_slice())
+        }
+        GovernanceRequest::Join(node) => push_node_joining(alloc, nodes, seqno, node),
+        _ => Ok(()),
+    }
+}
+
+/// Whether the change is the applied trust of this node.
+fn trusts(id: &NodeId, change: &Change) -> bool
+    ensures { result ≡ trusts id.now change.now }
+{
+    match change {
+        Change::Applied(Action::TransitionNodeToTrusted(other)) => id == other,
+        _ => false,
+    }
+}
+
+/// Whether the change takes this node out of service.
+fn retires(id: &NodeId, change: &Change) -> bool
+    ensures { result ≡ retires id.now change.now }
+{
+    match change {
+        Change::Recovered(_) => true,
+        Change::Applied(Action::RemoveNode(other)) => id == other,
+        _ => false,
+    }
+}
+
+/// Whether the request marks this node.
+fn marks(id: &NodeId, request: &GovernanceRequest) -> bool
+    ensures { result ≡ marks id.now request.now }
+{
+    match request {
+        GovernanceRequest::Mark(other) => id == other,
+        _ => false,
+    }
+}
+
+impl History {
+    ghost use Rattle.gl_gov_rules.specs.Nodes.{node, retirement, is_marked, is_trust_applied, was_trusted, node_status, trusted_count, pending_count};
+
+    /// The node with this identifier, if it is recorded.
+    #[tactic(auto, unfolding(crate::specs::Nodes::node))]
+    pub fn node(&self, id: &NodeId) -> Option<&RecordedNode>
+        ensures { option_copied result ≡ node self.now id.now }
+    {
+        self.nodes().iter().find(|node| node.id == *id)
+    }
+
+    /// The first change behind the node's own entry that took it out of service.
+    #[tactic(auto, unfolding(crate::specs::Nodes::retirement))]
+    pub fn retirement(&self, node: &RecordedNode) -> Option<&Changed>
+        ensures { option_copied result ≡ retirement self.now node.now }
+    {
+        self.changes().iter().find(|changed| node.seqno < changed.seqno
+            && retires(&node.id, &changed.change))
+    }
+
+    /// Whether the node's Mark stands.
+    #[tactic(auto, unfolding(crate::specs::Nodes::is_marked))]
+    pub fn is_marked(&self, id: &NodeId) -> bool
+        ensures { result ≡ is_marked self.now id.now }
+    {
+        self.requests()
+            .iter()
+            .any(|recorded| marks(id, &recorded.request))
+    }
+
+    /// Whether the node's trust was applied.
+    #[tactic(auto, unfolding(crate::specs::Nodes::is_trust_applied))]
+    pub fn is_trust_applied(&self, id: &NodeId) -> bool
+        ensures { result ≡ is_trust_applied self.now id.now }
+    {
+        self.changes()
+            .iter()
+            .any(|changed| trusts(id, &changed.change))
+    }
+
+    /// Whether a founding named the node, or its trust was applied.
+    #[tactic(auto, unfolding(crate::specs::Nodes::was_trusted))]
+    pub fn was_trusted(&self, node: &RecordedNode) -> bool
+        ensures { result ≡ was_trusted self.now node.now }
+    {
+        node.is_founding || self.is_trust_applied(&node.id)
+    }
+
+    /// The node's status.
+    #[tactic(auto, unfolding(crate::specs::Nodes::node_status))]
+    pub fn node_status(&self, node: &RecordedNode) -> NodeStatus
+        ensures { result ≡ node_status self.now node.now }
+    {
+        if self.is_marked(&node.id) {
+            NodeStatus::Marked
+        } else if self.retirement(node).is_some() {
+            NodeStatus::Retired
+        } else if self.was_trusted(node) {
+            NodeStatus::Trusted
+        } else {
+            NodeStatus::Pending
+        }
+    }
+
+    /// How many nodes are trusted.
+    #[tactic(auto, unfolding(crate::specs::Nodes::trusted_count))]
+    pub fn trusted_count(&self) -> usize
+        ensures { result ≡ trusted_count self.now }
+    {
+        self.nodes()
+            .iter()
+            .filter(|node| matches!(self.node_status(node), NodeStatus::Trusted))
+            .count()
+    }
+
+    /// How many nodes are pending.
+    #[tactic(auto, unfolding(crate::specs::Nodes::pending_count))]
+    pub fn pending_count(&self) -> usize
+        ensures { result ≡ pending_count self.now }
+    {
+        self.nodes()
+            .iter()
+            .filter(|node| matches!(self.node_status(node), NodeStatus::Pending))
+            .count()
+    }
+}

@@ -1,0 +1,173 @@
+//! Proposals, the ballots on them, and the state of each.
+
+ghost use Rattle.std.specs.Prelude.{◌≡◌, ◌++◌, true, IfOk, OnOk};
+ghost use Rattle.std.specs.Option.{option_copied, option_to_list};
+ghost use Rattle.gl_requests.specs.Ranges.{is_member_request, is_request};
+ghost use Rattle.gl_gov_rules.specs.Proposals.{proposal_in_act, proposal_in, dropped_if, state_settled, is_answer_on, is_ballot};
+
+use crate::change::{Change, Proposal, ProposalState};
+use crate::history::History;
+use gl_requests::{Action, Digest, GovernanceRequest, MemberAct, MemberRequest, copy_actions};
+use std::alloc::{AllocError, Global};
+
+/// The proposal that a member's request at a seqno makes.
+fn proposal_in_act(
+    alloc: Global,
+    seqno: u64,
+    request: &MemberRequest,
+) -> Result<Option<Proposal>, AllocError>
+    requires { is_member_request request.now ≡ true }
+    ensures { IfOk result (λ proposal.
+        proposal ≡ proposal_in_act seqno request.now request.now.act) }
+{
+    match &request.act {
+        MemberAct::Propose(actions) => Ok(Some(Proposal {
+            id: request.proposal_id(alloc)?,
+            seqno,
+            proposer: request.member,
+            actions: copy_actions(alloc, actions.as_slice())?,
+        })),
+        _ => Ok(None),
+    }
+}
+
+/// The proposal that the request at a seqno makes.
+fn proposal_in(
+    alloc: Global,
+    seqno: u64,
+    request: &GovernanceRequest,
+) -> Result<Option<Proposal>, AllocError>
+    requires { is_request request.now ≡ true }
+    ensures { IfOk result (λ proposal. proposal ≡ proposal_in seqno request.now) }
+{
+    match request {
+        GovernanceRequest::Member(request) => proposal_in_act(alloc, seqno, request),
+        _ => Ok(None),
+    }
+}
+
+/// Adds the proposal that the request at a seqno makes.
+pub(crate) fn push_proposal_in(
+    alloc: Global,
+    proposals: &mut Vec<Proposal>,
+    seqno: u64,
+    request: &GovernanceRequest,
+) -> Result<(), AllocError>
+    requires { is_request request.now ≡ true }
+    ensures { OnOk result (proposals.new.items
+        ≡ proposals.old.items ++ option_to_list (proposal_in seqno request.now)) }
+{
+    match proposal_in(alloc, seqno, request)? {
+        None => Ok(()),
+        Some(proposal) => {
+            proposals.push(proposal)?;
+            Ok(())
+        }
+    }
+}
+
+/// Dropped, where what drops proposals stands behind the proposal.
+fn dropped_if(later: bool) -> Option<ProposalState>
+    ensures { result ≡ dropped_if later }
+{
+    if later {
+        Some(ProposalState::Dropped)
+    } else {
+        None
+    }
+}
+
+/// The state in which the change at a seqno settles the proposal.
+fn state_settled(proposal: &Proposal, seqno: u64, change: &Change) -> Option<ProposalState>
+    ensures { result ≡ state_settled proposal.now seqno change.now }
+{
+    match change {
+        Change::Recovered(_) => dropped_if(proposal.seqno < seqno),
+        Change::Applied(Action::SetConstitution(_)) => dropped_if(proposal.seqno < seqno),
+        Change::Settled(id, state) => {
+            if proposal.id == *id {
+                Some(*state)
+            } else {
+                None
+            }
+        }
+        _ => None,
+    }
+}
+
+/// Whether what a member asks for is a ballot on this proposal, with this answer.
+fn is_answer_on(id: &Digest, agrees: bool, act: &MemberAct) -> bool
+    ensures { result ≡ is_answer_on id.now agrees act.now }
+{
+    match act {
+        MemberAct::Ballot {
+            proposal,
+            agrees: given,
+        } => proposal == id && *given == agrees,
+        _ => false,
+    }
+}
+
+/// Whether the request is the member's ballot on this proposal, with this answer.
+fn is_ballot(id: &Digest, number: u8, agrees: bool, request: &GovernanceRequest) -> bool
+    ensures { result ≡ is_ballot id.now number agrees request.now }
+{
+    match request {
+        GovernanceRequest::Member(request) => {
+            request.member == number && is_answer_on(id, agrees, &request.act)
+        }
+        _ => false,
+    }
+}
+
+impl History {
+    ghost use Rattle.gl_gov_rules.specs.Proposals.{proposal, proposal_state, open_count, has_answered, has_ballot};
+
+    /// The proposal with this identifier, if there is one.
+    #[tactic(auto, unfolding(crate::specs::Proposals::proposal))]
+    pub fn proposal(&self, id: &Digest) -> Option<&Proposal>
+        ensures { option_copied result ≡ proposal self.now id.now }
+    {
+        self.proposals().iter().find(|proposal| proposal.id == *id)
+    }
+
+    /// The state in which the first change settles the proposal; with none it is open.
+    #[tactic(auto, unfolding(crate::specs::Proposals::proposal_state))]
+    pub fn proposal_state(&self, proposal: &Proposal) -> ProposalState
+        ensures { result ≡ proposal_state self.now proposal.now }
+    {
+        for changed in self.changes() {
+            if let Some(state) = state_settled(proposal, changed.seqno, &changed.change) {
+                return state;
+            }
+        }
+        ProposalState::Open
+    }
+
+    /// How many proposals are open.
+    #[tactic(auto, unfolding(crate::specs::Proposals::open_count))]
+    pub fn open_count(&self) -> usize
+        ensures { result ≡ open_count self.now }
+    {
+        self.proposals()
+            .iter()
+            .filter(|proposal| matches!(self.proposal_state(proposal), ProposalState::Open))
+            .count()
+    }
+
+    /// Whether the member gave this answer to this proposal.
+    #[tactic(auto, unfolding(crate::specs::Proposals::has_answered))]
+    pub fn has_answered(&self, id: &Digest, agrees: bool, number: u8) -> bool
+        ensures { result ≡ has_answered self.now.requests id.now agrees number }
+    {
+        self.requests().iter().any(|recorded| is_ballot(id, number, agrees, &recorded.request))
+    }
+
+    /// Whether the member answered this proposal.
+    #[tactic(auto, unfolding(crate::specs::Proposals::has_ballot))]
+    pub fn has_ballot(&self, id: &Digest, number: u8) -> bool
+        ensures { result ≡ has_ballot self.now.requests id.now number }
+    {
+        self.has_answered(id, true, number) || self.has_answered(id, false, number)
+    }
+}

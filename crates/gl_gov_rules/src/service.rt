@@ -1,0 +1,273 @@
+//! What is in force: the constitution, the dealing of the recovery secret, the service's key and
+//! its state, and the shares that members gave.
+
+ghost use Rattle.std.specs.Prelude.{◌≡◌, is_some, filter_map, IfOk, OnOk, ◌++◌};
+ghost use Rattle.std.specs.Option.{option_copied, option_to_list};
+ghost use Rattle.gl_vmaps.specs.LastWrite.{last_such};
+ghost use Rattle.gl_gov_rules.specs.declared.change.Changed as a_change;
+ghost use Rattle.gl_gov_rules.specs.Service.{sets_rules, sets_dealing, sets_identity, state_once_open, sets_state, clears_shares, share_in, share_behind};
+
+use crate::change::{Change, Changed, Recorded};
+use crate::history::History;
+use gl_requests::{
+    Action, Dealing, GovernanceRequest, HssPublicKey, MemberAct, Rule, ServiceState,
+};
+use gl_shares::Share;
+use std::alloc::{AllocError, Global};
+
+/// The rules that the change sets.
+fn sets_rules(change: &Change) -> Option<&[Rule]>
+    ensures { option_copied result ≡ sets_rules change.now }
+{
+    match change {
+        Change::Applied(Action::SetConstitution(rules)) => Some(rules.as_slice()),
+        _ => None,
+    }
+}
+
+/// The last change that sets the rules.
+fn last_rules(changes: &[Changed]) -> Option<&Changed>
+    ensures { option_copied result
+        ≡ last_such (λ (c : a_change.Changed). is_some (sets_rules c.change)) changes.now }
+{
+    changes
+        .iter()
+        .rev()
+        .find(|changed| sets_rules(&changed.change).is_some())
+}
+
+/// The dealing that the change sets.
+fn sets_dealing(change: &Change) -> Option<&Dealing>
+    ensures { option_copied result ≡ sets_dealing change.now }
+{
+    match change {
+        Change::Applied(Action::SetRecoveryThreshold(dealing)) => Some(dealing),
+        _ => None,
+    }
+}
+
+/// The last change that sets the dealing.
+fn last_dealing(changes: &[Changed]) -> Option<&Changed>
+    ensures { option_copied result
+        ≡ last_such (λ (c : a_change.Changed). is_some (sets_dealing c.change)) changes.now }
+{
+    changes
+        .iter()
+        .rev()
+        .find(|changed| sets_dealing(&changed.change).is_some())
+}
+
+/// The service's key that the change sets.
+fn sets_identity(change: &Change) -> Option<&HssPublicKey>
+    ensures { option_copied result ≡ sets_identity change.now }
+{
+    match change {
+        Change::Founded(_, key) => Some(key),
+        Change::Recovered(key) => Some(key),
+        _ => None,
+    }
+}
+
+/// The last change that sets the service's key.
+fn last_identity(changes: &[Changed]) -> Option<&Changed>
+    ensures { option_copied result
+        ≡ last_such (λ (c : a_change.Changed). is_some (sets_identity c.change)) changes.now }
+{
+    changes
+        .iter()
+        .rev()
+        .find(|changed| sets_identity(&changed.change).is_some())
+}
+
+/// The state to which an opening sets the service.
+fn state_once_open(recovered: bool) -> ServiceState
+    ensures { result ≡ state_once_open recovered }
+{
+    if recovered {
+        ServiceState::WaitingForRecoveryShares
+    } else {
+        ServiceState::Open
+    }
+}
+
+/// The state that the change sets the service to.
+fn sets_state(recovered: bool, change: &Change) -> Option<ServiceState>
+    ensures { result ≡ sets_state recovered change.now }
+{
+    match change {
+        Change::Founded(state, _) => Some(*state),
+        Change::Recovered(_) => Some(ServiceState::Opening),
+        Change::Applied(Action::TransitionServiceToOpen) => Some(state_once_open(recovered)),
+        Change::Completed => Some(ServiceState::Open),
+        _ => None,
+    }
+}
+
+/// The last change that sets the service's state.
+fn last_state(changes: &[Changed], recovered: bool) -> Option<&Changed>
+    ensures { option_copied result
+        ≡ last_such (λ (c : a_change.Changed). is_some (sets_state recovered c.change))
+        changes.now }
+{
+    changes
+        .iter()
+        .rev()
+        .find(|changed| sets_state(recovered, &changed.change).is_some())
+}
+
+/// Whether the change clears the shares that were given.
+fn clears_shares(change: &Change) -> bool
+    ensures { result ≡ clears_shares change.now }
+{
+    matches!(
+        change,
+        Change::Applied(Action::SetRecoveryThreshold(_) | Action::TransitionServiceToOpen)
+    )
+}
+
+/// The last change that clears the shares.
+fn last_clearing_change(changes: &[Changed]) -> Option<&Changed>
+    ensures { option_copied result
+        ≡ last_such (λ (c : a_change.Changed). clears_shares c.change) changes.now }
+{
+    changes
+        .iter()
+        .rev()
+        .find(|changed| clears_shares(&changed.change))
+}
+
+/// The share that the request gives.
+fn share_in(request: &GovernanceRequest) -> Option<Share>
+    ensures { result ≡ share_in request.now }
+{
+    match request {
+        GovernanceRequest::Member(request) => match request.act {
+            MemberAct::Share { share } => Some(Share {
+                member: request.member,
+                value: share,
+            }),
+            _ => None,
+        },
+        _ => None,
+    }
+}
+
+/// The share that the request gives, where it stands behind this seqno.
+fn share_behind(seqno: u64, recorded: &Recorded) -> Option<Share>
+    ensures { result ≡ share_behind seqno recorded.now }
+{
+    if seqno < recorded.seqno {
+        share_in(&recorded.request)
+    } else {
+        None
+    }
+}
+
+/// Adds the share that the request gives, where it stands behind this seqno.
+fn push_share_behind(
+    shares: &mut Vec<Share>,
+    seqno: u64,
+    recorded: &Recorded,
+) -> Result<(), AllocError>
+    ensures { OnOk result
+        (shares.new.items ≡ shares.old.items ++ option_to_list (share_behind seqno recorded.now)) }
+{
+    match share_behind(seqno, recorded) {
+        None => Ok(()),
+        Some(share) => {
+            shares.push(share)?;
+            Ok(())
+        }
+    }
+}
+
+/// The shares that are given behind this seqno.
+fn shares_behind(alloc: Global, seqno: u64, requests: &[Recorded]) -> Result<Vec<Share>, AllocError>
+    ensures { IfOk result (λ shares.
+        shares.items ≡ filter_map (share_behind seqno) requests.now) }
+{
+    let mut shares = Vec::new(alloc);
+    for recorded in requests {
+        push_share_behind(&mut shares, seqno, recorded)?;
+    }
+    Ok(shares)
+}
+
+impl History {
+    ghost use Rattle.gl_gov_rules.specs.Service.{constitution, dealing, identity, is_recovered, service_state, last_clearing, shares_given};
+
+    /// The constitution in force, none before a founding.
+    #[tactic(auto, unfolding(crate::specs::Service::constitution))]
+    pub fn constitution(&self) -> Option<&[Rule]>
+        ensures { option_copied result ≡ constitution self.now }
+    {
+        match last_rules(self.changes()) {
+            None => None,
+            Some(changed) => sets_rules(&changed.change),
+        }
+    }
+
+    /// The dealing in force, none before a founding.
+    #[tactic(auto, unfolding(crate::specs::Service::dealing))]
+    pub fn dealing(&self) -> Option<&Dealing>
+        ensures { option_copied result ≡ dealing self.now }
+    {
+        match last_dealing(self.changes()) {
+            None => None,
+            Some(changed) => sets_dealing(&changed.change),
+        }
+    }
+
+    /// The service's key, none before a founding.
+    #[tactic(auto, unfolding(crate::specs::Service::identity))]
+    pub fn identity(&self) -> Option<&HssPublicKey>
+        ensures { option_copied result ≡ identity self.now }
+    {
+        match last_identity(self.changes()) {
+            None => None,
+            Some(changed) => sets_identity(&changed.change),
+        }
+    }
+
+    /// Whether the service was recovered.
+    #[tactic(auto, unfolding(crate::specs::Service::is_recovered))]
+    pub fn is_recovered(&self) -> bool
+        ensures { result ≡ is_recovered self.now }
+    {
+        self.changes()
+            .iter()
+            .any(|changed| matches!(changed.change, Change::Recovered(_)))
+    }
+
+    /// The service's state, none before a founding.
+    #[tactic(auto, unfolding(crate::specs::Service::service_state))]
+    pub fn service_state(&self) -> Option<ServiceState>
+        ensures { result ≡ service_state self.now }
+    {
+        let recovered = self.is_recovered();
+        match last_state(self.changes(), recovered) {
+            None => None,
+            Some(changed) => sets_state(recovered, &changed.change),
+        }
+    }
+
+    /// The seqno of the last change that cleared the shares that were given, or 0.
+    #[tactic(auto, unfolding(crate::specs::Service::last_clearing))]
+    pub fn last_clearing(&self) -> u64
+        ensures { result ≡ last_clearing self.now }
+    {
+        match last_clearing_change(self.changes()) {
+            None => 0,
+            Some(changed) => changed.seqno,
+        }
+    }
+
+    /// The shares given behind the last change that cleared them, in the order in which they were
+    /// given.
+    #[tactic(auto, unfolding(crate::specs::Service::shares_given))]
+    pub fn shares_given(&self, alloc: Global) -> Result<Vec<Share>, AllocError>
+        ensures { IfOk result (λ shares. shares.items ≡ shares_given self.now) }
+    {
+        shares_behind(alloc, self.last_clearing(), self.requests())
+    }
+}

@@ -1,0 +1,23 @@
+//! Requests of governance: their values, their bytes both ways, and what members sign.
+#![tactic(auto)]
+
+mod action;
+mod copy;
+mod decode;
+mod encode;
+mod genesis;
+mod laws;
+mod request;
+
+pub use action::{Action, Rule};
+pub use copy::copy_actions;
+pub use encode::actions_bytes;
+pub use genesis::{
+    Dealing, Digest, Genesis, HssPublicKey, LmsPublicKey, NewMember, NewNode, NodeId, Recovery,
+    ServiceState, ShareDigest,
+};
+pub use laws::law_of_requests;
+pub use request::{GovernanceRequest, MemberAct, MemberRequest};
+
+#[cfg(test)]
+mod tests;

@@ -12,6 +12,8 @@ use Rattle.gl_world.specs.declared.settings.Settings.{Settings}
 use Rattle.gl_world.specs.Founding.{has_distinct_keys}
 use Rattle.gl_world.specs.Single.{IsSingle}
 use Rattle.gl_world.proofs.Acceptable.{single_group}
+use Rattle.gl_requests.specs.Ranges.{is_first_state}
+use Rattle.gl_requests.specs.declared.genesis.ServiceState.TheVariants.{Opening, Open}
 use Rattle.gl_world.proofs.Groups.{group_safe}
 use Rattle.ccfg.specs.declared.schedule.Schedule.{Schedule}
 use Rattle.ccfg.specs.declared.schedule.Schedule.TheVariants.{Empty, Service}
@@ -24,6 +26,11 @@ use Rattle.ccfg.proofs.ToldLemmas.{told_in_moments}
 service_keeps : (s : Settings) (lines : List Line) → IsSingle s → KeepsHeadline (Ok (Service s lines))
 service_keeps s lines single = group_safe s (single_group s single) (told_of s lines).events
 
+-- a first line names one of the two states in which a service begins
+first_state : (b : Bool) → is_first_state (if b then Open else Opening) ≡ true
+first_state true = refl
+first_state false = refl
+
 -- the service of a first line has one node
 single_service : (w : WorldLine) (s : Settings) → IsSmall w → service_of w ≡ Ok s → IsSingle s
 single_service w s small is = go (has_distinct_keys (settings_of w)) refl is
@@ -31,7 +38,7 @@ single_service w s small is = go (has_distinct_keys (settings_of w)) refl is
     go : (b : Bool) → has_distinct_keys (settings_of w) ≡ b → ◌≡◌ {A = Result Settings ScheduleFault} (if b then Ok (settings_of w) else Err (BadLine 1)) (Ok s) → IsSingle s
     go true distinct p =
         let same : settings_of w ≡ s = cc in
-        let single : IsSingle (settings_of w) = record { starting = small.starting; joiners = small.joiners; some = small.some; few = small.few; distinct = distinct } in
+        let single : IsSingle (settings_of w) = record { starting = small.starting; joiners = small.joiners; some = small.some; few = small.few; distinct = distinct; first_state = first_state w.is_open } in
         subst IsSingle same single
     go false distinct p = absurd (cc)
 

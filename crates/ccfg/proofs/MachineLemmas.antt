@@ -27,13 +27,14 @@ use Rattle.gl_tx.specs.declared.request.Operation.{Operation}
 use Rattle.gl_tx.specs.declared.request.Answer.{Answer}
 use Rattle.gl_ledger.specs.Broken.{last_signed}
 use Rattle.gl_ledger.specs.Ledger.{HasViewsUpTo, genesis_entry, message_behind, opening_ledger, sign_result}
-use Rattle.gl_ledger.specs.declared.genesis.Genesis as request
+use Rattle.gl_requests.specs.declared.genesis.Genesis as request
 use Rattle.gl_ledger.specs.NodeKeys.{service_layers, leaf_count, IsNodeKey}
-use Rattle.gl_ledger.specs.Genesis.{node_id}
-use Rattle.gl_ledger.specs.Effect.{identity_in}
+use Rattle.gl_requests.specs.Spelling.{node_id}
+use Rattle.gl_gov_rules.specs.History.{no_history}
+use Rattle.gl_gov_rules.specs.Refusals.{genesis_refusal}
+use Rattle.gl_ledger.specs.ServiceRow.{identity_in}
 use Rattle.gl_ledger.specs.Tree.{tables_of}
 use Rattle.gl_ledger.specs.Recordings.{recorded_nodes}
-use Rattle.gl_ledger.specs.Acceptance.{genesis_fault}
 use Rattle.gl_ledger.specs.Broken.{may_record}
 use Rattle.gl_ledger.specs.Makers.{Given, Replied, Unmade, ByStore, by_store, request_result, signing_result, opening_of}
 use Rattle.gl_service.specs.Service.{ServiceEvent}
@@ -42,12 +43,13 @@ use Rattle.gl_ledger.specs.declared.refusal.Refusal.{Refusal}
 use Rattle.gl_ledger.proofs.Applications.{execute_ok, request_ok}
 use Rattle.gl_ledger.proofs.Following.{book_sign_ok}
 use Rattle.gl_ledger.proofs.Growth.{IsNoGovernance}
+use Rattle.gl_ledger.proofs.Opening.{member_first}
 use Rattle.gl_ledger.proofs.Signatures.{last_is_signed, signed_at_last, last_if_signed}
 use Rattle.gl_store.specs.Kept.{Held}
 use Rattle.gl_store.specs.Calls.{Executes, Signs, SignsFor, signature_of}
 use Rattle.gl_world.specs.declared.settings.Settings.{Settings}
 use Rattle.gl_world.specs.Keys.{private_key, node_seed}
-use Rattle.gl_world.specs.Founding.{id_of, genesis_of, keys_of, endorsement_of, signer_of, number_of}
+use Rattle.gl_world.specs.Founding.{numbers_from, node_ids, id_of, genesis_of, keys_of, endorsement_of, signer_of, number_of}
 use Rattle.gl_world.specs.Group.{book_of}
 use Rattle.gl_world.specs.Single.{IsSingle}
 use Rattle.gl_world.specs.Solo.{IsSoloLedger}
@@ -82,7 +84,7 @@ node_then s events e x rule n m o happened is step =
 goes_on : (m : Machine) (st : Held) (signer : Signer) (e : ServiceEvent) (rule : Node Entry → ServiceStep) (o : outcome.Outcome Given Unmade) → IsMachine m →
     ((w : ServiceWorld) → happens (book_of m.settings) w e ≡ at w m.id (rule (w.nodes m.id))) →
     (let new : Machine = record m { store = st; signer = signer } in rule (node_in m) ≡ quiet (node_in new) o) →
-    IsSoloLedger service_layers m.id st.ledger → 2 ≤ st.commit → IsSignerOf m.settings m.id signer → GoesOn m (record m { store = st; signer = signer })
+    IsSoloLedger m.id st.ledger → 2 ≤ st.commit → IsSignerOf m.settings m.id signer → GoesOn m (record m { store = st; signer = signer })
 goes_on m st signer e rule o h happened step ledger opened signs = record {
   machine = record {
     single = h.single;
@@ -124,8 +126,8 @@ begins m single named is signs =
       reached = ap (λ (x : NodeId). (begin (start_of s)).nodes x) named
           ∙ ap (λ (b : Bool). if b then leader_at_start (start_of s) else (if member (id_of s 1) (start_of s).starting then starter (start_of s) else joiner)) (same_itself (id_of s 1))
           ∙ sym is;
-      ledger = subst (λ (x : NodeId). IsSoloLedger service_layers x m.store.ledger) (sym named)
-          (subst (λ (l : List Entry). IsSoloLedger service_layers (id_of s 1) l) (sym (ap (λ (n : Node Entry). n.log) is)) (solo_at_start s single));
+      ledger = subst (λ (x : NodeId). IsSoloLedger x m.store.ledger) (sym named)
+          (subst (λ (l : List Entry). IsSoloLedger (id_of s 1) l) (sym (ap (λ (n : Node Entry). n.log) is)) (solo_at_start s single));
       opened = omega (arith, commit);
       signer = signs;
     }
@@ -183,22 +185,30 @@ opening_signs s h x is g founded signer same =
       reserved = omega arith;
     }))
 
-pub opening_accepted : (s : Settings) → IsSingle s → (g : request.Genesis) → g ≡ genesis_of s → genesis_fault service_layers g ≡ None
-opening_accepted s h g founded = ap (genesis_fault service_layers) founded ∙ (group_founds s (single_group s h)).accepted
+pub opening_accepted : (s : Settings) → IsSingle s → (g : request.Genesis) → g ≡ genesis_of s → genesis_refusal no_history g ≡ None
+opening_accepted s h g founded = ap (genesis_refusal no_history) founded ∙ (group_founds s (single_group s h)).accepted
 
 pub opening_named : (s : Settings) → IsSingle s → (g : request.Genesis) → g ≡ genesis_of s → (x : NodeId) → x ≡ id_of s 1 → member x (map node_id g.nodes) ≡ true
 opening_named s h g founded x is =
     ap (λ (y : NodeId). member y (map node_id g.nodes)) is ∙ ap (λ (f : request.Genesis). member (id_of s 1) (map node_id f.nodes)) founded ∙ (group_founds s (single_group s h)).named
 
+-- the machine's node is the one that the settings name
+machine_known : (m : Machine) → IsMachine m → member m.id (node_ids m.settings) ≡ true
+machine_known m h =
+    let s = m.settings in
+    let one : s.starting + s.joiners ≡ 1 = omega (arith, h.single.starting, h.single.joiners) in
+    ap (member m.id) (ap (λ (n : ℕ). map (id_of s) (numbers_from 1 n)) one)
+    ∙ ap (λ (x : NodeId). member x (id_of s 1 ∷ [])) h.named ∙ member_first (id_of s 1) []
+
 -- a leader's machine may sign
-pub machine_recorded : (m : Machine) → IsMachine m → member m.id (recorded_nodes service_layers m.store.ledger) ≡ true
+pub machine_recorded : (m : Machine) → IsMachine m → member m.id (recorded_nodes m.store.ledger) ≡ true
 machine_recorded m h =
-    subst (λ (n : Node Entry). member m.id (recorded_nodes service_layers n.log) ≡ true) h.reached
+    subst (λ (n : Node Entry). member m.id (recorded_nodes n.log) ≡ true) h.reached
     (group_recorded m.settings (single_group m.settings h.single) h.events m.id (ap (λ (n : Node Entry). n.role) h.reached))
 
-pub machine_records : (m : Machine) → IsMachine m → may_record service_layers m.store.ledger m.store.commit ≡ true
+pub machine_records : (m : Machine) → IsMachine m → may_record m.store.ledger m.store.commit ≡ true
 machine_records m h =
-    subst (λ (n : Node Entry). may_record service_layers n.log n.commit ≡ true) h.reached
+    subst (λ (n : Node Entry). may_record n.log n.commit ≡ true) h.reached
     (group_records m.settings (single_group m.settings h.single) h.events m.id (ap (λ (n : Node Entry). n.role) h.reached))
 
 pub machine_signs : (m : Machine) → IsMachine m → SignsFor m.id (identity_in (tables_of m.store.ledger)) m.signer
@@ -224,7 +234,7 @@ signs-is m h left =
     let message = message_behind m.store.ledger 2 m.store.commit in
     let made : PrivateKey → Option (List ℕ) → Result Entry Unmade = λ k e. by_store (sign_result m.id (hss_signature k e m.signer.used message) m.store.ledger 2 m.store.commit) in
     subst (λ (n : Node Entry). (book_of s).sign m.id m.signer.used n.log n.view n.commit ≡ signing_result keys m.id m.signer.used n.log n.view n.commit) h.reached
-    (group_signs s (single_group s h.single) h.events m.id (ap (λ (n : Node Entry). n.role) h.reached) m.signer.used low)
+    (group_signs s (single_group s h.single) h.events m.id (ap (λ (n : Node Entry). n.role) h.reached) (machine_known m h) m.signer.used low)
     ∙ ap (λ (k : PrivateKey). made k (Some (keys.endorsement_of m.id))) (sym h.signer.key)
     ∙ ap (made m.signer.key) (sym h.signer.endorsement)
 
@@ -377,13 +387,13 @@ submit_accepted m st q id reply h ran =
     ∙ ap (λ (n : Node Entry). quiet {E = Entry} {A = Given} {F = Unmade} n (outcome.Accepted 2 (length m.store.ledger + 1) (Replied reply))) node
     ∙ ap (λ (t : TxId). quiet {E = Entry} {A = Given} {F = Unmade} (node_in new) (outcome.Accepted t.view t.seqno (Replied reply))) (sym ran.enters.named) in
     let quiet_one : IsNoGovernance ran.entry.content = subst (λ (e : Entry). IsNoGovernance e.content) (sym made.3) tt in
-    let ledger : IsSoloLedger service_layers m.id st.ledger = subst (λ (x : Held). IsSoloLedger service_layers m.id x.ledger) (sym ran.enters.entered)
-    (solo-push service_layers m.id m.store.ledger ran.entry h.ledger view quiet_one) in
+    let ledger : IsSoloLedger m.id st.ledger = subst (λ (x : Held). IsSoloLedger m.id x.ledger) (sym ran.enters.entered)
+    (solo-push m.id m.store.ledger ran.entry h.ledger view quiet_one) in
     let opened : 2 ≤ st.commit = subst (λ (x : Held). 2 ≤ x.commit) (sym ran.enters.entered) h.opened in
     (is, goes_on m st m.signer (event.Submit m.id q) (submit (book_of m.settings) q) _ h (submitted m.settings m.id q) is ledger opened h.signer)
 
-same_ledger : (m : Machine) (st : Held) → IsMachine m → st ≡ m.store → IsSoloLedger service_layers m.id st.ledger
-same_ledger m st h same = subst (λ (x : Held). IsSoloLedger service_layers m.id x.ledger) (sym same) h.ledger
+same_ledger : (m : Machine) (st : Held) → IsMachine m → st ≡ m.store → IsSoloLedger m.id st.ledger
+same_ledger m st h same = subst (λ (x : Held). IsSoloLedger m.id x.ledger) (sym same) h.ledger
 
 same_opened : (m : Machine) (st : Held) → IsMachine m → st ≡ m.store → 2 ≤ st.commit
 same_opened m st h same = subst (λ (x : Held). 2 ≤ x.commit) (sym same) h.opened
@@ -474,8 +484,8 @@ sign_signs m st id h free other s =
     ∙ ap (λ (x : Held). quiet {E = Entry} {A = Given} {F = Unmade} (node_in (record m { store = x; signer = spent })) (outcome.Signed 2 (length m.store.ledger + 1))) (sym s.enters.entered)
     ∙ ap (λ (t : TxId). quiet {E = Entry} {A = Given} {F = Unmade} (node_in new) (outcome.Signed t.view t.seqno)) (sym s.enters.named) in
     let quiet_one : IsNoGovernance s.entry.content = subst (λ (e : Entry). IsNoGovernance e.content) (sym made) tt in
-    let ledger : IsSoloLedger service_layers m.id st.ledger = subst (λ (x : Held). IsSoloLedger service_layers m.id x.ledger) (sym s.enters.entered)
-    (solo-push service_layers m.id m.store.ledger s.entry h.ledger view quiet_one) in
+    let ledger : IsSoloLedger m.id st.ledger = subst (λ (x : Held). IsSoloLedger m.id x.ledger) (sym s.enters.entered)
+    (solo-push m.id m.store.ledger s.entry h.ledger view quiet_one) in
     let opened : 2 ≤ st.commit = subst (λ (x : Held). 2 ≤ x.commit) (sym s.enters.entered) h.opened in (
       is,
       goes_on m st spent (event.Sign m.id) (sign (book_of m.settings) m.id) _ h (signed m.settings m.id) is ledger opened

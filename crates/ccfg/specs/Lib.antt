@@ -1,4 +1,5 @@
 pub mod Schedules
+pub mod GovernanceText
 pub mod Text
 pub mod Told
 pub mod Moments

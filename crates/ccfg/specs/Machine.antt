@@ -74,7 +74,7 @@ pub record IsMachine (m : Machine) : Type 0 where
   pub named : m.id ≡ id_of m.settings 1
   pub events : List ServiceEvent
   pub reached : node_after (book_of m.settings) (start_of m.settings) events m.id ≡ node_in m
-  pub ledger : IsSoloLedger service_layers m.id m.store.ledger
+  pub ledger : IsSoloLedger m.id m.store.ledger
   pub opened : 2 ≤ m.store.commit
   pub signer : IsSignerOf m.settings m.id m.signer
 

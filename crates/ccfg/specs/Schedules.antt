@@ -1,6 +1,6 @@
 -- The service of a schedule, and which texts are schedules.
 use Rattle.std.specs.Prelude.{ℕ, List, Result, Ok, Err, length, ◌==◌, if◌then◌else◌}
-use Rattle.gl_ledger.specs.declared.genesis.ServiceState.TheVariants.{Opening, Open}
+use Rattle.gl_requests.specs.declared.genesis.ServiceState.TheVariants.{Opening, Open}
 use Rattle.gl_lines.specs.declared.world.WorldLine.{WorldLine}
 use Rattle.gl_base.specs.Steps.{◌>>=◌}
 use Rattle.gl_lines.specs.declared.fault.ScheduleFault.{ScheduleFault}

@@ -12,7 +12,7 @@ use Rattle.gl_rules.specs.Node.{Node}
 use Rattle.gl_rules.specs.Safety.{committed_ledger}
 use Rattle.gl_entry.specs.Entry.{frame_bytes}
 use Rattle.gl_entry.specs.declared.entry.Entry.{Entry}
-use Rattle.gl_ledger.specs.Genesis.{state_byte}
+use Rattle.gl_requests.specs.Spelling.{state_byte}
 use Rattle.gl_tx.specs.declared.request.Answer.{Answer}
 use Rattle.gl_tx.specs.declared.request.Answer.TheVariants as answers
 use Rattle.gl_tx.specs.Abort.{number_of}
@@ -20,12 +20,8 @@ use Rattle.gl_ledger.specs.declared.refusal.Refusal.TheVariants as refusals
 use Rattle.gl_world.specs.declared.settings.Settings.{Settings}
 use Rattle.gl_world.specs.Founding.{id_of, numbers_from}
 use Rattle.gl_world.specs.World.{ServiceOutcome, ServiceWorld}
-use Rattle.gl_ledger.specs.Makers.{Given, Replied, Governed, Unmade, ByStore, Unspelled, NoEvidenceYet, NotAccepted, ByRule}
-
--- Numbers behind a word, each behind a space.
-abbrev pub with_numbers : List ℕ → List ℕ → List ℕ
-with_numbers text [] = text
-with_numbers text (n ∷ ns) = with_numbers (text ++ codes " " ++ decimal n) ns
+use Rattle.gl_ledger.specs.Makers.{Given, Replied, Governed, Unmade, ByStore, Unspelled, NoEvidenceYet, Founding, ByRule}
+use Rattle.ccfg.specs.GovernanceText.{with_numbers, governance_text}
 
 -- A value in hexadecimal, or a full stop for one of no bytes.
 abbrev pub value_text : List ℕ → List ℕ
@@ -60,9 +56,10 @@ unmade_text (ByStore (refusals.Aborted abort)) =
     with_numbers (codes "122") (abort.operation ∷ number_of abort.cause ∷ [])
 unmade_text (ByStore (refusals.TooLarge size)) = with_numbers (codes "119") (size ∷ [])
 unmade_text (ByStore refusals.SeqnoLimit) = codes "130"
+unmade_text (ByStore (refusals.Governance why)) = governance_text why
 unmade_text Unspelled = codes "117"
 unmade_text NoEvidenceYet = codes "117"
-unmade_text (NotAccepted fault) = codes "117"
+unmade_text Founding = codes "117"
 unmade_text (ByRule broken) = codes "117"
 
 -- The number of a node, by its identifier.

@@ -49,7 +49,7 @@ impl Machine {
         let id = founding.node_id();
         // No leaf of the new key is reserved yet, so one is left.
         let _ = founding.signer.reserve();
-        let store = Store::begin(alloc, &founding.genesis, id, &mut founding.signer)?;
+        let store = Store::begin(alloc, founding.genesis, id, &mut founding.signer)?;
         Ok(Machine {
             settings,
             id,

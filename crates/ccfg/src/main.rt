@@ -3,6 +3,7 @@
 
 mod ending;
 mod fault;
+mod governance_text;
 mod help;
 mod load;
 mod machine;

@@ -6,8 +6,8 @@ ghost use Rattle.ccfg.specs.Plans.{HasOneNode};
 ghost use Rattle.ccfg.specs.Schedules.{reads, service_of, settings_of};
 
 use gl_base::OrNoMemory;
-use gl_ledger::ServiceState;
 use gl_lines::{Lines, ScheduleFault, WorldLine, read_first_line, read_lines};
+use gl_requests::ServiceState;
 use gl_world::{Settings, has_distinct_keys};
 use std::alloc::Global;
 

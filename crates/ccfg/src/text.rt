@@ -4,17 +4,17 @@ ghost use Rattle.std.specs.Prelude.{◌≡◌, ◌≤◌, ◌++◌, ◌∷◌, [
 ghost use Rattle.std.specs.List.{AllByRecursion, flat_map};
 ghost use Rattle.hex.specs.Hex.{encode_lower};
 ghost use Rattle.gl_entry.specs.Entry.{is_entry};
-ghost use Rattle.ccfg.specs.Text.{value_text, answer_text, answers_behind, answers_text, refusal_text, outcome_text, status_text, with_numbers, numbered, unmade_text, id_text, ids_text, entry_text, ledger_text};
+ghost use Rattle.ccfg.specs.Text.{value_text, answer_text, answers_behind, answers_text, refusal_text, outcome_text, status_text, numbered, unmade_text, id_text, ids_text, entry_text, ledger_text};
 ghost use Rattle.ccfg.specs.LineAnswers.{line_answer_text};
 ghost use Rattle.ccfg.specs.Machine.{node_in, rules_outcome, rules_refusal};
 ghost use Rattle.gl_ledger.specs.Makers.{ByStore};
 ghost use Rattle.gl_world.specs.declared.settings.Settings.{Settings};
 
+use crate::governance_text::put_governance_refusal;
 use crate::machine::Machine;
 use crate::outcome::{LineAnswer, Outcome, Refusal};
 use gl_base::{Status, TxId};
 use gl_entry::Entry;
-use gl_ledger::state_byte;
 use gl_store::Store;
 use gl_tx::{Answer, Reply};
 use itoa::Buffer;
@@ -27,7 +27,7 @@ fn put_number(out: &mut Vec<u8>, n: u64) -> Result<(), AllocError>
 }
 
 /// A number behind a space.
-fn put_value(out: &mut Vec<u8>, n: u64) -> Result<(), AllocError>
+pub fn put_value(out: &mut Vec<u8>, n: u64) -> Result<(), AllocError>
     ensures { OnOk result (out.new.items ≡ out.old.items ++ (codes " " ++ decimal n)) }
 {
     out.extend_from_slice(b" ")?;
@@ -35,7 +35,7 @@ fn put_value(out: &mut Vec<u8>, n: u64) -> Result<(), AllocError>
 }
 
 /// Bytes in lower-case hexadecimal.
-fn put_hex(alloc: Global, out: &mut Vec<u8>, bytes: &[u8]) -> Result<(), AllocError>
+pub fn put_hex(alloc: Global, out: &mut Vec<u8>, bytes: &[u8]) -> Result<(), AllocError>
     ensures { OnOk result (out.new.items ≡ out.old.items ++ encode_lower bytes.now) }
 {
     out.extend_from_slice(hex::encode(alloc, bytes)?.as_bytes())
@@ -97,13 +97,17 @@ fn put_answers(alloc: Global, out: &mut Vec<u8>, reply: &Reply) -> Result<(), Al
     }
 }
 
-fn put_store_refusal(out: &mut Vec<u8>, refusal: gl_ledger::Refusal) -> Result<(), AllocError>
+fn put_store_refusal(
+    alloc: Global,
+    out: &mut Vec<u8>,
+    refusal: gl_ledger::Refusal,
+) -> Result<(), AllocError>
     ensures { OnOk result (out.new.items ≡ out.old.items ++ unmade_text (ByStore refusal)) }
 {
     match refusal {
         gl_ledger::Refusal::ServiceState(state) => {
             out.extend_from_slice(b"51")?;
-            put_value(out, u64::from(state_byte(state)))
+            put_value(out, u64::from(state.byte()))
         }
         gl_ledger::Refusal::Aborted(abort) => {
             out.extend_from_slice(b"122")?;
@@ -115,11 +119,12 @@ fn put_store_refusal(out: &mut Vec<u8>, refusal: gl_ledger::Refusal) -> Result<(
             put_value(out, size)
         }
         gl_ledger::Refusal::SeqnoLimit => out.extend_from_slice(b"130"),
+        gl_ledger::Refusal::Governance(why) => put_governance_refusal(alloc, out, why),
     }
 }
 
 /// The number of a refusal and its values. They name no leader, so the settings don't matter.
-fn put_refusal(out: &mut Vec<u8>, refusal: Refusal) -> Result<(), AllocError>
+fn put_refusal(alloc: Global, out: &mut Vec<u8>, refusal: Refusal) -> Result<(), AllocError>
     ensures { OnOk result ((s : Settings) →
         out.new.items ≡ out.old.items ++ refusal_text s (rules_refusal refusal)) }
 {
@@ -136,7 +141,7 @@ fn put_refusal(out: &mut Vec<u8>, refusal: Refusal) -> Result<(), AllocError>
             out.extend_from_slice(b"114")?;
             put_value(out, seqno)
         }
-        Refusal::Store(why) => put_store_refusal(out, why),
+        Refusal::Store(why) => put_store_refusal(alloc, out, why),
     }
 }
 
@@ -163,7 +168,7 @@ fn put_outcome(alloc: Global, out: &mut Vec<u8>, outcome: &Outcome) -> Result<()
         }
         Outcome::Refused(why) => {
             out.extend_from_slice(b"refused ")?;
-            put_refusal(out, *why)
+            put_refusal(alloc, out, *why)
         }
     }
 }

@@ -8,8 +8,8 @@ ghost use Rattle.ccfg.specs.declared.words.Task.TheVariants.{Verify};
 use crate::fault::Fault;
 use crate::plan::Plan;
 use gl_base::{OrNoMemory, TxId};
-use gl_ledger::HssPublicKey;
 use gl_receipt::{read_receipt, verify};
+use gl_requests::HssPublicKey;
 use std::alloc::{AllocError, Global};
 
 /// What there is to do with a text within the limit on JSON that is to be a receipt under this key.

@@ -12,7 +12,7 @@ ghost use Rattle.ccfg.specs.Words.{IsCommand, RefusesWords, asked, asked_command
 use crate::help::VERSION;
 use clap::error::ErrorKind;
 use clap::{Arg, ArgMatches, Command};
-use gl_ledger::HssPublicKey;
+use gl_requests::HssPublicKey;
 use hex::FromHex;
 use std::alloc::{AllocError, Global};
 

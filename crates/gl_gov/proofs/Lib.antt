@@ -2,6 +2,4 @@ mod Sizes
 mod Putting
 mod Numbers
 mod RowSizes
-mod RowsSet
 mod States
-mod Effects

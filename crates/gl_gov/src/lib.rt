@@ -2,12 +2,10 @@
 #![tactic(auto)]
 
 pub use effect::{GovernanceEffect, ProposalStatus, ShareCount};
-pub use laws::law_of_effects;
 pub use state::{GovState, is_founding};
 
 mod between;
 mod effect;
-mod laws;
 mod rows;
 mod state;
 #[cfg(test)]

@@ -9,7 +9,7 @@ ghost use Rattle.gl_vmaps.specs.Writes.{with_write};
 ghost use Rattle.gl_requests.specs.Spelling.{rule_bytes, action_bytes};
 ghost use Rattle.gl_requests.specs.Ranges.{is_dealing, are_rules, is_action};
 ghost use Rattle.gl_gov_rules.specs.Service.{constitution, dealing};
-ghost use Rattle.gl_gov_rules.specs.Rows.{constitution_map, service_row, service_write, member_byte, member_row, member_rows, member_write, node_byte, node_row, node_rows, node_write, proposal_byte, vote_of, votes, proposal_row, vote_bytes, proposal_write, proposal_writes, rule_writes_from, rule_writes_of, dealing_write, share_write, write_of, rows};
+ghost use Rattle.gl_gov_rules.specs.Rows.{constitution_map, service_row, service_write, member_row, member_rows, member_write, node_row, node_rows, node_write, vote_of, votes, proposal_row, vote_bytes, proposal_write, proposal_writes, rule_writes_from, rule_writes_of, dealing_write, share_write, write_of, rows};
 ghost use Rattle.gl_gov_rules.specs.History.{seqno_of};
 ghost use Rattle.gl_gov_rules.specs.Nodes.{nodes, retirement};
 ghost use Rattle.gl_gov_rules.specs.Proposals.{proposals};
@@ -17,8 +17,7 @@ ghost use Rattle.gl_gov_rules.specs.Governed.{IsBoundedProposal, IsBounded};
 
 use gl_base::{Bytes, Sequence, put_bytes, put_flag, put_u8, put_u16, put_u32, put_u64};
 use gl_gov_rules::{
-    History, MemberRow, MemberStatus, NodeRow, NodeStatus, Proposal, ProposalRow, ProposalState,
-    RecordedNode, ServiceRow, Vote,
+    History, MemberRow, NodeRow, Proposal, ProposalRow, RecordedNode, ServiceRow, Vote,
 };
 use gl_requests::{Dealing, NewMember, Rule, actions_bytes, copy_actions};
 use gl_shares::Share;
@@ -168,16 +167,6 @@ fn put_service(alloc: Global, writes: &mut Writes, past: &History) -> Result<(),
 
 // Members
 
-fn member_byte(status: MemberStatus) -> u8
-    ensures { result ≡ member_byte status }
-{
-    match status {
-        MemberStatus::Accepted => 1,
-        MemberStatus::Active => 2,
-        MemberStatus::Removed => 3,
-    }
-}
-
 #[tactic(auto, unfolding(gl_gov_rules::specs::Rows::member_row))]
 fn member_row(past: &History, member: &NewMember) -> MemberRow
     ensures { result ≡ member_row past.now member.now }
@@ -208,7 +197,7 @@ fn member_write(alloc: Global, member: &MemberRow) -> Result<Write, AllocError>
     ensures { IfOk result (λ write. write ≡ member_write member.now) }
 {
     let mut value = Vec::new(alloc);
-    value.push(member_byte(member.status))?;
+    value.push(member.status.byte())?;
     put_bytes(&mut value, &member.key)?;
     put_u32(&mut value, member.next_leaf)?;
     row(alloc, b"public:ccf.gov.members", &[member.number], value)
@@ -224,17 +213,6 @@ fn put_members(alloc: Global, writes: &mut Writes, members: &[MemberRow]) -> Res
 }
 
 // Nodes
-
-fn node_byte(status: NodeStatus) -> u8
-    ensures { result ≡ node_byte status }
-{
-    match status {
-        NodeStatus::Pending => 1,
-        NodeStatus::Trusted => 2,
-        NodeStatus::Retired => 3,
-        NodeStatus::Marked => 4,
-    }
-}
 
 /// The seqno of the entry that retired a node, or 0.
 fn removal(past: &History, node: &RecordedNode) -> u64
@@ -288,7 +266,7 @@ fn node_write(alloc: Global, node: &NodeRow) -> Result<Write, AllocError>
     let endorsement = node.endorsement.as_slice();
     let mut value = Vec::new(alloc);
     put_u16(&mut value, node.order)?;
-    value.push(node_byte(node.status))?;
+    value.push(node.status.byte())?;
     put_bytes(&mut value, &node.key)?;
     put_u32(&mut value, endorsement.len() as u32)?;
     put_bytes(&mut value, endorsement)?;
@@ -307,19 +285,6 @@ fn put_nodes(alloc: Global, writes: &mut Writes, nodes: &[NodeRow]) -> Result<()
 }
 
 // Proposals
-
-fn proposal_byte(state: ProposalState) -> u8
-    ensures { result ≡ proposal_byte state }
-{
-    match state {
-        ProposalState::Open => 1,
-        ProposalState::Accepted => 2,
-        ProposalState::Rejected => 3,
-        ProposalState::Withdrawn => 4,
-        ProposalState::Failed => 5,
-        ProposalState::Dropped => 6,
-    }
-}
 
 /// A member's ballot on a proposal, if it has answered.
 fn vote_of(past: &History, id: &[u8; 32], member: u8) -> Option<Vote>
@@ -404,7 +369,7 @@ fn proposal_write(alloc: Global, id: &[u8; 32], proposal: &ProposalRow) -> Resul
     let actions = actions_bytes(alloc, proposal.actions.as_slice())?;
     let ballots = proposal.ballots.as_slice();
     let mut value = Vec::new(alloc);
-    value.push(proposal_byte(proposal.state))?;
+    value.push(proposal.state.byte())?;
     value.push(proposal.proposer)?;
     put_u32(&mut value, actions.len() as u32)?;
     put_bytes(&mut value, &actions)?;

@@ -12,9 +12,9 @@ use crate::between::changes;
 use crate::effect::{GovernanceEffect, ProposalStatus, ShareCount};
 use crate::rows::{member_rows, node_rows, proposal_row, rows, service_row};
 use gl_base::OrNoMemory;
-use gl_gov_rules::refusals::refusal;
+use gl_gov_decisions::{refusal, with_request};
 use gl_gov_rules::{
-    GovernanceRefusal, History, MemberRow, NodeRow, ProposalRow, Recorded, ServiceRow, with_request,
+    GovernanceRefusal, History, MemberRow, NodeRow, ProposalRow, Recorded, ServiceRow,
 };
 use gl_requests::{Digest, GovernanceRequest, MemberAct, MemberRequest};
 use gl_vmaps::Writes;
@@ -68,6 +68,13 @@ impl GovState {
         ensures governed { IsGoverned self.now }
     {
         self.past.requests().len()
+    }
+
+    /// What the requests come to.
+    pub fn history(&self) -> &History
+        ensures history { result.now ≡ history self.now }
+    {
+        &self.past
     }
 
     /// Whether a service is founded: no request but a founding comes before that.

@@ -21,6 +21,11 @@ abbrev pub is_founding : GovernanceRequest → Bool
 is_founding (requests.Genesis g) = true
 is_founding other = false
 
+-- The request founds a service anew.
+abbrev pub is_recovery : GovernanceRequest → Bool
+is_recovery (requests.Recover r) = true
+is_recovery other = false
+
 abbrev pub is_nothing : List Recorded → Bool
 is_nothing [] = true
 is_nothing (r ∷ rs) = false

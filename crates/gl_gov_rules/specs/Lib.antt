@@ -12,3 +12,4 @@ pub mod Rows
 pub mod Refusals
 pub mod Governed
 pub mod Rising
+pub mod Numbers

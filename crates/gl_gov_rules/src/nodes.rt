@@ -1,10 +1,12 @@
 //! Which nodes were recorded, and the status of each.
 
-ghost use Rattle.std.specs.Prelude.{◌≡◌, ◌++◌, ◌∷◌, [], true, false, map, IfOk, OnOk};
+ghost use Rattle.std.specs.Prelude.{◌≡◌, ◌++◌, ◌∷◌, [], true, false, map, find, option_map, IfOk, OnOk};
 ghost use Rattle.std.specs.Option.{option_copied};
+ghost use Rattle.gl_gov_rules.specs.declared.change.Recorded as a_request;
+ghost use Rattle.gl_gov_rules.specs.declared.change.Changed as a_change;
 ghost use Rattle.gl_gov_rules.specs.Nodes.{recorded_node, nodes_recorded, trusts, retires, marks};
 
-use crate::change::{Change, Changed, RecordedNode};
+use crate::change::{Change, Changed, Recorded, RecordedNode};
 use crate::history::History;
 use crate::refusal::NodeStatus;
 use gl_requests::{Action, GovernanceRequest, NewNode, NodeId};
@@ -113,7 +115,7 @@ fn marks(id: &NodeId, request: &GovernanceRequest) -> bool
 }
 
 impl History {
-    ghost use Rattle.gl_gov_rules.specs.Nodes.{node, retirement, is_marked, is_trust_applied, was_trusted, node_status, trusted_count, pending_count};
+    ghost use Rattle.gl_gov_rules.specs.Nodes.{node, retirement, mark, is_marked, is_trust_applied, was_trusted, node_status, trusted_count, pending_count};
 
     /// The node with this identifier, if it is recorded.
     #[tactic(auto, unfolding(crate::specs::Nodes::node))]
@@ -130,6 +132,38 @@ impl History {
     {
         self.changes().iter().find(|changed| node.seqno < changed.seqno
             && retires(&node.id, &changed.change))
+    }
+
+    /// The seqno of the entry that took the node out of service, if one did.
+    pub fn removal(&self, node: &RecordedNode) -> Option<u64>
+        ensures { result
+            ≡ option_map (λ (c : a_change.Changed). c.seqno) (retirement self.now node.now) }
+    {
+        match self.retirement(node) {
+            None => None,
+            Some(changed) => Some(changed.seqno),
+        }
+    }
+
+    /// The first request that marks a node with this identifier.
+    fn marking(&self, id: &NodeId) -> Option<&Recorded>
+        ensures { option_copied result
+            ≡ find (λ (r : a_request.Recorded). marks id.now r.request) self.now.requests }
+    {
+        self.requests()
+            .iter()
+            .find(|recorded| marks(id, &recorded.request))
+    }
+
+    /// The seqno of the entry that marked a node, if one did.
+    #[tactic(auto, unfolding(crate::specs::Nodes::mark))]
+    pub fn mark(&self, id: &NodeId) -> Option<u64>
+        ensures { result ≡ mark self.now id.now }
+    {
+        match self.marking(id) {
+            None => None,
+            Some(recorded) => Some(recorded.seqno),
+        }
     }
 
     /// Whether the node's Mark stands.

@@ -19,12 +19,12 @@ use Rattle.gl_tx.proofs.Written.{MayName, run_from-may}
 use Rattle.gl_entry.specs.Entry.{body_bytes, body_limit}
 use Rattle.gl_entry.specs.declared.entry.Content.TheVariants as content
 use Rattle.gl_entry.specs.declared.entry.Entry.{Entry}
-use Rattle.gl_ledger.specs.Effect.{service_state}
+use Rattle.gl_ledger.specs.ServiceRow.{service_state}
 use Rattle.gl_ledger.specs.Tree.{tables_of}
 use Rattle.gl_ledger.specs.Ledger.{application_entry, execute_result, execute_in, run_result, within_limits}
 use Rattle.gl_ledger.specs.Makers.{with_reply, request_result, Given, Replied, Unmade, ByStore, Unspelled}
-use Rattle.gl_ledger.specs.declared.genesis.ServiceState.{ServiceState}
-use Rattle.gl_ledger.specs.declared.genesis.ServiceState.TheVariants.{Opening, Open}
+use Rattle.gl_requests.specs.declared.genesis.ServiceState.{ServiceState}
+use Rattle.gl_requests.specs.declared.genesis.ServiceState.TheVariants.{Opening, Open, WaitingForRecoveryShares}
 use Rattle.gl_ledger.specs.declared.refusal.Refusal.{Refusal}
 use Rattle.gl_ledger.specs.declared.refusal.Refusal.TheVariants as refusals
 use Rattle.gl_base.proofs.Steps.{same_pair}
@@ -100,6 +100,7 @@ execute_ok ledger view q e a h = go (service_state (tables_of ledger)) refl h
         (service_state (tables_of ledger) ≡ Open) × (ran : Ran) × (run q (tables_of ledger) ≡ Ok ran) × (e ≡ application_entry ledger view q ran) × (a ≡ ran.reply)
         × (length (body_bytes e) ≤ body_limit) × (length (reply_bytes a) ≤ body_limit) × (length ledger < last_seqno)
     go Opening is p = absurd (cc)
+    go WaitingForRecoveryShares is p = absurd (cc)
     go Open is p = let r = ran_ok (run q (tables_of ledger)) p in (is, r.0, r.1, r.2, r.3, r.4, r.5, r.6)
 
 -- what execute_result gives where the request ran: its entry and its answers, unless a limit is passed

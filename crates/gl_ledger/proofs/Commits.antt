@@ -50,8 +50,8 @@ module _ (layers : Layers) (keys : NodeKeys) where
       go a b c = omega arith
 
   -- a signature's commit is not below the last one, and stands within the ledger with it
-  signed_commit : (ledger : List Entry) (s : signatures.Signature) (commit : ℕ) → KeepsCommits ledger → may_record layers ledger commit ≡ true → (last_commit ledger ≤ commit) × (commit ≤ length ledger + 1)
-  signed_commit ledger s commit k h = go (is_unopened layers (last_entry ledger)) h
+  signed_commit : (ledger : List Entry) (s : signatures.Signature) (commit : ℕ) → KeepsCommits ledger → may_record ledger commit ≡ true → (last_commit ledger ≤ commit) × (commit ≤ length ledger + 1)
+  signed_commit ledger s commit k h = go (is_unopened (last_entry ledger)) h
     where
       placed : (n : ℕ) → signs_at (entry_at ledger n) ≡ true → n ≤ length ledger
       placed zero w = omega arith
@@ -61,7 +61,7 @@ module _ (layers : Layers) (keys : NodeKeys) where
           found None is w = absurd (cc)
           found (Some e) is w = let u = slice_get-within ledger n e is in omega arith
 
-      go : (t : Bool) → (if t then commit == length ledger + 1 else is_later_commit layers ledger commit) ≡ true → (last_commit ledger ≤ commit) × (commit ≤ length ledger + 1)
+      go : (t : Bool) → (if t then commit == length ledger + 1 else is_later_commit ledger commit) ≡ true → (last_commit ledger ≤ commit) × (commit ≤ length ledger + 1)
       go true w = let u : commit ≡ length ledger + 1 = grind (arith, nat_tests) in (omega (arith, k.within), omega arith)
       go false w =
           let one = and_parts (signs_at (entry_at ledger commit) && nat_le (last_commit ledger) commit) _ w in
@@ -84,11 +84,11 @@ module _ (layers : Layers) (keys : NodeKeys) where
           greatest_recorded (ledger_book layers keys) (ledger ++ e ∷ []) ≡ max (greatest_recorded (ledger_book layers keys) ledger) (if is_signature e.content then recorded_commit e.content else 0) →
           length (ledger ++ e ∷ []) ≡ length ledger + 1 → KeepsCommits (ledger ++ e ∷ [])
       go (content.Signature s) is c g l =
-          let is_read : p.recording ≡ recordings.Signature s = let w = sym p.reads ∙ ap (recording_of layers) is in cc in
+          let is_read : p.recording ≡ recordings.Signature s = let w = sym p.reads ∙ ap recording_of is in cc in
           let all : broken_by layers (recordings.Signature s) ledger e ≡ None = ap (λ (t : Recording). broken_by layers t ledger e) (sym is_read) ∙ p.rest in
-          let one = passed (member s.node (recorded_nodes layers ledger)) _ _ all in
+          let one = passed (member s.node (recorded_nodes ledger)) _ _ all in
           let two = passed (same_bytes s.root (root_of (leaves_of ledger))) _ _ one.1 in
-          let three = passed (may_record layers ledger s.commit) _ _ two.1 in
+          let three = passed (may_record ledger s.commit) _ _ two.1 in
           let low = signed_commit ledger s s.commit k three.0 in
           let c' : last_commit (ledger ++ e ∷ []) ≡ s.commit = c ∙ ap (commit_behind (last_commit ledger)) is in
           let g' : greatest_recorded (ledger_book layers keys) (ledger ++ e ∷ []) ≡ max (greatest_recorded (ledger_book layers keys) ledger) s.commit =

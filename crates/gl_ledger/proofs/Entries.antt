@@ -1,17 +1,15 @@
 -- Which entries fit their format: those whose fields are in their ranges and whose body is small enough.
-use Rattle.std.proofs.Common.{◌≡◌, ℕ, ◌+◌, ◌<◌, ◌≤◌, ◌^◌, ◌==◌, nat_lt, nat_le, List, [], ◌∷◌, ◌++◌, length, Option, Some, None, Bool, true, ◌&&◌, ◌||◌, refl, ◌∙◌, ap, arith, length-append}
+use Rattle.std.proofs.Common.{◌≡◌, ℕ, ◌+◌, ◌<◌, ◌≤◌, ◌^◌, nat_lt, nat_le, List, ◌∷◌, ◌++◌, length, Bool, true, ◌&&◌, ◌||◌, refl, ◌∙◌, ap, arith, length-append}
 use Rattle.std.specs.List.{list_all, flat_map, AllByRecursion}
 use Rattle.std.specs.Cmp.Lexicographic.{bytes_decides}
-use Rattle.std.proofs.lemmas.Bool.{and_from}
 use Rattle.std.proofs.lemmas.Bool.Decides.{nat_tests}
 use Rattle.gl_base.specs.LittleEndian.{little_endian}
 use Rattle.gl_base.specs.Bytes.{are_bytes, is_digest}
 use Rattle.gl_base.proofs.LittleEndianLaws.{length-little_endian}
 use Rattle.gl_vmaps.specs.Writes.{is_write, is_ordered}
-use Rattle.gl_base.specs.Row.{map_name_bytes, key_bytes, optional_value_bytes}
 use Rattle.gl_entry.specs.Entry.{write_bytes}
 use Rattle.gl_vmaps.specs.declared.write.Write.{Write}
-use Rattle.gl_base.proofs.ByteLists.{AreBytes, are_bytes-true}
+use Rattle.gl_base.proofs.ByteLists.{AreBytes}
 use Rattle.gl_vmaps.proofs.WriteLaws.{list_all-from_writes}
 use Rattle.gl_entry.specs.Entry.{no_digest, content_bytes, body_bytes, body_limit, kind_tag, is_content, may_write, may_claim, are_no_writes, is_no_digest, is_entry}
 use Rattle.gl_entry.specs.declared.entry.Content.TheVariants as content

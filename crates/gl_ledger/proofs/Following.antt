@@ -7,7 +7,7 @@ use Rattle.gl_rules.specs.Log.{entry_at}
 use Rattle.gl_ledger.specs.Ledger.{HasViewsUpTo, sign_result, genesis_entry, signature_entry, opening_ledger}
 use Rattle.gl_ledger.specs.Makers.{by_store}
 use Rattle.gl_ledger.specs.Signed.{IsSignedAt}
-use Rattle.gl_ledger.specs.declared.genesis.Genesis as request
+use Rattle.gl_requests.specs.declared.genesis.Genesis as request
 use Rattle.gl_ledger.specs.declared.refusal.Refusal.TheVariants as refusals
 use Rattle.gl_entry.specs.declared.entry.Entry.{Entry}
 use Rattle.gl_base.proofs.Lists.{slice_get-push, slice_get-last}

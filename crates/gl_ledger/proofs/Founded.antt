@@ -1,65 +1,171 @@
--- What a sound ledger keeps of the genesis that founds it: no other request is recorded, so the service's key and the nodes are those of the genesis.
-use Rattle.std.proofs.Common.{◌≡◌, ℕ, suc, List, [], ◌∷◌, ◌++◌, map, Option, Some, None, Bool, true, false, refl, sym, ◌∙◌, ap, ap₂, slice_get}
+-- What a sound ledger keeps of the genesis that founds it: the service's key, in force from its first entry on.
+use Rattle.std.proofs.Common.{◌≡◌, ℕ, suc, ◌<◌, List, [], ◌∷◌, ◌++◌, length, take, Option, Some, None, Result, Ok, Err, Bool, true, false, ◌&&◌, refl, sym, ◌∙◌, ap, subst, arith, slice_get}
 use Rattle.std.specs.FinMap as rows
-use Rattle.std.proofs.lemmas.List.{append-nil}
+use Rattle.std.specs.List.{list_any}
+use Rattle.std.proofs.lemmas.Bool.{and_parts, or_from}
+use Rattle.std.proofs.lemmas.Option.{same_Some}
+use Rattle.std.proofs.lemmas.List.Folds.{list_any-append}
+use Rattle.gl_base.specs.Bytes.{are_sized}
+use Rattle.gl_base.specs.declared.fault.CodeFault.{CodeFault}
 use Rattle.gl_vmaps.specs.Tables.{Rows}
+use Rattle.gl_tx.specs.Reading.{request_of}
+use Rattle.gl_tx.specs.declared.request.Operation.{Operation}
 use Rattle.gl_entry.specs.declared.entry.Content.{Content}
 use Rattle.gl_entry.specs.declared.entry.Content.TheVariants as content
 use Rattle.gl_entry.specs.declared.entry.Entry.{Entry}
-use Rattle.gl_ledger.specs.Genesis.{node_id, genesis_bytes, service_map, service_key}
-use Rattle.gl_ledger.specs.Effect.{Recorded, effect, identity_of_value, identity_in}
+use Rattle.gl_requests.specs.Spelling.{request_bytes}
+use Rattle.gl_requests.specs.Ranges as ranges
+use Rattle.gl_requests.specs.Reading.{request_in}
+use Rattle.gl_requests.proofs.Sizes.{sized_length}
+use Rattle.gl_requests.specs.declared.genesis.Genesis as founding
+use Rattle.gl_requests.specs.declared.request.GovernanceRequest.{GovernanceRequest}
+use Rattle.gl_requests.specs.declared.request.GovernanceRequest.TheVariants as requests
+use Rattle.gl_gov_rules.specs.declared.change.Recorded.{Recorded}
+use Rattle.gl_gov_rules.specs.Changes.{history}
+use Rattle.gl_gov_rules.specs.Service.{identity}
+use Rattle.gl_gov_rules.specs.Rows.{service_map, service_key, effect}
+use Rattle.gl_gov_rules.specs.Governed as rules
+use Rattle.gl_gov_rules.proofs.FoundingReadings.{founding_recorded}
+use Rattle.gl_gov_rules.proofs.RowOfService.{service_value, founded_row, identity_told}
+use Rattle.gl_gov_rules.proofs.KeptIdentity as kept
+use Rattle.gl_ledger.specs.Layers.{Layers}
+use Rattle.gl_ledger.specs.Recordings.{governance_recording, application_recording, records_founding, records_recovery, recording_of, founds, recovers, recorded_at, recorded_in, requests_from, requests_of}
+use Rattle.gl_ledger.specs.ServiceRow.{identity_of_value, identity_in}
 use Rattle.gl_ledger.specs.Tree.{tables_of}
 use Rattle.gl_ledger.specs.Ledger.{genesis_entry}
-use Rattle.gl_ledger.specs.declared.genesis.Genesis as request
-use Rattle.gl_ledger.specs.declared.genesis.GovernanceRequest.{GovernanceRequest}
-use Rattle.gl_ledger.specs.declared.genesis.GovernanceRequest.TheVariants as requests
-use Rattle.gl_ledger.specs.Layers.{Layers}
-use Rattle.gl_ledger.specs.Recordings.{governance_recording, records_founding, recording_of, founds, recorded_at, recorded_in, requests_from, requests_of, nodes_of, recorded_nodes}
-use Rattle.gl_ledger.specs.Sound.{IsSound}
-use Rattle.gl_ledger.proofs.Openings.{identity_of_genesis}
+use Rattle.gl_ledger.specs.Sound.{IsGovernanceEntry, StandsAs, IsSound}
+use Rattle.gl_ledger.proofs.Fronts.{sound_front}
+use Rattle.gl_ledger.proofs.Governed.{governed}
+use Rattle.gl_ledger.proofs.RequestSpellings.{request_in-read}
+
+-- ---- the entry that founds
+
+-- an entry whose bytes are read as a genesis
+pub record FoundedBy (f : Entry) : Type 0 where
+  pub genesis : founding.Genesis
+  pub bytes : List ℕ
+  pub content_is : f.content ≡ content.Governance bytes
+  pub reads : request_in bytes ≡ Some (requests.Genesis genesis)
+
+-- what founds is read as a genesis
+founded_from : (f : Entry) (c : Content) → f.content ≡ c → records_founding (recording_of c) ≡ true → FoundedBy f
+founded_from f (content.Application bytes) is h = absurd (go (request_of bytes) h)
+  where
+    go : (r : Result (List Operation) CodeFault) → records_founding (application_recording r) ≡ true → ⊥
+    go (Ok q) w = cc
+    go (Err fault) w = cc
+founded_from f (content.Signature s) is h = absurd (cc)
+founded_from f (content.Evidence d) is h = absurd (cc)
+founded_from f (content.Governance bytes) is h = go (request_in bytes) refl h
+  where
+    by_request : (g : GovernanceRequest) → request_in bytes ≡ Some g → rules.is_founding g ≡ true → FoundedBy f
+    by_request (requests.Genesis g) reads w = record { genesis = g; bytes = bytes; content_is = is; reads = reads }
+    by_request (requests.Recover r) reads w = absurd (cc)
+    by_request (requests.Join n) reads w = absurd (cc)
+    by_request (requests.Mark id) reads w = absurd (cc)
+    by_request (requests.Member m) reads w = absurd (cc)
+
+    go : (o : Option GovernanceRequest) → request_in bytes ≡ o → records_founding (governance_recording o) ≡ true → FoundedBy f
+    go None reads w = absurd (cc)
+    go (Some g) reads w = by_request g reads w
+
+-- each entry that founds is such
+pub founded_by : (f : Entry) → founds f ≡ true → FoundedBy f
+founded_by f h = founded_from f f.content refl h
+
+-- it records the genesis
+pub founding_requests : (f : Entry) (es : List Entry) (by : FoundedBy f) → requests_of (f ∷ es) ≡ founding_recorded by.genesis ∷ requests_from 2 es
+founding_requests f es by =
+    ap (λ (c : Content). recorded_in 1 c ++ requests_from 2 es) by.content_is ∙ ap (λ (o : Option GovernanceRequest). recorded_at 1 o ++ requests_from 2 es) by.reads
+
+-- ---- entries that found nothing anew
+
+abbrev recovers_in : List Recorded → Bool
+recovers_in rs = list_any (λ (r : Recorded). rules.is_recovery r.request) rs
+
+-- an entry that founds nothing anew records no recovery
+none_in : (seqno : ℕ) (c : Content) → records_recovery (recording_of c) ≡ false → recovers_in (recorded_in seqno c) ≡ false
+none_in seqno (content.Application bytes) h = refl
+none_in seqno (content.Signature s) h = refl
+none_in seqno (content.Evidence d) h = refl
+none_in seqno (content.Governance bytes) h = go (request_in bytes) h
+  where
+    go : (o : Option GovernanceRequest) → records_recovery (governance_recording o) ≡ false → recovers_in (recorded_at seqno o) ≡ false
+    go None w = refl
+    go (Some g) w = or_from (rules.is_recovery g) false w refl
+
+-- nor do several
+none_recover : (seqno : ℕ) (es : List Entry) → ((i : ℕ) (e : Entry) → slice_get es i ≡ Some e → recovers e ≡ false) → recovers_in (requests_from seqno es) ≡ false
+none_recover seqno [] each = refl
+none_recover seqno (e ∷ es) each =
+    list_any-append (λ (r : Recorded). rules.is_recovery r.request) (recorded_in seqno e.content) (requests_from (suc seqno) es)
+    ∙ or_from (recovers_in (recorded_in seqno e.content)) (recovers_in (requests_from (suc seqno) es)) (none_in seqno e.content (each 0 e refl)) (none_recover (suc seqno) es (λ i f at. each (suc i) f at))
+
+-- ---- the key
+
+-- the service's row tells the key that is in force
+told_key : (r : Recorded) (rs : List Recorded) (key : List ℕ) → rules.IsGoverned (r ∷ rs) → identity (history (r ∷ rs)) ≡ Some key → identity_in (effect (r ∷ rs)) ≡ key
+told_key r rs key all is =
+    let row = founded_row r rs all in
+    ap identity_of_value (service_value (r ∷ rs) row.0 row.1) ∙ same_Some row.0.identity key (sym (identity_told (r ∷ rs) row.0 row.1) ∙ is)
+
+module _ (layers : Layers) (e : Entry) (es : List Entry) (sound : IsSound layers (e ∷ es)) (by : FoundedBy e) where
+  -- the key of the genesis is in force
+  pub identity_of_first : identity_in (tables_of (e ∷ es)) ≡ by.genesis.identity
+  identity_of_first =
+      let more : List Recorded = requests_from 2 es in
+      let are = founding_requests e es by in
+      let all : rules.IsGoverned (founding_recorded by.genesis ∷ more) = subst rules.IsGoverned are (governed layers (e ∷ es) sound) in
+      ap (λ (r : Rows). identity_of_value (rows.get r service_key)) (sound.governed service_map refl ∙ ap (λ (rs : List Recorded). effect rs service_map) are)
+      ∙ told_key (founding_recorded by.genesis) more by.genesis.identity all
+      (kept.founded_identity by.genesis more all (none_recover 2 es (λ i f at. sound.founded.unrecovered (suc i) f at)))
+
+  -- its fields are in their ranges
+  pub first_fits : ranges.is_genesis by.genesis ≡ true
+  first_fits =
+      let stands : IsGovernanceEntry [] e by.bytes = subst (λ (c : Content). StandsAs layers c [] e) by.content_is (sound.serial 0 e refl) in
+      let same : stands.request ≡ requests.Genesis by.genesis = same_Some stands.request (requests.Genesis by.genesis) (sym stands.reads ∙ by.reads) in
+      ap ranges.is_request (sym same) ∙ stands.fits
 
 module _ (layers : Layers) where
-  -- entries of which none founds record nothing: for now each request of governance founds
-  pub unfounding : (seqno : ℕ) (es : List Entry) → ((i : ℕ) (e : Entry) → slice_get es i ≡ Some e → founds layers e ≡ false) → requests_from layers seqno es ≡ []
-  unfounding seqno [] h = refl
-  unfounding seqno (e ∷ es) h = ap₂ (λ (rs ts : List Recorded). rs ++ ts) (nothing e.content (h 0 e refl)) (unfounding (suc seqno) es (λ i f at. h (suc i) f at))
+  -- of a sound ledger that begins with a genesis the key of the genesis is the service's
+  pub founded_identity : (g : founding.Genesis) (ledger : List Entry) → IsSound layers ledger → slice_get ledger 0 ≡ Some (genesis_entry g) → ranges.is_genesis g ≡ true →
+      identity_in (tables_of ledger) ≡ g.identity
+  founded_identity g [] sound first fits = absurd (cc)
+  founded_identity g (e ∷ es) sound first fits =
+      let same : e ≡ genesis_entry g = cc in
+      identity_of_first layers e es sound (record {
+        genesis = g;
+        bytes = request_bytes (requests.Genesis g);
+        content_is = ap (λ (x : Entry). x.content) same;
+        reads = request_in-read (requests.Genesis g) fits;
+      })
+
+  -- the key that is in force behind an entry is that of the whole ledger
+  pub in_force : (ledger : List Entry) → IsSound layers ledger → (n : ℕ) → identity_in (tables_of (take (suc n) ledger)) ≡ identity_in (tables_of ledger)
+  in_force [] sound n = refl
+  in_force (e ∷ es) sound n =
+      let by = founded_by e (sound.founded.first e refl).0 in
+      identity_of_first layers e (take n es) (sound_front layers (e ∷ es) sound (suc n)) by ∙ sym (identity_of_first layers e es sound by)
+
+  -- it has the size of an HSS public key, and is bytes
+  pub identity_sized : (ledger : List Entry) → IsSound layers ledger → 0 < length ledger → are_sized 60 (identity_in (tables_of ledger)) ≡ true
+  identity_sized [] sound some = absurd (omega (arith, some))
+  identity_sized (e ∷ es) sound some =
+      let by = founded_by e (sound.founded.first e refl).0 in
+      ap (are_sized 60) (identity_of_first layers e es sound by) ∙ sized by.genesis (first_fits layers e es sound by)
     where
-      read : (o : Option GovernanceRequest) → records_founding (governance_recording o) ≡ false → recorded_at layers seqno o ≡ []
-      read None w = refl
-      read (Some (requests.Genesis g)) w = absurd (cc)
+      sized : (g : founding.Genesis) → ranges.is_genesis g ≡ true → are_sized 60 g.identity ≡ true
+      sized g fits =
+          let state : Bool = ranges.is_first_state g.state in
+          let key : Bool = are_sized 60 g.identity in
+          let nodes : Bool = ranges.are_counted ranges.is_node g.nodes in
+          let members : Bool = ranges.are_counted ranges.is_member g.members in
+          let a = and_parts (state && key && nodes && members) (ranges.is_dealing g.dealing) fits in
+          let b = and_parts (state && key && nodes) members a.0 in
+          let c = and_parts (state && key) nodes b.0 in
+          (and_parts state key c.0).1
 
-      nothing : (c : Content) → records_founding (recording_of layers c) ≡ false → recorded_in layers seqno c ≡ []
-      nothing (content.Application bytes) w = refl
-      nothing (content.Signature s) w = refl
-      nothing (content.Evidence d) w = refl
-      nothing (content.Governance bytes) w = read (layers.request_in bytes) w
-
-  module _ (g : request.Genesis) (reads : layers.request_in (genesis_bytes g) ≡ Some (requests.Genesis g)) (ledger : List Entry) (sound : IsSound layers ledger) (first : slice_get ledger 0 ≡ Some (genesis_entry g)) where
-    -- its one request is the genesis
-    pub one_request : requests_of layers ledger ≡ record { seqno = 1; request = requests.Genesis g } ∷ []
-    one_request = go ledger refl
-      where
-        later : (i : ℕ) (e : Entry) → slice_get ledger (suc i) ≡ Some e → founds layers e ≡ false
-        later i e at = by (founds layers e) refl
-          where
-            by : (b : Bool) → founds layers e ≡ b → b ≡ false
-            by false is = refl
-            by true is = absurd (let none = sound.founded.once (suc i) e at is in cc)
-
-        go : (l : List Entry) → ledger ≡ l → requests_of layers l ≡ record { seqno = 1; request = requests.Genesis g } ∷ []
-        go [] is = absurd (let k = sym (ap (λ (m : List Entry). slice_get m 0) is) ∙ first in cc)
-        go (e ∷ es) is =
-            let head : Some e ≡ Some (genesis_entry g) = sym (ap (λ (m : List Entry). slice_get m 0) is) ∙ first in
-            let same : e ≡ genesis_entry g = cc in
-            ap₂ (λ (rs ts : List Recorded). rs ++ ts)
-            (ap (λ (x : Entry). recorded_in layers 1 x.content) same ∙ ap (recorded_at layers 1) reads)
-            (unfounding 2 es (λ i f at. later i f (ap (λ (m : List Entry). slice_get m (suc i)) is ∙ at)))
-
-    pub founded_nodes : recorded_nodes layers ledger ≡ map node_id g.nodes
-    unfolding recorded_nodes
-    founded_nodes = ap nodes_of one_request ∙ append-nil (map node_id g.nodes)
-
-    pub founded_identity : identity_in (tables_of ledger) ≡ g.identity
-    founded_identity =
-        ap (λ (r : Rows). identity_of_value (rows.get r service_key)) (sound.governed service_map refl ∙ ap (λ (rs : List Recorded). effect rs service_map) one_request)
-        ∙ identity_of_genesis g
+  -- so it has 60 bytes
+  pub length_identity : (ledger : List Entry) → IsSound layers ledger → 0 < length ledger → length (identity_in (tables_of ledger)) ≡ 60
+  length_identity ledger sound some = sized_length 60 (identity_in (tables_of ledger)) (identity_sized ledger sound some)

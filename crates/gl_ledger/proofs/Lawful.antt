@@ -1,8 +1,8 @@
 -- The ledger has the laws of a book: what is made was tried by the rules.
-use Rattle.std.proofs.Common.{◌≡◌, ℕ, List, [], ◌∷◌, ◌++◌, length, take, Option, Some, None, Result, Ok, Err, Bool, true, false, refl, sym, ◌∙◌, ap, subst, if◌then◌else◌, nat_lt}
+use Rattle.std.proofs.Common.{◌≡◌, ◌⊎◌, inl, inr, ⊎_elim, ℕ, ◌+◌, List, [], ◌∷◌, ◌++◌, length, take, Option, Some, None, Result, Ok, Err, Bool, true, false, ◌||◌, refl, sym, ◌∙◌, ap, subst, if◌then◌else◌, nat_lt}
 use Rattle.gl_base.specs.TxId.{last_seqno}
 use Rattle.gl_rules.specs.Identity.{NodeId}
-use Rattle.gl_rules.specs.Safety.{IsLawful, IsRetiring, EachFollows, Makes, MarksNone, KeepsPlaces}
+use Rattle.gl_rules.specs.Safety.{IsLawful, EachFollows, Makes, MarksNone, KeepsPlaces}
 use Rattle.gl_rules.proofs.Soundness.{sound_cut, sound_push}
 use Rattle.gl_tx.specs.Request.{is_request}
 use Rattle.gl_tx.specs.declared.request.Operation.{Operation}
@@ -11,24 +11,33 @@ use Rattle.gl_entry.specs.Entry.{is_signature, is_evidence, recorded_commit, bod
 use Rattle.gl_entry.specs.declared.entry.Content.{Content}
 use Rattle.gl_entry.specs.declared.entry.Content.TheVariants as content
 use Rattle.gl_entry.specs.declared.entry.Entry.{Entry}
-use Rattle.gl_ledger.specs.Genesis.{is_governance_request}
-use Rattle.gl_ledger.specs.Ledger.{execute_result, within_size, within_seqnos}
+use Rattle.gl_requests.specs.Spelling.{request_bytes}
+use Rattle.gl_requests.specs.Ranges as ranges
+use Rattle.gl_requests.specs.declared.request.GovernanceRequest.{GovernanceRequest}
+use Rattle.gl_requests.specs.declared.request.GovernanceRequest.TheVariants as requests
+use Rattle.gl_gov_rules.specs.declared.refusal.GovernanceRefusal.{GovernanceRefusal}
+use Rattle.gl_gov_rules.specs.Changes.{history}
+use Rattle.gl_gov_rules.specs.Governed.{is_founding, is_recovery}
+use Rattle.gl_gov_rules.specs.Refusals.{refusal}
+use Rattle.gl_ledger.specs.Ledger.{execute_result, within_size, within_seqnos, governance_entry}
 use Rattle.gl_ledger.specs.declared.refusal.Refusal.{Refusal}
 use Rattle.gl_ledger.specs.declared.refusal.Refusal.TheVariants as refusals
-use Rattle.gl_ledger.specs.declared.genesis.GovernanceRequest.{GovernanceRequest}
-use Rattle.gl_ledger.specs.declared.breach.GenesisFault.{GenesisFault}
-use Rattle.gl_ledger.proofs.Applications.{execute_ok}
 use Rattle.gl_ledger.specs.Layers.{Layers}
 use Rattle.gl_ledger.specs.NodeKeys.{NodeKeys}
 use Rattle.gl_ledger.specs.declared.recording.Recording.{Recording}
 use Rattle.gl_ledger.specs.declared.recording.Recording.TheVariants as recordings
 use Rattle.gl_ledger.specs.Recordings.{requests_of, removal, mark, recording_of}
-use Rattle.gl_ledger.specs.Acceptance.{request_fault}
 use Rattle.gl_ledger.specs.declared.breach.Broken.{Broken}
 use Rattle.gl_ledger.specs.Broken.{broken, broken_by}
-use Rattle.gl_ledger.specs.Makers.{Given, Replied, Governed, Unmade, Unspelled, with_reply, request_result, by_store, unless_fault, unless_broken, guarded, governance_entry, govern_result, signed_entry, signing_result}
-use Rattle.gl_ledger.specs.LedgerBook.{ServiceBook, by_rule, ledger_book}
+use Rattle.gl_ledger.specs.Makers.{Given, Replied, Governed, Unmade, Unspelled, Founding, with_reply, request_result, by_store, unless_refused, unless_broken, guarded, govern_result, signed_entry, signing_result}
+use Rattle.gl_ledger.specs.LedgerBook.{ServiceBook, marked_node, by_rule, ledger_book}
+use Rattle.gl_ledger.proofs.Applications.{execute_ok}
+use Rattle.gl_ledger.proofs.Growth.{IsNoGovernance}
 use Rattle.gl_ledger.proofs.Passing.{passing}
+use Rattle.gl_ledger.proofs.RequestSpellings.{request_in-read}
+use Rattle.gl_ledger.proofs.Gathering.{requests-more}
+use Rattle.gl_ledger.proofs.Governed.{no_rule_broken, followed}
+use Rattle.gl_ledger.proofs.Places.{Records, none_removed, removal_stays, removal_comes, none_marked, mark_stays, mark_comes, mark_quiet, mark_by, marked}
 
 abbrev done : {X : Type 0} → X → Result X Unmade
 done x = Ok x
@@ -44,6 +53,7 @@ within_seqnos_ok {X} ledger made x h = go (nat_lt (length ledger) last_seqno) h
     go true w = cc
     go false w = absurd (cc)
 
+-- where it is within its size
 within_size_ok : {X : Type 0} (size : ℕ) (made : Result X Refusal) (x : X) → within_size size made ≡ Ok x → made ≡ Ok x
 within_size_ok {X} size made x h = go (nat_lt body_limit size) h
   where
@@ -51,6 +61,7 @@ within_size_ok {X} size made x h = go (nat_lt body_limit size) h
     go true w = absurd (cc)
     go false w = w
 
+-- and in the book's words
 by_store_ok : {X : Type 0} (made : Result X Refusal) (x : X) → by_store made ≡ Ok x → made ≡ Ok x
 by_store_ok {X} (Ok y) x h = let p : y ≡ x = cc in ap Ok p
 by_store_ok {X} (Err why) x h = absurd (cc)
@@ -69,6 +80,7 @@ module _ (layers : Layers) (keys : NodeKeys) where
       go None is w = let p : made ≡ x = cc in (w, subst (λ (y : X). broken layers ledger (entry_of y) ≡ None) p is)
       go (Some why) is w = absurd (cc)
 
+  -- what an application request makes is its entry, where bytes spell it
   request_ok : (ledger : List Entry) (view : ℕ) (q : List Operation) (made : Entry × Given) → request_result ledger view q ≡ Ok made →
       (is_request q ≡ true) × (a : List Answer) × (execute_result ledger view q ≡ Ok (made.0, a))
   request_ok ledger view q made h = go (is_request q) refl h
@@ -84,28 +96,21 @@ module _ (layers : Layers) (keys : NodeKeys) where
       go false is w = absurd (cc)
       go true is w = let r = answered (execute_result ledger view q) w in (is, r.0, r.1)
 
+  -- what is signed is the entry of the signature
   signing_ok : (x : NodeId) (leaf : ℕ) (ledger : List Entry) (view commit : ℕ) (e : Entry) → signing_result keys x leaf ledger view commit ≡ Ok e → e ≡ signed_entry keys x leaf ledger view commit
   signing_ok x leaf ledger view commit e h =
       let made = signed_entry keys x leaf ledger view commit in
       within_seqnos_ok ledger made e (by_store_ok (within_seqnos ledger made) e h)
 
-  followed : (ledger : List Entry) (e : Entry) → broken layers ledger e ≡ None → book.breaks ledger e ≡ None
-  followed ledger e h = ap by_rule h
-
+  -- where the book refuses no entry it breaks no rule
   pub unbroken : (ledger : List Entry) (e : Entry) → book.breaks ledger e ≡ None → broken layers ledger e ≡ None
-  unbroken ledger e h = go (broken layers ledger e) h
-    where
-      go : (o : Option Broken) → by_rule o ≡ None → o ≡ None
-      go None w = refl
-      go (Some why) w = absurd (cc)
+  unbroken ledger e h = no_rule_broken (broken layers ledger e) h
 
+  -- an entry that breaks no rule is one that the ledger takes
   makes : (ledger : List Entry) (view : ℕ) (e : Entry) → EachFollows book ledger → e.view ≡ view → broken layers ledger e ≡ None → Makes book (EachFollows book) ledger view e
-  makes ledger view e z v h = record { view_is = v; follows = followed ledger e h; sound = sound_push book ledger e z (followed ledger e h) }
+  makes ledger view e z v h = record { view_is = v; follows = ap by_rule h; sound = sound_push book ledger e z (ap by_rule h) }
 
-  marks_none : (ledger : List Entry) (e : Entry) → MarksNone book ledger e
-  unfolding mark
-  marks_none ledger e y seqno h = h
-
+  -- what an application request, a signature and a request of governance make
   executed_lawful : (ledger : List Entry) (view : ℕ) (q : List Operation) (e : Entry) (a : Given) → EachFollows book ledger →
       book.execute ledger view q ≡ Ok (e, a) → Makes book (EachFollows book) ledger view e × (book.is_signature e ≡ false) × MarksNone book ledger e
   executed_lawful ledger view q e a z h =
@@ -114,7 +119,7 @@ module _ (layers : Layers) (keys : NodeKeys) where
       let made = execute_ok ledger view q e two.1 two.2 in (
         makes ledger view e z (ap (λ (x : Entry). x.view) made.3) one.1,
         ap (λ (x : Entry). is_signature x.content) made.3,
-        marks_none ledger e,
+        mark_quiet ledger e (subst (λ (x : Entry). IsNoGovernance x.content) (sym made.3) tt),
       )
 
   signed_lawful : (x : NodeId) (leaf : ℕ) (ledger : List Entry) (view commit : ℕ) (e : Entry) → EachFollows book ledger →
@@ -127,60 +132,83 @@ module _ (layers : Layers) (keys : NodeKeys) where
         ap (λ (f : Entry). recorded_commit f.content) is,
       )
 
-  governed_ok : (ledger : List Entry) (view : ℕ) (g : GovernanceRequest) (made : Entry × Given) → govern_result layers ledger view g ≡ Ok made →
-      made.0 ≡ governance_entry layers g ledger view
-  governed_ok ledger view g made h = go (is_governance_request g) (request_fault layers (requests_of layers ledger) g) h
+  -- what a request of governance makes is its entry, where bytes spell it
+  governed_ok : (ledger : List Entry) (view : ℕ) (g : GovernanceRequest) (made : Entry × Given) → govern_result ledger view g ≡ Ok made →
+      (ranges.is_request g ≡ true) × (made.0 ≡ governance_entry g ledger view)
+  governed_ok ledger view g made h = go (ranges.is_request g) (is_founding g || is_recovery g) (refusal (history (requests_of ledger)) (length ledger + 1) g) refl h
     where
       e : Entry
-      e = governance_entry layers g ledger view
+      e = governance_entry g ledger view
 
       kept : Result (Entry × Given) Refusal
       kept = within_seqnos ledger (e, Governed)
 
-      go : (a : Bool) (o : Option GenesisFault) → (if a then unless_fault o (by_store (within_size (length (body_bytes e)) kept)) else Err Unspelled) ≡ Ok made →
-          made.0 ≡ e
-      go false o w = absurd (cc)
-      go true (Some fault) w = absurd (cc)
-      go true None w =
-          ap (λ (t : Entry × Given). t.0) (within_seqnos_ok ledger (e, Governed) made
-          (within_size_ok (length (body_bytes e)) kept made (by_store_ok (within_size (length (body_bytes e)) kept) made w)))
+      within : Result (Entry × Given) Unmade
+      within = by_store (within_size (length (body_bytes e)) kept)
+
+      go : (a b : Bool) (o : Option GovernanceRefusal) → ranges.is_request g ≡ a → (if a then (if b then Err Founding else unless_refused o within) else Err Unspelled) ≡ Ok made →
+          (ranges.is_request g ≡ true) × (made.0 ≡ e)
+      go false b o is w = absurd (cc)
+      go true true o is w = absurd (cc)
+      go true false (Some why) is w = absurd (cc)
+      go true false None is w = (
+        is,
+        ap (λ (t : Entry × Given). t.0) (within_seqnos_ok ledger (e, Governed) made
+            (within_size_ok (length (body_bytes e)) kept made (by_store_ok (within_size (length (body_bytes e)) kept) made w))),
+      )
 
   governed_lawful : (ledger : List Entry) (view : ℕ) (g : GovernanceRequest) (e : Entry) (a : Given) → EachFollows book ledger →
       book.govern ledger view g ≡ Ok (e, a) → Makes book (EachFollows book) ledger view e × (book.is_signature e ≡ false)
   governed_lawful ledger view g e a z h =
-      let one = guarded_ok (λ (made : Entry × Given). made.0) ledger (govern_result layers ledger view g) (e, a) h in
+      let one = guarded_ok (λ (made : Entry × Given). made.0) ledger (govern_result ledger view g) (e, a) h in
       let is = governed_ok ledger view g (e, a) one.0 in
-      (makes ledger view e z (ap (λ (x : Entry). x.view) is) one.1, ap (λ (x : Entry). is_signature x.content) is)
+      (makes ledger view e z (ap (λ (x : Entry). x.view) is.1) one.1, ap (λ (x : Entry). is_signature x.content) is.1)
+
+  -- the entry that a request makes records it
+  governed_records : (ledger : List Entry) (view : ℕ) (g : GovernanceRequest) (e : Entry) → ranges.is_request g ≡ true → e ≡ governance_entry g ledger view → Records ledger e g
+  governed_records ledger view g e fits is =
+      let spelled : e.content ≡ content.Governance (request_bytes g) = ap (λ (x : Entry). x.content) is in
+      record { bytes = request_bytes g; spelled = spelled; more = requests-more ledger e (request_bytes g) g spelled (request_in-read g fits) }
+
+  -- it marks no node but the one that the request marks
+  governed_marks : (ledger : List Entry) (view : ℕ) (g : GovernanceRequest) (e : Entry) (a : Given) (y : NodeId) (seqno : ℕ) →
+      book.govern ledger view g ≡ Ok (e, a) → mark (ledger ++ e ∷ []) y ≡ Some seqno → (mark ledger y ≡ Some seqno) ⊎ (marked_node g ≡ Some y)
+  governed_marks ledger view g e a y seqno h m =
+      let one = guarded_ok (λ (made : Entry × Given). made.0) ledger (govern_result ledger view g) (e, a) h in
+      let is = governed_ok ledger view g (e, a) one.0 in
+      ⊎_elim (λ (old : mark ledger y ≡ Some seqno). inl old) (λ (new : (seqno ≡ length ledger + 1) × (g ≡ requests.Mark y)). inr (ap marked_node new.1))
+      (mark_by ledger e g y seqno (governed_records ledger view g e is.0 is.1) m)
 
   -- for now no evidence entry follows
   no_evidence : (ledger : List Entry) (e : Entry) → broken layers ledger e ≡ None → is_evidence e.content ≡ true → ⊥
   no_evidence ledger e h d = let p = passing layers ledger e h in go e.content refl d p.recording p.reads p.rest
     where
-      go : (c : Content) → e.content ≡ c → is_evidence c ≡ true → (t : Recording) → recording_of layers e.content ≡ Some t → broken_by layers t ledger e ≡ None → ⊥
+      go : (c : Content) → e.content ≡ c → is_evidence c ≡ true → (t : Recording) → recording_of e.content ≡ Some t → broken_by layers t ledger e ≡ None → ⊥
       go (content.Governance b) is w t r s = absurd (cc)
       go (content.Application b) is w t r s = absurd (cc)
       go (content.Signature b) is w t r s = absurd (cc)
       go (content.Evidence b) is w t r s =
-          let k : Some (recordings.Evidence b) ≡ Some t = sym (ap (recording_of layers) is) ∙ r in
+          let k : Some (recordings.Evidence b) ≡ Some t = sym (ap recording_of is) ∙ r in
           let same : recordings.Evidence b ≡ t = cc in
           let none : broken_by layers (recordings.Evidence b) ledger e ≡ None = ap (λ (u : Recording). broken_by layers u ledger e) same ∙ s in
           absurd (cc)
 
-  keeps_none : (place_of : List Entry → NodeId → Option ℕ) → ((ledger : List Entry) (y : NodeId) → place_of ledger y ≡ None) → KeepsPlaces book (EachFollows book) place_of
-  keeps_none place_of none = record {
-    none = λ y. none [] y;
-    stays = λ log e y seqno z h. absurd (let n = none log y in cc);
-    comes = λ log e y seqno z h. absurd (let n = none (log ++ e ∷ []) y in cc);
+  -- removals and marks stand where they came
+  removals : KeepsPlaces book (EachFollows book) removal
+  removals = record {
+    none = none_removed;
+    stays = λ log e y seqno z h. removal_stays log e y seqno h;
+    comes = λ log e y seqno z h. removal_comes log e y seqno h;
   }
 
-  no_removal : (ledger : List Entry) (y : NodeId) → removal layers ledger y ≡ None
-  unfolding removal
-  no_removal ledger y = refl
+  markings : KeepsPlaces book (EachFollows book) mark
+  markings = record {
+    none = none_marked;
+    stays = λ log e y seqno z h. mark_stays log e y seqno h;
+    comes = λ log e y seqno z h. mark_comes log e y seqno h;
+  }
 
-  no_mark : (ledger : List Entry) (y : NodeId) → mark layers ledger y ≡ None
-  unfolding mark
-  no_mark ledger y = refl
-
+  -- the laws of a book
   pub lawful : IsLawful book (EachFollows book)
   lawful = record {
     executed = λ log view q e a z v h. executed_lawful log view q e a z h;
@@ -190,12 +218,8 @@ module _ (layers : Layers) (keys : NodeKeys) where
     taken = λ log e z f. sound_push book log e z f;
     cut = λ log seqno z. sound_cut book log seqno z;
     witnessed = λ log seqno e z a d. absurd (no_evidence (take seqno log) e (unbroken (take seqno log) e (z seqno e a)) d);
-    removals = keeps_none (removal layers) no_removal;
-    markings = keeps_none (mark layers) no_mark;
-    marked = λ log e y z h. absurd (let n = no_mark (log ++ e ∷ []) y in cc);
-    marks = λ log view g e a y seqno z v h m. absurd (let n = no_mark (log ++ e ∷ []) y in cc);
+    removals = removals;
+    markings = markings;
+    marked = λ log e y z h. marked layers log e y (followed layers keys (log ++ e ∷ []) z) h;
+    marks = λ log view g e a y seqno z v h m. governed_marks log view g e a y seqno h m;
   }
-
-  -- for now nothing is removed
-  pub retiring : IsRetiring book (EachFollows book)
-  retiring = record { removed = λ log y seqno commit z h low high. absurd (let n = no_removal log y in cc) }

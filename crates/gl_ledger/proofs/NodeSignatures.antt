@@ -1,5 +1,5 @@
 -- What a node signs with one of its leaves is a signature of it, valid behind a ledger of its service.
-use Rattle.std.proofs.Common.{◌≡◌, ℕ, ◌<◌, ◌≤◌, ◌^◌, List, [], ◌∷◌, ◌++◌, length, Option, Some, None, Result, Ok, Bool, true, if◌then◌else◌, sym, ap, ◌∙◌, append_assoc, arith}
+use Rattle.std.proofs.Common.{◌≡◌, ℕ, ◌<◌, ◌≤◌, ◌^◌, List, [], ◌∷◌, ◌++◌, length, Some, None, Result, Ok, Bool, true, if◌then◌else◌, sym, ap, ◌∙◌, append_assoc, arith}
 use Rattle.std.specs.Cmp.Lexicographic.{bytes_decides}
 use Rattle.sha2.specs.Sha256.{sha256}
 use Rattle.gl_hss.specs.declared.fault.HssFault.{HssFault}
@@ -18,13 +18,12 @@ use Rattle.gl_lms.proofs.Octets.{u32str_bytes, signed_bytes}
 use Rattle.gl_base.specs.Bytes.{are_bytes}
 use Rattle.gl_rules.specs.Identity.{NodeId}
 use Rattle.gl_entry.specs.declared.entry.Entry.{Entry}
-use Rattle.gl_ledger.specs.Effect.{identity_in}
+use Rattle.gl_ledger.specs.ServiceRow.{identity_in}
 use Rattle.gl_ledger.specs.Tree.{tables_of}
 use Rattle.gl_ledger.specs.Ledger.{message_behind}
-use Rattle.gl_ledger.specs.declared.genesis.GovernanceRequest.{GovernanceRequest}
 use Rattle.gl_ledger.specs.Makers.{MakesValid}
-use Rattle.gl_ledger.proofs.Digests.{bytes-append}
-use Rattle.gl_ledger.specs.NodeKeys.{NodeKeys, leaf_count, node_signature, signer_fault, fault_or_else, node_signature_fault, hss_layers, IsNodeKey}
+use Rattle.gl_gov_rules.proofs.Digests.{bytes-append}
+use Rattle.gl_ledger.specs.NodeKeys.{NodeKeys, leaf_count, node_signature, signer_fault, fault_or_else, node_signature_fault, service_layers, IsNodeKey}
 
 -- the bytes of a node's signature, level by level
 two_levels : (k : PrivateKey) (e : List ℕ) (q : ℕ) (message : List ℕ) (top : PublicKey) (fields : Signature) → e ≡ signature_bytes top.types fields →
@@ -82,9 +81,9 @@ module _ (keys : NodeKeys) (identity : List ℕ) (x : NodeId) (leaf : ℕ) (mess
     node_short = let most = length-valid identity message (node_signature keys x leaf message) valid in omega (arith, most)
 
 -- so what it signs behind a ledger whose service it is of is valid there
-pub node_makes : (request_in : List ℕ → Option GovernanceRequest) (keys : NodeKeys) (identity : List ℕ) (x : NodeId) (leaf : ℕ) (ledger : List Entry) (view commit : ℕ) →
-    IsNodeKey keys identity x → leaf < leaf_count keys x → identity_in (tables_of ledger) ≡ identity → MakesValid (hss_layers request_in) keys x leaf ledger view commit
-node_makes request_in keys identity x leaf ledger view commit h low is =
+pub node_makes : (keys : NodeKeys) (identity : List ℕ) (x : NodeId) (leaf : ℕ) (ledger : List Entry) (view commit : ℕ) →
+    IsNodeKey keys identity x → leaf < leaf_count keys x → identity_in (tables_of ledger) ≡ identity → MakesValid service_layers keys x leaf ledger view commit
+node_makes keys identity x leaf ledger view commit h low is =
     let message = message_behind ledger view commit in
     record {
       bytes = node_bytes keys identity x leaf message h;

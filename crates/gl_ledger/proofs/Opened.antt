@@ -1,38 +1,35 @@
 -- A ledger that the opening's check takes opens a service lawfully, whatever its genesis.
-use Rattle.std.proofs.Common.{◌≡◌, ℕ, zero, suc, ◌+◌, ◌-◌, List, [], ◌∷◌, ◌++◌, length, map, take, Option, Some, None, Result, Ok, Err, Bool, true, false, not, ◌&&◌, ◌||◌, ◌==◌, nat_le, nat_eq, if◌then◌else◌, refl, sym, ◌∙◌, ap, ap₂, subst, arith, slice_get}
+use Rattle.std.proofs.Common.{◌≡◌, ℕ, zero, suc, ◌+◌, ◌-◌, ◌≤◌, List, [], ◌∷◌, length, map, take, Option, Some, None, Ok, Bool, true, false, not, ◌&&◌, ◌||◌, ◌==◌, if◌then◌else◌, refl, sym, ◌∙◌, ap, ap₂, subst, arith, slice_get}
 use Rattle.std.proofs.lemmas.Bool.{and_parts}
 use Rattle.std.proofs.lemmas.Bool.Decides.{nat_tests}
-use Rattle.std.proofs.lemmas.List.{append-nil}
 use Rattle.gl_base.specs.Bytes.{same_bytes}
-use Rattle.gl_base.specs.declared.fault.CodeFault.{CodeFault}
 use Rattle.gl_merkle.specs.Tree.{root_of}
 use Rattle.gl_rules.specs.Identity.{NodeId, member}
 use Rattle.gl_rules.specs.World.{Start, first_view}
 use Rattle.gl_rules.specs.Safety.{IsOpening, IsConfigured, EachFollows}
 use Rattle.gl_rules.proofs.Soundness.{sound_cut}
-use Rattle.gl_tx.specs.Reading.{request_of}
-use Rattle.gl_tx.specs.declared.request.Operation.{Operation}
 use Rattle.gl_entry.specs.Entry.{is_signature, recorded_commit}
 use Rattle.gl_entry.specs.declared.entry.Content.{Content}
 use Rattle.gl_entry.specs.declared.entry.Content.TheVariants as content
 use Rattle.gl_entry.specs.declared.entry.Entry.{Entry}
 use Rattle.gl_entry.specs.declared.entry.Signature as signatures
-use Rattle.gl_ledger.specs.Genesis.{node_id, are_distinct, are_distinct_bytes, numbers_of, is_dealing_among}
-use Rattle.gl_ledger.specs.declared.genesis.NewMember.{NewMember}
-use Rattle.gl_ledger.specs.Effect.{Recorded}
+use Rattle.gl_requests.specs.Spelling.{node_id}
+use Rattle.gl_gov_rules.specs.declared.refusal.GovernanceRefusal.{GovernanceRefusal}
+use Rattle.gl_gov_rules.specs.History.{no_history}
+use Rattle.gl_gov_rules.specs.Changes.{history}
+use Rattle.gl_gov_rules.specs.Refusals.{genesis_refusal, refusal}
+use Rattle.gl_gov_rules.proofs.FoundingReadings.{founding_recorded}
+use Rattle.gl_gov_rules.proofs.FoundingAccepted.{refusal_of_genesis, accepted_parts}
 use Rattle.gl_ledger.specs.Tree.{leaves_of}
 use Rattle.gl_ledger.specs.Ledger.{genesis_entry}
-use Rattle.gl_ledger.specs.declared.genesis.NewNode.{NewNode}
-use Rattle.gl_ledger.specs.declared.genesis.Genesis as request
-use Rattle.gl_ledger.specs.declared.genesis.GovernanceRequest.{GovernanceRequest}
-use Rattle.gl_ledger.specs.declared.genesis.GovernanceRequest.TheVariants as requests
-use Rattle.gl_ledger.specs.declared.breach.GenesisFault.{GenesisFault}
+use Rattle.gl_requests.specs.declared.genesis.NewNode.{NewNode}
+use Rattle.gl_requests.specs.declared.genesis.Genesis as founding
+use Rattle.gl_requests.specs.declared.request.GovernanceRequest.TheVariants as requests
 use Rattle.gl_ledger.specs.Layers.{Layers}
 use Rattle.gl_ledger.specs.NodeKeys.{NodeKeys}
 use Rattle.gl_ledger.specs.declared.recording.Recording.{Recording}
 use Rattle.gl_ledger.specs.declared.recording.Recording.TheVariants as recordings
-use Rattle.gl_ledger.specs.Recordings.{last_entry, recording_of, governance_recording, application_recording, is_founding, records_founding, is_signing, founds, requests_of, recorded_at, recorded_in, nodes_of, trusted_of, changed_set, recorded_nodes, trusted_nodes, configuration}
-use Rattle.gl_ledger.specs.Acceptance.{genesis_fault}
+use Rattle.gl_ledger.specs.Recordings.{last_entry, recording_of, governance_recording, is_founding, is_recovering, records_founding, is_signing, founds, requests_of, changed_set, recorded_nodes, configuration}
 use Rattle.gl_ledger.specs.declared.breach.Broken.{Broken}
 use Rattle.gl_ledger.specs.Broken.{unless_refused, is_in_order, is_unopened, broken_by, is_later_commit, may_record}
 use Rattle.gl_ledger.specs.Makers.{opening_of}
@@ -43,21 +40,22 @@ use Rattle.gl_ledger.proofs.Lawful.{unbroken}
 use Rattle.gl_ledger.proofs.Pushes.{no_last}
 use Rattle.gl_ledger.proofs.Auditing.{audited_none, audited_all}
 use Rattle.gl_ledger.specs.Opening.{Begins, Founds}
-use Rattle.gl_ledger.proofs.Opening.{founded, follow}
+use Rattle.gl_ledger.proofs.Founded.{FoundedBy, founded_by, founding_requests}
+use Rattle.gl_ledger.proofs.Opening.{founding_recorded_nodes, founding_configuration, founded, follow}
 
 module _ (layers : Layers) (keys : NodeKeys) where
   -- ---- two entries
 
   -- an entry that founds stands alone where it is the last
-  pub alone : (es : List Entry) (f : Entry) → EachFollows (ledger_book layers keys) es → last_entry es ≡ Some f → founds layers f ≡ true → es ≡ f ∷ []
+  pub alone : (es : List Entry) (f : Entry) → EachFollows (ledger_book layers keys) es → last_entry es ≡ Some f → founds f ≡ true → es ≡ f ∷ []
   alone es f z last founded =
       let p = passing layers (take (length es - 1) es) f (unbroken layers keys (take (length es - 1) es) f (z (length es - 1) f last)) in
       let t : is_founding p.recording ≡ true = sym (ap records_founding p.reads) ∙ founded in
       one es last (no_last (take (length es - 1) es) (none p.recording f.view (last_entry (take (length es - 1) es)) t p.order))
     where
-      none : (t : Recording) (view : ℕ) (o : Option Entry) → is_founding t ≡ true → is_in_order layers o t view ≡ true → o ≡ None
+      none : (t : Recording) (view : ℕ) (o : Option Entry) → is_founding t ≡ true → is_in_order o t view ≡ true → o ≡ None
       none t view None a w = refl
-      none t view (Some h) a w = absurd (let k = (and_parts (not (is_founding t)) _ w).0 in let u = ap not a in cc)
+      none t view (Some h) a w = absurd (let k = (and_parts (not (is_founding t)) (not (is_recovering t)) (and_parts _ _ w).0).0 in let u = ap not a in cc)
 
       one : (l : List Entry) → last_entry l ≡ Some f → take (length l - 1) l ≡ [] → l ≡ f ∷ []
       one [] a d = absurd (cc)
@@ -76,7 +74,7 @@ module _ (layers : Layers) (keys : NodeKeys) where
       absurd (let n : length (a ∷ e ∷ g ∷ l) - 1 ≡ suc (suc (length l)) = omega arith in let u : take (suc (suc (length l))) (a ∷ e ∷ g ∷ l) ≡ f ∷ [] = ap (λ (j : ℕ). take j (a ∷ e ∷ g ∷ l)) (sym n) ∙ h in cc)
 
   opened_parts : (ledger : List Entry) (x : NodeId) → opened layers ledger ≡ Ok x →
-      (audited layers ledger ≡ None) × (is_unopened layers (last_entry (take (length ledger - 1) ledger)) ≡ true) × (signer_of (last_entry ledger) ≡ Some x)
+      (audited layers ledger ≡ None) × (is_unopened (last_entry (take (length ledger - 1) ledger)) ≡ true) × (signer_of (last_entry ledger) ≡ Some x)
   unfolding opened
   opened_parts ledger x h = go (audited layers ledger) h
     where
@@ -85,61 +83,31 @@ module _ (layers : Layers) (keys : NodeKeys) where
       signed true None w = absurd (cc)
       signed false o w = absurd (cc)
 
-      go : (o : Option LedgerFault) → opened_unless layers o ledger ≡ Ok x → (o ≡ None) × (is_unopened layers (last_entry (take (length ledger - 1) ledger)) ≡ true) × (signer_of (last_entry ledger) ≡ Some x)
+      go : (o : Option LedgerFault) → opened_unless layers o ledger ≡ Ok x → (o ≡ None) × (is_unopened (last_entry (take (length ledger - 1) ledger)) ≡ true) × (signer_of (last_entry ledger) ≡ Some x)
       go (Some fault) w = absurd (cc)
-      go None w = let s = signed (is_unopened layers (last_entry (take (length ledger - 1) ledger))) (signer_of (last_entry ledger)) w in (refl, s.0, s.1)
+      go None w = let s = signed (is_unopened (last_entry (take (length ledger - 1) ledger))) (signer_of (last_entry ledger)) w in (refl, s.0, s.1)
 
-  founding_is : (o : Option Entry) → is_unopened layers o ≡ true → (f : Entry) × (o ≡ Some f)
+  founding_is : (o : Option Entry) → is_unopened o ≡ true → (f : Entry) × (o ≡ Some f)
   founding_is None h = absurd (cc)
   founding_is (Some f) h = (f, refl)
 
   -- ---- what founds
 
-  record FoundedBy (f : Entry) : Type 0 where
-    genesis : request.Genesis
-    bytes : List ℕ
-    content_is : f.content ≡ content.Governance bytes
-    reads : layers.request_in bytes ≡ Some (requests.Genesis genesis)
-
-  founded_from : (f : Entry) (c : Content) → f.content ≡ c → records_founding (recording_of layers c) ≡ true → FoundedBy f
-  founded_from f (content.Application bytes) is h = absurd (go (request_of bytes) h)
-    where
-      go : (r : Result (List Operation) CodeFault) → records_founding (application_recording r) ≡ true → ⊥
-      go (Ok q) w = cc
-      go (Err fault) w = cc
-  founded_from f (content.Signature s) is h = absurd (cc)
-  founded_from f (content.Evidence d) is h = absurd (cc)
-  founded_from f (content.Governance bytes) is h = go (layers.request_in bytes) refl h
-    where
-      by_request : (g : GovernanceRequest) → layers.request_in bytes ≡ Some g → FoundedBy f
-      by_request (requests.Genesis g) reads = record { genesis = g; bytes = bytes; content_is = is; reads = reads }
-
-      go : (o : Option GovernanceRequest) → layers.request_in bytes ≡ o → records_founding (governance_recording o) ≡ true → FoundedBy f
-      go None reads w = absurd (cc)
-      go (Some g) reads w = by_request g reads
-
-  unless_ok : (o : Option GenesisFault) (rest : Option Broken) → unless_refused o rest ≡ None → o ≡ None
+  unless_ok : (o : Option GovernanceRefusal) (rest : Option Broken) → unless_refused o rest ≡ None → o ≡ None
   unless_ok None rest w = refl
-  unless_ok (Some fault) rest w = absurd (cc)
+  unless_ok (Some why) rest w = absurd (cc)
 
-  some_nodes : (g : request.Genesis) → genesis_fault layers g ≡ None → (n : NewNode) × (ns : List NewNode) × (g.nodes ≡ n ∷ ns)
-  some_nodes g h =
-      let a = passed (are_distinct nat_eq (numbers_of g.members)) _ _ h in
-      let b = passed (are_distinct_bytes (map (λ (m : NewMember). m.key) g.members)) _ _ a.1 in
-      let c = passed (nat_le (length g.members) 64) _ _ b.1 in
-      let d = passed (is_dealing_among (numbers_of g.members) g.dealing) _ _ c.1 in
-      let e = passed (are_distinct_bytes (map node_id g.nodes)) _ _ d.1 in
-      let f = passed (nat_le (length g.nodes) 32) _ _ e.1 in
-      let k = passed (nat_le 1 (length g.nodes)) _ _ f.1 in
-      go g.nodes k.0
+  -- an accepted genesis names a node, so its nodes are another set than none
+  some_nodes : (g : founding.Genesis) → genesis_refusal no_history g ≡ None → changed_set [] (map node_id g.nodes) ≡ Some (map node_id g.nodes)
+  some_nodes g accepted = go g.nodes (accepted_parts g accepted).some_nodes
     where
-      go : (ns : List NewNode) → nat_le 1 (length ns) ≡ true → (n : NewNode) × (rest : List NewNode) × (ns ≡ n ∷ rest)
-      go [] w = absurd (cc)
-      go (n ∷ ns) w = (n, ns, refl)
+      go : (ns : List NewNode) → 1 ≤ length ns → changed_set [] (map node_id ns) ≡ Some (map node_id ns)
+      go [] some = absurd (omega (arith, some))
+      go (n ∷ ns) some = refl
 
   -- ---- the opening
 
-  module _ (f e : Entry) (x : NodeId) (z : EachFollows (ledger_book layers keys) (f ∷ e ∷ [])) (founded : founds layers f ≡ true) (signer : signer_in e.content ≡ Some x) where
+  module _ (f e : Entry) (x : NodeId) (z : EachFollows (ledger_book layers keys) (f ∷ e ∷ [])) (founded : founds f ≡ true) (signer : signer_in e.content ≡ Some x) where
     first : Passes layers [] f
     first = passing layers [] f (unbroken layers keys [] f (z 0 f refl))
 
@@ -151,7 +119,7 @@ module _ (layers : Layers) (keys : NodeKeys) where
 
     view_of_second : e.view ≡ first_view
     view_of_second =
-        let w = (and_parts (not (is_founding second.recording)) (not (founds layers f) || (is_signing second.recording && (e.view == f.view))) second.order).1 in
+        let w = (and_parts (not (is_founding second.recording) && not (is_recovering second.recording)) (not (founds f) || (is_signing second.recording && (e.view == f.view))) second.order).1 in
         let v : (is_signing second.recording && (e.view == f.view)) ≡ true = sym (ap (λ (b : Bool). not b || (is_signing second.recording && (e.view == f.view))) founded) ∙ w in
         let same = (and_parts (is_signing second.recording) (e.view == f.view) v).1 in
         let u : e.view ≡ f.view = grind (arith, nat_tests) in
@@ -166,46 +134,38 @@ module _ (layers : Layers) (keys : NodeKeys) where
     records_two : recorded_commit e.content ≡ 2
     records_two =
         let s = signature_in e.content signer in
-        let is_read : second.recording ≡ recordings.Signature s.0 = let k = sym second.reads ∙ ap (recording_of layers) s.1 in cc in
+        let is_read : second.recording ≡ recordings.Signature s.0 = let k = sym second.reads ∙ ap recording_of s.1 in cc in
         let all : broken_by layers (recordings.Signature s.0) (f ∷ []) e ≡ None = ap (λ (t : Recording). broken_by layers t (f ∷ []) e) (sym is_read) ∙ second.rest in
-        let one = passed (member s.0.node (recorded_nodes layers (f ∷ []))) _ _ all in
+        let one = passed (member s.0.node (recorded_nodes (f ∷ []))) _ _ all in
         let two = passed (same_bytes s.0.root (root_of (leaves_of (f ∷ [])))) _ _ one.1 in
-        let three = passed (may_record layers (f ∷ []) s.0.commit) _ _ two.1 in
-        let at : (s.0.commit == length (f ∷ []) + 1) ≡ true = sym (ap (λ (b : Bool). if b then s.0.commit == length (f ∷ []) + 1 else is_later_commit layers (f ∷ []) s.0.commit) founded) ∙ three.0 in
+        let three = passed (may_record (f ∷ []) s.0.commit) _ _ two.1 in
+        let at : (s.0.commit == length (f ∷ []) + 1) ≡ true = sym (ap (λ (b : Bool). if b then s.0.commit == length (f ∷ []) + 1 else is_later_commit (f ∷ []) s.0.commit) founded) ∙ three.0 in
         ap recorded_commit s.1 ∙ grind (arith, nat_tests)
 
     by : FoundedBy f
-    by = founded_from f f.content refl founded
+    by = founded_by f founded
 
-    accepted : genesis_fault layers by.genesis ≡ None
+    recorded : requests_of (f ∷ []) ≡ founding_recorded by.genesis ∷ []
+    recorded = founding_requests f [] by
+
+    accepted : genesis_refusal no_history by.genesis ≡ None
     accepted =
-        let is_read : first.recording ≡ recordings.Governance (requests.Genesis by.genesis) = let k = sym first.reads ∙ ap (recording_of layers) by.content_is ∙ ap governance_recording by.reads in cc in
-        unless_ok (genesis_fault layers by.genesis) _ (ap (λ (t : Recording). broken_by layers t [] f) (sym is_read) ∙ first.rest)
+        let is_read : first.recording ≡ recordings.Governance (requests.Genesis by.genesis) = let k = sym first.reads ∙ ap recording_of by.content_is ∙ ap governance_recording by.reads in cc in
+        sym (refusal_of_genesis by.genesis)
+        ∙ unless_ok (refusal (history []) 1 (requests.Genesis by.genesis)) _ (ap (λ (t : Recording). broken_by layers t [] f) (sym is_read) ∙ first.rest)
 
     -- its nodes, in their order
-    configured : configuration layers (f ∷ []) ≡ Some (map node_id by.genesis.nodes)
-    unfolding configuration trusted_nodes
-    configured =
-        let rs : requests_of layers (f ∷ []) ≡ record { seqno = 1; request = requests.Genesis by.genesis } ∷ [] =
-        ap (λ (c : Content). recorded_in layers 1 c ++ []) by.content_is ∙ ap (λ (o : Option GovernanceRequest). recorded_at layers 1 o ++ []) by.reads in
-        ap (λ (l : List Recorded). changed_set [] (trusted_of l)) rs ∙ ap (changed_set []) (append-nil (map node_id by.genesis.nodes)) ∙ (let n = some_nodes by.genesis accepted in some by.genesis.nodes n.0 n.1 n.2)
-      where
-        some : (ns : List NewNode) (n : NewNode) (rest : List NewNode) → ns ≡ n ∷ rest → changed_set [] (map node_id ns) ≡ Some (map node_id ns)
-        some [] n rest h = absurd (cc)
-        some (m ∷ ms) n rest h = refl
+    configured : configuration (f ∷ []) ≡ Some (map node_id by.genesis.nodes)
+    configured = founding_configuration f by.genesis recorded ∙ some_nodes by.genesis accepted
 
     signed_by : member x (map node_id by.genesis.nodes) ≡ true
-    unfolding recorded_nodes
     signed_by =
         let s = signature_in e.content signer in
-        let is_read : second.recording ≡ recordings.Signature s.0 = let k = sym second.reads ∙ ap (recording_of layers) s.1 in cc in
+        let is_read : second.recording ≡ recordings.Signature s.0 = let k = sym second.reads ∙ ap recording_of s.1 in cc in
         let all : broken_by layers (recordings.Signature s.0) (f ∷ []) e ≡ None = ap (λ (t : Recording). broken_by layers t (f ∷ []) e) (sym is_read) ∙ second.rest in
-        let one = passed (member s.0.node (recorded_nodes layers (f ∷ []))) _ _ all in
+        let one = passed (member s.0.node (recorded_nodes (f ∷ []))) _ _ all in
         let node : s.0.node ≡ x = let k = sym (ap signer_in s.1) ∙ signer in cc in
-        let rs : requests_of layers (f ∷ []) ≡ record { seqno = 1; request = requests.Genesis by.genesis } ∷ [] =
-        ap (λ (c : Content). recorded_in layers 1 c ++ []) by.content_is ∙ ap (λ (o : Option GovernanceRequest). recorded_at layers 1 o ++ []) by.reads in
-        let nodes : recorded_nodes layers (f ∷ []) ≡ map node_id by.genesis.nodes = ap nodes_of rs ∙ append-nil (map node_id by.genesis.nodes) in
-        sym (ap₂ member node nodes) ∙ one.0
+        sym (ap₂ member node (founding_recorded_nodes (f ∷ []) by.genesis recorded)) ∙ one.0
 
     -- the node that signed is in the configuration
     configures : IsConfigured (ledger_book layers keys) x (f ∷ e ∷ [])
@@ -245,7 +205,7 @@ module _ (layers : Layers) (keys : NodeKeys) where
     signature : Entry
     both : ledger ≡ genesis ∷ signature ∷ []
     each : EachFollows (ledger_book layers keys) (genesis ∷ signature ∷ [])
-    founding : founds layers genesis ≡ true
+    founding : founds genesis ≡ true
     signer : signer_in signature.content ≡ Some x
 
   pair_of : (ledger : List Entry) (x : NodeId) → opened layers ledger ≡ Ok x → Pair ledger x
@@ -253,7 +213,7 @@ module _ (layers : Layers) (keys : NodeKeys) where
       let parts = opened_parts ledger x h in
       let z : EachFollows (ledger_book layers keys) ledger = λ i e at. ap by_rule (audited_none layers ledger parts.0 i e at) in
       let f = founding_is (last_entry (take (length ledger - 1) ledger)) parts.1 in
-      let founded : founds layers f.0 ≡ true = ap (is_unopened layers) (sym f.1) ∙ parts.1 in
+      let founded : founds f.0 ≡ true = ap (is_unopened) (sym f.1) ∙ parts.1 in
       let front = alone (take (length ledger - 1) ledger) f.0 (sound_cut (ledger_book layers keys) ledger (length ledger - 1) z) f.1 founded in
       let two = pair ledger f.0 front in
       record {
@@ -281,7 +241,7 @@ module _ (layers : Layers) (keys : NodeKeys) where
   pub begins_opening : (s : Start Entry) → Begins layers s → IsOpening (ledger_book layers keys) (EachFollows (ledger_book layers keys)) s
   begins_opening s h = opened_opens s.opening s.first h.checked s.starting h.starts
 
-pub opening_opened : (layers : Layers) (keys : NodeKeys) (g : request.Genesis) (x : NodeId) → Founds layers keys g x → opened layers (opening_of keys g x) ≡ Ok x
+pub opening_opened : (layers : Layers) (keys : NodeKeys) (g : founding.Genesis) (x : NodeId) → Founds layers keys g x → opened layers (opening_of keys g x) ≡ Ok x
 unfolding opened
 opening_opened layers keys g x h =
     let ledger = opening_of keys g x in
@@ -289,6 +249,6 @@ opening_opened layers keys g x h =
     let one : length (opening_of keys g x) - 1 ≡ 1 = omega arith in
     let first : length (genesis_entry g ∷ []) - 1 ≡ 0 = omega arith in
     ap (λ (o : Option LedgerFault). opened_unless layers o (opening_of keys g x)) none
-    ∙ ap (λ (j : ℕ). opened_where (is_unopened layers (last_entry (take j (opening_of keys g x)))) (signer_of (slice_get (opening_of keys g x) j)) (length (opening_of keys g x))) one
-    ∙ ap (λ (j : ℕ). opened_where (is_unopened layers (slice_get (genesis_entry g ∷ []) j)) (Some x) (length (opening_of keys g x))) first
+    ∙ ap (λ (j : ℕ). opened_where (is_unopened (last_entry (take j (opening_of keys g x)))) (signer_of (slice_get (opening_of keys g x) j)) (length (opening_of keys g x))) one
+    ∙ ap (λ (j : ℕ). opened_where (is_unopened (slice_get (genesis_entry g ∷ []) j)) (Some x) (length (opening_of keys g x))) first
     ∙ ap (λ (b : Bool). opened_where b (Some x) (length (opening_of keys g x))) (founded layers keys g x h)

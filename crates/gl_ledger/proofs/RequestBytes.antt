@@ -12,7 +12,7 @@ use Rattle.gl_vmaps.specs.Writes.{is_written_value}
 use Rattle.gl_tx.specs.Request.{is_row, is_u64, is_operation, is_count, is_request, operation_bytes, request_bytes}
 use Rattle.gl_tx.specs.declared.request.Operation.{Operation}
 use Rattle.gl_tx.specs.declared.request.Operation.TheVariants.{Get, Has, Put, Remove, Add, Check, Follow, Size}
-use Rattle.gl_ledger.proofs.Digests.{bytes-append, number_bytes}
+use Rattle.gl_gov_rules.proofs.Digests.{bytes-append, number_bytes}
 
 name_bytes : (xs : List ℕ) → list_all is_ascii_graphic xs ≡ true → are_bytes xs ≡ true
 name_bytes [] all = refl

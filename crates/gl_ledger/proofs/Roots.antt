@@ -9,10 +9,10 @@ use Rattle.gl_vmaps.specs.Tables.{Tables, wrote_all}
 use Rattle.gl_base.specs.Bytes.{is_digest}
 use Rattle.gl_entry.specs.Leaf.{leaf_of}
 use Rattle.gl_entry.specs.declared.entry.Entry.{Entry}
-use Rattle.gl_ledger.specs.Effect.{identity_in}
+use Rattle.gl_ledger.specs.ServiceRow.{identity_in}
 use Rattle.gl_ledger.specs.Tree.{leaves_from, leaves_of}
 use Rattle.gl_ledger.proofs.TablesLaws.{length-leaves_of}
-use Rattle.gl_ledger.proofs.Digests.{sha256_digest}
+use Rattle.gl_gov_rules.proofs.Digests.{sha256_digest}
 
 root_digest : (h : ℕ) (ls : List (List ℕ)) → 1 ≤ length ls → length ls ≤ 2 ^ h → list_all is_digest ls ≡ true → is_digest (root_within h ls) ≡ true
 unfolding root_within

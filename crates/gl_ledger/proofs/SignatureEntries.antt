@@ -1,6 +1,5 @@
--- Identifiers of nodes are digests, and the entry of a node's signature fits its format.
-use Rattle.std.proofs.Common.{◌≡◌, ℕ, ◌+◌, ◌≤◌, ◌<◌, ◌^◌, List, [], ◌∷◌, ◌++◌, length, map, Bool, true, false, ◌&&◌, ◌||◌, ◌==◌, nat_lt, refl, ◌∙◌, ap, arith, length-append}
-use Rattle.std.specs.List.{list_all}
+-- The entry of a node's signature fits its format.
+use Rattle.std.proofs.Common.{◌≡◌, ℕ, ◌+◌, ◌≤◌, ◌<◌, ◌^◌, List, [], ◌++◌, length, true, ◌&&◌, ◌==◌, nat_lt, refl, arith, length-append}
 use Rattle.std.specs.Cmp.Lexicographic.{bytes_decides}
 use Rattle.std.proofs.lemmas.Bool.{and_parts, and_from}
 use Rattle.std.proofs.lemmas.Bool.Decides.{nat_tests}
@@ -8,56 +7,17 @@ use Rattle.gl_base.specs.Bytes.{are_bytes, is_digest}
 use Rattle.gl_base.specs.LittleEndian.{little_endian}
 use Rattle.gl_base.proofs.LittleEndianLaws.{length-little_endian}
 use Rattle.gl_merkle.specs.Tree.{root_of}
-use Rattle.gl_rules.specs.Identity.{NodeId, same, member}
-use Rattle.gl_rules.proofs.Ids.{same_is}
+use Rattle.gl_rules.specs.Identity.{NodeId}
 use Rattle.gl_entry.specs.Entry.{no_digest, is_entry}
 use Rattle.gl_entry.specs.declared.entry.Content.TheVariants as content
 use Rattle.gl_entry.specs.declared.entry.Entry.{Entry}
 use Rattle.gl_entry.specs.declared.entry.Signature as signatures
-use Rattle.gl_ledger.specs.Genesis.{node_id}
-use Rattle.gl_ledger.specs.Effect.{Recorded}
 use Rattle.gl_ledger.specs.Tree.{leaves_of}
-use Rattle.gl_ledger.specs.declared.genesis.NewNode.{NewNode}
-use Rattle.gl_ledger.specs.declared.genesis.GovernanceRequest.{GovernanceRequest}
-use Rattle.gl_ledger.specs.declared.genesis.GovernanceRequest.TheVariants as requests
 use Rattle.gl_ledger.specs.Layers.{Layers}
 use Rattle.gl_ledger.specs.NodeKeys.{NodeKeys}
-use Rattle.gl_ledger.specs.Recordings.{requests_of, nodes_named, nodes_of, recorded_nodes}
 use Rattle.gl_ledger.specs.Makers.{MakesValid, signature_behind, signed_entry}
-use Rattle.gl_ledger.proofs.Digests.{sha256_digest}
 use Rattle.gl_ledger.proofs.Roots.{root_is_digest}
 use Rattle.gl_ledger.proofs.Entries.{is_entry-from_fields, length-body_bytes}
-
--- ---- identifiers
-
-pub named_digests : (ns : List NewNode) → list_all is_digest (map node_id ns) ≡ true
-named_digests [] = refl
-named_digests (n ∷ ns) = and_from (is_digest (node_id n)) (list_all is_digest (map node_id ns)) (sha256_digest n.key) (named_digests ns)
-
-all_both : (xs ys : List NodeId) → list_all is_digest xs ≡ true → list_all is_digest ys ≡ true → list_all is_digest (xs ++ ys) ≡ true
-all_both [] ys a b = b
-all_both (x ∷ xs) ys a b = let p = and_parts (is_digest x) (list_all is_digest xs) a in and_from (is_digest x) (list_all is_digest (xs ++ ys)) p.0 (all_both xs ys p.1 b)
-
-named_all : (g : GovernanceRequest) → list_all is_digest (nodes_named g) ≡ true
-named_all (requests.Genesis g) = named_digests g.nodes
-
-nodes_digests : (rs : List Recorded) → list_all is_digest (nodes_of rs) ≡ true
-nodes_digests [] = refl
-nodes_digests (r ∷ rs) = all_both (nodes_named r.request) (nodes_of rs) (named_all r.request) (nodes_digests rs)
-
-pub among : (x : NodeId) (ys : List NodeId) → list_all is_digest ys ≡ true → member x ys ≡ true → is_digest x ≡ true
-among x [] all h = absurd (cc)
-among x (y ∷ ys) all h = go (same x y) refl h (among x ys)
-  where
-    go : (t : Bool) → same x y ≡ t → (t || member x ys) ≡ true → (list_all is_digest ys ≡ true → member x ys ≡ true → is_digest x ≡ true) → is_digest x ≡ true
-    go true is w again = ap is_digest (same_is x y is) ∙ (and_parts (is_digest y) (list_all is_digest ys) all).0
-    go false is w again = again (and_parts (is_digest y) (list_all is_digest ys) all).1 w
-
-pub recorded_digest : (layers : Layers) (x : NodeId) (es : List Entry) → member x (recorded_nodes layers es) ≡ true → is_digest x ≡ true
-unfolding recorded_nodes
-recorded_digest layers x es h = among x (nodes_of (requests_of layers es)) (nodes_digests (requests_of layers es)) h
-
--- ---- signatures
 
 digest_length : (xs : List ℕ) → is_digest xs ≡ true → length xs ≡ 32
 digest_length xs h = let both = and_parts (length xs == 32) (are_bytes xs) h in grind (arith, nat_tests, both.0)

@@ -1,4 +1,4 @@
--- What the tests of signatures and of endorsements mean by RFC 8554.
+-- What the test of signatures means by RFC 8554.
 use Rattle.std.proofs.Common.{◌≡◌, ◌↔◌, ℕ, zero, suc, ◌<◌, List, [], ◌∷◌, length, get_or, None, Some, Result, Ok, Err, Bool, true, false, if◌then◌else◌, refl, sym, ap, ◌∙◌, arith}
 use Rattle.std.specs.Cmp.Lexicographic.{bytes_decides}
 use Rattle.std.proofs.lemmas.Bool.{and_parts}
@@ -8,13 +8,12 @@ use Rattle.gl_base.specs.Bytes.{is_byte, are_bytes, same_bytes}
 use Rattle.gl_hss.specs.declared.fault.HssFault.{HssFault}
 use Rattle.gl_hss.specs.declared.fault.HssFault.TheVariants as faults
 use Rattle.gl_lms.specs.Tree.{key_bytes}
-use Rattle.gl_hss.specs.Hss.{IsEndorsed, last_key}
-use Rattle.gl_hss.specs.Order.{verdict, last_key_verdict, endorsement_verdict}
+use Rattle.gl_hss.specs.Hss.{last_key}
+use Rattle.gl_hss.specs.Order.{verdict, last_key_verdict}
 use Rattle.gl_hss.proofs.Verdicts.{verdict_ok, valid_verdict}
 use Rattle.gl_hss.proofs.Bounds.{last_key_valid}
-use Rattle.gl_hss.proofs.Endorsements.{endorsement_ok, endorsement_there}
 use Rattle.gl_rules.specs.Identity.{NodeId}
-use Rattle.gl_ledger.specs.NodeKeys.{signer_fault, fault_or_else, node_signature_fault, is_verified, IsSignedBy}
+use Rattle.gl_ledger.specs.NodeKeys.{signer_fault, fault_or_else, node_signature_fault, IsSignedBy}
 
 octets : (xs : List ℕ) → are_bytes xs ≡ true → (i : ℕ) → get_or xs i 0 < 256
 octets [] h zero = omega arith
@@ -52,13 +51,3 @@ so_signed identity x message signature s =
 pub signature_means : (identity : List ℕ) (x : NodeId) (message signature : List ℕ) → length identity ≡ 60 → are_bytes identity ≡ true → are_bytes signature ≡ true →
     node_signature_fault identity x message signature ≡ None ↔ IsSignedBy identity x message signature
 signature_means identity x message signature long bytes signed = (signed_so identity x message signature long bytes signed, so_signed identity x message signature)
-
--- and exactly endorsements are taken as such
-pub endorsement_means : (identity key endorsement : List ℕ) → length identity ≡ 60 → are_bytes identity ≡ true → are_bytes endorsement ≡ true →
-    is_verified (endorsement_verdict identity key endorsement) ≡ true ↔ IsEndorsed identity key endorsement
-endorsement_means identity key endorsement long bytes given =
-    (go (endorsement_verdict identity key endorsement) refl, λ e. ap is_verified (endorsement_there identity key endorsement e))
-  where
-    go : (r : Result (Unit {0}) HssFault) → endorsement_verdict identity key endorsement ≡ r → is_verified r ≡ true → IsEndorsed identity key endorsement
-    go (Err f) is w = absurd (cc)
-    go (Ok u) is w = endorsement_ok identity key endorsement (octets identity bytes) long (octets endorsement given) is

@@ -1,79 +1,56 @@
 -- Where a commit may be recorded an entry may be made, and the guard refuses no valid signature of a recorded node.
-use Rattle.std.proofs.Common.{◌≡◌, ℕ, zero, suc, ◌-◌, ◌≤◌, ◌<◌, ◌^◌, List, [], ◌∷◌, ◌++◌, length, take, drop, Bool, true, false, ◌||◌, nat_lt, if◌then◌else◌, Option, Some, None, Ok, Err, refl, sym, ◌∙◌, ap, subst, arith, append_assoc}
+use Rattle.std.proofs.Common.{◌≡◌, ℕ, zero, suc, ◌-◌, ◌≤◌, ◌<◌, ◌^◌, List, [], ◌∷◌, ◌++◌, length, take, drop, Bool, true, false, nat_lt, if◌then◌else◌, Option, Some, None, Ok, Err, refl, sym, ◌∙◌, ap, subst, arith}
 use Rattle.std.proofs.lemmas.Bool.Decides.{nat_tests}
 use Rattle.gl_base.specs.TxId.{last_seqno}
 use Rattle.gl_base.proofs.Lists.{slice_get-within}
-use Rattle.gl_rules.specs.Identity.{NodeId, same, member}
+use Rattle.gl_rules.specs.Identity.{NodeId, member}
 use Rattle.gl_rules.specs.Log.{entry_at}
 use Rattle.gl_rules.specs.Safety.{EachFollows, ViewsUpTo, MayRecord, IsConfigured}
 use Rattle.gl_entry.specs.Entry.{is_signature}
 use Rattle.gl_entry.specs.declared.entry.Content.{Content}
 use Rattle.gl_entry.specs.declared.entry.Content.TheVariants as content
 use Rattle.gl_entry.specs.declared.entry.Entry.{Entry}
-use Rattle.gl_ledger.specs.Effect.{Recorded}
 use Rattle.gl_ledger.specs.declared.refusal.Refusal.TheVariants as refusals
 use Rattle.gl_ledger.specs.Layers.{Layers}
 use Rattle.gl_ledger.specs.NodeKeys.{NodeKeys}
-use Rattle.gl_ledger.specs.Recordings.{last_entry, recording_of, records_founding, founds, recorded_in, requests_from, requests_of, nodes_named, nodes_of, same_nodes, recorded_nodes, trusted_nodes, configuration}
+use Rattle.gl_ledger.specs.Recordings.{last_entry, recording_of, records_founding, founds, recorded_nodes, configuration}
 use Rattle.gl_ledger.specs.Broken.{broken}
 use Rattle.gl_ledger.specs.Makers.{MayMake, MakesValid, by_store, guarded, signed_entry, signing_result}
 use Rattle.gl_ledger.specs.LedgerBook.{ledger_book}
-use Rattle.gl_ledger.proofs.SignatureEntries.{recorded_digest, signed_is_entry}
+use Rattle.gl_ledger.specs.Sound.{IsSound}
+use Rattle.gl_ledger.proofs.Governed.{followed}
+use Rattle.gl_ledger.proofs.RecordedNodes.{recorded_digest, stays_recorded, trusted_is_recorded}
+use Rattle.gl_ledger.proofs.Configurations.{configuration_is}
+use Rattle.gl_ledger.proofs.SignatureEntries.{signed_is_entry}
 use Rattle.gl_ledger.proofs.Pushes.{no_last}
-use Rattle.gl_ledger.proofs.Opened.{alone}
 use Rattle.gl_ledger.proofs.Making.{signed_unbroken, unless_none}
 
 -- ---- recorded nodes
 
-member_left : (x : NodeId) (ys zs : List NodeId) → member x ys ≡ true → member x (ys ++ zs) ≡ true
-member_left x [] zs h = absurd (cc)
-member_left x (y ∷ ys) zs h = go (same x y) h (member_left x ys zs)
-  where
-    go : (t : Bool) → (t || member x ys) ≡ true → (member x ys ≡ true → member x (ys ++ zs) ≡ true) → (t || member x (ys ++ zs)) ≡ true
-    go true h again = refl
-    go false h again = again h
-
-nodes_append : (rs ts : List Recorded) → nodes_of (rs ++ ts) ≡ nodes_of rs ++ nodes_of ts
-nodes_append [] ts = refl
-nodes_append (r ∷ rs) ts = ap (λ (ys : List NodeId). nodes_named r.request ++ ys) (nodes_append rs ts) ∙ sym (append_assoc (nodes_named r.request) (nodes_of rs) (nodes_of ts))
-
+-- a ledger is its first entries and the others
 take_drop : (es : List Entry) (k : ℕ) → take k es ++ drop k es ≡ es
 take_drop es zero = refl
 take_drop [] (suc k) = refl
 take_drop (e ∷ es) (suc k) = ap (λ (l : List Entry). e ∷ l) (take_drop es k)
 
+-- an entry that founds stands alone where it is the last
+alone : (layers : Layers) (es : List Entry) (f : Entry) → IsSound layers es → last_entry es ≡ Some f → founds f ≡ true → es ≡ f ∷ []
+alone layers es f sound last founded = one es last (sound.founded.once (length es - 1) f last founded)
+  where
+    one : (l : List Entry) → last_entry l ≡ Some f → length l - 1 ≡ 0 → l ≡ f ∷ []
+    one [] a d = absurd (cc)
+    one (y ∷ []) a d = let u : y ≡ f = cc in ap (λ (e : Entry). e ∷ []) u
+    one (y ∷ v ∷ l) a d = absurd (omega (arith, d))
+
 module _ (layers : Layers) (keys : NodeKeys) where
-  requests_append : (seqno : ℕ) (es fs : List Entry) → (rs : List Recorded) × (requests_from layers seqno (es ++ fs) ≡ requests_from layers seqno es ++ rs)
-  requests_append seqno [] fs = (requests_from layers seqno fs, refl)
-  requests_append seqno (e ∷ es) fs =
-      let r = requests_append (suc seqno) es fs in
-      (r.0, ap (λ (rs : List Recorded). recorded_in layers seqno e.content ++ rs) r.1 ∙ sym (append_assoc (recorded_in layers seqno e.content) (requests_from layers (suc seqno) es) r.0))
-
-  -- a recorded node stays recorded
-  pub stays_recorded : (x : NodeId) (es fs : List Entry) → member x (recorded_nodes layers es) ≡ true → member x (recorded_nodes layers (es ++ fs)) ≡ true
-  unfolding recorded_nodes
-  stays_recorded x es fs h =
-      let r = requests_append 1 es fs in
-      ap (λ (rs : List Recorded). member x (nodes_of rs)) r.1 ∙ ap (member x) (nodes_append (requests_from layers 1 es) r.0) ∙ member_left x (nodes_of (requests_from layers 1 es)) (nodes_of r.0) h
-
   -- the nodes of a configuration are recorded
-  configured : (x : NodeId) (es : List Entry) (ys : List NodeId) → configuration layers es ≡ Some ys → member x ys ≡ true → member x (recorded_nodes layers es) ≡ true
-  unfolding configuration trusted_nodes recorded_nodes
-  configured x es ys is h = go (same_nodes before now) is
-    where
-      before : List NodeId
-      before = nodes_of (requests_of layers (take (length es - 1) es))
+  configured : (x : NodeId) (es : List Entry) (ys : List NodeId) → configuration es ≡ Some ys → member x ys ≡ true → member x (recorded_nodes es) ≡ true
+  configured x es ys is h = trusted_is_recorded x es (sym (ap (member x) (configuration_is es ys is)) ∙ h)
 
-      now : List NodeId
-      now = nodes_of (requests_of layers es)
-
-      go : (t : Bool) → (if t then None else Some now) ≡ Some ys → member x now ≡ true
-      go true w = absurd (cc)
-      go false w = let k : now ≡ ys = cc in ap (member x) k ∙ h
-
-  pub configured_recorded : (x : NodeId) (es : List Entry) → IsConfigured (ledger_book layers keys) x es → member x (recorded_nodes layers es) ≡ true
+  -- so is a node that is in one of a ledger
+  pub configured_recorded : (x : NodeId) (es : List Entry) → IsConfigured (ledger_book layers keys) x es → member x (recorded_nodes es) ≡ true
   configured_recorded x es c =
-      subst (λ (l : List Entry). member x (recorded_nodes layers l) ≡ true) (take_drop es c.0)
+      subst (λ (l : List Entry). member x (recorded_nodes l) ≡ true) (take_drop es c.0)
       (stays_recorded x (take c.0 es) (drop c.0 es) (configured x (take c.0 es) c.1 c.2 c.3))
 
   -- ---- where a signature stands an entry may be made
@@ -90,10 +67,10 @@ module _ (layers : Layers) (keys : NodeKeys) where
       go (Some f) is = (f, refl)
 
   not_founding : (es : List Entry) (f g : Entry) (seqno : ℕ) → EachFollows (ledger_book layers keys) es → last_entry es ≡ Some f → entry_at es seqno ≡ Some g → is_signature g.content ≡ true →
-      founds layers f ≡ false
-  not_founding es f g seqno z last at signs = go (founds layers f) refl
+      founds f ≡ false
+  not_founding es f g seqno z last at signs = go (founds f) refl
     where
-      no_signature : (c : Content) → is_signature c ≡ true → records_founding (recording_of layers c) ≡ true → ⊥
+      no_signature : (c : Content) → is_signature c ≡ true → records_founding (recording_of c) ≡ true → ⊥
       no_signature (content.Signature s) a d = absurd (cc)
       no_signature (content.Governance bytes) a d = absurd (cc)
       no_signature (content.Application bytes) a d = absurd (cc)
@@ -104,13 +81,13 @@ module _ (layers : Layers) (keys : NodeKeys) where
       one (suc zero) w = cc
       one (suc (suc k)) w = absurd (cc)
 
-      go : (t : Bool) → founds layers f ≡ t → t ≡ false
+      go : (t : Bool) → founds f ≡ t → t ≡ false
       go false is = refl
       go true is =
-          let same : f ≡ g = one seqno (ap (λ (l : List Entry). entry_at l seqno) (sym (alone layers keys es f z last is)) ∙ at) in
-          absurd (no_signature g.content signs (ap (founds layers) (sym same) ∙ is))
+          let same : f ≡ g = one seqno (ap (λ (l : List Entry). entry_at l seqno) (sym (alone layers es f (followed layers keys es z) last is)) ∙ at) in
+          absurd (no_signature g.content signs (ap founds (sym same) ∙ is))
 
-  pub may_make : (log : List Entry) (view commit : ℕ) → EachFollows (ledger_book layers keys) log → ViewsUpTo (ledger_book layers keys) view log → MayRecord (ledger_book layers keys) log commit → MayMake layers log view
+  pub may_make : (log : List Entry) (view commit : ℕ) → EachFollows (ledger_book layers keys) log → ViewsUpTo (ledger_book layers keys) view log → MayRecord (ledger_book layers keys) log commit → MayMake log view
   may_make log view commit z up may =
       let last = has_last log commit may.signature may.at in
       record {
@@ -128,7 +105,7 @@ module _ (layers : Layers) (keys : NodeKeys) where
   reached (suc i) es f at = let w = slice_get-within es i f at in omega arith
 
   -- the guard refuses no valid signature of a recorded node with a commit that may be recorded, in a view of four bytes
-  pub sign_is : (ledger : List Entry) (view commit : ℕ) → view < 2 ^ 32 → MayMake layers ledger view → (x : NodeId) (leaf : ℕ) → member x (recorded_nodes layers ledger) ≡ true → MayRecord (ledger_book layers keys) ledger commit →
+  pub sign_is : (ledger : List Entry) (view commit : ℕ) → view < 2 ^ 32 → MayMake ledger view → (x : NodeId) (leaf : ℕ) → member x (recorded_nodes ledger) ≡ true → MayRecord (ledger_book layers keys) ledger commit →
       MakesValid layers keys x leaf ledger view commit → (ledger_book layers keys).sign x leaf ledger view commit ≡ signing_result keys x leaf ledger view commit
   sign_is ledger view commit low may x leaf named records valid =
       let some : 1 ≤ length ledger = let w : length ledger - 1 < length ledger = slice_get-within ledger (length ledger - 1) may.last may.is_last in omega arith in
@@ -142,4 +119,4 @@ module _ (layers : Layers) (keys : NodeKeys) where
           let place : length ledger < last_seqno = grind (arith, nat_tests) in
           unless_none layers keys (broken layers ledger (signed_entry keys x leaf ledger view commit)) (signed_entry keys x leaf ledger view commit)
           (signed_unbroken layers keys ledger view may x leaf commit place
-          (signed_is_entry layers keys x leaf ledger view commit (recorded_digest layers x ledger named) some low (omega arith) (omega arith) valid) valid named records)
+          (signed_is_entry layers keys x leaf ledger view commit (recorded_digest x ledger named) some low (omega arith) (omega arith) valid) valid named records)

@@ -1,9 +1,9 @@
 -- An entry that breaks no rule keeps a ledger sound.
-use Rattle.std.proofs.Common.{◌≡◌, ⊎_elim, ℕ, suc, ◌+◌, ◌-◌, ◌≤◌, ◌^◌, nat_lt, nat_le, List, [], ◌∷◌, ◌++◌, length, Option, Some, None, Result, Ok, Err, Bool, true, not, ◌&&◌, ◌||◌, ◌==◌, refl, sym, ◌∙◌, ap, subst, arith, slice_get, if◌then◌else◌}
+use Rattle.std.proofs.Common.{◌≡◌, ⊎_elim, ℕ, suc, ◌+◌, ◌-◌, ◌≤◌, ◌^◌, nat_lt, nat_le, List, [], ◌∷◌, ◌++◌, length, Option, Some, None, Result, Ok, Err, Bool, true, false, not, ◌&&◌, ◌||◌, ◌==◌, refl, sym, ◌∙◌, ap, subst, arith, slice_get, if◌then◌else◌}
 use Rattle.std.specs.List.{list_all, AllByRecursion}
 use Rattle.std.specs.FinMap as rows
 use Rattle.std.specs.Cmp.Lexicographic.{bytes_decides}
-use Rattle.std.proofs.lemmas.Bool.{and_parts, and_from}
+use Rattle.std.proofs.lemmas.Bool.{and_parts}
 use Rattle.std.proofs.lemmas.Bool.Decides.{nat_tests}
 use Rattle.sha2.specs.Sha256.{sha256}
 use Rattle.gl_base.specs.Bytes.{are_bytes, same_bytes, is_digest}
@@ -14,7 +14,7 @@ use Rattle.gl_hss.specs.declared.fault.HssFault.{HssFault}
 use Rattle.gl_merkle.specs.Tree.{root_of}
 use Rattle.gl_rules.specs.Identity.{member}
 use Rattle.gl_rules.specs.World.{first_view}
-use Rattle.gl_vmaps.specs.Tables.{Tables, Rows, wrote, wrote_all, with_row}
+use Rattle.gl_vmaps.specs.Tables.{Tables, Rows, no_tables, wrote, wrote_all, with_row}
 use Rattle.gl_vmaps.specs.Writes.{is_write, is_ordered}
 use Rattle.gl_vmaps.specs.declared.write.Write.{Write}
 use Rattle.gl_tx.specs.Request.{reply_bytes}
@@ -29,34 +29,36 @@ use Rattle.gl_entry.specs.declared.entry.Content.{Content}
 use Rattle.gl_entry.specs.declared.entry.Content.TheVariants as content
 use Rattle.gl_entry.specs.declared.entry.Entry.{Entry}
 use Rattle.gl_entry.specs.declared.entry.Signature as signatures
-use Rattle.gl_ledger.specs.Genesis.{service_map, service_key, genesis_rows, genesis_writes}
-use Rattle.gl_ledger.specs.Effect.{Recorded, effect, effect_rows, service_state, state_of_value}
+use Rattle.gl_gov_rules.specs.Rows.{service_map, service_key, effect, effect_writes}
+use Rattle.gl_gov_rules.specs.declared.change.Recorded.{Recorded}
+use Rattle.gl_ledger.specs.ServiceRow.{service_state, state_of_value}
 use Rattle.gl_ledger.specs.Tree.{tables_of, leaves_of}
-use Rattle.gl_vmaps.specs.Changes.{Turns, are_rows}
-use Rattle.gl_ledger.specs.declared.genesis.ServiceState.{ServiceState}
-use Rattle.gl_ledger.specs.declared.genesis.ServiceState.TheVariants.{Opening, Open}
-use Rattle.gl_ledger.specs.declared.genesis.GovernanceRequest.{GovernanceRequest}
-use Rattle.gl_ledger.specs.declared.genesis.GovernanceRequest.TheVariants as requests
-use Rattle.gl_ledger.specs.declared.breach.GenesisFault.{GenesisFault}
-use Rattle.gl_ledger.specs.Layers.{Layers, ReadsSpellings}
+use Rattle.gl_vmaps.specs.Changes.{Turns}
+use Rattle.gl_requests.specs.declared.genesis.ServiceState.{ServiceState}
+use Rattle.gl_requests.specs.declared.genesis.ServiceState.TheVariants.{Opening, Open, WaitingForRecoveryShares}
+use Rattle.gl_requests.specs.declared.request.GovernanceRequest.{GovernanceRequest}
+use Rattle.gl_requests.specs.Reading.{request_in}
+use Rattle.gl_requests.specs.declared.request.GovernanceRequest.TheVariants as requests
+use Rattle.gl_gov_rules.specs.declared.refusal.GovernanceRefusal.{GovernanceRefusal}
+use Rattle.gl_gov_rules.specs.Changes.{history}
+use Rattle.gl_gov_rules.specs.Refusals.{refusal}
+use Rattle.gl_ledger.specs.Layers.{Layers}
 use Rattle.gl_ledger.specs.declared.recording.Recording.{Recording}
 use Rattle.gl_ledger.specs.declared.recording.Recording.TheVariants as recordings
-use Rattle.gl_ledger.specs.Recordings.{governance_recording, application_recording, is_founding, records_founding, is_signing, last_entry, recording_of, founds, requests_of, recorded_nodes}
-use Rattle.gl_ledger.specs.Acceptance.{request_fault}
+use Rattle.gl_ledger.specs.Recordings.{governance_recording, application_recording, is_founding, is_recovering, records_founding, records_recovery, is_signing, last_entry, recording_of, founds, recovers, requests_of, recorded_nodes}
 use Rattle.gl_ledger.specs.declared.breach.Broken.{Broken}
-use Rattle.gl_ledger.specs.Broken.{is_next_view, is_in_order, are_same_writes, broken_in_state, effect_writes, unless_refused, broken_by_fault, may_record, fault_of_signature, broken_by, broken}
-use Rattle.gl_ledger.specs.Sound.{IsFounded, IsGovernanceEntry, IsApplicationEntry, IsSignatureEntry, StandsAs, IsGoverned, IsSound}
+use Rattle.gl_ledger.specs.Broken.{is_next_view, is_in_order, are_same_writes, broken_in_state, unless_refused, broken_by_fault, may_record, fault_of_signature, broken_by, broken}
+use Rattle.gl_ledger.specs.Sound.{IsFounded, IsGovernanceEntry, IsApplicationEntry, IsSignatureEntry, StandsAs, HasGovernedTables, IsSound}
 use Rattle.gl_ledger.proofs.TablesLaws.{tables_of-push}
-use Rattle.gl_vmaps.proofs.WriteSets.{sets_value, is_ordered-set_from, list_all-set_from}
 use Rattle.gl_ledger.proofs.Growth.{IsOutside, IsNoGovernance, untouched, in_order-push}
 use Rattle.gl_ledger.proofs.Applications.{run_outside}
-use Rattle.gl_ledger.proofs.Openings.{rows_set}
 use Rattle.gl_ledger.proofs.SameWrites.{same_writes_are}
 use Rattle.gl_vmaps.proofs.SameValues.{same_bytes_is}
 use Rattle.gl_ledger.proofs.Pushes.{each-push, no_last}
-use Rattle.gl_vmaps.proofs.Changes.{changes_turn}
 use Rattle.gl_ledger.proofs.Gathering.{requests-quiet, requests-more, signing_is}
 use Rattle.gl_ledger.proofs.Passing.{passed, Passes, passing}
+use Rattle.gl_ledger.proofs.RequestSpellings.{request_in-spelled}
+use Rattle.gl_gov_rules.proofs.Effects.{no_rows, effect_turns}
 
 -- ---- what fits its format
 
@@ -93,25 +95,18 @@ none_claimed bytes h = (bytes_decides bytes no_digest).0 h
 
 -- ---- the rows of an effect
 
--- they are in order, each with a value
-pub are_effect_rows : (rs : List Recorded) → are_rows (effect_rows rs) ≡ true
-are_effect_rows [] = refl
-are_effect_rows (r ∷ rs) = of_request r.request
-  where
-    of_request : (g : GovernanceRequest) → are_rows (effect_rows (record { seqno = r.seqno; request = g } ∷ rs)) ≡ true
-    of_request (requests.Genesis g) = and_from (is_ordered (genesis_writes g)) (list_all sets_value (genesis_writes g)) (is_ordered-set_from [] (genesis_rows g) refl) (list_all-set_from sets_value [] (genesis_rows g) refl (rows_set g))
-
 -- what is written to a table depends on that table alone
 wrote_local : (t u : Tables) (w : Write) (map : List ℕ) → t map ≡ u map → wrote t w map ≡ wrote u w map
 wrote_local t u w map h = ap (λ (r : Rows). if same_bytes map w.map then with_row r w.key w.value else r) h
 
-wrote_all_local : (t u : Tables) (ws : List Write) (map : List ℕ) → t map ≡ u map → wrote_all t ws map ≡ wrote_all u ws map
+-- a write set makes of the rows of a map what it makes of the same rows elsewhere
+pub wrote_all_local : (t u : Tables) (ws : List Write) (map : List ℕ) → t map ≡ u map → wrote_all t ws map ≡ wrote_all u ws map
 wrote_all_local t u [] map h = h
 wrote_all_local t u (w ∷ ws) map h = wrote_all_local (wrote t w) (wrote u w) ws map (wrote_local t u w map h)
 
 -- ---- one more entry
 
-module _ (layers : Layers) (readings : ReadsSpellings layers) (ledger : List Entry) (e : Entry) (sound : IsSound layers ledger) (p : Passes layers ledger e) where
+module _ (layers : Layers) (ledger : List Entry) (e : Entry) (sound : IsSound layers ledger) (p : Passes layers ledger e) where
   fits : Fits e
   fits = fits_parts e p.fits
 
@@ -130,16 +125,16 @@ module _ (layers : Layers) (readings : ReadsSpellings layers) (ledger : List Ent
           let more : last.view ≤ e.view = grind (arith, nat_tests) in
           omega arith
 
-  read_as : (r : Recording) → recording_of layers e.content ≡ Some r → p.recording ≡ r
+  read_as : (r : Recording) → recording_of e.content ≡ Some r → p.recording ≡ r
   read_as r reads = let k = sym p.reads ∙ reads in cc
 
-  rest_of : (r : Recording) → recording_of layers e.content ≡ Some r → broken_by layers r ledger e ≡ None
+  rest_of : (r : Recording) → recording_of e.content ≡ Some r → broken_by layers r ledger e ≡ None
   rest_of r reads = ap (λ (t : Recording). broken_by layers t ledger e) (sym (read_as r reads)) ∙ p.rest
 
   -- what each kind of entry comes to
   record Stands : Type 0 where
     as_content : StandsAs layers e.content ledger e
-    governed : IsGoverned layers (ledger ++ e ∷ [])
+    governed : HasGovernedTables (ledger ++ e ∷ [])
 
   -- nothing of governance is recorded or written
   quietly : IsNoGovernance e.content → AllByRecursion IsOutside e.writes → StandsAs layers e.content ledger e → Stands
@@ -147,25 +142,26 @@ module _ (layers : Layers) (readings : ReadsSpellings layers) (ledger : List Ent
     as_content = stands;
     governed = λ map inside.
         ap (λ (t : Tables). t map) (tables_of-push ledger e) ∙ untouched (tables_of ledger) e.writes map out inside ∙ sound.governed map inside
-        ∙ ap (λ (rs : List Recorded). effect rs map) (sym (requests-quiet layers ledger e none));
+        ∙ ap (λ (rs : List Recorded). effect rs map) (sym (requests-quiet ledger e none));
   }
 
   application : (bytes : List ℕ) (q : List Operation) → e.content ≡ content.Application bytes → request_of bytes ≡ Ok q → Stands
   application bytes q is reads =
-      in_state (service_state (tables_of ledger)) refl (run q (tables_of ledger)) refl (rest_of (recordings.Application q) (ap (recording_of layers) is ∙ ap application_recording reads))
+      in_state (service_state (tables_of ledger)) refl (run q (tables_of ledger)) refl (rest_of (recordings.Application q) (ap recording_of is ∙ ap application_recording reads))
     where
       all : are_bytes bytes ≡ true
       all = sym (ap is_content is) ∙ fits.content
 
       in_state : (s : ServiceState) → service_state (tables_of ledger) ≡ s → (r : Result Ran Abort) → run q (tables_of ledger) ≡ r → broken_in_state (length ledger + 1) s r e ≡ None → Stands
       in_state Opening is_state r runs w = absurd (cc)
+      in_state WaitingForRecoveryShares is_state r runs w = absurd (cc)
       in_state Open is_state (Err abort) runs w = absurd (cc)
       in_state Open is_state (Ok ran) runs w =
           let one = passed (are_same_writes e.writes ran.writes) _ _ w in
           let two = passed (same_bytes e.claims (sha256 (reply_bytes ran.reply))) _ None one.1 in
           let writes : e.writes ≡ ran.writes = same_writes_are e.writes ran.writes one.0 in
           let spelled = request-spelled bytes q (are_bytes-each bytes all) reads in
-          let stands : IsApplicationEntry layers ledger e bytes = record {
+          let stands : IsApplicationEntry ledger e bytes = record {
             is_open = ap (λ (r : Rows). state_of_value (rows.get r service_key)) (sym (sound.governed service_map refl)) ∙ is_state;
             request = q;
             fits = spelled.0;
@@ -180,10 +176,10 @@ module _ (layers : Layers) (readings : ReadsSpellings layers) (ledger : List Ent
 
   signature : (s : signatures.Signature) → e.content ≡ content.Signature s → Stands
   signature s is =
-      let h = rest_of (recordings.Signature s) (ap (recording_of layers) is) in
-      let one = passed (member s.node (recorded_nodes layers ledger)) _ _ h in
+      let h = rest_of (recordings.Signature s) (ap recording_of is) in
+      let one = passed (member s.node (recorded_nodes ledger)) _ _ h in
       let two = passed (same_bytes s.root (root_of (leaves_of ledger))) _ _ one.1 in
-      let three = passed (may_record layers ledger s.commit) _ _ two.1 in
+      let three = passed (may_record ledger s.commit) _ _ two.1 in
       let writes : e.writes ≡ [] = none_written e.writes (sym (ap (λ (x : Bool). x || are_no_writes e.writes) (ap may_write is)) ∙ fits.writes) in
       let stands : IsSignatureEntry layers ledger e s = record {
         writes = writes;
@@ -200,15 +196,14 @@ module _ (layers : Layers) (readings : ReadsSpellings layers) (ledger : List Ent
       valid None w = refl
       valid (Some fault) w = absurd (cc)
 
-  governance : (bytes : List ℕ) (g : GovernanceRequest) → e.content ≡ content.Governance bytes → layers.request_in bytes ≡ Some g → Stands
+  governance : (bytes : List ℕ) (g : GovernanceRequest) → e.content ≡ content.Governance bytes → request_in bytes ≡ Some g → Stands
   governance bytes g is reads =
-      let one = accepted (request_fault layers before g) _ (rest_of (recordings.Governance g) (ap (recording_of layers) is ∙ ap governance_recording reads)) in
+      let one = accepted (refusal (history before) (length ledger + 1) g) _ (rest_of (recordings.Governance g) (ap recording_of is ∙ ap governance_recording reads)) in
       let two = passed (are_same_writes e.writes (effect_writes before r)) _ None one.1 in
-      let spelled = readings.spelled bytes g (sym (ap is_content is) ∙ fits.content) reads in
+      let spelled = request_in-spelled bytes g (sym (ap is_content is) ∙ fits.content) reads in
       let turns : Turns e.writes (effect before) (effect (before ++ r ∷ [])) =
-      subst (λ (ws : List Write). Turns ws (effect before) (effect (before ++ r ∷ []))) (sym (same_writes_are e.writes (effect_writes before r) two.0))
-      (changes_turn (effect_rows before) (effect_rows (before ++ r ∷ [])) (are_effect_rows before) (are_effect_rows (before ++ r ∷ []))) in
-      let stands : IsGovernanceEntry layers ledger e bytes = record {
+      subst (λ (ws : List Write). Turns ws (effect before) (effect (before ++ r ∷ []))) (sym (same_writes_are e.writes (effect_writes before r) two.0)) (effect_turns before r) in
+      let stands : IsGovernanceEntry ledger e bytes = record {
         request = g;
         reads = reads;
         fits = spelled.0;
@@ -221,42 +216,42 @@ module _ (layers : Layers) (readings : ReadsSpellings layers) (ledger : List Ent
         as_content = subst (λ (c : Content). StandsAs layers c ledger e) (sym is) stands;
         governed = λ map inside.
             ap (λ (t : Tables). t map) (tables_of-push ledger e) ∙ wrote_all_local (tables_of ledger) (effect before) e.writes map (sound.governed map inside) ∙ turns.turns map
-            ∙ ap (λ (rs : List Recorded). effect rs map) (sym (requests-more layers ledger e bytes g is reads));
+            ∙ ap (λ (rs : List Recorded). effect rs map) (sym (requests-more ledger e bytes g is reads));
       }
     where
       before : List Recorded
-      before = requests_of layers ledger
+      before = requests_of ledger
 
       r : Recorded
       r = record { seqno = length ledger + 1; request = g }
 
-      accepted : (o : Option GenesisFault) (rest : Option Broken) → unless_refused o rest ≡ None → (o ≡ None) × (rest ≡ None)
+      accepted : (o : Option GovernanceRefusal) (rest : Option Broken) → unless_refused o rest ≡ None → (o ≡ None) × (rest ≡ None)
       accepted None rest w = (refl, w)
-      accepted (Some fault) rest w = absurd (cc)
+      accepted (Some why) rest w = absurd (cc)
 
-  unread : {X : Type 0} → recording_of layers e.content ≡ None → X
+  unread : {X : Type 0} → recording_of e.content ≡ None → X
   unread h = absurd (let k = sym p.reads ∙ h in cc)
 
   stands_by : (c : Content) → e.content ≡ c → Stands
   stands_by (content.Signature s) is = signature s is
-  stands_by (content.Evidence d) is = absurd (let h = rest_of (recordings.Evidence d) (ap (recording_of layers) is) in cc)
+  stands_by (content.Evidence d) is = absurd (let h = rest_of (recordings.Evidence d) (ap recording_of is) in cc)
   stands_by (content.Application bytes) is = go (request_of bytes) refl
     where
       go : (r : Result (List Operation) CodeFault) → request_of bytes ≡ r → Stands
-      go (Err fault) reads = unread (ap (recording_of layers) is ∙ ap application_recording reads)
+      go (Err fault) reads = unread (ap recording_of is ∙ ap application_recording reads)
       go (Ok q) reads = application bytes q is reads
-  stands_by (content.Governance bytes) is = go (layers.request_in bytes) refl
+  stands_by (content.Governance bytes) is = go (request_in bytes) refl
     where
-      go : (o : Option GovernanceRequest) → layers.request_in bytes ≡ o → Stands
-      go None reads = unread (ap (recording_of layers) is ∙ ap governance_recording reads)
+      go : (o : Option GovernanceRequest) → request_in bytes ≡ o → Stands
+      go None reads = unread (ap recording_of is ∙ ap governance_recording reads)
       go (Some g) reads = governance bytes g is reads
 
   -- ---- what comes first
 
-  founding_as : founds layers e ≡ is_founding p.recording
+  founding_as : founds e ≡ is_founding p.recording
   founding_as = ap records_founding p.reads
 
-  first_of : 0 ≡ length ledger → (founds layers e ≡ true) × (e.view ≡ first_view)
+  first_of : 0 ≡ length ledger → (founds e ≡ true) × (e.view ≡ first_view)
   first_of none =
       let both = and_parts (is_founding p.recording) (e.view == first_view) (ap (λ (l : List Entry). is_next_view (last_entry l) p.recording e.view) (sym (empty ledger none)) ∙ p.view) in
       (founding_as ∙ both.0, let h = both.1 in grind (arith, nat_tests))
@@ -265,12 +260,36 @@ module _ (layers : Layers) (readings : ReadsSpellings layers) (ledger : List Ent
       empty [] h = refl
       empty (x ∷ xs) h = absurd (omega (arith, h))
 
-  once_of : founds layers e ≡ true → length ledger ≡ 0
+  once_of : founds e ≡ true → length ledger ≡ 0
   once_of h = go (last_entry ledger) refl p.order
     where
-      go : (o : Option Entry) → last_entry ledger ≡ o → is_in_order layers o p.recording e.view ≡ true → length ledger ≡ 0
+      go : (o : Option Entry) → last_entry ledger ≡ o → is_in_order o p.recording e.view ≡ true → length ledger ≡ 0
       go None is w = ap length (no_last ledger is)
-      go (Some last) is w = absurd (let k = (and_parts (not (is_founding p.recording)) _ w).0 in let t = sym founding_as ∙ h in let u = ap not t in cc)
+      go (Some last) is w = absurd (let k = (and_parts (not (is_founding p.recording)) (not (is_recovering p.recording)) (and_parts _ _ w).0).0 in let t = sym founding_as ∙ h in let u = ap not t in cc)
+
+  recovering_as : recovers e ≡ is_recovering p.recording
+  recovering_as = ap records_recovery p.reads
+
+  not_recovering : recovers e ≡ false
+  not_recovering = go (last_entry ledger) p.view p.order
+    where
+      none_anew : (b : Bool) → not b ≡ true → b ≡ false
+      none_anew false w = refl
+      none_anew true w = absurd (cc)
+
+      founding_first : (t : Recording) → is_founding t ≡ true → is_recovering t ≡ false
+      founding_first (recordings.Governance (requests.Genesis g)) w = refl
+      founding_first (recordings.Governance (requests.Recover r)) w = absurd (cc)
+      founding_first (recordings.Governance (requests.Join n)) w = absurd (cc)
+      founding_first (recordings.Governance (requests.Mark y)) w = absurd (cc)
+      founding_first (recordings.Governance (requests.Member m)) w = absurd (cc)
+      founding_first (recordings.Application q) w = absurd (cc)
+      founding_first (recordings.Signature s) w = absurd (cc)
+      founding_first (recordings.Evidence d) w = absurd (cc)
+
+      go : (o : Option Entry) → is_next_view o p.recording e.view ≡ true → is_in_order o p.recording e.view ≡ true → recovers e ≡ false
+      go None v w = recovering_as ∙ founding_first p.recording (and_parts (is_founding p.recording) (e.view == first_view) v).0
+      go (Some last) v w = recovering_as ∙ none_anew (is_recovering p.recording) (and_parts (not (is_founding p.recording)) (not (is_recovering p.recording)) (and_parts _ _ w).0).1
 
   second_of : 1 ≡ length ledger → (is_signature e.content ≡ true) × (e.view ≡ first_view)
   second_of one = go (slice_get ledger 0) refl
@@ -287,27 +306,31 @@ module _ (layers : Layers) (readings : ReadsSpellings layers) (ledger : List Ent
       go (Some f) is =
           let first = sound.founded.first f is in
           let last : last_entry ledger ≡ Some f = ap (slice_get ledger) at ∙ is in
-          let w : is_in_order layers (Some f) p.recording e.view ≡ true = ap (λ (o : Option Entry). is_in_order layers o p.recording e.view) (sym last) ∙ p.order in
-          let both = and_parts (not (is_founding p.recording)) (not (founds layers f) || (is_signing p.recording && (e.view == f.view))) w in
+          let w : is_in_order (Some f) p.recording e.view ≡ true = ap (λ (o : Option Entry). is_in_order o p.recording e.view) (sym last) ∙ p.order in
+          let both = and_parts (not (is_founding p.recording) && not (is_recovering p.recording)) (not (founds f) || (is_signing p.recording && (e.view == f.view))) w in
           let opening : (is_signing p.recording && (e.view == f.view)) ≡ true = sym (ap (λ (x : Bool). not x || (is_signing p.recording && (e.view == f.view))) first.0) ∙ both.1 in
           let parts = and_parts (is_signing p.recording) (e.view == f.view) opening in
           let same : e.view ≡ f.view = let h = parts.1 in grind (arith, nat_tests) in
-          (sym (signing_is layers e.content p.recording p.reads) ∙ parts.0, same ∙ first.1)
+          (sym (signing_is e.content p.recording p.reads) ∙ parts.0, same ∙ first.1)
 
-  founded : IsFounded layers (ledger ++ e ∷ [])
+  founded : IsFounded (ledger ++ e ∷ [])
   founded = record {
     first = λ f s. ⊎_elim
         (λ (old : slice_get ledger 0 ≡ Some f). sound.founded.first f old)
-        (λ (new : (0 ≡ length ledger) × (f ≡ e)). subst (λ (x : Entry). (founds layers x ≡ true) × (x.view ≡ first_view)) (sym new.1) (first_of new.0))
+        (λ (new : (0 ≡ length ledger) × (f ≡ e)). subst (λ (x : Entry). (founds x ≡ true) × (x.view ≡ first_view)) (sym new.1) (first_of new.0))
         (slice_get-push ledger e 0 f s);
     once = λ i f s h. ⊎_elim
         (λ (old : slice_get ledger i ≡ Some f). sound.founded.once i f old h)
-        (λ (new : (i ≡ length ledger) × (f ≡ e)). new.0 ∙ once_of (ap (founds layers) (sym new.1) ∙ h))
+        (λ (new : (i ≡ length ledger) × (f ≡ e)). new.0 ∙ once_of (ap founds (sym new.1) ∙ h))
         (slice_get-push ledger e i f s);
     opened = λ f s. ⊎_elim
         (λ (old : slice_get ledger 1 ≡ Some f). sound.founded.opened f old)
         (λ (new : (1 ≡ length ledger) × (f ≡ e)). subst (λ (x : Entry). (is_signature x.content ≡ true) × (x.view ≡ first_view)) (sym new.1) (second_of new.0))
         (slice_get-push ledger e 1 f s);
+    unrecovered = λ i f s. ⊎_elim
+        (λ (old : slice_get ledger i ≡ Some f). sound.founded.unrecovered i f old)
+        (λ (new : (i ≡ length ledger) × (f ≡ e)). ap recovers new.1 ∙ not_recovering)
+        (slice_get-push ledger e i f s);
   }
 
   all_sound : IsSound layers (ledger ++ e ∷ [])
@@ -321,13 +344,13 @@ module _ (layers : Layers) (readings : ReadsSpellings layers) (ledger : List Ent
       }
 
 -- what is said of a ledger is kept by an entry that breaks no rule
-pub sound-push : (layers : Layers) → ReadsSpellings layers → (ledger : List Entry) (e : Entry) → IsSound layers ledger → broken layers ledger e ≡ None → IsSound layers (ledger ++ e ∷ [])
-sound-push layers readings ledger e sound h = all_sound layers readings ledger e sound (passing layers ledger e h)
+pub sound-push : (layers : Layers) → (ledger : List Entry) (e : Entry) → IsSound layers ledger → broken layers ledger e ≡ None → IsSound layers (ledger ++ e ∷ [])
+sound-push layers ledger e sound h = all_sound layers ledger e sound (passing layers ledger e h)
 
 pub sound_empty : (layers : Layers) → IsSound layers []
 sound_empty layers = record {
   in_order = record { fits = λ i e a. absurd (cc); seqnos = λ i e a. absurd (cc); views = λ i j e f le a b. absurd (cc) };
-  founded = record { first = λ e a. absurd (cc); once = λ i e a h. absurd (cc); opened = λ e a. absurd (cc) };
+  founded = record { first = λ e a. absurd (cc); once = λ i e a h. absurd (cc); opened = λ e a. absurd (cc); unrecovered = λ i e a. absurd (cc) };
   serial = λ i e a. absurd (cc);
-  governed = λ map inside. refl;
+  governed = λ map inside. ap (λ (ws : List Write). wrote_all no_tables ws map) (sym no_rows);
 }

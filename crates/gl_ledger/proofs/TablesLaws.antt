@@ -9,7 +9,7 @@ use Rattle.gl_vmaps.proofs.TablesLaws.{written_behind-append}
 use Rattle.gl_vmaps.specs.declared.write.Write.{Write}
 use Rattle.gl_entry.specs.Leaf.{leaf_of}
 use Rattle.gl_entry.specs.declared.entry.Entry.{Entry}
-use Rattle.gl_ledger.specs.Effect.{identity_in}
+use Rattle.gl_ledger.specs.ServiceRow.{identity_in}
 use Rattle.gl_ledger.specs.Serial.{IsLedger}
 use Rattle.gl_ledger.specs.Tree.{writes_of, tables_of, leaves_from, leaves_of}
 use Rattle.gl_base.proofs.Lists.{slice_get-within}

@@ -4,67 +4,63 @@ use Rattle.gl_base.specs.TxId.{last_seqno}
 use Rattle.gl_base.proofs.Lists.{slice_get-below}
 use Rattle.gl_lms.specs.declared.types.Types.TheVariants.{H5W4}
 use Rattle.gl_rules.specs.Identity.{NodeId, member}
-use Rattle.gl_rules.proofs.Soundness.{follows_sound}
 use Rattle.gl_entry.specs.Entry.{is_entry}
 use Rattle.gl_entry.specs.declared.entry.Entry.{Entry}
 use Rattle.gl_tx.specs.Request.{is_request}
 use Rattle.gl_tx.specs.declared.request.Operation.{Operation}
 use Rattle.gl_tx.specs.declared.request.Answer.{Answer}
 use Rattle.gl_ledger.specs.Ledger.{HasViewsUpTo, execute_result}
-use Rattle.gl_ledger.specs.Layers.{Layers, ReadsSpellings}
+use Rattle.gl_ledger.specs.Layers.{Layers}
 use Rattle.gl_ledger.specs.NodeKeys.{NodeKeys}
 use Rattle.gl_ledger.specs.Recordings.{last_entry, founds, recorded_nodes}
 use Rattle.gl_ledger.specs.Broken.{breach, may_record, broken}
 use Rattle.gl_ledger.specs.Sound.{IsSound}
 use Rattle.gl_ledger.specs.Makers.{MayMake, MakesValid, signed_entry}
-use Rattle.gl_ledger.specs.LedgerBook.{by_rule, ledger_book}
+use Rattle.gl_ledger.specs.LedgerBook.{by_rule}
 use Rattle.gl_ledger.specs.Audit.{audited}
 use Rattle.gl_ledger.proofs.Auditing.{audited_none, audited_all}
-use Rattle.gl_ledger.proofs.Lawful.{unbroken}
+use Rattle.gl_ledger.proofs.Governed.{followed}
 use Rattle.gl_ledger.proofs.Making.{executed_unbroken, signed_broken}
 use Rattle.gl_ledger.proofs.Passing.{passes}
 use Rattle.gl_ledger.proofs.Pushes.{each-push}
-use Rattle.gl_ledger.proofs.Sounding.{sound-push, sound_empty}
 
 -- an audit asks for no keys, so any will do
 any_keys : NodeKeys
 any_keys = record { key_of = λ x. record { types = H5W4; identifier = []; seed = [] }; endorsement_of = λ x. [] }
 
 module _ (layers : Layers) where
-  pub valid_sound : ReadsSpellings layers → (ledger : List Entry) → audited layers ledger ≡ None → IsSound layers ledger
-  valid_sound readings ledger h =
-      follows_sound (ledger_book layers any_keys) (IsSound layers) (sound_empty layers)
-      (λ log e each sound one. sound-push layers readings log e sound (unbroken layers any_keys log e one)) ledger (λ i e at. ap by_rule (audited_none layers ledger h i e at))
+  pub valid_sound : (ledger : List Entry) → audited layers ledger ≡ None → IsSound layers ledger
+  valid_sound ledger h = followed layers any_keys ledger (λ i e at. ap by_rule (audited_none layers ledger h i e at))
 
   pub valid-push : (ledger : List Entry) (e : Entry) → audited layers ledger ≡ None → broken layers ledger e ≡ None → audited layers (ledger ++ e ∷ []) ≡ None
   valid-push ledger e h one = audited_all layers (ledger ++ e ∷ []) (each-push (λ i before f. broken layers before f ≡ None) ledger e (audited_none layers ledger h) one)
 
   -- behind the entry that founds it and another
-  pub may_make_behind : (ledger : List Entry) (view : ℕ) → IsSound layers ledger → 2 ≤ length ledger → HasViewsUpTo view ledger → MayMake layers ledger view
+  pub may_make_behind : (ledger : List Entry) (view : ℕ) → IsSound layers ledger → 2 ≤ length ledger → HasViewsUpTo view ledger → MayMake ledger view
   may_make_behind ledger view sound opened up =
       let last = slice_get-below ledger (length ledger - 1) (omega arith) in
       record {
         last = last.0;
         is_last = last.1;
-        behind = not_founding last.0 last.1 (founds layers last.0) refl;
+        behind = not_founding last.0 last.1 (founds last.0) refl;
         up = up (length ledger - 1) last.0 last.1;
       }
     where
-      not_founding : (f : Entry) → last_entry ledger ≡ Some f → (t : Bool) → founds layers f ≡ t → t ≡ false
+      not_founding : (f : Entry) → last_entry ledger ≡ Some f → (t : Bool) → founds f ≡ t → t ≡ false
       not_founding f at false is = refl
       not_founding f at true is = absurd (let none = sound.founded.once (length ledger - 1) f at is in omega arith)
 
-  module _ (ledger : List Entry) (view : ℕ) (m : MayMake layers ledger view) where
+  module _ (ledger : List Entry) (view : ℕ) (m : MayMake ledger view) where
     -- what a request makes breaks no rule
     pub request_unbroken : (q : List Operation) (e : Entry) (a : List Answer) → is_request q ≡ true → execute_result ledger view q ≡ Ok (e, a) → is_entry e ≡ true → broken layers ledger e ≡ None
     request_unbroken q e a fits h one = executed_unbroken layers any_keys ledger view m q e a fits h one
 
     -- nor does a node's valid signature, with a commit that may be recorded
     pub signature_unbroken : (keys : NodeKeys) (x : NodeId) (leaf commit : ℕ) → length ledger + 1 ≤ last_seqno → is_entry (signed_entry keys x leaf ledger view commit) ≡ true →
-        MakesValid layers keys x leaf ledger view commit → member x (recorded_nodes layers ledger) ≡ true → may_record layers ledger commit ≡ true →
+        MakesValid layers keys x leaf ledger view commit → member x (recorded_nodes ledger) ≡ true → may_record ledger commit ≡ true →
         broken layers ledger (signed_entry keys x leaf ledger view commit) ≡ None
     signature_unbroken keys x leaf commit left fits valid named records =
         let e = signed_entry keys x leaf ledger view commit in
         let seqno = length ledger + 1 in
         signed_broken layers keys ledger view m x leaf commit (omega arith) fits valid
-        ∙ passes (member x (recorded_nodes layers ledger)) (breach 9 seqno e) _ named (passes (may_record layers ledger commit) (breach 10 seqno e) None records refl)
+        ∙ passes (member x (recorded_nodes ledger)) (breach 9 seqno e) _ named (passes (may_record ledger commit) (breach 10 seqno e) None records refl)

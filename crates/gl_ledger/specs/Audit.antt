@@ -59,7 +59,7 @@ module _ (layers : Layers) where
   abbrev pub opened_unless : Option LedgerFault → List Entry → Result NodeId ℕ
   opened_unless (Some fault) ledger = Err fault.seqno
   opened_unless None ledger =
-      opened_where (is_unopened layers (last_entry (take (length ledger - 1) ledger)))
+      opened_where (is_unopened (last_entry (take (length ledger - 1) ledger)))
       (signer_of (last_entry ledger)) (length ledger)
 
   -- The node that signed a ledger that opens a service; or the seqno of the first entry that breaks

@@ -25,21 +25,26 @@ use Rattle.gl_entry.specs.declared.entry.Content.{Content}
 use Rattle.gl_entry.specs.declared.entry.Content.TheVariants as content
 use Rattle.gl_entry.specs.declared.entry.Entry.{Entry}
 use Rattle.gl_entry.specs.declared.entry.Signature as signatures
-use Rattle.gl_ledger.specs.Effect.{Recorded, effect_rows, service_state, identity_in}
+use Rattle.gl_requests.specs.declared.genesis.ServiceState.{ServiceState}
+use Rattle.gl_requests.specs.declared.genesis.ServiceState.TheVariants.{Open}
+use Rattle.gl_requests.specs.declared.request.GovernanceRequest.{GovernanceRequest}
+use Rattle.gl_gov_rules.specs.declared.refusal.GovernanceRefusal.{GovernanceRefusal}
+use Rattle.gl_gov_rules.specs.Changes.{history}
+use Rattle.gl_gov_rules.specs.Refusals.{refusal}
+use Rattle.gl_gov_rules.specs.Rows.{effect_writes}
+use Rattle.gl_ledger.specs.ServiceRow.{service_state, identity_in}
 use Rattle.gl_ledger.specs.Tree.{tables_of, leaves_of}
-use Rattle.gl_ledger.specs.declared.genesis.ServiceState.{ServiceState}
-use Rattle.gl_ledger.specs.declared.genesis.ServiceState.TheVariants.{Opening, Open}
-use Rattle.gl_ledger.specs.declared.genesis.GovernanceRequest.{GovernanceRequest}
 use Rattle.gl_ledger.specs.declared.breach.Broken.{Broken}
-use Rattle.gl_ledger.specs.declared.breach.GenesisFault.{GenesisFault}
-use Rattle.gl_ledger.specs.declared.breach.EntryRefusal.{EntryRefusal}
 use Rattle.gl_ledger.specs.declared.breach.EntryRefusal.TheVariants as refusals
 use Rattle.gl_ledger.specs.Layers.{Layers}
 use Rattle.gl_ledger.specs.declared.recording.Recording.{Recording}
 use Rattle.gl_ledger.specs.declared.recording.Recording.TheVariants as recordings
-use Rattle.gl_ledger.specs.Recordings.{is_founding, is_signing, last_entry, recording_of, founds, requests_of, recorded_nodes, removal, mark}
-use Rattle.gl_vmaps.specs.Changes.{changes}
-use Rattle.gl_ledger.specs.Acceptance.{required, request_fault}
+use Rattle.gl_ledger.specs.Recordings.{is_founding, is_recovering, is_signing, last_entry, recording_of, founds, requests_of, recorded_nodes, removal, mark}
+
+-- What is asked first, or else what is wrong with it, and then the rest.
+abbrev pub required : {X : Type 0} → Bool → X → Option X → Option X
+required true wrong rest = rest
+required false wrong rest = Some wrong
 
 -- At this seqno another digest is wanted than the one that is found.
 abbrev pub replay : ℕ → ℕ → List ℕ → List ℕ → Broken
@@ -58,6 +63,14 @@ breach rule seqno e = replay rule seqno no_digest (sha256 (body_bytes e))
 abbrev pub is_next_view : Option Entry → Recording → ℕ → Bool
 is_next_view None recording view = is_founding recording && (view == first_view)
 is_next_view (Some last) recording view = nat_le last.view view
+
+-- An entry that founds a service stands first, and the one behind it is a signature of its view. For
+-- now no recovery follows.
+abbrev pub is_in_order : Option Entry → Recording → ℕ → Bool
+is_in_order None recording view = true
+is_in_order (Some last) recording view =
+    not (is_founding recording) && not (is_recovering recording)
+    && (not (founds last) || (is_signing recording && (view == last.view)))
 
 -- Rules 5 and 6: an application request
 
@@ -91,19 +104,30 @@ broken_of_run seqno (Ok ran) e =
     )
 
 abbrev pub broken_in_state : ℕ → ServiceState → Result Ran Abort → Entry → Option Broken
-broken_in_state seqno Opening ran e =
-    Some (record { rule = 5; refusal = refusals.ServiceState Opening })
 broken_in_state seqno Open ran e = broken_of_run seqno ran e
+broken_in_state seqno state ran e =
+    Some (record { rule = 5; refusal = refusals.ServiceState state })
+
+abbrev pub broken_by_application : List Operation → List Entry → Entry → Option Broken
+broken_by_application q ledger e =
+    broken_in_state (length ledger + 1) (service_state (tables_of ledger))
+    (run q (tables_of ledger)) e
 
 -- Rules 7 and 8: a request of governance
 
--- The write set of its effect, which turns the rows of the requests before it into the rows with it.
-abbrev pub effect_writes : List Recorded → Recorded → List Write
-effect_writes recorded r = changes (effect_rows recorded) (effect_rows (recorded ++ r ∷ []))
-
-abbrev pub unless_refused : Option GenesisFault → Option Broken → Option Broken
+abbrev pub unless_refused : Option GovernanceRefusal → Option Broken → Option Broken
 unless_refused None rest = rest
-unless_refused (Some fault) rest = Some (record { rule = 7; refusal = refusals.Genesis fault })
+unless_refused (Some why) rest = Some (record { rule = 7; refusal = refusals.Governance why })
+
+-- A request is accepted, and the entry has the write set of its effect, which turns the rows of the
+-- requests before it into the rows with it.
+abbrev pub broken_by_governance : GovernanceRequest → List Entry → Entry → Option Broken
+broken_by_governance g ledger e =
+    let seqno = length ledger + 1 in
+    let recorded = requests_of ledger in
+    unless_refused (refusal (history recorded) seqno g) (
+    with_writes 8 seqno (effect_writes recorded (record { seqno = seqno; request = g })) e None
+    )
 
 -- Rules 9 to 11: a signature
 
@@ -142,36 +166,29 @@ broken_by_fault seqno None = None
 broken_by_fault seqno (Some fault) =
     Some (record { rule = 11; refusal = refusals.BadSignature seqno fault })
 
+-- The ledger's last entry founds the service, so that a signature opens it.
+abbrev pub is_unopened : Option Entry → Bool
+is_unopened None = false
+is_unopened (Some last) = founds last
+
+-- The commit of a signature that doesn't open a service: the seqno of an earlier signature, not
+-- below the commit of the last one, nor below the removal of a node that was marked since.
+abbrev pub is_later_commit : List Entry → ℕ → Bool
+is_later_commit ledger commit =
+    signs_at (entry_at ledger commit) && nat_le (last_commit ledger) commit
+    && list_all (λ (y : NodeId).
+    is_above_removal (mark ledger y) (removal ledger y) (last_signed ledger) commit)
+    (recorded_nodes ledger)
+
+-- The commit that a signature behind a ledger may record: its own seqno, where it opens the
+-- service.
+abbrev pub may_record : List Entry → ℕ → Bool
+may_record ledger commit =
+    if is_unopened (last_entry ledger)
+    then commit == length ledger + 1
+    else is_later_commit ledger commit
+
 module _ (layers : Layers) where
-  -- An entry that founds a service stands first, and the one behind it is a signature of its view.
-  abbrev pub is_in_order : Option Entry → Recording → ℕ → Bool
-  is_in_order None recording view = true
-  is_in_order (Some last) recording view =
-      not (is_founding recording)
-      && (not (founds layers last) || (is_signing recording && (view == last.view)))
-
-  -- The ledger's last entry founds the service, so that a signature opens it.
-  abbrev pub is_unopened : Option Entry → Bool
-  is_unopened None = false
-  is_unopened (Some last) = founds layers last
-
-  -- The commit of a signature that doesn't open a service: the seqno of an earlier signature, not
-  -- below the commit of the last one, nor below the removal of a node that was marked since.
-  abbrev pub is_later_commit : List Entry → ℕ → Bool
-  is_later_commit ledger commit =
-      signs_at (entry_at ledger commit) && nat_le (last_commit ledger) commit
-      && list_all (λ (y : NodeId).
-      is_above_removal (mark layers ledger y) (removal layers ledger y) (last_signed ledger) commit)
-      (recorded_nodes layers ledger)
-
-  -- The commit that a signature behind a ledger may record: its own seqno, where it opens the
-  -- service.
-  abbrev pub may_record : List Entry → ℕ → Bool
-  may_record ledger commit =
-      if is_unopened (last_entry ledger)
-      then commit == length ledger + 1
-      else is_later_commit ledger commit
-
   -- Why the signature of an entry isn't valid behind a ledger, under the identity in force.
   abbrev pub fault_of_signature : List Entry → Entry → signatures.Signature → Option HssFault
   fault_of_signature ledger e s =
@@ -182,24 +199,11 @@ module _ (layers : Layers) where
   broken_by_signature s ledger e =
       let seqno = length ledger + 1 in
       let root = root_of (leaves_of ledger) in
-      required (member s.node (recorded_nodes layers ledger)) (breach 9 seqno e) (
+      required (member s.node (recorded_nodes ledger)) (breach 9 seqno e) (
       required (same_bytes s.root root) (replay 9 seqno root s.root) (
       required (may_record ledger s.commit) (breach 10 seqno e)
       (broken_by_fault seqno (fault_of_signature ledger e s))
       ))
-
-  abbrev pub broken_by_governance : GovernanceRequest → List Entry → Entry → Option Broken
-  broken_by_governance g ledger e =
-      let seqno = length ledger + 1 in
-      let recorded = requests_of layers ledger in
-      unless_refused (request_fault layers recorded g) (
-      with_writes 8 seqno (effect_writes recorded (record { seqno = seqno; request = g })) e None
-      )
-
-  abbrev pub broken_by_application : List Operation → List Entry → Entry → Option Broken
-  broken_by_application q ledger e =
-      broken_in_state (length ledger + 1) (service_state (tables_of ledger))
-      (run q (tables_of ledger)) e
 
   -- All rules
 
@@ -224,4 +228,4 @@ module _ (layers : Layers) where
 
   -- The first rule that an entry breaks behind a ledger, if it breaks one.
   unfoldable pub broken : List Entry → Entry → Option Broken
-  broken ledger e = broken_where (recording_of layers e.content) ledger e
+  broken ledger e = broken_where (recording_of e.content) ledger e

@@ -14,24 +14,34 @@ use Rattle.gl_entry.specs.Entry.{no_digest, body_bytes, body_limit}
 use Rattle.gl_entry.specs.SignedMessage.{signed_message}
 use Rattle.gl_entry.specs.declared.entry.Content.TheVariants as content
 use Rattle.gl_entry.specs.declared.entry.Entry.{Entry}
-use Rattle.gl_ledger.specs.Genesis.{genesis_bytes, genesis_writes}
-use Rattle.gl_ledger.specs.Effect.{service_state}
+use Rattle.gl_requests.specs.Spelling as requests_spelled
+use Rattle.gl_requests.specs.declared.genesis.Genesis as founding
+use Rattle.gl_requests.specs.declared.genesis.ServiceState.{ServiceState}
+use Rattle.gl_requests.specs.declared.genesis.ServiceState.TheVariants.{Open}
+use Rattle.gl_requests.specs.declared.request.GovernanceRequest.{GovernanceRequest}
+use Rattle.gl_requests.specs.declared.request.GovernanceRequest.TheVariants as requests
+use Rattle.gl_rules.specs.World.{first_view}
+use Rattle.gl_gov_rules.specs.Rows.{effect_writes}
+use Rattle.gl_ledger.specs.Recordings.{requests_of}
+use Rattle.gl_ledger.specs.ServiceRow.{service_state}
 use Rattle.gl_ledger.specs.Tree.{tables_of, leaves_of}
-use Rattle.gl_ledger.specs.declared.genesis.Genesis as request
-use Rattle.gl_ledger.specs.declared.genesis.ServiceState.{ServiceState}
-use Rattle.gl_ledger.specs.declared.genesis.ServiceState.TheVariants.{Opening, Open}
 use Rattle.gl_ledger.specs.declared.refusal.Refusal.{Refusal}
 use Rattle.gl_ledger.specs.declared.refusal.Refusal.TheVariants as refusals
 
--- The entry of a genesis, with seqno 1 in view 2.
-abbrev pub genesis_entry : request.Genesis → Entry
-genesis_entry g = record {
-  view = 2;
-  seqno = 1;
-  content = content.Governance (genesis_bytes g);
-  writes = genesis_writes g;
+-- The entry of a request of governance behind a ledger, with the write set of its effect.
+abbrev pub governance_entry : GovernanceRequest → List Entry → ℕ → Entry
+governance_entry g ledger view = record {
+  view = view;
+  seqno = length ledger + 1;
+  content = content.Governance (requests_spelled.request_bytes g);
+  writes = effect_writes (requests_of ledger)
+      (record { seqno = length ledger + 1; request = g });
   claims = no_digest;
 }
+
+-- The entry of a genesis, with seqno 1 in the first view.
+abbrev pub genesis_entry : founding.Genesis → Entry
+genesis_entry g = governance_entry (requests.Genesis g) [] first_view
 
 -- The entry of a node's signature behind a ledger, of these bytes, which records this commit.
 abbrev pub signature_entry : NodeId → List ℕ → List Entry → ℕ → ℕ → Entry
@@ -55,9 +65,9 @@ message_behind ledger view commit =
     signed_message (root_of (leaves_of ledger)) view (length ledger + 1) commit
 
 -- The opening ledger: the genesis, and the first signature, which records its own seqno.
-abbrev pub opening_ledger : request.Genesis → NodeId → List ℕ → List Entry
+abbrev pub opening_ledger : founding.Genesis → NodeId → List ℕ → List Entry
 opening_ledger g node signature =
-    genesis_entry g ∷ signature_entry node signature (genesis_entry g ∷ []) 2 2 ∷ []
+    genesis_entry g ∷ signature_entry node signature (genesis_entry g ∷ []) first_view 2 ∷ []
 
 -- No entry has a view above this one.
 abbrev pub HasViewsUpTo : ℕ → List Entry → Type 0
@@ -99,9 +109,9 @@ run_result ledger view operations (Ok ran) =
 -- The same, in a service that is in this state: unless it is open, the request is refused.
 abbrev pub execute_in : ServiceState → List Entry → ℕ → List Operation →
     Result (Entry × List Answer) Refusal
-execute_in Opening ledger view operations = Err (refusals.ServiceState Opening)
 execute_in Open ledger view operations =
     run_result ledger view operations (run operations (tables_of ledger))
+execute_in state ledger view operations = Err (refusals.ServiceState state)
 
 -- What an application request makes behind a ledger: an entry and a reply, or its refusal.
 abbrev pub execute_result : List Entry → ℕ → List Operation → Result (Entry × List Answer) Refusal

@@ -6,20 +6,30 @@ use Rattle.gl_rules.specs.Book.{Book}
 use Rattle.gl_tx.specs.declared.request.Operation.{Operation}
 use Rattle.gl_entry.specs.Entry.{is_signature, is_evidence, recorded_commit, frame_size}
 use Rattle.gl_entry.specs.declared.entry.Entry.{Entry}
-use Rattle.gl_ledger.specs.declared.genesis.GovernanceRequest.{GovernanceRequest}
+use Rattle.gl_requests.specs.declared.request.GovernanceRequest.{GovernanceRequest}
+use Rattle.gl_requests.specs.declared.request.GovernanceRequest.TheVariants as requests
+use Rattle.gl_gov_rules.specs.declared.refusal.GovernanceRefusal.{GovernanceRefusal}
+use Rattle.gl_gov_rules.specs.Changes.{history}
+use Rattle.gl_gov_rules.specs.Refusals as governance
 use Rattle.gl_ledger.specs.Layers.{Layers}
 use Rattle.gl_ledger.specs.NodeKeys.{NodeKeys, leaf_count}
-use Rattle.gl_ledger.specs.Recordings.{recorded_nodes, configuration, removal, mark}
+use Rattle.gl_ledger.specs.Recordings.{requests_of, recorded_nodes, configuration, removal, mark}
 use Rattle.gl_ledger.specs.declared.breach.Broken.{Broken}
+use Rattle.gl_ledger.specs.declared.refusal.Refusal.TheVariants as refusals
 use Rattle.gl_ledger.specs.Broken.{broken}
-use Rattle.gl_ledger.specs.Makers.{Given, Unmade, NoEvidenceYet, ByRule, guarded, request_result, govern_result, signing_result}
+use Rattle.gl_ledger.specs.Makers.{Given, Unmade, ByStore, NoEvidenceYet, ByRule, guarded, request_result, govern_result, signing_result}
 
 -- For now no transaction notes what it reads.
 pub data Reads : Type 0 where
 
--- For now no request marks a node.
-abbrev pub no_mark : GovernanceRequest → Option NodeId
-no_mark g = None
+-- The node that a request marks.
+abbrev pub marked_node : GovernanceRequest → Option NodeId
+marked_node (requests.Mark x) = Some x
+marked_node other = None
+
+abbrev pub by_refusal : Option GovernanceRefusal → Option Unmade
+by_refusal None = None
+by_refusal (Some why) = Some (ByStore (refusals.Governance why))
 
 abbrev pub by_rule : Option Broken → Option Unmade
 by_rule None = None
@@ -35,20 +45,21 @@ ledger_book layers keys = record {
   is_evidence = λ e. is_evidence e.content;
   recorded_commit = λ e. recorded_commit e.content;
   frame_size = frame_size;
-  configuration = configuration layers;
-  recorded_nodes = recorded_nodes layers;
-  removal = removal layers;
-  mark = mark layers;
+  configuration = configuration;
+  recorded_nodes = recorded_nodes;
+  removal = removal;
+  mark = mark;
   leaves = leaf_count keys;
   execute = λ ledger view q.
       guarded layers (λ made. made.0) ledger (request_result ledger view q);
   govern = λ ledger view g.
-      guarded layers (λ made. made.0) ledger (govern_result layers ledger view g);
+      guarded layers (λ made. made.0) ledger (govern_result ledger view g);
   sign = λ x leaf ledger view commit.
       guarded layers (λ made. made) ledger (signing_result keys x leaf ledger view commit);
   evidence = λ ledger view. guarded layers (λ made. made) ledger (Err NoEvidenceYet);
-  marked_node = no_mark;
-  mark_refusal = λ ledger x. None;
+  marked_node = marked_node;
+  mark_refusal = λ ledger x.
+      by_refusal (governance.mark_refusal (history (requests_of ledger)) x);
   conflict = λ ledger len reads. None;
   breaks = λ ledger e. by_rule (broken layers ledger e);
 }

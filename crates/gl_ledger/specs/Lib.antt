@@ -1,14 +1,11 @@
-pub mod Genesis
-pub mod Effect
+pub mod ServiceRow
 pub mod Tree
 pub mod Serial
 pub mod Ledger
 pub mod Signed
 pub mod Layers
-pub mod Reading
 pub mod NodeKeys
 pub mod Recordings
-pub mod Acceptance
 pub mod Broken
 pub mod Sound
 pub mod Makers

@@ -1,6 +1,6 @@
 -- The entries that a ledger makes of requests of applications and of governance, and of signatures;
 -- and where one may be made.
-use Rattle.std.specs.Prelude.{◌≡◌, ◌≤◌, ◌^◌, ℕ, ◌+◌, List, [], ◌∷◌, Option, None, Some, Result, Ok, Err, true, false, length, if◌then◌else◌}
+use Rattle.std.specs.Prelude.{◌≡◌, ◌≤◌, ◌^◌, ℕ, ◌+◌, List, [], ◌∷◌, Option, None, Some, Result, Ok, Err, true, false, ◌||◌, length, if◌then◌else◌}
 use Rattle.gl_base.specs.Bytes.{are_bytes}
 use Rattle.gl_merkle.specs.Tree.{root_of}
 use Rattle.gl_rules.specs.Identity.{NodeId}
@@ -8,23 +8,25 @@ use Rattle.gl_rules.specs.World.{first_view}
 use Rattle.gl_tx.specs.Request.{is_request}
 use Rattle.gl_tx.specs.declared.request.Operation.{Operation}
 use Rattle.gl_tx.specs.declared.request.Answer.{Answer}
-use Rattle.gl_entry.specs.Entry.{no_digest, body_bytes}
-use Rattle.gl_entry.specs.declared.entry.Content.TheVariants as content
+use Rattle.gl_entry.specs.Entry.{body_bytes}
 use Rattle.gl_entry.specs.declared.entry.Entry.{Entry}
 use Rattle.gl_entry.specs.declared.entry.Signature as signatures
-use Rattle.gl_ledger.specs.Genesis.{governance_bytes, is_governance_request}
+use Rattle.gl_requests.specs.Ranges as ranges
+use Rattle.gl_requests.specs.declared.genesis.Genesis as founding
+use Rattle.gl_requests.specs.declared.request.GovernanceRequest.{GovernanceRequest}
+use Rattle.gl_gov_rules.specs.declared.refusal.GovernanceRefusal.{GovernanceRefusal}
+use Rattle.gl_gov_rules.specs.Changes.{history}
+use Rattle.gl_gov_rules.specs.Governed.{is_founding, is_recovery}
+use Rattle.gl_gov_rules.specs.Refusals.{refusal}
 use Rattle.gl_ledger.specs.Tree.{leaves_of}
-use Rattle.gl_ledger.specs.Ledger.{genesis_entry, signature_entry, opening_ledger, message_behind, execute_result, sign_result, within_size, within_seqnos}
-use Rattle.gl_ledger.specs.declared.genesis.Genesis as request
-use Rattle.gl_ledger.specs.declared.genesis.GovernanceRequest.{GovernanceRequest}
-use Rattle.gl_ledger.specs.declared.breach.GenesisFault.{GenesisFault}
+use Rattle.gl_ledger.specs.Ledger.{governance_entry, genesis_entry, signature_entry, opening_ledger, message_behind, execute_result, sign_result, within_size, within_seqnos}
 use Rattle.gl_ledger.specs.declared.refusal.Refusal.{Refusal}
+use Rattle.gl_ledger.specs.declared.refusal.Refusal.TheVariants as refusals
 use Rattle.gl_ledger.specs.Layers.{Layers}
 use Rattle.gl_ledger.specs.NodeKeys.{NodeKeys, node_signature}
 use Rattle.gl_ledger.specs.Recordings.{last_entry, requests_of}
-use Rattle.gl_ledger.specs.Acceptance.{request_fault}
 use Rattle.gl_ledger.specs.declared.breach.Broken.{Broken}
-use Rattle.gl_ledger.specs.Broken.{is_unopened, effect_writes, fault_of_signature, broken}
+use Rattle.gl_ledger.specs.Broken.{is_unopened, fault_of_signature, broken}
 
 -- What a request is answered.
 pub data Given : Type 0 where
@@ -38,8 +40,8 @@ pub data Unmade : Type 0 where
   Unspelled : Unmade
   -- for now no evidence entry is made
   NoEvidenceYet : Unmade
-  -- a request of governance that isn't accepted
-  NotAccepted : (fault : GenesisFault) → Unmade
+  -- a request that founds a service, or founds it anew, is no event of a service
+  Founding : Unmade
   -- the entry would break a rule of the audit
   ByRule : (broken : Broken) → Unmade
 
@@ -56,10 +58,37 @@ abbrev pub by_store : {X : Type 0} → Result X Refusal → Result X Unmade
 by_store (Ok made) = Ok made
 by_store (Err why) = Err (ByStore why)
 
-abbrev pub unless_fault : Option GenesisFault → Result (Entry × Given) Unmade →
+abbrev pub unless_refused : Option GovernanceRefusal → Result (Entry × Given) Unmade →
     Result (Entry × Given) Unmade
-unless_fault None made = made
-unless_fault (Some fault) made = Err (NotAccepted fault)
+unless_refused None made = made
+unless_refused (Some why) made = Err (ByStore (refusals.Governance why))
+
+-- What a request of governance makes that is accepted, within the limits of bodies and seqnos.
+abbrev pub governed_within : List Entry → Entry → Result (Entry × Given) Unmade
+governed_within ledger e =
+    by_store (within_size (length (body_bytes e)) (within_seqnos ledger (e, Governed)))
+
+-- What a request of governance makes that founds no service: first it may be refused for what it
+-- asks, then for its size, then for want of a seqno.
+abbrev pub accepted_result : List Entry → ℕ → GovernanceRequest → Result (Entry × Given) Unmade
+accepted_result ledger view g =
+    unless_refused (refusal (history (requests_of ledger)) (length ledger + 1) g)
+    (governed_within ledger (governance_entry g ledger view))
+
+-- What a request of governance makes, where bytes spell it.
+abbrev pub govern_result : List Entry → ℕ → GovernanceRequest → Result (Entry × Given) Unmade
+govern_result ledger view g =
+    if ranges.is_request g
+    then (if is_founding g || is_recovery g then Err Founding else accepted_result ledger view g)
+    else Err Unspelled
+
+-- An entry may be made in a view behind a ledger: the ledger has an entry, the last one doesn't
+-- found the service, and its view is not above this one.
+pub record MayMake (ledger : List Entry) (view : ℕ) : Type 0 where
+  pub last : Entry
+  pub is_last : last_entry ledger ≡ Some last
+  pub behind : is_unopened (Some last) ≡ false
+  pub up : last.view ≤ view
 
 abbrev pub unless_broken : {X : Type 0} → Option Broken → X → Result X Unmade
 unless_broken None made = Ok made
@@ -70,37 +99,6 @@ module _ (layers : Layers) where
   abbrev pub guarded : {X : Type 0} → (X → Entry) → List Entry → Result X Unmade → Result X Unmade
   guarded entry_of ledger (Ok made) = unless_broken (broken layers ledger (entry_of made)) made
   guarded entry_of ledger (Err why) = Err why
-
-  -- The entry of a request of governance behind a ledger, with the write set of its effect.
-  abbrev pub governance_entry : GovernanceRequest → List Entry → ℕ → Entry
-  governance_entry g ledger view = record {
-    view = view;
-    seqno = length ledger + 1;
-    content = content.Governance (governance_bytes g);
-    writes = effect_writes (requests_of layers ledger)
-        (record { seqno = length ledger + 1; request = g });
-    claims = no_digest;
-  }
-
-  -- What a request of governance makes, where bytes spell it: first it may be refused for what it
-  -- asks, then for its size, then for want of a seqno.
-  abbrev pub govern_result : List Entry → ℕ → GovernanceRequest → Result (Entry × Given) Unmade
-  govern_result ledger view g =
-      if is_governance_request g
-      then (
-      let e = governance_entry g ledger view in
-      unless_fault (request_fault layers (requests_of layers ledger) g)
-      (by_store (within_size (length (body_bytes e)) (within_seqnos ledger (e, Governed))))
-      )
-      else Err Unspelled
-
-  -- An entry may be made in a view behind a ledger: the ledger has an entry, the last one doesn't
-  -- found the service, and its view is not above this one.
-  pub record MayMake (ledger : List Entry) (view : ℕ) : Type 0 where
-    pub last : Entry
-    pub is_last : last_entry ledger ≡ Some last
-    pub behind : is_unopened layers (Some last) ≡ false
-    pub up : last.view ≤ view
 
 module _ (keys : NodeKeys) where
   -- The signature of a node behind a ledger, with one of its leaves, which records this commit.
@@ -128,7 +126,7 @@ module _ (keys : NodeKeys) where
 
   -- The opening ledger: the genesis, and a node's signature with its first leaf, which records its
   -- own seqno.
-  abbrev pub opening_of : request.Genesis → NodeId → List Entry
+  abbrev pub opening_of : founding.Genesis → NodeId → List Entry
   opening_of g x =
       opening_ledger g x (signature_behind x 0 (genesis_entry g ∷ []) first_view 2)
 

@@ -1,6 +1,6 @@
 -- Nodes that sign with HSS keys of two levels (RFC 8554, section 6): the service's key endorses that
 -- of each node, whose leaves sign.
-use Rattle.std.specs.Prelude.{◌≡◌, ℕ, ◌^◌, List, Option, None, Some, Result, Ok, Err, Bool, true, false, if◌then◌else◌}
+use Rattle.std.specs.Prelude.{◌≡◌, ℕ, ◌^◌, List, Option, None, Some, Result, Ok, Err, true, if◌then◌else◌}
 use Rattle.sha2.specs.Sha256.{sha256}
 use Rattle.gl_base.specs.Bytes.{are_bytes, same_bytes}
 use Rattle.gl_hss.specs.declared.fault.HssFault.{HssFault}
@@ -8,13 +8,11 @@ use Rattle.gl_hss.specs.declared.fault.HssFault.TheVariants as faults
 use Rattle.gl_lms.specs.Types.{height}
 use Rattle.gl_lms.specs.Tree.{key_bytes, IsKey}
 use Rattle.gl_hss.specs.Hss.{IsValidBy}
-use Rattle.gl_hss.specs.Order.{verdict, last_key_verdict, endorsement_verdict}
+use Rattle.gl_hss.specs.Order.{verdict, last_key_verdict}
 use Rattle.gl_lms.specs.Secrets.{PrivateKey, public_of}
 use Rattle.gl_hss.specs.Signer.{hss_signature, StandsUnder}
 use Rattle.gl_rules.specs.Identity.{NodeId}
-use Rattle.gl_ledger.specs.declared.genesis.GovernanceRequest.{GovernanceRequest}
 use Rattle.gl_ledger.specs.Layers.{Layers}
-use Rattle.gl_ledger.specs.Reading.{request_in}
 
 -- The key of each node, and the service's signature of its public key.
 pub record NodeKeys : Type 0 where
@@ -54,22 +52,9 @@ pub record IsSignedBy (identity : List ℕ) (x : NodeId) (message signature : Li
   pub valid : IsValidBy identity key message signature
   pub named : x ≡ sha256 key
 
-abbrev pub is_verified : Result (Unit {0}) HssFault → Bool
-is_verified (Ok u) = true
-is_verified (Err fault) = false
-
 -- The layers of a service whose keys are HSS keys of two levels.
-abbrev pub hss_layers : (List ℕ → Option GovernanceRequest) → Layers
-hss_layers reading = record {
-  request_in = reading;
-  is_endorsed = λ identity key endorsement.
-      is_verified (endorsement_verdict identity key endorsement);
-  signature_fault = node_signature_fault;
-}
-
--- The layers of a service: requests of governance as they are read from their bytes, and HSS keys.
 abbrev pub service_layers : Layers
-service_layers = hss_layers request_in
+service_layers = record { signature_fault = node_signature_fault }
 
 -- The service's key endorses the node's, and the node's identifier is the digest of its public key,
 -- which has the form that RFC 8554 gives it; key and endorsement are bytes.

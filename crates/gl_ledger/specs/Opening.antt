@@ -1,16 +1,16 @@
 -- What opens a service: a ledger that the check of an opening takes, and a genesis that founds one.
-use Rattle.std.specs.Prelude.{◌≡◌, [], ◌∷◌, None, Some, Ok, true, map}
+use Rattle.std.specs.Prelude.{◌≡◌, [], ◌∷◌, None, Ok, true, map}
 use Rattle.gl_rules.specs.Identity.{NodeId, member}
 use Rattle.gl_rules.specs.World.{Start, first_view}
-use Rattle.gl_entry.specs.Entry.{is_entry}
 use Rattle.gl_entry.specs.declared.entry.Entry.{Entry}
-use Rattle.gl_ledger.specs.Genesis.{node_id, genesis_bytes}
+use Rattle.gl_requests.specs.Spelling.{node_id}
+use Rattle.gl_requests.specs.Ranges.{is_genesis}
+use Rattle.gl_requests.specs.declared.genesis.Genesis as founding
+use Rattle.gl_gov_rules.specs.History.{no_history}
+use Rattle.gl_gov_rules.specs.Refusals.{genesis_refusal}
 use Rattle.gl_ledger.specs.Ledger.{genesis_entry}
-use Rattle.gl_ledger.specs.declared.genesis.Genesis as request
-use Rattle.gl_ledger.specs.declared.genesis.GovernanceRequest.TheVariants as requests
 use Rattle.gl_ledger.specs.Layers.{Layers}
 use Rattle.gl_ledger.specs.NodeKeys.{NodeKeys}
-use Rattle.gl_ledger.specs.Acceptance.{genesis_fault}
 use Rattle.gl_ledger.specs.Makers.{MakesValid}
 use Rattle.gl_ledger.specs.Audit.{opened}
 
@@ -20,12 +20,11 @@ pub record Begins (layers : Layers) (s : Start Entry) : Type 0 where
   pub checked : opened layers s.opening ≡ Ok s.first
   pub starts : member s.first s.starting ≡ true
 
--- The genesis is read from its bytes, is accepted and fits its format, and a node that it names
--- signs it validly with its first leaf.
-pub record Founds (layers : Layers) (keys : NodeKeys) (g : request.Genesis) (x : NodeId) :
+-- The fields of the genesis are in their ranges, it is accepted, and a node that it names signs it
+-- validly with its first leaf.
+pub record Founds (layers : Layers) (keys : NodeKeys) (g : founding.Genesis) (x : NodeId) :
     Type 0 where
-  pub reads : layers.request_in (genesis_bytes g) ≡ Some (requests.Genesis g)
-  pub accepted : genesis_fault layers g ≡ None
-  pub fits : is_entry (genesis_entry g) ≡ true
+  pub fits : is_genesis g ≡ true
+  pub accepted : genesis_refusal no_history g ≡ None
   pub named : member x (map node_id g.nodes) ≡ true
   pub valid : MakesValid layers keys x 0 (genesis_entry g ∷ []) first_view 2

@@ -9,13 +9,15 @@ use Rattle.gl_tx.specs.declared.request.Operation.{Operation}
 use Rattle.gl_entry.specs.declared.entry.Content.{Content}
 use Rattle.gl_entry.specs.declared.entry.Content.TheVariants as content
 use Rattle.gl_entry.specs.declared.entry.Entry.{Entry}
-use Rattle.gl_ledger.specs.Genesis.{node_id}
-use Rattle.gl_ledger.specs.Effect.{Recorded}
-use Rattle.gl_ledger.specs.declared.genesis.GovernanceRequest.{GovernanceRequest}
-use Rattle.gl_ledger.specs.declared.genesis.GovernanceRequest.TheVariants as requests
+use Rattle.gl_requests.specs.Reading.{request_in}
+use Rattle.gl_requests.specs.declared.request.GovernanceRequest.{GovernanceRequest}
+use Rattle.gl_gov_rules.specs.declared.change.Recorded.{Recorded}
+use Rattle.gl_gov_rules.specs.declared.change.RecordedNode.{RecordedNode}
+use Rattle.gl_gov_rules.specs.Changes.{history}
+use Rattle.gl_gov_rules.specs.Governed as governed
+use Rattle.gl_gov_rules.specs.Nodes as nodes
 use Rattle.gl_ledger.specs.declared.recording.Recording.{Recording}
 use Rattle.gl_ledger.specs.declared.recording.Recording.TheVariants as recordings
-use Rattle.gl_ledger.specs.Layers.{Layers}
 
 abbrev pub governance_recording : Option GovernanceRequest → Option Recording
 governance_recording None = None
@@ -27,10 +29,17 @@ application_recording (Ok request) = Some (recordings.Application request)
 
 -- It is a request that founds a service.
 abbrev pub is_founding : Recording → Bool
-is_founding (recordings.Governance (requests.Genesis g)) = true
+is_founding (recordings.Governance request) = governed.is_founding request
 is_founding (recordings.Application request) = false
 is_founding (recordings.Signature s) = false
 is_founding (recordings.Evidence d) = false
+
+-- It is a request that founds a service anew.
+abbrev pub is_recovering : Recording → Bool
+is_recovering (recordings.Governance request) = governed.is_recovery request
+is_recovering (recordings.Application request) = false
+is_recovering (recordings.Signature s) = false
+is_recovering (recordings.Evidence d) = false
 
 abbrev pub is_signing : Recording → Bool
 is_signing (recordings.Governance request) = false
@@ -43,52 +52,48 @@ abbrev pub records_founding : Option Recording → Bool
 records_founding None = false
 records_founding (Some recording) = is_founding recording
 
+abbrev pub records_recovery : Option Recording → Bool
+records_recovery None = false
+records_recovery (Some recording) = is_recovering recording
+
 -- The last entry of a ledger, if there is one.
 abbrev pub last_entry : List Entry → Option Entry
 last_entry ledger = slice_get ledger (length ledger - 1)
 
-module _ (layers : Layers) where
-  -- What an entry records, if its bytes spell it.
-  abbrev pub recording_of : Content → Option Recording
-  recording_of (content.Governance bytes) = governance_recording (layers.request_in bytes)
-  recording_of (content.Application bytes) = application_recording (request_of bytes)
-  recording_of (content.Signature s) = Some (recordings.Signature s)
-  recording_of (content.Evidence d) = Some (recordings.Evidence d)
+-- What an entry records, if its bytes spell it.
+abbrev pub recording_of : Content → Option Recording
+recording_of (content.Governance bytes) = governance_recording (request_in bytes)
+recording_of (content.Application bytes) = application_recording (request_of bytes)
+recording_of (content.Signature s) = Some (recordings.Signature s)
+recording_of (content.Evidence d) = Some (recordings.Evidence d)
 
-  -- The entry founds a service.
-  abbrev pub founds : Entry → Bool
-  founds e = records_founding (recording_of e.content)
+-- The entry founds a service.
+abbrev pub founds : Entry → Bool
+founds e = records_founding (recording_of e.content)
 
-  abbrev pub recorded_at : ℕ → Option GovernanceRequest → List Recorded
-  recorded_at seqno None = []
-  recorded_at seqno (Some request) = record { seqno = seqno; request = request } ∷ []
+-- The entry founds a service anew.
+abbrev pub recovers : Entry → Bool
+recovers e = records_recovery (recording_of e.content)
 
-  abbrev pub recorded_in : ℕ → Content → List Recorded
-  recorded_in seqno (content.Governance bytes) = recorded_at seqno (layers.request_in bytes)
-  recorded_in seqno (content.Application bytes) = []
-  recorded_in seqno (content.Signature s) = []
-  recorded_in seqno (content.Evidence d) = []
+abbrev pub recorded_at : ℕ → Option GovernanceRequest → List Recorded
+recorded_at seqno None = []
+recorded_at seqno (Some request) = record { seqno = seqno; request = request } ∷ []
 
-  abbrev pub requests_from : ℕ → List Entry → List Recorded
-  requests_from seqno [] = []
-  requests_from seqno (e ∷ es) = recorded_in seqno e.content ++ requests_from (suc seqno) es
+abbrev pub recorded_in : ℕ → Content → List Recorded
+recorded_in seqno (content.Governance bytes) = recorded_at seqno (request_in bytes)
+recorded_in seqno (content.Application bytes) = []
+recorded_in seqno (content.Signature s) = []
+recorded_in seqno (content.Evidence d) = []
 
-  -- The requests of governance that a ledger records, in order.
-  abbrev pub requests_of : List Entry → List Recorded
-  requests_of ledger = requests_from 1 ledger
+abbrev pub requests_from : ℕ → List Entry → List Recorded
+requests_from seqno [] = []
+requests_from seqno (e ∷ es) = recorded_in seqno e.content ++ requests_from (suc seqno) es
 
--- Nodes, in the order in which they were recorded. For now only a genesis names nodes, and all that
--- it names are trusted.
+-- The requests of governance that a ledger records, in order.
+abbrev pub requests_of : List Entry → List Recorded
+requests_of ledger = requests_from 1 ledger
 
-abbrev pub nodes_named : GovernanceRequest → List NodeId
-nodes_named (requests.Genesis g) = map node_id g.nodes
-
-abbrev pub nodes_of : List Recorded → List NodeId
-nodes_of [] = []
-nodes_of (r ∷ rs) = nodes_named r.request ++ nodes_of rs
-
-abbrev pub trusted_of : List Recorded → List NodeId
-trusted_of recorded = nodes_of recorded
+-- Nodes, in the order in which they were recorded.
 
 abbrev pub same_nodes : List NodeId → List NodeId → Bool
 same_nodes [] [] = true
@@ -100,25 +105,24 @@ same_nodes (x ∷ xs) (y ∷ ys) = same_bytes x y && same_nodes xs ys
 abbrev pub changed_set : List NodeId → List NodeId → Option (List NodeId)
 changed_set before now = if same_nodes before now then None else Some now
 
-module _ (layers : Layers) where
-  -- The nodes that a ledger records.
-  unfoldable pub recorded_nodes : List Entry → List NodeId
-  recorded_nodes ledger = nodes_of (requests_of layers ledger)
+-- The nodes that a ledger records.
+unfoldable pub recorded_nodes : List Entry → List NodeId
+recorded_nodes ledger =
+    map (λ (n : RecordedNode). n.id) (nodes.nodes (history (requests_of ledger)))
 
-  -- The trusted nodes of a ledger.
-  unfoldable pub trusted_nodes : List Entry → List NodeId
-  trusted_nodes ledger = trusted_of (requests_of layers ledger)
+-- The trusted nodes of a ledger.
+unfoldable pub trusted_nodes : List Entry → List NodeId
+trusted_nodes ledger = nodes.trusted (history (requests_of ledger))
 
-  -- The configuration that begins with a ledger's last entry, if that changes the set of trusted
-  -- nodes.
-  unfoldable pub configuration : List Entry → Option (List NodeId)
-  configuration ledger =
-      changed_set (trusted_nodes (take (length ledger - 1) ledger)) (trusted_nodes ledger)
+-- The configuration that begins with a ledger's last entry, if that changes the set of trusted
+-- nodes.
+unfoldable pub configuration : List Entry → Option (List NodeId)
+configuration ledger =
+    changed_set (trusted_nodes (take (length ledger - 1) ledger)) (trusted_nodes ledger)
 
-  -- The seqno of the entry that removed a node, and that of its mark: for now no request removes or
-  -- marks one.
-  unfoldable pub removal : List Entry → NodeId → Option ℕ
-  removal ledger y = None
+-- The seqno of the entry that removed a node, and that of its mark.
+unfoldable pub removal : List Entry → NodeId → Option ℕ
+removal ledger y = nodes.removal (history (requests_of ledger)) y
 
-  unfoldable pub mark : List Entry → NodeId → Option ℕ
-  mark ledger y = None
+unfoldable pub mark : List Entry → NodeId → Option ℕ
+mark ledger y = nodes.mark (history (requests_of ledger)) y

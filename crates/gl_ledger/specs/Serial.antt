@@ -1,9 +1,5 @@
 -- Ledgers in order, and write sets that turn tables into others.
-use Rattle.std.specs.Prelude.{◌≡◌, ◌≢◌, ℕ, suc, ◌≤◌, List, Some, true, slice_get}
-use Rattle.std.specs.List.{AllByRecursion}
-use Rattle.gl_vmaps.specs.Tables.{Tables, value_in, wrote_all}
-use Rattle.gl_vmaps.specs.Writes.{is_ordered}
-use Rattle.gl_vmaps.specs.declared.write.Write.{Write}
+use Rattle.std.specs.Prelude.{◌≡◌, ℕ, suc, ◌≤◌, List, Some, true, slice_get}
 use Rattle.gl_entry.specs.Entry.{is_entry}
 use Rattle.gl_entry.specs.declared.entry.Entry.{Entry}
 

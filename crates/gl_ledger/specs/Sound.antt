@@ -1,5 +1,5 @@
 -- What is said of each ledger of a service.
-use Rattle.std.specs.Prelude.{◌≡◌, ℕ, ◌+◌, List, [], ◌∷◌, ◌++◌, None, Some, Ok, true, length, take, slice_get}
+use Rattle.std.specs.Prelude.{◌≡◌, ℕ, ◌+◌, List, [], ◌∷◌, ◌++◌, None, Some, Ok, true, false, length, take, slice_get}
 use Rattle.sha2.specs.Sha256.{sha256}
 use Rattle.gl_merkle.specs.Tree.{root_of}
 use Rattle.gl_rules.specs.Identity.{member}
@@ -14,61 +14,72 @@ use Rattle.gl_entry.specs.declared.entry.Content.{Content}
 use Rattle.gl_entry.specs.declared.entry.Content.TheVariants as content
 use Rattle.gl_entry.specs.declared.entry.Entry.{Entry}
 use Rattle.gl_entry.specs.declared.entry.Signature as signatures
-use Rattle.gl_ledger.specs.Genesis.{governance_bytes, is_governance_request}
-use Rattle.gl_ledger.specs.Effect.{effect, service_state}
+use Rattle.gl_requests.specs.Spelling as requests_spelled
+use Rattle.gl_requests.specs.Ranges as ranges
+use Rattle.gl_requests.specs.Reading.{request_in}
+use Rattle.gl_requests.specs.declared.genesis.ServiceState.TheVariants.{Open}
+use Rattle.gl_requests.specs.declared.request.GovernanceRequest.{GovernanceRequest}
+use Rattle.gl_gov_rules.specs.Changes.{history}
+use Rattle.gl_gov_rules.specs.Refusals.{refusal}
+use Rattle.gl_gov_rules.specs.Rows.{effect}
+use Rattle.gl_ledger.specs.ServiceRow.{service_state}
 use Rattle.gl_ledger.specs.Tree.{tables_of, leaves_of}
 use Rattle.gl_ledger.specs.Serial.{IsLedger}
 use Rattle.gl_vmaps.specs.Changes.{Turns}
-use Rattle.gl_ledger.specs.declared.genesis.ServiceState.TheVariants.{Open}
-use Rattle.gl_ledger.specs.declared.genesis.GovernanceRequest.{GovernanceRequest}
 use Rattle.gl_ledger.specs.Layers.{Layers}
-use Rattle.gl_ledger.specs.Recordings.{founds, requests_of, recorded_nodes}
-use Rattle.gl_ledger.specs.Acceptance.{IsAccepted}
+use Rattle.gl_ledger.specs.Recordings.{founds, recovers, requests_of, recorded_nodes}
 use Rattle.gl_ledger.specs.Broken.{may_record, fault_of_signature}
 
+-- The first entry founds the service, in the first view, and no other does; the second is the
+-- signature that opens it, of the same view. For now none founds it anew.
+pub record IsFounded (ledger : List Entry) : Type 0 where
+  pub first : (e : Entry) → slice_get ledger 0 ≡ Some e →
+      (founds e ≡ true) × (e.view ≡ first_view)
+  pub once : (i : ℕ) (e : Entry) → slice_get ledger i ≡ Some e → founds e ≡ true → i ≡ 0
+  pub opened : (e : Entry) → slice_get ledger 1 ≡ Some e →
+      (is_signature e.content ≡ true) × (e.view ≡ first_view)
+  pub unrecovered : (i : ℕ) (e : Entry) → slice_get ledger i ≡ Some e → recovers e ≡ false
+
+-- A governance entry: a request that no rule refuses, and the write set of its effect.
+pub record IsGovernanceEntry (before : List Entry) (e : Entry) (bytes : List ℕ) : Type 0 where
+  pub request : GovernanceRequest
+  pub reads : request_in bytes ≡ Some request
+  pub fits : ranges.is_request request ≡ true
+  pub spelled : bytes ≡ requests_spelled.request_bytes request
+  pub accepted : refusal (history (requests_of before)) (length before + 1) request ≡ None
+  pub turns : Turns e.writes (effect (requests_of before))
+      (effect (requests_of before
+      ++ record { seqno = length before + 1; request = request } ∷ []))
+  pub claims : e.claims ≡ no_digest
+
+-- An application entry: a request that runs in an open service, its write set, and the digest of
+-- its reply.
+pub record IsApplicationEntry (before : List Entry) (e : Entry) (bytes : List ℕ) : Type 0 where
+  pub is_open : service_state (effect (requests_of before)) ≡ Open
+  pub request : List Operation
+  pub fits : is_request request ≡ true
+  pub spelled : bytes ≡ request_bytes request
+  pub ran : Ran
+  pub runs : run request (tables_of before) ≡ Ok ran
+  pub writes : e.writes ≡ ran.writes
+  pub claims : e.claims ≡ sha256 (reply_bytes ran.reply)
+
+-- The rows of the governance tables are the effect of the requests of governance.
+abbrev pub HasGovernedTables : List Entry → Type 0
+HasGovernedTables ledger =
+    (map : List ℕ) → is_governance map ≡ true →
+    tables_of ledger map ≡ effect (requests_of ledger) map
+
 module _ (layers : Layers) where
-  -- The first entry founds the service, in the first view, and no other does; the second is the
-  -- signature that opens it, of the same view.
-  pub record IsFounded (ledger : List Entry) : Type 0 where
-    pub first : (e : Entry) → slice_get ledger 0 ≡ Some e →
-        (founds layers e ≡ true) × (e.view ≡ first_view)
-    pub once : (i : ℕ) (e : Entry) → slice_get ledger i ≡ Some e → founds layers e ≡ true → i ≡ 0
-    pub opened : (e : Entry) → slice_get ledger 1 ≡ Some e →
-        (is_signature e.content ≡ true) × (e.view ≡ first_view)
-
-  -- A governance entry: a request that no rule refuses, and the write set of its effect.
-  pub record IsGovernanceEntry (before : List Entry) (e : Entry) (bytes : List ℕ) : Type 0 where
-    pub request : GovernanceRequest
-    pub reads : layers.request_in bytes ≡ Some request
-    pub fits : is_governance_request request ≡ true
-    pub spelled : bytes ≡ governance_bytes request
-    pub accepted : IsAccepted layers (requests_of layers before) request
-    pub turns : Turns e.writes (effect (requests_of layers before))
-        (effect (requests_of layers before
-        ++ record { seqno = length before + 1; request = request } ∷ []))
-    pub claims : e.claims ≡ no_digest
-
-  -- An application entry: a request that runs in an open service, its write set, and the digest of
-  -- its reply.
-  pub record IsApplicationEntry (before : List Entry) (e : Entry) (bytes : List ℕ) : Type 0 where
-    pub is_open : service_state (effect (requests_of layers before)) ≡ Open
-    pub request : List Operation
-    pub fits : is_request request ≡ true
-    pub spelled : bytes ≡ request_bytes request
-    pub ran : Ran
-    pub runs : run request (tables_of before) ≡ Ok ran
-    pub writes : e.writes ≡ ran.writes
-    pub claims : e.claims ≡ sha256 (reply_bytes ran.reply)
-
   -- A signature entry writes nothing. It is the valid signature of a recorded node, over the root of
   -- the tree of all earlier entries, and records a commit that it may record.
   pub record IsSignatureEntry (before : List Entry) (e : Entry) (s : signatures.Signature) :
       Type 0 where
     pub writes : e.writes ≡ []
     pub claims : e.claims ≡ no_digest
-    pub node : member s.node (recorded_nodes layers before) ≡ true
+    pub node : member s.node (recorded_nodes before) ≡ true
     pub root : s.root ≡ root_of (leaves_of before)
-    pub commit : may_record layers before s.commit ≡ true
+    pub commit : may_record before s.commit ≡ true
     pub valid : fault_of_signature layers before e s ≡ None
 
   -- The entry is what its content says it is, behind the ledger before it. For now there is no
@@ -85,16 +96,10 @@ module _ (layers : Layers) where
   IsSerial ledger =
       (i : ℕ) (e : Entry) → slice_get ledger i ≡ Some e → StandsAs e.content (take i ledger) e
 
-  -- The rows of the governance tables are the effect of the requests of governance.
-  abbrev pub IsGoverned : List Entry → Type 0
-  IsGoverned ledger =
-      (map : List ℕ) → is_governance map ≡ true →
-      tables_of ledger map ≡ effect (requests_of layers ledger) map
-
   -- A ledger is in order and founded, one serial run of its requests, and its governance tables are
   -- the effect of its requests of governance.
   pub record IsSound (ledger : List Entry) : Type 0 where
     pub in_order : IsLedger ledger
     pub founded : IsFounded ledger
     pub serial : IsSerial ledger
-    pub governed : IsGoverned ledger
+    pub governed : HasGovernedTables ledger

@@ -5,7 +5,7 @@ use Rattle.gl_vmaps.specs.Tables.{Tables, no_tables, wrote_all}
 use Rattle.gl_vmaps.specs.Versions.{Placed, placed_at, written_by}
 use Rattle.gl_entry.specs.Leaf.{leaf_of}
 use Rattle.gl_entry.specs.declared.entry.Entry.{Entry}
-use Rattle.gl_ledger.specs.Effect.{identity_in}
+use Rattle.gl_ledger.specs.ServiceRow.{identity_in}
 
 -- The writes of a ledger, each at the seqno of its entry.
 abbrev pub writes_of : List Entry → List Placed

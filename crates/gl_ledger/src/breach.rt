@@ -3,44 +3,13 @@
 ghost use Rattle.std.specs.Prelude.{◌≡◌};
 ghost use Rattle.gl_base.specs.declared.or_no_memory.OrNoMemory.TheVariants.{Fault};
 
-use crate::genesis::ServiceState;
 use gl_base::OrNoMemory;
 use gl_entry::Digest;
+use gl_gov_rules::GovernanceRefusal;
 use gl_hss::HssFault;
+use gl_requests::ServiceState;
 use gl_tx::Abort;
 use thiserror::Error;
-
-/// The first thing that is wrong with a genesis.
-#[derive(Clone, Copy, Debug, PartialEq, Eq, Error)]
-pub enum GenesisFault {
-    /// The service is founded already.
-    #[error("a genesis behind others")]
-    NotFirst,
-    /// Two members have one number.
-    #[error("a member's number stands twice")]
-    NumberTwice,
-    /// Two members have one key.
-    #[error("a member's key stands twice")]
-    KeyTwice,
-    /// There are more than 64 members.
-    #[error("more than 64 members")]
-    TooManyMembers,
-    /// The dealing is none among the members.
-    #[error("the dealing is none among the members")]
-    Dealing,
-    /// Two nodes have one identifier.
-    #[error("a node stands twice")]
-    NodeTwice,
-    /// There are more than 32 nodes.
-    #[error("more than 32 nodes")]
-    TooManyNodes,
-    /// There is no node.
-    #[error("no node")]
-    NoNode,
-    /// A node's key isn't endorsed by the service's.
-    #[error("a node's key isn't endorsed")]
-    NotEndorsed,
-}
 
 /// What an entry is refused for that breaks a rule of the audit.
 #[derive(Clone, Copy, Debug, PartialEq, Eq, Error)]
@@ -51,9 +20,9 @@ pub enum EntryRefusal {
     /// An operation of the request fails.
     #[error("the request is aborted: {0}")]
     Aborted(Abort),
-    /// The genesis founds no service.
-    #[error("no genesis: {0}")]
-    Genesis(GenesisFault),
+    /// The request of governance isn't accepted.
+    #[error("the request of governance is refused: {0}")]
+    Governance(GovernanceRefusal),
     /// The entry at this seqno isn't the one that follows: the digest that is wanted, and the one
     /// that is found.
     #[error("the entry at {seqno} doesn't follow")]

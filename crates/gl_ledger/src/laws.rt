@@ -2,7 +2,6 @@
 
 ghost use Rattle.std.specs.Prelude.{◌≡◌, ◌<◌, ◌≤◌, ◌↔◌, ◌+◌, ◌^◌, ℕ, suc, List, [], ◌∷◌, ◌++◌, Option, None, Some, Ok, length, map, slice_get, true};
 ghost use Rattle.gl_base.specs.Bytes.{are_bytes};
-ghost use Rattle.gl_hss.specs.Hss.{IsEndorsed};
 ghost use Rattle.gl_vmaps.specs.Tables.{value_in};
 ghost use Rattle.gl_tx.specs.declared.request.Operation.{Operation};
 ghost use Rattle.gl_entry.specs.declared.entry.Entry.{Entry};
@@ -10,22 +9,25 @@ ghost use Rattle.gl_rules.specs.Identity.{NodeId, member};
 ghost use Rattle.gl_rules.specs.Log.{greatest_recorded};
 ghost use Rattle.gl_rules.specs.Safety.{EachFollows, IsLawful, IsOpening, IsRetiring, MayRecord};
 ghost use Rattle.gl_rules.specs.World.{Start};
-ghost use Rattle.gl_ledger.specs.Genesis.{are_distinct_bytes, governance_bytes, is_governance_request, node_id, node_row, nodes_map};
-ghost use Rattle.gl_ledger.specs.Effect.{identity_in};
-ghost use Rattle.gl_ledger.specs.Reading.{request_in};
+ghost use Rattle.gl_requests.specs.Spelling.{node_id};
+ghost use Rattle.gl_requests.specs.declared.genesis.Genesis.{Genesis};
+ghost use Rattle.gl_requests.specs.declared.genesis.NewNode.{NewNode};
+ghost use Rattle.gl_requests.specs.declared.request.GovernanceRequest.{GovernanceRequest};
+ghost use Rattle.gl_gov_rules.specs.Governed.{IsGoverned};
+ghost use Rattle.gl_gov_rules.specs.Refusals.{are_ids_distinct};
+ghost use Rattle.gl_gov_rules.specs.Rows.{nodes_map, node_write};
+ghost use Rattle.gl_gov_rules.specs.declared.refusal.NodeStatus.TheVariants as statuses;
+ghost use Rattle.gl_ledger.specs.ServiceRow.{identity_in};
 ghost use Rattle.gl_ledger.specs.Tree.{tables_of};
 ghost use Rattle.gl_ledger.specs.Ledger.{genesis_entry};
-ghost use Rattle.gl_ledger.specs.declared.genesis.Genesis.{Genesis};
-ghost use Rattle.gl_ledger.specs.declared.genesis.NewNode.{NewNode};
-ghost use Rattle.gl_ledger.specs.declared.genesis.GovernanceRequest.{GovernanceRequest};
-ghost use Rattle.gl_ledger.specs.Layers.{Layers, ReadsSpellings};
-ghost use Rattle.gl_ledger.specs.Recordings.{configuration, recorded_nodes};
+ghost use Rattle.gl_ledger.specs.Layers.{Layers};
+ghost use Rattle.gl_ledger.specs.Recordings.{configuration, recorded_nodes, requests_of};
 ghost use Rattle.gl_ledger.specs.Broken.{broken, last_commit};
 ghost use Rattle.gl_ledger.specs.Sound.{IsSound};
-ghost use Rattle.gl_ledger.specs.Makers.{MayMake, MakesValid, opening_of, request_result, signing_result};
+ghost use Rattle.gl_ledger.specs.Makers.{MayMake, MakesValid, govern_result, opening_of, request_result, signing_result};
 ghost use Rattle.gl_ledger.specs.LedgerBook.{ledger_book};
 ghost use Rattle.gl_ledger.specs.Audit.{LedgerFault, IsFaultOf, audited, opened};
-ghost use Rattle.gl_ledger.specs.NodeKeys.{IsNodeKey, IsSignedBy, NodeKeys, hss_layers, leaf_count, node_signature, node_signature_fault, service_layers};
+ghost use Rattle.gl_ledger.specs.NodeKeys.{IsNodeKey, IsSignedBy, NodeKeys, leaf_count, node_signature, node_signature_fault, service_layers};
 ghost use Rattle.gl_ledger.specs.Opening.{Begins, Founds};
 
 /// The ledger has the laws that the rules of consensus ask of a book.
@@ -36,21 +38,17 @@ pub fn is_lawful()
         IsRetiring (ledger_book layers keys) (EachFollows (ledger_book layers keys)) }
 {}
 
-/// The bytes of a request of governance whose fields are in their ranges are read as that request,
-/// and bytes that are read as a request are the bytes of it, and its fields are in their ranges.
-pub fn is_read()
-    ensures round_trip { (g : GovernanceRequest) → is_governance_request g ≡ true →
-        request_in (governance_bytes g) ≡ Some g }
-    ensures only { (bytes : List ℕ) (g : GovernanceRequest) → are_bytes bytes ≡ true →
-        request_in bytes ≡ Some g →
-        (is_governance_request g ≡ true) × (bytes ≡ governance_bytes g) }
-    ensures layers { ReadsSpellings service_layers }
+/// The requests of governance that a sound ledger records were accepted one after another, so the
+/// laws of the rules of governance hold of them.
+pub fn is_governed()
+    ensures governed { (layers : Layers) (ledger : List Entry) → IsSound layers ledger →
+        IsGoverned (requests_of ledger) }
 {}
 
 /// An entry that breaks no rule of the audit keeps a ledger sound.
 pub fn is_kept_sound()
     ensures empty { (layers : Layers) → IsSound layers [] }
-    ensures longer { (layers : Layers) → ReadsSpellings layers → (ledger : List Entry) (e : Entry) →
+    ensures longer { (layers : Layers) → (ledger : List Entry) (e : Entry) →
         IsSound layers ledger → broken layers ledger e ≡ None →
         IsSound layers (ledger ++ e ∷ []) }
 {}
@@ -62,7 +60,7 @@ pub fn is_audited()
         audited layers ledger ≡ None ↔ EachFollows (ledger_book layers keys) ledger }
     ensures fault { (layers : Layers) (ledger : List Entry) (fault : LedgerFault) →
         audited layers ledger ≡ Some fault → IsFaultOf layers ledger fault }
-    ensures sound { (layers : Layers) → ReadsSpellings layers → (ledger : List Entry) →
+    ensures sound { (layers : Layers) → (ledger : List Entry) →
         audited layers ledger ≡ None → IsSound layers ledger }
     ensures commits { (layers : Layers) (keys : NodeKeys) (ledger : List Entry) →
         audited layers ledger ≡ None →
@@ -79,26 +77,38 @@ pub fn is_opened()
     ensures genesis { (layers : Layers) (keys : NodeKeys) (g : Genesis) (first : NodeId) →
         Founds layers keys g first → opened layers (opening_of keys g first) ≡ Ok first }
     ensures recorded { (layers : Layers) (keys : NodeKeys) (g : Genesis) (first : NodeId) →
-        Founds layers keys g first → recorded_nodes layers (genesis_entry g ∷ []) ≡ map node_id g.nodes }
+        Founds layers keys g first → recorded_nodes (genesis_entry g ∷ []) ≡ map node_id g.nodes }
     ensures configured { (layers : Layers) (keys : NodeKeys) (g : Genesis) (first : NodeId) →
         Founds layers keys g first →
-        configuration layers (genesis_entry g ∷ []) ≡ Some (map node_id g.nodes) }
+        configuration (genesis_entry g ∷ []) ≡ Some (map node_id g.nodes) }
     ensures rows { (g : Genesis) (i : ℕ) (node : NewNode) →
-        are_distinct_bytes (map node_id g.nodes) ≡ true → slice_get g.nodes i ≡ Some node →
+        are_ids_distinct g.nodes ≡ true → slice_get g.nodes i ≡ Some node →
         value_in (tables_of (genesis_entry g ∷ [])) nodes_map (node_id node)
-        ≡ (node_row (suc i) node).value }
+        ≡ (node_write (record {
+          id = node_id node;
+          order = suc i;
+          status = statuses.Trusted;
+          key = node.key;
+          endorsement = node.endorsement;
+          removal = 0;
+        })).value }
 {}
 
-/// Where an entry may be made, the book refuses no application request for a rule of the audit, and
-/// no valid signature of a recorded node with a commit that the rules of consensus let it record.
+/// Where an entry may be made, the book refuses no request of an application for a rule of the audit,
+/// behind a sound ledger none of governance, and no valid signature of a recorded node with a commit
+/// that the rules of consensus let it record.
 pub fn is_unguarded()
     ensures executes { (layers : Layers) (keys : NodeKeys) (ledger : List Entry) (view : ℕ) →
-        view < 2 ^ 32 → MayMake layers ledger view → (request : List Operation) →
+        view < 2 ^ 32 → MayMake ledger view → (request : List Operation) →
         (ledger_book layers keys).execute ledger view request ≡ request_result ledger view request }
+    ensures governs { (layers : Layers) (keys : NodeKeys) (ledger : List Entry) (view : ℕ) →
+        view < 2 ^ 32 → MayMake ledger view → IsSound layers ledger →
+        (request : GovernanceRequest) →
+        (ledger_book layers keys).govern ledger view request ≡ govern_result ledger view request }
     ensures signs { (layers : Layers) (keys : NodeKeys) (ledger : List Entry) (view : ℕ) →
-        view < 2 ^ 32 → MayMake layers ledger view → (node : NodeId) (leaf commit : ℕ) →
+        view < 2 ^ 32 → MayMake ledger view → (node : NodeId) (leaf commit : ℕ) →
         MakesValid layers keys node leaf ledger view commit →
-        member node (recorded_nodes layers ledger) ≡ true →
+        member node (recorded_nodes ledger) ≡ true →
         MayRecord (ledger_book layers keys) ledger commit →
         (ledger_book layers keys).sign node leaf ledger view commit
         ≡ signing_result keys node leaf ledger view commit }
@@ -107,25 +117,21 @@ pub fn is_unguarded()
 /// A node whose key the service's key endorses signs validly: by the test of signatures, and behind
 /// each ledger of its service, in an entry that has room for it.
 pub fn is_signed()
-    ensures valid { (keys : NodeKeys) (identity : List ℕ) (x : NodeId) (leaf : ℕ) (message : List ℕ) →
-        IsNodeKey keys identity x → leaf < leaf_count keys x →
+    ensures valid { (keys : NodeKeys) (identity : List ℕ) (x : NodeId) (leaf : ℕ)
+        (message : List ℕ) → IsNodeKey keys identity x → leaf < leaf_count keys x →
         node_signature_fault identity x message (node_signature keys x leaf message) ≡ None }
-    ensures makes { (request_in : List ℕ → Option GovernanceRequest) (keys : NodeKeys)
-        (identity : List ℕ) (x : NodeId) (leaf : ℕ) (ledger : List Entry) (view commit : ℕ) →
+    ensures makes { (keys : NodeKeys) (identity : List ℕ) (x : NodeId) (leaf : ℕ)
+        (ledger : List Entry) (view commit : ℕ) →
         IsNodeKey keys identity x → leaf < leaf_count keys x →
         identity_in (tables_of ledger) ≡ identity →
-        MakesValid (hss_layers request_in) keys x leaf ledger view commit }
+        MakesValid service_layers keys x leaf ledger view commit }
 {}
 
-/// What the tests of an entry's signature and of an endorsement mean by RFC 8554: a signature has no
-/// fault exactly where it is valid and by the node's key, and exactly endorsements are taken as such.
+/// What the test of an entry's signature means by RFC 8554: it has no fault exactly where it is valid
+/// and by the node's key.
 pub fn is_meant()
     ensures signature { (identity : List ℕ) (x : NodeId) (message signature : List ℕ) →
         length identity ≡ 60 → are_bytes identity ≡ true → are_bytes signature ≡ true →
         node_signature_fault identity x message signature ≡ None
         ↔ IsSignedBy identity x message signature }
-    ensures endorsement { (identity key endorsement : List ℕ) → length identity ≡ 60 →
-        are_bytes identity ≡ true → are_bytes endorsement ≡ true →
-        service_layers.is_endorsed identity key endorsement ≡ true
-        ↔ IsEndorsed identity key endorsement }
 {}

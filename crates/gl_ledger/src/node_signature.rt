@@ -3,9 +3,9 @@
 ghost use Rattle.std.specs.Prelude.{◌≡◌, Ok};
 ghost use Rattle.gl_ledger.specs.NodeKeys.{node_signature_fault, signer_fault};
 
-use crate::genesis::{HssPublicKey, LmsPublicKey};
 use gl_entry::NodeId;
 use gl_hss::{HssFault, last_key, verify};
+use gl_requests::{HssPublicKey, LmsPublicKey};
 use sha2::{Digest, Sha256};
 
 /// Why the key isn't the node's, whose identifier is its key's digest.

@@ -2,13 +2,12 @@
 
 ghost use Rattle.std.specs.Prelude.{◌≡◌, IfOk};
 ghost use Rattle.gl_tx.specs.Reading.{request_of};
-ghost use Rattle.gl_ledger.specs.Reading.{request_in};
-ghost use Rattle.gl_ledger.specs.NodeKeys.{service_layers};
+ghost use Rattle.gl_requests.specs.Reading.{request_in};
 ghost use Rattle.gl_ledger.specs.Recordings.{application_recording, governance_recording, recording_of};
 
-use crate::genesis::GovernanceRequest;
 use gl_base::OrNoMemory;
 use gl_entry::{Content, Digest, Signature};
+use gl_requests::GovernanceRequest;
 use gl_tx::Request;
 use std::alloc::{AllocError, Global};
 
@@ -51,7 +50,7 @@ fn application_recording(alloc: Global, bytes: &[u8]) -> Result<Option<Recording
 /// request spell none. Fails for want of memory alone.
 pub fn recording_of(alloc: Global, content: &Content) -> Result<Option<Recording>, AllocError>
     ensures recording { IfOk result (λ recording.
-        recording ≡ recording_of service_layers content.now) }
+        recording ≡ recording_of content.now) }
 {
     match content {
         Content::Governance(bytes) => governance_recording(alloc, bytes.as_slice()),

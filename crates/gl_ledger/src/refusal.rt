@@ -4,8 +4,9 @@ ghost use Rattle.std.specs.Prelude.{◌≡◌};
 ghost use Rattle.gl_base.specs.declared.or_no_memory.OrNoMemory.TheVariants.{Fault};
 ghost use Rattle.gl_ledger.specs.declared.refusal.Refusal.TheVariants.{Aborted};
 
-use crate::genesis::ServiceState;
 use gl_base::OrNoMemory;
+use gl_gov_rules::GovernanceRefusal;
+use gl_requests::ServiceState;
 use gl_tx::Abort;
 use thiserror::Error;
 
@@ -18,6 +19,9 @@ pub enum Refusal {
     /// An operation of the request failed.
     #[error("the request is aborted: {0}")]
     Aborted(Abort),
+    /// The request of governance isn't accepted.
+    #[error("the request of governance is refused: {0}")]
+    Governance(GovernanceRefusal),
     /// The entry's body, or else its reply, has so many bytes, which is more than 1 MiB.
     #[error("{size} bytes are more than 1 MiB")]
     TooLarge { size: u64 },

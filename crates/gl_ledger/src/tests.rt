@@ -1,147 +1,95 @@
-//! The bytes and the rows of a genesis against values worked out by hand, with digests by Python's
-//! hashlib.
+//! What entries record, by their bytes, and signatures under keys that seeds make.
 
-ghost use Rattle.std.specs.Prelude.{◌≡◌, true, IfOk};
-ghost use Rattle.gl_ledger.specs.Genesis.{is_genesis, HaveShortEndorsements};
-
-use crate::{
-    Dealing, Genesis, NewMember, NewNode, ServiceState, ShareDigest, genesis_bytes, genesis_writes,
-    state_byte,
-};
-use gl_base::{Bytes, Sequence};
-use gl_vmaps::Write;
+use crate::{Recording, node_signature_fault, recording_of};
+use gl_base::Bytes;
+use gl_entry::{Content, Signature};
+use gl_hss::{HssFault, HssPublic, HssSigner, Levels, LmsKey, Types};
+use gl_requests::GovernanceRequest;
+use sha2::{Digest, Sha256};
 use std::alloc::{AllocError, Global};
 use std::test::Fail;
 
-mod acceptance;
-mod decode;
-mod recording;
+/// `01` is put at the key `61` of the map `public:t`.
+const ONE_PUT: &[u8] = b"\x01\x00\x03\x08public:t\x01\x00a\x01\x00\x00\x00\x01";
 
-// The digest of 56 bytes 07.
-const NODE: [u8; 32] = [
-    0x84, 0x9e, 0x69, 0x94, 0xb0, 0x2d, 0x46, 0x06, 0x80, 0xd1, 0xd4, 0xd9, 0xed, 0x69, 0x0a, 0xa3,
-    0x58, 0x11, 0xc8, 0x80, 0x56, 0x98, 0x7e, 0x0b, 0x6c, 0xad, 0x0e, 0xb8, 0x5c, 0xb7, 0xd9, 0x8d,
-];
+/// The node of these 32 letters is marked.
+const MARK: &[u8] = b"\x04abcdefghijklmnopqrstuvwxyzabcdef";
 
-// An open service of one node, with an endorsement of one byte, and one member.
-fn genesis(alloc: Global) -> Result<Genesis, AllocError>
-    ensures fits { IfOk result (λ g. is_genesis g ≡ true) }
-    ensures endorsements { IfOk result (λ g. HaveShortEndorsements g.nodes) }
-{
-    let mut nodes = Vec::new(alloc);
-    nodes.push(NewNode {
-        key: [7; 56],
-        endorsement: Bytes::from(Vec::from_slice(alloc, &[0xaa])?),
-    })?;
-    let member = NewMember {
-        number: 1,
-        key: [3; 60],
-    };
-    let share = ShareDigest {
-        member: 1,
-        digest: [6; 32],
-    };
-    Ok(Genesis {
-        state: ServiceState::Open,
-        identity: [9; 60],
-        nodes: Sequence::from(nodes),
-        members: Sequence::from(Vec::from_slice(alloc, &[member])?),
-        dealing: Dealing {
-            threshold: 1,
-            secret_digest: [5; 32],
-            shares: Sequence::from(Vec::from_slice(alloc, &[share])?),
-        },
-    })
-}
-
-// The bytes that these runs of a byte make.
-fn runs(alloc: Global, runs: &[(u8, usize)]) -> Result<Vec<u8>, AllocError> {
-    let mut bytes = Vec::new(alloc);
-    for (byte, count) in runs {
-        for _ in 0..*count {
-            bytes.push(*byte)?;
-        }
-    }
-    Ok(bytes)
+fn bytes(alloc: Global, bytes: &[u8]) -> Result<Bytes, AllocError> {
+    Ok(Bytes::from(Vec::from_slice(alloc, bytes)?))
 }
 
 #[test]
-fn spells_a_genesis(rt: HostRuntime) -> Result<(), Fail> {
+fn reads_what_is_recorded(rt: HostRuntime) -> Result<(), Fail> {
     let alloc = rt.alloc();
-    let spelled = [
-        (1, 1),
-        (2, 1),
-        (9, 60),
-        (1, 1),
-        (7, 56),
-        (1, 1),
-        (0, 3),
-        (0xaa, 1),
-        (1, 1),
-        (1, 1),
-        (3, 60),
-        (1, 1),
-        (5, 32),
-        (1, 1),
-        (1, 1),
-        (6, 32),
-    ];
-    let bytes = genesis_bytes(alloc, &genesis(alloc)?)?;
-    assert!(rt; bytes.as_slice() == runs(alloc, &spelled)?.as_slice());
-    assert_eq!(rt; state_byte(ServiceState::Opening), 1);
-    assert_eq!(rt; state_byte(ServiceState::Open), 2);
+    let mark = Content::Governance(bytes(alloc, MARK)?);
+    let Some(Recording::Governance(GovernanceRequest::Mark(node))) = recording_of(alloc, &mark)?
+    else {
+        panic!(rt; "no mark");
+    };
+    assert_eq!(rt; node.as_slice(), &MARK[1..]);
+    let put = Content::Application(bytes(alloc, ONE_PUT)?);
+    let Some(Recording::Application(request)) = recording_of(alloc, &put)? else {
+        panic!(rt; "no request");
+    };
+    assert_eq!(rt; request.as_slice().len(), 1);
+    let signature = Content::Signature(Signature {
+        node: [1; 32],
+        commit: 7,
+        root: [2; 32],
+        signature: bytes(alloc, &[3, 3, 3, 3, 3])?,
+    });
+    let Some(Recording::Signature(signature)) = recording_of(alloc, &signature)? else {
+        panic!(rt; "no signature");
+    };
+    assert_eq!(rt; (signature.node, signature.commit), ([1; 32], 7));
+    assert_eq!(rt; signature.signature.as_slice(), [3; 5].as_slice());
+    let evidence = recording_of(alloc, &Content::Evidence([4; 32]))?;
+    assert!(rt; matches!(evidence, Some(Recording::Evidence(digest)) if digest == [4; 32]));
     Ok(())
 }
 
-fn is_row(write: Option<&Write>, map: &[u8], key: &[u8], value: &[u8]) -> bool {
-    match write {
-        None => false,
-        Some(write) => match &write.value {
-            None => false,
-            Some(written) => {
-                write.map.as_slice() == map
-                    && write.key.as_slice() == key
-                    && written.as_slice() == value
-            }
-        },
+#[test]
+fn reads_nothing_from_other_bytes(rt: HostRuntime) -> Result<(), Fail> {
+    let alloc = rt.alloc();
+    let unread = [
+        Content::Governance(bytes(alloc, &MARK[..32])?),
+        Content::Governance(bytes(alloc, ONE_PUT)?),
+        Content::Application(bytes(alloc, &ONE_PUT[1..])?),
+        Content::Application(bytes(alloc, &[])?),
+    ];
+    for content in &unread {
+        assert!(rt; recording_of(alloc, content)?.is_none(), "{content:?}");
     }
+    Ok(())
 }
 
 #[test]
-fn makes_the_rows_of_a_genesis(rt: HostRuntime) -> Result<(), Fail> {
+fn tells_who_signed(rt: HostRuntime) -> Result<(), Fail> {
     let alloc = rt.alloc();
-    let writes = genesis_writes(alloc, &genesis(alloc)?)?;
-    let rows: [(&[u8], &[u8], &[(u8, usize)]); 5] = [
-        (
-            b"public:ccf.gov.constitution",
-            &[7],
-            &[(1, 1), (0, 1), (2, 1), (0, 1)],
-        ),
-        (
-            b"public:ccf.gov.dealing",
-            b"d",
-            &[(1, 1), (5, 32), (1, 1), (1, 1), (6, 32)],
-        ),
-        (b"public:ccf.gov.members", &[1], &[(1, 1), (3, 60), (0, 4)]),
-        (
-            b"public:ccf.gov.nodes",
-            &NODE,
-            &[
-                (1, 1),
-                (0, 1),
-                (2, 1),
-                (7, 56),
-                (1, 1),
-                (0, 3),
-                (0xaa, 1),
-                (0, 8),
-            ],
-        ),
-        (b"public:ccf.gov.service", b"s", &[(2, 1), (0, 1), (9, 60)]),
-    ];
-    assert_eq!(rt; writes.as_slice().len(), 11);
-    for (i, (map, key, value)) in rows.iter().enumerate() {
-        assert!(rt; is_row(writes.as_slice().get(i + 6), map, key, &runs(alloc, value)?));
-    }
+    let service = LmsKey::make(alloc, [1; 32], Types::H5W4)?;
+    let identity = service.hss_public(Levels::Two);
+    let key = LmsKey::make(alloc, [2; 32], Types::H5W4)?;
+    let node = Sha256::digest(&key.public());
+    let endorsement = service.sign_leaf(0, &key.public())?;
+    let mut signer = HssSigner::new(key, Some(endorsement), 0);
+    signer.reserve()?;
+    let signature = signer.signature(b"this")?;
+    let fault = node_signature_fault(&identity, &node, b"this", &signature);
+    assert_eq!(rt; fault, None);
+    let other = [9; 32];
+    let fault = node_signature_fault(&identity, &other, b"this", &signature);
+    let root = HssFault::Root {
+        want: other,
+        got: node,
+    };
+    assert_eq!(rt; fault, Some(root));
+    let fault = node_signature_fault(&identity, &other, b"that", &signature);
+    assert!(rt; matches!(fault, Some(HssFault::Root { want, .. }) if want != other));
+    let levels = Some(HssFault::Levels { want: 1, got: 0 });
+    assert_eq!(rt;
+        node_signature_fault(&identity, &node, b"", &[0; 6000]),
+        levels
+    );
     Ok(())
 }

@@ -10,22 +10,16 @@ use Rattle.gl_rules.proofs.Ids.{same_self}
 use Rattle.gl_safety.proofs.Membership.{leaders_may_record}
 use Rattle.gl_safety.proofs.Prefixes.{prefix}
 use Rattle.gl_tx.specs.declared.request.Operation.{Operation}
-use Rattle.gl_entry.specs.Entry.{body_bytes}
 use Rattle.gl_entry.specs.declared.entry.Entry.{Entry}
-use Rattle.gl_ledger.specs.Genesis.{is_governance_request}
-use Rattle.gl_ledger.specs.Effect.{Recorded}
-use Rattle.gl_ledger.specs.Ledger.{within_size, within_seqnos}
-use Rattle.gl_ledger.specs.declared.breach.GenesisFault.{GenesisFault}
-use Rattle.gl_ledger.specs.declared.breach.GenesisFault.TheVariants as faults
-use Rattle.gl_ledger.specs.declared.genesis.GovernanceRequest.{GovernanceRequest}
-use Rattle.gl_ledger.specs.declared.genesis.GovernanceRequest.TheVariants as requests
+use Rattle.gl_requests.specs.declared.request.GovernanceRequest.{GovernanceRequest}
 use Rattle.gl_ledger.specs.Layers.{Layers}
 use Rattle.gl_ledger.specs.NodeKeys.{NodeKeys}
-use Rattle.gl_ledger.specs.Recordings.{requests_of, nodes_of, recorded_nodes}
-use Rattle.gl_ledger.specs.Acceptance.{request_fault}
+use Rattle.gl_ledger.specs.Recordings.{recorded_nodes}
 use Rattle.gl_ledger.specs.Broken.{is_unopened, is_later_commit, may_record}
-use Rattle.gl_ledger.specs.Makers.{MakesValid, by_store, guarded, request_result, signing_result, Given, Governed, Unspelled, unless_fault, governance_entry, govern_result}
+use Rattle.gl_ledger.specs.Makers.{MakesValid, request_result, signing_result, govern_result}
 use Rattle.gl_ledger.specs.LedgerBook.{ledger_book}
+use Rattle.gl_ledger.proofs.Governed.{followed}
+use Rattle.gl_ledger.proofs.Governing.{govern_is}
 use Rattle.gl_ledger.proofs.Lawful.{lawful}
 use Rattle.gl_ledger.proofs.Making.{execute_is, may_go_on}
 use Rattle.gl_ledger.proofs.Signing.{sign_is, may_make, configured_recorded}
@@ -58,15 +52,15 @@ module _ (layers : Layers) (keys : NodeKeys) (s : Start Entry) (opening : IsOpen
   may : MayRecord (ledger_book layers keys) n.log n.commit
   may = at_end (λ m. MayRecord (ledger_book layers keys) m.log m.commit) (all.commit (length events) x leads_there)
 
-  pub recorded : member x (recorded_nodes layers n.log) ≡ true
+  pub recorded : member x (recorded_nodes n.log) ≡ true
   recorded = configured_recorded layers keys x n.log (at_end (λ m. IsConfigured (ledger_book layers keys) x m.log) (all.configured first (length events) x leads_there))
 
   -- what the rules of consensus let it record, the audit lets it record
-  pub records : may_record layers n.log n.commit ≡ true
+  pub records : may_record n.log n.commit ≡ true
   records =
       let m = may_make layers keys n.log n.view n.commit follows views may in
-      ap (λ (o : Option Entry). if is_unopened layers o then n.commit == length n.log + 1 else is_later_commit layers n.log n.commit) m.is_last
-      ∙ ap (λ (b : Bool). if b then n.commit == length n.log + 1 else is_later_commit layers n.log n.commit) m.behind
+      ap (λ (o : Option Entry). if is_unopened o then n.commit == length n.log + 1 else is_later_commit n.log n.commit) m.is_last
+      ∙ ap (λ (b : Bool). if b then n.commit == length n.log + 1 else is_later_commit n.log n.commit) m.behind
       ∙ may_go_on layers keys n.log n.commit may
 
   four_bytes : n.view < 2 ^ 32
@@ -108,25 +102,6 @@ module _ (layers : Layers) (keys : NodeKeys) (s : Start Entry) (opening : IsOpen
   pub leader_signs : (leaf : ℕ) → MakesValid layers keys x leaf n.log n.view n.commit → (ledger_book layers keys).sign x leaf n.log n.view n.commit ≡ signing_result keys x leaf n.log n.view n.commit
   leader_signs leaf valid = sign_is layers keys n.log n.view n.commit four_bytes (may_make layers keys n.log n.view n.commit follows views may) x leaf recorded may valid
 
-  -- for now a leader refuses each request of governance, as it doesn't come first
-  pub leader_governs : (g : GovernanceRequest) → (ledger_book layers keys).govern n.log n.view g ≡ govern_result layers n.log n.view g
-  unfolding recorded_nodes
-  leader_governs g = go (is_governance_request g) (request_fault layers (requests_of layers n.log) g) (not_first (requests_of layers n.log) g some_recorded)
-    where
-      e : Entry
-      e = governance_entry layers g n.log n.view
-
-      some_recorded : member x (nodes_of (requests_of layers n.log)) ≡ true
-      some_recorded = recorded
-
-      not_first : (rs : List Recorded) (g : GovernanceRequest) → member x (nodes_of rs) ≡ true → request_fault layers rs g ≡ Some faults.NotFirst
-      not_first [] g h = absurd (cc)
-      not_first (r ∷ rs) (requests.Genesis g) h = refl
-
-      go : (t : Bool) (o : Option GenesisFault) → o ≡ Some faults.NotFirst →
-          guarded layers (λ (made : Entry × Given). made.0) n.log
-          (if t then unless_fault o (by_store (within_size (length (body_bytes e)) (within_seqnos n.log (e, Governed)))) else Err Unspelled)
-          ≡ (if t then unless_fault o (by_store (within_size (length (body_bytes e)) (within_seqnos n.log (e, Governed)))) else Err Unspelled)
-      go false o h = refl
-      go true None h = absurd (cc)
-      go true (Some fault) h = refl
+  pub leader_governs : (g : GovernanceRequest) → (ledger_book layers keys).govern n.log n.view g ≡ govern_result n.log n.view g
+  leader_governs g =
+      govern_is layers keys n.log n.view four_bytes (may_make layers keys n.log n.view n.commit follows views may) (followed layers keys n.log follows) g

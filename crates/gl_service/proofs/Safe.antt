@@ -4,7 +4,7 @@ use Rattle.gl_rules.specs.World.{Start}
 use Rattle.gl_rules.specs.Safety.{IsSafe}
 use Rattle.gl_safety.proofs.AnySoundness.{safe_for}
 use Rattle.gl_entry.specs.declared.entry.Entry.{Entry}
-use Rattle.gl_ledger.specs.Layers.{Layers, ReadsSpellings}
+use Rattle.gl_ledger.specs.Layers.{Layers}
 use Rattle.gl_ledger.specs.NodeKeys.{NodeKeys}
 use Rattle.gl_ledger.specs.Sound.{IsSound}
 use Rattle.gl_ledger.specs.LedgerBook.{ledger_book}
@@ -14,8 +14,8 @@ use Rattle.gl_ledger.proofs.Sounding.{sound-push, sound_empty}
 use Rattle.gl_ledger.proofs.Opened.{begins_opening}
 use Rattle.gl_service.specs.Service.{ServiceEvent}
 
-pub begins_safe : (layers : Layers) (keys : NodeKeys) → ReadsSpellings layers → (s : Start Entry) → Begins layers s → (events : List ServiceEvent) → IsSafe (ledger_book layers keys) (IsSound layers) s events
-begins_safe layers keys readings s h events =
+pub begins_safe : (layers : Layers) (keys : NodeKeys) → (s : Start Entry) → Begins layers s → (events : List ServiceEvent) → IsSafe (ledger_book layers keys) (IsSound layers) s events
+begins_safe layers keys s h events =
     safe_for (ledger_book layers keys) (IsSound layers) (sound_empty layers)
-    (λ log e each sound one. sound-push layers readings log e sound (unbroken layers keys log e one))
+    (λ log e each sound one. sound-push layers log e sound (unbroken layers keys log e one))
     (begins_opening layers keys s h) (lawful layers keys) events

@@ -6,7 +6,7 @@ use Rattle.gl_rules.specs.World.{Start, Event}
 use Rattle.gl_rules.specs.Safety.{node_after}
 use Rattle.gl_tx.specs.declared.request.Operation.{Operation}
 use Rattle.gl_entry.specs.declared.entry.Entry.{Entry}
-use Rattle.gl_ledger.specs.declared.genesis.GovernanceRequest.{GovernanceRequest}
+use Rattle.gl_requests.specs.declared.request.GovernanceRequest.{GovernanceRequest}
 use Rattle.gl_ledger.specs.Layers.{Layers}
 use Rattle.gl_ledger.specs.NodeKeys.{NodeKeys}
 use Rattle.gl_ledger.specs.LedgerBook.{Reads, ledger_book}

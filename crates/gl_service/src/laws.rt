@@ -6,8 +6,8 @@ ghost use Rattle.gl_entry.specs.declared.entry.Entry.{Entry};
 ghost use Rattle.gl_rules.specs.Identity.{NodeId, member};
 ghost use Rattle.gl_rules.specs.Safety.{IsSafe};
 ghost use Rattle.gl_rules.specs.World.{Start};
-ghost use Rattle.gl_ledger.specs.declared.genesis.GovernanceRequest.{GovernanceRequest};
-ghost use Rattle.gl_ledger.specs.Layers.{Layers, ReadsSpellings};
+ghost use Rattle.gl_requests.specs.declared.request.GovernanceRequest.{GovernanceRequest};
+ghost use Rattle.gl_ledger.specs.Layers.{Layers};
 ghost use Rattle.gl_ledger.specs.NodeKeys.{NodeKeys};
 ghost use Rattle.gl_ledger.specs.Recordings.{recorded_nodes};
 ghost use Rattle.gl_ledger.specs.Broken.{may_record};
@@ -20,14 +20,12 @@ ghost use Rattle.gl_service.specs.Service.{Leads, ServiceEvent, node_of};
 /// A service that begins with a ledger which the check of an opening takes is safe: its committed
 /// ledgers are sound.
 pub fn is_safe()
-    ensures safe { (layers : Layers) (keys : NodeKeys) → ReadsSpellings layers →
-        (s : Start Entry) → Begins layers s → (events : List ServiceEvent) →
-        IsSafe (ledger_book layers keys) (IsSound layers) s events }
+    ensures safe { (layers : Layers) (keys : NodeKeys) (s : Start Entry) → Begins layers s →
+        (events : List ServiceEvent) → IsSafe (ledger_book layers keys) (IsSound layers) s events }
 {}
 
-/// For a rule of the audit the book refuses a leader nothing: no request, and no valid signature.
-/// For now each request of governance is refused for another reason: a genesis comes first or not
-/// at all.
+/// For a rule of the audit the book refuses a leader nothing: no request, of an application or of
+/// governance, and no valid signature.
 pub fn is_unguarded()
     ensures executes { (layers : Layers) (keys : NodeKeys) (s : Start Entry) → Begins layers s →
         (events : List ServiceEvent) (x : NodeId) → Leads layers keys s events x →
@@ -38,7 +36,7 @@ pub fn is_unguarded()
         (events : List ServiceEvent) (x : NodeId) → Leads layers keys s events x →
         (request : GovernanceRequest) → let n = node_of layers keys s events x in
         (ledger_book layers keys).govern n.log n.view request
-        ≡ govern_result layers n.log n.view request }
+        ≡ govern_result n.log n.view request }
     ensures signs { (layers : Layers) (keys : NodeKeys) (s : Start Entry) → Begins layers s →
         (events : List ServiceEvent) (x : NodeId) → Leads layers keys s events x →
         (leaf : ℕ) → let n = node_of layers keys s events x in
@@ -51,9 +49,9 @@ pub fn is_unguarded()
 pub fn may_sign()
     ensures recorded { (layers : Layers) (keys : NodeKeys) (s : Start Entry) → Begins layers s →
         (events : List ServiceEvent) (x : NodeId) → Leads layers keys s events x →
-        member x (recorded_nodes layers (node_of layers keys s events x).log) ≡ true }
+        member x (recorded_nodes (node_of layers keys s events x).log) ≡ true }
     ensures commit { (layers : Layers) (keys : NodeKeys) (s : Start Entry) → Begins layers s →
         (events : List ServiceEvent) (x : NodeId) → Leads layers keys s events x →
-        may_record layers (node_of layers keys s events x).log (node_of layers keys s events x).commit
+        may_record (node_of layers keys s events x).log (node_of layers keys s events x).commit
         ≡ true }
 {}

@@ -14,12 +14,12 @@ use Rattle.gl_tx.specs.declared.request.Operation.{Operation}
 use Rattle.gl_tx.specs.declared.request.Answer.{Answer}
 use Rattle.gl_tx.specs.declared.abort.Abort.{Abort}
 use Rattle.gl_entry.specs.declared.entry.Entry.{Entry}
-use Rattle.gl_ledger.specs.Effect.{service_state}
+use Rattle.gl_ledger.specs.ServiceRow.{service_state}
 use Rattle.gl_ledger.specs.Tree.{tables_of}
 use Rattle.gl_ledger.specs.Ledger.{signature_entry, execute_result, execute_in, run_result}
 use Rattle.gl_ledger.specs.Makers.{by_store, request_result}
-use Rattle.gl_ledger.specs.declared.genesis.ServiceState.{ServiceState}
-use Rattle.gl_ledger.specs.declared.genesis.ServiceState.TheVariants.{Open}
+use Rattle.gl_requests.specs.declared.genesis.ServiceState.{ServiceState}
+use Rattle.gl_requests.specs.declared.genesis.ServiceState.TheVariants.{Open}
 use Rattle.gl_ledger.specs.declared.refusal.Refusal.{Refusal}
 use Rattle.gl_ledger.specs.declared.refusal.Refusal.TheVariants as refusals
 use Rattle.gl_ledger.proofs.Applications.{request_made, request_refused}

@@ -25,12 +25,12 @@ use Rattle.gl_entry.specs.declared.entry.Content.{Content}
 use Rattle.gl_entry.specs.declared.entry.Content.TheVariants as content
 use Rattle.gl_entry.specs.declared.entry.Entry.{Entry}
 use Rattle.gl_entry.specs.declared.entry.Signature as signatures
-use Rattle.gl_ledger.specs.Effect.{identity_in}
+use Rattle.gl_ledger.specs.ServiceRow.{identity_in}
 use Rattle.gl_ledger.specs.Layers.{Layers}
 use Rattle.gl_ledger.specs.Recordings.{records_founding, recording_of}
 use Rattle.gl_ledger.specs.Sound.{StandsAs, IsSound}
 use Rattle.gl_ledger.specs.Tree.{tables_of, leaves_of}
-use Rattle.gl_ledger.proofs.GenesisFields.{sized_length}
+use Rattle.gl_requests.proofs.Sizes.{sized_length}
 use Rattle.gl_ledger.proofs.TablesLaws.{length-leaves_of}
 use Rattle.gl_receipt.specs.Law.{AreSized, AreBound, HaveOneDigest, input_of}
 use Rattle.gl_receipt.specs.Made.{entry_at, components_of}
@@ -200,7 +200,7 @@ module _ (layers : Layers) (ledger : List Entry) (count : ℕ) (e : Entry) (s : 
   founds_none : count ≡ 0 → ⊥
   founds_none zeroth =
       let first = (sound.founded.first e (subst (λ (n : ℕ). slice_get ledger n ≡ Some e) zeroth at)).0 in
-      false≢true (subst (λ (c : Content). records_founding (recording_of layers c) ≡ true) signs first)
+      false≢true (subst (λ (c : Content). records_founding (recording_of c) ≡ true) signs first)
 
   root_signed : s.root ≡ merkle.root_of (leaves_of (take count ledger))
   root_signed = (subst (λ (c : Content). StandsAs layers c (take count ledger) e) signs (sound.serial count e at)).root

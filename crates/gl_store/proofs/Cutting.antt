@@ -1,15 +1,24 @@
--- What a cut leaves of a ledger: its writes up to there, its leaves, that it breaks no rule, and the signatures below.
-use Rattle.std.proofs.Common.{◌≡◌, ℕ, zero, suc, ◌+◌, ◌<◌, ◌≤◌, nat_le, List, [], ◌∷◌, ◌++◌, take, slice_get, Some, None, true, false, cond, refl, sym, ◌∙◌, ap, ap₂, arith}
+-- What a cut leaves of a ledger: its writes up to there, its requests of governance, its leaves, that it breaks no rule, and the signatures below.
+use Rattle.std.proofs.Common.{◌≡◌, ℕ, zero, suc, ◌+◌, ◌-◌, ◌<◌, ◌≤◌, nat_le, List, [], ◌∷◌, ◌++◌, take, slice_get, Option, Some, None, true, false, cond, refl, sym, ◌∙◌, ap, ap₂, arith}
 use Rattle.std.proofs.lemmas.Bool.Decides.{nat_tests}
-use Rattle.std.proofs.lemmas.List.{take-take}
+use Rattle.std.specs.List.{AllByRecursion}
+use Rattle.std.proofs.lemmas.List.{take-take, append-nil}
 use Rattle.std.proofs.lemmas.List.Elements.{filter-append}
 use Rattle.gl_base.proofs.Lists.{slice_get-take, slice_get-of_take}
 use Rattle.gl_vmaps.specs.Tables.{Tables, no_tables, wrote_all}
 use Rattle.gl_vmaps.specs.Versions.{Placed, placed_at, up_to}
 use Rattle.gl_vmaps.specs.declared.write.Write.{Write}
 use Rattle.gl_entry.specs.Leaf.{leaf_of}
+use Rattle.gl_entry.specs.declared.entry.Content.{Content}
+use Rattle.gl_entry.specs.declared.entry.Content.TheVariants as content
 use Rattle.gl_entry.specs.declared.entry.Entry.{Entry}
-use Rattle.gl_ledger.specs.Effect.{identity_in}
+use Rattle.gl_requests.specs.Reading.{request_in}
+use Rattle.gl_requests.specs.declared.request.GovernanceRequest.{GovernanceRequest}
+use Rattle.gl_gov_rules.specs.declared.change.Recorded.{Recorded}
+use Rattle.gl_gov_rules.specs.Governed as governed
+use Rattle.gl_gov_rules.proofs.RequestsUpTo.{up_to-all}
+use Rattle.gl_ledger.specs.Recordings.{recorded_at, recorded_in, requests_from, requests_of}
+use Rattle.gl_ledger.specs.ServiceRow.{identity_in}
 use Rattle.gl_ledger.specs.Tree.{writes_of, leaves_from, leaves_of}
 use Rattle.gl_ledger.specs.Serial.{IsLedger}
 use Rattle.gl_ledger.specs.Signed.{IsSignedUpTo}
@@ -60,6 +69,59 @@ writes_from-take n (e ∷ es) (suc to) count =
 pub writes_of-take : (ledger : List Entry) (to : ℕ) → IsLedger ledger → writes_of (take to ledger) ≡ up_to to (writes_of ledger)
 writes_of-take ledger to h =
     writes_from-take 0 ledger to (λ i e at. h.seqnos i e at ∙ omega arith) ∙ ap (λ (k : ℕ). up_to k (writes_of ledger)) (omega arith)
+
+-- ---- requests of governance
+
+-- an entry's request has the entry's seqno
+recorded_within : (to seqno : ℕ) (c : Content) → seqno ≤ to → governed.up_to to (recorded_in seqno c) ≡ recorded_in seqno c
+recorded_within to seqno (content.Governance bytes) low = go (request_in bytes)
+  where
+    go : (o : Option GovernanceRequest) → governed.up_to to (recorded_at seqno o) ≡ recorded_at seqno o
+    go None = refl
+    go (Some g) = let here : nat_le seqno to ≡ true = grind (arith, nat_tests, low) in let r : Recorded = record { seqno = seqno; request = g } in ap (λ b. cond b (r ∷ []) []) here
+recorded_within to seqno (content.Application bytes) low = refl
+recorded_within to seqno (content.Signature s) low = refl
+recorded_within to seqno (content.Evidence d) low = refl
+
+recorded_above : (to seqno : ℕ) (c : Content) → to < seqno → governed.up_to to (recorded_in seqno c) ≡ []
+recorded_above to seqno (content.Governance bytes) high = go (request_in bytes)
+  where
+    go : (o : Option GovernanceRequest) → governed.up_to to (recorded_at seqno o) ≡ []
+    go None = refl
+    go (Some g) = let here : nat_le seqno to ≡ false = grind (arith, nat_tests, high) in let r : Recorded = record { seqno = seqno; request = g } in ap (λ b. cond b (r ∷ []) []) here
+recorded_above to seqno (content.Application bytes) high = refl
+recorded_above to seqno (content.Signature s) high = refl
+recorded_above to seqno (content.Evidence d) high = refl
+
+both_requests : (to n : ℕ) (e : Entry) (es : List Entry) → governed.up_to to (requests_from n (e ∷ es)) ≡ governed.up_to to (recorded_in n e.content) ++ governed.up_to to (requests_from (suc n) es)
+both_requests to n e es = filter-append (λ (r : Recorded). nat_le r.seqno to) (recorded_in n e.content) (requests_from (suc n) es)
+
+none_up_to : (n to : ℕ) (es : List Entry) → to < n → governed.up_to to (requests_from n es) ≡ []
+none_up_to n to [] low = refl
+none_up_to n to (e ∷ es) low =
+    both_requests to n e es ∙ ap₂ (λ (rs qs : List Recorded). rs ++ qs) (recorded_above to n e.content low) (none_up_to (suc n) to es (omega (arith, low)))
+
+requests_from-take : (n : ℕ) (es : List Entry) (to : ℕ) → requests_from (suc n) (take to es) ≡ governed.up_to (n + to) (requests_from (suc n) es)
+requests_from-take n es zero = sym (none_up_to (suc n) (n + 0) es (omega arith))
+requests_from-take n [] (suc to) = refl
+requests_from-take n (e ∷ es) (suc to) =
+    ap₂ (λ (rs qs : List Recorded). rs ++ qs) (sym (recorded_within (n + suc to) (suc n) e.content (omega arith)))
+    (requests_from-take (suc n) es to ∙ ap (λ (k : ℕ). governed.up_to k (requests_from (suc (suc n)) es)) (omega arith))
+    ∙ sym (both_requests (n + suc to) (suc n) e es)
+
+-- the requests of a cut ledger are those up to its length
+pub requests_of-take : (ledger : List Entry) (to : ℕ) → requests_of (take to ledger) ≡ governed.up_to to (requests_of ledger)
+requests_of-take ledger to = requests_from-take 0 ledger to ∙ ap (λ (k : ℕ). governed.up_to k (requests_of ledger)) (omega arith)
+
+-- a request with this seqno goes where those before it are below
+pub taken_back : (seqno : ℕ) (rs : List Recorded) (c : Content) → 0 < seqno → governed.IsAbove seqno rs → governed.up_to (seqno - 1) (rs ++ recorded_in seqno c) ≡ rs
+taken_back seqno rs c some all =
+    filter-append (λ (r : Recorded). nat_le r.seqno (seqno - 1)) rs (recorded_in seqno c)
+    ∙ ap₂ (λ (xs ys : List Recorded). xs ++ ys) (up_to-all (seqno - 1) rs (below rs all)) (recorded_above (seqno - 1) seqno c (omega (arith, some))) ∙ append-nil rs
+  where
+    below : (qs : List Recorded) → governed.IsAbove seqno qs → AllByRecursion (λ (r : Recorded). r.seqno ≤ seqno - 1) qs
+    below [] low = tt
+    below (q ∷ qs) low = (omega (arith, low.0, some), below qs low.1)
 
 -- ---- leaves
 

@@ -7,10 +7,12 @@ use Rattle.gl_tx.specs.declared.request.Answer.{Answer}
 use Rattle.gl_entry.specs.declared.entry.Entry.{Entry}
 use Rattle.gl_ledger.specs.Ledger.{HasViewsUpTo}
 use Rattle.gl_ledger.specs.Signed.{IsSignedAt}
+use Rattle.gl_requests.specs.declared.request.GovernanceRequest.{GovernanceRequest}
 use Rattle.gl_ledger.proofs.Applications.{execute_ok, request_ok}
 use Rattle.gl_ledger.proofs.Following.{book_sign_ok, up_to-push, signature-last}
 use Rattle.gl_store.specs.Kept.{Held}
-use Rattle.gl_store.specs.Calls.{Executes, Signs, signature_of}
+use Rattle.gl_store.specs.Calls.{Executes, Governs, Signs, signature_of}
+use Rattle.gl_store.proofs.Governing.{govern_ok}
 
 -- what a call left may be followed in the view of the call
 pub up_to-signed : (old new : Held) (node : List ℕ) (signer : Signer) (view : ℕ) (id : TxId) → HasViewsUpTo view old.ledger → Signs old node signer view id new → HasViewsUpTo view new.ledger
@@ -24,6 +26,11 @@ pub up_to-executed : (old new : Held) (view : ℕ) (q : List Operation) (id : Tx
 up_to-executed old new view q id reply up done =
     let made = execute_ok old.ledger view q done.entry reply (request_ok old.ledger view q done.entry reply done.made).1 in
     let low : done.entry.view ≤ view = subst (λ (x : Entry). x.view ≤ view) (sym made.3) (omega arith) in
+    subst (λ (h : Held). HasViewsUpTo view h.ledger) (sym done.enters.entered) (up_to-push old.ledger done.entry view up low)
+
+pub up_to-governed : (old new : Held) (view : ℕ) (g : GovernanceRequest) (id : TxId) → HasViewsUpTo view old.ledger → Governs old view g id new → HasViewsUpTo view new.ledger
+up_to-governed old new view g id up done =
+    let low : done.entry.view ≤ view = let same = govern_ok old.ledger view g done.entry done.made in subst (λ (x : Entry). x.view ≤ view) (sym same) (omega arith) in
     subst (λ (h : Held). HasViewsUpTo view h.ledger) (sym done.enters.entered) (up_to-push old.ledger done.entry view up low)
 
 -- a signature that was made stands at its seqno

@@ -19,7 +19,7 @@ use Rattle.gl_vmaps.specs.Tables.{Tables, wrote_all}
 use Rattle.gl_vmaps.specs.Versions.{written_behind}
 use Rattle.gl_entry.specs.Leaf.{id_of}
 use Rattle.gl_entry.specs.declared.entry.Entry.{Entry}
-use Rattle.gl_ledger.specs.Effect.{identity_in}
+use Rattle.gl_ledger.specs.ServiceRow.{identity_in}
 use Rattle.gl_ledger.specs.Tree.{writes_of, leaves_from}
 use Rattle.gl_receipt.specs.Law.{AreSized, input_of}
 use Rattle.gl_receipt.specs.Made.{components_of}

@@ -1,10 +1,15 @@
 pub mod TablesLaws
 pub mod Recorded
+pub mod Counted
 pub mod SignatureSeqnos
 pub mod Serving
 pub mod Cutting
 pub mod Applications
+pub mod Governing
+pub mod Nodes
 pub mod Keeping
+pub mod Unbroken
+pub mod RuleTests
 pub mod OpeningLedgers
 pub mod Following
 pub mod InForce
@@ -12,4 +17,3 @@ pub mod Spellings
 pub mod Hashed
 pub mod Binding
 pub mod OfService
-pub mod RowReading

@@ -1,7 +1,5 @@
 -- A sound ledger is one of the service whose key is in force in it.
-use Rattle.std.proofs.Common.{◌≡◌, ℕ, zero, suc, ◌+◌, ◌-◌, ◌^◌, ◌<◌, ◌≤◌, nat_lt, nat_le, true, ◌==◌, ◌&&◌, List, [], ◌∷◌, length, map, take, slice_get, Some, None, refl, sym, ap, ap₂, subst, ◌∙◌, arith}
-use Rattle.std.specs.List.{AllByRecursion}
-use Rattle.std.specs.FinMap as rows
+use Rattle.std.proofs.Common.{◌≡◌, ℕ, zero, suc, ◌+◌, ◌-◌, ◌^◌, ◌<◌, ◌≤◌, nat_lt, nat_le, true, ◌==◌, ◌&&◌, List, length, map, take, slice_get, Some, None, refl, sym, ap, ap₂, subst, ◌∙◌, arith}
 use Rattle.std.proofs.lemmas.Bool.{and_parts, false≢true}
 use Rattle.std.proofs.lemmas.Bool.Decides.{nat_tests}
 use Rattle.std.proofs.lemmas.List.{length-take-le}
@@ -10,7 +8,6 @@ use Rattle.gl_base.specs.TxId.{IsTxId, last_seqno}
 use Rattle.gl_base.proofs.Lists.{slice_get-within, slice_get-below}
 use Rattle.gl_merkle.specs.Tree.{root_of}
 use Rattle.gl_hss.specs.Hss.{IsValid}
-use Rattle.gl_vmaps.specs.Tables.{Tables, Rows, no_tables, wrote_all}
 use Rattle.gl_entry.specs.Entry.{is_signature, is_recorded_signature, is_content, recorded_commit}
 use Rattle.gl_entry.specs.Leaf.{id_of, leaf_of}
 use Rattle.gl_entry.specs.SignedMessage.{signed_message}
@@ -18,18 +15,15 @@ use Rattle.gl_entry.specs.declared.entry.Content.{Content}
 use Rattle.gl_entry.specs.declared.entry.Content.TheVariants as content
 use Rattle.gl_entry.specs.declared.entry.Entry.{Entry}
 use Rattle.gl_entry.specs.declared.entry.Signature as signatures
-use Rattle.gl_ledger.specs.Genesis.{service_map, service_key}
-use Rattle.gl_ledger.specs.Effect.{identity_of_value, identity_in}
-use Rattle.gl_ledger.specs.Tree.{tables_of, leaves_from, leaves_of}
+use Rattle.gl_ledger.specs.ServiceRow.{identity_in}
+use Rattle.gl_ledger.specs.Tree.{tables_of, leaves_of}
 use Rattle.gl_ledger.specs.NodeKeys.{node_signature_fault, service_layers}
 use Rattle.gl_ledger.specs.Recordings.{records_founding, recording_of}
 use Rattle.gl_ledger.specs.Sound.{StandsAs, IsSignatureEntry, IsSound}
 use Rattle.gl_ledger.specs.Audit.{audited}
 use Rattle.gl_ledger.proofs.Auditing.{audited_none}
 use Rattle.gl_ledger.proofs.Passing.{passing}
-use Rattle.gl_ledger.proofs.GovernanceReadings.{service_reads}
 use Rattle.gl_ledger.proofs.Valid.{valid_sound}
-use Rattle.gl_ledger.proofs.Growth.{IsOutside, untouched}
 use Rattle.gl_ledger.proofs.Sounding.{fits_parts}
 use Rattle.gl_ledger.proofs.SignatureMeanings.{signature_means}
 use Rattle.gl_receipt.specs.Made.{entry_at, recorded_signature, IsOfService}
@@ -37,27 +31,8 @@ use Rattle.gl_store.specs.Kept.{Held}
 use Rattle.gl_store.specs.Calls.{receipts_of}
 use Rattle.gl_store.proofs.Binding.{has_ranges}
 use Rattle.gl_store.proofs.Cutting.{leaves_of-take}
-use Rattle.gl_store.proofs.InForce.{AreOutside, outside, in_force, written_behind-cons}
-use Rattle.gl_store.proofs.Serving.{identity_sized, length-identity}
-
--- ---- leaves
-
--- the leaves of entries that leave the service's row are all under its key
-leaves_kept : (t s : Tables) (es : List Entry) → AreOutside es → t service_map ≡ s service_map → leaves_from t es ≡ map (leaf_of (identity_in s)) es
-leaves_kept t s [] outside same = refl
-leaves_kept t s (e ∷ es) outside same =
-    let kept : wrote_all t e.writes service_map ≡ s service_map = untouched t e.writes service_map (outside 0 e refl) refl ∙ same in
-    ap₂ (λ (leaf : List ℕ) (leaves : List (List ℕ)). leaf ∷ leaves) (ap (λ (r : Rows). leaf_of (identity_of_value (rows.get r service_key)) e) kept)
-    (leaves_kept (wrote_all t e.writes) s es (λ i f at. outside (suc i) f at) kept)
-
-leaves_under : (ledger : List Entry) → ((i : ℕ) (e : Entry) → slice_get ledger (suc i) ≡ Some e → AllByRecursion IsOutside e.writes) →
-    identity_in (tables_of (take 1 ledger)) ≡ identity_in (tables_of ledger) → leaves_of ledger ≡ map (leaf_of (identity_in (tables_of ledger))) ledger
-leaves_under [] outside one = refl
-leaves_under (e ∷ es) outside one =
-    let t : Tables = wrote_all no_tables e.writes in
-    let key : identity_in t ≡ identity_in (tables_of (e ∷ es)) = ap identity_in (sym (written_behind-cons no_tables e [])) ∙ one in
-    ap (λ (leaves : List (List ℕ)). leaf_of (identity_in t) e ∷ leaves) (leaves_kept t t es outside refl)
-    ∙ ap (λ (identity : List ℕ). map (leaf_of identity) (e ∷ es)) key
+use Rattle.gl_ledger.proofs.Founded.{identity_sized, length_identity, in_force}
+use Rattle.gl_store.proofs.InForce.{one_key}
 
 -- ---- all that receipts ask of a ledger
 
@@ -78,7 +53,7 @@ module _ (ledger : List Entry) (sound : IsSound service_layers ledger) where
   signed : (i : ℕ) (e : Entry) (s : signatures.Signature) → slice_get ledger i ≡ Some e → e.content ≡ content.Signature s →
       IsValid identity (signed_message (root_of (take i (leaves_of ledger))) e.view (suc i) s.commit) s.signature
   signed zero e s at is =
-      absurd (false≢true (subst (λ (c : Content). records_founding (recording_of service_layers c) ≡ true) is (sound.founded.first e at).0))
+      absurd (false≢true (subst (λ (c : Content). records_founding (recording_of c) ≡ true) is (sound.founded.first e at).0))
   signed (suc i) e s at is =
       let stands : IsSignatureEntry service_layers (take (suc i) ledger) e s = subst (λ (c : Content). StandsAs service_layers c (take (suc i) ledger) e) is (sound.serial (suc i) e at) in
       let within = slice_get-within ledger (suc i) e at in
@@ -89,7 +64,7 @@ module _ (ledger : List Entry) (sound : IsSound service_layers ledger) where
       let message : List ℕ = signed_message s.root e.view e.seqno s.commit in
       let none : node_signature_fault identity s.node message s.signature ≡ None =
       ap (λ (key : List ℕ). node_signature_fault key s.node message s.signature) (sym (in_force service_layers ledger sound i)) ∙ stands.valid in
-      let by = (signature_means identity s.node message s.signature (length-identity service_layers ledger sound some) sized.1 bytes.1).0 none in
+      let by = (signature_means identity s.node message s.signature (length_identity service_layers ledger sound some) sized.1 bytes.1).0 none in
       subst (λ (m : List ℕ). IsValid identity m s.signature)
       (ap₂ (λ (root : List ℕ) (seqno : ℕ). signed_message root e.view seqno s.commit)
       (stands.root ∙ ap root_of (leaves_of-take ledger (suc i))) (sound.in_order.seqnos (suc i) e at))
@@ -118,7 +93,7 @@ of_service held sound few = record { named = named; leaves = leaves; signatures 
         }
 
     leaves : leaves_of held.ledger ≡ map (leaf_of (identity_in (tables_of held.ledger))) held.ledger
-    leaves = leaves_under held.ledger (outside service_layers held.ledger sound) (in_force service_layers held.ledger sound 0)
+    leaves = one_key service_layers held.ledger sound
 
     signatures : (seqno : ℕ) (e : Entry) → entry_at held.ledger seqno ≡ Some e → is_signature e.content ≡ true →
         IsValid (identity_in (tables_of held.ledger))
@@ -147,4 +122,4 @@ within_seqnos ledger valid = go (length ledger) refl
 
 pub valid_of_service : (held : Held) → audited service_layers held.ledger ≡ None → IsOfService (receipts_of held)
 valid_of_service held valid =
-    of_service held (valid_sound service_layers service_reads held.ledger valid) (within_seqnos held.ledger valid)
+    of_service held (valid_sound service_layers held.ledger valid) (within_seqnos held.ledger valid)

@@ -1,5 +1,5 @@
 -- Which ledgers open a service, by their length: the entry that founds it, and the signature behind it.
-use Rattle.std.proofs.Common.{◌≡◌, ◌≢◌, ℕ, suc, ◌+◌, ◌-◌, ◌<◌, ◌≤◌, List, [], length, take, slice_get, Option, Some, None, Result, Ok, Err, Bool, true, false, refl, sym, ◌∙◌, ap, subst, arith}
+use Rattle.std.proofs.Common.{◌≡◌, ◌≢◌, ℕ, ◌-◌, List, [], length, take, slice_get, Option, Some, None, Ok, Err, Bool, true, false, refl, ◌∙◌, ap, arith}
 use Rattle.std.proofs.lemmas.List.{length-take-le}
 use Rattle.gl_base.proofs.Lists.{slice_get-below, slice_get-take, slice_get-of_take}
 use Rattle.gl_rules.specs.Identity.{NodeId}
@@ -12,7 +12,6 @@ use Rattle.gl_ledger.specs.NodeKeys.{service_layers}
 use Rattle.gl_ledger.specs.Recordings.{last_entry, founds}
 use Rattle.gl_ledger.specs.Broken.{is_unopened}
 use Rattle.gl_ledger.specs.Sound.{IsSound}
-use Rattle.gl_ledger.specs.Signed.{IsSignedUpTo}
 use Rattle.gl_ledger.specs.Audit.{LedgerFault, audited, fault_from, signer_in, signer_of, opened_where, opened_unless, opened}
 use Rattle.gl_store.specs.Kept.{Beside, IsKept}
 
@@ -22,7 +21,7 @@ unfolding opened audited
 stopped entries seqno broken is = ap (λ (o : Option LedgerFault). opened_unless service_layers o entries) is
 
 opened_valid : (ledger : List Entry) → audited service_layers ledger ≡ None →
-    opened service_layers ledger ≡ opened_where (is_unopened service_layers (last_entry (take (length ledger - 1) ledger))) (signer_of (last_entry ledger)) (length ledger)
+    opened service_layers ledger ≡ opened_where (is_unopened (last_entry (take (length ledger - 1) ledger))) (signer_of (last_entry ledger)) (length ledger)
 unfolding opened
 opened_valid ledger valid = ap (λ (o : Option LedgerFault). opened_unless service_layers o ledger) valid
 
@@ -34,11 +33,11 @@ not_opening ledger valid sound other =
     before : List Entry
     before = take (length ledger - 1) ledger
 
-    go : (o : Option Entry) → last_entry (take (length ledger - 1) ledger) ≡ o → is_unopened service_layers o ≡ false
+    go : (o : Option Entry) → last_entry (take (length ledger - 1) ledger) ≡ o → is_unopened o ≡ false
     go None is = refl
-    go (Some f) is = founding (founds service_layers f) refl
+    go (Some f) is = founding (founds f) refl
       where
-        founding : (t : Bool) → founds service_layers f ≡ t → t ≡ false
+        founding : (t : Bool) → founds f ≡ t → t ≡ false
         founding false other_one = refl
         founding true founder =
             let taken = slice_get-of_take (length ledger - 1) ledger (length (take (length ledger - 1) ledger) - 1) f is in
@@ -59,7 +58,7 @@ opening_signed_by ledger valid sound two =
     let signer = signer_there second.0.content (sound.founded.opened second.0 second.1).0 in (
       signer.0,
       opened_valid ledger valid
-          ∙ ap (λ (o : Option Entry). opened_where (is_unopened service_layers o) (signer_of (last_entry ledger)) (length ledger)) before
+          ∙ ap (λ (o : Option Entry). opened_where (is_unopened o) (signer_of (last_entry ledger)) (length ledger)) before
           ∙ ap (λ (b : Bool). opened_where b (signer_of (last_entry ledger)) (length ledger)) (sound.founded.first first.0 first.1).0
           ∙ ap (λ (o : Option Entry). opened_where true (signer_of o) (length ledger)) last ∙ ap (λ (o : Option NodeId). opened_where true o (length ledger)) signer.1,
     )
@@ -79,6 +78,7 @@ kept_opened ledger b k two = record {
   within = omega (arith, two);
   committed = λ some. let second = slice_get-below ledger 1 (omega (arith, two)) in (second.0, second.1, (k.sound.founded.opened second.0 second.1).0);
   signed = k.signed;
+  governed = k.governed;
   state_is = k.state_is;
   identity_is = k.identity_is;
   tables_are = k.tables_are;

@@ -7,7 +7,7 @@ use Rattle.gl_merkle.specs.Reach.{inputs_of, inputs_on}
 use Rattle.gl_vmaps.specs.Tables.{Tables, no_tables, wrote_all}
 use Rattle.gl_entry.specs.Leaf.{id_of}
 use Rattle.gl_entry.specs.declared.entry.Entry.{Entry}
-use Rattle.gl_ledger.specs.Effect.{identity_in}
+use Rattle.gl_ledger.specs.ServiceRow.{identity_in}
 use Rattle.gl_ledger.specs.Tree.{tables_of, leaves_of}
 use Rattle.gl_receipt.specs.Law.{HaveOneDigest, input_of}
 use Rattle.gl_receipt.specs.Made.{entry_at, components_of}

@@ -1,5 +1,5 @@
 -- What the calls of a store come to, in the words of the rules of consensus over a ledger's book.
-use Rattle.std.specs.Prelude.{◌≡◌, ◌<◌, ◌≤◌, ◌^◌, ℕ, ◌+◌, List, [], ◌∷◌, ◌++◌, Option, Some, Result, Ok, Err, length, take}
+use Rattle.std.specs.Prelude.{◌≡◌, ℕ, ◌+◌, List, [], ◌∷◌, ◌++◌, Option, Some, Result, Ok, Err, length}
 use Rattle.gl_base.specs.declared.or_no_memory.OrNoMemory.{OrNoMemory}
 use Rattle.gl_base.specs.declared.or_no_memory.OrNoMemory.TheVariants.{NoMemory, Fault}
 use Rattle.gl_base.specs.declared.tx_id.TxId.{TxId}
@@ -11,10 +11,11 @@ use Rattle.gl_tx.specs.declared.request.Operation.{Operation}
 use Rattle.gl_tx.specs.declared.request.Answer.{Answer}
 use Rattle.gl_ledger.specs.NodeKeys.{IsNodeKey, NodeKeys}
 use Rattle.gl_ledger.specs.Ledger.{message_behind, sign_result}
-use Rattle.gl_ledger.specs.Makers.{Replied, Unmade, ByStore, request_result, by_store}
+use Rattle.gl_requests.specs.declared.request.GovernanceRequest.{GovernanceRequest}
+use Rattle.gl_ledger.specs.Makers.{Replied, Governed, Unmade, ByStore, request_result, govern_result, by_store}
 use Rattle.gl_ledger.specs.declared.refusal.Refusal.{Refusal}
 use Rattle.gl_receipt.specs.Made.{Ledger}
-use Rattle.gl_ledger.specs.Effect.{identity_in}
+use Rattle.gl_ledger.specs.ServiceRow.{identity_in}
 use Rattle.gl_ledger.specs.Tree.{tables_of, leaves_of}
 use Rattle.gl_ledger.specs.NodeKeys.{service_layers}
 use Rattle.gl_ledger.specs.Audit.{LedgerFault, opened}
@@ -37,6 +38,13 @@ pub record Executes (old : Held) (view : ℕ) (q : List Operation)
     (id : TxId) (reply : List Answer) (new : Held) : Type 0 where
   pub entry : Entry
   pub made : request_result old.ledger view q ≡ Ok (entry, Replied reply)
+  pub enters : Enters old view entry id new
+
+-- The store made the entry of a request of governance, with this identifier.
+pub record Governs (old : Held) (view : ℕ) (g : GovernanceRequest) (id : TxId) (new : Held) :
+    Type 0 where
+  pub entry : Entry
+  pub made : govern_result old.ledger view g ≡ Ok (entry, Governed)
   pub enters : Enters old view entry id new
 
 -- The signer signs for a node of the service with this key: it has the key of which the node's

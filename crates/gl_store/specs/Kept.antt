@@ -6,13 +6,15 @@ use Rattle.gl_vmaps.specs.Kept as tables
 use Rattle.gl_vmaps.specs.Standing.{StandsFor}
 use Rattle.gl_entry.specs.Entry.{is_signature, recorded_commit}
 use Rattle.gl_entry.specs.declared.entry.Entry.{Entry}
-use Rattle.gl_ledger.specs.Effect.{service_state, identity_in}
+use Rattle.gl_ledger.specs.ServiceRow.{service_state, identity_in}
 use Rattle.gl_ledger.specs.Tree.{writes_of, tables_of, leaves_of}
 use Rattle.gl_ledger.specs.NodeKeys.{service_layers}
 use Rattle.gl_ledger.specs.Sound.{IsSound}
 use Rattle.gl_ledger.specs.Audit.{audited}
 use Rattle.gl_ledger.specs.Signed.{IsSignedUpTo}
-use Rattle.gl_ledger.specs.declared.genesis.ServiceState.{ServiceState}
+use Rattle.gl_ledger.specs.Recordings.{requests_of}
+use Rattle.gl_gov_rules.specs.declared.change.Recorded.{Recorded}
+use Rattle.gl_requests.specs.declared.genesis.ServiceState.{ServiceState}
 
 -- What a store holds: its ledger, and up to which seqno it is committed.
 pub record Held : Type 0 where
@@ -43,6 +45,7 @@ key_of bytes = if length bytes == 60 then Some bytes else None
 pub record Beside : Type 0 where
   pub commit : ℕ
   pub signatures : List ℕ
+  pub gov : List Recorded
   pub service_state : ServiceState
   pub identity : Option (List ℕ)
   pub tables : tables.Kept
@@ -63,6 +66,7 @@ pub record IsKept (ledger : List Entry) (b : Beside) : Type 0 where
   pub within : b.commit ≤ length ledger
   pub committed : IsSignedUpTo ledger b.commit
   pub signed : b.signatures ≡ signature_seqnos ledger
+  pub governed : b.gov ≡ requests_of ledger
   pub state_is : b.service_state ≡ service_state (tables_of ledger)
   pub identity_is : b.identity ≡ key_of (identity_in (tables_of ledger))
   pub tables_are : StandsFor b.tables (writes_of ledger)

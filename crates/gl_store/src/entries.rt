@@ -7,17 +7,18 @@ ghost use Rattle.gl_base.specs.TxId.{last_seqno};
 ghost use Rattle.gl_hss.specs.Signer.{hss_signature};
 ghost use Rattle.gl_tx.specs.Request.{is_request, request_bytes, reply_bytes};
 ghost use Rattle.gl_tx.specs.declared.request.Answer.{Answer};
-ghost use Rattle.gl_entry.specs.Entry.{is_entry, body_bytes, body_limit, content_bytes};
+ghost use Rattle.gl_entry.specs.Entry.{is_entry, body_bytes, body_limit, content_bytes, no_digest};
 ghost use Rattle.gl_entry.specs.declared.entry.Entry as made;
-ghost use Rattle.gl_ledger.specs.Acceptance.{genesis_fault};
-ghost use Rattle.gl_ledger.specs.Genesis.{is_genesis};
-ghost use Rattle.gl_ledger.specs.NodeKeys.{service_layers};
-ghost use Rattle.gl_ledger.specs.Ledger.{genesis_entry, within_limits};
+ghost use Rattle.gl_requests.specs.Ranges as ranges;
+ghost use Rattle.gl_requests.specs.Spelling as requests_spelled;
+ghost use Rattle.gl_ledger.specs.Ledger.{within_limits};
+ghost use Rattle.gl_ledger.specs.Makers.{ByStore, governed_within};
 
-use gl_base::{Bytes, FIRST_VIEW, LAST_SEQNO, MEBIBYTE};
+use gl_base::{Bytes, LAST_SEQNO, MEBIBYTE};
 use gl_entry::{Content, Digest, Entry};
 use gl_hss::HssSigner;
-use gl_ledger::{Genesis, Refusal, genesis_bytes, genesis_writes};
+use gl_ledger::Refusal;
+use gl_requests::GovernanceRequest;
 use gl_tx::Request;
 use gl_vmaps::Writes;
 use sha2::{Digest as _, Sha256};
@@ -26,20 +27,36 @@ use std::alloc::{AllocError, Global};
 /// The digest field of an entry that has none.
 pub const NO_DIGEST: Digest = [0; 32];
 
-/// The entry of a genesis.
-pub fn genesis_entry(alloc: Global, genesis: &Genesis) -> Result<Entry, AllocError>
-    requires fits { is_genesis genesis.now ≡ true }
-    requires accepted { genesis_fault service_layers genesis.now ≡ None }
-    ensures made { IfOk result (λ entry. entry ≡ genesis_entry genesis.now) }
-    ensures fits { IfOk result (λ entry. is_entry entry ≡ true) }
+/// The entry of a request of governance with these writes. One whose request or writes are 2^32 or
+/// more has no place in memory.
+pub fn governance_entry(
+    alloc: Global,
+    view: u32,
+    seqno: u64,
+    request: &GovernanceRequest,
+    writes: Writes,
+) -> Result<Entry, AllocError>
+    requires { ranges.is_request request.now ≡ true }
+    ensures made { IfOk result (λ entry. entry ≡ record {
+      view = view;
+      seqno = seqno;
+      content = Content.Governance (requests_spelled.request_bytes request.now);
+      writes = writes;
+      claims = no_digest;
+    }) }
+    ensures recorded { IfOk result (λ entry. length (content_bytes entry.content) < 2 ^ 32) }
+    ensures written { IfOk result (λ entry. length entry.writes < 2 ^ 32) }
+    ensures fits { IfOk result (λ entry.
+        length (body_bytes entry) ≤ body_limit → is_entry entry ≡ true) }
 {
-    let request = Bytes::from(genesis_bytes(alloc, genesis)?);
-    let writes = genesis_writes(alloc, genesis)?;
-    prove!(writes.as_slice().len() < 1 << 32);
+    let recorded = request.encode(alloc)?;
+    if recorded.len() >= 1 << 32 || writes.as_slice().len() >= 1 << 32 {
+        return Err(AllocError);
+    }
     Ok(Entry {
-        view: FIRST_VIEW,
-        seqno: 1,
-        content: Content::Governance(request),
+        view,
+        seqno,
+        content: Content::Governance(Bytes::from(recorded)),
         writes,
         claims: NO_DIGEST,
     })
@@ -100,6 +117,23 @@ pub fn application_entry(
         writes,
         claims: Sha256::digest(reply),
     })
+}
+
+/// The first limit that an entry without a reply passes: the size of its body, its seqno.
+pub fn governance_limit_passed(body_len: u64, seqno: u64) -> Option<Refusal>
+    ensures body { IfNone result (body_len ≤ body_limit) }
+    ensures seqno { IfNone result (seqno ≤ last_seqno) }
+    ensures owed { IfSome result (λ refusal. (ledger : List made.Entry) (e : made.Entry) →
+        body_len ≡ length (body_bytes e) → seqno ≡ length ledger + 1 →
+        governed_within ledger e ≡ Err (ByStore refusal)) }
+{
+    if body_len > MEBIBYTE {
+        Some(Refusal::TooLarge { size: body_len })
+    } else if seqno > LAST_SEQNO {
+        Some(Refusal::SeqnoLimit)
+    } else {
+        None
+    }
 }
 
 /// The first limit that an entry passes: the size of its body, that of its reply, its seqno.

@@ -1,22 +1,17 @@
 //! Nodes whose endorsements were verified, so that these aren't hashed with each signature.
 
-ghost use Rattle.std.specs.Prelude.{◌≡◌, ◌↔◌, ◌<◌, ◌^◌, ℕ, length, Some, IsTrue, IfSome, IfNone, IsOkAnd, Contains};
-ghost use Rattle.gl_ledger.specs.Genesis.{node_row};
-ghost use Rattle.gl_ledger.specs.declared.genesis.NewNode.{NewNode};
+ghost use Rattle.std.specs.Prelude.{◌≡◌, ◌↔◌, IsTrue, IfSome, IfNone, Contains};
 ghost use Rattle.gl_ledger.specs.NodeKeys.{node_signature_fault, signer_fault};
 ghost use Rattle.gl_store.specs.Known.{Knows, Learns};
 ghost use Rattle.gl_store.specs.declared.known_nodes.KnownNode.{KnownNode};
 
-use gl_base::{Cut, CutFault};
 use gl_entry::NodeId;
-use gl_hss::{EndorsedKey, HssFault, LMS_KEY_LEN, last_key, verify_below};
-use gl_ledger::{HssPublicKey, LmsPublicKey, node_signature_fault};
+use gl_gov_rules::RecordedNode;
+use gl_hss::{EndorsedKey, HssFault, last_key, verify_below};
+use gl_ledger::node_signature_fault;
+use gl_requests::{HssPublicKey, LmsPublicKey, NewNode};
 use sha2::{Digest, Sha256};
 use std::alloc::Global;
-
-/// A node's row begins with its number in the order of nodes, two bytes, and its status, one byte.
-/// Its key follows, and the endorsement behind its length.
-const BEFORE_KEY: usize = 3;
 
 /// A node's identifier, and its key, whose endorsement was verified.
 #[derive(Drop)]
@@ -41,38 +36,14 @@ pub struct KnownNodes {
     nodes: Vec<KnownNode>,
 }
 
-/// What a node's row has of its key.
-#[derive(Clone, Copy)]
-struct EndorsedRow<'a> {
-    key: &'a LmsPublicKey,
-    endorsement: &'a [u8],
-}
-
-/// The key and its endorsement in a node's row.
-fn endorsed_row(row: &[u8]) -> Result<EndorsedRow<'_>, CutFault>
-    ensures { (order : ℕ) (node : NewNode) → length node.key ≡ 56 →
-        length node.endorsement < 2 ^ 32 → (node_row order node).value ≡ Some row.now →
-        IsOkAnd result (λ read.
-        (read.key.now ≡ node.key) × (read.endorsement.now ≡ node.endorsement)) }
-{
-    let mut cut = Cut::new(row);
-    cut.array::<BEFORE_KEY>()?;
-    let key = cut.array::<LMS_KEY_LEN>()?;
-    let endorsement = cut.bytes(32, u64::from(u32::MAX))?;
-    Ok(EndorsedRow { key, endorsement })
-}
-
-/// The key in a node's row, if its endorsement there is valid and there is memory.
-fn endorsed_key(alloc: Global, identity: &HssPublicKey, row: &[u8]) -> Option<EndorsedKey>
+/// The node's key, if its endorsement is valid and there is memory.
+fn endorsed_key(alloc: Global, identity: &HssPublicKey, node: &NewNode) -> Option<EndorsedKey>
     ensures identity { IfSome result (λ known. known.identity ≡ identity.now) }
-    ensures read { IfSome result (λ known. (order : ℕ) (node : NewNode) →
-        length node.key ≡ 56 → length node.endorsement < 2 ^ 32 →
-        (node_row order node).value ≡ Some row.now →
-        (known.key ≡ node.key) × (known.signature ≡ node.endorsement)) }
+    ensures key { IfSome result (λ known. known.key ≡ node.now.key) }
+    ensures endorsement { IfSome result (λ known. known.signature ≡ node.now.endorsement) }
 {
-    let row = endorsed_row(row).ok()?;
-    let endorsement = Vec::from_slice(alloc, row.endorsement).ok()?;
-    EndorsedKey::new(*identity, *row.key, endorsement).ok()
+    let endorsement = Vec::from_slice(alloc, node.endorsement.as_slice()).ok()?;
+    EndorsedKey::new(*identity, node.key, endorsement).ok()
 }
 
 /// Why the key that signed isn't the node's, whose identifier is its digest.
@@ -134,16 +105,16 @@ impl KnownNodes {
         }
     }
 
-    /// Knows a node from now on, if the endorsement in its row is valid and there is memory.
-    pub fn learn(&mut self, identity: &HssPublicKey, node: &NodeId, row: &[u8])
-        ensures { Learns identity.now node.now self.old.nodes.items self.new.nodes.items }
+    /// Knows a node from now on, if the endorsement that was recorded is valid and there is memory.
+    pub fn learn(&mut self, identity: &HssPublicKey, node: &RecordedNode)
+        ensures { Learns identity.now node.now.id self.old.nodes.items self.new.nodes.items }
     {
-        if self.key_of(identity, node).is_some() {
+        if self.key_of(identity, &node.id).is_some() {
             return;
         }
         let alloc = *self.nodes.allocator();
-        if let Some(key) = endorsed_key(alloc, identity, row) {
-            let _ = self.nodes.push(KnownNode { node: *node, key });
+        if let Some(key) = endorsed_key(alloc, identity, &node.node) {
+            let _ = self.nodes.push(KnownNode { node: node.id, key });
         }
     }
 }

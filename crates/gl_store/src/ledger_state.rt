@@ -1,6 +1,7 @@
 //! A growing ledger, with what its entries make.
 
 ghost use Rattle.std.specs.Prelude.{◌≡◌, ◌+◌, ◌-◌, ◌≤◌, ◌<◌, ◌^◌, ℕ, List, [], ◌∷◌, ◌++◌, None, Some, take, length, nat_le, slice_get, true, false, vec_len, vec_capacity, IfOk, OnOk, OnErr};
+ghost use Rattle.std.specs.List.{AllByRecursion};
 ghost use Rattle.std.specs.List.Sorted.{IsPartitionPoint, IsPartitionedBy};
 ghost use Rattle.gl_merkle.specs.Frontier.{HasLeaves, IsUnchanged, count_of};
 ghost use Rattle.gl_vmaps.specs.Kept.{version_of};
@@ -8,12 +9,16 @@ ghost use Rattle.gl_vmaps.specs.Standing.{StandsFor};
 ghost use Rattle.gl_vmaps.specs.Versions.{Placed, placed_at, written_by, up_to};
 ghost use Rattle.gl_entry.specs.Entry.{is_signature};
 ghost use Rattle.gl_entry.specs.Leaf.{leaf_of};
-ghost use Rattle.gl_ledger.specs.Effect.{state_of_value, identity_of_value, service_state, identity_in};
+ghost use Rattle.gl_gov_rules.specs.Governed as governed;
+ghost use Rattle.gl_ledger.specs.Recordings.{recorded_in};
+ghost use Rattle.gl_ledger.specs.ServiceRow.{state_of_byte, state_of_value, identity_of_value, service_state, identity_in};
 ghost use Rattle.gl_store.specs.Kept.{seqno_if, key_of};
 
+use gl_base::OrNoMemory;
 use gl_entry::{Content, Digest, Entry, leaf};
-use gl_ledger::{HssPublicKey, ServiceState, state_byte};
+use gl_gov::GovState;
 use gl_merkle::Frontier;
+use gl_requests::{GovernanceRequest, HssPublicKey, ServiceState};
 use gl_vmaps::Tables;
 use std::alloc::{AllocError, Global};
 
@@ -22,26 +27,40 @@ const SERVICE_MAP: &[u8] = b"public:ccf.gov.service";
 
 const SERVICE_KEY: &[u8] = b"s";
 
-/// The entries of a ledger, the seqnos of its signatures, the tables that its write sets make, what
-/// these tell of the service, and the tree of its leaves.
+/// The entries of a ledger, the seqnos of its signatures, the requests of governance that it records,
+/// the tables that its write sets make, what these tell of the service, and the tree of its leaves.
 #[derive(Drop)]
 pub struct LedgerState {
     pub entries: Vec<Entry>,
     pub signatures: Vec<u64>,
+    pub gov: GovState,
     pub tables: Tables,
     pub service_state: ServiceState,
     pub identity: Option<HssPublicKey>,
     pub frontier: Frontier,
 }
 
-/// The state that the service's row begins with. Any other byte than that of an open service counts
-/// as not open.
+/// Any other byte than those of a service that is open or waits for shares counts as that of one
+/// that opens.
+fn state_of_byte(byte: u8) -> ServiceState
+    ensures { result ≡ state_of_byte byte }
+{
+    if byte == ServiceState::Open.byte() {
+        ServiceState::Open
+    } else if byte == ServiceState::WaitingForRecoveryShares.byte() {
+        ServiceState::WaitingForRecoveryShares
+    } else {
+        ServiceState::Opening
+    }
+}
+
+/// The state that the service's row begins with.
 fn state_of(value: &[u8]) -> ServiceState
     ensures { result ≡ state_of_value (Some value.now) }
 {
     match value {
-        [state, ..] if *state == state_byte(ServiceState::Open) => ServiceState::Open,
-        _ => ServiceState::Opening,
+        [] => ServiceState::Opening,
+        [state, ..] => state_of_byte(*state),
     }
 }
 
@@ -94,11 +113,64 @@ fn room_behind(leaves: usize, more: usize) -> usize
     more.max((leaves + 1).next_power_of_two().max(16) - leaves)
 }
 
+/// Takes the request that an entry records, if it records one. Want of memory leaves all as it was.
+fn take_request(alloc: Global, gov: &mut GovState, entry: &Entry) -> Result<(), AllocError>
+    requires follows { AllByRecursion (governed.Follows gov.old)
+        (recorded_in entry.now.seqno entry.now.content) }
+    ensures recorded { OnOk result
+        (gov.new ≡ gov.old ++ recorded_in entry.now.seqno entry.now.content) }
+    ensures kept { OnErr result (gov.new ≡ gov.old) }
+{
+    let Content::Governance(bytes) = &entry.content else {
+        return Ok(());
+    };
+    let request = match GovernanceRequest::decode(alloc, bytes.as_slice()) {
+        Ok(request) => request,
+        Err(OrNoMemory::NoMemory) => return Err(AllocError),
+        Err(OrNoMemory::Fault(_)) => return Ok(()),
+    };
+    match gov.step(entry.seqno, &request) {
+        Ok(_) => Ok(()),
+        Err(OrNoMemory::NoMemory) => Err(AllocError),
+        Err(OrNoMemory::Fault(_)) => unreachable!(),
+    }
+}
+
+/// Takes an entry's request and its writes. Want of memory leaves both as they were.
+fn take(
+    alloc: Global,
+    gov: &mut GovState,
+    tables: &mut Tables,
+    entry: &Entry,
+) -> Result<(), AllocError>
+    requires base { tables.old.base < entry.now.seqno }
+    requires above { (map key : List ℕ) → version_of tables.old map key < entry.now.seqno }
+    requires behind { governed.IsAbove entry.now.seqno gov.old }
+    requires follows { AllByRecursion (governed.Follows gov.old)
+        (recorded_in entry.now.seqno entry.now.content) }
+    ensures recorded { OnOk result
+        (gov.new ≡ gov.old ++ recorded_in entry.now.seqno entry.now.content) }
+    ensures written { OnOk result ((ps : List Placed) → StandsFor tables.old ps →
+        StandsFor tables.new (ps ++ placed_at entry.now.seqno entry.now.writes)) }
+    ensures base { OnOk result (tables.new.base ≡ tables.old.base) }
+    ensures whole { OnOk result (tables.new.compacted ≡ tables.old.compacted) }
+    ensures gov_kept { OnErr result (gov.new ≡ gov.old) }
+    ensures tables_kept { OnErr result (tables.new ≡ tables.old) }
+{
+    take_request(alloc, gov, entry)?;
+    if let Err(error) = tables.apply(entry.seqno, &entry.writes) {
+        gov.cut(entry.seqno - 1);
+        return Err(error);
+    }
+    Ok(())
+}
+
 impl LedgerState {
     /// Of no entries.
     pub fn new(alloc: Global) -> Result<Self, AllocError>
         ensures entries { IfOk result (λ state. state.entries.items ≡ []) }
         ensures signatures { IfOk result (λ state. state.signatures.items ≡ []) }
+        ensures gov { IfOk result (λ state. state.gov ≡ []) }
         ensures tables { IfOk result (λ state. StandsFor state.tables []) }
         ensures from_start { IfOk result (λ state. state.tables.base ≡ 0) }
         ensures whole { IfOk result (λ state. state.tables.compacted ≡ 0) }
@@ -111,6 +183,7 @@ impl LedgerState {
         Ok(LedgerState {
             entries: Vec::new(alloc),
             signatures: Vec::new(alloc),
+            gov: GovState::new(alloc),
             tables: Tables::new(alloc),
             service_state: ServiceState::Opening,
             identity: None,
@@ -128,6 +201,7 @@ impl LedgerState {
         ensures frontier { OnOk result (more ≤ self.new.frontier.spare) }
         ensures entries_kept { self.new.entries.items ≡ self.old.entries.items }
         ensures signatures_kept { self.new.signatures.items ≡ self.old.signatures.items }
+        ensures gov_kept { self.new.gov ≡ self.old.gov }
         ensures tables_kept { self.new.tables ≡ self.old.tables }
         ensures state_kept { self.new.service_state ≡ self.old.service_state }
         ensures identity_kept { self.new.identity ≡ self.old.identity }
@@ -148,6 +222,7 @@ impl LedgerState {
         ensures entries { self.new.entries.items ≡ self.old.entries.items ++ entry ∷ [] }
         ensures signatures { self.new.signatures.items ≡ self.old.signatures.items
             ++ seqno_if (is_signature entry.content) entry.seqno [] }
+        ensures gov { self.new.gov ≡ self.old.gov }
         ensures tables { self.new.tables ≡ self.old.tables }
         ensures state { self.new.service_state ≡ self.old.service_state }
         ensures identity { self.new.identity ≡ self.old.identity }
@@ -163,17 +238,22 @@ impl LedgerState {
         self.entries.push_reserved(entry);
     }
 
-    /// Adds an entry behind which the tables tell the service's key. Want of memory leaves all as it
-    /// was.
+    /// Adds an entry behind which the tables tell the service's key. A request that it records follows
+    /// those before it. Want of memory leaves all as it was.
     pub fn push(&mut self, entry: Entry) -> Result<(), AllocError>
         requires base { self.old.tables.base < entry.seqno }
         requires above { (map key : List ℕ) → version_of self.old.tables map key < entry.seqno }
+        requires behind { governed.IsAbove entry.seqno self.old.gov }
+        requires follows { AllByRecursion (governed.Follows self.old.gov)
+            (recorded_in entry.seqno entry.content) }
         requires keyed { (ps : List Placed) × StandsFor self.old.tables ps
             × (length (identity_in (written_by (ps ++ placed_at entry.seqno entry.writes))) ≡ 60) }
         ensures entries { OnOk result (self.new.entries.items
             ≡ self.old.entries.items ++ entry ∷ []) }
         ensures signatures { OnOk result (self.new.signatures.items
             ≡ self.old.signatures.items ++ seqno_if (is_signature entry.content) entry.seqno []) }
+        ensures gov { OnOk result
+            (self.new.gov ≡ self.old.gov ++ recorded_in entry.seqno entry.content) }
         ensures tables { OnOk result ((ps : List Placed) → StandsFor self.old.tables ps →
             StandsFor self.new.tables (ps ++ placed_at entry.seqno entry.writes)) }
         ensures base { OnOk result (self.new.tables.base ≡ self.old.tables.base) }
@@ -188,13 +268,15 @@ impl LedgerState {
         ensures entries_kept { OnErr result (self.new.entries.items ≡ self.old.entries.items) }
         ensures signatures_kept { OnErr result
             (self.new.signatures.items ≡ self.old.signatures.items) }
+        ensures gov_kept { OnErr result (self.new.gov ≡ self.old.gov) }
         ensures tables_kept { OnErr result (self.new.tables ≡ self.old.tables) }
         ensures state_kept { OnErr result (self.new.service_state ≡ self.old.service_state) }
         ensures identity_kept { OnErr result (self.new.identity ≡ self.old.identity) }
         ensures leaves_kept { OnErr result (IsUnchanged self.old.frontier self.new.frontier) }
     {
         self.reserve(1)?;
-        self.tables.apply(entry.seqno, &entry.writes)?;
+        let alloc = *self.entries.allocator();
+        take(alloc, &mut self.gov, &mut self.tables, &entry)?;
         self.service_state = state_in(&self.tables);
         self.identity = identity_in(&self.tables);
         let Some(identity) = &self.identity else {
@@ -215,6 +297,7 @@ impl LedgerState {
             (n : ℕ) × IsPartitionPoint (λ seqno. nat_le seqno to ≡ true)
             (λ seqno. nat_le seqno to ≡ false) self.old.signatures.items n
             × (self.new.signatures.items ≡ take n self.old.signatures.items) }
+        ensures gov { self.new.gov ≡ governed.up_to to self.old.gov }
         ensures tables { (ps : List Placed) → StandsFor self.old.tables ps →
             StandsFor self.new.tables (up_to to ps) }
         ensures base { self.new.tables.base ≡ self.old.tables.base }
@@ -229,6 +312,7 @@ impl LedgerState {
         let signed = count_up_to(&self.signatures, to);
         self.entries.truncate(to as usize);
         self.signatures.truncate(signed);
+        self.gov.cut(to);
         self.tables.cut(to);
         self.frontier.cut(to);
         self.service_state = state_in(&self.tables);
@@ -240,6 +324,7 @@ impl LedgerState {
         ensures entries { IfOk result (λ state. state.entries.items ≡ self.now.entries.items) }
         ensures signatures { IfOk result (λ state.
             state.signatures.items ≡ self.now.signatures.items) }
+        ensures gov { IfOk result (λ state. state.gov ≡ self.now.gov) }
         ensures tables { IfOk result (λ state. state.tables ≡ self.now.tables) }
         ensures state { IfOk result (λ state. state.service_state ≡ self.now.service_state) }
         ensures identity { IfOk result (λ state. state.identity ≡ self.now.identity) }
@@ -248,6 +333,7 @@ impl LedgerState {
         Ok(LedgerState {
             entries: copy_entries(alloc, &self.entries)?,
             signatures: Vec::from_slice(alloc, &self.signatures)?,
+            gov: self.gov.copy()?,
             tables: self.tables.copy()?,
             service_state: self.service_state,
             identity: self.identity,

@@ -7,6 +7,7 @@ mod known_nodes;
 mod laws;
 mod ledger_state;
 mod not_opening;
+mod removals;
 mod store;
 
 pub use laws::law_of_receipts_in_ledgers;

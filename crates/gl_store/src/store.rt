@@ -5,22 +5,24 @@ ghost use Rattle.std.specs.List.{AllByRecursion};
 ghost use Rattle.std.specs.Option.{option_copied};
 ghost use Rattle.gl_vmaps.specs.Standing.{StandsFor};
 ghost use Rattle.gl_entry.specs.Entry.{is_entry};
-ghost use Rattle.gl_ledger.specs.Genesis.{is_genesis};
+ghost use Rattle.gl_requests.specs.Ranges.{is_genesis};
 ghost use Rattle.gl_ledger.specs.Ledger.{genesis_entry};
 ghost use Rattle.gl_store.specs.Calls.{signature_of};
 
-use crate::entries::genesis_entry;
 use crate::known_nodes::KnownNodes;
 use crate::ledger_state::{LedgerState, count_up_to, seqno_at};
 use crate::not_opening::NotOpening;
 use gl_base::{FIRST_VIEW, OrNoMemory, Status, TxId, status};
 use gl_entry::{Content, Entry, NodeId};
+use gl_gov::GovState;
 use gl_hss::HssSigner;
-use gl_ledger::{Broken, Genesis, HssPublicKey};
+use gl_ledger::Broken;
+use gl_requests::{Genesis, GovernanceRequest, HssPublicKey};
 use gl_vmaps::Tables;
 use std::alloc::{AllocError, Global};
 use std::marker::Model;
 
+mod governance;
 mod receipts;
 mod requests;
 mod rules;
@@ -48,6 +50,7 @@ impl Model for Store {
     ghost invariant = { λ s. IsKept s.state.entries.items (record {
       commit = s.commit;
       signatures = s.state.signatures.items;
+      gov = s.state.gov;
       service_state = s.state.service_state;
       identity = s.state.identity;
       tables = s.state.tables;
@@ -60,11 +63,13 @@ impl Store {
     ghost use Rattle.gl_rules.specs.Node.{Node};
     ghost use Rattle.gl_rules.specs.Safety.{reported_status, view_of};
     ghost use Rattle.gl_rules.specs.Identity.{member};
-    ghost use Rattle.gl_ledger.specs.Genesis.{node_id};
+    ghost use Rattle.gl_requests.specs.Spelling.{node_id};
+    ghost use Rattle.gl_gov_rules.specs.History.{no_history};
+    ghost use Rattle.gl_gov_rules.specs.Refusals.{genesis_refusal};
     ghost use Rattle.gl_ledger.specs.Ledger.{opening_ledger};
     ghost use Rattle.gl_ledger.specs.Tree.{writes_of, tables_of};
-    ghost use Rattle.gl_ledger.specs.Effect.{identity_in};
-    ghost use Rattle.gl_ledger.specs.Acceptance.{genesis_fault};
+    ghost use Rattle.gl_ledger.specs.Recordings.{requests_of};
+    ghost use Rattle.gl_ledger.specs.ServiceRow.{identity_in};
     ghost use Rattle.gl_ledger.specs.Broken.{last_signed, last_commit, broken};
     ghost use Rattle.gl_ledger.specs.Sound.{IsSound};
     ghost use Rattle.gl_ledger.specs.Audit.{audited, fault_from};
@@ -92,18 +97,18 @@ impl Store {
     /// want of memory alone, and then no leaf is spent.
     pub fn begin(
         alloc: Global,
-        genesis: &Genesis,
+        genesis: Genesis,
         node: NodeId,
         signer: &mut HssSigner,
     ) -> Result<Self, AllocError>
-        requires accepted { genesis_fault service_layers genesis.now ≡ None }
-        requires fits { is_genesis genesis.now ≡ true }
-        requires named { member node (map node_id genesis.now.nodes) ≡ true }
-        requires signer { SignsFor node genesis.now.identity signer.old }
+        requires accepted { genesis_refusal no_history genesis ≡ None }
+        requires fits { is_genesis genesis ≡ true }
+        requires named { member node (map node_id genesis.nodes) ≡ true }
+        requires signer { SignsFor node genesis.identity signer.old }
         requires left { signer.old.used < signer.old.reserved }
         ensures opened { IfOk result (λ store. store ≡ record {
-          ledger = opening_ledger genesis.now node
-              (signature_of signer.old (genesis_entry genesis.now ∷ []) 2 2);
+          ledger = opening_ledger genesis node
+              (signature_of signer.old (genesis_entry genesis ∷ []) 2 2);
           commit = 2;
         }) }
         ensures spent { OnOk result (signer.new ≡ record signer.old {
@@ -112,7 +117,8 @@ impl Store {
         ensures err { OnErr result (signer.new ≡ signer.old) }
     {
         let mut store = Store::new(alloc)?;
-        store.push(genesis_entry(alloc, genesis)?)?;
+        let founding = store.genesis_entry(genesis)?;
+        store.push(founding)?;
         let opening = store.signature_entry(node, FIRST_VIEW, 2, signer)?;
         store.push(opening)?;
         signer.spend();
@@ -197,6 +203,13 @@ impl Store {
         ensures base { result.now.base ≡ 0 }
     {
         &self.state.tables
+    }
+
+    /// The state of governance: the requests that the ledger records.
+    pub fn gov(&self) -> &GovState
+        ensures gov { result.now ≡ requests_of self.now.ledger }
+    {
+        &self.state.gov
     }
 
     /// The seqno up to which the ledger is committed, itself included: that of a signature, or 0.

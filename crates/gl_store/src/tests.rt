@@ -1,11 +1,13 @@
 //! The rows, the entries and the roots against bytes worked out by hand, with digests by Python's
 //! hashlib.
 
-ghost use Rattle.std.specs.Prelude.{◌≡◌, ◌≤◌, ◌<◌, ◌^◌, ◌∷◌, [], ℕ, length, map, true, IfOk};
+ghost use Rattle.std.specs.Prelude.{◌≡◌, ◌≤◌, ◌<◌, ◌^◌, ◌∷◌, [], ℕ, length, map, None, true, IsTrue, IfOk};
 ghost use Rattle.gl_lms.specs.Tree.{key_bytes};
 ghost use Rattle.gl_lms.specs.Secrets.{public_of};
 ghost use Rattle.gl_hss.specs.Hss.{IsEndorsed};
-ghost use Rattle.gl_ledger.specs.Genesis.{is_genesis, is_node};
+ghost use Rattle.gl_requests.specs.Ranges.{is_first_state, is_genesis, is_node};
+ghost use Rattle.gl_gov_rules.specs.History.{no_history};
+ghost use Rattle.gl_gov_rules.specs.Refusals.{genesis_refusal};
 ghost use Rattle.gl_ledger.specs.Ledger.{HasViewsUpTo};
 ghost use Rattle.gl_ledger.specs.Signed.{IsSignedAt};
 ghost use Rattle.gl_store.specs.Calls.{SignsFor};
@@ -13,12 +15,14 @@ ghost use Rattle.gl_store.specs.Calls.{SignsFor};
 use crate::Store;
 use gl_base::{Bytes, OrNoMemory, Sequence, Status, TxId};
 use gl_entry::{Content, Digest, Entry, NodeId};
+use gl_gov::GovState;
 use gl_hss::{HssSigner, verify_endorsement};
-use gl_ledger::{
-    Dealing, Genesis, HssPublicKey, NewMember, NewNode, Refusal, ServiceState, ShareDigest,
-    genesis_fault,
-};
+use gl_ledger::Refusal;
 use gl_lms::{LMS_KEY_LEN, LmsKey, Types};
+use gl_requests::{
+    Dealing, Genesis, GovernanceRequest, HssPublicKey, NewMember, NewNode, ServiceState,
+    ShareDigest,
+};
 use gl_tx::{Abort, Answer, Cause, Operation, Reply, Request};
 use gl_vmaps::{Key, MapName, Value, Write, Writes};
 use sha2::{Digest as _, Sha256};
@@ -26,6 +30,7 @@ use std::alloc::{AllocError, Global};
 use std::test::Fail;
 
 mod applying;
+mod governing;
 mod opening;
 
 // The service's key: that of a seed of 32 bytes 09, of two levels.
@@ -85,9 +90,18 @@ fn named(key: [u8; LMS_KEY_LEN], endorsement: Vec<u8>) -> NewNode
     }
 }
 
-// A service of one node and two members.
-fn genesis(alloc: Global, state: ServiceState, node: NewNode) -> Result<Genesis, AllocError>
-    requires { is_node node ≡ true }
+// The key of a member who asks for nothing.
+const MEMBER: HssPublicKey = [3; 60];
+
+// A service of one node and two members, the first of whom has this key.
+fn genesis(
+    alloc: Global,
+    state: ServiceState,
+    node: NewNode,
+    member: HssPublicKey,
+) -> Result<Genesis, AllocError>
+    requires first { is_first_state state ≡ true }
+    requires node { is_node node ≡ true }
     ensures identity { IfOk result (λ g. g.identity ≡ IDENTITY) }
     ensures fits { IfOk result (λ g. is_genesis g ≡ true) }
     ensures node { IfOk result (λ g. g.nodes ≡ node ∷ []) }
@@ -96,7 +110,7 @@ fn genesis(alloc: Global, state: ServiceState, node: NewNode) -> Result<Genesis,
     nodes.push(node)?;
     let first = NewMember {
         number: 1,
-        key: [3; 60],
+        key: member,
     };
     let second = NewMember {
         number: 2,
@@ -140,25 +154,57 @@ fn signer(alloc: Global) -> Result<HssSigner, Fail>
     endorsed(key, endorsement)
 }
 
+// Whether the rules of governance accept the genesis.
+#[tactic(auto, using(gl_gov_rules::proofs::FoundingAccepted::refusal_of_genesis))]
+fn is_accepted(alloc: Global, genesis: &Genesis) -> Result<bool, Fail>
+    requires { is_genesis genesis.now ≡ true }
+    ensures { IfOk result (λ accepted.
+        IsTrue accepted → genesis_refusal no_history genesis.now ≡ None) }
+{
+    let request = GovernanceRequest::Genesis(genesis.copy(alloc)?);
+    match GovState::new(alloc).step(1, &request) {
+        Ok(_) => Ok(true),
+        Err(OrNoMemory::Fault(_)) => Ok(false),
+        Err(OrNoMemory::NoMemory) => Err(Fail::from("out of memory")),
+    }
+}
+
 // The store of such a service, opened with the signer's next leaf.
-fn opened_by(alloc: Global, state: ServiceState, signer: &mut HssSigner) -> Result<Store, Fail>
-    requires { SignsFor NODE IDENTITY signer.old }
+fn opened_with(
+    alloc: Global,
+    state: ServiceState,
+    signer: &mut HssSigner,
+    member: HssPublicKey,
+) -> Result<Store, Fail>
+    requires first { is_first_state state ≡ true }
+    requires signs { SignsFor NODE IDENTITY signer.old }
     ensures up_to { IfOk result (λ s. (view : ℕ) → 2 ≤ view → HasViewsUpTo view s.ledger) }
     ensures signs { SignsFor NODE IDENTITY signer.new }
 {
     let key = signer.key().public();
     let node = named(key, endorsement(alloc, &key)?);
-    let genesis = genesis(alloc, state, node)?;
-    if genesis_fault(alloc, &genesis)?.is_some() {
-        return Err(Fail::from("a genesis with a fault"));
+    let genesis = genesis(alloc, state, node, member)?;
+    if !is_accepted(alloc, &genesis)? {
+        return Err(Fail::from("a genesis that is refused"));
     }
     prove!(signer.used() <= signer.reserved());
     signer.reserve()?;
-    Ok(Store::begin(alloc, &genesis, NODE, signer)?)
+    Ok(Store::begin(alloc, genesis, NODE, signer)?)
+}
+
+// The same, in which no member asks for anything.
+fn opened_by(alloc: Global, state: ServiceState, signer: &mut HssSigner) -> Result<Store, Fail>
+    requires first { is_first_state state ≡ true }
+    requires signs { SignsFor NODE IDENTITY signer.old }
+    ensures up_to { IfOk result (λ s. (view : ℕ) → 2 ≤ view → HasViewsUpTo view s.ledger) }
+    ensures signs { SignsFor NODE IDENTITY signer.new }
+{
+    opened_with(alloc, state, signer, MEMBER)
 }
 
 // The same, of which no more is signed.
 fn opened(alloc: Global, state: ServiceState) -> Result<Store, Fail>
+    requires { is_first_state state ≡ true }
     ensures { IfOk result (λ s. (view : ℕ) → 2 ≤ view → HasViewsUpTo view s.ledger) }
 {
     let mut signer = signer(alloc)?;
@@ -324,7 +370,9 @@ fn refusal_of(
     alloc: Global,
     state: ServiceState,
     request: &Request,
-) -> Result<Option<Refusal>, Fail> {
+) -> Result<Option<Refusal>, Fail>
+    requires { is_first_state state ≡ true }
+{
     let mut store = opened(alloc, state)?;
     match execute(&mut store, 2, request) {
         Ok(_) => Ok(None),
@@ -334,7 +382,9 @@ fn refusal_of(
 }
 
 // What a store in this state refuses a put into a map with.
-fn refusal_in(alloc: Global, state: ServiceState, map: &[u8]) -> Result<Option<Refusal>, Fail> {
+fn refusal_in(alloc: Global, state: ServiceState, map: &[u8]) -> Result<Option<Refusal>, Fail>
+    requires { is_first_state state ≡ true }
+{
     refusal_of(alloc, state, &put_request(alloc, map, &[1])?)
 }
 

@@ -24,29 +24,29 @@ use Rattle.gl_base.proofs.Lists.{slice_get-below, take-next, take-past}
 use Rattle.std.proofs.lemmas.List.{length-take-le}
 
 module _ (layers : Layers) (keys : NodeKeys) where
-  pub configured : (x : NodeId) (log : List Entry) → IsAlone layers x log → (c : ℕ) → configuration_at (ledger_book layers keys) log (suc c) ≡ Some (x ∷ [])
+  pub configured : (x : NodeId) (log : List Entry) → IsAlone x log → (c : ℕ) → configuration_at (ledger_book layers keys) log (suc c) ≡ Some (x ∷ [])
   unfolding configuration_at
   configured x log h zero = ap (λ (o : Option (List NodeId)). or_else o None) h.first
   configured x log h (suc c) =
       ap (λ (o : Option (List NodeId)). or_else o (configuration_at (ledger_book layers keys) log (suc c))) (h.later c) ∙ configured x log h c
 
-  pub none_above : (x : NodeId) (log : List Entry) → IsAlone layers x log → (c place : ℕ) → configurations_above (ledger_book layers keys) log (suc c) place ≡ []
+  pub none_above : (x : NodeId) (log : List Entry) → IsAlone x log → (c place : ℕ) → configurations_above (ledger_book layers keys) log (suc c) place ≡ []
   unfolding configurations_above
   none_above x log h c zero = refl
   none_above x log h c (suc zero) = go (nat_lt (suc c) 1) refl
     where
-      go : (b : Bool) → nat_lt (suc c) 1 ≡ b → (if b then option_to_list (configuration layers (take 1 log)) else []) ≡ []
+      go : (b : Bool) → nat_lt (suc c) 1 ≡ b → (if b then option_to_list (configuration (take 1 log)) else []) ≡ []
       go true is = absurd (grind (arith, nat_tests))
       go false is = refl
   none_above x log h c (suc (suc k)) = go (nat_lt (suc c) (suc (suc k))) (none_above x log h c (suc k))
     where
       go : (b : Bool) → configurations_above (ledger_book layers keys) log (suc c) (suc k) ≡ [] →
-          (if b then configurations_above (ledger_book layers keys) log (suc c) (suc k) ++ option_to_list (configuration layers (take (suc (suc k)) log)) else []) ≡ []
+          (if b then configurations_above (ledger_book layers keys) log (suc c) (suc k) ++ option_to_list (configuration (take (suc (suc k)) log)) else []) ≡ []
       go true none = rw (none, h.later k) refl
       go false none = refl
 
   -- the active configurations are that of x alone
-  pub active_alone : (x : NodeId) (log : List Entry) → IsAlone layers x log → (c place : ℕ) → active_upto (ledger_book layers keys) log (suc c) place ≡ (x ∷ []) ∷ []
+  pub active_alone : (x : NodeId) (log : List Entry) → IsAlone x log → (c place : ℕ) → active_upto (ledger_book layers keys) log (suc c) place ≡ (x ∷ []) ∷ []
   active_alone x log h c place = rw (configured x log h c, none_above x log h c place) refl
 
   quorum_alone : (x : NodeId) (n : Node Entry) (place : ℕ) → quorum (λ y. same y x || nat_le place (n.matched y)) ((x ∷ []) ∷ []) ≡ true
@@ -103,7 +103,7 @@ module _ (layers : Layers) (keys : NodeKeys) where
   at_other false place rest = refl
 
   -- the greatest place up to one that may be committed is the last signature there, above commit
-  pub greatest_alone : (x : NodeId) (n : Node Entry) (c : ℕ) → n.commit ≡ suc c → IsAlone layers x n.log →
+  pub greatest_alone : (x : NodeId) (n : Node Entry) (c : ℕ) → n.commit ≡ suc c → IsAlone x n.log →
       ((i : ℕ) (e : Entry) → slice_get n.log i ≡ Some e → e.view ≡ n.view) → (place : ℕ) → place ≤ length n.log →
       greatest_to_commit (ledger_book layers keys) x n place ≡ above n.commit (last_signed (take place n.log))
   unfolding greatest_to_commit
@@ -134,7 +134,7 @@ module _ (layers : Layers) (keys : NodeKeys) where
           ap (λ (b : Bool). if b then Some (suc place) else greatest_to_commit (ledger_book layers keys) x n place) (may_at x n place e at (views place e at) active)
           ∙ go e at before (is_signature e.content) refl ∙ ap (λ (l : List Entry). above n.commit (last_signed l)) (sym (take-next n.log place e at))
 
-  pub advance_alone : (x : NodeId) (n : Node Entry) (c : ℕ) → n.role ≡ Leader → n.commit ≡ suc c → IsAlone layers x n.log →
+  pub advance_alone : (x : NodeId) (n : Node Entry) (c : ℕ) → n.role ≡ Leader → n.commit ≡ suc c → IsAlone x n.log →
       ((i : ℕ) (e : Entry) → slice_get n.log i ≡ Some e → e.view ≡ n.view) →
       advance (ledger_book layers keys) x n ≡ commit_to (ledger_book layers keys) n (above n.commit (last_signed n.log))
   unfolding advance

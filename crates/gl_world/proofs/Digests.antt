@@ -5,7 +5,7 @@ use Rattle.gl_lms.specs.Bytes.{u32str}
 use Rattle.gl_lms.proofs.Spans.{length-u32str}
 use Rattle.gl_lms.proofs.Octets.{u32str_bytes, length-seed_key, seed_key_bytes}
 use Rattle.gl_base.specs.Bytes.{are_bytes, are_sized}
-use Rattle.gl_ledger.proofs.Digests.{bytes-append, are_sized-true}
+use Rattle.gl_gov_rules.proofs.Digests.{bytes-append, are_sized-true}
 use Rattle.gl_world.specs.Keys.{lms_key, hss_key}
 
 pub lms_key_bytes : (seed : List ℕ) → are_bytes (lms_key seed) ≡ true

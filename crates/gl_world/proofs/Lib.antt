@@ -1,9 +1,10 @@
 pub mod Ids
 pub mod Numbers
+pub mod Sharing
 pub mod MemberKeys
 pub mod Digests
 pub mod Endorsements
 pub mod Acceptable
 pub mod Advance
-pub mod Solo
 pub mod Groups
+pub mod Solo

@@ -6,16 +6,20 @@ use Rattle.gl_lms.specs.Tree.{signature_bytes}
 use Rattle.gl_lms.specs.Secrets.{PrivateKey}
 use Rattle.gl_lms.specs.Profile.{signature_by}
 use Rattle.gl_hss.specs.Signer.{Signer}
-use Rattle.gl_ledger.specs.Genesis.{node_id, are_distinct_bytes}
+use Rattle.gl_requests.specs.Spelling.{node_id}
 use Rattle.gl_ledger.specs.NodeKeys.{NodeKeys}
-use Rattle.gl_ledger.specs.declared.genesis.NewNode.{NewNode}
-use Rattle.gl_ledger.specs.declared.genesis.NewMember.{NewMember}
-use Rattle.gl_ledger.specs.declared.genesis.ShareDigest.{ShareDigest}
-use Rattle.gl_ledger.specs.declared.genesis.Dealing.{Dealing}
-use Rattle.gl_ledger.specs.declared.genesis.Genesis as request
+use Rattle.gl_requests.specs.declared.genesis.NewNode.{NewNode}
+use Rattle.gl_requests.specs.declared.genesis.NewMember.{NewMember}
+use Rattle.gl_requests.specs.declared.genesis.ShareDigest.{ShareDigest}
+use Rattle.gl_requests.specs.declared.genesis.Dealing.{Dealing}
+use Rattle.gl_requests.specs.declared.genesis.Genesis as request
+use Rattle.gl_gov_rules.specs.Refusals.{are_keys_distinct}
+use Rattle.gl_shares.specs.Dealing.{polynomials_of}
+use Rattle.gl_shares.specs.Dealing as sharing
+use Rattle.gl_shares.specs.declared.share.Share.{Share}
 use Rattle.gl_rules.specs.Identity.{NodeId}
 use Rattle.gl_world.specs.declared.settings.Settings.{Settings}
-use Rattle.gl_world.specs.Keys.{private_key, lms_key, hss_key, service_seed, node_seed, member_seed, recovery_secret}
+use Rattle.gl_world.specs.Keys.{private_key, lms_key, hss_key, service_seed, node_seed, member_seed, recovery_secret, deal_seed}
 
 -- So many numbers, from the first on.
 abbrev pub numbers_from : ℕ → ℕ → List ℕ
@@ -70,9 +74,16 @@ keys_of s = record {
 abbrev pub member_of : Settings → ℕ → NewMember
 member_of s number = record { number = number; key = hss_key 1 (member_seed s number) }
 
--- One share gives the secret, so each member's share is the secret.
+-- The recovery secret is dealt among all members, and one share gives it.
+abbrev pub dealt_to : Settings → ℕ → Share
+dealt_to s number = sharing.share_of (polynomials_of (recovery_secret s) 1 (deal_seed s)) number
+
+abbrev pub digest_of : Share → ShareDigest
+digest_of share = record { member = share.member; digest = sha256 share.value }
+
+-- The digest of a member's share.
 abbrev pub share_of : Settings → ℕ → ShareDigest
-share_of s number = record { member = number; digest = sha256 (recovery_secret s) }
+share_of s number = digest_of (dealt_to s number)
 
 abbrev pub dealing_of : Settings → Dealing
 dealing_of s = record {
@@ -90,11 +101,10 @@ genesis_of s = record {
   dealing = dealing_of s;
 }
 
--- The keys of so many members, from a number on.
-abbrev pub member_keys : Settings → ℕ → ℕ → List (List ℕ)
-member_keys s first count =
-    map (λ (m : NewMember). m.key) (map (member_of s) (numbers_from first count))
+-- So many members, from a number on.
+abbrev pub members_from : Settings → ℕ → ℕ → List NewMember
+members_from s first count = map (member_of s) (numbers_from first count)
 
 -- No two members have one key.
 abbrev pub has_distinct_keys : Settings → Bool
-has_distinct_keys s = are_distinct_bytes (map (λ (m : NewMember). m.key) (genesis_of s).members)
+has_distinct_keys s = are_keys_distinct (genesis_of s).members

@@ -1,21 +1,23 @@
 -- The settings that a service of several nodes may have, and its ledger as a book.
-use Rattle.std.specs.Prelude.{◌≡◌, ◌≤◌, true}
-use Rattle.gl_ledger.specs.Genesis.{are_distinct_bytes}
+use Rattle.std.specs.Prelude.{◌≡◌, ◌+◌, ◌≤◌, true, map}
+use Rattle.gl_requests.specs.Ranges.{is_first_state}
+use Rattle.gl_gov_rules.specs.Refusals.{are_ids_distinct}
 use Rattle.gl_ledger.specs.NodeKeys.{service_layers}
 use Rattle.gl_ledger.specs.LedgerBook.{ServiceBook, ledger_book}
 use Rattle.gl_world.specs.declared.settings.Settings.{Settings}
-use Rattle.gl_world.specs.Founding.{has_distinct_keys, node_ids, keys_of}
+use Rattle.gl_world.specs.Founding.{numbers_from, has_distinct_keys, node_of, keys_of}
 
 -- 1 to 9 nodes that start and up to 9 that join, with an identifier of their own each, and 1 to 64
--- members with a key of their own each.
+-- members with a key of their own each. The service begins opening or open.
 pub record IsGroup (s : Settings) : Type 0 where
+  pub first_state : is_first_state s.state ≡ true
   pub first : 1 ≤ s.starting
   pub starting : s.starting ≤ 9
   pub joiners : s.joiners ≤ 9
   pub some : 1 ≤ s.members
   pub few : s.members ≤ 64
   pub distinct : has_distinct_keys s ≡ true
-  pub apart : are_distinct_bytes (node_ids s) ≡ true
+  pub apart : are_ids_distinct (map (node_of s) (numbers_from 1 (s.starting + s.joiners))) ≡ true
 
 -- The ledger of the service as a book.
 abbrev pub book_of : Settings → ServiceBook

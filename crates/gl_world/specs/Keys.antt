@@ -34,3 +34,7 @@ member_seed s number = sha256 (codes "mem" ++ little_endian 4 number ++ s.seed)
 -- The recovery secret.
 abbrev pub recovery_secret : Settings → List ℕ
 recovery_secret s = sha256 (codes "secret" ++ s.seed)
+
+-- The seed of the generator that it is dealt with.
+abbrev pub deal_seed : Settings → List ℕ
+deal_seed s = sha256 (codes "deal" ++ s.seed)

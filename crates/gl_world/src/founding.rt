@@ -3,21 +3,22 @@
 ghost use Rattle.std.specs.Prelude.{◌≡◌, ◌≤◌, ◌-◌, ◌^◌, suc, true, IfOk};
 ghost use Rattle.std.specs.List.{list_any};
 ghost use Rattle.sha2.specs.Sha256.{sha256};
-ghost use Rattle.gl_base.specs.Bytes.{same_bytes};
 ghost use Rattle.gl_lms.specs.Tree.{key_bytes};
 ghost use Rattle.gl_lms.specs.Secrets.{public_of};
-ghost use Rattle.gl_ledger.specs.Genesis.{is_genesis};
-ghost use Rattle.gl_world.specs.Keys.{member_seed, recovery_secret};
-ghost use Rattle.gl_world.specs.Founding.{node_of, member_of, share_of, dealing_of, genesis_of, member_keys, signer_of, has_distinct_keys};
+ghost use Rattle.gl_requests.specs.Ranges.{is_genesis};
+ghost use Rattle.gl_gov_rules.specs.Actions.{has_key};
+ghost use Rattle.gl_world.specs.Keys.{member_seed};
+ghost use Rattle.gl_world.specs.Founding.{node_of, member_of, members_from, genesis_of, signer_of, has_distinct_keys};
 ghost use Rattle.gl_world.specs.Single.{IsSingle};
 
+use crate::dealing::dealing;
 use crate::keys::{hss_key, numbered_digest, private_key, word_digest};
 use crate::settings::Settings;
 use gl_base::{Bytes, Sequence};
 use gl_entry::{Digest as ByteDigest, NodeId};
 use gl_hss::{HssPublic, HssSigner, Levels};
-use gl_ledger::{Dealing, Genesis, HssPublicKey, NewMember, NewNode, ShareDigest};
 use gl_lms::identifier_of;
+use gl_requests::{Genesis, HssPublicKey, NewMember, NewNode};
 use sha2::{Digest, Sha256};
 use std::alloc::{AllocError, Global};
 
@@ -51,22 +52,22 @@ fn have_one_key(
     other: u8,
 ) -> Result<bool, AllocError>
     ensures { IfOk result (λ same. same
-        ≡ same_bytes (member_of settings.now number).key (member_of settings.now other).key) }
+        ≡ has_key (member_of settings.now number).key (member_of settings.now other)) }
 {
-    if identifier_of(&member_seed(settings, number))
-        != identifier_of(&member_seed(settings, other))
+    if identifier_of(&member_seed(settings, other))
+        != identifier_of(&member_seed(settings, number))
     {
         return Ok(false);
     }
-    Ok(member_key(alloc, settings, number)? == member_key(alloc, settings, other)?)
+    Ok(member_key(alloc, settings, other)? == member_key(alloc, settings, number)?)
 }
 
 /// Whether a member behind this one has its key.
 fn is_key_repeated(alloc: Global, settings: &Settings, number: u8) -> Result<bool, AllocError>
     requires { number ≤ settings.now.members }
     ensures { IfOk result (λ repeated. repeated
-        ≡ list_any (same_bytes (member_of settings.now number).key)
-        (member_keys settings.now (suc number) (settings.now.members - number))) }
+        ≡ list_any (has_key (member_of settings.now number).key)
+        (members_from settings.now (suc number) (settings.now.members - number))) }
 {
     for i in number..settings.members {
         if have_one_key(alloc, settings, number, i + 1)? {
@@ -98,26 +99,6 @@ fn members(alloc: Global, settings: &Settings) -> Result<Sequence<NewMember>, Al
         members.push(member(alloc, settings, i + 1)?)?;
     }
     Ok(Sequence::from(members))
-}
-
-/// The dealing of the recovery secret, of which one share suffices: each member's share is the
-/// secret.
-fn dealing(alloc: Global, settings: &Settings) -> Result<Dealing, AllocError>
-    ensures { IfOk result (λ dealing. dealing ≡ dealing_of settings.now) }
-{
-    let digest = Sha256::digest(&word_digest(b"secret", &settings.seed));
-    let mut shares = Vec::new(alloc);
-    for i in 0..settings.members {
-        shares.push(ShareDigest {
-            member: i + 1,
-            digest,
-        })?;
-    }
-    Ok(Dealing {
-        threshold: 1,
-        secret_digest: digest,
-        shares: Sequence::from(shares),
-    })
 }
 
 /// The genesis of a service of one node, with the service's key and this node.

@@ -8,7 +8,7 @@ ghost use Rattle.gl_world.specs.Keys.{private_key, hss_key};
 
 use gl_entry::Digest;
 use gl_hss::{HssPublic, Levels, LmsKey, Types};
-use gl_ledger::HssPublicKey;
+use gl_requests::HssPublicKey;
 use sha2::{Digest as _, Sha256};
 use std::alloc::{AllocError, Global};
 

@@ -4,8 +4,9 @@ ghost use Rattle.std.specs.Prelude.{◌≡◌, ◌<◌, ℕ, List, length, true}
 ghost use Rattle.gl_rules.specs.Identity.{NodeId, member};
 ghost use Rattle.gl_rules.specs.Safety.{EachFollows, IsOpening, NeverConflicts};
 ghost use Rattle.gl_tx.specs.declared.request.Operation.{Operation};
-ghost use Rattle.gl_ledger.specs.declared.genesis.GovernanceRequest.{GovernanceRequest};
-ghost use Rattle.gl_ledger.specs.declared.genesis.ServiceState.{ServiceState};
+ghost use Rattle.gl_requests.specs.Ranges.{is_first_state};
+ghost use Rattle.gl_requests.specs.declared.request.GovernanceRequest.{GovernanceRequest};
+ghost use Rattle.gl_requests.specs.declared.genesis.ServiceState.{ServiceState};
 ghost use Rattle.gl_ledger.specs.Makers.{govern_result, request_result, signing_result};
 ghost use Rattle.gl_ledger.specs.Opening.{Begins};
 ghost use Rattle.gl_service.specs.Service.{Leads, ServiceEvent, node_of};
@@ -26,7 +27,7 @@ pub fn is_safe()
     ensures begins { (s : Settings) → IsGroup s → Begins service_layers (start_of s) }
     ensures no_conflict { (s : Settings) → IsGroup s → (events : List ServiceEvent) →
         NeverConflicts (book_of s) (start_of s) events }
-    ensures smallest { (state : ServiceState) (seed : List ℕ) →
+    ensures smallest { (state : ServiceState) (seed : List ℕ) → is_first_state state ≡ true →
         IsGroup (record { starting = 1; joiners = 0; members = 1; state = state; seed = seed }) }
 {}
 
@@ -40,8 +41,10 @@ pub fn has_node_keys()
         length ((keys_of s).endorsement_of x) ≡ 2348 }
 {}
 
-/// A leader of such a service refuses no request, and no signature with a leaf that its key has, for
-/// a rule of the audit, whatever happened before.
+/// A leader of such a service refuses no request for a rule of the audit, whatever happened before.
+/// Nor does it refuse a signature with a leaf that its key has, where it is a node that starts or
+/// joins by the settings. A node that joined with a key of its own is not among those whose keys the
+/// world has, so nothing is said of its signatures.
 pub fn is_unguarded()
     ensures executes { (s : Settings) → IsGroup s → (events : List ServiceEvent) (x : NodeId) →
         Leads service_layers (keys_of s) (start_of s) events x → (request : List Operation) →
@@ -51,9 +54,10 @@ pub fn is_unguarded()
         Leads service_layers (keys_of s) (start_of s) events x → (request : GovernanceRequest) →
         let n = node_of service_layers (keys_of s) (start_of s) events x in
         (book_of s).govern n.log n.view request
-        ≡ govern_result service_layers n.log n.view request }
+        ≡ govern_result n.log n.view request }
     ensures signs { (s : Settings) → IsGroup s → (events : List ServiceEvent) (x : NodeId) →
-        Leads service_layers (keys_of s) (start_of s) events x → (leaf : ℕ) →
+        Leads service_layers (keys_of s) (start_of s) events x →
+        member x (node_ids s) ≡ true → (leaf : ℕ) →
         leaf < (book_of s).leaves x →
         let n = node_of service_layers (keys_of s) (start_of s) events x in
         (book_of s).sign x leaf n.log n.view n.commit

@@ -1,6 +1,7 @@
 //! A service of one schedule: its keys, its genesis, and its ledger as the book of consensus.
 #![tactic(auto)]
 
+mod dealing;
 mod founding;
 mod keys;
 mod laws;

@@ -1,6 +1,6 @@
 //! With what a service of a schedule begins.
 
-use gl_ledger::ServiceState;
+use gl_requests::ServiceState;
 
 /// The settings of a service. All its keys come from one seed.
 #[derive(Clone, Copy, Debug)]
@@ -11,6 +11,7 @@ pub struct Settings {
     pub joiners: u8,
     /// How many members there are, from 1.
     pub members: u8,
+    /// In which the service begins: Opening or Open.
     pub state: ServiceState,
     pub seed: [u8; 32],
 }

@@ -1,7 +1,7 @@
 //! Keys, an endorsement and digests by RFC 8554 over Python's hashlib, from a seed of 32 bytes 07.
 
 use crate::{Founding, Settings, has_distinct_keys};
-use gl_ledger::ServiceState;
+use gl_requests::ServiceState;
 use sha2::{Digest, Sha256};
 use std::test::Fail;
 
@@ -53,5 +53,9 @@ fn founds_a_service_of_three_members(rt: HostRuntime) -> Result<(), Fail> {
     assert_eq!(rt; genesis.members.as_slice()[2].key, MEMBER);
     assert_eq!(rt; genesis.dealing.secret_digest, SECRET);
     assert_eq!(rt; genesis.dealing.shares.as_slice().len(), 3);
+    // One share gives the secret, so each is the secret.
+    for share in genesis.dealing.shares.as_slice() {
+        assert_eq!(rt; share.digest, SECRET);
+    }
     Ok(())
 }

@@ -325,18 +325,34 @@ impl Bench {
         rows_of(self.alloc, &self.state)
     }
 
-    /// Founds an opening service.
-    pub fn found(&mut self, nodes: &[u8], members: &[u8], dealt: Dealt<'_>) -> Result<Told, Fail> {
+    /// Founds an opening service whose nodes the service's key with a number endorses. Each member is
+    /// a number and that of its key.
+    pub fn found_by(
+        &mut self,
+        endorser: u8,
+        nodes: &[u8],
+        members: &[(u8, u8)],
+        dealt: Dealt<'_>,
+    ) -> Result<Told, Fail> {
         let mut bytes = Vec::from_slice(self.alloc, &[1, 1])?;
         bytes.extend_from_slice(&self.identity()?)?;
-        self.put_nodes(&mut bytes, 1, nodes)?;
+        self.put_nodes(&mut bytes, endorser, nodes)?;
         put_length(&mut bytes, 1, members.len())?;
-        for member in members {
-            bytes.push(*member)?;
-            bytes.extend_from_slice(&self.member_key(*member))?;
+        for (number, key) in members {
+            bytes.push(*number)?;
+            bytes.extend_from_slice(&self.member_key(*key))?;
         }
         put_dealing(&mut bytes, dealt)?;
         self.take(bytes)
+    }
+
+    /// Founds an opening service.
+    pub fn found(&mut self, nodes: &[u8], members: &[u8], dealt: Dealt<'_>) -> Result<Told, Fail> {
+        let mut pairs = Vec::new(self.alloc);
+        for member in members {
+            pairs.push((*member, *member))?;
+        }
+        self.found_by(1, nodes, &pairs, dealt)
     }
 
     /// Founds the service anew with its second key.

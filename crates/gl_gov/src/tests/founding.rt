@@ -47,11 +47,35 @@ pub fn acknowledge(rt: &impl Abort, bench: &mut Bench) -> Result<(), Fail> {
 #[test]
 fn counts_64_members(rt: HostRuntime) -> Result<(), Fail> {
     let mut bench = Bench::new(rt.alloc(), 1, 1, 1)?;
+    let members: Vec<u8> = (1..=65).collect(rt.alloc())?;
+    let told = bench.found(&[1], &members, deal(1, &[1]))?;
+    assert_eq!(rt; told, bad(0, Cause::Full));
     let members: Vec<u8> = (1..=64).collect(rt.alloc())?;
     let told = bench.found(&[1], &members, deal(1, &[1]))?;
     assert!(rt; matches!(told, Told::Rows(_)));
     assert!(rt; matches!(bench.ack(1)?, Told::Rows(_)));
     let told = bench.propose(1, &[Act::SetMember(65, 65)])?;
     assert_eq!(rt; told, bad(1, Cause::Full));
+    Ok(())
+}
+
+#[test]
+fn tells_what_is_wrong_with_a_founding(rt: HostRuntime) -> Result<(), Fail> {
+    let mut bench = Bench::new(rt.alloc(), 2, 2, 2)?;
+    let one = deal(1, &[1]);
+    let told = bench.found_by(1, &[1], &[(1, 1), (2, 1)], one)?;
+    assert_eq!(rt; told, bad(0, Cause::KeyUsed));
+    let told = bench.found_by(2, &[1], &[(1, 1)], one)?;
+    assert_eq!(rt; told, refused(GovernanceRefusal::Signature));
+    for dealt in [
+        deal(0, &[1]),
+        deal(2, &[1]),
+        deal(1, &[2, 1]),
+        deal(1, &[1, 1]),
+    ] {
+        let told = bench.found(&[1], &[1, 2], dealt)?;
+        assert_eq!(rt; told, bad(0, Cause::Dealing));
+    }
+    assert!(rt; matches!(bench.found(&[1, 2], &[1, 2], one)?, Told::Rows(_)));
     Ok(())
 }

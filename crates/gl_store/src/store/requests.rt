@@ -12,7 +12,8 @@ use crate::entries::{NO_DIGEST, application_entry, limit_passed, next_signature}
 use gl_base::{LAST_SEQNO, OrNoMemory, TxId};
 use gl_entry::{Content, Entry, NodeId, Signature, signed_message};
 use gl_hss::HssSigner;
-use gl_ledger::{Refusal, ServiceState};
+use gl_ledger::Refusal;
+use gl_requests::ServiceState;
 use gl_tx::{Reply, Request, run};
 use gl_vmaps::Writes;
 use std::alloc::AllocError;
@@ -21,7 +22,7 @@ impl Store {
     ghost use Rattle.gl_rules.specs.Identity.{member};
     ghost use Rattle.gl_ledger.specs.Ledger.{HasViewsUpTo, signature_entry, sign_result};
     ghost use Rattle.gl_ledger.specs.Tree.{tables_of};
-    ghost use Rattle.gl_ledger.specs.Effect.{identity_in, service_state};
+    ghost use Rattle.gl_ledger.specs.ServiceRow.{identity_in, service_state};
     ghost use Rattle.gl_ledger.specs.Recordings.{recorded_nodes};
     ghost use Rattle.gl_ledger.specs.Broken.{may_record};
     ghost use Rattle.gl_ledger.specs.NodeKeys.{service_layers};
@@ -48,10 +49,7 @@ impl Store {
         prove!(request.as_slice().len() <= 64);
         match self.state.service_state {
             ServiceState::Open => self.execute_open(view, request),
-            ServiceState::Opening => {
-                let closed = Refusal::ServiceState(ServiceState::Opening);
-                Err(OrNoMemory::Fault(closed))
-            }
+            state => Err(OrNoMemory::Fault(Refusal::ServiceState(state))),
         }
     }
 
@@ -96,8 +94,8 @@ impl Store {
         signer: &mut HssSigner,
     ) -> Result<TxId, OrNoMemory<Refusal>>
         requires up_to { HasViewsUpTo view self.old.ledger }
-        requires recorded { member node (recorded_nodes service_layers self.old.ledger) ≡ true }
-        requires commit { may_record service_layers self.old.ledger self.old.commit ≡ true }
+        requires recorded { member node (recorded_nodes self.old.ledger) ≡ true }
+        requires commit { may_record self.old.ledger self.old.commit ≡ true }
         requires signer { SignsFor node (identity_in (tables_of self.old.ledger)) signer.old }
         requires left { signer.old.used < signer.old.reserved }
         ensures made { IfOk result (λ id. Signs self.old node signer.old view id self.new) }

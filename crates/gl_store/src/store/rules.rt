@@ -1,30 +1,26 @@
 //! The rules of the audit, by what a store keeps.
 
-ghost use Rattle.std.specs.Prelude.{◌≡◌, ◌+◌, ◌≤◌, ◌<◌, [], Option, None, Some, Ok, true, length, IfOk, IfSome, IfNone};
+ghost use Rattle.std.specs.Prelude.{◌≡◌, ◌+◌, ◌≤◌, ◌<◌, Option, None, Some, Ok, true, length, IfOk, IfSome, IfNone};
+ghost use Rattle.std.specs.List.{list_all};
 ghost use Rattle.std.specs.Option.{option_copied};
 ghost use Rattle.gl_rules.specs.Log.{entry_at};
 ghost use Rattle.gl_entry.specs.Entry.{is_entry};
 ghost use Rattle.gl_vmaps.specs.Tables.{same_value};
-ghost use Rattle.gl_ledger.specs.Genesis.{is_genesis, is_governance_request, genesis_writes};
-ghost use Rattle.gl_ledger.specs.Acceptance.{genesis_fault};
-ghost use Rattle.gl_ledger.specs.Recordings.{is_founding, is_signing};
+ghost use Rattle.gl_requests.specs.Ranges.{is_request};
+ghost use Rattle.gl_ledger.specs.Recordings.{is_founding, is_recovering, is_signing};
 ghost use Rattle.gl_ledger.specs.Broken as rules;
 ghost use Rattle.gl_ledger.specs.declared.breach.Broken as breaches;
 
 use super::Store;
+use crate::removals::are_above_removals;
 use gl_base::{FIRST_VIEW, LAST_SEQNO, OrNoMemory, same_bytes};
 use gl_entry::{Content, Digest, Entry, NodeId, Signature, signed_message, writes_digest};
-use gl_ledger::{
-    Broken, EntryRefusal, Genesis, GovernanceRequest, Recording, ServiceState, genesis_fault,
-    genesis_writes, recording_of,
-};
+use gl_ledger::{Broken, EntryRefusal, Recording, recording_of};
+use gl_requests::{GovernanceRequest, ServiceState};
 use gl_tx::{Ran, Request, run};
 use gl_vmaps::{Value, Write};
 use sha2::{Digest as _, Sha256};
 use std::alloc::AllocError;
-
-/// The map of the rows of nodes (CCF documentation, "Builtin Maps").
-const NODES_MAP: &[u8] = b"public:ccf.gov.nodes";
 
 /// At this seqno another digest is wanted than the one that is found.
 fn replay(rule: u8, seqno: u64, wanted: Digest, found: Digest) -> Broken
@@ -46,6 +42,15 @@ fn is_founding(recording: &Recording) -> bool
     matches!(
         recording,
         Recording::Governance(GovernanceRequest::Genesis(_))
+    )
+}
+
+fn is_recovering(recording: &Recording) -> bool
+    ensures { result ≡ is_recovering recording.now }
+{
+    matches!(
+        recording,
+        Recording::Governance(GovernanceRequest::Recover(_))
     )
 }
 
@@ -91,12 +96,12 @@ fn are_same_writes(one: &[Write], other: &[Write]) -> bool
 }
 
 impl Store {
-    ghost use Rattle.gl_rules.specs.Identity.{member};
+    ghost use Rattle.gl_rules.specs.Identity.{NodeId, member};
     ghost use Rattle.gl_vmaps.specs.declared.write.Write.{Write};
-    ghost use Rattle.gl_ledger.specs.Effect.{service_state};
+    ghost use Rattle.gl_ledger.specs.ServiceRow.{service_state};
     ghost use Rattle.gl_ledger.specs.Tree.{tables_of};
-    ghost use Rattle.gl_ledger.specs.Recordings.{last_entry, recording_of, recorded_nodes};
-    ghost use Rattle.gl_ledger.specs.Broken.{broken, broken_where, broken_by, broken_by_signature, broken_by_governance, broken_by_application, broken_of_run, broken_by_fault, fault_of_signature, breach, is_next_view, is_in_order, may_record, signs_at, with_writes};
+    ghost use Rattle.gl_ledger.specs.Recordings.{last_entry, recording_of, recorded_nodes, mark, removal};
+    ghost use Rattle.gl_ledger.specs.Broken.{broken, broken_where, broken_by, broken_by_signature, broken_by_governance, broken_by_application, broken_of_run, broken_by_fault, fault_of_signature, breach, is_next_view, is_in_order, is_above_removal, last_signed, may_record, signs_at, with_writes};
     ghost use Rattle.gl_ledger.specs.NodeKeys.{service_layers};
 
     /// The first rule of the audit that an entry breaks behind the ledger, if it breaks one. Fails
@@ -113,22 +118,31 @@ impl Store {
 
     /// Whether a node is recorded.
     pub fn is_recorded(&self, node: &NodeId) -> bool
-        ensures { result ≡ member node.now (recorded_nodes service_layers self.now.ledger) }
+        ensures { result ≡ member node.now (recorded_nodes self.now.ledger) }
     {
-        self.state.tables.has(NODES_MAP, node)
+        self.state.gov.history().node(node).is_some()
     }
 
     /// Whether the next signature may record this commit: the seqno of that signature itself, where
     /// it opens the service, or else the seqno of a signature that isn't below the commit that the
-    /// last one recorded.
+    /// last one recorded, nor below the removal of a node that was marked behind that one.
     pub fn may_record(&self, commit: u64) -> bool
-        ensures { result ≡ may_record service_layers self.now.ledger commit }
+        ensures { result ≡ may_record self.now.ledger commit }
     {
         if self.state.entries.len() == 1 {
             commit == 2
         } else {
-            self.signs_at(commit) && self.last_commit() <= commit
+            self.signs_at(commit) && self.last_commit() <= commit && self.is_above_removals(commit)
         }
+    }
+
+    /// Whether the commit isn't below the removal of a node that was marked behind the last signature.
+    fn is_above_removals(&self, commit: u64) -> bool
+        ensures { result ≡ list_all (λ (y : NodeId). is_above_removal (mark self.now.ledger y)
+            (removal self.now.ledger y) (last_signed self.now.ledger) commit)
+            (recorded_nodes self.now.ledger) }
+    {
+        are_above_removals(self.state.gov.history(), self.last_signature(), commit)
     }
 
     /// Whether the entry with a seqno is a signature.
@@ -142,7 +156,7 @@ impl Store {
     }
 
     /// The seqno of the entry that follows.
-    fn next_seqno(&self) -> u64
+    pub(super) fn next_seqno(&self) -> u64
         ensures { result ≡ length self.now.ledger + 1 }
     {
         self.state.entries.len() as u64 + 1
@@ -160,7 +174,7 @@ impl Store {
         recording: &Recording,
         entry: &Entry,
     ) -> Result<Option<Broken>, AllocError>
-        requires { recording_of service_layers entry.now.content ≡ Some recording.now }
+        requires { recording_of entry.now.content ≡ Some recording.now }
         ensures { IfOk result (λ broken. broken
             ≡ broken_where service_layers (Some recording.now) self.now.ledger entry.now) }
     {
@@ -186,7 +200,7 @@ impl Store {
         ensures fits { IfNone result (is_entry entry.now ≡ true) }
         ensures view { IfNone result (
             is_next_view (last_entry self.now.ledger) recording.now entry.now.view ≡ true) }
-        ensures order { IfNone result (is_in_order service_layers (last_entry self.now.ledger)
+        ensures order { IfNone result (is_in_order (last_entry self.now.ledger)
             recording.now entry.now.view ≡ true) }
     {
         let seqno = self.next_seqno();
@@ -219,12 +233,13 @@ impl Store {
 
     fn is_in_order(&self, recording: &Recording, view: u32) -> bool
         ensures { result
-            ≡ is_in_order service_layers (last_entry self.now.ledger) recording.now view }
+            ≡ is_in_order (last_entry self.now.ledger) recording.now view }
     {
         match self.state.entries.last() {
             None => true,
             Some(last) => {
                 !is_founding(recording)
+                    && !is_recovering(recording)
                     && (self.state.entries.len() != 1
                         || (is_signing(recording) && view == last.view))
             }
@@ -255,12 +270,13 @@ impl Store {
         entry: &Entry,
     ) -> Result<Option<Broken>, AllocError>
         ensures { IfOk result (λ broken.
-            broken ≡ broken_by_application service_layers request.now self.now.ledger entry.now) }
+            broken ≡ broken_by_application request.now self.now.ledger entry.now) }
     {
-        if self.state.service_state == ServiceState::Opening {
+        let state = self.state.service_state;
+        if state != ServiceState::Open {
             return Ok(Some(Broken {
                 rule: 5,
-                refusal: EntryRefusal::ServiceState(ServiceState::Opening),
+                refusal: EntryRefusal::ServiceState(state),
             }));
         }
         match run(self.alloc, request, &self.state.tables) {
@@ -288,50 +304,29 @@ impl Store {
     }
 
     /// Rules 7 and 8: a request of governance is accepted, and the entry has the write set of its
-    /// effect. For now that is a genesis, which is the first entry.
+    /// effect.
     fn broken_by_governance(
         &self,
         request: &GovernanceRequest,
         entry: &Entry,
     ) -> Result<Option<Broken>, AllocError>
-        requires first { self.now.ledger ≡ [] }
-        requires fits { is_governance_request request.now ≡ true }
+        requires view { is_next_view (last_entry self.now.ledger)
+            (Recording.Governance request.now) entry.now.view ≡ true }
+        requires order { is_in_order (last_entry self.now.ledger)
+            (Recording.Governance request.now) entry.now.view ≡ true }
+        requires fits { is_request request.now ≡ true }
         ensures { IfOk result (λ broken.
-            broken ≡ broken_by_governance service_layers request.now self.now.ledger entry.now) }
+            broken ≡ broken_by_governance request.now self.now.ledger entry.now) }
     {
-        match request {
-            GovernanceRequest::Genesis(genesis) => self.broken_by_genesis(genesis, entry),
-        }
-    }
-
-    fn broken_by_genesis(
-        &self,
-        genesis: &Genesis,
-        entry: &Entry,
-    ) -> Result<Option<Broken>, AllocError>
-        requires first { self.now.ledger ≡ [] }
-        requires fits { is_genesis genesis.now ≡ true }
-        ensures { IfOk result (λ broken. broken ≡ broken_by_governance service_layers
-            (GovernanceRequest.Genesis genesis.now) self.now.ledger entry.now) }
-    {
-        match genesis_fault(self.alloc, genesis)? {
-            Some(fault) => Ok(Some(Broken {
+        let mut gov = self.state.gov.copy()?;
+        match gov.step(self.next_seqno(), request) {
+            Ok(effect) => Ok(self.with_other_writes(8, entry, effect.writes.as_slice())),
+            Err(OrNoMemory::NoMemory) => Err(AllocError),
+            Err(OrNoMemory::Fault(why)) => Ok(Some(Broken {
                 rule: 7,
-                refusal: EntryRefusal::Genesis(fault),
+                refusal: EntryRefusal::Governance(why),
             })),
-            None => self.with_rows_of(genesis, entry),
         }
-    }
-
-    /// The entry has the rows of a genesis that is accepted.
-    fn with_rows_of(&self, genesis: &Genesis, entry: &Entry) -> Result<Option<Broken>, AllocError>
-        requires accepted { genesis_fault service_layers genesis.now ≡ None }
-        requires fits { is_genesis genesis.now ≡ true }
-        ensures { IfOk result (λ broken. broken ≡ with_writes 8 (length self.now.ledger + 1)
-            (genesis_writes genesis.now) entry.now None) }
-    {
-        let wanted = genesis_writes(self.alloc, genesis)?;
-        Ok(self.with_other_writes(8, entry, wanted.as_slice()))
     }
 
     /// Rules 9 to 11: the node of a signature is recorded, it signed the root of the tree over all
@@ -378,16 +373,16 @@ impl Store {
     }
 
     /// Knows the node that signed the last entry from now on, where that is a signature: the
-    /// endorsement in the node's row is verified once.
+    /// endorsement that was recorded of it is verified once.
     pub(super) fn learn_signer(&mut self)
         ensures { self.new ≡ self.old }
     {
         if let Some(last) = self.state.entries.last()
             && let Content::Signature(signature) = &last.content
             && let Some(identity) = &self.state.identity
-            && let Some(row) = self.state.tables.get(NODES_MAP, &signature.node)
+            && let Some(node) = self.state.gov.history().node(&signature.node)
         {
-            self.known.learn(identity, &signature.node, row);
+            self.known.learn(identity, node);
         }
     }
 }

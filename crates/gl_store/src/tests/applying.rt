@@ -25,7 +25,7 @@ fn first_entries(alloc: Global, store: &Store, count: usize) -> Result<Vec<Entry
 }
 
 // The store of another node, with that many of the entries.
-fn follower(alloc: Global, made: &Store, count: usize) -> Result<Store, Fail> {
+pub fn follower(alloc: Global, made: &Store, count: usize) -> Result<Store, Fail> {
     let mut store = Store::new(alloc)?;
     store.reserve(count)?;
     for entry in first_entries(alloc, made, count)? {
@@ -66,7 +66,7 @@ fn opens_with_its_first_two_entries_alone(rt: HostRuntime) -> Result<(), Fail> {
 
 // What is changed in an entry.
 #[derive(Clone, Copy)]
-enum Change {
+pub enum Change {
     Claims,
     Seqno,
     View,
@@ -149,7 +149,7 @@ fn changed(alloc: Global, change: Change, entry: Entry) -> Result<Entry, Fail> {
 }
 
 // The rule that the entry with a seqno breaks behind those before it, once it is changed.
-fn broken(alloc: Global, made: &Store, seqno: u64, change: Change) -> Result<Broken, Fail> {
+pub fn broken(alloc: Global, made: &Store, seqno: u64, change: Change) -> Result<Broken, Fail> {
     let mut store = follower(alloc, made, (seqno as usize).saturating_sub(1))?;
     let entry = made.entry(seqno).ok_or("no entry")?.copy(alloc)?;
     match store.apply_entry(changed(alloc, change, entry)?) {

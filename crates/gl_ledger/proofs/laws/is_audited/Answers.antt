@@ -10,6 +10,6 @@ pub returns : goal.returns
 returns c = record {
   valid = λ layers keys ledger. (λ h i e at. ap by_rule (audited_none layers ledger h i e at), λ each. audited_all layers ledger (λ i e at. unbroken layers keys _ e (each i e at)));
   fault = λ layers ledger fault h. audited_some layers ledger fault h;
-  sound = λ layers readings ledger h. valid_sound layers readings ledger h;
+  sound = λ layers ledger h. valid_sound layers ledger h;
   commits = λ layers keys ledger h. (commits_kept layers keys ledger (λ i e at. ap by_rule (audited_none layers ledger h i e at))).greatest;
 }

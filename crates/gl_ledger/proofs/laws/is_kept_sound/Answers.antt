@@ -4,5 +4,5 @@ use Rattle.gl_ledger.proofs.laws.is_kept_sound.Goals as goal
 pub returns : goal.returns
 returns c = record {
   empty = λ layers. sound_empty layers;
-  longer = λ layers readings ledger e sound h. sound-push layers readings ledger e sound h;
+  longer = λ layers ledger e sound h. sound-push layers ledger e sound h;
 }

@@ -1,4 +1,5 @@
-use Rattle.gl_ledger.proofs.Lawful.{lawful, retiring}
+use Rattle.gl_ledger.proofs.Lawful.{lawful}
+use Rattle.gl_ledger.proofs.Retiring.{retiring}
 use Rattle.gl_ledger.proofs.laws.is_lawful.Goals as goal
 
 pub returns : goal.returns

@@ -4,5 +4,5 @@ use Rattle.gl_ledger.proofs.laws.is_signed.Goals as goal
 pub returns : goal.returns
 returns c = record {
   valid = λ keys identity x leaf message h low. node_signs keys identity x leaf message h low;
-  makes = λ request_in keys identity x leaf ledger view commit h low is. node_makes request_in keys identity x leaf ledger view commit h low is;
+  makes = λ keys identity x leaf ledger view commit h low is. node_makes keys identity x leaf ledger view commit h low is;
 }

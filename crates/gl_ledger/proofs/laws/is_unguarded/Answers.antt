@@ -1,9 +1,11 @@
 use Rattle.gl_ledger.proofs.Making.{execute_is}
+use Rattle.gl_ledger.proofs.Governing.{govern_is}
 use Rattle.gl_ledger.proofs.Signing.{sign_is}
 use Rattle.gl_ledger.proofs.laws.is_unguarded.Goals as goal
 
 pub returns : goal.returns
 returns c = record {
   executes = λ layers keys ledger view low m request. execute_is layers keys ledger view low m request;
+  governs = λ layers keys ledger view low m sound request. govern_is layers keys ledger view low m sound request;
   signs = λ layers keys ledger view low m node leaf commit valid named may. sign_is layers keys ledger view commit low m node leaf named may valid;
 }

@@ -2,7 +2,7 @@ use Rattle.std.proofs.Common.{rules, ◌≡◌, ◌&&◌, true, length, nat_le, 
 use Rattle.std.proofs.lemmas.Bool.{and_from}
 use Rattle.std.proofs.lemmas.Bool.Decides.{nat_tests}
 use Rattle.gl_base.specs.Bytes.{are_bytes, mebibyte, are_sized}
-use Rattle.gl_ledger.proofs.Digests.{are_sized-true}
+use Rattle.gl_gov_rules.proofs.Digests.{are_sized-true}
 use Rattle.gl_store.proofs.Recorded.{bytes_within}
 use Rattle.gl_store.proofs.tests.named.Goals as goal
 
@@ -12,5 +12,5 @@ returns-clause-fits c =
     let key : are_sized 56 c.args.key ≡ true = are_sized-true 56 c.args.key size (bytes_within c.args.key (λ i low. search rules)) in
     let bytes : are_bytes c.from.result ≡ true = rw c.from.ensures (bytes_within c.args.endorsement.items (λ i low. search rules)) in
     let short : nat_le (length c.from.result) mebibyte ≡ true = rw c.from.ensures (let most = c.requires in grind (arith, nat_tests)) in
-    and_from (are_sized 56 c.args.key && are_bytes c.from.result) (nat_le (length c.from.result) mebibyte)
-    (and_from (are_sized 56 c.args.key) (are_bytes c.from.result) key bytes) short
+    and_from (are_sized 56 c.args.key) (are_bytes c.from.result && nat_le (length c.from.result) mebibyte) key
+    (and_from (are_bytes c.from.result) (nat_le (length c.from.result) mebibyte) bytes short)

@@ -8,8 +8,8 @@ use Rattle.gl_world.proofs.founding.have_one_key.Goals as goal
 
 pub returns-then-ne : goal.returns-then-ne
 returns-then-ne c =
-    let a = member_seed c.args.settings.now c.args.number in
-    let b = member_seed c.args.settings.now c.args.other in
+    let a = member_seed c.args.settings.now c.args.other in
+    let b = member_seed c.args.settings.now c.args.number in
     let one : c.identifier_of.result ≡ identifier_of a = c.identifier_of.ensures ∙ ap identifier_of c.member_seed.ensures in
     let other : c.identifier_of-2.result ≡ identifier_of b = c.identifier_of-2.ensures ∙ ap identifier_of c.member_seed-2.ensures in
     sym (keys_differ 1 a b (

@@ -1,6 +1,6 @@
 use Rattle.std.proofs.Common.{◌≡◌, ◌∙◌, Option, Some, ap, subst, sym}
 use Rattle.gl_ledger.specs.declared.breach.Broken.{Broken}
-use Rattle.gl_store.proofs.Keeping.{broken_unread, broken_read}
+use Rattle.gl_store.proofs.RuleTests.{broken_unread, broken_read}
 use Rattle.gl_store.proofs.store.Store.broken.Goals as goal
 
 pub returns-in-None : goal.returns-in-None

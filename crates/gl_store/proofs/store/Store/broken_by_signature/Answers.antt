@@ -1,11 +1,11 @@
-use Rattle.std.proofs.Common.{rules, refl, ℕ, ◌+◌, ◌≡◌, ◌<◌, ◌∙◌, length, true, false, Bool, Option, Some, ap, sym, subst, arith}
+use Rattle.std.proofs.Common.{rules, refl, ℕ, ◌≡◌, ◌<◌, ◌∙◌, length, true, false, Some, ap, sym, subst, arith}
 use Rattle.gl_merkle.specs.Tree.{root_of}
 use Rattle.gl_merkle.specs.Frontier.{count_of}
 use Rattle.gl_ledger.specs.Tree.{leaves_of}
 use Rattle.gl_ledger.specs.declared.breach.Broken.{Broken}
 use Rattle.gl_ledger.specs.Broken.{replay}
 use Rattle.gl_store.specs.Kept.{Held}
-use Rattle.gl_store.proofs.Keeping.{signature_asked}
+use Rattle.gl_store.proofs.RuleTests.{signature_asked}
 use Rattle.gl_store.proofs.TablesLaws.{of_frontier, count_of_frontier}
 use Rattle.gl_store.proofs.store.Store.broken_by_signature.Goals as goal
 

@@ -19,6 +19,6 @@ invariant_of-self c =
     let new = c.cut.new.self in
     let committed : k.commit ≤ c.args.to = subst (λ (h : Held). h.commit ≤ c.args.to) (sym c.self.view_is) c.requires.committed in
     let within : c.args.to ≤ length ledger = subst (λ (h : Held). c.args.to ≤ length h.ledger) (sym c.self.view_is) c.requires.within in
-    kept-cut ledger new.entries.items _ c.args.to new.signatures.items new.service_state new.identity new.tables new.frontier c.self.invariant committed within
-    c.cut.ensures.entries c.cut.ensures.signatures c.cut.ensures.tables c.cut.ensures.base c.cut.ensures.whole (record { state_told = c.cut.ensures.state; identity_told = c.cut.ensures.identity })
+    kept-cut ledger new.entries.items _ c.args.to new.signatures.items new.gov new.service_state new.identity new.tables new.frontier c.self.invariant committed within
+    c.cut.ensures.entries c.cut.ensures.signatures c.cut.ensures.gov c.cut.ensures.tables c.cut.ensures.base c.cut.ensures.whole (record { state_told = c.cut.ensures.state; identity_told = c.cut.ensures.identity })
     c.cut.ensures.leaves

@@ -1,21 +1,20 @@
 use Rattle.std.proofs.Common.{◌≡◌, ◌+◌, ◌≤◌, ◌∙◌, ℕ, List, Ok, None, refl, length, subst, sym, arith}
-use Rattle.gl_base.specs.declared.tx_id.TxId.{TxId}
 use Rattle.gl_entry.specs.Entry.{body_bytes, body_limit}
 use Rattle.gl_entry.specs.declared.entry.Entry.{Entry}
 use Rattle.gl_tx.specs.declared.runs.Ran.{Ran}
 use Rattle.gl_tx.specs.declared.request.Operation.{Operation}
-use Rattle.gl_ledger.specs.Effect.{service_state}
+use Rattle.gl_ledger.specs.ServiceRow.{service_state}
 use Rattle.gl_ledger.specs.Tree.{writes_of, tables_of}
 use Rattle.gl_ledger.specs.Ledger.{HasViewsUpTo, execute_result}
 use Rattle.gl_ledger.specs.NodeKeys.{service_layers}
 use Rattle.gl_ledger.specs.Broken.{broken}
 use Rattle.gl_store.specs.Kept.{Held}
 use Rattle.gl_ledger.specs.Makers.{request_result}
-use Rattle.gl_store.specs.Calls.{Executes, Refuses}
-use Rattle.gl_ledger.specs.declared.genesis.ServiceState.TheVariants.{Open}
+use Rattle.gl_store.specs.Calls.{Refuses}
+use Rattle.gl_requests.specs.declared.genesis.ServiceState.TheVariants.{Open}
 use Rattle.gl_ledger.proofs.Applications.{made_within}
 use Rattle.gl_store.proofs.Applications.{executes_made, refused_run}
-use Rattle.gl_store.proofs.Keeping.{execution_unbroken}
+use Rattle.gl_store.proofs.Unbroken.{execution_unbroken}
 use Rattle.gl_store.proofs.store.Store.execute_open.Goals as goal
 
 pub push-requires : goal.push-requires

@@ -1,4 +1,4 @@
-use Rattle.std.proofs.Common.{◌≡◌, List, [], subst}
+use Rattle.std.proofs.Common.{◌≡◌, [], subst}
 use Rattle.gl_store.specs.Kept.{Held}
 use Rattle.gl_store.proofs.Keeping.{unkeyed}
 use Rattle.gl_store.proofs.store.Store.identity.Goals as goal

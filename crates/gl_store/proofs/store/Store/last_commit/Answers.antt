@@ -1,6 +1,5 @@
-use Rattle.std.proofs.Common.{◌≡◌, ◌∙◌, ℕ, sym, ap}
+use Rattle.std.proofs.Common.{◌∙◌, ℕ, sym, ap}
 use Rattle.gl_rules.specs.Log.{entry_at}
-use Rattle.gl_ledger.specs.Broken.{last_signed}
 use Rattle.gl_store.specs.Kept.{commit_at}
 use Rattle.gl_store.proofs.SignatureSeqnos.{last_commit-is}
 use Rattle.gl_store.proofs.store.Store.last_commit.Goals as goal

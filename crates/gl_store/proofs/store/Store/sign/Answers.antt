@@ -1,11 +1,10 @@
 use Rattle.std.proofs.Common.{◌≡◌, ◌+◌, ◌<◌, ℕ, length, subst, ap, arith}
 use Rattle.gl_base.specs.TxId.{last_seqno}
-use Rattle.gl_entry.specs.declared.entry.Entry.{Entry}
 use Rattle.gl_ledger.specs.Ledger.{signature_entry}
 use Rattle.gl_store.specs.Kept.{Held}
 use Rattle.gl_store.specs.Calls.{signature_of}
 use Rattle.gl_store.proofs.Applications.{signs_made}
-use Rattle.gl_store.proofs.Keeping.{short_endorsement, signing_some, signing_unbroken}
+use Rattle.gl_store.proofs.Unbroken.{short_endorsement, signing_some, signing_unbroken}
 use Rattle.gl_store.proofs.store.Store.sign.Goals as goal
 
 pub signature_entry-requires-clause-some : goal.signature_entry-requires-clause-some

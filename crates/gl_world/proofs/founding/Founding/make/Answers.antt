@@ -1,7 +1,7 @@
 -- What is made is the genesis of the settings, of which the rest is known.
 use Rattle.std.proofs.Common.{rules, ◌≡◌, true, sym, subst}
-use Rattle.gl_ledger.specs.Genesis.{is_genesis}
-use Rattle.gl_ledger.specs.declared.genesis.Genesis as request
+use Rattle.gl_requests.specs.Ranges.{is_genesis}
+use Rattle.gl_requests.specs.declared.genesis.Genesis as request
 use Rattle.gl_world.proofs.Acceptable.{genesis_fits}
 use Rattle.gl_world.proofs.founding.Founding.make.Goals as goal
 

@@ -1,4 +1,4 @@
-use Rattle.std.proofs.Common.{◌≡◌, ◌≤◌, ℕ, List, length, take, subst, sym, arith}
+use Rattle.std.proofs.Common.{◌≡◌, ◌≤◌, length, take, subst, sym, arith}
 use Rattle.gl_merkle.specs.Frontier.{count_of}
 use Rattle.gl_merkle.specs.Path.{path_of}
 use Rattle.gl_ledger.specs.Tree.{leaves_of}

@@ -1,0 +1,17 @@
+//! What is decided on a request of governance: why it is refused, or what it brings about.
+#![tactic(auto)]
+
+pub use changes::with_request;
+pub use refusals::refusal;
+
+mod actions;
+mod changes;
+mod foundings;
+mod limits;
+mod node_refusals;
+mod proposal_refusals;
+mod refusals;
+mod share_refusals;
+mod signature_refusals;
+mod signatures;
+mod tally;

@@ -1,0 +1,89 @@
+//! Counting the ballots on a proposal, and whether they settle it.
+
+ghost use Rattle.std.specs.Prelude.{◌≡◌};
+ghost use Rattle.gl_requests.specs.Spelling.{action_number};
+ghost use Rattle.gl_gov_rules.specs.Service.{constitution};
+ghost use Rattle.gl_gov_rules.specs.Tally.{answer_count, tally, rule_of, is_met, is_out_of_reach, is_accepted, is_rejected};
+
+use gl_gov_rules::{History, Tally};
+use gl_requests::{Action, Digest, Rule};
+
+/// How many of the members who are active in the past gave this answer in the requests of `with`.
+#[tactic(auto, unfolding(gl_gov_rules::specs::Tally::answer_count))]
+fn answer_count(past: &History, with: &History, id: &Digest, agrees: bool) -> usize
+    ensures { result ≡ answer_count past.now with.now.requests id.now agrees }
+{
+    past.members()
+        .iter()
+        .filter(|member| {
+            past.is_active(member.number) && with.has_answered(id, agrees, member.number)
+        })
+        .count()
+}
+
+/// The ballots on a proposal in the requests of `with`, counted anew over the members who are
+/// active in the past.
+pub fn tally(past: &History, with: &History, id: &Digest) -> Tally
+    ensures { result ≡ tally past.now with.now.requests id.now }
+{
+    Tally {
+        all: past.active_count() as u64,
+        agreed: answer_count(past, with, id, true) as u64,
+        refused: answer_count(past, with, id, false) as u64,
+    }
+}
+
+/// The rule of an action under the constitution in force.
+fn rule_of(past: &History, action: &Action) -> Option<Rule>
+    ensures { result ≡ rule_of (constitution past.now) (action_number action.now) }
+{
+    match past.constitution() {
+        None => None,
+        Some(rules) => rules.get(action.number() as usize - 1).copied(),
+    }
+}
+
+/// Whether more than the fraction of the active members agreed.
+fn is_met(tally: Tally, rule: Option<Rule>) -> bool
+    ensures { result ≡ is_met tally rule }
+{
+    match rule {
+        None => false,
+        Some(rule) => {
+            rule.num as u128 * (tally.all as u128) < tally.agreed as u128 * (rule.den as u128)
+        }
+    }
+}
+
+/// Whether so many refused that the others are no more than the fraction.
+fn is_out_of_reach(tally: Tally, rule: Option<Rule>) -> bool
+    ensures { result ≡ is_out_of_reach tally rule }
+{
+    match rule {
+        None => false,
+        Some(rule) => {
+            let others = tally.all.saturating_sub(tally.refused);
+            rule.num as u128 * (tally.all as u128) >= others as u128 * (rule.den as u128)
+        }
+    }
+}
+
+/// Whether the rule of each of a proposal's actions is met.
+#[tactic(auto, unfolding(gl_gov_rules::specs::Tally::is_accepted))]
+pub fn is_accepted(past: &History, tally: Tally, actions: &[Action]) -> bool
+    ensures { result ≡ is_accepted past.now tally actions.now }
+{
+    actions
+        .iter()
+        .all(|action| is_met(tally, rule_of(past, action)))
+}
+
+/// Whether the rule of one of a proposal's actions can't be met any more.
+#[tactic(auto, unfolding(gl_gov_rules::specs::Tally::is_rejected))]
+pub fn is_rejected(past: &History, tally: Tally, actions: &[Action]) -> bool
+    ensures { result ≡ is_rejected past.now tally actions.now }
+{
+    actions
+        .iter()
+        .any(|action| is_out_of_reach(tally, rule_of(past, action)))
+}

@@ -1,9 +1,0 @@
-use Rattle.std.proofs.Common.{arith}
-use Rattle.gl_vmaps.proofs.Bytes.{is_key-bytes, is_value-bytes}
-use Rattle.gl_ledger.proofs.rows.row.Goals as goal
-
-pub from_slice-requires-2 : goal.from_slice-requires-2
-from_slice-requires-2 c = is_key-bytes c.args.key.now (λ i. omega (arith, c.type_inv.key i)) c.requires.some_key c.requires.few_key
-
-pub of-requires : goal.of-requires
-of-requires c = rw c.in_ok-from_slice.ensures.items (is_value-bytes c.args.value.now (λ i. omega (arith, c.type_inv.value i)) c.requires.value)

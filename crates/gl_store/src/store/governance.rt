@@ -1,0 +1,121 @@
+//! What a store makes of requests of governance.
+
+ghost use Rattle.std.specs.Prelude.{◌≡◌, ◌==◌, ◌+◌, ◌≤◌, ◌<◌, ◌^◌, [], ◌∷◌, ◌++◌, true, false, None, length, IfOk, IfErr, OnOk, OnErr};
+ghost use Rattle.gl_entry.specs.Entry.{is_entry, body_bytes, body_limit, content_bytes};
+ghost use Rattle.gl_requests.specs.Ranges.{is_genesis, is_request};
+ghost use Rattle.gl_gov_rules.specs.Governed.{is_founding, is_recovery};
+ghost use Rattle.gl_gov.specs.State as steps;
+
+use super::Store;
+use crate::entries::{governance_entry, governance_limit_passed};
+use gl_base::{FIRST_VIEW, OrNoMemory, TxId};
+use gl_entry::Entry;
+use gl_gov::GovernanceEffect;
+use gl_gov_rules::GovernanceRefusal;
+use gl_ledger::Refusal;
+use gl_requests::{Genesis, GovernanceRequest};
+use std::alloc::AllocError;
+
+impl Store {
+    ghost use Rattle.gl_gov_rules.specs.Changes.{history};
+    ghost use Rattle.gl_gov_rules.specs.History.{no_history};
+    ghost use Rattle.gl_gov_rules.specs.Refusals.{refusal, genesis_refusal};
+    ghost use Rattle.gl_gov_rules.specs.Rows.{effect_writes};
+    ghost use Rattle.gl_gov.specs.State.{proposal_status, share_count};
+    ghost use Rattle.gl_ledger.specs.Ledger.{HasViewsUpTo, genesis_entry, governance_entry};
+    ghost use Rattle.gl_ledger.specs.Recordings.{requests_of};
+    ghost use Rattle.gl_ledger.specs.Makers.{govern_result};
+    ghost use Rattle.gl_store.specs.Calls.{Governs, Refuses};
+
+    /// Takes a request of governance that founds no service, and makes its entry, in a view that isn't
+    /// below that of any entry before. Gives the entry's identifier and what the request did. Refused,
+    /// in this order, for what it asks, where the entry's body has more than 1 MiB, and where no seqno
+    /// is left. Want of memory, too, leaves the store as it was.
+    pub fn govern(
+        &mut self,
+        view: u32,
+        request: &GovernanceRequest,
+    ) -> Result<(TxId, GovernanceEffect), OrNoMemory<Refusal>>
+        requires up_to { HasViewsUpTo view self.old.ledger }
+        requires opened { 2 ≤ length self.old.ledger }
+        requires fits { is_request request.now ≡ true }
+        requires founding { is_founding request.now ≡ false }
+        requires recovery { is_recovery request.now ≡ false }
+        ensures made { IfOk result (λ made. Governs self.old view request.now made.0 self.new) }
+        ensures writes { IfOk result (λ made. made.1.writes
+            ≡ effect_writes (requests_of self.old.ledger)
+            (record { seqno = length self.old.ledger + 1; request = request.now })) }
+        ensures proposal { IfOk result (λ made. made.1.proposal
+            ≡ proposal_status (history (requests_of self.new.ledger)) request.now) }
+        ensures shares { IfOk result (λ made.
+            made.1.shares ≡ share_count (history (requests_of self.new.ledger))) }
+        ensures refused { IfErr result (λ e.
+            Refuses (govern_result self.old.ledger view request.now) e) }
+        ensures err { OnErr result (self.new ≡ self.old) }
+    {
+        let seqno = self.state.entries.len() as u64 + 1;
+        let (entry, effect) = match self.governance_entry(view, request) {
+            Ok(made) => made,
+            Err(OrNoMemory::NoMemory) => return Err(OrNoMemory::NoMemory),
+            Err(OrNoMemory::Fault(why)) => {
+                return Err(OrNoMemory::Fault(Refusal::Governance(why)));
+            }
+        };
+        if let Some(refusal) = governance_limit_passed(entry.body_len(), seqno) {
+            return Err(OrNoMemory::Fault(refusal));
+        }
+        self.push(entry)?;
+        Ok((TxId { view, seqno }, effect))
+    }
+
+    /// The entry of a request of governance behind the ledger, and what the request does. Refused
+    /// where the rules of governance refuse it.
+    fn governance_entry(
+        &self,
+        view: u32,
+        request: &GovernanceRequest,
+    ) -> Result<(Entry, GovernanceEffect), OrNoMemory<GovernanceRefusal>>
+        requires founding { is_founding request.now ≡ (length self.now.ledger == 0) }
+        requires fits { is_request request.now ≡ true }
+        ensures accepted { OnOk result (refusal (history (requests_of self.now.ledger))
+            (length self.now.ledger + 1) request.now ≡ None) }
+        ensures made { IfOk result (λ made.
+            made.0 ≡ governance_entry request.now self.now.ledger view) }
+        ensures recorded { IfOk result (λ made. length (content_bytes made.0.content) < 2 ^ 32) }
+        ensures written { IfOk result (λ made. length made.0.writes < 2 ^ 32) }
+        ensures entry { IfOk result (λ made.
+            length (body_bytes made.0) ≤ body_limit → is_entry made.0 ≡ true) }
+        ensures writes { IfOk result (λ made. made.1.writes
+            ≡ effect_writes (requests_of self.now.ledger)
+            (record { seqno = length self.now.ledger + 1; request = request.now })) }
+        ensures proposal { IfOk result (λ made. made.1.proposal ≡ proposal_status
+            (history (requests_of (self.now.ledger ++ made.0 ∷ []))) request.now) }
+        ensures shares { IfOk result (λ made. made.1.shares
+            ≡ share_count (history (requests_of (self.now.ledger ++ made.0 ∷ [])))) }
+        ensures refused { IfErr result (λ e. steps.Refuses (refusal
+            (history (requests_of self.now.ledger)) (length self.now.ledger + 1) request.now) e) }
+    {
+        let seqno = self.next_seqno();
+        let mut gov = self.state.gov.copy()?;
+        let effect = gov.step(seqno, request)?;
+        let writes = effect.writes.copy(self.alloc)?;
+        let entry = governance_entry(self.alloc, view, seqno, request, writes)?;
+        Ok((entry, effect))
+    }
+
+    /// The entry of a genesis in a store of no entries.
+    pub(super) fn genesis_entry(&self, genesis: Genesis) -> Result<Entry, AllocError>
+        requires first { self.now.ledger ≡ [] }
+        requires accepted { genesis_refusal no_history genesis ≡ None }
+        requires fits { is_genesis genesis ≡ true }
+        ensures made { IfOk result (λ entry. entry ≡ genesis_entry genesis) }
+        ensures fits { IfOk result (λ entry. is_entry entry ≡ true) }
+    {
+        let request = GovernanceRequest::Genesis(genesis);
+        match self.governance_entry(FIRST_VIEW, &request) {
+            Ok((entry, _)) => Ok(entry),
+            Err(OrNoMemory::NoMemory) => Err(AllocError),
+            Err(OrNoMemory::Fault(_)) => unreachable!(),
+        }
+    }
+}

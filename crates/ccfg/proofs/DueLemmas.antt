@@ -18,7 +18,7 @@ use Rattle.ccfg.specs.Faults.{fault_line}
 use Rattle.ccfg.specs.Owed.{Due, OfBytes, Owes, Run, Runs, Written, WritesDue, bytes_limit, due_of, due_of_fault, due_of_form, due_of_reading, due_of_receipt, due_of_schedule, ending_of_fault, json_limit, lines_limit}
 use Rattle.ccfg.specs.Plans.{EndsSource, ShowsAccepted, due_of_plan, fault_of_length, limit_of}
 use Rattle.ccfg.specs.Promises.{TellsAccepted}
-use Rattle.ccfg.specs.Schedules.{reads}
+use Rattle.gl_schedule.specs.Schedules.{reads}
 
 -- a fault that is told
 pub writes_fault : (fault : Fault) (w : Written) → Appends w.held w.holds (fault_line fault) → WritesDue (ending_of_fault fault) w (due_of_fault fault)

@@ -13,12 +13,12 @@ use Rattle.gl_receipt.specs.declared.fault.ReceiptFault.{ReceiptFault}
 use Rattle.ccfg.specs.declared.ending.Ending.{Ending}
 use Rattle.ccfg.specs.declared.ending.Ending.TheVariants as endings
 use Rattle.ccfg.specs.declared.fault.Fault.TheVariants as faults
-use Rattle.ccfg.specs.declared.schedule.Schedule.{Schedule}
+use Rattle.gl_schedule.specs.declared.schedule.Schedule.{Schedule}
 use Rattle.ccfg.specs.declared.words.Task.{Task}
 use Rattle.ccfg.specs.declared.words.Task.TheVariants as tasks
 use Rattle.ccfg.specs.Owed.{Due, bytes_limit, due_of, due_of_fault, due_of_form, due_of_reading, due_of_receipt, due_of_schedule, due_of_verdict, json_limit, lines_limit}
 use Rattle.ccfg.specs.Promises.{HasBadLine, HasOtherForm, HasTooManyBytes, HasTooManyLines, HasTooMuchJson, IsAnswer, IsPastLimit, IsReceipt, IsRefusal, IsUnread, ReadsAs}
-use Rattle.ccfg.specs.Schedules.{reads}
+use Rattle.gl_schedule.specs.Schedules.{reads}
 
 -- What an ending and a text say of the bytes that are owed them.
 abbrev pub Means : Task → List ℕ → Ending → List ℕ → Type 0

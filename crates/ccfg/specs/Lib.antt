@@ -1,11 +1,3 @@
-pub mod Schedules
-pub mod GovernanceText
-pub mod Text
-pub mod Told
-pub mod Moments
-pub mod Machine
-pub mod LineAnswers
-pub mod Play
 pub mod Words
 pub mod Faults
 pub mod Owed

@@ -19,12 +19,12 @@ use Rattle.ccfg.specs.declared.fault.Fault.{Fault}
 use Rattle.ccfg.specs.declared.fault.Fault.TheVariants as faults
 use Rattle.ccfg.specs.declared.ending.Ending.{Ending}
 use Rattle.ccfg.specs.declared.ending.Ending.TheVariants as endings
-use Rattle.ccfg.specs.declared.schedule.Schedule.{Schedule}
+use Rattle.gl_schedule.specs.declared.schedule.Schedule.{Schedule}
 use Rattle.ccfg.specs.declared.words.Task.{Task}
 use Rattle.ccfg.specs.declared.words.Task.TheVariants as tasks
 use Rattle.ccfg.specs.Faults.{fault_line}
-use Rattle.ccfg.specs.Schedules.{reads}
-use Rattle.ccfg.specs.Told.{text_of_schedule}
+use Rattle.gl_schedule.specs.Schedules.{reads}
+use Rattle.gl_schedule.specs.Told.{text_of_schedule}
 
 abbrev pub exit_status : Ending → ℕ
 exit_status endings.Done = 0

@@ -3,34 +3,29 @@ use Rattle.std.specs.Prelude.{◌≡◌, ℕ, Bool, List, Ok, true}
 use Rattle.gl_receipt.specs.Form.{receipt_from}
 use Rattle.gl_receipt.specs.Receipt.{Accepts}
 use Rattle.gl_receipt.specs.declared.components.Receipt.{Receipt}
-use Rattle.gl_world.specs.Single.{IsSingle}
 use Rattle.ccfg.specs.declared.ending.Ending.{Ending}
 use Rattle.ccfg.specs.declared.ending.Ending.TheVariants as endings
 use Rattle.ccfg.specs.declared.fault.Fault.{Fault}
 use Rattle.ccfg.specs.declared.fault.Fault.TheVariants as faults
 use Rattle.ccfg.specs.declared.plan.Plan.{Plan}
 use Rattle.ccfg.specs.declared.plan.Plan.TheVariants.{Play, Show, Refuse}
-use Rattle.ccfg.specs.declared.schedule.Schedule.{Schedule}
-use Rattle.ccfg.specs.declared.schedule.Schedule.TheVariants.{Empty, Service}
+use Rattle.gl_schedule.specs.declared.schedule.Schedule.{Schedule}
+use Rattle.gl_schedule.specs.Playable.{IsPlayable}
 use Rattle.ccfg.specs.declared.words.Task.{Task}
 use Rattle.ccfg.specs.declared.words.Task.TheVariants as tasks
 use Rattle.ccfg.specs.Owed.{Due, bytes_limit, due_of_fault, json_limit, valid_line}
-use Rattle.ccfg.specs.Told.{text_of_schedule}
+use Rattle.gl_schedule.specs.Told.{text_of_schedule}
 
 abbrev pub due_of_plan : Plan → Due
 due_of_plan (Play schedule) = record { ending = endings.Done; text = text_of_schedule schedule }
 due_of_plan (Show id) = record { ending = endings.Done; text = valid_line id }
 due_of_plan (Refuse fault) = due_of_fault fault
 
--- The service of a schedule, if it has one, is of one node.
-abbrev pub HasOneNode : Schedule → Type 0
-HasOneNode Empty = Unit {0}
-HasOneNode (Service settings lines) = IsSingle settings
-
-abbrev pub PlaysOneNode : Plan → Type 0
-PlaysOneNode (Play schedule) = HasOneNode schedule
-PlaysOneNode (Show id) = Unit {0}
-PlaysOneNode (Refuse fault) = Unit {0}
+-- A schedule that is to be played is one that may be read.
+abbrev pub PlansPlayable : Plan → Type 0
+PlansPlayable (Play schedule) = IsPlayable schedule
+PlansPlayable (Show id) = Unit {0}
+PlansPlayable (Refuse fault) = Unit {0}
 
 -- With a key nothing is played, and a transaction is told only where the bytes are a receipt that
 -- is accepted for it.

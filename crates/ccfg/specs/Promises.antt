@@ -14,13 +14,13 @@ use Rattle.gl_receipt.specs.Verdict.{verdict}
 use Rattle.gl_receipt.specs.declared.components.Receipt.{Receipt}
 use Rattle.gl_receipt.specs.declared.fault.ReceiptFault.{ReceiptFault}
 use Rattle.ccfg.specs.declared.fault.Fault.TheVariants as faults
-use Rattle.ccfg.specs.declared.schedule.Schedule.{Schedule}
+use Rattle.gl_schedule.specs.declared.schedule.Schedule.{Schedule}
 use Rattle.ccfg.specs.declared.words.Task.{Task}
 use Rattle.ccfg.specs.declared.words.Task.TheVariants as tasks
 use Rattle.ccfg.specs.Faults.{fault_line}
 use Rattle.ccfg.specs.Owed.{bytes_limit, json_limit, lines_limit, valid_line}
-use Rattle.ccfg.specs.Schedules.{reads}
-use Rattle.ccfg.specs.Told.{text_of_schedule}
+use Rattle.gl_schedule.specs.Schedules.{reads}
+use Rattle.gl_schedule.specs.Told.{text_of_schedule}
 
 -- Schedules
 

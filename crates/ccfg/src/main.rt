@@ -3,18 +3,12 @@
 
 mod ending;
 mod fault;
-mod governance_text;
 mod help;
 mod load;
-mod machine;
-mod outcome;
 mod plan;
-mod play;
 mod program;
-mod schedule;
 #[cfg(test)]
 mod tests;
-mod text;
 mod verify;
 mod words;
 

@@ -3,16 +3,16 @@
 ghost use Rattle.std.specs.Prelude.{◌≡◌, ◌≤◌, ◌<◌, ◌^◌, Err, IfOk, length};
 ghost use Rattle.gl_outside.specs.Fault.{Rose};
 ghost use Rattle.ccfg.specs.Owed.{OfBytes, bytes_limit, due_of, due_of_schedule};
-ghost use Rattle.ccfg.specs.Plans.{EndsSource, ShowsAccepted, PlaysOneNode, due_of_plan, fault_of_length, limit_of};
+ghost use Rattle.ccfg.specs.Plans.{EndsSource, ShowsAccepted, PlansPlayable, due_of_plan, fault_of_length, limit_of};
 
 use crate::fault::Fault;
 use crate::load::{LoadStop, load};
-use crate::schedule::{Schedule, read};
 use crate::verify::receipt_plan;
 use crate::words::Task;
 use gl_base::{OrNoMemory, TxId};
 use gl_lines::{ScheduleFault, line_count};
 use gl_outside::Source;
+use gl_schedule::{Schedule, read};
 use std::alloc::{AllocError, Global};
 
 /// The most bytes that a schedule has.
@@ -62,7 +62,7 @@ impl Task {
 fn schedule_plan(alloc: Global, text: &[u8]) -> Result<Plan, AllocError>
     requires { length text.now ≤ bytes_limit }
     ensures due { IfOk result (λ plan. due_of_schedule text.now ≡ due_of_plan plan) }
-    ensures one_node { IfOk result (λ plan. PlaysOneNode plan) }
+    ensures playable { IfOk result (λ plan. PlansPlayable plan) }
 {
     if line_count(text) > LINES_LIMIT {
         return Ok(Plan::Refuse(Fault::TooManyLines));
@@ -81,7 +81,7 @@ fn plan_of(alloc: Global, task: &Task, text: &[u8]) -> Result<Plan, AllocError>
     requires { length text.now ≤ limit_of task.now }
     ensures due { IfOk result (λ plan. due_of task.now text.now ≡ due_of_plan plan) }
     ensures sound { IfOk result (λ plan. ShowsAccepted task.now text.now plan) }
-    ensures one_node { IfOk result (λ plan. PlaysOneNode plan) }
+    ensures playable { IfOk result (λ plan. PlansPlayable plan) }
 {
     match task {
         Task::Replay => schedule_plan(alloc, text),
@@ -104,7 +104,7 @@ pub fn read_plan<S: Source>(alloc: Global, task: &Task, source: &mut S) -> Resul
         OfBytes (S.left source.old) (λ given. ShowsAccepted task.now given plan)) }
     ensures ended { IfOk result (λ plan.
         EndsSource (due_of_plan plan).ending (S.ended source.new)) }
-    ensures one_node { IfOk result (λ plan. PlaysOneNode plan) }
+    ensures playable { IfOk result (λ plan. PlansPlayable plan) }
     ensures failed { result ≡ Err PlanStop.SourceFailed →
         Rose (S.faults source.old) (S.faults source.new) }
 {

@@ -11,22 +11,22 @@ ghost use Rattle.ccfg.specs.declared.ending.Ending.TheVariants.{Done};
 ghost use Rattle.ccfg.specs.declared.plan.Plan.TheVariants.{Play, Show};
 ghost use Rattle.ccfg.specs.declared.words.Task.TheVariants.{Verify};
 ghost use Rattle.ccfg.specs.declared.words.Task.{Task as Tasks};
-ghost use Rattle.ccfg.specs.Moments.{KeepsHeadline, TellsMoments};
+ghost use Rattle.gl_schedule.specs.Moments.{KeepsHeadline, TellsMoments};
 ghost use Rattle.ccfg.specs.Owed.{Answers, OfBytes, Runs, WritesDue, due_of, due_of_fault, exit_status};
-ghost use Rattle.ccfg.specs.Plans.{HasOneNode, PlaysOneNode, due_of_plan};
+ghost use Rattle.gl_schedule.specs.Playable.{IsPlayable};
+ghost use Rattle.ccfg.specs.Plans.{PlansPlayable, due_of_plan};
 ghost use Rattle.ccfg.specs.Promises.{IsAnswer, IsKindLine, IsPastLimit, IsRefusal, IsUnread, Tells, TellsAccepted, TellsFront};
-ghost use Rattle.ccfg.specs.Schedules.{reads};
+ghost use Rattle.gl_schedule.specs.Schedules.{reads};
 ghost use Rattle.ccfg.specs.Words.{asked};
 
 use crate::ending::Ending;
 use crate::fault::Fault;
 use crate::plan::{Plan, PlanStop, read_plan};
-use crate::play::play;
-use crate::schedule::Schedule;
 use crate::verify::valid_line;
 use crate::words::{Task, WordsFault, read_words};
 use gl_base::TxId;
 use gl_outside::{Disk, Gate, Link, Sink, SinkFault, Source, write_whole};
+use gl_schedule::{Schedule, play};
 use std::alloc::Global;
 
 /// Tells a fault.
@@ -69,7 +69,7 @@ fn show<K: Sink>(alloc: Global, id: TxId, sink: &mut K) -> Ending
 
 /// Plays a schedule; one without a service prints nothing.
 fn perform<K: Sink>(alloc: Global, schedule: &Schedule, sink: &mut K) -> Ending
-    requires { HasOneNode schedule.now }
+    requires { IsPlayable schedule.now }
     ensures { WritesDue result (record {
       held = K.holds sink.old;
       holds = K.holds sink.new;
@@ -88,7 +88,7 @@ fn perform<K: Sink>(alloc: Global, schedule: &Schedule, sink: &mut K) -> Ending
 }
 
 fn carry_out<K: Sink>(alloc: Global, plan: &Plan, sink: &mut K) -> Ending
-    requires { PlaysOneNode plan.now }
+    requires { PlansPlayable plan.now }
     ensures { WritesDue result (record {
       held = K.holds sink.old;
       holds = K.holds sink.new;

@@ -2,7 +2,7 @@
 
 ghost use Rattle.std.specs.Prelude.{◌≡◌, ◌≤◌, ◌++◌, IfOk, OnOk, length};
 ghost use Rattle.ccfg.specs.Owed.{due_of_receipt, json_limit, valid_line};
-ghost use Rattle.ccfg.specs.Plans.{ShowsAccepted, PlaysOneNode, due_of_plan};
+ghost use Rattle.ccfg.specs.Plans.{ShowsAccepted, PlansPlayable, due_of_plan};
 ghost use Rattle.ccfg.specs.declared.words.Task.TheVariants.{Verify};
 
 use crate::fault::Fault;
@@ -18,7 +18,7 @@ pub fn receipt_plan(alloc: Global, identity: &HssPublicKey, text: &[u8]) -> Resu
     requires { length text.now ≤ json_limit }
     ensures due { IfOk result (λ plan. due_of_receipt identity.now text.now ≡ due_of_plan plan) }
     ensures sound { IfOk result (λ plan. ShowsAccepted (Verify identity.now) text.now plan) }
-    ensures one_node { IfOk result (λ plan. PlaysOneNode plan) }
+    ensures playable { IfOk result (λ plan. PlansPlayable plan) }
 {
     match read_receipt(alloc, text) {
         Ok(receipt) => match verify(identity, &receipt) {

@@ -18,7 +18,7 @@ use Rattle.gl_requests.specs.declared.request.MemberAct.{MemberAct}
 use Rattle.gl_forms.specs.Form.{value_in, text_in, flag_in, number_in, sized_in, endorsement_in, pair_in, some_object_in, object_at, member_at, half_at, word_at}
 use Rattle.gl_forms.specs.Parts.{member_in, node_in, share_in, dealing_names, dealing_in, dealing_at}
 use Rattle.gl_forms.specs.Actions.{set_member_in, remove_member_in, set_threshold_in, node_id_in, trust_node_in, remove_node_in, open_service_in, action_names, rule_at, rules_of, rules_in, set_constitution_in, action_named, action_in, actions_in}
-use Rattle.gl_forms.specs.Requests.{proposal_in, ack_in, propose_in, ballot_in, withdraw_in, share_act_in, act_named, act_in}
+use Rattle.gl_forms.specs.Requests.{ack_in, propose_in, ballot_in, withdraw_in, share_act_in, act_named, act_in}
 use Rattle.gl_forms.specs.Key.{one_key_in, has_endorsement, node_key_names, optional_endorsement_in, node_key_in, key_of_kind, key_in}
 use Rattle.gl_forms.specs.Ranges.{is_endorsement, is_key}
 use Rattle.gl_forms.specs.declared.key.KeyForm.{KeyForm}
@@ -184,15 +184,11 @@ actions_are list are =
     let most : nat_le (length list) 16 ≡ true = grind (arith, nat_tests, are.most) in
     and_from (is_action_count (length list)) (list_all is_action list) (and_from (nat_le 1 (length list)) (nat_le (length list) 16) least most) are.all
 
-actions_fit : (value : Data) → Fits (λ list. are_actions list ≡ true) (actions_in value)
+pub actions_fit : (value : Data) → Fits (λ list. are_actions list ≡ true) (actions_in value)
 unfolding actions_in
 actions_fit value = weaker (list_fits action_in is_action action_fits 1 16 [] (codes "actions") value) actions_are
 
 -- ---- requests
-
-pub proposal_fits : (value : Data) → Fits (λ list. are_actions list ≡ true) (proposal_in value)
-unfolding proposal_in
-proposal_fits value = behind_any (object_at [] (codes "actions" ∷ []) value) (λ only. actions_fit value)
 
 abbrev IsAct : MemberAct → Type 0
 IsAct a = is_act a ≡ true

@@ -17,9 +17,11 @@ use gl_requests::{Action, MemberAct};
 use serde_json::Value;
 use std::alloc::Global;
 
+/// The actions of the proposal that a JSON tree is, or the first value of it that has another form.
 #[tactic(auto, unfolding(crate::specs::Requests::proposal_in))]
-fn proposal_in(alloc: Global, value: &Value) -> Result<Sequence<Action>, OrNoMemory<FormsFault>>
-    ensures { Answers (λ s. s) result (proposal_in (view value.now)) }
+pub fn proposal_in(alloc: Global, value: &Value) -> Result<Sequence<Action>, OrNoMemory<FormsFault>>
+    ensures exact { Answers (λ s. s) result (proposal_in (view value.now)) }
+    ensures fits { IfOk result (λ s. are_actions s ≡ true) }
 {
     object_at(alloc, &Place::Whole, &["actions"], value)?;
     actions_in(alloc, value)

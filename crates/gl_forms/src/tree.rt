@@ -9,8 +9,9 @@ use gl_base::{FormsFault, OrNoMemory};
 use serde_json::Value;
 use std::alloc::Global;
 
-pub(crate) fn read_tree(alloc: Global, text: &[u8]) -> Result<Value, OrNoMemory<FormsFault>>
-    ensures { Answers view result (tree_from text.now) }
+/// The JSON tree that a text is, all of it. One that is not UTF-8, or nests deeper than 127, is none.
+pub fn read_tree(alloc: Global, text: &[u8]) -> Result<Value, OrNoMemory<FormsFault>>
+    ensures exact { Answers view result (tree_from text.now) }
 {
     match Value::from_slice(alloc, text) {
         Ok(tree) => Ok(tree),

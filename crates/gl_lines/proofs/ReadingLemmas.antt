@@ -31,67 +31,67 @@ unfolding before
 one_more number front line (Ok lines) = ap Ok (sym (append_assoc front (line ∷ []) lines))
 one_more number front line (Err other) = refl
 
-first_line : (number : ℕ) (line : List ℕ) (lines : List (List ℕ)) (open_behind : Bool) →
-    lines_read number (line ∷ lines) open_behind ≡ before number (line_of line) (lines_read (suc number) lines open_behind)
+first_line : (ids : List (List ℕ)) (number : ℕ) (line : List ℕ) (lines : List (List ℕ)) (open_behind : Bool) →
+    lines_read ids number (line ∷ lines) open_behind ≡ before number (line_of ids line) (lines_read ids (suc number) lines open_behind)
 unfolding before lines_read
-first_line number line lines open_behind = refl
+first_line ids number line lines open_behind = refl
 
 line_here : (lines : List (Bor (List ℕ))) (i : ℕ) (d : Bor (List ℕ)) → i < length lines → bytes_of (drop i lines) ≡ (get_or lines i d).now ∷ bytes_of (drop (i + 1) lines)
 line_here lines i d within =
     let here : drop i lines ≡ get_or lines i d ∷ drop (i + 1) lines = rw add-one (drop-cons lines i d within) in
     ap bytes_of here
 
-read_here : (lines : List (Bor (List ℕ))) (i : ℕ) (d : Bor (List ℕ)) (open_behind : Bool) → i < length lines →
-    lines_read (2 + i) (bytes_of (drop i lines)) open_behind
-    ≡ before (2 + i) (line_of (get_or lines i d).now) (lines_read (2 + (i + 1)) (bytes_of (drop (i + 1) lines)) open_behind)
-read_here lines i d open_behind within =
+read_here : (ids : List (List ℕ)) (lines : List (Bor (List ℕ))) (i : ℕ) (d : Bor (List ℕ)) (open_behind : Bool) → i < length lines →
+    lines_read ids (2 + i) (bytes_of (drop i lines)) open_behind
+    ≡ before (2 + i) (line_of ids (get_or lines i d).now) (lines_read ids (2 + (i + 1)) (bytes_of (drop (i + 1) lines)) open_behind)
+read_here ids lines i d open_behind within =
     let next : suc (2 + i) ≡ 2 + (i + 1) = omega arith in
-    ap (λ (ls : List (List ℕ)). lines_read (2 + i) ls open_behind) (line_here lines i d within)
-    ∙ first_line (2 + i) (get_or lines i d).now (bytes_of (drop (i + 1) lines)) open_behind
-    ∙ ap (λ (n : ℕ). before (2 + i) (line_of (get_or lines i d).now) (lines_read n (bytes_of (drop (i + 1) lines)) open_behind)) next
+    ap (λ (ls : List (List ℕ)). lines_read ids (2 + i) ls open_behind) (line_here lines i d within)
+    ∙ first_line ids (2 + i) (get_or lines i d).now (bytes_of (drop (i + 1) lines)) open_behind
+    ∙ ap (λ (n : ℕ). before (2 + i) (line_of ids (get_or lines i d).now) (lines_read ids n (bytes_of (drop (i + 1) lines)) open_behind)) next
 
 -- one more line that reads
-pub read_step : (R : Result (List Line) ScheduleFault) (front front' : List Line) (lines : List (Bor (List ℕ))) (i : ℕ) (d : Bor (List ℕ)) (line : Line) (open_behind : Bool) → i < length lines →
-    line_of (get_or lines i d).now ≡ Ok line → front' ≡ front ++ line ∷ [] →
-    with_lines front (lines_read (2 + i) (bytes_of (drop i lines)) open_behind) ≡ R →
-    with_lines front' (lines_read (2 + (i + 1)) (bytes_of (drop (i + 1) lines)) open_behind) ≡ R
-read_step R front front' lines i d line open_behind within reads taken so_far =
-    let rest = lines_read (2 + (i + 1)) (bytes_of (drop (i + 1) lines)) open_behind in
+pub read_step : (ids : List (List ℕ)) (R : Result (List Line) ScheduleFault) (front front' : List Line) (lines : List (Bor (List ℕ))) (i : ℕ) (d : Bor (List ℕ)) (line : Line) (open_behind : Bool) → i < length lines →
+    line_of ids (get_or lines i d).now ≡ Ok line → front' ≡ front ++ line ∷ [] →
+    with_lines front (lines_read ids (2 + i) (bytes_of (drop i lines)) open_behind) ≡ R →
+    with_lines front' (lines_read ids (2 + (i + 1)) (bytes_of (drop (i + 1) lines)) open_behind) ≡ R
+read_step ids R front front' lines i d line open_behind within reads taken so_far =
+    let rest = lines_read ids (2 + (i + 1)) (bytes_of (drop (i + 1) lines)) open_behind in
     ap (λ (f : List Line). with_lines f rest) taken
     ∙ sym (one_more (2 + i) front line rest)
     ∙ ap (λ (o : Result Line LineFault). with_lines front (before (2 + i) o rest)) (sym reads)
-    ∙ ap (with_lines front) (sym (read_here lines i d open_behind within))
+    ∙ ap (with_lines front) (sym (read_here ids lines i d open_behind within))
     ∙ so_far
 
 -- one that says nothing
-pub bad_step : (stop : OrNoMemory LineFault) (answer : OrNoMemory ScheduleFault) (R : Result (List Line) ScheduleFault) (front : List Line) (lines : List (Bor (List ℕ))) (i : ℕ) (d : Bor (List ℕ)) (open_behind : Bool) → i < length lines →
-    Fails stop (line_of (get_or lines i d).now) → AtLine (i + 2) stop answer →
-    with_lines front (lines_read (2 + i) (bytes_of (drop i lines)) open_behind) ≡ R → Fails answer R
+pub bad_step : (ids : List (List ℕ)) (stop : OrNoMemory LineFault) (answer : OrNoMemory ScheduleFault) (R : Result (List Line) ScheduleFault) (front : List Line) (lines : List (Bor (List ℕ))) (i : ℕ) (d : Bor (List ℕ)) (open_behind : Bool) → i < length lines →
+    Fails stop (line_of ids (get_or lines i d).now) → AtLine (i + 2) stop answer →
+    with_lines front (lines_read ids (2 + i) (bytes_of (drop i lines)) open_behind) ≡ R → Fails answer R
 unfolding before
-bad_step NoMemory answer R front lines i d open_behind within stopped is so_far = subst (λ (a : OrNoMemory ScheduleFault). Fails a R) (sym is) tt
-bad_step (Fault fault) answer R front lines i d open_behind within stopped is so_far =
+bad_step ids NoMemory answer R front lines i d open_behind within stopped is so_far = subst (λ (a : OrNoMemory ScheduleFault). Fails a R) (sym is) tt
+bad_step ids (Fault fault) answer R front lines i d open_behind within stopped is so_far =
     let number : 2 + i ≡ i + 2 = omega arith in
     subst (λ (a : OrNoMemory ScheduleFault). Fails a R) (sym is) (
     sym so_far
-    ∙ ap (with_lines front) (read_here lines i d open_behind within)
-    ∙ ap (λ (o : Result Line LineFault). with_lines front (before (2 + i) o (lines_read (2 + (i + 1)) (bytes_of (drop (i + 1) lines)) open_behind))) stopped
+    ∙ ap (with_lines front) (read_here ids lines i d open_behind within)
+    ∙ ap (λ (o : Result Line LineFault). with_lines front (before (2 + i) o (lines_read ids (2 + (i + 1)) (bytes_of (drop (i + 1) lines)) open_behind))) stopped
     ∙ ap (λ (n : ℕ). Err (BadLine n)) number
     )
 
 -- and behind the last one
-at_end : (R : Result (List Line) ScheduleFault) (front : List Line) (lines : List (Bor (List ℕ))) (i : ℕ) (open_behind : Bool) → length lines ≤ i →
-    with_lines front (lines_read (2 + i) (bytes_of (drop i lines)) open_behind) ≡ R → R ≡ with_lines front (if open_behind then Err (BadLine (2 + i)) else Ok [])
+at_end : (ids : List (List ℕ)) (R : Result (List Line) ScheduleFault) (front : List Line) (lines : List (Bor (List ℕ))) (i : ℕ) (open_behind : Bool) → length lines ≤ i →
+    with_lines front (lines_read ids (2 + i) (bytes_of (drop i lines)) open_behind) ≡ R → R ≡ with_lines front (if open_behind then Err (BadLine (2 + i)) else Ok [])
 unfolding lines_read
-at_end R front lines i open_behind past so_far =
-    sym so_far ∙ ap (λ (ls : List (Bor (List ℕ))). with_lines front (lines_read (2 + i) (bytes_of ls) open_behind)) (drop_of_length-le lines past)
+at_end ids R front lines i open_behind past so_far =
+    sym so_far ∙ ap (λ (ls : List (Bor (List ℕ))). with_lines front (lines_read ids (2 + i) (bytes_of ls) open_behind)) (drop_of_length-le lines past)
 
-pub open_step : (R : Result (List Line) ScheduleFault) (front : List Line) (lines : List (Bor (List ℕ))) (i : ℕ) (open_behind : Bool) → length lines ≤ i → i ≤ length lines → open_behind ≡ true →
-    with_lines front (lines_read (2 + i) (bytes_of (drop i lines)) open_behind) ≡ R → R ≡ Err (BadLine (length lines + 2))
-open_step R front lines i open_behind past within is_open so_far =
+pub open_step : (ids : List (List ℕ)) (R : Result (List Line) ScheduleFault) (front : List Line) (lines : List (Bor (List ℕ))) (i : ℕ) (open_behind : Bool) → length lines ≤ i → i ≤ length lines → open_behind ≡ true →
+    with_lines front (lines_read ids (2 + i) (bytes_of (drop i lines)) open_behind) ≡ R → R ≡ Err (BadLine (length lines + 2))
+open_step ids R front lines i open_behind past within is_open so_far =
     let number : 2 + i ≡ length lines + 2 = omega arith in
-    at_end R front lines i open_behind past so_far ∙ ap (λ (b : Bool). with_lines front (if b then Err (BadLine (2 + i)) else Ok [])) is_open ∙ ap (λ (n : ℕ). Err (BadLine n)) number
+    at_end ids R front lines i open_behind past so_far ∙ ap (λ (b : Bool). with_lines front (if b then Err (BadLine (2 + i)) else Ok [])) is_open ∙ ap (λ (n : ℕ). Err (BadLine n)) number
 
-pub end_step : (R : Result (List Line) ScheduleFault) (front : List Line) (lines : List (Bor (List ℕ))) (i : ℕ) (open_behind : Bool) → length lines ≤ i → open_behind ≡ false →
-    with_lines front (lines_read (2 + i) (bytes_of (drop i lines)) open_behind) ≡ R → R ≡ Ok front
-end_step R front lines i open_behind past none so_far =
-    at_end R front lines i open_behind past so_far ∙ ap (λ (b : Bool). with_lines front (if b then Err (BadLine (2 + i)) else Ok [])) none ∙ ap Ok (append-nil front)
+pub end_step : (ids : List (List ℕ)) (R : Result (List Line) ScheduleFault) (front : List Line) (lines : List (Bor (List ℕ))) (i : ℕ) (open_behind : Bool) → length lines ≤ i → open_behind ≡ false →
+    with_lines front (lines_read ids (2 + i) (bytes_of (drop i lines)) open_behind) ≡ R → R ≡ Ok front
+end_step ids R front lines i open_behind past none so_far =
+    at_end ids R front lines i open_behind past so_far ∙ ap (λ (b : Bool). with_lines front (if b then Err (BadLine (2 + i)) else Ok [])) none ∙ ap Ok (append-nil front)

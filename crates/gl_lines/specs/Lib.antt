@@ -3,8 +3,12 @@ pub mod Words
 pub mod Parts
 pub mod Numbers
 pub mod Operations
+pub mod References
+pub mod MemberLines
+pub mod Unread
 pub mod Groups
 pub mod Reading
 pub mod Worlds
 pub mod Nodes
+pub mod Kept
 pub mod AtLines

@@ -17,6 +17,7 @@ use Rattle.gl_lines.specs.Lines.{cut, newline, lines_of, is_open}
 use Rattle.gl_lines.specs.Words.{space, words_of, is, hex_sized}
 use Rattle.gl_lines.specs.Numbers.{counted_number}
 use Rattle.gl_lines.specs.Operations.{operations_of}
+use Rattle.gl_lines.specs.MemberLines.{ack_line, propose_line, ballot_line, withdraw_line, again_line}
 
 -- A line behind the first: the name of its command, the number of a node, and what the command asks
 -- for behind that. Each stands apart by one space, and what is left may have spaces of its own.
@@ -41,24 +42,36 @@ abbrev pub if_parsed : ℕ → Result TxId TxIdFault → Result Line LineFault
 if_parsed node (Ok id) = Ok (lines.Status node id)
 if_parsed node (Err fault) = Err NoReading
 
+-- What a member asks for.
+abbrev pub member_line : List (List ℕ) → List ℕ → ℕ → List ℕ → Result Line LineFault
+member_line ids name node rest =
+    if is name (codes "ack") then ack_line node rest
+    else (if is name (codes "propose") then propose_line ids node rest
+    else (if is name (codes "ballot") then ballot_line node (words_of rest)
+    else (if is name (codes "withdraw") then withdraw_line node (words_of rest)
+    else (if is name (codes "again") then again_line node rest else Err NoReading))))
+
 -- A command that asks for what stands behind its node.
-abbrev pub long_line : List ℕ → ℕ → List ℕ → Result Line LineFault
-long_line name node rest =
+abbrev pub long_line : List (List ℕ) → List ℕ → ℕ → List ℕ → Result Line LineFault
+long_line ids name node rest =
     if is name (codes "submit") then submit_line node rest
-    else (if is name (codes "status") then if_parsed node (parsed rest) else Err NoReading)
+    else (if is name (codes "status") then if_parsed node (parsed rest)
+    else member_line ids name node rest)
 
-unfoldable pub node_line : List ℕ → ℕ → Option (List ℕ) → Result Line LineFault
-node_line name node None = short_line name node
-node_line name node (Some rest) = long_line name node rest
+unfoldable pub node_line : List (List ℕ) → List ℕ → ℕ → Option (List ℕ) → Result Line LineFault
+node_line ids name node None = short_line name node
+node_line ids name node (Some rest) = long_line ids name node rest
 
-unfoldable pub command_line : List ℕ → Option (List ℕ) → Result Line LineFault
-command_line name None = Err NoReading
-command_line name (Some text) =
-    counted_number (cut space text).front >>= λ node. node_line name node (cut space text).behind
+unfoldable pub command_line : List (List ℕ) → List ℕ → Option (List ℕ) → Result Line LineFault
+command_line ids name None = Err NoReading
+command_line ids name (Some text) =
+    counted_number (cut space text).front >>= λ node.
+    node_line ids name node (cut space text).behind
 
--- What a line behind the first says, if it says something.
-unfoldable pub line_of : List ℕ → Result Line LineFault
-line_of line = command_line (cut space line).front (cut space line).behind
+-- What a line behind the first says, if it says something. `ids` are the identifiers of the nodes
+-- that it may name.
+unfoldable pub line_of : List (List ℕ) → List ℕ → Result Line LineFault
+line_of ids line = command_line ids (cut space line).front (cut space line).behind
 
 -- The first line: so many nodes that start and nodes that join, so many members, the state in which
 -- the service begins, and its seed.
@@ -119,12 +132,13 @@ first_line text = first_line_of (cut newline text).front (cut newline text).behi
 
 -- The lines from one with this number on, or the first that says nothing; an open line says
 -- nothing.
-unfoldable pub lines_read : ℕ → List (List ℕ) → Bool → Result (List Line) ScheduleFault
-lines_read number [] open_behind = if open_behind then Err (BadLine number) else Ok []
-lines_read number (line ∷ lines) open_behind =
-    or_line number (line_of line) >>= λ first.
-    lines_read (suc number) lines open_behind >>= λ rest. Ok (first ∷ rest)
+unfoldable pub lines_read : List (List ℕ) → ℕ → List (List ℕ) → Bool →
+    Result (List Line) ScheduleFault
+lines_read ids number [] open_behind = if open_behind then Err (BadLine number) else Ok []
+lines_read ids number (line ∷ lines) open_behind =
+    or_line number (line_of ids line) >>= λ first.
+    lines_read ids (suc number) lines open_behind >>= λ rest. Ok (first ∷ rest)
 
--- The lines of the text behind the first line.
-unfoldable pub lines_behind : List ℕ → Result (List Line) ScheduleFault
-lines_behind text = lines_read 2 (lines_of text).lines (is_open (lines_of text))
+-- The lines of the text behind the first line, in which these nodes may be named.
+unfoldable pub lines_behind : List (List ℕ) → List ℕ → Result (List Line) ScheduleFault
+lines_behind ids text = lines_read ids 2 (lines_of text).lines (is_open (lines_of text))

@@ -3,10 +3,12 @@
 
 mod fault;
 mod line;
+mod members;
 mod names;
 mod numbers;
 mod operations;
 mod reading;
+mod references;
 mod split;
 mod world;
 

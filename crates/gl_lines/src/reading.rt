@@ -1,21 +1,25 @@
 //! What the text of a schedule says.
 
-ghost use Rattle.std.specs.Prelude.{◌≡◌};
+ghost use Rattle.std.specs.Prelude.{◌≡◌, IfOk};
+ghost use Rattle.std.specs.List.{AllByRecursion};
 ghost use Rattle.std.specs.Option.{option_copied};
 ghost use Rattle.gl_base.specs.Answers.{Answers};
 ghost use Rattle.gl_base.specs.declared.or_no_memory.OrNoMemory.TheVariants.{Fault};
 ghost use Rattle.gl_lines.specs.declared.fault.ScheduleFault.TheVariants.{BadLine};
 ghost use Rattle.gl_lines.specs.Parts.{bytes_of};
 ghost use Rattle.gl_lines.specs.AtLines.{AtLine};
-ghost use Rattle.gl_lines.specs.Reading.{first_line, line_of, lines_behind, lines_read, long_line, node_line, request_of, short_line, submit_line};
+ghost use Rattle.gl_lines.specs.Kept.{IsFit};
+ghost use Rattle.gl_lines.specs.Reading.{first_line, line_of, lines_behind, lines_read, long_line, member_line, node_line, request_of, short_line, submit_line};
 
 use crate::fault::{LineFault, ScheduleFault};
 use crate::line::{Line, Lines};
+use crate::members::{ack_line, again_line, ballot_line, propose_line, withdraw_line};
 use crate::numbers::counted_number;
 use crate::operations::operations_of;
 use crate::split::{cut, lines_of, words_of};
 use crate::world::{WorldLine, world_of};
 use gl_base::{OrNoMemory, TxId};
+use gl_requests::NodeId;
 use gl_tx::{Operation, Request};
 use std::alloc::Global;
 
@@ -55,14 +59,40 @@ fn submit_line(alloc: Global, node: u128, rest: &[u8]) -> Result<Line, OrNoMemor
     Ok(request_of(node, operations)?)
 }
 
+/// What a member asks for.
+fn member_line(
+    alloc: Global,
+    name: &[u8],
+    node: u128,
+    rest: &[u8],
+    ids: &[NodeId],
+) -> Result<Line, OrNoMemory<LineFault>>
+    ensures { Answers (λ x. x) result (member_line ids.now name.now node rest.now) }
+{
+    if name == b"ack".as_slice() {
+        Ok(ack_line(node, rest)?)
+    } else if name == b"propose".as_slice() {
+        propose_line(alloc, node, rest, ids)
+    } else if name == b"ballot".as_slice() {
+        Ok(ballot_line(node, &words_of(alloc, rest)?)?)
+    } else if name == b"withdraw".as_slice() {
+        Ok(withdraw_line(node, &words_of(alloc, rest)?)?)
+    } else if name == b"again".as_slice() {
+        Ok(again_line(node, rest)?)
+    } else {
+        Err(OrNoMemory::Fault(LineFault::NoReading))
+    }
+}
+
 /// A command that asks for what stands behind its node.
 fn long_line(
     alloc: Global,
     name: &[u8],
     node: u128,
     rest: &[u8],
+    ids: &[NodeId],
 ) -> Result<Line, OrNoMemory<LineFault>>
-    ensures { Answers (λ x. x) result (long_line name.now node rest.now) }
+    ensures { Answers (λ x. x) result (long_line ids.now name.now node rest.now) }
 {
     if name == b"submit".as_slice() {
         submit_line(alloc, node, rest)
@@ -72,7 +102,7 @@ fn long_line(
             Err(_) => Err(OrNoMemory::Fault(LineFault::NoReading)),
         }
     } else {
-        Err(OrNoMemory::Fault(LineFault::NoReading))
+        member_line(alloc, name, node, rest, ids)
     }
 }
 
@@ -82,26 +112,28 @@ fn node_line(
     name: &[u8],
     node: u128,
     rest: Option<&[u8]>,
+    ids: &[NodeId],
 ) -> Result<Line, OrNoMemory<LineFault>>
-    ensures { Answers (λ x. x) result (node_line name.now node (option_copied rest.entry)) }
+    ensures { Answers (λ x. x) result
+        (node_line ids.now name.now node (option_copied rest.entry)) }
 {
     match rest {
         None => Ok(short_line(name, node)?),
-        Some(rest) => long_line(alloc, name, node, rest),
+        Some(rest) => long_line(alloc, name, node, rest, ids),
     }
 }
 
-/// What a line behind the first one says.
+/// What a line behind the first one says, in which these nodes may be named.
 #[tactic(auto, unfolding(crate::specs::Reading::line_of, crate::specs::Reading::command_line))]
-fn line_of(alloc: Global, line: &[u8]) -> Result<Line, OrNoMemory<LineFault>>
-    ensures { Answers (λ x. x) result (line_of line.now) }
+fn line_of(alloc: Global, line: &[u8], ids: &[NodeId]) -> Result<Line, OrNoMemory<LineFault>>
+    ensures { Answers (λ x. x) result (line_of ids.now line.now) }
 {
     let (name, Some(behind)) = cut(line, b' ') else {
         return Err(OrNoMemory::Fault(LineFault::NoReading));
     };
     let (number, rest) = cut(behind, b' ');
     let node = counted_number(number)?;
-    node_line(alloc, name, node, rest)
+    node_line(alloc, name, node, rest, ids)
 }
 
 fn bad_line(number: u64) -> OrNoMemory<ScheduleFault>
@@ -125,12 +157,14 @@ fn lines_read(
     alloc: Global,
     lines: &[&[u8]],
     is_open: bool,
+    ids: &[NodeId],
 ) -> Result<Vec<Line>, OrNoMemory<ScheduleFault>>
-    ensures { Answers (λ all. all.items) result (lines_read 2 (bytes_of lines.now) is_open) }
+    ensures { Answers (λ all. all.items) result
+        (lines_read ids.now 2 (bytes_of lines.now) is_open) }
 {
     let mut all = Vec::new(alloc);
     for (i, line) in lines.iter().enumerate() {
-        match line_of(alloc, line) {
+        match line_of(alloc, line, ids) {
             Ok(line) => all.push(line)?,
             Err(stop) => return Err(at_line(i as u64 + 2, stop)),
         }
@@ -141,13 +175,19 @@ fn lines_read(
     Ok(all)
 }
 
-/// The lines of the text behind the first line, or else the first of them that says nothing.
+/// The lines of the text behind the first line, or else the first of them that says nothing. A
+/// proposal may name the nodes with these identifiers by their numbers.
 #[tactic(auto, unfolding(crate::specs::Reading::lines_behind))]
-pub fn read_lines(alloc: Global, text: &[u8]) -> Result<Lines, OrNoMemory<ScheduleFault>>
-    ensures { Answers (λ x. x) result (lines_behind text.now) }
+pub fn read_lines(
+    alloc: Global,
+    text: &[u8],
+    ids: &[NodeId],
+) -> Result<Lines, OrNoMemory<ScheduleFault>>
+    ensures exact { Answers (λ x. x) result (lines_behind ids.now text.now) }
+    ensures fit { IfOk result (λ lines. AllByRecursion IsFit lines) }
 {
     let (lines, open) = lines_of(alloc, text)?;
-    let lines = lines_read(alloc, &lines, !open.is_empty())?;
+    let lines = lines_read(alloc, &lines, !open.is_empty(), ids)?;
     Ok(Lines::from(lines))
 }
 

@@ -2,8 +2,11 @@
 
 use super::*;
 use gl_base::OrNoMemory;
+use gl_requests::NodeId;
 use std::alloc::{AllocError, Global};
 use std::test::Fail;
+
+mod members;
 
 fn bad_line(number: u64) -> OrNoMemory<ScheduleFault> {
     OrNoMemory::Fault(ScheduleFault::BadLine(number))
@@ -19,10 +22,11 @@ fn join_lines(alloc: Global, lines: &[&[u8]]) -> Result<Vec<u8>, AllocError> {
     Ok(text)
 }
 
-/// What a line reads as behind the first: its operations, or its node and command.
-fn line_shown(alloc: Global, line: &[u8]) -> Result<String, AllocError> {
+/// What a line reads as behind the first, in which these nodes may be named: its operations, or its
+/// node and command.
+fn line_shown(alloc: Global, line: &[u8], ids: &[NodeId]) -> Result<String, AllocError> {
     let text = join_lines(alloc, &[line])?;
-    match read_lines(alloc, &text) {
+    match read_lines(alloc, &text, ids) {
         Ok(lines) => match lines.as_slice() {
             [Line::Submit { request, .. }] => format!(in alloc; "{:?}", request.as_slice()),
             [line] => format!(in alloc; "{line:?}"),
@@ -83,7 +87,7 @@ fn reads_operations(rt: HostRuntime) -> Result<(), Fail> {
     ];
     let alloc = rt.alloc();
     for (line, want) in rows {
-        assert_eq!(rt; line_shown(alloc, line)?.as_str(), want, "of {line:?}");
+        assert_eq!(rt; line_shown(alloc, line, &[])?.as_str(), want, "of {line:?}");
     }
     Ok(())
 }
@@ -110,7 +114,7 @@ fn reads_commands(rt: HostRuntime) -> Result<(), Fail> {
     ];
     let alloc = rt.alloc();
     for (line, want) in rows {
-        assert_eq!(rt; line_shown(alloc, line)?.as_str(), want, "of {line:?}");
+        assert_eq!(rt; line_shown(alloc, line, &[])?.as_str(), want, "of {line:?}");
     }
     Ok(())
 }
@@ -154,7 +158,7 @@ fn refuses_lines(rt: HostRuntime) -> Result<(), Fail> {
     let alloc = rt.alloc();
     for line in rows {
         assert_eq!(rt;
-            line_shown(alloc, line)?.as_str(),
+            line_shown(alloc, line, &[])?.as_str(),
             "Fault(BadLine(2))",
             "of {line:?}"
         );
@@ -180,10 +184,10 @@ fn reads_64_operations_and_no_more(rt: HostRuntime) -> Result<(), Fail> {
     let alloc = rt.alloc();
     let line = many_operations(alloc, 64)?;
     let text = join_lines(alloc, &[&line])?;
-    assert!(rt; read_lines(alloc, &text).is_ok());
+    assert!(rt; read_lines(alloc, &text, &[]).is_ok());
     let line = many_operations(alloc, 65)?;
     let text = join_lines(alloc, &[&line])?;
-    assert_eq!(rt; read_lines(alloc, &text).err(), Some(bad_line(2)));
+    assert_eq!(rt; read_lines(alloc, &text, &[]).err(), Some(bad_line(2)));
     Ok(())
 }
 
@@ -262,7 +266,7 @@ fn tells_the_first_bad_line(rt: HostRuntime) -> Result<(), Fail> {
     let alloc = rt.alloc();
     for (text, bad, count) in rows {
         assert_eq!(rt;
-            read_lines(alloc, text).err(),
+            read_lines(alloc, text, &[]).err(),
             bad.map(bad_line),
             "of {text:?}"
         );

@@ -7,4 +7,6 @@ pub mod Endorsements
 pub mod Acceptable
 pub mod Advance
 pub mod Groups
+pub mod LeavingNodes
 pub mod Solo
+pub mod MemberSigners

@@ -5,3 +5,4 @@ pub mod World
 pub mod Headline
 pub mod Single
 pub mod Solo
+pub mod Members

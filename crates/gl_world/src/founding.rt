@@ -7,26 +7,19 @@ ghost use Rattle.gl_lms.specs.Tree.{key_bytes};
 ghost use Rattle.gl_lms.specs.Secrets.{public_of};
 ghost use Rattle.gl_requests.specs.Ranges.{is_genesis};
 ghost use Rattle.gl_gov_rules.specs.Actions.{has_key};
-ghost use Rattle.gl_world.specs.Keys.{member_seed};
 ghost use Rattle.gl_world.specs.Founding.{node_of, member_of, members_from, genesis_of, signer_of, has_distinct_keys};
 ghost use Rattle.gl_world.specs.Single.{IsSingle};
 
 use crate::dealing::dealing;
-use crate::keys::{hss_key, numbered_digest, private_key, word_digest};
+use crate::keys::{hss_key, member_seed, numbered_digest, private_key, word_digest};
 use crate::settings::Settings;
 use gl_base::{Bytes, Sequence};
-use gl_entry::{Digest as ByteDigest, NodeId};
+use gl_entry::NodeId;
 use gl_hss::{HssPublic, HssSigner, Levels};
 use gl_lms::identifier_of;
 use gl_requests::{Genesis, HssPublicKey, NewMember, NewNode};
 use sha2::{Digest, Sha256};
 use std::alloc::{AllocError, Global};
-
-fn member_seed(settings: &Settings, number: u8) -> ByteDigest
-    ensures { result ≡ member_seed settings.now number }
-{
-    numbered_digest(b"mem", u32::from(number), &settings.seed)
-}
 
 fn member_key(alloc: Global, settings: &Settings, number: u8) -> Result<HssPublicKey, AllocError>
     ensures { IfOk result (λ key. key ≡ (member_of settings.now number).key) }

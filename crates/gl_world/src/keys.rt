@@ -4,8 +4,9 @@ ghost use Rattle.std.specs.Prelude.{◌≡◌, ◌++◌, codes, IfOk};
 ghost use Rattle.sha2.specs.Sha256.{sha256};
 ghost use Rattle.gl_base.specs.LittleEndian.{little_endian};
 ghost use Rattle.gl_hss.specs.Levels.{level_count};
-ghost use Rattle.gl_world.specs.Keys.{private_key, hss_key};
+ghost use Rattle.gl_world.specs.Keys.{private_key, hss_key, member_seed};
 
+use crate::settings::Settings;
 use gl_entry::Digest;
 use gl_hss::{HssPublic, Levels, LmsKey, Types};
 use gl_requests::HssPublicKey;
@@ -32,6 +33,13 @@ pub fn numbered_digest(word: &[u8], number: u32, seed: &[u8]) -> Digest
     hasher.update(&number.to_le_bytes());
     hasher.update(seed);
     hasher.finalize()
+}
+
+/// The seed of a member's key.
+pub fn member_seed(settings: &Settings, number: u8) -> Digest
+    ensures { result ≡ member_seed settings.now number }
+{
+    numbered_digest(b"mem", u32::from(number), &settings.seed)
 }
 
 /// The key that grows from a seed. Its tree takes some 35,000 digests.

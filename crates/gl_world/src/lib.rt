@@ -5,10 +5,14 @@ mod dealing;
 mod founding;
 mod keys;
 mod laws;
+mod members;
+mod nodes;
 mod settings;
 
 pub use founding::{Founding, has_distinct_keys};
 pub use laws::{has_node_keys, is_safe, is_unguarded};
+pub use members::Members;
+pub use nodes::node_ids;
 pub use settings::Settings;
 
 #[cfg(test)]

@@ -1,8 +1,15 @@
 //! Keys, an endorsement and digests by RFC 8554 over Python's hashlib, from a seed of 32 bytes 07.
 
-use crate::{Founding, Settings, has_distinct_keys};
-use gl_requests::ServiceState;
+ghost use Rattle.std.specs.Prelude.{◌≡◌, IfOk};
+ghost use Rattle.gl_world.specs.Founding.{genesis_of};
+
+use crate::keys::{hss_key, word_digest};
+use crate::{Founding, Members, Settings, has_distinct_keys};
+use gl_base::OrNoMemory;
+use gl_hss::{KeyExhausted, Levels, leaf_of, verify};
+use gl_requests::{HssPublicKey, MemberAct, MemberRequest, ServiceState};
 use sha2::{Digest, Sha256};
+use std::alloc::{AllocError, Global};
 use std::test::Fail;
 
 // The digest of the first node's key.
@@ -33,13 +40,7 @@ const SECRET: [u8; 32] = [
 
 #[test]
 fn founds_a_service_of_three_members(rt: HostRuntime) -> Result<(), Fail> {
-    let settings = Settings {
-        starting: 1,
-        joiners: 0,
-        members: 3,
-        state: ServiceState::Open,
-        seed: [7; 32],
-    };
+    let settings = settings();
     assert!(rt; has_distinct_keys(rt.alloc(), &settings)?);
     let founding = Founding::make(rt.alloc(), &settings)?;
     let genesis = &founding.genesis;
@@ -57,5 +58,103 @@ fn founds_a_service_of_three_members(rt: HostRuntime) -> Result<(), Fail> {
     for share in genesis.dealing.shares.as_slice() {
         assert_eq!(rt; share.digest, SECRET);
     }
+    Ok(())
+}
+
+/// The service's key, as the genesis has it.
+fn identity(alloc: Global, settings: &Settings) -> Result<HssPublicKey, AllocError>
+    ensures { IfOk result (λ key. key ≡ (genesis_of settings.now).identity) }
+{
+    hss_key(alloc, Levels::Two, &word_digest(b"svc", &settings.seed))
+}
+
+fn settings() -> Settings
+    ensures starting { result.starting ≡ 1 }
+    ensures joiners { result.joiners ≡ 0 }
+    ensures members { result.members ≡ 3 }
+    ensures state { result.state ≡ ServiceState.Open }
+{
+    Settings {
+        starting: 1,
+        joiners: 0,
+        members: 3,
+        state: ServiceState::Open,
+        seed: [7; 32],
+    }
+}
+
+/// Whether a request is signed by the third member, in the service with this key: over a word, the
+/// key and the bytes of what is asked for.
+fn is_signed(
+    alloc: Global,
+    identity: &HssPublicKey,
+    bytes: &[u8],
+    request: &MemberRequest,
+) -> Result<bool, AllocError> {
+    let mut message = Vec::new(alloc);
+    message.extend_from_slice(b"gl-gov1")?;
+    message.extend_from_slice(identity)?;
+    message.extend_from_slice(bytes)?;
+    Ok(verify(&MEMBER, &message, request.signature.as_slice()).is_ok())
+}
+
+#[test]
+fn signs_with_one_leaf_after_another(rt: HostRuntime) -> Result<(), Fail> {
+    let alloc = rt.alloc();
+    let settings = settings();
+    let identity = identity(alloc, &settings)?;
+    let mut members = Members::new(alloc, settings, identity)?;
+    let ack = members.sign(3, MemberAct::Ack)?;
+    let ballot = members.sign(
+        3,
+        MemberAct::Ballot {
+            proposal: [9; 32],
+            agrees: true,
+        },
+    )?;
+    let mut asked = [9; 35];
+    asked[0] = 7;
+    asked[1] = 3;
+    asked[34] = 1;
+    assert!(rt; is_signed(alloc, &identity, &[5, 3], &ack)?);
+    assert!(rt; is_signed(alloc, &identity, &asked, &ballot)?);
+    assert!(rt; !is_signed(alloc, &[0; 60], &[5, 3], &ack)?);
+    assert_eq!(rt; leaf_of(ack.signature.as_slice())?, 0);
+    assert_eq!(rt; leaf_of(ballot.signature.as_slice())?, 1);
+    Ok(())
+}
+
+#[test]
+fn signs_by_the_key_of_the_member_alone(rt: HostRuntime) -> Result<(), Fail> {
+    let alloc = rt.alloc();
+    let settings = settings();
+    let identity = identity(alloc, &settings)?;
+    let mut members = Members::new(alloc, settings, identity)?;
+    members.sign(3, MemberAct::Ack)?;
+    // The settings name no such member, who may join later.
+    let ack = members.sign(200, MemberAct::Ack)?;
+    assert_eq!(rt; ack.member, 200);
+    assert_eq!(rt; leaf_of(ack.signature.as_slice())?, 0);
+    assert!(rt; !is_signed(alloc, &identity, &[5, 200], &ack)?);
+    Ok(())
+}
+
+#[test]
+fn signs_no_more_than_a_key_has_leaves(rt: HostRuntime) -> Result<(), Fail> {
+    let alloc = rt.alloc();
+    let settings = settings();
+    let identity = identity(alloc, &settings)?;
+    let mut members = Members::new(alloc, settings, identity)?;
+    for leaf in 0..32 {
+        let ack = members.sign(3, MemberAct::Ack)?;
+        assert_eq!(rt; leaf_of(ack.signature.as_slice())?, leaf);
+    }
+    for _ in 0..2 {
+        let Err(OrNoMemory::Fault(fault)) = members.sign(3, MemberAct::Ack) else {
+            return Err(Fail::from("the 33rd is signed"));
+        };
+        assert_eq!(rt; fault, KeyExhausted { reserved: 32 });
+    }
+    members.sign(1, MemberAct::Ack)?;
     Ok(())
 }

@@ -1,5 +1,5 @@
 use Rattle.std.proofs.Common.{sym, ◌∙◌}
-use Rattle.ccfg.proofs.HeadlineLemmas.{keeps_headline, tells_moments}
+use Rattle.gl_schedule.proofs.HeadlineLemmas.{keeps_headline, tells_moments}
 use Rattle.ccfg.proofs.PromiseLemmas as ends
 use Rattle.ccfg.proofs.program.top.Goals as goal
 

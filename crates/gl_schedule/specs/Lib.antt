@@ -1,0 +1,10 @@
+pub mod Schedules
+pub mod GovernanceText
+pub mod Text
+pub mod Governed
+pub mod Told
+pub mod Moments
+pub mod Playable
+pub mod Machine
+pub mod LineAnswers
+pub mod Play

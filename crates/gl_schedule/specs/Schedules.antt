@@ -1,0 +1,34 @@
+-- The service of a schedule, and which texts are schedules.
+use Rattle.std.specs.Prelude.{ℕ, List, Result, Ok, Err, length, ◌==◌, if◌then◌else◌}
+use Rattle.gl_requests.specs.declared.genesis.ServiceState.TheVariants.{Opening, Open}
+use Rattle.gl_lines.specs.declared.world.WorldLine.{WorldLine}
+use Rattle.gl_base.specs.Steps.{◌>>=◌}
+use Rattle.gl_lines.specs.declared.fault.ScheduleFault.{ScheduleFault}
+use Rattle.gl_lines.specs.declared.fault.ScheduleFault.TheVariants.{BadLine}
+use Rattle.gl_lines.specs.Reading.{first_line, lines_behind}
+use Rattle.gl_world.specs.declared.settings.Settings.{Settings}
+use Rattle.gl_world.specs.Founding.{has_distinct_keys, node_ids}
+use Rattle.gl_schedule.specs.declared.schedule.Schedule.{Schedule}
+use Rattle.gl_schedule.specs.declared.schedule.Schedule.TheVariants.{Empty, Service}
+
+abbrev pub settings_of : WorldLine → Settings
+settings_of world = record {
+  starting = world.starting;
+  joiners = world.joiners;
+  members = world.members;
+  state = if world.is_open then Open else Opening;
+  seed = world.seed;
+}
+
+-- The service that a first line begins. A seed that gives two members one key begins none.
+abbrev pub service_of : WorldLine → Result Settings ScheduleFault
+service_of world =
+    if has_distinct_keys (settings_of world) then Ok (settings_of world) else Err (BadLine 1)
+
+-- The schedule that a text is, or the number of its first bad line, from 1. No bytes are a schedule
+-- without a service.
+unfoldable pub reads : List ℕ → Result Schedule ScheduleFault
+reads text =
+    if length text == 0 then Ok Empty
+    else (first_line text >>= λ first. service_of first.0 >>= λ settings.
+    lines_behind (node_ids settings) first.1 >>= λ lines. Ok (Service settings lines))

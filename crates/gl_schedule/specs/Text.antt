@@ -1,0 +1,156 @@
+-- The text of what comes of a line.
+use Rattle.std.specs.Prelude.{ℕ, zero, suc, ◌+◌, ◌-◌, List, [], ◌∷◌, ◌++◌, Option, None, Some, length, drop, codes, decimal, if◌then◌else◌}
+use Rattle.std.specs.List.{flat_map}
+use Rattle.hex.specs.Hex.{encode_lower}
+use Rattle.gl_base.specs.declared.tx_id.Status as statuses
+use Rattle.gl_base.specs.declared.tx_id.Status.TheVariants as status
+use Rattle.gl_base.specs.TxId.{text_of}
+use Rattle.gl_rules.specs.Identity.{NodeId, same}
+use Rattle.gl_rules.specs.Outcome.{Refusal}
+use Rattle.gl_rules.specs.Outcome as outcome
+use Rattle.gl_rules.specs.Node.{Node}
+use Rattle.gl_rules.specs.Safety.{committed_ledger}
+use Rattle.gl_entry.specs.Entry.{frame_bytes}
+use Rattle.gl_entry.specs.declared.entry.Entry.{Entry}
+use Rattle.gl_requests.specs.Spelling.{state_byte}
+use Rattle.gl_tx.specs.declared.request.Answer.{Answer}
+use Rattle.gl_tx.specs.declared.request.Answer.TheVariants as answers
+use Rattle.gl_tx.specs.Abort.{number_of}
+use Rattle.gl_ledger.specs.declared.refusal.Refusal.TheVariants as refusals
+use Rattle.gl_world.specs.declared.settings.Settings.{Settings}
+use Rattle.gl_world.specs.Founding.{id_of, numbers_from}
+use Rattle.gl_world.specs.Members.{leaf_limit}
+use Rattle.gl_world.specs.World.{ServiceOutcome, ServiceWorld}
+use Rattle.gl_ledger.specs.Makers.{Given, Replied, Governed, Unmade, ByStore, Unspelled, NoEvidenceYet, Founding, ByRule}
+use Rattle.gl_schedule.specs.GovernanceText.{with_numbers, governance_text}
+
+-- A value in hexadecimal, or a full stop for one of no bytes.
+abbrev pub value_text : List ℕ → List ℕ
+value_text [] = codes "."
+value_text (byte ∷ bytes) = encode_lower (byte ∷ bytes)
+
+abbrev pub answer_text : Answer → List ℕ
+answer_text answers.Done = codes "done"
+answer_text answers.None = codes "none"
+answer_text (answers.Value value) = codes "value " ++ value_text value
+answer_text answers.No = codes "no"
+answer_text answers.Yes = codes "yes"
+answer_text (answers.Number number) = codes "number " ++ decimal number
+
+abbrev pub answers_behind : List Answer → List ℕ
+answers_behind [] = []
+answers_behind (a ∷ rest) = codes " ; " ++ answer_text a ++ answers_behind rest
+
+-- Answers stand apart by a semicolon between spaces.
+abbrev pub answers_text : List Answer → List ℕ
+answers_text [] = []
+answers_text (a ∷ rest) = answer_text a ++ answers_behind rest
+
+abbrev pub given_text : Given → List ℕ
+given_text (Replied answers) = codes " " ++ answers_text answers
+given_text Governed = []
+
+abbrev pub unmade_text : Unmade → List ℕ
+unmade_text (ByStore (refusals.ServiceState state)) =
+    with_numbers (codes "51") (state_byte state ∷ [])
+unmade_text (ByStore (refusals.Aborted abort)) =
+    with_numbers (codes "122") (abort.operation ∷ number_of abort.cause ∷ [])
+unmade_text (ByStore (refusals.TooLarge size)) = with_numbers (codes "119") (size ∷ [])
+unmade_text (ByStore refusals.SeqnoLimit) = codes "130"
+unmade_text (ByStore (refusals.Governance why)) = governance_text why
+unmade_text Unspelled = codes "117"
+unmade_text NoEvidenceYet = codes "117"
+unmade_text Founding = codes "117"
+unmade_text (ByRule broken) = codes "117"
+
+-- The number of a node, by its identifier.
+abbrev number_among : Settings → NodeId → List ℕ → List ℕ
+number_among s y [] = codes "-"
+number_among s y (n ∷ ns) = if same y (id_of s n) then decimal n else number_among s y ns
+
+abbrev leader_text : Settings → Option NodeId → List ℕ
+leader_text s None = codes "-"
+leader_text s (Some y) = number_among s y (numbers_from 1 (s.starting + s.joiners))
+
+-- A refusal's number and its values.
+abbrev pub refusal_text : Settings → Refusal Unmade → List ℕ
+refusal_text s (outcome.NotPrimary view leader) =
+    with_numbers (codes "110") (view ∷ []) ++ codes " " ++ leader_text s leader
+refusal_text s (outcome.TooManyPending limit) = with_numbers (codes "111") (limit ∷ [])
+refusal_text s (outcome.NotReserved reserved) = with_numbers (codes "112") (reserved ∷ [])
+refusal_text s (outcome.KeyExhausted reserved) = with_numbers (codes "113") (reserved ∷ [])
+refusal_text s (outcome.NothingToSign seqno) = with_numbers (codes "114") (seqno ∷ [])
+refusal_text s (outcome.RemovalNotCommitted place commit) =
+    with_numbers (codes "115") (place ∷ commit ∷ [])
+refusal_text s (outcome.BelowCommit commit cut) = with_numbers (codes "116") (commit ∷ cut ∷ [])
+refusal_text s (outcome.RolledBack before now) = with_numbers (codes "124") (before ∷ now ∷ [])
+refusal_text s outcome.NotPeer = codes "126"
+refusal_text s (outcome.BelowBase base) = with_numbers (codes "127") (base ∷ [])
+refusal_text s outcome.ViewLimit = codes "128"
+refusal_text s (outcome.NoLaterSignature commit) = with_numbers (codes "81") (commit ∷ [])
+refusal_text s (outcome.ByLedger why) = unmade_text why
+
+abbrev pub id_text : ℕ → ℕ → List ℕ
+id_text view seqno = text_of (record { view = view; seqno = seqno })
+
+abbrev pub outcome_text : Settings → ServiceOutcome → List ℕ
+outcome_text s outcome.Done = codes "ok"
+outcome_text s outcome.Idle = codes "idle"
+outcome_text s outcome.BecameCandidate = codes "candidate"
+outcome_text s outcome.BecameLeader = codes "leader"
+outcome_text s (outcome.Accepted view seqno given) =
+    codes "accepted " ++ id_text view seqno ++ given_text given
+outcome_text s (outcome.Signed view seqno) = codes "signed " ++ id_text view seqno
+outcome_text s (outcome.Committed view seqno) = codes "commit " ++ id_text view seqno
+outcome_text s (outcome.Refused why) = codes "refused " ++ refusal_text s why
+
+abbrev pub status_text : statuses.Status → List ℕ
+status_text status.Unknown = codes "Unknown"
+status_text status.Pending = codes "Pending"
+status_text status.Committed = codes "Committed"
+status_text status.Invalid = codes "Invalid"
+
+-- So many new messages are told by their numbers, which go on from those before.
+abbrev pub new_messages : ℕ → ℕ → List ℕ
+new_messages zero before = []
+new_messages (suc more) before = with_numbers (codes " sent") (numbers_from (before + 1) (suc more))
+
+-- The messages that an event sent, if it sent any.
+abbrev pub sent_text : ServiceWorld → ServiceWorld → List ℕ
+sent_text before now = new_messages (length now.sent - length before.sent) (length before.sent)
+
+-- The entries of a node's committed ledger, and those of its log, above its base.
+abbrev pub committed_entries : Node Entry → List Entry
+committed_entries n = drop n.base (committed_ledger n)
+
+abbrev pub held_entries : Node Entry → List Entry
+held_entries n = drop n.base n.log
+
+-- The identifiers of the committed ledger.
+abbrev pub ids_text : List Entry → List ℕ
+ids_text entries =
+    codes "ids" ++ flat_map (λ (e : Entry). codes " " ++ id_text e.view e.seqno) entries
+
+-- The number of the entries, and for each of them a line with its identifier and its frame.
+abbrev pub entry_text : Entry → List ℕ
+entry_text e =
+    codes "\nentry " ++ id_text e.view e.seqno ++ codes " " ++ encode_lower (frame_bytes e)
+
+abbrev pub ledger_text : List Entry → List ℕ
+ledger_text entries = codes "ledger " ++ decimal (length entries) ++ flat_map entry_text entries
+
+-- A number that names no node, no member or no request of an earlier line is refused.
+abbrev pub unnamed_text : List ℕ
+unnamed_text = codes "refused 0"
+
+-- So is one that names no proposal.
+abbrev pub no_proposal_text : List ℕ
+no_proposal_text = codes "refused 44"
+
+-- A member whose leaves are all used is refused, with their number.
+abbrev pub spent_text : List ℕ
+spent_text = codes "refused " ++ with_numbers (codes "113") (leaf_limit ∷ [])
+
+-- A line of the text, with its number.
+abbrev pub numbered : ℕ → List ℕ → List ℕ
+numbered number text = decimal number ++ codes " " ++ text ++ codes "\n"

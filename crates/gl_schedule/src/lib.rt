@@ -1,0 +1,17 @@
+//! Schedules: a service and the lines of what happens to it, read, played at its one node, and told.
+#![tactic(auto)]
+
+mod governance_text;
+mod line_request;
+mod machine;
+mod outcome;
+mod player;
+mod proposals;
+mod schedule;
+mod text;
+
+pub use player::play;
+pub use schedule::{Schedule, read};
+
+#[cfg(test)]
+mod tests;

@@ -1,0 +1,63 @@
+//! A schedule: a service, and the lines of what happens to it.
+
+ghost use Rattle.std.specs.Prelude.{◌≡◌, IfOk};
+ghost use Rattle.gl_base.specs.Answers.{Answers};
+ghost use Rattle.gl_schedule.specs.Playable.{IsPlayable};
+ghost use Rattle.gl_schedule.specs.Schedules.{reads, service_of, settings_of};
+
+use gl_base::OrNoMemory;
+use gl_lines::{Lines, ScheduleFault, WorldLine, read_first_line, read_lines};
+use gl_requests::ServiceState;
+use gl_world::{Settings, has_distinct_keys, node_ids};
+use std::alloc::Global;
+
+/// A schedule. One of no bytes has no service.
+#[derive(Debug, Drop)]
+pub enum Schedule {
+    Empty,
+    Service(Settings, Lines),
+}
+
+fn settings_of(world: &WorldLine) -> Settings
+    ensures { result ≡ settings_of world.now }
+{
+    Settings {
+        starting: world.starting,
+        joiners: world.joiners,
+        members: world.members,
+        state: if world.is_open {
+            ServiceState::Open
+        } else {
+            ServiceState::Opening
+        },
+        seed: world.seed,
+    }
+}
+
+/// The service that a first line begins. A seed that gives two members one key begins none.
+fn service_of(alloc: Global, world: &WorldLine) -> Result<Settings, OrNoMemory<ScheduleFault>>
+    ensures { Answers (λ settings. settings) result (service_of world.now) }
+{
+    let settings = settings_of(world);
+    if has_distinct_keys(alloc, &settings)? {
+        Ok(settings)
+    } else {
+        Err(OrNoMemory::Fault(ScheduleFault::BadLine(1)))
+    }
+}
+
+/// The schedule that a text is, or else the first of its lines that says nothing.
+#[tactic(auto, unfolding(crate::specs::Schedules::reads))]
+pub fn read(alloc: Global, text: &[u8]) -> Result<Schedule, OrNoMemory<ScheduleFault>>
+    ensures gives { Answers (λ schedule. schedule) result (reads text.now) }
+    ensures playable { IfOk result (λ schedule. IsPlayable schedule) }
+{
+    if text.is_empty() {
+        return Ok(Schedule::Empty);
+    }
+    let (world, behind) = read_first_line(alloc, text)?;
+    let settings = service_of(alloc, &world)?;
+    let ids = node_ids(alloc, &settings)?;
+    let lines = read_lines(alloc, behind, &ids)?;
+    Ok(Schedule::Service(settings, lines))
+}

@@ -1,21 +1,22 @@
 -- What plans and faults owe, and what a task owes to the bytes of its source, whether the source
 -- tells them or not.
-use Rattle.std.proofs.Common.{◌≡◌, ℕ, ◌<◌, List, [], length, Option, None, Some, Bool, true, nat_lt, if◌then◌else◌, IfSome, refl, sym, ap, subst, arith, length-append}
+use Rattle.std.proofs.Common.{◌≡◌, ℕ, ◌<◌, List, [], length, Option, None, Some, Bool, true, nat_lt, if◌then◌else◌, IfSome, refl, sym, ap, ◌∙◌, subst, arith, length-append}
 use Rattle.std.proofs.lemmas.Bool.Decides.{nat_tests}
 use Rattle.std.specs.Io.KnownBytes.{Appends, Consumes}
 use Rattle.gl_outside.specs.Sink.{AppendsFront}
 use Rattle.gl_lines.specs.Lines.{line_count}
 use Rattle.gl_receipt.specs.Form.{receipt_from}
+use Rattle.gl_audit.specs.Given.{OfBytes}
 use Rattle.ccfg.specs.declared.ending.Ending.{Ending}
 use Rattle.ccfg.specs.declared.ending.Ending.TheVariants as endings
 use Rattle.ccfg.specs.declared.fault.Fault.{Fault}
 use Rattle.ccfg.specs.declared.fault.Fault.TheVariants as faults
 use Rattle.ccfg.specs.declared.plan.Plan.{Plan}
-use Rattle.ccfg.specs.declared.plan.Plan.TheVariants.{Play, Show, Refuse}
+use Rattle.ccfg.specs.declared.plan.Plan.TheVariants.{Play, Show, ShowLedger, Refuse}
 use Rattle.ccfg.specs.declared.words.Task.{Task}
 use Rattle.ccfg.specs.declared.words.Task.TheVariants as tasks
 use Rattle.ccfg.specs.Faults.{fault_line}
-use Rattle.ccfg.specs.Owed.{Due, OfBytes, Owes, Run, Runs, Written, WritesDue, bytes_limit, due_of, due_of_fault, due_of_form, due_of_reading, due_of_receipt, due_of_schedule, ending_of_fault, json_limit, lines_limit}
+use Rattle.ccfg.specs.Owed.{Due, Owes, Run, Runs, Written, WritesDue, bytes_limit, due_of, due_of_fault, due_of_form, due_of_reading, due_of_receipt, due_of_schedule, ending_of_fault, json_limit, lines_limit}
 use Rattle.ccfg.specs.Plans.{EndsSource, ShowsAccepted, due_of_plan, fault_of_length, limit_of}
 use Rattle.ccfg.specs.Promises.{TellsAccepted}
 use Rattle.gl_schedule.specs.Schedules.{reads}
@@ -29,6 +30,8 @@ writes_fault faults.TooMuchJson w all = (refl, all)
 writes_fault (faults.BadLine number) w all = (refl, all)
 writes_fault (faults.Form fault) w all = (refl, all)
 writes_fault (faults.NotValid fault) w all = (refl, all)
+writes_fault (faults.Broken seqno rule) w all = (refl, all)
+writes_fault (faults.Foreign identity) w all = (refl, all)
 
 -- bytes that were read whole
 pub of_text : (given : Option (List ℕ)) (text : List ℕ) (P : List ℕ → Type 0) → IfSome given (λ g. text ≡ g) → P text → OfBytes given P
@@ -55,21 +58,24 @@ long_receipt identity given more =
     (let t : nat_lt json_limit (length given) ≡ true = grind (arith, nat_tests) in t)
 
 -- bytes above a task's limit
-long_due : (task : Task) (given : List ℕ) → limit_of task < length given → due_of task given ≡ due_of_fault (fault_of_length task)
-long_due tasks.Replay given more = long_schedule given more
-long_due (tasks.Verify identity) given more = long_receipt identity given more
+pub long_due : (task : Task) (fault : Fault) (given : List ℕ) → fault_of_length task ≡ Some fault → limit_of task < length given → due_of task given ≡ due_of_fault fault
+long_due tasks.Replay fault given told more = let same : faults.TooManyBytes ≡ fault = cc in long_schedule given more ∙ ap due_of_fault same
+long_due (tasks.Verify identity) fault given told more = let same : faults.TooMuchJson ≡ fault = cc in long_receipt identity given more ∙ ap due_of_fault same
+long_due (tasks.Audit identity) fault given told more = absurd cc
 
-of_long : (task : Task) (given : Option (List ℕ)) → OfBytes given (λ g. limit_of task < length g) → OfBytes given (λ g. due_of task g ≡ due_of_fault (fault_of_length task))
-of_long task None more = (more.0, long_due task more.0 more.1)
-of_long task (Some g) more = long_due task g more
+pub long_ends : (task : Task) (fault : Fault) (ended : Bool) → fault_of_length task ≡ Some fault → EndsSource (due_of_fault fault).ending ended
+long_ends tasks.Replay fault ended told = let same : faults.TooManyBytes ≡ fault = cc in subst (λ (f : Fault). EndsSource (due_of_fault f).ending ended) same tt
+long_ends (tasks.Verify identity) fault ended told = let same : faults.TooMuchJson ≡ fault = cc in subst (λ (f : Fault). EndsSource (due_of_fault f).ending ended) same tt
+long_ends (tasks.Audit identity) fault ended told = absurd cc
 
-pub long_plan : (task : Task) (limit : ℕ) (fault : Fault) (given : Option (List ℕ)) → limit ≡ limit_of task → fault ≡ fault_of_length task → OfBytes given (λ g. limit < length g) →
-    OfBytes given (λ g. due_of task g ≡ due_of_fault fault)
-long_plan task limit fault given is told more = rw told (of_long task given (subst (λ (n : ℕ). OfBytes given (λ g. n < length g)) is more))
+pub of_long : (given : Option (List ℕ)) (limit limit' : ℕ) (X : List ℕ → Type 0) → limit ≡ limit' → OfBytes given (λ g. limit < length g) → ((g : List ℕ) → limit' < length g → X g) → OfBytes given X
+of_long None limit limit' X is more f = (more.0, f more.0 (subst (λ (n : ℕ). n < length more.0) is more.1))
+of_long (Some g) limit limit' X is more f = f g (subst (λ (n : ℕ). n < length g) is more)
 
-pub long_ends : (task : Task) (ended : Bool) → EndsSource (due_of_fault (fault_of_length task)).ending ended
-long_ends tasks.Replay ended = tt
-long_ends (tasks.Verify identity) ended = tt
+-- what holds of any bytes
+pub of_any : (given : Option (List ℕ)) (X : List ℕ → Type 0) → ((g : List ℕ) → X g) → OfBytes given X
+of_any None X f = ([], f [])
+of_any (Some g) X f = f g
 
 -- a source that was read whole
 pub whole_ends : (e : Ending) (ended : Bool) → ended ≡ true → EndsSource e ended
@@ -86,6 +92,7 @@ whole_ends endings.NoReading ended is = tt
 pub sound_refusal : (task : Task) (given : List ℕ) (fault : Fault) → ShowsAccepted task given (Refuse fault)
 sound_refusal tasks.Replay given fault = tt
 sound_refusal (tasks.Verify identity) given fault = tt
+sound_refusal (tasks.Audit identity) given fault = tt
 
 pub of_sound_refusal : (task : Task) (given : Option (List ℕ)) (fault : Fault) → OfBytes given (λ g. ShowsAccepted task g (Refuse fault))
 of_sound_refusal task None fault = ([], sound_refusal task [] fault)
@@ -99,11 +106,14 @@ no_fault_done faults.TooMuchJson is = cc
 no_fault_done (faults.BadLine number) is = cc
 no_fault_done (faults.Form fault) is = cc
 no_fault_done (faults.NotValid fault) is = cc
+no_fault_done (faults.Broken seqno rule) is = cc
+no_fault_done (faults.Foreign identity) is = cc
 
 -- a plan that was carried out under a key
 accepted_by : (identity : List ℕ) (plan : Plan) (w : Written) (g : List ℕ) → ShowsAccepted (tasks.Verify identity) g plan → WritesDue endings.Done w (due_of_plan plan) → TellsAccepted identity g w.held w.holds
 accepted_by identity (Play schedule) w g sound writes = absurd sound
 accepted_by identity (Show id) w g sound writes = (sound.0, sound.1, id, sound.2, writes.1)
+accepted_by identity (ShowLedger last signed) w g sound writes = absurd sound
 accepted_by identity (Refuse fault) w g sound writes = absurd (no_fault_done fault writes.0)
 
 pub accepted : (task : Task) (identity : List ℕ) (plan : Plan) (e : Ending) (w : Written) (given : Option (List ℕ)) → task ≡ tasks.Verify identity → OfBytes given (λ g. ShowsAccepted task g plan) →

@@ -10,13 +10,16 @@ use Rattle.gl_receipt.specs.Form.{receipt_from}
 use Rattle.gl_receipt.specs.Verdict.{verdict}
 use Rattle.gl_receipt.specs.declared.components.Receipt.{Receipt}
 use Rattle.gl_receipt.specs.declared.fault.ReceiptFault.{ReceiptFault}
+use Rattle.gl_audit.specs.Verdict as audits_to
+use Rattle.gl_audit.specs.declared.verdict.Verdict.{Verdict}
+use Rattle.gl_audit.specs.declared.verdict.Verdict.TheVariants as audits
 use Rattle.ccfg.specs.declared.ending.Ending.{Ending}
 use Rattle.ccfg.specs.declared.ending.Ending.TheVariants as endings
 use Rattle.ccfg.specs.declared.fault.Fault.TheVariants as faults
 use Rattle.gl_schedule.specs.declared.schedule.Schedule.{Schedule}
 use Rattle.ccfg.specs.declared.words.Task.{Task}
 use Rattle.ccfg.specs.declared.words.Task.TheVariants as tasks
-use Rattle.ccfg.specs.Owed.{Due, bytes_limit, due_of, due_of_fault, due_of_form, due_of_reading, due_of_receipt, due_of_schedule, due_of_verdict, json_limit, lines_limit}
+use Rattle.ccfg.specs.Owed.{Due, bytes_limit, due_of, due_of_audit, due_of_fault, due_of_form, due_of_reading, due_of_receipt, due_of_schedule, due_of_verdict, json_limit, lines_limit}
 use Rattle.ccfg.specs.Promises.{HasBadLine, HasOtherForm, HasTooManyBytes, HasTooManyLines, HasTooMuchJson, IsAnswer, IsPastLimit, IsReceipt, IsRefusal, IsUnread, ReadsAs}
 use Rattle.gl_schedule.specs.Schedules.{reads}
 
@@ -98,11 +101,25 @@ of_form : (identity given : List ℕ) (receipt : Receipt) (v : Result TxId Recei
 of_form identity given receipt v is told =
     receipt_is identity given false (Ok receipt) (let within = is.0 in grind (arith, nat_tests)) is.1 ∙ ap due_of_verdict told
 
--- Both
+-- Ledgers
+
+audit_means : (identity given : List ℕ) → DueMeans (tasks.Audit identity) given (due_of_audit (audits_to.verdict identity given))
+audit_means identity given = go (audits_to.verdict identity given) refl
+  where
+    go : (v : Verdict) → audits_to.verdict identity given ≡ v → DueMeans (tasks.Audit identity) given (due_of_audit v)
+    go (audits.Valid last signed) is = (last, signed, is, refl)
+    go (audits.Foreign key) is = inl (key, is, refl)
+    go (audits.Fault seqno rule) is = inr (seqno, rule, is, refl)
+
+audit_ends : (identity given : List ℕ) (v : Verdict) → audits_to.verdict identity given ≡ v → (due_of_audit (audits_to.verdict identity given)).ending ≡ (due_of_audit v).ending
+audit_ends identity given v is = ap (λ (x : Verdict). (due_of_audit x).ending) is
+
+-- All
 
 pub means : (task : Task) (given : List ℕ) → Means task given (due_of task given).ending (due_of task given).text
 means tasks.Replay given = schedule_means given
 means (tasks.Verify identity) given = receipt_means identity given
+means (tasks.Audit identity) given = audit_means identity given
 
 -- The ending that is owed.
 abbrev EndsWith : Ending → Due → Type 0
@@ -115,17 +132,22 @@ pub answer_ends : (task : Task) (given text : List ℕ) → IsAnswer task given 
 answer_ends tasks.Replay given text a = ending_of (due_of_schedule given) (due_of_reading (Ok a.0)) (good_lines given a.0 a.1)
 answer_ends (tasks.Verify identity) given text a =
     ending_of (due_of_receipt identity given) (due_of_verdict (Ok a.2)) (of_form identity given a.0 (Ok a.2) a.1 a.3)
+answer_ends (tasks.Audit identity) given text a = audit_ends identity given (audits.Valid a.0 a.1) a.2
 
 pub refusal_ends : (task : Task) (given text : List ℕ) → IsRefusal task given text → EndsWith endings.NotValid (due_of task given)
 refusal_ends tasks.Replay given text a = absurd a
 refusal_ends (tasks.Verify identity) given text a =
     ending_of (due_of_receipt identity given) (due_of_verdict (Err a.2)) (of_form identity given a.0 (Err a.2) a.1 a.3)
+refusal_ends (tasks.Audit identity) given text (inl a) = audit_ends identity given (audits.Foreign a.0) a.1
+refusal_ends (tasks.Audit identity) given text (inr a) = audit_ends identity given (audits.Fault a.0 a.1) a.2
 
 pub limit_ends : (task : Task) (given text : List ℕ) → IsPastLimit task given text → EndsWith endings.PastLimit (due_of task given)
 limit_ends tasks.Replay given text (inl a) = ending_of (due_of_schedule given) (due_of_fault faults.TooManyBytes) (too_many_bytes given a.0)
 limit_ends tasks.Replay given text (inr a) = ending_of (due_of_schedule given) (due_of_fault faults.TooManyLines) (too_many_lines given a.0)
 limit_ends (tasks.Verify identity) given text a = ending_of (due_of_receipt identity given) (due_of_fault faults.TooMuchJson) (too_much_json identity given a.0)
+limit_ends (tasks.Audit identity) given text a = absurd a
 
 pub unread_ends : (task : Task) (given text : List ℕ) → IsUnread task given text → EndsWith endings.NoReading (due_of task given)
 unread_ends tasks.Replay given text a = ending_of (due_of_schedule given) (due_of_fault (faults.BadLine a.0)) (bad_line given a.0 a.1)
 unread_ends (tasks.Verify identity) given text a = ending_of (due_of_receipt identity given) (due_of_fault (faults.Form a.0)) (other_form identity given a.0 a.1)
+unread_ends (tasks.Audit identity) given text a = absurd a

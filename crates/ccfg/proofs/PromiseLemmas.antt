@@ -5,12 +5,13 @@ use Rattle.clap.specs.Kinds.{Kinds}
 use Rattle.clap.specs.declared.error.kind.ErrorKind.{ErrorKind}
 use Rattle.gl_outside.specs.Fault.{Rose}
 use Rattle.gl_outside.specs.Sink.{AppendsFront}
+use Rattle.gl_audit.specs.Given.{OfBytes}
 use Rattle.ccfg.specs.declared.ending.Ending.{Ending}
 use Rattle.ccfg.specs.declared.ending.Ending.TheVariants as endings
 use Rattle.ccfg.specs.declared.fault.Fault.TheVariants as faults
 use Rattle.ccfg.specs.declared.words.Task.{Task}
 use Rattle.ccfg.specs.Faults.{fault_line}
-use Rattle.ccfg.specs.Owed.{Answers, Due, OfBytes, Run, Runs, WritesDue, due_of, due_of_fault, exit_status}
+use Rattle.ccfg.specs.Owed.{Answers, Due, Run, Runs, WritesDue, due_of, due_of_fault, exit_status}
 use Rattle.ccfg.specs.Promises.{IsAnswer, IsKindLine, IsPastLimit, IsRefusal, IsUnread, Tells, TellsFront}
 use Rattle.ccfg.proofs.MeaningLemmas.{Means, answer_ends, limit_ends, means, refusal_ends, unread_ends}
 

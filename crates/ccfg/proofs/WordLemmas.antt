@@ -24,7 +24,7 @@ use Rattle.ccfg.specs.declared.words.Task.{Task}
 use Rattle.ccfg.specs.declared.words.Task.TheVariants as tasks
 use Rattle.ccfg.specs.Faults.{fault_line}
 use Rattle.ccfg.specs.Owed.{Answers, Run, Runs, WritesDue, due_of, due_of_fault}
-use Rattle.ccfg.specs.Words.{Refuses, asked, asked_command, asked_identity, program, to_verify, unless_faulty}
+use Rattle.ccfg.specs.Words.{Refuses, asked, asked_command, asked_identity, asked_under, program, spelled_key, unless_faulty}
 use Rattle.ccfg.proofs.DueLemmas.{nothing_owed}
 
 -- Some kind is told, if the words ask for nothing.
@@ -32,21 +32,21 @@ abbrev HasKind : Result Task Kinds → Type 0
 HasKind (Ok task) = Unit {0}
 HasKind (Err told) = (kind : ErrorKind) × IsAmong kind told
 
-kind_of_hex : (key : Result (List ℕ) LineFault) → HasKind (to_verify key)
-kind_of_hex (Ok key) = tt
-kind_of_hex (Err fault) = (kinds.ValueValidation, inl refl)
+kind_of_hex : (name : Text) (key : Result (List ℕ) LineFault) → HasKind (asked_under name (spelled_key key))
+kind_of_hex name (Ok key) = tt
+kind_of_hex name (Err fault) = (kinds.ValueValidation, inl refl)
 
-kind_of_identity : (word : Option Text) → HasKind (asked_identity word)
-kind_of_identity None = (kinds.MissingRequiredArgument, inl refl)
-kind_of_identity (Some word) = kind_of_hex (hex_sized word 60)
+kind_of_identity : (name : Text) (word : Option Text) → HasKind (asked_under name (asked_identity word))
+kind_of_identity name None = (kinds.MissingRequiredArgument, inl refl)
+kind_of_identity name (Some word) = kind_of_hex name (hex_sized word 60)
 
 kind_of_command : (command : Option (Text × List Row)) → HasKind (asked_command command)
 kind_of_command None = (kinds.MissingSubcommand, inl refl)
 kind_of_command (Some command) = go (bytes_eq command.0 (codes "replay"))
   where
-    go : (b : Bool) → HasKind (if b then Ok tasks.Replay else asked_identity (first_of (codes "identity") command.1))
+    go : (b : Bool) → HasKind (if b then Ok tasks.Replay else asked_under command.0 (asked_identity (first_of (codes "identity") command.1)))
     go true = tt
-    go false = kind_of_identity (first_of (codes "identity") command.1)
+    go false = kind_of_identity command.0 (first_of (codes "identity") command.1)
 
 kind_of_faults : (told : Kinds) (task : Result Task Kinds) → HasKind task → HasKind (unless_faulty told task)
 kind_of_faults [] task has = has
@@ -78,10 +78,10 @@ met m name rows named found = go (out-ArgMatches m).subcommand named found
 
 -- a command that is not `replay`
 pub other_command : (m : ArgMatches) (name : Text) (rows : List Row) → Some name ≡ subcommand_name_of m → Some rows ≡ option_map (λ (p : Text × List Row). p.1) (subcommand_rows_of m) →
-    false ≡ bytes_eq name (codes "replay") → asked_command (subcommand_rows_of m) ≡ asked_identity (first_of (codes "identity") rows)
+    false ≡ bytes_eq name (codes "replay") → asked_command (subcommand_rows_of m) ≡ asked_under name (asked_identity (first_of (codes "identity") rows))
 other_command m name rows named found other =
     ap asked_command (met m name rows named found)
-    ∙ ap (λ (b : Bool). if b then Ok tasks.Replay else asked_identity (first_of (codes "identity") rows)) (sym other)
+    ∙ ap (λ (b : Bool). if b then Ok tasks.Replay else asked_under name (asked_identity (first_of (codes "identity") rows))) (sym other)
 
 -- words in which the library found no fault
 pub asked_found : (words : List Text) (found : Option (Text × List Row)) → fault_of program words ≡ [] → found ≡ subcommand_of program words → asked words ≡ asked_command found

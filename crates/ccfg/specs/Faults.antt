@@ -65,6 +65,9 @@ fault_text faults.TooMuchJson = codes "json 1048576"
 fault_text (faults.BadLine number) = codes "line " ++ decimal number
 fault_text (faults.Form fault) = form_text fault
 fault_text (faults.NotValid fault) = receipt_text fault
+fault_text (faults.Broken seqno rule) =
+    codes "seqno " ++ decimal seqno ++ codes " rule " ++ decimal rule
+fault_text (faults.Foreign identity) = codes "foreign " ++ encode_lower identity
 
 -- The line.
 abbrev pub fault_line : Fault → List ℕ

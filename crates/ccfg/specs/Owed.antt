@@ -15,6 +15,10 @@ use Rattle.gl_receipt.specs.Form.{receipt_from}
 use Rattle.gl_receipt.specs.Verdict.{verdict}
 use Rattle.gl_receipt.specs.declared.components.Receipt.{Receipt}
 use Rattle.gl_receipt.specs.declared.fault.ReceiptFault.{ReceiptFault}
+use Rattle.gl_audit.specs.Given.{OfBytes}
+use Rattle.gl_audit.specs.Verdict as audits_to
+use Rattle.gl_audit.specs.declared.verdict.Verdict.{Verdict}
+use Rattle.gl_audit.specs.declared.verdict.Verdict.TheVariants as audits
 use Rattle.ccfg.specs.declared.fault.Fault.{Fault}
 use Rattle.ccfg.specs.declared.fault.Fault.TheVariants as faults
 use Rattle.ccfg.specs.declared.ending.Ending.{Ending}
@@ -45,6 +49,8 @@ ending_of_fault faults.TooMuchJson = endings.PastLimit
 ending_of_fault (faults.BadLine number) = endings.NoReading
 ending_of_fault (faults.Form fault) = endings.NoReading
 ending_of_fault (faults.NotValid fault) = endings.NotValid
+ending_of_fault (faults.Broken seqno rule) = endings.NotValid
+ending_of_fault (faults.Foreign identity) = endings.NotValid
 
 -- What is owed
 
@@ -98,10 +104,28 @@ due_of_receipt identity given =
     if nat_lt json_limit (length given) then due_of_fault faults.TooMuchJson
     else due_of_form identity (receipt_from given)
 
+-- The transaction of a signature, or a dash where there is none.
+abbrev pub signed_text : Option TxId → List ℕ
+signed_text None = codes "-"
+signed_text (Some id) = text_of id
+
+-- The line that tells the last transaction of a valid ledger, and that of its last signature.
+abbrev pub ledger_line : TxId → Option TxId → List ℕ
+ledger_line last signed =
+    codes "valid " ++ text_of last ++ codes " " ++ signed_text signed ++ codes "\n"
+
+-- What is owed to the verdict of an audit.
+abbrev pub due_of_audit : Verdict → Due
+due_of_audit (audits.Valid last signed) =
+    record { ending = endings.Done; text = ledger_line last signed }
+due_of_audit (audits.Foreign identity) = due_of_fault (faults.Foreign identity)
+due_of_audit (audits.Fault seqno rule) = due_of_fault (faults.Broken seqno rule)
+
 -- What a task owes to the bytes of its source.
 abbrev pub due_of : Task → List ℕ → Due
 due_of tasks.Replay given = due_of_schedule given
 due_of (tasks.Verify identity) given = due_of_receipt identity given
+due_of (tasks.Audit identity) given = due_of_audit (audits_to.verdict identity given)
 
 -- What a run does
 
@@ -138,12 +162,6 @@ pub record Run : Type 0 where
   pub faults : ℕ
   pub faults_now : ℕ
   pub written : Written
-
--- What holds of the bytes that a source has to give: of those that it tells, or of some bytes,
--- where it tells none.
-abbrev pub OfBytes : Option (List ℕ) → (List ℕ → Type 0) → Type 0
-OfBytes None P = (given : List ℕ) × P given
-OfBytes (Some given) P = P given
 
 abbrev pub Owes : Ending → Run → (List ℕ → Due) → Type 0
 Owes e r due = OfBytes r.given (λ given. WritesDue e r.written (due given))

@@ -13,12 +13,14 @@ use Rattle.gl_receipt.specs.Receipt.{Accepts}
 use Rattle.gl_receipt.specs.Verdict.{verdict}
 use Rattle.gl_receipt.specs.declared.components.Receipt.{Receipt}
 use Rattle.gl_receipt.specs.declared.fault.ReceiptFault.{ReceiptFault}
+use Rattle.gl_audit.specs.Verdict as audits_to
+use Rattle.gl_audit.specs.declared.verdict.Verdict.TheVariants as audits
 use Rattle.ccfg.specs.declared.fault.Fault.TheVariants as faults
 use Rattle.gl_schedule.specs.declared.schedule.Schedule.{Schedule}
 use Rattle.ccfg.specs.declared.words.Task.{Task}
 use Rattle.ccfg.specs.declared.words.Task.TheVariants as tasks
 use Rattle.ccfg.specs.Faults.{fault_line}
-use Rattle.ccfg.specs.Owed.{bytes_limit, json_limit, lines_limit, valid_line}
+use Rattle.ccfg.specs.Owed.{bytes_limit, json_limit, ledger_line, lines_limit, valid_line}
 use Rattle.gl_schedule.specs.Schedules.{reads}
 use Rattle.gl_schedule.specs.Told.{text_of_schedule}
 
@@ -55,24 +57,50 @@ HasOtherForm given fault = (length given ≤ json_limit) × (receipt_from given 
 abbrev pub IsReceipt : List ℕ → Receipt → Type 0
 IsReceipt given receipt = (length given ≤ json_limit) × (receipt_from given ≡ Ok receipt)
 
+-- Ledgers
+
+-- The bytes are a valid ledger of the service with this key, and the text tells it.
+abbrev pub IsValidLedger : List ℕ → List ℕ → List ℕ → Type 0
+IsValidLedger identity given text =
+    (last : TxId) × (signed : Option TxId)
+    × (audits_to.verdict identity given ≡ audits.Valid last signed)
+    × (text ≡ ledger_line last signed)
+
+-- The bytes are a valid ledger of another service, and the text tells its key.
+abbrev pub IsForeignLedger : List ℕ → List ℕ → List ℕ → Type 0
+IsForeignLedger identity given text =
+    (key : List ℕ) × (audits_to.verdict identity given ≡ audits.Foreign key)
+    × (text ≡ fault_line (faults.Foreign key))
+
+-- The bytes are no valid ledger, and the text tells the first entry that breaks a rule.
+abbrev pub IsFaultyLedger : List ℕ → List ℕ → List ℕ → Type 0
+IsFaultyLedger identity given text =
+    (seqno : ℕ) × (rule : ℕ) × (audits_to.verdict identity given ≡ audits.Fault seqno rule)
+    × (text ≡ fault_line (faults.Broken seqno rule))
+
 -- Texts. Each says of the bytes of a source what they have to be for the text.
 
 -- At 0: the bytes are a schedule, and the text is what it tells; or they are a receipt of which the
--- verdict under the key is a transaction, and the text tells that.
+-- verdict under the key is a transaction, and the text tells that; or they are a valid ledger of the
+-- service with the key, and the text tells its last transaction and that of its last signature.
 abbrev pub IsAnswer : Task → List ℕ → List ℕ → Type 0
 IsAnswer tasks.Replay given text =
     (schedule : Schedule) × ReadsAs given schedule × (text ≡ text_of_schedule schedule)
 IsAnswer (tasks.Verify identity) given text =
     (receipt : Receipt) × IsReceipt given receipt
     × (id : TxId) × (verdict identity receipt ≡ Ok id) × (text ≡ valid_line id)
+IsAnswer (tasks.Audit identity) given text = IsValidLedger identity given text
 
--- At 1: the bytes are a receipt that is not valid under the key, and the text tells why.
+-- At 1: the bytes are a receipt that is not valid under the key, or they are no valid ledger of the
+-- service with the key, and the text tells why.
 abbrev pub IsRefusal : Task → List ℕ → List ℕ → Type 0
 IsRefusal tasks.Replay given text = ⊥
 IsRefusal (tasks.Verify identity) given text =
     (receipt : Receipt) × IsReceipt given receipt
     × (fault : ReceiptFault) × (verdict identity receipt ≡ Err fault)
     × (text ≡ fault_line (faults.NotValid fault))
+IsRefusal (tasks.Audit identity) given text =
+    IsForeignLedger identity given text ⊎ IsFaultyLedger identity given text
 
 -- At 8: the bytes pass a limit, and the text names it.
 abbrev pub IsPastLimit : Task → List ℕ → List ℕ → Type 0
@@ -81,6 +109,7 @@ IsPastLimit tasks.Replay given text =
     ⊎ (HasTooManyLines given × (text ≡ fault_line faults.TooManyLines))
 IsPastLimit (tasks.Verify identity) given text =
     HasTooMuchJson given × (text ≡ fault_line faults.TooMuchJson)
+IsPastLimit (tasks.Audit identity) given text = ⊥
 
 -- At 9: the bytes are within the limits and have no reading, and the text tells their first bad
 -- line, or what differs first from a receipt.
@@ -89,6 +118,7 @@ IsUnread tasks.Replay given text =
     (number : ℕ) × HasBadLine given number × (text ≡ fault_line (faults.BadLine number))
 IsUnread (tasks.Verify identity) given text =
     (fault : FormsFault) × HasOtherForm given fault × (text ≡ fault_line (faults.Form fault))
+IsUnread (tasks.Audit identity) given text = ⊥
 
 -- At 2: the line of one of these kinds of fault.
 abbrev pub IsKindLine : Kinds → List ℕ → Type 0

@@ -30,6 +30,9 @@ replay_command = new_app (codes "replay")
 abbrev pub verify_command : App
 verify_command = with_rule (new_app (codes "verify")) identity_option
 
+abbrev pub audit_command : App
+audit_command = with_rule (new_app (codes "audit")) identity_option
+
 -- The program without its commands. Its words are those behind its name; one of them has to be a
 -- command, of which `help` is none.
 abbrev pub bare_program : App
@@ -42,7 +45,9 @@ bare_program = on_top (λ s. record s {
 
 unfoldable pub program : App
 program =
-    with_subcommand (with_subcommand bare_program replay_command.top) verify_command.top
+    with_subcommand
+    (with_subcommand (with_subcommand bare_program replay_command.top) verify_command.top)
+    audit_command.top
 
 -- The command is this one, with no option that holds for others too.
 abbrev pub IsCommand : App → Command → Type 0
@@ -50,21 +55,30 @@ IsCommand app command = (app_of command ≡ app) × ((out-Command command).has_g
 
 -- What is asked for
 
-abbrev pub to_verify : Result (List ℕ) LineFault → Result Task Kinds
-to_verify (Ok key) = Ok (tasks.Verify key)
-to_verify (Err fault) = Err (kinds.ValueValidation ∷ [])
+abbrev pub spelled_key : Result (List ℕ) LineFault → Result (List ℕ) Kinds
+spelled_key (Ok key) = Ok key
+spelled_key (Err fault) = Err (kinds.ValueValidation ∷ [])
 
 -- The key is a word of 120 digits of lower-case hexadecimal.
-abbrev pub asked_identity : Option Text → Result Task Kinds
+abbrev pub asked_identity : Option Text → Result (List ℕ) Kinds
 asked_identity None = Err (kinds.MissingRequiredArgument ∷ [])
-asked_identity (Some word) = to_verify (hex_sized word 60)
+asked_identity (Some word) = spelled_key (hex_sized word 60)
+
+-- What the command with a name asks for under a key.
+abbrev pub task_under : Text → List ℕ → Task
+task_under name key =
+    if bytes_eq name (codes "audit") then tasks.Audit key else tasks.Verify key
+
+abbrev pub asked_under : Text → Result (List ℕ) Kinds → Result Task Kinds
+asked_under name (Ok key) = Ok (task_under name key)
+asked_under name (Err told) = Err told
 
 -- What a command asks for with these values of its options.
 abbrev pub asked_command : Option (Text × List Row) → Result Task Kinds
 asked_command None = Err (kinds.MissingSubcommand ∷ [])
 asked_command (Some command) =
     if bytes_eq command.0 (codes "replay") then Ok tasks.Replay
-    else asked_identity (first_of (codes "identity") command.1)
+    else asked_under command.0 (asked_identity (first_of (codes "identity") command.1))
 
 -- The faults that the library finds come first.
 abbrev pub unless_faulty : Kinds → Result Task Kinds → Result Task Kinds

@@ -10,6 +10,7 @@ use clap::error::ErrorKind;
 use gl_base::{FormsFault, Pointer};
 use gl_hss::HssFault;
 use gl_receipt::ReceiptFault;
+use gl_requests::HssPublicKey;
 use itoa::Buffer;
 use std::alloc::{AllocError, Global};
 
@@ -30,6 +31,10 @@ pub enum Fault {
     Form(FormsFault),
     /// The receipt is not valid under the service's key.
     NotValid(ReceiptFault),
+    /// The entry of a ledger with this seqno is the first that breaks a rule of the audit.
+    Broken { seqno: u64, rule: u8 },
+    /// The ledger is valid, but that of the service with this key.
+    Foreign { identity: HssPublicKey },
 }
 
 /// The kind's name, as Rust has it.
@@ -160,6 +165,17 @@ fn put_receipt(alloc: Global, out: &mut Vec<u8>, fault: ReceiptFault) -> Result<
     }
 }
 
+/// The first entry that breaks a rule of the audit, and the rule.
+fn put_broken(out: &mut Vec<u8>, seqno: u64, rule: u8) -> Result<(), AllocError>
+    ensures { OnOk result (out.new.items ≡ out.old.items
+        ++ (codes "seqno " ++ decimal seqno ++ codes " rule " ++ decimal rule)) }
+{
+    out.extend_from_slice(b"seqno ")?;
+    put_number(out, seqno)?;
+    out.extend_from_slice(b" rule ")?;
+    put_number(out, u64::from(rule))
+}
+
 impl Fault {
     /// The name of the fault, and its values.
     fn put_text(&self, alloc: Global, out: &mut Vec<u8>) -> Result<(), AllocError>
@@ -176,6 +192,11 @@ impl Fault {
             }
             Fault::Form(fault) => put_form(out, fault),
             Fault::NotValid(fault) => put_receipt(alloc, out, *fault),
+            Fault::Broken { seqno, rule } => put_broken(out, *seqno, *rule),
+            Fault::Foreign { identity } => {
+                out.extend_from_slice(b"foreign ")?;
+                put_hex(alloc, out, identity)
+            }
         }
     }
 
@@ -197,7 +218,7 @@ impl Fault {
             Fault::Words(_) => Ending::OtherWords,
             Fault::TooManyBytes | Fault::TooManyLines | Fault::TooMuchJson => Ending::PastLimit,
             Fault::BadLine(_) | Fault::Form(_) => Ending::NoReading,
-            Fault::NotValid(_) => Ending::NotValid,
+            Fault::NotValid(_) | Fault::Broken { .. } | Fault::Foreign { .. } => Ending::NotValid,
         }
     }
 }

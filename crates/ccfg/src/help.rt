@@ -15,20 +15,28 @@ Commands:
       reads a receipt as JSON from standard input, verifies it under the
       service's key, which is 120 digits of lower-case hexadecimal, and writes
       'valid' and the transaction that it shows
+  ccfg audit --identity HEX
+      reads a ledger from standard input, tries each of its entries by the rules
+      of the audit, under the service's key, and writes 'valid', the last
+      transaction and that of the last signature, '-' where there is none
   ccfg --help, ccfg --version
       write this text, and the version
 
 Exit statuses:
   0  done
-  1  the receipt is not valid
+  1  the receipt or the ledger is not valid
   2  the words are not those of a command
   3  standard input failed
   4  standard output failed
   7  out of memory
   8  the input passes a limit
   9  the input is no schedule, or no receipt
-At 1, 2, 8 and 9 exactly one line is written, 'fault' and why.
+At 1, 2, 8 and 9 exactly one line is written, 'fault' and why: of a ledger,
+'fault seqno N rule R' tells the first entry that breaks a rule, and the first
+rule that it breaks, and 'fault foreign HEX' the key of the service whose valid
+ledger it is.
 
-Example:
+Examples:
   printf 'world 1 0 1 open %064d\\nids 1\\n' 0 | ccfg replay
+  ccfg audit --identity $(cat identity) < valid.ledger
 ";

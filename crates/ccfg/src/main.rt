@@ -4,6 +4,7 @@
 mod ending;
 mod fault;
 mod help;
+mod ledger_plan;
 mod load;
 mod plan;
 mod program;

@@ -1,11 +1,13 @@
 //! What there is to do with the bytes of a source.
 
-ghost use Rattle.std.specs.Prelude.{◌≡◌, ◌≤◌, ◌<◌, ◌^◌, Err, IfOk, length};
+ghost use Rattle.std.specs.Prelude.{◌≡◌, ◌≤◌, ◌<◌, ◌^◌, Bool, Err, IfErr, IfOk, List, ℕ, length};
 ghost use Rattle.gl_outside.specs.Fault.{Rose};
-ghost use Rattle.ccfg.specs.Owed.{OfBytes, bytes_limit, due_of, due_of_schedule};
+ghost use Rattle.gl_audit.specs.Given.{OfBytes};
+ghost use Rattle.ccfg.specs.Owed.{bytes_limit, due_of, due_of_schedule};
 ghost use Rattle.ccfg.specs.Plans.{EndsSource, ShowsAccepted, PlansPlayable, due_of_plan, fault_of_length, limit_of};
 
 use crate::fault::Fault;
+use crate::ledger_plan::ledger_plan;
 use crate::load::{LoadStop, load};
 use crate::verify::receipt_plan;
 use crate::words::Task;
@@ -24,6 +26,9 @@ const LINES_LIMIT: usize = 100_000;
 /// The most bytes that JSON has.
 const JSON_LIMIT: usize = 1_048_576;
 
+/// More bytes of a ledger than this are in no memory.
+const MEMORY_LIMIT: usize = (1 << 62) - 1;
+
 /// What there is to do.
 #[derive(Debug, Drop)]
 pub enum Plan {
@@ -31,6 +36,8 @@ pub enum Plan {
     Play(Schedule),
     /// To tell the transaction that a valid receipt shows.
     Show(TxId),
+    /// To tell the last transaction of a valid ledger, and that of its last signature.
+    ShowLedger(TxId, Option<TxId>),
     /// To tell a fault.
     Refuse(Fault),
 }
@@ -43,16 +50,18 @@ impl Task {
         match self {
             Task::Replay => BYTES_LIMIT,
             Task::Verify { .. } => JSON_LIMIT,
+            Task::Audit { .. } => MEMORY_LIMIT,
         }
     }
 
-    /// The fault of more bytes.
-    fn fault_of_length(&self) -> Fault
+    /// The fault of more bytes, where it has a limit.
+    fn fault_of_length(&self) -> Option<Fault>
         ensures { result ≡ fault_of_length self.now }
     {
         match self {
-            Task::Replay => Fault::TooManyBytes,
-            Task::Verify { .. } => Fault::TooMuchJson,
+            Task::Replay => Some(Fault::TooManyBytes),
+            Task::Verify { .. } => Some(Fault::TooMuchJson),
+            Task::Audit { .. } => None,
         }
     }
 }
@@ -86,6 +95,7 @@ fn plan_of(alloc: Global, task: &Task, text: &[u8]) -> Result<Plan, AllocError>
     match task {
         Task::Replay => schedule_plan(alloc, text),
         Task::Verify { identity } => receipt_plan(alloc, identity, text),
+        Task::Audit { identity } => ledger_plan(alloc, identity, text),
     }
 }
 
@@ -94,6 +104,22 @@ fn plan_of(alloc: Global, task: &Task, text: &[u8]) -> Result<Plan, AllocError>
 pub enum PlanStop {
     Memory,
     SourceFailed,
+}
+
+/// What there is to do with more bytes than a task reads.
+fn refusal_of_length(task: &Task) -> Result<Plan, PlanStop>
+    ensures due { IfOk result (λ plan. (given : List ℕ) → limit_of task.now < length given →
+        due_of task.now given ≡ due_of_plan plan) }
+    ensures sound { IfOk result (λ plan. (given : List ℕ) → ShowsAccepted task.now given plan) }
+    ensures unended { IfOk result (λ plan. (ended : Bool) →
+        EndsSource (due_of_plan plan).ending ended) }
+    ensures playable { IfOk result (λ plan. PlansPlayable plan) }
+    ensures memory { IfErr result (λ stop. stop ≡ PlanStop.Memory) }
+{
+    match task.fault_of_length() {
+        Some(fault) => Ok(Plan::Refuse(fault)),
+        None => Err(PlanStop::Memory),
+    }
 }
 
 /// What there is to do with what a source gives.
@@ -113,7 +139,7 @@ pub fn read_plan<S: Source>(alloc: Global, task: &Task, source: &mut S) -> Resul
             Ok(plan) => Ok(plan),
             Err(_) => Err(PlanStop::Memory),
         },
-        Err(LoadStop::TooLong) => Ok(Plan::Refuse(task.fault_of_length())),
+        Err(LoadStop::TooLong) => refusal_of_length(task),
         Err(LoadStop::Memory) => Err(PlanStop::Memory),
         Err(LoadStop::Failed) => Err(PlanStop::SourceFailed),
     }

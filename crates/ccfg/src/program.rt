@@ -8,11 +8,12 @@ ghost use Rattle.gl_outside.specs.Fault.{Rose};
 ghost use Rattle.gl_outside.specs.Sink.{AppendsFront};
 ghost use Rattle.ccfg.specs.declared.ending.Ending.{Ending as Endings};
 ghost use Rattle.ccfg.specs.declared.ending.Ending.TheVariants.{Done};
-ghost use Rattle.ccfg.specs.declared.plan.Plan.TheVariants.{Play, Show};
+ghost use Rattle.ccfg.specs.declared.plan.Plan.TheVariants.{Play, Show, ShowLedger};
 ghost use Rattle.ccfg.specs.declared.words.Task.TheVariants.{Verify};
 ghost use Rattle.ccfg.specs.declared.words.Task.{Task as Tasks};
 ghost use Rattle.gl_schedule.specs.Moments.{KeepsHeadline, TellsMoments};
-ghost use Rattle.ccfg.specs.Owed.{Answers, OfBytes, Runs, WritesDue, due_of, due_of_fault, exit_status};
+ghost use Rattle.gl_audit.specs.Given.{OfBytes};
+ghost use Rattle.ccfg.specs.Owed.{Answers, Runs, WritesDue, due_of, due_of_fault, exit_status};
 ghost use Rattle.gl_schedule.specs.Playable.{IsPlayable};
 ghost use Rattle.ccfg.specs.Plans.{PlansPlayable, due_of_plan};
 ghost use Rattle.ccfg.specs.Promises.{IsAnswer, IsKindLine, IsPastLimit, IsRefusal, IsUnread, Tells, TellsAccepted, TellsFront};
@@ -21,6 +22,7 @@ ghost use Rattle.ccfg.specs.Words.{asked};
 
 use crate::ending::Ending;
 use crate::fault::Fault;
+use crate::ledger_plan::ledger_line;
 use crate::plan::{Plan, PlanStop, read_plan};
 use crate::verify::valid_line;
 use crate::words::{Task, WordsFault, read_words};
@@ -67,6 +69,25 @@ fn show<K: Sink>(alloc: Global, id: TxId, sink: &mut K) -> Ending
     }
 }
 
+/// Tells the last transaction of a valid ledger, and that of its last signature.
+fn show_ledger<K: Sink>(alloc: Global, last: TxId, signed: Option<TxId>, sink: &mut K) -> Ending
+    ensures { WritesDue result (record {
+      held = K.holds sink.old;
+      holds = K.holds sink.new;
+      faults = K.faults sink.old;
+      faults_now = K.faults sink.new;
+    }) (due_of_plan (ShowLedger last signed)) }
+{
+    let Ok(line) = ledger_line(alloc, last, signed) else {
+        return Ending::Memory;
+    };
+    match write_whole(sink, &line) {
+        Ok(()) => Ending::Done,
+        Err(SinkFault::Failed) => Ending::SinkFailed,
+        Err(SinkFault::NoMemory) => Ending::Memory,
+    }
+}
+
 /// Plays a schedule; one without a service prints nothing.
 fn perform<K: Sink>(alloc: Global, schedule: &Schedule, sink: &mut K) -> Ending
     requires { IsPlayable schedule.now }
@@ -99,6 +120,7 @@ fn carry_out<K: Sink>(alloc: Global, plan: &Plan, sink: &mut K) -> Ending
     match plan {
         Plan::Play(schedule) => perform(alloc, schedule, sink),
         Plan::Show(id) => show(alloc, *id, sink),
+        Plan::ShowLedger(last, signed) => show_ledger(alloc, *last, *signed, sink),
         Plan::Refuse(fault) => refuse(alloc, fault, sink),
     }
 }
@@ -157,10 +179,11 @@ fn run<S: Source, K: Sink>(alloc: Global, words: &[String], source: &mut S, sink
 
 /// The whole program. The word `replay` replays the schedule that the source gives, and prints what
 /// came of each of its lines; `verify --identity HEX` verifies the receipt that the source gives,
-/// under the service's key HEX, and prints which transaction it shows. The answer is the exit
-/// status: 0 done, 1 the receipt is not valid, 2 other words, 3 the source failed, 4 the sink
-/// failed, 7 want of memory, 8 a limit is passed, 9 no schedule or no receipt. No command uses the
-/// disk, the link or the gate yet.
+/// under the service's key HEX, and prints which transaction it shows; `audit --identity HEX` audits
+/// the ledger that the source gives, under the service's key HEX, and prints its last transaction
+/// and that of its last signature. The answer is the exit status: 0 done, 1 the receipt or the
+/// ledger is not valid, 2 other words, 3 the source failed, 4 the sink failed, 7 want of memory, 8 a
+/// limit is passed, 9 no schedule or no receipt. No command uses the disk, the link or the gate yet.
 pub fn top<S: Source, K: Sink, D: Disk + Send, L: Link, G: Gate + Sync>(
     alloc: Global,
     words: &[String],
@@ -197,7 +220,7 @@ pub fn top<S: Source, K: Sink, D: Disk + Send, L: Link, G: Gate + Sync>(
         → OfBytes (S.left source.old) (λ given.
         TellsAccepted identity given (K.holds sink.old) (K.holds sink.new)) }
     // 1: the words ask for a task, the source gave its end, and exactly the line was written that
-    // tells why the bytes' receipt is not valid.
+    // tells why the bytes' receipt or ledger is not valid.
     ensures not_valid { result ≡ 1 → (task : Tasks)
         × (asked (map string_bytes words.now) ≡ Ok task)
         × (S.ended source.new ≡ true)
@@ -246,7 +269,7 @@ pub fn top<S: Source, K: Sink, D: Disk + Send, L: Link, G: Gate + Sync>(
     ensures answered { (task : Tasks) → asked (map string_bytes words.now) ≡ Ok task
         → IfSome (S.left source.old) (λ given. (text : List ℕ) → IsAnswer task given text
         → (result ≡ 0) ⊎ (result ≡ 3) ⊎ (result ≡ 4) ⊎ (result ≡ 7)) }
-    // a receipt that is not valid gives 1,
+    // a receipt or a ledger that is not valid gives 1,
     ensures refused { (task : Tasks) → asked (map string_bytes words.now) ≡ Ok task
         → IfSome (S.left source.old) (λ given. (text : List ℕ) → IsRefusal task given text
         → (result ≡ 1) ⊎ (result ≡ 3) ⊎ (result ≡ 4) ⊎ (result ≡ 7)) }

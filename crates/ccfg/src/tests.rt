@@ -4,6 +4,7 @@ use crate::program::top;
 use gl_outside::{NoDisk, OpenGate, Sink, Source, SureLink, SureSink, SureSource};
 use std::alloc::{AllocError, Global};
 
+mod audits;
 mod members;
 mod receipts;
 mod schedules;

@@ -7,7 +7,7 @@ ghost use Rattle.clap.specs.Simple.{subcommand_of, subcommand_rows_of};
 ghost use Rattle.clap.specs.Walk.{rule_of};
 ghost use Rattle.gl_lines.specs.Words.{hex_sized, is_lower_digit};
 ghost use Rattle.std.specs.List.{list_all};
-ghost use Rattle.ccfg.specs.Words.{IsCommand, RefusesWords, asked, asked_command, asked_identity, bare_program, identity_option, program, to_verify, verify_command};
+ghost use Rattle.ccfg.specs.Words.{IsCommand, RefusesWords, asked, asked_command, asked_identity, audit_command, bare_program, identity_option, program, spelled_key, task_under, verify_command};
 
 use crate::help::VERSION;
 use clap::error::ErrorKind;
@@ -23,6 +23,8 @@ pub enum Task {
     Replay,
     /// To verify a receipt under a service's key.
     Verify { identity: HssPublicKey },
+    /// To audit a ledger under a service's key.
+    Audit { identity: HssPublicKey },
 }
 
 /// Why words ask for nothing.
@@ -47,6 +49,12 @@ fn verify_command<'a>(alloc: Global) -> Result<Command<'a>, AllocError>
     Command::new(alloc, "verify").arg(identity_option(alloc))
 }
 
+fn audit_command<'a>(alloc: Global) -> Result<Command<'a>, AllocError>
+    ensures { IfOk result (IsCommand audit_command) }
+{
+    Command::new(alloc, "audit").arg(identity_option(alloc))
+}
+
 /// The program without its commands.
 fn bare_program<'a>(alloc: Global) -> Command<'a>
     ensures { IsCommand bare_program result }
@@ -64,7 +72,8 @@ fn program<'a>(alloc: Global) -> Result<Command<'a>, AllocError>
 {
     bare_program(alloc)
         .subcommand(Command::new(alloc, "replay"))?
-        .subcommand(verify_command(alloc)?)
+        .subcommand(verify_command(alloc)?)?
+        .subcommand(audit_command(alloc)?)
 }
 
 fn is_lower_hex(word: &str) -> bool
@@ -75,30 +84,41 @@ fn is_lower_hex(word: &str) -> bool
         .all(|byte| matches!(*byte, b'0'..=b'9' | b'a'..=b'f'))
 }
 
-/// The task of verifying under the key that a word spells.
-fn to_verify(word: &str) -> Result<Task, ErrorKind>
-    ensures found { IfOk result (λ task. to_verify (hex_sized word.now 60) ≡ Ok task) }
-    ensures refused { IfErr result (λ kind. to_verify (hex_sized word.now 60) ≡ Err (kind ∷ [])) }
+/// The key that a word spells.
+fn spelled_key(word: &str) -> Result<HssPublicKey, ErrorKind>
+    ensures found { IfOk result (λ key. spelled_key (hex_sized word.now 60) ≡ Ok key) }
+    ensures refused { IfErr result (λ kind. spelled_key (hex_sized word.now 60) ≡ Err (kind ∷ [])) }
 {
     if !is_lower_hex(word) {
         return Err(ErrorKind::ValueValidation);
     }
     match <HssPublicKey as FromHex>::from_hex(word) {
-        Ok(identity) => Ok(Task::Verify { identity }),
+        Ok(key) => Ok(key),
         Err(_) => Err(ErrorKind::ValueValidation),
     }
 }
 
-/// What a command asks for that has this option.
-fn asked_identity(word: Option<&str>) -> Result<Task, ErrorKind>
-    ensures found { IfOk result (λ task.
-        asked_identity (option_map (λ s. s.now) word.entry) ≡ Ok task) }
+/// The key that the option of a command spells.
+fn asked_identity(word: Option<&str>) -> Result<HssPublicKey, ErrorKind>
+    ensures found { IfOk result (λ key.
+        asked_identity (option_map (λ s. s.now) word.entry) ≡ Ok key) }
     ensures refused { IfErr result (λ kind.
         asked_identity (option_map (λ s. s.now) word.entry) ≡ Err (kind ∷ [])) }
 {
     match word {
-        Some(word) => to_verify(word),
+        Some(word) => spelled_key(word),
         None => Err(ErrorKind::MissingRequiredArgument),
+    }
+}
+
+/// What the command with a name asks for under a key.
+fn task_under(name: &str, identity: HssPublicKey) -> Task
+    ensures { result ≡ task_under name.now identity }
+{
+    if name == "audit" {
+        Task::Audit { identity }
+    } else {
+        Task::Verify { identity }
     }
 }
 
@@ -113,7 +133,10 @@ fn asked_command(matches: &ArgMatches) -> Result<Task, ErrorKind>
             if name == "replay" {
                 Ok(Task::Replay)
             } else {
-                asked_identity(options.get_str("identity"))
+                match asked_identity(options.get_str("identity")) {
+                    Ok(identity) => Ok(task_under(name, identity)),
+                    Err(kind) => Err(kind),
+                }
             }
         }
         None => Err(ErrorKind::MissingSubcommand),

@@ -20,7 +20,7 @@ const SHORT: &str = "\
 #[test]
 fn tells_one_kind_of_fault(rt: HostRuntime) -> Result<(), Fail> {
     let alloc = rt.alloc();
-    let rows: [(&[&str], &str); 19] = [
+    let rows: [(&[&str], &str); 22] = [
         (&[], "MissingSubcommand"),
         (&[""], "InvalidSubcommand"),
         (&["foo"], "InvalidSubcommand"),
@@ -41,6 +41,9 @@ fn tells_one_kind_of_fault(rt: HostRuntime) -> Result<(), Fail> {
         (&["verify", "--identity", SHORT], "ValueValidation"),
         (&["verify", "--identity", ""], "ValueValidation"),
         (&["verify", "--identity=00", "x"], "UnknownArgument"),
+        (&["audit"], "MissingRequiredArgument"),
+        (&["audit", "--identity", SHORT], "ValueValidation"),
+        (&["audit", "--identity", IDENTITY, "x"], "UnknownArgument"),
         (&["--help"], "DisplayHelp"),
         (&["--version"], "DisplayVersion"),
     ];

@@ -1,0 +1,4 @@
+pub mod FileLaws
+pub mod Steps
+pub mod Spelled
+pub mod Verdicts

@@ -1,0 +1,4 @@
+pub mod LedgerFile
+pub mod Given
+pub mod Verdict
+pub mod Taking

@@ -1,0 +1,65 @@
+-- What an auditor has taken of a ledger file, and how the entries of the file end for it.
+use Rattle.std.specs.Prelude.{◌≡◌, ℕ, suc, List, [], ◌∷◌, ◌++◌, Option, None, Some, true, length}
+use Rattle.std.specs.List.{list_all}
+use Rattle.gl_entry.specs.Entry.{is_entry}
+use Rattle.gl_entry.specs.declared.entry.Entry.{Entry}
+use Rattle.gl_entry.specs.declared.fault.EntryFault.{EntryFault}
+use Rattle.gl_ledger.specs.Audit.{fault_from}
+use Rattle.gl_ledger.specs.Broken.{broken}
+use Rattle.gl_ledger.specs.NodeKeys.{service_layers}
+use Rattle.gl_ledger.specs.declared.breach.Broken.{Broken}
+use Rattle.gl_audit.specs.Given.{OfBytes}
+use Rattle.gl_audit.specs.LedgerFile.{LedgerFile, ledger_file}
+use Rattle.gl_audit.specs.declared.ledger_audit.Next.{Next}
+use Rattle.gl_audit.specs.declared.ledger_audit.Next.TheVariants as nexts
+use Rattle.gl_audit.specs.declared.ledger_audit.Stop.{Stop}
+use Rattle.gl_audit.specs.declared.ledger_audit.Stop.TheVariants as stops
+
+-- A file with these entries before its own.
+abbrev pub with_entries : List Entry → LedgerFile → LedgerFile
+with_entries taken file = record file { entries = taken ++ file.entries }
+
+-- A file without entries, up to its end or to bytes that are no frame.
+abbrev pub no_entries : Option EntryFault → LedgerFile
+no_entries fault = record { entries = []; fault = fault }
+
+-- The bytes that are still to be read were a file that begins with these entries, and now they are
+-- the file behind them; where they are known.
+abbrev pub Reads : Option (List ℕ) → List Entry → Option (List ℕ) → Type 0
+Reads None taken left = Unit {0}
+Reads (Some bytes) taken None = ⊥
+Reads (Some bytes) taken (Some rest) = ledger_file bytes ≡ with_entries taken (ledger_file rest)
+
+-- These entries were taken from the front of the bytes that are still to be read.
+abbrev pub Consumes : Option (List ℕ) → List Entry → Option (List ℕ) → Type 0
+Consumes old taken new = (list_all is_entry taken ≡ true) × Reads old taken new
+
+-- The next entry was taken; or the bytes that are still to be read are at their end, or begin with
+-- no frame.
+abbrev pub IsNext : Option (List ℕ) → Next → Option (List ℕ) → Type 0
+IsNext old (nexts.Entry e) new = Consumes old (e ∷ []) new
+IsNext old nexts.End new = OfBytes old (λ bytes. ledger_file bytes ≡ no_entries None)
+IsNext old nexts.Unread new =
+    OfBytes old (λ bytes. (fault : EntryFault) × (ledger_file bytes ≡ no_entries (Some fault)))
+
+-- An entry was added that breaks no rule, or this is the first rule that it breaks.
+abbrev pub IsTaken : List Entry → Entry → Option ℕ → List Entry → Type 0
+IsTaken before e None now = (broken service_layers before e ≡ None) × (now ≡ before ++ e ∷ [])
+IsTaken before e (Some rule) now =
+    (b : Broken) × (broken service_layers before e ≡ Some b) × (b.rule ≡ rule) × (now ≡ before)
+
+-- Behind a ledger all entries of a file were added, none of which breaks a rule.
+abbrev pub AreTaken : List Entry → List Entry → List Entry → Type 0
+AreTaken before entries now =
+    (fault_from service_layers before entries ≡ None) × (now ≡ before ++ entries)
+
+-- How a file ends: with all of its entries added, where it ends or where bytes are no frame; or
+-- with those before the first entry that breaks a rule.
+abbrev pub Ends : List Entry → LedgerFile → Stop → List Entry → Type 0
+Ends before file stops.End now = AreTaken before file.entries now × (file.fault ≡ None)
+Ends before file stops.Unread now =
+    AreTaken before file.entries now × (fault : EntryFault) × (file.fault ≡ Some fault)
+Ends before file (stops.Broken rule) now =
+    (b : Broken) × (b.rule ≡ rule)
+    × (fault_from service_layers before file.entries
+    ≡ Some (record { seqno = suc (length now); broken = b }))

@@ -1,14 +1,16 @@
 #!/usr/bin/env -S python3 -B
 """Ledgers that break the rules of the audit, as small edits of a few ledgers.
 
-    rules.py           prints the rows, for a test that has the ledgers
-    rules.py --try     tries each row with verify_ledger.py, and cuts and changed bits
+    rules.py                   prints the rows, for a test that has the ledgers
+    rules.py --try             tries each row with verify_ledger.py, and cuts and changed bits
+    rules.py --try PROGRAM     tries them with the command `audit` of the built program
 
 An edit is (offset, how many bytes go, which bytes come), and all offsets of a row are those of the
 ledger before its edits, ascending. A row ends with the seqno of the first entry that breaks a rule,
 and the least rule that it breaks. Both come from docs/AUDIT.md, and from no program's output.
 """
 import functools
+import subprocess
 import sys
 from pathlib import Path
 
@@ -401,8 +403,22 @@ def print_tables():
 # ---- Trying
 
 
-def differs(name, data, want):
-    got, _ = reader.audit(IDENTITY, data)
+def told_by_reader(data):
+    return reader.audit(IDENTITY, data)[0]
+
+
+def told_by(program):
+    """What a program's command `audit` tells."""
+    words = [program, "audit", "--identity", IDENTITY.hex()]
+
+    def told(data):
+        return subprocess.run(words, input=data, capture_output=True).stdout.decode().strip()
+
+    return told
+
+
+def differs(told, name, data, want):
+    got = told(data)
     if got != want:
         print(f"{name}: {want} is wanted, {got} is told")
     return got != want
@@ -416,30 +432,47 @@ def front_verdict(size):
     return dict(FRONTS).get(size, f"fault seqno {whole + 1} rule 1")
 
 
-def try_all():
-    reader.is_signed = functools.lru_cache(None)(reader.is_signed)
+def try_rows(told, tries):
     bad = 0
     for table, _, data, rows in TABLES:
-        tried = 0
-        for name, edits, seqno, rule in rows:
-            untried = rule in (7, 8) and seqno > 1
-            if not untried:
-                tried += 1
-                bad += differs(name, edited(data, edits), f"fault seqno {seqno} rule {rule}")
-        print(f"{table.lower()}: {tried} of {len(rows)} rows tried")
-    for size in range(END + 1):
-        bad += differs(f"cut at {size}", BASE[:size], front_verdict(size))
-    print(f"cuts: {END + 1} tried")
-    places = [(at, bit) for at in range(0, END, 64) for bit in range(8)]
+        tried = [row for row in rows if tries(row)]
+        for name, edits, seqno, rule in tried:
+            bad += differs(told, name, edited(data, edits), f"fault seqno {seqno} rule {rule}")
+        print(f"{table.lower()}: {len(tried)} of {len(rows)} rows tried")
+    return bad
+
+
+def try_fronts(told):
+    print(f"cuts: {END + 1} to try")
+    return sum(differs(told, f"cut at {n}", BASE[:n], front_verdict(n)) for n in range(END + 1))
+
+
+def try_bits(told, bits):
+    bad = 0
+    places = [(at, bit) for at in range(0, END, 64) for bit in bits]
     for at, bit in places:
         changed = BASE[:at] + bytes([BASE[at] ^ 1 << bit]) + BASE[at + 1 :]
-        if reader.audit(IDENTITY, changed)[0].startswith("valid"):
+        if told(changed).startswith("valid"):
             print(f"bit {bit} of byte {at}: valid")
             bad += 1
     print(f"changed bits: {len(places)} tried")
+    return bad
+
+
+def try_all(words):
+    """Tries the rows, each front and changed bits: with the reader, which knows rules 7 and 8 of a
+    genesis alone, or with a program."""
+    if words:
+        told = told_by(words[0])
+        bad = try_rows(told, lambda row: True) + try_fronts(told) + try_bits(told, [0])
+    else:
+        reader.is_signed = functools.lru_cache(None)(reader.is_signed)
+        known = lambda row: row[3] not in (7, 8) or row[2] == 1
+        bad = try_rows(told_by_reader, known) + try_fronts(told_by_reader)
+        bad += try_bits(told_by_reader, range(8))
     print("all as wanted" if bad == 0 else f"{bad} differ")
     return bad != 0
 
 
 if __name__ == "__main__":
-    sys.exit(try_all() if sys.argv[1:] == ["--try"] else print_tables())
+    sys.exit(try_all(sys.argv[2:]) if sys.argv[1:2] == ["--try"] else print_tables())

@@ -68,7 +68,7 @@ fn read_piece<S: Source>(source: &mut S, buffer: &mut Vec<u8>) -> Result<Got, Al
 
 impl ReadBuffer {
     /// No bytes.
-    pub(crate) fn new(alloc: Global) -> Self
+    pub fn new(alloc: Global) -> Self
         ensures { result ≡ [] }
     {
         ReadBuffer {

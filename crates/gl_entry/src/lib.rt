@@ -26,7 +26,7 @@ pub use leaves::{
     commit_evidence_digest, evidence, is_evidence, leaf, leaf_of_body, leaf_of_components,
 };
 pub use message::signed_message;
-pub use reader::LedgerReader;
+pub use reader::{LedgerReader, read_entry};
 
 #[cfg(test)]
 mod tests;

@@ -78,6 +78,45 @@ fn take_next(alloc: Global, kept: &mut ReadBuffer) -> Result<Option<Entry>, OrNo
     Ok(Some(entry))
 }
 
+/// The next entry of a source whose bytes were read as far as they are kept, or `None` where the
+/// source gave its end and no byte is left. A fault takes nothing: the next call gives it again. A
+/// source that failed counted that, and has lost nothing of what it told; nor is anything lost where
+/// memory runs out.
+pub fn read_entry<S: Source>(
+    alloc: Global,
+    source: &mut S,
+    kept: &mut ReadBuffer,
+) -> Result<Option<Entry>, OrNoMemory<LedgerFault>>
+    // Where the source tells what it has left, the entries are those of these bytes, however they
+    // come.
+    ensures entry { IfOk result (λ read.
+        IfSome (to_read kept.old (S.left source.old)) (λ bytes.
+        GivesNext bytes read (to_read kept.new (S.left source.new)))) }
+    ensures valid { IfOk result (λ read. IfSome read (λ e. IsTrue (is_entry e))) }
+    ensures none { result ≡ Ok None → (S.ended source.new ≡ true) × (kept.new ≡ []) }
+    ensures fault { (f : Fault) → result ≡ Err (OrNoMemory.Fault (LedgerFault.Entry f)) →
+        IfSome (to_read kept.old (S.left source.old)) (λ bytes.
+        (next_entry bytes ≡ Err f)
+        × (to_read kept.new (S.left source.new) ≡ Some bytes)) }
+    // A fault is that of the bytes that are kept, also where the source doesn't tell what it has
+    // left.
+    ensures refused { (f : Fault) → result ≡ Err (OrNoMemory.Fault (LedgerFault.Entry f)) →
+        next_entry kept.new ≡ Err f }
+    ensures err { OnErr result (Keeps (to_read kept.old (S.left source.old))
+        (to_read kept.new (S.left source.new))) }
+    ensures failed { result ≡ Err (OrNoMemory.Fault LedgerFault.Read) →
+        Rose (S.faults source.old) (S.faults source.new) }
+    ensures quiet { (result ≡ Err (OrNoMemory.Fault LedgerFault.Read) → ⊥) →
+        S.faults source.new ≡ S.faults source.old }
+    ensures never_falls { S.faults source.old ≤ S.faults source.new }
+{
+    fill(source, kept)?;
+    match take_next(alloc, kept) {
+        Ok(read) => Ok(read),
+        Err(error) => Err(error.widen()),
+    }
+}
+
 /// Reads the entries of a ledger from a source, one frame behind the other, whatever pieces the
 /// source gives. It keeps the bytes that it has read and not yet taken.
 #[derive(Debug, Drop)]
@@ -100,9 +139,8 @@ impl<S: Source> LedgerReader<S> {
         }
     }
 
-    /// The next entry, or `None` where the source gave its end and no byte is left. A fault takes
-    /// nothing: the next call gives it again. A source that failed counted that, and has lost
-    /// nothing of what it told; nor is anything lost where memory runs out.
+    /// The next entry, or `None` where the source gave its end and no byte is left, as `read_entry`
+    /// reads it.
     pub fn next(&mut self) -> Result<Option<Entry>, OrNoMemory<LedgerFault>>
         // Where the source tells what it has left, the entries are those of these bytes, however
         // they come.
@@ -127,10 +165,6 @@ impl<S: Source> LedgerReader<S> {
             S.faults self.new.source ≡ S.faults self.old.source }
         ensures never_falls { S.faults self.old.source ≤ S.faults self.new.source }
     {
-        fill(&mut self.source, &mut self.kept)?;
-        match take_next(self.alloc, &mut self.kept) {
-            Ok(read) => Ok(read),
-            Err(error) => Err(error.widen()),
-        }
+        read_entry(self.alloc, &mut self.source, &mut self.kept)
     }
 }

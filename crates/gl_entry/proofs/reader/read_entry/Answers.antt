@@ -4,7 +4,7 @@ use Rattle.gl_base.specs.declared.or_no_memory.OrNoMemory.TheVariants.{Fault}
 use Rattle.gl_entry.specs.declared.fault.EntryFault.{EntryFault}
 use Rattle.gl_entry.specs.declared.fault.LedgerFault.TheVariants.{Entry}
 use Rattle.gl_entry.proofs.Taking.{gives, fails, widened-entry}
-use Rattle.gl_entry.proofs.reader.LedgerReader.next.Goals as goal
+use Rattle.gl_entry.proofs.reader.read_entry.Goals as goal
 
 pub returns-in-Ok-clause-entry : goal.returns-in-Ok-clause-entry
 returns-in-Ok-clause-entry g c = gives _ _ _ _ _ _ c.in_ok-fill.ensures.kept c.in_ok-fill.ensures.settled c.in-Ok.ensures.taken

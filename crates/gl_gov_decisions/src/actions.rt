@@ -2,7 +2,7 @@
 
 ghost use Rattle.std.specs.Prelude.{◌≡◌, ◌≤◌, length, IfOk, IfSome, Some};
 ghost use Rattle.gl_gov_rules.specs.Nodes.{is_pending_status, is_trusted_status};
-ghost use Rattle.gl_gov_rules.specs.Actions.{is_number_used, is_key_used, is_below_all, is_ascending, is_dealing_in_order, are_present, is_dealing_among, holders_without, are_too_few_without, is_pending_node, is_trusted_node, are_fractions, is_opening, cause_against, with_applied, first_bad_action};
+ghost use Rattle.gl_gov_rules.specs.Actions.{is_number_used, is_key_used, is_below_all, is_ascending, is_dealing_in_order, are_present, is_dealing_among, holders_without, are_too_few_without, is_pending_node, is_trusted_node, are_fractions, is_opening, cause_against, with_applied, at_index, first_bad_action};
 
 use crate::limits::{MAX_DENOMINATOR, MAX_MEMBERS, MAX_TRUSTED_NODES};
 use gl_gov_rules::{Cause, Change, Changed, History, NodeStatus, RecordedNode};
@@ -268,9 +268,9 @@ fn with_applied(
     })
 }
 
-/// The index, counted from 1, and the cause of the first action that is bad when they are applied
-/// in order, by the entry with a seqno.
-pub fn first_bad_action(
+/// The index and the cause of the first action that is bad when they are applied in order, each to
+/// a copy of the history that has those before it.
+fn first_bad_in_order(
     alloc: Global,
     past: &History,
     seqno: u64,
@@ -287,4 +287,31 @@ pub fn first_bad_action(
         trial = with_applied(alloc, trial, seqno, action)?;
     }
     Ok(None)
+}
+
+/// The index 1 and the cause of an action that is bad behind the history.
+fn bad_alone(past: &History, action: &Action) -> Option<(u64, Cause)>
+    ensures { result ≡ at_index 1 (cause_against past.now action.now) }
+{
+    match cause_against(past, action) {
+        None => None,
+        Some(cause) => Some((1, cause)),
+    }
+}
+
+/// The index, counted from 1, and the cause of the first action that is bad when they are applied
+/// in order, by the entry with a seqno. An action that is alone is tried on the history itself.
+pub fn first_bad_action(
+    alloc: Global,
+    past: &History,
+    seqno: u64,
+    actions: &[Action],
+) -> Result<Option<(u64, Cause)>, AllocError>
+    ensures first { IfOk result (λ bad. bad ≡ first_bad_action past.now seqno 1 actions.now) }
+    ensures index { IfOk result (λ bad. IfSome bad (λ b. b.0 ≤ length actions.now)) }
+{
+    match actions {
+        [action] => Ok(bad_alone(past, action)),
+        _ => first_bad_in_order(alloc, past, seqno, actions),
+    }
 }

@@ -1,11 +1,10 @@
 //! What a request brings about: the ballots are counted anew at each ballot, and what is accepted
 //! is applied then.
 
-ghost use Rattle.std.specs.Prelude.{◌≡◌, ◌++◌, ◌∷◌, [], true, if◌then◌else◌, IfOk, OnOk, map};
-ghost use Rattle.gl_requests.specs.Ranges.{is_request};
+ghost use Rattle.std.specs.Prelude.{◌≡◌, ◌++◌, ◌∷◌, [], if◌then◌else◌, IfOk, OnOk, map};
 ghost use Rattle.gl_gov_rules.specs.Service.{shares_given};
 ghost use Rattle.gl_gov_rules.specs.Tally.{tally};
-ghost use Rattle.gl_gov_rules.specs.Changes.{first_rules, set_member, founding_changes, acceptance_changes, ballot_changes, is_complete, act_changes, request_changes, changed_at, with_request};
+ghost use Rattle.gl_gov_rules.specs.Changes.{first_rules, set_member, founding_changes, acceptance_changes, ballot_changes, is_complete, act_changes, changes_of, changed_at};
 
 use crate::actions::first_bad_action;
 use crate::tally::{is_accepted, is_rejected, tally};
@@ -111,21 +110,21 @@ fn acceptance_changes(
     }
 }
 
-/// What a ballot on a proposal with these actions brings about. `with` has the ballot too.
+/// What the ballot `last` brings about on a proposal with these actions.
 #[tactic(auto, unfolding(gl_gov_rules::specs::Changes::ballot_changes))]
 fn ballot_changes(
     alloc: Global,
     past: &History,
-    with: &History,
-    seqno: u64,
+    last: &Recorded,
     id: Digest,
     actions: &[Action],
 ) -> Result<Vec<Changed>, AllocError>
     ensures { IfOk result (λ out. out.items
-        ≡ map (changed_at seqno) (ballot_changes past.now seqno id
-        (tally past.now with.now.requests id) actions.now)) }
+        ≡ map (changed_at last.now.seqno) (ballot_changes past.now last.now.seqno id
+        (tally past.now (past.now.requests ++ last.now ∷ []) id) actions.now)) }
 {
-    let tally = tally(past, with, &id);
+    let seqno = last.seqno;
+    let tally = tally(past, last, &id);
     if is_accepted(past, tally, actions) {
         let bad = first_bad_action(alloc, past, seqno, actions)?;
         acceptance_changes(alloc, seqno, id, actions, bad)
@@ -161,16 +160,15 @@ fn share_changes(alloc: Global, past: &History, seqno: u64) -> Result<Vec<Change
     }
 }
 
-/// What a member's request brings about. `with` has the request too.
+/// What a member asks for in the request `last` brings about.
 fn act_changes(
     alloc: Global,
     past: &History,
-    with: &History,
-    seqno: u64,
+    last: &Recorded,
     act: &MemberAct,
 ) -> Result<Vec<Changed>, AllocError>
-    ensures { IfOk result (λ out. out.items
-        ≡ map (changed_at seqno) (act_changes past.now with.now.requests seqno act.now)) }
+    ensures { IfOk result (λ out. out.items ≡ map (changed_at last.now.seqno)
+        (act_changes past.now (past.now.requests ++ last.now ∷ []) last.now.seqno act.now)) }
 {
     match act {
         MemberAct::Ballot {
@@ -178,59 +176,34 @@ fn act_changes(
             agrees: _,
         } => match past.proposal(proposal) {
             None => Ok(Vec::new(alloc)),
-            Some(found) => {
-                let actions = found.actions.as_slice();
-                ballot_changes(alloc, past, with, seqno, *proposal, actions)
-            }
+            Some(found) => ballot_changes(alloc, past, last, *proposal, found.actions.as_slice()),
         },
         MemberAct::Withdraw { proposal } => {
             let settled = Change::Settled(*proposal, ProposalState::Withdrawn);
-            one_change(alloc, seqno, settled)
+            one_change(alloc, last.seqno, settled)
         }
-        MemberAct::Share { share: _ } => share_changes(alloc, past, seqno),
+        MemberAct::Share { share: _ } => share_changes(alloc, past, last.seqno),
         _ => Ok(Vec::new(alloc)),
     }
 }
 
-/// What a request brings about. `with` has the request too.
-fn request_changes(
+/// What a request that is recorded behind a history brings about, each change at its seqno.
+#[tactic(auto, unfolding(gl_gov_rules::specs::Changes::changes_of))]
+pub fn changes_of(
     alloc: Global,
     past: &History,
-    with: &History,
-    seqno: u64,
-    request: &GovernanceRequest,
+    recorded: &Recorded,
 ) -> Result<Vec<Changed>, AllocError>
-    ensures { IfOk result (λ out. out.items
-        ≡ map (changed_at seqno) (request_changes past.now with.now.requests seqno request.now)) }
+    ensures changes { IfOk result (λ out. out.items
+        ≡ map (changed_at recorded.now.seqno) (changes_of past.now recorded.now)) }
 {
-    match request {
+    let seqno = recorded.seqno;
+    match &recorded.request {
         GovernanceRequest::Genesis(genesis) => founding_changes(alloc, seqno, genesis),
         GovernanceRequest::Recover(recovery) => {
             one_change(alloc, seqno, Change::Recovered(recovery.identity))
         }
-        GovernanceRequest::Member(request) => act_changes(alloc, past, with, seqno, &request.act),
+        GovernanceRequest::Member(request) => act_changes(alloc, past, recorded, &request.act),
         _ => Ok(Vec::new(alloc)),
     }
-}
-
-/// The history with one more request, and with what it brings about.
-#[tactic(auto, unfolding(gl_gov_rules::specs::Changes::changes_of, gl_gov_rules::specs::Changes::with_request,))]
-pub fn with_request(
-    alloc: Global,
-    past: &History,
-    seqno: u64,
-    request: &GovernanceRequest,
-) -> Result<History, AllocError>
-    requires fits { is_request request.now ≡ true }
-    ensures next { IfOk result (λ next.
-        next ≡ with_request past.now (record { seqno = seqno; request = request.now })) }
-{
-    let copy = request.copy(alloc)?;
-    let recorded = Recorded {
-        seqno,
-        request: copy,
-    };
-    let with = past.copy(alloc)?.with_recorded(alloc, recorded)?;
-    let more = request_changes(alloc, past, &with, seqno, request)?;
-    with.with_changes(more)
 }

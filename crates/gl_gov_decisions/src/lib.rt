@@ -1,7 +1,7 @@
 //! What is decided on a request of governance: why it is refused, or what it brings about.
 #![tactic(auto)]
 
-pub use changes::with_request;
+pub use changes::changes_of;
 pub use refusals::refusal;
 
 mod actions;

@@ -1,35 +1,37 @@
 //! Counting the ballots on a proposal, and whether they settle it.
 
-ghost use Rattle.std.specs.Prelude.{◌≡◌};
+ghost use Rattle.std.specs.Prelude.{◌≡◌, ◌++◌, ◌∷◌, []};
 ghost use Rattle.gl_requests.specs.Spelling.{action_number};
 ghost use Rattle.gl_gov_rules.specs.Service.{constitution};
 ghost use Rattle.gl_gov_rules.specs.Tally.{answer_count, tally, rule_of, is_met, is_out_of_reach, is_accepted, is_rejected};
 
-use gl_gov_rules::{History, Tally};
+use gl_gov_rules::{History, Recorded, Tally};
 use gl_requests::{Action, Digest, Rule};
 
-/// How many of the members who are active in the past gave this answer in the requests of `with`.
+/// How many of the members who are active in the past gave this answer in its requests or in this
+/// one behind them.
 #[tactic(auto, unfolding(gl_gov_rules::specs::Tally::answer_count))]
-fn answer_count(past: &History, with: &History, id: &Digest, agrees: bool) -> usize
-    ensures { result ≡ answer_count past.now with.now.requests id.now agrees }
+fn answer_count(past: &History, last: &Recorded, id: &Digest, agrees: bool) -> usize
+    ensures { result
+        ≡ answer_count past.now (past.now.requests ++ last.now ∷ []) id.now agrees }
 {
     past.members()
         .iter()
         .filter(|member| {
-            past.is_active(member.number) && with.has_answered(id, agrees, member.number)
+            past.is_active(member.number) && past.has_answered_with(last, id, agrees, member.number)
         })
         .count()
 }
 
-/// The ballots on a proposal in the requests of `with`, counted anew over the members who are
-/// active in the past.
-pub fn tally(past: &History, with: &History, id: &Digest) -> Tally
-    ensures { result ≡ tally past.now with.now.requests id.now }
+/// The ballots on a proposal in the requests of the past and in this one behind them, counted anew
+/// over the members who are active in the past.
+pub fn tally(past: &History, last: &Recorded, id: &Digest) -> Tally
+    ensures { result ≡ tally past.now (past.now.requests ++ last.now ∷ []) id.now }
 {
     Tally {
         all: past.active_count() as u64,
-        agreed: answer_count(past, with, id, true) as u64,
-        refused: answer_count(past, with, id, false) as u64,
+        agreed: answer_count(past, last, id, true) as u64,
+        refused: answer_count(past, last, id, false) as u64,
     }
 }
 

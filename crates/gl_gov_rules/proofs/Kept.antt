@@ -60,3 +60,14 @@ kept_changes rs cs more after ms new ns ps kept pushed put = rw pushed (record {
   nodes_are = kept.nodes_are;
   proposals_are = kept.proposals_are;
 })
+
+-- one more request, with the changes that it brings about
+pub kept_recorded : (rs after : List Recorded) (cs more all : List Changed) (ms named new : List NewMember) (ns here more_nodes : List RecordedNode) (ps made more_proposals : List Proposal) (r : Recorded) →
+    IsKept (record { requests = rs; changes = cs }) ms ns ps →
+    named ≡ filter_map (λ (x : Changed). member_named x.change) more → here ≡ nodes_recorded r.seqno r.request → made ≡ option_to_list (proposal_in r.seqno r.request) →
+    after ≡ rs ++ r ∷ [] → all ≡ cs ++ more → new ≡ ms ++ named → more_nodes ≡ ns ++ here → more_proposals ≡ ps ++ made →
+    IsKept (record { requests = after; changes = all }) new more_nodes more_proposals
+kept_recorded rs after cs more all ms named new ns here more_nodes ps made more_proposals r kept n h m pushed changed put recorded proposed =
+    kept_changes after cs more all ms new more_nodes more_proposals
+    (kept_request rs after cs ms ns more_nodes ps more_proposals r kept (rw h at recorded) (rw m at proposed) pushed)
+    changed (rw n at put)

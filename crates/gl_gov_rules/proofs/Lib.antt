@@ -1,4 +1,5 @@
 mod Kept
+mod Answered
 pub mod Rising
 pub mod Cutting
 pub mod CutLists

@@ -1,5 +1,6 @@
 //! The history of governance: all requests so far, and what they brought about.
 
+ghost use Rattle.std.specs.Prelude.{◌≡◌, ◌++◌, ◌+◌, ◌≤◌, vec_len, vec_capacity};
 ghost use Rattle.gl_requests.specs.Ranges.{is_request};
 
 use crate::change::{Changed, Proposal, Recorded, RecordedNode};
@@ -38,8 +39,19 @@ impl Model for History {
         h.members.items h.nodes.items h.proposals.items };
 }
 
+/// Moves more to the end of a list that has room for it.
+fn append_reserved<T: Drop>(list: &mut Vec<T>, more: Vec<T>)
+    requires { vec_len list.old + vec_len more ≤ vec_capacity list.old }
+    ensures { list.new.items ≡ list.old.items ++ more.items }
+{
+    let mut more = more;
+    if list.append(&mut more).is_err() {
+        unreachable!();
+    }
+}
+
 impl History {
-    ghost use Rattle.std.specs.Prelude.{◌≡◌, ◌++◌, ◌∷◌, [], true, IfOk};
+    ghost use Rattle.std.specs.Prelude.{◌≡◌, ◌++◌, ◌∷◌, [], true, IfOk, OnOk, OnErr};
     ghost use Rattle.gl_gov_rules.specs.History.{no_history};
     ghost use Rattle.gl_gov_rules.specs.Members.{members};
     ghost use Rattle.gl_gov_rules.specs.Nodes.{nodes};
@@ -84,31 +96,38 @@ impl History {
         Ok(self)
     }
 
-    /// The history with more changes.
-    pub fn with_changes(mut self, mut more: Vec<Changed>) -> Result<Self, AllocError>
-        ensures { IfOk result (λ past.
-            past ≡ record self { changes = self.changes ++ more.items }) }
-    {
-        push_members_named(&mut self.members, &more)?;
-        self.changes.append(&mut more)?;
-        Ok(self)
-    }
-
-    /// The history with one more request.
-    pub fn with_recorded(mut self, alloc: Global, recorded: Recorded) -> Result<Self, AllocError>
+    /// Adds a request and the changes that it brings about. What it needs is made first, so that want
+    /// of memory leaves all as it was.
+    pub fn push_recorded(
+        &mut self,
+        alloc: Global,
+        recorded: Recorded,
+        changes: Vec<Changed>,
+    ) -> Result<(), AllocError>
         requires { is_request recorded.request ≡ true }
-        ensures { IfOk result (λ past.
-            past ≡ record self { requests = self.requests ++ recorded ∷ [] }) }
+        ensures pushed { OnOk result (self.new ≡ record {
+          requests = self.old.requests ++ recorded ∷ [];
+          changes = self.old.changes ++ changes.items;
+        }) }
+        ensures kept { OnErr result (self.new ≡ self.old) }
     {
-        push_nodes_recorded(alloc, &mut self.nodes, recorded.seqno, &recorded.request)?;
-        push_proposal_in(
-            alloc,
-            &mut self.proposals,
-            recorded.seqno,
-            &recorded.request,
-        )?;
-        self.requests.push(recorded)?;
-        Ok(self)
+        let mut members = Vec::new(alloc);
+        let mut nodes = Vec::new(alloc);
+        let mut proposals = Vec::new(alloc);
+        push_members_named(&mut members, &changes)?;
+        push_nodes_recorded(alloc, &mut nodes, recorded.seqno, &recorded.request)?;
+        push_proposal_in(alloc, &mut proposals, recorded.seqno, &recorded.request)?;
+        self.requests.reserve(1)?;
+        self.changes.reserve(changes.len())?;
+        self.members.reserve(members.len())?;
+        self.nodes.reserve(nodes.len())?;
+        self.proposals.reserve(proposals.len())?;
+        self.requests.push_reserved(recorded);
+        append_reserved(&mut self.changes, changes);
+        append_reserved(&mut self.members, members);
+        append_reserved(&mut self.nodes, nodes);
+        append_reserved(&mut self.proposals, proposals);
+        Ok(())
     }
 
     /// Cuts the history back to its requests up to a seqno. Takes no memory.

@@ -1,11 +1,11 @@
 //! Proposals, the ballots on them, and the state of each.
 
-ghost use Rattle.std.specs.Prelude.{◌≡◌, ◌++◌, true, IfOk, OnOk};
+ghost use Rattle.std.specs.Prelude.{◌≡◌, ◌++◌, ◌∷◌, [], true, IfOk, OnOk};
 ghost use Rattle.std.specs.Option.{option_copied, option_to_list};
 ghost use Rattle.gl_requests.specs.Ranges.{is_member_request, is_request};
 ghost use Rattle.gl_gov_rules.specs.Proposals.{proposal_in_act, proposal_in, dropped_if, state_settled, is_answer_on, is_ballot};
 
-use crate::change::{Change, Proposal, ProposalState};
+use crate::change::{Change, Proposal, ProposalState, Recorded};
 use crate::history::History;
 use gl_requests::{Action, Digest, GovernanceRequest, MemberAct, MemberRequest, copy_actions};
 use std::alloc::{AllocError, Global};
@@ -161,6 +161,16 @@ impl History {
         ensures { result ≡ has_answered self.now.requests id.now agrees number }
     {
         self.requests().iter().any(|recorded| is_ballot(id, number, agrees, &recorded.request))
+    }
+
+    /// Whether the member gave this answer to this proposal in a request so far or in this one behind
+    /// them.
+    #[tactic(auto, using(crate::proofs::Answered::answered_with))]
+    pub fn has_answered_with(&self, last: &Recorded, id: &Digest, agrees: bool, number: u8) -> bool
+        ensures { result
+            ≡ has_answered (self.now.requests ++ last.now ∷ []) id.now agrees number }
+    {
+        self.has_answered(id, agrees, number) || is_ballot(id, number, agrees, &last.request)
     }
 
     /// Whether the member answered this proposal.

@@ -1,6 +1,6 @@
 use Rattle.std.proofs.Common.{◌≡◌, ◌+◌, drop}
 use Rattle.gl_gov_rules.specs.Actions.{first_bad_action}
-use Rattle.gl_gov_decisions.proofs.actions.first_bad_action.Given as goal
+use Rattle.gl_gov_decisions.proofs.actions.first_bad_in_order.Given as goal
 
 -- the first bad action is among those that are left
 abbrev pub invariant-loop-i : goal.invariant-loop-i

@@ -1,16 +1,13 @@
 -- A state's history is that of its requests, each of which follows those before it: of no requests, with one more, and cut.
-use Rattle.std.proofs.Common.{◌≡◌, ℕ, ◌+◌, ◌-◌, ◌<◌, zero, suc, true, List, [], ◌∷◌, ◌++◌, Option, None, Some, count_by, filter_map, is_some, length, take, slice_get, nat_le, refl, sym, ◌∙◌, ap, ap₂, subst, arith}
-use Rattle.std.specs.List.{cons_option}
+use Rattle.std.proofs.Common.{◌≡◌, ℕ, ◌+◌, ◌-◌, ◌<◌, ◌≤◌, zero, suc, true, List, [], ◌∷◌, ◌++◌, Option, None, Some, count_by, filter_map, is_some, length, map, take, slice_get, nat_le, refl, sym, ◌∙◌, ap, subst, arith}
+use Rattle.std.specs.List.{cons_option, AllByRecursion}
 use Rattle.gl_base.proofs.Lists.{slice_get-within}
 use Rattle.gl_requests.specs.Ranges.{is_request}
 use Rattle.gl_requests.specs.declared.request.GovernanceRequest.{GovernanceRequest}
 use Rattle.gl_gov_rules.specs.declared.change.Recorded.{Recorded}
 use Rattle.gl_gov_rules.specs.History.{History, no_history}
-use Rattle.gl_gov_rules.specs.Changes.{with_request, history}
-use Rattle.gl_vmaps.specs.declared.write.Write.{Write}
-use Rattle.gl_vmaps.specs.Changes.{changes}
-use Rattle.gl_gov_rules.specs.declared.refusal.GovernanceRefusal.{GovernanceRefusal}
-use Rattle.gl_gov_rules.specs.Rows.{rows, effect_writes}
+use Rattle.gl_gov_rules.specs.declared.change.Changed.{Changed}
+use Rattle.gl_gov_rules.specs.Changes.{with_request, changes_of, changed_at, history}
 use Rattle.gl_gov_rules.specs.Refusals.{refusal}
 use Rattle.gl_gov_rules.specs.Governed.{is_founding, is_nothing, Follows, IsAbove, IsGoverned, IsBounded, up_to}
 use Rattle.gl_gov_rules.proofs.Prefixes.{history-more, requests_with, history_of_none, governed_take, governed_more}
@@ -18,6 +15,7 @@ use Rattle.gl_gov_rules.proofs.HistoryLists.{requests_of}
 use Rattle.gl_gov_rules.proofs.Counting.{one_if, count-cons, each_append}
 use Rattle.gl_gov_rules.proofs.Rising.{governed_rise}
 use Rattle.gl_gov_rules.proofs.CutLists.{requests_left}
+use Rattle.gl_gov_rules.proofs.RequestsUpTo.{up_to-push_above, up_to-all}
 use Rattle.gl_gov_rules.proofs.Bounded.{is_bounded}
 
 abbrev pub IsState : History → Type 0
@@ -72,40 +70,41 @@ above_last rs r n all at more =
 
 -- ---- a step
 
--- where it is nothing it is none
-pub none_by : {R : Type 0} (o : Option R) → ((x : R) → o ≡ Some x → ⊥) → o ≡ None
-none_by None never = refl
-none_by (Some x) never = absurd (never x refl)
-
--- a request that a step takes follows those of the state
-pub step_follows : (h : History) (rs : List Recorded) (seqno : ℕ) (request : GovernanceRequest) → IsState h → h.requests ≡ rs → IsAbove seqno rs →
-    is_request request ≡ true → is_founding request ≡ is_nothing rs → refusal h seqno request ≡ None →
-    Follows h.requests (record { seqno = seqno; request = request })
-step_follows h rs seqno request all same above fits founding none = record {
-  above = subst (IsAbove seqno) (sym same) above;
+-- a request of which it is known that no rule refuses it follows those of the state
+pub request_follows : (h : History) (rs : List Recorded) (r : Recorded) → IsState h → h.requests ≡ rs → IsAbove r.seqno rs → is_request r.request ≡ true →
+    is_founding r.request ≡ is_nothing rs → refusal (history rs) r.seqno r.request ≡ None → Follows h.requests r
+request_follows h rs r all same above fits founding none = record {
+  above = subst (IsAbove r.seqno) (sym same) above;
   fits = fits;
   founding = founding ∙ ap is_nothing (sym same);
-  accepted = ap (λ (x : History). refusal x seqno request) (sym all.0) ∙ none;
+  accepted = ap (λ (xs : List Recorded). refusal (history xs) r.seqno r.request) same ∙ none;
 }
 
--- what a step leaves is a state
-pub state_behind : (past next : History) (rs : List Recorded) (seqno : ℕ) (request : GovernanceRequest) (why : Option GovernanceRefusal) → IsState past → past.requests ≡ rs →
-    IsAbove seqno rs → is_request request ≡ true → is_founding request ≡ is_nothing rs → why ≡ refusal past seqno request →
-    ((x : GovernanceRefusal) → why ≡ Some x → ⊥) → next ≡ with_request past (record { seqno = seqno; request = request }) → IsState next
-state_behind past next rs seqno request why all same above fits founding told never made =
-    state_more past next (record { seqno = seqno; request = request }) all
-    (step_follows past rs seqno request all same above fits founding (sym told ∙ none_by why never)) made
+-- a history with a request that follows, and with what it brings about, is a state
+pub state_recorded : (past next : History) (rs : List Recorded) (r : Recorded) (more : List Changed) → IsState past → past.requests ≡ rs → IsAbove r.seqno rs →
+    is_request r.request ≡ true → is_founding r.request ≡ is_nothing rs → refusal (history rs) r.seqno r.request ≡ None →
+    more ≡ map (changed_at r.seqno) (changes_of past r) → next ≡ record { requests = past.requests ++ r ∷ []; changes = past.changes ++ more } → IsState next
+unfolding with_request
+state_recorded past next rs r more all same above fits founding none brought pushed =
+    state_more past next r all (request_follows past rs r all same above fits founding none) (rw brought at pushed)
 
-pub requests_behind : (past next : History) (rs : List Recorded) (r : Recorded) → past.requests ≡ rs → next ≡ with_request past r → next.requests ≡ rs ++ r ∷ []
-requests_behind past next rs r same made =
-    ap (λ (h : History). h.requests) made ∙ requests_with past r ∙ ap (λ (xs : List Recorded). xs ++ r ∷ []) same
+-- ---- a request is taken back
 
--- the write set between what was and what is is that of the request
-pub writes_behind : (past next : History) (rs : List Recorded) (r : Recorded) (writes : List Write) → IsState past → IsState next → past.requests ≡ rs →
-    next ≡ with_request past r → writes ≡ changes (rows past) (rows next) → writes ≡ effect_writes rs r
-writes_behind past next rs r writes old new same made written =
-    written
-    ∙ ap₂ (λ (a b : History). changes (rows a) (rows b)) (old.0 ∙ ap history same) (new.0 ∙ ap history (requests_behind past next rs r same made))
+below : (to : ℕ) (rs : List Recorded) → IsAbove (suc to) rs → AllByRecursion (λ (r : Recorded). r.seqno ≤ to) rs
+below to [] all = tt
+below to (r ∷ rs) all = (omega (arith, all.0), below to rs all.1)
+
+-- up to the seqno before that of the last request are all those before it
+pub taken_back : (seqno to : ℕ) (rs : List Recorded) (request : GovernanceRequest) → seqno ≡ suc to → IsAbove seqno rs →
+    up_to to (rs ++ record { seqno = seqno; request = request } ∷ []) ≡ rs
+taken_back seqno to rs request next above =
+    up_to-push_above to rs (record { seqno = seqno; request = request }) (omega (arith, next))
+    ∙ up_to-all to rs (below to rs (subst (λ (n : ℕ). IsAbove n rs) next above))
+
+-- no request is before seqno 0
+pub none_before : (seqno : ℕ) (rs : List Recorded) → (1 ≤ seqno → ⊥) → IsAbove seqno rs → rs ≡ []
+none_before seqno [] first above = refl
+none_before seqno (r ∷ rs) first above = absurd (first (omega (arith, above.0)))
 
 -- ---- counts
 

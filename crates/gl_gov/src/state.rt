@@ -1,18 +1,16 @@
 //! The state of governance behind the requests so far.
 
 ghost use Rattle.std.specs.Prelude.{◌≡◌, true, count_by, is_some, length, IfOk};
-ghost use Rattle.gl_vmaps.specs.Changes.{changes};
 ghost use Rattle.gl_requests.specs.Ranges.{is_request, is_member_request};
 ghost use Rattle.gl_gov_rules.specs.Service.{dealing, threshold_of, share_behind, shares_given};
-ghost use Rattle.gl_gov_rules.specs.Rows.{rows};
-ghost use Rattle.gl_gov_rules.specs.Governed.{is_founding, IsBounded};
+ghost use Rattle.gl_gov_rules.specs.Governed.{is_founding};
 ghost use Rattle.gl_gov.specs.State.{proposal_in_act, proposal_named, status_with, proposal_status, share_count};
 
 use crate::between::changes;
 use crate::effect::{GovernanceEffect, ProposalStatus, ShareCount};
 use crate::rows::{member_rows, node_rows, proposal_row, rows, service_row};
 use gl_base::OrNoMemory;
-use gl_gov_decisions::{refusal, with_request};
+use gl_gov_decisions::{changes_of, refusal};
 use gl_gov_rules::{
     GovernanceRefusal, History, MemberRow, NodeRow, ProposalRow, Recorded, ServiceRow,
 };
@@ -43,7 +41,8 @@ impl Model for GovState {
 }
 
 impl GovState {
-    ghost use Rattle.std.specs.Prelude.{◌≡◌, ◌<◌, ℕ, [], ◌∷◌, ◌++◌, true, not, None, length, option_map, IfOk, OnOk, IfErr, OnErr};
+    ghost use Rattle.std.specs.Prelude.{◌≡◌, ◌<◌, ℕ, List, [], ◌∷◌, ◌++◌, true, not, None, length, option_map, IfOk, OnOk, IfErr, OnErr};
+    ghost use Rattle.gl_vmaps.specs.Changes.{changes};
     ghost use Rattle.gl_requests.specs.Ranges.{is_request};
     ghost use Rattle.gl_gov_rules.specs.Refusals.{refusal};
     ghost use Rattle.gl_gov_rules.specs.Proposals.{proposal};
@@ -121,10 +120,92 @@ impl GovState {
         if let Some(why) = refusal(self.alloc, &self.past, seqno, request)? {
             return Err(OrNoMemory::Fault(why));
         }
-        let next = with_request(self.alloc, &self.past, seqno, request)?;
-        let effect = effect_between(self.alloc, &self.past, &next, request)?;
-        self.past = next;
+        let before = self.rows()?;
+        self.record(seqno, request.copy(self.alloc)?)?;
+        match self.effect_since(&before, request) {
+            Ok(effect) => Ok(effect),
+            Err(_) => {
+                self.take_back(seqno);
+                Err(OrNoMemory::NoMemory)
+            }
+        }
+    }
+
+    /// What `step` would do: the effect of the request, or why it is refused. The state is as it was
+    /// behind it.
+    pub fn effect(
+        &mut self,
+        seqno: u64,
+        request: &GovernanceRequest,
+    ) -> Result<GovernanceEffect, OrNoMemory<GovernanceRefusal>>
+        requires above { IsAbove seqno self.old }
+        requires founding { is_founding request.now ≡ is_nothing self.old }
+        requires fits { is_request request.now ≡ true }
+        ensures accepted { OnOk result (refusal (history self.old) seqno request.now ≡ None) }
+        ensures writes { IfOk result (λ effect. effect.writes
+            ≡ effect_writes self.old (record { seqno = seqno; request = request.now })) }
+        ensures proposal { IfOk result (λ effect. effect.proposal ≡ proposal_status
+            (history (self.old ++ record { seqno = seqno; request = request.now } ∷ []))
+            request.now) }
+        ensures shares { IfOk result (λ effect. effect.shares ≡ share_count
+            (history (self.old ++ record { seqno = seqno; request = request.now } ∷ []))) }
+        ensures refused { IfErr result (λ e.
+            Refuses (refusal (history self.old) seqno request.now) e) }
+        ensures kept { self.new ≡ self.old }
+    {
+        let effect = self.step(seqno, request)?;
+        self.take_back(seqno);
         Ok(effect)
+    }
+
+    /// Takes a request of which it is known that no rule refuses it, so that no signature is verified
+    /// anew. Want of memory leaves all as it was.
+    pub fn record(&mut self, seqno: u64, request: GovernanceRequest) -> Result<(), AllocError>
+        requires above { IsAbove seqno self.old }
+        requires founding { is_founding request ≡ is_nothing self.old }
+        requires fits { is_request request ≡ true }
+        requires accepted { refusal (history self.old) seqno request ≡ None }
+        ensures recorded { OnOk result (self.new
+            ≡ self.old ++ record { seqno = seqno; request = request } ∷ []) }
+        ensures kept { OnErr result (self.new ≡ self.old) }
+    {
+        let recorded = Recorded { seqno, request };
+        let changes = changes_of(self.alloc, &self.past, &recorded)?;
+        self.past.push_recorded(self.alloc, recorded, changes)?;
+        Ok(())
+    }
+
+    /// What the last request did, behind which the rows were these.
+    fn effect_since(
+        &self,
+        before: &Writes,
+        request: &GovernanceRequest,
+    ) -> Result<GovernanceEffect, AllocError>
+        requires fits { is_request request.now ≡ true }
+        ensures writes { IfOk result (λ effect.
+            effect.writes ≡ changes before.now (rows (history self.now))) }
+        ensures proposal { IfOk result (λ effect.
+            effect.proposal ≡ proposal_status (history self.now) request.now) }
+        ensures shares { IfOk result (λ effect.
+            effect.shares ≡ share_count (history self.now)) }
+    {
+        let after = self.rows()?;
+        Ok(GovernanceEffect {
+            writes: changes(self.alloc, before, &after)?,
+            proposal: proposal_status(self.alloc, &self.past, request)?,
+            shares: self.shares(),
+        })
+    }
+
+    /// Takes back the last request, which stands at a seqno. Takes no memory.
+    fn take_back(&mut self, seqno: u64)
+        ensures { (rs : List Recorded) (request : GovernanceRequest) → IsAbove seqno rs →
+            self.old ≡ rs ++ record { seqno = seqno; request = request } ∷ [] → self.new ≡ rs }
+    {
+        match seqno.checked_sub(1) {
+            Some(before) => self.cut(before),
+            None => *self = GovState::new(self.alloc),
+        }
     }
 
     /// Takes back the requests of entries above a seqno. Takes no memory.
@@ -196,40 +277,6 @@ pub fn is_founding(request: &GovernanceRequest) -> bool
     ensures { result ≡ is_founding request.now }
 {
     matches!(request, GovernanceRequest::Genesis(_))
-}
-
-/// The write set that turns the rows of a history into those of another.
-fn writes_between(alloc: Global, before: &History, after: &History) -> Result<Writes, AllocError>
-    requires before { IsBounded before.now }
-    requires after { IsBounded after.now }
-    ensures { IfOk result (λ writes. writes ≡ changes (rows before.now) (rows after.now)) }
-{
-    let before = rows(alloc, before)?;
-    let after = rows(alloc, after)?;
-    changes(alloc, &before, &after)
-}
-
-/// What a request did that turned a history into another.
-fn effect_between(
-    alloc: Global,
-    before: &History,
-    after: &History,
-    request: &GovernanceRequest,
-) -> Result<GovernanceEffect, AllocError>
-    requires before { IsBounded before.now }
-    requires after { IsBounded after.now }
-    requires fits { is_request request.now ≡ true }
-    ensures writes { IfOk result (λ effect.
-        effect.writes ≡ changes (rows before.now) (rows after.now)) }
-    ensures proposal { IfOk result (λ effect.
-        effect.proposal ≡ proposal_status after.now request.now) }
-    ensures shares { IfOk result (λ effect. effect.shares ≡ share_count after.now) }
-{
-    Ok(GovernanceEffect {
-        writes: writes_between(alloc, before, after)?,
-        proposal: proposal_status(alloc, after, request)?,
-        shares: share_count(after),
-    })
 }
 
 /// The proposal that a member's request makes, answers or takes back.

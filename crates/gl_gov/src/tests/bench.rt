@@ -2,7 +2,7 @@
 
 ghost use Rattle.std.specs.Prelude.{◌≡◌, ◌≤◌, true, IfOk};
 ghost use Rattle.gl_requests.specs.Ranges.{is_request};
-ghost use Rattle.gl_gov_rules.specs.Governed.{IsAbove};
+ghost use Rattle.gl_gov_rules.specs.Governed.{IsAbove, is_founding, is_nothing};
 
 use crate::{GovState, is_founding};
 use gl_base::OrNoMemory;
@@ -151,6 +151,28 @@ fn next_seqno(state: &GovState) -> Result<u64, Fail>
     Ok(next.max(3))
 }
 
+// What comes of the request in a copy that records it where it is told what it would do.
+fn record(
+    alloc: Global,
+    state: &GovState,
+    seqno: u64,
+    request: &GovernanceRequest,
+) -> Result<Told, Fail>
+    requires { IsAbove seqno state.now }
+    requires { is_founding request.now ≡ is_nothing state.now }
+    requires { is_request request.now ≡ true }
+{
+    let mut copy = state.copy()?;
+    match copy.effect(seqno, request) {
+        Ok(_) => {
+            copy.record(seqno, request.copy(alloc)?)?;
+            rows_of(alloc, &copy)
+        }
+        Err(OrNoMemory::Fault(why)) => Ok(Told::Refused(why)),
+        Err(OrNoMemory::NoMemory) => Err(Fail::from("out of memory")),
+    }
+}
+
 fn step(alloc: Global, state: &mut GovState, request: &GovernanceRequest) -> Result<Told, Fail>
     requires { is_request request.now ≡ true }
 {
@@ -158,11 +180,16 @@ fn step(alloc: Global, state: &mut GovState, request: &GovernanceRequest) -> Res
     if is_founding(request) == state.is_founded() {
         return Err(Fail::from("another request than a genesis at first, or one later"));
     }
-    match state.step(seqno, request) {
-        Ok(_) => rows_of(alloc, state),
-        Err(OrNoMemory::Fault(why)) => Ok(Told::Refused(why)),
-        Err(OrNoMemory::NoMemory) => Err(Fail::from("out of memory")),
+    let known = record(alloc, state, seqno, request)?;
+    let told = match state.step(seqno, request) {
+        Ok(_) => rows_of(alloc, state)?,
+        Err(OrNoMemory::Fault(why)) => Told::Refused(why),
+        Err(OrNoMemory::NoMemory) => return Err(Fail::from("out of memory")),
+    };
+    if told != known {
+        return Err(Fail::from("a record differs from a step"));
     }
+    Ok(told)
 }
 
 // The keys of the numbers from 1 on, each from a seed.

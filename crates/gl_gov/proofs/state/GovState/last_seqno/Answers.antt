@@ -1,4 +1,4 @@
-use Rattle.std.proofs.Common.{Option, List, length, ◌-◌, slice_get, sym, ◌∙◌, ap, subst}
+use Rattle.std.proofs.Common.{List, length, ◌-◌, slice_get, sym, ◌∙◌, ap, subst}
 use Rattle.gl_gov_rules.specs.declared.change.Recorded.{Recorded}
 use Rattle.gl_gov_rules.specs.Governed.{IsAbove}
 use Rattle.gl_gov.specs.State.{seqno_of_request, last_seqno}

@@ -158,9 +158,9 @@ fn record(
     seqno: u64,
     request: &GovernanceRequest,
 ) -> Result<Told, Fail>
-    requires { IsAbove seqno state.now }
-    requires { is_founding request.now ≡ is_nothing state.now }
-    requires { is_request request.now ≡ true }
+    requires above { IsAbove seqno state.now }
+    requires founding { is_founding request.now ≡ is_nothing state.now }
+    requires fits { is_request request.now ≡ true }
 {
     let mut copy = state.copy()?;
     match copy.effect(seqno, request) {

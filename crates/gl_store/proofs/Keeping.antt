@@ -3,7 +3,8 @@ use Rattle.std.proofs.Common.{◌≡◌, ℕ, ◌+◌, ◌-◌, ◌<◌, ◌≤�
 use Rattle.std.proofs.lemmas.Bool.Decides.{nat_tests}
 use Rattle.std.specs.List.Sorted.{IsPartitionPoint, IsPartitionedBy}
 use Rattle.gl_base.specs.TxId.{last_seqno}
-use Rattle.std.proofs.lemmas.List.{length-take-le}
+use Rattle.std.proofs.lemmas.List.{append_assoc, append-nil, length-take-le}
+use Rattle.std.proofs.Math.Seq.{take-length}
 use Rattle.gl_merkle.specs.Frontier as frontiers
 use Rattle.gl_vmaps.specs.Kept as kept
 use Rattle.gl_vmaps.specs.Standing.{StandsFor}
@@ -37,33 +38,41 @@ use Rattle.gl_ledger.proofs.Governed.{follows, above}
 use Rattle.gl_ledger.proofs.Sounding.{sound-push, sound_empty}
 use Rattle.gl_ledger.proofs.TablesLaws.{writes_of-push, tables_of-push, leaves_of-push}
 use Rattle.gl_ledger.proofs.Valid.{valid_sound, valid-push}
-use Rattle.gl_store.specs.Kept.{seqno_if, signature_seqnos, key_of, Beside, IsKept}
+use Rattle.gl_store.specs.Ends.{no_end, end_of, end_with}
+use Rattle.gl_store.specs.Kept.{seqno_if, signature_seqnos, key_of, Beside, IsKept, IsStateOf, IsWhole}
+use Rattle.gl_store.specs.declared.ledger_end.LedgerEnd.{LedgerEnd}
+use Rattle.gl_store.specs.declared.ledger_state.LedgerState.{LedgerState}
+use Rattle.gl_store.proofs.Ends.{end_of-push}
+use Rattle.gl_store.proofs.TablesLaws.{of_frontier, count_of_frontier, whole_leaves}
+use Rattle.gl_merkle.specs.Peaks.{peaks_of, peaks_within}
+use Rattle.gl_ledger.proofs.TablesLaws.{length-leaves_of}
 use Rattle.gl_store.proofs.Cutting.{writes_of-take, requests_of-take, leaves_of-take, audited-take, signed_up_to-take}
 use Rattle.gl_ledger.proofs.Founded.{length_identity}
 use Rattle.gl_store.proofs.SignatureSeqnos.{seqnos-push, seqnos-take, seqnos-partitioned}
 
 -- ---- no entries
 
-pub kept_empty : (items : List Entry) (signatures : List ℕ) (gov : List Recorded) (state : ServiceState) (identity : Option (List ℕ)) (tables : kept.Kept) (frontier : frontiers.Content) →
-    items ≡ [] → signatures ≡ [] → gov ≡ [] → state ≡ Opening → identity ≡ None → StandsFor tables [] → tables.base ≡ 0 → tables.compacted ≡ 0 →
-    frontier.base ≡ 0 → frontier.peaks ≡ [] → frontier.leaves ≡ [] →
-    IsKept items (record { commit = 0; signatures = signatures; gov = gov; service_state = state; identity = identity; tables = tables; frontier = frontier })
-kept_empty items signatures gov state identity tables frontier none unsigned ungoverned opening unknown nothing start whole base peaks leaves =
-    subst (λ (es : List Entry). IsKept es (record { commit = 0; signatures = signatures; gov = gov; service_state = state; identity = identity; tables = tables; frontier = frontier })) (sym none) (record {
-      valid = audited_all service_layers [] (λ i e at. absurd (cc));
-      sound = sound_empty service_layers;
-      named = omega arith;
-      within = omega arith;
-      committed = λ some. absurd (omega arith);
-      signed = unsigned;
-      governed = ungoverned;
-      state_is = opening ∙ sym (ap state_of_value (value_in-nothing service_map service_key));
-      identity_is = unknown ∙ sym (ap (λ (o : Option (List ℕ)). key_of (identity_of_value o)) (value_in-nothing service_map service_key));
-      tables_are = nothing;
-      tables_from = start;
-      tables_whole = whole;
-      tree = record { base = base; peaks = peaks; leaves_are = leaves };
-    })
+pub state_empty : (s : LedgerState) → s.end ≡ no_end → s.signatures.items ≡ [] → s.gov ≡ [] → s.service_state ≡ Opening → s.identity ≡ None → StandsFor s.tables [] → s.tables.base ≡ 0 →
+    s.frontier.base ≡ 0 → s.frontier.peaks ≡ [] → s.frontier.leaves ≡ [] → IsStateOf [] s
+unfolding peaks_of peaks_within
+state_empty s ends unsigned ungoverned opening unknown nothing start base peaks leaves = record {
+  valid = audited_all service_layers [] (λ i e at. absurd (cc));
+  sound = sound_empty service_layers;
+  named = omega arith;
+  ends = ends;
+  signed = unsigned;
+  governed = ungoverned;
+  state_is = opening ∙ sym (ap state_of_value (value_in-nothing service_map service_key));
+  identity_is = unknown ∙ sym (ap (λ (o : Option (List ℕ)). key_of (identity_of_value o)) (value_in-nothing service_map service_key));
+  tables_are = nothing;
+  tables_from = start;
+  tree = record { below = []; is_base = record { count = sym base; peaks = sym peaks }; leaves_are = leaves };
+}
+
+pub kept_empty : (items : List Entry) (s : LedgerState) → items ≡ [] → IsStateOf [] s → IsWhole s → IsKept items (record { commit = 0; state = s })
+kept_empty items s none stands whole =
+    subst (λ (es : List Entry). IsKept es (record { commit = 0; state = s })) (sym none)
+    (record { stands = stands; whole = whole; within = omega arith; committed = λ some. absurd (omega arith) })
 
 -- ---- the service's key
 
@@ -74,12 +83,12 @@ none_of bytes long is =
     cc
 
 -- where there is an entry, it is there
-pub unkeyed : (ledger : List Entry) (b : Beside) → IsKept ledger b → b.identity ≡ None → ledger ≡ []
-unkeyed [] b k none = refl
-unkeyed (e ∷ es) b k none = absurd (none_of (identity_in (tables_of (e ∷ es))) (length_identity service_layers (e ∷ es) k.sound (omega arith)) (sym none ∙ k.identity_is))
+pub unkeyed : (ledger : List Entry) (s : LedgerState) → IsStateOf ledger s → s.identity ≡ None → ledger ≡ []
+unkeyed [] s k none = refl
+unkeyed (e ∷ es) s k none = absurd (none_of (identity_in (tables_of (e ∷ es))) (length_identity service_layers (e ∷ es) k.sound (omega arith)) (sym none ∙ k.identity_is))
 
-pub keyed : (ledger : List Entry) (b : Beside) → IsKept ledger b → 0 < length ledger → b.identity ≡ None → ⊥
-keyed ledger b k some none = let empty : length ledger ≡ 0 = ap length (unkeyed ledger b k none) in omega (arith, empty, some)
+pub keyed : (ledger : List Entry) (s : LedgerState) → IsStateOf ledger s → 0 < length ledger → s.identity ≡ None → ⊥
+keyed ledger s k some none = let empty : length ledger ≡ 0 = ap length (unkeyed ledger s k none) in omega (arith, empty, some)
 
 -- ---- one more entry
 
@@ -92,34 +101,34 @@ next_seqno ledger e unbroken =
     (grind (arith, nat_tests, at), grind (arith, nat_tests, left))
 
 -- the tables behind it tell a key
-pub keyed_behind : (ledger : List Entry) (b : Beside) (e : Entry) → IsKept ledger b → broken service_layers ledger e ≡ None →
+pub keyed_behind : (ledger : List Entry) (s : LedgerState) (e : Entry) → IsStateOf ledger s → broken service_layers ledger e ≡ None →
     length (identity_in (written_by (writes_of ledger ++ placed_at e.seqno e.writes))) ≡ 60
-keyed_behind ledger b e k unbroken =
+keyed_behind ledger s e k unbroken =
     let sound = sound-push service_layers ledger e k.sound unbroken in
     ap (λ (ps : List Placed). length (identity_in (written_by ps))) (sym (writes_of-push ledger e))
     ∙ length_identity service_layers (ledger ++ e ∷ []) sound (simp length-append (omega arith))
 
 -- all requests so far are below it
-pub requests_below : (ledger : List Entry) (b : Beside) (e : Entry) → IsKept ledger b → broken service_layers ledger e ≡ None → governance.IsAbove e.seqno b.gov
-requests_below ledger b e k unbroken =
+pub requests_below : (ledger : List Entry) (s : LedgerState) (e : Entry) → IsStateOf ledger s → broken service_layers ledger e ≡ None → governance.IsAbove e.seqno s.gov
+requests_below ledger s e k unbroken =
     subst (governance.IsAbove e.seqno) (sym k.governed)
     (subst (λ (n : ℕ). governance.IsAbove n (requests_of ledger)) (sym (next_seqno ledger e unbroken).0) (above ledger))
 
 -- and a request that it records follows them
-pub recorded_follows : (ledger : List Entry) (b : Beside) (e : Entry) → IsKept ledger b → broken service_layers ledger e ≡ None →
-    AllByRecursion (governance.Follows b.gov) (recorded_in e.seqno e.content)
-recorded_follows ledger b e k unbroken = by_content e.content (λ g reads. follows service_layers ledger e g k.sound unbroken reads)
+pub recorded_follows : (ledger : List Entry) (s : LedgerState) (e : Entry) → IsStateOf ledger s → broken service_layers ledger e ≡ None →
+    AllByRecursion (governance.Follows s.gov) (recorded_in e.seqno e.content)
+recorded_follows ledger s e k unbroken = by_content e.content (λ g reads. follows service_layers ledger e g k.sound unbroken reads)
   where
-    one : (g : GovernanceRequest) → governance.Follows (requests_of ledger) (record { seqno = length ledger + 1; request = g }) → governance.Follows b.gov (record { seqno = e.seqno; request = g })
+    one : (g : GovernanceRequest) → governance.Follows (requests_of ledger) (record { seqno = length ledger + 1; request = g }) → governance.Follows s.gov (record { seqno = e.seqno; request = g })
     one g next =
         subst (λ (rs : List Recorded). governance.Follows rs (record { seqno = e.seqno; request = g })) (sym k.governed)
         (subst (λ (n : ℕ). governance.Follows (requests_of ledger) (record { seqno = n; request = g })) (sym (next_seqno ledger e unbroken).0) next)
 
     by_content : (c : Content) → ((g : GovernanceRequest) → recording_of c ≡ Some (recordings.Governance g) → governance.Follows (requests_of ledger) (record { seqno = length ledger + 1; request = g })) →
-        AllByRecursion (governance.Follows b.gov) (recorded_in e.seqno c)
+        AllByRecursion (governance.Follows s.gov) (recorded_in e.seqno c)
     by_content (content.Governance bytes) each = go (request_in bytes) refl
       where
-        go : (o : Option GovernanceRequest) → request_in bytes ≡ o → AllByRecursion (governance.Follows b.gov) (recorded_at e.seqno o)
+        go : (o : Option GovernanceRequest) → request_in bytes ≡ o → AllByRecursion (governance.Follows s.gov) (recorded_at e.seqno o)
         go None is = tt
         go (Some g) is = (one g (each g (ap governance_recording is)), tt)
     by_content (content.Application bytes) each = tt
@@ -138,35 +147,34 @@ pub record AreTold (tables : kept.Kept) (state : ServiceState) (identity : Optio
   pub identity_told : (ps : List Placed) → StandsFor tables ps → identity ≡ key_of (identity_in (written_by ps))
 
 -- an entry that breaks no rule, with its writes and its leaf
-pub kept-push : (ledger items : List Entry) (b : Beside) (e : Entry) (signatures : List ℕ) (gov : List Recorded) (state : ServiceState) (identity : Option (List ℕ)) (tables : kept.Kept) (frontier : frontiers.Content) →
-    IsKept ledger b → broken service_layers ledger e ≡ None → items ≡ ledger ++ e ∷ [] → signatures ≡ b.signatures ++ seqno_if (is_signature e.content) e.seqno [] →
-    gov ≡ b.gov ++ recorded_in e.seqno e.content → HasWritten b.tables e tables → AreTold tables state identity →
-    ((ps : List Placed) → StandsFor tables ps → frontiers.HasLeaves b.frontier frontier (b.frontier.leaves ++ leaf_of (identity_in (written_by ps)) e ∷ [])) →
-    IsKept items (record { commit = b.commit; signatures = signatures; gov = gov; service_state = state; identity = identity; tables = tables; frontier = frontier })
-kept-push ledger items b e signatures gov state identity tables frontier k unbroken pushed signed recorded written told grown =
-    subst (λ (es : List Entry). IsKept es (record { commit = b.commit; signatures = signatures; gov = gov; service_state = state; identity = identity; tables = tables; frontier = frontier })) (sym pushed) (record {
-      valid = valid-push service_layers ledger e k.valid unbroken;
-      sound = sound-push service_layers ledger e k.sound unbroken;
-      named = simp length-append (omega (arith, at.1));
-      within = simp length-append (omega (arith, k.within));
-      committed = signed_up_to-push ledger e b.commit k.committed;
-      signed = signed ∙ ap (λ (ss : List ℕ). ss ++ seqno_if (is_signature e.content) e.seqno []) k.signed
-          ∙ ap (λ (n : ℕ). signature_seqnos ledger ++ seqno_if (is_signature e.content) n []) (omega (arith, at.0)) ∙ sym (seqnos-push ledger e);
-      governed = recorded ∙ ap (λ (rs : List Recorded). rs ++ recorded_in e.seqno e.content) k.governed
-          ∙ ap (λ (n : ℕ). requests_of ledger ++ recorded_in n e.content) at.0 ∙ sym (requests-push ledger e);
-      state_is = told.state_told all stands;
-      identity_is = told.identity_told all stands;
-      tables_are = stands;
-      tables_from = written.base ∙ k.tables_from;
-      tables_whole = written.whole ∙ k.tables_whole;
-      tree = record {
-        base = (grown all stands).base ∙ k.tree.base;
-        peaks = (grown all stands).peaks ∙ k.tree.peaks;
-        leaves_are =
-            (grown all stands).leaves_are ∙ ap (λ (ls : List (List ℕ)). ls ++ leaf_of (identity_in (tables_of (ledger ++ e ∷ []))) e ∷ []) k.tree.leaves_are
-            ∙ ap (λ (t : Rattle.gl_vmaps.specs.Tables.Tables). leaves_of ledger ++ leaf_of (identity_in t) e ∷ []) (tables_of-push ledger e) ∙ sym (leaves_of-push ledger e);
-      };
-    })
+pub state-push : (ledger : List Entry) (old new : LedgerState) (e : Entry) → IsStateOf ledger old → broken service_layers ledger e ≡ None → new.end ≡ end_with old.end e →
+    new.signatures.items ≡ old.signatures.items ++ seqno_if (is_signature e.content) e.seqno [] → new.gov ≡ old.gov ++ recorded_in e.seqno e.content → HasWritten old.tables e new.tables →
+    AreTold new.tables new.service_state new.identity →
+    ((ps : List Placed) → StandsFor new.tables ps → frontiers.HasLeaves old.frontier new.frontier (old.frontier.leaves ++ leaf_of (identity_in (written_by ps)) e ∷ [])) →
+    IsStateOf (ledger ++ e ∷ []) new
+state-push ledger old new e k unbroken ends signed recorded written told grown = record {
+  valid = valid-push service_layers ledger e k.valid unbroken;
+  sound = sound-push service_layers ledger e k.sound unbroken;
+  named = simp length-append (omega (arith, at.1));
+  ends = ends ∙ ap (λ (end : LedgerEnd). end_with end e) k.ends ∙ sym (end_of-push ledger e);
+  signed = signed ∙ ap (λ (ss : List ℕ). ss ++ seqno_if (is_signature e.content) e.seqno []) k.signed
+      ∙ ap (λ (n : ℕ). signature_seqnos ledger ++ seqno_if (is_signature e.content) n []) (omega (arith, at.0)) ∙ sym (seqnos-push ledger e);
+  governed = recorded ∙ ap (λ (rs : List Recorded). rs ++ recorded_in e.seqno e.content) k.governed
+      ∙ ap (λ (n : ℕ). requests_of ledger ++ recorded_in n e.content) at.0 ∙ sym (requests-push ledger e);
+  state_is = told.state_told all stands;
+  identity_is = told.identity_told all stands;
+  tables_are = stands;
+  tables_from = written.base ∙ k.tables_from;
+  tree = record {
+    below = k.tree.below;
+    is_base = record { count = k.tree.is_base.count ∙ sym (grown all stands).base; peaks = k.tree.is_base.peaks ∙ sym (grown all stands).peaks };
+    leaves_are =
+        ap (λ (ls : List (List ℕ)). k.tree.below ++ ls) (grown all stands).leaves_are
+        ∙ sym (append_assoc k.tree.below old.frontier.leaves (leaf_of (identity_in (tables_of (ledger ++ e ∷ []))) e ∷ []))
+        ∙ ap (λ (ls : List (List ℕ)). ls ++ leaf_of (identity_in (tables_of (ledger ++ e ∷ []))) e ∷ []) k.tree.leaves_are
+        ∙ ap (λ (t : Rattle.gl_vmaps.specs.Tables.Tables). leaves_of ledger ++ leaf_of (identity_in t) e ∷ []) (tables_of-push ledger e) ∙ sym (leaves_of-push ledger e);
+  };
+}
   where
     at : (e.seqno ≡ length ledger + 1) × (length ledger + 1 ≤ last_seqno)
     at = next_seqno ledger e unbroken
@@ -174,38 +182,109 @@ kept-push ledger items b e signatures gov state identity tables frontier k unbro
     all : List Placed
     all = writes_of (ledger ++ e ∷ [])
 
-    stands : StandsFor tables (writes_of (ledger ++ e ∷ []))
-    stands = subst (StandsFor tables) (sym (writes_of-push ledger e)) (written.stands (writes_of ledger) k.tables_are)
+    stands : StandsFor new.tables (writes_of (ledger ++ e ∷ []))
+    stands = subst (StandsFor new.tables) (sym (writes_of-push ledger e)) (written.stands (writes_of ledger) k.tables_are)
+
+-- a store that adds it
+pub kept-push : (ledger items : List Entry) (b : Beside) (e : Entry) (new : LedgerState) → IsKept ledger b → items ≡ ledger ++ e ∷ [] → IsStateOf (ledger ++ e ∷ []) new → IsWhole new →
+    IsKept items (record { commit = b.commit; state = new })
+kept-push ledger items b e new k pushed stands whole =
+    subst (λ (es : List Entry). IsKept es (record { commit = b.commit; state = new })) (sym pushed) (record {
+      stands = stands;
+      whole = whole;
+      within = simp length-append (omega (arith, k.within));
+      committed = signed_up_to-push ledger e b.commit k.committed;
+    })
+
+-- and one that doesn't
+pub kept_still : (ledger items : List Entry) (b : Beside) (new : LedgerState) → IsKept ledger b → items ≡ ledger → IsStateOf ledger new → IsWhole new → IsKept items (record { commit = b.commit; state = new })
+kept_still ledger items b new k same stands whole =
+    subst (λ (es : List Entry). IsKept es (record { commit = b.commit; state = new })) (sym same) (record { stands = stands; whole = whole; within = k.within; committed = k.committed })
+
+-- ---- a state that other values have
+
+-- what is the same but for the nodes known is the state of the same ledger
+pub state_same : (ledger : List Entry) (old new : LedgerState) → IsStateOf ledger old → new.end ≡ old.end → new.signatures.items ≡ old.signatures.items → new.gov ≡ old.gov → new.tables ≡ old.tables →
+    new.service_state ≡ old.service_state → new.identity ≡ old.identity → frontiers.IsUnchanged old.frontier new.frontier → IsStateOf ledger new
+state_same ledger old new k ends signed governed tables state identity leaves = record {
+  valid = k.valid;
+  sound = k.sound;
+  named = k.named;
+  ends = ends ∙ k.ends;
+  signed = signed ∙ k.signed;
+  governed = governed ∙ k.governed;
+  state_is = state ∙ k.state_is;
+  identity_is = identity ∙ k.identity_is;
+  tables_are = subst (λ (t : kept.Kept). StandsFor t (writes_of ledger)) (sym tables) k.tables_are;
+  tables_from = ap (λ (t : kept.Kept). t.base) tables ∙ k.tables_from;
+  tree = record {
+    below = k.tree.below;
+    is_base = record { count = k.tree.is_base.count ∙ sym leaves.base; peaks = k.tree.is_base.peaks ∙ sym leaves.peaks };
+    leaves_are = ap (λ (ls : List (List ℕ)). k.tree.below ++ ls) leaves.leaves_are ∙ k.tree.leaves_are;
+  };
+}
+
+pub whole_same : (old new : LedgerState) → IsWhole old → new.tables ≡ old.tables → frontiers.IsUnchanged old.frontier new.frontier → IsWhole new
+whole_same old new w tables leaves = record { tables = ap (λ (t : kept.Kept). t.compacted) tables ∙ w.tables; base = leaves.base ∙ w.base; peaks = leaves.peaks ∙ w.peaks }
+
+-- ---- a state that is settled
+
+pub state_settled : (ledger : List Entry) (old new : LedgerState) → IsStateOf ledger old → new.end ≡ old.end → new.signatures.items ≡ old.signatures.items → new.gov ≡ old.gov →
+    new.service_state ≡ old.service_state → new.identity ≡ old.identity → ((ps : List Placed) → StandsFor old.tables ps → StandsFor new.tables ps) → new.tables.base ≡ old.tables.base →
+    (len : ℕ) (peaks : List (List ℕ)) → len ≡ frontiers.count_of old.frontier → frontiers.ForLeaves old.frontier (λ leaves. peaks ≡ peaks_of (take len leaves)) →
+    new.frontier.base ≡ len → new.frontier.peaks ≡ peaks → new.frontier.leaves ≡ [] → IsStateOf ledger new
+state_settled ledger old new k ends signed governed state identity stood from len peaks whole all base are none = record {
+  valid = k.valid;
+  sound = k.sound;
+  named = k.named;
+  ends = ends ∙ k.ends;
+  signed = signed ∙ k.signed;
+  governed = governed ∙ k.governed;
+  state_is = state ∙ k.state_is;
+  identity_is = identity ∙ k.identity_is;
+  tables_are = stood (writes_of ledger) k.tables_are;
+  tables_from = from ∙ k.tables_from;
+  tree = record {
+    below = leaves_of ledger;
+    is_base = record { count = length-leaves_of ledger ∙ sym count ∙ sym base; peaks = sym (are ∙ peaks_all) };
+    leaves_are = ap (λ (ls : List (List ℕ)). leaves_of ledger ++ ls) none ∙ append-nil (leaves_of ledger);
+  };
+}
+  where
+    count : len ≡ length ledger
+    count = whole ∙ count_of_frontier old.frontier ledger k.tree
+
+    peaks_all : peaks ≡ peaks_of (leaves_of ledger)
+    peaks_all =
+        of_frontier old.frontier (leaves_of ledger) (λ leaves. peaks ≡ peaks_of (take len leaves)) k.tree all
+        ∙ ap peaks_of (ap (λ (n : ℕ). take n (leaves_of ledger)) (count ∙ sym (length-leaves_of ledger)) ∙ take-length (leaves_of ledger))
 
 -- ---- a cut ledger
 
-pub kept-cut : (ledger items : List Entry) (b : Beside) (to : ℕ) (signatures : List ℕ) (gov : List Recorded) (state : ServiceState) (identity : Option (List ℕ)) (tables : kept.Kept) (frontier : frontiers.Content) →
-    IsKept ledger b → b.commit ≤ to → to ≤ length ledger → items ≡ take to ledger →
-    (IsPartitionedBy (λ s. nat_le s to) b.signatures →
-    (n : ℕ) × IsPartitionPoint (λ s. nat_le s to ≡ true) (λ s. nat_le s to ≡ false) b.signatures n × (signatures ≡ take n b.signatures)) → gov ≡ governance.up_to to b.gov →
-    ((ps : List Placed) → StandsFor b.tables ps → StandsFor tables (up_to to ps)) → tables.base ≡ b.tables.base → tables.compacted ≡ b.tables.compacted →
-    AreTold tables state identity → frontiers.HasLeaves b.frontier frontier (take (to - b.frontier.base) b.frontier.leaves) →
-    IsKept items (record { commit = b.commit; signatures = signatures; gov = gov; service_state = state; identity = identity; tables = tables; frontier = frontier })
-kept-cut ledger items b to signatures gov state identity tables frontier k committed within cut few fewer stood base whole told left =
-    subst (λ (es : List Entry). IsKept es (record { commit = b.commit; signatures = signatures; gov = gov; service_state = state; identity = identity; tables = tables; frontier = frontier })) (sym cut) (record {
-      valid = valid;
-      sound = valid_sound service_layers (take to ledger) valid;
-      named = omega (arith, long, k.named);
-      within = omega (arith, long);
-      committed = signed_up_to-take ledger to b.commit committed k.committed;
-      signed = signed;
-      governed = fewer ∙ ap (governance.up_to to) k.governed ∙ sym (requests_of-take ledger to);
-      state_is = told.state_told (writes_of (take to ledger)) stands;
-      identity_is = told.identity_told (writes_of (take to ledger)) stands;
-      tables_are = stands;
-      tables_from = base ∙ k.tables_from;
-      tables_whole = whole ∙ k.tables_whole;
-      tree = record {
-        base = left.base ∙ k.tree.base;
-        peaks = left.peaks ∙ k.tree.peaks;
-        leaves_are = left.leaves_are ∙ ap₂ (λ (n : ℕ) (ls : List (List ℕ)). take n ls) (omega (arith, k.tree.base)) k.tree.leaves_are ∙ sym (leaves_of-take ledger to);
-      };
-    })
+pub state-cut : (ledger : List Entry) (old new : LedgerState) (to : ℕ) → IsStateOf ledger old → IsWhole old → to ≤ length ledger → new.end ≡ end_of (take to ledger) →
+    (IsPartitionedBy (λ s. nat_le s to) old.signatures.items →
+    (n : ℕ) × IsPartitionPoint (λ s. nat_le s to ≡ true) (λ s. nat_le s to ≡ false) old.signatures.items n × (new.signatures.items ≡ take n old.signatures.items)) →
+    new.gov ≡ governance.up_to to old.gov → ((ps : List Placed) → StandsFor old.tables ps → StandsFor new.tables (up_to to ps)) → new.tables.base ≡ old.tables.base →
+    AreTold new.tables new.service_state new.identity → frontiers.HasLeaves old.frontier new.frontier (take (to - old.frontier.base) old.frontier.leaves) →
+    IsStateOf (take to ledger) new
+unfolding peaks_of peaks_within
+state-cut ledger old new to k w within ends few fewer stood from told left = record {
+  valid = valid;
+  sound = valid_sound service_layers (take to ledger) valid;
+  named = omega (arith, long, k.named);
+  ends = ends;
+  signed = signed;
+  governed = fewer ∙ ap (governance.up_to to) k.governed ∙ sym (requests_of-take ledger to);
+  state_is = told.state_told (writes_of (take to ledger)) stands;
+  identity_is = told.identity_told (writes_of (take to ledger)) stands;
+  tables_are = stands;
+  tables_from = from ∙ k.tables_from;
+  tree = record {
+    below = [];
+    is_base = record { count = sym (left.base ∙ w.base); peaks = sym (left.peaks ∙ w.peaks) };
+    leaves_are = left.leaves_are ∙ ap₂ (λ (n : ℕ) (ls : List (List ℕ)). take n ls) (omega (arith, w.base)) (whole_leaves ledger old k w) ∙ sym (leaves_of-take ledger to);
+  };
+}
   where
     long : length (take to ledger) ≡ to
     long = length-take-le to ledger within
@@ -213,12 +292,22 @@ kept-cut ledger items b to signatures gov state identity tables frontier k commi
     valid : audited service_layers (take to ledger) ≡ None
     valid = audited-take service_layers ledger to k.valid
 
-    stands : StandsFor tables (writes_of (take to ledger))
-    stands = subst (StandsFor tables) (sym (writes_of-take ledger to k.sound.in_order)) (stood (writes_of ledger) k.tables_are)
+    stands : StandsFor new.tables (writes_of (take to ledger))
+    stands = subst (StandsFor new.tables) (sym (writes_of-take ledger to k.sound.in_order)) (stood (writes_of ledger) k.tables_are)
 
-    signed : signatures ≡ signature_seqnos (take to ledger)
+    signed : new.signatures.items ≡ signature_seqnos (take to ledger)
     signed =
         let cutting = few (subst (IsPartitionedBy (λ s. nat_le s to)) (sym k.signed) (seqnos-partitioned ledger to)) in
         let point : IsPartitionPoint (λ s. nat_le s to ≡ true) (λ s. nat_le s to ≡ false) (signature_seqnos ledger) cutting.0 =
         subst (λ (ss : List ℕ). IsPartitionPoint (λ s. nat_le s to ≡ true) (λ s. nat_le s to ≡ false) ss cutting.0) k.signed cutting.1 in
         cutting.2 ∙ ap (take cutting.0) k.signed ∙ sym (seqnos-take ledger to cutting.0 point)
+
+pub kept-cut : (ledger items : List Entry) (b : Beside) (to : ℕ) (new : LedgerState) → IsKept ledger b → b.commit ≤ to → to ≤ length ledger → items ≡ take to ledger → IsStateOf (take to ledger) new → IsWhole new →
+    IsKept items (record { commit = b.commit; state = new })
+kept-cut ledger items b to new k committed within cut stands whole =
+    subst (λ (es : List Entry). IsKept es (record { commit = b.commit; state = new })) (sym cut) (record {
+      stands = stands;
+      whole = whole;
+      within = let long : length (take to ledger) ≡ to = length-take-le to ledger within in omega (arith, long);
+      committed = signed_up_to-take ledger to b.commit committed k.committed;
+    })

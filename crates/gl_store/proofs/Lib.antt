@@ -1,3 +1,4 @@
+pub mod Ends
 pub mod TablesLaws
 pub mod Recorded
 pub mod Counted

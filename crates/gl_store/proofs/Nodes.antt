@@ -17,7 +17,8 @@ use Rattle.gl_ledger.specs.NodeKeys.{service_layers}
 use Rattle.gl_ledger.specs.Recordings.{requests_of, recorded_nodes, mark, removal}
 use Rattle.gl_ledger.specs.Broken.{is_above_removal, last_signed}
 use Rattle.gl_ledger.proofs.Governed.{governed}
-use Rattle.gl_store.specs.Kept.{Held, Beside, IsKept}
+use Rattle.gl_store.specs.Kept.{IsStateOf}
+use Rattle.gl_store.specs.declared.ledger_state.LedgerState.{LedgerState}
 
 -- ---- which are recorded
 
@@ -35,11 +36,10 @@ unfolding nodes.node recorded_nodes
 node_recorded ledger x = find_passes (nodes.has_id x) (nodes.nodes (history (requests_of ledger))) ∙ named x (nodes.nodes (history (requests_of ledger)))
 
 -- a node that is found in the history kept is recorded
-pub recorded_kept : (ledger : List Entry) (b : Beside) (h : Held) (past : History) (x : NodeId) (found : Option (Bor RecordedNode)) → IsKept ledger b → record { ledger = ledger; commit = b.commit } ≡ h →
-    past ≡ history b.gov → option_copied found ≡ nodes.node past x → is_some found ≡ member x (recorded_nodes h.ledger)
-recorded_kept ledger b h past x found k seen is there =
+pub recorded_kept : (ledger : List Entry) (s : LedgerState) (past : History) (x : NodeId) (found : Option (Bor RecordedNode)) → IsStateOf ledger s → past ≡ history s.gov →
+    option_copied found ≡ nodes.node past x → is_some found ≡ member x (recorded_nodes ledger)
+recorded_kept ledger s past x found k is there =
     sym (some_copied found) ∙ ap is_some (there ∙ ap (λ (p : History). nodes.node p x) (is ∙ ap history k.governed)) ∙ node_recorded ledger x
-    ∙ ap (λ (held : Held). member x (recorded_nodes held.ledger)) seen
 
 -- ---- removals of marked nodes
 
@@ -77,8 +77,7 @@ all_above ledger commit all =
     (λ i n at. ap₂ (λ (m r : Option ℕ). is_above_removal m r (last_signed ledger) commit) (sym (mark_is ledger n.id)) (sym (removal_is ledger all i n at)))
 
 -- and so it is by the history kept
-pub above_kept : (ledger : List Entry) (b : Beside) (h : Held) (past : History) (signed commit : ℕ) → IsKept ledger b → record { ledger = ledger; commit = b.commit } ≡ h →
-    past ≡ history b.gov → signed ≡ last_signed h.ledger → list_all (above signed commit past) (nodes.nodes past) ≡ are_above h.ledger commit
-above_kept ledger b h past signed commit k seen is last =
-    ap₂ (λ (s : ℕ) (p : History). list_all (above s commit p) (nodes.nodes p)) (last ∙ ap (λ (held : Held). last_signed held.ledger) (sym seen)) (is ∙ ap history k.governed)
-    ∙ all_above ledger commit (governed service_layers ledger k.sound) ∙ ap (λ (held : Held). are_above held.ledger commit) seen
+pub above_kept : (ledger : List Entry) (s : LedgerState) (past : History) (signed commit : ℕ) → IsStateOf ledger s → past ≡ history s.gov → signed ≡ last_signed ledger →
+    list_all (above signed commit past) (nodes.nodes past) ≡ are_above ledger commit
+above_kept ledger s past signed commit k is last =
+    ap₂ (λ (n : ℕ) (p : History). list_all (above n commit p) (nodes.nodes p)) last (is ∙ ap history k.governed) ∙ all_above ledger commit (governed service_layers ledger k.sound)

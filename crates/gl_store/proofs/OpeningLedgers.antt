@@ -72,17 +72,8 @@ opening_signed_by ledger valid sound two =
 -- it is committed, all of it
 pub kept_opened : (ledger : List Entry) (b : Beside) → IsKept ledger b → length ledger ≡ 2 → IsKept ledger (record b { commit = 2 })
 kept_opened ledger b k two = record {
-  valid = k.valid;
-  sound = k.sound;
-  named = k.named;
+  stands = k.stands;
+  whole = k.whole;
   within = omega (arith, two);
-  committed = λ some. let second = slice_get-below ledger 1 (omega (arith, two)) in (second.0, second.1, (k.sound.founded.opened second.0 second.1).0);
-  signed = k.signed;
-  governed = k.governed;
-  state_is = k.state_is;
-  identity_is = k.identity_is;
-  tables_are = k.tables_are;
-  tables_from = k.tables_from;
-  tables_whole = k.tables_whole;
-  tree = k.tree;
+  committed = λ some. let second = slice_get-below ledger 1 (omega (arith, two)) in (second.0, second.1, (k.stands.sound.founded.opened second.0 second.1).0);
 }

@@ -1,5 +1,5 @@
 -- The rules of the audit, by what a store keeps.
-use Rattle.std.proofs.Common.{◌≡◌, ◌≢◌, ◌&&◌, ℕ, ◌+◌, ◌-◌, ◌^◌, nat_le, nat_lt, ◌==◌, ◌||◌, not, List, [], ◌∷◌, length, Option, Some, None, Result, Ok, Err, Bool, true, false, if◌then◌else◌, refl, sym, ◌∙◌, ap, ap₂, subst, arith}
+use Rattle.std.proofs.Common.{◌≡◌, ◌&&◌, ℕ, ◌+◌, ◌-◌, ◌^◌, nat_le, nat_lt, ◌==◌, ◌||◌, not, List, [], ◌∷◌, length, Option, Some, None, Result, Ok, Err, IfOk, Bool, true, false, refl, sym, ◌∙◌, ap, subst, arith}
 use Rattle.std.proofs.lemmas.Bool.Decides.{nat_tests}
 use Rattle.gl_base.proofs.Lists.{slice_get-below}
 use Rattle.gl_rules.specs.Identity.{member}
@@ -24,18 +24,17 @@ use Rattle.gl_requests.specs.Reading.{request_in}
 use Rattle.gl_ledger.specs.NodeKeys.{service_layers}
 use Rattle.gl_ledger.specs.Recordings.{last_entry, founds, recording_of, governance_recording, application_recording, requests_of, recorded_nodes}
 use Rattle.gl_ledger.specs.Broken.{required}
-use Rattle.gl_rules.specs.Log.{entry_at}
 use Rattle.gl_rules.specs.World.{first_view}
 use Rattle.std.proofs.lemmas.Bool.{and_parts, not-true}
 use Rattle.gl_ledger.specs.Sound.{IsSound}
-use Rattle.gl_ledger.specs.Broken.{may_record, signs_at, last_commit, replay, breach, is_next_view, is_in_order, is_later_commit, fault_of_signature, broken_by_fault, broken_by_signature, broken_where, broken}
-use Rattle.gl_gov_rules.specs.declared.change.Recorded.{Recorded}
+use Rattle.gl_ledger.specs.Broken.{may_record, replay, breach, is_next_view, is_in_order, fault_of_signature, broken_by_fault, broken_by_signature, broken_where, broken}
 use Rattle.gl_gov_rules.specs.Governed as governance
 use Rattle.gl_ledger.proofs.RequestSpellings.{request_in-spelled}
 use Rattle.gl_ledger.proofs.Governed.{above, nothing_recorded}
-use Rattle.gl_store.specs.Kept.{Held, Beside, IsKept}
-use Rattle.gl_store.proofs.Nodes.{are_above}
-use Rattle.gl_store.proofs.Serving.{founds_last, may_record_any}
+use Rattle.gl_store.specs.Kept.{IsStateOf, ForLedgers}
+use Rattle.gl_ledger.specs.declared.breach.Broken.{Broken}
+use Rattle.gl_store.specs.declared.ledger_end.LedgerEnd.{LedgerEnd}
+use Rattle.gl_store.specs.declared.ledger_state.LedgerState.{LedgerState}
 
 -- what an entry records that none of its bytes spell, or that they do
 pub broken_unread : (ledger : List Entry) (e : Entry) → recording_of e.content ≡ None → broken service_layers ledger e ≡ Some (breach 1 (length ledger + 1) e)
@@ -58,18 +57,14 @@ nothing_is (e ∷ es) sound = some_recorded (governance.is_nothing (requests_of 
     some_recorded false is = refl
     some_recorded true is = absurd (let none = nothing_recorded service_layers (e ∷ es) sound is in cc)
 
-pub nothing_kept : (ledger : List Entry) (b : Beside) (h : Held) (recorded : List Recorded) → IsKept ledger b → record { ledger = ledger; commit = b.commit } ≡ h → recorded ≡ b.gov →
-    governance.is_nothing recorded ≡ (length h.ledger == 0)
-nothing_kept ledger b h recorded k seen is =
-    ap governance.is_nothing (is ∙ k.governed) ∙ nothing_is ledger k.sound ∙ ap (λ (held : Held). length held.ledger == 0) seen
+pub nothing_kept : (ledger : List Entry) (s : LedgerState) → IsStateOf ledger s → governance.is_nothing s.gov ≡ (length ledger == 0)
+nothing_kept ledger s k = ap governance.is_nothing k.governed ∙ nothing_is ledger k.sound
 
 -- where views and order let a request pass, it founds the service exactly where nothing of governance is recorded
-pub founding_asked : (ledger : List Entry) (b : Beside) (h : Held) (g : GovernanceRequest) (view : ℕ) → IsKept ledger b → record { ledger = ledger; commit = b.commit } ≡ h →
-    is_next_view (last_entry h.ledger) (recordings.Governance g) view ≡ true → is_in_order (last_entry h.ledger) (recordings.Governance g) view ≡ true →
-    governance.is_founding g ≡ governance.is_nothing (requests_of h.ledger)
-founding_asked ledger b h g view k seen =
-    subst (λ (h : Held). is_next_view (last_entry h.ledger) (recordings.Governance g) view ≡ true → is_in_order (last_entry h.ledger) (recordings.Governance g) view ≡ true →
-    governance.is_founding g ≡ governance.is_nothing (requests_of h.ledger)) seen (by_ledger ledger k.sound)
+pub founding_asked : (ledger : List Entry) (s : LedgerState) (g : GovernanceRequest) (view : ℕ) → IsStateOf ledger s →
+    is_next_view (last_entry ledger) (recordings.Governance g) view ≡ true → is_in_order (last_entry ledger) (recordings.Governance g) view ≡ true →
+    governance.is_founding g ≡ governance.is_nothing s.gov
+founding_asked ledger s g view k next order = by_ledger ledger k.sound next order ∙ sym (ap governance.is_nothing k.governed)
   where
     by_last : (last : Entry) → is_in_order (Some last) (recordings.Governance g) view ≡ true → governance.is_founding g ≡ false
     by_last last order =
@@ -117,3 +112,15 @@ pub signature_asked : (ledger : List Entry) (s : signatures.Signature) (e : Entr
 signature_asked ledger s e recorded signed may root pn pr ps pm =
     let same : signed ≡ same_bytes s.root (root_of (leaves_of ledger)) = ps ∙ ap (same_bytes s.root) pr in
     rw (pn, same, pr, pm) refl
+
+-- what breaks a rule by what it records breaks it by its bytes
+pub found_by : {E : Type 0} (s : LedgerState) (e : Entry) (r : Recording) (found : Result (Option Broken) E) → recording_of e.content ≡ Some r →
+    IfOk found (λ b. ForLedgers s (λ ledger. b ≡ broken_where service_layers (Some r) ledger e)) → IfOk found (λ b. ForLedgers s (λ ledger. b ≡ broken service_layers ledger e))
+found_by s e r (Ok b) is all = λ ledger k. all ledger k ∙ sym (broken_read ledger e r is)
+found_by s e r (Err a) is all = tt
+
+-- the next seqno is above those of all requests
+pub above_state : (ledger : List Entry) (s : LedgerState) (seqno : ℕ) → IsStateOf ledger s → seqno ≡ s.end.len + 1 → governance.IsAbove seqno s.gov
+above_state ledger s seqno k at =
+    subst (governance.IsAbove seqno) (sym k.governed)
+    (subst (λ (n : ℕ). governance.IsAbove n (requests_of ledger)) (sym (at ∙ ap (λ (end : LedgerEnd). end.len + 1) k.ends)) (above ledger))

@@ -1,5 +1,5 @@
 -- The seqnos of a ledger's signatures: those of one with one more entry and of a cut one, the last one, and the first above a seqno.
-use Rattle.std.proofs.Common.{◌≡◌, ℕ, zero, suc, ◌+◌, ◌-◌, ◌<◌, ◌≤◌, nat_le, List, [], ◌∷◌, ◌++◌, length, take, drop, get_or, slice_get, Option, None, Some, Bool, true, false, cond, refl, sym, ◌∙◌, ap, arith}
+use Rattle.std.proofs.Common.{◌≡◌, ℕ, zero, suc, ◌+◌, ◌-◌, ◌<◌, ◌≤◌, nat_le, List, [], ◌∷◌, ◌++◌, length, take, drop, get_or, slice_get, Option, None, Some, Bool, true, false, cond, not, ◌&&◌, ◌==◌, refl, sym, ◌∙◌, ap, subst, arith}
 use Rattle.std.specs.List.{find}
 use Rattle.std.specs.List.Sorted.{IsPartitionPoint, IsPartitionedBy}
 use Rattle.std.specs.Option.{unwrap_or}
@@ -11,7 +11,7 @@ use Rattle.gl_entry.specs.Entry.{is_signature, recorded_commit}
 use Rattle.gl_entry.specs.declared.entry.Content.{Content}
 use Rattle.gl_entry.specs.declared.entry.Content.TheVariants as content
 use Rattle.gl_entry.specs.declared.entry.Entry.{Entry}
-use Rattle.gl_ledger.specs.Broken.{last_signed, commit_behind, commit_from, last_commit}
+use Rattle.gl_ledger.specs.Broken.{last_signed, signs_at, commit_behind, commit_from, last_commit}
 use Rattle.gl_store.specs.Kept.{seqno_if, signed_from, signature_seqnos, commit_at}
 
 -- the entry at a seqno, where there is one
@@ -233,3 +233,40 @@ above-is ledger seqno n point o is = above_cut 1 ledger seqno n (point_cut seqno
     go (Some zero) at =
         absurd (let low = no_less 1 ledger n 0 (slice_get-within (signature_seqnos ledger) n zero at) in let is_at = get_or_from_slice_get (signature_seqnos ledger) n zero 0 at in omega (arith, low, is_at))
     go (Some (suc s)) at = ap (slice_get ledger) (let q : suc s - 1 ≡ s = omega arith in q)
+
+-- ---- the last up to a seqno
+
+-- of the seqnos that are at most this one the last is that of the last signature of the cut ledger
+pub last_up_to : (ledger : List Entry) (seqnos : List ℕ) (to n : ℕ) (last : ℕ) → seqnos ≡ signature_seqnos ledger →
+    (IsPartitionedBy (λ s. nat_le s to) seqnos → IsPartitionPoint (λ s. nat_le s to ≡ true) (λ s. nat_le s to ≡ false) seqnos n) →
+    last ≡ unwrap_or (slice_get (take n seqnos) (length (take n seqnos) - 1)) 0 → last ≡ last_signed (take to ledger)
+last_up_to ledger seqnos to n last are count is =
+    let point : IsPartitionPoint (λ s. nat_le s to ≡ true) (λ s. nat_le s to ≡ false) (signature_seqnos ledger) n =
+    subst (λ (ss : List ℕ). IsPartitionPoint (λ s. nat_le s to ≡ true) (λ s. nat_le s to ≡ false) ss n) are
+    (count (subst (λ (ss : List ℕ). IsPartitionedBy (λ s. nat_le s to) ss) (sym are) (seqnos-partitioned ledger to))) in
+    let cut : take n seqnos ≡ signature_seqnos (take to ledger) = ap (take n) are ∙ sym (seqnos-take ledger to n point) in
+    is ∙ ap (λ (ss : List ℕ). unwrap_or (slice_get ss (length ss - 1)) 0) cut
+    ∙ sym (last_of_seqnos (take to ledger) (slice_get (signature_seqnos (take to ledger)) (length (signature_seqnos (take to ledger)) - 1)) refl)
+
+-- an entry is a signature where the last signature up to it is the entry itself
+signs_from : (es : List Entry) (i : ℕ) → signs_at (slice_get es i) ≡ (last_signed (take (suc i) es) == suc i)
+signs_from [] i = let t : (0 == suc i) ≡ false = grind (arith, nat_tests) in sym t
+signs_from (e ∷ es) zero = go (is_signature e.content)
+  where
+    go : (b : Bool) → b ≡ (seqno_with_first b 0 == 1)
+    go true = refl
+    go false = refl
+signs_from (e ∷ es) (suc i) = signs_from es i ∙ go (is_signature e.content) (last_signed (take (suc i) es))
+  where
+    first : (b : Bool) → (seqno_with_first b 0 == suc (suc i)) ≡ false
+    first true = grind (arith, nat_tests)
+    first false = grind (arith, nat_tests)
+
+    go : (b : Bool) (m : ℕ) → (m == suc i) ≡ (seqno_with_first b m == suc (suc i))
+    go b zero = (let t : (0 == suc i) ≡ false = grind (arith, nat_tests) in t) ∙ sym (first b)
+    go true (suc m) = grind (arith, nat_tests)
+    go false (suc m) = grind (arith, nat_tests)
+
+pub signs_where : (ledger : List Entry) (n : ℕ) → signs_at (entry_at ledger n) ≡ (not (n == 0) && (last_signed (take n ledger) == n))
+signs_where ledger zero = refl
+signs_where ledger (suc i) = signs_from ledger i ∙ ap (λ (b : Bool). not b && (last_signed (take (suc i) ledger) == suc i)) (let t : false ≡ (suc i == 0) = sym (grind (arith, nat_tests)) in t)

@@ -46,7 +46,7 @@ use Rattle.gl_ledger.proofs.RecordedNodes.{recorded_are}
 
 -- where a ledger was opened an entry may be made
 pub may_make_kept : (ledger : List Entry) (b : Beside) (view : ℕ) → IsKept ledger b → 2 ≤ length ledger → HasViewsUpTo view ledger → MayMake ledger view
-may_make_kept ledger b view k opened up = may_make_behind service_layers ledger view k.sound opened up
+may_make_kept ledger b view k opened up = may_make_behind service_layers ledger view k.stands.sound opened up
 
 -- what a request makes
 pub execution_unbroken : (ledger : List Entry) (b : Beside) (view : ℕ) (q : List Operation) (e : Entry) (a : List Answer) → IsKept ledger b → 2 ≤ length ledger → HasViewsUpTo view ledger →
@@ -111,7 +111,7 @@ signing_opened ledger b node k named may = go (length ledger == 1) refl
     go : (t : Bool) → (length ledger == 1) ≡ t → 2 ≤ length ledger
     go true is =
         let one : length ledger ≡ 1 = grind (arith, nat_tests, is) in
-        let own : (b.commit == 2) ≡ true = sym (may_record_any service_layers ledger k.sound b.commit ∙ ap (λ (t : Bool). if t then b.commit == 2 else is_later_commit ledger b.commit) is) ∙ may in
+        let own : (b.commit == 2) ≡ true = sym (may_record_any service_layers ledger k.stands.sound b.commit ∙ ap (λ (t : Bool). if t then b.commit == 2 else is_later_commit ledger b.commit) is) ∙ may in
         let two : b.commit ≡ 2 = grind (arith, nat_tests, own) in
         absurd (let within = k.within in omega (arith, one, two, within))
     go false is = let some = signing_some ledger node named in let other : length ledger ≢ 1 = grind (arith, nat_tests, is) in omega (arith, some, other)

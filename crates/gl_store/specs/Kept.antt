@@ -1,8 +1,7 @@
 -- What a store holds, and what it keeps beside its ledger, so that answers need no scan of it.
-use Rattle.std.specs.Prelude.{◌≡◌, ℕ, suc, ◌≤◌, List, [], ◌∷◌, Option, None, Some, Bool, length, ◌==◌, if◌then◌else◌}
+use Rattle.std.specs.Prelude.{◌≡◌, ℕ, suc, ◌≤◌, List, [], ◌∷◌, ◌++◌, Option, None, Some, Bool, length, ◌==◌, if◌then◌else◌}
 use Rattle.gl_base.specs.TxId.{last_seqno}
 use Rattle.gl_merkle.specs.Frontier as frontiers
-use Rattle.gl_vmaps.specs.Kept as tables
 use Rattle.gl_vmaps.specs.Standing.{StandsFor}
 use Rattle.gl_entry.specs.Entry.{is_signature, recorded_commit}
 use Rattle.gl_entry.specs.declared.entry.Entry.{Entry}
@@ -13,8 +12,8 @@ use Rattle.gl_ledger.specs.Sound.{IsSound}
 use Rattle.gl_ledger.specs.Audit.{audited}
 use Rattle.gl_ledger.specs.Signed.{IsSignedUpTo}
 use Rattle.gl_ledger.specs.Recordings.{requests_of}
-use Rattle.gl_gov_rules.specs.declared.change.Recorded.{Recorded}
-use Rattle.gl_requests.specs.declared.genesis.ServiceState.{ServiceState}
+use Rattle.gl_store.specs.Ends.{end_of}
+use Rattle.gl_store.specs.declared.ledger_state.LedgerState.{LedgerState}
 
 -- What a store holds: its ledger, and up to which seqno it is committed.
 pub record Held : Type 0 where
@@ -41,35 +40,50 @@ commit_at (Some e) = recorded_commit e.content
 abbrev pub key_of : List ℕ → Option (List ℕ)
 key_of bytes = if length bytes == 60 then Some bytes else None
 
--- What stands beside the ledger.
-pub record Beside : Type 0 where
-  pub commit : ℕ
-  pub signatures : List ℕ
-  pub gov : List Recorded
-  pub service_state : ServiceState
-  pub identity : Option (List ℕ)
-  pub tables : tables.Kept
-  pub frontier : frontiers.Content
-
--- The frontier is the tree of these leaves, from the first.
+-- The frontier is the tree of these leaves; those below its base are known by its peaks alone.
 pub record IsTreeOf (leaves : List (List ℕ)) (f : frontiers.Content) : Type 0 where
-  pub base : f.base ≡ 0
-  pub peaks : f.peaks ≡ []
-  pub leaves_are : f.leaves ≡ leaves
+  pub below : List (List ℕ)
+  pub is_base : frontiers.IsBase f below
+  pub leaves_are : below ++ f.leaves ≡ leaves
 
--- The ledger breaks no rule of the audit, so that it is sound, commit is the seqno of one of its
--- signatures or 0, and all that is kept beside the ledger is what a scan of it would find.
-pub record IsKept (ledger : List Entry) (b : Beside) : Type 0 where
+-- The ledger breaks no rule of the audit, so that it is sound, and the state is what a scan of it
+-- would find.
+pub record IsStateOf (ledger : List Entry) (s : LedgerState) : Type 0 where
   pub valid : audited service_layers ledger ≡ None
   pub sound : IsSound service_layers ledger
   pub named : length ledger ≤ last_seqno
+  pub ends : s.end ≡ end_of ledger
+  pub signed : s.signatures.items ≡ signature_seqnos ledger
+  pub governed : s.gov ≡ requests_of ledger
+  pub state_is : s.service_state ≡ service_state (tables_of ledger)
+  pub identity_is : s.identity ≡ key_of (identity_in (tables_of ledger))
+  pub tables_are : StandsFor s.tables (writes_of ledger)
+  pub tables_from : s.tables.base ≡ 0
+  pub tree : IsTreeOf (leaves_of ledger) s.frontier
+
+-- It is the state of a ledger.
+abbrev pub IsState : LedgerState → Type 0
+IsState s = (ledger : List Entry) × IsStateOf ledger s
+
+-- What holds of each ledger of which it is the state.
+abbrev pub ForLedgers : LedgerState → (List Entry → Type 0) → Type 0
+ForLedgers s P = (ledger : List Entry) → IsStateOf ledger s → P ledger
+
+-- Nothing was let go of: each version of each row and each leaf of the tree is there.
+pub record IsWhole (s : LedgerState) : Type 0 where
+  pub tables : s.tables.compacted ≡ 0
+  pub base : s.frontier.base ≡ 0
+  pub peaks : s.frontier.peaks ≡ []
+
+-- What stands beside the ledger.
+pub record Beside : Type 0 where
+  pub commit : ℕ
+  pub state : LedgerState
+
+-- Commit is the seqno of a signature of the ledger or 0, and what is kept beside the ledger is its
+-- state, whole.
+pub record IsKept (ledger : List Entry) (b : Beside) : Type 0 where
+  pub stands : IsStateOf ledger b.state
+  pub whole : IsWhole b.state
   pub within : b.commit ≤ length ledger
   pub committed : IsSignedUpTo ledger b.commit
-  pub signed : b.signatures ≡ signature_seqnos ledger
-  pub governed : b.gov ≡ requests_of ledger
-  pub state_is : b.service_state ≡ service_state (tables_of ledger)
-  pub identity_is : b.identity ≡ key_of (identity_in (tables_of ledger))
-  pub tables_are : StandsFor b.tables (writes_of ledger)
-  pub tables_from : b.tables.base ≡ 0
-  pub tables_whole : b.tables.compacted ≡ 0
-  pub tree : IsTreeOf (leaves_of ledger) b.frontier

@@ -1,6 +1,6 @@
-//! A growing ledger, with what its entries make.
+//! What the entries of a growing ledger come to, without the entries.
 
-ghost use Rattle.std.specs.Prelude.{◌≡◌, ◌+◌, ◌-◌, ◌≤◌, ◌<◌, ◌^◌, ℕ, List, [], ◌∷◌, ◌++◌, None, Some, take, length, nat_le, slice_get, true, false, vec_len, vec_capacity, IfOk, OnOk, OnErr};
+ghost use Rattle.std.specs.Prelude.{◌≡◌, ◌+◌, ◌-◌, ◌≤◌, ◌<◌, ◌^◌, ℕ, List, [], ◌∷◌, ◌++◌, None, Some, take, length, nat_le, slice_get, true, false, vec_len, vec_capacity, IfOk, IfErr, IfSome, IfNone, OnOk, OnErr};
 ghost use Rattle.std.specs.List.{AllByRecursion};
 ghost use Rattle.std.specs.List.Sorted.{IsPartitionPoint, IsPartitionedBy};
 ghost use Rattle.gl_merkle.specs.Frontier.{HasLeaves, IsUnchanged, count_of};
@@ -12,32 +12,49 @@ ghost use Rattle.gl_entry.specs.Leaf.{leaf_of};
 ghost use Rattle.gl_gov_rules.specs.Governed as governed;
 ghost use Rattle.gl_ledger.specs.Recordings.{recorded_in};
 ghost use Rattle.gl_ledger.specs.ServiceRow.{state_of_byte, state_of_value, identity_of_value, service_state, identity_in};
-ghost use Rattle.gl_store.specs.Kept.{seqno_if, key_of};
+ghost use Rattle.gl_ledger.specs.Tree.{tables_of};
+ghost use Rattle.gl_ledger.specs.Broken.{broken};
+ghost use Rattle.gl_ledger.specs.NodeKeys.{service_layers};
+ghost use Rattle.gl_entry.specs.declared.entry.Entry.{Entry};
+ghost use Rattle.gl_store.specs.Calls.{Breaks};
+ghost use Rattle.gl_store.specs.Kept.{seqno_if, key_of, IsStateOf, IsState, ForLedgers, IsWhole};
+ghost use Rattle.gl_store.specs.Ends.{no_end, end_of, end_with};
 
+use crate::known_nodes::KnownNodes;
+use crate::ledger_end::{LedgerEnd, NO_ENTRIES};
 use gl_base::OrNoMemory;
 use gl_entry::{Content, Digest, Entry, leaf};
 use gl_gov::GovState;
+use gl_ledger::Broken;
 use gl_merkle::Frontier;
 use gl_requests::{GovernanceRequest, HssPublicKey, ServiceState};
 use gl_vmaps::Tables;
 use std::alloc::{AllocError, Global};
+
+mod rules;
+mod signatures;
+
+pub use signatures::{count_up_to, seqno_at};
 
 /// The map of the service's row, and its key there (CCF documentation, "Builtin Maps").
 const SERVICE_MAP: &[u8] = b"public:ccf.gov.service";
 
 const SERVICE_KEY: &[u8] = b"s";
 
-/// The entries of a ledger, the seqnos of its signatures, the requests of governance that it records,
-/// the tables that its write sets make, what these tell of the service, and the tree of its leaves.
+/// How a ledger ends, the seqnos of its signatures, the requests of governance that it records, the
+/// tables that its write sets make, what these tell of the service, the tree of its leaves, and the
+/// nodes whose endorsements were verified.
 #[derive(Drop)]
 pub struct LedgerState {
-    pub entries: Vec<Entry>,
-    pub signatures: Vec<u64>,
-    pub gov: GovState,
-    pub tables: Tables,
-    pub service_state: ServiceState,
-    pub identity: Option<HssPublicKey>,
-    pub frontier: Frontier,
+    pub(crate) end: LedgerEnd,
+    pub(crate) signatures: Vec<u64>,
+    pub(crate) gov: GovState,
+    pub(crate) tables: Tables,
+    pub(crate) service_state: ServiceState,
+    pub(crate) identity: Option<HssPublicKey>,
+    pub(crate) frontier: Frontier,
+    pub(crate) known: KnownNodes,
+    pub(crate) alloc: Global,
 }
 
 /// Any other byte than those of a service that is open or waits for shares counts as that of one
@@ -103,16 +120,6 @@ fn identity_in(tables: &Tables) -> Option<HssPublicKey>
     }
 }
 
-/// How many leaves a tree of so many is given room for, where it needs room for so many more: up to a
-/// power of two at least, so that the levels of the tree grow only when the leaves have doubled.
-fn room_behind(leaves: usize, more: usize) -> usize
-    requires { leaves < 2 ^ 63 }
-    ensures least { more ≤ result }
-    ensures one { 1 ≤ result }
-{
-    more.max((leaves + 1).next_power_of_two().max(16) - leaves)
-}
-
 /// Takes the request that an entry records, if it records one. Want of memory leaves all as it was.
 fn take_request(alloc: Global, gov: &mut GovState, entry: &Entry) -> Result<(), AllocError>
     requires follows { AllByRecursion (governed.Follows gov.old)
@@ -129,11 +136,7 @@ fn take_request(alloc: Global, gov: &mut GovState, entry: &Entry) -> Result<(), 
         Err(OrNoMemory::NoMemory) => return Err(AllocError),
         Err(OrNoMemory::Fault(_)) => return Ok(()),
     };
-    match gov.step(entry.seqno, &request) {
-        Ok(_) => Ok(()),
-        Err(OrNoMemory::NoMemory) => Err(AllocError),
-        Err(OrNoMemory::Fault(_)) => unreachable!(),
-    }
+    gov.record(entry.seqno, request)
 }
 
 /// Takes an entry's request and its writes. Want of memory leaves both as they were.
@@ -168,7 +171,7 @@ fn take(
 impl LedgerState {
     /// Of no entries.
     pub fn new(alloc: Global) -> Result<Self, AllocError>
-        ensures entries { IfOk result (λ state. state.entries.items ≡ []) }
+        ensures end { IfOk result (λ state. state.end ≡ no_end) }
         ensures signatures { IfOk result (λ state. state.signatures.items ≡ []) }
         ensures gov { IfOk result (λ state. state.gov ≡ []) }
         ensures tables { IfOk result (λ state. StandsFor state.tables []) }
@@ -181,25 +184,24 @@ impl LedgerState {
         ensures leaves { IfOk result (λ state. state.frontier.leaves ≡ []) }
     {
         Ok(LedgerState {
-            entries: Vec::new(alloc),
+            end: NO_ENTRIES,
             signatures: Vec::new(alloc),
             gov: GovState::new(alloc),
             tables: Tables::new(alloc),
             service_state: ServiceState::Opening,
             identity: None,
             frontier: Frontier::new(alloc)?,
+            known: KnownNodes::new(alloc),
+            alloc,
         })
     }
 
-    /// Makes room for so many more entries and their leaves.
+    /// Makes room for the leaves of so many more entries.
     pub fn reserve(&mut self, more: usize) -> Result<(), AllocError>
-        requires { 1 ≤ more }
-        ensures entries { OnOk result
-            (vec_len self.new.entries + more ≤ vec_capacity self.new.entries) }
         ensures signatures { OnOk result
             (vec_len self.new.signatures + more ≤ vec_capacity self.new.signatures) }
         ensures frontier { OnOk result (more ≤ self.new.frontier.spare) }
-        ensures entries_kept { self.new.entries.items ≡ self.old.entries.items }
+        ensures end_kept { self.new.end ≡ self.old.end }
         ensures signatures_kept { self.new.signatures.items ≡ self.old.signatures.items }
         ensures gov_kept { self.new.gov ≡ self.old.gov }
         ensures tables_kept { self.new.tables ≡ self.old.tables }
@@ -207,21 +209,19 @@ impl LedgerState {
         ensures identity_kept { self.new.identity ≡ self.old.identity }
         ensures leaves_kept { IsUnchanged self.old.frontier self.new.frontier }
     {
-        self.frontier
-            .reserve(room_behind(self.entries.len(), more))?;
-        self.entries.reserve(more)?;
+        self.frontier.reserve(more)?;
         self.signatures.reserve(more)?;
         Ok(())
     }
 
-    /// Adds an entry and its leaf, for which there is room.
-    fn add(&mut self, entry: Entry, leaf: Digest)
-        requires entries { vec_len self.old.entries < vec_capacity self.old.entries }
+    /// Adds an entry's leaf, for which there is room.
+    fn add(&mut self, entry: &Entry, leaf: Digest)
+        requires len { self.old.end.len < u64.MAX }
         requires signatures { vec_len self.old.signatures < vec_capacity self.old.signatures }
         requires frontier { 0 < self.old.frontier.spare }
-        ensures entries { self.new.entries.items ≡ self.old.entries.items ++ entry ∷ [] }
+        ensures end { self.new.end ≡ end_with self.old.end entry.now }
         ensures signatures { self.new.signatures.items ≡ self.old.signatures.items
-            ++ seqno_if (is_signature entry.content) entry.seqno [] }
+            ++ seqno_if (is_signature entry.now.content) entry.now.seqno [] }
         ensures gov { self.new.gov ≡ self.old.gov }
         ensures tables { self.new.tables ≡ self.old.tables }
         ensures state { self.new.service_state ≡ self.old.service_state }
@@ -235,27 +235,29 @@ impl LedgerState {
         if matches!(entry.content, Content::Signature(_)) {
             self.signatures.push_reserved(entry.seqno);
         }
-        self.entries.push_reserved(entry);
+        self.end = self.end.with(entry);
     }
 
-    /// Adds an entry behind which the tables tell the service's key. A request that it records follows
-    /// those before it. Want of memory leaves all as it was.
-    pub fn push(&mut self, entry: Entry) -> Result<(), AllocError>
-        requires base { self.old.tables.base < entry.seqno }
-        requires above { (map key : List ℕ) → version_of self.old.tables map key < entry.seqno }
-        requires behind { governed.IsAbove entry.seqno self.old.gov }
+    /// Takes what an entry makes, behind which the tables tell the service's key. A request that it
+    /// records follows those before it. Want of memory leaves all as it was.
+    fn push_made(&mut self, entry: &Entry) -> Result<(), AllocError>
+        requires len { self.old.end.len < u64.MAX }
+        requires base { self.old.tables.base < entry.now.seqno }
+        requires above { (map key : List ℕ) →
+            version_of self.old.tables map key < entry.now.seqno }
+        requires behind { governed.IsAbove entry.now.seqno self.old.gov }
         requires follows { AllByRecursion (governed.Follows self.old.gov)
-            (recorded_in entry.seqno entry.content) }
+            (recorded_in entry.now.seqno entry.now.content) }
         requires keyed { (ps : List Placed) × StandsFor self.old.tables ps
-            × (length (identity_in (written_by (ps ++ placed_at entry.seqno entry.writes))) ≡ 60) }
-        ensures entries { OnOk result (self.new.entries.items
-            ≡ self.old.entries.items ++ entry ∷ []) }
-        ensures signatures { OnOk result (self.new.signatures.items
-            ≡ self.old.signatures.items ++ seqno_if (is_signature entry.content) entry.seqno []) }
+            × (length (identity_in (written_by
+            (ps ++ placed_at entry.now.seqno entry.now.writes))) ≡ 60) }
+        ensures end { OnOk result (self.new.end ≡ end_with self.old.end entry.now) }
+        ensures signatures { OnOk result (self.new.signatures.items ≡ self.old.signatures.items
+            ++ seqno_if (is_signature entry.now.content) entry.now.seqno []) }
         ensures gov { OnOk result
-            (self.new.gov ≡ self.old.gov ++ recorded_in entry.seqno entry.content) }
+            (self.new.gov ≡ self.old.gov ++ recorded_in entry.now.seqno entry.now.content) }
         ensures tables { OnOk result ((ps : List Placed) → StandsFor self.old.tables ps →
-            StandsFor self.new.tables (ps ++ placed_at entry.seqno entry.writes)) }
+            StandsFor self.new.tables (ps ++ placed_at entry.now.seqno entry.now.writes)) }
         ensures base { OnOk result (self.new.tables.base ≡ self.old.tables.base) }
         ensures whole { OnOk result (self.new.tables.compacted ≡ self.old.tables.compacted) }
         ensures state { OnOk result ((ps : List Placed) → StandsFor self.new.tables ps →
@@ -264,8 +266,8 @@ impl LedgerState {
             self.new.identity ≡ key_of (identity_in (written_by ps))) }
         ensures leaves { OnOk result ((ps : List Placed) → StandsFor self.new.tables ps →
             HasLeaves self.old.frontier self.new.frontier
-            (self.old.frontier.leaves ++ leaf_of (identity_in (written_by ps)) entry ∷ [])) }
-        ensures entries_kept { OnErr result (self.new.entries.items ≡ self.old.entries.items) }
+            (self.old.frontier.leaves ++ leaf_of (identity_in (written_by ps)) entry.now ∷ [])) }
+        ensures end_kept { OnErr result (self.new.end ≡ self.old.end) }
         ensures signatures_kept { OnErr result
             (self.new.signatures.items ≡ self.old.signatures.items) }
         ensures gov_kept { OnErr result (self.new.gov ≡ self.old.gov) }
@@ -275,24 +277,104 @@ impl LedgerState {
         ensures leaves_kept { OnErr result (IsUnchanged self.old.frontier self.new.frontier) }
     {
         self.reserve(1)?;
-        let alloc = *self.entries.allocator();
-        take(alloc, &mut self.gov, &mut self.tables, &entry)?;
+        take(self.alloc, &mut self.gov, &mut self.tables, entry)?;
         self.service_state = state_in(&self.tables);
         self.identity = identity_in(&self.tables);
         let Some(identity) = &self.identity else {
             unreachable!();
         };
-        let leaf = leaf(&entry, identity);
+        let leaf = leaf(entry, identity);
         self.add(entry, leaf);
         Ok(())
     }
 
-    /// Takes back the entries above a seqno. Takes no memory.
-    pub fn cut(&mut self, to: u64)
+    /// Takes an entry that breaks no rule behind the ledger. Want of memory leaves all as it was.
+    pub fn push(&mut self, entry: &Entry) -> Result<(), AllocError>
+        requires unbroken { (ledger : List Entry) × IsStateOf ledger self.old
+            × (broken service_layers ledger entry.now ≡ None) }
+        ensures grown { OnOk result (ForLedgers self.old (λ ledger.
+            broken service_layers ledger entry.now ≡ None →
+            IsStateOf (ledger ++ entry.now ∷ []) self.new)) }
+        ensures err { OnErr result (ForLedgers self.old (λ ledger. IsStateOf ledger self.new)) }
+        ensures whole { IsWhole self.old → IsWhole self.new }
+    {
+        self.push_made(entry)?;
+        Ok(())
+    }
+
+    /// Takes an entry that another node made. Refused for the first rule of the audit that it breaks
+    /// behind the ledger, if it breaks one. Want of memory, too, leaves all as it was.
+    pub fn apply(&mut self, entry: &Entry) -> Result<(), OrNoMemory<Broken>>
+        requires state { IsState self.old }
+        ensures unbroken { OnOk result (ForLedgers self.old (λ ledger.
+            broken service_layers ledger entry.now ≡ None)) }
+        ensures grown { OnOk result (ForLedgers self.old (λ ledger.
+            IsStateOf (ledger ++ entry.now ∷ []) self.new)) }
+        ensures refused { IfErr result (λ e. ForLedgers self.old (λ ledger.
+            Breaks (broken service_layers ledger entry.now) e)) }
+        ensures err { OnErr result (ForLedgers self.old (λ ledger. IsStateOf ledger self.new)) }
+        ensures whole { IsWhole self.old → IsWhole self.new }
+    {
+        if let Some(broken) = self.broken(entry)? {
+            return Err(OrNoMemory::Fault(broken));
+        }
+        self.push(entry)?;
+        self.learn_signer(entry);
+        Ok(())
+    }
+
+    /// Knows the node that signed an entry from now on, where that is a signature: the endorsement
+    /// that was recorded of it is verified once.
+    fn learn_signer(&mut self, entry: &Entry)
+        ensures { self.new ≡ record self.old { known = self.new.known } }
+    {
+        if let Content::Signature(signature) = &entry.content
+            && let Some(identity) = &self.identity
+            && let Some(node) = self.gov.history().node(&signature.node)
+        {
+            self.known.learn(identity, node);
+        }
+    }
+
+    /// Lets go of what only a cut or a receipt needs: of each row the versions but for its last one,
+    /// and the leaves of the tree but for the roots of its complete subtrees. Fails for want of
+    /// memory alone.
+    pub fn settle(&mut self) -> Result<(), AllocError>
+        ensures { ForLedgers self.old (λ ledger. IsStateOf ledger self.new) }
+    {
+        let len = self.frontier.len();
+        let peaks = self.frontier.peaks(len)?;
+        self.frontier = Frontier::at_base(self.alloc, len, &peaks)?;
+        self.tables.compact(len);
+        Ok(())
+    }
+
+    /// How the ledger ends.
+    pub fn end(&self) -> LedgerEnd
+        ensures { ForLedgers self.now (λ ledger. result ≡ end_of ledger) }
+    {
+        self.end
+    }
+
+    /// The service's key, as the ledger has it. `None` where there is no entry.
+    pub fn identity(&self) -> Option<&HssPublicKey>
+        ensures some { IfSome result (λ key. ForLedgers self.now (λ ledger.
+            key.now ≡ identity_in (tables_of ledger))) }
+        ensures none { IfNone result (ForLedgers self.now (λ ledger. ledger ≡ [])) }
+    {
+        match &self.identity {
+            None => None,
+            Some(key) => Some(key),
+        }
+    }
+
+    /// Takes back what the entries above a seqno made, where the ledger up to it ends so. Takes no
+    /// memory.
+    pub fn cut(&mut self, to: u64, end: LedgerEnd)
         requires base { self.old.frontier.base ≤ to }
         requires within { to ≤ count_of self.old.frontier }
         requires whole { self.old.tables.compacted ≤ to }
-        ensures entries { self.new.entries.items ≡ take to self.old.entries.items }
+        ensures end { self.new.end ≡ end }
         ensures signatures { IsPartitionedBy (λ seqno. nat_le seqno to) self.old.signatures.items →
             (n : ℕ) × IsPartitionPoint (λ seqno. nat_le seqno to ≡ true)
             (λ seqno. nat_le seqno to ≡ false) self.old.signatures.items n
@@ -310,7 +392,7 @@ impl LedgerState {
             (take (to - self.old.frontier.base) self.old.frontier.leaves) }
     {
         let signed = count_up_to(&self.signatures, to);
-        self.entries.truncate(to as usize);
+        self.end = end;
         self.signatures.truncate(signed);
         self.gov.cut(to);
         self.tables.cut(to);
@@ -321,7 +403,7 @@ impl LedgerState {
 
     /// The same in memory of its own.
     pub fn copy(&self, alloc: Global) -> Result<Self, AllocError>
-        ensures entries { IfOk result (λ state. state.entries.items ≡ self.now.entries.items) }
+        ensures end { IfOk result (λ state. state.end ≡ self.now.end) }
         ensures signatures { IfOk result (λ state.
             state.signatures.items ≡ self.now.signatures.items) }
         ensures gov { IfOk result (λ state. state.gov ≡ self.now.gov) }
@@ -331,42 +413,15 @@ impl LedgerState {
         ensures leaves { IfOk result (λ state. IsUnchanged self.now.frontier state.frontier) }
     {
         Ok(LedgerState {
-            entries: copy_entries(alloc, &self.entries)?,
+            end: self.end,
             signatures: Vec::from_slice(alloc, &self.signatures)?,
             gov: self.gov.copy()?,
             tables: self.tables.copy()?,
             service_state: self.service_state,
             identity: self.identity,
             frontier: self.frontier.copy()?,
+            known: KnownNodes::new(alloc),
+            alloc,
         })
     }
-}
-
-/// How many of the seqnos, which ascend, are at most this one.
-pub fn count_up_to(seqnos: &[u64], limit: u64) -> usize
-    ensures { IsPartitionedBy (λ seqno. nat_le seqno limit) seqnos.now →
-        IsPartitionPoint (λ seqno. nat_le seqno limit ≡ true) (λ seqno. nat_le seqno limit ≡ false)
-        seqnos.now result }
-{
-    seqnos.partition_point(
-        |seqno: &u64| -> bool
-            ensures { result ≡ nat_le seqno.now limit }
-        { *seqno <= limit },
-    )
-}
-
-pub fn seqno_at(seqnos: &[u64], place: usize) -> Option<u64>
-    ensures { result ≡ slice_get seqnos.now place }
-{
-    seqnos.get(place).copied()
-}
-
-fn copy_entries(alloc: Global, entries: &[Entry]) -> Result<Vec<Entry>, AllocError>
-    ensures { IfOk result (λ copies. copies.items ≡ entries.now) }
-{
-    let mut copies = Vec::with_capacity(alloc, entries.len())?;
-    for entry in entries {
-        copies.push(entry.copy(alloc)?)?;
-    }
-    Ok(copies)
 }

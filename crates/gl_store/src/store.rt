@@ -9,7 +9,7 @@ ghost use Rattle.gl_requests.specs.Ranges.{is_genesis};
 ghost use Rattle.gl_ledger.specs.Ledger.{genesis_entry};
 ghost use Rattle.gl_store.specs.Calls.{signature_of};
 
-use crate::known_nodes::KnownNodes;
+use crate::ledger_end::LedgerEnd;
 use crate::ledger_state::{LedgerState, count_up_to, seqno_at};
 use crate::not_opening::NotOpening;
 use gl_base::{FIRST_VIEW, OrNoMemory, Status, TxId, status};
@@ -25,7 +25,6 @@ use std::marker::Model;
 mod governance;
 mod receipts;
 mod requests;
-mod rules;
 
 /// A ledger of one node, and up to which seqno it is committed. Seqnos count from 1. At every
 /// moment the ledger is valid: no entry of it breaks a rule of the audit behind those before it. So
@@ -34,9 +33,9 @@ mod rules;
 /// of the tree over all earlier entries. Commit is the seqno of a signature, or 0, and never falls.
 #[derive(Drop)]
 pub struct Store {
+    entries: Vec<Entry>,
     state: LedgerState,
     commit: u64,
-    known: KnownNodes,
     alloc: Global,
 }
 
@@ -45,16 +44,11 @@ impl Model for Store {
 
     ghost Value = { Held };
 
-    ghost view = { λ s. record { ledger = s.state.entries.items; commit = s.commit } };
+    ghost view = { λ s. record { ledger = s.entries.items; commit = s.commit } };
 
-    ghost invariant = { λ s. IsKept s.state.entries.items (record {
+    ghost invariant = { λ s. IsKept s.entries.items (record {
       commit = s.commit;
-      signatures = s.state.signatures.items;
-      gov = s.state.gov;
-      service_state = s.state.service_state;
-      identity = s.state.identity;
-      tables = s.state.tables;
-      frontier = s.state.frontier;
+      state = s.state;
     }) };
 }
 
@@ -68,9 +62,9 @@ impl Store {
     ghost use Rattle.gl_gov_rules.specs.Refusals.{genesis_refusal};
     ghost use Rattle.gl_ledger.specs.Ledger.{opening_ledger};
     ghost use Rattle.gl_ledger.specs.Tree.{writes_of, tables_of};
-    ghost use Rattle.gl_ledger.specs.Recordings.{requests_of};
+    ghost use Rattle.gl_ledger.specs.Recordings.{requests_of, recorded_nodes};
     ghost use Rattle.gl_ledger.specs.ServiceRow.{identity_in};
-    ghost use Rattle.gl_ledger.specs.Broken.{last_signed, last_commit, broken};
+    ghost use Rattle.gl_ledger.specs.Broken.{last_signed, may_record, broken};
     ghost use Rattle.gl_ledger.specs.Sound.{IsSound};
     ghost use Rattle.gl_ledger.specs.Audit.{audited, fault_from};
     ghost use Rattle.gl_ledger.specs.Layers.{Layers};
@@ -85,9 +79,9 @@ impl Store {
         ensures { IfOk result (λ store. store ≡ record { ledger = []; commit = 0 }) }
     {
         Ok(Store {
+            entries: Vec::new(alloc),
             state: LedgerState::new(alloc)?,
             commit: 0,
-            known: KnownNodes::new(alloc),
             alloc,
         })
     }
@@ -163,7 +157,7 @@ impl Store {
         ensures valid { audited service_layers self.now.ledger ≡ None }
         ensures sound { IsSound service_layers self.now.ledger }
     {
-        self.state.entries.len() as u64
+        self.entries.len() as u64
     }
 
     /// The entry with a seqno. `None` at 0 and above the last.
@@ -174,7 +168,7 @@ impl Store {
     {
         match seqno.checked_sub(1) {
             None => None,
-            Some(index) => self.state.entries.get(index as usize),
+            Some(index) => self.entries.get(index as usize),
         }
     }
 
@@ -183,7 +177,7 @@ impl Store {
         ensures entries { result.now ≡ self.now.ledger }
         ensures fit { AllByRecursion (λ e. is_entry e ≡ true) self.now.ledger }
     {
-        &self.state.entries
+        &self.entries
     }
 
     /// The view of the entry with a seqno. `None` at 0 and above the last.
@@ -225,10 +219,7 @@ impl Store {
     pub fn last_signature(&self) -> u64
         ensures { result ≡ last_signed self.now.ledger }
     {
-        match self.state.signatures.last() {
-            None => 0,
-            Some(seqno) => *seqno,
-        }
+        self.state.last_signed()
     }
 
     /// The first signature above a seqno, committed or not.
@@ -245,14 +236,37 @@ impl Store {
         }
     }
 
-    /// The commit that the last signature records, 0 where there is none.
-    fn last_commit(&self) -> u64
-        ensures { result ≡ last_commit self.now.ledger }
+    /// The first rule of the audit that an entry breaks behind the ledger, if it breaks one. Fails
+    /// for want of memory alone.
+    pub fn broken(&mut self, entry: &Entry) -> Result<Option<Broken>, AllocError>
+        ensures broken { IfOk result (λ found.
+            found ≡ broken service_layers self.old.ledger entry.now) }
+        ensures kept { self.new ≡ self.old }
     {
-        match self.entry(self.last_signature()) {
-            None => 0,
-            Some(entry) => entry.content.recorded_commit(),
-        }
+        self.state.broken(entry)
+    }
+
+    /// Whether a node is recorded.
+    pub fn is_recorded(&self, node: &NodeId) -> bool
+        ensures { result ≡ member node.now (recorded_nodes self.now.ledger) }
+    {
+        self.state.is_recorded(node)
+    }
+
+    /// Whether the next signature may record this commit: the seqno of that signature itself, where
+    /// it opens the service, or else the seqno of a signature that isn't below the commit that the
+    /// last one recorded, nor below the removal of a node that was marked behind that one.
+    pub fn may_record(&self, commit: u64) -> bool
+        ensures { result ≡ may_record self.now.ledger commit }
+    {
+        self.state.may_record(commit)
+    }
+
+    /// The seqno of the entry that follows.
+    fn next_seqno(&self) -> u64
+        ensures { result ≡ length self.now.ledger + 1 }
+    {
+        self.entries.len() as u64 + 1
     }
 
     /// The service's key, as the ledger has it. `None` where there is no entry.
@@ -260,10 +274,7 @@ impl Store {
         ensures some { IfSome result (λ key. key.now ≡ identity_in (tables_of self.now.ledger)) }
         ensures none { IfNone result (self.now.ledger ≡ []) }
     {
-        match &self.state.identity {
-            None => None,
-            Some(key) => Some(key),
-        }
+        self.state.identity()
     }
 
     /// The status of a transaction by what this store holds (CCF documentation, "Transaction
@@ -296,9 +307,8 @@ impl Store {
     pub fn reserve(&mut self, more: usize) -> Result<(), AllocError>
         ensures { self.new ≡ self.old }
     {
-        if more > 0 {
-            self.state.reserve(more)?;
-        }
+        self.state.reserve(more)?;
+        self.entries.reserve(more)?;
         Ok(())
     }
 
@@ -310,7 +320,9 @@ impl Store {
         }) }
         ensures err { OnErr result (self.new ≡ self.old) }
     {
-        self.state.push(entry)?;
+        self.entries.reserve(1)?;
+        self.state.push(&entry)?;
+        self.entries.push_reserved(entry);
         Ok(())
     }
 
@@ -324,11 +336,9 @@ impl Store {
         ensures refused { IfErr result (Breaks (broken service_layers self.old.ledger entry)) }
         ensures err { OnErr result (self.new ≡ self.old) }
     {
-        if let Some(broken) = self.broken(&entry)? {
-            return Err(OrNoMemory::Fault(broken));
-        }
-        self.push(entry)?;
-        self.learn_signer();
+        self.entries.reserve(1)?;
+        self.state.apply(&entry)?;
+        self.entries.push_reserved(entry);
         Ok(())
     }
 
@@ -354,7 +364,9 @@ impl Store {
         requires within { to ≤ length self.old.ledger }
         ensures { self.new ≡ record self.old { ledger = take to self.old.ledger } }
     {
-        self.state.cut(to);
+        let signed = self.state.last_signed_up_to(to);
+        self.entries.truncate(to as usize);
+        self.state.cut(to, LedgerEnd::of(&self.entries, signed));
     }
 
     /// A store of its own that holds the same. Fails for want of memory alone.
@@ -362,10 +374,20 @@ impl Store {
         ensures { IfOk result (λ store. store ≡ self.now) }
     {
         Ok(Store {
+            entries: copy_entries(self.alloc, &self.entries)?,
             state: self.state.copy(self.alloc)?,
             commit: self.commit,
-            known: KnownNodes::new(self.alloc),
             alloc: self.alloc,
         })
     }
+}
+
+fn copy_entries(alloc: Global, entries: &[Entry]) -> Result<Vec<Entry>, AllocError>
+    ensures { IfOk result (λ copies. copies.items ≡ entries.now) }
+{
+    let mut copies = Vec::with_capacity(alloc, entries.len())?;
+    for entry in entries {
+        copies.push(entry.copy(alloc)?)?;
+    }
+    Ok(copies)
 }

@@ -53,7 +53,7 @@ impl Store {
             Refuses (govern_result self.old.ledger view request.now) e) }
         ensures err { OnErr result (self.new ≡ self.old) }
     {
-        let seqno = self.state.entries.len() as u64 + 1;
+        let seqno = self.entries.len() as u64 + 1;
         let (entry, effect) = match self.governance_entry(view, request) {
             Ok(made) => made,
             Err(OrNoMemory::NoMemory) => return Err(OrNoMemory::NoMemory),
@@ -71,45 +71,46 @@ impl Store {
     /// The entry of a request of governance behind the ledger, and what the request does. Refused
     /// where the rules of governance refuse it.
     fn governance_entry(
-        &self,
+        &mut self,
         view: u32,
         request: &GovernanceRequest,
     ) -> Result<(Entry, GovernanceEffect), OrNoMemory<GovernanceRefusal>>
-        requires founding { is_founding request.now ≡ (length self.now.ledger == 0) }
+        requires founding { is_founding request.now ≡ (length self.old.ledger == 0) }
         requires fits { is_request request.now ≡ true }
-        ensures accepted { OnOk result (refusal (history (requests_of self.now.ledger))
-            (length self.now.ledger + 1) request.now ≡ None) }
+        ensures accepted { OnOk result (refusal (history (requests_of self.old.ledger))
+            (length self.old.ledger + 1) request.now ≡ None) }
         ensures made { IfOk result (λ made.
-            made.0 ≡ governance_entry request.now self.now.ledger view) }
+            made.0 ≡ governance_entry request.now self.old.ledger view) }
         ensures recorded { IfOk result (λ made. length (content_bytes made.0.content) < 2 ^ 32) }
         ensures written { IfOk result (λ made. length made.0.writes < 2 ^ 32) }
         ensures entry { IfOk result (λ made.
             length (body_bytes made.0) ≤ body_limit → is_entry made.0 ≡ true) }
         ensures writes { IfOk result (λ made. made.1.writes
-            ≡ effect_writes (requests_of self.now.ledger)
-            (record { seqno = length self.now.ledger + 1; request = request.now })) }
+            ≡ effect_writes (requests_of self.old.ledger)
+            (record { seqno = length self.old.ledger + 1; request = request.now })) }
         ensures proposal { IfOk result (λ made. made.1.proposal ≡ proposal_status
-            (history (requests_of (self.now.ledger ++ made.0 ∷ []))) request.now) }
+            (history (requests_of (self.old.ledger ++ made.0 ∷ []))) request.now) }
         ensures shares { IfOk result (λ made. made.1.shares
-            ≡ share_count (history (requests_of (self.now.ledger ++ made.0 ∷ [])))) }
+            ≡ share_count (history (requests_of (self.old.ledger ++ made.0 ∷ [])))) }
         ensures refused { IfErr result (λ e. steps.Refuses (refusal
-            (history (requests_of self.now.ledger)) (length self.now.ledger + 1) request.now) e) }
+            (history (requests_of self.old.ledger)) (length self.old.ledger + 1) request.now) e) }
+        ensures kept { self.new ≡ self.old }
     {
         let seqno = self.next_seqno();
-        let mut gov = self.state.gov.copy()?;
-        let effect = gov.step(seqno, request)?;
+        let effect = self.state.gov.effect(seqno, request)?;
         let writes = effect.writes.copy(self.alloc)?;
         let entry = governance_entry(self.alloc, view, seqno, request, writes)?;
         Ok((entry, effect))
     }
 
     /// The entry of a genesis in a store of no entries.
-    pub(super) fn genesis_entry(&self, genesis: Genesis) -> Result<Entry, AllocError>
-        requires first { self.now.ledger ≡ [] }
+    pub(super) fn genesis_entry(&mut self, genesis: Genesis) -> Result<Entry, AllocError>
+        requires first { self.old.ledger ≡ [] }
         requires accepted { genesis_refusal no_history genesis ≡ None }
         requires fits { is_genesis genesis ≡ true }
         ensures made { IfOk result (λ entry. entry ≡ genesis_entry genesis) }
         ensures fits { IfOk result (λ entry. is_entry entry ≡ true) }
+        ensures kept { self.new ≡ self.old }
     {
         let request = GovernanceRequest::Genesis(genesis);
         match self.governance_entry(FIRST_VIEW, &request) {

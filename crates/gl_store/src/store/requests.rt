@@ -68,7 +68,7 @@ impl Store {
             Refuses (request_result self.old.ledger view request.now) e) }
         ensures err { OnErr result (self.new ≡ self.old) }
     {
-        let seqno = self.state.entries.len() as u64 + 1;
+        let seqno = self.entries.len() as u64 + 1;
         let ran = match run(self.alloc, request, &self.state.tables) {
             Ok(ran) => ran,
             Err(error) => return Err(error.widen()),
@@ -108,7 +108,7 @@ impl Store {
         ensures err { OnErr result (self.new ≡ self.old) }
         ensures unspent { OnErr result (signer.new ≡ signer.old) }
     {
-        let seqno = self.state.entries.len() as u64 + 1;
+        let seqno = self.entries.len() as u64 + 1;
         if seqno > LAST_SEQNO {
             return Err(OrNoMemory::Fault(Refusal::SeqnoLimit));
         }
@@ -137,8 +137,8 @@ impl Store {
         ensures leaf { OnOk result (signer.now.used < 2 ^ height signer.now.key.types) }
     {
         prove!(signer.used() < signer.reserved());
-        let seqno = self.state.entries.len() as u64 + 1;
-        let root = self.state.frontier.root();
+        let seqno = self.entries.len() as u64 + 1;
+        let root = self.state.root();
         let signature = next_signature(signer, &signed_message(&root, view, seqno, commit))?;
         Ok(Entry {
             view,

@@ -19,7 +19,7 @@ use Rattle.gl_store.proofs.store.Store.execute_open.Goals as goal
 
 pub push-requires : goal.push-requires
 push-requires c =
-    let ledger : List Entry = c.self.inside.state.entries.items in
+    let ledger : List Entry = c.self.inside.entries.items in
     let q : List Operation = c.args.request.now in
     let e : Entry = c.in_ok-entry.entry in
     let ran : Ran = c.in-Ok.ran in
@@ -29,7 +29,7 @@ push-requires c =
     let small : length (body_bytes e) ≤ body_limit = subst (λ (n : ℕ). n ≤ body_limit) c.body_len.ensures.exact c.in_default.ensures.body in
     let gives : execute_result ledger c.args.view q ≡ Ok (e, ran.reply) =
     made_within ledger c.args.view (c.len.result + 1) q ran c.deref.result.now (body_bytes e) e is_open
-    (c.in-Ok.ensures.stands (writes_of ledger) c.self.invariant.tables_are) c.in_ok-entry.ensures.made (omega arith)
+    (c.in-Ok.ensures.stands (writes_of ledger) c.self.invariant.stands.tables_are) c.in_ok-entry.ensures.made (omega arith)
     (c.deref.ensures.value ∙ c.in_ok-reply.ensures.bytes) refl small
     (subst (λ (xs : List ℕ). length xs ≤ body_limit) (c.deref-2.ensures.value ∙ sym c.deref.ensures.value) c.in_default.ensures.reply) c.in_default.ensures.seqno in
     subst (λ (h : Held). broken service_layers h.ledger e ≡ None) c.self.view_is
@@ -37,7 +37,7 @@ push-requires c =
 
 pub returns-clause-made : goal.returns-clause-made
 returns-clause-made c =
-    let ledger : List Entry = c.self.inside.state.entries.items in
+    let ledger : List Entry = c.self.inside.entries.items in
     let q : List Operation = c.args.request.now in
     let e : Entry = c.in_ok-entry.entry in
     let ran : Ran = c.in-Ok.ran in
@@ -45,7 +45,7 @@ returns-clause-made c =
     let small : length (body_bytes e) ≤ body_limit = subst (λ (n : ℕ). n ≤ body_limit) c.body_len.ensures.exact c.in_default.ensures.body in
     let gives : execute_result ledger c.args.view q ≡ Ok (e, ran.reply) =
     made_within ledger c.args.view (c.len.result + 1) q ran c.deref.result.now (body_bytes e) e is_open
-    (c.in-Ok.ensures.stands (writes_of ledger) c.self.invariant.tables_are) c.in_ok-entry.ensures.made (omega arith)
+    (c.in-Ok.ensures.stands (writes_of ledger) c.self.invariant.stands.tables_are) c.in_ok-entry.ensures.made (omega arith)
     (c.deref.ensures.value ∙ c.in_ok-reply.ensures.bytes) refl small
     (subst (λ (xs : List ℕ). length xs ≤ body_limit) (c.deref-2.ensures.value ∙ sym c.deref.ensures.value) c.in_default.ensures.reply) c.in_default.ensures.seqno in
     let place : c.len.result + 1 ≡ length c.args.self.now.ledger + 1 = subst (λ (h : Held). c.len.result + 1 ≡ length h.ledger + 1) c.self.view_is (omega arith) in
@@ -55,8 +55,8 @@ returns-clause-made c =
 -- a request that is aborted, or memory that ran out
 pub returns-in-Err-clause-refused : goal.returns-in-Err-clause-refused
 returns-in-Err-clause-refused c =
-    let ledger : List Entry = c.self.inside.state.entries.items in
+    let ledger : List Entry = c.self.inside.entries.items in
     let is_open : service_state (tables_of ledger) ≡ Open = subst (λ (h : Held). service_state (tables_of h.ledger) ≡ Open) (sym c.self.view_is) c.requires.is_open in
     subst (λ (h : Held). Refuses (request_result h.ledger c.args.view c.args.request.now) c.widen.result) c.self.view_is
     (refused_run ledger c.args.view c.args.request.now c.in-Err.error c.widen.result c.requires.spelled is_open
-    (c.in-Err.ensures.stands (writes_of ledger) c.self.invariant.tables_are) c.widen.ensures)
+    (c.in-Err.ensures.stands (writes_of ledger) c.self.invariant.stands.tables_are) c.widen.ensures)

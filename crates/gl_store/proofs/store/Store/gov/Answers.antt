@@ -4,4 +4,4 @@ use Rattle.gl_store.specs.Kept.{Held}
 use Rattle.gl_store.proofs.store.Store.gov.Goals as goal
 
 pub returns : goal.returns
-returns c = record { gov = subst (λ (h : Held). c.self.inside.state.gov ≡ requests_of h.ledger) c.self.view_is c.self.invariant.governed }
+returns c = record { gov = subst (λ (h : Held). c.self.inside.state.gov ≡ requests_of h.ledger) c.self.view_is c.self.invariant.stands.governed }

@@ -11,8 +11,8 @@ returns-then-seqno-ne2-clause-refused c =
 
 pub invariant_of-self : goal.invariant_of-self
 invariant_of-self c =
-    let two : length c.self.inside.state.entries.items ≡ 2 = subst (λ (h : Held). length h.ledger ≡ 2) (sym c.self.view_is) (omega arith) in
-    kept_opened c.self.inside.state.entries.items _ c.self.invariant two
+    let two : length c.self.inside.entries.items ≡ 2 = subst (λ (h : Held). length h.ledger ≡ 2) (sym c.self.view_is) (omega arith) in
+    kept_opened c.self.inside.entries.items _ c.self.invariant two
 
 pub returns-clause-opened : goal.returns-clause-opened
 returns-clause-opened c =

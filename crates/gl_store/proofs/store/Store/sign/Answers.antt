@@ -19,7 +19,7 @@ signature_entry-requires-clause-endorsement c = short_endorsement c.args.node _ 
 pub push-requires : goal.push-requires
 push-requires c =
     let room : length c.args.self.now.ledger < last_seqno = subst (λ (h : Held). length h.ledger < last_seqno) c.self.view_is (omega arith) in
-    signing_unbroken c.self.inside.state.entries.items _ c.args.self.now c.args.view c.args.node c.args.signer.now c.in_ok-entry.entry c.self.invariant c.self.view_is
+    signing_unbroken c.self.inside.entries.items _ c.args.self.now c.args.view c.args.node c.args.signer.now c.in_ok-entry.entry c.self.invariant c.self.view_is
     c.requires.up_to room c.in_ok-entry.ensures.leaf c.requires.signer c.requires.recorded c.requires.commit c.in_ok-entry.ensures.made c.in_ok-entry.ensures.fits
 
 pub returns-clause-made : goal.returns-clause-made

@@ -1,29 +1,23 @@
 use Rattle.std.proofs.Common.{rules, arith, ◌≡◌, ◌+◌, ◌<◌, true, length, refl, subst, sym}
 use Rattle.gl_merkle.specs.Tree.{root_of}
-use Rattle.gl_merkle.specs.Frontier.{count_of}
 use Rattle.gl_base.specs.Bytes.{is_digest}
 use Rattle.gl_entry.proofs.Fitting.{is_digest-from}
 use Rattle.gl_ledger.specs.Tree.{leaves_of}
 use Rattle.gl_ledger.proofs.SignatureEntries.{signed_fits}
 use Rattle.gl_store.specs.Kept.{Held}
-use Rattle.gl_store.proofs.TablesLaws.{of_frontier, count_of_frontier}
+use Rattle.gl_store.specs.declared.ledger_end.LedgerEnd.{LedgerEnd}
 use Rattle.gl_store.proofs.store.Store.signature_entry.Goals as goal
 
 pub root-root-requires : goal.root-root-requires
 root-root-requires c =
-    let k = c.self.inside in
-    let ledger = k.state.entries.items in
-    let count : count_of k.state.frontier ≡ length ledger = count_of_frontier k.state.frontier ledger c.self.invariant.tree in
-    let some : 0 < length ledger = subst (λ (h : Held). 0 < length h.ledger) (sym c.self.view_is) c.requires.some in
-    omega (arith, count, some)
+    let k = c.self.invariant.stands in
+    let some : 0 < length c.self.inside.entries.items = subst (λ (h : Held). 0 < length h.ledger) (sym c.self.view_is) c.requires.some in
+    record { state = (c.self.inside.entries.items, k); some = subst (λ (end : LedgerEnd). 0 < end.len) (sym k.ends) some }
 
 pub returns-clause-made : goal.returns-clause-made
 returns-clause-made c =
-    let k = c.self.inside in
-    let ledger = k.state.entries.items in
     let root : c.root-root.result ≡ root_of (leaves_of c.args.self.now.ledger) =
-    subst (λ (h : Held). c.root-root.result ≡ root_of (leaves_of h.ledger)) c.self.view_is
-    (of_frontier k.state.frontier (leaves_of ledger) (λ leaves. c.root-root.result ≡ root_of leaves) c.self.invariant.tree c.root-root.ensures) in
+    subst (λ (h : Held). c.root-root.result ≡ root_of (leaves_of h.ledger)) c.self.view_is (c.root-root.ensures c.self.inside.entries.items c.self.invariant.stands) in
     let len : c.len.result ≡ length c.args.self.now.ledger = subst (λ (h : Held). c.len.result ≡ length h.ledger) c.self.view_is (omega arith) in
     rw (c.in_ok-signature.ensures.bytes, c.signed_message.ensures, root, len, c.new.ensures) refl
 

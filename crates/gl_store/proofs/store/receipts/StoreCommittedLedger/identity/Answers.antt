@@ -5,5 +5,5 @@ use Rattle.gl_store.proofs.store.receipts.StoreCommittedLedger.identity.Goals as
 
 pub unreachable-requires : goal.unreachable-requires
 unreachable-requires c =
-    let ledger = c.self.inside.state.entries.items in
-    keyed ledger _ c.self.invariant (subst (λ (h : Held). 0 < length h.ledger) (sym c.self.view_is) c.requires) c.in_default.is
+    let ledger = c.self.inside.entries.items in
+    keyed ledger _ c.self.invariant.stands (subst (λ (h : Held). 0 < length h.ledger) (sym c.self.view_is) c.requires) c.in_default.is

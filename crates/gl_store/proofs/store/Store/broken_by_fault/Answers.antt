@@ -1,9 +1,0 @@
-use Rattle.std.proofs.Common.{◌<◌, length, subst, sym}
-use Rattle.gl_store.specs.Kept.{Held}
-use Rattle.gl_store.proofs.Keeping.{keyed}
-use Rattle.gl_store.proofs.store.Store.broken_by_fault.Goals as goal
-
-pub unreachable-requires : goal.unreachable-requires
-unreachable-requires c =
-    let ledger = c.self.inside.state.entries.items in
-    keyed ledger _ c.self.invariant (subst (λ (h : Held). 0 < length h.ledger) (sym c.self.view_is) c.requires.some) c.in_default.is

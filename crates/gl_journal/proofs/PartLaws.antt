@@ -1,0 +1,68 @@
+-- What bytes open to, by the parts that they are made of.
+use Rattle.std.proofs.Common.{◌≡◌, ℕ, ◌+◌, ◌^◌, ◌<◌, List, [], ◌∷◌, ◌++◌, length, drop, Option, None, Some, Ok, Err, Vec, refl, sym, ◌∙◌, ap, arith, append_assoc, length-append}
+use Rattle.std.proofs.lemmas.List.{append-nil}
+use Rattle.std.specs.declared.alloc.Global.{Global}
+use Rattle.gl_base.specs.declared.fault.CutFault.{CutFault}
+use Rattle.gl_journal.specs.Gates.{body_of, batches, payload_at, Opening, payloads_from, mismatch, opening_answer, payloads_of}
+use Rattle.gl_journal.specs.Parts.{FileParts, Parts, IsClosed, items_of}
+use Rattle.gl_journal.specs.declared.fault.JournalFault.TheVariants.{NotJournal}
+use Rattle.gl_journal.proofs.Headers.{begins_with}
+use Rattle.gl_journal.proofs.Openings.{with_front, opened_closed, opened_end, opened_cut, opened_batches, payloads_of_file, Fit-push, batches-push, length-body}
+
+pub items_of-push : (payloads : List (Vec ℕ Global)) (payload : Vec ℕ Global) → items_of (payloads ++ payload ∷ []) ≡ items_of payloads ++ payload.items ∷ []
+items_of-push [] payload = refl
+items_of-push (first ∷ payloads) payload = ap (λ (l : List (List ℕ)). first.items ∷ l) (items_of-push payloads payload)
+
+pub opens_to_parts : (at : ℕ) (bytes : List ℕ) (payloads : List (List ℕ)) (place : ℕ) (rest : List ℕ) → Parts at bytes payloads place rest → payloads_from at bytes ≡ with_front payloads (payloads_from place rest)
+opens_to_parts at bytes payloads place rest parts =
+    ap (payloads_from at) parts.split ∙ opened_batches at payloads rest parts.fit ∙ ap (λ (n : ℕ). with_front payloads (payloads_from n rest)) (sym parts.current)
+
+nothing_open : (place : ℕ) (rest : List ℕ) → IsClosed rest → payloads_from place rest ≡ Ok []
+nothing_open place [] shut = opened_end place
+nothing_open place (gate ∷ tail) shut = opened_closed place gate tail shut
+
+-- where no gate is open behind them, the payloads are all
+pub opens_whole : (at : ℕ) (bytes : List ℕ) (payloads : List (List ℕ)) (place : ℕ) (rest : List ℕ) → Parts at bytes payloads place rest → IsClosed rest → payloads_from at bytes ≡ Ok payloads
+opens_whole at bytes payloads place rest parts shut =
+    opens_to_parts at bytes payloads place rest parts ∙ ap (with_front payloads) (nothing_open place rest shut) ∙ ap (λ (l : List (List ℕ)). Ok l) (append-nil payloads)
+
+-- where the next batch isn't whole, its place is opening_answer
+pub opens_cut : (at : ℕ) (bytes : List ℕ) (payloads : List (List ℕ)) (place : ℕ) (behind : List ℕ) (fault : CutFault) → Parts at bytes payloads place (1 ∷ behind) → payload_at (place + 1) behind ≡ Err fault
+    → payloads_from at bytes ≡ Err (place + 1)
+opens_cut at bytes payloads place behind fault parts is =
+    opens_to_parts at bytes payloads place (1 ∷ behind) parts ∙ ap (with_front payloads) (opened_cut place behind fault is)
+
+-- one batch more
+pub parts_push : (at : ℕ) (bytes : List ℕ) (payloads : List (List ℕ)) (place : ℕ) (behind payload : List ℕ) (place' : ℕ) (rest : List ℕ) → Parts at bytes payloads place (1 ∷ behind)
+    → behind ≡ body_of payload ++ rest → length payload < 2 ^ 32 → place' ≡ place + 5 + length payload → Parts at bytes (payloads ++ payload ∷ []) place' rest
+parts_push at bytes payloads place behind payload place' rest parts is small next =
+    let whole : bytes ≡ batches (payloads ++ payload ∷ []) ++ rest = parts.split ∙ ap (λ (l : List ℕ). batches payloads ++ 1 ∷ l) is ∙ sym (batches-push payloads payload rest) in record {
+      split = whole;
+      fit = Fit-push payloads payload parts.fit small;
+      current = omega (arith, parts.current, ap length whole, ap length parts.split, ap length is, length-append (batches payloads) (1 ∷ behind), length-append (batches (payloads ++ payload ∷ [])) rest, length-append (body_of payload) rest, length-body payload);
+    }
+
+-- a file that begins with its header
+pub file_parts : (header bytes : List ℕ) (payloads : List (List ℕ)) (place : ℕ) (rest : List ℕ) → mismatch header bytes ≡ None → Parts (length header) (drop (length header) bytes) payloads place rest → IsClosed rest
+    → FileParts header bytes payloads place rest
+file_parts header bytes payloads place rest begins parts shut = record {
+  split = begins_with header bytes begins ∙ ap (λ (l : List ℕ). header ++ l) parts.split ∙ sym (append_assoc header (batches payloads) rest);
+  fit = parts.fit;
+  current = omega (arith, parts.current, length-append header (batches payloads));
+  closed = shut;
+}
+
+pub file_opens : (header bytes : List ℕ) (opening : Opening) → mismatch header bytes ≡ None → payloads_from (length header) (drop (length header) bytes) ≡ opening → payloads_of header bytes ≡ opening_answer None opening
+unfolding payloads_of
+file_opens header bytes opening begins is = ap (λ (o : Option ℕ). opening_answer o (payloads_from (length header) (drop (length header) bytes))) begins ∙ ap (opening_answer None) is
+
+pub file_differs : (header bytes : List ℕ) (at : ℕ) → mismatch header bytes ≡ Some at → payloads_of header bytes ≡ Err (NotJournal at)
+unfolding payloads_of
+file_differs header bytes at is = ap (λ (o : Option ℕ). opening_answer o (payloads_from (length header) (drop (length header) bytes))) is
+
+-- what the parts of a file open to
+pub opens_by_parts : (header bytes : List ℕ) (payloads : List (List ℕ)) (place : ℕ) (rest : List ℕ) → FileParts header bytes payloads place rest → payloads_of header bytes ≡ Ok payloads
+opens_by_parts header bytes payloads place rest parts =
+    ap (payloads_of header) parts.split ∙ payloads_of_file header payloads rest parts.fit
+    ∙ ap (λ (o : Opening). opening_answer None (with_front payloads o)) (nothing_open (length (header ++ batches payloads)) rest parts.closed)
+    ∙ ap (λ (l : List (List ℕ)). Ok l) (append-nil payloads)

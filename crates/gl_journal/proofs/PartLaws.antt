@@ -1,6 +1,6 @@
 -- What bytes open to, by the parts that they are made of.
-use Rattle.std.proofs.Common.{◌≡◌, ℕ, ◌+◌, ◌^◌, ◌<◌, List, [], ◌∷◌, ◌++◌, length, drop, Option, None, Some, Ok, Err, Vec, refl, sym, ◌∙◌, ap, arith, append_assoc, length-append}
-use Rattle.std.proofs.lemmas.List.{append-nil}
+use Rattle.std.proofs.Common.{◌≡◌, ℕ, zero, suc, ◌+◌, ◌^◌, ◌<◌, List, [], ◌∷◌, ◌++◌, length, get_or, take, drop, Option, None, Some, Ok, Err, Vec, refl, sym, ◌∙◌, ap, arith, append_assoc, length-append}
+use Rattle.std.proofs.lemmas.List.{append-nil, drop_more}
 use Rattle.std.specs.declared.alloc.Global.{Global}
 use Rattle.gl_base.specs.declared.fault.CutFault.{CutFault}
 use Rattle.gl_journal.specs.Gates.{body_of, batches, payload_at, Opening, payloads_from, mismatch, opening_answer, payloads_of}
@@ -9,9 +9,9 @@ use Rattle.gl_journal.specs.declared.fault.JournalFault.TheVariants.{NotJournal}
 use Rattle.gl_journal.proofs.Headers.{begins_with}
 use Rattle.gl_journal.proofs.Openings.{with_front, opened_closed, opened_end, opened_cut, opened_batches, payloads_of_file, Fit-push, batches-push, length-body}
 
-pub items_of-push : (payloads : List (Vec ℕ Global)) (payload : Vec ℕ Global) → items_of (payloads ++ payload ∷ []) ≡ items_of payloads ++ payload.items ∷ []
-items_of-push [] payload = refl
-items_of-push (first ∷ payloads) payload = ap (λ (l : List (List ℕ)). first.items ∷ l) (items_of-push payloads payload)
+pub items_of_push : (payloads : List (Vec ℕ Global)) (payload : Vec ℕ Global) → items_of (payloads ++ payload ∷ []) ≡ items_of payloads ++ payload.items ∷ []
+items_of_push [] payload = refl
+items_of_push (first ∷ payloads) payload = ap (λ (l : List (List ℕ)). first.items ∷ l) (items_of_push payloads payload)
 
 pub opens_to_parts : (at : ℕ) (bytes : List ℕ) (payloads : List (List ℕ)) (place : ℕ) (rest : List ℕ) → Parts at bytes payloads place rest → payloads_from at bytes ≡ with_front payloads (payloads_from place rest)
 opens_to_parts at bytes payloads place rest parts =
@@ -66,3 +66,16 @@ opens_by_parts header bytes payloads place rest parts =
     ap (payloads_of header) parts.split ∙ payloads_of_file header payloads rest parts.fit
     ∙ ap (λ (o : Opening). opening_answer None (with_front payloads o)) (nothing_open (length (header ++ batches payloads)) rest parts.closed)
     ∙ ap (λ (l : List (List ℕ)). Ok l) (append-nil payloads)
+
+-- the first of the lists that are left
+pub items_of_drop : (lists : List (Vec ℕ Global)) (i : ℕ) (first : Vec ℕ Global) → i < length lists → first ≡ get_or lists i first → items_of (drop i lists) ≡ first.items ∷ items_of (drop (i + 1) lists)
+items_of_drop lists i first below is = ap items_of (drop_more lists i first below ∙ ap (λ (v : Vec ℕ Global). v ∷ drop (i + 1) lists) (sym is))
+
+pub length_items_of : (lists : List (Vec ℕ Global)) → length (items_of lists) ≡ length lists
+length_items_of [] = refl
+length_items_of (first ∷ lists) = ap suc (length_items_of lists)
+
+pub items_of_take : (n : ℕ) (lists : List (Vec ℕ Global)) → items_of (take n lists) ≡ take n (items_of lists)
+items_of_take zero lists = refl
+items_of_take (suc n) [] = refl
+items_of_take (suc n) (first ∷ lists) = ap (λ (l : List (List ℕ)). first.items ∷ l) (items_of_take n lists)

@@ -82,6 +82,7 @@ impl<D: Disk> Gated<D> {
             × (payloads_of header (D.bytes gated.disk) ≡ Ok [])) }
         ensures header { IfOk result (λ gated. gated.header ≡ header) }
         ensures empty { IsTrue D.honest → IsOk result → D.bytes disk ≡ [] }
+        ensures quiet { IfOk result (λ gated. D.faults gated.disk ≡ D.faults disk) }
         ensures not_empty { IsTrue D.honest → (len : ℕ) (back : D) →
             result ≡ Err (OrNoMemory.Fault (JournalFault.NotEmpty len), back) →
             (len ≡ length (D.bytes disk)) × (0 < len) }
@@ -136,6 +137,7 @@ impl<D: Disk> Gated<D> {
             IfErr result (λ e. Leaves (OpensAsBefore header (D.bytes disk) (D.past disk))
             (D.past disk) (D.past e.1)) }
 
+        ensures quiet { IfOk result (λ found. D.faults found.0.disk ≡ D.faults disk) }
         ensures disk_fault { (back : D) →
             result ≡ Err (OrNoMemory.Fault JournalFault.DiskFault, back) →
             Rose (D.faults disk) (D.faults back) }

@@ -4,7 +4,7 @@ use Rattle.gl_journal.specs.Gates.{length_limit, payload_at, body_of}
 use Rattle.gl_journal.specs.Parts.{Parts, items_of}
 use Rattle.gl_journal.specs.declared.fault.JournalFault.TheVariants.{BadRecord}
 use Rattle.gl_journal.proofs.Openings.{payload_facts, length-body}
-use Rattle.gl_journal.proofs.PartLaws.{items_of-push, opens_cut, parts_push}
+use Rattle.gl_journal.proofs.PartLaws.{items_of_push, opens_cut, parts_push}
 use Rattle.gl_journal.proofs.reading.read_batches.Goals as goal
 
 pub returns-in_default-bytes-clause-fault : goal.returns-in_default-bytes-clause-fault
@@ -31,7 +31,7 @@ loop-behind-preserved c =
     let more = parts_push at bytes payloads place behind payload new.at new.bytes parts spelled facts.0 (omega (arith, facts.1)) in
     let copied : c.in-Ok-to_vec.copy.items ≡ payload = search rules in
     let items : items_of c.push.new.self.items ≡ payloads ++ payload ∷ [] =
-    ap items_of c.in-Ok-push.ensures.items ∙ items_of-push c.loop-behind.payloads.items c.in-Ok-to_vec.copy ∙ ap (λ (l : List ℕ). payloads ++ l ∷ []) copied in
+    ap items_of c.in-Ok-push.ensures.items ∙ items_of_push c.loop-behind.payloads.items c.in-Ok-to_vec.copy ∙ ap (λ (l : List ℕ). payloads ++ l ∷ []) copied in
     let same = subst (λ (l : List (List ℕ)). Parts at bytes l new.at new.bytes) (sym items) more in
     let placed = subst (λ (n : ℕ). Parts at bytes (items_of c.push.new.self.items) n new.bytes) (sym c.at-place.ensures) same in
     record {

@@ -1,0 +1,21 @@
+use Rattle.std.proofs.Common.{◌≡◌, ℕ, List, ◌++◌, sym, ◌∙◌, ap}
+use Rattle.gl_journal.specs.Gates.{payloads_of, with_last}
+use Rattle.gl_journal.specs.Records.{Key, record_bytes}
+use Rattle.gl_journal.specs.Durable.{journal_header}
+use Rattle.gl_journal.proofs.DurableLaws.{durable_first, when_ok}
+use Rattle.gl_journal.proofs.journal.Journal.keep_key.Goals as goal
+
+pub returns-clause-kept : goal.returns-clause-kept
+returns-clause-kept g c h goes_on =
+    let key = c.args.key.now in
+    let bytes = g.D.Disk.bytes c.args.self.now.gated.disk in
+    let bytes' = g.D.Disk.bytes c.append.new.self.disk in
+    let before = c.args.self.now.gated.header in
+    let header : before ≡ journal_header = (c.requires.open h).header in
+    let payload : c.deref.result.now ≡ record_bytes (Key key) = c.deref.ensures.value ∙ c.put_key.ensures.put ∙ ap (λ (l : List ℕ). l ++ record_bytes (Key key)) c.clear.ensures.items in
+    when_ok c.append.result
+    (λ (is : payloads_of c.append.new.self.header bytes' ≡ with_last c.deref.result.now (payloads_of before bytes)).
+    durable_first goes_on bytes bytes' c.deref.result.now key (c.requires.none h) c.put_key.ensures.fields payload
+    (ap (λ (l : List ℕ). payloads_of l bytes') (sym (c.append.ensures.header ∙ header)) ∙ is
+    ∙ ap (λ (l : List ℕ). with_last c.deref.result.now (payloads_of l bytes)) header))
+    (c.append.ensures.kept h)

@@ -1,0 +1,170 @@
+-- The durable state that the records of a journal fold into, and what a file opens to.
+use Rattle.std.specs.Prelude.{◌≡◌, ◌⊎◌, ℕ, zero, suc, ◌+◌, ◌-◌, ◌^◌, Bool, true, false, ◌||◌, List, [], ◌∷◌, ◌++◌, length, take, Option, None, Some, Result, Ok, Err, ◌==◌, nat_lt, if◌then◌else◌}
+use Rattle.gl_base.specs.Cut.{Unread}
+use Rattle.gl_base.specs.declared.fault.CutFault.{CutFault}
+use Rattle.gl_lms.specs.Types.{height}
+use Rattle.gl_outside.specs.Disk.{Step, IsImage}
+use Rattle.gl_journal.specs.Gates.{payload_at, payloads_of}
+use Rattle.gl_journal.specs.Parts.{HasGate}
+use Rattle.gl_journal.specs.Records.{Rec, Key, Vote, Cut, Append, Signer, Install, Start, then_some, record_of}
+use Rattle.gl_journal.specs.declared.fault.JournalFault.{JournalFault}
+use Rattle.gl_journal.specs.declared.fault.JournalFault.TheVariants.{NotJournal, BadRecord}
+use Rattle.gl_journal.specs.declared.key.Key.{Key as KeyFields}
+
+-- What a node, a member or a service keeps.
+pub record Durable : Type 0 where
+  pub key : KeyFields
+  -- the view that it is in, the node that it voted for there, and whether a Vote record was there
+  pub view : ℕ
+  pub vote : Option (List ℕ)
+  pub has_vote_record : Bool
+  -- the frames of its ledger's entries from the base on
+  pub base : ℕ
+  pub log : List (List ℕ)
+  -- how many leaves of the key are spent or reserved, and how many the start of a service spent
+  pub reserved : ℕ
+  pub start : Option ℕ
+
+-- A key alone. The first view is 2.
+abbrev pub key_alone : KeyFields → Durable
+key_alone key = record {
+  key = key;
+  view = 2;
+  vote = None;
+  has_vote_record = false;
+  base = 0;
+  log = [];
+  reserved = 0;
+  start = None;
+}
+
+-- The number of leaves of its key's tree.
+abbrev pub leaf_count : Durable → ℕ
+leaf_count state = 2 ^ height state.key.types
+
+-- Whether a frame goes on the entries with these frames.
+abbrev pub GoesOn : Type 0
+GoesOn = List (List ℕ) → List ℕ → Bool
+
+-- One record more behind a key, where it folds. A key is the first record alone, and a view, the
+-- count of leaves and a ledger's base never fall.
+abbrev pub fold_record : GoesOn → Durable → Rec → Option Durable
+fold_record goes_on state (Key key) = None
+fold_record goes_on state (Vote view vote) =
+    if nat_lt view state.view then None
+    else Some (record state { view = view; vote = vote; has_vote_record = true })
+fold_record goes_on state (Cut to) =
+    if nat_lt to state.base || nat_lt (state.base + length state.log) to then None
+    else Some (record state { log = take (to - state.base) state.log })
+fold_record goes_on state (Append frame) =
+    if goes_on state.log frame then Some (record state { log = state.log ++ frame ∷ [] }) else None
+fold_record goes_on state (Signer reserved) =
+    if nat_lt reserved state.reserved || nat_lt (leaf_count state) reserved then None
+    else Some (record state { reserved = reserved })
+fold_record goes_on state (Install body) = None
+fold_record goes_on state (Start leaves) =
+    if nat_lt (leaf_count state) leaves then None else Some (record state { start = Some leaves })
+
+-- Records, one behind the other, where all of them fold.
+abbrev pub fold_records : GoesOn → Durable → List Rec → Option Durable
+fold_records goes_on state [] = Some state
+fold_records goes_on state (rec ∷ recs) =
+    then_some (fold_record goes_on state rec) (λ next. fold_records goes_on next recs)
+
+-- The first record, which is a key.
+abbrev pub first_record : Rec → Option Durable
+first_record (Key key) = Some (key_alone key)
+first_record (Vote view vote) = None
+first_record (Cut to) = None
+first_record (Append frame) = None
+first_record (Signer reserved) = None
+first_record (Install body) = None
+first_record (Start leaves) = None
+
+-- One record more behind those before it, if there were any.
+unfoldable pub fold_next : GoesOn → Option Durable → Rec → Option Durable
+fold_next goes_on None rec = first_record rec
+fold_next goes_on (Some state) rec = fold_record goes_on state rec
+
+-- What records fold into so far, or the place of the first that doesn't spell or fold.
+abbrev pub Folding : Type 0
+Folding = Result (Option Durable) ℕ
+
+abbrev pub Next : Type 0
+Next = ℕ → List ℕ → Option Durable → Folding
+
+abbrev pub after_fold : ℕ → Option Durable → Unread → Next → Folding
+after_fold at None new next = Err at
+after_fold at (Some state) new next = next new.at new.bytes (Some state)
+
+abbrev pub after_record : GoesOn → ℕ → Option Rec → Option Durable → Unread → Next → Folding
+after_record goes_on at None state new next = Err at
+after_record goes_on at (Some rec) state new next =
+    after_fold at (fold_next goes_on state rec) new next
+
+abbrev pub after_body : GoesOn → ℕ → ℕ → Option Durable → Result (List ℕ × Unread) CutFault → Next
+    → Folding
+after_body goes_on at kind state (Err fault) next = Err at
+after_body goes_on at kind state (Ok read) next =
+    after_record goes_on at (record_of kind read.0) state read.1 next
+
+-- At most so many records, from a place on.
+abbrev pub fold_within : GoesOn → ℕ → ℕ → List ℕ → Option Durable → Folding
+fold_within goes_on zero at bytes state = Ok state
+fold_within goes_on (suc count) at [] state = Ok state
+fold_within goes_on (suc count) at (kind ∷ bytes) state =
+    after_body goes_on at kind state (payload_at (at + 1) bytes) (fold_within goes_on count)
+
+-- The records of a payload of which the first byte stands at a place. There are at most as many as
+-- bytes.
+unfoldable pub fold_payload : GoesOn → ℕ → List ℕ → Option Durable → Folding
+fold_payload goes_on at payload state = fold_within goes_on (length payload) at payload state
+
+abbrev pub then_folding : Folding → (Option Durable → Folding) → Folding
+then_folding (Ok state) f = f state
+then_folding (Err at) f = Err at
+
+-- The records of payloads, of which the first stands behind the gate at a place.
+abbrev pub fold_payloads : GoesOn → ℕ → List (List ℕ) → Option Durable → Folding
+fold_payloads goes_on place [] state = Ok state
+fold_payloads goes_on place (payload ∷ payloads) state =
+    then_folding (fold_payload goes_on (place + 5) payload state)
+    (fold_payloads goes_on (place + 5 + length payload) payloads)
+
+-- The first record of the first payload is of the kind of a key.
+abbrev pub begins_with_key : List (List ℕ) → Bool
+begins_with_key [] = false
+begins_with_key ([] ∷ payloads) = false
+begins_with_key ((kind ∷ payload) ∷ payloads) = kind == 1
+
+abbrev pub fold_answer : Folding → Result Durable JournalFault
+fold_answer (Ok None) = Err (NotJournal 8)
+fold_answer (Ok (Some state)) = Ok state
+fold_answer (Err at) = Err (BadRecord at)
+
+abbrev pub durable_of : GoesOn → Result (List (List ℕ)) JournalFault → Result Durable JournalFault
+durable_of goes_on (Err fault) = Err fault
+durable_of goes_on (Ok payloads) =
+    if begins_with_key payloads then fold_answer (fold_payloads goes_on 8 payloads None)
+    else Err (NotJournal 8)
+
+-- GLJOURN1
+abbrev pub journal_header : List ℕ
+journal_header = 71 ∷ 76 ∷ 74 ∷ 79 ∷ 85 ∷ 82 ∷ 78 ∷ 49 ∷ []
+
+-- The durable state that a file opens to.
+unfoldable pub durable : GoesOn → List ℕ → Result Durable JournalFault
+durable goes_on file = durable_of goes_on (payloads_of journal_header file)
+
+-- An image has its closed gate, and opens to the one state or to the other.
+abbrev pub OpensToOneOf : GoesOn → Durable → Durable → List ℕ → Type 0
+OpensToOneOf goes_on state next image =
+    HasGate journal_header image
+    × ((durable goes_on image ≡ Ok state) ⊎ (durable goes_on image ≡ Ok next))
+
+-- An image that a stop might have left before, or one that has its closed gate and opens to the
+-- state that these bytes open to.
+abbrev pub OpensToTheSame : GoesOn → List ℕ → List Step → List ℕ → Type 0
+OpensToTheSame goes_on bytes past image =
+    IsImage past image
+    ⊎ (HasGate journal_header image × (durable goes_on image ≡ durable goes_on bytes))

@@ -1,0 +1,19 @@
+-- A journal whose file is kept, and its room.
+use Rattle.std.specs.Prelude.{◌≡◌, ℕ, ◌≤◌, List, vec_capacity}
+use Rattle.gl_outside.specs.Disk.{Step}
+use Rattle.gl_journal.specs.Stops.{IsOpen, Fits}
+use Rattle.gl_journal.specs.Durable.{journal_header}
+use Rattle.gl_journal.specs.declared.journal.Journal.{Journal}
+
+-- Over a disk with these bytes and this history: the file is a settled journal, and the next batch
+-- goes behind its closed gate.
+pub record IsKept {D : Type 0} (bytes : D → List ℕ) (past : D → List Step) (journal : Journal D)
+    : Type 0 where
+  pub header : journal.gated.header ≡ journal_header
+  pub settled : IsOpen bytes past journal.gated
+
+-- There is memory for a batch of so many bytes, over a disk with this room.
+pub record HasBatchRoom {D : Type 0} (room_end room_calls : D → ℕ) (journal : Journal D) (size : ℕ)
+    : Type 0 where
+  pub buffer : size ≤ vec_capacity journal.buffer
+  pub disk : Fits room_end room_calls journal.gated size

@@ -1,0 +1,118 @@
+//! What a journal holds, folded from its records.
+
+ghost use Rattle.std.specs.Prelude.{◌≡◌, true, false, Option, Some, None, Ok, IsSome, option_map};
+ghost use Rattle.gl_journal.specs.Durable.{fold_record, fold_next, key_alone, leaf_count};
+ghost use Rattle.gl_journal.specs.RecordView.{rec_of, state_of};
+
+use crate::entry_log::EntryLog;
+use crate::key::Key;
+use crate::record::Record;
+use gl_base::FIRST_VIEW;
+use std::alloc::{AllocError, Global};
+
+/// What a node, a member or a service keeps.
+#[derive(Debug, Drop)]
+pub struct Durable<L> {
+    pub key: Key,
+    /// The view that it is in.
+    pub view: u32,
+    /// The node that it voted for in that view.
+    pub vote: Option<[u8; 32]>,
+    /// Whether a Vote record was there: also a node that gave no vote may have one.
+    pub has_vote_record: bool,
+    /// The place behind which `log` begins.
+    pub base: u64,
+    pub log: L,
+    /// How many leaves of the key are spent or reserved.
+    pub reserved: u32,
+    /// How many leaves the start of a service spent.
+    pub start: Option<u32>,
+}
+
+impl<L: EntryLog> Durable<L> {
+    /// A key alone.
+    fn new(alloc: Global, key: Key) -> Self
+        ensures { state_of L.frames result ≡ key_alone key }
+    {
+        Durable {
+            key,
+            view: FIRST_VIEW,
+            vote: None,
+            has_vote_record: false,
+            base: 0,
+            log: L::new(alloc),
+            reserved: 0,
+            start: None,
+        }
+    }
+
+    /// Takes one record more behind the key, and answers whether it folds.
+    fn fold_record(&mut self, alloc: Global, one: &Record<'_>) -> Result<bool, AllocError>
+        ensures folds { result ≡ Ok true →
+            fold_record L.goes_on (state_of L.frames self.old) (rec_of one.now)
+            ≡ Some (state_of L.frames self.new) }
+        ensures refuses { result ≡ Ok false →
+            fold_record L.goes_on (state_of L.frames self.old) (rec_of one.now) ≡ None }
+    {
+        match one {
+            Record::Key(_) | Record::Install { .. } => Ok(false),
+            Record::Vote { view, vote } => {
+                if *view < self.view {
+                    return Ok(false);
+                }
+                self.view = *view;
+                self.vote = *vote;
+                self.has_vote_record = true;
+                Ok(true)
+            }
+            Record::Cut { to } => {
+                if *to < self.base || *to - self.base > self.log.len() {
+                    return Ok(false);
+                }
+                self.log.cut(*to - self.base);
+                Ok(true)
+            }
+            Record::Append { frame } => self.log.push(alloc, frame),
+            Record::Signer { reserved } => {
+                if *reserved < self.reserved || *reserved > self.key.types.leaf_count() {
+                    return Ok(false);
+                }
+                self.reserved = *reserved;
+                Ok(true)
+            }
+            Record::Start { leaves } => {
+                if *leaves > self.key.types.leaf_count() {
+                    return Ok(false);
+                }
+                self.start = Some(*leaves);
+                Ok(true)
+            }
+        }
+    }
+}
+
+/// Takes one record more, which is a key if it is the first, and answers whether it folds.
+#[tactic(auto, unfolding(crate::specs::Durable::fold_next))]
+pub(crate) fn fold_next<L: EntryLog>(
+    state: &mut Option<Durable<L>>,
+    alloc: Global,
+    one: &Record<'_>,
+) -> Result<bool, AllocError>
+    ensures folds { result ≡ Ok true →
+        fold_next L.goes_on (option_map (state_of L.frames) state.old) (rec_of one.now)
+        ≡ option_map (state_of L.frames) state.new }
+    ensures refuses { result ≡ Ok false →
+        fold_next L.goes_on (option_map (state_of L.frames) state.old) (rec_of one.now) ≡ None }
+    ensures some { result ≡ Ok true → IsSome (option_map (state_of L.frames) state.new) }
+{
+    match state {
+        Some(durable) => durable.fold_record(alloc, one),
+        None => match one {
+            Record::Key(key) => {
+                *state = Some(Durable::new(alloc, *key));
+                Ok(true)
+            }
+            _ => Ok(false),
+        },
+    }
+}

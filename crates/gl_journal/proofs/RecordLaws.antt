@@ -115,3 +115,10 @@ next_sizes d records i out out' below is =
       omega (arith, ap length is, length-append out one, ap length (first_bytes d records i below), length-append one rest),
       omega (arith, ap length (first_bytes d records i below), length-append one rest),
     )
+
+pub next_len : (d : Record) (records : List Record) (i n : ℕ) → i < length records → n ≡ length (record_body (rec_of (get_or records i d)))
+    → length (records_bytes (recs_of (drop i records))) ≡ 5 + n + length (records_bytes (recs_of (drop (i + 1) records)))
+next_len d records i n below is =
+    let body = record_body (rec_of (get_or records i d)) in
+    let rest = records_bytes (recs_of (drop (i + 1) records)) in
+    omega (arith, is, ap length (first_bytes d records i below), length-append (record_bytes (rec_of (get_or records i d))) rest, length-append (little_endian 4 (length body)) body, length-little_endian 4 (length body))

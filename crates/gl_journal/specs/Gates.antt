@@ -74,7 +74,8 @@ opening_answer None (Err at) = Err (BadRecord at)
 -- What a file under this header opens to: the payloads behind its open gates, or the fault.
 unfoldable pub payloads_of : List ℕ → List ℕ → Result (List (List ℕ)) JournalFault
 payloads_of header file =
-    opening_answer (mismatch header file) (payloads_from (length header) (drop (length header) file))
+    opening_answer (mismatch header file)
+    (payloads_from (length header) (drop (length header) file))
 
 -- The same with one payload more.
 abbrev pub with_last : {E : Type 0} → List ℕ → Result (List (List ℕ)) E → Result (List (List ℕ)) E

@@ -105,7 +105,8 @@ abbrev pub key_with : Option KeyKind → Option Types → List ℕ → Option Re
 key_with None types seed = None
 key_with (Some kind) None seed = None
 key_with (Some kind) (Some types) seed =
-    if length seed == 32 then Some (Key (record { kind = kind; types = types; seed = seed })) else None
+    if length seed == 32 then Some (Key (record { kind = kind; types = types; seed = seed }))
+    else None
 
 abbrev pub key_in : List ℕ → Option Rec
 key_in [] = None
@@ -121,7 +122,8 @@ vote_in (given ∷ id) =
 abbrev pub vote_record_in : List ℕ → Option Rec
 vote_record_in body =
     if nat_lt (length body) 5 then None
-    else then_some (vote_in (drop 4 body)) (λ vote. Some (Vote (from_little_endian (take 4 body)) vote))
+    else then_some (vote_in (drop 4 body))
+    (λ vote. Some (Vote (from_little_endian (take 4 body)) vote))
 
 -- The record of this kind with this body, where there is one.
 unfoldable pub record_of : ℕ → List ℕ → Option Rec

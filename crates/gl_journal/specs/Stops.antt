@@ -12,7 +12,8 @@ use Rattle.gl_journal.specs.declared.gated.Gated.{Gated}
 
 -- The file is the header, batches behind open gates, and at this place a closed gate; and a stop
 -- leaves it so.
-pub record IsSettled (header : List ℕ) (place : ℕ) (bytes : List ℕ) (past : List Step) : Type 0 where
+pub record IsSettled (header : List ℕ) (place : ℕ) (bytes : List ℕ) (past : List Step)
+    : Type 0 where
   pub payloads : List (List ℕ)
   pub gate : ℕ
   pub tail : List ℕ

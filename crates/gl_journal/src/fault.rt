@@ -12,8 +12,8 @@ use thiserror::Error;
 /// from 0.
 #[derive(Clone, Copy, Debug, PartialEq, Eq, Error)]
 pub enum JournalFault {
-    /// At `at` the file lacks a byte of its header, or has another there; or its first record, which
-    /// would stand there, is no key.
+    /// At `at` the file lacks a byte of its header, or has another there. At 8: its first batch
+    /// doesn't begin with a key.
     #[error("the file is no journal from {at} on")]
     NotJournal { at: u64 },
     /// The batch whose length stands at `at` is cut; or the record whose kind stands there isn't

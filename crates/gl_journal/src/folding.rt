@@ -71,7 +71,8 @@ fn fold_payloads<L: EntryLog>(
 ) -> Result<(), OrNoMemory<JournalFault>>
     requires { 8 + length (batches (items_of payloads.now)) < 2 ^ 64 }
     ensures folds { OnOk result
-        (fold_payloads L.goes_on 8 (items_of payloads.now) (option_map (state_of L.frames) state.old)
+        (fold_payloads L.goes_on 8 (items_of payloads.now)
+        (option_map (state_of L.frames) state.old)
         ≡ Ok (option_map (state_of L.frames) state.new)) }
     ensures fault { (fault : JournalFault) → result ≡ Err (OrNoMemory.Fault fault) →
         (place : ℕ) × (fault ≡ JournalFault.BadRecord place)

@@ -38,7 +38,8 @@ impl<D: Disk> Journal<D> {
         ensures room { OnOk result (HasBatchRoom D.room_end D.room_calls self.new len) }
         ensures open { IsTrue D.honest → IsKept D.bytes D.past self.old →
             IsKept D.bytes D.past self.new }
-        ensures bytes { IsTrue D.honest → D.bytes self.new.gated.disk ≡ D.bytes self.old.gated.disk }
+        ensures bytes { IsTrue D.honest →
+            D.bytes self.new.gated.disk ≡ D.bytes self.old.gated.disk }
         ensures past { IsTrue D.honest → D.past self.new.gated.disk ≡ D.past self.old.gated.disk }
         ensures faults { D.faults self.new.gated.disk ≡ D.faults self.old.gated.disk }
     {
@@ -73,7 +74,8 @@ impl<D: Disk> Journal<D> {
             fold_records goes_on state (recs_of records.now) ≡ Some next →
             Leaves (OpensToOneOf goes_on state next)
             (D.past self.old.gated.disk) (D.past self.new.gated.disk) }
-        ensures faults { Counts (D.faults self.old.gated.disk) (D.faults self.new.gated.disk) result }
+        ensures faults { Counts (D.faults self.old.gated.disk)
+            (D.faults self.new.gated.disk) result }
     {
         self.buffer.clear();
         put_records(&mut self.buffer, records);
@@ -92,7 +94,8 @@ impl<D: Disk> Journal<D> {
         ensures open { IsTrue D.honest → OnOk result (IsKept D.bytes D.past self.new) }
         ensures kept { IsTrue D.honest → (goes_on : GoesOn) →
             OnOk result (durable goes_on (D.bytes self.new.gated.disk) ≡ Ok (key_alone key.now)) }
-        ensures faults { Counts (D.faults self.old.gated.disk) (D.faults self.new.gated.disk) result }
+        ensures faults { Counts (D.faults self.old.gated.disk)
+            (D.faults self.new.gated.disk) result }
     {
         self.buffer.clear();
         put_key(&mut self.buffer, key);

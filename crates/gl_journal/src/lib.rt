@@ -21,4 +21,7 @@ pub use frame_log::FrameLog;
 pub use gated::Gated;
 pub use journal::Journal;
 pub use key::{Key, KeyKind};
-pub use record::Record;
+pub use record::{Record, batch_len};
+
+#[cfg(test)]
+mod tests;

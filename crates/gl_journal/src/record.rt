@@ -1,10 +1,10 @@
 //! The records of a journal, and their bytes.
 
-ghost use Rattle.std.specs.Prelude.{◌≡◌, ◌+◌, ◌^◌, ◌<◌, ◌≤◌, [], ◌∷◌, ◌++◌, length, vec_len, vec_capacity};
+ghost use Rattle.std.specs.Prelude.{◌≡◌, ◌+◌, ◌^◌, ◌<◌, ◌≤◌, [], ◌∷◌, ◌++◌, length, vec_len, vec_capacity, IfSome};
 ghost use Rattle.gl_base.specs.LittleEndian.{little_endian};
 ghost use Rattle.gl_lms.specs.declared.types.Types.{Types as TypesValue};
 ghost use Rattle.gl_journal.specs.Gates.{body_of};
-ghost use Rattle.gl_journal.specs.Records.{Key as KeyOf, Vote, kind_of, key_kind_tag, types_tag, record_bytes, record_body, records_bytes, IsRec, AreRecs};
+ghost use Rattle.gl_journal.specs.Records.{Key as KeyOf, Vote, kind_of, key_kind_tag, types_tag, vote_bytes, record_bytes, record_body, records_bytes, IsRec, AreRecs};
 ghost use Rattle.gl_journal.specs.RecordView.{rec_of, recs_of};
 
 use crate::key::{Key, KeyKind};
@@ -27,6 +27,63 @@ pub enum Record<'a> {
     Install { body: &'a [u8] },
     /// The start of a service spent so many leaves.
     Start { leaves: u32 },
+}
+
+impl Key {
+    /// How many bytes the body of its record has.
+    fn body_len(&self) -> u64
+        ensures bytes { result ≡ length (record_body (KeyOf self.now)) }
+        ensures value { result ≡ 34 }
+    {
+        2 + self.seed.len() as u64
+    }
+
+    /// How many bytes its record has.
+    #[tactic(auto, unfolding(gl_base::specs::LittleEndian::little_endian))]
+    pub(crate) fn record_len(&self) -> u64
+        ensures bytes { result ≡ length (record_bytes (KeyOf self.now)) }
+        ensures small { result < 2 ^ 32 }
+    {
+        5 + self.body_len()
+    }
+}
+
+/// How many bytes a view and a vote have.
+fn vote_len(vote: &Option<[u8; 32]>) -> u64
+    ensures { result ≡ 4 + length (vote_bytes vote.now) }
+{
+    match vote {
+        None => 5,
+        Some(id) => 5 + id.as_slice().len() as u64,
+    }
+}
+
+impl Record<'_> {
+    /// How many bytes its body has.
+    #[tactic(auto, unfolding(gl_base::specs::LittleEndian::little_endian))]
+    fn body_len(&self) -> u64
+        ensures { result ≡ length (record_body (rec_of self.now)) }
+    {
+        match self {
+            Record::Key(key) => key.body_len(),
+            Record::Vote { vote, .. } => vote_len(vote),
+            Record::Cut { .. } => 8,
+            Record::Append { frame } => frame.len() as u64,
+            Record::Signer { .. } | Record::Start { .. } => 4,
+            Record::Install { body } => body.len() as u64,
+        }
+    }
+}
+
+/// How many bytes the records of a batch have, if a u64 has room for that number.
+pub fn batch_len(records: &[Record<'_>]) -> Option<u64>
+    ensures { IfSome result (λ len. len ≡ length (records_bytes (recs_of records.now))) }
+{
+    let mut len: u64 = 0;
+    for one in records {
+        len = len.checked_add(5)?.checked_add(one.body_len())?;
+    }
+    Some(len)
 }
 
 /// Bytes behind others that have room for them.
@@ -123,17 +180,6 @@ fn types_tag(types: Types) -> u8
         Types::H5W8 => 2,
         Types::H10W4 => 3,
         Types::H10W8 => 4,
-    }
-}
-
-impl Key {
-    /// How many bytes its record has.
-    #[tactic(auto, unfolding(gl_base::specs::LittleEndian::little_endian))]
-    pub(crate) fn record_len(&self) -> u64
-        ensures bytes { result ≡ length (record_bytes (KeyOf self.now)) }
-        ensures small { result < 2 ^ 32 }
-    {
-        7 + self.seed.len() as u64
     }
 }
 

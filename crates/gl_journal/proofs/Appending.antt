@@ -3,19 +3,19 @@ use Rattle.std.proofs.Common.{◌≡◌, ◌≢◌, inl, inr, ℕ, ◌+◌, ◌^
 use Rattle.std.proofs.lemmas.Bool.{cases_eq}
 use Rattle.std.proofs.lemmas.List.{append-nil, take_at, drop_at, drop_more}
 use Rattle.gl_outside.specs.Disk.{Step, Torn, written, LeavesOnly}
-use Rattle.gl_journal.specs.Gates.{body_of, batches, Fit, Opening, payloads_from, opening_answer, payloads_of, with_last, with_first}
+use Rattle.gl_journal.specs.Gates.{body_of, batches, FitLengths, Opening, payloads_from, opening_answer, payloads_of, with_last, with_first}
 use Rattle.gl_journal.specs.Parts.{HasGate}
 use Rattle.gl_journal.specs.Stops.{IsSettled, OpensTo}
-use Rattle.gl_journal.proofs.Openings.{with_front, opened_closed, opened_batch, payloads_of_file, Fit-push, batches-push, length-body}
+use Rattle.gl_journal.proofs.Openings.{with_front, opened_closed, opened_batch, payloads_of_file, FitLengths-push, batches-push, length-body}
 
 -- a file of batches and a closed gate
-pub closed_file : (header : List ℕ) (payloads : List (List ℕ)) (gate : ℕ) (tail : List ℕ) → Fit payloads → gate ≢ 1 → payloads_of header (header ++ batches payloads ++ gate ∷ tail) ≡ Ok payloads
+pub closed_file : (header : List ℕ) (payloads : List (List ℕ)) (gate : ℕ) (tail : List ℕ) → FitLengths payloads → gate ≢ 1 → payloads_of header (header ++ batches payloads ++ gate ∷ tail) ≡ Ok payloads
 closed_file header payloads gate tail fit shut =
     payloads_of_file header payloads (gate ∷ tail) fit
     ∙ ap (λ (o : Opening). opening_answer None (with_front payloads o)) (opened_closed (length (header ++ batches payloads)) gate tail shut)
     ∙ ap (λ (l : List (List ℕ)). Ok l) (append-nil payloads)
 
-pub has_gate : (header image : List ℕ) (payloads : List (List ℕ)) (gate : ℕ) (tail : List ℕ) → image ≡ header ++ batches payloads ++ gate ∷ tail → Fit payloads → gate ≢ 1 → HasGate header image
+pub has_gate : (header image : List ℕ) (payloads : List (List ℕ)) (gate : ℕ) (tail : List ℕ) → image ≡ header ++ batches payloads ++ gate ∷ tail → FitLengths payloads → gate ≢ 1 → HasGate header image
 has_gate header image payloads gate tail is fit shut = record {
   payloads = payloads;
   place = length (header ++ batches payloads);
@@ -95,7 +95,7 @@ module _ (header : List ℕ) (place : ℕ) (bytes : List ℕ) (past : List Step)
     any_gate : (gate : ℕ) → OpensTo header bytes payload (front ++ gate ∷ batch_behind)
     any_gate gate = elim (cases_eq gate 1) [
       | inl is_open ↦ (
-        has_gate header (front ++ gate ∷ batch_behind) (s.payloads ++ payload ∷ []) 0 behind (ap (λ (g : ℕ). front ++ g ∷ batch_behind) is_open ∙ opened_is) (Fit-push s.payloads payload s.fit small) (λ e. omega arith),
+        has_gate header (front ++ gate ∷ batch_behind) (s.payloads ++ payload ∷ []) 0 behind (ap (λ (g : ℕ). front ++ g ∷ batch_behind) is_open ∙ opened_is) (FitLengths-push s.payloads payload s.fit small) (λ e. omega arith),
         inr (
             ap (λ (g : ℕ). payloads_of header (front ++ g ∷ batch_behind)) is_open
             ∙ payloads_of_file header s.payloads (1 ∷ batch_behind) s.fit
@@ -129,7 +129,7 @@ module _ (header : List ℕ) (place : ℕ) (bytes : List ℕ) (past : List Step)
     pub settled_after : (place' : ℕ) (bytes' : List ℕ) (past' : List Step) → place' ≡ place + 5 + length payload → bytes' ≡ written staged place (1 ∷ []) → LeavesOnly past' bytes'
         → IsSettled header place' bytes' past' × (payloads_of header bytes' ≡ with_last payload (payloads_of header bytes))
     settled_after place' bytes' past' place_is is keeps =
-        let fit = Fit-push s.payloads payload s.fit small in
+        let fit = FitLengths-push s.payloads payload s.fit small in
         let longer : length (header ++ batches (s.payloads ++ payload ∷ [])) ≡ place + 5 + length payload =
         let parts : batches (s.payloads ++ payload ∷ []) ++ [] ≡ batches s.payloads ++ (1 ∷ body_of payload ++ []) = batches-push s.payloads payload [] in
         omega (

@@ -7,7 +7,7 @@ use Rattle.gl_outside.specs.Disk.{Step}
 use Rattle.gl_base.specs.declared.or_no_memory.OrNoMemory.{OrNoMemory}
 use Rattle.gl_journal.specs.Gates.{payloads_of, with_last}
 use Rattle.gl_journal.specs.Stops.{OpensTo, OpensAsBefore}
-use Rattle.gl_journal.specs.Records.{Rec, Key, record_body, record_bytes, records_bytes, IsRec, AreRecs}
+use Rattle.gl_journal.specs.Records.{RecordValue, Key, record_body, record_bytes, records_bytes, IsRecord, AreRecords}
 use Rattle.gl_journal.specs.Durable.{Durable, GoesOn, Folding, key_alone, fold_records, fold_next, then_folding, fold_payloads, fold_answer, durable_of, durable, journal_header, OpensToOneOf, OpensToTheSame}
 use Rattle.gl_journal.specs.declared.fault.JournalFault.{JournalFault}
 use Rattle.gl_journal.specs.declared.fault.JournalFault.TheVariants.{NotJournal}
@@ -27,13 +27,13 @@ if_ok : (b : Bool) (folded : Folding) (fault : JournalFault) (state : Durable) �
 if_ok true folded fault state is = (refl, answer_ok folded state is)
 if_ok false folded fault state is = cc
 
-pub length_key : (key : KeyFields) → IsRec (Key key) → length (record_bytes (Key key)) ≡ 39
+pub length_key : (key : KeyFields) → IsRecord (Key key) → length (record_bytes (Key key)) ≡ 39
 length_key key is =
     omega (arith, is, length-append (1 ∷ little_endian 4 (length (record_body (Key key)))) (record_body (Key key)), length-little_endian 4 (length (record_body (Key key))))
 
 module _ (goes_on : GoesOn) where
   -- Where the records fold on what payloads fold into, the payloads with them fold into that.
-  durable_push : (payloads : List (List ℕ)) (recs : List Rec) (state next : Durable) → durable_of goes_on (Ok payloads) ≡ Ok state → AreRecs recs → fold_records goes_on state recs ≡ Some next → durable_of goes_on (Ok (payloads ++ records_bytes recs ∷ [])) ≡ Ok next
+  durable_push : (payloads : List (List ℕ)) (recs : List RecordValue) (state next : Durable) → durable_of goes_on (Ok payloads) ≡ Ok state → AreRecords recs → fold_records goes_on state recs ≡ Some next → durable_of goes_on (Ok (payloads ++ records_bytes recs ∷ [])) ≡ Ok next
   durable_push [] recs state next opens are is = cc
   durable_push ([] ∷ payloads) recs state next opens are is = cc
   durable_push ((kind ∷ payload) ∷ payloads) recs state next opens are is =
@@ -42,18 +42,18 @@ module _ (goes_on : GoesOn) where
       ap (λ (b : Bool). if b then fold_answer (fold_payloads goes_on 8 (all ++ records_bytes recs ∷ []) None) else Err (NotJournal 8)) both.0
       ∙ ap fold_answer (fold_payloads-push goes_on 8 all recs None state next both.1 are is)
 
-  with_records : (opening : Result (List (List ℕ)) JournalFault) (recs : List Rec) (state next : Durable) → durable_of goes_on opening ≡ Ok state → AreRecs recs → fold_records goes_on state recs ≡ Some next → durable_of goes_on (with_last (records_bytes recs) opening) ≡ Ok next
+  with_records : (opening : Result (List (List ℕ)) JournalFault) (recs : List RecordValue) (state next : Durable) → durable_of goes_on opening ≡ Ok state → AreRecords recs → fold_records goes_on state recs ≡ Some next → durable_of goes_on (with_last (records_bytes recs) opening) ≡ Ok next
   with_records (Ok payloads) recs state next opens are folds = durable_push payloads recs state next opens are folds
   with_records (Err fault) recs state next opens are folds = cc
 
   -- a file with one batch more
-  pub durable_after : (bytes bytes' : List ℕ) (recs : List Rec) (state next : Durable) → durable goes_on bytes ≡ Ok state → AreRecs recs → fold_records goes_on state recs ≡ Some next
+  pub durable_after : (bytes bytes' : List ℕ) (recs : List RecordValue) (state next : Durable) → durable goes_on bytes ≡ Ok state → AreRecords recs → fold_records goes_on state recs ≡ Some next
       → payloads_of journal_header bytes' ≡ with_last (records_bytes recs) (payloads_of journal_header bytes) → durable goes_on bytes' ≡ Ok next
   unfolding durable
   durable_after bytes bytes' recs state next opens are folds is = ap (durable_of goes_on) is ∙ with_records (payloads_of journal_header bytes) recs state next opens are folds
 
   -- an image between
-  pub durable_between : (bytes image : List ℕ) (recs : List Rec) (state next : Durable) → durable goes_on bytes ≡ Ok state → AreRecs recs → fold_records goes_on state recs ≡ Some next
+  pub durable_between : (bytes image : List ℕ) (recs : List RecordValue) (state next : Durable) → durable goes_on bytes ≡ Ok state → AreRecords recs → fold_records goes_on state recs ≡ Some next
       → OpensTo journal_header bytes (records_bytes recs) image → OpensToOneOf goes_on state next image
   unfolding durable
   durable_between bytes image recs state next opens are folds opened = (
@@ -66,7 +66,7 @@ module _ (goes_on : GoesOn) where
   first_key key = refl
 
   -- the first batch of a file, with a key alone
-  pub durable_first : (bytes bytes' payload : List ℕ) (key : KeyFields) → payloads_of journal_header bytes ≡ Ok [] → IsRec (Key key) → payload ≡ record_bytes (Key key)
+  pub durable_first : (bytes bytes' payload : List ℕ) (key : KeyFields) → payloads_of journal_header bytes ≡ Ok [] → IsRecord (Key key) → payload ≡ record_bytes (Key key)
       → payloads_of journal_header bytes' ≡ with_last payload (payloads_of journal_header bytes) → durable goes_on bytes' ≡ Ok (key_alone key)
   unfolding durable
   durable_first bytes bytes' payload key none is spelled kept =

@@ -9,7 +9,7 @@ use Rattle.gl_base.specs.declared.fault.CutFault.{CutFault}
 use Rattle.gl_base.proofs.Fields.{string_at-spelled}
 use Rattle.gl_base.proofs.Numbers.{string_at_ok, number_at_ok, bytes_at_ok, bytes_at_length}
 use Rattle.gl_base.proofs.LittleEndianLaws.{length-little_endian}
-use Rattle.gl_journal.specs.Gates.{body_of, batches, Fit, length_limit, payload_at, Opening, with_first, behind_gate, payloads_within, payloads_from, one_on, mismatch, opening_answer, payloads_of}
+use Rattle.gl_journal.specs.Gates.{body_of, batches, FitLengths, length_limit, payload_at, Opening, with_first, behind_gate, payloads_within, payloads_from, one_on, mismatch, opening_answer, payloads_of}
 
 pub length-body : (payload : List ℕ) → length (body_of payload) ≡ 4 + length payload
 length-body payload = omega (arith, length-append (little_endian 4 (length payload)) payload, length-little_endian 4 (length payload))
@@ -98,7 +98,7 @@ with_no_front (Ok more) = refl
 with_no_front (Err at) = refl
 
 -- batches, and then what the rest opens to
-pub opened_batches : (at : ℕ) (payloads : List (List ℕ)) (rest : List ℕ) → Fit payloads → payloads_from at (batches payloads ++ rest) ≡ with_front payloads (payloads_from (at + length (batches payloads)) rest)
+pub opened_batches : (at : ℕ) (payloads : List (List ℕ)) (rest : List ℕ) → FitLengths payloads → payloads_from at (batches payloads ++ rest) ≡ with_front payloads (payloads_from (at + length (batches payloads)) rest)
 opened_batches at [] rest fit =
     let place : at ≡ at + length (batches []) = omega arith in
     ap (λ (n : ℕ). payloads_from n rest) place ∙ with_no_front (payloads_from (at + length (batches [])) rest)
@@ -116,7 +116,7 @@ mismatch-append (byte ∷ header) rest =
     ap (λ (t : Bool). if t then one_on (mismatch header (header ++ rest)) else Some 0) (eq-eqb byte byte refl) ∙ ap one_on (mismatch-append header rest)
 
 -- a header, batches, and then what the rest opens to
-pub payloads_of_file : (header : List ℕ) (payloads : List (List ℕ)) (rest : List ℕ) → Fit payloads
+pub payloads_of_file : (header : List ℕ) (payloads : List (List ℕ)) (rest : List ℕ) → FitLengths payloads
     → payloads_of header (header ++ batches payloads ++ rest) ≡ opening_answer None (with_front payloads (payloads_from (length (header ++ batches payloads)) rest))
 unfolding payloads_of
 payloads_of_file header payloads rest fit =
@@ -127,9 +127,9 @@ payloads_of_file header payloads rest fit =
     let opens = ap (payloads_from (length header)) behind ∙ opened_batches (length header) payloads rest fit ∙ ap (λ (n : ℕ). with_front payloads (payloads_from n rest)) place in
     ap (λ (o : Option ℕ). opening_answer o (payloads_from (length header) (drop (length header) (header ++ batches payloads ++ rest)))) begins ∙ ap (opening_answer None) opens
 
-pub Fit-push : (payloads : List (List ℕ)) (payload : List ℕ) → Fit payloads → length payload < 2 ^ 32 → Fit (payloads ++ payload ∷ [])
-Fit-push [] payload fit small = (small, tt)
-Fit-push (first ∷ payloads) payload fit small = (fit.0, Fit-push payloads payload fit.1 small)
+pub FitLengths-push : (payloads : List (List ℕ)) (payload : List ℕ) → FitLengths payloads → length payload < 2 ^ 32 → FitLengths (payloads ++ payload ∷ [])
+FitLengths-push [] payload fit small = (small, tt)
+FitLengths-push (first ∷ payloads) payload fit small = (fit.0, FitLengths-push payloads payload fit.1 small)
 
 pub batches-push : (payloads : List (List ℕ)) (payload rest : List ℕ) → batches (payloads ++ payload ∷ []) ++ rest ≡ batches payloads ++ (1 ∷ body_of payload ++ rest)
 batches-push [] payload rest = ap (λ (l : List ℕ). 1 ∷ l) (append_assoc (body_of payload) [] rest)

@@ -7,7 +7,7 @@ use Rattle.gl_journal.specs.Gates.{body_of, batches, payload_at, Opening, payloa
 use Rattle.gl_journal.specs.Parts.{FileParts, Parts, IsClosed, items_of}
 use Rattle.gl_journal.specs.declared.fault.JournalFault.TheVariants.{NotJournal}
 use Rattle.gl_journal.proofs.Headers.{begins_with}
-use Rattle.gl_journal.proofs.Openings.{with_front, opened_closed, opened_end, opened_cut, opened_batches, payloads_of_file, Fit-push, batches-push, length-body}
+use Rattle.gl_journal.proofs.Openings.{with_front, opened_closed, opened_end, opened_cut, opened_batches, payloads_of_file, FitLengths-push, batches-push, length-body}
 
 pub items_of_push : (payloads : List (Vec ℕ Global)) (payload : Vec ℕ Global) → items_of (payloads ++ payload ∷ []) ≡ items_of payloads ++ payload.items ∷ []
 items_of_push [] payload = refl
@@ -38,7 +38,7 @@ pub parts_push : (at : ℕ) (bytes : List ℕ) (payloads : List (List ℕ)) (pla
 parts_push at bytes payloads place behind payload place' rest parts is small next =
     let whole : bytes ≡ batches (payloads ++ payload ∷ []) ++ rest = parts.split ∙ ap (λ (l : List ℕ). batches payloads ++ 1 ∷ l) is ∙ sym (batches-push payloads payload rest) in record {
       split = whole;
-      fit = Fit-push payloads payload parts.fit small;
+      fit = FitLengths-push payloads payload parts.fit small;
       current = omega (arith, parts.current, ap length whole, ap length parts.split, ap length is, length-append (batches payloads) (1 ∷ behind), length-append (batches (payloads ++ payload ∷ [])) rest, length-append (body_of payload) rest, length-body payload);
     }
 

@@ -3,7 +3,7 @@ use Rattle.std.proofs.Common.{◌≡◌, ℕ, zero, suc, ◌+◌, ◌≤◌, Lis
 use Rattle.gl_base.specs.Cut.{Unread}
 use Rattle.gl_base.specs.declared.fault.CutFault.{CutFault}
 use Rattle.gl_journal.specs.Gates.{batches, body_of, payload_at}
-use Rattle.gl_journal.specs.Records.{Rec, then_some, kind_of, record_body, record_bytes, records_bytes, record_of, IsRec, AreRecs}
+use Rattle.gl_journal.specs.Records.{RecordValue, then_some, kind_of, record_body, record_bytes, records_bytes, record_of, IsRecord, AreRecords}
 use Rattle.gl_journal.specs.Durable.{Durable, GoesOn, Folding, Next, fold_record, fold_records, fold_next, after_fold, after_record, after_body, fold_within, fold_payload, then_folding, fold_payloads}
 use Rattle.gl_journal.proofs.Openings.{behind_shorter, payload_at-body, length-body}
 use Rattle.gl_journal.proofs.RecordLaws.{record_of-spelled, body_fits}
@@ -13,7 +13,7 @@ module _ (goes_on : GoesOn) where
   same_fold at None new f g same = refl
   same_fold at (Some state) new f g same = same (Some state)
 
-  same_record : (at : ℕ) (rec : Option Rec) (state : Option Durable) (new : Unread) (f g : Next) → ((state : Option Durable) → f new.at new.bytes state ≡ g new.at new.bytes state) → after_record goes_on at rec state new f ≡ after_record goes_on at rec state new g
+  same_record : (at : ℕ) (rec : Option RecordValue) (state : Option Durable) (new : Unread) (f g : Next) → ((state : Option Durable) → f new.at new.bytes state ≡ g new.at new.bytes state) → after_record goes_on at rec state new f ≡ after_record goes_on at rec state new g
   same_record at None state new f g same = refl
   same_record at (Some rec) state new f g same = same_fold at (fold_next goes_on state rec) new f g same
 
@@ -37,16 +37,16 @@ module _ (goes_on : GoesOn) where
   fold_end at state = refl
 
   -- one record that folds
-  pub fold_read : (at kind : ℕ) (bytes body : List ℕ) (new : Unread) (rec : Rec) (state : Option Durable) (next : Durable) → payload_at (at + 1) bytes ≡ Ok (body, new) → record_of kind body ≡ Some rec → fold_next goes_on state rec ≡ Some next
+  pub fold_read : (at kind : ℕ) (bytes body : List ℕ) (new : Unread) (rec : RecordValue) (state : Option Durable) (next : Durable) → payload_at (at + 1) bytes ≡ Ok (body, new) → record_of kind body ≡ Some rec → fold_next goes_on state rec ≡ Some next
       → fold_payload goes_on at (kind ∷ bytes) state ≡ fold_payload goes_on new.at new.bytes (Some next)
   unfolding fold_payload
   fold_read at kind bytes body new rec state next read is folds =
       ap (λ (r : Result (List ℕ × Unread) CutFault). after_body goes_on at kind state r (fold_within goes_on (length bytes))) read
-      ∙ ap (λ (o : Option Rec). after_record goes_on at o state new (fold_within goes_on (length bytes))) is
+      ∙ ap (λ (o : Option RecordValue). after_record goes_on at o state new (fold_within goes_on (length bytes))) is
       ∙ ap (λ (o : Option Durable). after_fold at o new (fold_within goes_on (length bytes))) folds
       ∙ same_count (length bytes) (length new.bytes) new.at new.bytes (Some next) (behind_shorter (at + 1) bytes body new read) (omega arith)
 
-  pub fold_on : (at kind : ℕ) (bytes body : List ℕ) (new : Unread) (rec : Rec) (state next : Option Durable) → payload_at (at + 1) bytes ≡ Ok (body, new) → record_of kind body ≡ Some rec → fold_next goes_on state rec ≡ next → IsSome next
+  pub fold_on : (at kind : ℕ) (bytes body : List ℕ) (new : Unread) (rec : RecordValue) (state next : Option Durable) → payload_at (at + 1) bytes ≡ Ok (body, new) → record_of kind body ≡ Some rec → fold_next goes_on state rec ≡ next → IsSome next
       → fold_payload goes_on at (kind ∷ bytes) state ≡ fold_payload goes_on new.at new.bytes next
   fold_on at kind bytes body new rec state None read is folds some = cc
   fold_on at kind bytes body new rec state (Some next) read is folds some = fold_read at kind bytes body new rec state next read is folds
@@ -61,34 +61,34 @@ module _ (goes_on : GoesOn) where
   unfolding fold_payload
   fold_no_record at kind bytes body new state read is =
       ap (λ (r : Result (List ℕ × Unread) CutFault). after_body goes_on at kind state r (fold_within goes_on (length bytes))) read
-      ∙ ap (λ (o : Option Rec). after_record goes_on at o state new (fold_within goes_on (length bytes))) is
+      ∙ ap (λ (o : Option RecordValue). after_record goes_on at o state new (fold_within goes_on (length bytes))) is
 
   -- a record that doesn't fold
-  pub fold_refused : (at kind : ℕ) (bytes body : List ℕ) (new : Unread) (rec : Rec) (state : Option Durable) → payload_at (at + 1) bytes ≡ Ok (body, new) → record_of kind body ≡ Some rec → fold_next goes_on state rec ≡ None
+  pub fold_refused : (at kind : ℕ) (bytes body : List ℕ) (new : Unread) (rec : RecordValue) (state : Option Durable) → payload_at (at + 1) bytes ≡ Ok (body, new) → record_of kind body ≡ Some rec → fold_next goes_on state rec ≡ None
       → fold_payload goes_on at (kind ∷ bytes) state ≡ Err at
   unfolding fold_payload
   fold_refused at kind bytes body new rec state read is folds =
       ap (λ (r : Result (List ℕ × Unread) CutFault). after_body goes_on at kind state r (fold_within goes_on (length bytes))) read
-      ∙ ap (λ (o : Option Rec). after_record goes_on at o state new (fold_within goes_on (length bytes))) is
+      ∙ ap (λ (o : Option RecordValue). after_record goes_on at o state new (fold_within goes_on (length bytes))) is
       ∙ ap (λ (o : Option Durable). after_fold at o new (fold_within goes_on (length bytes))) folds
 
   -- a record as it is spelled, which folds
-  pub fold_spelled : (at : ℕ) (rec : Rec) (rest : List ℕ) (state : Option Durable) (next : Durable) → IsRec rec → fold_next goes_on state rec ≡ Some next
+  pub fold_spelled : (at : ℕ) (rec : RecordValue) (rest : List ℕ) (state : Option Durable) (next : Durable) → IsRecord rec → fold_next goes_on state rec ≡ Some next
       → fold_payload goes_on at (record_bytes rec ++ rest) state ≡ fold_payload goes_on (at + 1 + 4 + length (record_body rec)) rest (Some next)
   fold_spelled at rec rest state next is folds =
       fold_read at (kind_of rec) (body_of (record_body rec) ++ rest) (record_body rec) (record { at = at + 1 + 4 + length (record_body rec); bytes = rest }) rec state next
       (payload_at-body (at + 1) (record_body rec) rest (body_fits rec is)) (record_of-spelled rec is) folds
 
-  behind_key : (state : Durable) (rec : Rec) (next : Option Durable) → fold_record goes_on state rec ≡ next → fold_next goes_on (Some state) rec ≡ next
+  behind_key : (state : Durable) (rec : RecordValue) (next : Option Durable) → fold_record goes_on state rec ≡ next → fold_next goes_on (Some state) rec ≡ next
   unfolding fold_next
   behind_key state rec next is = is
 
-  some_first : (folded : Option Durable) (recs : List Rec) (state' : Durable) → then_some folded (λ next. fold_records goes_on next recs) ≡ Some state' → (next : Durable) × (folded ≡ Some next) × (fold_records goes_on next recs ≡ Some state')
+  some_first : (folded : Option Durable) (recs : List RecordValue) (state' : Durable) → then_some folded (λ next. fold_records goes_on next recs) ≡ Some state' → (next : Durable) × (folded ≡ Some next) × (fold_records goes_on next recs ≡ Some state')
   some_first None recs state' is = cc
   some_first (Some next) recs state' is = (next, refl, is)
 
   -- a payload of records is read as their fold
-  pub fold_payload-spelled : (at : ℕ) (recs : List Rec) (state state' : Durable) → AreRecs recs → fold_records goes_on state recs ≡ Some state' → fold_payload goes_on at (records_bytes recs) (Some state) ≡ Ok (Some state')
+  pub fold_payload-spelled : (at : ℕ) (recs : List RecordValue) (state state' : Durable) → AreRecords recs → fold_records goes_on state recs ≡ Some state' → fold_payload goes_on at (records_bytes recs) (Some state) ≡ Ok (Some state')
   fold_payload-spelled at [] state state' are is = let same : state ≡ state' = cc in fold_end at (Some state) ∙ ap (λ (s : Durable). Ok (Some s)) same
   fold_payload-spelled at (rec ∷ recs) state state' are is =
       let first = some_first (fold_record goes_on state rec) recs state' is in
@@ -101,7 +101,7 @@ module _ (goes_on : GoesOn) where
   ok_last (Err at) state state' f g is rest = cc
 
   -- one payload more
-  pub fold_payloads-push : (place : ℕ) (payloads : List (List ℕ)) (recs : List Rec) (first : Option Durable) (state state' : Durable) → fold_payloads goes_on place payloads first ≡ Ok (Some state) → AreRecs recs → fold_records goes_on state recs ≡ Some state'
+  pub fold_payloads-push : (place : ℕ) (payloads : List (List ℕ)) (recs : List RecordValue) (first : Option Durable) (state state' : Durable) → fold_payloads goes_on place payloads first ≡ Ok (Some state) → AreRecords recs → fold_records goes_on state recs ≡ Some state'
       → fold_payloads goes_on place (payloads ++ records_bytes recs ∷ []) first ≡ Ok (Some state')
   fold_payloads-push place [] recs first state state' folds are is =
       let same : first ≡ Some state = cc in

@@ -6,7 +6,7 @@ use Rattle.gl_lms.specs.Types.{height}
 use Rattle.gl_outside.specs.Disk.{Step, IsImage}
 use Rattle.gl_journal.specs.Gates.{payload_at, payloads_of}
 use Rattle.gl_journal.specs.Parts.{HasGate}
-use Rattle.gl_journal.specs.Records.{Rec, Key, Vote, Cut, Append, Signer, Install, Start, then_some, record_of}
+use Rattle.gl_journal.specs.Records.{RecordValue, Key, Vote, Cut, Append, Signer, Install, Start, then_some, record_of}
 use Rattle.gl_journal.specs.declared.fault.JournalFault.{JournalFault}
 use Rattle.gl_journal.specs.declared.fault.JournalFault.TheVariants.{NotJournal, BadRecord}
 use Rattle.gl_journal.specs.declared.key.Key.{Key as KeyFields}
@@ -48,7 +48,7 @@ GoesOn = List (List ℕ) → List ℕ → Bool
 
 -- One record more behind a key, where it folds. A key is the first record alone, and a view, the
 -- count of leaves and a ledger's base never fall.
-abbrev pub fold_record : GoesOn → Durable → Rec → Option Durable
+abbrev pub fold_record : GoesOn → Durable → RecordValue → Option Durable
 fold_record goes_on state (Key key) = None
 fold_record goes_on state (Vote view vote) =
     if nat_lt view state.view then None
@@ -66,13 +66,13 @@ fold_record goes_on state (Start leaves) =
     if nat_lt (leaf_count state) leaves then None else Some (record state { start = Some leaves })
 
 -- Records, one behind the other, where all of them fold.
-abbrev pub fold_records : GoesOn → Durable → List Rec → Option Durable
+abbrev pub fold_records : GoesOn → Durable → List RecordValue → Option Durable
 fold_records goes_on state [] = Some state
 fold_records goes_on state (rec ∷ recs) =
     then_some (fold_record goes_on state rec) (λ next. fold_records goes_on next recs)
 
 -- The first record, which is a key.
-abbrev pub first_record : Rec → Option Durable
+abbrev pub first_record : RecordValue → Option Durable
 first_record (Key key) = Some (key_alone key)
 first_record (Vote view vote) = None
 first_record (Cut to) = None
@@ -82,7 +82,7 @@ first_record (Install body) = None
 first_record (Start leaves) = None
 
 -- One record more behind those before it, if there were any.
-unfoldable pub fold_next : GoesOn → Option Durable → Rec → Option Durable
+unfoldable pub fold_next : GoesOn → Option Durable → RecordValue → Option Durable
 fold_next goes_on None rec = first_record rec
 fold_next goes_on (Some state) rec = fold_record goes_on state rec
 
@@ -97,7 +97,7 @@ abbrev pub after_fold : ℕ → Option Durable → Unread → Next → Folding
 after_fold at None new next = Err at
 after_fold at (Some state) new next = next new.at new.bytes (Some state)
 
-abbrev pub after_record : GoesOn → ℕ → Option Rec → Option Durable → Unread → Next → Folding
+abbrev pub after_record : GoesOn → ℕ → Option RecordValue → Option Durable → Unread → Next → Folding
 after_record goes_on at None state new next = Err at
 after_record goes_on at (Some rec) state new next =
     after_fold at (fold_next goes_on state rec) new next

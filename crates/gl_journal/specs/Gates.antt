@@ -16,9 +16,9 @@ batches [] = []
 batches (payload ∷ payloads) = 1 ∷ body_of payload ++ batches payloads
 
 -- The length of each payload fits its four bytes.
-abbrev pub Fit : List (List ℕ) → Type 0
-Fit [] = Unit {0}
-Fit (payload ∷ payloads) = (length payload < 2 ^ 32) × Fit payloads
+abbrev pub FitLengths : List (List ℕ) → Type 0
+FitLengths [] = Unit {0}
+FitLengths (payload ∷ payloads) = (length payload < 2 ^ 32) × FitLengths payloads
 
 -- The greatest length that fits.
 abbrev pub length_limit : ℕ

@@ -1,7 +1,7 @@
 -- A journal whose file is kept, and its room.
 use Rattle.std.specs.Prelude.{◌≡◌, ℕ, ◌≤◌, List, vec_capacity}
 use Rattle.gl_outside.specs.Disk.{Step}
-use Rattle.gl_journal.specs.Stops.{IsOpen, Fits}
+use Rattle.gl_journal.specs.Stops.{IsOpen, HasPayloadRoom}
 use Rattle.gl_journal.specs.Durable.{journal_header}
 use Rattle.gl_journal.specs.declared.journal.Journal.{Journal}
 
@@ -16,4 +16,4 @@ pub record IsKept {D : Type 0} (bytes : D → List ℕ) (past : D → List Step)
 pub record HasBatchRoom {D : Type 0} (room_end room_calls : D → ℕ) (journal : Journal D) (size : ℕ)
     : Type 0 where
   pub buffer : size ≤ vec_capacity journal.buffer
-  pub disk : Fits room_end room_calls journal.gated size
+  pub disk : HasPayloadRoom room_end room_calls journal.gated size

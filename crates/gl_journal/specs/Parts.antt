@@ -1,7 +1,7 @@
 -- The parts that a file of payloads is made of.
 use Rattle.std.specs.Prelude.{◌≡◌, ◌≢◌, ℕ, ◌+◌, List, [], ◌∷◌, ◌++◌, length, Vec}
 use Rattle.std.specs.declared.alloc.Global.{Global}
-use Rattle.gl_journal.specs.Gates.{batches, Fit}
+use Rattle.gl_journal.specs.Gates.{batches, FitLengths}
 
 -- No gate is open here.
 abbrev pub IsClosed : List ℕ → Type 0
@@ -12,14 +12,14 @@ IsClosed (gate ∷ tail) = gate ≢ 1
 pub record Parts (at : ℕ) (bytes : List ℕ) (payloads : List (List ℕ)) (place : ℕ)
     (rest : List ℕ) : Type 0 where
   pub split : bytes ≡ batches payloads ++ rest
-  pub fit : Fit payloads
+  pub fit : FitLengths payloads
   pub current : place ≡ at + length (batches payloads)
 
 -- A file is the header, batches up to a place, and behind them bytes where no gate is open.
 pub record FileParts (header bytes : List ℕ) (payloads : List (List ℕ)) (place : ℕ)
     (rest : List ℕ) : Type 0 where
   pub split : bytes ≡ header ++ batches payloads ++ rest
-  pub fit : Fit payloads
+  pub fit : FitLengths payloads
   pub current : place ≡ length (header ++ batches payloads)
   pub closed : IsClosed rest
 

@@ -11,16 +11,16 @@ use Rattle.gl_journal.specs.declared.key.Key.{Key as KeyFields}
 -- A record: a key; a view and the vote there, if one was given; the place that a ledger was cut to;
 -- the frame of an entry that was appended; how many leaves of the key are spent or reserved; a
 -- snapshot's body; how many leaves the start of a service spent.
-pub data Rec : Type 0 where
-  Key : KeyFields → Rec
-  Vote : ℕ → Option (List ℕ) → Rec
-  Cut : ℕ → Rec
-  Append : List ℕ → Rec
-  Signer : ℕ → Rec
-  Install : List ℕ → Rec
-  Start : ℕ → Rec
+pub data RecordValue : Type 0 where
+  Key : KeyFields → RecordValue
+  Vote : ℕ → Option (List ℕ) → RecordValue
+  Cut : ℕ → RecordValue
+  Append : List ℕ → RecordValue
+  Signer : ℕ → RecordValue
+  Install : List ℕ → RecordValue
+  Start : ℕ → RecordValue
 
-abbrev pub kind_of : Rec → ℕ
+abbrev pub kind_of : RecordValue → ℕ
 kind_of (Key key) = 1
 kind_of (Vote view vote) = 2
 kind_of (Cut to) = 3
@@ -44,7 +44,7 @@ abbrev pub vote_bytes : Option (List ℕ) → List ℕ
 vote_bytes None = 0 ∷ []
 vote_bytes (Some id) = 1 ∷ id
 
-abbrev pub record_body : Rec → List ℕ
+abbrev pub record_body : RecordValue → List ℕ
 record_body (Key key) = key_kind_tag key.kind ∷ types_tag key.types ∷ key.seed
 record_body (Vote view vote) = little_endian 4 view ++ vote_bytes vote
 record_body (Cut to) = little_endian 8 to
@@ -54,11 +54,11 @@ record_body (Install body) = body
 record_body (Start leaves) = little_endian 4 leaves
 
 -- A record is its kind, the length of its body in four bytes, and the body.
-abbrev pub record_bytes : Rec → List ℕ
+abbrev pub record_bytes : RecordValue → List ℕ
 record_bytes rec = kind_of rec ∷ body_of (record_body rec)
 
 -- Records, one behind the other.
-abbrev pub records_bytes : List Rec → List ℕ
+abbrev pub records_bytes : List RecordValue → List ℕ
 records_bytes [] = []
 records_bytes (rec ∷ recs) = record_bytes rec ++ records_bytes recs
 
@@ -67,18 +67,18 @@ abbrev pub IsId : Option (List ℕ) → Type 0
 IsId None = Unit {0}
 IsId (Some id) = length id ≡ 32
 
-abbrev pub IsRec : Rec → Type 0
-IsRec (Key key) = length key.seed ≡ 32
-IsRec (Vote view vote) = (view < 2 ^ 32) × IsId vote
-IsRec (Cut to) = to < 2 ^ 64
-IsRec (Append frame) = length frame < 2 ^ 32
-IsRec (Signer reserved) = reserved < 2 ^ 32
-IsRec (Install body) = length body < 2 ^ 32
-IsRec (Start leaves) = leaves < 2 ^ 32
+abbrev pub IsRecord : RecordValue → Type 0
+IsRecord (Key key) = length key.seed ≡ 32
+IsRecord (Vote view vote) = (view < 2 ^ 32) × IsId vote
+IsRecord (Cut to) = to < 2 ^ 64
+IsRecord (Append frame) = length frame < 2 ^ 32
+IsRecord (Signer reserved) = reserved < 2 ^ 32
+IsRecord (Install body) = length body < 2 ^ 32
+IsRecord (Start leaves) = leaves < 2 ^ 32
 
-abbrev pub AreRecs : List Rec → Type 0
-AreRecs [] = Unit {0}
-AreRecs (rec ∷ recs) = IsRec rec × AreRecs recs
+abbrev pub AreRecords : List RecordValue → Type 0
+AreRecords [] = Unit {0}
+AreRecords (rec ∷ recs) = IsRecord rec × AreRecords recs
 
 -- What bytes are read as
 
@@ -101,14 +101,14 @@ types_in tag =
     else (if tag == 2 then Some H5W8
     else (if tag == 3 then Some H10W4 else (if tag == 4 then Some H10W8 else None)))
 
-abbrev pub key_with : Option KeyKind → Option Types → List ℕ → Option Rec
+abbrev pub key_with : Option KeyKind → Option Types → List ℕ → Option RecordValue
 key_with None types seed = None
 key_with (Some kind) None seed = None
 key_with (Some kind) (Some types) seed =
     if length seed == 32 then Some (Key (record { kind = kind; types = types; seed = seed }))
     else None
 
-abbrev pub key_in : List ℕ → Option Rec
+abbrev pub key_in : List ℕ → Option RecordValue
 key_in [] = None
 key_in (kind ∷ []) = None
 key_in (kind ∷ types ∷ seed) = key_with (key_kind_in kind) (types_in types) seed
@@ -119,14 +119,14 @@ vote_in (given ∷ id) =
     if given == 0 && (length id == 0) then Some None
     else (if given == 1 && (length id == 32) then Some (Some id) else None)
 
-abbrev pub vote_record_in : List ℕ → Option Rec
+abbrev pub vote_record_in : List ℕ → Option RecordValue
 vote_record_in body =
     if nat_lt (length body) 5 then None
     else then_some (vote_in (drop 4 body))
     (λ vote. Some (Vote (from_little_endian (take 4 body)) vote))
 
 -- The record of this kind with this body, where there is one.
-unfoldable pub record_of : ℕ → List ℕ → Option Rec
+unfoldable pub record_of : ℕ → List ℕ → Option RecordValue
 record_of kind body =
     if kind == 1 then key_in body
     else (if kind == 2 then vote_record_in body

@@ -4,7 +4,7 @@ use Rattle.gl_base.specs.declared.or_no_memory.OrNoMemory.{OrNoMemory}
 use Rattle.gl_base.specs.declared.or_no_memory.OrNoMemory.TheVariants.{Fault}
 use Rattle.gl_outside.specs.Disk.{Step, IsImage, LeavesOnly}
 use Rattle.gl_outside.specs.Fault.{Rose}
-use Rattle.gl_journal.specs.Gates.{batches, Fit, payloads_of, with_last}
+use Rattle.gl_journal.specs.Gates.{batches, FitLengths, payloads_of, with_last}
 use Rattle.gl_journal.specs.Parts.{HasGate}
 use Rattle.gl_journal.specs.declared.fault.JournalFault.{JournalFault}
 use Rattle.gl_journal.specs.declared.fault.JournalFault.TheVariants.{DiskFault}
@@ -19,7 +19,7 @@ pub record IsSettled (header : List ℕ) (place : ℕ) (bytes : List ℕ) (past 
   pub tail : List ℕ
   pub file : bytes ≡ header ++ batches payloads ++ gate ∷ tail
   pub closed : gate ≢ 1
-  pub fit : Fit payloads
+  pub fit : FitLengths payloads
   pub current : place ≡ length (header ++ batches payloads)
   pub kept : LeavesOnly past bytes
 
@@ -49,8 +49,8 @@ pub record HasRoom (place size room_end room_calls : ℕ) : Type 0 where
   pub calls : 6 ≤ room_calls
 
 -- The same of a file over a disk with this room.
-abbrev pub Fits : {D : Type 0} → (D → ℕ) → (D → ℕ) → Gated D → ℕ → Type 0
-Fits room_end room_calls gated size =
+abbrev pub HasPayloadRoom : {D : Type 0} → (D → ℕ) → (D → ℕ) → Gated D → ℕ → Type 0
+HasPayloadRoom room_end room_calls gated size =
     HasRoom gated.place size (room_end gated.disk) (room_calls gated.disk)
 
 -- The disk's fault is answered only where its count rose, and else the count is as it was.

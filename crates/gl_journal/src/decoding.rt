@@ -2,7 +2,7 @@
 
 ghost use Rattle.std.specs.Prelude.{◌≡◌, option_map};
 ghost use Rattle.gl_journal.specs.Records.{whole_number, key_kind_in, types_in, key_in, vote_record_in, record_of};
-ghost use Rattle.gl_journal.specs.RecordView.{rec_of};
+ghost use Rattle.gl_journal.specs.RecordView.{record_value};
 
 use crate::key::{Key, KeyKind};
 use crate::record::Record;
@@ -60,7 +60,7 @@ fn types_in(tag: u8) -> Option<Types>
 }
 
 fn key_in(body: &[u8]) -> Option<Record<'_>>
-    ensures { option_map rec_of result ≡ key_in body.now }
+    ensures { option_map record_value result ≡ key_in body.now }
 {
     match body {
         [kind, types, seed @ ..] if seed.len() == 32 => {
@@ -78,7 +78,7 @@ fn key_in(body: &[u8]) -> Option<Record<'_>>
 }
 
 fn vote_record_in(body: &[u8]) -> Option<Record<'_>>
-    ensures { option_map rec_of result ≡ vote_record_in body.now }
+    ensures { option_map record_value result ≡ vote_record_in body.now }
 {
     let (view, rest) = body.split_first_chunk::<4>()?;
     let view = u32::from_le_bytes(*view);
@@ -98,7 +98,7 @@ fn vote_record_in(body: &[u8]) -> Option<Record<'_>>
 /// The record of this kind with this body.
 #[tactic(auto, unfolding(crate::specs::Records::record_of))]
 pub(crate) fn record_of(kind: u8, body: &[u8]) -> Option<Record<'_>>
-    ensures { option_map rec_of result ≡ record_of kind body.now }
+    ensures { option_map record_value result ≡ record_of kind body.now }
 {
     match kind {
         1 => key_in(body),

@@ -1,13 +1,14 @@
 //! What a journal holds, folded from its records.
 
 ghost use Rattle.std.specs.Prelude.{◌≡◌, true, false, Option, Some, None, Ok, IsSome, option_map};
-ghost use Rattle.gl_journal.specs.Durable.{fold_record, fold_next, key_alone, leaf_count};
-ghost use Rattle.gl_journal.specs.RecordView.{rec_of, state_of};
+ghost use Rattle.gl_journal.specs.Durable.{fold_record, fold_next, key_alone};
+ghost use Rattle.gl_journal.specs.RecordView.{record_value, state_of};
 
 use crate::entry_log::EntryLog;
 use crate::key::Key;
 use crate::record::Record;
 use gl_base::FIRST_VIEW;
+use gl_entry::NodeId;
 use std::alloc::{AllocError, Global};
 
 /// What a node, a member or a service keeps.
@@ -17,7 +18,7 @@ pub struct Durable<L> {
     /// The view that it is in.
     pub view: u32,
     /// The node that it voted for in that view.
-    pub vote: Option<[u8; 32]>,
+    pub vote: Option<NodeId>,
     /// Whether a Vote record was there: also a node that gave no vote may have one.
     pub has_vote_record: bool,
     /// The place behind which `log` begins.
@@ -49,10 +50,10 @@ impl<L: EntryLog> Durable<L> {
     /// Takes one record more behind the key, and answers whether it folds.
     fn fold_record(&mut self, alloc: Global, one: &Record<'_>) -> Result<bool, AllocError>
         ensures folds { result ≡ Ok true →
-            fold_record L.goes_on (state_of L.frames self.old) (rec_of one.now)
+            fold_record L.goes_on (state_of L.frames self.old) (record_value one.now)
             ≡ Some (state_of L.frames self.new) }
         ensures refuses { result ≡ Ok false →
-            fold_record L.goes_on (state_of L.frames self.old) (rec_of one.now) ≡ None }
+            fold_record L.goes_on (state_of L.frames self.old) (record_value one.now) ≡ None }
     {
         match one {
             Record::Key(_) | Record::Install { .. } => Ok(false),
@@ -99,10 +100,11 @@ pub(crate) fn fold_next<L: EntryLog>(
     one: &Record<'_>,
 ) -> Result<bool, AllocError>
     ensures folds { result ≡ Ok true →
-        fold_next L.goes_on (option_map (state_of L.frames) state.old) (rec_of one.now)
+        fold_next L.goes_on (option_map (state_of L.frames) state.old) (record_value one.now)
         ≡ option_map (state_of L.frames) state.new }
     ensures refuses { result ≡ Ok false →
-        fold_next L.goes_on (option_map (state_of L.frames) state.old) (rec_of one.now) ≡ None }
+        fold_next L.goes_on (option_map (state_of L.frames) state.old) (record_value one.now)
+        ≡ None }
     ensures some { result ≡ Ok true → IsSome (option_map (state_of L.frames) state.new) }
 {
     match state {

@@ -1,12 +1,12 @@
 //! A file of payloads behind gates. A payload is written and kept behind a closed gate, and then
 //! its gate is opened by a write of its own.
 
-ghost use Rattle.std.specs.Prelude.{◌≡◌, ℕ, ◌+◌, ◌^◌, ◌<◌, ◌≤◌, List, [], ◌∷◌, ◌++◌, length, IsTrue, OnOk, OnErr};
+ghost use Rattle.std.specs.Prelude.{◌≡◌, ◌+◌, ◌^◌, ◌<◌, ◌≤◌, [], ◌∷◌, ◌++◌, length, IsTrue, OnOk};
 ghost use Rattle.gl_base.specs.LittleEndian.{little_endian};
 ghost use Rattle.gl_outside.specs.Fault.{Counts};
 ghost use Rattle.gl_outside.specs.Disk.{Torn, LeavesOnly, Leaves, written};
 ghost use Rattle.gl_journal.specs.Gates.{body_of, payloads_of, with_last};
-ghost use Rattle.gl_journal.specs.Stops.{IsOpen, OpensTo, Fits};
+ghost use Rattle.gl_journal.specs.Stops.{IsOpen, OpensTo, HasPayloadRoom};
 
 use gl_outside::{Disk, DiskFailed};
 use std::alloc::AllocError;
@@ -64,7 +64,7 @@ fn stage<D: Disk>(disk: &mut D, at: u64, payload: &[u8]) -> Result<(), DiskFaile
 impl<D: Disk> Gated<D> {
     /// Takes the memory for one more payload of so many bytes.
     pub fn room(&mut self, len: u64) -> Result<(), AllocError>
-        ensures room { OnOk result (Fits D.room_end D.room_calls self.new len) }
+        ensures room { OnOk result (HasPayloadRoom D.room_end D.room_calls self.new len) }
         ensures bytes { IsTrue D.honest → D.bytes self.new.disk ≡ D.bytes self.old.disk }
         ensures past { IsTrue D.honest → D.past self.new.disk ≡ D.past self.old.disk }
         ensures same { (self.new.header ≡ self.old.header) × (self.new.place ≡ self.old.place) }
@@ -85,7 +85,7 @@ impl<D: Disk> Gated<D> {
     pub fn append(&mut self, payload: &[u8]) -> Result<(), DiskFailed>
         requires open { IsTrue D.honest → IsOpen D.bytes D.past self.old }
         requires small { length payload.now < 2 ^ 32 }
-        requires room { Fits D.room_end D.room_calls self.old (length payload.now) }
+        requires room { HasPayloadRoom D.room_end D.room_calls self.old (length payload.now) }
 
         ensures open { IsTrue D.honest → OnOk result (IsOpen D.bytes D.past self.new) }
         ensures kept { IsTrue D.honest → OnOk result

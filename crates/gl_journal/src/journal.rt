@@ -1,13 +1,13 @@
 //! A journal: a key, and batches of records that fold into what a node keeps.
 
-ghost use Rattle.std.specs.Prelude.{◌≡◌, ◌⊎◌, ℕ, ◌^◌, ◌<◌, ◌≤◌, [], List, length, IsTrue, IfOk, IfErr, IsOk, OnOk, Some, Ok, Err};
+ghost use Rattle.std.specs.Prelude.{◌≡◌, ◌⊎◌, ℕ, ◌^◌, ◌<◌, [], List, length, IsTrue, IfOk, IfErr, IsOk, OnOk, Some, Ok, Err};
 ghost use Rattle.gl_outside.specs.Fault.{Rose, Counts};
 ghost use Rattle.gl_outside.specs.Disk.{IsImage, Leaves};
 ghost use Rattle.gl_journal.specs.Gates.{payloads_of};
 ghost use Rattle.gl_journal.specs.Parts.{HasGate};
-ghost use Rattle.gl_journal.specs.Records.{Key as KeyOf, record_bytes, records_bytes, AreRecs};
+ghost use Rattle.gl_journal.specs.Records.{Key as KeyOf, record_bytes, records_bytes};
 ghost use Rattle.gl_journal.specs.Durable.{GoesOn, Durable as State, durable, key_alone, fold_records, journal_header, OpensToOneOf, OpensToTheSame};
-ghost use Rattle.gl_journal.specs.RecordView.{recs_of, state_of};
+ghost use Rattle.gl_journal.specs.RecordView.{record_values, state_of};
 ghost use Rattle.gl_journal.specs.Kept.{IsKept, HasBatchRoom};
 ghost use Rattle.gl_journal.specs.declared.fault.JournalFault.{JournalFault};
 
@@ -52,26 +52,26 @@ impl<D: Disk> Journal<D> {
     /// keeps them whatever comes. After a failure the journal isn't to be used again.
     pub fn commit_batch(&mut self, records: &[Record<'_>]) -> Result<(), DiskFailed>
         requires open { IsTrue D.honest → IsKept D.bytes D.past self.old }
-        requires small { length (records_bytes (recs_of records.now)) < 2 ^ 32 }
+        requires small { length (records_bytes (record_values records.now)) < 2 ^ 32 }
         requires room { HasBatchRoom D.room_end D.room_calls self.old
-            (length (records_bytes (recs_of records.now))) }
+            (length (records_bytes (record_values records.now))) }
 
         ensures open { IsTrue D.honest → OnOk result (IsKept D.bytes D.past self.new) }
         // Where the records fold on the durable state of the file, each image that a stop may leave
         // afterwards opens to their fold, and so does the file.
         ensures kept { IsTrue D.honest → (goes_on : GoesOn) (state next : State) →
             durable goes_on (D.bytes self.old.gated.disk) ≡ Ok state →
-            fold_records goes_on state (recs_of records.now) ≡ Some next →
+            fold_records goes_on state (record_values records.now) ≡ Some next →
             OnOk result (durable goes_on (D.bytes self.new.gated.disk) ≡ Ok next) }
         ensures after { IsTrue D.honest → (goes_on : GoesOn) (state next : State) →
             durable goes_on (D.bytes self.old.gated.disk) ≡ Ok state →
-            fold_records goes_on state (recs_of records.now) ≡ Some next →
+            fold_records goes_on state (record_values records.now) ≡ Some next →
             OnOk result ((image : List ℕ) → IsImage (D.past self.new.gated.disk) image →
             durable goes_on image ≡ Ok next) }
         // At every moment in between each image opens to the state before, or to their fold.
         ensures any_moment { IsTrue D.honest → (goes_on : GoesOn) (state next : State) →
             durable goes_on (D.bytes self.old.gated.disk) ≡ Ok state →
-            fold_records goes_on state (recs_of records.now) ≡ Some next →
+            fold_records goes_on state (record_values records.now) ≡ Some next →
             Leaves (OpensToOneOf goes_on state next)
             (D.past self.old.gated.disk) (D.past self.new.gated.disk) }
         ensures faults { Counts (D.faults self.old.gated.disk)

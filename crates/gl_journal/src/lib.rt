@@ -1,4 +1,5 @@
-//! Payloads that outlast a stop, each of them kept whole or not at all.
+//! The file in which a node keeps its key, its view and vote, its ledger and its spent leaves, so
+//! that a stop at any call of the disk leaves the state before that call or after it.
 #![tactic(auto)]
 
 mod decoding;

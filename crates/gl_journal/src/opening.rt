@@ -1,6 +1,6 @@
 //! How a file of payloads begins, and how it is opened again.
 
-ghost use Rattle.std.specs.Prelude.{◌≡◌, ◌⊎◌, ℕ, ◌+◌, ◌<◌, ◌≤◌, List, [], ◌∷◌, ◌++◌, length, IsTrue, OnOk, OnErr, IfOk, IfErr, IsOk, Ok, Err};
+ghost use Rattle.std.specs.Prelude.{◌≡◌, ◌⊎◌, ℕ, ◌+◌, ◌<◌, ◌≤◌, List, [], ◌∷◌, ◌++◌, length, IsTrue, OnOk, IfOk, IfErr, IsOk, Ok, Err};
 ghost use Rattle.gl_outside.specs.Fault.{Rose};
 ghost use Rattle.gl_outside.specs.Disk.{Torn, LeavesOnly, Leaves, written};
 ghost use Rattle.gl_journal.specs.declared.fault.JournalFault.{JournalFault};

@@ -1,6 +1,6 @@
 //! The payloads of a file, read from its bytes.
 
-ghost use Rattle.std.specs.Prelude.{◌≡◌, ◌⊎◌, ℕ, ◌+◌, ◌^◌, ◌<◌, ◌≤◌, List, ◌∷◌, length, IsTrue, OnOk, OnErr, IfOk, IfSome, IfNone, Ok, Err};
+ghost use Rattle.std.specs.Prelude.{◌≡◌, ◌⊎◌, ℕ, ◌+◌, ◌^◌, ◌<◌, List, ◌∷◌, length, IsTrue, OnOk, OnErr, IfOk, IfSome, IfNone, Ok, Err};
 ghost use Rattle.gl_outside.specs.Disk.{Kept, IsImage, LeavesOnly, Leaves};
 ghost use Rattle.gl_journal.specs.declared.fault.JournalFault.{JournalFault};
 ghost use Rattle.gl_journal.specs.Gates.{payloads_from, mismatch, payloads_of};

@@ -1,13 +1,13 @@
 //! The records of a journal, and their bytes.
 
-ghost use Rattle.std.specs.Prelude.{◌≡◌, ◌+◌, ◌^◌, ◌<◌, ◌≤◌, [], ◌∷◌, ◌++◌, length, vec_len, vec_capacity, IfSome};
+ghost use Rattle.std.specs.Prelude.{◌≡◌, ◌+◌, ◌^◌, ◌<◌, ◌≤◌, ◌∷◌, ◌++◌, length, vec_len, vec_capacity, IfSome};
 ghost use Rattle.gl_base.specs.LittleEndian.{little_endian};
-ghost use Rattle.gl_lms.specs.declared.types.Types.{Types as TypesValue};
 ghost use Rattle.gl_journal.specs.Gates.{body_of};
-ghost use Rattle.gl_journal.specs.Records.{Key as KeyOf, Vote, kind_of, key_kind_tag, types_tag, vote_bytes, record_bytes, record_body, records_bytes, IsRec, AreRecs};
-ghost use Rattle.gl_journal.specs.RecordView.{rec_of, recs_of};
+ghost use Rattle.gl_journal.specs.Records.{Key as KeyOf, Vote, key_kind_tag, types_tag, vote_bytes, record_bytes, record_body, records_bytes, IsRecord, AreRecords};
+ghost use Rattle.gl_journal.specs.RecordView.{record_value, record_values};
 
 use crate::key::{Key, KeyKind};
+use gl_entry::NodeId;
 use gl_lms::Types;
 
 /// A record of a journal. The bytes of an entry's frame and of a snapshot stand elsewhere.
@@ -16,7 +16,7 @@ pub enum Record<'a> {
     /// The key, which is the first record alone.
     Key(Key),
     /// The view that the node is in, and the node that it voted for there.
-    Vote { view: u32, vote: Option<[u8; 32]> },
+    Vote { view: u32, vote: Option<NodeId> },
     /// The entries behind a place were taken away.
     Cut { to: u64 },
     /// An entry was appended.
@@ -49,7 +49,7 @@ impl Key {
 }
 
 /// How many bytes a view and a vote have.
-fn vote_len(vote: &Option<[u8; 32]>) -> u64
+fn vote_len(vote: &Option<NodeId>) -> u64
     ensures { result ≡ 4 + length (vote_bytes vote.now) }
 {
     match vote {
@@ -62,7 +62,7 @@ impl Record<'_> {
     /// How many bytes its body has.
     #[tactic(auto, unfolding(gl_base::specs::LittleEndian::little_endian))]
     fn body_len(&self) -> u64
-        ensures { result ≡ length (record_body (rec_of self.now)) }
+        ensures { result ≡ length (record_body (record_value self.now)) }
     {
         match self {
             Record::Key(key) => key.body_len(),
@@ -77,7 +77,7 @@ impl Record<'_> {
 
 /// How many bytes the records of a batch have, if a u64 has room for that number.
 pub fn batch_len(records: &[Record<'_>]) -> Option<u64>
-    ensures { IfSome result (λ len. len ≡ length (records_bytes (recs_of records.now))) }
+    ensures { IfSome result (λ len. len ≡ length (records_bytes (record_values records.now))) }
 {
     let mut len: u64 = 0;
     for one in records {
@@ -124,11 +124,11 @@ fn put_body(out: &mut Vec<u8>, kind: u8, body: &[u8])
 }
 
 #[tactic(auto, unfolding(gl_base::specs::LittleEndian::little_endian))]
-fn put_vote(out: &mut Vec<u8>, view: u32, vote: &Option<[u8; 32]>)
+fn put_vote(out: &mut Vec<u8>, view: u32, vote: &Option<NodeId>)
     requires room { vec_len out.old + length (record_bytes (Vote view vote.now))
         ≤ vec_capacity out.old }
     ensures put { out.new.items ≡ out.old.items ++ record_bytes (Vote view vote.now) }
-    ensures fields { IsRec (Vote view vote.now) }
+    ensures fields { IsRecord (Vote view vote.now) }
     ensures room { vec_capacity out.old ≤ vec_capacity out.new }
 {
     match vote {
@@ -187,7 +187,7 @@ pub(crate) fn put_key(out: &mut Vec<u8>, key: &Key)
     requires room { vec_len out.old + length (record_bytes (KeyOf key.now))
         ≤ vec_capacity out.old }
     ensures put { out.new.items ≡ out.old.items ++ record_bytes (KeyOf key.now) }
-    ensures fields { IsRec (KeyOf key.now) }
+    ensures fields { IsRecord (KeyOf key.now) }
     ensures room { vec_capacity out.old ≤ vec_capacity out.new }
 {
     put_head(out, 1, 34);
@@ -198,11 +198,11 @@ pub(crate) fn put_key(out: &mut Vec<u8>, key: &Key)
 /// A record behind others, in memory that was taken before.
 #[tactic(auto, unfolding(gl_base::specs::LittleEndian::little_endian))]
 fn put_record(out: &mut Vec<u8>, one: &Record<'_>)
-    requires room { vec_len out.old + length (record_bytes (rec_of one.now))
+    requires room { vec_len out.old + length (record_bytes (record_value one.now))
         ≤ vec_capacity out.old }
-    requires small { length (record_body (rec_of one.now)) < 2 ^ 32 }
-    ensures put { out.new.items ≡ out.old.items ++ record_bytes (rec_of one.now) }
-    ensures fields { IsRec (rec_of one.now) }
+    requires small { length (record_body (record_value one.now)) < 2 ^ 32 }
+    ensures put { out.new.items ≡ out.old.items ++ record_bytes (record_value one.now) }
+    ensures fields { IsRecord (record_value one.now) }
     ensures room { vec_capacity out.old ≤ vec_capacity out.new }
 {
     match one {
@@ -218,11 +218,11 @@ fn put_record(out: &mut Vec<u8>, one: &Record<'_>)
 
 /// The records of a batch, in memory that was taken before.
 pub(crate) fn put_records(out: &mut Vec<u8>, records: &[Record<'_>])
-    requires room { vec_len out.old + length (records_bytes (recs_of records.now))
+    requires room { vec_len out.old + length (records_bytes (record_values records.now))
         ≤ vec_capacity out.old }
-    requires small { length (records_bytes (recs_of records.now)) < 2 ^ 32 }
-    ensures put { out.new.items ≡ out.old.items ++ records_bytes (recs_of records.now) }
-    ensures fields { AreRecs (recs_of records.now) }
+    requires small { length (records_bytes (record_values records.now)) < 2 ^ 32 }
+    ensures put { out.new.items ≡ out.old.items ++ records_bytes (record_values records.now) }
+    ensures fields { AreRecords (record_values records.now) }
     ensures room { vec_capacity out.old ≤ vec_capacity out.new }
 {
     for one in records {

@@ -6,6 +6,7 @@ ghost use Rattle.gl_journal.specs.Kept.{IsKept};
 
 use super::*;
 use gl_base::OrNoMemory;
+use gl_entry::NodeId;
 use gl_lms::Types;
 use gl_outside::{Disk, MemDisk, SureDisk, Tear};
 use std::alloc::Global;
@@ -35,7 +36,7 @@ const TEARS: [Tear; 5] = [
 #[derive(Clone, Copy, Debug, PartialEq, Eq)]
 struct Seen {
     view: u32,
-    vote: Option<[u8; 32]>,
+    vote: Option<NodeId>,
     has_vote_record: bool,
     entries: u64,
     reserved: u32,

@@ -3,7 +3,7 @@ use Rattle.gl_base.specs.Cut.{Unread, string_at}
 use Rattle.gl_journal.specs.Gates.{length_limit, payload_at, body_of}
 use Rattle.gl_journal.specs.Records.{record_of}
 use Rattle.gl_journal.specs.Durable.{fold_payload}
-use Rattle.gl_journal.specs.RecordView.{rec_of, state_of}
+use Rattle.gl_journal.specs.RecordView.{record_value, state_of}
 use Rattle.gl_journal.specs.declared.fault.JournalFault.TheVariants.{BadRecord}
 use Rattle.gl_journal.proofs.Openings.{payload_facts, length-body}
 use Rattle.gl_journal.proofs.PayloadLaws.{fold_end, fold_on, fold_cut, fold_no_record, fold_refused}
@@ -54,7 +54,7 @@ returns-then-not-branch-clause-fault g c fault e =
     let body = c.in-Ok.body.now in
     let new = c.bytes.new.self in
     let read : payload_at (place + 1) behind ≡ Ok (body, new) = ap (string_at 4 length_limit) (sym c.new_at-cut.ensures) ∙ c.in-Ok.ensures.exact in
-    let rec = rec_of c.in-Some-record_of.one in
+    let rec = record_value c.in-Some-record_of.one in
     let is : record_of kind body ≡ Some rec = sym c.in-Some-record_of.ensures in
     let was : c.fold_next.result ≡ Ok false = c.in_ok-fold_next.was ∙ ap (λ (b : Bool). Ok b) c.if-not-branch.true in
     (place, same, so_far ∙ fold_refused goes_on place kind behind body new rec state read is (c.fold_next.ensures.refuses was))
@@ -72,7 +72,7 @@ loop-kind-preserved g c =
     let body = c.in-Ok.body.now in
     let new = c.bytes.new.self in
     let read : payload_at (place + 1) behind ≡ Ok (body, new) = ap (string_at 4 length_limit) (sym c.new_at-cut.ensures) ∙ c.in-Ok.ensures.exact in
-    let rec = rec_of c.in-Some-record_of.one in
+    let rec = record_value c.in-Some-record_of.one in
     let is : record_of kind body ≡ Some rec = sym c.in-Some-record_of.ensures in
     let was : c.fold_next.result ≡ Ok true = c.in_ok-fold_next.was ∙ ap (λ (b : Bool). Ok b) c.if-not-branch.false in
     let next = option_map view c.fold_next.new.state in

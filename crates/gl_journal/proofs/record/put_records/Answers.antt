@@ -1,5 +1,5 @@
 use Rattle.std.proofs.Common.{arith}
-use Rattle.gl_journal.proofs.RecordLaws.{are_recs_next, put_next, next_sizes}
+use Rattle.gl_journal.proofs.RecordLaws.{are_records_next, put_next, next_sizes}
 use Rattle.gl_journal.proofs.record.put_records.Goals as goal
 
 pub loop-one-preserved : goal.loop-one-preserved
@@ -13,5 +13,5 @@ loop-one-preserved c =
       room = omega (arith, sizes.0, now.room, c.put_record.ensures.room);
       grown = omega (arith, now.grown, c.put_record.ensures.room);
       small = omega (arith, sizes.1, now.small);
-      fields = are_recs_next _ records i below now.fields c.put_record.ensures.fields;
+      fields = are_records_next _ records i below now.fields c.put_record.ensures.fields;
     }

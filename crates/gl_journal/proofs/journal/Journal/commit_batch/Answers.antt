@@ -5,14 +5,14 @@ use Rattle.gl_journal.specs.Gates.{payloads_of, with_last}
 use Rattle.gl_journal.specs.Stops.{IsOpen, OpensTo}
 use Rattle.gl_journal.specs.Records.{records_bytes}
 use Rattle.gl_journal.specs.Durable.{durable, journal_header, OpensToOneOf}
-use Rattle.gl_journal.specs.RecordView.{recs_of}
+use Rattle.gl_journal.specs.RecordView.{record_values}
 use Rattle.gl_journal.proofs.Settling.{both_ok}
 use Rattle.gl_journal.proofs.DurableLaws.{durable_after, durable_between, when_ok}
 use Rattle.gl_journal.proofs.journal.Journal.commit_batch.Goals as goal
 
 pub returns-clause-kept : goal.returns-clause-kept
 returns-clause-kept g c h goes_on state next opens folds =
-    let recs = recs_of c.args.records.now in
+    let recs = record_values c.args.records.now in
     let bytes = g.D.Disk.bytes c.args.self.now.gated.disk in
     let bytes' = g.D.Disk.bytes c.append.new.self.disk in
     let before = c.args.self.now.gated.header in
@@ -35,7 +35,7 @@ returns-clause-after g c h goes_on state next opens folds =
 
 pub returns-clause-any_moment : goal.returns-clause-any_moment
 returns-clause-any_moment g c h goes_on state next opens folds =
-    let recs = recs_of c.args.records.now in
+    let recs = record_values c.args.records.now in
     let bytes = g.D.Disk.bytes c.args.self.now.gated.disk in
     let before = c.args.self.now.gated.header in
     let header : before ≡ journal_header = (c.requires.open h).header in

@@ -1,6 +1,7 @@
 //! A journal: a key, and batches of records that fold into what a node keeps.
 
 ghost use Rattle.std.specs.Prelude.{◌≡◌, ◌⊎◌, ℕ, ◌^◌, ◌<◌, [], List, length, IsTrue, IfOk, IfErr, IsOk, OnOk, Some, Ok, Err};
+ghost use Rattle.gl_base.specs.declared.or_no_memory.OrNoMemory.{OrNoMemory};
 ghost use Rattle.gl_outside.specs.Fault.{Rose, Counts};
 ghost use Rattle.gl_outside.specs.Disk.{IsImage, Leaves};
 ghost use Rattle.gl_journal.specs.Gates.{payloads_of};
@@ -120,6 +121,10 @@ impl<D: Disk> Journal<D> {
         ensures disk_fault { (back : D) →
             result ≡ Err (OrNoMemory.Fault JournalFault.DiskFault, back) →
             Rose (D.faults disk) (D.faults back) }
+        ensures no_disk_fault { (error : OrNoMemory JournalFault) (back : D) →
+            result ≡ Err (error, back) →
+            (error ≡ OrNoMemory.Fault JournalFault.DiskFault → ⊥) →
+            D.faults back ≡ D.faults disk }
         ensures only { (fault : JournalFault) (back : D) →
             result ≡ Err (OrNoMemory.Fault fault, back) →
             (fault ≡ JournalFault.DiskFault) ⊎ ((len : ℕ) × (fault ≡ JournalFault.NotEmpty len)) }
@@ -166,6 +171,10 @@ impl<D: Disk> Journal<D> {
         ensures disk_fault { (back : D) →
             result ≡ Err (OrNoMemory.Fault JournalFault.DiskFault, back) →
             Rose (D.faults disk) (D.faults back) }
+        ensures no_disk_fault { (error : OrNoMemory JournalFault) (back : D) →
+            result ≡ Err (error, back) →
+            (error ≡ OrNoMemory.Fault JournalFault.DiskFault → ⊥) →
+            D.faults back ≡ D.faults disk }
         ensures damaged { IsTrue D.honest → (fault : JournalFault) (back : D) →
             result ≡ Err (OrNoMemory.Fault fault, back) →
             (fault ≡ JournalFault.DiskFault → ⊥) →

@@ -1,6 +1,7 @@
 //! How a file of payloads begins, and how it is opened again.
 
 ghost use Rattle.std.specs.Prelude.{◌≡◌, ◌⊎◌, ℕ, ◌+◌, ◌<◌, ◌≤◌, List, [], ◌∷◌, ◌++◌, length, IsTrue, OnOk, IfOk, IfErr, IsOk, Ok, Err};
+ghost use Rattle.gl_base.specs.declared.or_no_memory.OrNoMemory.{OrNoMemory};
 ghost use Rattle.gl_outside.specs.Fault.{Rose};
 ghost use Rattle.gl_outside.specs.Disk.{Torn, LeavesOnly, Leaves, written};
 ghost use Rattle.gl_journal.specs.declared.fault.JournalFault.{JournalFault};
@@ -89,6 +90,10 @@ impl<D: Disk> Gated<D> {
         ensures disk_fault { (back : D) →
             result ≡ Err (OrNoMemory.Fault JournalFault.DiskFault, back) →
             Rose (D.faults disk) (D.faults back) }
+        ensures no_disk_fault { (error : OrNoMemory JournalFault) (back : D) →
+            result ≡ Err (error, back) →
+            (error ≡ OrNoMemory.Fault JournalFault.DiskFault → ⊥) →
+            D.faults back ≡ D.faults disk }
         ensures only { (fault : JournalFault) (back : D) →
             result ≡ Err (OrNoMemory.Fault fault, back) →
             (fault ≡ JournalFault.DiskFault) ⊎ ((len : ℕ) × (fault ≡ JournalFault.NotEmpty len)) }
@@ -141,6 +146,10 @@ impl<D: Disk> Gated<D> {
         ensures disk_fault { (back : D) →
             result ≡ Err (OrNoMemory.Fault JournalFault.DiskFault, back) →
             Rose (D.faults disk) (D.faults back) }
+        ensures no_disk_fault { (error : OrNoMemory JournalFault) (back : D) →
+            result ≡ Err (error, back) →
+            (error ≡ OrNoMemory.Fault JournalFault.DiskFault → ⊥) →
+            D.faults back ≡ D.faults disk }
         ensures damaged { IsTrue D.honest → (fault : JournalFault) (back : D) →
             result ≡ Err (OrNoMemory.Fault fault, back) →
             (fault ≡ JournalFault.DiskFault → ⊥) → payloads_of header (D.bytes disk) ≡ Err fault }

@@ -171,6 +171,14 @@ fn take(
 impl LedgerState {
     /// Of no entries.
     pub fn new(alloc: Global) -> Result<Self, AllocError>
+        ensures state { IfOk result (λ state. IsStateOf [] state) }
+        ensures whole { IfOk result (λ state. IsWhole state) }
+    {
+        let state = LedgerState::empty(alloc)?;
+        Ok(state)
+    }
+
+    fn empty(alloc: Global) -> Result<Self, AllocError>
         ensures end { IfOk result (λ state. state.end ≡ no_end) }
         ensures signatures { IfOk result (λ state. state.signatures.items ≡ []) }
         ensures gov { IfOk result (λ state. state.gov ≡ []) }

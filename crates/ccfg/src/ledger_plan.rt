@@ -10,7 +10,6 @@ use crate::fault::Fault;
 use crate::plan::Plan;
 use gl_audit::{Verdict, audit};
 use gl_base::{OrNoMemory, TxId};
-use gl_entry::LedgerReader;
 use gl_outside::SureSource;
 use gl_requests::HssPublicKey;
 use std::alloc::{AllocError, Global};
@@ -34,8 +33,8 @@ fn plan_of_verdict(verdict: Verdict) -> Plan
 fn verdict_on(alloc: Global, identity: &HssPublicKey, text: &[u8]) -> Result<Verdict, AllocError>
     ensures { IfOk result (λ told. told ≡ audits_to.verdict identity.now text.now) }
 {
-    let mut reader = LedgerReader::new(alloc, SureSource::new(text, PIECE));
-    match audit(alloc, identity, &mut reader) {
+    let mut source = SureSource::new(text, PIECE);
+    match audit(alloc, identity, &mut source) {
         Ok(verdict) => Ok(verdict),
         Err(OrNoMemory::NoMemory) => Err(AllocError),
         Err(OrNoMemory::Fault(_)) => unreachable!(),

@@ -5,7 +5,7 @@ use Rattle.std.proofs.lemmas.Bool.{and_from, and_parts}
 use Rattle.std.proofs.lemmas.Bool.Decides.{nat_tests}
 use Rattle.gl_base.specs.TxId.{last_seqno}
 use Rattle.gl_entry.specs.Entry.{is_entry, frame_bytes}
-use Rattle.gl_entry.specs.Stream.{next_entry, GivesNext}
+use Rattle.gl_entry.specs.Stream.{next_entry, GivesNext, to_read}
 use Rattle.gl_entry.specs.declared.entry.Entry.{Entry}
 use Rattle.gl_entry.specs.declared.fault.EntryFault.{EntryFault}
 use Rattle.gl_ledger.specs.Audit.{LedgerFault, audited, fault_from, fault_or}
@@ -16,7 +16,10 @@ use Rattle.gl_ledger.specs.declared.breach.Broken.{Broken}
 use Rattle.gl_ledger.proofs.Passing.{passing}
 use Rattle.gl_audit.specs.Given.{OfBytes}
 use Rattle.gl_audit.specs.LedgerFile.{LedgerFile, ledger_file}
-use Rattle.gl_audit.specs.Taking.{AreTaken, Consumes, Ends, IsNext, IsTaken, Reads, no_entries, with_entries}
+use Rattle.gl_store.specs.Kept.{ForLedgers, IsStateOf}
+use Rattle.gl_store.specs.declared.ledger_end.LedgerEnd.{LedgerEnd}
+use Rattle.gl_store.specs.declared.ledger_state.LedgerState.{LedgerState}
+use Rattle.gl_audit.specs.Taking.{AreTaken, Consumes, Ends, EndsAt, IsNext, IsTaken, Reads, Takes, no_entries, with_entries}
 use Rattle.gl_audit.specs.declared.ledger_audit.Next.{Next}
 use Rattle.gl_audit.specs.declared.ledger_audit.Next.TheVariants as nexts
 use Rattle.gl_audit.specs.declared.ledger_audit.Stop.{Stop}
@@ -225,9 +228,47 @@ told_right (stops.Broken rule) identity ledger file e = at_broken identity ledge
 pub told_verdict : (stop at : Stop) (told : Verdict) (identity : List ℕ) (ledger : List Entry) → stop ≡ at → told ≡ told_at at identity ledger → (file : LedgerFile) → Ends [] file stop ledger → told ≡ verdict_of identity file
 told_verdict stop at told identity ledger is same file e = same ∙ told_right at identity ledger file (subst (λ (s : Stop). Ends [] file s ledger) is e)
 
-pub of_taken : (given : Option (List ℕ)) (told : Verdict) (identity : List ℕ) (before : List Entry) (stop : Stop) (now : List Entry) → before ≡ [] → ((file : LedgerFile) → Ends [] file stop now → told ≡ verdict_of identity file)
-    → OfBytes given (λ bytes. Ends before (ledger_file bytes) stop now) → OfBytes given (λ bytes. told ≡ verdict identity bytes)
+pub of_taken : (given : Option (List ℕ)) (told : Verdict) (identity : List ℕ) (stop : Stop) (state : LedgerState) →
+    ForLedgers state (λ ledger. (file : LedgerFile) → Ends [] file stop ledger → told ≡ verdict_of identity file) → EndsAt given stop state → OfBytes given (λ bytes. told ≡ verdict identity bytes)
 unfolding verdict
-of_taken given told identity before stop now none f ends =
-    of_map given (λ bytes. Ends before (ledger_file bytes) stop now) (λ bytes. told ≡ verdict identity bytes)
-    (λ bytes e. f (ledger_file bytes) (subst (λ (l : List Entry). Ends l (ledger_file bytes) stop now) none e)) ends
+of_taken given told identity stop state f e =
+    of_map given (λ bytes. Ends [] (ledger_file bytes) stop e.0) (λ bytes. told ≡ verdict identity bytes) (λ bytes ends. f e.0 e.1 (ledger_file bytes) ends) e.2
+
+-- ---- the auditor's state
+
+-- behind what was read of the bytes this is the state of the ledger that was taken
+pub record IsAt (old new : Option (List ℕ)) (state : LedgerState) : Type 0 where
+  pub ledger : List Entry
+  pub taken : HasTaken old new [] ledger
+  pub stands : IsStateOf ledger state
+
+pub starts_at : (left : Option (List ℕ)) (kept : List ℕ) (state : LedgerState) → kept ≡ [] → IsStateOf [] state → IsAt left (to_read kept left) state
+starts_at left kept state none stands =
+    subst (λ (new : Option (List ℕ)). IsAt left new state) (sym (at_first left kept none)) (record { ledger = []; taken = starts left []; stands = stands })
+  where
+    at_first : (left : Option (List ℕ)) (kept : List ℕ) → kept ≡ [] → to_read kept left ≡ left
+    at_first None kept none = refl
+    at_first (Some bytes) kept none = ap (λ (xs : List ℕ). Some (xs ++ bytes)) none
+
+pub goes_on_at : (old mid new : Option (List ℕ)) (before after : LedgerState) (n : Next) (e : Entry) (told : Option ℕ) → (a : IsAt old mid before) → n ≡ nexts.Entry e → IsNext mid n new → told ≡ None →
+    Takes a.ledger e told after → IsAt old new after
+goes_on_at old mid new before after n e told a is read none t =
+    record { ledger = t.0; taken = goes_on old mid new [] a.ledger t.0 n e told a.taken is read none t.1; stands = t.2 }
+
+pub ends_whole_at : (old new : Option (List ℕ)) (state : LedgerState) (n : Next) (after : Option (List ℕ)) → IsAt old new state → n ≡ nexts.End → IsNext new n after → EndsAt old stops.End state
+ends_whole_at old new state n after a is told = (a.ledger, a.stands, ends_whole old new [] a.ledger n after a.taken is told)
+
+pub ends_unread_at : (old new : Option (List ℕ)) (state : LedgerState) (n : Next) (after : Option (List ℕ)) → IsAt old new state → n ≡ nexts.Unread → IsNext new n after → EndsAt old stops.Unread state
+ends_unread_at old new state n after a is told = (a.ledger, a.stands, ends_unread old new [] a.ledger n after a.taken is told)
+
+pub ends_broken_at : (old mid new : Option (List ℕ)) (before after : LedgerState) (n : Next) (e : Entry) (told : Option ℕ) (rule : ℕ) → (a : IsAt old mid before) → n ≡ nexts.Entry e → IsNext mid n new →
+    told ≡ Some rule → Takes a.ledger e told after → EndsAt old (stops.Broken rule) after
+ends_broken_at old mid new before after n e told rule a is read some t = (t.0, t.2, ends_broken old mid new [] a.ledger t.0 n e told rule a.taken is read some t.1)
+
+pub smaller_at : (old mid : Option (List ℕ)) (before after : LedgerState) (e : Entry) (told : Option ℕ) → (a : IsAt old mid before) → told ≡ None → Takes a.ledger e told after →
+    last_seqno - after.end.len < last_seqno - before.end.len
+smaller_at old mid before after e told a none t =
+    let less = smaller a.ledger t.0 e told none t.1 in
+    let was = ap (λ (end : LedgerEnd). end.len) a.stands.ends in
+    let is = ap (λ (end : LedgerEnd). end.len) t.2.ends in
+    omega (arith, less, was, is)

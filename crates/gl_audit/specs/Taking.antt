@@ -8,6 +8,8 @@ use Rattle.gl_ledger.specs.Audit.{fault_from}
 use Rattle.gl_ledger.specs.Broken.{broken}
 use Rattle.gl_ledger.specs.NodeKeys.{service_layers}
 use Rattle.gl_ledger.specs.declared.breach.Broken.{Broken}
+use Rattle.gl_store.specs.Kept.{IsStateOf}
+use Rattle.gl_store.specs.declared.ledger_state.LedgerState.{LedgerState}
 use Rattle.gl_audit.specs.Given.{OfBytes}
 use Rattle.gl_audit.specs.LedgerFile.{LedgerFile, ledger_file}
 use Rattle.gl_audit.specs.declared.ledger_audit.Next.{Next}
@@ -63,3 +65,15 @@ Ends before file (stops.Broken rule) now =
     (b : Broken) × (b.rule ≡ rule)
     × (fault_from service_layers before file.entries
     ≡ Some (record { seqno = suc (length now); broken = b }))
+
+-- An entry was added that breaks no rule, or this is the first rule that it breaks; and this is the
+-- state of the ledger that is there now.
+abbrev pub Takes : List Entry → Entry → Option ℕ → LedgerState → Type 0
+Takes before e rule state = (now : List Entry) × IsTaken before e rule now × IsStateOf now state
+
+-- The bytes that a source has to give are a file whose entries end so, and this is the state of the
+-- ledger that was taken of it.
+abbrev pub EndsAt : Option (List ℕ) → Stop → LedgerState → Type 0
+EndsAt left stop state =
+    (ledger : List Entry) × IsStateOf ledger state
+    × OfBytes left (λ bytes. Ends [] (ledger_file bytes) stop ledger)

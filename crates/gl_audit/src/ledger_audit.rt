@@ -1,24 +1,24 @@
 //! The audit of a ledger, entry by entry.
 
-ghost use Rattle.std.specs.Prelude.{◌≡◌, ◌≤◌, ◌∷◌, [], Bool, true, Err, Ok, Some, IfOk, IfErr, IfSome, OnOk, OnErr, option_map};
+ghost use Rattle.std.specs.Prelude.{◌≡◌, ◌+◌, length, ◌≤◌, ◌∷◌, [], Bool, true, Err, Ok, Some, IfOk, IfErr, IfSome, OnOk, OnErr, option_map};
 ghost use Rattle.std.specs.Option.{option_copied};
 ghost use Rattle.gl_base.specs.declared.or_no_memory.OrNoMemory.TheVariants.{Fault};
 ghost use Rattle.gl_outside.specs.Fault.{Rose};
-ghost use Rattle.gl_entry.specs.Leaf.{id_of};
 ghost use Rattle.gl_entry.specs.Stream.{to_read};
 ghost use Rattle.gl_ledger.specs.Recordings.{last_entry};
 ghost use Rattle.gl_audit.specs.declared.ledger_audit.ReadFault.{ReadFault as ReadFaults};
 ghost use Rattle.gl_audit.specs.Given.{OfBytes};
-ghost use Rattle.gl_audit.specs.LedgerFile.{LedgerFile, ledger_file};
-ghost use Rattle.gl_audit.specs.Taking.{Ends, IsNext, IsTaken};
-ghost use Rattle.gl_audit.specs.Verdict.{EndsWith, judged, last_signature, verdict, verdict_of};
+ghost use Rattle.gl_audit.specs.LedgerFile.{LedgerFile};
+ghost use Rattle.gl_store.specs.Kept.{ForLedgers, IsState, IsStateOf};
+ghost use Rattle.gl_audit.specs.Taking.{Ends, EndsAt, IsNext, Takes};
+ghost use Rattle.gl_audit.specs.Verdict.{EndsWith, judged, verdict, verdict_of};
 
 use crate::verdict::Verdict;
-use gl_base::{OrNoMemory, TxId};
-use gl_entry::{Entry, LedgerFault, LedgerReader};
+use gl_base::OrNoMemory;
+use gl_entry::{Content, Entry, LedgerFault, ReadBuffer, read_entry};
 use gl_outside::Source;
 use gl_requests::HssPublicKey;
-use gl_store::Store;
+use gl_store::LedgerState;
 use std::alloc::{AllocError, Global};
 use thiserror::Error;
 
@@ -48,16 +48,19 @@ enum Stop {
 }
 
 /// What the file goes on with.
-fn read_next<S: Source>(reader: &mut LedgerReader<S>) -> Result<Next, OrNoMemory<ReadFault>>
-    ensures next { IfOk result (λ next.
-        IsNext (to_read reader.old.kept (S.left reader.old.source)) next
-        (to_read reader.new.kept (S.left reader.new.source))) }
-    ensures ended { result ≡ Ok Next.End → S.ended reader.new.source ≡ true }
+fn read_next<S: Source>(
+    alloc: Global,
+    source: &mut S,
+    kept: &mut ReadBuffer,
+) -> Result<Next, OrNoMemory<ReadFault>>
+    ensures next { IfOk result (λ next. IsNext (to_read kept.old (S.left source.old)) next
+        (to_read kept.new (S.left source.new))) }
+    ensures ended { result ≡ Ok Next.End → S.ended source.new ≡ true }
     ensures failed { (fault : ReadFaults) → result ≡ Err (Fault fault) →
-        Rose (S.faults reader.old.source) (S.faults reader.new.source) }
-    ensures never_falls { S.faults reader.old.source ≤ S.faults reader.new.source }
+        Rose (S.faults source.old) (S.faults source.new) }
+    ensures never_falls { S.faults source.old ≤ S.faults source.new }
 {
-    match reader.next() {
+    match read_entry(alloc, source, kept) {
         Ok(Some(entry)) => Ok(Next::Entry(entry)),
         Ok(None) => Ok(Next::End),
         Err(OrNoMemory::Fault(LedgerFault::Entry(_))) => Ok(Next::Unread),
@@ -66,35 +69,44 @@ fn read_next<S: Source>(reader: &mut LedgerReader<S>) -> Result<Next, OrNoMemory
     }
 }
 
-/// Adds an entry, or tells the first rule that it breaks.
-fn take_entry(store: &mut Store, entry: Entry) -> Result<Option<u8>, AllocError>
-    ensures { IfOk result (λ rule. IsTaken store.old.ledger entry rule store.new.ledger) }
+/// Adds an entry to the ledger, or tells the first rule that it breaks. Behind a signature the state
+/// is settled, so that it holds no more than the tables and what came since.
+fn take_entry(state: &mut LedgerState, entry: &Entry) -> Result<Option<u8>, AllocError>
+    requires { IsState state.old }
+    ensures { IfOk result (λ rule. ForLedgers state.old (λ before.
+        Takes before entry.now rule state.new)) }
 {
-    match store.apply_entry(entry) {
-        Ok(()) => Ok(None),
+    match state.apply(entry) {
+        Ok(()) => {
+            if matches!(entry.content, Content::Signature(_)) {
+                state.settle()?;
+            }
+            Ok(None)
+        }
         Err(OrNoMemory::Fault(broken)) => Ok(Some(broken.rule)),
         Err(OrNoMemory::NoMemory) => Err(AllocError),
     }
 }
 
-/// Adds the entries of a file, up to its end, to bytes that are no frame, or to the first entry
-/// that breaks a rule.
+/// Adds the entries of a file to the state of a ledger of none, up to the file's end, to bytes that
+/// are no frame, or to the first entry that breaks a rule.
 fn take_entries<S: Source>(
-    reader: &mut LedgerReader<S>,
-    store: &mut Store,
+    alloc: Global,
+    source: &mut S,
+    state: &mut LedgerState,
 ) -> Result<Stop, OrNoMemory<ReadFault>>
-    ensures ends { IfOk result (λ stop.
-        OfBytes (to_read reader.old.kept (S.left reader.old.source)) (λ bytes.
-        Ends store.old.ledger (ledger_file bytes) stop store.new.ledger)) }
-    ensures ended { result ≡ Ok Stop.End → S.ended reader.new.source ≡ true }
+    requires { IsStateOf [] state.old }
+    ensures ends { IfOk result (λ stop. EndsAt (S.left source.old) stop state.new) }
+    ensures ended { result ≡ Ok Stop.End → S.ended source.new ≡ true }
     ensures failed { (fault : ReadFaults) → result ≡ Err (Fault fault) →
-        Rose (S.faults reader.old.source) (S.faults reader.new.source) }
-    ensures never_falls { S.faults reader.old.source ≤ S.faults reader.new.source }
+        Rose (S.faults source.old) (S.faults source.new) }
+    ensures never_falls { S.faults source.old ≤ S.faults source.new }
 {
+    let mut kept = ReadBuffer::new(alloc);
     loop {
-        match read_next(reader)? {
+        match read_next(alloc, source, &mut kept)? {
             Next::Entry(entry) => {
-                if let Some(rule) = take_entry(store, entry)? {
+                if let Some(rule) = take_entry(state, &entry)? {
                     return Ok(Stop::Broken(rule));
                 }
             }
@@ -104,75 +116,63 @@ fn take_entries<S: Source>(
     }
 }
 
-/// The transaction of an entry.
-fn id_of(entry: &Entry) -> TxId
-    ensures { result ≡ id_of entry.now }
-{
-    TxId {
-        view: entry.view,
-        seqno: entry.seqno,
-    }
-}
-
-/// The transaction of the last signature, if there is one.
-fn last_signature(store: &Store) -> Option<TxId>
-    ensures { result ≡ last_signature store.now.ledger }
-{
-    match store.entry(store.last_signature()) {
-        None => None,
-        Some(entry) => Some(id_of(entry)),
-    }
-}
-
 /// The verdict on a ledger in which no entry breaks a rule.
-fn judge(identity: &HssPublicKey, store: &Store) -> Verdict
-    ensures { result
-        ≡ judged identity.now store.now.ledger (last_entry store.now.ledger) }
+fn judge(identity: &HssPublicKey, state: &LedgerState) -> Verdict
+    ensures { ForLedgers state.now (λ ledger.
+        result ≡ judged identity.now ledger (last_entry ledger)) }
 {
-    let (Some(last), Some(key)) = (store.entries().last(), store.identity()) else {
+    let end = state.end();
+    let (Some(last), Some(key)) = (end.last, state.identity()) else {
         return Verdict::Fault { seqno: 1, rule: 3 };
     };
     if key == identity {
         Verdict::Valid {
-            last: id_of(last),
-            signed: last_signature(store),
+            last,
+            signed: end.signed,
         }
     } else {
         Verdict::Foreign { identity: *key }
     }
 }
 
+/// The seqno of the entry that follows.
+fn next_seqno(state: &LedgerState) -> u64
+    ensures { ForLedgers state.now (λ ledger. result ≡ length ledger + 1) }
+{
+    state.end().len.saturating_add(1)
+}
+
 /// The verdict on a file whose entries ended so, behind those that were added.
-fn verdict_at(stop: Stop, identity: &HssPublicKey, store: &Store) -> Verdict
-    ensures verdict { (file : LedgerFile) → Ends [] file stop store.now.ledger →
-        result ≡ verdict_of identity.now file }
+fn verdict_at(stop: Stop, identity: &HssPublicKey, state: &LedgerState) -> Verdict
+    ensures verdict { ForLedgers state.now (λ ledger.
+        (file : LedgerFile) → Ends [] file stop ledger → result ≡ verdict_of identity.now file) }
     ensures ended { (ended : Bool) → (stop ≡ Stop.End → ended ≡ true) → EndsWith result ended }
 {
-    let seqno = store.entries().len() as u64 + 1;
+    let seqno = next_seqno(state);
     match stop {
-        Stop::End => judge(identity, store),
+        Stop::End => judge(identity, state),
         Stop::Unread => Verdict::Fault { seqno, rule: 1 },
         Stop::Broken(rule) => Verdict::Fault { seqno, rule },
     }
 }
 
-/// The audit of the ledger file that a reader reads, under the key of a service: whether it is a
+/// The audit of the ledger file that a source gives, under the key of a service: whether it is a
 /// valid ledger of that service, and if not, the first entry that breaks a rule. It reads no
-/// further than that entry.
+/// further than that entry, and keeps no entry: what it takes of memory grows with the tables and
+/// with what stands between two signatures, and not with the ledger.
 pub fn audit<S: Source>(
     alloc: Global,
     identity: &HssPublicKey,
-    reader: &mut LedgerReader<S>,
+    source: &mut S,
 ) -> Result<Verdict, OrNoMemory<ReadFault>>
     ensures verdict { IfOk result (λ told.
-        OfBytes (to_read reader.old.kept (S.left reader.old.source)) (λ given.
-        told ≡ verdict identity.now given)) }
-    ensures ended { IfOk result (λ told. EndsWith told (S.ended reader.new.source)) }
+        OfBytes (S.left source.old) (λ given. told ≡ verdict identity.now given)) }
+    ensures ended { IfOk result (λ told. EndsWith told (S.ended source.new)) }
     ensures failed { (fault : ReadFaults) → result ≡ Err (Fault fault) →
-        Rose (S.faults reader.old.source) (S.faults reader.new.source) }
-    ensures never_falls { S.faults reader.old.source ≤ S.faults reader.new.source }
+        Rose (S.faults source.old) (S.faults source.new) }
+    ensures never_falls { S.faults source.old ≤ S.faults source.new }
 {
-    let mut store = Store::new(alloc)?;
-    let stop = take_entries(reader, &mut store)?;
-    Ok(verdict_at(stop, identity, &store))
+    let mut state = LedgerState::new(alloc)?;
+    let stop = take_entries(alloc, source, &mut state)?;
+    Ok(verdict_at(stop, identity, &state))
 }

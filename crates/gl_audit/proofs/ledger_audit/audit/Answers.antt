@@ -1,8 +1,5 @@
-use Rattle.std.proofs.Common.{ap}
-use Rattle.gl_store.specs.Kept.{Held}
 use Rattle.gl_audit.proofs.Steps.{of_taken}
 use Rattle.gl_audit.proofs.ledger_audit.audit.Goals as goal
 
 pub returns-clause-verdict : goal.returns-clause-verdict
-returns-clause-verdict g c =
-    of_taken _ c.verdict_at.result _ _ _ _ (ap (λ (held : Held). held.ledger) c.in_ok-store.ensures) c.verdict_at.ensures.verdict c.in_ok-stop.ensures.ends
+returns-clause-verdict g c = of_taken _ c.verdict_at.result _ _ _ c.verdict_at.ensures.verdict c.in_ok-stop.ensures.ends

@@ -1,0 +1,2 @@
+pub mod Campaigning
+pub mod Bridging

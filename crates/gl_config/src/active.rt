@@ -41,6 +41,13 @@ impl<'a> Active<'a> {
         }
     }
 
+    /// The active configurations, in the order of their seqnos.
+    pub fn as_slice(&self) -> &[Configuration]
+        ensures { result.now ≡ self.now }
+    {
+        self.configurations
+    }
+
     /// Whether these nodes are a majority in each active configuration: so a candidate wins.
     pub fn quorum(&self, votes: &NodeSet) -> bool
         ensures { result ≡ quorum (λ y. member y votes.now) (sets_of self.now) }

@@ -1,5 +1,5 @@
 -- The rules of elections, event by event, as turns of a node's peer.
-use Rattle.std.proofs.Common.{◌≡◌, ◌≤◌, ◌<◌, ℕ, zero, suc, ◌+◌, ◌==◌, List, [], ◌∷◌, map, length, take, nat_lt, ◌&&◌, not, Bool, true, false, Option, Some, None, Ok, Err, if◌then◌else◌, refl, sym, ap, subst, ◌∙◌, arith, length-take}
+use Rattle.std.proofs.Common.{◌≡◌, ◌≤◌, ℕ, zero, suc, ◌+◌, ◌==◌, List, [], ◌∷◌, map, length, take, nat_lt, ◌&&◌, not, Bool, true, false, Option, Some, None, Ok, Err, if◌then◌else◌, refl, sym, ap, subst, ◌∙◌, arith, length-take}
 use Rattle.std.proofs.lemmas.Bool.Decides.{nat_tests}
 use Rattle.gl_base.specs.declared.tx_id.TxId.{TxId}
 use Rattle.gl_entry.specs.declared.entry.Entry.{Entry}
@@ -51,7 +51,7 @@ module _ {E Q G R A F : Type 0} (b : Book E Q G R A F) where
     where
       go : (t : Bool) (k : ℕ) → b.is_signature e ≡ t → last_signature b l ≡ k → last_signature b (take (last_signature b l) l) ≡ last_signature b l → last_signature b (take (seqno_with_first t k) (e ∷ l)) ≡ seqno_with_first t k
       go t (suc k) s is again =
-          ap (λ i. seqno_with_first (b.is_signature e) (last_signature b (take i l))) (sym is) ∙ ap (seqno_with_first (b.is_signature e)) (again ∙ is) 
+          ap (λ i. seqno_with_first (b.is_signature e) (last_signature b (take i l))) (sym is) ∙ ap (seqno_with_first (b.is_signature e)) (again ∙ is)
       go true zero s is again = ap (λ u. seqno_with_first u 0) s
       go false zero s is again = refl
 
@@ -278,9 +278,9 @@ module _ {Q G R A F : Type 0} (b : Book Entry Q G R A F) (x : NodeId) where
     risen view =
         let q = seats.enter_view view in
         ap (λ (step : outcomes.Step Entry A F). undo_if_refused step.outcome here step) (
-          allowed q (cut_to (last_signature b n.log) here)
-          ∙ ap (λ (l : messages.Position). step_of b (seats.campaign_if_allowed x (tx_id l) (active b (signed_prefix b (signed_prefix b n.log)) n.commit) (others b x (record n { log = signed_prefix b (signed_prefix b n.log) })) false q) (with_peer q (entered true))) (last_signed b n.log)
-          ∙ ap (λ (l : List Entry). step_of b (seats.campaign_if_allowed x (last_of b n) (active b l n.commit) (others b x (record n { log = l })) false q) (with_peer q (entered true))) (signed_again b n.log)
+        allowed q (cut_to (last_signature b n.log) here)
+        ∙ ap (λ (l : messages.Position). step_of b (seats.campaign_if_allowed x (tx_id l) (active b (signed_prefix b (signed_prefix b n.log)) n.commit) (others b x (record n { log = signed_prefix b (signed_prefix b n.log) })) false q) (with_peer q (entered true))) (last_signed b n.log)
+        ∙ ap (λ (l : List Entry). step_of b (seats.campaign_if_allowed x (last_of b n) (active b l n.commit) (others b x (record n { log = l })) false q) (with_peer q (entered true))) (signed_again b n.log)
         )
         ∙ from_before q
 

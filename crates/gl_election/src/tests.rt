@@ -54,7 +54,10 @@ fn three_nodes_elect(rt: HostRuntime) -> Result<(), Fail> {
 
     // Node 2 asks both others.
     let asked = second.timeout(alloc, id(2), LAST, &active, &[id(1), id(3)])?;
-    assert_eq!(rt; summary(&asked), (ElectionOutcome::BecameCandidate, 2, true));
+    assert_eq!(rt;
+        summary(&asked),
+        (ElectionOutcome::BecameCandidate, 2, true)
+    );
 
     // Node 3 votes for it, and for no other node in that view.
     let voted = third.on_request_vote(alloc, id(3), LAST, id(2), 3, LAST)?;
@@ -103,10 +106,18 @@ fn a_leader_hands_over(rt: HostRuntime) -> Result<(), Fail> {
     let mut third = follower(alloc);
     let others = [id(1), id(2)];
     let asked = third.on_propose_vote(alloc, id(3), LAST, &active, &others, id(1), 2)?;
-    assert_eq!(rt; summary(&asked), (ElectionOutcome::BecameCandidate, 2, true));
+    assert_eq!(rt;
+        summary(&asked),
+        (ElectionOutcome::BecameCandidate, 2, true)
+    );
     assert_eq!(rt; third.view, 3);
-    let refused = third.on_propose_vote(alloc, id(3), LAST, &active, &others, id(1), u32::MAX).err();
-    assert_eq!(rt; refused, Some(OrNoMemory::Fault(ElectionRefusal::ViewLimit)));
+    let refused = third
+        .on_propose_vote(alloc, id(3), LAST, &active, &others, id(1), u32::MAX)
+        .err();
+    assert_eq!(rt;
+        refused,
+        Some(OrNoMemory::Fault(ElectionRefusal::ViewLimit))
+    );
     assert_eq!(rt; third.view, 3);
     Ok(())
 }

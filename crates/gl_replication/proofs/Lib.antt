@@ -1,0 +1,3 @@
+pub mod Rows
+pub mod Cuts
+pub mod Commits

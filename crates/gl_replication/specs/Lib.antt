@@ -1,0 +1,4 @@
+pub mod Holding
+pub mod Standing
+pub mod Pairs
+pub mod Stands

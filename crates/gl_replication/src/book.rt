@@ -1,0 +1,104 @@
+//! What a store gives to the rules of consensus.
+
+ghost use Rattle.std.specs.Prelude.{◌≡◌, ◌≤◌, ◌<◌, ◌^◌, ◌++◌, ◌∷◌, [], ℕ, List, Ok, Err, max, take, drop, length, AllPairs, IfOk, IfErr, OnOk, OnErr};
+ghost use Rattle.gl_base.specs.Answers.{Fails};
+ghost use Rattle.gl_entry.specs.declared.entry.Entry.{Entry as Item};
+ghost use Rattle.gl_rules.specs.Book.{Book as Rules};
+ghost use Rattle.gl_rules.specs.Log.{entry_at, greatest_recorded, is_signature_in, last_signature, last_signature_position, view_at};
+ghost use Rattle.gl_rules.specs.Configuration.{active};
+ghost use Rattle.gl_rules.specs.Replication.{checked_append};
+ghost use Rattle.gl_config.specs.Active.{active_of, sets_of};
+ghost use Rattle.gl_election.specs.Bridge.{tx_id};
+ghost use Rattle.gl_replication.specs.Holding.{Holding};
+ghost use Rattle.gl_replication.specs.Standing.{At, Becomes, Enters, Stays};
+
+use gl_base::{OrNoMemory, TxId};
+use gl_config::{Configuration, NodeId};
+use gl_entry::Entry;
+
+/// What a store gives to the rules of consensus. Its meaning is a relation between the store, rules
+/// over a ledger book, and what is held for a node: a store needn't know all of the ledger, only what
+/// these calls tell of it. A store that stands for nothing promises nothing; whoever makes one says
+/// for which rules and which ledger it stands.
+pub trait Book: Drop {
+    /// An application's request.
+    type Request: Drop;
+    /// A request of governance.
+    type Gov: Drop;
+    /// The reads of a transaction.
+    type Reads: Drop;
+    /// An answer to a request.
+    type Given: Drop;
+    /// Why the ledger takes no entry.
+    type Refused: Copy;
+
+    // Under these rules it stands for what is held, a ledger whole from seqno 1.
+    ghost stands: { Self → Rules Item Self.Request Self.Gov Self.Reads Self.Given Self.Refused → Holding Item → Type 0 };
+
+    /// With whose key it signs.
+    fn me(&self) -> NodeId
+        ensures { At stands self.now (λ b h. result ≡ h.me) };
+
+    /// The seqno of the last entry.
+    fn ledger_len(&self) -> u64
+        ensures value { At stands self.now (λ b h. result ≡ length h.log) }
+        ensures base { At stands self.now (λ b h. h.base ≤ length h.log) }
+        ensures within { result < 2 ^ 40 };
+
+    /// The view and the seqno of the last signature, both 0 where there is none.
+    fn last_signature(&self) -> TxId
+        ensures { At stands self.now (λ b h. result ≡ tx_id (last_signature_position b h.log)) };
+
+    /// The greatest commit that a signature records; the base counts as one.
+    fn known_commit(&self) -> u64
+        ensures { At stands self.now (λ b h. result ≡ max h.base (greatest_recorded b h.log)) };
+
+    /// The view of the entry at a seqno, 0 where there is none.
+    fn view_at(&self, seqno: u64) -> u32
+        ensures { At stands self.now (λ b h. result ≡ view_at b h.log seqno) };
+
+    /// Whether a signature of this view stands at a seqno, not below the base.
+    fn is_signature_in(&self, view: u32, seqno: u64) -> bool
+        ensures { At stands self.now (λ b h. h.base ≤ seqno →
+            result ≡ is_signature_in b view (entry_at h.log seqno)) };
+
+    /// Configurations that give the active ones of the ledger cut to a seqno, at each commit that is
+    /// not below the base.
+    fn configurations(&self, upto: u64) -> &[Configuration]
+        ensures ascending { AllPairs (λ c d. c.seqno < d.seqno) result.now }
+        ensures active { At stands self.now (λ b h. (commit : ℕ) → h.base ≤ commit →
+            sets_of (active_of result.now commit) ≡ active b (take upto h.log) commit) };
+
+    /// The nodes that the ledger cut to a seqno records, in the order in which they were recorded.
+    fn recorded_nodes(&self, upto: u64) -> &[NodeId]
+        ensures { At stands self.now (λ b h. result.now ≡ b.recorded_nodes (take upto h.log)) };
+
+    /// Takes an entry for a request, and tells its view and the answer.
+    fn execute(
+        &mut self,
+        view: u32,
+        request: &Self::Request,
+    ) -> Result<(u32, Self::Given), OrNoMemory<Self::Refused>>
+        ensures made { IfOk result (λ r. Enters stands self.old self.new (λ b h e.
+            (b.execute h.log view request.now ≡ Ok (e, r.1)) × (r.0 ≡ b.view_of e))) }
+        ensures refused { IfErr result (λ e. At stands self.old (λ b h.
+            Fails e (b.execute h.log view request.now))) }
+        ensures err { OnErr result (Stays stands self.old self.new) };
+
+    /// Takes a signature by this leaf that records this commit, and tells its view.
+    fn sign(
+        &mut self,
+        leaf: u64,
+        view: u32,
+        commit: u64,
+    ) -> Result<u32, OrNoMemory<Self::Refused>>
+        ensures made { IfOk result (λ r. Enters stands self.old self.new (λ b h e.
+            (b.sign h.me leaf h.log view commit ≡ Ok e) × (r ≡ b.view_of e))) }
+        ensures refused { IfErr result (λ e. At stands self.old (λ b h.
+            Fails e (b.sign h.me leaf h.log view commit))) }
+        ensures err { OnErr result (Stays stands self.old self.new) };
+
+    /// Cuts the ledger to a seqno.
+    fn cut(&mut self, to: u64)
+        ensures { Becomes stands self.old self.new (λ b h log. log ≡ take to h.log) };
+}

@@ -1,0 +1,13 @@
+//! A node of the service over any store: each of its calls is a rule of consensus.
+#![tactic(auto)]
+
+mod book;
+mod done;
+mod holders;
+mod leaves;
+mod node;
+
+pub use book::Book;
+pub use done::{Done, Outcome, Refusal};
+pub use leaves::Leaves;
+pub use node::Core;

@@ -1,0 +1,139 @@
+//! A node over any store.
+
+ghost use Rattle.std.specs.Prelude.{◌≡◌, ◌≤◌, ◌<◌, [], length, take, IfOk, IfErr, IfSome, OnErr};
+ghost use Rattle.gl_rules.specs.Requests.{execute_request, sign, sign_as_leader, submit};
+ghost use Rattle.gl_rules.specs.Replication.{restart};
+ghost use Rattle.gl_replication.specs.Stands.{IsNoMemory, KeepsAll, Refuses, Settles, Steps, Tells, Turns};
+
+use crate::book::Book;
+use crate::done::{Done, Outcome, Refusal};
+use crate::leaves::Leaves;
+use gl_base::{OrNoMemory, Sequence};
+use gl_config::{NodeId, NodeSet};
+use gl_election::{Peer, Role};
+use std::alloc::Global;
+
+/// A node of the service over a store.
+#[derive(Drop)]
+pub struct Core<B: Book> {
+    pub alloc: Global,
+    pub book: B,
+    pub peer: Peer,
+    pub leaves: Leaves,
+    pub commit: u64,
+    /// The seqno behind its log when it became leader.
+    pub start: u64,
+    /// How often entries were cut off its log, up to `u64::MAX`.
+    pub cuts: u64,
+    /// As a leader: up to which seqno each node is known to hold its log; the first pair of a node
+    /// counts.
+    pub matched: Vec<(NodeId, u64)>,
+    /// Which seqno each node is sent next; the first pair of a node counts.
+    pub next: Vec<(NodeId, u64)>,
+}
+
+impl<B: Book> Core<B> {
+    /// One more entry for a request.
+    fn execute_request(&mut self, request: &B::Request) -> Result<Done<B>, Refusal<B>>
+        ensures steps { IfOk result (λ done.
+            Steps B.stands (λ b x n. execute_request b request.now n) self.old done self.new) }
+        ensures refused { IfErr result (λ why.
+            Refuses B.stands (λ b x n. execute_request b request.now n) self.old why) }
+        ensures err { OnErr result (KeepsAll B.stands self.old self.new) }
+        ensures quiet { IfOk result (λ done. done.sent ≡ []) }
+    {
+        let seqno = self.book.ledger_len() + 1;
+        match self.book.execute(self.peer.view, request) {
+            Ok((view, given)) => Ok(Done {
+                outcome: Outcome::Accepted(view, seqno, given),
+                sent: Sequence::from(Vec::new(self.alloc)),
+            }),
+            Err(OrNoMemory::NoMemory) => Err(Refusal::NoMemory),
+            Err(OrNoMemory::Fault(why)) => Err(Refusal::ByLedger(why)),
+        }
+    }
+
+    /// The leader takes an application's request, as one entry.
+    pub fn submit(&mut self, request: B::Request) -> Result<Done<B>, Refusal<B>>
+        ensures steps { IfOk result (λ done.
+            Steps B.stands (λ b x n. submit b request n) self.old done self.new) }
+        ensures refused { IfErr result (λ why.
+            Refuses B.stands (λ b x n. submit b request n) self.old why) }
+        ensures err { OnErr result (KeepsAll B.stands self.old self.new) }
+        ensures quiet { IfOk result (λ done. done.sent ≡ []) }
+    {
+        match self.peer.role {
+            Role::Leader => self.execute_request(&request),
+            _ => Err(Refusal::NotPrimary(self.peer.view, self.peer.leader)),
+        }
+    }
+
+    /// A signature with the first leaf that is not used.
+    fn sign_as_leader(&mut self) -> Result<Done<B>, Refusal<B>>
+        ensures steps { IfOk result (λ done.
+            Steps B.stands (λ b x n. sign_as_leader b x n) self.old done self.new) }
+        ensures refused { IfErr result (λ why.
+            Refuses B.stands (λ b x n. sign_as_leader b x n) self.old why) }
+        ensures err { OnErr result (KeepsAll B.stands self.old self.new) }
+        ensures quiet { IfOk result (λ done. done.sent ≡ []) }
+    {
+        if self.leaves.used == self.leaves.reserved {
+            return Err(Refusal::NotReserved(self.leaves.reserved));
+        }
+        let len = self.book.ledger_len();
+        if self.book.is_signature_in(self.peer.view, len) {
+            return Err(Refusal::NothingToSign(len));
+        }
+        match self
+            .book
+            .sign(self.leaves.used, self.peer.view, self.commit)
+        {
+            Ok(view) => {
+                self.leaves.used += 1;
+                Ok(Done {
+                    outcome: Outcome::Signed(view, len + 1),
+                    sent: Sequence::from(Vec::new(self.alloc)),
+                })
+            }
+            Err(OrNoMemory::NoMemory) => Err(Refusal::NoMemory),
+            Err(OrNoMemory::Fault(why)) => Err(Refusal::ByLedger(why)),
+        }
+    }
+
+    /// The leader signs the ledger so far.
+    pub fn sign(&mut self) -> Result<Done<B>, Refusal<B>>
+        ensures steps { IfOk result (λ done.
+            Steps B.stands (λ b x n. sign b x n) self.old done self.new) }
+        ensures refused { IfErr result (λ why.
+            Refuses B.stands (λ b x n. sign b x n) self.old why) }
+        ensures err { OnErr result (KeepsAll B.stands self.old self.new) }
+        ensures quiet { IfOk result (λ done. done.sent ≡ []) }
+    {
+        match self.peer.role {
+            Role::Leader => self.sign_as_leader(),
+            _ => Err(Refusal::NotPrimary(self.peer.view, self.peer.leader)),
+        }
+    }
+
+    /// What the node's file keeps, and commit as far as it is known from it. Takes no memory.
+    #[tactic(auto, unfolding(gl_rules::specs::Replication::restart))]
+    pub fn restart(&mut self) -> Result<Done<B>, Refusal<B>>
+        ensures steps { IfOk result (λ done.
+            Steps B.stands (λ b x n. restart b n) self.old done self.new) }
+        ensures always { IfErr result (λ why. ⊥) }
+        ensures quiet { IfOk result (λ done. done.sent ≡ []) }
+    {
+        self.commit = self.book.known_commit();
+        self.peer.role = Role::Follower;
+        self.peer.leader = None;
+        self.peer.votes = NodeSet::new(Vec::new(self.alloc));
+        self.matched.clear();
+        self.next.clear();
+        self.leaves.used = self.leaves.reserved;
+        self.cuts = 0;
+        Ok(Done {
+            outcome: Outcome::Done,
+            sent: Sequence::from(Vec::new(self.alloc)),
+        })
+    }
+}

@@ -2,11 +2,12 @@
 
 ghost use Rattle.std.specs.Prelude.{◌≡◌, ◌≤◌, ◌<◌, [], length, take, IfOk, IfErr, IfSome, OnErr};
 ghost use Rattle.gl_rules.specs.Requests.{execute_request, sign, sign_as_leader, submit};
-ghost use Rattle.gl_rules.specs.Replication.{restart};
+ghost use Rattle.gl_rules.specs.Replication.{advance, commit_to, greatest_to_commit, may_commit, restart};
 ghost use Rattle.gl_replication.specs.Stands.{IsNoMemory, KeepsAll, Refuses, Settles, Steps, Tells, Turns};
 
 use crate::book::Book;
 use crate::done::{Done, Outcome, Refusal};
+use crate::holders::is_quorum_holding;
 use crate::leaves::Leaves;
 use gl_base::{OrNoMemory, Sequence};
 use gl_config::{NodeId, NodeSet};
@@ -135,5 +136,75 @@ impl<B: Book> Core<B> {
             outcome: Outcome::Done,
             sent: Sequence::from(Vec::new(self.alloc)),
         })
+    }
+
+    /// Whether it may commit a seqno, as the leader.
+    fn may_commit(&self, seqno: u64) -> bool
+        ensures { Tells B.stands self.now (λ b x n.
+            seqno ≤ length n.log → result ≡ may_commit b x n seqno) }
+    {
+        if seqno <= self.commit || !self.book.is_signature_in(self.peer.view, seqno) {
+            return false;
+        }
+        is_quorum_holding(
+            &self.book.me(),
+            seqno,
+            &self.matched,
+            self.book.configurations(seqno),
+            self.commit,
+        )
+    }
+
+    /// The greatest seqno that it may commit.
+    fn greatest_to_commit(&self) -> Option<u64>
+        ensures value { Tells B.stands self.now (λ b x n.
+            result ≡ greatest_to_commit b x n (length n.log)) }
+        ensures above { IfSome result (λ seqno. self.now.commit < seqno) }
+    {
+        let mut seqno = self.book.ledger_len();
+        while seqno > self.commit {
+            if self.may_commit(seqno) {
+                return Some(seqno);
+            }
+            seqno -= 1;
+        }
+        None
+    }
+
+    /// Commit rises to the greatest seqno that it may, if there is one.
+    fn advance_as_leader(&mut self) -> Done<B>
+        ensures steps { Steps B.stands (λ b x n.
+            commit_to b n (greatest_to_commit b x n (length n.log))) self.old result self.new }
+        ensures quiet { result.sent ≡ [] }
+    {
+        match self.greatest_to_commit() {
+            None => Done {
+                outcome: Outcome::Idle,
+                sent: Sequence::from(Vec::new(self.alloc)),
+            },
+            Some(seqno) => {
+                self.commit = seqno;
+                Done {
+                    outcome: Outcome::Committed(self.book.view_at(seqno), seqno),
+                    sent: Sequence::from(Vec::new(self.alloc)),
+                }
+            }
+        }
+    }
+
+    /// The leader commits the greatest seqno that it may. Takes no memory.
+    pub fn advance(&mut self) -> Result<Done<B>, Refusal<B>>
+        ensures steps { IfOk result (λ done.
+            Steps B.stands (λ b x n. advance b x n) self.old done self.new) }
+        ensures refused { IfErr result (λ why.
+            Refuses B.stands (λ b x n. advance b x n) self.old why) }
+        ensures err { OnErr result (KeepsAll B.stands self.old self.new) }
+        ensures quiet { IfOk result (λ done. done.sent ≡ []) }
+        ensures ample { IfErr result (λ why. IsNoMemory why → ⊥) }
+    {
+        match self.peer.role {
+            Role::Leader => Ok(self.advance_as_leader()),
+            _ => Err(Refusal::NotPrimary(self.peer.view, self.peer.leader)),
+        }
     }
 }

@@ -1,5 +1,5 @@
 -- The greatest seqno that a leader may commit, one seqno at a time.
-use Rattle.std.proofs.Common.{◌≡◌, ◌≤◌, ◌<◌, ℕ, zero, suc, ◌-◌, List, [], ◌∷◌, length, take, map, Bool, true, false, nat_le, nat_lt, ◌&&◌, ◌||◌, Option, Some, None, if◌then◌else◌, refl, sym, ap, subst, ◌∙◌, arith}
+use Rattle.std.proofs.Common.{◌≡◌, ◌≤◌, ◌<◌, ℕ, zero, suc, ◌-◌, List, [], length, take, map, Bool, true, false, nat_le, nat_lt, ◌&&◌, ◌||◌, Option, Some, None, if◌then◌else◌, refl, sym, ap, subst, ◌∙◌, arith}
 use Rattle.std.proofs.lemmas.Bool.Decides.{nat_tests}
 use Rattle.gl_rules.specs.Identity.{NodeId, same}
 use Rattle.gl_rules.specs.Majority.{quorum}
@@ -17,7 +17,7 @@ use Rattle.gl_config.specs.declared.configuration.Configuration.{Configuration}
 use Rattle.gl_config.specs.Active.{active_of, sets_of}
 use Rattle.gl_replication.specs.declared.done.Done.{Done}
 use Rattle.gl_election.specs.Bridge.{seen_message}
-use Rattle.gl_replication.specs.Stands.{seen, seen_outcome, StandsFor, Stepped}
+use Rattle.gl_replication.specs.Stands.{seen_outcome, StandsFor, Stepped}
 use Rattle.gl_replication.proofs.Cuts.{active_cut, quorum_same}
 
 module _ {E Q G R A F : Type 0} (b : Book E Q G R A F) (x : NodeId) (n : Node E) where

@@ -1,3 +1,4 @@
 pub mod Rows
 pub mod Cuts
 pub mod Commits
+pub mod Turns

@@ -1,10 +1,9 @@
 -- What all rows at a leader have in common.
-use Rattle.std.proofs.Common.{◌≡◌, ℕ, List, map, Result, Ok, Err, IfOk, IfErr, refl, sym, ap, subst, ◌∙◌}
+use Rattle.std.proofs.Common.{◌≡◌, map, Result, Ok, Err, IfOk, IfErr, refl, sym, ap, subst, ◌∙◌}
 use Rattle.gl_rules.specs.Identity.{NodeId}
 use Rattle.gl_rules.specs.Book.{Book}
 use Rattle.gl_rules.specs.Node.{Node}
-use Rattle.gl_rules.specs.Node as rules
-use Rattle.gl_rules.specs.Outcome.{Step, Outcome, Refused, NotPrimary}
+use Rattle.gl_rules.specs.Outcome.{Step, Refused, NotPrimary}
 use Rattle.gl_rules.specs.Steps.{if_leader, as_leader}
 use Rattle.gl_entry.specs.declared.entry.Entry.{Entry}
 use Rattle.gl_replication.specs.declared.node.Core.{Core}
@@ -14,7 +13,7 @@ use Rattle.gl_replication.specs.declared.done.Done.{Done}
 use Rattle.gl_replication.specs.declared.done.Refusal.{Refusal}
 use Rattle.gl_replication.specs.Holding.{Holding}
 use Rattle.gl_election.specs.Bridge.{seen_message, seen_role}
-use Rattle.gl_replication.specs.Stands.{seen, seen_outcome, Answers, StandsFor, Stepped, Steps, Refuses, KeepsAll}
+use Rattle.gl_replication.specs.Stands.{seen_outcome, Answers, StandsFor, Stepped, Steps, Refuses}
 
 pub if_ok : {T U : Type 0} {P Q : T → Type 0} (r : Result T U) → ((v : T) → P v → Q v) → IfOk r P → IfOk r Q
 if_ok (Ok v) f p = f v p

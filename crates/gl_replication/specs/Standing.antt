@@ -1,5 +1,5 @@
 -- What a store says of the ledgers that it stands for, of which it needn't know all.
-use Rattle.std.specs.Prelude.{ℕ, List, [], ◌∷◌, ◌++◌}
+use Rattle.std.specs.Prelude.{List, [], ◌∷◌, ◌++◌}
 use Rattle.gl_rules.specs.Book.{Book}
 use Rattle.gl_replication.specs.Holding.{Holding, with_log}
 

@@ -1,14 +1,16 @@
 -- A core stands for a node of the rules, under rules and for a ledger of which its store needn't know all.
-use Rattle.std.specs.Prelude.{◌≡◌, ◌≤◌, ℕ, List, [], map}
+use Rattle.std.specs.Prelude.{◌≡◌, ◌≤◌, map}
+use Rattle.gl_base.specs.declared.or_no_memory.OrNoMemory.{OrNoMemory}
+use Rattle.gl_base.specs.declared.or_no_memory.OrNoMemory.TheVariants.{NoMemory, Fault}
 use Rattle.gl_entry.specs.declared.entry.Entry.{Entry}
 use Rattle.gl_rules.specs.Identity.{NodeId}
 use Rattle.gl_rules.specs.Book.{Book}
 use Rattle.gl_rules.specs.Node.{Node}
 use Rattle.gl_rules.specs.Outcome.{Step, Refused, NotPrimary, NotReserved, NothingToSign, NotPeer, ViewLimit}
 use Rattle.gl_rules.specs.Outcome as outcomes
-use Rattle.gl_rules.specs.Log.{last_signature}
-use Rattle.gl_messages.specs.declared.message.Message.{Message}
 use Rattle.gl_election.specs.declared.elected.Elected.{Elected}
+use Rattle.gl_election.specs.declared.elected.ElectionRefusal.{ElectionRefusal}
+use Rattle.gl_election.specs.declared.elected.ElectionRefusal.TheVariants as faults
 use Rattle.gl_election.specs.Bridge.{seen_message, with_peer, begin_leading, cut_if_rose}
 use Rattle.gl_election.specs.Bridge as elections
 use Rattle.gl_replication.specs.declared.node.Core.{Core}
@@ -55,6 +57,13 @@ module _ {S Q G R A F : Type 0} where
   Answers refusals.ViewLimit o = o ≡ Refused ViewLimit
   Answers (refusals.ByLedger why) o = o ≡ Refused (outcomes.ByLedger why)
 
+  -- What a peer refuses, as the core does.
+  abbrev pub refusal_of : OrNoMemory ElectionRefusal → Refusal S Q G R A F
+  refusal_of NoMemory = refusals.NoMemory
+  refusal_of (Fault (faults.NotPrimary view leader)) = refusals.NotPrimary view leader
+  refusal_of (Fault faults.NotPeer) = refusals.NotPeer
+  refusal_of (Fault faults.ViewLimit) = refusals.ViewLimit
+
   abbrev pub IsNoMemory : Refusal S Q G R A F → Type 0
   IsNoMemory why = why ≡ refusals.NoMemory
 
@@ -99,5 +108,5 @@ module _ {S Q G R A F : Type 0} where
       pub outcome : seen_outcome {F = F} done.outcome ≡ elections.seen_outcome b elected.outcome
       pub sent : done.sent ≡ elected.sent
 
-    abbrev pub Settles : Elected → ℕ → Core S Q G R A F → Done S Q G R A F → Core S Q G R A F → Type 0
-    Settles elected seqno old done new = Tells old (λ b x n. seqno ≡ last_signature b n.log → Settled b x n elected done new)
+    abbrev pub Settles : Elected → Core S Q G R A F → Done S Q G R A F → Core S Q G R A F → Type 0
+    Settles elected old done new = Tells old (λ b x n. Settled b x n elected done new)

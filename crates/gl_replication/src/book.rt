@@ -86,12 +86,7 @@ pub trait Book: Drop {
         ensures err { OnErr result (Stays stands self.old self.new) };
 
     /// Takes a signature by this leaf that records this commit, and tells its view.
-    fn sign(
-        &mut self,
-        leaf: u64,
-        view: u32,
-        commit: u64,
-    ) -> Result<u32, OrNoMemory<Self::Refused>>
+    fn sign(&mut self, leaf: u64, view: u32, commit: u64) -> Result<u32, OrNoMemory<Self::Refused>>
         ensures made { IfOk result (λ r. Enters stands self.old self.new (λ b h e.
             (b.sign h.me leaf h.log view commit ≡ Ok e) × (r ≡ b.view_of e))) }
         ensures refused { IfErr result (λ e. At stands self.old (λ b h.

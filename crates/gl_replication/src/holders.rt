@@ -73,8 +73,10 @@ pub(crate) fn is_quorum_holding(
     ensures { result ≡ quorum (holds me.now seqno (held matched.now))
         (sets_of (active_of configurations.now commit)) }
 {
-    Active::of(configurations, commit)
-        .as_slice()
-        .iter()
-        .all(|configuration| is_majority_holding(me, seqno, matched, &configuration.nodes))
+    Active::of(configurations, commit).as_slice().iter().all(|configuration| is_majority_holding(
+        me,
+        seqno,
+        matched,
+        &configuration.nodes,
+    ))
 }

@@ -3,6 +3,7 @@
 
 mod book;
 mod done;
+mod elections;
 mod holders;
 mod leaves;
 mod node;

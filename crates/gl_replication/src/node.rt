@@ -1,9 +1,9 @@
 //! A node over any store.
 
-ghost use Rattle.std.specs.Prelude.{◌≡◌, ◌≤◌, ◌<◌, [], length, take, IfOk, IfErr, IfSome, OnErr};
+ghost use Rattle.std.specs.Prelude.{◌≡◌, ◌≤◌, ◌<◌, [], length, IfOk, IfErr, IfSome, OnErr};
 ghost use Rattle.gl_rules.specs.Requests.{execute_request, sign, sign_as_leader, submit};
 ghost use Rattle.gl_rules.specs.Replication.{advance, commit_to, greatest_to_commit, may_commit, restart};
-ghost use Rattle.gl_replication.specs.Stands.{IsNoMemory, KeepsAll, Refuses, Settles, Steps, Tells, Turns};
+ghost use Rattle.gl_replication.specs.Stands.{IsNoMemory, KeepsAll, Refuses, Steps, Tells};
 
 use crate::book::Book;
 use crate::done::{Done, Outcome, Refusal};

@@ -1,4 +1,4 @@
-use Rattle.std.proofs.Common.{rules, refl, sym, ap, map, ◌∙◌}
+use Rattle.std.proofs.Common.{rules, refl, sym, ◌∙◌}
 use Rattle.gl_replication.proofs.Commits.{committing}
 use Rattle.gl_replication.proofs.node.Core.advance_as_leader.Goals as goal
 

@@ -1,4 +1,4 @@
-use Rattle.std.proofs.Common.{rules, sym, ◌∙◌, arith}
+use Rattle.std.proofs.Common.{sym, ◌∙◌, arith}
 use Rattle.gl_replication.proofs.Commits.{greatest_here, greatest_below, greatest_none, commit_is}
 use Rattle.gl_replication.proofs.node.Core.greatest_to_commit.Goals as goal
 

@@ -1,4 +1,4 @@
-use Rattle.std.proofs.Common.{◌≡◌, ◌≤◌, ◌-◌, length}
+use Rattle.std.proofs.Common.{◌≡◌, ◌≤◌, length}
 use Rattle.gl_rules.specs.Replication.{greatest_to_commit}
 use Rattle.gl_replication.specs.Stands.{Tells}
 use Rattle.gl_replication.proofs.node.Core.greatest_to_commit.Given as goal

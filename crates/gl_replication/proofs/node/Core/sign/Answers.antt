@@ -1,4 +1,4 @@
-use Rattle.std.proofs.Common.{rules, refl}
+use Rattle.std.proofs.Common.{refl}
 use Rattle.gl_rules.specs.Requests.{sign, sign_as_leader}
 use Rattle.gl_replication.proofs.Rows.{if_ok, if_err, steps_led, refuses_led, refuses_denied}
 use Rattle.gl_replication.proofs.node.Core.sign.Goals as goal

@@ -1,4 +1,4 @@
-use Rattle.std.proofs.Common.{rules, refl}
+use Rattle.std.proofs.Common.{refl}
 use Rattle.gl_rules.specs.Requests.{execute_request, submit}
 use Rattle.gl_replication.proofs.Rows.{if_ok, if_err, steps_led, refuses_led, refuses_denied}
 use Rattle.gl_replication.proofs.node.Core.submit.Goals as goal

@@ -34,7 +34,7 @@ module _ {E Q G R A F : Type 0} (b : Book E Q G R A F) where
   entry_cut (e ∷ l) (suc zero) = refl
   entry_cut (e ∷ l) (suc (suc k)) = entry_cut l (suc k)
 
-  last_le : (l : List E) → last_signature b l ≤ length l
+  pub last_le : (l : List E) → last_signature b l ≤ length l
   unfolding last_signature
   last_le [] = omega arith
   last_le (e ∷ l) = go (b.is_signature e) (last_signature b l) (last_le l)

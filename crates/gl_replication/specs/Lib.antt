@@ -2,3 +2,4 @@ pub mod Holding
 pub mod Standing
 pub mod Pairs
 pub mod Stands
+pub mod Replies

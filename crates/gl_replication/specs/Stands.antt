@@ -1,13 +1,14 @@
 -- A core stands for a node of the rules, under rules and for a ledger of which its store needn't know all.
-use Rattle.std.specs.Prelude.{◌≡◌, ◌≤◌, map}
+use Rattle.std.specs.Prelude.{List, ◌≡◌, ◌≤◌, map}
 use Rattle.gl_base.specs.declared.or_no_memory.OrNoMemory.{OrNoMemory}
 use Rattle.gl_base.specs.declared.or_no_memory.OrNoMemory.TheVariants.{NoMemory, Fault}
 use Rattle.gl_entry.specs.declared.entry.Entry.{Entry}
 use Rattle.gl_rules.specs.Identity.{NodeId}
 use Rattle.gl_rules.specs.Book.{Book}
 use Rattle.gl_rules.specs.Node.{Node}
-use Rattle.gl_rules.specs.Outcome.{Step, Refused, NotPrimary, NotReserved, NothingToSign, NotPeer, ViewLimit}
+use Rattle.gl_rules.specs.Outcome.{Step, Refused, NotPrimary, NotReserved, NothingToSign, BelowCommit, NotPeer, ViewLimit}
 use Rattle.gl_rules.specs.Outcome as outcomes
+use Rattle.gl_messages.specs.declared.message.Message.{Message}
 use Rattle.gl_election.specs.declared.elected.Elected.{Elected}
 use Rattle.gl_election.specs.declared.elected.ElectionRefusal.{ElectionRefusal}
 use Rattle.gl_election.specs.declared.elected.ElectionRefusal.TheVariants as faults
@@ -53,6 +54,7 @@ module _ {S Q G R A F : Type 0} where
   Answers (refusals.NotPrimary view leader) o = o ≡ Refused (NotPrimary view leader)
   Answers (refusals.NotReserved reserved) o = o ≡ Refused (NotReserved reserved)
   Answers (refusals.NothingToSign seqno) o = o ≡ Refused (NothingToSign seqno)
+  Answers (refusals.BelowCommit commit seqno) o = o ≡ Refused (BelowCommit commit seqno)
   Answers refusals.NotPeer o = o ≡ Refused NotPeer
   Answers refusals.ViewLimit o = o ≡ Refused ViewLimit
   Answers (refusals.ByLedger why) o = o ≡ Refused (outcomes.ByLedger why)
@@ -110,3 +112,11 @@ module _ {S Q G R A F : Type 0} where
 
     abbrev pub Settles : Elected → Core S Q G R A F → Done S Q G R A F → Core S Q G R A F → Type 0
     Settles elected old done new = Tells old (λ b x n. Settled b x n elected done new)
+
+    -- It stands for a node with another log in place of each, of which this holds.
+    abbrev pub Grows : (Book Entry Q G R A F → Node Entry → List Entry → Type 0) → (Book Entry Q G R A F → Node Entry → List Entry → Node Entry) → Core S Q G R A F → Core S Q G R A F → Type 0
+    Grows P f old new = Tells old (λ b x n. (log : List Entry) × P b n log × StandsFor new b x (f b n log))
+
+    -- It stands for another node in place of each, and sends these messages.
+    abbrev pub Replies : (Book Entry Q G R A F → NodeId → Node Entry → Node Entry) → List Message → Core S Q G R A F → Done S Q G R A F → Core S Q G R A F → Type 0
+    Replies f sent old done new = Tells old (λ b x n. StandsFor new b x (f b x n)) × (done.outcome ≡ answers.Done) × (done.sent ≡ sent)

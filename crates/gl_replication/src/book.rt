@@ -47,15 +47,24 @@ pub trait Book: Drop {
 
     /// The view and the seqno of the last signature, both 0 where there is none.
     fn last_signature(&self) -> TxId
-        ensures { At stands self.now (λ b h. result ≡ tx_id (last_signature_position b h.log)) };
+        ensures value { At stands self.now (λ b h. result ≡ tx_id (last_signature_position b h.log)) }
+        ensures within { result.seqno < 2 ^ 40 };
 
     /// The greatest commit that a signature records; the base counts as one.
     fn known_commit(&self) -> u64
         ensures { At stands self.now (λ b h. result ≡ max h.base (greatest_recorded b h.log)) };
 
+    /// The seqno of the last signature up to a seqno, 0 where there is none.
+    fn signature_upto(&self, seqno: u64) -> u64
+        ensures { At stands self.now (λ b h. result ≡ last_signature b (take seqno h.log)) };
+
     /// The view of the entry at a seqno, 0 where there is none.
     fn view_at(&self, seqno: u64) -> u32
         ensures { At stands self.now (λ b h. result ≡ view_at b h.log seqno) };
+
+    /// The view in which an entry was made.
+    fn view_of(&self, entry: &Entry) -> u32
+        ensures { At stands self.now (λ b h. result ≡ b.view_of entry.now) };
 
     /// Whether a signature of this view stands at a seqno, not below the base.
     fn is_signature_in(&self, view: u32, seqno: u64) -> bool
@@ -91,6 +100,19 @@ pub trait Book: Drop {
             (b.sign h.me leaf h.log view commit ≡ Ok e) × (r ≡ b.view_of e))) }
         ensures refused { IfErr result (λ e. At stands self.old (λ b h.
             Fails e (b.sign h.me leaf h.log view commit))) }
+        ensures err { OnErr result (Stays stands self.old self.new) };
+
+    /// Cuts the ledger to a seqno and appends these entries, each of which has to follow: on a copy,
+    /// all or nothing.
+    fn replace_tail(
+        &mut self,
+        seqno: u64,
+        entries: &[Entry],
+    ) -> Result<(), OrNoMemory<Self::Refused>>
+        ensures replaced { IfOk result (λ r. Becomes stands self.old self.new (λ b h log.
+            checked_append b (take seqno h.log) entries.now ≡ Ok log)) }
+        ensures refused { IfErr result (λ e. At stands self.old (λ b h.
+            Fails e (checked_append b (take seqno h.log) entries.now))) }
         ensures err { OnErr result (Stays stands self.old self.new) };
 
     /// Cuts the ledger to a seqno.

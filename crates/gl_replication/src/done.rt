@@ -39,6 +39,8 @@ pub enum Refusal<B: Book> {
     NotReserved(u64),
     /// The last entry, at this seqno, is a signature of this view.
     NothingToSign(u64),
+    /// Commit, and the seqno below it down to which entries would be cut off.
+    BelowCommit(u64, u64),
     /// The node is no other node of an active configuration.
     NotPeer,
     /// The view is the last one.

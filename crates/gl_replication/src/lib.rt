@@ -1,6 +1,7 @@
 //! A node of the service over any store: each of its calls is a rule of consensus.
 #![tactic(auto)]
 
+mod appends;
 mod book;
 mod done;
 mod elections;

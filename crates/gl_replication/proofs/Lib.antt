@@ -6,3 +6,4 @@ pub mod Fronts
 pub mod Tails
 pub mod Merging
 pub mod Appending
+pub mod SetPairs

@@ -1,5 +1,5 @@
 -- A core stands for a node of the rules, under rules and for a ledger of which its store needn't know all.
-use Rattle.std.specs.Prelude.{List, ◌≡◌, ◌≤◌, map}
+use Rattle.std.specs.Prelude.{◌<◌, ◌^◌, List, ◌≡◌, ◌≤◌, map}
 use Rattle.gl_base.specs.declared.or_no_memory.OrNoMemory.{OrNoMemory}
 use Rattle.gl_base.specs.declared.or_no_memory.OrNoMemory.TheVariants.{NoMemory, Fault}
 use Rattle.gl_entry.specs.declared.entry.Entry.{Entry}
@@ -77,6 +77,8 @@ module _ {S Q G R A F : Type 0} where
       pub above : n.base ≤ n.commit
       pub matched : (y : NodeId) → held c.matched.items y ≡ n.matched y
       pub next : (y : NodeId) → tried c.next.items y ≡ n.next y
+      -- no ledger is longer
+      pub within : (y : NodeId) → n.matched y < 2 ^ 40
 
     -- What a step of the rules comes to.
     pub record Stepped (b : Book Entry Q G R A F) (x : NodeId) (step : Step Entry A F) (done : Done S Q G R A F) (new : Core S Q G R A F) : Type 0 where

@@ -8,6 +8,7 @@ mod elections;
 mod holders;
 mod leaves;
 mod node;
+mod progress;
 
 pub use book::Book;
 pub use done::{Done, Outcome, Refusal};

@@ -7,3 +7,4 @@ pub mod Tails
 pub mod Merging
 pub mod Appending
 pub mod SetPairs
+pub mod Replying

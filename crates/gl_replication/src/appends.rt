@@ -9,7 +9,7 @@ ghost use Rattle.gl_rules.specs.Replication.{checked_append, commit_after, becom
 ghost use Rattle.gl_election.specs.Elections.{position};
 ghost use Rattle.gl_election.specs.Bridge.{message_to, seen_message};
 ghost use Rattle.gl_replication.specs.Stands.{Grows, KeepsAll, Refuses, Replies, Steps, Tells, Turns};
-ghost use Rattle.gl_replication.specs.declared.done.Outcome.TheVariants.{Idle};
+ghost use Rattle.gl_replication.specs.declared.done.Outcome.TheVariants as answers;
 ghost use Rattle.gl_replication.specs.Replies.{is_matching, is_leading, append_reply_to, following};
 
 use crate::book::Book;
@@ -114,7 +114,7 @@ impl<B: Book> Core<B> {
     }
 
     /// The view rises to this one, if it is lower.
-    fn update_view(&mut self, view: u32)
+    pub(crate) fn update_view(&mut self, view: u32)
         ensures { Turns B.stands (λ b n. update_view b view n) self.old self.new }
     {
         if view > self.peer.view {
@@ -294,7 +294,7 @@ impl<B: Book> Core<B> {
 
     /// Nothing is done or sent.
     pub(crate) fn idle(&self) -> Done<B>
-        ensures outcome { result.outcome ≡ Idle }
+        ensures outcome { result.outcome ≡ answers.Idle }
         ensures quiet { result.sent ≡ [] }
     {
         Done {
@@ -303,8 +303,19 @@ impl<B: Book> Core<B> {
         }
     }
 
+    /// Nothing is sent.
+    pub(crate) fn done(&self) -> Done<B>
+        ensures outcome { result.outcome ≡ answers.Done }
+        ensures quiet { result.sent ≡ [] }
+    {
+        Done {
+            outcome: Outcome::Done,
+            sent: Sequence::from(Vec::new(self.alloc)),
+        }
+    }
+
     /// Whether it leads in this view.
-    fn leads_in(&self, view: u32) -> bool
+    pub(crate) fn leads_in(&self, view: u32) -> bool
         ensures { result ≡ ((self.now.peer.view == view) && is_leading self.now.peer.role) }
     {
         self.peer.view == view && matches!(self.peer.role, Role::Leader)

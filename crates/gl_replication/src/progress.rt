@@ -1,11 +1,15 @@
 //! What a leader makes of the answers to its entries.
 
-ghost use Rattle.std.specs.Prelude.{◌≡◌, ◌<◌, ◌+◌, ◌^◌, min, vec_len, vec_capacity, length, IfSome, OnOk, OnErr};
-ghost use Rattle.gl_rules.specs.Replication.{lower_next, next_of, update_match};
+ghost use Rattle.std.specs.Prelude.{◌≡◌, ◌<◌, ◌+◌, ◌^◌, min, vec_len, vec_capacity, length, [], IfOk, IfErr, IfSome, OnOk, OnErr};
+ghost use Rattle.gl_rules.specs.Message.{AppendReply};
+ghost use Rattle.gl_rules.specs.World.{on_message};
+ghost use Rattle.gl_election.specs.Bridge.{message_to};
+ghost use Rattle.gl_rules.specs.Replication.{lower_next, next_of, update_match, update_progress};
 ghost use Rattle.gl_replication.specs.Pairs.{Puts, index_of, tried};
-ghost use Rattle.gl_replication.specs.Stands.{KeepsAll, Tells, Turns};
+ghost use Rattle.gl_replication.specs.Stands.{IsNoMemory, KeepsAll, Steps, Tells, Turns};
 
 use crate::book::Book;
+use crate::done::{Done, Refusal};
 use crate::holders::{held, is_same};
 use crate::node::Core;
 use gl_config::NodeId;
@@ -94,5 +98,53 @@ impl<B: Book> Core<B> {
         let next = least.max(one_after_at_most(self.next_of(&y), seqno));
         set_seqno(&mut self.next, y, next);
         Ok(())
+    }
+
+    /// What a reply in its view means to the leader: a node holds the log up to a seqno, or is tried
+    /// from one on again.
+    fn update_progress(&mut self, y: NodeId, ok: bool, seqno: u64) -> Result<Done<B>, Refusal<B>>
+        ensures steps { IfOk result (λ done.
+            Steps B.stands (λ b x n. update_progress b ok y seqno n) self.old done self.new) }
+        ensures refused { IfErr result (λ why. IsNoMemory why) }
+        ensures err { OnErr result (KeepsAll B.stands self.old self.new) }
+        ensures quiet { IfOk result (λ done. done.sent ≡ []) }
+    {
+        if !ok {
+            return match self.lower_next(y, seqno) {
+                Ok(()) => Ok(self.done()),
+                Err(_) => Err(Refusal::NoMemory),
+            };
+        }
+        if seqno > self.book.ledger_len() {
+            return Ok(self.idle());
+        }
+        match self.update_match(y, seqno) {
+            Ok(()) => Ok(self.done()),
+            Err(_) => Err(Refusal::NoMemory),
+        }
+    }
+
+    /// A node's reply to the leader's entries.
+    pub fn on_append_reply(
+        &mut self,
+        from: NodeId,
+        view: u32,
+        ok: bool,
+        seqno: u64,
+    ) -> Result<Done<B>, Refusal<B>>
+        ensures steps { IfOk result (λ done. Steps B.stands (λ b x n.
+            on_message b (message_to x from view (AppendReply ok seqno)) n) self.old done self.new) }
+        ensures refused { IfErr result (λ why. IsNoMemory why) }
+        ensures err { OnErr result (KeepsAll B.stands self.old self.new) }
+        ensures quiet { IfOk result (λ done. done.sent ≡ []) }
+    {
+        if view > self.peer.view {
+            self.update_view(view);
+            return Ok(self.idle());
+        }
+        if self.leads_in(view) {
+            return self.update_progress(from, ok, seqno);
+        }
+        Ok(self.idle())
     }
 }

@@ -3,3 +3,4 @@ pub mod Standing
 pub mod Pairs
 pub mod Stands
 pub mod Replies
+pub mod Plain

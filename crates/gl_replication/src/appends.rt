@@ -28,7 +28,8 @@ impl<B: Book> Core<B> {
     fn len_in_view(&self, view: u32) -> u64
         ensures limit { result < 2 ^ 40 }
         ensures within { Tells B.stands self.now (λ b x n. result ≤ length n.log) }
-        ensures value { Tells B.stands self.now (λ b x n. (update_view b view n).log ≡ take result n.log) }
+        ensures value { Tells B.stands self.now (λ b x n. (update_view b view n).log ≡ take
+            result n.log) }
     {
         if view > self.peer.view {
             return self.book.last_signature().seqno;
@@ -39,7 +40,8 @@ impl<B: Book> Core<B> {
     /// Whether the log up to a length has an entry of this view at this seqno, or the seqno is 0.
     #[tactic(auto, using(crate::proofs::Fronts::matching))]
     fn is_matching(&self, len: u64, prev: TxId) -> bool
-        ensures value { Tells B.stands self.now (λ b x n. len ≤ length n.log → result ≡ is_matching b (take len n.log) (position prev)) }
+        ensures value { Tells B.stands self.now (λ b x n. len ≤ length n.log → result ≡
+            is_matching b (take len n.log) (position prev)) }
         ensures within { result ≡ true → prev.seqno ≤ len }
     {
         prev.seqno == 0 || (prev.seqno <= len && self.book.view_at(prev.seqno) == prev.view)
@@ -48,7 +50,8 @@ impl<B: Book> Core<B> {
     /// How many of the entries the log up to a length holds behind a seqno with their views.
     #[tactic(auto, unfolding(gl_rules::specs::Replication::matching_prefix_len), using(crate::proofs::Fronts::matching))]
     fn matching_prefix_len(&self, len: u64, prev: u64, entries: &[Entry]) -> usize
-        ensures value { Tells B.stands self.now (λ b x n. len ≤ length n.log → result ≡ matching_prefix_len b (drop prev (take len n.log)) entries.now) }
+        ensures value { Tells B.stands self.now (λ b x n. len ≤ length n.log → result ≡
+            matching_prefix_len b (drop prev (take len n.log)) entries.now) }
         ensures within { result ≤ length entries.now }
         ensures reach { prev ≤ len → prev + result ≤ len }
     {
@@ -66,7 +69,8 @@ impl<B: Book> Core<B> {
     /// The greatest seqno up to this one, within a length, whose entry's view is at most this one, else 0.
     #[tactic(auto, using(crate::proofs::Fronts::matching))]
     fn highest_possible_match(&self, len: u64, view: u32, upto: u64) -> u64
-        ensures { Tells B.stands self.now (λ b x n. len ≤ length n.log → upto ≤ len → result ≡ highest_possible_match b (take len n.log) view upto) }
+        ensures { Tells B.stands self.now (λ b x n. len ≤ length n.log → upto ≤ len → result ≡
+            highest_possible_match b (take len n.log) view upto) }
     {
         let mut seqno = upto;
         while seqno > 0 {
@@ -86,7 +90,8 @@ impl<B: Book> Core<B> {
         ok: bool,
         seqno: u64,
     ) -> Result<Sequence<Message>, AllocError>
-        ensures value { IfOk result (λ sent. Tells B.stands self.now (λ b x n. map seen_message sent ≡ append_reply_to x to view ok seqno)) }
+        ensures value { IfOk result (λ sent. Tells B.stands self.now (λ b x n. map seen_message
+            sent ≡ append_reply_to x to view ok seqno)) }
         ensures few { IfOk result (λ sent. length sent ≤ 1) }
     {
         let mut sent = Vec::new(self.alloc);
@@ -124,7 +129,8 @@ impl<B: Book> Core<B> {
 
     /// Follows the leader y of a view that is not below its own.
     fn become_follower(&mut self, y: NodeId, view: u32)
-        ensures { Turns B.stands (λ b n. become_follower b y (update_view b view n)) self.old self.new }
+        ensures { Turns B.stands (λ b n. become_follower b y (update_view b view n)) self.old
+            self.new }
     {
         self.update_view(view);
         self.peer.role = Role::Follower;
@@ -133,7 +139,8 @@ impl<B: Book> Core<B> {
 
     /// Commit rises with what is known after a message with this commit, whose last entry has this seqno.
     fn commit_after(&mut self, theirs: u64, seqno: u64)
-        ensures { Turns B.stands (λ b n. record n { commit = commit_after b theirs seqno n }) self.old self.new }
+        ensures { Turns B.stands (λ b n. record n { commit = commit_after b theirs seqno n })
+            self.old self.new }
     {
         let signed = self.book.signature_upto(theirs.min(seqno));
         self.commit = self.commit.max(self.book.known_commit()).max(signed);
@@ -141,7 +148,10 @@ impl<B: Book> Core<B> {
 
     /// A cut counts, where one was made.
     fn count_cut(&mut self, made: bool)
-        ensures { Turns B.stands (λ b n. record n { cuts = if made then one_more_cut n.cuts else n.cuts }) self.old self.new }
+        ensures { Turns B.stands (λ b n. record n {
+          cuts = if made then one_more_cut n.cuts else
+              n.cuts;
+        }) self.old self.new }
     {
         if made {
             self.cuts = self.cuts.saturating_add(1);
@@ -163,8 +173,10 @@ impl<B: Book> Core<B> {
 
     /// The log cut to a seqno, and these entries behind it. All or nothing.
     fn append_behind(&mut self, seqno: u64, entries: &[Entry]) -> Result<(), OrNoMemory<B::Refused>>
-        ensures grown { IfOk result (λ r. Grows B.stands (λ b n l. checked_append b (take seqno n.log) entries.now ≡ Ok l) (λ b n l. record n { log = l }) self.old self.new) }
-        ensures refused { IfErr result (λ e. Tells B.stands self.old (λ b x n. Fails e (checked_append b (take seqno n.log) entries.now))) }
+        ensures grown { IfOk result (λ r. Grows B.stands (λ b n l. checked_append b (take seqno
+            n.log) entries.now ≡ Ok l) (λ b n l. record n { log = l }) self.old self.new) }
+        ensures refused { IfErr result (λ e. Tells B.stands self.old (λ b x n. Fails e
+            (checked_append b (take seqno n.log) entries.now))) }
         ensures err { OnErr result (KeepsAll B.stands self.old self.new) }
     {
         self.book.replace_tail(seqno, entries)
@@ -180,9 +192,13 @@ impl<B: Book> Core<B> {
         entries: &[Entry],
     ) -> Result<(), OrNoMemory<B::Refused>>
         requires within { seqno ≤ len }
-        requires len { Tells B.stands self.old (λ b x n. (len ≤ length n.log) × ((update_view b view n).log ≡ take len n.log)) }
-        ensures grown { IfOk result (λ r. Grows B.stands (λ b n l. checked_append b (take seqno n.log) entries.now ≡ Ok l) (λ b n l. record (cut_to seqno (become_follower b y (update_view b view n))) { log = l }) self.old self.new) }
-        ensures refused { IfErr result (λ e. Tells B.stands self.old (λ b x n. Fails e (checked_append b (take seqno n.log) entries.now))) }
+        requires len { Tells B.stands self.old (λ b x n. (len ≤ length n.log) × ((update_view b
+            view n).log ≡ take len n.log)) }
+        ensures grown { IfOk result (λ r. Grows B.stands (λ b n l. checked_append b (take seqno
+            n.log) entries.now ≡ Ok l) (λ b n l. record (cut_to seqno (become_follower b y
+            (update_view b view n))) { log = l }) self.old self.new) }
+        ensures refused { IfErr result (λ e. Tells B.stands self.old (λ b x n. Fails e
+            (checked_append b (take seqno n.log) entries.now))) }
         ensures err { OnErr result (KeepsAll B.stands self.old self.new) }
     {
         let before = self.book.ledger_len();
@@ -206,7 +222,8 @@ impl<B: Book> Core<B> {
 
     /// The entries up to a seqno are accept_entries: commit rises, and the leader is answered. The answer was made before.
     fn accept_entries(&mut self, seqno: u64, theirs: u64, sent: Sequence<Message>) -> Done<B>
-        ensures { Replies B.stands (λ b x n. record n { commit = commit_after b theirs seqno n }) sent self.old result self.new }
+        ensures { Replies B.stands (λ b x n. record n { commit = commit_after b theirs seqno n })
+            sent self.old result self.new }
     {
         self.commit_after(theirs, seqno);
         Done {
@@ -228,9 +245,14 @@ impl<B: Book> Core<B> {
     ) -> Result<Done<B>, Refusal<B>>
         requires within { (prev + held ≤ len) × (held ≤ length entries.now) × (len < 2 ^ 40) }
         requires view { self.old.peer.view ≤ view }
-        requires len { Tells B.stands self.old (λ b x n. (len ≤ length n.log) × ((update_view b view n).log ≡ take len n.log)) }
-        ensures steps { IfOk result (λ done. Steps B.stands (λ b x n. merge_entries b x y prev entries.now held theirs (become_follower b y (update_view b view n))) self.old done self.new) }
-        ensures refused { IfErr result (λ why. Refuses B.stands (λ b x n. merge_entries b x y prev entries.now held theirs (become_follower b y (update_view b view n))) self.old why) }
+        requires len { Tells B.stands self.old (λ b x n. (len ≤ length n.log) × ((update_view b
+            view n).log ≡ take len n.log)) }
+        ensures steps { IfOk result (λ done. Steps B.stands (λ b x n. merge_entries b x y prev
+            entries.now held theirs (become_follower b y (update_view b view n))) self.old done
+            self.new) }
+        ensures refused { IfErr result (λ why. Refuses B.stands (λ b x n. merge_entries b x y
+            prev entries.now held theirs (become_follower b y (update_view b view n))) self.old
+            why) }
         ensures err { OnErr result (KeepsAll B.stands self.old self.new) }
         ensures few { IfOk result (λ done. length done.sent ≤ 1) }
     {
@@ -265,8 +287,12 @@ impl<B: Book> Core<B> {
         theirs: u64,
     ) -> Result<Done<B>, Refusal<B>>
         requires view { self.old.peer.view ≤ view }
-        ensures steps { IfOk result (λ done. Steps B.stands (λ b x n. merge_if_matching b x y (position prev) entries.now theirs (become_follower b y (update_view b view n))) self.old done self.new) }
-        ensures refused { IfErr result (λ why. Refuses B.stands (λ b x n. merge_if_matching b x y (position prev) entries.now theirs (become_follower b y (update_view b view n))) self.old why) }
+        ensures steps { IfOk result (λ done. Steps B.stands (λ b x n. merge_if_matching b x y
+            (position prev) entries.now theirs (become_follower b y (update_view b view n)))
+            self.old done self.new) }
+        ensures refused { IfErr result (λ why. Refuses B.stands (λ b x n. merge_if_matching b x y
+            (position prev) entries.now theirs (become_follower b y (update_view b view n)))
+            self.old why) }
         ensures err { OnErr result (KeepsAll B.stands self.old self.new) }
         ensures few { IfOk result (λ done. length done.sent ≤ 1) }
     {
@@ -321,22 +347,24 @@ impl<B: Book> Core<B> {
         self.peer.view == view && matches!(self.peer.role, Role::Leader)
     }
 
-    /// Entries of a leader y to this node. Where they are refused, nothing has changed, the view neither.
-    fn on_append_from(
+    /// A leader's entries to this node. Where they are refused, nothing has changed, the view neither.
+    pub fn on_append(
         &mut self,
-        y: NodeId,
+        from: NodeId,
         view: u32,
         prev: TxId,
         entries: &[Entry],
-        theirs: u64,
+        commit: u64,
     ) -> Result<Done<B>, Refusal<B>>
-        ensures steps { IfOk result (λ done. Steps B.stands (λ b x n. on_message b (message_to x y view (Append (position prev) entries.now theirs)) n) self.old done self.new) }
-        ensures refused { IfErr result (λ why. Refuses B.stands (λ b x n. on_message b (message_to x y view (Append (position prev) entries.now theirs)) n) self.old why) }
+        ensures steps { IfOk result (λ done. Steps B.stands (λ b x n. on_message b (message_to x
+            from view (Append (position prev) entries.now commit)) n) self.old done self.new) }
+        ensures refused { IfErr result (λ why. Refuses B.stands (λ b x n. on_message b
+            (message_to x from view (Append (position prev) entries.now commit)) n) self.old why) }
         ensures err { OnErr result (KeepsAll B.stands self.old self.new) }
         ensures few { IfOk result (λ done. length done.sent ≤ 1) }
     {
         if view < self.peer.view {
-            return match self.append_reply(y, self.peer.view, false, 0) {
+            return match self.append_reply(from, self.peer.view, false, 0) {
                 Err(_) => Err(Refusal::NoMemory),
                 Ok(sent) => Ok(Done {
                     outcome: Outcome::Done,
@@ -347,6 +375,6 @@ impl<B: Book> Core<B> {
         if self.leads_in(view) {
             return Ok(self.idle());
         }
-        self.merge_if_matching(y, view, prev, entries, theirs)
+        self.merge_if_matching(from, view, prev, entries, commit)
     }
 }

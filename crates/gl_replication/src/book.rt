@@ -47,7 +47,8 @@ pub trait Book: Drop {
 
     /// The view and the seqno of the last signature, both 0 where there is none.
     fn last_signature(&self) -> TxId
-        ensures value { At stands self.now (λ b h. result ≡ tx_id (last_signature_position b h.log)) }
+        ensures value { At stands self.now (λ b h. result ≡ tx_id (last_signature_position b
+            h.log)) }
         ensures within { result.seqno < 2 ^ 40 };
 
     /// The greatest commit that a signature records; the base counts as one.

@@ -158,10 +158,10 @@ impl<B: Book> Core<B> {
         ensures err { OnErr result (KeepsAll B.stands self.old self.new) }
     {
         let me = self.book.me();
-        let last = self.book.last_signature();
+        let signed = self.book.last_signature();
         match self
             .peer
-            .on_request_vote(self.alloc, me, last, from, view, theirs)
+            .on_request_vote(self.alloc, me, signed, from, view, theirs)
         {
             Ok(elected) => Ok(self.settle(elected)),
             Err(why) => Err(refusal_of(why)),

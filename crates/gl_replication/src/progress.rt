@@ -76,7 +76,8 @@ impl<B: Book> Core<B> {
     /// A node holds the log up to this seqno.
     fn update_match(&mut self, y: NodeId, seqno: u64) -> Result<(), AllocError>
         requires { seqno < 2 ^ 40 }
-        ensures ok { OnOk result (Turns B.stands (λ b n. update_match b y seqno n) self.old self.new) }
+        ensures ok { OnOk result (Turns B.stands (λ b n. update_match b y seqno n) self.old
+            self.new) }
         ensures err { OnErr result (KeepsAll B.stands self.old self.new) }
     {
         self.matched.reserve(1)?;
@@ -90,7 +91,8 @@ impl<B: Book> Core<B> {
 
     /// A node is tried from this seqno on again.
     fn lower_next(&mut self, y: NodeId, seqno: u64) -> Result<(), AllocError>
-        ensures ok { OnOk result (Turns B.stands (λ b n. lower_next b y seqno n) self.old self.new) }
+        ensures ok { OnOk result (Turns B.stands (λ b n. lower_next b y seqno n) self.old
+            self.new) }
         ensures err { OnErr result (KeepsAll B.stands self.old self.new) }
     {
         self.next.reserve(1)?;

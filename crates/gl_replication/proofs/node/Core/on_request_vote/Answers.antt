@@ -10,15 +10,15 @@ use Rattle.gl_replication.proofs.node.Core.on_request_vote.Goals as goal
 pub returns-in-Ok-clause-steps : goal.returns-in-Ok-clause-steps
 returns-in-Ok-clause-steps g c = λ b x n s.
     let p = c.args.self.now.peer in
-    let asked = same2 (λ m l. at_request_vote m l c.args.from c.args.view c.args.theirs p) (c.me-me.ensures b _ s.ledger) (c.last_signature-last.ensures.value b _ s.ledger) in
+    let asked = same2 (λ m l. at_request_vote m l c.args.from c.args.view c.args.theirs p) (c.me-me.ensures b _ s.ledger) (c.last_signature-signed.ensures.value b _ s.ledger) in
     turned g.B.Book.stands s c.on_request_vote.new.self c.in-Ok.elected c.settle.result
-    (at_request_vote c.me-me.result c.last_signature-last.result c.args.from c.args.view c.args.theirs p) (on_message b (message_to x c.args.from c.args.view (RequestVote (position c.args.theirs))) n)
+    (at_request_vote c.me-me.result c.last_signature-signed.result c.args.from c.args.view c.args.theirs p) (on_message b (message_to x c.args.from c.args.view (RequestVote (position c.args.theirs))) n)
     (request_vote_is b x c.args.from c.args.view c.args.theirs p n (peer_of g.B.Book.stands s) ∙ ap (λ t. step_of b t n) (sym asked)) c.in-Ok.ensures.exact c.settle.ensures
 
 pub returns-in-Err-clause-refused : goal.returns-in-Err-clause-refused
 returns-in-Err-clause-refused g c = λ b x n s.
     let p = c.args.self.now.peer in
-    let asked = same2 (λ m l. at_request_vote m l c.args.from c.args.view c.args.theirs p) (c.me-me.ensures b _ s.ledger) (c.last_signature-last.ensures.value b _ s.ledger) in
+    let asked = same2 (λ m l. at_request_vote m l c.args.from c.args.view c.args.theirs p) (c.me-me.ensures b _ s.ledger) (c.last_signature-signed.ensures.value b _ s.ledger) in
     refuses g.B.Book.stands b n c.refusal_of.result c.in-Err.why
-    (at_request_vote c.me-me.result c.last_signature-last.result c.args.from c.args.view c.args.theirs p) (on_message b (message_to x c.args.from c.args.view (RequestVote (position c.args.theirs))) n)
+    (at_request_vote c.me-me.result c.last_signature-signed.result c.args.from c.args.view c.args.theirs p) (on_message b (message_to x c.args.from c.args.view (RequestVote (position c.args.theirs))) n)
     c.refusal_of.ensures (request_vote_is b x c.args.from c.args.view c.args.theirs p n (peer_of g.B.Book.stands s) ∙ ap (λ t. step_of b t n) (sym asked)) c.in-Err.ensures.exact

@@ -8,3 +8,4 @@ pub mod Merging
 pub mod Appending
 pub mod SetPairs
 pub mod Replying
+pub mod Plains

@@ -15,3 +15,6 @@ pub use book::Book;
 pub use done::{Done, Outcome, Refusal};
 pub use leaves::Leaves;
 pub use node::Core;
+
+#[cfg(test)]
+mod tests;

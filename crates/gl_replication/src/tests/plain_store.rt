@@ -1,0 +1,199 @@
+//! A store that holds its whole ledger, under the rules of a small book.
+
+ghost use Rattle.std.specs.Prelude.{◌≡◌, ◌<◌, ◌≤◌, ◌^◌, ◌++◌, ◌∷◌, [], take, length, vec_len, IfErr, OnOk, OnErr};
+ghost use Rattle.gl_base.specs.declared.or_no_memory.OrNoMemory.TheVariants.{NoMemory};
+ghost use Rattle.gl_entry.specs.Entry.{is_signature};
+ghost use Rattle.gl_entry.specs.declared.entry.Entry.{Entry as Item};
+ghost use Rattle.gl_rules.specs.Log.{last_signature, view_at};
+ghost use Rattle.gl_replication.specs.Plain.{holding, plain};
+
+use crate::Book;
+use gl_base::{OrNoMemory, TxId};
+use gl_config::{Configuration, NodeId};
+use gl_entry::{Content, Entry};
+use std::alloc::{AllocError, Global};
+
+/// So many entries are too many.
+const LIMIT: usize = 0xff_ffff_ffff;
+
+/// A ledger in memory, whose it is, and the entry that it takes for a signature.
+#[derive(Drop)]
+pub struct PlainStore {
+    pub alloc: Global,
+    pub me: NodeId,
+    pub signature: Entry,
+    pub log: Vec<Entry>,
+    ghost within: { vec_len log < 2 ^ 40 },
+}
+
+fn is_signature(entry: &Entry) -> bool
+    ensures { result ≡ is_signature entry.now.content }
+{
+    matches!(entry.content, Content::Signature(_))
+}
+
+#[tactic(auto, unfolding(gl_rules::specs::Log::last_signature))]
+fn last_signature(signature: &Entry, log: &[Entry]) -> u64
+    ensures value { result ≡ last_signature (plain signature.now) log.now }
+    ensures within { result ≤ length log.now }
+{
+    match log.split_first() {
+        None => 0,
+        Some((entry, rest)) => {
+            let seqno = last_signature(signature, rest);
+            if seqno > 0 || is_signature(entry) {
+                seqno + 1
+            } else {
+                0
+            }
+        }
+    }
+}
+
+fn view_at(log: &[Entry], seqno: u64) -> u32
+    ensures { (e : Item) → result ≡ view_at (plain e) log.now seqno }
+{
+    if seqno == 0 || seqno > log.len() as u64 {
+        return 0;
+    }
+    log[seqno as usize - 1].view
+}
+
+fn push_copies(alloc: Global, log: &mut Vec<Entry>, entries: &[Entry]) -> Result<(), AllocError>
+    ensures { OnOk result (log.new.items ≡ log.old.items ++ entries.now) }
+{
+    for entry in entries {
+        log.push(entry.copy(alloc)?)?;
+    }
+    Ok(())
+}
+
+impl PlainStore {
+    pub fn new(alloc: Global, me: NodeId, signature: Entry) -> PlainStore {
+        PlainStore {
+            alloc,
+            me,
+            signature,
+            log: Vec::new(alloc),
+        }
+    }
+
+    /// The ledger up to a seqno.
+    fn upto(&self, seqno: u64) -> &[Entry]
+        ensures { result.now ≡ take seqno self.now.log.items }
+    {
+        if seqno >= self.log.len() as u64 {
+            return &self.log;
+        }
+        &self.log[..seqno as usize]
+    }
+
+    fn push(&mut self, entry: Entry) -> Result<(), OrNoMemory<u8>>
+        ensures ok { OnOk result (self.new.log.items ≡ self.old.log.items ++ entry ∷ []) }
+        ensures err { OnErr result (self.new.log.items ≡ self.old.log.items) }
+        ensures me { self.new.me ≡ self.old.me }
+        ensures signature { self.new.signature ≡ self.old.signature }
+        ensures refused { IfErr result (λ e. e ≡ NoMemory) }
+    {
+        if self.log.len() >= LIMIT {
+            return Err(OrNoMemory::NoMemory);
+        }
+        match self.log.push(entry) {
+            Ok(()) => Ok(()),
+            Err(_) => Err(OrNoMemory::NoMemory),
+        }
+    }
+}
+
+impl Book for PlainStore {
+    type Request = Entry;
+
+    type Gov = u64;
+
+    type Reads = u64;
+
+    type Given = u64;
+
+    type Refused = u8;
+
+    ghost stands = { λ s b h. (b ≡ plain s.signature) × (h ≡ holding s.me s.log.items) };
+
+    fn me(&self) -> NodeId {
+        self.me
+    }
+
+    fn ledger_len(&self) -> u64 {
+        self.log.len() as u64
+    }
+
+    fn last_signature(&self) -> TxId {
+        let seqno = last_signature(&self.signature, &self.log);
+        TxId {
+            view: view_at(&self.log, seqno),
+            seqno,
+        }
+    }
+
+    fn known_commit(&self) -> u64 {
+        0
+    }
+
+    fn signature_upto(&self, seqno: u64) -> u64 {
+        last_signature(&self.signature, self.upto(seqno))
+    }
+
+    fn view_at(&self, seqno: u64) -> u32 {
+        view_at(&self.log, seqno)
+    }
+
+    fn view_of(&self, entry: &Entry) -> u32 {
+        entry.view
+    }
+
+    fn is_signature_in(&self, view: u32, seqno: u64) -> bool {
+        if seqno == 0 || seqno > self.log.len() as u64 {
+            return false;
+        }
+        let entry = &self.log[seqno as usize - 1];
+        is_signature(entry) && entry.view == view
+    }
+
+    fn configurations(&self, upto: u64) -> &[Configuration] {
+        &[]
+    }
+
+    fn recorded_nodes(&self, upto: u64) -> &[NodeId] {
+        &[]
+    }
+
+    fn execute(&mut self, view: u32, request: &Entry) -> Result<(u32, u64), OrNoMemory<u8>> {
+        let mut entry = request.copy(self.alloc)?;
+        entry.view = view;
+        self.push(entry)?;
+        Ok((view, 0))
+    }
+
+    fn sign(&mut self, leaf: u64, view: u32, commit: u64) -> Result<u32, OrNoMemory<u8>> {
+        let mut entry = self.signature.copy(self.alloc)?;
+        entry.view = view;
+        self.push(entry)?;
+        Ok(view)
+    }
+
+    fn replace_tail(&mut self, seqno: u64, entries: &[Entry]) -> Result<(), OrNoMemory<u8>> {
+        let mut log = Vec::new(self.alloc);
+        push_copies(self.alloc, &mut log, self.upto(seqno))?;
+        push_copies(self.alloc, &mut log, entries)?;
+        if log.len() > LIMIT {
+            return Err(OrNoMemory::NoMemory);
+        }
+        self.log = log;
+        Ok(())
+    }
+
+    fn cut(&mut self, to: u64) {
+        if to < self.log.len() as u64 {
+            self.log.truncate(to as usize);
+        }
+    }
+}

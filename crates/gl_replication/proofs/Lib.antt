@@ -9,3 +9,4 @@ pub mod Appending
 pub mod SetPairs
 pub mod Replying
 pub mod Plains
+pub mod Peers

@@ -1,5 +1,5 @@
 -- The small book: what is read of a ledger under it.
-use Rattle.std.proofs.Common.{◌≡◌, ℕ, zero, suc, List, [], ◌∷◌, ◌++◌, max, length, take, Bool, true, false, nat_lt, None, Ok, refl, sym, ap, subst, ◌∙◌, if◌then◌else◌}
+use Rattle.std.proofs.Common.{◌≡◌, ℕ, zero, suc, List, [], ◌∷◌, ◌++◌, max, length, take, drop, slice_get, Bool, true, false, nat_lt, None, Ok, refl, sym, ap, subst, ◌∙◌, if◌then◌else◌}
 use Rattle.std.specs.Option.{option_to_list}
 use Rattle.std.proofs.lemmas.List.{append_assoc, append-nil}
 use Rattle.gl_entry.specs.Entry.{is_signature}
@@ -8,7 +8,7 @@ use Rattle.gl_rules.specs.Identity.{NodeId}
 use Rattle.gl_rules.specs.Book.{Book}
 use Rattle.gl_rules.specs.Log.{greatest_recorded}
 use Rattle.gl_rules.specs.Configuration.{active, configuration_at, configurations_above}
-use Rattle.gl_rules.specs.Replication.{checked_append}
+use Rattle.gl_rules.specs.Replication.{batch, checked_append, fitting_prefix}
 use Rattle.gl_config.specs.Active.{active_of, last_of, sets_of}
 use Rattle.gl_replication.specs.Holding.{Holding, with_log}
 use Rattle.gl_replication.specs.Plain.{holding, plain}
@@ -57,3 +57,14 @@ pub replaced : {b : Book Entry Entry ℕ ℕ ℕ ℕ} {h : Holding Entry} (signa
 replaced signature me log new seqno es w is =
     whole signature me log (λ b h. (m : List Entry) × (checked_append b (take seqno h.log) es ≡ Ok m) × ((b ≡ plain signature) × (with_log h m ≡ holding me new))) w
     (take seqno log ++ es, all_appended signature (take seqno log) es, (refl, ap (holding me) (sym is)))
+
+fits_none : (s : Entry) (es : List Entry) → fitting_prefix (plain s) 63 0 es ≡ []
+unfolding fitting_prefix
+fits_none s [] = refl
+fits_none s (e ∷ es) = refl
+
+pub batch_one : (s : Entry) (l : List Entry) (k : ℕ) → option_to_list (slice_get l k) ≡ batch (plain s) (drop k l)
+batch_one s [] zero = refl
+batch_one s [] (suc k) = refl
+batch_one s (e ∷ l) zero = ap {B = List Entry} (λ m. e ∷ m) (sym (fits_none s l))
+batch_one s (e ∷ l) (suc k) = batch_one s l k

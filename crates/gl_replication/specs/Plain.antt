@@ -1,5 +1,5 @@
--- A small ledger book: requests are entries, a signature is a given entry in the leader's view, any entry may follow, and there are no
--- configurations.
+-- A small ledger book: requests are entries, a signature is a given entry in the leader's view, any entry may follow, there are no
+-- configurations, and a message carries one entry.
 use Rattle.std.specs.Prelude.{ℕ, List, [], false, None, Ok, Err}
 use Rattle.gl_entry.specs.Entry.{is_signature}
 use Rattle.gl_entry.specs.declared.entry.Entry.{Entry}
@@ -13,7 +13,7 @@ plain signature = record {
   is_signature = λ e. is_signature e.content;
   is_evidence = λ e. false;
   recorded_commit = λ e. 0;
-  frame_size = λ e. 0;
+  frame_size = λ e. 1500001;
   configuration = λ log. None;
   recorded_nodes = λ log. [];
   removal = λ log y. None;

@@ -6,7 +6,7 @@ use Rattle.gl_entry.specs.declared.entry.Entry.{Entry}
 use Rattle.gl_rules.specs.Identity.{NodeId}
 use Rattle.gl_rules.specs.Book.{Book}
 use Rattle.gl_rules.specs.Node.{Node}
-use Rattle.gl_rules.specs.Outcome.{Step, Refused, NotPrimary, NotReserved, NothingToSign, BelowCommit, NotPeer, ViewLimit}
+use Rattle.gl_rules.specs.Outcome.{Step, Refused, NotPrimary, NotReserved, NothingToSign, BelowCommit, BelowBase, NotPeer, ViewLimit}
 use Rattle.gl_rules.specs.Outcome as outcomes
 use Rattle.gl_messages.specs.declared.message.Message.{Message}
 use Rattle.gl_election.specs.declared.elected.Elected.{Elected}
@@ -55,6 +55,7 @@ module _ {S Q G R A F : Type 0} where
   Answers (refusals.NotReserved reserved) o = o ≡ Refused (NotReserved reserved)
   Answers (refusals.NothingToSign seqno) o = o ≡ Refused (NothingToSign seqno)
   Answers (refusals.BelowCommit commit seqno) o = o ≡ Refused (BelowCommit commit seqno)
+  Answers (refusals.BelowBase base) o = o ≡ Refused (BelowBase base)
   Answers refusals.NotPeer o = o ≡ Refused NotPeer
   Answers refusals.ViewLimit o = o ≡ Refused ViewLimit
   Answers (refusals.ByLedger why) o = o ≡ Refused (outcomes.ByLedger why)

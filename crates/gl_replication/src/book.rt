@@ -6,7 +6,7 @@ ghost use Rattle.gl_entry.specs.declared.entry.Entry.{Entry as Item};
 ghost use Rattle.gl_rules.specs.Book.{Book as Rules};
 ghost use Rattle.gl_rules.specs.Log.{entry_at, greatest_recorded, is_signature_in, last_signature, last_signature_position, view_at};
 ghost use Rattle.gl_rules.specs.Configuration.{active};
-ghost use Rattle.gl_rules.specs.Replication.{checked_append};
+ghost use Rattle.gl_rules.specs.Replication.{batch, checked_append};
 ghost use Rattle.gl_config.specs.Active.{active_of, sets_of};
 ghost use Rattle.gl_election.specs.Bridge.{tx_id};
 ghost use Rattle.gl_replication.specs.Holding.{Holding};
@@ -15,6 +15,7 @@ ghost use Rattle.gl_replication.specs.Standing.{At, Becomes, Enters, Stays};
 use gl_base::{OrNoMemory, TxId};
 use gl_config::{Configuration, NodeId};
 use gl_entry::Entry;
+use std::alloc::AllocError;
 
 /// What a store gives to the rules of consensus. Its meaning is a relation between the store, rules
 /// over a ledger book, and what is held for a node: a store needn't know all of the ledger, only what
@@ -38,6 +39,10 @@ pub trait Book: Drop {
     /// With whose key it signs.
     fn me(&self) -> NodeId
         ensures { At stands self.now (λ b h. result ≡ h.me) };
+
+    /// The seqno up to which the ledger came by a snapshot, 0 for none.
+    fn base(&self) -> u64
+        ensures { At stands self.now (λ b h. result ≡ h.base) };
 
     /// The seqno of the last entry.
     fn ledger_len(&self) -> u64
@@ -82,6 +87,19 @@ pub trait Book: Drop {
     /// The nodes that the ledger cut to a seqno records, in the order in which they were recorded.
     fn recorded_nodes(&self, upto: u64) -> &[NodeId]
         ensures { At stands self.now (λ b h. result.now ≡ b.recorded_nodes (take upto h.log)) };
+
+    /// The seqno of the entry that removed a node, if there is one.
+    fn removal(&self, node: &NodeId) -> Option<u64>
+        ensures { At stands self.now (λ b h. result ≡ b.removal h.log node.now) };
+
+    /// The seqno of the mark behind its removal, if there is one.
+    fn mark(&self, node: &NodeId) -> Option<u64>
+        ensures { At stands self.now (λ b h. result ≡ b.mark h.log node.now) };
+
+    /// The entries behind a seqno, not below the base: as many as one message carries.
+    fn batch(&self, behind: u64) -> Result<Vec<Entry>, AllocError>
+        ensures { IfOk result (λ entries. At stands self.now (λ b h. h.base ≤ behind →
+            entries.items ≡ batch b (drop behind h.log))) };
 
     /// Takes an entry for a request, and tells its view and the answer.
     fn execute(

@@ -43,6 +43,8 @@ pub enum Refusal<B: Book> {
     BelowCommit(u64, u64),
     /// The node is no other node of an active configuration.
     NotPeer,
+    /// The entries asked for came by a snapshot up to this seqno.
+    BelowBase(u64),
     /// The view is the last one.
     ViewLimit,
     /// The ledger takes no entry.

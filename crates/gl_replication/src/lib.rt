@@ -10,6 +10,7 @@ mod holders;
 mod leaves;
 mod node;
 mod progress;
+mod replicate;
 
 pub use book::Book;
 pub use done::{Done, Outcome, Refusal};

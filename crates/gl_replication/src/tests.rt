@@ -81,6 +81,8 @@ fn a_signed_request_is_committed(rt: HostRuntime) {
         Err(_) => false,
     };
     assert!(&rt; replied);
+    let refused = leader.replicate(id(2)).is_err();
+    assert!(&rt; refused);
     let restarted = leader.restart().is_ok();
     assert!(&rt; restarted && leader.leaves.used == 1);
 }

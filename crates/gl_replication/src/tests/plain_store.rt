@@ -1,7 +1,8 @@
 //! A store that holds its whole ledger, under the rules of a small book.
 
-ghost use Rattle.std.specs.Prelude.{◌≡◌, ◌<◌, ◌≤◌, ◌^◌, ◌++◌, ◌∷◌, [], take, length, vec_len, IfErr, OnOk, OnErr};
+ghost use Rattle.std.specs.Prelude.{◌≡◌, ◌<◌, ◌≤◌, ◌^◌, ◌++◌, ◌∷◌, [], take, length, vec_len, slice_get, IfOk, IfErr, OnOk, OnErr};
 ghost use Rattle.gl_base.specs.declared.or_no_memory.OrNoMemory.TheVariants.{NoMemory};
+ghost use Rattle.std.specs.Option.{option_to_list};
 ghost use Rattle.gl_entry.specs.Entry.{is_signature};
 ghost use Rattle.gl_entry.specs.declared.entry.Entry.{Entry as Item};
 ghost use Rattle.gl_rules.specs.Log.{last_signature, view_at};
@@ -88,6 +89,18 @@ impl PlainStore {
         &self.log[..seqno as usize]
     }
 
+    /// The entry behind a seqno, if there is one.
+    fn next_entry(&self, behind: u64) -> Result<Vec<Entry>, AllocError>
+        ensures { IfOk result (λ entries.
+            entries.items ≡ option_to_list (slice_get self.now.log.items behind)) }
+    {
+        let mut entries = Vec::new(self.alloc);
+        if let Some(entry) = self.log.get(behind as usize) {
+            entries.push(entry.copy(self.alloc)?)?;
+        }
+        Ok(entries)
+    }
+
     fn push(&mut self, entry: Entry) -> Result<(), OrNoMemory<u8>>
         ensures ok { OnOk result (self.new.log.items ≡ self.old.log.items ++ entry ∷ []) }
         ensures err { OnErr result (self.new.log.items ≡ self.old.log.items) }
@@ -120,6 +133,10 @@ impl Book for PlainStore {
 
     fn me(&self) -> NodeId {
         self.me
+    }
+
+    fn base(&self) -> u64 {
+        0
     }
 
     fn ledger_len(&self) -> u64 {
@@ -164,6 +181,18 @@ impl Book for PlainStore {
 
     fn recorded_nodes(&self, upto: u64) -> &[NodeId] {
         &[]
+    }
+
+    fn removal(&self, node: &NodeId) -> Option<u64> {
+        None
+    }
+
+    fn mark(&self, node: &NodeId) -> Option<u64> {
+        None
+    }
+
+    fn batch(&self, behind: u64) -> Result<Vec<Entry>, AllocError> {
+        self.next_entry(behind)
     }
 
     fn execute(&mut self, view: u32, request: &Entry) -> Result<(u32, u64), OrNoMemory<u8>> {

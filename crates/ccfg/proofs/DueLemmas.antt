@@ -7,6 +7,8 @@ use Rattle.gl_outside.specs.Sink.{AppendsFront}
 use Rattle.gl_lines.specs.Lines.{line_count}
 use Rattle.gl_receipt.specs.Form.{receipt_from}
 use Rattle.gl_audit.specs.Given.{OfBytes}
+use Rattle.gl_audit.specs.Verdict.{verdict as verdict_on}
+use Rattle.gl_audit.specs.declared.verdict.Verdict.{Verdict}
 use Rattle.ccfg.specs.declared.ending.Ending.{Ending}
 use Rattle.ccfg.specs.declared.ending.Ending.TheVariants as endings
 use Rattle.ccfg.specs.declared.fault.Fault.{Fault}
@@ -16,8 +18,8 @@ use Rattle.ccfg.specs.declared.plan.Plan.TheVariants.{Play, Show, ShowLedger, Re
 use Rattle.ccfg.specs.declared.words.Task.{Task}
 use Rattle.ccfg.specs.declared.words.Task.TheVariants as tasks
 use Rattle.ccfg.specs.Faults.{fault_line}
-use Rattle.ccfg.specs.Owed.{Due, Owes, Run, Runs, Written, WritesDue, bytes_limit, due_of, due_of_fault, due_of_form, due_of_reading, due_of_receipt, due_of_schedule, ending_of_fault, json_limit, lines_limit}
-use Rattle.ccfg.specs.Plans.{EndsSource, ShowsAccepted, due_of_plan, fault_of_length, limit_of}
+use Rattle.ccfg.specs.Owed.{Due, EndsSource, Owes, OwesRead, Run, Runs, Written, WritesDue, bytes_limit, due_of_audit, due_of_fault, due_of_form, due_of_reading, due_of_receipt, due_of_schedule, ending_of_fault, json_limit, lines_limit}
+use Rattle.ccfg.specs.Plans.{ShowsAccepted, due_of_plan}
 use Rattle.ccfg.specs.Promises.{TellsAccepted}
 use Rattle.gl_schedule.specs.Schedules.{reads}
 
@@ -57,36 +59,29 @@ long_receipt identity given more =
     ap (λ (b : Bool). if b then due_of_fault faults.TooMuchJson else due_of_form identity (receipt_from given))
     (let t : nat_lt json_limit (length given) ≡ true = grind (arith, nat_tests) in t)
 
--- bytes above a task's limit
-pub long_due : (task : Task) (fault : Fault) (given : List ℕ) → fault_of_length task ≡ Some fault → limit_of task < length given → due_of task given ≡ due_of_fault fault
-long_due tasks.Replay fault given told more = let same : faults.TooManyBytes ≡ fault = cc in long_schedule given more ∙ ap due_of_fault same
-long_due (tasks.Verify identity) fault given told more = let same : faults.TooMuchJson ≡ fault = cc in long_receipt identity given more ∙ ap due_of_fault same
-long_due (tasks.Audit identity) fault given told more = absurd cc
+-- what holds of the bytes that a source gives, from what else does
+pub of_map : (given : Option (List ℕ)) (P Q : List ℕ → Type 0) → ((g : List ℕ) → P g → Q g) → OfBytes given P → OfBytes given Q
+of_map None P Q f p = (p.0, f p.0 p.1)
+of_map (Some g) P Q f p = f g p
 
-pub long_ends : (task : Task) (fault : Fault) (ended : Bool) → fault_of_length task ≡ Some fault → EndsSource (due_of_fault fault).ending ended
-long_ends tasks.Replay fault ended told = let same : faults.TooManyBytes ≡ fault = cc in subst (λ (f : Fault). EndsSource (due_of_fault f).ending ended) same tt
-long_ends (tasks.Verify identity) fault ended told = let same : faults.TooMuchJson ≡ fault = cc in subst (λ (f : Fault). EndsSource (due_of_fault f).ending ended) same tt
-long_ends (tasks.Audit identity) fault ended told = absurd cc
+-- more bytes than a limit
+pub long_schedules : (given : Option (List ℕ)) → OfBytes given (λ g. bytes_limit < length g) → OfBytes given (λ g. due_of_schedule g ≡ due_of_fault faults.TooManyBytes)
+long_schedules given more = of_map given (λ g. bytes_limit < length g) (λ g. due_of_schedule g ≡ due_of_fault faults.TooManyBytes) long_schedule more
 
-pub of_long : (given : Option (List ℕ)) (limit limit' : ℕ) (X : List ℕ → Type 0) → limit ≡ limit' → OfBytes given (λ g. limit < length g) → ((g : List ℕ) → limit' < length g → X g) → OfBytes given X
-of_long None limit limit' X is more f = (more.0, f more.0 (subst (λ (n : ℕ). n < length more.0) is more.1))
-of_long (Some g) limit limit' X is more f = f g (subst (λ (n : ℕ). n < length g) is more)
+pub long_receipts : (identity : List ℕ) (given : Option (List ℕ)) → OfBytes given (λ g. json_limit < length g) →
+    OfBytes given (λ g. due_of_receipt identity g ≡ due_of_fault faults.TooMuchJson)
+long_receipts identity given more = of_map given (λ g. json_limit < length g) (λ g. due_of_receipt identity g ≡ due_of_fault faults.TooMuchJson) (long_receipt identity) more
+
+-- the verdict of an audit of what a source gives
+pub verdict_due : (identity : List ℕ) (given : Option (List ℕ)) (told : Verdict) (due : Due) → OfBytes given (λ g. told ≡ verdict_on identity g) → due_of_audit told ≡ due →
+    OfBytes given (λ g. due_of_audit (verdict_on identity g) ≡ due)
+verdict_due identity given told due is same =
+    of_map given (λ g. told ≡ verdict_on identity g) (λ g. due_of_audit (verdict_on identity g) ≡ due) (λ g v. ap due_of_audit (sym v) ∙ same) is
 
 -- what holds of any bytes
 pub of_any : (given : Option (List ℕ)) (X : List ℕ → Type 0) → ((g : List ℕ) → X g) → OfBytes given X
 of_any None X f = ([], f [])
 of_any (Some g) X f = f g
-
--- a source that was read whole
-pub whole_ends : (e : Ending) (ended : Bool) → ended ≡ true → EndsSource e ended
-whole_ends endings.Done ended is = is
-whole_ends endings.NotValid ended is = is
-whole_ends endings.OtherWords ended is = tt
-whole_ends endings.SourceFailed ended is = tt
-whole_ends endings.SinkFailed ended is = tt
-whole_ends endings.Memory ended is = tt
-whole_ends endings.PastLimit ended is = tt
-whole_ends endings.NoReading ended is = tt
 
 -- a fault shows nothing
 pub sound_refusal : (task : Task) (given : List ℕ) (fault : Fault) → ShowsAccepted task given (Refuse fault)
@@ -128,28 +123,34 @@ accepted task identity plan e w given asks sound is writes =
     go None sound = (sound.0, accepted_by identity plan w sound.0 sound.1 done)
     go (Some g) sound = accepted_by identity plan w g sound done
 
--- what is due of a plan is due of the bytes
-owes_due : (e : Ending) (r : Run) (owed : List ℕ → Due) (due : Due) → OfBytes r.given (λ g. owed g ≡ due) → WritesDue e r.written due → Owes e r owed
-owes_due e r owed due is writes = go r.given is
-  where
-    go : (given : Option (List ℕ)) → OfBytes given (λ g. owed g ≡ due) → OfBytes given (λ g. WritesDue e r.written (owed g))
-    go None p = (p.0, subst (λ (d : Due). WritesDue e r.written d) (sym p.1) writes)
-    go (Some g) p = subst (λ (d : Due). WritesDue e r.written d) (sym p) writes
+-- what is done is read whole
+done_whole : (plan : Plan) → (due_of_plan plan).ending ≡ endings.Done → (due_of_plan plan).whole ≡ true
+done_whole (Play schedule) is = refl
+done_whole (Show id) is = refl
+done_whole (ShowLedger last signed) is = refl
+done_whole (Refuse fault) is = absurd (no_fault_done fault is)
 
-ends_as : (e : Ending) (due : Due) (ended : Bool) → due.ending ≡ e → EndsSource due.ending ended → EndsSource e ended
-ends_as e due ended is ends = subst (λ (x : Ending). EndsSource x ended) is ends
+-- what holds of what is due of a plan holds of what is due of the bytes
+of_due : (given : Option (List ℕ)) (owed : List ℕ → Due) (due : Due) (P : Due → Type 0) → OfBytes given (λ g. owed g ≡ due) → P due → OfBytes given (λ g. P (owed g))
+of_due given owed due P is p = of_map given (λ g. owed g ≡ due) (λ g. P (owed g)) (λ g same. subst P (sym same) p) is
+
+owes_due : (e : Ending) (r : Run) (owed : List ℕ → Due) (due : Due) → OfBytes r.given (λ g. owed g ≡ due) → WritesDue e r.written due → Owes e r owed
+owes_due e r owed due is writes = of_due r.given owed due (WritesDue e r.written) is writes
+
+reads_due : (e : Ending) (r : Run) (owed : List ℕ → Due) (due : Due) → OfBytes r.given (λ g. owed g ≡ due) → EndsSource due r.ended → WritesDue e r.written due → OwesRead e r owed
+reads_due e r owed due is ends writes = of_due r.given owed due (λ d. EndsSource d r.ended × WritesDue e r.written d) is (ends, writes)
 
 -- a run that does what is due of the bytes
-pub due_runs : (e : Ending) (r : Run) (owed : List ℕ → Due) (due : Due) → OfBytes r.given (λ g. owed g ≡ due) → EndsSource due.ending r.ended →
-    WritesDue e r.written due → Runs e r owed
-due_runs endings.Done r owed due is ends writes = (ends_as endings.Done due r.ended writes.0 ends, owes_due endings.Done r owed due is writes)
-due_runs endings.NotValid r owed due is ends writes = (ends_as endings.NotValid due r.ended writes.0 ends, owes_due endings.NotValid r owed due is writes)
-due_runs endings.OtherWords r owed due is ends writes = owes_due endings.OtherWords r owed due is writes
-due_runs endings.SourceFailed r owed due is ends writes = absurd writes
-due_runs endings.SinkFailed r owed due is ends writes = owes_due endings.SinkFailed r owed due is writes
-due_runs endings.Memory r owed due is ends writes = owes_due endings.Memory r owed due is writes
-due_runs endings.PastLimit r owed due is ends writes = owes_due endings.PastLimit r owed due is writes
-due_runs endings.NoReading r owed due is ends writes = owes_due endings.NoReading r owed due is writes
+pub due_runs : (e : Ending) (r : Run) (owed : List ℕ → Due) (plan : Plan) → OfBytes r.given (λ g. owed g ≡ due_of_plan plan) → EndsSource (due_of_plan plan) r.ended →
+    WritesDue e r.written (due_of_plan plan) → Runs e r owed
+due_runs endings.Done r owed plan is ends writes = (ends (done_whole plan writes.0), owes_due endings.Done r owed (due_of_plan plan) is writes)
+due_runs endings.NotValid r owed plan is ends writes = reads_due endings.NotValid r owed (due_of_plan plan) is ends writes
+due_runs endings.OtherWords r owed plan is ends writes = owes_due endings.OtherWords r owed (due_of_plan plan) is writes
+due_runs endings.SourceFailed r owed plan is ends writes = absurd writes
+due_runs endings.SinkFailed r owed plan is ends writes = owes_due endings.SinkFailed r owed (due_of_plan plan) is writes
+due_runs endings.Memory r owed plan is ends writes = owes_due endings.Memory r owed (due_of_plan plan) is writes
+due_runs endings.PastLimit r owed plan is ends writes = reads_due endings.PastLimit r owed (due_of_plan plan) is ends writes
+due_runs endings.NoReading r owed plan is ends writes = reads_due endings.NoReading r owed (due_of_plan plan) is ends writes
 
 -- a run that came to no plan
 pub nothing_owed : (r : Run) (owed : List ℕ → Due) → ((text : List ℕ) → AppendsFront r.written.held r.written.holds text) → Runs endings.Memory r owed

@@ -20,7 +20,7 @@ use Rattle.gl_schedule.specs.declared.schedule.Schedule.{Schedule}
 use Rattle.ccfg.specs.declared.words.Task.{Task}
 use Rattle.ccfg.specs.declared.words.Task.TheVariants as tasks
 use Rattle.ccfg.specs.Owed.{Due, bytes_limit, due_of, due_of_audit, due_of_fault, due_of_form, due_of_reading, due_of_receipt, due_of_schedule, due_of_verdict, json_limit, lines_limit}
-use Rattle.ccfg.specs.Promises.{HasBadLine, HasOtherForm, HasTooManyBytes, HasTooManyLines, HasTooMuchJson, IsAnswer, IsPastLimit, IsReceipt, IsRefusal, IsUnread, ReadsAs}
+use Rattle.ccfg.specs.Promises.{HasBadLine, HasOtherForm, HasTooManyBytes, HasTooManyLines, HasTooMuchJson, IsAnswer, IsPastLimit, IsReceipt, IsRefusal, IsNoReading, ReadsAs}
 use Rattle.gl_schedule.specs.Schedules.{reads}
 
 -- What an ending and a text say of the bytes that are owed them.
@@ -32,7 +32,7 @@ Means task given endings.SourceFailed text = ⊥
 Means task given endings.SinkFailed text = ⊥
 Means task given endings.Memory text = ⊥
 Means task given endings.PastLimit text = IsPastLimit task given text
-Means task given endings.NoReading text = IsUnread task given text
+Means task given endings.NoReading text = IsNoReading task given text
 
 abbrev DueMeans : Task → List ℕ → Due → Type 0
 DueMeans task given due = Means task given due.ending due.text
@@ -147,7 +147,7 @@ limit_ends tasks.Replay given text (inr a) = ending_of (due_of_schedule given) (
 limit_ends (tasks.Verify identity) given text a = ending_of (due_of_receipt identity given) (due_of_fault faults.TooMuchJson) (too_much_json identity given a.0)
 limit_ends (tasks.Audit identity) given text a = absurd a
 
-pub unread_ends : (task : Task) (given text : List ℕ) → IsUnread task given text → EndsWith endings.NoReading (due_of task given)
+pub unread_ends : (task : Task) (given text : List ℕ) → IsNoReading task given text → EndsWith endings.NoReading (due_of task given)
 unread_ends tasks.Replay given text a = ending_of (due_of_schedule given) (due_of_fault (faults.BadLine a.0)) (bad_line given a.0 a.1)
 unread_ends (tasks.Verify identity) given text a = ending_of (due_of_receipt identity given) (due_of_fault (faults.Form a.0)) (other_form identity given a.0 a.1)
 unread_ends (tasks.Audit identity) given text a = absurd a

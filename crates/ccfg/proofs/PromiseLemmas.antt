@@ -11,15 +11,12 @@ use Rattle.ccfg.specs.declared.ending.Ending.TheVariants as endings
 use Rattle.ccfg.specs.declared.fault.Fault.TheVariants as faults
 use Rattle.ccfg.specs.declared.words.Task.{Task}
 use Rattle.ccfg.specs.Faults.{fault_line}
-use Rattle.ccfg.specs.Owed.{Answers, Due, Run, Runs, WritesDue, due_of, due_of_fault, exit_status}
-use Rattle.ccfg.specs.Promises.{IsAnswer, IsKindLine, IsPastLimit, IsRefusal, IsUnread, Tells, TellsFront}
+use Rattle.ccfg.specs.Owed.{Answers, Due, EndsSource, Run, Runs, WritesDue, due_of, due_of_fault, exit_status}
+use Rattle.ccfg.specs.Promises.{IsAnswer, IsKindLine, IsPastLimit, IsRefusal, IsNoReading, Tells, TellsFront}
+use Rattle.ccfg.proofs.DueLemmas.{of_map}
 use Rattle.ccfg.proofs.MeaningLemmas.{Means, answer_ends, limit_ends, means, refusal_ends, unread_ends}
 
 -- of what a source gives
-of_map : (given : Option (List ℕ)) (P Q : List ℕ → Type 0) → ((g : List ℕ) → P g → Q g) → OfBytes given P → OfBytes given Q
-of_map None P Q f p = (p.0, f p.0 p.1)
-of_map (Some g) P Q f p = f g p
-
 of_any : (given : Option (List ℕ)) (P : List ℕ → Type 0) (Q : Type 0) → ((g : List ℕ) → P g → Q) → OfBytes given P → Q
 of_any None P Q f p = f p.0 p.1
 of_any (Some g) P Q f p = f g p
@@ -45,6 +42,18 @@ meant e r task g w = ((due_of task g).text, subst (λ (x : Ending). Means task g
 
 of_meant : (e : Ending) (r : Run) (task : Task) → OfBytes r.given (λ g. WritesAll e r (due_of task g)) → OfBytes r.given (λ g. Tells (Means task g e) r.written.held r.written.holds)
 of_meant e r task p = of_map r.given (λ g. WritesAll e r (due_of task g)) (λ g. Tells (Means task g e) r.written.held r.written.holds) (meant e r task) p
+
+-- and that the source gave its end, where it is read whole
+abbrev ReadsAll : Ending → Run → Due → Type 0
+ReadsAll e r due = EndsSource due r.ended × WritesAll e r due
+
+all_written : (given : Option (List ℕ)) (e : Ending) (r : Run) (owed : List ℕ → Due) → OfBytes given (λ g. ReadsAll e r (owed g)) → OfBytes given (λ g. WritesAll e r (owed g))
+all_written given e r owed p = of_map given (λ g. ReadsAll e r (owed g)) (λ g. WritesAll e r (owed g)) (λ g w. w.1) p
+
+of_read : (e : Ending) (r : Run) (task : Task) → OfBytes r.given (λ g. ReadsAll e r (due_of task g)) →
+    OfBytes r.given (λ g. EndsSource (due_of task g) r.ended × Tells (Means task g e) r.written.held r.written.holds)
+of_read e r task p =
+    of_map r.given (λ g. ReadsAll e r (due_of task g)) (λ g. EndsSource (due_of task g) r.ended × Tells (Means task g e) r.written.held r.written.holds) (λ g w. (w.0, meant e r task g w.1)) p
 
 -- no bytes are owed the ending of other words
 no_other_words : (r : Run) (task : Task) → Runs endings.OtherWords r (due_of task) → ⊥
@@ -144,13 +153,13 @@ done asks e r a is = go e (status_done e is) a
 
 -- 1
 pub not_valid : (asks : Result Task Kinds) (e : Ending) (r : Run) → Answers asks e r → exit_status e ≡ 1 →
-    (task : Task) × (asks ≡ Ok task) × (r.ended ≡ true) × OfBytes r.given (λ g. Tells (IsRefusal task g) r.written.held r.written.holds)
+    (task : Task) × (asks ≡ Ok task) × OfBytes r.given (λ g. EndsSource (due_of task g) r.ended × Tells (IsRefusal task g) r.written.held r.written.holds)
 not_valid asks e r a is = go e (status_not_valid e is) a
   where
-    go : (e : Ending) → e ≡ endings.NotValid → Answers asks e r → (task : Task) × (asks ≡ Ok task) × (r.ended ≡ true) × OfBytes r.given (λ g. Tells (IsRefusal task g) r.written.held r.written.holds)
+    go : (e : Ending) → e ≡ endings.NotValid → Answers asks e r → (task : Task) × (asks ≡ Ok task) × OfBytes r.given (λ g. EndsSource (due_of task g) r.ended × Tells (IsRefusal task g) r.written.held r.written.holds)
     go endings.NotValid same a =
         let ran = task_ran asks endings.NotValid r a (λ q. cc) (λ q. cc) (λ q. cc) in
-        (ran.0, ran.1, ran.2.0, of_meant endings.NotValid r ran.0 ran.2.1)
+        (ran.0, ran.1, of_read endings.NotValid r ran.0 ran.2)
     go e same a = cc
 
 -- 2
@@ -202,18 +211,18 @@ limits asks e r a is = go e (status_limit e is) a
     go : (e : Ending) → e ≡ endings.PastLimit → Answers asks e r → (task : Task) × (asks ≡ Ok task) × OfBytes r.given (λ g. Tells (IsPastLimit task g) r.written.held r.written.holds)
     go endings.PastLimit same a =
         let ran = task_ran asks endings.PastLimit r a (λ q. cc) (λ q. cc) (λ q. cc) in
-        (ran.0, ran.1, of_meant endings.PastLimit r ran.0 ran.2)
+        (ran.0, ran.1, of_meant endings.PastLimit r ran.0 (all_written r.given endings.PastLimit r (due_of ran.0) ran.2))
     go e same a = cc
 
 -- 9
 pub no_reading : (asks : Result Task Kinds) (e : Ending) (r : Run) → Answers asks e r → exit_status e ≡ 9 →
-    (task : Task) × (asks ≡ Ok task) × OfBytes r.given (λ g. Tells (IsUnread task g) r.written.held r.written.holds)
+    (task : Task) × (asks ≡ Ok task) × OfBytes r.given (λ g. Tells (IsNoReading task g) r.written.held r.written.holds)
 no_reading asks e r a is = go e (status_reading e is) a
   where
-    go : (e : Ending) → e ≡ endings.NoReading → Answers asks e r → (task : Task) × (asks ≡ Ok task) × OfBytes r.given (λ g. Tells (IsUnread task g) r.written.held r.written.holds)
+    go : (e : Ending) → e ≡ endings.NoReading → Answers asks e r → (task : Task) × (asks ≡ Ok task) × OfBytes r.given (λ g. Tells (IsNoReading task g) r.written.held r.written.holds)
     go endings.NoReading same a =
         let ran = task_ran asks endings.NoReading r a (λ q. cc) (λ q. cc) (λ q. cc) in
-        (ran.0, ran.1, of_meant endings.NoReading r ran.0 ran.2)
+        (ran.0, ran.1, of_meant endings.NoReading r ran.0 (all_written r.given endings.NoReading r (due_of ran.0) ran.2))
     go e same a = cc
 
 -- words that ask for nothing
@@ -241,13 +250,13 @@ due_end e r owed runs = go r.given e runs
 
     go : (given : Option (List ℕ)) (e : Ending) → Runs e (record r { given = given }) owed → IfSome given (λ g. EndsBy (exit_status (owed g).ending) (exit_status e))
     go given endings.Done runs = told given endings.Done runs.1
-    go given endings.NotValid runs = told given endings.NotValid runs.1
+    go given endings.NotValid runs = told given endings.NotValid (all_written given endings.NotValid r owed runs)
     go given endings.OtherWords runs = told given endings.OtherWords runs
     go given endings.SourceFailed runs = whatever_told given (λ g. EndsBy (exit_status (owed g).ending) 3) (λ g. inr (inl refl))
     go given endings.SinkFailed runs = whatever_told given (λ g. EndsBy (exit_status (owed g).ending) 4) (λ g. inr (inr (inl refl)))
     go given endings.Memory runs = whatever_told given (λ g. EndsBy (exit_status (owed g).ending) 7) (λ g. inr (inr (inr refl)))
-    go given endings.PastLimit runs = told given endings.PastLimit runs
-    go given endings.NoReading runs = told given endings.NoReading runs
+    go given endings.PastLimit runs = told given endings.PastLimit (all_written given endings.PastLimit r owed runs)
+    go given endings.NoReading runs = told given endings.NoReading (all_written given endings.NoReading r owed runs)
 
 -- Bytes that are owed this ending, by what they are.
 abbrev AreOwed : (Task → List ℕ → List ℕ → Type 0) → Ending → Type 0
@@ -273,8 +282,8 @@ pub past_limits : (asks : Result Task Kinds) (e : Ending) (r : Run) → Answers 
 past_limits asks e r a task is = comes_to IsPastLimit endings.PastLimit limit_ends asks e r a task is
 
 pub unread : (asks : Result Task Kinds) (e : Ending) (r : Run) → Answers asks e r → (task : Task) → asks ≡ Ok task →
-    IfSome r.given (λ g. (text : List ℕ) → IsUnread task g text → EndsBy 9 (exit_status e))
-unread asks e r a task is = comes_to IsUnread endings.NoReading unread_ends asks e r a task is
+    IfSome r.given (λ g. (text : List ℕ) → IsNoReading task g text → EndsBy 9 (exit_status e))
+unread asks e r a task is = comes_to IsNoReading endings.NoReading unread_ends asks e r a task is
 
 pub complete : (asks : Result Task Kinds) (e : Ending) (r : Run) → Answers asks e r → (task : Task) → asks ≡ Ok task →
     (Rose r.faults r.faults_now → ⊥) → (Rose r.written.faults r.written.faults_now → ⊥) →

@@ -1,5 +1,5 @@
 -- What a run of the program owes to its words and its source: how it ends, and what it writes.
-use Rattle.std.specs.Prelude.{◌≡◌, ℕ, List, ◌++◌, Option, None, Some, Result, Ok, Err, Bool, true, codes, length, nat_lt, if◌then◌else◌}
+use Rattle.std.specs.Prelude.{◌≡◌, ℕ, List, ◌++◌, Option, None, Some, Result, Ok, Err, Bool, true, false, codes, length, nat_lt, if◌then◌else◌}
 use Rattle.std.specs.Io.KnownBytes.{Appends, Keeps}
 use Rattle.clap.specs.Kinds.{Kinds, IsAmong}
 use Rattle.clap.specs.declared.error.kind.ErrorKind.{ErrorKind}
@@ -52,15 +52,37 @@ ending_of_fault (faults.NotValid fault) = endings.NotValid
 ending_of_fault (faults.Broken seqno rule) = endings.NotValid
 ending_of_fault (faults.Foreign identity) = endings.NotValid
 
+-- Whether a source is read whole before this fault is told of it. Where it has more bytes than the
+-- limit it isn't, nor is a ledger in which an entry breaks a rule: the audit stops there.
+abbrev pub is_read_whole : Fault → Bool
+is_read_whole (faults.Words kind) = false
+is_read_whole faults.TooManyBytes = false
+is_read_whole faults.TooManyLines = true
+is_read_whole faults.TooMuchJson = false
+is_read_whole (faults.BadLine number) = true
+is_read_whole (faults.Form fault) = true
+is_read_whole (faults.NotValid fault) = true
+is_read_whole (faults.Broken seqno rule) = false
+is_read_whole (faults.Foreign identity) = true
+
 -- What is owed
 
--- An ending, and the text that belongs to it.
+-- An ending, the text that belongs to it, and whether the source is read whole before.
 pub record Due : Type 0 where
   pub ending : Ending
   pub text : List ℕ
+  pub whole : Bool
+
+-- An answer: all of the source is read for it.
+abbrev pub due_of_answer : List ℕ → Due
+due_of_answer text = record { ending = endings.Done; text = text; whole = true }
 
 abbrev pub due_of_fault : Fault → Due
-due_of_fault fault = record { ending = ending_of_fault fault; text = fault_line fault }
+due_of_fault fault = record {
+  ending = ending_of_fault fault;
+  text = fault_line fault;
+  whole = is_read_whole fault;
+}
 
 -- The most bytes and lines that a schedule has.
 abbrev pub bytes_limit : ℕ
@@ -71,7 +93,7 @@ lines_limit = 100000
 
 abbrev pub due_of_reading : Result Schedule ScheduleFault → Due
 due_of_reading (Err (BadLine number)) = due_of_fault (faults.BadLine number)
-due_of_reading (Ok schedule) = record { ending = endings.Done; text = text_of_schedule schedule }
+due_of_reading (Ok schedule) = due_of_answer (text_of_schedule schedule)
 
 -- What is owed to bytes that are to be a schedule. The limits are tried before the reading, the one
 -- on bytes first.
@@ -90,7 +112,7 @@ abbrev pub valid_line : TxId → List ℕ
 valid_line id = codes "valid " ++ text_of id ++ codes "\n"
 
 abbrev pub due_of_verdict : Result TxId ReceiptFault → Due
-due_of_verdict (Ok id) = record { ending = endings.Done; text = valid_line id }
+due_of_verdict (Ok id) = due_of_answer (valid_line id)
 due_of_verdict (Err fault) = due_of_fault (faults.NotValid fault)
 
 abbrev pub due_of_form : List ℕ → Result Receipt FormsFault → Due
@@ -116,8 +138,7 @@ ledger_line last signed =
 
 -- What is owed to the verdict of an audit.
 abbrev pub due_of_audit : Verdict → Due
-due_of_audit (audits.Valid last signed) =
-    record { ending = endings.Done; text = ledger_line last signed }
+due_of_audit (audits.Valid last signed) = due_of_answer (ledger_line last signed)
 due_of_audit (audits.Foreign identity) = due_of_fault (faults.Foreign identity)
 due_of_audit (audits.Fault seqno rule) = due_of_fault (faults.Broken seqno rule)
 
@@ -166,19 +187,28 @@ pub record Run : Type 0 where
 abbrev pub Owes : Ending → Run → (List ℕ → Due) → Type 0
 Owes e r due = OfBytes r.given (λ given. WritesDue e r.written (due given))
 
+-- Where a source is read whole, it gave its end.
+abbrev pub EndsSource : Due → Bool → Type 0
+EndsSource due ended = due.whole ≡ true → ended ≡ true
+
+-- The bytes are owed this, and where they are to be read whole, they were.
+abbrev pub OwesRead : Ending → Run → (List ℕ → Due) → Type 0
+OwesRead e r due =
+    OfBytes r.given (λ given. EndsSource (due given) r.ended × WritesDue e r.written (due given))
+
 -- What a task does that owes this to the bytes of its source. Where the source failed, by its count
--- of faults, nothing is written. Else what is owed to the bytes is; and where it is done, or the
--- verdict is no, the source gave its end.
+-- of faults, nothing is written. Else what is owed to the bytes is; and the source gave its end
+-- where it is done, and where else the source is read whole.
 abbrev pub Runs : Ending → Run → (List ℕ → Due) → Type 0
 Runs endings.SourceFailed r due =
     Rose r.faults r.faults_now × Keeps r.written.held r.written.holds
 Runs endings.Done r due = (r.ended ≡ true) × Owes endings.Done r due
-Runs endings.NotValid r due = (r.ended ≡ true) × Owes endings.NotValid r due
+Runs endings.NotValid r due = OwesRead endings.NotValid r due
 Runs endings.OtherWords r due = Owes endings.OtherWords r due
 Runs endings.SinkFailed r due = Owes endings.SinkFailed r due
 Runs endings.Memory r due = Owes endings.Memory r due
-Runs endings.PastLimit r due = Owes endings.PastLimit r due
-Runs endings.NoReading r due = Owes endings.NoReading r due
+Runs endings.PastLimit r due = OwesRead endings.PastLimit r due
+Runs endings.NoReading r due = OwesRead endings.NoReading r due
 
 -- What the program does, by what its words ask for: a task is run, and of words that ask for
 -- nothing one kind of fault is told.

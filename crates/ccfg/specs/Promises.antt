@@ -59,22 +59,22 @@ IsReceipt given receipt = (length given ≤ json_limit) × (receipt_from given �
 
 -- Ledgers
 
--- The bytes are a valid ledger of the service with this key, and the text tells it.
-abbrev pub IsValidLedger : List ℕ → List ℕ → List ℕ → Type 0
-IsValidLedger identity given text =
+-- The text tells of a valid ledger of the service with this key, and that is what the bytes are.
+abbrev pub TellsValidLedger : List ℕ → List ℕ → List ℕ → Type 0
+TellsValidLedger identity given text =
     (last : TxId) × (signed : Option TxId)
     × (audits_to.verdict identity given ≡ audits.Valid last signed)
     × (text ≡ ledger_line last signed)
 
--- The bytes are a valid ledger of another service, and the text tells its key.
-abbrev pub IsForeignLedger : List ℕ → List ℕ → List ℕ → Type 0
-IsForeignLedger identity given text =
+-- The text tells the key of another service, and the bytes are a valid ledger of that one.
+abbrev pub TellsForeignLedger : List ℕ → List ℕ → List ℕ → Type 0
+TellsForeignLedger identity given text =
     (key : List ℕ) × (audits_to.verdict identity given ≡ audits.Foreign key)
     × (text ≡ fault_line (faults.Foreign key))
 
--- The bytes are no valid ledger, and the text tells the first entry that breaks a rule.
-abbrev pub IsFaultyLedger : List ℕ → List ℕ → List ℕ → Type 0
-IsFaultyLedger identity given text =
+-- The text tells the first entry that breaks a rule, and the bytes are no valid ledger.
+abbrev pub TellsFaultyLedger : List ℕ → List ℕ → List ℕ → Type 0
+TellsFaultyLedger identity given text =
     (seqno : ℕ) × (rule : ℕ) × (audits_to.verdict identity given ≡ audits.Fault seqno rule)
     × (text ≡ fault_line (faults.Broken seqno rule))
 
@@ -89,7 +89,7 @@ IsAnswer tasks.Replay given text =
 IsAnswer (tasks.Verify identity) given text =
     (receipt : Receipt) × IsReceipt given receipt
     × (id : TxId) × (verdict identity receipt ≡ Ok id) × (text ≡ valid_line id)
-IsAnswer (tasks.Audit identity) given text = IsValidLedger identity given text
+IsAnswer (tasks.Audit identity) given text = TellsValidLedger identity given text
 
 -- At 1: the bytes are a receipt that is not valid under the key, or they are no valid ledger of the
 -- service with the key, and the text tells why.
@@ -100,7 +100,7 @@ IsRefusal (tasks.Verify identity) given text =
     × (fault : ReceiptFault) × (verdict identity receipt ≡ Err fault)
     × (text ≡ fault_line (faults.NotValid fault))
 IsRefusal (tasks.Audit identity) given text =
-    IsForeignLedger identity given text ⊎ IsFaultyLedger identity given text
+    TellsForeignLedger identity given text ⊎ TellsFaultyLedger identity given text
 
 -- At 8: the bytes pass a limit, and the text names it.
 abbrev pub IsPastLimit : Task → List ℕ → List ℕ → Type 0
@@ -113,12 +113,12 @@ IsPastLimit (tasks.Audit identity) given text = ⊥
 
 -- At 9: the bytes are within the limits and have no reading, and the text tells their first bad
 -- line, or what differs first from a receipt.
-abbrev pub IsUnread : Task → List ℕ → List ℕ → Type 0
-IsUnread tasks.Replay given text =
+abbrev pub IsNoReading : Task → List ℕ → List ℕ → Type 0
+IsNoReading tasks.Replay given text =
     (number : ℕ) × HasBadLine given number × (text ≡ fault_line (faults.BadLine number))
-IsUnread (tasks.Verify identity) given text =
+IsNoReading (tasks.Verify identity) given text =
     (fault : FormsFault) × HasOtherForm given fault × (text ≡ fault_line (faults.Form fault))
-IsUnread (tasks.Audit identity) given text = ⊥
+IsNoReading (tasks.Audit identity) given text = ⊥
 
 -- At 2: the line of one of these kinds of fault.
 abbrev pub IsKindLine : Kinds → List ℕ → Type 0

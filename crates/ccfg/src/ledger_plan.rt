@@ -1,25 +1,26 @@
 //! What there is to do with a ledger that is audited.
 
-ghost use Rattle.std.specs.Prelude.{◌≡◌, ◌++◌, IfOk, OnOk};
+ghost use Rattle.std.specs.Prelude.{◌≡◌, ◌++◌, Bool, Err, IfOk, OnOk};
+ghost use Rattle.gl_outside.specs.Fault.{Rose};
+ghost use Rattle.gl_audit.specs.Given.{OfBytes};
+ghost use Rattle.gl_audit.specs.Verdict.{EndsWith};
 ghost use Rattle.gl_audit.specs.Verdict as audits_to;
-ghost use Rattle.ccfg.specs.Owed.{due_of_audit, ledger_line, signed_text};
-ghost use Rattle.ccfg.specs.Plans.{PlansPlayable, ShowsAccepted, due_of_plan};
-ghost use Rattle.ccfg.specs.declared.words.Task.TheVariants.{Audit};
+ghost use Rattle.ccfg.specs.Owed.{EndsSource, due_of_audit, ledger_line, signed_text};
+ghost use Rattle.ccfg.specs.Plans.{PlansPlayable, due_of_plan};
 
 use crate::fault::Fault;
-use crate::plan::Plan;
+use crate::plan::{Plan, PlanStop};
 use gl_audit::{Verdict, audit};
 use gl_base::{OrNoMemory, TxId};
-use gl_outside::SureSource;
+use gl_outside::Source;
 use gl_requests::HssPublicKey;
 use std::alloc::{AllocError, Global};
-
-/// How many bytes of the ledger the auditor reads at once.
-const PIECE: usize = 65536;
 
 /// What there is to do with a verdict.
 fn plan_of_verdict(verdict: Verdict) -> Plan
     ensures due { due_of_audit verdict ≡ due_of_plan result }
+    ensures ended { (ended : Bool) → EndsWith verdict ended
+        → EndsSource (due_of_plan result) ended }
     ensures playable { PlansPlayable result }
 {
     match verdict {
@@ -29,27 +30,25 @@ fn plan_of_verdict(verdict: Verdict) -> Plan
     }
 }
 
-/// The verdict of an audit of these bytes under a service's key.
-fn verdict_on(alloc: Global, identity: &HssPublicKey, text: &[u8]) -> Result<Verdict, AllocError>
-    ensures { IfOk result (λ told. told ≡ audits_to.verdict identity.now text.now) }
-{
-    let mut source = SureSource::new(text, PIECE);
-    match audit(alloc, identity, &mut source) {
-        Ok(verdict) => Ok(verdict),
-        Err(OrNoMemory::NoMemory) => Err(AllocError),
-        Err(OrNoMemory::Fault(_)) => unreachable!(),
-    }
-}
-
-/// What there is to do with bytes that are to be a ledger of the service with this key.
-pub fn ledger_plan(alloc: Global, identity: &HssPublicKey, text: &[u8]) -> Result<Plan, AllocError>
-    ensures due { IfOk result (λ plan.
-        due_of_audit (audits_to.verdict identity.now text.now) ≡ due_of_plan plan) }
-    ensures sound { IfOk result (λ plan. ShowsAccepted (Audit identity.now) text.now plan) }
+/// What there is to do with what a source gives, which is to be a ledger of the service with this
+/// key. It is audited as it comes, and read no further than the first entry that breaks a rule.
+pub fn read_ledger_plan<S: Source>(
+    alloc: Global,
+    identity: &HssPublicKey,
+    source: &mut S,
+) -> Result<Plan, PlanStop>
+    ensures due { IfOk result (λ plan. OfBytes (S.left source.old) (λ given.
+        due_of_audit (audits_to.verdict identity.now given) ≡ due_of_plan plan)) }
+    ensures ended { IfOk result (λ plan. EndsSource (due_of_plan plan) (S.ended source.new)) }
     ensures playable { IfOk result (λ plan. PlansPlayable plan) }
+    ensures failed { result ≡ Err PlanStop.SourceFailed →
+        Rose (S.faults source.old) (S.faults source.new) }
 {
-    let verdict = verdict_on(alloc, identity, text)?;
-    Ok(plan_of_verdict(verdict))
+    match audit(alloc, identity, source) {
+        Ok(verdict) => Ok(plan_of_verdict(verdict)),
+        Err(OrNoMemory::Fault(_)) => Err(PlanStop::SourceFailed),
+        Err(OrNoMemory::NoMemory) => Err(PlanStop::Memory),
+    }
 }
 
 fn put_signed(out: &mut Vec<u8>, signed: Option<TxId>) -> Result<(), AllocError>

@@ -8,6 +8,7 @@ mod ledger_plan;
 mod load;
 mod plan;
 mod program;
+mod progress;
 #[cfg(test)]
 mod tests;
 mod verify;
@@ -18,7 +19,9 @@ use gl_outside::{
     NoDisk, OpenGate, Sink, SinkFault, StreamSink, StreamSource, SureLink, write_whole,
 };
 use help::{HELP, VERSION};
+use progress::WatchedSource;
 use std::alloc::{AllocError, Global};
+use std::io::IsTerminal;
 use std::process::ExitCode;
 use std::{env, io};
 
@@ -52,14 +55,20 @@ fn print<K: Sink>(text: &str, sink: &mut K) -> Ending {
     }
 }
 
-/// The exit status of a run over the standard streams.
+/// Whether the words ask for an audit, if they ask for anything.
+fn is_audit(words: &[String]) -> bool {
+    matches!(words, [command, ..] if command.as_str() == "audit")
+}
+
+/// The exit status of a run over the standard streams. An audit tells at a terminal how far it is.
 fn status(rt: &HostRuntime) -> Result<u8, AllocError> {
     let words = words_behind_name(rt)?;
     let mut sink = StreamSink::new(io::writer(rt));
     if let Some(text) = told_of_itself(rt.alloc(), &words)? {
         return Ok(print(text.as_str(), &mut sink).status());
     }
-    let mut source = StreamSource::new(rt.reader());
+    let told = rt.stderr().is_terminal() && is_audit(&words);
+    let mut source = WatchedSource::new(StreamSource::new(rt.reader()), rt, told);
     let mut disk = NoDisk::new();
     let mut link = SureLink::new(rt.alloc(), &[]);
     Ok(program::top(

@@ -13,10 +13,11 @@ ghost use Rattle.ccfg.specs.declared.words.Task.TheVariants.{Verify};
 ghost use Rattle.ccfg.specs.declared.words.Task.{Task as Tasks};
 ghost use Rattle.gl_schedule.specs.Moments.{KeepsHeadline, TellsMoments};
 ghost use Rattle.gl_audit.specs.Given.{OfBytes};
-ghost use Rattle.ccfg.specs.Owed.{Answers, Runs, WritesDue, due_of, due_of_fault, exit_status};
+ghost use Rattle.ccfg.specs.Owed.{Answers, EndsSource, Runs, WritesDue, due_of, due_of_fault, exit_status};
 ghost use Rattle.gl_schedule.specs.Playable.{IsPlayable};
+ghost use Rattle.gl_schedule.specs.declared.schedule.Schedule.TheVariants.{Service};
 ghost use Rattle.ccfg.specs.Plans.{PlansPlayable, due_of_plan};
-ghost use Rattle.ccfg.specs.Promises.{IsAnswer, IsKindLine, IsPastLimit, IsRefusal, IsUnread, Tells, TellsAccepted, TellsFront};
+ghost use Rattle.ccfg.specs.Promises.{IsAnswer, IsKindLine, IsPastLimit, IsRefusal, IsNoReading, Tells, TellsAccepted, TellsFront};
 ghost use Rattle.gl_schedule.specs.Schedules.{reads};
 ghost use Rattle.ccfg.specs.Words.{asked};
 
@@ -27,8 +28,11 @@ use crate::plan::{Plan, PlanStop, read_plan};
 use crate::verify::valid_line;
 use crate::words::{Task, WordsFault, read_words};
 use gl_base::TxId;
+use gl_book::books;
+use gl_lines::Lines;
 use gl_outside::{Disk, Gate, Link, Sink, SinkFault, Source, write_whole};
 use gl_schedule::{Schedule, play};
+use gl_world::Settings;
 use std::alloc::Global;
 
 /// Tells a fault.
@@ -88,6 +92,26 @@ fn show_ledger<K: Sink>(alloc: Global, last: TxId, signed: Option<TxId>, sink: &
     }
 }
 
+/// Plays the lines of a service's schedule, over a store for each of its nodes.
+fn play_service<K: Sink>(alloc: Global, settings: &Settings, lines: &Lines, sink: &mut K) -> Ending
+    requires { IsPlayable (Service settings.now lines.now) }
+    ensures { WritesDue result (record {
+      held = K.holds sink.old;
+      holds = K.holds sink.new;
+      faults = K.faults sink.old;
+      faults_now = K.faults sink.new;
+    }) (due_of_plan (Play (Service settings.now lines.now))) }
+{
+    let Ok(books) = books(alloc, settings) else {
+        return Ending::Memory;
+    };
+    match play(alloc, *settings, lines, books, sink) {
+        Ok(()) => Ending::Done,
+        Err(SinkFault::Failed) => Ending::SinkFailed,
+        Err(SinkFault::NoMemory) => Ending::Memory,
+    }
+}
+
 /// Plays a schedule; one without a service prints nothing.
 fn perform<K: Sink>(alloc: Global, schedule: &Schedule, sink: &mut K) -> Ending
     requires { IsPlayable schedule.now }
@@ -100,11 +124,7 @@ fn perform<K: Sink>(alloc: Global, schedule: &Schedule, sink: &mut K) -> Ending
 {
     match schedule {
         Schedule::Empty => Ending::Done,
-        Schedule::Service(settings, lines) => match play(alloc, *settings, lines, sink) {
-            Ok(()) => Ending::Done,
-            Err(SinkFault::Failed) => Ending::SinkFailed,
-            Err(SinkFault::NoMemory) => Ending::Memory,
-        },
+        Schedule::Service(settings, lines) => play_service(alloc, settings, lines, sink),
     }
 }
 
@@ -219,13 +239,14 @@ pub fn top<S: Source, K: Sink, D: Disk + Send, L: Link, G: Gate + Sync>(
         → asked (map string_bytes words.now) ≡ Ok (Verify identity)
         → OfBytes (S.left source.old) (λ given.
         TellsAccepted identity given (K.holds sink.old) (K.holds sink.new)) }
-    // 1: the words ask for a task, the source gave its end, and exactly the line was written that
-    // tells why the bytes' receipt or ledger is not valid.
+    // 1: the words ask for a task, and exactly the line was written that tells why the bytes'
+    // receipt or ledger is not valid. The source gave its end, unless the line tells an entry that
+    // breaks a rule: then nothing is said of the end.
     ensures not_valid { result ≡ 1 → (task : Tasks)
         × (asked (map string_bytes words.now) ≡ Ok task)
-        × (S.ended source.new ≡ true)
         × OfBytes (S.left source.old) (λ given.
-        Tells (IsRefusal task given) (K.holds sink.old) (K.holds sink.new)) }
+        EndsSource (due_of task given) (S.ended source.new)
+        × Tells (IsRefusal task given) (K.holds sink.old) (K.holds sink.new)) }
     // 2: the words ask for nothing, and exactly the line of a kind of their fault was written.
     ensures words { result ≡ 2 → (kinds : Kinds) × (asked (map string_bytes words.now) ≡ Err kinds)
         × Tells (IsKindLine kinds) (K.holds sink.old) (K.holds sink.new) }
@@ -251,7 +272,7 @@ pub fn top<S: Source, K: Sink, D: Disk + Send, L: Link, G: Gate + Sync>(
     ensures no_reading { result ≡ 9 → (task : Tasks)
         × (asked (map string_bytes words.now) ≡ Ok task)
         × OfBytes (S.left source.old) (λ given.
-        Tells (IsUnread task given) (K.holds sink.old) (K.holds sink.new)) }
+        Tells (IsNoReading task given) (K.holds sink.old) (K.holds sink.new)) }
     // These never come.
     ensures never { (result ≢ 5) × (result ≢ 6) }
     // Words that ask for nothing: 2 and the line of a kind of their fault, or 4 or 7 and a front.
@@ -279,7 +300,7 @@ pub fn top<S: Source, K: Sink, D: Disk + Send, L: Link, G: Gate + Sync>(
         → (result ≡ 8) ⊎ (result ≡ 3) ⊎ (result ≡ 4) ⊎ (result ≡ 7)) }
     // and bytes within the limits without a reading give 9.
     ensures unread { (task : Tasks) → asked (map string_bytes words.now) ≡ Ok task
-        → IfSome (S.left source.old) (λ given. (text : List ℕ) → IsUnread task given text
+        → IfSome (S.left source.old) (λ given. (text : List ℕ) → IsNoReading task given text
         → (result ≡ 9) ⊎ (result ≡ 3) ⊎ (result ≡ 4) ⊎ (result ≡ 7)) }
     // A source and a sink that don't fail: the status that is owed to the bytes, or want of memory.
     ensures complete { (task : Tasks) → asked (map string_bytes words.now) ≡ Ok task

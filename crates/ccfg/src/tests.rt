@@ -6,6 +6,7 @@ use std::alloc::{AllocError, Global};
 
 mod audits;
 mod members;
+mod nodes;
 mod receipts;
 mod schedules;
 mod words;

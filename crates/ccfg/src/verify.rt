@@ -1,20 +1,27 @@
 //! What there is to do with a receipt.
 
-ghost use Rattle.std.specs.Prelude.{◌≡◌, ◌≤◌, ◌++◌, IfOk, OnOk, length};
-ghost use Rattle.ccfg.specs.Owed.{due_of_receipt, json_limit, valid_line};
+ghost use Rattle.std.specs.Prelude.{◌≡◌, ◌≤◌, ◌++◌, Err, IfOk, OnOk, length};
+ghost use Rattle.gl_outside.specs.Fault.{Rose};
+ghost use Rattle.gl_audit.specs.Given.{OfBytes};
+ghost use Rattle.ccfg.specs.Owed.{EndsSource, due_of_receipt, json_limit, valid_line};
 ghost use Rattle.ccfg.specs.Plans.{ShowsAccepted, PlansPlayable, due_of_plan};
 ghost use Rattle.ccfg.specs.declared.words.Task.TheVariants.{Verify};
 
 use crate::fault::Fault;
-use crate::plan::Plan;
+use crate::load::{LoadStop, load};
+use crate::plan::{Plan, PlanStop};
 use gl_base::{OrNoMemory, TxId};
+use gl_outside::Source;
 use gl_receipt::{read_receipt, verify};
 use gl_requests::HssPublicKey;
 use std::alloc::{AllocError, Global};
 
+/// The most bytes that JSON has.
+const JSON_LIMIT: usize = 1_048_576;
+
 /// What there is to do with a text within the limit on JSON that is to be a receipt under this key.
 #[tactic(auto, unfolding(crate::specs::Owed::due_of_receipt))]
-pub fn receipt_plan(alloc: Global, identity: &HssPublicKey, text: &[u8]) -> Result<Plan, AllocError>
+fn receipt_plan(alloc: Global, identity: &HssPublicKey, text: &[u8]) -> Result<Plan, AllocError>
     requires { length text.now ≤ json_limit }
     ensures due { IfOk result (λ plan. due_of_receipt identity.now text.now ≡ due_of_plan plan) }
     ensures sound { IfOk result (λ plan. ShowsAccepted (Verify identity.now) text.now plan) }
@@ -27,6 +34,32 @@ pub fn receipt_plan(alloc: Global, identity: &HssPublicKey, text: &[u8]) -> Resu
         },
         Err(OrNoMemory::Fault(fault)) => Ok(Plan::Refuse(Fault::Form(fault))),
         Err(OrNoMemory::NoMemory) => Err(AllocError),
+    }
+}
+
+/// What there is to do with what a source gives, which is to be a receipt under this key.
+pub fn read_receipt_plan<S: Source>(
+    alloc: Global,
+    identity: &HssPublicKey,
+    source: &mut S,
+) -> Result<Plan, PlanStop>
+    ensures due { IfOk result (λ plan. OfBytes (S.left source.old) (λ given.
+        due_of_receipt identity.now given ≡ due_of_plan plan)) }
+    ensures sound { IfOk result (λ plan. OfBytes (S.left source.old) (λ given.
+        ShowsAccepted (Verify identity.now) given plan)) }
+    ensures ended { IfOk result (λ plan. EndsSource (due_of_plan plan) (S.ended source.new)) }
+    ensures playable { IfOk result (λ plan. PlansPlayable plan) }
+    ensures failed { result ≡ Err PlanStop.SourceFailed →
+        Rose (S.faults source.old) (S.faults source.new) }
+{
+    match load(alloc, JSON_LIMIT, source) {
+        Ok(text) => match receipt_plan(alloc, identity, &text) {
+            Ok(plan) => Ok(plan),
+            Err(_) => Err(PlanStop::Memory),
+        },
+        Err(LoadStop::TooLong) => Ok(Plan::Refuse(Fault::TooMuchJson)),
+        Err(LoadStop::Memory) => Err(PlanStop::Memory),
+        Err(LoadStop::Failed) => Err(PlanStop::SourceFailed),
     }
 }
 

@@ -1,16 +1,7 @@
 //! What a request of governance does.
 
-use gl_gov_rules::ProposalState;
-use gl_requests::Digest;
+use gl_gov_rules::ProposalStatus;
 use gl_vmaps::Writes;
-
-/// A proposal and its state.
-#[derive(Clone, Copy, Debug, PartialEq, Eq)]
-pub struct ProposalStatus {
-    /// The digest of the request that made it.
-    pub id: Digest,
-    pub state: ProposalState,
-}
 
 /// How many shares of the recovery secret were given, and how many the dealing asks for.
 #[derive(Clone, Copy, Debug, PartialEq, Eq)]

@@ -1,7 +1,7 @@
 //! The state of a service's governance: its requests so far, and the rows that they come to.
 #![tactic(auto)]
 
-pub use effect::{GovernanceEffect, ProposalStatus, ShareCount};
+pub use effect::{GovernanceEffect, ShareCount};
 pub use state::{GovState, is_founding};
 
 mod between;

@@ -4,15 +4,17 @@ ghost use Rattle.std.specs.Prelude.{◌≡◌, true, count_by, is_some, length, 
 ghost use Rattle.gl_requests.specs.Ranges.{is_request, is_member_request};
 ghost use Rattle.gl_gov_rules.specs.Service.{dealing, threshold_of, share_behind, shares_given};
 ghost use Rattle.gl_gov_rules.specs.Governed.{is_founding};
-ghost use Rattle.gl_gov.specs.State.{proposal_in_act, proposal_named, status_with, proposal_status, share_count};
+ghost use Rattle.gl_gov_rules.specs.ProposalStatus.{named_in_act, proposal_named, status_with, proposal_status};
+ghost use Rattle.gl_gov.specs.State.{share_count};
 
 use crate::between::changes;
-use crate::effect::{GovernanceEffect, ProposalStatus, ShareCount};
+use crate::effect::{GovernanceEffect, ShareCount};
 use crate::rows::{member_rows, node_rows, proposal_row, rows, service_row};
 use gl_base::OrNoMemory;
 use gl_gov_decisions::{changes_of, refusal};
 use gl_gov_rules::{
-    GovernanceRefusal, History, MemberRow, NodeRow, ProposalRow, Recorded, ServiceRow,
+    GovernanceRefusal, History, MemberRow, NodeRow, ProposalRow, ProposalStatus, Recorded,
+    ServiceRow,
 };
 use gl_requests::{Digest, GovernanceRequest, MemberAct, MemberRequest};
 use gl_vmaps::Writes;
@@ -49,7 +51,8 @@ impl GovState {
     ghost use Rattle.gl_gov_rules.specs.Changes.{history};
     ghost use Rattle.gl_gov_rules.specs.Rows.{rows, effect_writes, service_row, member_rows, node_rows, proposal_row};
     ghost use Rattle.gl_gov_rules.specs.Governed.{is_founding, is_nothing, IsAbove, IsGoverned, up_to};
-    ghost use Rattle.gl_gov.specs.State.{Refuses, last_seqno, proposal_status, share_count};
+    ghost use Rattle.gl_gov_rules.specs.ProposalStatus.{proposal_status};
+    ghost use Rattle.gl_gov.specs.State.{Refuses, last_seqno, share_count};
 
     /// No request yet.
     pub fn new(alloc: Global) -> Self
@@ -280,9 +283,9 @@ pub fn is_founding(request: &GovernanceRequest) -> bool
 }
 
 /// The proposal that a member's request makes, answers or takes back.
-fn proposal_in_act(alloc: Global, request: &MemberRequest) -> Result<Option<Digest>, AllocError>
+fn named_in_act(alloc: Global, request: &MemberRequest) -> Result<Option<Digest>, AllocError>
     requires { is_member_request request.now ≡ true }
-    ensures { IfOk result (λ id. id ≡ proposal_in_act request.now request.now.act) }
+    ensures { IfOk result (λ id. id ≡ named_in_act request.now request.now.act) }
 {
     match &request.act {
         MemberAct::Propose(_) => Ok(Some(request.proposal_id(alloc)?)),
@@ -298,7 +301,7 @@ fn proposal_named(alloc: Global, request: &GovernanceRequest) -> Result<Option<D
     ensures { IfOk result (λ id. id ≡ proposal_named request.now) }
 {
     match request {
-        GovernanceRequest::Member(request) => proposal_in_act(alloc, request),
+        GovernanceRequest::Member(request) => named_in_act(alloc, request),
         _ => Ok(None),
     }
 }
@@ -315,7 +318,7 @@ fn status_with(past: &History, id: Option<Digest>) -> Option<ProposalStatus>
     })
 }
 
-#[tactic(auto, unfolding(crate::specs::State::proposal_status))]
+#[tactic(auto, unfolding(gl_gov_rules::specs::ProposalStatus::proposal_status))]
 fn proposal_status(
     alloc: Global,
     past: &History,

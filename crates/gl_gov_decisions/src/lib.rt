@@ -2,6 +2,7 @@
 #![tactic(auto)]
 
 pub use changes::changes_of;
+pub use node_refusals::mark_refusal;
 pub use refusals::refusal;
 
 mod actions;

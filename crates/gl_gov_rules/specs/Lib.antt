@@ -4,6 +4,7 @@ pub mod Members
 pub mod Nodes
 pub mod Service
 pub mod Proposals
+pub mod ProposalStatus
 pub mod Kept
 pub mod Actions
 pub mod Tally

@@ -27,6 +27,14 @@ pub enum ProposalState {
     Dropped,
 }
 
+/// A proposal and its state.
+#[derive(Clone, Copy, Debug, PartialEq, Eq)]
+pub struct ProposalStatus {
+    /// The digest of the request that made it.
+    pub id: Digest,
+    pub state: ProposalState,
+}
+
 /// What a request brings about beside being recorded.
 #[derive(Debug, Drop)]
 pub enum Change {

@@ -1,7 +1,9 @@
 //! The rules of governance, as definitions and laws, and the history of a service.
 #![tactic(auto)]
 
-pub use change::{Change, Changed, Proposal, ProposalState, Recorded, RecordedNode, Tally};
+pub use change::{
+    Change, Changed, Proposal, ProposalState, ProposalStatus, Recorded, RecordedNode, Tally,
+};
 pub use history::History;
 pub use laws::{law_of_bounds, law_of_rows, law_of_service, law_of_signatures};
 pub use leaf::leaf_of;

@@ -22,7 +22,11 @@ use Rattle.gl_entry.specs.declared.entry.Entry.{Entry}
 use Rattle.gl_ledger.specs.ServiceRow.{service_state}
 use Rattle.gl_ledger.specs.Tree.{tables_of}
 use Rattle.gl_ledger.specs.Ledger.{application_entry, execute_result, execute_in, run_result, within_limits}
-use Rattle.gl_ledger.specs.Makers.{with_reply, request_result, Given, Replied, Unmade, ByStore, Unspelled}
+use Rattle.gl_ledger.specs.declared.made.Given.{Given}
+use Rattle.gl_ledger.specs.declared.made.Given.TheVariants.{Replied}
+use Rattle.gl_ledger.specs.declared.made.Unmade.{Unmade}
+use Rattle.gl_ledger.specs.declared.made.Unmade.TheVariants.{ByStore, Unspelled}
+use Rattle.gl_ledger.specs.Makers.{with_reply, request_result}
 use Rattle.gl_requests.specs.declared.genesis.ServiceState.{ServiceState}
 use Rattle.gl_requests.specs.declared.genesis.ServiceState.TheVariants.{Opening, Open, WaitingForRecoveryShares}
 use Rattle.gl_ledger.specs.declared.refusal.Refusal.{Refusal}

@@ -23,7 +23,10 @@ use Rattle.gl_ledger.specs.NodeKeys.{NodeKeys}
 use Rattle.gl_ledger.specs.Recordings.{last_entry, requests_of}
 use Rattle.gl_ledger.specs.Broken.{broken}
 use Rattle.gl_ledger.specs.Sound.{IsSound}
-use Rattle.gl_ledger.specs.Makers.{Given, Governed, Unmade, Unspelled, Founding, MayMake, by_store, unless_refused, govern_result, guarded}
+use Rattle.gl_ledger.specs.declared.made.Given.{Given}
+use Rattle.gl_ledger.specs.declared.made.Unmade.{Unmade}
+use Rattle.gl_ledger.specs.declared.made.Unmade.TheVariants.{Unspelled, Founding}
+use Rattle.gl_ledger.specs.Makers.{MayMake, by_store, unless_refused, governance_made, govern_result, guarded}
 use Rattle.gl_ledger.specs.LedgerBook.{ledger_book}
 use Rattle.gl_ledger.proofs.Entries.{governance_fits, is_entry-from_fields}
 use Rattle.gl_ledger.proofs.GovernanceBytes.{governance_are_bytes}
@@ -76,19 +79,19 @@ govern_is layers keys ledger view low m sound g =
     e = governance_entry g ledger view
 
     made : Result (Entry × Given) Unmade
-    made = by_store (within_size (length (body_bytes e)) (within_seqnos ledger (e, Governed)))
+    made = by_store (within_size (length (body_bytes e)) (within_seqnos ledger (governance_made ledger g e)))
 
     accepted_made : ranges.is_request g ≡ true → (is_founding g || is_recovery g) ≡ false → refusal (history (requests_of ledger)) (length ledger + 1) g ≡ None →
         (large left : Bool) → nat_lt body_limit (length (body_bytes e)) ≡ large → nat_lt (length ledger) last_seqno ≡ left →
-        guarded layers (λ (x : Entry × Given). x.0) ledger (by_store (if large then Err (refusals.TooLarge (length (body_bytes e))) else (if left then Ok (e, Governed) else Err refusals.SeqnoLimit)))
-        ≡ by_store (if large then Err (refusals.TooLarge (length (body_bytes e))) else (if left then Ok (e, Governed) else Err refusals.SeqnoLimit))
+        guarded layers (λ (x : Entry × Given). x.0) ledger (by_store (if large then Err (refusals.TooLarge (length (body_bytes e))) else (if left then Ok (governance_made ledger g e) else Err refusals.SeqnoLimit)))
+        ≡ by_store (if large then Err (refusals.TooLarge (length (body_bytes e))) else (if left then Ok (governance_made ledger g e) else Err refusals.SeqnoLimit))
     accepted_made fits none accepted true left is1 is2 = refl
     accepted_made fits none accepted false false is1 is2 = refl
     accepted_made fits none accepted false true is1 is2 =
         let both = neither (is_founding g) (is_recovery g) none in
         let small : length (body_bytes e) ≤ body_limit = grind (arith, nat_tests) in
         let place : length ledger < last_seqno = grind (arith, nat_tests) in
-        unless_none layers keys (broken layers ledger e) (e, Governed)
+        unless_none layers keys (broken layers ledger e) (governance_made ledger g e)
         (governed_unbroken layers keys ledger view m g fits accepted both.0 both.1 place (governed_fits layers ledger view m sound g low fits both.0 accepted place small))
 
     go : (a b : Bool) (o : Option GovernanceRefusal) → ranges.is_request g ≡ a → (is_founding g || is_recovery g) ≡ b → refusal (history (requests_of ledger)) (length ledger + 1) g ≡ o →

@@ -29,7 +29,11 @@ use Rattle.gl_ledger.specs.declared.recording.Recording.TheVariants as recording
 use Rattle.gl_ledger.specs.Recordings.{requests_of, removal, mark, recording_of}
 use Rattle.gl_ledger.specs.declared.breach.Broken.{Broken}
 use Rattle.gl_ledger.specs.Broken.{broken, broken_by}
-use Rattle.gl_ledger.specs.Makers.{Given, Replied, Governed, Unmade, Unspelled, Founding, with_reply, request_result, by_store, unless_refused, unless_broken, guarded, govern_result, signed_entry, signing_result}
+use Rattle.gl_ledger.specs.declared.made.Given.{Given}
+use Rattle.gl_ledger.specs.declared.made.Given.TheVariants.{Replied}
+use Rattle.gl_ledger.specs.declared.made.Unmade.{Unmade}
+use Rattle.gl_ledger.specs.declared.made.Unmade.TheVariants.{Unspelled, Founding}
+use Rattle.gl_ledger.specs.Makers.{with_reply, request_result, by_store, unless_refused, unless_broken, unless_empty, guarded, governance_made, govern_result, signed_entry, signing_result}
 use Rattle.gl_ledger.specs.LedgerBook.{ServiceBook, marked_node, by_rule, ledger_book}
 use Rattle.gl_ledger.proofs.Applications.{execute_ok}
 use Rattle.gl_ledger.proofs.Growth.{IsNoGovernance}
@@ -102,6 +106,11 @@ module _ (layers : Layers) (keys : NodeKeys) where
       let made = signed_entry keys x leaf ledger view commit in
       within_seqnos_ok ledger made e (by_store_ok (within_seqnos ledger made) e h)
 
+  -- behind an entry
+  signing_some : {X : Type 0} (ledger : List Entry) (r : Result X Unmade) (made : X) → unless_empty ledger r ≡ Ok made → r ≡ Ok made
+  signing_some [] r made h = absurd (cc)
+  signing_some (f ∷ fs) r made h = h
+
   -- where the book refuses no entry it breaks no rule
   pub unbroken : (ledger : List Entry) (e : Entry) → book.breaks ledger e ≡ None → broken layers ledger e ≡ None
   unbroken ledger e h = no_rule_broken (broken layers ledger e) h
@@ -125,8 +134,9 @@ module _ (layers : Layers) (keys : NodeKeys) where
   signed_lawful : (x : NodeId) (leaf : ℕ) (ledger : List Entry) (view commit : ℕ) (e : Entry) → EachFollows book ledger →
       book.sign x leaf ledger view commit ≡ Ok e → Makes book (EachFollows book) ledger view e × (book.is_signature e ≡ true) × (book.recorded_commit e ≡ commit)
   signed_lawful x leaf ledger view commit e z h =
-      let one = guarded_ok (λ (made : Entry). made) ledger (signing_result keys x leaf ledger view commit) e h in
-      let is = signing_ok x leaf ledger view commit e one.0 in (
+      let signing = signing_result keys x leaf ledger view commit in
+      let one = guarded_ok (λ (made : Entry). made) ledger (unless_empty ledger signing) e h in
+      let is = signing_ok x leaf ledger view commit e (signing_some ledger signing e one.0) in (
         makes ledger view e z (ap (λ (f : Entry). f.view) is) one.1,
         ap (λ (f : Entry). is_signature f.content) is,
         ap (λ (f : Entry). recorded_commit f.content) is,
@@ -141,7 +151,7 @@ module _ (layers : Layers) (keys : NodeKeys) where
       e = governance_entry g ledger view
 
       kept : Result (Entry × Given) Refusal
-      kept = within_seqnos ledger (e, Governed)
+      kept = within_seqnos ledger (governance_made ledger g e)
 
       within : Result (Entry × Given) Unmade
       within = by_store (within_size (length (body_bytes e)) kept)
@@ -153,7 +163,7 @@ module _ (layers : Layers) (keys : NodeKeys) where
       go true false (Some why) is w = absurd (cc)
       go true false None is w = (
         is,
-        ap (λ (t : Entry × Given). t.0) (within_seqnos_ok ledger (e, Governed) made
+        ap (λ (t : Entry × Given). t.0) (within_seqnos_ok ledger (governance_made ledger g e) made
             (within_size_ok (length (body_bytes e)) kept made (by_store_ok (within_size (length (body_bytes e)) kept) made w))),
       )
 

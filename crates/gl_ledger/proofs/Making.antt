@@ -45,7 +45,10 @@ use Rattle.gl_ledger.specs.Broken.{required}
 use Rattle.gl_ledger.specs.declared.breach.Broken.{Broken}
 use Rattle.gl_ledger.specs.Broken.{breach, is_next_view, is_unopened, is_in_order, broken_of_run, broken_in_state, unless_refused, with_writes, signs_at, last_signed, commit_behind, commit_from, last_commit, is_above_removal, is_later_commit, may_record, broken_by_fault, are_same_writes, broken}
 use Rattle.gl_gov_rules.specs.Rows.{effect_writes}
-use Rattle.gl_ledger.specs.Makers.{Given, Replied, Unspelled, MayMake, with_reply, request_result, guarded, unless_broken, signature_made, signed_entry, MakesValid}
+use Rattle.gl_ledger.specs.declared.made.Given.{Given}
+use Rattle.gl_ledger.specs.declared.made.Given.TheVariants.{Replied}
+use Rattle.gl_ledger.specs.declared.made.Unmade.TheVariants.{Unspelled}
+use Rattle.gl_ledger.specs.Makers.{MayMake, with_reply, request_result, guarded, unless_broken, signature_made, signed_entry, MakesValid}
 use Rattle.gl_ledger.specs.Ledger.{governance_entry}
 use Rattle.gl_ledger.specs.LedgerBook.{ledger_book}
 use Rattle.gl_ledger.proofs.SameWrites.{same_writes_self}

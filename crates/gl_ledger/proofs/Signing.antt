@@ -1,5 +1,5 @@
 -- Where a commit may be recorded an entry may be made, and the guard refuses no valid signature of a recorded node.
-use Rattle.std.proofs.Common.{◌≡◌, ℕ, zero, suc, ◌-◌, ◌≤◌, ◌<◌, ◌^◌, List, [], ◌∷◌, ◌++◌, length, take, drop, Bool, true, false, nat_lt, if◌then◌else◌, Option, Some, None, Ok, Err, refl, sym, ◌∙◌, ap, subst, arith}
+use Rattle.std.proofs.Common.{◌≡◌, ℕ, zero, suc, ◌-◌, ◌≤◌, ◌<◌, ◌^◌, List, [], ◌∷◌, ◌++◌, length, take, drop, Bool, true, false, nat_lt, if◌then◌else◌, Option, Some, None, Result, Ok, Err, refl, sym, ◌∙◌, ap, subst, arith}
 use Rattle.std.proofs.lemmas.Bool.Decides.{nat_tests}
 use Rattle.gl_base.specs.TxId.{last_seqno}
 use Rattle.gl_base.proofs.Lists.{slice_get-within}
@@ -15,7 +15,8 @@ use Rattle.gl_ledger.specs.Layers.{Layers}
 use Rattle.gl_ledger.specs.NodeKeys.{NodeKeys}
 use Rattle.gl_ledger.specs.Recordings.{last_entry, recording_of, records_founding, founds, recorded_nodes, configuration}
 use Rattle.gl_ledger.specs.Broken.{broken}
-use Rattle.gl_ledger.specs.Makers.{MayMake, MakesValid, by_store, guarded, signed_entry, signing_result}
+use Rattle.gl_ledger.specs.declared.made.Unmade.{Unmade}
+use Rattle.gl_ledger.specs.Makers.{MayMake, MakesValid, by_store, guarded, signed_entry, signing_result, unless_empty}
 use Rattle.gl_ledger.specs.LedgerBook.{ledger_book}
 use Rattle.gl_ledger.specs.Sound.{IsSound}
 use Rattle.gl_ledger.proofs.Governed.{followed}
@@ -109,8 +110,13 @@ module _ (layers : Layers) (keys : NodeKeys) where
       MakesValid layers keys x leaf ledger view commit → (ledger_book layers keys).sign x leaf ledger view commit ≡ signing_result keys x leaf ledger view commit
   sign_is ledger view commit low may x leaf named records valid =
       let some : 1 ≤ length ledger = let w : length ledger - 1 < length ledger = slice_get-within ledger (length ledger - 1) may.last may.is_last in omega arith in
-      go some (reached commit ledger records.signature records.at) (nat_lt (length ledger) last_seqno) refl
+      ap (guarded layers (λ made. made) ledger) (behind ledger some (signing_result keys x leaf ledger view commit))
+      ∙ go some (reached commit ledger records.signature records.at) (nat_lt (length ledger) last_seqno) refl
     where
+      behind : {X : Type 0} (es : List Entry) → 1 ≤ length es → (made : Result X Unmade) → unless_empty es made ≡ made
+      behind [] some made = absurd (omega (arith, some))
+      behind (f ∷ fs) some made = refl
+
       go : 1 ≤ length ledger → commit ≤ length ledger → (t : Bool) → nat_lt (length ledger) last_seqno ≡ t →
           guarded layers (λ made. made) ledger (by_store (if t then Ok (signed_entry keys x leaf ledger view commit) else Err refusals.SeqnoLimit))
           ≡ by_store (if t then Ok (signed_entry keys x leaf ledger view commit) else Err refusals.SeqnoLimit)

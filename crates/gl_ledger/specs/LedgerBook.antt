@@ -15,12 +15,13 @@ use Rattle.gl_ledger.specs.Layers.{Layers}
 use Rattle.gl_ledger.specs.NodeKeys.{NodeKeys, leaf_count}
 use Rattle.gl_ledger.specs.Recordings.{requests_of, recorded_nodes, configuration, removal, mark}
 use Rattle.gl_ledger.specs.declared.breach.Broken.{Broken}
+use Rattle.gl_ledger.specs.declared.made.Reads.{Reads}
 use Rattle.gl_ledger.specs.declared.refusal.Refusal.TheVariants as refusals
 use Rattle.gl_ledger.specs.Broken.{broken}
-use Rattle.gl_ledger.specs.Makers.{Given, Unmade, ByStore, NoEvidenceYet, ByRule, guarded, request_result, govern_result, signing_result}
-
--- For now no transaction notes what it reads.
-pub data Reads : Type 0 where
+use Rattle.gl_ledger.specs.declared.made.Given.{Given}
+use Rattle.gl_ledger.specs.declared.made.Unmade.{Unmade}
+use Rattle.gl_ledger.specs.declared.made.Unmade.TheVariants.{ByStore, NoEvidenceYet, ByRule}
+use Rattle.gl_ledger.specs.Makers.{guarded, request_result, govern_result, unless_empty, signing_result}
 
 -- The node that a request marks.
 abbrev pub marked_node : GovernanceRequest → Option NodeId
@@ -55,7 +56,8 @@ ledger_book layers keys = record {
   govern = λ ledger view g.
       guarded layers (λ made. made.0) ledger (govern_result ledger view g);
   sign = λ x leaf ledger view commit.
-      guarded layers (λ made. made) ledger (signing_result keys x leaf ledger view commit);
+      guarded layers (λ made. made) ledger
+      (unless_empty ledger (signing_result keys x leaf ledger view commit));
   evidence = λ ledger view. guarded layers (λ made. made) ledger (Err NoEvidenceYet);
   marked_node = marked_node;
   mark_refusal = λ ledger x.

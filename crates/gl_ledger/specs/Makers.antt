@@ -1,6 +1,6 @@
 -- The entries that a ledger makes of requests of applications and of governance, and of signatures;
 -- and where one may be made.
-use Rattle.std.specs.Prelude.{◌≡◌, ◌≤◌, ◌^◌, ℕ, ◌+◌, List, [], ◌∷◌, Option, None, Some, Result, Ok, Err, true, false, ◌||◌, length, if◌then◌else◌}
+use Rattle.std.specs.Prelude.{◌≡◌, ◌≤◌, ◌^◌, ℕ, ◌+◌, List, [], ◌∷◌, ◌++◌, Option, None, Some, Result, Ok, Err, true, false, ◌||◌, length, if◌then◌else◌}
 use Rattle.gl_base.specs.Bytes.{are_bytes}
 use Rattle.gl_merkle.specs.Tree.{root_of}
 use Rattle.gl_rules.specs.Identity.{NodeId}
@@ -16,6 +16,8 @@ use Rattle.gl_requests.specs.declared.genesis.Genesis as founding
 use Rattle.gl_requests.specs.declared.request.GovernanceRequest.{GovernanceRequest}
 use Rattle.gl_gov_rules.specs.declared.refusal.GovernanceRefusal.{GovernanceRefusal}
 use Rattle.gl_gov_rules.specs.Changes.{history}
+use Rattle.gl_gov_rules.specs.ProposalStatus.{proposal_status}
+use Rattle.gl_gov_rules.specs.declared.change.ProposalStatus.{ProposalStatus}
 use Rattle.gl_gov_rules.specs.Governed.{is_founding, is_recovery}
 use Rattle.gl_gov_rules.specs.Refusals.{refusal}
 use Rattle.gl_ledger.specs.Tree.{leaves_of}
@@ -26,24 +28,11 @@ use Rattle.gl_ledger.specs.Layers.{Layers}
 use Rattle.gl_ledger.specs.NodeKeys.{NodeKeys, node_signature}
 use Rattle.gl_ledger.specs.Recordings.{last_entry, requests_of}
 use Rattle.gl_ledger.specs.declared.breach.Broken.{Broken}
+use Rattle.gl_ledger.specs.declared.made.Given.{Given}
+use Rattle.gl_ledger.specs.declared.made.Given.TheVariants.{Replied, Governed}
+use Rattle.gl_ledger.specs.declared.made.Unmade.{Unmade}
+use Rattle.gl_ledger.specs.declared.made.Unmade.TheVariants.{ByStore, Unspelled, NoEntry, Founding, ByRule}
 use Rattle.gl_ledger.specs.Broken.{is_unopened, fault_of_signature, broken}
-
--- What a request is answered.
-pub data Given : Type 0 where
-  Replied : (answers : List Answer) → Given
-  Governed : Given
-
--- Why the ledger takes no entry.
-pub data Unmade : Type 0 where
-  ByStore : (why : Refusal) → Unmade
-  -- no bytes spell such a request, so none ever comes
-  Unspelled : Unmade
-  -- for now no evidence entry is made
-  NoEvidenceYet : Unmade
-  -- a request that founds a service, or founds it anew, is no event of a service
-  Founding : Unmade
-  -- the entry would break a rule of the audit
-  ByRule : (broken : Broken) → Unmade
 
 abbrev pub with_reply : Result (Entry × List Answer) Refusal → Result (Entry × Given) Unmade
 with_reply (Ok made) = Ok (made.0, Replied made.1)
@@ -63,17 +52,32 @@ abbrev pub unless_refused : Option GovernanceRefusal → Result (Entry × Given)
 unless_refused None made = made
 unless_refused (Some why) made = Err (ByStore (refusals.Governance why))
 
+-- Nothing is signed where there is no entry.
+abbrev pub unless_empty : {X : Type 0} → List Entry → Result X Unmade → Result X Unmade
+unless_empty [] made = Err NoEntry
+unless_empty (e ∷ es) made = made
+
+-- The proposal that a request behind a ledger concerns, in the state that it then has.
+abbrev pub status_behind : List Entry → GovernanceRequest → Option ProposalStatus
+status_behind ledger g =
+    proposal_status (history (requests_of ledger
+    ++ record { seqno = length ledger + 1; request = g } ∷ [])) g
+
+-- The entry of an accepted request, and what is answered.
+abbrev pub governance_made : List Entry → GovernanceRequest → Entry → Entry × Given
+governance_made ledger g e = (e, Governed (status_behind ledger g))
+
 -- What a request of governance makes that is accepted, within the limits of bodies and seqnos.
-abbrev pub governed_within : List Entry → Entry → Result (Entry × Given) Unmade
-governed_within ledger e =
-    by_store (within_size (length (body_bytes e)) (within_seqnos ledger (e, Governed)))
+abbrev pub governed_within : List Entry → GovernanceRequest → Entry → Result (Entry × Given) Unmade
+governed_within ledger g e =
+    by_store (within_size (length (body_bytes e)) (within_seqnos ledger (governance_made ledger g e)))
 
 -- What a request of governance makes that founds no service: first it may be refused for what it
 -- asks, then for its size, then for want of a seqno.
 abbrev pub accepted_result : List Entry → ℕ → GovernanceRequest → Result (Entry × Given) Unmade
 accepted_result ledger view g =
     unless_refused (refusal (history (requests_of ledger)) (length ledger + 1) g)
-    (governed_within ledger (governance_entry g ledger view))
+    (governed_within ledger g (governance_entry g ledger view))
 
 -- What a request of governance makes, where bytes spell it.
 abbrev pub govern_result : List Entry → ℕ → GovernanceRequest → Result (Entry × Given) Unmade

@@ -7,6 +7,7 @@
 
 mod breach;
 mod laws;
+mod made;
 mod node_signature;
 mod recording;
 mod refusal;
@@ -15,6 +16,7 @@ pub use breach::{Broken, EntryRefusal};
 pub use laws::{
     is_audited, is_governed, is_kept_sound, is_lawful, is_meant, is_opened, is_signed, is_unguarded,
 };
+pub use made::{Given, Reads, Unmade};
 pub use node_signature::node_signature_fault;
 pub use recording::{Recording, recording_of};
 pub use refusal::Refusal;

@@ -1,6 +1,6 @@
 -- The lines that are read keep to what lines keep to.
-use Rattle.std.proofs.Common.{◌≡◌, ℕ, suc, Bool, true, false, List, [], ◌∷◌, length, codes, Option, None, Some, Result, Ok, Err, IfSome, refl, subst}
-use Rattle.std.specs.List.{AllByRecursion, list_any}
+use Rattle.std.proofs.Common.{◌≡◌, ℕ, suc, Bool, true, false, List, [], ◌∷◌, length, codes, Option, None, Some, Result, Ok, Err, IfSome, subst}
+use Rattle.std.specs.List.{AllByRecursion}
 use Rattle.serde_json.specs.Data.{Data}
 use Rattle.gl_base.specs.TxId.{parsed}
 use Rattle.gl_base.specs.declared.json.FormsFault.{FormsFault}
@@ -8,7 +8,6 @@ use Rattle.gl_base.specs.declared.tx_id.TxId.{TxId}
 use Rattle.gl_base.specs.declared.tx_id.TxIdFault.{TxIdFault}
 use Rattle.gl_tx.specs.Request.{is_count}
 use Rattle.gl_tx.specs.declared.request.Operation.{Operation}
-use Rattle.gl_requests.specs.Ranges.{are_actions}
 use Rattle.gl_requests.specs.declared.action.Action.{Action}
 use Rattle.gl_forms.specs.Form.{object_at}
 use Rattle.gl_forms.specs.Requests.{proposal_in}
@@ -23,8 +22,8 @@ use Rattle.gl_lines.specs.Words.{space, words_of, is}
 use Rattle.gl_lines.specs.Numbers.{counted_number}
 use Rattle.gl_lines.specs.Operations.{operations_of}
 use Rattle.gl_lines.specs.References.{with_ids, names_unknown}
-use Rattle.gl_lines.specs.MemberLines.{ack_line, answer_of, ballot_of, ballot_line, withdraw_of, withdraw_line, again_line, is_on_node, without_nodes, if_form, unless_unknown, actions_of, propose_of, propose_cut}
-use Rattle.gl_lines.specs.Reading.{short_line, request_of, if_parsed, member_line, node_line, command_line, line_of, or_line, lines_read}
+use Rattle.gl_lines.specs.MemberLines.{ack_line, answer_of, ballot_of, ballot_line, withdraw_of, withdraw_line, again_line, if_form, unless_unknown, actions_of, propose_of, propose_cut}
+use Rattle.gl_lines.specs.Reading.{short_line, pair_line, request_of, if_parsed, member_line, node_line, call_line, deliver_line, command_line, line_of, or_line, lines_read}
 
 -- ---- proposals
 
@@ -32,13 +31,9 @@ form_fits : {A : Type 0} {P : A → Type 0} {r : Result A FormsFault} → Fits P
 form_fits {r = Ok a} h = gives h.holds
 form_fits {r = Err fault} h = fails
 
-proposal_fits : (value : Data) → Fits (λ list. are_actions list ≡ true) (proposal_in value)
+proposal_fits : (value : Data) → Fits AreProposed (proposal_in value)
 unfolding proposal_in
 proposal_fits value = behind_any (object_at [] (codes "actions" ∷ []) value) (λ only. actions_fit value)
-
-leaves_nodes : (b : Bool) (list : List Action) → list_any is_on_node list ≡ b → are_actions list ≡ true → Fits AreProposed (without_nodes list)
-leaves_nodes true list on_node fit = rw on_node fails
-leaves_nodes false list none fit = rw none (gives (record { fit = fit; leave_nodes = none }))
 
 abbrev IsOwed : Option (List Action) → Type 0
 IsOwed list = IfSome list AreProposed
@@ -52,8 +47,7 @@ unfolding actions_of
 actions_are ids json =
     behind_any (if_form (tree_from json)) (λ tree.
     behind (form_fits (proposal_fits (with_ids ids tree))) (λ list fit.
-    behind (leaves_nodes (list_any is_on_node list) list refl fit) (λ some are.
-    gives (unless (names_unknown ids tree) some are))))
+    gives (unless (names_unknown ids tree) list fit)))
 
 -- ---- lines
 
@@ -82,6 +76,14 @@ withdraw_fits node (a ∷ []) = fails
 withdraw_fits node (member ∷ proposal ∷ []) = behind_any (counted_number member) (λ m. behind_any (counted_number proposal) (λ p. gives tt))
 withdraw_fits node (a ∷ b ∷ c ∷ words) = fails
 
+pair_fits : (name : List ℕ) (node other : ℕ) → FitLine (pair_line name node other)
+pair_fits name node other =
+    either (is name (codes "join")) (gives tt)
+    (either (is name (codes "mark")) (gives tt)
+    (either (is name (codes "replicate")) (gives tt)
+    (either (is name (codes "stepdown")) (gives tt)
+    (either (is name (codes "stage")) (gives tt) fails))))
+
 member_fits : (ids : List (List ℕ)) (name : List ℕ) (node : ℕ) (rest : List ℕ) → FitLine (member_line ids name node rest)
 unfolding ack_line again_line
 member_fits ids name node rest =
@@ -89,7 +91,8 @@ member_fits ids name node rest =
     (either (is name (codes "propose")) (propose_cut_fits ids node (cut space rest).front (cut space rest).behind)
     (either (is name (codes "ballot")) (ballot_fits node (words_of rest))
     (either (is name (codes "withdraw")) (withdraw_fits node (words_of rest))
-    (either (is name (codes "again")) (behind_any (counted_number rest) (λ line. gives tt)) fails))))
+    (either (is name (codes "again")) (behind_any (counted_number rest) (λ line. gives tt))
+    (behind_any (counted_number rest) (pair_fits name node))))))
 
 request_fits : (node : ℕ) (all : List Operation) → FitLine (request_of node all)
 request_fits node all = either (is_count (length all)) (gives tt) fails
@@ -100,11 +103,13 @@ status_fits node (Err fault) = fails
 
 short_fits : (name : List ℕ) (node : ℕ) → FitLine (short_line name node)
 short_fits name node =
-    either (is name (codes "reserve")) (gives tt)
+    either (is name (codes "timeout")) (gives tt)
+    (either (is name (codes "reserve")) (gives tt)
     (either (is name (codes "sign")) (gives tt)
     (either (is name (codes "advance")) (gives tt)
+    (either (is name (codes "restart")) (gives tt)
     (either (is name (codes "ids")) (gives tt)
-    (either (is name (codes "ledger")) (gives tt) fails))))
+    (either (is name (codes "ledger")) (gives tt) fails))))))
 
 node_fits : (ids : List (List ℕ)) (name : List ℕ) (node : ℕ) (rest : Option (List ℕ)) → FitLine (node_line ids name node rest)
 unfolding node_line
@@ -113,10 +118,15 @@ node_fits ids name node (Some rest) =
     either (is name (codes "submit")) (behind_any (operations_of (words_of rest)) (request_fits node))
     (either (is name (codes "status")) (status_fits node (parsed rest)) (member_fits ids name node rest))
 
+call_fits : (ids : List (List ℕ)) (name text : List ℕ) → FitLine (call_line ids name text)
+unfolding call_line
+call_fits ids name text = behind_any (counted_number (cut space text).front) (λ node. node_fits ids name node (cut space text).behind)
+
 command_fits : (ids : List (List ℕ)) (name : List ℕ) (text : Option (List ℕ)) → FitLine (command_line ids name text)
-unfolding command_line
+unfolding deliver_line
 command_fits ids name None = fails
-command_fits ids name (Some text) = behind_any (counted_number (cut space text).front) (λ node. node_fits ids name node (cut space text).behind)
+command_fits ids name (Some text) =
+    either (is name (codes "deliver")) (behind_any (counted_number text) (λ message. gives tt)) (call_fits ids name text)
 
 line_fits : (ids : List (List ℕ)) (line : List ℕ) → FitLine (line_of ids line)
 unfolding line_of

@@ -1,16 +1,13 @@
 -- What the lines that are read keep to.
-use Rattle.std.specs.Prelude.{◌≡◌, List, true, false, IfSome}
-use Rattle.std.specs.List.{list_any}
+use Rattle.std.specs.Prelude.{◌≡◌, List, true, IfSome}
 use Rattle.gl_requests.specs.Ranges.{are_actions}
 use Rattle.gl_requests.specs.declared.action.Action.{Action}
 use Rattle.gl_lines.specs.declared.line.Line.{Line}
 use Rattle.gl_lines.specs.declared.line.Line.TheVariants as lines
-use Rattle.gl_lines.specs.MemberLines.{is_on_node}
 
--- The actions are within their ranges, and none is on a node.
-pub record AreProposed (list : List Action) : Type 0 where
-  pub fit : are_actions list ≡ true
-  pub leave_nodes : list_any is_on_node list ≡ false
+-- The actions are within their ranges.
+abbrev pub AreProposed : List Action → Type 0
+AreProposed list = are_actions list ≡ true
 
 -- What the line proposes, if it proposes something, is a proposal.
 abbrev pub IsFit : Line → Type 0

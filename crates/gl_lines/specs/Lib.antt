@@ -9,6 +9,5 @@ pub mod Unread
 pub mod Groups
 pub mod Reading
 pub mod Worlds
-pub mod Nodes
 pub mod Kept
 pub mod AtLines

@@ -1,11 +1,9 @@
 -- The lines of members: what a member asks of a node. A member and a proposal are named by numbers,
 -- and so is the line whose request is sent again.
 use Rattle.std.specs.Prelude.{ℕ, List, [], ◌∷◌, Option, None, Some, Result, Ok, Err, Bool, true, false, codes, if◌then◌else◌}
-use Rattle.std.specs.List.{list_any}
 use Rattle.gl_base.specs.Steps.{◌>>=◌}
 use Rattle.gl_base.specs.declared.json.FormsFault.{FormsFault}
 use Rattle.gl_requests.specs.declared.action.Action.{Action}
-use Rattle.gl_requests.specs.declared.action.Action.TheVariants as actions
 use Rattle.gl_forms.specs.Requests.{proposal_in}
 use Rattle.gl_forms.specs.Text.{tree_from}
 use Rattle.gl_lines.specs.declared.fault.LineFault.{LineFault}
@@ -47,16 +45,6 @@ again_line node rest = counted_number rest >>= λ line. Ok (lines.Again node lin
 
 -- Proposals
 
--- The action trusts or removes a node.
-abbrev pub is_on_node : Action → Bool
-is_on_node (actions.TransitionNodeToTrusted id) = true
-is_on_node (actions.RemoveNode id) = true
-is_on_node other = false
-
--- Until schedules have many nodes, no line proposes an action on a node.
-abbrev pub without_nodes : List Action → Result (List Action) LineFault
-without_nodes list = if list_any is_on_node list then Err NoReading else Ok list
-
 abbrev pub if_form : {A : Type 0} → Result A FormsFault → Result A LineFault
 if_form (Ok a) = Ok a
 if_form (Err fault) = Err NoReading
@@ -69,7 +57,7 @@ unless_unknown unknown list = if unknown then None else Some list
 unfoldable pub actions_of : List (List ℕ) → List ℕ → Result (Option (List Action)) LineFault
 actions_of ids json =
     if_form (tree_from json) >>= λ tree. if_form (proposal_in (with_ids ids tree)) >>= λ list.
-    without_nodes list >>= λ some. Ok (unless_unknown (names_unknown ids tree) some)
+    Ok (unless_unknown (names_unknown ids tree) list)
 
 unfoldable pub propose_of : List (List ℕ) → ℕ → List ℕ → List ℕ → Result Line LineFault
 propose_of ids node member json =

@@ -20,16 +20,28 @@ use Rattle.gl_lines.specs.Operations.{operations_of}
 use Rattle.gl_lines.specs.MemberLines.{ack_line, propose_line, ballot_line, withdraw_line, again_line}
 
 -- A line behind the first: the name of its command, the number of a node, and what the command asks
--- for behind that. Each stands apart by one space, and what is left may have spaces of its own.
+-- for behind that; but `deliver` has a message's number alone. Each stands apart by one space, and
+-- what is left may have spaces of its own.
 
 -- A command that asks for nothing more.
 abbrev pub short_line : List ℕ → ℕ → Result Line LineFault
 short_line name node =
-    if is name (codes "reserve") then Ok (lines.Reserve node)
+    if is name (codes "timeout") then Ok (lines.Timeout node)
+    else (if is name (codes "reserve") then Ok (lines.Reserve node)
     else (if is name (codes "sign") then Ok (lines.Sign node)
     else (if is name (codes "advance") then Ok (lines.Advance node)
+    else (if is name (codes "restart") then Ok (lines.Restart node)
     else (if is name (codes "ids") then Ok (lines.Ids node)
-    else (if is name (codes "ledger") then Ok (lines.Ledger node) else Err NoReading))))
+    else (if is name (codes "ledger") then Ok (lines.Ledger node) else Err NoReading))))))
+
+-- A command that asks for one more node.
+abbrev pub pair_line : List ℕ → ℕ → ℕ → Result Line LineFault
+pair_line name node other =
+    if is name (codes "join") then Ok (lines.Join node other)
+    else (if is name (codes "mark") then Ok (lines.Mark node other)
+    else (if is name (codes "replicate") then Ok (lines.Replicate node other)
+    else (if is name (codes "stepdown") then Ok (lines.StepDown node other)
+    else (if is name (codes "stage") then Ok (lines.Stage node other) else Err NoReading))))
 
 -- A request of 1 to 64 operations.
 abbrev pub request_of : ℕ → List Operation → Result Line LineFault
@@ -42,14 +54,15 @@ abbrev pub if_parsed : ℕ → Result TxId TxIdFault → Result Line LineFault
 if_parsed node (Ok id) = Ok (lines.Status node id)
 if_parsed node (Err fault) = Err NoReading
 
--- What a member asks for.
+-- What a member asks for. Each other command that asks for something asks for one more node.
 abbrev pub member_line : List (List ℕ) → List ℕ → ℕ → List ℕ → Result Line LineFault
 member_line ids name node rest =
     if is name (codes "ack") then ack_line node rest
     else (if is name (codes "propose") then propose_line ids node rest
     else (if is name (codes "ballot") then ballot_line node (words_of rest)
     else (if is name (codes "withdraw") then withdraw_line node (words_of rest)
-    else (if is name (codes "again") then again_line node rest else Err NoReading))))
+    else (if is name (codes "again") then again_line node rest
+    else (counted_number rest >>= pair_line name node)))))
 
 -- A command that asks for what stands behind its node.
 abbrev pub long_line : List (List ℕ) → List ℕ → ℕ → List ℕ → Result Line LineFault
@@ -62,11 +75,20 @@ unfoldable pub node_line : List (List ℕ) → List ℕ → ℕ → Option (List
 node_line ids name node None = short_line name node
 node_line ids name node (Some rest) = long_line ids name node rest
 
-unfoldable pub command_line : List (List ℕ) → List ℕ → Option (List ℕ) → Result Line LineFault
-command_line ids name None = Err NoReading
-command_line ids name (Some text) =
+-- A command to a node.
+unfoldable pub call_line : List (List ℕ) → List ℕ → List ℕ → Result Line LineFault
+call_line ids name text =
     counted_number (cut space text).front >>= λ node.
     node_line ids name node (cut space text).behind
+
+-- A message that is delivered, by its number.
+unfoldable pub deliver_line : List ℕ → Result Line LineFault
+deliver_line text = counted_number text >>= λ message. Ok (lines.Deliver message)
+
+abbrev pub command_line : List (List ℕ) → List ℕ → Option (List ℕ) → Result Line LineFault
+command_line ids name None = Err NoReading
+command_line ids name (Some text) =
+    if is name (codes "deliver") then deliver_line text else call_line ids name text
 
 -- What a line behind the first says, if it says something. `ids` are the identifiers of the nodes
 -- that it may name.
@@ -81,12 +103,11 @@ unfoldable pub number_within : ℕ → ℕ → List ℕ → Result ℕ LineFault
 number_within least most word =
     counted_number word >>= λ n. (if nat_le least n && nat_le n most then Ok n else Err NoReading)
 
--- Until schedules have many nodes, one starts and none joins.
 abbrev pub starting_limit : ℕ
-starting_limit = 1
+starting_limit = 9
 
 abbrev pub joiners_limit : ℕ
-joiners_limit = 0
+joiners_limit = 9
 
 abbrev pub members_limit : ℕ
 members_limit = 64

@@ -1,10 +1,11 @@
 -- What every first line keeps to.
-use Rattle.std.specs.Prelude.{◌≡◌, ◌≤◌}
+use Rattle.std.specs.Prelude.{◌≤◌}
 use Rattle.gl_lines.specs.declared.world.WorldLine.{WorldLine}
 
--- One node starts, none joins, and 1 to 64 members govern the service.
-pub record IsSmall (world : WorldLine) : Type 0 where
-  pub starting : world.starting ≡ 1
-  pub joiners : world.joiners ≡ 0
-  pub some : 1 ≤ world.members
-  pub few : world.members ≤ 64
+-- 1 to 9 nodes start, at most 9 join, and 1 to 64 members govern the service.
+pub record IsWithinLimits (world : WorldLine) : Type 0 where
+  pub some_start : 1 ≤ world.starting
+  pub few_start : world.starting ≤ 9
+  pub few_join : world.joiners ≤ 9
+  pub some_govern : 1 ≤ world.members
+  pub few_govern : world.members ≤ 64

@@ -4,10 +4,18 @@ use gl_base::{Sequence, TxId};
 use gl_requests::Action;
 use gl_tx::Request;
 
-/// A line of a schedule behind its first. It names a node by its number, from 1; other numbers name
-/// no node.
+/// A line of a schedule behind its first. Nodes are named by their numbers, from 1, and messages by
+/// theirs, in the order in which they were sent; other numbers name nothing.
 #[derive(Debug, Drop)]
 pub enum Line {
+    /// The node hears of no leader for too long.
+    Timeout {
+        node: u128,
+    },
+    /// A message comes to the node to which it was sent.
+    Deliver {
+        message: u128,
+    },
     /// An application request.
     Submit {
         node: u128,
@@ -38,6 +46,16 @@ pub enum Line {
         member: u128,
         proposal: u128,
     },
+    /// A node asks to join.
+    Join {
+        node: u128,
+        joiner: u128,
+    },
+    /// A retired node may be switched off, once this is committed.
+    Mark {
+        node: u128,
+        marked: u128,
+    },
     /// Sends the request of governance of the line with this number once more.
     Again {
         node: u128,
@@ -51,14 +69,33 @@ pub enum Line {
     Sign {
         node: u128,
     },
+    /// Sends a node the entries that it lacks.
+    Replicate {
+        node: u128,
+        to: u128,
+    },
     /// Commits what is signed and held by a majority.
     Advance {
+        node: u128,
+    },
+    /// The node gives its lead up, and asks another to stand for election.
+    StepDown {
+        node: u128,
+        to: u128,
+    },
+    /// The node stops, and goes on from what its disk keeps.
+    Restart {
         node: u128,
     },
     /// Asks for the status of a transaction.
     Status {
         node: u128,
         id: TxId,
+    },
+    /// Asks how far the retirement of a node has come.
+    Stage {
+        node: u128,
+        other: u128,
     },
     /// Asks for the identifiers of the committed ledger.
     Ids {
@@ -68,31 +105,6 @@ pub enum Line {
     Ledger {
         node: u128,
     },
-}
-
-impl Line {
-    ghost use Rattle.std.specs.Prelude.{◌≡◌};
-    ghost use Rattle.gl_lines.specs.Nodes.{node_of};
-
-    /// The number of the node that the line names.
-    pub fn node(&self) -> u128
-        ensures { result ≡ node_of self.now }
-    {
-        match self {
-            Line::Submit { node, .. }
-            | Line::Ack { node, .. }
-            | Line::Propose { node, .. }
-            | Line::Ballot { node, .. }
-            | Line::Withdraw { node, .. }
-            | Line::Again { node, .. }
-            | Line::Reserve { node }
-            | Line::Sign { node }
-            | Line::Advance { node }
-            | Line::Status { node, .. }
-            | Line::Ids { node }
-            | Line::Ledger { node } => *node,
-        }
-    }
 }
 
 /// The lines of a schedule behind its first.

@@ -1,14 +1,13 @@
 //! The lines of members: what a member asks of a node.
 
 ghost use Rattle.std.specs.Prelude.{◌≡◌};
-ghost use Rattle.std.specs.List.{list_any};
 ghost use Rattle.serde_json.specs.View.{view};
 ghost use Rattle.gl_base.specs.Answers.{Answers};
 ghost use Rattle.gl_forms.specs.Requests.{proposal_in};
 ghost use Rattle.gl_forms.specs.Text.{tree_from};
 ghost use Rattle.gl_lines.specs.Parts.{bytes_of};
 ghost use Rattle.gl_lines.specs.Unread.{IsUnread};
-ghost use Rattle.gl_lines.specs.MemberLines.{ack_line, answer_of, ballot_of, ballot_line, withdraw_of, withdraw_line, again_line, is_on_node, without_nodes, if_form, actions_of, propose_of, propose_line};
+ghost use Rattle.gl_lines.specs.MemberLines.{ack_line, answer_of, ballot_of, ballot_line, withdraw_of, withdraw_line, again_line, if_form, actions_of, propose_of, propose_line};
 
 use crate::fault::LineFault;
 use crate::line::Line;
@@ -94,32 +93,6 @@ pub(crate) fn again_line(node: u128, rest: &[u8]) -> Result<Line, LineFault>
     Ok(Line::Again { node, line })
 }
 
-fn is_on_node(action: &Action) -> bool
-    ensures { result ≡ is_on_node action.now }
-{
-    matches!(
-        action,
-        Action::TransitionNodeToTrusted(_) | Action::RemoveNode(_)
-    )
-}
-
-fn is_any_on_node(actions: &[Action]) -> bool
-    ensures { result ≡ list_any is_on_node actions.now }
-{
-    actions.iter().any(is_on_node)
-}
-
-/// Until schedules have many nodes, no line proposes an action on a node.
-fn without_nodes(actions: Sequence<Action>) -> Result<Sequence<Action>, LineFault>
-    ensures { result ≡ without_nodes actions }
-{
-    if is_any_on_node(actions.as_slice()) {
-        Err(LineFault::NoReading)
-    } else {
-        Ok(actions)
-    }
-}
-
 /// A text of another form says nothing.
 fn unread(stop: OrNoMemory<FormsFault>) -> OrNoMemory<LineFault>
     ensures { IsUnread stop result }
@@ -162,7 +135,7 @@ fn actions_of(
 {
     let tree = tree_of(alloc, json)?;
     let proposal = with_ids(alloc, &tree, ids)?;
-    let actions = without_nodes(proposal_of(alloc, &proposal)?)?;
+    let actions = proposal_of(alloc, &proposal)?;
     Ok(if names_unknown(&tree, ids) {
         None
     } else {

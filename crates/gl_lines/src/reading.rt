@@ -9,7 +9,7 @@ ghost use Rattle.gl_lines.specs.declared.fault.ScheduleFault.TheVariants.{BadLin
 ghost use Rattle.gl_lines.specs.Parts.{bytes_of};
 ghost use Rattle.gl_lines.specs.AtLines.{AtLine};
 ghost use Rattle.gl_lines.specs.Kept.{IsFit};
-ghost use Rattle.gl_lines.specs.Reading.{first_line, line_of, lines_behind, lines_read, long_line, member_line, node_line, request_of, short_line, submit_line};
+ghost use Rattle.gl_lines.specs.Reading.{first_line, call_line, deliver_line, line_of, lines_behind, lines_read, long_line, member_line, node_line, pair_line, request_of, short_line, submit_line};
 
 use crate::fault::{LineFault, ScheduleFault};
 use crate::line::{Line, Lines};
@@ -27,16 +27,45 @@ use std::alloc::Global;
 fn short_line(name: &[u8], node: u128) -> Result<Line, LineFault>
     ensures { result ≡ short_line name.now node }
 {
-    if name == b"reserve".as_slice() {
+    if name == b"timeout".as_slice() {
+        Ok(Line::Timeout { node })
+    } else if name == b"reserve".as_slice() {
         Ok(Line::Reserve { node })
     } else if name == b"sign".as_slice() {
         Ok(Line::Sign { node })
     } else if name == b"advance".as_slice() {
         Ok(Line::Advance { node })
+    } else if name == b"restart".as_slice() {
+        Ok(Line::Restart { node })
     } else if name == b"ids".as_slice() {
         Ok(Line::Ids { node })
     } else if name == b"ledger".as_slice() {
         Ok(Line::Ledger { node })
+    } else {
+        Err(LineFault::NoReading)
+    }
+}
+
+/// A command that asks for one more node.
+fn pair_line(name: &[u8], node: u128, other: u128) -> Result<Line, LineFault>
+    ensures { result ≡ pair_line name.now node other }
+{
+    if name == b"join".as_slice() {
+        Ok(Line::Join {
+            node,
+            joiner: other,
+        })
+    } else if name == b"mark".as_slice() {
+        Ok(Line::Mark {
+            node,
+            marked: other,
+        })
+    } else if name == b"replicate".as_slice() {
+        Ok(Line::Replicate { node, to: other })
+    } else if name == b"stepdown".as_slice() {
+        Ok(Line::StepDown { node, to: other })
+    } else if name == b"stage".as_slice() {
+        Ok(Line::Stage { node, other })
     } else {
         Err(LineFault::NoReading)
     }
@@ -59,7 +88,7 @@ fn submit_line(alloc: Global, node: u128, rest: &[u8]) -> Result<Line, OrNoMemor
     Ok(request_of(node, operations)?)
 }
 
-/// What a member asks for.
+/// What a member asks for, or else a command that asks for one more node.
 fn member_line(
     alloc: Global,
     name: &[u8],
@@ -80,7 +109,8 @@ fn member_line(
     } else if name == b"again".as_slice() {
         Ok(again_line(node, rest)?)
     } else {
-        Err(OrNoMemory::Fault(LineFault::NoReading))
+        let other = counted_number(rest)?;
+        Ok(pair_line(name, node, other)?)
     }
 }
 
@@ -123,17 +153,42 @@ fn node_line(
     }
 }
 
+/// A command to a node.
+#[tactic(auto, unfolding(crate::specs::Reading::call_line))]
+fn call_line(
+    alloc: Global,
+    name: &[u8],
+    text: &[u8],
+    ids: &[NodeId],
+) -> Result<Line, OrNoMemory<LineFault>>
+    ensures { Answers (λ x. x) result (call_line ids.now name.now text.now) }
+{
+    let (number, rest) = cut(text, b' ');
+    let node = counted_number(number)?;
+    node_line(alloc, name, node, rest, ids)
+}
+
+#[tactic(auto, unfolding(crate::specs::Reading::deliver_line))]
+fn deliver_line(text: &[u8]) -> Result<Line, LineFault>
+    ensures { result ≡ deliver_line text.now }
+{
+    let message = counted_number(text)?;
+    Ok(Line::Deliver { message })
+}
+
 /// What a line behind the first one says, in which these nodes may be named.
-#[tactic(auto, unfolding(crate::specs::Reading::line_of, crate::specs::Reading::command_line))]
+#[tactic(auto, unfolding(crate::specs::Reading::line_of))]
 fn line_of(alloc: Global, line: &[u8], ids: &[NodeId]) -> Result<Line, OrNoMemory<LineFault>>
     ensures { Answers (λ x. x) result (line_of ids.now line.now) }
 {
-    let (name, Some(behind)) = cut(line, b' ') else {
+    let (name, Some(text)) = cut(line, b' ') else {
         return Err(OrNoMemory::Fault(LineFault::NoReading));
     };
-    let (number, rest) = cut(behind, b' ');
-    let node = counted_number(number)?;
-    node_line(alloc, name, node, rest, ids)
+    if name == b"deliver".as_slice() {
+        Ok(deliver_line(text)?)
+    } else {
+        call_line(alloc, name, text, ids)
+    }
 }
 
 fn bad_line(number: u64) -> OrNoMemory<ScheduleFault>

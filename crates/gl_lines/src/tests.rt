@@ -120,6 +120,60 @@ fn reads_commands(rt: HostRuntime) -> Result<(), Fail> {
 }
 
 #[test]
+fn reads_lines_of_nodes(rt: HostRuntime) -> Result<(), Fail> {
+    let rows: [(&[u8], &str); 9] = [
+        (b"timeout 2", "Timeout { node: 2 }"),
+        (b"deliver 0", "Deliver { message: 0 }"),
+        (
+            b"deliver 340282366920938463463374607431768211455",
+            "Deliver { message: 340282366920938463463374607431768211455 }",
+        ),
+        (b"replicate 1 2", "Replicate { node: 1, to: 2 }"),
+        (b"stepdown 1 2", "StepDown { node: 1, to: 2 }"),
+        (b"restart 18", "Restart { node: 18 }"),
+        (b"join 1 4", "Join { node: 1, joiner: 4 }"),
+        (b"mark 2 1", "Mark { node: 2, marked: 1 }"),
+        (b"stage 1 1", "Stage { node: 1, other: 1 }"),
+    ];
+    let alloc = rt.alloc();
+    for (line, want) in rows {
+        assert_eq!(rt; line_shown(alloc, line, &[])?.as_str(), want, "of {line:?}");
+    }
+    Ok(())
+}
+
+#[test]
+fn refuses_lines_of_nodes(rt: HostRuntime) -> Result<(), Fail> {
+    let rows: [&[u8]; 16] = [
+        b"timeout",
+        b"timeout 1 2",
+        b"timeout 01",
+        b"deliver",
+        b"deliver ",
+        b"deliver 1 2",
+        b"deliver 01",
+        b"deliver 340282366920938463463374607431768211456",
+        b"replicate 1",
+        b"replicate 1 2 3",
+        b"stepdown 1  2",
+        b"stepdown 01 2",
+        b"restart 1 1",
+        b"join 1 04",
+        b"mark 1 -",
+        b"stage 1 ",
+    ];
+    let alloc = rt.alloc();
+    for line in rows {
+        assert_eq!(rt;
+            line_shown(alloc, line, &[])?.as_str(),
+            "Fault(BadLine(2))",
+            "of {line:?}"
+        );
+    }
+    Ok(())
+}
+
+#[test]
 fn refuses_lines(rt: HostRuntime) -> Result<(), Fail> {
     let rows: [&[u8]; 32] = [
         b"",
@@ -202,16 +256,16 @@ fn world_line(alloc: Global, settings: &[u8], end: &[u8]) -> Result<Vec<u8>, All
 #[test]
 fn reads_first_lines(rt: HostRuntime) -> Result<(), Fail> {
     let alloc = rt.alloc();
-    let rows: [(&[u8], u8, bool); 3] = [
-        (b"world 1 0 1 open ", 1, true),
-        (b"world 1 0 64 opening ", 64, false),
-        (b"world 1 0 3 open ", 3, true),
+    let rows: [(&[u8], (u8, u8, u8), bool); 3] = [
+        (b"world 1 0 1 open ", (1, 0, 1), true),
+        (b"world 9 9 64 opening ", (9, 9, 64), false),
+        (b"world 3 1 2 open ", (3, 1, 2), true),
     ];
-    for (settings, members, is_open) in rows {
+    for (settings, counts, is_open) in rows {
         let text = world_line(alloc, settings, b"ff\nsign 1\n")?;
         let (world, behind) = read_first_line(alloc, &text)?;
-        assert_eq!(rt; (world.starting, world.joiners), (1, 0));
-        assert_eq!(rt; (world.members, world.is_open), (members, is_open));
+        assert_eq!(rt; (world.starting, world.joiners, world.members), counts);
+        assert_eq!(rt; world.is_open, is_open);
         assert_eq!(rt; (world.seed[0], world.seed[31]), (0, 255));
         assert_eq!(rt; behind, b"sign 1\n".as_slice());
     }
@@ -227,8 +281,8 @@ fn refuses_first_lines(rt: HostRuntime) -> Result<(), Fail> {
         (b"world 1 0 064 open ", b"ff\n"),
         (b"world 1 0 1 closed ", b"ff\n"),
         (b"world 0 0 1 open ", b"ff\n"),
-        (b"world 2 0 1 open ", b"ff\n"),
-        (b"world 1 1 1 open ", b"ff\n"),
+        (b"world 10 0 1 open ", b"ff\n"),
+        (b"world 1 10 1 open ", b"ff\n"),
         (b"world 01 0 1 open ", b"ff\n"),
         (b"word 1 0 1 open ", b"ff\n"),
         (b"world 1 0 1  open ", b"ff\n"),

@@ -12,11 +12,11 @@ use crate::split::words_of;
 use gl_base::OrNoMemory;
 use std::alloc::Global;
 
-/// How many nodes may start: one, until schedules have many nodes.
-const STARTING_LIMIT: u8 = 1;
+/// How many nodes may start.
+const STARTING_LIMIT: u8 = 9;
 
 /// How many nodes may join.
-const JOINERS_LIMIT: u8 = 0;
+const JOINERS_LIMIT: u8 = 9;
 
 /// How many members may govern the service.
 const MEMBERS_LIMIT: u8 = 64;
@@ -24,9 +24,9 @@ const MEMBERS_LIMIT: u8 = 64;
 /// The first line of a schedule: a service that begins.
 #[derive(Clone, Copy, Debug)]
 pub struct WorldLine {
-    /// How many nodes start: 1.
+    /// How many nodes start, from 1 to 9.
     pub starting: u8,
-    /// How many nodes join later: none.
+    /// How many nodes may join later, at most 9.
     pub joiners: u8,
     /// How many members govern the service, from 1 to 64.
     pub members: u8,

@@ -123,8 +123,11 @@ module _ {S Q G R A F : Type 0} where
   pub answers_undone : (why : Refused_by S Q G R A F) (n : Node Entry) (step : Step Entry A F) → Answers why step.outcome → Answers why (undo_if_refused step.outcome n step).outcome
   answers_undone refusals.NoMemory n step a = tt
   answers_undone (refusals.NotPrimary view leader) n step a = undone_refused n step _ a
+  answers_undone (refusals.TooManyPending limit) n step a = undone_refused n step _ a
   answers_undone (refusals.NotReserved reserved) n step a = undone_refused n step _ a
+  answers_undone (refusals.KeyExhausted reserved) n step a = undone_refused n step _ a
   answers_undone (refusals.NothingToSign seqno) n step a = undone_refused n step _ a
+  answers_undone (refusals.RemovalNotCommitted seqno commit) n step a = undone_refused n step _ a
   answers_undone (refusals.BelowCommit commit cut) n step a = undone_refused n step _ a
   answers_undone (refusals.BelowBase base) n step a = undone_refused n step _ a
   answers_undone refusals.NotPeer n step a = undone_refused n step _ a

@@ -60,6 +60,8 @@ module _ {S Q G R A F : Type 0} (stands : S → Book Entry Q G R A F → Holding
     matched = s.matched;
     next = s.next;
     within = s.within;
+    used = s.used;
+    leaves = s.leaves;
   }
 
   pub committing : {c : Core S Q G R A F} {b : Book Entry Q G R A F} {x : NodeId} {n : Node Entry} → StandsFor stands c b x n → (found : Option ℕ) (seqno view : ℕ) (done : Done S Q G R A F) → c.commit < seqno →

@@ -10,3 +10,4 @@ pub mod SetPairs
 pub mod Replying
 pub mod Plains
 pub mod Peers
+pub mod Readings

@@ -31,7 +31,7 @@ unfolding configuration_at
 none_at s l zero = refl
 none_at s l (suc k) = none_at s l k
 
-none_above : (s : Entry) (l : List Entry) (c k : ℕ) → configurations_above (plain s) l c k ≡ []
+pub none_above : (s : Entry) (l : List Entry) (c k : ℕ) → configurations_above (plain s) l c k ≡ []
 unfolding configurations_above
 none_above s l c zero = refl
 none_above s l c (suc k) = ap (λ m. if nat_lt c (suc k) then m ++ [] else []) (none_above s l c k) ∙ go (nat_lt c (suc k))

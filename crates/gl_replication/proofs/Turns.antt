@@ -45,6 +45,8 @@ module _ {S Q G R A F : Type 0} (stands : S → Book Entry Q G R A F → Holding
     matched = s.matched;
     next = s.next;
     within = s.within;
+    used = s.used;
+    leaves = s.leaves;
   }
 
   pub turned : {c new : Core S Q G R A F} {b : Book Entry Q G R A F} {x : NodeId} {n : Node Entry} → StandsFor stands c b x n → (p : Peer) (elected : Elected) (done : Done S Q G R A F) (turn : Turn) (rule : Step Entry A F) →

@@ -1,5 +1,5 @@
 -- A small ledger book: requests are entries, a signature is a given entry in the leader's view, any entry may follow, there are no
--- configurations, and a message carries one entry.
+-- configurations, no request of governance is taken, each key has 32 leaves, and a message carries one entry.
 use Rattle.std.specs.Prelude.{ℕ, List, [], false, None, Ok, Err}
 use Rattle.gl_entry.specs.Entry.{is_signature}
 use Rattle.gl_entry.specs.declared.entry.Entry.{Entry}
@@ -18,7 +18,7 @@ plain signature = record {
   recorded_nodes = λ log. [];
   removal = λ log y. None;
   mark = λ log y. None;
-  leaves = λ y. 0;
+  leaves = λ y. 32;
   execute = λ log view q. Ok (record q { view = view }, 0);
   govern = λ log view g. Err 0;
   sign = λ x leaf log view commit. Ok (record signature { view = view });

@@ -6,7 +6,7 @@ use Rattle.gl_entry.specs.declared.entry.Entry.{Entry}
 use Rattle.gl_rules.specs.Identity.{NodeId}
 use Rattle.gl_rules.specs.Book.{Book}
 use Rattle.gl_rules.specs.Node.{Node}
-use Rattle.gl_rules.specs.Outcome.{Step, Refused, NotPrimary, NotReserved, NothingToSign, BelowCommit, BelowBase, NotPeer, ViewLimit}
+use Rattle.gl_rules.specs.Outcome.{Step, Refused, NotPrimary, TooManyPending, NotReserved, KeyExhausted, NothingToSign, RemovalNotCommitted, BelowCommit, BelowBase, NotPeer, ViewLimit}
 use Rattle.gl_rules.specs.Outcome as outcomes
 use Rattle.gl_messages.specs.declared.message.Message.{Message}
 use Rattle.gl_election.specs.declared.elected.Elected.{Elected}
@@ -52,8 +52,11 @@ module _ {S Q G R A F : Type 0} where
   abbrev pub Answers : Refusal S Q G R A F → outcomes.Outcome A F → Type 0
   Answers refusals.NoMemory o = Unit {0}
   Answers (refusals.NotPrimary view leader) o = o ≡ Refused (NotPrimary view leader)
+  Answers (refusals.TooManyPending limit) o = o ≡ Refused (TooManyPending limit)
   Answers (refusals.NotReserved reserved) o = o ≡ Refused (NotReserved reserved)
+  Answers (refusals.KeyExhausted reserved) o = o ≡ Refused (KeyExhausted reserved)
   Answers (refusals.NothingToSign seqno) o = o ≡ Refused (NothingToSign seqno)
+  Answers (refusals.RemovalNotCommitted seqno commit) o = o ≡ Refused (RemovalNotCommitted seqno commit)
   Answers (refusals.BelowCommit commit seqno) o = o ≡ Refused (BelowCommit commit seqno)
   Answers (refusals.BelowBase base) o = o ≡ Refused (BelowBase base)
   Answers refusals.NotPeer o = o ≡ Refused NotPeer
@@ -80,6 +83,9 @@ module _ {S Q G R A F : Type 0} where
       pub next : (y : NodeId) → tried c.next.items y ≡ n.next y
       -- no ledger is longer
       pub within : (y : NodeId) → n.matched y < 2 ^ 40
+      -- it signs with leaves that its key has
+      pub used : n.used ≤ n.reserved
+      pub leaves : n.reserved ≤ b.leaves x
 
     -- What a step of the rules comes to.
     pub record Stepped (b : Book Entry Q G R A F) (x : NodeId) (step : Step Entry A F) (done : Done S Q G R A F) (new : Core S Q G R A F) : Type 0 where
@@ -98,6 +104,14 @@ module _ {S Q G R A F : Type 0} where
     -- Of each node that it stands for the rule refuses so.
     abbrev pub Refuses : (Book Entry Q G R A F → NodeId → Node Entry → Step Entry A F) → Core S Q G R A F → Refusal S Q G R A F → Type 0
     Refuses rule old why = Tells old (λ b x n. Answers why (rule b x n).outcome)
+
+    -- Of each node that it stands for this guard lets every step of a rule through.
+    abbrev pub Passes : (Book Entry Q G R A F → Node Entry → Step Entry A F → Step Entry A F) → Core S Q G R A F → Type 0
+    Passes guard c = Tells c (λ b x n. (step : Step Entry A F) → guard b n step ≡ step)
+
+    -- Of each node that it stands for this guard refuses so, whatever the step.
+    abbrev pub Stops : (Book Entry Q G R A F → Node Entry → Step Entry A F → Step Entry A F) → Core S Q G R A F → Refusal S Q G R A F → Type 0
+    Stops guard c why = Tells c (λ b x n. (step : Step Entry A F) → Answers why (guard b n step).outcome)
 
     -- It stands for each node for which it stood.
     abbrev pub KeepsAll : Core S Q G R A F → Core S Q G R A F → Type 0

@@ -5,9 +5,9 @@ ghost use Rattle.gl_base.specs.Answers.{Fails};
 ghost use Rattle.gl_entry.specs.declared.entry.Entry.{Entry as Item};
 ghost use Rattle.gl_rules.specs.Book.{Book as Rules};
 ghost use Rattle.gl_rules.specs.Log.{entry_at, greatest_recorded, is_signature_in, last_signature, last_signature_position, view_at};
-ghost use Rattle.gl_rules.specs.Configuration.{active};
+ghost use Rattle.gl_rules.specs.Configuration.{active, configurations_above};
 ghost use Rattle.gl_rules.specs.Replication.{batch, checked_append};
-ghost use Rattle.gl_config.specs.Active.{active_of, sets_of};
+ghost use Rattle.gl_config.specs.Active.{above, active_of, sets_of};
 ghost use Rattle.gl_election.specs.Bridge.{tx_id};
 ghost use Rattle.gl_replication.specs.Holding.{Holding};
 ghost use Rattle.gl_replication.specs.Standing.{At, Becomes, Enters, Stays};
@@ -44,6 +44,14 @@ pub trait Book: Drop {
     fn base(&self) -> u64
         ensures { At stands self.now (λ b h. result ≡ h.base) };
 
+    /// How many one-time leaves its key has.
+    fn leaves(&self) -> u64
+        ensures { At stands self.now (λ b h. result ≡ b.leaves h.me) };
+
+    /// All entries above the base, in order.
+    fn entries(&self) -> &[Entry]
+        ensures { At stands self.now (λ b h. result.now ≡ drop h.base h.log) };
+
     /// The seqno of the last entry.
     fn ledger_len(&self) -> u64
         ensures value { At stands self.now (λ b h. result ≡ length h.log) }
@@ -77,12 +85,15 @@ pub trait Book: Drop {
         ensures { At stands self.now (λ b h. h.base ≤ seqno →
             result ≡ is_signature_in b view (entry_at h.log seqno)) };
 
-    /// Configurations that give the active ones of the ledger cut to a seqno, at each commit that is
-    /// not below the base.
+    /// Configurations that give the active ones of the ledger cut to a seqno, and those above commit,
+    /// at each commit that is not below the base.
     fn configurations(&self, upto: u64) -> &[Configuration]
         ensures ascending { AllPairs (λ c d. c.seqno < d.seqno) result.now }
         ensures active { At stands self.now (λ b h. (commit : ℕ) → h.base ≤ commit →
-            sets_of (active_of result.now commit) ≡ active b (take upto h.log) commit) };
+            sets_of (active_of result.now commit) ≡ active b (take upto h.log) commit) }
+        ensures above { At stands self.now (λ b h. (commit : ℕ) → h.base ≤ commit →
+            sets_of (above commit result.now)
+            ≡ configurations_above b (take upto h.log) commit (length (take upto h.log))) };
 
     /// The nodes that the ledger cut to a seqno records, in the order in which they were recorded.
     fn recorded_nodes(&self, upto: u64) -> &[NodeId]
@@ -95,6 +106,14 @@ pub trait Book: Drop {
     /// The seqno of the mark behind its removal, if there is one.
     fn mark(&self, node: &NodeId) -> Option<u64>
         ensures { At stands self.now (λ b h. result ≡ b.mark h.log node.now) };
+
+    /// The node that a request of governance marks, if it is a mark.
+    fn marked_node(&self, request: &Self::Gov) -> Option<NodeId>
+        ensures { At stands self.now (λ b h. result ≡ b.marked_node request.now) };
+
+    /// Why a node can't be marked, if it can't.
+    fn mark_refusal(&self, node: &NodeId) -> Option<Self::Refused>
+        ensures { At stands self.now (λ b h. result ≡ b.mark_refusal h.log node.now) };
 
     /// The entries behind a seqno, not below the base: as many as one message carries.
     fn batch(&self, behind: u64) -> Result<Vec<Entry>, AllocError>
@@ -113,8 +132,21 @@ pub trait Book: Drop {
             Fails e (b.execute h.log view request.now))) }
         ensures err { OnErr result (Stays stands self.old self.new) };
 
+    /// Takes an entry for a request of governance, and tells its view and the answer.
+    fn govern(
+        &mut self,
+        view: u32,
+        request: &Self::Gov,
+    ) -> Result<(u32, Self::Given), OrNoMemory<Self::Refused>>
+        ensures made { IfOk result (λ r. Enters stands self.old self.new (λ b h e.
+            (b.govern h.log view request.now ≡ Ok (e, r.1)) × (r.0 ≡ b.view_of e))) }
+        ensures refused { IfErr result (λ e. At stands self.old (λ b h.
+            Fails e (b.govern h.log view request.now))) }
+        ensures err { OnErr result (Stays stands self.old self.new) };
+
     /// Takes a signature by this leaf that records this commit, and tells its view.
     fn sign(&mut self, leaf: u64, view: u32, commit: u64) -> Result<u32, OrNoMemory<Self::Refused>>
+        requires leaf { At stands self.old (λ b h. leaf < b.leaves h.me) }
         ensures made { IfOk result (λ r. Enters stands self.old self.new (λ b h e.
             (b.sign h.me leaf h.log view commit ≡ Ok e) × (r ≡ b.view_of e))) }
         ensures refused { IfErr result (λ e. At stands self.old (λ b h.

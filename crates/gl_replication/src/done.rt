@@ -35,10 +35,16 @@ pub enum Refusal<B: Book> {
     NoMemory,
     /// The node doesn't lead: its view, and whom it takes for the leader.
     NotPrimary(u32, Option<NodeId>),
+    /// So many configurations stand above commit that governance takes no more.
+    TooManyPending(u64),
     /// Each reserved leaf is used; their number.
     NotReserved(u64),
+    /// Each leaf of the key is reserved; their number.
+    KeyExhausted(u64),
     /// The last entry, at this seqno, is a signature of this view.
     NothingToSign(u64),
+    /// A mark came before its removal, at this seqno, was committed; and commit.
+    RemovalNotCommitted(u64, u64),
     /// Commit, and the seqno below it down to which entries would be cut off.
     BelowCommit(u64, u64),
     /// The node is no other node of an active configuration.

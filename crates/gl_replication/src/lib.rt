@@ -6,11 +6,14 @@ mod book;
 mod deliveries;
 mod done;
 mod elections;
+mod govern;
 mod holders;
 mod leaves;
 mod node;
 mod progress;
+mod readers;
 mod replicate;
+mod start;
 
 pub use book::Book;
 pub use done::{Done, Outcome, Refusal};

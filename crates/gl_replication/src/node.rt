@@ -1,8 +1,9 @@
 //! A node over any store.
 
-ghost use Rattle.std.specs.Prelude.{◌≡◌, ◌≤◌, ◌<◌, [], length, IfOk, IfErr, IfSome, OnErr};
+ghost use Rattle.std.specs.Prelude.{◌≡◌, ◌≤◌, ◌<◌, ◌==◌, [], false, length, IfOk, IfErr, IfSome, OnErr};
 ghost use Rattle.gl_rules.specs.Requests.{execute_request, sign, sign_as_leader, submit};
 ghost use Rattle.gl_rules.specs.Replication.{advance, commit_to, greatest_to_commit, may_commit, restart};
+ghost use Rattle.gl_replication.specs.Standing.{At};
 ghost use Rattle.gl_replication.specs.Stands.{IsNoMemory, KeepsAll, Refuses, Steps, Tells};
 
 use crate::book::Book;
@@ -55,18 +56,29 @@ impl<B: Book> Core<B> {
     }
 
     /// The leader takes an application's request, as one entry.
-    pub fn submit(&mut self, request: B::Request) -> Result<Done<B>, Refusal<B>>
+    pub fn submit(&mut self, request: &B::Request) -> Result<Done<B>, Refusal<B>>
         ensures steps { IfOk result (λ done.
-            Steps B.stands (λ b x n. submit b request n) self.old done self.new) }
+            Steps B.stands (λ b x n. submit b request.now n) self.old done self.new) }
         ensures refused { IfErr result (λ why.
-            Refuses B.stands (λ b x n. submit b request n) self.old why) }
+            Refuses B.stands (λ b x n. submit b request.now n) self.old why) }
         ensures err { OnErr result (KeepsAll B.stands self.old self.new) }
         ensures quiet { IfOk result (λ done. done.sent ≡ []) }
     {
         match self.peer.role {
-            Role::Leader => self.execute_request(&request),
+            Role::Leader => self.execute_request(request),
             _ => Err(Refusal::NotPrimary(self.peer.view, self.peer.leader)),
         }
+    }
+
+    /// Whether each reserved leaf is used. A leaf that isn't is one that the key has.
+    fn is_exhausted(&self) -> bool
+        ensures value { Tells B.stands self.now (λ b x n. result ≡ (n.used == n.reserved)) }
+        ensures free { result ≡ false → self.now.leaves.used < self.now.leaves.reserved }
+        ensures within { result ≡ false → self.now.leaves.used < u64.MAX }
+        ensures leaf { result ≡ false →
+            At B.stands self.now.book (λ b h. self.now.leaves.used < b.leaves h.me) }
+    {
+        self.leaves.used == self.leaves.reserved || self.leaves.used >= self.book.leaves()
     }
 
     /// A signature with the first leaf that is not used.
@@ -78,7 +90,7 @@ impl<B: Book> Core<B> {
         ensures err { OnErr result (KeepsAll B.stands self.old self.new) }
         ensures quiet { IfOk result (λ done. done.sent ≡ []) }
     {
-        if self.leaves.used == self.leaves.reserved {
+        if self.is_exhausted() {
             return Err(Refusal::NotReserved(self.leaves.reserved));
         }
         let len = self.book.ledger_len();

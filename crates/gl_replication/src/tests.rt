@@ -3,10 +3,9 @@
 mod plain_store;
 
 use crate::tests::plain_store::PlainStore;
-use crate::{Core, Leaves, Outcome};
-use gl_base::{Bytes, TxId};
-use gl_config::{NodeId, NodeSet};
-use gl_election::{Peer, Role};
+use crate::{Core, Outcome, Refusal};
+use gl_base::{Bytes, Status, TxId};
+use gl_config::NodeId;
 use gl_entry::{Content, Entry, Signature};
 use gl_messages::{Body, Message};
 use gl_vmaps::Writes;
@@ -31,51 +30,41 @@ fn request(alloc: Global) -> Entry {
     entry(alloc, Content::Application(Bytes::from(Vec::new(alloc))))
 }
 
-fn node(alloc: Global, number: u8, role: Role) -> Core<PlainStore> {
+fn store(alloc: Global, number: u8) -> PlainStore {
     let signature = Signature {
         node: id(number),
         commit: 0,
         root: [0; 32],
         signature: Bytes::from(Vec::new(alloc)),
     };
-    Core {
+    PlainStore::new(
         alloc,
-        book: PlainStore::new(
-            alloc,
-            id(number),
-            entry(alloc, Content::Signature(signature)),
-        ),
-        peer: Peer {
-            view: 2,
-            vote: None,
-            role,
-            leader: None,
-            votes: NodeSet::new(Vec::new(alloc)),
-        },
-        leaves: Leaves {
-            used: 0,
-            reserved: 1,
-        },
-        commit: 0,
-        start: 1,
-        cuts: 0,
-        matched: Vec::new(alloc),
-        next: Vec::new(alloc),
-    }
+        id(number),
+        entry(alloc, Content::Signature(signature)),
+    )
 }
 
 #[test]
 fn a_signed_request_is_committed(rt: HostRuntime) {
-    let mut leader = node(rt.alloc(), 1, Role::Leader);
-    let submitted = leader.submit(request(rt.alloc())).is_ok();
-    assert!(&rt; submitted);
+    let alloc = rt.alloc();
+    let mut leader = Core::leader(alloc, store(alloc, 1));
+    let accepted = leader.submit(&request(alloc)).is_ok();
+    assert!(&rt; accepted);
+    let exhausted = matches!(leader.sign(), Err(Refusal::NotReserved(1)));
+    assert!(&rt; exhausted);
+    let reserved = leader.reserve().is_ok();
+    assert!(&rt; reserved);
     let signed = leader.sign().is_ok();
     assert!(&rt; signed);
+    let submitted = TxId { view: 2, seqno: 1 };
+    assert_eq!(rt; leader.status(submitted), Status::Pending);
     let advanced = match leader.advance() {
         Ok(done) => matches!(done.outcome, Outcome::Committed(2, 2)),
         Err(_) => false,
     };
     assert!(&rt; advanced);
+    assert_eq!(rt; leader.status(submitted), Status::Committed);
+    assert_eq!(rt; leader.committed().len(), 2);
     let replied = match leader.on_append_reply(id(2), 2, true, 2) {
         Ok(done) => matches!(done.outcome, Outcome::Done),
         Err(_) => false,
@@ -84,13 +73,35 @@ fn a_signed_request_is_committed(rt: HostRuntime) {
     let refused = leader.replicate(id(2)).is_err();
     assert!(&rt; refused);
     let restarted = leader.restart().is_ok();
-    assert!(&rt; restarted && leader.leaves.used == 1);
+    assert!(&rt; restarted && leader.leaves.used == 2);
+}
+
+#[test]
+fn a_key_has_so_many_leaves(rt: HostRuntime) {
+    let mut leader = Core::leader(rt.alloc(), store(rt.alloc(), 1));
+    for _ in 1..32 {
+        let reserved = leader.reserve().is_ok();
+        assert!(&rt; reserved);
+    }
+    let exhausted = matches!(leader.reserve(), Err(Refusal::KeyExhausted(32)));
+    assert!(&rt; exhausted);
+}
+
+#[test]
+fn a_joiner_knows_nothing(rt: HostRuntime) {
+    let mut joiner = Core::joiner(rt.alloc(), store(rt.alloc(), 3));
+    let refused = matches!(joiner.govern(&0), Err(Refusal::NotPrimary(2, None)));
+    assert!(&rt; refused);
+    let status = joiner.status(TxId { view: 2, seqno: 1 });
+    assert_eq!(rt; status, Status::Unknown);
+    assert_eq!(rt; joiner.stage(&id(1)), None);
+    assert_eq!(rt; joiner.committed().len(), 0);
 }
 
 #[test]
 fn a_follower_takes_entries(rt: HostRuntime) -> Result<(), Fail> {
     let alloc = rt.alloc();
-    let mut follower = node(alloc, 2, Role::Follower);
+    let mut follower = Core::starter(alloc, store(alloc, 2), id(1));
     let mut entries = Vec::new(alloc);
     entries.push(request(alloc))?;
     let message = Message {

@@ -1,6 +1,9 @@
-pub mod MachineLemmas
 pub mod ToldLemmas
-pub mod GovernanceLemmas
+pub mod NumberLemmas
+pub mod LogLemmas
+pub mod EventLemmas
+pub mod RequestLemmas
+pub mod TextLemmas
 pub mod PlayLemmas
 pub mod Played
 pub mod HeadlineLemmas

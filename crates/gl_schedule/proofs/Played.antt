@@ -7,16 +7,14 @@ use Rattle.gl_outside.specs.Sink.{AppendsFront}
 use Rattle.gl_outside.proofs.Fronts.{front_after, front_before}
 use Rattle.gl_world.specs.declared.settings.Settings.{Settings}
 use Rattle.gl_lines.specs.declared.line.Line.{Line}
-use Rattle.gl_schedule.specs.declared.machine.Machine.{Machine}
-use Rattle.gl_schedule.specs.Machine.{IsMachine, GoesOn}
-use Rattle.gl_schedule.specs.Play.{IsIn, Extends, ExtendsFront}
+use Rattle.gl_schedule.specs.Play.{Extends, ExtendsFront, GoesOn, IsIn}
+use Rattle.gl_schedule.specs.Playing.{Playing}
 use Rattle.gl_schedule.specs.Told.{Told, told, told_at_start, told_of}
 use Rattle.gl_schedule.proofs.ToldLemmas.{lines_told, on_lines, told_more}
 
 -- The text of the first line and of so many behind it was written, and the machine is in their world.
-pub record Played (old now : Option (List ℕ)) (s : Settings) (lines : List Line) (i : ℕ) (m : Machine) : Type 0 where
-  pub machine : IsMachine m
-  pub settings : m.settings ≡ s
+pub record Played (old now : Option (List ℕ)) (s : Settings) (lines : List Line) (i : ℕ) (m : Playing) : Type 0 where
+  pub settings : m.world.settings ≡ s
   pub is_in : IsIn (told_of s (take i lines)) m
   pub written : Appends old now (told_of s (take i lines)).text
 
@@ -25,30 +23,30 @@ next_number : (s : Settings) (lines : List Line) (i : ℕ) → i < length lines 
 next_number s lines i within = omega (arith, lines_told s (take i lines), length-take-le i lines (omega arith))
 
 -- one more line
-pub goes_on : (old mid new : Option (List ℕ)) (s : Settings) (lines : List Line) (i : ℕ) (line : Line) (m n : Machine) → Played old mid s lines i m → i < length lines →
+pub goes_on : (old mid new : Option (List ℕ)) (s : Settings) (lines : List Line) (i : ℕ) (line : Line) (m n : Playing) → Played old mid s lines i m → i < length lines →
     line ≡ get_or lines i line →
-    ((t : Told) → IsIn t m → suc t.lines ≡ i + 2 → Extends mid new t.text (told m.settings t line).text) →
-    ((t : Told) → IsIn t m → suc t.lines ≡ i + 2 → IsIn (told m.settings t line) n) → GoesOn m n → Played old new s lines (i + 1) n
-goes_on old mid new s lines i line m n p within at more moved g =
+    ((t : Told) → IsIn t m → suc t.lines ≡ i + 2 → Extends mid new t.text (told m.world.settings t line).text) →
+    ((t : Told) → IsIn t m → suc t.lines ≡ i + 2 → GoesOn t line m n) → Played old new s lines (i + 1) n
+goes_on old mid new s lines i line m n p within at more moved =
     let so_far = told_of s (take i lines) in
-    let next : told_of s (take (i + 1) lines) ≡ told m.settings so_far line =
+    let next : told_of s (take (i + 1) lines) ≡ told m.world.settings so_far line =
     told_more s lines i line within at ∙ ap (λ (u : Settings). told u so_far line) (sym p.settings) in
     let added = more so_far p.is_in (next_number s lines i within) in
+    let g = moved so_far p.is_in (next_number s lines i within) in
     record {
-      machine = g.machine;
       settings = g.settings ∙ p.settings;
-      is_in = subst (λ (t : Told). IsIn t n) (sym next) (moved so_far p.is_in (next_number s lines i within));
+      is_in = subst (λ (t : Told). IsIn t n) (sym next) g.is_in;
       written = subst (λ (t : List ℕ). Appends old new t) (sym (ap (λ (t : Told). t.text) next ∙ added.1))
           (Appends-trans old mid new so_far.text added.0 p.written added.2);
     }
 
 -- a front of one more line is a front of the whole
-pub stops : (old mid new : Option (List ℕ)) (s : Settings) (lines : List Line) (i : ℕ) (line : Line) (m : Machine) → Played old mid s lines i m → i < length lines →
+pub stops : (old mid new : Option (List ℕ)) (s : Settings) (lines : List Line) (i : ℕ) (line : Line) (m : Playing) → Played old mid s lines i m → i < length lines →
     line ≡ get_or lines i line →
-    ((t : Told) → IsIn t m → suc t.lines ≡ i + 2 → ExtendsFront mid new t.text (told m.settings t line).text) → AppendsFront old new (told_of s lines).text
+    ((t : Told) → IsIn t m → suc t.lines ≡ i + 2 → ExtendsFront mid new t.text (told m.world.settings t line).text) → AppendsFront old new (told_of s lines).text
 stops old mid new s lines i line m p within at front =
     let so_far = told_of s (take i lines) in
-    let next : told_of s (take (i + 1) lines) ≡ told m.settings so_far line =
+    let next : told_of s (take (i + 1) lines) ≡ told m.world.settings so_far line =
     told_more s lines i line within at ∙ ap (λ (u : Settings). told u so_far line) (sym p.settings) in
     let added = front so_far p.is_in (next_number s lines i within) in
     let on = on_lines s lines (i + 1) in
@@ -64,16 +62,15 @@ begins old new s lines front =
     subst (λ (t : List ℕ). AppendsFront old new t) (sym on.text) (front_before old new (told_at_start s).text on.more front)
 
 -- nothing but the schedule's own line
-pub begun : (old now : Option (List ℕ)) (s : Settings) (lines : List Line) (m : Machine) → IsMachine m → m.settings ≡ s → IsIn (told_at_start s) m →
+pub begun : (old now : Option (List ℕ)) (s : Settings) (lines : List Line) (m : Playing) → m.world.settings ≡ s → IsIn (told_at_start s) m →
     Appends old now (told_at_start s).text → Played old now s lines 0 m
 unfolding told_of
-begun old now s lines m machine settings is_in written = record {
-  machine = machine;
+begun old now s lines m settings is_in written = record {
   settings = settings;
   is_in = is_in;
   written = written;
 }
 
 -- all of it
-pub ends : (old now : Option (List ℕ)) (s : Settings) (lines : List Line) (i : ℕ) (m : Machine) → Played old now s lines i m → length lines ≤ i → Appends old now (told_of s lines).text
+pub ends : (old now : Option (List ℕ)) (s : Settings) (lines : List Line) (i : ℕ) (m : Playing) → Played old now s lines i m → length lines ≤ i → Appends old now (told_of s lines).text
 ends old now s lines i m p past = subst (λ (ls : List Line). Appends old now (told_of s ls).text) (take_all i lines past) p.written

@@ -3,7 +3,6 @@ use Rattle.std.specs.Prelude.{ℕ, suc, List, [], ◌∷◌, ◌++◌, Option, N
 use Rattle.std.specs.List.{list_any}
 use Rattle.gl_base.specs.Bytes.{same_bytes}
 use Rattle.gl_rules.specs.Outcome as outcome
-use Rattle.gl_entry.specs.declared.entry.Entry.{Entry}
 use Rattle.gl_requests.specs.Spelling.{proposal_id}
 use Rattle.gl_requests.specs.declared.request.MemberAct.{MemberAct}
 use Rattle.gl_requests.specs.declared.request.MemberAct.TheVariants as acts
@@ -12,13 +11,12 @@ use Rattle.gl_requests.specs.declared.request.GovernanceRequest.{GovernanceReque
 use Rattle.gl_requests.specs.declared.request.GovernanceRequest.TheVariants as requests
 use Rattle.gl_gov_rules.specs.declared.change.ProposalState.{ProposalState}
 use Rattle.gl_gov_rules.specs.declared.change.ProposalState.TheVariants as states
-use Rattle.gl_gov_rules.specs.Changes.{history}
-use Rattle.gl_gov.specs.State.{proposal_status}
-use Rattle.gl_gov.specs.declared.effect.ProposalStatus.{ProposalStatus}
-use Rattle.gl_ledger.specs.Recordings.{requests_of}
+use Rattle.gl_gov_rules.specs.declared.change.ProposalStatus.{ProposalStatus}
+use Rattle.gl_ledger.specs.declared.made.Given.{Given}
+use Rattle.gl_ledger.specs.declared.made.Given.TheVariants.{Replied, Governed}
 use Rattle.gl_world.specs.World.{ServiceOutcome}
 use Rattle.gl_schedule.specs.declared.line_request.LineRequest.{LineRequest}
-use Rattle.gl_schedule.specs.declared.outcome.NumberedProposal.{NumberedProposal}
+use Rattle.gl_schedule.specs.declared.proposals.NumberedProposal.{NumberedProposal}
 
 -- Requests
 
@@ -51,11 +49,14 @@ proposals_after ids request (outcome.Accepted view seqno given) =
     with_proposal ids (proposal_made request)
 proposals_after ids request other = ids
 
--- The proposal that an accepted request concerns, in the state that a ledger gives it.
-abbrev pub status_after : List Entry → GovernanceRequest → ServiceOutcome → Option ProposalStatus
-status_after log request (outcome.Accepted view seqno given) =
-    proposal_status (history (requests_of log)) request
-status_after log request other = None
+abbrev pub status_given : Given → Option ProposalStatus
+status_given (Replied answers) = None
+status_given (Governed status) = status
+
+-- The proposal that an accepted request concerns, in the state that it then has.
+abbrev pub status_after : ServiceOutcome → Option ProposalStatus
+status_after (outcome.Accepted view seqno given) = status_given given
+status_after other = None
 
 abbrev pub number_at : Option ℕ → ℕ
 number_at None = 0
@@ -89,5 +90,5 @@ numbered_in ids None = None
 numbered_in ids (Some status) = Some (numbered_proposal ids status)
 
 -- What is told behind the outcome of a request.
-abbrev pub governed_text : List (List ℕ) → List Entry → GovernanceRequest → ServiceOutcome → List ℕ
-governed_text ids log request o = proposal_text (numbered_in ids (status_after log request o))
+abbrev pub governed_text : List (List ℕ) → ServiceOutcome → List ℕ
+governed_text ids o = proposal_text (numbered_in ids (status_after o))

@@ -5,6 +5,5 @@ pub mod Governed
 pub mod Told
 pub mod Moments
 pub mod Playable
-pub mod Machine
-pub mod LineAnswers
+pub mod Playing
 pub mod Play

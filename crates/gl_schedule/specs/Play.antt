@@ -1,60 +1,141 @@
--- The machine beside what was told.
-use Rattle.std.specs.Prelude.{◌≡◌, ℕ, List, [], ◌∷◌, ◌++◌, Option}
+-- A machine beside what was told.
+use Rattle.std.specs.Prelude.{◌≡◌, ℕ, suc, List, [], ◌∷◌, ◌++◌, Option, None, Some, Bool, true, false, nat_lt, if◌then◌else◌}
 use Rattle.std.specs.Io.KnownBytes.{Appends}
 use Rattle.gl_outside.specs.Sink.{AppendsFront}
-use Rattle.gl_rules.specs.Outcome.{quiet}
-use Rattle.gl_rules.specs.Requests.{govern}
+use Rattle.gl_rules.specs.Outcome.{Refusal}
+use Rattle.gl_rules.specs.Outcome as outcome
+use Rattle.gl_replication.specs.declared.done.Refusal.TheVariants as refusals
+use Rattle.gl_ledger.specs.declared.made.Unmade.{Unmade}
+use Rattle.gl_world.specs.Running.{ServiceRefusal}
 use Rattle.gl_requests.specs.declared.request.GovernanceRequest.{GovernanceRequest}
+use Rattle.gl_world.specs.declared.event.Event.{Event}
+use Rattle.gl_world.specs.declared.event.Event.TheVariants as events
 use Rattle.gl_world.specs.declared.settings.Settings.{Settings}
-use Rattle.gl_world.specs.Founding.{id_of}
-use Rattle.gl_world.specs.Group.{book_of}
-use Rattle.gl_world.specs.World.{ServiceOutcome}
+use Rattle.gl_world.specs.Founding.{node_ids}
+use Rattle.gl_world.specs.Happened.{answer_to, with_event}
+use Rattle.gl_world.specs.Held.{is_among, seen_event, seen_events, world_now}
 use Rattle.gl_lines.specs.declared.line.Line.{Line}
-use Rattle.gl_schedule.specs.declared.machine.Machine.{Machine}
-use Rattle.gl_schedule.specs.declared.outcome.LineAnswer.{LineAnswer}
-use Rattle.gl_schedule.specs.Machine.{node_in}
-use Rattle.gl_schedule.specs.Told.{Told, Effect, effect_of, told_effect, next_text}
+use Rattle.gl_lines.specs.declared.line.Line.TheVariants as lines
+use Rattle.gl_schedule.specs.Playing.{Playing}
+use Rattle.gl_schedule.specs.Told.{Told, Effect, Happens, Answers, told, told_effect, next_text}
 use Rattle.gl_schedule.specs.Governed.{governed_text, proposals_after}
-use Rattle.gl_schedule.specs.LineAnswers.{line_answer_text}
-use Rattle.gl_schedule.specs.Text.{outcome_text}
+use Rattle.gl_schedule.specs.Text.{outcome_text, sent_text, unnamed_text}
 
--- The machine is node 1 of the world, and knows the requests and proposals that were told, and who
--- signed.
-pub record IsIn (t : Told) (m : Machine) : Type 0 where
-  pub node : t.world.nodes (id_of m.settings 1) ≡ node_in m
-  pub requests : t.requests ≡ m.requests.items
+-- The machine's world is the one that was told, by the same events, and it knows the requests and
+-- proposals that were told, and who signed.
+pub record IsIn (t : Told) (m : Playing) : Type 0 where
+  pub world : t.world ≡ world_now m.world
+  pub events : t.events ≡ seen_events m.world
+  pub requests : t.requests ≡ m.requests
   pub proposals : t.proposals ≡ m.proposals
-  pub signed : t.signed ≡ m.members.signed
+  pub signed : t.signed ≡ m.signed
 
--- What the machine answered is what is told of an effect, and then it is in what was told again.
-pub record TellsEffect (t : Told) (e : Effect) (old new : Machine) (answer : LineAnswer) :
+-- What was written is the text of an effect, and then the machine is in what was told again.
+pub record TellsEffect (t : Told) (e : Effect) (old new : Playing) (before after : List ℕ) :
     Type 0 where
-  pub text : (told_effect old.settings t e).text
-      ≡ next_text t (line_answer_text old.settings (node_in new) answer)
-  pub is_in : IsIn (told_effect old.settings t e) new
+  pub settings : new.world.settings ≡ old.world.settings
+  pub text : List ℕ
+  pub told : (told_effect old.world.settings t e).text ≡ next_text t text
+  pub written : after ≡ before ++ text
+  pub is_in : IsIn (told_effect old.world.settings t e) new
 
--- The same of the effect of a line.
-abbrev pub Tells : Told → Line → Machine → Machine → LineAnswer → Type 0
-Tells t line old new answer = TellsEffect t (effect_of old.settings t line) old new answer
+-- The same of the effect that the line with this number has, by the settings of the service and by
+-- what was told so far.
+abbrev pub Tells : ℕ → (Settings → Told → Effect) → Playing → Playing → List ℕ → List ℕ → Type 0
+Tells number effect old new before after =
+    (t : Told) → IsIn t old → suc t.lines ≡ number →
+    TellsEffect t (effect old.world.settings t) old new before after
 
--- The members, the requests and the proposals are as before.
-pub record KeepsLists (old new : Machine) : Type 0 where
-  pub members : new.members ≡ old.members
-  pub requests : new.requests ≡ old.requests
-  pub proposals : new.proposals ≡ old.proposals
+-- The same whatever the number of the line.
+abbrev pub TellsAnywhere : (Settings → Told → Effect) → Playing → Playing → List ℕ → List ℕ →
+    Type 0
+TellsAnywhere effect old new before after = (number : ℕ) → Tells number effect old new before after
 
--- A request of governance reached the machine's node, and is noted under the number of its line.
-pub record Sends (old : Machine) (number : ℕ) (g : GovernanceRequest) (new : Machine)
-    (answer : LineAnswer) : Type 0 where
-  pub settings : new.settings ≡ old.settings
-  pub outcome : ServiceOutcome
-  pub steps : govern (book_of old.settings) g (node_in old) ≡ quiet (node_in new) outcome
-  pub members : new.members ≡ old.members
-  pub requests : new.requests.items
-      ≡ old.requests.items ++ record { line = number; request = g } ∷ []
-  pub proposals : new.proposals ≡ proposals_after old.proposals g outcome
-  pub told : (s : Settings) → line_answer_text s (node_in new) answer
-      ≡ outcome_text s outcome ++ governed_text new.proposals new.store.ledger g outcome
+-- ---- events
+
+-- A number as a byte: 0, which names no node, for one that is too large.
+abbrev pub byte_number : ℕ → ℕ
+byte_number number = if nat_lt number 256 then number else 0
+
+-- An event is refused that names a node or a message that there isn't.
+abbrev pub event_effect : Event → Settings → Told → Effect
+event_effect event s t =
+    if is_among (node_ids s) t.world.sent event then Happens (seen_event s event)
+    else Answers unnamed_text
+
+-- The event for which a line asks that names nodes alone.
+abbrev pub event_in : Line → Option Event
+event_in (lines.Timeout node) = Some (events.Timeout (byte_number node))
+event_in (lines.Submit node request) = Some (events.Submit (byte_number node) request)
+event_in (lines.Reserve node) = Some (events.Reserve (byte_number node))
+event_in (lines.Sign node) = Some (events.Sign (byte_number node))
+event_in (lines.Replicate node to) =
+    Some (events.Replicate (byte_number node) (byte_number to))
+event_in (lines.Advance node) = Some (events.Advance (byte_number node))
+event_in (lines.StepDown node to) = Some (events.StepDown (byte_number node) (byte_number to))
+event_in (lines.Restart node) = Some (events.Restart (byte_number node))
+event_in other = None
+
+-- ---- requests of governance
+
+-- A member asks for something in the line.
+abbrev pub asks : Line → Bool
+asks (lines.Ack node member) = true
+asks (lines.Propose node member list) = true
+asks (lines.Ballot node member proposal agrees) = true
+asks (lines.Withdraw node member proposal) = true
+asks other = false
+
+-- A request of governance reached a node, and its outcome was told.
+pub record Governs (old : Playing) (node : ℕ) (g : GovernanceRequest) (new : Playing)
+    (before after : List ℕ) : Type 0 where
+  pub becomes : new ≡ record old {
+    world = with_event old.world (events.Govern node g);
+    proposals = proposals_after old.proposals g (answer_to old.world (events.Govern node g));
+  }
+  pub written : after ≡ before
+      ++ (outcome_text old.world.settings (answer_to old.world (events.Govern node g))
+      ++ governed_text new.proposals (answer_to old.world (events.Govern node g)))
+
+-- It is noted under the number of its line, and the messages were told that were sent for it.
+pub record Sends (old : Playing) (number node : ℕ) (g : GovernanceRequest) (new : Playing)
+    (before after : List ℕ) : Type 0 where
+  pub becomes : new ≡ record old {
+    world = with_event old.world (events.Govern node g);
+    requests = old.requests ++ record { line = number; request = g } ∷ [];
+    proposals = proposals_after old.proposals g (answer_to old.world (events.Govern node g));
+  }
+  pub written : after ≡ before
+      ++ ((outcome_text old.world.settings (answer_to old.world (events.Govern node g))
+      ++ governed_text new.proposals (answer_to old.world (events.Govern node g)))
+      ++ sent_text (world_now old.world) (world_now new.world))
+
+-- ---- refusals
+
+-- A refusal as the rules know it, unless memory ran out.
+abbrev pub seen_refusal : {S : Type 0} → ServiceRefusal S → Option (Refusal Unmade)
+seen_refusal refusals.NoMemory = None
+seen_refusal (refusals.NotPrimary view leader) = Some (outcome.NotPrimary view leader)
+seen_refusal (refusals.TooManyPending limit) = Some (outcome.TooManyPending limit)
+seen_refusal (refusals.NotReserved reserved) = Some (outcome.NotReserved reserved)
+seen_refusal (refusals.KeyExhausted reserved) = Some (outcome.KeyExhausted reserved)
+seen_refusal (refusals.NothingToSign seqno) = Some (outcome.NothingToSign seqno)
+seen_refusal (refusals.RemovalNotCommitted seqno commit) =
+    Some (outcome.RemovalNotCommitted seqno commit)
+seen_refusal (refusals.BelowCommit commit seqno) = Some (outcome.BelowCommit commit seqno)
+seen_refusal refusals.NotPeer = Some outcome.NotPeer
+seen_refusal (refusals.BelowBase base) = Some (outcome.BelowBase base)
+seen_refusal refusals.ViewLimit = Some outcome.ViewLimit
+seen_refusal (refusals.ByLedger why) = Some (outcome.ByLedger why)
+
+-- ---- lines
+
+-- Behind a line the machine is in what was told with it, and has the same settings.
+pub record GoesOn (t : Told) (line : Line) (old new : Playing) : Type 0 where
+  pub settings : new.world.settings ≡ old.world.settings
+  pub is_in : IsIn (told old.world.settings t line) new
+
+-- ---- sinks
 
 -- What a sink that held a text was given, so that it holds a longer one.
 abbrev pub Extends : Option (List ℕ) → Option (List ℕ) → List ℕ → List ℕ → Type 0

@@ -1,5 +1,8 @@
 -- The service of a schedule, and which texts are schedules.
-use Rattle.std.specs.Prelude.{ℕ, List, Result, Ok, Err, length, ◌==◌, if◌then◌else◌}
+use Rattle.std.specs.Prelude.{ℕ, List, [], ◌∷◌, Result, Ok, Err, Bool, true, not, ◌&&◌, length, ◌==◌, if◌then◌else◌}
+use Rattle.std.specs.List.{list_any}
+use Rattle.gl_base.specs.Bytes.{same_bytes}
+use Rattle.gl_rules.specs.Identity.{NodeId}
 use Rattle.gl_requests.specs.declared.genesis.ServiceState.TheVariants.{Opening, Open}
 use Rattle.gl_lines.specs.declared.world.WorldLine.{WorldLine}
 use Rattle.gl_base.specs.Steps.{◌>>=◌}
@@ -20,10 +23,22 @@ settings_of world = record {
   seed = world.seed;
 }
 
--- The service that a first line begins. A seed that gives two members one key begins none.
+-- No two of these identifiers are one.
+abbrev pub are_apart : List NodeId → Bool
+are_apart [] = true
+are_apart (x ∷ xs) = not (list_any (λ y. same_bytes y x) xs) && are_apart xs
+
+-- No two nodes have one identifier, of those that start and those that join.
+abbrev pub has_distinct_ids : Settings → Bool
+has_distinct_ids s = are_apart (node_ids s)
+
+-- The service that a first line begins. A seed that gives two members one key, or two nodes one
+-- identifier, begins none.
 abbrev pub service_of : WorldLine → Result Settings ScheduleFault
 service_of world =
-    if has_distinct_keys (settings_of world) then Ok (settings_of world) else Err (BadLine 1)
+    if has_distinct_keys (settings_of world) && has_distinct_ids (settings_of world)
+    then Ok (settings_of world)
+    else Err (BadLine 1)
 
 -- The schedule that a text is, or the number of its first bad line, from 1. No bytes are a schedule
 -- without a service.

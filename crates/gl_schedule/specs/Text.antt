@@ -1,14 +1,17 @@
 -- The text of what comes of a line.
-use Rattle.std.specs.Prelude.{ℕ, zero, suc, ◌+◌, ◌-◌, List, [], ◌∷◌, ◌++◌, Option, None, Some, length, drop, codes, decimal, if◌then◌else◌}
+use Rattle.std.specs.Prelude.{ℕ, zero, suc, ◌+◌, ◌-◌, List, [], ◌∷◌, ◌++◌, Option, None, Some, length, drop, position, codes, decimal}
 use Rattle.std.specs.List.{flat_map}
 use Rattle.hex.specs.Hex.{encode_lower}
 use Rattle.gl_base.specs.declared.tx_id.Status as statuses
 use Rattle.gl_base.specs.declared.tx_id.Status.TheVariants as status
 use Rattle.gl_base.specs.TxId.{text_of}
-use Rattle.gl_rules.specs.Identity.{NodeId, same}
+use Rattle.gl_base.specs.Bytes.{same_bytes}
+use Rattle.gl_rules.specs.Identity.{NodeId}
 use Rattle.gl_rules.specs.Outcome.{Refusal}
 use Rattle.gl_rules.specs.Outcome as outcome
 use Rattle.gl_rules.specs.Node.{Node}
+use Rattle.gl_rules.specs.Retirement.{Stage}
+use Rattle.gl_rules.specs.Retirement as stages
 use Rattle.gl_rules.specs.Safety.{committed_ledger}
 use Rattle.gl_entry.specs.Entry.{frame_bytes}
 use Rattle.gl_entry.specs.declared.entry.Entry.{Entry}
@@ -18,10 +21,13 @@ use Rattle.gl_tx.specs.declared.request.Answer.TheVariants as answers
 use Rattle.gl_tx.specs.Abort.{number_of}
 use Rattle.gl_ledger.specs.declared.refusal.Refusal.TheVariants as refusals
 use Rattle.gl_world.specs.declared.settings.Settings.{Settings}
-use Rattle.gl_world.specs.Founding.{id_of, numbers_from}
+use Rattle.gl_world.specs.Founding.{node_ids, numbers_from}
 use Rattle.gl_world.specs.Members.{leaf_limit}
 use Rattle.gl_world.specs.World.{ServiceOutcome, ServiceWorld}
-use Rattle.gl_ledger.specs.Makers.{Given, Replied, Governed, Unmade, ByStore, Unspelled, NoEvidenceYet, Founding, ByRule}
+use Rattle.gl_ledger.specs.declared.made.Given.{Given}
+use Rattle.gl_ledger.specs.declared.made.Given.TheVariants.{Replied, Governed}
+use Rattle.gl_ledger.specs.declared.made.Unmade.{Unmade}
+use Rattle.gl_ledger.specs.declared.made.Unmade.TheVariants.{ByStore, Unspelled, NoEntry, NoEvidenceYet, Founding, ByRule}
 use Rattle.gl_schedule.specs.GovernanceText.{with_numbers, governance_text}
 
 -- A value in hexadecimal, or a full stop for one of no bytes.
@@ -48,7 +54,7 @@ answers_text (a ∷ rest) = answer_text a ++ answers_behind rest
 
 abbrev pub given_text : Given → List ℕ
 given_text (Replied answers) = codes " " ++ answers_text answers
-given_text Governed = []
+given_text (Governed status) = []
 
 abbrev pub unmade_text : Unmade → List ℕ
 unmade_text (ByStore (refusals.ServiceState state)) =
@@ -59,18 +65,19 @@ unmade_text (ByStore (refusals.TooLarge size)) = with_numbers (codes "119") (siz
 unmade_text (ByStore refusals.SeqnoLimit) = codes "130"
 unmade_text (ByStore (refusals.Governance why)) = governance_text why
 unmade_text Unspelled = codes "117"
+unmade_text NoEntry = codes "117"
 unmade_text NoEvidenceYet = codes "117"
 unmade_text Founding = codes "117"
 unmade_text (ByRule broken) = codes "117"
 
--- The number of a node, by its identifier.
-abbrev number_among : Settings → NodeId → List ℕ → List ℕ
-number_among s y [] = codes "-"
-number_among s y (n ∷ ns) = if same y (id_of s n) then decimal n else number_among s y ns
+-- A node is told by its number: its place among all nodes, from 1.
+abbrev pub node_text : Option ℕ → List ℕ
+node_text None = codes "-"
+node_text (Some index) = decimal (suc index)
 
-abbrev leader_text : Settings → Option NodeId → List ℕ
+abbrev pub leader_text : Settings → Option NodeId → List ℕ
 leader_text s None = codes "-"
-leader_text s (Some y) = number_among s y (numbers_from 1 (s.starting + s.joiners))
+leader_text s (Some y) = node_text (position (same_bytes y) (node_ids s))
 
 -- A refusal's number and its values.
 abbrev pub refusal_text : Settings → Refusal Unmade → List ℕ
@@ -109,6 +116,14 @@ status_text status.Unknown = codes "Unknown"
 status_text status.Pending = codes "Pending"
 status_text status.Committed = codes "Committed"
 status_text status.Invalid = codes "Invalid"
+
+-- How far a retirement has come.
+abbrev pub stage_text : Option Stage → List ℕ
+stage_text None = codes "none"
+stage_text (Some stages.Ordered) = codes "Ordered"
+stage_text (Some stages.Signed) = codes "Signed"
+stage_text (Some stages.Completed) = codes "Completed"
+stage_text (Some stages.RetiredCommitted) = codes "RetiredCommitted"
 
 -- So many new messages are told by their numbers, which go on from those before.
 abbrev pub new_messages : ℕ → ℕ → List ℕ

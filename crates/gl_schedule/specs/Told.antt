@@ -1,9 +1,12 @@
 -- What a schedule tells. One fold over its lines makes the events, the world and the text.
-use Rattle.std.specs.Prelude.{ℕ, suc, ◌+◌, List, [], ◌∷◌, ◌++◌, Option, None, Some, ◌&&◌, nat_le, nat_lt, fold, option_to_list, codes, if◌then◌else◌}
+use Rattle.std.specs.Prelude.{ℕ, zero, suc, ◌+◌, List, [], ◌∷◌, ◌++◌, Option, None, Some, ◌&&◌, nat_le, nat_lt, is_some, slice_get, fold, option_to_list, codes, if◌then◌else◌}
 use Rattle.gl_rules.specs.Identity.{NodeId}
+use Rattle.gl_rules.specs.Message.{Message}
+use Rattle.gl_rules.specs.Retirement.{stage_at}
 use Rattle.gl_rules.specs.World.{happens, begin}
 use Rattle.gl_rules.specs.World as event
 use Rattle.gl_rules.specs.Safety.{reported_status}
+use Rattle.gl_entry.specs.declared.entry.Entry.{Entry}
 use Rattle.gl_requests.specs.Ranges.{is_member_number}
 use Rattle.gl_requests.specs.declared.action.Action.{Action}
 use Rattle.gl_requests.specs.declared.request.MemberAct.{MemberAct}
@@ -11,7 +14,8 @@ use Rattle.gl_requests.specs.declared.request.MemberAct.TheVariants as acts
 use Rattle.gl_requests.specs.declared.request.GovernanceRequest.{GovernanceRequest}
 use Rattle.gl_requests.specs.declared.request.GovernanceRequest.TheVariants as requests
 use Rattle.gl_world.specs.declared.settings.Settings.{Settings}
-use Rattle.gl_world.specs.Founding.{id_of}
+use Rattle.gl_world.specs.Founding.{id_of, node_ids, node_of}
+use Rattle.gl_world.specs.Held.{receiver_in}
 use Rattle.gl_world.specs.Members.{next_leaf, leaf_limit, member_request}
 use Rattle.gl_service.specs.Service.{ServiceEvent}
 use Rattle.gl_world.specs.Group.{book_of}
@@ -23,7 +27,7 @@ use Rattle.gl_schedule.specs.declared.line_request.LineRequest.{LineRequest}
 use Rattle.gl_schedule.specs.declared.schedule.Schedule.{Schedule}
 use Rattle.gl_schedule.specs.declared.schedule.Schedule.TheVariants.{Empty, Service}
 use Rattle.gl_schedule.specs.Governed.{governed_text, proposals_after, request_named}
-use Rattle.gl_schedule.specs.Text.{committed_entries, held_entries, ids_text, ledger_text, no_proposal_text, numbered, outcome_text, sent_text, spent_text, status_text, unnamed_text}
+use Rattle.gl_schedule.specs.Text.{committed_entries, held_entries, ids_text, ledger_text, no_proposal_text, numbered, outcome_text, sent_text, spent_text, stage_text, status_text, unnamed_text}
 
 -- What was told so far.
 pub record Told : Type 0 where
@@ -42,7 +46,8 @@ pub record Told : Type 0 where
   pub signed : List ℕ
 
 -- What a line comes to: an event of the service; a request of governance that reaches a node, which
--- a member signed for this line, or which an earlier line made; or an answer that changes nothing.
+-- a member signed for this line, or which nobody signs or an earlier line made; or an answer that
+-- changes nothing.
 pub data Effect : Type 0 where
   Happens : (event : ServiceEvent) → Effect
   Governs : (x : NodeId) (signer : Option ℕ) (request : GovernanceRequest) → Effect
@@ -61,6 +66,18 @@ at_named (Some x) effect = effect x
 
 abbrev pub at_node : Settings → ℕ → (NodeId → Effect) → Effect
 at_node s number effect = at_named (node_named s number) effect
+
+-- Two nodes are named, the one at which the event happens first.
+abbrev pub at_nodes : Settings → ℕ → ℕ → (NodeId → NodeId → Effect) → Effect
+at_nodes s number other effect = at_node s number (λ x. at_node s other (effect x))
+
+-- Messages are numbered from 1, in the order in which they were sent. One is delivered where there
+-- is one with the number, and it is for a node that the service has.
+abbrev pub delivers : Settings → List (Message Entry) → ℕ → Effect
+delivers s sent zero = Answers unnamed_text
+delivers s sent (suc index) =
+    if is_some (receiver_in (node_ids s) (slice_get sent index)) then Happens (event.Deliver index)
+    else Answers unnamed_text
 
 -- Members have the numbers from 1 to 255, also those that the service doesn't have.
 abbrev pub at_member : ℕ → Effect → Effect
@@ -91,6 +108,8 @@ repeats x (Some r) = Governs x None r.request
 
 -- The effect of a line behind what was told so far.
 abbrev pub effect_of : Settings → Told → Line → Effect
+effect_of s t (lines.Timeout node) = at_node s node (λ x. Happens (event.Timeout x))
+effect_of s t (lines.Deliver message) = delivers s t.world.sent message
 effect_of s t (lines.Submit node operations) =
     at_node s node (λ x. Happens (event.Submit x operations))
 effect_of s t (lines.Ack node member) =
@@ -103,14 +122,26 @@ effect_of s t (lines.Ballot node member proposal agrees) =
 effect_of s t (lines.Withdraw node member proposal) =
     at_node s node (λ x. at_member member (at_proposal (id_at t.proposals proposal) (λ id.
     signs s t x member (acts.Withdraw id))))
+effect_of s t (lines.Join node joiner) =
+    at_nodes s node joiner (λ x y. Governs x None (requests.Join (node_of s joiner)))
+effect_of s t (lines.Mark node marked) =
+    at_nodes s node marked (λ x y. Governs x None (requests.Mark y))
 effect_of s t (lines.Again node line) =
     at_node s node (λ x. repeats x (request_named t.requests line))
 effect_of s t (lines.Reserve node) = at_node s node (λ x. Happens (event.Reserve x))
 effect_of s t (lines.Sign node) = at_node s node (λ x. Happens (event.Sign x))
+effect_of s t (lines.Replicate node to) =
+    at_nodes s node to (λ x y. Happens (event.Replicate x y))
 effect_of s t (lines.Advance node) = at_node s node (λ x. Happens (event.Advance x))
+effect_of s t (lines.StepDown node to) =
+    at_nodes s node to (λ x y. Happens (event.StepDown x y))
+effect_of s t (lines.Restart node) = at_node s node (λ x. Happens (event.Restart x))
 effect_of s t (lines.Status node id) =
     at_node s node (λ x.
     Answers (status_text (reported_status (book_of s) (t.world.nodes x) id)))
+effect_of s t (lines.Stage node other) =
+    at_nodes s node other (λ x y.
+    Answers (stage_text (stage_at (book_of s) (t.world.nodes x) y)))
 effect_of s t (lines.Ids node) =
     at_node s node (λ x. Answers (ids_text (committed_entries (t.world.nodes x))))
 effect_of s t (lines.Ledger node) =
@@ -133,7 +164,7 @@ told_event s t e =
 
 -- So does a request of governance. It is noted for lines that send it again. Where it is accepted, a
 -- proposal that it makes gets a number, and the proposal that it concerns is told, in the state that
--- the node's ledger then gives it.
+-- it then has.
 abbrev pub told_request : Settings → Told → NodeId → Option ℕ → GovernanceRequest → Told
 told_request s t x signer request =
     let done = happens (book_of s) t.world (event.Govern x request) in
@@ -142,8 +173,7 @@ told_request s t x signer request =
       lines = suc t.lines;
       world = done.world;
       events = t.events ++ event.Govern x request ∷ [];
-      text = next_text t ((outcome_text s done.outcome
-          ++ governed_text proposals (done.world.nodes x).log request done.outcome)
+      text = next_text t ((outcome_text s done.outcome ++ governed_text proposals done.outcome)
           ++ sent_text t.world done.world);
       requests = t.requests ++ record { line = suc t.lines; request = request } ∷ [];
       proposals = proposals;

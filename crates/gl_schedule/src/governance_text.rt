@@ -9,7 +9,7 @@ use gl_requests::Digest;
 use std::alloc::{AllocError, Global};
 
 /// A number behind a word.
-fn put_one(out: &mut Vec<u8>, word: &[u8], n: u64) -> Result<(), AllocError>
+pub fn put_one(out: &mut Vec<u8>, word: &[u8], n: u64) -> Result<(), AllocError>
     ensures { OnOk result (out.new.items ≡ out.old.items ++ with_numbers word.now (n ∷ [])) }
 {
     out.extend_from_slice(word)?;
@@ -17,7 +17,7 @@ fn put_one(out: &mut Vec<u8>, word: &[u8], n: u64) -> Result<(), AllocError>
 }
 
 /// Two numbers behind a word.
-fn put_two(out: &mut Vec<u8>, word: &[u8], first: u64, second: u64) -> Result<(), AllocError>
+pub fn put_two(out: &mut Vec<u8>, word: &[u8], first: u64, second: u64) -> Result<(), AllocError>
     ensures { OnOk result
         (out.new.items ≡ out.old.items ++ with_numbers word.now (first ∷ second ∷ [])) }
 {

@@ -1,13 +1,16 @@
-//! Schedules: a service and the lines of what happens to it, read, played at its one node, and told.
+//! Schedules: a service and the lines of what happens to it, read, played at its nodes, and told.
 #![tactic(auto)]
 
+mod event_line;
 mod governance_text;
 mod line_request;
 mod machine;
-mod outcome;
+mod numbers;
+mod outcome_text;
 mod player;
 mod proposals;
 mod schedule;
+mod service_key;
 mod text;
 
 pub use player::play;

@@ -1,69 +1,131 @@
-//! The one node of a schedule.
+//! The service of a schedule, and what its lines come to.
 
-ghost use Rattle.std.specs.Prelude.{◌≡◌, ◌≤◌, suc, IfOk, OnErr, OnOk};
+ghost use Rattle.std.specs.Prelude.{◌≡◌, ◌∷◌, ◌++◌, [], None, true, length, IfOk, OnOk};
+ghost use Rattle.gl_world.specs.AtStart.{StandAtStart};
+ghost use Rattle.gl_world.specs.Founding.{node_ids};
+ghost use Rattle.gl_world.specs.Group.{IsGroup};
+ghost use Rattle.gl_world.specs.Happened.{answer_to, with_event};
+ghost use Rattle.gl_world.specs.Held.{may_happen, world_now};
+ghost use Rattle.gl_lines.specs.Kept.{IsFit};
+ghost use Rattle.gl_schedule.specs.Play.{IsIn, Tells, TellsAnywhere, event_effect, event_in};
+ghost use Rattle.gl_schedule.specs.Text.{outcome_text};
+ghost use Rattle.gl_schedule.specs.Told.{delivers, effect_of, told_at_start};
 
+use crate::event_line::event_in;
 use crate::line_request::LineRequest;
-use crate::outcome::{LineAnswer, Outcome, Refusal};
+use crate::outcome_text::{put_outcome, put_refusal};
 use crate::proposals::Proposals;
-use gl_base::{OrNoMemory, Status, TxId};
+use crate::service_key::service_key;
+use crate::text::{put_sent, put_unnamed};
 use gl_entry::NodeId;
-use gl_hss::HssSigner;
+use gl_hss::{HssPublic, Levels, LmsKey};
+use gl_ledger::{Given, Reads, Unmade};
 use gl_lines::Line;
-use gl_store::Store;
+use gl_replication::Book;
+use gl_requests::GovernanceRequest;
 use gl_tx::Request;
-use gl_world::{Founding, Members, Settings};
+use gl_world::{Event, Members, Settings, World};
 use std::alloc::{AllocError, Global};
+use std::marker::Model;
 
 mod governance;
+mod members;
+mod questions;
 
-/// The view that the node leads.
-const VIEW: u32 = 2;
-
-/// The node: its store, and the signer of its key; and the members who sign for its schedule, with
-/// what their lines may name.
+/// The service of a schedule: its world, the members who sign for it, and what its lines may name.
 #[derive(Drop)]
-pub struct Machine {
-    pub settings: Settings,
-    pub id: NodeId,
-    pub store: Store,
-    pub signer: HssSigner,
-    pub members: Members,
+pub struct Machine<
+    B: Book<
+        Request = Request,
+        Gov = GovernanceRequest,
+        Reads = Reads,
+        Given = Given,
+        Refused = Unmade,
+    >,
+> {
+    settings: Settings,
+    world: World<B>,
+    /// The identifiers of the nodes, in the order of their numbers.
+    ids: Vec<NodeId>,
+    /// The service's key, which endorses the nodes that join.
+    service: LmsKey,
+    members: Members,
     /// The requests of governance that lines made.
-    pub requests: Vec<LineRequest>,
-    pub proposals: Proposals,
-    pub alloc: Global,
+    requests: Vec<LineRequest>,
+    proposals: Proposals,
+    alloc: Global,
 }
 
-impl Machine {
-    ghost use Rattle.gl_rules.specs.Requests.{submit, reserve, sign};
-    ghost use Rattle.gl_rules.specs.Replication.{advance};
-    ghost use Rattle.gl_rules.specs.Safety.{reported_status};
-    ghost use Rattle.gl_world.specs.Group.{book_of};
-    ghost use Rattle.gl_world.specs.Single.{IsSingle};
-    ghost use Rattle.gl_lines.specs.Kept.{IsFit};
-    ghost use Rattle.gl_lines.specs.Nodes.{node_of};
-    ghost use Rattle.gl_schedule.specs.Play.{IsIn, KeepsLists, Tells};
-    ghost use Rattle.gl_schedule.specs.Told.{Told, told_at_start};
-    ghost use Rattle.gl_schedule.specs.Machine.{IsMachine, GoesOn, Steps, node_in};
+impl<
+    B: Book<
+        Request = Request,
+        Gov = GovernanceRequest,
+        Reads = Reads,
+        Given = Given,
+        Refused = Unmade,
+    >,
+> Model for Machine<B> {
+    ghost use Rattle.gl_schedule.specs.Playing.{AreOfOne, Playing};
 
-    /// The node as its service begins.
-    pub fn begin(alloc: Global, settings: Settings) -> Result<Self, AllocError>
-        requires { IsSingle settings }
-        ensures machine { IfOk result (λ machine. IsMachine machine) }
-        ensures settings { IfOk result (λ machine. machine.settings ≡ settings) }
+    ghost Value = { Playing };
+
+    ghost view = { λ m. record {
+      world = m.world;
+      requests = m.requests.items;
+      proposals = m.proposals;
+      signed = m.members.signed;
+    } };
+
+    ghost invariant = { λ m.
+        AreOfOne m.settings m.world m.ids.items m.service m.members m.requests.items };
+}
+
+/// The identifiers of all nodes of a world, in the order of their numbers.
+fn ids_in<
+    B: Book<
+        Request = Request,
+        Gov = GovernanceRequest,
+        Reads = Reads,
+        Given = Given,
+        Refused = Unmade,
+    >,
+>(alloc: Global, world: &World<B>, settings: &Settings) -> Result<Vec<NodeId>, AllocError>
+    requires group { IsGroup settings.now }
+    requires settings { world.now.settings ≡ settings.now }
+    ensures { IfOk result (λ ids. ids.items ≡ node_ids settings.now) }
+{
+    let mut ids = Vec::new(alloc);
+    for i in 0..settings.starting + settings.joiners {
+        ids.push(world.id(i + 1))?;
+    }
+    Ok(ids)
+}
+
+impl<
+    B: Book<
+        Request = Request,
+        Gov = GovernanceRequest,
+        Reads = Reads,
+        Given = Given,
+        Refused = Unmade,
+    >,
+> Machine<B> {
+    /// The service as it begins, with a store for each of its nodes.
+    pub fn begin(alloc: Global, settings: Settings, books: Vec<B>) -> Result<Self, AllocError>
+        requires group { IsGroup settings }
+        requires books { StandAtStart B.stands settings books.items }
+        ensures settings { IfOk result (λ machine. machine.world.settings ≡ settings) }
         ensures is_in { IfOk result (λ machine. IsIn (told_at_start settings) machine) }
     {
-        let mut founding = Founding::make(alloc, &settings)?;
-        let id = founding.node_id();
-        // No leaf of the new key is reserved yet, so one is left.
-        let _ = founding.signer.reserve();
-        let members = Members::new(alloc, settings, founding.genesis.identity)?;
-        let store = Store::begin(alloc, founding.genesis, id, &mut founding.signer)?;
+        let service = service_key(alloc, &settings)?;
+        let members = Members::new(alloc, settings, service.hss_public(Levels::Two))?;
+        let world = World::new(alloc, settings, books)?;
+        let ids = ids_in(alloc, &world, &settings)?;
         Ok(Machine {
             settings,
-            id,
-            store,
-            signer: founding.signer,
+            world,
+            ids,
+            service,
             members,
             requests: Vec::new(alloc),
             proposals: Proposals::new(alloc),
@@ -71,145 +133,84 @@ impl Machine {
         })
     }
 
-    /// An application request.
-    pub fn submit(&mut self, request: &Request) -> Result<Outcome, AllocError>
-        requires { IsMachine self.old }
-        ensures steps { IfOk result (λ outcome.
-            Steps (submit (book_of self.old.settings) request.now (node_in self.old))
-            self.new outcome) }
-        ensures goes_on { OnOk result (GoesOn self.old self.new) }
-        ensures lists { KeepsLists self.old self.new }
+    /// How many messages were sent.
+    fn sent(&self) -> usize
+        ensures { result ≡ length (world_now self.now.world).sent }
     {
-        prove!(self.store.commit() <= self.store.ledger_len());
-        match self.store.execute(VIEW, request) {
-            Ok((id, reply)) => Ok(Outcome::Accepted(id, reply)),
-            Err(OrNoMemory::Fault(why)) => Ok(Outcome::Refused(Refusal::Store(why))),
-            Err(OrNoMemory::NoMemory) => Err(AllocError),
+        self.world.messages().len()
+    }
+
+    /// One event, of which the outcome is told.
+    fn step(&mut self, event: Event, out: &mut Vec<u8>) -> Result<(), AllocError>
+        requires here { may_happen self.old.world event ≡ true }
+        ensures becomes { OnOk result
+            (self.new ≡ record self.old { world = with_event self.old.world event }) }
+        ensures told { OnOk result (out.new.items ≡ out.old.items
+            ++ outcome_text self.old.world.settings (answer_to self.old.world event)) }
+    {
+        match self.world.step(event) {
+            Ok(outcome) => put_outcome(self.alloc, out, &outcome),
+            Err(why) => put_refusal(self.alloc, out, &self.ids, &why),
         }
     }
 
-    /// One more reserved leaf.
-    pub fn reserve(&mut self) -> Outcome
-        requires { IsMachine self.old }
-        ensures steps { Steps (reserve (book_of self.old.settings) self.old.id (node_in self.old))
-            self.new result }
-        ensures goes_on { GoesOn self.old self.new }
-        ensures lists { KeepsLists self.old self.new }
+    /// The same, and the messages that it sent are told. An event that names a node or a message that
+    /// there isn't is refused.
+    fn happen(&mut self, event: Event, out: &mut Vec<u8>) -> Result<(), AllocError>
+        ensures tells { OnOk result (TellsAnywhere (event_effect event)
+            self.old self.new out.old.items out.new.items) }
     {
-        match self.signer.reserve() {
-            Ok(_) => Outcome::Done,
-            Err(exhausted) => Outcome::Refused(Refusal::KeyExhausted(u64::from(
-                exhausted.reserved,
-            ))),
+        if !self.world.may_happen(&event) {
+            return put_unnamed(out);
         }
+        let before = self.sent();
+        self.step(event, out)?;
+        put_sent(out, before, self.sent())
     }
 
-    /// A signature over the ledger so far.
-    pub fn sign(&mut self) -> Result<Outcome, AllocError>
-        requires { IsMachine self.old }
-        ensures steps { IfOk result (λ outcome.
-            Steps (sign (book_of self.old.settings) self.old.id (node_in self.old))
-            self.new outcome) }
-        ensures goes_on { OnOk result (GoesOn self.old self.new) }
-        ensures lists { KeepsLists self.old self.new }
+    /// The message with a number reaches the node that it is for.
+    fn deliver(&mut self, message: u128, out: &mut Vec<u8>) -> Result<(), AllocError>
+        ensures tells { OnOk result (TellsAnywhere (λ s t. delivers s t.world.sent message)
+            self.old self.new out.old.items out.new.items) }
     {
-        let reserved = self.signer.reserved();
-        if self.signer.used() >= reserved {
-            return Ok(Outcome::Refused(Refusal::NotReserved(u64::from(reserved))));
+        if message == 0 || message > self.sent() as u128 {
+            return put_unnamed(out);
         }
-        let len = self.store.ledger_len();
-        if self.store.last_signature() == len {
-            return Ok(Outcome::Refused(Refusal::NothingToSign(len)));
-        }
-        match self.store.sign(self.id, VIEW, &mut self.signer) {
-            Ok(id) => Ok(Outcome::Signed(id)),
-            Err(OrNoMemory::Fault(why)) => Ok(Outcome::Refused(Refusal::Store(why))),
-            Err(OrNoMemory::NoMemory) => Err(AllocError),
-        }
+        let index = (message - 1) as usize;
+        self.happen(Event::Deliver { message: index }, out)
     }
 
-    /// Commits what is signed: the node alone is a majority.
-    pub fn advance(&mut self) -> Outcome
-        requires { IsMachine self.old }
-        ensures steps { Steps (advance (book_of self.old.settings) self.old.id (node_in self.old))
-            self.new result }
-        ensures goes_on { GoesOn self.old self.new }
-        ensures lists { KeepsLists self.old self.new }
-    {
-        let place = self.store.last_signature();
-        if place <= self.store.commit() {
-            return Outcome::Idle;
-        }
-        self.store.commit_to(place);
-        Outcome::Committed(TxId {
-            view: VIEW,
-            seqno: place,
-        })
-    }
-
-    /// The status of a transaction.
-    pub fn status(&self, id: TxId) -> Status
-        ensures { result ≡ reported_status (book_of self.now.settings) (node_in self.now) id }
-    {
-        self.store.status(id)
-    }
-
-    /// What a line about this node comes to.
-    fn perform(&mut self, number: u64, line: &Line) -> Result<LineAnswer, AllocError>
-        requires machine { IsMachine self.old }
-        requires node { node_of line.now ≡ 1 }
+    /// What a line comes to that isn't an event between nodes.
+    fn answer(&mut self, number: u64, line: &Line, out: &mut Vec<u8>) -> Result<(), AllocError>
         requires fit { IsFit line.now }
-        ensures tells { IfOk result (λ answer. (t : Told) → IsIn t self.old →
-            suc t.lines ≡ number → Tells t line.now self.old self.new answer) }
-        ensures goes_on { OnOk result (GoesOn self.old self.new) }
+        requires other { event_in line.now ≡ None }
+        ensures tells { OnOk result (Tells number (λ s t. effect_of s t line.now)
+            self.old self.new out.old.items out.new.items) }
     {
         match line {
-            Line::Submit { request, .. } => {
-                let outcome = self.submit(request)?;
-                Ok(LineAnswer::Event(outcome))
-            }
-            Line::Ack { member, .. } => self.acknowledge(number, *member),
-            Line::Propose {
-                member,
-                actions,
-                ..
-            } => self.propose(number, *member, actions),
-            Line::Ballot {
-                member,
-                proposal,
-                agrees,
-                ..
-            } => self.ballot(number, *member, *proposal, *agrees),
-            Line::Withdraw {
-                member,
-                proposal,
-                ..
-            } => self.withdraw(number, *member, *proposal),
-            Line::Again { line, .. } => self.repeat(number, *line),
-            Line::Reserve { .. } => Ok(LineAnswer::Event(self.reserve())),
-            Line::Sign { .. } => {
-                let outcome = self.sign()?;
-                Ok(LineAnswer::Event(outcome))
-            }
-            Line::Advance { .. } => Ok(LineAnswer::Event(self.advance())),
-            Line::Status { id, .. } => Ok(LineAnswer::Status(self.status(*id))),
-            Line::Ids { .. } => Ok(LineAnswer::Ids),
-            Line::Ledger { .. } => Ok(LineAnswer::Ledger),
+            Line::Deliver { message } => self.deliver(*message, out),
+            Line::Join { node, joiner } => self.join(number, *node, *joiner, out),
+            Line::Mark { node, marked } => self.mark(number, *node, *marked, out),
+            Line::Again { node, line } => self.repeat(number, *node, *line, out),
+            Line::Status { node, id } => self.tell_status(*node, *id, out),
+            Line::Stage { node, other } => self.tell_stage(*node, *other, out),
+            Line::Ids { node } => self.tell_ids(*node, out),
+            Line::Ledger { node } => self.tell_ledger(*node, out),
+            Line::Ack { .. } | Line::Propose { .. } | Line::Ballot { .. } | Line::Withdraw { .. } =>
+                self.ask_for(number, line, out),
+            _ => unreachable!(),
         }
     }
 
-    /// What the line with a number comes to.
-    pub fn answer(&mut self, number: u64, line: &Line) -> Result<LineAnswer, AllocError>
-        requires machine { IsMachine self.old }
+    /// Plays the line with a number, and tells what it comes to.
+    pub fn play(&mut self, number: u64, line: &Line, out: &mut Vec<u8>) -> Result<(), AllocError>
         requires fit { IsFit line.now }
-        ensures tells { IfOk result (λ answer. (t : Told) → IsIn t self.old →
-            suc t.lines ≡ number → Tells t line.now self.old self.new answer) }
-        ensures goes_on { OnOk result (GoesOn self.old self.new) }
+        ensures tells { OnOk result (Tells number (λ s t. effect_of s t line.now)
+            self.old self.new out.old.items out.new.items) }
     {
-        if line.node() == 1 {
-            self.perform(number, line)
-        } else {
-            Ok(LineAnswer::Unnamed)
+        match event_in(self.alloc, line)? {
+            Some(event) => self.happen(event, out),
+            None => self.answer(number, line, out),
         }
     }
 }

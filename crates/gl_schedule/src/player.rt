@@ -5,57 +5,73 @@ ghost use Rattle.std.specs.Io.KnownBytes.{Appends};
 ghost use Rattle.gl_outside.specs.Fault.{Rose};
 ghost use Rattle.gl_outside.specs.Sink.{AppendsFront};
 ghost use Rattle.std.specs.List.{AllByRecursion};
-ghost use Rattle.gl_world.specs.Single.{IsSingle};
+ghost use Rattle.gl_world.specs.AtStart.{StandAtStart};
+ghost use Rattle.gl_world.specs.Group.{IsGroup};
 ghost use Rattle.gl_lines.specs.Kept.{IsFit};
-ghost use Rattle.gl_schedule.specs.Machine.{IsMachine, GoesOn};
-ghost use Rattle.gl_schedule.specs.Play.{Extends, ExtendsFront, IsIn};
+ghost use Rattle.gl_schedule.specs.Play.{Extends, ExtendsFront, GoesOn, IsIn};
 ghost use Rattle.gl_schedule.specs.Told.{Told, told, told_of};
 
 use crate::machine::Machine;
-use crate::text::answer_line;
+use crate::text::put_number;
+use gl_ledger::{Given, Reads, Unmade};
 use gl_lines::{Line, Lines};
 use gl_outside::{Sink, SinkFault, write_whole};
+use gl_replication::Book;
+use gl_requests::GovernanceRequest;
+use gl_tx::Request;
 use gl_world::Settings;
 use std::alloc::{AllocError, Global};
 
 /// The line, with its number, that tells what a line of the schedule comes to.
-fn line_text(
-    alloc: Global,
-    machine: &mut Machine,
-    number: u64,
-    line: &Line,
-) -> Result<Vec<u8>, AllocError>
-    requires machine { IsMachine machine.old }
+fn line_text<
+    B: Book<
+        Request = Request,
+        Gov = GovernanceRequest,
+        Reads = Reads,
+        Given = Given,
+        Refused = Unmade,
+    >,
+>(alloc: Global, machine: &mut Machine<B>, number: u64, line: &Line) -> Result<Vec<u8>, AllocError>
     requires fit { IsFit line.now }
     ensures text { IfOk result (λ text. (t : Told) → IsIn t machine.old → suc t.lines ≡ number →
-        (told machine.old.settings t line.now).text ≡ t.text ++ text.items) }
-    ensures is_in { OnOk result ((t : Told) → IsIn t machine.old → suc t.lines ≡ number →
-        IsIn (told machine.old.settings t line.now) machine.new) }
-    ensures goes_on { OnOk result (GoesOn machine.old machine.new) }
+        (told machine.old.world.settings t line.now).text ≡ t.text ++ text.items) }
+    ensures goes_on { OnOk result ((t : Told) → IsIn t machine.old → suc t.lines ≡ number →
+        GoesOn t line.now machine.old machine.new) }
 {
-    let answer = machine.answer(number, line)?;
-    answer_line(alloc, number, machine, &answer)
+    let mut text = Vec::new(alloc);
+    put_number(&mut text, number)?;
+    text.extend_from_slice(b" ")?;
+    machine.play(number, line, &mut text)?;
+    text.extend_from_slice(b"\n")?;
+    Ok(text)
 }
 
 /// Plays one line, and writes what came of it.
-fn play_line<K: Sink>(
+fn play_line<
+    B: Book<
+        Request = Request,
+        Gov = GovernanceRequest,
+        Reads = Reads,
+        Given = Given,
+        Refused = Unmade,
+    >,
+    K: Sink,
+>(
     alloc: Global,
-    machine: &mut Machine,
+    machine: &mut Machine<B>,
     number: u64,
     line: &Line,
     sink: &mut K,
 ) -> Result<(), SinkFault>
-    requires machine { IsMachine machine.old }
     requires fit { IsFit line.now }
     ensures whole { OnOk result ((t : Told) → IsIn t machine.old → suc t.lines ≡ number →
         Extends (K.holds sink.old) (K.holds sink.new)
-        t.text (told machine.old.settings t line.now).text) }
-    ensures is_in { OnOk result ((t : Told) → IsIn t machine.old → suc t.lines ≡ number →
-        IsIn (told machine.old.settings t line.now) machine.new) }
-    ensures goes_on { OnOk result (GoesOn machine.old machine.new) }
+        t.text (told machine.old.world.settings t line.now).text) }
+    ensures goes_on { OnOk result ((t : Told) → IsIn t machine.old → suc t.lines ≡ number →
+        GoesOn t line.now machine.old machine.new) }
     ensures front { OnErr result ((t : Told) → IsIn t machine.old → suc t.lines ≡ number →
         ExtendsFront (K.holds sink.old) (K.holds sink.new)
-        t.text (told machine.old.settings t line.now).text) }
+        t.text (told machine.old.world.settings t line.now).text) }
     ensures failed { result ≡ Err SinkFault.Failed → Rose (K.faults sink.old) (K.faults sink.new) }
     ensures never_falls { K.faults sink.old ≤ K.faults sink.new }
 {
@@ -65,15 +81,27 @@ fn play_line<K: Sink>(
     }
 }
 
-/// Plays a schedule: its own line first, and then one for each line behind it.
-pub fn play<K: Sink>(
+/// Plays a schedule over a store for each node of its service: its own line first, and then one for
+/// each line behind it.
+pub fn play<
+    B: Book<
+        Request = Request,
+        Gov = GovernanceRequest,
+        Reads = Reads,
+        Given = Given,
+        Refused = Unmade,
+    >,
+    K: Sink,
+>(
     alloc: Global,
     settings: Settings,
     lines: &Lines,
+    books: Vec<B>,
     sink: &mut K,
 ) -> Result<(), SinkFault>
-    requires single { IsSingle settings }
+    requires group { IsGroup settings }
     requires fit { AllByRecursion IsFit lines.now }
+    requires books { StandAtStart B.stands settings books.items }
     ensures whole { OnOk result
         (Appends (K.holds sink.old) (K.holds sink.new) (told_of settings lines.now).text) }
     ensures front { OnErr result
@@ -81,7 +109,7 @@ pub fn play<K: Sink>(
     ensures failed { result ≡ Err SinkFault.Failed → Rose (K.faults sink.old) (K.faults sink.new) }
     ensures never_falls { K.faults sink.old ≤ K.faults sink.new }
 {
-    let mut machine = match Machine::begin(alloc, settings) {
+    let mut machine = match Machine::begin(alloc, settings, books) {
         Ok(machine) => machine,
         Err(_) => return Err(SinkFault::NoMemory),
     };

@@ -6,11 +6,17 @@ ghost use Rattle.gl_base.specs.Bytes.{same_bytes};
 ghost use Rattle.gl_lines.specs.References.{id_at};
 ghost use Rattle.gl_schedule.specs.Governed.{number_of, numbered_proposal, with_proposal};
 
-use crate::outcome::NumberedProposal;
-use gl_gov::ProposalStatus;
+use gl_gov_rules::{ProposalState, ProposalStatus};
 use gl_requests::Digest;
 use std::alloc::{AllocError, Global};
 use std::marker::Model;
+
+/// A proposal by its number, and its state.
+#[derive(Clone, Copy, Debug)]
+pub struct NumberedProposal {
+    pub number: u64,
+    pub state: ProposalState,
+}
 
 /// The proposals that were accepted, by their identifiers, each once and in the order in which that
 /// happened first. They are numbered from 1.

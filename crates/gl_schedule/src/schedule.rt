@@ -1,11 +1,15 @@
 //! A schedule: a service, and the lines of what happens to it.
 
 ghost use Rattle.std.specs.Prelude.{◌≡◌, IfOk};
+ghost use Rattle.std.specs.List.{list_any};
+ghost use Rattle.gl_base.specs.Bytes.{same_bytes};
+ghost use Rattle.gl_world.specs.Founding.{node_ids};
 ghost use Rattle.gl_base.specs.Answers.{Answers};
 ghost use Rattle.gl_schedule.specs.Playable.{IsPlayable};
-ghost use Rattle.gl_schedule.specs.Schedules.{reads, service_of, settings_of};
+ghost use Rattle.gl_schedule.specs.Schedules.{are_apart, reads, service_of, settings_of};
 
 use gl_base::OrNoMemory;
+use gl_entry::NodeId;
 use gl_lines::{Lines, ScheduleFault, WorldLine, read_first_line, read_lines};
 use gl_requests::ServiceState;
 use gl_world::{Settings, has_distinct_keys, node_ids};
@@ -34,13 +38,35 @@ fn settings_of(world: &WorldLine) -> Settings
     }
 }
 
-/// The service that a first line begins. A seed that gives two members one key begins none.
-fn service_of(alloc: Global, world: &WorldLine) -> Result<Settings, OrNoMemory<ScheduleFault>>
-    ensures { Answers (λ settings. settings) result (service_of world.now) }
+fn is_any(ids: &[NodeId], id: &NodeId) -> bool
+    ensures { result ≡ list_any (λ other. same_bytes other id.now) ids.now }
+{
+    ids.iter().any(|other| other == id)
+}
+
+/// Whether no two of these nodes are one.
+fn are_apart(ids: &[NodeId]) -> bool
+    ensures { result ≡ are_apart ids.now }
+{
+    match ids.split_first() {
+        None => true,
+        Some((first, rest)) => !is_any(rest, first) && are_apart(rest),
+    }
+}
+
+/// The service that a first line begins, and the identifiers of its nodes. A seed that gives two
+/// members one key, or two nodes one identifier, begins none.
+fn service_of(
+    alloc: Global,
+    world: &WorldLine,
+) -> Result<(Settings, Vec<NodeId>), OrNoMemory<ScheduleFault>>
+    ensures gives { Answers (λ service. service.0) result (service_of world.now) }
+    ensures ids { IfOk result (λ service. service.1.items ≡ node_ids service.0) }
 {
     let settings = settings_of(world);
-    if has_distinct_keys(alloc, &settings)? {
-        Ok(settings)
+    let ids = node_ids(alloc, &settings)?;
+    if has_distinct_keys(alloc, &settings)? && are_apart(&ids) {
+        Ok((settings, ids))
     } else {
         Err(OrNoMemory::Fault(ScheduleFault::BadLine(1)))
     }
@@ -56,8 +82,7 @@ pub fn read(alloc: Global, text: &[u8]) -> Result<Schedule, OrNoMemory<ScheduleF
         return Ok(Schedule::Empty);
     }
     let (world, behind) = read_first_line(alloc, text)?;
-    let settings = service_of(alloc, &world)?;
-    let ids = node_ids(alloc, &settings)?;
+    let (settings, ids) = service_of(alloc, &world)?;
     let lines = read_lines(alloc, behind, &ids)?;
     Ok(Schedule::Service(settings, lines))
 }

@@ -1,7 +1,13 @@
-//! The texts of refusals of governance, by hand.
+//! Which schedules are read, and texts of what comes of lines, by hand.
 
 use crate::governance_text::put_governance_refusal;
+use crate::outcome_text::{put_not_primary, put_outcome};
+use crate::schedule::{Schedule, read};
+use crate::text::{put_sent, put_stage};
+use gl_config::Stage;
 use gl_gov_rules::{Cause, GovernanceRefusal, NodeStatus, ProposalState};
+use gl_ledger::Given;
+use gl_replication::Outcome;
 use gl_requests::ServiceState;
 use std::alloc::{AllocError, Global};
 use std::test::Fail;
@@ -141,5 +147,80 @@ fn tells_digests_of_governance(rt: HostRuntime) -> Result<(), Fail> {
     };
     let text = format!(in alloc; "103 {DIGITS} {DIGITS}")?;
     assert_eq!(rt; text_of(alloc, secret)?.as_slice(), text.as_bytes());
+    Ok(())
+}
+
+fn text_of_outcome(alloc: Global, outcome: &Outcome<Given>) -> Result<Vec<u8>, AllocError> {
+    let mut text = Vec::new(alloc);
+    put_outcome(alloc, &mut text, outcome)?;
+    Ok(text)
+}
+
+#[test]
+fn tells_outcomes(rt: HostRuntime) -> Result<(), Fail> {
+    let alloc = rt.alloc();
+    let outcomes = [
+        (Outcome::Done, "ok"),
+        (Outcome::Idle, "idle"),
+        (Outcome::BecameCandidate, "candidate"),
+        (Outcome::BecameLeader, "leader"),
+        (
+            Outcome::Accepted(2, 5, Given::Governed(None)),
+            "accepted 2.5",
+        ),
+        (Outcome::Signed(3, 4), "signed 3.4"),
+        (Outcome::Committed(4, 5), "commit 4.5"),
+    ];
+    for (outcome, text) in &outcomes {
+        assert_eq!(rt;
+            text_of_outcome(alloc, outcome)?.as_slice(),
+            text.as_bytes()
+        );
+    }
+    Ok(())
+}
+
+#[test]
+fn tells_leaders_by_their_numbers(rt: HostRuntime) -> Result<(), Fail> {
+    let alloc = rt.alloc();
+    let ids = [[1; 32], [2; 32]];
+    for (leader, text) in [
+        (Some([2; 32]), "110 7 2"),
+        (Some([3; 32]), "110 7 -"),
+        (None, "110 7 -"),
+    ] {
+        let mut out = Vec::new(alloc);
+        put_not_primary(&mut out, &ids, 7, &leader)?;
+        assert_eq!(rt; out.as_slice(), text.as_bytes());
+    }
+    Ok(())
+}
+
+#[test]
+fn tells_new_messages_and_stages(rt: HostRuntime) -> Result<(), Fail> {
+    let mut out = Vec::new(rt.alloc());
+    put_sent(&mut out, 4, 4)?;
+    put_sent(&mut out, 1, 3)?;
+    put_stage(&mut out, None)?;
+    put_stage(&mut out, Some(Stage::RetiredCommitted))?;
+    assert_eq!(rt; out.as_slice(), b" sent 2 3noneRetiredCommitted".as_slice());
+    Ok(())
+}
+
+#[test]
+fn reads_schedules_of_many_nodes(rt: HostRuntime) -> Result<(), Fail> {
+    let alloc = rt.alloc();
+    let zeros = "0000000000000000000000000000000000000000000000000000000000000000";
+    let text = format!(in alloc; "world 3 1 2 open {zeros}\ntimeout 2\ndeliver 1\njoin 1 4\n")?;
+    match read(alloc, text.as_bytes()) {
+        Ok(Schedule::Service(settings, lines)) => {
+            assert_eq!(rt;
+                (settings.starting, settings.joiners, settings.members),
+                (3, 1, 2)
+            );
+            assert_eq!(rt; lines.as_slice().len(), 3);
+        }
+        _ => assert!(rt; false),
+    }
     Ok(())
 }

@@ -1,23 +1,21 @@
 //! The text of what came of a line.
 
-ghost use Rattle.std.specs.Prelude.{◌≡◌, ◌≤◌, ◌++◌, ◌∷◌, [], codes, decimal, length, take, true, OnOk, IfOk};
+ghost use Rattle.std.specs.Prelude.{◌≡◌, ◌+◌, ◌-◌, ◌++◌, ◌∷◌, [], ℕ, List, codes, decimal, true, OnOk};
 ghost use Rattle.std.specs.List.{AllByRecursion, flat_map};
+ghost use Rattle.std.specs.Option.{option_map};
 ghost use Rattle.hex.specs.Hex.{encode_lower};
+ghost use Rattle.gl_config.specs.Stages.{seen_stage};
 ghost use Rattle.gl_entry.specs.Entry.{is_entry};
-ghost use Rattle.gl_schedule.specs.Text.{value_text, answer_text, answers_behind, answers_text, refusal_text, outcome_text, status_text, numbered, unmade_text, id_text, ids_text, entry_text, ledger_text, spent_text};
+ghost use Rattle.gl_world.specs.Founding.{numbers_from};
+ghost use Rattle.gl_schedule.specs.GovernanceText.{with_numbers};
+ghost use Rattle.gl_schedule.specs.Text.{value_text, answer_text, answers_behind, answers_text, status_text, stage_text, new_messages, no_proposal_text, unnamed_text, id_text, ids_text, entry_text, ledger_text, spent_text};
 ghost use Rattle.gl_schedule.specs.Governed.{proposal_text, state_text};
-ghost use Rattle.gl_schedule.specs.LineAnswers.{line_answer_text};
-ghost use Rattle.gl_schedule.specs.Machine.{node_in, rules_outcome, rules_refusal};
-ghost use Rattle.gl_ledger.specs.Makers.{ByStore};
-ghost use Rattle.gl_world.specs.declared.settings.Settings.{Settings};
 
-use crate::governance_text::put_governance_refusal;
-use crate::machine::Machine;
-use crate::outcome::{LineAnswer, NumberedProposal, Outcome, Refusal};
+use crate::proposals::NumberedProposal;
 use gl_base::{Status, TxId};
+use gl_config::Stage;
 use gl_entry::Entry;
 use gl_gov_rules::ProposalState;
-use gl_store::Store;
 use gl_tx::{Answer, Reply};
 use itoa::Buffer;
 use std::alloc::{AllocError, Global};
@@ -25,7 +23,7 @@ use std::alloc::{AllocError, Global};
 /// How many leaves the key of a member has.
 const MEMBER_LEAVES: u64 = 32;
 
-fn put_number(out: &mut Vec<u8>, n: u64) -> Result<(), AllocError>
+pub fn put_number(out: &mut Vec<u8>, n: u64) -> Result<(), AllocError>
     ensures { OnOk result (out.new.items ≡ out.old.items ++ decimal n) }
 {
     out.extend_from_slice(Buffer::new().format(n).as_bytes())
@@ -90,7 +88,7 @@ fn put_answers_behind(
     Ok(())
 }
 
-fn put_answers(alloc: Global, out: &mut Vec<u8>, reply: &Reply) -> Result<(), AllocError>
+pub fn put_answers(alloc: Global, out: &mut Vec<u8>, reply: &Reply) -> Result<(), AllocError>
     ensures { OnOk result (out.new.items ≡ out.old.items ++ answers_text reply.now) }
 {
     match reply.as_slice() {
@@ -98,86 +96,6 @@ fn put_answers(alloc: Global, out: &mut Vec<u8>, reply: &Reply) -> Result<(), Al
         [first, rest @ ..] => {
             put_answer(alloc, out, first)?;
             put_answers_behind(alloc, out, rest)
-        }
-    }
-}
-
-fn put_store_refusal(
-    alloc: Global,
-    out: &mut Vec<u8>,
-    refusal: gl_ledger::Refusal,
-) -> Result<(), AllocError>
-    ensures { OnOk result (out.new.items ≡ out.old.items ++ unmade_text (ByStore refusal)) }
-{
-    match refusal {
-        gl_ledger::Refusal::ServiceState(state) => {
-            out.extend_from_slice(b"51")?;
-            put_value(out, u64::from(state.byte()))
-        }
-        gl_ledger::Refusal::Aborted(abort) => {
-            out.extend_from_slice(b"122")?;
-            put_value(out, u64::from(abort.operation))?;
-            put_value(out, u64::from(abort.cause.number()))
-        }
-        gl_ledger::Refusal::TooLarge { size } => {
-            out.extend_from_slice(b"119")?;
-            put_value(out, size)
-        }
-        gl_ledger::Refusal::SeqnoLimit => out.extend_from_slice(b"130"),
-        gl_ledger::Refusal::Governance(why) => put_governance_refusal(alloc, out, why),
-    }
-}
-
-/// The number of a refusal and its values. They name no leader, so the settings don't matter.
-fn put_refusal(alloc: Global, out: &mut Vec<u8>, refusal: Refusal) -> Result<(), AllocError>
-    ensures { OnOk result ((s : Settings) →
-        out.new.items ≡ out.old.items ++ refusal_text s (rules_refusal refusal)) }
-{
-    match refusal {
-        Refusal::NotReserved(reserved) => {
-            out.extend_from_slice(b"112")?;
-            put_value(out, reserved)
-        }
-        Refusal::KeyExhausted(reserved) => {
-            out.extend_from_slice(b"113")?;
-            put_value(out, reserved)
-        }
-        Refusal::NothingToSign(seqno) => {
-            out.extend_from_slice(b"114")?;
-            put_value(out, seqno)
-        }
-        Refusal::Store(why) => put_store_refusal(alloc, out, why),
-    }
-}
-
-fn put_outcome(alloc: Global, out: &mut Vec<u8>, outcome: &Outcome) -> Result<(), AllocError>
-    ensures { OnOk result ((s : Settings) →
-        out.new.items ≡ out.old.items ++ outcome_text s (rules_outcome outcome.now)) }
-{
-    match outcome {
-        Outcome::Done => out.extend_from_slice(b"ok"),
-        Outcome::Idle => out.extend_from_slice(b"idle"),
-        Outcome::Accepted(id, reply) => {
-            out.extend_from_slice(b"accepted ")?;
-            id.push_text(out)?;
-            out.extend_from_slice(b" ")?;
-            put_answers(alloc, out, reply)
-        }
-        Outcome::Governed(id) => {
-            out.extend_from_slice(b"accepted ")?;
-            id.push_text(out)
-        }
-        Outcome::Signed(id) => {
-            out.extend_from_slice(b"signed ")?;
-            id.push_text(out)
-        }
-        Outcome::Committed(id) => {
-            out.extend_from_slice(b"commit ")?;
-            id.push_text(out)
-        }
-        Outcome::Refused(why) => {
-            out.extend_from_slice(b"refused ")?;
-            put_refusal(alloc, out, *why)
         }
     }
 }
@@ -196,7 +114,10 @@ fn put_state(out: &mut Vec<u8>, state: ProposalState) -> Result<(), AllocError>
 }
 
 /// A proposal and its state, if there is one to tell.
-fn put_proposal(out: &mut Vec<u8>, proposal: &Option<NumberedProposal>) -> Result<(), AllocError>
+pub fn put_proposal(
+    out: &mut Vec<u8>,
+    proposal: &Option<NumberedProposal>,
+) -> Result<(), AllocError>
     ensures { OnOk result (out.new.items ≡ out.old.items ++ proposal_text proposal.now) }
 {
     match proposal {
@@ -210,7 +131,7 @@ fn put_proposal(out: &mut Vec<u8>, proposal: &Option<NumberedProposal>) -> Resul
     }
 }
 
-fn put_status(out: &mut Vec<u8>, status: Status) -> Result<(), AllocError>
+pub fn put_status(out: &mut Vec<u8>, status: Status) -> Result<(), AllocError>
     ensures { OnOk result (out.new.items ≡ out.old.items ++ status_text status) }
 {
     match status {
@@ -218,6 +139,20 @@ fn put_status(out: &mut Vec<u8>, status: Status) -> Result<(), AllocError>
         Status::Pending => out.extend_from_slice(b"Pending"),
         Status::Committed => out.extend_from_slice(b"Committed"),
         Status::Invalid => out.extend_from_slice(b"Invalid"),
+    }
+}
+
+/// How far a retirement has come.
+pub fn put_stage(out: &mut Vec<u8>, stage: Option<Stage>) -> Result<(), AllocError>
+    ensures { OnOk result
+        (out.new.items ≡ out.old.items ++ stage_text (option_map seen_stage stage)) }
+{
+    match stage {
+        None => out.extend_from_slice(b"none"),
+        Some(Stage::Ordered) => out.extend_from_slice(b"Ordered"),
+        Some(Stage::Signed) => out.extend_from_slice(b"Signed"),
+        Some(Stage::Completed) => out.extend_from_slice(b"Completed"),
+        Some(Stage::RetiredCommitted) => out.extend_from_slice(b"RetiredCommitted"),
     }
 }
 
@@ -242,7 +177,7 @@ fn put_ids_behind(out: &mut Vec<u8>, entries: &[Entry]) -> Result<(), AllocError
     Ok(())
 }
 
-fn put_ids(out: &mut Vec<u8>, entries: &[Entry]) -> Result<(), AllocError>
+pub fn put_ids(out: &mut Vec<u8>, entries: &[Entry]) -> Result<(), AllocError>
     ensures { OnOk result (out.new.items ≡ out.old.items ++ ids_text entries.now) }
 {
     out.extend_from_slice(b"ids")?;
@@ -269,7 +204,7 @@ fn put_entries(alloc: Global, out: &mut Vec<u8>, entries: &[Entry]) -> Result<()
     Ok(())
 }
 
-fn put_ledger(alloc: Global, out: &mut Vec<u8>, entries: &[Entry]) -> Result<(), AllocError>
+pub fn put_ledger(alloc: Global, out: &mut Vec<u8>, entries: &[Entry]) -> Result<(), AllocError>
     requires { AllByRecursion (λ e. is_entry e ≡ true) entries.now }
     ensures { OnOk result (out.new.items ≡ out.old.items ++ ledger_text entries.now) }
 {
@@ -278,60 +213,46 @@ fn put_ledger(alloc: Global, out: &mut Vec<u8>, entries: &[Entry]) -> Result<(),
     put_entries(alloc, out, entries)
 }
 
-/// The entries up to the commit.
-fn committed_entries(store: &Store) -> &[Entry]
-    ensures { result.now ≡ take store.now.commit store.now.ledger }
-{
-    let (committed, _) = store.entries().split_at(store.commit() as usize);
-    committed
-}
-
 /// That each leaf of a member's key is used, with their number.
-fn put_spent(out: &mut Vec<u8>) -> Result<(), AllocError>
+pub fn put_spent(out: &mut Vec<u8>) -> Result<(), AllocError>
     ensures { OnOk result (out.new.items ≡ out.old.items ++ spent_text) }
 {
     out.extend_from_slice(b"refused 113")?;
     put_value(out, MEMBER_LEAVES)
 }
 
-fn put_line_answer(
-    alloc: Global,
-    out: &mut Vec<u8>,
-    machine: &Machine,
-    answer: &LineAnswer,
-) -> Result<(), AllocError>
-    ensures { OnOk result ((s : Settings) →
-        out.new.items ≡ out.old.items ++ line_answer_text s (node_in machine.now) answer.now) }
+/// That a line names no node, no message, no member or no earlier request.
+pub fn put_unnamed(out: &mut Vec<u8>) -> Result<(), AllocError>
+    ensures { OnOk result (out.new.items ≡ out.old.items ++ unnamed_text) }
 {
-    match answer {
-        LineAnswer::Event(outcome) => put_outcome(alloc, out, outcome),
-        LineAnswer::Governance(outcome, proposal) => {
-            put_outcome(alloc, out, outcome)?;
-            put_proposal(out, proposal)
-        }
-        LineAnswer::Status(status) => put_status(out, *status),
-        LineAnswer::Ids => put_ids(out, committed_entries(&machine.store)),
-        LineAnswer::Ledger => put_ledger(alloc, out, machine.store.entries()),
-        LineAnswer::Unnamed => out.extend_from_slice(b"refused 0"),
-        LineAnswer::NoProposal => out.extend_from_slice(b"refused 44"),
-        LineAnswer::Spent => put_spent(out),
-    }
+    out.extend_from_slice(b"refused 0")
 }
 
-/// The line with this number, with what came of it.
-pub fn answer_line(
-    alloc: Global,
-    number: u64,
-    machine: &Machine,
-    answer: &LineAnswer,
-) -> Result<Vec<u8>, AllocError>
-    ensures { IfOk result (λ line. (s : Settings) →
-        line.items ≡ numbered number (line_answer_text s (node_in machine.now) answer.now)) }
+/// That it names no proposal.
+pub fn put_no_proposal(out: &mut Vec<u8>) -> Result<(), AllocError>
+    ensures { OnOk result (out.new.items ≡ out.old.items ++ no_proposal_text) }
 {
-    let mut line = Vec::new(alloc);
-    put_number(&mut line, number)?;
-    line.extend_from_slice(b" ")?;
-    put_line_answer(alloc, &mut line, machine, answer)?;
-    line.extend_from_slice(b"\n")?;
-    Ok(line)
+    out.extend_from_slice(b"refused 44")
+}
+
+/// The numbers of the messages behind the first so many, up to so many.
+fn put_numbers(out: &mut Vec<u8>, before: usize, now: usize) -> Result<(), AllocError>
+    ensures { OnOk result (out.new.items
+        ≡ with_numbers out.old.items (numbers_from (before + 1) (now - before))) }
+{
+    for index in before..now {
+        put_value(out, index as u64 + 1)?;
+    }
+    Ok(())
+}
+
+/// The numbers of the new messages, if there are any.
+pub fn put_sent(out: &mut Vec<u8>, before: usize, now: usize) -> Result<(), AllocError>
+    ensures { OnOk result (out.new.items ≡ out.old.items ++ new_messages (now - before) before) }
+{
+    if now <= before {
+        return Ok(());
+    }
+    out.extend_from_slice(b" sent")?;
+    put_numbers(out, before, now)
 }

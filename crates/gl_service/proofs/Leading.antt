@@ -1,5 +1,5 @@
 -- Where the log of a leader begins, and what a leader makes: its log and its commit are as the rules of consensus have them, so the guard refuses nothing.
-use Rattle.std.proofs.Common.{◌==◌, ◌+◌, ◌≡◌, ◌⊎◌, inl, inr, ℕ, zero, suc, ◌<◌, ◌^◌, List, [], ◌∷◌, length, take, slice_get, Bool, true, false, if◌then◌else◌, Option, Some, None, Err, refl, sym, ◌∙◌, ap, subst, arith}
+use Rattle.std.proofs.Common.{◌==◌, ◌+◌, ◌≡◌, ◌⊎◌, inl, inr, ℕ, zero, suc, ◌<◌, ◌^◌, List, [], ◌∷◌, length, take, slice_get, Bool, true, if◌then◌else◌, Option, Some, refl, sym, ◌∙◌, ap, subst, arith}
 use Rattle.gl_base.proofs.Lists.{take-all, slice_get-append}
 use Rattle.gl_rules.specs.Identity.{NodeId, member}
 use Rattle.gl_rules.specs.Log.{entry_at}

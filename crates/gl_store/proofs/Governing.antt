@@ -14,7 +14,10 @@ use Rattle.gl_gov_rules.specs.Governed.{is_founding, is_recovery}
 use Rattle.gl_gov_rules.specs.Refusals.{refusal}
 use Rattle.gl_gov_rules.specs.declared.refusal.GovernanceRefusal.{GovernanceRefusal}
 use Rattle.gl_ledger.specs.Ledger.{governance_entry}
-use Rattle.gl_ledger.specs.Makers.{Given, Governed, Unmade, ByStore, Unspelled, Founding, unless_refused, governed_within, accepted_result, govern_result, by_store}
+use Rattle.gl_ledger.specs.declared.made.Given.{Given}
+use Rattle.gl_ledger.specs.declared.made.Unmade.{Unmade}
+use Rattle.gl_ledger.specs.declared.made.Unmade.TheVariants.{ByStore, Unspelled, Founding}
+use Rattle.gl_ledger.specs.Makers.{unless_refused, governance_made, governed_within, accepted_result, govern_result, by_store}
 use Rattle.gl_ledger.specs.Recordings.{requests_of}
 use Rattle.gl_ledger.specs.declared.refusal.Refusal.TheVariants as refusals
 use Rattle.gl_ledger.proofs.Gathering.{requests-more}
@@ -37,17 +40,17 @@ govern_asked ledger view g fits founding recovery =
 pub govern_refused : (ledger : List Entry) (view : ℕ) (g : GovernanceRequest) (why : GovernanceRefusal) → is_request g ≡ true → is_founding g ≡ false → is_recovery g ≡ false →
     refusal (history (requests_of ledger)) (length ledger + 1) g ≡ Some why → govern_result ledger view g ≡ Err (ByStore (refusals.Governance why))
 govern_refused ledger view g why fits founding recovery is =
-    govern_asked ledger view g fits founding recovery ∙ ap (λ (o : Option GovernanceRefusal). unless_refused o (governed_within ledger (governance_entry g ledger view))) is
+    govern_asked ledger view g fits founding recovery ∙ ap (λ (o : Option GovernanceRefusal). unless_refused o (governed_within ledger g (governance_entry g ledger view))) is
 
 -- and else it is its entry, within the limits
 pub govern_accepted : (ledger : List Entry) (view : ℕ) (g : GovernanceRequest) → is_request g ≡ true → is_founding g ≡ false → is_recovery g ≡ false →
-    refusal (history (requests_of ledger)) (length ledger + 1) g ≡ None → govern_result ledger view g ≡ governed_within ledger (governance_entry g ledger view)
+    refusal (history (requests_of ledger)) (length ledger + 1) g ≡ None → govern_result ledger view g ≡ governed_within ledger g (governance_entry g ledger view)
 govern_accepted ledger view g fits founding recovery is =
-    govern_asked ledger view g fits founding recovery ∙ ap (λ (o : Option GovernanceRefusal). unless_refused o (governed_within ledger (governance_entry g ledger view))) is
+    govern_asked ledger view g fits founding recovery ∙ ap (λ (o : Option GovernanceRefusal). unless_refused o (governed_within ledger g (governance_entry g ledger view))) is
 
-pub within_made : (ledger : List Entry) (e : Entry) → length (body_bytes e) ≤ body_limit → length ledger < last_seqno → governed_within ledger e ≡ Ok (e, Governed)
-within_made ledger e small left =
-    ap₂ (λ (a b : Bool). by_store (if a then Err (refusals.TooLarge (length (body_bytes e))) else (if b then Ok (e, Governed) else Err refusals.SeqnoLimit)))
+pub within_made : (ledger : List Entry) (g : GovernanceRequest) (e : Entry) → length (body_bytes e) ≤ body_limit → length ledger < last_seqno → governed_within ledger g e ≡ Ok (governance_made ledger g e)
+within_made ledger g e small left =
+    ap₂ (λ (a b : Bool). by_store (if a then Err (refusals.TooLarge (length (body_bytes e))) else (if b then Ok (governance_made ledger g e) else Err refusals.SeqnoLimit)))
     (let t : nat_lt body_limit (length (body_bytes e)) ≡ false = grind (arith, nat_tests, small) in t)
     (let t : nat_lt (length ledger) last_seqno ≡ true = grind (arith, nat_tests, left) in t)
 
@@ -56,24 +59,24 @@ entry_or e (Ok made) = made.0
 entry_or e (Err why) = e
 
 -- what is made within the limits is the entry itself
-limited_made : (size : ℕ) (made e : Entry) (large left : Bool) →
-    by_store {X = Entry × Given} (if large then Err (refusals.TooLarge size) else (if left then Ok (made, Governed) else Err refusals.SeqnoLimit)) ≡ Ok (e, Governed) → e ≡ made
-limited_made size made e true left w = absurd (cc)
-limited_made size made e false false w = absurd (cc)
-limited_made size made e false true w = sym (ap (entry_or made) w)
+limited_made : (size : ℕ) (made e : Entry) (a b : Given) (large left : Bool) →
+    by_store {X = Entry × Given} (if large then Err (refusals.TooLarge size) else (if left then Ok (made, a) else Err refusals.SeqnoLimit)) ≡ Ok (e, b) → e ≡ made
+limited_made size made e a b true left w = absurd (cc)
+limited_made size made e a b false false w = absurd (cc)
+limited_made size made e a b false true w = sym (ap (entry_or made) w)
 
 -- what is made is the request's entry
-pub govern_ok : (ledger : List Entry) (view : ℕ) (g : GovernanceRequest) (e : Entry) → govern_result ledger view g ≡ Ok (e, Governed) → e ≡ governance_entry g ledger view
+pub govern_ok : (ledger : List Entry) (view : ℕ) (g : GovernanceRequest) (e : Entry) → govern_result ledger view g ≡ Ok (governance_made ledger g e) → e ≡ governance_entry g ledger view
 govern_ok ledger view g e is = asked (is_request g) (is_founding g || is_recovery g) is
   where
     made : Entry
     made = governance_entry g ledger view
 
-    accepted : (o : Option GovernanceRefusal) → unless_refused o (governed_within ledger made) ≡ Ok (e, Governed) → e ≡ made
+    accepted : (o : Option GovernanceRefusal) → unless_refused o (governed_within ledger g made) ≡ Ok (governance_made ledger g e) → e ≡ made
     accepted (Some why) w = absurd (cc)
-    accepted None w = limited_made (length (body_bytes made)) made e (nat_lt body_limit (length (body_bytes made))) (nat_lt (length ledger) last_seqno) w
+    accepted None w = limited_made (length (body_bytes made)) made e (governance_made ledger g made).1 (governance_made ledger g e).1 (nat_lt body_limit (length (body_bytes made))) (nat_lt (length ledger) last_seqno) w
 
-    asked : (t f : Bool) → (if t then (if f then Err Founding else accepted_result ledger view g) else Err Unspelled) ≡ Ok (e, Governed) → e ≡ made
+    asked : (t f : Bool) → (if t then (if f then Err Founding else accepted_result ledger view g) else Err Unspelled) ≡ Ok (governance_made ledger g e) → e ≡ made
     asked false f w = absurd (cc)
     asked true true w = absurd (cc)
     asked true false w = accepted (refusal (history (requests_of ledger)) (length ledger + 1) g) w
@@ -84,7 +87,7 @@ pub governs_made : (old new : Held) (view seqno : ℕ) (g : GovernanceRequest) (
     seqno ≡ length old.ledger + 1 → new ≡ record old { ledger = old.ledger ++ e ∷ [] } → Governs old view g (record { view = view; seqno = seqno }) new
 governs_made old new view seqno g e fits founding recovery accepted made small left at grown = record {
   entry = e;
-  made = govern_accepted old.ledger view g fits founding recovery accepted ∙ ap (governed_within old.ledger) (sym made) ∙ within_made old.ledger e small left;
+  made = govern_accepted old.ledger view g fits founding recovery accepted ∙ ap (governed_within old.ledger g) (sym made) ∙ within_made old.ledger g e small left;
   enters = record { named = ap named at; entered = grown };
 }
   where

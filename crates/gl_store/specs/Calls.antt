@@ -12,7 +12,10 @@ use Rattle.gl_tx.specs.declared.request.Answer.{Answer}
 use Rattle.gl_ledger.specs.NodeKeys.{IsNodeKey, NodeKeys}
 use Rattle.gl_ledger.specs.Ledger.{message_behind, sign_result}
 use Rattle.gl_requests.specs.declared.request.GovernanceRequest.{GovernanceRequest}
-use Rattle.gl_ledger.specs.Makers.{Replied, Governed, Unmade, ByStore, request_result, govern_result, by_store}
+use Rattle.gl_ledger.specs.declared.made.Given.TheVariants.{Replied}
+use Rattle.gl_ledger.specs.declared.made.Unmade.{Unmade}
+use Rattle.gl_ledger.specs.declared.made.Unmade.TheVariants.{ByStore}
+use Rattle.gl_ledger.specs.Makers.{governance_made, request_result, govern_result, by_store}
 use Rattle.gl_ledger.specs.declared.refusal.Refusal.{Refusal}
 use Rattle.gl_receipt.specs.Made.{Ledger}
 use Rattle.gl_ledger.specs.ServiceRow.{identity_in}
@@ -44,7 +47,7 @@ pub record Executes (old : Held) (view : ℕ) (q : List Operation)
 pub record Governs (old : Held) (view : ℕ) (g : GovernanceRequest) (id : TxId) (new : Held) :
     Type 0 where
   pub entry : Entry
-  pub made : govern_result old.ledger view g ≡ Ok (entry, Governed)
+  pub made : govern_result old.ledger view g ≡ Ok (governance_made old.ledger g entry)
   pub enters : Enters old view entry id new
 
 -- The signer signs for a node of the service with this key: it has the key of which the node's

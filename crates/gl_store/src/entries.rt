@@ -12,7 +12,8 @@ ghost use Rattle.gl_entry.specs.declared.entry.Entry as made;
 ghost use Rattle.gl_requests.specs.Ranges as ranges;
 ghost use Rattle.gl_requests.specs.Spelling as requests_spelled;
 ghost use Rattle.gl_ledger.specs.Ledger.{within_limits};
-ghost use Rattle.gl_ledger.specs.Makers.{ByStore, governed_within};
+ghost use Rattle.gl_ledger.specs.declared.made.Unmade.TheVariants.{ByStore};
+ghost use Rattle.gl_ledger.specs.Makers.{governed_within};
 
 use gl_base::{Bytes, LAST_SEQNO, MEBIBYTE};
 use gl_entry::{Content, Digest, Entry};
@@ -123,9 +124,10 @@ pub fn application_entry(
 pub fn governance_limit_passed(body_len: u64, seqno: u64) -> Option<Refusal>
     ensures body { IfNone result (body_len ≤ body_limit) }
     ensures seqno { IfNone result (seqno ≤ last_seqno) }
-    ensures owed { IfSome result (λ refusal. (ledger : List made.Entry) (e : made.Entry) →
+    ensures owed { IfSome result (λ refusal. (ledger : List made.Entry)
+        (g : GovernanceRequest) (e : made.Entry) →
         body_len ≡ length (body_bytes e) → seqno ≡ length ledger + 1 →
-        governed_within ledger e ≡ Err (ByStore refusal)) }
+        governed_within ledger g e ≡ Err (ByStore refusal)) }
 {
     if body_len > MEBIBYTE {
         Some(Refusal::TooLarge { size: body_len })

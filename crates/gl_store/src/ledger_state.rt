@@ -205,7 +205,7 @@ impl LedgerState {
     }
 
     /// Makes room for the leaves of so many more entries.
-    pub fn reserve(&mut self, more: usize) -> Result<(), AllocError>
+    pub(crate) fn reserve(&mut self, more: usize) -> Result<(), AllocError>
         ensures signatures { OnOk result
             (vec_len self.new.signatures + more ≤ vec_capacity self.new.signatures) }
         ensures frontier { OnOk result (more ≤ self.new.frontier.spare) }
@@ -297,7 +297,7 @@ impl LedgerState {
     }
 
     /// Takes an entry that breaks no rule behind the ledger. Want of memory leaves all as it was.
-    pub fn push(&mut self, entry: &Entry) -> Result<(), AllocError>
+    pub(crate) fn push(&mut self, entry: &Entry) -> Result<(), AllocError>
         requires unbroken { (ledger : List Entry) × IsStateOf ledger self.old
             × (broken service_layers ledger entry.now ≡ None) }
         ensures grown { OnOk result (ForLedgers self.old (λ ledger.
@@ -378,7 +378,7 @@ impl LedgerState {
 
     /// Takes back what the entries above a seqno made, where the ledger up to it ends so. Takes no
     /// memory.
-    pub fn cut(&mut self, to: u64, end: LedgerEnd)
+    pub(crate) fn cut(&mut self, to: u64, end: LedgerEnd)
         requires base { self.old.frontier.base ≤ to }
         requires within { to ≤ count_of self.old.frontier }
         requires whole { self.old.tables.compacted ≤ to }
@@ -410,7 +410,7 @@ impl LedgerState {
     }
 
     /// The same in memory of its own.
-    pub fn copy(&self, alloc: Global) -> Result<Self, AllocError>
+    pub(crate) fn copy(&self, alloc: Global) -> Result<Self, AllocError>
         ensures end { IfOk result (λ state. state.end ≡ self.now.end) }
         ensures signatures { IfOk result (λ state.
             state.signatures.items ≡ self.now.signatures.items) }

@@ -13,7 +13,7 @@ use crate::ledger_end::LedgerEnd;
 use crate::ledger_state::{LedgerState, count_up_to, seqno_at};
 use crate::not_opening::NotOpening;
 use gl_base::{FIRST_VIEW, OrNoMemory, Status, TxId, status};
-use gl_entry::{Content, Entry, NodeId};
+use gl_entry::{Content, Digest, Entry, NodeId};
 use gl_gov::GovState;
 use gl_hss::HssSigner;
 use gl_ledger::Broken;
@@ -61,10 +61,11 @@ impl Store {
     ghost use Rattle.gl_gov_rules.specs.History.{no_history};
     ghost use Rattle.gl_gov_rules.specs.Refusals.{genesis_refusal};
     ghost use Rattle.gl_ledger.specs.Ledger.{opening_ledger};
-    ghost use Rattle.gl_ledger.specs.Tree.{writes_of, tables_of};
+    ghost use Rattle.gl_merkle.specs.Tree.{root_of};
+    ghost use Rattle.gl_ledger.specs.Tree.{writes_of, tables_of, leaves_of};
     ghost use Rattle.gl_ledger.specs.Recordings.{requests_of, recorded_nodes};
     ghost use Rattle.gl_ledger.specs.ServiceRow.{identity_in};
-    ghost use Rattle.gl_ledger.specs.Broken.{last_signed, may_record, broken};
+    ghost use Rattle.gl_ledger.specs.Broken.{last_signed, last_commit, may_record, broken};
     ghost use Rattle.gl_ledger.specs.Sound.{IsSound};
     ghost use Rattle.gl_ledger.specs.Audit.{audited, fault_from};
     ghost use Rattle.gl_ledger.specs.Layers.{Layers};
@@ -111,13 +112,27 @@ impl Store {
         ensures err { OnErr result (signer.new ≡ signer.old) }
     {
         let mut store = Store::new(alloc)?;
-        let founding = store.genesis_entry(genesis)?;
-        store.push(founding)?;
+        store.found(genesis)?;
         let opening = store.signature_entry(node, FIRST_VIEW, 2, signer)?;
         store.push(opening)?;
         signer.spend();
         store.commit = 2;
         Ok(store)
+    }
+
+    /// Adds the entry of a genesis to a store of no entries. Fails for want of memory alone, and then
+    /// leaves the store as it was.
+    pub fn found(&mut self, genesis: Genesis) -> Result<(), AllocError>
+        requires first { self.old.ledger ≡ [] }
+        requires accepted { genesis_refusal no_history genesis ≡ None }
+        requires fits { is_genesis genesis ≡ true }
+        ensures founded { OnOk result (self.new ≡ record self.old {
+          ledger = genesis_entry genesis ∷ [];
+        }) }
+        ensures err { OnErr result (self.new ≡ self.old) }
+    {
+        let founding = self.genesis_entry(genesis)?;
+        self.push(founding)
     }
 
     /// The store of an opening ledger, all of it committed. Refused where an entry breaks a rule of
@@ -220,6 +235,28 @@ impl Store {
         ensures { result ≡ last_signed self.now.ledger }
     {
         self.state.last_signed()
+    }
+
+    /// The seqno of the last signature up to a seqno, 0 where there is none.
+    pub fn signature_upto(&self, seqno: u64) -> u64
+        ensures { result ≡ last_signed (take seqno self.now.ledger) }
+    {
+        self.state.last_signed_up_to(seqno)
+    }
+
+    /// The commit that the last signature records, 0 where there is none.
+    pub fn last_recorded_commit(&self) -> u64
+        ensures { result ≡ last_commit self.now.ledger }
+    {
+        self.state.end().commit
+    }
+
+    /// The root of the Merkle tree over all entries.
+    pub fn root(&self) -> Digest
+        requires some { 0 < length self.now.ledger }
+        ensures root { result ≡ root_of (leaves_of self.now.ledger) }
+    {
+        self.state.root()
     }
 
     /// The first signature above a seqno, committed or not.

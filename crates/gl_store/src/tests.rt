@@ -23,7 +23,7 @@ use gl_requests::{
     Dealing, Genesis, GovernanceRequest, HssPublicKey, NewMember, NewNode, ServiceState,
     ShareDigest,
 };
-use gl_tx::{Abort, Answer, Cause, Operation, Reply, Request};
+use gl_tx::{Answer, Operation, Reply, Request};
 use gl_vmaps::{Key, MapName, Value, Write, Writes};
 use sha2::{Digest as _, Sha256};
 use std::alloc::{AllocError, Global};
@@ -260,17 +260,6 @@ fn sign(store: &mut Store, signer: &mut HssSigner, view: u32) -> Result<TxId, Fa
     Ok(store.sign(NODE, view, signer)?)
 }
 
-// The bytes that these runs of a byte make.
-fn runs(alloc: Global, runs: &[(u8, usize)]) -> Result<Vec<u8>, AllocError> {
-    let mut bytes = Vec::new(alloc);
-    for (byte, count) in runs {
-        for _ in 0..*count {
-            bytes.push(*byte)?;
-        }
-    }
-    Ok(bytes)
-}
-
 fn has_value(store: &Store, map: &[u8], key: &[u8], value: &[u8]) -> bool {
     match store.tables().get(map, key) {
         None => false,
@@ -343,107 +332,6 @@ fn records_a_put(rt: HostRuntime) -> Result<(), Fail> {
     Ok(())
 }
 
-// A store with puts of 1 and 2 at one key and of 3 at another, the last in a later view.
-fn with_three_puts(alloc: Global) -> Result<Store, Fail> {
-    let mut store = opened(alloc, ServiceState::Open)?;
-    execute(&mut store, 2, &put_request(alloc, b"public:t", &[1])?)?;
-    execute(&mut store, 2, &put_request(alloc, b"public:t", &[2])?)?;
-    execute(&mut store, 3, &put_request(alloc, b"public:u", &[3])?)?;
-    Ok(store)
-}
-
-#[test]
-fn gives_the_last_value_of_a_key(rt: HostRuntime) -> Result<(), Fail> {
-    let store = with_three_puts(rt.alloc())?;
-    assert!(rt; has_value(&store, b"public:t", b"a", &[2]));
-    assert!(rt; has_value(&store, b"public:u", b"a", &[3]));
-    assert!(rt; store.tables().get(b"public:t", b"b").is_none());
-    assert!(rt; store.tables().get(b"public:v", b"a").is_none());
-    assert_eq!(rt; store.tables().version_of(b"public:t", b"a"), 4);
-    assert_eq!(rt; store.view_at(4), Some(2));
-    assert_eq!(rt; store.view_at(5), Some(3));
-    Ok(())
-}
-
-// What a store in this state refuses a request with.
-fn refusal_of(
-    alloc: Global,
-    state: ServiceState,
-    request: &Request,
-) -> Result<Option<Refusal>, Fail>
-    requires { is_first_state state ≡ true }
-{
-    let mut store = opened(alloc, state)?;
-    match execute(&mut store, 2, request) {
-        Ok(_) => Ok(None),
-        Err(OrNoMemory::Fault(refusal)) => Ok(Some(refusal)),
-        Err(OrNoMemory::NoMemory) => Err(Fail::from("out of memory")),
-    }
-}
-
-// What a store in this state refuses a put into a map with.
-fn refusal_in(alloc: Global, state: ServiceState, map: &[u8]) -> Result<Option<Refusal>, Fail>
-    requires { is_first_state state ≡ true }
-{
-    refusal_of(alloc, state, &put_request(alloc, map, &[1])?)
-}
-
-// The first operation fails with this cause.
-fn aborted(cause: Cause) -> Option<Refusal> {
-    Some(Refusal::Aborted(Abort {
-        operation: 1,
-        cause,
-    }))
-}
-
-#[test]
-fn refuses_maps_that_are_no_applications(rt: HostRuntime) -> Result<(), Fail> {
-    let (alloc, open) = (rt.alloc(), ServiceState::Open);
-    assert_eq!(rt; refusal_in(alloc, open, b"public:ccf.gov")?, None);
-    assert_eq!(rt;
-        refusal_in(alloc, open, b"private")?,
-        aborted(Cause::NotPublic)
-    );
-    assert_eq!(rt;
-        refusal_in(alloc, open, b"public:ccf.gov.nodes")?,
-        aborted(Cause::Reserved)
-    );
-    Ok(())
-}
-
-#[test]
-fn refuses_requests_to_a_closed_service(rt: HostRuntime) -> Result<(), Fail> {
-    let (alloc, opening) = (rt.alloc(), ServiceState::Opening);
-    let closed = Some(Refusal::ServiceState(opening));
-    assert_eq!(rt; refusal_in(alloc, opening, b"public:t")?, closed);
-    assert_eq!(rt; refusal_in(alloc, opening, b"private")?, closed);
-    Ok(())
-}
-
-// Puts of 65,536 bytes at so many keys: of eight the body has 1,048,903 bytes, 327 more than it
-// may.
-fn large_puts(alloc: Global, count: u8) -> Result<Request, Fail> {
-    let value = runs(alloc, &[(8, 65536)])?;
-    let mut operations = Vec::new(alloc);
-    for key in 0..count {
-        operations.push(put(alloc, b"public:t", &[key], &value)?)?;
-    }
-    Ok(Request::new(operations).ok_or("a request")?)
-}
-
-// What an open store refuses so many large puts with.
-fn refusal_of_puts(alloc: Global, count: u8) -> Result<Option<Refusal>, Fail> {
-    refusal_of(alloc, ServiceState::Open, &large_puts(alloc, count)?)
-}
-
-#[test]
-fn refuses_bodies_that_are_too_large(rt: HostRuntime) -> Result<(), Fail> {
-    let too_large = Refusal::TooLarge { size: 1_048_903 };
-    assert_eq!(rt; refusal_of_puts(rt.alloc(), 7)?, None);
-    assert_eq!(rt; refusal_of_puts(rt.alloc(), 8)?, Some(too_large));
-    Ok(())
-}
-
 #[test]
 fn signs_and_commits(rt: HostRuntime) -> Result<(), Fail> {
     let mut signer = signer(rt.alloc())?;
@@ -460,27 +348,5 @@ fn signs_and_commits(rt: HostRuntime) -> Result<(), Fail> {
     store.commit_to(signed.seqno);
     assert_eq!(rt; store.commit(), 4);
     assert_eq!(rt; store.status(put), Status::Committed);
-    Ok(())
-}
-
-// The status of a transaction.
-fn status_of(store: &Store, view: u32, seqno: u64) -> Status {
-    store.status(TxId { view, seqno })
-}
-
-// With 4.4 committed and nothing held above it.
-#[test]
-fn tells_statuses(rt: HostRuntime) -> Result<(), Fail> {
-    let mut signer = signer(rt.alloc())?;
-    let mut store = opened_by(rt.alloc(), ServiceState::Open, &mut signer)?;
-    sign(&mut store, &mut signer, 4)?;
-    let last = sign(&mut store, &mut signer, 4)?;
-    assert!(rt; store.commit() < last.seqno);
-    store.commit_to(last.seqno);
-    assert_eq!(rt; status_of(&store, 4, 4), Status::Committed);
-    assert_eq!(rt; status_of(&store, 3, 4), Status::Invalid);
-    assert_eq!(rt; status_of(&store, 3, 6), Status::Invalid);
-    assert_eq!(rt; status_of(&store, 4, 6), Status::Unknown);
-    assert_eq!(rt; status_of(&store, 5, 5), Status::Unknown);
     Ok(())
 }

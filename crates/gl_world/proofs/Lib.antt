@@ -2,6 +2,7 @@ pub mod Ids
 pub mod Numbers
 pub mod Sharing
 pub mod MemberKeys
+pub mod KeysMade
 pub mod Digests
 pub mod Endorsements
 pub mod Acceptable
@@ -10,3 +11,9 @@ pub mod Groups
 pub mod LeavingNodes
 pub mod Solo
 pub mod MemberSigners
+pub mod NodeIds
+pub mod Sending
+pub mod Worlds
+pub mod Histories
+pub mod Events
+pub mod Starting

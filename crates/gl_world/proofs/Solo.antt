@@ -28,7 +28,9 @@ use Rattle.gl_ledger.specs.Ledger.{governance_entry, genesis_entry}
 use Rattle.gl_ledger.specs.Layers.{Layers}
 use Rattle.gl_ledger.specs.Recordings.{recorded_at, recorded_in, requests_from, requests_of, same_nodes, changed_set, trusted_nodes, configuration}
 use Rattle.gl_ledger.specs.Broken.{last_signed}
-use Rattle.gl_ledger.specs.Makers.{Given, Unmade, signed_entry}
+use Rattle.gl_ledger.specs.declared.made.Given.{Given}
+use Rattle.gl_ledger.specs.declared.made.Unmade.{Unmade}
+use Rattle.gl_ledger.specs.Makers.{signed_entry}
 use Rattle.gl_ledger.specs.NodeKeys.{service_layers, NodeKeys}
 use Rattle.gl_ledger.specs.LedgerBook.{marked_node, ledger_book}
 use Rattle.gl_requests.specs.declared.genesis.NewNode.{NewNode}

@@ -1,8 +1,13 @@
 pub mod Keys
 pub mod Founding
+pub mod Keyed
 pub mod Group
 pub mod World
 pub mod Headline
 pub mod Single
 pub mod Solo
 pub mod Members
+pub mod Held
+pub mod AtStart
+pub mod Running
+pub mod Happened

@@ -1,6 +1,6 @@
 //! The genesis of a service of one node, and who signs for that node.
 
-ghost use Rattle.std.specs.Prelude.{◌≡◌, ◌≤◌, ◌-◌, ◌^◌, suc, true, IfOk};
+ghost use Rattle.std.specs.Prelude.{◌≡◌, ◌≤◌, ◌+◌, ◌-◌, ◌^◌, suc, true, IfOk};
 ghost use Rattle.std.specs.List.{list_any};
 ghost use Rattle.sha2.specs.Sha256.{sha256};
 ghost use Rattle.gl_lms.specs.Tree.{key_bytes};
@@ -8,10 +8,13 @@ ghost use Rattle.gl_lms.specs.Secrets.{public_of};
 ghost use Rattle.gl_requests.specs.Ranges.{is_genesis};
 ghost use Rattle.gl_gov_rules.specs.Actions.{has_key};
 ghost use Rattle.gl_world.specs.Founding.{node_of, member_of, members_from, genesis_of, signer_of, has_distinct_keys};
+ghost use Rattle.gl_world.specs.Group.{IsGroup};
+ghost use Rattle.gl_world.specs.Keyed.{AreKeysOf};
 ghost use Rattle.gl_world.specs.Single.{IsSingle};
 
 use crate::dealing::dealing;
 use crate::keys::{hss_key, member_seed, numbered_digest, private_key, word_digest};
+use crate::node_key::{NodeKey, new_nodes, node_keys};
 use crate::settings::Settings;
 use gl_base::{Bytes, Sequence};
 use gl_entry::NodeId;
@@ -94,24 +97,22 @@ fn members(alloc: Global, settings: &Settings) -> Result<Sequence<NewMember>, Al
     Ok(Sequence::from(members))
 }
 
-/// The genesis of a service of one node, with the service's key and this node.
+/// The genesis of a service, with its key and these nodes.
 fn genesis(
     alloc: Global,
     settings: &Settings,
     identity: HssPublicKey,
-    node: NewNode,
+    nodes: Sequence<NewNode>,
 ) -> Result<Genesis, AllocError>
-    requires single { IsSingle settings.now }
+    requires some { 1 ≤ settings.now.members }
     requires identity { identity ≡ (genesis_of settings.now).identity }
-    requires node { node ≡ node_of settings.now 1 }
+    requires nodes { nodes ≡ (genesis_of settings.now).nodes }
     ensures { IfOk result (λ genesis. genesis ≡ genesis_of settings.now) }
 {
-    let mut nodes = Vec::new(alloc);
-    nodes.push(node)?;
     Ok(Genesis {
         state: settings.state,
         identity,
-        nodes: Sequence::from(nodes),
+        nodes,
         members: members(alloc, settings)?,
         dealing: dealing(alloc, settings)?,
     })
@@ -142,8 +143,11 @@ impl Founding {
             key: key.public(),
             endorsement: Bytes::from(Vec::from_slice(alloc, &endorsement)?),
         };
+        let mut nodes = Vec::new(alloc);
+        nodes.push(node)?;
+        let (identity, nodes) = (service.hss_public(Levels::Two), Sequence::from(nodes));
         Ok(Founding {
-            genesis: genesis(alloc, settings, service.hss_public(Levels::Two), node)?,
+            genesis: genesis(alloc, settings, identity, nodes)?,
             signer: HssSigner::new(key, Some(endorsement), 0),
         })
     }
@@ -153,5 +157,33 @@ impl Founding {
         ensures { result ≡ sha256 (key_bytes (public_of self.now.signer.key)) }
     {
         Sha256::digest(&self.signer.key().public())
+    }
+}
+
+/// What a service of several nodes begins with. Making it grows the tree of each key once.
+#[derive(Drop)]
+pub struct GroupFounding {
+    /// The request that founds the service.
+    pub genesis: Genesis,
+    /// The keys of the nodes that start and of those that join, in the order of their numbers.
+    pub keys: Vec<NodeKey>,
+}
+
+impl GroupFounding {
+    /// Founds a service of such settings. The genesis fits its format.
+    pub fn make(alloc: Global, settings: &Settings) -> Result<GroupFounding, AllocError>
+        requires { IsGroup settings.now }
+        ensures genesis { IfOk result (λ f. f.genesis ≡ genesis_of settings.now) }
+        ensures keys { IfOk result (λ f. AreKeysOf settings.now
+            (settings.now.starting + settings.now.joiners) f.keys.items) }
+        ensures fits { IfOk result (λ f. is_genesis f.genesis ≡ true) }
+    {
+        let service = private_key(alloc, &word_digest(b"svc", &settings.seed))?;
+        let count = settings.starting + settings.joiners;
+        let keys = node_keys(alloc, settings, &service, count)?;
+        let nodes = new_nodes(alloc, settings, &keys, settings.starting)?;
+        let identity = service.hss_public(Levels::Two);
+        let genesis = genesis(alloc, settings, identity, nodes)?;
+        Ok(GroupFounding { genesis, keys })
     }
 }

@@ -2,18 +2,24 @@
 #![tactic(auto)]
 
 mod dealing;
+mod event;
 mod founding;
 mod keys;
 mod laws;
 mod members;
+mod node_key;
 mod nodes;
 mod settings;
+mod world;
 
-pub use founding::{Founding, has_distinct_keys};
+pub use event::Event;
+pub use founding::{Founding, GroupFounding, has_distinct_keys};
 pub use laws::{has_node_keys, is_safe, is_unguarded};
 pub use members::Members;
+pub use node_key::NodeKey;
 pub use nodes::node_ids;
 pub use settings::Settings;
+pub use world::{World, law_of_worlds};
 
 #[cfg(test)]
 mod tests;

@@ -192,15 +192,41 @@ fn tells_the_first_rule_that_is_broken(rt: HostRuntime) -> Result<(), Fail> {
     Ok(())
 }
 
-#[test]
-fn ends_with_3_where_the_ledger_is_not_read(rt: HostRuntime) -> Result<(), Fail> {
-    let alloc = rt.alloc();
+/// An audit of a ledger that is read in pieces of 100 bytes, of whose reads one fails.
+fn audited_over_failed_read(
+    alloc: Global,
+    ledger: &[u8],
+    at: u64,
+) -> Result<(u8, Vec<u8>), AllocError> {
     let called = to_words(alloc, &["audit", "--identity", IDENTITY])?;
-    let failing = [2];
-    let mut source = MemSource::new(b"\x01\x00", 1, &failing);
+    let failing = [at];
+    let mut source = MemSource::new(ledger, 100, &failing);
     let mut sink = SureSink::new(alloc, 50);
-    assert_eq!(rt; status_of(alloc, &called, &mut source, &mut sink), 3);
-    assert_eq!(rt; sink.held.as_slice(), b"".as_slice());
+    let status = status_of(alloc, &called, &mut source, &mut sink);
+    Ok((status, sink.held))
+}
+
+/// The third entry ends in the 107th piece. It breaks a rule, so no more is read.
+#[test]
+fn reads_no_further_than_the_first_fault(rt: HostRuntime) -> Result<(), Fail> {
+    let alloc = rt.alloc();
+    let ledger = with_byte(alloc, &signed_ledger(alloc)?, 10608, 0x01)?;
+    let (status, written) = audited_over_failed_read(alloc, &ledger, 108)?;
+    assert_eq!(rt; status, 1);
+    assert_eq!(rt; written.as_slice(), b"fault seqno 3 rule 3\n".as_slice());
+    Ok(())
+}
+
+/// Also where the entry that would come breaks a rule.
+#[test]
+fn ends_with_3_and_writes_nothing_where_the_source_fails(rt: HostRuntime) -> Result<(), Fail> {
+    let alloc = rt.alloc();
+    let ledger = with_byte(alloc, &signed_ledger(alloc)?, 10608, 0x01)?;
+    for at in [1, 50, 107] {
+        let (status, written) = audited_over_failed_read(alloc, &ledger, at)?;
+        assert_eq!(rt; status, 3, "at read {at}");
+        assert_eq!(rt; written.len(), 0);
+    }
     Ok(())
 }
 

@@ -6,7 +6,7 @@ use std::process::Abort;
 use std::test::Fail;
 
 /// Lines without their numbers and newlines, each with its answer.
-type Rows<'a> = &'a [(&'a str, &'a str)];
+pub type Rows<'a> = &'a [(&'a str, &'a str)];
 
 /// Adds these lines, the first of which has this number, and their answers.
 fn add_rows(
@@ -34,7 +34,7 @@ fn answers(rt: &impl Abort, alloc: Global, text: &[u8], due: &[u8]) -> Result<()
 }
 
 /// A schedule of this service and these lines is answered so.
-fn plays(
+pub fn plays(
     rt: &impl Abort,
     alloc: Global,
     settings: &[u8],

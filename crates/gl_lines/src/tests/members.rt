@@ -106,7 +106,7 @@ fn refuses_lines_of_members(rt: HostRuntime) -> Result<(), Fail> {
 
 #[test]
 fn refuses_proposals(rt: HostRuntime) -> Result<(), Fail> {
-    let rows: [&[u8]; 17] = [
+    let rows: [&[u8]; 14] = [
         b"propose 1",
         b"propose 1 2",
         b"propose 1 2 ",
@@ -120,11 +120,7 @@ fn refuses_proposals(rt: HostRuntime) -> Result<(), Fail> {
         br#"propose 1 2 {"actions":[]}"#,
         br#"propose 1 2 {"op":"ack"}"#,
         br#"propose 1 2 {"actions":[{"args":{"number":0},"name":"remove_member"}]}"#,
-        // Until schedules have many nodes, no line proposes an action on a node.
-        br##"propose 1 2 {"actions":[{"args":{"node":"#1"},"name":"transition_node_to_trusted"}]}"##,
-        br##"propose 1 2 {"actions":[{"args":{"node":"#1"},"name":"remove_node"}]}"##,
-        br##"propose 1 2 {"actions":[{"args":{"node":"#2"},"name":"remove_node"}]}"##,
-        br##"propose 1 2 {"actions":[{"args":{},"name":"transition_service_to_open"},{"args":{"node":"#1"},"name":"remove_node"}]}"##,
+        br##"propose 1 2 {"actions":[{"args":{"node":"#01"},"name":"remove_node"}]}"##,
     ];
     let alloc = rt.alloc();
     for line in rows {
@@ -137,6 +133,42 @@ fn refuses_proposals(rt: HostRuntime) -> Result<(), Fail> {
     Ok(())
 }
 
+/// A dealing's digest, or what is proposed of a node.
+fn action_shown(alloc: Global, action: &Action) -> Result<String, AllocError> {
+    match action {
+        Action::SetRecoveryThreshold(dealing) => hex::encode(alloc, dealing.secret_digest),
+        Action::TransitionNodeToTrusted(id) => {
+            format!(in alloc; "trusts {}", hex::encode(alloc, *id)?.as_str())
+        }
+        Action::RemoveNode(id) => format!(in alloc;
+            "removes {}",
+            hex::encode(alloc, *id)?.as_str()
+        ),
+        _ => String::from_str(alloc, "another action"),
+    }
+}
+
+/// The last action of the proposal that is a line.
+fn proposal_shown(alloc: Global, line: &[u8]) -> Result<String, AllocError> {
+    let text = join_lines(alloc, &[line])?;
+    match read_lines(alloc, &text, &[FIRST]) {
+        Ok(lines) => match lines.as_slice() {
+            [
+                Line::Propose {
+                    actions: Some(actions),
+                    ..
+                },
+            ] => match actions.as_slice().last() {
+                Some(action) => action_shown(alloc, action),
+                None => String::from_str(alloc, "an empty proposal"),
+            },
+            [Line::Propose { actions: None, .. }] => String::from_str(alloc, "no actions"),
+            _ => String::from_str(alloc, "other lines"),
+        },
+        Err(e) => format!(in alloc; "{e:?}"),
+    }
+}
+
 /// The digest that a dealing has whose JSON has this one, in a proposal of its own.
 fn digest_shown(alloc: Global, digest: &[u8]) -> Result<String, AllocError> {
     let mut line = Vec::from_slice(
@@ -145,26 +177,7 @@ fn digest_shown(alloc: Global, digest: &[u8]) -> Result<String, AllocError> {
     )?;
     line.extend_from_slice(digest)?;
     line.extend_from_slice(br#"","shares":[],"threshold":1},"name":"set_recovery_threshold"}]}"#)?;
-    let text = join_lines(alloc, &[&line])?;
-    match read_lines(alloc, &text, &[FIRST]) {
-        Ok(lines) => match lines.as_slice() {
-            [Line::Propose { actions: None, .. }] => String::from_str(alloc, "no actions"),
-            [
-                Line::Propose {
-                    actions: Some(actions),
-                    ..
-                },
-            ] => match actions.as_slice() {
-                [Action::SetRecoveryThreshold(dealing)] => hex::encode(
-                    alloc,
-                    dealing.secret_digest,
-                ),
-                _ => String::from_str(alloc, "other actions"),
-            },
-            _ => String::from_str(alloc, "other lines"),
-        },
-        Err(e) => format!(in alloc; "{e:?}"),
-    }
+    proposal_shown(alloc, &line)
 }
 
 #[test]
@@ -191,6 +204,33 @@ fn reads_nodes_by_their_numbers(rt: HostRuntime) -> Result<(), Fail> {
             want,
             "of {digest:?}"
         );
+    }
+    Ok(())
+}
+
+#[test]
+fn reads_proposals_about_nodes(rt: HostRuntime) -> Result<(), Fail> {
+    let rows: [(&[u8], &str); 4] = [
+        (
+            br##"propose 1 2 {"actions":[{"args":{"node":"#1"},"name":"transition_node_to_trusted"}]}"##,
+            "trusts abababababababababababababababababababababababababababababababab",
+        ),
+        (
+            br##"propose 1 2 {"actions":[{"args":{"node":"abababababababababababababababababababababababababababababababab"},"name":"remove_node"}]}"##,
+            "removes abababababababababababababababababababababababababababababababab",
+        ),
+        (
+            br##"propose 1 2 {"actions":[{"args":{},"name":"transition_service_to_open"},{"args":{"node":"#1"},"name":"remove_node"}]}"##,
+            "removes abababababababababababababababababababababababababababababababab",
+        ),
+        (
+            br##"propose 1 2 {"actions":[{"args":{"node":"#2"},"name":"remove_node"}]}"##,
+            "no actions",
+        ),
+    ];
+    let alloc = rt.alloc();
+    for (line, want) in rows {
+        assert_eq!(rt; proposal_shown(alloc, line)?.as_str(), want, "of {line:?}");
     }
     Ok(())
 }

@@ -139,6 +139,14 @@ impl Book for PlainStore {
         0
     }
 
+    fn leaves(&self) -> u64 {
+        32
+    }
+
+    fn entries(&self) -> &[Entry] {
+        &self.log
+    }
+
     fn ledger_len(&self) -> u64 {
         self.log.len() as u64
     }
@@ -191,6 +199,14 @@ impl Book for PlainStore {
         None
     }
 
+    fn marked_node(&self, request: &u64) -> Option<NodeId> {
+        None
+    }
+
+    fn mark_refusal(&self, node: &NodeId) -> Option<u8> {
+        None
+    }
+
     fn batch(&self, behind: u64) -> Result<Vec<Entry>, AllocError> {
         self.next_entry(behind)
     }
@@ -200,6 +216,10 @@ impl Book for PlainStore {
         entry.view = view;
         self.push(entry)?;
         Ok((view, 0))
+    }
+
+    fn govern(&mut self, view: u32, request: &u64) -> Result<(u32, u64), OrNoMemory<u8>> {
+        Err(OrNoMemory::Fault(0))
     }
 
     fn sign(&mut self, leaf: u64, view: u32, commit: u64) -> Result<u32, OrNoMemory<u8>> {

@@ -141,7 +141,7 @@ impl LedgerState {
 
     /// The first rule of the audit that an entry breaks behind the ledger, if it breaks one. Fails
     /// for want of memory alone.
-    pub fn broken(&mut self, entry: &Entry) -> Result<Option<Broken>, AllocError>
+    pub(crate) fn broken(&mut self, entry: &Entry) -> Result<Option<Broken>, AllocError>
         requires state { IsState self.old }
         requires named { self.old.end.len ≤ last_seqno }
         ensures broken { IfOk result (λ found. ForLedgers self.old (λ ledger.
@@ -155,7 +155,7 @@ impl LedgerState {
     }
 
     /// Whether a node is recorded.
-    pub fn is_recorded(&self, node: &NodeId) -> bool
+    pub(crate) fn is_recorded(&self, node: &NodeId) -> bool
         ensures { ForLedgers self.now (λ ledger.
             result ≡ member node.now (recorded_nodes ledger)) }
     {
@@ -165,7 +165,7 @@ impl LedgerState {
     /// Whether the next signature may record this commit: the seqno of that signature itself, where
     /// it opens the service, or else the seqno of a signature that isn't below the commit that the
     /// last one recorded, nor below the removal of a node that was marked behind that one.
-    pub fn may_record(&self, commit: u64) -> bool
+    pub(crate) fn may_record(&self, commit: u64) -> bool
         ensures { ForLedgers self.now (λ ledger. result ≡ may_record ledger commit) }
     {
         if self.end.len == 1 {
@@ -185,7 +185,7 @@ impl LedgerState {
     }
 
     /// The seqno of the entry that follows.
-    pub fn next_seqno(&self) -> u64
+    pub(crate) fn next_seqno(&self) -> u64
         requires named { self.now.end.len ≤ last_seqno }
         ensures { result ≡ self.now.end.len + 1 }
     {
@@ -360,7 +360,7 @@ impl LedgerState {
     }
 
     /// The root of the tree over all entries.
-    pub fn root(&self) -> Digest
+    pub(crate) fn root(&self) -> Digest
         requires state { IsState self.now }
         requires some { 0 < self.now.end.len }
         ensures { ForLedgers self.now (λ ledger. result ≡ root_of (leaves_of ledger)) }

@@ -42,14 +42,14 @@ impl LedgerState {
     ghost use Rattle.gl_ledger.specs.Broken.{last_signed, signs_at};
 
     /// The seqno of the last signature, 0 where there is none.
-    pub fn last_signed(&self) -> u64
+    pub(crate) fn last_signed(&self) -> u64
         ensures { ForLedgers self.now (λ ledger. result ≡ last_signed ledger) }
     {
         last_or_zero(&self.signatures)
     }
 
     /// The seqno of the last signature up to a seqno, 0 where there is none.
-    pub fn last_signed_up_to(&self, to: u64) -> u64
+    pub(crate) fn last_signed_up_to(&self, to: u64) -> u64
         ensures { ForLedgers self.now (λ ledger. result ≡ last_signed (take to ledger)) }
     {
         let count = count_up_to(&self.signatures, to);
@@ -58,7 +58,7 @@ impl LedgerState {
     }
 
     /// Whether the entry with a seqno is a signature.
-    pub fn signs_at(&self, seqno: u64) -> bool
+    pub(crate) fn signs_at(&self, seqno: u64) -> bool
         ensures { ForLedgers self.now (λ ledger. result ≡ signs_at (entry_at ledger seqno)) }
     {
         seqno != 0 && self.last_signed_up_to(seqno) == seqno

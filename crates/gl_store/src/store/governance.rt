@@ -1,6 +1,7 @@
 //! What a store makes of requests of governance.
 
-ghost use Rattle.std.specs.Prelude.{◌≡◌, ◌==◌, ◌+◌, ◌≤◌, ◌<◌, ◌^◌, [], ◌∷◌, ◌++◌, true, false, None, length, IfOk, IfErr, OnOk, OnErr};
+ghost use Rattle.std.specs.Prelude.{◌≡◌, ◌==◌, ◌+◌, ◌≤◌, ◌<◌, ◌^◌, [], ◌∷◌, ◌++◌, true, false, None, Ok, length, IfOk, IfErr, OnOk, OnErr};
+ghost use Rattle.gl_base.specs.TxId.{last_seqno};
 ghost use Rattle.gl_entry.specs.Entry.{is_entry, body_bytes, body_limit, content_bytes};
 ghost use Rattle.gl_requests.specs.Ranges.{is_genesis, is_request};
 ghost use Rattle.gl_gov_rules.specs.Governed.{is_founding, is_recovery};
@@ -21,10 +22,11 @@ impl Store {
     ghost use Rattle.gl_gov_rules.specs.History.{no_history};
     ghost use Rattle.gl_gov_rules.specs.Refusals.{refusal, genesis_refusal};
     ghost use Rattle.gl_gov_rules.specs.Rows.{effect_writes};
-    ghost use Rattle.gl_gov.specs.State.{proposal_status, share_count};
+    ghost use Rattle.gl_gov_rules.specs.ProposalStatus.{proposal_status};
+    ghost use Rattle.gl_gov.specs.State.{share_count};
     ghost use Rattle.gl_ledger.specs.Ledger.{HasViewsUpTo, genesis_entry, governance_entry};
     ghost use Rattle.gl_ledger.specs.Recordings.{requests_of};
-    ghost use Rattle.gl_ledger.specs.Makers.{govern_result};
+    ghost use Rattle.gl_ledger.specs.Makers.{governance_made, govern_result, status_behind};
     ghost use Rattle.gl_store.specs.Calls.{Governs, Refuses};
 
     /// Takes a request of governance that founds no service, and makes its entry, in a view that isn't
@@ -47,6 +49,8 @@ impl Store {
             (record { seqno = length self.old.ledger + 1; request = request.now })) }
         ensures proposal { IfOk result (λ made. made.1.proposal
             ≡ proposal_status (history (requests_of self.new.ledger)) request.now) }
+        ensures status { IfOk result (λ made.
+            made.1.proposal ≡ status_behind self.old.ledger request.now) }
         ensures shares { IfOk result (λ made.
             made.1.shares ≡ share_count (history (requests_of self.new.ledger))) }
         ensures refused { IfErr result (λ e.
@@ -54,6 +58,43 @@ impl Store {
         ensures err { OnErr result (self.new ≡ self.old) }
     {
         let seqno = self.entries.len() as u64 + 1;
+        let (entry, effect) = self.entry_of_governance(view, request)?;
+        self.push(entry)?;
+        Ok((TxId { view, seqno }, effect))
+    }
+
+    /// The entry that a request of governance makes behind the ledger in a view, and what the request
+    /// does. The ledger stays without it. Refused as by `govern`.
+    pub fn entry_of_governance(
+        &mut self,
+        view: u32,
+        request: &GovernanceRequest,
+    ) -> Result<(Entry, GovernanceEffect), OrNoMemory<Refusal>>
+        requires some { 0 < length self.old.ledger }
+        requires fits { is_request request.now ≡ true }
+        requires founding { is_founding request.now ≡ false }
+        requires recovery { is_recovery request.now ≡ false }
+        ensures made { IfOk result (λ made.
+            govern_result self.old.ledger view request.now
+            ≡ Ok (governance_made self.old.ledger request.now made.0)) }
+        ensures accepted { OnOk result (refusal (history (requests_of self.old.ledger))
+            (length self.old.ledger + 1) request.now ≡ None) }
+        ensures left { OnOk result (length self.old.ledger < last_seqno) }
+        ensures fits { IfOk result (λ made. is_entry made.0 ≡ true) }
+        ensures writes { IfOk result (λ made. made.1.writes
+            ≡ effect_writes (requests_of self.old.ledger)
+            (record { seqno = length self.old.ledger + 1; request = request.now })) }
+        ensures proposal { IfOk result (λ made. made.1.proposal ≡ proposal_status
+            (history (requests_of (self.old.ledger ++ made.0 ∷ []))) request.now) }
+        ensures status { IfOk result (λ made.
+            made.1.proposal ≡ status_behind self.old.ledger request.now) }
+        ensures shares { IfOk result (λ made. made.1.shares
+            ≡ share_count (history (requests_of (self.old.ledger ++ made.0 ∷ [])))) }
+        ensures refused { IfErr result (λ e.
+            Refuses (govern_result self.old.ledger view request.now) e) }
+        ensures kept { self.new ≡ self.old }
+    {
+        let seqno = self.next_seqno();
         let (entry, effect) = match self.governance_entry(view, request) {
             Ok(made) => made,
             Err(OrNoMemory::NoMemory) => return Err(OrNoMemory::NoMemory),
@@ -64,8 +105,7 @@ impl Store {
         if let Some(refusal) = governance_limit_passed(entry.body_len(), seqno) {
             return Err(OrNoMemory::Fault(refusal));
         }
-        self.push(entry)?;
-        Ok((TxId { view, seqno }, effect))
+        Ok((entry, effect))
     }
 
     /// The entry of a request of governance behind the ledger, and what the request does. Refused
@@ -90,6 +130,8 @@ impl Store {
             (record { seqno = length self.old.ledger + 1; request = request.now })) }
         ensures proposal { IfOk result (λ made. made.1.proposal ≡ proposal_status
             (history (requests_of (self.old.ledger ++ made.0 ∷ []))) request.now) }
+        ensures status { IfOk result (λ made.
+            made.1.proposal ≡ status_behind self.old.ledger request.now) }
         ensures shares { IfOk result (λ made. made.1.shares
             ≡ share_count (history (requests_of (self.old.ledger ++ made.0 ∷ [])))) }
         ensures refused { IfErr result (λ e. steps.Refuses (refusal

@@ -1,6 +1,6 @@
 //! What a store makes of requests.
 
-ghost use Rattle.std.specs.Prelude.{◌≡◌, ◌+◌, ◌≤◌, ◌<◌, ◌^◌, true, length, IfOk, IfErr, IfSome, OnErr, OnOk};
+ghost use Rattle.std.specs.Prelude.{◌≡◌, ◌+◌, ◌≤◌, ◌<◌, ◌^◌, true, length, Ok, IfOk, IfErr, IfSome, OnErr, OnOk};
 ghost use Rattle.gl_base.specs.TxId.{last_seqno};
 ghost use Rattle.gl_lms.specs.Types.{height};
 ghost use Rattle.gl_tx.specs.Request.{is_request};
@@ -26,6 +26,7 @@ impl Store {
     ghost use Rattle.gl_ledger.specs.Recordings.{recorded_nodes};
     ghost use Rattle.gl_ledger.specs.Broken.{may_record};
     ghost use Rattle.gl_ledger.specs.NodeKeys.{service_layers};
+    ghost use Rattle.gl_ledger.specs.declared.made.Given.TheVariants.{Replied};
     ghost use Rattle.gl_ledger.specs.Makers.{by_store, request_result};
     ghost use Rattle.gl_store.specs.Calls.{Executes, Signs, SignsFor, Refuses};
 
@@ -46,29 +47,47 @@ impl Store {
             Refuses (request_result self.old.ledger view request.now) e) }
         ensures err { OnErr result (self.new ≡ self.old) }
     {
+        let seqno = self.entries.len() as u64 + 1;
+        let (entry, reply) = self.entry_of_request(view, request)?;
+        self.push(entry)?;
+        Ok((TxId { view, seqno }, reply))
+    }
+
+    /// The entry that a request makes behind the ledger in a view, and the reply. The ledger stays
+    /// without it. Refused as by `execute`.
+    pub fn entry_of_request(
+        &self,
+        view: u32,
+        request: &Request,
+    ) -> Result<(Entry, Reply), OrNoMemory<Refusal>>
+        ensures made { IfOk result (λ made.
+            request_result self.now.ledger view request.now ≡ Ok (made.0, Replied made.1)) }
+        ensures fits { IfOk result (λ made. is_entry made.0 ≡ true) }
+        ensures refused { IfErr result (λ e.
+            Refuses (request_result self.now.ledger view request.now) e) }
+    {
         prove!(request.as_slice().len() <= 64);
         match self.state.service_state {
-            ServiceState::Open => self.execute_open(view, request),
+            ServiceState::Open => self.entry_of_run(view, request),
             state => Err(OrNoMemory::Fault(Refusal::ServiceState(state))),
         }
     }
 
-    fn execute_open(
-        &mut self,
+    /// The same in a service that is open.
+    fn entry_of_run(
+        &self,
         view: u32,
         request: &Request,
-    ) -> Result<(TxId, Reply), OrNoMemory<Refusal>>
-        requires up_to { HasViewsUpTo view self.old.ledger }
-        requires opened { 2 ≤ length self.old.ledger }
-        requires is_open { service_state (tables_of self.old.ledger) ≡ ServiceState.Open }
+    ) -> Result<(Entry, Reply), OrNoMemory<Refusal>>
+        requires is_open { service_state (tables_of self.now.ledger) ≡ ServiceState.Open }
         requires spelled { is_request request.now ≡ true }
         ensures made { IfOk result (λ made.
-            Executes self.old view request.now made.0 made.1 self.new) }
+            request_result self.now.ledger view request.now ≡ Ok (made.0, Replied made.1)) }
+        ensures fits { IfOk result (λ made. is_entry made.0 ≡ true) }
         ensures refused { IfErr result (λ e.
-            Refuses (request_result self.old.ledger view request.now) e) }
-        ensures err { OnErr result (self.new ≡ self.old) }
+            Refuses (request_result self.now.ledger view request.now) e) }
     {
-        let seqno = self.entries.len() as u64 + 1;
+        let seqno = self.next_seqno();
         let ran = match run(self.alloc, request, &self.state.tables) {
             Ok(ran) => ran,
             Err(error) => return Err(error.widen()),
@@ -78,8 +97,7 @@ impl Store {
         if let Some(refusal) = limit_passed(entry.body_len(), &reply, seqno) {
             return Err(OrNoMemory::Fault(refusal));
         }
-        self.push(entry)?;
-        Ok((TxId { view, seqno }, ran.reply))
+        Ok((entry, ran.reply))
     }
 
     /// Makes the entry of a node's signature of the ledger so far, in a view that isn't below that

@@ -20,49 +20,6 @@ const REQUEST: Digest = [
     0x76, 0x59, 0x79, 0x53, 0x41, 0x2b, 0x31, 0x72, 0xd1, 0xc3, 0x37, 0x67, 0x91, 0x62, 0x70, 0xac,
 ];
 
-// The digest of the value of the node's row.
-const NODE_ROW: Digest = [
-    0x39, 0x2b, 0xd1, 0x6e, 0x0a, 0x03, 0x40, 0x64, 0x5a, 0x0e, 0xbf, 0xfb, 0xee, 0x42, 0x04, 0x02,
-    0x43, 0xc6, 0x9c, 0x89, 0x9f, 0x29, 0xc3, 0xf8, 0x13, 0xd0, 0xfd, 0x20, 0x53, 0xd6, 0xa1, 0x1f,
-];
-
-// Whether the first entry's write with this number, from 0, sets this row, and the tables have it
-// so.
-fn has_row(store: &Store, number: usize, map: &[u8], key: &[u8], value: &[u8]) -> bool {
-    match store.entry(1) {
-        None => false,
-        Some(entry) => match entry.writes.as_slice().get(number) {
-            None => false,
-            Some(write) => is_row(write, map, key, value) && has_value(store, map, key, value),
-        },
-    }
-}
-
-// The value of each rule's row.
-fn rule_value(alloc: Global) -> Result<Vec<u8>, AllocError> {
-    runs(alloc, &[(1, 1), (0, 1), (2, 1), (0, 1)])
-}
-
-// The value of the dealing's row.
-fn dealing_value(alloc: Global) -> Result<Vec<u8>, AllocError> {
-    runs(
-        alloc,
-        &[(1, 1), (5, 32), (2, 1), (1, 1), (6, 32), (2, 1), (6, 32)],
-    )
-}
-
-// The value of the row of a member whose key has such bytes.
-fn member_value(alloc: Global, key: u8) -> Result<Vec<u8>, AllocError> {
-    runs(alloc, &[(1, 1), (key, 60), (0, 4)])
-}
-
-// The value of the row of a service that is open.
-fn service_value(alloc: Global) -> Result<Vec<u8>, AllocError> {
-    let mut value = runs(alloc, &[(2, 1), (0, 1)])?;
-    value.extend_from_slice(&IDENTITY)?;
-    Ok(value)
-}
-
 #[test]
 fn opens_with_places_of_two_entries(rt: HostRuntime) -> Result<(), Fail> {
     let store = opened(rt.alloc(), ServiceState::Open)?;
@@ -72,42 +29,6 @@ fn opens_with_places_of_two_entries(rt: HostRuntime) -> Result<(), Fail> {
     assert_eq!(rt; store.view_at(0), None);
     assert_eq!(rt; store.view_at(1), Some(2));
     assert_eq!(rt; store.view_at(3), None);
-    Ok(())
-}
-
-#[test]
-fn opens_with_the_rows_of_its_constitution(rt: HostRuntime) -> Result<(), Fail> {
-    let store = opened(rt.alloc(), ServiceState::Open)?;
-    let map = b"public:ccf.gov.constitution";
-    let rule = rule_value(rt.alloc())?;
-    for action in 0..7u8 {
-        assert!(rt; has_row(&store, usize::from(action), map, &[action + 1], &rule));
-    }
-    Ok(())
-}
-
-#[test]
-fn opens_with_the_rows_of_its_members(rt: HostRuntime) -> Result<(), Fail> {
-    let store = opened(rt.alloc(), ServiceState::Open)?;
-    let dealing = dealing_value(rt.alloc())?;
-    assert!(rt; has_row(&store, 7, b"public:ccf.gov.dealing", b"d", &dealing));
-    let map = b"public:ccf.gov.members";
-    assert!(rt; has_row(&store, 8, map, &[1], &member_value(rt.alloc(), 3)?));
-    assert!(rt; has_row(&store, 9, map, &[2], &member_value(rt.alloc(), 4)?));
-    Ok(())
-}
-
-#[test]
-fn opens_with_the_rows_of_its_node_and_service(rt: HostRuntime) -> Result<(), Fail> {
-    let store = opened(rt.alloc(), ServiceState::Open)?;
-    let map = b"public:ccf.gov.nodes";
-    let node = store.tables().get(map, &NODE).ok_or("no row")?;
-    assert_eq!(rt; Sha256::digest(node), NODE_ROW);
-    assert!(rt; has_row(&store, 10, map, &NODE, node));
-    let service = service_value(rt.alloc())?;
-    assert!(rt; has_row(&store, 11, b"public:ccf.gov.service", b"s", &service));
-    let entry = store.entry(1).ok_or("no entry")?;
-    assert_eq!(rt; entry.writes.as_slice().len(), 12);
     Ok(())
 }
 

@@ -7,7 +7,7 @@ returns-in-Err-write_whole-clause-front g c = begins _ _ c.args.settings c.args.
 
 pub loop-i-init : goal.loop-i-init
 loop-i-init g c = record {
-  played = begun _ _ c.args.settings c.as_slice-items.result.now c.in-Ok.machine c.in-Ok.ensures.machine c.in-Ok.ensures.settings c.in-Ok.ensures.is_in c.in-Ok-write_whole.ensures.whole;
+  played = begun _ _ c.args.settings c.as_slice-items.result.now c.in-Ok.machine c.in-Ok.ensures.settings c.in-Ok.ensures.is_in c.in-Ok-write_whole.ensures.whole;
   never_falls = omega (arith, c.write_whole.ensures.never_falls);
 }
 
@@ -18,7 +18,7 @@ returns-in-Err-play_line-clause-front g c =
 pub loop-i-preserved : goal.loop-i-preserved
 loop-i-preserved g c = record {
   played = goes_on _ _ _ c.args.settings c.as_slice-items.result.now c.loop-i.i c.index-items-i.result c.loop-i.machine c.play_line.new.machine c.loop-i.invariant.played c.loop-i-test.true
-      c.index-items-i.is c.in-Ok-play_line.ensures.whole c.in-Ok-play_line.ensures.is_in c.in-Ok-play_line.ensures.goes_on;
+      c.index-items-i.is c.in-Ok-play_line.ensures.whole c.in-Ok-play_line.ensures.goes_on;
   never_falls = omega (arith, c.loop-i.invariant.never_falls, c.play_line.ensures.never_falls);
 }
 

@@ -1,14 +1,42 @@
-use Rattle.std.proofs.Common.{subst, sym}
-use Rattle.std.proofs.lemmas.Result.{IfOk-weaker}
+use Rattle.std.proofs.Common.{ℕ, false, true, ap, subst, sym}
+use Rattle.std.proofs.lemmas.Result.{on_ok_weaker}
 use Rattle.gl_world.specs.Founding.{id_of}
-use Rattle.gl_schedule.specs.Play.{TellsEffect}
-use Rattle.gl_schedule.specs.Told.{Effect, signs}
-use Rattle.gl_schedule.proofs.PlayLemmas.{at_member_is}
+use Rattle.gl_schedule.specs.Play.{Tells, byte_number}
+use Rattle.gl_schedule.specs.Playing.{Playing}
+use Rattle.gl_schedule.specs.Told.{at_member, signs}
+use Rattle.gl_schedule.proofs.EventLemmas.{group_from, node_from, tells_no_node}
+use Rattle.gl_schedule.proofs.RequestLemmas.{tells_at, tells_no_member, tells_of_member}
 use Rattle.gl_schedule.proofs.machine.Machine.ask_as.Goals as goal
 
-pub returns-in-Some-clause-tells : goal.returns-in-Some-clause-tells
-returns-in-Some-clause-tells c =
-    let s = c.args.self.now.settings in
-    IfOk-weaker c.ask.result _ _
-    (λ a tells t is_in next. subst (λ (e : Effect). TellsEffect t e c.args.self.now c.ask.new.self a)
-    (sym (at_member_is c.args.member c.in-Some.member (λ n. signs s t (id_of s 1) n c.args.act) c.in-Some.ensures)) (tells t is_in next)) c.ask.ensures.tells
+pub returns-then-not-has_node : goal.returns-then-not-has_node
+returns-then-not-has_node g c =
+    let m = c.args.self.now in
+    let held = sym (ap (λ (p : Playing). p.world) c.self.view_is) in
+    let group = group_from m _ _ held c.self.invariant.world c.self.invariant.group in
+    let none = node_from m _ c.args.node _ _ false held c.node_number-node.ensures c.has_node.ensures c.if-not-has_node.true in
+    record { tells = on_ok_weaker c.put_unnamed.result (λ w. tells_no_node m group c.args.node (λ t x. at_member c.args.member (signs m.world.settings t x c.args.member c.args.act)) _ _ none w c.args.number) c.put_unnamed.ensures }
+
+pub returns-in-None : goal.returns-in-None
+returns-in-None g c =
+    let m = c.args.self.now in
+    let held = sym (ap (λ (p : Playing). p.world) c.self.view_is) in
+    let group = group_from m _ _ held c.self.invariant.world c.self.invariant.group in
+    let some = node_from m _ c.args.node _ _ true held c.node_number-node.ensures c.has_node.ensures c.if-not-has_node.false in
+    record {
+      tells = on_ok_weaker c.put_unnamed-in-None.result
+          (λ w. tells_at m m group c.args.number c.args.node (λ s t x. at_member c.args.member (signs s t x c.args.member c.args.act)) _ _ some
+          (tells_no_member m c.args.number c.args.member (λ s t. signs s t (id_of s (byte_number c.args.node)) c.args.member c.args.act) _ _ c.in-None.ensures w)) c.put_unnamed-in-None.ensures;
+    }
+
+pub returns-in-Some : goal.returns-in-Some
+returns-in-Some g c =
+    let m = c.args.self.now in
+    let held = sym (ap (λ (p : Playing). p.world) c.self.view_is) in
+    let group = group_from m _ _ held c.self.invariant.world c.self.invariant.group in
+    let some = node_from m _ c.args.node _ _ true held c.node_number-node.ensures c.has_node.ensures c.if-not-has_node.false in
+    record {
+      tells = on_ok_weaker c.ask.result
+          (λ tells. tells_at m _ group c.args.number c.args.node (λ s t x. at_member c.args.member (signs s t x c.args.member c.args.act)) _ _ some
+          (tells_of_member m _ c.args.number c.args.member c.in-Some.member (λ s t n. signs s t (id_of s (byte_number c.args.node)) n c.args.act) _ _ c.in-Some.ensures
+          (subst (λ (k : ℕ). Tells c.args.number (λ s t. signs s t (id_of s k) c.in-Some.member c.args.act) m c.ask.new.self c.args.out.now.items c.ask.new.out.items) c.node_number-node.ensures tells))) c.ask.ensures.tells;
+    }

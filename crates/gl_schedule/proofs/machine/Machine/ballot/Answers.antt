@@ -1,9 +1,50 @@
-use Rattle.std.proofs.lemmas.Result.{IfOk-weaker}
+use Rattle.std.proofs.Common.{ℕ, List, false, true, ap, subst, sym, ◌∙◌}
+use Rattle.std.proofs.lemmas.Result.{on_ok_weaker}
+use Rattle.gl_requests.specs.declared.request.MemberAct.{MemberAct}
 use Rattle.gl_requests.specs.declared.request.MemberAct.TheVariants as acts
-use Rattle.gl_schedule.proofs.PlayLemmas.{tells_named}
+use Rattle.gl_lines.specs.References.{id_at}
+use Rattle.gl_world.specs.Founding.{id_of}
+use Rattle.gl_schedule.specs.Play.{Tells, byte_number}
+use Rattle.gl_schedule.specs.Playing.{Playing}
+use Rattle.gl_schedule.specs.Told.{at_member, at_proposal, signs}
+use Rattle.gl_schedule.proofs.EventLemmas.{group_from, node_from, tells_no_node}
+use Rattle.gl_schedule.proofs.RequestLemmas.{tells_about, tells_at, tells_no_proposal, tells_of_member}
 use Rattle.gl_schedule.proofs.machine.Machine.ballot.Goals as goal
 
-pub returns-in-Some-id-clause-tells : goal.returns-in-Some-id-clause-tells
-returns-in-Some-id-clause-tells c = IfOk-weaker c.ask.result _ _
-    (λ a tells t is_in next. tells_named t c.args.self.now c.ask.new.self c.args.member c.in-Some.member c.args.proposal c.in-Some-id.proposal (λ id. acts.Ballot id c.args.agrees) c.ballot_on.result a is_in
-    c.in-Some.ensures c.in-Some-id.ensures c.ballot_on.ensures.act (tells t is_in next)) c.ask.ensures.tells
+pub returns-then-not-has_node : goal.returns-then-not-has_node
+returns-then-not-has_node g c =
+    let m = c.args.self.now in
+    let held = sym (ap (λ (p : Playing). p.world) c.self.view_is) in
+    let group = group_from m _ _ held c.self.invariant.world c.self.invariant.group in
+    let none = node_from m _ c.args.node _ _ false held c.node_number-node.ensures c.has_node.ensures c.if-not-has_node.true in
+    record { tells = on_ok_weaker c.put_unnamed.result (λ w. tells_no_node m group c.args.node (λ t x. at_member c.args.member (at_proposal (id_at t.proposals c.args.proposal) (λ id. signs m.world.settings t x c.args.member (acts.Ballot id c.args.agrees)))) _ _ none w c.args.number) c.put_unnamed.ensures }
+
+pub returns-in-None : goal.returns-in-None
+returns-in-None g c =
+    let m = c.args.self.now in
+    let held = sym (ap (λ (p : Playing). p.world) c.self.view_is) in
+    let group = group_from m _ _ held c.self.invariant.world c.self.invariant.group in
+    let some = node_from m _ c.args.node _ _ true held c.node_number-node.ensures c.has_node.ensures c.if-not-has_node.false in
+    record {
+      tells = on_ok_weaker c.put_no_proposal.result
+          (λ w. tells_at m m group c.args.number c.args.node (λ s t x. at_member c.args.member (at_proposal (id_at t.proposals c.args.proposal) (λ id. signs s t x c.args.member (acts.Ballot id c.args.agrees)))) _ _ some
+          (tells_of_member m m c.args.number c.args.member c.in-Some.member (λ s t n. at_proposal (id_at t.proposals c.args.proposal) (λ id. signs s t (id_of s (byte_number c.args.node)) n (acts.Ballot id c.args.agrees))) _ _ c.in-Some.ensures
+          (tells_no_proposal m c.args.number c.args.proposal (λ s t id. signs s t (id_of s (byte_number c.args.node)) c.in-Some.member (acts.Ballot id c.args.agrees)) _ _
+          (c.in-None.ensures ∙ ap (λ (ids : List (List ℕ)). id_at ids c.args.proposal) (ap (λ (p : Playing). p.proposals) c.self.view_is)) w))) c.put_no_proposal.ensures;
+    }
+
+pub returns-in-Some-id : goal.returns-in-Some-id
+returns-in-Some-id g c =
+    let m = c.args.self.now in
+    let held = sym (ap (λ (p : Playing). p.world) c.self.view_is) in
+    let group = group_from m _ _ held c.self.invariant.world c.self.invariant.group in
+    let some = node_from m _ c.args.node _ _ true held c.node_number-node.ensures c.has_node.ensures c.if-not-has_node.false in
+    record {
+      tells = on_ok_weaker c.ask.result
+          (λ tells. tells_at m _ group c.args.number c.args.node (λ s t x. at_member c.args.member (at_proposal (id_at t.proposals c.args.proposal) (λ id. signs s t x c.args.member (acts.Ballot id c.args.agrees)))) _ _ some
+          (tells_of_member m _ c.args.number c.args.member c.in-Some.member (λ s t n. at_proposal (id_at t.proposals c.args.proposal) (λ id. signs s t (id_of s (byte_number c.args.node)) n (acts.Ballot id c.args.agrees))) _ _ c.in-Some.ensures
+          (tells_about m _ c.args.number c.args.proposal c.in-Some-id.proposal (λ s t id. signs s t (id_of s (byte_number c.args.node)) c.in-Some.member (acts.Ballot id c.args.agrees)) _ _
+          (c.in-Some-id.ensures ∙ ap (λ (ids : List (List ℕ)). id_at ids c.args.proposal) (ap (λ (p : Playing). p.proposals) c.self.view_is))
+          (subst (λ (a : MemberAct). Tells c.args.number (λ s t. signs s t (id_of s (byte_number c.args.node)) c.in-Some.member a) m c.ask.new.self c.args.out.now.items c.ask.new.out.items) c.ballot_on.ensures.act
+          (subst (λ (k : ℕ). Tells c.args.number (λ s t. signs s t (id_of s k) c.in-Some.member c.ballot_on.result) m c.ask.new.self c.args.out.now.items c.ask.new.out.items) c.node_number-node.ensures tells))))) c.ask.ensures.tells;
+    }

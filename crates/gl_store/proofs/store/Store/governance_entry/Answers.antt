@@ -3,7 +3,8 @@ use Rattle.gl_entry.specs.declared.entry.Entry.{Entry}
 use Rattle.gl_gov_rules.specs.Changes.{history}
 use Rattle.gl_gov_rules.specs.Governed as governed
 use Rattle.gl_gov_rules.specs.declared.change.Recorded.{Recorded}
-use Rattle.gl_gov.specs.State.{proposal_status, share_count}
+use Rattle.gl_gov_rules.specs.ProposalStatus.{proposal_status}
+use Rattle.gl_gov.specs.State.{share_count}
 use Rattle.gl_ledger.specs.Recordings.{requests_of}
 use Rattle.gl_ledger.proofs.Governed.{above}
 use Rattle.gl_store.specs.Kept.{Held}

@@ -1,0 +1,7 @@
+-- Where no keys matter, any will do.
+use Rattle.std.proofs.Common.{[]}
+use Rattle.gl_lms.specs.declared.types.Types.TheVariants.{H5W4}
+use Rattle.gl_ledger.specs.NodeKeys.{NodeKeys}
+
+pub any_keys : NodeKeys
+any_keys = record { key_of = λ x. record { types = H5W4; identifier = []; seed = [] }; endorsement_of = λ x. [] }

@@ -1,0 +1,16 @@
+pub mod RangeTests
+pub mod NodeLists
+pub mod Actives
+pub mod Fronts
+pub mod RecordedFronts
+pub mod TrustedSets
+pub mod Unfounded
+pub mod AnyKeys
+pub mod Growing
+pub mod Cuts
+pub mod Commits
+pub mod Telling
+pub mod Taking
+pub mod Batches
+pub mod Appending
+pub mod Openings

@@ -1,0 +1,4 @@
+pub mod Stands
+pub mod Lists
+pub mod Taken
+pub mod Opening

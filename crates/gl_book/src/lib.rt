@@ -1,0 +1,23 @@
+//! The store of a node as the book that the rules of consensus read: its ledger, which takes no entry
+//! that breaks a rule of the audit, and the key that it signs with. It knows nothing of commit, so
+//! each entry can be cut away.
+#![tactic(auto)]
+
+mod batch;
+mod book;
+mod book_ledger;
+mod configurations;
+mod makers;
+mod node_lists;
+mod opening;
+mod ranges;
+mod recorded;
+mod refusals;
+mod signing;
+mod store_book;
+
+pub use opening::books;
+pub use store_book::StoreBook;
+
+#[cfg(test)]
+mod tests;

@@ -1,0 +1,66 @@
+//! A node's key, and its ledger.
+
+ghost use Rattle.std.specs.Prelude.{◌≡◌, [], IfOk};
+
+use crate::book_ledger::BookLedger;
+use gl_config::NodeId;
+use gl_lms::LmsKey;
+use std::alloc::{AllocError, Global};
+use std::marker::Model;
+
+/// A valid ledger, and the key of the node that signs it, which the service endorsed.
+#[derive(Drop)]
+pub struct StoreBook {
+    pub(crate) alloc: Global,
+    pub(crate) me: NodeId,
+    pub(crate) key: LmsKey,
+    pub(crate) endorsement: Vec<u8>,
+    pub(crate) ledger: BookLedger,
+}
+
+impl Model for StoreBook {
+    ghost use Rattle.gl_book.specs.Stands.{NodeStore};
+
+    ghost Value = { NodeStore };
+
+    ghost view = { λ b. record {
+      me = b.me;
+      key = b.key;
+      endorsement = b.endorsement.items;
+      ledger = b.ledger;
+    } };
+}
+
+impl StoreBook {
+    ghost use Rattle.gl_ledger.specs.NodeKeys.{NodeKeys, service_layers};
+    ghost use Rattle.gl_ledger.specs.LedgerBook.{ledger_book};
+    ghost use Rattle.gl_book.specs.Stands.{Stands};
+
+    /// That of a node that joins: it has no entry yet. Fails for want of memory alone.
+    pub fn joining(
+        alloc: Global,
+        me: NodeId,
+        key: LmsKey,
+        endorsement: Vec<u8>,
+    ) -> Result<Self, AllocError>
+        ensures holds { IfOk result (λ book. book ≡ record {
+          me = me;
+          key = key;
+          endorsement = endorsement.items;
+          ledger = [];
+        }) }
+        ensures stands { IfOk result (λ book. (keys : NodeKeys) →
+            keys.key_of me ≡ key → keys.endorsement_of me ≡ endorsement.items →
+            Stands book (ledger_book service_layers keys)
+            (record { me = me; base = 0; log = [] })) }
+    {
+        let ledger = BookLedger::new(alloc)?;
+        Ok(StoreBook {
+            alloc,
+            me,
+            key,
+            endorsement,
+            ledger,
+        })
+    }
+}

@@ -1,0 +1,6 @@
+use Rattle.gl_replication.proofs.Readings.{pending_is}
+use Rattle.gl_replication.proofs.node.Core.pending.Goals as goal
+
+pub returns : goal.returns
+returns g c = λ b x n s.
+    pending_is g.B.Book.stands s c.ledger_len-len.result c.count_above.result c.configurations.result.now (c.ledger_len-len.ensures.value b _ s.ledger) c.count_above.ensures (c.configurations.ensures.above b _ s.ledger)

@@ -1,0 +1,9 @@
+use Rattle.std.proofs.Common.{◌≡◌, ◌-◌, suc, arith}
+use Rattle.std.proofs.lemmas.Result.{on_ok_weaker}
+use Rattle.gl_schedule.proofs.EventLemmas.{delivers_one}
+use Rattle.gl_schedule.proofs.machine.Machine.deliver.Goals as goal
+
+pub returns : goal.returns
+returns g c =
+    let some : c.args.message ≡ suc (c.args.message - 1) = omega (arith, c.if-message-eq0.false) in
+    record { tells = on_ok_weaker c.happen.result (λ tells. delivers_one c.args.self.now _ c.args.message _ _ _ some tells) c.happen.ensures.tells }

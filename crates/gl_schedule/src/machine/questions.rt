@@ -1,0 +1,88 @@
+//! What lines ask of a node, which changes nothing.
+
+ghost use Rattle.gl_lines.specs.declared.line.Line.TheVariants as lines;
+ghost use Rattle.std.specs.Prelude.{◌≡◌, OnOk};
+ghost use Rattle.gl_schedule.specs.Play.{TellsAnywhere};
+ghost use Rattle.gl_schedule.specs.Told.{effect_of};
+
+use super::Machine;
+use crate::numbers::node_number;
+use crate::text::{put_ids, put_ledger, put_stage, put_status, put_unnamed};
+use gl_base::TxId;
+use gl_ledger::{Given, Reads, Unmade};
+use gl_replication::Book;
+use gl_requests::GovernanceRequest;
+use gl_tx::Request;
+use std::alloc::AllocError;
+
+impl<
+    B: Book<
+        Request = Request,
+        Gov = GovernanceRequest,
+        Reads = Reads,
+        Given = Given,
+        Refused = Unmade,
+    >,
+> Machine<B> {
+    /// The status of a transaction at a node.
+    pub(super) fn tell_status(
+        &self,
+        node: u128,
+        id: TxId,
+        out: &mut Vec<u8>,
+    ) -> Result<(), AllocError>
+        ensures tells { OnOk result (TellsAnywhere (λ s t. effect_of s t (lines.Status node id))
+            self.now self.now out.old.items out.new.items) }
+    {
+        let node = node_number(node);
+        if !self.world.has_node(node) {
+            return put_unnamed(out);
+        }
+        put_status(out, self.world.status(node, id))
+    }
+
+    /// How far the retirement of another node has come, as a node sees it.
+    pub(super) fn tell_stage(
+        &self,
+        node: u128,
+        other: u128,
+        out: &mut Vec<u8>,
+    ) -> Result<(), AllocError>
+        ensures tells { OnOk result (TellsAnywhere (λ s t. effect_of s t (lines.Stage node other))
+            self.now self.now out.old.items out.new.items) }
+    {
+        let node = node_number(node);
+        if !self.world.has_node(node) {
+            return put_unnamed(out);
+        }
+        let other = node_number(other);
+        if !self.world.has_node(other) {
+            return put_unnamed(out);
+        }
+        put_stage(out, self.world.stage(node, other))
+    }
+
+    /// The identifiers of a node's committed ledger.
+    pub(super) fn tell_ids(&self, node: u128, out: &mut Vec<u8>) -> Result<(), AllocError>
+        ensures tells { OnOk result (TellsAnywhere (λ s t. effect_of s t (lines.Ids node))
+            self.now self.now out.old.items out.new.items) }
+    {
+        let node = node_number(node);
+        if !self.world.has_node(node) {
+            return put_unnamed(out);
+        }
+        put_ids(out, self.world.committed(node))
+    }
+
+    /// The entries of a node's log.
+    pub(super) fn tell_ledger(&self, node: u128, out: &mut Vec<u8>) -> Result<(), AllocError>
+        ensures tells { OnOk result (TellsAnywhere (λ s t. effect_of s t (lines.Ledger node))
+            self.now self.now out.old.items out.new.items) }
+    {
+        let node = node_number(node);
+        if !self.world.has_node(node) {
+            return put_unnamed(out);
+        }
+        put_ledger(self.alloc, out, self.world.entries(node))
+    }
+}

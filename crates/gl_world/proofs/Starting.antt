@@ -1,0 +1,153 @@
+-- The nodes at the start, by their numbers.
+use Rattle.std.proofs.Common.{◌≡◌, ◌⊎◌, inl, inr, ⊎_elim, ℕ, zero, suc, ◌+◌, ◌-◌, ◌<◌, ◌≤◌, List, [], ◌∷◌, ◌++◌, length, length-append, map, Bool, true, false, ◌||◌, nat_le, Some, slice_get, refl, sym, ◌∙◌, ap, subst, arith, if◌then◌else◌}
+use Rattle.std.proofs.lemmas.Bool.Decides.{nat_tests}
+use Rattle.std.proofs.lemmas.Bool.{cases_lt}
+use Rattle.gl_entry.specs.declared.entry.Entry.{Entry}
+use Rattle.gl_rules.specs.Identity.{NodeId, same, member}
+use Rattle.gl_rules.specs.World.{begin, joiner, leader_at_start, node_at_start, starter}
+use Rattle.gl_rules.specs.Node.{Node}
+use Rattle.gl_rules.proofs.Ids.{same_self}
+use Rattle.gl_rules.proofs.Lists.{get_push}
+use Rattle.gl_ledger.specs.LedgerBook.{ServiceBook}
+use Rattle.gl_election.specs.Bridge.{seen_message}
+use Rattle.gl_replication.specs.Holding.{Holding}
+use Rattle.gl_replication.specs.Stands.{StandsFor}
+use Rattle.gl_world.specs.declared.settings.Settings.{Settings}
+use Rattle.gl_world.specs.AtStart.{HaveStarted, held_at_start}
+use Rattle.gl_world.specs.Founding.{id_of, numbers_from}
+use Rattle.gl_world.specs.Group.{IsGroup, book_of}
+use Rattle.gl_world.specs.Running.{IsRunning, ServiceCore, ServiceNodes}
+use Rattle.gl_world.specs.World.{start_of}
+use Rattle.gl_world.proofs.NodeIds.{numbers_apart}
+use Rattle.gl_world.proofs.Numbers.{member_made}
+
+-- what is made of a number is among those made
+member_number : (f : ℕ → NodeId) (first count number : ℕ) → first ≤ number → number < first + count → member (f number) (map f (numbers_from first count)) ≡ true
+member_number f first zero number low high = absurd (omega arith)
+member_number f first (suc count) number low high = ⊎_elim
+    (λ (h : number ≤ first). here (omega arith))
+    (λ (h : first < number). later (same (f number) (f first)) (member_number f (suc first) count number h (omega arith)))
+    (either_way (cases_lt first number))
+  where
+    either_way : (first < number) ⊎ (number ≤ first) → (number ≤ first) ⊎ (first < number)
+    either_way (inl h) = inr h
+    either_way (inr h) = inl h
+
+    here : number ≡ first → (same (f number) (f first) || member (f number) (map f (numbers_from (suc first) count))) ≡ true
+    here is = ap (λ (t : Bool). t || member (f number) (map f (numbers_from (suc first) count))) (ap (λ (k : ℕ). same (f number) (f k)) (sym is) ∙ same_self (f number))
+
+    later : (t : Bool) → member (f number) (map f (numbers_from (suc first) count)) ≡ true → (t || member (f number) (map f (numbers_from (suc first) count))) ≡ true
+    later true e = refl
+    later false e = e
+
+-- ---- what each number begins with
+
+pub first_node : (s : Settings) → node_at_start (start_of s) (id_of s 1) ≡ leader_at_start (start_of s)
+first_node s = ap (λ (t : Bool). if t then leader_at_start (start_of s) else (if member (id_of s 1) (start_of s).starting then starter (start_of s) else joiner)) (same_self (id_of s 1))
+
+module _ (s : Settings) (h : IsGroup s) where
+  is_other : (number : ℕ) → 2 ≤ number → number ≤ s.starting + s.joiners → same (id_of s number) (id_of s 1) ≡ false
+  is_other number low high = go (same (id_of s number) (id_of s 1)) refl
+    where
+      go : (t : Bool) → same (id_of s number) (id_of s 1) ≡ t → t ≡ false
+      go false e = refl
+      go true e =
+          let back : same (id_of s (suc (number - 1))) (id_of s (suc 0)) ≡ true = subst (λ (k : ℕ). same (id_of s k) (id_of s 1) ≡ true) (omega arith) e in
+          let is = numbers_apart s h (number - 1) 0 (omega arith) (omega arith) back in
+          absurd (omega (arith, is))
+
+  other_node : (number : ℕ) → 2 ≤ number → number ≤ s.starting + s.joiners →
+      node_at_start (start_of s) (id_of s number) ≡ (if member (id_of s number) (start_of s).starting then starter (start_of s) else joiner)
+  other_node number low high =
+      ap (λ (t : Bool). if t then leader_at_start (start_of s) else (if member (id_of s number) (start_of s).starting then starter (start_of s) else joiner)) (is_other number low high)
+
+  pub starting_node : (number : ℕ) → 2 ≤ number → number ≤ s.starting → node_at_start (start_of s) (id_of s number) ≡ starter (start_of s)
+  starting_node number low high =
+      other_node number low (omega arith)
+      ∙ ap (λ (t : Bool). if t then starter (start_of s) else joiner) (member_number (id_of s) 1 s.starting number (omega arith) (omega arith))
+
+  pub joining_node : (number : ℕ) → s.starting < number → number ≤ s.starting + s.joiners → node_at_start (start_of s) (id_of s number) ≡ joiner
+  joining_node number low high =
+      other_node number (omega (arith, h.first)) high ∙ ap (λ (t : Bool). if t then starter (start_of s) else joiner) (absent (member (id_of s number) (start_of s).starting) refl)
+    where
+      absent : (t : Bool) → member (id_of s number) (start_of s).starting ≡ t → t ≡ false
+      absent false e = refl
+      absent true e =
+          let m = member_made (id_of s) (id_of s number) 1 s.starting e in
+          let one : same (id_of s (suc (m.0 - 1))) (id_of s (suc (number - 1))) ≡ true =
+          subst (λ (k : ℕ). same (id_of s k) (id_of s (suc (number - 1))) ≡ true) (omega (arith, m.1))
+          (subst (λ (k : ℕ). same (id_of s m.0) (id_of s k) ≡ true) (omega arith)
+          (subst (λ (x : NodeId). same (id_of s m.0) x ≡ true) m.3 (same_self (id_of s m.0)))) in
+          let is = numbers_apart s h (m.0 - 1) (number - 1) (omega (arith, m.1, m.2)) (omega arith) one in
+          absurd (omega (arith, is, m.1, m.2))
+
+  -- a node that starts holds the opening, and one that joins nothing
+  pub starting_log : (number : ℕ) → number ≤ s.starting → (held_at_start s number).log ≡ (start_of s).opening
+  starting_log number high =
+      let is : nat_le number s.starting ≡ true = grind (arith, nat_tests) in
+      ap (λ (t : Bool). if t then (start_of s).opening else []) is
+
+  pub joining_log : (number : ℕ) → s.starting < number → (held_at_start s number).log ≡ []
+  joining_log number low =
+      let is : nat_le number s.starting ≡ false = grind (arith, nat_tests) in
+      ap (λ (t : Bool). if t then (start_of s).opening else []) is
+
+-- ---- one node more
+
+-- what stands behind a list
+pub behind : {A : Type 0} (xs ys : List A) (y : A) → slice_get (xs ++ y ∷ ys) (length xs) ≡ Some y
+behind [] ys y = refl
+behind (x ∷ xs) ys y = behind xs ys y
+
+numbers_more : {A : Type 0} (f : ℕ → A) (first count : ℕ) → map f (numbers_from first (suc count)) ≡ map f (numbers_from first count) ++ f (first + count) ∷ []
+numbers_more f first zero = ap (λ (k : ℕ). f k ∷ []) (omega arith)
+numbers_more {A} f first (suc count) =
+    ap (λ (l : List A). f first ∷ l) (numbers_more f (suc first) count)
+    ∙ ap (λ (k : ℕ). f first ∷ map f (numbers_from (suc first) count) ++ f k ∷ []) (omega arith)
+
+module _ {S : Type 0} (stands : S → ServiceBook → Holding Entry → Type 0) (s : Settings) where
+  pub added : {old : ServiceNodes S} (new : ServiceNodes S) (x : NodeId) (c : ServiceCore S) → HaveStarted stands s old → x ≡ id_of s (suc (length old.ids.items)) →
+      StandsFor stands c (book_of s) (id_of s (suc (length old.ids.items))) (node_at_start (start_of s) (id_of s (suc (length old.ids.items)))) →
+      new.ids.items ≡ old.ids.items ++ x ∷ [] → new.cores.items ≡ old.cores.items ++ c ∷ [] → new.sent.items ≡ old.sent.items →
+      HaveStarted stands s new × (length new.ids.items ≡ suc (length old.ids.items))
+  added {old} new x c r is stood ids cores sent = (
+    record {
+      ids =
+          ids ∙ ap (λ (l : List NodeId). l ++ x ∷ []) r.ids ∙ ap (λ (y : NodeId). map (id_of s) (numbers_from 1 (length old.ids.items)) ++ y ∷ []) (is ∙ ap (id_of s) (omega arith))
+          ∙ sym (numbers_more (id_of s) 1 (length old.ids.items)) ∙ ap (λ (k : ℕ). map (id_of s) (numbers_from 1 k)) (sym count);
+      whole = omega (arith, ap length cores, length-append old.cores.items (c ∷ []), r.whole, count);
+      stand = λ i d at_i. ⊎_elim
+          (λ (h : slice_get old.cores.items i ≡ Some d). r.stand i d h)
+          (λ (h : (i ≡ length old.cores.items) × (d ≡ c)).
+          subst (λ (k : ℕ). StandsFor stands d (book_of s) (id_of s (suc k)) (node_at_start (start_of s) (id_of s (suc k)))) (sym (h.0 ∙ r.whole))
+          (subst (λ (e : ServiceCore S). StandsFor stands e (book_of s) (id_of s (suc (length old.ids.items))) (node_at_start (start_of s) (id_of s (suc (length old.ids.items))))) (sym h.1) stood))
+          (get_push old.cores.items c i d (ap (λ l. slice_get l i) (sym cores) ∙ at_i));
+      sent = sent ∙ r.sent;
+    },
+    count,
+  )
+    where
+      count : length new.ids.items ≡ suc (length old.ids.items)
+      count = ap length ids ∙ omega (arith, length-append old.ids.items (x ∷ []))
+
+  -- once all have started they run
+  pub all_started : (ns : ServiceNodes S) → IsGroup s → HaveStarted stands s ns → length ns.ids.items ≡ s.starting + s.joiners → IsRunning stands s ns (begin (start_of s))
+  all_started ns h r count = record {
+    group = h;
+    ids = r.ids ∙ ap (λ (k : ℕ). map (id_of s) (numbers_from 1 k)) count;
+    whole = r.whole ∙ count;
+    stand = r.stand;
+    sent = ap (map seen_message) r.sent;
+  }
+
+  -- the core of a node as it starts
+  pub stood_first : (h : IsGroup s) (c : ServiceCore S) → StandsFor stands c (book_of s) (id_of s 1) (leader_at_start (start_of s)) → StandsFor stands c (book_of s) (id_of s 1) (node_at_start (start_of s) (id_of s 1))
+  stood_first h c stood = subst (λ (n : Node Entry). StandsFor stands c (book_of s) (id_of s 1) n) (sym (first_node s)) stood
+
+  pub stood_starting : (h : IsGroup s) (c : ServiceCore S) (number : ℕ) → 2 ≤ number → number ≤ s.starting → StandsFor stands c (book_of s) (id_of s number) (starter (start_of s)) →
+      StandsFor stands c (book_of s) (id_of s number) (node_at_start (start_of s) (id_of s number))
+  stood_starting h c number low high stood = subst (λ (n : Node Entry). StandsFor stands c (book_of s) (id_of s number) n) (sym (starting_node s h number low high)) stood
+
+  pub stood_joining : (h : IsGroup s) (c : ServiceCore S) (number : ℕ) → s.starting < number → number ≤ s.starting + s.joiners → StandsFor stands c (book_of s) (id_of s number) joiner →
+      StandsFor stands c (book_of s) (id_of s number) (node_at_start (start_of s) (id_of s number))
+  stood_joining h c number low high stood = subst (λ (n : Node Entry). StandsFor stands c (book_of s) (id_of s number) n) (sym (joining_node s h number low high)) stood

@@ -34,16 +34,27 @@ def build():
         sys.exit(1)
 
 
-# Runs a command from a file to a file: its processor time in seconds, and its peak of memory in bytes.
+# Runs a command from a file to a file, and prints its processor time in seconds and its peak of memory in bytes.
+RUN = """
+import os, sys
+source, out, *command = sys.argv[1:]
+child = os.fork()
+if child == 0:
+    os.dup2(os.open(source, os.O_RDONLY), 0)
+    os.dup2(os.open(out, os.O_WRONLY | os.O_CREAT | os.O_TRUNC), 1)
+    os.execvp(command[0], command)
+_, status, used = os.wait4(child, 0)
+assert status == 0, status
+print(used.ru_utime + used.ru_stime, used.ru_maxrss * 1024)
+"""
+
+
+# What RUN prints. The system counts as a child's peak also what its parent held when it made the child. So the parent is a
+# small process, of some 6 MiB, and not this one, which may hold a whole ledger.
 def run(command, source, out):
-    child = os.fork()
-    if child == 0:
-        os.dup2(os.open(source, os.O_RDONLY), 0)
-        os.dup2(os.open(out, os.O_WRONLY | os.O_CREAT | os.O_TRUNC), 1)
-        os.execvp(command[0], command)
-    _, status, used = os.wait4(child, 0)
-    assert status == 0, status
-    return used.ru_utime + used.ru_stime, used.ru_maxrss * 1024
+    words = [sys.executable, "-I", "-S", "-c", RUN, source, out, *command]
+    time, peak = subprocess.run(words, stdout=subprocess.PIPE, check=True, text=True).stdout.split()
+    return float(time), int(peak)
 
 
 # Replays a schedule so many times: its least processor time, its peak of memory, the size of its text, and what it wrote.

@@ -1,8 +1,8 @@
 -- What plans and faults owe, and what a task owes to the bytes of its source, whether the source
 -- tells them or not.
-use Rattle.std.proofs.Common.{◌≡◌, ℕ, ◌<◌, List, [], length, Option, None, Some, Bool, true, nat_lt, if◌then◌else◌, IfSome, refl, sym, ap, ◌∙◌, subst, arith, length-append}
+use Rattle.std.proofs.Common.{◌≡◌, ◌⊎◌, inl, inr, ℕ, ◌<◌, List, [], length, Option, None, Some, Bool, true, nat_lt, if◌then◌else◌, IfSome, refl, sym, ap, ◌∙◌, subst, arith, length-append}
 use Rattle.std.proofs.lemmas.Bool.Decides.{nat_tests}
-use Rattle.std.specs.Io.KnownBytes.{Appends, Consumes}
+use Rattle.std.specs.Io.KnownBytes.{Appends, Consumes, Keeps}
 use Rattle.gl_outside.specs.Sink.{AppendsFront}
 use Rattle.gl_lines.specs.Lines.{line_count}
 use Rattle.gl_receipt.specs.Form.{receipt_from}
@@ -14,12 +14,20 @@ use Rattle.ccfg.specs.declared.ending.Ending.TheVariants as endings
 use Rattle.ccfg.specs.declared.fault.Fault.{Fault}
 use Rattle.ccfg.specs.declared.fault.Fault.TheVariants as faults
 use Rattle.ccfg.specs.declared.plan.Plan.{Plan}
-use Rattle.ccfg.specs.declared.plan.Plan.TheVariants.{Play, Show, ShowLedger, Refuse}
+use Rattle.ccfg.specs.declared.plan.Plan.TheVariants.{Play, Show, ShowLedger, ShowKey, Refuse}
 use Rattle.ccfg.specs.declared.words.Task.{Task}
 use Rattle.ccfg.specs.declared.words.Task.TheVariants as tasks
 use Rattle.ccfg.specs.Faults.{fault_line}
-use Rattle.ccfg.specs.Owed.{Due, EndsSource, Owes, OwesRead, Run, Runs, Written, WritesDue, bytes_limit, due_of_audit, due_of_fault, due_of_form, due_of_reading, due_of_receipt, due_of_schedule, ending_of_fault, json_limit, lines_limit}
-use Rattle.ccfg.specs.Plans.{ShowsAccepted, due_of_plan}
+use Rattle.ccfg.specs.Owed.{Due, EndsSource, OfRun, Owed, Owes, OwesRead, Run, Runs, Written, WritesDue, bytes_limit, due_of_answer, due_of_audit, due_of_fault, due_of_form, due_of_reading, due_of_receipt, due_of_schedule, ending_of_fault, ending_of_stop, json_limit, ledger_line, lines_limit, valid_line}
+use Rattle.ccfg.specs.Plans.{KeepsKey, TellsFault, ShowsAccepted, ShowsKept, due_of_plan}
+use Rattle.ccfg.specs.declared.plan.PlanStop.{PlanStop}
+use Rattle.ccfg.specs.declared.plan.PlanStop.TheVariants as stops
+use Rattle.ccfg.proofs.HeldLemmas.{both_any, both_map, of_map}
+use Rattle.gl_journal.specs.declared.key.KeyKind.{KeyKind}
+use Rattle.gl_lms.specs.declared.types.Types.{Types}
+use Rattle.gl_outside.specs.Disk.{Step}
+use Rattle.gl_outside.specs.Fault.{Rose}
+use Rattle.gl_schedule.specs.Told.{text_of_schedule}
 use Rattle.ccfg.specs.Promises.{TellsAccepted}
 use Rattle.gl_schedule.specs.Schedules.{reads}
 
@@ -34,11 +42,9 @@ writes_fault (faults.Form fault) w all = (refl, all)
 writes_fault (faults.NotValid fault) w all = (refl, all)
 writes_fault (faults.Broken seqno rule) w all = (refl, all)
 writes_fault (faults.Foreign identity) w all = (refl, all)
-
--- bytes that were read whole
-pub of_text : (given : Option (List ℕ)) (text : List ℕ) (P : List ℕ → Type 0) → IfSome given (λ g. text ≡ g) → P text → OfBytes given P
-of_text None text P whole p = (text, p)
-of_text (Some g) text P whole p = subst P whole p
+writes_fault (faults.NotEmpty len) w all = (refl, all)
+writes_fault (faults.Short at) w all = (refl, all)
+writes_fault (faults.Trailing at) w all = (refl, all)
 
 -- bytes of which more were read than the limit
 pub of_more : (old new : Option (List ℕ)) (text : List ℕ) (limit : ℕ) → Consumes old new text → limit < length text → OfBytes old (λ g. limit < length g)
@@ -59,11 +65,6 @@ long_receipt identity given more =
     ap (λ (b : Bool). if b then due_of_fault faults.TooMuchJson else due_of_form identity (receipt_from given))
     (let t : nat_lt json_limit (length given) ≡ true = grind (arith, nat_tests) in t)
 
--- what holds of the bytes that a source gives, from what else does
-pub of_map : (given : Option (List ℕ)) (P Q : List ℕ → Type 0) → ((g : List ℕ) → P g → Q g) → OfBytes given P → OfBytes given Q
-of_map None P Q f p = (p.0, f p.0 p.1)
-of_map (Some g) P Q f p = f g p
-
 -- more bytes than a limit
 pub long_schedules : (given : Option (List ℕ)) → OfBytes given (λ g. bytes_limit < length g) → OfBytes given (λ g. due_of_schedule g ≡ due_of_fault faults.TooManyBytes)
 long_schedules given more = of_map given (λ g. bytes_limit < length g) (λ g. due_of_schedule g ≡ due_of_fault faults.TooManyBytes) long_schedule more
@@ -78,16 +79,12 @@ pub verdict_due : (identity : List ℕ) (given : Option (List ℕ)) (told : Verd
 verdict_due identity given told due is same =
     of_map given (λ g. told ≡ verdict_on identity g) (λ g. due_of_audit (verdict_on identity g) ≡ due) (λ g v. ap due_of_audit (sym v) ∙ same) is
 
--- what holds of any bytes
-pub of_any : (given : Option (List ℕ)) (X : List ℕ → Type 0) → ((g : List ℕ) → X g) → OfBytes given X
-of_any None X f = ([], f [])
-of_any (Some g) X f = f g
-
 -- a fault shows nothing
 pub sound_refusal : (task : Task) (given : List ℕ) (fault : Fault) → ShowsAccepted task given (Refuse fault)
 sound_refusal tasks.Replay given fault = tt
 sound_refusal (tasks.Verify identity) given fault = tt
 sound_refusal (tasks.Audit identity) given fault = tt
+sound_refusal (tasks.Keygen kind types) given fault = tt
 
 pub of_sound_refusal : (task : Task) (given : Option (List ℕ)) (fault : Fault) → OfBytes given (λ g. ShowsAccepted task g (Refuse fault))
 of_sound_refusal task None fault = ([], sound_refusal task [] fault)
@@ -103,12 +100,16 @@ no_fault_done (faults.Form fault) is = cc
 no_fault_done (faults.NotValid fault) is = cc
 no_fault_done (faults.Broken seqno rule) is = cc
 no_fault_done (faults.Foreign identity) is = cc
+no_fault_done (faults.NotEmpty len) is = cc
+no_fault_done (faults.Short at) is = cc
+no_fault_done (faults.Trailing at) is = cc
 
 -- a plan that was carried out under a key
 accepted_by : (identity : List ℕ) (plan : Plan) (w : Written) (g : List ℕ) → ShowsAccepted (tasks.Verify identity) g plan → WritesDue endings.Done w (due_of_plan plan) → TellsAccepted identity g w.held w.holds
 accepted_by identity (Play schedule) w g sound writes = absurd sound
 accepted_by identity (Show id) w g sound writes = (sound.0, sound.1, id, sound.2, writes.1)
 accepted_by identity (ShowLedger last signed) w g sound writes = absurd sound
+accepted_by identity (ShowKey line) w g sound writes = absurd sound
 accepted_by identity (Refuse fault) w g sound writes = absurd (no_fault_done fault writes.0)
 
 pub accepted : (task : Task) (identity : List ℕ) (plan : Plan) (e : Ending) (w : Written) (given : Option (List ℕ)) → task ≡ tasks.Verify identity → OfBytes given (λ g. ShowsAccepted task g plan) →
@@ -123,39 +124,85 @@ accepted task identity plan e w given asks sound is writes =
     go None sound = (sound.0, accepted_by identity plan w sound.0 sound.1 done)
     go (Some g) sound = accepted_by identity plan w g sound done
 
+-- a key that is shown
+kept_by : (kind : KeyKind) (types : Types) (past : List Step) (plan : Plan) (w : Written) (g : List ℕ) → ShowsKept kind types past g plan → WritesDue endings.Done w (due_of_plan plan) → KeepsKey kind types past g
+kept_by kind types past (Play schedule) w g sound writes = absurd sound
+kept_by kind types past (Show id) w g sound writes = absurd sound
+kept_by kind types past (ShowLedger last signed) w g sound writes = absurd sound
+kept_by kind types past (ShowKey line) w g sound writes = sound
+kept_by kind types past (Refuse fault) w g sound writes = absurd (no_fault_done fault writes.0)
+
+pub kept : (kind : KeyKind) (types : Types) (past : List Step) (plan : Plan) (e : Ending) (w : Written) (given : Option (List ℕ)) → OfBytes given (λ g. ShowsKept kind types past g plan) →
+    e ≡ endings.Done → WritesDue e w (due_of_plan plan) → OfBytes given (KeepsKey kind types past)
+kept kind types past plan e w given sound is writes =
+    of_map given (λ g. ShowsKept kind types past g plan) (KeepsKey kind types past) (λ g shown. kept_by kind types past plan w g shown (subst (λ (x : Ending). WritesDue x w (due_of_plan plan)) is writes)) sound
+
+-- a sink doesn't fail as a disk does
+pub no_disk : (e : Ending) (w : Written) (due : Due) → WritesDue e w due → e ≡ endings.DiskFailed → ⊥
+no_disk e w due writes is = subst (λ (x : Ending). WritesDue x w due) is writes
+
 -- what is done is read whole
 done_whole : (plan : Plan) → (due_of_plan plan).ending ≡ endings.Done → (due_of_plan plan).whole ≡ true
 done_whole (Play schedule) is = refl
 done_whole (Show id) is = refl
 done_whole (ShowLedger last signed) is = refl
+done_whole (ShowKey line) is = refl
 done_whole (Refuse fault) is = absurd (no_fault_done fault is)
 
 -- what holds of what is due of a plan holds of what is due of the bytes
-of_due : (given : Option (List ℕ)) (owed : List ℕ → Due) (due : Due) (P : Due → Type 0) → OfBytes given (λ g. owed g ≡ due) → P due → OfBytes given (λ g. P (owed g))
-of_due given owed due P is p = of_map given (λ g. owed g ≡ due) (λ g. P (owed g)) (λ g same. subst P (sym same) p) is
+of_due : (r : Run) (owed : Owed) (due : Due) (P : Due → Type 0) → OfRun r (λ h g. owed h g ≡ due) → P due → OfRun r (λ h g. P (owed h g))
+of_due r owed due P is p = both_map r.disk.honest r.disk.held r.given (λ h g. owed h g ≡ due) (λ h g. P (owed h g)) (λ h g same. subst P (sym same) p) is
 
-owes_due : (e : Ending) (r : Run) (owed : List ℕ → Due) (due : Due) → OfBytes r.given (λ g. owed g ≡ due) → WritesDue e r.written due → Owes e r owed
-owes_due e r owed due is writes = of_due r.given owed due (WritesDue e r.written) is writes
+owes_due : (e : Ending) (r : Run) (owed : Owed) (due : Due) → OfRun r (λ h g. owed h g ≡ due) → WritesDue e r.written due → Owes e r owed
+owes_due e r owed due is writes = of_due r owed due (WritesDue e r.written) is writes
 
-reads_due : (e : Ending) (r : Run) (owed : List ℕ → Due) (due : Due) → OfBytes r.given (λ g. owed g ≡ due) → EndsSource due r.ended → WritesDue e r.written due → OwesRead e r owed
-reads_due e r owed due is ends writes = of_due r.given owed due (λ d. EndsSource d r.ended × WritesDue e r.written d) is (ends, writes)
+reads_due : (e : Ending) (r : Run) (owed : Owed) (due : Due) → OfRun r (λ h g. owed h g ≡ due) → EndsSource due r.ended → WritesDue e r.written due → OwesRead e r owed
+reads_due e r owed due is ends writes = of_due r owed due (λ d. EndsSource d r.ended × WritesDue e r.written d) is (ends, writes)
 
 -- a run that does what is due of the bytes
-pub due_runs : (e : Ending) (r : Run) (owed : List ℕ → Due) (plan : Plan) → OfBytes r.given (λ g. owed g ≡ due_of_plan plan) → EndsSource (due_of_plan plan) r.ended →
+pub due_runs : (e : Ending) (r : Run) (owed : Owed) (plan : Plan) → OfRun r (λ h g. owed h g ≡ due_of_plan plan) → EndsSource (due_of_plan plan) r.ended →
     WritesDue e r.written (due_of_plan plan) → Runs e r owed
 due_runs endings.Done r owed plan is ends writes = (ends (done_whole plan writes.0), owes_due endings.Done r owed (due_of_plan plan) is writes)
 due_runs endings.NotValid r owed plan is ends writes = reads_due endings.NotValid r owed (due_of_plan plan) is ends writes
 due_runs endings.OtherWords r owed plan is ends writes = owes_due endings.OtherWords r owed (due_of_plan plan) is writes
 due_runs endings.SourceFailed r owed plan is ends writes = absurd writes
 due_runs endings.SinkFailed r owed plan is ends writes = owes_due endings.SinkFailed r owed (due_of_plan plan) is writes
+due_runs endings.DiskFailed r owed plan is ends writes = absurd writes
 due_runs endings.Memory r owed plan is ends writes = owes_due endings.Memory r owed (due_of_plan plan) is writes
 due_runs endings.PastLimit r owed plan is ends writes = reads_due endings.PastLimit r owed (due_of_plan plan) is ends writes
 due_runs endings.NoReading r owed plan is ends writes = reads_due endings.NoReading r owed (due_of_plan plan) is ends writes
 
 -- a run that came to no plan
-pub nothing_owed : (r : Run) (owed : List ℕ → Due) → ((text : List ℕ) → AppendsFront r.written.held r.written.holds text) → Runs endings.Memory r owed
-nothing_owed r owed front = go r.given
-  where
-    go : (given : Option (List ℕ)) → OfBytes given (λ g. WritesDue endings.Memory r.written (owed g))
-    go None = ([], front (owed []).text)
-    go (Some g) = front (owed g).text
+pub nothing_owed : (r : Run) (owed : Owed) → ((text : List ℕ) → AppendsFront r.written.held r.written.holds text) → Runs endings.Memory r owed
+nothing_owed r owed front = both_any r.disk.honest r.disk.held r.given (λ h g. WritesDue endings.Memory r.written (owed h g)) (λ h g. front (owed h g).text)
+
+pub stop_runs : (stop : PlanStop) (r : Run) (owed : Owed) → (stop ≡ stops.SourceFailed → Rose r.faults r.faults_now) → (stop ≡ stops.DiskFailed → Rose r.disk.faults r.disk.faults_now) →
+    Keeps r.written.held r.written.holds → ((text : List ℕ) → AppendsFront r.written.held r.written.holds text) → Runs (ending_of_stop stop) r owed
+stop_runs stops.Memory r owed source disk keeps front = nothing_owed r owed front
+stop_runs stops.SourceFailed r owed source disk keeps front = (source refl, keeps)
+stop_runs stops.DiskFailed r owed source disk keeps front = (disk refl, keeps)
+
+no_answer_refused : (text : List ℕ) (w : Written) (e : Ending) → WritesDue e w (due_of_answer text) → (e ≡ endings.NotValid) ⊎ (e ≡ endings.SourceFailed) ⊎ (e ≡ endings.NoReading) → ⊥
+no_answer_refused text w endings.Done writes (inl is) = cc
+no_answer_refused text w endings.Done writes (inr (inl is)) = cc
+no_answer_refused text w endings.Done writes (inr (inr is)) = cc
+no_answer_refused text w endings.NotValid writes is = let q : endings.Done ≡ endings.NotValid = writes.0 in cc
+no_answer_refused text w endings.NoReading writes is = let q : endings.Done ≡ endings.NoReading = writes.0 in cc
+no_answer_refused text w endings.OtherWords writes is = let q : endings.Done ≡ endings.OtherWords = writes.0 in cc
+no_answer_refused text w endings.PastLimit writes is = let q : endings.Done ≡ endings.PastLimit = writes.0 in cc
+no_answer_refused text w endings.SourceFailed writes is = writes
+no_answer_refused text w endings.DiskFailed writes is = writes
+no_answer_refused text w endings.SinkFailed writes (inl is) = cc
+no_answer_refused text w endings.SinkFailed writes (inr (inl is)) = cc
+no_answer_refused text w endings.SinkFailed writes (inr (inr is)) = cc
+no_answer_refused text w endings.Memory writes (inl is) = cc
+no_answer_refused text w endings.Memory writes (inr (inl is)) = cc
+no_answer_refused text w endings.Memory writes (inr (inr is)) = cc
+
+-- an ending by which a fault is told
+pub refuses_by : (plan : Plan) (w : Written) (e : Ending) → WritesDue e w (due_of_plan plan) → (e ≡ endings.NotValid) ⊎ (e ≡ endings.SourceFailed) ⊎ (e ≡ endings.NoReading) → TellsFault plan
+refuses_by (Refuse fault) w e writes is = tt
+refuses_by (Play schedule) w e writes is = absurd (no_answer_refused (text_of_schedule schedule) w e writes is)
+refuses_by (Show id) w e writes is = absurd (no_answer_refused (valid_line id) w e writes is)
+refuses_by (ShowLedger last signed) w e writes is = absurd (no_answer_refused (ledger_line last signed) w e writes is)
+refuses_by (ShowKey line) w e writes is = absurd (no_answer_refused line.items w e writes is)

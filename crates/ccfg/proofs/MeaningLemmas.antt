@@ -1,5 +1,5 @@
 -- What it says of bytes that they are owed an ending and a text, and the other way round.
-use Rattle.std.proofs.Common.{◌≡◌, ℕ, inl, inr, List, length, Bool, true, false, Result, Ok, Err, nat_lt, if◌then◌else◌, refl, ap, ◌∙◌, arith}
+use Rattle.std.proofs.Common.{◌≡◌, ℕ, inl, inr, List, [], ◌∷◌, length, Bool, true, false, Result, Ok, Err, nat_lt, if◌then◌else◌, refl, ap, ◌∙◌, arith}
 use Rattle.std.proofs.lemmas.Bool.Decides.{nat_tests}
 use Rattle.gl_base.specs.declared.json.FormsFault.{FormsFault}
 use Rattle.gl_base.specs.declared.tx_id.TxId.{TxId}
@@ -19,34 +19,38 @@ use Rattle.ccfg.specs.declared.fault.Fault.TheVariants as faults
 use Rattle.gl_schedule.specs.declared.schedule.Schedule.{Schedule}
 use Rattle.ccfg.specs.declared.words.Task.{Task}
 use Rattle.ccfg.specs.declared.words.Task.TheVariants as tasks
-use Rattle.ccfg.specs.Owed.{Due, bytes_limit, due_of, due_of_audit, due_of_fault, due_of_form, due_of_reading, due_of_receipt, due_of_schedule, due_of_verdict, json_limit, lines_limit}
+use Rattle.gl_journal.specs.declared.key.KeyKind.{KeyKind}
+use Rattle.gl_lms.specs.declared.types.Types.{Types}
+use Rattle.ccfg.proofs.KeyLemmas.{key_of, long_seed, seed_due, short_seed, whole_seed}
+use Rattle.ccfg.specs.Owed.{Due, bytes_limit, due_of, due_of_answer, due_of_audit, due_of_fault, due_of_seed, key_line, on_empty, seed_len, due_of_form, due_of_reading, due_of_receipt, due_of_schedule, due_of_verdict, json_limit, lines_limit}
 use Rattle.ccfg.specs.Promises.{HasBadLine, HasOtherForm, HasTooManyBytes, HasTooManyLines, HasTooMuchJson, IsAnswer, IsPastLimit, IsReceipt, IsRefusal, IsNoReading, ReadsAs}
 use Rattle.gl_schedule.specs.Schedules.{reads}
 
 -- What an ending and a text say of the bytes that are owed them.
-abbrev pub Means : Task → List ℕ → Ending → List ℕ → Type 0
-Means task given endings.Done text = IsAnswer task given text
-Means task given endings.NotValid text = IsRefusal task given text
-Means task given endings.OtherWords text = ⊥
-Means task given endings.SourceFailed text = ⊥
-Means task given endings.SinkFailed text = ⊥
-Means task given endings.Memory text = ⊥
-Means task given endings.PastLimit text = IsPastLimit task given text
-Means task given endings.NoReading text = IsNoReading task given text
+abbrev pub Means : Task → List ℕ → List ℕ → Ending → List ℕ → Type 0
+Means task held given endings.Done text = IsAnswer task held given text
+Means task held given endings.NotValid text = IsRefusal task held given text
+Means task held given endings.OtherWords text = ⊥
+Means task held given endings.SourceFailed text = ⊥
+Means task held given endings.SinkFailed text = ⊥
+Means task held given endings.DiskFailed text = ⊥
+Means task held given endings.Memory text = ⊥
+Means task held given endings.PastLimit text = IsPastLimit task held given text
+Means task held given endings.NoReading text = IsNoReading task held given text
 
-abbrev DueMeans : Task → List ℕ → Due → Type 0
-DueMeans task given due = Means task given due.ending due.text
+abbrev DueMeans : Task → List ℕ → List ℕ → Due → Type 0
+DueMeans task held given due = Means task held given due.ending due.text
 
 -- Schedules
 
 abbrev schedule_due : Bool → Bool → Result Schedule ScheduleFault → Due
 schedule_due bytes lines read = if bytes then due_of_fault faults.TooManyBytes else (if lines then due_of_fault faults.TooManyLines else due_of_reading read)
 
-schedule_means : (given : List ℕ) → DueMeans tasks.Replay given (due_of_schedule given)
+schedule_means : (held given : List ℕ) → DueMeans tasks.Replay held given (due_of_schedule given)
 unfolding due_of_schedule
-schedule_means given = go (nat_lt bytes_limit (length given)) (nat_lt lines_limit (line_count given)) (reads given) refl refl refl
+schedule_means held given = go (nat_lt bytes_limit (length given)) (nat_lt lines_limit (line_count given)) (reads given) refl refl refl
   where
-    go : (b l : Bool) (s : Result Schedule ScheduleFault) → nat_lt bytes_limit (length given) ≡ b → nat_lt lines_limit (line_count given) ≡ l → reads given ≡ s → DueMeans tasks.Replay given (schedule_due b l s)
+    go : (b l : Bool) (s : Result Schedule ScheduleFault) → nat_lt bytes_limit (length given) ≡ b → nat_lt lines_limit (line_count given) ≡ l → reads given ≡ s → DueMeans tasks.Replay held given (schedule_due b l s)
     go true l s bytes lines read = inl (grind (arith, nat_tests), refl)
     go false true s bytes lines read = inr ((grind (arith, nat_tests), grind (arith, nat_tests)), refl)
     go false false (Err (BadLine number)) bytes lines read = (number, ((grind (arith, nat_tests), grind (arith, nat_tests)), read), refl)
@@ -74,15 +78,15 @@ good_lines given schedule good = schedule_is given false false (Ok schedule) (le
 abbrev receipt_due : List ℕ → Bool → Result Receipt FormsFault → Due
 receipt_due identity bytes read = if bytes then due_of_fault faults.TooMuchJson else due_of_form identity read
 
-receipt_means : (identity given : List ℕ) → DueMeans (tasks.Verify identity) given (due_of_receipt identity given)
+receipt_means : (identity held given : List ℕ) → DueMeans (tasks.Verify identity) held given (due_of_receipt identity given)
 unfolding due_of_receipt
-receipt_means identity given = go (nat_lt json_limit (length given)) (receipt_from given) refl refl
+receipt_means identity held given = go (nat_lt json_limit (length given)) (receipt_from given) refl refl
   where
-    of_verdict : (receipt : Receipt) → IsReceipt given receipt → (v : Result TxId ReceiptFault) → verdict identity receipt ≡ v → DueMeans (tasks.Verify identity) given (due_of_verdict v)
+    of_verdict : (receipt : Receipt) → IsReceipt given receipt → (v : Result TxId ReceiptFault) → verdict identity receipt ≡ v → DueMeans (tasks.Verify identity) held given (due_of_verdict v)
     of_verdict receipt reads (Ok id) is = (receipt, reads, id, is, refl)
     of_verdict receipt reads (Err fault) is = (receipt, reads, fault, is, refl)
 
-    go : (b : Bool) (s : Result Receipt FormsFault) → nat_lt json_limit (length given) ≡ b → receipt_from given ≡ s → DueMeans (tasks.Verify identity) given (receipt_due identity b s)
+    go : (b : Bool) (s : Result Receipt FormsFault) → nat_lt json_limit (length given) ≡ b → receipt_from given ≡ s → DueMeans (tasks.Verify identity) held given (receipt_due identity b s)
     go true s bytes read = (grind (arith, nat_tests), refl)
     go false (Err fault) bytes read = (fault, (grind (arith, nat_tests), read), refl)
     go false (Ok receipt) bytes read = of_verdict receipt (grind (arith, nat_tests), read) (verdict identity receipt) refl
@@ -103,10 +107,10 @@ of_form identity given receipt v is told =
 
 -- Ledgers
 
-audit_means : (identity given : List ℕ) → DueMeans (tasks.Audit identity) given (due_of_audit (audits_to.verdict identity given))
-audit_means identity given = go (audits_to.verdict identity given) refl
+audit_means : (identity held given : List ℕ) → DueMeans (tasks.Audit identity) held given (due_of_audit (audits_to.verdict identity given))
+audit_means identity held given = go (audits_to.verdict identity given) refl
   where
-    go : (v : Verdict) → audits_to.verdict identity given ≡ v → DueMeans (tasks.Audit identity) given (due_of_audit v)
+    go : (v : Verdict) → audits_to.verdict identity given ≡ v → DueMeans (tasks.Audit identity) held given (due_of_audit v)
     go (audits.Valid last signed) is = (last, signed, is, refl)
     go (audits.Foreign key) is = inl (key, is, refl)
     go (audits.Fault seqno rule) is = inr (seqno, rule, is, refl)
@@ -114,12 +118,31 @@ audit_means identity given = go (audits_to.verdict identity given) refl
 audit_ends : (identity given : List ℕ) (v : Verdict) → audits_to.verdict identity given ≡ v → (due_of_audit (audits_to.verdict identity given)).ending ≡ (due_of_audit v).ending
 audit_ends identity given v is = ap (λ (x : Verdict). (due_of_audit x).ending) is
 
+-- Keys
+
+seed_means : (kind : KeyKind) (types : Types) (given : List ℕ) → DueMeans (tasks.Keygen kind types) [] given (due_of_seed kind types given)
+unfolding due_of_seed
+seed_means kind types given = go (nat_lt (length given) seed_len) (nat_lt seed_len (length given)) refl refl
+  where
+    go : (short long : Bool) → nat_lt (length given) seed_len ≡ short → nat_lt seed_len (length given) ≡ long → DueMeans (tasks.Keygen kind types) [] given (seed_due kind types given short long)
+    go true long s l = (refl, inl (grind (arith, nat_tests), refl))
+    go false true s l = (refl, inr (grind (arith, nat_tests), refl))
+    go false false s l = (refl, grind (arith, nat_tests), refl)
+
+key_means : (kind : KeyKind) (types : Types) (held given : List ℕ) → DueMeans (tasks.Keygen kind types) held given (on_empty held (due_of_seed kind types given))
+key_means kind types [] given = seed_means kind types given
+key_means kind types (byte ∷ held) given = (omega arith, refl)
+
+key_ends : (kind : KeyKind) (types : Types) (held given : List ℕ) (due : Due) → held ≡ [] → due_of_seed kind types given ≡ due → (on_empty held (due_of_seed kind types given)).ending ≡ due.ending
+key_ends kind types held given due empty is = ap (λ (h : List ℕ). (on_empty h (due_of_seed kind types given)).ending) empty ∙ ap (λ (d : Due). d.ending) is
+
 -- All
 
-pub means : (task : Task) (given : List ℕ) → Means task given (due_of task given).ending (due_of task given).text
-means tasks.Replay given = schedule_means given
-means (tasks.Verify identity) given = receipt_means identity given
-means (tasks.Audit identity) given = audit_means identity given
+pub means : (task : Task) (held given : List ℕ) → Means task held given (due_of task held given).ending (due_of task held given).text
+means tasks.Replay held given = schedule_means held given
+means (tasks.Verify identity) held given = receipt_means identity held given
+means (tasks.Audit identity) held given = audit_means identity held given
+means (tasks.Keygen kind types) held given = key_means kind types held given
 
 -- The ending that is owed.
 abbrev EndsWith : Ending → Due → Type 0
@@ -128,26 +151,32 @@ EndsWith e due = due.ending ≡ e
 ending_of : (due other : Due) → due ≡ other → due.ending ≡ other.ending
 ending_of due other is = ap (λ (d : Due). d.ending) is
 
-pub answer_ends : (task : Task) (given text : List ℕ) → IsAnswer task given text → EndsWith endings.Done (due_of task given)
-answer_ends tasks.Replay given text a = ending_of (due_of_schedule given) (due_of_reading (Ok a.0)) (good_lines given a.0 a.1)
-answer_ends (tasks.Verify identity) given text a =
+pub answer_ends : (task : Task) (held given text : List ℕ) → IsAnswer task held given text → EndsWith endings.Done (due_of task held given)
+answer_ends tasks.Replay held given text a = ending_of (due_of_schedule given) (due_of_reading (Ok a.0)) (good_lines given a.0 a.1)
+answer_ends (tasks.Verify identity) held given text a =
     ending_of (due_of_receipt identity given) (due_of_verdict (Ok a.2)) (of_form identity given a.0 (Ok a.2) a.1 a.3)
-answer_ends (tasks.Audit identity) given text a = audit_ends identity given (audits.Valid a.0 a.1) a.2
+answer_ends (tasks.Audit identity) held given text a = audit_ends identity given (audits.Valid a.0 a.1) a.2
+answer_ends (tasks.Keygen kind types) held given text a = key_ends kind types held given (due_of_answer (key_line (key_of kind types given))) a.0 (whole_seed kind types given a.1)
 
-pub refusal_ends : (task : Task) (given text : List ℕ) → IsRefusal task given text → EndsWith endings.NotValid (due_of task given)
-refusal_ends tasks.Replay given text a = absurd a
-refusal_ends (tasks.Verify identity) given text a =
+pub refusal_ends : (task : Task) (held given text : List ℕ) → IsRefusal task held given text → EndsWith endings.NotValid (due_of task held given)
+refusal_ends tasks.Replay held given text a = absurd a
+refusal_ends (tasks.Verify identity) held given text a =
     ending_of (due_of_receipt identity given) (due_of_verdict (Err a.2)) (of_form identity given a.0 (Err a.2) a.1 a.3)
-refusal_ends (tasks.Audit identity) given text (inl a) = audit_ends identity given (audits.Foreign a.0) a.1
-refusal_ends (tasks.Audit identity) given text (inr a) = audit_ends identity given (audits.Fault a.0 a.1) a.2
+refusal_ends (tasks.Audit identity) held given text (inl a) = audit_ends identity given (audits.Foreign a.0) a.1
+refusal_ends (tasks.Audit identity) held given text (inr a) = audit_ends identity given (audits.Fault a.0 a.1) a.2
+refusal_ends (tasks.Keygen kind types) (byte ∷ held) given text a = refl
+refusal_ends (tasks.Keygen kind types) [] given text a = let some = a.0 in absurd (omega arith)
 
-pub limit_ends : (task : Task) (given text : List ℕ) → IsPastLimit task given text → EndsWith endings.PastLimit (due_of task given)
-limit_ends tasks.Replay given text (inl a) = ending_of (due_of_schedule given) (due_of_fault faults.TooManyBytes) (too_many_bytes given a.0)
-limit_ends tasks.Replay given text (inr a) = ending_of (due_of_schedule given) (due_of_fault faults.TooManyLines) (too_many_lines given a.0)
-limit_ends (tasks.Verify identity) given text a = ending_of (due_of_receipt identity given) (due_of_fault faults.TooMuchJson) (too_much_json identity given a.0)
-limit_ends (tasks.Audit identity) given text a = absurd a
+pub limit_ends : (task : Task) (held given text : List ℕ) → IsPastLimit task held given text → EndsWith endings.PastLimit (due_of task held given)
+limit_ends tasks.Replay held given text (inl a) = ending_of (due_of_schedule given) (due_of_fault faults.TooManyBytes) (too_many_bytes given a.0)
+limit_ends tasks.Replay held given text (inr a) = ending_of (due_of_schedule given) (due_of_fault faults.TooManyLines) (too_many_lines given a.0)
+limit_ends (tasks.Verify identity) held given text a = ending_of (due_of_receipt identity given) (due_of_fault faults.TooMuchJson) (too_much_json identity given a.0)
+limit_ends (tasks.Audit identity) held given text a = absurd a
+limit_ends (tasks.Keygen kind types) held given text a = absurd a
 
-pub unread_ends : (task : Task) (given text : List ℕ) → IsNoReading task given text → EndsWith endings.NoReading (due_of task given)
-unread_ends tasks.Replay given text a = ending_of (due_of_schedule given) (due_of_fault (faults.BadLine a.0)) (bad_line given a.0 a.1)
-unread_ends (tasks.Verify identity) given text a = ending_of (due_of_receipt identity given) (due_of_fault (faults.Form a.0)) (other_form identity given a.0 a.1)
-unread_ends (tasks.Audit identity) given text a = absurd a
+pub unread_ends : (task : Task) (held given text : List ℕ) → IsNoReading task held given text → EndsWith endings.NoReading (due_of task held given)
+unread_ends tasks.Replay held given text a = ending_of (due_of_schedule given) (due_of_fault (faults.BadLine a.0)) (bad_line given a.0 a.1)
+unread_ends (tasks.Verify identity) held given text a = ending_of (due_of_receipt identity given) (due_of_fault (faults.Form a.0)) (other_form identity given a.0 a.1)
+unread_ends (tasks.Audit identity) held given text a = absurd a
+unread_ends (tasks.Keygen kind types) held given text (empty, inl a) = key_ends kind types held given (due_of_fault (faults.Short (length given))) empty (short_seed kind types given a.0)
+unread_ends (tasks.Keygen kind types) held given text (empty, inr a) = key_ends kind types held given (due_of_fault (faults.Trailing seed_len)) empty (long_seed kind types given a.0)

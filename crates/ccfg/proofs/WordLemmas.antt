@@ -1,5 +1,5 @@
 -- What words ask for, and that of those which ask for nothing some kind of fault is told.
-use Rattle.std.proofs.Common.{◌≡◌, ℕ, List, [], ◌∷◌, Bool, true, false, Option, None, Some, Result, Ok, Err, if◌then◌else◌, refl, ap, ◌∙◌, ◌⊎◌, inl, inr, subst, sym, option_map, codes, Global}
+use Rattle.std.proofs.Common.{◌≡◌, ℕ, List, [], ◌∷◌, Bool, true, false, Option, None, Some, Result, Ok, Err, IfOk, IfErr, if◌then◌else◌, refl, ap, ◌∙◌, ◌⊎◌, inl, inr, subst, sym, option_map, codes, Global}
 use Rattle.std.specs.Str.{bytes_eq}
 use Rattle.clap.proofs.OnLiterals.{clap_on_literals}
 use Rattle.clap.specs.Faults.{fault_of, is_simple_and_free}
@@ -24,12 +24,14 @@ use Rattle.ccfg.specs.declared.words.Task.{Task}
 use Rattle.ccfg.specs.declared.words.Task.TheVariants as tasks
 use Rattle.ccfg.specs.Faults.{fault_line}
 use Rattle.ccfg.specs.Owed.{Answers, Run, Runs, WritesDue, due_of, due_of_fault}
-use Rattle.ccfg.specs.Words.{Refuses, asked, asked_command, asked_identity, asked_under, program, spelled_key, unless_faulty}
+use Rattle.gl_journal.specs.declared.key.KeyKind.{KeyKind}
+use Rattle.gl_lms.specs.declared.types.Types.{Types}
+use Rattle.ccfg.specs.Words.{Refuses, asked, asked_command, asked_identity, asked_key, asked_keygen, asked_name, asked_options, asked_under, diskless_program, named_kind, named_types, program, spelled_key, unless_faulty, valid_value}
 use Rattle.ccfg.proofs.DueLemmas.{nothing_owed}
 
 -- Some kind is told, if the words ask for nothing.
-abbrev HasKind : Result Task Kinds → Type 0
-HasKind (Ok task) = Unit {0}
+abbrev HasKind : {A : Type 0} → Result A Kinds → Type 0
+HasKind (Ok value) = Unit {0}
 HasKind (Err told) = (kind : ErrorKind) × IsAmong kind told
 
 kind_of_hex : (name : Text) (key : Result (List ℕ) LineFault) → HasKind (asked_under name (spelled_key key))
@@ -40,13 +42,35 @@ kind_of_identity : (name : Text) (word : Option Text) → HasKind (asked_under n
 kind_of_identity name None = (kinds.MissingRequiredArgument, inl refl)
 kind_of_identity name (Some word) = kind_of_hex name (hex_sized word 60)
 
+kind_of_key : (kind : Result KeyKind Kinds) (types : Result Types Kinds) → HasKind kind → HasKind types → HasKind (asked_key kind types)
+kind_of_key (Err told) types k t = k
+kind_of_key (Ok kind) (Err told) k t = t
+kind_of_key (Ok kind) (Ok types) k t = tt
+
+kind_of_name : {A : Type 0} (named : Text → Option A) (word : Option Text) → HasKind (asked_name named word)
+kind_of_name named None = (kinds.MissingRequiredArgument, inl refl)
+kind_of_name {A = A} named (Some word) = go (named word)
+  where
+    go : (found : Option A) → HasKind (valid_value found)
+    go None = (kinds.InvalidValue, inl refl)
+    go (Some value) = tt
+
+kind_of_options : (name : Text) (rows : List Row) → HasKind (asked_options name rows)
+kind_of_options name rows = go (bytes_eq name (codes "keygen"))
+  where
+    go : (b : Bool) → HasKind (if b then asked_keygen (first_of (codes "kind") rows) (first_of (codes "types") rows) else asked_under name (asked_identity (first_of (codes "identity") rows)))
+    go true =
+        kind_of_key (asked_name named_kind (first_of (codes "kind") rows)) (asked_name named_types (first_of (codes "types") rows))
+        (kind_of_name named_kind (first_of (codes "kind") rows)) (kind_of_name named_types (first_of (codes "types") rows))
+    go false = kind_of_identity name (first_of (codes "identity") rows)
+
 kind_of_command : (command : Option (Text × List Row)) → HasKind (asked_command command)
 kind_of_command None = (kinds.MissingSubcommand, inl refl)
 kind_of_command (Some command) = go (bytes_eq command.0 (codes "replay"))
   where
-    go : (b : Bool) → HasKind (if b then Ok tasks.Replay else asked_under command.0 (asked_identity (first_of (codes "identity") command.1)))
+    go : (b : Bool) → HasKind (if b then Ok tasks.Replay else asked_options command.0 command.1)
     go true = tt
-    go false = kind_of_identity command.0 (first_of (codes "identity") command.1)
+    go false = kind_of_options command.0 command.1
 
 kind_of_faults : (told : Kinds) (task : Result Task Kinds) → HasKind task → HasKind (unless_faulty told task)
 kind_of_faults [] task has = has
@@ -59,11 +83,11 @@ some_kind words = kind_of_faults (fault_of program words) (asked_command (subcom
 -- The program as the library has it
 
 free : is_simple_and_free program ≡ true
-unfolding clap_on_literals program
+unfolding clap_on_literals program diskless_program
 free = refl
 
 simple : is_simple program ≡ true
-unfolding clap_on_literals program
+unfolding clap_on_literals program diskless_program
 simple = refl
 
 -- The subcommand that was met, from its name and its rows.
@@ -78,10 +102,30 @@ met m name rows named found = go (out-ArgMatches m).subcommand named found
 
 -- a command that is not `replay`
 pub other_command : (m : ArgMatches) (name : Text) (rows : List Row) → Some name ≡ subcommand_name_of m → Some rows ≡ option_map (λ (p : Text × List Row). p.1) (subcommand_rows_of m) →
-    false ≡ bytes_eq name (codes "replay") → asked_command (subcommand_rows_of m) ≡ asked_under name (asked_identity (first_of (codes "identity") rows))
+    false ≡ bytes_eq name (codes "replay") → asked_command (subcommand_rows_of m) ≡ asked_options name rows
 other_command m name rows named found other =
     ap asked_command (met m name rows named found)
-    ∙ ap (λ (b : Bool). if b then Ok tasks.Replay else asked_under name (asked_identity (first_of (codes "identity") rows))) (sym other)
+    ∙ ap (λ (b : Bool). if b then Ok tasks.Replay else asked_options name rows) (sym other)
+
+-- `keygen`, and a command that isn't it
+pub keygen_options : (name : Text) (rows : List Row) (kind types : Option Text) → true ≡ bytes_eq name (codes "keygen") → kind ≡ first_of (codes "kind") rows → types ≡ first_of (codes "types") rows → asked_options name rows ≡ asked_keygen kind types
+keygen_options name rows kind types is k t =
+    ap (λ (b : Bool). if b then asked_keygen (first_of (codes "kind") rows) (first_of (codes "types") rows) else asked_under name (asked_identity (first_of (codes "identity") rows))) (sym is)
+    ∙ ap (λ (x : Option Text). asked_keygen x (first_of (codes "types") rows)) (sym k) ∙ ap (λ (x : Option Text). asked_keygen kind x) (sym t)
+
+pub identity_options : (name : Text) (rows : List Row) (word : Option Text) → false ≡ bytes_eq name (codes "keygen") → word ≡ first_of (codes "identity") rows → asked_options name rows ≡ asked_under name (asked_identity word)
+identity_options name rows word other w =
+    ap (λ (b : Bool). if b then asked_keygen (first_of (codes "kind") rows) (first_of (codes "types") rows) else asked_under name (asked_identity (first_of (codes "identity") rows))) (sym other)
+    ∙ ap (λ (x : Option Text). asked_under name (asked_identity x)) (sym w)
+
+-- what a call answers that asks the same
+pub same_found : (r : Result Task ErrorKind) (asks other : Result Task Kinds) → other ≡ asks → IfOk r (λ task. asks ≡ Ok task) → IfOk r (λ task. other ≡ Ok task)
+same_found (Ok task) asks other is found = is ∙ found
+same_found (Err kind) asks other is found = tt
+
+pub same_refused : (r : Result Task ErrorKind) (asks other : Result Task Kinds) → other ≡ asks → IfErr r (λ kind. asks ≡ Err (kind ∷ [])) → IfErr r (λ kind. other ≡ Err (kind ∷ []))
+same_refused (Ok task) asks other is refused = tt
+same_refused (Err kind) asks other is refused = is ∙ refused
 
 -- words in which the library found no fault
 pub asked_found : (words : List Text) (found : Option (Text × List Row)) → fault_of program words ≡ [] → found ≡ subcommand_of program words → asked words ≡ asked_command found

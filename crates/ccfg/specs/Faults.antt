@@ -68,6 +68,9 @@ fault_text (faults.NotValid fault) = receipt_text fault
 fault_text (faults.Broken seqno rule) =
     codes "seqno " ++ decimal seqno ++ codes " rule " ++ decimal rule
 fault_text (faults.Foreign identity) = codes "foreign " ++ encode_lower identity
+fault_text (faults.NotEmpty len) = codes "NotEmpty " ++ decimal len
+fault_text (faults.Short at) = codes "Short " ++ decimal at
+fault_text (faults.Trailing at) = codes "Trailing " ++ decimal at
 
 -- The line.
 abbrev pub fault_line : Fault → List ℕ

@@ -1,11 +1,16 @@
 -- What a run of the program owes to its words and its source: how it ends, and what it writes.
-use Rattle.std.specs.Prelude.{◌≡◌, ℕ, List, ◌++◌, Option, None, Some, Result, Ok, Err, Bool, true, false, codes, length, nat_lt, if◌then◌else◌}
+use Rattle.std.specs.Prelude.{◌≡◌, ℕ, List, [], ◌∷◌, ◌++◌, Option, None, Some, Result, Ok, Err, Bool, true, false, codes, length, nat_lt, if◌then◌else◌}
 use Rattle.std.specs.Io.KnownBytes.{Appends, Keeps}
 use Rattle.clap.specs.Kinds.{Kinds, IsAmong}
 use Rattle.clap.specs.declared.error.kind.ErrorKind.{ErrorKind}
 use Rattle.gl_base.specs.TxId.{text_of}
 use Rattle.gl_base.specs.declared.json.FormsFault.{FormsFault}
 use Rattle.gl_base.specs.declared.tx_id.TxId.{TxId}
+use Rattle.gl_forms.specs.Key.{key_tree}
+use Rattle.gl_journal.specs.declared.key.Key.{Key}
+use Rattle.gl_journal.specs.declared.key.KeyKind.{KeyKind}
+use Rattle.gl_keyfile.specs.Form.{key_form_of}
+use Rattle.gl_lms.specs.declared.types.Types.{Types}
 use Rattle.gl_outside.specs.Fault.{Rose}
 use Rattle.gl_outside.specs.Sink.{AppendsFront}
 use Rattle.gl_lines.specs.declared.fault.ScheduleFault.{ScheduleFault}
@@ -19,11 +24,14 @@ use Rattle.gl_audit.specs.Given.{OfBytes}
 use Rattle.gl_audit.specs.Verdict as audits_to
 use Rattle.gl_audit.specs.declared.verdict.Verdict.{Verdict}
 use Rattle.gl_audit.specs.declared.verdict.Verdict.TheVariants as audits
+use Rattle.serde_json.specs.Written.{compact_text}
 use Rattle.ccfg.specs.declared.fault.Fault.{Fault}
 use Rattle.ccfg.specs.declared.fault.Fault.TheVariants as faults
 use Rattle.ccfg.specs.declared.ending.Ending.{Ending}
 use Rattle.ccfg.specs.declared.ending.Ending.TheVariants as endings
 use Rattle.gl_schedule.specs.declared.schedule.Schedule.{Schedule}
+use Rattle.ccfg.specs.declared.plan.PlanStop.{PlanStop}
+use Rattle.ccfg.specs.declared.plan.PlanStop.TheVariants as stops
 use Rattle.ccfg.specs.declared.words.Task.{Task}
 use Rattle.ccfg.specs.declared.words.Task.TheVariants as tasks
 use Rattle.ccfg.specs.Faults.{fault_line}
@@ -36,6 +44,7 @@ exit_status endings.NotValid = 1
 exit_status endings.OtherWords = 2
 exit_status endings.SourceFailed = 3
 exit_status endings.SinkFailed = 4
+exit_status endings.DiskFailed = 5
 exit_status endings.Memory = 7
 exit_status endings.PastLimit = 8
 exit_status endings.NoReading = 9
@@ -51,9 +60,19 @@ ending_of_fault (faults.Form fault) = endings.NoReading
 ending_of_fault (faults.NotValid fault) = endings.NotValid
 ending_of_fault (faults.Broken seqno rule) = endings.NotValid
 ending_of_fault (faults.Foreign identity) = endings.NotValid
+ending_of_fault (faults.NotEmpty len) = endings.NotValid
+ending_of_fault (faults.Short at) = endings.NoReading
+ending_of_fault (faults.Trailing at) = endings.NoReading
 
--- Whether a source is read whole before this fault is told of it. Where it has more bytes than the
--- limit it isn't, nor is a ledger in which an entry breaks a rule: the audit stops there.
+-- How a run ends that has no plan of what to do.
+abbrev pub ending_of_stop : PlanStop → Ending
+ending_of_stop stops.Memory = endings.Memory
+ending_of_stop stops.SourceFailed = endings.SourceFailed
+ending_of_stop stops.DiskFailed = endings.DiskFailed
+
+-- Whether a source is read whole before this fault is told of it. Where it has more bytes than are
+-- wanted it isn't, nor is a ledger in which an entry breaks a rule: the audit stops there. Where a
+-- disk isn't empty it isn't read at all.
 abbrev pub is_read_whole : Fault → Bool
 is_read_whole (faults.Words kind) = false
 is_read_whole faults.TooManyBytes = false
@@ -64,6 +83,9 @@ is_read_whole (faults.Form fault) = true
 is_read_whole (faults.NotValid fault) = true
 is_read_whole (faults.Broken seqno rule) = false
 is_read_whole (faults.Foreign identity) = true
+is_read_whole (faults.NotEmpty len) = false
+is_read_whole (faults.Short at) = true
+is_read_whole (faults.Trailing at) = false
 
 -- What is owed
 
@@ -142,11 +164,39 @@ due_of_audit (audits.Valid last signed) = due_of_answer (ledger_line last signed
 due_of_audit (audits.Foreign identity) = due_of_fault (faults.Foreign identity)
 due_of_audit (audits.Fault seqno rule) = due_of_fault (faults.Broken seqno rule)
 
--- What a task owes to the bytes of its source.
-abbrev pub due_of : Task → List ℕ → Due
-due_of tasks.Replay given = due_of_schedule given
-due_of (tasks.Verify identity) given = due_of_receipt identity given
-due_of (tasks.Audit identity) given = due_of_audit (audits_to.verdict identity given)
+-- How many bytes the seed of a key has.
+abbrev pub seed_len : ℕ
+seed_len = 32
+
+-- The line of a key's public form.
+abbrev pub key_line : Key → List ℕ
+key_line key = compact_text (key_tree (key_form_of key)) ++ codes "\n"
+
+-- What is owed to bytes that are to be the seed of a key.
+unfoldable pub due_of_seed : KeyKind → Types → List ℕ → Due
+due_of_seed kind types given =
+    if nat_lt (length given) seed_len then due_of_fault (faults.Short (length given))
+    else (if nat_lt seed_len (length given) then due_of_fault (faults.Trailing seed_len)
+    else due_of_answer (key_line (record { kind = kind; types = types; seed = given })))
+
+-- What is owed where the disk has to be empty: else the number of its bytes.
+abbrev pub on_empty : List ℕ → Due → Due
+on_empty [] due = due
+on_empty (byte ∷ held) due = due_of_fault (faults.NotEmpty (length (byte ∷ held)))
+
+-- What a task owes to the bytes that the disk holds and to those of its source. A key is begun on
+-- an empty disk alone, and that is tried before the source; the other tasks use no disk.
+abbrev pub due_of : Task → List ℕ → List ℕ → Due
+due_of tasks.Replay held given = due_of_schedule given
+due_of (tasks.Verify identity) held given = due_of_receipt identity given
+due_of (tasks.Audit identity) held given = due_of_audit (audits_to.verdict identity given)
+due_of (tasks.Keygen kind types) held given = on_empty held (due_of_seed kind types given)
+
+-- What holds of the bytes that a disk holds: of an honest disk of its bytes, of another one of some
+-- bytes.
+abbrev pub OfHeld : Bool → List ℕ → (List ℕ → Type 0) → Type 0
+OfHeld true held P = P held
+OfHeld false held P = (told : List ℕ) × P told
 
 -- What a run does
 
@@ -165,6 +215,7 @@ Writes e w due = (due.ending ≡ e) × Appends w.held w.holds due.text
 -- ran out, a front of what is due; else all of it.
 abbrev pub WritesDue : Ending → Written → Due → Type 0
 WritesDue endings.SourceFailed w due = ⊥
+WritesDue endings.DiskFailed w due = ⊥
 WritesDue endings.SinkFailed w due =
     Rose w.faults w.faults_now × AppendsFront w.held w.holds due.text
 WritesDue endings.Memory w due = AppendsFront w.held w.holds due.text
@@ -174,8 +225,17 @@ WritesDue endings.OtherWords w due = Writes endings.OtherWords w due
 WritesDue endings.PastLimit w due = Writes endings.PastLimit w due
 WritesDue endings.NoReading w due = Writes endings.NoReading w due
 
+-- The disk of a run: whether it is honest, what it held before the run, and its counts of faults
+-- before it and after it.
+pub record OnDisk : Type 0 where
+  pub honest : Bool
+  pub held : List ℕ
+  pub faults : ℕ
+  pub faults_now : ℕ
+
 -- With what a run began, and what it left.
 pub record Run : Type 0 where
+  pub disk : OnDisk
   -- what the source had to give, where it tells that, whether it gave its end, and its counts of
   -- faults
   pub given : Option (List ℕ)
@@ -184,24 +244,34 @@ pub record Run : Type 0 where
   pub faults_now : ℕ
   pub written : Written
 
-abbrev pub Owes : Ending → Run → (List ℕ → Due) → Type 0
-Owes e r due = OfBytes r.given (λ given. WritesDue e r.written (due given))
+-- What a run owes is a function of what the disk held and of what the source had to give.
+abbrev pub Owed : Type 0
+Owed = List ℕ → List ℕ → Due
+
+-- What holds of both.
+abbrev pub OfRun : Run → (List ℕ → List ℕ → Type 0) → Type 0
+OfRun r P = OfHeld r.disk.honest r.disk.held (λ held. OfBytes r.given (λ given. P held given))
+
+abbrev pub Owes : Ending → Run → Owed → Type 0
+Owes e r due = OfRun r (λ held given. WritesDue e r.written (due held given))
 
 -- Where a source is read whole, it gave its end.
 abbrev pub EndsSource : Due → Bool → Type 0
 EndsSource due ended = due.whole ≡ true → ended ≡ true
 
 -- The bytes are owed this, and where they are to be read whole, they were.
-abbrev pub OwesRead : Ending → Run → (List ℕ → Due) → Type 0
-OwesRead e r due =
-    OfBytes r.given (λ given. EndsSource (due given) r.ended × WritesDue e r.written (due given))
+abbrev pub OwesRead : Ending → Run → Owed → Type 0
+OwesRead e r due = OfRun r (λ held given.
+    EndsSource (due held given) r.ended × WritesDue e r.written (due held given))
 
--- What a task does that owes this to the bytes of its source. Where the source failed, by its count
--- of faults, nothing is written. Else what is owed to the bytes is; and the source gave its end
--- where it is done, and where else the source is read whole.
-abbrev pub Runs : Ending → Run → (List ℕ → Due) → Type 0
+-- What a task does that owes this. Where the source or the disk failed, by its count of faults,
+-- nothing is written. Else what is owed is; and the source gave its end where it is done, and where
+-- else the source is read whole.
+abbrev pub Runs : Ending → Run → Owed → Type 0
 Runs endings.SourceFailed r due =
     Rose r.faults r.faults_now × Keeps r.written.held r.written.holds
+Runs endings.DiskFailed r due =
+    Rose r.disk.faults r.disk.faults_now × Keeps r.written.held r.written.holds
 Runs endings.Done r due = (r.ended ≡ true) × Owes endings.Done r due
 Runs endings.NotValid r due = OwesRead endings.NotValid r due
 Runs endings.OtherWords r due = Owes endings.OtherWords r due

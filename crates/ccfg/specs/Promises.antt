@@ -1,5 +1,5 @@
 -- What is written, by what the words ask for and what the bytes are.
-use Rattle.std.specs.Prelude.{◌≡◌, ℕ, ◌<◌, ◌≤◌, ◌⊎◌, List, Option, Ok, Err, length}
+use Rattle.std.specs.Prelude.{◌≡◌, ℕ, ◌<◌, ◌≤◌, ◌⊎◌, List, [], Option, Ok, Err, length}
 use Rattle.std.specs.Io.KnownBytes.{Appends}
 use Rattle.clap.specs.Kinds.{Kinds, IsAmong}
 use Rattle.clap.specs.declared.error.kind.ErrorKind.{ErrorKind}
@@ -20,7 +20,7 @@ use Rattle.gl_schedule.specs.declared.schedule.Schedule.{Schedule}
 use Rattle.ccfg.specs.declared.words.Task.{Task}
 use Rattle.ccfg.specs.declared.words.Task.TheVariants as tasks
 use Rattle.ccfg.specs.Faults.{fault_line}
-use Rattle.ccfg.specs.Owed.{bytes_limit, json_limit, ledger_line, lines_limit, valid_line}
+use Rattle.ccfg.specs.Owed.{bytes_limit, json_limit, key_line, ledger_line, lines_limit, seed_len, valid_line}
 use Rattle.gl_schedule.specs.Schedules.{reads}
 use Rattle.gl_schedule.specs.Told.{text_of_schedule}
 
@@ -78,47 +78,74 @@ TellsFaultyLedger identity given text =
     (seqno : ℕ) × (rule : ℕ) × (audits_to.verdict identity given ≡ audits.Fault seqno rule)
     × (text ≡ fault_line (faults.Broken seqno rule))
 
--- Texts. Each says of the bytes of a source what they have to be for the text.
+-- Keys
+
+abbrev pub IsSeed : List ℕ → Type 0
+IsSeed given = length given ≡ seed_len
+
+-- The text tells how many bytes there are, and that is too few for a seed.
+abbrev pub TellsShortSeed : List ℕ → List ℕ → Type 0
+TellsShortSeed given text =
+    (length given < seed_len) × (text ≡ fault_line (faults.Short (length given)))
+
+-- The text tells where a seed ends, and there are more bytes.
+abbrev pub TellsLongSeed : List ℕ → List ℕ → Type 0
+TellsLongSeed given text =
+    (seed_len < length given) × (text ≡ fault_line (faults.Trailing seed_len))
+
+-- Texts. Each says of the bytes that the disk held, and of those of the source, what they have to
+-- be for the text.
 
 -- At 0: the bytes are a schedule, and the text is what it tells; or they are a receipt of which the
 -- verdict under the key is a transaction, and the text tells that; or they are a valid ledger of the
--- service with the key, and the text tells its last transaction and that of its last signature.
-abbrev pub IsAnswer : Task → List ℕ → List ℕ → Type 0
-IsAnswer tasks.Replay given text =
+-- service with the key, and the text tells its last transaction and that of its last signature; or
+-- the disk held nothing and they are a seed, and the text tells the public form of its key.
+abbrev pub IsAnswer : Task → List ℕ → List ℕ → List ℕ → Type 0
+IsAnswer tasks.Replay held given text =
     (schedule : Schedule) × ReadsAs given schedule × (text ≡ text_of_schedule schedule)
-IsAnswer (tasks.Verify identity) given text =
+IsAnswer (tasks.Verify identity) held given text =
     (receipt : Receipt) × IsReceipt given receipt
     × (id : TxId) × (verdict identity receipt ≡ Ok id) × (text ≡ valid_line id)
-IsAnswer (tasks.Audit identity) given text = TellsValidLedger identity given text
+IsAnswer (tasks.Audit identity) held given text = TellsValidLedger identity given text
+IsAnswer (tasks.Keygen kind types) held given text =
+    (held ≡ []) × IsSeed given
+    × (text ≡ key_line (record { kind = kind; types = types; seed = given }))
 
 -- At 1: the bytes are a receipt that is not valid under the key, or they are no valid ledger of the
--- service with the key, and the text tells why.
-abbrev pub IsRefusal : Task → List ℕ → List ℕ → Type 0
-IsRefusal tasks.Replay given text = ⊥
-IsRefusal (tasks.Verify identity) given text =
+-- service with the key, and the text tells why; or the disk that is to take a key held bytes, and
+-- the text tells how many.
+abbrev pub IsRefusal : Task → List ℕ → List ℕ → List ℕ → Type 0
+IsRefusal tasks.Replay held given text = ⊥
+IsRefusal (tasks.Verify identity) held given text =
     (receipt : Receipt) × IsReceipt given receipt
     × (fault : ReceiptFault) × (verdict identity receipt ≡ Err fault)
     × (text ≡ fault_line (faults.NotValid fault))
-IsRefusal (tasks.Audit identity) given text =
+IsRefusal (tasks.Audit identity) held given text =
     TellsForeignLedger identity given text ⊎ TellsFaultyLedger identity given text
+IsRefusal (tasks.Keygen kind types) held given text =
+    (0 < length held) × (text ≡ fault_line (faults.NotEmpty (length held)))
 
 -- At 8: the bytes pass a limit, and the text names it.
-abbrev pub IsPastLimit : Task → List ℕ → List ℕ → Type 0
-IsPastLimit tasks.Replay given text =
+abbrev pub IsPastLimit : Task → List ℕ → List ℕ → List ℕ → Type 0
+IsPastLimit tasks.Replay held given text =
     (HasTooManyBytes given × (text ≡ fault_line faults.TooManyBytes))
     ⊎ (HasTooManyLines given × (text ≡ fault_line faults.TooManyLines))
-IsPastLimit (tasks.Verify identity) given text =
+IsPastLimit (tasks.Verify identity) held given text =
     HasTooMuchJson given × (text ≡ fault_line faults.TooMuchJson)
-IsPastLimit (tasks.Audit identity) given text = ⊥
+IsPastLimit (tasks.Audit identity) held given text = ⊥
+IsPastLimit (tasks.Keygen kind types) held given text = ⊥
 
 -- At 9: the bytes are within the limits and have no reading, and the text tells their first bad
--- line, or what differs first from a receipt.
-abbrev pub IsNoReading : Task → List ℕ → List ℕ → Type 0
-IsNoReading tasks.Replay given text =
+-- line, or what differs first from a receipt; or they are no seed, and the text tells where it
+-- differs from one.
+abbrev pub IsNoReading : Task → List ℕ → List ℕ → List ℕ → Type 0
+IsNoReading tasks.Replay held given text =
     (number : ℕ) × HasBadLine given number × (text ≡ fault_line (faults.BadLine number))
-IsNoReading (tasks.Verify identity) given text =
+IsNoReading (tasks.Verify identity) held given text =
     (fault : FormsFault) × HasOtherForm given fault × (text ≡ fault_line (faults.Form fault))
-IsNoReading (tasks.Audit identity) given text = ⊥
+IsNoReading (tasks.Audit identity) held given text = ⊥
+IsNoReading (tasks.Keygen kind types) held given text =
+    (held ≡ []) × (TellsShortSeed given text ⊎ TellsLongSeed given text)
 
 -- At 2: the line of one of these kinds of fault.
 abbrev pub IsKindLine : Kinds → List ℕ → Type 0

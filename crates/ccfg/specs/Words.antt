@@ -11,7 +11,11 @@ use Rattle.clap.specs.declared.builder.command.Command.TheViews.{out-Command}
 use Rattle.clap.specs.declared.error.kind.ErrorKind.{ErrorKind}
 use Rattle.clap.specs.declared.error.kind.ErrorKind.TheVariants as kinds
 use Rattle.gl_lines.specs.Words.{hex_sized}
+use Rattle.gl_journal.specs.declared.key.KeyKind.{KeyKind}
+use Rattle.gl_journal.specs.declared.key.KeyKind.TheVariants.{Service, Node, Member}
 use Rattle.gl_lines.specs.declared.fault.LineFault.{LineFault}
+use Rattle.gl_lms.specs.declared.types.Types.{Types}
+use Rattle.gl_lms.specs.declared.types.Types.TheVariants.{H5W4, H5W8, H10W4, H10W8}
 use Rattle.ccfg.specs.declared.words.Task.{Task}
 use Rattle.ccfg.specs.declared.words.Task.TheVariants as tasks
 use Rattle.ccfg.specs.declared.words.WordsFault.{WordsFault}
@@ -33,6 +37,17 @@ verify_command = with_rule (new_app (codes "verify")) identity_option
 abbrev pub audit_command : App
 audit_command = with_rule (new_app (codes "audit")) identity_option
 
+-- `--kind WORD`, which has to be there.
+abbrev pub kind_option : Rule
+kind_option = record (new_rule (codes "kind")) { long = Some (codes "kind"); required = true }
+
+-- `--types WORD`, which has to be there.
+abbrev pub types_option : Rule
+types_option = record (new_rule (codes "types")) { long = Some (codes "types"); required = true }
+
+abbrev pub keygen_command : App
+keygen_command = with_rule (with_rule (new_app (codes "keygen")) kind_option) types_option
+
 -- The program without its commands. Its words are those behind its name; one of them has to be a
 -- command, of which `help` is none.
 abbrev pub bare_program : App
@@ -43,11 +58,15 @@ bare_program = on_top (λ s. record s {
   disable_help_subcommand = true;
 }) (new_app (codes "ccfg"))
 
-unfoldable pub program : App
-program =
+-- With the commands that use no disk.
+unfoldable pub diskless_program : App
+diskless_program =
     with_subcommand
     (with_subcommand (with_subcommand bare_program replay_command.top) verify_command.top)
     audit_command.top
+
+unfoldable pub program : App
+program = with_subcommand diskless_program keygen_command.top
 
 -- The command is this one, with no option that holds for others too.
 abbrev pub IsCommand : App → Command → Type 0
@@ -73,12 +92,52 @@ abbrev pub asked_under : Text → Result (List ℕ) Kinds → Result Task Kinds
 asked_under name (Ok key) = Ok (task_under name key)
 asked_under name (Err told) = Err told
 
+-- The kind of key that a word names.
+abbrev pub named_kind : Text → Option KeyKind
+named_kind word =
+    if bytes_eq word (codes "service") then Some Service
+    else (if bytes_eq word (codes "node") then Some Node
+    else (if bytes_eq word (codes "member") then Some Member else None))
+
+-- The parameter set that a word names.
+abbrev pub named_types : Text → Option Types
+named_types word =
+    if bytes_eq word (codes "h5w4") then Some H5W4
+    else (if bytes_eq word (codes "h5w8") then Some H5W8
+    else (if bytes_eq word (codes "h10w4") then Some H10W4
+    else (if bytes_eq word (codes "h10w8") then Some H10W8 else None)))
+
+abbrev pub valid_value : {A : Type 0} → Option A → Result A Kinds
+valid_value None = Err (kinds.InvalidValue ∷ [])
+valid_value (Some value) = Ok value
+
+-- What an option asks for whose word has to be a name.
+abbrev pub asked_name : {A : Type 0} → (Text → Option A) → Option Text → Result A Kinds
+asked_name named None = Err (kinds.MissingRequiredArgument ∷ [])
+asked_name named (Some word) = valid_value (named word)
+
+-- The kind of key is tried before the types.
+abbrev pub asked_key : Result KeyKind Kinds → Result Types Kinds → Result Task Kinds
+asked_key (Err told) types = Err told
+asked_key (Ok kind) (Err told) = Err told
+asked_key (Ok kind) (Ok types) = Ok (tasks.Keygen kind types)
+
+abbrev pub asked_keygen : Option Text → Option Text → Result Task Kinds
+asked_keygen kind types = asked_key (asked_name named_kind kind) (asked_name named_types types)
+
+-- What a command with options asks for with these values of them.
+abbrev pub asked_options : Text → List Row → Result Task Kinds
+asked_options name rows =
+    if bytes_eq name (codes "keygen")
+    then asked_keygen (first_of (codes "kind") rows) (first_of (codes "types") rows)
+    else asked_under name (asked_identity (first_of (codes "identity") rows))
+
 -- What a command asks for with these values of its options.
 abbrev pub asked_command : Option (Text × List Row) → Result Task Kinds
 asked_command None = Err (kinds.MissingSubcommand ∷ [])
 asked_command (Some command) =
     if bytes_eq command.0 (codes "replay") then Ok tasks.Replay
-    else asked_under command.0 (asked_identity (first_of (codes "identity") command.1))
+    else asked_options command.0 command.1
 
 -- The faults that the library finds come first.
 abbrev pub unless_faulty : Kinds → Result Task Kinds → Result Task Kinds

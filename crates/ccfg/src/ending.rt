@@ -8,12 +8,13 @@ ghost use Rattle.ccfg.specs.Owed.{exit_status};
 pub enum Ending {
     /// All of the text is written.
     Done,
-    /// The verdict is no.
+    /// The verdict is no, or what is asked for is refused.
     NotValid,
     /// The words are not those of a command.
     OtherWords,
     SourceFailed,
     SinkFailed,
+    DiskFailed,
     Memory,
     /// The bytes pass a limit.
     PastLimit,
@@ -32,6 +33,7 @@ impl Ending {
             Ending::OtherWords => 2,
             Ending::SourceFailed => 3,
             Ending::SinkFailed => 4,
+            Ending::DiskFailed => 5,
             Ending::Memory => 7,
             Ending::PastLimit => 8,
             Ending::NoReading => 9,

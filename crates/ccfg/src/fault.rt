@@ -35,6 +35,12 @@ pub enum Fault {
     Broken { seqno: u64, rule: u8 },
     /// The ledger is valid, but that of the service with this key.
     Foreign { identity: HssPublicKey },
+    /// The disk that is to take a key holds so many bytes.
+    NotEmpty { len: u64 },
+    /// The bytes end here, and are to be more.
+    Short { at: u64 },
+    /// The bytes are to end here, and there are more.
+    Trailing { at: u64 },
 }
 
 /// The kind's name, as Rust has it.
@@ -165,6 +171,14 @@ fn put_receipt(alloc: Global, out: &mut Vec<u8>, fault: ReceiptFault) -> Result<
     }
 }
 
+/// A name with a space behind it, and a number.
+fn put_named(out: &mut Vec<u8>, name: &str, n: u64) -> Result<(), AllocError>
+    ensures { OnOk result (out.new.items ≡ out.old.items ++ (name.now ++ decimal n)) }
+{
+    out.extend_from_slice(name.as_bytes())?;
+    put_number(out, n)
+}
+
 /// The first entry that breaks a rule of the audit, and the rule.
 fn put_broken(out: &mut Vec<u8>, seqno: u64, rule: u8) -> Result<(), AllocError>
     ensures { OnOk result (out.new.items ≡ out.old.items
@@ -197,6 +211,9 @@ impl Fault {
                 out.extend_from_slice(b"foreign ")?;
                 put_hex(alloc, out, identity)
             }
+            Fault::NotEmpty { len } => put_named(out, "NotEmpty ", *len),
+            Fault::Short { at } => put_named(out, "Short ", *at),
+            Fault::Trailing { at } => put_named(out, "Trailing ", *at),
         }
     }
 
@@ -217,8 +234,13 @@ impl Fault {
         match self {
             Fault::Words(_) => Ending::OtherWords,
             Fault::TooManyBytes | Fault::TooManyLines | Fault::TooMuchJson => Ending::PastLimit,
-            Fault::BadLine(_) | Fault::Form(_) => Ending::NoReading,
-            Fault::NotValid(_) | Fault::Broken { .. } | Fault::Foreign { .. } => Ending::NotValid,
+            Fault::BadLine(_) | Fault::Form(_) | Fault::Short { .. } | Fault::Trailing { .. } => {
+                Ending::NoReading
+            }
+            Fault::NotValid(_)
+            | Fault::Broken { .. }
+            | Fault::Foreign { .. }
+            | Fault::NotEmpty { .. } => Ending::NotValid,
         }
     }
 }

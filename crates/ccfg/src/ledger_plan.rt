@@ -1,6 +1,6 @@
 //! What there is to do with a ledger that is audited.
 
-ghost use Rattle.std.specs.Prelude.{◌≡◌, ◌++◌, Bool, Err, IfOk, OnOk};
+ghost use Rattle.std.specs.Prelude.{◌≡◌, ◌≢◌, ◌++◌, Bool, Err, IfOk, OnOk};
 ghost use Rattle.gl_outside.specs.Fault.{Rose};
 ghost use Rattle.gl_audit.specs.Given.{OfBytes};
 ghost use Rattle.gl_audit.specs.Verdict.{EndsWith};
@@ -43,6 +43,7 @@ pub fn read_ledger_plan<S: Source>(
     ensures playable { IfOk result (λ plan. PlansPlayable plan) }
     ensures failed { result ≡ Err PlanStop.SourceFailed →
         Rose (S.faults source.old) (S.faults source.new) }
+    ensures no_disk { result ≢ Err PlanStop.DiskFailed }
 {
     match audit(alloc, identity, source) {
         Ok(verdict) => Ok(plan_of_verdict(verdict)),

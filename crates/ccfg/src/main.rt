@@ -4,8 +4,10 @@
 mod ending;
 mod fault;
 mod help;
+mod keygen;
 mod ledger_plan;
 mod load;
+mod output;
 mod plan;
 mod program;
 mod progress;
@@ -15,9 +17,8 @@ mod verify;
 mod words;
 
 use ending::Ending;
-use gl_outside::{
-    NoDisk, OpenGate, Sink, SinkFault, StreamSink, StreamSource, SureLink, write_whole,
-};
+use gl_file::FileDisk;
+use gl_outside::{OpenGate, Sink, SinkFault, StreamSink, StreamSource, SureLink, write_whole};
 use help::{HELP, VERSION};
 use progress::WatchedSource;
 use std::alloc::{AllocError, Global};
@@ -32,6 +33,30 @@ fn words_behind_name(rt: &HostRuntime) -> Result<Vec<String>, AllocError> {
         Ok(all) => all.skip(1).collect(rt.alloc()),
         Err(error) if error.kind() == io::ErrorKind::InvalidData => Ok(Vec::new(rt.alloc())),
         Err(_) => Err(AllocError),
+    }
+}
+
+/// The path of the disk's file, if leading words name it, the last of them if several do; and the
+/// words behind them.
+fn disk_and_words(words: &[String]) -> (Option<&str>, &[String]) {
+    let mut path = None;
+    for (index, word) in words.iter().enumerate() {
+        match word.as_str().strip_prefix("@disk=") {
+            Some(named) => path = Some(named),
+            None => return (path, &words[index..]),
+        }
+    }
+    (path, &[])
+}
+
+/// The disk over the file at a path. Without one each of its calls fails.
+fn disk_at(rt: &HostRuntime, path: Option<&str>) -> FileDisk {
+    match path {
+        Some(path) => FileDisk::open(rt, path),
+        None => FileDisk {
+            file: None,
+            faults: 0,
+        },
     }
 }
 
@@ -60,26 +85,28 @@ fn is_audit(words: &[String]) -> bool {
     matches!(words, [command, ..] if command.as_str() == "audit")
 }
 
-/// The exit status of a run over the standard streams. An audit tells at a terminal how far it is.
+/// The exit status of a run over the standard streams and the disk. An audit tells at a terminal
+/// how far it is.
 fn status(rt: &HostRuntime) -> Result<u8, AllocError> {
-    let words = words_behind_name(rt)?;
+    let all = words_behind_name(rt)?;
+    let (path, words) = disk_and_words(&all);
     let mut sink = StreamSink::new(io::writer(rt));
-    if let Some(text) = told_of_itself(rt.alloc(), &words)? {
+    if let Some(text) = told_of_itself(rt.alloc(), words)? {
         return Ok(print(text.as_str(), &mut sink).status());
     }
-    let told = rt.stderr().is_terminal() && is_audit(&words);
+    let told = rt.stderr().is_terminal() && is_audit(words);
     let mut source = WatchedSource::new(StreamSource::new(rt.reader()), rt, told);
-    let mut disk = NoDisk::new();
     let mut link = SureLink::new(rt.alloc(), &[]);
-    Ok(program::top(
+    let (status, _disk) = program::top(
         rt.alloc(),
-        &words,
+        words,
         &mut source,
         &mut sink,
-        &mut disk,
+        disk_at(rt, path),
         &mut link,
         &OpenGate,
-    ))
+    );
+    Ok(status)
 }
 
 /// Runs the program over the standard streams.

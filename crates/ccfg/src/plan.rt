@@ -1,19 +1,24 @@
 //! What there is to do with the bytes of a source.
 
-ghost use Rattle.std.specs.Prelude.{◌≡◌, ◌≤◌, Err, IfOk, length};
+ghost use Rattle.std.specs.Prelude.{◌≡◌, ◌≢◌, ℕ, ◌<◌, ◌≤◌, Err, IfErr, IfOk, IsTrue, length};
 ghost use Rattle.gl_outside.specs.Fault.{Rose};
 ghost use Rattle.gl_audit.specs.Given.{OfBytes};
-ghost use Rattle.ccfg.specs.Owed.{EndsSource, bytes_limit, due_of, due_of_schedule};
-ghost use Rattle.ccfg.specs.Plans.{ShowsAccepted, PlansPlayable, due_of_plan};
+ghost use Rattle.gl_journal.specs.declared.key.KeyKind.{KeyKind};
+ghost use Rattle.gl_lms.specs.declared.types.Types.{Types};
+ghost use Rattle.ccfg.specs.Owed.{EndsSource, OfHeld, bytes_limit, due_of, due_of_schedule, ending_of_stop};
+ghost use Rattle.ccfg.specs.Plans.{IsUntouched, PlansPlayable, TellsFault, ShowsAccepted, ShowsKept, due_of_plan};
+ghost use Rattle.ccfg.specs.declared.words.Task.TheVariants.{Keygen};
 
+use crate::ending::Ending;
 use crate::fault::Fault;
+use crate::keygen::keygen_plan;
 use crate::ledger_plan::read_ledger_plan;
 use crate::load::{LoadStop, load};
 use crate::verify::read_receipt_plan;
 use crate::words::Task;
 use gl_base::{OrNoMemory, TxId};
 use gl_lines::{ScheduleFault, line_count};
-use gl_outside::Source;
+use gl_outside::{Disk, Source};
 use gl_schedule::{Schedule, read};
 use std::alloc::{AllocError, Global};
 
@@ -32,6 +37,8 @@ pub enum Plan {
     Show(TxId),
     /// To tell the last transaction of a valid ledger, and that of its last signature.
     ShowLedger(TxId, Option<TxId>),
+    /// To tell the public form of a key that is kept: its line.
+    ShowKey(Vec<u8>),
     /// To tell a fault.
     Refuse(Fault),
 }
@@ -41,6 +48,20 @@ pub enum Plan {
 pub enum PlanStop {
     Memory,
     SourceFailed,
+    DiskFailed,
+}
+
+impl PlanStop {
+    /// How a run ends that has no plan.
+    pub fn ending(self) -> Ending
+        ensures { result ≡ ending_of_stop self }
+    {
+        match self {
+            PlanStop::Memory => Ending::Memory,
+            PlanStop::SourceFailed => Ending::SourceFailed,
+            PlanStop::DiskFailed => Ending::DiskFailed,
+        }
+    }
 }
 
 /// What there is to do with a schedule's text within the limit on bytes.
@@ -70,6 +91,7 @@ fn read_schedule_plan<S: Source>(alloc: Global, source: &mut S) -> Result<Plan, 
     ensures playable { IfOk result (λ plan. PlansPlayable plan) }
     ensures failed { result ≡ Err PlanStop.SourceFailed →
         Rose (S.faults source.old) (S.faults source.new) }
+    ensures no_disk { result ≢ Err PlanStop.DiskFailed }
 {
     match load(alloc, BYTES_LIMIT, source) {
         Ok(text) => match schedule_plan(alloc, &text) {
@@ -82,20 +104,42 @@ fn read_schedule_plan<S: Source>(alloc: Global, source: &mut S) -> Result<Plan, 
     }
 }
 
-/// What there is to do with what a source gives.
-pub fn read_plan<S: Source>(alloc: Global, task: &Task, source: &mut S) -> Result<Plan, PlanStop>
-    ensures due { IfOk result (λ plan.
-        OfBytes (S.left source.old) (λ given. due_of task.now given ≡ due_of_plan plan)) }
-    ensures sound { IfOk result (λ plan.
+/// What there is to do with what a source gives, and the disk, which `keygen` alone uses.
+pub fn read_plan<S: Source, D: Disk>(
+    alloc: Global,
+    task: &Task,
+    source: &mut S,
+    disk: D,
+) -> (Result<Plan, PlanStop>, D)
+    ensures due { IfOk result.0 (λ plan. OfHeld D.honest (D.bytes disk) (λ held.
+        OfBytes (S.left source.old) (λ given. due_of task.now held given ≡ due_of_plan plan))) }
+    ensures sound { IfOk result.0 (λ plan.
         OfBytes (S.left source.old) (λ given. ShowsAccepted task.now given plan)) }
-    ensures ended { IfOk result (λ plan. EndsSource (due_of_plan plan) (S.ended source.new)) }
-    ensures playable { IfOk result (λ plan. PlansPlayable plan) }
-    ensures failed { result ≡ Err PlanStop.SourceFailed →
+    ensures ended { IfOk result.0 (λ plan. EndsSource (due_of_plan plan) (S.ended source.new)) }
+    ensures playable { IfOk result.0 (λ plan. PlansPlayable plan) }
+    ensures failed { result.0 ≡ Err PlanStop.SourceFailed →
         Rose (S.faults source.old) (S.faults source.new) }
+    ensures disk_failed { result.0 ≡ Err PlanStop.DiskFailed →
+        Rose (D.faults disk) (D.faults result.1) }
+
+    ensures disk { ((kind : KeyKind) (types : Types) → task.now ≢ Keygen kind types) →
+        (result.1 ≡ disk) × (result.0 ≢ Err PlanStop.DiskFailed) }
+    ensures kept { IsTrue D.honest → (kind : KeyKind) (types : Types) →
+        task.now ≡ Keygen kind types → IfOk result.0 (λ plan. OfBytes (S.left source.old) (λ given.
+        ShowsKept kind types (D.past result.1) given plan)) }
+    ensures not_empty { IsTrue D.honest → 0 < length (D.bytes disk) →
+        IsUntouched D.bytes D.past disk result.1 }
+    ensures unread { IsTrue D.honest → 0 < length (D.bytes disk) → (kind : KeyKind)
+        (types : Types) → task.now ≡ Keygen kind types → source.new ≡ source.old }
+    ensures refused { IsTrue D.honest →
+        IfOk result.0 (λ plan. TellsFault plan → IsUntouched D.bytes D.past disk result.1) }
+    ensures stopped { IsTrue D.honest → result.0 ≡ Err PlanStop.SourceFailed →
+        IsUntouched D.bytes D.past disk result.1 }
 {
     match task {
-        Task::Replay => read_schedule_plan(alloc, source),
-        Task::Verify { identity } => read_receipt_plan(alloc, identity, source),
-        Task::Audit { identity } => read_ledger_plan(alloc, identity, source),
+        Task::Replay => (read_schedule_plan(alloc, source), disk),
+        Task::Verify { identity } => (read_receipt_plan(alloc, identity, source), disk),
+        Task::Audit { identity } => (read_ledger_plan(alloc, identity, source), disk),
+        Task::Keygen { kind, types } => keygen_plan(alloc, *kind, *types, source, disk),
     }
 }

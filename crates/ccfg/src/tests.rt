@@ -1,13 +1,15 @@
 //! Runs of the whole program, over objects in memory.
 
 use crate::program::top;
-use gl_outside::{NoDisk, OpenGate, Sink, Source, SureLink, SureSink, SureSource};
+use gl_outside::{Disk, NoDisk, OpenGate, Sink, Source, SureLink, SureSink, SureSource};
 use std::alloc::{AllocError, Global};
 
 mod audits;
+mod keys;
 mod members;
 mod nodes;
 mod receipts;
+mod roles;
 mod schedules;
 mod words;
 
@@ -35,16 +37,27 @@ fn to_words(alloc: Global, words: &[&str]) -> Result<Vec<String>, AllocError> {
     Ok(held)
 }
 
-/// The status of a run without a disk, over a link on which nothing comes.
+/// The status of a run over a disk, which it gives back, and a link on which nothing comes.
+fn status_on<S: Source, K: Sink, D: Disk + Send>(
+    alloc: Global,
+    called: &[String],
+    source: &mut S,
+    sink: &mut K,
+    disk: D,
+) -> (u8, D) {
+    let mut link = SureLink::new(alloc, &[]);
+    top(alloc, called, source, sink, disk, &mut link, &OpenGate)
+}
+
+/// The status of a run without a disk.
 fn status_of<S: Source, K: Sink>(
     alloc: Global,
     called: &[String],
     source: &mut S,
     sink: &mut K,
 ) -> u8 {
-    let mut disk = NoDisk::new();
-    let mut link = SureLink::new(alloc, &[]);
-    top(alloc, called, source, sink, &mut disk, &mut link, &OpenGate)
+    let (status, _disk) = status_on(alloc, called, source, sink, NoDisk::new());
+    status
 }
 
 /// The status of a run over a source and a sink that never fail, and what was written.

@@ -1,6 +1,6 @@
 //! What there is to do with a receipt.
 
-ghost use Rattle.std.specs.Prelude.{◌≡◌, ◌≤◌, ◌++◌, Err, IfOk, OnOk, length};
+ghost use Rattle.std.specs.Prelude.{◌≡◌, ◌≢◌, ◌≤◌, ◌++◌, Err, IfOk, OnOk, length};
 ghost use Rattle.gl_outside.specs.Fault.{Rose};
 ghost use Rattle.gl_audit.specs.Given.{OfBytes};
 ghost use Rattle.ccfg.specs.Owed.{EndsSource, due_of_receipt, json_limit, valid_line};
@@ -51,6 +51,7 @@ pub fn read_receipt_plan<S: Source>(
     ensures playable { IfOk result (λ plan. PlansPlayable plan) }
     ensures failed { result ≡ Err PlanStop.SourceFailed →
         Rose (S.faults source.old) (S.faults source.new) }
+    ensures no_disk { result ≢ Err PlanStop.DiskFailed }
 {
     match load(alloc, JSON_LIMIT, source) {
         Ok(text) => match receipt_plan(alloc, identity, &text) {

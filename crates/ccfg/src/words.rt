@@ -7,11 +7,15 @@ ghost use Rattle.clap.specs.Simple.{subcommand_of, subcommand_rows_of};
 ghost use Rattle.clap.specs.Walk.{rule_of};
 ghost use Rattle.gl_lines.specs.Words.{hex_sized, is_lower_digit};
 ghost use Rattle.std.specs.List.{list_all};
-ghost use Rattle.ccfg.specs.Words.{IsCommand, RefusesWords, asked, asked_command, asked_identity, audit_command, bare_program, identity_option, program, spelled_key, task_under, verify_command};
+ghost use Rattle.ccfg.specs.Words.{IsCommand, RefusesWords, asked, asked_command, asked_identity, asked_keygen, asked_name, asked_options, audit_command, bare_program, diskless_program, identity_option, keygen_command, kind_option, named_kind, named_types, program, spelled_key, task_under, types_option, verify_command};
+ghost use Rattle.clap.specs.Walk.{first_of, rows_of};
+ghost use Rattle.clap.specs.Matches.{found_of};
 
 use crate::help::VERSION;
 use clap::error::ErrorKind;
 use clap::{Arg, ArgMatches, Command};
+use gl_journal::KeyKind;
+use gl_lms::Types;
 use gl_requests::HssPublicKey;
 use hex::FromHex;
 use std::alloc::{AllocError, Global};
@@ -25,6 +29,8 @@ pub enum Task {
     Verify { identity: HssPublicKey },
     /// To audit a ledger under a service's key.
     Audit { identity: HssPublicKey },
+    /// To begin a key file, and tell the public form of its key.
+    Keygen { kind: KeyKind, types: Types },
 }
 
 /// Why words ask for nothing.
@@ -55,6 +61,28 @@ fn audit_command<'a>(alloc: Global) -> Result<Command<'a>, AllocError>
     Command::new(alloc, "audit").arg(identity_option(alloc))
 }
 
+fn kind_option<'a>(alloc: Global) -> Arg<'a>
+    ensures rule { rule_of result ≡ kind_option }
+    ensures local { result.global ≡ false }
+{
+    Arg::new(alloc, "kind").long("kind").required(true)
+}
+
+fn types_option<'a>(alloc: Global) -> Arg<'a>
+    ensures rule { rule_of result ≡ types_option }
+    ensures local { result.global ≡ false }
+{
+    Arg::new(alloc, "types").long("types").required(true)
+}
+
+fn keygen_command<'a>(alloc: Global) -> Result<Command<'a>, AllocError>
+    ensures { IfOk result (IsCommand keygen_command) }
+{
+    Command::new(alloc, "keygen")
+        .arg(kind_option(alloc))?
+        .arg(types_option(alloc))
+}
+
 /// The program without its commands.
 fn bare_program<'a>(alloc: Global) -> Command<'a>
     ensures { IsCommand bare_program result }
@@ -66,14 +94,22 @@ fn bare_program<'a>(alloc: Global) -> Command<'a>
         .disable_help_subcommand(true)
 }
 
-#[tactic(auto, unfolding(crate::specs::Words::program))]
-fn program<'a>(alloc: Global) -> Result<Command<'a>, AllocError>
-    ensures { IfOk result (IsCommand program) }
+/// The program with the commands that use no disk.
+#[tactic(auto, unfolding(crate::specs::Words::diskless_program))]
+fn diskless_program<'a>(alloc: Global) -> Result<Command<'a>, AllocError>
+    ensures { IfOk result (IsCommand diskless_program) }
 {
     bare_program(alloc)
         .subcommand(Command::new(alloc, "replay"))?
         .subcommand(verify_command(alloc)?)?
         .subcommand(audit_command(alloc)?)
+}
+
+#[tactic(auto, unfolding(crate::specs::Words::program))]
+fn program<'a>(alloc: Global) -> Result<Command<'a>, AllocError>
+    ensures { IfOk result (IsCommand program) }
+{
+    diskless_program(alloc)?.subcommand(keygen_command(alloc)?)
 }
 
 fn is_lower_hex(word: &str) -> bool
@@ -122,6 +158,88 @@ fn task_under(name: &str, identity: HssPublicKey) -> Task
     }
 }
 
+fn named_kind(word: &str) -> Option<KeyKind>
+    ensures { result ≡ named_kind word.now }
+{
+    match word {
+        "service" => Some(KeyKind::Service),
+        "node" => Some(KeyKind::Node),
+        "member" => Some(KeyKind::Member),
+        _ => None,
+    }
+}
+
+fn named_types(word: &str) -> Option<Types>
+    ensures { result ≡ named_types word.now }
+{
+    match word {
+        "h5w4" => Some(Types::H5W4),
+        "h5w8" => Some(Types::H5W8),
+        "h10w4" => Some(Types::H10W4),
+        "h10w8" => Some(Types::H10W8),
+        _ => None,
+    }
+}
+
+/// The kind of key that the option of a command names.
+fn asked_kind(word: Option<&str>) -> Result<KeyKind, ErrorKind>
+    ensures found { IfOk result (λ kind.
+        asked_name named_kind (option_map (λ s. s.now) word.entry) ≡ Ok kind) }
+    ensures refused { IfErr result (λ told.
+        asked_name named_kind (option_map (λ s. s.now) word.entry) ≡ Err (told ∷ [])) }
+{
+    match word {
+        Some(word) => named_kind(word).ok_or(ErrorKind::InvalidValue),
+        None => Err(ErrorKind::MissingRequiredArgument),
+    }
+}
+
+/// The parameter set that the option of a command names.
+fn asked_types(word: Option<&str>) -> Result<Types, ErrorKind>
+    ensures found { IfOk result (λ types.
+        asked_name named_types (option_map (λ s. s.now) word.entry) ≡ Ok types) }
+    ensures refused { IfErr result (λ told.
+        asked_name named_types (option_map (λ s. s.now) word.entry) ≡ Err (told ∷ [])) }
+{
+    match word {
+        Some(word) => named_types(word).ok_or(ErrorKind::InvalidValue),
+        None => Err(ErrorKind::MissingRequiredArgument),
+    }
+}
+
+/// The key that the options of `keygen` ask for.
+fn asked_keygen(kind: Option<&str>, types: Option<&str>) -> Result<Task, ErrorKind>
+    ensures found { IfOk result (λ task. asked_keygen
+        (option_map (λ s. s.now) kind.entry) (option_map (λ s. s.now) types.entry) ≡ Ok task) }
+    ensures refused { IfErr result (λ told. asked_keygen
+        (option_map (λ s. s.now) kind.entry) (option_map (λ s. s.now) types.entry)
+        ≡ Err (told ∷ [])) }
+{
+    match asked_kind(kind) {
+        Ok(kind) => match asked_types(types) {
+            Ok(types) => Ok(Task::Keygen { kind, types }),
+            Err(told) => Err(told),
+        },
+        Err(told) => Err(told),
+    }
+}
+
+/// What a command with options asks for.
+fn asked_options(name: &str, options: &ArgMatches) -> Result<Task, ErrorKind>
+    ensures found { IfOk result (λ task.
+        asked_options name.now (rows_of (found_of options.now)) ≡ Ok task) }
+    ensures refused { IfErr result (λ kind.
+        asked_options name.now (rows_of (found_of options.now)) ≡ Err (kind ∷ [])) }
+{
+    if name == "keygen" {
+        return asked_keygen(options.get_str("kind"), options.get_str("types"));
+    }
+    match asked_identity(options.get_str("identity")) {
+        Ok(identity) => Ok(task_under(name, identity)),
+        Err(kind) => Err(kind),
+    }
+}
+
 /// What the command that was met asks for.
 fn asked_command(matches: &ArgMatches) -> Result<Task, ErrorKind>
     ensures found { IfOk result (λ task. asked_command (subcommand_rows_of matches.now) ≡ Ok task) }
@@ -133,10 +251,7 @@ fn asked_command(matches: &ArgMatches) -> Result<Task, ErrorKind>
             if name == "replay" {
                 Ok(Task::Replay)
             } else {
-                match asked_identity(options.get_str("identity")) {
-                    Ok(identity) => Ok(task_under(name, identity)),
-                    Err(kind) => Err(kind),
-                }
+                asked_options(name, options)
             }
         }
         None => Err(ErrorKind::MissingSubcommand),
@@ -165,7 +280,7 @@ fn matches_of<'a>(alloc: Global, words: &'a [String]) -> Result<ArgMatches<'a>, 
 }
 
 /// What the words ask for, which are those behind the program's name. What `clap` finds wrong with
-/// them comes before the test of the key.
+/// them comes before the tests of the values.
 pub fn read_words(alloc: Global, words: &[String]) -> Result<Task, WordsFault>
     ensures found { IfOk result (λ task. asked (map string_bytes words.now) ≡ Ok task) }
     ensures refused { IfErr result (RefusesWords (asked (map string_bytes words.now))) }

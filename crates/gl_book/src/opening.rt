@@ -17,7 +17,7 @@ use crate::book_ledger::{BookLedger, list_last};
 use crate::store_book::StoreBook;
 use gl_base::{FIRST_VIEW, OrNoMemory};
 use gl_requests::Genesis;
-use gl_world::{GroupFounding, NodeKey, Settings};
+use gl_world::{Founding, NodeKey, Settings};
 use sha2::{Digest, Sha256};
 use std::alloc::{AllocError, Global};
 
@@ -100,7 +100,7 @@ pub fn books(alloc: Global, settings: &Settings) -> Result<Vec<StoreBook>, Alloc
     requires { IsGroup settings.now }
     ensures { IfOk result (λ books. StandAtStart Stands settings.now books.items) }
 {
-    let founding = GroupFounding::make(alloc, settings)?;
+    let founding = Founding::make(alloc, settings)?;
     let mut books = joining_books(alloc, settings, founding.keys)?;
     books[0].open(settings, founding.genesis)?;
     for i in 1..settings.starting {

@@ -118,6 +118,9 @@ impl<D: Disk> Journal<D> {
         ensures not_empty { IsTrue D.honest → (len : ℕ) (back : D) →
             result ≡ Err (OrNoMemory.Fault (JournalFault.NotEmpty len), back) →
             (len ≡ length (D.bytes disk)) × (0 < len) }
+        ensures not_empty_stays { IsTrue D.honest → (len : ℕ) (back : D) →
+            result ≡ Err (OrNoMemory.Fault (JournalFault.NotEmpty len), back) →
+            (D.bytes back ≡ D.bytes disk) × (D.past back ≡ D.past disk) }
         ensures disk_fault { (back : D) →
             result ≡ Err (OrNoMemory.Fault JournalFault.DiskFault, back) →
             Rose (D.faults disk) (D.faults back) }

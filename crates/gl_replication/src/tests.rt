@@ -1,48 +1,13 @@
 //! Nodes over a small store: a request of a leader comes to a follower and is committed.
 
 mod plain_store;
+mod stores;
 
-use crate::tests::plain_store::PlainStore;
+use crate::tests::stores::{id, request, store};
 use crate::{Core, Outcome, Refusal};
-use gl_base::{Bytes, Status, TxId};
-use gl_config::NodeId;
-use gl_entry::{Content, Entry, Signature};
+use gl_base::{Status, TxId};
 use gl_messages::{Body, Message};
-use gl_vmaps::Writes;
-use std::alloc::Global;
 use std::test::*;
-
-fn id(number: u8) -> NodeId {
-    [number; 32]
-}
-
-fn entry(alloc: Global, content: Content) -> Entry {
-    Entry {
-        view: 0,
-        seqno: 0,
-        content,
-        writes: Writes::new(alloc),
-        claims: [0; 32],
-    }
-}
-
-fn request(alloc: Global) -> Entry {
-    entry(alloc, Content::Application(Bytes::from(Vec::new(alloc))))
-}
-
-fn store(alloc: Global, number: u8) -> PlainStore {
-    let signature = Signature {
-        node: id(number),
-        commit: 0,
-        root: [0; 32],
-        signature: Bytes::from(Vec::new(alloc)),
-    };
-    PlainStore::new(
-        alloc,
-        id(number),
-        entry(alloc, Content::Signature(signature)),
-    )
-}
 
 #[test]
 fn a_signed_request_is_committed(rt: HostRuntime) {

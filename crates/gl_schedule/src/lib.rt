@@ -10,7 +10,6 @@ mod outcome_text;
 mod player;
 mod proposals;
 mod schedule;
-mod service_key;
 mod text;
 
 pub use player::play;

@@ -15,7 +15,6 @@ use crate::event_line::event_in;
 use crate::line_request::LineRequest;
 use crate::outcome_text::{put_outcome, put_refusal};
 use crate::proposals::Proposals;
-use crate::service_key::service_key;
 use crate::text::{put_sent, put_unnamed};
 use gl_entry::NodeId;
 use gl_hss::{HssPublic, Levels, LmsKey};
@@ -24,7 +23,7 @@ use gl_lines::Line;
 use gl_replication::Book;
 use gl_requests::GovernanceRequest;
 use gl_tx::Request;
-use gl_world::{Event, Members, Settings, World};
+use gl_world::{Event, Members, Settings, World, service_key};
 use std::alloc::{AllocError, Global};
 use std::marker::Model;
 

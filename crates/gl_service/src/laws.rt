@@ -4,7 +4,7 @@ ghost use Rattle.std.specs.Prelude.{◌≡◌, ℕ, List, true};
 ghost use Rattle.gl_tx.specs.declared.request.Operation.{Operation};
 ghost use Rattle.gl_entry.specs.declared.entry.Entry.{Entry};
 ghost use Rattle.gl_rules.specs.Identity.{NodeId, member};
-ghost use Rattle.gl_rules.specs.Safety.{IsSafe};
+ghost use Rattle.gl_rules.specs.Safety.{IsSafe, RetiresSafely};
 ghost use Rattle.gl_rules.specs.World.{Start};
 ghost use Rattle.gl_requests.specs.declared.request.GovernanceRequest.{GovernanceRequest};
 ghost use Rattle.gl_ledger.specs.Layers.{Layers};
@@ -18,10 +18,13 @@ ghost use Rattle.gl_ledger.specs.Opening.{Begins};
 ghost use Rattle.gl_service.specs.Service.{Leads, ServiceEvent, node_of};
 
 /// A service that begins with a ledger which the check of an opening takes is safe: its committed
-/// ledgers are sound.
+/// ledgers are sound. A node whose retirement is committed may be switched off: whoever leads counts
+/// it in no active configuration.
 pub fn is_safe()
     ensures safe { (layers : Layers) (keys : NodeKeys) (s : Start Entry) → Begins layers s →
         (events : List ServiceEvent) → IsSafe (ledger_book layers keys) (IsSound layers) s events }
+    ensures retirement { (layers : Layers) (keys : NodeKeys) (s : Start Entry) → Begins layers s →
+        (events : List ServiceEvent) → RetiresSafely (ledger_book layers keys) s events }
 {}
 
 /// For a rule of the audit the book refuses a leader nothing: no request, of an application or of

@@ -1,4 +1,4 @@
--- The genesis of a service of 1 to 9 nodes and 1 to 64 members fits its format and is accepted; so that of one node.
+-- The genesis of a service of 1 to 9 nodes and 1 to 64 members fits its format and is accepted.
 use Rattle.std.proofs.Common.{◌≡◌, ℕ, zero, suc, ◌+◌, ◌<◌, ◌≤◌, List, [], ◌∷◌, length, map, None, true, false, not, nat_lt, nat_le, is_ok, refl, ap, arith}
 use Rattle.std.specs.List.{list_any}
 use Rattle.std.specs.Prelude.{◌==◌}
@@ -18,16 +18,12 @@ use Rattle.gl_gov_rules.specs.Refusals.{are_numbers_distinct, is_node_with, are_
 use Rattle.gl_world.specs.declared.settings.Settings.{Settings}
 use Rattle.gl_world.specs.Keys.{service_seed, node_seed, member_seed, recovery_secret}
 use Rattle.gl_world.specs.Founding.{numbers_from, node_of, id_of, member_of, members_from, dealt_to, share_of, dealing_of, genesis_of}
-use Rattle.gl_world.specs.Single.{IsSingle}
 use Rattle.gl_world.specs.Group.{IsGroup}
 use Rattle.gl_world.proofs.Numbers.{all_made, none_made, among, any_fewer, not_true, length-made}
 use Rattle.gl_gov_rules.proofs.Digests.{sha256_digest}
 use Rattle.gl_gov_rules.proofs.FoundingAccepted.{accepts}
 use Rattle.gl_world.proofs.Digests.{lms_key_sized, hss_key_sized}
 use Rattle.gl_world.proofs.Endorsements.{IsEndorsable, endorsement_bytes, length-endorsement_of, endorsement_valid}
-
-pub one_node : (s : Settings) → IsSingle s → (genesis_of s).nodes ≡ node_of s 1 ∷ []
-one_node s h = ap (λ (n : ℕ). map (node_of s) (numbers_from 1 n)) h.starting
 
 -- ---- what stands once
 
@@ -153,20 +149,3 @@ group_fits s h =
     (and_from _ _ (count_fits s h (length (genesis_of s).members) (length-made (member_of s) 1 s.members))
     (all_made is_member (member_of s) 1 s.members (λ k low high. and_from _ _ (number_within s h k low high) (hss_key_sized 1 (member_seed s k))))))
     (dealing_fits s h)
-
--- ---- one node
-
-pub single_group : (s : Settings) → IsSingle s → IsGroup s
-single_group s h = record {
-  first_state = h.first_state;
-  first = let one = h.starting in omega arith;
-  starting = let one = h.starting in omega arith;
-  joiners = let none = h.joiners in omega arith;
-  some = h.some;
-  few = h.few;
-  distinct = h.distinct;
-  apart = let one = h.starting in let none = h.joiners in let all : s.starting + s.joiners ≡ 1 = omega arith in ap (λ (n : ℕ). are_ids_distinct (map (node_of s) (numbers_from 1 n))) all;
-}
-
-pub genesis_fits : (s : Settings) → IsSingle s → is_genesis (genesis_of s) ≡ true
-genesis_fits s h = group_fits s (single_group s h)

@@ -1,8 +1,8 @@
--- A service of several nodes begins lawfully, and is safe.
+-- A service of several nodes begins lawfully, is safe, and retires nodes safely.
 use Rattle.std.proofs.Common.{◌≡◌, ℕ, zero, suc, ◌+◌, ◌≤◌, ◌<◌, List, [], ◌∷◌, length, map, true, refl, ◌∙◌, ap, arith}
 use Rattle.gl_rules.specs.Identity.{NodeId, member}
 use Rattle.gl_rules.specs.World.{first_view}
-use Rattle.gl_rules.specs.Safety.{IsConfigured, IsOpening, NeverConflicts, EachFollows}
+use Rattle.gl_rules.specs.Safety.{IsConfigured, IsOpening, NeverConflicts, EachFollows, RetiresSafely}
 use Rattle.gl_safety.proofs.Refusals.{never_conflicts}
 use Rattle.gl_requests.specs.declared.request.GovernanceRequest.{GovernanceRequest}
 use Rattle.gl_ledger.specs.NodeKeys.{service_layers, IsNodeKey}
@@ -21,7 +21,7 @@ use Rattle.gl_ledger.proofs.NodeSignatures.{node_makes}
 use Rattle.gl_ledger.proofs.Openings.{identity_behind_genesis}
 use Rattle.gl_service.specs.Service.{ServiceEvent, Leads}
 use Rattle.gl_service.specs.Service as service
-use Rattle.gl_service.proofs.Safe.{begins_safe}
+use Rattle.gl_service.proofs.Safe.{begins_retiring, begins_safe}
 use Rattle.gl_service.proofs.Leading.{recorded, records, leader_executes, leader_governs}
 use Rattle.gl_service.proofs.Founded.{IsFoundedBy, leader_identity, leader_signs_with_key}
 use Rattle.gl_world.specs.declared.settings.Settings.{Settings}
@@ -73,6 +73,9 @@ group_safe s h events = begins_safe service_layers (keys_of s) (start_of s) (gro
 
 pub group_never_conflicts : (s : Settings) → IsGroup s → (events : List ServiceEvent) → NeverConflicts (book_of s) (start_of s) events
 group_never_conflicts s h events = never_conflicts (group_opens s h) (lawful service_layers (keys_of s)) events
+
+pub group_retires : (s : Settings) → IsGroup s → (events : List ServiceEvent) → RetiresSafely (book_of s) (start_of s) events
+group_retires s h events = begins_retiring service_layers (keys_of s) (start_of s) (group_begins s h) events
 
 -- ---- the guard refuses a leader nothing
 

@@ -1,4 +1,3 @@
-pub mod Ids
 pub mod Numbers
 pub mod Sharing
 pub mod MemberKeys
@@ -6,10 +5,7 @@ pub mod KeysMade
 pub mod Digests
 pub mod Endorsements
 pub mod Acceptable
-pub mod Advance
 pub mod Groups
-pub mod LeavingNodes
-pub mod Solo
 pub mod MemberSigners
 pub mod NodeIds
 pub mod Sending

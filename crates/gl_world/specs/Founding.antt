@@ -1,11 +1,10 @@
 -- The genesis of a service of a schedule, and the keys of its nodes.
-use Rattle.std.specs.Prelude.{ℕ, zero, suc, ◌+◌, ◌-◌, List, [], ◌∷◌, Some, Bool, map, find, unwrap_or}
+use Rattle.std.specs.Prelude.{ℕ, zero, suc, ◌+◌, ◌-◌, List, [], ◌∷◌, Bool, map, find, unwrap_or}
 use Rattle.sha2.specs.Sha256.{sha256}
 use Rattle.gl_base.specs.Bytes.{same_bytes}
 use Rattle.gl_lms.specs.Tree.{signature_bytes}
 use Rattle.gl_lms.specs.Secrets.{PrivateKey}
 use Rattle.gl_lms.specs.Profile.{signature_by}
-use Rattle.gl_hss.specs.Signer.{Signer}
 use Rattle.gl_requests.specs.Spelling.{node_id}
 use Rattle.gl_ledger.specs.NodeKeys.{NodeKeys}
 use Rattle.gl_requests.specs.declared.genesis.NewNode.{NewNode}
@@ -44,15 +43,6 @@ node_of s number = record {
 
 abbrev pub id_of : Settings → ℕ → List ℕ
 id_of s number = node_id (node_of s number)
-
--- The signer of node i: its key with its endorsement, no leaf of which is reserved or used.
-abbrev pub signer_of : Settings → ℕ → Signer
-signer_of s number = record {
-  key = private_key (node_seed s number);
-  endorsement = Some (endorsement_of s number);
-  reserved = 0;
-  used = 0;
-}
 
 -- The identifiers of the nodes that start and of those that join, in the order of their numbers.
 abbrev pub node_ids : Settings → List NodeId

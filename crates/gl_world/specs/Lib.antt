@@ -4,8 +4,6 @@ pub mod Keyed
 pub mod Group
 pub mod World
 pub mod Headline
-pub mod Single
-pub mod Solo
 pub mod Members
 pub mod Held
 pub mod AtStart

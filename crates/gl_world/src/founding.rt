@@ -1,27 +1,21 @@
-//! The genesis of a service of one node, and who signs for that node.
+//! The genesis of a service of any number of nodes, and the keys of its nodes.
 
-ghost use Rattle.std.specs.Prelude.{◌≡◌, ◌≤◌, ◌+◌, ◌-◌, ◌^◌, suc, true, IfOk};
+ghost use Rattle.std.specs.Prelude.{◌≡◌, ◌≤◌, ◌+◌, ◌-◌, suc, true, IfOk};
 ghost use Rattle.std.specs.List.{list_any};
-ghost use Rattle.sha2.specs.Sha256.{sha256};
-ghost use Rattle.gl_lms.specs.Tree.{key_bytes};
-ghost use Rattle.gl_lms.specs.Secrets.{public_of};
 ghost use Rattle.gl_requests.specs.Ranges.{is_genesis};
 ghost use Rattle.gl_gov_rules.specs.Actions.{has_key};
-ghost use Rattle.gl_world.specs.Founding.{node_of, member_of, members_from, genesis_of, signer_of, has_distinct_keys};
+ghost use Rattle.gl_world.specs.Founding.{member_of, members_from, genesis_of, has_distinct_keys};
 ghost use Rattle.gl_world.specs.Group.{IsGroup};
 ghost use Rattle.gl_world.specs.Keyed.{AreKeysOf};
-ghost use Rattle.gl_world.specs.Single.{IsSingle};
 
 use crate::dealing::dealing;
-use crate::keys::{hss_key, member_seed, numbered_digest, private_key, word_digest};
+use crate::keys::{hss_key, member_seed, service_key};
 use crate::node_key::{NodeKey, new_nodes, node_keys};
 use crate::settings::Settings;
-use gl_base::{Bytes, Sequence};
-use gl_entry::NodeId;
-use gl_hss::{HssPublic, HssSigner, Levels};
+use gl_base::Sequence;
+use gl_hss::{HssPublic, Levels};
 use gl_lms::identifier_of;
 use gl_requests::{Genesis, HssPublicKey, NewMember, NewNode};
-use sha2::{Digest, Sha256};
 use std::alloc::{AllocError, Global};
 
 fn member_key(alloc: Global, settings: &Settings, number: u8) -> Result<HssPublicKey, AllocError>
@@ -118,72 +112,30 @@ fn genesis(
     })
 }
 
-/// What a service of one node begins with. Making it grows the tree of each key once: those of the
-/// service, of the node and of the members.
+/// What a service begins with. Making it grows the tree of each key once.
 #[derive(Drop)]
 pub struct Founding {
-    /// The request that founds the service.
-    pub genesis: Genesis,
-    /// Signs for node 1, with its endorsement. No leaf is reserved yet.
-    pub signer: HssSigner,
-}
-
-impl Founding {
-    /// Founds a service of one node and 1 to 64 members. The genesis fits its format.
-    pub fn make(alloc: Global, settings: &Settings) -> Result<Founding, AllocError>
-        requires { IsSingle settings.now }
-        ensures genesis { IfOk result (λ f. f.genesis ≡ genesis_of settings.now) }
-        ensures signer { IfOk result (λ f. f.signer ≡ signer_of settings.now 1) }
-        ensures fits { IfOk result (λ f. is_genesis f.genesis ≡ true) }
-    {
-        let service = private_key(alloc, &word_digest(b"svc", &settings.seed))?;
-        let key = private_key(alloc, &numbered_digest(b"node", 1, &settings.seed))?;
-        let endorsement = service.sign_leaf(0, &key.public())?;
-        let node = NewNode {
-            key: key.public(),
-            endorsement: Bytes::from(Vec::from_slice(alloc, &endorsement)?),
-        };
-        let mut nodes = Vec::new(alloc);
-        nodes.push(node)?;
-        let (identity, nodes) = (service.hss_public(Levels::Two), Sequence::from(nodes));
-        Ok(Founding {
-            genesis: genesis(alloc, settings, identity, nodes)?,
-            signer: HssSigner::new(key, Some(endorsement), 0),
-        })
-    }
-
-    /// The identifier of node 1: the digest of its key.
-    pub fn node_id(&self) -> NodeId
-        ensures { result ≡ sha256 (key_bytes (public_of self.now.signer.key)) }
-    {
-        Sha256::digest(&self.signer.key().public())
-    }
-}
-
-/// What a service of several nodes begins with. Making it grows the tree of each key once.
-#[derive(Drop)]
-pub struct GroupFounding {
     /// The request that founds the service.
     pub genesis: Genesis,
     /// The keys of the nodes that start and of those that join, in the order of their numbers.
     pub keys: Vec<NodeKey>,
 }
 
-impl GroupFounding {
+impl Founding {
     /// Founds a service of such settings. The genesis fits its format.
-    pub fn make(alloc: Global, settings: &Settings) -> Result<GroupFounding, AllocError>
+    pub fn make(alloc: Global, settings: &Settings) -> Result<Founding, AllocError>
         requires { IsGroup settings.now }
         ensures genesis { IfOk result (λ f. f.genesis ≡ genesis_of settings.now) }
         ensures keys { IfOk result (λ f. AreKeysOf settings.now
             (settings.now.starting + settings.now.joiners) f.keys.items) }
         ensures fits { IfOk result (λ f. is_genesis f.genesis ≡ true) }
     {
-        let service = private_key(alloc, &word_digest(b"svc", &settings.seed))?;
+        let service = service_key(alloc, settings)?;
         let count = settings.starting + settings.joiners;
         let keys = node_keys(alloc, settings, &service, count)?;
         let nodes = new_nodes(alloc, settings, &keys, settings.starting)?;
         let identity = service.hss_public(Levels::Two);
         let genesis = genesis(alloc, settings, identity, nodes)?;
-        Ok(GroupFounding { genesis, keys })
+        Ok(Founding { genesis, keys })
     }
 }

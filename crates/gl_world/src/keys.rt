@@ -1,10 +1,10 @@
 //! Keys and digests from seeds.
 
-ghost use Rattle.std.specs.Prelude.{◌≡◌, ◌++◌, codes, IfOk};
+ghost use Rattle.std.specs.Prelude.{◌≡◌, ◌++◌, IfOk};
 ghost use Rattle.sha2.specs.Sha256.{sha256};
 ghost use Rattle.gl_base.specs.LittleEndian.{little_endian};
 ghost use Rattle.gl_hss.specs.Levels.{level_count};
-ghost use Rattle.gl_world.specs.Keys.{private_key, hss_key, member_seed};
+ghost use Rattle.gl_world.specs.Keys.{private_key, hss_key, member_seed, service_seed};
 
 use crate::settings::Settings;
 use gl_entry::Digest;
@@ -47,6 +47,13 @@ pub fn private_key(alloc: Global, seed: &Digest) -> Result<LmsKey, AllocError>
     ensures { IfOk result (λ key. key ≡ private_key seed.now) }
 {
     LmsKey::make(alloc, *seed, Types::H5W4)
+}
+
+/// The key of a service.
+pub fn service_key(alloc: Global, settings: &Settings) -> Result<LmsKey, AllocError>
+    ensures private_key { IfOk result (λ key. key ≡ private_key (service_seed settings.now)) }
+{
+    private_key(alloc, &word_digest(b"svc", &settings.seed))
 }
 
 /// The HSS key of a seed, with so many levels.

@@ -2,7 +2,7 @@
 
 ghost use Rattle.std.specs.Prelude.{◌≡◌, ◌<◌, ℕ, List, length, true};
 ghost use Rattle.gl_rules.specs.Identity.{NodeId, member};
-ghost use Rattle.gl_rules.specs.Safety.{EachFollows, IsOpening, NeverConflicts};
+ghost use Rattle.gl_rules.specs.Safety.{EachFollows, IsOpening, NeverConflicts, RetiresSafely};
 ghost use Rattle.gl_tx.specs.declared.request.Operation.{Operation};
 ghost use Rattle.gl_requests.specs.Ranges.{is_first_state};
 ghost use Rattle.gl_requests.specs.declared.request.GovernanceRequest.{GovernanceRequest};
@@ -27,6 +27,8 @@ pub fn is_safe()
     ensures begins { (s : Settings) → IsGroup s → Begins service_layers (start_of s) }
     ensures no_conflict { (s : Settings) → IsGroup s → (events : List ServiceEvent) →
         NeverConflicts (book_of s) (start_of s) events }
+    ensures retirement { (s : Settings) → IsGroup s → (events : List ServiceEvent) →
+        RetiresSafely (book_of s) (start_of s) events }
     ensures smallest { (state : ServiceState) (seed : List ℕ) → is_first_state state ≡ true →
         IsGroup (record { starting = 1; joiners = 0; members = 1; state = state; seed = seed }) }
 {}

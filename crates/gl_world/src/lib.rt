@@ -13,10 +13,11 @@ mod settings;
 mod world;
 
 pub use event::Event;
-pub use founding::{Founding, GroupFounding, has_distinct_keys};
+pub use founding::{Founding, has_distinct_keys};
+pub use keys::service_key;
 pub use laws::{has_node_keys, is_safe, is_unguarded};
 pub use members::Members;
-pub use node_key::NodeKey;
+pub use node_key::{NodeKey, joining_node};
 pub use nodes::node_ids;
 pub use settings::Settings;
 pub use world::{World, law_of_worlds};

@@ -90,3 +90,18 @@ pub fn new_nodes(
     }
     Ok(Sequence::from(nodes))
 }
+
+/// The node with a number as it asks to join: its key, which the service's key endorses.
+pub fn joining_node(
+    alloc: Global,
+    settings: &Settings,
+    service: &LmsKey,
+    number: u8,
+) -> Result<NewNode, AllocError>
+    requires service { service.now ≡ private_key (service_seed settings.now) }
+    requires some { 1 ≤ number }
+    requires few { number ≤ 32 }
+    ensures { IfOk result (λ node. node ≡ node_of settings.now number) }
+{
+    NodeKey::make(alloc, settings, service, number)?.new_node(alloc)
+}

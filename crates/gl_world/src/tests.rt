@@ -44,12 +44,11 @@ fn founds_a_service_of_three_members(rt: HostRuntime) -> Result<(), Fail> {
     assert!(rt; has_distinct_keys(rt.alloc(), &settings)?);
     let founding = Founding::make(rt.alloc(), &settings)?;
     let genesis = &founding.genesis;
-    assert_eq!(rt; founding.node_id(), NODE);
+    assert_eq!(rt; Sha256::digest(&founding.keys[0].key.public()), NODE);
     assert_eq!(rt;
         Sha256::digest(genesis.nodes.as_slice()[0].endorsement.as_slice()),
         ENDORSEMENT
     );
-    assert_eq!(rt; founding.signer.reserved(), 0);
     assert_eq!(rt; genesis.members.as_slice().len(), 3);
     assert_eq!(rt; genesis.members.as_slice()[2].key, MEMBER);
     assert_eq!(rt; genesis.dealing.secret_digest, SECRET);

@@ -3,7 +3,7 @@
 ghost use Rattle.std.specs.Prelude.{◌≡◌, ◌≤◌, ◌+◌, ℕ, [], true, false, drop, map, IfOk, IfErr};
 ghost use Rattle.std.specs.Option.{option_map};
 ghost use Rattle.gl_rules.specs.Retirement.{stage_at};
-ghost use Rattle.gl_rules.specs.Safety.{committed_ledger, reported_status};
+ghost use Rattle.gl_rules.specs.Safety.{RetiresSafely, committed_ledger, reported_status};
 ghost use Rattle.gl_config.specs.Stages.{seen_stage};
 ghost use Rattle.gl_election.specs.Bridge.{seen_message};
 ghost use Rattle.gl_world.specs.declared.event.Event.TheVariants.{Deliver, Timeout};
@@ -14,6 +14,7 @@ ghost use Rattle.gl_world.specs.Group.{IsGroup, book_of};
 ghost use Rattle.gl_world.specs.Happened.{Happened, Refuses, is_no_memory};
 ghost use Rattle.gl_world.specs.Headline.{Headline};
 ghost use Rattle.gl_world.specs.Held.{has_node, may_happen, node_now, seen_events, world_now};
+ghost use Rattle.gl_world.specs.World.{start_of};
 
 mod happen;
 mod nodes;
@@ -140,12 +141,16 @@ impl<
 
     /// One event happens. Want of memory leaves all as it was. Whatever happened, of any two
     /// committed ledgers, at whatever nodes and moments, one is a prefix of the other, no identifier
-    /// is Committed and Invalid, and each committed ledger is sound.
+    /// is Committed and Invalid, and each committed ledger is sound. A node whose retirement is
+    /// committed may be switched off: whoever says so never again counts it in an active
+    /// configuration, nor does a leader of a later view than that of a leader who says so.
     pub fn step(&mut self, event: Event) -> Result<Outcome<Given>, Refusal<B>>
         requires here { may_happen self.old event ≡ true }
         ensures happened { IfOk result (λ outcome. Happened self.old event self.new outcome) }
         ensures refused { IfErr result (λ why. Refuses self.old event self.new why) }
         ensures headline { Headline self.new.settings (seen_events self.new) }
+        ensures retirement { RetiresSafely (book_of self.new.settings)
+            (start_of self.new.settings) (seen_events self.new) }
     {
         self.settle(event)
     }

@@ -113,7 +113,7 @@ fn tells_where_a_ledger_ends(rt: HostRuntime) -> Result<(), Fail> {
     let ledger = signed_ledger(alloc)?;
     let rows: [(usize, &str); 9] = [
         (0, "fault seqno 1 rule 3\n"),
-        (1, "fault seqno 1 rule 1\n"),
+        (5, "fault seqno 1 rule 1\n"),
         (5706, "fault seqno 1 rule 1\n"),
         (5707, "valid 2.1 -\n"),
         (5708, "fault seqno 2 rule 1\n"),

@@ -26,7 +26,7 @@ fn add_rows(
 }
 
 /// The program answers this text so.
-fn answers(rt: &impl Abort, alloc: Global, text: &[u8], due: &[u8]) -> Result<(), AllocError> {
+pub fn answers(rt: &impl Abort, alloc: Global, text: &[u8], due: &[u8]) -> Result<(), AllocError> {
     let (status, written) = run(alloc, &["replay"], text)?;
     assert_eq!(rt; status, 0, "of {text:?}");
     assert_eq!(rt; written.as_slice(), due);

@@ -49,6 +49,7 @@ const GRANTED_AGAIN: Rows<'static> = &[
     ("timeout 2", "candidate sent 1 2"),
     ("deliver 2", "ok sent 3"),
     ("deliver 2", "ok sent 4"),
+    ("deliver 4", "leader"),
 ];
 
 /// Views and votes last through restarts: node 3 doesn't vote for a second node in view 3.
@@ -148,6 +149,8 @@ const RECONFIGURED: Rows<'static> = &[
     ("ack 1 1", "accepted 2.3"),
     ("join 1 4", "accepted 2.4"),
     ("join 1 5", "accepted 2.5"),
+    // It is recorded, and not trusted yet.
+    ("replicate 1 4", "refused 126"),
     (
         concat!(
             r#"propose 1 1 {"actions":["#,
@@ -176,6 +179,19 @@ const RECONFIGURED: Rows<'static> = &[
     ("deliver 7", "ok sent 8"),
     ("deliver 8", "ok"),
     ("advance 1", "commit 2.8"),
+    // A retired node is sent entries until its mark is committed.
+    ("replicate 1 2", "ok sent 9"),
+    ("mark 1 2", "accepted 2.9"),
+    ("reserve 1", "ok"),
+    ("sign 1", "signed 2.10"),
+    ("replicate 1 3", "ok sent 10"),
+    ("deliver 10", "ok sent 11"),
+    ("deliver 11", "ok"),
+    ("replicate 1 4", "ok sent 12"),
+    ("deliver 12", "ok sent 13"),
+    ("deliver 13", "ok"),
+    ("advance 1", "commit 2.10"),
+    ("replicate 1 2", "refused 126"),
 ];
 
 /// A node is retired, stage by stage, and marked once its removal is committed.
@@ -213,7 +229,10 @@ const RETIRED: Rows<'static> = &[
     // The last signature that node 2 holds records commit 6.
     ("restart 2", "ok"),
     ("ids 2", "ids 2.1 2.2 2.3 2.4 2.5 2.6"),
+    // It asks node 3 alone, whose vote is enough.
     ("timeout 2", "candidate sent 9"),
+    ("deliver 9", "ok sent 10"),
+    ("deliver 10", "leader"),
 ];
 
 #[test]

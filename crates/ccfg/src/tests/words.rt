@@ -3,7 +3,7 @@
 use crate::help::HELP;
 use crate::tests::receipts::IDENTITY;
 use crate::tests::{one_open, run, status_of, to_words};
-use crate::told_of_itself;
+use crate::{disk_and_words, told_of_itself};
 use gl_outside::{MemSource, SureSink};
 use std::test::Fail;
 
@@ -20,7 +20,7 @@ const SHORT: &str = "\
 #[test]
 fn tells_one_kind_of_fault(rt: HostRuntime) -> Result<(), Fail> {
     let alloc = rt.alloc();
-    let rows: [(&[&str], &str); 22] = [
+    let rows: [(&[&str], &str); 31] = [
         (&[], "MissingSubcommand"),
         (&[""], "InvalidSubcommand"),
         (&["foo"], "InvalidSubcommand"),
@@ -44,6 +44,27 @@ fn tells_one_kind_of_fault(rt: HostRuntime) -> Result<(), Fail> {
         (&["audit"], "MissingRequiredArgument"),
         (&["audit", "--identity", SHORT], "ValueValidation"),
         (&["audit", "--identity", IDENTITY, "x"], "UnknownArgument"),
+        (&["keygen"], "MissingRequiredArgument"),
+        (&["keygen", "--kind", "node"], "MissingRequiredArgument"),
+        (&["keygen", "--types", "h5w4"], "MissingRequiredArgument"),
+        (
+            &["keygen", "--kind", "nodes", "--types", "h5w4"],
+            "InvalidValue",
+        ),
+        (
+            &["keygen", "--kind", "node", "--types", "h5w5"],
+            "InvalidValue",
+        ),
+        (&["keygen", "--kind", "", "--types", ""], "InvalidValue"),
+        (&["keygen", "--kind", "node", "--types"], "InvalidValue"),
+        (
+            &["keygen", "--kind", "node", "--types", "h5w4", "x"],
+            "UnknownArgument",
+        ),
+        (
+            &["@disk=a", "keygen", "--kind", "node", "--types", "h5w4"],
+            "InvalidSubcommand",
+        ),
         (&["--help"], "DisplayHelp"),
         (&["--version"], "DisplayVersion"),
     ];
@@ -76,5 +97,29 @@ fn tells_of_itself(rt: HostRuntime) -> Result<(), Fail> {
     let version = told_of_itself(alloc, &to_words(alloc, &["--version"])?)?.ok_or("no version")?;
     assert_eq!(rt; version.as_str(), "ccfg 0.1.0\n");
     assert!(rt; told_of_itself(alloc, &to_words(alloc, &["--help", "replay"])?)?.is_none());
+    Ok(())
+}
+
+#[test]
+fn takes_the_last_path_of_a_disk(rt: HostRuntime) -> Result<(), Fail> {
+    let alloc = rt.alloc();
+    let rows: [(&[&str], Option<&str>, usize); 6] = [
+        (&[], None, 0),
+        (&["keygen"], None, 1),
+        (&["keygen", "@disk=a"], None, 2),
+        (&["@disk=a"], Some("a"), 0),
+        (
+            &["@disk=a", "@disk=", "@disk=b/c", "keygen", "@disk=d"],
+            Some("b/c"),
+            2,
+        ),
+        (&["@disk", "@disk=a"], None, 2),
+    ];
+    for (called, path, count) in rows {
+        let called = to_words(alloc, called)?;
+        let (named, words) = disk_and_words(&called);
+        assert_eq!(rt; named, path);
+        assert_eq!(rt; words.len(), count);
+    }
     Ok(())
 }

@@ -17,13 +17,12 @@ use crate::line_request::{LineRequest, request_named};
 use crate::numbers::node_number;
 use crate::outcome_text::{put_outcome, put_refusal};
 use crate::proposals::NumberedProposal;
-use crate::service_key::new_node;
 use crate::text::{put_proposal, put_sent, put_unnamed};
 use gl_ledger::{Given, Reads, Unmade};
 use gl_replication::{Book, Outcome};
 use gl_requests::{Digest, GovernanceRequest, MemberAct};
 use gl_tx::Request;
-use gl_world::Event;
+use gl_world::{Event, joining_node};
 use std::alloc::{AllocError, Global};
 
 /// The identifier of the proposal that a request makes.
@@ -170,7 +169,7 @@ impl<
         if !self.world.has_node(joiner) {
             return put_unnamed(out);
         }
-        let joining = new_node(self.alloc, &self.settings, &self.service, joiner)?;
+        let joining = joining_node(self.alloc, &self.settings, &self.service, joiner)?;
         self.send(number, node, GovernanceRequest::Join(joining), out)
     }
 

@@ -1,5 +1,17 @@
-use Rattle.ccfg.proofs.DueLemmas.{due_runs}
+use Rattle.std.proofs.Common.{Err, ap, ◌∙◌, rules}
+use Rattle.ccfg.proofs.DueLemmas.{due_runs, kept, stop_runs}
 use Rattle.ccfg.proofs.program.execute.Goals as goal
 
 pub returns-in-Ok-clause-runs : goal.returns-in-Ok-clause-runs
-returns-in-Ok-clause-runs g c = due_runs _ _ _ c.in-Ok.plan c.in-Ok.ensures.due c.in-Ok.ensures.ended c.carry_out.ensures
+returns-in-Ok-clause-runs g c =
+    let h = c.read_plan-plan.ensures in
+    due_runs _ _ _ c.in-Ok.plan (rw c.in-Ok.is at h.due) (rw c.in-Ok.is at h.ended) c.carry_out.ensures
+
+pub returns-in-Ok-clause-kept : goal.returns-in-Ok-clause-kept
+returns-in-Ok-clause-kept g c = λ done honest kind types asks.
+    kept kind types _ c.in-Ok.plan _ _ _ (rw c.in-Ok.is at (c.read_plan-plan.ensures.kept honest kind types asks)) done c.carry_out.ensures
+
+pub returns-in-Err-clause-runs : goal.returns-in-Err-clause-runs
+returns-in-Err-clause-runs g c =
+    let h = c.read_plan-plan.ensures in
+    rw c.ending.ensures (stop_runs c.in-Err.stop _ _ (λ is. h.failed (c.in-Err.is ∙ ap Err is)) (λ is. h.disk_failed (c.in-Err.is ∙ ap Err is)) (search rules) (λ text. search rules))

@@ -1,19 +1,15 @@
-use Rattle.std.proofs.Common.{ap, ◌∙◌, sym, Ok}
+use Rattle.std.proofs.Common.{◌∙◌, sym}
 use Rattle.clap.specs.Matches.{found_of}
 use Rattle.clap.specs.Walk.{rows_of}
-use Rattle.clap.proofs.WalkLemmas.{first_value-rows}
-use Rattle.ccfg.specs.Words.{asked_identity, asked_under}
-use Rattle.ccfg.proofs.WordLemmas.{other_command}
+use Rattle.ccfg.proofs.WordLemmas.{other_command, same_found, same_refused}
 use Rattle.ccfg.proofs.words.asked_command.Goals as goal
 
-pub returns-in-Ok-clause-found : goal.returns-in-Ok-clause-found
-returns-in-Ok-clause-found c =
+pub returns-else-eq-clause-found : goal.returns-else-eq-clause-found
+returns-else-eq-clause-found c =
     let is = other_command c.args.matches.now c.in-Some.name.now (rows_of (found_of c.in-Some.options.now)) c.in-Some.ensures.name c.in-Some.ensures.rows (sym c.if-eq.false ∙ c.eq.ensures) in
-    let word = ap asked_identity (c.get_str.ensures ∙ first_value-rows (found_of c.in-Some.options.now) _) in
-    is ∙ ap (asked_under c.in-Some.name.now) (sym word ∙ c.in-Ok.ensures.found) ∙ ap Ok (sym c.task_under.ensures)
+    same_found c.asked_options.result _ _ is c.asked_options.ensures.found
 
-pub returns-in-Err-clause-refused : goal.returns-in-Err-clause-refused
-returns-in-Err-clause-refused c =
+pub returns-else-eq-clause-refused : goal.returns-else-eq-clause-refused
+returns-else-eq-clause-refused c =
     let is = other_command c.args.matches.now c.in-Some.name.now (rows_of (found_of c.in-Some.options.now)) c.in-Some.ensures.name c.in-Some.ensures.rows (sym c.if-eq.false ∙ c.eq.ensures) in
-    let word = ap asked_identity (c.get_str.ensures ∙ first_value-rows (found_of c.in-Some.options.now) _) in
-    is ∙ ap (asked_under c.in-Some.name.now) (sym word ∙ c.in-Err.ensures.refused)
+    same_refused c.asked_options.result _ _ is c.asked_options.ensures.refused

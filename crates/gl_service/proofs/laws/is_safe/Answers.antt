@@ -1,5 +1,8 @@
-use Rattle.gl_service.proofs.Safe.{begins_safe}
+use Rattle.gl_service.proofs.Safe.{begins_retiring, begins_safe}
 use Rattle.gl_service.proofs.laws.is_safe.Goals as goal
 
 pub returns : goal.returns
-returns c = record { safe = λ layers keys s h events. begins_safe layers keys s h events }
+returns c = record {
+  safe = λ layers keys s h events. begins_safe layers keys s h events;
+  retirement = λ layers keys s h events. begins_retiring layers keys s h events;
+}

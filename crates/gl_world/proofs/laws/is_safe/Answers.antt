@@ -1,5 +1,5 @@
 use Rattle.std.proofs.Common.{refl, arith}
-use Rattle.gl_world.proofs.Groups.{group_begins, group_opens, group_safe, group_never_conflicts}
+use Rattle.gl_world.proofs.Groups.{group_begins, group_opens, group_safe, group_never_conflicts, group_retires}
 use Rattle.gl_world.proofs.laws.is_safe.Goals as goal
 
 pub returns : goal.returns
@@ -8,6 +8,7 @@ returns c = record {
   opening = λ s h. group_opens s h;
   begins = λ s h. group_begins s h;
   no_conflict = λ s h events. group_never_conflicts s h events;
+  retirement = λ s h events. group_retires s h events;
   smallest = λ state seed allowed. record {
     first_state = allowed;
     first = omega arith;

@@ -31,8 +31,8 @@ returns-then-not-has_node-2 g c =
           (λ w. tells_no_other m group c.args.node c.args.joiner (λ t x y. Governs x None (requests.Join (node_of m.world.settings c.args.joiner))) _ _ some none w c.args.number) c.put_unnamed-then-not-has_node-2.ensures;
     }
 
-pub new_node-requires-clause-high : goal.new_node-requires-clause-high
-new_node-requires-clause-high g c = (number_small c.self.inside.world _ c.self.invariant.world c.self.invariant.group _ (sym c.has_node-2.ensures ∙ c.if-not-has_node-2.false)).1
+pub joining_node-requires-clause-few : goal.joining_node-requires-clause-few
+joining_node-requires-clause-few g c = (number_small c.self.inside.world _ c.self.invariant.world c.self.invariant.group _ (sym c.has_node-2.ensures ∙ c.if-not-has_node-2.false)).1
 
 pub returns : goal.returns
 returns g c =

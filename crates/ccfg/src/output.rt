@@ -1,0 +1,148 @@
+//! What is written to the sink.
+
+ghost use Rattle.ccfg.specs.declared.plan.Plan.TheVariants.{Play, Show, ShowLedger};
+ghost use Rattle.ccfg.specs.Owed.{WritesDue, due_of_answer, due_of_fault};
+ghost use Rattle.ccfg.specs.Plans.{PlansPlayable, due_of_plan};
+ghost use Rattle.gl_schedule.specs.Playable.{IsPlayable};
+ghost use Rattle.gl_schedule.specs.declared.schedule.Schedule.TheVariants.{Service};
+
+use crate::ending::Ending;
+use crate::fault::Fault;
+use crate::ledger_plan::ledger_line;
+use crate::plan::Plan;
+use crate::verify::valid_line;
+use gl_base::TxId;
+use gl_book::books;
+use gl_lines::Lines;
+use gl_outside::{Sink, SinkFault, write_whole};
+use gl_schedule::{Schedule, play};
+use gl_world::Settings;
+use std::alloc::Global;
+
+/// Tells a fault.
+pub fn refuse<K: Sink>(alloc: Global, fault: &Fault, sink: &mut K) -> Ending
+    ensures { WritesDue result (record {
+      held = K.holds sink.old;
+      holds = K.holds sink.new;
+      faults = K.faults sink.old;
+      faults_now = K.faults sink.new;
+    }) (due_of_fault fault.now) }
+{
+    let Ok(line) = fault.line(alloc) else {
+        return Ending::Memory;
+    };
+    match write_whole(sink, &line) {
+        Ok(()) => fault.ending(),
+        Err(SinkFault::Failed) => Ending::SinkFailed,
+        Err(SinkFault::NoMemory) => Ending::Memory,
+    }
+}
+
+/// Tells the transaction of a valid receipt.
+fn show<K: Sink>(alloc: Global, id: TxId, sink: &mut K) -> Ending
+    ensures { WritesDue result (record {
+      held = K.holds sink.old;
+      holds = K.holds sink.new;
+      faults = K.faults sink.old;
+      faults_now = K.faults sink.new;
+    }) (due_of_plan (Show id)) }
+{
+    let Ok(line) = valid_line(alloc, id) else {
+        return Ending::Memory;
+    };
+    match write_whole(sink, &line) {
+        Ok(()) => Ending::Done,
+        Err(SinkFault::Failed) => Ending::SinkFailed,
+        Err(SinkFault::NoMemory) => Ending::Memory,
+    }
+}
+
+/// Tells the last transaction of a valid ledger, and that of its last signature.
+fn show_ledger<K: Sink>(alloc: Global, last: TxId, signed: Option<TxId>, sink: &mut K) -> Ending
+    ensures { WritesDue result (record {
+      held = K.holds sink.old;
+      holds = K.holds sink.new;
+      faults = K.faults sink.old;
+      faults_now = K.faults sink.new;
+    }) (due_of_plan (ShowLedger last signed)) }
+{
+    let Ok(line) = ledger_line(alloc, last, signed) else {
+        return Ending::Memory;
+    };
+    match write_whole(sink, &line) {
+        Ok(()) => Ending::Done,
+        Err(SinkFault::Failed) => Ending::SinkFailed,
+        Err(SinkFault::NoMemory) => Ending::Memory,
+    }
+}
+
+/// Tells a line that is an answer.
+fn tell<K: Sink>(line: &[u8], sink: &mut K) -> Ending
+    ensures { WritesDue result (record {
+      held = K.holds sink.old;
+      holds = K.holds sink.new;
+      faults = K.faults sink.old;
+      faults_now = K.faults sink.new;
+    }) (due_of_answer line.now) }
+{
+    match write_whole(sink, line) {
+        Ok(()) => Ending::Done,
+        Err(SinkFault::Failed) => Ending::SinkFailed,
+        Err(SinkFault::NoMemory) => Ending::Memory,
+    }
+}
+
+/// Plays the lines of a service's schedule, over a store for each of its nodes.
+fn play_service<K: Sink>(alloc: Global, settings: &Settings, lines: &Lines, sink: &mut K) -> Ending
+    requires { IsPlayable (Service settings.now lines.now) }
+    ensures { WritesDue result (record {
+      held = K.holds sink.old;
+      holds = K.holds sink.new;
+      faults = K.faults sink.old;
+      faults_now = K.faults sink.new;
+    }) (due_of_plan (Play (Service settings.now lines.now))) }
+{
+    let Ok(books) = books(alloc, settings) else {
+        return Ending::Memory;
+    };
+    match play(alloc, *settings, lines, books, sink) {
+        Ok(()) => Ending::Done,
+        Err(SinkFault::Failed) => Ending::SinkFailed,
+        Err(SinkFault::NoMemory) => Ending::Memory,
+    }
+}
+
+/// Plays a schedule; one without a service prints nothing.
+fn perform<K: Sink>(alloc: Global, schedule: &Schedule, sink: &mut K) -> Ending
+    requires { IsPlayable schedule.now }
+    ensures { WritesDue result (record {
+      held = K.holds sink.old;
+      holds = K.holds sink.new;
+      faults = K.faults sink.old;
+      faults_now = K.faults sink.new;
+    }) (due_of_plan (Play schedule.now)) }
+{
+    match schedule {
+        Schedule::Empty => Ending::Done,
+        Schedule::Service(settings, lines) => play_service(alloc, settings, lines, sink),
+    }
+}
+
+/// Does what a plan says.
+pub fn carry_out<K: Sink>(alloc: Global, plan: &Plan, sink: &mut K) -> Ending
+    requires { PlansPlayable plan.now }
+    ensures { WritesDue result (record {
+      held = K.holds sink.old;
+      holds = K.holds sink.new;
+      faults = K.faults sink.old;
+      faults_now = K.faults sink.new;
+    }) (due_of_plan plan.now) }
+{
+    match plan {
+        Plan::Play(schedule) => perform(alloc, schedule, sink),
+        Plan::Show(id) => show(alloc, *id, sink),
+        Plan::ShowLedger(last, signed) => show_ledger(alloc, *last, *signed, sink),
+        Plan::ShowKey(line) => tell(line, sink),
+        Plan::Refuse(fault) => refuse(alloc, fault, sink),
+    }
+}

@@ -1,0 +1,27 @@
+-- What stays where nothing was written.
+use Rattle.std.proofs.Common.{◌≡◌, inl, ℕ, List, Result, Ok, OnOk, sym, subst}
+use Rattle.gl_outside.specs.Disk.{Step, Leaves}
+use Rattle.gl_outside.proofs.Moments.{started, stayed}
+use Rattle.gl_journal.specs.Stops.{IsSettled}
+use Rattle.gl_journal.specs.Kept.{IsKept}
+use Rattle.gl_journal.specs.Durable.{Durable, journal_header, OpensToOneOf}
+use Rattle.gl_journal.specs.declared.journal.Journal.{Journal}
+use Rattle.gl_journal.proofs.Appending.{settled_gate}
+use Rattle.gl_keyfile.specs.KeyFile.{any_frame, opened}
+
+settled_here : (place : ℕ) (bytes : List ℕ) (past after : List Step) (state next : Durable) → IsSettled journal_header place bytes past → opened bytes ≡ Ok state → after ≡ past → Leaves (OpensToOneOf any_frame state next) past after
+settled_here place bytes past after state next settled is same =
+    let P = OpensToOneOf any_frame state next in
+    let here : P bytes = (settled_gate journal_header place bytes past settled, inl is) in
+    stayed P past past after (started P past (λ image left. subst P (sym (settled.kept image left)) here)) same
+
+-- nothing was done to a settled journal
+pub none_done : {D : Type 0} (bytes : D → List ℕ) (past : D → List Step) (journal : Journal D) (after : List Step) (state next : Durable) → IsKept bytes past journal → opened (bytes journal.gated.disk) ≡ Ok state → after ≡ past journal.gated.disk
+    → Leaves (OpensToOneOf any_frame state next) (past journal.gated.disk) after
+none_done bytes past journal after state next kept is same =
+    settled_here journal.gated.place (bytes journal.gated.disk) (past journal.gated.disk) after state next
+    (subst (λ (header : List ℕ). IsSettled header journal.gated.place (bytes journal.gated.disk) (past journal.gated.disk)) kept.header kept.settled) is same
+
+-- what holds where a call succeeds, and it did
+pub of_ok : {T E A : Type 0} (result : Result T E) (value : T) → result ≡ Ok value → OnOk result A → A
+of_ok {A = A} result value is here = let P : Result _ _ → Type 0 = λ r. OnOk r A in subst P is here

@@ -1,5 +1,0 @@
-use Rattle.std.proofs.Common.{length}
-use Rattle.gl_replay_delivery.proofs.append.+matching_prefix_len.Given as goal
-
-abbrev pub decreases-matching_prefix_len : goal.decreases-matching_prefix_len
-decreases-matching_prefix_len l = length l.entries.now

@@ -1,6 +1,6 @@
 -- What plans and faults owe, and what a task owes to the bytes of its source, whether the source
 -- tells them or not.
-use Rattle.std.proofs.Common.{◌≡◌, ◌⊎◌, inl, inr, ℕ, ◌<◌, List, [], length, Option, None, Some, Bool, true, nat_lt, if◌then◌else◌, IfSome, refl, sym, ap, ◌∙◌, subst, arith, length-append}
+use Rattle.std.proofs.Common.{◌≡◌, ◌⊎◌, inl, inr, ℕ, ◌<◌, List, [], length, Option, None, Some, Bool, true, nat_lt, if◌then◌else◌, refl, sym, ap, ◌∙◌, subst, arith, length-append}
 use Rattle.std.proofs.lemmas.Bool.Decides.{nat_tests}
 use Rattle.std.specs.Io.KnownBytes.{Appends, Consumes, Keeps}
 use Rattle.gl_outside.specs.Sink.{AppendsFront}
@@ -14,21 +14,22 @@ use Rattle.ccfg.specs.declared.ending.Ending.TheVariants as endings
 use Rattle.ccfg.specs.declared.fault.Fault.{Fault}
 use Rattle.ccfg.specs.declared.fault.Fault.TheVariants as faults
 use Rattle.ccfg.specs.declared.plan.Plan.{Plan}
-use Rattle.ccfg.specs.declared.plan.Plan.TheVariants.{Play, Show, ShowLedger, ShowKey, Refuse}
+use Rattle.ccfg.specs.declared.plan.Plan.TheVariants.{Play, Show, ShowLedger, Tell, Refuse}
 use Rattle.ccfg.specs.declared.words.Task.{Task}
 use Rattle.ccfg.specs.declared.words.Task.TheVariants as tasks
 use Rattle.ccfg.specs.Faults.{fault_line}
 use Rattle.ccfg.specs.Owed.{Due, EndsSource, OfRun, Owed, Owes, OwesRead, Run, Runs, Written, WritesDue, bytes_limit, due_of_answer, due_of_audit, due_of_fault, due_of_form, due_of_reading, due_of_receipt, due_of_schedule, ending_of_fault, ending_of_stop, json_limit, ledger_line, lines_limit, valid_line}
-use Rattle.ccfg.specs.Plans.{KeepsKey, TellsFault, ShowsAccepted, ShowsKept, due_of_plan}
+use Rattle.ccfg.specs.Plans.{KeepsKey, SpendsLeaf, TellsFault, TellsSpent, ShowsAccepted, ShowsKept, due_of_plan}
+use Rattle.gl_consortium.specs.declared.signing.Signing.{Signing}
 use Rattle.ccfg.specs.declared.plan.PlanStop.{PlanStop}
 use Rattle.ccfg.specs.declared.plan.PlanStop.TheVariants as stops
-use Rattle.ccfg.proofs.HeldLemmas.{both_any, both_map, of_map}
+use Rattle.ccfg.proofs.ShownLemmas.{both_any, both_map, of_map}
 use Rattle.gl_journal.specs.declared.key.KeyKind.{KeyKind}
 use Rattle.gl_lms.specs.declared.types.Types.{Types}
 use Rattle.gl_outside.specs.Disk.{Step}
 use Rattle.gl_outside.specs.Fault.{Rose}
 use Rattle.gl_schedule.specs.Told.{text_of_schedule}
-use Rattle.ccfg.specs.Promises.{TellsAccepted}
+use Rattle.ccfg.specs.Promises.{IsFaultLine, TellsAccepted, TellsFront}
 use Rattle.gl_schedule.specs.Schedules.{reads}
 
 -- a fault that is told
@@ -45,6 +46,9 @@ writes_fault (faults.Foreign identity) w all = (refl, all)
 writes_fault (faults.NotEmpty len) w all = (refl, all)
 writes_fault (faults.Short at) w all = (refl, all)
 writes_fault (faults.Trailing at) w all = (refl, all)
+writes_fault (faults.Journal fault) w all = (refl, all)
+writes_fault (faults.KeyKind want got) w all = (refl, all)
+writes_fault (faults.Signing fault) w all = (refl, all)
 
 -- bytes of which more were read than the limit
 pub of_more : (old new : Option (List ℕ)) (text : List ℕ) (limit : ℕ) → Consumes old new text → limit < length text → OfBytes old (λ g. limit < length g)
@@ -85,6 +89,7 @@ sound_refusal tasks.Replay given fault = tt
 sound_refusal (tasks.Verify identity) given fault = tt
 sound_refusal (tasks.Audit identity) given fault = tt
 sound_refusal (tasks.Keygen kind types) given fault = tt
+sound_refusal (tasks.Sign signing) given fault = tt
 
 pub of_sound_refusal : (task : Task) (given : Option (List ℕ)) (fault : Fault) → OfBytes given (λ g. ShowsAccepted task g (Refuse fault))
 of_sound_refusal task None fault = ([], sound_refusal task [] fault)
@@ -103,13 +108,16 @@ no_fault_done (faults.Foreign identity) is = cc
 no_fault_done (faults.NotEmpty len) is = cc
 no_fault_done (faults.Short at) is = cc
 no_fault_done (faults.Trailing at) is = cc
+no_fault_done (faults.Journal fault) is = cc
+no_fault_done (faults.KeyKind want got) is = cc
+no_fault_done (faults.Signing fault) is = cc
 
 -- a plan that was carried out under a key
 accepted_by : (identity : List ℕ) (plan : Plan) (w : Written) (g : List ℕ) → ShowsAccepted (tasks.Verify identity) g plan → WritesDue endings.Done w (due_of_plan plan) → TellsAccepted identity g w.held w.holds
 accepted_by identity (Play schedule) w g sound writes = absurd sound
 accepted_by identity (Show id) w g sound writes = (sound.0, sound.1, id, sound.2, writes.1)
 accepted_by identity (ShowLedger last signed) w g sound writes = absurd sound
-accepted_by identity (ShowKey line) w g sound writes = absurd sound
+accepted_by identity (Tell text) w g sound writes = absurd sound
 accepted_by identity (Refuse fault) w g sound writes = absurd (no_fault_done fault writes.0)
 
 pub accepted : (task : Task) (identity : List ℕ) (plan : Plan) (e : Ending) (w : Written) (given : Option (List ℕ)) → task ≡ tasks.Verify identity → OfBytes given (λ g. ShowsAccepted task g plan) →
@@ -129,7 +137,7 @@ kept_by : (kind : KeyKind) (types : Types) (past : List Step) (plan : Plan) (w :
 kept_by kind types past (Play schedule) w g sound writes = absurd sound
 kept_by kind types past (Show id) w g sound writes = absurd sound
 kept_by kind types past (ShowLedger last signed) w g sound writes = absurd sound
-kept_by kind types past (ShowKey line) w g sound writes = sound
+kept_by kind types past (Tell text) w g sound writes = sound
 kept_by kind types past (Refuse fault) w g sound writes = absurd (no_fault_done fault writes.0)
 
 pub kept : (kind : KeyKind) (types : Types) (past : List Step) (plan : Plan) (e : Ending) (w : Written) (given : Option (List ℕ)) → OfBytes given (λ g. ShowsKept kind types past g plan) →
@@ -146,7 +154,7 @@ done_whole : (plan : Plan) → (due_of_plan plan).ending ≡ endings.Done → (d
 done_whole (Play schedule) is = refl
 done_whole (Show id) is = refl
 done_whole (ShowLedger last signed) is = refl
-done_whole (ShowKey line) is = refl
+done_whole (Tell text) is = refl
 done_whole (Refuse fault) is = absurd (no_fault_done fault is)
 
 -- what holds of what is due of a plan holds of what is due of the bytes
@@ -182,10 +190,15 @@ stop_runs stops.Memory r owed source disk keeps front = nothing_owed r owed fron
 stop_runs stops.SourceFailed r owed source disk keeps front = (source refl, keeps)
 stop_runs stops.DiskFailed r owed source disk keeps front = (disk refl, keeps)
 
-no_answer_refused : (text : List ℕ) (w : Written) (e : Ending) → WritesDue e w (due_of_answer text) → (e ≡ endings.NotValid) ⊎ (e ≡ endings.SourceFailed) ⊎ (e ≡ endings.NoReading) → ⊥
+-- an ending by which something is refused, or the source failed
+abbrev pub Refuses : Ending → Type 0
+Refuses e = (e ≡ endings.NotValid) ⊎ (e ≡ endings.SourceFailed) ⊎ (e ≡ endings.PastLimit) ⊎ (e ≡ endings.NoReading)
+
+no_answer_refused : (text : List ℕ) (w : Written) (e : Ending) → WritesDue e w (due_of_answer text) → Refuses e → ⊥
 no_answer_refused text w endings.Done writes (inl is) = cc
 no_answer_refused text w endings.Done writes (inr (inl is)) = cc
-no_answer_refused text w endings.Done writes (inr (inr is)) = cc
+no_answer_refused text w endings.Done writes (inr (inr (inl is))) = cc
+no_answer_refused text w endings.Done writes (inr (inr (inr is))) = cc
 no_answer_refused text w endings.NotValid writes is = let q : endings.Done ≡ endings.NotValid = writes.0 in cc
 no_answer_refused text w endings.NoReading writes is = let q : endings.Done ≡ endings.NoReading = writes.0 in cc
 no_answer_refused text w endings.OtherWords writes is = let q : endings.Done ≡ endings.OtherWords = writes.0 in cc
@@ -194,15 +207,45 @@ no_answer_refused text w endings.SourceFailed writes is = writes
 no_answer_refused text w endings.DiskFailed writes is = writes
 no_answer_refused text w endings.SinkFailed writes (inl is) = cc
 no_answer_refused text w endings.SinkFailed writes (inr (inl is)) = cc
-no_answer_refused text w endings.SinkFailed writes (inr (inr is)) = cc
+no_answer_refused text w endings.SinkFailed writes (inr (inr (inl is))) = cc
+no_answer_refused text w endings.SinkFailed writes (inr (inr (inr is))) = cc
 no_answer_refused text w endings.Memory writes (inl is) = cc
 no_answer_refused text w endings.Memory writes (inr (inl is)) = cc
-no_answer_refused text w endings.Memory writes (inr (inr is)) = cc
+no_answer_refused text w endings.Memory writes (inr (inr (inl is))) = cc
+no_answer_refused text w endings.Memory writes (inr (inr (inr is))) = cc
 
 -- an ending by which a fault is told
-pub refuses_by : (plan : Plan) (w : Written) (e : Ending) → WritesDue e w (due_of_plan plan) → (e ≡ endings.NotValid) ⊎ (e ≡ endings.SourceFailed) ⊎ (e ≡ endings.NoReading) → TellsFault plan
+pub refuses_by : (plan : Plan) (w : Written) (e : Ending) → WritesDue e w (due_of_plan plan) → Refuses e → TellsFault plan
 refuses_by (Refuse fault) w e writes is = tt
 refuses_by (Play schedule) w e writes is = absurd (no_answer_refused (text_of_schedule schedule) w e writes is)
 refuses_by (Show id) w e writes is = absurd (no_answer_refused (valid_line id) w e writes is)
 refuses_by (ShowLedger last signed) w e writes is = absurd (no_answer_refused (ledger_line last signed) w e writes is)
-refuses_by (ShowKey line) w e writes is = absurd (no_answer_refused line.items w e writes is)
+refuses_by (Tell text) w e writes is = absurd (no_answer_refused text.items w e writes is)
+
+-- where no limit is passed
+pub among_all : (e : Ending) → (e ≡ endings.NotValid) ⊎ (e ≡ endings.SourceFailed) ⊎ (e ≡ endings.NoReading) → Refuses e
+among_all e (inl is) = inl is
+among_all e (inr (inl is)) = inr (inl is)
+among_all e (inr (inr is)) = inr (inr (inr is))
+
+-- something that is told is signed with a leaf that is spent
+spent_by : (signing : Signing) (held : List ℕ) (past : List Step) (plan : Plan) (w : Written) → TellsSpent signing held past plan → WritesDue endings.Done w (due_of_plan plan) → SpendsLeaf signing held past
+spent_by signing held past (Play schedule) w sound writes = absurd sound
+spent_by signing held past (Show id) w sound writes = absurd sound
+spent_by signing held past (ShowLedger last signed) w sound writes = absurd sound
+spent_by signing held past (Tell text) w sound writes = sound
+spent_by signing held past (Refuse fault) w sound writes = absurd (no_fault_done fault writes.0)
+
+-- it is, or a front of a fault's line was written
+pub spent_or_refused : (signing : Signing) (held : List ℕ) (past : List Step) (plan : Plan) (e : Ending) (w : Written) → TellsSpent signing held past plan → WritesDue e w (due_of_plan plan) →
+    (e ≡ endings.Done) ⊎ (e ≡ endings.SinkFailed) ⊎ (e ≡ endings.Memory) → SpendsLeaf signing held past ⊎ TellsFront IsFaultLine w.held w.holds
+spent_or_refused signing held past (Play schedule) e w sound writes is = absurd sound
+spent_or_refused signing held past (Show id) e w sound writes is = absurd sound
+spent_or_refused signing held past (ShowLedger last signed) e w sound writes is = absurd sound
+spent_or_refused signing held past (Tell text) e w sound writes is = inl sound
+spent_or_refused signing held past (Refuse fault) e w sound writes (inl is) = absurd (no_fault_done fault (subst (λ (x : Ending). WritesDue x w (due_of_fault fault)) is writes).0)
+spent_or_refused signing held past (Refuse fault) e w sound writes (inr (inl is)) = inr (fault_line fault, (fault, refl), (subst (λ (x : Ending). WritesDue x w (due_of_fault fault)) is writes).1)
+spent_or_refused signing held past (Refuse fault) e w sound writes (inr (inr is)) = inr (fault_line fault, (fault, refl), subst (λ (x : Ending). WritesDue x w (due_of_fault fault)) is writes)
+
+pub spent : (signing : Signing) (held : List ℕ) (past : List Step) (plan : Plan) (e : Ending) (w : Written) → TellsSpent signing held past plan → e ≡ endings.Done → WritesDue e w (due_of_plan plan) → SpendsLeaf signing held past
+spent signing held past plan e w sound is writes = spent_by signing held past plan w sound (subst (λ (x : Ending). WritesDue x w (due_of_plan plan)) is writes)

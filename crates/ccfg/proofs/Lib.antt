@@ -1,5 +1,7 @@
-pub mod HeldLemmas
+pub mod ShownLemmas
 pub mod KeyLemmas
+pub mod SigningLemmas
+pub mod MomentLemmas
 pub mod WordLemmas
 pub mod DueLemmas
 pub mod MeaningLemmas

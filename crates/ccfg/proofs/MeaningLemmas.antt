@@ -1,5 +1,5 @@
 -- What it says of bytes that they are owed an ending and a text, and the other way round.
-use Rattle.std.proofs.Common.{◌≡◌, ℕ, inl, inr, List, [], ◌∷◌, length, Bool, true, false, Result, Ok, Err, nat_lt, if◌then◌else◌, refl, ap, ◌∙◌, arith}
+use Rattle.std.proofs.Common.{◌≡◌, ◌<◌, ℕ, zero, suc, inl, inr, List, length, Bool, true, false, Result, Ok, Err, nat_lt, if◌then◌else◌, refl, sym, ap, ◌∙◌, arith}
 use Rattle.std.proofs.lemmas.Bool.Decides.{nat_tests}
 use Rattle.gl_base.specs.declared.json.FormsFault.{FormsFault}
 use Rattle.gl_base.specs.declared.tx_id.TxId.{TxId}
@@ -19,38 +19,47 @@ use Rattle.ccfg.specs.declared.fault.Fault.TheVariants as faults
 use Rattle.gl_schedule.specs.declared.schedule.Schedule.{Schedule}
 use Rattle.ccfg.specs.declared.words.Task.{Task}
 use Rattle.ccfg.specs.declared.words.Task.TheVariants as tasks
+use Rattle.gl_consortium.specs.Owed.{owed}
+use Rattle.gl_consortium.specs.Signing.{kind_of}
+use Rattle.gl_consortium.specs.declared.fault.SigningFault.{SigningFault}
+use Rattle.gl_consortium.specs.declared.fault.SigningFault.TheVariants as signings
+use Rattle.gl_consortium.specs.declared.signing.Signing.{Signing}
+use Rattle.gl_journal.specs.Durable.{Durable}
+use Rattle.gl_journal.specs.declared.fault.JournalFault.{JournalFault}
 use Rattle.gl_journal.specs.declared.key.KeyKind.{KeyKind}
 use Rattle.gl_lms.specs.declared.types.Types.{Types}
 use Rattle.ccfg.proofs.KeyLemmas.{key_of, long_seed, seed_due, short_seed, whole_seed}
-use Rattle.ccfg.specs.Owed.{Due, bytes_limit, due_of, due_of_answer, due_of_audit, due_of_fault, due_of_seed, key_line, on_empty, seed_len, due_of_form, due_of_reading, due_of_receipt, due_of_schedule, due_of_verdict, json_limit, lines_limit}
-use Rattle.ccfg.specs.Promises.{HasBadLine, HasOtherForm, HasTooManyBytes, HasTooManyLines, HasTooMuchJson, IsAnswer, IsPastLimit, IsReceipt, IsRefusal, IsNoReading, ReadsAs}
+use Rattle.ccfg.proofs.SigningLemmas.{is_own_kind, long_text, same_kind, signed_ends, text_due, unsigned_due, with_key, with_other_key}
+use Rattle.ccfg.specs.Owed.{Due, Shown, bytes_limit, due_of, due_of_answer, due_of_audit, due_of_fault, due_of_seed, due_of_signing, due_of_text, is_kind, key_line, on_empty, seed_len, due_of_form, due_of_reading, due_of_receipt, due_of_schedule, due_of_verdict, json_limit, lines_limit}
+use Rattle.ccfg.specs.Promises.{HasBadLine, HasKeyFor, HasOtherForm, HasTooManyBytes, HasTooManyLines, HasTooMuchJson, IsAnswer, IsPastLimit, IsReceipt, IsRefusal, IsNoReading, ReadsAs}
+use Rattle.ccfg.specs.Faults.{fault_line}
 use Rattle.gl_schedule.specs.Schedules.{reads}
 
 -- What an ending and a text say of the bytes that are owed them.
-abbrev pub Means : Task → List ℕ → List ℕ → Ending → List ℕ → Type 0
-Means task held given endings.Done text = IsAnswer task held given text
-Means task held given endings.NotValid text = IsRefusal task held given text
-Means task held given endings.OtherWords text = ⊥
-Means task held given endings.SourceFailed text = ⊥
-Means task held given endings.SinkFailed text = ⊥
-Means task held given endings.DiskFailed text = ⊥
-Means task held given endings.Memory text = ⊥
-Means task held given endings.PastLimit text = IsPastLimit task held given text
-Means task held given endings.NoReading text = IsNoReading task held given text
+abbrev pub Means : Task → Shown → List ℕ → Ending → List ℕ → Type 0
+Means task shown given endings.Done text = IsAnswer task shown given text
+Means task shown given endings.NotValid text = IsRefusal task shown given text
+Means task shown given endings.OtherWords text = ⊥
+Means task shown given endings.SourceFailed text = ⊥
+Means task shown given endings.SinkFailed text = ⊥
+Means task shown given endings.DiskFailed text = ⊥
+Means task shown given endings.Memory text = ⊥
+Means task shown given endings.PastLimit text = IsPastLimit task shown given text
+Means task shown given endings.NoReading text = IsNoReading task shown given text
 
-abbrev DueMeans : Task → List ℕ → List ℕ → Due → Type 0
-DueMeans task held given due = Means task held given due.ending due.text
+abbrev DueMeans : Task → Shown → List ℕ → Due → Type 0
+DueMeans task shown given due = Means task shown given due.ending due.text
 
 -- Schedules
 
 abbrev schedule_due : Bool → Bool → Result Schedule ScheduleFault → Due
 schedule_due bytes lines read = if bytes then due_of_fault faults.TooManyBytes else (if lines then due_of_fault faults.TooManyLines else due_of_reading read)
 
-schedule_means : (held given : List ℕ) → DueMeans tasks.Replay held given (due_of_schedule given)
+schedule_means : (shown : Shown) (given : List ℕ) → DueMeans tasks.Replay shown given (due_of_schedule given)
 unfolding due_of_schedule
-schedule_means held given = go (nat_lt bytes_limit (length given)) (nat_lt lines_limit (line_count given)) (reads given) refl refl refl
+schedule_means shown given = go (nat_lt bytes_limit (length given)) (nat_lt lines_limit (line_count given)) (reads given) refl refl refl
   where
-    go : (b l : Bool) (s : Result Schedule ScheduleFault) → nat_lt bytes_limit (length given) ≡ b → nat_lt lines_limit (line_count given) ≡ l → reads given ≡ s → DueMeans tasks.Replay held given (schedule_due b l s)
+    go : (b l : Bool) (s : Result Schedule ScheduleFault) → nat_lt bytes_limit (length given) ≡ b → nat_lt lines_limit (line_count given) ≡ l → reads given ≡ s → DueMeans tasks.Replay shown given (schedule_due b l s)
     go true l s bytes lines read = inl (grind (arith, nat_tests), refl)
     go false true s bytes lines read = inr ((grind (arith, nat_tests), grind (arith, nat_tests)), refl)
     go false false (Err (BadLine number)) bytes lines read = (number, ((grind (arith, nat_tests), grind (arith, nat_tests)), read), refl)
@@ -78,15 +87,15 @@ good_lines given schedule good = schedule_is given false false (Ok schedule) (le
 abbrev receipt_due : List ℕ → Bool → Result Receipt FormsFault → Due
 receipt_due identity bytes read = if bytes then due_of_fault faults.TooMuchJson else due_of_form identity read
 
-receipt_means : (identity held given : List ℕ) → DueMeans (tasks.Verify identity) held given (due_of_receipt identity given)
+receipt_means : (identity : List ℕ) (shown : Shown) (given : List ℕ) → DueMeans (tasks.Verify identity) shown given (due_of_receipt identity given)
 unfolding due_of_receipt
-receipt_means identity held given = go (nat_lt json_limit (length given)) (receipt_from given) refl refl
+receipt_means identity shown given = go (nat_lt json_limit (length given)) (receipt_from given) refl refl
   where
-    of_verdict : (receipt : Receipt) → IsReceipt given receipt → (v : Result TxId ReceiptFault) → verdict identity receipt ≡ v → DueMeans (tasks.Verify identity) held given (due_of_verdict v)
+    of_verdict : (receipt : Receipt) → IsReceipt given receipt → (v : Result TxId ReceiptFault) → verdict identity receipt ≡ v → DueMeans (tasks.Verify identity) shown given (due_of_verdict v)
     of_verdict receipt reads (Ok id) is = (receipt, reads, id, is, refl)
     of_verdict receipt reads (Err fault) is = (receipt, reads, fault, is, refl)
 
-    go : (b : Bool) (s : Result Receipt FormsFault) → nat_lt json_limit (length given) ≡ b → receipt_from given ≡ s → DueMeans (tasks.Verify identity) held given (receipt_due identity b s)
+    go : (b : Bool) (s : Result Receipt FormsFault) → nat_lt json_limit (length given) ≡ b → receipt_from given ≡ s → DueMeans (tasks.Verify identity) shown given (receipt_due identity b s)
     go true s bytes read = (grind (arith, nat_tests), refl)
     go false (Err fault) bytes read = (fault, (grind (arith, nat_tests), read), refl)
     go false (Ok receipt) bytes read = of_verdict receipt (grind (arith, nat_tests), read) (verdict identity receipt) refl
@@ -107,10 +116,10 @@ of_form identity given receipt v is told =
 
 -- Ledgers
 
-audit_means : (identity held given : List ℕ) → DueMeans (tasks.Audit identity) held given (due_of_audit (audits_to.verdict identity given))
-audit_means identity held given = go (audits_to.verdict identity given) refl
+audit_means : (identity : List ℕ) (shown : Shown) (given : List ℕ) → DueMeans (tasks.Audit identity) shown given (due_of_audit (audits_to.verdict identity given))
+audit_means identity shown given = go (audits_to.verdict identity given) refl
   where
-    go : (v : Verdict) → audits_to.verdict identity given ≡ v → DueMeans (tasks.Audit identity) held given (due_of_audit v)
+    go : (v : Verdict) → audits_to.verdict identity given ≡ v → DueMeans (tasks.Audit identity) shown given (due_of_audit v)
     go (audits.Valid last signed) is = (last, signed, is, refl)
     go (audits.Foreign key) is = inl (key, is, refl)
     go (audits.Fault seqno rule) is = inr (seqno, rule, is, refl)
@@ -120,29 +129,65 @@ audit_ends identity given v is = ap (λ (x : Verdict). (due_of_audit x).ending) 
 
 -- Keys
 
-seed_means : (kind : KeyKind) (types : Types) (given : List ℕ) → DueMeans (tasks.Keygen kind types) [] given (due_of_seed kind types given)
+seed_means : (kind : KeyKind) (types : Types) (shown : Shown) (given : List ℕ) → shown.len ≡ 0 → DueMeans (tasks.Keygen kind types) shown given (due_of_seed kind types given)
 unfolding due_of_seed
-seed_means kind types given = go (nat_lt (length given) seed_len) (nat_lt seed_len (length given)) refl refl
+seed_means kind types shown given none = go (nat_lt (length given) seed_len) (nat_lt seed_len (length given)) refl refl
   where
-    go : (short long : Bool) → nat_lt (length given) seed_len ≡ short → nat_lt seed_len (length given) ≡ long → DueMeans (tasks.Keygen kind types) [] given (seed_due kind types given short long)
-    go true long s l = (refl, inl (grind (arith, nat_tests), refl))
-    go false true s l = (refl, inr (grind (arith, nat_tests), refl))
-    go false false s l = (refl, grind (arith, nat_tests), refl)
+    go : (short long : Bool) → nat_lt (length given) seed_len ≡ short → nat_lt seed_len (length given) ≡ long → DueMeans (tasks.Keygen kind types) shown given (seed_due kind types given short long)
+    go true long s l = (none, inl (grind (arith, nat_tests), refl))
+    go false true s l = (none, inr (grind (arith, nat_tests), refl))
+    go false false s l = (none, grind (arith, nat_tests), refl)
 
-key_means : (kind : KeyKind) (types : Types) (held given : List ℕ) → DueMeans (tasks.Keygen kind types) held given (on_empty held (due_of_seed kind types given))
-key_means kind types [] given = seed_means kind types given
-key_means kind types (byte ∷ held) given = (omega arith, refl)
+key_means : (kind : KeyKind) (types : Types) (shown : Shown) (given : List ℕ) → DueMeans (tasks.Keygen kind types) shown given (on_empty shown.len (due_of_seed kind types given))
+key_means kind types shown given = go shown.len refl
+  where
+    go : (len : ℕ) → shown.len ≡ len → DueMeans (tasks.Keygen kind types) shown given (on_empty len (due_of_seed kind types given))
+    go zero is = seed_means kind types shown given is
+    go (suc more) is = (omega (arith, is), ap (λ (n : ℕ). fault_line (faults.NotEmpty n)) (sym is))
 
-key_ends : (kind : KeyKind) (types : Types) (held given : List ℕ) (due : Due) → held ≡ [] → due_of_seed kind types given ≡ due → (on_empty held (due_of_seed kind types given)).ending ≡ due.ending
-key_ends kind types held given due empty is = ap (λ (h : List ℕ). (on_empty h (due_of_seed kind types given)).ending) empty ∙ ap (λ (d : Due). d.ending) is
+key_ends : (kind : KeyKind) (types : Types) (shown : Shown) (given : List ℕ) (due : Due) → shown.len ≡ 0 → due_of_seed kind types given ≡ due → (on_empty shown.len (due_of_seed kind types given)).ending ≡ due.ending
+key_ends kind types shown given due empty is = ap (λ (n : ℕ). (on_empty n (due_of_seed kind types given)).ending) empty ∙ ap (λ (d : Due). d.ending) is
+
+full_ends : (len : ℕ) (due : Due) → 0 < len → (on_empty len due).ending ≡ endings.NotValid
+full_ends zero due some = absurd (omega (arith, some))
+full_ends (suc more) due some = refl
+
+-- Signing
+
+text_means : (signing : Signing) (shown : Shown) (state : Durable) (given : List ℕ) → HasKeyFor signing shown state → DueMeans (tasks.Sign signing) shown given (due_of_text signing state given)
+unfolding due_of_text
+text_means signing shown state given key = go (nat_lt json_limit (length given)) (owed signing state given) refl refl
+  where
+    go : (long : Bool) (signed : Result (List ℕ) SigningFault) → nat_lt json_limit (length given) ≡ long → owed signing state given ≡ signed → DueMeans (tasks.Sign signing) shown given (text_due signing state given long signed)
+    go true signed l s = (state, key, grind (arith, nat_tests), refl)
+    go false (Ok told) l s = (state, key, grind (arith, nat_tests), s)
+    go false (Err (signings.Form fault)) l s = (fault, (state, key, grind (arith, nat_tests), s), refl)
+    go false (Err (signings.NotFirstNode want got)) l s = inr (inr (signings.NotFirstNode want got, (state, key, grind (arith, nat_tests), s), (λ form is. cc), refl))
+    go false (Err (signings.KeyExhausted reserved)) l s = inr (inr (signings.KeyExhausted reserved, (state, key, grind (arith, nat_tests), s), (λ form is. cc), refl))
+    go false (Err (signings.BadAction index cause)) l s = inr (inr (signings.BadAction index cause, (state, key, grind (arith, nat_tests), s), (λ form is. cc), refl))
+    go false (Err signings.Signature) l s = inr (inr (signings.Signature, (state, key, grind (arith, nat_tests), s), (λ form is. cc), refl))
+    go false (Err signings.DiskFailed) l s = inr (inr (signings.DiskFailed, (state, key, grind (arith, nat_tests), s), (λ form is. cc), refl))
+
+sign_means : (signing : Signing) (shown : Shown) (given : List ℕ) → DueMeans (tasks.Sign signing) shown given (due_of_signing signing shown.opens given)
+sign_means signing shown given = go shown.opens refl
+  where
+    of_kind : (state : Durable) → shown.opens ≡ Ok state → (b : Bool) → is_kind (kind_of signing) state.key.kind ≡ b →
+        DueMeans (tasks.Sign signing) shown given (if b then due_of_text signing state given else due_of_fault (faults.KeyKind (kind_of signing) state.key.kind))
+    of_kind state is true k = text_means signing shown state given (is, same_kind (kind_of signing) state.key.kind k)
+    of_kind state is false k = inr (inl (state, is, (λ same. let own = is_own_kind (kind_of signing) state.key.kind same in cc), refl))
+
+    go : (opens : Result Durable JournalFault) → shown.opens ≡ opens → DueMeans (tasks.Sign signing) shown given (due_of_signing signing opens given)
+    go (Err fault) is = inl (fault, is, refl)
+    go (Ok state) is = of_kind state is (is_kind (kind_of signing) state.key.kind) refl
 
 -- All
 
-pub means : (task : Task) (held given : List ℕ) → Means task held given (due_of task held given).ending (due_of task held given).text
-means tasks.Replay held given = schedule_means held given
-means (tasks.Verify identity) held given = receipt_means identity held given
-means (tasks.Audit identity) held given = audit_means identity held given
-means (tasks.Keygen kind types) held given = key_means kind types held given
+pub means : (task : Task) (shown : Shown) (given : List ℕ) → Means task shown given (due_of task shown given).ending (due_of task shown given).text
+means tasks.Replay shown given = schedule_means shown given
+means (tasks.Verify identity) shown given = receipt_means identity shown given
+means (tasks.Audit identity) shown given = audit_means identity shown given
+means (tasks.Keygen kind types) shown given = key_means kind types shown given
+means (tasks.Sign signing) shown given = sign_means signing shown given
 
 -- The ending that is owed.
 abbrev EndsWith : Ending → Due → Type 0
@@ -151,32 +196,40 @@ EndsWith e due = due.ending ≡ e
 ending_of : (due other : Due) → due ≡ other → due.ending ≡ other.ending
 ending_of due other is = ap (λ (d : Due). d.ending) is
 
-pub answer_ends : (task : Task) (held given text : List ℕ) → IsAnswer task held given text → EndsWith endings.Done (due_of task held given)
-answer_ends tasks.Replay held given text a = ending_of (due_of_schedule given) (due_of_reading (Ok a.0)) (good_lines given a.0 a.1)
-answer_ends (tasks.Verify identity) held given text a =
+pub answer_ends : (task : Task) (shown : Shown) (given text : List ℕ) → IsAnswer task shown given text → EndsWith endings.Done (due_of task shown given)
+answer_ends tasks.Replay shown given text a = ending_of (due_of_schedule given) (due_of_reading (Ok a.0)) (good_lines given a.0 a.1)
+answer_ends (tasks.Verify identity) shown given text a =
     ending_of (due_of_receipt identity given) (due_of_verdict (Ok a.2)) (of_form identity given a.0 (Ok a.2) a.1 a.3)
-answer_ends (tasks.Audit identity) held given text a = audit_ends identity given (audits.Valid a.0 a.1) a.2
-answer_ends (tasks.Keygen kind types) held given text a = key_ends kind types held given (due_of_answer (key_line (key_of kind types given))) a.0 (whole_seed kind types given a.1)
+answer_ends (tasks.Audit identity) shown given text a = audit_ends identity given (audits.Valid a.0 a.1) a.2
+answer_ends (tasks.Keygen kind types) shown given text a = key_ends kind types shown given (due_of_answer (key_line (key_of kind types given))) a.0 (whole_seed kind types given a.1)
+answer_ends (tasks.Sign signing) shown given text a = signed_ends signing shown given a.0 (Ok text) a.1 a.2 a.3
 
-pub refusal_ends : (task : Task) (held given text : List ℕ) → IsRefusal task held given text → EndsWith endings.NotValid (due_of task held given)
-refusal_ends tasks.Replay held given text a = absurd a
-refusal_ends (tasks.Verify identity) held given text a =
+pub refusal_ends : (task : Task) (shown : Shown) (given text : List ℕ) → IsRefusal task shown given text → EndsWith endings.NotValid (due_of task shown given)
+refusal_ends tasks.Replay shown given text a = absurd a
+refusal_ends (tasks.Verify identity) shown given text a =
     ending_of (due_of_receipt identity given) (due_of_verdict (Err a.2)) (of_form identity given a.0 (Err a.2) a.1 a.3)
-refusal_ends (tasks.Audit identity) held given text (inl a) = audit_ends identity given (audits.Foreign a.0) a.1
-refusal_ends (tasks.Audit identity) held given text (inr a) = audit_ends identity given (audits.Fault a.0 a.1) a.2
-refusal_ends (tasks.Keygen kind types) (byte ∷ held) given text a = refl
-refusal_ends (tasks.Keygen kind types) [] given text a = let some = a.0 in absurd (omega arith)
+refusal_ends (tasks.Audit identity) shown given text (inl a) = audit_ends identity given (audits.Foreign a.0) a.1
+refusal_ends (tasks.Audit identity) shown given text (inr a) = audit_ends identity given (audits.Fault a.0 a.1) a.2
+refusal_ends (tasks.Keygen kind types) shown given text a = full_ends shown.len (due_of_seed kind types given) a.0
+refusal_ends (tasks.Sign signing) shown given text (inl a) = ap (λ (opens : Result Durable JournalFault). (due_of_signing signing opens given).ending) a.1
+refusal_ends (tasks.Sign signing) shown given text (inr (inl a)) =
+    ap (λ (opens : Result Durable JournalFault). (due_of_signing signing opens given).ending) a.1 ∙ ap (λ (d : Due). d.ending) (with_other_key signing a.0 given a.2)
+refusal_ends (tasks.Sign signing) shown given text (inr (inr a)) =
+    signed_ends signing shown given a.1.0 (Err a.0) a.1.1 a.1.2 a.1.3 ∙ ap (λ (d : Due). d.ending) (unsigned_due a.0 a.2)
 
-pub limit_ends : (task : Task) (held given text : List ℕ) → IsPastLimit task held given text → EndsWith endings.PastLimit (due_of task held given)
-limit_ends tasks.Replay held given text (inl a) = ending_of (due_of_schedule given) (due_of_fault faults.TooManyBytes) (too_many_bytes given a.0)
-limit_ends tasks.Replay held given text (inr a) = ending_of (due_of_schedule given) (due_of_fault faults.TooManyLines) (too_many_lines given a.0)
-limit_ends (tasks.Verify identity) held given text a = ending_of (due_of_receipt identity given) (due_of_fault faults.TooMuchJson) (too_much_json identity given a.0)
-limit_ends (tasks.Audit identity) held given text a = absurd a
-limit_ends (tasks.Keygen kind types) held given text a = absurd a
+pub limit_ends : (task : Task) (shown : Shown) (given text : List ℕ) → IsPastLimit task shown given text → EndsWith endings.PastLimit (due_of task shown given)
+limit_ends tasks.Replay shown given text (inl a) = ending_of (due_of_schedule given) (due_of_fault faults.TooManyBytes) (too_many_bytes given a.0)
+limit_ends tasks.Replay shown given text (inr a) = ending_of (due_of_schedule given) (due_of_fault faults.TooManyLines) (too_many_lines given a.0)
+limit_ends (tasks.Verify identity) shown given text a = ending_of (due_of_receipt identity given) (due_of_fault faults.TooMuchJson) (too_much_json identity given a.0)
+limit_ends (tasks.Audit identity) shown given text a = absurd a
+limit_ends (tasks.Keygen kind types) shown given text a = absurd a
+limit_ends (tasks.Sign signing) shown given text a =
+    ap (λ (d : Due). d.ending) (with_key signing shown a.0 given a.1 ∙ long_text signing a.0 given a.2)
 
-pub unread_ends : (task : Task) (held given text : List ℕ) → IsNoReading task held given text → EndsWith endings.NoReading (due_of task held given)
-unread_ends tasks.Replay held given text a = ending_of (due_of_schedule given) (due_of_fault (faults.BadLine a.0)) (bad_line given a.0 a.1)
-unread_ends (tasks.Verify identity) held given text a = ending_of (due_of_receipt identity given) (due_of_fault (faults.Form a.0)) (other_form identity given a.0 a.1)
-unread_ends (tasks.Audit identity) held given text a = absurd a
-unread_ends (tasks.Keygen kind types) held given text (empty, inl a) = key_ends kind types held given (due_of_fault (faults.Short (length given))) empty (short_seed kind types given a.0)
-unread_ends (tasks.Keygen kind types) held given text (empty, inr a) = key_ends kind types held given (due_of_fault (faults.Trailing seed_len)) empty (long_seed kind types given a.0)
+pub unread_ends : (task : Task) (shown : Shown) (given text : List ℕ) → IsNoReading task shown given text → EndsWith endings.NoReading (due_of task shown given)
+unread_ends tasks.Replay shown given text a = ending_of (due_of_schedule given) (due_of_fault (faults.BadLine a.0)) (bad_line given a.0 a.1)
+unread_ends (tasks.Verify identity) shown given text a = ending_of (due_of_receipt identity given) (due_of_fault (faults.Form a.0)) (other_form identity given a.0 a.1)
+unread_ends (tasks.Audit identity) shown given text a = absurd a
+unread_ends (tasks.Keygen kind types) shown given text (empty, inl a) = key_ends kind types shown given (due_of_fault (faults.Short (length given))) empty (short_seed kind types given a.0)
+unread_ends (tasks.Keygen kind types) shown given text (empty, inr a) = key_ends kind types shown given (due_of_fault (faults.Trailing seed_len)) empty (long_seed kind types given a.0)
+unread_ends (tasks.Sign signing) shown given text a = signed_ends signing shown given a.1.0 (Err (signings.Form a.0)) a.1.1 a.1.2 a.1.3

@@ -1,5 +1,5 @@
 -- Each promise of the program, from how a run ends.
-use Rattle.std.proofs.Common.{◌≡◌, ℕ, ◌≢◌, ◌⊎◌, inl, inr, List, true, Option, None, Some, Result, Ok, Err, IfSome, refl, sym, subst, ap, arith}
+use Rattle.std.proofs.Common.{◌≡◌, ℕ, ◌≢◌, ◌⊎◌, inl, inr, List, Bool, true, false, Result, Ok, Err, IfSome, refl, sym, subst, ap, arith}
 use Rattle.std.specs.Io.KnownBytes.{Appends, Keeps}
 use Rattle.clap.specs.Kinds.{Kinds}
 use Rattle.clap.specs.declared.error.kind.ErrorKind.{ErrorKind}
@@ -10,24 +10,21 @@ use Rattle.ccfg.specs.declared.ending.Ending.{Ending}
 use Rattle.ccfg.specs.declared.ending.Ending.TheVariants as endings
 use Rattle.ccfg.specs.declared.fault.Fault.TheVariants as faults
 use Rattle.ccfg.specs.declared.words.Task.{Task}
-use Rattle.ccfg.specs.declared.words.Task.TheVariants.{Audit, Keygen, Replay, Verify}
-use Rattle.gl_journal.specs.declared.key.KeyKind.{KeyKind}
-use Rattle.gl_lms.specs.declared.types.Types.{Types}
 use Rattle.ccfg.specs.Faults.{fault_line}
-use Rattle.ccfg.specs.Owed.{Answers, Due, EndsSource, OfHeld, OfRun, Owed, Run, Runs, WritesDue, due_of, due_of_fault, exit_status}
+use Rattle.ccfg.specs.Owed.{Answers, Due, EndsSource, OfShown, OfRun, Owed, Run, Runs, Shown, WritesDue, due_of, due_of_fault, exit_status, uses_disk}
 use Rattle.ccfg.specs.Promises.{IsAnswer, IsKindLine, IsPastLimit, IsRefusal, IsNoReading, Tells, TellsFront}
-use Rattle.ccfg.proofs.HeldLemmas.{both_map, from_both, held_any, held_map, if_told, some_map, whatever_told}
+use Rattle.ccfg.proofs.ShownLemmas.{both_map, from_both, shown_any, shown_map, if_told, some_map, whatever_told}
 use Rattle.ccfg.proofs.MeaningLemmas.{Means, answer_ends, limit_ends, means, refusal_ends, unread_ends}
 
 -- what it means of the bytes that all of what is due was written
 abbrev WritesAll : Ending → Run → Due → Type 0
 WritesAll e r due = (due.ending ≡ e) × Appends r.written.held r.written.holds due.text
 
-meant : (e : Ending) (r : Run) (task : Task) (h g : List ℕ) → WritesAll e r (due_of task h g) → Tells (Means task h g e) r.written.held r.written.holds
+meant : (e : Ending) (r : Run) (task : Task) (h : Shown) (g : List ℕ) → WritesAll e r (due_of task h g) → Tells (Means task h g e) r.written.held r.written.holds
 meant e r task h g w = ((due_of task h g).text, subst (λ (x : Ending). Means task h g x (due_of task h g).text) w.0 (means task h g), w.1)
 
 -- of the disk and the source of a run
-run_map : (r : Run) (P Q : List ℕ → List ℕ → Type 0) → ((h g : List ℕ) → P h g → Q h g) → OfRun r P → OfRun r Q
+run_map : (r : Run) (P Q : Shown → List ℕ → Type 0) → ((h : Shown) (g : List ℕ) → P h g → Q h g) → OfRun r P → OfRun r Q
 run_map r P Q f p = both_map r.disk.honest r.disk.held r.given P Q f p
 
 of_meant : (e : Ending) (r : Run) (task : Task) → OfRun r (λ h g. WritesAll e r (due_of task h g)) → OfRun r (λ h g. Tells (Means task h g e) r.written.held r.written.holds)
@@ -208,29 +205,49 @@ disk_ended asks e r a is = go e (status_disk e is) a
     go endings.DiskFailed same a = (task_ran asks endings.DiskFailed r a (λ q. cc) (λ q. cc) (λ q. cc)).2
     go e same a = cc
 
--- The words ask for a key, unless they ask for nothing that uses a disk.
-abbrev AsksNoKey : Result Task Kinds → Type 0
-AsksNoKey asks = (kind : KeyKind) (types : Types) → asks ≢ Ok (Keygen kind types)
+-- The words ask for a task that uses the disk, unless they ask for none that does.
+abbrev AsksNoDisk : Result Task Kinds → Type 0
+AsksNoDisk asks = (task : Task) → asks ≡ Ok task → uses_disk task ≡ false
 
-asks_key : (asks : Result Task Kinds) → (AsksNoKey asks → ⊥) → (kind : KeyKind) × (types : Types) × (asks ≡ Ok (Keygen kind types))
-asks_key (Ok (Keygen kind types)) other = (kind, types, refl)
-asks_key (Ok Replay) other = absurd (other (λ kind types is. cc))
-asks_key (Ok (Verify identity)) other = absurd (other (λ kind types is. cc))
-asks_key (Ok (Audit identity)) other = absurd (other (λ kind types is. cc))
-asks_key (Err kinds) other = absurd (other (λ kind types is. cc))
+abbrev AsksDisk : Result Task Kinds → Type 0
+AsksDisk asks = (task : Task) × (asks ≡ Ok task) × (uses_disk task ≡ true)
 
-pub disk_failed : (asks : Result Task Kinds) (e : Ending) (r : Run) → Answers asks e r → (AsksNoKey asks → e ≢ endings.DiskFailed) → exit_status e ≡ 5 →
-    (kind : KeyKind) × (types : Types) × (asks ≡ Ok (Keygen kind types)) × Rose r.disk.faults r.disk.faults_now × Keeps r.written.held r.written.holds
+asks_disk : (asks : Result Task Kinds) → (AsksNoDisk asks → ⊥) → AsksDisk asks
+asks_disk (Err kinds) other = absurd (other (λ task is. cc))
+asks_disk (Ok task) other = go (uses_disk task) refl
+  where
+    go : (uses : Bool) → uses_disk task ≡ uses → AsksDisk (Ok task)
+    go true uses = (task, refl, uses)
+    go false uses = absurd (other (λ asked is. subst (λ (t : Task). uses_disk t ≡ false) (same is) uses))
+      where
+        same : {asked : Task} → ◌≡◌ {A = Result Task Kinds} (Ok task) (Ok asked) → task ≡ asked
+        same is = cc
+
+pub disk_failed : (asks : Result Task Kinds) (e : Ending) (r : Run) → Answers asks e r → (AsksNoDisk asks → e ≢ endings.DiskFailed) → exit_status e ≡ 5 →
+    (task : Task) × (asks ≡ Ok task) × (uses_disk task ≡ true) × Rose r.disk.faults r.disk.faults_now × Keeps r.written.held r.written.holds
 disk_failed asks e r a never is =
-    let key = asks_key asks (λ other. never other (status_disk e is)) in
+    let task = asks_disk asks (λ other. never other (status_disk e is)) in
     let ended = disk_ended asks e r a is in
-    (key.0, key.1, key.2, ended.0, ended.1)
+    (task.0, task.1, task.2, ended.0, ended.1)
 
 -- the endings at which what is asked for is refused, or the source failed
 pub refusing : (e : Ending) → (exit_status e ≡ 1) ⊎ (exit_status e ≡ 3) ⊎ (exit_status e ≡ 9) → (e ≡ endings.NotValid) ⊎ (e ≡ endings.SourceFailed) ⊎ (e ≡ endings.NoReading)
 refusing e (inl is) = inl (status_not_valid e is)
 refusing e (inr (inl is)) = inr (inl (status_source e is))
 refusing e (inr (inr is)) = inr (inr (status_reading e is))
+
+-- the endings at which something may be told
+pub telling : (e : Ending) → (exit_status e ≡ 0) ⊎ (exit_status e ≡ 4) ⊎ (exit_status e ≡ 7) → (e ≡ endings.Done) ⊎ (e ≡ endings.SinkFailed) ⊎ (e ≡ endings.Memory)
+telling e (inl is) = inl (status_done e is)
+telling e (inr (inl is)) = inr (inl (status_sink e is))
+telling e (inr (inr is)) = inr (inr (status_memory e is))
+
+-- the endings at which nothing is signed
+pub unsigned : (e : Ending) → (exit_status e ≡ 1) ⊎ (exit_status e ≡ 3) ⊎ (exit_status e ≡ 8) ⊎ (exit_status e ≡ 9) → (e ≡ endings.NotValid) ⊎ (e ≡ endings.SourceFailed) ⊎ (e ≡ endings.PastLimit) ⊎ (e ≡ endings.NoReading)
+unsigned e (inl is) = inl (status_not_valid e is)
+unsigned e (inr (inl is)) = inr (inl (status_source e is))
+unsigned e (inr (inr (inl is))) = inr (inr (inl (status_limit e is)))
+unsigned e (inr (inr (inr is))) = inr (inr (inr (status_reading e is)))
 
 -- 8
 pub limits : (asks : Result Task Kinds) (e : Ending) (r : Run) → Answers asks e r → exit_status e ≡ 8 →
@@ -269,18 +286,18 @@ other_words asks e r a kinds is = go (kinds_end e r kinds (subst (λ (x : Result
 abbrev EndsBy : ℕ → ℕ → Type 0
 EndsBy answer status = (status ≡ answer) ⊎ (status ≡ 3) ⊎ (status ≡ 4) ⊎ (status ≡ 5) ⊎ (status ≡ 7)
 
--- Of the bytes that the disk of a run held, and of those that its source tells.
-abbrev Told : Run → (List ℕ → List ℕ → Type 0) → Type 0
-Told r P = OfHeld r.disk.honest r.disk.held (λ h. IfSome r.given (λ g. P h g))
+-- Of what the disk of a run showed, and of the bytes that its source tells.
+abbrev Told : Run → (Shown → List ℕ → Type 0) → Type 0
+Told r P = OfShown r.disk.honest r.disk.held (λ h. IfSome r.given (λ g. P h g))
 
-told_map : (r : Run) (P Q : List ℕ → List ℕ → Type 0) → ((h g : List ℕ) → P h g → Q h g) → Told r P → Told r Q
-told_map r P Q f p = held_map r.disk.honest r.disk.held (λ h. IfSome r.given (P h)) (λ h. IfSome r.given (Q h)) (λ h q. some_map r.given (P h) (Q h) (f h) q) p
+told_map : (r : Run) (P Q : Shown → List ℕ → Type 0) → ((h : Shown) (g : List ℕ) → P h g → Q h g) → Told r P → Told r Q
+told_map r P Q f p = shown_map r.disk.honest r.disk.held (λ h. IfSome r.given (P h)) (λ h. IfSome r.given (Q h)) (λ h q. some_map r.given (P h) (Q h) (f h) q) p
 
-of_told : (r : Run) (P : List ℕ → List ℕ → Type 0) → OfRun r P → Told r P
-of_told r P p = held_map r.disk.honest r.disk.held (λ h. OfBytes r.given (P h)) (λ h. IfSome r.given (P h)) (λ h q. if_told r.given (P h) q) p
+of_told : (r : Run) (P : Shown → List ℕ → Type 0) → OfRun r P → Told r P
+of_told r P p = shown_map r.disk.honest r.disk.held (λ h. OfBytes r.given (P h)) (λ h. IfSome r.given (P h)) (λ h q. if_told r.given (P h) q) p
 
-whatever : (r : Run) (P : List ℕ → List ℕ → Type 0) → ((h g : List ℕ) → P h g) → Told r P
-whatever r P f = held_any r.disk.honest r.disk.held (λ h. IfSome r.given (P h)) (λ h. whatever_told r.given (P h) (f h))
+whatever : (r : Run) (P : Shown → List ℕ → Type 0) → ((h : Shown) (g : List ℕ) → P h g) → Told r P
+whatever r P f = shown_any r.disk.honest r.disk.held (λ h. IfSome r.given (P h)) (λ h. whatever_told r.given (P h) (f h))
 
 due_end : (e : Ending) (r : Run) (owed : Owed) → Runs e r owed → Told r (λ h g. EndsBy (exit_status (owed h g).ending) (exit_status e))
 due_end e r owed runs = go e runs
@@ -302,10 +319,10 @@ due_end e r owed runs = go e runs
     go endings.NoReading runs = told endings.NoReading (all_written endings.NoReading r owed runs)
 
 -- What is owed this ending, by what it is.
-abbrev AreOwed : (Task → List ℕ → List ℕ → List ℕ → Type 0) → Ending → Type 0
-AreOwed P ending = (task : Task) (h g text : List ℕ) → P task h g text → (due_of task h g).ending ≡ ending
+abbrev AreOwed : (Task → Shown → List ℕ → List ℕ → Type 0) → Ending → Type 0
+AreOwed P ending = (task : Task) (h : Shown) (g text : List ℕ) → P task h g text → (due_of task h g).ending ≡ ending
 
-comes_to : (P : Task → List ℕ → List ℕ → List ℕ → Type 0) (ending : Ending) → AreOwed P ending → (asks : Result Task Kinds) (e : Ending) (r : Run) → Answers asks e r →
+comes_to : (P : Task → Shown → List ℕ → List ℕ → Type 0) (ending : Ending) → AreOwed P ending → (asks : Result Task Kinds) (e : Ending) (r : Run) → Answers asks e r →
     (task : Task) → asks ≡ Ok task → Told r (λ h g. (text : List ℕ) → P task h g text → EndsBy (exit_status ending) (exit_status e))
 comes_to P ending owed asks e r a task is =
     told_map r (λ h g. EndsBy (exit_status (due_of task h g).ending) (exit_status e)) (λ h g. (text : List ℕ) → P task h g text → EndsBy (exit_status ending) (exit_status e))

@@ -5,8 +5,14 @@ use Rattle.clap.specs.declared.error.kind.ErrorKind.{ErrorKind}
 use Rattle.clap.specs.declared.error.kind.ErrorKind.TheVariants as kinds
 use Rattle.gl_base.specs.declared.json.FormsFault.{FormsFault}
 use Rattle.gl_base.specs.declared.json.FormsFault.TheVariants as forms
+use Rattle.gl_consortium.specs.declared.fault.SigningFault.{SigningFault}
+use Rattle.gl_consortium.specs.declared.fault.SigningFault.TheVariants as signing
+use Rattle.gl_gov_rules.specs.Numbers.{cause_number}
 use Rattle.gl_hss.specs.declared.fault.HssFault.{HssFault}
 use Rattle.gl_hss.specs.declared.fault.HssFault.TheVariants as hss
+use Rattle.gl_journal.specs.Records.{key_kind_tag}
+use Rattle.gl_journal.specs.declared.fault.JournalFault.{JournalFault}
+use Rattle.gl_journal.specs.declared.fault.JournalFault.TheVariants as journals
 use Rattle.gl_receipt.specs.declared.fault.ReceiptFault.{ReceiptFault}
 use Rattle.gl_receipt.specs.declared.fault.ReceiptFault.TheVariants as receipts
 use Rattle.ccfg.specs.declared.fault.Fault.{Fault}
@@ -38,7 +44,7 @@ abbrev pub path_text : List ℕ → List ℕ
 path_text [] = codes "."
 path_text (byte ∷ path) = byte ∷ path
 
--- Why JSON is no receipt.
+-- Why JSON is no receipt, or not what is to be signed.
 abbrev pub form_text : FormsFault → List ℕ
 form_text forms.NotJson = codes "NotJson"
 form_text (forms.Shape path) = codes "Shape " ++ path_text path
@@ -57,6 +63,24 @@ abbrev pub receipt_text : ReceiptFault → List ℕ
 receipt_text receipts.Evidence = codes "Evidence"
 receipt_text (receipts.Hss fault) = codes "Hss " ++ hss_text fault
 
+-- Why the bytes of a disk are no key file.
+abbrev pub journal_text : JournalFault → List ℕ
+journal_text (journals.NotJournal at) = codes "NotJournal " ++ decimal at
+journal_text (journals.BadRecord at) = codes "BadRecord " ++ decimal at
+journal_text journals.DiskFault = codes "DiskFault"
+journal_text (journals.NotEmpty len) = codes "NotEmpty " ++ decimal len
+
+-- Why nothing is signed.
+abbrev pub signing_text : SigningFault → List ℕ
+signing_text (signing.Form fault) = form_text fault
+signing_text (signing.NotFirstNode want got) =
+    codes "NotFirstNode " ++ encode_lower want ++ codes " " ++ encode_lower got
+signing_text (signing.KeyExhausted reserved) = codes "KeyExhausted " ++ decimal reserved
+signing_text (signing.BadAction index cause) =
+    codes "BadAction " ++ decimal index ++ codes " " ++ decimal (cause_number cause)
+signing_text signing.Signature = codes "Signature"
+signing_text signing.DiskFailed = codes "DiskFailed"
+
 abbrev pub fault_text : Fault → List ℕ
 fault_text (faults.Words kind) = kind_name kind
 fault_text faults.TooManyBytes = codes "bytes 16777216"
@@ -71,6 +95,10 @@ fault_text (faults.Foreign identity) = codes "foreign " ++ encode_lower identity
 fault_text (faults.NotEmpty len) = codes "NotEmpty " ++ decimal len
 fault_text (faults.Short at) = codes "Short " ++ decimal at
 fault_text (faults.Trailing at) = codes "Trailing " ++ decimal at
+fault_text (faults.Journal fault) = journal_text fault
+fault_text (faults.KeyKind want got) =
+    codes "KeyKind " ++ decimal (key_kind_tag want) ++ codes " " ++ decimal (key_kind_tag got)
+fault_text (faults.Signing fault) = signing_text fault
 
 -- The line.
 abbrev pub fault_line : Fault → List ℕ

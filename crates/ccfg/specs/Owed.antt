@@ -1,15 +1,25 @@
--- What a run of the program owes to its words and its source: how it ends, and what it writes.
-use Rattle.std.specs.Prelude.{◌≡◌, ℕ, List, [], ◌∷◌, ◌++◌, Option, None, Some, Result, Ok, Err, Bool, true, false, codes, length, nat_lt, if◌then◌else◌}
+-- What a run of the program owes to its words, its disk and its source: how it ends, and what it
+-- writes.
+use Rattle.std.specs.Prelude.{◌≡◌, ℕ, zero, suc, List, ◌++◌, Option, None, Some, Result, Ok, Err, Bool, true, false, ◌==◌, codes, length, nat_lt, if◌then◌else◌}
 use Rattle.std.specs.Io.KnownBytes.{Appends, Keeps}
 use Rattle.clap.specs.Kinds.{Kinds, IsAmong}
 use Rattle.clap.specs.declared.error.kind.ErrorKind.{ErrorKind}
 use Rattle.gl_base.specs.TxId.{text_of}
 use Rattle.gl_base.specs.declared.json.FormsFault.{FormsFault}
 use Rattle.gl_base.specs.declared.tx_id.TxId.{TxId}
+use Rattle.gl_consortium.specs.Owed.{owed}
+use Rattle.gl_consortium.specs.Signing.{kind_of}
+use Rattle.gl_consortium.specs.declared.fault.SigningFault.{SigningFault}
+use Rattle.gl_consortium.specs.declared.fault.SigningFault.TheVariants as signings
+use Rattle.gl_consortium.specs.declared.signing.Signing.{Signing}
 use Rattle.gl_forms.specs.Key.{key_tree}
+use Rattle.gl_journal.specs.Durable.{Durable}
+use Rattle.gl_journal.specs.Records.{key_kind_tag}
+use Rattle.gl_journal.specs.declared.fault.JournalFault.{JournalFault}
 use Rattle.gl_journal.specs.declared.key.Key.{Key}
 use Rattle.gl_journal.specs.declared.key.KeyKind.{KeyKind}
 use Rattle.gl_keyfile.specs.Form.{key_form_of}
+use Rattle.gl_keyfile.specs.KeyFile.{opened}
 use Rattle.gl_lms.specs.declared.types.Types.{Types}
 use Rattle.gl_outside.specs.Fault.{Rose}
 use Rattle.gl_outside.specs.Sink.{AppendsFront}
@@ -63,6 +73,9 @@ ending_of_fault (faults.Foreign identity) = endings.NotValid
 ending_of_fault (faults.NotEmpty len) = endings.NotValid
 ending_of_fault (faults.Short at) = endings.NoReading
 ending_of_fault (faults.Trailing at) = endings.NoReading
+ending_of_fault (faults.Journal fault) = endings.NotValid
+ending_of_fault (faults.KeyKind want got) = endings.NotValid
+ending_of_fault (faults.Signing fault) = endings.NotValid
 
 -- How a run ends that has no plan of what to do.
 abbrev pub ending_of_stop : PlanStop → Ending
@@ -72,7 +85,7 @@ ending_of_stop stops.DiskFailed = endings.DiskFailed
 
 -- Whether a source is read whole before this fault is told of it. Where it has more bytes than are
 -- wanted it isn't, nor is a ledger in which an entry breaks a rule: the audit stops there. Where a
--- disk isn't empty it isn't read at all.
+-- disk isn't empty, or has no key file of the kind that is wanted, it isn't read at all.
 abbrev pub is_read_whole : Fault → Bool
 is_read_whole (faults.Words kind) = false
 is_read_whole faults.TooManyBytes = false
@@ -86,6 +99,9 @@ is_read_whole (faults.Foreign identity) = true
 is_read_whole (faults.NotEmpty len) = false
 is_read_whole (faults.Short at) = true
 is_read_whole (faults.Trailing at) = false
+is_read_whole (faults.Journal fault) = false
+is_read_whole (faults.KeyKind want got) = false
+is_read_whole (faults.Signing fault) = true
 
 -- What is owed
 
@@ -179,24 +195,75 @@ due_of_seed kind types given =
     else (if nat_lt seed_len (length given) then due_of_fault (faults.Trailing seed_len)
     else due_of_answer (key_line (record { kind = kind; types = types; seed = given })))
 
+-- What a disk shows: how many bytes it holds, and what they open to as a key file.
+pub record Shown : Type 0 where
+  pub len : ℕ
+  pub opens : Result Durable JournalFault
+
+abbrev pub shown_by : List ℕ → Shown
+shown_by held = record { len = length held; opens = opened held }
+
 -- What is owed where the disk has to be empty: else the number of its bytes.
-abbrev pub on_empty : List ℕ → Due → Due
-on_empty [] due = due
-on_empty (byte ∷ held) due = due_of_fault (faults.NotEmpty (length (byte ∷ held)))
+abbrev pub on_empty : ℕ → Due → Due
+on_empty zero due = due
+on_empty (suc more) due = due_of_fault (faults.NotEmpty (suc more))
 
--- What a task owes to the bytes that the disk holds and to those of its source. A key is begun on
--- an empty disk alone, and that is tried before the source; the other tasks use no disk.
-abbrev pub due_of : Task → List ℕ → List ℕ → Due
-due_of tasks.Replay held given = due_of_schedule given
-due_of (tasks.Verify identity) held given = due_of_receipt identity given
-due_of (tasks.Audit identity) held given = due_of_audit (audits_to.verdict identity given)
-due_of (tasks.Keygen kind types) held given = on_empty held (due_of_seed kind types given)
+-- What is owed to what is signed, or to why nothing is.
+abbrev pub due_of_signed : Result (List ℕ) SigningFault → Due
+due_of_signed (Ok told) = due_of_answer told
+due_of_signed (Err (signings.Form fault)) = due_of_fault (faults.Form fault)
+due_of_signed (Err (signings.NotFirstNode want got)) =
+    due_of_fault (faults.Signing (signings.NotFirstNode want got))
+due_of_signed (Err (signings.KeyExhausted reserved)) =
+    due_of_fault (faults.Signing (signings.KeyExhausted reserved))
+due_of_signed (Err (signings.BadAction index cause)) =
+    due_of_fault (faults.Signing (signings.BadAction index cause))
+due_of_signed (Err signings.Signature) = due_of_fault (faults.Signing signings.Signature)
+due_of_signed (Err signings.DiskFailed) = due_of_fault (faults.Signing signings.DiskFailed)
 
--- What holds of the bytes that a disk holds: of an honest disk of its bytes, of another one of some
--- bytes.
-abbrev pub OfHeld : Bool → List ℕ → (List ℕ → Type 0) → Type 0
-OfHeld true held P = P held
-OfHeld false held P = (told : List ℕ) × P told
+-- What is owed to bytes that are to be signed with the key of a file. The limit is tried before all
+-- else.
+unfoldable pub due_of_text : Signing → Durable → List ℕ → Due
+due_of_text signing state given =
+    if nat_lt json_limit (length given) then due_of_fault faults.TooMuchJson
+    else due_of_signed (owed signing state given)
+
+abbrev pub is_kind : KeyKind → KeyKind → Bool
+is_kind want got = key_kind_tag want == key_kind_tag got
+
+-- The key has to be of the kind that signs this.
+abbrev pub on_kind : KeyKind → KeyKind → Due → Due
+on_kind want got due = if is_kind want got then due else due_of_fault (faults.KeyKind want got)
+
+-- What is owed to bytes that are to be signed, by what the disk opens to.
+abbrev pub due_of_signing : Signing → Result Durable JournalFault → List ℕ → Due
+due_of_signing signing (Err fault) given = due_of_fault (faults.Journal fault)
+due_of_signing signing (Ok state) given =
+    on_kind (kind_of signing) state.key.kind (due_of_text signing state given)
+
+-- What a task owes to what the disk shows and to the bytes of its source. A key is begun on an
+-- empty disk alone, and one that is there signs; that is tried before the source. The other tasks
+-- use no disk.
+abbrev pub due_of : Task → Shown → List ℕ → Due
+due_of tasks.Replay shown given = due_of_schedule given
+due_of (tasks.Verify identity) shown given = due_of_receipt identity given
+due_of (tasks.Audit identity) shown given = due_of_audit (audits_to.verdict identity given)
+due_of (tasks.Keygen kind types) shown given = on_empty shown.len (due_of_seed kind types given)
+due_of (tasks.Sign signing) shown given = due_of_signing signing shown.opens given
+
+-- Whether a task uses the disk.
+abbrev pub uses_disk : Task → Bool
+uses_disk tasks.Replay = false
+uses_disk (tasks.Verify identity) = false
+uses_disk (tasks.Audit identity) = false
+uses_disk (tasks.Keygen kind types) = true
+uses_disk (tasks.Sign signing) = true
+
+-- What holds of what a disk shows: of an honest disk of what its bytes show, of another one of
+-- something that a disk may show.
+abbrev pub OfShown : Bool → List ℕ → (Shown → Type 0) → Type 0
+OfShown true held P = P (shown_by held)
+OfShown false held P = (told : Shown) × P told
 
 -- What a run does
 
@@ -244,16 +311,16 @@ pub record Run : Type 0 where
   pub faults_now : ℕ
   pub written : Written
 
--- What a run owes is a function of what the disk held and of what the source had to give.
+-- What a run owes is a function of what the disk showed and of what the source had to give.
 abbrev pub Owed : Type 0
-Owed = List ℕ → List ℕ → Due
+Owed = Shown → List ℕ → Due
 
 -- What holds of both.
-abbrev pub OfRun : Run → (List ℕ → List ℕ → Type 0) → Type 0
-OfRun r P = OfHeld r.disk.honest r.disk.held (λ held. OfBytes r.given (λ given. P held given))
+abbrev pub OfRun : Run → (Shown → List ℕ → Type 0) → Type 0
+OfRun r P = OfShown r.disk.honest r.disk.held (λ shown. OfBytes r.given (λ given. P shown given))
 
 abbrev pub Owes : Ending → Run → Owed → Type 0
-Owes e r due = OfRun r (λ held given. WritesDue e r.written (due held given))
+Owes e r due = OfRun r (λ shown given. WritesDue e r.written (due shown given))
 
 -- Where a source is read whole, it gave its end.
 abbrev pub EndsSource : Due → Bool → Type 0
@@ -261,8 +328,8 @@ EndsSource due ended = due.whole ≡ true → ended ≡ true
 
 -- The bytes are owed this, and where they are to be read whole, they were.
 abbrev pub OwesRead : Ending → Run → Owed → Type 0
-OwesRead e r due = OfRun r (λ held given.
-    EndsSource (due held given) r.ended × WritesDue e r.written (due held given))
+OwesRead e r due = OfRun r (λ shown given.
+    EndsSource (due shown given) r.ended × WritesDue e r.written (due shown given))
 
 -- What a task does that owes this. Where the source or the disk failed, by its count of faults,
 -- nothing is written. Else what is owed is; and the source gave its end where it is done, and where

@@ -1,15 +1,25 @@
 -- What a plan owes.
-use Rattle.std.specs.Prelude.{◌≡◌, ℕ, List, Ok}
-use Rattle.gl_journal.specs.Durable.{key_alone}
+use Rattle.std.specs.Prelude.{◌≡◌, ◌≢◌, ◌⊎◌, ℕ, List, Ok}
+use Rattle.gl_base.specs.declared.or_no_memory.OrNoMemory.{OrNoMemory}
+use Rattle.gl_base.specs.declared.or_no_memory.OrNoMemory.TheVariants as stops
+use Rattle.gl_consortium.specs.Signing.{use_of}
+use Rattle.gl_consortium.specs.declared.signing.Signing.{Signing}
+use Rattle.gl_journal.specs.Durable.{Durable, OpensToOneOf, key_alone}
+use Rattle.gl_journal.specs.declared.fault.JournalFault.{JournalFault}
+use Rattle.gl_journal.specs.declared.fault.JournalFault.TheVariants as journals
 use Rattle.gl_journal.specs.declared.key.KeyKind.{KeyKind}
-use Rattle.gl_keyfile.specs.KeyFile.{OpensOnlyTo}
+use Rattle.gl_keyfile.specs.KeyFile.{OpensOnlyTo, any_frame, opened}
+use Rattle.gl_keyfile.specs.Leaf.{after_leaf}
+use Rattle.gl_keyfile.specs.declared.fault.KeyFileFault.{KeyFileFault}
+use Rattle.gl_keyfile.specs.declared.fault.KeyFileFault.TheVariants as files
 use Rattle.gl_lms.specs.declared.types.Types.{Types}
-use Rattle.gl_outside.specs.Disk.{Step}
+use Rattle.gl_outside.specs.Disk.{IsImage, Leaves, Step}
 use Rattle.gl_receipt.specs.Form.{receipt_from}
 use Rattle.gl_receipt.specs.Receipt.{Accepts}
 use Rattle.gl_receipt.specs.declared.components.Receipt.{Receipt}
+use Rattle.ccfg.specs.declared.fault.Fault.TheVariants as faults
 use Rattle.ccfg.specs.declared.plan.Plan.{Plan}
-use Rattle.ccfg.specs.declared.plan.Plan.TheVariants.{Play, Show, ShowLedger, ShowKey, Refuse}
+use Rattle.ccfg.specs.declared.plan.Plan.TheVariants.{Play, Show, ShowLedger, Tell, Refuse}
 use Rattle.gl_schedule.specs.Playable.{IsPlayable}
 use Rattle.ccfg.specs.declared.words.Task.{Task}
 use Rattle.ccfg.specs.declared.words.Task.TheVariants as tasks
@@ -20,7 +30,7 @@ abbrev pub due_of_plan : Plan → Due
 due_of_plan (Play schedule) = due_of_answer (text_of_schedule schedule)
 due_of_plan (Show id) = due_of_answer (valid_line id)
 due_of_plan (ShowLedger last signed) = due_of_answer (ledger_line last signed)
-due_of_plan (ShowKey line) = due_of_answer line.items
+due_of_plan (Tell text) = due_of_answer text.items
 due_of_plan (Refuse fault) = due_of_fault fault
 
 -- A schedule that is to be played is one that may be read.
@@ -28,18 +38,19 @@ abbrev pub PlansPlayable : Plan → Type 0
 PlansPlayable (Play schedule) = IsPlayable schedule
 PlansPlayable (Show id) = Unit {0}
 PlansPlayable (ShowLedger last signed) = Unit {0}
-PlansPlayable (ShowKey line) = Unit {0}
+PlansPlayable (Tell text) = Unit {0}
 PlansPlayable (Refuse fault) = Unit {0}
 
--- Where a receipt is verified nothing is played, no ledger and no key is shown, and a transaction is
--- told only where the bytes are a receipt that is accepted for it.
+-- Where a receipt is verified nothing is played, no ledger is shown and no other answer is told,
+-- and a transaction only where the bytes are a receipt that is accepted for it.
 abbrev pub ShowsAccepted : Task → List ℕ → Plan → Type 0
 ShowsAccepted tasks.Replay given plan = Unit {0}
 ShowsAccepted (tasks.Audit identity) given plan = Unit {0}
 ShowsAccepted (tasks.Keygen kind types) given plan = Unit {0}
+ShowsAccepted (tasks.Sign signing) given plan = Unit {0}
 ShowsAccepted (tasks.Verify identity) given (Play schedule) = ⊥
 ShowsAccepted (tasks.Verify identity) given (ShowLedger last signed) = ⊥
-ShowsAccepted (tasks.Verify identity) given (ShowKey line) = ⊥
+ShowsAccepted (tasks.Verify identity) given (Tell text) = ⊥
 ShowsAccepted (tasks.Verify identity) given (Show id) =
     (receipt : Receipt) × (receipt_from given ≡ Ok receipt) × Accepts identity receipt id
 ShowsAccepted (tasks.Verify identity) given (Refuse fault) = Unit {0}
@@ -55,15 +66,57 @@ abbrev pub ShowsKept : KeyKind → Types → List Step → List ℕ → Plan →
 ShowsKept kind types past seed (Play schedule) = ⊥
 ShowsKept kind types past seed (Show id) = ⊥
 ShowsKept kind types past seed (ShowLedger last signed) = ⊥
-ShowsKept kind types past seed (ShowKey line) = KeepsKey kind types past seed
+ShowsKept kind types past seed (Tell text) = KeepsKey kind types past seed
 ShowsKept kind types past seed (Refuse fault) = Unit {0}
+
+-- Where no key file of the kind that is wanted could be opened, that is told: where the bytes
+-- differ from a key file, or which kind the key is of. A failure of the disk is told by no line.
+abbrev pub TellsUnopened : OrNoMemory KeyFileFault → Plan → Type 0
+TellsUnopened error plan =
+    ((fault : JournalFault) × (error ≡ stops.Fault (files.Journal fault))
+    × (fault ≢ journals.DiskFault) × (plan ≡ Refuse (faults.Journal fault)))
+    ⊎ ((want : KeyKind) × (got : KeyKind) × (error ≡ stops.Fault (files.KeyKind want got))
+    × (plan ≡ Refuse (faults.KeyKind want got)))
+
+-- The disk held a key file, and each image that a stop may leave of it now opens to the state in
+-- which its next leaf is spent, and to nothing else.
+abbrev pub SpendsLeaf : Signing → List ℕ → List Step → Type 0
+SpendsLeaf signing held past =
+    (state : Durable) × (opened held ≡ Ok state)
+    × OpensOnlyTo past (after_leaf (use_of signing) state)
+
+-- Where something is signed, its leaf is spent before it is told, and nothing else is told but a
+-- fault.
+abbrev pub TellsSpent : Signing → List ℕ → List Step → Plan → Type 0
+TellsSpent signing held past (Play schedule) = ⊥
+TellsSpent signing held past (Show id) = ⊥
+TellsSpent signing held past (ShowLedger last signed) = ⊥
+TellsSpent signing held past (Tell text) = SpendsLeaf signing held past
+TellsSpent signing held past (Refuse fault) = Unit {0}
+
+-- An image that a stop might have left before, or one that has its closed gate and opens to the
+-- state before a leaf is spent for this, or to that after it.
+abbrev pub MayBeLeft : Signing → Durable → List Step → List ℕ → Type 0
+MayBeLeft signing state before image =
+    IsImage before image
+    ⊎ OpensToOneOf any_frame state (after_leaf (use_of signing) state) image
+
+-- Where the bytes open to a state, each image that a stop may leave at a moment is such a one.
+abbrev pub MovesByLeaf : Signing → List ℕ → List Step → List Step → Type 0
+MovesByLeaf signing held before after =
+    (state : Durable) → opened held ≡ Ok state
+    → Leaves (MayBeLeft signing state before) before after
+
+-- What the bytes of a key file opened to, these open to.
+abbrev pub OpensAsBefore : List ℕ → List ℕ → Type 0
+OpensAsBefore held holds = (state : Durable) → opened held ≡ Ok state → opened holds ≡ Ok state
 
 -- A fault is told.
 abbrev pub TellsFault : Plan → Type 0
 TellsFault (Play schedule) = ⊥
 TellsFault (Show id) = ⊥
 TellsFault (ShowLedger last signed) = ⊥
-TellsFault (ShowKey line) = ⊥
+TellsFault (Tell text) = ⊥
 TellsFault (Refuse fault) = Unit {0}
 
 -- The disk has the bytes that it had, and a stop may leave what it might have left.

@@ -1,10 +1,17 @@
 -- What is written, by what the words ask for and what the bytes are.
-use Rattle.std.specs.Prelude.{◌≡◌, ℕ, ◌<◌, ◌≤◌, ◌⊎◌, List, [], Option, Ok, Err, length}
+use Rattle.std.specs.Prelude.{◌≡◌, ◌≢◌, ℕ, ◌<◌, ◌≤◌, ◌⊎◌, List, Option, Ok, Err, length}
 use Rattle.std.specs.Io.KnownBytes.{Appends}
 use Rattle.clap.specs.Kinds.{Kinds, IsAmong}
 use Rattle.clap.specs.declared.error.kind.ErrorKind.{ErrorKind}
 use Rattle.gl_base.specs.declared.json.FormsFault.{FormsFault}
 use Rattle.gl_base.specs.declared.tx_id.TxId.{TxId}
+use Rattle.gl_consortium.specs.Owed.{owed}
+use Rattle.gl_consortium.specs.Signing.{kind_of}
+use Rattle.gl_consortium.specs.declared.fault.SigningFault.{SigningFault}
+use Rattle.gl_consortium.specs.declared.fault.SigningFault.TheVariants as signings
+use Rattle.gl_consortium.specs.declared.signing.Signing.{Signing}
+use Rattle.gl_journal.specs.Durable.{Durable}
+use Rattle.gl_journal.specs.declared.fault.JournalFault.{JournalFault}
 use Rattle.gl_lines.specs.declared.fault.ScheduleFault.TheVariants.{BadLine}
 use Rattle.gl_lines.specs.Lines.{line_count}
 use Rattle.gl_outside.specs.Sink.{AppendsFront}
@@ -15,12 +22,13 @@ use Rattle.gl_receipt.specs.declared.components.Receipt.{Receipt}
 use Rattle.gl_receipt.specs.declared.fault.ReceiptFault.{ReceiptFault}
 use Rattle.gl_audit.specs.Verdict as audits_to
 use Rattle.gl_audit.specs.declared.verdict.Verdict.TheVariants as audits
+use Rattle.ccfg.specs.declared.fault.Fault.{Fault}
 use Rattle.ccfg.specs.declared.fault.Fault.TheVariants as faults
 use Rattle.gl_schedule.specs.declared.schedule.Schedule.{Schedule}
 use Rattle.ccfg.specs.declared.words.Task.{Task}
 use Rattle.ccfg.specs.declared.words.Task.TheVariants as tasks
 use Rattle.ccfg.specs.Faults.{fault_line}
-use Rattle.ccfg.specs.Owed.{bytes_limit, json_limit, key_line, ledger_line, lines_limit, seed_len, valid_line}
+use Rattle.ccfg.specs.Owed.{Shown, bytes_limit, json_limit, key_line, ledger_line, lines_limit, seed_len, valid_line}
 use Rattle.gl_schedule.specs.Schedules.{reads}
 use Rattle.gl_schedule.specs.Told.{text_of_schedule}
 
@@ -93,64 +101,121 @@ abbrev pub TellsLongSeed : List ℕ → List ℕ → Type 0
 TellsLongSeed given text =
     (seed_len < length given) × (text ≡ fault_line (faults.Trailing seed_len))
 
--- Texts. Each says of the bytes that the disk held, and of those of the source, what they have to
--- be for the text.
+-- Signing
+
+-- The disk has a key file, which opens to this state, and its key is of the kind that signs this.
+abbrev pub HasKeyFor : Signing → Shown → Durable → Type 0
+HasKeyFor signing shown state = (shown.opens ≡ Ok state) × (state.key.kind ≡ kind_of signing)
+
+-- The text tells where the disk's bytes differ from a key file.
+abbrev pub TellsNoKeyFile : Shown → List ℕ → Type 0
+TellsNoKeyFile shown text =
+    (fault : JournalFault) × (shown.opens ≡ Err fault) × (text ≡ fault_line (faults.Journal fault))
+
+-- The text tells the kind of the file's key, which is another one than that which signs this.
+abbrev pub TellsOtherKey : Signing → Shown → List ℕ → Type 0
+TellsOtherKey signing shown text =
+    (state : Durable) × (shown.opens ≡ Ok state) × (state.key.kind ≢ kind_of signing)
+    × (text ≡ fault_line (faults.KeyKind (kind_of signing) state.key.kind))
+
+-- The bytes are within the limit, and the key of the file signs them: the text is what is told
+-- then.
+abbrev pub IsSigned : Signing → Shown → List ℕ → List ℕ → Type 0
+IsSigned signing shown given text =
+    (state : Durable) × HasKeyFor signing shown state × (length given ≤ json_limit)
+    × (owed signing state given ≡ Ok text)
+
+-- The bytes are within the limit and aren't signed, for this reason.
+abbrev pub IsUnsigned : Signing → Shown → List ℕ → SigningFault → Type 0
+IsUnsigned signing shown given fault =
+    (state : Durable) × HasKeyFor signing shown state × (length given ≤ json_limit)
+    × (owed signing state given ≡ Err fault)
+
+-- The text tells why nothing is signed, though the bytes have their form.
+abbrev pub TellsUnsigned : Signing → Shown → List ℕ → List ℕ → Type 0
+TellsUnsigned signing shown given text =
+    (fault : SigningFault) × IsUnsigned signing shown given fault
+    × ((form : FormsFault) → fault ≢ signings.Form form)
+    × (text ≡ fault_line (faults.Signing fault))
+
+-- The text tells what differs first from the form of what is to be signed.
+abbrev pub TellsOtherForm : Signing → Shown → List ℕ → List ℕ → Type 0
+TellsOtherForm signing shown given text =
+    (fault : FormsFault) × IsUnsigned signing shown given (signings.Form fault)
+    × (text ≡ fault_line (faults.Form fault))
+
+-- Texts. Each says of what the disk showed, and of the bytes of the source, what they have to be
+-- for the text.
 
 -- At 0: the bytes are a schedule, and the text is what it tells; or they are a receipt of which the
--- verdict under the key is a transaction, and the text tells that; or they are a valid ledger of the
--- service with the key, and the text tells its last transaction and that of its last signature; or
--- the disk held nothing and they are a seed, and the text tells the public form of its key.
-abbrev pub IsAnswer : Task → List ℕ → List ℕ → List ℕ → Type 0
-IsAnswer tasks.Replay held given text =
+-- verdict under the key is a transaction, and the text tells that; or they are a valid ledger of
+-- the service with the key, and the text tells its last transaction and that of its last signature;
+-- or the disk held nothing and they are a seed, and the text tells the public form of its key; or
+-- the key of the disk's file signs them, and the text is what is told then.
+abbrev pub IsAnswer : Task → Shown → List ℕ → List ℕ → Type 0
+IsAnswer tasks.Replay shown given text =
     (schedule : Schedule) × ReadsAs given schedule × (text ≡ text_of_schedule schedule)
-IsAnswer (tasks.Verify identity) held given text =
+IsAnswer (tasks.Verify identity) shown given text =
     (receipt : Receipt) × IsReceipt given receipt
     × (id : TxId) × (verdict identity receipt ≡ Ok id) × (text ≡ valid_line id)
-IsAnswer (tasks.Audit identity) held given text = TellsValidLedger identity given text
-IsAnswer (tasks.Keygen kind types) held given text =
-    (held ≡ []) × IsSeed given
+IsAnswer (tasks.Audit identity) shown given text = TellsValidLedger identity given text
+IsAnswer (tasks.Keygen kind types) shown given text =
+    (shown.len ≡ 0) × IsSeed given
     × (text ≡ key_line (record { kind = kind; types = types; seed = given }))
+IsAnswer (tasks.Sign signing) shown given text = IsSigned signing shown given text
 
 -- At 1: the bytes are a receipt that is not valid under the key, or they are no valid ledger of the
 -- service with the key, and the text tells why; or the disk that is to take a key held bytes, and
--- the text tells how many.
-abbrev pub IsRefusal : Task → List ℕ → List ℕ → List ℕ → Type 0
-IsRefusal tasks.Replay held given text = ⊥
-IsRefusal (tasks.Verify identity) held given text =
+-- the text tells how many; or the disk has no key file of the kind that signs, or its key doesn't
+-- sign the bytes, and the text tells why.
+abbrev pub IsRefusal : Task → Shown → List ℕ → List ℕ → Type 0
+IsRefusal tasks.Replay shown given text = ⊥
+IsRefusal (tasks.Verify identity) shown given text =
     (receipt : Receipt) × IsReceipt given receipt
     × (fault : ReceiptFault) × (verdict identity receipt ≡ Err fault)
     × (text ≡ fault_line (faults.NotValid fault))
-IsRefusal (tasks.Audit identity) held given text =
+IsRefusal (tasks.Audit identity) shown given text =
     TellsForeignLedger identity given text ⊎ TellsFaultyLedger identity given text
-IsRefusal (tasks.Keygen kind types) held given text =
-    (0 < length held) × (text ≡ fault_line (faults.NotEmpty (length held)))
+IsRefusal (tasks.Keygen kind types) shown given text =
+    (0 < shown.len) × (text ≡ fault_line (faults.NotEmpty shown.len))
+IsRefusal (tasks.Sign signing) shown given text =
+    TellsNoKeyFile shown text ⊎ TellsOtherKey signing shown text
+    ⊎ TellsUnsigned signing shown given text
 
 -- At 8: the bytes pass a limit, and the text names it.
-abbrev pub IsPastLimit : Task → List ℕ → List ℕ → List ℕ → Type 0
-IsPastLimit tasks.Replay held given text =
+abbrev pub IsPastLimit : Task → Shown → List ℕ → List ℕ → Type 0
+IsPastLimit tasks.Replay shown given text =
     (HasTooManyBytes given × (text ≡ fault_line faults.TooManyBytes))
     ⊎ (HasTooManyLines given × (text ≡ fault_line faults.TooManyLines))
-IsPastLimit (tasks.Verify identity) held given text =
+IsPastLimit (tasks.Verify identity) shown given text =
     HasTooMuchJson given × (text ≡ fault_line faults.TooMuchJson)
-IsPastLimit (tasks.Audit identity) held given text = ⊥
-IsPastLimit (tasks.Keygen kind types) held given text = ⊥
+IsPastLimit (tasks.Audit identity) shown given text = ⊥
+IsPastLimit (tasks.Keygen kind types) shown given text = ⊥
+IsPastLimit (tasks.Sign signing) shown given text =
+    (state : Durable) × HasKeyFor signing shown state × HasTooMuchJson given
+    × (text ≡ fault_line faults.TooMuchJson)
 
 -- At 9: the bytes are within the limits and have no reading, and the text tells their first bad
--- line, or what differs first from a receipt; or they are no seed, and the text tells where it
--- differs from one.
-abbrev pub IsNoReading : Task → List ℕ → List ℕ → List ℕ → Type 0
-IsNoReading tasks.Replay held given text =
+-- line, or what differs first from a receipt or from the form of what is to be signed; or they are
+-- no seed, and the text tells where it differs from one.
+abbrev pub IsNoReading : Task → Shown → List ℕ → List ℕ → Type 0
+IsNoReading tasks.Replay shown given text =
     (number : ℕ) × HasBadLine given number × (text ≡ fault_line (faults.BadLine number))
-IsNoReading (tasks.Verify identity) held given text =
+IsNoReading (tasks.Verify identity) shown given text =
     (fault : FormsFault) × HasOtherForm given fault × (text ≡ fault_line (faults.Form fault))
-IsNoReading (tasks.Audit identity) held given text = ⊥
-IsNoReading (tasks.Keygen kind types) held given text =
-    (held ≡ []) × (TellsShortSeed given text ⊎ TellsLongSeed given text)
+IsNoReading (tasks.Audit identity) shown given text = ⊥
+IsNoReading (tasks.Keygen kind types) shown given text =
+    (shown.len ≡ 0) × (TellsShortSeed given text ⊎ TellsLongSeed given text)
+IsNoReading (tasks.Sign signing) shown given text = TellsOtherForm signing shown given text
 
 -- At 2: the line of one of these kinds of fault.
 abbrev pub IsKindLine : Kinds → List ℕ → Type 0
 IsKindLine kinds text =
     (kind : ErrorKind) × IsAmong kind kinds × (text ≡ fault_line (faults.Words kind))
+
+-- The line of a fault.
+abbrev pub IsFaultLine : List ℕ → Type 0
+IsFaultLine text = (fault : Fault) × (text ≡ fault_line fault)
 
 -- The bytes are a receipt that is accepted for a transaction under this key, and exactly the line
 -- of this transaction was written.

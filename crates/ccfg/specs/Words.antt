@@ -1,7 +1,8 @@
 -- The words that the program is called with, as the library for command lines reads them, and what
 -- they ask for.
-use Rattle.std.specs.Prelude.{◌≡◌, ℕ, List, [], ◌∷◌, Option, None, Some, Result, Ok, Err, true, false, codes, if◌then◌else◌}
+use Rattle.std.specs.Prelude.{◌≡◌, ℕ, List, [], ◌∷◌, Option, None, Some, Result, Ok, Err, Bool, true, false, ◌&&◌, nat_le, codes, if◌then◌else◌}
 use Rattle.std.specs.Str.{bytes_eq}
+use Rattle.std.specs.Str.Parse.{digits_value}
 use Rattle.clap.specs.Faults.{fault_of}
 use Rattle.clap.specs.Kinds.{Kinds, IsAmong}
 use Rattle.clap.specs.Simple.{App, app_of, new_app, new_rule, on_top, subcommand_of, with_rule, with_subcommand}
@@ -10,6 +11,8 @@ use Rattle.clap.specs.declared.builder.command.Command.{Command}
 use Rattle.clap.specs.declared.builder.command.Command.TheViews.{out-Command}
 use Rattle.clap.specs.declared.error.kind.ErrorKind.{ErrorKind}
 use Rattle.clap.specs.declared.error.kind.ErrorKind.TheVariants as kinds
+use Rattle.gl_consortium.specs.declared.signing.Signing.TheVariants.{Endorsement, Opening, Request}
+use Rattle.gl_lines.specs.Numbers.{is_decimal}
 use Rattle.gl_lines.specs.Words.{hex_sized}
 use Rattle.gl_journal.specs.declared.key.KeyKind.{KeyKind}
 use Rattle.gl_journal.specs.declared.key.KeyKind.TheVariants.{Service, Node, Member}
@@ -48,6 +51,19 @@ types_option = record (new_rule (codes "types")) { long = Some (codes "types"); 
 abbrev pub keygen_command : App
 keygen_command = with_rule (with_rule (new_app (codes "keygen")) kind_option) types_option
 
+abbrev pub endorse_command : App
+endorse_command = new_app (codes "endorse")
+
+abbrev pub genesis_command : App
+genesis_command = new_app (codes "genesis")
+
+-- `--member N`, which has to be there.
+abbrev pub member_option : Rule
+member_option = record (new_rule (codes "member")) { long = Some (codes "member"); required = true }
+
+abbrev pub sign_command : App
+sign_command = with_rule (with_rule (new_app (codes "sign")) identity_option) member_option
+
 -- The program without its commands. Its words are those behind its name; one of them has to be a
 -- command, of which `help` is none.
 abbrev pub bare_program : App
@@ -65,8 +81,16 @@ diskless_program =
     (with_subcommand (with_subcommand bare_program replay_command.top) verify_command.top)
     audit_command.top
 
+-- And with the one that begins a key.
+unfoldable pub keyless_program : App
+keyless_program = with_subcommand diskless_program keygen_command.top
+
+-- And with those that sign with a key.
 unfoldable pub program : App
-program = with_subcommand diskless_program keygen_command.top
+program =
+    with_subcommand
+    (with_subcommand (with_subcommand keyless_program endorse_command.top) genesis_command.top)
+    sign_command.top
 
 -- The command is this one, with no option that holds for others too.
 abbrev pub IsCommand : App → Command → Type 0
@@ -125,19 +149,59 @@ asked_key (Ok kind) (Ok types) = Ok (tasks.Keygen kind types)
 abbrev pub asked_keygen : Option Text → Option Text → Result Task Kinds
 asked_keygen kind types = asked_key (asked_name named_kind kind) (asked_name named_types types)
 
+-- A member has a number from 1 to 255.
+abbrev pub is_member : ℕ → Bool
+is_member number = nat_le 1 number && nat_le number 255
+
+-- It is spelled in decimal, without a sign and without a leading zero.
+abbrev pub spelled_member : Text → Result ℕ Kinds
+spelled_member word =
+    if is_decimal word && is_member (digits_value 10 word) then Ok (digits_value 10 word)
+    else Err (kinds.ValueValidation ∷ [])
+
+abbrev pub asked_member : Option Text → Result ℕ Kinds
+asked_member None = Err (kinds.MissingRequiredArgument ∷ [])
+asked_member (Some word) = spelled_member word
+
+-- The service's key is tried before the member's number.
+abbrev pub asked_request : Result (List ℕ) Kinds → Result ℕ Kinds → Result Task Kinds
+asked_request (Err told) member = Err told
+asked_request (Ok key) (Err told) = Err told
+asked_request (Ok key) (Ok member) = Ok (tasks.Sign (Request key member))
+
+abbrev pub asked_sign : Option Text → Option Text → Result Task Kinds
+asked_sign identity member = asked_request (asked_identity identity) (asked_member member)
+
+-- What a command with an option for a service's key asks for with these values of them.
+abbrev pub asked_with_identity : Text → List Row → Result Task Kinds
+asked_with_identity name rows =
+    if bytes_eq name (codes "sign")
+    then asked_sign (first_of (codes "identity") rows) (first_of (codes "member") rows)
+    else asked_under name (asked_identity (first_of (codes "identity") rows))
+
 -- What a command with options asks for with these values of them.
 abbrev pub asked_options : Text → List Row → Result Task Kinds
 asked_options name rows =
     if bytes_eq name (codes "keygen")
     then asked_keygen (first_of (codes "kind") rows) (first_of (codes "types") rows)
-    else asked_under name (asked_identity (first_of (codes "identity") rows))
+    else asked_with_identity name rows
+
+-- What a command without options asks for.
+abbrev pub plain_task : Text → Option Task
+plain_task name =
+    if bytes_eq name (codes "replay") then Some tasks.Replay
+    else (if bytes_eq name (codes "endorse") then Some (tasks.Sign Endorsement)
+    else (if bytes_eq name (codes "genesis") then Some (tasks.Sign Opening) else None))
+
+abbrev pub unless_plain : Option Task → Result Task Kinds → Result Task Kinds
+unless_plain (Some task) other = Ok task
+unless_plain None other = other
 
 -- What a command asks for with these values of its options.
 abbrev pub asked_command : Option (Text × List Row) → Result Task Kinds
 asked_command None = Err (kinds.MissingSubcommand ∷ [])
 asked_command (Some command) =
-    if bytes_eq command.0 (codes "replay") then Ok tasks.Replay
-    else asked_options command.0 command.1
+    unless_plain (plain_task command.0) (asked_options command.0 command.1)
 
 -- The faults that the library finds come first.
 abbrev pub unless_faulty : Kinds → Result Task Kinds → Result Task Kinds

@@ -2,13 +2,16 @@
 
 ghost use Rattle.std.specs.Prelude.{◌≡◌, ◌++◌, IfOk, OnOk, codes, decimal};
 ghost use Rattle.hex.specs.Hex.{encode_lower};
-ghost use Rattle.ccfg.specs.Faults.{fault_line, fault_text, form_text, hss_text, kind_name, path_text, receipt_text};
+ghost use Rattle.gl_journal.specs.Records.{key_kind_tag};
+ghost use Rattle.ccfg.specs.Faults.{fault_line, fault_text, form_text, hss_text, journal_text, kind_name, path_text, receipt_text, signing_text};
 ghost use Rattle.ccfg.specs.Owed.{ending_of_fault};
 
 use crate::ending::Ending;
 use clap::error::ErrorKind;
 use gl_base::{FormsFault, Pointer};
+use gl_consortium::SigningFault;
 use gl_hss::HssFault;
+use gl_journal::{JournalFault, KeyKind};
 use gl_receipt::ReceiptFault;
 use gl_requests::HssPublicKey;
 use itoa::Buffer;
@@ -27,7 +30,7 @@ pub enum Fault {
     TooMuchJson,
     /// The bytes are no schedule: this line is the first bad one, counted from 1.
     BadLine(u64),
-    /// The bytes are no receipt.
+    /// The bytes are no receipt, or not what is to be signed.
     Form(FormsFault),
     /// The receipt is not valid under the service's key.
     NotValid(ReceiptFault),
@@ -41,6 +44,12 @@ pub enum Fault {
     Short { at: u64 },
     /// The bytes are to end here, and there are more.
     Trailing { at: u64 },
+    /// The disk holds no key file.
+    Journal(JournalFault),
+    /// The disk's key file has a key of another kind.
+    KeyKind { want: KeyKind, got: KeyKind },
+    /// What is to be signed has its form, and isn't signed.
+    Signing(SigningFault),
 }
 
 /// The kind's name, as Rust has it.
@@ -118,7 +127,8 @@ fn put_form(out: &mut Vec<u8>, fault: &FormsFault) -> Result<(), AllocError>
     }
 }
 
-fn put_roots(
+/// Two digests, a space between them.
+fn put_digests(
     alloc: Global,
     out: &mut Vec<u8>,
     want: &[u8; 32],
@@ -150,7 +160,7 @@ fn put_hss(alloc: Global, out: &mut Vec<u8>, fault: HssFault) -> Result<(), Allo
         }
         HssFault::Root { want, got } => {
             out.extend_from_slice(b"Root ")?;
-            put_roots(alloc, out, &want, &got)
+            put_digests(alloc, out, &want, &got)
         }
         HssFault::Leaf { q } => {
             out.extend_from_slice(b"Leaf ")?;
@@ -177,6 +187,69 @@ fn put_named(out: &mut Vec<u8>, name: &str, n: u64) -> Result<(), AllocError>
 {
     out.extend_from_slice(name.as_bytes())?;
     put_number(out, n)
+}
+
+fn put_journal(out: &mut Vec<u8>, fault: JournalFault) -> Result<(), AllocError>
+    ensures { OnOk result (out.new.items ≡ out.old.items ++ journal_text fault) }
+{
+    match fault {
+        JournalFault::NotJournal { at } => put_named(out, "NotJournal ", at),
+        JournalFault::BadRecord { at } => put_named(out, "BadRecord ", at),
+        JournalFault::DiskFault => out.extend_from_slice(b"DiskFault"),
+        JournalFault::NotEmpty { len } => put_named(out, "NotEmpty ", len),
+    }
+}
+
+/// The number by which a kind of key is told, which is that in its file.
+fn key_kind_tag(kind: KeyKind) -> u64
+    ensures { result ≡ key_kind_tag kind }
+{
+    match kind {
+        KeyKind::Service => 1,
+        KeyKind::Node => 2,
+        KeyKind::Member => 3,
+    }
+}
+
+/// Two kinds of key by their numbers.
+fn put_key_kinds(out: &mut Vec<u8>, want: KeyKind, got: KeyKind) -> Result<(), AllocError>
+    ensures { OnOk result (out.new.items ≡ out.old.items ++ (codes "KeyKind "
+        ++ decimal (key_kind_tag want) ++ codes " " ++ decimal (key_kind_tag got))) }
+{
+    out.extend_from_slice(b"KeyKind ")?;
+    put_numbers(out, key_kind_tag(want), key_kind_tag(got))
+}
+
+/// The identifier of a first node that is wanted, and that of the key that was found.
+fn put_nodes(
+    alloc: Global,
+    out: &mut Vec<u8>,
+    want: &[u8; 32],
+    got: &[u8; 32],
+) -> Result<(), AllocError>
+    ensures { OnOk result (out.new.items ≡ out.old.items
+        ++ (codes "NotFirstNode " ++ encode_lower want.now ++ codes " " ++ encode_lower got.now)) }
+{
+    out.extend_from_slice(b"NotFirstNode ")?;
+    put_digests(alloc, out, want, got)
+}
+
+fn put_signing(alloc: Global, out: &mut Vec<u8>, fault: &SigningFault) -> Result<(), AllocError>
+    ensures { OnOk result (out.new.items ≡ out.old.items ++ signing_text fault.now) }
+{
+    match fault {
+        SigningFault::Form(fault) => put_form(out, fault),
+        SigningFault::NotFirstNode { want, got } => put_nodes(alloc, out, want, got),
+        SigningFault::KeyExhausted { reserved } => {
+            put_named(out, "KeyExhausted ", u64::from(*reserved))
+        }
+        SigningFault::BadAction { index, cause } => {
+            out.extend_from_slice(b"BadAction ")?;
+            put_numbers(out, *index, u64::from(cause.number()))
+        }
+        SigningFault::Signature => out.extend_from_slice(b"Signature"),
+        SigningFault::DiskFailed => out.extend_from_slice(b"DiskFailed"),
+    }
 }
 
 /// The first entry that breaks a rule of the audit, and the rule.
@@ -214,6 +287,9 @@ impl Fault {
             Fault::NotEmpty { len } => put_named(out, "NotEmpty ", *len),
             Fault::Short { at } => put_named(out, "Short ", *at),
             Fault::Trailing { at } => put_named(out, "Trailing ", *at),
+            Fault::Journal(fault) => put_journal(out, *fault),
+            Fault::KeyKind { want, got } => put_key_kinds(out, *want, *got),
+            Fault::Signing(fault) => put_signing(alloc, out, fault),
         }
     }
 
@@ -240,7 +316,10 @@ impl Fault {
             Fault::NotValid(_)
             | Fault::Broken { .. }
             | Fault::Foreign { .. }
-            | Fault::NotEmpty { .. } => Ending::NotValid,
+            | Fault::NotEmpty { .. }
+            | Fault::Journal(_)
+            | Fault::KeyKind { .. }
+            | Fault::Signing(_) => Ending::NotValid,
         }
     }
 }

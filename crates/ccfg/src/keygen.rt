@@ -3,7 +3,7 @@
 ghost use Rattle.std.specs.Prelude.{◌≡◌, ◌≢◌, ℕ, ◌<◌, ◌≤◌, [], Err, IfErr, IfOk, IsTrue, length};
 ghost use Rattle.gl_audit.specs.Given.{OfBytes};
 ghost use Rattle.gl_outside.specs.Fault.{Rose};
-ghost use Rattle.ccfg.specs.Owed.{EndsSource, OfHeld, due_of_answer, due_of_seed, key_line, on_empty, seed_len};
+ghost use Rattle.ccfg.specs.Owed.{EndsSource, OfShown, due_of_answer, due_of_seed, key_line, on_empty, seed_len};
 ghost use Rattle.ccfg.specs.Plans.{IsUntouched, PlansPlayable, TellsFault, ShowsKept, due_of_plan};
 ghost use Rattle.ccfg.specs.declared.fault.Fault.TheVariants.{NotEmpty, Short};
 ghost use Rattle.ccfg.specs.declared.plan.Plan.TheVariants.{Refuse};
@@ -74,8 +74,8 @@ fn begin_stop(error: OrNoMemory<KeyFileFault>) -> Result<Plan, PlanStop>
 /// that no memory is wanted behind it.
 fn begin_file<D: Disk>(alloc: Global, key: Key, disk: D) -> (Result<Plan, PlanStop>, D)
     requires empty { IsTrue D.honest → D.bytes disk ≡ [] }
-    ensures due { IfOk result.0 (λ plan. OfHeld D.honest (D.bytes disk) (λ held.
-        on_empty held (due_of_answer (key_line key)) ≡ due_of_plan plan)) }
+    ensures due { IfOk result.0 (λ plan. OfShown D.honest (D.bytes disk) (λ shown.
+        on_empty shown.len (due_of_answer (key_line key)) ≡ due_of_plan plan)) }
     ensures playable { IfOk result.0 (λ plan. PlansPlayable plan) }
     ensures disk_failed { result.0 ≡ Err PlanStop.DiskFailed →
         Rose (D.faults disk) (D.faults result.1) }
@@ -88,7 +88,7 @@ fn begin_file<D: Disk>(alloc: Global, key: Key, disk: D) -> (Result<Plan, PlanSt
         return (Err(PlanStop::Memory), disk);
     };
     match KeyFile::create(alloc, disk, key) {
-        Ok(file) => (Ok(Plan::ShowKey(line)), file.into_disk()),
+        Ok(file) => (Ok(Plan::Tell(line)), file.into_disk()),
         Err((error, disk)) => (begin_stop(error), disk),
     }
 }
@@ -103,9 +103,9 @@ fn plan_on_empty<S: Source, D: Disk>(
     disk: D,
 ) -> (Result<Plan, PlanStop>, D)
     requires empty { IsTrue D.honest → D.bytes disk ≡ [] }
-    ensures due { IfOk result.0 (λ plan. OfHeld D.honest (D.bytes disk) (λ held.
+    ensures due { IfOk result.0 (λ plan. OfShown D.honest (D.bytes disk) (λ shown.
         OfBytes (S.left source.old) (λ given.
-        on_empty held (due_of_seed kind types given) ≡ due_of_plan plan))) }
+        on_empty shown.len (due_of_seed kind types given) ≡ due_of_plan plan))) }
     ensures ended { IfOk result.0 (λ plan. EndsSource (due_of_plan plan) (S.ended source.new)) }
     ensures playable { IfOk result.0 (λ plan. PlansPlayable plan) }
     ensures failed { result.0 ≡ Err PlanStop.SourceFailed →
@@ -143,9 +143,9 @@ pub fn keygen_plan<S: Source, D: Disk>(
     source: &mut S,
     disk: D,
 ) -> (Result<Plan, PlanStop>, D)
-    ensures due { IfOk result.0 (λ plan. OfHeld D.honest (D.bytes disk) (λ held.
+    ensures due { IfOk result.0 (λ plan. OfShown D.honest (D.bytes disk) (λ shown.
         OfBytes (S.left source.old) (λ given.
-        on_empty held (due_of_seed kind types given) ≡ due_of_plan plan))) }
+        on_empty shown.len (due_of_seed kind types given) ≡ due_of_plan plan))) }
     ensures ended { IfOk result.0 (λ plan. EndsSource (due_of_plan plan) (S.ended source.new)) }
     ensures playable { IfOk result.0 (λ plan. PlansPlayable plan) }
     ensures failed { result.0 ≡ Err PlanStop.SourceFailed →

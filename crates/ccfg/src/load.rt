@@ -7,6 +7,9 @@ ghost use Rattle.gl_audit.specs.Given.{OfBytes};
 use gl_outside::{Got, Source};
 use std::alloc::Global;
 
+/// The most bytes that JSON has.
+pub const JSON_LIMIT: usize = 1_048_576;
+
 /// Why a source was not read whole.
 #[derive(Clone, Copy, Debug, PartialEq, Eq)]
 pub enum LoadStop {

@@ -11,6 +11,7 @@ mod output;
 mod plan;
 mod program;
 mod progress;
+mod signing;
 #[cfg(test)]
 mod tests;
 mod verify;

@@ -76,16 +76,16 @@ fn show_ledger<K: Sink>(alloc: Global, last: TxId, signed: Option<TxId>, sink: &
     }
 }
 
-/// Tells a line that is an answer.
-fn tell<K: Sink>(line: &[u8], sink: &mut K) -> Ending
+/// Tells an answer as it is.
+fn tell<K: Sink>(text: &[u8], sink: &mut K) -> Ending
     ensures { WritesDue result (record {
       held = K.holds sink.old;
       holds = K.holds sink.new;
       faults = K.faults sink.old;
       faults_now = K.faults sink.new;
-    }) (due_of_answer line.now) }
+    }) (due_of_answer text.now) }
 {
-    match write_whole(sink, line) {
+    match write_whole(sink, text) {
         Ok(()) => Ending::Done,
         Err(SinkFault::Failed) => Ending::SinkFailed,
         Err(SinkFault::NoMemory) => Ending::Memory,
@@ -93,19 +93,19 @@ fn tell<K: Sink>(line: &[u8], sink: &mut K) -> Ending
 }
 
 /// Plays the lines of a service's schedule, over a store for each of its nodes.
-fn play_service<K: Sink>(alloc: Global, settings: &Settings, lines: &Lines, sink: &mut K) -> Ending
-    requires { IsPlayable (Service settings.now lines.now) }
+fn play_service<K: Sink>(alloc: Global, settings: Settings, lines: Lines, sink: &mut K) -> Ending
+    requires { IsPlayable (Service settings lines) }
     ensures { WritesDue result (record {
       held = K.holds sink.old;
       holds = K.holds sink.new;
       faults = K.faults sink.old;
       faults_now = K.faults sink.new;
-    }) (due_of_plan (Play (Service settings.now lines.now))) }
+    }) (due_of_plan (Play (Service settings lines))) }
 {
-    let Ok(books) = books(alloc, settings) else {
+    let Ok(books) = books(alloc, &settings) else {
         return Ending::Memory;
     };
-    match play(alloc, *settings, lines, books, sink) {
+    match play(alloc, settings, lines, books, sink) {
         Ok(()) => Ending::Done,
         Err(SinkFault::Failed) => Ending::SinkFailed,
         Err(SinkFault::NoMemory) => Ending::Memory,
@@ -113,14 +113,14 @@ fn play_service<K: Sink>(alloc: Global, settings: &Settings, lines: &Lines, sink
 }
 
 /// Plays a schedule; one without a service prints nothing.
-fn perform<K: Sink>(alloc: Global, schedule: &Schedule, sink: &mut K) -> Ending
-    requires { IsPlayable schedule.now }
+fn perform<K: Sink>(alloc: Global, schedule: Schedule, sink: &mut K) -> Ending
+    requires { IsPlayable schedule }
     ensures { WritesDue result (record {
       held = K.holds sink.old;
       holds = K.holds sink.new;
       faults = K.faults sink.old;
       faults_now = K.faults sink.new;
-    }) (due_of_plan (Play schedule.now)) }
+    }) (due_of_plan (Play schedule)) }
 {
     match schedule {
         Schedule::Empty => Ending::Done,
@@ -129,20 +129,20 @@ fn perform<K: Sink>(alloc: Global, schedule: &Schedule, sink: &mut K) -> Ending
 }
 
 /// Does what a plan says.
-pub fn carry_out<K: Sink>(alloc: Global, plan: &Plan, sink: &mut K) -> Ending
-    requires { PlansPlayable plan.now }
+pub fn carry_out<K: Sink>(alloc: Global, plan: Plan, sink: &mut K) -> Ending
+    requires { PlansPlayable plan }
     ensures { WritesDue result (record {
       held = K.holds sink.old;
       holds = K.holds sink.new;
       faults = K.faults sink.old;
       faults_now = K.faults sink.new;
-    }) (due_of_plan plan.now) }
+    }) (due_of_plan plan) }
 {
     match plan {
         Plan::Play(schedule) => perform(alloc, schedule, sink),
-        Plan::Show(id) => show(alloc, *id, sink),
-        Plan::ShowLedger(last, signed) => show_ledger(alloc, *last, *signed, sink),
-        Plan::ShowKey(line) => tell(line, sink),
-        Plan::Refuse(fault) => refuse(alloc, fault, sink),
+        Plan::Show(id) => show(alloc, id, sink),
+        Plan::ShowLedger(last, signed) => show_ledger(alloc, last, signed, sink),
+        Plan::Tell(text) => tell(&text, sink),
+        Plan::Refuse(fault) => refuse(alloc, &fault, sink),
     }
 }

@@ -1,19 +1,23 @@
 //! What there is to do with the bytes of a source.
 
-ghost use Rattle.std.specs.Prelude.{◌≡◌, ◌≢◌, ℕ, ◌<◌, ◌≤◌, Err, IfErr, IfOk, IsTrue, length};
+ghost use Rattle.std.specs.Prelude.{◌≡◌, ◌≢◌, ℕ, ◌<◌, ◌≤◌, Err, IfErr, IfOk, IsTrue, false, length};
 ghost use Rattle.gl_outside.specs.Fault.{Rose};
 ghost use Rattle.gl_audit.specs.Given.{OfBytes};
+ghost use Rattle.gl_consortium.specs.declared.signing.Signing.{Signing};
+ghost use Rattle.gl_journal.specs.Durable.{journal_header};
+ghost use Rattle.gl_journal.specs.Parts.{HasGate};
 ghost use Rattle.gl_journal.specs.declared.key.KeyKind.{KeyKind};
 ghost use Rattle.gl_lms.specs.declared.types.Types.{Types};
-ghost use Rattle.ccfg.specs.Owed.{EndsSource, OfHeld, bytes_limit, due_of, due_of_schedule, ending_of_stop};
-ghost use Rattle.ccfg.specs.Plans.{IsUntouched, PlansPlayable, TellsFault, ShowsAccepted, ShowsKept, due_of_plan};
-ghost use Rattle.ccfg.specs.declared.words.Task.TheVariants.{Keygen};
+ghost use Rattle.ccfg.specs.Owed.{EndsSource, OfShown, bytes_limit, due_of, due_of_schedule, ending_of_stop, uses_disk};
+ghost use Rattle.ccfg.specs.Plans.{IsUntouched, MovesByLeaf, OpensAsBefore, PlansPlayable, TellsFault, TellsSpent, ShowsAccepted, ShowsKept, due_of_plan};
+ghost use Rattle.ccfg.specs.declared.words.Task.TheVariants.{Keygen, Sign};
 
 use crate::ending::Ending;
 use crate::fault::Fault;
 use crate::keygen::keygen_plan;
 use crate::ledger_plan::read_ledger_plan;
 use crate::load::{LoadStop, load};
+use crate::signing::signing_plan;
 use crate::verify::read_receipt_plan;
 use crate::words::Task;
 use gl_base::{OrNoMemory, TxId};
@@ -37,8 +41,9 @@ pub enum Plan {
     Show(TxId),
     /// To tell the last transaction of a valid ledger, and that of its last signature.
     ShowLedger(TxId, Option<TxId>),
-    /// To tell the public form of a key that is kept: its line.
-    ShowKey(Vec<u8>),
+    /// To tell what is made already: the public form of a key that is kept, or what is signed with
+    /// a leaf that is spent.
+    Tell(Vec<u8>),
     /// To tell a fault.
     Refuse(Fault),
 }
@@ -104,15 +109,15 @@ fn read_schedule_plan<S: Source>(alloc: Global, source: &mut S) -> Result<Plan, 
     }
 }
 
-/// What there is to do with what a source gives, and the disk, which `keygen` alone uses.
+/// What there is to do with what a source gives, and the disk, which the tasks with a key use.
 pub fn read_plan<S: Source, D: Disk>(
     alloc: Global,
     task: &Task,
     source: &mut S,
     disk: D,
 ) -> (Result<Plan, PlanStop>, D)
-    ensures due { IfOk result.0 (λ plan. OfHeld D.honest (D.bytes disk) (λ held.
-        OfBytes (S.left source.old) (λ given. due_of task.now held given ≡ due_of_plan plan))) }
+    ensures due { IfOk result.0 (λ plan. OfShown D.honest (D.bytes disk) (λ shown.
+        OfBytes (S.left source.old) (λ given. due_of task.now shown given ≡ due_of_plan plan))) }
     ensures sound { IfOk result.0 (λ plan.
         OfBytes (S.left source.old) (λ given. ShowsAccepted task.now given plan)) }
     ensures ended { IfOk result.0 (λ plan. EndsSource (due_of_plan plan) (S.ended source.new)) }
@@ -121,25 +126,42 @@ pub fn read_plan<S: Source, D: Disk>(
         Rose (S.faults source.old) (S.faults source.new) }
     ensures disk_failed { result.0 ≡ Err PlanStop.DiskFailed →
         Rose (D.faults disk) (D.faults result.1) }
-
-    ensures disk { ((kind : KeyKind) (types : Types) → task.now ≢ Keygen kind types) →
+    ensures disk { uses_disk task.now ≡ false →
         (result.1 ≡ disk) × (result.0 ≢ Err PlanStop.DiskFailed) }
+
+    // A key that is to begin.
     ensures kept { IsTrue D.honest → (kind : KeyKind) (types : Types) →
         task.now ≡ Keygen kind types → IfOk result.0 (λ plan. OfBytes (S.left source.old) (λ given.
         ShowsKept kind types (D.past result.1) given plan)) }
-    ensures not_empty { IsTrue D.honest → 0 < length (D.bytes disk) →
+    ensures not_empty { IsTrue D.honest → 0 < length (D.bytes disk) → (kind : KeyKind)
+        (types : Types) → task.now ≡ Keygen kind types →
         IsUntouched D.bytes D.past disk result.1 }
     ensures unread { IsTrue D.honest → 0 < length (D.bytes disk) → (kind : KeyKind)
         (types : Types) → task.now ≡ Keygen kind types → source.new ≡ source.old }
-    ensures refused { IsTrue D.honest →
-        IfOk result.0 (λ plan. TellsFault plan → IsUntouched D.bytes D.past disk result.1) }
-    ensures stopped { IsTrue D.honest → result.0 ≡ Err PlanStop.SourceFailed →
+    ensures refused { IsTrue D.honest → (kind : KeyKind) (types : Types) →
+        task.now ≡ Keygen kind types → IfOk result.0 (λ plan. TellsFault plan →
+        IsUntouched D.bytes D.past disk result.1) }
+    ensures stopped { IsTrue D.honest → (kind : KeyKind) (types : Types) →
+        task.now ≡ Keygen kind types → result.0 ≡ Err PlanStop.SourceFailed →
         IsUntouched D.bytes D.past disk result.1 }
+
+    // Something that is to be signed.
+    ensures spent { IsTrue D.honest → (signing : Signing) → task.now ≡ Sign signing →
+        IfOk result.0 (λ plan. TellsSpent signing (D.bytes disk) (D.past result.1) plan) }
+    ensures unspent { IsTrue D.honest → (signing : Signing) → task.now ≡ Sign signing →
+        IfOk result.0 (λ plan. TellsFault plan →
+        OpensAsBefore (D.bytes disk) (D.bytes result.1)) }
+    ensures unspent_stopped { IsTrue D.honest → (signing : Signing) → task.now ≡ Sign signing →
+        result.0 ≡ Err PlanStop.SourceFailed → OpensAsBefore (D.bytes disk) (D.bytes result.1) }
+    ensures any_moment { IsTrue D.honest → HasGate journal_header (D.bytes disk) →
+        (signing : Signing) → task.now ≡ Sign signing →
+        MovesByLeaf signing (D.bytes disk) (D.past disk) (D.past result.1) }
 {
     match task {
         Task::Replay => (read_schedule_plan(alloc, source), disk),
         Task::Verify { identity } => (read_receipt_plan(alloc, identity, source), disk),
         Task::Audit { identity } => (read_ledger_plan(alloc, identity, source), disk),
         Task::Keygen { kind, types } => keygen_plan(alloc, *kind, *types, source, disk),
+        Task::Sign { signing } => signing_plan(alloc, signing, source, disk),
     }
 }

@@ -1,22 +1,25 @@
 //! The whole program, over the objects that are handed in.
 
-ghost use Rattle.std.specs.Prelude.{◌≡◌, ◌≢◌, ◌⊎◌, true, ℕ, ◌<◌, List, Err, IfSome, IsTrue, Ok, length, map};
+ghost use Rattle.std.specs.Prelude.{◌≡◌, ◌≢◌, ◌⊎◌, false, true, ℕ, ◌<◌, List, Err, IfSome, IsTrue, Ok, length, map};
 ghost use Rattle.std.specs.String.{string_bytes};
 ghost use Rattle.std.specs.Io.KnownBytes.{Keeps};
 ghost use Rattle.clap.specs.Kinds.{Kinds};
 ghost use Rattle.gl_outside.specs.Fault.{Rose};
 ghost use Rattle.gl_outside.specs.Sink.{AppendsFront};
+ghost use Rattle.gl_consortium.specs.declared.signing.Signing.{Signing};
+ghost use Rattle.gl_journal.specs.Durable.{journal_header};
+ghost use Rattle.gl_journal.specs.Parts.{HasGate};
 ghost use Rattle.gl_journal.specs.declared.key.KeyKind.{KeyKind};
 ghost use Rattle.gl_lms.specs.declared.types.Types.{Types};
 ghost use Rattle.ccfg.specs.declared.ending.Ending.{Ending as Endings};
-ghost use Rattle.ccfg.specs.declared.ending.Ending.TheVariants.{DiskFailed, Done, NoReading, NotValid, SourceFailed};
-ghost use Rattle.ccfg.specs.declared.words.Task.TheVariants.{Keygen, Verify};
+ghost use Rattle.ccfg.specs.declared.ending.Ending.TheVariants.{DiskFailed, Done, Memory, NoReading, NotValid, PastLimit, SinkFailed, SourceFailed};
+ghost use Rattle.ccfg.specs.declared.words.Task.TheVariants.{Keygen, Sign, Verify};
 ghost use Rattle.ccfg.specs.declared.words.Task.{Task as Tasks};
 ghost use Rattle.gl_schedule.specs.Moments.{KeepsHeadline, TellsMoments};
 ghost use Rattle.gl_audit.specs.Given.{OfBytes};
-ghost use Rattle.ccfg.specs.Owed.{Answers, EndsSource, OfHeld, Runs, due_of, exit_status};
-ghost use Rattle.ccfg.specs.Plans.{IsUntouched, KeepsKey};
-ghost use Rattle.ccfg.specs.Promises.{IsAnswer, IsKindLine, IsPastLimit, IsRefusal, IsNoReading, Tells, TellsAccepted, TellsFront};
+ghost use Rattle.ccfg.specs.Owed.{Answers, EndsSource, OfShown, Runs, due_of, exit_status, uses_disk};
+ghost use Rattle.ccfg.specs.Plans.{IsUntouched, KeepsKey, MovesByLeaf, OpensAsBefore, SpendsLeaf};
+ghost use Rattle.ccfg.specs.Promises.{IsAnswer, IsFaultLine, IsKindLine, IsPastLimit, IsRefusal, IsNoReading, Tells, TellsAccepted, TellsFront};
 ghost use Rattle.gl_schedule.specs.Schedules.{reads};
 ghost use Rattle.ccfg.specs.Words.{asked};
 
@@ -36,21 +39,34 @@ fn execute<S: Source, K: Sink, D: Disk>(
     sink: &mut K,
     disk: D,
 ) -> (Ending, D)
-    ensures disk { ((kind : KeyKind) (types : Types) → task.now ≢ Keygen kind types)
-        → (result.1 ≡ disk) × (result.0 ≢ DiskFailed) }
+    ensures disk { uses_disk task.now ≡ false → (result.1 ≡ disk) × (result.0 ≢ DiskFailed) }
     ensures accepted { result.0 ≡ Done → (identity : List ℕ)
         → task.now ≡ Verify identity → OfBytes (S.left source.old) (λ given.
         TellsAccepted identity given (K.holds sink.old) (K.holds sink.new)) }
     ensures kept { result.0 ≡ Done → IsTrue D.honest → (kind : KeyKind) (types : Types)
         → task.now ≡ Keygen kind types → OfBytes (S.left source.old)
         (KeepsKey kind types (D.past result.1)) }
-    ensures not_empty { IsTrue D.honest → 0 < length (D.bytes disk)
+    ensures not_empty { IsTrue D.honest → 0 < length (D.bytes disk) → (kind : KeyKind)
+        (types : Types) → task.now ≡ Keygen kind types
         → IsUntouched D.bytes D.past disk result.1 }
     ensures unread { IsTrue D.honest → 0 < length (D.bytes disk) → (kind : KeyKind)
         (types : Types) → task.now ≡ Keygen kind types → source.new ≡ source.old }
     ensures untouched { IsTrue D.honest
         → (result.0 ≡ NotValid) ⊎ (result.0 ≡ SourceFailed) ⊎ (result.0 ≡ NoReading)
+        → (kind : KeyKind) (types : Types) → task.now ≡ Keygen kind types
         → IsUntouched D.bytes D.past disk result.1 }
+    ensures signed { result.0 ≡ Done → IsTrue D.honest → (signing : Signing)
+        → task.now ≡ Sign signing → SpendsLeaf signing (D.bytes disk) (D.past result.1) }
+    ensures spent { IsTrue D.honest
+        → (result.0 ≡ Done) ⊎ (result.0 ≡ SinkFailed) ⊎ (result.0 ≡ Memory) → (signing : Signing)
+        → task.now ≡ Sign signing → SpendsLeaf signing (D.bytes disk) (D.past result.1)
+        ⊎ TellsFront IsFaultLine (K.holds sink.old) (K.holds sink.new) }
+    ensures any_moment { IsTrue D.honest → HasGate journal_header (D.bytes disk)
+        → (signing : Signing) → task.now ≡ Sign signing
+        → MovesByLeaf signing (D.bytes disk) (D.past disk) (D.past result.1) }
+    ensures unspent { IsTrue D.honest → (result.0 ≡ NotValid) ⊎ (result.0 ≡ SourceFailed)
+        ⊎ (result.0 ≡ PastLimit) ⊎ (result.0 ≡ NoReading) → (signing : Signing)
+        → task.now ≡ Sign signing → OpensAsBefore (D.bytes disk) (D.bytes result.1) }
     ensures runs { Runs result.0 (record {
       disk = record {
         honest = D.honest;
@@ -72,7 +88,7 @@ fn execute<S: Source, K: Sink, D: Disk>(
 {
     let (plan, disk) = read_plan(alloc, task, source, disk);
     match plan {
-        Ok(plan) => (carry_out(alloc, &plan, sink), disk),
+        Ok(plan) => (carry_out(alloc, plan, sink), disk),
         Err(stop) => (stop.ending(), disk),
     }
 }
@@ -86,9 +102,8 @@ fn run<S: Source, K: Sink, D: Disk>(
 ) -> (Ending, D)
     ensures source { (kinds : Kinds) → asked (map string_bytes words.now) ≡ Err kinds
         → source.new ≡ source.old }
-    ensures disk { ((kind : KeyKind) (types : Types)
-        → asked (map string_bytes words.now) ≢ Ok (Keygen kind types))
-        → (result.1 ≡ disk) × (result.0 ≢ DiskFailed) }
+    ensures disk { ((task : Tasks) → asked (map string_bytes words.now) ≡ Ok task
+        → uses_disk task ≡ false) → (result.1 ≡ disk) × (result.0 ≢ DiskFailed) }
     ensures accepted { result.0 ≡ Done → (identity : List ℕ)
         → asked (map string_bytes words.now) ≡ Ok (Verify identity)
         → OfBytes (S.left source.old) (λ given.
@@ -96,14 +111,32 @@ fn run<S: Source, K: Sink, D: Disk>(
     ensures kept { result.0 ≡ Done → IsTrue D.honest → (kind : KeyKind) (types : Types)
         → asked (map string_bytes words.now) ≡ Ok (Keygen kind types) → OfBytes (S.left source.old)
         (KeepsKey kind types (D.past result.1)) }
-    ensures not_empty { IsTrue D.honest → 0 < length (D.bytes disk)
+    ensures not_empty { IsTrue D.honest → 0 < length (D.bytes disk) → (kind : KeyKind)
+        (types : Types) → asked (map string_bytes words.now) ≡ Ok (Keygen kind types)
         → IsUntouched D.bytes D.past disk result.1 }
     ensures unread { IsTrue D.honest → 0 < length (D.bytes disk) → (kind : KeyKind)
         (types : Types) → asked (map string_bytes words.now) ≡ Ok (Keygen kind types)
         → source.new ≡ source.old }
     ensures untouched { IsTrue D.honest
         → (result.0 ≡ NotValid) ⊎ (result.0 ≡ SourceFailed) ⊎ (result.0 ≡ NoReading)
+        → (kind : KeyKind) (types : Types)
+        → asked (map string_bytes words.now) ≡ Ok (Keygen kind types)
         → IsUntouched D.bytes D.past disk result.1 }
+    ensures signed { result.0 ≡ Done → IsTrue D.honest → (signing : Signing)
+        → asked (map string_bytes words.now) ≡ Ok (Sign signing)
+        → SpendsLeaf signing (D.bytes disk) (D.past result.1) }
+    ensures spent { IsTrue D.honest
+        → (result.0 ≡ Done) ⊎ (result.0 ≡ SinkFailed) ⊎ (result.0 ≡ Memory) → (signing : Signing)
+        → asked (map string_bytes words.now) ≡ Ok (Sign signing)
+        → SpendsLeaf signing (D.bytes disk) (D.past result.1)
+        ⊎ TellsFront IsFaultLine (K.holds sink.old) (K.holds sink.new) }
+    ensures any_moment { IsTrue D.honest → HasGate journal_header (D.bytes disk)
+        → (signing : Signing) → asked (map string_bytes words.now) ≡ Ok (Sign signing)
+        → MovesByLeaf signing (D.bytes disk) (D.past disk) (D.past result.1) }
+    ensures unspent { IsTrue D.honest → (result.0 ≡ NotValid) ⊎ (result.0 ≡ SourceFailed)
+        ⊎ (result.0 ≡ PastLimit) ⊎ (result.0 ≡ NoReading) → (signing : Signing)
+        → asked (map string_bytes words.now) ≡ Ok (Sign signing)
+        → OpensAsBefore (D.bytes disk) (D.bytes result.1) }
     ensures answers { Answers (asked (map string_bytes words.now)) result.0 (record {
       disk = record {
         honest = D.honest;
@@ -132,14 +165,17 @@ fn run<S: Source, K: Sink, D: Disk>(
 
 /// The whole program. The word `replay` replays the schedule that the source gives, and prints what
 /// came of each of its lines; `verify --identity HEX` verifies the receipt that the source gives,
-/// under the service's key HEX, and prints which transaction it shows; `audit --identity HEX` audits
-/// the ledger that the source gives, under the service's key HEX, and prints its last transaction
-/// and that of its last signature; `keygen --kind KIND --types TYPES` begins a key file on the
-/// disk, with the 32 bytes that the source gives as the key's seed, and prints the key's public
-/// form. The answer is the exit status, and the disk: 0 done, 1 the receipt or the ledger is not
-/// valid or the disk is not empty, 2 other words, 3 the source failed, 4 the sink failed, 5 the disk
-/// failed, 7 want of memory, 8 a limit is passed, 9 no schedule, no receipt or no seed. No command
-/// uses the link or the gate yet.
+/// under the service's key HEX, and prints which transaction it shows; `audit --identity HEX`
+/// audits the ledger that the source gives, under the service's key HEX, and prints its last
+/// transaction and that of its last signature; `keygen --kind KIND --types TYPES` begins a key file
+/// on the disk, with the 32 bytes that the source gives as the key's seed, and prints the key's
+/// public form; `endorse`, `genesis` and `sign --identity HEX --member N` sign what the source
+/// gives with the key of the disk's file, and print a node's endorsed key, the ledger that opens a
+/// service, or the request of member N to the service with the key HEX. The answer is the exit
+/// status, and the disk: 0 done, 1 the receipt or the ledger is not valid, the disk is not empty or
+/// nothing is signed, 2 other words, 3 the source failed, 4 the sink failed, 5 the disk failed, 7
+/// want of memory, 8 a limit is passed, 9 no schedule, no receipt, no seed or nothing to sign. No
+/// command uses the link or the gate yet.
 pub fn top<S: Source, K: Sink, D: Disk + Send, L: Link, G: Gate + Sync>(
     alloc: Global,
     words: &[String],
@@ -173,8 +209,8 @@ pub fn top<S: Source, K: Sink, D: Disk + Send, L: Link, G: Gate + Sync>(
     // written.
     ensures done { result.0 ≡ 0 → (task : Tasks) × (asked (map string_bytes words.now) ≡ Ok task)
         × (S.ended source.new ≡ true)
-        × OfHeld D.honest (D.bytes disk) (λ held. OfBytes (S.left source.old) (λ given.
-        Tells (IsAnswer task held given) (K.holds sink.old) (K.holds sink.new))) }
+        × OfShown D.honest (D.bytes disk) (λ shown. OfBytes (S.left source.old) (λ given.
+        Tells (IsAnswer task shown given) (K.holds sink.old) (K.holds sink.new))) }
     // 0, for `verify`: the bytes are a receipt that is accepted for the transaction that is told
     // under the key.
     ensures accepted { result.0 ≡ 0 → (identity : List ℕ)
@@ -186,14 +222,32 @@ pub fn top<S: Source, K: Sink, D: Disk + Send, L: Link, G: Gate + Sync>(
     ensures kept { result.0 ≡ 0 → IsTrue D.honest → (kind : KeyKind) (types : Types)
         → asked (map string_bytes words.now) ≡ Ok (Keygen kind types)
         → OfBytes (S.left source.old) (KeepsKey kind types (D.past result.1)) }
+    // 0, for what is signed on an honest disk: the disk had a key file, and whatever a stop leaves
+    // of it opens to the state in which its next leaf is spent, and to nothing else.
+    ensures signed { result.0 ≡ 0 → IsTrue D.honest → (signing : Signing)
+        → asked (map string_bytes words.now) ≡ Ok (Sign signing)
+        → SpendsLeaf signing (D.bytes disk) (D.past result.1) }
+    // 0, 4 and 7: so it is there too, unless what was written is a front of a fault's line, or
+    // nothing.
+    ensures spent { IsTrue D.honest → (result.0 ≡ 0) ⊎ (result.0 ≡ 4) ⊎ (result.0 ≡ 7)
+        → (signing : Signing) → asked (map string_bytes words.now) ≡ Ok (Sign signing)
+        → SpendsLeaf signing (D.bytes disk) (D.past result.1)
+        ⊎ TellsFront IsFaultLine (K.holds sink.old) (K.holds sink.new) }
+    // Whatever the status: where something is to be signed, and the file of an honest disk has its
+    // closed gate and opens to a state, then at every moment each image that a stop may leave is one
+    // that it might have left before, or opens to that state, or to the one with the next leaf spent.
+    ensures any_moment { IsTrue D.honest → HasGate journal_header (D.bytes disk)
+        → (signing : Signing) → asked (map string_bytes words.now) ≡ Ok (Sign signing)
+        → MovesByLeaf signing (D.bytes disk) (D.past disk) (D.past result.1) }
     // 1: the words ask for a task, and exactly the line was written that tells why the bytes'
-    // receipt or ledger is not valid, or that the disk isn't empty. The source gave its end, unless
-    // the line tells an entry that breaks a rule, or of the disk: then nothing is said of the end.
+    // receipt or ledger is not valid, that the disk isn't empty, or why nothing is signed. The
+    // source gave its end, unless the line tells an entry that breaks a rule, or of the disk: then
+    // nothing is said of the end.
     ensures not_valid { result.0 ≡ 1 → (task : Tasks)
         × (asked (map string_bytes words.now) ≡ Ok task)
-        × OfHeld D.honest (D.bytes disk) (λ held. OfBytes (S.left source.old) (λ given.
-        EndsSource (due_of task held given) (S.ended source.new)
-        × Tells (IsRefusal task held given) (K.holds sink.old) (K.holds sink.new))) }
+        × OfShown D.honest (D.bytes disk) (λ shown. OfBytes (S.left source.old) (λ given.
+        EndsSource (due_of task shown given) (S.ended source.new)
+        × Tells (IsRefusal task shown given) (K.holds sink.old) (K.holds sink.new))) }
     // 2: the words ask for nothing, and exactly the line of a kind of their fault was written.
     ensures words { result.0 ≡ 2 → (kinds : Kinds)
         × (asked (map string_bytes words.now) ≡ Err kinds)
@@ -209,22 +263,23 @@ pub fn top<S: Source, K: Sink, D: Disk + Send, L: Link, G: Gate + Sync>(
     // 4 and 7: a front of what is due was written.
     ensures front { (result.0 ≡ 4) ⊎ (result.0 ≡ 7) → (task : Tasks)
         → asked (map string_bytes words.now) ≡ Ok task
-        → OfHeld D.honest (D.bytes disk) (λ held. OfBytes (S.left source.old) (λ given.
-        AppendsFront (K.holds sink.old) (K.holds sink.new) (due_of task held given).text)) }
-    // 5: the words ask for a key, the disk failed, by its count of faults, and nothing was written.
-    ensures disk_failed { result.0 ≡ 5 → (kind : KeyKind) × (types : Types)
-        × (asked (map string_bytes words.now) ≡ Ok (Keygen kind types))
+        → OfShown D.honest (D.bytes disk) (λ shown. OfBytes (S.left source.old) (λ given.
+        AppendsFront (K.holds sink.old) (K.holds sink.new) (due_of task shown given).text)) }
+    // 5: the words ask for a task that uses the disk, the disk failed, by its count of faults, and
+    // nothing was written.
+    ensures disk_failed { result.0 ≡ 5 → (task : Tasks)
+        × (asked (map string_bytes words.now) ≡ Ok task) × (uses_disk task ≡ true)
         × Rose (D.faults disk) (D.faults result.1) × Keeps (K.holds sink.old) (K.holds sink.new) }
     // 8: the bytes pass a limit of the task, and exactly the line that names it was written.
     ensures limits { result.0 ≡ 8 → (task : Tasks) × (asked (map string_bytes words.now) ≡ Ok task)
-        × OfHeld D.honest (D.bytes disk) (λ held. OfBytes (S.left source.old) (λ given.
-        Tells (IsPastLimit task held given) (K.holds sink.old) (K.holds sink.new))) }
+        × OfShown D.honest (D.bytes disk) (λ shown. OfBytes (S.left source.old) (λ given.
+        Tells (IsPastLimit task shown given) (K.holds sink.old) (K.holds sink.new))) }
     // 9: the bytes are within the limits and have no reading, and exactly the line was written that
     // tells where.
     ensures no_reading { result.0 ≡ 9 → (task : Tasks)
         × (asked (map string_bytes words.now) ≡ Ok task)
-        × OfHeld D.honest (D.bytes disk) (λ held. OfBytes (S.left source.old) (λ given.
-        Tells (IsNoReading task held given) (K.holds sink.old) (K.holds sink.new))) }
+        × OfShown D.honest (D.bytes disk) (λ shown. OfBytes (S.left source.old) (λ given.
+        Tells (IsNoReading task shown given) (K.holds sink.old) (K.holds sink.new))) }
     // This never comes.
     ensures never { result.0 ≢ 6 }
     // Words that ask for nothing: 2 and the line of a kind of their fault, or 4 or 7 and a front.
@@ -240,44 +295,54 @@ pub fn top<S: Source, K: Sink, D: Disk + Send, L: Link, G: Gate + Sync>(
         (types : Types) → asked (map string_bytes words.now) ≡ Ok (Keygen kind types)
         → source.new ≡ source.old }
     // and then the disk has the bytes that it had, and a stop leaves what it might have left.
-    ensures not_empty { IsTrue D.honest → 0 < length (D.bytes disk)
+    ensures not_empty { IsTrue D.honest → 0 < length (D.bytes disk) → (kind : KeyKind)
+        (types : Types) → asked (map string_bytes words.now) ≡ Ok (Keygen kind types)
         → IsUntouched D.bytes D.past disk result.1 }
-    // So it is where the bytes are refused, or the source failed.
+    // So it is where `keygen` refuses the bytes, or the source failed.
     ensures untouched { IsTrue D.honest → (result.0 ≡ 1) ⊎ (result.0 ≡ 3) ⊎ (result.0 ≡ 9)
+        → (kind : KeyKind) (types : Types)
+        → asked (map string_bytes words.now) ≡ Ok (Keygen kind types)
         → IsUntouched D.bytes D.past disk result.1 }
-    // `keygen` alone uses the disk: with other words it is as it was.
-    ensures disk { ((kind : KeyKind) (types : Types)
-        → asked (map string_bytes words.now) ≢ Ok (Keygen kind types)) → result.1 ≡ disk }
+    // Where nothing is signed, since it is refused, a limit is passed or the source failed, an
+    // honest disk's key file opens to what it opened to: no leaf is spent.
+    ensures unspent { IsTrue D.honest
+        → (result.0 ≡ 1) ⊎ (result.0 ≡ 3) ⊎ (result.0 ≡ 8) ⊎ (result.0 ≡ 9)
+        → (signing : Signing) → asked (map string_bytes words.now) ≡ Ok (Sign signing)
+        → OpensAsBefore (D.bytes disk) (D.bytes result.1) }
+    // Words that ask for no task that uses the disk leave it as it was.
+    ensures disk { ((task : Tasks) → asked (map string_bytes words.now) ≡ Ok task
+        → uses_disk task ≡ false) → result.1 ≡ disk }
     // No command uses the link.
     ensures link { link.new ≡ link.old }
     // Unless the source, the sink or the disk fails or memory runs out: bytes with an answer
     // give 0,
     ensures answered { (task : Tasks) → asked (map string_bytes words.now) ≡ Ok task
-        → OfHeld D.honest (D.bytes disk) (λ held. IfSome (S.left source.old) (λ given.
-        (text : List ℕ) → IsAnswer task held given text
+        → OfShown D.honest (D.bytes disk) (λ shown. IfSome (S.left source.old) (λ given.
+        (text : List ℕ) → IsAnswer task shown given text
         → (result.0 ≡ 0) ⊎ (result.0 ≡ 3) ⊎ (result.0 ≡ 4) ⊎ (result.0 ≡ 5) ⊎ (result.0 ≡ 7))) }
-    // a receipt or a ledger that is not valid, or a disk that isn't empty, gives 1,
+    // a receipt or a ledger that is not valid, a disk that isn't empty, or what isn't signed, gives
+    // 1,
     ensures refused { (task : Tasks) → asked (map string_bytes words.now) ≡ Ok task
-        → OfHeld D.honest (D.bytes disk) (λ held. IfSome (S.left source.old) (λ given.
-        (text : List ℕ) → IsRefusal task held given text
+        → OfShown D.honest (D.bytes disk) (λ shown. IfSome (S.left source.old) (λ given.
+        (text : List ℕ) → IsRefusal task shown given text
         → (result.0 ≡ 1) ⊎ (result.0 ≡ 3) ⊎ (result.0 ≡ 4) ⊎ (result.0 ≡ 5) ⊎ (result.0 ≡ 7))) }
     // bytes that pass a limit give 8,
     ensures past_limits { (task : Tasks) → asked (map string_bytes words.now) ≡ Ok task
-        → OfHeld D.honest (D.bytes disk) (λ held. IfSome (S.left source.old) (λ given.
-        (text : List ℕ) → IsPastLimit task held given text
+        → OfShown D.honest (D.bytes disk) (λ shown. IfSome (S.left source.old) (λ given.
+        (text : List ℕ) → IsPastLimit task shown given text
         → (result.0 ≡ 8) ⊎ (result.0 ≡ 3) ⊎ (result.0 ≡ 4) ⊎ (result.0 ≡ 5) ⊎ (result.0 ≡ 7))) }
     // and bytes within the limits without a reading give 9.
     ensures unread { (task : Tasks) → asked (map string_bytes words.now) ≡ Ok task
-        → OfHeld D.honest (D.bytes disk) (λ held. IfSome (S.left source.old) (λ given.
-        (text : List ℕ) → IsNoReading task held given text
+        → OfShown D.honest (D.bytes disk) (λ shown. IfSome (S.left source.old) (λ given.
+        (text : List ℕ) → IsNoReading task shown given text
         → (result.0 ≡ 9) ⊎ (result.0 ≡ 3) ⊎ (result.0 ≡ 4) ⊎ (result.0 ≡ 5) ⊎ (result.0 ≡ 7))) }
     // A source, a sink and a disk that don't fail: the status that is owed, or want of memory.
     ensures complete { (task : Tasks) → asked (map string_bytes words.now) ≡ Ok task
         → (Rose (S.faults source.old) (S.faults source.new) → ⊥)
         → (Rose (K.faults sink.old) (K.faults sink.new) → ⊥)
         → (Rose (D.faults disk) (D.faults result.1) → ⊥)
-        → OfHeld D.honest (D.bytes disk) (λ held. IfSome (S.left source.old) (λ given.
-        (result.0 ≡ exit_status (due_of task held given).ending) ⊎ (result.0 ≡ 7))) }
+        → OfShown D.honest (D.bytes disk) (λ shown. IfSome (S.left source.old) (λ given.
+        (result.0 ≡ exit_status (due_of task shown given).ending) ⊎ (result.0 ≡ 7))) }
     // Whatever bytes are read: each line of their schedule, if they are one, is told in a moment of
     // the events of which the headline speaks.
     ensures moments { (given : List ℕ) → TellsMoments (reads given) }

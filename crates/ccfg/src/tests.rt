@@ -11,6 +11,7 @@ mod nodes;
 mod receipts;
 mod roles;
 mod schedules;
+mod signing;
 mod words;
 
 /// A first line with these numbers and this state and a seed of zeros, with its newline.

@@ -8,16 +8,13 @@ ghost use Rattle.ccfg.specs.Plans.{ShowsAccepted, PlansPlayable, due_of_plan};
 ghost use Rattle.ccfg.specs.declared.words.Task.TheVariants.{Verify};
 
 use crate::fault::Fault;
-use crate::load::{LoadStop, load};
+use crate::load::{JSON_LIMIT, LoadStop, load};
 use crate::plan::{Plan, PlanStop};
 use gl_base::{OrNoMemory, TxId};
 use gl_outside::Source;
 use gl_receipt::{read_receipt, verify};
 use gl_requests::HssPublicKey;
 use std::alloc::{AllocError, Global};
-
-/// The most bytes that JSON has.
-const JSON_LIMIT: usize = 1_048_576;
 
 /// What there is to do with a text within the limit on JSON that is to be a receipt under this key.
 #[tactic(auto, unfolding(crate::specs::Owed::due_of_receipt))]

@@ -1,19 +1,23 @@
 //! The words that the program is called with.
 
-ghost use Rattle.std.specs.Prelude.{◌≡◌, ◌∷◌, [], Err, IfErr, IfOk, Ok, codes, false, map, option_map};
+ghost use Rattle.std.specs.Prelude.{◌≡◌, ◌∷◌, [], Err, IfErr, IfOk, Ok, codes, false, map, option_map, true};
 ghost use Rattle.std.specs.String.{string_bytes};
+ghost use Rattle.clap.specs.declared.error.kind.ErrorKind.{ErrorKind};
 ghost use Rattle.clap.specs.Faults.{fault_of};
 ghost use Rattle.clap.specs.Simple.{subcommand_of, subcommand_rows_of};
 ghost use Rattle.clap.specs.Walk.{rule_of};
+ghost use Rattle.std.specs.Char.{is_ascii_digit};
+ghost use Rattle.gl_lines.specs.Numbers.{is_decimal};
 ghost use Rattle.gl_lines.specs.Words.{hex_sized, is_lower_digit};
 ghost use Rattle.std.specs.List.{list_all};
-ghost use Rattle.ccfg.specs.Words.{IsCommand, RefusesWords, asked, asked_command, asked_identity, asked_keygen, asked_name, asked_options, audit_command, bare_program, diskless_program, identity_option, keygen_command, kind_option, named_kind, named_types, program, spelled_key, task_under, types_option, verify_command};
+ghost use Rattle.ccfg.specs.Words.{IsCommand, RefusesWords, asked, asked_command, asked_identity, asked_keygen, asked_member, asked_name, asked_options, asked_sign, asked_with_identity, audit_command, bare_program, diskless_program, identity_option, is_member, keygen_command, keyless_program, kind_option, member_option, named_kind, named_types, plain_task, program, sign_command, spelled_key, spelled_member, task_under, types_option, verify_command};
 ghost use Rattle.clap.specs.Walk.{first_of, rows_of};
 ghost use Rattle.clap.specs.Matches.{found_of};
 
 use crate::help::VERSION;
 use clap::error::ErrorKind;
 use clap::{Arg, ArgMatches, Command};
+use gl_consortium::Signing;
 use gl_journal::KeyKind;
 use gl_lms::Types;
 use gl_requests::HssPublicKey;
@@ -31,6 +35,8 @@ pub enum Task {
     Audit { identity: HssPublicKey },
     /// To begin a key file, and tell the public form of its key.
     Keygen { kind: KeyKind, types: Types },
+    /// To sign with the key of a file, and tell what that comes to.
+    Sign { signing: Signing },
 }
 
 /// Why words ask for nothing.
@@ -38,7 +44,7 @@ pub enum Task {
 pub enum WordsFault {
     NoMemory,
     /// They are not those of a command: what `clap` finds wrong with them, or that a word isn't the
-    /// hexadecimal that is wanted.
+    /// hexadecimal or the number that is wanted.
     Refused(ErrorKind),
 }
 
@@ -83,6 +89,21 @@ fn keygen_command<'a>(alloc: Global) -> Result<Command<'a>, AllocError>
         .arg(types_option(alloc))
 }
 
+fn member_option<'a>(alloc: Global) -> Arg<'a>
+    ensures rule { rule_of result ≡ member_option }
+    ensures local { result.global ≡ false }
+{
+    Arg::new(alloc, "member").long("member").required(true)
+}
+
+fn sign_command<'a>(alloc: Global) -> Result<Command<'a>, AllocError>
+    ensures { IfOk result (IsCommand sign_command) }
+{
+    Command::new(alloc, "sign")
+        .arg(identity_option(alloc))?
+        .arg(member_option(alloc))
+}
+
 /// The program without its commands.
 fn bare_program<'a>(alloc: Global) -> Command<'a>
     ensures { IsCommand bare_program result }
@@ -105,11 +126,23 @@ fn diskless_program<'a>(alloc: Global) -> Result<Command<'a>, AllocError>
         .subcommand(audit_command(alloc)?)
 }
 
+/// And with the one that begins a key.
+#[tactic(auto, unfolding(crate::specs::Words::keyless_program))]
+fn keyless_program<'a>(alloc: Global) -> Result<Command<'a>, AllocError>
+    ensures { IfOk result (IsCommand keyless_program) }
+{
+    diskless_program(alloc)?.subcommand(keygen_command(alloc)?)
+}
+
+/// And with those that sign with a key.
 #[tactic(auto, unfolding(crate::specs::Words::program))]
 fn program<'a>(alloc: Global) -> Result<Command<'a>, AllocError>
     ensures { IfOk result (IsCommand program) }
 {
-    diskless_program(alloc)?.subcommand(keygen_command(alloc)?)
+    keyless_program(alloc)?
+        .subcommand(Command::new(alloc, "endorse"))?
+        .subcommand(Command::new(alloc, "genesis"))?
+        .subcommand(sign_command(alloc)?)
 }
 
 fn is_lower_hex(word: &str) -> bool
@@ -224,6 +257,93 @@ fn asked_keygen(kind: Option<&str>, types: Option<&str>) -> Result<Task, ErrorKi
     }
 }
 
+fn are_digits(text: &[u8]) -> bool
+    ensures { result ≡ list_all is_ascii_digit text.now }
+{
+    text.iter().all(|byte| byte.is_ascii_digit())
+}
+
+/// Whether a text is decimal digits, without a leading zero.
+fn is_decimal(text: &[u8]) -> bool
+    ensures { result ≡ is_decimal text.now }
+{
+    1 <= text.len() && are_digits(text) && (text[0] != b'0' || text.len() == 1)
+}
+
+/// A number that a member may have: not 0.
+fn member_number(number: u8) -> Result<u8, ErrorKind>
+    ensures found { IfOk result (λ n. (n ≡ number) × (is_member number ≡ true)) }
+    ensures refused { IfErr result (λ kind.
+        (kind ≡ ErrorKind.ValueValidation) × (is_member number ≡ false)) }
+{
+    if number == 0 {
+        Err(ErrorKind::ValueValidation)
+    } else {
+        Ok(number)
+    }
+}
+
+/// The member's number that a word spells.
+fn spelled_member(word: &str) -> Result<u8, ErrorKind>
+    ensures found { IfOk result (λ number. spelled_member word.now ≡ Ok number) }
+    ensures refused { IfErr result (λ kind. spelled_member word.now ≡ Err (kind ∷ [])) }
+{
+    if !is_decimal(word.as_bytes()) {
+        return Err(ErrorKind::ValueValidation);
+    }
+    match word.parse::<u8>() {
+        Ok(number) => member_number(number),
+        Err(_) => Err(ErrorKind::ValueValidation),
+    }
+}
+
+/// The member's number that the option of a command spells.
+fn asked_member(word: Option<&str>) -> Result<u8, ErrorKind>
+    ensures found { IfOk result (λ number.
+        asked_member (option_map (λ s. s.now) word.entry) ≡ Ok number) }
+    ensures refused { IfErr result (λ kind.
+        asked_member (option_map (λ s. s.now) word.entry) ≡ Err (kind ∷ [])) }
+{
+    match word {
+        Some(word) => spelled_member(word),
+        None => Err(ErrorKind::MissingRequiredArgument),
+    }
+}
+
+/// The request that the options of `sign` ask for.
+fn asked_sign(identity: Option<&str>, member: Option<&str>) -> Result<Task, ErrorKind>
+    ensures found { IfOk result (λ task. asked_sign (option_map (λ s. s.now) identity.entry)
+        (option_map (λ s. s.now) member.entry) ≡ Ok task) }
+    ensures refused { IfErr result (λ told. asked_sign (option_map (λ s. s.now) identity.entry)
+        (option_map (λ s. s.now) member.entry) ≡ Err (told ∷ [])) }
+{
+    match asked_identity(identity) {
+        Ok(identity) => match asked_member(member) {
+            Ok(member) => Ok(Task::Sign {
+                signing: Signing::Request { identity, member },
+            }),
+            Err(told) => Err(told),
+        },
+        Err(told) => Err(told),
+    }
+}
+
+/// What a command with an option for a service's key asks for.
+fn asked_with_identity(name: &str, options: &ArgMatches) -> Result<Task, ErrorKind>
+    ensures found { IfOk result (λ task.
+        asked_with_identity name.now (rows_of (found_of options.now)) ≡ Ok task) }
+    ensures refused { IfErr result (λ kind.
+        asked_with_identity name.now (rows_of (found_of options.now)) ≡ Err (kind ∷ [])) }
+{
+    if name == "sign" {
+        return asked_sign(options.get_str("identity"), options.get_str("member"));
+    }
+    match asked_identity(options.get_str("identity")) {
+        Ok(identity) => Ok(task_under(name, identity)),
+        Err(kind) => Err(kind),
+    }
+}
+
 /// What a command with options asks for.
 fn asked_options(name: &str, options: &ArgMatches) -> Result<Task, ErrorKind>
     ensures found { IfOk result (λ task.
@@ -232,11 +352,25 @@ fn asked_options(name: &str, options: &ArgMatches) -> Result<Task, ErrorKind>
         asked_options name.now (rows_of (found_of options.now)) ≡ Err (kind ∷ [])) }
 {
     if name == "keygen" {
-        return asked_keygen(options.get_str("kind"), options.get_str("types"));
+        asked_keygen(options.get_str("kind"), options.get_str("types"))
+    } else {
+        asked_with_identity(name, options)
     }
-    match asked_identity(options.get_str("identity")) {
-        Ok(identity) => Ok(task_under(name, identity)),
-        Err(kind) => Err(kind),
+}
+
+/// What a command without options asks for.
+fn plain_task(name: &str) -> Option<Task>
+    ensures { result ≡ plain_task name.now }
+{
+    match name {
+        "replay" => Some(Task::Replay),
+        "endorse" => Some(Task::Sign {
+            signing: Signing::Endorsement,
+        }),
+        "genesis" => Some(Task::Sign {
+            signing: Signing::Opening,
+        }),
+        _ => None,
     }
 }
 
@@ -247,13 +381,10 @@ fn asked_command(matches: &ArgMatches) -> Result<Task, ErrorKind>
         asked_command (subcommand_rows_of matches.now) ≡ Err (kind ∷ [])) }
 {
     match matches.subcommand() {
-        Some((name, options)) => {
-            if name == "replay" {
-                Ok(Task::Replay)
-            } else {
-                asked_options(name, options)
-            }
-        }
+        Some((name, options)) => match plain_task(name) {
+            Some(task) => Ok(task),
+            None => asked_options(name, options),
+        },
         None => Err(ErrorKind::MissingSubcommand),
     }
 }

@@ -1,5 +1,9 @@
 mod Sizes
 mod Putting
+mod SetParts
+mod Selected
+mod Untouched
+mod TouchedRows
 mod Numbers
 mod RowSizes
 mod States

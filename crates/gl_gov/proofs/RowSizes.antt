@@ -1,6 +1,6 @@
 -- The bounds of a history as those of its rows.
-use Rattle.std.proofs.Common.{◌≡◌, ℕ, suc, ◌≤◌, List, [], ◌∷◌, true, length, ◌∙◌, ap}
-use Rattle.std.specs.List.{flat_map, list_all, AllByRecursion}
+use Rattle.std.proofs.Common.{◌≡◌, ℕ, ◌≤◌, true, length, ◌∙◌, ap}
+use Rattle.std.specs.List.{flat_map, list_all}
 use Rattle.std.proofs.lemmas.Bool.{and_parts}
 use Rattle.gl_requests.specs.Spelling.{action_bytes}
 use Rattle.gl_requests.specs.Ranges.{is_action_count, is_action}
@@ -9,8 +9,7 @@ use Rattle.gl_gov_rules.specs.declared.change.Proposal.{Proposal}
 use Rattle.gl_gov_rules.specs.declared.row.NodeRow.{NodeRow}
 use Rattle.gl_gov_rules.specs.declared.row.ProposalRow.{ProposalRow}
 use Rattle.gl_gov_rules.specs.History.{History}
-use Rattle.gl_gov_rules.specs.Nodes.{nodes}
-use Rattle.gl_gov_rules.specs.Rows.{node_row, node_rows_from, node_rows, proposal_row}
+use Rattle.gl_gov_rules.specs.Rows.{node_row, proposal_row}
 use Rattle.gl_gov_rules.specs.Governed.{IsBoundedProposal}
 
 -- ---- nodes
@@ -18,19 +17,9 @@ use Rattle.gl_gov_rules.specs.Governed.{IsBoundedProposal}
 abbrev IsSmallNode : NodeRow → Type 0
 IsSmallNode n = length n.endorsement ≤ 2508
 
-node_row-small : (h : History) (order : ℕ) (n : RecordedNode) → length n.node.endorsement ≤ 2508 → IsSmallNode (node_row h order n)
+pub node_row-small : (h : History) (order : ℕ) (n : RecordedNode) → length n.node.endorsement ≤ 2508 → IsSmallNode (node_row h order n)
 unfolding node_row
 node_row-small h order n small = small
-
-node_rows_from-small : (h : History) (order : ℕ) (ns : List RecordedNode) → AllByRecursion (λ (n : RecordedNode). length n.node.endorsement ≤ 2508) ns →
-    AllByRecursion IsSmallNode (node_rows_from h order ns)
-node_rows_from-small h order [] all = tt
-node_rows_from-small h order (n ∷ ns) all = (node_row-small h order n all.0, node_rows_from-small h (suc order) ns all.1)
-
-pub node_rows-small : (h : History) → AllByRecursion (λ (n : RecordedNode). length n.node.endorsement ≤ 2508) (nodes h) →
-    AllByRecursion (λ (n : NodeRow). length n.endorsement ≤ 2508) (node_rows h)
-unfolding node_rows
-node_rows-small h all = node_rows_from-small h 1 (nodes h) all
 
 -- ---- proposals
 

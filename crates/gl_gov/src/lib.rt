@@ -6,7 +6,9 @@ pub use state::{GovState, is_founding};
 
 mod between;
 mod effect;
+mod put;
 mod rows;
 mod state;
 #[cfg(test)]
 mod tests;
+mod touched;

@@ -1,23 +1,23 @@
 //! The rows of the governance tables (CCF documentation, "Builtin Maps"). Numbers have their least
 //! significant byte first.
 
-ghost use Rattle.std.specs.Prelude.{◌≡◌, ◌≤◌, ◌<◌, ◌^◌, ◌+◌, ◌*◌, ◌++◌, ◌∷◌, [], length, map, IfOk, IfSome, IsTrue, OnOk, Some, true};
-ghost use Rattle.std.specs.List.{flat_map, list_all, cons_option, AllByRecursion};
+ghost use Rattle.std.specs.Prelude.{◌≡◌, ℕ, ◌≤◌, ◌<◌, ◌^◌, ◌+◌, ◌*◌, ◌++◌, ◌∷◌, List, [], length, map, IfOk, IsTrue, OnOk, true};
+ghost use Rattle.std.specs.List.{flat_map, list_all, cons_option};
 ghost use Rattle.gl_vmaps.specs.Name.{is_map_name, is_value};
-ghost use Rattle.gl_vmaps.specs.Changes.{row, set_from};
-ghost use Rattle.gl_vmaps.specs.Writes.{with_write};
+ghost use Rattle.gl_vmaps.specs.Changes.{row};
 ghost use Rattle.gl_requests.specs.Spelling.{rule_bytes, action_bytes};
-ghost use Rattle.gl_requests.specs.Ranges.{is_dealing, are_rules, is_action};
-ghost use Rattle.gl_gov_rules.specs.Service.{constitution, dealing};
-ghost use Rattle.gl_gov_rules.specs.Rows.{constitution_map, service_row, service_write, member_row, member_rows, member_write, node_row, node_rows, node_write, vote_of, votes, proposal_row, vote_bytes, proposal_write, proposal_writes, rule_writes_from, rule_writes_of, dealing_write, share_write, write_of, rows};
+ghost use Rattle.gl_requests.specs.Ranges.{is_dealing, is_action};
+ghost use Rattle.gl_gov_rules.specs.Service.{dealing};
+ghost use Rattle.gl_gov_rules.specs.Rows.{constitution_map, service_row, service_write, member_row, member_rows, member_write, node_row, node_rows, node_write, vote_of, votes, proposal_row, vote_bytes, proposal_write, dealing_write, share_write};
 ghost use Rattle.gl_gov_rules.specs.History.{seqno_of};
 ghost use Rattle.gl_gov_rules.specs.Nodes.{nodes, retirement};
-ghost use Rattle.gl_gov_rules.specs.Proposals.{proposals};
-ghost use Rattle.gl_gov_rules.specs.Governed.{IsBoundedProposal, IsBounded};
+ghost use Rattle.gl_gov_rules.specs.Proposals.{proposal_state, ballots_on};
+ghost use Rattle.gl_gov_rules.specs.declared.change.Recorded.{Recorded};
 
 use gl_base::{Bytes, Sequence, put_bytes, put_flag, put_u8, put_u16, put_u32, put_u64};
 use gl_gov_rules::{
-    History, MemberRow, NodeRow, Proposal, ProposalRow, RecordedNode, ServiceRow, Vote,
+    Ballot, History, MemberRow, NodeRow, Proposal, ProposalRow, ProposalState, RecordedNode,
+    ServiceRow, Vote, has_vote,
 };
 use gl_requests::{Dealing, NewMember, Rule, actions_bytes, copy_actions};
 use gl_shares::Share;
@@ -53,7 +53,7 @@ fn row(alloc: Global, map: &[u8], key: &[u8], value: Vec<u8>) -> Result<Write, A
 
 // The constitution, the dealing, and shares
 
-fn rule_write(alloc: Global, number: u8, rule: &Rule) -> Result<Write, AllocError>
+pub fn rule_write(alloc: Global, number: u8, rule: &Rule) -> Result<Write, AllocError>
     ensures { IfOk result (λ write.
         write ≡ row constitution_map (number ∷ []) (rule_bytes rule.now)) }
 {
@@ -61,29 +61,7 @@ fn rule_write(alloc: Global, number: u8, rule: &Rule) -> Result<Write, AllocErro
     row(alloc, b"public:ccf.gov.constitution", &[number], value)
 }
 
-/// Puts the rows of rules, from that of action 1 on.
-fn put_rules(alloc: Global, writes: &mut Writes, rules: &[Rule]) -> Result<(), AllocError>
-    requires { length rules.now ≡ 7 }
-    ensures { OnOk result (writes.new ≡ set_from writes.old (rule_writes_from 1 rules.now)) }
-{
-    for (i, rule) in rules.iter().enumerate() {
-        writes.put(rule_write(alloc, i as u8 + 1, rule)?)?;
-    }
-    Ok(())
-}
-
-fn put_constitution(alloc: Global, writes: &mut Writes, past: &History) -> Result<(), AllocError>
-    requires { IfSome (constitution past.now) (λ rules. are_rules rules ≡ true) }
-    ensures { OnOk result (writes.new
-        ≡ set_from writes.old (rule_writes_of (constitution past.now))) }
-{
-    match past.constitution() {
-        None => Ok(()),
-        Some(rules) => put_rules(alloc, writes, rules),
-    }
-}
-
-fn dealing_write(alloc: Global, dealing: &Dealing) -> Result<Write, AllocError>
+pub fn dealing_write(alloc: Global, dealing: &Dealing) -> Result<Write, AllocError>
     requires { is_dealing dealing.now ≡ true }
     ensures { IfOk result (λ write. write ≡ dealing_write dealing.now) }
 {
@@ -95,34 +73,11 @@ fn dealing_write(alloc: Global, dealing: &Dealing) -> Result<Write, AllocError>
     )
 }
 
-fn put_dealing(alloc: Global, writes: &mut Writes, past: &History) -> Result<(), AllocError>
-    requires { IfSome (dealing past.now) (λ d. is_dealing d ≡ true) }
-    ensures { OnOk result (writes.new
-        ≡ set_from writes.old (write_of dealing_write (dealing past.now))) }
-{
-    match past.dealing() {
-        None => Ok(()),
-        Some(dealing) => {
-            writes.put(dealing_write(alloc, dealing)?)?;
-            Ok(())
-        }
-    }
-}
-
-fn share_write(alloc: Global, share: &Share) -> Result<Write, AllocError>
+pub fn share_write(alloc: Global, share: &Share) -> Result<Write, AllocError>
     ensures { IfOk result (λ write. write ≡ share_write share.now) }
 {
     let value = Vec::from_slice(alloc, &share.value)?;
     row(alloc, b"public:ccf.gov.shares", &[share.member], value)
-}
-
-fn put_shares(alloc: Global, writes: &mut Writes, shares: &[Share]) -> Result<(), AllocError>
-    ensures { OnOk result (writes.new ≡ set_from writes.old (map share_write shares.now)) }
-{
-    for share in shares {
-        writes.put(share_write(alloc, share)?)?;
-    }
-    Ok(())
 }
 
 // The service
@@ -142,7 +97,7 @@ pub fn service_row(past: &History) -> Option<ServiceRow>
     }
 }
 
-fn service_write(alloc: Global, service: &ServiceRow) -> Result<Write, AllocError>
+pub fn service_write(alloc: Global, service: &ServiceRow) -> Result<Write, AllocError>
     ensures { IfOk result (λ write. write ≡ service_write service.now) }
 {
     let mut value = Vec::new(alloc);
@@ -152,23 +107,10 @@ fn service_write(alloc: Global, service: &ServiceRow) -> Result<Write, AllocErro
     row(alloc, b"public:ccf.gov.service", b"s", value)
 }
 
-fn put_service(alloc: Global, writes: &mut Writes, past: &History) -> Result<(), AllocError>
-    ensures { OnOk result (writes.new
-        ≡ set_from writes.old (write_of service_write (service_row past.now))) }
-{
-    match service_row(past) {
-        None => Ok(()),
-        Some(service) => {
-            writes.put(service_write(alloc, &service)?)?;
-            Ok(())
-        }
-    }
-}
-
 // Members
 
 #[tactic(auto, unfolding(gl_gov_rules::specs::Rows::member_row))]
-fn member_row(past: &History, member: &NewMember) -> MemberRow
+pub fn member_row(past: &History, member: &NewMember) -> MemberRow
     ensures { result ≡ member_row past.now member.now }
 {
     MemberRow {
@@ -193,7 +135,7 @@ pub fn member_rows(alloc: Global, past: &History) -> Result<Vec<MemberRow>, Allo
 }
 
 #[tactic(auto, using(crate::proofs::Sizes::sizes))]
-fn member_write(alloc: Global, member: &MemberRow) -> Result<Write, AllocError>
+pub fn member_write(alloc: Global, member: &MemberRow) -> Result<Write, AllocError>
     ensures { IfOk result (λ write. write ≡ member_write member.now) }
 {
     let mut value = Vec::new(alloc);
@@ -201,15 +143,6 @@ fn member_write(alloc: Global, member: &MemberRow) -> Result<Write, AllocError>
     put_bytes(&mut value, &member.key)?;
     put_u32(&mut value, member.next_leaf)?;
     row(alloc, b"public:ccf.gov.members", &[member.number], value)
-}
-
-fn put_members(alloc: Global, writes: &mut Writes, members: &[MemberRow]) -> Result<(), AllocError>
-    ensures { OnOk result (writes.new ≡ set_from writes.old (map member_write members.now)) }
-{
-    for member in members {
-        writes.put(member_write(alloc, member)?)?;
-    }
-    Ok(())
 }
 
 // Nodes
@@ -225,7 +158,7 @@ fn removal(past: &History, node: &RecordedNode) -> u64
 }
 
 #[tactic(auto, unfolding(gl_gov_rules::specs::Rows::node_row))]
-fn node_row(
+pub fn node_row(
     alloc: Global,
     past: &History,
     order: u16,
@@ -259,7 +192,7 @@ pub fn node_rows(alloc: Global, past: &History) -> Result<Vec<NodeRow>, AllocErr
 }
 
 #[tactic(auto, using(crate::proofs::Sizes::sizes))]
-fn node_write(alloc: Global, node: &NodeRow) -> Result<Write, AllocError>
+pub fn node_write(alloc: Global, node: &NodeRow) -> Result<Write, AllocError>
     requires { length node.now.endorsement ≤ 2508 }
     ensures { IfOk result (λ write. write ≡ node_write node.now) }
 {
@@ -274,28 +207,20 @@ fn node_write(alloc: Global, node: &NodeRow) -> Result<Write, AllocError>
     row(alloc, b"public:ccf.gov.nodes", &node.id, value)
 }
 
-fn put_nodes(alloc: Global, writes: &mut Writes, nodes: &[NodeRow]) -> Result<(), AllocError>
-    requires { AllByRecursion (λ node. length node.endorsement ≤ 2508) nodes.now }
-    ensures { OnOk result (writes.new ≡ set_from writes.old (map node_write nodes.now)) }
-{
-    for node in nodes {
-        writes.put(node_write(alloc, node)?)?;
-    }
-    Ok(())
-}
-
 // Proposals
 
-/// A member's ballot on a proposal, if it has answered.
-fn vote_of(past: &History, id: &[u8; 32], member: u8) -> Option<Vote>
-    ensures { result ≡ vote_of past.now.requests id.now member }
+/// A member's ballot on the proposal of which these are the ballots, if it has answered.
+#[tactic(auto, using(gl_gov_rules::proofs::Telling::answered_any))]
+fn vote_of(ballots: &[Ballot], member: u8) -> Option<Vote>
+    ensures { (rs : List Recorded) (id : List ℕ) →
+        ballots.now ≡ ballots_on id rs → result ≡ vote_of rs id member }
 {
-    if past.has_answered(id, true, member) {
+    if has_vote(ballots, true, member) {
         Some(Vote {
             member,
             agrees: true,
         })
-    } else if past.has_answered(id, false, member) {
+    } else if has_vote(ballots, false, member) {
         Some(Vote {
             member,
             agrees: false,
@@ -322,11 +247,18 @@ fn votes(alloc: Global, past: &History, id: &[u8; 32]) -> Result<Vec<Vote>, Allo
     ensures votes { IfOk result (λ ballots. ballots.items ≡ votes past.now.requests id.now) }
     ensures few { IfOk result (λ ballots. length ballots.items ≤ 255) }
 {
-    let mut ballots = Vec::new(alloc);
+    let ballots = past.ballots(id);
+    let mut votes = Vec::new(alloc);
     for i in 0..255u8 {
-        push_vote(&mut ballots, vote_of(past, id, i + 1))?;
+        push_vote(&mut votes, vote_of(ballots, i + 1))?;
     }
-    Ok(ballots)
+    Ok(votes)
+}
+
+pub fn state_of(past: &History, proposal: &Proposal) -> ProposalState
+    ensures { result ≡ proposal_state past.now proposal.now }
+{
+    past.proposal_state(proposal)
 }
 
 /// What is known of a proposal.
@@ -340,7 +272,7 @@ pub fn proposal_row(
     ensures few { IfOk result (λ row. length row.ballots ≤ 255) }
 {
     Ok(ProposalRow {
-        state: past.proposal_state(proposal),
+        state: state_of(past, proposal),
         proposer: proposal.proposer,
         actions: copy_actions(alloc, proposal.actions.as_slice())?,
         ballots: Sequence::from(votes(alloc, past, &proposal.id)?),
@@ -360,7 +292,11 @@ fn put_votes(out: &mut Vec<u8>, ballots: &[Vote]) -> Result<(), AllocError>
 }
 
 #[tactic(auto, using(crate::proofs::Sizes::sizes))]
-fn proposal_write(alloc: Global, id: &[u8; 32], proposal: &ProposalRow) -> Result<Write, AllocError>
+pub fn proposal_write(
+    alloc: Global,
+    id: &[u8; 32],
+    proposal: &ProposalRow,
+) -> Result<Write, AllocError>
     requires fit { list_all is_action proposal.now.actions ≡ true }
     requires small { length (flat_map action_bytes proposal.now.actions) ≤ 60000 }
     requires few { length proposal.now.ballots ≤ 255 }
@@ -376,46 +312,4 @@ fn proposal_write(alloc: Global, id: &[u8; 32], proposal: &ProposalRow) -> Resul
     put_u8(&mut value, ballots.len() as u8)?;
     put_votes(&mut value, ballots)?;
     row(alloc, b"public:ccf.gov.proposals", id, value)
-}
-
-fn put_proposal(
-    alloc: Global,
-    writes: &mut Writes,
-    past: &History,
-    proposal: &Proposal,
-) -> Result<(), AllocError>
-    requires { IsBoundedProposal proposal.now }
-    ensures { OnOk result (writes.new ≡ with_write writes.old
-        (proposal_write proposal.now.id (proposal_row past.now proposal.now))) }
-{
-    let row = proposal_row(alloc, past, proposal)?;
-    writes.put(proposal_write(alloc, &proposal.id, &row)?)
-}
-
-#[tactic(auto, unfolding(gl_gov_rules::specs::Rows::proposal_writes))]
-fn put_proposals(alloc: Global, writes: &mut Writes, past: &History) -> Result<(), AllocError>
-    requires { AllByRecursion IsBoundedProposal (proposals past.now) }
-    ensures { OnOk result (writes.new ≡ set_from writes.old (proposal_writes past.now)) }
-{
-    for proposal in past.proposals() {
-        put_proposal(alloc, writes, past, proposal)?;
-    }
-    Ok(())
-}
-
-/// All rows, ascending by map and key.
-#[tactic(auto, using(crate::proofs::Putting::row_parts))]
-pub fn rows(alloc: Global, past: &History) -> Result<Writes, AllocError>
-    requires bounded { IsBounded past.now }
-    ensures { IfOk result (λ writes. writes ≡ rows past.now) }
-{
-    let mut writes = Writes::new(alloc);
-    put_constitution(alloc, &mut writes, past)?;
-    put_dealing(alloc, &mut writes, past)?;
-    put_members(alloc, &mut writes, &member_rows(alloc, past)?)?;
-    put_nodes(alloc, &mut writes, &node_rows(alloc, past)?)?;
-    put_proposals(alloc, &mut writes, past)?;
-    put_service(alloc, &mut writes, past)?;
-    put_shares(alloc, &mut writes, &past.shares_given(alloc)?)?;
-    Ok(writes)
 }

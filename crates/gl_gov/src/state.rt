@@ -1,22 +1,24 @@
 //! The state of governance behind the requests so far.
 
-ghost use Rattle.std.specs.Prelude.{◌≡◌, true, count_by, is_some, length, IfOk};
-ghost use Rattle.gl_requests.specs.Ranges.{is_request, is_member_request};
-ghost use Rattle.gl_gov_rules.specs.Service.{dealing, threshold_of, share_behind, shares_given};
+ghost use Rattle.std.specs.Prelude.{◌≡◌, true, IfOk};
+ghost use Rattle.gl_requests.specs.Ranges.{is_request};
+ghost use Rattle.gl_gov_rules.specs.Service.{dealing, threshold_of};
 ghost use Rattle.gl_gov_rules.specs.Governed.{is_founding};
-ghost use Rattle.gl_gov_rules.specs.ProposalStatus.{named_in_act, proposal_named, status_with, proposal_status};
+ghost use Rattle.gl_gov_rules.specs.ProposalStatus.{status_with, proposal_status};
 ghost use Rattle.gl_gov.specs.State.{share_count};
 
 use crate::between::changes;
 use crate::effect::{GovernanceEffect, ShareCount};
-use crate::rows::{member_rows, node_rows, proposal_row, rows, service_row};
+use crate::put::rows;
+use crate::rows::{member_rows, node_rows, proposal_row, service_row, state_of};
+use crate::touched::{Selection, proposal_named, touched_by};
 use gl_base::OrNoMemory;
 use gl_gov_decisions::{changes_of, refusal};
 use gl_gov_rules::{
-    GovernanceRefusal, History, MemberRow, NodeRow, ProposalRow, ProposalStatus, Recorded,
+    Changed, GovernanceRefusal, History, MemberRow, NodeRow, ProposalRow, ProposalStatus, Recorded,
     ServiceRow,
 };
-use gl_requests::{Digest, GovernanceRequest, MemberAct, MemberRequest};
+use gl_requests::{Digest, GovernanceRequest};
 use gl_vmaps::Writes;
 use std::alloc::{AllocError, Global};
 use std::marker::Model;
@@ -43,16 +45,17 @@ impl Model for GovState {
 }
 
 impl GovState {
-    ghost use Rattle.std.specs.Prelude.{◌≡◌, ◌<◌, ℕ, List, [], ◌∷◌, ◌++◌, true, not, None, length, option_map, IfOk, OnOk, IfErr, OnErr};
-    ghost use Rattle.gl_vmaps.specs.Changes.{changes};
+    ghost use Rattle.std.specs.Prelude.{◌≡◌, ◌<◌, ℕ, List, [], ◌∷◌, ◌++◌, true, not, None, length, map, filter, option_map, IfOk, OnOk, IfErr, OnErr};
+    ghost use Rattle.gl_vmaps.specs.Changes.{write_set, changes};
     ghost use Rattle.gl_requests.specs.Ranges.{is_request};
     ghost use Rattle.gl_gov_rules.specs.Refusals.{refusal};
     ghost use Rattle.gl_gov_rules.specs.Proposals.{proposal};
-    ghost use Rattle.gl_gov_rules.specs.Changes.{history};
-    ghost use Rattle.gl_gov_rules.specs.Rows.{rows, effect_writes, service_row, member_rows, node_rows, proposal_row};
+    ghost use Rattle.gl_gov_rules.specs.Changes.{changes_of, changed_at, history};
+    ghost use Rattle.gl_gov_rules.specs.Rows.{all_rows, rows, effect_writes, service_row, member_rows, node_rows, proposal_row};
     ghost use Rattle.gl_gov_rules.specs.Governed.{is_founding, is_nothing, IsAbove, IsGoverned, up_to};
     ghost use Rattle.gl_gov_rules.specs.ProposalStatus.{proposal_status};
     ghost use Rattle.gl_gov.specs.State.{Refuses, last_seqno, share_count};
+    ghost use Rattle.gl_gov.specs.Touched.{is_selected};
 
     /// No request yet.
     pub fn new(alloc: Global) -> Self
@@ -123,9 +126,16 @@ impl GovState {
         if let Some(why) = refusal(self.alloc, &self.past, seqno, request)? {
             return Err(OrNoMemory::Fault(why));
         }
-        let before = self.rows()?;
-        self.record(seqno, request.copy(self.alloc)?)?;
-        match self.effect_since(&before, request) {
+        let recorded = Recorded {
+            seqno,
+            request: request.copy(self.alloc)?,
+        };
+        let changes = changes_of(self.alloc, &self.past, &recorded)?;
+        let touched = touched_by(self.alloc, &self.past, &recorded, &changes)?;
+        let selection = Selection::Touched(touched);
+        let before = self.selected_rows(&selection)?;
+        self.push(recorded, changes)?;
+        match self.effect_since(&selection, &before, request) {
             Ok(effect) => Ok(effect),
             Err(_) => {
                 self.take_back(seqno);
@@ -174,25 +184,42 @@ impl GovState {
     {
         let recorded = Recorded { seqno, request };
         let changes = changes_of(self.alloc, &self.past, &recorded)?;
+        self.push(recorded, changes)
+    }
+
+    /// Adds a request that no rule refuses, and the changes that it brings about. Want of memory
+    /// leaves all as it was.
+    fn push(&mut self, recorded: Recorded, changes: Vec<Changed>) -> Result<(), AllocError>
+        requires above { IsAbove recorded.seqno self.old }
+        requires founding { is_founding recorded.request ≡ is_nothing self.old }
+        requires fits { is_request recorded.request ≡ true }
+        requires accepted { refusal (history self.old) recorded.seqno recorded.request ≡ None }
+        requires brought { changes.items
+            ≡ map (changed_at recorded.seqno) (changes_of (history self.old) recorded) }
+        ensures recorded { OnOk result (self.new ≡ self.old ++ recorded ∷ []) }
+        ensures kept { OnErr result (self.new ≡ self.old) }
+    {
         self.past.push_recorded(self.alloc, recorded, changes)?;
         Ok(())
     }
 
-    /// What the last request did, behind which the rows were these.
+    /// What the last request did. The rows that it could change were these before it.
     fn effect_since(
         &self,
+        selection: &Selection,
         before: &Writes,
         request: &GovernanceRequest,
     ) -> Result<GovernanceEffect, AllocError>
         requires fits { is_request request.now ≡ true }
         ensures writes { IfOk result (λ effect.
-            effect.writes ≡ changes before.now (rows (history self.now))) }
+            effect.writes ≡ changes before.now
+            (write_set (filter (is_selected selection.now) (all_rows (history self.now))))) }
         ensures proposal { IfOk result (λ effect.
             effect.proposal ≡ proposal_status (history self.now) request.now) }
         ensures shares { IfOk result (λ effect.
             effect.shares ≡ share_count (history self.now)) }
     {
-        let after = self.rows()?;
+        let after = self.selected_rows(selection)?;
         Ok(GovernanceEffect {
             writes: changes(self.alloc, before, &after)?,
             proposal: proposal_status(self.alloc, &self.past, request)?,
@@ -228,11 +255,19 @@ impl GovState {
         })
     }
 
+    /// The selected rows of the governance tables, ascending by map and key.
+    fn selected_rows(&self, selection: &Selection) -> Result<Writes, AllocError>
+        ensures rows { IfOk result (λ writes. writes
+            ≡ write_set (filter (is_selected selection.now) (all_rows (history self.now)))) }
+    {
+        rows(self.alloc, &self.past, selection)
+    }
+
     /// All rows of the governance tables, ascending by map and key.
     pub fn rows(&self) -> Result<Writes, AllocError>
         ensures rows { IfOk result (λ writes. writes ≡ rows (history self.now)) }
     {
-        rows(self.alloc, &self.past)
+        self.selected_rows(&Selection::All)
     }
 
     /// The rows of all members that there ever were, in the order in which they came.
@@ -282,30 +317,6 @@ pub fn is_founding(request: &GovernanceRequest) -> bool
     matches!(request, GovernanceRequest::Genesis(_))
 }
 
-/// The proposal that a member's request makes, answers or takes back.
-fn named_in_act(alloc: Global, request: &MemberRequest) -> Result<Option<Digest>, AllocError>
-    requires { is_member_request request.now ≡ true }
-    ensures { IfOk result (λ id. id ≡ named_in_act request.now request.now.act) }
-{
-    match &request.act {
-        MemberAct::Propose(_) => Ok(Some(request.proposal_id(alloc)?)),
-        MemberAct::Ballot { proposal, .. } | MemberAct::Withdraw { proposal } => Ok(Some(
-            *proposal,
-        )),
-        MemberAct::Ack | MemberAct::Share { .. } => Ok(None),
-    }
-}
-
-fn proposal_named(alloc: Global, request: &GovernanceRequest) -> Result<Option<Digest>, AllocError>
-    requires { is_request request.now ≡ true }
-    ensures { IfOk result (λ id. id ≡ proposal_named request.now) }
-{
-    match request {
-        GovernanceRequest::Member(request) => named_in_act(alloc, request),
-        _ => Ok(None),
-    }
-}
-
 /// A proposal's state, if there is such a proposal.
 fn status_with(past: &History, id: Option<Digest>) -> Option<ProposalStatus>
     ensures { result ≡ status_with past.now id }
@@ -314,7 +325,7 @@ fn status_with(past: &History, id: Option<Digest>) -> Option<ProposalStatus>
     let proposal = past.proposal(&id)?;
     Some(ProposalStatus {
         id: proposal.id,
-        state: past.proposal_state(proposal),
+        state: state_of(past, proposal),
     })
 }
 
@@ -340,41 +351,12 @@ fn threshold(past: &History) -> u8
     }
 }
 
-/// Whether a request gives a share behind a seqno.
-fn gives_share_behind(seqno: u64, recorded: &Recorded) -> bool
-    ensures { result ≡ is_some (share_behind seqno recorded.now) }
-{
-    match &recorded.request {
-        GovernanceRequest::Member(request) => {
-            seqno < recorded.seqno && matches!(request.act, MemberAct::Share { .. })
-        }
-        _ => false,
-    }
-}
-
-fn count_behind(seqno: u64, requests: &[Recorded]) -> usize
-    ensures { result ≡ count_by (λ r. is_some (share_behind seqno r)) requests.now }
-{
-    requests
-        .iter()
-        .filter(|recorded| gives_share_behind(seqno, recorded))
-        .count()
-}
-
-fn shares_given_count(past: &History) -> usize
-    ensures { result ≡ length (shares_given past.now) }
-{
-    let seqno = past.last_clearing();
-    let requests = past.requests();
-    count_behind(seqno, requests)
-}
-
 #[tactic(auto, unfolding(crate::specs::State::share_count))]
 fn share_count(past: &History) -> ShareCount
     ensures { result ≡ share_count past.now }
 {
     ShareCount {
-        have: shares_given_count(past) as u64,
+        have: past.shares_given_count() as u64,
         need: threshold(past),
     }
 }

@@ -1,26 +1,61 @@
 //! Counting the ballots on a proposal, and whether they settle it.
 
-ghost use Rattle.std.specs.Prelude.{◌≡◌, ◌++◌, ◌∷◌, []};
+ghost use Rattle.std.specs.Prelude.{◌≡◌, ◌++◌, ◌∷◌, [], ◌&&◌, ◌||◌, count_by};
+ghost use Rattle.std.specs.List.{list_any};
+ghost use Rattle.gl_requests.specs.declared.genesis.NewMember as a_member;
 ghost use Rattle.gl_requests.specs.Spelling.{action_number};
+ghost use Rattle.gl_gov_rules.specs.Members.{members, is_active};
+ghost use Rattle.gl_gov_rules.specs.Proposals.{ballots_on, is_ballot, is_vote};
 ghost use Rattle.gl_gov_rules.specs.Service.{constitution};
 ghost use Rattle.gl_gov_rules.specs.Tally.{answer_count, tally, rule_of, is_met, is_out_of_reach, is_accepted, is_rejected};
 
-use gl_gov_rules::{History, Recorded, Tally};
+use gl_gov_rules::{Ballot, History, Recorded, Tally, has_vote, is_ballot};
 use gl_requests::{Action, Digest, Rule};
 
-/// How many of the members who are active in the past gave this answer in its requests or in this
-/// one behind them.
-#[tactic(auto, unfolding(gl_gov_rules::specs::Tally::answer_count))]
-fn answer_count(past: &History, last: &Recorded, id: &Digest, agrees: bool) -> usize
-    ensures { result
-        ≡ answer_count past.now (past.now.requests ++ last.now ∷ []) id.now agrees }
+/// Whether the member gave this answer in one of the ballots on a proposal, or in this request
+/// behind them.
+fn has_answered(ballots: &[Ballot], last: &Recorded, id: &Digest, agrees: bool, number: u8) -> bool
+    ensures { result ≡ (list_any (is_vote number agrees) ballots.now
+        || is_ballot id.now number agrees last.now.request) }
+{
+    has_vote(ballots, agrees, number) || is_ballot(id, number, agrees, &last.request)
+}
+
+/// How many of the members who are active in the past gave this answer in these ballots on a
+/// proposal or in this request behind them.
+fn vote_count(
+    past: &History,
+    ballots: &[Ballot],
+    last: &Recorded,
+    id: &Digest,
+    agrees: bool,
+) -> usize
+    ensures { result ≡ count_by (λ (m : a_member.NewMember). is_active past.now m.number
+        && (list_any (is_vote m.number agrees) ballots.now
+        || is_ballot id.now m.number agrees last.now.request)) (members past.now) }
 {
     past.members()
         .iter()
         .filter(|member| {
-            past.is_active(member.number) && past.has_answered_with(last, id, agrees, member.number)
+            past.is_active(member.number) && has_answered(ballots, last, id, agrees, member.number)
         })
         .count()
+}
+
+/// How many of the members who are active in the past gave this answer in its requests, which have
+/// these ballots on a proposal, or in this one behind them.
+fn answer_count(
+    past: &History,
+    ballots: &[Ballot],
+    last: &Recorded,
+    id: &Digest,
+    agrees: bool,
+) -> usize
+    requires { ballots.now ≡ ballots_on id.now past.now.requests }
+    ensures { result
+        ≡ answer_count past.now (past.now.requests ++ last.now ∷ []) id.now agrees }
+{
+    vote_count(past, ballots, last, id, agrees)
 }
 
 /// The ballots on a proposal in the requests of the past and in this one behind them, counted anew
@@ -28,10 +63,11 @@ fn answer_count(past: &History, last: &Recorded, id: &Digest, agrees: bool) -> u
 pub fn tally(past: &History, last: &Recorded, id: &Digest) -> Tally
     ensures { result ≡ tally past.now (past.now.requests ++ last.now ∷ []) id.now }
 {
+    let ballots = past.ballots(id);
     Tally {
         all: past.active_count() as u64,
-        agreed: answer_count(past, last, id, true) as u64,
-        refused: answer_count(past, last, id, false) as u64,
+        agreed: answer_count(past, ballots, last, id, true) as u64,
+        refused: answer_count(past, ballots, last, id, false) as u64,
     }
 }
 

@@ -1,5 +1,10 @@
-mod Kept
-mod Answered
+pub mod Answered
+mod ListsByNumber
+mod ByRequests
+mod Settled
+mod ToldAt
+mod Answers
+pub mod Telling
 pub mod Rising
 pub mod Cutting
 pub mod CutLists

@@ -5,7 +5,6 @@ pub mod Nodes
 pub mod Service
 pub mod Proposals
 pub mod ProposalStatus
-pub mod Kept
 pub mod Actions
 pub mod Tally
 pub mod Changes
@@ -14,3 +13,6 @@ pub mod Refusals
 pub mod Governed
 pub mod Rising
 pub mod Numbers
+pub mod Lists
+pub mod Told
+pub mod Index

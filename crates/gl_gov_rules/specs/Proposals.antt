@@ -1,5 +1,5 @@
 -- Proposals, the ballots on them, and the state of each (CCF documentation, "Proposals").
-use Rattle.std.specs.Prelude.{ℕ, List, [], ◌∷◌, Option, None, Some, Bool, true, false, ◌&&◌, ◌||◌, not, find, filter_map, count_by, nat_lt, nat_eq, if◌then◌else◌}
+use Rattle.std.specs.Prelude.{ℕ, List, [], ◌∷◌, Option, None, Some, Bool, true, false, ◌&&◌, ◌||◌, not, find, map, filter_map, option_map, count_by, nat_lt, nat_le, nat_eq, if◌then◌else◌}
 use Rattle.std.specs.List.{list_any}
 use Rattle.gl_base.specs.Bytes.{same_bytes}
 use Rattle.gl_requests.specs.Spelling.{proposal_id}
@@ -16,6 +16,8 @@ use Rattle.gl_gov_rules.specs.declared.change.ProposalState.TheVariants as state
 use Rattle.gl_gov_rules.specs.declared.change.Change.{Change}
 use Rattle.gl_gov_rules.specs.declared.change.Change.TheVariants as changes
 use Rattle.gl_gov_rules.specs.declared.change.Changed.{Changed}
+use Rattle.gl_gov_rules.specs.declared.change.Ballot.{Ballot}
+use Rattle.gl_gov_rules.specs.declared.change.Settling.{Settling}
 use Rattle.gl_gov_rules.specs.History.{History}
 
 -- The proposal that a request makes.
@@ -62,6 +64,32 @@ unfoldable pub proposal_state : History → Proposal → ProposalState
 proposal_state h p =
     first_or_open (filter_map (λ (c : Changed). state_settled p c.seqno c.change) h.changes)
 
+-- What settles a proposal: the first change that does, up to which it is open.
+abbrev pub settling_by : Proposal → Changed → Option Settling
+settling_by p c =
+    option_map (λ state. record { seqno = c.seqno; state = state })
+    (state_settled p c.seqno c.change)
+
+abbrev pub first_settling : List Settling → Option Settling
+first_settling [] = None
+first_settling (s ∷ ss) = Some s
+
+unfoldable pub settling_in : List Changed → Proposal → Option Settling
+settling_in cs p = first_settling (filter_map (settling_by p) cs)
+
+unfoldable pub settlings : History → List (Option Settling)
+settlings h = map (settling_in h.changes) (proposals h)
+
+-- The state of a proposal that is settled so; it is open where it isn't.
+abbrev pub settled_state : Option Settling → ProposalState
+settled_state None = states.Open
+settled_state (Some s) = s.state
+
+-- What settles a proposal up to a seqno.
+abbrev pub settling_up_to : ℕ → Option Settling → Option Settling
+settling_up_to to None = None
+settling_up_to to (Some s) = if nat_le s.seqno to then Some s else None
+
 abbrev pub is_open_state : ProposalState → Bool
 is_open_state states.Open = true
 is_open_state other = false
@@ -92,3 +120,25 @@ has_answered rs id agrees number =
 
 unfoldable pub has_ballot : List Recorded → List ℕ → ℕ → Bool
 has_ballot rs id number = has_answered rs id true number || has_answered rs id false number
+
+-- The ballot on this proposal that a request gives, if it is one.
+abbrev pub ballot_in_act : List ℕ → ℕ → ℕ → MemberAct → Option Ballot
+ballot_in_act id seqno member (acts.Ballot on agrees) =
+    if same_bytes on id then Some (record { seqno = seqno; member = member; agrees = agrees })
+    else None
+ballot_in_act id seqno member other = None
+
+abbrev pub ballot_in : List ℕ → ℕ → GovernanceRequest → Option Ballot
+ballot_in id seqno (requests.Member m) = ballot_in_act id seqno m.member m.act
+ballot_in id seqno other = None
+
+abbrev pub ballot_on : List ℕ → Recorded → Option Ballot
+ballot_on id r = ballot_in id r.seqno r.request
+
+-- All ballots on this proposal, in order.
+unfoldable pub ballots_on : List ℕ → List Recorded → List Ballot
+ballots_on id rs = filter_map (ballot_on id) rs
+
+-- The ballot is the member's, with this answer.
+abbrev pub is_vote : ℕ → Bool → Ballot → Bool
+is_vote number agrees b = nat_eq b.member number && same_answer b.agrees agrees

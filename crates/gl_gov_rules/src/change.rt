@@ -81,6 +81,25 @@ pub struct Proposal {
     pub actions: Sequence<Action>,
 }
 
+/// What settled a proposal.
+#[derive(Clone, Copy, Debug)]
+pub struct Settling {
+    /// The seqno of the entry that did.
+    pub seqno: u64,
+    /// The state in which it did.
+    pub state: ProposalState,
+}
+
+/// A member's ballot on a proposal.
+#[derive(Clone, Copy, Debug)]
+pub struct Ballot {
+    /// The seqno of the entry that records it.
+    pub seqno: u64,
+    /// The number of the member who gave it.
+    pub member: u8,
+    pub agrees: bool,
+}
+
 /// How many members count in a ballot, how many of them agreed, and how many refused.
 #[derive(Clone, Copy, Debug)]
 pub struct Tally {

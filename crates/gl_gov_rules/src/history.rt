@@ -1,53 +1,44 @@
 //! The history of governance: all requests so far, and what they brought about.
 
-ghost use Rattle.std.specs.Prelude.{◌≡◌, ◌++◌, ◌+◌, ◌≤◌, vec_len, vec_capacity};
 ghost use Rattle.gl_requests.specs.Ranges.{is_request};
 
-use crate::change::{Changed, Proposal, Recorded, RecordedNode};
+use crate::change::{Ballot, Changed, Proposal, Recorded, RecordedNode, Settling};
 use crate::copy::copy_all;
-use crate::cut::{changes_up_to, nodes_up_to, proposals_up_to, requests_up_to};
-use crate::members::{named_count, push_member_named, push_members_named};
-use crate::nodes::push_nodes_recorded;
-use crate::proposals::push_proposal_in;
-use gl_requests::NewMember;
+use crate::cut::changes_up_to;
+use crate::index::{Added, ByChange, ByRequest, append_reserved};
+use crate::lists::{cut_list, list_at};
+use crate::settlings::{cut_settlings, push_settling, settle};
+use crate::told::{GivenShare, Mark, Signed};
+use gl_requests::{Digest, NewMember};
 use std::alloc::{AllocError, Global};
 use std::marker::Model;
+use std::slice::from_ref;
 
 /// All requests so far at the seqnos of their entries, and all changes that they brought about.
 ///
-/// Beside them stand the members whom the changes name, and the nodes and the proposals that the
-/// requests name, each in order, so that no request is hashed twice.
+/// Beside them stands what they tell of members, nodes, proposals and shares, so that no request is
+/// hashed twice, and no question about these goes through all requests.
 #[derive(Drop)]
 pub struct History {
     requests: Vec<Recorded>,
     changes: Vec<Changed>,
-    members: Vec<NewMember>,
-    nodes: Vec<RecordedNode>,
-    proposals: Vec<Proposal>,
+    by_change: ByChange,
+    by_request: ByRequest,
+    /// What settled each proposal.
+    settlings: Vec<Option<Settling>>,
 }
 
 impl Model for History {
     ghost use Rattle.gl_gov_rules.specs.History.{History};
-    ghost use Rattle.gl_gov_rules.specs.Kept.{IsKept};
+    ghost use Rattle.gl_gov_rules.specs.Index.{IsIndexed};
 
     ghost Value = { History };
 
     ghost view = { λ h. record { requests = h.requests.items; changes = h.changes.items } };
 
     ghost invariant = { λ h.
-        IsKept (record { requests = h.requests.items; changes = h.changes.items })
-        h.members.items h.nodes.items h.proposals.items };
-}
-
-/// Moves more to the end of a list that has room for it.
-fn append_reserved<T: Drop>(list: &mut Vec<T>, more: Vec<T>)
-    requires { vec_len list.old + vec_len more ≤ vec_capacity list.old }
-    ensures { list.new.items ≡ list.old.items ++ more.items }
-{
-    let mut more = more;
-    if list.append(&mut more).is_err() {
-        unreachable!();
-    }
+        IsIndexed h.requests.items h.changes.items h.by_change h.by_request
+        h.settlings.items };
 }
 
 impl History {
@@ -55,7 +46,8 @@ impl History {
     ghost use Rattle.gl_gov_rules.specs.History.{no_history};
     ghost use Rattle.gl_gov_rules.specs.Members.{members};
     ghost use Rattle.gl_gov_rules.specs.Nodes.{nodes};
-    ghost use Rattle.gl_gov_rules.specs.Proposals.{proposals};
+    ghost use Rattle.gl_gov_rules.specs.Proposals.{proposals, ballots_on, settlings};
+    ghost use Rattle.gl_gov_rules.specs.Index.{removed, marks_of, given, signed, AreLeavesSmall};
     ghost use Rattle.gl_gov_rules.specs.Changes.{history};
     ghost use Rattle.gl_gov_rules.specs.Governed.{up_to};
     ghost use Rattle.gl_gov_rules.specs.Rising.{IsRising};
@@ -67,9 +59,9 @@ impl History {
         History {
             requests: Vec::new(alloc),
             changes: Vec::new(alloc),
-            members: Vec::new(alloc),
-            nodes: Vec::new(alloc),
-            proposals: Vec::new(alloc),
+            by_change: ByChange::new(alloc),
+            by_request: ByRequest::new(alloc),
+            settlings: Vec::new(alloc),
         }
     }
 
@@ -80,9 +72,9 @@ impl History {
         Ok(History {
             requests: copy_all(alloc, &self.requests)?,
             changes: copy_all(alloc, &self.changes)?,
-            members: Vec::from_slice(alloc, &self.members)?,
-            nodes: copy_all(alloc, &self.nodes)?,
-            proposals: copy_all(alloc, &self.proposals)?,
+            by_change: self.by_change.copy(alloc)?,
+            by_request: self.by_request.copy(alloc)?,
+            settlings: Vec::from_slice(alloc, &self.settlings)?,
         })
     }
 
@@ -91,7 +83,12 @@ impl History {
         ensures { IfOk result (λ past.
             past ≡ record self { changes = self.changes ++ changed ∷ [] }) }
     {
-        push_member_named(&mut self.members, &changed.change)?;
+        self.by_change.push(&changed)?;
+        settle(
+            &mut self.settlings,
+            &self.by_request.proposals,
+            from_ref(&changed),
+        );
         self.changes.push(changed)?;
         Ok(self)
     }
@@ -111,22 +108,23 @@ impl History {
         }) }
         ensures kept { OnErr result (self.new ≡ self.old) }
     {
-        let mut members = Vec::new(alloc);
-        let mut nodes = Vec::new(alloc);
-        let mut proposals = Vec::new(alloc);
-        push_members_named(&mut members, &changes)?;
-        push_nodes_recorded(alloc, &mut nodes, recorded.seqno, &recorded.request)?;
-        push_proposal_in(alloc, &mut proposals, recorded.seqno, &recorded.request)?;
+        let told = ByChange::of(alloc, &changes)?;
+        let added = Added::of(alloc, recorded.seqno, &recorded.request)?;
         self.requests.reserve(1)?;
         self.changes.reserve(changes.len())?;
-        self.members.reserve(members.len())?;
-        self.nodes.reserve(nodes.len())?;
-        self.proposals.reserve(proposals.len())?;
+        self.by_change.reserve(&told)?;
+        self.by_request.reserve(alloc, &added, &recorded.request)?;
+        self.settlings.reserve(1)?;
+        settle(&mut self.settlings, &self.by_request.proposals, &changes);
+        self.by_change.append(told);
+        self.by_request.push(added, &recorded);
         self.requests.push_reserved(recorded);
         append_reserved(&mut self.changes, changes);
-        append_reserved(&mut self.members, members);
-        append_reserved(&mut self.nodes, nodes);
-        append_reserved(&mut self.proposals, proposals);
+        push_settling(
+            &mut self.settlings,
+            &self.by_request.proposals,
+            &self.changes,
+        );
         Ok(())
     }
 
@@ -137,16 +135,12 @@ impl History {
         ensures cut { self.new ≡ history (up_to to self.old.requests) }
         ensures requests { self.new.requests ≡ up_to to self.old.requests }
     {
-        let requests = requests_up_to(to, &self.requests);
+        cut_list(&mut self.requests, to);
         let changes = changes_up_to(to, &self.changes);
-        let nodes = nodes_up_to(to, &self.nodes);
-        let proposals = proposals_up_to(to, &self.proposals);
-        self.requests.truncate(requests);
         self.changes.truncate(changes);
-        self.nodes.truncate(nodes);
-        self.proposals.truncate(proposals);
-        let members = named_count(&self.changes);
-        self.members.truncate(members);
+        self.by_change.cut(&self.changes);
+        self.by_request.cut(to);
+        cut_settlings(&mut self.settlings, to, self.by_request.proposals.len());
     }
 
     /// The requests so far, in order.
@@ -164,23 +158,75 @@ impl History {
     }
 
     /// All members that there ever were, in the order in which they came.
+    #[tactic(auto, unfolding(crate::specs::Members::members))]
     pub fn members(&self) -> &[NewMember]
         ensures { result.now ≡ members self.now }
     {
-        &self.members
+        &self.by_change.members
     }
 
     /// All nodes that were ever recorded, in that order.
+    #[tactic(auto, unfolding(crate::specs::Nodes::nodes))]
     pub fn nodes(&self) -> &[RecordedNode]
         ensures { result.now ≡ nodes self.now }
     {
-        &self.nodes
+        &self.by_request.nodes
     }
 
     /// All proposals, in order.
+    #[tactic(auto, unfolding(crate::specs::Proposals::proposals))]
     pub fn proposals(&self) -> &[Proposal]
         ensures { result.now ≡ proposals self.now }
     {
-        &self.proposals
+        &self.by_request.proposals
+    }
+
+    /// The numbers of the members who were removed.
+    #[tactic(auto, unfolding(crate::specs::Index::removed))]
+    pub(crate) fn removed(&self) -> &[u8]
+        ensures { result.now ≡ removed self.now }
+    {
+        &self.by_change.removed
+    }
+
+    /// The marks of nodes, in order.
+    #[tactic(auto, unfolding(crate::specs::Index::marks_of))]
+    pub(crate) fn marks(&self) -> &[Mark]
+        ensures { result.now ≡ marks_of self.now }
+    {
+        &self.by_request.marks
+    }
+
+    /// The shares that were given at any time, in order.
+    #[tactic(auto, unfolding(crate::specs::Index::given))]
+    pub(crate) fn given(&self) -> &[GivenShare]
+        ensures { result.now ≡ given self.now }
+    {
+        &self.by_request.shares
+    }
+
+    /// What the requests tell that this member signed, in order.
+    #[tactic(auto, unfolding(crate::specs::Index::signed))]
+    pub(crate) fn signed(&self, number: u8) -> &[Signed]
+        ensures told { result.now ≡ signed number self.now }
+        ensures leaves { AreLeavesSmall self.now.requests }
+    {
+        list_at(&self.by_request.signed, number as usize)
+    }
+
+    /// The ballots on a proposal, in order.
+    #[tactic(auto, unfolding(crate::specs::Proposals::ballots_on))]
+    pub fn ballots(&self, id: &Digest) -> &[Ballot]
+        ensures { result.now ≡ ballots_on id.now self.now.requests }
+    {
+        self.by_request.ballots.on(id)
+    }
+
+    /// What settled each proposal, in their order, none where it is open.
+    #[tactic(auto, unfolding(crate::specs::Proposals::settlings, crate::specs::Proposals::proposals))]
+    pub fn settlings(&self) -> &[Option<Settling>]
+        ensures { result.now ≡ settlings self.now }
+    {
+        &self.settlings
     }
 }

@@ -1,22 +1,28 @@
 //! The rules of governance, as definitions and laws, and the history of a service.
 #![tactic(auto)]
 
+pub use ballots::has_vote;
 pub use change::{
-    Change, Changed, Proposal, ProposalState, ProposalStatus, Recorded, RecordedNode, Tally,
+    Ballot, Change, Changed, Proposal, ProposalState, ProposalStatus, Recorded, RecordedNode,
+    Settling, Tally,
 };
 pub use history::History;
 pub use laws::{law_of_bounds, law_of_rows, law_of_service, law_of_signatures};
 pub use leaf::leaf_of;
 pub use node_law::law_of_nodes;
+pub use proposals::is_ballot;
 pub use refusal::{Cause, GovernanceRefusal, MemberStatus, NodeStatus};
 pub use row::{MemberRow, NodeRow, ProposalRow, ServiceRow, Vote};
 
+mod ballots;
 mod change;
 mod copy;
 mod cut;
 mod history;
+mod index;
 mod laws;
 mod leaf;
+mod lists;
 mod members;
 mod node_law;
 mod nodes;
@@ -25,3 +31,5 @@ mod proposals;
 mod refusal;
 mod row;
 mod service;
+mod settlings;
+mod told;

@@ -1,17 +1,19 @@
 //! Who the members are and were, and the status of each.
 
-ghost use Rattle.std.specs.Prelude.{◌≡◌, ◌≤◌, ◌++◌, filter_map, count_by, is_some, OnOk};
+ghost use Rattle.std.specs.Prelude.{◌≡◌, ◌≤◌, ◌++◌, count_by, is_some, nat_eq, OnOk};
 ghost use Rattle.std.specs.Option.{option_copied, option_to_list};
-ghost use Rattle.gl_vmaps.specs.LastWrite.{last_such};
-ghost use Rattle.gl_gov_rules.specs.declared.change.Recorded as a_request;
+ghost use Rattle.std.specs.List.{list_any};
+ghost use Rattle.gl_gov_rules.specs.declared.told.Signed as a_signed;
 ghost use Rattle.gl_gov_rules.specs.declared.change.Changed as a_change;
-ghost use Rattle.gl_gov_rules.specs.Members.{member_named, removes_member, is_by, is_ack_by, leaf_behind};
+ghost use Rattle.gl_gov_rules.specs.Members.{member_named};
+ghost use Rattle.gl_gov_rules.specs.Told.{removed_in};
+ghost use Rattle.gl_gov_rules.specs.Index.{last_leaf};
 
-use crate::change::{Change, Changed, Recorded};
+use crate::change::{Change, Changed};
 use crate::history::History;
-use crate::leaf::leaf_of;
 use crate::refusal::MemberStatus;
-use gl_requests::{Action, GovernanceRequest, MemberAct, NewMember};
+use crate::told::{Signed, removed_in};
+use gl_requests::{Action, NewMember};
 use std::alloc::AllocError;
 
 /// The member whom the change names.
@@ -41,18 +43,18 @@ pub(crate) fn push_member_named(
     }
 }
 
-/// Adds the members whom the changes name.
-pub(crate) fn push_members_named(
-    members: &mut Vec<NewMember>,
-    changes: &[Changed],
-) -> Result<(), AllocError>
-    ensures { OnOk result (members.new.items ≡ members.old.items
-        ++ filter_map (λ (c : a_change.Changed). member_named c.change) changes.now) }
+/// Adds the number of the member whose removal the change applies.
+pub(crate) fn push_removed(removed: &mut Vec<u8>, change: &Change) -> Result<(), AllocError>
+    ensures { OnOk result
+        (removed.new.items ≡ removed.old.items ++ option_to_list (removed_in change.now)) }
 {
-    for changed in changes {
-        push_member_named(members, &changed.change)?;
+    match removed_in(change) {
+        None => Ok(()),
+        Some(number) => {
+            removed.push(number)?;
+            Ok(())
+        }
     }
-    Ok(())
 }
 
 /// Whether the change names a member.
@@ -73,57 +75,38 @@ pub(crate) fn named_count(changes: &[Changed]) -> usize
         .count()
 }
 
-/// Whether the change is the applied removal of this member.
-fn removes_member(number: u8, change: &Change) -> bool
-    ensures { result ≡ removes_member number change.now }
+/// How many members the changes remove.
+pub(crate) fn removed_count(changes: &[Changed]) -> usize
+    ensures { result
+        ≡ count_by (λ (c : a_change.Changed). is_some (removed_in c.change)) changes.now }
 {
-    match change {
-        Change::Applied(Action::RemoveMember(other)) => *other == number,
-        _ => false,
-    }
-}
-
-/// Whether this member signed the request.
-fn is_by(number: u8, request: &GovernanceRequest) -> bool
-    ensures { result ≡ is_by number request.now }
-{
-    match request {
-        GovernanceRequest::Member(request) => request.member == number,
-        _ => false,
-    }
-}
-
-/// Whether the request is this member's Ack.
-fn is_ack_by(number: u8, request: &GovernanceRequest) -> bool
-    ensures { result ≡ is_ack_by number request.now }
-{
-    match request {
-        GovernanceRequest::Member(request) => {
-            request.member == number && matches!(request.act, MemberAct::Ack)
-        }
-        _ => false,
-    }
-}
-
-/// The last request that this member signed.
-fn last_by(requests: &[Recorded], number: u8) -> Option<&Recorded>
-    ensures { option_copied result
-        ≡ last_such (λ (r : a_request.Recorded). is_by number r.request) requests.now }
-{
-    requests
+    changes
         .iter()
-        .rev()
-        .find(|recorded| is_by(number, &recorded.request))
+        .filter(|changed| removed_in(&changed.change).is_some())
+        .count()
 }
 
-/// 1 plus the leaf that signed the request, 0 where no member did.
-fn leaf_behind(request: &GovernanceRequest) -> u32
-    ensures leaf { result ≡ leaf_behind request.now }
-    ensures range { result ≤ 1024 }
+/// Whether the number is one of these.
+fn is_among(number: u8, numbers: &[u8]) -> bool
+    ensures { result ≡ list_any (λ other. nat_eq other number) numbers.now }
 {
-    match request {
-        GovernanceRequest::Member(request) => leaf_of(request.signature.as_slice()) + 1,
-        _ => 0,
+    numbers.iter().any(|other| *other == number)
+}
+
+/// Whether one of these is an Ack.
+fn has_ack(signed: &[Signed]) -> bool
+    ensures { result ≡ list_any (λ (s : a_signed.Signed). s.is_ack) signed.now }
+{
+    signed.iter().any(|signed| signed.is_ack)
+}
+
+/// 1 plus the leaf of the last of these, 0 without one.
+fn last_leaf(signed: &[Signed]) -> u32
+    ensures { result ≡ last_leaf signed.now }
+{
+    match signed.last() {
+        None => 0,
+        Some(signed) => signed.next_leaf,
     }
 }
 
@@ -139,23 +122,17 @@ impl History {
     }
 
     /// Whether a removal of the member was applied.
-    #[tactic(auto, unfolding(crate::specs::Members::is_removed))]
     pub fn is_removed(&self, number: u8) -> bool
         ensures { result ≡ is_removed self.now number }
     {
-        self.changes()
-            .iter()
-            .any(|changed| removes_member(number, &changed.change))
+        is_among(number, self.removed())
     }
 
     /// Whether the member's Ack stands.
-    #[tactic(auto, unfolding(crate::specs::Members::has_acked))]
     pub fn has_acked(&self, number: u8) -> bool
         ensures { result ≡ has_acked self.now number }
     {
-        self.requests()
-            .iter()
-            .any(|recorded| is_ack_by(number, &recorded.request))
+        has_ack(self.signed(number))
     }
 
     /// The member's status.
@@ -211,14 +188,10 @@ impl History {
     }
 
     /// 1 plus the leaf of the last request that the member signed, 0 without one.
-    #[tactic(auto, unfolding(crate::specs::Members::next_leaf))]
     pub fn next_leaf(&self, number: u8) -> u32
         ensures leaf { result ≡ next_leaf self.now number }
         ensures range { result ≤ 1024 }
     {
-        match last_by(self.requests(), number) {
-            None => 0,
-            Some(recorded) => leaf_behind(&recorded.request),
-        }
+        last_leaf(self.signed(number))
     }
 }

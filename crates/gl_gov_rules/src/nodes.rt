@@ -1,14 +1,18 @@
 //! Which nodes were recorded, and the status of each.
 
-ghost use Rattle.std.specs.Prelude.{◌≡◌, ◌++◌, ◌∷◌, [], true, false, map, find, option_map, IfOk, OnOk};
+ghost use Rattle.std.specs.Prelude.{◌≡◌, ◌++◌, ◌∷◌, [], true, false, map, option_map, IfOk, OnOk};
 ghost use Rattle.std.specs.Option.{option_copied};
-ghost use Rattle.gl_gov_rules.specs.declared.change.Recorded as a_request;
+ghost use Rattle.std.specs.List.{list_any};
+ghost use Rattle.gl_base.specs.Bytes.{same_bytes};
+ghost use Rattle.gl_gov_rules.specs.declared.told.Mark as a_mark;
 ghost use Rattle.gl_gov_rules.specs.declared.change.Changed as a_change;
-ghost use Rattle.gl_gov_rules.specs.Nodes.{recorded_node, nodes_recorded, trusts, retires, marks};
+ghost use Rattle.gl_gov_rules.specs.Nodes.{recorded_node, nodes_recorded, trusts, retires};
+ghost use Rattle.gl_gov_rules.specs.Index.{first_mark};
 
-use crate::change::{Change, Changed, Recorded, RecordedNode};
+use crate::change::{Change, Changed, RecordedNode};
 use crate::history::History;
 use crate::refusal::NodeStatus;
+use crate::told::Mark;
 use gl_requests::{Action, GovernanceRequest, NewNode, NodeId};
 use std::alloc::{AllocError, Global};
 
@@ -104,13 +108,20 @@ fn retires(id: &NodeId, change: &Change) -> bool
     }
 }
 
-/// Whether the request marks this node.
-fn marks(id: &NodeId, request: &GovernanceRequest) -> bool
-    ensures { result ≡ marks id.now request.now }
+/// Whether one of these marks this node.
+fn is_any_of(marks: &[Mark], id: &NodeId) -> bool
+    ensures { result ≡ list_any (λ (m : a_mark.Mark). same_bytes id.now m.id) marks.now }
 {
-    match request {
-        GovernanceRequest::Mark(other) => id == other,
-        _ => false,
+    marks.iter().any(|mark| *id == mark.id)
+}
+
+/// The seqno of the first of these that marks this node.
+fn first_mark(marks: &[Mark], id: &NodeId) -> Option<u64>
+    ensures { result ≡ first_mark id.now marks.now }
+{
+    match marks.iter().find(|mark| *id == mark.id) {
+        None => None,
+        Some(mark) => Some(mark.seqno),
     }
 }
 
@@ -145,35 +156,18 @@ impl History {
         }
     }
 
-    /// The first request that marks a node with this identifier.
-    fn marking(&self, id: &NodeId) -> Option<&Recorded>
-        ensures { option_copied result
-            ≡ find (λ (r : a_request.Recorded). marks id.now r.request) self.now.requests }
-    {
-        self.requests()
-            .iter()
-            .find(|recorded| marks(id, &recorded.request))
-    }
-
     /// The seqno of the entry that marked a node, if one did.
-    #[tactic(auto, unfolding(crate::specs::Nodes::mark))]
     pub fn mark(&self, id: &NodeId) -> Option<u64>
         ensures { result ≡ mark self.now id.now }
     {
-        match self.marking(id) {
-            None => None,
-            Some(recorded) => Some(recorded.seqno),
-        }
+        first_mark(self.marks(), id)
     }
 
     /// Whether the node's Mark stands.
-    #[tactic(auto, unfolding(crate::specs::Nodes::is_marked))]
     pub fn is_marked(&self, id: &NodeId) -> bool
         ensures { result ≡ is_marked self.now id.now }
     {
-        self.requests()
-            .iter()
-            .any(|recorded| marks(id, &recorded.request))
+        is_any_of(self.marks(), id)
     }
 
     /// Whether the node's trust was applied.

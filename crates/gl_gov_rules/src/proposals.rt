@@ -1,12 +1,17 @@
 //! Proposals, the ballots on them, and the state of each.
 
-ghost use Rattle.std.specs.Prelude.{◌≡◌, ◌++◌, ◌∷◌, [], true, IfOk, OnOk};
-ghost use Rattle.std.specs.Option.{option_copied, option_to_list};
+ghost use Rattle.std.specs.Prelude.{◌≡◌, ◌++◌, ◌∷◌, [], Option, true, count_by, slice_get, IfOk};
+ghost use Rattle.std.specs.Option.{option_copied};
+ghost use Rattle.std.specs.List.{position};
+ghost use Rattle.gl_gov_rules.specs.declared.change.Settling as a_settling;
+ghost use Rattle.gl_gov_rules.specs.Index.{is_same_proposal};
 ghost use Rattle.gl_requests.specs.Ranges.{is_member_request, is_request};
-ghost use Rattle.gl_gov_rules.specs.Proposals.{proposal_in_act, proposal_in, dropped_if, state_settled, is_answer_on, is_ballot};
+ghost use Rattle.gl_gov_rules.specs.Proposals.{proposal_in_act, proposal_in, dropped_if, state_settled, settling_in, settled_state, is_open_state, is_answer_on, is_ballot};
 
-use crate::change::{Change, Proposal, ProposalState, Recorded};
+use crate::ballots::has_vote;
+use crate::change::{Change, Proposal, ProposalState, Recorded, Settling};
 use crate::history::History;
+use crate::settlings::{settled_state, settling_in};
 use gl_requests::{Action, Digest, GovernanceRequest, MemberAct, MemberRequest, copy_actions};
 use std::alloc::{AllocError, Global};
 
@@ -32,7 +37,7 @@ fn proposal_in_act(
 }
 
 /// The proposal that the request at a seqno makes.
-fn proposal_in(
+pub(crate) fn proposal_in(
     alloc: Global,
     seqno: u64,
     request: &GovernanceRequest,
@@ -43,26 +48,6 @@ fn proposal_in(
     match request {
         GovernanceRequest::Member(request) => proposal_in_act(alloc, seqno, request),
         _ => Ok(None),
-    }
-}
-
-/// Adds the proposal that the request at a seqno makes.
-pub(crate) fn push_proposal_in(
-    alloc: Global,
-    proposals: &mut Vec<Proposal>,
-    seqno: u64,
-    request: &GovernanceRequest,
-) -> Result<(), AllocError>
-    requires { is_request request.now ≡ true }
-    ensures { OnOk result (proposals.new.items
-        ≡ proposals.old.items ++ option_to_list (proposal_in seqno request.now)) }
-{
-    match proposal_in(alloc, seqno, request)? {
-        None => Ok(()),
-        Some(proposal) => {
-            proposals.push(proposal)?;
-            Ok(())
-        }
     }
 }
 
@@ -78,7 +63,11 @@ fn dropped_if(later: bool) -> Option<ProposalState>
 }
 
 /// The state in which the change at a seqno settles the proposal.
-fn state_settled(proposal: &Proposal, seqno: u64, change: &Change) -> Option<ProposalState>
+pub(crate) fn state_settled(
+    proposal: &Proposal,
+    seqno: u64,
+    change: &Change,
+) -> Option<ProposalState>
     ensures { result ≡ state_settled proposal.now seqno change.now }
 {
     match change {
@@ -95,6 +84,31 @@ fn state_settled(proposal: &Proposal, seqno: u64, change: &Change) -> Option<Pro
     }
 }
 
+/// The place of this proposal among these, if it is one of them.
+fn place_of(proposals: &[Proposal], proposal: &Proposal) -> Option<usize>
+    ensures { result ≡ position (is_same_proposal proposal.now) proposals.now }
+{
+    proposals.iter().position(|other| proposal.seqno == other.seqno && proposal.id == other.id)
+}
+
+fn settling_at(settlings: &[Option<Settling>], place: usize) -> Option<Option<Settling>>
+    ensures { result ≡ slice_get settlings.now place }
+{
+    settlings.get(place).copied()
+}
+
+/// How many of the proposals that are settled so are open.
+fn open_count(settlings: &[Option<Settling>]) -> usize
+    ensures { result
+        ≡ count_by (λ (s : Option a_settling.Settling). is_open_state (settled_state s))
+        settlings.now }
+{
+    settlings
+        .iter()
+        .filter(|settling| matches!(settled_state(**settling), ProposalState::Open))
+        .count()
+}
+
 /// Whether what a member asks for is a ballot on this proposal, with this answer.
 fn is_answer_on(id: &Digest, agrees: bool, act: &MemberAct) -> bool
     ensures { result ≡ is_answer_on id.now agrees act.now }
@@ -109,7 +123,7 @@ fn is_answer_on(id: &Digest, agrees: bool, act: &MemberAct) -> bool
 }
 
 /// Whether the request is the member's ballot on this proposal, with this answer.
-fn is_ballot(id: &Digest, number: u8, agrees: bool, request: &GovernanceRequest) -> bool
+pub fn is_ballot(id: &Digest, number: u8, agrees: bool, request: &GovernanceRequest) -> bool
     ensures { result ≡ is_ballot id.now number agrees request.now }
 {
     match request {
@@ -132,35 +146,38 @@ impl History {
     }
 
     /// The state in which the first change settles the proposal; with none it is open.
-    #[tactic(auto, unfolding(crate::specs::Proposals::proposal_state))]
+    #[tactic(auto, using(crate::proofs::Settled::state_settled_in))]
     pub fn proposal_state(&self, proposal: &Proposal) -> ProposalState
         ensures { result ≡ proposal_state self.now proposal.now }
     {
-        for changed in self.changes() {
-            if let Some(state) = state_settled(proposal, changed.seqno, &changed.change) {
-                return state;
+        settled_state(self.settling(proposal))
+    }
+
+    /// What settled the proposal. One that was not made here is looked for among all changes.
+    fn settling(&self, proposal: &Proposal) -> Option<Settling>
+        ensures { result ≡ settling_in self.now.changes proposal.now }
+    {
+        if let Some(place) = place_of(self.proposals(), proposal) {
+            if let Some(settling) = settling_at(self.settlings(), place) {
+                return settling;
             }
         }
-        ProposalState::Open
+        settling_in(self.changes(), proposal)
     }
 
     /// How many proposals are open.
-    #[tactic(auto, unfolding(crate::specs::Proposals::open_count))]
     pub fn open_count(&self) -> usize
         ensures { result ≡ open_count self.now }
     {
-        self.proposals()
-            .iter()
-            .filter(|proposal| matches!(self.proposal_state(proposal), ProposalState::Open))
-            .count()
+        open_count(self.settlings())
     }
 
     /// Whether the member gave this answer to this proposal.
-    #[tactic(auto, unfolding(crate::specs::Proposals::has_answered))]
+    #[tactic(auto, using(crate::proofs::Telling::answered_any))]
     pub fn has_answered(&self, id: &Digest, agrees: bool, number: u8) -> bool
         ensures { result ≡ has_answered self.now.requests id.now agrees number }
     {
-        self.requests().iter().any(|recorded| is_ballot(id, number, agrees, &recorded.request))
+        has_vote(self.ballots(id), agrees, number)
     }
 
     /// Whether the member gave this answer to this proposal in a request so far or in this one behind

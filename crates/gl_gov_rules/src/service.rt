@@ -1,17 +1,17 @@
 //! What is in force: the constitution, the dealing of the recovery secret, the service's key and
 //! its state, and the shares that members gave.
 
-ghost use Rattle.std.specs.Prelude.{◌≡◌, is_some, filter_map, IfOk, OnOk, ◌++◌};
+ghost use Rattle.std.specs.Prelude.{◌≡◌, is_some, filter_map, length, IfOk, OnOk, ◌++◌};
 ghost use Rattle.std.specs.Option.{option_copied, option_to_list};
 ghost use Rattle.gl_vmaps.specs.LastWrite.{last_such};
 ghost use Rattle.gl_gov_rules.specs.declared.change.Changed as a_change;
-ghost use Rattle.gl_gov_rules.specs.Service.{sets_rules, sets_dealing, sets_identity, state_once_open, sets_state, clears_shares, share_in, share_behind};
+ghost use Rattle.gl_gov_rules.specs.Service.{sets_rules, sets_dealing, sets_identity, state_once_open, sets_state, clears_shares};
+ghost use Rattle.gl_gov_rules.specs.Index.{given_behind};
 
-use crate::change::{Change, Changed, Recorded};
+use crate::change::{Change, Changed};
 use crate::history::History;
-use gl_requests::{
-    Action, Dealing, GovernanceRequest, HssPublicKey, MemberAct, Rule, ServiceState,
-};
+use crate::told::GivenShare;
+use gl_requests::{Action, Dealing, HssPublicKey, Rule, ServiceState};
 use gl_shares::Share;
 use std::alloc::{AllocError, Global};
 
@@ -136,43 +136,27 @@ fn last_clearing_change(changes: &[Changed]) -> Option<&Changed>
         .find(|changed| clears_shares(&changed.change))
 }
 
-/// The share that the request gives.
-fn share_in(request: &GovernanceRequest) -> Option<Share>
-    ensures { result ≡ share_in request.now }
+/// The share, where it was given behind this seqno.
+fn given_behind(seqno: u64, given: &GivenShare) -> Option<Share>
+    ensures { result ≡ given_behind seqno given.now }
 {
-    match request {
-        GovernanceRequest::Member(request) => match request.act {
-            MemberAct::Share { share } => Some(Share {
-                member: request.member,
-                value: share,
-            }),
-            _ => None,
-        },
-        _ => None,
-    }
-}
-
-/// The share that the request gives, where it stands behind this seqno.
-fn share_behind(seqno: u64, recorded: &Recorded) -> Option<Share>
-    ensures { result ≡ share_behind seqno recorded.now }
-{
-    if seqno < recorded.seqno {
-        share_in(&recorded.request)
+    if seqno < given.seqno {
+        Some(given.share)
     } else {
         None
     }
 }
 
-/// Adds the share that the request gives, where it stands behind this seqno.
+/// Adds the share, where it was given behind this seqno.
 fn push_share_behind(
     shares: &mut Vec<Share>,
     seqno: u64,
-    recorded: &Recorded,
+    given: &GivenShare,
 ) -> Result<(), AllocError>
     ensures { OnOk result
-        (shares.new.items ≡ shares.old.items ++ option_to_list (share_behind seqno recorded.now)) }
+        (shares.new.items ≡ shares.old.items ++ option_to_list (given_behind seqno given.now)) }
 {
-    match share_behind(seqno, recorded) {
+    match given_behind(seqno, given) {
         None => Ok(()),
         Some(share) => {
             shares.push(share)?;
@@ -181,14 +165,14 @@ fn push_share_behind(
     }
 }
 
-/// The shares that are given behind this seqno.
-fn shares_behind(alloc: Global, seqno: u64, requests: &[Recorded]) -> Result<Vec<Share>, AllocError>
+/// The shares that were given behind this seqno.
+fn shares_behind(alloc: Global, seqno: u64, given: &[GivenShare]) -> Result<Vec<Share>, AllocError>
     ensures { IfOk result (λ shares.
-        shares.items ≡ filter_map (share_behind seqno) requests.now) }
+        shares.items ≡ filter_map (given_behind seqno) given.now) }
 {
     let mut shares = Vec::new(alloc);
-    for recorded in requests {
-        push_share_behind(&mut shares, seqno, recorded)?;
+    for given in given {
+        push_share_behind(&mut shares, seqno, given)?;
     }
     Ok(shares)
 }
@@ -264,10 +248,22 @@ impl History {
 
     /// The shares given behind the last change that cleared them, in the order in which they were
     /// given.
-    #[tactic(auto, unfolding(crate::specs::Service::shares_given))]
+    #[tactic(auto, unfolding(crate::specs::Service::shares_given, crate::specs::Index::given), using(crate::proofs::Telling::given_since))]
     pub fn shares_given(&self, alloc: Global) -> Result<Vec<Share>, AllocError>
         ensures { IfOk result (λ shares. shares.items ≡ shares_given self.now) }
     {
-        shares_behind(alloc, self.last_clearing(), self.requests())
+        shares_behind(alloc, self.last_clearing(), self.given())
+    }
+
+    /// How many shares were given behind the last change that cleared them.
+    #[tactic(auto, unfolding(crate::specs::Service::shares_given, crate::specs::Index::given), using(crate::proofs::Telling::given_count))]
+    pub fn shares_given_count(&self) -> usize
+        ensures { result ≡ length (shares_given self.now) }
+    {
+        let seqno = self.last_clearing();
+        self.given()
+            .iter()
+            .filter(|given| seqno < given.seqno)
+            .count()
     }
 }

@@ -1,8 +1,9 @@
 -- What a run has written so far, beside what was told.
-use Rattle.std.proofs.Common.{◌≡◌, ℕ, suc, ◌+◌, ◌<◌, ◌≤◌, List, ◌++◌, length, take, get_or, Option, sym, ◌∙◌, ap, subst, arith}
+use Rattle.std.proofs.Common.{◌≡◌, ℕ, suc, ◌+◌, ◌<◌, ◌≤◌, List, [], ◌∷◌, ◌++◌, length, take, get_or, Option, refl, sym, ◌∙◌, ap, subst, arith}
+use Rattle.std.specs.List.{AllByRecursion}
 use Rattle.std.specs.Io.KnownBytes.{Appends}
 use Rattle.std.proofs.KnownBytes.{Appends-trans}
-use Rattle.std.proofs.lemmas.List.{take_all, length-take-le}
+use Rattle.std.proofs.lemmas.List.{take_all, length-take-le, length_push, length-append}
 use Rattle.gl_outside.specs.Sink.{AppendsFront}
 use Rattle.gl_outside.proofs.Fronts.{front_after, front_before}
 use Rattle.gl_world.specs.declared.settings.Settings.{Settings}
@@ -74,3 +75,43 @@ begun old now s lines m settings is_in written = record {
 -- all of it
 pub ends : (old now : Option (List ℕ)) (s : Settings) (lines : List Line) (i : ℕ) (m : Playing) → Played old now s lines i m → length lines ≤ i → Appends old now (told_of s lines).text
 ends old now s lines i m p past = subst (λ (ls : List Line). Appends old now (told_of s ls).text) (take_all i lines past) p.written
+
+-- ---- the line behind those that were played
+
+pub line_within : (before behind lines : List Line) (line : Line) → before ++ line ∷ behind ≡ lines → length before < length lines
+line_within [] behind lines line all = omega (arith, ap length all)
+line_within (l ∷ before) behind lines line all = rw (← all) (omega (arith, line_within before behind (before ++ line ∷ behind) line refl))
+
+there : (before behind : List Line) (line : Line) → line ≡ get_or (before ++ line ∷ behind) (length before) line
+there [] behind line = refl
+there (l ∷ before) behind line = there before behind line
+
+pub line_there : (before behind lines : List Line) (line : Line) → before ++ line ∷ behind ≡ lines → line ≡ get_or lines (length before) line
+line_there before behind lines line all = rw (← all) (there before behind line)
+
+one_of : (P : Line → Type 0) (before behind : List Line) (line : Line) → AllByRecursion P (before ++ line ∷ behind) → P line
+one_of P [] behind line all = all.0
+one_of P (l ∷ before) behind line all = one_of P before behind line all.1
+
+pub line_fits : (P : Line → Type 0) (before behind lines : List Line) (line : Line) → before ++ line ∷ behind ≡ lines → AllByRecursion P lines → P line
+line_fits P before behind lines line is all = one_of P before behind line (subst (λ (ls : List Line). AllByRecursion P ls) (sym is) all)
+
+pub goes_on_behind : (old mid new : Option (List ℕ)) (s : Settings) (before behind lines : List Line) (number : ℕ) (line : Line) (m n : Playing) →
+    Played old mid s lines (length before) m → before ++ line ∷ behind ≡ lines → number ≡ length before + 2 →
+    ((t : Told) → IsIn t m → suc t.lines ≡ number → Extends mid new t.text (told m.world.settings t line).text) →
+    ((t : Told) → IsIn t m → suc t.lines ≡ number → GoesOn t line m n) → Played old new s lines (length (before ++ line ∷ [])) n
+goes_on_behind old mid new s before behind lines number line m n p all numbered more moved =
+    subst (λ (k : ℕ). Played old new s lines k n) (sym (length_push before line))
+    (goes_on old mid new s lines (length before) line m n p (line_within before behind lines line all) (line_there before behind lines line all)
+    (λ t is_in next. more t is_in (next ∙ sym numbered)) (λ t is_in next. moved t is_in (next ∙ sym numbered)))
+
+pub stops_behind : (old mid new : Option (List ℕ)) (s : Settings) (before behind lines : List Line) (number : ℕ) (line : Line) (m : Playing) →
+    Played old mid s lines (length before) m → before ++ line ∷ behind ≡ lines → number ≡ length before + 2 →
+    ((t : Told) → IsIn t m → suc t.lines ≡ number → ExtendsFront mid new t.text (told m.world.settings t line).text) → AppendsFront old new (told_of s lines).text
+stops_behind old mid new s before behind lines number line m p all numbered front =
+    stops old mid new s lines (length before) line m p (line_within before behind lines line all) (line_there before behind lines line all)
+    (λ t is_in next. front t is_in (next ∙ sym numbered))
+
+pub ends_with : (old now : Option (List ℕ)) (s : Settings) (before lines : List Line) (m : Playing) → Played old now s lines (length before) m → before ++ [] ≡ lines →
+    Appends old now (told_of s lines).text
+ends_with old now s before lines m p all = ends old now s lines (length before) m p (omega (arith, ap length all, length-append before []))

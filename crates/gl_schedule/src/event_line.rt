@@ -1,45 +1,46 @@
 //! The events for which lines ask that name nodes alone.
 
-ghost use Rattle.std.specs.Prelude.{◌≡◌, IfOk};
+ghost use Rattle.std.specs.Prelude.{◌≡◌, None, Some, IfErr, IfOk};
 ghost use Rattle.gl_schedule.specs.Play.{event_in};
 
 use crate::numbers::node_number;
 use gl_lines::Line;
 use gl_world::Event;
-use std::alloc::{AllocError, Global};
 
-/// The event for which a line asks, if it asks for one and names nodes alone.
-pub fn event_in(alloc: Global, line: &Line) -> Result<Option<Event>, AllocError>
-    ensures { IfOk result (λ event. event ≡ event_in line.now) }
+/// The event for which a line asks that asks for one and names nodes alone. Another line is given
+/// back.
+pub fn event_in(line: Line) -> Result<Event, Line>
+    ensures event { IfOk result (λ event. event_in line ≡ Some event) }
+    ensures other { IfErr result (λ back. (back ≡ line) × (event_in line ≡ None)) }
 {
-    Ok(match line {
-        Line::Timeout { node } => Some(Event::Timeout {
-            node: node_number(*node),
+    match line {
+        Line::Timeout { node } => Ok(Event::Timeout {
+            node: node_number(node),
         }),
-        Line::Submit { node, request } => Some(Event::Submit {
-            node: node_number(*node),
-            request: request.copy(alloc)?,
+        Line::Submit { node, request } => Ok(Event::Submit {
+            node: node_number(node),
+            request,
         }),
-        Line::Reserve { node } => Some(Event::Reserve {
-            node: node_number(*node),
+        Line::Reserve { node } => Ok(Event::Reserve {
+            node: node_number(node),
         }),
-        Line::Sign { node } => Some(Event::Sign {
-            node: node_number(*node),
+        Line::Sign { node } => Ok(Event::Sign {
+            node: node_number(node),
         }),
-        Line::Replicate { node, to } => Some(Event::Replicate {
-            node: node_number(*node),
-            to: node_number(*to),
+        Line::Replicate { node, to } => Ok(Event::Replicate {
+            node: node_number(node),
+            to: node_number(to),
         }),
-        Line::Advance { node } => Some(Event::Advance {
-            node: node_number(*node),
+        Line::Advance { node } => Ok(Event::Advance {
+            node: node_number(node),
         }),
-        Line::StepDown { node, to } => Some(Event::StepDown {
-            node: node_number(*node),
-            to: node_number(*to),
+        Line::StepDown { node, to } => Ok(Event::StepDown {
+            node: node_number(node),
+            to: node_number(to),
         }),
-        Line::Restart { node } => Some(Event::Restart {
-            node: node_number(*node),
+        Line::Restart { node } => Ok(Event::Restart {
+            node: node_number(node),
         }),
-        _ => None,
-    })
+        other => Err(other),
+    }
 }

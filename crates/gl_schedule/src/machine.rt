@@ -156,6 +156,7 @@ impl<
     /// The same, and the messages that it sent are told. An event that names a node or a message that
     /// there isn't is refused.
     fn happen(&mut self, event: Event, out: &mut Vec<u8>) -> Result<(), AllocError>
+        ensures group { IsGroup self.old.world.settings }
         ensures tells { OnOk result (TellsAnywhere (event_effect event)
             self.old self.new out.old.items out.new.items) }
     {
@@ -202,14 +203,14 @@ impl<
     }
 
     /// Plays the line with a number, and tells what it comes to.
-    pub fn play(&mut self, number: u64, line: &Line, out: &mut Vec<u8>) -> Result<(), AllocError>
-        requires fit { IsFit line.now }
-        ensures tells { OnOk result (Tells number (λ s t. effect_of s t line.now)
+    pub fn play(&mut self, number: u64, line: Line, out: &mut Vec<u8>) -> Result<(), AllocError>
+        requires fit { IsFit line }
+        ensures tells { OnOk result (Tells number (λ s t. effect_of s t line)
             self.old self.new out.old.items out.new.items) }
     {
-        match event_in(self.alloc, line)? {
-            Some(event) => self.happen(event, out),
-            None => self.answer(number, line, out),
+        match event_in(line) {
+            Ok(event) => self.happen(event, out),
+            Err(line) => self.answer(number, &line, out),
         }
     }
 }

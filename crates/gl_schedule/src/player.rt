@@ -31,12 +31,12 @@ fn line_text<
         Given = Given,
         Refused = Unmade,
     >,
->(alloc: Global, machine: &mut Machine<B>, number: u64, line: &Line) -> Result<Vec<u8>, AllocError>
-    requires fit { IsFit line.now }
+>(alloc: Global, machine: &mut Machine<B>, number: u64, line: Line) -> Result<Vec<u8>, AllocError>
+    requires fit { IsFit line }
     ensures text { IfOk result (λ text. (t : Told) → IsIn t machine.old → suc t.lines ≡ number →
-        (told machine.old.world.settings t line.now).text ≡ t.text ++ text.items) }
+        (told machine.old.world.settings t line).text ≡ t.text ++ text.items) }
     ensures goes_on { OnOk result ((t : Told) → IsIn t machine.old → suc t.lines ≡ number →
-        GoesOn t line.now machine.old machine.new) }
+        GoesOn t line machine.old machine.new) }
 {
     let mut text = Vec::new(alloc);
     put_number(&mut text, number)?;
@@ -60,18 +60,18 @@ fn play_line<
     alloc: Global,
     machine: &mut Machine<B>,
     number: u64,
-    line: &Line,
+    line: Line,
     sink: &mut K,
 ) -> Result<(), SinkFault>
-    requires fit { IsFit line.now }
+    requires fit { IsFit line }
     ensures whole { OnOk result ((t : Told) → IsIn t machine.old → suc t.lines ≡ number →
         Extends (K.holds sink.old) (K.holds sink.new)
-        t.text (told machine.old.world.settings t line.now).text) }
+        t.text (told machine.old.world.settings t line).text) }
     ensures goes_on { OnOk result ((t : Told) → IsIn t machine.old → suc t.lines ≡ number →
-        GoesOn t line.now machine.old machine.new) }
+        GoesOn t line machine.old machine.new) }
     ensures front { OnErr result ((t : Told) → IsIn t machine.old → suc t.lines ≡ number →
         ExtendsFront (K.holds sink.old) (K.holds sink.new)
-        t.text (told machine.old.world.settings t line.now).text) }
+        t.text (told machine.old.world.settings t line).text) }
     ensures failed { result ≡ Err SinkFault.Failed → Rose (K.faults sink.old) (K.faults sink.new) }
     ensures never_falls { K.faults sink.old ≤ K.faults sink.new }
 {
@@ -95,17 +95,17 @@ pub fn play<
 >(
     alloc: Global,
     settings: Settings,
-    lines: &Lines,
+    lines: Lines,
     books: Vec<B>,
     sink: &mut K,
 ) -> Result<(), SinkFault>
     requires group { IsGroup settings }
-    requires fit { AllByRecursion IsFit lines.now }
+    requires fit { AllByRecursion IsFit lines }
     requires books { StandAtStart B.stands settings books.items }
     ensures whole { OnOk result
-        (Appends (K.holds sink.old) (K.holds sink.new) (told_of settings lines.now).text) }
+        (Appends (K.holds sink.old) (K.holds sink.new) (told_of settings lines).text) }
     ensures front { OnErr result
-        (AppendsFront (K.holds sink.old) (K.holds sink.new) (told_of settings lines.now).text) }
+        (AppendsFront (K.holds sink.old) (K.holds sink.new) (told_of settings lines).text) }
     ensures failed { result ≡ Err SinkFault.Failed → Rose (K.faults sink.old) (K.faults sink.new) }
     ensures never_falls { K.faults sink.old ≤ K.faults sink.new }
 {
@@ -117,12 +117,13 @@ pub fn play<
         Ok(()) => {}
         Err(fault) => return Err(fault),
     }
-    let items = lines.as_slice();
-    for (i, line) in items.iter().enumerate() {
-        match play_line(alloc, &mut machine, i as u64 + 2, line, sink) {
+    let mut number: u64 = 2;
+    for line in lines.into_vec() {
+        match play_line(alloc, &mut machine, number, line, sink) {
             Ok(()) => {}
             Err(fault) => return Err(fault),
         }
+        number += 1;
     }
     Ok(())
 }

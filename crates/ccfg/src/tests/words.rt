@@ -20,7 +20,7 @@ const SHORT: &str = "\
 #[test]
 fn tells_one_kind_of_fault(rt: HostRuntime) -> Result<(), Fail> {
     let alloc = rt.alloc();
-    let rows: [(&[&str], &str); 31] = [
+    let rows: [(&[&str], &str); 38] = [
         (&[], "MissingSubcommand"),
         (&[""], "InvalidSubcommand"),
         (&["foo"], "InvalidSubcommand"),
@@ -65,6 +65,22 @@ fn tells_one_kind_of_fault(rt: HostRuntime) -> Result<(), Fail> {
             &["@disk=a", "keygen", "--kind", "node", "--types", "h5w4"],
             "InvalidSubcommand",
         ),
+        (&["endorse", "x"], "UnknownArgument"),
+        (&["genesis", "--member", "1"], "UnknownArgument"),
+        (&["sign", "--member", "1"], "MissingRequiredArgument"),
+        (&["sign", "--identity", IDENTITY], "MissingRequiredArgument"),
+        (
+            &["sign", "--identity", SHORT, "--member", "1"],
+            "ValueValidation",
+        ),
+        (
+            &["sign", "--identity", IDENTITY, "--member"],
+            "InvalidValue",
+        ),
+        (
+            &["sign", "--identity", IDENTITY, "--member=1", "x"],
+            "UnknownArgument",
+        ),
         (&["--help"], "DisplayHelp"),
         (&["--version"], "DisplayVersion"),
     ];
@@ -74,6 +90,23 @@ fn tells_one_kind_of_fault(rt: HostRuntime) -> Result<(), Fail> {
         let due = format!(in alloc; "fault {kind}\n")?;
         assert_eq!(rt; status, 2, "of {called:?}");
         assert_eq!(rt; written.as_slice(), due.as_bytes(), "of {called:?}");
+    }
+    Ok(())
+}
+
+#[test]
+fn takes_the_number_of_a_member(rt: HostRuntime) -> Result<(), Fail> {
+    let alloc = rt.alloc();
+    for number in ["", "0", "256", "00", "01", "+1", "1x", "x", " 1", "1000"] {
+        let called = ["sign", "--identity", IDENTITY, "--member", number];
+        let (status, written) = run(alloc, &called, b"")?;
+        assert_eq!(rt; status, 2, "of {number:?}");
+        assert_eq!(rt; written.as_slice(), b"fault ValueValidation\n".as_slice());
+    }
+    for number in ["1", "9", "10", "255"] {
+        let called = ["sign", "--identity", IDENTITY, "--member", number];
+        let (status, written) = run(alloc, &called, b"")?;
+        assert_eq!(rt; (status, written.len()), (5, 0), "of {number:?}");
     }
     Ok(())
 }

@@ -11,6 +11,7 @@ use gl_hss::{HssPublic, HssSigner, Levels, LmsKey, Types};
 use gl_requests::GovernanceRequest;
 use sha2::{Digest, Sha256};
 use std::alloc::{AllocError, Global};
+use std::process::Abort;
 use std::test::Fail;
 
 /// What came of a request.
@@ -31,6 +32,11 @@ pub fn refused(why: GovernanceRefusal) -> Told {
 
 pub fn bad(index: u64, cause: Cause) -> Told {
     Told::Refused(GovernanceRefusal::BadAction { index, cause })
+}
+
+/// What came of a request is what was to come of it.
+pub fn expect(rt: &impl Abort, told: Told, due: Told) {
+    assert_eq!(rt; told, due);
 }
 
 /// A dealing of shares to these members.

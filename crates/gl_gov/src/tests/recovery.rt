@@ -1,6 +1,6 @@
 //! A service that is founded anew, and the shares that its members give.
 
-use super::bench::{Act, Bench, bad, deal, misdeal, refused, rows, secret, share};
+use super::bench::{Act, Bench, bad, deal, expect, misdeal, refused, rows, secret, share};
 use crate::ShareCount;
 use gl_gov_rules::{Cause, GovernanceRefusal, MemberStatus, NodeStatus, ProposalState, Vote};
 use gl_requests::{Action, ServiceState};
@@ -12,16 +12,21 @@ use std::test::Fail;
 pub fn recover(rt: &impl Abort, bench: &mut Bench) -> Result<(), Fail> {
     let state = ServiceState::Open;
     let early = bench.give(3, 3)?;
-    assert_eq!(rt; early, refused(GovernanceRefusal::ServiceState { state }));
+    expect(
+        rt,
+        early,
+        refused(GovernanceRefusal::ServiceState { state }),
+    );
     let told = bench.propose_p(2, &[Act::SetMember(6, 6)])?;
-    assert_eq!(rt; told, rows(0x57ab9e02e8d24df5));
-    assert_eq!(rt; bench.recover(&[2])?, bad(0, Cause::NodeStatus));
-    assert_eq!(rt; bench.recover(&[5, 6])?, rows(0x7f30f282cdff3f34));
+    expect(rt, told, rows(0x57ab9e02e8d24df5));
+    expect(rt, bench.recover(&[2])?, bad(0, Cause::NodeStatus));
+    expect(rt, bench.recover(&[5, 6])?, rows(0x7f30f282cdff3f34));
     let p = bench.p;
     let state = ProposalState::Dropped;
-    assert_eq!(rt;
+    expect(
+        rt,
         bench.yes(1, p)?,
-        refused(GovernanceRefusal::NotOpen { state })
+        refused(GovernanceRefusal::NotOpen { state }),
     );
     Ok(())
 }
@@ -29,20 +34,25 @@ pub fn recover(rt: &impl Abort, bench: &mut Bench) -> Result<(), Fail> {
 /// The service waits for shares, of which two join to another secret than was dealt.
 pub fn give_in_vain(rt: &impl Abort, bench: &mut Bench) -> Result<(), Fail> {
     let told = bench.propose_p(1, &[Act::Deal(misdeal(2, &[2, 3])), Act::Open])?;
-    assert_eq!(rt; told, rows(0xc5e0a5ee5f66c7ec));
+    expect(rt, told, rows(0xc5e0a5ee5f66c7ec));
     let p = bench.p;
-    assert_eq!(rt; bench.yes(1, p)?, rows(0x056b08771a6f1d83));
+    expect(rt, bench.yes(1, p)?, rows(0x056b08771a6f1d83));
     let digest = Sha256::digest(&share(1));
     let other = bench.give(2, 1)?;
-    assert_eq!(rt; other, refused(GovernanceRefusal::WrongShare { digest }));
-    assert_eq!(rt; bench.give(2, 2)?, rows(0x368468ab3c9f18f1));
+    expect(rt, other, refused(GovernanceRefusal::WrongShare { digest }));
+    expect(rt, bench.give(2, 2)?, rows(0x368468ab3c9f18f1));
     let twice = bench.give(2, 2)?;
-    assert_eq!(rt; twice, refused(GovernanceRefusal::KnownShare { member: 2 }));
+    expect(
+        rt,
+        twice,
+        refused(GovernanceRefusal::KnownShare { member: 2 }),
+    );
     let want = Sha256::digest(b"another");
     let got = Sha256::digest(&secret());
-    assert_eq!(rt;
+    expect(
+        rt,
         bench.give(3, 3)?,
-        refused(GovernanceRefusal::Secret { want, got })
+        refused(GovernanceRefusal::Secret { want, got }),
     );
     Ok(())
 }
@@ -50,11 +60,11 @@ pub fn give_in_vain(rt: &impl Abort, bench: &mut Bench) -> Result<(), Fail> {
 /// A dealing of the secret itself, whose shares open the service.
 pub fn give(rt: &impl Abort, bench: &mut Bench) -> Result<(), Fail> {
     let told = bench.propose_p(1, &[Act::Deal(deal(2, &[2, 3]))])?;
-    assert_eq!(rt; told, rows(0x46abba60c3b49ddc));
+    expect(rt, told, rows(0x46abba60c3b49ddc));
     let p = bench.p;
-    assert_eq!(rt; bench.yes(1, p)?, rows(0x6c037bfa779f3b3d));
-    assert_eq!(rt; bench.give(2, 2)?, rows(0xf896275098fb171f));
-    assert_eq!(rt; bench.give(3, 3)?, rows(0x7f51d8b37f8fd91f));
+    expect(rt, bench.yes(1, p)?, rows(0x6c037bfa779f3b3d));
+    expect(rt, bench.give(2, 2)?, rows(0xf896275098fb171f));
+    expect(rt, bench.give(3, 3)?, rows(0x7f51d8b37f8fd91f));
     Ok(())
 }
 

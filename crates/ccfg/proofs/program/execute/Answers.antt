@@ -1,5 +1,7 @@
-use Rattle.std.proofs.Common.{Err, ap, ◌∙◌, rules}
-use Rattle.ccfg.proofs.DueLemmas.{due_runs, kept, stop_runs}
+use Rattle.std.proofs.Common.{Err, ap, ◌∙◌, inr, refl, rules}
+use Rattle.ccfg.specs.Faults.{fault_line}
+use Rattle.ccfg.specs.declared.fault.Fault.TheVariants.{TooMuchJson}
+use Rattle.ccfg.proofs.DueLemmas.{due_runs, kept, spent, spent_or_refused, stop_runs}
 use Rattle.ccfg.proofs.program.execute.Goals as goal
 
 pub returns-in-Ok-clause-runs : goal.returns-in-Ok-clause-runs
@@ -11,7 +13,18 @@ pub returns-in-Ok-clause-kept : goal.returns-in-Ok-clause-kept
 returns-in-Ok-clause-kept g c = λ done honest kind types asks.
     kept kind types _ c.in-Ok.plan _ _ _ (rw c.in-Ok.is at (c.read_plan-plan.ensures.kept honest kind types asks)) done c.carry_out.ensures
 
+pub returns-in-Ok-clause-signed : goal.returns-in-Ok-clause-signed
+returns-in-Ok-clause-signed g c = λ done honest signing asks.
+    spent signing _ _ c.in-Ok.plan _ _ (rw c.in-Ok.is at (c.read_plan-plan.ensures.spent honest signing asks)) done c.carry_out.ensures
+
 pub returns-in-Err-clause-runs : goal.returns-in-Err-clause-runs
 returns-in-Err-clause-runs g c =
     let h = c.read_plan-plan.ensures in
     rw c.ending.ensures (stop_runs c.in-Err.stop _ _ (λ is. h.failed (c.in-Err.is ∙ ap Err is)) (λ is. h.disk_failed (c.in-Err.is ∙ ap Err is)) (search rules) (λ text. search rules))
+
+pub returns-in-Ok-clause-spent : goal.returns-in-Ok-clause-spent
+returns-in-Ok-clause-spent g c = λ honest is signing asks.
+    spent_or_refused signing _ _ c.in-Ok.plan _ _ (rw c.in-Ok.is at (c.read_plan-plan.ensures.spent honest signing asks)) c.carry_out.ensures is
+
+pub returns-in-Err-clause-spent : goal.returns-in-Err-clause-spent
+returns-in-Err-clause-spent g c = λ honest is signing asks. inr (fault_line TooMuchJson, (TooMuchJson, refl), search rules)

@@ -63,6 +63,15 @@ returns-clause-kept g c is = c.run-ending.ensures.kept (ends.status_done c.run-e
 pub returns-clause-untouched : goal.returns-clause-untouched
 returns-clause-untouched g c honest = rw c.status.ensures (λ is. c.run-ending.ensures.untouched honest (ends.refusing c.run-ending.result.0 is))
 
+pub returns-clause-signed : goal.returns-clause-signed
+returns-clause-signed g c is = c.run-ending.ensures.signed (ends.status_done c.run-ending.result.0 (sym c.status.ensures ∙ is))
+
+pub returns-clause-spent : goal.returns-clause-spent
+returns-clause-spent g c honest = rw c.status.ensures (λ is. c.run-ending.ensures.spent honest (ends.telling c.run-ending.result.0 is))
+
+pub returns-clause-unspent : goal.returns-clause-unspent
+returns-clause-unspent g c honest = rw c.status.ensures (λ is. c.run-ending.ensures.unspent honest (ends.unsigned c.run-ending.result.0 is))
+
 pub returns-clause-disk : goal.returns-clause-disk
 returns-clause-disk g c other = (c.run-ending.ensures.disk other).0
 

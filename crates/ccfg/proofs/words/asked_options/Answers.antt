@@ -1,9 +1,8 @@
-use Rattle.std.proofs.Common.{ap, ◌∙◌, sym, Ok, codes}
+use Rattle.std.proofs.Common.{◌∙◌, sym, codes}
 use Rattle.clap.specs.Matches.{found_of}
 use Rattle.clap.specs.Walk.{rows_of}
 use Rattle.clap.proofs.WalkLemmas.{first_value-rows}
-use Rattle.ccfg.specs.Words.{asked_under}
-use Rattle.ccfg.proofs.WordLemmas.{identity_options, keygen_options, same_found, same_refused}
+use Rattle.ccfg.proofs.WordLemmas.{keygen_options, other_options, same_found, same_refused}
 use Rattle.ccfg.proofs.words.asked_options.Goals as goal
 
 pub returns-then-eq-clause-found : goal.returns-then-eq-clause-found
@@ -18,14 +17,12 @@ returns-then-eq-clause-refused c =
     let is = keygen_options c.args.name.now (rows_of found) _ _ (sym c.if-eq.true ∙ c.eq.ensures) (c.get_str.ensures ∙ first_value-rows found (codes "kind")) (c.get_str-then-eq.ensures ∙ first_value-rows found (codes "types")) in
     same_refused c.asked_keygen.result _ _ is c.asked_keygen.ensures.refused
 
-pub returns-in-Ok-clause-found : goal.returns-in-Ok-clause-found
-returns-in-Ok-clause-found c =
-    let found = found_of c.args.options.now in
-    let is = identity_options c.args.name.now (rows_of found) _ (sym c.if-eq.false ∙ c.eq.ensures) (c.get_str-2.ensures ∙ first_value-rows found (codes "identity")) in
-    is ∙ ap (asked_under c.args.name.now) c.in-Ok.ensures.found ∙ ap Ok (sym c.task_under.ensures)
+pub returns-else-eq-clause-found : goal.returns-else-eq-clause-found
+returns-else-eq-clause-found c =
+    let is = other_options c.args.name.now (rows_of (found_of c.args.options.now)) (sym c.if-eq.false ∙ c.eq.ensures) in
+    same_found c.asked_with_identity.result _ _ is c.asked_with_identity.ensures.found
 
-pub returns-in-Err-clause-refused : goal.returns-in-Err-clause-refused
-returns-in-Err-clause-refused c =
-    let found = found_of c.args.options.now in
-    let is = identity_options c.args.name.now (rows_of found) _ (sym c.if-eq.false ∙ c.eq.ensures) (c.get_str-2.ensures ∙ first_value-rows found (codes "identity")) in
-    is ∙ ap (asked_under c.args.name.now) c.in-Err.ensures.refused
+pub returns-else-eq-clause-refused : goal.returns-else-eq-clause-refused
+returns-else-eq-clause-refused c =
+    let is = other_options c.args.name.now (rows_of (found_of c.args.options.now)) (sym c.if-eq.false ∙ c.eq.ensures) in
+    same_refused c.asked_with_identity.result _ _ is c.asked_with_identity.ensures.refused

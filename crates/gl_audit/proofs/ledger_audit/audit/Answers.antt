@@ -1,5 +1,9 @@
+use Rattle.std.proofs.Common.{Ok, ap}
 use Rattle.gl_audit.proofs.Steps.{of_taken}
 use Rattle.gl_audit.proofs.ledger_audit.audit.Goals as goal
 
 pub returns-clause-verdict : goal.returns-clause-verdict
 returns-clause-verdict g c = of_taken _ c.verdict_at.result _ _ _ c.verdict_at.ensures.verdict c.in_ok-stop.ensures.ends
+
+pub returns-clause-ended : goal.returns-clause-ended
+returns-clause-ended g c = c.verdict_at.ensures.ended _ (λ is. c.in_ok-stop.ensures.ended (ap Ok is))

@@ -5,7 +5,7 @@ use Rattle.gl_gov.proofs.rows.votes.Goals as goal
 
 pub loop-i-preserved : goal.loop-i-preserved
 loop-i-preserved c = record {
-  found = found_more (vote_of c.args.past.now.requests c.args.id.now) c.loop-i.i _ _ _ c.loop-i.invariant.found c.vote_of.ensures c.in_ok-push_vote.ensures.votes;
+  found = found_more (vote_of c.args.past.now.requests c.args.id.now) c.loop-i.i _ _ _ c.loop-i.invariant.found (c.vote_of.ensures c.args.past.now.requests c.args.id.now c.ballots-ballots.ensures) c.in_ok-push_vote.ensures.votes;
   few = omega (arith, c.loop-i.invariant.few, c.in_ok-push_vote.ensures.size);
 }
 

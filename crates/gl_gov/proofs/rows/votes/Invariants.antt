@@ -5,6 +5,6 @@ use Rattle.gl_gov.proofs.rows.votes.Given as goal
 
 abbrev pub invariant-loop-i : goal.invariant-loop-i
 invariant-loop-i l = record {
-  found : l.ballots.items ≡ filter_map (vote_of l.past.requests l.id) (range_with_len 1 l.i);
-  few : length l.ballots.items ≤ l.i;
+  found : l.votes.items ≡ filter_map (vote_of l.past.requests l.id) (range_with_len 1 l.i);
+  few : length l.votes.items ≤ l.i;
 }

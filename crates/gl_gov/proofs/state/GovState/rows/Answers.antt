@@ -1,5 +1,6 @@
-use Rattle.gl_gov.proofs.States.{state_bounded}
+use Rattle.gl_gov_rules.specs.Changes.{history}
+use Rattle.gl_gov.proofs.Selected.{all_selected}
 use Rattle.gl_gov.proofs.state.GovState.rows.Goals as goal
 
-pub rows-requires : goal.rows-requires
-rows-requires c = record { bounded = state_bounded _ c.self.invariant }
+pub returns : goal.returns
+returns c = record { rows = rw (all_selected (history c.args.self.now)) at c.selected_rows.ensures.rows }

@@ -4,7 +4,7 @@ use Rattle.gl_world.specs.Happened.{answer_to}
 use Rattle.gl_world.specs.Held.{world_now}
 use Rattle.gl_schedule.specs.Playing.{Playing}
 use Rattle.gl_schedule.specs.Text.{outcome_text, sent_text}
-use Rattle.gl_schedule.proofs.EventLemmas.{happens_not, happens_told, may_from, sent_is}
+use Rattle.gl_schedule.proofs.EventLemmas.{group_from, happens_not, happens_told, may_from, sent_is}
 use Rattle.gl_schedule.proofs.machine.Machine.happen.Goals as goal
 
 pub returns-then-not-may_happen : goal.returns-then-not-may_happen
@@ -12,6 +12,7 @@ returns-then-not-may_happen g c =
     let m = c.args.self.now in
     let held = sym (ap (λ (p : Playing). p.world) c.self.view_is) in
     record {
+      group = group_from m _ _ held c.self.invariant.world c.self.invariant.group;
       tells = on_ok_weaker c.put_unnamed.result
           (λ w. happens_not m c.args.event _ _ (may_from m _ c.args.event _ false held c.may_happen.ensures c.if-not-may_happen.true) w) c.put_unnamed.ensures;
     }
@@ -28,6 +29,7 @@ returns g c =
     let new = c.step.new.self in
     let sent = sent_text (world_now m.world) (world_now new.world) in
     record {
+      group = group_from m _ _ held c.self.invariant.world c.self.invariant.group;
       tells = on_ok_weaker c.put_sent.result
           (λ w. happens_told m new c.args.event _ _ (may_from m _ c.args.event _ true held c.may_happen.ensures c.if-not-may_happen.false) c.in_ok-step.ensures.becomes
           (sent_is (world_now m.world) (world_now new.world) c.step.new.out.items _ _ _ c.sent-before.ensures c.sent.ensures w

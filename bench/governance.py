@@ -1,0 +1,66 @@
+#!/usr/bin/env -S python3 -B
+# Replays governance with the built program: 64 members acknowledge, and then propose and vote in turn, each request sent once
+# and four times more (a repeated request is refused, as its leaf was used, once its signature was verified). Prints the least
+# processor time of three runs of 1,000 and of 10,000 such lines without that of beginning the service, their ratio, and the
+# time of the longer one without that of signing, against that of the SHA-256 digests that its 10,000 verified signatures need.
+# Fails where the ratio isn't below 12, or where that time is above 1.5 times those digests.
+import json
+import sys
+import tempfile
+
+import program
+
+MEMBERS, CHAINS, REPEATS, ROUNDS = 64, 67, 4, 3
+WORLD = f"world 1 0 {MEMBERS} open " + "07" * 32
+NAMES = ["set_member", "remove_member", "set_recovery_threshold", "transition_node_to_trusted", "remove_node",
+         "transition_service_to_open", "set_constitution"]
+ACTION = {"name": "set_constitution", "args": {"rules": {name: [1, 2] for name in NAMES}}}
+PROPOSAL = json.dumps({"actions": [ACTION]}, separators=(",", ":"))
+
+# Of a signature: the message's digest, each chain's steps at the mean, and where it is verified the key of its leaf, the leaf and
+# the path above it; where it is made each chain's secret and the randomizer.
+MESSAGE = program.blocks(54 + 200)
+VERIFIED = MESSAGE + CHAINS * 8 + program.blocks(22 + 32 * CHAINS) + program.blocks(54) + 5 * program.blocks(86)
+MADE = MESSAGE + CHAINS * 8 + CHAINS + 1
+
+
+# What the members ask for, in turn: all acknowledge, and then each 34 requests are a proposal and the 33 ballots that accept it.
+def requests(count):
+    for n in range(count):
+        member, turn = n % MEMBERS + 1, (n - MEMBERS) % 34
+        if n < MEMBERS:
+            yield f"ack 1 {member}"
+        elif turn == 0:
+            yield f"propose 1 {member} {PROPOSAL}"
+        else:
+            yield f"ballot 1 {member} {(n - MEMBERS) // 34 + 1} yes"
+
+
+def schedule(count):
+    lines = [WORLD]
+    for request in requests(count // (REPEATS + 1)):
+        lines.append(request)
+        lines += [f"again 1 {len(lines)}"] * REPEATS
+    return lines
+
+
+def measure(work, count, begin):
+    time, _, _, lines = program.replay(work, schedule(count), ROUNDS)
+    made = count // (REPEATS + 1)
+    assert sum(" accepted " in line for line in lines) == made, lines[:200]
+    assert sum(" refused 43 " in line for line in lines) == made * REPEATS
+    assert sum(line.endswith(" Accepted") for line in lines) == (made - MEMBERS) // 34
+    return time - begin
+
+
+program.build()
+with tempfile.TemporaryDirectory() as work:
+    one = program.digest(work)
+    begin = program.replay(work, [WORLD, *requests(MEMBERS)], ROUNDS)[0]
+    small = measure(work, 1_000, begin)
+    large = measure(work, 10_000, begin)
+without_signing = large - (10_000 // (REPEATS + 1) - MEMBERS) * MADE * one
+ratio = without_signing / ((10_000 - MEMBERS) * VERIFIED * one)
+print(f"1,000 lines {small:.3f} s, 10,000 lines {large:.3f} s, ratio {large / small:.1f}")
+print(f"10,000 lines without signing {without_signing:.3f} s, {ratio:.2f} times the digests of their signatures")
+sys.exit(0 if large / small < 12 and ratio <= 1.5 else 1)

@@ -1,0 +1,4 @@
+pub mod Signing
+pub mod Owed
+pub mod Faults
+pub mod Laws

@@ -1,0 +1,53 @@
+-- What is to be signed: with which kind of key, for which use of its leaf, and what a text is read
+-- as.
+use Rattle.std.specs.Prelude.{ℕ, List, [], codes, Bool, true, Result, Ok, Err}
+use Rattle.gl_base.specs.Json.{member_of}
+use Rattle.gl_base.specs.Steps.{◌>>=◌}
+use Rattle.gl_base.specs.declared.json.FormsFault.{FormsFault}
+use Rattle.gl_base.specs.declared.json.FormsFault.TheVariants as forms_faults
+use Rattle.gl_requests.specs.Ranges.{is_act, is_genesis}
+use Rattle.gl_forms.specs.Key.{key_in}
+use Rattle.gl_forms.specs.Requests.{act_in}
+use Rattle.gl_forms.specs.Settings.{settings_in}
+use Rattle.gl_forms.specs.Text.{from_text}
+use Rattle.gl_forms.specs.declared.key.KeyForm.{KeyForm}
+use Rattle.gl_forms.specs.declared.key.KeyForm.TheVariants as forms
+use Rattle.gl_journal.specs.declared.key.KeyKind.{KeyKind}
+use Rattle.gl_journal.specs.declared.key.KeyKind.TheVariants as kinds
+use Rattle.gl_keyfile.specs.declared.leaf.LeafUse.{LeafUse}
+use Rattle.gl_keyfile.specs.declared.leaf.LeafUse.TheVariants as uses
+use Rattle.gl_consortium.specs.declared.document.Document.{Document}
+use Rattle.gl_consortium.specs.declared.document.Document.TheVariants.{NodeKey, Settings, Act}
+use Rattle.gl_consortium.specs.declared.signing.Signing.{Signing}
+use Rattle.gl_consortium.specs.declared.signing.Signing.TheVariants.{Endorsement, Opening, Request}
+
+-- The kind of the key that signs: the service's key endorses, a node's opens, a member's requests.
+abbrev pub kind_of : Signing → KeyKind
+kind_of Endorsement = kinds.Service
+kind_of Opening = kinds.Node
+kind_of (Request identity number) = kinds.Member
+
+-- What its leaf is taken for: an opening starts a service.
+abbrev pub use_of : Signing → LeafUse
+use_of Endorsement = uses.Signature
+use_of Opening = uses.Start
+use_of (Request identity number) = uses.Signature
+
+-- Only the key of a node is endorsed. What endorsement it has doesn't count.
+abbrev pub node_key_of : KeyForm → Result Document FormsFault
+node_key_of (forms.Service key) = Err (forms_faults.Shape (member_of [] (codes "kind")))
+node_key_of (forms.Member key) = Err (forms_faults.Shape (member_of [] (codes "kind")))
+node_key_of (forms.Node key id endorsement) = Ok (NodeKey key id)
+
+-- What a text is read as, where it has the form that is asked for.
+unfoldable pub read : Signing → List ℕ → Result Document FormsFault
+read Endorsement text = from_text key_in text >>= node_key_of
+read Opening text = from_text settings_in text >>= λ g. Ok (Settings g)
+read (Request identity number) text =
+    from_text act_in text >>= λ act. Ok (Act identity number act)
+
+-- The fields of what is read are in their ranges.
+abbrev pub fits : Document → Bool
+fits (NodeKey key id) = true
+fits (Settings g) = is_genesis g
+fits (Act identity number act) = is_act act

@@ -1,0 +1,264 @@
+-- What a request changes of the rows is among those that it touches, so its write set is made of them.
+use Rattle.std.proofs.Common.{◌≡◌, ℕ, suc, List, [], ◌∷◌, ◌++◌, map, filter, filter_map, length, Option, None, Some, is_some, Bool, true, false, not, ◌||◌, ◌==◌, nat_lt, if◌then◌else◌, refl, sym, ◌∙◌, ap, ap₂, append-nil, arith}
+use Rattle.std.specs.List.{list_all, cons_option}
+use Rattle.std.specs.Cmp.Lexicographic.{bytes_decides}
+use Rattle.std.proofs.lemmas.Bool.{and_from, and_parts, or_parts, or_left, or_right}
+use Rattle.std.proofs.lemmas.Bool.Decides.{nat_tests}
+use Rattle.std.proofs.lemmas.List.Elements.{filter_agree, filter_map-append}
+use Rattle.gl_vmaps.specs.Changes.{write_set, are_rows, changes}
+use Rattle.gl_vmaps.specs.declared.write.Write.{Write}
+use Rattle.gl_shares.specs.declared.share.Share.{Share}
+use Rattle.gl_requests.specs.Spelling.{node_id}
+use Rattle.gl_requests.specs.declared.action.Rule.{Rule}
+use Rattle.gl_requests.specs.declared.request.GovernanceRequest.{GovernanceRequest}
+use Rattle.gl_requests.specs.declared.request.GovernanceRequest.TheVariants as requests
+use Rattle.gl_gov_rules.specs.declared.change.Recorded.{Recorded}
+use Rattle.gl_gov_rules.specs.declared.change.RecordedNode.{RecordedNode}
+use Rattle.gl_gov_rules.specs.declared.change.Change.{Change}
+use Rattle.gl_gov_rules.specs.declared.change.Changed.{Changed}
+use Rattle.gl_gov_rules.specs.History.{History, last_set}
+use Rattle.gl_gov_rules.specs.Nodes.{nodes_recorded}
+use Rattle.gl_gov_rules.specs.Service.{sets_rules, constitution, sets_dealing, dealing, identity, is_recovered, service_state, last_clearing, share_in, share_behind, shares_given}
+use Rattle.gl_gov_rules.specs.Changes.{request_changes, changes_of, changed_at, with_request, history}
+use Rattle.gl_gov_rules.specs.Rows.{rule_writes_from, rule_writes_of, write_of, dealing_write, member_rows, member_write, node_rows, node_write, proposal_writes, service_row, service_write, share_write, all_rows, rows, effect_writes}
+use Rattle.gl_gov_rules.proofs.Prefixes.{requests_with, changes_with, history-more}
+use Rattle.gl_gov_rules.proofs.HistoryLists.{nodes_behind}
+use Rattle.gl_gov_rules.proofs.RowsSet.{are_rows_rows}
+use Rattle.gl_gov.specs.declared.touched.Touched.{Touched}
+use Rattle.gl_gov.specs.declared.touched.Selection.TheVariants as selections
+use Rattle.gl_gov.specs.Touched.{node_named, are_any, is_loud, touched_by, is_id_of, touches_node, is_touched, is_selected}
+use Rattle.gl_gov.proofs.Selected.{touched_member, touched_node, touched_rule, touched_dealing, touched_service, touched_share}
+use Rattle.gl_gov.proofs.SetParts.{AsksRow, changes_of_part}
+use Rattle.gl_gov.proofs.Untouched.{left, left-append, left_none, members_left, nodes_left, proposals_left}
+
+-- ---- where a request is loud, all is touched but proposals
+
+module _ (t : Touched) (loud : t.is_loud ≡ true) where
+  all_made : {A : Type 0} (f : A → Write) → ((a : A) → is_touched t (f a) ≡ true) → (xs : List A) → left t (map f xs) ≡ []
+  all_made {A} f each xs = left_none t (map f xs) (all xs)
+    where
+      all : (ys : List A) → list_all (is_touched t) (map f ys) ≡ true
+      all [] = refl
+      all (y ∷ ys) = and_from (is_touched t (f y)) (list_all (is_touched t) (map f ys)) (each y) (all ys)
+
+  all_one : {A : Type 0} (f : A → Write) → ((a : A) → is_touched t (f a) ≡ true) → (o : Option A) → left t (write_of f o) ≡ []
+  all_one f each None = refl
+  all_one f each (Some a) = left_none t (f a ∷ []) (and_from (is_touched t (f a)) true (each a) refl)
+
+  all_rules_from : (number : ℕ) (rules : List Rule) → list_all (is_touched t) (rule_writes_from number rules) ≡ true
+  all_rules_from number [] = refl
+  all_rules_from number (r ∷ rules) = and_from _ (list_all (is_touched t) (rule_writes_from (suc number) rules)) (touched_rule t _ _ ∙ loud) (all_rules_from (suc number) rules)
+
+  all_rules : (o : Option (List Rule)) → left t (rule_writes_of o) ≡ []
+  all_rules None = refl
+  all_rules (Some rules) = left_none t (rule_writes_from 1 rules) (all_rules_from 1 rules)
+
+-- ---- the parts of all rows
+
+-- what is left of each table is the same
+record SameParts (t : Touched) (h k : History) : Type 0 where
+  pub rules : left t (rule_writes_of (constitution k)) ≡ left t (rule_writes_of (constitution h))
+  pub dealt : left t (write_of dealing_write (dealing k)) ≡ left t (write_of dealing_write (dealing h))
+  pub members : left t (map member_write (member_rows k)) ≡ left t (map member_write (member_rows h))
+  pub nodes : left t (map node_write (node_rows k)) ≡ left t (map node_write (node_rows h))
+  pub proposed : left t (proposal_writes k) ≡ left t (proposal_writes h)
+  pub service : left t (write_of service_write (service_row k)) ≡ left t (write_of service_write (service_row h))
+  pub shares : left t (map share_write (shares_given k)) ≡ left t (map share_write (shares_given h))
+
+same_append : (t : Touched) (xs ys us vs : List Write) → left t xs ≡ left t us → left t ys ≡ left t vs → left t (xs ++ ys) ≡ left t (us ++ vs)
+same_append t xs ys us vs one two = left-append t xs ys ∙ ap₂ (λ (a b : List Write). a ++ b) one two ∙ sym (left-append t us vs)
+
+same_parts : (t : Touched) (h k : History) → SameParts t h k → left t (all_rows k) ≡ left t (all_rows h)
+unfolding all_rows
+same_parts t h k same =
+    same_append t _ (map share_write (shares_given k)) _ (map share_write (shares_given h)) (
+    same_append t _ (write_of service_write (service_row k)) _ (write_of service_write (service_row h)) (
+    same_append t _ (proposal_writes k) _ (proposal_writes h) (
+    same_append t _ (map node_write (node_rows k)) _ (map node_write (node_rows h)) (
+    same_append t _ (map member_write (member_rows k)) _ (map member_write (member_rows h)) (
+    same_append t (rule_writes_of (constitution k)) (write_of dealing_write (dealing k)) (rule_writes_of (constitution h)) (write_of dealing_write (dealing h)) same.rules same.dealt)
+    same.members) same.nodes) same.proposed) same.service) same.shares
+
+-- ---- a request behind a history
+
+abbrev NoShare : Option Share → Type 0
+NoShare o = o ≡ None
+
+nothing_about : (cs : List Change) → are_any cs ≡ false → cs ≡ []
+nothing_about [] is = refl
+nothing_about (c ∷ cs) is = absurd (cc)
+
+-- where it isn't loud it brings nothing about, and gives no share
+quiet_changes : (h : History) (r : Recorded) → is_loud h r ≡ false → (with_request h r).changes ≡ h.changes
+unfolding is_loud
+quiet_changes h r is =
+    changes_with h r
+    ∙ ap (λ (cs : List Change). h.changes ++ map (changed_at r.seqno) cs) (nothing_about (changes_of h r) (or_parts (are_any (changes_of h r)) (is_some (share_in r.request)) is).0)
+    ∙ append-nil h.changes
+
+no_share : (h : History) (r : Recorded) → is_loud h r ≡ false → share_in r.request ≡ None
+unfolding is_loud
+no_share h r is = go (share_in r.request) (or_parts (are_any (changes_of h r)) (is_some (share_in r.request)) is).1
+  where
+    go : (o : Option Share) → is_some o ≡ false → o ≡ None
+    go None e = refl
+    go (Some s) e = absurd (cc)
+
+-- a request that brings nothing about records no node but one that it names
+names_recorded : (h : History) (rs : List Recorded) (seqno : ℕ) (q : GovernanceRequest) → are_any (request_changes h rs seqno q) ≡ false →
+    list_all (λ (n : RecordedNode). is_id_of (node_named q) n.id) (nodes_recorded seqno q) ≡ true
+names_recorded h rs seqno (requests.Genesis g) quiet = absurd (cc)
+names_recorded h rs seqno (requests.Recover x) quiet = absurd (cc)
+names_recorded h rs seqno (requests.Join n) quiet = and_from (is_id_of (Some (node_id n)) (node_id n)) true ((bytes_decides (node_id n) (node_id n)).1 refl) refl
+names_recorded h rs seqno (requests.Mark id) quiet = refl
+names_recorded h rs seqno (requests.Member m) quiet = refl
+
+module _ (h : History) (r : Recorded) where
+  abbrev behind : History
+  behind = with_request h r
+
+  abbrev t : Touched
+  t = touched_by h r
+
+  same_proposals : left t (proposal_writes behind) ≡ left t (proposal_writes h)
+  same_proposals = proposals_left h behind r (requests_with h r) t (is_loud h r) (map (changed_at r.seqno) (changes_of h r)) (changes_with h r) (quiet_changes h r) refl
+
+  loud_parts : is_loud h r ≡ true → SameParts t h behind
+  loud_parts loud = record {
+    rules = all_rules t loud (constitution behind) ∙ sym (all_rules t loud (constitution h));
+    dealt = all_one t loud dealing_write (λ d. touched_dealing t _ _ ∙ loud) (dealing behind) ∙ sym (all_one t loud dealing_write (λ d. touched_dealing t _ _ ∙ loud) (dealing h));
+    members = all_made t loud member_write (λ m. touched_member t _ _ ∙ or_left (is_loud h r) _ loud) (member_rows behind) ∙ sym (all_made t loud member_write (λ m. touched_member t _ _ ∙ or_left (is_loud h r) _ loud) (member_rows h));
+    nodes = all_made t loud node_write (λ n. touched_node t _ _ ∙ or_left (is_loud h r) _ loud) (node_rows behind) ∙ sym (all_made t loud node_write (λ n. touched_node t _ _ ∙ or_left (is_loud h r) _ loud) (node_rows h));
+    proposed = same_proposals;
+    service = all_one t loud service_write (λ s. touched_service t _ _ ∙ loud) (service_row behind) ∙ sym (all_one t loud service_write (λ s. touched_service t _ _ ∙ loud) (service_row h));
+    shares = all_made t loud share_write (λ s. touched_share t _ _ ∙ loud) (shares_given behind) ∙ sym (all_made t loud share_write (λ s. touched_share t _ _ ∙ loud) (shares_given h));
+  }
+
+  module _ (calm : is_loud h r ≡ false) where
+    quiet : (behind).changes ≡ h.changes
+    quiet = quiet_changes h r calm
+
+    same_constitution : constitution behind ≡ constitution h
+    unfolding constitution
+    same_constitution = ap (last_set sets_rules) quiet
+
+    same_dealing : dealing behind ≡ dealing h
+    unfolding dealing
+    same_dealing = ap (last_set sets_dealing) quiet
+
+    same_service : service_row behind ≡ service_row h
+    unfolding service_row service_state is_recovered identity
+    same_service = ap (λ (cs : List Changed). service_row (record { requests = []; changes = cs })) quiet
+
+    same_clearing : last_clearing behind ≡ last_clearing h
+    unfolding last_clearing
+    same_clearing = ap (λ (cs : List Changed). last_clearing (record { requests = []; changes = cs })) quiet
+
+    same_shares : shares_given behind ≡ shares_given h
+    unfolding shares_given
+    same_shares =
+        ap₂ (λ (n : ℕ) (rs : List Recorded). filter_map (share_behind n) rs) same_clearing (requests_with h r)
+        ∙ filter_map-append (share_behind (last_clearing h)) h.requests (r ∷ [])
+        ∙ ap (λ (o : Option Share). filter_map (share_behind (last_clearing h)) h.requests ++ cons_option o []) none
+        ∙ append-nil (filter_map (share_behind (last_clearing h)) h.requests)
+      where
+        none : share_behind (last_clearing h) r ≡ None
+        none = ap (λ (o : Option Share). if nat_lt (last_clearing h) r.seqno then o else None) (no_share h r calm) ∙ go (nat_lt (last_clearing h) r.seqno)
+          where
+            go : (b : Bool) → NoShare (if b then None else None)
+            go true = refl
+            go false = refl
+
+    nodes_named : list_all (λ (n : RecordedNode). touches_node t n.id) (nodes_recorded r.seqno r.request) ≡ true
+    unfolding is_loud changes_of
+    nodes_named =
+        go (nodes_recorded r.seqno r.request) (names_recorded h (h.requests ++ r ∷ []) r.seqno r.request (or_parts (are_any (changes_of h r)) (is_some (share_in r.request)) calm).0)
+      where
+        go : (ns : List RecordedNode) → list_all (λ (n : RecordedNode). is_id_of (node_named r.request) n.id) ns ≡ true → list_all (λ (n : RecordedNode). touches_node t n.id) ns ≡ true
+        go [] all = refl
+        go (n ∷ ns) all =
+            let both = and_parts (is_id_of (node_named r.request) n.id) (list_all (λ (m : RecordedNode). is_id_of (node_named r.request) m.id) ns) all in
+            and_from (touches_node t n.id) (list_all (λ (m : RecordedNode). touches_node t m.id) ns) (or_right (is_loud h r) (is_id_of (node_named r.request) n.id) both.0) (go ns both.1)
+
+    quiet_parts : SameParts t h behind
+    quiet_parts = record {
+      rules = ap (λ (o : Option (List Rule)). left t (rule_writes_of o)) same_constitution;
+      dealt = ap (λ o. left t (write_of dealing_write o)) same_dealing;
+      members = members_left h behind r (requests_with h r) t quiet refl;
+      nodes = nodes_left h behind r (requests_with h r) t quiet refl (nodes_recorded r.seqno r.request) (nodes_behind h r) nodes_named;
+      proposed = same_proposals;
+      service = ap (λ o. left t (write_of service_write o)) same_service;
+      shares = ap (λ (ss : List Share). left t (map share_write ss)) same_shares;
+    }
+
+  -- the rows that a request doesn't touch are the same behind it
+  pub untouched : left t (all_rows behind) ≡ left t (all_rows h)
+  untouched = go (is_loud h r) refl
+    where
+      go : (b : Bool) → is_loud h r ≡ b → left t (all_rows behind) ≡ left t (all_rows h)
+      go true is = same_parts t h behind (loud_parts is)
+      go false is = same_parts t h behind (quiet_parts is)
+
+-- ---- the write set
+
+asks_touched : (t : Touched) → AsksRow (is_touched t)
+unfolding is_touched
+asks_touched t w x name key = ap₂ (λ (m k : List ℕ). is_touched t (record { map = m; key = k; value = None })) name key
+
+rows_are_rows : (h : History) → are_rows (write_set (all_rows h)) ≡ true
+unfolding rows
+rows_are_rows h = are_rows_rows h
+
+selected_touched : (t : Touched) (ws : List Write) → filter (is_selected (selections.Touched t)) ws ≡ filter (is_touched t) ws
+unfolding is_selected
+selected_touched t ws = filter_agree (is_selected (selections.Touched t)) (is_touched t) (λ w. refl) ws
+
+-- the write set of a request turns the rows that it touches into those behind it
+pub effect_touched : (rs : List Recorded) (r : Recorded) →
+    changes (write_set (filter (is_selected (selections.Touched (touched_by (history rs) r))) (all_rows (history rs))))
+    (write_set (filter (is_selected (selections.Touched (touched_by (history rs) r))) (all_rows (history (rs ++ r ∷ [])))))
+    ≡ effect_writes rs r
+unfolding rows
+effect_touched rs r =
+    let h = history rs in
+    let k = history (rs ++ r ∷ []) in
+    let touched = touched_by h r in
+    let same : left touched (all_rows h) ≡ left touched (all_rows k) = sym (ap (λ (x : History). left touched (all_rows x)) (history-more rs r) ∙ untouched h r) in
+    ap₂ (λ (xs ys : List Write). changes (write_set xs) (write_set ys)) (selected_touched touched (all_rows h)) (selected_touched touched (all_rows k))
+    ∙ sym (changes_of_part (is_touched touched) (asks_touched touched) (all_rows h) (all_rows k) (rows_are_rows h) (rows_are_rows k) same)
+
+-- so what is told of a request that is recorded is its write set
+pub told_writes : (past : History) (rs next : List Recorded) (r : Recorded) (touched : Touched) (before writes : List Write) → past ≡ history rs → touched ≡ touched_by past r →
+    before ≡ write_set (filter (is_selected (selections.Touched touched)) (all_rows (history rs))) → next ≡ rs ++ r ∷ [] →
+    writes ≡ changes before (write_set (filter (is_selected (selections.Touched touched)) (all_rows (history next)))) → writes ≡ effect_writes rs r
+told_writes past rs next r touched before writes of by old pushed told =
+    told
+    ∙ ap₂ (λ (xs : List Write) (ys : List Recorded). changes xs (write_set (filter (is_selected (selections.Touched touched)) (all_rows (history ys))))) old pushed
+    ∙ ap
+    (λ (x : Touched). changes (write_set (filter (is_selected (selections.Touched x)) (all_rows (history rs)))) (write_set (filter (is_selected (selections.Touched x)) (all_rows (history (rs ++ r ∷ []))))))
+    (by ∙ ap (λ (h : History). touched_by h r) of)
+    ∙ effect_touched rs r
+
+-- ---- whether a request is loud, by its changes at its seqno
+
+any_brought : (seqno : ℕ) (cs : List Change) → not (length (map (changed_at seqno) cs) == 0) ≡ are_any cs
+any_brought seqno [] = refl
+any_brought seqno (c ∷ cs) = grind (arith, nat_tests)
+
+-- it is, where there is a change
+pub loud_by_change : (h : History) (r : Recorded) (brought : List Changed) (empty : Bool) → brought ≡ map (changed_at r.seqno) (changes_of h r) → empty ≡ (length brought == 0) →
+    empty ≡ false → not empty ≡ is_loud h r
+unfolding is_loud
+loud_by_change h r brought empty are tells is =
+    let any : are_any (changes_of h r) ≡ true =
+    sym (any_brought r.seqno (changes_of h r)) ∙ ap (λ (cs : List Changed). not (length cs == 0)) (sym are) ∙ ap not (sym tells ∙ is) in
+    ap not is ∙ sym (or_left (are_any (changes_of h r)) (is_some (share_in r.request)) any)
+
+-- and where there is none, as it gives a share
+pub loud_by_share : (h : History) (r : Recorded) (brought : List Changed) (empty gives : Bool) → brought ≡ map (changed_at r.seqno) (changes_of h r) → empty ≡ (length brought == 0) →
+    empty ≡ true → gives ≡ is_some (share_in r.request) → gives ≡ is_loud h r
+unfolding is_loud
+loud_by_share h r brought empty gives are tells is share =
+    let none : are_any (changes_of h r) ≡ false =
+    sym (any_brought r.seqno (changes_of h r)) ∙ ap (λ (cs : List Changed). not (length cs == 0)) (sym are) ∙ ap not (sym tells ∙ is) in
+    share ∙ sym (ap (λ (b : Bool). b || is_some (share_in r.request)) none)

@@ -1,0 +1,10 @@
+use Rattle.std.proofs.Common.{◌∙◌, sym, ap, map}
+use Rattle.gl_gov_rules.specs.Proposals.{settlings, settling_in}
+use Rattle.gl_gov_rules.proofs.Settled.{kept_settling}
+use Rattle.gl_gov_rules.proofs.history.History.settling.Goals as goal
+
+pub returns-in-Some-settling_at : goal.returns-in-Some-settling_at
+unfolding settlings
+returns-in-Some-settling_at c =
+    kept_settling c.args.self.now.changes c.args.proposal.now c.proposals.result.now c.settlings.result.now c.in-Some.place c.in-Some-settling_at.settling
+    (c.settlings.ensures ∙ ap (map (settling_in c.args.self.now.changes)) (sym c.proposals.ensures)) (sym c.in-Some.ensures) (sym c.in-Some-settling_at.ensures)

@@ -1,0 +1,11 @@
+use Rattle.gl_gov_rules.specs.declared.change.Changed.{Changed}
+use Rattle.gl_gov_rules.specs.Members.{member_named}
+use Rattle.gl_gov_rules.specs.Told.{removed_in}
+use Rattle.gl_gov_rules.proofs.ByRequests.{told_left}
+use Rattle.gl_gov_rules.proofs.index.ByChange.cut.Goals as goal
+
+pub returns : goal.returns
+returns c = λ n cs left before. record {
+  members = told_left (λ (x : Changed). member_named x.change) n _ cs c.args.left.now _ _ left before.members c.named_count.ensures c.truncate.ensures.items;
+  removed = told_left (λ (x : Changed). removed_in x.change) n _ cs c.args.left.now _ _ left before.removed c.removed_count.ensures c.truncate-2.ensures.items;
+}

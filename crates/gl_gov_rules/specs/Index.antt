@@ -1,0 +1,143 @@
+-- What stands beside the requests and the changes of a history, so that no question about members,
+-- nodes, proposals or shares goes through all requests.
+use Rattle.std.specs.Prelude.{◌≡◌, ℕ, ◌+◌, ◌-◌, ◌≤◌, ◌<◌, List, Option, None, Some, length, find, map, filter_map, option_map, slice_get, nat_lt, nat_eq, Bool, ◌&&◌, if◌then◌else◌, vec_len, vec_capacity}
+use Rattle.std.specs.List.{AllByRecursion, position_or_len, flat_map}
+use Rattle.std.specs.declared.vec.Vec.{Vec}
+use Rattle.std.specs.declared.alloc.Global.{Global}
+use Rattle.gl_base.specs.Bytes.{same_bytes}
+use Rattle.gl_requests.specs.declared.request.MemberAct.{MemberAct}
+use Rattle.gl_requests.specs.declared.request.MemberAct.TheVariants as acts
+use Rattle.gl_requests.specs.declared.request.GovernanceRequest.{GovernanceRequest}
+use Rattle.gl_requests.specs.declared.request.GovernanceRequest.TheVariants as requests
+use Rattle.gl_gov_rules.specs.declared.change.Recorded.{Recorded}
+use Rattle.gl_gov_rules.specs.declared.change.Changed.{Changed}
+use Rattle.gl_gov_rules.specs.declared.change.Ballot.{Ballot}
+use Rattle.gl_gov_rules.specs.declared.change.Proposal.{Proposal}
+use Rattle.gl_gov_rules.specs.declared.change.Settling.{Settling}
+use Rattle.gl_gov_rules.specs.declared.told.Signed.{Signed}
+use Rattle.gl_gov_rules.specs.declared.told.Mark.{Mark}
+use Rattle.gl_gov_rules.specs.declared.told.GivenShare.{GivenShare}
+use Rattle.gl_gov_rules.specs.History.{History}
+use Rattle.gl_shares.specs.declared.share.Share.{Share}
+use Rattle.gl_gov_rules.specs.declared.ballots.Ballots.{Ballots}
+use Rattle.gl_gov_rules.specs.declared.index.ByChange.{ByChange}
+use Rattle.gl_gov_rules.specs.declared.index.ByRequest.{ByRequest}
+use Rattle.gl_gov_rules.specs.declared.index.Added.{Added}
+use Rattle.gl_gov_rules.specs.Lists.{lists_of, list_at, HasRoomAt}
+use Rattle.gl_gov_rules.specs.Members.{member_named, leaf_behind}
+use Rattle.gl_gov_rules.specs.Nodes.{nodes_recorded}
+use Rattle.gl_gov_rules.specs.Proposals.{proposal_in, ballot_on, settling_in}
+use Rattle.gl_gov_rules.specs.Told.{removed_in, mark_in, given_in, signed_by}
+
+-- There is room for what a request tells of its signer.
+abbrev pub HasRoomForSigner : List (Vec Signed Global) → GovernanceRequest → Type 0
+HasRoomForSigner vs (requests.Member m) = HasRoomAt vs m.member
+HasRoomForSigner vs other = Unit {0}
+
+-- The place of an identifier, the number of them where it isn't among them.
+abbrev pub place_of : List (List ℕ) → List ℕ → ℕ
+place_of ids id = position_or_len (same_bytes id) ids
+
+-- The ballots on a proposal.
+abbrev pub ballots_in : Ballots → List ℕ → List Ballot
+ballots_in b id = list_at (lists_of b.lists.items) (place_of b.ids.items id)
+
+-- There is room for one more on a proposal, and for the ballot that a request gives.
+pub record HasRoomForBallot (b : Ballots) (id : List ℕ) : Type 0 where
+  pub known : place_of b.ids.items id < length b.ids.items
+  pub room : HasRoomAt b.lists.items (place_of b.ids.items id)
+
+abbrev pub HasRoomForAct : Ballots → MemberAct → Type 0
+HasRoomForAct b (acts.Ballot id agrees) = HasRoomForBallot b id
+HasRoomForAct b other = Unit {0}
+
+abbrev pub HasRoomForAnswer : Ballots → GovernanceRequest → Type 0
+HasRoomForAnswer b (requests.Member m) = HasRoomForAct b m.act
+HasRoomForAnswer b other = Unit {0}
+
+-- The leaves that signed requests are those of trees of 1,024.
+abbrev pub AreLeavesSmall : List Recorded → Type 0
+AreLeavesSmall rs = AllByRecursion (λ (r : Recorded). leaf_behind r.request ≤ 1024) rs
+
+-- The members whom changes name, and the numbers of those whom they remove.
+pub record IsOfChanges (cs : List Changed) (x : ByChange) : Type 0 where
+  pub members : x.members.items ≡ filter_map (λ (c : Changed). member_named c.change) cs
+  pub removed : x.removed.items ≡ filter_map (λ (c : Changed). removed_in c.change) cs
+
+-- What requests tell: the nodes, the marks, the shares and the proposals in order, what is told of
+-- each signer, and the ballots on each proposal.
+pub record IsOfRequests (rs : List Recorded) (x : ByRequest) : Type 0 where
+  pub nodes : x.nodes.items ≡ flat_map (λ (r : Recorded). nodes_recorded r.seqno r.request) rs
+  pub marks : x.marks.items ≡ filter_map (λ (r : Recorded). mark_in r.seqno r.request) rs
+  pub shares : x.shares.items ≡ filter_map (λ (r : Recorded). given_in r.seqno r.request) rs
+  pub proposals : x.proposals.items
+      ≡ filter_map (λ (r : Recorded). proposal_in r.seqno r.request) rs
+  pub signed : (n : ℕ) → list_at (lists_of x.signed.items) n
+      ≡ filter_map (λ (r : Recorded). signed_by n r.seqno r.request) rs
+  pub ballots : (id : List ℕ) → ballots_in x.ballots id ≡ filter_map (ballot_on id) rs
+  pub known : vec_len x.ballots.lists ≤ vec_len x.ballots.ids
+  pub leaves : AreLeavesSmall rs
+
+-- What one request tells that needs memory of its own.
+pub record IsOfRequest (seqno : ℕ) (g : GovernanceRequest) (x : Added) : Type 0 where
+  pub nodes : x.nodes.items ≡ nodes_recorded seqno g
+  pub proposal : x.proposal ≡ proposal_in seqno g
+
+-- There is room for what more changes tell, and for what one more request tells.
+pub record HasRoomForNamed (x more : ByChange) : Type 0 where
+  pub members : vec_len x.members + vec_len more.members ≤ vec_capacity x.members
+  pub removed : vec_len x.removed + vec_len more.removed ≤ vec_capacity x.removed
+
+pub record HasRoomForAdded (x : ByRequest) (added : Added) (g : GovernanceRequest) : Type 0 where
+  pub nodes : vec_len x.nodes + vec_len added.nodes ≤ vec_capacity x.nodes
+  pub marks : vec_len x.marks + 1 ≤ vec_capacity x.marks
+  pub shares : vec_len x.shares + 1 ≤ vec_capacity x.shares
+  pub proposals : vec_len x.proposals + 1 ≤ vec_capacity x.proposals
+  pub signer : HasRoomForSigner x.signed.items g
+  pub answer : HasRoomForAnswer x.ballots g
+
+-- The proposals that requests make.
+abbrev pub made : List Recorded → List Proposal
+made rs = filter_map (λ (r : Recorded). proposal_in r.seqno r.request) rs
+
+-- What stands beside a history.
+pub record IsIndexed (rs : List Recorded) (cs : List Changed) (x : ByChange) (y : ByRequest)
+    (ss : List (Option Settling)) : Type 0 where
+  pub changes : IsOfChanges cs x
+  pub requests : IsOfRequests rs y
+  pub settlings : ss ≡ map (settling_in cs) (made rs)
+
+-- The numbers of the members who were removed, the marks, the shares that were given at any time,
+-- and what is told of a signer.
+unfoldable pub removed : History → List ℕ
+removed h = filter_map (λ (c : Changed). removed_in c.change) h.changes
+
+unfoldable pub marks_of : History → List Mark
+marks_of h = filter_map (λ (r : Recorded). mark_in r.seqno r.request) h.requests
+
+unfoldable pub given : History → List GivenShare
+given h = filter_map (λ (r : Recorded). given_in r.seqno r.request) h.requests
+
+unfoldable pub signed : ℕ → History → List Signed
+signed n h = filter_map (λ (r : Recorded). signed_by n r.seqno r.request) h.requests
+
+-- 1 plus the leaf of the last of these, 0 without one.
+abbrev pub next_or_zero : Option Signed → ℕ
+next_or_zero None = 0
+next_or_zero (Some s) = s.next_leaf
+
+abbrev pub last_leaf : List Signed → ℕ
+last_leaf ss = next_or_zero (slice_get ss (length ss - 1))
+
+-- The seqno of the first mark of a node.
+abbrev pub first_mark : List ℕ → List Mark → Option ℕ
+first_mark id ms =
+    option_map (λ (m : Mark). m.seqno) (find (λ (m : Mark). same_bytes id m.id) ms)
+
+-- A share, where it was given behind a seqno.
+abbrev pub given_behind : ℕ → GivenShare → Option Share
+given_behind seqno g = if nat_lt seqno g.seqno then Some g.share else None
+
+-- Two proposals have the same identifier and the same seqno.
+abbrev pub is_same_proposal : Proposal → Proposal → Bool
+is_same_proposal p q = nat_eq p.seqno q.seqno && same_bytes p.id q.id

@@ -1,0 +1,43 @@
+-- What a request tells of a node that it marks, of the share that it gives and of the member who
+-- signed it; and the removal that a change applies. Each is kept beside a history.
+use Rattle.std.specs.Prelude.{ℕ, suc, Option, None, Some, option_map, nat_eq, if◌then◌else◌}
+use Rattle.gl_shares.specs.declared.share.Share.{Share}
+use Rattle.gl_requests.specs.declared.action.Action.TheVariants as actions
+use Rattle.gl_requests.specs.declared.request.MemberRequest.{MemberRequest}
+use Rattle.gl_requests.specs.declared.request.GovernanceRequest.{GovernanceRequest}
+use Rattle.gl_requests.specs.declared.request.GovernanceRequest.TheVariants as requests
+use Rattle.gl_gov_rules.specs.declared.change.Change.{Change}
+use Rattle.gl_gov_rules.specs.declared.change.Change.TheVariants as changes
+use Rattle.gl_gov_rules.specs.declared.told.Mark.{Mark}
+use Rattle.gl_gov_rules.specs.declared.told.GivenShare.{GivenShare}
+use Rattle.gl_gov_rules.specs.declared.told.Signed.{Signed}
+use Rattle.gl_gov_rules.specs.Members.{is_ack}
+use Rattle.gl_gov_rules.specs.Service.{share_in}
+use Rattle.gl_gov_rules.specs.Signatures.{leaf_of}
+
+-- The number of the member whose removal the change applies.
+abbrev pub removed_in : Change → Option ℕ
+removed_in (changes.Applied (actions.RemoveMember number)) = Some number
+removed_in other = None
+
+-- The mark of a node.
+abbrev pub mark_in : ℕ → GovernanceRequest → Option Mark
+mark_in seqno (requests.Mark id) = Some (record { id = id; seqno = seqno })
+mark_in seqno other = None
+
+-- The share that is given.
+abbrev pub given_share : ℕ → Share → GivenShare
+given_share seqno share = record { seqno = seqno; share = share }
+
+abbrev pub given_in : ℕ → GovernanceRequest → Option GivenShare
+given_in seqno g = option_map (given_share seqno) (share_in g)
+
+-- What is told of its signer.
+abbrev pub signed_in : ℕ → MemberRequest → Signed
+signed_in seqno m =
+    record { seqno = seqno; next_leaf = suc (leaf_of m.signature); is_ack = is_ack m.act }
+
+abbrev pub signed_by : ℕ → ℕ → GovernanceRequest → Option Signed
+signed_by number seqno (requests.Member m) =
+    if nat_eq m.member number then Some (signed_in seqno m) else None
+signed_by number seqno other = None

@@ -1,0 +1,239 @@
+//! What stands beside the requests and the changes of a history, so that no question about members,
+//! nodes, proposals or shares goes through all requests.
+
+ghost use Rattle.std.specs.Prelude.{◌≡◌, ℕ, ◌+◌, ◌≤◌, ◌++◌, ◌∷◌, [], List, take, vec_len, vec_capacity, true, IfOk, OnOk};
+ghost use Rattle.std.specs.Option.{option_to_list};
+ghost use Rattle.gl_requests.specs.Ranges.{is_request};
+ghost use Rattle.gl_gov_rules.specs.declared.change.Recorded.{Recorded};
+ghost use Rattle.gl_gov_rules.specs.declared.change.Changed.{Changed};
+ghost use Rattle.gl_gov_rules.specs.Governed.{up_to};
+ghost use Rattle.gl_gov_rules.specs.Rising.{IsRising};
+ghost use Rattle.gl_gov_rules.specs.Index.{IsOfChanges, IsOfRequests, IsOfRequest, HasRoomForAdded, HasRoomForNamed};
+
+use crate::ballots::Ballots;
+use crate::change::{Changed, Proposal, Recorded, RecordedNode};
+use crate::copy::copy_all;
+use crate::lists::{copy_lists, cut_list, cut_lists};
+use crate::members::{named_count, push_member_named, push_removed, removed_count};
+use crate::nodes::push_nodes_recorded;
+use crate::proposals::proposal_in;
+use crate::told::{GivenShare, Mark, Signed, given_in, mark_in, push_signer, reserve_signer};
+use gl_requests::{GovernanceRequest, NewMember};
+use std::alloc::{AllocError, Global};
+
+/// What changes tell.
+#[derive(Drop)]
+pub(crate) struct ByChange {
+    /// The members whom they name.
+    pub(crate) members: Vec<NewMember>,
+    /// The numbers of the members whom they remove.
+    pub(crate) removed: Vec<u8>,
+}
+
+/// What requests tell.
+#[derive(Drop)]
+pub(crate) struct ByRequest {
+    pub(crate) nodes: Vec<RecordedNode>,
+    pub(crate) marks: Vec<Mark>,
+    pub(crate) shares: Vec<GivenShare>,
+    pub(crate) proposals: Vec<Proposal>,
+    /// For each member's number, what the requests tell that it signed.
+    pub(crate) signed: Vec<Vec<Signed>>,
+    pub(crate) ballots: Ballots,
+}
+
+/// What one request tells that needs memory of its own.
+#[derive(Drop)]
+pub(crate) struct Added {
+    nodes: Vec<RecordedNode>,
+    proposal: Option<Proposal>,
+}
+
+/// Moves more to the end of a list that has room for it.
+pub(crate) fn append_reserved<T: Drop>(list: &mut Vec<T>, more: Vec<T>)
+    requires { vec_len list.old + vec_len more ≤ vec_capacity list.old }
+    ensures { list.new.items ≡ list.old.items ++ more.items }
+{
+    let mut more = more;
+    if list.append(&mut more).is_err() {
+        unreachable!();
+    }
+}
+
+/// Adds an item, where there is one, to a list that has room for it.
+fn push_some<T: Drop>(list: &mut Vec<T>, item: Option<T>)
+    requires { vec_len list.old + 1 ≤ vec_capacity list.old }
+    ensures { list.new.items ≡ list.old.items ++ option_to_list item }
+{
+    if let Some(item) = item {
+        list.push_reserved(item);
+    }
+}
+
+impl ByChange {
+    /// What no change tells.
+    pub(crate) fn new(alloc: Global) -> Self
+        ensures { IsOfChanges [] result }
+    {
+        ByChange {
+            members: Vec::new(alloc),
+            removed: Vec::new(alloc),
+        }
+    }
+
+    /// Adds what one more change tells.
+    pub(crate) fn push(&mut self, changed: &Changed) -> Result<(), AllocError>
+        ensures { OnOk result ((cs : List Changed) →
+            IsOfChanges cs self.old → IsOfChanges (cs ++ changed.now ∷ []) self.new) }
+    {
+        push_member_named(&mut self.members, &changed.change)?;
+        push_removed(&mut self.removed, &changed.change)?;
+        Ok(())
+    }
+
+    /// What these changes tell.
+    pub(crate) fn of(alloc: Global, changes: &[Changed]) -> Result<Self, AllocError>
+        ensures { IfOk result (λ told. IsOfChanges changes.now told) }
+    {
+        let mut told = ByChange::new(alloc);
+        for changed in changes {
+            told.push(changed)?;
+        }
+        Ok(told)
+    }
+
+    /// The same once more, in memory of its own.
+    pub(crate) fn copy(&self, alloc: Global) -> Result<Self, AllocError>
+        ensures { IfOk result (λ copy.
+            (cs : List Changed) → IsOfChanges cs self.now → IsOfChanges cs copy) }
+    {
+        Ok(ByChange {
+            members: Vec::from_slice(alloc, &self.members)?,
+            removed: Vec::from_slice(alloc, &self.removed)?,
+        })
+    }
+
+    /// Makes room for what more changes tell.
+    pub(crate) fn reserve(&mut self, more: &ByChange) -> Result<(), AllocError>
+        ensures same { (cs : List Changed) → IsOfChanges cs self.old → IsOfChanges cs self.new }
+        ensures room { OnOk result (HasRoomForNamed self.new more.now) }
+    {
+        self.members.reserve(more.members.len())?;
+        self.removed.reserve(more.removed.len())
+    }
+
+    /// Adds what more changes tell.
+    pub(crate) fn append(&mut self, more: ByChange)
+        requires { HasRoomForNamed self.old more }
+        ensures { (cs ds : List Changed) →
+            IsOfChanges cs self.old → IsOfChanges ds more → IsOfChanges (cs ++ ds) self.new }
+    {
+        append_reserved(&mut self.members, more.members);
+        append_reserved(&mut self.removed, more.removed);
+    }
+
+    /// Cuts it back to what the first changes tell, which are left.
+    pub(crate) fn cut(&mut self, left: &[Changed])
+        ensures { (n : ℕ) (cs : List Changed) →
+            left.now ≡ take n cs → IsOfChanges cs self.old → IsOfChanges left.now self.new }
+    {
+        self.members.truncate(named_count(left));
+        self.removed.truncate(removed_count(left));
+    }
+}
+
+impl Added {
+    /// What the request at a seqno tells.
+    pub(crate) fn of(
+        alloc: Global,
+        seqno: u64,
+        request: &GovernanceRequest,
+    ) -> Result<Self, AllocError>
+        requires { is_request request.now ≡ true }
+        ensures { IfOk result (λ told. IsOfRequest seqno request.now told) }
+    {
+        let mut nodes = Vec::new(alloc);
+        push_nodes_recorded(alloc, &mut nodes, seqno, request)?;
+        let proposal = proposal_in(alloc, seqno, request)?;
+        Ok(Added { nodes, proposal })
+    }
+}
+
+impl ByRequest {
+    /// What no request tells.
+    pub(crate) fn new(alloc: Global) -> Self
+        ensures { IsOfRequests [] result }
+    {
+        ByRequest {
+            nodes: Vec::new(alloc),
+            marks: Vec::new(alloc),
+            shares: Vec::new(alloc),
+            proposals: Vec::new(alloc),
+            signed: Vec::new(alloc),
+            ballots: Ballots::new(alloc),
+        }
+    }
+
+    /// The same once more, in memory of its own.
+    pub(crate) fn copy(&self, alloc: Global) -> Result<Self, AllocError>
+        ensures { IfOk result (λ copy.
+            (rs : List Recorded) → IsOfRequests rs self.now → IsOfRequests rs copy) }
+    {
+        Ok(ByRequest {
+            nodes: copy_all(alloc, &self.nodes)?,
+            marks: Vec::from_slice(alloc, &self.marks)?,
+            shares: Vec::from_slice(alloc, &self.shares)?,
+            proposals: copy_all(alloc, &self.proposals)?,
+            signed: copy_lists(alloc, &self.signed)?,
+            ballots: self.ballots.copy(alloc)?,
+        })
+    }
+
+    /// Makes room for what one more request tells.
+    pub(crate) fn reserve(
+        &mut self,
+        alloc: Global,
+        added: &Added,
+        request: &GovernanceRequest,
+    ) -> Result<(), AllocError>
+        requires { vec_len self.old.ballots.lists ≤ vec_len self.old.ballots.ids }
+        ensures same { (rs : List Recorded) → IsOfRequests rs self.old → IsOfRequests rs self.new }
+        ensures room { OnOk result (HasRoomForAdded self.new added.now request.now) }
+    {
+        self.nodes.reserve(added.nodes.len())?;
+        self.marks.reserve(1)?;
+        self.shares.reserve(1)?;
+        self.proposals.reserve(1)?;
+        reserve_signer(alloc, &mut self.signed, request)?;
+        self.ballots.reserve(alloc, request)
+    }
+
+    /// Adds what one more request tells.
+    pub(crate) fn push(&mut self, added: Added, recorded: &Recorded)
+        requires room { HasRoomForAdded self.old added recorded.now.request }
+        requires told { IsOfRequest recorded.now.seqno recorded.now.request added }
+        ensures { (rs : List Recorded) →
+            IsOfRequests rs self.old → IsOfRequests (rs ++ recorded.now ∷ []) self.new }
+    {
+        let seqno = recorded.seqno;
+        append_reserved(&mut self.nodes, added.nodes);
+        push_some(&mut self.marks, mark_in(seqno, &recorded.request));
+        push_some(&mut self.shares, given_in(seqno, &recorded.request));
+        push_some(&mut self.proposals, added.proposal);
+        push_signer(&mut self.signed, seqno, &recorded.request);
+        self.ballots.push(seqno, &recorded.request);
+    }
+
+    /// Cuts it back to what the requests up to a seqno tell.
+    pub(crate) fn cut(&mut self, to: u64)
+        ensures { (rs : List Recorded) →
+            IsRising rs → IsOfRequests rs self.old → IsOfRequests (up_to to rs) self.new }
+    {
+        cut_list(&mut self.nodes, to);
+        cut_list(&mut self.marks, to);
+        cut_list(&mut self.shares, to);
+        cut_list(&mut self.proposals, to);
+        cut_lists(&mut self.signed, to);
+        self.ballots.cut(to);
+    }
+}

@@ -19,7 +19,7 @@ def entries_of(data):
     while ledger.at < len(data):
         entry = reader.Entry(ledger)
         service.take(entry)
-        yield entry, service.key()
+        yield entry, service.identity
 
 
 def components_of(entry, key):

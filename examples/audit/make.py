@@ -8,13 +8,14 @@ PROGRAM is the path of the built `ccfg`. It replays the schedules of this folder
 asks for the ledger; the frames that it prints in hexadecimal, one behind the other, are the bytes
 of the ledger. Without a word those of the first ledger in the answers of any replay are written.
 """
-import hashlib
 import json
 import subprocess
 import sys
 from pathlib import Path
 
 from leaf import components_of, entries_of
+from lms_key import Key
+from verify_ledger import sha256
 
 HERE = Path(__file__).resolve().parent
 SEED, OTHER_SEED = "00" * 32, "11" * 32
@@ -40,35 +41,9 @@ def ledger_of(program, schedule):
     return ledger_in(made.stdout)
 
 
-def sha256(*parts):
-    return hashlib.sha256(b"".join(parts)).digest()
-
-
-def big(n, size):
-    return n.to_bytes(size, "big")
-
-
 def service_key(seed):
-    """The service's key, from the seed of its schedule (docs/SCHEDULE.md, RFC 8554)."""
-    seed = sha256(b"svc", bytes.fromhex(seed))
-    identifier = sha256(b"gl-id", seed)[:16]
-
-    def leaf(q):
-        prefix, ends = identifier + big(q, 4), []
-        for i in range(67):
-            value = sha256(prefix, big(i, 2), b"\xff", seed)
-            for j in range(15):
-                value = sha256(prefix, big(i, 2), big(j, 1), value)
-            ends.append(value)
-        ots_key = sha256(prefix, b"\x80\x80", *ends)
-        return sha256(identifier, big(32 + q, 4), b"\x82\x82", ots_key)
-
-    def node(r):
-        if r >= 32:
-            return leaf(r - 32)
-        return sha256(identifier, big(r, 4), b"\x83\x83", node(2 * r), node(2 * r + 1))
-
-    return big(2, 4) + big(5, 4) + big(3, 4) + identifier + node(1)
+    """The service's key, from the seed of its schedule (docs/SCHEDULE.md)."""
+    return Key(sha256(b"svc", bytes.fromhex(seed))).hss(2)
 
 
 def root_of(leaves):

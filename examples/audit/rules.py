@@ -16,13 +16,13 @@ from pathlib import Path
 
 import verify_ledger as reader
 from leaf import entries_of
+from lms_key import Key
+from make import SEED
+from recover_ledger import Founder, frame, front_of
+from verify_ledger import behind_length, big, little, sha256, signed_message
 
 HERE = Path(__file__).resolve().parent
 IDENTITY = bytes.fromhex((HERE / "identity").read_text())
-
-
-def little(n, size):
-    return n.to_bytes(size, "little")
 
 
 def ends_of(data):
@@ -38,6 +38,8 @@ LONGER = (HERE / "valid.ledger").read_bytes()
 BASE = LONGER[: ends_of(LONGER)[4]]
 VOTE = (HERE / "vote.ledger").read_bytes()
 OPENING = VOTE[: ends_of(VOTE)[2]]
+FOUNDER = Founder(bytes([0x22] * 32))
+RECOVERED = FOUNDER.found(front_of(LONGER))
 
 # The entries of the base: 2.1 genesis, 2.2 signature, 2.3 application, 2.4 signature. A frame has
 # its version at 0, flags at 1, the body's size at 2; its view at 8, seqno at 12, kind at 20, the
@@ -65,27 +67,39 @@ PUT_VALUE, PUT_WRITTEN = END + 50, END + 85
 V3, V4, V5, V6 = ends_of(VOTE)[2:6]
 ACTIVE, LEAF, PROPOSED, DECIDED = 2418, 2481, 2549, 2580
 WRITE_COUNT, OPENED, OPENED_END = 2416, 2590, 2683
+# The recovery: 3.9, and 3.10 opens the service. In the content of 3.9: identity 1, count of nodes
+# 61, endorsement behind its length 122. In its write set: the old node's status and the seqno of
+# the entry that retired it, the new node's order and status, the service's state and whether it
+# was recovered.
+R9, R10, RECOVERED_END = ends_of(RECOVERED)[8:]
+NEW_IDENTITY, NEW_COUNT, NEW_ENDORSEMENT = R9 + CONTENT + 1, R9 + CONTENT + 61, R9 + CONTENT + 122
+OLD_ROW = RECOVERED.index(NODE_ID, R9) + 32 + 5
+OLD_STATUS, OLD_REMOVAL = OLD_ROW + 2, OLD_ROW + 2 + 1 + 56 + 4 + 2348
+NEW_ORDER = RECOVERED.index(sha256(FOUNDER.node.public()), R9) + 32 + 5
+NEW_STATUS, NEW_STATE, WAS_RECOVERED = NEW_ORDER + 2, R10 - 32 - 62, R10 - 32 - 61
 
 
-def frame(view, seqno, kind, content):
-    """The frame of an entry that writes and claims nothing."""
-    body = little(view, 4) + little(seqno, 8) + little(kind, 1)
-    body += little(len(content), 4) + content + bytes(4 + 32)
-    return b"\x01\x00" + little(len(body), 6) + body
-
-
-def root_of(data):
-    """The root over the leaves of all entries of a ledger."""
+def root_of(data, identity=None):
+    """The root over the leaves of all entries of a ledger, each under the key in force or this."""
     tree = reader.Tree()
     for entry, key in entries_of(data):
-        tree.add(entry.leaf(key))
+        tree.add(entry.leaf(identity or key))
     return tree.root()
 
 
-def unsigned(data, seqno, commit):
+def unsigned(data, seqno, commit, view=2):
     """A signature entry behind a ledger, whose signature has no bytes."""
     content = NODE_ID + little(commit, 8) + root_of(data) + little(0, 4)
-    return frame(2, seqno, 3, content)
+    return frame(view, seqno, 3, content)
+
+
+def signed(data, seqno, commit, view):
+    """A signature entry behind a ledger, by the node of the genesis and under that key."""
+    root, node = root_of(data), Key(sha256(b"node", little(1, 4), bytes.fromhex(SEED)))
+    signature = node.sign(31, signed_message(root, view, seqno, commit))
+    signature = big(1, 4) + BASE[ENDORSEMENT : ENDORSEMENT + 2348] + node.public() + signature
+    content = NODE_ID + little(commit, 8) + root + behind_length(signature)
+    return frame(view, seqno, 3, content)
 
 
 def put(at, data):
@@ -106,6 +120,18 @@ def behind(data):
     return END, 0, data
 
 
+def recovered_by(data):
+    return R9, RECOVERED_END - R9, data
+
+
+def opened_by(data):
+    return R10, RECOVERED_END - R10, data
+
+
+def recovered_behind(data):
+    return RECOVERED_END, 0, data
+
+
 def edited(data, edits):
     for at, gone, come in reversed(edits):
         data = data[:at] + come + data[at + gone :]
@@ -115,8 +141,11 @@ def edited(data, edits):
 # The base with another value in 2.3, in the request and in the write set.
 FORGED = [flip(BASE, E3 + VALUE), flip(BASE, E3 + WRITTEN)]
 FORGED_ROOT = root_of(edited(BASE, FORGED)[:E4])
+OLD_KEY_ROOT = root_of(RECOVERED[:R10], IDENTITY)
 FOUNDING = b"\x01\x02" + IDENTITY + bytes(2) + bytes(1 + 32 + 1)
 RECOVERY = b"\x02" + IDENTITY + bytes(1)
+OLD_AGAIN = b"\x02" + IDENTITY + b"\x01" + BASE[NODE_KEY : ENDORSEMENT + 2348]
+NEW_AGAIN = RECOVERED[R9 + CONTENT : NEW_ENDORSEMENT + 2348]
 MARK = b"\x04" + NODE_ID
 ACK = b"\x05\x01" + bytes(4)
 STRANGER = b"\x05\x07" + bytes(4)
@@ -128,6 +157,7 @@ ROW_A, ROW_B = b"\x08public:t\x01\x00a", b"\x08public:t\x01\x00b"  # 01 stands i
 NO_NUMBER = b"\x01\x00\x05" + ROW_A + little(1, 8)
 OVERFLOW = b"\x02\x00\x05" + ROW_B + little(2**64 - 1, 8) + b"\x05" + ROW_B + little(1, 8)
 NOT_THERE = b"\x02\x00\x08\x08public:t\x06" + ROW_B + b"\x01" + little(0, 4)
+PUT = b"\x01\x00\x03" + ROW_B + little(0, 4)
 NO_KEY = b"\x02\x00\x03" + ROW_B + little(0, 4) + b"\x07" + ROW_B + b"\x08public:t"
 
 BASE_ROWS = [
@@ -168,6 +198,9 @@ BASE_ROWS = [
     ("the first view is 3", [put(E1 + VIEW, b"\x03")], 1, 3),
     ("an application stands first", [cut(E1, E3), put(E3 + SEQNO, b"\x01")], 1, 3),
     ("a signature stands first", [cut(E1, E2), put(E2 + SEQNO, b"\x01")], 1, 3),
+    ("a recovery stands first", [(E1, END, frame(2, 1, 1, RECOVERY))], 1, 3),
+    ("a recovery in the view of the last signature", [behind(frame(2, 5, 1, RECOVERY))], 5, 3),
+    ("a recovery that leaves a view out", [behind(frame(4, 5, 1, RECOVERY))], 5, 3),
     ("the view of an application falls", [put(E3 + VIEW, b"\x01")], 3, 3),
     ("the view of a signature falls", [put(E4 + VIEW, b"\x00")], 4, 3),
     ("a view of one entry alone: the one behind it falls", [put(E3 + VIEW, b"\x03")], 4, 3),
@@ -175,7 +208,8 @@ BASE_ROWS = [
     ("the opening signature is of a later view", [put(E2 + VIEW, b"\x03")], 2, 4),
     ("no signature behind the genesis", [cut(E2, E3), put(E3 + SEQNO, b"\x02")], 2, 4),
     ("a second genesis", [behind(frame(2, 5, 1, FOUNDING))], 5, 4),
-    ("a recovery", [behind(frame(2, 5, 1, RECOVERY))], 5, 4),
+    ("a recovery right behind the genesis", [(E2, END - E2, frame(3, 2, 1, RECOVERY))], 2, 4),
+    ("a recovery behind an application", [(E4, END - E4, frame(3, 4, 1, RECOVERY))], 4, 4),
     # Rule 5.
     ("a map that isn't public", [put(E3 + MAP, b"x")], 3, 5),
     ("the same, behind a signature", [behind(frame(2, 5, 2, UNPUBLIC))], 5, 5),
@@ -351,11 +385,46 @@ OPENING_ROWS = [
     ("5: the service isn't open", [(len(OPENING), 0, BASE[E3:E4])], 3, 5),
 ]
 
+RECOVERED_ROWS = [
+    # Rules 1 to 4.
+    ("a recovery with one node says two", [put(NEW_COUNT, b"\x02")], 9, 1),
+    ("the recovery is of the view before", [put(R9 + VIEW, b"\x02")], 9, 3),
+    ("the recovery leaves a view out", [put(R9 + VIEW, b"\x04")], 9, 3),
+    ("the view behind the recovery falls", [put(R10 + VIEW, b"\x02")], 10, 3),
+    ("the opening signature is of a later view", [put(R10 + VIEW, b"\x04")], 10, 4),
+    ("no signature behind the recovery", [opened_by(frame(3, 10, 2, NOT_THERE))], 10, 4),
+    ("a recovery right behind the recovery", [opened_by(frame(4, 10, 1, RECOVERY))], 10, 4),
+    ("a genesis behind the recovery", [recovered_behind(frame(3, 11, 1, FOUNDING))], 11, 4),
+    # Rules 5 to 8.
+    ("the recovered service isn't open", [recovered_behind(frame(3, 11, 2, PUT))], 11, 5),
+    ("a recovery without a node", [recovered_by(frame(3, 9, 1, RECOVERY))], 9, 7),
+    ("a recovery that names the old node", [recovered_by(frame(3, 9, 1, OLD_AGAIN))], 9, 7),
+    ("a second one that names the same", [recovered_behind(frame(4, 11, 1, NEW_AGAIN))], 11, 7),
+    ("the new node's endorsement is changed", [flip(RECOVERED, NEW_ENDORSEMENT + 2000)], 9, 7),
+    ("the old key is named", [put(NEW_IDENTITY, IDENTITY)], 9, 7),
+    ("the old node stays trusted", [put(OLD_STATUS, b"\x02")], 9, 8),
+    ("the old node was retired earlier", [put(OLD_REMOVAL, b"\x08")], 9, 8),
+    ("the new node is the first", [put(NEW_ORDER, b"\x01")], 9, 8),
+    ("the new node is pending", [put(NEW_STATUS, b"\x01")], 9, 8),
+    ("the service's row says open", [put(NEW_STATE, b"\x02")], 9, 8),
+    ("the service's row says never recovered", [put(WAS_RECOVERED, b"\x00")], 9, 8),
+    # Rules 9 to 11.
+    ("another root in the opening signature", [flip(RECOVERED, R10 + ROOT)], 10, 9),
+    ("the root with a leaf under the old key", [put(R10 + ROOT, OLD_KEY_ROOT)], 10, 9),
+    ("the opening signature commits the one before", [put(R10 + COMMIT, b"\x08")], 10, 10),
+    ("a commit before the recovery", [recovered_behind(unsigned(RECOVERED, 11, 8, 3))], 11, 10),
+    ("11: the commit 10 is not", [recovered_behind(unsigned(RECOVERED, 11, 10, 3))], 11, 11),
+    ("the opening signature's last byte", [flip(RECOVERED, R10 + SIGN_END - 1)], 10, 11),
+    ("the old node opens the service", [opened_by(signed(RECOVERED[:R10], 10, 10, 3))], 10, 11),
+    ("the old node signs behind it", [recovered_behind(signed(RECOVERED, 11, 10, 3))], 11, 11),
+]
+
 TABLES = [
     ("BASE", "the first four entries of valid.ledger", BASE, BASE_ROWS),
     ("LONGER", "valid.ledger", LONGER, LONGER_ROWS),
     ("VOTE", "vote.ledger", VOTE, VOTE_ROWS),
     ("OPENING", "the first two entries of vote.ledger", OPENING, OPENING_ROWS),
+    ("RECOVERED", "valid.ledger, recovered from the seed 22..22", RECOVERED, RECOVERED_ROWS),
 ]
 FRONTS = [(E2, "valid 2.1 -"), (E3, "valid 2.2 2.2"), (E4, "valid 2.3 2.2"), (END, "valid 2.4 2.4")]
 
@@ -435,7 +504,7 @@ def front_verdict(size):
 def try_rows(told, tries):
     bad = 0
     for table, _, data, rows in TABLES:
-        tried = [row for row in rows if tries(row)]
+        tried = [row for row in rows if tries(table, row)]
         for name, edits, seqno, rule in tried:
             bad += differs(told, name, edited(data, edits), f"fault seqno {seqno} rule {rule}")
         print(f"{table.lower()}: {len(tried)} of {len(rows)} rows tried")
@@ -460,14 +529,14 @@ def try_bits(told, bits):
 
 
 def try_all(words):
-    """Tries the rows, each front and changed bits: with the reader, which knows rules 7 and 8 of a
-    genesis alone, or with a program."""
+    """Tries the rows, each front and changed bits: with the reader, which knows rules 7 and 8 of
+    foundings alone, or with a program."""
     if words:
         told = told_by(words[0])
-        bad = try_rows(told, lambda row: True) + try_fronts(told) + try_bits(told, [0])
+        bad = try_rows(told, lambda table, row: True) + try_fronts(told) + try_bits(told, [0])
     else:
         reader.is_signed = functools.lru_cache(None)(reader.is_signed)
-        known = lambda row: row[3] not in (7, 8) or row[2] == 1
+        known = lambda table, row: row[3] not in (7, 8) or row[2] == 1 or table == "RECOVERED"
         bad = try_rows(told_by_reader, known) + try_fronts(told_by_reader)
         bad += try_bits(told_by_reader, range(8))
     print("all as wanted" if bad == 0 else f"{bad} differ")

@@ -7,8 +7,8 @@ HEX is the service's key, 60 bytes as lower-case hexadecimal; the ledger is FILE
 input. It prints `valid LAST SIGNED` (status 0), `fault seqno N rule R` or `fault foreign HEX`
 (status 1), as docs/AUDIT.md tells. It knows that page, docs/FORMATS.md and RFC 8554 alone.
 
-Of requests of governance rules 7 and 8 are tried of the genesis alone. The write set of a later one
-is taken as it stands, and that is said on the standard error.
+Of requests of governance rules 7 and 8 are tried where they found the service, once or anew. The
+write set of any other is taken as it stands, and that is said on the standard error.
 """
 import argparse
 import hashlib
@@ -22,6 +22,8 @@ GENESIS, RECOVER, JOIN, MARK, ACK, PROPOSE, BALLOT, WITHDRAW, SHARE = range(1, 1
 BODY_LIMIT = 2**20
 GOVERNED = b"public:ccf.gov."
 DONE, NONE, NO, YES = b"\x00", b"\x01", b"\x03", b"\x04"  # answers without a field
+PENDING, TRUSTED, RETIRED = b"\x01", b"\x02", b"\x03"  # statuses of nodes
+OPEN_PROPOSAL, DROPPED = b"\x01", b"\x06"  # states of proposals
 
 
 class Broken(Exception):
@@ -217,27 +219,49 @@ class Governance:
             self.fields.number(1, 0, 1)
         self.fields.signature()
 
-    def check_genesis(self):
-        """A genesis is accepted."""
+    def check_members(self):
+        """The members and the dealing of a genesis are accepted."""
         numbers, keys = [m[0] for m in self.members], [m[1] for m in self.members]
-        ids = [sha256(key) for key, _ in self.nodes]
         required(len(set(numbers)) == len(set(keys)) == len(self.members) <= 64, 7)
         required(1 <= self.threshold <= len(self.holders), 7)
         required(self.holders == sorted(set(self.holders) & set(numbers)), 7)
-        required(1 <= len(ids) == len(set(ids)) <= 32 and self.identity[:4] == big(2, 4), 7)
+
+    def check_nodes(self, recorded):
+        """The nodes of a genesis or a recovery are accepted behind those that are recorded."""
+        ids = [sha256(key) for key, _ in self.nodes]
+        required(1 <= len(ids) == len(set(ids)) <= 32 and not recorded & set(ids), 7)
+        required(len(recorded) + len(ids) < 2**16 and self.identity[:4] == big(2, 4), 7)
         for key, endorsement in self.nodes:
             required(is_signed(self.identity[4:], key, endorsement), 7)
+
+    def node_rows(self, first):
+        """The rows of the nodes of a genesis or a recovery, from this number on."""
+        for order, (key, endorsement) in enumerate(self.nodes, first):
+            row = little(order, 2) + b"\x02" + key + behind_length(endorsement) + bytes(8)
+            yield (GOVERNED + b"nodes", sha256(key)), row
 
     def genesis_rows(self):
         rows = {(b"constitution", little(i, 1)): b"\x01\x00\x02\x00" for i in range(1, 8)}
         rows[b"dealing", b"d"] = self.dealing
         for number, key in self.members:
             rows[b"members", little(number, 1)] = b"\x01" + key + bytes(4)
-        for order, (key, endorsement) in enumerate(self.nodes, 1):
-            row = little(order, 2) + b"\x02" + key + behind_length(endorsement) + bytes(8)
-            rows[b"nodes", sha256(key)] = row
         rows[b"service", b"s"] = little(self.state, 1) + b"\x00" + self.identity
-        return {(GOVERNED + table, key): value for (table, key), value in rows.items()}
+        rows = {(GOVERNED + table, key): value for (table, key), value in rows.items()}
+        return {**rows, **dict(self.node_rows(1))}
+
+    def recovery_writes(self, service):
+        """What a recovery writes that is the next entry: each row that changes, and it alone."""
+        nodes, proposals = service.table(b"nodes"), service.table(b"proposals")
+        rows = dict(self.node_rows(len(nodes) + 1))
+        for node, row in nodes.items():
+            if row[2:3] in (PENDING, TRUSTED):
+                removal = little(service.seqno + 1, 8)
+                rows[GOVERNED + b"nodes", node] = row[:2] + RETIRED + row[3:-8] + removal
+        for proposal, row in proposals.items():
+            if row[:1] == OPEN_PROPOSAL:
+                rows[GOVERNED + b"proposals", proposal] = DROPPED + row[1:]
+        rows[GOVERNED + b"service", b"s"] = b"\x01\x01" + self.identity
+        return {row: value for row, value in rows.items() if service.stored(*row) != value}
 
 
 # ---- Entries
@@ -289,9 +313,10 @@ class Entry:
         body, evidence, claims = self.components(identity)
         return sha256(body, sha256(evidence.encode()), claims)
 
-    def signed_message(self):
-        numbers = little(self.view, 4), little(self.seqno, 8), little(self.commit, 8)
-        return b"".join([self.root, *numbers])
+
+def signed_message(root, view, seqno, commit):
+    """What the signature of a signature entry signs."""
+    return root + little(view, 4) + little(seqno, 8) + little(commit, 8)
 
 
 # ---- Signatures (RFC 8554)
@@ -384,7 +409,7 @@ class Service:
     def __init__(self):
         self.last = None  # the last entry
         self.seqno = 0  # its place
-        self.identity = None  # the key that the genesis names
+        self.identity = None  # the key in force, which the last genesis or recovery names
         self.tables = {}
         self.tree = Tree()
         self.signed = {}  # the identifier of each signature, by its seqno
@@ -395,50 +420,71 @@ class Service:
     def table(self, name):
         return self.tables.get(GOVERNED + name, {})
 
-    def service_row(self):
-        return self.table(b"service").get(b"s", b"")
+    def stored(self, name, key):
+        return self.tables.get(name, {}).get(key)
 
-    def key(self):
-        return self.service_row()[2:]
+    def is_open(self):
+        return self.table(b"service").get(b"s", b"")[:1] == b"\x02"
+
+    def is_unopened(self):
+        """The last entry founds the service, once or anew, so that a signature opens it."""
+        return self.last is not None and self.last.asks(GENESIS, RECOVER)
+
+    def follow_all(self, data):
+        """Takes the entries whose frames these bytes are, one behind the other."""
+        ledger = Fields(data)
+        while ledger.at < len(data):
+            self.follow(Entry(ledger))
 
     def follow(self, entry):
         """Takes the next entry, or tells the first rule that it breaks."""
         required(entry.seqno == self.seqno + 1 < 2**40, 2)
-        if self.last is None:
-            required(entry.asks(GENESIS) and entry.view == 2, 3)
-        else:
-            required(entry.view >= self.last.view, 3)
-            required(not entry.asks(GENESIS, RECOVER), 4)
-        if self.seqno == 1:
-            required(entry.kind == SIGNATURE and entry.view == self.last.view, 4)
+        self.check_order(entry)
         required(entry.kind != EVIDENCE, 12)
         checks = {APPLICATION: self.check_application, SIGNATURE: self.check_signature}
         checks.get(entry.kind, self.check_governance)(entry)
         self.take(entry)
 
+    def check_order(self, entry):
+        if self.last is None:
+            required(entry.asks(GENESIS) and entry.view == 2, 3)
+        elif entry.asks(RECOVER):
+            required(entry.view == self.last.view + 1, 3)
+            required(self.last.kind == SIGNATURE, 4)
+        else:
+            required(entry.view >= self.last.view, 3)
+            required(not entry.asks(GENESIS), 4)
+        if self.is_unopened():
+            required(entry.kind == SIGNATURE and entry.view == self.last.view, 4)
+
     def check_application(self, entry):
-        required(self.service_row()[:1] == b"\x02", 5)
+        required(self.is_open(), 5)
         run = Run(entry.request, self.tables)
         required(entry.writes == run.writes and entry.claims == sha256(run.reply), 6)
 
     def check_governance(self, entry):
-        if self.last is None:
-            entry.request.check_genesis()
-            required(entry.writes == entry.request.genesis_rows(), 8)
+        request = entry.request
+        if entry.asks(GENESIS):
+            request.check_members()
+            request.check_nodes(set())
+            required(entry.writes == request.genesis_rows(), 8)
+        elif entry.asks(RECOVER):
+            request.check_nodes(set(self.table(b"nodes")))
+            required(entry.writes == request.recovery_writes(self), 8)
         else:
             self.untried += 1
 
     def check_signature(self, entry):
         rows = self.table(b"nodes")
         required(entry.node in rows and entry.root == self.tree.root(), 9)
-        if self.seqno == 1:
-            required(entry.commit == 2, 10)
+        if self.is_unopened():
+            required(entry.commit == entry.seqno, 10)
         else:
             removals = [from_little(rows.get(node, b"")[-8:]) for node in self.marked]
             required(entry.commit in self.signed, 10)
             required(entry.commit >= max([self.commit, *removals]), 10)
-        message = entry.signed_message()
-        required(is_signed_by(entry.node, self.key(), message, entry.signature), 11)
+        message = signed_message(entry.root, entry.view, entry.seqno, entry.commit)
+        required(is_signed_by(entry.node, self.identity, message, entry.signature), 11)
 
     def take(self, entry):
         for (name, key), value in entry.writes.items():
@@ -446,23 +492,22 @@ class Service:
             rows[key] = value
             if value is None:
                 del rows[key]
-        if entry.asks(GENESIS):
+        if entry.asks(GENESIS, RECOVER):
             self.identity = entry.request.identity
         if entry.asks(MARK):
             self.marked.append(entry.request.node)
         if entry.kind == SIGNATURE:
             self.signed[entry.seqno] = f"{entry.view}.{entry.seqno}"
             self.commit, self.marked = entry.commit, []
-        self.tree.add(entry.leaf(self.key()))
+        self.tree.add(entry.leaf(self.identity))
         self.last, self.seqno = entry, entry.seqno
 
 
 def audit(identity, data):
     """The verdict on a ledger, and how many entries were not tried by rules 7 and 8."""
-    service, ledger = Service(), Fields(data)
+    service = Service()
     try:
-        while ledger.at < len(data):
-            service.follow(Entry(ledger))
+        service.follow_all(data)
         required(service.last is not None, 3)
     except Broken as broken:
         return f"fault seqno {service.seqno + 1} rule {broken}", service.untried

@@ -9,81 +9,32 @@ the map, of two bytes and the key, of four and the value, ascending. It knows do
 docs/FORMATS.md and RFC 8554 alone; where the proved definitions count all ballots anew from the list
 of requests, it keeps members, nodes and proposals in tables.
 """
-import hashlib
+import sys
+from pathlib import Path
 
-HEIGHT, W, P = 5, 8, 34
-LMS, OTS = 5, 4
+sys.path.insert(0, str(Path(__file__).resolve().parent.parent / "audit"))
+import lms_key  # noqa: E402
+from verify_ledger import big, little, sha256  # noqa: E402
+
 ACCEPTED, ACTIVE, REMOVED = 1, 2, 3
 PENDING, TRUSTED, RETIRED, MARKED = 1, 2, 3, 4
 OPENING, OPEN, WAITING = 1, 2, 3
 STATES = {"open": 1, "accepted": 2, "rejected": 3, "withdrawn": 4, "failed": 5, "dropped": 6}
 
 
-def sha256(*parts):
-    return hashlib.sha256(b"".join(parts)).digest()
-
-
-def big(n, size):
-    return n.to_bytes(size, "big")
-
-
-def little(n, size):
-    return n.to_bytes(size, "little")
-
-
 def behind_length(data, size=4):
     return little(len(data), size) + data
 
 
-# ---- one-time keys and trees (RFC 8554)
+# ---- keys (RFC 8554)
 
 
-class Key:
-    """An LMS private key whose secrets come from a seed."""
+class Key(lms_key.Key):
+    """A key of LMOTS_SHA256_N32_W8, which counts the leaves that it used."""
 
     def __init__(self, seed):
-        self.seed, self.used = seed, 0
-        self.identifier = sha256(b"gl-id", seed)[:16]
-        first = 2**HEIGHT
-        self.nodes = [b""] * first + [self.leaf(q) for q in range(first)]
-        for r in range(first - 1, 0, -1):
-            pair = self.nodes[2 * r] + self.nodes[2 * r + 1]
-            self.nodes[r] = sha256(self.identifier, big(r, 4), b"\x83\x83", pair)
-
-    def prefix(self, q):
-        return self.identifier + big(q, 4)
-
-    def secret(self, q, i):
-        return sha256(self.prefix(q), big(i, 2), b"\xff", self.seed)
-
-    def chain(self, q, i, value, first, last):
-        for j in range(first, last):
-            value = sha256(self.prefix(q), big(i, 2), big(j, 1), value)
-        return value
-
-    def leaf(self, q):
-        top = 2**W - 1
-        ends = [self.chain(q, i, self.secret(q, i), 0, top) for i in range(P)]
-        return sha256(
-            self.identifier,
-            big(2**HEIGHT + q, 4),
-            b"\x82\x82",
-            sha256(self.prefix(q), b"\x80\x80", *ends),
-        )
-
-    def public(self):
-        return big(LMS, 4) + big(OTS, 4) + self.identifier + self.nodes[1]
-
-    def sign(self, q, message):
-        randomizer = self.secret(q, 0xFFFD)
-        digest = sha256(self.prefix(q), b"\x81\x81", randomizer, message)
-        digits = list(digest + big(sum(255 - digit for digit in digest), 2))
-        ends = [self.chain(q, i, self.secret(q, i), 0, digits[i]) for i in range(P)]
-        node, path = 2**HEIGHT + q, []
-        while node > 1:
-            path.append(self.nodes[node ^ 1])
-            node //= 2
-        return b"".join([big(q, 4), big(OTS, 4), randomizer, *ends, big(LMS, 4), *path])
+        super().__init__(seed, ots=4)
+        self.used = 0
 
 
 def seed(word, number):
@@ -98,7 +49,7 @@ SECRET = sha256(b"secret")
 
 
 def hss(key, levels):
-    return big(levels, 4) + key.public()
+    return key.hss(levels)
 
 
 def node_id(n):

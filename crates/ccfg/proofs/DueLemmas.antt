@@ -15,16 +15,16 @@ use Rattle.ccfg.specs.declared.fault.Fault.{Fault}
 use Rattle.ccfg.specs.declared.fault.Fault.TheVariants as faults
 use Rattle.ccfg.specs.declared.plan.Plan.{Plan}
 use Rattle.ccfg.specs.declared.plan.Plan.TheVariants.{Play, Show, ShowLedger, Tell, Refuse}
-use Rattle.ccfg.specs.declared.words.Task.{Task}
-use Rattle.ccfg.specs.declared.words.Task.TheVariants as tasks
+use Rattle.gl_commands.specs.declared.task.Task.{Task}
+use Rattle.gl_commands.specs.declared.task.Task.TheVariants as tasks
 use Rattle.ccfg.specs.Faults.{fault_line}
 use Rattle.ccfg.specs.Owed.{Due, EndsSource, OfRun, Owed, Owes, OwesRead, Run, Runs, Written, WritesDue, bytes_limit, due_of_answer, due_of_audit, due_of_fault, due_of_form, due_of_reading, due_of_receipt, due_of_schedule, ending_of_fault, ending_of_stop, json_limit, ledger_line, lines_limit, valid_line}
 use Rattle.ccfg.specs.Plans.{KeepsKey, SpendsLeaf, TellsFault, TellsSpent, ShowsAccepted, ShowsKept, due_of_plan}
-use Rattle.gl_consortium.specs.declared.signing.Signing.{Signing}
 use Rattle.ccfg.specs.declared.plan.PlanStop.{PlanStop}
 use Rattle.ccfg.specs.declared.plan.PlanStop.TheVariants as stops
 use Rattle.ccfg.proofs.ShownLemmas.{both_any, both_map, of_map}
 use Rattle.gl_journal.specs.declared.key.KeyKind.{KeyKind}
+use Rattle.gl_keyfile.specs.declared.signing.Signing.{Signing}
 use Rattle.gl_lms.specs.declared.types.Types.{Types}
 use Rattle.gl_outside.specs.Disk.{Step}
 use Rattle.gl_outside.specs.Fault.{Rose}
@@ -48,6 +48,7 @@ writes_fault (faults.Short at) w all = (refl, all)
 writes_fault (faults.Trailing at) w all = (refl, all)
 writes_fault (faults.Journal fault) w all = (refl, all)
 writes_fault (faults.KeyKind want got) w all = (refl, all)
+writes_fault faults.BadDealing w all = (refl, all)
 writes_fault (faults.Signing fault) w all = (refl, all)
 
 -- bytes of which more were read than the limit
@@ -89,6 +90,7 @@ sound_refusal tasks.Replay given fault = tt
 sound_refusal (tasks.Verify identity) given fault = tt
 sound_refusal (tasks.Audit identity) given fault = tt
 sound_refusal (tasks.Keygen kind types) given fault = tt
+sound_refusal (tasks.Deal threshold members) given fault = tt
 sound_refusal (tasks.Sign signing) given fault = tt
 
 pub of_sound_refusal : (task : Task) (given : Option (List ℕ)) (fault : Fault) → OfBytes given (λ g. ShowsAccepted task g (Refuse fault))
@@ -110,6 +112,7 @@ no_fault_done (faults.Short at) is = cc
 no_fault_done (faults.Trailing at) is = cc
 no_fault_done (faults.Journal fault) is = cc
 no_fault_done (faults.KeyKind want got) is = cc
+no_fault_done faults.BadDealing is = cc
 no_fault_done (faults.Signing fault) is = cc
 
 -- a plan that was carried out under a key

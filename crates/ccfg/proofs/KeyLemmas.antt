@@ -6,8 +6,8 @@ use Rattle.gl_journal.specs.declared.key.Key.{Key}
 use Rattle.gl_journal.specs.declared.key.KeyKind.{KeyKind}
 use Rattle.gl_lms.specs.declared.types.Types.{Types}
 use Rattle.ccfg.specs.declared.fault.Fault.TheVariants as faults
-use Rattle.ccfg.specs.declared.words.Task.{Task}
-use Rattle.ccfg.specs.declared.words.Task.TheVariants.{Keygen}
+use Rattle.gl_commands.specs.declared.task.Task.{Task}
+use Rattle.gl_commands.specs.declared.task.Task.TheVariants.{Keygen}
 use Rattle.ccfg.specs.Owed.{Due, OfShown, Shown, due_of, shown_by, due_of_answer, due_of_fault, due_of_seed, key_line, on_empty, seed_len}
 use Rattle.gl_base.specs.declared.or_no_memory.OrNoMemory.{OrNoMemory}
 use Rattle.gl_base.specs.declared.or_no_memory.OrNoMemory.TheVariants.{Fault as fault_of}

@@ -1,8 +1,9 @@
 pub mod ShownLemmas
 pub mod KeyLemmas
+pub mod DealingLemmas
 pub mod SigningLemmas
 pub mod MomentLemmas
-pub mod WordLemmas
 pub mod DueLemmas
+pub mod AnswerLemmas
 pub mod MeaningLemmas
 mod PromiseLemmas

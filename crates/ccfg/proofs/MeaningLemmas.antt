@@ -17,20 +17,22 @@ use Rattle.ccfg.specs.declared.ending.Ending.{Ending}
 use Rattle.ccfg.specs.declared.ending.Ending.TheVariants as endings
 use Rattle.ccfg.specs.declared.fault.Fault.TheVariants as faults
 use Rattle.gl_schedule.specs.declared.schedule.Schedule.{Schedule}
-use Rattle.ccfg.specs.declared.words.Task.{Task}
-use Rattle.ccfg.specs.declared.words.Task.TheVariants as tasks
+use Rattle.gl_commands.specs.declared.task.Task.{Task}
+use Rattle.gl_commands.specs.declared.task.Task.TheVariants as tasks
 use Rattle.gl_consortium.specs.Owed.{owed}
-use Rattle.gl_consortium.specs.Signing.{kind_of}
 use Rattle.gl_consortium.specs.declared.fault.SigningFault.{SigningFault}
 use Rattle.gl_consortium.specs.declared.fault.SigningFault.TheVariants as signings
-use Rattle.gl_consortium.specs.declared.signing.Signing.{Signing}
 use Rattle.gl_journal.specs.Durable.{Durable}
 use Rattle.gl_journal.specs.declared.fault.JournalFault.{JournalFault}
 use Rattle.gl_journal.specs.declared.key.KeyKind.{KeyKind}
+use Rattle.gl_keyfile.specs.Signing.{kind_of}
+use Rattle.gl_keyfile.specs.declared.signing.Signing.{Signing}
 use Rattle.gl_lms.specs.declared.types.Types.{Types}
+use Rattle.gl_dealing.specs.Members.{can_deal}
+use Rattle.ccfg.proofs.DealingLemmas.{dealing_due, long_dealing, short_dealing, whole_dealing}
 use Rattle.ccfg.proofs.KeyLemmas.{key_of, long_seed, seed_due, short_seed, whole_seed}
 use Rattle.ccfg.proofs.SigningLemmas.{is_own_kind, long_text, same_kind, signed_ends, text_due, unsigned_due, with_key, with_other_key}
-use Rattle.ccfg.specs.Owed.{Due, Shown, bytes_limit, due_of, due_of_answer, due_of_audit, due_of_fault, due_of_seed, due_of_signing, due_of_text, is_kind, key_line, on_empty, seed_len, due_of_form, due_of_reading, due_of_receipt, due_of_schedule, due_of_verdict, json_limit, lines_limit}
+use Rattle.ccfg.specs.Owed.{Due, Shown, bytes_limit, dealing_len, due_of_dealing, text_of_dealing, due_of, due_of_answer, due_of_audit, due_of_fault, due_of_seed, due_of_signing, due_of_text, is_kind, key_line, on_empty, seed_len, due_of_form, due_of_reading, due_of_receipt, due_of_schedule, due_of_verdict, json_limit, lines_limit}
 use Rattle.ccfg.specs.Promises.{HasBadLine, HasKeyFor, HasOtherForm, HasTooManyBytes, HasTooManyLines, HasTooMuchJson, IsAnswer, IsPastLimit, IsReceipt, IsRefusal, IsNoReading, ReadsAs}
 use Rattle.ccfg.specs.Faults.{fault_line}
 use Rattle.gl_schedule.specs.Schedules.{reads}
@@ -152,6 +154,18 @@ full_ends : (len : ℕ) (due : Due) → 0 < len → (on_empty len due).ending �
 full_ends zero due some = absurd (omega (arith, some))
 full_ends (suc more) due some = refl
 
+-- Dealings
+
+dealing_means : (threshold : ℕ) (members : List ℕ) (shown : Shown) (given : List ℕ) → DueMeans (tasks.Deal threshold members) shown given (due_of_dealing threshold members given)
+unfolding due_of_dealing
+dealing_means threshold members shown given = go (nat_lt (length given) dealing_len) (nat_lt dealing_len (length given)) (can_deal threshold members) refl refl refl
+  where
+    go : (short long can : Bool) → nat_lt (length given) dealing_len ≡ short → nat_lt dealing_len (length given) ≡ long → can_deal threshold members ≡ can → DueMeans (tasks.Deal threshold members) shown given (dealing_due threshold members given short long can)
+    go true long can s l c = inl (grind (arith, nat_tests), refl)
+    go false true can s l c = inr (grind (arith, nat_tests), refl)
+    go false false true s l c = (grind (arith, nat_tests), c, refl)
+    go false false false s l c = (grind (arith, nat_tests), c, refl)
+
 -- Signing
 
 text_means : (signing : Signing) (shown : Shown) (state : Durable) (given : List ℕ) → HasKeyFor signing shown state → DueMeans (tasks.Sign signing) shown given (due_of_text signing state given)
@@ -187,6 +201,7 @@ means tasks.Replay shown given = schedule_means shown given
 means (tasks.Verify identity) shown given = receipt_means identity shown given
 means (tasks.Audit identity) shown given = audit_means identity shown given
 means (tasks.Keygen kind types) shown given = key_means kind types shown given
+means (tasks.Deal threshold members) shown given = dealing_means threshold members shown given
 means (tasks.Sign signing) shown given = sign_means signing shown given
 
 -- The ending that is owed.
@@ -202,6 +217,7 @@ answer_ends (tasks.Verify identity) shown given text a =
     ending_of (due_of_receipt identity given) (due_of_verdict (Ok a.2)) (of_form identity given a.0 (Ok a.2) a.1 a.3)
 answer_ends (tasks.Audit identity) shown given text a = audit_ends identity given (audits.Valid a.0 a.1) a.2
 answer_ends (tasks.Keygen kind types) shown given text a = key_ends kind types shown given (due_of_answer (key_line (key_of kind types given))) a.0 (whole_seed kind types given a.1)
+answer_ends (tasks.Deal threshold members) shown given text a = ending_of (due_of_dealing threshold members given) (due_of_answer (text_of_dealing threshold members given)) (whole_dealing threshold members given true a.0 a.1)
 answer_ends (tasks.Sign signing) shown given text a = signed_ends signing shown given a.0 (Ok text) a.1 a.2 a.3
 
 pub refusal_ends : (task : Task) (shown : Shown) (given text : List ℕ) → IsRefusal task shown given text → EndsWith endings.NotValid (due_of task shown given)
@@ -211,6 +227,7 @@ refusal_ends (tasks.Verify identity) shown given text a =
 refusal_ends (tasks.Audit identity) shown given text (inl a) = audit_ends identity given (audits.Foreign a.0) a.1
 refusal_ends (tasks.Audit identity) shown given text (inr a) = audit_ends identity given (audits.Fault a.0 a.1) a.2
 refusal_ends (tasks.Keygen kind types) shown given text a = full_ends shown.len (due_of_seed kind types given) a.0
+refusal_ends (tasks.Deal threshold members) shown given text a = ending_of (due_of_dealing threshold members given) (due_of_fault faults.BadDealing) (whole_dealing threshold members given false a.0 a.1)
 refusal_ends (tasks.Sign signing) shown given text (inl a) = ap (λ (opens : Result Durable JournalFault). (due_of_signing signing opens given).ending) a.1
 refusal_ends (tasks.Sign signing) shown given text (inr (inl a)) =
     ap (λ (opens : Result Durable JournalFault). (due_of_signing signing opens given).ending) a.1 ∙ ap (λ (d : Due). d.ending) (with_other_key signing a.0 given a.2)
@@ -223,6 +240,7 @@ limit_ends tasks.Replay shown given text (inr a) = ending_of (due_of_schedule gi
 limit_ends (tasks.Verify identity) shown given text a = ending_of (due_of_receipt identity given) (due_of_fault faults.TooMuchJson) (too_much_json identity given a.0)
 limit_ends (tasks.Audit identity) shown given text a = absurd a
 limit_ends (tasks.Keygen kind types) shown given text a = absurd a
+limit_ends (tasks.Deal threshold members) shown given text a = absurd a
 limit_ends (tasks.Sign signing) shown given text a =
     ap (λ (d : Due). d.ending) (with_key signing shown a.0 given a.1 ∙ long_text signing a.0 given a.2)
 
@@ -232,4 +250,6 @@ unread_ends (tasks.Verify identity) shown given text a = ending_of (due_of_recei
 unread_ends (tasks.Audit identity) shown given text a = absurd a
 unread_ends (tasks.Keygen kind types) shown given text (empty, inl a) = key_ends kind types shown given (due_of_fault (faults.Short (length given))) empty (short_seed kind types given a.0)
 unread_ends (tasks.Keygen kind types) shown given text (empty, inr a) = key_ends kind types shown given (due_of_fault (faults.Trailing seed_len)) empty (long_seed kind types given a.0)
+unread_ends (tasks.Deal threshold members) shown given text (inl a) = ending_of (due_of_dealing threshold members given) (due_of_fault (faults.Short (length given))) (short_dealing threshold members given a.0)
+unread_ends (tasks.Deal threshold members) shown given text (inr a) = ending_of (due_of_dealing threshold members given) (due_of_fault (faults.Trailing dealing_len)) (long_dealing threshold members given a.0)
 unread_ends (tasks.Sign signing) shown given text a = signed_ends signing shown given a.1.0 (Err (signings.Form a.0)) a.1.1 a.1.2 a.1.3

@@ -1,11 +1,11 @@
 -- What a stop may leave of a key file at each moment.
 use Rattle.std.proofs.Common.{◌≡◌, ◌⊎◌, inl, inr, ℕ, List, Result, Ok, sym, subst, ◌∙◌}
-use Rattle.gl_consortium.specs.Signing.{use_of}
-use Rattle.gl_consortium.specs.declared.signing.Signing.{Signing}
 use Rattle.gl_journal.specs.Durable.{Durable, OpensToOneOf, OpensToTheSame}
 use Rattle.gl_journal.specs.declared.fault.JournalFault.{JournalFault}
 use Rattle.gl_keyfile.specs.KeyFile.{any_frame, opened}
 use Rattle.gl_keyfile.specs.Leaf.{after_leaf}
+use Rattle.gl_keyfile.specs.Signing.{use_of}
+use Rattle.gl_keyfile.specs.declared.signing.Signing.{Signing}
 use Rattle.gl_outside.specs.Disk.{Leaves, Step}
 use Rattle.gl_outside.proofs.Moments.{so_too, started, stayed, then_too}
 use Rattle.ccfg.specs.Plans.{MayBeLeft, MovesByLeaf}

@@ -9,7 +9,7 @@ use Rattle.gl_audit.specs.Given.{OfBytes}
 use Rattle.ccfg.specs.declared.ending.Ending.{Ending}
 use Rattle.ccfg.specs.declared.ending.Ending.TheVariants as endings
 use Rattle.ccfg.specs.declared.fault.Fault.TheVariants as faults
-use Rattle.ccfg.specs.declared.words.Task.{Task}
+use Rattle.gl_commands.specs.declared.task.Task.{Task}
 use Rattle.ccfg.specs.Faults.{fault_line}
 use Rattle.ccfg.specs.Owed.{Answers, Due, EndsSource, OfShown, OfRun, Owed, Run, Runs, Shown, WritesDue, due_of, due_of_fault, exit_status, uses_disk}
 use Rattle.ccfg.specs.Promises.{IsAnswer, IsKindLine, IsPastLimit, IsRefusal, IsNoReading, Tells, TellsFront}

@@ -6,7 +6,7 @@ use Rattle.ccfg.specs.Owed.{Due, OfShown, Shown, due_of, shown_by}
 use Rattle.ccfg.specs.Plans.{due_of_plan}
 use Rattle.ccfg.specs.declared.plan.Plan.{Plan}
 use Rattle.ccfg.specs.declared.plan.PlanStop.{PlanStop}
-use Rattle.ccfg.specs.declared.words.Task.{Task}
+use Rattle.gl_commands.specs.declared.task.Task.{Task}
 
 -- what holds of the bytes that a source gives, from what else does
 pub of_map : (given : Option (List ℕ)) (P Q : List ℕ → Type 0) → ((g : List ℕ) → P g → Q g) → OfBytes given P → OfBytes given Q

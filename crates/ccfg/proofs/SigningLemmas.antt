@@ -6,26 +6,26 @@ use Rattle.gl_audit.specs.Given.{OfBytes}
 use Rattle.gl_base.specs.declared.or_no_memory.OrNoMemory.{OrNoMemory}
 use Rattle.gl_base.specs.declared.or_no_memory.OrNoMemory.TheVariants.{Fault as fault_of}
 use Rattle.gl_consortium.specs.Owed.{owed}
-use Rattle.gl_consortium.specs.Signing.{kind_of}
 use Rattle.gl_consortium.specs.declared.fault.SigningFault.{SigningFault}
 use Rattle.gl_consortium.specs.declared.fault.SigningFault.TheVariants as signings
-use Rattle.gl_consortium.specs.declared.signing.Signing.{Signing}
 use Rattle.gl_journal.specs.Durable.{Durable, key_alone}
 use Rattle.gl_journal.specs.declared.fault.JournalFault.{JournalFault}
 use Rattle.gl_journal.specs.declared.fault.JournalFault.TheVariants.{DiskFault}
 use Rattle.gl_journal.specs.declared.key.KeyKind.{KeyKind}
 use Rattle.gl_journal.specs.declared.key.KeyKind.TheVariants.{Service, Node, Member}
 use Rattle.gl_keyfile.specs.KeyFile.{opened}
+use Rattle.gl_keyfile.specs.Signing.{kind_of}
 use Rattle.gl_keyfile.specs.declared.fault.KeyFileFault.{KeyFileFault}
 use Rattle.gl_keyfile.specs.declared.fault.KeyFileFault.TheVariants.{Journal, KeyKind as KeyKindOf}
+use Rattle.gl_keyfile.specs.declared.signing.Signing.{Signing}
 use Rattle.gl_lms.specs.declared.types.Types.TheVariants.{H5W4}
 use Rattle.gl_outside.specs.Disk.{Step}
 use Rattle.ccfg.specs.declared.fault.Fault.TheVariants as faults
 use Rattle.ccfg.specs.declared.plan.Plan.{Plan}
 use Rattle.ccfg.specs.declared.plan.Plan.TheVariants.{Play, Show, ShowLedger, Tell, Refuse}
 use Rattle.ccfg.specs.declared.plan.PlanStop.{PlanStop}
-use Rattle.ccfg.specs.declared.words.Task.{Task}
-use Rattle.ccfg.specs.declared.words.Task.TheVariants.{Sign}
+use Rattle.gl_commands.specs.declared.task.Task.{Task}
+use Rattle.gl_commands.specs.declared.task.Task.TheVariants.{Sign}
 use Rattle.ccfg.specs.Plans.{OpensAsBefore, PlansPlayable, TellsFault, TellsSpent, TellsUnopened, due_of_plan}
 use Rattle.ccfg.proofs.ShownLemmas.{of_any, of_map, ok_map}
 use Rattle.ccfg.specs.Owed.{Due, EndsSource, OfShown, Shown, due_of, due_of_fault, due_of_signed, due_of_signing, due_of_text, is_kind, json_limit}

@@ -98,6 +98,7 @@ fault_text (faults.Trailing at) = codes "Trailing " ++ decimal at
 fault_text (faults.Journal fault) = journal_text fault
 fault_text (faults.KeyKind want got) =
     codes "KeyKind " ++ decimal (key_kind_tag want) ++ codes " " ++ decimal (key_kind_tag got)
+fault_text faults.BadDealing = codes "BadAction 0 10"
 fault_text (faults.Signing fault) = signing_text fault
 
 -- The line.

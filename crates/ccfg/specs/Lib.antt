@@ -1,4 +1,3 @@
-pub mod Words
 pub mod Faults
 pub mod Owed
 pub mod Promises

@@ -1,6 +1,6 @@
 -- What a run of the program owes to its words, its disk and its source: how it ends, and what it
 -- writes.
-use Rattle.std.specs.Prelude.{◌≡◌, ℕ, zero, suc, List, ◌++◌, Option, None, Some, Result, Ok, Err, Bool, true, false, ◌==◌, codes, length, nat_lt, if◌then◌else◌}
+use Rattle.std.specs.Prelude.{◌≡◌, ℕ, zero, suc, List, ◌++◌, Option, None, Some, Result, Ok, Err, Bool, true, false, ◌==◌, codes, drop, length, nat_lt, take, if◌then◌else◌}
 use Rattle.std.specs.Io.KnownBytes.{Appends, Keeps}
 use Rattle.clap.specs.Kinds.{Kinds, IsAmong}
 use Rattle.clap.specs.declared.error.kind.ErrorKind.{ErrorKind}
@@ -8,10 +8,10 @@ use Rattle.gl_base.specs.TxId.{text_of}
 use Rattle.gl_base.specs.declared.json.FormsFault.{FormsFault}
 use Rattle.gl_base.specs.declared.tx_id.TxId.{TxId}
 use Rattle.gl_consortium.specs.Owed.{owed}
-use Rattle.gl_consortium.specs.Signing.{kind_of}
 use Rattle.gl_consortium.specs.declared.fault.SigningFault.{SigningFault}
 use Rattle.gl_consortium.specs.declared.fault.SigningFault.TheVariants as signings
-use Rattle.gl_consortium.specs.declared.signing.Signing.{Signing}
+use Rattle.gl_dealing.specs.Dealt.{deal_text, dealt}
+use Rattle.gl_dealing.specs.Members.{can_deal}
 use Rattle.gl_forms.specs.Key.{key_tree}
 use Rattle.gl_journal.specs.Durable.{Durable}
 use Rattle.gl_journal.specs.Records.{key_kind_tag}
@@ -20,6 +20,8 @@ use Rattle.gl_journal.specs.declared.key.Key.{Key}
 use Rattle.gl_journal.specs.declared.key.KeyKind.{KeyKind}
 use Rattle.gl_keyfile.specs.Form.{key_form_of}
 use Rattle.gl_keyfile.specs.KeyFile.{opened}
+use Rattle.gl_keyfile.specs.Signing.{kind_of}
+use Rattle.gl_keyfile.specs.declared.signing.Signing.{Signing}
 use Rattle.gl_lms.specs.declared.types.Types.{Types}
 use Rattle.gl_outside.specs.Fault.{Rose}
 use Rattle.gl_outside.specs.Sink.{AppendsFront}
@@ -42,8 +44,8 @@ use Rattle.ccfg.specs.declared.ending.Ending.TheVariants as endings
 use Rattle.gl_schedule.specs.declared.schedule.Schedule.{Schedule}
 use Rattle.ccfg.specs.declared.plan.PlanStop.{PlanStop}
 use Rattle.ccfg.specs.declared.plan.PlanStop.TheVariants as stops
-use Rattle.ccfg.specs.declared.words.Task.{Task}
-use Rattle.ccfg.specs.declared.words.Task.TheVariants as tasks
+use Rattle.gl_commands.specs.declared.task.Task.{Task}
+use Rattle.gl_commands.specs.declared.task.Task.TheVariants as tasks
 use Rattle.ccfg.specs.Faults.{fault_line}
 use Rattle.gl_schedule.specs.Schedules.{reads}
 use Rattle.gl_schedule.specs.Told.{text_of_schedule}
@@ -75,6 +77,7 @@ ending_of_fault (faults.Short at) = endings.NoReading
 ending_of_fault (faults.Trailing at) = endings.NoReading
 ending_of_fault (faults.Journal fault) = endings.NotValid
 ending_of_fault (faults.KeyKind want got) = endings.NotValid
+ending_of_fault faults.BadDealing = endings.NotValid
 ending_of_fault (faults.Signing fault) = endings.NotValid
 
 -- How a run ends that has no plan of what to do.
@@ -101,6 +104,7 @@ is_read_whole (faults.Short at) = true
 is_read_whole (faults.Trailing at) = false
 is_read_whole (faults.Journal fault) = false
 is_read_whole (faults.KeyKind want got) = false
+is_read_whole faults.BadDealing = true
 is_read_whole (faults.Signing fault) = true
 
 -- What is owed
@@ -180,6 +184,12 @@ due_of_audit (audits.Valid last signed) = due_of_answer (ledger_line last signed
 due_of_audit (audits.Foreign identity) = due_of_fault (faults.Foreign identity)
 due_of_audit (audits.Fault seqno rule) = due_of_fault (faults.Broken seqno rule)
 
+-- What is owed to so many bytes. Fewer are told, and where more go on.
+abbrev pub on_length : ℕ → List ℕ → Due → Due
+on_length size given due =
+    if nat_lt (length given) size then due_of_fault (faults.Short (length given))
+    else (if nat_lt size (length given) then due_of_fault (faults.Trailing size) else due)
+
 -- How many bytes the seed of a key has.
 abbrev pub seed_len : ℕ
 seed_len = 32
@@ -191,9 +201,34 @@ key_line key = compact_text (key_tree (key_form_of key)) ++ codes "\n"
 -- What is owed to bytes that are to be the seed of a key.
 unfoldable pub due_of_seed : KeyKind → Types → List ℕ → Due
 due_of_seed kind types given =
-    if nat_lt (length given) seed_len then due_of_fault (faults.Short (length given))
-    else (if nat_lt seed_len (length given) then due_of_fault (faults.Trailing seed_len)
-    else due_of_answer (key_line (record { kind = kind; types = types; seed = given })))
+    on_length seed_len given
+    (due_of_answer (key_line (record { kind = kind; types = types; seed = given })))
+
+-- How many bytes a recovery secret has, and how many it has with the seed of its dealing behind it.
+abbrev pub secret_len : ℕ
+secret_len = 32
+
+abbrev pub dealing_len : ℕ
+dealing_len = 64
+
+-- The text of the dealing of a secret that the seed stands behind.
+abbrev pub text_of_dealing : ℕ → List ℕ → List ℕ → List ℕ
+text_of_dealing threshold members given =
+    deal_text threshold
+    (dealt threshold members (take secret_len given) (drop secret_len given))
+    (take secret_len given)
+
+-- What is owed to such bytes: the members have to be some among whom a secret can be dealt so.
+abbrev pub due_of_secret : ℕ → List ℕ → List ℕ → Due
+due_of_secret threshold members given =
+    if can_deal threshold members then due_of_answer (text_of_dealing threshold members given)
+    else due_of_fault faults.BadDealing
+
+-- What is owed to bytes that are to be a secret and the seed of its dealing. Their length is tried
+-- before the members.
+unfoldable pub due_of_dealing : ℕ → List ℕ → List ℕ → Due
+due_of_dealing threshold members given =
+    on_length dealing_len given (due_of_secret threshold members given)
 
 -- What a disk shows: how many bytes it holds, and what they open to as a key file.
 pub record Shown : Type 0 where
@@ -249,6 +284,7 @@ due_of tasks.Replay shown given = due_of_schedule given
 due_of (tasks.Verify identity) shown given = due_of_receipt identity given
 due_of (tasks.Audit identity) shown given = due_of_audit (audits_to.verdict identity given)
 due_of (tasks.Keygen kind types) shown given = on_empty shown.len (due_of_seed kind types given)
+due_of (tasks.Deal threshold members) shown given = due_of_dealing threshold members given
 due_of (tasks.Sign signing) shown given = due_of_signing signing shown.opens given
 
 -- Whether a task uses the disk.
@@ -257,6 +293,7 @@ uses_disk tasks.Replay = false
 uses_disk (tasks.Verify identity) = false
 uses_disk (tasks.Audit identity) = false
 uses_disk (tasks.Keygen kind types) = true
+uses_disk (tasks.Deal threshold members) = false
 uses_disk (tasks.Sign signing) = true
 
 -- What holds of what a disk shows: of an honest disk of what its bytes show, of another one of

@@ -2,16 +2,16 @@
 use Rattle.std.specs.Prelude.{◌≡◌, ◌≢◌, ◌⊎◌, ℕ, List, Ok}
 use Rattle.gl_base.specs.declared.or_no_memory.OrNoMemory.{OrNoMemory}
 use Rattle.gl_base.specs.declared.or_no_memory.OrNoMemory.TheVariants as stops
-use Rattle.gl_consortium.specs.Signing.{use_of}
-use Rattle.gl_consortium.specs.declared.signing.Signing.{Signing}
 use Rattle.gl_journal.specs.Durable.{Durable, OpensToOneOf, key_alone}
 use Rattle.gl_journal.specs.declared.fault.JournalFault.{JournalFault}
 use Rattle.gl_journal.specs.declared.fault.JournalFault.TheVariants as journals
 use Rattle.gl_journal.specs.declared.key.KeyKind.{KeyKind}
 use Rattle.gl_keyfile.specs.KeyFile.{OpensOnlyTo, any_frame, opened}
 use Rattle.gl_keyfile.specs.Leaf.{after_leaf}
+use Rattle.gl_keyfile.specs.Signing.{use_of}
 use Rattle.gl_keyfile.specs.declared.fault.KeyFileFault.{KeyFileFault}
 use Rattle.gl_keyfile.specs.declared.fault.KeyFileFault.TheVariants as files
+use Rattle.gl_keyfile.specs.declared.signing.Signing.{Signing}
 use Rattle.gl_lms.specs.declared.types.Types.{Types}
 use Rattle.gl_outside.specs.Disk.{IsImage, Leaves, Step}
 use Rattle.gl_receipt.specs.Form.{receipt_from}
@@ -21,8 +21,8 @@ use Rattle.ccfg.specs.declared.fault.Fault.TheVariants as faults
 use Rattle.ccfg.specs.declared.plan.Plan.{Plan}
 use Rattle.ccfg.specs.declared.plan.Plan.TheVariants.{Play, Show, ShowLedger, Tell, Refuse}
 use Rattle.gl_schedule.specs.Playable.{IsPlayable}
-use Rattle.ccfg.specs.declared.words.Task.{Task}
-use Rattle.ccfg.specs.declared.words.Task.TheVariants as tasks
+use Rattle.gl_commands.specs.declared.task.Task.{Task}
+use Rattle.gl_commands.specs.declared.task.Task.TheVariants as tasks
 use Rattle.ccfg.specs.Owed.{Due, due_of_fault, due_of_answer, ledger_line, valid_line}
 use Rattle.gl_schedule.specs.Told.{text_of_schedule}
 
@@ -47,6 +47,7 @@ abbrev pub ShowsAccepted : Task → List ℕ → Plan → Type 0
 ShowsAccepted tasks.Replay given plan = Unit {0}
 ShowsAccepted (tasks.Audit identity) given plan = Unit {0}
 ShowsAccepted (tasks.Keygen kind types) given plan = Unit {0}
+ShowsAccepted (tasks.Deal threshold members) given plan = Unit {0}
 ShowsAccepted (tasks.Sign signing) given plan = Unit {0}
 ShowsAccepted (tasks.Verify identity) given (Play schedule) = ⊥
 ShowsAccepted (tasks.Verify identity) given (ShowLedger last signed) = ⊥

@@ -1,17 +1,18 @@
 -- What is written, by what the words ask for and what the bytes are.
-use Rattle.std.specs.Prelude.{◌≡◌, ◌≢◌, ℕ, ◌<◌, ◌≤◌, ◌⊎◌, List, Option, Ok, Err, length}
+use Rattle.std.specs.Prelude.{◌≡◌, ◌≢◌, ℕ, ◌<◌, ◌≤◌, ◌⊎◌, List, Option, Ok, Err, false, length, true}
 use Rattle.std.specs.Io.KnownBytes.{Appends}
 use Rattle.clap.specs.Kinds.{Kinds, IsAmong}
 use Rattle.clap.specs.declared.error.kind.ErrorKind.{ErrorKind}
 use Rattle.gl_base.specs.declared.json.FormsFault.{FormsFault}
 use Rattle.gl_base.specs.declared.tx_id.TxId.{TxId}
 use Rattle.gl_consortium.specs.Owed.{owed}
-use Rattle.gl_consortium.specs.Signing.{kind_of}
 use Rattle.gl_consortium.specs.declared.fault.SigningFault.{SigningFault}
 use Rattle.gl_consortium.specs.declared.fault.SigningFault.TheVariants as signings
-use Rattle.gl_consortium.specs.declared.signing.Signing.{Signing}
+use Rattle.gl_dealing.specs.Members.{can_deal}
 use Rattle.gl_journal.specs.Durable.{Durable}
 use Rattle.gl_journal.specs.declared.fault.JournalFault.{JournalFault}
+use Rattle.gl_keyfile.specs.Signing.{kind_of}
+use Rattle.gl_keyfile.specs.declared.signing.Signing.{Signing}
 use Rattle.gl_lines.specs.declared.fault.ScheduleFault.TheVariants.{BadLine}
 use Rattle.gl_lines.specs.Lines.{line_count}
 use Rattle.gl_outside.specs.Sink.{AppendsFront}
@@ -25,10 +26,10 @@ use Rattle.gl_audit.specs.declared.verdict.Verdict.TheVariants as audits
 use Rattle.ccfg.specs.declared.fault.Fault.{Fault}
 use Rattle.ccfg.specs.declared.fault.Fault.TheVariants as faults
 use Rattle.gl_schedule.specs.declared.schedule.Schedule.{Schedule}
-use Rattle.ccfg.specs.declared.words.Task.{Task}
-use Rattle.ccfg.specs.declared.words.Task.TheVariants as tasks
+use Rattle.gl_commands.specs.declared.task.Task.{Task}
+use Rattle.gl_commands.specs.declared.task.Task.TheVariants as tasks
 use Rattle.ccfg.specs.Faults.{fault_line}
-use Rattle.ccfg.specs.Owed.{Shown, bytes_limit, json_limit, key_line, ledger_line, lines_limit, seed_len, valid_line}
+use Rattle.ccfg.specs.Owed.{Shown, bytes_limit, dealing_len, json_limit, key_line, ledger_line, lines_limit, seed_len, text_of_dealing, valid_line}
 use Rattle.gl_schedule.specs.Schedules.{reads}
 use Rattle.gl_schedule.specs.Told.{text_of_schedule}
 
@@ -91,15 +92,28 @@ TellsFaultyLedger identity given text =
 abbrev pub IsSeed : List ℕ → Type 0
 IsSeed given = length given ≡ seed_len
 
--- The text tells how many bytes there are, and that is too few for a seed.
-abbrev pub TellsShortSeed : List ℕ → List ℕ → Type 0
-TellsShortSeed given text =
-    (length given < seed_len) × (text ≡ fault_line (faults.Short (length given)))
+-- The text tells how many bytes there are, and that is too few.
+abbrev pub TellsShort : ℕ → List ℕ → List ℕ → Type 0
+TellsShort size given text =
+    (length given < size) × (text ≡ fault_line (faults.Short (length given)))
 
--- The text tells where a seed ends, and there are more bytes.
-abbrev pub TellsLongSeed : List ℕ → List ℕ → Type 0
-TellsLongSeed given text =
-    (seed_len < length given) × (text ≡ fault_line (faults.Trailing seed_len))
+-- The text tells where the bytes are to end, and there are more.
+abbrev pub TellsLong : ℕ → List ℕ → List ℕ → Type 0
+TellsLong size given text = (size < length given) × (text ≡ fault_line (faults.Trailing size))
+
+-- Dealings
+
+-- The text tells the dealing of the secret among the members.
+abbrev pub TellsDealing : ℕ → List ℕ → List ℕ → List ℕ → Type 0
+TellsDealing threshold members given text =
+    (length given ≡ dealing_len) × (can_deal threshold members ≡ true)
+    × (text ≡ text_of_dealing threshold members given)
+
+-- The text tells that no secret can be dealt so among the members, and it is so.
+abbrev pub TellsBadDealing : ℕ → List ℕ → List ℕ → List ℕ → Type 0
+TellsBadDealing threshold members given text =
+    (length given ≡ dealing_len) × (can_deal threshold members ≡ false)
+    × (text ≡ fault_line faults.BadDealing)
 
 -- Signing
 
@@ -151,7 +165,8 @@ TellsOtherForm signing shown given text =
 -- verdict under the key is a transaction, and the text tells that; or they are a valid ledger of
 -- the service with the key, and the text tells its last transaction and that of its last signature;
 -- or the disk held nothing and they are a seed, and the text tells the public form of its key; or
--- the key of the disk's file signs them, and the text is what is told then.
+-- they are a secret with the seed of its dealing, and the text tells that; or the key of the disk's
+-- file signs them, and the text is what is told then.
 abbrev pub IsAnswer : Task → Shown → List ℕ → List ℕ → Type 0
 IsAnswer tasks.Replay shown given text =
     (schedule : Schedule) × ReadsAs given schedule × (text ≡ text_of_schedule schedule)
@@ -162,12 +177,14 @@ IsAnswer (tasks.Audit identity) shown given text = TellsValidLedger identity giv
 IsAnswer (tasks.Keygen kind types) shown given text =
     (shown.len ≡ 0) × IsSeed given
     × (text ≡ key_line (record { kind = kind; types = types; seed = given }))
+IsAnswer (tasks.Deal threshold members) shown given text =
+    TellsDealing threshold members given text
 IsAnswer (tasks.Sign signing) shown given text = IsSigned signing shown given text
 
 -- At 1: the bytes are a receipt that is not valid under the key, or they are no valid ledger of the
 -- service with the key, and the text tells why; or the disk that is to take a key held bytes, and
--- the text tells how many; or the disk has no key file of the kind that signs, or its key doesn't
--- sign the bytes, and the text tells why.
+-- the text tells how many; or a secret can't be dealt so among the members; or the disk has no key
+-- file of the kind that signs, or its key doesn't sign the bytes, and the text tells why.
 abbrev pub IsRefusal : Task → Shown → List ℕ → List ℕ → Type 0
 IsRefusal tasks.Replay shown given text = ⊥
 IsRefusal (tasks.Verify identity) shown given text =
@@ -178,6 +195,8 @@ IsRefusal (tasks.Audit identity) shown given text =
     TellsForeignLedger identity given text ⊎ TellsFaultyLedger identity given text
 IsRefusal (tasks.Keygen kind types) shown given text =
     (0 < shown.len) × (text ≡ fault_line (faults.NotEmpty shown.len))
+IsRefusal (tasks.Deal threshold members) shown given text =
+    TellsBadDealing threshold members given text
 IsRefusal (tasks.Sign signing) shown given text =
     TellsNoKeyFile shown text ⊎ TellsOtherKey signing shown text
     ⊎ TellsUnsigned signing shown given text
@@ -191,13 +210,14 @@ IsPastLimit (tasks.Verify identity) shown given text =
     HasTooMuchJson given × (text ≡ fault_line faults.TooMuchJson)
 IsPastLimit (tasks.Audit identity) shown given text = ⊥
 IsPastLimit (tasks.Keygen kind types) shown given text = ⊥
+IsPastLimit (tasks.Deal threshold members) shown given text = ⊥
 IsPastLimit (tasks.Sign signing) shown given text =
     (state : Durable) × HasKeyFor signing shown state × HasTooMuchJson given
     × (text ≡ fault_line faults.TooMuchJson)
 
 -- At 9: the bytes are within the limits and have no reading, and the text tells their first bad
 -- line, or what differs first from a receipt or from the form of what is to be signed; or they are
--- no seed, and the text tells where it differs from one.
+-- no seed, or no secret with the seed of its dealing, and the text tells where they differ from one.
 abbrev pub IsNoReading : Task → Shown → List ℕ → List ℕ → Type 0
 IsNoReading tasks.Replay shown given text =
     (number : ℕ) × HasBadLine given number × (text ≡ fault_line (faults.BadLine number))
@@ -205,7 +225,9 @@ IsNoReading (tasks.Verify identity) shown given text =
     (fault : FormsFault) × HasOtherForm given fault × (text ≡ fault_line (faults.Form fault))
 IsNoReading (tasks.Audit identity) shown given text = ⊥
 IsNoReading (tasks.Keygen kind types) shown given text =
-    (shown.len ≡ 0) × (TellsShortSeed given text ⊎ TellsLongSeed given text)
+    (shown.len ≡ 0) × (TellsShort seed_len given text ⊎ TellsLong seed_len given text)
+IsNoReading (tasks.Deal threshold members) shown given text =
+    TellsShort dealing_len given text ⊎ TellsLong dealing_len given text
 IsNoReading (tasks.Sign signing) shown given text = TellsOtherForm signing shown given text
 
 -- At 2: the line of one of these kinds of fault.

@@ -48,6 +48,8 @@ pub enum Fault {
     Journal(JournalFault),
     /// The disk's key file has a key of another kind.
     KeyKind { want: KeyKind, got: KeyKind },
+    /// The members are none among whom a secret can be dealt so.
+    BadDealing,
     /// What is to be signed has its form, and isn't signed.
     Signing(SigningFault),
 }
@@ -289,6 +291,7 @@ impl Fault {
             Fault::Trailing { at } => put_named(out, "Trailing ", *at),
             Fault::Journal(fault) => put_journal(out, *fault),
             Fault::KeyKind { want, got } => put_key_kinds(out, *want, *got),
+            Fault::BadDealing => out.extend_from_slice(b"BadAction 0 10"),
             Fault::Signing(fault) => put_signing(alloc, out, fault),
         }
     }
@@ -319,6 +322,7 @@ impl Fault {
             | Fault::NotEmpty { .. }
             | Fault::Journal(_)
             | Fault::KeyKind { .. }
+            | Fault::BadDealing
             | Fault::Signing(_) => Ending::NotValid,
         }
     }

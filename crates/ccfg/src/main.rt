@@ -1,27 +1,25 @@
 //! `ccfg`, the program.
 #![tactic(auto)]
 
+mod deal;
 mod ending;
 mod fault;
-mod help;
 mod keygen;
 mod ledger_plan;
 mod load;
 mod output;
 mod plan;
 mod program;
-mod progress;
 mod signing;
 #[cfg(test)]
 mod tests;
 mod verify;
-mod words;
 
 use ending::Ending;
+use gl_commands::{HELP, VERSION};
 use gl_file::FileDisk;
 use gl_outside::{OpenGate, Sink, SinkFault, StreamSink, StreamSource, SureLink, write_whole};
-use help::{HELP, VERSION};
-use progress::WatchedSource;
+use gl_progress::WatchedSource;
 use std::alloc::{AllocError, Global};
 use std::io::IsTerminal;
 use std::process::ExitCode;

@@ -3,15 +3,16 @@
 ghost use Rattle.std.specs.Prelude.{◌≡◌, ◌≢◌, ℕ, ◌<◌, ◌≤◌, Err, IfErr, IfOk, IsTrue, false, length};
 ghost use Rattle.gl_outside.specs.Fault.{Rose};
 ghost use Rattle.gl_audit.specs.Given.{OfBytes};
-ghost use Rattle.gl_consortium.specs.declared.signing.Signing.{Signing};
 ghost use Rattle.gl_journal.specs.Durable.{journal_header};
 ghost use Rattle.gl_journal.specs.Parts.{HasGate};
 ghost use Rattle.gl_journal.specs.declared.key.KeyKind.{KeyKind};
+ghost use Rattle.gl_keyfile.specs.declared.signing.Signing.{Signing};
 ghost use Rattle.gl_lms.specs.declared.types.Types.{Types};
 ghost use Rattle.ccfg.specs.Owed.{EndsSource, OfShown, bytes_limit, due_of, due_of_schedule, ending_of_stop, uses_disk};
 ghost use Rattle.ccfg.specs.Plans.{IsUntouched, MovesByLeaf, OpensAsBefore, PlansPlayable, TellsFault, TellsSpent, ShowsAccepted, ShowsKept, due_of_plan};
-ghost use Rattle.ccfg.specs.declared.words.Task.TheVariants.{Keygen, Sign};
+ghost use Rattle.gl_commands.specs.declared.task.Task.TheVariants.{Keygen, Sign};
 
+use crate::deal::read_dealing_plan;
 use crate::ending::Ending;
 use crate::fault::Fault;
 use crate::keygen::keygen_plan;
@@ -19,8 +20,8 @@ use crate::ledger_plan::read_ledger_plan;
 use crate::load::{LoadStop, load};
 use crate::signing::signing_plan;
 use crate::verify::read_receipt_plan;
-use crate::words::Task;
 use gl_base::{OrNoMemory, TxId};
+use gl_commands::Task;
 use gl_lines::{ScheduleFault, line_count};
 use gl_outside::{Disk, Source};
 use gl_schedule::{Schedule, read};
@@ -41,8 +42,8 @@ pub enum Plan {
     Show(TxId),
     /// To tell the last transaction of a valid ledger, and that of its last signature.
     ShowLedger(TxId, Option<TxId>),
-    /// To tell what is made already: the public form of a key that is kept, or what is signed with
-    /// a leaf that is spent.
+    /// To tell what is made already: a dealing, the public form of a key that is kept, or what is
+    /// signed with a leaf that is spent.
     Tell(Vec<u8>),
     /// To tell a fault.
     Refuse(Fault),
@@ -162,6 +163,10 @@ pub fn read_plan<S: Source, D: Disk>(
         Task::Verify { identity } => (read_receipt_plan(alloc, identity, source), disk),
         Task::Audit { identity } => (read_ledger_plan(alloc, identity, source), disk),
         Task::Keygen { kind, types } => keygen_plan(alloc, *kind, *types, source, disk),
+        Task::Deal { threshold, members } => (
+            read_dealing_plan(alloc, *threshold, members.as_slice(), source),
+            disk,
+        ),
         Task::Sign { signing } => signing_plan(alloc, signing, source, disk),
     }
 }

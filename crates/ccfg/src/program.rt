@@ -6,28 +6,28 @@ ghost use Rattle.std.specs.Io.KnownBytes.{Keeps};
 ghost use Rattle.clap.specs.Kinds.{Kinds};
 ghost use Rattle.gl_outside.specs.Fault.{Rose};
 ghost use Rattle.gl_outside.specs.Sink.{AppendsFront};
-ghost use Rattle.gl_consortium.specs.declared.signing.Signing.{Signing};
 ghost use Rattle.gl_journal.specs.Durable.{journal_header};
 ghost use Rattle.gl_journal.specs.Parts.{HasGate};
 ghost use Rattle.gl_journal.specs.declared.key.KeyKind.{KeyKind};
+ghost use Rattle.gl_keyfile.specs.declared.signing.Signing.{Signing};
 ghost use Rattle.gl_lms.specs.declared.types.Types.{Types};
 ghost use Rattle.ccfg.specs.declared.ending.Ending.{Ending as Endings};
 ghost use Rattle.ccfg.specs.declared.ending.Ending.TheVariants.{DiskFailed, Done, Memory, NoReading, NotValid, PastLimit, SinkFailed, SourceFailed};
-ghost use Rattle.ccfg.specs.declared.words.Task.TheVariants.{Keygen, Sign, Verify};
-ghost use Rattle.ccfg.specs.declared.words.Task.{Task as Tasks};
+ghost use Rattle.gl_commands.specs.declared.task.Task.TheVariants.{Keygen, Sign, Verify};
+ghost use Rattle.gl_commands.specs.declared.task.Task.{Task as Tasks};
 ghost use Rattle.gl_schedule.specs.Moments.{KeepsHeadline, TellsMoments};
 ghost use Rattle.gl_audit.specs.Given.{OfBytes};
 ghost use Rattle.ccfg.specs.Owed.{Answers, EndsSource, OfShown, Runs, due_of, exit_status, uses_disk};
 ghost use Rattle.ccfg.specs.Plans.{IsUntouched, KeepsKey, MovesByLeaf, OpensAsBefore, SpendsLeaf};
 ghost use Rattle.ccfg.specs.Promises.{IsAnswer, IsFaultLine, IsKindLine, IsPastLimit, IsRefusal, IsNoReading, Tells, TellsAccepted, TellsFront};
 ghost use Rattle.gl_schedule.specs.Schedules.{reads};
-ghost use Rattle.ccfg.specs.Words.{asked};
+ghost use Rattle.gl_commands.specs.Words.{asked};
 
 use crate::ending::Ending;
 use crate::fault::Fault;
 use crate::output::{carry_out, refuse};
 use crate::plan::read_plan;
-use crate::words::{Task, WordsFault, read_words};
+use gl_commands::{Task, WordsFault, read_words};
 use gl_outside::{Disk, Gate, Link, Sink, Source};
 use std::alloc::Global;
 
@@ -169,13 +169,15 @@ fn run<S: Source, K: Sink, D: Disk>(
 /// audits the ledger that the source gives, under the service's key HEX, and prints its last
 /// transaction and that of its last signature; `keygen --kind KIND --types TYPES` begins a key file
 /// on the disk, with the 32 bytes that the source gives as the key's seed, and prints the key's
-/// public form; `endorse`, `genesis` and `sign --identity HEX --member N` sign what the source
+/// public form; `deal --threshold K N..` deals the secret that the source gives with the seed of its
+/// dealing, 64 bytes, among the members N.., and prints the action that sets this dealing, and each
+/// member's share; `endorse`, `genesis` and `sign --identity HEX --member N` sign what the source
 /// gives with the key of the disk's file, and print a node's endorsed key, the ledger that opens a
 /// service, or the request of member N to the service with the key HEX. The answer is the exit
-/// status, and the disk: 0 done, 1 the receipt or the ledger is not valid, the disk is not empty or
-/// nothing is signed, 2 other words, 3 the source failed, 4 the sink failed, 5 the disk failed, 7
-/// want of memory, 8 a limit is passed, 9 no schedule, no receipt, no seed or nothing to sign. No
-/// command uses the link or the gate yet.
+/// status, and the disk: 0 done, 1 the receipt or the ledger is not valid, the disk is not empty, a
+/// secret can't be dealt so or nothing is signed, 2 other words, 3 the source failed, 4 the sink
+/// failed, 5 the disk failed, 7 want of memory, 8 a limit is passed, 9 no schedule, no receipt, no
+/// seed, no secret with its seed or nothing to sign. No command uses the link or the gate yet.
 pub fn top<S: Source, K: Sink, D: Disk + Send, L: Link, G: Gate + Sync>(
     alloc: Global,
     words: &[String],
@@ -240,9 +242,9 @@ pub fn top<S: Source, K: Sink, D: Disk + Send, L: Link, G: Gate + Sync>(
         → (signing : Signing) → asked (map string_bytes words.now) ≡ Ok (Sign signing)
         → MovesByLeaf signing (D.bytes disk) (D.past disk) (D.past result.1) }
     // 1: the words ask for a task, and exactly the line was written that tells why the bytes'
-    // receipt or ledger is not valid, that the disk isn't empty, or why nothing is signed. The
-    // source gave its end, unless the line tells an entry that breaks a rule, or of the disk: then
-    // nothing is said of the end.
+    // receipt or ledger is not valid, that the disk isn't empty, that the secret can't be dealt so,
+    // or why nothing is signed. The source gave its end, unless the line tells an entry that breaks
+    // a rule, or of the disk: then nothing is said of the end.
     ensures not_valid { result.0 ≡ 1 → (task : Tasks)
         × (asked (map string_bytes words.now) ≡ Ok task)
         × OfShown D.honest (D.bytes disk) (λ shown. OfBytes (S.left source.old) (λ given.
@@ -320,8 +322,8 @@ pub fn top<S: Source, K: Sink, D: Disk + Send, L: Link, G: Gate + Sync>(
         → OfShown D.honest (D.bytes disk) (λ shown. IfSome (S.left source.old) (λ given.
         (text : List ℕ) → IsAnswer task shown given text
         → (result.0 ≡ 0) ⊎ (result.0 ≡ 3) ⊎ (result.0 ≡ 4) ⊎ (result.0 ≡ 5) ⊎ (result.0 ≡ 7))) }
-    // a receipt or a ledger that is not valid, a disk that isn't empty, or what isn't signed, gives
-    // 1,
+    // a receipt or a ledger that is not valid, a disk that isn't empty, members among whom a secret
+    // can't be dealt so, or what isn't signed, gives 1,
     ensures refused { (task : Tasks) → asked (map string_bytes words.now) ≡ Ok task
         → OfShown D.honest (D.bytes disk) (λ shown. IfSome (S.left source.old) (λ given.
         (text : List ℕ) → IsRefusal task shown given text

@@ -4,11 +4,11 @@
 ghost use Rattle.std.specs.Prelude.{◌≡◌, ◌≢◌, ◌≤◌, ℕ, Err, IfOk, IsTrue, length};
 ghost use Rattle.gl_audit.specs.Given.{OfBytes};
 ghost use Rattle.gl_base.specs.declared.or_no_memory.OrNoMemory.{OrNoMemory};
-ghost use Rattle.gl_consortium.specs.Signing.{kind_of, use_of};
 ghost use Rattle.gl_consortium.specs.declared.fault.SigningFault.{SigningFault};
 ghost use Rattle.gl_journal.specs.declared.fault.JournalFault.{JournalFault};
 ghost use Rattle.gl_keyfile.specs.KeyFile.{IsOpened, any_frame, disk_of, held};
 ghost use Rattle.gl_keyfile.specs.Leaf.{after_leaf};
+ghost use Rattle.gl_keyfile.specs.Signing.{kind_of, use_of};
 ghost use Rattle.gl_journal.specs.Durable.{OpensToOneOf, journal_header};
 ghost use Rattle.gl_journal.specs.Parts.{HasGate};
 ghost use Rattle.gl_outside.specs.Disk.{Leaves};
@@ -21,9 +21,9 @@ use crate::fault::Fault;
 use crate::load::{JSON_LIMIT, LoadStop, load};
 use crate::plan::{Plan, PlanStop};
 use gl_base::OrNoMemory;
-use gl_consortium::{Signing, SigningFault, sign};
+use gl_consortium::{SigningFault, sign};
 use gl_journal::JournalFault;
-use gl_keyfile::{KeyFile, KeyFileFault};
+use gl_keyfile::{KeyFile, KeyFileFault, Signing};
 use gl_outside::{Disk, Source};
 use std::alloc::Global;
 

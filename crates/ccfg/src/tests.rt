@@ -5,6 +5,7 @@ use gl_outside::{Disk, NoDisk, OpenGate, Sink, Source, SureLink, SureSink, SureS
 use std::alloc::{AllocError, Global};
 
 mod audits;
+mod dealings;
 mod keys;
 mod members;
 mod nodes;

@@ -5,7 +5,7 @@ ghost use Rattle.gl_outside.specs.Fault.{Rose};
 ghost use Rattle.gl_audit.specs.Given.{OfBytes};
 ghost use Rattle.ccfg.specs.Owed.{EndsSource, due_of_receipt, json_limit, valid_line};
 ghost use Rattle.ccfg.specs.Plans.{ShowsAccepted, PlansPlayable, due_of_plan};
-ghost use Rattle.ccfg.specs.declared.words.Task.TheVariants.{Verify};
+ghost use Rattle.gl_commands.specs.declared.task.Task.TheVariants.{Verify};
 
 use crate::fault::Fault;
 use crate::load::{JSON_LIMIT, LoadStop, load};

@@ -5,9 +5,11 @@ ghost use Rattle.gl_base.specs.Answers.{Fails};
 ghost use Rattle.gl_entry.specs.declared.entry.Entry as entries;
 ghost use Rattle.gl_requests.specs.Ranges.{is_request};
 ghost use Rattle.gl_gov_rules.specs.Governed.{is_founding, is_recovery};
+ghost use Rattle.gl_ledger.specs.Broken.{is_unopened};
 ghost use Rattle.gl_ledger.specs.Ledger.{HasViewsUpTo};
 ghost use Rattle.gl_ledger.specs.Makers.{govern_result};
 ghost use Rattle.gl_ledger.specs.NodeKeys.{service_layers};
+ghost use Rattle.gl_ledger.specs.Recordings.{last_entry};
 ghost use Rattle.gl_ledger.specs.Sound.{IsSound};
 ghost use Rattle.gl_ledger.specs.declared.made.Given.TheVariants.{Governed, Replied};
 ghost use Rattle.gl_book.specs.Taken.{Takes, executed, governed};
@@ -58,10 +60,11 @@ impl BookLedger {
     /// breaks no rule of the audit, and none is tried.
     fn may_make(&self, view: u32) -> bool
         ensures up_to { IsTrue result → HasViewsUpTo view self.now }
-        ensures opened { IsTrue result → 2 ≤ length self.now }
+        ensures some { IsTrue result → 0 < length self.now }
+        ensures opened { IsTrue result → is_unopened (last_entry self.now) ≡ false }
         ensures sound { IsSound service_layers self.now }
     {
-        if self.len() < 2 {
+        if self.len() == 0 || self.store.is_unopened() {
             return false;
         }
         match self.store.entries().last() {
@@ -88,7 +91,8 @@ impl BookLedger {
     fn execute_untried(&mut self, view: u32, request: &Request) -> Result<Reply, OrNoMemory<Unmade>>
         requires sound { IsSound service_layers self.old }
         requires up_to { HasViewsUpTo view self.old }
-        requires opened { 2 ≤ length self.old }
+        requires some { 0 < length self.old }
+        requires opened { is_unopened (last_entry self.old) ≡ false }
         ensures made { IfOk result (λ reply. Takes (executed self.old view request.now) view
             (Replied reply) self.old self.new) }
         ensures refused { IfErr result (λ e. Fails e (executed self.old view request.now)) }
@@ -148,7 +152,8 @@ impl BookLedger {
     ) -> Result<Option<ProposalStatus>, OrNoMemory<Unmade>>
         requires sound { IsSound service_layers self.old }
         requires up_to { HasViewsUpTo view self.old }
-        requires opened { 2 ≤ length self.old }
+        requires some { 0 < length self.old }
+        requires opened { is_unopened (last_entry self.old) ≡ false }
         requires fits { is_request request.now ≡ true }
         requires founding { is_founding request.now ≡ false }
         requires recovery { is_recovery request.now ≡ false }

@@ -32,7 +32,7 @@ use Rattle.gl_ledger.specs.Ledger.{genesis_entry, message_behind, signature_entr
 use Rattle.gl_ledger.specs.Makers.{MakesValid}
 use Rattle.gl_ledger.specs.NodeKeys.{IsNodeKey, NodeKeys, service_layers}
 use Rattle.gl_ledger.specs.Opening.{Founds}
-use Rattle.gl_ledger.specs.Recordings.{founds, last_entry}
+use Rattle.gl_ledger.specs.Recordings.{founds, last_entry, recovers}
 use Rattle.gl_ledger.proofs.Auditing.{audited_all}
 use Rattle.gl_ledger.proofs.NodeSignatures.{node_makes}
 use Rattle.gl_ledger.proofs.Opening.{founded, founding_unbroken, opening_unbroken}
@@ -41,12 +41,12 @@ use Rattle.gl_ledger.proofs.SignatureEntries.{signed_is_entry}
 use Rattle.gl_journal.specs.Durable.{Durable}
 use Rattle.gl_journal.specs.declared.key.Key.{Key}
 use Rattle.gl_keyfile.specs.Form.{lms_key}
+use Rattle.gl_keyfile.specs.declared.signing.Signing.TheVariants.{Opening}
 use Rattle.gl_consortium.specs.Owed.{first_endorsement, first_id, id_of, is_first_node, opening_bytes, opening_of, opening_owed, opening_signature, owed, owed_for, private_key}
 use Rattle.gl_consortium.specs.Laws.{HasTwin, IsOpening}
 use Rattle.gl_consortium.specs.declared.document.Document.{Document}
 use Rattle.gl_consortium.specs.declared.document.Document.TheVariants.{Settings}
 use Rattle.gl_consortium.specs.declared.fault.SigningFault.TheVariants as faults
-use Rattle.gl_consortium.specs.declared.signing.Signing.TheVariants.{Opening}
 use Rattle.gl_consortium.proofs.Owing.{OpeningParts, opening_parts, read_of_told}
 use Rattle.gl_consortium.proofs.Reading.{settings_read}
 
@@ -161,7 +161,7 @@ module _ (key : Key) (leaf : ℕ) (g : founding.Genesis) (n : NewNode) (ns : Lis
       ap (λ (o : Option LedgerFault). opened_unless service_layers o ledger) none
       ∙ ap (λ (j : ℕ). opened_where (is_unopened (last_entry (take j ledger))) (signer_of (slice_get ledger j)) (length ledger)) one
       ∙ ap (λ (j : ℕ). opened_where (is_unopened (slice_get front j)) (Some node) (length ledger)) none_before
-      ∙ ap (λ (b : Bool). opened_where b (Some node) (length ledger)) founds_service
+      ∙ ap (λ (b : Bool). opened_where (b || recovers (genesis_entry g)) (Some node) (length ledger)) founds_service
 
 -- ---- what is told
 

@@ -20,13 +20,13 @@ use Rattle.gl_gov_rules.specs.declared.refusal.GovernanceRefusal.{GovernanceRefu
 use Rattle.gl_gov_rules.specs.declared.refusal.GovernanceRefusal.TheVariants as refusals
 use Rattle.gl_journal.specs.Durable.{Durable, leaf_count}
 use Rattle.gl_journal.specs.declared.key.Key.{Key}
-use Rattle.gl_consortium.specs.Signing.{read}
+use Rattle.gl_keyfile.specs.declared.signing.Signing.{Signing}
+use Rattle.gl_consortium.specs.Texts.{read}
 use Rattle.gl_consortium.specs.Owed.{first_id, founding_fault, has_leaf, id_of, in_form, is_accepted, is_first_node, opening_bytes, opening_owed, owed, owed_for, private_key, unless_refused}
 use Rattle.gl_consortium.specs.declared.document.Document.{Document}
 use Rattle.gl_consortium.specs.declared.document.Document.TheVariants.{NodeKey, Settings, Act}
 use Rattle.gl_consortium.specs.declared.fault.SigningFault.{SigningFault}
 use Rattle.gl_consortium.specs.declared.fault.SigningFault.TheVariants as faults
-use Rattle.gl_consortium.specs.declared.signing.Signing.{Signing}
 
 -- what is owed where a document is read
 pub owed_read : (signing : Signing) (state : Durable) (key : Key) (leaf : ℕ) (text : List ℕ) (document : Document) → read signing text ≡ Ok document → state.key ≡ key → state.reserved ≡ leaf → owed signing state text ≡ owed_for key leaf document

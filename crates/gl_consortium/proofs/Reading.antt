@@ -14,10 +14,10 @@ use Rattle.gl_forms.specs.Text.{from_text, tree_from}
 use Rattle.gl_forms.specs.declared.key.KeyForm.{KeyForm}
 use Rattle.gl_forms.specs.declared.key.KeyForm.TheVariants as forms
 use Rattle.gl_forms.proofs.FitForms.{settings_fit}
-use Rattle.gl_consortium.specs.Signing.{node_key_of, read}
+use Rattle.gl_keyfile.specs.declared.signing.Signing.TheVariants.{Endorsement, Opening, Request}
+use Rattle.gl_consortium.specs.Texts.{node_key_of, read}
 use Rattle.gl_consortium.specs.declared.document.Document.{Document}
 use Rattle.gl_consortium.specs.declared.document.Document.TheVariants.{NodeKey, Settings, Act}
-use Rattle.gl_consortium.specs.declared.signing.Signing.TheVariants.{Endorsement, Opening, Request}
 
 pub node_key_read : (text : List ℕ) (document : Document) → read Endorsement text ≡ Ok document → (key : List ℕ) × (id : List ℕ) × (document ≡ NodeKey key id)
 unfolding read

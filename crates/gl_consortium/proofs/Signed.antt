@@ -20,11 +20,11 @@ use Rattle.gl_gov_rules.specs.Signatures.{is_endorsed, is_signed}
 use Rattle.gl_journal.specs.Durable.{Durable}
 use Rattle.gl_journal.specs.declared.key.Key.{Key}
 use Rattle.gl_keyfile.specs.Form.{hss_key}
+use Rattle.gl_keyfile.specs.declared.signing.Signing.TheVariants.{Endorsement, Request}
 use Rattle.gl_consortium.specs.Owed.{endorsement_by, endorsement_line, has_leaf, owed, owed_for, private_key, request_line, signed_request}
 use Rattle.gl_consortium.specs.Laws.{IsEndorsement, IsRequest}
 use Rattle.gl_consortium.specs.declared.document.Document.{Document}
 use Rattle.gl_consortium.specs.declared.document.Document.TheVariants.{NodeKey, Act}
-use Rattle.gl_consortium.specs.declared.signing.Signing.TheVariants.{Endorsement, Request}
 use Rattle.gl_consortium.proofs.Owing.{below_of_told, read_of_told}
 use Rattle.gl_consortium.proofs.Reading.{act_read, node_key_read}
 

@@ -1,4 +1,4 @@
-pub mod Signing
+pub mod Texts
 pub mod Owed
 pub mod Faults
 pub mod Laws

@@ -30,12 +30,12 @@ use Rattle.gl_forms.specs.Key.{key_tree}
 use Rattle.gl_forms.specs.declared.key.KeyForm.TheVariants as forms
 use Rattle.gl_journal.specs.Durable.{Durable}
 use Rattle.gl_journal.specs.declared.key.Key.{Key}
-use Rattle.gl_consortium.specs.Signing.{read}
+use Rattle.gl_keyfile.specs.declared.signing.Signing.{Signing}
+use Rattle.gl_consortium.specs.Texts.{read}
 use Rattle.gl_consortium.specs.declared.document.Document.{Document}
 use Rattle.gl_consortium.specs.declared.document.Document.TheVariants.{NodeKey, Settings, Act}
 use Rattle.gl_consortium.specs.declared.fault.SigningFault.{SigningFault}
 use Rattle.gl_consortium.specs.declared.fault.SigningFault.TheVariants as faults
-use Rattle.gl_consortium.specs.declared.signing.Signing.{Signing}
 
 -- What is told, with a leaf of a private key
 

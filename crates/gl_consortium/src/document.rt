@@ -4,11 +4,11 @@ ghost use Rattle.std.specs.Prelude.{◌≡◌, [], true, codes, IfOk};
 ghost use Rattle.gl_base.specs.Answers.{Answers};
 ghost use Rattle.gl_base.specs.Json.{member_of};
 ghost use Rattle.gl_base.specs.declared.json.FormsFault.{FormsFault};
-ghost use Rattle.gl_consortium.specs.Signing.{fits, node_key_of, read};
+ghost use Rattle.gl_consortium.specs.Texts.{fits, node_key_of, read};
 
-use crate::signing::Signing;
 use gl_base::{FormsFault, OrNoMemory, Pointer};
 use gl_forms::{KeyForm, read_key, read_request, read_settings};
+use gl_keyfile::Signing;
 use gl_requests::{Genesis, HssPublicKey, LmsPublicKey, MemberAct, NodeId};
 use std::alloc::{AllocError, Global};
 
@@ -53,7 +53,7 @@ fn node_key_of(alloc: Global, form: KeyForm) -> Result<Document, OrNoMemory<Form
 }
 
 /// What a text is read as, all of it, or the first value of it that has another form.
-#[tactic(auto, unfolding(crate::specs::Signing::read))]
+#[tactic(auto, unfolding(crate::specs::Texts::read))]
 pub(crate) fn read_document(
     alloc: Global,
     signing: &Signing,

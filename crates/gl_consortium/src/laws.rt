@@ -6,10 +6,10 @@ ghost use Rattle.gl_gov_rules.specs.History.{no_history};
 ghost use Rattle.gl_gov_rules.specs.Refusals.{genesis_refusal};
 ghost use Rattle.gl_gov_rules.specs.declared.refusal.GovernanceRefusal.{GovernanceRefusal};
 ghost use Rattle.gl_journal.specs.Durable.{Durable};
+ghost use Rattle.gl_keyfile.specs.declared.signing.Signing.{Signing};
 ghost use Rattle.gl_consortium.specs.Owed.{owed};
 ghost use Rattle.gl_consortium.specs.Faults.{IsOfFounding};
 ghost use Rattle.gl_consortium.specs.Laws.{IsEndorsement, IsOpening, IsRequest};
-ghost use Rattle.gl_consortium.specs.declared.signing.Signing.{Signing};
 
 /// A genesis is refused for an action or for a signature alone. An endorsement that is told is
 /// valid, a request that is told is signed, and the check of an opening takes an opening ledger that

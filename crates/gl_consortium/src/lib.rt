@@ -11,12 +11,10 @@ mod laws;
 mod leaf;
 mod opening;
 mod request;
-mod signing;
 
 pub use answer::sign;
 pub use fault::SigningFault;
 pub use laws::law_of_signing;
-pub use signing::Signing;
 
 #[cfg(test)]
 mod tests;

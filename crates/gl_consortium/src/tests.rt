@@ -3,8 +3,8 @@
 ghost use Rattle.std.specs.Prelude.{◌≡◌, IfOk};
 ghost use Rattle.gl_outside.specs.SureDisk.{disk_past};
 ghost use Rattle.gl_keyfile.specs.KeyFile.{held, IsOpened};
+ghost use Rattle.gl_keyfile.specs.Signing.{kind_of};
 ghost use Rattle.gl_journal.specs.declared.key.KeyKind.{KeyKind};
-ghost use Rattle.gl_consortium.specs.Signing.{kind_of};
 
 use super::*;
 use gl_base::{Bytes, FormsFault, OrNoMemory};
@@ -12,7 +12,7 @@ use gl_entry::Entry;
 use gl_forms::{KeyForm, read_key, write_key};
 use gl_hss::{leaf_of, verify, verify_endorsement};
 use gl_journal::{Key, KeyKind};
-use gl_keyfile::{KeyFile, LeafUse, key_form};
+use gl_keyfile::{KeyFile, LeafUse, Signing, key_form};
 use gl_lms::Types;
 use gl_outside::{Disk, MemDisk, SureDisk, Tear};
 use gl_requests::{GovernanceRequest, HssPublicKey};

@@ -1,8 +1,8 @@
--- What a sound ledger keeps of the genesis that founds it: the service's key, in force from its first entry on.
+-- The service's key in a sound ledger: it has its size, and without a recovery it is that of the genesis.
 use Rattle.std.proofs.Common.{◌≡◌, ℕ, suc, ◌<◌, List, [], ◌∷◌, ◌++◌, length, take, Option, Some, None, Result, Ok, Err, Bool, true, false, ◌&&◌, refl, sym, ◌∙◌, ap, subst, arith, slice_get}
 use Rattle.std.specs.FinMap as rows
 use Rattle.std.specs.List.{list_any}
-use Rattle.std.proofs.lemmas.Bool.{and_parts, or_from}
+use Rattle.std.proofs.lemmas.Bool.{or_from}
 use Rattle.std.proofs.lemmas.Option.{same_Some}
 use Rattle.std.proofs.lemmas.List.Folds.{list_any-append}
 use Rattle.gl_base.specs.Bytes.{are_sized}
@@ -33,8 +33,8 @@ use Rattle.gl_ledger.specs.Recordings.{governance_recording, application_recordi
 use Rattle.gl_ledger.specs.ServiceRow.{identity_of_value, identity_in}
 use Rattle.gl_ledger.specs.Tree.{tables_of}
 use Rattle.gl_ledger.specs.Ledger.{genesis_entry}
-use Rattle.gl_ledger.specs.Sound.{IsGovernanceEntry, StandsAs, IsSound}
-use Rattle.gl_ledger.proofs.Fronts.{sound_front}
+use Rattle.gl_ledger.specs.Sound.{IsSound, IsUnrecovered}
+use Rattle.gl_ledger.proofs.Identities.{identity_fits}
 use Rattle.gl_ledger.proofs.Governed.{governed}
 use Rattle.gl_ledger.proofs.RequestSpellings.{request_in-read}
 
@@ -109,8 +109,8 @@ told_key r rs key all is =
     let row = founded_row r rs all in
     ap identity_of_value (service_value (r ∷ rs) row.0 row.1) ∙ same_Some row.0.identity key (sym (identity_told (r ∷ rs) row.0 row.1) ∙ is)
 
-module _ (layers : Layers) (e : Entry) (es : List Entry) (sound : IsSound layers (e ∷ es)) (by : FoundedBy e) where
-  -- the key of the genesis is in force
+module _ (layers : Layers) (e : Entry) (es : List Entry) (sound : IsSound layers (e ∷ es)) (none : IsUnrecovered (e ∷ es)) (by : FoundedBy e) where
+  -- the key of the genesis is in force, where no recovery follows
   pub identity_of_first : identity_in (tables_of (e ∷ es)) ≡ by.genesis.identity
   identity_of_first =
       let more : List Recorded = requests_from 2 es in
@@ -118,53 +118,36 @@ module _ (layers : Layers) (e : Entry) (es : List Entry) (sound : IsSound layers
       let all : rules.IsGoverned (founding_recorded by.genesis ∷ more) = subst rules.IsGoverned are (governed layers (e ∷ es) sound) in
       ap (λ (r : Rows). identity_of_value (rows.get r service_key)) (sound.governed service_map refl ∙ ap (λ (rs : List Recorded). effect rs service_map) are)
       ∙ told_key (founding_recorded by.genesis) more by.genesis.identity all
-      (kept.founded_identity by.genesis more all (none_recover 2 es (λ i f at. sound.founded.unrecovered (suc i) f at)))
-
-  -- its fields are in their ranges
-  pub first_fits : ranges.is_genesis by.genesis ≡ true
-  first_fits =
-      let stands : IsGovernanceEntry [] e by.bytes = subst (λ (c : Content). StandsAs layers c [] e) by.content_is (sound.serial 0 e refl) in
-      let same : stands.request ≡ requests.Genesis by.genesis = same_Some stands.request (requests.Genesis by.genesis) (sym stands.reads ∙ by.reads) in
-      ap ranges.is_request (sym same) ∙ stands.fits
+      (kept.founded_identity by.genesis more all (none_recover 2 es (λ i f at. none (suc i) f at)))
 
 module _ (layers : Layers) where
-  -- of a sound ledger that begins with a genesis the key of the genesis is the service's
-  pub founded_identity : (g : founding.Genesis) (ledger : List Entry) → IsSound layers ledger → slice_get ledger 0 ≡ Some (genesis_entry g) → ranges.is_genesis g ≡ true →
+  -- of a sound ledger that begins with a genesis, and in which no recovery follows, the key of the genesis is the service's
+  pub founded_identity : (g : founding.Genesis) (ledger : List Entry) → IsSound layers ledger → IsUnrecovered ledger → slice_get ledger 0 ≡ Some (genesis_entry g) → ranges.is_genesis g ≡ true →
       identity_in (tables_of ledger) ≡ g.identity
-  founded_identity g [] sound first fits = absurd (cc)
-  founded_identity g (e ∷ es) sound first fits =
+  founded_identity g [] sound none first fits = absurd (cc)
+  founded_identity g (e ∷ es) sound none first fits =
       let same : e ≡ genesis_entry g = cc in
-      identity_of_first layers e es sound (record {
+      identity_of_first layers e es sound none (record {
         genesis = g;
         bytes = request_bytes (requests.Genesis g);
         content_is = ap (λ (x : Entry). x.content) same;
         reads = request_in-read (requests.Genesis g) fits;
       })
 
-  -- the key that is in force behind an entry is that of the whole ledger
-  pub in_force : (ledger : List Entry) → IsSound layers ledger → (n : ℕ) → identity_in (tables_of (take (suc n) ledger)) ≡ identity_in (tables_of ledger)
-  in_force [] sound n = refl
-  in_force (e ∷ es) sound n =
-      let by = founded_by e (sound.founded.first e refl).0 in
-      identity_of_first layers e (take n es) (sound_front layers (e ∷ es) sound (suc n)) by ∙ sym (identity_of_first layers e es sound by)
-
-  -- it has the size of an HSS public key, and is bytes
+  -- the key in force has the size of an HSS public key, and is bytes
   pub identity_sized : (ledger : List Entry) → IsSound layers ledger → 0 < length ledger → are_sized 60 (identity_in (tables_of ledger)) ≡ true
   identity_sized [] sound some = absurd (omega (arith, some))
   identity_sized (e ∷ es) sound some =
       let by = founded_by e (sound.founded.first e refl).0 in
-      ap (are_sized 60) (identity_of_first layers e es sound by) ∙ sized by.genesis (first_fits layers e es sound by)
-    where
-      sized : (g : founding.Genesis) → ranges.is_genesis g ≡ true → are_sized 60 g.identity ≡ true
-      sized g fits =
-          let state : Bool = ranges.is_first_state g.state in
-          let key : Bool = are_sized 60 g.identity in
-          let nodes : Bool = ranges.are_counted ranges.is_node g.nodes in
-          let members : Bool = ranges.are_counted ranges.is_member g.members in
-          let a = and_parts (state && key && nodes && members) (ranges.is_dealing g.dealing) fits in
-          let b = and_parts (state && key && nodes) members a.0 in
-          let c = and_parts (state && key) nodes b.0 in
-          (and_parts state key c.0).1
+      let are = founding_requests e es by in
+      let rs : List Recorded = founding_recorded by.genesis ∷ requests_from 2 es in
+      let all : rules.IsGoverned rs = subst rules.IsGoverned are (governed layers (e ∷ es) sound) in
+      let row = founded_row (founding_recorded by.genesis) (requests_from 2 es) all in
+      let told = identity_told rs row.0 row.1 in
+      let is : identity_in (tables_of (e ∷ es)) ≡ row.0.identity =
+      ap (λ (r : Rows). identity_of_value (rows.get r service_key)) (sound.governed service_map refl ∙ ap (λ (rs : List Recorded). effect rs service_map) are)
+      ∙ told_key (founding_recorded by.genesis) (requests_from 2 es) row.0.identity all told in
+      ap (are_sized 60) is ∙ identity_fits rs all row.0.identity told
 
   -- so it has 60 bytes
   pub length_identity : (ledger : List Entry) → IsSound layers ledger → 0 < length ledger → length (identity_in (tables_of ledger)) ≡ 60

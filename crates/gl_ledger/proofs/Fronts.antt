@@ -74,8 +74,8 @@ module _ (layers : Layers) (ledger : List Entry) (sound : IsSound layers ledger)
     founded = record {
       first = λ e at. sound.founded.first e (there n 0 e at);
       once = λ i e at is. sound.founded.once i e (there n i e at) is;
-      opened = λ e at. sound.founded.opened e (there n 1 e at);
-      unrecovered = λ i e at. sound.founded.unrecovered i e (there n i e at);
+      recovered = λ i e f at next anew. sound.founded.recovered i e f (there n i e at) (there n (suc i) f next) anew;
+      opened = λ i e f at starts next. sound.founded.opened i e f (there n i e at) starts (there n (suc i) f next);
     };
     serial = λ i e at. subst (λ (before : List Entry). StandsAs layers e.content before e) (sym (before_is n i e at)) (sound.serial i e (there n i e at));
     governed = governed_front n;

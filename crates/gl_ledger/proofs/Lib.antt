@@ -30,6 +30,7 @@ pub mod SignatureEntries
 pub mod FoundingSizes
 pub mod GenesisEntries
 pub mod Openings
+pub mod Identities
 pub mod Founded
 pub mod Opening
 pub mod NodeOrder

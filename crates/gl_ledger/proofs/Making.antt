@@ -40,7 +40,7 @@ use Rattle.gl_ledger.specs.Layers.{Layers}
 use Rattle.gl_ledger.specs.NodeKeys.{NodeKeys}
 use Rattle.gl_ledger.specs.declared.recording.Recording.{Recording}
 use Rattle.gl_ledger.specs.declared.recording.Recording.TheVariants as recordings
-use Rattle.gl_ledger.specs.Recordings.{governance_recording, application_recording, is_founding, is_recovering, is_signing, last_entry, founds, requests_of, recorded_nodes, removal, mark}
+use Rattle.gl_ledger.specs.Recordings.{governance_recording, application_recording, is_founding, is_recovering, is_signing, last_entry, begins, requests_of, recorded_nodes, removal, mark}
 use Rattle.gl_ledger.specs.Broken.{required}
 use Rattle.gl_ledger.specs.declared.breach.Broken.{Broken}
 use Rattle.gl_ledger.specs.Broken.{breach, is_next_view, is_unopened, is_in_order, broken_of_run, broken_in_state, unless_refused, with_writes, signs_at, last_signed, commit_behind, commit_from, last_commit, is_above_removal, is_later_commit, may_record, broken_by_fault, are_same_writes, broken}
@@ -63,14 +63,16 @@ within : (n : ℕ) → n < last_seqno → nat_le (n + 1) last_seqno ≡ true
 within n h = grind (arith, nat_tests)
 
 module _ (layers : Layers) (keys : NodeKeys) (ledger : List Entry) (view : ℕ) (m : MayMake ledger view) where
-  in_view : (t : Recording) → is_next_view (last_entry ledger) t view ≡ true
-  in_view t = ap (λ (o : Option Entry). is_next_view o t view) m.is_last ∙ (let h = m.up in grind (arith, nat_tests))
+  in_view : (t : Recording) → is_recovering t ≡ false → is_next_view (last_entry ledger) t view ≡ true
+  in_view t anew =
+      ap (λ (o : Option Entry). is_next_view o t view) m.is_last ∙ ap (λ (b : Bool). if b then view == m.last.view + 1 else nat_le m.last.view view) anew
+      ∙ (let h = m.up in grind (arith, nat_tests))
 
   in_order : (t : Recording) → is_founding t ≡ false → is_recovering t ≡ false → is_in_order (last_entry ledger) t view ≡ true
   in_order t other anew =
       ap (λ (o : Option Entry). is_in_order o t view) m.is_last
-      ∙ and_from (not (is_founding t) && not (is_recovering t)) (not (founds m.last) || (is_signing t && (view == m.last.view)))
-      (and_from (not (is_founding t)) (not (is_recovering t)) (ap not other) (ap not anew))
+      ∙ and_from (not (is_founding t) && (not (is_recovering t) || is_signature m.last.content)) (not (begins m.last) || (is_signing t && (view == m.last.view)))
+      (and_from (not (is_founding t)) (not (is_recovering t) || is_signature m.last.content) (ap not other) (ap (λ (b : Bool). not b || is_signature m.last.content) anew))
       (ap (λ (b : Bool). not b || (is_signing t && (view == m.last.view))) m.behind)
 
   -- an application request that isn't refused makes an entry that breaks no rule
@@ -87,7 +89,7 @@ module _ (layers : Layers) (keys : NodeKeys) (ledger : List Entry) (view : ℕ) 
         fits = subst (λ (x : Entry). is_entry x ≡ true) made.3 one;
         seqno = itself (length ledger + 1);
         named = within (length ledger) made.7;
-        view = in_view (recordings.Application q);
+        view = in_view (recordings.Application q) refl;
         order = in_order (recordings.Application q) refl refl;
         rest = ap (λ (s : ServiceState). broken_in_state seqno s (run q (tables_of ledger)) entry) made.0 ∙ ap (λ (r : Result Ran Abort). broken_of_run seqno r entry) made.2
             ∙ passes (are_same_writes ran.writes ran.writes) _ _ (same_writes_self ran.writes)
@@ -109,7 +111,7 @@ module _ (layers : Layers) (keys : NodeKeys) (ledger : List Entry) (view : ℕ) 
         fits = fits;
         seqno = itself seqno;
         named = within (length ledger) left;
-        view = in_view (recordings.Governance g);
+        view = in_view (recordings.Governance g) anew;
         order = in_order (recordings.Governance g) other anew;
         rest = ap (λ (o : Option GovernanceRefusal). unless_refused o (with_writes 8 seqno writes (governance_entry g ledger view) None)) accepted
             ∙ passes (are_same_writes writes writes) _ None (same_writes_self writes) refl;
@@ -129,7 +131,7 @@ module _ (layers : Layers) (keys : NodeKeys) (ledger : List Entry) (view : ℕ) 
       true_first (is_entry e) _ _ fits
       ∙ true_first (seqno == seqno) _ _ (itself seqno)
       ∙ true_first (nat_le seqno last_seqno) _ _ (within (length ledger) left)
-      ∙ true_first (is_next_view (last_entry ledger) (recordings.Signature s) view) _ _ (in_view (recordings.Signature s))
+      ∙ true_first (is_next_view (last_entry ledger) (recordings.Signature s) view) _ _ (in_view (recordings.Signature s) refl)
       ∙ true_first (is_in_order (last_entry ledger) (recordings.Signature s) view) _ _ (in_order (recordings.Signature s) refl refl)
       ∙ ap (λ (rest : Option Broken). required (member x (recorded_nodes ledger)) (breach 9 seqno e) rest)
       (true_first (same_bytes (root_of (leaves_of ledger)) (root_of (leaves_of ledger))) _ _ (same_bytes_self (root_of (leaves_of ledger)))

@@ -3,6 +3,7 @@ use Rattle.std.proofs.Common.{◌≡◌, ℕ, zero, suc, ◌+◌, ◌-◌, ◌�
 use Rattle.std.proofs.lemmas.Bool.{and_parts}
 use Rattle.std.proofs.lemmas.Bool.Decides.{nat_tests}
 use Rattle.gl_base.specs.Bytes.{same_bytes}
+use Rattle.gl_base.proofs.Lists.{slice_get-of_take}
 use Rattle.gl_merkle.specs.Tree.{root_of}
 use Rattle.gl_rules.specs.Identity.{NodeId, member}
 use Rattle.gl_rules.specs.World.{Start, first_view}
@@ -29,19 +30,20 @@ use Rattle.gl_ledger.specs.Layers.{Layers}
 use Rattle.gl_ledger.specs.NodeKeys.{NodeKeys}
 use Rattle.gl_ledger.specs.declared.recording.Recording.{Recording}
 use Rattle.gl_ledger.specs.declared.recording.Recording.TheVariants as recordings
-use Rattle.gl_ledger.specs.Recordings.{last_entry, recording_of, governance_recording, is_founding, is_recovering, records_founding, is_signing, founds, requests_of, changed_set, recorded_nodes, configuration}
+use Rattle.gl_ledger.specs.Recordings.{last_entry, recording_of, governance_recording, is_founding, is_recovering, records_founding, records_recovery, is_signing, founds, recovers, begins, requests_of, changed_set, recorded_nodes, configuration}
 use Rattle.gl_ledger.specs.declared.breach.Broken.{Broken}
 use Rattle.gl_ledger.specs.Broken.{unless_refused, is_in_order, is_unopened, broken_by, is_later_commit, may_record}
-use Rattle.gl_ledger.specs.Makers.{opening_of}
+use Rattle.gl_ledger.specs.Makers.{signed_entry, opening_of}
 use Rattle.gl_ledger.specs.LedgerBook.{ledger_book, by_rule}
 use Rattle.gl_ledger.specs.Audit.{LedgerFault, audited, signer_in, signer_of, opened_where, opened_unless, opened}
 use Rattle.gl_ledger.proofs.Passing.{passed, Passes, passing}
 use Rattle.gl_ledger.proofs.Lawful.{unbroken}
 use Rattle.gl_ledger.proofs.Pushes.{no_last}
 use Rattle.gl_ledger.proofs.Auditing.{audited_none, audited_all}
+use Rattle.gl_ledger.specs.Sound.{IsUnrecovered}
 use Rattle.gl_ledger.specs.Opening.{Begins, Founds}
 use Rattle.gl_ledger.proofs.Founded.{FoundedBy, founded_by, founding_requests}
-use Rattle.gl_ledger.proofs.Opening.{founding_recorded_nodes, founding_configuration, founded, follow}
+use Rattle.gl_ledger.proofs.Opening.{founding_recorded_nodes, founding_configuration, genesis_read, founded, follow}
 
 module _ (layers : Layers) (keys : NodeKeys) where
   -- ---- two entries
@@ -55,7 +57,7 @@ module _ (layers : Layers) (keys : NodeKeys) where
     where
       none : (t : Recording) (view : ℕ) (o : Option Entry) → is_founding t ≡ true → is_in_order o t view ≡ true → o ≡ None
       none t view None a w = refl
-      none t view (Some h) a w = absurd (let k = (and_parts (not (is_founding t)) (not (is_recovering t)) (and_parts _ _ w).0).0 in let u = ap not a in cc)
+      none t view (Some h) a w = absurd (let k = (and_parts (not (is_founding t)) (not (is_recovering t) || is_signature h.content) (and_parts _ _ w).0).0 in let u = ap not a in cc)
 
       one : (l : List Entry) → last_entry l ≡ Some f → take (length l - 1) l ≡ [] → l ≡ f ∷ []
       one [] a d = absurd (cc)
@@ -119,8 +121,8 @@ module _ (layers : Layers) (keys : NodeKeys) where
 
     view_of_second : e.view ≡ first_view
     view_of_second =
-        let w = (and_parts (not (is_founding second.recording) && not (is_recovering second.recording)) (not (founds f) || (is_signing second.recording && (e.view == f.view))) second.order).1 in
-        let v : (is_signing second.recording && (e.view == f.view)) ≡ true = sym (ap (λ (b : Bool). not b || (is_signing second.recording && (e.view == f.view))) founded) ∙ w in
+        let w = (and_parts (not (is_founding second.recording) && (not (is_recovering second.recording) || is_signature f.content)) (not (begins f) || (is_signing second.recording && (e.view == f.view))) second.order).1 in
+        let v : (is_signing second.recording && (e.view == f.view)) ≡ true = sym (ap (λ (b : Bool). not (b || recovers f) || (is_signing second.recording && (e.view == f.view))) founded) ∙ w in
         let same = (and_parts (is_signing second.recording) (e.view == f.view) v).1 in
         let u : e.view ≡ f.view = grind (arith, nat_tests) in
         u ∙ view_of_first
@@ -139,7 +141,7 @@ module _ (layers : Layers) (keys : NodeKeys) where
         let one = passed (member s.0.node (recorded_nodes (f ∷ []))) _ _ all in
         let two = passed (same_bytes s.0.root (root_of (leaves_of (f ∷ [])))) _ _ one.1 in
         let three = passed (may_record (f ∷ []) s.0.commit) _ _ two.1 in
-        let at : (s.0.commit == length (f ∷ []) + 1) ≡ true = sym (ap (λ (b : Bool). if b then s.0.commit == length (f ∷ []) + 1 else is_later_commit (f ∷ []) s.0.commit) founded) ∙ three.0 in
+        let at : (s.0.commit == length (f ∷ []) + 1) ≡ true = sym (ap (λ (b : Bool). if b || recovers f then s.0.commit == length (f ∷ []) + 1 else is_later_commit (f ∷ []) s.0.commit) founded) ∙ three.0 in
         ap recorded_commit s.1 ∙ grind (arith, nat_tests)
 
     by : FoundedBy f
@@ -208,12 +210,21 @@ module _ (layers : Layers) (keys : NodeKeys) where
     founding : founds genesis ≡ true
     signer : signer_in signature.content ≡ Some x
 
-  pair_of : (ledger : List Entry) (x : NodeId) → opened layers ledger ≡ Ok x → Pair ledger x
-  pair_of ledger x h =
+  -- a service that begins with an entry, and isn't recovered by it, is founded by it
+  founding_begins : (f : Entry) → begins f ≡ true → recovers f ≡ false → founds f ≡ true
+  founding_begins f starts none = sym (or-false (founds f)) ∙ ap (λ (b : Bool). founds f || b) (sym none) ∙ starts
+    where
+      or-false : (b : Bool) → (b || false) ≡ b
+      or-false true = refl
+      or-false false = refl
+
+  pair_of : (ledger : List Entry) (x : NodeId) → opened layers ledger ≡ Ok x → IsUnrecovered ledger → Pair ledger x
+  pair_of ledger x h unrecovered =
       let parts = opened_parts ledger x h in
       let z : EachFollows (ledger_book layers keys) ledger = λ i e at. ap by_rule (audited_none layers ledger parts.0 i e at) in
       let f = founding_is (last_entry (take (length ledger - 1) ledger)) parts.1 in
-      let founded : founds f.0 ≡ true = ap (is_unopened) (sym f.1) ∙ parts.1 in
+      let there = slice_get-of_take (length ledger - 1) ledger (length (take (length ledger - 1) ledger) - 1) f.0 f.1 in
+      let founded : founds f.0 ≡ true = founding_begins f.0 (ap is_unopened (sym f.1) ∙ parts.1) (unrecovered (length (take (length ledger - 1) ledger) - 1) f.0 there.1) in
       let front = alone (take (length ledger - 1) ledger) f.0 (sound_cut (ledger_book layers keys) ledger (length ledger - 1) z) f.1 founded in
       let two = pair ledger f.0 front in
       record {
@@ -225,21 +236,21 @@ module _ (layers : Layers) (keys : NodeKeys) where
         signer = ap (λ (l : List Entry). signer_of (last_entry l)) (sym two.1) ∙ parts.2;
       }
 
-  pub opened_opens : (ledger : List Entry) (x : NodeId) → opened layers ledger ≡ Ok x → (starting : List NodeId) → member x starting ≡ true →
+  pub opened_opens : (ledger : List Entry) (x : NodeId) → opened layers ledger ≡ Ok x → IsUnrecovered ledger → (starting : List NodeId) → member x starting ≡ true →
       IsOpening (ledger_book layers keys) (EachFollows (ledger_book layers keys)) (record { opening = ledger; starting = starting; first = x })
-  opened_opens ledger x h starting there =
-      let p = pair_of ledger x h in
+  opened_opens ledger x h unrecovered starting there =
+      let p = pair_of ledger x h unrecovered in
       subst (λ (l : List Entry). IsOpening (ledger_book layers keys) (EachFollows (ledger_book layers keys)) (record { opening = l; starting = starting; first = x })) (sym p.both)
       (opens p.genesis p.signature x p.each p.founding p.signer starting there)
 
   -- the node that signed it is in its configuration
-  pub opened_configured : (ledger : List Entry) (x : NodeId) → opened layers ledger ≡ Ok x → IsConfigured (ledger_book layers keys) x ledger
-  opened_configured ledger x h =
-      let p = pair_of ledger x h in
+  pub opened_configured : (ledger : List Entry) (x : NodeId) → opened layers ledger ≡ Ok x → IsUnrecovered ledger → IsConfigured (ledger_book layers keys) x ledger
+  opened_configured ledger x h unrecovered =
+      let p = pair_of ledger x h unrecovered in
       subst (IsConfigured (ledger_book layers keys) x) (sym p.both) (configures p.genesis p.signature x p.each p.founding p.signer)
 
   pub begins_opening : (s : Start Entry) → Begins layers s → IsOpening (ledger_book layers keys) (EachFollows (ledger_book layers keys)) s
-  begins_opening s h = opened_opens s.opening s.first h.checked s.starting h.starts
+  begins_opening s h = opened_opens s.opening s.first h.checked h.unrecovered s.starting h.starts
 
 pub opening_opened : (layers : Layers) (keys : NodeKeys) (g : founding.Genesis) (x : NodeId) → Founds layers keys g x → opened layers (opening_of keys g x) ≡ Ok x
 unfolding opened
@@ -251,4 +262,14 @@ opening_opened layers keys g x h =
     ap (λ (o : Option LedgerFault). opened_unless layers o (opening_of keys g x)) none
     ∙ ap (λ (j : ℕ). opened_where (is_unopened (last_entry (take j (opening_of keys g x)))) (signer_of (slice_get (opening_of keys g x) j)) (length (opening_of keys g x))) one
     ∙ ap (λ (j : ℕ). opened_where (is_unopened (slice_get (genesis_entry g ∷ []) j)) (Some x) (length (opening_of keys g x))) first
-    ∙ ap (λ (b : Bool). opened_where b (Some x) (length (opening_of keys g x))) (founded layers keys g x h)
+    ∙ ap (λ (b : Bool). opened_where (b || recovers (genesis_entry g)) (Some x) (length (opening_of keys g x))) (founded layers keys g x h)
+
+-- no entry of an opening ledger recovers the service
+pub opening_unrecovered : (layers : Layers) (keys : NodeKeys) (g : founding.Genesis) (x : NodeId) → Founds layers keys g x → IsUnrecovered (opening_of keys g x)
+opening_unrecovered layers keys g x h zero e at =
+    let same : genesis_entry g ≡ e = cc in
+    ap recovers (sym same) ∙ ap records_recovery (genesis_read g h.fits)
+opening_unrecovered layers keys g x h (suc zero) e at =
+    let same : signed_entry keys x 0 (genesis_entry g ∷ []) first_view 2 ≡ e = cc in
+    ap recovers (sym same)
+opening_unrecovered layers keys g x h (suc (suc i)) e at = absurd (cc)

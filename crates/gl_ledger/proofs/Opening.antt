@@ -31,7 +31,7 @@ use Rattle.gl_ledger.specs.Ledger.{genesis_entry, signature_entry}
 use Rattle.gl_ledger.specs.Layers.{Layers}
 use Rattle.gl_ledger.specs.NodeKeys.{NodeKeys}
 use Rattle.gl_ledger.specs.declared.recording.Recording.TheVariants as recordings
-use Rattle.gl_ledger.specs.Recordings.{recording_of, governance_recording, records_founding, founds, requests_of, recorded_at, changed_set, recorded_nodes, trusted_nodes, configuration}
+use Rattle.gl_ledger.specs.Recordings.{recording_of, governance_recording, records_founding, founds, recovers, begins, requests_of, recorded_at, changed_set, recorded_nodes, trusted_nodes, configuration}
 use Rattle.gl_ledger.specs.Broken.{unless_refused, with_writes, is_later_commit, may_record, fault_of_signature, broken_by_fault, are_same_writes, broken}
 use Rattle.gl_ledger.specs.Makers.{signature_behind, signed_entry, opening_of}
 use Rattle.gl_ledger.specs.LedgerBook.{by_rule, ledger_book}
@@ -73,7 +73,7 @@ founding_configuration e g is = ap₂ changed_set none_trusted (ap (λ (rs : Lis
 
 module _ (g : founding.Genesis) (fits : is_genesis g ≡ true) where
   -- its entry is read as a genesis
-  genesis_read : recording_of (content.Governance (request_bytes (requests.Genesis g))) ≡ Some (recordings.Governance (requests.Genesis g))
+  pub genesis_read : recording_of (content.Governance (request_bytes (requests.Genesis g))) ≡ Some (recordings.Governance (requests.Genesis g))
   genesis_read = ap governance_recording (request_in-read (requests.Genesis g) fits)
 
   -- so it founds a service
@@ -121,10 +121,10 @@ module _ (layers : Layers) (g : founding.Genesis) (fits : is_genesis g ≡ true)
         seqno = refl;
         named = refl;
         view = refl;
-        order = or_true (not (founds (genesis_entry g)));
+        order = or_true (not (begins (genesis_entry g)));
         rest = passes (member x (recorded_nodes (genesis_entry g ∷ []))) _ _ (ap (member x) (genesis_nodes g fits) ∙ named)
             (passes (same_bytes s.root s.root) _ _ (same_bytes_self s.root)
-            (passes (may_record (genesis_entry g ∷ []) 2) _ _ (ap (λ (b : Bool). if b then (2 == 2) else is_later_commit (genesis_entry g ∷ []) 2) (founds_service g fits)) (ap (broken_by_fault 2) valid)));
+            (passes (may_record (genesis_entry g ∷ []) 2) _ _ (ap (λ (b : Bool). if b || recovers (genesis_entry g) then (2 == 2) else is_later_commit (genesis_entry g ∷ []) 2) (founds_service g fits)) (ap (broken_by_fault 2) valid)));
       })
 
 -- ---- a genesis that founds a service

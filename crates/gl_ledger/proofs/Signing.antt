@@ -1,5 +1,6 @@
 -- Where a commit may be recorded an entry may be made, and the guard refuses no valid signature of a recorded node.
 use Rattle.std.proofs.Common.{◌≡◌, ℕ, zero, suc, ◌-◌, ◌≤◌, ◌<◌, ◌^◌, List, [], ◌∷◌, ◌++◌, length, take, drop, Bool, true, false, nat_lt, if◌then◌else◌, Option, Some, None, Result, Ok, Err, refl, sym, ◌∙◌, ap, subst, arith}
+use Rattle.std.proofs.lemmas.Bool.{or_from}
 use Rattle.std.proofs.lemmas.Bool.Decides.{nat_tests}
 use Rattle.gl_base.specs.TxId.{last_seqno}
 use Rattle.gl_base.proofs.Lists.{slice_get-within}
@@ -13,12 +14,12 @@ use Rattle.gl_entry.specs.declared.entry.Entry.{Entry}
 use Rattle.gl_ledger.specs.declared.refusal.Refusal.TheVariants as refusals
 use Rattle.gl_ledger.specs.Layers.{Layers}
 use Rattle.gl_ledger.specs.NodeKeys.{NodeKeys}
-use Rattle.gl_ledger.specs.Recordings.{last_entry, recording_of, records_founding, founds, recorded_nodes, configuration}
+use Rattle.gl_ledger.specs.Recordings.{last_entry, recording_of, records_founding, founds, recovers, recorded_nodes, configuration}
 use Rattle.gl_ledger.specs.Broken.{broken}
 use Rattle.gl_ledger.specs.declared.made.Unmade.{Unmade}
 use Rattle.gl_ledger.specs.Makers.{MayMake, MakesValid, by_store, guarded, signed_entry, signing_result, unless_empty}
 use Rattle.gl_ledger.specs.LedgerBook.{ledger_book}
-use Rattle.gl_ledger.specs.Sound.{IsSound}
+use Rattle.gl_ledger.specs.Sound.{IsSound, IsUnrecovered}
 use Rattle.gl_ledger.proofs.Governed.{followed}
 use Rattle.gl_ledger.proofs.RecordedNodes.{recorded_digest, stays_recorded, trusted_is_recorded}
 use Rattle.gl_ledger.proofs.Configurations.{configuration_is}
@@ -67,6 +68,7 @@ module _ (layers : Layers) (keys : NodeKeys) where
       go None is = absurd (empty seqno (ap (λ (l : List Entry). entry_at l seqno) (sym (no_last es is)) ∙ at))
       go (Some f) is = (f, refl)
 
+  -- a signature can't stand where the service's founding is the last entry
   not_founding : (es : List Entry) (f g : Entry) (seqno : ℕ) → EachFollows (ledger_book layers keys) es → last_entry es ≡ Some f → entry_at es seqno ≡ Some g → is_signature g.content ≡ true →
       founds f ≡ false
   not_founding es f g seqno z last at signs = go (founds f) refl
@@ -88,13 +90,13 @@ module _ (layers : Layers) (keys : NodeKeys) where
           let same : f ≡ g = one seqno (ap (λ (l : List Entry). entry_at l seqno) (sym (alone layers es f (followed layers keys es z) last is)) ∙ at) in
           absurd (no_signature g.content signs (ap founds (sym same) ∙ is))
 
-  pub may_make : (log : List Entry) (view commit : ℕ) → EachFollows (ledger_book layers keys) log → ViewsUpTo (ledger_book layers keys) view log → MayRecord (ledger_book layers keys) log commit → MayMake log view
-  may_make log view commit z up may =
+  pub may_make : (log : List Entry) (view commit : ℕ) → EachFollows (ledger_book layers keys) log → IsUnrecovered log → ViewsUpTo (ledger_book layers keys) view log → MayRecord (ledger_book layers keys) log commit → MayMake log view
+  may_make log view commit z unrecovered up may =
       let last = has_last log commit may.signature may.at in
       record {
         last = last.0;
         is_last = last.1;
-        behind = not_founding log last.0 may.signature commit z last.1 may.at may.signs;
+        behind = or_from (founds last.0) (recovers last.0) (not_founding log last.0 may.signature commit z last.1 may.at may.signs) (unrecovered (length log - 1) last.0 last.1);
         up = up (length log - 1) last.0 last.1;
       }
 

@@ -45,7 +45,7 @@ use Rattle.gl_gov_rules.specs.Refusals.{refusal}
 use Rattle.gl_ledger.specs.Layers.{Layers}
 use Rattle.gl_ledger.specs.declared.recording.Recording.{Recording}
 use Rattle.gl_ledger.specs.declared.recording.Recording.TheVariants as recordings
-use Rattle.gl_ledger.specs.Recordings.{governance_recording, application_recording, is_founding, is_recovering, records_founding, records_recovery, is_signing, last_entry, recording_of, founds, recovers, requests_of, recorded_nodes}
+use Rattle.gl_ledger.specs.Recordings.{governance_recording, application_recording, is_founding, is_recovering, records_founding, records_recovery, is_signing, last_entry, recording_of, founds, recovers, begins, requests_of, recorded_nodes}
 use Rattle.gl_ledger.specs.declared.breach.Broken.{Broken}
 use Rattle.gl_ledger.specs.Broken.{is_next_view, is_in_order, are_same_writes, broken_in_state, unless_refused, broken_by_fault, may_record, fault_of_signature, broken_by, broken}
 use Rattle.gl_ledger.specs.Sound.{IsFounded, IsGovernanceEntry, IsApplicationEntry, IsSignatureEntry, StandsAs, HasGovernedTables, IsSound}
@@ -106,6 +106,11 @@ wrote_all_local t u (w ∷ ws) map h = wrote_all_local (wrote t w) (wrote u w) w
 
 -- ---- one more entry
 
+-- a view that is next isn't below the one before it
+next_up : (anew : Bool) (before view : ℕ) → (if anew then view == before + 1 else nat_le before view) ≡ true → before ≤ view
+next_up true before view w = let u : view ≡ before + 1 = grind (arith, nat_tests, w) in omega (arith, u)
+next_up false before view w = grind (arith, nat_tests, w)
+
 module _ (layers : Layers) (ledger : List Entry) (e : Entry) (sound : IsSound layers ledger) (p : Passes layers ledger e) where
   fits : Fits e
   fits = fits_parts e p.fits
@@ -122,7 +127,7 @@ module _ (layers : Layers) (ledger : List Entry) (e : Entry) (sound : IsSound la
       go (Some last) is w =
           let here = slice_get-within ledger i f s in
           let le : f.view ≤ last.view = sound.in_order.views i (length ledger - 1) f last (omega arith) s is in
-          let more : last.view ≤ e.view = grind (arith, nat_tests) in
+          let more : last.view ≤ e.view = next_up (is_recovering p.recording) last.view e.view w in
           omega arith
 
   read_as : (r : Recording) → recording_of e.content ≡ Some r → p.recording ≡ r
@@ -265,53 +270,50 @@ module _ (layers : Layers) (ledger : List Entry) (e : Entry) (sound : IsSound la
     where
       go : (o : Option Entry) → last_entry ledger ≡ o → is_in_order o p.recording e.view ≡ true → length ledger ≡ 0
       go None is w = ap length (no_last ledger is)
-      go (Some last) is w = absurd (let k = (and_parts (not (is_founding p.recording)) (not (is_recovering p.recording)) (and_parts _ _ w).0).0 in let t = sym founding_as ∙ h in let u = ap not t in cc)
+      go (Some last) is w = absurd (let k = (and_parts (not (is_founding p.recording)) (not (is_recovering p.recording) || is_signature last.content) (and_parts _ _ w).0).0 in let t = sym founding_as ∙ h in let u = ap not t in cc)
 
   recovering_as : recovers e ≡ is_recovering p.recording
   recovering_as = ap records_recovery p.reads
 
-  not_recovering : recovers e ≡ false
-  not_recovering = go (last_entry ledger) p.view p.order
-    where
-      none_anew : (b : Bool) → not b ≡ true → b ≡ false
-      none_anew false w = refl
-      none_anew true w = absurd (cc)
+  -- what the order asks of the entry behind the last one
+  ordered : (i : ℕ) (d : Entry) → slice_get ledger i ≡ Some d → suc i ≡ length ledger → is_in_order (Some d) p.recording e.view ≡ true
+  ordered i d at last =
+      let here : length ledger - 1 ≡ i = omega (arith, last) in
+      ap (λ (o : Option Entry). is_in_order o p.recording e.view) (sym (ap (slice_get ledger) here ∙ at)) ∙ p.order
 
-      founding_first : (t : Recording) → is_founding t ≡ true → is_recovering t ≡ false
-      founding_first (recordings.Governance (requests.Genesis g)) w = refl
-      founding_first (recordings.Governance (requests.Recover r)) w = absurd (cc)
-      founding_first (recordings.Governance (requests.Join n)) w = absurd (cc)
-      founding_first (recordings.Governance (requests.Mark y)) w = absurd (cc)
-      founding_first (recordings.Governance (requests.Member m)) w = absurd (cc)
-      founding_first (recordings.Application q) w = absurd (cc)
-      founding_first (recordings.Signature s) w = absurd (cc)
-      founding_first (recordings.Evidence d) w = absurd (cc)
+  -- a recovery stands right behind a signature, in the view after its
+  recovered_of : (i : ℕ) (d : Entry) → slice_get ledger i ≡ Some d → suc i ≡ length ledger → recovers e ≡ true → (is_signature d.content ≡ true) × (e.view ≡ d.view + 1)
+  recovered_of i d at last anew =
+      let here : length ledger - 1 ≡ i = omega (arith, last) in
+      let is : is_recovering p.recording ≡ true = sym recovering_as ∙ anew in
+      let order = (and_parts (not (is_founding p.recording)) (not (is_recovering p.recording) || is_signature d.content) (and_parts _ _ (ordered i d at last)).0).1 in
+      let view : is_next_view (Some d) p.recording e.view ≡ true = ap (λ (o : Option Entry). is_next_view o p.recording e.view) (sym (ap (slice_get ledger) here ∙ at)) ∙ p.view in
+      let next : (e.view == d.view + 1) ≡ true = sym (ap (λ (b : Bool). if b then e.view == d.view + 1 else nat_le d.view e.view) is) ∙ view in
+      (sym (ap (λ (b : Bool). not b || is_signature d.content) is) ∙ order, grind (arith, nat_tests, next))
 
-      go : (o : Option Entry) → is_next_view o p.recording e.view ≡ true → is_in_order o p.recording e.view ≡ true → recovers e ≡ false
-      go None v w = recovering_as ∙ founding_first p.recording (and_parts (is_founding p.recording) (e.view == first_view) v).0
-      go (Some last) v w = recovering_as ∙ none_anew (is_recovering p.recording) (and_parts (not (is_founding p.recording)) (not (is_recovering p.recording)) (and_parts _ _ w).0).1
+  -- behind an entry with which a service begins stands a signature of its view
+  opened_of : (i : ℕ) (d : Entry) → slice_get ledger i ≡ Some d → suc i ≡ length ledger → begins d ≡ true → (is_signature e.content ≡ true) × (e.view ≡ d.view)
+  opened_of i d at last starts =
+      let w = (and_parts (not (is_founding p.recording) && (not (is_recovering p.recording) || is_signature d.content)) (not (begins d) || (is_signing p.recording && (e.view == d.view))) (ordered i d at last)).1 in
+      let opening : (is_signing p.recording && (e.view == d.view)) ≡ true = sym (ap (λ (x : Bool). not x || (is_signing p.recording && (e.view == d.view))) starts) ∙ w in
+      let parts = and_parts (is_signing p.recording) (e.view == d.view) opening in
+      let same = parts.1 in
+      (sym (signing_is e.content p.recording p.reads) ∙ parts.0, grind (arith, nat_tests, same))
 
-  second_of : 1 ≡ length ledger → (is_signature e.content ≡ true) × (e.view ≡ first_view)
-  second_of one = go (slice_get ledger 0) refl
-    where
-      at : length ledger - 1 ≡ 0
-      at = omega (arith, one)
-
-      there : (l : List Entry) → 1 ≡ length l → slice_get l 0 ≡ None → ⊥
-      there [] h w = omega (arith, h)
-      there (x ∷ xs) h w = cc
-
-      go : (o : Option Entry) → slice_get ledger 0 ≡ o → (is_signature e.content ≡ true) × (e.view ≡ first_view)
-      go None is = absurd (there ledger one is)
-      go (Some f) is =
-          let first = sound.founded.first f is in
-          let last : last_entry ledger ≡ Some f = ap (slice_get ledger) at ∙ is in
-          let w : is_in_order (Some f) p.recording e.view ≡ true = ap (λ (o : Option Entry). is_in_order o p.recording e.view) (sym last) ∙ p.order in
-          let both = and_parts (not (is_founding p.recording) && not (is_recovering p.recording)) (not (founds f) || (is_signing p.recording && (e.view == f.view))) w in
-          let opening : (is_signing p.recording && (e.view == f.view)) ≡ true = sym (ap (λ (x : Bool). not x || (is_signing p.recording && (e.view == f.view))) first.0) ∙ both.1 in
-          let parts = and_parts (is_signing p.recording) (e.view == f.view) opening in
-          let same : e.view ≡ f.view = let h = parts.1 in grind (arith, nat_tests) in
-          (sym (signing_is e.content p.recording p.reads) ∙ parts.0, same ∙ first.1)
+  -- what holds of each entry and the one behind it holds with one entry more
+  pairs : (P : Entry → Entry → Type 0) → ((i : ℕ) (d f : Entry) → slice_get ledger i ≡ Some d → slice_get ledger (suc i) ≡ Some f → P d f) →
+      ((i : ℕ) (d : Entry) → slice_get ledger i ≡ Some d → suc i ≡ length ledger → P d e) →
+      (i : ℕ) (d f : Entry) → slice_get (ledger ++ e ∷ []) i ≡ Some d → slice_get (ledger ++ e ∷ []) (suc i) ≡ Some f → P d f
+  pairs P old new i d f at next = ⊎_elim
+      (λ (there : slice_get ledger i ≡ Some d). ⊎_elim
+      (λ (before : slice_get ledger (suc i) ≡ Some f). old i d f there before)
+      (λ (last : (suc i ≡ length ledger) × (f ≡ e)). subst (P d) (sym last.1) (new i d there last.0))
+      (slice_get-push ledger e (suc i) f next))
+      (λ (here : (i ≡ length ledger) × (d ≡ e)). ⊎_elim
+      (λ (before : slice_get ledger (suc i) ≡ Some f). absurd (let within = slice_get-within ledger (suc i) f before in omega (arith, here.0, within)))
+      (λ (last : (suc i ≡ length ledger) × (f ≡ e)). absurd (omega (arith, here.0, last.0)))
+      (slice_get-push ledger e (suc i) f next))
+      (slice_get-push ledger e i d at)
 
   founded : IsFounded (ledger ++ e ∷ [])
   founded = record {
@@ -323,14 +325,8 @@ module _ (layers : Layers) (ledger : List Entry) (e : Entry) (sound : IsSound la
         (λ (old : slice_get ledger i ≡ Some f). sound.founded.once i f old h)
         (λ (new : (i ≡ length ledger) × (f ≡ e)). new.0 ∙ once_of (ap founds (sym new.1) ∙ h))
         (slice_get-push ledger e i f s);
-    opened = λ f s. ⊎_elim
-        (λ (old : slice_get ledger 1 ≡ Some f). sound.founded.opened f old)
-        (λ (new : (1 ≡ length ledger) × (f ≡ e)). subst (λ (x : Entry). (is_signature x.content ≡ true) × (x.view ≡ first_view)) (sym new.1) (second_of new.0))
-        (slice_get-push ledger e 1 f s);
-    unrecovered = λ i f s. ⊎_elim
-        (λ (old : slice_get ledger i ≡ Some f). sound.founded.unrecovered i f old)
-        (λ (new : (i ≡ length ledger) × (f ≡ e)). ap recovers new.1 ∙ not_recovering)
-        (slice_get-push ledger e i f s);
+    recovered = pairs (λ d f. recovers f ≡ true → (is_signature d.content ≡ true) × (f.view ≡ d.view + 1)) sound.founded.recovered recovered_of;
+    opened = λ i d f at starts next. pairs (λ d f. begins d ≡ true → (is_signature f.content ≡ true) × (f.view ≡ d.view)) (λ j x y here behind is. sound.founded.opened j x y here is behind) opened_of i d f at next starts;
   }
 
   all_sound : IsSound layers (ledger ++ e ∷ [])
@@ -350,7 +346,7 @@ sound-push layers ledger e sound h = all_sound layers ledger e sound (passing la
 pub sound_empty : (layers : Layers) → IsSound layers []
 sound_empty layers = record {
   in_order = record { fits = λ i e a. absurd (cc); seqnos = λ i e a. absurd (cc); views = λ i j e f le a b. absurd (cc) };
-  founded = record { first = λ e a. absurd (cc); once = λ i e a h. absurd (cc); opened = λ e a. absurd (cc); unrecovered = λ i e a. absurd (cc) };
+  founded = record { first = λ e a. absurd (cc); once = λ i e a h. absurd (cc); recovered = λ i e f a. absurd (cc); opened = λ i e f a. absurd (cc) };
   serial = λ i e a. absurd (cc);
   governed = λ map inside. ap (λ (ws : List Write). wrote_all no_tables ws map) (sym no_rows);
 }

@@ -1,5 +1,5 @@
 -- Valid ledgers: they are sound, an entry that breaks no rule keeps one valid, and where it was opened entries may be made behind it.
-use Rattle.std.proofs.Common.{◌≡◌, ℕ, ◌+◌, ◌-◌, ◌≤◌, List, [], ◌∷◌, ◌++◌, length, Some, None, Ok, Bool, true, false, refl, ◌∙◌, ap, arith}
+use Rattle.std.proofs.Common.{◌≡◌, ℕ, ◌+◌, ◌-◌, ◌<◌, ◌≤◌, List, [], ◌∷◌, ◌++◌, length, Some, None, Ok, Bool, true, false, refl, sym, ◌∙◌, ap, arith}
 use Rattle.gl_base.specs.TxId.{last_seqno}
 use Rattle.gl_base.proofs.Lists.{slice_get-below}
 use Rattle.gl_lms.specs.declared.types.Types.TheVariants.{H5W4}
@@ -12,8 +12,8 @@ use Rattle.gl_tx.specs.declared.request.Answer.{Answer}
 use Rattle.gl_ledger.specs.Ledger.{HasViewsUpTo, execute_result}
 use Rattle.gl_ledger.specs.Layers.{Layers}
 use Rattle.gl_ledger.specs.NodeKeys.{NodeKeys}
-use Rattle.gl_ledger.specs.Recordings.{last_entry, founds, recorded_nodes}
-use Rattle.gl_ledger.specs.Broken.{breach, may_record, broken}
+use Rattle.gl_ledger.specs.Recordings.{last_entry, recorded_nodes}
+use Rattle.gl_ledger.specs.Broken.{breach, is_unopened, may_record, broken}
 use Rattle.gl_ledger.specs.Sound.{IsSound}
 use Rattle.gl_ledger.specs.Makers.{MayMake, MakesValid, signed_entry}
 use Rattle.gl_ledger.specs.LedgerBook.{by_rule}
@@ -35,20 +35,16 @@ module _ (layers : Layers) where
   pub valid-push : (ledger : List Entry) (e : Entry) → audited layers ledger ≡ None → broken layers ledger e ≡ None → audited layers (ledger ++ e ∷ []) ≡ None
   valid-push ledger e h one = audited_all layers (ledger ++ e ∷ []) (each-push (λ i before f. broken layers before f ≡ None) ledger e (audited_none layers ledger h) one)
 
-  -- behind the entry that founds it and another
-  pub may_make_behind : (ledger : List Entry) (view : ℕ) → IsSound layers ledger → 2 ≤ length ledger → HasViewsUpTo view ledger → MayMake ledger view
-  may_make_behind ledger view sound opened up =
-      let last = slice_get-below ledger (length ledger - 1) (omega arith) in
+  -- behind a last entry with which no service begins
+  pub may_make_behind : (ledger : List Entry) (view : ℕ) → 0 < length ledger → is_unopened (last_entry ledger) ≡ false → HasViewsUpTo view ledger → MayMake ledger view
+  may_make_behind ledger view some opened up =
+      let last = slice_get-below ledger (length ledger - 1) (omega (arith, some)) in
       record {
         last = last.0;
         is_last = last.1;
-        behind = not_founding last.0 last.1 (founds last.0) refl;
+        behind = ap is_unopened (sym last.1) ∙ opened;
         up = up (length ledger - 1) last.0 last.1;
       }
-    where
-      not_founding : (f : Entry) → last_entry ledger ≡ Some f → (t : Bool) → founds f ≡ t → t ≡ false
-      not_founding f at false is = refl
-      not_founding f at true is = absurd (let none = sound.founded.once (length ledger - 1) f at is in omega arith)
 
   module _ (ledger : List Entry) (view : ℕ) (m : MayMake ledger view) where
     -- what a request makes breaks no rule

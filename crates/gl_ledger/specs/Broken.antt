@@ -39,7 +39,7 @@ use Rattle.gl_ledger.specs.declared.breach.EntryRefusal.TheVariants as refusals
 use Rattle.gl_ledger.specs.Layers.{Layers}
 use Rattle.gl_ledger.specs.declared.recording.Recording.{Recording}
 use Rattle.gl_ledger.specs.declared.recording.Recording.TheVariants as recordings
-use Rattle.gl_ledger.specs.Recordings.{is_founding, is_recovering, is_signing, last_entry, recording_of, founds, requests_of, recorded_nodes, removal, mark}
+use Rattle.gl_ledger.specs.Recordings.{is_founding, is_recovering, is_signing, last_entry, recording_of, begins, requests_of, recorded_nodes, removal, mark}
 
 -- What is asked first, or else what is wrong with it, and then the rest.
 abbrev pub required : {X : Type 0} → Bool → X → Option X → Option X
@@ -59,18 +59,20 @@ breach rule seqno e = replay rule seqno no_digest (sha256 (body_bytes e))
 
 -- Rules 3 and 4: views and what comes first. Rule 2 is that of seqnos, which identifiers can name.
 
--- The first entry founds the service, in the first view, and behind it views never fall.
+-- The first entry founds the service, in the first view. Behind it views never fall, and a recovery
+-- is of the view after the last.
 abbrev pub is_next_view : Option Entry → Recording → ℕ → Bool
 is_next_view None recording view = is_founding recording && (view == first_view)
-is_next_view (Some last) recording view = nat_le last.view view
+is_next_view (Some last) recording view =
+    if is_recovering recording then view == last.view + 1 else nat_le last.view view
 
--- An entry that founds a service stands first, and the one behind it is a signature of its view. For
--- now no recovery follows.
+-- An entry that founds a service stands first, and a recovery right behind a signature. The entry
+-- behind either of them is a signature of its view.
 abbrev pub is_in_order : Option Entry → Recording → ℕ → Bool
 is_in_order None recording view = true
 is_in_order (Some last) recording view =
-    not (is_founding recording) && not (is_recovering recording)
-    && (not (founds last) || (is_signing recording && (view == last.view)))
+    not (is_founding recording) && (not (is_recovering recording) || is_signature last.content)
+    && (not (begins last) || (is_signing recording && (view == last.view)))
 
 -- Rules 5 and 6: an application request
 
@@ -166,10 +168,10 @@ broken_by_fault seqno None = None
 broken_by_fault seqno (Some fault) =
     Some (record { rule = 11; refusal = refusals.BadSignature seqno fault })
 
--- The ledger's last entry founds the service, so that a signature opens it.
+-- A service begins with the ledger's last entry, so that a signature opens it.
 abbrev pub is_unopened : Option Entry → Bool
 is_unopened None = false
-is_unopened (Some last) = founds last
+is_unopened (Some last) = begins last
 
 -- The commit of a signature that doesn't open a service: the seqno of an earlier signature, not
 -- below the commit of the last one, nor below the removal of a node that was marked since.

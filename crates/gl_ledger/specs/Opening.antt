@@ -12,12 +12,14 @@ use Rattle.gl_ledger.specs.Ledger.{genesis_entry}
 use Rattle.gl_ledger.specs.Layers.{Layers}
 use Rattle.gl_ledger.specs.NodeKeys.{NodeKeys}
 use Rattle.gl_ledger.specs.Makers.{MakesValid}
+use Rattle.gl_ledger.specs.Sound.{IsUnrecovered}
 use Rattle.gl_ledger.specs.Audit.{opened}
 
--- The opening ledger is one that the check takes, and the node that signed it is among those that
--- start.
+-- The opening ledger is one that the check takes, of a service that was never recovered, and the node
+-- that signed it is among those that start.
 pub record Begins (layers : Layers) (s : Start Entry) : Type 0 where
   pub checked : opened layers s.opening ≡ Ok s.first
+  pub unrecovered : IsUnrecovered s.opening
   pub starts : member s.first s.starting ≡ true
 
 -- The fields of the genesis are in their ranges, it is accepted, and a node that it names signs it

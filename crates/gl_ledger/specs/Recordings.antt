@@ -1,6 +1,6 @@
 -- What an entry records, read from its bytes, and what the entries of a ledger tell of requests of
 -- governance and of nodes.
-use Rattle.std.specs.Prelude.{ℕ, suc, ◌-◌, List, [], ◌∷◌, ◌++◌, Option, None, Some, Result, Ok, Err, Bool, true, false, ◌&&◌, map, length, take, slice_get, if◌then◌else◌}
+use Rattle.std.specs.Prelude.{ℕ, suc, ◌-◌, List, [], ◌∷◌, ◌++◌, Option, None, Some, Result, Ok, Err, Bool, true, false, ◌&&◌, ◌||◌, map, length, take, slice_get, if◌then◌else◌}
 use Rattle.gl_base.specs.Bytes.{same_bytes}
 use Rattle.gl_base.specs.declared.fault.CodeFault.{CodeFault}
 use Rattle.gl_rules.specs.Identity.{NodeId}
@@ -74,6 +74,10 @@ founds e = records_founding (recording_of e.content)
 -- The entry founds a service anew.
 abbrev pub recovers : Entry → Bool
 recovers e = records_recovery (recording_of e.content)
+
+-- A service, or its life under another key, begins with the entry, so that a signature opens it.
+abbrev pub begins : Entry → Bool
+begins e = founds e || recovers e
 
 abbrev pub recorded_at : ℕ → Option GovernanceRequest → List Recorded
 recorded_at seqno None = []

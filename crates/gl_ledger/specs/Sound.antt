@@ -1,5 +1,5 @@
 -- What is said of each ledger of a service.
-use Rattle.std.specs.Prelude.{◌≡◌, ℕ, ◌+◌, List, [], ◌∷◌, ◌++◌, None, Some, Ok, true, false, length, take, slice_get}
+use Rattle.std.specs.Prelude.{◌≡◌, ℕ, suc, ◌+◌, List, [], ◌∷◌, ◌++◌, None, Some, Ok, true, false, length, take, slice_get}
 use Rattle.sha2.specs.Sha256.{sha256}
 use Rattle.gl_merkle.specs.Tree.{root_of}
 use Rattle.gl_rules.specs.Identity.{member}
@@ -27,18 +27,26 @@ use Rattle.gl_ledger.specs.Tree.{tables_of, leaves_of}
 use Rattle.gl_ledger.specs.Serial.{IsLedger}
 use Rattle.gl_vmaps.specs.Changes.{Turns}
 use Rattle.gl_ledger.specs.Layers.{Layers}
-use Rattle.gl_ledger.specs.Recordings.{founds, recovers, requests_of, recorded_nodes}
+use Rattle.gl_ledger.specs.Recordings.{founds, recovers, begins, requests_of, recorded_nodes}
 use Rattle.gl_ledger.specs.Broken.{may_record, fault_of_signature}
 
--- The first entry founds the service, in the first view, and no other does; the second is the
--- signature that opens it, of the same view. For now none founds it anew.
+-- The first entry founds the service, in the first view, and no other does. A recovery, which founds
+-- it anew, stands right behind a signature, in the view after its. Behind each of them stands the
+-- signature that opens the service, of the same view.
 pub record IsFounded (ledger : List Entry) : Type 0 where
   pub first : (e : Entry) → slice_get ledger 0 ≡ Some e →
       (founds e ≡ true) × (e.view ≡ first_view)
   pub once : (i : ℕ) (e : Entry) → slice_get ledger i ≡ Some e → founds e ≡ true → i ≡ 0
-  pub opened : (e : Entry) → slice_get ledger 1 ≡ Some e →
-      (is_signature e.content ≡ true) × (e.view ≡ first_view)
-  pub unrecovered : (i : ℕ) (e : Entry) → slice_get ledger i ≡ Some e → recovers e ≡ false
+  pub recovered : (i : ℕ) (e f : Entry) → slice_get ledger i ≡ Some e →
+      slice_get ledger (suc i) ≡ Some f → recovers f ≡ true →
+      (is_signature e.content ≡ true) × (f.view ≡ e.view + 1)
+  pub opened : (i : ℕ) (e f : Entry) → slice_get ledger i ≡ Some e → begins e ≡ true →
+      slice_get ledger (suc i) ≡ Some f → (is_signature f.content ≡ true) × (f.view ≡ e.view)
+
+-- No entry of the ledger founds its service anew.
+abbrev pub IsUnrecovered : List Entry → Type 0
+IsUnrecovered ledger =
+    (i : ℕ) (e : Entry) → slice_get ledger i ≡ Some e → recovers e ≡ false
 
 -- A governance entry: a request that no rule refuses, and the write set of its effect.
 pub record IsGovernanceEntry (before : List Entry) (e : Entry) (bytes : List ℕ) : Type 0 where

@@ -23,7 +23,7 @@ ghost use Rattle.gl_ledger.specs.Ledger.{genesis_entry};
 ghost use Rattle.gl_ledger.specs.Layers.{Layers};
 ghost use Rattle.gl_ledger.specs.Recordings.{configuration, recorded_nodes, requests_of};
 ghost use Rattle.gl_ledger.specs.Broken.{broken, last_commit};
-ghost use Rattle.gl_ledger.specs.Sound.{IsSound};
+ghost use Rattle.gl_ledger.specs.Sound.{IsSound, IsUnrecovered};
 ghost use Rattle.gl_ledger.specs.Makers.{MayMake, MakesValid, govern_result, opening_of, request_result, signing_result};
 ghost use Rattle.gl_ledger.specs.LedgerBook.{ledger_book};
 ghost use Rattle.gl_ledger.specs.Audit.{LedgerFault, IsFaultOf, audited, opened};
@@ -67,15 +67,17 @@ pub fn is_audited()
         greatest_recorded (ledger_book layers keys) ledger ≤ last_commit ledger }
 {}
 
-/// A service that begins with a ledger which the check of an opening takes begins as the rules of
-/// consensus ask, whatever nodes start. The check takes the opening ledger of each genesis that
-/// founds a service, and tells who signed it. The nodes of that genesis are recorded, in its order,
-/// and are the first configuration.
+/// A service that begins with a ledger which the check of an opening takes, and in which it was not
+/// recovered, begins as the rules of consensus ask, whatever nodes start. The check takes the opening
+/// ledger of each genesis that founds a service, and tells who signed it. The nodes of that genesis
+/// are recorded, in its order, and are the first configuration.
 pub fn is_opened()
     ensures opening { (layers : Layers) (keys : NodeKeys) (s : Start Entry) → Begins layers s →
         IsOpening (ledger_book layers keys) (EachFollows (ledger_book layers keys)) s }
     ensures genesis { (layers : Layers) (keys : NodeKeys) (g : Genesis) (first : NodeId) →
         Founds layers keys g first → opened layers (opening_of keys g first) ≡ Ok first }
+    ensures unrecovered { (layers : Layers) (keys : NodeKeys) (g : Genesis) (first : NodeId) →
+        Founds layers keys g first → IsUnrecovered (opening_of keys g first) }
     ensures recorded { (layers : Layers) (keys : NodeKeys) (g : Genesis) (first : NodeId) →
         Founds layers keys g first → recorded_nodes (genesis_entry g ∷ []) ≡ map node_id g.nodes }
     ensures configured { (layers : Layers) (keys : NodeKeys) (g : Genesis) (first : NodeId) →

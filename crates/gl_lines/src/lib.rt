@@ -14,6 +14,8 @@ mod world;
 
 pub use fault::ScheduleFault;
 pub use line::{Line, Lines};
+pub use names::is_lower_hex;
+pub use numbers::is_decimal;
 pub use reading::{read_first_line, read_lines};
 pub use split::line_count;
 pub use world::WorldLine;

@@ -13,7 +13,8 @@ use gl_vmaps::{Key, MapName, Value};
 use hex::FromHex;
 use std::alloc::Global;
 
-fn is_lower_hex(text: &[u8]) -> bool
+/// Whether a text is lower-case hexadecimal digits, if any.
+pub fn is_lower_hex(text: &[u8]) -> bool
     ensures { result ≡ list_all is_lower_digit text.now }
 {
     text.iter().all(|byte| (b'0' <= *byte && *byte <= b'9') || (b'a' <= *byte && *byte <= b'f'))

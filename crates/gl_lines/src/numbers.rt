@@ -16,7 +16,8 @@ fn are_digits(text: &[u8]) -> bool
     text.iter().all(|byte| byte.is_ascii_digit())
 }
 
-fn is_decimal(text: &[u8]) -> bool
+/// Whether a text is decimal digits, without a leading zero.
+pub fn is_decimal(text: &[u8]) -> bool
     ensures { result ≡ is_decimal text.now }
 {
     1 <= text.len() && are_digits(text) && (text[0] != b'0' || text.len() == 1)

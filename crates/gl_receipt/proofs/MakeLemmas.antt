@@ -1,5 +1,6 @@
 -- What a ledger's parts tell of the receipts that it gives, and that these are accepted.
-use Rattle.std.proofs.Common.{◌≡◌, ℕ, zero, suc, ◌+◌, ◌-◌, ◌^◌, ◌<◌, ◌≤◌, Bool, true, false, cond, List, [], ◌∷◌, ◌++◌, length, map, take, get_or, slice_get, Option, None, Some, option_map, Ok, codes, nat_le, nat_lt, refl, sym, ap, subst, ◌∙◌, arith}
+use Rattle.std.proofs.Common.{◌≡◌, ℕ, zero, suc, ◌-◌, ◌^◌, ◌<◌, ◌≤◌, Bool, true, false, ◌&&◌, cond, List, [], ◌∷◌, ◌++◌, length, take, get_or, Option, None, Some, option_map, Result, Ok, Err, codes, nat_le, nat_lt, refl, sym, ap, subst, ◌∙◌, arith}
+use Rattle.std.specs.Cmp.Lexicographic.{bytes_decides}
 use Rattle.std.specs.Fmt.{decimal}
 use Rattle.std.specs.List.{find, list_all}
 use Rattle.std.specs.Str.{IsAscii, IsUtf8}
@@ -7,6 +8,7 @@ use Rattle.std.proofs.lemmas.Bool.{and_parts}
 use Rattle.std.proofs.lemmas.Bool.Decides.{nat_tests}
 use Rattle.std.proofs.lemmas.Fmt.{IsAscii-decimal}
 use Rattle.std.proofs.lemmas.List.{length-take-le, get_or-take}
+use Rattle.std.proofs.lemmas.Option.{get_or_from_slice_get}
 use Rattle.std.proofs.lemmas.Str.{IsAscii-append, IsUtf8-from_ascii}
 use Rattle.std.proofs.lemmas.Str.Ascii.{IsAscii-cons, IsAscii-nil}
 use Rattle.sha2.specs.Sha256.{sha256}
@@ -27,8 +29,10 @@ use Rattle.gl_merkle.specs.Path.{path_of, climb_of}
 use Rattle.gl_merkle.specs.Tree.{root_of}
 use Rattle.gl_merkle.proofs.PathLemmas.{climb-within}
 use Rattle.gl_merkle.proofs.TreeLemmas.{below_pow}
-use Rattle.gl_receipt.specs.Made.{Ledger, entry_at, view_at, commit_id, status_in, if_committed, committed_entry, receipt_by, recorded_signature, IsOfService}
+use Rattle.gl_receipt.specs.Made.{Ledger, at_seqno, entry_at, view_at, commit_id, status_in, if_committed, committed_entry, signature_above, is_under_same_key, if_within, later_signature, receipt_by, recorded_signature, IsOfService}
 use Rattle.gl_receipt.specs.Receipt.{Accepts}
+use Rattle.gl_receipt.specs.declared.make_fault.MakeFault.{MakeFault}
+use Rattle.gl_receipt.specs.declared.make_fault.MakeFault.TheVariants.{NoLaterSignature}
 
 -- ---- a text of commit evidence
 
@@ -95,21 +99,36 @@ entry_of l id e h =
     let one : Some e.view ≡ Some id.view = sym (ap (option_map (λ (f : Entry). f.view)) found.1) ∙ held in
     record { there = found.1; view = cc }
 
--- ---- its leaf
+-- ---- a later signature
 
--- an entry is one of the first, and its leaf is the one of its seqno
-leaf_at : (entries : List Entry) (f : Entry → List ℕ) (i : ℕ) (e : Entry) → slice_get entries i ≡ Some e → get_or (map f entries) i [] ≡ f e
-leaf_at [] f i e h = absurd (cc)
-leaf_at (x ∷ xs) f zero e h = let same : x ≡ e = cc in ap f same
-leaf_at (x ∷ xs) f (suc i) e h = leaf_at xs f i e h
+under_if : (l : Ledger) (seqno : ℕ) (found : Option Entry) (s : Entry) → if_within l seqno found ≡ Ok s → l.identity seqno ≡ l.identity s.seqno
+under_if l seqno None s h = absurd (cc)
+under_if l seqno (Some f) s h = go (nat_le f.seqno l.commit && is_under_same_key l seqno f.seqno) refl h
+  where
+    go : (passes : Bool) → (nat_le f.seqno l.commit && is_under_same_key l seqno f.seqno) ≡ passes
+        → cond {A = Result Entry MakeFault} passes (Ok f) (Err (NoLaterSignature l.commit)) ≡ Ok s → l.identity seqno ≡ l.identity s.seqno
+    go true is h =
+        let same : f ≡ s = cc in
+        let under = (and_parts (nat_le f.seqno l.commit) (is_under_same_key l seqno f.seqno) is).1 in
+        (bytes_decides (l.identity seqno) (l.identity f.seqno)).0 under ∙ ap (λ (e : Entry). l.identity e.seqno) same
+    go false is h = absurd (cc)
 
-pub within : (entries : List Entry) (seqno : ℕ) (e : Entry) → entry_at entries seqno ≡ Some e → (0 < seqno) × (seqno ≤ length entries)
-within entries zero e h = absurd (cc)
-within entries (suc i) e h = (omega arith, slice_get-within entries i e h)
+-- it is under the key in force at the seqno
+pub same_key : (l : Ledger) (seqno : ℕ) (s : Entry) → later_signature l seqno ≡ Ok s → l.identity seqno ≡ l.identity s.seqno
+same_key l seqno s h = under_if l seqno (signature_above l.entries seqno) s h
 
-leaf_of_seqno : (entries : List Entry) (f : Entry → List ℕ) (seqno : ℕ) (e : Entry) → entry_at entries seqno ≡ Some e → get_or (map f entries) (seqno - 1) [] ≡ f e
-leaf_of_seqno entries f zero e h = absurd (cc)
-leaf_of_seqno entries f (suc i) e h = let index : suc i - 1 ≡ i = omega arith in ap (λ (n : ℕ). get_or (map f entries) n []) index ∙ leaf_at entries f i e h
+-- ---- a seqno within a list from 1 on
+
+pub within : {X : Type 0} (xs : List X) (seqno : ℕ) (x : X) → at_seqno xs seqno ≡ Some x → (0 < seqno) × (seqno ≤ length xs)
+within xs zero x at = absurd (cc)
+within xs (suc i) x at = (omega arith, slice_get-within xs i x at)
+
+-- the leaf at a seqno, among the first
+leaf_before : (leaves : List (List ℕ)) (seqno n : ℕ) (leaf : List ℕ) → at_seqno leaves seqno ≡ Some leaf → seqno ≤ n → get_or (take n leaves) (seqno - 1) [] ≡ leaf
+leaf_before leaves zero n leaf at before = absurd (cc)
+leaf_before leaves (suc i) n leaf at before =
+    let index : suc i - 1 ≡ i = omega arith in
+    ap (λ (k : ℕ). get_or (take n leaves) k []) index ∙ get_or-take n leaves i [] (omega (arith, before)) ∙ get_or_from_slice_get leaves i leaf [] at
 
 -- ---- its receipt
 
@@ -117,29 +136,25 @@ climbs : (leaves : List (List ℕ)) (index : ℕ) → 1 ≤ index → index ≤ 
 unfolding root_of path_of
 climbs leaves index low high = climb-within (length leaves) leaves index low high (omega (arith, below_pow (length leaves)))
 
-length_map : {X Y : Type 0} (f : X → Y) (xs : List X) → length (map f xs) ≡ length xs
-length_map f [] = refl
-length_map f (x ∷ xs) = ap suc (length_map f xs)
-
-pub accepted : (l : Ledger) (id : TxId) (e s : Entry) → committed_entry l id ≡ Ok e → e.seqno ≡ id.seqno → id.seqno < s.seqno
-    → entry_at l.entries s.seqno ≡ Some s → is_signature s.content ≡ true → IsOfService l → Accepts l.identity (receipt_by l id e s) id
-accepted l id e s committed numbered above there signs is =
+pub accepted : (l : Ledger) (id : TxId) (e s : Entry) → committed_entry l id ≡ Ok e → e.seqno ≡ id.seqno → later_signature l id.seqno ≡ Ok s → id.seqno < s.seqno
+    → entry_at l.entries s.seqno ≡ Some s → is_signature s.content ≡ true → IsOfService l → Accepts (l.identity id.seqno) (receipt_by l id e s) id
+accepted l id e s committed numbered later above there signs is =
+    let key : List ℕ = l.identity id.seqno in
     let of = entry_of l id e committed in
     let here = within l.entries id.seqno e of.there in
-    let later = within l.entries s.seqno s there in
+    let last = within l.leaves s.seqno (leaf_of (l.identity s.seqno) s) (is.leaves s.seqno s there) in
     let same : id_of e ≡ id = ap (λ (v : ℕ). record { view = v; seqno = e.seqno }) of.view ∙ ap (λ (n : ℕ). record { view = id.view; seqno = n }) numbered in
-    let many : length l.leaves ≡ length l.entries = ap length is.leaves ∙ length_map (leaf_of l.identity) l.entries in
     let first : List (List ℕ) = take (s.seqno - 1) l.leaves in
-    let size : length first ≡ s.seqno - 1 = length-take-le (s.seqno - 1) l.leaves (omega arith) in
-    let leaf : get_or first (id.seqno - 1) [] ≡ leaf_of_components (sha256 (body_bytes e)) (sha256 (evidence_text l.identity id)) e.claims =
-    get_or-take (s.seqno - 1) l.leaves (id.seqno - 1) [] (omega arith) ∙ ap (λ (ls : List (List ℕ)). get_or ls (id.seqno - 1) []) is.leaves
-    ∙ leaf_of_seqno l.entries (leaf_of l.identity) id.seqno e of.there
-    ∙ ap (λ (i : TxId). leaf_of_components (sha256 (body_bytes e)) (sha256 (evidence_text l.identity i)) e.claims) same in
-    let root : climb_of (leaf_of_components (sha256 (body_bytes e)) (sha256 (evidence_text l.identity id)) e.claims) (path_of first id.seqno) ≡ root_of first =
-    ap (λ (x : List ℕ). climb_of x (path_of first id.seqno)) (sym leaf) ∙ climbs first id.seqno (omega arith) (omega arith) in
+    let size : length first ≡ s.seqno - 1 = length-take-le (s.seqno - 1) l.leaves (omega (arith, last.1)) in
+    let leaf : get_or first (id.seqno - 1) [] ≡ leaf_of_components (sha256 (body_bytes e)) (sha256 (evidence_text key id)) e.claims =
+    leaf_before l.leaves id.seqno (s.seqno - 1) (leaf_of key e) (is.leaves id.seqno e of.there) (omega (arith, above))
+    ∙ ap (λ (i : TxId). leaf_of_components (sha256 (body_bytes e)) (sha256 (evidence_text key i)) e.claims) same in
+    let root : climb_of (leaf_of_components (sha256 (body_bytes e)) (sha256 (evidence_text key id)) e.claims) (path_of first id.seqno) ≡ root_of first =
+    ap (λ (x : List ℕ). climb_of x (path_of first id.seqno)) (sym leaf) ∙ climbs first id.seqno (omega (arith, here.0)) (omega (arith, above, size)) in
+    let message : List ℕ = signed_message (root_of first) s.view s.seqno (recorded_commit s.content) in
     record {
       evidence = record { named = subst (λ (i : TxId). IsTxId i) same (is.named id.seqno e of.there); spelled = refl };
       signature =
-          subst (λ (x : List ℕ). IsValid l.identity (signed_message x s.view s.seqno (recorded_commit s.content)) (recorded_signature s.content))
-          (sym root) (is.signatures s.seqno s there signs);
+          subst (λ (x : List ℕ). IsValid key (signed_message x s.view s.seqno (recorded_commit s.content)) (recorded_signature s.content)) (sym root)
+          (subst (λ (k : List ℕ). IsValid k message (recorded_signature s.content)) (sym (same_key l id.seqno s later)) (is.signatures s.seqno s there signs));
     }

@@ -1,7 +1,8 @@
 -- The receipts that a ledger gives (CCF documentation, "Receipts"), and why it gives none.
-use Rattle.std.specs.Prelude.{◌≡◌, ℕ, zero, suc, ◌-◌, List, [], true, Option, Some, None, option_map, Result, Ok, Err, map, take, drop, nat_le, slice_get, if◌then◌else◌}
+use Rattle.std.specs.Prelude.{◌≡◌, ℕ, zero, suc, ◌-◌, List, [], Bool, true, ◌&&◌, Option, Some, None, option_map, Result, Ok, Err, take, drop, nat_le, slice_get, if◌then◌else◌}
 use Rattle.std.specs.List.{find}
 use Rattle.sha2.specs.Sha256.{sha256}
+use Rattle.gl_base.specs.Bytes.{same_bytes}
 use Rattle.gl_base.specs.Status.{status_of}
 use Rattle.gl_base.specs.Steps.{◌>>=◌}
 use Rattle.gl_base.specs.TxId.{IsTxId}
@@ -24,17 +25,21 @@ use Rattle.gl_receipt.specs.declared.make_fault.MakeFault.{MakeFault}
 use Rattle.gl_receipt.specs.declared.make_fault.MakeFault.TheVariants.{NotCommitted, NoLaterSignature}
 
 -- A ledger as receipts see it: its entries from seqno 1 on, their leaves in the Merkle tree, up to
--- which seqno it is committed, and the service's key.
+-- which seqno it is committed, and the service's key in force at a seqno.
 pub record Ledger : Type 0 where
   pub entries : List Entry
   pub leaves : List (List ℕ)
   pub commit : ℕ
-  pub identity : List ℕ
+  pub identity : ℕ → List ℕ
 
--- The entry at a seqno; there is none at 0.
+-- What a list from seqno 1 on has at a seqno; it has nothing at 0.
+abbrev pub at_seqno : {X : Type 0} → List X → ℕ → Option X
+at_seqno xs zero = None
+at_seqno xs (suc index) = slice_get xs index
+
+-- The entry at a seqno.
 abbrev pub entry_at : List Entry → ℕ → Option Entry
-entry_at entries zero = None
-entry_at entries (suc index) = slice_get entries index
+entry_at entries seqno = at_seqno entries seqno
 
 -- The view of the entry at a seqno.
 abbrev pub view_at : List Entry → ℕ → Option ℕ
@@ -64,13 +69,21 @@ committed_entry l id = if_committed (status_in l id) (entry_at l.entries id.seqn
 abbrev pub signature_above : List Entry → ℕ → Option Entry
 signature_above entries seqno = find (λ e. is_signature e.content) (drop seqno entries)
 
--- A signature that is asked to stand at or below the commit.
-abbrev pub if_within : ℕ → Option Entry → Result Entry MakeFault
-if_within commit None = Err (NoLaterSignature commit)
-if_within commit (Some e) = if nat_le e.seqno commit then Ok e else Err (NoLaterSignature commit)
+-- The key in force at the one seqno is in force at the other.
+abbrev pub is_under_same_key : Ledger → ℕ → ℕ → Bool
+is_under_same_key l seqno other = same_bytes (l.identity seqno) (l.identity other)
 
+-- A signature that is asked to stand at or below the commit, and under the key in force at a seqno.
+abbrev pub if_within : Ledger → ℕ → Option Entry → Result Entry MakeFault
+if_within l seqno None = Err (NoLaterSignature l.commit)
+if_within l seqno (Some e) =
+    if nat_le e.seqno l.commit && is_under_same_key l seqno e.seqno
+    then Ok e
+    else Err (NoLaterSignature l.commit)
+
+-- The first signature above a seqno, where it is committed and under the same key.
 abbrev pub later_signature : Ledger → ℕ → Result Entry MakeFault
-later_signature l seqno = if_within l.commit (signature_above l.entries seqno)
+later_signature l seqno = if_within l seqno (signature_above l.entries seqno)
 
 -- What the leaf of an entry is made of, with the identifier told to the service's key.
 abbrev pub components_of : List ℕ → TxId → Entry → LeafComponents
@@ -96,31 +109,32 @@ signed_in_entry e =
 -- entries before the signature, and that signature.
 abbrev pub receipt_by : Ledger → TxId → Entry → Entry → Receipt
 receipt_by l id e signature = record {
-  leaf_components = components_of l.identity id e;
+  leaf_components = components_of (l.identity id.seqno) id e;
   proof = path_of (take (signature.seqno - 1) l.leaves) id.seqno;
   signature = recorded_signature signature.content;
   signed = signed_in_entry signature;
 }
 
 -- The receipt of a transaction by its ledger, or the first reason why there is none: the
--- transaction isn't committed, or no signature above it is. A ledger is here from its first entry
--- on and of one service; one that begins above a base, or in which the service's key changes, would
--- have further reasons between these two.
+-- transaction isn't committed, or no signature above it is, or the first one is under another key.
+-- A ledger is here from its first entry on; one that begins above a base would have a further
+-- reason between these two.
 unfoldable pub receipt_of : Ledger → TxId → Result Receipt MakeFault
 receipt_of l id = do
   e ← committed_entry l id
   signature ← later_signature l id.seqno
   Ok (receipt_by l id e signature)
 
--- The ledger is one of the service with its key: each entry has the identifier of a transaction,
--- its leaf is the one under the key, and each signature is valid under the key (RFC 8554,
--- section 6.3) over the root of all leaves before it.
+-- The ledger is one of the service with its keys: each entry has the identifier of a transaction,
+-- its leaf is the one under the key in force at its seqno, and each signature is valid under the
+-- key in force at its seqno (RFC 8554, section 6.3) over the root of all leaves before it.
 pub record IsOfService (l : Ledger) : Type 0 where
   pub named : (seqno : ℕ) (e : Entry) → entry_at l.entries seqno ≡ Some e → IsTxId (id_of e)
-  pub leaves : l.leaves ≡ map (leaf_of l.identity) l.entries
+  pub leaves : (seqno : ℕ) (e : Entry) → entry_at l.entries seqno ≡ Some e →
+      at_seqno l.leaves seqno ≡ Some (leaf_of (l.identity seqno) e)
   pub signatures : (seqno : ℕ) (e : Entry) → entry_at l.entries seqno ≡ Some e →
       is_signature e.content ≡ true →
-      IsValid l.identity
+      IsValid (l.identity seqno)
       (signed_message (root_of (take (seqno - 1) l.leaves)) e.view seqno
       (recorded_commit e.content))
       (recorded_signature e.content)

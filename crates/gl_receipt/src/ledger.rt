@@ -9,16 +9,18 @@ use gl_entry::Entry;
 use gl_merkle::Step;
 use std::alloc::AllocError;
 
-/// A ledger of one service, from its first entry on, of which a part is committed. Its i-th entry
-/// has seqno i.
+/// A ledger of a service, from its first entry on, of which a part is committed. Its i-th entry has
+/// seqno i.
 pub trait CommittedLedger {
-    // Its entries, their leaves, its commit and the service's key.
+    // Its entries, their leaves, its commit and the service's keys.
     ghost ledger: { Self → Ledger };
 
-    /// The service's key: an HSS public key (RFC 8554, section 6.1). The first entry names it.
-    fn identity(&self) -> &[u8; 60]
-        requires { 0 < length (ledger self.now).entries }
-        ensures { result.now ≡ (ledger self.now).identity };
+    /// The service's key in force at a seqno: an HSS public key (RFC 8554, section 6.1). A founding
+    /// or a recovery names it, itself included.
+    fn identity(&self, seqno: u64) -> [u8; 60]
+        requires from_one { 0 < seqno }
+        requires within { seqno ≤ length (ledger self.now).entries }
+        ensures { result ≡ (ledger self.now).identity seqno };
 
     /// The seqno up to which the ledger is committed, itself included; 0 where nothing is.
     fn commit(&self) -> u64

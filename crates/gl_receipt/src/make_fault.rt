@@ -12,8 +12,9 @@ pub enum MakeFault {
     /// By this ledger the transaction isn't committed.
     #[error("the transaction is not committed")]
     NotCommitted { status: Status },
-    /// No signature stands above the transaction, at or below the commit.
-    #[error("no signature above the transaction is committed up to {commit}")]
+    /// No signature above the transaction is committed, or the first one is under another key of
+    /// the service: the service was recovered between them.
+    #[error("no signature under the same key is committed above the transaction, up to {commit}")]
     NoLaterSignature { commit: u64 },
 }
 

@@ -1,17 +1,17 @@
 //! The receipts that a ledger gives.
 
-ghost use Rattle.std.specs.Prelude.{◌≡◌, ◌-◌, ◌<◌, [], true, Ok, Err, Some, IfOk, IfErr, length};
+ghost use Rattle.std.specs.Prelude.{◌≡◌, ◌-◌, ◌<◌, ◌≤◌, [], true, Ok, Err, Some, IfOk, IfErr, length};
 ghost use Rattle.gl_base.specs.Answers.{Fails};
 ghost use Rattle.gl_entry.specs.Entry.{is_signature};
 ghost use Rattle.gl_entry.specs.Leaf.{evidence_text};
-ghost use Rattle.gl_receipt.specs.Made.{status_in, view_at, commit_id, committed_entry, later_signature, entry_at, components_of, recorded_signature, signed_in_entry, receipt_of, IsOfService};
+ghost use Rattle.gl_receipt.specs.Made.{status_in, view_at, commit_id, committed_entry, is_under_same_key, later_signature, entry_at, components_of, recorded_signature, signed_in_entry, receipt_of, IsOfService};
 ghost use Rattle.gl_receipt.specs.Receipt.{Accepts};
 
 use crate::components::{LeafComponents, Receipt, Signed};
 use crate::ledger::CommittedLedger;
 use crate::make_fault::MakeFault;
 use crate::text::Text;
-use gl_base::{Bytes, OrNoMemory, Sequence, Status, TxId, status};
+use gl_base::{Bytes, OrNoMemory, Sequence, Status, TxId, same_bytes, status};
 use gl_entry::{Content, Entry, evidence};
 use std::alloc::{AllocError, Global};
 
@@ -49,7 +49,8 @@ fn committed_entry<L: CommittedLedger>(ledger: &L, id: TxId) -> Result<&Entry, M
     ensures refused { IfErr result (λ fault.
         committed_entry (L.ledger ledger.now) id ≡ Err fault) }
     ensures numbered { IfOk result (λ e. e.now.seqno ≡ id.seqno) }
-    ensures some { IfOk result (λ e. 0 < length (L.ledger ledger.now).entries) }
+    ensures from_one { IfOk result (λ e. 0 < id.seqno) }
+    ensures within { IfOk result (λ e. id.seqno ≤ length (L.ledger ledger.now).entries) }
 {
     match (status_in(ledger, id), ledger.entry(id.seqno)) {
         (Status::Committed, Some(entry)) => Ok(entry),
@@ -57,8 +58,21 @@ fn committed_entry<L: CommittedLedger>(ledger: &L, id: TxId) -> Result<&Entry, M
     }
 }
 
-/// The first signature above a seqno, where it is committed.
+/// Whether the service's key in force at the one seqno is in force at the other.
+fn is_under_same_key<L: CommittedLedger>(ledger: &L, seqno: u64, other: u64) -> bool
+    requires from_one { 0 < seqno }
+    requires other_from_one { 0 < other }
+    requires within { seqno ≤ length (L.ledger ledger.now).entries }
+    requires other_within { other ≤ length (L.ledger ledger.now).entries }
+    ensures { result ≡ is_under_same_key (L.ledger ledger.now) seqno other }
+{
+    same_bytes(&ledger.identity(seqno), &ledger.identity(other))
+}
+
+/// The first signature above a seqno, where it is committed and under the same key.
 fn later_signature<L: CommittedLedger>(ledger: &L, seqno: u64) -> Result<&Entry, MakeFault>
+    requires from_one { 0 < seqno }
+    requires within { seqno ≤ length (L.ledger ledger.now).entries }
     ensures found { IfOk result (λ e. later_signature (L.ledger ledger.now) seqno ≡ Ok e.now) }
     ensures refused { IfErr result (λ fault.
         later_signature (L.ledger ledger.now) seqno ≡ Err fault) }
@@ -69,7 +83,9 @@ fn later_signature<L: CommittedLedger>(ledger: &L, seqno: u64) -> Result<&Entry,
 {
     let commit = ledger.commit();
     match ledger.signature_above(seqno) {
-        Some(entry) if entry.seqno <= commit => Ok(entry),
+        Some(entry) if entry.seqno <= commit && is_under_same_key(ledger, seqno, entry.seqno) => {
+            Ok(entry)
+        }
         _ => Err(MakeFault::NoLaterSignature { commit }),
     }
 }
@@ -120,8 +136,9 @@ fn signed_in_entry(entry: &Entry) -> Signed
 }
 
 /// The receipt of a committed transaction by its ledger (CCF documentation, "Receipts"). The
-/// signature is the first one above it, which has to be committed too. Refused where the ledger's
-/// status of the transaction isn't Committed, and then where no such signature is there.
+/// signature is the first one above it, which has to be committed too, and under the key that is in
+/// force at the transaction. Refused where the ledger's status of the transaction isn't Committed,
+/// and then where no such signature is there.
 #[tactic(auto, unfolding(crate::specs::Made::receipt_of))]
 pub fn make<L: CommittedLedger>(
     alloc: Global,
@@ -130,16 +147,17 @@ pub fn make<L: CommittedLedger>(
 ) -> Result<Receipt, OrNoMemory<MakeFault>>
     ensures made { IfOk result (λ r. receipt_of (L.ledger ledger.now) id ≡ Ok r) }
     ensures refused { IfErr result (λ e. Fails e (receipt_of (L.ledger ledger.now) id)) }
-    // In a ledger of the service the receipt is accepted as that of the transaction.
+    // In a ledger of the service the receipt is accepted as that of the transaction, under the key
+    // in force at it.
     ensures accepted { IsOfService (L.ledger ledger.now) →
-        IfOk result (λ r. Accepts (L.ledger ledger.now).identity r id) }
+        IfOk result (λ r. Accepts ((L.ledger ledger.now).identity id.seqno) r id) }
 {
     let entry = committed_entry(ledger, id)?;
     let signature = later_signature(ledger, id.seqno)?;
     let proof = ledger.path(id.seqno, signature.seqno - 1)?;
     let bytes = Vec::from_slice(alloc, recorded_signature(&signature.content))?;
     Ok(Receipt {
-        leaf_components: components(alloc, ledger.identity(), id, entry)?,
+        leaf_components: components(alloc, &ledger.identity(id.seqno), id, entry)?,
         proof: Sequence::from(proof),
         signature: Bytes::from(bytes),
         signed: signed_in_entry(signature),

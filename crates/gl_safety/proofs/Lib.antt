@@ -14,6 +14,7 @@ pub mod Merging
 pub mod Following
 pub mod Installing
 pub mod Voters
+pub mod Batches
 pub mod Replicas
 pub mod Makers
 pub mod Runs
@@ -36,3 +37,4 @@ pub mod SmallRuns
 pub mod Shown
 pub mod WorkedRuns
 pub mod Unchanged
+pub mod Made

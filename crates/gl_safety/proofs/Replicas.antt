@@ -19,7 +19,8 @@ use Rattle.gl_safety.proofs.Signatures.{view_at_is}
 use Rattle.gl_safety.proofs.Invariants.{Good, BodySent, Reached, made_same}
 use Rattle.gl_rules.proofs.Soundness.{sound_cut}
 use Rattle.gl_rules.specs.Outcome.{Step, Done, quiet, refuse, idle, NotPeer, BelowBase, BelowCommit}
-use Rattle.gl_rules.specs.Replication.{entries_limit, frames_limit, fitting_prefix, batch, next_of, is_peer, append_message, send_append, replicate, append_reply, matching_prefix_len, checked_append, highest_possible_match, accept_entries, accept_or_refuse, merge_entries, merge_if_matching, become_follower, append_as, on_append, update_match, lower_next, update_progress, append_reply_as, on_append_reply, may_commit, greatest_to_commit, commit_to, advance, restart, snapshot_of, with_snapshot, install_snapshot, install}
+use Rattle.gl_rules.specs.Replication.{next_of, is_peer, append_message, send_append, replicate, append_reply, matching_prefix_len, checked_append, highest_possible_match, accept_entries, accept_or_refuse, merge_entries, merge_if_matching, become_follower, append_as, on_append, update_match, lower_next, update_progress, append_reply_as, on_append_reply, may_commit, greatest_to_commit, commit_to, advance, restart, snapshot_of, with_snapshot, install_snapshot, install}
+use Rattle.gl_safety.proofs.Batches.{in_batch}
 use Rattle.gl_safety.proofs.Merging.{Merged, merged_all, merged_new, applied_is}
 use Rattle.gl_safety.proofs.Following.{good_follow, good_restart, made_accept}
 use Rattle.gl_safety.proofs.Leading.{good_acknowledged, good_sent_back, committed_tale, committed_good, good_commit}
@@ -27,24 +28,6 @@ use Rattle.gl_safety.proofs.Installing.{good_install}
 use Rattle.gl_safety.proofs.Voters.{By, stay, reached_leader}
 
 module _ {E Q G R A F : Type 0} {b : Book E Q G R A F} {s : Start E} (o : IsOpening b (EachFollows b) s) (la : IsLawful b (EachFollows b)) where
-  -- a batch is a front of the entries
-  fits : (count room : ℕ) (es : List E) (i : ℕ) (e : E) → slice_get (fitting_prefix b count room es) i ≡ Some e → slice_get es i ≡ Some e
-  unfolding fitting_prefix
-  fits zero room es i e a = absurd (cc)
-  fits (suc count) room [] i e a = absurd (cc)
-  fits (suc count) room (d ∷ es) i e a = go (nat_le (b.frame_size d) room) i a (fits count (room - b.frame_size d) es)
-    where
-      go : (m : Bool) (j : ℕ) → slice_get (if m then d ∷ fitting_prefix b count (room - b.frame_size d) es else []) j ≡ Some e →
-          ((k : ℕ) (f : E) → slice_get (fitting_prefix b count (room - b.frame_size d) es) k ≡ Some f → slice_get es k ≡ Some f) → slice_get (d ∷ es) j ≡ Some e
-      go true zero w again = w
-      go true (suc k) w again = again k e w
-      go false j w again = absurd (cc)
-
-  in_batch : (es : List E) (i : ℕ) (e : E) → slice_get (batch b es) i ≡ Some e → slice_get es i ≡ Some e
-  in_batch [] i e a = a
-  in_batch (d ∷ es) zero e a = a
-  in_batch (d ∷ es) (suc i) e a = fits (entries_limit - 1) (frames_limit - b.frame_size d) es i e a
-
   view_of_some : (l : List E) (j : ℕ) → 0 < view_at b l (suc j) → (e : E) × (slice_get l j ≡ Some e) × (b.view_of e ≡ view_at b l (suc j))
   view_of_some l j h = go (slice_get l j) refl
     where
@@ -67,7 +50,7 @@ module _ {E Q G R A F : Type 0} {b : Book E Q G R A F} {s : Start E} (o : IsOpen
         made_same o x g n (append_message b x y behind n ∷ []) t z (
           (
             record {
-              items = λ i k e d a. ap (λ l. slice_get l k) (sym mine) ∙ sym (drop_get behind n.log i k d) ∙ in_batch (drop behind n.log) i e a;
+              items = λ i k e d a. ap (λ l. slice_get l k) (sym mine) ∙ sym (drop_get behind n.log i k d) ∙ in_batch b (drop behind n.log) i e a;
               prev = λ j d h.
                   let w = view_of_some n.log j (let q = ap (view_at b n.log) d in omega arith) in
                   (w.0, ap (λ l. slice_get l j) (sym mine) ∙ w.1, w.2 ∙ sym (ap (view_at b n.log) d));

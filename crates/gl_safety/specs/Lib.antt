@@ -1,1 +1,2 @@
 pub mod SmallBook
+pub mod Made

@@ -4,11 +4,13 @@
 
 pub mod small_book;
 
-ghost use Rattle.std.specs.Prelude.{List, ◌≡◌};
+ghost use Rattle.std.specs.Prelude.{List, ℕ, ◌≡◌};
 ghost use Rattle.gl_rules.specs.Book.{Book};
+ghost use Rattle.gl_rules.specs.Identity.{NodeId};
 ghost use Rattle.gl_rules.specs.Outcome.{Refusal, Refused};
 ghost use Rattle.gl_rules.specs.World.{Event, Start, World, happens};
-ghost use Rattle.gl_rules.specs.Safety.{EachFollows, IsRetiring, IsSafe, IsService, LeadersMayRecord, LeadsByVote, LeavesAll, NeverConflicts, RetiresSafely};
+ghost use Rattle.gl_rules.specs.Safety.{EachFollows, IsRetiring, IsSafe, IsService, LeadersMayRecord, LeadsByVote, LeavesAll, NeverConflicts, RetiresSafely, node_at};
+ghost use Rattle.gl_safety.specs.Made.{EachIs, OpenedOrMade};
 
 /// The rules of consensus are safe, whatever happens in whatever order: timeouts, lost, repeated
 /// and late messages, several configurations that are not yet committed, restarts and snapshots
@@ -28,4 +30,7 @@ pub fn is_safe<E, Q, G, R, A, F>()
     ensures refused { (book : Book E Q G R A F) (w : World E) (event : Event Q G R) →
         (why : Refusal F) →
         (happens book w event).outcome ≡ Refused why → LeavesAll w (happens book w event).world }
+    ensures made { (book : Book E Q G R A F) (s : Start E) →
+        (events : List (Event Q G R)) → (i : ℕ) → (x : NodeId) →
+        EachIs (OpenedOrMade book s) (node_at book s events i x).log }
 {}

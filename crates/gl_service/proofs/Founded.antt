@@ -17,9 +17,8 @@ use Rattle.gl_ledger.specs.Opening.{Begins}
 use Rattle.gl_ledger.proofs.Founded.{founded_identity}
 use Rattle.gl_ledger.proofs.Governed.{followed}
 use Rattle.gl_ledger.proofs.NodeSignatures.{node_makes}
-use Rattle.gl_ledger.proofs.Opened.{begins_opening, opened_configured}
 use Rattle.gl_service.specs.Service.{ServiceEvent, Leads, node_of}
-use Rattle.gl_service.proofs.Leading.{follows, leader_begins, leader_signs}
+use Rattle.gl_service.proofs.Leading.{follows, unrecovered, leader_begins, leader_signs}
 
 -- The opening begins with the entry of a genesis whose fields are in their ranges.
 pub record IsFoundedBy (layers : Layers) (s : Start Entry) (g : request.Genesis) : Type 0 where
@@ -32,13 +31,13 @@ module _ (layers : Layers) (keys : NodeKeys) (s : Start Entry) (g : request.Gene
   n = node_of layers keys s events x
 
   starts : slice_get n.log 0 ≡ Some (genesis_entry g)
-  starts = leader_begins layers keys s (begins_opening layers keys s h.begins) (opened_configured layers keys s.opening s.first h.begins.checked) events x leads (genesis_entry g) h.first
+  starts = leader_begins layers keys s h.begins events x leads (genesis_entry g) h.first
 
   pub leader_identity : identity_in (tables_of n.log) ≡ g.identity
   leader_identity =
       founded_identity layers g n.log
-      (followed layers keys n.log (follows layers keys s (begins_opening layers keys s h.begins) (opened_configured layers keys s.opening s.first h.begins.checked) events x leads))
-      starts h.fits
+      (followed layers keys n.log (follows layers keys s h.begins events x leads))
+      (unrecovered layers keys s h.begins events x leads) starts h.fits
 
 -- a leader whose key the service endorses signs validly, with each leaf that its key has
 pub leader_signs_with_key : (keys : NodeKeys) (s : Start Entry) (g : request.Genesis) → IsFoundedBy service_layers s g → (x : NodeId) → IsNodeKey keys g.identity x →
@@ -47,5 +46,5 @@ pub leader_signs_with_key : (keys : NodeKeys) (s : Start Entry) (g : request.Gen
     (ledger_book service_layers keys).sign x leaf n.log n.view n.commit ≡ signing_result keys x leaf n.log n.view n.commit
 leader_signs_with_key keys s g h x key events leads leaf low =
     let n = node_of service_layers keys s events x in
-    leader_signs service_layers keys s (begins_opening service_layers keys s h.begins) (opened_configured service_layers keys s.opening s.first h.begins.checked) events x leads leaf
+    leader_signs service_layers keys s h.begins events x leads leaf
     (node_makes keys g.identity x leaf n.log n.view n.commit key low (leader_identity service_layers keys s g h events x leads))

@@ -16,17 +16,27 @@ use Rattle.gl_ledger.specs.Layers.{Layers}
 use Rattle.gl_ledger.specs.NodeKeys.{NodeKeys}
 use Rattle.gl_ledger.specs.Recordings.{recorded_nodes}
 use Rattle.gl_ledger.specs.Broken.{is_unopened, is_later_commit, may_record}
-use Rattle.gl_ledger.specs.Makers.{MakesValid, request_result, signing_result, govern_result}
+use Rattle.gl_ledger.specs.Makers.{MayMake, MakesValid, request_result, signing_result, govern_result}
 use Rattle.gl_ledger.specs.LedgerBook.{ledger_book}
+use Rattle.gl_ledger.specs.Opening.{Begins}
+use Rattle.gl_ledger.specs.Sound.{IsUnrecovered}
 use Rattle.gl_ledger.proofs.Governed.{followed}
 use Rattle.gl_ledger.proofs.Governing.{govern_is}
 use Rattle.gl_ledger.proofs.Lawful.{lawful}
 use Rattle.gl_ledger.proofs.Making.{execute_is, may_go_on}
+use Rattle.gl_ledger.proofs.Opened.{begins_opening, opened_configured}
 use Rattle.gl_ledger.proofs.Signing.{sign_is, may_make, configured_recorded}
 use Rattle.gl_service.specs.Service.{ServiceEvent, Leads, node_of}
+use Rattle.gl_service.proofs.Unrecovered.{stays_unrecovered}
 use Rattle.gl_service.proofs.ViewLimits.{views_low}
 
-module _ (layers : Layers) (keys : NodeKeys) (s : Start Entry) (opening : IsOpening (ledger_book layers keys) (EachFollows (ledger_book layers keys)) s) (first : IsConfigured (ledger_book layers keys) s.first s.opening) (events : List ServiceEvent) (x : NodeId) (leads : Leads layers keys s events x) where
+module _ (layers : Layers) (keys : NodeKeys) (s : Start Entry) (h : Begins layers s) (events : List ServiceEvent) (x : NodeId) (leads : Leads layers keys s events x) where
+  opening : IsOpening (ledger_book layers keys) (EachFollows (ledger_book layers keys)) s
+  opening = begins_opening layers keys s h
+
+  first : IsConfigured (ledger_book layers keys) s.first s.opening
+  first = opened_configured layers keys s.opening s.first h.checked h.unrecovered
+
   abbrev pub n : Node Entry
   n = node_of layers keys s events x
 
@@ -55,12 +65,18 @@ module _ (layers : Layers) (keys : NodeKeys) (s : Start Entry) (opening : IsOpen
   pub recorded : member x (recorded_nodes n.log) ≡ true
   recorded = configured_recorded layers keys x n.log (at_end (λ m. IsConfigured (ledger_book layers keys) x m.log) (all.configured first (length events) x leads_there))
 
+  pub unrecovered : IsUnrecovered n.log
+  unrecovered = stays_unrecovered layers keys s h events x
+
+  -- an entry may be made behind it
+  may_go : MayMake n.log n.view
+  may_go = may_make layers keys n.log n.view n.commit follows unrecovered views may
+
   -- what the rules of consensus let it record, the audit lets it record
   pub records : may_record n.log n.commit ≡ true
   records =
-      let m = may_make layers keys n.log n.view n.commit follows views may in
-      ap (λ (o : Option Entry). if is_unopened o then n.commit == length n.log + 1 else is_later_commit n.log n.commit) m.is_last
-      ∙ ap (λ (b : Bool). if b then n.commit == length n.log + 1 else is_later_commit n.log n.commit) m.behind
+      ap (λ (o : Option Entry). if is_unopened o then n.commit == length n.log + 1 else is_later_commit n.log n.commit) may_go.is_last
+      ∙ ap (λ (b : Bool). if b then n.commit == length n.log + 1 else is_later_commit n.log n.commit) may_go.behind
       ∙ may_go_on layers keys n.log n.commit may
 
   four_bytes : n.view < 2 ^ 32
@@ -97,11 +113,11 @@ module _ (layers : Layers) (keys : NodeKeys) (s : Start Entry) (opening : IsOpen
   -- ---- what it makes
 
   pub leader_executes : (q : List Operation) → (ledger_book layers keys).execute n.log n.view q ≡ request_result n.log n.view q
-  leader_executes q = execute_is layers keys n.log n.view four_bytes (may_make layers keys n.log n.view n.commit follows views may) q
+  leader_executes q = execute_is layers keys n.log n.view four_bytes may_go q
 
   pub leader_signs : (leaf : ℕ) → MakesValid layers keys x leaf n.log n.view n.commit → (ledger_book layers keys).sign x leaf n.log n.view n.commit ≡ signing_result keys x leaf n.log n.view n.commit
-  leader_signs leaf valid = sign_is layers keys n.log n.view n.commit four_bytes (may_make layers keys n.log n.view n.commit follows views may) x leaf recorded may valid
+  leader_signs leaf valid = sign_is layers keys n.log n.view n.commit four_bytes may_go x leaf recorded may valid
 
   pub leader_governs : (g : GovernanceRequest) → (ledger_book layers keys).govern n.log n.view g ≡ govern_result n.log n.view g
   leader_governs g =
-      govern_is layers keys n.log n.view four_bytes (may_make layers keys n.log n.view n.commit follows views may) (followed layers keys n.log follows) g
+      govern_is layers keys n.log n.view four_bytes may_go (followed layers keys n.log follows) g

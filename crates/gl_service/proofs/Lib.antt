@@ -1,4 +1,5 @@
 pub mod ViewLimits
 pub mod Safe
+pub mod Unrecovered
 pub mod Leading
 pub mod Founded

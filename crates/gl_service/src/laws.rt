@@ -11,20 +11,24 @@ ghost use Rattle.gl_ledger.specs.Layers.{Layers};
 ghost use Rattle.gl_ledger.specs.NodeKeys.{NodeKeys};
 ghost use Rattle.gl_ledger.specs.Recordings.{recorded_nodes};
 ghost use Rattle.gl_ledger.specs.Broken.{may_record};
-ghost use Rattle.gl_ledger.specs.Sound.{IsSound};
+ghost use Rattle.gl_ledger.specs.Sound.{IsSound, IsUnrecovered};
 ghost use Rattle.gl_ledger.specs.Makers.{MakesValid, govern_result, request_result, signing_result};
 ghost use Rattle.gl_ledger.specs.LedgerBook.{ledger_book};
 ghost use Rattle.gl_ledger.specs.Opening.{Begins};
 ghost use Rattle.gl_service.specs.Service.{Leads, ServiceEvent, node_of};
 
-/// A service that begins with a ledger which the check of an opening takes is safe: its committed
-/// ledgers are sound. A node whose retirement is committed may be switched off: whoever leads counts
-/// it in no active configuration.
+/// A service that begins with a ledger which the check of an opening takes, and in which it was not
+/// recovered, is safe: its committed ledgers are sound. A node whose retirement is committed may be
+/// switched off: whoever leads counts it in no active configuration. No node of the service ever
+/// holds a recovery of it: that takes an opening ledger of its own.
 pub fn is_safe()
     ensures safe { (layers : Layers) (keys : NodeKeys) (s : Start Entry) → Begins layers s →
         (events : List ServiceEvent) → IsSafe (ledger_book layers keys) (IsSound layers) s events }
     ensures retirement { (layers : Layers) (keys : NodeKeys) (s : Start Entry) → Begins layers s →
         (events : List ServiceEvent) → RetiresSafely (ledger_book layers keys) s events }
+    ensures unrecovered { (layers : Layers) (keys : NodeKeys) (s : Start Entry) →
+        Begins layers s → (events : List ServiceEvent) (x : NodeId) →
+        IsUnrecovered (node_of layers keys s events x).log }
 {}
 
 /// For a rule of the audit the book refuses a leader nothing: no request, of an application or of

@@ -6,8 +6,8 @@ use Rattle.gl_rules.specs.Log.{entry_at}
 use Rattle.gl_entry.specs.Entry.{is_signature}
 use Rattle.gl_entry.specs.Leaf.{id_of}
 use Rattle.gl_entry.specs.declared.entry.Entry.{Entry}
-use Rattle.gl_ledger.specs.Recordings.{last_entry}
-use Rattle.gl_ledger.specs.Broken.{last_signed, commit_behind, commit_from, last_commit}
+use Rattle.gl_ledger.specs.Recordings.{last_entry, begins}
+use Rattle.gl_ledger.specs.Broken.{last_signed, commit_behind, commit_from, last_commit, is_unopened}
 use Rattle.gl_ledger.proofs.Signatures.{last_signature-push, last_signature-signed, last_is_signed}
 use Rattle.gl_store.specs.Ends.{end_of, end_with}
 use Rattle.gl_store.specs.Kept.{commit_at}
@@ -47,22 +47,23 @@ commit-push : (commit : ℕ) (ledger : List Entry) (e : Entry) → commit_from c
 commit-push commit [] e = refl
 commit-push commit (f ∷ ledger) e = commit-push (commit_behind commit f.content) ledger e
 
-ended : ℕ → Option TxId → Option TxId → ℕ → LedgerEnd
-ended len last signed commit = record { len = len; last = last; signed = signed; commit = commit }
+ended : ℕ → Option TxId → Option TxId → ℕ → Bool → LedgerEnd
+ended len last signed commit unopened = record { len = len; last = last; signed = signed; commit = commit; is_unopened = unopened }
 
 pub end_of-push : (ledger : List Entry) (e : Entry) → end_of (ledger ++ e ∷ []) ≡ end_with (end_of ledger) e
 unfolding ended
 end_of-push ledger e =
-    ap₂ (λ (len : ℕ) (last : Option TxId). ended len last (option_map id_of (entry_at (ledger ++ e ∷ []) (last_signed (ledger ++ e ∷ [])))) (last_commit (ledger ++ e ∷ [])))
-    (let long : length (ledger ++ e ∷ []) ≡ length ledger + 1 = length-append ledger (e ∷ []) in long) (ap (option_map id_of) (last_entry-push ledger e))
-    ∙ ap₂ (λ (signed : Option TxId) (commit : ℕ). ended (length ledger + 1) (Some (id_of e)) signed commit) (signed-push ledger e) (commit-push 0 ledger e)
+    ap₂ (λ (len : ℕ) (last : Option Entry). ended len (option_map id_of last) (option_map id_of (entry_at (ledger ++ e ∷ []) (last_signed (ledger ++ e ∷ [])))) (last_commit (ledger ++ e ∷ [])) (is_unopened last))
+    (let long : length (ledger ++ e ∷ []) ≡ length ledger + 1 = length-append ledger (e ∷ []) in long) (last_entry-push ledger e)
+    ∙ ap₂ (λ (signed : Option TxId) (commit : ℕ). ended (length ledger + 1) (Some (id_of e)) signed commit (begins e)) (signed-push ledger e) (commit-push 0 ledger e)
 
 -- it is made of the last entry and of the last signature
-pub end_made : (ledger : List Entry) (signed : ℕ) (last signature : Option Entry) (last_id signed_id : Option TxId) (commit : ℕ) → last ≡ last_entry ledger → signed ≡ last_signed ledger →
-    signature ≡ entry_at ledger signed → last_id ≡ option_map id_of last → signed_id ≡ option_map id_of signature → commit ≡ commit_at signature →
-    record { len = length ledger; last = last_id; signed = signed_id; commit = commit } ≡ end_of ledger
+pub end_made : (ledger : List Entry) (signed : ℕ) (last signature : Option Entry) (last_id signed_id : Option TxId) (commit : ℕ) (unopened : Bool) → last ≡ last_entry ledger →
+    signed ≡ last_signed ledger → signature ≡ entry_at ledger signed → last_id ≡ option_map id_of last → signed_id ≡ option_map id_of signature → commit ≡ commit_at signature →
+    unopened ≡ is_unopened last → record { len = length ledger; last = last_id; signed = signed_id; commit = commit; is_unopened = unopened } ≡ end_of ledger
 unfolding ended
-end_made ledger signed last signature last_id signed_id commit at is there named signs recorded =
+end_made ledger signed last signature last_id signed_id commit unopened at is there named signs recorded opening =
     let found : signature ≡ entry_at ledger (last_signed ledger) = there ∙ ap (entry_at ledger) is in
-    ap₂ (λ (a b : Option TxId). ended (length ledger) a b commit) (named ∙ ap (option_map id_of) at) (signs ∙ ap (option_map id_of) found)
-    ∙ ap (ended (length ledger) (option_map id_of (last_entry ledger)) (option_map id_of (entry_at ledger (last_signed ledger)))) (recorded ∙ ap commit_at found ∙ sym (last_commit-is ledger))
+    ap₂ (λ (a b : Option TxId). ended (length ledger) a b commit unopened) (named ∙ ap (option_map id_of) at) (signs ∙ ap (option_map id_of) found)
+    ∙ ap₂ (λ (n : ℕ) (b : Bool). ended (length ledger) (option_map id_of (last_entry ledger)) (option_map id_of (entry_at ledger (last_signed ledger))) n b)
+    (recorded ∙ ap commit_at found ∙ sym (last_commit-is ledger)) (opening ∙ ap is_unopened at)

@@ -76,7 +76,7 @@ kept_empty items s none stands whole =
 
 -- ---- the service's key
 
-none_of : (bytes : List ℕ) → length bytes ≡ 60 → None ≡ key_of bytes → ⊥
+pub none_of : (bytes : List ℕ) → length bytes ≡ 60 → None ≡ key_of bytes → ⊥
 none_of bytes long is =
     let t : (length bytes == 60) ≡ true = grind (arith, nat_tests) in
     let p : None ≡ Some bytes = is ∙ ap (λ (b : Bool). if b then Some bytes else None) t in

@@ -3,7 +3,8 @@ pub mod TablesLaws
 pub mod Recorded
 pub mod Counted
 pub mod SignatureSeqnos
-pub mod Serving
+pub mod LastEntries
+pub mod Beginnings
 pub mod Cutting
 pub mod Applications
 pub mod Governing

@@ -13,7 +13,7 @@ use Rattle.gl_entry.specs.declared.entry.Content.TheVariants as content
 use Rattle.gl_entry.specs.declared.entry.Signature as signatures
 use Rattle.std.specs.List.{list_all}
 use Rattle.gl_vmaps.specs.Writes.{is_write, is_ordered}
-use Rattle.gl_entry.specs.Entry.{is_entry, is_content, may_write, may_claim, are_no_writes, is_no_digest, body_bytes, body_limit}
+use Rattle.gl_entry.specs.Entry.{is_entry, is_signature, is_content, may_write, may_claim, are_no_writes, is_no_digest, body_bytes, body_limit}
 use Rattle.gl_entry.specs.declared.entry.Entry.{Entry}
 use Rattle.gl_requests.specs.Ranges as ranges
 use Rattle.gl_ledger.specs.declared.recording.Recording.{Recording}
@@ -22,7 +22,7 @@ use Rattle.gl_requests.specs.declared.request.GovernanceRequest.{GovernanceReque
 use Rattle.gl_ledger.specs.Tree.{leaves_of}
 use Rattle.gl_requests.specs.Reading.{request_in}
 use Rattle.gl_ledger.specs.NodeKeys.{service_layers}
-use Rattle.gl_ledger.specs.Recordings.{last_entry, founds, recording_of, governance_recording, application_recording, requests_of, recorded_nodes}
+use Rattle.gl_ledger.specs.Recordings.{last_entry, begins, recording_of, governance_recording, application_recording, requests_of, recorded_nodes}
 use Rattle.gl_ledger.specs.Broken.{required}
 use Rattle.gl_rules.specs.World.{first_view}
 use Rattle.std.proofs.lemmas.Bool.{and_parts, not-true}
@@ -68,8 +68,8 @@ founding_asked ledger s g view k next order = by_ledger ledger k.sound next orde
   where
     by_last : (last : Entry) → is_in_order (Some last) (recordings.Governance g) view ≡ true → governance.is_founding g ≡ false
     by_last last order =
-        let both = and_parts (not (governance.is_founding g) && not (governance.is_recovery g)) (not (founds last) || false) order in
-        not-true (governance.is_founding g) (and_parts (not (governance.is_founding g)) (not (governance.is_recovery g)) both.0).0
+        let both = and_parts (not (governance.is_founding g) && (not (governance.is_recovery g) || is_signature last.content)) (not (begins last) || false) order in
+        not-true (governance.is_founding g) (and_parts (not (governance.is_founding g)) (not (governance.is_recovery g) || is_signature last.content) both.0).0
 
     by_ledger : (es : List Entry) → IsSound service_layers es → is_next_view (last_entry es) (recordings.Governance g) view ≡ true → is_in_order (last_entry es) (recordings.Governance g) view ≡ true →
         governance.is_founding g ≡ governance.is_nothing (requests_of es)

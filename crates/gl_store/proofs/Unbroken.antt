@@ -1,5 +1,5 @@
 -- Which entries that a store makes break no rule.
-use Rattle.std.proofs.Common.{◌≡◌, ◌≢◌, ℕ, ◌+◌, ◌<◌, ◌≤◌, ◌^◌, ◌==◌, List, [], ◌∷◌, length, map, Option, Some, None, Ok, Bool, true, false, if◌then◌else◌, refl, sym, ◌∙◌, ap, ap₂, subst, arith}
+use Rattle.std.proofs.Common.{◌≡◌, ℕ, ◌+◌, ◌<◌, ◌≤◌, ◌^◌, ◌==◌, List, [], ◌∷◌, length, map, Option, Some, None, Ok, Bool, true, false, if◌then◌else◌, refl, sym, ◌∙◌, ap, ap₂, subst, arith}
 use Rattle.std.proofs.lemmas.Bool.Decides.{nat_tests}
 use Rattle.gl_base.specs.TxId.{last_seqno}
 use Rattle.gl_lms.specs.Types.{height}
@@ -21,9 +21,9 @@ use Rattle.gl_ledger.specs.ServiceRow.{identity_in}
 use Rattle.gl_ledger.specs.Tree.{tables_of}
 use Rattle.gl_ledger.specs.Ledger.{HasViewsUpTo, genesis_entry, governance_entry, signature_entry, message_behind, execute_result}
 use Rattle.gl_ledger.specs.NodeKeys.{leaf_count, node_signature_fault, service_layers, NodeKeys}
-use Rattle.gl_ledger.specs.Recordings.{requests_of, recorded_nodes}
-use Rattle.gl_ledger.specs.Broken.{may_record, is_later_commit, broken}
-use Rattle.gl_ledger.specs.Makers.{MayMake, signature_behind, signed_entry}
+use Rattle.gl_ledger.specs.Recordings.{last_entry, requests_of, recorded_nodes}
+use Rattle.gl_ledger.specs.Broken.{is_unopened, may_record, is_later_commit, broken}
+use Rattle.gl_ledger.specs.Makers.{signature_behind, signed_entry}
 use Rattle.gl_requests.specs.declared.genesis.Genesis as founding
 use Rattle.gl_gov_rules.specs.Governed as governance
 use Rattle.gl_gov_rules.specs.Changes.{history}
@@ -37,41 +37,36 @@ use Rattle.gl_ledger.proofs.Making.{governed_unbroken}
 use Rattle.gl_ledger.proofs.Valid.{may_make_behind, request_unbroken, signature_unbroken}
 use Rattle.gl_store.specs.Kept.{Held, Beside, IsKept}
 use Rattle.gl_store.specs.Calls.{SignsFor, signature_of}
-use Rattle.gl_store.proofs.Serving.{may_record_any}
 use Rattle.std.proofs.lemmas.Bool.{false≢true}
 use Rattle.gl_gov_rules.specs.declared.refusal.GovernanceRefusal.{GovernanceRefusal}
 use Rattle.gl_gov_rules.proofs.FoundingAccepted.{refusal_of_genesis}
 use Rattle.gl_ledger.proofs.GenesisEntries.{genesis_is_entry}
 use Rattle.gl_ledger.proofs.RecordedNodes.{recorded_are}
 
--- where a ledger was opened an entry may be made
-pub may_make_kept : (ledger : List Entry) (b : Beside) (view : ℕ) → IsKept ledger b → 2 ≤ length ledger → HasViewsUpTo view ledger → MayMake ledger view
-may_make_kept ledger b view k opened up = may_make_behind service_layers ledger view k.stands.sound opened up
-
 -- what a request makes
-pub execution_unbroken : (ledger : List Entry) (b : Beside) (view : ℕ) (q : List Operation) (e : Entry) (a : List Answer) → IsKept ledger b → 2 ≤ length ledger → HasViewsUpTo view ledger →
-    is_request q ≡ true → execute_result ledger view q ≡ Ok (e, a) → is_entry e ≡ true → broken service_layers ledger e ≡ None
-execution_unbroken ledger b view q e a k opened up fits h one = request_unbroken service_layers ledger view (may_make_kept ledger b view k opened up) q e a fits h one
+pub execution_unbroken : (ledger : List Entry) (b : Beside) (view : ℕ) (q : List Operation) (e : Entry) (a : List Answer) → IsKept ledger b → 0 < length ledger → is_unopened (last_entry ledger) ≡ false →
+    HasViewsUpTo view ledger → is_request q ≡ true → execute_result ledger view q ≡ Ok (e, a) → is_entry e ≡ true → broken service_layers ledger e ≡ None
+execution_unbroken ledger b view q e a k some opened up fits h one = request_unbroken service_layers ledger view (may_make_behind service_layers ledger view some opened up) q e a fits h one
 
 -- the rules ask for no keys, so any will do
 any_keys : NodeKeys
 any_keys = record { key_of = λ x. record { types = H5W4; identifier = []; seed = [] }; endorsement_of = λ x. [] }
 
 -- what a request of governance makes that founds nothing and is accepted
-pub governance_unbroken : (ledger : List Entry) (b : Beside) (view : ℕ) (g : GovernanceRequest) (e : Entry) → IsKept ledger b → 2 ≤ length ledger → HasViewsUpTo view ledger → ranges.is_request g ≡ true →
-    governance.is_founding g ≡ false → governance.is_recovery g ≡ false → refusal (history (requests_of ledger)) (length ledger + 1) g ≡ None → length ledger < last_seqno →
+pub governance_unbroken : (ledger : List Entry) (b : Beside) (view : ℕ) (g : GovernanceRequest) (e : Entry) → IsKept ledger b → 0 < length ledger → is_unopened (last_entry ledger) ≡ false →
+    HasViewsUpTo view ledger → ranges.is_request g ≡ true → governance.is_founding g ≡ false → governance.is_recovery g ≡ false → refusal (history (requests_of ledger)) (length ledger + 1) g ≡ None → length ledger < last_seqno →
     e ≡ governance_entry g ledger view → is_entry e ≡ true → broken service_layers ledger e ≡ None
-governance_unbroken ledger b view g e k opened up fits founding recovery accepted left made one =
+governance_unbroken ledger b view g e k some opened up fits founding recovery accepted left made one =
     subst (λ (x : Entry). broken service_layers ledger x ≡ None) (sym made)
-    (governed_unbroken service_layers any_keys ledger view (may_make_kept ledger b view k opened up) g fits accepted founding recovery left (subst (λ (x : Entry). is_entry x ≡ true) made one))
+    (governed_unbroken service_layers any_keys ledger view (may_make_behind service_layers ledger view some opened up) g fits accepted founding recovery left (subst (λ (x : Entry). is_entry x ≡ true) made one))
 
-pub governance_kept : (ledger : List Entry) (b : Beside) (h : Held) (view : ℕ) (g : GovernanceRequest) (e : Entry) → IsKept ledger b → record { ledger = ledger; commit = b.commit } ≡ h → 2 ≤ length h.ledger →
-    HasViewsUpTo view h.ledger → ranges.is_request g ≡ true → governance.is_founding g ≡ false → governance.is_recovery g ≡ false → refusal (history (requests_of h.ledger)) (length h.ledger + 1) g ≡ None →
+pub governance_kept : (ledger : List Entry) (b : Beside) (h : Held) (view : ℕ) (g : GovernanceRequest) (e : Entry) → IsKept ledger b → record { ledger = ledger; commit = b.commit } ≡ h → 0 < length h.ledger →
+    is_unopened (last_entry h.ledger) ≡ false → HasViewsUpTo view h.ledger → ranges.is_request g ≡ true → governance.is_founding g ≡ false → governance.is_recovery g ≡ false → refusal (history (requests_of h.ledger)) (length h.ledger + 1) g ≡ None →
     length h.ledger < last_seqno → e ≡ governance_entry g h.ledger view → is_entry e ≡ true → broken service_layers h.ledger e ≡ None
-governance_kept ledger b h view g e k seen opened up fits founding recovery =
-    subst (λ (h : Held). 2 ≤ length h.ledger → HasViewsUpTo view h.ledger → refusal (history (requests_of h.ledger)) (length h.ledger + 1) g ≡ None →
+governance_kept ledger b h view g e k seen some opened up fits founding recovery =
+    subst (λ (h : Held). 0 < length h.ledger → is_unopened (last_entry h.ledger) ≡ false → HasViewsUpTo view h.ledger → refusal (history (requests_of h.ledger)) (length h.ledger + 1) g ≡ None →
     length h.ledger < last_seqno → e ≡ governance_entry g h.ledger view → is_entry e ≡ true → broken service_layers h.ledger e ≡ None) seen
-    (λ opened up accepted left made one. governance_unbroken ledger b view g e k opened up fits founding recovery accepted left made one) opened up
+    (λ some opened up accepted left made one. governance_unbroken ledger b view g e k some opened up fits founding recovery accepted left made one) some opened up
 
 -- the signature of a signer is what a node signs that has the signer's key
 signed_same : (keys : NodeKeys) (node : List ℕ) (signer : Signer) (ledger : List Entry) (view commit : ℕ) → signer.key ≡ keys.key_of node → signer.endorsement ≡ Some (keys.endorsement_of node) →
@@ -86,16 +81,16 @@ short_endorsement node identity signer for =
     subst (λ (o : Option (List ℕ)). Rattle.std.specs.Prelude.IfSome o (λ (bytes : List ℕ). length bytes ≤ 2 ^ 15)) (sym for.endorsement)
     (let few = length-endorsement identity _ _ for.endorsed.stands in omega (arith, few))
 
-pub signer_unbroken : (ledger : List Entry) (b : Beside) (view commit : ℕ) (node : List ℕ) (signer : Signer) (e : Entry) → IsKept ledger b → 2 ≤ length ledger → HasViewsUpTo view ledger →
-    length ledger < last_seqno → signer.used < 2 ^ height signer.key.types → SignsFor node (identity_in (tables_of ledger)) signer →
+pub signer_unbroken : (ledger : List Entry) (b : Beside) (view commit : ℕ) (node : List ℕ) (signer : Signer) (e : Entry) → IsKept ledger b → 0 < length ledger → is_unopened (last_entry ledger) ≡ false →
+    HasViewsUpTo view ledger → length ledger < last_seqno → signer.used < 2 ^ height signer.key.types → SignsFor node (identity_in (tables_of ledger)) signer →
     member node (recorded_nodes ledger) ≡ true → may_record ledger commit ≡ true →
     e ≡ signature_entry node (signature_of signer ledger view commit) ledger view commit → is_entry e ≡ true → broken service_layers ledger e ≡ None
-signer_unbroken ledger b view commit node signer e k opened up left low for named may made one =
+signer_unbroken ledger b view commit node signer e k some opened up left low for named may made one =
     let same : e ≡ signed_entry for.keys node signer.used ledger view commit =
     made ∙ ap (λ (bytes : List ℕ). signature_entry node bytes ledger view commit) (signed_same for.keys node signer ledger view commit for.key for.endorsement) in
     let leaf : signer.used < leaf_count for.keys node = subst (λ (x : PrivateKey). signer.used < 2 ^ height x.types) for.key low in
     subst (λ (x : Entry). broken service_layers ledger x ≡ None) (sym same)
-    (signature_unbroken service_layers ledger view (may_make_kept ledger b view k opened up) for.keys node signer.used commit (omega arith) (subst (λ (x : Entry). is_entry x ≡ true) same one)
+    (signature_unbroken service_layers ledger view (may_make_behind service_layers ledger view some opened up) for.keys node signer.used commit (omega arith) (subst (λ (x : Entry). is_entry x ≡ true) same one)
     (node_makes for.keys (identity_in (tables_of ledger)) node signer.used ledger view commit for.endorsed leaf refl) named may)
 
 -- a ledger that records a node has an entry
@@ -103,18 +98,16 @@ pub signing_some : (ledger : List Entry) (node : List ℕ) → member node (reco
 signing_some [] node h = absurd (false≢true (sym (ap (member node) (recorded_are [])) ∙ h))
 signing_some (e ∷ es) node h = omega arith
 
--- and was opened where its commit may be recorded
-signing_opened : (ledger : List Entry) (b : Beside) (node : List ℕ) → IsKept ledger b → member node (recorded_nodes ledger) ≡ true →
-    may_record ledger b.commit ≡ true → 2 ≤ length ledger
-signing_opened ledger b node k named may = go (length ledger == 1) refl
+-- and no service begins with its last one where its commit may be recorded
+signing_opened : (ledger : List Entry) (b : Beside) → IsKept ledger b → may_record ledger b.commit ≡ true → is_unopened (last_entry ledger) ≡ false
+signing_opened ledger b k may = go (is_unopened (last_entry ledger)) refl
   where
-    go : (t : Bool) → (length ledger == 1) ≡ t → 2 ≤ length ledger
+    go : (t : Bool) → is_unopened (last_entry ledger) ≡ t → t ≡ false
+    go false is = refl
     go true is =
-        let one : length ledger ≡ 1 = grind (arith, nat_tests, is) in
-        let own : (b.commit == 2) ≡ true = sym (may_record_any service_layers ledger k.stands.sound b.commit ∙ ap (λ (t : Bool). if t then b.commit == 2 else is_later_commit ledger b.commit) is) ∙ may in
-        let two : b.commit ≡ 2 = grind (arith, nat_tests, own) in
-        absurd (let within = k.within in omega (arith, one, two, within))
-    go false is = let some = signing_some ledger node named in let other : length ledger ≢ 1 = grind (arith, nat_tests, is) in omega (arith, some, other)
+        let own : (b.commit == length ledger + 1) ≡ true = sym (ap (λ (t : Bool). if t then b.commit == length ledger + 1 else is_later_commit ledger b.commit) is) ∙ may in
+        let next : b.commit ≡ length ledger + 1 = grind (arith, nat_tests, own) in
+        absurd (let within = k.within in omega (arith, next, within))
 
 -- so that a signer's signature breaks no rule
 pub signing_unbroken : (ledger : List Entry) (b : Beside) (h : Held) (view : ℕ) (node : List ℕ) (signer : Signer) (e : Entry) → IsKept ledger b → record { ledger = ledger; commit = b.commit } ≡ h →
@@ -125,7 +118,7 @@ signing_unbroken ledger b h view node signer e k seen =
     subst (λ (h : Held). HasViewsUpTo view h.ledger → length h.ledger < last_seqno → signer.used < 2 ^ height signer.key.types → SignsFor node (identity_in (tables_of h.ledger)) signer →
     member node (recorded_nodes h.ledger) ≡ true → may_record h.ledger h.commit ≡ true →
     e ≡ signature_entry node (signature_of signer h.ledger view b.commit) h.ledger view b.commit → is_entry e ≡ true → broken service_layers h.ledger e ≡ None) seen
-    (λ up left low for named may made one. signer_unbroken ledger b view b.commit node signer e k (signing_opened ledger b node k named may) up left low for named may made one)
+    (λ up left low for named may made one. signer_unbroken ledger b view b.commit node signer e k (signing_some ledger node named) (signing_opened ledger b k may) up left low for named may made one)
 
 -- the entry of a genesis, where there is no other
 pub genesis_made : (g : founding.Genesis) (ledger : List Entry) (e : Entry) → ledger ≡ [] → e ≡ governance_entry (requests.Genesis g) ledger 2 → e ≡ genesis_entry g

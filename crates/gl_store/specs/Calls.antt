@@ -1,5 +1,5 @@
 -- What the calls of a store come to, in the words of the rules of consensus over a ledger's book.
-use Rattle.std.specs.Prelude.{◌≡◌, ℕ, ◌+◌, List, [], ◌∷◌, ◌++◌, Option, Some, Result, Ok, Err, length}
+use Rattle.std.specs.Prelude.{◌≡◌, ℕ, ◌+◌, List, [], ◌∷◌, ◌++◌, Option, Some, Result, Ok, Err, length, take}
 use Rattle.gl_base.specs.declared.or_no_memory.OrNoMemory.{OrNoMemory}
 use Rattle.gl_base.specs.declared.or_no_memory.OrNoMemory.TheVariants.{NoMemory, Fault}
 use Rattle.gl_base.specs.declared.tx_id.TxId.{TxId}
@@ -104,5 +104,5 @@ receipts_of held = record {
   entries = held.ledger;
   leaves = leaves_of held.ledger;
   commit = held.commit;
-  identity = identity_in (tables_of held.ledger);
+  identity = λ seqno. identity_in (tables_of (take seqno held.ledger));
 }

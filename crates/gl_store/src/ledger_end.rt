@@ -1,24 +1,36 @@
 //! How a ledger ends.
 
-ghost use Rattle.std.specs.Prelude.{◌≡◌, ◌<◌, ℕ, option_map};
+ghost use Rattle.std.specs.Prelude.{◌≡◌, ◌<◌, ◌||◌, ℕ, Some, IfSome, option_map};
 ghost use Rattle.std.specs.Option.{option_copied};
 ghost use Rattle.gl_rules.specs.Log.{entry_at};
 ghost use Rattle.gl_store.specs.Kept.{commit_at};
-ghost use Rattle.gl_ledger.specs.Broken.{commit_behind, last_signed};
+ghost use Rattle.gl_requests.specs.Reading.{request_in};
+ghost use Rattle.gl_requests.specs.declared.request.GovernanceRequest.{GovernanceRequest as Request};
+ghost use Rattle.gl_gov_rules.specs.Governed.{is_founding, is_recovery};
+ghost use Rattle.gl_ledger.specs.Recordings.{begins, last_entry};
+ghost use Rattle.gl_ledger.specs.Broken.{commit_behind, is_unopened, last_signed};
 ghost use Rattle.gl_entry.specs.Leaf.{id_of};
-ghost use Rattle.gl_store.specs.Ends.{end_of, end_with, no_end};
+ghost use Rattle.gl_store.specs.Ends.{IsRead, end_of, end_with, no_end};
 
 use gl_base::TxId;
 use gl_entry::{Content, Entry};
 
+/// The first byte of a request that founds a service.
+const GENESIS_TAG: u8 = 1;
+
+/// The first byte of a request that founds a service anew.
+const RECOVER_TAG: u8 = 2;
+
 /// How many entries a ledger has, the transaction of the last one and that of the last signature, if
-/// there are such, and the commit that this signature records, 0 without one.
+/// there are such, the commit that this signature records, 0 without one, and whether a service
+/// begins with the last entry: a signature is to open it.
 #[derive(Clone, Copy, Debug, PartialEq, Eq)]
 pub struct LedgerEnd {
     pub len: u64,
     pub last: Option<TxId>,
     pub signed: Option<TxId>,
     pub commit: u64,
+    pub is_unopened: bool,
 }
 
 /// That of no entries.
@@ -27,6 +39,7 @@ pub const NO_ENTRIES: LedgerEnd = LedgerEnd {
     last: None,
     signed: None,
     commit: 0,
+    is_unopened: false,
 };
 
 /// The transaction of an entry.
@@ -46,6 +59,40 @@ fn id_in(entry: Option<&Entry>) -> Option<TxId>
     match entry {
         None => None,
         Some(entry) => Some(id_of(entry)),
+    }
+}
+
+/// Whether a request of governance with these bytes founds a service, or founds it anew. Takes no
+/// memory: the first byte tells.
+fn begins_service(request: &[u8]) -> bool
+    ensures { (g : Request) → request_in request.now ≡ Some g →
+        result ≡ (is_founding g || is_recovery g) }
+{
+    match request.first() {
+        None => false,
+        Some(tag) => *tag == GENESIS_TAG || *tag == RECOVER_TAG,
+    }
+}
+
+/// Whether a service, or its life under another key, begins with an entry.
+fn begins(entry: &Entry) -> bool
+    requires read { IsRead entry.now }
+    ensures { result ≡ begins entry.now }
+{
+    match &entry.content {
+        Content::Governance(request) => begins_service(request.as_slice()),
+        _ => false,
+    }
+}
+
+/// Whether a service begins with an entry, if there is one.
+pub fn is_unopened(entry: Option<&Entry>) -> bool
+    requires read { IfSome (option_copied entry) IsRead }
+    ensures { result ≡ is_unopened (option_copied entry.entry) }
+{
+    match entry {
+        None => false,
+        Some(entry) => begins(entry),
     }
 }
 
@@ -82,7 +129,8 @@ fn entry_at(entries: &[Entry], seqno: u64) -> Option<&Entry>
 impl LedgerEnd {
     /// With one more entry.
     pub fn with(self, entry: &Entry) -> Self
-        requires { self.len < u64.MAX }
+        requires len { self.len < u64.MAX }
+        requires read { IsRead entry.now }
         ensures { result ≡ end_with self entry.now }
     {
         let id = id_of(entry);
@@ -92,20 +140,24 @@ impl LedgerEnd {
             last: Some(id),
             signed: if signs { Some(id) } else { self.signed },
             commit: commit_behind(self.commit, &entry.content),
+            is_unopened: begins(entry),
         }
     }
 
     /// Of these entries, of which the last signature has this seqno, 0 for none.
     pub fn of(entries: &[Entry], signed: u64) -> Self
-        requires { signed ≡ last_signed entries.now }
+        requires signed { signed ≡ last_signed entries.now }
+        requires read { IfSome (last_entry entries.now) IsRead }
         ensures { result ≡ end_of entries.now }
     {
         let signature = entry_at(entries, signed);
+        let last = entries.last();
         LedgerEnd {
             len: entries.len() as u64,
-            last: id_in(entries.last()),
+            last: id_in(last),
             signed: id_in(signature),
             commit: recorded_commit(signature),
+            is_unopened: is_unopened(last),
         }
     }
 }

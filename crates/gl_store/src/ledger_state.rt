@@ -18,7 +18,7 @@ ghost use Rattle.gl_ledger.specs.NodeKeys.{service_layers};
 ghost use Rattle.gl_entry.specs.declared.entry.Entry.{Entry};
 ghost use Rattle.gl_store.specs.Calls.{Breaks};
 ghost use Rattle.gl_store.specs.Kept.{seqno_if, key_of, IsStateOf, IsState, ForLedgers, IsWhole};
-ghost use Rattle.gl_store.specs.Ends.{no_end, end_of, end_with};
+ghost use Rattle.gl_store.specs.Ends.{IsRead, no_end, end_of, end_with};
 
 use crate::known_nodes::KnownNodes;
 use crate::ledger_end::{LedgerEnd, NO_ENTRIES};
@@ -37,9 +37,9 @@ mod signatures;
 pub use signatures::{count_up_to, seqno_at};
 
 /// The map of the service's row, and its key there (CCF documentation, "Builtin Maps").
-const SERVICE_MAP: &[u8] = b"public:ccf.gov.service";
+pub(crate) const SERVICE_MAP: &[u8] = b"public:ccf.gov.service";
 
-const SERVICE_KEY: &[u8] = b"s";
+pub(crate) const SERVICE_KEY: &[u8] = b"s";
 
 /// How a ledger ends, the seqnos of its signatures, the requests of governance that it records, the
 /// tables that its write sets make, what these tell of the service, the tree of its leaves, and the
@@ -92,7 +92,7 @@ fn state_in(tables: &Tables) -> ServiceState
 }
 
 /// The service's key, which stands in its row behind two bytes.
-fn key_in(value: &[u8]) -> Option<HssPublicKey>
+pub(crate) fn key_in(value: &[u8]) -> Option<HssPublicKey>
     ensures { result ≡ key_of (identity_of_value (Some value.now)) }
 {
     match value {
@@ -225,6 +225,7 @@ impl LedgerState {
     /// Adds an entry's leaf, for which there is room.
     fn add(&mut self, entry: &Entry, leaf: Digest)
         requires len { self.old.end.len < u64.MAX }
+        requires read { IsRead entry.now }
         requires signatures { vec_len self.old.signatures < vec_capacity self.old.signatures }
         requires frontier { 0 < self.old.frontier.spare }
         ensures end { self.new.end ≡ end_with self.old.end entry.now }
@@ -250,6 +251,7 @@ impl LedgerState {
     /// records follows those before it. Want of memory leaves all as it was.
     fn push_made(&mut self, entry: &Entry) -> Result<(), AllocError>
         requires len { self.old.end.len < u64.MAX }
+        requires read { IsRead entry.now }
         requires base { self.old.tables.base < entry.now.seqno }
         requires above { (map key : List ℕ) →
             version_of self.old.tables map key < entry.now.seqno }

@@ -9,6 +9,7 @@ mod ledger_end;
 mod ledger_state;
 mod not_opening;
 mod removals;
+mod service_key;
 mod store;
 
 pub use laws::law_of_receipts_in_ledgers;

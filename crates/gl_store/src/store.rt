@@ -1,6 +1,6 @@
 //! The store of one node: a valid ledger, and up to which seqno it is committed.
 
-ghost use Rattle.std.specs.Prelude.{◌≡◌, ◌↔◌, ◌+◌, ◌≤◌, ◌<◌, [], ◌∷◌, ◌++◌, ℕ, List, true, length, take, map, None, Some, IsTrue, IfOk, IfErr, IfSome, IfNone, OnErr, OnOk};
+ghost use Rattle.std.specs.Prelude.{◌≡◌, ◌↔◌, ◌+◌, ◌-◌, ◌≤◌, ◌<◌, [], ◌∷◌, ◌++◌, ℕ, List, true, length, take, map, None, Some, IsTrue, IfOk, IfErr, IfSome, IfNone, OnErr, OnOk};
 ghost use Rattle.std.specs.List.{AllByRecursion};
 ghost use Rattle.std.specs.Option.{option_copied};
 ghost use Rattle.gl_vmaps.specs.Standing.{StandsFor};
@@ -9,7 +9,7 @@ ghost use Rattle.gl_requests.specs.Ranges.{is_genesis};
 ghost use Rattle.gl_ledger.specs.Ledger.{genesis_entry};
 ghost use Rattle.gl_store.specs.Calls.{signature_of};
 
-use crate::ledger_end::LedgerEnd;
+use crate::ledger_end::{LedgerEnd, is_unopened};
 use crate::ledger_state::{LedgerState, count_up_to, seqno_at};
 use crate::not_opening::NotOpening;
 use gl_base::{FIRST_VIEW, OrNoMemory, Status, TxId, status};
@@ -63,9 +63,9 @@ impl Store {
     ghost use Rattle.gl_ledger.specs.Ledger.{opening_ledger};
     ghost use Rattle.gl_merkle.specs.Tree.{root_of};
     ghost use Rattle.gl_ledger.specs.Tree.{writes_of, tables_of, leaves_of};
-    ghost use Rattle.gl_ledger.specs.Recordings.{requests_of, recorded_nodes};
+    ghost use Rattle.gl_ledger.specs.Recordings.{last_entry, requests_of, recorded_nodes};
     ghost use Rattle.gl_ledger.specs.ServiceRow.{identity_in};
-    ghost use Rattle.gl_ledger.specs.Broken.{last_signed, last_commit, may_record, broken};
+    ghost use Rattle.gl_ledger.specs.Broken.{is_unopened, last_signed, last_commit, may_record, broken};
     ghost use Rattle.gl_ledger.specs.Sound.{IsSound};
     ghost use Rattle.gl_ledger.specs.Audit.{audited, fault_from};
     ghost use Rattle.gl_ledger.specs.Layers.{Layers};
@@ -135,9 +135,10 @@ impl Store {
         self.push(founding)
     }
 
-    /// The store of an opening ledger, all of it committed. Refused where an entry breaks a rule of
-    /// the audit, with the seqno of the first that does, or else where the last entry isn't the
-    /// signature that opens the service, with its seqno, 0 for no entries.
+    /// The store of an opening ledger, all of it committed: one that ends with the entry that founds
+    /// the service, or founds it anew, and the signature that opens it. Refused where an entry breaks
+    /// a rule of the audit, with the seqno of the first that does, or else where the last entry isn't
+    /// that signature, with its seqno, 0 for no entries.
     pub fn opening(alloc: Global, entries: Vec<Entry>) -> Result<Self, OrNoMemory<NotOpening>>
         ensures opened { IfOk result (λ store. Opens entries.items store) }
         ensures refused { IfErr result (IsNotOpened entries.items) }
@@ -158,12 +159,21 @@ impl Store {
         ensures opened { IfOk result (λ store. Opens self.ledger store) }
         ensures refused { IfErr result (IsNotOpened self.ledger) }
     {
-        let seqno = self.ledger_len();
-        if seqno != 2 {
-            return Err(OrNoMemory::Fault(NotOpening { seqno }));
+        let len = self.ledger_len();
+        if !self.ends_with_opening() {
+            return Err(OrNoMemory::Fault(NotOpening { seqno: len }));
         }
-        self.commit = 2;
+        self.commit = len;
         Ok(self)
+    }
+
+    /// Whether a service begins with the entry before the last, so that the last one opens it.
+    fn ends_with_opening(&self) -> bool
+        ensures { result ≡ is_unopened (last_entry
+            (take (length self.now.ledger - 1) self.now.ledger)) }
+    {
+        let before = self.ledger_len().saturating_sub(1);
+        is_unopened(self.entry(before))
     }
 
     /// The number of entries, which is the seqno of the last one.
@@ -297,6 +307,14 @@ impl Store {
         ensures { result ≡ may_record self.now.ledger commit }
     {
         self.state.may_record(commit)
+    }
+
+    /// Whether a service begins with the last entry, so that the next one has to be the signature
+    /// that opens it.
+    pub fn is_unopened(&self) -> bool
+        ensures { result ≡ is_unopened (last_entry self.now.ledger) }
+    {
+        self.state.end().is_unopened
     }
 
     /// The seqno of the entry that follows.

@@ -234,7 +234,7 @@ fn execute(
     requires { HasViewsUpTo view store.old.ledger }
     ensures { (later : ℕ) → view ≤ later → HasViewsUpTo later store.new.ledger }
 {
-    if store.ledger_len() < 2 {
+    if store.ledger_len() == 0 || store.is_unopened() {
         return Err(OrNoMemory::NoMemory);
     }
     store.execute(view, request)

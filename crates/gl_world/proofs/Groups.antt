@@ -2,7 +2,7 @@
 use Rattle.std.proofs.Common.{◌≡◌, ℕ, zero, suc, ◌+◌, ◌≤◌, ◌<◌, List, [], ◌∷◌, length, map, true, refl, ◌∙◌, ap, arith}
 use Rattle.gl_rules.specs.Identity.{NodeId, member}
 use Rattle.gl_rules.specs.World.{first_view}
-use Rattle.gl_rules.specs.Safety.{IsConfigured, IsOpening, NeverConflicts, EachFollows, RetiresSafely}
+use Rattle.gl_rules.specs.Safety.{IsOpening, NeverConflicts, EachFollows, RetiresSafely}
 use Rattle.gl_safety.proofs.Refusals.{never_conflicts}
 use Rattle.gl_requests.specs.declared.request.GovernanceRequest.{GovernanceRequest}
 use Rattle.gl_ledger.specs.NodeKeys.{service_layers, IsNodeKey}
@@ -16,7 +16,7 @@ use Rattle.gl_ledger.specs.Makers.{request_result, govern_result, signing_result
 use Rattle.gl_ledger.specs.Opening.{Begins, Founds}
 use Rattle.gl_ledger.proofs.Lawful.{lawful}
 use Rattle.gl_ledger.proofs.Opening.{member_first}
-use Rattle.gl_ledger.proofs.Opened.{begins_opening, opening_opened, opened_configured}
+use Rattle.gl_ledger.proofs.Opened.{begins_opening, opening_opened, opening_unrecovered}
 use Rattle.gl_ledger.proofs.NodeSignatures.{node_makes}
 use Rattle.gl_ledger.proofs.Openings.{identity_behind_genesis}
 use Rattle.gl_service.specs.Service.{ServiceEvent, Leads}
@@ -62,6 +62,7 @@ group_founds s h = record {
 pub group_begins : (s : Settings) → IsGroup s → Begins service_layers (start_of s)
 group_begins s h = record {
   checked = opening_opened service_layers (keys_of s) (genesis_of s) (id_of s 1) (group_founds s h);
+  unrecovered = opening_unrecovered service_layers (keys_of s) (genesis_of s) (id_of s 1) (group_founds s h);
   starts = first_in s s.starting h.first;
 }
 
@@ -79,18 +80,15 @@ group_retires s h events = begins_retiring service_layers (keys_of s) (start_of 
 
 -- ---- the guard refuses a leader nothing
 
-pub group_configured : (s : Settings) → IsGroup s → IsConfigured (book_of s) (id_of s 1) (start_of s).opening
-group_configured s h = opened_configured service_layers (keys_of s) (start_of s).opening (start_of s).first (group_begins s h).checked
-
 pub group_executes : (s : Settings) → IsGroup s → (events : List ServiceEvent) (x : NodeId) → Leads service_layers (keys_of s) (start_of s) events x → (request : List Operation) →
     let n = service.node_of service_layers (keys_of s) (start_of s) events x in
     (book_of s).execute n.log n.view request ≡ request_result n.log n.view request
-group_executes s h events x leads request = leader_executes service_layers (keys_of s) (start_of s) (group_opens s h) (group_configured s h) events x leads request
+group_executes s h events x leads request = leader_executes service_layers (keys_of s) (start_of s) (group_begins s h) events x leads request
 
 pub group_governs : (s : Settings) → IsGroup s → (events : List ServiceEvent) (x : NodeId) → Leads service_layers (keys_of s) (start_of s) events x → (request : GovernanceRequest) →
     let n = service.node_of service_layers (keys_of s) (start_of s) events x in
     (book_of s).govern n.log n.view request ≡ govern_result n.log n.view request
-group_governs s h events x leads request = leader_governs service_layers (keys_of s) (start_of s) (group_opens s h) (group_configured s h) events x leads request
+group_governs s h events x leads request = leader_governs service_layers (keys_of s) (start_of s) (group_begins s h) events x leads request
 
 -- the service was founded by its genesis
 group_founded : (s : Settings) → IsGroup s → IsFoundedBy service_layers (start_of s) (genesis_of s)
@@ -108,13 +106,13 @@ group_signs s h events x leads named leaf low =
 -- it is a recorded node
 pub group_recorded : (s : Settings) → IsGroup s → (events : List ServiceEvent) (x : NodeId) → Leads service_layers (keys_of s) (start_of s) events x →
     member x (recorded_nodes (service.node_of service_layers (keys_of s) (start_of s) events x).log) ≡ true
-group_recorded s h events x leads = recorded service_layers (keys_of s) (start_of s) (group_opens s h) (group_configured s h) events x leads
+group_recorded s h events x leads = recorded service_layers (keys_of s) (start_of s) (group_begins s h) events x leads
 
 -- it may record its commit
 pub group_records : (s : Settings) → IsGroup s → (events : List ServiceEvent) (x : NodeId) → Leads service_layers (keys_of s) (start_of s) events x →
     let n = service.node_of service_layers (keys_of s) (start_of s) events x in
     may_record n.log n.commit ≡ true
-group_records s h events x leads = records service_layers (keys_of s) (start_of s) (group_opens s h) (group_configured s h) events x leads
+group_records s h events x leads = records service_layers (keys_of s) (start_of s) (group_begins s h) events x leads
 
 -- and the service's key in force there is that of the genesis
 pub group_identity : (s : Settings) → IsGroup s → (events : List ServiceEvent) (x : NodeId) → Leads service_layers (keys_of s) (start_of s) events x →

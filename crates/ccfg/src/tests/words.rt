@@ -1,9 +1,9 @@
 //! Words that ask for nothing, and the kind of fault that is told.
 
-use crate::help::HELP;
 use crate::tests::receipts::IDENTITY;
 use crate::tests::{one_open, run, status_of, to_words};
 use crate::{disk_and_words, told_of_itself};
+use gl_commands::HELP;
 use gl_outside::{MemSource, SureSink};
 use std::test::Fail;
 
@@ -20,7 +20,7 @@ const SHORT: &str = "\
 #[test]
 fn tells_one_kind_of_fault(rt: HostRuntime) -> Result<(), Fail> {
     let alloc = rt.alloc();
-    let rows: [(&[&str], &str); 38] = [
+    let rows: [(&[&str], &str); 42] = [
         (&[], "MissingSubcommand"),
         (&[""], "InvalidSubcommand"),
         (&["foo"], "InvalidSubcommand"),
@@ -65,6 +65,13 @@ fn tells_one_kind_of_fault(rt: HostRuntime) -> Result<(), Fail> {
             &["@disk=a", "keygen", "--kind", "node", "--types", "h5w4"],
             "InvalidSubcommand",
         ),
+        (&["deal", "5"], "MissingRequiredArgument"),
+        (&["deal", "--threshold", "1"], "MissingRequiredArgument"),
+        (&["deal", "--threshold", "1", "7", "08"], "ValueValidation"),
+        (
+            &["deal", "--threshold", "18446744073709551616", "7"],
+            "ValueValidation",
+        ),
         (&["endorse", "x"], "UnknownArgument"),
         (&["genesis", "--member", "1"], "UnknownArgument"),
         (&["sign", "--member", "1"], "MissingRequiredArgument"),
@@ -90,23 +97,6 @@ fn tells_one_kind_of_fault(rt: HostRuntime) -> Result<(), Fail> {
         let due = format!(in alloc; "fault {kind}\n")?;
         assert_eq!(rt; status, 2, "of {called:?}");
         assert_eq!(rt; written.as_slice(), due.as_bytes(), "of {called:?}");
-    }
-    Ok(())
-}
-
-#[test]
-fn takes_the_number_of_a_member(rt: HostRuntime) -> Result<(), Fail> {
-    let alloc = rt.alloc();
-    for number in ["", "0", "256", "00", "01", "+1", "1x", "x", " 1", "1000"] {
-        let called = ["sign", "--identity", IDENTITY, "--member", number];
-        let (status, written) = run(alloc, &called, b"")?;
-        assert_eq!(rt; status, 2, "of {number:?}");
-        assert_eq!(rt; written.as_slice(), b"fault ValueValidation\n".as_slice());
-    }
-    for number in ["1", "9", "10", "255"] {
-        let called = ["sign", "--identity", IDENTITY, "--member", number];
-        let (status, written) = run(alloc, &called, b"")?;
-        assert_eq!(rt; (status, written.len()), (5, 0), "of {number:?}");
     }
     Ok(())
 }

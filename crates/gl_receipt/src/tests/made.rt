@@ -1,5 +1,6 @@
 //! A ledger of eight entries that a program in Python made which knows the formats and RFC 8554
 //! alone, and the receipt of its third entry by that program. The sixth entry has a valid signature.
+//! Here the service is taken as recovered at the seventh, from which on it has another key.
 
 use super::identity;
 use super::mem_ledger::MemLedger;
@@ -135,6 +136,7 @@ fn push(ledger: &mut MemLedger, alloc: Global, digits: &str) -> Result<(), Fail>
 fn ledger(rt: &HostRuntime, commit: u64) -> Result<MemLedger, Fail> {
     let alloc = rt.alloc();
     let mut ledger = MemLedger::new(alloc, identity(rt)?, commit);
+    ledger.recover(7, [0; 60])?;
     for digits in FIRST {
         push(&mut ledger, alloc, digits)?;
     }
@@ -187,7 +189,15 @@ fn refuses_what_is_not_committed(rt: HostRuntime) -> Result<(), Fail> {
 
 #[test]
 fn wants_a_committed_signature_above(rt: HostRuntime) -> Result<(), Fail> {
-    let last = [(6, 2, 6), (2, 2, 2), (8, 3, 8), (5, 2, 2), (5, 2, 3)];
+    // The first is the last signature before the recovery.
+    let last = [
+        (8, 2, 6),
+        (6, 2, 6),
+        (2, 2, 2),
+        (8, 3, 8),
+        (5, 2, 2),
+        (5, 2, 3),
+    ];
     for (commit, view, seqno) in last {
         let made = make(rt.alloc(), &ledger(&rt, commit)?, TxId { view, seqno });
         assert_eq!(rt; fault(made)?, Some(MakeFault::NoLaterSignature { commit }));

@@ -1,6 +1,6 @@
 //! A ledger in memory, which is asked by scans.
 
-ghost use Rattle.std.specs.Prelude.{◌≡◌};
+ghost use Rattle.std.specs.Prelude.{◌≡◌, nat_le, reverse, option_map, unwrap_or};
 ghost use Rattle.std.specs.List.{find};
 ghost use Rattle.std.specs.Option.{option_copied};
 ghost use Rattle.gl_entry.specs.Entry.{is_signature};
@@ -13,29 +13,31 @@ use std::alloc::{AllocError, Global};
 use std::marker::Model;
 use std::test::Fail;
 
+/// The service's keys: the first, and each later one with the seqno from which it is in force.
+#[derive(Drop)]
+struct Keys {
+    first: [u8; 60],
+    later: Vec<(u64, [u8; 60])>,
+}
+
 /// Entries whose i-th has seqno i, and as many leaves.
 #[derive(Drop)]
 pub(crate) struct MemLedger {
     alloc: Global,
-    identity: [u8; 60],
+    keys: Keys,
     commit: u64,
     entries: Vec<Entry>,
     leaves: Vec<Digest>,
 }
 
 impl Model for MemLedger {
-    ghost use Rattle.std.specs.Prelude.{◌≡◌, ℕ, suc, Some, length, slice_get};
+    ghost use Rattle.std.specs.Prelude.{◌≡◌, ℕ, suc, List, Some, length, slice_get};
     ghost use Rattle.gl_entry.specs.declared.entry.Entry.{Entry};
-    ghost use Rattle.gl_receipt.specs.Made.{Ledger};
+    ghost use Rattle.gl_receipt.specs.declared.tests.mem_ledger.Keys.{Keys};
 
-    ghost Value = { Ledger };
+    ghost Value = { List Entry × List (List ℕ) × ℕ × Keys };
 
-    ghost view = { λ l. record {
-      entries = l.entries.items;
-      leaves = l.leaves.items;
-      commit = l.commit;
-      identity = l.identity;
-    } };
+    ghost view = { λ l. (l.entries.items, l.leaves.items, l.commit, l.keys) };
 
     ghost invariant = { λ l. (length l.leaves.items ≡ length l.entries.items)
         × ((i : ℕ) (e : Entry) → slice_get l.entries.items i ≡ Some e → e.seqno ≡ suc i) };
@@ -71,16 +73,44 @@ fn entry_in(entries: &[Entry], seqno: u64) -> Option<&Entry>
     }
 }
 
+/// The last of these keys that is in force at a seqno.
+fn last_key(keys: &[(u64, [u8; 60])], seqno: u64) -> Option<[u8; 60]>
+    ensures { result ≡ option_map (λ key. key.1)
+        (find (λ key. nat_le key.0 seqno) (reverse keys.now)) }
+{
+    let (_, key) = keys.iter().rev().find(|key| key.0 <= seqno)?;
+    Some(*key)
+}
+
+impl Keys {
+    /// The key in force at a seqno.
+    fn at(&self, seqno: u64) -> [u8; 60]
+        ensures { result ≡ unwrap_or (option_map (λ key. key.1)
+            (find (λ key. nat_le key.0 seqno) (reverse self.now.later.items))) self.now.first }
+    {
+        last_key(&self.later, seqno).unwrap_or(self.first)
+    }
+}
+
 impl MemLedger {
-    /// Of no entries, with the service's key and a commit.
+    /// Of no entries, with the service's first key and a commit.
     pub(crate) fn new(alloc: Global, identity: [u8; 60], commit: u64) -> MemLedger {
         MemLedger {
             alloc,
-            identity,
+            keys: Keys {
+                first: identity,
+                later: Vec::new(alloc),
+            },
             commit,
             entries: Vec::new(alloc),
             leaves: Vec::new(alloc),
         }
+    }
+
+    /// From a seqno on the service has another key.
+    pub(crate) fn recover(&mut self, seqno: u64, identity: [u8; 60]) -> Result<(), Fail> {
+        self.keys.later.push((seqno, identity))?;
+        Ok(())
     }
 
     /// Adds the entry of a frame, and its leaf.
@@ -90,7 +120,7 @@ impl MemLedger {
             return Err(Fail::from("another seqno"));
         }
         self.leaves.reserve(1)?;
-        let leaf = leaf(&entry, &self.identity);
+        let leaf = leaf(&entry, &self.keys.at(entry.seqno));
         self.entries.push(entry)?;
         self.leaves.push(leaf)?;
         Ok(())
@@ -98,10 +128,16 @@ impl MemLedger {
 }
 
 impl CommittedLedger for MemLedger {
-    ghost ledger = { λ l. l };
+    ghost ledger = { λ l. record {
+      entries = l.0;
+      leaves = l.1;
+      commit = l.2;
+      identity = λ seqno. unwrap_or (option_map (λ key. key.1)
+          (find (λ key. nat_le key.0 seqno) (reverse l.3.later.items))) l.3.first;
+    } };
 
-    fn identity(&self) -> &[u8; 60] {
-        &self.identity
+    fn identity(&self, seqno: u64) -> [u8; 60] {
+        self.keys.at(seqno)
     }
 
     fn commit(&self) -> u64 {

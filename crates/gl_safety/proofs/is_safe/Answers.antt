@@ -5,6 +5,7 @@ use Rattle.gl_safety.proofs.Refusals.{never_conflicts}
 use Rattle.gl_safety.proofs.Membership.{leaders_may_record}
 use Rattle.gl_safety.proofs.Retiring.{retires_safely}
 use Rattle.gl_safety.proofs.Unchanged.{leaves_all}
+use Rattle.gl_safety.proofs.Made.{each_made}
 use Rattle.gl_safety.proofs.is_safe.Goals as goal
 
 pub returns : goal.returns
@@ -15,4 +16,5 @@ returns g c = record {
   may_record = λ book s k events. leaders_may_record k.opening k.lawful events;
   retirement = λ book s k re events. retires_safely k.opening k.lawful re events;
   refused = λ book w event why e. leaves_all book w event why e;
+  made = λ book s events i x. each_made book s events i x;
 }

@@ -1,6 +1,6 @@
 //! The rules of the audit, by the state of a ledger.
 
-ghost use Rattle.std.specs.Prelude.{◌≡◌, ◌+◌, ◌≤◌, ◌<◌, Option, None, Some, Ok, true, length, IfOk, IfSome, IfNone};
+ghost use Rattle.std.specs.Prelude.{◌≡◌, ◌==◌, ◌+◌, ◌≤◌, ◌<◌, Option, None, Some, Ok, true, length, IfOk, IfSome, IfNone};
 ghost use Rattle.std.specs.List.{list_all};
 ghost use Rattle.std.specs.Option.{option_copied};
 ghost use Rattle.gl_rules.specs.Log.{entry_at};
@@ -60,6 +60,13 @@ fn is_signing(recording: &Recording) -> bool
     ensures { result ≡ is_signing recording.now }
 {
     matches!(recording, Recording::Signature(_))
+}
+
+/// Whether a number is the one behind another.
+fn follows(number: u64, last: u64) -> bool
+    ensures { result ≡ (number == last + 1) }
+{
+    number.checked_sub(1) == Some(last)
 }
 
 fn is_same_value(one: Option<&Value>, other: Option<&Value>) -> bool
@@ -168,8 +175,8 @@ impl LedgerState {
     pub(crate) fn may_record(&self, commit: u64) -> bool
         ensures { ForLedgers self.now (λ ledger. result ≡ may_record ledger commit) }
     {
-        if self.end.len == 1 {
-            commit == 2
+        if self.end.is_unopened {
+            follows(commit, self.end.len)
         } else {
             self.signs_at(commit) && self.end.commit <= commit && self.is_above_removals(commit)
         }
@@ -190,6 +197,13 @@ impl LedgerState {
         ensures { result ≡ self.now.end.len + 1 }
     {
         self.end.len + 1
+    }
+
+    /// Whether the last entry is a signature.
+    fn is_signed(&self) -> bool
+        ensures { ForLedgers self.now (λ ledger. result ≡ signs_at (last_entry ledger)) }
+    {
+        self.signs_at(self.end.len)
     }
 
     /// The entry breaks a rule that has no digest of its own.
@@ -284,6 +298,9 @@ impl LedgerState {
     {
         match self.end.last {
             None => is_founding(recording) && view == FIRST_VIEW,
+            Some(last) if is_recovering(recording) => {
+                follows(u64::from(view), u64::from(last.view))
+            }
             Some(last) => last.view <= view,
         }
     }
@@ -296,8 +313,8 @@ impl LedgerState {
             None => true,
             Some(last) => {
                 !is_founding(recording)
-                    && !is_recovering(recording)
-                    && (self.end.len != 1 || (is_signing(recording) && view == last.view))
+                    && (!is_recovering(recording) || self.is_signed())
+                    && (!self.end.is_unopened || (is_signing(recording) && view == last.view))
             }
         }
     }

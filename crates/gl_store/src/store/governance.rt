@@ -25,7 +25,8 @@ impl Store {
     ghost use Rattle.gl_gov_rules.specs.ProposalStatus.{proposal_status};
     ghost use Rattle.gl_gov.specs.State.{share_count};
     ghost use Rattle.gl_ledger.specs.Ledger.{HasViewsUpTo, genesis_entry, governance_entry};
-    ghost use Rattle.gl_ledger.specs.Recordings.{requests_of};
+    ghost use Rattle.gl_ledger.specs.Recordings.{last_entry, requests_of};
+    ghost use Rattle.gl_ledger.specs.Broken.{is_unopened};
     ghost use Rattle.gl_ledger.specs.Makers.{governance_made, govern_result, status_behind};
     ghost use Rattle.gl_store.specs.Calls.{Governs, Refuses};
 
@@ -39,7 +40,8 @@ impl Store {
         request: &GovernanceRequest,
     ) -> Result<(TxId, GovernanceEffect), OrNoMemory<Refusal>>
         requires up_to { HasViewsUpTo view self.old.ledger }
-        requires opened { 2 ≤ length self.old.ledger }
+        requires some { 0 < length self.old.ledger }
+        requires opened { is_unopened (last_entry self.old.ledger) ≡ false }
         requires fits { is_request request.now ≡ true }
         requires founding { is_founding request.now ≡ false }
         requires recovery { is_recovery request.now ≡ false }

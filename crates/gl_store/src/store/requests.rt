@@ -1,6 +1,6 @@
 //! What a store makes of requests.
 
-ghost use Rattle.std.specs.Prelude.{◌≡◌, ◌+◌, ◌≤◌, ◌<◌, ◌^◌, true, length, Ok, IfOk, IfErr, IfSome, OnErr, OnOk};
+ghost use Rattle.std.specs.Prelude.{◌≡◌, ◌+◌, ◌≤◌, ◌<◌, ◌^◌, true, false, length, Ok, IfOk, IfErr, IfSome, OnErr, OnOk};
 ghost use Rattle.gl_base.specs.TxId.{last_seqno};
 ghost use Rattle.gl_lms.specs.Types.{height};
 ghost use Rattle.gl_tx.specs.Request.{is_request};
@@ -23,8 +23,8 @@ impl Store {
     ghost use Rattle.gl_ledger.specs.Ledger.{HasViewsUpTo, signature_entry, sign_result};
     ghost use Rattle.gl_ledger.specs.Tree.{tables_of};
     ghost use Rattle.gl_ledger.specs.ServiceRow.{identity_in, service_state};
-    ghost use Rattle.gl_ledger.specs.Recordings.{recorded_nodes};
-    ghost use Rattle.gl_ledger.specs.Broken.{may_record};
+    ghost use Rattle.gl_ledger.specs.Recordings.{last_entry, recorded_nodes};
+    ghost use Rattle.gl_ledger.specs.Broken.{is_unopened, may_record};
     ghost use Rattle.gl_ledger.specs.NodeKeys.{service_layers};
     ghost use Rattle.gl_ledger.specs.declared.made.Given.TheVariants.{Replied};
     ghost use Rattle.gl_ledger.specs.Makers.{by_store, request_result};
@@ -40,7 +40,8 @@ impl Store {
         request: &Request,
     ) -> Result<(TxId, Reply), OrNoMemory<Refusal>>
         requires up_to { HasViewsUpTo view self.old.ledger }
-        requires opened { 2 ≤ length self.old.ledger }
+        requires some { 0 < length self.old.ledger }
+        requires opened { is_unopened (last_entry self.old.ledger) ≡ false }
         ensures made { IfOk result (λ made.
             Executes self.old view request.now made.0 made.1 self.new) }
         ensures refused { IfErr result (λ e.

@@ -2,8 +2,6 @@
 
 use super::*;
 use crate::NotOpening;
-use gl_entry::Signature;
-use gl_ledger::{Broken, EntryRefusal};
 use gl_receipt::{MakeFault, make, verify};
 
 // A store with a put behind its opening, and a signature of it.
@@ -25,7 +23,7 @@ fn first_entries(alloc: Global, store: &Store, count: usize) -> Result<Vec<Entry
 }
 
 // The store of another node, with that many of the entries.
-pub fn follower(alloc: Global, made: &Store, count: usize) -> Result<Store, Fail> {
+fn follower(alloc: Global, made: &Store, count: usize) -> Result<Store, Fail> {
     let mut store = Store::new(alloc)?;
     store.reserve(count)?;
     for entry in first_entries(alloc, made, count)? {
@@ -61,146 +59,6 @@ fn opens_with_its_first_two_entries_alone(rt: HostRuntime) -> Result<(), Fail> {
     for (count, seqno) in [(0, Some(0)), (1, Some(1)), (2, None), (3, Some(3))] {
         assert_eq!(rt; fault_of_opening(rt.alloc(), &made, count)?, seqno);
     }
-    Ok(())
-}
-
-// What is changed in an entry.
-#[derive(Clone, Copy)]
-pub enum Change {
-    Claims,
-    Seqno,
-    View,
-    Kind,
-    Request,
-    Writes,
-    Node,
-    Root,
-    Commit,
-    Bytes,
-}
-
-// The same bytes but for the lowest bit of one.
-fn other_bytes(bytes: Bytes, place: usize) -> Result<Bytes, Fail> {
-    let mut bytes = bytes.into_vec();
-    if place >= bytes.len() {
-        return Err(Fail::from("too few bytes"));
-    }
-    bytes[place] ^= 1;
-    Ok(Bytes::from(bytes))
-}
-
-fn changed_signature(change: Change, signature: Signature) -> Result<Signature, Fail> {
-    Ok(match change {
-        Change::Node => Signature {
-            node: [1; 32],
-            ..signature
-        },
-        Change::Root => Signature {
-            root: [1; 32],
-            ..signature
-        },
-        Change::Commit => Signature {
-            commit: 1,
-            ..signature
-        },
-        Change::Bytes => Signature {
-            signature: other_bytes(signature.signature, 4000)?,
-            ..signature
-        },
-        _ => signature,
-    })
-}
-
-fn changed_content(change: Change, content: Content) -> Result<Content, Fail> {
-    Ok(match (change, content) {
-        (Change::Kind, _) => Content::Evidence([1; 32]),
-        // The first byte of the map's name: it is none that is public.
-        (Change::Request, Content::Application(bytes)) => {
-            Content::Application(other_bytes(bytes, 4)?)
-        }
-        // A byte of the first node's endorsement.
-        (Change::Request, Content::Governance(bytes)) => {
-            Content::Governance(other_bytes(bytes, 300)?)
-        }
-        (_, Content::Signature(signature)) => {
-            Content::Signature(changed_signature(change, signature)?)
-        }
-        (_, content) => content,
-    })
-}
-
-fn changed(alloc: Global, change: Change, entry: Entry) -> Result<Entry, Fail> {
-    Ok(match change {
-        Change::Claims => Entry {
-            claims: [1; 32],
-            ..entry
-        },
-        Change::Seqno => Entry { seqno: 7, ..entry },
-        Change::View => Entry { view: 1, ..entry },
-        Change::Writes => Entry {
-            writes: Writes::new(alloc),
-            ..entry
-        },
-        _ => Entry {
-            content: changed_content(change, entry.content)?,
-            ..entry
-        },
-    })
-}
-
-// The rule that the entry with a seqno breaks behind those before it, once it is changed.
-pub fn broken(alloc: Global, made: &Store, seqno: u64, change: Change) -> Result<Broken, Fail> {
-    let mut store = follower(alloc, made, (seqno as usize).saturating_sub(1))?;
-    let entry = made.entry(seqno).ok_or("no entry")?.copy(alloc)?;
-    match store.apply_entry(changed(alloc, change, entry)?) {
-        Err(OrNoMemory::Fault(broken)) => Ok(broken),
-        _ => Err(Fail::from("it breaks no rule")),
-    }
-}
-
-// A change of the entry with a seqno, and the rule that it then breaks.
-const BROKEN_RULES: [(u64, Change, u8); 13] = [
-    (4, Change::Claims, 1),
-    (3, Change::Seqno, 2),
-    (3, Change::View, 3),
-    (2, Change::Kind, 4),
-    (3, Change::Request, 5),
-    (3, Change::Writes, 6),
-    (3, Change::Claims, 6),
-    (1, Change::Request, 7),
-    (1, Change::Writes, 8),
-    (4, Change::Node, 9),
-    (4, Change::Commit, 10),
-    (4, Change::Bytes, 11),
-    (4, Change::Kind, 12),
-];
-
-#[test]
-fn refuses_entries_by_the_first_rule_that_they_break(rt: HostRuntime) -> Result<(), Fail> {
-    let made = with_signed_put(rt.alloc())?;
-    for (seqno, change, rule) in BROKEN_RULES {
-        let broken = broken(rt.alloc(), &made, seqno, change)?;
-        assert_eq!(rt; broken.rule, rule);
-    }
-    Ok(())
-}
-
-#[test]
-fn tells_the_root_that_a_signature_has_to_have(rt: HostRuntime) -> Result<(), Fail> {
-    let made = with_signed_put(rt.alloc())?;
-    let broken = broken(rt.alloc(), &made, 4, Change::Root)?;
-    let replay = EntryRefusal::Replay {
-        seqno: 4,
-        wanted: ROOT_BEHIND_PUT,
-        found: [1; 32],
-    };
-    assert_eq!(rt;
-        broken,
-        Broken {
-            rule: 9,
-            refusal: replay
-        }
-    );
     Ok(())
 }
 

@@ -1,4 +1,4 @@
-//! A request of governance that is taken, and one that is refused.
+//! A request of governance that is taken.
 
 ghost use Rattle.std.specs.Prelude.{◌≡◌, true};
 ghost use Rattle.gl_requests.specs.Ranges.{is_request};
@@ -7,10 +7,6 @@ ghost use Rattle.gl_ledger.specs.Ledger.{HasViewsUpTo};
 
 use super::*;
 use gl_gov::is_founding;
-use gl_gov_rules::GovernanceRefusal;
-
-// Marks the node of these 32 letters.
-const MARK: &[u8] = b"\x04abcdefghijklmnopqrstuvwxyzabcdef";
 
 fn is_recovery(request: &GovernanceRequest) -> bool
     ensures { result ≡ is_recovery request.now }
@@ -23,7 +19,11 @@ fn govern(store: &mut Store, request: &GovernanceRequest) -> Result<TxId, OrNoMe
     requires up_to { HasViewsUpTo 2 store.old.ledger }
     requires fits { is_request request.now ≡ true }
 {
-    if store.ledger_len() < 2 || is_founding(request) || is_recovery(request) {
+    if store.ledger_len() == 0
+        || store.is_unopened()
+        || is_founding(request)
+        || is_recovery(request)
+    {
         return Err(OrNoMemory::NoMemory);
     }
     match store.govern(2, request) {
@@ -53,22 +53,5 @@ fn takes_a_node_that_joins(rt: HostRuntime) -> Result<(), Fail> {
         Err(_) => return Err(Fail::from("it is refused")),
     }
     assert!(rt; store.is_recorded(&Sha256::digest(&key)));
-    Ok(())
-}
-
-#[test]
-fn refuses_the_mark_of_a_node_that_is_not_recorded(rt: HostRuntime) -> Result<(), Fail> {
-    let alloc = rt.alloc();
-    let request = GovernanceRequest::decode(alloc, MARK)?;
-    let mut store = opened(alloc, ServiceState::Open)?;
-    match govern(&mut store, &request) {
-        Err(OrNoMemory::Fault(refusal)) => {
-            let status = None;
-            let why = GovernanceRefusal::NodeState { status };
-            assert_eq!(rt; refusal, Refusal::Governance(why));
-        }
-        _ => return Err(Fail::from("it is not refused")),
-    }
-    assert_eq!(rt; store.ledger_len(), 2);
     Ok(())
 }

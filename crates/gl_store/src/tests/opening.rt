@@ -20,18 +20,6 @@ const REQUEST: Digest = [
     0x76, 0x59, 0x79, 0x53, 0x41, 0x2b, 0x31, 0x72, 0xd1, 0xc3, 0x37, 0x67, 0x91, 0x62, 0x70, 0xac,
 ];
 
-#[test]
-fn opens_with_places_of_two_entries(rt: HostRuntime) -> Result<(), Fail> {
-    let store = opened(rt.alloc(), ServiceState::Open)?;
-    assert_eq!(rt; store.ledger_len(), 2);
-    assert_eq!(rt; store.commit(), 2);
-    assert_eq!(rt; store.last_signature(), 2);
-    assert_eq!(rt; store.view_at(0), None);
-    assert_eq!(rt; store.view_at(1), Some(2));
-    assert_eq!(rt; store.view_at(3), None);
-    Ok(())
-}
-
 // Whether the content is a request of governance whose bytes have this digest.
 fn is_governance_of(content: &Content, digest: &Digest) -> bool {
     match content {
@@ -41,22 +29,15 @@ fn is_governance_of(content: &Content, digest: &Digest) -> bool {
 }
 
 #[test]
-fn opens_with_its_genesis(rt: HostRuntime) -> Result<(), Fail> {
+fn opens_with_its_genesis_and_a_signature(rt: HostRuntime) -> Result<(), Fail> {
     let store = opened(rt.alloc(), ServiceState::Opening)?;
-    let entry = store.entry(1).ok_or("no entry")?;
-    assert_eq!(rt; id_of(entry), TxId { view: 2, seqno: 1 });
-    assert!(rt; is_governance_of(&entry.content, &REQUEST));
-    assert_eq!(rt; entry.claims, [0; 32]);
-    Ok(())
-}
-
-#[test]
-fn opens_with_a_signature_of_its_genesis(rt: HostRuntime) -> Result<(), Fail> {
-    let store = opened(rt.alloc(), ServiceState::Opening)?;
-    let entry = store.entry(2).ok_or("no entry")?;
-    assert_eq!(rt; id_of(entry), TxId { view: 2, seqno: 2 });
-    assert!(rt; is_signature_of(&entry.content, 2, &FIRST_LEAF, &FIRST_SIGNATURE));
-    assert_eq!(rt; entry.writes.as_slice().len(), 0);
-    assert_eq!(rt; entry.claims, [0; 32]);
+    assert_eq!(rt; (store.ledger_len(), store.commit()), (2, 2));
+    let [genesis, opening] = store.entries() else {
+        return Err(Fail::from("not two entries"));
+    };
+    assert_eq!(rt; id_of(genesis), TxId { view: 2, seqno: 1 });
+    assert!(rt; is_governance_of(&genesis.content, &REQUEST));
+    assert_eq!(rt; id_of(opening), TxId { view: 2, seqno: 2 });
+    assert!(rt; is_signature_of(&opening.content, 2, &FIRST_LEAF, &FIRST_SIGNATURE));
     Ok(())
 }

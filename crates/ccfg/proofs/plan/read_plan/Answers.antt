@@ -1,7 +1,7 @@
-use Rattle.std.proofs.Common.{refl}
+use Rattle.std.proofs.Common.{refl, ap, sym, ◌∙◌}
 use Rattle.gl_audit.specs.Verdict.{verdict}
-use Rattle.ccfg.specs.Owed.{due_of_audit, due_of_receipt, due_of_schedule}
-use Rattle.ccfg.specs.declared.words.Task.TheVariants.{Audit, Replay, Verify}
+use Rattle.ccfg.specs.Owed.{due_of_audit, due_of_dealing, due_of_receipt, due_of_schedule}
+use Rattle.gl_commands.specs.declared.task.Task.TheVariants.{Audit, Deal, Replay, Verify}
 use Rattle.ccfg.proofs.KeyLemmas.{task_due}
 use Rattle.ccfg.proofs.ShownLemmas.{diskless_due}
 use Rattle.ccfg.proofs.SigningLemmas.{signing_due}
@@ -28,3 +28,10 @@ returns-in-Keygen-clause-due g c =
 pub returns-in-Sign-clause-due : goal.returns-in-Sign-clause-due
 returns-in-Sign-clause-due g c =
     signing_due c.args.task.now c.in-Sign.signing g.D.Disk.honest (g.D.Disk.bytes c.args.disk) (g.S.Source.left c.args.source.now) c.signing_plan.result.0 c.in-Sign.is c.signing_plan.ensures.due
+
+pub returns-in-Deal-clause-due : goal.returns-in-Deal-clause-due
+returns-in-Deal-clause-due g c =
+    let threshold = c.in-Deal.threshold in
+    let members = c.as_slice.result.now in
+    diskless_due c.args.task.now (Deal threshold members) (due_of_dealing threshold members) g.D.Disk.honest (g.D.Disk.bytes c.args.disk) (g.S.Source.left c.args.source.now) c.read_dealing_plan.result
+    (c.in-Deal.is ∙ ap (Deal threshold) (sym c.as_slice.ensures)) (λ h given. refl) c.read_dealing_plan.ensures.due

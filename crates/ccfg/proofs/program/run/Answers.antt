@@ -2,7 +2,7 @@ use Rattle.std.proofs.Common.{inr, refl, rules}
 use Rattle.ccfg.specs.Faults.{fault_line}
 use Rattle.ccfg.specs.declared.fault.Fault.TheVariants.{TooMuchJson}
 use Rattle.ccfg.proofs.MomentLemmas.{nothing_done}
-use Rattle.ccfg.proofs.WordLemmas.{memory_answers}
+use Rattle.ccfg.proofs.AnswerLemmas.{memory_answers}
 use Rattle.ccfg.proofs.program.run.Goals as goal
 
 pub returns-in-Err-NoMemory-clause-answers : goal.returns-in-Err-NoMemory-clause-answers

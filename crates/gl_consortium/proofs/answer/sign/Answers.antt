@@ -3,9 +3,9 @@ use Rattle.gl_base.specs.declared.or_no_memory.OrNoMemory.TheVariants.{Fault}
 use Rattle.gl_journal.specs.declared.fault.JournalFault.TheVariants.{DiskFault}
 use Rattle.gl_keyfile.specs.KeyFile.{held}
 use Rattle.gl_keyfile.specs.Leaf.{after_leaf}
+use Rattle.gl_keyfile.specs.Signing.{use_of}
 use Rattle.gl_keyfile.specs.declared.fault.KeyFileFault.TheVariants.{Journal}
 use Rattle.gl_keyfile.proofs.Keeping.{none_done}
-use Rattle.gl_consortium.specs.Signing.{use_of}
 use Rattle.gl_consortium.specs.declared.fault.SigningFault.TheVariants.{DiskFailed}
 use Rattle.gl_consortium.proofs.Keeping.{failed_so, of_keeping}
 use Rattle.gl_consortium.proofs.Owing.{fault_owed, left_of_told, owed_no_disk}

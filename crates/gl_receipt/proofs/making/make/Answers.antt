@@ -11,5 +11,5 @@ returns-clause-accepted g c =
     let e = c.in_ok-entry.entry.now in
     let s = c.in_ok-signature.signature.now in
     let made : record { leaf_components = c.in_ok-components.field-0; proof = c.from.result; signature = c.from-2.result; signed = c.signed_in_entry.result } ≡ receipt_by l c.args.id e s = search rules in
-    λ is. subst (λ (r : Receipt). Accepts l.identity r c.args.id) (sym made)
-    (accepted l c.args.id e s c.in_ok-entry.ensures.found c.in_ok-entry.ensures.numbered c.in_ok-signature.ensures.above c.in_ok-signature.ensures.numbered c.in_ok-signature.ensures.signs is)
+    λ is. subst (λ (r : Receipt). Accepts (l.identity c.args.id.seqno) r c.args.id) (sym made)
+    (accepted l c.args.id e s c.in_ok-entry.ensures.found c.in_ok-entry.ensures.numbered c.in_ok-signature.ensures.found c.in_ok-signature.ensures.above c.in_ok-signature.ensures.numbered c.in_ok-signature.ensures.signs is)

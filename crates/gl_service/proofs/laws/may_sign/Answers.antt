@@ -1,9 +1,8 @@
-use Rattle.gl_ledger.proofs.Opened.{begins_opening, opened_configured}
 use Rattle.gl_service.proofs.Leading.{recorded, records}
 use Rattle.gl_service.proofs.laws.may_sign.Goals as goal
 
 pub returns : goal.returns
 returns c = record {
-  recorded = λ layers keys s h events x leads. recorded layers keys s (begins_opening layers keys s h) (opened_configured layers keys s.opening s.first h.checked) events x leads;
-  commit = λ layers keys s h events x leads. records layers keys s (begins_opening layers keys s h) (opened_configured layers keys s.opening s.first h.checked) events x leads;
+  recorded = λ layers keys s h events x leads. recorded layers keys s h events x leads;
+  commit = λ layers keys s h events x leads. records layers keys s h events x leads;
 }

@@ -22,7 +22,7 @@ returns-clause-made c =
     let old = c.self.inside.store in
     let m = c.in-Ok.ensures.made in
     let low : c.args.view < 2 ^ 32 = search rules in
-    let may : MayMake c.args.self.now c.args.view = may_make_behind service_layers c.args.self.now c.args.view c.requires.sound c.requires.opened c.requires.up_to in
+    let may : MayMake c.args.self.now c.args.view = may_make_behind service_layers c.args.self.now c.args.view c.requires.some c.requires.opened c.requires.up_to in
     subst (λ (es : List Entry). Takes (executed es c.args.view c.args.request.now) c.args.view (Replied c.in-Ok.made.1) es c.execute.new.self.ledger) c.self.view_is
     (takes_untried old.ledger c.args.view c.args.request.now m.entry c.in-Ok.made.1 m.made c.execute.new.self.ledger low
     (subst (λ (es : List Entry). MayMake es c.args.view) (sym c.self.view_is) may) (ap (λ (h : Held). h.ledger) m.enters.entered))

@@ -15,7 +15,7 @@ returns-clause-made c =
     let old = c.self.inside.store in
     let m = c.in-Ok.ensures.made in
     let low : c.args.view < 2 ^ 32 = search rules in
-    let may : MayMake c.args.self.now c.args.view = may_make_behind service_layers c.args.self.now c.args.view c.requires.sound c.requires.opened c.requires.up_to in
+    let may : MayMake c.args.self.now c.args.view = may_make_behind service_layers c.args.self.now c.args.view c.requires.some c.requires.opened c.requires.up_to in
     subst (λ (es : List Entry). Takes (governed es c.args.view c.args.request.now) c.args.view (Governed c.in-Ok.effect.proposal) es c.list_last.new.store.ledger) c.self.view_is
     (governs_untried old.ledger c.args.view c.args.request.now m.entry c.in-Ok.effect.proposal m.made c.in-Ok.ensures.status c.list_last.new.store.ledger low
     (subst (λ (es : List Entry). MayMake es c.args.view) (sym c.self.view_is) may) (subst (λ (es : List Entry). IsSound service_layers es) (sym c.self.view_is) c.requires.sound)

@@ -1,10 +1,20 @@
-use Rattle.std.proofs.Common.{◌≡◌, ◌≤◌, ◌∙◌, length, take, ap, subst, sym, arith}
+use Rattle.std.proofs.Common.{◌≡◌, ◌≤◌, ◌∙◌, List, IfSome, length, take, ap, subst, sym, arith}
 use Rattle.gl_merkle.specs.Frontier.{count_of}
-use Rattle.gl_store.specs.Ends.{end_of}
+use Rattle.gl_entry.specs.declared.entry.Entry.{Entry}
+use Rattle.gl_ledger.specs.NodeKeys.{service_layers}
+use Rattle.gl_ledger.specs.Recordings.{last_entry}
+use Rattle.gl_store.specs.Ends.{IsRead, end_of}
 use Rattle.gl_store.specs.Kept.{Held}
+use Rattle.gl_store.proofs.Cutting.{audited-take}
 use Rattle.gl_store.proofs.Keeping.{state-cut, kept-cut}
+use Rattle.gl_store.proofs.LastEntries.{last_read}
 use Rattle.gl_store.proofs.TablesLaws.{count_of_frontier}
 use Rattle.gl_store.proofs.store.Store.cut.Goals as goal
+
+pub of-requires-clause-read : goal.of-requires-clause-read
+of-requires-clause-read c =
+    subst (λ (es : List Entry). IfSome (last_entry es) IsRead) (sym (c.deref.ensures.value ∙ c.truncate.ensures.items))
+    (last_read (take c.args.to c.self.inside.entries.items) (audited-take service_layers c.self.inside.entries.items c.args.to c.self.invariant.stands.valid))
 
 pub cut-requires-clause-within : goal.cut-requires-clause-within
 cut-requires-clause-within c =

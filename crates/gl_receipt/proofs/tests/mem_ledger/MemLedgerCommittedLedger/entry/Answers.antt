@@ -6,6 +6,6 @@ use Rattle.gl_receipt.proofs.tests.mem_ledger.MemLedgerCommittedLedger.entry.Goa
 
 pub returns-clause-numbered : goal.returns-clause-numbered
 returns-clause-numbered c =
-    let same : c.self.inside.entries.items ≡ c.args.self.now.entries = search rules in
-    let there : option_copied c.entry_in.result ≡ entry_at c.args.self.now.entries c.args.seqno = search rules in
-    entry_numbered c.args.self.now.entries c.args.seqno c.entry_in.result (subst AreInOrder same c.self.invariant.1) there
+    let same : c.self.inside.entries.items ≡ c.args.self.now.0 = search rules in
+    let there : option_copied c.entry_in.result ≡ entry_at c.args.self.now.0 c.args.seqno = search rules in
+    entry_numbered c.args.self.now.0 c.args.seqno c.entry_in.result (subst AreInOrder same c.self.invariant.1) there

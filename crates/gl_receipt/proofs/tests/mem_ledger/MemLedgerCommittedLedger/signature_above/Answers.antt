@@ -6,12 +6,12 @@ use Rattle.gl_receipt.proofs.tests.mem_ledger.MemLedgerCommittedLedger.signature
 
 pub returns-clause-above : goal.returns-clause-above
 returns-clause-above c =
-    let same : c.self.inside.entries.items ≡ c.args.self.now.entries = search rules in
-    let first : option_copied c.signature_in.result ≡ signature_above c.args.self.now.entries c.args.seqno = search rules in
-    signature_behind c.args.self.now.entries c.args.seqno c.signature_in.result (subst AreInOrder same c.self.invariant.1) first
+    let same : c.self.inside.entries.items ≡ c.args.self.now.0 = search rules in
+    let first : option_copied c.signature_in.result ≡ signature_above c.args.self.now.0 c.args.seqno = search rules in
+    signature_behind c.args.self.now.0 c.args.seqno c.signature_in.result (subst AreInOrder same c.self.invariant.1) first
 
 pub returns-clause-numbered : goal.returns-clause-numbered
 returns-clause-numbered c =
-    let same : c.self.inside.entries.items ≡ c.args.self.now.entries = search rules in
-    let first : option_copied c.signature_in.result ≡ signature_above c.args.self.now.entries c.args.seqno = search rules in
-    signature_numbered c.args.self.now.entries c.args.seqno c.signature_in.result (subst AreInOrder same c.self.invariant.1) first
+    let same : c.self.inside.entries.items ≡ c.args.self.now.0 = search rules in
+    let first : option_copied c.signature_in.result ≡ signature_above c.args.self.now.0 c.args.seqno = search rules in
+    signature_numbered c.args.self.now.0 c.args.seqno c.signature_in.result (subst AreInOrder same c.self.invariant.1) first

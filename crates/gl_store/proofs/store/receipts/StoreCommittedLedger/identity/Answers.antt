@@ -1,9 +1,8 @@
-use Rattle.std.proofs.Common.{◌<◌, length, subst, sym}
-use Rattle.gl_store.specs.Kept.{Held}
-use Rattle.gl_store.proofs.Keeping.{keyed}
+use Rattle.std.proofs.Common.{◌≡◌, ℕ, List, Option, IfNone, subst, arith}
 use Rattle.gl_store.proofs.store.receipts.StoreCommittedLedger.identity.Goals as goal
 
 pub unreachable-requires : goal.unreachable-requires
 unreachable-requires c =
-    let ledger = c.self.inside.entries.items in
-    keyed ledger _ c.self.invariant.stands (subst (λ (h : Held). 0 < length h.ledger) (sym c.self.view_is) c.requires) c.in_default.is
+    let some = c.requires.from_one in
+    let none : c.args.seqno ≡ 0 = subst (λ (o : Option (List ℕ)). IfNone o (c.args.seqno ≡ 0)) c.in_default.is c.key_at.ensures.none in
+    omega (arith, some, none)

@@ -1,0 +1,104 @@
+//! What there is to do where a recovery secret is to be dealt.
+
+ghost use Rattle.std.specs.Prelude.{◌≡◌, ◌≢◌, ◌<◌, ◌≤◌, Err, IfErr, IfOk, drop, length, take};
+ghost use Rattle.gl_outside.specs.Fault.{Rose};
+ghost use Rattle.gl_audit.specs.Given.{OfBytes};
+ghost use Rattle.ccfg.specs.Owed.{EndsSource, dealing_len, due_of_dealing, secret_len};
+ghost use Rattle.ccfg.specs.Plans.{PlansPlayable, due_of_plan};
+ghost use Rattle.ccfg.specs.declared.fault.Fault.TheVariants.{Short};
+
+use crate::fault::Fault;
+use crate::load::{LoadStop, load};
+use crate::plan::{Plan, PlanStop};
+use gl_dealing::{can_deal, deal_text};
+use gl_outside::Source;
+use std::alloc::{AllocError, Global};
+
+/// How many bytes a recovery secret has, and how many the seed of its dealing.
+const SECRET_LEN: usize = 32;
+
+/// How many bytes both have.
+const DEALING_LEN: usize = 64;
+
+/// A recovery secret, and the seed of its dealing.
+#[derive(Clone, Copy)]
+struct Dealt {
+    secret: [u8; SECRET_LEN],
+    seed: [u8; SECRET_LEN],
+}
+
+/// The secret that these bytes begin with and the seed behind it; they are not more than both have.
+fn secret_in(text: &[u8]) -> Result<Dealt, Fault>
+    requires { length text.now ≤ dealing_len }
+    ensures secret { IfOk result (λ dealt. dealt.secret ≡ take secret_len text.now) }
+    ensures seed { IfOk result (λ dealt. dealt.seed ≡ drop secret_len text.now) }
+    ensures sized { IfOk result (λ dealt. length text.now ≡ dealing_len) }
+    ensures short { IfErr result (λ fault.
+        (fault ≡ Short (length text.now)) × (length text.now < dealing_len)) }
+{
+    if let Some((secret, rest)) = text.split_first_chunk::<SECRET_LEN>() {
+        if let Some(seed) = rest.first_chunk::<SECRET_LEN>() {
+            return Ok(Dealt {
+                secret: *secret,
+                seed: *seed,
+            });
+        }
+    }
+    Err(Fault::Short {
+        at: text.len() as u64,
+    })
+}
+
+/// What there is to do with bytes that are not more than a secret and the seed of its dealing have.
+/// Their length is tried before the members.
+#[tactic(auto, unfolding(crate::specs::Owed::due_of_dealing))]
+fn dealing_plan(
+    alloc: Global,
+    threshold: u64,
+    members: &[u64],
+    text: &[u8],
+) -> Result<Plan, AllocError>
+    requires { length text.now ≤ dealing_len }
+    ensures due { IfOk result (λ plan.
+        due_of_dealing threshold members.now text.now ≡ due_of_plan plan) }
+    ensures playable { IfOk result (λ plan. PlansPlayable plan) }
+{
+    match secret_in(text) {
+        Ok(dealt) if can_deal(threshold, members) => {
+            let told = deal_text(alloc, threshold, members, &dealt.secret, dealt.seed)?;
+            Ok(Plan::Tell(told))
+        }
+        Ok(_) => Ok(Plan::Refuse(Fault::BadDealing)),
+        Err(fault) => Ok(Plan::Refuse(fault)),
+    }
+}
+
+/// What there is to do with what a source gives, which is to be a secret and the seed of its
+/// dealing among members.
+pub fn read_dealing_plan<S: Source>(
+    alloc: Global,
+    threshold: u64,
+    members: &[u64],
+    source: &mut S,
+) -> Result<Plan, PlanStop>
+    ensures due { IfOk result (λ plan. OfBytes (S.left source.old) (λ given.
+        due_of_dealing threshold members.now given ≡ due_of_plan plan)) }
+    ensures ended { IfOk result (λ plan. EndsSource (due_of_plan plan) (S.ended source.new)) }
+    ensures playable { IfOk result (λ plan. PlansPlayable plan) }
+    ensures failed { result ≡ Err PlanStop.SourceFailed →
+        Rose (S.faults source.old) (S.faults source.new) }
+    ensures no_disk { result ≢ Err PlanStop.DiskFailed }
+{
+    match load(alloc, DEALING_LEN, source) {
+        Ok(text) => match dealing_plan(alloc, threshold, members, &text) {
+            Ok(plan) => Ok(plan),
+            Err(_) => Err(PlanStop::Memory),
+        },
+        Err(LoadStop::TooLong) => {
+            let at = DEALING_LEN as u64;
+            Ok(Plan::Refuse(Fault::Trailing { at }))
+        }
+        Err(LoadStop::Memory) => Err(PlanStop::Memory),
+        Err(LoadStop::Failed) => Err(PlanStop::SourceFailed),
+    }
+}

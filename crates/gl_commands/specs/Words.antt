@@ -1,0 +1,184 @@
+-- What the words ask for that the program is called with, as the library for command lines reads
+-- them.
+use Rattle.std.specs.Prelude.{◌≡◌, ℕ, List, [], ◌∷◌, Option, None, Some, Result, Ok, Err, Bool, ◌&&◌, ◌^◌, map, nat_le, nat_lt, codes, if◌then◌else◌}
+use Rattle.std.specs.List.{list_all}
+use Rattle.std.specs.Str.{bytes_eq}
+use Rattle.std.specs.Str.Parse.{digits_value}
+use Rattle.clap.specs.Faults.{fault_of}
+use Rattle.clap.specs.Kinds.{Kinds, IsAmong}
+use Rattle.clap.specs.Simple.{subcommand_of}
+use Rattle.clap.specs.Walk.{Row, Text, all_of, first_of}
+use Rattle.clap.specs.declared.error.kind.ErrorKind.{ErrorKind}
+use Rattle.clap.specs.declared.error.kind.ErrorKind.TheVariants as kinds
+use Rattle.gl_journal.specs.declared.key.KeyKind.{KeyKind}
+use Rattle.gl_journal.specs.declared.key.KeyKind.TheVariants.{Service, Node, Member}
+use Rattle.gl_keyfile.specs.declared.signing.Signing.TheVariants.{Endorsement, Opening, Request}
+use Rattle.gl_lines.specs.Numbers.{is_decimal}
+use Rattle.gl_lines.specs.Words.{hex_sized}
+use Rattle.gl_lines.specs.declared.fault.LineFault.{LineFault}
+use Rattle.gl_lms.specs.declared.types.Types.{Types}
+use Rattle.gl_lms.specs.declared.types.Types.TheVariants.{H5W4, H5W8, H10W4, H10W8}
+use Rattle.gl_commands.specs.Commands.{program}
+use Rattle.gl_commands.specs.declared.task.Task.{Task}
+use Rattle.gl_commands.specs.declared.task.Task.TheVariants as tasks
+use Rattle.gl_commands.specs.declared.task.WordsFault.{WordsFault}
+use Rattle.gl_commands.specs.declared.task.WordsFault.TheVariants as faults
+
+abbrev pub spelled_key : Result (List ℕ) LineFault → Result (List ℕ) Kinds
+spelled_key (Ok key) = Ok key
+spelled_key (Err fault) = Err (kinds.ValueValidation ∷ [])
+
+-- The key is a word of 120 digits of lower-case hexadecimal.
+abbrev pub asked_identity : Option Text → Result (List ℕ) Kinds
+asked_identity None = Err (kinds.MissingRequiredArgument ∷ [])
+asked_identity (Some word) = spelled_key (hex_sized word 60)
+
+-- What the command with a name asks for under a key.
+abbrev pub task_under : Text → List ℕ → Task
+task_under name key =
+    if bytes_eq name (codes "audit") then tasks.Audit key else tasks.Verify key
+
+abbrev pub asked_under : Text → Result (List ℕ) Kinds → Result Task Kinds
+asked_under name (Ok key) = Ok (task_under name key)
+asked_under name (Err told) = Err told
+
+-- The kind of key that a word names.
+abbrev pub named_kind : Text → Option KeyKind
+named_kind word =
+    if bytes_eq word (codes "service") then Some Service
+    else (if bytes_eq word (codes "node") then Some Node
+    else (if bytes_eq word (codes "member") then Some Member else None))
+
+-- The parameter set that a word names.
+abbrev pub named_types : Text → Option Types
+named_types word =
+    if bytes_eq word (codes "h5w4") then Some H5W4
+    else (if bytes_eq word (codes "h5w8") then Some H5W8
+    else (if bytes_eq word (codes "h10w4") then Some H10W4
+    else (if bytes_eq word (codes "h10w8") then Some H10W8 else None)))
+
+abbrev pub valid_value : {A : Type 0} → Option A → Result A Kinds
+valid_value None = Err (kinds.InvalidValue ∷ [])
+valid_value (Some value) = Ok value
+
+-- What an option asks for whose word has to be a name.
+abbrev pub asked_name : {A : Type 0} → (Text → Option A) → Option Text → Result A Kinds
+asked_name named None = Err (kinds.MissingRequiredArgument ∷ [])
+asked_name named (Some word) = valid_value (named word)
+
+-- The kind of key is tried before the types.
+abbrev pub asked_key : Result KeyKind Kinds → Result Types Kinds → Result Task Kinds
+asked_key (Err told) types = Err told
+asked_key (Ok kind) (Err told) = Err told
+asked_key (Ok kind) (Ok types) = Ok (tasks.Keygen kind types)
+
+abbrev pub asked_keygen : Option Text → Option Text → Result Task Kinds
+asked_keygen kind types = asked_key (asked_name named_kind kind) (asked_name named_types types)
+
+-- A member has a number from 1 to 255.
+abbrev pub is_member : ℕ → Bool
+is_member number = nat_le 1 number && nat_le number 255
+
+-- It is spelled in decimal, without a sign and without a leading zero.
+abbrev pub spelled_member : Text → Result ℕ Kinds
+spelled_member word =
+    if is_decimal word && is_member (digits_value 10 word) then Ok (digits_value 10 word)
+    else Err (kinds.ValueValidation ∷ [])
+
+abbrev pub asked_member : Option Text → Result ℕ Kinds
+asked_member None = Err (kinds.MissingRequiredArgument ∷ [])
+asked_member (Some word) = spelled_member word
+
+-- The service's key is tried before the member's number.
+abbrev pub asked_request : Result (List ℕ) Kinds → Result ℕ Kinds → Result Task Kinds
+asked_request (Err told) member = Err told
+asked_request (Ok key) (Err told) = Err told
+asked_request (Ok key) (Ok member) = Ok (tasks.Sign (Request key member))
+
+abbrev pub asked_sign : Option Text → Option Text → Result Task Kinds
+asked_sign identity member = asked_request (asked_identity identity) (asked_member member)
+
+-- A number of 64 bits, spelled in decimal, without a sign and without a leading zero.
+abbrev pub is_number : Text → Bool
+is_number word = is_decimal word && nat_lt (digits_value 10 word) (2 ^ 64)
+
+abbrev pub asked_number : Option Text → Result ℕ Kinds
+asked_number None = Err (kinds.MissingRequiredArgument ∷ [])
+asked_number (Some word) =
+    if is_number word then Ok (digits_value 10 word) else Err (kinds.ValueValidation ∷ [])
+
+abbrev pub asked_numbers : Option (List Text) → Result (List ℕ) Kinds
+asked_numbers None = Err (kinds.MissingRequiredArgument ∷ [])
+asked_numbers (Some words) =
+    if list_all is_number words then Ok (map (digits_value 10) words)
+    else Err (kinds.ValueValidation ∷ [])
+
+-- The threshold is tried before the members' numbers.
+abbrev pub asked_dealing : Result ℕ Kinds → Result (List ℕ) Kinds → Result Task Kinds
+asked_dealing (Err told) members = Err told
+asked_dealing (Ok threshold) (Err told) = Err told
+asked_dealing (Ok threshold) (Ok members) = Ok (tasks.Deal threshold members)
+
+abbrev pub asked_deal : Option Text → Option (List Text) → Result Task Kinds
+asked_deal threshold members = asked_dealing (asked_number threshold) (asked_numbers members)
+
+-- What a command with an option for a service's key asks for with these values of them.
+abbrev pub asked_with_identity : Text → List Row → Result Task Kinds
+asked_with_identity name rows =
+    if bytes_eq name (codes "sign")
+    then asked_sign (first_of (codes "identity") rows) (first_of (codes "member") rows)
+    else asked_under name (asked_identity (first_of (codes "identity") rows))
+
+-- What a command with options but `deal` asks for with these values of them.
+abbrev pub asked_options : Text → List Row → Result Task Kinds
+asked_options name rows =
+    if bytes_eq name (codes "keygen")
+    then asked_keygen (first_of (codes "kind") rows) (first_of (codes "types") rows)
+    else asked_with_identity name rows
+
+-- What a command with options or words asks for with these.
+abbrev pub asked_with_words : Text → List Row → Result Task Kinds
+asked_with_words name rows =
+    if bytes_eq name (codes "deal")
+    then asked_deal (first_of (codes "threshold") rows) (all_of (codes "members") rows)
+    else asked_options name rows
+
+-- What a command without options asks for.
+abbrev pub plain_task : Text → Option Task
+plain_task name =
+    if bytes_eq name (codes "replay") then Some tasks.Replay
+    else (if bytes_eq name (codes "endorse") then Some (tasks.Sign Endorsement)
+    else (if bytes_eq name (codes "genesis") then Some (tasks.Sign Opening) else None))
+
+abbrev pub unless_plain : Option Task → Result Task Kinds → Result Task Kinds
+unless_plain (Some task) other = Ok task
+unless_plain None other = other
+
+-- What a command asks for with these values of its options.
+abbrev pub asked_command : Option (Text × List Row) → Result Task Kinds
+asked_command None = Err (kinds.MissingSubcommand ∷ [])
+asked_command (Some command) =
+    unless_plain (plain_task command.0) (asked_with_words command.0 command.1)
+
+-- The faults that the library finds come first.
+abbrev pub unless_faulty : Kinds → Result Task Kinds → Result Task Kinds
+unless_faulty [] task = task
+unless_faulty (kind ∷ more) task = Err (kind ∷ more)
+
+-- What the words ask for, or the kinds of fault of which one is told.
+unfoldable pub asked : List Text → Result Task Kinds
+asked words = unless_faulty (fault_of program words) (asked_command (subcommand_of program words))
+
+-- The words ask for nothing, and this is the kind of fault that is told.
+abbrev pub Refuses : Result Task Kinds → ErrorKind → Type 0
+Refuses asked kind = (told : Kinds) × (asked ≡ Err told) × IsAmong kind told
+
+-- Memory ran out, or nothing is asked for, and this kind of fault alone is told.
+abbrev pub RefusesOnly : {A : Type 0} → Result A Kinds → WordsFault → Type 0
+RefusesOnly asked faults.NoMemory = Unit {0}
+RefusesOnly asked (faults.Refused kind) = asked ≡ Err (kind ∷ [])
+
+-- Memory ran out, or the words ask for nothing.
+abbrev pub RefusesWords : Result Task Kinds → WordsFault → Type 0
+RefusesWords asked faults.NoMemory = Unit {0}
+RefusesWords asked (faults.Refused kind) = Refuses asked kind

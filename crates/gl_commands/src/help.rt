@@ -1,0 +1,75 @@
+//! What the program tells of itself.
+
+/// The version of the program.
+pub const VERSION: &str = "0.1.0";
+
+/// What `--help` alone prints.
+pub const HELP: &str = "\
+ccfg: a governed ledger
+
+Commands:
+  ccfg replay
+      reads a schedule from standard input, replays it, and writes what each of
+      its lines came to
+  ccfg verify --identity HEX
+      reads a receipt as JSON from standard input, verifies it under the
+      service's key, which is 120 digits of lower-case hexadecimal, and writes
+      'valid' and the transaction that it shows
+  ccfg audit --identity HEX
+      reads a ledger from standard input, tries each of its entries by the rules
+      of the audit, under the service's key, and writes 'valid', the last
+      transaction and that of the last signature, '-' where there is none
+  ccfg @disk=PATH keygen --kind KIND --types TYPES
+      reads 32 bytes from standard input, the seed of a key, begins a file of the
+      key at PATH, where nothing may be yet, and writes its public form as JSON;
+      KIND is service, node or member, and TYPES h5w4, h5w8, h10w4 or h10w8
+  ccfg deal --threshold K N..
+      reads 64 bytes from standard input, a recovery secret and the seed of its
+      dealing, deals the secret among the members N.., 1 to 255 in ascending order,
+      so that the shares of K of them give it, and writes the action that sets this
+      dealing as JSON, and then for each member a line with N and the share, which
+      is the member's secret
+  ccfg @disk=PATH endorse
+      reads a node's public key as JSON from standard input, endorses it with the
+      service's key in the file at PATH, and writes it with its endorsement
+  ccfg @disk=PATH genesis
+      reads the settings of a service as JSON from standard input, opens it with
+      the key of its first node in the file at PATH, and writes the ledger that
+      opens it
+  ccfg @disk=PATH sign --identity HEX --member N
+      reads what a member asks for as JSON from standard input, signs it with the
+      member's key in the file at PATH, as member N, 1 to 255, of the service with
+      the key HEX, and writes the bytes of the request
+  ccfg --help, ccfg --version
+      write this text, and the version
+
+@disk=PATH stands before the command and names the file that it uses; of several
+the last one counts. keygen, endorse, genesis and sign fail without one, and the
+others use none. A file with a key is secret. Each of its leaves signs once, and
+is spent before anything is written.
+
+Exit statuses:
+  0  done
+  1  the receipt or the ledger is not valid, the file that is to take a key is
+     not empty, a secret can't be dealt so among the members, or nothing is signed:
+     the file has no key of the kind that signs, its leaves are spent, or the
+     settings open no service
+  2  the words are not those of a command
+  3  standard input failed
+  4  standard output failed
+  5  the file failed
+  7  out of memory
+  8  the input passes a limit
+  9  the input is no schedule, no receipt, no seed, not as long as a secret with
+     its seed, or not what is to be signed
+At 1, 2, 8 and 9 exactly one line is written, 'fault' and why: of a ledger,
+'fault seqno N rule R' tells the first entry that breaks a rule, and the first
+rule that it breaks, and 'fault foreign HEX' the key of the service whose valid
+ledger it is.
+
+Examples:
+  printf 'world 1 0 1 open %064d\\nids 1\\n' 0 | ccfg replay
+  ccfg audit --identity $(cat identity) < valid.ledger
+  head -c 32 /dev/urandom | ccfg @disk=node.key keygen --kind node --types h10w4
+  ccfg @disk=service.key endorse < node.json > endorsed.json
+";

@@ -1,0 +1,15 @@
+//! The command line of `ccfg`: its commands and their options, what words ask for, and what the
+//! program tells of itself.
+#![tactic(auto)]
+
+mod commands;
+mod help;
+mod task;
+mod words;
+
+pub use help::{HELP, VERSION};
+pub use task::{Task, WordsFault};
+pub use words::read_words;
+
+#[cfg(test)]
+mod tests;

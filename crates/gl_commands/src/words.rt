@@ -1,0 +1,374 @@
+//! The words that the program is called with.
+
+ghost use Rattle.std.specs.Prelude.{◌≡◌, ◌∷◌, [], Err, IfErr, IfOk, None, Ok, Some, false, if◌then◌else◌, map, option_map, true};
+ghost use Rattle.std.specs.List.{list_all};
+ghost use Rattle.std.specs.Str.Parse.{digits_value};
+ghost use Rattle.std.specs.String.{string_bytes};
+ghost use Rattle.clap.specs.Faults.{fault_of};
+ghost use Rattle.clap.specs.Matches.{found_of};
+ghost use Rattle.clap.specs.Simple.{subcommand_of, subcommand_rows_of};
+ghost use Rattle.clap.specs.Walk.{rows_of};
+ghost use Rattle.clap.specs.declared.error.kind.ErrorKind.{ErrorKind};
+ghost use Rattle.gl_lines.specs.Words.{hex_sized};
+ghost use Rattle.gl_commands.specs.Commands.{program};
+ghost use Rattle.gl_commands.specs.Words.{RefusesOnly, RefusesWords, asked, asked_command, asked_deal, asked_identity, asked_keygen, asked_member, asked_name, asked_number, asked_numbers, asked_options, asked_sign, asked_with_identity, asked_with_words, is_member, is_number, named_kind, named_types, plain_task, spelled_key, spelled_member, task_under};
+
+use crate::commands::program;
+use crate::task::{Task, WordsFault};
+use clap::ArgMatches;
+use clap::error::ErrorKind;
+use gl_base::Sequence;
+use gl_journal::KeyKind;
+use gl_keyfile::Signing;
+use gl_lines::{is_decimal, is_lower_hex};
+use gl_lms::Types;
+use gl_requests::HssPublicKey;
+use hex::FromHex;
+use std::alloc::{AllocError, Global};
+
+/// The key that a word spells.
+fn spelled_key(word: &str) -> Result<HssPublicKey, ErrorKind>
+    ensures found { IfOk result (λ key. spelled_key (hex_sized word.now 60) ≡ Ok key) }
+    ensures refused { IfErr result (λ kind. spelled_key (hex_sized word.now 60) ≡ Err (kind ∷ [])) }
+{
+    if !is_lower_hex(word.as_bytes()) {
+        return Err(ErrorKind::ValueValidation);
+    }
+    match <HssPublicKey as FromHex>::from_hex(word) {
+        Ok(key) => Ok(key),
+        Err(_) => Err(ErrorKind::ValueValidation),
+    }
+}
+
+/// The key that the option of a command spells.
+fn asked_identity(word: Option<&str>) -> Result<HssPublicKey, ErrorKind>
+    ensures found { IfOk result (λ key.
+        asked_identity (option_map (λ s. s.now) word.entry) ≡ Ok key) }
+    ensures refused { IfErr result (λ kind.
+        asked_identity (option_map (λ s. s.now) word.entry) ≡ Err (kind ∷ [])) }
+{
+    match word {
+        Some(word) => spelled_key(word),
+        None => Err(ErrorKind::MissingRequiredArgument),
+    }
+}
+
+/// What the command with a name asks for under a key.
+fn task_under(name: &str, identity: HssPublicKey) -> Task
+    ensures { result ≡ task_under name.now identity }
+{
+    if name == "audit" {
+        Task::Audit { identity }
+    } else {
+        Task::Verify { identity }
+    }
+}
+
+fn named_kind(word: &str) -> Option<KeyKind>
+    ensures { result ≡ named_kind word.now }
+{
+    match word {
+        "service" => Some(KeyKind::Service),
+        "node" => Some(KeyKind::Node),
+        "member" => Some(KeyKind::Member),
+        _ => None,
+    }
+}
+
+fn named_types(word: &str) -> Option<Types>
+    ensures { result ≡ named_types word.now }
+{
+    match word {
+        "h5w4" => Some(Types::H5W4),
+        "h5w8" => Some(Types::H5W8),
+        "h10w4" => Some(Types::H10W4),
+        "h10w8" => Some(Types::H10W8),
+        _ => None,
+    }
+}
+
+/// The kind of key that the option of a command names.
+fn asked_kind(word: Option<&str>) -> Result<KeyKind, ErrorKind>
+    ensures found { IfOk result (λ kind.
+        asked_name named_kind (option_map (λ s. s.now) word.entry) ≡ Ok kind) }
+    ensures refused { IfErr result (λ told.
+        asked_name named_kind (option_map (λ s. s.now) word.entry) ≡ Err (told ∷ [])) }
+{
+    match word {
+        Some(word) => named_kind(word).ok_or(ErrorKind::InvalidValue),
+        None => Err(ErrorKind::MissingRequiredArgument),
+    }
+}
+
+/// The parameter set that the option of a command names.
+fn asked_types(word: Option<&str>) -> Result<Types, ErrorKind>
+    ensures found { IfOk result (λ types.
+        asked_name named_types (option_map (λ s. s.now) word.entry) ≡ Ok types) }
+    ensures refused { IfErr result (λ told.
+        asked_name named_types (option_map (λ s. s.now) word.entry) ≡ Err (told ∷ [])) }
+{
+    match word {
+        Some(word) => named_types(word).ok_or(ErrorKind::InvalidValue),
+        None => Err(ErrorKind::MissingRequiredArgument),
+    }
+}
+
+/// The key that the options of `keygen` ask for.
+fn asked_keygen(kind: Option<&str>, types: Option<&str>) -> Result<Task, ErrorKind>
+    ensures found { IfOk result (λ task. asked_keygen
+        (option_map (λ s. s.now) kind.entry) (option_map (λ s. s.now) types.entry) ≡ Ok task) }
+    ensures refused { IfErr result (λ told. asked_keygen
+        (option_map (λ s. s.now) kind.entry) (option_map (λ s. s.now) types.entry)
+        ≡ Err (told ∷ [])) }
+{
+    match asked_kind(kind) {
+        Ok(kind) => match asked_types(types) {
+            Ok(types) => Ok(Task::Keygen { kind, types }),
+            Err(told) => Err(told),
+        },
+        Err(told) => Err(told),
+    }
+}
+
+/// A number that a member may have: not 0.
+fn member_number(number: u8) -> Result<u8, ErrorKind>
+    ensures found { IfOk result (λ n. (n ≡ number) × (is_member number ≡ true)) }
+    ensures refused { IfErr result (λ kind.
+        (kind ≡ ErrorKind.ValueValidation) × (is_member number ≡ false)) }
+{
+    if number == 0 {
+        Err(ErrorKind::ValueValidation)
+    } else {
+        Ok(number)
+    }
+}
+
+/// The member's number that a word spells.
+fn spelled_member(word: &str) -> Result<u8, ErrorKind>
+    ensures found { IfOk result (λ number. spelled_member word.now ≡ Ok number) }
+    ensures refused { IfErr result (λ kind. spelled_member word.now ≡ Err (kind ∷ [])) }
+{
+    if !is_decimal(word.as_bytes()) {
+        return Err(ErrorKind::ValueValidation);
+    }
+    match word.parse::<u8>() {
+        Ok(number) => member_number(number),
+        Err(_) => Err(ErrorKind::ValueValidation),
+    }
+}
+
+/// The member's number that the option of a command spells.
+fn asked_member(word: Option<&str>) -> Result<u8, ErrorKind>
+    ensures found { IfOk result (λ number.
+        asked_member (option_map (λ s. s.now) word.entry) ≡ Ok number) }
+    ensures refused { IfErr result (λ kind.
+        asked_member (option_map (λ s. s.now) word.entry) ≡ Err (kind ∷ [])) }
+{
+    match word {
+        Some(word) => spelled_member(word),
+        None => Err(ErrorKind::MissingRequiredArgument),
+    }
+}
+
+/// The request that the options of `sign` ask for.
+fn asked_sign(identity: Option<&str>, member: Option<&str>) -> Result<Task, ErrorKind>
+    ensures found { IfOk result (λ task. asked_sign (option_map (λ s. s.now) identity.entry)
+        (option_map (λ s. s.now) member.entry) ≡ Ok task) }
+    ensures refused { IfErr result (λ told. asked_sign (option_map (λ s. s.now) identity.entry)
+        (option_map (λ s. s.now) member.entry) ≡ Err (told ∷ [])) }
+{
+    match asked_identity(identity) {
+        Ok(identity) => match asked_member(member) {
+            Ok(member) => Ok(Task::Sign {
+                signing: Signing::Request { identity, member },
+            }),
+            Err(told) => Err(told),
+        },
+        Err(told) => Err(told),
+    }
+}
+
+/// The number that a word spells.
+fn number_in(word: &str) -> Option<u64>
+    ensures { result ≡ (if is_number word.now then Some (digits_value 10 word.now) else None) }
+{
+    if !is_decimal(word.as_bytes()) {
+        return None;
+    }
+    word.parse::<u64>().ok()
+}
+
+/// The number that the option of a command spells.
+fn asked_number(word: Option<&str>) -> Result<u64, ErrorKind>
+    ensures found { IfOk result (λ number.
+        asked_number (option_map (λ s. s.now) word.entry) ≡ Ok number) }
+    ensures refused { IfErr result (λ kind.
+        asked_number (option_map (λ s. s.now) word.entry) ≡ Err (kind ∷ [])) }
+{
+    match word {
+        Some(word) => number_in(word).ok_or(ErrorKind::ValueValidation),
+        None => Err(ErrorKind::MissingRequiredArgument),
+    }
+}
+
+/// The numbers that words spell, if each spells one.
+fn numbers_in(alloc: Global, words: &[&str]) -> Result<Option<Vec<u64>>, AllocError>
+    ensures { IfOk result (λ found. option_map (λ v. v.items) found
+        ≡ (if list_all is_number (map (λ s. s.now) words.now)
+        then Some (map (digits_value 10) (map (λ s. s.now) words.now)) else None)) }
+{
+    let mut numbers = Vec::new(alloc);
+    for word in words {
+        match number_in(word) {
+            Some(number) => numbers.push(number)?,
+            None => return Ok(None),
+        }
+    }
+    Ok(Some(numbers))
+}
+
+/// The numbers of members that the words of a command spell.
+fn asked_members(alloc: Global, words: Option<&[&str]>) -> Result<Sequence<u64>, WordsFault>
+    ensures found { IfOk result (λ numbers.
+        asked_numbers (option_map (λ s. map (λ v. v.now) s.now) words.entry) ≡ Ok numbers) }
+    ensures refused { IfErr result (RefusesOnly
+        (asked_numbers (option_map (λ s. map (λ v. v.now) s.now) words.entry))) }
+{
+    let Some(words) = words else {
+        return Err(WordsFault::Refused(ErrorKind::MissingRequiredArgument));
+    };
+    match numbers_in(alloc, words) {
+        Ok(Some(numbers)) => Ok(Sequence::from(numbers)),
+        Ok(None) => Err(WordsFault::Refused(ErrorKind::ValueValidation)),
+        Err(_) => Err(WordsFault::NoMemory),
+    }
+}
+
+/// The dealing that the option and the words of `deal` ask for.
+fn asked_deal(
+    alloc: Global,
+    threshold: Option<&str>,
+    members: Option<&[&str]>,
+) -> Result<Task, WordsFault>
+    ensures found { IfOk result (λ task. asked_deal (option_map (λ s. s.now) threshold.entry)
+        (option_map (λ s. map (λ v. v.now) s.now) members.entry) ≡ Ok task) }
+    ensures refused { IfErr result (RefusesOnly
+        (asked_deal (option_map (λ s. s.now) threshold.entry)
+        (option_map (λ s. map (λ v. v.now) s.now) members.entry))) }
+{
+    match asked_number(threshold) {
+        Ok(threshold) => {
+            let members = asked_members(alloc, members)?;
+            Ok(Task::Deal { threshold, members })
+        }
+        Err(kind) => Err(WordsFault::Refused(kind)),
+    }
+}
+
+/// What a command with an option for a service's key asks for.
+fn asked_with_identity(name: &str, options: &ArgMatches) -> Result<Task, ErrorKind>
+    ensures found { IfOk result (λ task.
+        asked_with_identity name.now (rows_of (found_of options.now)) ≡ Ok task) }
+    ensures refused { IfErr result (λ kind.
+        asked_with_identity name.now (rows_of (found_of options.now)) ≡ Err (kind ∷ [])) }
+{
+    if name == "sign" {
+        return asked_sign(options.get_str("identity"), options.get_str("member"));
+    }
+    match asked_identity(options.get_str("identity")) {
+        Ok(identity) => Ok(task_under(name, identity)),
+        Err(kind) => Err(kind),
+    }
+}
+
+/// What a command with options asks for.
+fn asked_options(name: &str, options: &ArgMatches) -> Result<Task, ErrorKind>
+    ensures found { IfOk result (λ task.
+        asked_options name.now (rows_of (found_of options.now)) ≡ Ok task) }
+    ensures refused { IfErr result (λ kind.
+        asked_options name.now (rows_of (found_of options.now)) ≡ Err (kind ∷ [])) }
+{
+    if name == "keygen" {
+        asked_keygen(options.get_str("kind"), options.get_str("types"))
+    } else {
+        asked_with_identity(name, options)
+    }
+}
+
+/// What a command with options or words asks for.
+fn asked_with_words(alloc: Global, name: &str, found: &ArgMatches) -> Result<Task, WordsFault>
+    ensures found { IfOk result (λ task.
+        asked_with_words name.now (rows_of (found_of found.now)) ≡ Ok task) }
+    ensures refused { IfErr result (RefusesOnly
+        (asked_with_words name.now (rows_of (found_of found.now)))) }
+{
+    if name == "deal" {
+        return asked_deal(alloc, found.get_str("threshold"), found.get_strs("members"));
+    }
+    match asked_options(name, found) {
+        Ok(task) => Ok(task),
+        Err(kind) => Err(WordsFault::Refused(kind)),
+    }
+}
+
+/// What a command without options asks for.
+fn plain_task(name: &str) -> Option<Task>
+    ensures { result ≡ plain_task name.now }
+{
+    match name {
+        "replay" => Some(Task::Replay),
+        "endorse" => Some(Task::Sign {
+            signing: Signing::Endorsement,
+        }),
+        "genesis" => Some(Task::Sign {
+            signing: Signing::Opening,
+        }),
+        _ => None,
+    }
+}
+
+/// What the command that was met asks for.
+fn asked_command(alloc: Global, matches: &ArgMatches) -> Result<Task, WordsFault>
+    ensures found { IfOk result (λ task. asked_command (subcommand_rows_of matches.now) ≡ Ok task) }
+    ensures refused { IfErr result (RefusesOnly
+        (asked_command (subcommand_rows_of matches.now))) }
+{
+    match matches.subcommand() {
+        Some((name, options)) => match plain_task(name) {
+            Some(task) => Ok(task),
+            None => asked_with_words(alloc, name, options),
+        },
+        None => Err(WordsFault::Refused(ErrorKind::MissingSubcommand)),
+    }
+}
+
+/// What `clap` finds in the words.
+fn matches_of<'a>(alloc: Global, words: &'a [String]) -> Result<ArgMatches<'a>, WordsFault>
+    ensures found { IfOk result (λ matches.
+        (fault_of program (map string_bytes words.entry.now) ≡ [])
+        × (subcommand_rows_of matches
+        ≡ subcommand_of program (map string_bytes words.entry.now))) }
+    ensures refused { IfErr result (RefusesWords (asked (map string_bytes words.entry.now))) }
+{
+    let program = match program(alloc) {
+        Ok(program) => program,
+        Err(_) => return Err(WordsFault::NoMemory),
+    };
+    match program.try_get_matches_from(words) {
+        Ok(matches) => Ok(matches),
+        Err(error) => match error.kind() {
+            ErrorKind::OutOfMemory => Err(WordsFault::NoMemory),
+            kind => Err(WordsFault::Refused(kind)),
+        },
+    }
+}
+
+/// What the words ask for, which are those behind the program's name. What `clap` finds wrong with
+/// them comes before the tests of the values.
+pub fn read_words(alloc: Global, words: &[String]) -> Result<Task, WordsFault>
+    ensures found { IfOk result (λ task. asked (map string_bytes words.now) ≡ Ok task) }
+    ensures refused { IfErr result (RefusesWords (asked (map string_bytes words.now))) }
+{
+    let matches = matches_of(alloc, words)?;
+    asked_command(alloc, &matches)
+}

@@ -1,0 +1,3 @@
+mod MemberLemmas
+mod TreeLemmas
+mod DealtLemmas

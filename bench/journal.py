@@ -5,6 +5,7 @@
 # the processor times of opening and of hashing. Fails where batches have less than 0.9 of the plain rate, or where opening takes
 # more than three times hashing.
 import os
+import shutil
 import subprocess
 import sys
 import tempfile
@@ -115,7 +116,7 @@ def build(work):
     for name in wanted:
         wanted += [below for below in table[name] if below in table and below not in wanted]
     for name in wanted:
-        os.symlink(os.path.abspath(os.path.join(TOP, "crates", name)), os.path.join(work, "crates", name))
+        shutil.copytree(os.path.join(TOP, "crates", name), os.path.join(work, "crates", name), copy_function=os.link)
     lines = [f"{name}: {' '.join(table[name])}" for name in table if name in wanted]
     lines.append("journal_bench: gl_base gl_file gl_journal gl_lms gl_outside sha2 anyhow")
     for path, text in [

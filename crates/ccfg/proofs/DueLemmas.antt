@@ -6,7 +6,7 @@ use Rattle.std.specs.Io.KnownBytes.{Appends, Consumes, Keeps}
 use Rattle.gl_outside.specs.Sink.{AppendsFront}
 use Rattle.gl_lines.specs.Lines.{line_count}
 use Rattle.gl_receipt.specs.Form.{receipt_from}
-use Rattle.gl_audit.specs.Given.{OfBytes}
+use Rattle.gl_ledger_file.specs.Given.{OfBytes}
 use Rattle.gl_audit.specs.Verdict.{verdict as verdict_on}
 use Rattle.gl_audit.specs.declared.verdict.Verdict.{Verdict}
 use Rattle.ccfg.specs.declared.ending.Ending.{Ending}

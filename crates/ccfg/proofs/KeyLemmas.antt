@@ -1,7 +1,7 @@
 -- What is owed where a key is to begin.
 use Rattle.std.proofs.Common.{◌≡◌, ℕ, zero, suc, ◌<◌, List, [], ◌∷◌, length, Option, None, Some, Bool, true, false, nat_lt, if◌then◌else◌, IfSome, Result, Ok, Err, IfOk, IsTrue, refl, sym, ap, ◌∙◌, subst, arith}
 use Rattle.std.proofs.lemmas.Bool.Decides.{nat_tests}
-use Rattle.gl_audit.specs.Given.{OfBytes}
+use Rattle.gl_ledger_file.specs.Given.{OfBytes}
 use Rattle.gl_journal.specs.declared.key.Key.{Key}
 use Rattle.gl_journal.specs.declared.key.KeyKind.{KeyKind}
 use Rattle.gl_lms.specs.declared.types.Types.{Types}

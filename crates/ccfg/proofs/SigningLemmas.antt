@@ -2,7 +2,7 @@
 use Rattle.std.proofs.Common.{◌≡◌, ◌<◌, ◌≤◌, inl, inr, ℕ, List, [], length, Option, Bool, true, false, Result, Ok, Err, IfOk, IsTrue, nat_lt, if◌then◌else◌, refl, sym, ap, subst, ◌∙◌, arith}
 use Rattle.std.proofs.lemmas.Bool.Decides.{nat_tests}
 use Rattle.gl_base.specs.declared.json.FormsFault.{FormsFault}
-use Rattle.gl_audit.specs.Given.{OfBytes}
+use Rattle.gl_ledger_file.specs.Given.{OfBytes}
 use Rattle.gl_base.specs.declared.or_no_memory.OrNoMemory.{OrNoMemory}
 use Rattle.gl_base.specs.declared.or_no_memory.OrNoMemory.TheVariants.{Fault as fault_of}
 use Rattle.gl_consortium.specs.Owed.{owed}

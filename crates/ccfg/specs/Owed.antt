@@ -32,7 +32,7 @@ use Rattle.gl_receipt.specs.Form.{receipt_from}
 use Rattle.gl_receipt.specs.Verdict.{verdict}
 use Rattle.gl_receipt.specs.declared.components.Receipt.{Receipt}
 use Rattle.gl_receipt.specs.declared.fault.ReceiptFault.{ReceiptFault}
-use Rattle.gl_audit.specs.Given.{OfBytes}
+use Rattle.gl_ledger_file.specs.Given.{OfBytes}
 use Rattle.gl_audit.specs.Verdict as audits_to
 use Rattle.gl_audit.specs.declared.verdict.Verdict.{Verdict}
 use Rattle.gl_audit.specs.declared.verdict.Verdict.TheVariants as audits

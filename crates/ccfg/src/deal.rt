@@ -2,7 +2,7 @@
 
 ghost use Rattle.std.specs.Prelude.{◌≡◌, ◌≢◌, ◌<◌, ◌≤◌, Err, IfErr, IfOk, drop, length, take};
 ghost use Rattle.gl_outside.specs.Fault.{Rose};
-ghost use Rattle.gl_audit.specs.Given.{OfBytes};
+ghost use Rattle.gl_ledger_file.specs.Given.{OfBytes};
 ghost use Rattle.ccfg.specs.Owed.{EndsSource, dealing_len, due_of_dealing, secret_len};
 ghost use Rattle.ccfg.specs.Plans.{PlansPlayable, due_of_plan};
 ghost use Rattle.ccfg.specs.declared.fault.Fault.TheVariants.{Short};

@@ -1,7 +1,7 @@
 //! What there is to do where a key is to begin: its file is begun, and its public form told.
 
 ghost use Rattle.std.specs.Prelude.{◌≡◌, ◌≢◌, ℕ, ◌<◌, ◌≤◌, [], Err, IfErr, IfOk, IsTrue, length};
-ghost use Rattle.gl_audit.specs.Given.{OfBytes};
+ghost use Rattle.gl_ledger_file.specs.Given.{OfBytes};
 ghost use Rattle.gl_outside.specs.Fault.{Rose};
 ghost use Rattle.ccfg.specs.Owed.{EndsSource, OfShown, due_of_answer, due_of_seed, key_line, on_empty, seed_len};
 ghost use Rattle.ccfg.specs.Plans.{IsUntouched, PlansPlayable, TellsFault, ShowsKept, due_of_plan};

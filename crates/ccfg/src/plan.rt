@@ -2,7 +2,7 @@
 
 ghost use Rattle.std.specs.Prelude.{◌≡◌, ◌≢◌, ℕ, ◌<◌, ◌≤◌, Err, IfErr, IfOk, IsTrue, false, length};
 ghost use Rattle.gl_outside.specs.Fault.{Rose};
-ghost use Rattle.gl_audit.specs.Given.{OfBytes};
+ghost use Rattle.gl_ledger_file.specs.Given.{OfBytes};
 ghost use Rattle.gl_journal.specs.Durable.{journal_header};
 ghost use Rattle.gl_journal.specs.Parts.{HasGate};
 ghost use Rattle.gl_journal.specs.declared.key.KeyKind.{KeyKind};

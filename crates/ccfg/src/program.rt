@@ -16,7 +16,7 @@ ghost use Rattle.ccfg.specs.declared.ending.Ending.TheVariants.{DiskFailed, Done
 ghost use Rattle.gl_commands.specs.declared.task.Task.TheVariants.{Keygen, Sign, Verify};
 ghost use Rattle.gl_commands.specs.declared.task.Task.{Task as Tasks};
 ghost use Rattle.gl_schedule.specs.Moments.{KeepsHeadline, TellsMoments};
-ghost use Rattle.gl_audit.specs.Given.{OfBytes};
+ghost use Rattle.gl_ledger_file.specs.Given.{OfBytes};
 ghost use Rattle.ccfg.specs.Owed.{Answers, EndsSource, OfShown, Runs, due_of, exit_status, uses_disk};
 ghost use Rattle.ccfg.specs.Plans.{IsUntouched, KeepsKey, MovesByLeaf, OpensAsBefore, SpendsLeaf};
 ghost use Rattle.ccfg.specs.Promises.{IsAnswer, IsFaultLine, IsKindLine, IsPastLimit, IsRefusal, IsNoReading, Tells, TellsAccepted, TellsFront};

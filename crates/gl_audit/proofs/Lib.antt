@@ -1,4 +1,2 @@
-pub mod FileLaws
 pub mod Steps
-pub mod Spelled
 pub mod Verdicts

@@ -1,11 +1,8 @@
 -- What was taken of a ledger file, step by step, and how the file ends.
-use Rattle.std.proofs.Common.{◌≡◌, ℕ, suc, ◌+◌, ◌-◌, ◌≤◌, ◌<◌, List, [], ◌∷◌, ◌++◌, Bool, true, ◌&&◌, length, Option, None, Some, Err, IfSome, append_assoc, append-nil, length-append, refl, sym, ap, ◌∙◌, subst, arith}
-use Rattle.std.specs.List.{list_all, flat_map}
-use Rattle.std.proofs.lemmas.Bool.{and_from, and_parts}
+use Rattle.std.proofs.Common.{◌≡◌, ℕ, suc, ◌+◌, ◌-◌, ◌≤◌, ◌<◌, List, [], ◌∷◌, ◌++◌, length, Option, None, Some, append_assoc, append-nil, length-append, refl, sym, ap, ◌∙◌, subst, arith}
 use Rattle.std.proofs.lemmas.Bool.Decides.{nat_tests}
 use Rattle.gl_base.specs.TxId.{last_seqno}
-use Rattle.gl_entry.specs.Entry.{is_entry, frame_bytes}
-use Rattle.gl_entry.specs.Stream.{next_entry, GivesNext, to_read}
+use Rattle.gl_entry.specs.Stream.{to_read}
 use Rattle.gl_entry.specs.declared.entry.Entry.{Entry}
 use Rattle.gl_entry.specs.declared.fault.EntryFault.{EntryFault}
 use Rattle.gl_ledger.specs.Audit.{LedgerFault, audited, fault_from, fault_or}
@@ -13,94 +10,25 @@ use Rattle.gl_ledger.specs.Broken.{broken}
 use Rattle.gl_ledger.specs.NodeKeys.{service_layers}
 use Rattle.gl_ledger.specs.Recordings.{last_entry}
 use Rattle.gl_ledger.specs.declared.breach.Broken.{Broken}
+use Rattle.gl_ledger.proofs.Faults.{broken_first, fault_from-append}
 use Rattle.gl_ledger.proofs.Passing.{passing}
-use Rattle.gl_audit.specs.Given.{OfBytes}
-use Rattle.gl_audit.specs.LedgerFile.{LedgerFile, ledger_file}
+use Rattle.gl_ledger_file.specs.Given.{OfBytes}
+use Rattle.gl_ledger_file.specs.LedgerFile.{LedgerFile, ledger_file, no_entries, with_entries}
+use Rattle.gl_ledger_file.specs.Reading.{Consumes, IsNext}
+use Rattle.gl_ledger_file.specs.declared.next.Next.{Next}
+use Rattle.gl_ledger_file.specs.declared.next.Next.TheVariants as nexts
+use Rattle.gl_ledger_file.proofs.Reading.{consumes_none, consumes_then, of_all, of_consumed, of_map}
 use Rattle.gl_store.specs.Kept.{ForLedgers, IsStateOf}
 use Rattle.gl_store.specs.declared.ledger_end.LedgerEnd.{LedgerEnd}
 use Rattle.gl_store.specs.declared.ledger_state.LedgerState.{LedgerState}
-use Rattle.gl_audit.specs.Taking.{AreTaken, Consumes, Ends, EndsAt, IsNext, IsTaken, Reads, Takes, no_entries, with_entries}
-use Rattle.gl_audit.specs.declared.ledger_audit.Next.{Next}
-use Rattle.gl_audit.specs.declared.ledger_audit.Next.TheVariants as nexts
+use Rattle.gl_audit.specs.Taking.{AreTaken, Ends, EndsAt, IsTaken, Takes}
 use Rattle.gl_audit.specs.declared.ledger_audit.Stop.{Stop}
 use Rattle.gl_audit.specs.declared.ledger_audit.Stop.TheVariants as stops
 use Rattle.gl_audit.specs.Verdict.{judged, unless_broken, unless_unread, verdict, verdict_of}
 use Rattle.gl_audit.specs.declared.verdict.Verdict.{Verdict}
 use Rattle.gl_audit.specs.declared.verdict.Verdict.TheVariants as verdicts
-use Rattle.gl_audit.proofs.FileLaws.{file_end, file_frames, file_step, file_unread}
-
--- ---- what is read next
-
-next_read : (old new : Option (List ℕ)) (e : Entry) → IfSome old (λ bytes. GivesNext bytes (Some e) new) → Reads old (e ∷ []) new
-next_read None new e gives = tt
-next_read (Some bytes) new e gives = subst (λ (n : Option (List ℕ)). Reads (Some bytes) (e ∷ []) n) (sym gives.2) (file_step bytes e gives.0 gives.1)
-
-pub next_entry_taken : (old new : Option (List ℕ)) (read : Option Entry) (e : Entry) → read ≡ Some e → IfSome old (λ bytes. GivesNext bytes read new) → IfSome read (λ x. is_entry x ≡ true) → Consumes old (e ∷ []) new
-next_entry_taken old new read e is gives fits = (
-  ap (λ (b : Bool). b && true) (subst (λ (r : Option Entry). IfSome r (λ x. is_entry x ≡ true)) is fits),
-  next_read old new e (subst (λ (r : Option Entry). IfSome old (λ bytes. GivesNext bytes r new)) is gives),
-)
-
-end_read : (old new : Option (List ℕ)) → IfSome old (λ bytes. GivesNext bytes None new) → OfBytes old (λ bytes. ledger_file bytes ≡ no_entries None)
-end_read None new gives = ([], file_end)
-end_read (Some bytes) new gives = ap ledger_file gives ∙ file_end
-
-pub next_is_end : (old new : Option (List ℕ)) (read : Option Entry) → read ≡ None → IfSome old (λ bytes. GivesNext bytes read new) → OfBytes old (λ bytes. ledger_file bytes ≡ no_entries None)
-next_is_end old new read is gives = end_read old new (subst (λ (r : Option Entry). IfSome old (λ bytes. GivesNext bytes r new)) is gives)
-
-pub next_is_unread : (old new : Option (List ℕ)) (kept : List ℕ) (fault : EntryFault) → IfSome old (λ bytes. (next_entry bytes ≡ Err fault) × (new ≡ Some bytes)) → next_entry kept ≡ Err fault
-    → OfBytes old (λ bytes. (f : EntryFault) × (ledger_file bytes ≡ no_entries (Some f)))
-next_is_unread None new kept fault gives here = (kept, (fault, file_unread kept fault here))
-next_is_unread (Some bytes) new kept fault gives here = (fault, file_unread bytes fault gives.0)
-
--- ---- what was taken
-
-list_all-append : (xs ys : List Entry) → list_all is_entry xs ≡ true → list_all is_entry ys ≡ true → list_all is_entry (xs ++ ys) ≡ true
-list_all-append [] ys a b = b
-list_all-append (x ∷ xs) ys a b =
-    let both = and_parts (is_entry x) (list_all is_entry xs) a in
-    and_from (is_entry x) (list_all is_entry (xs ++ ys)) both.0 (list_all-append xs ys both.1 b)
-
-reads_then : (a b c : Option (List ℕ)) (xs ys : List Entry) → Reads a xs b → Reads b ys c → Reads a (xs ++ ys) c
-reads_then None b c xs ys first second = tt
-reads_then (Some bytes) None c xs ys first second = absurd first
-reads_then (Some bytes) (Some mid) None xs ys first second = absurd second
-reads_then (Some bytes) (Some mid) (Some rest) xs ys first second =
-    first ∙ ap (with_entries xs) second ∙ ap (λ (es : List Entry). record (ledger_file rest) { entries = es }) (sym (append_assoc xs ys (ledger_file rest).entries))
-
-pub consumes_none : (a : Option (List ℕ)) → Consumes a [] a
-consumes_none None = (refl, tt)
-consumes_none (Some bytes) = (refl, refl)
-
-pub consumes_then : (a b c : Option (List ℕ)) (xs ys : List Entry) → Consumes a xs b → Consumes b ys c → Consumes a (xs ++ ys) c
-consumes_then a b c xs ys first second = (list_all-append xs ys first.0 second.0, reads_then a b c xs ys first.1 second.1)
-
--- What holds of the file that is left holds of the whole file with what was taken.
-of_consumed : (a b : Option (List ℕ)) (taken : List Entry) (Q : LedgerFile → Type 0) → Consumes a taken b → OfBytes b (λ rest. Q (with_entries taken (ledger_file rest))) → OfBytes a (λ bytes. Q (ledger_file bytes))
-of_consumed None None taken Q c q = (flat_map frame_bytes taken ++ q.0, subst Q (sym (file_frames taken q.0 c.0)) q.1)
-of_consumed None (Some rest) taken Q c q = (flat_map frame_bytes taken ++ rest, subst Q (sym (file_frames taken rest c.0)) q)
-of_consumed (Some bytes) None taken Q c q = absurd c.1
-of_consumed (Some bytes) (Some rest) taken Q c q = subst Q (sym c.1) q
-
-of_map : (a : Option (List ℕ)) (P Q : List ℕ → Type 0) → ((bytes : List ℕ) → P bytes → Q bytes) → OfBytes a P → OfBytes a Q
-of_map None P Q f p = (p.0, f p.0 p.1)
-of_map (Some bytes) P Q f p = f bytes p
-
-of_all : (a : Option (List ℕ)) (Q : List ℕ → Type 0) → ((bytes : List ℕ) → Q bytes) → OfBytes a Q
-of_all None Q f = ([], f [])
-of_all (Some bytes) Q f = f bytes
 
 -- ---- the first fault of entries one behind the other
-
-fault_from-append : (before xs ys : List Entry) → fault_from service_layers before xs ≡ None → fault_from service_layers before (xs ++ ys) ≡ fault_from service_layers (before ++ xs) ys
-fault_from-append before [] ys none = ap (λ (l : List Entry). fault_from service_layers l ys) (sym (append-nil before))
-fault_from-append before (x ∷ xs) ys none = go (broken service_layers before x) none (λ h. fault_from-append (before ++ x ∷ []) xs ys h)
-  where
-    go : (o : Option Broken) → fault_or (length before + 1) o (fault_from service_layers (before ++ x ∷ []) xs) ≡ None
-        → (fault_from service_layers (before ++ x ∷ []) xs ≡ None → fault_from service_layers (before ++ x ∷ []) (xs ++ ys) ≡ fault_from service_layers ((before ++ x ∷ []) ++ xs) ys)
-        → fault_or (length before + 1) o (fault_from service_layers (before ++ x ∷ []) (xs ++ ys)) ≡ fault_from service_layers (before ++ x ∷ xs) ys
-    go None h more = more h ∙ ap (λ (l : List Entry). fault_from service_layers l ys) (append_assoc before (x ∷ []) xs)
-    go (Some b) h more = absurd cc
 
 taken_one : (before : List Entry) (e : Entry) → broken service_layers before e ≡ None → fault_from service_layers before (e ∷ []) ≡ None
 taken_one before e none = ap (λ (o : Option Broken). fault_or (length before + 1) o None) none
@@ -120,7 +48,7 @@ go_on old mid new before now next e t c is = record {
   entries = t.entries ++ e ∷ [];
   consumed = consumes_then old mid new t.entries (e ∷ []) t.consumed c;
   added = (
-    fault_from-append before t.entries (e ∷ []) t.added.0
+    fault_from-append service_layers before t.entries (e ∷ []) t.added.0
         ∙ ap (λ (l : List Entry). fault_from service_layers l (e ∷ [])) (sym t.added.1)
         ∙ taken_one now e is.0,
     is.1 ∙ ap (λ (l : List Entry). l ++ e ∷ []) t.added.1 ∙ append_assoc before t.entries (e ∷ []),
@@ -152,12 +80,6 @@ ends_unread old new before now n after t is told =
     (of_map new (λ bytes. (f : EntryFault) × (ledger_file bytes ≡ no_entries (Some f))) (λ rest. Ends before (with_entries t.entries (ledger_file rest)) stops.Unread now)
     (λ rest is. subst (λ (file : LedgerFile). Ends before (with_entries t.entries file) stops.Unread now) (sym is.1) (added_whole before now t.entries t.added, is.0, refl)) (subst (λ (x : Next). IsNext new x after) is told))
 
-broken_first : (ledger : List Entry) (e : Entry) (more : List Entry) (b : Broken) → broken service_layers ledger e ≡ Some b → fault_from service_layers ledger (e ∷ more) ≡ Some (record { seqno = suc (length ledger); broken = b })
-broken_first ledger e more b is =
-    let next : length ledger + 1 ≡ suc (length ledger) = omega arith in
-    ap (λ (o : Option Broken). fault_or (length ledger + 1) o (fault_from service_layers (ledger ++ e ∷ []) more)) is
-    ∙ ap (λ (n : ℕ). Some (record { seqno = n; broken = b })) next
-
 end_broken : (old mid new : Option (List ℕ)) (before now next : List Entry) (e : Entry) (rule : ℕ) → HasTaken old mid before now → Consumes mid (e ∷ []) new → IsTaken now e (Some rule) next
     → OfBytes old (λ bytes. Ends before (ledger_file bytes) (stops.Broken rule) next)
 end_broken old mid new before now next e rule t c is =
@@ -168,9 +90,9 @@ end_broken old mid new before now next e rule t c is =
     at_rest rest =
         let more = (ledger_file rest).entries in
         ap (fault_from service_layers before) (append_assoc t.entries (e ∷ []) more)
-        ∙ fault_from-append before t.entries (e ∷ more) t.added.0
+        ∙ fault_from-append service_layers before t.entries (e ∷ more) t.added.0
         ∙ ap (λ (l : List Entry). fault_from service_layers l (e ∷ more)) (sym t.added.1)
-        ∙ broken_first now e more is.0 is.1
+        ∙ broken_first service_layers now e more is.0 is.1
         ∙ ap (λ (l : List Entry). Some (record { seqno = suc (length l); broken = is.0 })) (sym is.3)
 
 pub ends_broken : (old mid new : Option (List ℕ)) (before now next : List Entry) (n : Next) (e : Entry) (told : Option ℕ) (rule : ℕ) → HasTaken old mid before now → n ≡ nexts.Entry e → IsNext mid n new → told ≡ Some rule → IsTaken now e told next

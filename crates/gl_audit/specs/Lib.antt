@@ -1,4 +1,2 @@
-pub mod LedgerFile
-pub mod Given
 pub mod Verdict
 pub mod Taking

@@ -1,7 +1,5 @@
 -- What an auditor has taken of a ledger file, and how the entries of the file end for it.
-use Rattle.std.specs.Prelude.{◌≡◌, ℕ, suc, List, [], ◌∷◌, ◌++◌, Option, None, Some, true, length}
-use Rattle.std.specs.List.{list_all}
-use Rattle.gl_entry.specs.Entry.{is_entry}
+use Rattle.std.specs.Prelude.{◌≡◌, ℕ, suc, List, [], ◌∷◌, ◌++◌, Option, None, Some, length}
 use Rattle.gl_entry.specs.declared.entry.Entry.{Entry}
 use Rattle.gl_entry.specs.declared.fault.EntryFault.{EntryFault}
 use Rattle.gl_ledger.specs.Audit.{fault_from}
@@ -10,39 +8,10 @@ use Rattle.gl_ledger.specs.NodeKeys.{service_layers}
 use Rattle.gl_ledger.specs.declared.breach.Broken.{Broken}
 use Rattle.gl_store.specs.Kept.{IsStateOf}
 use Rattle.gl_store.specs.declared.ledger_state.LedgerState.{LedgerState}
-use Rattle.gl_audit.specs.Given.{OfBytes}
-use Rattle.gl_audit.specs.LedgerFile.{LedgerFile, ledger_file}
-use Rattle.gl_audit.specs.declared.ledger_audit.Next.{Next}
-use Rattle.gl_audit.specs.declared.ledger_audit.Next.TheVariants as nexts
+use Rattle.gl_ledger_file.specs.Given.{OfBytes}
+use Rattle.gl_ledger_file.specs.LedgerFile.{LedgerFile, ledger_file}
 use Rattle.gl_audit.specs.declared.ledger_audit.Stop.{Stop}
 use Rattle.gl_audit.specs.declared.ledger_audit.Stop.TheVariants as stops
-
--- A file with these entries before its own.
-abbrev pub with_entries : List Entry → LedgerFile → LedgerFile
-with_entries taken file = record file { entries = taken ++ file.entries }
-
--- A file without entries, up to its end or to bytes that are no frame.
-abbrev pub no_entries : Option EntryFault → LedgerFile
-no_entries fault = record { entries = []; fault = fault }
-
--- The bytes that are still to be read were a file that begins with these entries, and now they are
--- the file behind them; where they are known.
-abbrev pub Reads : Option (List ℕ) → List Entry → Option (List ℕ) → Type 0
-Reads None taken left = Unit {0}
-Reads (Some bytes) taken None = ⊥
-Reads (Some bytes) taken (Some rest) = ledger_file bytes ≡ with_entries taken (ledger_file rest)
-
--- These entries were taken from the front of the bytes that are still to be read.
-abbrev pub Consumes : Option (List ℕ) → List Entry → Option (List ℕ) → Type 0
-Consumes old taken new = (list_all is_entry taken ≡ true) × Reads old taken new
-
--- The next entry was taken; or the bytes that are still to be read are at their end, or begin with
--- no frame.
-abbrev pub IsNext : Option (List ℕ) → Next → Option (List ℕ) → Type 0
-IsNext old (nexts.Entry e) new = Consumes old (e ∷ []) new
-IsNext old nexts.End new = OfBytes old (λ bytes. ledger_file bytes ≡ no_entries None)
-IsNext old nexts.Unread new =
-    OfBytes old (λ bytes. (fault : EntryFault) × (ledger_file bytes ≡ no_entries (Some fault)))
 
 -- An entry was added that breaks no rule, or this is the first rule that it breaks.
 abbrev pub IsTaken : List Entry → Entry → Option ℕ → List Entry → Type 0

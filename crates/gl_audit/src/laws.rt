@@ -1,22 +1,18 @@
 //! What the verdicts of an audit mean, as the contracts of functions that do nothing.
 
-ghost use Rattle.std.specs.Prelude.{◌≡◌, ◌↔◌, ℕ, List, All, Option, None, Some, slice_get, true};
-ghost use Rattle.std.specs.List.{flat_map, list_all};
-ghost use Rattle.gl_base.specs.Bytes.{are_bytes};
+ghost use Rattle.std.specs.Prelude.{◌≡◌, ◌↔◌, ℕ, List, All, Option, Some, slice_get};
 ghost use Rattle.gl_base.specs.declared.tx_id.TxId.{TxId};
 ghost use Rattle.gl_merkle.specs.Reach.{IsDigest, sibling_of};
-ghost use Rattle.gl_entry.specs.Entry.{frame_bytes, is_entry};
 ghost use Rattle.gl_entry.specs.declared.entry.Content.TheVariants as content;
 ghost use Rattle.gl_entry.specs.declared.entry.Entry.{Entry};
 ghost use Rattle.gl_entry.specs.declared.entry.Signature as signatures;
 ghost use Rattle.gl_ledger.specs.NodeKeys.{service_layers};
 ghost use Rattle.gl_ledger.specs.Sound.{IsSound};
+ghost use Rattle.gl_ledger_file.specs.LedgerFile.{ledger_file};
 ghost use Rattle.gl_receipt.specs.Law.{AreSized};
 ghost use Rattle.gl_receipt.specs.Receipt.{root_of, IsEvidence};
 ghost use Rattle.gl_receipt.specs.declared.components.Receipt.{Receipt};
 ghost use Rattle.gl_store.specs.Binding.{IsBound};
-ghost use Rattle.gl_audit.specs.LedgerFile.{ledger_file};
-ghost use Rattle.gl_audit.specs.Taking.{no_entries, with_entries};
 ghost use Rattle.gl_audit.specs.Verdict.{verdict, IsValidLedger, IsLedgerOf, IsForeignTo, IsFaulty};
 ghost use Rattle.gl_audit.specs.declared.verdict.Verdict.TheVariants as verdicts;
 
@@ -35,19 +31,6 @@ pub fn law_of_verdicts()
         verdict identity bytes ≡ verdicts.Fault seqno rule ↔ IsFaulty bytes seqno rule }
     ensures sound { (bytes : List ℕ) → IsValidLedger bytes →
         IsSound service_layers (ledger_file bytes).entries }
-{}
-
-/// The entries of a file are those that its bytes spell: each fits the format of entries; a file
-/// in which no bytes are left over is the frames of its entries, one behind the other, and
-/// nothing else; and the frames of any such entries are a file with these entries.
-pub fn law_of_ledger_files()
-    ensures entries { (bytes : List ℕ) → are_bytes bytes ≡ true →
-        list_all is_entry (ledger_file bytes).entries ≡ true }
-    ensures spelled { (bytes : List ℕ) → are_bytes bytes ≡ true →
-        (ledger_file bytes).fault ≡ None →
-        flat_map frame_bytes (ledger_file bytes).entries ≡ bytes }
-    ensures read { (ledger : List Entry) → list_all is_entry ledger ≡ true →
-        ledger_file (flat_map frame_bytes ledger) ≡ with_entries ledger (no_entries None) }
 {}
 
 /// In a file that is `Valid` or `Foreign`, a receipt whose commit evidence is that of a

@@ -1,40 +1,24 @@
 //! The audit of a ledger, entry by entry.
 
-ghost use Rattle.std.specs.Prelude.{◌≡◌, ◌+◌, length, ◌≤◌, ◌∷◌, [], Bool, true, Err, Ok, Some, IfOk, IfErr, IfSome, OnOk, OnErr, option_map};
-ghost use Rattle.std.specs.Option.{option_copied};
+ghost use Rattle.std.specs.Prelude.{◌≡◌, ◌+◌, length, ◌≤◌, [], Bool, true, Err, Ok, IfOk};
 ghost use Rattle.gl_base.specs.declared.or_no_memory.OrNoMemory.TheVariants.{Fault};
 ghost use Rattle.gl_outside.specs.Fault.{Rose};
-ghost use Rattle.gl_entry.specs.Stream.{to_read};
 ghost use Rattle.gl_ledger.specs.Recordings.{last_entry};
-ghost use Rattle.gl_audit.specs.declared.ledger_audit.ReadFault.{ReadFault as ReadFaults};
-ghost use Rattle.gl_audit.specs.Given.{OfBytes};
-ghost use Rattle.gl_audit.specs.LedgerFile.{LedgerFile};
+ghost use Rattle.gl_ledger_file.specs.Given.{OfBytes};
+ghost use Rattle.gl_ledger_file.specs.LedgerFile.{LedgerFile};
+ghost use Rattle.gl_ledger_file.specs.declared.next.ReadFault.{ReadFault as ReadFaults};
 ghost use Rattle.gl_store.specs.Kept.{ForLedgers, IsState, IsStateOf};
-ghost use Rattle.gl_audit.specs.Taking.{Ends, EndsAt, IsNext, Takes};
+ghost use Rattle.gl_audit.specs.Taking.{Ends, EndsAt, Takes};
 ghost use Rattle.gl_audit.specs.Verdict.{EndsWith, judged, verdict, verdict_of};
 
 use crate::verdict::Verdict;
 use gl_base::OrNoMemory;
-use gl_entry::{Content, Entry, LedgerFault, ReadBuffer, read_entry};
+use gl_entry::{Content, Entry, ReadBuffer};
+use gl_ledger_file::{Next, ReadFault, read_next};
 use gl_outside::Source;
 use gl_requests::HssPublicKey;
 use gl_store::LedgerState;
 use std::alloc::{AllocError, Global};
-use thiserror::Error;
-
-/// The source failed.
-#[derive(Clone, Copy, Debug, PartialEq, Eq, Error)]
-#[error("the source failed")]
-pub struct ReadFault;
-
-/// What a file goes on with.
-enum Next {
-    Entry(Entry),
-    /// Its end.
-    End,
-    /// Bytes that are no frame.
-    Unread,
-}
 
 /// How the entries of a file end.
 #[derive(Clone, Copy, Debug, PartialEq, Eq)]
@@ -45,28 +29,6 @@ enum Stop {
     Unread,
     /// With one that breaks this rule.
     Broken(u8),
-}
-
-/// What the file goes on with.
-fn read_next<S: Source>(
-    alloc: Global,
-    source: &mut S,
-    kept: &mut ReadBuffer,
-) -> Result<Next, OrNoMemory<ReadFault>>
-    ensures next { IfOk result (λ next. IsNext (to_read kept.old (S.left source.old)) next
-        (to_read kept.new (S.left source.new))) }
-    ensures ended { result ≡ Ok Next.End → S.ended source.new ≡ true }
-    ensures failed { (fault : ReadFaults) → result ≡ Err (Fault fault) →
-        Rose (S.faults source.old) (S.faults source.new) }
-    ensures never_falls { S.faults source.old ≤ S.faults source.new }
-{
-    match read_entry(alloc, source, kept) {
-        Ok(Some(entry)) => Ok(Next::Entry(entry)),
-        Ok(None) => Ok(Next::End),
-        Err(OrNoMemory::Fault(LedgerFault::Entry(_))) => Ok(Next::Unread),
-        Err(OrNoMemory::Fault(LedgerFault::Read)) => Err(OrNoMemory::Fault(ReadFault)),
-        Err(OrNoMemory::NoMemory) => Err(OrNoMemory::NoMemory),
-    }
 }
 
 /// Adds an entry to the ledger, or tells the first rule that it breaks. Behind a signature the state

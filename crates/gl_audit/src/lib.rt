@@ -6,8 +6,9 @@ mod laws;
 mod ledger_audit;
 mod verdict;
 
-pub use laws::{law_of_ledger_files, law_of_receipts, law_of_verdicts};
-pub use ledger_audit::{ReadFault, audit};
+pub use gl_ledger_file::ReadFault;
+pub use laws::{law_of_receipts, law_of_verdicts};
+pub use ledger_audit::audit;
 pub use verdict::Verdict;
 
 #[cfg(test)]

@@ -4,4 +4,4 @@ use Rattle.gl_lms.specs.declared.types.Types.TheVariants.{H5W4}
 use Rattle.gl_ledger.specs.NodeKeys.{NodeKeys}
 
 pub any_keys : NodeKeys
-any_keys = record { key_of = λ x. record { types = H5W4; identifier = []; seed = [] }; endorsement_of = λ x. [] }
+any_keys = record { key_of = λ x. record { types = H5W4; identifier = []; seed = [] } }

@@ -1,5 +1,5 @@
 -- The stores with which the nodes of a service begin stand for what the nodes hold then.
-use Rattle.std.proofs.Common.{◌≡◌, ◌≢◌, ⊎_elim, ℕ, zero, suc, ◌+◌, ◌-◌, ◌≤◌, ◌<◌, List, [], ◌∷◌, ◌++◌, length, true, false, Bool, if◌then◌else◌, None, Some, nat_le, slice_get, slice_set, refl, sym, ap, ap₂, subst, ◌∙◌, arith}
+use Rattle.std.proofs.Common.{◌≡◌, ◌≢◌, ⊎_elim, ℕ, zero, suc, ◌+◌, ◌≤◌, ◌<◌, List, [], ◌∷◌, ◌++◌, length, true, false, Bool, if◌then◌else◌, None, Some, nat_le, slice_get, slice_set, refl, sym, ap, ap₂, subst, ◌∙◌, arith}
 use Rattle.std.proofs.lemmas.Bool.{cases_lt}
 use Rattle.std.proofs.lemmas.Bool.Decides.{nat_tests}
 use Rattle.std.proofs.lemmas.Option.{slice_get_within}
@@ -7,7 +7,6 @@ use Rattle.sha2.specs.Sha256.{sha256}
 use Rattle.gl_lms.specs.Tree.{key_bytes}
 use Rattle.gl_lms.specs.Secrets.{PrivateKey, public_of}
 use Rattle.gl_rules.specs.Identity.{NodeId, same}
-use Rattle.gl_rules.proofs.Ids.{same_self}
 use Rattle.gl_entry.specs.declared.entry.Entry.{Entry}
 use Rattle.gl_requests.specs.declared.genesis.Genesis as request
 use Rattle.gl_ledger.specs.declared.breach.Broken.{Broken}
@@ -19,44 +18,28 @@ use Rattle.gl_ledger.proofs.Governed.{no_rule_broken}
 use Rattle.gl_world.specs.declared.settings.Settings.{Settings}
 use Rattle.gl_world.specs.declared.node_key.NodeKey.{NodeKey}
 use Rattle.gl_world.specs.AtStart.{StandAtStart}
-use Rattle.gl_world.specs.Founding.{id_of, keys_of, genesis_of, number_of, endorsement_of}
+use Rattle.gl_world.specs.Founding.{id_of, keys_of, genesis_of, number_of}
 use Rattle.gl_world.specs.Group.{IsGroup}
 use Rattle.gl_world.specs.Keyed.{IsKeyOf}
 use Rattle.gl_world.specs.Keys.{private_key, node_seed}
 use Rattle.gl_world.specs.World.{start_of}
-use Rattle.gl_world.proofs.Endorsements.{numbered}
 use Rattle.gl_world.proofs.Groups.{group_opens}
-use Rattle.gl_world.proofs.NodeIds.{numbers_apart}
+use Rattle.gl_world.proofs.NodeIds.{number_is}
 use Rattle.gl_book.specs.Opening.{IsOfNode, HaveOpened, opened_at}
 use Rattle.gl_book.specs.Stands.{HasKey, NodeStore, Stands, whole}
-
--- the first node with a node's identifier is that node
-number_is : (s : Settings) → IsGroup s → (number : ℕ) → 1 ≤ number → number ≤ s.starting + s.joiners → number_of s (id_of s number) ≡ number
-number_is s h number low high =
-    let r = numbered s number low high in
-    let first = number_of s (id_of s number) in
-    let at : id_of s (suc (first - 1)) ≡ id_of s (suc (number - 1)) =
-    ap (id_of s) (let n : suc (first - 1) ≡ first = omega (arith, r.low) in n) ∙ r.named ∙ ap (id_of s) (let n : number ≡ suc (number - 1) = omega (arith, low) in n) in
-    let one : first - 1 ≡ number - 1 = numbers_apart s h (first - 1) (number - 1) (omega (arith, r.low, r.high)) (omega (arith, low, high))
-    (subst (λ (x : NodeId). same (id_of s (suc (first - 1))) x ≡ true) at (same_self (id_of s (suc (first - 1))))) in
-    omega (arith, one, r.low, low)
 
 -- a store of a node signs with the node's key
 pub has_key : (s : Settings) → IsGroup s → (number : ℕ) → 1 ≤ number → number ≤ s.starting + s.joiners → (node : NodeStore) → IsOfNode s number node → HasKey (keys_of s) node
 has_key s h number low high node is =
     let one : number_of s node.me ≡ number = ap (number_of s) is.named ∙ number_is s h number low high in
-    record {
-      key = ap (λ (n : ℕ). private_key (node_seed s n)) one ∙ sym is.key;
-      endorsement = ap (endorsement_of s) one ∙ sym is.endorsement;
-    }
+    record { key = ap (λ (n : ℕ). private_key (node_seed s n)) one ∙ sym is.key }
 
 -- the store of a node's key is the node's
-joins : (s : Settings) (number : ℕ) (key : NodeKey) (node : NodeStore) → IsKeyOf s number key → node ≡ record { me = sha256 (key_bytes (public_of key.key)); key = key.key; endorsement = key.endorsement.items; ledger = [] } →
+joins : (s : Settings) (number : ℕ) (key : NodeKey) (node : NodeStore) → IsKeyOf s number key → node ≡ record { me = sha256 (key_bytes (public_of key.key)); key = key.key; ledger = [] } →
     IsOfNode s number node
 joins s number key node keyed is = record {
   named = ap (λ (n : NodeStore). n.me) is ∙ ap (λ (k : PrivateKey). sha256 (key_bytes (public_of k))) keyed.key;
   key = ap (λ (n : NodeStore). n.key) is ∙ keyed.key;
-  endorsement = ap (λ (n : NodeStore). n.endorsement) is ∙ keyed.endorsement;
 }
 
 -- an element of a list with one more is of the list, or the last one
@@ -72,7 +55,7 @@ at_end P first (m ∷ ks) k each last (suc i) n is =
 
 -- one more joins
 pub one_joined : (s : Settings) (books new : List NodeStore) (key : NodeKey) (node : NodeStore) → HaveOpened s 0 books → IsKeyOf s (length books + 1) key →
-    node ≡ record { me = sha256 (key_bytes (public_of key.key)); key = key.key; endorsement = key.endorsement.items; ledger = [] } → new ≡ books ++ node ∷ [] → HaveOpened s 0 new
+    node ≡ record { me = sha256 (key_bytes (public_of key.key)); key = key.key; ledger = [] } → new ≡ books ++ node ∷ [] → HaveOpened s 0 new
 one_joined s books new key node opened keyed is grown =
     subst (HaveOpened s 0) (sym grown) (λ i other at.
     subst (λ (n : ℕ). IsAt n other) (let none : 0 + i ≡ i = omega arith in none)
@@ -102,7 +85,7 @@ pub opened_entry : (s : Settings) → IsGroup s → (old : NodeStore) (ledger : 
 opened_entry s h old ledger g e is same founded made =
     let some = h.first in
     let held = has_key s h 1 (omega arith) (omega (arith, some)) old is in
-    made (keys_of s) (record { key = held.key; endorsement = held.endorsement })
+    made (keys_of s) (record { key = held.key })
     ∙ ap (λ (x : NodeId). signed_entry (keys_of s) x 0 ledger 2 2) is.named
     ∙ ap (λ (l : List Entry). signed_entry (keys_of s) (id_of s 1) 0 l 2 2) (founded ∙ ap (λ (m : request.Genesis). genesis_entry m ∷ []) same)
 

@@ -12,11 +12,11 @@ book keys = ledger_book service_layers keys
 
 -- the keys of a service in which each node has this one's key
 abbrev pub keys_of : NodeStore → NodeKeys
-keys_of node = record { key_of = λ x. node.key; endorsement_of = λ x. node.endorsement }
+keys_of node = record { key_of = λ x. node.key }
 
 -- it stands for something
 pub stands_for_itself : (node : NodeStore) → Stands node (book (keys_of node)) (whole node.me node.ledger)
-stands_for_itself node = record { keys = keys_of node; has = record { key = refl; endorsement = refl }; book = refl; holding = refl }
+stands_for_itself node = record { keys = keys_of node; has = record { key = refl }; book = refl; holding = refl }
 
 pub stands_with : (keys : NodeKeys) (node : NodeStore) → HasKey keys node → Stands node (book keys) (whole node.me node.ledger)
 stands_with keys node has = record { keys = keys; has = has; book = refl; holding = refl }
@@ -40,7 +40,7 @@ becomes old new P same each b h stands =
       new.ledger,
       each stands.keys stands.has,
       subst (λ (n : NodeStore). Stands n (book stands.keys) (whole old.me n.ledger)) (sym same)
-          (stands_with stands.keys (record old { ledger = new.ledger }) (record { key = stands.has.key; endorsement = stands.has.endorsement })),
+          (stands_with stands.keys (record old { ledger = new.ledger }) (record { key = stands.has.key })),
     )
 
 -- one with one more entry
@@ -53,7 +53,7 @@ enters old new e P same each b h stands =
       e,
       each stands.keys stands.has,
       subst (λ (n : NodeStore). Stands n (book stands.keys) (whole old.me (old.ledger ++ e ∷ []))) (sym same)
-          (stands_with stands.keys (record old { ledger = old.ledger ++ e ∷ [] }) (record { key = stands.has.key; endorsement = stands.has.endorsement })),
+          (stands_with stands.keys (record old { ledger = old.ledger ++ e ∷ [] }) (record { key = stands.has.key })),
     )
 
 -- one that is as it was

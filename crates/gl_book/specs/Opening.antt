@@ -2,7 +2,7 @@
 use Rattle.std.specs.Prelude.{◌≡◌, ℕ, suc, List, [], Some, slice_get, nat_le, if◌then◌else◌}
 use Rattle.gl_entry.specs.declared.entry.Entry.{Entry}
 use Rattle.gl_world.specs.declared.settings.Settings.{Settings}
-use Rattle.gl_world.specs.Founding.{id_of, endorsement_of}
+use Rattle.gl_world.specs.Founding.{id_of}
 use Rattle.gl_world.specs.Keys.{private_key, node_seed}
 use Rattle.gl_world.specs.World.{start_of}
 use Rattle.gl_book.specs.Stands.{NodeStore}
@@ -11,7 +11,6 @@ use Rattle.gl_book.specs.Stands.{NodeStore}
 pub record IsOfNode (s : Settings) (number : ℕ) (node : NodeStore) : Type 0 where
   pub named : node.me ≡ id_of s number
   pub key : node.key ≡ private_key (node_seed s number)
-  pub endorsement : node.endorsement ≡ endorsement_of s number
 
 -- The ledger of one of the first so many nodes is the opening one, and the others have none.
 abbrev pub opened_at : Settings → ℕ → ℕ → List Entry

@@ -1,5 +1,5 @@
 -- What a node's store holds, and for which rules of consensus and which ledger it stands.
-use Rattle.std.specs.Prelude.{◌≡◌, ℕ, List}
+use Rattle.std.specs.Prelude.{◌≡◌, List}
 use Rattle.gl_lms.specs.Secrets.{PrivateKey}
 use Rattle.gl_rules.specs.Identity.{NodeId}
 use Rattle.gl_entry.specs.declared.entry.Entry.{Entry}
@@ -7,17 +7,15 @@ use Rattle.gl_ledger.specs.NodeKeys.{NodeKeys, service_layers}
 use Rattle.gl_ledger.specs.LedgerBook.{ServiceBook, ledger_book}
 use Rattle.gl_replication.specs.Holding.{Holding}
 
--- Whose it is, the key that it signs with and the service's endorsement of that, and the ledger.
+-- Whose it is, the key that it signs with, and the ledger.
 pub record NodeStore : Type 0 where
   pub me : NodeId
   pub key : PrivateKey
-  pub endorsement : List ℕ
   pub ledger : List Entry
 
--- In this service the node has this key and this endorsement.
+-- In this service the node has this key.
 pub record HasKey (keys : NodeKeys) (node : NodeStore) : Type 0 where
   pub key : keys.key_of node.me ≡ node.key
-  pub endorsement : keys.endorsement_of node.me ≡ node.endorsement
 
 -- A node's ledger that is whole from seqno 1.
 abbrev pub whole : NodeId → List Entry → Holding Entry

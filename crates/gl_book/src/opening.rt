@@ -71,7 +71,7 @@ fn add_joining(
     ensures len { OnOk result (length books.new.items ≡ length books.old.items + 1) }
 {
     let me = Sha256::digest(&node.key.public());
-    let book = StoreBook::joining(alloc, me, node.key, node.endorsement)?;
+    let book = StoreBook::joining(alloc, me, node.key)?;
     books.push(book)?;
     Ok(())
 }

@@ -49,6 +49,7 @@ fn signature(
 impl StoreBook {
     ghost use Rattle.gl_ledger.specs.Makers.{signed_entry, signing_result, unless_empty};
     ghost use Rattle.gl_ledger.specs.NodeKeys.{NodeKeys};
+    ghost use Rattle.gl_ledger.specs.Recordings.{endorsement_in};
     ghost use Rattle.gl_book.specs.Stands.{HasKey};
 
     /// Why nothing is signed, if so: there is no entry, or no seqno is left.
@@ -63,6 +64,17 @@ impl StoreBook {
             0 => Some(Unmade::NoEntry),
             len if len >= LAST_SEQNO => Some(Unmade::ByStore(Refusal::SeqnoLimit)),
             _ => None,
+        }
+    }
+
+    /// The endorsement of the node's key that stands in its row, no bytes where the ledger doesn't
+    /// record the node.
+    fn endorsement(&self) -> &[u8]
+        ensures { result.now ≡ endorsement_in self.now.ledger self.now.me }
+    {
+        match self.ledger.store().gov().history().node(&self.me) {
+            None => &[],
+            Some(recorded) => recorded.node.endorsement.as_slice(),
         }
     }
 
@@ -83,7 +95,7 @@ impl StoreBook {
         let seqno = store.ledger_len() + 1;
         let root = store.root();
         let message = signed_message(&root, view, seqno, commit);
-        let signature = signature(&self.key, &self.endorsement, leaf, &message)?;
+        let signature = signature(&self.key, self.endorsement(), leaf, &message)?;
         Ok(Entry {
             view,
             seqno,

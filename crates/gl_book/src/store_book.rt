@@ -8,13 +8,13 @@ use gl_lms::LmsKey;
 use std::alloc::{AllocError, Global};
 use std::marker::Model;
 
-/// A valid ledger, and the key of the node that signs it, which the service endorsed.
+/// A valid ledger, and the key of the node that signs it. The service's endorsement of the key stands
+/// in the ledger, once that records the node.
 #[derive(Drop)]
 pub struct StoreBook {
     pub(crate) alloc: Global,
     pub(crate) me: NodeId,
     pub(crate) key: LmsKey,
-    pub(crate) endorsement: Vec<u8>,
     pub(crate) ledger: BookLedger,
 }
 
@@ -26,7 +26,6 @@ impl Model for StoreBook {
     ghost view = { λ b. record {
       me = b.me;
       key = b.key;
-      endorsement = b.endorsement.items;
       ledger = b.ledger;
     } };
 }
@@ -37,20 +36,10 @@ impl StoreBook {
     ghost use Rattle.gl_book.specs.Stands.{Stands};
 
     /// That of a node that joins: it has no entry yet. Fails for want of memory alone.
-    pub fn joining(
-        alloc: Global,
-        me: NodeId,
-        key: LmsKey,
-        endorsement: Vec<u8>,
-    ) -> Result<Self, AllocError>
-        ensures holds { IfOk result (λ book. book ≡ record {
-          me = me;
-          key = key;
-          endorsement = endorsement.items;
-          ledger = [];
-        }) }
-        ensures stands { IfOk result (λ book. (keys : NodeKeys) →
-            keys.key_of me ≡ key → keys.endorsement_of me ≡ endorsement.items →
+    pub fn joining(alloc: Global, me: NodeId, key: LmsKey) -> Result<Self, AllocError>
+        ensures holds { IfOk result (λ book.
+            book ≡ record { me = me; key = key; ledger = [] }) }
+        ensures stands { IfOk result (λ book. (keys : NodeKeys) → keys.key_of me ≡ key →
             Stands book (ledger_book service_layers keys)
             (record { me = me; base = 0; log = [] })) }
     {
@@ -59,7 +48,6 @@ impl StoreBook {
             alloc,
             me,
             key,
-            endorsement,
             ledger,
         })
     }

@@ -77,7 +77,7 @@ fn joined(alloc: Global) -> Result<(StoreBook, NodeId), Fail> {
     let endorsement = service.sign_leaf(0, &key.public())?;
     let node = NewNode {
         key: key.public(),
-        endorsement: Bytes::from(Vec::from_slice(alloc, &endorsement)?),
+        endorsement: Bytes::from(endorsement),
     };
     let me = node.id();
     let mut nodes = Vec::new(alloc);
@@ -89,7 +89,7 @@ fn joined(alloc: Global) -> Result<(StoreBook, NodeId), Fail> {
         members: members(alloc)?,
         dealing: dealing(alloc)?,
     };
-    let mut book = StoreBook::joining(alloc, me, key, endorsement)?;
+    let mut book = StoreBook::joining(alloc, me, key)?;
     book.replace_tail(0, &[founding_entry(alloc, genesis)?])?;
     Ok((book, me))
 }

@@ -1,13 +1,11 @@
 -- The check of an opening takes an opening ledger that is told, unless two keys have one digest.
-use Rattle.std.proofs.Common.{◌≡◌, ◌⊎◌, inl, inr, ℕ, zero, suc, ◌-◌, ◌<◌, ◌≤◌, ◌^◌, ◌&&◌, ◌||◌, List, [], ◌∷◌, length, map, take, slice_get, Bool, true, false, if◌then◌else◌, Option, Some, None, Result, Ok, Err, refl, sym, ◌∙◌, ap, subst, arith}
+use Rattle.std.proofs.Common.{◌≡◌, ◌⊎◌, inl, inr, ℕ, zero, suc, ◌-◌, ◌<◌, ◌^◌, ◌&&◌, ◌||◌, List, [], ◌∷◌, length, map, take, slice_get, Bool, true, false, if◌then◌else◌, Option, Some, None, Ok, Err, refl, sym, ◌∙◌, ap, subst, arith}
 use Rattle.std.specs.List.{list_all}
 use Rattle.std.specs.Cmp.Lexicographic.{bytes_decides}
 use Rattle.std.proofs.lemmas.Bool.{and_parts, true≢false}
 use Rattle.sha2.specs.Sha256.{sha256}
 use Rattle.gl_base.specs.Bytes.{are_bytes, are_sized, same_bytes}
 use Rattle.gl_lms.specs.Types.{height}
-use Rattle.gl_lms.specs.Tree.{key_bytes}
-use Rattle.gl_lms.specs.Secrets.{public_of}
 use Rattle.gl_lms.proofs.Octets.{seed_IsKey, seed_key_bytes}
 use Rattle.gl_hss.specs.Signer.{StandsUnder, hss_signature}
 use Rattle.gl_rules.specs.Identity.{NodeId, member}
@@ -26,14 +24,15 @@ use Rattle.gl_gov_rules.specs.Refusals.{are_endorsed, genesis_refusal}
 use Rattle.gl_gov_rules.proofs.Digests.{sha256_digest}
 use Rattle.gl_gov_rules.proofs.Endorsements.{endorsement_means}
 use Rattle.gl_gov_rules.proofs.FoundingAccepted.{accepted_parts, accepted_passes}
+use Rattle.gl_gov_rules.proofs.NewNodes.{nodes_new}
 use Rattle.gl_ledger.specs.Audit.{LedgerFault, audited, opened, opened_unless, opened_where, signer_of}
 use Rattle.gl_ledger.specs.Broken.{broken, is_unopened}
 use Rattle.gl_ledger.specs.Ledger.{genesis_entry, message_behind, signature_entry}
-use Rattle.gl_ledger.specs.Makers.{MakesValid}
+use Rattle.gl_ledger.specs.Makers.{MakesValid, signature_behind}
 use Rattle.gl_ledger.specs.NodeKeys.{IsNodeKey, NodeKeys, service_layers}
-use Rattle.gl_ledger.specs.Opening.{Founds}
-use Rattle.gl_ledger.specs.Recordings.{founds, last_entry, recovers}
+use Rattle.gl_ledger.specs.Recordings.{endorsement_in, founds, last_entry, recovers}
 use Rattle.gl_ledger.proofs.Auditing.{audited_all}
+use Rattle.gl_ledger.proofs.NodeRows.{genesis_endorsement}
 use Rattle.gl_ledger.proofs.NodeSignatures.{node_makes}
 use Rattle.gl_ledger.proofs.Opening.{founded, founding_unbroken, opening_unbroken}
 use Rattle.gl_ledger.proofs.Openings.{identity_behind_genesis}
@@ -42,7 +41,7 @@ use Rattle.gl_journal.specs.Durable.{Durable}
 use Rattle.gl_journal.specs.declared.key.Key.{Key}
 use Rattle.gl_keyfile.specs.Form.{lms_key}
 use Rattle.gl_keyfile.specs.declared.signing.Signing.TheVariants.{Opening}
-use Rattle.gl_consortium.specs.Owed.{first_endorsement, first_id, id_of, is_first_node, opening_bytes, opening_of, opening_owed, opening_signature, owed, owed_for, private_key}
+use Rattle.gl_consortium.specs.Owed.{first_endorsement, first_id, id_of, is_first_node, opening_bytes, opening_of, opening_signature, owed, owed_for, private_key}
 use Rattle.gl_consortium.specs.Laws.{HasTwin, IsOpening}
 use Rattle.gl_consortium.specs.declared.document.Document.{Document}
 use Rattle.gl_consortium.specs.declared.document.Document.TheVariants.{Settings}
@@ -80,7 +79,7 @@ record Signs (key : Key) (leaf : ℕ) (g : founding.Genesis) (n : NewNode) (ns :
 
 module _ (key : Key) (leaf : ℕ) (g : founding.Genesis) (n : NewNode) (ns : List NewNode) (h : Signs key leaf g n ns) where
   abbrev keys : NodeKeys
-  keys = record { key_of = λ x. private_key key; endorsement_of = λ x. n.endorsement }
+  keys = record { key_of = λ x. private_key key }
 
   abbrev node : NodeId
   node = id_of (private_key key)
@@ -99,7 +98,7 @@ module _ (key : Key) (leaf : ℕ) (g : founding.Genesis) (n : NewNode) (ns : Lis
       let all : list_all ranges.is_node (n ∷ ns) ≡ true = subst (λ (l : List NewNode). list_all ranges.is_node l ≡ true) h.nodes (parts g h.fits).1 in
       node_endorsement n (and_parts (ranges.is_node n) _ all).0
 
-  is_node_key : IsNodeKey keys g.identity node
+  is_node_key : IsNodeKey keys n.endorsement g.identity node
   unfolding StandsUnder
   is_node_key =
       let sized = (parts g h.fits).0 in
@@ -117,12 +116,19 @@ module _ (key : Key) (leaf : ℕ) (g : founding.Genesis) (n : NewNode) (ns : Lis
       (subst (λ (k : List ℕ). member (sha256 k) (map node_id (n ∷ ns)) ≡ true) h.same
       (ap (λ (b : Bool). b || member (sha256 n.key) (map node_id ns)) (same_self (sha256 n.key))))
 
+  -- its endorsement is the one in its row
+  row : endorsement_in front node ≡ n.endorsement
+  row =
+      let apart = (nodes_new no_history g.nodes (accepted_passes g h.accepted).nodes).apart in
+      ap (λ (k : List ℕ). endorsement_in front (sha256 k)) (sym h.same) ∙ genesis_endorsement g [] 0 n h.fits apart (ap (λ (l : List NewNode). slice_get l 0) h.nodes)
+
   makes : (q : ℕ) → q < 2 ^ height key.types → MakesValid service_layers keys node q front first_view 2
-  makes q low = node_makes keys g.identity node q front first_view 2 is_node_key low (identity_behind_genesis g)
+  makes q low = node_makes keys g.identity node q front first_view 2 (subst (λ (e : List ℕ). IsNodeKey keys e g.identity node) (sym row) is_node_key) low (identity_behind_genesis g)
 
   -- the endorsement of the first node is what signs
-  with_first : opening_signature (private_key key) leaf g ≡ hss_signature (private_key key) (Some n.endorsement) leaf (message_behind front first_view 2)
-  with_first = ap (λ (l : List NewNode). hss_signature (private_key key) (Some (first_endorsement l)) leaf (message_behind front first_view 2)) h.nodes
+  with_first : opening_signature (private_key key) leaf g ≡ signature_behind keys node leaf front first_view 2
+  with_first =
+      ap (λ (e : List ℕ). hss_signature (private_key key) (Some e) leaf (message_behind front first_view 2)) (ap first_endorsement h.nodes ∙ sym row)
 
   abbrev last : List ℕ → Entry
   last signature = signature_entry node signature front first_view 2
@@ -131,7 +137,7 @@ module _ (key : Key) (leaf : ℕ) (g : founding.Genesis) (n : NewNode) (ns : Lis
   last_unbroken : broken service_layers front (last (opening_signature (private_key key) leaf g)) ≡ None
   last_unbroken =
       let valid = makes leaf h.below in
-      let signature = hss_signature (private_key key) (Some n.endorsement) leaf (message_behind front first_view 2) in
+      let signature = signature_behind keys node leaf front first_view 2 in
       let entry : is_entry (last signature) ≡ true = signed_is_entry service_layers keys node leaf front first_view 2 (sha256_digest (lms_key key)) (omega arith) (omega arith) (omega arith) (omega arith) valid in
       subst (λ (s : List ℕ). broken service_layers front (last s) ≡ None) (sym with_first)
       (opening_unbroken service_layers g h.fits node signature named entry valid.valid)

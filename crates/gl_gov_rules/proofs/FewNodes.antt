@@ -44,7 +44,7 @@ room_for h ns none =
     let few = (neither (nat_lt 32 (length ns)) (nat_lt 65535 (length (nodes h) + length ns)) room).1 in
     grind (arith, nat_tests)
 
-genesis_passes : (h : History) (seqno : ℕ) (g : founding.Genesis) → refusal h seqno (requests.Genesis g) ≡ None → (nodes_refusal h g.nodes ≡ None) × (are_endorsed g.identity g.nodes ≡ true)
+pub genesis_passes : (h : History) (seqno : ℕ) (g : founding.Genesis) → refusal h seqno (requests.Genesis g) ≡ None → (nodes_refusal h g.nodes ≡ None) × (are_endorsed g.identity g.nodes ≡ true)
 unfolding refusal genesis_refusal
 genesis_passes h seqno g none =
     let signature = where_is (not (are_endorsed g.identity g.nodes)) refusals.Signature in
@@ -65,7 +65,7 @@ room_for_one h id none =
     let few = not_bad (nat_le 65535 (length (nodes h))) (refusals.TooMany 65535) (none_of (there orelse pending) many none).1 in
     grind (arith, nat_tests)
 
-join_passes : (h : History) (seqno : ℕ) (n : NewNode) → refusal h seqno (requests.Join n) ≡ None →
+pub join_passes : (h : History) (seqno : ℕ) (n : NewNode) → refusal h seqno (requests.Join n) ≡ None →
     (is_endorsed (key_in_force (identity h)) n.key n.endorsement ≡ true) × (room_refusal h (node_id n) ≡ None)
 unfolding refusal join_refusal
 join_passes h seqno n none =

@@ -153,9 +153,9 @@ recovered_kept rs r founds recovery =
 abbrev pub first_founding : Genesis → Recorded
 first_founding g = record { seqno = 1; request = requests.Genesis g }
 
-founding_brings : (h : History) (g : Genesis) → changes_of h (first_founding g) ≡ founding_changes g
+founding_brings : (h : History) (s : ℕ) (g : Genesis) → changes_of h (record { seqno = s; request = requests.Genesis g }) ≡ founding_changes g
 unfolding changes_of
-founding_brings h g = refl
+founding_brings h s g = refl
 
 -- what it brings about behind its first change
 abbrev founding_rest : Genesis → List Change
@@ -168,15 +168,15 @@ first_sets s g =
     ∙ ap (λ (o : Option (List ℕ)). option_or o (Some g.identity)) (none_set s rest (members_leave g.members))
 
 -- a founding's key is the service's
-first_identity : (g : Genesis) → identity (history (first_founding g ∷ [])) ≡ Some g.identity
+pub founding_named : (rs : List Recorded) (s : ℕ) (g : Genesis) → identity (history (rs ++ record { seqno = s; request = requests.Genesis g } ∷ [])) ≡ Some g.identity
 unfolding identity
-first_identity g =
-    let cs : List Changed = (history []).changes in
-    ap (last_set sets_identity) (changes_more [] (first_founding g) ∙ ap (λ (more : List Change). cs ++ map (changed_at 1) more) (founding_brings (history []) g))
-    ∙ last_set-append sets_identity cs (map (changed_at 1) (founding_changes g))
-    ∙ ap (λ (o : Option (List ℕ)). option_or o (last_set sets_identity cs)) (first_sets 1 g)
+founding_named rs s g =
+    let cs : List Changed = (history rs).changes in
+    ap (last_set sets_identity) (changes_more rs (record { seqno = s; request = requests.Genesis g }) ∙ ap (λ (more : List Change). cs ++ map (changed_at s) more) (founding_brings (history rs) s g))
+    ∙ last_set-append sets_identity cs (map (changed_at s) (founding_changes g))
+    ∙ ap (λ (o : Option (List ℕ)). option_or o (last_set sets_identity cs)) (first_sets s g)
 
-abbrev has_recovery : List Recorded → Bool
+abbrev pub has_recovery : List Recorded → Bool
 has_recovery rs = list_any (λ (r : Recorded). is_recovery r.request) rs
 
 -- behind a founding, and without a recovery, its key is the service's
@@ -187,7 +187,7 @@ key_of_first : (g : Genesis) (rs : List Recorded) → IsGoverned rs → HasKeyOf
 key_of_first g = governed_induction (HasKeyOf g) (λ none at. absurd cc) step
   where
     step : (rs : List Recorded) (r : Recorded) → IsGoverned rs → Follows rs r → HasKeyOf g rs → HasKeyOf g (rs ++ r ∷ [])
-    step [] r all follows old none at = ap (λ (x : Recorded). identity (history (x ∷ []))) (same_Some r (first_founding g) at) ∙ first_identity g
+    step [] r all follows old none at = ap (λ (x : Recorded). identity (history (x ∷ []))) (same_Some r (first_founding g) at) ∙ founding_named [] 1 g
     step (x ∷ rs) r all follows old none at =
         let both = or_parts (has_recovery (x ∷ rs)) (has_recovery (r ∷ [])) (sym (list_any-append (λ (y : Recorded). is_recovery y.request) (x ∷ rs) (r ∷ [])) ∙ none) in
         identity_kept (x ∷ rs) r follows.founding (sym (or-false (is_recovery r.request)) ∙ both.1) ∙ old both.0 at

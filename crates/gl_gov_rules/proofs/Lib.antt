@@ -37,6 +37,7 @@ pub mod RowsFit
 pub mod LastSet
 pub mod RowOfService
 pub mod KeptIdentity
+pub mod EndorsedNodes
 pub mod RequestsUpTo
 pub mod RemovalLaws
 pub mod FoundingReadings

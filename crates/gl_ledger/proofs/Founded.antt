@@ -95,7 +95,7 @@ none_in seqno (content.Governance bytes) h = go (request_in bytes) h
     go (Some g) w = or_from (rules.is_recovery g) false w refl
 
 -- nor do several
-none_recover : (seqno : ℕ) (es : List Entry) → ((i : ℕ) (e : Entry) → slice_get es i ≡ Some e → recovers e ≡ false) → recovers_in (requests_from seqno es) ≡ false
+pub none_recover : (seqno : ℕ) (es : List Entry) → ((i : ℕ) (e : Entry) → slice_get es i ≡ Some e → recovers e ≡ false) → recovers_in (requests_from seqno es) ≡ false
 none_recover seqno [] each = refl
 none_recover seqno (e ∷ es) each =
     list_any-append (λ (r : Recorded). rules.is_recovery r.request) (recorded_in seqno e.content) (requests_from (suc seqno) es)
@@ -104,7 +104,7 @@ none_recover seqno (e ∷ es) each =
 -- ---- the key
 
 -- the service's row tells the key that is in force
-told_key : (r : Recorded) (rs : List Recorded) (key : List ℕ) → rules.IsGoverned (r ∷ rs) → identity (history (r ∷ rs)) ≡ Some key → identity_in (effect (r ∷ rs)) ≡ key
+pub told_key : (r : Recorded) (rs : List Recorded) (key : List ℕ) → rules.IsGoverned (r ∷ rs) → identity (history (r ∷ rs)) ≡ Some key → identity_in (effect (r ∷ rs)) ≡ key
 told_key r rs key all is =
     let row = founded_row r rs all in
     ap identity_of_value (service_value (r ∷ rs) row.0 row.1) ∙ same_Some row.0.identity key (sym (identity_told (r ∷ rs) row.0 row.1) ∙ is)

@@ -56,7 +56,7 @@ module _ (layers : Layers) (ledger : List Entry) (view : ℕ) (m : MayMake ledge
   follows_behind g fits other accepted = record { above = above ledger; fits = fits; founding = other ∙ sym some_recorded; accepted = accepted }
 
   -- its entry fits its format, in a view of four bytes, where its body is small enough and a seqno is left
-  governed_fits : (g : GovernanceRequest) → view < 2 ^ 32 → ranges.is_request g ≡ true → is_founding g ≡ false → refusal (history (requests_of ledger)) (length ledger + 1) g ≡ None →
+  pub governed_fits : (g : GovernanceRequest) → view < 2 ^ 32 → ranges.is_request g ≡ true → is_founding g ≡ false → refusal (history (requests_of ledger)) (length ledger + 1) g ≡ None →
       length ledger < last_seqno → length (body_bytes (governance_entry g ledger view)) ≤ body_limit → is_entry (governance_entry g ledger view) ≡ true
   governed_fits g low fits other accepted left small =
       let r : Recorded = record { seqno = length ledger + 1; request = g } in

@@ -53,7 +53,7 @@ founding_named : (rs : List Recorded) (seqno : ℕ) (g : Genesis) → identity (
 unfolding changes_of
 founding_named rs seqno g = named rs (record { seqno = seqno; request = requests.Genesis g }) g.identity (founding_set seqno g)
 
-recovery_named : (rs : List Recorded) (seqno : ℕ) (q : Recovery) → identity (history (rs ++ record { seqno = seqno; request = requests.Recover q } ∷ [])) ≡ Some q.identity
+pub recovery_named : (rs : List Recorded) (seqno : ℕ) (q : Recovery) → identity (history (rs ++ record { seqno = seqno; request = requests.Recover q } ∷ [])) ≡ Some q.identity
 unfolding changes_of
 recovery_named rs seqno q =
     named rs (record { seqno = seqno; request = requests.Recover q }) q.identity (last_set-cons sets_identity (changed_at seqno (changes.Recovered q.identity)) [])

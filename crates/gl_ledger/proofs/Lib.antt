@@ -16,6 +16,7 @@ pub mod Sounding
 pub mod Governed
 pub mod Fronts
 pub mod Auditing
+pub mod Faults
 pub mod GovernanceBytes
 pub mod RecordedNodes
 pub mod Places
@@ -34,7 +35,11 @@ pub mod Identities
 pub mod Founded
 pub mod Opening
 pub mod NodeOrder
+pub mod NodeRows
 pub mod Opened
 pub mod Signing
 pub mod NodeSignatures
 pub mod SignatureMeanings
+pub mod RecoveredNodes
+pub mod Recovering
+pub mod Recovered

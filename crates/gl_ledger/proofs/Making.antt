@@ -23,6 +23,7 @@ use Rattle.gl_entry.specs.Entry.{is_signature, is_entry, recorded_commit}
 use Rattle.gl_entry.specs.declared.entry.Content.{Content}
 use Rattle.gl_entry.specs.declared.entry.Content.TheVariants as content
 use Rattle.gl_entry.specs.declared.entry.Entry.{Entry}
+use Rattle.gl_entry.specs.declared.entry.Signature as signatures
 use Rattle.gl_requests.specs.Ranges as ranges
 use Rattle.gl_ledger.specs.Tree.{tables_of, leaves_of}
 use Rattle.gl_ledger.specs.Ledger.{execute_result, application_entry}
@@ -43,13 +44,13 @@ use Rattle.gl_ledger.specs.declared.recording.Recording.TheVariants as recording
 use Rattle.gl_ledger.specs.Recordings.{governance_recording, application_recording, is_founding, is_recovering, is_signing, last_entry, begins, requests_of, recorded_nodes, removal, mark}
 use Rattle.gl_ledger.specs.Broken.{required}
 use Rattle.gl_ledger.specs.declared.breach.Broken.{Broken}
-use Rattle.gl_ledger.specs.Broken.{breach, is_next_view, is_unopened, is_in_order, broken_of_run, broken_in_state, unless_refused, with_writes, signs_at, last_signed, commit_behind, commit_from, last_commit, is_above_removal, is_later_commit, may_record, broken_by_fault, are_same_writes, broken}
+use Rattle.gl_ledger.specs.Broken.{breach, is_next_view, is_unopened, is_in_order, broken_of_run, broken_in_state, unless_refused, with_writes, signs_at, last_signed, commit_behind, commit_from, last_commit, is_above_removal, is_later_commit, may_record, broken_by_fault, are_same_writes, fault_of_signature, broken}
 use Rattle.gl_gov_rules.specs.Rows.{effect_writes}
 use Rattle.gl_ledger.specs.declared.made.Given.{Given}
 use Rattle.gl_ledger.specs.declared.made.Given.TheVariants.{Replied}
 use Rattle.gl_ledger.specs.declared.made.Unmade.TheVariants.{Unspelled}
-use Rattle.gl_ledger.specs.Makers.{MayMake, with_reply, request_result, guarded, unless_broken, signature_made, signed_entry, MakesValid}
-use Rattle.gl_ledger.specs.Ledger.{governance_entry}
+use Rattle.gl_ledger.specs.Makers.{MayMake, with_reply, request_result, guarded, unless_broken, signature_behind, signed_entry, MakesValid}
+use Rattle.gl_ledger.specs.Ledger.{governance_entry, signature_entry}
 use Rattle.gl_ledger.specs.LedgerBook.{ledger_book}
 use Rattle.gl_ledger.proofs.SameWrites.{same_writes_self}
 use Rattle.gl_vmaps.proofs.SameValues.{same_bytes_self}
@@ -61,6 +62,10 @@ itself n = grind (arith, nat_tests)
 
 within : (n : ℕ) → n < last_seqno → nat_le (n + 1) last_seqno ≡ true
 within n h = grind (arith, nat_tests)
+
+-- what an entry records of a node's signature, of whatever bytes
+abbrev pub signature_with : NodeId → List ℕ → List Entry → ℕ → signatures.Signature
+signature_with x bytes ledger commit = record { node = x; commit = commit; root = root_of (leaves_of ledger); signature = bytes }
 
 module _ (layers : Layers) (keys : NodeKeys) (ledger : List Entry) (view : ℕ) (m : MayMake ledger view) where
   in_view : (t : Recording) → is_recovering t ≡ false → is_next_view (last_entry ledger) t view ≡ true
@@ -117,17 +122,17 @@ module _ (layers : Layers) (keys : NodeKeys) (ledger : List Entry) (view : ℕ) 
             ∙ passes (are_same_writes writes writes) _ None (same_writes_self writes) refl;
       })
 
-  -- what the trial of a signature comes to
-  pub signed_broken : (x : NodeId) (leaf commit : ℕ) → length ledger < last_seqno → is_entry (signed_entry keys x leaf ledger view commit) ≡ true →
-      MakesValid layers keys x leaf ledger view commit →
-      broken layers ledger (signed_entry keys x leaf ledger view commit)
-      ≡ required (member x (recorded_nodes ledger)) (breach 9 (length ledger + 1) (signed_entry keys x leaf ledger view commit))
-      (required (may_record ledger commit) (breach 10 (length ledger + 1) (signed_entry keys x leaf ledger view commit)) None)
+  -- what the trial of a node's valid signature comes to, of whatever bytes
+  pub signed_broken : (x : NodeId) (bytes : List ℕ) (commit : ℕ) → length ledger < last_seqno → is_entry (signature_entry x bytes ledger view commit) ≡ true →
+      fault_of_signature layers ledger (signature_entry x bytes ledger view commit) (signature_with x bytes ledger commit) ≡ None →
+      broken layers ledger (signature_entry x bytes ledger view commit)
+      ≡ required (member x (recorded_nodes ledger)) (breach 9 (length ledger + 1) (signature_entry x bytes ledger view commit))
+      (required (may_record ledger commit) (breach 10 (length ledger + 1) (signature_entry x bytes ledger view commit)) None)
   unfolding broken
-  signed_broken x leaf commit left fits valid =
-      let e = signed_entry keys x leaf ledger view commit in
+  signed_broken x bytes commit left fits valid =
+      let e = signature_entry x bytes ledger view commit in
       let seqno = length ledger + 1 in
-      let s = signature_made keys x leaf ledger view commit in
+      let s = signature_with x bytes ledger commit in
       true_first (is_entry e) _ _ fits
       ∙ true_first (seqno == seqno) _ _ (itself seqno)
       ∙ true_first (nat_le seqno last_seqno) _ _ (within (length ledger) left)
@@ -135,7 +140,7 @@ module _ (layers : Layers) (keys : NodeKeys) (ledger : List Entry) (view : ℕ) 
       ∙ true_first (is_in_order (last_entry ledger) (recordings.Signature s) view) _ _ (in_order (recordings.Signature s) refl refl)
       ∙ ap (λ (rest : Option Broken). required (member x (recorded_nodes ledger)) (breach 9 seqno e) rest)
       (true_first (same_bytes (root_of (leaves_of ledger)) (root_of (leaves_of ledger))) _ _ (same_bytes_self (root_of (leaves_of ledger)))
-      ∙ ap (λ (rest : Option Broken). required (may_record ledger commit) (breach 10 seqno e) rest) (ap (broken_by_fault seqno) valid.valid))
+      ∙ ap (λ (rest : Option Broken). required (may_record ledger commit) (breach 10 seqno e) rest) (ap (broken_by_fault seqno) valid))
     where
       true_first : (holds : Bool) (b : Broken) (rest : Option Broken) → holds ≡ true → required holds b rest ≡ rest
       true_first true b rest h = refl
@@ -196,7 +201,7 @@ module _ (layers : Layers) (keys : NodeKeys) where
       let records : may_record ledger commit ≡ true =
       ap (λ (o : Option Entry). if is_unopened o then commit == seqno else is_later_commit ledger commit) m.is_last
       ∙ ap (λ (b : Bool). if b then commit == seqno else is_later_commit ledger commit) m.behind ∙ may_go_on ledger commit may in
-      signed_broken layers keys ledger view m x leaf commit left fits valid ∙ passes (member x (recorded_nodes ledger)) (breach 9 seqno e) _ named (passes (may_record ledger commit) (breach 10 seqno e) None records refl)
+      signed_broken layers keys ledger view m x (signature_behind keys x leaf ledger view commit) commit left fits valid.valid ∙ passes (member x (recorded_nodes ledger)) (breach 9 seqno e) _ named (passes (may_record ledger commit) (breach 10 seqno e) None records refl)
 
   pub unless_none : {X : Type 0} (o : Option Broken) (x : X) → o ≡ None → unless_broken o x ≡ Ok x
   unless_none None x h = refl

@@ -22,6 +22,7 @@ use Rattle.gl_ledger.specs.ServiceRow.{identity_in}
 use Rattle.gl_ledger.specs.Tree.{tables_of}
 use Rattle.gl_ledger.specs.Ledger.{message_behind}
 use Rattle.gl_ledger.specs.Makers.{MakesValid}
+use Rattle.gl_ledger.specs.Recordings.{endorsement_in}
 use Rattle.gl_gov_rules.proofs.Digests.{bytes-append}
 use Rattle.gl_ledger.specs.NodeKeys.{NodeKeys, leaf_count, node_signature, signer_fault, fault_or_else, node_signature_fault, service_layers, IsNodeKey}
 
@@ -36,20 +37,19 @@ two_levels k e q message top fields spelled =
     ∙ ap (λ (x : List ℕ). x ++ last) (append_assoc (u32str 1) (signature_bytes top.types fields) key)
     ∙ append_assoc (u32str 1) (signature_bytes top.types fields ++ key) last
 
-module _ (keys : NodeKeys) (identity : List ℕ) (x : NodeId) (leaf : ℕ) (message : List ℕ) (h : IsNodeKey keys identity x) where
-  pub node_bytes : are_bytes (node_signature keys x leaf message) ≡ true
+module _ (keys : NodeKeys) (endorsement identity : List ℕ) (x : NodeId) (leaf : ℕ) (message : List ℕ) (h : IsNodeKey keys endorsement identity x) where
+  pub node_bytes : are_bytes (node_signature keys endorsement x leaf message) ≡ true
   unfolding levels_above
   node_bytes =
       let k = keys.key_of x in
-      let e = keys.endorsement_of x in
       let key = key_bytes (public_of k) in
       let one = u32str 1 in
-      bytes-append (one ++ e ++ key) (signature_bytes k.types (signature_by k leaf message))
-      (bytes-append (one ++ e) key (bytes-append one e (u32str_bytes 1) h.bytes) h.key)
+      bytes-append (one ++ endorsement ++ key) (signature_bytes k.types (signature_by k leaf message))
+      (bytes-append (one ++ endorsement) key (bytes-append one endorsement (u32str_bytes 1) h.bytes) h.key)
       (signed_bytes k leaf message)
 
   module _ (low : leaf < leaf_count keys x) where
-    valid : IsValid identity message (node_signature keys x leaf message)
+    valid : IsValid identity message (node_signature keys endorsement x leaf message)
     unfolding StandsUnder
     valid =
         let k = keys.key_of x in
@@ -60,33 +60,34 @@ module _ (keys : NodeKeys) (identity : List ℕ) (x : NodeId) (leaf : ℕ) (mess
           upper = record { signature = signs.fields; key = public_of k } ∷ [];
           last = signature_by k leaf message;
           of_key = h.stands.of_key;
-          spelled = two_levels k (keys.endorsement_of x) leaf message top signs.fields signs.spelled;
+          spelled = two_levels k endorsement leaf message top signs.fields signs.spelled;
           signs = (signs.signed, h.form, signature_by-IsSigned k leaf message low);
         }
 
     -- the key that made its last level is the node's
-    signer : last_key_verdict identity (node_signature keys x leaf message) ≡ Ok (key_bytes (public_of (keys.key_of x)))
+    signer : last_key_verdict identity (node_signature keys endorsement x leaf message) ≡ Ok (key_bytes (public_of (keys.key_of x)))
     unfolding StandsUnder valid
-    signer = last_key_valid identity message (node_signature keys x leaf message) valid
+    signer = last_key_valid identity message (node_signature keys endorsement x leaf message) valid
 
-    pub node_signs : node_signature_fault identity x message (node_signature keys x leaf message) ≡ None
+    pub node_signs : node_signature_fault identity x message (node_signature keys endorsement x leaf message) ≡ None
     node_signs =
-        let s = node_signature keys x leaf message in
+        let s = node_signature keys endorsement x leaf message in
         let key = key_bytes (public_of (keys.key_of x)) in
         ap (λ (r : Result (Unit {0}) HssFault). fault_or_else r (signer_fault x (last_key_verdict identity s))) (valid_verdict identity message s valid)
         ∙ ap (signer_fault x) signer
         ∙ ap (λ (b : Bool). if b then None else Some (faults.Root x (sha256 key))) ((bytes_decides (sha256 key) x).1 (sym h.named))
 
-    pub node_short : length (node_signature keys x leaf message) ≤ 2 ^ 16
-    node_short = let most = length-valid identity message (node_signature keys x leaf message) valid in omega (arith, most)
+    pub node_short : length (node_signature keys endorsement x leaf message) ≤ 2 ^ 16
+    node_short = let most = length-valid identity message (node_signature keys endorsement x leaf message) valid in omega (arith, most)
 
--- so what it signs behind a ledger whose service it is of is valid there
+-- so what it signs behind a ledger whose service it is of, with the endorsement in its row, is valid there
 pub node_makes : (keys : NodeKeys) (identity : List ℕ) (x : NodeId) (leaf : ℕ) (ledger : List Entry) (view commit : ℕ) →
-    IsNodeKey keys identity x → leaf < leaf_count keys x → identity_in (tables_of ledger) ≡ identity → MakesValid service_layers keys x leaf ledger view commit
+    IsNodeKey keys (endorsement_in ledger x) identity x → leaf < leaf_count keys x → identity_in (tables_of ledger) ≡ identity → MakesValid service_layers keys x leaf ledger view commit
 node_makes keys identity x leaf ledger view commit h low is =
+    let e = endorsement_in ledger x in
     let message = message_behind ledger view commit in
     record {
-      bytes = node_bytes keys identity x leaf message h;
-      short = node_short keys identity x leaf message h low;
-      valid = ap (λ (i : List ℕ). node_signature_fault i x message (node_signature keys x leaf message)) is ∙ node_signs keys identity x leaf message h low;
+      bytes = node_bytes keys e identity x leaf message h;
+      short = node_short keys e identity x leaf message h low;
+      valid = ap (λ (i : List ℕ). node_signature_fault i x message (node_signature keys e x leaf message)) is ∙ node_signs keys e identity x leaf message h low;
     }

@@ -12,3 +12,4 @@ pub mod Makers
 pub mod LedgerBook
 pub mod Audit
 pub mod Opening
+pub mod Recovery

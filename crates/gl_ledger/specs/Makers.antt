@@ -26,7 +26,7 @@ use Rattle.gl_ledger.specs.declared.refusal.Refusal.{Refusal}
 use Rattle.gl_ledger.specs.declared.refusal.Refusal.TheVariants as refusals
 use Rattle.gl_ledger.specs.Layers.{Layers}
 use Rattle.gl_ledger.specs.NodeKeys.{NodeKeys, node_signature}
-use Rattle.gl_ledger.specs.Recordings.{last_entry, requests_of}
+use Rattle.gl_ledger.specs.Recordings.{endorsement_in, last_entry, requests_of}
 use Rattle.gl_ledger.specs.declared.breach.Broken.{Broken}
 use Rattle.gl_ledger.specs.declared.made.Given.{Given}
 use Rattle.gl_ledger.specs.declared.made.Given.TheVariants.{Replied, Governed}
@@ -105,10 +105,11 @@ module _ (layers : Layers) where
   guarded entry_of ledger (Err why) = Err why
 
 module _ (keys : NodeKeys) where
-  -- The signature of a node behind a ledger, with one of its leaves, which records this commit.
+  -- The signature of a node behind a ledger, with one of its leaves, which records this commit. It
+  -- has the endorsement that stands in the node's own row of the ledger.
   abbrev pub signature_behind : NodeId → ℕ → List Entry → ℕ → ℕ → List ℕ
   signature_behind x leaf ledger view commit =
-      node_signature keys x leaf (message_behind ledger view commit)
+      node_signature keys (endorsement_in ledger x) x leaf (message_behind ledger view commit)
 
   -- What its entry records.
   abbrev pub signature_made : NodeId → ℕ → List Entry → ℕ → ℕ → signatures.Signature

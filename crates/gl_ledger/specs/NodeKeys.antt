@@ -14,19 +14,19 @@ use Rattle.gl_hss.specs.Signer.{hss_signature, StandsUnder}
 use Rattle.gl_rules.specs.Identity.{NodeId}
 use Rattle.gl_ledger.specs.Layers.{Layers}
 
--- The key of each node, and the service's signature of its public key.
+-- The key of each node. The service's signature of its public key stands in the node's row of the
+-- ledger.
 pub record NodeKeys : Type 0 where
   pub key_of : NodeId → PrivateKey
-  pub endorsement_of : NodeId → List ℕ
 
 -- How many one-time leaves a node's key has (RFC 8554, section 5.1).
 abbrev pub leaf_count : NodeKeys → NodeId → ℕ
 leaf_count keys x = 2 ^ height (keys.key_of x).types
 
--- A node's signature of a message with one of its leaves.
-abbrev pub node_signature : NodeKeys → NodeId → ℕ → List ℕ → List ℕ
-node_signature keys x leaf message =
-    hss_signature (keys.key_of x) (Some (keys.endorsement_of x)) leaf message
+-- A node's signature of a message with one of its leaves, and with this endorsement of its key.
+abbrev pub node_signature : NodeKeys → List ℕ → NodeId → ℕ → List ℕ → List ℕ
+node_signature keys endorsement x leaf message =
+    hss_signature (keys.key_of x) (Some endorsement) leaf message
 
 -- The key that signed is the node's: its digest is the node's identifier.
 abbrev pub signer_fault : NodeId → Result (List ℕ) HssFault → Option HssFault
@@ -56,11 +56,11 @@ pub record IsSignedBy (identity : List ℕ) (x : NodeId) (message signature : Li
 abbrev pub service_layers : Layers
 service_layers = record { signature_fault = node_signature_fault }
 
--- The service's key endorses the node's, and the node's identifier is the digest of its public key,
--- which has the form that RFC 8554 gives it; key and endorsement are bytes.
-pub record IsNodeKey (keys : NodeKeys) (identity : List ℕ) (x : NodeId) : Type 0 where
+-- The service's key endorses the node's by this endorsement, and the node's identifier is the digest
+-- of its public key, which has the form that RFC 8554 gives it; key and endorsement are bytes.
+pub record IsNodeKey (keys : NodeKeys) (endorsement identity : List ℕ) (x : NodeId) : Type 0 where
   pub form : IsKey (public_of (keys.key_of x))
-  pub stands : StandsUnder (keys.key_of x) (Some (keys.endorsement_of x)) identity
+  pub stands : StandsUnder (keys.key_of x) (Some endorsement) identity
   pub named : x ≡ sha256 (key_bytes (public_of (keys.key_of x)))
   pub key : are_bytes (key_bytes (public_of (keys.key_of x))) ≡ true
-  pub bytes : are_bytes (keys.endorsement_of x) ≡ true
+  pub bytes : are_bytes endorsement ≡ true

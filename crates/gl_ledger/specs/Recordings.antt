@@ -114,6 +114,23 @@ unfoldable pub recorded_nodes : List Entry → List NodeId
 recorded_nodes ledger =
     map (λ (n : RecordedNode). n.id) (nodes.nodes (history (requests_of ledger)))
 
+-- The key and the endorsement in the row of a node, no bytes where it has none.
+abbrev pub key_found : Option RecordedNode → List ℕ
+key_found None = []
+key_found (Some n) = n.node.key
+
+abbrev pub endorsement_found : Option RecordedNode → List ℕ
+endorsement_found None = []
+endorsement_found (Some n) = n.node.endorsement
+
+-- The key with which a ledger records a node, none (no bytes) where it doesn't record it.
+unfoldable pub key_in : List Entry → NodeId → List ℕ
+key_in ledger x = key_found (nodes.node (history (requests_of ledger)) x)
+
+-- The endorsement with which a ledger records a node, none (no bytes) where it doesn't record it.
+unfoldable pub endorsement_in : List Entry → NodeId → List ℕ
+endorsement_in ledger x = endorsement_found (nodes.node (history (requests_of ledger)) x)
+
 -- The trusted nodes of a ledger.
 unfoldable pub trusted_nodes : List Entry → List NodeId
 trusted_nodes ledger = nodes.trusted (history (requests_of ledger))

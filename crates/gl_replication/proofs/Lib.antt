@@ -11,3 +11,4 @@ pub mod Replying
 pub mod Plains
 pub mod Peers
 pub mod Readings
+pub mod Keeping

@@ -1,5 +1,5 @@
 -- What an answer to a leader's entries depends on.
-use Rattle.std.specs.Prelude.{ℕ, List, [], ◌∷◌, Bool, ◌&&◌, ◌||◌, ◌==◌, nat_le, nat_lt, length, true, false, None, Some, if◌then◌else◌}
+use Rattle.std.specs.Prelude.{◌≡◌, ◌≤◌, ◌-◌, ℕ, List, [], ◌∷◌, Bool, ◌&&◌, ◌||◌, ◌==◌, nat_le, nat_lt, length, take, drop, true, false, None, Some, if◌then◌else◌}
 use Rattle.gl_rules.specs.Identity.{NodeId}
 use Rattle.gl_rules.specs.Book.{Book}
 use Rattle.gl_rules.specs.Node.{Node, Follower}
@@ -7,6 +7,7 @@ use Rattle.gl_rules.specs.Message.{Position, Message, AppendReply}
 use Rattle.gl_election.specs.declared.peer.Role.{Role}
 use Rattle.gl_election.specs.declared.peer.Role.TheVariants as roles
 use Rattle.gl_rules.specs.Log.{view_at}
+use Rattle.gl_rules.specs.Outcome.{Step, Refusal, Refused}
 
 -- Whether a log has an entry of this view at this seqno, or the seqno is 0.
 abbrev pub is_matching : {E Q G R A F : Type 0} → Book E Q G R A F → List E → Position → Bool
@@ -24,3 +25,13 @@ abbrev pub is_leading : Role → Bool
 is_leading roles.Leader = true
 is_leading roles.Candidate = false
 is_leading roles.Follower = false
+
+-- A step leaves a node's log as it is up to a seqno. Behind it then stand the last ones of these
+-- entries, unless the step is refused.
+pub record KeepsUpTo {E A F : Type 0} (seqno : ℕ) (es : List E) (n : Node E) (step : Step E A F)
+    : Type 0 where
+  pub before : seqno ≤ length n.log
+  pub after : seqno ≤ length step.node.log
+  pub front : take seqno step.node.log ≡ take seqno n.log
+  pub tail : ((why : Refusal F) → step.outcome ≡ Refused why → ⊥) →
+      drop seqno step.node.log ≡ drop (length es - (length step.node.log - seqno)) es

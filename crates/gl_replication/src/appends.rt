@@ -1,7 +1,8 @@
 //! A leader's entries at a node.
 
-ghost use Rattle.std.specs.Prelude.{◌≡◌, ◌≤◌, ◌<◌, ◌+◌, ◌^◌, ◌&&◌, ◌==◌, nat_lt, [], if◌then◌else◌, map, take, drop, length, true, Ok, IfOk, IfErr, OnErr};
+ghost use Rattle.std.specs.Prelude.{ℕ, ◌≡◌, ◌≤◌, ◌<◌, ◌+◌, ◌^◌, ◌&&◌, ◌==◌, nat_lt, [], if◌then◌else◌, map, take, drop, length, true, Ok, IfOk, IfErr, OnErr};
 ghost use Rattle.gl_base.specs.Answers.{Fails};
+ghost use Rattle.gl_rules.specs.Identity.{NodeId};
 ghost use Rattle.gl_rules.specs.Message.{Append};
 ghost use Rattle.gl_rules.specs.World.{on_message};
 ghost use Rattle.gl_rules.specs.Steps.{cut_to, one_more_cut, enter_view, update_view};
@@ -10,7 +11,7 @@ ghost use Rattle.gl_election.specs.Elections.{position};
 ghost use Rattle.gl_election.specs.Bridge.{message_to, seen_message};
 ghost use Rattle.gl_replication.specs.Stands.{Grows, KeepsAll, Refuses, Replies, Steps, Tells, Turns};
 ghost use Rattle.gl_replication.specs.declared.done.Outcome.TheVariants as answers;
-ghost use Rattle.gl_replication.specs.Replies.{is_matching, is_leading, append_reply_to, following};
+ghost use Rattle.gl_replication.specs.Replies.{KeepsUpTo, is_matching, is_leading, append_reply_to, following};
 
 use crate::book::Book;
 use crate::done::{Done, Outcome, Refusal};
@@ -345,6 +346,30 @@ impl<B: Book> Core<B> {
         ensures { result ≡ ((self.now.peer.view == view) && is_leading self.now.peer.role) }
     {
         self.peer.view == view && matches!(self.peer.role, Role::Leader)
+    }
+
+    /// Up to which seqno the log stays as it is when a leader's entries are taken, by whomever they
+    /// are sent.
+    pub fn kept_behind(&self, view: u32, prev: TxId, entries: &[Entry]) -> u64
+        ensures { Tells B.stands self.now (λ b x n. (from : NodeId) (commit : ℕ) → KeepsUpTo result
+            entries.now n (on_message b (message_to x from view (Append (position prev)
+            entries.now commit)) n)) }
+    {
+        if view < self.peer.view {
+            return self.book.ledger_len();
+        }
+        if self.leads_in(view) {
+            return self.book.ledger_len();
+        }
+        let len = self.len_in_view(view);
+        if !self.is_matching(len, prev) {
+            return len;
+        }
+        let held = self.matching_prefix_len(len, prev.seqno, entries);
+        if held == entries.len() {
+            return len;
+        }
+        prev.seqno + held as u64
     }
 
     /// A leader's entries to this node. Where they are refused, nothing has changed, the view neither.

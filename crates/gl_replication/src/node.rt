@@ -142,6 +142,7 @@ impl<B: Book> Core<B> {
         self.peer.votes = NodeSet::new(Vec::new(self.alloc));
         self.matched.clear();
         self.next.clear();
+        self.start = 1;
         self.leaves.used = self.leaves.reserved;
         self.cuts = 0;
         Ok(Done {

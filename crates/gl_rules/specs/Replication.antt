@@ -246,6 +246,7 @@ module _ {E Q G R A F : Type 0} (book : Book E Q G R A F) where
         votes = [];
         matched = λ _. 0;
         next = λ _. None;
+        start = 1;
         used = n.reserved;
         cuts = 0;
       }) Done

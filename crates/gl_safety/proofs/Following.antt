@@ -51,7 +51,7 @@ module _ {E Q G R A F : Type 0} {b : Book E Q G R A F} {s : Start E} (o : IsOpen
       (cases_lt base (greatest_recorded b l))
 
   pub good_restart : (x : NodeId) (g : Story E) (n : Node E) (used cuts : ℕ) → Tale o g → Good o g x n →
-      Good o g x (record n { role = Follower; leader = None; commit = known_commit b n; votes = []; matched = λ _. 0; next = λ _. None; used = used; cuts = cuts })
+      Good o g x (record n { role = Follower; leader = None; commit = known_commit b n; votes = []; matched = λ _. 0; next = λ _. None; start = 1; used = used; cuts = cuts })
   good_restart x g n used cuts t z = record {
     voter = record { cast = z.voter.cast; later = z.voter.later; counted = λ r y a. absurd (cc); won = z.voter.won; unwon = λ r a. absurd (cc); chief_is = λ r. absurd (cc) };
     logged = z.logged;

@@ -1,5 +1,5 @@
 -- The text of new messages, and of refusals.
-use Rattle.std.proofs.Common.{◌≡◌, ℕ, suc, ◌+◌, ◌-◌, ◌<◌, ◌≤◌, List, [], ◌∷◌, ◌++◌, codes, decimal, false, Option, Some, IfSome, refl, sym, ◌∙◌, ap, subst, arith, append_assoc, append-nil}
+use Rattle.std.proofs.Common.{◌≡◌, ℕ, suc, ◌+◌, ◌-◌, ◌<◌, ◌≤◌, List, [], ◌∷◌, ◌++◌, codes, decimal, false, Some, option_map, refl, sym, ◌∙◌, ap, arith, append_assoc, append-nil}
 use Rattle.gl_rules.specs.Outcome as outcome
 use Rattle.gl_replication.specs.Stands.{Answers}
 use Rattle.gl_replication.specs.declared.done.Refusal.TheVariants as refusals
@@ -9,9 +9,10 @@ use Rattle.gl_world.specs.Founding.{numbers_from}
 use Rattle.gl_world.specs.Running.{ServiceRefusal}
 use Rattle.gl_world.specs.World.{ServiceOutcome}
 use Rattle.gl_world.specs.Happened.{is_no_memory}
-use Rattle.gl_schedule.specs.GovernanceText.{with_numbers}
-use Rattle.gl_schedule.specs.Play.{seen_refusal}
-use Rattle.gl_schedule.specs.Text.{new_messages, outcome_text, refusal_text}
+use Rattle.gl_refusals.specs.Reasons.{reason_of, seen_refusal}
+use Rattle.gl_refusals.specs.declared.value.Reason.{Reason}
+use Rattle.gl_refusals.proofs.Refused.{refused_for}
+use Rattle.gl_schedule.specs.Text.{new_messages, outcome_text, reason_text, with_numbers}
 
 -- numbers behind a longer text
 numbers_behind : (front text : List ℕ) (ns : List ℕ) → with_numbers (front ++ text) ns ≡ front ++ with_numbers text ns
@@ -52,6 +53,21 @@ none_sent front before now none =
     let count : now - before ≡ 0 = omega arith in
     sym (ap (λ (k : ℕ). front ++ new_messages k before) count ∙ append-nil front)
 
+-- a refusal that is told for a reason isn't want of memory
+pub told_other : {S : Type 0} (why : ServiceRefusal S) (reason : Reason) → Some reason ≡ option_map reason_of (seen_refusal why) → is_no_memory why ≡ false
+told_other refusals.NoMemory reason told = absurd (cc)
+told_other (refusals.NotPrimary view leader) reason told = refl
+told_other (refusals.TooManyPending limit) reason told = refl
+told_other (refusals.NotReserved reserved) reason told = refl
+told_other (refusals.KeyExhausted reserved) reason told = refl
+told_other (refusals.NothingToSign seqno) reason told = refl
+told_other (refusals.RemovalNotCommitted seqno commit) reason told = refl
+told_other (refusals.BelowCommit commit seqno) reason told = refl
+told_other refusals.NotPeer reason told = refl
+told_other (refusals.BelowBase base) reason told = refl
+told_other refusals.ViewLimit reason told = refl
+told_other (refusals.ByLedger why) reason told = refl
+
 -- a refusal other than want of memory is the one that the rules know
 pub refused_by : {S : Type 0} (why : ServiceRefusal S) (o : ServiceOutcome) → is_no_memory why ≡ false → Answers why o → (r : outcome.Refusal Unmade) × (seen_refusal why ≡ Some r) × (o ≡ outcome.Refused r)
 refused_by refusals.NoMemory o other answers = absurd (cc)
@@ -68,14 +84,12 @@ refused_by refusals.ViewLimit o other answers = (outcome.ViewLimit, refl, answer
 refused_by (refusals.ByLedger why) o other answers = (outcome.ByLedger why, refl, answers)
 
 -- its text is that of the outcome
-pub refusal_told : {S : Type 0} (s : Settings) (why : ServiceRefusal S) (o : ServiceOutcome) (front begun whole : List ℕ) → is_no_memory why ≡ false → Answers why o → begun ≡ front ++ codes "refused " →
-    IfSome (seen_refusal why) (λ r. whole ≡ begun ++ refusal_text s r) → whole ≡ front ++ outcome_text s o
-refusal_told s why o front begun whole other answers is told =
-    let p = refused_by why o other answers in
-    of_some (seen_refusal why) p.0 p.1 told
-    ∙ ap (λ (l : List ℕ). l ++ refusal_text s p.0) is
-    ∙ append_assoc front (codes "refused ") (refusal_text s p.0)
+pub refusal_told : {S : Type 0} (s : Settings) (why : ServiceRefusal S) (reason : Reason) (o : ServiceOutcome) (front begun whole : List ℕ) → Some reason ≡ option_map reason_of (seen_refusal why) →
+    Answers why o → begun ≡ front ++ codes "refused " → whole ≡ begun ++ reason_text s reason → whole ≡ front ++ outcome_text s o
+refusal_told s why reason o front begun whole told answers is written =
+    let p = refused_for why reason o told answers in
+    written
+    ∙ ap (λ (l : List ℕ). l ++ reason_text s reason) is
+    ∙ append_assoc front (codes "refused ") (reason_text s reason)
+    ∙ ap (λ (r : Reason). front ++ (codes "refused " ++ reason_text s r)) p.1
     ∙ ap (λ (q : ServiceOutcome). front ++ outcome_text s q) (sym p.2)
-  where
-    of_some : (x : Option (outcome.Refusal Unmade)) (r : outcome.Refusal Unmade) → x ≡ Some r → IfSome x (λ q. whole ≡ begun ++ refusal_text s q) → whole ≡ begun ++ refusal_text s r
-    of_some x r is_some holds = subst (λ (y : Option (outcome.Refusal Unmade)). IfSome y (λ q. whole ≡ begun ++ refusal_text s q)) is_some holds

@@ -1,5 +1,4 @@
 pub mod Schedules
-pub mod GovernanceText
 pub mod Text
 pub mod Governed
 pub mod Told

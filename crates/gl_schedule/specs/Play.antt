@@ -2,11 +2,6 @@
 use Rattle.std.specs.Prelude.{◌≡◌, ℕ, suc, List, [], ◌∷◌, ◌++◌, Option, None, Some, Bool, true, false, nat_lt, if◌then◌else◌}
 use Rattle.std.specs.Io.KnownBytes.{Appends}
 use Rattle.gl_outside.specs.Sink.{AppendsFront}
-use Rattle.gl_rules.specs.Outcome.{Refusal}
-use Rattle.gl_rules.specs.Outcome as outcome
-use Rattle.gl_replication.specs.declared.done.Refusal.TheVariants as refusals
-use Rattle.gl_ledger.specs.declared.made.Unmade.{Unmade}
-use Rattle.gl_world.specs.Running.{ServiceRefusal}
 use Rattle.gl_requests.specs.declared.request.GovernanceRequest.{GovernanceRequest}
 use Rattle.gl_world.specs.declared.event.Event.{Event}
 use Rattle.gl_world.specs.declared.event.Event.TheVariants as events
@@ -109,24 +104,6 @@ pub record Sends (old : Playing) (number node : ℕ) (g : GovernanceRequest) (ne
       ++ ((outcome_text old.world.settings (answer_to old.world (events.Govern node g))
       ++ governed_text new.proposals (answer_to old.world (events.Govern node g)))
       ++ sent_text (world_now old.world) (world_now new.world))
-
--- ---- refusals
-
--- A refusal as the rules know it, unless memory ran out.
-abbrev pub seen_refusal : {S : Type 0} → ServiceRefusal S → Option (Refusal Unmade)
-seen_refusal refusals.NoMemory = None
-seen_refusal (refusals.NotPrimary view leader) = Some (outcome.NotPrimary view leader)
-seen_refusal (refusals.TooManyPending limit) = Some (outcome.TooManyPending limit)
-seen_refusal (refusals.NotReserved reserved) = Some (outcome.NotReserved reserved)
-seen_refusal (refusals.KeyExhausted reserved) = Some (outcome.KeyExhausted reserved)
-seen_refusal (refusals.NothingToSign seqno) = Some (outcome.NothingToSign seqno)
-seen_refusal (refusals.RemovalNotCommitted seqno commit) =
-    Some (outcome.RemovalNotCommitted seqno commit)
-seen_refusal (refusals.BelowCommit commit seqno) = Some (outcome.BelowCommit commit seqno)
-seen_refusal refusals.NotPeer = Some outcome.NotPeer
-seen_refusal (refusals.BelowBase base) = Some (outcome.BelowBase base)
-seen_refusal refusals.ViewLimit = Some outcome.ViewLimit
-seen_refusal (refusals.ByLedger why) = Some (outcome.ByLedger why)
 
 -- ---- lines
 

@@ -15,11 +15,12 @@ use Rattle.gl_rules.specs.Retirement as stages
 use Rattle.gl_rules.specs.Safety.{committed_ledger}
 use Rattle.gl_entry.specs.Entry.{frame_bytes}
 use Rattle.gl_entry.specs.declared.entry.Entry.{Entry}
-use Rattle.gl_requests.specs.Spelling.{state_byte}
 use Rattle.gl_tx.specs.declared.request.Answer.{Answer}
 use Rattle.gl_tx.specs.declared.request.Answer.TheVariants as answers
-use Rattle.gl_tx.specs.Abort.{number_of}
-use Rattle.gl_ledger.specs.declared.refusal.Refusal.TheVariants as refusals
+use Rattle.gl_refusals.specs.Reasons.{reason_of}
+use Rattle.gl_refusals.specs.declared.value.Reason.{Reason}
+use Rattle.gl_refusals.specs.declared.value.Value.{Value}
+use Rattle.gl_refusals.specs.declared.value.Value.TheVariants.{Number, Digest, Leader}
 use Rattle.gl_world.specs.declared.settings.Settings.{Settings}
 use Rattle.gl_world.specs.Founding.{node_ids, numbers_from}
 use Rattle.gl_world.specs.Members.{leaf_limit}
@@ -27,8 +28,11 @@ use Rattle.gl_world.specs.World.{ServiceOutcome, ServiceWorld}
 use Rattle.gl_ledger.specs.declared.made.Given.{Given}
 use Rattle.gl_ledger.specs.declared.made.Given.TheVariants.{Replied, Governed}
 use Rattle.gl_ledger.specs.declared.made.Unmade.{Unmade}
-use Rattle.gl_ledger.specs.declared.made.Unmade.TheVariants.{ByStore, Unspelled, NoEntry, NoEvidenceYet, Founding, ByRule}
-use Rattle.gl_schedule.specs.GovernanceText.{with_numbers, governance_text}
+
+-- Numbers behind a word, each behind a space.
+abbrev pub with_numbers : List ℕ → List ℕ → List ℕ
+with_numbers text [] = text
+with_numbers text (n ∷ ns) = with_numbers (text ++ codes " " ++ decimal n) ns
 
 -- A value in hexadecimal, or a full stop for one of no bytes.
 abbrev pub value_text : List ℕ → List ℕ
@@ -56,20 +60,6 @@ abbrev pub given_text : Given → List ℕ
 given_text (Replied answers) = codes " " ++ answers_text answers
 given_text (Governed status) = []
 
-abbrev pub unmade_text : Unmade → List ℕ
-unmade_text (ByStore (refusals.ServiceState state)) =
-    with_numbers (codes "51") (state_byte state ∷ [])
-unmade_text (ByStore (refusals.Aborted abort)) =
-    with_numbers (codes "122") (abort.operation ∷ number_of abort.cause ∷ [])
-unmade_text (ByStore (refusals.TooLarge size)) = with_numbers (codes "119") (size ∷ [])
-unmade_text (ByStore refusals.SeqnoLimit) = codes "130"
-unmade_text (ByStore (refusals.Governance why)) = governance_text why
-unmade_text Unspelled = codes "117"
-unmade_text NoEntry = codes "117"
-unmade_text NoEvidenceYet = codes "117"
-unmade_text Founding = codes "117"
-unmade_text (ByRule broken) = codes "117"
-
 -- A node is told by its number: its place among all nodes, from 1.
 abbrev pub node_text : Option ℕ → List ℕ
 node_text None = codes "-"
@@ -79,23 +69,22 @@ abbrev pub leader_text : Settings → Option NodeId → List ℕ
 leader_text s None = codes "-"
 leader_text s (Some y) = node_text (position (same_bytes y) (node_ids s))
 
+-- A value of a refusal: a number in decimal, a digest in hexadecimal, a leader by its number.
+abbrev pub reason_value_text : Settings → Value → List ℕ
+reason_value_text s (Number n) = decimal n
+reason_value_text s (Digest digest) = encode_lower digest
+reason_value_text s (Leader leader) = leader_text s leader
+
+-- Values, each behind a space.
+abbrev pub values_behind : Settings → List Value → List ℕ
+values_behind s values = flat_map (λ value. codes " " ++ reason_value_text s value) values
+
 -- A refusal's number and its values.
+abbrev pub reason_text : Settings → Reason → List ℕ
+reason_text s reason = decimal reason.code ++ values_behind s reason.values
+
 abbrev pub refusal_text : Settings → Refusal Unmade → List ℕ
-refusal_text s (outcome.NotPrimary view leader) =
-    with_numbers (codes "110") (view ∷ []) ++ codes " " ++ leader_text s leader
-refusal_text s (outcome.TooManyPending limit) = with_numbers (codes "111") (limit ∷ [])
-refusal_text s (outcome.NotReserved reserved) = with_numbers (codes "112") (reserved ∷ [])
-refusal_text s (outcome.KeyExhausted reserved) = with_numbers (codes "113") (reserved ∷ [])
-refusal_text s (outcome.NothingToSign seqno) = with_numbers (codes "114") (seqno ∷ [])
-refusal_text s (outcome.RemovalNotCommitted place commit) =
-    with_numbers (codes "115") (place ∷ commit ∷ [])
-refusal_text s (outcome.BelowCommit commit cut) = with_numbers (codes "116") (commit ∷ cut ∷ [])
-refusal_text s (outcome.RolledBack before now) = with_numbers (codes "124") (before ∷ now ∷ [])
-refusal_text s outcome.NotPeer = codes "126"
-refusal_text s (outcome.BelowBase base) = with_numbers (codes "127") (base ∷ [])
-refusal_text s outcome.ViewLimit = codes "128"
-refusal_text s (outcome.NoLaterSignature commit) = with_numbers (codes "81") (commit ∷ [])
-refusal_text s (outcome.ByLedger why) = unmade_text why
+refusal_text s why = reason_text s (reason_of why)
 
 abbrev pub id_text : ℕ → ℕ → List ℕ
 id_text view seqno = text_of (record { view = view; seqno = seqno })

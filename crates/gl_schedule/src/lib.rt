@@ -2,7 +2,6 @@
 #![tactic(auto)]
 
 mod event_line;
-mod governance_text;
 mod line_request;
 mod machine;
 mod numbers;

@@ -3,60 +3,22 @@
 ghost use Rattle.std.specs.Prelude.{◌≡◌, ◌<◌, ◌^◌, ◌++◌, false, position, IfSome, OnOk};
 ghost use Rattle.gl_base.specs.Bytes.{same_bytes};
 ghost use Rattle.gl_ledger.specs.declared.made.Unmade.{Unmade as Why};
-ghost use Rattle.gl_ledger.specs.declared.made.Unmade.TheVariants.{ByStore};
 ghost use Rattle.gl_replication.specs.Stands.{Answers, seen_outcome};
 ghost use Rattle.gl_world.specs.Founding.{node_ids};
 ghost use Rattle.gl_world.specs.Happened.{is_no_memory};
 ghost use Rattle.gl_world.specs.World.{ServiceOutcome};
 ghost use Rattle.gl_world.specs.declared.settings.Settings.{Settings};
-ghost use Rattle.gl_rules.specs.Outcome.{NotPrimary};
-ghost use Rattle.gl_schedule.specs.Play.{seen_refusal};
-ghost use Rattle.gl_schedule.specs.Text.{given_text, id_text, leader_text, node_text, outcome_text, refusal_text, unmade_text};
+ghost use Rattle.gl_schedule.specs.Text.{given_text, id_text, leader_text, node_text, outcome_text, reason_text, reason_value_text, values_behind};
 
-use crate::governance_text::{put_governance_refusal, put_one, put_two};
-use crate::text::{put_answers, put_number, put_value};
+use crate::text::{put_answers, put_hex, put_number};
 use gl_base::TxId;
 use gl_entry::NodeId;
 use gl_ledger::{Given, Reads, Unmade};
+use gl_refusals::{Reason, Value, reason_of};
 use gl_replication::{Book, Outcome, Refusal};
 use gl_requests::GovernanceRequest;
 use gl_tx::Request;
 use std::alloc::{AllocError, Global};
-
-fn put_store_refusal(
-    alloc: Global,
-    out: &mut Vec<u8>,
-    refusal: gl_ledger::Refusal,
-) -> Result<(), AllocError>
-    ensures { OnOk result (out.new.items ≡ out.old.items ++ unmade_text (ByStore refusal)) }
-{
-    match refusal {
-        gl_ledger::Refusal::ServiceState(state) => put_one(out, b"51", u64::from(state.byte())),
-        gl_ledger::Refusal::Aborted(abort) => put_two(
-            out,
-            b"122",
-            u64::from(abort.operation),
-            u64::from(abort.cause.number()),
-        ),
-        gl_ledger::Refusal::TooLarge { size } => put_one(out, b"119", size),
-        gl_ledger::Refusal::SeqnoLimit => out.extend_from_slice(b"130"),
-        gl_ledger::Refusal::Governance(why) => put_governance_refusal(alloc, out, why),
-    }
-}
-
-/// Why the ledger takes no entry.
-fn put_unmade(alloc: Global, out: &mut Vec<u8>, why: Unmade) -> Result<(), AllocError>
-    ensures { OnOk result (out.new.items ≡ out.old.items ++ unmade_text why) }
-{
-    match why {
-        Unmade::ByStore(refusal) => put_store_refusal(alloc, out, refusal),
-        Unmade::Unspelled
-        | Unmade::NoEntry
-        | Unmade::NoEvidenceYet
-        | Unmade::Founding
-        | Unmade::ByRule(_) => out.extend_from_slice(b"117"),
-    }
-}
 
 /// The index of a node among these.
 fn index_of(ids: &[NodeId], id: &NodeId) -> Option<usize>
@@ -88,49 +50,52 @@ fn put_leader(out: &mut Vec<u8>, ids: &[NodeId], leader: &Option<NodeId>) -> Res
     }
 }
 
-/// That a node doesn't lead: its view, and whom it takes for the leader.
-pub fn put_not_primary(
+/// A value of a refusal.
+fn put_reason_value(
+    alloc: Global,
     out: &mut Vec<u8>,
     ids: &[NodeId],
-    view: u32,
-    leader: &Option<NodeId>,
+    value: &Value,
 ) -> Result<(), AllocError>
-    ensures { OnOk result ((s : Settings) → ids.now ≡ node_ids s → out.new.items
-        ≡ out.old.items ++ refusal_text s (NotPrimary view leader.now)) }
+    ensures { OnOk result ((s : Settings) → ids.now ≡ node_ids s →
+        out.new.items ≡ out.old.items ++ reason_value_text s value.now) }
 {
-    put_one(out, b"110", u64::from(view))?;
-    out.extend_from_slice(b" ")?;
-    put_leader(out, ids, leader)
+    match value {
+        Value::Number(n) => put_number(out, *n),
+        Value::Digest(digest) => put_hex(alloc, out, digest),
+        Value::Leader(leader) => put_leader(out, ids, leader),
+    }
 }
 
-/// The number of a refusal and its values. Want of memory isn't told.
-fn put_why<
-    B: Book<
-        Request = Request,
-        Gov = GovernanceRequest,
-        Reads = Reads,
-        Given = Given,
-        Refused = Unmade,
-    >,
->(alloc: Global, out: &mut Vec<u8>, ids: &[NodeId], refusal: &Refusal<B>) -> Result<(), AllocError>
-    ensures told { OnOk result ((s : Settings) → ids.now ≡ node_ids s → IfSome
-        (seen_refusal refusal.now) (λ r. out.new.items ≡ out.old.items ++ refusal_text s r)) }
-    ensures other { OnOk result (is_no_memory refusal.now ≡ false) }
+/// Values, each behind a space.
+fn put_values_behind(
+    alloc: Global,
+    out: &mut Vec<u8>,
+    ids: &[NodeId],
+    values: &[Value],
+) -> Result<(), AllocError>
+    ensures { OnOk result ((s : Settings) → ids.now ≡ node_ids s →
+        out.new.items ≡ out.old.items ++ values_behind s values.now) }
 {
-    match refusal {
-        Refusal::NoMemory => Err(AllocError),
-        Refusal::NotPrimary(view, leader) => put_not_primary(out, ids, *view, leader),
-        Refusal::TooManyPending(limit) => put_one(out, b"111", *limit),
-        Refusal::NotReserved(reserved) => put_one(out, b"112", *reserved),
-        Refusal::KeyExhausted(reserved) => put_one(out, b"113", *reserved),
-        Refusal::NothingToSign(seqno) => put_one(out, b"114", *seqno),
-        Refusal::RemovalNotCommitted(seqno, commit) => put_two(out, b"115", *seqno, *commit),
-        Refusal::BelowCommit(commit, seqno) => put_two(out, b"116", *commit, *seqno),
-        Refusal::NotPeer => out.extend_from_slice(b"126"),
-        Refusal::BelowBase(base) => put_one(out, b"127", *base),
-        Refusal::ViewLimit => out.extend_from_slice(b"128"),
-        Refusal::ByLedger(why) => put_unmade(alloc, out, *why),
+    for value in values {
+        out.extend_from_slice(b" ")?;
+        put_reason_value(alloc, out, ids, value)?;
     }
+    Ok(())
+}
+
+/// The number of a refusal and its values.
+pub fn put_reason(
+    alloc: Global,
+    out: &mut Vec<u8>,
+    ids: &[NodeId],
+    reason: &Reason,
+) -> Result<(), AllocError>
+    ensures { OnOk result ((s : Settings) → ids.now ≡ node_ids s →
+        out.new.items ≡ out.old.items ++ reason_text s reason.now) }
+{
+    put_number(out, u64::from(reason.code))?;
+    put_values_behind(alloc, out, ids, reason.values.as_slice())
 }
 
 /// That an event is refused, and why. Want of memory isn't told.
@@ -147,8 +112,11 @@ pub fn put_refusal<
         Answers refusal.now o → out.new.items ≡ out.old.items ++ outcome_text s o) }
     ensures other { OnOk result (is_no_memory refusal.now ≡ false) }
 {
+    let Some(reason) = reason_of(alloc, refusal)? else {
+        return Err(AllocError);
+    };
     out.extend_from_slice(b"refused ")?;
-    put_why(alloc, out, ids, refusal)?;
+    put_reason(alloc, out, ids, &reason)?;
     Ok(())
 }
 

@@ -7,8 +7,7 @@ ghost use Rattle.hex.specs.Hex.{encode_lower};
 ghost use Rattle.gl_config.specs.Stages.{seen_stage};
 ghost use Rattle.gl_entry.specs.Entry.{is_entry};
 ghost use Rattle.gl_world.specs.Founding.{numbers_from};
-ghost use Rattle.gl_schedule.specs.GovernanceText.{with_numbers};
-ghost use Rattle.gl_schedule.specs.Text.{value_text, answer_text, answers_behind, answers_text, status_text, stage_text, new_messages, no_proposal_text, unnamed_text, id_text, ids_text, entry_text, ledger_text, spent_text};
+ghost use Rattle.gl_schedule.specs.Text.{value_text, answer_text, answers_behind, answers_text, status_text, stage_text, new_messages, no_proposal_text, unnamed_text, id_text, ids_text, entry_text, ledger_text, spent_text, with_numbers};
 ghost use Rattle.gl_schedule.specs.Governed.{proposal_text, state_text};
 
 use crate::proposals::NumberedProposal;

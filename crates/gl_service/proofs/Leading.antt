@@ -19,7 +19,7 @@ use Rattle.gl_ledger.specs.Broken.{is_unopened, is_later_commit, may_record}
 use Rattle.gl_ledger.specs.Makers.{MayMake, MakesValid, request_result, signing_result, govern_result}
 use Rattle.gl_ledger.specs.LedgerBook.{ledger_book}
 use Rattle.gl_ledger.specs.Opening.{Begins}
-use Rattle.gl_ledger.specs.Sound.{IsUnrecovered}
+use Rattle.gl_ledger.specs.Sound.{IsSound, IsUnrecovered}
 use Rattle.gl_ledger.proofs.Governed.{followed}
 use Rattle.gl_ledger.proofs.Governing.{govern_is}
 use Rattle.gl_ledger.proofs.Lawful.{lawful}
@@ -53,7 +53,7 @@ module _ (layers : Layers) (keys : NodeKeys) (s : Start Entry) (h : Begins layer
   leads_there : (node_at (ledger_book layers keys) s events (length events) x).role ≡ Leader
   leads_there = subst (λ (es : List ServiceEvent). (node_after (ledger_book layers keys) s es x).role ≡ Leader) (sym whole) leads
 
-  pub follows : EachFollows (ledger_book layers keys) n.log
+  follows : EachFollows (ledger_book layers keys) n.log
   follows = at_end (λ m. EachFollows (ledger_book layers keys) m.log) (all.follows (length events) x leads_there)
 
   views : ViewsUpTo (ledger_book layers keys) n.view n.log
@@ -67,6 +67,9 @@ module _ (layers : Layers) (keys : NodeKeys) (s : Start Entry) (h : Begins layer
 
   pub unrecovered : IsUnrecovered n.log
   unrecovered = stays_unrecovered layers keys s h events x
+
+  pub leader_sound : IsSound layers n.log
+  leader_sound = followed layers keys n.log follows
 
   -- an entry may be made behind it
   may_go : MayMake n.log n.view
@@ -120,4 +123,4 @@ module _ (layers : Layers) (keys : NodeKeys) (s : Start Entry) (h : Begins layer
 
   pub leader_governs : (g : GovernanceRequest) → (ledger_book layers keys).govern n.log n.view g ≡ govern_result n.log n.view g
   leader_governs g =
-      govern_is layers keys n.log n.view four_bytes may_go (followed layers keys n.log follows) g
+      govern_is layers keys n.log n.view four_bytes may_go leader_sound g

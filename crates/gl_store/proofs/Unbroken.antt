@@ -20,17 +20,16 @@ use Rattle.gl_requests.specs.declared.request.GovernanceRequest.{GovernanceReque
 use Rattle.gl_ledger.specs.ServiceRow.{identity_in}
 use Rattle.gl_ledger.specs.Tree.{tables_of}
 use Rattle.gl_ledger.specs.Ledger.{HasViewsUpTo, genesis_entry, governance_entry, signature_entry, message_behind, execute_result}
-use Rattle.gl_ledger.specs.NodeKeys.{leaf_count, node_signature_fault, service_layers, NodeKeys}
+use Rattle.gl_ledger.specs.NodeKeys.{leaf_count, node_signature, node_signature_fault, service_layers, NodeKeys}
 use Rattle.gl_ledger.specs.Recordings.{last_entry, requests_of, recorded_nodes}
 use Rattle.gl_ledger.specs.Broken.{is_unopened, may_record, is_later_commit, broken}
-use Rattle.gl_ledger.specs.Makers.{signature_behind, signed_entry}
 use Rattle.gl_requests.specs.declared.genesis.Genesis as founding
 use Rattle.gl_gov_rules.specs.Governed as governance
 use Rattle.gl_gov_rules.specs.Changes.{history}
 use Rattle.gl_gov_rules.specs.History.{no_history}
 use Rattle.gl_gov_rules.specs.Refusals.{refusal, genesis_refusal}
 use Rattle.gl_requests.specs.declared.request.GovernanceRequest.TheVariants as requests
-use Rattle.gl_ledger.proofs.NodeSignatures.{node_makes}
+use Rattle.gl_ledger.proofs.NodeSignatures.{node_signs}
 use Rattle.gl_ledger.proofs.Opening.{founding_unbroken, opening_unbroken}
 use Rattle.gl_ledger.proofs.Openings.{identity_behind_genesis}
 use Rattle.gl_ledger.proofs.Making.{governed_unbroken}
@@ -50,7 +49,7 @@ execution_unbroken ledger b view q e a k some opened up fits h one = request_unb
 
 -- the rules ask for no keys, so any will do
 any_keys : NodeKeys
-any_keys = record { key_of = λ x. record { types = H5W4; identifier = []; seed = [] }; endorsement_of = λ x. [] }
+any_keys = record { key_of = λ x. record { types = H5W4; identifier = []; seed = [] } }
 
 -- what a request of governance makes that founds nothing and is accepted
 pub governance_unbroken : (ledger : List Entry) (b : Beside) (view : ℕ) (g : GovernanceRequest) (e : Entry) → IsKept ledger b → 0 < length ledger → is_unopened (last_entry ledger) ≡ false →
@@ -68,11 +67,20 @@ governance_kept ledger b h view g e k seen some opened up fits founding recovery
     length h.ledger < last_seqno → e ≡ governance_entry g h.ledger view → is_entry e ≡ true → broken service_layers h.ledger e ≡ None) seen
     (λ some opened up accepted left made one. governance_unbroken ledger b view g e k some opened up fits founding recovery accepted left made one) some opened up
 
--- the signature of a signer is what a node signs that has the signer's key
-signed_same : (keys : NodeKeys) (node : List ℕ) (signer : Signer) (ledger : List Entry) (view commit : ℕ) → signer.key ≡ keys.key_of node → signer.endorsement ≡ Some (keys.endorsement_of node) →
-    signature_of signer ledger view commit ≡ signature_behind keys node signer.used ledger view commit
-signed_same keys node signer ledger view commit key endorsement =
+-- the signature of a signer is what a node signs that has the signer's key and endorsement
+signed_same : (keys : NodeKeys) (by node : List ℕ) (signer : Signer) (ledger : List Entry) (view commit : ℕ) → signer.key ≡ keys.key_of node → signer.endorsement ≡ Some by →
+    signature_of signer ledger view commit ≡ node_signature keys by node signer.used (message_behind ledger view commit)
+signed_same keys by node signer ledger view commit key endorsement =
     ap₂ (λ (k : PrivateKey) (e : Option (List ℕ)). hss_signature k e signer.used (message_behind ledger view commit)) key endorsement
+
+-- so it is valid
+signer_valid : (node identity : List ℕ) (signer : Signer) (ledger : List Entry) (view commit : ℕ) → SignsFor node identity signer → signer.used < 2 ^ height signer.key.types →
+    node_signature_fault identity node (message_behind ledger view commit) (signature_of signer ledger view commit) ≡ None
+signer_valid node identity signer ledger view commit for low =
+    let message : List ℕ = message_behind ledger view commit in
+    let leaf : signer.used < leaf_count for.keys node = subst (λ (x : PrivateKey). signer.used < 2 ^ height x.types) for.key low in
+    ap (node_signature_fault identity node message) (signed_same for.keys for.by node signer ledger view commit for.key for.endorsement)
+    ∙ node_signs for.keys for.by identity node signer.used message for.endorsed leaf
 
 -- its endorsement is short enough for an entry
 pub short_endorsement : (node identity : List ℕ) (signer : Signer) → SignsFor node identity signer → Rattle.std.specs.Prelude.IfSome signer.endorsement (λ (bytes : List ℕ). length bytes ≤ 2 ^ 15)
@@ -86,12 +94,9 @@ pub signer_unbroken : (ledger : List Entry) (b : Beside) (view commit : ℕ) (no
     member node (recorded_nodes ledger) ≡ true → may_record ledger commit ≡ true →
     e ≡ signature_entry node (signature_of signer ledger view commit) ledger view commit → is_entry e ≡ true → broken service_layers ledger e ≡ None
 signer_unbroken ledger b view commit node signer e k some opened up left low for named may made one =
-    let same : e ≡ signed_entry for.keys node signer.used ledger view commit =
-    made ∙ ap (λ (bytes : List ℕ). signature_entry node bytes ledger view commit) (signed_same for.keys node signer ledger view commit for.key for.endorsement) in
-    let leaf : signer.used < leaf_count for.keys node = subst (λ (x : PrivateKey). signer.used < 2 ^ height x.types) for.key low in
-    subst (λ (x : Entry). broken service_layers ledger x ≡ None) (sym same)
-    (signature_unbroken service_layers ledger view (may_make_behind service_layers ledger view some opened up) for.keys node signer.used commit (omega arith) (subst (λ (x : Entry). is_entry x ≡ true) same one)
-    (node_makes for.keys (identity_in (tables_of ledger)) node signer.used ledger view commit for.endorsed leaf refl) named may)
+    subst (λ (x : Entry). broken service_layers ledger x ≡ None) (sym made)
+    (signature_unbroken service_layers ledger view (may_make_behind service_layers ledger view some opened up) node (signature_of signer ledger view commit) commit (omega arith) (subst (λ (x : Entry). is_entry x ≡ true) made one)
+    (signer_valid node (identity_in (tables_of ledger)) signer ledger view commit for low) named may)
 
 -- a ledger that records a node has an entry
 pub signing_some : (ledger : List Entry) (node : List ℕ) → member node (recorded_nodes ledger) ≡ true → 0 < length ledger
@@ -150,9 +155,7 @@ opening_signed g ledger node signer e fits named for low founded made one =
     let opening : List Entry = genesis_entry g ∷ [] in
     let bytes : List ℕ = signature_of signer opening 2 2 in
     let same : e ≡ signature_entry node bytes opening 2 2 = made ∙ ap (λ (es : List Entry). signature_entry node (signature_of signer es 2 2) es 2 2) founded in
-    let leaf : signer.used < leaf_count for.keys node = subst (λ (x : PrivateKey). signer.used < 2 ^ height x.types) for.key low in
-    let makes = node_makes for.keys g.identity node signer.used opening 2 2 for.endorsed leaf (identity_behind_genesis g) in
     subst (λ (es : List Entry). broken service_layers es e ≡ None) (sym founded)
     (subst (λ (x : Entry). broken service_layers opening x ≡ None) (sym same)
     (opening_unbroken service_layers g fits node bytes named (subst (λ (x : Entry). is_entry x ≡ true) same one)
-    (ap (λ (bytes : List ℕ). node_signature_fault (identity_in (tables_of opening)) node (message_behind opening 2 2) bytes) (signed_same for.keys node signer opening 2 2 for.key for.endorsement) ∙ makes.valid)))
+    (ap (λ (i : List ℕ). node_signature_fault i node (message_behind opening 2 2) bytes) (identity_behind_genesis g) ∙ signer_valid node g.identity signer opening 2 2 for low)))

@@ -51,12 +51,13 @@ pub record Governs (old : Held) (view : ℕ) (g : GovernanceRequest) (id : TxId)
   pub enters : Enters old view entry id new
 
 -- The signer signs for a node of the service with this key: it has the key of which the node's
--- identifier is the digest, and that key's endorsement by the service.
+-- identifier is the digest, and an endorsement of it by the service, whichever.
 pub record SignsFor (node : NodeId) (identity : List ℕ) (signer : Signer) : Type 0 where
   pub keys : NodeKeys
+  pub by : List ℕ
   pub key : signer.key ≡ keys.key_of node
-  pub endorsement : signer.endorsement ≡ Some (keys.endorsement_of node)
-  pub endorsed : IsNodeKey keys identity node
+  pub endorsement : signer.endorsement ≡ Some by
+  pub endorsed : IsNodeKey keys by identity node
 
 -- What a signer signs behind a ledger with its next leaf, in a view and with a commit.
 abbrev pub signature_of : Signer → List Entry → ℕ → ℕ → List ℕ

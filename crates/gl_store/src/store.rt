@@ -24,6 +24,7 @@ use std::marker::Model;
 
 mod governance;
 mod receipts;
+mod recovery;
 mod requests;
 
 /// A ledger of one node, and up to which seqno it is committed. Seqnos count from 1. At every

@@ -32,6 +32,7 @@ use std::test::Fail;
 mod applying;
 mod governing;
 mod opening;
+mod recovering;
 
 // The service's key: that of a seed of 32 bytes 09, of two levels.
 const IDENTITY: HssPublicKey = [

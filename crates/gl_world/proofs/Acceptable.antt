@@ -35,7 +35,7 @@ numbers_distinct s first (suc count) =
     (numbers_distinct s (suc first) count)
 
 -- where the identifiers of the first so many nodes are distinct, those of fewer are
-ids_fewer : (s : Settings) (first n m : ℕ) → n ≤ m → are_ids_distinct (map (node_of s) (numbers_from first m)) ≡ true → are_ids_distinct (map (node_of s) (numbers_from first n)) ≡ true
+pub ids_fewer : (s : Settings) (first n m : ℕ) → n ≤ m → are_ids_distinct (map (node_of s) (numbers_from first m)) ≡ true → are_ids_distinct (map (node_of s) (numbers_from first n)) ≡ true
 ids_fewer s first zero m le all = refl
 ids_fewer s first (suc n) zero le all = absurd (omega arith)
 ids_fewer s first (suc n) (suc m) le all =

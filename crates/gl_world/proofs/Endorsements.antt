@@ -100,8 +100,9 @@ numbered s number low high =
       named = ap (id_of s) is ∙ (bytes_decides (id_of s f.number) (id_of s number)).0 f.passes;
     }
 
--- the node's key is that of its identifier
-pub is_node_key : (s : Settings) (number : ℕ) → 1 ≤ number → number ≤ s.starting + s.joiners → s.starting + s.joiners ≤ 32 → IsNodeKey (keys_of s) (genesis_of s).identity (id_of s number)
+-- the node's key is that of its identifier, and the service's key endorses it
+pub is_node_key : (s : Settings) (number : ℕ) → 1 ≤ number → number ≤ s.starting + s.joiners → s.starting + s.joiners ≤ 32 →
+    IsNodeKey (keys_of s) (endorsement_of s (number_of s (id_of s number))) (genesis_of s).identity (id_of s number)
 unfolding StandsUnder
 is_node_key s number low high few =
     let x = id_of s number in
@@ -116,14 +117,14 @@ is_node_key s number low high few =
     }
 
 -- so has each node that starts or joins
-pub member_has_key : (s : Settings) (x : NodeId) → s.starting + s.joiners ≤ 32 → member x (node_ids s) ≡ true → IsNodeKey (keys_of s) (genesis_of s).identity x
+pub member_has_key : (s : Settings) (x : NodeId) → s.starting + s.joiners ≤ 32 → member x (node_ids s) ≡ true → IsNodeKey (keys_of s) (endorsement_of s (number_of s x)) (genesis_of s).identity x
 member_has_key s x few h =
     let k = member_made (id_of s) x 1 (s.starting + s.joiners) h in
-    subst (IsNodeKey (keys_of s) (genesis_of s).identity) k.3 (is_node_key s k.0 k.1 (omega (arith, k.2)) few)
+    subst (λ (y : NodeId). IsNodeKey (keys_of s) (endorsement_of s (number_of s y)) (genesis_of s).identity y) k.3 (is_node_key s k.0 k.1 (omega (arith, k.2)) few)
 
-pub member_endorsement : (s : Settings) (x : NodeId) → s.starting + s.joiners ≤ 32 → member x (node_ids s) ≡ true → length ((keys_of s).endorsement_of x) ≡ 2348
+pub member_endorsement : (s : Settings) (x : NodeId) → s.starting + s.joiners ≤ 32 → member x (node_ids s) ≡ true → length (endorsement_of s (number_of s x)) ≡ 2348
 member_endorsement s x few h =
     let k = member_made (id_of s) x 1 (s.starting + s.joiners) h in
-    subst (λ (y : NodeId). length ((keys_of s).endorsement_of y) ≡ 2348) k.3 (
+    subst (λ (y : NodeId). length (endorsement_of s (number_of s y)) ≡ 2348) k.3 (
     let r = numbered s k.0 k.1 (omega (arith, k.2)) in
     length-endorsement_of s (number_of s (id_of s k.0)) (r.low, omega (arith, r.high, few)))

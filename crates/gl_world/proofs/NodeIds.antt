@@ -10,10 +10,11 @@ use Rattle.gl_rules.specs.Identity.{NodeId, same}
 use Rattle.gl_rules.proofs.Ids.{same_is, same_self}
 use Rattle.gl_gov_rules.specs.Refusals.{are_ids_distinct, is_node_with}
 use Rattle.gl_world.specs.declared.settings.Settings.{Settings}
-use Rattle.gl_world.specs.Founding.{numbers_from, id_of, node_ids, node_of}
+use Rattle.gl_world.specs.Founding.{numbers_from, id_of, node_ids, node_of, number_of}
 use Rattle.gl_world.specs.Group.{IsGroup}
 use Rattle.gl_world.specs.Held.{is_number}
 use Rattle.gl_world.specs.Running.{node_in}
+use Rattle.gl_world.proofs.Endorsements.{numbered}
 use Rattle.gl_world.proofs.Numbers.{among, length-made, not_true}
 
 -- what stands at an index of what is made of numbers
@@ -69,6 +70,17 @@ numbers_apart s h i j low high is = ⊎_elim
     back x y e = subst (λ (z : NodeId). same z x ≡ true) (same_is x y e) (same_self x)
 
 -- ---- their numbers and indexes
+
+-- the first node with a node's identifier is that node
+pub number_is : (s : Settings) → IsGroup s → (number : ℕ) → 1 ≤ number → number ≤ s.starting + s.joiners → number_of s (id_of s number) ≡ number
+number_is s h number low high =
+    let r = numbered s number low high in
+    let first = number_of s (id_of s number) in
+    let at : id_of s (suc (first - 1)) ≡ id_of s (suc (number - 1)) =
+    ap (id_of s) (let n : suc (first - 1) ≡ first = omega (arith, r.low) in n) ∙ r.named ∙ ap (id_of s) (let n : number ≡ suc (number - 1) = omega (arith, low) in n) in
+    let one : first - 1 ≡ number - 1 = numbers_apart s h (first - 1) (number - 1) (omega (arith, r.low, r.high)) (omega (arith, low, high))
+    (subst (λ (x : NodeId). same (id_of s (suc (first - 1))) x ≡ true) at (same_self (id_of s (suc (first - 1))))) in
+    omega (arith, one, r.low, low)
 
 pub count_is : (s : Settings) → length (node_ids s) ≡ s.starting + s.joiners
 count_is s = length-made (id_of s) 1 (s.starting + s.joiners)

@@ -54,12 +54,9 @@ number_of s x =
     unwrap_or (find (λ number. same_bytes (id_of s number) x)
     (numbers_from 1 (s.starting + s.joiners))) 1
 
--- The key and the endorsement of each node; of an identifier that is no node's, those of node 1.
+-- The key of each node; of an identifier that is no node's, that of node 1.
 abbrev pub keys_of : Settings → NodeKeys
-keys_of s = record {
-  key_of = λ x. private_key (node_seed s (number_of s x));
-  endorsement_of = λ x. endorsement_of s (number_of s x);
-}
+keys_of s = record { key_of = λ x. private_key (node_seed s (number_of s x)) }
 
 abbrev pub member_of : Settings → ℕ → NewMember
 member_of s number = record { number = number; key = hss_key 1 (member_seed s number) }

@@ -1,6 +1,6 @@
 //! What is promised of a service of any number of nodes: laws, and no code.
 
-ghost use Rattle.std.specs.Prelude.{◌≡◌, ◌<◌, ℕ, List, length, true};
+ghost use Rattle.std.specs.Prelude.{◌≡◌, ◌⊎◌, ◌<◌, ℕ, List, length, true};
 ghost use Rattle.gl_rules.specs.Identity.{NodeId, member};
 ghost use Rattle.gl_rules.specs.Safety.{EachFollows, IsOpening, NeverConflicts, RetiresSafely};
 ghost use Rattle.gl_tx.specs.declared.request.Operation.{Operation};
@@ -12,8 +12,8 @@ ghost use Rattle.gl_ledger.specs.Opening.{Begins};
 ghost use Rattle.gl_service.specs.Service.{Leads, ServiceEvent, node_of};
 ghost use Rattle.gl_ledger.specs.NodeKeys.{IsNodeKey, service_layers};
 ghost use Rattle.gl_world.specs.declared.settings.Settings.{Settings};
-ghost use Rattle.gl_world.specs.Founding.{genesis_of, keys_of, node_ids};
-ghost use Rattle.gl_world.specs.Group.{IsGroup, book_of};
+ghost use Rattle.gl_world.specs.Founding.{endorsement_of, genesis_of, keys_of, node_ids, number_of};
+ghost use Rattle.gl_world.specs.Group.{IsGroup, RecordsTwin, book_of};
 ghost use Rattle.gl_world.specs.Headline.{Headline};
 ghost use Rattle.gl_world.specs.World.{start_of};
 
@@ -34,18 +34,19 @@ pub fn is_safe()
 {}
 
 /// The service's key endorses the key of each node that starts or joins, and the node's identifier is
-/// the digest of its key. An endorsement has the 2,348 bytes of an LMS signature (RFC 8554, section
-/// 5.4).
+/// the digest of its key. The endorsement, which a genesis or a join of the node brings, has the
+/// 2,348 bytes of an LMS signature (RFC 8554, section 5.4).
 pub fn has_node_keys()
     ensures keys { (s : Settings) → IsGroup s → (x : NodeId) → member x (node_ids s) ≡ true →
-        IsNodeKey (keys_of s) (genesis_of s).identity x }
+        IsNodeKey (keys_of s) (endorsement_of s (number_of s x)) (genesis_of s).identity x }
     ensures sizes { (s : Settings) → IsGroup s → (x : NodeId) → member x (node_ids s) ≡ true →
-        length ((keys_of s).endorsement_of x) ≡ 2348 }
+        length (endorsement_of s (number_of s x)) ≡ 2348 }
 {}
 
 /// A leader of such a service refuses no request for a rule of the audit, whatever happened before.
-/// Nor does it refuse a signature with a leaf that its key has, where it is a node that starts or
-/// joins by the settings. A node that joined with a key of its own is not among those whose keys the
+/// Nor does it refuse a signature with a leaf that its key has, where it is a node that starts by the
+/// settings, or one that joins by them; unless of the latter another key was recorded, whose digest
+/// is that of its own. A node that joined with a key of its own is not among those whose keys the
 /// world has, so nothing is said of its signatures.
 pub fn is_unguarded()
     ensures executes { (s : Settings) → IsGroup s → (events : List ServiceEvent) (x : NodeId) →
@@ -60,6 +61,14 @@ pub fn is_unguarded()
     ensures signs { (s : Settings) → IsGroup s → (events : List ServiceEvent) (x : NodeId) →
         Leads service_layers (keys_of s) (start_of s) events x →
         member x (node_ids s) ≡ true → (leaf : ℕ) →
+        leaf < (book_of s).leaves x →
+        let n = node_of service_layers (keys_of s) (start_of s) events x in
+        ((book_of s).sign x leaf n.log n.view n.commit
+        ≡ signing_result (keys_of s) x leaf n.log n.view n.commit)
+        ⊎ RecordsTwin s n.log x }
+    ensures starters { (s : Settings) → IsGroup s → (events : List ServiceEvent) (x : NodeId) →
+        Leads service_layers (keys_of s) (start_of s) events x →
+        member x (start_of s).starting ≡ true → (leaf : ℕ) →
         leaf < (book_of s).leaves x →
         let n = node_of service_layers (keys_of s) (start_of s) events x in
         (book_of s).sign x leaf n.log n.view n.commit

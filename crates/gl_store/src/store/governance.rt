@@ -31,9 +31,10 @@ impl Store {
     ghost use Rattle.gl_store.specs.Calls.{Governs, Refuses};
 
     /// Takes a request of governance that founds no service, and makes its entry, in a view that isn't
-    /// below that of any entry before. Gives the entry's identifier and what the request did. Refused,
-    /// in this order, for what it asks, where the entry's body has more than 1 MiB, and where no seqno
-    /// is left. Want of memory, too, leaves the store as it was.
+    /// below that of any entry before. A genesis comes by `found`, a recovery by `found_anew`. Gives the
+    /// entry's identifier and what the request did. Refused, in this order, for what it asks, where the
+    /// entry's body has more than 1 MiB, and where no seqno is left. Want of memory, too, leaves the
+    /// store as it was.
     pub fn govern(
         &mut self,
         view: u32,
@@ -112,7 +113,7 @@ impl Store {
 
     /// The entry of a request of governance behind the ledger, and what the request does. Refused
     /// where the rules of governance refuse it.
-    fn governance_entry(
+    pub(super) fn governance_entry(
         &mut self,
         view: u32,
         request: &GovernanceRequest,

@@ -36,7 +36,7 @@ fn leader_at_start<
     if book.leaves() == 0 {
         unreachable!()
     }
-    Core::leader(alloc, book)
+    Core::leader(alloc, book, 1)
 }
 
 /// The node with a number at the start, over its store.
@@ -60,9 +60,9 @@ fn node_at_start<
     if number == 1 {
         leader_at_start(alloc, settings, book)
     } else if number <= settings.starting {
-        Core::starter(alloc, book, first)
+        Core::starter(alloc, book, first, 0)
     } else {
-        Core::joiner(alloc, book)
+        Core::joiner(alloc, book, 0)
     }
 }
 

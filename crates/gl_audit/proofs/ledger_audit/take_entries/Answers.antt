@@ -1,5 +1,5 @@
 use Rattle.std.proofs.Common.{rules}
-use Rattle.gl_audit.proofs.Steps.{ends_broken_at, ends_unread_at, ends_whole_at, goes_on_at, smaller_at, starts_at}
+use Rattle.gl_audit.proofs.Steps.{ends_broken_at, ends_unread_at, ends_whole_at, goes_on_at, smaller_at}
 use Rattle.gl_audit.proofs.ledger_audit.take_entries.Goals as goal
 
 pub returns-in-Some-clause-ends : goal.returns-in-Some-clause-ends

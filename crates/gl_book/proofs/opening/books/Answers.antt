@@ -24,7 +24,7 @@ loop-i-init c =
     let is = (c.in_ok-books.ensures.joining 0 c.index_mut.result.now (slice_get_read c.in_ok-books.books.items _ 0 _ refl some c.index_mut.ensures.value)).0 in
     let opened = c.in_ok-open.ensures in (
       one_opened s 0 c.in_ok-books.books.items c.open.new.self c.in_ok-books.ensures.joining
-          (record { named = ap (λ (n : NodeStore). n.me) opened ∙ is.named; key = ap (λ (n : NodeStore). n.key) opened ∙ is.key; endorsement = ap (λ (n : NodeStore). n.endorsement) opened ∙ is.endorsement })
+          (record { named = ap (λ (n : NodeStore). n.me) opened ∙ is.named; key = ap (λ (n : NodeStore). n.key) opened ∙ is.key })
           (ap (λ (n : NodeStore). n.ledger) opened),
       length-set c.in_ok-books.books.items 0 c.open.new.self ∙ c.in_ok-books.ensures.len ∙ c.in_ok-founding.ensures.keys.counted,
       omega arith,
@@ -45,11 +45,10 @@ loop-i-preserved c =
     let old = c.index_mut-in-loop-i.result.now in
     let is = (inv.0 k old (slice_get_read books _ k _ refl low c.index_mut-in-loop-i.ensures.value)).0 in
     let view = c.behind-books-in-loop-i.view_is in
-    let node : NodeStore = record { me = c.behind-books-in-loop-i.inside.me; key = c.behind-books-in-loop-i.inside.key; endorsement = c.behind-books-in-loop-i.inside.endorsement.items; ledger = c.in_ok-opened.opened } in
+    let node : NodeStore = record { me = c.behind-books-in-loop-i.inside.me; key = c.behind-books-in-loop-i.inside.key; ledger = c.in_ok-opened.opened } in
     let of_node : IsOfNode s (suc i) node = subst (λ (n : ℕ). IsOfNode s (suc n) node) same (record {
       named = ap (λ (n : NodeStore). n.me) view ∙ is.named;
       key = ap (λ (n : NodeStore). n.key) view ∙ is.key;
-      endorsement = ap (λ (n : NodeStore). n.endorsement) view ∙ is.endorsement;
     }) in
     let first = (inv.0 0 c.index.result.now (slice_get_read books _ 0 _ refl some c.index.ensures)).1 in
     let held : c.in_ok-opened.opened ≡ (start_of s).opening = c.in_ok-opened.ensures ∙ ap (λ (n : NodeStore). n.ledger) c.behind-books.view_is ∙ first ∙ opened_one s i inv.2 in

@@ -1,6 +1,6 @@
 use Rattle.std.proofs.Common.{◌≡◌, ◌+◌, ◌-◌}
 use Rattle.gl_world.specs.Founding.{numbers_from}
-use Rattle.gl_schedule.specs.GovernanceText.{with_numbers}
+use Rattle.gl_schedule.specs.Text.{with_numbers}
 use Rattle.gl_schedule.proofs.text.put_numbers.Given as goal
 
 -- with the numbers that are left, what is written is the whole

@@ -1,7 +1,7 @@
 use Rattle.std.proofs.Common.{ℕ, ◌+◌, ◌-◌, ◌<◌, List, ap, ◌∙◌, arith}
 use Rattle.std.proofs.lemmas.Result.{on_ok_weaker}
 use Rattle.gl_world.specs.Founding.{numbers_from}
-use Rattle.gl_schedule.specs.GovernanceText.{with_numbers}
+use Rattle.gl_schedule.specs.Text.{with_numbers}
 use Rattle.gl_schedule.proofs.TextLemmas.{some_sent}
 use Rattle.gl_schedule.proofs.text.put_sent.Goals as goal
 

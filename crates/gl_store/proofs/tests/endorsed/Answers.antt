@@ -16,7 +16,8 @@ returns c =
     let named : NODE ≡ sha256 (key_bytes (public_of c.args.key)) = search rules in
     let key : are_bytes c.public.result ≡ true = bytes_within c.public.result (λ i low. search rules) in
     subst (SignsFor NODE IDENTITY) (sym c.new.ensures) (record {
-      keys = record { key_of = λ (x : NodeId). c.args.key; endorsement_of = λ (x : NodeId). c.args.endorsement.items };
+      keys = record { key_of = λ (x : NodeId). c.args.key };
+      by = c.args.endorsement.items;
       key = refl;
       endorsement = refl;
       endorsed = record {

@@ -9,7 +9,7 @@ use Rattle.gl_book.proofs.book.StoreBookBook.replace_tail.Goals as goal
 
 pub returns-clause-replaced : goal.returns-clause-replaced
 returns-clause-replaced c =
-    let new : NodeStore = record { me = c.self.inside.me; key = c.self.inside.key; endorsement = c.self.inside.endorsement.items; ledger = c.replace_tail.new.self } in
+    let new : NodeStore = record { me = c.self.inside.me; key = c.self.inside.key; ledger = c.replace_tail.new.self } in
     if_ok c.replace_tail.result (λ r replaced.
     becomes c.args.self.now new (λ b h log. checked_append b (take c.args.seqno h.log) c.args.entries.now ≡ Ok log)
     (ap (λ (n : NodeStore). record n { ledger = c.replace_tail.new.self }) c.self.view_is)

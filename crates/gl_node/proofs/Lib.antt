@@ -1,0 +1,11 @@
+pub mod Turning
+pub mod Extending
+pub mod Classes
+pub mod Folding
+pub mod Framing
+pub mod Standings
+pub mod Taking
+pub mod Making
+pub mod Coming
+pub mod Opening
+pub mod Signing

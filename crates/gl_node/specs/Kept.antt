@@ -1,0 +1,32 @@
+-- What a file keeps of a node.
+use Rattle.std.specs.Prelude.{ℕ, Bool, true, false, ◌&&◌, ◌||◌, ◌==◌, not, List, Option, None, Some, map}
+use Rattle.gl_entry.specs.Entry.{frame_bytes}
+use Rattle.gl_entry.specs.declared.entry.Entry.{Entry}
+use Rattle.gl_rules.specs.Identity.{NodeId, same}
+use Rattle.gl_rules.specs.Node.{Node}
+use Rattle.gl_journal.specs.Durable.{Durable}
+
+-- Whether two votes are one.
+abbrev pub is_same_vote : Option NodeId → Option NodeId → Bool
+is_same_vote None None = true
+is_same_vote None (Some y) = false
+is_same_vote (Some x) None = false
+is_same_vote (Some x) (Some y) = same x y
+
+-- What a file holds once it keeps this view with this vote. There is a Vote record then where there
+-- was one, or where the view or the vote is another than before.
+abbrev pub with_vote : ℕ → Option NodeId → Durable → Durable
+with_vote view vote d = record d {
+  view = view;
+  vote = vote;
+  has_vote_record = d.has_vote_record || not (d.view == view && is_same_vote d.vote vote);
+}
+
+-- What a file holds once it keeps this view and vote, this ledger, and so many reserved leaves.
+abbrev pub keeping : Durable → ℕ → Option NodeId → List Entry → ℕ → Durable
+keeping d view vote log reserved =
+    record (with_vote view vote d) { log = map frame_bytes log; reserved = reserved }
+
+-- What a file holds once it keeps a node.
+abbrev pub kept_after : Durable → Node Entry → Durable
+kept_after d n = keeping d n.view n.vote n.log n.reserved

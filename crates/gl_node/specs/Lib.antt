@@ -1,0 +1,10 @@
+pub mod Frames
+pub mod Rules
+pub mod Kept
+pub mod Serving
+pub mod Changes
+pub mod Batches
+pub mod Comes
+pub mod Answers
+pub mod Seen
+pub mod Leaves

@@ -1,0 +1,62 @@
+-- The rule of an event, at the node where it happens.
+use Rattle.std.specs.Prelude.{Bool, true, length, nat_le, if◌then◌else◌}
+use Rattle.gl_entry.specs.declared.entry.Entry.{Entry}
+use Rattle.gl_rules.specs.Identity.{NodeId, same}
+use Rattle.gl_rules.specs.Book.{Book}
+use Rattle.gl_rules.specs.Node.{Node}
+use Rattle.gl_rules.specs.Outcome.{Step, idle}
+use Rattle.gl_rules.specs.Elections.{timeout, step_down}
+use Rattle.gl_rules.specs.Replication.{replicate, advance}
+use Rattle.gl_rules.specs.Requests.{submit, govern, reserve, sign}
+use Rattle.gl_rules.specs.World.{on_message}
+use Rattle.gl_messages.specs.Message.{most_entries}
+use Rattle.gl_messages.specs.declared.message.Body.{Body}
+use Rattle.gl_messages.specs.declared.message.Body.TheVariants.{RequestVote, VoteReply, Append, AppendReply, ProposeVote}
+use Rattle.gl_messages.specs.declared.message.Message.{Message}
+use Rattle.gl_election.specs.Bridge.{message_to, seen_body}
+use Rattle.gl_node.specs.declared.event.Event.{Event}
+use Rattle.gl_node.specs.declared.event.Event.TheVariants as events
+
+-- A body brings so many entries at most as one message carries.
+abbrev pub brings_few : Body → Bool
+brings_few (RequestVote last) = true
+brings_few (VoteReply granted) = true
+brings_few (Append prev commit es) = nat_le (length es) most_entries
+brings_few (AppendReply ok seqno) = true
+brings_few ProposeVote = true
+
+module _ {S Q G R A F : Type 0} where
+  -- A message of the event brings so many entries at most as one message carries.
+  abbrev pub has_few_entries : Event S Q G R A F → Bool
+  has_few_entries events.Timeout = true
+  has_few_entries (events.Message m) = brings_few m.body
+  has_few_entries (events.Submit request) = true
+  has_few_entries (events.Govern request) = true
+  has_few_entries events.Reserve = true
+  has_few_entries events.Sign = true
+  has_few_entries (events.Replicate to) = true
+  has_few_entries events.Advance = true
+  has_few_entries (events.StepDown to) = true
+
+-- What a node does with a message, whoever it is for.
+abbrev pub answer : {Q G R A F : Type 0} → Message → Book Entry Q G R A F → NodeId → Node Entry →
+    Step Entry A F
+answer m b x n = on_message b (message_to x m.from m.view (seen_body m.body)) n
+
+-- A message to another node is dropped.
+abbrev pub delivery : {Q G R A F : Type 0} → Message → Book Entry Q G R A F → NodeId → Node Entry →
+    Step Entry A F
+delivery m b x n = if same m.to x then answer m b x n else idle n
+
+-- The step that an event is at a node: that of its rule.
+abbrev pub rule_of : {S Q G R A F : Type 0} → Event S Q G R A F → Book Entry Q G R A F → NodeId →
+    Node Entry → Step Entry A F
+rule_of events.Timeout b x n = timeout b x n
+rule_of (events.Message m) b x n = delivery m b x n
+rule_of (events.Submit request) b x n = submit b request n
+rule_of (events.Govern request) b x n = govern b request n
+rule_of events.Reserve b x n = reserve b x n
+rule_of events.Sign b x n = sign b x n
+rule_of (events.Replicate to) b x n = replicate b x to n
+rule_of events.Advance b x n = advance b x n
+rule_of (events.StepDown to) b x n = step_down b x to n

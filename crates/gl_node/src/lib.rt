@@ -1,0 +1,25 @@
+//! A node of the service that serves from a file: one event at a time goes through the rules, is
+//! kept on the disk, and only then does anything leave.
+#![tactic(auto)]
+
+mod change;
+mod changed;
+mod event;
+mod fault;
+mod frames;
+mod happen;
+mod keeping;
+mod kept_book;
+mod laws;
+mod replica;
+mod serving;
+mod taking_back;
+
+pub use event::Event;
+pub use fault::NodeFault;
+pub use kept_book::KeptBook;
+pub use laws::{a_leaf_is_reserved_before_it_signs, no_leaf_signs_twice};
+pub use replica::Replica;
+
+#[cfg(test)]
+mod tests;

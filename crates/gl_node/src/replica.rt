@@ -1,0 +1,155 @@
+//! A node that serves from a file.
+
+ghost use Rattle.std.specs.Prelude.{◌≡◌, ◌↔◌, ℕ, List, true, None, Some, Ok, Err, IsTrue, IsSome, IfOk, OnOk};
+ghost use Rattle.gl_outside.specs.Disk.{IsImage, Leaves, LeavesOnly};
+ghost use Rattle.gl_outside.specs.Fault.{Rose};
+ghost use Rattle.gl_journal.specs.Durable.{Durable as State, durable, OpensToOneOf};
+ghost use Rattle.gl_replication.specs.Stands.{KeepsAll, Refuses, Steps, Tells};
+ghost use Rattle.gl_node.specs.Answers.{OnRefusal, stopped_by, stopped_count};
+ghost use Rattle.gl_node.specs.Kept.{kept_after};
+ghost use Rattle.gl_node.specs.Rules.{has_few_entries, rule_of};
+ghost use Rattle.gl_node.specs.Serving.{IsServing, OpensToCore};
+
+use crate::event::Event;
+use crate::fault::NodeFault;
+use crate::kept_book::KeptBook;
+use crate::serving::serve;
+use gl_journal::Journal;
+use gl_outside::Disk;
+use gl_replication::{Core, Done};
+use std::marker::Model;
+
+/// A node that serves from a file. It is seen as the node, the disk with the file on it, and whether
+/// the disk failed. The node stands for one of the rules, and until the disk fails its file keeps
+/// it.
+#[derive(Drop)]
+pub struct Replica<D: Disk, B: KeptBook> {
+    core: Core<B>,
+    journal: Journal<D>,
+    stopped: Option<u64>,
+}
+
+impl<D: Disk, B: KeptBook> Model for Replica<D, B> {
+    ghost use Rattle.gl_node.specs.Seen.{Seen};
+    ghost use Rattle.gl_node.specs.Serving.{IsReplica};
+
+    ghost Value = { Seen D B B.Request B.Gov B.Reads B.Given B.Refused };
+
+    ghost view = { λ r. record {
+      core = r.core;
+      disk = r.journal.gated.disk;
+      stopped = r.stopped;
+    } };
+
+    ghost invariant = { λ r. IsReplica B.stands B.ledger B.goes_on D.honest D.bytes D.past
+        r.core r.journal r.stopped };
+}
+
+/// When a node has stopped, by what an event came to and by how often the disk has failed.
+fn stopped_by<B: KeptBook>(came: &Result<Done<B>, NodeFault<B>>, faults: u64) -> Option<u64>
+    ensures { result ≡ stopped_by came.now faults }
+{
+    match came {
+        Err(NodeFault::DiskFault) => Some(faults),
+        _ => None,
+    }
+}
+
+impl<D: Disk, B: KeptBook> Replica<D, B> {
+    /// A node whose file keeps it.
+    pub fn new(core: Core<B>, journal: Journal<D>) -> Self
+        requires { IsServing B.stands B.ledger B.goes_on D.honest D.bytes D.past core journal }
+        ensures { result
+            ≡ record { core = core; disk = journal.gated.disk; stopped = None } }
+    {
+        Replica {
+            core,
+            journal,
+            stopped: None,
+        }
+    }
+
+    /// An event happens: the node does what the rule says, and once that is kept it is answered,
+    /// with what the node sends.
+    pub fn event(&mut self, event: Event<B>) -> Result<Done<B>, NodeFault<B>>
+        requires { has_few_entries event ≡ true }
+
+        // Of every node that it stands for the event is the rule's step.
+        ensures steps { IfOk result (λ done.
+            Steps B.stands (rule_of event) self.old.core done self.new.core) }
+        // A refusal is that of the rule, want of memory aside, and leaves all as it was.
+        ensures refused { OnRefusal result (λ why.
+            Refuses B.stands (rule_of event) self.old.core why) }
+        ensures stays { OnRefusal result (λ why. KeepsAll B.stands self.old.core self.new.core) }
+        ensures same { IsTrue D.honest → OnRefusal result (λ why.
+            (D.bytes self.new.disk ≡ D.bytes self.old.disk)
+            × (D.past self.new.disk ≡ D.past self.old.disk)) }
+
+        // Once it is answered the file keeps it, and so does whatever a stop leaves.
+        ensures kept { IsTrue D.honest → OnOk result (Tells B.stands self.old.core (λ b x n.
+            (d : State) → durable B.goes_on (D.bytes self.old.disk) ≡ Ok d →
+            durable B.goes_on (D.bytes self.new.disk)
+            ≡ Ok (kept_after d (rule_of event b x n).node))) }
+        ensures after { IsTrue D.honest → OnOk result (Tells B.stands self.old.core (λ b x n.
+            (d : State) → durable B.goes_on (D.bytes self.old.disk) ≡ Ok d →
+            (image : List ℕ) → IsImage (D.past self.new.disk) image →
+            durable B.goes_on image ≡ Ok (kept_after d (rule_of event b x n).node))) }
+        // At every moment, also where the disk fails, a stop leaves a file that keeps the node as it
+        // was or as the rule makes it.
+        ensures any_moment { IsTrue D.honest → self.old.stopped ≡ None →
+            Tells B.stands self.old.core (λ b x n.
+            (d : State) → durable B.goes_on (D.bytes self.old.disk) ≡ Ok d →
+            Leaves (OpensToOneOf B.goes_on d (kept_after d (rule_of event b x n).node))
+            (D.past self.old.disk) (D.past self.new.disk)) }
+
+        // A fault of the disk stops the node, and then each event is answered so.
+        ensures disk_fault { result ≡ Err NodeFault.DiskFault →
+            Rose (D.faults self.old.disk) (D.faults self.new.disk)
+            × (self.new.stopped ≡ Some (D.faults self.new.disk)) }
+        ensures no_disk_fault { (result ≡ Err NodeFault.DiskFault → ⊥) →
+            (D.faults self.new.disk ≡ D.faults self.old.disk)
+            × (self.new.stopped ≡ self.old.stopped) }
+        ensures stopped { stopped_count result ≡ self.old.stopped }
+        ensures still { IsSome self.old.stopped → self.new ≡ self.old }
+    {
+        if let Some(count) = self.stopped {
+            return Err(NodeFault::Stopped { count });
+        }
+        let came = serve(&mut self.core, &mut self.journal, &event);
+        self.stopped = stopped_by(&came, self.journal.gated.disk.faults());
+        came
+    }
+
+    /// The node, to be asked what it knows.
+    pub fn core(&self) -> &Core<B>
+        ensures { result.now ≡ self.now.core }
+    {
+        &self.core
+    }
+
+    /// The disk with the file on it, which keeps the node until the disk fails.
+    pub fn disk(&self) -> &D
+        ensures disk { result.now ≡ self.now.disk }
+        ensures keeps { IsTrue D.honest → self.now.stopped ≡ None →
+            OpensToCore B.ledger B.goes_on (D.bytes self.now.disk) self.now.core }
+        ensures only { IsTrue D.honest → self.now.stopped ≡ None →
+            LeavesOnly (D.past self.now.disk) (D.bytes self.now.disk) }
+    {
+        &self.journal.gated.disk
+    }
+
+    /// Since the disk failed: how often it had failed then.
+    pub fn stopped(&self) -> Option<u64>
+        ensures { result ≡ self.now.stopped }
+    {
+        self.stopped
+    }
+
+    /// The disk, with the file on it.
+    pub fn into_disk(self) -> D
+        ensures { result ≡ self.disk }
+    {
+        let journal = self.journal;
+        journal.gated.disk
+    }
+}

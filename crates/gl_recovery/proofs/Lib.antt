@@ -1,0 +1,9 @@
+pub mod SharesGiven
+pub mod Completing
+pub mod CompletingEntry
+pub mod OldLedgers
+pub mod SignedFronts
+pub mod Accepted
+pub mod Reopening
+pub mod Openings
+pub mod Owing

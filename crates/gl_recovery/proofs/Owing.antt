@@ -1,0 +1,185 @@
+-- What is owed for an old ledger, step by step.
+use Rattle.std.proofs.Common.{◌≡◌, ℕ, ◌+◌, ◌≤◌, nat_le, nat_lt, ◌==◌, ◌^◌, List, [], ◌∷◌, ◌++◌, length, Bool, true, false, if◌then◌else◌, Option, Some, Result, Ok, Err, IsErr, Vec, Global, refl, sym, ◌∙◌, ap, ap₂, subst, arith, length-append}
+use Rattle.std.specs.List.{flat_map}
+use Rattle.std.specs.Result.{IsErrAnd}
+use Rattle.gl_base.specs.Answers.{Answers, Fails}
+use Rattle.gl_base.specs.TxId.{last_seqno}
+use Rattle.gl_base.specs.Steps.{◌>>=◌}
+use Rattle.gl_base.specs.declared.or_no_memory.OrNoMemory.{OrNoMemory}
+use Rattle.gl_base.specs.declared.or_no_memory.OrNoMemory.TheVariants.{NoMemory, Fault}
+use Rattle.gl_lms.specs.Secrets.{PrivateKey}
+use Rattle.gl_hss.specs.Signer.{hss_signature}
+use Rattle.gl_entry.specs.Entry.{frame_bytes}
+use Rattle.gl_entry.specs.declared.entry.Entry.{Entry}
+use Rattle.gl_requests.specs.declared.genesis.Recovery.{Recovery}
+use Rattle.gl_gov_rules.specs.declared.refusal.GovernanceRefusal.{GovernanceRefusal}
+use Rattle.gl_gov_rules.specs.declared.refusal.GovernanceRefusal.TheVariants as governance
+use Rattle.gl_ledger.specs.Broken.{last_signed}
+use Rattle.gl_ledger.specs.Ledger.{message_behind, signature_entry}
+use Rattle.gl_ledger.specs.Recovery.{recovery_entry, recovery_result, recovery_view, with_recovery}
+use Rattle.gl_ledger.specs.declared.refusal.Refusal.{Refusal}
+use Rattle.gl_ledger.specs.declared.refusal.Refusal.TheVariants as refusals
+use Rattle.gl_ledger_file.specs.LedgerFile.{ledger_file}
+use Rattle.gl_ledger_file.specs.Given.{OfBytes}
+use Rattle.gl_ledger_file.proofs.Reading.{of_map}
+use Rattle.gl_recovery.specs.Answers.{AnswersOn, FailsOn}
+use Rattle.gl_recovery.specs.OldLedger.{has_room, signed_front, valid_ledger, with_signature}
+use Rattle.gl_recovery.specs.Owed.{fault_of, first_endorsement, id_of, in_frames, recovered_from, recovery_owed, refounded, unless_refused}
+use Rattle.gl_recovery.specs.declared.fault.RecoveryFault.{RecoveryFault}
+use Rattle.gl_recovery.specs.declared.fault.RecoveryFault.TheVariants as faults
+use Rattle.gl_recovery.proofs.Accepted.{acceptable, first_short}
+
+-- ---- behind a valid ledger
+
+module _ (r : Recovery) (by : PrivateKey) (leaf : ℕ) (ledger front : List Entry) (signed : with_signature ledger ≡ Ok front) (room : has_room front ≡ Ok tt) where
+  -- a recovery that is refused
+  pub refused_behind : (error : OrNoMemory RecoveryFault) → Fails error (unless_refused (recovery_result r front)) → Fails error (in_frames (recovered_from r by leaf ledger))
+  refused_behind NoMemory fails = tt
+  refused_behind (Fault fault) fails = rw (signed, room, fails) refl
+
+  -- and one that is accepted
+  pub made_behind : recovery_result r front ≡ Ok (recovery_entry r front) → in_frames (recovered_from r by leaf ledger) ≡ Ok (flat_map frame_bytes (refounded r by leaf front))
+  made_behind accepted = rw (signed, room, accepted) refl
+
+-- its frames
+pub told_frames : (r : Recovery) (by : PrivateKey) (leaf view : ℕ) (front behind : List Entry) (endorsement : List ℕ) (opening : Entry) (told : List ℕ) → behind ≡ with_recovery r front → view ≡ recovery_view front →
+    endorsement ≡ first_endorsement r.nodes →
+    opening ≡ signature_entry (id_of by) (hss_signature by (Some endorsement) leaf (message_behind behind view (length behind + 1))) behind view (length behind + 1) →
+    told ≡ flat_map frame_bytes (behind ++ opening ∷ []) → told ≡ flat_map frame_bytes (refounded r by leaf front)
+told_frames r by leaf view front behind endorsement opening told behind_is view_is endorsement_is opening_is told_is =
+    let next : length (with_recovery r front) + 1 ≡ length front + 2 = (let long = length-append front (recovery_entry r front ∷ []) in omega (arith, long)) in
+    let made : (es : List Entry) (v n : ℕ) → List ℕ → Entry = λ es v n e. signature_entry (id_of by) (hss_signature by (Some e) leaf (message_behind es v n)) es v n in
+    let signs : opening ≡ made (with_recovery r front) (recovery_view front) (length front + 2) (first_endorsement r.nodes) =
+    opening_is ∙ ap (λ (es : List Entry). made es view (length es + 1) endorsement) behind_is
+    ∙ ap₂ (λ (v n : ℕ). made (with_recovery r front) v n endorsement) view_is next ∙ ap (made (with_recovery r front) (recovery_view front) (length front + 2)) endorsement_is in
+    told_is ∙ ap₂ (λ (es : List Entry) (e : Entry). flat_map frame_bytes (es ++ e ∷ [])) behind_is signs
+
+pub short_endorsement : (r : Recovery) (front : List Entry) (endorsement : List ℕ) → recovery_result r front ≡ Ok (recovery_entry r front) → endorsement ≡ first_endorsement r.nodes → length endorsement ≤ 2 ^ 16
+short_endorsement r front endorsement accepted is = let short = first_short r (acceptable r front accepted) in omega (arith, short, ap length is)
+
+-- a fault that is handed on
+pub refused_frames : (result : Result (Vec ℕ Global) (OrNoMemory RecoveryFault)) (error : OrNoMemory RecoveryFault) (reading : Result (List ℕ) RecoveryFault) → IsErr result → IsErrAnd result (λ e. e ≡ error) → Fails error reading →
+    Answers (λ (told : Vec ℕ Global). told.items) result reading
+refused_frames (Ok told) error reading wrong same fails = absurd (cc)
+refused_frames (Err e) error reading wrong same fails = subst (λ (x : OrNoMemory RecoveryFault). Fails x reading) (sym same) fails
+
+-- ---- no source is blamed
+
+abbrev NotOfSource : {X : Type 0} → Result X RecoveryFault → Type 0
+NotOfSource r = r ≡ Err faults.SourceFailed → ⊥
+
+then_too : {X Y : Type 0} (r : Result X RecoveryFault) (f : X → Result Y RecoveryFault) → NotOfSource r → ((x : X) → NotOfSource (f x)) → NotOfSource (r >>= f)
+then_too (Ok x) f first next is = next x is
+then_too (Err fault) f first next is = let same : fault ≡ faults.SourceFailed = cc in first (ap Err same)
+
+signature_no_source : (ledger : List Entry) → NotOfSource (with_signature ledger)
+signature_no_source ledger = go (last_signed ledger == 0)
+  where
+    go : (b : Bool) → NotOfSource {X = List Entry} (if b then Err faults.NothingSigned else Ok (signed_front ledger))
+    go true is = cc
+    go false is = cc
+
+room_no_source : (ledger : List Entry) → NotOfSource (has_room ledger)
+room_no_source ledger = go (nat_le (2 ^ 32) (recovery_view ledger)) (nat_lt last_seqno (length ledger + 2))
+  where
+    go : (a b : Bool) → NotOfSource {X = Unit {0}} (if a then Err faults.ViewLimit else (if b then Err faults.SeqnoLimit else Ok tt))
+    go true b is = cc
+    go false true is = cc
+    go false false is = cc
+
+governance_no_source : (why : GovernanceRefusal) → fault_of (refusals.Governance why) ≡ faults.SourceFailed → ⊥
+governance_no_source governance.NotMember is = cc
+governance_no_source governance.NotActive is = cc
+governance_no_source governance.Signature is = cc
+governance_no_source (governance.LeafNotGreater last got) is = cc
+governance_no_source governance.NoProposal is = cc
+governance_no_source (governance.NotOpen state) is = cc
+governance_no_source governance.HasBallot is = cc
+governance_no_source governance.NotProposer is = cc
+governance_no_source (governance.BadAction index cause) is = cc
+governance_no_source (governance.NodeState status) is = cc
+governance_no_source (governance.TooMany limit) is = cc
+governance_no_source (governance.ServiceState state) is = cc
+governance_no_source (governance.KnownProposal id) is = cc
+governance_no_source (governance.WrongShare digest) is = cc
+governance_no_source (governance.KnownShare member) is = cc
+governance_no_source (governance.Secret want got) is = cc
+
+refusal_no_source : (made : Result Entry Refusal) → NotOfSource (unless_refused made)
+refusal_no_source (Ok e) is = cc
+refusal_no_source (Err (refusals.Governance why)) is = governance_no_source why (let same : fault_of (refusals.Governance why) ≡ faults.SourceFailed = cc in same)
+refusal_no_source (Err (refusals.ServiceState state)) is = cc
+refusal_no_source (Err (refusals.Aborted abort)) is = cc
+refusal_no_source (Err (refusals.TooLarge size)) is = cc
+refusal_no_source (Err refusals.SeqnoLimit) is = cc
+
+made_no_source : {X : Type 0} (x : X) → NotOfSource (Ok x)
+made_no_source x is = cc
+
+frames_no_source : (owed : Result (List Entry) RecoveryFault) → NotOfSource owed → NotOfSource (in_frames owed)
+frames_no_source (Ok ledger) none is = cc
+frames_no_source (Err fault) none is = let same : fault ≡ faults.SourceFailed = cc in none (ap Err same)
+
+pub no_source : (r : Recovery) (by : PrivateKey) (leaf : ℕ) (ledger : List Entry) → NotOfSource (in_frames (recovered_from r by leaf ledger))
+no_source r by leaf ledger =
+    frames_no_source (recovered_from r by leaf ledger)
+    (then_too (with_signature ledger) _ (signature_no_source ledger)
+    (λ front. then_too (has_room front) _ (room_no_source front)
+    (λ room. then_too (unless_refused (recovery_result r front)) _ (refusal_no_source (recovery_result r front)) (λ e. made_no_source (refounded r by leaf front)))))
+
+pub never_blamed : (result : Result (Vec ℕ Global) (OrNoMemory RecoveryFault)) (reading : Result (List ℕ) RecoveryFault) → Answers (λ (told : Vec ℕ Global). told.items) result reading → NotOfSource reading →
+    result ≡ Err (Fault faults.SourceFailed) → ⊥
+never_blamed (Ok told) reading answers none is = cc
+never_blamed (Err NoMemory) reading answers none is = cc
+never_blamed (Err (Fault fault)) reading answers none is = let same : fault ≡ faults.SourceFailed = cc in none (answers ∙ ap Err same)
+
+-- ---- of the bytes of a file
+
+-- a fault but for that of the source
+fails_on : {Y : Type 0} (given : Option (List ℕ)) (fault : RecoveryFault) (reading : List ℕ → Result Y RecoveryFault) → OfBytes given (λ bytes. reading bytes ≡ Err fault) → FailsOn given (Fault fault) reading
+fails_on given (faults.Audit seqno rule) reading of = of
+fails_on given faults.NothingSigned reading of = of
+fails_on given faults.ViewLimit reading of = of
+fails_on given faults.SeqnoLimit reading of = of
+fails_on given (faults.BadAction index cause) reading of = of
+fails_on given faults.Signature reading of = of
+fails_on given (faults.TooLarge size) reading of = of
+fails_on given faults.SourceFailed reading of = tt
+
+module _ (r : Recovery) (by : PrivateKey) (leaf : ℕ) (given : Option (List ℕ)) where
+  abbrev owed : List ℕ → Result (List ℕ) RecoveryFault
+  owed bytes = in_frames (recovery_owed r by leaf bytes)
+
+  abbrev valid : List ℕ → Result (List Entry) RecoveryFault
+  valid bytes = valid_ledger (ledger_file bytes)
+
+  unread_owed : (fault : RecoveryFault) → OfBytes given (λ bytes. valid bytes ≡ Err fault) → FailsOn given (Fault fault) owed
+  unfolding recovery_owed
+  unread_owed fault of =
+      fails_on given fault owed
+      (of_map given (λ bytes. valid bytes ≡ Err fault) (λ bytes. owed bytes ≡ Err fault) (λ bytes is. ap (λ (old : Result (List Entry) RecoveryFault). in_frames (old >>= recovered_from r by leaf)) is) of)
+
+  -- where the old ledger isn't valid
+  pub fails_owed : (error : OrNoMemory RecoveryFault) → FailsOn given error valid → FailsOn given error owed
+  fails_owed NoMemory fails = tt
+  fails_owed (Fault (faults.Audit seqno rule)) fails = unread_owed (faults.Audit seqno rule) fails
+  fails_owed (Fault faults.NothingSigned) fails = unread_owed faults.NothingSigned fails
+  fails_owed (Fault faults.ViewLimit) fails = unread_owed faults.ViewLimit fails
+  fails_owed (Fault faults.SeqnoLimit) fails = unread_owed faults.SeqnoLimit fails
+  fails_owed (Fault (faults.BadAction index cause)) fails = unread_owed (faults.BadAction index cause) fails
+  fails_owed (Fault faults.Signature) fails = unread_owed faults.Signature fails
+  fails_owed (Fault (faults.TooLarge size)) fails = unread_owed (faults.TooLarge size) fails
+  fails_owed (Fault faults.SourceFailed) fails = tt
+
+  -- and where it is
+  pub answers_owed : (old : List Entry) (result : Result (Vec ℕ Global) (OrNoMemory RecoveryFault)) → OfBytes given (λ bytes. valid bytes ≡ Ok old) →
+      Answers (λ (told : Vec ℕ Global). told.items) result (in_frames (recovered_from r by leaf old)) → AnswersOn given (λ (told : Vec ℕ Global). told.items) result owed
+  unfolding recovery_owed
+  answers_owed old (Ok told) of answers =
+      of_map given (λ bytes. valid bytes ≡ Ok old) (λ bytes. owed bytes ≡ Ok told.items)
+      (λ bytes is. ap (λ (file : Result (List Entry) RecoveryFault). in_frames (file >>= recovered_from r by leaf)) is ∙ answers) of
+  answers_owed old (Err NoMemory) of answers = tt
+  answers_owed old (Err (Fault fault)) of answers =
+      fails_on given fault owed
+      (of_map given (λ bytes. valid bytes ≡ Ok old) (λ bytes. owed bytes ≡ Err fault)
+      (λ bytes is. ap (λ (file : Result (List Entry) RecoveryFault). in_frames (file >>= recovered_from r by leaf)) is ∙ answers) of)

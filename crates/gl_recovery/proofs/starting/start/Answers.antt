@@ -1,0 +1,11 @@
+use Rattle.gl_recovery.proofs.Owing.{answers_owed, fails_owed, never_blamed, no_source}
+use Rattle.gl_recovery.proofs.starting.start.Goals as goal
+
+pub returns-in-Err-clause-told : goal.returns-in-Err-clause-told
+returns-in-Err-clause-told g c = fails_owed c.args.recovery c.args.by c.args.leaf _ c.in-Err.error c.in-Err.ensures.read
+
+pub returns-clause-told : goal.returns-clause-told
+returns-clause-told g c = answers_owed c.args.recovery c.args.by c.args.leaf _ c.in-Ok.store.ledger c.recovered_frames.result c.in-Ok.ensures.read c.recovered_frames.ensures
+
+pub returns-clause-failed : goal.returns-clause-failed
+returns-clause-failed g c = λ is. absurd (never_blamed c.recovered_frames.result _ c.recovered_frames.ensures (no_source c.args.recovery c.args.by c.args.leaf c.in-Ok.store.ledger) is)

@@ -1,0 +1,3 @@
+pub mod FewValues
+pub mod Refused
+pub mod ValueSizes

@@ -1,0 +1,231 @@
+//! Refusals by hand: their numbers, their values, and the bytes of these.
+
+use crate::governance::governance_reason;
+use crate::reason::{not_primary, unmade_reason};
+use crate::spelling::values_bytes;
+use crate::value::{Reason, Value};
+use gl_gov_rules::{Cause, GovernanceRefusal, NodeStatus, ProposalState};
+use gl_ledger::{Refusal, Unmade};
+use gl_requests::ServiceState;
+use gl_tx::Abort;
+use std::alloc::{AllocError, Global};
+use std::test::Fail;
+
+/// Each refusal of governance that has no digest: its number, and its values.
+const GOVERNANCE: [(GovernanceRefusal, u16, &[u64]); 20] = [
+    (GovernanceRefusal::NotMember, 40, &[]),
+    (GovernanceRefusal::NotActive, 41, &[]),
+    (GovernanceRefusal::Signature, 42, &[]),
+    (
+        GovernanceRefusal::LeafNotGreater { last: 4, got: 3 },
+        43,
+        &[4, 3],
+    ),
+    (GovernanceRefusal::NoProposal, 44, &[]),
+    (
+        GovernanceRefusal::NotOpen {
+            state: ProposalState::Accepted,
+        },
+        45,
+        &[2],
+    ),
+    (
+        GovernanceRefusal::NotOpen {
+            state: ProposalState::Rejected,
+        },
+        45,
+        &[3],
+    ),
+    (
+        GovernanceRefusal::NotOpen {
+            state: ProposalState::Withdrawn,
+        },
+        45,
+        &[4],
+    ),
+    (
+        GovernanceRefusal::NotOpen {
+            state: ProposalState::Failed,
+        },
+        45,
+        &[5],
+    ),
+    (
+        GovernanceRefusal::NotOpen {
+            state: ProposalState::Dropped,
+        },
+        45,
+        &[6],
+    ),
+    (GovernanceRefusal::HasBallot, 46, &[]),
+    (GovernanceRefusal::NotProposer, 47, &[]),
+    (GovernanceRefusal::NodeState { status: None }, 49, &[0]),
+    (
+        GovernanceRefusal::NodeState {
+            status: Some(NodeStatus::Pending),
+        },
+        49,
+        &[1],
+    ),
+    (
+        GovernanceRefusal::NodeState {
+            status: Some(NodeStatus::Trusted),
+        },
+        49,
+        &[2],
+    ),
+    (
+        GovernanceRefusal::NodeState {
+            status: Some(NodeStatus::Retired),
+        },
+        49,
+        &[3],
+    ),
+    (
+        GovernanceRefusal::NodeState {
+            status: Some(NodeStatus::Marked),
+        },
+        49,
+        &[4],
+    ),
+    (GovernanceRefusal::TooMany { limit: 65_535 }, 50, &[65_535]),
+    (
+        GovernanceRefusal::ServiceState {
+            state: ServiceState::Open,
+        },
+        51,
+        &[2],
+    ),
+    (GovernanceRefusal::KnownShare { member: 255 }, 101, &[255]),
+];
+
+/// The causes in the order of their numbers.
+const CAUSES: [Cause; 11] = [
+    Cause::NumberUsed,
+    Cause::KeyUsed,
+    Cause::NotPresent,
+    Cause::TooFewHolders,
+    Cause::NotRecorded,
+    Cause::NodeStatus,
+    Cause::LastTrusted,
+    Cause::NotOpening,
+    Cause::Fraction,
+    Cause::Dealing,
+    Cause::Full,
+];
+
+/// Why a ledger takes no entry: the number, and the values.
+const LEDGER: [(Unmade, u16, &[u64]); 6] = [
+    (
+        Unmade::ByStore(Refusal::ServiceState(ServiceState::Opening)),
+        51,
+        &[1],
+    ),
+    (
+        Unmade::ByStore(Refusal::Aborted(Abort {
+            operation: 3,
+            cause: gl_tx::Cause::Overflow,
+        })),
+        122,
+        &[3, 4],
+    ),
+    (
+        Unmade::ByStore(Refusal::TooLarge { size: 1_048_577 }),
+        119,
+        &[1_048_577],
+    ),
+    (Unmade::ByStore(Refusal::SeqnoLimit), 130, &[]),
+    (
+        Unmade::ByStore(Refusal::Governance(GovernanceRefusal::NotOpen {
+            state: ProposalState::Dropped,
+        })),
+        45,
+        &[6],
+    ),
+    (Unmade::NoEntry, 117, &[]),
+];
+
+/// Whether a reason has this number and these numbers as values.
+fn tells(reason: &Reason, code: u16, values: &[u64]) -> bool {
+    reason.code == code
+        && reason.values.len() == values.len()
+        && reason
+            .values
+            .as_slice()
+            .iter()
+            .zip(values)
+            .all(|(value, number)| *value == Value::Number(*number))
+}
+
+#[test]
+fn tells_refusals_of_governance(rt: HostRuntime) -> Result<(), Fail> {
+    let alloc = rt.alloc();
+    for (refusal, code, values) in &GOVERNANCE {
+        assert!(rt; tells(&governance_reason(alloc, *refusal)?, *code, values));
+    }
+    for (i, cause) in CAUSES.iter().enumerate() {
+        let refusal = GovernanceRefusal::BadAction {
+            index: 7,
+            cause: *cause,
+        };
+        assert!(rt; tells(&governance_reason(alloc, refusal)?, 48, &[7, i as u64 + 1]));
+    }
+    Ok(())
+}
+
+#[test]
+fn tells_digests(rt: HostRuntime) -> Result<(), Fail> {
+    let alloc = rt.alloc();
+    let secret = GovernanceRefusal::Secret {
+        want: [1; 32],
+        got: [2; 32],
+    };
+    let reason = governance_reason(alloc, secret)?;
+    assert_eq!(rt; reason.code, 103);
+    assert_eq!(rt;
+        reason.values.as_slice(),
+        [Value::Digest([1; 32]), Value::Digest([2; 32])].as_slice()
+    );
+    let known = governance_reason(alloc, GovernanceRefusal::KnownProposal { id: [3; 32] })?;
+    assert_eq!(rt; known.code, 52);
+    assert_eq!(rt;
+        known.values.as_slice(),
+        [Value::Digest([3; 32])].as_slice()
+    );
+    let wrong = governance_reason(alloc, GovernanceRefusal::WrongShare { digest: [4; 32] })?;
+    assert_eq!(rt; wrong.code, 100);
+    assert_eq!(rt;
+        wrong.values.as_slice(),
+        [Value::Digest([4; 32])].as_slice()
+    );
+    Ok(())
+}
+
+#[test]
+fn tells_refusals_of_a_ledger(rt: HostRuntime) -> Result<(), Fail> {
+    for (refusal, code, values) in &LEDGER {
+        assert!(rt; tells(&unmade_reason(rt.alloc(), *refusal)?, *code, values));
+    }
+    Ok(())
+}
+
+fn leader_bytes(alloc: Global, leader: Option<[u8; 32]>) -> Result<Vec<u8>, AllocError> {
+    values_bytes(alloc, not_primary(alloc, 7, leader)?.values.as_slice())
+}
+
+#[test]
+fn spells_leaders(rt: HostRuntime) -> Result<(), Fail> {
+    let alloc = rt.alloc();
+    let none = leader_bytes(alloc, None)?;
+    assert_eq!(rt;
+        none.as_slice(),
+        [7, 0, 0, 0, 0, 0, 0, 0, 0, 0, 0, 0].as_slice()
+    );
+    let one = leader_bytes(alloc, Some([9; 32]))?;
+    assert_eq!(rt; one.len(), 44);
+    assert_eq!(rt;
+        &one[..13],
+        [7, 0, 0, 0, 0, 0, 0, 0, 32, 0, 0, 0, 9].as_slice()
+    );
+    Ok(())
+}

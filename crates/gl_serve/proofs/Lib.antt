@@ -1,0 +1,7 @@
+pub mod Arriving
+pub mod Draining
+pub mod Keeping
+pub mod Losing
+pub mod SendingLaws
+pub mod WorkingLaws
+pub mod Whole

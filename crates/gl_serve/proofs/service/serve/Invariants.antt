@@ -1,0 +1,25 @@
+use Rattle.std.proofs.Common.{◌≡◌, List, [], ◌++◌, IsTrue, None}
+use Rattle.gl_outside.specs.Link.{Arrival}
+use Rattle.gl_serve.specs.Kept.{stream_at}
+use Rattle.gl_serve.specs.Works.{script}
+use Rattle.gl_serve.specs.Sending.{Loses}
+use Rattle.gl_serve.specs.Running.{Ran, stand}
+use Rattle.gl_serve.specs.Turns.{Tracks}
+use Rattle.gl_serve.specs.Serves.{first_desk, calls_after}
+use Rattle.gl_serve.proofs.service.serve.Given as goal
+
+abbrev pub invariant-loop : goal.invariant-loop
+invariant-loop g l = record {
+  served : IsTrue g.L.Link.honest → record {
+    came : List Arrival;
+    ran : Ran g.N.ServedNode.rules l.settings (record { moment = record { node = l.fn.node; desk = first_desk }; past = g.L.Link.past l.fn.link; lost = 0 }) (script l.settings.peers.now [] came) came
+        (stand l.node l.session (g.L.Link.past l.link)) [] [];
+    tracks : Tracks (stream_at l.streams) came;
+    taken : (g.L.Link.inward l.fn.link).coming ≡ came ++ (g.L.Link.inward l.link).coming;
+  };
+  going : l.session.desk.over ≡ None;
+  calls : (g.L.Link.inward l.link).calls ≡ calls_after l.counter (g.L.Link.inward l.fn.link).calls;
+  faults : (g.L.Link.inward l.link).faults ≡ (g.L.Link.inward l.fn.link).faults;
+  ended : (g.L.Link.inward l.link).ended ≡ (g.L.Link.inward l.fn.link).ended;
+  lost : Loses 0 l.session.lost (g.L.Link.send_faults l.fn.link) (g.L.Link.send_faults l.link);
+}

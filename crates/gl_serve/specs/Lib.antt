@@ -1,0 +1,9 @@
+pub mod Doing
+pub mod Kept
+pub mod Rules
+pub mod Running
+pub mod Sending
+pub mod Serves
+pub mod Streams
+pub mod Turns
+pub mod Works

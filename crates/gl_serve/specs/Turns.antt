@@ -1,0 +1,39 @@
+-- One turn of a serve: what comes next, and all that it gives to do.
+use Rattle.std.specs.Prelude.{◌≡◌, ℕ, List, ◌++◌, Bool, true, false, Result, Ok, Err, OnOk}
+use Rattle.gl_outside.specs.Link.{Arrival}
+use Rattle.gl_serve.specs.declared.desk.Halt.{Halt}
+use Rattle.gl_serve.specs.declared.desk.Turn.{Turn}
+use Rattle.gl_serve.specs.declared.desk.Turn.TheVariants.{Took, Ended, Failed}
+use Rattle.gl_serve.specs.declared.settings.Serving.{Serving}
+use Rattle.gl_serve.specs.declared.streams.Stream.{Stream}
+use Rattle.gl_serve.specs.Rules.{Rules}
+use Rattle.gl_serve.specs.Streams.{stream}
+use Rattle.gl_serve.specs.Kept.{kept_of}
+use Rattle.gl_serve.specs.Works.{script}
+use Rattle.gl_serve.specs.Running.{Stand, Went}
+
+-- Of each connection is kept what its stream leaves.
+abbrev pub Tracks : (ℕ → Stream) → List Arrival → Type 0
+Tracks kept came = (conn : ℕ) → kept conn ≡ kept_of (stream conn came)
+
+-- Whether the link gave its end.
+abbrev pub is_ended : Result Turn Halt → Bool
+is_ended (Ok Took) = false
+is_ended (Ok Ended) = true
+is_ended (Ok Failed) = false
+is_ended (Err halt) = false
+
+-- Whether all was done that the turn gave to do.
+abbrev pub course_of_turn : Result Turn Halt → Result (Unit {0}) Halt
+course_of_turn (Ok turn) = Ok tt
+course_of_turn (Err halt) = Err halt
+
+-- Behind what came before, something comes or nothing, and is done.
+pub record Turned {S Payload : Type 0} (rules : Rules S Payload) (settings : Serving)
+    (before : List Arrival) (from : Stand S) (ahead : List Arrival) (to : Stand S)
+    (now_ahead : List Arrival) (kept : ℕ → Stream) (result : Result Turn Halt) : Type 0 where
+  pub came : List Arrival
+  pub went : Went rules settings from (script settings.peers.now before came) came to
+      (course_of_turn result)
+  pub tracks : OnOk result (Tracks kept (before ++ came))
+  pub taken : ahead ≡ came ++ now_ahead

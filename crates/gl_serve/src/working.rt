@@ -1,0 +1,198 @@
+//! What is done for a payload and for a tick.
+
+ghost use Rattle.std.specs.Prelude.{◌≡◌, ◌≤◌, [], ◌∷◌, Err, Some, None, map, IsTrue, OnOk, OnErr};
+ghost use Rattle.gl_serve.specs.declared.desk.Halt.{Halt};
+ghost use Rattle.gl_serve.specs.declared.node.OwnEvent.TheVariants.{Replicate};
+ghost use Rattle.gl_serve.specs.Rules.{Fits};
+ghost use Rattle.gl_serve.specs.Works.{Handle, Beat, Lead, tick_events};
+ghost use Rattle.gl_serve.specs.Doing.{lines_of, desk_after};
+ghost use Rattle.gl_serve.specs.Sending.{Sends, SendsSome, Loses};
+ghost use Rattle.gl_serve.specs.Running.{Went, stand, is_stop, is_stopped};
+
+use crate::desk::{Halt, Session};
+use crate::node::{Outcome, OwnEvent, ServedNode};
+use crate::sending::{post_answer, post_messages};
+use crate::settings::Serving;
+use gl_outside::Link;
+
+/// Notes what an event came to, and sends what it has to say.
+#[tactic(auto, using(crate::proofs::Losing::loses_same, crate::proofs::Losing::loses_then))]
+fn finish<L: Link>(
+    link: &mut L,
+    settings: &Serving<'_>,
+    session: &mut Session,
+    asker: Option<u64>,
+    outcome: Outcome,
+) -> Result<(), Halt>
+    requires going { session.old.desk.over ≡ None }
+    requires fits { Fits outcome }
+    ensures sent { IsTrue L.honest → OnOk result
+        (Sends (L.past link.old) session.old.lost (L.past link.new) session.new.lost
+        (lines_of settings.now.peers.now asker outcome)) }
+    ensures some { IsTrue L.honest → OnErr result
+        (SendsSome (L.past link.old) session.old.lost (L.past link.new) session.new.lost
+        (lines_of settings.now.peers.now asker outcome)) }
+    ensures desk { session.new.desk ≡ desk_after session.old.desk outcome }
+    ensures going { OnOk result (session.new.desk.over ≡ None) }
+    ensures end { (end : Halt) → result ≡ Err end →
+        is_stopped session.new.desk.over ≡ is_stop end }
+    ensures inward { L.inward link.new ≡ L.inward link.old }
+    ensures lost { Loses session.old.lost session.new.lost
+        (L.send_faults link.old) (L.send_faults link.new) }
+{
+    match outcome {
+        Outcome::Stopped => {
+            session.desk.over = Some(Halt::Stopped);
+            Err(Halt::Stopped)
+        }
+        Outcome::NoMemory => {
+            session.desk.over = Some(Halt::NoMemory);
+            Err(Halt::NoMemory)
+        }
+        Outcome::Done {
+            messages,
+            answer,
+            heard,
+        } => {
+            session.desk.idle = if heard { 0 } else { session.desk.idle };
+            let alloc = session.alloc;
+            let lost = &mut session.lost;
+            post_messages(alloc, link, lost, settings.peers, messages.as_slice())?;
+            post_answer(alloc, link, lost, asker, &answer)?;
+            Ok(())
+        }
+    }
+}
+
+/// Handles a payload of a connection.
+#[tactic(auto, using(crate::proofs::Losing::loses_same, crate::proofs::Losing::loses_then))]
+pub(crate) fn handle<L: Link, N: ServedNode>(
+    link: &mut L,
+    node: &mut N,
+    settings: &Serving<'_>,
+    session: &mut Session,
+    conn: u64,
+    payload: &[u8],
+) -> Result<(), Halt>
+    requires going { session.old.desk.over ≡ None }
+    ensures went { IsTrue L.honest → Went N.rules settings.now
+        (stand node.old session.old (L.past link.old)) (Handle conn payload.now ∷ []) []
+        (stand node.new session.new (L.past link.new)) result }
+    ensures going { OnOk result (session.new.desk.over ≡ None) }
+    ensures inward { L.inward link.new ≡ L.inward link.old }
+    ensures lost { Loses session.old.lost session.new.lost
+        (L.send_faults link.old) (L.send_faults link.new) }
+{
+    let Some(read) = node.read(payload)? else {
+        return Ok(());
+    };
+    session.desk.served = session.desk.served.saturating_add(1);
+    let outcome = node.handle(read);
+    finish(link, settings, session, Some(conn), outcome)
+}
+
+/// Does an event of a tick, if the node leads.
+#[tactic(auto, using(crate::proofs::Losing::loses_same, crate::proofs::Losing::loses_then))]
+fn lead<L: Link, N: ServedNode>(
+    link: &mut L,
+    node: &mut N,
+    settings: &Serving<'_>,
+    session: &mut Session,
+    event: OwnEvent,
+) -> Result<(), Halt>
+    requires going { session.old.desk.over ≡ None }
+    ensures went { IsTrue L.honest → Went N.rules settings.now
+        (stand node.old session.old (L.past link.old)) (Lead event ∷ []) []
+        (stand node.new session.new (L.past link.new)) result }
+    ensures going { OnOk result (session.new.desk.over ≡ None) }
+    ensures inward { L.inward link.new ≡ L.inward link.old }
+    ensures lost { Loses session.old.lost session.new.lost
+        (L.send_faults link.old) (L.send_faults link.new) }
+{
+    if !session.desk.leading {
+        return Ok(());
+    }
+    let outcome = node.own(event);
+    finish(link, settings, session, None, outcome)
+}
+
+/// Begins a tick: a node that doesn't lead counts it, and may time out.
+#[tactic(auto, using(crate::proofs::Losing::loses_same, crate::proofs::Losing::loses_then))]
+fn beat<L: Link, N: ServedNode>(
+    link: &mut L,
+    node: &mut N,
+    settings: &Serving<'_>,
+    session: &mut Session,
+) -> Result<(), Halt>
+    requires going { session.old.desk.over ≡ None }
+    requires ticks { 1 ≤ settings.now.ticks }
+    ensures went { IsTrue L.honest → Went N.rules settings.now
+        (stand node.old session.old (L.past link.old)) (Beat ∷ []) []
+        (stand node.new session.new (L.past link.new)) result }
+    ensures going { OnOk result (session.new.desk.over ≡ None) }
+    ensures inward { L.inward link.new ≡ L.inward link.old }
+    ensures lost { Loses session.old.lost session.new.lost
+        (L.send_faults link.old) (L.send_faults link.new) }
+{
+    session.desk.leading = node.leads();
+    if session.desk.leading {
+        return Ok(());
+    }
+    if session.desk.idle < settings.ticks - 1 {
+        session.desk.idle += 1;
+        return Ok(());
+    }
+    session.desk.idle = 0;
+    let outcome = node.own(OwnEvent::Timeout);
+    finish(link, settings, session, None, outcome)
+}
+
+/// A leader replicates to each peer.
+#[tactic(auto, using(crate::proofs::Losing::loses_same, crate::proofs::Losing::loses_then))]
+fn replicate<L: Link, N: ServedNode>(
+    link: &mut L,
+    node: &mut N,
+    settings: &Serving<'_>,
+    session: &mut Session,
+) -> Result<(), Halt>
+    requires going { session.old.desk.over ≡ None }
+    ensures went { IsTrue L.honest → Went N.rules settings.now
+        (stand node.old session.old (L.past link.old))
+        (map Lead (map Replicate settings.now.peers.now)) []
+        (stand node.new session.new (L.past link.new)) result }
+    ensures going { OnOk result (session.new.desk.over ≡ None) }
+    ensures inward { L.inward link.new ≡ L.inward link.old }
+    ensures lost { Loses session.old.lost session.new.lost
+        (L.send_faults link.old) (L.send_faults link.new) }
+{
+    for peer in settings.peers {
+        lead(link, node, settings, session, OwnEvent::Replicate(*peer))?;
+    }
+    Ok(())
+}
+
+/// Does all that a tick gives to do.
+#[tactic(auto, using(crate::proofs::Losing::loses_same, crate::proofs::Losing::loses_then))]
+pub(crate) fn tick<L: Link, N: ServedNode>(
+    link: &mut L,
+    node: &mut N,
+    settings: &Serving<'_>,
+    session: &mut Session,
+) -> Result<(), Halt>
+    requires going { session.old.desk.over ≡ None }
+    requires ticks { 1 ≤ settings.now.ticks }
+    ensures went { IsTrue L.honest → Went N.rules settings.now
+        (stand node.old session.old (L.past link.old))
+        (Beat ∷ map Lead (tick_events settings.now.peers.now)) []
+        (stand node.new session.new (L.past link.new)) result }
+    ensures going { OnOk result (session.new.desk.over ≡ None) }
+    ensures inward { L.inward link.new ≡ L.inward link.old }
+    ensures lost { Loses session.old.lost session.new.lost
+        (L.send_faults link.old) (L.send_faults link.new) }
+{
+    beat(link, node, settings, session)?;
+    replicate(link, node, settings, session)?;
+    lead(link, node, settings, session, OwnEvent::Reserve)?;
+    lead(link, node, settings, session, OwnEvent::Sign)?;
+    lead(link, node, settings, session, OwnEvent::Advance)
+}

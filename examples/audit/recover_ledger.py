@@ -32,11 +32,11 @@ def write_bytes(row, value):
     return little(len(name), 1) + name + little(len(key), 2) + key + last
 
 
-def frame(view, seqno, kind, content, writes={}):
-    """The frame of an entry that claims nothing."""
+def frame(view, seqno, kind, content, writes={}, claims=bytes(32)):
+    """The frame of an entry, which by default claims nothing."""
     body = little(view, 4) + little(seqno, 8) + little(kind, 1) + behind_length(content)
     body += little(len(writes), 4)
-    body += b"".join(write_bytes(*write) for write in sorted(writes.items())) + bytes(32)
+    body += b"".join(write_bytes(*write) for write in sorted(writes.items())) + claims
     return b"\x01\x00" + little(len(body), 6) + body
 
 

@@ -24,12 +24,13 @@ use Rattle.ccfg.specs.declared.plan.PlanStop.{PlanStop}
 use Rattle.ccfg.specs.declared.plan.PlanStop.TheVariants as stops
 use Rattle.ccfg.proofs.ShownLemmas.{both_any, both_map, of_map}
 use Rattle.gl_journal.specs.declared.key.KeyKind.{KeyKind}
-use Rattle.gl_keyfile.specs.declared.signing.Signing.{Signing}
+use Rattle.gl_keyfile.specs.declared.leaf.LeafUse.{LeafUse}
 use Rattle.gl_lms.specs.declared.types.Types.{Types}
 use Rattle.gl_outside.specs.Disk.{Step}
 use Rattle.gl_outside.specs.Fault.{Rose}
 use Rattle.gl_schedule.specs.Told.{text_of_schedule}
 use Rattle.ccfg.specs.Promises.{IsFaultLine, TellsAccepted, TellsFront}
+use Rattle.gl_recovery.specs.declared.recovering_fault.RecoveringFault.TheVariants as recoverings
 use Rattle.gl_schedule.specs.Schedules.{reads}
 
 -- a fault that is told
@@ -50,6 +51,14 @@ writes_fault (faults.Journal fault) w all = (refl, all)
 writes_fault (faults.KeyKind want got) w all = (refl, all)
 writes_fault faults.BadDealing w all = (refl, all)
 writes_fault (faults.Signing fault) w all = (refl, all)
+writes_fault (faults.Recovering recoverings.SourceFailed) w all = (refl, all)
+writes_fault (faults.Recovering recoverings.TooMuchJson) w all = (refl, all)
+writes_fault (faults.Recovering (recoverings.Short at)) w all = (refl, all)
+writes_fault (faults.Recovering (recoverings.Form fault)) w all = (refl, all)
+writes_fault (faults.Recovering (recoverings.NotFirstNode want got)) w all = (refl, all)
+writes_fault (faults.Recovering (recoverings.KeyExhausted reserved)) w all = (refl, all)
+writes_fault (faults.Recovering (recoverings.Recovery fault)) w all = (refl, all)
+writes_fault (faults.Recovering recoverings.DiskFailed) w all = (refl, all)
 
 -- bytes of which more were read than the limit
 pub of_more : (old new : Option (List ℕ)) (text : List ℕ) (limit : ℕ) → Consumes old new text → limit < length text → OfBytes old (λ g. limit < length g)
@@ -92,6 +101,7 @@ sound_refusal (tasks.Audit identity) given fault = tt
 sound_refusal (tasks.Keygen kind types) given fault = tt
 sound_refusal (tasks.Deal threshold members) given fault = tt
 sound_refusal (tasks.Sign signing) given fault = tt
+sound_refusal tasks.Recover given fault = tt
 
 pub of_sound_refusal : (task : Task) (given : Option (List ℕ)) (fault : Fault) → OfBytes given (λ g. ShowsAccepted task g (Refuse fault))
 of_sound_refusal task None fault = ([], sound_refusal task [] fault)
@@ -114,6 +124,14 @@ no_fault_done (faults.Journal fault) is = cc
 no_fault_done (faults.KeyKind want got) is = cc
 no_fault_done faults.BadDealing is = cc
 no_fault_done (faults.Signing fault) is = cc
+no_fault_done (faults.Recovering recoverings.SourceFailed) is = cc
+no_fault_done (faults.Recovering recoverings.TooMuchJson) is = cc
+no_fault_done (faults.Recovering (recoverings.Short at)) is = cc
+no_fault_done (faults.Recovering (recoverings.Form fault)) is = cc
+no_fault_done (faults.Recovering (recoverings.NotFirstNode want got)) is = cc
+no_fault_done (faults.Recovering (recoverings.KeyExhausted reserved)) is = cc
+no_fault_done (faults.Recovering (recoverings.Recovery fault)) is = cc
+no_fault_done (faults.Recovering recoverings.DiskFailed) is = cc
 
 -- a plan that was carried out under a key
 accepted_by : (identity : List ℕ) (plan : Plan) (w : Written) (g : List ℕ) → ShowsAccepted (tasks.Verify identity) g plan → WritesDue endings.Done w (due_of_plan plan) → TellsAccepted identity g w.held w.holds
@@ -232,23 +250,23 @@ among_all e (inr (inl is)) = inr (inl is)
 among_all e (inr (inr is)) = inr (inr (inr is))
 
 -- something that is told is signed with a leaf that is spent
-spent_by : (signing : Signing) (held : List ℕ) (past : List Step) (plan : Plan) (w : Written) → TellsSpent signing held past plan → WritesDue endings.Done w (due_of_plan plan) → SpendsLeaf signing held past
-spent_by signing held past (Play schedule) w sound writes = absurd sound
-spent_by signing held past (Show id) w sound writes = absurd sound
-spent_by signing held past (ShowLedger last signed) w sound writes = absurd sound
-spent_by signing held past (Tell text) w sound writes = sound
-spent_by signing held past (Refuse fault) w sound writes = absurd (no_fault_done fault writes.0)
+spent_by : (leaf : LeafUse) (held : List ℕ) (past : List Step) (plan : Plan) (w : Written) → TellsSpent leaf held past plan → WritesDue endings.Done w (due_of_plan plan) → SpendsLeaf leaf held past
+spent_by leaf held past (Play schedule) w sound writes = absurd sound
+spent_by leaf held past (Show id) w sound writes = absurd sound
+spent_by leaf held past (ShowLedger last signed) w sound writes = absurd sound
+spent_by leaf held past (Tell text) w sound writes = sound
+spent_by leaf held past (Refuse fault) w sound writes = absurd (no_fault_done fault writes.0)
 
 -- it is, or a front of a fault's line was written
-pub spent_or_refused : (signing : Signing) (held : List ℕ) (past : List Step) (plan : Plan) (e : Ending) (w : Written) → TellsSpent signing held past plan → WritesDue e w (due_of_plan plan) →
-    (e ≡ endings.Done) ⊎ (e ≡ endings.SinkFailed) ⊎ (e ≡ endings.Memory) → SpendsLeaf signing held past ⊎ TellsFront IsFaultLine w.held w.holds
-spent_or_refused signing held past (Play schedule) e w sound writes is = absurd sound
-spent_or_refused signing held past (Show id) e w sound writes is = absurd sound
-spent_or_refused signing held past (ShowLedger last signed) e w sound writes is = absurd sound
-spent_or_refused signing held past (Tell text) e w sound writes is = inl sound
-spent_or_refused signing held past (Refuse fault) e w sound writes (inl is) = absurd (no_fault_done fault (subst (λ (x : Ending). WritesDue x w (due_of_fault fault)) is writes).0)
-spent_or_refused signing held past (Refuse fault) e w sound writes (inr (inl is)) = inr (fault_line fault, (fault, refl), (subst (λ (x : Ending). WritesDue x w (due_of_fault fault)) is writes).1)
-spent_or_refused signing held past (Refuse fault) e w sound writes (inr (inr is)) = inr (fault_line fault, (fault, refl), subst (λ (x : Ending). WritesDue x w (due_of_fault fault)) is writes)
+pub spent_or_refused : (leaf : LeafUse) (held : List ℕ) (past : List Step) (plan : Plan) (e : Ending) (w : Written) → TellsSpent leaf held past plan → WritesDue e w (due_of_plan plan) →
+    (e ≡ endings.Done) ⊎ (e ≡ endings.SinkFailed) ⊎ (e ≡ endings.Memory) → SpendsLeaf leaf held past ⊎ TellsFront IsFaultLine w.held w.holds
+spent_or_refused leaf held past (Play schedule) e w sound writes is = absurd sound
+spent_or_refused leaf held past (Show id) e w sound writes is = absurd sound
+spent_or_refused leaf held past (ShowLedger last signed) e w sound writes is = absurd sound
+spent_or_refused leaf held past (Tell text) e w sound writes is = inl sound
+spent_or_refused leaf held past (Refuse fault) e w sound writes (inl is) = absurd (no_fault_done fault (subst (λ (x : Ending). WritesDue x w (due_of_fault fault)) is writes).0)
+spent_or_refused leaf held past (Refuse fault) e w sound writes (inr (inl is)) = inr (fault_line fault, (fault, refl), (subst (λ (x : Ending). WritesDue x w (due_of_fault fault)) is writes).1)
+spent_or_refused leaf held past (Refuse fault) e w sound writes (inr (inr is)) = inr (fault_line fault, (fault, refl), subst (λ (x : Ending). WritesDue x w (due_of_fault fault)) is writes)
 
-pub spent : (signing : Signing) (held : List ℕ) (past : List Step) (plan : Plan) (e : Ending) (w : Written) → TellsSpent signing held past plan → e ≡ endings.Done → WritesDue e w (due_of_plan plan) → SpendsLeaf signing held past
-spent signing held past plan e w sound is writes = spent_by signing held past plan w sound (subst (λ (x : Ending). WritesDue x w (due_of_plan plan)) is writes)
+pub spent : (leaf : LeafUse) (held : List ℕ) (past : List Step) (plan : Plan) (e : Ending) (w : Written) → TellsSpent leaf held past plan → e ≡ endings.Done → WritesDue e w (due_of_plan plan) → SpendsLeaf leaf held past
+spent leaf held past plan e w sound is writes = spent_by leaf held past plan w sound (subst (λ (x : Ending). WritesDue x w (due_of_plan plan)) is writes)

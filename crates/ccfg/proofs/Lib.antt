@@ -7,3 +7,4 @@ pub mod DueLemmas
 pub mod AnswerLemmas
 pub mod MeaningLemmas
 mod PromiseLemmas
+pub mod RecoveringLemmas

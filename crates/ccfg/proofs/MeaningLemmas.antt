@@ -25,6 +25,10 @@ use Rattle.gl_consortium.specs.declared.fault.SigningFault.TheVariants as signin
 use Rattle.gl_journal.specs.Durable.{Durable}
 use Rattle.gl_journal.specs.declared.fault.JournalFault.{JournalFault}
 use Rattle.gl_journal.specs.declared.key.KeyKind.{KeyKind}
+use Rattle.gl_journal.specs.declared.key.KeyKind.TheVariants.{Node}
+use Rattle.gl_recovery.specs.Recovering.{recover_owed}
+use Rattle.gl_recovery.specs.declared.recovering_fault.RecoveringFault.{RecoveringFault}
+use Rattle.gl_recovery.specs.declared.recovering_fault.RecoveringFault.TheVariants as recoverings
 use Rattle.gl_keyfile.specs.Signing.{kind_of}
 use Rattle.gl_keyfile.specs.declared.signing.Signing.{Signing}
 use Rattle.gl_lms.specs.declared.types.Types.{Types}
@@ -32,8 +36,8 @@ use Rattle.gl_dealing.specs.Members.{can_deal}
 use Rattle.ccfg.proofs.DealingLemmas.{dealing_due, long_dealing, short_dealing, whole_dealing}
 use Rattle.ccfg.proofs.KeyLemmas.{key_of, long_seed, seed_due, short_seed, whole_seed}
 use Rattle.ccfg.proofs.SigningLemmas.{is_own_kind, long_text, same_kind, signed_ends, text_due, unsigned_due, with_key, with_other_key}
-use Rattle.ccfg.specs.Owed.{Due, Shown, bytes_limit, dealing_len, due_of_dealing, text_of_dealing, due_of, due_of_answer, due_of_audit, due_of_fault, due_of_seed, due_of_signing, due_of_text, is_kind, key_line, on_empty, seed_len, due_of_form, due_of_reading, due_of_receipt, due_of_schedule, due_of_verdict, json_limit, lines_limit}
-use Rattle.ccfg.specs.Promises.{HasBadLine, HasKeyFor, HasOtherForm, HasTooManyBytes, HasTooManyLines, HasTooMuchJson, IsAnswer, IsPastLimit, IsReceipt, IsRefusal, IsNoReading, ReadsAs}
+use Rattle.ccfg.specs.Owed.{Due, Shown, bytes_limit, dealing_len, due_of_dealing, text_of_dealing, due_of, due_of_answer, due_of_audit, due_of_fault, due_of_old, due_of_recovered, due_of_recovering, due_of_seed, due_of_signing, due_of_text, is_kind, key_line, on_empty, seed_len, due_of_form, due_of_reading, due_of_receipt, due_of_schedule, due_of_verdict, json_limit, lines_limit}
+use Rattle.ccfg.specs.Promises.{HasBadLine, HasKey, HasOtherForm, HasTooManyBytes, HasTooManyLines, HasTooMuchJson, IsAnswer, IsPastLimit, IsReceipt, IsRefusal, IsNoReading, ReadsAs, TellsUnfounded}
 use Rattle.ccfg.specs.Faults.{fault_line}
 use Rattle.gl_schedule.specs.Schedules.{reads}
 
@@ -168,7 +172,7 @@ dealing_means threshold members shown given = go (nat_lt (length given) dealing_
 
 -- Signing
 
-text_means : (signing : Signing) (shown : Shown) (state : Durable) (given : List ℕ) → HasKeyFor signing shown state → DueMeans (tasks.Sign signing) shown given (due_of_text signing state given)
+text_means : (signing : Signing) (shown : Shown) (state : Durable) (given : List ℕ) → HasKey (kind_of signing) shown state → DueMeans (tasks.Sign signing) shown given (due_of_text signing state given)
 unfolding due_of_text
 text_means signing shown state given key = go (nat_lt json_limit (length given)) (owed signing state given) refl refl
   where
@@ -194,6 +198,38 @@ sign_means signing shown given = go shown.opens refl
     go (Err fault) is = inl (fault, is, refl)
     go (Ok state) is = of_kind state is (is_kind (kind_of signing) state.key.kind) refl
 
+-- Recoveries
+
+old_means : (shown : Shown) (state : Durable) (given : List ℕ) → HasKey Node shown state → DueMeans tasks.Recover shown given (due_of_old state given)
+old_means shown state given key = go (recover_owed state given) refl
+  where
+    go : (owed : Result (List ℕ) RecoveringFault) → recover_owed state given ≡ owed → DueMeans tasks.Recover shown given (due_of_recovered owed)
+    go (Ok told) is = (state, key, is)
+    go (Err recoverings.SourceFailed) is = inr (inr (recoverings.SourceFailed, refl, (state, key, is), refl))
+    go (Err recoverings.TooMuchJson) is = (recoverings.TooMuchJson, refl, (state, key, is), refl)
+    go (Err (recoverings.Short at)) is = (recoverings.Short at, refl, (state, key, is), refl)
+    go (Err (recoverings.Form fault)) is = (recoverings.Form fault, refl, (state, key, is), refl)
+    go (Err (recoverings.NotFirstNode want got)) is = inr (inr (recoverings.NotFirstNode want got, refl, (state, key, is), refl))
+    go (Err (recoverings.KeyExhausted reserved)) is = inr (inr (recoverings.KeyExhausted reserved, refl, (state, key, is), refl))
+    go (Err (recoverings.Recovery fault)) is = inr (inr (recoverings.Recovery fault, refl, (state, key, is), refl))
+    go (Err recoverings.DiskFailed) is = inr (inr (recoverings.DiskFailed, refl, (state, key, is), refl))
+
+recover_means : (shown : Shown) (given : List ℕ) → DueMeans tasks.Recover shown given (due_of_recovering shown.opens given)
+recover_means shown given = go shown.opens refl
+  where
+    of_kind : (state : Durable) → shown.opens ≡ Ok state → (b : Bool) → is_kind Node state.key.kind ≡ b →
+        DueMeans tasks.Recover shown given (if b then due_of_old state given else due_of_fault (faults.KeyKind Node state.key.kind))
+    of_kind state is true k = old_means shown state given (is, same_kind Node state.key.kind k)
+    of_kind state is false k = inr (inl (state, is, (λ same. let own = is_own_kind Node state.key.kind same in cc), refl))
+
+    go : (opens : Result Durable JournalFault) → shown.opens ≡ opens → DueMeans tasks.Recover shown given (due_of_recovering opens given)
+    go (Err fault) is = inl (fault, is, refl)
+    go (Ok state) is = of_kind state is (is_kind Node state.key.kind) refl
+
+unfounded_ends : (ending : Ending) (shown : Shown) (given text : List ℕ) → TellsUnfounded ending shown given text → (due_of_recovering shown.opens given).ending ≡ ending
+unfounded_ends ending shown given text a =
+    ap (λ (d : Due). d.ending) (with_key Node due_of_old shown a.2.0 given a.2.1 ∙ ap due_of_recovered a.2.2) ∙ a.1
+
 -- All
 
 pub means : (task : Task) (shown : Shown) (given : List ℕ) → Means task shown given (due_of task shown given).ending (due_of task shown given).text
@@ -203,6 +239,7 @@ means (tasks.Audit identity) shown given = audit_means identity shown given
 means (tasks.Keygen kind types) shown given = key_means kind types shown given
 means (tasks.Deal threshold members) shown given = dealing_means threshold members shown given
 means (tasks.Sign signing) shown given = sign_means signing shown given
+means tasks.Recover shown given = recover_means shown given
 
 -- The ending that is owed.
 abbrev EndsWith : Ending → Due → Type 0
@@ -219,6 +256,7 @@ answer_ends (tasks.Audit identity) shown given text a = audit_ends identity give
 answer_ends (tasks.Keygen kind types) shown given text a = key_ends kind types shown given (due_of_answer (key_line (key_of kind types given))) a.0 (whole_seed kind types given a.1)
 answer_ends (tasks.Deal threshold members) shown given text a = ending_of (due_of_dealing threshold members given) (due_of_answer (text_of_dealing threshold members given)) (whole_dealing threshold members given true a.0 a.1)
 answer_ends (tasks.Sign signing) shown given text a = signed_ends signing shown given a.0 (Ok text) a.1 a.2 a.3
+answer_ends tasks.Recover shown given text a = ap (λ (d : Due). d.ending) (with_key Node due_of_old shown a.0 given a.1 ∙ ap due_of_recovered a.2)
 
 pub refusal_ends : (task : Task) (shown : Shown) (given text : List ℕ) → IsRefusal task shown given text → EndsWith endings.NotValid (due_of task shown given)
 refusal_ends tasks.Replay shown given text a = absurd a
@@ -230,9 +268,13 @@ refusal_ends (tasks.Keygen kind types) shown given text a = full_ends shown.len 
 refusal_ends (tasks.Deal threshold members) shown given text a = ending_of (due_of_dealing threshold members given) (due_of_fault faults.BadDealing) (whole_dealing threshold members given false a.0 a.1)
 refusal_ends (tasks.Sign signing) shown given text (inl a) = ap (λ (opens : Result Durable JournalFault). (due_of_signing signing opens given).ending) a.1
 refusal_ends (tasks.Sign signing) shown given text (inr (inl a)) =
-    ap (λ (opens : Result Durable JournalFault). (due_of_signing signing opens given).ending) a.1 ∙ ap (λ (d : Due). d.ending) (with_other_key signing a.0 given a.2)
+    ap (λ (opens : Result Durable JournalFault). (due_of_signing signing opens given).ending) a.1 ∙ ap (λ (d : Due). d.ending) (with_other_key (kind_of signing) (due_of_text signing) a.0 given a.2)
 refusal_ends (tasks.Sign signing) shown given text (inr (inr a)) =
     signed_ends signing shown given a.1.0 (Err a.0) a.1.1 a.1.2 a.1.3 ∙ ap (λ (d : Due). d.ending) (unsigned_due a.0 a.2)
+refusal_ends tasks.Recover shown given text (inl a) = ap (λ (opens : Result Durable JournalFault). (due_of_recovering opens given).ending) a.1
+refusal_ends tasks.Recover shown given text (inr (inl a)) =
+    ap (λ (opens : Result Durable JournalFault). (due_of_recovering opens given).ending) a.1 ∙ ap (λ (d : Due). d.ending) (with_other_key Node due_of_old a.0 given a.2)
+refusal_ends tasks.Recover shown given text (inr (inr a)) = unfounded_ends endings.NotValid shown given text a
 
 pub limit_ends : (task : Task) (shown : Shown) (given text : List ℕ) → IsPastLimit task shown given text → EndsWith endings.PastLimit (due_of task shown given)
 limit_ends tasks.Replay shown given text (inl a) = ending_of (due_of_schedule given) (due_of_fault faults.TooManyBytes) (too_many_bytes given a.0)
@@ -242,7 +284,8 @@ limit_ends (tasks.Audit identity) shown given text a = absurd a
 limit_ends (tasks.Keygen kind types) shown given text a = absurd a
 limit_ends (tasks.Deal threshold members) shown given text a = absurd a
 limit_ends (tasks.Sign signing) shown given text a =
-    ap (λ (d : Due). d.ending) (with_key signing shown a.0 given a.1 ∙ long_text signing a.0 given a.2)
+    ap (λ (d : Due). d.ending) (with_key (kind_of signing) (due_of_text signing) shown a.0 given a.1 ∙ long_text signing a.0 given a.2)
+limit_ends tasks.Recover shown given text a = unfounded_ends endings.PastLimit shown given text a
 
 pub unread_ends : (task : Task) (shown : Shown) (given text : List ℕ) → IsNoReading task shown given text → EndsWith endings.NoReading (due_of task shown given)
 unread_ends tasks.Replay shown given text a = ending_of (due_of_schedule given) (due_of_fault (faults.BadLine a.0)) (bad_line given a.0 a.1)
@@ -253,3 +296,4 @@ unread_ends (tasks.Keygen kind types) shown given text (empty, inr a) = key_ends
 unread_ends (tasks.Deal threshold members) shown given text (inl a) = ending_of (due_of_dealing threshold members given) (due_of_fault (faults.Short (length given))) (short_dealing threshold members given a.0)
 unread_ends (tasks.Deal threshold members) shown given text (inr a) = ending_of (due_of_dealing threshold members given) (due_of_fault (faults.Trailing dealing_len)) (long_dealing threshold members given a.0)
 unread_ends (tasks.Sign signing) shown given text a = signed_ends signing shown given a.1.0 (Err (signings.Form a.0)) a.1.1 a.1.2 a.1.3
+unread_ends tasks.Recover shown given text a = unfounded_ends endings.NoReading shown given text a

@@ -17,6 +17,7 @@ use Rattle.gl_keyfile.specs.KeyFile.{opened}
 use Rattle.gl_keyfile.specs.Signing.{kind_of}
 use Rattle.gl_keyfile.specs.declared.fault.KeyFileFault.{KeyFileFault}
 use Rattle.gl_keyfile.specs.declared.fault.KeyFileFault.TheVariants.{Journal, KeyKind as KeyKindOf}
+use Rattle.gl_keyfile.specs.declared.leaf.LeafUse.{LeafUse}
 use Rattle.gl_keyfile.specs.declared.signing.Signing.{Signing}
 use Rattle.gl_lms.specs.declared.types.Types.TheVariants.{H5W4}
 use Rattle.gl_outside.specs.Disk.{Step}
@@ -25,11 +26,11 @@ use Rattle.ccfg.specs.declared.plan.Plan.{Plan}
 use Rattle.ccfg.specs.declared.plan.Plan.TheVariants.{Play, Show, ShowLedger, Tell, Refuse}
 use Rattle.ccfg.specs.declared.plan.PlanStop.{PlanStop}
 use Rattle.gl_commands.specs.declared.task.Task.{Task}
-use Rattle.gl_commands.specs.declared.task.Task.TheVariants.{Sign}
+use Rattle.gl_commands.specs.declared.task.Task.TheVariants.{Recover, Sign}
 use Rattle.ccfg.specs.Plans.{OpensAsBefore, PlansPlayable, TellsFault, TellsSpent, TellsUnopened, due_of_plan}
 use Rattle.ccfg.proofs.ShownLemmas.{of_any, of_map, ok_map}
-use Rattle.ccfg.specs.Owed.{Due, EndsSource, OfShown, Shown, due_of, due_of_fault, due_of_signed, due_of_signing, due_of_text, is_kind, json_limit}
-use Rattle.ccfg.specs.Promises.{HasKeyFor}
+use Rattle.ccfg.specs.Owed.{Due, EndsSource, OfShown, Shown, due_of, due_of_fault, due_of_recovering, due_of_signed, due_of_signing, due_of_text, due_with_key, is_kind, json_limit}
+use Rattle.ccfg.specs.Promises.{HasKey}
 
 abbrev pub text_due : Signing → Durable → List ℕ → Bool → Result (List ℕ) SigningFault → Due
 text_due signing state given long signed = if long then due_of_fault faults.TooMuchJson else due_of_signed signed
@@ -62,25 +63,25 @@ other_kind want got other = go (is_kind want got) refl
     go true is = absurd (other (same_kind want got is))
     go false is = is
 
--- what is owed with a key of the kind that signs
-pub with_key : (signing : Signing) (shown : Shown) (state : Durable) (given : List ℕ) → HasKeyFor signing shown state → due_of_signing signing shown.opens given ≡ due_of_text signing state given
-with_key signing shown state given key =
-    ap (λ (opens : Result Durable JournalFault). due_of_signing signing opens given) key.0
-    ∙ ap (λ (b : Bool). if b then due_of_text signing state given else due_of_fault (faults.KeyKind (kind_of signing) state.key.kind)) (is_own_kind (kind_of signing) state.key.kind key.1)
+-- what is owed with a key of the kind that is wanted
+pub with_key : (kind : KeyKind) (owes : Durable → List ℕ → Due) (shown : Shown) (state : Durable) (given : List ℕ) → HasKey kind shown state → due_with_key kind owes shown.opens given ≡ owes state given
+with_key kind owes shown state given key =
+    ap (λ (opens : Result Durable JournalFault). due_with_key kind owes opens given) key.0
+    ∙ ap (λ (b : Bool). if b then owes state given else due_of_fault (faults.KeyKind kind state.key.kind)) (is_own_kind kind state.key.kind key.1)
 
 -- and with one of another kind
-pub with_other_key : (signing : Signing) (state : Durable) (given : List ℕ) → (state.key.kind ≡ kind_of signing → ⊥) → due_of_signing signing (Ok state) given ≡ due_of_fault (faults.KeyKind (kind_of signing) state.key.kind)
-with_other_key signing state given other =
-    ap (λ (b : Bool). if b then due_of_text signing state given else due_of_fault (faults.KeyKind (kind_of signing) state.key.kind)) (other_kind (kind_of signing) state.key.kind other)
+pub with_other_key : (kind : KeyKind) (owes : Durable → List ℕ → Due) (state : Durable) (given : List ℕ) → (state.key.kind ≡ kind → ⊥) → due_with_key kind owes (Ok state) given ≡ due_of_fault (faults.KeyKind kind state.key.kind)
+with_other_key kind owes state given other =
+    ap (λ (b : Bool). if b then owes state given else due_of_fault (faults.KeyKind kind state.key.kind)) (other_kind kind state.key.kind other)
 
-pub with_own_key : (signing : Signing) (state : Durable) (given : List ℕ) → state.key.kind ≡ kind_of signing → due_of_signing signing (Ok state) given ≡ due_of_text signing state given
-with_own_key signing state given own =
-    ap (λ (b : Bool). if b then due_of_text signing state given else due_of_fault (faults.KeyKind (kind_of signing) state.key.kind)) (is_own_kind (kind_of signing) state.key.kind own)
+pub with_own_key : (kind : KeyKind) (owes : Durable → List ℕ → Due) (state : Durable) (given : List ℕ) → state.key.kind ≡ kind → due_with_key kind owes (Ok state) given ≡ owes state given
+with_own_key kind owes state given own =
+    ap (λ (b : Bool). if b then owes state given else due_of_fault (faults.KeyKind kind state.key.kind)) (is_own_kind kind state.key.kind own)
 
-pub signed_ends : (signing : Signing) (shown : Shown) (given : List ℕ) (state : Durable) (signed : Result (List ℕ) SigningFault) → HasKeyFor signing shown state → length given ≤ json_limit → owed signing state given ≡ signed →
+pub signed_ends : (signing : Signing) (shown : Shown) (given : List ℕ) (state : Durable) (signed : Result (List ℕ) SigningFault) → HasKey (kind_of signing) shown state → length given ≤ json_limit → owed signing state given ≡ signed →
     (due_of_signing signing shown.opens given).ending ≡ (due_of_signed signed).ending
 signed_ends signing shown given state signed key within is =
-    ap (λ (d : Due). d.ending) (with_key signing shown state given key ∙ short_text signing state given signed within is)
+    ap (λ (d : Due). d.ending) (with_key (kind_of signing) (due_of_text signing) shown state given key ∙ short_text signing state given signed within is)
 
 -- a fault of signing, and not of the form
 pub unsigned_due : (fault : SigningFault) → ((form : FormsFault) → fault ≡ signings.Form form → ⊥) → due_of_signed (Err fault) ≡ due_of_fault (faults.Signing fault)
@@ -107,6 +108,12 @@ pub signing_due : (task : Task) (signing : Signing) (honest : Bool) (held : List
 signing_due task signing honest held given r is due =
     subst (λ (t : Task). IfOk r (λ plan. OfShown honest held (λ h. OfBytes given (λ g. due_of t h g ≡ due_of_plan plan)))) (sym is) due
 
+-- the task that founds a service anew
+pub recover_due : (task : Task) (honest : Bool) (held : List ℕ) (given : Option (List ℕ)) (r : Result Plan PlanStop) → task ≡ Recover →
+    IfOk r (λ plan. OfShown honest held (λ h. OfBytes given (λ g. due_of_recovering h.opens g ≡ due_of_plan plan))) → IfOk r (λ plan. OfShown honest held (λ h. OfBytes given (λ g. due_of task h g ≡ due_of_plan plan)))
+recover_due task honest held given r is due =
+    subst (λ (t : Task). IfOk r (λ plan. OfShown honest held (λ h. OfBytes given (λ g. due_of t h g ≡ due_of_plan plan)))) (sym is) due
+
 -- what a disk shows that opens so
 abbrev shows : Result Durable JournalFault → Shown
 shows opens = record { len = 0; opens = opens }
@@ -116,50 +123,50 @@ pub opens_so : (honest : Bool) (held : List ℕ) (opens : Result Durable Journal
 opens_so true held opens P is p = subst P (sym (is refl)) p
 opens_so false held opens P is p = (shows opens, p)
 
--- with a key of the kind that signs, what is owed for its state is owed
-pub owed_with_key : (honest : Bool) (held : List ℕ) (given : Option (List ℕ)) (signing : Signing) (state : Durable) (r : Result Plan PlanStop) → (IsTrue honest → opened held ≡ Ok state) → state.key.kind ≡ kind_of signing →
-    IfOk r (λ plan. OfBytes given (λ g. due_of_text signing state g ≡ due_of_plan plan)) → IfOk r (λ plan. OfShown honest held (λ h. OfBytes given (λ g. due_of_signing signing h.opens g ≡ due_of_plan plan)))
-owed_with_key honest held given signing state r opens own due =
-    ok_map r (λ plan. OfBytes given (λ g. due_of_text signing state g ≡ due_of_plan plan)) (λ plan. OfShown honest held (λ h. OfBytes given (λ g. due_of_signing signing h.opens g ≡ due_of_plan plan)))
-    (λ plan is. opens_so honest held (Ok state) (λ o. OfBytes given (λ g. due_of_signing signing o g ≡ due_of_plan plan)) opens
-    (of_map given (λ g. due_of_text signing state g ≡ due_of_plan plan) (λ g. due_of_signing signing (Ok state) g ≡ due_of_plan plan) (λ g d. with_own_key signing state g own ∙ d) is)) due
+-- with a key of the kind that is wanted, what is owed for its state is owed
+pub owed_with_key : (honest : Bool) (held : List ℕ) (given : Option (List ℕ)) (kind : KeyKind) (owes : Durable → List ℕ → Due) (state : Durable) (r : Result Plan PlanStop) → (IsTrue honest → opened held ≡ Ok state) → state.key.kind ≡ kind →
+    IfOk r (λ plan. OfBytes given (λ g. owes state g ≡ due_of_plan plan)) → IfOk r (λ plan. OfShown honest held (λ h. OfBytes given (λ g. due_with_key kind owes h.opens g ≡ due_of_plan plan)))
+owed_with_key honest held given kind owes state r opens own due =
+    ok_map r (λ plan. OfBytes given (λ g. owes state g ≡ due_of_plan plan)) (λ plan. OfShown honest held (λ h. OfBytes given (λ g. due_with_key kind owes h.opens g ≡ due_of_plan plan)))
+    (λ plan is. opens_so honest held (Ok state) (λ o. OfBytes given (λ g. due_with_key kind owes o g ≡ due_of_plan plan)) opens
+    (of_map given (λ g. owes state g ≡ due_of_plan plan) (λ g. due_with_key kind owes (Ok state) g ≡ due_of_plan plan) (λ g d. with_own_key kind owes state g own ∙ d) is)) due
 
 -- where no key file could be opened
 told_kind : (want got asked had : KeyKind) (plan : Plan) → asked ≡ want → got ≡ had → plan ≡ Refuse (faults.KeyKind asked had) → due_of_fault (faults.KeyKind want got) ≡ due_of_plan plan
 told_kind want got asked had plan w g p =
     ap (λ (k : KeyKind). due_of_fault (faults.KeyKind k got)) (sym w) ∙ ap (λ (k : KeyKind). due_of_fault (faults.KeyKind asked k)) g ∙ ap due_of_plan (sym p)
 
-unopened_due : (honest : Bool) (held : List ℕ) (given : Option (List ℕ)) (signing : Signing) (error : OrNoMemory KeyFileFault) (plan : Plan) →
+unopened_due : (honest : Bool) (held : List ℕ) (given : Option (List ℕ)) (kind : KeyKind) (owes : Durable → List ℕ → Due) (error : OrNoMemory KeyFileFault) (plan : Plan) →
     (IsTrue honest → (fault : JournalFault) → error ≡ fault_of (Journal fault) → (fault ≡ DiskFault → ⊥) → opened held ≡ Err fault) →
     (IsTrue honest → (want got : KeyKind) → error ≡ fault_of (KeyKindOf want got) → (state : Durable) × (opened held ≡ Ok state) × (state.key.kind ≡ got)) →
-    ((want got : KeyKind) → error ≡ fault_of (KeyKindOf want got) → (want ≡ kind_of signing) × (got ≡ kind_of signing → ⊥)) →
-    TellsUnopened error plan → OfShown honest held (λ h. OfBytes given (λ g. due_of_signing signing h.opens g ≡ due_of_plan plan))
-unopened_due honest held given signing error plan damaged other kinds (inl t) =
-    subst (λ (p : Plan). OfShown honest held (λ h. OfBytes given (λ g. due_of_signing signing h.opens g ≡ due_of_plan p))) (sym t.3)
-    (opens_so honest held (Err t.0) (λ o. OfBytes given (λ g. due_of_signing signing o g ≡ due_of_fault (faults.Journal t.0))) (λ yes. damaged yes t.0 t.1 t.2)
-    (of_any given (λ g. due_of_signing signing (Err t.0) g ≡ due_of_fault (faults.Journal t.0)) (λ g. refl)))
-unopened_due true held given signing error plan damaged other kinds (inr t) =
+    ((want got : KeyKind) → error ≡ fault_of (KeyKindOf want got) → (want ≡ kind) × (got ≡ kind → ⊥)) →
+    TellsUnopened error plan → OfShown honest held (λ h. OfBytes given (λ g. due_with_key kind owes h.opens g ≡ due_of_plan plan))
+unopened_due honest held given kind owes error plan damaged other kinds (inl t) =
+    subst (λ (p : Plan). OfShown honest held (λ h. OfBytes given (λ g. due_with_key kind owes h.opens g ≡ due_of_plan p))) (sym t.3)
+    (opens_so honest held (Err t.0) (λ o. OfBytes given (λ g. due_with_key kind owes o g ≡ due_of_fault (faults.Journal t.0))) (λ yes. damaged yes t.0 t.1 t.2)
+    (of_any given (λ g. due_with_key kind owes (Err t.0) g ≡ due_of_fault (faults.Journal t.0)) (λ g. refl)))
+unopened_due true held given kind owes error plan damaged other kinds (inr t) =
     let k = kinds t.0 t.1 t.2 in
     let s = other refl t.0 t.1 t.2 in
-    let own : s.0.key.kind ≡ kind_of signing → ⊥ = λ is. k.1 (sym s.2 ∙ is) in
-    of_any given (λ g. due_of_signing signing (opened held) g ≡ due_of_plan plan)
-    (λ g. ap (λ (o : Result Durable JournalFault). due_of_signing signing o g) s.1 ∙ with_other_key signing s.0 g own ∙ told_kind (kind_of signing) s.0.key.kind t.0 t.1 plan k.0 s.2 t.3)
-unopened_due false held given signing error plan damaged other kinds (inr t) =
+    let own : s.0.key.kind ≡ kind → ⊥ = λ is. k.1 (sym s.2 ∙ is) in
+    of_any given (λ g. due_with_key kind owes (opened held) g ≡ due_of_plan plan)
+    (λ g. ap (λ (o : Result Durable JournalFault). due_with_key kind owes o g) s.1 ∙ with_other_key kind owes s.0 g own ∙ told_kind kind s.0.key.kind t.0 t.1 plan k.0 s.2 t.3)
+unopened_due false held given kind owes error plan damaged other kinds (inr t) =
     let k = kinds t.0 t.1 t.2 in
     let state = key_alone (record { kind = t.1; types = H5W4; seed = [] }) in (
       shows (Ok state),
-      of_any given (λ g. due_of_signing signing (Ok state) g ≡ due_of_plan plan)
-          (λ g. with_other_key signing state g k.1 ∙ told_kind (kind_of signing) t.1 t.0 t.1 plan k.0 refl t.3),
+      of_any given (λ g. due_with_key kind owes (Ok state) g ≡ due_of_plan plan)
+          (λ g. with_other_key kind owes state g k.1 ∙ told_kind kind t.1 t.0 t.1 plan k.0 refl t.3),
     )
 
-pub all_unopened_due : (honest : Bool) (held : List ℕ) (given : Option (List ℕ)) (signing : Signing) (error : OrNoMemory KeyFileFault) (r : Result Plan PlanStop) →
+pub all_unopened_due : (honest : Bool) (held : List ℕ) (given : Option (List ℕ)) (kind : KeyKind) (owes : Durable → List ℕ → Due) (error : OrNoMemory KeyFileFault) (r : Result Plan PlanStop) →
     (IsTrue honest → (fault : JournalFault) → error ≡ fault_of (Journal fault) → (fault ≡ DiskFault → ⊥) → opened held ≡ Err fault) →
     (IsTrue honest → (want got : KeyKind) → error ≡ fault_of (KeyKindOf want got) → (state : Durable) × (opened held ≡ Ok state) × (state.key.kind ≡ got)) →
-    ((want got : KeyKind) → error ≡ fault_of (KeyKindOf want got) → (want ≡ kind_of signing) × (got ≡ kind_of signing → ⊥)) →
-    IfOk r (TellsUnopened error) → IfOk r (λ plan. OfShown honest held (λ h. OfBytes given (λ g. due_of_signing signing h.opens g ≡ due_of_plan plan)))
-all_unopened_due honest held given signing error r damaged other kinds told =
-    ok_map r (TellsUnopened error) (λ plan. OfShown honest held (λ h. OfBytes given (λ g. due_of_signing signing h.opens g ≡ due_of_plan plan)))
-    (λ plan t. unopened_due honest held given signing error plan damaged other kinds t) told
+    ((want got : KeyKind) → error ≡ fault_of (KeyKindOf want got) → (want ≡ kind) × (got ≡ kind → ⊥)) →
+    IfOk r (TellsUnopened error) → IfOk r (λ plan. OfShown honest held (λ h. OfBytes given (λ g. due_with_key kind owes h.opens g ≡ due_of_plan plan)))
+all_unopened_due honest held given kind owes error r damaged other kinds told =
+    ok_map r (TellsUnopened error) (λ plan. OfShown honest held (λ h. OfBytes given (λ g. due_with_key kind owes h.opens g ≡ due_of_plan plan)))
+    (λ plan t. unopened_due honest held given kind owes error plan damaged other kinds t) told
 
 -- a file that could not be opened opens as it did
 unopened_kept : (held holds : List ℕ) (error : OrNoMemory KeyFileFault) (plan : Plan) →
@@ -177,12 +184,12 @@ all_unopened_kept held holds error r damaged other told =
     ok_map r (TellsUnopened error) (λ plan. TellsFault plan → OpensAsBefore held holds) (λ plan t fault. unopened_kept held holds error plan damaged other t) told
 
 -- it tells no key
-unopened_spent : (signing : Signing) (held : List ℕ) (past : List Step) (error : OrNoMemory KeyFileFault) (plan : Plan) → TellsUnopened error plan → TellsSpent signing held past plan
-unopened_spent signing held past error plan (inl t) = subst (TellsSpent signing held past) (sym t.3) tt
-unopened_spent signing held past error plan (inr t) = subst (TellsSpent signing held past) (sym t.3) tt
+unopened_spent : (leaf : LeafUse) (held : List ℕ) (past : List Step) (error : OrNoMemory KeyFileFault) (plan : Plan) → TellsUnopened error plan → TellsSpent leaf held past plan
+unopened_spent leaf held past error plan (inl t) = subst (TellsSpent leaf held past) (sym t.3) tt
+unopened_spent leaf held past error plan (inr t) = subst (TellsSpent leaf held past) (sym t.3) tt
 
-pub all_unopened_spent : (signing : Signing) (held : List ℕ) (past : List Step) (error : OrNoMemory KeyFileFault) (r : Result Plan PlanStop) → IfOk r (TellsUnopened error) → IfOk r (λ plan. TellsSpent signing held past plan)
-all_unopened_spent signing held past error r told = ok_map r (TellsUnopened error) (λ plan. TellsSpent signing held past plan) (unopened_spent signing held past error) told
+pub all_unopened_spent : (leaf : LeafUse) (held : List ℕ) (past : List Step) (error : OrNoMemory KeyFileFault) (r : Result Plan PlanStop) → IfOk r (TellsUnopened error) → IfOk r (λ plan. TellsSpent leaf held past plan)
+all_unopened_spent leaf held past error r told = ok_map r (TellsUnopened error) (λ plan. TellsSpent leaf held past plan) (unopened_spent leaf held past error) told
 
 -- and nothing is read for it
 unopened_ended : (error : OrNoMemory KeyFileFault) (plan : Plan) (ended : Bool) → TellsUnopened error plan → EndsSource (due_of_plan plan) ended
@@ -200,15 +207,19 @@ pub all_unopened_playable : (error : OrNoMemory KeyFileFault) (r : Result Plan P
 all_unopened_playable error r told = ok_map r (TellsUnopened error) PlansPlayable (unopened_playable error) told
 
 -- a leaf that is spent of what was opened is spent of what it was opened from
-moved_spent : (signing : Signing) (held holds : List ℕ) (state : Durable) (past : List Step) (plan : Plan) → opened held ≡ Ok state → opened holds ≡ Ok state → TellsSpent signing holds past plan → TellsSpent signing held past plan
-moved_spent signing held holds state past (Play schedule) is same told = told
-moved_spent signing held holds state past (Show id) is same told = told
-moved_spent signing held holds state past (ShowLedger last signed) is same told = told
-moved_spent signing held holds state past (Refuse fault) is same told = told
-moved_spent signing held holds state past (Tell text) is same told =
+moved_spent : (leaf : LeafUse) (held holds : List ℕ) (state : Durable) (past : List Step) (plan : Plan) → opened held ≡ Ok state → opened holds ≡ Ok state → TellsSpent leaf holds past plan → TellsSpent leaf held past plan
+moved_spent leaf held holds state past (Play schedule) is same told = told
+moved_spent leaf held holds state past (Show id) is same told = told
+moved_spent leaf held holds state past (ShowLedger last signed) is same told = told
+moved_spent leaf held holds state past (Refuse fault) is same told = told
+moved_spent leaf held holds state past (Tell text) is same told =
     (told.0, is ∙ sym same ∙ told.1, told.2)
 
-pub all_moved_spent : (signing : Signing) (held holds : List ℕ) (state : Durable) (past : List Step) (r : Result Plan PlanStop) → opened held ≡ Ok state → opened holds ≡ Ok state →
-    IfOk r (λ plan. TellsSpent signing holds past plan) → IfOk r (λ plan. TellsSpent signing held past plan)
-all_moved_spent signing held holds state past r is same told =
-    ok_map r (λ plan. TellsSpent signing holds past plan) (λ plan. TellsSpent signing held past plan) (λ plan t. moved_spent signing held holds state past plan is same t) told
+pub all_moved_spent : (leaf : LeafUse) (held holds : List ℕ) (state : Durable) (past : List Step) (r : Result Plan PlanStop) → opened held ≡ Ok state → opened holds ≡ Ok state →
+    IfOk r (λ plan. TellsSpent leaf holds past plan) → IfOk r (λ plan. TellsSpent leaf held past plan)
+all_moved_spent leaf held holds state past r is same told =
+    ok_map r (λ plan. TellsSpent leaf holds past plan) (λ plan. TellsSpent leaf held past plan) (λ plan t. moved_spent leaf held holds state past plan is same t) told
+
+-- a leaf that is spent for the use of a task
+pub spent_for : (leaf own : LeafUse) (held : List ℕ) (past : List Step) (r : Result Plan PlanStop) → own ≡ leaf → IfOk r (λ plan. TellsSpent own held past plan) → IfOk r (λ plan. TellsSpent leaf held past plan)
+spent_for leaf own held past r is told = subst (λ (l : LeafUse). IfOk r (λ plan. TellsSpent l held past plan)) is told

@@ -1,85 +1,48 @@
 -- The one line that tells why words or bytes are refused.
-use Rattle.std.specs.Prelude.{ℕ, List, [], ◌∷◌, ◌++◌, codes, decimal}
+use Rattle.std.specs.Prelude.{ℕ, List, ◌++◌, codes, decimal}
 use Rattle.hex.specs.Hex.{encode_lower}
-use Rattle.clap.specs.declared.error.kind.ErrorKind.{ErrorKind}
-use Rattle.clap.specs.declared.error.kind.ErrorKind.TheVariants as kinds
-use Rattle.gl_base.specs.declared.json.FormsFault.{FormsFault}
-use Rattle.gl_base.specs.declared.json.FormsFault.TheVariants as forms
 use Rattle.gl_consortium.specs.declared.fault.SigningFault.{SigningFault}
 use Rattle.gl_consortium.specs.declared.fault.SigningFault.TheVariants as signing
+use Rattle.gl_fault_lines.specs.Texts.{bad_action_text, form_text, journal_text, key_kinds_text, kind_name, nodes_text, receipt_text}
 use Rattle.gl_gov_rules.specs.Numbers.{cause_number}
-use Rattle.gl_hss.specs.declared.fault.HssFault.{HssFault}
-use Rattle.gl_hss.specs.declared.fault.HssFault.TheVariants as hss
-use Rattle.gl_journal.specs.Records.{key_kind_tag}
-use Rattle.gl_journal.specs.declared.fault.JournalFault.{JournalFault}
-use Rattle.gl_journal.specs.declared.fault.JournalFault.TheVariants as journals
-use Rattle.gl_receipt.specs.declared.fault.ReceiptFault.{ReceiptFault}
-use Rattle.gl_receipt.specs.declared.fault.ReceiptFault.TheVariants as receipts
+use Rattle.gl_recovery.specs.declared.fault.RecoveryFault.{RecoveryFault}
+use Rattle.gl_recovery.specs.declared.fault.RecoveryFault.TheVariants as recovery
+use Rattle.gl_recovery.specs.declared.recovering_fault.RecoveringFault.{RecoveringFault}
+use Rattle.gl_recovery.specs.declared.recovering_fault.RecoveringFault.TheVariants as recovering
 use Rattle.ccfg.specs.declared.fault.Fault.{Fault}
 use Rattle.ccfg.specs.declared.fault.Fault.TheVariants as faults
-
--- The name of a kind of fault that the library for command lines finds.
-abbrev pub kind_name : ErrorKind → List ℕ
-kind_name kinds.InvalidValue = codes "InvalidValue"
-kind_name kinds.UnknownArgument = codes "UnknownArgument"
-kind_name kinds.InvalidSubcommand = codes "InvalidSubcommand"
-kind_name kinds.NoEquals = codes "NoEquals"
-kind_name kinds.ValueValidation = codes "ValueValidation"
-kind_name kinds.TooManyValues = codes "TooManyValues"
-kind_name kinds.TooFewValues = codes "TooFewValues"
-kind_name kinds.WrongNumberOfValues = codes "WrongNumberOfValues"
-kind_name kinds.ArgumentConflict = codes "ArgumentConflict"
-kind_name kinds.MissingRequiredArgument = codes "MissingRequiredArgument"
-kind_name kinds.MissingSubcommand = codes "MissingSubcommand"
-kind_name kinds.DisplayHelp = codes "DisplayHelp"
-kind_name kinds.DisplayHelpOnMissingArgumentOrSubcommand =
-    codes "DisplayHelpOnMissingArgumentOrSubcommand"
-kind_name kinds.DisplayVersion = codes "DisplayVersion"
-kind_name kinds.Io = codes "Io"
-kind_name kinds.Format = codes "Format"
-kind_name kinds.OutOfMemory = codes "OutOfMemory"
-
--- A path as it stands; that of the whole text, which is empty, as a full stop.
-abbrev pub path_text : List ℕ → List ℕ
-path_text [] = codes "."
-path_text (byte ∷ path) = byte ∷ path
-
--- Why JSON is no receipt, or not what is to be signed.
-abbrev pub form_text : FormsFault → List ℕ
-form_text forms.NotJson = codes "NotJson"
-form_text (forms.Shape path) = codes "Shape " ++ path_text path
-form_text (forms.Hex path) = codes "Hex " ++ path_text path
-
--- What is wrong with a signature. Where two values are told, the one that is wanted comes first.
-abbrev pub hss_text : HssFault → List ℕ
-hss_text (hss.Types at) = codes "Types " ++ decimal at
-hss_text (hss.Length want got) = codes "Length " ++ decimal want ++ codes " " ++ decimal got
-hss_text (hss.Levels want got) = codes "Levels " ++ decimal want ++ codes " " ++ decimal got
-hss_text (hss.Root want got) = codes "Root " ++ encode_lower want ++ codes " " ++ encode_lower got
-hss_text (hss.Leaf q) = codes "Leaf " ++ decimal q
-
--- Why a receipt is not valid.
-abbrev pub receipt_text : ReceiptFault → List ℕ
-receipt_text receipts.Evidence = codes "Evidence"
-receipt_text (receipts.Hss fault) = codes "Hss " ++ hss_text fault
-
--- Why the bytes of a disk are no key file.
-abbrev pub journal_text : JournalFault → List ℕ
-journal_text (journals.NotJournal at) = codes "NotJournal " ++ decimal at
-journal_text (journals.BadRecord at) = codes "BadRecord " ++ decimal at
-journal_text journals.DiskFault = codes "DiskFault"
-journal_text (journals.NotEmpty len) = codes "NotEmpty " ++ decimal len
 
 -- Why nothing is signed.
 abbrev pub signing_text : SigningFault → List ℕ
 signing_text (signing.Form fault) = form_text fault
-signing_text (signing.NotFirstNode want got) =
-    codes "NotFirstNode " ++ encode_lower want ++ codes " " ++ encode_lower got
+signing_text (signing.NotFirstNode want got) = nodes_text want got
 signing_text (signing.KeyExhausted reserved) = codes "KeyExhausted " ++ decimal reserved
-signing_text (signing.BadAction index cause) =
-    codes "BadAction " ++ decimal index ++ codes " " ++ decimal (cause_number cause)
+signing_text (signing.BadAction index cause) = bad_action_text index (cause_number cause)
 signing_text signing.Signature = codes "Signature"
 signing_text signing.DiskFailed = codes "DiskFailed"
+
+-- Why no service is founded anew behind an old ledger.
+abbrev pub recovery_text : RecoveryFault → List ℕ
+recovery_text (recovery.Audit seqno rule) =
+    codes "Audit " ++ decimal seqno ++ codes " " ++ decimal rule
+recovery_text recovery.NothingSigned = codes "NothingSigned"
+recovery_text recovery.ViewLimit = codes "ViewLimit"
+recovery_text recovery.SeqnoLimit = codes "SeqnoLimit"
+recovery_text (recovery.BadAction index cause) = bad_action_text index (cause_number cause)
+recovery_text recovery.Signature = codes "Signature"
+recovery_text (recovery.TooLarge size) = codes "TooLarge " ++ decimal size
+recovery_text recovery.SourceFailed = codes "SourceFailed"
+
+-- Why no service is founded anew.
+abbrev pub recovering_text : RecoveringFault → List ℕ
+recovering_text recovering.SourceFailed = codes "SourceFailed"
+recovering_text recovering.TooMuchJson = codes "json 1048576"
+recovering_text (recovering.Short at) = codes "Short " ++ decimal at
+recovering_text (recovering.Form fault) = form_text fault
+recovering_text (recovering.NotFirstNode want got) = nodes_text want got
+recovering_text (recovering.KeyExhausted reserved) = codes "KeyExhausted " ++ decimal reserved
+recovering_text (recovering.Recovery fault) = recovery_text fault
+recovering_text recovering.DiskFailed = codes "DiskFailed"
 
 abbrev pub fault_text : Fault → List ℕ
 fault_text (faults.Words kind) = kind_name kind
@@ -96,10 +59,10 @@ fault_text (faults.NotEmpty len) = codes "NotEmpty " ++ decimal len
 fault_text (faults.Short at) = codes "Short " ++ decimal at
 fault_text (faults.Trailing at) = codes "Trailing " ++ decimal at
 fault_text (faults.Journal fault) = journal_text fault
-fault_text (faults.KeyKind want got) =
-    codes "KeyKind " ++ decimal (key_kind_tag want) ++ codes " " ++ decimal (key_kind_tag got)
+fault_text (faults.KeyKind want got) = key_kinds_text want got
 fault_text faults.BadDealing = codes "BadAction 0 10"
 fault_text (faults.Signing fault) = signing_text fault
+fault_text (faults.Recovering fault) = recovering_text fault
 
 -- The line.
 abbrev pub fault_line : Fault → List ℕ

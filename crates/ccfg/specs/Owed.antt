@@ -18,9 +18,12 @@ use Rattle.gl_journal.specs.Records.{key_kind_tag}
 use Rattle.gl_journal.specs.declared.fault.JournalFault.{JournalFault}
 use Rattle.gl_journal.specs.declared.key.Key.{Key}
 use Rattle.gl_journal.specs.declared.key.KeyKind.{KeyKind}
+use Rattle.gl_journal.specs.declared.key.KeyKind.TheVariants.{Node}
 use Rattle.gl_keyfile.specs.Form.{key_form_of}
 use Rattle.gl_keyfile.specs.KeyFile.{opened}
-use Rattle.gl_keyfile.specs.Signing.{kind_of}
+use Rattle.gl_keyfile.specs.Signing.{kind_of, use_of}
+use Rattle.gl_keyfile.specs.declared.leaf.LeafUse.{LeafUse}
+use Rattle.gl_keyfile.specs.declared.leaf.LeafUse.TheVariants.{Start}
 use Rattle.gl_keyfile.specs.declared.signing.Signing.{Signing}
 use Rattle.gl_lms.specs.declared.types.Types.{Types}
 use Rattle.gl_outside.specs.Fault.{Rose}
@@ -33,6 +36,9 @@ use Rattle.gl_receipt.specs.Verdict.{verdict}
 use Rattle.gl_receipt.specs.declared.components.Receipt.{Receipt}
 use Rattle.gl_receipt.specs.declared.fault.ReceiptFault.{ReceiptFault}
 use Rattle.gl_ledger_file.specs.Given.{OfBytes}
+use Rattle.gl_recovery.specs.Recovering.{is_source_read, recover_owed}
+use Rattle.gl_recovery.specs.declared.recovering_fault.RecoveringFault.{RecoveringFault}
+use Rattle.gl_recovery.specs.declared.recovering_fault.RecoveringFault.TheVariants as recoverings
 use Rattle.gl_audit.specs.Verdict as audits_to
 use Rattle.gl_audit.specs.declared.verdict.Verdict.{Verdict}
 use Rattle.gl_audit.specs.declared.verdict.Verdict.TheVariants as audits
@@ -61,6 +67,17 @@ exit_status endings.Memory = 7
 exit_status endings.PastLimit = 8
 exit_status endings.NoReading = 9
 
+-- How a run ends that tells why no service is founded anew.
+abbrev pub ending_of_recovering : RecoveringFault → Ending
+ending_of_recovering recoverings.SourceFailed = endings.NotValid
+ending_of_recovering recoverings.TooMuchJson = endings.PastLimit
+ending_of_recovering (recoverings.Short at) = endings.NoReading
+ending_of_recovering (recoverings.Form fault) = endings.NoReading
+ending_of_recovering (recoverings.NotFirstNode want got) = endings.NotValid
+ending_of_recovering (recoverings.KeyExhausted reserved) = endings.NotValid
+ending_of_recovering (recoverings.Recovery fault) = endings.NotValid
+ending_of_recovering recoverings.DiskFailed = endings.NotValid
+
 -- How a run ends that tells a fault.
 abbrev pub ending_of_fault : Fault → Ending
 ending_of_fault (faults.Words kind) = endings.OtherWords
@@ -79,6 +96,7 @@ ending_of_fault (faults.Journal fault) = endings.NotValid
 ending_of_fault (faults.KeyKind want got) = endings.NotValid
 ending_of_fault faults.BadDealing = endings.NotValid
 ending_of_fault (faults.Signing fault) = endings.NotValid
+ending_of_fault (faults.Recovering fault) = ending_of_recovering fault
 
 -- How a run ends that has no plan of what to do.
 abbrev pub ending_of_stop : PlanStop → Ending
@@ -88,7 +106,8 @@ ending_of_stop stops.DiskFailed = endings.DiskFailed
 
 -- Whether a source is read whole before this fault is told of it. Where it has more bytes than are
 -- wanted it isn't, nor is a ledger in which an entry breaks a rule: the audit stops there. Where a
--- disk isn't empty, or has no key file of the kind that is wanted, it isn't read at all.
+-- disk isn't empty, or has no key file of the kind that is wanted, it isn't read at all. Where a
+-- service is to be founded anew, settings that are refused are read no further than their end.
 abbrev pub is_read_whole : Fault → Bool
 is_read_whole (faults.Words kind) = false
 is_read_whole faults.TooManyBytes = false
@@ -106,6 +125,7 @@ is_read_whole (faults.Journal fault) = false
 is_read_whole (faults.KeyKind want got) = false
 is_read_whole faults.BadDealing = true
 is_read_whole (faults.Signing fault) = true
+is_read_whole (faults.Recovering fault) = is_source_read fault
 
 -- What is owed
 
@@ -270,11 +290,29 @@ is_kind want got = key_kind_tag want == key_kind_tag got
 abbrev pub on_kind : KeyKind → KeyKind → Due → Due
 on_kind want got due = if is_kind want got then due else due_of_fault (faults.KeyKind want got)
 
--- What is owed to bytes that are to be signed, by what the disk opens to.
+-- What is owed with the key of a file, which has to be of a kind, by what the disk opens to.
+abbrev pub due_with_key :
+    KeyKind → (Durable → List ℕ → Due) → Result Durable JournalFault → List ℕ → Due
+due_with_key kind owes (Err fault) given = due_of_fault (faults.Journal fault)
+due_with_key kind owes (Ok state) given = on_kind kind state.key.kind (owes state given)
+
+-- What is owed to bytes that are to be signed.
 abbrev pub due_of_signing : Signing → Result Durable JournalFault → List ℕ → Due
-due_of_signing signing (Err fault) given = due_of_fault (faults.Journal fault)
-due_of_signing signing (Ok state) given =
-    on_kind (kind_of signing) state.key.kind (due_of_text signing state given)
+due_of_signing signing opens given =
+    due_with_key (kind_of signing) (due_of_text signing) opens given
+
+-- What is owed to a ledger that is told, or to why no service is founded anew.
+abbrev pub due_of_recovered : Result (List ℕ) RecoveringFault → Due
+due_of_recovered (Ok told) = due_of_answer told
+due_of_recovered (Err fault) = due_of_fault (faults.Recovering fault)
+
+-- What is owed to the settings and the old ledger of a service, by the state of a node's file.
+abbrev pub due_of_old : Durable → List ℕ → Due
+due_of_old state given = due_of_recovered (recover_owed state given)
+
+-- What is owed to bytes by which a service is to be founded anew.
+abbrev pub due_of_recovering : Result Durable JournalFault → List ℕ → Due
+due_of_recovering opens given = due_with_key Node due_of_old opens given
 
 -- What a task owes to what the disk shows and to the bytes of its source. A key is begun on an
 -- empty disk alone, and one that is there signs; that is tried before the source. The other tasks
@@ -286,6 +324,7 @@ due_of (tasks.Audit identity) shown given = due_of_audit (audits_to.verdict iden
 due_of (tasks.Keygen kind types) shown given = on_empty shown.len (due_of_seed kind types given)
 due_of (tasks.Deal threshold members) shown given = due_of_dealing threshold members given
 due_of (tasks.Sign signing) shown given = due_of_signing signing shown.opens given
+due_of tasks.Recover shown given = due_of_recovering shown.opens given
 
 -- Whether a task uses the disk.
 abbrev pub uses_disk : Task → Bool
@@ -295,6 +334,17 @@ uses_disk (tasks.Audit identity) = false
 uses_disk (tasks.Keygen kind types) = true
 uses_disk (tasks.Deal threshold members) = false
 uses_disk (tasks.Sign signing) = true
+uses_disk tasks.Recover = true
+
+-- For which use a task takes the next leaf of the key of the disk's file, if it takes one.
+abbrev pub leaf_use : Task → Option LeafUse
+leaf_use tasks.Replay = None
+leaf_use (tasks.Verify identity) = None
+leaf_use (tasks.Audit identity) = None
+leaf_use (tasks.Keygen kind types) = None
+leaf_use (tasks.Deal threshold members) = None
+leaf_use (tasks.Sign signing) = Some (use_of signing)
+leaf_use tasks.Recover = Some Start
 
 -- What holds of what a disk shows: of an honest disk of what its bytes show, of another one of
 -- something that a disk may show.

@@ -8,10 +8,9 @@ use Rattle.gl_journal.specs.declared.fault.JournalFault.TheVariants as journals
 use Rattle.gl_journal.specs.declared.key.KeyKind.{KeyKind}
 use Rattle.gl_keyfile.specs.KeyFile.{OpensOnlyTo, any_frame, opened}
 use Rattle.gl_keyfile.specs.Leaf.{after_leaf}
-use Rattle.gl_keyfile.specs.Signing.{use_of}
+use Rattle.gl_keyfile.specs.declared.leaf.LeafUse.{LeafUse}
 use Rattle.gl_keyfile.specs.declared.fault.KeyFileFault.{KeyFileFault}
 use Rattle.gl_keyfile.specs.declared.fault.KeyFileFault.TheVariants as files
-use Rattle.gl_keyfile.specs.declared.signing.Signing.{Signing}
 use Rattle.gl_lms.specs.declared.types.Types.{Types}
 use Rattle.gl_outside.specs.Disk.{IsImage, Leaves, Step}
 use Rattle.gl_receipt.specs.Form.{receipt_from}
@@ -49,6 +48,7 @@ ShowsAccepted (tasks.Audit identity) given plan = Unit {0}
 ShowsAccepted (tasks.Keygen kind types) given plan = Unit {0}
 ShowsAccepted (tasks.Deal threshold members) given plan = Unit {0}
 ShowsAccepted (tasks.Sign signing) given plan = Unit {0}
+ShowsAccepted tasks.Recover given plan = Unit {0}
 ShowsAccepted (tasks.Verify identity) given (Play schedule) = ⊥
 ShowsAccepted (tasks.Verify identity) given (ShowLedger last signed) = ⊥
 ShowsAccepted (tasks.Verify identity) given (Tell text) = ⊥
@@ -81,32 +81,31 @@ TellsUnopened error plan =
 
 -- The disk held a key file, and each image that a stop may leave of it now opens to the state in
 -- which its next leaf is spent, and to nothing else.
-abbrev pub SpendsLeaf : Signing → List ℕ → List Step → Type 0
-SpendsLeaf signing held past =
+abbrev pub SpendsLeaf : LeafUse → List ℕ → List Step → Type 0
+SpendsLeaf leaf held past =
     (state : Durable) × (opened held ≡ Ok state)
-    × OpensOnlyTo past (after_leaf (use_of signing) state)
+    × OpensOnlyTo past (after_leaf leaf state)
 
 -- Where something is signed, its leaf is spent before it is told, and nothing else is told but a
 -- fault.
-abbrev pub TellsSpent : Signing → List ℕ → List Step → Plan → Type 0
-TellsSpent signing held past (Play schedule) = ⊥
-TellsSpent signing held past (Show id) = ⊥
-TellsSpent signing held past (ShowLedger last signed) = ⊥
-TellsSpent signing held past (Tell text) = SpendsLeaf signing held past
-TellsSpent signing held past (Refuse fault) = Unit {0}
+abbrev pub TellsSpent : LeafUse → List ℕ → List Step → Plan → Type 0
+TellsSpent leaf held past (Play schedule) = ⊥
+TellsSpent leaf held past (Show id) = ⊥
+TellsSpent leaf held past (ShowLedger last signed) = ⊥
+TellsSpent leaf held past (Tell text) = SpendsLeaf leaf held past
+TellsSpent leaf held past (Refuse fault) = Unit {0}
 
 -- An image that a stop might have left before, or one that has its closed gate and opens to the
--- state before a leaf is spent for this, or to that after it.
-abbrev pub MayBeLeft : Signing → Durable → List Step → List ℕ → Type 0
-MayBeLeft signing state before image =
-    IsImage before image
-    ⊎ OpensToOneOf any_frame state (after_leaf (use_of signing) state) image
+-- state before a leaf is spent for this use, or to that after it.
+abbrev pub MayBeLeft : LeafUse → Durable → List Step → List ℕ → Type 0
+MayBeLeft leaf state before image =
+    IsImage before image ⊎ OpensToOneOf any_frame state (after_leaf leaf state) image
 
 -- Where the bytes open to a state, each image that a stop may leave at a moment is such a one.
-abbrev pub MovesByLeaf : Signing → List ℕ → List Step → List Step → Type 0
-MovesByLeaf signing held before after =
+abbrev pub MovesByLeaf : LeafUse → List ℕ → List Step → List Step → Type 0
+MovesByLeaf leaf held before after =
     (state : Durable) → opened held ≡ Ok state
-    → Leaves (MayBeLeft signing state before) before after
+    → Leaves (MayBeLeft leaf state before) before after
 
 -- What the bytes of a key file opened to, these open to.
 abbrev pub OpensAsBefore : List ℕ → List ℕ → Type 0

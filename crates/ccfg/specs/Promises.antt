@@ -11,6 +11,8 @@ use Rattle.gl_consortium.specs.declared.fault.SigningFault.TheVariants as signin
 use Rattle.gl_dealing.specs.Members.{can_deal}
 use Rattle.gl_journal.specs.Durable.{Durable}
 use Rattle.gl_journal.specs.declared.fault.JournalFault.{JournalFault}
+use Rattle.gl_journal.specs.declared.key.KeyKind.{KeyKind}
+use Rattle.gl_journal.specs.declared.key.KeyKind.TheVariants.{Node}
 use Rattle.gl_keyfile.specs.Signing.{kind_of}
 use Rattle.gl_keyfile.specs.declared.signing.Signing.{Signing}
 use Rattle.gl_lines.specs.declared.fault.ScheduleFault.TheVariants.{BadLine}
@@ -21,15 +23,19 @@ use Rattle.gl_receipt.specs.Receipt.{Accepts}
 use Rattle.gl_receipt.specs.Verdict.{verdict}
 use Rattle.gl_receipt.specs.declared.components.Receipt.{Receipt}
 use Rattle.gl_receipt.specs.declared.fault.ReceiptFault.{ReceiptFault}
+use Rattle.gl_recovery.specs.Recovering.{recover_owed}
+use Rattle.gl_recovery.specs.declared.recovering_fault.RecoveringFault.{RecoveringFault}
 use Rattle.gl_audit.specs.Verdict as audits_to
 use Rattle.gl_audit.specs.declared.verdict.Verdict.TheVariants as audits
+use Rattle.ccfg.specs.declared.ending.Ending.{Ending}
+use Rattle.ccfg.specs.declared.ending.Ending.TheVariants as endings
 use Rattle.ccfg.specs.declared.fault.Fault.{Fault}
 use Rattle.ccfg.specs.declared.fault.Fault.TheVariants as faults
 use Rattle.gl_schedule.specs.declared.schedule.Schedule.{Schedule}
 use Rattle.gl_commands.specs.declared.task.Task.{Task}
 use Rattle.gl_commands.specs.declared.task.Task.TheVariants as tasks
 use Rattle.ccfg.specs.Faults.{fault_line}
-use Rattle.ccfg.specs.Owed.{Shown, bytes_limit, dealing_len, json_limit, key_line, ledger_line, lines_limit, seed_len, text_of_dealing, valid_line}
+use Rattle.ccfg.specs.Owed.{Shown, bytes_limit, dealing_len, ending_of_recovering, json_limit, key_line, ledger_line, lines_limit, seed_len, text_of_dealing, valid_line}
 use Rattle.gl_schedule.specs.Schedules.{reads}
 use Rattle.gl_schedule.specs.Told.{text_of_schedule}
 
@@ -117,32 +123,32 @@ TellsBadDealing threshold members given text =
 
 -- Signing
 
--- The disk has a key file, which opens to this state, and its key is of the kind that signs this.
-abbrev pub HasKeyFor : Signing → Shown → Durable → Type 0
-HasKeyFor signing shown state = (shown.opens ≡ Ok state) × (state.key.kind ≡ kind_of signing)
+-- The disk has a key file, which opens to this state, and its key is of this kind.
+abbrev pub HasKey : KeyKind → Shown → Durable → Type 0
+HasKey kind shown state = (shown.opens ≡ Ok state) × (state.key.kind ≡ kind)
 
 -- The text tells where the disk's bytes differ from a key file.
 abbrev pub TellsNoKeyFile : Shown → List ℕ → Type 0
 TellsNoKeyFile shown text =
     (fault : JournalFault) × (shown.opens ≡ Err fault) × (text ≡ fault_line (faults.Journal fault))
 
--- The text tells the kind of the file's key, which is another one than that which signs this.
-abbrev pub TellsOtherKey : Signing → Shown → List ℕ → Type 0
-TellsOtherKey signing shown text =
-    (state : Durable) × (shown.opens ≡ Ok state) × (state.key.kind ≢ kind_of signing)
-    × (text ≡ fault_line (faults.KeyKind (kind_of signing) state.key.kind))
+-- The text tells the kind of the file's key, which is another one than that which is wanted.
+abbrev pub TellsOtherKey : KeyKind → Shown → List ℕ → Type 0
+TellsOtherKey kind shown text =
+    (state : Durable) × (shown.opens ≡ Ok state) × (state.key.kind ≢ kind)
+    × (text ≡ fault_line (faults.KeyKind kind state.key.kind))
 
 -- The bytes are within the limit, and the key of the file signs them: the text is what is told
 -- then.
 abbrev pub IsSigned : Signing → Shown → List ℕ → List ℕ → Type 0
 IsSigned signing shown given text =
-    (state : Durable) × HasKeyFor signing shown state × (length given ≤ json_limit)
+    (state : Durable) × HasKey (kind_of signing) shown state × (length given ≤ json_limit)
     × (owed signing state given ≡ Ok text)
 
 -- The bytes are within the limit and aren't signed, for this reason.
 abbrev pub IsUnsigned : Signing → Shown → List ℕ → SigningFault → Type 0
 IsUnsigned signing shown given fault =
-    (state : Durable) × HasKeyFor signing shown state × (length given ≤ json_limit)
+    (state : Durable) × HasKey (kind_of signing) shown state × (length given ≤ json_limit)
     × (owed signing state given ≡ Err fault)
 
 -- The text tells why nothing is signed, though the bytes have their form.
@@ -158,6 +164,21 @@ TellsOtherForm signing shown given text =
     (fault : FormsFault) × IsUnsigned signing shown given (signings.Form fault)
     × (text ≡ fault_line (faults.Form fault))
 
+-- Recoveries
+
+-- The key of a node's file founds the service anew by the settings and behind the old ledger that
+-- the bytes are, and the text is the ledger that opens it.
+abbrev pub IsRefounded : Shown → List ℕ → List ℕ → Type 0
+IsRefounded shown given text =
+    (state : Durable) × HasKey Node shown state × (recover_owed state given ≡ Ok text)
+
+-- The text tells why no service is founded anew, and a run that tells it ends so.
+abbrev pub TellsUnfounded : Ending → Shown → List ℕ → List ℕ → Type 0
+TellsUnfounded ending shown given text =
+    (fault : RecoveringFault) × (ending_of_recovering fault ≡ ending)
+    × ((state : Durable) × HasKey Node shown state × (recover_owed state given ≡ Err fault))
+    × (text ≡ fault_line (faults.Recovering fault))
+
 -- Texts. Each says of what the disk showed, and of the bytes of the source, what they have to be
 -- for the text.
 
@@ -166,7 +187,7 @@ TellsOtherForm signing shown given text =
 -- the service with the key, and the text tells its last transaction and that of its last signature;
 -- or the disk held nothing and they are a seed, and the text tells the public form of its key; or
 -- they are a secret with the seed of its dealing, and the text tells that; or the key of the disk's
--- file signs them, and the text is what is told then.
+-- file signs them, or founds a service anew by them, and the text is what is told then.
 abbrev pub IsAnswer : Task → Shown → List ℕ → List ℕ → Type 0
 IsAnswer tasks.Replay shown given text =
     (schedule : Schedule) × ReadsAs given schedule × (text ≡ text_of_schedule schedule)
@@ -180,11 +201,13 @@ IsAnswer (tasks.Keygen kind types) shown given text =
 IsAnswer (tasks.Deal threshold members) shown given text =
     TellsDealing threshold members given text
 IsAnswer (tasks.Sign signing) shown given text = IsSigned signing shown given text
+IsAnswer tasks.Recover shown given text = IsRefounded shown given text
 
 -- At 1: the bytes are a receipt that is not valid under the key, or they are no valid ledger of the
 -- service with the key, and the text tells why; or the disk that is to take a key held bytes, and
 -- the text tells how many; or a secret can't be dealt so among the members; or the disk has no key
--- file of the kind that signs, or its key doesn't sign the bytes, and the text tells why.
+-- file of the kind that signs, or its key doesn't sign the bytes or founds no service anew by them,
+-- and the text tells why.
 abbrev pub IsRefusal : Task → Shown → List ℕ → List ℕ → Type 0
 IsRefusal tasks.Replay shown given text = ⊥
 IsRefusal (tasks.Verify identity) shown given text =
@@ -198,8 +221,11 @@ IsRefusal (tasks.Keygen kind types) shown given text =
 IsRefusal (tasks.Deal threshold members) shown given text =
     TellsBadDealing threshold members given text
 IsRefusal (tasks.Sign signing) shown given text =
-    TellsNoKeyFile shown text ⊎ TellsOtherKey signing shown text
+    TellsNoKeyFile shown text ⊎ TellsOtherKey (kind_of signing) shown text
     ⊎ TellsUnsigned signing shown given text
+IsRefusal tasks.Recover shown given text =
+    TellsNoKeyFile shown text ⊎ TellsOtherKey Node shown text
+    ⊎ TellsUnfounded endings.NotValid shown given text
 
 -- At 8: the bytes pass a limit, and the text names it.
 abbrev pub IsPastLimit : Task → Shown → List ℕ → List ℕ → Type 0
@@ -212,12 +238,14 @@ IsPastLimit (tasks.Audit identity) shown given text = ⊥
 IsPastLimit (tasks.Keygen kind types) shown given text = ⊥
 IsPastLimit (tasks.Deal threshold members) shown given text = ⊥
 IsPastLimit (tasks.Sign signing) shown given text =
-    (state : Durable) × HasKeyFor signing shown state × HasTooMuchJson given
+    (state : Durable) × HasKey (kind_of signing) shown state × HasTooMuchJson given
     × (text ≡ fault_line faults.TooMuchJson)
+IsPastLimit tasks.Recover shown given text = TellsUnfounded endings.PastLimit shown given text
 
 -- At 9: the bytes are within the limits and have no reading, and the text tells their first bad
 -- line, or what differs first from a receipt or from the form of what is to be signed; or they are
--- no seed, or no secret with the seed of its dealing, and the text tells where they differ from one.
+-- no seed, or no secret with the seed of its dealing, or have no settings of a service in front, and
+-- the text tells where they differ.
 abbrev pub IsNoReading : Task → Shown → List ℕ → List ℕ → Type 0
 IsNoReading tasks.Replay shown given text =
     (number : ℕ) × HasBadLine given number × (text ≡ fault_line (faults.BadLine number))
@@ -229,6 +257,7 @@ IsNoReading (tasks.Keygen kind types) shown given text =
 IsNoReading (tasks.Deal threshold members) shown given text =
     TellsShort dealing_len given text ⊎ TellsLong dealing_len given text
 IsNoReading (tasks.Sign signing) shown given text = TellsOtherForm signing shown given text
+IsNoReading tasks.Recover shown given text = TellsUnfounded endings.NoReading shown given text
 
 -- At 2: the line of one of these kinds of fault.
 abbrev pub IsKindLine : Kinds → List ℕ → Type 0

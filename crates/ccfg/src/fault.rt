@@ -1,20 +1,21 @@
 //! Why words or bytes are refused, and the one line that tells it.
 
 ghost use Rattle.std.specs.Prelude.{◌≡◌, ◌++◌, IfOk, OnOk, codes, decimal};
-ghost use Rattle.hex.specs.Hex.{encode_lower};
-ghost use Rattle.gl_journal.specs.Records.{key_kind_tag};
-ghost use Rattle.ccfg.specs.Faults.{fault_line, fault_text, form_text, hss_text, journal_text, kind_name, path_text, receipt_text, signing_text};
-ghost use Rattle.ccfg.specs.Owed.{ending_of_fault};
+ghost use Rattle.ccfg.specs.Faults.{fault_line, fault_text, recovering_text, recovery_text, signing_text};
+ghost use Rattle.ccfg.specs.Owed.{ending_of_fault, ending_of_recovering};
 
 use crate::ending::Ending;
 use clap::error::ErrorKind;
-use gl_base::{FormsFault, Pointer};
+use gl_base::FormsFault;
 use gl_consortium::SigningFault;
-use gl_hss::HssFault;
+use gl_fault_lines::{
+    kind_name, put_bad_action, put_form, put_hex, put_journal, put_key_kinds, put_named, put_nodes,
+    put_number, put_numbers, put_receipt,
+};
 use gl_journal::{JournalFault, KeyKind};
 use gl_receipt::ReceiptFault;
+use gl_recovery::{RecoveringFault, RecoveryFault};
 use gl_requests::HssPublicKey;
-use itoa::Buffer;
 use std::alloc::{AllocError, Global};
 
 /// Why nothing happens, or that a verdict is no.
@@ -52,188 +53,8 @@ pub enum Fault {
     BadDealing,
     /// What is to be signed has its form, and isn't signed.
     Signing(SigningFault),
-}
-
-/// The kind's name, as Rust has it.
-fn kind_name(kind: ErrorKind) -> &'static str
-    ensures { result.now ≡ kind_name kind }
-{
-    match kind {
-        ErrorKind::InvalidValue => "InvalidValue",
-        ErrorKind::UnknownArgument => "UnknownArgument",
-        ErrorKind::InvalidSubcommand => "InvalidSubcommand",
-        ErrorKind::NoEquals => "NoEquals",
-        ErrorKind::ValueValidation => "ValueValidation",
-        ErrorKind::TooManyValues => "TooManyValues",
-        ErrorKind::TooFewValues => "TooFewValues",
-        ErrorKind::WrongNumberOfValues => "WrongNumberOfValues",
-        ErrorKind::ArgumentConflict => "ArgumentConflict",
-        ErrorKind::MissingRequiredArgument => "MissingRequiredArgument",
-        ErrorKind::MissingSubcommand => "MissingSubcommand",
-        ErrorKind::DisplayHelp => "DisplayHelp",
-        ErrorKind::DisplayHelpOnMissingArgumentOrSubcommand => {
-            "DisplayHelpOnMissingArgumentOrSubcommand"
-        }
-        ErrorKind::DisplayVersion => "DisplayVersion",
-        ErrorKind::Io => "Io",
-        ErrorKind::Format => "Format",
-        ErrorKind::OutOfMemory => "OutOfMemory",
-    }
-}
-
-fn put_number(out: &mut Vec<u8>, n: u64) -> Result<(), AllocError>
-    ensures { OnOk result (out.new.items ≡ out.old.items ++ decimal n) }
-{
-    out.extend_from_slice(Buffer::new().format(n).as_bytes())
-}
-
-/// Two numbers, a space between them.
-fn put_numbers(out: &mut Vec<u8>, first: u64, second: u64) -> Result<(), AllocError>
-    ensures { OnOk result (out.new.items
-        ≡ out.old.items ++ (decimal first ++ codes " " ++ decimal second)) }
-{
-    put_number(out, first)?;
-    out.extend_from_slice(b" ")?;
-    put_number(out, second)
-}
-
-/// Bytes in lower-case hexadecimal.
-fn put_hex(alloc: Global, out: &mut Vec<u8>, bytes: &[u8]) -> Result<(), AllocError>
-    ensures { OnOk result (out.new.items ≡ out.old.items ++ encode_lower bytes.now) }
-{
-    out.extend_from_slice(hex::encode(alloc, bytes)?.as_bytes())
-}
-
-fn put_path(out: &mut Vec<u8>, path: &Pointer) -> Result<(), AllocError>
-    ensures { OnOk result (out.new.items ≡ out.old.items ++ path_text path.now) }
-{
-    match path.as_slice() {
-        [] => out.extend_from_slice(b"."),
-        path => out.extend_from_slice(path),
-    }
-}
-
-fn put_form(out: &mut Vec<u8>, fault: &FormsFault) -> Result<(), AllocError>
-    ensures { OnOk result (out.new.items ≡ out.old.items ++ form_text fault.now) }
-{
-    match fault {
-        FormsFault::NotJson => out.extend_from_slice(b"NotJson"),
-        FormsFault::Shape { path } => {
-            out.extend_from_slice(b"Shape ")?;
-            put_path(out, path)
-        }
-        FormsFault::Hex { path } => {
-            out.extend_from_slice(b"Hex ")?;
-            put_path(out, path)
-        }
-    }
-}
-
-/// Two digests, a space between them.
-fn put_digests(
-    alloc: Global,
-    out: &mut Vec<u8>,
-    want: &[u8; 32],
-    got: &[u8; 32],
-) -> Result<(), AllocError>
-    ensures { OnOk result (out.new.items
-        ≡ out.old.items ++ (encode_lower want.now ++ codes " " ++ encode_lower got.now)) }
-{
-    put_hex(alloc, out, want)?;
-    out.extend_from_slice(b" ")?;
-    put_hex(alloc, out, got)
-}
-
-fn put_hss(alloc: Global, out: &mut Vec<u8>, fault: HssFault) -> Result<(), AllocError>
-    ensures { OnOk result (out.new.items ≡ out.old.items ++ hss_text fault) }
-{
-    match fault {
-        HssFault::Types { at } => {
-            out.extend_from_slice(b"Types ")?;
-            put_number(out, at)
-        }
-        HssFault::Length { want, got } => {
-            out.extend_from_slice(b"Length ")?;
-            put_numbers(out, want, got)
-        }
-        HssFault::Levels { want, got } => {
-            out.extend_from_slice(b"Levels ")?;
-            put_numbers(out, u64::from(want), u64::from(got))
-        }
-        HssFault::Root { want, got } => {
-            out.extend_from_slice(b"Root ")?;
-            put_digests(alloc, out, &want, &got)
-        }
-        HssFault::Leaf { q } => {
-            out.extend_from_slice(b"Leaf ")?;
-            put_number(out, u64::from(q))
-        }
-    }
-}
-
-fn put_receipt(alloc: Global, out: &mut Vec<u8>, fault: ReceiptFault) -> Result<(), AllocError>
-    ensures { OnOk result (out.new.items ≡ out.old.items ++ receipt_text fault) }
-{
-    match fault {
-        ReceiptFault::Evidence => out.extend_from_slice(b"Evidence"),
-        ReceiptFault::Hss(fault) => {
-            out.extend_from_slice(b"Hss ")?;
-            put_hss(alloc, out, fault)
-        }
-    }
-}
-
-/// A name with a space behind it, and a number.
-fn put_named(out: &mut Vec<u8>, name: &str, n: u64) -> Result<(), AllocError>
-    ensures { OnOk result (out.new.items ≡ out.old.items ++ (name.now ++ decimal n)) }
-{
-    out.extend_from_slice(name.as_bytes())?;
-    put_number(out, n)
-}
-
-fn put_journal(out: &mut Vec<u8>, fault: JournalFault) -> Result<(), AllocError>
-    ensures { OnOk result (out.new.items ≡ out.old.items ++ journal_text fault) }
-{
-    match fault {
-        JournalFault::NotJournal { at } => put_named(out, "NotJournal ", at),
-        JournalFault::BadRecord { at } => put_named(out, "BadRecord ", at),
-        JournalFault::DiskFault => out.extend_from_slice(b"DiskFault"),
-        JournalFault::NotEmpty { len } => put_named(out, "NotEmpty ", len),
-    }
-}
-
-/// The number by which a kind of key is told, which is that in its file.
-fn key_kind_tag(kind: KeyKind) -> u64
-    ensures { result ≡ key_kind_tag kind }
-{
-    match kind {
-        KeyKind::Service => 1,
-        KeyKind::Node => 2,
-        KeyKind::Member => 3,
-    }
-}
-
-/// Two kinds of key by their numbers.
-fn put_key_kinds(out: &mut Vec<u8>, want: KeyKind, got: KeyKind) -> Result<(), AllocError>
-    ensures { OnOk result (out.new.items ≡ out.old.items ++ (codes "KeyKind "
-        ++ decimal (key_kind_tag want) ++ codes " " ++ decimal (key_kind_tag got))) }
-{
-    out.extend_from_slice(b"KeyKind ")?;
-    put_numbers(out, key_kind_tag(want), key_kind_tag(got))
-}
-
-/// The identifier of a first node that is wanted, and that of the key that was found.
-fn put_nodes(
-    alloc: Global,
-    out: &mut Vec<u8>,
-    want: &[u8; 32],
-    got: &[u8; 32],
-) -> Result<(), AllocError>
-    ensures { OnOk result (out.new.items ≡ out.old.items
-        ++ (codes "NotFirstNode " ++ encode_lower want.now ++ codes " " ++ encode_lower got.now)) }
-{
-    out.extend_from_slice(b"NotFirstNode ")?;
-    put_digests(alloc, out, want, got)
+    /// No service is founded anew.
+    Recovering(RecoveringFault),
 }
 
 fn put_signing(alloc: Global, out: &mut Vec<u8>, fault: &SigningFault) -> Result<(), AllocError>
@@ -245,12 +66,65 @@ fn put_signing(alloc: Global, out: &mut Vec<u8>, fault: &SigningFault) -> Result
         SigningFault::KeyExhausted { reserved } => {
             put_named(out, "KeyExhausted ", u64::from(*reserved))
         }
-        SigningFault::BadAction { index, cause } => {
-            out.extend_from_slice(b"BadAction ")?;
-            put_numbers(out, *index, u64::from(cause.number()))
-        }
+        SigningFault::BadAction { index, cause } => put_bad_action(out, *index, cause.number()),
         SigningFault::Signature => out.extend_from_slice(b"Signature"),
         SigningFault::DiskFailed => out.extend_from_slice(b"DiskFailed"),
+    }
+}
+
+/// Why no service is founded anew behind an old ledger.
+fn put_recovery(out: &mut Vec<u8>, fault: RecoveryFault) -> Result<(), AllocError>
+    ensures { OnOk result (out.new.items ≡ out.old.items ++ recovery_text fault) }
+{
+    match fault {
+        RecoveryFault::Audit { seqno, rule } => {
+            out.extend_from_slice(b"Audit ")?;
+            put_numbers(out, seqno, u64::from(rule))
+        }
+        RecoveryFault::NothingSigned => out.extend_from_slice(b"NothingSigned"),
+        RecoveryFault::ViewLimit => out.extend_from_slice(b"ViewLimit"),
+        RecoveryFault::SeqnoLimit => out.extend_from_slice(b"SeqnoLimit"),
+        RecoveryFault::BadAction { index, cause } => put_bad_action(out, index, cause.number()),
+        RecoveryFault::Signature => out.extend_from_slice(b"Signature"),
+        RecoveryFault::TooLarge { size } => put_named(out, "TooLarge ", size),
+        RecoveryFault::SourceFailed => out.extend_from_slice(b"SourceFailed"),
+    }
+}
+
+/// Why no service is founded anew.
+fn put_recovering(
+    alloc: Global,
+    out: &mut Vec<u8>,
+    fault: &RecoveringFault,
+) -> Result<(), AllocError>
+    ensures { OnOk result (out.new.items ≡ out.old.items ++ recovering_text fault.now) }
+{
+    match fault {
+        RecoveringFault::SourceFailed => out.extend_from_slice(b"SourceFailed"),
+        RecoveringFault::TooMuchJson => out.extend_from_slice(b"json 1048576"),
+        RecoveringFault::Short { at } => put_named(out, "Short ", *at),
+        RecoveringFault::Form(fault) => put_form(out, fault),
+        RecoveringFault::NotFirstNode { want, got } => put_nodes(alloc, out, want, got),
+        RecoveringFault::KeyExhausted { reserved } => {
+            put_named(out, "KeyExhausted ", u64::from(*reserved))
+        }
+        RecoveringFault::Recovery(fault) => put_recovery(out, *fault),
+        RecoveringFault::DiskFailed => out.extend_from_slice(b"DiskFailed"),
+    }
+}
+
+/// How a run ends that tells why no service is founded anew.
+fn recovering_ending(fault: &RecoveringFault) -> Ending
+    ensures { result ≡ ending_of_recovering fault.now }
+{
+    match fault {
+        RecoveringFault::TooMuchJson => Ending::PastLimit,
+        RecoveringFault::Short { .. } | RecoveringFault::Form(_) => Ending::NoReading,
+        RecoveringFault::SourceFailed
+        | RecoveringFault::NotFirstNode { .. }
+        | RecoveringFault::KeyExhausted { .. }
+        | RecoveringFault::Recovery(_)
+        | RecoveringFault::DiskFailed => Ending::NotValid,
     }
 }
 
@@ -293,6 +167,7 @@ impl Fault {
             Fault::KeyKind { want, got } => put_key_kinds(out, *want, *got),
             Fault::BadDealing => out.extend_from_slice(b"BadAction 0 10"),
             Fault::Signing(fault) => put_signing(alloc, out, fault),
+            Fault::Recovering(fault) => put_recovering(alloc, out, fault),
         }
     }
 
@@ -324,6 +199,7 @@ impl Fault {
             | Fault::KeyKind { .. }
             | Fault::BadDealing
             | Fault::Signing(_) => Ending::NotValid,
+            Fault::Recovering(fault) => recovering_ending(fault),
         }
     }
 }

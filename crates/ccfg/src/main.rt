@@ -10,6 +10,7 @@ mod load;
 mod output;
 mod plan;
 mod program;
+mod recovering;
 mod signing;
 #[cfg(test)]
 mod tests;

@@ -1,16 +1,16 @@
 //! What there is to do with the bytes of a source.
 
-ghost use Rattle.std.specs.Prelude.{◌≡◌, ◌≢◌, ℕ, ◌<◌, ◌≤◌, Err, IfErr, IfOk, IsTrue, false, length};
+ghost use Rattle.std.specs.Prelude.{◌≡◌, ◌≢◌, ℕ, ◌<◌, ◌≤◌, Err, IfErr, IfOk, IsTrue, Some, false, length};
 ghost use Rattle.gl_outside.specs.Fault.{Rose};
 ghost use Rattle.gl_ledger_file.specs.Given.{OfBytes};
 ghost use Rattle.gl_journal.specs.Durable.{journal_header};
 ghost use Rattle.gl_journal.specs.Parts.{HasGate};
 ghost use Rattle.gl_journal.specs.declared.key.KeyKind.{KeyKind};
-ghost use Rattle.gl_keyfile.specs.declared.signing.Signing.{Signing};
+ghost use Rattle.gl_keyfile.specs.declared.leaf.LeafUse.{LeafUse};
 ghost use Rattle.gl_lms.specs.declared.types.Types.{Types};
-ghost use Rattle.ccfg.specs.Owed.{EndsSource, OfShown, bytes_limit, due_of, due_of_schedule, ending_of_stop, uses_disk};
+ghost use Rattle.ccfg.specs.Owed.{EndsSource, OfShown, bytes_limit, due_of, due_of_schedule, ending_of_stop, leaf_use, uses_disk};
 ghost use Rattle.ccfg.specs.Plans.{IsUntouched, MovesByLeaf, OpensAsBefore, PlansPlayable, TellsFault, TellsSpent, ShowsAccepted, ShowsKept, due_of_plan};
-ghost use Rattle.gl_commands.specs.declared.task.Task.TheVariants.{Keygen, Sign};
+ghost use Rattle.gl_commands.specs.declared.task.Task.TheVariants.{Keygen};
 
 use crate::deal::read_dealing_plan;
 use crate::ending::Ending;
@@ -18,6 +18,7 @@ use crate::fault::Fault;
 use crate::keygen::keygen_plan;
 use crate::ledger_plan::read_ledger_plan;
 use crate::load::{LoadStop, load};
+use crate::recovering::recovering_plan;
 use crate::signing::signing_plan;
 use crate::verify::read_receipt_plan;
 use gl_base::{OrNoMemory, TxId};
@@ -146,17 +147,18 @@ pub fn read_plan<S: Source, D: Disk>(
         task.now ≡ Keygen kind types → result.0 ≡ Err PlanStop.SourceFailed →
         IsUntouched D.bytes D.past disk result.1 }
 
-    // Something that is to be signed.
-    ensures spent { IsTrue D.honest → (signing : Signing) → task.now ≡ Sign signing →
-        IfOk result.0 (λ plan. TellsSpent signing (D.bytes disk) (D.past result.1) plan) }
-    ensures unspent { IsTrue D.honest → (signing : Signing) → task.now ≡ Sign signing →
+    // Something that is to be signed with a leaf of the file's key.
+    ensures spent { IsTrue D.honest → (leaf : LeafUse) → leaf_use task.now ≡ Some leaf →
+        IfOk result.0 (λ plan. TellsSpent leaf (D.bytes disk) (D.past result.1) plan) }
+    ensures unspent { IsTrue D.honest → (leaf : LeafUse) → leaf_use task.now ≡ Some leaf →
         IfOk result.0 (λ plan. TellsFault plan →
         OpensAsBefore (D.bytes disk) (D.bytes result.1)) }
-    ensures unspent_stopped { IsTrue D.honest → (signing : Signing) → task.now ≡ Sign signing →
-        result.0 ≡ Err PlanStop.SourceFailed → OpensAsBefore (D.bytes disk) (D.bytes result.1) }
+    ensures unspent_stopped { IsTrue D.honest → (leaf : LeafUse) →
+        leaf_use task.now ≡ Some leaf → result.0 ≡ Err PlanStop.SourceFailed →
+        OpensAsBefore (D.bytes disk) (D.bytes result.1) }
     ensures any_moment { IsTrue D.honest → HasGate journal_header (D.bytes disk) →
-        (signing : Signing) → task.now ≡ Sign signing →
-        MovesByLeaf signing (D.bytes disk) (D.past disk) (D.past result.1) }
+        (leaf : LeafUse) → leaf_use task.now ≡ Some leaf →
+        MovesByLeaf leaf (D.bytes disk) (D.past disk) (D.past result.1) }
 {
     match task {
         Task::Replay => (read_schedule_plan(alloc, source), disk),
@@ -168,5 +170,6 @@ pub fn read_plan<S: Source, D: Disk>(
             disk,
         ),
         Task::Sign { signing } => signing_plan(alloc, signing, source, disk),
+        Task::Recover => recovering_plan(alloc, source, disk),
     }
 }

@@ -1,6 +1,6 @@
 //! The whole program, over the objects that are handed in.
 
-ghost use Rattle.std.specs.Prelude.{◌≡◌, ◌≢◌, ◌⊎◌, false, true, ℕ, ◌<◌, List, Err, IfSome, IsTrue, Ok, length, map};
+ghost use Rattle.std.specs.Prelude.{◌≡◌, ◌≢◌, ◌⊎◌, false, true, ℕ, ◌<◌, List, Err, IfSome, IsTrue, Ok, Some, length, map};
 ghost use Rattle.std.specs.String.{string_bytes};
 ghost use Rattle.std.specs.Io.KnownBytes.{Keeps};
 ghost use Rattle.clap.specs.Kinds.{Kinds};
@@ -9,15 +9,15 @@ ghost use Rattle.gl_outside.specs.Sink.{AppendsFront};
 ghost use Rattle.gl_journal.specs.Durable.{journal_header};
 ghost use Rattle.gl_journal.specs.Parts.{HasGate};
 ghost use Rattle.gl_journal.specs.declared.key.KeyKind.{KeyKind};
-ghost use Rattle.gl_keyfile.specs.declared.signing.Signing.{Signing};
+ghost use Rattle.gl_keyfile.specs.declared.leaf.LeafUse.{LeafUse};
 ghost use Rattle.gl_lms.specs.declared.types.Types.{Types};
 ghost use Rattle.ccfg.specs.declared.ending.Ending.{Ending as Endings};
 ghost use Rattle.ccfg.specs.declared.ending.Ending.TheVariants.{DiskFailed, Done, Memory, NoReading, NotValid, PastLimit, SinkFailed, SourceFailed};
-ghost use Rattle.gl_commands.specs.declared.task.Task.TheVariants.{Keygen, Sign, Verify};
+ghost use Rattle.gl_commands.specs.declared.task.Task.TheVariants.{Keygen, Verify};
 ghost use Rattle.gl_commands.specs.declared.task.Task.{Task as Tasks};
 ghost use Rattle.gl_schedule.specs.Moments.{KeepsHeadline, TellsMoments};
 ghost use Rattle.gl_ledger_file.specs.Given.{OfBytes};
-ghost use Rattle.ccfg.specs.Owed.{Answers, EndsSource, OfShown, Runs, due_of, exit_status, uses_disk};
+ghost use Rattle.ccfg.specs.Owed.{Answers, EndsSource, OfShown, Runs, due_of, exit_status, leaf_use, uses_disk};
 ghost use Rattle.ccfg.specs.Plans.{IsUntouched, KeepsKey, MovesByLeaf, OpensAsBefore, SpendsLeaf};
 ghost use Rattle.ccfg.specs.Promises.{IsAnswer, IsFaultLine, IsKindLine, IsPastLimit, IsRefusal, IsNoReading, Tells, TellsAccepted, TellsFront};
 ghost use Rattle.gl_schedule.specs.Schedules.{reads};
@@ -55,18 +55,18 @@ fn execute<S: Source, K: Sink, D: Disk>(
         → (result.0 ≡ NotValid) ⊎ (result.0 ≡ SourceFailed) ⊎ (result.0 ≡ NoReading)
         → (kind : KeyKind) (types : Types) → task.now ≡ Keygen kind types
         → IsUntouched D.bytes D.past disk result.1 }
-    ensures signed { result.0 ≡ Done → IsTrue D.honest → (signing : Signing)
-        → task.now ≡ Sign signing → SpendsLeaf signing (D.bytes disk) (D.past result.1) }
+    ensures signed { result.0 ≡ Done → IsTrue D.honest → (leaf : LeafUse)
+        → leaf_use task.now ≡ Some leaf → SpendsLeaf leaf (D.bytes disk) (D.past result.1) }
     ensures spent { IsTrue D.honest
-        → (result.0 ≡ Done) ⊎ (result.0 ≡ SinkFailed) ⊎ (result.0 ≡ Memory) → (signing : Signing)
-        → task.now ≡ Sign signing → SpendsLeaf signing (D.bytes disk) (D.past result.1)
+        → (result.0 ≡ Done) ⊎ (result.0 ≡ SinkFailed) ⊎ (result.0 ≡ Memory) → (leaf : LeafUse)
+        → leaf_use task.now ≡ Some leaf → SpendsLeaf leaf (D.bytes disk) (D.past result.1)
         ⊎ TellsFront IsFaultLine (K.holds sink.old) (K.holds sink.new) }
     ensures any_moment { IsTrue D.honest → HasGate journal_header (D.bytes disk)
-        → (signing : Signing) → task.now ≡ Sign signing
-        → MovesByLeaf signing (D.bytes disk) (D.past disk) (D.past result.1) }
+        → (leaf : LeafUse) → leaf_use task.now ≡ Some leaf
+        → MovesByLeaf leaf (D.bytes disk) (D.past disk) (D.past result.1) }
     ensures unspent { IsTrue D.honest → (result.0 ≡ NotValid) ⊎ (result.0 ≡ SourceFailed)
-        ⊎ (result.0 ≡ PastLimit) ⊎ (result.0 ≡ NoReading) → (signing : Signing)
-        → task.now ≡ Sign signing → OpensAsBefore (D.bytes disk) (D.bytes result.1) }
+        ⊎ (result.0 ≡ PastLimit) ⊎ (result.0 ≡ NoReading) → (leaf : LeafUse)
+        → leaf_use task.now ≡ Some leaf → OpensAsBefore (D.bytes disk) (D.bytes result.1) }
     ensures runs { Runs result.0 (record {
       disk = record {
         honest = D.honest;
@@ -122,20 +122,22 @@ fn run<S: Source, K: Sink, D: Disk>(
         → (kind : KeyKind) (types : Types)
         → asked (map string_bytes words.now) ≡ Ok (Keygen kind types)
         → IsUntouched D.bytes D.past disk result.1 }
-    ensures signed { result.0 ≡ Done → IsTrue D.honest → (signing : Signing)
-        → asked (map string_bytes words.now) ≡ Ok (Sign signing)
-        → SpendsLeaf signing (D.bytes disk) (D.past result.1) }
+    ensures signed { result.0 ≡ Done → IsTrue D.honest → (task : Tasks) (leaf : LeafUse)
+        → asked (map string_bytes words.now) ≡ Ok task → leaf_use task ≡ Some leaf
+        → SpendsLeaf leaf (D.bytes disk) (D.past result.1) }
     ensures spent { IsTrue D.honest
-        → (result.0 ≡ Done) ⊎ (result.0 ≡ SinkFailed) ⊎ (result.0 ≡ Memory) → (signing : Signing)
-        → asked (map string_bytes words.now) ≡ Ok (Sign signing)
-        → SpendsLeaf signing (D.bytes disk) (D.past result.1)
+        → (result.0 ≡ Done) ⊎ (result.0 ≡ SinkFailed) ⊎ (result.0 ≡ Memory)
+        → (task : Tasks) (leaf : LeafUse)
+        → asked (map string_bytes words.now) ≡ Ok task → leaf_use task ≡ Some leaf
+        → SpendsLeaf leaf (D.bytes disk) (D.past result.1)
         ⊎ TellsFront IsFaultLine (K.holds sink.old) (K.holds sink.new) }
     ensures any_moment { IsTrue D.honest → HasGate journal_header (D.bytes disk)
-        → (signing : Signing) → asked (map string_bytes words.now) ≡ Ok (Sign signing)
-        → MovesByLeaf signing (D.bytes disk) (D.past disk) (D.past result.1) }
+        → (task : Tasks) (leaf : LeafUse)
+        → asked (map string_bytes words.now) ≡ Ok task → leaf_use task ≡ Some leaf
+        → MovesByLeaf leaf (D.bytes disk) (D.past disk) (D.past result.1) }
     ensures unspent { IsTrue D.honest → (result.0 ≡ NotValid) ⊎ (result.0 ≡ SourceFailed)
-        ⊎ (result.0 ≡ PastLimit) ⊎ (result.0 ≡ NoReading) → (signing : Signing)
-        → asked (map string_bytes words.now) ≡ Ok (Sign signing)
+        ⊎ (result.0 ≡ PastLimit) ⊎ (result.0 ≡ NoReading) → (task : Tasks) (leaf : LeafUse)
+        → asked (map string_bytes words.now) ≡ Ok task → leaf_use task ≡ Some leaf
         → OpensAsBefore (D.bytes disk) (D.bytes result.1) }
     ensures answers { Answers (asked (map string_bytes words.now)) result.0 (record {
       disk = record {
@@ -173,11 +175,14 @@ fn run<S: Source, K: Sink, D: Disk>(
 /// dealing, 64 bytes, among the members N.., and prints the action that sets this dealing, and each
 /// member's share; `endorse`, `genesis` and `sign --identity HEX --member N` sign what the source
 /// gives with the key of the disk's file, and print a node's endorsed key, the ledger that opens a
-/// service, or the request of member N to the service with the key HEX. The answer is the exit
+/// service, or the request of member N to the service with the key HEX; `recover` founds a service
+/// anew by the settings that the source gives and behind the ledger that stands there behind them,
+/// with the key of the disk's file, and prints the ledger that opens it. The answer is the exit
 /// status, and the disk: 0 done, 1 the receipt or the ledger is not valid, the disk is not empty, a
-/// secret can't be dealt so or nothing is signed, 2 other words, 3 the source failed, 4 the sink
-/// failed, 5 the disk failed, 7 want of memory, 8 a limit is passed, 9 no schedule, no receipt, no
-/// seed, no secret with its seed or nothing to sign. No command uses the link or the gate yet.
+/// secret can't be dealt so, nothing is signed or no service is founded anew, 2 other words, 3 the
+/// source failed, 4 the sink failed, 5 the disk failed, 7 want of memory, 8 a limit is passed, 9 no
+/// schedule, no receipt, no seed, no secret with its seed, nothing to sign or no settings. No command
+/// uses the link or the gate yet.
 pub fn top<S: Source, K: Sink, D: Disk + Send, L: Link, G: Gate + Sync>(
     alloc: Global,
     words: &[String],
@@ -226,25 +231,28 @@ pub fn top<S: Source, K: Sink, D: Disk + Send, L: Link, G: Gate + Sync>(
         → OfBytes (S.left source.old) (KeepsKey kind types (D.past result.1)) }
     // 0, for what is signed on an honest disk: the disk had a key file, and whatever a stop leaves
     // of it opens to the state in which its next leaf is spent, and to nothing else.
-    ensures signed { result.0 ≡ 0 → IsTrue D.honest → (signing : Signing)
-        → asked (map string_bytes words.now) ≡ Ok (Sign signing)
-        → SpendsLeaf signing (D.bytes disk) (D.past result.1) }
+    ensures signed { result.0 ≡ 0 → IsTrue D.honest → (task : Tasks) (leaf : LeafUse)
+        → asked (map string_bytes words.now) ≡ Ok task → leaf_use task ≡ Some leaf
+        → SpendsLeaf leaf (D.bytes disk) (D.past result.1) }
     // 0, 4 and 7: so it is there too, unless what was written is a front of a fault's line, or
     // nothing.
     ensures spent { IsTrue D.honest → (result.0 ≡ 0) ⊎ (result.0 ≡ 4) ⊎ (result.0 ≡ 7)
-        → (signing : Signing) → asked (map string_bytes words.now) ≡ Ok (Sign signing)
-        → SpendsLeaf signing (D.bytes disk) (D.past result.1)
+        → (task : Tasks) (leaf : LeafUse)
+        → asked (map string_bytes words.now) ≡ Ok task → leaf_use task ≡ Some leaf
+        → SpendsLeaf leaf (D.bytes disk) (D.past result.1)
         ⊎ TellsFront IsFaultLine (K.holds sink.old) (K.holds sink.new) }
     // Whatever the status: where something is to be signed, and the file of an honest disk has its
     // closed gate and opens to a state, then at every moment each image that a stop may leave is one
     // that it might have left before, or opens to that state, or to the one with the next leaf spent.
     ensures any_moment { IsTrue D.honest → HasGate journal_header (D.bytes disk)
-        → (signing : Signing) → asked (map string_bytes words.now) ≡ Ok (Sign signing)
-        → MovesByLeaf signing (D.bytes disk) (D.past disk) (D.past result.1) }
+        → (task : Tasks) (leaf : LeafUse)
+        → asked (map string_bytes words.now) ≡ Ok task → leaf_use task ≡ Some leaf
+        → MovesByLeaf leaf (D.bytes disk) (D.past disk) (D.past result.1) }
     // 1: the words ask for a task, and exactly the line was written that tells why the bytes'
     // receipt or ledger is not valid, that the disk isn't empty, that the secret can't be dealt so,
-    // or why nothing is signed. The source gave its end, unless the line tells an entry that breaks
-    // a rule, or of the disk: then nothing is said of the end.
+    // why nothing is signed, or why no service is founded anew. The source gave its end, unless the
+    // line tells an entry that breaks a rule, of the disk, or of the settings of a service that is
+    // to be founded anew: then nothing is said of the end.
     ensures not_valid { result.0 ≡ 1 → (task : Tasks)
         × (asked (map string_bytes words.now) ≡ Ok task)
         × OfShown D.honest (D.bytes disk) (λ shown. OfBytes (S.left source.old) (λ given.
@@ -309,7 +317,8 @@ pub fn top<S: Source, K: Sink, D: Disk + Send, L: Link, G: Gate + Sync>(
     // honest disk's key file opens to what it opened to: no leaf is spent.
     ensures unspent { IsTrue D.honest
         → (result.0 ≡ 1) ⊎ (result.0 ≡ 3) ⊎ (result.0 ≡ 8) ⊎ (result.0 ≡ 9)
-        → (signing : Signing) → asked (map string_bytes words.now) ≡ Ok (Sign signing)
+        → (task : Tasks) (leaf : LeafUse)
+        → asked (map string_bytes words.now) ≡ Ok task → leaf_use task ≡ Some leaf
         → OpensAsBefore (D.bytes disk) (D.bytes result.1) }
     // Words that ask for no task that uses the disk leave it as it was.
     ensures disk { ((task : Tasks) → asked (map string_bytes words.now) ≡ Ok task
@@ -323,7 +332,7 @@ pub fn top<S: Source, K: Sink, D: Disk + Send, L: Link, G: Gate + Sync>(
         (text : List ℕ) → IsAnswer task shown given text
         → (result.0 ≡ 0) ⊎ (result.0 ≡ 3) ⊎ (result.0 ≡ 4) ⊎ (result.0 ≡ 5) ⊎ (result.0 ≡ 7))) }
     // a receipt or a ledger that is not valid, a disk that isn't empty, members among whom a secret
-    // can't be dealt so, or what isn't signed, gives 1,
+    // can't be dealt so, what isn't signed, or what founds no service anew, gives 1,
     ensures refused { (task : Tasks) → asked (map string_bytes words.now) ≡ Ok task
         → OfShown D.honest (D.bytes disk) (λ shown. IfSome (S.left source.old) (λ given.
         (text : List ℕ) → IsRefusal task shown given text

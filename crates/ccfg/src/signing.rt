@@ -28,7 +28,7 @@ use gl_outside::{Disk, Source};
 use std::alloc::Global;
 
 /// What there is to do where no key file could be opened.
-fn open_stop(error: OrNoMemory<KeyFileFault>) -> Result<Plan, PlanStop>
+pub(crate) fn open_stop(error: OrNoMemory<KeyFileFault>) -> Result<Plan, PlanStop>
     requires { (reserved : ℕ) → error ≢ OrNoMemory.Fault (KeyFileFault.KeyExhausted reserved) }
     ensures told { IfOk result (TellsUnopened error) }
     ensures disk_failed { result ≡ Err PlanStop.DiskFailed →
@@ -80,7 +80,7 @@ fn sign_text<D: Disk>(
         Rose (D.faults (disk_of file)) (D.faults result.1) }
     ensures no_source { result.0 ≢ Err PlanStop.SourceFailed }
     ensures spent { IsTrue D.honest → IfOk result.0 (λ plan.
-        TellsSpent signing.now (D.bytes (disk_of file)) (D.past result.1) plan) }
+        TellsSpent (use_of signing.now) (D.bytes (disk_of file)) (D.past result.1) plan) }
     ensures refused { IfOk result.0 (λ plan. TellsFault plan → result.1 ≡ disk_of file) }
     ensures any_moment { IsTrue D.honest → Leaves (OpensToOneOf any_frame (held file)
         (after_leaf (use_of signing.now) (held file)))
@@ -112,7 +112,7 @@ fn plan_with_key<S: Source, D: Disk>(
     ensures disk_failed { result.0 ≡ Err PlanStop.DiskFailed →
         Rose (D.faults (disk_of file)) (D.faults result.1) }
     ensures spent { IsTrue D.honest → IfOk result.0 (λ plan.
-        TellsSpent signing.now (D.bytes (disk_of file)) (D.past result.1) plan) }
+        TellsSpent (use_of signing.now) (D.bytes (disk_of file)) (D.past result.1) plan) }
     ensures refused { IfOk result.0 (λ plan. TellsFault plan → result.1 ≡ disk_of file) }
     ensures any_moment { IsTrue D.honest → Leaves (OpensToOneOf any_frame (held file)
         (after_leaf (use_of signing.now) (held file)))
@@ -147,13 +147,13 @@ pub fn signing_plan<S: Source, D: Disk>(
     ensures disk_failed { result.0 ≡ Err PlanStop.DiskFailed →
         Rose (D.faults disk) (D.faults result.1) }
     ensures spent { IsTrue D.honest → IfOk result.0 (λ plan.
-        TellsSpent signing.now (D.bytes disk) (D.past result.1) plan) }
+        TellsSpent (use_of signing.now) (D.bytes disk) (D.past result.1) plan) }
     ensures refused { IsTrue D.honest → IfOk result.0 (λ plan. TellsFault plan →
         OpensAsBefore (D.bytes disk) (D.bytes result.1)) }
     ensures stopped { IsTrue D.honest → result.0 ≡ Err PlanStop.SourceFailed →
         OpensAsBefore (D.bytes disk) (D.bytes result.1) }
     ensures any_moment { IsTrue D.honest → HasGate journal_header (D.bytes disk) →
-        MovesByLeaf signing.now (D.bytes disk) (D.past disk) (D.past result.1) }
+        MovesByLeaf (use_of signing.now) (D.bytes disk) (D.past disk) (D.past result.1) }
 {
     match KeyFile::open(alloc, disk, signing.kind()) {
         Ok(file) => plan_with_key(alloc, signing, source, file),

@@ -10,6 +10,7 @@ mod keys;
 mod members;
 mod nodes;
 mod receipts;
+mod recoveries;
 mod roles;
 mod schedules;
 mod signing;

@@ -10,6 +10,3 @@ pub use gl_ledger_file::ReadFault;
 pub use laws::{law_of_receipts, law_of_verdicts};
 pub use ledger_audit::audit;
 pub use verdict::Verdict;
-
-#[cfg(test)]
-mod tests;

@@ -12,7 +12,7 @@ use Rattle.gl_entry.proofs.Sizes.{content_within, writes_counted}
 
 -- ---- lists
 
-each_at : {A : Type 0} (P : A → Type 0) (xs : List A) (i : ℕ) (d : A) → AllByRecursion P xs → i < length xs → P (get_or xs i d)
+pub each_at : {A : Type 0} (P : A → Type 0) (xs : List A) (i : ℕ) (d : A) → AllByRecursion P xs → i < length xs → P (get_or xs i d)
 each_at P [] i d all low = absurd (omega arith)
 each_at P (x ∷ xs) zero d all low = all.0
 each_at P (x ∷ xs) (suc i) d all low = each_at P xs i d all.1 (omega arith)
@@ -22,7 +22,7 @@ behind [] i d low = absurd (omega arith)
 behind (x ∷ xs) zero d low = refl
 behind (x ∷ xs) (suc i) d low = behind xs i d (omega arith)
 
-before : {A : Type 0} (xs : List A) (i : ℕ) (d : A) → i < length xs → take (suc i) xs ≡ take i xs ++ get_or xs i d ∷ []
+pub before : {A : Type 0} (xs : List A) (i : ℕ) (d : A) → i < length xs → take (suc i) xs ≡ take i xs ++ get_or xs i d ∷ []
 before [] i d low = absurd (omega arith)
 before (x ∷ xs) zero d low = refl
 before (x ∷ xs) (suc i) d low = ap (λ ys. x ∷ ys) (before xs i d (omega arith))

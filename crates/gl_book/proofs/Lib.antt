@@ -14,3 +14,12 @@ pub mod Taking
 pub mod Batches
 pub mod Appending
 pub mod Openings
+pub mod FrameLaws
+pub mod ServiceStarts
+pub mod FoldedStates
+pub mod OpeningFolds
+pub mod OpeningSizes
+pub mod Keeping
+pub mod Serving
+pub mod ValidSteps
+pub mod Reopening

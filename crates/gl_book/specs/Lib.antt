@@ -2,3 +2,10 @@ pub mod Stands
 pub mod Lists
 pub mod Taken
 pub mod Opening
+pub mod Frames
+pub mod NodeFile
+pub mod ServiceStart
+pub mod AtOpening
+pub mod Turns
+pub mod Replicas
+pub mod Reopening

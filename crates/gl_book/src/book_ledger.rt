@@ -74,6 +74,7 @@ impl BookLedger {
     pub fn len(&self) -> u64
         ensures len { result ≡ length self.now }
         ensures within { result < 2 ^ 40 }
+        ensures valid { audited service_layers self.now ≡ None }
         ensures sound { IsSound service_layers self.now }
     {
         prove!(self.store.ledger_len() < 1 << 40);

@@ -12,7 +12,8 @@ use gl_gov_rules::{History, NodeStatus, RecordedNode};
 use gl_store::Store;
 use std::alloc::{AllocError, Global};
 
-fn is_trusted(past: &History, node: &RecordedNode) -> bool
+/// Whether a node is trusted.
+pub(crate) fn is_trusted(past: &History, node: &RecordedNode) -> bool
     ensures { result ≡ is_trusted_status (node_status past.now node.now) }
 {
     matches!(past.node_status(node), NodeStatus::Trusted)

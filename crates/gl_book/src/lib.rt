@@ -6,8 +6,11 @@
 mod batch;
 mod book;
 mod book_ledger;
+mod client_book;
 mod configurations;
+mod laws;
 mod makers;
+mod node_file;
 mod node_lists;
 mod opening;
 mod ranges;
@@ -16,8 +19,7 @@ mod refusals;
 mod signing;
 mod store_book;
 
+pub use laws::a_stop_forgets_nothing;
+pub use node_file::{NodeFile, OpeningFault};
 pub use opening::books;
 pub use store_book::StoreBook;
-
-#[cfg(test)]
-mod tests;

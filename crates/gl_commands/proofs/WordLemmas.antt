@@ -24,7 +24,7 @@ use Rattle.gl_lines.specs.Words.{hex_sized}
 use Rattle.gl_lines.specs.declared.fault.LineFault.{LineFault}
 use Rattle.gl_lines.proofs.NumberLemmas.{decimal_digits}
 use Rattle.gl_lms.specs.declared.types.Types.{Types}
-use Rattle.gl_commands.specs.Commands.{diskless_program, keyless_program, program}
+use Rattle.gl_commands.specs.Commands.{diskless_program, keyless_program, program, signing_program}
 use Rattle.gl_commands.specs.declared.task.WordsFault.{WordsFault}
 use Rattle.gl_commands.specs.declared.task.WordsFault.TheVariants.{NoMemory, Refused}
 use Rattle.gl_commands.specs.Words.{Refuses, RefusesOnly, RefusesWords, asked, asked_command, asked_deal, asked_dealing, asked_identity, asked_key, asked_keygen, asked_member, asked_name, asked_number, asked_numbers, asked_options, asked_request, asked_sign, asked_under, asked_with_identity, asked_with_words, is_member, is_number, named_kind, named_types, plain_task, spelled_key, spelled_member, unless_faulty, unless_plain, valid_value}
@@ -239,11 +239,11 @@ some_kind words = kind_of_faults (fault_of program words) (asked_command (subcom
 -- The program as the library has it
 
 free : is_simple_and_free program ≡ true
-unfolding clap_on_literals program keyless_program diskless_program
+unfolding clap_on_literals program signing_program keyless_program diskless_program
 free = refl
 
 simple : is_simple program ≡ true
-unfolding clap_on_literals program keyless_program diskless_program
+unfolding clap_on_literals program signing_program keyless_program diskless_program
 simple = refl
 
 -- `keygen`, and a command that isn't it

@@ -47,6 +47,9 @@ sign_command =
     with_rule (with_rule (new_app (codes "sign")) (required_option (codes "identity")))
     (required_option (codes "member"))
 
+abbrev pub recover_command : App
+recover_command = new_app (codes "recover")
+
 -- The program without its commands. Its words are those behind its name; one of them has to be a
 -- command, of which `help` is none.
 abbrev pub bare_program : App
@@ -70,11 +73,15 @@ keyless_program =
     with_subcommand (with_subcommand diskless_program keygen_command.top) deal_command.top
 
 -- And with those that sign with a key.
-unfoldable pub program : App
-program =
+unfoldable pub signing_program : App
+signing_program =
     with_subcommand
     (with_subcommand (with_subcommand keyless_program endorse_command.top) genesis_command.top)
     sign_command.top
+
+-- And with the one that founds a service anew.
+unfoldable pub program : App
+program = with_subcommand signing_program recover_command.top
 
 -- The command is this one, with no option that holds for others too.
 abbrev pub IsCommand : App → Command → Type 0

@@ -148,7 +148,8 @@ abbrev pub plain_task : Text → Option Task
 plain_task name =
     if bytes_eq name (codes "replay") then Some tasks.Replay
     else (if bytes_eq name (codes "endorse") then Some (tasks.Sign Endorsement)
-    else (if bytes_eq name (codes "genesis") then Some (tasks.Sign Opening) else None))
+    else (if bytes_eq name (codes "genesis") then Some (tasks.Sign Opening)
+    else (if bytes_eq name (codes "recover") then Some tasks.Recover else None)))
 
 abbrev pub unless_plain : Option Task → Result Task Kinds → Result Task Kinds
 unless_plain (Some task) other = Ok task

@@ -2,7 +2,7 @@
 
 ghost use Rattle.std.specs.Prelude.{◌≡◌, IfOk, codes, false};
 ghost use Rattle.clap.specs.Walk.{rule_of};
-ghost use Rattle.gl_commands.specs.Commands.{IsCommand, audit_command, bare_program, deal_command, diskless_program, keygen_command, keyless_program, program, required_option, required_words, sign_command, verify_command};
+ghost use Rattle.gl_commands.specs.Commands.{IsCommand, audit_command, bare_program, deal_command, diskless_program, keygen_command, keyless_program, program, required_option, required_words, sign_command, signing_program, verify_command};
 
 use crate::help::VERSION;
 use clap::{Arg, Command};
@@ -93,12 +93,20 @@ fn keyless_program<'a>(alloc: Global) -> Result<Command<'a>, AllocError>
 }
 
 /// And with those that sign with a key.
-#[tactic(auto, unfolding(crate::specs::Commands::program))]
-pub(crate) fn program<'a>(alloc: Global) -> Result<Command<'a>, AllocError>
-    ensures { IfOk result (IsCommand program) }
+#[tactic(auto, unfolding(crate::specs::Commands::signing_program))]
+fn signing_program<'a>(alloc: Global) -> Result<Command<'a>, AllocError>
+    ensures { IfOk result (IsCommand signing_program) }
 {
     keyless_program(alloc)?
         .subcommand(Command::new(alloc, "endorse"))?
         .subcommand(Command::new(alloc, "genesis"))?
         .subcommand(sign_command(alloc)?)
+}
+
+/// And with the one that founds a service anew.
+#[tactic(auto, unfolding(crate::specs::Commands::program))]
+pub(crate) fn program<'a>(alloc: Global) -> Result<Command<'a>, AllocError>
+    ensures { IfOk result (IsCommand program) }
+{
+    signing_program(alloc)?.subcommand(Command::new(alloc, "recover"))
 }

@@ -40,20 +40,25 @@ Commands:
       reads what a member asks for as JSON from standard input, signs it with the
       member's key in the file at PATH, as member N, 1 to 255, of the service with
       the key HEX, and writes the bytes of the request
+  ccfg @disk=PATH recover
+      reads from standard input 4 bytes, the length of what follows, the low one
+      first, the new settings of a service as JSON, and the ledger that is left of
+      it, founds it anew from the ledger's last signature on with the key of its
+      first node in the file at PATH, and writes the ledger that opens it again
   ccfg --help, ccfg --version
       write this text, and the version
 
 @disk=PATH stands before the command and names the file that it uses; of several
-the last one counts. keygen, endorse, genesis and sign fail without one, and the
-others use none. A file with a key is secret. Each of its leaves signs once, and
-is spent before anything is written.
+the last one counts. keygen, endorse, genesis, sign and recover fail without one,
+and the others use none. A file with a key is secret. Each of its leaves signs
+once, and is spent before anything is written.
 
 Exit statuses:
   0  done
   1  the receipt or the ledger is not valid, the file that is to take a key is
      not empty, a secret can't be dealt so among the members, or nothing is signed:
-     the file has no key of the kind that signs, its leaves are spent, or the
-     settings open no service
+     the file has no key of the kind that signs, its leaves are spent, the
+     settings open no service, or the ledger is none that can be recovered
   2  the words are not those of a command
   3  standard input failed
   4  standard output failed

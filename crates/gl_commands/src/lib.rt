@@ -10,6 +10,3 @@ mod words;
 pub use help::{HELP, VERSION};
 pub use task::{Task, WordsFault};
 pub use words::read_words;
-
-#[cfg(test)]
-mod tests;

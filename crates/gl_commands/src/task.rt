@@ -34,6 +34,8 @@ pub enum Task {
     Sign {
         signing: Signing,
     },
+    /// To found a service anew with the key of a file, and tell the ledger that opens it.
+    Recover,
 }
 
 /// Why words ask for nothing.

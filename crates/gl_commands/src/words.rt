@@ -323,6 +323,7 @@ fn plain_task(name: &str) -> Option<Task>
         "genesis" => Some(Task::Sign {
             signing: Signing::Opening,
         }),
+        "recover" => Some(Task::Recover),
         _ => None,
     }
 }

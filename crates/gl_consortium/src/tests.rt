@@ -1,4 +1,4 @@
-//! Signing over disks in memory, with a fault or a stop at each call.
+//! Signing over disks in memory.
 
 ghost use Rattle.std.specs.Prelude.{◌≡◌, IfOk};
 ghost use Rattle.gl_outside.specs.SureDisk.{disk_past};
@@ -14,21 +14,13 @@ use gl_hss::{leaf_of, verify, verify_endorsement};
 use gl_journal::{Key, KeyKind};
 use gl_keyfile::{KeyFile, LeafUse, Signing, key_form};
 use gl_lms::Types;
-use gl_outside::{Disk, MemDisk, SureDisk, Tear};
+use gl_outside::SureDisk;
 use gl_requests::{GovernanceRequest, HssPublicKey};
 use gl_store::Store;
 use std::alloc::Global;
 use std::test::*;
 
 const ACK: &[u8] = b"{\"op\":\"ack\"}";
-
-const TEARS: [Tear; 5] = [
-    Tear::Old,
-    Tear::Whole,
-    Tear::Half,
-    Tear::Filled(0),
-    Tear::Filled(0xff),
-];
 
 /// What the member with the number 3 signs, to a service.
 fn request() -> Signing
@@ -250,54 +242,5 @@ fn a_member_signs_with_one_leaf_after_another(rt: HostRuntime) -> Result<(), Fai
     }
     let fault = SigningFault::Form(FormsFault::NotJson);
     assert_eq!(rt; refusal(alloc, &request(), b"ack", &file)?, fault);
-    Ok(())
-}
-
-#[test]
-fn a_stop_leaves_the_leaf_or_the_next_one(rt: HostRuntime) -> Result<(), Fail> {
-    let alloc = rt.alloc();
-    let file = opened(alloc, &request(), &file_of(alloc, KeyKind::Member, 7)?)?;
-    let first = file.journal.gated.disk.calls.len();
-    let (told, disk) = sign(alloc, &request(), ACK, file);
-    assert_eq!(rt; leaf_of_request(alloc, &told?)?, 0);
-    let mut counts: [u32; 2] = [0; 2];
-    for calls in first..=disk.calls.len() {
-        for tear in TEARS {
-            let image = disk.image(alloc, calls, tear)?;
-            let leaf = opened(alloc, &request(), &image)?.reserved();
-            let count = counts.get_mut(leaf as usize).ok_or("a leaf was left out")?;
-            *count = count.saturating_add(1);
-        }
-    }
-    assert_eq!(rt; counts, [29, 6]);
-    Ok(())
-}
-
-#[test]
-fn each_call_of_the_disk_fails_in_turn(rt: HostRuntime) -> Result<(), Fail> {
-    let alloc = rt.alloc();
-    let mut ends: [u32; 3] = [0; 3];
-    for number in 1..18 {
-        let failing = [number];
-        let disk = MemDisk::new(SureDisk::new(alloc), &failing);
-        let Ok(file) = KeyFile::create(alloc, disk, key_of(KeyKind::Member, 7)) else {
-            ends[0] = ends[0].saturating_add(1);
-            continue;
-        };
-        let (told, disk) = sign(alloc, &request(), ACK, file);
-        match told {
-            Err(error) => {
-                assert_eq!(rt; error, OrNoMemory::Fault(SigningFault::DiskFailed));
-                assert_eq!(rt; disk.faults(), 1);
-                assert!(rt; opened(alloc, &request(), &disk.inner.bytes)?.reserved() <= 1);
-                ends[1] = ends[1].saturating_add(1);
-            }
-            Ok(told) => {
-                assert_eq!(rt; (leaf_of_request(alloc, &told)?, disk.faults()), (0, 0));
-                ends[2] = ends[2].saturating_add(1);
-            }
-        }
-    }
-    assert_eq!(rt; ends, [10, 6, 1]);
     Ok(())
 }

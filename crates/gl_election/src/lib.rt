@@ -5,8 +5,6 @@
 mod elected;
 mod laws;
 mod peer;
-#[cfg(test)]
-mod tests;
 
 pub use elected::{Elected, ElectionOutcome, ElectionRefusal};
 pub use laws::law_of_elections;

@@ -20,6 +20,3 @@ pub use made::{Given, Reads, Unmade};
 pub use node_signature::node_signature_fault;
 pub use recording::{Recording, recording_of};
 pub use refusal::Refusal;
-
-#[cfg(test)]
-mod tests;

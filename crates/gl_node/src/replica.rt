@@ -8,7 +8,7 @@ ghost use Rattle.gl_replication.specs.Stands.{KeepsAll, Refuses, Steps, Tells};
 ghost use Rattle.gl_node.specs.Answers.{OnRefusal, stopped_by, stopped_count};
 ghost use Rattle.gl_node.specs.Kept.{kept_after};
 ghost use Rattle.gl_node.specs.Rules.{has_few_entries, rule_of};
-ghost use Rattle.gl_node.specs.Serving.{IsServing, OpensToCore};
+ghost use Rattle.gl_node.specs.Serving.{IsServing, OpensToCore, StandsForSome};
 
 use crate::event::Event;
 use crate::fault::NodeFault;
@@ -122,7 +122,9 @@ impl<D: Disk, B: KeptBook> Replica<D, B> {
 
     /// The node, to be asked what it knows.
     pub fn core(&self) -> &Core<B>
-        ensures { result.now ≡ self.now.core }
+        ensures core { result.now ≡ self.now.core }
+        // It stands for a node of some rules.
+        ensures some { StandsForSome B.stands self.now.core }
     {
         &self.core
     }

@@ -7,3 +7,6 @@ pub mod Accepted
 pub mod Reopening
 pub mod Openings
 pub mod Owing
+pub mod Fronts
+pub mod Recovered
+pub mod Telling

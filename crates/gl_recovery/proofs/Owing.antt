@@ -1,6 +1,7 @@
 -- What is owed for an old ledger, step by step.
-use Rattle.std.proofs.Common.{◌≡◌, ℕ, ◌+◌, ◌≤◌, nat_le, nat_lt, ◌==◌, ◌^◌, List, [], ◌∷◌, ◌++◌, length, Bool, true, false, if◌then◌else◌, Option, Some, Result, Ok, Err, IsErr, Vec, Global, refl, sym, ◌∙◌, ap, ap₂, subst, arith, length-append}
+use Rattle.std.proofs.Common.{◌≡◌, ℕ, suc, ◌+◌, ◌≤◌, nat_le, nat_lt, ◌==◌, ◌^◌, List, [], ◌∷◌, ◌++◌, length, Bool, true, false, if◌then◌else◌, Option, None, Some, Result, Ok, Err, IsErr, Vec, Global, refl, sym, ◌∙◌, ap, ap₂, subst, arith, length-append}
 use Rattle.std.specs.List.{flat_map}
+use Rattle.std.proofs.lemmas.Bool.{true≢false}
 use Rattle.std.specs.Result.{IsErrAnd}
 use Rattle.gl_base.specs.Answers.{Answers, Fails}
 use Rattle.gl_base.specs.TxId.{last_seqno}
@@ -14,16 +15,19 @@ use Rattle.gl_entry.specs.declared.entry.Entry.{Entry}
 use Rattle.gl_requests.specs.declared.genesis.Recovery.{Recovery}
 use Rattle.gl_gov_rules.specs.declared.refusal.GovernanceRefusal.{GovernanceRefusal}
 use Rattle.gl_gov_rules.specs.declared.refusal.GovernanceRefusal.TheVariants as governance
+use Rattle.gl_entry.specs.declared.fault.EntryFault.{EntryFault}
+use Rattle.gl_ledger.specs.Audit.{LedgerFault, audited}
 use Rattle.gl_ledger.specs.Broken.{last_signed}
+use Rattle.gl_ledger.specs.NodeKeys.{service_layers}
 use Rattle.gl_ledger.specs.Ledger.{message_behind, signature_entry}
 use Rattle.gl_ledger.specs.Recovery.{recovery_entry, recovery_result, recovery_view, with_recovery}
 use Rattle.gl_ledger.specs.declared.refusal.Refusal.{Refusal}
 use Rattle.gl_ledger.specs.declared.refusal.Refusal.TheVariants as refusals
-use Rattle.gl_ledger_file.specs.LedgerFile.{ledger_file}
+use Rattle.gl_ledger_file.specs.LedgerFile.{LedgerFile, ledger_file}
 use Rattle.gl_ledger_file.specs.Given.{OfBytes}
 use Rattle.gl_ledger_file.proofs.Reading.{of_map}
 use Rattle.gl_recovery.specs.Answers.{AnswersOn, FailsOn}
-use Rattle.gl_recovery.specs.OldLedger.{has_room, signed_front, valid_ledger, with_signature}
+use Rattle.gl_recovery.specs.OldLedger.{has_room, is_read_whole, signed_front, unless_broken, unless_empty, unless_unread, valid_ledger, with_signature}
 use Rattle.gl_recovery.specs.Owed.{fault_of, first_endorsement, id_of, in_frames, recovered_from, recovery_owed, refounded, unless_refused}
 use Rattle.gl_recovery.specs.declared.fault.RecoveryFault.{RecoveryFault}
 use Rattle.gl_recovery.specs.declared.fault.RecoveryFault.TheVariants as faults
@@ -183,3 +187,36 @@ module _ (r : Recovery) (by : PrivateKey) (leaf : ℕ) (given : Option (List ℕ
       fails_on given fault owed
       (of_map given (λ bytes. valid bytes ≡ Ok old) (λ bytes. owed bytes ≡ Err fault)
       (λ bytes is. ap (λ (file : Result (List Entry) RecoveryFault). in_frames (file >>= recovered_from r by leaf)) is ∙ answers) of)
+
+-- ---- how far the source is read
+
+-- an old ledger is refused for an entry, or for bytes that are no frame, and for nothing else
+only_audit : (file : LedgerFile) (fault : RecoveryFault) → valid_ledger file ≡ Err fault → is_read_whole fault ≡ false
+unfolding valid_ledger
+only_audit file fault is = go (audited service_layers file.entries) file.fault file.entries is
+  where
+    go : (broken : Option LedgerFault) (unread : Option EntryFault) (es : List Entry) → unless_broken broken (unless_unread (suc (length file.entries)) unread (unless_empty es (Ok file.entries))) ≡ Err fault → is_read_whole fault ≡ false
+    go (Some at) unread es told = let same : faults.Audit at.seqno at.broken.rule ≡ fault = cc in ap is_read_whole (sym same)
+    go None (Some cut) es told = let same : faults.Audit (suc (length file.entries)) 1 ≡ fault = cc in ap is_read_whole (sym same)
+    go None None [] told = let same : faults.Audit 1 3 ≡ fault = cc in ap is_read_whole (sym same)
+    go None None (e ∷ es) told = absurd cc
+
+of_none : (given : Option (List ℕ)) (P : List ℕ → Type 0) → OfBytes given P → ((bytes : List ℕ) → P bytes → ⊥) → ⊥
+of_none None P of none = none of.0 of.1
+of_none (Some bytes) P of none = none bytes of
+
+module _ (given : Option (List ℕ)) where
+  refused_whole : (fault : RecoveryFault) → OfBytes given (λ bytes. valid_ledger (ledger_file bytes) ≡ Err fault) → is_read_whole fault ≡ true → ⊥
+  refused_whole fault of whole = of_none given (λ bytes. valid_ledger (ledger_file bytes) ≡ Err fault) of (λ bytes is. let not_whole = only_audit (ledger_file bytes) fault is in absurd (true≢false (sym whole ∙ not_whole)))
+
+  -- it is told of a ledger that was read to its end
+  pub never_whole : (error : OrNoMemory RecoveryFault) (fault : RecoveryFault) → FailsOn given error (λ bytes. valid_ledger (ledger_file bytes)) → error ≡ Fault fault → is_read_whole fault ≡ true → ⊥
+  never_whole NoMemory fault fails is whole = absurd cc
+  never_whole (Fault (faults.Audit seqno rule)) fault fails is whole = let same : faults.Audit seqno rule ≡ fault = cc in true≢false (sym whole ∙ ap is_read_whole (sym same))
+  never_whole (Fault faults.SourceFailed) fault fails is whole = let same : faults.SourceFailed ≡ fault = cc in true≢false (sym whole ∙ ap is_read_whole (sym same))
+  never_whole (Fault faults.NothingSigned) fault fails is whole = refused_whole faults.NothingSigned fails refl
+  never_whole (Fault faults.ViewLimit) fault fails is whole = refused_whole faults.ViewLimit fails refl
+  never_whole (Fault faults.SeqnoLimit) fault fails is whole = refused_whole faults.SeqnoLimit fails refl
+  never_whole (Fault (faults.BadAction index cause)) fault fails is whole = refused_whole (faults.BadAction index cause) fails refl
+  never_whole (Fault faults.Signature) fault fails is whole = refused_whole faults.Signature fails refl
+  never_whole (Fault (faults.TooLarge size)) fault fails is whole = refused_whole (faults.TooLarge size) fails refl

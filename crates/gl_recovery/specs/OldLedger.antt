@@ -1,5 +1,5 @@
 -- The old ledger of a service that is to be founded anew, and what of it is kept.
-use Rattle.std.specs.Prelude.{◌≡◌, ℕ, suc, ◌+◌, ◌^◌, List, [], ◌∷◌, Option, None, Some, Result, Ok, Err, length, take, nat_le, nat_lt, ◌==◌, if◌then◌else◌}
+use Rattle.std.specs.Prelude.{◌≡◌, ℕ, suc, ◌+◌, ◌^◌, List, [], ◌∷◌, Bool, true, false, Option, None, Some, Result, Ok, Err, length, take, nat_le, nat_lt, ◌==◌, if◌then◌else◌}
 use Rattle.gl_base.specs.TxId.{last_seqno}
 use Rattle.gl_base.specs.declared.or_no_memory.OrNoMemory.{OrNoMemory}
 use Rattle.gl_base.specs.declared.or_no_memory.OrNoMemory.TheVariants.{NoMemory, Fault}
@@ -47,6 +47,13 @@ IsRefused ledger e NoMemory = Unit {0}
 IsRefused ledger e (Fault fault) =
     (b : Broken) × (broken service_layers ledger e ≡ Some b)
     × (fault ≡ faults.Audit (suc (length ledger)) b.rule)
+
+-- Whether the file is read to its end before this is told: not where an entry breaks a rule, where
+-- the reading stops, nor where the source failed.
+abbrev pub is_read_whole : RecoveryFault → Bool
+is_read_whole (faults.Audit seqno rule) = false
+is_read_whole faults.SourceFailed = false
+is_read_whole other = true
 
 -- A ledger up to its last signature, this included: what stands behind it is signed by nobody.
 abbrev pub signed_front : List Entry → List Entry

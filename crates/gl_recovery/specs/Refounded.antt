@@ -1,5 +1,5 @@
 -- The ledger of a service that was founded anew, as those see it who take it.
-use Rattle.std.specs.Prelude.{◌≡◌, ◌<◌, List, [], ◌∷◌, ◌++◌, None, Ok, map}
+use Rattle.std.specs.Prelude.{◌≡◌, ℕ, ◌<◌, List, [], ◌∷◌, ◌++◌, None, Ok, map}
 use Rattle.std.specs.List.{flat_map}
 use Rattle.gl_lms.specs.Secrets.{PrivateKey}
 use Rattle.gl_entry.specs.Entry.{frame_bytes}
@@ -16,8 +16,13 @@ use Rattle.gl_ledger.specs.Tree.{tables_of}
 use Rattle.gl_ledger.specs.declared.refusal.Refusal.{Refusal}
 use Rattle.gl_ledger.specs.declared.refusal.Refusal.TheVariants as refusals
 use Rattle.gl_ledger_file.specs.LedgerFile.{ledger_file, no_entries, with_entries}
+use Rattle.gl_forms.specs.Settings.{recovery_in}
+use Rattle.gl_forms.specs.Text.{from_text}
+use Rattle.gl_journal.specs.declared.key.Key.{Key}
+use Rattle.gl_recovery.specs.Front.{Parts, parts_of}
 use Rattle.gl_recovery.specs.OldLedger.{signed_front}
 use Rattle.gl_recovery.specs.Owed.{id_of}
+use Rattle.gl_recovery.specs.Recovering.{private_key}
 
 -- The old ledger is valid, and this one is what is signed of it, the recovery and one signature more,
 -- with nothing of what stood behind. The check of an opening takes it as signed by the node with this
@@ -40,3 +45,15 @@ IsOfRecovery (refusals.Governance (governance.BadAction index cause)) = Unit {0}
 IsOfRecovery (refusals.Governance governance.Signature) = Unit {0}
 IsOfRecovery (refusals.TooLarge size) = Unit {0}
 IsOfRecovery other = ⊥
+
+-- What is told to all the bytes of a source, with the key of a key file: these are settings and an
+-- old ledger, and the settings name a recovery; told are the frames of a ledger that is founded anew
+-- by it, behind the entries of the old one, and that the node with this key opens.
+pub record IsRecovered (key : Key) (given told : List ℕ) : Type 0 where
+  pub parts : Parts
+  pub given_as : parts_of given ≡ Ok parts
+  pub recovery : Recovery
+  pub named : from_text recovery_in parts.settings ≡ Ok recovery
+  pub ledger : List Entry
+  pub told_is : told ≡ flat_map frame_bytes ledger
+  pub founded : IsRefounded recovery (private_key key) (ledger_file parts.ledger).entries ledger

@@ -12,6 +12,7 @@ ghost use Rattle.gl_gov_rules.specs.declared.change.Recorded.{Recorded};
 ghost use Rattle.gl_gov_rules.specs.Changes.{history};
 ghost use Rattle.gl_gov_rules.specs.Governed.{IsGoverned};
 ghost use Rattle.gl_gov_rules.specs.Service.{is_recovered, service_state};
+ghost use Rattle.gl_journal.specs.Durable.{Durable};
 ghost use Rattle.gl_ledger.specs.Layers.{Layers};
 ghost use Rattle.gl_ledger.specs.Recovery.{recovery_result};
 ghost use Rattle.gl_ledger.specs.Sound.{IsSound};
@@ -19,7 +20,8 @@ ghost use Rattle.gl_ledger.specs.declared.refusal.Refusal.{Refusal};
 ghost use Rattle.gl_ledger_file.specs.LedgerFile.{ledger_file};
 ghost use Rattle.gl_recovery.specs.Completion.{Completes, CompletesBehind, governance_of};
 ghost use Rattle.gl_recovery.specs.Owed.{IsFirstKey, recovery_owed};
-ghost use Rattle.gl_recovery.specs.Refounded.{IsOfRecovery, IsRefounded};
+ghost use Rattle.gl_recovery.specs.Recovering.{recover_owed};
+ghost use Rattle.gl_recovery.specs.Refounded.{IsOfRecovery, IsRecovered, IsRefounded};
 
 /// What the start of a recovery gives. The ledger that is owed is valid: the old one, which is valid
 /// too, up to its last signature, with the recovery and the signature of the first node that it
@@ -34,6 +36,14 @@ pub fn law_of_start()
         IsRefounded r by (ledger_file bytes).entries ledger }
     ensures refusals { (r : Recovery) (ledger : List Entry) (why : Refusal) →
         recovery_result r ledger ≡ Err why → IsOfRecovery why }
+{}
+
+/// What a recovery from a source and a key file tells. The bytes of the source are settings and an
+/// old ledger; told are the frames of a ledger as `law_of_start` has it, by the recovery that the
+/// settings name and behind that old ledger, which the node with the file's key opens.
+pub fn law_of_recover()
+    ensures { (state : Durable) (given told : List ℕ) →
+        recover_owed state given ≡ Ok told → IsRecovered state.key given told }
 {}
 
 /// A recovered service opens at a share alone: one with which at least as many distinct members'

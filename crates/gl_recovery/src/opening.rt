@@ -38,7 +38,7 @@ pub(crate) fn first_endorsement(alloc: Global, nodes: &[NewNode]) -> Result<Vec<
 }
 
 /// The identifier of the node with this key.
-fn id_of(by: &LmsKey) -> NodeId
+pub(crate) fn id_of(by: &LmsKey) -> NodeId
     ensures { result ≡ id_of by.now }
 {
     Sha256::digest(&by.public())

@@ -11,6 +11,7 @@ ghost use Rattle.gl_requests.specs.Ranges.{is_recovery};
 ghost use Rattle.gl_ledger.specs.Audit.{audited};
 ghost use Rattle.gl_ledger.specs.NodeKeys.{service_layers};
 ghost use Rattle.gl_recovery.specs.Answers.{AnswersOn};
+ghost use Rattle.gl_recovery.specs.OldLedger.{is_read_whole};
 ghost use Rattle.gl_recovery.specs.Owed.{IsFirstKey, in_frames, recovered_from, recovery_owed};
 
 use crate::fault::RecoveryFault;
@@ -88,6 +89,8 @@ pub fn start<S: Source>(
     ensures told { AnswersOn (S.left source.old) (λ told. told.items) result
         (λ given. in_frames (recovery_owed recovery by leaf given)) }
     ensures ended { OnOk result (S.ended source.new ≡ true) }
+    ensures read_whole { (fault : RecoveryFault) → result ≡ Err (Fault fault) →
+        is_read_whole fault ≡ true → S.ended source.new ≡ true }
     ensures failed { result ≡ Err (Fault RecoveryFault.SourceFailed) →
         Rose (S.faults source.old) (S.faults source.new) }
     ensures never_falls { S.faults source.old ≤ S.faults source.new }

@@ -19,6 +19,3 @@ pub use book::Book;
 pub use done::{Done, Outcome, Refusal};
 pub use leaves::Leaves;
 pub use node::Core;
-
-#[cfg(test)]
-mod tests;

@@ -13,6 +13,3 @@ mod text;
 
 pub use player::play;
 pub use schedule::{Schedule, read};
-
-#[cfg(test)]
-mod tests;

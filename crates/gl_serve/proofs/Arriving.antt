@@ -1,5 +1,5 @@
 -- What comes, turn by turn.
-use Rattle.std.proofs.Common.{◌≡◌, ◌⊎◌, inl, inr, ℕ, zero, suc, ◌+◌, List, [], ◌∷◌, ◌++◌, Bool, true, false, ◌||◌, map, cond, ◌==◌, None, Result, Err, refl, sym, ap, ◌∙◌, append_assoc, append-nil, subst, arith}
+use Rattle.std.proofs.Common.{◌≡◌, ◌⊎◌, inl, inr, ℕ, zero, suc, ◌+◌, List, [], ◌∷◌, ◌++◌, Bool, true, false, IsTrue, ◌||◌, map, cond, ◌==◌, None, Result, Err, refl, sym, ap, ◌∙◌, append_assoc, append-nil, subst, arith}
 use Rattle.std.proofs.lemmas.Bool.Decides.{nat_tests}
 use Rattle.gl_outside.specs.Fault.{next_call}
 use Rattle.gl_outside.specs.Link.{Arrival, Bytes, Tick, Exchange, Gave}
@@ -74,9 +74,9 @@ bytes_works peers kept before conn bytes tracks =
 
 -- ---- a turn
 
-ran_take : {S Payload : Type 0} (rules : Rules S Payload) (settings : Serving) (from : Stand S) (arrival : Arrival) (past : List Exchange)
-    → from.moment.desk.over ≡ None → past ≡ from.past ++ Gave arrival ∷ [] → Ran rules settings from (Take arrival ∷ []) (arrival ∷ []) (record { moment = from.moment; past = past; lost = from.lost }) [] []
-ran_take rules settings from arrival past going h = record {
+ran_take : {S Payload : Type 0} (honest : Bool) (rules : Rules S Payload) (settings : Serving) (from : Stand S) (arrival : Arrival) (past : List Exchange)
+    → from.moment.desk.over ≡ None → (IsTrue honest → past ≡ from.past ++ Gave arrival ∷ []) → Ran honest rules settings from (Take arrival ∷ []) (arrival ∷ []) (record { moment = from.moment; past = past; lost = from.lost }) [] []
+ran_take honest rules settings from arrival past going h = record {
   done = Take arrival ∷ [];
   said = (Came arrival ∷ []) ∷ [];
   exchanges = Gave arrival ∷ [];
@@ -90,20 +90,20 @@ ran_take rules settings from arrival past going h = record {
 }
 
 -- Something came, and then its works went so.
-pub went_came : {S Payload : Type 0} (rules : Rules S Payload) (settings : Serving) (before : List Arrival) (arrival : Arrival) (more : List Work) (from to : Stand S) (past : List Exchange) (result : Result (Unit {0}) Halt)
-    → from.moment.desk.over ≡ None → works settings.peers.now before arrival ≡ Take arrival ∷ more → past ≡ from.past ++ Gave arrival ∷ []
-    → Went rules settings (record { moment = from.moment; past = past; lost = from.lost }) more [] to result
-    → Went rules settings from (script settings.peers.now before (arrival ∷ [])) (arrival ∷ []) to result
-went_came {S} rules settings before arrival more from to past result going is h went =
+pub went_came : {S Payload : Type 0} (honest : Bool) (rules : Rules S Payload) (settings : Serving) (before : List Arrival) (arrival : Arrival) (more : List Work) (from to : Stand S) (past : List Exchange) (result : Result (Unit {0}) Halt)
+    → from.moment.desk.over ≡ None → works settings.peers.now before arrival ≡ Take arrival ∷ more → (IsTrue honest → past ≡ from.past ++ Gave arrival ∷ [])
+    → Went honest rules settings (record { moment = from.moment; past = past; lost = from.lost }) more [] to result
+    → Went honest rules settings from (script settings.peers.now before (arrival ∷ [])) (arrival ∷ []) to result
+went_came {S} honest rules settings before arrival more from to past result going is h went =
     let mid : Stand S = record { moment = from.moment; past = past; lost = from.lost } in
-    went_is rules settings from to (Take arrival ∷ [] ++ more) (script settings.peers.now before (arrival ∷ [])) (arrival ∷ []) result
+    went_is honest rules settings from to (Take arrival ∷ [] ++ more) (script settings.peers.now before (arrival ∷ [])) (arrival ∷ []) result
     (append-nil (works settings.peers.now before arrival) ∙ is)
-    (went_then rules settings from mid to (Take arrival ∷ []) more (arrival ∷ []) [] result (ran_take rules settings from arrival past going h) went)
+    (went_then honest rules settings from mid to (Take arrival ∷ []) more (arrival ∷ []) [] result (ran_take honest rules settings from arrival past going h) went)
 
 -- Nothing came.
-pub ran_still : {S Payload : Type 0} (rules : Rules S Payload) (settings : Serving) (from : Stand S) (past : List Exchange)
-    → past ≡ from.past ++ [] → Ran rules settings from [] [] (record { moment = from.moment; past = past; lost = from.lost }) [] []
-ran_still rules settings from past h = record {
+pub ran_still : {S Payload : Type 0} (honest : Bool) (rules : Rules S Payload) (settings : Serving) (from : Stand S) (past : List Exchange)
+    → (IsTrue honest → past ≡ from.past ++ []) → Ran honest rules settings from [] [] (record { moment = from.moment; past = past; lost = from.lost }) [] []
+ran_still honest rules settings from past h = record {
   done = [];
   said = [];
   exchanges = [];
@@ -126,42 +126,42 @@ script-more peers before (x ∷ came) more =
     ∙ ap (λ (t : List Arrival). works peers before x ++ script peers (before ++ x ∷ []) came ++ script peers t more) (append_assoc before (x ∷ []) came)
 
 -- All was done of what came, and then a turn.
-pub went_on : {S Payload : Type 0} (rules : Rules S Payload) (settings : Serving) (from mid to : Stand S) (came : List Arrival) (ahead now_ahead : List Arrival) (kept : ℕ → Stream) (result : Result Turn Halt)
-    → Ran rules settings from (script settings.peers.now [] came) came mid [] [] → (t : Turned rules settings came mid ahead to now_ahead kept result)
-    → Went rules settings from (script settings.peers.now [] (came ++ t.came)) (came ++ t.came) to (course_of_turn result)
-went_on rules settings from mid to came ahead now_ahead kept result p t =
-    went_is rules settings from to (script settings.peers.now [] came ++ script settings.peers.now came t.came) (script settings.peers.now [] (came ++ t.came)) (came ++ t.came) (course_of_turn result)
+pub went_on : {S Payload : Type 0} (honest : Bool) (rules : Rules S Payload) (settings : Serving) (from mid to : Stand S) (came : List Arrival) (ahead now_ahead : List Arrival) (kept : ℕ → Stream) (result : Result Turn Halt)
+    → Ran honest rules settings from (script settings.peers.now [] came) came mid [] [] → (t : Turned honest rules settings came mid ahead to now_ahead kept result)
+    → Went honest rules settings from (script settings.peers.now [] (came ++ t.came)) (came ++ t.came) to (course_of_turn result)
+went_on honest rules settings from mid to came ahead now_ahead kept result p t =
+    went_is honest rules settings from to (script settings.peers.now [] came ++ script settings.peers.now came t.came) (script settings.peers.now [] (came ++ t.came)) (came ++ t.came) (course_of_turn result)
     (script-more settings.peers.now [] came t.came)
-    (went_then rules settings from mid to (script settings.peers.now [] came) (script settings.peers.now came t.came) came t.came (course_of_turn result) p t.went)
+    (went_then honest rules settings from mid to (script settings.peers.now [] came) (script settings.peers.now came t.came) came t.came (course_of_turn result) p t.went)
 
 pub taken_on : (came more first mid now : List Arrival) → first ≡ came ++ mid → mid ≡ more ++ now → first ≡ came ++ more ++ now
 taken_on came more first mid now p q = p ∙ ap (λ (t : List Arrival). came ++ t) q ∙ sym (append_assoc came more now)
 
 -- ---- ends
 
-pub turned_err : {S Payload : Type 0} (rules : Rules S Payload) (settings : Serving) (before : List Arrival) (from : Stand S) (ahead : List Arrival) (to : Stand S) (now_ahead : List Arrival) (kept : ℕ → Stream) (came : List Arrival) (halt : Halt) (result : Result Turn Halt)
-    → result ≡ Err halt → Went rules settings from (script settings.peers.now before came) came to (Err halt) → ahead ≡ came ++ now_ahead
-    → Turned rules settings before from ahead to now_ahead kept result
-turned_err {S} rules settings before from ahead to now_ahead kept came halt result bad went taken =
-    subst (λ (r : Result Turn Halt). Turned rules settings before from ahead to now_ahead kept r) (sym bad)
+pub turned_err : {S Payload : Type 0} (honest : Bool) (rules : Rules S Payload) (settings : Serving) (before : List Arrival) (from : Stand S) (ahead : List Arrival) (to : Stand S) (now_ahead : List Arrival) (kept : ℕ → Stream) (came : List Arrival) (halt : Halt) (result : Result Turn Halt)
+    → result ≡ Err halt → Went honest rules settings from (script settings.peers.now before came) came to (Err halt) → (IsTrue honest → ahead ≡ came ++ now_ahead)
+    → Turned honest rules settings before from ahead to now_ahead kept result
+turned_err {S} honest rules settings before from ahead to now_ahead kept came halt result bad went taken =
+    subst (λ (r : Result Turn Halt). Turned honest rules settings before from ahead to now_ahead kept r) (sym bad)
     (record { came = came; went = went; tracks = tt; taken = taken })
 
 halted : (halt : Halt) → course_of (Err (end_of halt)) ≡ Err halt
 halted Stopped = refl
 halted NoMemory = refl
 
-pub serves_err : {S Payload : Type 0} (rules : Rules S Payload) (settings : Serving) (first : S) (past : List Exchange) (ahead : List Arrival) (last : S) (now_past : List Exchange) (now_ahead : List Arrival) (came : List Arrival) (desk : Desk) (lost : ℕ) (halt : Halt) (result : Result (ℕ × ℕ) ServeEnd)
+pub serves_err : {S Payload : Type 0} (honest : Bool) (rules : Rules S Payload) (settings : Serving) (first : S) (past : List Exchange) (ahead : List Arrival) (last : S) (now_past : List Exchange) (now_ahead : List Arrival) (came : List Arrival) (desk : Desk) (lost : ℕ) (halt : Halt) (result : Result (ℕ × ℕ) ServeEnd)
     → result ≡ Err (end_of halt)
-    → Went rules settings (record { moment = record { node = first; desk = first_desk }; past = past; lost = 0 }) (script settings.peers.now [] came) came (record { moment = record { node = last; desk = desk }; past = now_past; lost = lost }) (Err halt)
-    → ahead ≡ came ++ now_ahead → Serves rules settings first past ahead last now_past now_ahead result
-serves_err {S} rules settings first past ahead last now_past now_ahead came desk lost halt result bad went taken =
+    → Went honest rules settings (record { moment = record { node = first; desk = first_desk }; past = past; lost = 0 }) (script settings.peers.now [] came) came (record { moment = record { node = last; desk = desk }; past = now_past; lost = lost }) (Err halt)
+    → (IsTrue honest → ahead ≡ came ++ now_ahead) → Serves honest rules settings first past ahead last now_past now_ahead result
+serves_err {S} honest rules settings first past ahead last now_past now_ahead came desk lost halt result bad went taken =
     let from : Stand S = record { moment = record { node = first; desk = first_desk }; past = past; lost = 0 } in
     let to : Stand S = record { moment = record { node = last; desk = desk }; past = now_past; lost = lost } in
-    subst (λ (r : Result (ℕ × ℕ) ServeEnd). Serves rules settings first past ahead last now_past now_ahead r) (sym bad) (record {
+    subst (λ (r : Result (ℕ × ℕ) ServeEnd). Serves honest rules settings first past ahead last now_past now_ahead r) (sym bad) (record {
       came = came;
       desk = desk;
       lost = lost;
-      went = subst (λ (r : Result (Unit {0}) Halt). Went rules settings from (script settings.peers.now [] came) came to r) (sym (halted halt)) went;
+      went = subst (λ (r : Result (Unit {0}) Halt). Went honest rules settings from (script settings.peers.now [] came) came to r) (sym (halted halt)) went;
       taken = taken;
       counts = tt;
     })

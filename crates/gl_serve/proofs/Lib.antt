@@ -5,3 +5,4 @@ pub mod Losing
 pub mod SendingLaws
 pub mod WorkingLaws
 pub mod Whole
+pub mod Stopping

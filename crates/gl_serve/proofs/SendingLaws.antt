@@ -1,5 +1,5 @@
 -- Lines that are sent one behind the other.
-use Rattle.std.proofs.Common.{◌≡◌, ℕ, List, [], ◌∷◌, ◌++◌, map, Result, Ok, Err, OnOk, OnErr, refl, sym, ap, ◌∙◌, append_assoc, append-nil, true, false, subst, ◌<◌, ◌+◌, zero, suc, length, take, drop, get_or, take-append-drop, arith}
+use Rattle.std.proofs.Common.{◌≡◌, ℕ, List, [], ◌∷◌, ◌++◌, map, Result, Ok, Err, OnOk, OnErr, refl, sym, ap, ◌∙◌, append_assoc, append-nil, Bool, true, false, subst, ◌<◌, ◌+◌, zero, suc, length, take, drop, get_or, take-append-drop, arith}
 use Rattle.std.specs.List.{flat_map}
 use Rattle.std.proofs.lemmas.Grind.{flat_map-append}
 use Rattle.std.proofs.lemmas.List.{map-append}
@@ -32,34 +32,34 @@ arrivals-append (Gave a ∷ xs) ys = ap (λ (t : List Arrival). a ∷ t) (arriva
 arrivals-append (Sent t c f ∷ xs) ys = arrivals-append xs ys
 
 -- Nothing was sent.
-pub none_sent : (past : List Exchange) (lost : ℕ) → Sends past lost past lost []
-none_sent past lost = record { exchanges = []; history = sym (append-nil past); sent = refl; counts = refl; came = refl }
+pub none_sent : (honest : Bool) (past : List Exchange) (lost : ℕ) → Sends honest past lost past lost []
+none_sent honest past lost = record { exchanges = []; history = λ h. sym (append-nil past); sent = refl; counts = refl; came = refl }
 
 -- First these lines, then those.
-pub sent_then : (before mid after : List Exchange) (l m n : ℕ) (xs ys : List Line) → Sends before l mid m xs → Sends mid m after n ys → Sends before l after n (xs ++ ys)
-sent_then before mid after l m n xs ys p q = record {
+pub sent_then : (honest : Bool) (before mid after : List Exchange) (l m n : ℕ) (xs ys : List Line) → Sends honest before l mid m xs → Sends honest mid m after n ys → Sends honest before l after n (xs ++ ys)
+sent_then honest before mid after l m n xs ys p q = record {
   exchanges = p.exchanges ++ q.exchanges;
-  history = q.history ∙ ap (λ (t : List Exchange). t ++ q.exchanges) p.history ∙ append_assoc before p.exchanges q.exchanges;
+  history = λ h. q.history h ∙ ap (λ (t : List Exchange). t ++ q.exchanges) (p.history h) ∙ append_assoc before p.exchanges q.exchanges;
   sent = map-append line_of p.exchanges q.exchanges ∙ ap (λ (t : List Line). t ++ map line_of q.exchanges) p.sent ∙ ap (λ (t : List Line). xs ++ t) q.sent;
   counts = q.counts ∙ ap (λ (k : ℕ). counted k q.exchanges) p.counts ∙ sym (counted-append l p.exchanges q.exchanges);
   came = arrivals-append p.exchanges q.exchanges ∙ ap (λ (t : List Arrival). t ++ arrivals q.exchanges) p.came ∙ q.came;
 }
 
 -- The same lines, written otherwise.
-pub sent_is : (before after : List Exchange) (l n : ℕ) (xs ys : List Line) → xs ≡ ys → Sends before l after n xs → Sends before l after n ys
-sent_is before after l n xs ys same p = subst (λ (t : List Line). Sends before l after n t) same p
+pub sent_is : (honest : Bool) (before after : List Exchange) (l n : ℕ) (xs ys : List Line) → xs ≡ ys → Sends honest before l after n xs → Sends honest before l after n ys
+sent_is honest before after l n xs ys same p = subst (λ (t : List Line). Sends honest before l after n t) same p
 
 -- These lines, and nothing of those behind them.
-pub sent_front : (before after : List Exchange) (l n : ℕ) (xs ys all : List Line) → all ≡ xs ++ ys → Sends before l after n xs → SendsSome before l after n all
-sent_front before after l n xs ys all is p = (xs, ys, is, p)
+pub sent_front : (honest : Bool) (before after : List Exchange) (l n : ℕ) (xs ys all : List Line) → all ≡ xs ++ ys → Sends honest before l after n xs → SendsSome honest before l after n all
+sent_front honest before after l n xs ys all is p = (xs, ys, is, p)
 
 -- Some of these lines, and nothing of those behind them.
-pub some_more : (before after : List Exchange) (l n : ℕ) (xs ys all : List Line) → all ≡ xs ++ ys → SendsSome before l after n xs → SendsSome before l after n all
-some_more before after l n xs ys all is p = (p.0, p.1 ++ ys, is ∙ ap (λ (t : List Line). t ++ ys) p.2 ∙ append_assoc p.0 p.1 ys, p.3)
+pub some_more : (honest : Bool) (before after : List Exchange) (l n : ℕ) (xs ys all : List Line) → all ≡ xs ++ ys → SendsSome honest before l after n xs → SendsSome honest before l after n all
+some_more honest before after l n xs ys all is p = (p.0, p.1 ++ ys, is ∙ ap (λ (t : List Line). t ++ ys) p.2 ∙ append_assoc p.0 p.1 ys, p.3)
 
 -- These lines, and then nothing more.
-pub sent_no_more : (before mid after : List Exchange) (l m n : ℕ) (xs : List Line) → Sends before l mid m xs → Sends mid m after n [] → Sends before l after n xs
-sent_no_more before mid after l m n xs p q = sent_is before after l n (xs ++ []) xs (append-nil xs) (sent_then before mid after l m n xs [] p q)
+pub sent_no_more : (honest : Bool) (before mid after : List Exchange) (l m n : ℕ) (xs : List Line) → Sends honest before l mid m xs → Sends honest mid m after n [] → Sends honest before l after n xs
+sent_no_more honest before mid after l m n xs p q = sent_is honest before after l n (xs ++ []) xs (append-nil xs) (sent_then honest before mid after l m n xs [] p q)
 
 -- The lines of the elements of a list, up to the next one.
 pub flat_next : {X : Type 0} (f : X → List Line) (xs : List X) (i : ℕ) (x : X) → i < length xs → x ≡ get_or xs i x → flat_map f (take (i + 1) xs) ≡ flat_map f (take i xs) ++ f x

@@ -47,14 +47,14 @@ cut_behind xs [] n few =
 cut_behind xs (y ∷ ys) n few = subst (λ (o : Option (List Line)). n ≤ length (unwrap_or o [])) (sym (last_behind xs None None y ys)) few
 
 -- No work was begun.
-pub ran_none : {S Payload : Type 0} (rules : Rules S Payload) (settings : Serving) (from : Stand S) (works : List Work) → Ran rules settings from works [] from works []
-ran_none rules settings from works = record {
+pub ran_none : {S Payload : Type 0} (honest : Bool) (rules : Rules S Payload) (settings : Serving) (from : Stand S) (works : List Work) → Ran honest rules settings from works [] from works []
+ran_none honest rules settings from works = record {
   done = [];
   said = [];
   exchanges = [];
   works = refl;
   does = (refl, refl);
-  history = sym (append-nil from.past);
+  history = λ h. sym (append-nil from.past);
   lines = refl;
   cut = omega arith;
   came = refl;
@@ -62,15 +62,15 @@ ran_none rules settings from works = record {
 }
 
 -- All these works were done, and then some of those.
-pub ran_then : {S Payload : Type 0} (rules : Rules S Payload) (settings : Serving) (from mid to : Stand S) (xs ys : List Work) (came more : List Arrival) (undone : List Work) (unsent : List Line)
-    → Ran rules settings from xs came mid [] [] → Ran rules settings mid ys more to undone unsent → Ran rules settings from (xs ++ ys) (came ++ more) to undone unsent
-ran_then rules settings from mid to xs ys came more undone unsent p q = record {
+pub ran_then : {S Payload : Type 0} (honest : Bool) (rules : Rules S Payload) (settings : Serving) (from mid to : Stand S) (xs ys : List Work) (came more : List Arrival) (undone : List Work) (unsent : List Line)
+    → Ran honest rules settings from xs came mid [] [] → Ran honest rules settings mid ys more to undone unsent → Ran honest rules settings from (xs ++ ys) (came ++ more) to undone unsent
+ran_then honest rules settings from mid to xs ys came more undone unsent p q = record {
   done = p.done ++ q.done;
   said = p.said ++ q.said;
   exchanges = p.exchanges ++ q.exchanges;
   works = ap (λ (t : List Work). t ++ ys) (p.works ∙ append-nil p.done) ∙ ap (λ (t : List Work). p.done ++ t) q.works ∙ sym (append_assoc p.done q.done undone);
   does = does_then rules settings from.moment mid.moment to.moment p.done q.done p.said q.said p.does q.does;
-  history = q.history ∙ ap (λ (t : List Exchange). t ++ q.exchanges) p.history ∙ append_assoc from.past p.exchanges q.exchanges;
+  history = λ h. q.history h ∙ ap (λ (t : List Exchange). t ++ q.exchanges) (p.history h) ∙ append_assoc from.past p.exchanges q.exchanges;
   lines = flat_map-append (λ (lines : List Line). lines) p.said q.said
       ∙ ap (λ (t : List Line). t ++ all_lines q.said) (p.lines ∙ append-nil (map line_of p.exchanges))
       ∙ ap (λ (t : List Line). map line_of p.exchanges ++ t) q.lines
@@ -82,14 +82,14 @@ ran_then rules settings from mid to xs ys came more undone unsent p q = record {
 }
 
 -- The same works, written otherwise.
-pub ran_is : {S Payload : Type 0} (rules : Rules S Payload) (settings : Serving) (from to : Stand S) (xs ys : List Work) (came : List Arrival) (undone : List Work) (unsent : List Line)
-    → ys ≡ xs → Ran rules settings from xs came to undone unsent → Ran rules settings from ys came to undone unsent
-ran_is rules settings from to xs ys came undone unsent is p = subst (λ (t : List Work). Ran rules settings from t came to undone unsent) (sym is) p
+pub ran_is : {S Payload : Type 0} (honest : Bool) (rules : Rules S Payload) (settings : Serving) (from to : Stand S) (xs ys : List Work) (came : List Arrival) (undone : List Work) (unsent : List Line)
+    → ys ≡ xs → Ran honest rules settings from xs came to undone unsent → Ran honest rules settings from ys came to undone unsent
+ran_is honest rules settings from to xs ys came undone unsent is p = subst (λ (t : List Work). Ran honest rules settings from t came to undone unsent) (sym is) p
 
 -- All was done but for the works behind.
-pub ran_undone : {S Payload : Type 0} (rules : Rules S Payload) (settings : Serving) (from to : Stand S) (xs ys all : List Work) (came : List Arrival)
-    → all ≡ xs ++ ys → Ran rules settings from xs came to [] [] → Ran rules settings from all came to ys []
-ran_undone rules settings from to xs ys all came is p = record {
+pub ran_undone : {S Payload : Type 0} (honest : Bool) (rules : Rules S Payload) (settings : Serving) (from to : Stand S) (xs ys all : List Work) (came : List Arrival)
+    → all ≡ xs ++ ys → Ran honest rules settings from xs came to [] [] → Ran honest rules settings from all came to ys []
+ran_undone honest rules settings from to xs ys all came is p = record {
   done = p.done;
   said = p.said;
   exchanges = p.exchanges;
@@ -103,15 +103,15 @@ ran_undone rules settings from to xs ys all came is p = record {
 }
 
 -- One work that sends nothing.
-pub ran_idle : {S Payload : Type 0} (rules : Rules S Payload) (settings : Serving) (from : Stand S) (now : Moment S) (work : Work)
-    → from.moment.desk.over ≡ None → One rules settings from.moment work [] now → Ran rules settings from (work ∷ []) [] (record { moment = now; past = from.past; lost = from.lost }) [] []
-ran_idle rules settings from now work going one = record {
+pub ran_idle : {S Payload : Type 0} (honest : Bool) (rules : Rules S Payload) (settings : Serving) (from : Stand S) (now : Moment S) (work : Work)
+    → from.moment.desk.over ≡ None → One rules settings from.moment work [] now → Ran honest rules settings from (work ∷ []) [] (record { moment = now; past = from.past; lost = from.lost }) [] []
+ran_idle honest rules settings from now work going one = record {
   done = work ∷ [];
   said = [] ∷ [];
   exchanges = [];
   works = refl;
   does = does_one rules settings from.moment now work [] going one;
-  history = sym (append-nil from.past);
+  history = λ h. sym (append-nil from.past);
   lines = refl;
   cut = omega arith;
   came = refl;
@@ -121,12 +121,12 @@ ran_idle rules settings from now work going one = record {
 -- ---- and how it ended
 
 -- One work, whose lines were sent, or some of them.
-pub went_one : {S Payload : Type 0} (rules : Rules S Payload) (settings : Serving) (from to : Stand S) (work : Work) (lines : List Line) (result : Result (Unit {0}) Halt)
+pub went_one : {S Payload : Type 0} (honest : Bool) (rules : Rules S Payload) (settings : Serving) (from to : Stand S) (work : Work) (lines : List Line) (result : Result (Unit {0}) Halt)
     → from.moment.desk.over ≡ None → One rules settings from.moment work lines to.moment
-    → OnOk result (Sends from.past from.lost to.past to.lost lines) → OnErr result (SendsSome from.past from.lost to.past to.lost lines)
+    → OnOk result (Sends honest from.past from.lost to.past to.lost lines) → OnErr result (SendsSome honest from.past from.lost to.past to.lost lines)
     → OnOk result (to.moment.desk.over ≡ None) → ((end : Halt) → result ≡ Err end → is_stopped to.moment.desk.over ≡ is_stop end)
-    → Went rules settings from (work ∷ []) [] to result
-went_one rules settings from to work lines (Ok done) going one all some on off = (
+    → Went honest rules settings from (work ∷ []) [] to result
+went_one honest rules settings from to work lines (Ok done) going one all some on off = (
   record {
     done = work ∷ [];
     said = lines ∷ [];
@@ -141,7 +141,7 @@ went_one rules settings from to work lines (Ok done) going one all some on off =
   },
   on,
 )
-went_one rules settings from to work lines (Err end) going one all some on off =
+went_one honest rules settings from to work lines (Err end) going one all some on off =
     let few : length some.1 ≤ length lines = omega (arith, length-append some.0 some.1, ap (λ (t : List Line). length t) some.2) in (
       [],
       some.1,
@@ -161,20 +161,20 @@ went_one rules settings from to work lines (Err end) going one all some on off =
     )
 
 -- The same works, written otherwise.
-pub went_is : {S Payload : Type 0} (rules : Rules S Payload) (settings : Serving) (from to : Stand S) (xs ys : List Work) (came : List Arrival) (result : Result (Unit {0}) Halt)
-    → ys ≡ xs → Went rules settings from xs came to result → Went rules settings from ys came to result
-went_is rules settings from to xs ys came result is p = subst (λ (t : List Work). Went rules settings from t came to result) (sym is) p
+pub went_is : {S Payload : Type 0} (honest : Bool) (rules : Rules S Payload) (settings : Serving) (from to : Stand S) (xs ys : List Work) (came : List Arrival) (result : Result (Unit {0}) Halt)
+    → ys ≡ xs → Went honest rules settings from xs came to result → Went honest rules settings from ys came to result
+went_is honest rules settings from to xs ys came result is p = subst (λ (t : List Work). Went honest rules settings from t came to result) (sym is) p
 
 -- All these works were done, and then it went on.
-pub went_then : {S Payload : Type 0} (rules : Rules S Payload) (settings : Serving) (from mid to : Stand S) (xs ys : List Work) (came more : List Arrival) (result : Result (Unit {0}) Halt)
-    → Ran rules settings from xs came mid [] [] → Went rules settings mid ys more to result → Went rules settings from (xs ++ ys) (came ++ more) to result
-went_then rules settings from mid to xs ys came more (Ok done) p q = (ran_then rules settings from mid to xs ys came more [] [] p q.0, q.1)
-went_then rules settings from mid to xs ys came more (Err end) p q = (q.0, q.1, ran_then rules settings from mid to xs ys came more q.0 q.1 p q.2, q.3)
+pub went_then : {S Payload : Type 0} (honest : Bool) (rules : Rules S Payload) (settings : Serving) (from mid to : Stand S) (xs ys : List Work) (came more : List Arrival) (result : Result (Unit {0}) Halt)
+    → Ran honest rules settings from xs came mid [] [] → Went honest rules settings mid ys more to result → Went honest rules settings from (xs ++ ys) (came ++ more) to result
+went_then honest rules settings from mid to xs ys came more (Ok done) p q = (ran_then honest rules settings from mid to xs ys came more [] [] p q.0, q.1)
+went_then honest rules settings from mid to xs ys came more (Err end) p q = (q.0, q.1, ran_then honest rules settings from mid to xs ys came more q.0 q.1 p q.2, q.3)
 
 -- An end among these works is an end with others behind them.
-pub went_stop : {S Payload : Type 0} (rules : Rules S Payload) (settings : Serving) (from to : Stand S) (xs ys : List Work) (came : List Arrival) (end : Halt)
-    → Went rules settings from xs came to (Err end) → Went rules settings from (xs ++ ys) came to (Err end)
-went_stop rules settings from to xs ys came end p =
+pub went_stop : {S Payload : Type 0} (honest : Bool) (rules : Rules S Payload) (settings : Serving) (from to : Stand S) (xs ys : List Work) (came : List Arrival) (end : Halt)
+    → Went honest rules settings from xs came to (Err end) → Went honest rules settings from (xs ++ ys) came to (Err end)
+went_stop honest rules settings from to xs ys came end p =
     let r = p.2 in (
       p.0 ++ ys,
       p.1,
@@ -194,27 +194,27 @@ went_stop rules settings from to xs ys came end p =
     )
 
 -- All these works were done, and an end came among those behind them, of which others are left.
-pub went_end : {S Payload : Type 0} (rules : Rules S Payload) (settings : Serving) (from mid to : Stand S) (xs ys others all : List Work) (end : Halt) (result : Result (Unit {0}) Halt)
+pub went_end : {S Payload : Type 0} (honest : Bool) (rules : Rules S Payload) (settings : Serving) (from mid to : Stand S) (xs ys others all : List Work) (end : Halt) (result : Result (Unit {0}) Halt)
     → all ≡ xs ++ (ys ++ others) → result ≡ Err end
-    → Ran rules settings from xs [] mid [] [] → Went rules settings mid ys [] to (Err end) → Went rules settings from all [] to result
-went_end {S} rules settings from mid to xs ys others all end result is bad p q =
-    subst (λ (r : Result (Unit {0}) Halt). Went rules settings from all [] to r) (sym bad)
-    (went_is rules settings from to (xs ++ (ys ++ others)) all [] (Err end) is
-    (went_then rules settings from mid to xs (ys ++ others) [] [] (Err end) p (went_stop rules settings mid to ys others [] end q)))
+    → Ran honest rules settings from xs [] mid [] [] → Went honest rules settings mid ys [] to (Err end) → Went honest rules settings from all [] to result
+went_end {S} honest rules settings from mid to xs ys others all end result is bad p q =
+    subst (λ (r : Result (Unit {0}) Halt). Went honest rules settings from all [] to r) (sym bad)
+    (went_is honest rules settings from to (xs ++ (ys ++ others)) all [] (Err end) is
+    (went_then honest rules settings from mid to xs (ys ++ others) [] [] (Err end) p (went_stop honest rules settings mid to ys others [] end q)))
 
 -- An end came among the first works.
-pub went_first : {S Payload : Type 0} (rules : Rules S Payload) (settings : Serving) (from to : Stand S) (ys others all : List Work) (end : Halt) (result : Result (Unit {0}) Halt)
-    → all ≡ ys ++ others → result ≡ Err end → Went rules settings from ys [] to (Err end) → Went rules settings from all [] to result
-went_first {S} rules settings from to ys others all end result is bad q =
-    subst (λ (r : Result (Unit {0}) Halt). Went rules settings from all [] to r) (sym bad)
-    (went_is rules settings from to (ys ++ others) all [] (Err end) is (went_stop rules settings from to ys others [] end q))
+pub went_first : {S Payload : Type 0} (honest : Bool) (rules : Rules S Payload) (settings : Serving) (from to : Stand S) (ys others all : List Work) (end : Halt) (result : Result (Unit {0}) Halt)
+    → all ≡ ys ++ others → result ≡ Err end → Went honest rules settings from ys [] to (Err end) → Went honest rules settings from all [] to result
+went_first {S} honest rules settings from to ys others all end result is bad q =
+    subst (λ (r : Result (Unit {0}) Halt). Went honest rules settings from all [] to r) (sym bad)
+    (went_is honest rules settings from to (ys ++ others) all [] (Err end) is (went_stop honest rules settings from to ys others [] end q))
 
 -- Memory ran out before the works behind were begun.
-pub went_none : {S Payload : Type 0} (rules : Rules S Payload) (settings : Serving) (from to : Stand S) (xs ys all : List Work) (end : Halt) (result : Result (Unit {0}) Halt)
-    → all ≡ xs ++ ys → result ≡ Err end → is_stop end ≡ false → to.moment.desk.over ≡ None → Ran rules settings from xs [] to [] [] → Went rules settings from all [] to result
-went_none {S} rules settings from to xs ys all end result is bad free going p =
-    subst (λ (r : Result (Unit {0}) Halt). Went rules settings from all [] to r) (sym bad)
-    (ys, [], ran_undone rules settings from to xs ys all [] is p, ap is_stopped going ∙ sym free)
+pub went_none : {S Payload : Type 0} (honest : Bool) (rules : Rules S Payload) (settings : Serving) (from to : Stand S) (xs ys all : List Work) (end : Halt) (result : Result (Unit {0}) Halt)
+    → all ≡ xs ++ ys → result ≡ Err end → is_stop end ≡ false → to.moment.desk.over ≡ None → Ran honest rules settings from xs [] to [] [] → Went honest rules settings from all [] to result
+went_none {S} honest rules settings from to xs ys all end result is bad free going p =
+    subst (λ (r : Result (Unit {0}) Halt). Went honest rules settings from all [] to r) (sym bad)
+    (ys, [], ran_undone honest rules settings from to xs ys all [] is p, ap is_stopped going ∙ sym free)
 
 -- ---- single works
 

@@ -1,5 +1,5 @@
 -- How far a serve came with what there was to do.
-use Rattle.std.specs.Prelude.{◌≡◌, ◌≤◌, ℕ, List, [], ◌++◌, map, length, Bool, true, false, Option, None, Some, unwrap_or, Result, Ok, Err}
+use Rattle.std.specs.Prelude.{◌≡◌, ◌≤◌, ℕ, List, [], ◌++◌, map, length, Bool, true, false, IsTrue, Option, None, Some, unwrap_or, Result, Ok, Err}
 use Rattle.std.specs.List.{flat_map, last_or}
 use Rattle.gl_outside.specs.Link.{Arrival, Exchange, arrivals}
 use Rattle.gl_serve.specs.declared.desk.Halt.{Halt}
@@ -37,7 +37,7 @@ last_lines said = unwrap_or (last_or None said) []
 
 -- Works were done, up to some that were not begun, and what they said was sent, up to some lines of
 -- the last one that was done.
-pub record Ran {S Payload : Type 0} (rules : Rules S Payload) (settings : Serving)
+pub record Ran {S Payload : Type 0} (honest : Bool) (rules : Rules S Payload) (settings : Serving)
     (from : Stand S) (todo : List Work) (given : List Arrival) (to : Stand S)
     (undone : List Work) (unsent : List Line) : Type 0 where
   -- the works that were done, and the lines of each
@@ -45,9 +45,9 @@ pub record Ran {S Payload : Type 0} (rules : Rules S Payload) (settings : Servin
   pub said : List (List Line)
   pub works : todo ≡ done ++ undone
   pub does : Does rules settings from.moment done said to.moment
-  -- what went over the link
+  -- what went over the link, and an honest link's history shows it
   pub exchanges : List Exchange
-  pub history : to.past ≡ from.past ++ exchanges
+  pub history : IsTrue honest → to.past ≡ from.past ++ exchanges
   pub lines : all_lines said ≡ map line_of exchanges ++ unsent
   pub cut : length unsent ≤ length (last_lines said)
   pub came : arrivals exchanges ≡ given
@@ -64,13 +64,13 @@ is_stopped None = false
 is_stopped (Some halt) = is_stop halt
 
 -- All works were done, or an end came in between: it tells whether an event stopped the node.
-abbrev pub Went : {S Payload : Type 0} → Rules S Payload → Serving → Stand S → List Work →
+abbrev pub Went : {S Payload : Type 0} → Bool → Rules S Payload → Serving → Stand S → List Work →
     List Arrival → Stand S → Result (Unit {0}) Halt → Type 0
-Went rules settings from works came to (Ok done) =
-    Ran rules settings from works came to [] [] × (to.moment.desk.over ≡ None)
-Went rules settings from works came to (Err end) =
+Went honest rules settings from works came to (Ok done) =
+    Ran honest rules settings from works came to [] [] × (to.moment.desk.over ≡ None)
+Went honest rules settings from works came to (Err end) =
     (undone : List Work) × (unsent : List Line)
-    × Ran rules settings from works came to undone unsent
+    × Ran honest rules settings from works came to undone unsent
     × (is_stopped to.moment.desk.over ≡ is_stop end)
 
 -- How a serve ends that can't go on.

@@ -1,5 +1,5 @@
 -- What was sent over a link, and what was lost of it.
-use Rattle.std.specs.Prelude.{◌≡◌, ◌⊎◌, ◌≤◌, ℕ, List, [], ◌∷◌, ◌++◌, map, true, false}
+use Rattle.std.specs.Prelude.{◌≡◌, ◌⊎◌, ◌≤◌, ℕ, List, [], ◌∷◌, ◌++◌, map, Bool, true, false, IsTrue}
 use Rattle.gl_outside.specs.Fault.{Rose, next_call}
 use Rattle.gl_outside.specs.Link.{Exchange, Gave, Sent, arrivals}
 use Rattle.gl_serve.specs.Doing.{Line, Came, Out}
@@ -16,20 +16,20 @@ counted lost (Gave arrival ∷ more) = counted lost more
 counted lost (Sent true conn frame ∷ more) = counted lost more
 counted lost (Sent false conn frame ∷ more) = counted (next_call lost) more
 
--- These lines were sent, and the lost ones counted.
-pub record Sends (before : List Exchange) (lost : ℕ) (after : List Exchange) (lost_now : ℕ)
+-- These lines were sent, and the lost ones counted. An honest link's history shows them.
+pub record Sends (honest : Bool) (before : List Exchange) (lost : ℕ) (after : List Exchange) (lost_now : ℕ)
     (lines : List Line) : Type 0 where
   pub exchanges : List Exchange
-  pub history : after ≡ before ++ exchanges
+  pub history : IsTrue honest → after ≡ before ++ exchanges
   pub sent : map line_of exchanges ≡ lines
   pub counts : lost_now ≡ counted lost exchanges
   pub came : arrivals exchanges ≡ []
 
 -- The first of them were.
-abbrev pub SendsSome : List Exchange → ℕ → List Exchange → ℕ → List Line → Type 0
-SendsSome before lost after lost_now lines =
+abbrev pub SendsSome : Bool → List Exchange → ℕ → List Exchange → ℕ → List Line → Type 0
+SendsSome honest before lost after lost_now lines =
     (first : List Line) × (unsent : List Line) × (lines ≡ first ++ unsent)
-    × Sends before lost after lost_now first
+    × Sends honest before lost after lost_now first
 
 -- The count of lost frames is as it was, or the link's count of failed sends rose.
 pub record Loses (lost lost_now faults faults_now : ℕ) : Type 0 where

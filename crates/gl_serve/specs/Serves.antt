@@ -1,10 +1,12 @@
 -- A serve from its beginning to its end.
-use Rattle.std.specs.Prelude.{◌≡◌, ◌≤◌, ℕ, zero, suc, List, [], ◌++◌, false, None, Result, Ok, Err, IfOk}
+use Rattle.std.specs.Prelude.{◌≡◌, ◌⊎◌, ◌≤◌, ℕ, zero, suc, List, [], ◌++◌, Bool, false, IsTrue, None, Result, Ok, Err, IfOk}
 use Rattle.gl_outside.specs.Fault.{next_call}
 use Rattle.gl_outside.specs.Link.{Arrival, Exchange}
 use Rattle.gl_serve.specs.declared.desk.Desk.{Desk}
 use Rattle.gl_serve.specs.declared.desk.Halt.{Halt}
 use Rattle.gl_serve.specs.declared.desk.Halt.TheVariants as halts
+use Rattle.gl_serve.specs.declared.node.OwnEvent.{OwnEvent}
+use Rattle.gl_serve.specs.declared.node.Outcome.TheVariants.{Stopped}
 use Rattle.gl_serve.specs.declared.settings.Serving.{Serving}
 use Rattle.gl_serve.specs.declared.settings.ServeEnd.{ServeEnd}
 use Rattle.gl_serve.specs.declared.settings.ServeEnd.TheVariants as ends
@@ -24,21 +26,22 @@ course_of (Err ends.Turns) = Ok tt
 course_of (Err ends.Stopped) = Err halts.Stopped
 course_of (Err ends.NoMemory) = Err halts.NoMemory
 
--- What was ahead of the link and isn't any more came, and its works went so. The counts are those
--- of the payloads in the grammar, and of the frames that were lost.
-pub record Serves {S Payload : Type 0} (rules : Rules S Payload) (settings : Serving)
+-- What came was done so, works one behind the other, and the counts are those of the payloads in the
+-- grammar and of the frames that were lost. What came is what was ahead of an honest link and isn't
+-- any more.
+pub record Serves {S Payload : Type 0} (honest : Bool) (rules : Rules S Payload) (settings : Serving)
     (first : S) (past : List Exchange) (ahead : List Arrival)
     (last : S) (now_past : List Exchange) (now_ahead : List Arrival)
     (result : Result (ℕ × ℕ) ServeEnd) : Type 0 where
   pub came : List Arrival
   pub desk : Desk
   pub lost : ℕ
-  pub went : Went rules settings
+  pub went : Went honest rules settings
       (record { moment = record { node = first; desk = first_desk }; past = past; lost = 0 })
       (script settings.peers.now [] came) came
       (record { moment = record { node = last; desk = desk }; past = now_past; lost = lost })
       (course_of result)
-  pub taken : ahead ≡ came ++ now_ahead
+  pub taken : IsTrue honest → ahead ≡ came ++ now_ahead
   pub counts : IfOk result (λ counts. (counts.0 ≡ desk.served) × (counts.1 ≡ lost))
 
 -- A count of calls after so many more, up to the last value of a u64.
@@ -49,3 +52,9 @@ calls_after (suc n) calls = calls_after n (next_call calls)
 -- So many calls were made at most.
 abbrev pub AskedAtMost : ℕ → ℕ → ℕ → Type 0
 AskedAtMost turns before now = (n : ℕ) × (n ≤ turns) × (now ≡ calls_after n before)
+
+-- An event stopped the node, from some state to this one.
+abbrev pub StoppedBy : {S Payload : Type 0} → Rules S Payload → S → Type 0
+StoppedBy {S} {Payload} rules last =
+    (old : S) × (((payload : Payload) × rules.handles old payload Stopped last)
+    ⊎ ((event : OwnEvent) × rules.owns old event Stopped last))

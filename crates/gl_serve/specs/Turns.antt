@@ -1,5 +1,5 @@
 -- One turn of a serve: what comes next, and all that it gives to do.
-use Rattle.std.specs.Prelude.{◌≡◌, ℕ, List, ◌++◌, Bool, true, false, Result, Ok, Err, OnOk}
+use Rattle.std.specs.Prelude.{◌≡◌, ℕ, List, ◌++◌, Bool, true, false, IsTrue, Result, Ok, Err, OnOk}
 use Rattle.gl_outside.specs.Link.{Arrival}
 use Rattle.gl_serve.specs.declared.desk.Halt.{Halt}
 use Rattle.gl_serve.specs.declared.desk.Turn.{Turn}
@@ -29,11 +29,11 @@ course_of_turn (Ok turn) = Ok tt
 course_of_turn (Err halt) = Err halt
 
 -- Behind what came before, something comes or nothing, and is done.
-pub record Turned {S Payload : Type 0} (rules : Rules S Payload) (settings : Serving)
+pub record Turned {S Payload : Type 0} (honest : Bool) (rules : Rules S Payload) (settings : Serving)
     (before : List Arrival) (from : Stand S) (ahead : List Arrival) (to : Stand S)
     (now_ahead : List Arrival) (kept : ℕ → Stream) (result : Result Turn Halt) : Type 0 where
   pub came : List Arrival
-  pub went : Went rules settings from (script settings.peers.now before came) came to
+  pub went : Went honest rules settings from (script settings.peers.now before came) came to
       (course_of_turn result)
   pub tracks : OnOk result (Tracks kept (before ++ came))
-  pub taken : ahead ≡ came ++ now_ahead
+  pub taken : IsTrue honest → ahead ≡ came ++ now_ahead

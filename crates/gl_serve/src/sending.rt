@@ -34,11 +34,11 @@ fn post<L: Link>(
     payload: &[u8],
 ) -> Result<(), AllocError>
     requires { length payload.now ≤ frame_limit }
-    ensures sent { IsTrue L.honest → OnOk result
-        (Sends (L.past link.old) lost.old (L.past link.new) lost.new
+    ensures sent { OnOk result
+        (Sends L.honest (L.past link.old) lost.old (L.past link.new) lost.new
         (sent_to (Some conn) payload.now)) }
-    ensures unsent { IsTrue L.honest → OnErr result
-        (Sends (L.past link.old) lost.old (L.past link.new) lost.new []) }
+    ensures unsent { OnErr result
+        (Sends L.honest (L.past link.old) lost.old (L.past link.new) lost.new []) }
     ensures inward { L.inward link.new ≡ L.inward link.old }
     ensures lost { Loses lost.old lost.new (L.send_faults link.old) (L.send_faults link.new) }
 {
@@ -70,11 +70,11 @@ fn post_message<L: Link>(
     message: &Message,
 ) -> Result<(), AllocError>
     requires { IsTrue (body_fits message.now.body) }
-    ensures sent { IsTrue L.honest → OnOk result
-        (Sends (L.past link.old) lost.old (L.past link.new) lost.new
+    ensures sent { OnOk result
+        (Sends L.honest (L.past link.old) lost.old (L.past link.new) lost.new
         (message_line peers.now message.now)) }
-    ensures unsent { IsTrue L.honest → OnErr result
-        (Sends (L.past link.old) lost.old (L.past link.new) lost.new []) }
+    ensures unsent { OnErr result
+        (Sends L.honest (L.past link.old) lost.old (L.past link.new) lost.new []) }
     ensures inward { L.inward link.new ≡ L.inward link.old }
     ensures lost { Loses lost.old lost.new (L.send_faults link.old) (L.send_faults link.new) }
 {
@@ -95,11 +95,11 @@ pub(crate) fn post_messages<L: Link>(
     messages: &[Message],
 ) -> Result<(), AllocError>
     requires { All (λ message. IsTrue (body_fits message.body)) messages.now }
-    ensures sent { IsTrue L.honest → OnOk result
-        (Sends (L.past link.old) lost.old (L.past link.new) lost.new
+    ensures sent { OnOk result
+        (Sends L.honest (L.past link.old) lost.old (L.past link.new) lost.new
         (flat_map (message_line peers.now) messages.now)) }
-    ensures some { IsTrue L.honest → OnErr result
-        (SendsSome (L.past link.old) lost.old (L.past link.new) lost.new
+    ensures some { OnErr result
+        (SendsSome L.honest (L.past link.old) lost.old (L.past link.new) lost.new
         (flat_map (message_line peers.now) messages.now)) }
     ensures inward { L.inward link.new ≡ L.inward link.old }
     ensures lost { Loses lost.old lost.new (L.send_faults link.old) (L.send_faults link.new) }
@@ -120,11 +120,11 @@ pub(crate) fn post_answer<L: Link>(
     answer: &Option<Answer>,
 ) -> Result<(), AllocError>
     requires { IfSome answer.now (λ a. IsTrue (said_fits a.said)) }
-    ensures sent { IsTrue L.honest → OnOk result
-        (Sends (L.past link.old) lost.old (L.past link.new) lost.new
+    ensures sent { OnOk result
+        (Sends L.honest (L.past link.old) lost.old (L.past link.new) lost.new
         (answer_line asker answer.now)) }
-    ensures unsent { IsTrue L.honest → OnErr result
-        (Sends (L.past link.old) lost.old (L.past link.new) lost.new []) }
+    ensures unsent { OnErr result
+        (Sends L.honest (L.past link.old) lost.old (L.past link.new) lost.new []) }
     ensures inward { L.inward link.new ≡ L.inward link.old }
     ensures lost { Loses lost.old lost.new (L.send_faults link.old) (L.send_faults link.new) }
 {

@@ -1,12 +1,13 @@
 //! A node that serves over a link, from its first turn to its end.
 
-ghost use Rattle.std.specs.Prelude.{◌≡◌, ◌⊎◌, ◌≤◌, ◌||◌, ◌++◌, ℕ, [], Err, List, IsTrue, IfOk, OnOk, is_ok};
+ghost use Rattle.std.specs.Prelude.{◌≡◌, ◌⊎◌, ◌≤◌, ◌||◌, ◌++◌, ℕ, [], Bool, Err, List, IsTrue, IfOk, OnOk, is_ok};
 ghost use Rattle.gl_outside.specs.Fault.{Rose};
-ghost use Rattle.gl_outside.specs.Link.{Arrival};
+ghost use Rattle.gl_outside.specs.Link.{Arrival, Exchange};
 ghost use Rattle.gl_messages.specs.Frames.{too_long, front, payloads, rest};
 ghost use Rattle.gl_serve.specs.Streams.{stream};
+ghost use Rattle.gl_serve.specs.declared.settings.Serving.{Serving as Settings};
 ghost use Rattle.gl_serve.specs.Works.{handled, script};
-ghost use Rattle.gl_serve.specs.Serves.{Serves, AskedAtMost, calls_after};
+ghost use Rattle.gl_serve.specs.Serves.{Serves, AskedAtMost, StoppedBy, calls_after};
 
 use crate::desk::{Desk, Session, Turn};
 use crate::node::ServedNode;
@@ -27,7 +28,7 @@ pub fn serve<L: Link, N: ServedNode>(
     requires ticks { 1 ≤ settings.now.ticks }
 
     // What came, what was done for it, and what was sent, in order.
-    ensures serves { IsTrue L.honest → Serves N.rules settings.now
+    ensures serves { Serves L.honest N.rules settings.now
         node.old (L.past link.old) (L.inward link.old).coming
         node.new (L.past link.new) (L.inward link.new).coming result }
 
@@ -76,4 +77,12 @@ pub fn law_of_whole_streams()
     // Behind a length above 2 MiB there are no more.
     ensures deaf { (bytes more : List ℕ) (len : ℕ) → front (rest bytes) ≡ too_long len →
         payloads (bytes ++ more) ≡ payloads bytes }
+{}
+
+/// A serve that ends since its node stopped does so behind an event that stopped the node.
+pub fn law_of_stops<N: ServedNode>()
+    ensures { (honest : Bool) (settings : Settings) (first last : N) (before after : List Exchange)
+        (ahead left : List Arrival) →
+        Serves honest N.rules settings first before ahead last after left (Err ServeEnd.Stopped) →
+        StoppedBy N.rules last }
 {}

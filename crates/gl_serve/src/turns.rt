@@ -27,7 +27,7 @@ fn drain<L: Link, N: ServedNode>(
     conn: u64,
 ) -> Result<(), Halt>
     requires going { session.old.desk.over ≡ None }
-    ensures went { IsTrue L.honest → Went N.rules settings.now
+    ensures went { Went L.honest N.rules settings.now
         (stand node.old session.old (L.past link.old))
         (map (Handle conn) (payloads_of (stream_at streams.old conn))) []
         (stand node.new session.new (L.past link.new)) result }
@@ -57,7 +57,7 @@ fn take_piece<L: Link, N: ServedNode>(
     bytes: &[u8],
 ) -> Result<(), Halt>
     requires going { session.old.desk.over ≡ None }
-    ensures went { IsTrue L.honest → Went N.rules settings.now
+    ensures went { Went L.honest N.rules settings.now
         (stand node.old session.old (L.past link.old))
         (map (Handle conn) (payloads_of (fed bytes.now (stream_at streams.old conn)))) []
         (stand node.new session.new (L.past link.new)) result }
@@ -85,9 +85,9 @@ pub(crate) fn turn<L: Link, N: ServedNode>(
 ) -> Result<Turn, Halt>
     requires going { session.old.desk.over ≡ None }
     requires ticks { 1 ≤ settings.now.ticks }
-    ensures turned { IsTrue L.honest → (before : List Arrival) →
+    ensures turned { (before : List Arrival) →
         Tracks (stream_at streams.old) before →
-        Turned N.rules settings.now before
+        Turned L.honest N.rules settings.now before
         (stand node.old session.old (L.past link.old)) (L.inward link.old).coming
         (stand node.new session.new (L.past link.new)) (L.inward link.new).coming
         (stream_at streams.new) result }

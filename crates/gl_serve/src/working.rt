@@ -26,11 +26,11 @@ fn finish<L: Link>(
 ) -> Result<(), Halt>
     requires going { session.old.desk.over ≡ None }
     requires fits { Fits outcome }
-    ensures sent { IsTrue L.honest → OnOk result
-        (Sends (L.past link.old) session.old.lost (L.past link.new) session.new.lost
+    ensures sent { OnOk result
+        (Sends L.honest (L.past link.old) session.old.lost (L.past link.new) session.new.lost
         (lines_of settings.now.peers.now asker outcome)) }
-    ensures some { IsTrue L.honest → OnErr result
-        (SendsSome (L.past link.old) session.old.lost (L.past link.new) session.new.lost
+    ensures some { OnErr result
+        (SendsSome L.honest (L.past link.old) session.old.lost (L.past link.new) session.new.lost
         (lines_of settings.now.peers.now asker outcome)) }
     ensures desk { session.new.desk ≡ desk_after session.old.desk outcome }
     ensures going { OnOk result (session.new.desk.over ≡ None) }
@@ -75,7 +75,7 @@ pub(crate) fn handle<L: Link, N: ServedNode>(
     payload: &[u8],
 ) -> Result<(), Halt>
     requires going { session.old.desk.over ≡ None }
-    ensures went { IsTrue L.honest → Went N.rules settings.now
+    ensures went { Went L.honest N.rules settings.now
         (stand node.old session.old (L.past link.old)) (Handle conn payload.now ∷ []) []
         (stand node.new session.new (L.past link.new)) result }
     ensures going { OnOk result (session.new.desk.over ≡ None) }
@@ -101,7 +101,7 @@ fn lead<L: Link, N: ServedNode>(
     event: OwnEvent,
 ) -> Result<(), Halt>
     requires going { session.old.desk.over ≡ None }
-    ensures went { IsTrue L.honest → Went N.rules settings.now
+    ensures went { Went L.honest N.rules settings.now
         (stand node.old session.old (L.past link.old)) (Lead event ∷ []) []
         (stand node.new session.new (L.past link.new)) result }
     ensures going { OnOk result (session.new.desk.over ≡ None) }
@@ -126,7 +126,7 @@ fn beat<L: Link, N: ServedNode>(
 ) -> Result<(), Halt>
     requires going { session.old.desk.over ≡ None }
     requires ticks { 1 ≤ settings.now.ticks }
-    ensures went { IsTrue L.honest → Went N.rules settings.now
+    ensures went { Went L.honest N.rules settings.now
         (stand node.old session.old (L.past link.old)) (Beat ∷ []) []
         (stand node.new session.new (L.past link.new)) result }
     ensures going { OnOk result (session.new.desk.over ≡ None) }
@@ -156,7 +156,7 @@ fn replicate<L: Link, N: ServedNode>(
     session: &mut Session,
 ) -> Result<(), Halt>
     requires going { session.old.desk.over ≡ None }
-    ensures went { IsTrue L.honest → Went N.rules settings.now
+    ensures went { Went L.honest N.rules settings.now
         (stand node.old session.old (L.past link.old))
         (map Lead (map Replicate settings.now.peers.now)) []
         (stand node.new session.new (L.past link.new)) result }
@@ -181,7 +181,7 @@ pub(crate) fn tick<L: Link, N: ServedNode>(
 ) -> Result<(), Halt>
     requires going { session.old.desk.over ≡ None }
     requires ticks { 1 ≤ settings.now.ticks }
-    ensures went { IsTrue L.honest → Went N.rules settings.now
+    ensures went { Went L.honest N.rules settings.now
         (stand node.old session.old (L.past link.old))
         (Beat ∷ map Lead (tick_events settings.now.peers.now)) []
         (stand node.new session.new (L.past link.new)) result }

@@ -17,6 +17,3 @@ pub use ledger_end::LedgerEnd;
 pub use ledger_state::LedgerState;
 pub use not_opening::NotOpening;
 pub use store::Store;
-
-#[cfg(test)]
-mod tests;

@@ -21,6 +21,3 @@ pub use node_key::{NodeKey, joining_node};
 pub use nodes::node_ids;
 pub use settings::Settings;
 pub use world::{World, law_of_worlds};
-
-#[cfg(test)]
-mod tests;

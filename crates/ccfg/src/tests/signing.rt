@@ -16,7 +16,7 @@ const SIGNATURE_LEN: usize = 2352;
 const SIGN: [&str; 5] = ["sign", "--identity", IDENTITY, "--member", "1"];
 
 /// How a run over a disk ends, what it writes, and the disk.
-fn run_on(
+pub fn run_on(
     alloc: Global,
     called: &[&str],
     text: &[u8],
@@ -30,7 +30,7 @@ fn run_on(
 }
 
 /// The public form of a key of a kind, of which each byte of the seed is this one, and its file.
-fn begun(alloc: Global, kind: &str, byte: u8) -> Result<(Vec<u8>, SureDisk), AllocError> {
+pub fn begun(alloc: Global, kind: &str, byte: u8) -> Result<(Vec<u8>, SureDisk), AllocError> {
     let called = ["keygen", "--kind", kind, "--types", "h5w4"];
     let (_status, form, disk) = run_on(alloc, &called, &[byte; 32], SureDisk::new(alloc))?;
     Ok((form, disk))

@@ -4,7 +4,7 @@ use Rattle.ccfg.specs.Owed.{due_of_audit, due_of_dealing, due_of_receipt, due_of
 use Rattle.gl_commands.specs.declared.task.Task.TheVariants.{Audit, Deal, Replay, Verify}
 use Rattle.ccfg.proofs.KeyLemmas.{task_due}
 use Rattle.ccfg.proofs.ShownLemmas.{diskless_due}
-use Rattle.ccfg.proofs.SigningLemmas.{signing_due}
+use Rattle.ccfg.proofs.SigningLemmas.{recover_due, signing_due}
 use Rattle.ccfg.proofs.plan.read_plan.Goals as goal
 
 pub returns-in-Replay-clause-due : goal.returns-in-Replay-clause-due
@@ -35,3 +35,7 @@ returns-in-Deal-clause-due g c =
     let members = c.as_slice.result.now in
     diskless_due c.args.task.now (Deal threshold members) (due_of_dealing threshold members) g.D.Disk.honest (g.D.Disk.bytes c.args.disk) (g.S.Source.left c.args.source.now) c.read_dealing_plan.result
     (c.in-Deal.is ∙ ap (Deal threshold) (sym c.as_slice.ensures)) (λ h given. refl) c.read_dealing_plan.ensures.due
+
+pub returns-in-Recover-clause-due : goal.returns-in-Recover-clause-due
+returns-in-Recover-clause-due g c =
+    recover_due c.args.task.now g.D.Disk.honest (g.D.Disk.bytes c.args.disk) (g.S.Source.left c.args.source.now) c.recovering_plan.result.0 c.in-Recover.is c.recovering_plan.ensures.due

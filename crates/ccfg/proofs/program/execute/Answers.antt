@@ -14,8 +14,8 @@ returns-in-Ok-clause-kept g c = λ done honest kind types asks.
     kept kind types _ c.in-Ok.plan _ _ _ (rw c.in-Ok.is at (c.read_plan-plan.ensures.kept honest kind types asks)) done c.carry_out.ensures
 
 pub returns-in-Ok-clause-signed : goal.returns-in-Ok-clause-signed
-returns-in-Ok-clause-signed g c = λ done honest signing asks.
-    spent signing _ _ c.in-Ok.plan _ _ (rw c.in-Ok.is at (c.read_plan-plan.ensures.spent honest signing asks)) done c.carry_out.ensures
+returns-in-Ok-clause-signed g c = λ done honest leaf asks.
+    spent leaf _ _ c.in-Ok.plan _ _ (rw c.in-Ok.is at (c.read_plan-plan.ensures.spent honest leaf asks)) done c.carry_out.ensures
 
 pub returns-in-Err-clause-runs : goal.returns-in-Err-clause-runs
 returns-in-Err-clause-runs g c =
@@ -23,8 +23,8 @@ returns-in-Err-clause-runs g c =
     rw c.ending.ensures (stop_runs c.in-Err.stop _ _ (λ is. h.failed (c.in-Err.is ∙ ap Err is)) (λ is. h.disk_failed (c.in-Err.is ∙ ap Err is)) (search rules) (λ text. search rules))
 
 pub returns-in-Ok-clause-spent : goal.returns-in-Ok-clause-spent
-returns-in-Ok-clause-spent g c = λ honest is signing asks.
-    spent_or_refused signing _ _ c.in-Ok.plan _ _ (rw c.in-Ok.is at (c.read_plan-plan.ensures.spent honest signing asks)) c.carry_out.ensures is
+returns-in-Ok-clause-spent g c = λ honest is leaf asks.
+    spent_or_refused leaf _ _ c.in-Ok.plan _ _ (rw c.in-Ok.is at (c.read_plan-plan.ensures.spent honest leaf asks)) c.carry_out.ensures is
 
 pub returns-in-Err-clause-spent : goal.returns-in-Err-clause-spent
-returns-in-Err-clause-spent g c = λ honest is signing asks. inr (fault_line TooMuchJson, (TooMuchJson, refl), search rules)
+returns-in-Err-clause-spent g c = λ honest is leaf asks. inr (fault_line TooMuchJson, (TooMuchJson, refl), search rules)

@@ -9,7 +9,7 @@ pub returns-in-Err-NoMemory-clause-answers : goal.returns-in-Err-NoMemory-clause
 returns-in-Err-NoMemory-clause-answers g c = memory_answers _ _ (λ text. search rules)
 
 pub returns-in-Err-NoMemory-clause-spent : goal.returns-in-Err-NoMemory-clause-spent
-returns-in-Err-NoMemory-clause-spent g c = λ honest is signing asks. inr (fault_line TooMuchJson, (TooMuchJson, refl), search rules)
+returns-in-Err-NoMemory-clause-spent g c = λ honest is task leaf asks uses. inr (fault_line TooMuchJson, (TooMuchJson, refl), search rules)
 
 pub returns-in-Err-NoMemory-clause-any_moment : goal.returns-in-Err-NoMemory-clause-any_moment
-returns-in-Err-NoMemory-clause-any_moment g c = λ honest gate signing asks. nothing_done signing _ _ _ refl
+returns-in-Err-NoMemory-clause-any_moment g c = λ honest gate task leaf asks uses. nothing_done leaf _ _ _ refl

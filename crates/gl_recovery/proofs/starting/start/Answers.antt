@@ -1,4 +1,6 @@
-use Rattle.gl_recovery.proofs.Owing.{answers_owed, fails_owed, never_blamed, no_source}
+use Rattle.std.proofs.Common.{◌≡◌}
+use Rattle.gl_base.specs.declared.or_no_memory.OrNoMemory.TheVariants.{Fault}
+use Rattle.gl_recovery.proofs.Owing.{answers_owed, fails_owed, never_blamed, never_whole, no_source}
 use Rattle.gl_recovery.proofs.starting.start.Goals as goal
 
 pub returns-in-Err-clause-told : goal.returns-in-Err-clause-told
@@ -9,3 +11,8 @@ returns-clause-told g c = answers_owed c.args.recovery c.args.by c.args.leaf _ c
 
 pub returns-clause-failed : goal.returns-clause-failed
 returns-clause-failed g c = λ is. absurd (never_blamed c.recovered_frames.result _ c.recovered_frames.ensures (no_source c.args.recovery c.args.by c.args.leaf c.in-Ok.store.ledger) is)
+
+pub returns-in-Err-clause-read_whole : goal.returns-in-Err-clause-read_whole
+returns-in-Err-clause-read_whole g c fault is whole =
+    let told : c.in-Err.error ≡ Fault fault = cc in
+    absurd (never_whole _ c.in-Err.error fault c.in-Err.ensures.read told whole)

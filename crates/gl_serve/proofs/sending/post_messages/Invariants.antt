@@ -6,7 +6,7 @@ use Rattle.gl_serve.proofs.sending.post_messages.Given as goal
 
 abbrev pub invariant-loop-message : goal.invariant-loop-message
 invariant-loop-message g l = record {
-  sent : IsTrue g.L.Link.honest → Sends (g.L.Link.past l.fn.link) l.fn.lost (g.L.Link.past l.link) l.lost (flat_map (message_line l.peers) (take l.message-index l.messages));
+  sent : Sends g.L.Link.honest (g.L.Link.past l.fn.link) l.fn.lost (g.L.Link.past l.link) l.lost (flat_map (message_line l.peers) (take l.message-index l.messages));
   inward : g.L.Link.inward l.link ≡ g.L.Link.inward l.fn.link;
   lost : Loses l.fn.lost l.lost (g.L.Link.send_faults l.fn.link) (g.L.Link.send_faults l.link);
 }

@@ -11,7 +11,7 @@ use Rattle.gl_serve.proofs.service.serve.Goals as goal
 
 pub loop-init : goal.loop-init
 loop-init g c = record {
-  served = λ h. record { came = []; ran = ran_none _ _ _ []; tracks = λ conn. c.new-streams.ensures conn ∙ sym kept_nil; taken = refl };
+  served = record { came = []; ran = ran_none _ _ _ _ []; tracks = λ conn. c.new-streams.ensures conn ∙ sym kept_nil; taken = λ h. refl };
   going = refl;
   calls = refl;
   faults = refl;
@@ -24,10 +24,10 @@ loop-preserved g c =
     let i = c.loop.invariant in
     let not_ended : is_ended (Ok c.in_ok-turn.field-0) ≡ false = ap (λ (t : Turn). is_ended (Ok t)) c.in-Took.is in
     record {
-      served = λ h.
-          let s = i.served h in
-          let t = c.in_ok-turn.ensures.turned h s.came s.tracks in
-          record { came = s.came ++ t.came; ran = (went_on _ _ _ _ _ s.came _ _ _ (Ok c.in_ok-turn.field-0) s.ran t).0; tracks = t.tracks; taken = taken_on s.came t.came _ _ _ s.taken t.taken };
+      served =
+          let s = i.served in
+          let t = c.in_ok-turn.ensures.turned s.came s.tracks in
+          record { came = s.came ++ t.came; ran = (went_on _ _ _ _ _ _ s.came _ _ _ (Ok c.in_ok-turn.field-0) s.ran t).0; tracks = t.tracks; taken = λ h. taken_on s.came t.came _ _ _ (s.taken h) (t.taken h) };
       going = c.in_ok-turn.ensures.going;
       calls = calls_on c.loop.counter _ _ _ i.calls c.in_ok-turn.ensures.calls;
       faults = c.in_ok-turn.ensures.quiet (λ failed. let took = c.in-Took.is in cc) ∙ i.faults;
@@ -36,36 +36,36 @@ loop-preserved g c =
     }
 
 pub returns-in_err-turn-clause-serves : goal.returns-in_err-turn-clause-serves
-returns-in_err-turn-clause-serves g c = λ h.
-    let s = c.loop.invariant.served h in
-    let t = c.in_err-turn.ensures.turned h s.came s.tracks in
+returns-in_err-turn-clause-serves g c =
+    let s = c.loop.invariant.served in
+    let t = c.in_err-turn.ensures.turned s.came s.tracks in
     let p = err_from_is_err_and c.from_residual.result c.from_residual.ensures.1 in
-    serves_err _ _ _ _ _ _ _ _ (s.came ++ t.came) c.turn.new.session.desk c.turn.new.session.lost c.in_err-turn.field-0.0 c.from_residual.result (p.1 ∙ ap (λ (e : ServeEnd). Err e) p.2)
-    (went_on _ _ _ _ _ s.came _ _ _ (Err c.in_err-turn.field-0.0) s.ran t) (taken_on s.came t.came _ _ _ s.taken t.taken)
+    serves_err _ _ _ _ _ _ _ _ _ (s.came ++ t.came) c.turn.new.session.desk c.turn.new.session.lost c.in_err-turn.field-0.0 c.from_residual.result (p.1 ∙ ap (λ (e : ServeEnd). Err e) p.2)
+    (went_on _ _ _ _ _ _ s.came _ _ _ (Err c.in_err-turn.field-0.0) s.ran t) (λ h. taken_on s.came t.came _ _ _ (s.taken h) (t.taken h))
 
 pub returns-in-Ended-clause-serves : goal.returns-in-Ended-clause-serves
-returns-in-Ended-clause-serves g c = λ h.
-    let s = c.loop.invariant.served h in
-    let t = c.in_ok-turn.ensures.turned h s.came s.tracks in
+returns-in-Ended-clause-serves g c =
+    let s = c.loop.invariant.served in
+    let t = c.in_ok-turn.ensures.turned s.came s.tracks in
     record {
       came = s.came ++ t.came;
       desk = c.turn.new.session.desk;
       lost = c.turn.new.session.lost;
-      went = went_on _ _ _ _ _ s.came _ _ _ (Ok c.in_ok-turn.field-0) s.ran t;
-      taken = taken_on s.came t.came _ _ _ s.taken t.taken;
+      went = went_on _ _ _ _ _ _ s.came _ _ _ (Ok c.in_ok-turn.field-0) s.ran t;
+      taken = λ h. taken_on s.came t.came _ _ _ (s.taken h) (t.taken h);
       counts = (refl, refl);
     }
 
 pub returns-in-Failed-clause-serves : goal.returns-in-Failed-clause-serves
-returns-in-Failed-clause-serves g c = λ h.
-    let s = c.loop.invariant.served h in
-    let t = c.in_ok-turn.ensures.turned h s.came s.tracks in
+returns-in-Failed-clause-serves g c =
+    let s = c.loop.invariant.served in
+    let t = c.in_ok-turn.ensures.turned s.came s.tracks in
     record {
       came = s.came ++ t.came;
       desk = c.turn.new.session.desk;
       lost = c.turn.new.session.lost;
-      went = went_on _ _ _ _ _ s.came _ _ _ (Ok c.in_ok-turn.field-0) s.ran t;
-      taken = taken_on s.came t.came _ _ _ s.taken t.taken;
+      went = went_on _ _ _ _ _ _ s.came _ _ _ (Ok c.in_ok-turn.field-0) s.ran t;
+      taken = λ h. taken_on s.came t.came _ _ _ (s.taken h) (t.taken h);
       counts = tt;
     }
 

@@ -10,12 +10,12 @@ use Rattle.gl_serve.proofs.service.serve.Given as goal
 
 abbrev pub invariant-loop : goal.invariant-loop
 invariant-loop g l = record {
-  served : IsTrue g.L.Link.honest → record {
+  served : record {
     came : List Arrival;
-    ran : Ran g.N.ServedNode.rules l.settings (record { moment = record { node = l.fn.node; desk = first_desk }; past = g.L.Link.past l.fn.link; lost = 0 }) (script l.settings.peers.now [] came) came
+    ran : Ran g.L.Link.honest g.N.ServedNode.rules l.settings (record { moment = record { node = l.fn.node; desk = first_desk }; past = g.L.Link.past l.fn.link; lost = 0 }) (script l.settings.peers.now [] came) came
         (stand l.node l.session (g.L.Link.past l.link)) [] [];
     tracks : Tracks (stream_at l.streams) came;
-    taken : (g.L.Link.inward l.fn.link).coming ≡ came ++ (g.L.Link.inward l.link).coming;
+    taken : IsTrue g.L.Link.honest → (g.L.Link.inward l.fn.link).coming ≡ came ++ (g.L.Link.inward l.link).coming;
   };
   going : l.session.desk.over ≡ None;
   calls : (g.L.Link.inward l.link).calls ≡ calls_after l.counter (g.L.Link.inward l.fn.link).calls;

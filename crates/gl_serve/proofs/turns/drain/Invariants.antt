@@ -9,7 +9,7 @@ abbrev pub invariant-loop-payload : goal.invariant-loop-payload
 invariant-loop-payload g l = record {
   done : List (List ℕ);
   payloads : payloads_of (stream_at l.fn.streams l.conn) ≡ done ++ payloads_of (stream_at l.streams l.conn);
-  ran : IsTrue g.L.Link.honest → Ran g.N.ServedNode.rules l.settings (stand l.fn.node l.fn.session (g.L.Link.past l.fn.link)) (map (Handle l.conn) done) []
+  ran : Ran g.L.Link.honest g.N.ServedNode.rules l.settings (stand l.fn.node l.fn.session (g.L.Link.past l.fn.link)) (map (Handle l.conn) done) []
       (stand l.node l.session (g.L.Link.past l.link)) [] [];
   rest : rest_of (stream_at l.fn.streams l.conn) ≡ rest_of (stream_at l.streams l.conn);
   others : (other : ℕ) → (l.conn ≡ other → ⊥) → stream_at l.streams other ≡ stream_at l.fn.streams other;

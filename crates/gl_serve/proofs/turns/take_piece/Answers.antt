@@ -6,6 +6,6 @@ use Rattle.gl_serve.proofs.WorkingLaws.{ran_none, went_none}
 use Rattle.gl_serve.proofs.turns.take_piece.Goals as goal
 
 pub returns-in_err-feed-clause-went : goal.returns-in_err-feed-clause-went
-returns-in_err-feed-clause-went g c = λ h.
+returns-in_err-feed-clause-went g c =
     let p = err_from_is_err_and c.from_residual.result c.from_residual.ensures.1 in
-    went_none _ _ _ _ [] _ _ NoMemory c.from_residual.result refl (p.1 ∙ ap (λ (e : Halt). Err e) p.2) refl c.requires.going (ran_none _ _ _ [])
+    went_none _ _ _ _ _ [] _ _ NoMemory c.from_residual.result refl (p.1 ∙ ap (λ (e : Halt). Err e) p.2) refl c.requires.going (ran_none _ _ _ _ [])

@@ -4,12 +4,12 @@ use Rattle.gl_serve.proofs.WorkingLaws.{went_one, ran_idle, event_of, lead_not, 
 use Rattle.gl_serve.proofs.working.lead.Goals as goal
 
 pub returns-then-not-session-clause-went : goal.returns-then-not-session-clause-went
-returns-then-not-session-clause-went g c = λ h.
-    (ran_idle _ _ _ _ _ c.requires.going (lead_not g.N.ServedNode.rules c.args.settings.now (record { node = c.args.node.now; desk = c.args.session.now.desk }) c.args.event c.if-not-session.true), c.requires.going)
+returns-then-not-session-clause-went g c =
+    (ran_idle _ _ _ _ _ _ c.requires.going (lead_not g.N.ServedNode.rules c.args.settings.now (record { node = c.args.node.now; desk = c.args.session.now.desk }) c.args.event c.if-not-session.true), c.requires.going)
 
 pub returns-clause-went : goal.returns-clause-went
-returns-clause-went g c = λ h.
-    went_one _ _ _ _ _ (lines_of c.args.settings.now.peers.now None c.own-outcome.result) c.finish.result c.requires.going
+returns-clause-went g c =
+    went_one _ _ _ _ _ _ (lines_of c.args.settings.now.peers.now None c.own-outcome.result) c.finish.result c.requires.going
     (lead_does g.N.ServedNode.rules c.args.settings.now (record { node = c.args.node.now; desk = c.args.session.now.desk }) c.args.event _ _ c.if-not-session.false
     (event_of _ _ _ _ c.finish.new.session.desk c.own-outcome.result c.own-outcome.new.self c.own-outcome.ensures.done c.finish.ensures.desk))
-    (c.finish.ensures.sent h) (c.finish.ensures.some h) c.finish.ensures.going c.finish.ensures.end
+    c.finish.ensures.sent c.finish.ensures.some c.finish.ensures.going c.finish.ensures.end

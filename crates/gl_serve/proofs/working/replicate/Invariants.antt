@@ -7,7 +7,7 @@ use Rattle.gl_serve.proofs.working.replicate.Given as goal
 
 abbrev pub invariant-loop-peer : goal.invariant-loop-peer
 invariant-loop-peer g l = record {
-  ran : IsTrue g.L.Link.honest → Ran g.N.ServedNode.rules l.settings (stand l.fn.node l.fn.session (g.L.Link.past l.fn.link)) (map Lead (map Replicate (take l.peer-index l.settings.peers.now))) []
+  ran : Ran g.L.Link.honest g.N.ServedNode.rules l.settings (stand l.fn.node l.fn.session (g.L.Link.past l.fn.link)) (map Lead (map Replicate (take l.peer-index l.settings.peers.now))) []
       (stand l.node l.session (g.L.Link.past l.link)) [] [];
   going : l.session.desk.over ≡ None;
   inward : g.L.Link.inward l.link ≡ g.L.Link.inward l.fn.link;

@@ -1,0 +1,110 @@
+//! What there is to do where a service is to be founded anew: the key file of its first node is
+//! opened, and the ledger that opens the service made with the next leaf of the key, which the file
+//! then keeps as spent.
+
+ghost use Rattle.std.specs.Prelude.{◌≡◌, ◌≢◌, Err, IfOk, IsTrue, false};
+ghost use Rattle.gl_ledger_file.specs.Given.{OfBytes};
+ghost use Rattle.gl_journal.specs.Durable.{OpensToOneOf, journal_header};
+ghost use Rattle.gl_journal.specs.Parts.{HasGate};
+ghost use Rattle.gl_journal.specs.declared.key.KeyKind.TheVariants.{Node};
+ghost use Rattle.gl_keyfile.specs.KeyFile.{IsOpened, any_frame, disk_of, held};
+ghost use Rattle.gl_keyfile.specs.Leaf.{after_leaf};
+ghost use Rattle.gl_keyfile.specs.declared.leaf.LeafUse.TheVariants.{Start};
+ghost use Rattle.gl_outside.specs.Disk.{Leaves};
+ghost use Rattle.gl_outside.specs.Fault.{Rose};
+ghost use Rattle.gl_recovery.specs.Recovering.{is_of_outside, is_source_read};
+ghost use Rattle.gl_recovery.specs.declared.recovering_fault.RecoveringFault.TheVariants.{DiskFailed, SourceFailed};
+ghost use Rattle.ccfg.specs.Owed.{EndsSource, OfShown, due_of_old, due_of_recovered, due_of_recovering};
+ghost use Rattle.ccfg.specs.Plans.{MovesByLeaf, OpensAsBefore, PlansPlayable, TellsFault, TellsSpent, due_of_plan};
+
+use crate::fault::Fault;
+use crate::plan::{Plan, PlanStop};
+use crate::signing::open_stop;
+use gl_base::OrNoMemory;
+use gl_journal::KeyKind;
+use gl_keyfile::KeyFile;
+use gl_outside::{Disk, Source};
+use gl_recovery::{RecoveringFault, recover};
+use std::alloc::Global;
+
+/// What there is to do where no service is founded anew.
+fn unfounded_plan(fault: RecoveringFault) -> Result<Plan, PlanStop>
+    ensures due { IfOk result (λ plan. due_of_recovered (Err fault) ≡ due_of_plan plan) }
+    ensures told { IfOk result (λ plan. TellsFault plan × (is_of_outside fault ≡ false)) }
+    ensures read { IfOk result (λ plan. (due_of_plan plan).whole ≡ is_source_read fault) }
+    ensures playable { IfOk result (λ plan. PlansPlayable plan) }
+    ensures disk_failed { result ≡ Err PlanStop.DiskFailed → fault ≡ DiskFailed }
+    ensures source_failed { result ≡ Err PlanStop.SourceFailed → fault ≡ SourceFailed }
+{
+    match fault {
+        RecoveringFault::SourceFailed => Err(PlanStop::SourceFailed),
+        RecoveringFault::DiskFailed => Err(PlanStop::DiskFailed),
+        fault => Ok(Plan::Refuse(Fault::Recovering(fault))),
+    }
+}
+
+/// What there is to do with what a source gives, by which a service is to be founded anew with the
+/// key of a node's file.
+fn plan_with_node_key<S: Source, D: Disk>(
+    alloc: Global,
+    source: &mut S,
+    file: KeyFile<D>,
+) -> (Result<Plan, PlanStop>, D)
+    requires open { IsTrue D.honest → IsOpened D.bytes D.past file }
+    requires kind { (held file).key.kind ≡ Node }
+    ensures due { IfOk result.0 (λ plan. OfBytes (S.left source.old) (λ given.
+        due_of_old (held file) given ≡ due_of_plan plan)) }
+    ensures ended { IfOk result.0 (λ plan. EndsSource (due_of_plan plan) (S.ended source.new)) }
+    ensures playable { IfOk result.0 (λ plan. PlansPlayable plan) }
+    ensures failed { result.0 ≡ Err PlanStop.SourceFailed →
+        Rose (S.faults source.old) (S.faults source.new) }
+    ensures disk_failed { result.0 ≡ Err PlanStop.DiskFailed →
+        Rose (D.faults (disk_of file)) (D.faults result.1) }
+    ensures spent { IsTrue D.honest → IfOk result.0 (λ plan.
+        TellsSpent Start (D.bytes (disk_of file)) (D.past result.1) plan) }
+    ensures refused { IfOk result.0 (λ plan. TellsFault plan → result.1 ≡ disk_of file) }
+    ensures stopped { result.0 ≡ Err PlanStop.SourceFailed → result.1 ≡ disk_of file }
+    ensures any_moment { IsTrue D.honest →
+        Leaves (OpensToOneOf any_frame (held file) (after_leaf Start (held file)))
+        (D.past (disk_of file)) (D.past result.1) }
+{
+    let (told, disk) = recover(alloc, source, file);
+    match told {
+        Ok(told) => (Ok(Plan::Tell(told)), disk),
+        Err(OrNoMemory::Fault(fault)) => (unfounded_plan(fault), disk),
+        Err(OrNoMemory::NoMemory) => (Err(PlanStop::Memory), disk),
+    }
+}
+
+/// What there is to do with what a source gives, by which a service is to be founded anew with the
+/// key of the disk's file. Where the disk has no key file of a node, the source isn't read. Where
+/// the plan is to tell something, the file keeps that its leaf is spent; where it is to tell a
+/// fault, or the source failed, the file opens to what it opened to.
+pub fn recovering_plan<S: Source, D: Disk>(
+    alloc: Global,
+    source: &mut S,
+    disk: D,
+) -> (Result<Plan, PlanStop>, D)
+    ensures due { IfOk result.0 (λ plan. OfShown D.honest (D.bytes disk) (λ shown.
+        OfBytes (S.left source.old) (λ given.
+        due_of_recovering shown.opens given ≡ due_of_plan plan))) }
+    ensures ended { IfOk result.0 (λ plan. EndsSource (due_of_plan plan) (S.ended source.new)) }
+    ensures playable { IfOk result.0 (λ plan. PlansPlayable plan) }
+    ensures failed { result.0 ≡ Err PlanStop.SourceFailed →
+        Rose (S.faults source.old) (S.faults source.new) }
+    ensures disk_failed { result.0 ≡ Err PlanStop.DiskFailed →
+        Rose (D.faults disk) (D.faults result.1) }
+    ensures spent { IsTrue D.honest → IfOk result.0 (λ plan.
+        TellsSpent Start (D.bytes disk) (D.past result.1) plan) }
+    ensures refused { IsTrue D.honest → IfOk result.0 (λ plan. TellsFault plan →
+        OpensAsBefore (D.bytes disk) (D.bytes result.1)) }
+    ensures stopped { IsTrue D.honest → result.0 ≡ Err PlanStop.SourceFailed →
+        OpensAsBefore (D.bytes disk) (D.bytes result.1) }
+    ensures any_moment { IsTrue D.honest → HasGate journal_header (D.bytes disk) →
+        MovesByLeaf Start (D.bytes disk) (D.past disk) (D.past result.1) }
+{
+    match KeyFile::open(alloc, disk, KeyKind::Node) {
+        Ok(file) => plan_with_node_key(alloc, source, file),
+        Err((error, disk)) => (open_stop(error), disk),
+    }
+}

@@ -1,0 +1,22 @@
+//! Replies by hand.
+
+use crate::given_bytes;
+use gl_gov_rules::{ProposalState, ProposalStatus};
+use gl_ledger::Given;
+use std::test::Fail;
+
+#[test]
+fn answers_governance(rt: HostRuntime) -> Result<(), Fail> {
+    let alloc = rt.alloc();
+    let none = given_bytes(alloc, &Given::Governed(None))?;
+    assert_eq!(rt; none.len(), 0);
+    let status = ProposalStatus {
+        id: [7; 32],
+        state: ProposalState::Accepted,
+    };
+    let proposal = given_bytes(alloc, &Given::Governed(Some(status)))?;
+    assert_eq!(rt; proposal.len(), 33);
+    assert_eq!(rt; proposal.as_slice().first(), Some(&7));
+    assert_eq!(rt; proposal.as_slice().last(), Some(&2));
+    Ok(())
+}

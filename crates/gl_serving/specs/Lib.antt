@@ -1,0 +1,10 @@
+pub mod Answering
+pub mod Events
+pub mod Hearing
+pub mod Life
+pub mod OverLink
+pub mod NoEntries
+pub mod Payloads
+pub mod Requests
+pub mod Serving
+pub mod Types

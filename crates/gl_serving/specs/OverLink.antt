@@ -1,0 +1,9 @@
+-- What a serve leaves of its node's file.
+use Rattle.std.specs.Prelude.{◌≡◌, ◌≤◌, ℕ, List, Ok}
+use Rattle.gl_journal.specs.Durable.{Durable, GoesOn, durable}
+
+-- An image opens to a state with the same key, and with no fewer spent leaves.
+abbrev pub KeepsLeaves : GoesOn → Durable → List ℕ → Type 0
+KeepsLeaves goes_on d image =
+    (now : Durable) × (durable goes_on image ≡ Ok now) × (now.key ≡ d.key)
+    × (d.reserved ≤ now.reserved)

@@ -59,6 +59,8 @@ writes_fault (faults.Recovering (recoverings.NotFirstNode want got)) w all = (re
 writes_fault (faults.Recovering (recoverings.KeyExhausted reserved)) w all = (refl, all)
 writes_fault (faults.Recovering (recoverings.Recovery fault)) w all = (refl, all)
 writes_fault (faults.Recovering recoverings.DiskFailed) w all = (refl, all)
+writes_fault (faults.Opening fault) w all = (refl, all)
+writes_fault (faults.Turns turns) w all = (refl, all)
 
 -- bytes of which more were read than the limit
 pub of_more : (old new : Option (List ℕ)) (text : List ℕ) (limit : ℕ) → Consumes old new text → limit < length text → OfBytes old (λ g. limit < length g)
@@ -132,6 +134,8 @@ no_fault_done (faults.Recovering (recoverings.NotFirstNode want got)) is = cc
 no_fault_done (faults.Recovering (recoverings.KeyExhausted reserved)) is = cc
 no_fault_done (faults.Recovering (recoverings.Recovery fault)) is = cc
 no_fault_done (faults.Recovering recoverings.DiskFailed) is = cc
+no_fault_done (faults.Opening fault) is = cc
+no_fault_done (faults.Turns turns) is = cc
 
 -- a plan that was carried out under a key
 accepted_by : (identity : List ℕ) (plan : Plan) (w : Written) (g : List ℕ) → ShowsAccepted (tasks.Verify identity) g plan → WritesDue endings.Done w (due_of_plan plan) → TellsAccepted identity g w.held w.holds
@@ -197,6 +201,7 @@ due_runs endings.OtherWords r owed plan is ends writes = owes_due endings.OtherW
 due_runs endings.SourceFailed r owed plan is ends writes = absurd writes
 due_runs endings.SinkFailed r owed plan is ends writes = owes_due endings.SinkFailed r owed (due_of_plan plan) is writes
 due_runs endings.DiskFailed r owed plan is ends writes = absurd writes
+due_runs endings.LinkFailed r owed plan is ends writes = absurd writes
 due_runs endings.Memory r owed plan is ends writes = owes_due endings.Memory r owed (due_of_plan plan) is writes
 due_runs endings.PastLimit r owed plan is ends writes = reads_due endings.PastLimit r owed (due_of_plan plan) is ends writes
 due_runs endings.NoReading r owed plan is ends writes = reads_due endings.NoReading r owed (due_of_plan plan) is ends writes
@@ -226,6 +231,7 @@ no_answer_refused text w endings.OtherWords writes is = let q : endings.Done ≡
 no_answer_refused text w endings.PastLimit writes is = let q : endings.Done ≡ endings.PastLimit = writes.0 in cc
 no_answer_refused text w endings.SourceFailed writes is = writes
 no_answer_refused text w endings.DiskFailed writes is = writes
+no_answer_refused text w endings.LinkFailed writes is = writes
 no_answer_refused text w endings.SinkFailed writes (inl is) = cc
 no_answer_refused text w endings.SinkFailed writes (inr (inl is)) = cc
 no_answer_refused text w endings.SinkFailed writes (inr (inr (inl is))) = cc

@@ -8,3 +8,6 @@ pub mod AnswerLemmas
 pub mod MeaningLemmas
 mod PromiseLemmas
 pub mod RecoveringLemmas
+pub mod Beginnings
+pub mod NodeRuns
+pub mod NodeMoments

@@ -49,6 +49,7 @@ Means task shown given endings.OtherWords text = ⊥
 Means task shown given endings.SourceFailed text = ⊥
 Means task shown given endings.SinkFailed text = ⊥
 Means task shown given endings.DiskFailed text = ⊥
+Means task shown given endings.LinkFailed text = ⊥
 Means task shown given endings.Memory text = ⊥
 Means task shown given endings.PastLimit text = IsPastLimit task shown given text
 Means task shown given endings.NoReading text = IsNoReading task shown given text

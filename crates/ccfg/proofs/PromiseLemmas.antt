@@ -11,7 +11,9 @@ use Rattle.ccfg.specs.declared.ending.Ending.TheVariants as endings
 use Rattle.ccfg.specs.declared.fault.Fault.TheVariants as faults
 use Rattle.gl_commands.specs.declared.task.Task.{Task}
 use Rattle.ccfg.specs.Faults.{fault_line}
-use Rattle.ccfg.specs.Owed.{Answers, Due, EndsSource, OfShown, OfRun, Owed, Run, Runs, Shown, WritesDue, due_of, due_of_fault, exit_status, uses_disk}
+use Rattle.gl_commands.specs.declared.task.Asked.{Asked}
+use Rattle.gl_commands.specs.declared.task.Asked.TheVariants as asks_for
+use Rattle.ccfg.specs.Owed.{Answers, asks_node, task_of, Due, EndsSource, OfShown, OfRun, Owed, Run, Runs, Shown, WritesDue, due_of, due_of_fault, exit_status, uses_disk}
 use Rattle.ccfg.specs.Promises.{IsAnswer, IsKindLine, IsPastLimit, IsRefusal, IsNoReading, Tells, TellsFront}
 use Rattle.ccfg.proofs.ShownLemmas.{both_map, from_both, shown_any, shown_map, if_told, some_map, whatever_told}
 use Rattle.ccfg.proofs.MeaningLemmas.{Means, answer_ends, limit_ends, means, refusal_ends, unread_ends}
@@ -66,6 +68,7 @@ kinds_end endings.OtherWords r kinds a = inl (refl, (fault_line (faults.Words a.
 kinds_end endings.SourceFailed r kinds a = absurd a.2
 kinds_end endings.SinkFailed r kinds a = inr (inl refl, (fault_line (faults.Words a.0), (a.0, a.1, refl), a.2.1))
 kinds_end endings.DiskFailed r kinds a = absurd a.2
+kinds_end endings.LinkFailed r kinds a = absurd a.2
 kinds_end endings.Memory r kinds a = inr (inr refl, (fault_line (faults.Words a.0), (a.0, a.1, refl), a.2))
 kinds_end endings.PastLimit r kinds a = absurd (let q : endings.OtherWords ≡ endings.PastLimit = a.2.0 in cc)
 kinds_end endings.NoReading r kinds a = absurd (let q : endings.OtherWords ≡ endings.NoReading = a.2.0 in cc)
@@ -123,16 +126,25 @@ status_reading : (e : Ending) → exit_status e ≡ 9 → e ≡ endings.NoReadin
 status_reading endings.NoReading is = refl
 status_reading e is = absurd (omega (arith, is))
 
-pub never : (e : Ending) → exit_status e ≢ 6
-never endings.Done is = omega (arith, is)
-never endings.NotValid is = omega (arith, is)
-never endings.OtherWords is = omega (arith, is)
-never endings.SourceFailed is = omega (arith, is)
-never endings.SinkFailed is = omega (arith, is)
-never endings.DiskFailed is = omega (arith, is)
-never endings.Memory is = omega (arith, is)
-never endings.PastLimit is = omega (arith, is)
-never endings.NoReading is = omega (arith, is)
+no_link : (asks : Result Task Kinds) (e : Ending) (r : Run) → Answers asks e r → e ≢ endings.LinkFailed
+no_link (Ok task) endings.LinkFailed r a is = a
+no_link (Err kinds) endings.LinkFailed r a is = a.2
+no_link asks endings.Done r a is = absurd cc
+no_link asks endings.NotValid r a is = absurd cc
+no_link asks endings.OtherWords r a is = absurd cc
+no_link asks endings.SourceFailed r a is = absurd cc
+no_link asks endings.SinkFailed r a is = absurd cc
+no_link asks endings.DiskFailed r a is = absurd cc
+no_link asks endings.Memory r a is = absurd cc
+no_link asks endings.PastLimit r a is = absurd cc
+no_link asks endings.NoReading r a is = absurd cc
+
+status_link : (e : Ending) → exit_status e ≡ 6 → e ≡ endings.LinkFailed
+status_link endings.LinkFailed is = refl
+status_link e is = absurd (omega (arith, is))
+
+pub never : (asks : Result Task Kinds) (e : Ending) (r : Run) → Answers asks e r → exit_status e ≢ 6
+never asks e r a is = no_link asks e r a (status_link e is)
 
 -- 0
 pub done : (asks : Result Task Kinds) (e : Ending) (r : Run) → Answers asks e r → exit_status e ≡ 0 →
@@ -313,6 +325,7 @@ due_end e r owed runs = go e runs
     go endings.OtherWords runs = told endings.OtherWords runs
     go endings.SourceFailed runs = whatever r (λ h g. EndsBy (exit_status (owed h g).ending) 3) (λ h g. inr (inl refl))
     go endings.SinkFailed runs = whatever r (λ h g. EndsBy (exit_status (owed h g).ending) 4) (λ h g. inr (inr (inl refl)))
+    go endings.LinkFailed runs = absurd runs
     go endings.DiskFailed runs = whatever r (λ h g. EndsBy (exit_status (owed h g).ending) 5) (λ h g. inr (inr (inr (inl refl))))
     go endings.Memory runs = whatever r (λ h g. EndsBy (exit_status (owed h g).ending) 7) (λ h g. inr (inr (inr (inr refl))))
     go endings.PastLimit runs = told endings.PastLimit (all_written endings.PastLimit r owed runs)
@@ -358,3 +371,14 @@ complete asks e r a task is source sink disk =
     go owed (inr (inr (inl is))) = absurd (sink (sink_failed asks e r a is))
     go owed (inr (inr (inr (inl is)))) = absurd (disk (disk_ended asks e r a is).0)
     go owed (inr (inr (inr (inr is)))) = inr is
+
+-- Words that ask for no node
+pub is_task : (a : Result Asked Kinds) (task : Task) → task_of a ≡ Ok task → a ≡ Ok (asks_for.Task task)
+is_task (Err kinds) task e = absurd cc
+is_task (Ok (asks_for.Task other)) task e = cc
+is_task (Ok (asks_for.Node node)) task e = absurd cc
+
+pub is_nothing : (a : Result Asked Kinds) (kinds : Kinds) → asks_node a ≡ false → task_of a ≡ Err kinds → a ≡ Err kinds
+is_nothing (Err other) kinds none e = cc
+is_nothing (Ok (asks_for.Task task)) kinds none e = absurd cc
+is_nothing (Ok (asks_for.Node node)) kinds none e = absurd cc

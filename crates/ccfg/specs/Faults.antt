@@ -1,6 +1,8 @@
 -- The one line that tells why words or bytes are refused.
 use Rattle.std.specs.Prelude.{ℕ, List, ◌++◌, codes, decimal}
 use Rattle.hex.specs.Hex.{encode_lower}
+use Rattle.gl_book.specs.declared.node_file.fault.OpeningFault.{OpeningFault}
+use Rattle.gl_book.specs.declared.node_file.fault.OpeningFault.TheVariants as openings
 use Rattle.gl_consortium.specs.declared.fault.SigningFault.{SigningFault}
 use Rattle.gl_consortium.specs.declared.fault.SigningFault.TheVariants as signing
 use Rattle.gl_fault_lines.specs.Texts.{bad_action_text, form_text, journal_text, key_kinds_text, kind_name, nodes_text, receipt_text}
@@ -44,6 +46,13 @@ recovering_text (recovering.KeyExhausted reserved) = codes "KeyExhausted " ++ de
 recovering_text (recovering.Recovery fault) = recovery_text fault
 recovering_text recovering.DiskFailed = codes "DiskFailed"
 
+-- Why a node doesn't begin.
+abbrev pub opening_text : OpeningFault → List ℕ
+opening_text (openings.Journal fault) = journal_text fault
+opening_text (openings.KeyKind want got) = key_kinds_text want got
+opening_text (openings.NotOpening seqno) = codes "NotOpening " ++ decimal seqno
+opening_text (openings.TooLarge size) = codes "TooLarge " ++ decimal size
+
 abbrev pub fault_text : Fault → List ℕ
 fault_text (faults.Words kind) = kind_name kind
 fault_text faults.TooManyBytes = codes "bytes 16777216"
@@ -63,6 +72,8 @@ fault_text (faults.KeyKind want got) = key_kinds_text want got
 fault_text faults.BadDealing = codes "BadAction 0 10"
 fault_text (faults.Signing fault) = signing_text fault
 fault_text (faults.Recovering fault) = recovering_text fault
+fault_text (faults.Opening fault) = opening_text fault
+fault_text (faults.Turns turns) = codes "turns " ++ decimal turns
 
 -- The line.
 abbrev pub fault_line : Fault → List ℕ

@@ -2,3 +2,4 @@ pub mod Faults
 pub mod Owed
 pub mod Promises
 pub mod Plans
+pub mod Nodes

@@ -1,8 +1,9 @@
 -- What a run of the program owes to its words, its disk and its source: how it ends, and what it
 -- writes.
-use Rattle.std.specs.Prelude.{◌≡◌, ℕ, zero, suc, List, ◌++◌, Option, None, Some, Result, Ok, Err, Bool, true, false, ◌==◌, codes, drop, length, nat_lt, take, if◌then◌else◌}
+use Rattle.std.specs.Prelude.{◌≡◌, ℕ, zero, suc, List, [], ◌++◌, Option, None, Some, Result, Ok, Err, Bool, true, false, ◌==◌, codes, drop, length, nat_lt, take, if◌then◌else◌}
 use Rattle.std.specs.Io.KnownBytes.{Appends, Keeps}
 use Rattle.clap.specs.Kinds.{Kinds, IsAmong}
+use Rattle.clap.specs.Walk.{Text}
 use Rattle.clap.specs.declared.error.kind.ErrorKind.{ErrorKind}
 use Rattle.gl_base.specs.TxId.{text_of}
 use Rattle.gl_base.specs.declared.json.FormsFault.{FormsFault}
@@ -50,8 +51,11 @@ use Rattle.ccfg.specs.declared.ending.Ending.TheVariants as endings
 use Rattle.gl_schedule.specs.declared.schedule.Schedule.{Schedule}
 use Rattle.ccfg.specs.declared.plan.PlanStop.{PlanStop}
 use Rattle.ccfg.specs.declared.plan.PlanStop.TheVariants as stops
+use Rattle.gl_commands.specs.declared.task.Asked.{Asked}
+use Rattle.gl_commands.specs.declared.task.Asked.TheVariants as asks
 use Rattle.gl_commands.specs.declared.task.Task.{Task}
 use Rattle.gl_commands.specs.declared.task.Task.TheVariants as tasks
+use Rattle.gl_commands.specs.Words.{asked}
 use Rattle.ccfg.specs.Faults.{fault_line}
 use Rattle.gl_schedule.specs.Schedules.{reads}
 use Rattle.gl_schedule.specs.Told.{text_of_schedule}
@@ -63,6 +67,7 @@ exit_status endings.OtherWords = 2
 exit_status endings.SourceFailed = 3
 exit_status endings.SinkFailed = 4
 exit_status endings.DiskFailed = 5
+exit_status endings.LinkFailed = 6
 exit_status endings.Memory = 7
 exit_status endings.PastLimit = 8
 exit_status endings.NoReading = 9
@@ -97,6 +102,8 @@ ending_of_fault (faults.KeyKind want got) = endings.NotValid
 ending_of_fault faults.BadDealing = endings.NotValid
 ending_of_fault (faults.Signing fault) = endings.NotValid
 ending_of_fault (faults.Recovering fault) = ending_of_recovering fault
+ending_of_fault (faults.Opening fault) = endings.NotValid
+ending_of_fault (faults.Turns turns) = endings.PastLimit
 
 -- How a run ends that has no plan of what to do.
 abbrev pub ending_of_stop : PlanStop → Ending
@@ -126,6 +133,8 @@ is_read_whole (faults.KeyKind want got) = false
 is_read_whole faults.BadDealing = true
 is_read_whole (faults.Signing fault) = true
 is_read_whole (faults.Recovering fault) = is_source_read fault
+is_read_whole (faults.Opening fault) = false
+is_read_whole (faults.Turns turns) = false
 
 -- What is owed
 
@@ -326,6 +335,22 @@ due_of (tasks.Deal threshold members) shown given = due_of_dealing threshold mem
 due_of (tasks.Sign signing) shown given = due_of_signing signing shown.opens given
 due_of tasks.Recover shown given = due_of_recovering shown.opens given
 
+-- What words ask for that don't ask for a node. That a node serves is no task: it has promises of
+-- its own.
+abbrev pub task_of : Result Asked Kinds → Result Task Kinds
+task_of (Err kinds) = Err kinds
+task_of (Ok (asks.Task task)) = Ok task
+task_of (Ok (asks.Node node)) = Err []
+
+abbrev pub asks_node : Result Asked Kinds → Bool
+asks_node (Err kinds) = false
+asks_node (Ok (asks.Task task)) = false
+asks_node (Ok (asks.Node node)) = true
+
+-- The words ask for no node.
+abbrev pub AsksNoNode : List Text → Type 0
+AsksNoNode words = asks_node (asked words) ≡ false
+
 -- Whether a task uses the disk.
 abbrev pub uses_disk : Task → Bool
 uses_disk tasks.Replay = false
@@ -370,6 +395,7 @@ Writes e w due = (due.ending ≡ e) × Appends w.held w.holds due.text
 abbrev pub WritesDue : Ending → Written → Due → Type 0
 WritesDue endings.SourceFailed w due = ⊥
 WritesDue endings.DiskFailed w due = ⊥
+WritesDue endings.LinkFailed w due = ⊥
 WritesDue endings.SinkFailed w due =
     Rose w.faults w.faults_now × AppendsFront w.held w.holds due.text
 WritesDue endings.Memory w due = AppendsFront w.held w.holds due.text
@@ -426,6 +452,7 @@ Runs endings.SourceFailed r due =
     Rose r.faults r.faults_now × Keeps r.written.held r.written.holds
 Runs endings.DiskFailed r due =
     Rose r.disk.faults r.disk.faults_now × Keeps r.written.held r.written.holds
+Runs endings.LinkFailed r due = ⊥
 Runs endings.Done r due = (r.ended ≡ true) × Owes endings.Done r due
 Runs endings.NotValid r due = OwesRead endings.NotValid r due
 Runs endings.OtherWords r due = Owes endings.OtherWords r due

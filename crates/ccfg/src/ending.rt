@@ -15,6 +15,7 @@ pub enum Ending {
     SourceFailed,
     SinkFailed,
     DiskFailed,
+    LinkFailed,
     Memory,
     /// The bytes pass a limit.
     PastLimit,
@@ -34,6 +35,7 @@ impl Ending {
             Ending::SourceFailed => 3,
             Ending::SinkFailed => 4,
             Ending::DiskFailed => 5,
+            Ending::LinkFailed => 6,
             Ending::Memory => 7,
             Ending::PastLimit => 8,
             Ending::NoReading => 9,

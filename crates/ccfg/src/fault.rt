@@ -1,12 +1,13 @@
 //! Why words or bytes are refused, and the one line that tells it.
 
 ghost use Rattle.std.specs.Prelude.{◌≡◌, ◌++◌, IfOk, OnOk, codes, decimal};
-ghost use Rattle.ccfg.specs.Faults.{fault_line, fault_text, recovering_text, recovery_text, signing_text};
+ghost use Rattle.ccfg.specs.Faults.{fault_line, fault_text, opening_text, recovering_text, recovery_text, signing_text};
 ghost use Rattle.ccfg.specs.Owed.{ending_of_fault, ending_of_recovering};
 
 use crate::ending::Ending;
 use clap::error::ErrorKind;
 use gl_base::FormsFault;
+use gl_book::OpeningFault;
 use gl_consortium::SigningFault;
 use gl_fault_lines::{
     kind_name, put_bad_action, put_form, put_hex, put_journal, put_key_kinds, put_named, put_nodes,
@@ -55,6 +56,10 @@ pub enum Fault {
     Signing(SigningFault),
     /// No service is founded anew.
     Recovering(RecoveringFault),
+    /// The file has no node, or the node can't begin with the opening ledger.
+    Opening(OpeningFault),
+    /// The link was asked so often as it may be, and gave no end.
+    Turns { turns: u64 },
 }
 
 fn put_signing(alloc: Global, out: &mut Vec<u8>, fault: &SigningFault) -> Result<(), AllocError>
@@ -113,6 +118,18 @@ fn put_recovering(
     }
 }
 
+/// Why a node doesn't begin.
+fn put_opening(out: &mut Vec<u8>, fault: OpeningFault) -> Result<(), AllocError>
+    ensures { OnOk result (out.new.items ≡ out.old.items ++ opening_text fault) }
+{
+    match fault {
+        OpeningFault::Journal(fault) => put_journal(out, fault),
+        OpeningFault::KeyKind { want, got } => put_key_kinds(out, want, got),
+        OpeningFault::NotOpening { seqno } => put_named(out, "NotOpening ", seqno),
+        OpeningFault::TooLarge { size } => put_named(out, "TooLarge ", size),
+    }
+}
+
 /// How a run ends that tells why no service is founded anew.
 fn recovering_ending(fault: &RecoveringFault) -> Ending
     ensures { result ≡ ending_of_recovering fault.now }
@@ -168,6 +185,8 @@ impl Fault {
             Fault::BadDealing => out.extend_from_slice(b"BadAction 0 10"),
             Fault::Signing(fault) => put_signing(alloc, out, fault),
             Fault::Recovering(fault) => put_recovering(alloc, out, fault),
+            Fault::Opening(fault) => put_opening(out, *fault),
+            Fault::Turns { turns } => put_named(out, "turns ", *turns),
         }
     }
 
@@ -187,7 +206,8 @@ impl Fault {
     {
         match self {
             Fault::Words(_) => Ending::OtherWords,
-            Fault::TooManyBytes | Fault::TooManyLines | Fault::TooMuchJson => Ending::PastLimit,
+            Fault::TooManyBytes | Fault::TooManyLines | Fault::TooMuchJson | Fault::Turns { .. } =>
+                Ending::PastLimit,
             Fault::BadLine(_) | Fault::Form(_) | Fault::Short { .. } | Fault::Trailing { .. } => {
                 Ending::NoReading
             }
@@ -198,7 +218,8 @@ impl Fault {
             | Fault::Journal(_)
             | Fault::KeyKind { .. }
             | Fault::BadDealing
-            | Fault::Signing(_) => Ending::NotValid,
+            | Fault::Signing(_)
+            | Fault::Opening(_) => Ending::NotValid,
             Fault::Recovering(fault) => recovering_ending(fault),
         }
     }

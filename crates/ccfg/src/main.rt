@@ -7,6 +7,7 @@ mod fault;
 mod keygen;
 mod ledger_plan;
 mod load;
+mod node;
 mod output;
 mod plan;
 mod program;
@@ -19,12 +20,18 @@ mod verify;
 use ending::Ending;
 use gl_commands::{HELP, VERSION};
 use gl_file::FileDisk;
-use gl_outside::{OpenGate, Sink, SinkFault, StreamSink, StreamSource, SureLink, write_whole};
+use gl_net::TcpLink;
+use gl_outside::{OpenGate, Sink, SinkFault, StreamSink, StreamSource, write_whole};
 use gl_progress::WatchedSource;
+use gl_serving::{Observer, Standing};
 use std::alloc::{AllocError, Global};
 use std::io::IsTerminal;
+use std::net::SocketAddr;
 use std::process::ExitCode;
 use std::{env, io};
+
+/// How many milliseconds a tick lasts.
+const TICK: u32 = 100;
 
 /// The words behind the program's name. One that is no text stands for no words at all, since no
 /// command has such a word.
@@ -36,17 +43,39 @@ fn words_behind_name(rt: &HostRuntime) -> Result<Vec<String>, AllocError> {
     }
 }
 
-/// The path of the disk's file, if leading words name it, the last of them if several do; and the
-/// words behind them.
-fn disk_and_words(words: &[String]) -> (Option<&str>, &[String]) {
-    let mut path = None;
+/// What leading words name, and the words behind them.
+#[derive(Drop)]
+struct Invocation<'a> {
+    /// The path of the disk's file, the last one if several are named.
+    disk: Option<&'a str>,
+    /// The address to listen at, the last one if several are named.
+    listen: Option<&'a str>,
+    /// The addresses of the peers, in their order.
+    peers: Vec<&'a str>,
+    words: &'a [String],
+}
+
+fn invocation_of(alloc: Global, words: &[String]) -> Result<Invocation<'_>, AllocError> {
+    let mut called = Invocation {
+        disk: None,
+        listen: None,
+        peers: Vec::new(alloc),
+        words: &[],
+    };
     for (index, word) in words.iter().enumerate() {
-        match word.as_str().strip_prefix("@disk=") {
-            Some(named) => path = Some(named),
-            None => return (path, &words[index..]),
+        let word = word.as_str();
+        if let Some(path) = word.strip_prefix("@disk=") {
+            called.disk = Some(path);
+        } else if let Some(address) = word.strip_prefix("@listen=") {
+            called.listen = Some(address);
+        } else if let Some(address) = word.strip_prefix("@peer=") {
+            called.peers.push(address)?;
+        } else {
+            called.words = &words[index..];
+            return Ok(called);
         }
     }
-    (path, &[])
+    Ok(called)
 }
 
 /// The disk over the file at a path. Without one each of its calls fails.
@@ -57,6 +86,64 @@ fn disk_at(rt: &HostRuntime, path: Option<&str>) -> FileDisk {
             file: None,
             faults: 0,
         },
+    }
+}
+
+/// The addresses that these words are, if each is one.
+fn addresses(alloc: Global, words: &[&str]) -> Result<Option<Vec<SocketAddr>>, AllocError> {
+    let mut found = Vec::new(alloc);
+    for word in words {
+        match word.parse::<SocketAddr>() {
+            Ok(address) => found.push(address)?,
+            Err(_) => return Ok(None),
+        }
+    }
+    Ok(Some(found))
+}
+
+/// The link over sockets: it listens at an address and connects to the peers. Without an address,
+/// or where it can't listen there, each call of the link fails.
+fn link_at<'a>(
+    rt: &'a HostRuntime,
+    called: &Invocation<'_>,
+) -> Result<TcpLink<'a, HostRuntime>, AllocError> {
+    let Some(listen) = called.listen else {
+        return Ok(TcpLink::none());
+    };
+    let Ok(listen) = listen.parse::<SocketAddr>() else {
+        return Ok(TcpLink::none());
+    };
+    let Some(peers) = addresses(rt.alloc(), &called.peers)? else {
+        return Ok(TcpLink::none());
+    };
+    Ok(TcpLink::new(rt, rt.alloc(), listen, &peers, TICK).unwrap_or(TcpLink::none()))
+}
+
+/// Tells on standard error where a link listens, and where its peers do.
+fn tell_link(rt: &HostRuntime, link: &TcpLink<'_, HostRuntime>, called: &Invocation<'_>) {
+    let Some(address) = link.local_addr() else {
+        return;
+    };
+    let _told = eprint!(rt; "listens at {address}\n");
+    for (index, peer) in called.peers.iter().enumerate() {
+        let _told = eprint!(rt; "peer {index} at {peer}\n");
+    }
+}
+
+/// Tells on standard error where a node stands, in a line of its own, each time that this changed.
+#[derive(Drop)]
+struct StandingLines<'a> {
+    rt: &'a HostRuntime,
+    told: Option<Standing>,
+}
+
+impl Observer for StandingLines<'_> {
+    fn observe(&mut self, standing: Standing) {
+        if self.told == Some(standing) {
+            return;
+        }
+        let _told = eprint!(self.rt; "{standing}\n");
+        self.told = Some(standing);
     }
 }
 
@@ -85,25 +172,28 @@ fn is_audit(words: &[String]) -> bool {
     matches!(words, [command, ..] if command.as_str() == "audit")
 }
 
-/// The exit status of a run over the standard streams and the disk. An audit tells at a terminal
-/// how far it is.
+/// The exit status of a run over the standard streams, the disk and the link. An audit tells at a
+/// terminal how far it is, a link where it listens, and a node where it stands.
 fn status(rt: &HostRuntime) -> Result<u8, AllocError> {
     let all = words_behind_name(rt)?;
-    let (path, words) = disk_and_words(&all);
+    let called = invocation_of(rt.alloc(), &all)?;
+    let words = called.words;
     let mut sink = StreamSink::new(io::writer(rt));
     if let Some(text) = told_of_itself(rt.alloc(), words)? {
         return Ok(print(text.as_str(), &mut sink).status());
     }
     let told = rt.stderr().is_terminal() && is_audit(words);
     let mut source = WatchedSource::new(StreamSource::new(rt.reader()), rt, told);
-    let mut link = SureLink::new(rt.alloc(), &[]);
+    let mut link = link_at(rt, &called)?;
+    tell_link(rt, &link, &called);
     let (status, _disk) = program::top(
         rt.alloc(),
         words,
         &mut source,
         &mut sink,
-        disk_at(rt, path),
+        disk_at(rt, called.disk),
         &mut link,
+        StandingLines { rt, told: None },
         &OpenGate,
     );
     Ok(status)

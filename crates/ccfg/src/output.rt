@@ -77,7 +77,7 @@ fn show_ledger<K: Sink>(alloc: Global, last: TxId, signed: Option<TxId>, sink: &
 }
 
 /// Tells an answer as it is.
-fn tell<K: Sink>(text: &[u8], sink: &mut K) -> Ending
+pub(crate) fn tell<K: Sink>(text: &[u8], sink: &mut K) -> Ending
     ensures { WritesDue result (record {
       held = K.holds sink.old;
       holds = K.holds sink.new;

@@ -2,6 +2,7 @@
 
 use crate::program::top;
 use gl_outside::{Disk, NoDisk, OpenGate, Sink, Source, SureLink, SureSink, SureSource};
+use gl_serving::Unobserved;
 use std::alloc::{AllocError, Global};
 
 mod audits;
@@ -41,7 +42,7 @@ fn to_words(alloc: Global, words: &[&str]) -> Result<Vec<String>, AllocError> {
 }
 
 /// The status of a run over a disk, which it gives back, and a link on which nothing comes.
-fn status_on<S: Source, K: Sink, D: Disk + Send>(
+fn status_on<S: Source, K: Sink, D: Disk + Drop + Send>(
     alloc: Global,
     called: &[String],
     source: &mut S,
@@ -49,7 +50,9 @@ fn status_on<S: Source, K: Sink, D: Disk + Send>(
     disk: D,
 ) -> (u8, D) {
     let mut link = SureLink::new(alloc, &[]);
-    top(alloc, called, source, sink, disk, &mut link, &OpenGate)
+    top(
+        alloc, called, source, sink, disk, &mut link, Unobserved, &OpenGate,
+    )
 }
 
 /// The status of a run without a disk.

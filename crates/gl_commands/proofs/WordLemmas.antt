@@ -1,5 +1,5 @@
 -- What words ask for, and that of those which ask for nothing some kind of fault is told.
-use Rattle.std.proofs.Common.{◌≡◌, ◌<◌, ◌^◌, ℕ, zero, suc, ◌+◌, ◌++◌, Bor, length, get_or, take, nat_le, nat_lt, arith, List, [], ◌∷◌, Bool, true, false, Option, None, Some, Result, Ok, Err, IfOk, IfErr, ◌&&◌, map, if◌then◌else◌, refl, ap, ◌∙◌, ◌⊎◌, inl, inr, subst, sym, codes}
+use Rattle.std.proofs.Common.{◌≡◌, ◌<◌, ◌^◌, ◌-◌, ℕ, zero, suc, ◌+◌, ◌++◌, Bor, length, get_or, is_some, take, unwrap_or, nat_le, nat_lt, arith, List, [], ◌∷◌, Bool, true, false, Option, None, Some, Result, Ok, Err, IfOk, IfErr, ◌&&◌, map, if◌then◌else◌, refl, ap, ◌∙◌, ◌⊎◌, inl, inr, subst, sym, codes}
 use Rattle.std.specs.List.{list_all}
 use Rattle.std.specs.Str.{bytes_eq}
 use Rattle.std.specs.Str.Parse.{AllDigits, ParsesUnsigned, digits_value}
@@ -24,10 +24,12 @@ use Rattle.gl_lines.specs.Words.{hex_sized}
 use Rattle.gl_lines.specs.declared.fault.LineFault.{LineFault}
 use Rattle.gl_lines.proofs.NumberLemmas.{decimal_digits}
 use Rattle.gl_lms.specs.declared.types.Types.{Types}
-use Rattle.gl_commands.specs.Commands.{diskless_program, keyless_program, program, signing_program}
+use Rattle.gl_commands.specs.Commands.{diskless_program, keyless_program, nodeless_program, program}
 use Rattle.gl_commands.specs.declared.task.WordsFault.{WordsFault}
 use Rattle.gl_commands.specs.declared.task.WordsFault.TheVariants.{NoMemory, Refused}
-use Rattle.gl_commands.specs.Words.{Refuses, RefusesOnly, RefusesWords, asked, asked_command, asked_deal, asked_dealing, asked_identity, asked_key, asked_keygen, asked_member, asked_name, asked_number, asked_numbers, asked_options, asked_request, asked_sign, asked_under, asked_with_identity, asked_with_words, is_member, is_number, named_kind, named_types, plain_task, spelled_key, spelled_member, unless_faulty, unless_plain, valid_value}
+use Rattle.gl_commands.specs.Words.{Refuses, RefusesOnly, RefusesWords, as_node, as_task, asked, asked_by_node, asked_command, asked_deal, asked_dealing, asked_identity, asked_key, asked_keygen, asked_member, asked_name, asked_named, asked_node, asked_number, asked_numbers, asked_options, asked_peers, asked_request, asked_serving, asked_sign, asked_task, asked_ticks, asked_turns, asked_under, asked_with_identity, asked_with_words, asked_workers, is_member, is_node, is_number, named_kind, named_node, named_types, node_of, number_within, plain_task, spelled_key, spelled_member, unless_faulty, unless_plain, valid_value}
+use Rattle.gl_commands.specs.declared.task.Asked.{Asked}
+use Rattle.gl_commands.specs.declared.task.NodeTask.{NodeTask}
 use Rattle.gl_commands.specs.declared.task.Task.{Task}
 
 -- Some kind is told, if the words ask for nothing.
@@ -120,17 +122,17 @@ number_parsed {E = E} word r decimal parses =
     go false is (Err e) h = refl
 
 -- what the reading of one word says of it
-pub some_number : (word : Text) (n : ℕ) → Some n ≡ (if is_number word then Some (digits_value 10 word) else None) → (is_number word ≡ true) × (n ≡ digits_value 10 word)
-some_number word n = go (is_number word)
+pub some_value : {A : Type 0} (test : Text → Bool) (value : Text → A) (word : Text) (v : A) → Some v ≡ (if test word then Some (value word) else None) → (test word ≡ true) × (v ≡ value word)
+some_value {A = A} test value word v = go (test word)
   where
-    go : (b : Bool) → Some n ≡ (if b then Some (digits_value 10 word) else None) → (b ≡ true) × (n ≡ digits_value 10 word)
+    go : (b : Bool) → Some v ≡ (if b then Some (value word) else None) → (b ≡ true) × (v ≡ value word)
     go true is = (refl, cc)
     go false is = cc
 
-pub no_number : (word : Text) → None ≡ (if is_number word then Some (digits_value 10 word) else None) → is_number word ≡ false
-no_number word = go (is_number word)
+pub no_value : {A : Type 0} (test : Text → Bool) (value : Text → A) (word : Text) → ◌≡◌ {A = Option A} None (if test word then Some (value word) else None) → test word ≡ false
+no_value {A = A} test value word = go (test word)
   where
-    go : (b : Bool) → None ≡ (if b then Some (digits_value 10 word) else None) → b ≡ false
+    go : (b : Bool) → ◌≡◌ {A = Option A} None (if b then Some (value word) else None) → b ≡ false
     go true is = cc
     go false is = refl
 
@@ -138,33 +140,51 @@ no_number word = go (is_number word)
 abbrev pub now_of : List (Bor Text) → List Text
 now_of words = map (λ s. s.now) words
 
--- one word more that spells a number
-pub one_number : (words : List (Bor Text)) (i : ℕ) (d : Bor Text) (numbers new : List ℕ) (n : ℕ) → i < length words → Some n ≡ (if is_number (get_or words i d).now then Some (digits_value 10 (get_or words i d).now) else None) →
-    new ≡ numbers ++ n ∷ [] → list_all is_number (now_of (take i words)) ≡ true → numbers ≡ map (digits_value 10) (now_of (take i words)) →
-    (list_all is_number (now_of (take (i + 1) words)) ≡ true) × (new ≡ map (digits_value 10) (now_of (take (i + 1) words)))
-one_number words i d numbers new n within found pushed all read =
+-- one word more that spells a value
+pub one_more : {A : Type 0} (test : Text → Bool) (value : Text → A) (words : List (Bor Text)) (i : ℕ) (d : Bor Text) (values new : List A) (v : A) → i < length words → Some v ≡ (if test (get_or words i d).now then Some (value (get_or words i d).now) else None) →
+    new ≡ values ++ v ∷ [] → list_all test (now_of (take i words)) ≡ true → values ≡ map value (now_of (take i words)) →
+    (list_all test (now_of (take (i + 1) words)) ≡ true) × (new ≡ map value (now_of (take (i + 1) words)))
+one_more {A = A} test value words i d values new v within found pushed all read =
     let word : Text = (get_or words i d).now in
     let texts : now_of (take (i + 1) words) ≡ now_of (take i words) ++ word ∷ [] = ap now_of (take_more words i d within) ∙ map-append (λ (s : Bor Text). s.now) (take i words) (get_or words i d ∷ []) in
-    let number = some_number word n found in (
-      ap (list_all is_number) texts ∙ list_all-append is_number (now_of (take i words)) (word ∷ []) ∙ and_from (list_all is_number (now_of (take i words))) (is_number word && true) all (and_from (is_number word) true number.0 refl),
-      pushed ∙ ap (λ (l : List ℕ). l ++ n ∷ []) read ∙ ap (λ (m : ℕ). map (digits_value 10) (now_of (take i words)) ++ m ∷ []) number.1
-          ∙ sym (map-append (digits_value 10) (now_of (take i words)) (word ∷ [])) ∙ ap (map (digits_value 10)) (sym texts),
+    let spelled = some_value test value word v found in (
+      ap (list_all test) texts ∙ list_all-append test (now_of (take i words)) (word ∷ []) ∙ and_from (list_all test (now_of (take i words))) (test word && true) all (and_from (test word) true spelled.0 refl),
+      pushed ∙ ap (λ (l : List A). l ++ v ∷ []) read ∙ ap (λ (m : A). map value (now_of (take i words)) ++ m ∷ []) spelled.1
+          ∙ sym (map-append value (now_of (take i words)) (word ∷ [])) ∙ ap (map value) (sym texts),
     )
 
 -- a word that spells none
-pub not_all : (words : List (Bor Text)) (i : ℕ) (d : Bor Text) → i < length words → is_number (get_or words i d).now ≡ false → list_all is_number (now_of words) ≡ false
-not_all [] i d inside other = absurd (omega (arith, inside))
-not_all (first ∷ words) zero d inside other = ap (λ (b : Bool). b && list_all is_number (now_of words)) other
-not_all (first ∷ words) (suc i) d inside other = ap (λ (b : Bool). is_number first.now && b) (not_all words i d (omega (arith, inside)) other) ∙ and_false (is_number first.now)
+pub not_all : (test : Text → Bool) (words : List (Bor Text)) (i : ℕ) (d : Bor Text) → i < length words → test (get_or words i d).now ≡ false → list_all test (now_of words) ≡ false
+not_all test [] i d inside other = absurd (omega (arith, inside))
+not_all test (first ∷ words) zero d inside other = ap (λ (b : Bool). b && list_all test (now_of words)) other
+not_all test (first ∷ words) (suc i) d inside other = ap (λ (b : Bool). test first.now && b) (not_all test words i d (omega (arith, inside)) other) ∙ and_false (test first.now)
 
--- so the words spell no numbers
-pub none_of : (words : List (Bor Text)) (i : ℕ) (d : Bor Text) → i < length words → None ≡ (if is_number (get_or words i d).now then Some (digits_value 10 (get_or words i d).now) else None) →
-    ◌≡◌ {A = Option (List ℕ)} None (if list_all is_number (now_of words) then Some (map (digits_value 10) (now_of words)) else None)
-none_of words i d inside none = go (list_all is_number (now_of words)) (not_all words i d inside (no_number (get_or words i d).now none))
+-- so the words don't spell values
+pub none_of : {A : Type 0} (test : Text → Bool) (value : Text → A) (words : List (Bor Text)) (i : ℕ) (d : Bor Text) → i < length words → ◌≡◌ {A = Option A} None (if test (get_or words i d).now then Some (value (get_or words i d).now) else None) →
+    ◌≡◌ {A = Option (List A)} None (if list_all test (now_of words) then Some (map value (now_of words)) else None)
+none_of {A = A} test value words i d inside none = go (list_all test (now_of words)) (not_all test words i d inside (no_value test value (get_or words i d).now none))
   where
-    go : (b : Bool) → b ≡ false → ◌≡◌ {A = Option (List ℕ)} None (if b then Some (map (digits_value 10) (now_of words)) else None)
+    go : (b : Bool) → b ≡ false → ◌≡◌ {A = Option (List A)} None (if b then Some (map value (now_of words)) else None)
     go true is = cc
     go false is = refl
+
+-- the identifier that a word spells, by whether it spells one
+pub named_as : (word : Text) → named_node word ≡ (if is_node word then Some (node_of word) else None)
+named_as word = go (named_node word)
+  where
+    go : (found : Option (List ℕ)) → found ≡ (if is_some found then Some (unwrap_or found []) else None)
+    go None = refl
+    go (Some node) = refl
+
+-- one word more that spells an identifier, and one that spells none
+pub one_node : (words : List (Bor Text)) (i : ℕ) (d : Bor Text) (nodes new : List (List ℕ)) (node : List ℕ) → i < length words → Some node ≡ named_node (get_or words i d).now →
+    new ≡ nodes ++ node ∷ [] → list_all is_node (now_of (take i words)) ≡ true → nodes ≡ map node_of (now_of (take i words)) →
+    (list_all is_node (now_of (take (i + 1) words)) ≡ true) × (new ≡ map node_of (now_of (take (i + 1) words)))
+one_node words i d nodes new node within found pushed all read = one_more is_node node_of words i d nodes new node within (found ∙ named_as (get_or words i d).now) pushed all read
+
+pub no_nodes : (words : List (Bor Text)) (i : ℕ) (d : Bor Text) → i < length words → None ≡ named_node (get_or words i d).now →
+    ◌≡◌ {A = Option (List (List ℕ))} None (if list_all is_node (now_of words) then Some (map node_of (now_of words)) else None)
+no_nodes words i d inside none = none_of is_node node_of words i d inside (none ∙ named_as (get_or words i d).now)
 
 kind_of_request : (key : Result (List ℕ) Kinds) (member : Result ℕ Kinds) → HasKind key → HasKind member → HasKind (asked_request key member)
 kind_of_request (Err told) member k m = k
@@ -211,6 +231,34 @@ kind_of_dealing (Err told) members t m = t
 kind_of_dealing (Ok threshold) (Err told) t m = m
 kind_of_dealing (Ok threshold) (Ok members) t m = tt
 
+kind_of_within : (default least greatest : ℕ) (word : Option Text) → HasKind (number_within default least greatest word)
+kind_of_within default least greatest None = tt
+kind_of_within default least greatest (Some word) = go (is_number word && nat_le least (digits_value 10 word) && nat_le (digits_value 10 word) greatest)
+  where
+    go : (b : Bool) → HasKind (if b then Ok (digits_value 10 word) else Err (kinds.ValueValidation ∷ []))
+    go true = tt
+    go false = (kinds.ValueValidation, inl refl)
+
+kind_of_peers : (words : Option (List Text)) → HasKind (asked_peers words)
+kind_of_peers None = tt
+kind_of_peers (Some words) = go (list_all is_node words)
+  where
+    go : (b : Bool) → HasKind (if b then Ok (map node_of words) else Err (kinds.ValueValidation ∷ []))
+    go true = tt
+    go false = (kinds.ValueValidation, inl refl)
+
+kind_of_serving : (ticks workers turns : Result ℕ Kinds) (peers : Result (List (List ℕ)) Kinds) → HasKind ticks → HasKind workers → HasKind turns → HasKind peers → HasKind (asked_serving ticks workers turns peers)
+kind_of_serving (Err told) workers turns peers t w n p = t
+kind_of_serving (Ok ticks) (Err told) turns peers t w n p = w
+kind_of_serving (Ok ticks) (Ok workers) (Err told) peers t w n p = n
+kind_of_serving (Ok ticks) (Ok workers) (Ok turns) (Err told) t w n p = p
+kind_of_serving (Ok ticks) (Ok workers) (Ok turns) (Ok peers) t w n p = tt
+
+kind_of_node : (ticks workers turns : Option Text) (peers : Option (List Text)) → HasKind (asked_node ticks workers turns peers)
+kind_of_node ticks workers turns peers =
+    kind_of_serving (asked_ticks ticks) (asked_workers workers) (asked_turns turns) (asked_peers peers)
+    (kind_of_within 10 1 (2 ^ 32 - 1) ticks) (kind_of_within 0 0 0 workers) (kind_of_within (2 ^ 64 - 1) 1 (2 ^ 64 - 1) turns) (kind_of_peers peers)
+
 kind_with_words : (name : Text) (rows : List Row) → HasKind (asked_with_words name rows)
 kind_with_words name rows = go (bytes_eq name (codes "deal"))
   where
@@ -220,15 +268,33 @@ kind_with_words name rows = go (bytes_eq name (codes "deal"))
         (kind_of_number (first_of (codes "threshold") rows)) (kind_of_numbers (all_of (codes "members") rows))
     go false = kind_of_options name rows
 
+kind_of_task : (name : Text) (rows : List Row) → HasKind (asked_task name rows)
+kind_of_task name rows = go (plain_task name)
+  where
+    go : (plain : Option Task) → HasKind (unless_plain plain (asked_with_words name rows))
+    go (Some task) = tt
+    go None = kind_with_words name rows
+
+kind_as_task : (asked : Result Task Kinds) → HasKind asked → HasKind (as_task asked)
+kind_as_task (Ok task) has = tt
+kind_as_task (Err told) has = has
+
+kind_as_node : (asked : Result NodeTask Kinds) → HasKind asked → HasKind (as_node asked)
+kind_as_node (Ok node) has = tt
+kind_as_node (Err told) has = has
+
+kind_of_named : (name : Text) (rows : List Row) → HasKind (asked_named name rows)
+kind_of_named name rows = go (bytes_eq name (codes "node"))
+  where
+    go : (b : Bool) → HasKind (if b then as_node (asked_by_node rows) else as_task (asked_task name rows))
+    go true = kind_as_node (asked_by_node rows) (kind_of_node (first_of (codes "ticks") rows) (first_of (codes "workers") rows) (first_of (codes "turns") rows) (all_of (codes "peers") rows))
+    go false = kind_as_task (asked_task name rows) (kind_of_task name rows)
+
 kind_of_command : (command : Option (Text × List Row)) → HasKind (asked_command command)
 kind_of_command None = (kinds.MissingSubcommand, inl refl)
-kind_of_command (Some command) = go (plain_task command.0)
-  where
-    go : (plain : Option Task) → HasKind (unless_plain plain (asked_with_words command.0 command.1))
-    go (Some task) = tt
-    go None = kind_with_words command.0 command.1
+kind_of_command (Some command) = kind_of_named command.0 command.1
 
-kind_of_faults : (told : Kinds) (task : Result Task Kinds) → HasKind task → HasKind (unless_faulty told task)
+kind_of_faults : (told : Kinds) (task : Result Asked Kinds) → HasKind task → HasKind (unless_faulty told task)
 kind_of_faults [] task has = has
 kind_of_faults (kind ∷ more) task has = (kind, inl refl)
 
@@ -239,11 +305,11 @@ some_kind words = kind_of_faults (fault_of program words) (asked_command (subcom
 -- The program as the library has it
 
 free : is_simple_and_free program ≡ true
-unfolding clap_on_literals program signing_program keyless_program diskless_program
+unfolding clap_on_literals program nodeless_program keyless_program diskless_program
 free = refl
 
 simple : is_simple program ≡ true
-unfolding clap_on_literals program signing_program keyless_program diskless_program
+unfolding clap_on_literals program nodeless_program keyless_program diskless_program
 simple = refl
 
 -- `keygen`, and a command that isn't it
@@ -305,12 +371,12 @@ kind_found app words kind found is same told other = go (told (ap is_simple_and_
     go (inr among) = found_kinds words kind (subst (λ (k : ErrorKind). IsAmong k (fault_of program words)) (sym same) (subst (λ (a : App). IsAmong found (fault_of a words)) is among))
 
 -- a command of the words in which the library found no fault
-pub command_found : (words : List Text) (found : Option (Text × List Row)) (r : Result Task WordsFault) → fault_of program words ≡ [] → found ≡ subcommand_of program words →
+pub command_found : (words : List Text) (found : Option (Text × List Row)) (r : Result Asked WordsFault) → fault_of program words ≡ [] → found ≡ subcommand_of program words →
     IfOk r (λ task. asked_command found ≡ Ok task) → IfOk r (λ task. asked words ≡ Ok task)
 command_found words found (Ok task) none same is = asked_found words found none same ∙ is
 command_found words found (Err fault) none same is = tt
 
-pub command_refused : (words : List Text) (found : Option (Text × List Row)) (r : Result Task WordsFault) → fault_of program words ≡ [] → found ≡ subcommand_of program words →
+pub command_refused : (words : List Text) (found : Option (Text × List Row)) (r : Result Asked WordsFault) → fault_of program words ≡ [] → found ≡ subcommand_of program words →
     IfErr r (RefusesOnly (asked_command found)) → IfErr r (RefusesWords (asked words))
 command_refused words found (Ok task) none same is = tt
 command_refused words found (Err NoMemory) none same is = tt
@@ -322,12 +388,21 @@ deal_words name rows threshold members is t m =
     ap (λ (b : Bool). if b then asked_deal (first_of (codes "threshold") rows) (all_of (codes "members") rows) else asked_options name rows) (sym is)
     ∙ ap (λ (x : Option Text). asked_deal x (all_of (codes "members") rows)) (sym t) ∙ ap (λ (x : Option (List Text)). asked_deal threshold x) (sym m)
 
+-- `node`
+pub node_words : (rows : List Row) (ticks workers turns : Option Text) (peers : Option (List Text)) →
+    ticks ≡ first_of (codes "ticks") rows → workers ≡ first_of (codes "workers") rows → turns ≡ first_of (codes "turns") rows → peers ≡ all_of (codes "peers") rows → asked_by_node rows ≡ asked_node ticks workers turns peers
+node_words rows ticks workers turns peers t w n p =
+    ap (λ (x : Option Text). asked_node x (first_of (codes "workers") rows) (first_of (codes "turns") rows) (all_of (codes "peers") rows)) (sym t)
+    ∙ ap (λ (x : Option Text). asked_node ticks x (first_of (codes "turns") rows) (all_of (codes "peers") rows)) (sym w)
+    ∙ ap (λ (x : Option Text). asked_node ticks workers x (all_of (codes "peers") rows)) (sym n)
+    ∙ ap (λ (x : Option (List Text)). asked_node ticks workers turns x) (sym p)
+
 -- what a call answers that asks the same
-pub same_task : (r : Result Task WordsFault) (asks other : Result Task Kinds) → other ≡ asks → IfOk r (λ task. asks ≡ Ok task) → IfOk r (λ task. other ≡ Ok task)
+pub same_task : {A : Type 0} (r : Result A WordsFault) (asks other : Result A Kinds) → other ≡ asks → IfOk r (λ task. asks ≡ Ok task) → IfOk r (λ task. other ≡ Ok task)
 same_task (Ok task) asks other is found = is ∙ found
 same_task (Err fault) asks other is found = tt
 
-pub same_words : (r : Result Task WordsFault) (asks other : Result Task Kinds) → other ≡ asks → IfErr r (RefusesOnly asks) → IfErr r (RefusesOnly other)
+pub same_words : {A : Type 0} (r : Result A WordsFault) (asks other : Result A Kinds) → other ≡ asks → IfErr r (RefusesOnly asks) → IfErr r (RefusesOnly other)
 same_words (Ok task) asks other is refused = tt
 same_words (Err NoMemory) asks other is refused = tt
 same_words (Err (Refused kind)) asks other is refused = is ∙ refused

@@ -10,10 +10,20 @@ use Rattle.clap.specs.declared.builder.command.Command.TheViews.{out-Command}
 abbrev pub required_option : Text → Rule
 required_option name = record (new_rule name) { long = Some name; required = true }
 
+-- `--NAME WORD`, which may be there.
+abbrev pub optional_option : Text → Rule
+optional_option name = record (new_rule name) { long = Some name }
+
 -- Words that stand by themselves, of which one at least has to be there.
 abbrev pub required_words : Text → Rule
 required_words name = record (new_rule name) {
   required = true;
+  range = Some (record { start_inclusive = 1; end_inclusive = usize_max });
+}
+
+-- Words that stand by themselves, if there are any.
+abbrev pub optional_words : Text → Rule
+optional_words name = record (new_rule name) {
   range = Some (record { start_inclusive = 1; end_inclusive = usize_max });
 }
 
@@ -50,6 +60,12 @@ sign_command =
 abbrev pub recover_command : App
 recover_command = new_app (codes "recover")
 
+abbrev pub node_command : App
+node_command =
+    with_rule (with_rule (with_rule (with_rule (new_app (codes "node"))
+    (optional_option (codes "ticks"))) (optional_option (codes "workers")))
+    (optional_option (codes "turns"))) (optional_words (codes "peers"))
+
 -- The program without its commands. Its words are those behind its name; one of them has to be a
 -- command, of which `help` is none.
 abbrev pub bare_program : App
@@ -72,16 +88,17 @@ unfoldable pub keyless_program : App
 keyless_program =
     with_subcommand (with_subcommand diskless_program keygen_command.top) deal_command.top
 
--- And with those that sign with a key.
-unfoldable pub signing_program : App
-signing_program =
+-- And with those that sign once with a key.
+unfoldable pub nodeless_program : App
+nodeless_program =
     with_subcommand
     (with_subcommand (with_subcommand keyless_program endorse_command.top) genesis_command.top)
     sign_command.top
 
--- And with the one that founds a service anew.
+-- And with the one that founds a service anew, and the one that serves as a node.
 unfoldable pub program : App
-program = with_subcommand signing_program recover_command.top
+program =
+    with_subcommand (with_subcommand nodeless_program recover_command.top) node_command.top
 
 -- The command is this one, with no option that holds for others too.
 abbrev pub IsCommand : App → Command → Type 0

@@ -1,7 +1,8 @@
 -- What the words ask for that the program is called with, as the library for command lines reads
 -- them.
-use Rattle.std.specs.Prelude.{◌≡◌, ℕ, List, [], ◌∷◌, Option, None, Some, Result, Ok, Err, Bool, ◌&&◌, ◌^◌, map, nat_le, nat_lt, codes, if◌then◌else◌}
+use Rattle.std.specs.Prelude.{◌≡◌, ℕ, List, [], ◌∷◌, Option, None, Some, Result, Ok, Err, Bool, ◌&&◌, ◌^◌, ◌-◌, is_some, map, nat_le, nat_lt, unwrap_or, codes, if◌then◌else◌}
 use Rattle.std.specs.List.{list_all}
+use Rattle.std.specs.Result.{result_ok}
 use Rattle.std.specs.Str.{bytes_eq}
 use Rattle.std.specs.Str.Parse.{digits_value}
 use Rattle.clap.specs.Faults.{fault_of}
@@ -19,6 +20,9 @@ use Rattle.gl_lines.specs.declared.fault.LineFault.{LineFault}
 use Rattle.gl_lms.specs.declared.types.Types.{Types}
 use Rattle.gl_lms.specs.declared.types.Types.TheVariants.{H5W4, H5W8, H10W4, H10W8}
 use Rattle.gl_commands.specs.Commands.{program}
+use Rattle.gl_commands.specs.declared.task.Asked.{Asked}
+use Rattle.gl_commands.specs.declared.task.Asked.TheVariants as asks
+use Rattle.gl_commands.specs.declared.task.NodeTask.{NodeTask}
 use Rattle.gl_commands.specs.declared.task.Task.{Task}
 use Rattle.gl_commands.specs.declared.task.Task.TheVariants as tasks
 use Rattle.gl_commands.specs.declared.task.WordsFault.{WordsFault}
@@ -122,6 +126,58 @@ asked_dealing (Ok threshold) (Ok members) = Ok (tasks.Deal threshold members)
 abbrev pub asked_deal : Option Text → Option (List Text) → Result Task Kinds
 asked_deal threshold members = asked_dealing (asked_number threshold) (asked_numbers members)
 
+-- What an option asks for whose word is a number in a range, and what one that isn't there does.
+abbrev pub number_within : ℕ → ℕ → ℕ → Option Text → Result ℕ Kinds
+number_within default least greatest None = Ok default
+number_within default least greatest (Some word) =
+    if is_number word && nat_le least (digits_value 10 word)
+    && nat_le (digits_value 10 word) greatest
+    then Ok (digits_value 10 word) else Err (kinds.ValueValidation ∷ [])
+
+-- So many ticks without word of a leader make a node stand for election.
+abbrev pub asked_ticks : Option Text → Result ℕ Kinds
+asked_ticks word = number_within 10 1 (2 ^ 32 - 1) word
+
+-- On so many threads a node works beside its own: on none as yet.
+abbrev pub asked_workers : Option Text → Result ℕ Kinds
+asked_workers word = number_within 0 0 0 word
+
+-- So often a node may ask its link for what comes next.
+abbrev pub asked_turns : Option Text → Result ℕ Kinds
+asked_turns word = number_within (2 ^ 64 - 1) 1 (2 ^ 64 - 1) word
+
+-- A node's identifier: 64 digits of lower-case hexadecimal.
+abbrev pub named_node : Text → Option (List ℕ)
+named_node word = result_ok (hex_sized word 32)
+
+abbrev pub is_node : Text → Bool
+is_node word = is_some (named_node word)
+
+abbrev pub node_of : Text → List ℕ
+node_of word = unwrap_or (named_node word) []
+
+abbrev pub asked_peers : Option (List Text) → Result (List (List ℕ)) Kinds
+asked_peers None = Ok []
+asked_peers (Some words) =
+    if list_all is_node words then Ok (map node_of words)
+    else Err (kinds.ValueValidation ∷ [])
+
+-- The ticks are tried first, then the workers, the turns and the peers.
+abbrev pub asked_serving :
+    Result ℕ Kinds → Result ℕ Kinds → Result ℕ Kinds → Result (List (List ℕ)) Kinds →
+    Result NodeTask Kinds
+asked_serving (Err told) workers turns peers = Err told
+asked_serving (Ok ticks) (Err told) turns peers = Err told
+asked_serving (Ok ticks) (Ok workers) (Err told) peers = Err told
+asked_serving (Ok ticks) (Ok workers) (Ok turns) (Err told) = Err told
+asked_serving (Ok ticks) (Ok workers) (Ok turns) (Ok peers) = Ok (record { ticks = ticks; turns = turns; peers = peers })
+
+abbrev pub asked_node :
+    Option Text → Option Text → Option Text → Option (List Text) → Result NodeTask Kinds
+asked_node ticks workers turns peers =
+    asked_serving (asked_ticks ticks) (asked_workers workers) (asked_turns turns)
+    (asked_peers peers)
+
 -- What a command with an option for a service's key asks for with these values of them.
 abbrev pub asked_with_identity : Text → List Row → Result Task Kinds
 asked_with_identity name rows =
@@ -129,14 +185,14 @@ asked_with_identity name rows =
     then asked_sign (first_of (codes "identity") rows) (first_of (codes "member") rows)
     else asked_under name (asked_identity (first_of (codes "identity") rows))
 
--- What a command with options but `deal` asks for with these values of them.
+-- What a command with options but `deal` and `node` asks for with these values of them.
 abbrev pub asked_options : Text → List Row → Result Task Kinds
 asked_options name rows =
     if bytes_eq name (codes "keygen")
     then asked_keygen (first_of (codes "kind") rows) (first_of (codes "types") rows)
     else asked_with_identity name rows
 
--- What a command with options or words asks for with these.
+-- What a command with options or words but `node` asks for with these.
 abbrev pub asked_with_words : Text → List Row → Result Task Kinds
 asked_with_words name rows =
     if bytes_eq name (codes "deal")
@@ -155,23 +211,45 @@ abbrev pub unless_plain : Option Task → Result Task Kinds → Result Task Kind
 unless_plain (Some task) other = Ok task
 unless_plain None other = other
 
+-- The task that a command asks for which isn't `node`.
+abbrev pub asked_task : Text → List Row → Result Task Kinds
+asked_task name rows = unless_plain (plain_task name) (asked_with_words name rows)
+
+abbrev pub as_task : Result Task Kinds → Result Asked Kinds
+as_task (Ok task) = Ok (asks.Task task)
+as_task (Err told) = Err told
+
+abbrev pub as_node : Result NodeTask Kinds → Result Asked Kinds
+as_node (Ok node) = Ok (asks.Node node)
+as_node (Err told) = Err told
+
+-- How the node is to serve that `node` asks for with these values of its options and words.
+abbrev pub asked_by_node : List Row → Result NodeTask Kinds
+asked_by_node rows =
+    asked_node (first_of (codes "ticks") rows) (first_of (codes "workers") rows)
+    (first_of (codes "turns") rows) (all_of (codes "peers") rows)
+
 -- What a command asks for with these values of its options.
-abbrev pub asked_command : Option (Text × List Row) → Result Task Kinds
+abbrev pub asked_named : Text → List Row → Result Asked Kinds
+asked_named name rows =
+    if bytes_eq name (codes "node") then as_node (asked_by_node rows)
+    else as_task (asked_task name rows)
+
+abbrev pub asked_command : Option (Text × List Row) → Result Asked Kinds
 asked_command None = Err (kinds.MissingSubcommand ∷ [])
-asked_command (Some command) =
-    unless_plain (plain_task command.0) (asked_with_words command.0 command.1)
+asked_command (Some command) = asked_named command.0 command.1
 
 -- The faults that the library finds come first.
-abbrev pub unless_faulty : Kinds → Result Task Kinds → Result Task Kinds
-unless_faulty [] task = task
-unless_faulty (kind ∷ more) task = Err (kind ∷ more)
+abbrev pub unless_faulty : Kinds → Result Asked Kinds → Result Asked Kinds
+unless_faulty [] found = found
+unless_faulty (kind ∷ more) found = Err (kind ∷ more)
 
 -- What the words ask for, or the kinds of fault of which one is told.
-unfoldable pub asked : List Text → Result Task Kinds
+unfoldable pub asked : List Text → Result Asked Kinds
 asked words = unless_faulty (fault_of program words) (asked_command (subcommand_of program words))
 
 -- The words ask for nothing, and this is the kind of fault that is told.
-abbrev pub Refuses : Result Task Kinds → ErrorKind → Type 0
+abbrev pub Refuses : Result Asked Kinds → ErrorKind → Type 0
 Refuses asked kind = (told : Kinds) × (asked ≡ Err told) × IsAmong kind told
 
 -- Memory ran out, or nothing is asked for, and this kind of fault alone is told.
@@ -180,6 +258,6 @@ RefusesOnly asked faults.NoMemory = Unit {0}
 RefusesOnly asked (faults.Refused kind) = asked ≡ Err (kind ∷ [])
 
 -- Memory ran out, or the words ask for nothing.
-abbrev pub RefusesWords : Result Task Kinds → WordsFault → Type 0
+abbrev pub RefusesWords : Result Asked Kinds → WordsFault → Type 0
 RefusesWords asked faults.NoMemory = Unit {0}
 RefusesWords asked (faults.Refused kind) = Refuses asked kind

@@ -2,7 +2,7 @@
 
 ghost use Rattle.std.specs.Prelude.{◌≡◌, IfOk, codes, false};
 ghost use Rattle.clap.specs.Walk.{rule_of};
-ghost use Rattle.gl_commands.specs.Commands.{IsCommand, audit_command, bare_program, deal_command, diskless_program, keygen_command, keyless_program, program, required_option, required_words, sign_command, signing_program, verify_command};
+ghost use Rattle.gl_commands.specs.Commands.{IsCommand, audit_command, bare_program, deal_command, diskless_program, keygen_command, keyless_program, node_command, nodeless_program, optional_option, optional_words, program, required_option, required_words, sign_command, verify_command};
 
 use crate::help::VERSION;
 use clap::{Arg, Command};
@@ -16,12 +16,28 @@ fn required_option<'a>(alloc: Global, name: &'a str) -> Arg<'a>
     Arg::new(alloc, name).long(name).required(true)
 }
 
+/// `--NAME WORD`, which may be there.
+fn optional_option<'a>(alloc: Global, name: &'a str) -> Arg<'a>
+    ensures rule { rule_of result ≡ optional_option name.now }
+    ensures local { result.global ≡ false }
+{
+    Arg::new(alloc, name).long(name)
+}
+
 /// Words that stand by themselves, of which one at least has to be there.
 fn required_words<'a>(alloc: Global, name: &'a str) -> Arg<'a>
     ensures rule { rule_of result ≡ required_words name.now }
     ensures local { result.global ≡ false }
 {
     Arg::new(alloc, name).required(true).num_args(1..)
+}
+
+/// Words that stand by themselves, if there are any.
+fn optional_words<'a>(alloc: Global, name: &'a str) -> Arg<'a>
+    ensures rule { rule_of result ≡ optional_words name.now }
+    ensures local { result.global ≡ false }
+{
+    Arg::new(alloc, name).num_args(1..)
 }
 
 fn verify_command<'a>(alloc: Global) -> Result<Command<'a>, AllocError>
@@ -60,6 +76,16 @@ fn deal_command<'a>(alloc: Global) -> Result<Command<'a>, AllocError>
         .arg(required_words(alloc, "members"))
 }
 
+fn node_command<'a>(alloc: Global) -> Result<Command<'a>, AllocError>
+    ensures { IfOk result (IsCommand node_command) }
+{
+    Command::new(alloc, "node")
+        .arg(optional_option(alloc, "ticks"))?
+        .arg(optional_option(alloc, "workers"))?
+        .arg(optional_option(alloc, "turns"))?
+        .arg(optional_words(alloc, "peers"))
+}
+
 /// The program without its commands.
 fn bare_program<'a>(alloc: Global) -> Command<'a>
     ensures { IsCommand bare_program result }
@@ -92,10 +118,10 @@ fn keyless_program<'a>(alloc: Global) -> Result<Command<'a>, AllocError>
         .subcommand(deal_command(alloc)?)
 }
 
-/// And with those that sign with a key.
-#[tactic(auto, unfolding(crate::specs::Commands::signing_program))]
-fn signing_program<'a>(alloc: Global) -> Result<Command<'a>, AllocError>
-    ensures { IfOk result (IsCommand signing_program) }
+/// And with those that sign once with a key.
+#[tactic(auto, unfolding(crate::specs::Commands::nodeless_program))]
+fn nodeless_program<'a>(alloc: Global) -> Result<Command<'a>, AllocError>
+    ensures { IfOk result (IsCommand nodeless_program) }
 {
     keyless_program(alloc)?
         .subcommand(Command::new(alloc, "endorse"))?
@@ -103,10 +129,12 @@ fn signing_program<'a>(alloc: Global) -> Result<Command<'a>, AllocError>
         .subcommand(sign_command(alloc)?)
 }
 
-/// And with the one that founds a service anew.
+/// And with the one that founds a service anew, and the one that serves as a node.
 #[tactic(auto, unfolding(crate::specs::Commands::program))]
 pub(crate) fn program<'a>(alloc: Global) -> Result<Command<'a>, AllocError>
     ensures { IfOk result (IsCommand program) }
 {
-    signing_program(alloc)?.subcommand(Command::new(alloc, "recover"))
+    nodeless_program(alloc)?
+        .subcommand(Command::new(alloc, "recover"))?
+        .subcommand(node_command(alloc)?)
 }

@@ -45,26 +45,39 @@ Commands:
       first, the new settings of a service as JSON, and the ledger that is left of
       it, founds it anew from the ledger's last signature on with the key of its
       first node in the file at PATH, and writes the ledger that opens it again
+  ccfg @disk=PATH @listen=ADDR @peer=ADDR.. node [--ticks N] [--turns N] [ID..]
+      serves as the node whose key is in the file at PATH: takes connections at
+      ADDR, an address and a port, answers clients and goes on with its peers,
+      whose identifiers are ID.., 64 digits of lower-case hexadecimal each, and
+      which listen at the ADDR of @peer, in the same order. A file without a ledger
+      takes the one that opens the service from standard input, or none, and the
+      node joins. So many ticks without word of a leader, 10 if no word says it,
+      make the node stand for election. It serves until it is stopped; with --turns
+      it ends once it asked so often for what comes next. --workers 0 may be said
+      too. It writes how many payloads it served and how many frames it lost
   ccfg --help, ccfg --version
       write this text, and the version
 
 @disk=PATH stands before the command and names the file that it uses; of several
-the last one counts. keygen, endorse, genesis, sign and recover fail without one,
-and the others use none. A file with a key is secret. Each of its leaves signs
-once, and is spent before anything is written.
+the last one counts. keygen, endorse, genesis, sign, recover and node fail without
+one, and the others use none. A file with a key is secret. Each of its leaves
+signs once, and is spent before anything is written or sent. @listen=ADDR and
+@peer=ADDR stand before the command too; node alone uses them.
 
 Exit statuses:
   0  done
   1  the receipt or the ledger is not valid, the file that is to take a key is
      not empty, a secret can't be dealt so among the members, or nothing is signed:
      the file has no key of the kind that signs, its leaves are spent, the
-     settings open no service, or the ledger is none that can be recovered
+     settings open no service, or the ledger is none that can be recovered; or the
+     ledger opens no service that the node could begin with
   2  the words are not those of a command
   3  standard input failed
   4  standard output failed
   5  the file failed
+  6  the sockets failed
   7  out of memory
-  8  the input passes a limit
+  8  the input passes a limit, or the node asked as often as it may
   9  the input is no schedule, no receipt, no seed, not as long as a secret with
      its seed, or not what is to be signed
 At 1, 2, 8 and 9 exactly one line is written, 'fault' and why: of a ledger,

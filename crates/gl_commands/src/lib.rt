@@ -4,9 +4,10 @@
 
 mod commands;
 mod help;
+mod node_words;
 mod task;
 mod words;
 
 pub use help::{HELP, VERSION};
-pub use task::{Task, WordsFault};
+pub use task::{Asked, NodeTask, Task, WordsFault};
 pub use words::read_words;

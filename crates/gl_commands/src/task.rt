@@ -1,13 +1,25 @@
 //! What words ask for, or why they ask for nothing.
 
+ghost use Rattle.std.specs.Prelude.{◌≡◌};
+ghost use Rattle.gl_commands.specs.declared.task.WordsFault.TheVariants.{Refused};
+
 use clap::error::ErrorKind;
 use gl_base::Sequence;
 use gl_journal::KeyKind;
 use gl_keyfile::Signing;
 use gl_lms::Types;
-use gl_requests::HssPublicKey;
+use gl_requests::{HssPublicKey, NodeId};
 
 /// What the words ask for.
+#[derive(Debug, Drop, PartialEq, Eq)]
+pub enum Asked {
+    /// A task, which is done once.
+    Task(Task),
+    /// To serve as the node of a file.
+    Node(NodeTask),
+}
+
+/// A task that is done once, with what the source gives.
 #[derive(Debug, Drop, PartialEq, Eq)]
 pub enum Task {
     /// To replay a schedule.
@@ -38,6 +50,17 @@ pub enum Task {
     Recover,
 }
 
+/// How the node of a file is to serve.
+#[derive(Debug, Drop, PartialEq, Eq)]
+pub struct NodeTask {
+    /// So many ticks without word of a leader make the node stand for election.
+    pub ticks: u32,
+    /// How often the link may be asked for what comes next.
+    pub turns: u64,
+    /// The peers: the first has the first connection, and so on.
+    pub peers: Sequence<NodeId>,
+}
+
 /// Why words ask for nothing.
 #[derive(Clone, Copy, Debug, PartialEq, Eq)]
 pub enum WordsFault {
@@ -45,4 +68,12 @@ pub enum WordsFault {
     /// They are not those of a command: what `clap` finds wrong with them, or that a word isn't the
     /// hexadecimal or the number that is wanted.
     Refused(ErrorKind),
+}
+
+impl From<ErrorKind> for WordsFault {
+    ghost from_gives = { λ kind fault. fault ≡ Refused kind };
+
+    fn from(kind: ErrorKind) -> WordsFault {
+        WordsFault::Refused(kind)
+    }
 }

@@ -1,6 +1,6 @@
 //! The words that the program is called with.
 
-ghost use Rattle.std.specs.Prelude.{◌≡◌, ◌∷◌, [], Err, IfErr, IfOk, None, Ok, Some, false, if◌then◌else◌, map, option_map, true};
+ghost use Rattle.std.specs.Prelude.{◌≡◌, ◌∷◌, ◌≤◌, [], Err, IfErr, IfOk, None, Ok, Some, false, if◌then◌else◌, map, option_map, true};
 ghost use Rattle.std.specs.List.{list_all};
 ghost use Rattle.std.specs.Str.Parse.{digits_value};
 ghost use Rattle.std.specs.String.{string_bytes};
@@ -11,10 +11,13 @@ ghost use Rattle.clap.specs.Walk.{rows_of};
 ghost use Rattle.clap.specs.declared.error.kind.ErrorKind.{ErrorKind};
 ghost use Rattle.gl_lines.specs.Words.{hex_sized};
 ghost use Rattle.gl_commands.specs.Commands.{program};
-ghost use Rattle.gl_commands.specs.Words.{RefusesOnly, RefusesWords, asked, asked_command, asked_deal, asked_identity, asked_keygen, asked_member, asked_name, asked_number, asked_numbers, asked_options, asked_sign, asked_with_identity, asked_with_words, is_member, is_number, named_kind, named_types, plain_task, spelled_key, spelled_member, task_under};
+ghost use Rattle.gl_commands.specs.declared.task.Asked.TheVariants as asks;
+ghost use Rattle.gl_commands.specs.declared.task.NodeTask.{NodeTask as NodeTasks};
+ghost use Rattle.gl_commands.specs.Words.{RefusesOnly, RefusesWords, asked, asked_by_node, asked_command, asked_deal, asked_identity, asked_keygen, asked_member, asked_name, asked_named, asked_number, asked_numbers, asked_options, asked_sign, asked_task, asked_with_identity, asked_with_words, is_member, is_number, named_kind, named_types, plain_task, spelled_key, spelled_member, task_under};
 
 use crate::commands::program;
-use crate::task::{Task, WordsFault};
+use crate::node_words::asked_node;
+use crate::task::{Asked, NodeTask, Task, WordsFault};
 use clap::ArgMatches;
 use clap::error::ErrorKind;
 use gl_base::Sequence;
@@ -189,7 +192,7 @@ fn asked_sign(identity: Option<&str>, member: Option<&str>) -> Result<Task, Erro
 }
 
 /// The number that a word spells.
-fn number_in(word: &str) -> Option<u64>
+pub(crate) fn number_in(word: &str) -> Option<u64>
     ensures { result ≡ (if is_number word.now then Some (digits_value 10 word.now) else None) }
 {
     if !is_decimal(word.as_bytes()) {
@@ -295,7 +298,7 @@ fn asked_options(name: &str, options: &ArgMatches) -> Result<Task, ErrorKind>
     }
 }
 
-/// What a command with options or words asks for.
+/// What a command with options or words asks for, but `node`.
 fn asked_with_words(alloc: Global, name: &str, found: &ArgMatches) -> Result<Task, WordsFault>
     ensures found { IfOk result (λ task.
         asked_with_words name.now (rows_of (found_of found.now)) ≡ Ok task) }
@@ -328,17 +331,60 @@ fn plain_task(name: &str) -> Option<Task>
     }
 }
 
+/// The task that a command asks for which isn't `node`.
+fn asked_task(alloc: Global, name: &str, found: &ArgMatches) -> Result<Task, WordsFault>
+    ensures found { IfOk result (λ task.
+        asked_task name.now (rows_of (found_of found.now)) ≡ Ok task) }
+    ensures refused { IfErr result (RefusesOnly
+        (asked_task name.now (rows_of (found_of found.now)))) }
+{
+    match plain_task(name) {
+        Some(task) => Ok(task),
+        None => asked_with_words(alloc, name, found),
+    }
+}
+
+/// How the node is to serve that `node` asks for.
+fn asked_by_node(alloc: Global, found: &ArgMatches) -> Result<NodeTask, WordsFault>
+    ensures found { IfOk result (λ node.
+        asked_by_node (rows_of (found_of found.now)) ≡ Ok node) }
+    ensures ticks { IfOk result (λ node. 1 ≤ node.ticks) }
+    ensures refused { IfErr result (RefusesOnly
+        (asked_by_node (rows_of (found_of found.now)))) }
+{
+    asked_node(
+        alloc,
+        found.get_str("ticks"),
+        found.get_str("workers"),
+        found.get_str("turns"),
+        found.get_strs("peers"),
+    )
+}
+
+/// What a command asks for.
+fn asked_named(alloc: Global, name: &str, found: &ArgMatches) -> Result<Asked, WordsFault>
+    ensures found { IfOk result (λ asked.
+        asked_named name.now (rows_of (found_of found.now)) ≡ Ok asked) }
+    ensures ticks { (node : NodeTasks) → result ≡ Ok (asks.Node node) → 1 ≤ node.ticks }
+    ensures refused { IfErr result (RefusesOnly
+        (asked_named name.now (rows_of (found_of found.now)))) }
+{
+    if name == "node" {
+        return Ok(Asked::Node(asked_by_node(alloc, found)?));
+    }
+    Ok(Asked::Task(asked_task(alloc, name, found)?))
+}
+
 /// What the command that was met asks for.
-fn asked_command(alloc: Global, matches: &ArgMatches) -> Result<Task, WordsFault>
-    ensures found { IfOk result (λ task. asked_command (subcommand_rows_of matches.now) ≡ Ok task) }
+fn asked_command(alloc: Global, matches: &ArgMatches) -> Result<Asked, WordsFault>
+    ensures found { IfOk result (λ asked.
+        asked_command (subcommand_rows_of matches.now) ≡ Ok asked) }
+    ensures ticks { (node : NodeTasks) → result ≡ Ok (asks.Node node) → 1 ≤ node.ticks }
     ensures refused { IfErr result (RefusesOnly
         (asked_command (subcommand_rows_of matches.now))) }
 {
     match matches.subcommand() {
-        Some((name, options)) => match plain_task(name) {
-            Some(task) => Ok(task),
-            None => asked_with_words(alloc, name, options),
-        },
+        Some((name, found)) => asked_named(alloc, name, found),
         None => Err(WordsFault::Refused(ErrorKind::MissingSubcommand)),
     }
 }
@@ -366,8 +412,9 @@ fn matches_of<'a>(alloc: Global, words: &'a [String]) -> Result<ArgMatches<'a>, 
 
 /// What the words ask for, which are those behind the program's name. What `clap` finds wrong with
 /// them comes before the tests of the values.
-pub fn read_words(alloc: Global, words: &[String]) -> Result<Task, WordsFault>
-    ensures found { IfOk result (λ task. asked (map string_bytes words.now) ≡ Ok task) }
+pub fn read_words(alloc: Global, words: &[String]) -> Result<Asked, WordsFault>
+    ensures found { IfOk result (λ found. asked (map string_bytes words.now) ≡ Ok found) }
+    ensures ticks { (node : NodeTasks) → result ≡ Ok (asks.Node node) → 1 ≤ node.ticks }
     ensures refused { IfErr result (RefusesWords (asked (map string_bytes words.now))) }
 {
     let matches = matches_of(alloc, words)?;

@@ -20,6 +20,3 @@ pub use fault::NodeFault;
 pub use kept_book::KeptBook;
 pub use laws::{a_leaf_is_reserved_before_it_signs, no_leaf_signs_twice};
 pub use replica::Replica;
-
-#[cfg(test)]
-mod tests;

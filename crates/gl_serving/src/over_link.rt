@@ -9,6 +9,7 @@ ghost use Rattle.gl_serving.specs.OverLink.{KeepsLeaves};
 ghost use Rattle.gl_serving.specs.Serving.{serving_rules};
 ghost use Rattle.gl_serving.specs.Types.{NodeSeen};
 
+use crate::observer::Observer;
 use crate::serving_node::ServingNode;
 use gl_client_book::ClientBook;
 use gl_node::{KeptBook, Replica};
@@ -17,11 +18,13 @@ use gl_serve::{ServeEnd, Serving, serve};
 use std::alloc::Global;
 
 /// Serves over a link, as the node of a file, until the link gives its end. It tells how many
-/// payloads were in the grammar and how many frames were lost, and gives the disk back.
-pub fn serve_replica<L: Link, D: Disk, B: KeptBook + ClientBook>(
+/// payloads were in the grammar and how many frames were lost, and gives the disk back. Behind each
+/// event the observer is told where the node stands.
+pub fn serve_replica<L: Link, D: Disk, B: KeptBook + ClientBook, O: Observer>(
     alloc: Global,
     link: &mut L,
     replica: Replica<D, B>,
+    observer: O,
     settings: &Serving<'_>,
 ) -> (Result<(u64, u64), ServeEnd>, D)
     requires ticks { 1 ≤ settings.now.ticks }
@@ -55,7 +58,7 @@ pub fn serve_replica<L: Link, D: Disk, B: KeptBook + ClientBook>(
     ensures lost { IfOk result.0 (λ counts. (counts.1 ≡ 0)
         ⊎ Rose (L.send_faults link.old) (L.send_faults link.new)) }
 {
-    let mut node = ServingNode::new(replica);
+    let mut node = ServingNode::new(replica, observer);
     // As it begins, the node stands for one of the rules, and its file keeps it.
     let _core = node.replica().core();
     let _disk = node.replica().disk();

@@ -1,5 +1,6 @@
 //! A node as a serve knows it.
 
+use crate::observer::{Observer, Standing};
 use crate::payload::{Payload, payload_in};
 use crate::served::{handle, own};
 use gl_client_book::ClientBook;
@@ -10,13 +11,14 @@ use gl_serve::{Outcome, OwnEvent, ServedNode};
 use std::alloc::AllocError;
 use std::marker::Model;
 
-/// A node that serves peers and clients from a file. It is seen as the node.
+/// A node that serves peers and clients from a file, and who looks on. It is seen as the node.
 #[derive(Drop)]
-pub struct ServingNode<D: Disk, B: KeptBook + ClientBook> {
+pub struct ServingNode<D: Disk, B: KeptBook + ClientBook, O: Observer> {
     replica: Replica<D, B>,
+    observer: O,
 }
 
-impl<D: Disk, B: KeptBook + ClientBook> Model for ServingNode<D, B> {
+impl<D: Disk, B: KeptBook + ClientBook, O: Observer> Model for ServingNode<D, B, O> {
     ghost use Rattle.gl_serving.specs.Types.{NodeSeen};
 
     ghost Value = { NodeSeen D B };
@@ -24,13 +26,26 @@ impl<D: Disk, B: KeptBook + ClientBook> Model for ServingNode<D, B> {
     ghost view = { λ s. s.replica };
 }
 
-impl<D: Disk, B: KeptBook + ClientBook> ServingNode<D, B> {
+impl<D: Disk, B: KeptBook + ClientBook, O: Observer> ServingNode<D, B, O> {
     ghost use Rattle.std.specs.Prelude.{◌≡◌};
 
-    pub fn new(replica: Replica<D, B>) -> Self
+    pub fn new(replica: Replica<D, B>, observer: O) -> Self
         ensures { result ≡ replica }
     {
-        ServingNode { replica }
+        ServingNode { replica, observer }
+    }
+
+    /// Tells who looks on where the node stands.
+    fn tell(&mut self)
+        ensures { self.new ≡ self.old }
+    {
+        let core = self.replica.core();
+        let standing = Standing {
+            role: core.peer.role,
+            view: core.peer.view,
+            commit: core.commit,
+        };
+        self.observer.observe(standing);
     }
 
     /// The node.
@@ -48,7 +63,7 @@ impl<D: Disk, B: KeptBook + ClientBook> ServingNode<D, B> {
     }
 }
 
-impl<D: Disk, B: KeptBook + ClientBook> ServedNode for ServingNode<D, B> {
+impl<D: Disk, B: KeptBook + ClientBook, O: Observer> ServedNode for ServingNode<D, B, O> {
     ghost use Rattle.gl_serving.specs.Serving.{serving_rules};
 
     type Payload = Payload;
@@ -60,11 +75,15 @@ impl<D: Disk, B: KeptBook + ClientBook> ServedNode for ServingNode<D, B> {
     }
 
     fn handle(&mut self, payload: Payload) -> Outcome {
-        handle(&mut self.replica, payload)
+        let outcome = handle(&mut self.replica, payload);
+        self.tell();
+        outcome
     }
 
     fn own(&mut self, event: OwnEvent) -> Outcome {
-        own(&mut self.replica, event)
+        let outcome = own(&mut self.replica, event);
+        self.tell();
+        outcome
     }
 
     fn leads(&self) -> bool {

@@ -2,8 +2,8 @@
 
 mod empty_store;
 
-use crate::ServingNode;
 use crate::tests::empty_store::EmptyStore;
+use crate::{ServingNode, Unobserved};
 use gl_base::FIRST_VIEW;
 use gl_config::NodeId;
 use gl_journal::{Journal, Key, KeyKind};
@@ -57,13 +57,13 @@ const NOT_PRIMARY: &[u8] = b"\x00\x00\x00\x1b\x21\x07\x00\x00\x00\x00\x00\x00\x0
     \x6e\x00\x0c\x00\x00\x00\x02\x00\x00\x00\x00\x00\x00\x00\x00\x00\x00\x00";
 
 /// A node that has just joined, with its key alone in its file.
-fn joined(alloc: Global) -> Option<ServingNode<SureDisk, EmptyStore>> {
+fn joined(alloc: Global) -> Option<ServingNode<SureDisk, EmptyStore, Unobserved>> {
     let Ok(journal) = Journal::create(alloc, SureDisk::new(alloc), KEY) else {
         return None;
     };
     let store = EmptyStore { alloc, me: ME };
     let core = Core::reopened(alloc, store, FIRST_VIEW, None, 0);
-    Some(ServingNode::new(Replica::new(core, journal)))
+    Some(ServingNode::new(Replica::new(core, journal), Unobserved))
 }
 
 /// Bytes of a connection, each on its own.

@@ -87,30 +87,55 @@ fn settings(
     Ok(text)
 }
 
-#[test]
-fn a_ledger_that_keys_of_files_open_is_valid(rt: HostRuntime) -> Result<(), Fail> {
-    let alloc = rt.alloc();
+/// What founds a service of one member and one node.
+#[derive(Drop)]
+pub struct Founding {
+    /// The service's key, in hexadecimal.
+    pub identity: Vec<u8>,
+    /// The form of the node's key, and its file.
+    pub node: Vec<u8>,
+    pub disk: SureDisk,
+    pub settings: Vec<u8>,
+}
+
+pub fn founding_of_keys(alloc: Global) -> Result<Founding, Fail> {
     let (service, service_disk) = begun(alloc, "service", 1)?;
-    let (node, node_disk) = begun(alloc, "node", 2)?;
+    let (node, disk) = begun(alloc, "node", 2)?;
     let (member, _disk) = begun(alloc, "member", 3)?;
-    let identity = part(&service, 8, 128)?;
+    let identity = Vec::from_slice(alloc, part(&service, 8, 128)?)?;
 
-    let (status, endorsed, _disk) = run_on(alloc, &["endorse"], &node, service_disk)?;
-    assert_eq!(rt; status, 0);
+    let (_status, endorsed, _disk) = run_on(alloc, &["endorse"], &node, service_disk)?;
     let end = endorsed.len().saturating_sub(node.len()).saturating_sub(1);
-    let behind = part(&endorsed, end.saturating_add(2), endorsed.len())?;
-    assert_eq!(rt; behind, part(&node, 1, node.len())?);
-
-    let text = settings(
+    if part(&endorsed, end.saturating_add(2), endorsed.len())? != part(&node, 1, node.len())? {
+        return Err(Fail::from("another node is endorsed"));
+    }
+    let settings = settings(
         alloc,
-        identity,
+        &identity,
         part(&member, 8, 128)?,
         part(&endorsed, 16, end)?,
         part(&node, 8, 120)?,
     )?;
-    let (status, ledger, _disk) = run_on(alloc, &["genesis"], &text, node_disk)?;
+    Ok(Founding {
+        identity,
+        node,
+        disk,
+        settings,
+    })
+}
+
+#[test]
+fn a_ledger_that_keys_of_files_open_is_valid(rt: HostRuntime) -> Result<(), Fail> {
+    let alloc = rt.alloc();
+    let Founding {
+        identity,
+        node,
+        disk,
+        settings: text,
+    } = founding_of_keys(alloc)?;
+    let (status, ledger, _disk) = run_on(alloc, &["genesis"], &text, disk)?;
     assert_eq!(rt; status, 0);
-    let identity = str::from_utf8(identity)?;
+    let identity = str::from_utf8(&identity)?;
     let (status, verdict) = run(alloc, &["audit", "--identity", identity], &ledger)?;
     assert_eq!(rt; status, 0);
     assert_eq!(rt; verdict.as_slice(), b"valid 2.2 2.2\n".as_slice());

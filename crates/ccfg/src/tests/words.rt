@@ -2,7 +2,7 @@
 
 use crate::tests::receipts::IDENTITY;
 use crate::tests::{one_open, run, status_of, to_words};
-use crate::{disk_and_words, told_of_itself};
+use crate::{invocation_of, told_of_itself};
 use gl_commands::HELP;
 use gl_outside::{MemSource, SureSink};
 use std::test::Fail;
@@ -20,7 +20,7 @@ const SHORT: &str = "\
 #[test]
 fn tells_one_kind_of_fault(rt: HostRuntime) -> Result<(), Fail> {
     let alloc = rt.alloc();
-    let rows: [(&[&str], &str); 42] = [
+    let rows: [(&[&str], &str); 46] = [
         (&[], "MissingSubcommand"),
         (&[""], "InvalidSubcommand"),
         (&["foo"], "InvalidSubcommand"),
@@ -41,6 +41,10 @@ fn tells_one_kind_of_fault(rt: HostRuntime) -> Result<(), Fail> {
         (&["verify", "--identity", SHORT], "ValueValidation"),
         (&["verify", "--identity", ""], "ValueValidation"),
         (&["verify", "--identity=00", "x"], "UnknownArgument"),
+        (&["node", "--ticks", "0"], "ValueValidation"),
+        (&["node", "--workers", "1"], "ValueValidation"),
+        (&["node", "--turns"], "InvalidValue"),
+        (&["node", "00"], "ValueValidation"),
         (&["audit"], "MissingRequiredArgument"),
         (&["audit", "--identity", SHORT], "ValueValidation"),
         (&["audit", "--identity", IDENTITY, "x"], "UnknownArgument"),
@@ -140,9 +144,9 @@ fn takes_the_last_path_of_a_disk(rt: HostRuntime) -> Result<(), Fail> {
     ];
     for (called, path, count) in rows {
         let called = to_words(alloc, called)?;
-        let (named, words) = disk_and_words(&called);
-        assert_eq!(rt; named, path);
-        assert_eq!(rt; words.len(), count);
+        let called = invocation_of(alloc, &called)?;
+        assert_eq!(rt; called.disk, path);
+        assert_eq!(rt; called.words.len(), count);
     }
     Ok(())
 }

@@ -1,6 +1,6 @@
 //! Records, kept in a node's file as one batch.
 
-ghost use Rattle.std.specs.Prelude.{ℕ, ◌≡◌, ◌⊎◌, ◌++◌, ◌<◌, ◌≤◌, ◌≢◌, ◌^◌, Some, Ok, Err, true, length, [], IsTrue, IfOk, OnOk};
+ghost use Rattle.std.specs.Prelude.{ℕ, ◌≡◌, ◌⊎◌, ◌++◌, ◌<◌, ◌≤◌, ◌≢◌, ◌^◌, Some, Ok, Err, true, length, [], IsTrue, IsOk, IfOk, OnOk};
 ghost use Rattle.std.specs.List.{AllByRecursion, flat_map};
 ghost use Rattle.gl_base.specs.declared.or_no_memory.OrNoMemory.{OrNoMemory};
 ghost use Rattle.gl_entry.specs.Entry.{frame_bytes, is_entry};
@@ -168,6 +168,8 @@ pub(crate) fn keep_start<D: Disk>(
         Rose (D.faults journal.old.gated.disk) (D.faults journal.new.gated.disk) }
     ensures no_disk_fault { result ≢ Err (OrNoMemory.Fault (OpeningFault.Journal JournalFault.DiskFault)) →
         D.faults journal.new.gated.disk ≡ D.faults journal.old.gated.disk }
+    ensures opening_first { result ≡ Err (OrNoMemory.Fault (OpeningFault.Journal JournalFault.DiskFault)) →
+        IsOk (start_in bytes.now) }
     ensures only { (fault : OpeningFault) → result ≡ Err (OrNoMemory.Fault fault) →
         IsOfOpening fault }
 {

@@ -214,6 +214,10 @@ impl<D: Disk + Drop> NodeFile<D> {
         ensures disk_fault { (back : D) → result
             ≡ Err (OrNoMemory.Fault (OpeningFault.Journal JournalFault.DiskFault), back) →
             Rose (D.faults self.disk) (D.faults back) }
+        // The disk is asked only once the bytes are read, and are an opening ledger.
+        ensures opening_first { (back : D) → result
+            ≡ Err (OrNoMemory.Fault (OpeningFault.Journal JournalFault.DiskFault), back) →
+            IsOk (start_in bytes.now) }
         ensures no_disk_fault { (error : OrNoMemory OpeningFault) (back : D) →
             result ≡ Err (error, back) →
             error ≢ OrNoMemory.Fault (OpeningFault.Journal JournalFault.DiskFault) →

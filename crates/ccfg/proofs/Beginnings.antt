@@ -1,0 +1,116 @@
+-- How a node begins, case by case.
+use Rattle.std.proofs.Common.{◌≡◌, ◌≢◌, ◌⊎◌, inl, inr, ℕ, ◌<◌, ◌≤◌, ◌^◌, Bool, true, false, nat_lt, ◌==◌, if◌then◌else◌, List, [], ◌∷◌, Option, None, Some, Result, Ok, Err, IfOk, IsOk, IsTrue, refl, sym, ap, subst, ◌∙◌, arith, ltb-false, ltb-true}
+use Rattle.gl_entry.specs.declared.entry.Entry.{Entry}
+use Rattle.gl_rules.specs.World.{Start}
+use Rattle.gl_ledger_file.specs.Given.{OfBytes}
+use Rattle.gl_journal.specs.Durable.{Durable, key_alone}
+use Rattle.gl_journal.specs.Records.{key_kind_tag}
+use Rattle.gl_journal.specs.declared.fault.JournalFault.{JournalFault}
+use Rattle.gl_journal.specs.declared.fault.JournalFault.TheVariants.{DiskFault}
+use Rattle.gl_journal.specs.declared.key.KeyKind.{KeyKind}
+use Rattle.gl_journal.specs.declared.key.KeyKind.TheVariants as kinds
+use Rattle.gl_lms.specs.declared.types.Types.TheVariants as types
+use Rattle.gl_book.specs.AtOpening.{opening_size}
+use Rattle.gl_book.specs.NodeFile.{opened}
+use Rattle.gl_book.specs.ServiceStart.{start_in}
+use Rattle.gl_book.specs.Turns.{IsOfOpening, IsTooLarge}
+use Rattle.gl_book.specs.declared.node_file.fault.OpeningFault.{OpeningFault}
+use Rattle.gl_book.specs.declared.node_file.fault.OpeningFault.TheVariants as faults
+use Rattle.ccfg.specs.Nodes.{Beginning, HasLedger, OfOpened, begin_behind, begin_with, beginning, beginning_of, has_ledger, opened_by}
+
+-- ---- values
+
+pub from_ok : {A E : Type 0} (r : Result A E) → IsOk r → (a : A) × (r ≡ Ok a)
+from_ok (Ok a) h = (a, refl)
+from_ok (Err e) h = absurd cc
+
+pub ok_map : {A E : Type 0} {P Q : A → Type 0} (r : Result A E) → ((a : A) → P a → Q a) → IfOk r P → IfOk r Q
+ok_map (Ok a) f h = f a h
+ok_map (Err e) f h = tt
+
+ok_any : {A E : Type 0} {P : A → Type 0} (r : Result A E) → ((a : A) → P a) → IfOk r P
+ok_any (Ok a) f = f a
+ok_any (Err e) f = tt
+
+pub by_bytes : {P Q : List ℕ → Type 0} (given : Option (List ℕ)) → ((bytes : List ℕ) → P bytes → Q bytes) → OfBytes given P → OfBytes given Q
+by_bytes None f h = (h.0, f h.0 h.1)
+by_bytes (Some bytes) f h = f bytes h
+
+pub any_bytes : {Q : List ℕ → Type 0} (given : Option (List ℕ)) → ((bytes : List ℕ) → Q bytes) → OfBytes given Q
+any_bytes None f = ([], f [])
+any_bytes (Some bytes) f = f bytes
+
+pub by_opened : (honest : Bool) (held : List ℕ) (told : Result Durable JournalFault) (Q : Result Durable JournalFault → Type 0) → (IsTrue honest → opened held ≡ told) → Q told → OfOpened honest held Q
+by_opened true held told Q e q = subst Q (sym (e refl)) q
+by_opened false held told Q e q = (told, q)
+
+-- a source is read to its end where the file has no ledger
+pub ledger_or_end : {A E : Type 0} (r : Result A E) (honest : Bool) (held : List ℕ) (d : Durable) (ended : Bool) → (IsTrue honest → opened held ≡ Ok d) → (has_ledger d.log ≡ false → IfOk r (λ a. ended ≡ true)) →
+    IfOk r (λ a. OfOpened honest held (λ opens. HasLedger opens ⊎ (ended ≡ true)))
+ledger_or_end r honest held d ended kept given = go (has_ledger d.log) refl
+  where
+    Q : Result Durable JournalFault → Type 0
+    Q opens = HasLedger opens ⊎ (ended ≡ true)
+
+    go : (b : Bool) → has_ledger d.log ≡ b → IfOk r (λ a. OfOpened honest held Q)
+    go true e = ok_any r (λ a. by_opened honest held (Ok d) Q kept (inl e))
+    go false e = ok_map r (λ a is. by_opened honest held (Ok d) Q kept (inr is)) (given e)
+
+-- an honest disk opens to something of which it holds
+pub of_honest : (honest : Bool) (held : List ℕ) (Q : Result Durable JournalFault → Type 0) → (IsTrue honest → (d : Durable) × (opened held ≡ Ok d) × Q (Ok d)) → (other : Result Durable JournalFault) → Q other → OfOpened honest held Q
+of_honest true held Q h other q = let k = h refl in subst Q (sym k.1) k.2
+of_honest false held Q h other q = (other, q)
+
+-- ---- an opening ledger
+
+-- it fits one batch
+fits_one : (d : Durable) (s : Start Entry) → opening_size s d < 2 ^ 32 → begin_with d (Ok s) ≡ Ok (opened_by s d)
+fits_one d s low = go (nat_lt (opening_size s d) (2 ^ 32)) refl
+  where
+    go : (t : Bool) → nat_lt (opening_size s d) (2 ^ 32) ≡ t → (if t then Ok (opened_by s d) else Err (faults.TooLarge (opening_size s d))) ≡ Ok (opened_by s d)
+    go true e = refl
+    go false e = absurd (omega (arith, low, ltb-false (opening_size s d) (2 ^ 32) e))
+
+-- it doesn't
+too_large : (d : Durable) (s : Start Entry) → 2 ^ 32 ≤ opening_size s d → begin_with d (Ok s) ≡ Err (faults.TooLarge (opening_size s d))
+too_large d s high = go (nat_lt (opening_size s d) (2 ^ 32)) refl
+  where
+    go : (t : Bool) → nat_lt (opening_size s d) (2 ^ 32) ≡ t → (if t then Ok (opened_by s d) else Err (faults.TooLarge (opening_size s d))) ≡ Err (faults.TooLarge (opening_size s d))
+    go false e = refl
+    go true e = absurd (omega (arith, high, ltb-true (opening_size s d) (2 ^ 32) e))
+
+behind : (d : Durable) (log : List (List ℕ)) (given : List ℕ) (r : Result (Start Entry) ℕ) → has_ledger log ≡ false → given ≢ [] → start_in given ≡ r → begin_behind d log given ≡ begin_with d r
+behind d (frame ∷ frames) given r none some e = absurd cc
+behind d [] [] r none some e = absurd (some refl)
+behind d [] (byte ∷ more) r none some e = ap (begin_with d) e
+
+pub begins_with : (d : Durable) (given : List ℕ) (s : Start Entry) → has_ledger d.log ≡ false → given ≢ [] → start_in given ≡ Ok s → opening_size s d < 2 ^ 32 → beginning d given ≡ Ok (opened_by s d)
+begins_with d given s none some e low = behind d d.log given (Ok s) none some e ∙ fits_one d s low
+
+pub refused_with : (d : Durable) (given : List ℕ) (fault : OpeningFault) → has_ledger d.log ≡ false → given ≢ [] → IsOfOpening fault → fault ≢ faults.Journal DiskFault →
+    ((seqno : ℕ) → fault ≡ faults.NotOpening seqno → start_in given ≡ Err seqno) → ((size : ℕ) → fault ≡ faults.TooLarge size → IsTooLarge (start_in given) d size) → beginning d given ≡ Err fault
+refused_with d given (faults.Journal fault) none some of other not_opening large = absurd (other (ap faults.Journal of))
+refused_with d given (faults.KeyKind want got) none some of other not_opening large = absurd of
+refused_with d given (faults.NotOpening seqno) none some of other not_opening large = behind d d.log given (Err seqno) none some (not_opening seqno refl)
+refused_with d given (faults.TooLarge size) none some of other not_opening large =
+    let h = large size refl in
+    behind d d.log given (Ok h.0) none some h.1 ∙ too_large d h.0 (subst (λ n. 2 ^ 32 ≤ n) h.2 h.3) ∙ ap (λ n. Err (faults.TooLarge n)) (sym h.2)
+
+-- ---- the file
+
+pub begins_of : (d : Durable) (given : List ℕ) (r : Result Beginning OpeningFault) → d.key.kind ≡ kinds.Node → beginning d given ≡ r → beginning_of (Ok d) given ≡ r
+begins_of d given r kind e =
+    subst (λ (k : KeyKind). (if key_kind_tag kinds.Node == key_kind_tag k then beginning d given else Err (faults.KeyKind kinds.Node k)) ≡ r) (sym kind) e
+
+pub other_kind : (d : Durable) (given : List ℕ) (got : KeyKind) → d.key.kind ≡ got → got ≢ kinds.Node → beginning_of (Ok d) given ≡ Err (faults.KeyKind kinds.Node got)
+other_kind d given got kind other =
+    subst (λ (k : KeyKind). (if key_kind_tag kinds.Node == key_kind_tag k then beginning d given else Err (faults.KeyKind kinds.Node k)) ≡ Err (faults.KeyKind kinds.Node got)) (sym kind) (go got other)
+  where
+    go : (k : KeyKind) → k ≢ kinds.Node → (if key_kind_tag kinds.Node == key_kind_tag k then beginning d given else Err (faults.KeyKind kinds.Node k)) ≡ Err (faults.KeyKind kinds.Node k)
+    go kinds.Service n = refl
+    go kinds.Node n = absurd (n refl)
+    go kinds.Member n = refl
+
+-- some state with a key of a kind
+abbrev pub of_kind : KeyKind → Durable
+of_kind kind = key_alone (record { kind = kind; types = types.H5W4; seed = [] })

@@ -1,0 +1,55 @@
+use Rattle.std.proofs.Common.{◌≡◌, ◌≢◌, [], refl, rules, sym, ap, ◌∙◌}
+use Rattle.ccfg.specs.Nodes.{opened_by}
+use Rattle.ccfg.proofs.Beginnings.{begins_with, from_ok, refused_with}
+use Rattle.ccfg.proofs.NodeMoments.{by_stop, keeps_opening, opening_moments, reopened_disk, reopened_moments}
+use Rattle.ccfg.proofs.node.begin_with.Goals as goal
+
+pub returns-in-Ok-clause-begins : goal.returns-in-Ok-clause-begins
+returns-in-Ok-clause-begins g c =
+    let started = from_ok _ c.in-Ok.ensures.start in
+    let s = started.0 in
+    let e = started.1 in
+    let some : c.args.given.now ≢ [] = search rules in
+    (opened_by s c.args.file.state, begins_with c.args.file.state c.args.given.now s c.requires.none some e (c.in-Ok.ensures.fits s e), record { stands = c.in-Ok.ensures.stands s e; going = c.in-Ok.ensures.serves; keeps = λ honest. c.in-Ok.ensures.kept honest s e })
+
+pub returns-in-Err-clause-refused : goal.returns-in-Err-clause-refused
+returns-in-Err-clause-refused g c fault back e =
+    let some : c.args.given.now ≢ [] = search rules in
+    let is : c.stop_of.result ≡ _ = search (rules, e) in
+    let told = c.stop_of.ensures.refused fault is in
+    let ends = c.in-Err.ensures in
+    refused_with c.args.file.state c.args.given.now fault c.requires.none some
+    (ends.only fault c.in-Err.disk (search (rules, told.0)))
+    told.1
+    (λ seqno eq. ends.not_opening seqno c.in-Err.disk (search (rules, told.0, eq)))
+    (λ size eq. ends.too_large size c.in-Err.disk (search (rules, told.0, eq)))
+
+pub returns-in-Err-clause-untouched : goal.returns-in-Err-clause-untouched
+returns-in-Err-clause-untouched g c honest why back e other =
+    let why_is : c.stop_of.result ≡ why = search (rules, e) in
+    let back_is : c.in-Err.disk ≡ back = search (rules, e) in
+    let stays = c.in-Err.ensures.stays honest c.in-Err.error c.in-Err.disk refl (λ is. other (sym why_is ∙ c.stop_of.ensures.disk is)) in
+    (ap g.D.Disk.bytes (sym back_is) ∙ stays.0, ap g.D.Disk.past (sym back_is) ∙ stays.1)
+
+pub returns-in-Ok-clause-spent : goal.returns-in-Ok-clause-spent
+returns-in-Ok-clause-spent g c honest =
+    let started = from_ok _ c.in-Ok.ensures.start in
+    keeps_opening started.0 c.args.file.state _ (c.in-Ok.ensures.kept honest started.0 started.1)
+
+pub returns-in-Ok-clause-any_moment : goal.returns-in-Ok-clause-any_moment
+returns-in-Ok-clause-any_moment g c honest =
+    let started = from_ok _ c.in-Ok.ensures.start in
+    opening_moments started.0 c.args.file.state _ _ (c.in-Ok.ensures.any_moment honest started.0 started.1)
+
+pub returns-in-Err-clause-any_moment : goal.returns-in-Err-clause-any_moment
+returns-in-Err-clause-any_moment g c honest =
+    by_stop c.stop_of.result _
+    (λ failed. let started = from_ok _ (c.in-Err.ensures.opening_first c.in-Err.disk (search (rules, c.stop_of.ensures.disk_failed failed))) in
+    opening_moments started.0 c.args.file.state _ _ (c.in-Err.ensures.any_moment_err honest started.0 started.1))
+    (λ other. reopened_moments c.args.file.state _ _ (c.requires.only honest)
+    (c.in-Err.ensures.stays honest c.in-Err.error c.in-Err.disk refl (λ is. other (c.stop_of.ensures.disk is))).1)
+
+pub returns-then-is_empty-clause-any_moment : goal.returns-then-is_empty-clause-any_moment
+returns-then-is_empty-clause-any_moment g c honest =
+    reopened_moments c.args.file.state _ _ (c.requires.only honest)
+    (ap g.D.Disk.past (reopened_disk c.reopen.result c.args.file.disk c.reopen.ensures.same c.reopen.ensures.err))

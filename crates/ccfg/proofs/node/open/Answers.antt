@@ -1,0 +1,67 @@
+use Rattle.std.proofs.Common.{◌≡◌, ◌≢◌, inl, inr, ⊎_elim, Result, Ok, Err, arith, refl, rules, sym, ap, ◌∙◌}
+use Rattle.gl_base.specs.declared.or_no_memory.OrNoMemory.TheVariants as stops
+use Rattle.gl_ledger_file.specs.Given.{OfBytes}
+use Rattle.gl_journal.specs.Durable.{Durable}
+use Rattle.gl_journal.specs.declared.fault.JournalFault.{JournalFault}
+use Rattle.gl_journal.specs.declared.fault.JournalFault.TheVariants.{DiskFault}
+use Rattle.gl_journal.specs.declared.key.KeyKind.{KeyKind}
+use Rattle.gl_journal.specs.declared.key.KeyKind.TheVariants as kinds
+use Rattle.gl_book.specs.declared.node_file.fault.OpeningFault.TheVariants as faults
+use Rattle.ccfg.specs.Nodes.{beginning_of}
+use Rattle.ccfg.specs.declared.node.NodeStop.TheVariants as NodeStop
+use Rattle.ccfg.proofs.Beginnings.{of_honest, begins_of, by_bytes, by_opened, any_bytes, ledger_or_end, ok_map, of_kind, other_kind}
+use Rattle.ccfg.proofs.NodeMoments.{later_moments, opened_moments}
+use Rattle.ccfg.proofs.node.open.Goals as goal
+
+pub returns-in-Ok-clause-begins : goal.returns-in-Ok-clause-begins
+returns-in-Ok-clause-begins g c =
+    let d = c.in-Ok.file.state in
+    ok_map c.begin.result (λ replica h. by_opened g.D.Disk.honest (g.D.Disk.bytes c.args.disk) (Ok d) _ c.in-Ok.ensures.durable
+    (by_bytes (g.S.Source.left c.args.source.now) (λ given b. record { state = d; found = refl; start = b.0; begins = begins_of d given (Ok b.0) c.in-Ok.ensures.kind b.1; began = b.2 }) h))
+    c.begin.ensures.begins
+
+pub returns-in-Ok-clause-refused : goal.returns-in-Ok-clause-refused
+returns-in-Ok-clause-refused g c fault back e =
+    let d = c.in-Ok.file.state in
+    by_opened g.D.Disk.honest (g.D.Disk.bytes c.args.disk) (Ok d) _ c.in-Ok.ensures.durable
+    (by_bytes (g.S.Source.left c.args.source.now) (λ given b. begins_of d given (Err fault) c.in-Ok.ensures.kind b) (c.begin.ensures.refused fault back e))
+
+pub returns-in-Err-clause-refused : goal.returns-in-Err-clause-refused
+returns-in-Err-clause-refused g c fault back e =
+    let is : c.stop_of.result ≡ NodeStop.Refused fault = search (rules, e) in
+    let told = c.stop_of.ensures.refused fault is in
+    let ends = c.in-Err.ensures in
+    let error_is : c.in-Err.error ≡ stops.Fault fault = told.0 in
+    let held = g.D.Disk.bytes c.args.disk in
+    let left = g.S.Source.left c.args.source.now in
+    let Q : Result Durable JournalFault → Type 0 = λ opens. OfBytes left (λ given. beginning_of opens given ≡ Err fault) in
+    ⊎_elim
+    (λ (h : (why : JournalFault) × (fault ≡ faults.Journal why)).
+    let other : h.0 ≢ DiskFault = λ w. told.1 (h.1 ∙ ap faults.Journal w) in
+    by_opened g.D.Disk.honest held (Err h.0) Q
+    (λ honest. ends.damaged honest h.0 c.in-Err.disk (search (rules, error_is, h.1)) other)
+    (any_bytes left (λ given. ap Err (sym h.1))))
+    (λ (h : (got : KeyKind) × (fault ≡ faults.KeyKind kinds.Node got)).
+    let kinds_are = ends.kinds kinds.Node h.0 c.in-Err.disk (search (rules, error_is, h.1)) in
+    of_honest g.D.Disk.honest held Q
+    (λ honest. let k = ends.key_kind honest kinds.Node h.0 c.in-Err.disk (search (rules, error_is, h.1)) in
+    (k.0, k.1, any_bytes left (λ given. other_kind k.0 given h.0 k.2 kinds_are.1 ∙ ap Err (sym h.1))))
+    (Ok (of_kind h.0)) (any_bytes left (λ given. other_kind (of_kind h.0) given h.0 refl kinds_are.1 ∙ ap Err (sym h.1))))
+    (ends.only fault c.in-Err.disk (search (rules, error_is)))
+
+pub returns-in-Ok-clause-ended : goal.returns-in-Ok-clause-ended
+returns-in-Ok-clause-ended g c =
+    ledger_or_end c.begin.result _ _ c.in-Ok.file.state _ c.in-Ok.ensures.durable c.begin.ensures.ended
+
+pub returns-in-Ok-clause-spent : goal.returns-in-Ok-clause-spent
+returns-in-Ok-clause-spent g c honest =
+    ok_map c.begin.result (λ replica keeps. (c.in-Ok.file.state, c.in-Ok.ensures.durable honest, keeps)) (c.begin.ensures.spent honest)
+
+pub returns-in-Ok-clause-any_moment : goal.returns-in-Ok-clause-any_moment
+returns-in-Ok-clause-any_moment g c honest gate =
+    later_moments (g.D.Disk.bytes c.args.disk) _ _ _ c.in-Ok.file.state c.in-Ok.file.state (c.in-Ok.ensures.durable honest) refl (omega arith)
+    (opened_moments (g.D.Disk.bytes c.args.disk) _ _ (c.in-Ok.ensures.any_moment honest gate)) (c.begin.ensures.any_moment honest)
+
+pub returns-in-Err-clause-any_moment : goal.returns-in-Err-clause-any_moment
+returns-in-Err-clause-any_moment g c honest gate =
+    opened_moments (g.D.Disk.bytes c.args.disk) _ _ (c.in-Err.ensures.any_moment_err honest gate)

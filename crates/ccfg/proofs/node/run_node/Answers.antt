@@ -1,0 +1,41 @@
+use Rattle.std.proofs.Common.{refl, rules, ap}
+use Rattle.ccfg.proofs.NodeMoments.{later_moments}
+use Rattle.ccfg.proofs.NodeRuns.{keeps_same, serves_so, stops_so}
+use Rattle.ccfg.proofs.node.run_node.Goals as goal
+
+pub returns-in-Ok-clause-runs : goal.returns-in-Ok-clause-runs
+returns-in-Ok-clause-runs g c =
+    let h = c.serve_replica-end.ensures in
+    let told = c.tell_end.ensures in
+    serves_so g.D.Disk.honest g.D.Disk.bytes g.D.Disk.past g.D.Disk.faults g.L.Link.honest c.args.task.now _ c.serve_replica-end.result.0 c.tell_end.result
+    (record { settings = _; asked = (c.as_slice.ensures, refl, refl); first = c.in-Ok.replica; begins = c.in-Ok.ensures.begins; last = h.serves.0; course = h.serves.2; disk = h.serves.1 })
+    c.in-Ok.ensures.ended
+    h.ended
+    h.turns
+    h.failed
+    (λ is. rw c.in-Ok.ensures.quiet at (h.disk_failed is))
+    told.counts
+    told.turns
+    (λ is. let t = told.link_failed is in (t.0, keeps_same _ _ (ap g.K.Sink.holds t.1)))
+    (λ is. let t = told.stopped is in (t.0, keeps_same _ _ (ap g.K.Sink.holds t.1)))
+    (λ is. let t = told.memory is in (t.0, keeps_same _ _ (ap g.K.Sink.holds t.1)))
+
+pub returns-in-Err-clause-runs : goal.returns-in-Err-clause-runs
+returns-in-Err-clause-runs g c =
+    let h = c.in-Err.ensures in
+    let told = c.tell_stop.ensures in
+    stops_so g.D.Disk.honest g.D.Disk.bytes g.D.Disk.past g.D.Disk.faults g.L.Link.honest c.args.task.now _ c.in-Err.stop c.tell_stop.result refl
+    (λ fault is. h.refused fault c.in-Err.disk (search (rules, is)))
+    (λ is. h.source_failed c.in-Err.disk (search (rules, is)))
+    (λ is. h.disk_failed c.in-Err.disk (search (rules, is)))
+    told.refused
+    (λ is. let t = told.source_failed is in (t.0, keeps_same _ _ (ap g.K.Sink.holds t.1)))
+    (λ is. let t = told.disk_failed is in (t.0, keeps_same _ _ (ap g.K.Sink.holds t.1)))
+    (λ is. let t = told.memory is in (t.0, keeps_same _ _ (ap g.K.Sink.holds t.1)))
+
+pub returns-in-Ok-clause-any_moment : goal.returns-in-Ok-clause-any_moment
+returns-in-Ok-clause-any_moment g c honest gate =
+    let spent = c.in-Ok.ensures.spent honest in
+    let keeps = spent.2 in
+    later_moments (g.D.Disk.bytes c.args.disk) _ _ _ spent.0 keeps.0 spent.1 keeps.2 keeps.3
+    (c.in-Ok.ensures.any_moment honest gate) (c.serve_replica-end.ensures.any_moment honest keeps.0 keeps.1)

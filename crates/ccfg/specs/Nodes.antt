@@ -1,0 +1,224 @@
+-- How a node begins that is to serve, by its file and by its source, and to which end it served.
+use Rattle.std.specs.Prelude.{◌⊎◌, ◌≡◌, ℕ, ◌^◌, List, [], ◌∷◌, ◌++◌, Option, None, Bool, true, false, Result, Ok, Err, IsTrue, codes, decimal, nat_lt, ◌==◌, if◌then◌else◌}
+use Rattle.std.specs.Io.KnownBytes.{Appends, Keeps}
+use Rattle.gl_entry.specs.declared.entry.Entry.{Entry}
+use Rattle.gl_rules.specs.Node.{Node}
+use Rattle.gl_rules.specs.World.{Start}
+use Rattle.gl_ledger.specs.LedgerBook.{ServiceBook}
+use Rattle.gl_ledger_file.specs.Given.{OfBytes}
+use Rattle.gl_outside.specs.Disk.{Leaves, Step}
+use Rattle.gl_outside.specs.Fault.{Rose}
+use Rattle.gl_outside.specs.Link.{Exchange, Inward}
+use Rattle.gl_journal.specs.Durable.{Durable, OpensToTheSame}
+use Rattle.gl_journal.specs.Records.{key_kind_tag}
+use Rattle.gl_journal.specs.declared.fault.JournalFault.{JournalFault}
+use Rattle.gl_journal.specs.declared.key.KeyKind.TheVariants as kinds
+use Rattle.gl_book.specs.AtOpening.{node_at_opening, opened_state, opening_size, restarted_node}
+use Rattle.gl_book.specs.Frames.{goes_on_ledger}
+use Rattle.gl_book.specs.NodeFile.{opened}
+use Rattle.gl_book.specs.Replicas.{StandsForFile}
+use Rattle.gl_book.specs.ServiceStart.{start_in}
+use Rattle.gl_book.specs.Stands.{NodeStore, Stands}
+use Rattle.gl_book.specs.declared.node_file.fault.OpeningFault.{OpeningFault}
+use Rattle.gl_book.specs.declared.node_file.fault.OpeningFault.TheVariants as faults
+use Rattle.gl_commands.specs.declared.task.NodeTask.{NodeTask}
+use Rattle.gl_serve.specs.Serves.{Serves, calls_after}
+use Rattle.gl_serve.specs.declared.settings.Serving.{Serving}
+use Rattle.gl_serve.specs.declared.settings.ServeEnd.{ServeEnd}
+use Rattle.gl_serve.specs.declared.settings.ServeEnd.TheVariants as ends
+use Rattle.gl_serving.specs.OverLink.{KeepsLeaves}
+use Rattle.gl_serving.specs.Serving.{serving_rules}
+use Rattle.gl_serving.specs.Types.{NodeSeen}
+use Rattle.ccfg.specs.Faults.{fault_line}
+use Rattle.ccfg.specs.Owed.{Written}
+use Rattle.ccfg.specs.Promises.{TellsFront}
+use Rattle.ccfg.specs.declared.ending.Ending.{Ending}
+use Rattle.ccfg.specs.declared.ending.Ending.TheVariants as endings
+use Rattle.ccfg.specs.declared.fault.Fault.TheVariants as told
+use Rattle.ccfg.specs.declared.node.NodeStop.{NodeStop}
+
+-- ---- how a node begins
+
+-- What the file of a node opens to as it begins to serve, and which node of the rules it is then.
+pub record Beginning : Type 0 where
+  pub state : Durable
+  pub node : ServiceBook → Node Entry
+
+-- It goes on from what its file keeps, as a restart leaves it.
+abbrev pub reopened : Durable → Beginning
+reopened d = record { state = d; node = λ b. restarted_node b d }
+
+-- It begins with an opening ledger, which its file then keeps.
+abbrev pub opened_by : Start Entry → Durable → Beginning
+opened_by s d = record { state = opened_state s d; node = λ b. node_at_opening b s d }
+
+-- An opening ledger has to fit one batch of the file.
+abbrev pub begin_with : Durable → Result (Start Entry) ℕ → Result Beginning OpeningFault
+begin_with d (Err seqno) = Err (faults.NotOpening seqno)
+begin_with d (Ok s) =
+    if nat_lt (opening_size s d) (2 ^ 32) then Ok (opened_by s d)
+    else Err (faults.TooLarge (opening_size s d))
+
+-- Where the source gives nothing, a node whose file has no ledger joins.
+abbrev pub begin_from : Durable → List ℕ → Result Beginning OpeningFault
+begin_from d [] = Ok (reopened d)
+begin_from d (byte ∷ given) = begin_with d (start_in (byte ∷ given))
+
+-- Where the file has a ledger, the source is not asked.
+abbrev pub begin_behind : Durable → List (List ℕ) → List ℕ → Result Beginning OpeningFault
+begin_behind d [] given = begin_from d given
+begin_behind d (frame ∷ frames) given = Ok (reopened d)
+
+abbrev pub beginning : Durable → List ℕ → Result Beginning OpeningFault
+beginning d given = begin_behind d d.log given
+
+-- The same by what the bytes of the disk open to: a journal whose key is a node's.
+abbrev pub beginning_of : Result Durable JournalFault → List ℕ → Result Beginning OpeningFault
+beginning_of (Err fault) given = Err (faults.Journal fault)
+beginning_of (Ok d) given =
+    if key_kind_tag kinds.Node == key_kind_tag d.key.kind then beginning d given
+    else Err (faults.KeyKind kinds.Node d.key.kind)
+
+-- What holds of what a disk opens to: of an honest disk of what its bytes do, of another one of
+-- something that bytes may open to.
+abbrev pub OfOpened : Bool → List ℕ → (Result Durable JournalFault → Type 0) → Type 0
+OfOpened true held P = P (opened held)
+OfOpened false held P = (told : Result Durable JournalFault) × P told
+
+-- Whether the file has a ledger, so that the source is not asked.
+abbrev pub has_ledger : List (List ℕ) → Bool
+has_ledger [] = false
+has_ledger (frame ∷ frames) = true
+
+abbrev pub HasLedger : Result Durable JournalFault → Type 0
+HasLedger (Err fault) = ⊥
+HasLedger (Ok d) = has_ledger d.log ≡ true
+
+-- ---- what a stop leaves of its file
+
+-- The disk of a node that began, or that didn't.
+abbrev pub disk_behind : {D : Type 0} → Result (NodeSeen D NodeStore) (NodeStop × D) → D
+disk_behind (Ok replica) = replica.disk
+disk_behind (Err stopped) = stopped.1
+
+-- Of a disk with these bytes and this history an image is one that a stop might have left before, or
+-- it opens as the bytes do, or it opens to their key, with no fewer spent leaves.
+abbrev pub KeepsNode : List ℕ → List Step → List ℕ → Type 0
+KeepsNode bytes past image =
+    OpensToTheSame goes_on_ledger bytes past image
+    ⊎ ((d : Durable) × (opened bytes ≡ Ok d) × KeepsLeaves goes_on_ledger d image)
+
+-- So it is of each image that a stop may leave at some moment since then.
+abbrev pub MovesNode : List ℕ → List Step → List Step → Type 0
+MovesNode bytes before after = Leaves (KeepsNode bytes before) before after
+
+-- ---- how it serves
+
+-- What is told of a serve whose link ended: so many payloads were in the grammar, and so many frames
+-- were lost.
+abbrev pub served_line : ℕ × ℕ → List ℕ
+served_line counts =
+    codes "served " ++ decimal counts.0 ++ codes " lost " ++ decimal counts.1 ++ codes "\n"
+
+-- How it serves.
+abbrev pub IsAsked : NodeTask → Serving → Type 0
+IsAsked task s =
+    (s.peers.now ≡ task.peers) × (s.ticks ≡ task.ticks) × (s.turns ≡ task.turns)
+
+-- A link, as contracts see it.
+pub record OnLink : Type 0 where
+  pub past : List Exchange
+  pub inward : Inward
+
+-- With what a run of a node began, and what it left.
+pub record NodeRun (D : Type 0) : Type 0 where
+  pub disk : D
+  pub disk_now : D
+  -- what the source had to give, where it tells that, whether it gave its end, and its counts of
+  -- faults
+  pub given : Option (List ℕ)
+  pub ended : Bool
+  pub faults : ℕ
+  pub faults_now : ℕ
+  pub link : OnLink
+  pub link_now : OnLink
+  pub written : Written
+
+-- Over a disk with these bytes and this history, and its count of faults.
+module _ {D : Type 0} (honest : Bool) (bytes : D → List ℕ) (past : D → List Step)
+    (faults_of : D → ℕ) where
+  -- A node began so: of the rules it is this one, and an honest disk keeps that.
+  pub record BeginsAs (b : Beginning) (d : Durable) (first : NodeSeen D NodeStore) : Type 0 where
+    pub stands : StandsForFile d first.core b.node
+    pub going : first.stopped ≡ None
+    pub keeps : IsTrue honest → opened (bytes first.disk) ≡ Ok b.state
+
+  -- By what the disk's bytes opened to and the source gave.
+  pub record BeginsBy (opens : Result Durable JournalFault) (given : List ℕ)
+      (first : NodeSeen D NodeStore) : Type 0 where
+    pub state : Durable
+    pub found : opens ≡ Ok state
+    pub start : Beginning
+    pub begins : beginning_of opens given ≡ Ok start
+    pub began : BeginsAs start state first
+
+  module _ (honest_link : Bool) (task : NodeTask) (r : NodeRun D) where
+    -- It began so from its file and the source, and what it then did over the link came to this
+    -- end.
+    pub record Served (end : Result (ℕ × ℕ) ServeEnd) : Type 0 where
+      pub settings : Serving
+      pub asked : IsAsked task settings
+      pub first : NodeSeen D NodeStore
+      pub begins : OfOpened honest (bytes r.disk) (λ opens. OfBytes r.given (λ given.
+          BeginsBy opens given first))
+      pub last : NodeSeen D NodeStore
+      pub course : Serves honest_link
+          (serving_rules Stands goes_on_ledger honest bytes past faults_of) settings
+          first r.link.past r.link.inward.coming
+          last r.link_now.past r.link_now.inward.coming end
+      pub disk : last.disk ≡ r.disk_now
+
+    -- It didn't begin, by this fault, and left the link as it was.
+    abbrev pub NotBegun : OpeningFault → Type 0
+    NotBegun fault =
+        OfOpened honest (bytes r.disk) (λ opens. OfBytes r.given (λ given.
+        beginning_of opens given ≡ Err fault)) × (r.link_now ≡ r.link)
+
+    -- A text that is due: why it didn't begin, the counts, or that its turns are over.
+    abbrev pub NodeDue : List ℕ → Type 0
+    NodeDue text =
+        ((fault : OpeningFault) × NotBegun fault × (text ≡ fault_line (told.Opening fault)))
+        ⊎ ((counts : ℕ × ℕ) × Served (Ok counts) × (text ≡ served_line counts))
+        ⊎ (Served (Err ends.Turns) × (text ≡ fault_line (told.Turns task.turns)))
+
+    -- What a run comes to, by how it ends.
+    abbrev pub NodeRuns : Ending → Type 0
+    NodeRuns endings.Done =
+        (r.link_now.inward.ended ≡ true)
+        × OfOpened honest (bytes r.disk) (λ opens. HasLedger opens ⊎ (r.ended ≡ true))
+        × (counts : ℕ × ℕ) × Served (Ok counts)
+        × Appends r.written.held r.written.holds (served_line counts)
+    NodeRuns endings.NotValid =
+        (fault : OpeningFault) × NotBegun fault
+        × Appends r.written.held r.written.holds (fault_line (told.Opening fault))
+    NodeRuns endings.OtherWords = ⊥
+    NodeRuns endings.SourceFailed =
+        Rose r.faults r.faults_now × (r.link_now ≡ r.link)
+        × Keeps r.written.held r.written.holds
+    NodeRuns endings.SinkFailed =
+        Rose r.written.faults r.written.faults_now
+        × TellsFront NodeDue r.written.held r.written.holds
+    NodeRuns endings.DiskFailed =
+        Rose (faults_of r.disk) (faults_of r.disk_now)
+        × Keeps r.written.held r.written.holds
+    NodeRuns endings.LinkFailed =
+        Rose r.link.inward.faults r.link_now.inward.faults × Served (Err ends.LinkFailed)
+        × Keeps r.written.held r.written.holds
+    NodeRuns endings.Memory =
+        Keeps r.written.held r.written.holds
+        ⊎ TellsFront NodeDue r.written.held r.written.holds
+    NodeRuns endings.PastLimit =
+        (r.link_now.inward.calls ≡ calls_after task.turns r.link.inward.calls)
+        × Served (Err ends.Turns)
+        × Appends r.written.held r.written.holds (fault_line (told.Turns task.turns))
+    NodeRuns endings.NoReading = ⊥

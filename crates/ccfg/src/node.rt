@@ -1,0 +1,326 @@
+//! A node that serves from the disk's file over a link: its file is opened, it begins by what the
+//! file keeps or by the opening ledger that its source gives, and it serves until the link ends.
+
+ghost use Rattle.std.specs.Prelude.{◌≡◌, ◌≢◌, ◌⊎◌, ◌++◌, ◌≤◌, ℕ, false, true, Err, IfOk, IsTrue, None, Ok, codes, decimal};
+ghost use Rattle.gl_base.specs.declared.or_no_memory.OrNoMemory.{OrNoMemory};
+ghost use Rattle.gl_ledger_file.specs.Given.{OfBytes};
+ghost use Rattle.gl_outside.specs.Disk.{Leaves};
+ghost use Rattle.gl_outside.specs.Fault.{Rose};
+ghost use Rattle.gl_journal.specs.Durable.{Durable, journal_header};
+ghost use Rattle.gl_journal.specs.Parts.{HasGate};
+ghost use Rattle.gl_journal.specs.declared.fault.JournalFault.{JournalFault};
+ghost use Rattle.gl_book.specs.Frames.{goes_on_ledger};
+ghost use Rattle.gl_book.specs.NodeFile.{opened, OpensOnlyTo};
+ghost use Rattle.gl_book.specs.declared.node_file.fault.OpeningFault.{OpeningFault};
+ghost use Rattle.ccfg.specs.Owed.{WritesDue, due_of_answer, due_of_fault};
+ghost use Rattle.ccfg.specs.declared.fault.Fault.TheVariants as told;
+ghost use Rattle.gl_serving.specs.OverLink.{KeepsLeaves};
+ghost use Rattle.ccfg.specs.Nodes.{BeginsAs, BeginsBy, Beginning, HasLedger, MovesNode, NodeRuns, OfOpened, beginning, beginning_of, disk_behind, has_ledger, reopened, served_line};
+
+use crate::ending::Ending;
+use crate::fault::Fault;
+use crate::load::{LoadStop, load};
+use crate::output::{refuse, tell};
+use gl_base::OrNoMemory;
+use gl_book::{NodeFile, OpeningFault, StoreBook};
+use gl_commands::NodeTask;
+use gl_fault_lines::put_number;
+use gl_journal::JournalFault;
+use gl_node::Replica;
+use gl_outside::{Disk, Link, Sink, Source};
+use gl_serve::{ServeEnd, Serving};
+use gl_serving::{Observer, serve_replica};
+use std::alloc::{AllocError, Global};
+
+/// More bytes than any memory holds.
+const SOURCE_LIMIT: usize = 0x3fff_ffff_ffff_ffff;
+
+/// Why no node begins.
+#[derive(Clone, Copy, Debug, PartialEq, Eq)]
+pub enum NodeStop {
+    /// The file is no node's, or the source gives no opening ledger.
+    Refused(OpeningFault),
+    SourceFailed,
+    DiskFailed,
+    Memory,
+}
+
+/// Why no node begins whose file can't be opened, or can't begin.
+fn stop_of(error: OrNoMemory<OpeningFault>) -> NodeStop
+    ensures refused { (fault : OpeningFault) → result ≡ NodeStop.Refused fault →
+        (error ≡ OrNoMemory.Fault fault)
+        × (fault ≢ OpeningFault.Journal JournalFault.DiskFault) }
+    ensures disk_failed { result ≡ NodeStop.DiskFailed →
+        error ≡ OrNoMemory.Fault (OpeningFault.Journal JournalFault.DiskFault) }
+    ensures disk { error ≡ OrNoMemory.Fault (OpeningFault.Journal JournalFault.DiskFault) →
+        result ≡ NodeStop.DiskFailed }
+    ensures no_source { result ≢ NodeStop.SourceFailed }
+{
+    match error {
+        OrNoMemory::NoMemory => NodeStop::Memory,
+        OrNoMemory::Fault(OpeningFault::Journal(JournalFault::DiskFault)) => NodeStop::DiskFailed,
+        OrNoMemory::Fault(fault) => NodeStop::Refused(fault),
+    }
+}
+
+/// The node of a file goes on from what the file keeps.
+fn reopen<D: Disk + Drop>(file: NodeFile<D>) -> Result<Replica<D, StoreBook>, (NodeStop, D)>
+    requires kept { IsTrue D.honest → opened (D.bytes file.disk) ≡ Ok file.state }
+    ensures begins { IfOk result (λ replica. BeginsAs D.honest D.bytes D.past D.faults
+        (reopened file.state) file.state replica) }
+    ensures same { IfOk result (λ replica. replica.disk ≡ file.disk) }
+    ensures going { IfOk result (λ replica. replica.stopped ≡ None) }
+    ensures err { (why : NodeStop) (back : D) → result ≡ Err (why, back) →
+        (why ≡ NodeStop.Memory) × (back ≡ file.disk) }
+{
+    match file.reopen() {
+        Ok(replica) => Ok(replica),
+        Err((_, disk)) => Err((NodeStop::Memory, disk)),
+    }
+}
+
+/// The node of a file that has no ledger begins with what a source gave, or joins where that was
+/// nothing.
+fn begin_with<D: Disk + Drop>(
+    file: NodeFile<D>,
+    given: &[u8],
+) -> Result<Replica<D, StoreBook>, (NodeStop, D)>
+    requires kept { IsTrue D.honest → opened (D.bytes file.disk) ≡ Ok file.state }
+    requires only { IsTrue D.honest → OpensOnlyTo (D.past file.disk) file.state }
+    requires none { has_ledger file.state.log ≡ false }
+    ensures begins { IfOk result (λ replica. (b : Beginning)
+        × (beginning file.state given.now ≡ Ok b)
+        × BeginsAs D.honest D.bytes D.past D.faults b file.state replica) }
+    ensures refused { (fault : OpeningFault) (back : D) →
+        result ≡ Err (NodeStop.Refused fault, back) → beginning file.state given.now ≡ Err fault }
+    ensures no_source { (back : D) → result ≢ Err (NodeStop.SourceFailed, back) }
+    ensures going { IfOk result (λ replica. replica.stopped ≡ None) }
+    ensures quiet { IfOk result (λ replica. D.faults replica.disk ≡ D.faults file.disk) }
+    ensures untouched { IsTrue D.honest → (why : NodeStop) (back : D) → result ≡ Err (why, back) →
+        why ≢ NodeStop.DiskFailed → (D.bytes back ≡ D.bytes file.disk)
+        × (D.past back ≡ D.past file.disk) }
+    ensures disk_failed { (back : D) → result ≡ Err (NodeStop.DiskFailed, back) →
+        Rose (D.faults file.disk) (D.faults back) }
+    ensures spent { IsTrue D.honest → IfOk result (λ replica.
+        KeepsLeaves goes_on_ledger file.state (D.bytes replica.disk)) }
+    ensures any_moment { IsTrue D.honest → Leaves (KeepsLeaves goes_on_ledger file.state)
+        (D.past file.disk) (D.past (disk_behind result)) }
+{
+    if given.is_empty() {
+        return reopen(file);
+    }
+    match file.begin(given) {
+        Ok(replica) => Ok(replica),
+        Err((error, disk)) => Err((stop_of(error), disk)),
+    }
+}
+
+/// The node of a file begins: where the file has a ledger, with that, and the source is left
+/// unread; else with what the source gives.
+fn begin<S: Source, D: Disk + Drop>(
+    alloc: Global,
+    source: &mut S,
+    file: NodeFile<D>,
+) -> Result<Replica<D, StoreBook>, (NodeStop, D)>
+    requires kept { IsTrue D.honest → opened (D.bytes file.disk) ≡ Ok file.state }
+    requires only { IsTrue D.honest → OpensOnlyTo (D.past file.disk) file.state }
+    ensures begins { IfOk result (λ replica. OfBytes (S.left source.old) (λ given. (b : Beginning)
+        × (beginning file.state given ≡ Ok b)
+        × BeginsAs D.honest D.bytes D.past D.faults b file.state replica)) }
+    ensures refused { (fault : OpeningFault) (back : D) →
+        result ≡ Err (NodeStop.Refused fault, back) → OfBytes (S.left source.old) (λ given.
+        beginning file.state given ≡ Err fault) }
+    ensures untouched { IsTrue D.honest → (why : NodeStop) (back : D) → result ≡ Err (why, back) →
+        why ≢ NodeStop.DiskFailed → (D.bytes back ≡ D.bytes file.disk)
+        × (D.past back ≡ D.past file.disk) }
+    ensures going { IfOk result (λ replica. replica.stopped ≡ None) }
+    ensures quiet { IfOk result (λ replica. D.faults replica.disk ≡ D.faults file.disk) }
+    ensures unread { has_ledger file.state.log ≡ true → source.new ≡ source.old }
+    ensures ended { has_ledger file.state.log ≡ false →
+        IfOk result (λ replica. S.ended source.new ≡ true) }
+    ensures ended_refused { (fault : OpeningFault) (back : D) →
+        result ≡ Err (NodeStop.Refused fault, back) → S.ended source.new ≡ true }
+    ensures source_failed { (back : D) → result ≡ Err (NodeStop.SourceFailed, back) →
+        Rose (S.faults source.old) (S.faults source.new) }
+    ensures disk_failed { (back : D) → result ≡ Err (NodeStop.DiskFailed, back) →
+        Rose (D.faults file.disk) (D.faults back) }
+    ensures spent { IsTrue D.honest → IfOk result (λ replica.
+        KeepsLeaves goes_on_ledger file.state (D.bytes replica.disk)) }
+    ensures any_moment { IsTrue D.honest → Leaves (KeepsLeaves goes_on_ledger file.state)
+        (D.past file.disk) (D.past (disk_behind result)) }
+{
+    if file.ledger_len() > 0 {
+        return reopen(file);
+    }
+    match load(alloc, SOURCE_LIMIT, source) {
+        Ok(given) => begin_with(file, &given),
+        Err(LoadStop::Failed) => Err((NodeStop::SourceFailed, file.into_disk())),
+        Err(LoadStop::Memory | LoadStop::TooLong) => Err((NodeStop::Memory, file.into_disk())),
+    }
+}
+
+/// Opens the file of a node, which begins.
+fn open<S: Source, D: Disk + Drop>(
+    alloc: Global,
+    source: &mut S,
+    disk: D,
+) -> Result<Replica<D, StoreBook>, (NodeStop, D)>
+    ensures begins { IfOk result (λ replica. OfOpened D.honest (D.bytes disk) (λ opens.
+        OfBytes (S.left source.old) (λ given.
+        BeginsBy D.honest D.bytes D.past D.faults opens given replica))) }
+    ensures refused { (fault : OpeningFault) (back : D) →
+        result ≡ Err (NodeStop.Refused fault, back) →
+        OfOpened D.honest (D.bytes disk) (λ opens. OfBytes (S.left source.old) (λ given.
+        beginning_of opens given ≡ Err fault)) }
+    ensures ended { IfOk result (λ replica. OfOpened D.honest (D.bytes disk) (λ opens.
+        HasLedger opens ⊎ (S.ended source.new ≡ true))) }
+    ensures going { IfOk result (λ replica. replica.stopped ≡ None) }
+    ensures source_failed { (back : D) → result ≡ Err (NodeStop.SourceFailed, back) →
+        Rose (S.faults source.old) (S.faults source.new) }
+    ensures disk_failed { (back : D) → result ≡ Err (NodeStop.DiskFailed, back) →
+        Rose (D.faults disk) (D.faults back) }
+    ensures quiet { IfOk result (λ replica. D.faults replica.disk ≡ D.faults disk) }
+    ensures spent { IsTrue D.honest → IfOk result (λ replica. (d : Durable)
+        × (opened (D.bytes disk) ≡ Ok d)
+        × KeepsLeaves goes_on_ledger d (D.bytes replica.disk)) }
+    ensures any_moment { IsTrue D.honest → HasGate journal_header (D.bytes disk) →
+        MovesNode (D.bytes disk) (D.past disk) (D.past (disk_behind result)) }
+{
+    match NodeFile::open(alloc, disk) {
+        Ok(file) => begin(alloc, source, file),
+        Err((error, disk)) => Err((stop_of(error), disk)),
+    }
+}
+
+/// Tells why no node begins, where that is told.
+fn tell_stop<K: Sink>(alloc: Global, stop: NodeStop, sink: &mut K) -> Ending
+    ensures refused { (fault : OpeningFault) → stop ≡ NodeStop.Refused fault →
+        WritesDue result (record {
+          held = K.holds sink.old;
+          holds = K.holds sink.new;
+          faults = K.faults sink.old;
+          faults_now = K.faults sink.new;
+        }) (due_of_fault (told.Opening fault)) }
+    ensures source_failed { stop ≡ NodeStop.SourceFailed →
+        (result ≡ Ending.SourceFailed) × (sink.new ≡ sink.old) }
+    ensures disk_failed { stop ≡ NodeStop.DiskFailed →
+        (result ≡ Ending.DiskFailed) × (sink.new ≡ sink.old) }
+    ensures memory { stop ≡ NodeStop.Memory →
+        (result ≡ Ending.Memory) × (sink.new ≡ sink.old) }
+{
+    match stop {
+        NodeStop::Refused(fault) => refuse(alloc, &Fault::Opening(fault), sink),
+        NodeStop::SourceFailed => Ending::SourceFailed,
+        NodeStop::DiskFailed => Ending::DiskFailed,
+        NodeStop::Memory => Ending::Memory,
+    }
+}
+
+/// The line that tells how many payloads were in the grammar, and how many frames were lost.
+fn served_line(alloc: Global, counts: (u64, u64)) -> Result<Vec<u8>, AllocError>
+    ensures { IfOk result (λ line. line.items ≡ served_line counts) }
+{
+    let mut line = Vec::from_slice(alloc, b"served ")?;
+    put_number(&mut line, counts.0)?;
+    line.extend_from_slice(b" lost ")?;
+    put_number(&mut line, counts.1)?;
+    line.extend_from_slice(b"\n")?;
+    Ok(line)
+}
+
+fn tell_counts<K: Sink>(alloc: Global, counts: (u64, u64), sink: &mut K) -> Ending
+    ensures { WritesDue result (record {
+      held = K.holds sink.old;
+      holds = K.holds sink.new;
+      faults = K.faults sink.old;
+      faults_now = K.faults sink.new;
+    }) (due_of_answer (served_line counts)) }
+{
+    match served_line(alloc, counts) {
+        Ok(line) => tell(&line, sink),
+        Err(_) => Ending::Memory,
+    }
+}
+
+/// Tells how a serve ended, where that is told.
+fn tell_end<K: Sink>(
+    alloc: Global,
+    turns: u64,
+    end: Result<(u64, u64), ServeEnd>,
+    sink: &mut K,
+) -> Ending
+    ensures counts { (counts : ℕ × ℕ) → end ≡ Ok counts →
+        WritesDue result (record {
+          held = K.holds sink.old;
+          holds = K.holds sink.new;
+          faults = K.faults sink.old;
+          faults_now = K.faults sink.new;
+        }) (due_of_answer (served_line counts)) }
+    ensures turns { end ≡ Err ServeEnd.Turns →
+        WritesDue result (record {
+          held = K.holds sink.old;
+          holds = K.holds sink.new;
+          faults = K.faults sink.old;
+          faults_now = K.faults sink.new;
+        }) (due_of_fault (told.Turns turns)) }
+    ensures link_failed { end ≡ Err ServeEnd.LinkFailed →
+        (result ≡ Ending.LinkFailed) × (sink.new ≡ sink.old) }
+    ensures stopped { end ≡ Err ServeEnd.Stopped →
+        (result ≡ Ending.DiskFailed) × (sink.new ≡ sink.old) }
+    ensures memory { end ≡ Err ServeEnd.NoMemory →
+        (result ≡ Ending.Memory) × (sink.new ≡ sink.old) }
+{
+    match end {
+        Ok(counts) => tell_counts(alloc, counts, sink),
+        Err(ServeEnd::Turns) => refuse(alloc, &Fault::Turns { turns }, sink),
+        Err(ServeEnd::LinkFailed) => Ending::LinkFailed,
+        Err(ServeEnd::Stopped) => Ending::DiskFailed,
+        Err(ServeEnd::NoMemory) => Ending::Memory,
+    }
+}
+
+/// Serves as the node of the disk's file over the link until that ends, and tells how many payloads
+/// were in the grammar and how many frames were lost. Behind each event of the node the observer is
+/// told where it stands.
+pub fn run_node<S: Source, K: Sink, D: Disk + Drop, L: Link, O: Observer>(
+    alloc: Global,
+    task: &NodeTask,
+    source: &mut S,
+    sink: &mut K,
+    disk: D,
+    link: &mut L,
+    observer: O,
+) -> (Ending, D)
+    requires ticks { 1 ≤ task.now.ticks }
+    ensures runs { NodeRuns D.honest D.bytes D.past D.faults L.honest task.now (record {
+      disk = disk;
+      disk_now = result.1;
+      given = S.left source.old;
+      ended = S.ended source.new;
+      faults = S.faults source.old;
+      faults_now = S.faults source.new;
+      link = record { past = L.past link.old; inward = L.inward link.old };
+      link_now = record { past = L.past link.new; inward = L.inward link.new };
+      written = record {
+        held = K.holds sink.old;
+        holds = K.holds sink.new;
+        faults = K.faults sink.old;
+        faults_now = K.faults sink.new;
+      };
+    }) result.0 }
+    ensures any_moment { IsTrue D.honest → HasGate journal_header (D.bytes disk) →
+        MovesNode (D.bytes disk) (D.past disk) (D.past result.1) }
+{
+    match open(alloc, source, disk) {
+        Ok(replica) => {
+            let settings = Serving {
+                peers: task.peers.as_slice(),
+                ticks: task.ticks,
+                turns: task.turns,
+            };
+            let (end, disk) = serve_replica(alloc, link, replica, observer, &settings);
+            (tell_end(alloc, task.turns, end, sink), disk)
+        }
+        Err((stop, disk)) => (tell_stop(alloc, stop, sink), disk),
+    }
+}

@@ -1,0 +1,281 @@
+#!/usr/bin/env -S python3 -B
+"""A service of three nodes on this machine: founded with key files, opened by its members, asked by a
+client, and not stopped by the loss of its leader. Prints each command and what it tells.
+
+    run.py CCFG FOLDER
+
+CCFG is the built program, FOLDER an empty folder for the files. What a line tells that begins with `#`
+was seen, and is no command's. It ends with 0 only where all of it was seen, within four minutes, and
+ends its nodes in any case.
+"""
+import hashlib
+import json
+import signal
+import sys
+import threading
+import time
+from pathlib import Path
+
+from client import RECEIPT_OF, STATUS_OF, SUBMIT, Accepted, Client, Service
+from client import id_of, put, request, text_of, transaction
+from export import entries_of
+from service import Program, limit_time, nodes_of, peers_of, within
+
+HERE = Path(__file__).resolve().parent
+SECONDS = 240
+NAMES, MEMBERS = ["node1", "node2", "node3"], ["alice", "bob"]
+TICKS = [10, 15, 20]  # so many ticks without a word of a leader, each node another number
+LOAD_BEFORE, LOAD_AFTER = 150, 100  # puts that are accepted before the leader is killed, and behind it
+PAUSE = 0.005  # seconds between two puts of the load
+
+
+def seen(text):
+    print(f"# {text}")
+
+
+def required(holds, text):
+    """Tells what was seen, and ends where it wasn't."""
+    if not holds:
+        sys.exit(f"not so: {text}")
+    seen(text)
+
+
+class Story:
+    """What the parts of the run share."""
+
+    def __init__(self, program):
+        self.program = program
+        self.identity, ids = program.found(NAMES, MEMBERS, "opening")
+        self.nodes = nodes_of(program, NAMES, ids)
+        self.service = Service({node.id: node.address for node in self.nodes})
+
+    # ---- Nodes
+
+    def begin(self, node, given):
+        ticks = TICKS[self.nodes.index(node)]
+        node.begin(peers_of(node, self.nodes), ticks, given)
+        places = len(self.nodes)  # where it listens, and where each of the others does
+        within(20, lambda: len(node.lines()) >= places and node.listens(), f"{node.name} listens")
+        seen(self.program.shown(f"{node.name} tells: {', '.join(node.lines()[:places])}"))
+
+    def tell_standing(self, node, test, what):
+        """Waits until a node stands so, and prints the line by which it told that."""
+        role, view, commit = within(20, lambda: test(node.standing()) and node.standing(), what)
+        seen(f"{node.name} tells: {role} view {view} commit {commit}")
+        return role, view, commit
+
+    def leader(self, view, nodes):
+        """The node that leads, in this view or a later one."""
+        stands = [(node, node.standing()) for node in nodes]
+        leads = [(node, of) for node, of in stands if of and of[0] == "leader" and of[1] >= view]
+        return leads[0] if leads else None
+
+    # ---- A client, by client.py
+
+    def client(self, node, words, given=b"", out=None, wanted=0):
+        command = [sys.executable, "-B", str(HERE / "client.py"), node.address, *words.split()]
+        name = f"./client.py {node.address} {words}"
+        return self.program.run(name, command, given, out, wanted).decode().strip()
+
+    def accepted(self, node, words, given=b""):
+        """What a request that the leader accepts is answered, and waits until it is committed."""
+        answer = self.client(node, words, given)
+        self.committed(answer.split()[1])
+        return answer
+
+    def committed(self, id):
+        """Waits until whoever leads says that it is committed."""
+        asked = STATUS_OF, transaction(id_of(id))
+        within(20, lambda: self.service.ask(*asked).status == "Committed", f"{id} is committed")
+
+    def status_at(self, node, id):
+        client = Client(node.address)
+        answer = client.ask(STATUS_OF, transaction(id_of(id)))
+        client.close()
+        return answer.status
+
+
+def open_service(story):
+    """The members acknowledge the service and open it. A put before that is refused: 51, it is opening."""
+    leader, program = story.nodes[0], story.program
+    story.client(leader, "put public:t 61 31", wanted=1)
+
+    def signed(member, asked):
+        words = f"@disk={MEMBERS[member - 1]}.key sign --identity {story.identity} --member {member}"
+        program.ccfg(words, json.dumps(asked).encode(), "request")
+        answer = story.accepted(leader, "govern", "request")
+        return answer, hashlib.sha256((program.folder / "request").read_bytes()).hexdigest()
+
+    for member in (1, 2):
+        signed(member, {"op": "ack"})
+    actions = [{"args": {}, "name": "transition_service_to_open"}]
+    _, proposal = signed(1, {"actions": actions, "op": "propose"})
+    program.words[proposal] = "$PROPOSAL"
+    for member in (1, 2):
+        answer, _ = signed(member, {"op": "ballot", "proposal_id": proposal, "vote": True})
+    required(answer.endswith(" Accepted"), "the proposal is accepted: the service is open")
+
+
+def watch(story):
+    """A put over one connection, and what becomes of it: Pending at first, and without a receipt, then
+    Committed."""
+    client = Client(story.nodes[0].address)
+    id = client.ask(SUBMIT, request(put(b"public:t", b"a", b"1"))).id
+    put_at = time.monotonic()
+    first = client.ask(STATUS_OF, transaction(id))
+    receipt = client.ask(RECEIPT_OF, transaction(id))
+    within(20, lambda: client.ask(STATUS_OF, transaction(id)).status == "Committed", "it is committed")
+    took = time.monotonic() - put_at
+    client.close()
+    text = f"{id[0]}.{id[1]}"
+    required(first.status == "Pending", f"a put is accepted as {text}; asked at once its status is Pending")
+    required(text_of(receipt) == "refused 80 1", "its receipt is refused then: 80 1, it is Pending")
+    seen(f"{took:.2f} seconds later it is Committed")
+    return text
+
+
+def ask(story):
+    """A put, its status at two nodes, a read, a node that doesn't lead, and the put's receipt."""
+    first, second, _ = story.nodes
+    id = watch(story)
+    required(story.client(first, f"status {id}") == "Committed", "so says the leader")
+    within(20, lambda: story.status_at(second, id) == "Committed", "node2 knows it too")
+    required(story.client(second, f"status {id}") == "Committed", "and so says another node")
+    required(story.accepted(first, "get public:t 61").endswith(" value 31"), "the value is read")
+    answer = story.client(second, "put public:t 61 32", wanted=1)
+    required(answer == f"refused 110 2 {first.id}", "who doesn't lead names the view and the leader")
+    story.client(second, f"receipt {id}", out="receipt.json")
+    told = story.program.ccfg(f"verify --identity {story.identity}", "receipt.json")
+    required(told.decode().split() == ["valid", id], "the receipt is valid under the service's key alone")
+
+
+class Load(threading.Thread):
+    """Puts, one after another, each once the one before is accepted. It turns to another node where its
+    own is gone. A put that got no answer is asked again, and may then stand twice."""
+
+    def __init__(self, nodes):
+        super().__init__(daemon=True)
+        self.service, self.ids, self.going = Service(nodes), [], True
+
+    def run(self):
+        while self.going:
+            key = f"{len(self.ids):08d}".encode()
+            answer = self.service.ask(SUBMIT, request(put(b"public:load", key, b"x")))
+            if isinstance(answer, Accepted):
+                self.ids.append(answer.id)
+            time.sleep(PAUSE)
+
+    def has(self, count):
+        if not self.is_alive():
+            sys.exit("the load ended")
+        return len(self.ids) >= count
+
+
+def statuses(story, ids):
+    """How many of these transactions have each status, as the leader tells them."""
+    counts = {}
+    for id in ids:
+        status = story.service.ask(STATUS_OF, transaction(id)).status
+        counts.setdefault(status, []).append(id)
+    return counts
+
+
+def lose_leader(story):
+    """The leader is killed while it has puts to do, and another node is elected."""
+    first, *others = story.nodes
+    load = Load({node.id: node.address for node in story.nodes})
+    load.start()
+    within(30, lambda: load.has(LOAD_BEFORE), "the load is under way")
+    sure = statuses(story, list(load.ids)).get("Committed", [])
+    first.process.send_signal(signal.SIGKILL)
+    killed = time.monotonic()
+    first.process.wait(10)
+    before = len(load.ids)
+    seen(f"in the midst of puts, {before} of them accepted, {len(sure)} known to be committed, node1 is killed")
+    leader, (_, view, _) = within(30, lambda: story.leader(3, others), "another node leads")
+    seen(f"{time.monotonic() - killed:.1f} seconds later {leader.name} tells: leader view {view}")
+    within(60, lambda: load.has(before + LOAD_AFTER), "puts go on")
+    load.going = False
+    load.join(40)
+    later = [id for id in load.ids if id[0] >= view]
+    required(len(later) >= LOAD_AFTER // 2, f"the puts go on: {len(later)} more are accepted in view {view}")
+    return leader, sure, load.ids
+
+
+def count_load(story, view, sure, ids):
+    """What became of the load: what was committed stays so, and nothing is lost that the new leader took."""
+    last = f"{ids[-1][0]}.{ids[-1][1]}"
+    story.committed(last)
+    counts = statuses(story, ids)
+    committed, lost = counts.pop("Committed"), counts.pop("Invalid", [])
+    seen(f"of {len(ids)} puts {len(committed)} are Committed, and {len(lost)} are Invalid")
+    required(not counts, "no put is left undecided")
+    required(set(sure) <= set(committed), "each put that was committed before is so now")
+    required(all(id[0] < view for id in lost), "node1 alone had accepted those that are Invalid")
+
+
+def take_back(story, leader):
+    """The killed node goes on from its file, and takes what it missed."""
+    first = story.nodes[0]
+    story.begin(first, "/dev/null")
+    story.accepted(leader, "put public:t 62 33")
+    wanted = leader.standing()[2]
+
+    def has_all(of):
+        return of and of[0] == "follower" and of[2] >= wanted
+
+    story.tell_standing(first, has_all, f"node1 knows all that {leader.name} had committed")
+
+
+def committed_ledger(story, node, standing):
+    """The entries of a node's file up to the commit that it told last. All of them are valid."""
+    program, commit = story.program, standing[2]
+    command = [sys.executable, "-B", str(HERE / "export.py"), f"{node.name}.key"]
+    program.run(f"./export.py {node.name}.key", command, b"", f"{node.name}.ledger")
+    told = program.ccfg(f"audit --identity {story.identity}", f"{node.name}.ledger")
+    entries = entries_of((program.folder / f"{node.name}.key").read_bytes())
+    holds = told.startswith(b"valid ") and commit <= len(entries)
+    required(holds, f"it is valid, and {commit} of its {len(entries)} entries are committed")
+    return entries[:commit]
+
+
+def compare(story):
+    """The nodes end. Their ledgers are valid, and of their committed ledgers one is a front of the other."""
+    stands = [node.stop() for node in story.nodes]
+    seen("the nodes are ended by SIGTERM")
+    ledgers = [committed_ledger(story, *of) for of in zip(story.nodes, stands)]
+    longest = max(ledgers, key=len)
+    fronts = all(ledger == longest[: len(ledger)] for ledger in ledgers)
+    required(fronts, "each committed ledger is a front of the longest one")
+
+
+def play(story):
+    for node in story.nodes:
+        story.begin(node, "opening.ledger")
+    for node in story.nodes:
+        role = "leader" if node is story.nodes[0] else "follower"
+        story.tell_standing(node, lambda of: of and of[0] == role, f"{node.name} is a {role}")
+    open_service(story)
+    ask(story)
+    leader, sure, ids = lose_leader(story)
+    count_load(story, leader.standing()[1], sure, ids)
+    take_back(story, leader)
+    compare(story)
+    seen("all as wanted")
+
+
+def main():
+    if len(sys.argv) != 3:
+        sys.exit(__doc__)
+    sys.stdout.reconfigure(line_buffering=True)
+    limit_time(SECONDS)
+    story = Story(Program(sys.argv[1], Path(sys.argv[2]).resolve()))
+    try:
+        play(story)
+    finally:
+        for node in story.nodes:
+            node.kill()
+
+
+if __name__ == "__main__":
+    main()

@@ -7,6 +7,8 @@ use Rattle.gl_outside.specs.Sink.{AppendsFront}
 use Rattle.gl_lines.specs.Lines.{line_count}
 use Rattle.gl_receipt.specs.Form.{receipt_from}
 use Rattle.gl_ledger_file.specs.Given.{OfBytes}
+use Rattle.gl_load.specs.Events.{load_ledger}
+use Rattle.gl_load.specs.Report.{report_of}
 use Rattle.gl_audit.specs.Verdict.{verdict as verdict_on}
 use Rattle.gl_audit.specs.declared.verdict.Verdict.{Verdict}
 use Rattle.ccfg.specs.declared.ending.Ending.{Ending}
@@ -15,10 +17,11 @@ use Rattle.ccfg.specs.declared.fault.Fault.{Fault}
 use Rattle.ccfg.specs.declared.fault.Fault.TheVariants as faults
 use Rattle.ccfg.specs.declared.plan.Plan.{Plan}
 use Rattle.ccfg.specs.declared.plan.Plan.TheVariants.{Play, Show, ShowLedger, Tell, Refuse}
+use Rattle.gl_commands.specs.declared.task.LoadTask.{LoadTask}
 use Rattle.gl_commands.specs.declared.task.Task.{Task}
 use Rattle.gl_commands.specs.declared.task.Task.TheVariants as tasks
 use Rattle.ccfg.specs.Faults.{fault_line}
-use Rattle.ccfg.specs.Owed.{Due, EndsSource, OfRun, Owed, Owes, OwesRead, Run, Runs, Written, WritesDue, bytes_limit, due_of_answer, due_of_audit, due_of_fault, due_of_form, due_of_reading, due_of_receipt, due_of_schedule, ending_of_fault, ending_of_stop, json_limit, ledger_line, lines_limit, valid_line}
+use Rattle.ccfg.specs.Owed.{Due, EndsSource, OfRun, Owed, Owes, OwesRead, Run, Runs, Written, WritesDue, bytes_limit, due_of_answer, due_of_audit, due_of_fault, due_of_form, due_of_load, due_of_reading, due_of_receipt, due_of_schedule, ending_of_fault, ending_of_stop, json_limit, ledger_line, lines_limit, report_text, requests_limit, valid_line}
 use Rattle.ccfg.specs.Plans.{KeepsKey, SpendsLeaf, TellsFault, TellsSpent, ShowsAccepted, ShowsKept, due_of_plan}
 use Rattle.ccfg.specs.declared.plan.PlanStop.{PlanStop}
 use Rattle.ccfg.specs.declared.plan.PlanStop.TheVariants as stops
@@ -38,6 +41,7 @@ pub writes_fault : (fault : Fault) (w : Written) → Appends w.held w.holds (fau
 writes_fault (faults.Words kind) w all = (refl, all)
 writes_fault faults.TooManyBytes w all = (refl, all)
 writes_fault faults.TooManyLines w all = (refl, all)
+writes_fault faults.TooManyRequests w all = (refl, all)
 writes_fault faults.TooMuchJson w all = (refl, all)
 writes_fault (faults.BadLine number) w all = (refl, all)
 writes_fault (faults.Form fault) w all = (refl, all)
@@ -89,6 +93,15 @@ pub long_receipts : (identity : List ℕ) (given : Option (List ℕ)) → OfByte
     OfBytes given (λ g. due_of_receipt identity g ≡ due_of_fault faults.TooMuchJson)
 long_receipts identity given more = of_map given (λ g. json_limit < length g) (λ g. due_of_receipt identity g ≡ due_of_fault faults.TooMuchJson) (long_receipt identity) more
 
+-- more requests than the limit
+many_requests : (load : LoadTask) → requests_limit < load.count → due_of_load load ≡ due_of_fault faults.TooManyRequests
+many_requests load more =
+    ap (λ (b : Bool). if b then due_of_fault faults.TooManyRequests else due_of_answer (report_text (report_of (load_ledger load.seed load.count))))
+    (let t : nat_lt requests_limit load.count ≡ true = grind (arith, nat_tests) in t)
+
+pub refused_load : (e : Ending) (w : Written) (load : LoadTask) → requests_limit < load.count → WritesDue e w (due_of_fault faults.TooManyRequests) → WritesDue e w (due_of_load load)
+refused_load e w load more writes = subst (λ (d : Due). WritesDue e w d) (sym (many_requests load more)) writes
+
 -- the verdict of an audit of what a source gives
 pub verdict_due : (identity : List ℕ) (given : Option (List ℕ)) (told : Verdict) (due : Due) → OfBytes given (λ g. told ≡ verdict_on identity g) → due_of_audit told ≡ due →
     OfBytes given (λ g. due_of_audit (verdict_on identity g) ≡ due)
@@ -113,6 +126,7 @@ no_fault_done : (fault : Fault) → ending_of_fault fault ≡ endings.Done → �
 no_fault_done (faults.Words kind) is = cc
 no_fault_done faults.TooManyBytes is = cc
 no_fault_done faults.TooManyLines is = cc
+no_fault_done faults.TooManyRequests is = cc
 no_fault_done faults.TooMuchJson is = cc
 no_fault_done (faults.BadLine number) is = cc
 no_fault_done (faults.Form fault) is = cc

@@ -13,7 +13,7 @@ use Rattle.gl_commands.specs.declared.task.Task.{Task}
 use Rattle.ccfg.specs.Faults.{fault_line}
 use Rattle.gl_commands.specs.declared.task.Asked.{Asked}
 use Rattle.gl_commands.specs.declared.task.Asked.TheVariants as asks_for
-use Rattle.ccfg.specs.Owed.{Answers, asks_node, task_of, Due, EndsSource, OfShown, OfRun, Owed, Run, Runs, Shown, WritesDue, due_of, due_of_fault, exit_status, uses_disk}
+use Rattle.ccfg.specs.Owed.{Answers, asks_beyond, task_of, Due, EndsSource, OfShown, OfRun, Owed, Run, Runs, Shown, WritesDue, due_of, due_of_fault, exit_status, uses_disk}
 use Rattle.ccfg.specs.Promises.{IsAnswer, IsKindLine, IsPastLimit, IsRefusal, IsNoReading, Tells, TellsFront}
 use Rattle.ccfg.proofs.ShownLemmas.{both_map, from_both, shown_any, shown_map, if_told, some_map, whatever_told}
 use Rattle.ccfg.proofs.MeaningLemmas.{Means, answer_ends, limit_ends, means, refusal_ends, unread_ends}
@@ -372,13 +372,15 @@ complete asks e r a task is source sink disk =
     go owed (inr (inr (inr (inl is)))) = absurd (disk (disk_ended asks e r a is).0)
     go owed (inr (inr (inr (inr is)))) = inr is
 
--- Words that ask for no node
+-- Words that ask for a task, or for nothing
 pub is_task : (a : Result Asked Kinds) (task : Task) → task_of a ≡ Ok task → a ≡ Ok (asks_for.Task task)
 is_task (Err kinds) task e = absurd cc
 is_task (Ok (asks_for.Task other)) task e = cc
 is_task (Ok (asks_for.Node node)) task e = absurd cc
+is_task (Ok (asks_for.Load load)) task e = absurd cc
 
-pub is_nothing : (a : Result Asked Kinds) (kinds : Kinds) → asks_node a ≡ false → task_of a ≡ Err kinds → a ≡ Err kinds
+pub is_nothing : (a : Result Asked Kinds) (kinds : Kinds) → asks_beyond a ≡ false → task_of a ≡ Err kinds → a ≡ Err kinds
 is_nothing (Err other) kinds none e = cc
 is_nothing (Ok (asks_for.Task task)) kinds none e = absurd cc
 is_nothing (Ok (asks_for.Node node)) kinds none e = absurd cc
+is_nothing (Ok (asks_for.Load load)) kinds none e = absurd cc

@@ -57,6 +57,7 @@ abbrev pub fault_text : Fault → List ℕ
 fault_text (faults.Words kind) = kind_name kind
 fault_text faults.TooManyBytes = codes "bytes 16777216"
 fault_text faults.TooManyLines = codes "lines 100000"
+fault_text faults.TooManyRequests = codes "count 100000"
 fault_text faults.TooMuchJson = codes "json 1048576"
 fault_text (faults.BadLine number) = codes "line " ++ decimal number
 fault_text (faults.Form fault) = form_text fault

@@ -1,6 +1,6 @@
 -- What a run of the program owes to its words, its disk and its source: how it ends, and what it
 -- writes.
-use Rattle.std.specs.Prelude.{◌≡◌, ℕ, zero, suc, List, [], ◌++◌, Option, None, Some, Result, Ok, Err, Bool, true, false, ◌==◌, codes, drop, length, nat_lt, take, if◌then◌else◌}
+use Rattle.std.specs.Prelude.{◌≡◌, ℕ, zero, suc, List, [], ◌++◌, Option, None, Some, Result, Ok, Err, Bool, true, false, ◌==◌, codes, decimal, drop, length, nat_lt, take, if◌then◌else◌}
 use Rattle.std.specs.Io.KnownBytes.{Appends, Keeps}
 use Rattle.clap.specs.Kinds.{Kinds, IsAmong}
 use Rattle.clap.specs.Walk.{Text}
@@ -27,6 +27,9 @@ use Rattle.gl_keyfile.specs.declared.leaf.LeafUse.{LeafUse}
 use Rattle.gl_keyfile.specs.declared.leaf.LeafUse.TheVariants.{Start}
 use Rattle.gl_keyfile.specs.declared.signing.Signing.{Signing}
 use Rattle.gl_lms.specs.declared.types.Types.{Types}
+use Rattle.gl_load.specs.Events.{load_ledger}
+use Rattle.gl_load.specs.Report.{report_of}
+use Rattle.gl_load.specs.declared.report.Report.{Report}
 use Rattle.gl_outside.specs.Fault.{Rose}
 use Rattle.gl_outside.specs.Sink.{AppendsFront}
 use Rattle.gl_lines.specs.declared.fault.ScheduleFault.{ScheduleFault}
@@ -43,6 +46,7 @@ use Rattle.gl_recovery.specs.declared.recovering_fault.RecoveringFault.TheVarian
 use Rattle.gl_audit.specs.Verdict as audits_to
 use Rattle.gl_audit.specs.declared.verdict.Verdict.{Verdict}
 use Rattle.gl_audit.specs.declared.verdict.Verdict.TheVariants as audits
+use Rattle.hex.specs.Hex.{encode_lower}
 use Rattle.serde_json.specs.Written.{compact_text}
 use Rattle.ccfg.specs.declared.fault.Fault.{Fault}
 use Rattle.ccfg.specs.declared.fault.Fault.TheVariants as faults
@@ -53,6 +57,7 @@ use Rattle.ccfg.specs.declared.plan.PlanStop.{PlanStop}
 use Rattle.ccfg.specs.declared.plan.PlanStop.TheVariants as stops
 use Rattle.gl_commands.specs.declared.task.Asked.{Asked}
 use Rattle.gl_commands.specs.declared.task.Asked.TheVariants as asks
+use Rattle.gl_commands.specs.declared.task.LoadTask.{LoadTask}
 use Rattle.gl_commands.specs.declared.task.Task.{Task}
 use Rattle.gl_commands.specs.declared.task.Task.TheVariants as tasks
 use Rattle.gl_commands.specs.Words.{asked}
@@ -88,6 +93,7 @@ abbrev pub ending_of_fault : Fault → Ending
 ending_of_fault (faults.Words kind) = endings.OtherWords
 ending_of_fault faults.TooManyBytes = endings.PastLimit
 ending_of_fault faults.TooManyLines = endings.PastLimit
+ending_of_fault faults.TooManyRequests = endings.PastLimit
 ending_of_fault faults.TooMuchJson = endings.PastLimit
 ending_of_fault (faults.BadLine number) = endings.NoReading
 ending_of_fault (faults.Form fault) = endings.NoReading
@@ -119,6 +125,7 @@ abbrev pub is_read_whole : Fault → Bool
 is_read_whole (faults.Words kind) = false
 is_read_whole faults.TooManyBytes = false
 is_read_whole faults.TooManyLines = true
+is_read_whole faults.TooManyRequests = false
 is_read_whole faults.TooMuchJson = false
 is_read_whole (faults.BadLine number) = true
 is_read_whole (faults.Form fault) = true
@@ -323,6 +330,25 @@ due_of_old state given = due_of_recovered (recover_owed state given)
 abbrev pub due_of_recovering : Result Durable JournalFault → List ℕ → Due
 due_of_recovering opens given = due_with_key Node due_of_old opens given
 
+-- The lines that tell of a ledger that was made: how many entries, signatures and bytes it has, how
+-- many keys the requests wrote to, its last transaction, and the root of the tree over its entries.
+abbrev pub report_text : Report → List ℕ
+report_text report =
+    codes "entries " ++ decimal report.entries ++ codes "\nsignatures "
+    ++ decimal report.signatures ++ codes "\nbytes " ++ decimal report.bytes ++ codes "\nkeys "
+    ++ decimal report.keys ++ codes "\nlast " ++ text_of report.last ++ codes "\nroot "
+    ++ encode_lower report.root ++ codes "\n"
+
+-- The most requests of a ledger that is made.
+abbrev pub requests_limit : ℕ
+requests_limit = 100000
+
+-- What is owed where a ledger of so many requests is to be made. The limit is tried first.
+abbrev pub due_of_load : LoadTask → Due
+due_of_load load =
+    if nat_lt requests_limit load.count then due_of_fault faults.TooManyRequests
+    else due_of_answer (report_text (report_of (load_ledger load.seed load.count)))
+
 -- What a task owes to what the disk shows and to the bytes of its source. A key is begun on an
 -- empty disk alone, and one that is there signs; that is tried before the source. The other tasks
 -- use no disk.
@@ -335,21 +361,24 @@ due_of (tasks.Deal threshold members) shown given = due_of_dealing threshold mem
 due_of (tasks.Sign signing) shown given = due_of_signing signing shown.opens given
 due_of tasks.Recover shown given = due_of_recovering shown.opens given
 
--- What words ask for that don't ask for a node. That a node serves is no task: it has promises of
--- its own.
+-- The task that words ask for. To serve as a node and to make a ledger are no tasks: they have
+-- promises of their own.
 abbrev pub task_of : Result Asked Kinds → Result Task Kinds
 task_of (Err kinds) = Err kinds
 task_of (Ok (asks.Task task)) = Ok task
 task_of (Ok (asks.Node node)) = Err []
+task_of (Ok (asks.Load load)) = Err []
 
-abbrev pub asks_node : Result Asked Kinds → Bool
-asks_node (Err kinds) = false
-asks_node (Ok (asks.Task task)) = false
-asks_node (Ok (asks.Node node)) = true
+-- Whether words ask for what is no task.
+abbrev pub asks_beyond : Result Asked Kinds → Bool
+asks_beyond (Err kinds) = false
+asks_beyond (Ok (asks.Task task)) = false
+asks_beyond (Ok (asks.Node node)) = true
+asks_beyond (Ok (asks.Load load)) = true
 
--- The words ask for no node.
-abbrev pub AsksNoNode : List Text → Type 0
-AsksNoNode words = asks_node (asked words) ≡ false
+-- The words ask for a task, or for nothing.
+abbrev pub AsksTaskOrNothing : List Text → Type 0
+AsksTaskOrNothing words = asks_beyond (asked words) ≡ false
 
 -- Whether a task uses the disk.
 abbrev pub uses_disk : Task → Bool

@@ -28,6 +28,8 @@ pub enum Fault {
     TooManyBytes,
     /// A schedule has more lines than the limit.
     TooManyLines,
+    /// A ledger is to be made of more requests than the limit.
+    TooManyRequests,
     /// JSON has more bytes than the limit.
     TooMuchJson,
     /// The bytes are no schedule: this line is the first bad one, counted from 1.
@@ -165,6 +167,7 @@ impl Fault {
             Fault::Words(kind) => out.extend_from_slice(kind_name(*kind).as_bytes()),
             Fault::TooManyBytes => out.extend_from_slice(b"bytes 16777216"),
             Fault::TooManyLines => out.extend_from_slice(b"lines 100000"),
+            Fault::TooManyRequests => out.extend_from_slice(b"count 100000"),
             Fault::TooMuchJson => out.extend_from_slice(b"json 1048576"),
             Fault::BadLine(number) => {
                 out.extend_from_slice(b"line ")?;
@@ -206,8 +209,11 @@ impl Fault {
     {
         match self {
             Fault::Words(_) => Ending::OtherWords,
-            Fault::TooManyBytes | Fault::TooManyLines | Fault::TooMuchJson | Fault::Turns { .. } =>
-                Ending::PastLimit,
+            Fault::TooManyBytes
+            | Fault::TooManyLines
+            | Fault::TooManyRequests
+            | Fault::TooMuchJson
+            | Fault::Turns { .. } => Ending::PastLimit,
             Fault::BadLine(_) | Fault::Form(_) | Fault::Short { .. } | Fault::Trailing { .. } => {
                 Ending::NoReading
             }

@@ -7,6 +7,7 @@ mod fault;
 mod keygen;
 mod ledger_plan;
 mod load;
+mod loading;
 mod node;
 mod output;
 mod plan;
@@ -18,8 +19,9 @@ mod tests;
 mod verify;
 
 use ending::Ending;
-use gl_commands::{HELP, VERSION};
+use gl_commands::{Asked, HELP, VERSION, read_words};
 use gl_file::FileDisk;
+use gl_load::Onlooker;
 use gl_net::TcpLink;
 use gl_outside::{OpenGate, Sink, SinkFault, StreamSink, StreamSource, write_whole};
 use gl_progress::WatchedSource;
@@ -101,12 +103,24 @@ fn addresses(alloc: Global, words: &[&str]) -> Result<Option<Vec<SocketAddr>>, A
     Ok(Some(found))
 }
 
-/// The link over sockets: it listens at an address and connects to the peers. Without an address,
-/// or where it can't listen there, each call of the link fails.
+/// How many peers a node is to have, where the words ask for one.
+fn peer_count(alloc: Global, words: &[String]) -> Option<usize> {
+    match read_words(alloc, words) {
+        Ok(Asked::Node(node)) => Some(node.peers.as_slice().len()),
+        _ => None,
+    }
+}
+
+/// The link over sockets: it listens at an address and connects to the peers. Where no node is asked
+/// for, without an address, with more or fewer addresses than peers, or where it can't listen there,
+/// each call of the link fails.
 fn link_at<'a>(
     rt: &'a HostRuntime,
     called: &Invocation<'_>,
 ) -> Result<TcpLink<'a, HostRuntime>, AllocError> {
+    if peer_count(rt.alloc(), called.words) != Some(called.peers.len()) {
+        return Ok(TcpLink::none());
+    }
     let Some(listen) = called.listen else {
         return Ok(TcpLink::none());
     };
@@ -119,9 +133,15 @@ fn link_at<'a>(
     Ok(TcpLink::new(rt, rt.alloc(), listen, &peers, TICK).unwrap_or(TcpLink::none()))
 }
 
-/// Tells on standard error where a link listens, and where its peers do.
+/// Tells on standard error where a link listens, and where its peers do; or why a node has none.
 fn tell_link(rt: &HostRuntime, link: &TcpLink<'_, HostRuntime>, called: &Invocation<'_>) {
     let Some(address) = link.local_addr() else {
+        if let Some(count) = peer_count(rt.alloc(), called.words) {
+            let given = called.peers.len();
+            let _told = eprint!(rt;
+                "can't listen at @listen, or {count} peers and {given} @peer\n"
+            );
+        }
         return;
     };
     let _told = eprint!(rt; "listens at {address}\n");
@@ -130,14 +150,33 @@ fn tell_link(rt: &HostRuntime, link: &TcpLink<'_, HostRuntime>, called: &Invocat
     }
 }
 
-/// Tells on standard error where a node stands, in a line of its own, each time that this changed.
+/// Tells on standard error how far a run is: where a node stands, in a line of its own each time that
+/// this changed; and at a terminal how many requests a load took, in a line over the one before.
 #[derive(Drop)]
-struct StandingLines<'a> {
+struct ProgressLines<'a> {
     rt: &'a HostRuntime,
     told: Option<Standing>,
+    at_terminal: bool,
 }
 
-impl Observer for StandingLines<'_> {
+/// Of so many requests one is told.
+const TOLD_REQUESTS: u32 = 1_000;
+
+impl Onlooker for ProgressLines<'_> {
+    fn taken(&mut self, requests: u32) {
+        if !self.at_terminal || requests % TOLD_REQUESTS != 0 {
+            return;
+        }
+        let up = if requests > TOLD_REQUESTS {
+            "\x1b[A"
+        } else {
+            ""
+        };
+        let _told = eprint!(self.rt; "{up}{requests:>9} requests\n");
+    }
+}
+
+impl Observer for ProgressLines<'_> {
     fn observe(&mut self, standing: Standing) {
         if self.told == Some(standing) {
             return;
@@ -172,8 +211,8 @@ fn is_audit(words: &[String]) -> bool {
     matches!(words, [command, ..] if command.as_str() == "audit")
 }
 
-/// The exit status of a run over the standard streams, the disk and the link. An audit tells at a
-/// terminal how far it is, a link where it listens, and a node where it stands.
+/// The exit status of a run over the standard streams, the disk and the link. An audit and a load tell
+/// at a terminal how far they are, a link tells where it listens, and a node where it stands.
 fn status(rt: &HostRuntime) -> Result<u8, AllocError> {
     let all = words_behind_name(rt)?;
     let called = invocation_of(rt.alloc(), &all)?;
@@ -182,7 +221,8 @@ fn status(rt: &HostRuntime) -> Result<u8, AllocError> {
     if let Some(text) = told_of_itself(rt.alloc(), words)? {
         return Ok(print(text.as_str(), &mut sink).status());
     }
-    let told = rt.stderr().is_terminal() && is_audit(words);
+    let at_terminal = rt.stderr().is_terminal();
+    let told = at_terminal && is_audit(words);
     let mut source = WatchedSource::new(StreamSource::new(rt.reader()), rt, told);
     let mut link = link_at(rt, &called)?;
     tell_link(rt, &link, &called);
@@ -193,7 +233,11 @@ fn status(rt: &HostRuntime) -> Result<u8, AllocError> {
         &mut sink,
         disk_at(rt, called.disk),
         &mut link,
-        StandingLines { rt, told: None },
+        ProgressLines {
+            rt,
+            told: None,
+            at_terminal,
+        },
         &OpenGate,
     );
     Ok(status)

@@ -12,7 +12,7 @@ use crate::ledger_plan::ledger_line;
 use crate::plan::Plan;
 use crate::verify::valid_line;
 use gl_base::TxId;
-use gl_book::books;
+use gl_book::nodes;
 use gl_lines::Lines;
 use gl_outside::{Sink, SinkFault, write_whole};
 use gl_schedule::{Schedule, play};
@@ -92,7 +92,7 @@ pub(crate) fn tell<K: Sink>(text: &[u8], sink: &mut K) -> Ending
     }
 }
 
-/// Plays the lines of a service's schedule, over a store for each of its nodes.
+/// Plays the lines of a service's schedule, at its nodes, each of which serves from a file in memory.
 fn play_service<K: Sink>(alloc: Global, settings: Settings, lines: Lines, sink: &mut K) -> Ending
     requires { IsPlayable (Service settings lines) }
     ensures { WritesDue result (record {
@@ -102,10 +102,10 @@ fn play_service<K: Sink>(alloc: Global, settings: Settings, lines: Lines, sink: 
       faults_now = K.faults sink.new;
     }) (due_of_plan (Play (Service settings lines))) }
 {
-    let Ok(books) = books(alloc, &settings) else {
+    let Ok(nodes) = nodes(alloc, &settings) else {
         return Ending::Memory;
     };
-    match play(alloc, settings, lines, books, sink) {
+    match play(alloc, settings, lines, nodes, sink) {
         Ok(()) => Ending::Done,
         Err(SinkFault::Failed) => Ending::SinkFailed,
         Err(SinkFault::NoMemory) => Ending::Memory,

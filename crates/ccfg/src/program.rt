@@ -16,11 +16,12 @@ ghost use Rattle.ccfg.specs.declared.ending.Ending.TheVariants.{DiskFailed, Done
 ghost use Rattle.gl_commands.specs.declared.task.Task.TheVariants.{Keygen, Verify};
 ghost use Rattle.gl_commands.specs.declared.task.Task.{Task as Tasks};
 ghost use Rattle.gl_commands.specs.declared.task.Asked.TheVariants as asks;
+ghost use Rattle.gl_commands.specs.declared.task.LoadTask.{LoadTask as LoadTasks};
 ghost use Rattle.gl_commands.specs.declared.task.NodeTask.{NodeTask as NodeTasks};
 ghost use Rattle.ccfg.specs.Nodes.{MovesNode, NodeRuns};
 ghost use Rattle.gl_schedule.specs.Moments.{KeepsHeadline, TellsMoments};
 ghost use Rattle.gl_ledger_file.specs.Given.{OfBytes};
-ghost use Rattle.ccfg.specs.Owed.{Answers, AsksNoNode, EndsSource, OfShown, Runs, due_of, exit_status, leaf_use, task_of, uses_disk};
+ghost use Rattle.ccfg.specs.Owed.{Answers, AsksTaskOrNothing, EndsSource, OfShown, Runs, WritesDue, due_of, due_of_load, exit_status, leaf_use, task_of, uses_disk};
 ghost use Rattle.ccfg.specs.Plans.{IsUntouched, KeepsKey, MovesByLeaf, OpensAsBefore, SpendsLeaf};
 ghost use Rattle.ccfg.specs.Promises.{IsAnswer, IsFaultLine, IsKindLine, IsPastLimit, IsRefusal, IsNoReading, Tells, TellsAccepted, TellsFront};
 ghost use Rattle.gl_schedule.specs.Schedules.{reads};
@@ -28,10 +29,12 @@ ghost use Rattle.gl_commands.specs.Words.{asked};
 
 use crate::ending::Ending;
 use crate::fault::Fault;
+use crate::loading::run_load;
 use crate::node::run_node;
 use crate::output::{carry_out, refuse};
 use crate::plan::read_plan;
 use gl_commands::{Asked, Task, WordsFault, read_words};
+use gl_load::Onlooker;
 use gl_outside::{Disk, Gate, Link, Sink, Source};
 use gl_serving::Observer;
 use std::alloc::Global;
@@ -98,18 +101,18 @@ fn execute<S: Source, K: Sink, D: Disk>(
     }
 }
 
-fn run<S: Source, K: Sink, D: Disk + Drop, L: Link, O: Observer>(
+fn run<S: Source, K: Sink, D: Disk + Drop, L: Link, O: Observer + Onlooker>(
     alloc: Global,
     words: &[String],
     source: &mut S,
     sink: &mut K,
     disk: D,
     link: &mut L,
-    observer: O,
+    mut observer: O,
 ) -> (Ending, D)
     ensures source { (kinds : Kinds) → asked (map string_bytes words.now) ≡ Err kinds
         → source.new ≡ source.old }
-    ensures disk { AsksNoNode (map string_bytes words.now)
+    ensures disk { AsksTaskOrNothing (map string_bytes words.now)
         → ((task : Tasks) → asked (map string_bytes words.now) ≡ Ok (asks.Task task)
         → uses_disk task ≡ false) → (result.1 ≡ disk) × (result.0 ≢ DiskFailed) }
     ensures accepted { result.0 ≡ Done → (identity : List ℕ)
@@ -148,7 +151,7 @@ fn run<S: Source, K: Sink, D: Disk + Drop, L: Link, O: Observer>(
         ⊎ (result.0 ≡ PastLimit) ⊎ (result.0 ≡ NoReading) → (task : Tasks) (leaf : LeafUse)
         → asked (map string_bytes words.now) ≡ Ok (asks.Task task) → leaf_use task ≡ Some leaf
         → OpensAsBefore (D.bytes disk) (D.bytes result.1) }
-    ensures answers { AsksNoNode (map string_bytes words.now) →
+    ensures answers { AsksTaskOrNothing (map string_bytes words.now) →
         Answers (task_of (asked (map string_bytes words.now))) result.0 (record {
           disk = record {
             honest = D.honest;
@@ -167,7 +170,7 @@ fn run<S: Source, K: Sink, D: Disk + Drop, L: Link, O: Observer>(
             faults_now = K.faults sink.new;
           };
         }) }
-    ensures link { AsksNoNode (map string_bytes words.now) → link.new ≡ link.old }
+    ensures link { AsksTaskOrNothing (map string_bytes words.now) → link.new ≡ link.old }
     ensures node { (node : NodeTasks) → asked (map string_bytes words.now) ≡ Ok (asks.Node node) →
         NodeRuns D.honest D.bytes D.past D.faults L.honest node (record {
           disk = disk;
@@ -188,10 +191,21 @@ fn run<S: Source, K: Sink, D: Disk + Drop, L: Link, O: Observer>(
     ensures node_any_moment { IsTrue D.honest → HasGate journal_header (D.bytes disk)
         → (node : NodeTasks) → asked (map string_bytes words.now) ≡ Ok (asks.Node node)
         → MovesNode (D.bytes disk) (D.past disk) (D.past result.1) }
+    ensures load { (load : LoadTasks) → asked (map string_bytes words.now) ≡ Ok (asks.Load load) →
+        WritesDue result.0 (record {
+          held = K.holds sink.old;
+          holds = K.holds sink.new;
+          faults = K.faults sink.old;
+          faults_now = K.faults sink.new;
+        }) (due_of_load load) }
+    ensures load_alone { (load : LoadTasks)
+        → asked (map string_bytes words.now) ≡ Ok (asks.Load load)
+        → (source.new ≡ source.old) × (result.1 ≡ disk) × (link.new ≡ link.old) }
 {
     match read_words(alloc, words) {
         Ok(Asked::Task(task)) => execute(alloc, &task, source, sink, disk),
         Ok(Asked::Node(node)) => run_node(alloc, &node, source, sink, disk, link, observer),
+        Ok(Asked::Load(load)) => (run_load(alloc, &load, sink, &mut observer), disk),
         Err(WordsFault::Refused(kind)) => (refuse(alloc, &Fault::Words(kind), sink), disk),
         Err(WordsFault::NoMemory) => (Ending::Memory, disk),
     }
@@ -212,13 +226,22 @@ fn run<S: Source, K: Sink, D: Disk + Drop, L: Link, O: Observer>(
 /// behind them, with the key of the disk's file, and prints the ledger that opens it; `node --ticks
 /// N --workers 0 --turns N ID..` serves as the node of the disk's file over the link, with the
 /// peers ID.., until the link ends, and prints how many payloads it served and how many frames were
-/// lost. Behind each event of the node the observer is told where it stands. The answer is the exit
-/// status, and the disk: 0 done, 1 the receipt or the ledger is not valid, the disk is not empty, a
+/// lost; `load --count N --seed HEX` makes a ledger of N requests on one node over a disk in memory,
+/// audits it, and prints what it comes to. Behind each event of the node the observer is told where it
+/// stands, and behind each request of a load how many were taken. The answer is the exit status, and
+/// the disk: 0 done, 1 the receipt or the ledger is not valid, the disk is not empty, a
 /// secret can't be dealt so, nothing is signed or no service is founded anew, 2 other words, 3 the
 /// source failed, 4 the sink failed, 5 the disk failed, 6 the link failed, 7 want of memory, 8 a
 /// limit is passed, 9 no schedule, no receipt, no seed, no secret with its seed, nothing to sign or
 /// no settings. No command uses the gate yet.
-pub fn top<S: Source, K: Sink, D: Disk + Drop + Send, L: Link, O: Observer, G: Gate + Sync>(
+pub fn top<
+    S: Source,
+    K: Sink,
+    D: Disk + Drop + Send,
+    L: Link,
+    O: Observer + Onlooker,
+    G: Gate + Sync,
+>(
     alloc: Global,
     words: &[String],
     source: &mut S,
@@ -229,7 +252,7 @@ pub fn top<S: Source, K: Sink, D: Disk + Drop + Send, L: Link, O: Observer, G: G
     gate: &G,
 ) -> (u8, D)
     // How the run ends, by its words, its source, its disk and its sink, and what was written.
-    ensures answers { AsksNoNode (map string_bytes words.now)
+    ensures answers { AsksTaskOrNothing (map string_bytes words.now)
         → (e : Endings) × (result.0 ≡ exit_status e)
         × Answers (task_of (asked (map string_bytes words.now))) e (record {
           disk = record {
@@ -251,7 +274,7 @@ pub fn top<S: Source, K: Sink, D: Disk + Drop + Send, L: Link, O: Observer, G: G
         }) }
     // 0: the words ask for a task, the source gave its end, and exactly the answer to its bytes was
     // written.
-    ensures done { AsksNoNode (map string_bytes words.now)
+    ensures done { AsksTaskOrNothing (map string_bytes words.now)
         → result.0 ≡ 0 → (task : Tasks) × (asked (map string_bytes words.now) ≡ Ok (asks.Task task))
         × (S.ended source.new ≡ true)
         × OfShown D.honest (D.bytes disk) (λ shown. OfBytes (S.left source.old) (λ given.
@@ -292,26 +315,26 @@ pub fn top<S: Source, K: Sink, D: Disk + Drop + Send, L: Link, O: Observer, G: G
     // why nothing is signed, or why no service is founded anew. The source gave its end, unless the
     // line tells an entry that breaks a rule, of the disk, or of the settings of a service that is
     // to be founded anew: then nothing is said of the end.
-    ensures not_valid { AsksNoNode (map string_bytes words.now)
+    ensures not_valid { AsksTaskOrNothing (map string_bytes words.now)
         → result.0 ≡ 1 → (task : Tasks)
         × (asked (map string_bytes words.now) ≡ Ok (asks.Task task))
         × OfShown D.honest (D.bytes disk) (λ shown. OfBytes (S.left source.old) (λ given.
         EndsSource (due_of task shown given) (S.ended source.new)
         × Tells (IsRefusal task shown given) (K.holds sink.old) (K.holds sink.new))) }
     // 2: the words ask for nothing, and exactly the line of a kind of their fault was written.
-    ensures words { AsksNoNode (map string_bytes words.now)
+    ensures words { AsksTaskOrNothing (map string_bytes words.now)
         → result.0 ≡ 2 → (kinds : Kinds)
         × (asked (map string_bytes words.now) ≡ Err kinds)
         × Tells (IsKindLine kinds) (K.holds sink.old) (K.holds sink.new) }
     // 3: the words ask for a task, the source failed, by its count of faults, and nothing was
     // written.
-    ensures source_failed { AsksNoNode (map string_bytes words.now)
+    ensures source_failed { AsksTaskOrNothing (map string_bytes words.now)
         → result.0 ≡ 3 → (task : Tasks)
         × (asked (map string_bytes words.now) ≡ Ok (asks.Task task))
         × Rose (S.faults source.old) (S.faults source.new)
         × Keeps (K.holds sink.old) (K.holds sink.new) }
     // 4: the sink failed, by its count of faults.
-    ensures sink_failed { AsksNoNode (map string_bytes words.now)
+    ensures sink_failed { AsksTaskOrNothing (map string_bytes words.now)
         → result.0 ≡ 4 → Rose (K.faults sink.old) (K.faults sink.new) }
     // 4 and 7: a front of what is due was written.
     ensures front { (result.0 ≡ 4) ⊎ (result.0 ≡ 7) → (task : Tasks)
@@ -320,24 +343,24 @@ pub fn top<S: Source, K: Sink, D: Disk + Drop + Send, L: Link, O: Observer, G: G
         AppendsFront (K.holds sink.old) (K.holds sink.new) (due_of task shown given).text)) }
     // 5: the words ask for a task that uses the disk, the disk failed, by its count of faults, and
     // nothing was written.
-    ensures disk_failed { AsksNoNode (map string_bytes words.now)
+    ensures disk_failed { AsksTaskOrNothing (map string_bytes words.now)
         → result.0 ≡ 5 → (task : Tasks)
         × (asked (map string_bytes words.now) ≡ Ok (asks.Task task)) × (uses_disk task ≡ true)
         × Rose (D.faults disk) (D.faults result.1) × Keeps (K.holds sink.old) (K.holds sink.new) }
     // 8: the bytes pass a limit of the task, and exactly the line that names it was written.
-    ensures limits { AsksNoNode (map string_bytes words.now)
+    ensures limits { AsksTaskOrNothing (map string_bytes words.now)
         → result.0 ≡ 8 → (task : Tasks) × (asked (map string_bytes words.now) ≡ Ok (asks.Task task))
         × OfShown D.honest (D.bytes disk) (λ shown. OfBytes (S.left source.old) (λ given.
         Tells (IsPastLimit task shown given) (K.holds sink.old) (K.holds sink.new))) }
     // 9: the bytes are within the limits and have no reading, and exactly the line was written that
     // tells where.
-    ensures no_reading { AsksNoNode (map string_bytes words.now)
+    ensures no_reading { AsksTaskOrNothing (map string_bytes words.now)
         → result.0 ≡ 9 → (task : Tasks)
         × (asked (map string_bytes words.now) ≡ Ok (asks.Task task))
         × OfShown D.honest (D.bytes disk) (λ shown. OfBytes (S.left source.old) (λ given.
         Tells (IsNoReading task shown given) (K.holds sink.old) (K.holds sink.new))) }
     // 6: only `node` ends so.
-    ensures never { AsksNoNode (map string_bytes words.now) → result.0 ≢ 6 }
+    ensures never { AsksTaskOrNothing (map string_bytes words.now) → result.0 ≢ 6 }
     // Words that ask for nothing: 2 and the line of a kind of their fault, or 4 or 7 and a front.
     ensures other_words { (kinds : Kinds) → asked (map string_bytes words.now) ≡ Err kinds
         → (result.0 ≡ 2) × Tells (IsKindLine kinds) (K.holds sink.old) (K.holds sink.new)
@@ -367,11 +390,11 @@ pub fn top<S: Source, K: Sink, D: Disk + Drop + Send, L: Link, O: Observer, G: G
         → asked (map string_bytes words.now) ≡ Ok (asks.Task task) → leaf_use task ≡ Some leaf
         → OpensAsBefore (D.bytes disk) (D.bytes result.1) }
     // Words that ask for no task that uses the disk leave it as it was.
-    ensures disk { AsksNoNode (map string_bytes words.now)
+    ensures disk { AsksTaskOrNothing (map string_bytes words.now)
         → ((task : Tasks) → asked (map string_bytes words.now) ≡ Ok (asks.Task task)
         → uses_disk task ≡ false) → result.1 ≡ disk }
     // No other command than `node` uses the link.
-    ensures link { AsksNoNode (map string_bytes words.now) → link.new ≡ link.old }
+    ensures link { AsksTaskOrNothing (map string_bytes words.now) → link.new ≡ link.old }
     // Unless the source, the sink or the disk fails or memory runs out: bytes with an answer
     // give 0,
     ensures answered { (task : Tasks) → asked (map string_bytes words.now) ≡ Ok (asks.Task task)
@@ -427,6 +450,19 @@ pub fn top<S: Source, K: Sink, D: Disk + Drop + Send, L: Link, O: Observer, G: G
     ensures node_any_moment { IsTrue D.honest → HasGate journal_header (D.bytes disk)
         → (node : NodeTasks) → asked (map string_bytes words.now) ≡ Ok (asks.Node node)
         → MovesNode (D.bytes disk) (D.past disk) (D.past result.1) }
+    // `load`: the lines that tell of its ledger are written, or that the count passes the limit, and
+    // the run ends so.
+    ensures load { (load : LoadTasks) → asked (map string_bytes words.now) ≡ Ok (asks.Load load) →
+        (e : Endings) × (result.0 ≡ exit_status e) × WritesDue e (record {
+          held = K.holds sink.old;
+          holds = K.holds sink.new;
+          faults = K.faults sink.old;
+          faults_now = K.faults sink.new;
+        }) (due_of_load load) }
+    // It uses neither the source, nor the disk, nor the link.
+    ensures load_alone { (load : LoadTasks)
+        → asked (map string_bytes words.now) ≡ Ok (asks.Load load)
+        → (source.new ≡ source.old) × (result.1 ≡ disk) × (link.new ≡ link.old) }
     // Whatever bytes are read: each line of their schedule, if they are one, is told in a moment of
     // the events of which the headline speaks.
     ensures moments { (given : List ℕ) → TellsMoments (reads given) }

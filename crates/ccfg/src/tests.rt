@@ -1,21 +1,36 @@
 //! Runs of the whole program, over objects in memory.
 
 use crate::program::top;
+use gl_load::Onlooker;
 use gl_outside::{Disk, NoDisk, OpenGate, Sink, Source, SureLink, SureSink, SureSource};
-use gl_serving::Unobserved;
+use gl_serving::{Observer, Standing};
 use std::alloc::{AllocError, Global};
 
 mod audits;
 mod dealings;
 mod keys;
+mod loads;
 mod members;
 mod nodes;
 mod receipts;
 mod recoveries;
 mod roles;
 mod schedules;
+mod serving;
 mod signing;
 mod words;
+
+/// Nobody looks on.
+#[derive(Clone, Copy, Debug)]
+struct Unwatched;
+
+impl Observer for Unwatched {
+    fn observe(&mut self, _standing: Standing) {}
+}
+
+impl Onlooker for Unwatched {
+    fn taken(&mut self, _requests: u32) {}
+}
 
 /// A first line with these numbers and this state and a seed of zeros, with its newline.
 fn world(alloc: Global, settings: &[u8]) -> Result<Vec<u8>, AllocError> {
@@ -51,7 +66,7 @@ fn status_on<S: Source, K: Sink, D: Disk + Drop + Send>(
 ) -> (u8, D) {
     let mut link = SureLink::new(alloc, &[]);
     top(
-        alloc, called, source, sink, disk, &mut link, Unobserved, &OpenGate,
+        alloc, called, source, sink, disk, &mut link, Unwatched, &OpenGate,
     )
 }
 

@@ -23,3 +23,6 @@ pub mod Keeping
 pub mod Serving
 pub mod ValidSteps
 pub mod Reopening
+pub mod FileNodes
+pub mod NodeEvents
+pub mod FileStarts

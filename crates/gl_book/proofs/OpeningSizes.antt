@@ -33,7 +33,7 @@ appends_next es i e low is =
     ap (λ (n : ℕ). append_records (take n es)) next ∙ ap append_records (before es i e low ∙ ap (λ (x : Entry). take i es ++ x ∷ []) (sym is))
     ∙ map-append (λ (x : Entry). Append (frame_bytes x)) (take i es) (e ∷ [])
 
-append_len : (e : Entry) → length (records_bytes (Append (frame_bytes e) ∷ [])) ≡ 5 + frame_size e
+pub append_len : (e : Entry) → length (records_bytes (Append (frame_bytes e) ∷ [])) ≡ 5 + frame_size e
 append_len e = omega (arith, length-append (record_bytes (Append (frame_bytes e))) [], length-body (frame_bytes e), length-frame_bytes e)
 
 -- its record has 5 bytes more than its frame, which has at most 1 MiB and its head

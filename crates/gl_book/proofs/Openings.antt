@@ -12,9 +12,11 @@ use Rattle.gl_requests.specs.declared.genesis.Genesis as request
 use Rattle.gl_ledger.specs.declared.breach.Broken.{Broken}
 use Rattle.gl_ledger.specs.Broken.{broken}
 use Rattle.gl_ledger.specs.Ledger.{genesis_entry}
-use Rattle.gl_ledger.specs.Makers.{signed_entry}
+use Rattle.gl_ledger.specs.Makers.{opening_of, signed_entry}
 use Rattle.gl_ledger.specs.NodeKeys.{NodeKeys, service_layers}
+use Rattle.gl_ledger.specs.Opening.{Founds}
 use Rattle.gl_ledger.proofs.Governed.{no_rule_broken}
+use Rattle.gl_ledger.proofs.Opening.{follow}
 use Rattle.gl_world.specs.declared.settings.Settings.{Settings}
 use Rattle.gl_world.specs.declared.node_key.NodeKey.{NodeKey}
 use Rattle.gl_world.specs.AtStart.{StandAtStart}
@@ -23,7 +25,7 @@ use Rattle.gl_world.specs.Group.{IsGroup}
 use Rattle.gl_world.specs.Keyed.{IsKeyOf}
 use Rattle.gl_world.specs.Keys.{private_key, node_seed}
 use Rattle.gl_world.specs.World.{start_of}
-use Rattle.gl_world.proofs.Groups.{group_opens}
+use Rattle.gl_world.proofs.Groups.{group_founds}
 use Rattle.gl_world.proofs.NodeIds.{number_is}
 use Rattle.gl_book.specs.Opening.{IsOfNode, HaveOpened, opened_at}
 use Rattle.gl_book.specs.Stands.{HasKey, NodeStore, Stands, whole}
@@ -73,35 +75,35 @@ one_joined s books new key node opened keyed is grown =
 
 -- ---- the opening
 
--- the first node's signature follows the genesis
-pub opening_follows : (s : Settings) → IsGroup s → broken service_layers (genesis_entry (genesis_of s) ∷ []) (signed_entry (keys_of s) (id_of s 1) 0 (genesis_entry (genesis_of s) ∷ []) 2 2) ≡ None
-opening_follows s h =
-    no_rule_broken (broken service_layers (genesis_entry (genesis_of s) ∷ []) (signed_entry (keys_of s) (id_of s 1) 0 (genesis_entry (genesis_of s) ∷ []) 2 2))
-    ((group_opens s h).follow 1 (signed_entry (keys_of s) (id_of s 1) 0 (genesis_entry (genesis_of s) ∷ []) 2 2) refl)
+-- the node's signature follows the genesis
+pub opening_follows : (keys : NodeKeys) (g : request.Genesis) (x : NodeId) → Founds service_layers keys g x → broken service_layers (genesis_entry g ∷ []) (signed_entry keys x 0 (genesis_entry g ∷ []) 2 2) ≡ None
+opening_follows keys g x h =
+    no_rule_broken (broken service_layers (genesis_entry g ∷ []) (signed_entry keys x 0 (genesis_entry g ∷ []) 2 2))
+    (follow service_layers keys g x h 1 (signed_entry keys x 0 (genesis_entry g ∷ []) 2 2) refl)
 
--- the entry with which the first node signs
-pub opened_entry : (s : Settings) → IsGroup s → (old : NodeStore) (ledger : List Entry) (g : request.Genesis) (e : Entry) → IsOfNode s 1 old → g ≡ genesis_of s → ledger ≡ genesis_entry g ∷ [] →
-    ((keys : NodeKeys) → HasKey keys (record old { ledger = ledger }) → e ≡ signed_entry keys old.me 0 ledger 2 2) → e ≡ signed_entry (keys_of s) (id_of s 1) 0 (genesis_entry (genesis_of s) ∷ []) 2 2
-opened_entry s h old ledger g e is same founded made =
-    let some = h.first in
-    let held = has_key s h 1 (omega arith) (omega (arith, some)) old is in
-    made (keys_of s) (record { key = held.key })
-    ∙ ap (λ (x : NodeId). signed_entry (keys_of s) x 0 ledger 2 2) is.named
-    ∙ ap (λ (l : List Entry). signed_entry (keys_of s) (id_of s 1) 0 l 2 2) (founded ∙ ap (λ (m : request.Genesis). genesis_entry m ∷ []) same)
+-- the entry with which it signs
+pub opened_entry : (keys : NodeKeys) (old : NodeStore) (ledger : List Entry) (g : request.Genesis) (e : Entry) → HasKey keys old → ledger ≡ genesis_entry g ∷ [] →
+    ((others : NodeKeys) → HasKey others (record old { ledger = ledger }) → e ≡ signed_entry others old.me 0 ledger 2 2) → e ≡ signed_entry keys old.me 0 (genesis_entry g ∷ []) 2 2
+opened_entry keys old ledger g e held founded made =
+    made keys (record { key = held.key }) ∙ ap (λ (l : List Entry). signed_entry keys old.me 0 l 2 2) founded
 
 -- it breaks no rule
-pub never_broken : (s : Settings) → IsGroup s → (ledger : List Entry) (g : request.Genesis) (e : Entry) (b : Broken) → g ≡ genesis_of s → ledger ≡ genesis_entry g ∷ [] →
-    e ≡ signed_entry (keys_of s) (id_of s 1) 0 (genesis_entry (genesis_of s) ∷ []) 2 2 → broken service_layers ledger e ≡ Some b → ⊥
-never_broken s h ledger g e b same founded is wrong =
-    let owed : broken service_layers ledger e ≡ None = ap₂ (broken service_layers) (founded ∙ ap (λ (m : request.Genesis). genesis_entry m ∷ []) same) is ∙ opening_follows s h in
+pub never_broken : (keys : NodeKeys) (ledger : List Entry) (g : request.Genesis) (x : NodeId) (e : Entry) (b : Broken) → Founds service_layers keys g x → ledger ≡ genesis_entry g ∷ [] →
+    e ≡ signed_entry keys x 0 (genesis_entry g ∷ []) 2 2 → broken service_layers ledger e ≡ Some b → ⊥
+never_broken keys ledger g x e b h founded is wrong =
+    let owed : broken service_layers ledger e ≡ None = ap₂ (broken service_layers) founded is ∙ opening_follows keys g x h in
     let none : Some b ≡ None = sym wrong ∙ owed in
     cc
 
 -- so the ledger is the opening one
-pub opened_ledger : (s : Settings) (ledger new : List Entry) (g : request.Genesis) (e : Entry) → g ≡ genesis_of s → ledger ≡ genesis_entry g ∷ [] →
-    e ≡ signed_entry (keys_of s) (id_of s 1) 0 (genesis_entry (genesis_of s) ∷ []) 2 2 → new ≡ ledger ++ e ∷ [] → new ≡ (start_of s).opening
-opened_ledger s ledger new g e same founded is grown =
-    grown ∙ ap₂ (λ (l : List Entry) (x : Entry). l ++ x ∷ []) (founded ∙ ap (λ (m : request.Genesis). genesis_entry m ∷ []) same) is
+pub opened_ledger : (keys : NodeKeys) (ledger new : List Entry) (g : request.Genesis) (x : NodeId) (e : Entry) → ledger ≡ genesis_entry g ∷ [] →
+    e ≡ signed_entry keys x 0 (genesis_entry g ∷ []) 2 2 → new ≡ ledger ++ e ∷ [] → new ≡ opening_of keys g x
+opened_ledger keys ledger new g x e founded is grown = grown ∙ ap₂ (λ (l : List Entry) (f : Entry). l ++ f ∷ []) founded is
+
+-- the first node of the settings founds their service
+pub first_founds : (s : Settings) → IsGroup s → (g : request.Genesis) (x : NodeId) → g ≡ genesis_of s → x ≡ id_of s 1 → Founds service_layers (keys_of s) g x
+first_founds s h g x same named =
+    subst (λ (f : request.Genesis). Founds service_layers (keys_of s) f x) (sym same) (subst (Founds service_layers (keys_of s) (genesis_of s)) (sym named) (group_founds s h))
 
 -- ---- all stores
 

@@ -22,7 +22,7 @@ use Rattle.gl_node.specs.Serving.{IsFileOf, OpensToCore}
 use Rattle.gl_node.specs.declared.event.Event.{Event}
 use Rattle.gl_replication.specs.Holding.{Holding}
 use Rattle.gl_replication.specs.Stands.{StandsFor}
-use Rattle.gl_world.specs.Running.{ServiceCore}
+use Rattle.gl_world.specs.WorldNodes.{ServiceCore}
 use Rattle.gl_book.specs.AtOpening.{kept_ledger}
 use Rattle.gl_book.specs.Frames.{goes_on_ledger, ledger_of_frames}
 use Rattle.gl_book.specs.NodeFile.{opened}
@@ -51,7 +51,7 @@ gives_restart b d n here view vote log reserved =
     ∙ ap (λ (k : ℕ). after b n.view n.vote n.log n.base k) reserved
     ∙ forgets b n
 
-same_ok : {T E : Type 0} (x y : T) → ◌≡◌ {A = Result T E} (Ok x) (Ok y) → x ≡ y
+pub same_ok : {T E : Type 0} (x y : T) → ◌≡◌ {A = Result T E} (Ok x) (Ok y) → x ≡ y
 same_ok x y is = cc
 
 module _ (core : ServiceCore NodeStore) (valid : IsValid core.book.ledger) (b : ServiceBook) (x : NodeId) (n : Node Entry) (s : StandsFor Stands core b x n) where

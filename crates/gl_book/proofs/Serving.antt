@@ -17,7 +17,7 @@ use Rattle.gl_ledger.specs.LedgerBook.{ServiceBook, ledger_book}
 use Rattle.gl_replication.specs.Holding.{Holding}
 use Rattle.gl_replication.specs.Stands.{StandsFor}
 use Rattle.gl_node.specs.Serving.{HoldsWhole, IsFileOf, IsServing}
-use Rattle.gl_world.specs.Running.{ServiceCore}
+use Rattle.gl_world.specs.WorldNodes.{ServiceCore}
 use Rattle.gl_book.specs.AtOpening.{kept_ledger, restarted_node, vote_at_opening, opened_state, leads_at_opening, node_at_opening}
 use Rattle.gl_book.specs.Frames.{goes_on_ledger, ledger_of_frames}
 use Rattle.gl_book.specs.NodeFile.{IsOpened, key_of, node_of}

@@ -2,6 +2,7 @@ pub mod Stands
 pub mod Lists
 pub mod Taken
 pub mod Opening
+pub mod Founding
 pub mod Frames
 pub mod NodeFile
 pub mod ServiceStart
@@ -9,3 +10,4 @@ pub mod AtOpening
 pub mod Turns
 pub mod Replicas
 pub mod Reopening
+pub mod FileNodes

@@ -6,7 +6,7 @@ use Rattle.gl_journal.specs.Durable.{Durable}
 use Rattle.gl_ledger.specs.NodeKeys.{NodeKeys, service_layers}
 use Rattle.gl_ledger.specs.LedgerBook.{ServiceBook, ledger_book}
 use Rattle.gl_replication.specs.Stands.{StandsFor}
-use Rattle.gl_world.specs.Running.{ServiceCore}
+use Rattle.gl_world.specs.WorldNodes.{ServiceCore}
 use Rattle.gl_book.specs.NodeFile.{key_of, node_of}
 use Rattle.gl_book.specs.Stands.{NodeStore, Stands}
 

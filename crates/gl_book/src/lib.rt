@@ -8,6 +8,9 @@ mod book;
 mod book_ledger;
 mod client_book;
 mod configurations;
+mod copies;
+mod file_node;
+mod founding;
 mod laws;
 mod makers;
 mod node_file;
@@ -19,7 +22,7 @@ mod refusals;
 mod signing;
 mod store_book;
 
+pub use file_node::{FileNode, nodes};
 pub use laws::a_stop_forgets_nothing;
 pub use node_file::{NodeFile, OpeningFault};
-pub use opening::books;
 pub use store_book::StoreBook;

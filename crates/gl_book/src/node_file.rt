@@ -22,10 +22,10 @@ use std::alloc::Global;
 use std::marker::Model;
 
 mod fault;
-mod keeping;
+pub(crate) mod keeping;
 mod kept_book;
 mod ledger_log;
-mod opening_batch;
+pub(crate) mod opening_batch;
 mod opening_ledger;
 mod replica;
 

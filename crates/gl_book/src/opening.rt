@@ -5,13 +5,14 @@ ghost use Rattle.gl_requests.specs.Ranges.{is_genesis};
 ghost use Rattle.gl_gov_rules.specs.History.{no_history};
 ghost use Rattle.gl_gov_rules.specs.Refusals.{genesis_refusal};
 ghost use Rattle.gl_ledger.specs.Ledger.{genesis_entry};
+ghost use Rattle.gl_ledger.specs.Makers.{opening_of};
+ghost use Rattle.gl_ledger.specs.NodeKeys.{NodeKeys, service_layers};
+ghost use Rattle.gl_ledger.specs.Opening.{Founds};
 ghost use Rattle.gl_world.specs.AtStart.{StandAtStart};
-ghost use Rattle.gl_world.specs.Founding.{genesis_of};
 ghost use Rattle.gl_world.specs.Group.{IsGroup};
 ghost use Rattle.gl_world.specs.Keyed.{AreKeysOf, IsKeyOf};
-ghost use Rattle.gl_world.specs.World.{start_of};
-ghost use Rattle.gl_book.specs.Opening.{HaveOpened, IsOfNode};
-ghost use Rattle.gl_book.specs.Stands.{Stands};
+ghost use Rattle.gl_book.specs.Opening.{HaveOpened};
+ghost use Rattle.gl_book.specs.Stands.{HasKey, Stands};
 
 use crate::book_ledger::{BookLedger, list_last};
 use crate::store_book::StoreBook;
@@ -36,16 +37,14 @@ impl BookLedger {
 }
 
 impl StoreBook {
-    /// Founds the service of these settings, whose first node it is: the genesis, and the signature
-    /// that opens the service, with the first leaf of its key.
-    fn open(&mut self, settings: &Settings, genesis: Genesis) -> Result<(), AllocError>
-        requires group { IsGroup settings.now }
-        requires first { IsOfNode settings.now 1 self.old }
+    /// Founds the service of a genesis that names the node: the genesis, and the signature that opens
+    /// the service, with the first leaf of the node's key.
+    pub(crate) fn open(&mut self, genesis: Genesis) -> Result<(), AllocError>
         requires empty { self.old.ledger ≡ [] }
-        requires genesis { genesis ≡ genesis_of settings.now }
-        ensures { OnOk result (self.new ≡ record self.old {
-          ledger = (start_of settings.now).opening;
-        }) }
+        requires founds { (keys : NodeKeys) × HasKey keys self.old
+            × Founds service_layers keys genesis self.old.me }
+        ensures { OnOk result ((keys : NodeKeys) → HasKey keys self.old → self.new
+            ≡ record self.old { ledger = opening_of keys genesis self.old.me }) }
     {
         self.ledger.found(genesis)?;
         let entry = self.signature_entry(0, FIRST_VIEW, 2)?;
@@ -96,13 +95,13 @@ fn joining_books(
 /// The stores with which the nodes of a service begin, in the order of their numbers: those of nodes
 /// that start have the opening ledger, and those of nodes that join have no entry. It grows the key of
 /// each node and member. Fails for want of memory alone.
-pub fn books(alloc: Global, settings: &Settings) -> Result<Vec<StoreBook>, AllocError>
+pub(crate) fn books(alloc: Global, settings: &Settings) -> Result<Vec<StoreBook>, AllocError>
     requires { IsGroup settings.now }
     ensures { IfOk result (λ books. StandAtStart Stands settings.now books.items) }
 {
     let founding = Founding::make(alloc, settings)?;
     let mut books = joining_books(alloc, settings, founding.keys)?;
-    books[0].open(settings, founding.genesis)?;
+    books[0].open(founding.genesis)?;
     for i in 1..settings.starting {
         let opened = books[0].ledger.copy()?;
         books[usize::from(i)].ledger = opened;

@@ -27,8 +27,9 @@ use Rattle.gl_lms.specs.declared.types.Types.{Types}
 use Rattle.gl_commands.specs.Commands.{diskless_program, keyless_program, nodeless_program, program}
 use Rattle.gl_commands.specs.declared.task.WordsFault.{WordsFault}
 use Rattle.gl_commands.specs.declared.task.WordsFault.TheVariants.{NoMemory, Refused}
-use Rattle.gl_commands.specs.Words.{Refuses, RefusesOnly, RefusesWords, as_node, as_task, asked, asked_by_node, asked_command, asked_deal, asked_dealing, asked_identity, asked_key, asked_keygen, asked_member, asked_name, asked_named, asked_node, asked_number, asked_numbers, asked_options, asked_peers, asked_request, asked_serving, asked_sign, asked_task, asked_ticks, asked_turns, asked_under, asked_with_identity, asked_with_words, asked_workers, is_member, is_node, is_number, named_kind, named_node, named_types, node_of, number_within, plain_task, spelled_key, spelled_member, unless_faulty, unless_plain, valid_value}
+use Rattle.gl_commands.specs.Words.{Refuses, RefusesOnly, RefusesWords, as_load, as_node, as_task, asked, asked_by_load, asked_by_node, asked_command, asked_deal, asked_dealing, asked_identity, asked_key, asked_keygen, asked_load, asked_making, asked_member, asked_name, asked_named, asked_node, asked_number, asked_numbers, asked_options, asked_peers, asked_request, asked_seed, asked_serving, asked_sign, asked_task, asked_ticks, asked_turns, asked_under, asked_with_identity, asked_with_words, asked_workers, is_member, is_node, is_number, named_kind, named_node, named_types, node_of, number_within, plain_task, spelled_hex, spelled_member, unless_faulty, unless_plain, valid_value}
 use Rattle.gl_commands.specs.declared.task.Asked.{Asked}
+use Rattle.gl_commands.specs.declared.task.LoadTask.{LoadTask}
 use Rattle.gl_commands.specs.declared.task.NodeTask.{NodeTask}
 use Rattle.gl_commands.specs.declared.task.Task.{Task}
 
@@ -37,7 +38,7 @@ abbrev pub HasKind : {A : Type 0} → Result A Kinds → Type 0
 HasKind (Ok value) = Unit {0}
 HasKind (Err told) = (kind : ErrorKind) × IsAmong kind told
 
-kind_of_hex : (name : Text) (key : Result (List ℕ) LineFault) → HasKind (asked_under name (spelled_key key))
+kind_of_hex : (name : Text) (key : Result (List ℕ) LineFault) → HasKind (asked_under name (spelled_hex key))
 kind_of_hex name (Ok key) = tt
 kind_of_hex name (Err fault) = (kinds.ValueValidation, inl refl)
 
@@ -58,7 +59,7 @@ kind_of_name {A = A} named (Some word) = go (named word)
     go None = (kinds.InvalidValue, inl refl)
     go (Some value) = tt
 
-kind_of_spelled : (key : Result (List ℕ) LineFault) → HasKind (spelled_key key)
+kind_of_spelled : (key : Result (List ℕ) LineFault) → HasKind (spelled_hex key)
 kind_of_spelled (Ok key) = tt
 kind_of_spelled (Err fault) = (kinds.ValueValidation, inl refl)
 
@@ -283,12 +284,29 @@ kind_as_node : (asked : Result NodeTask Kinds) → HasKind asked → HasKind (as
 kind_as_node (Ok node) has = tt
 kind_as_node (Err told) has = has
 
+kind_of_seed : (word : Option Text) → HasKind (asked_seed word)
+kind_of_seed None = (kinds.MissingRequiredArgument, inl refl)
+kind_of_seed (Some word) = kind_of_spelled (hex_sized word 32)
+
+kind_of_making : (count : Result ℕ Kinds) (seed : Result (List ℕ) Kinds) → HasKind count → HasKind seed → HasKind (asked_making count seed)
+kind_of_making (Err told) seed c s = c
+kind_of_making (Ok count) (Err told) c s = s
+kind_of_making (Ok count) (Ok seed) c s = tt
+
+kind_as_load : (asked : Result LoadTask Kinds) → HasKind asked → HasKind (as_load asked)
+kind_as_load (Ok load) has = tt
+kind_as_load (Err told) has = has
+
 kind_of_named : (name : Text) (rows : List Row) → HasKind (asked_named name rows)
-kind_of_named name rows = go (bytes_eq name (codes "node"))
+kind_of_named name rows = go (bytes_eq name (codes "node")) (bytes_eq name (codes "load"))
   where
-    go : (b : Bool) → HasKind (if b then as_node (asked_by_node rows) else as_task (asked_task name rows))
-    go true = kind_as_node (asked_by_node rows) (kind_of_node (first_of (codes "ticks") rows) (first_of (codes "workers") rows) (first_of (codes "turns") rows) (all_of (codes "peers") rows))
-    go false = kind_as_task (asked_task name rows) (kind_of_task name rows)
+    go : (node load : Bool) → HasKind (if node then as_node (asked_by_node rows) else (if load then as_load (asked_by_load rows) else as_task (asked_task name rows)))
+    go true load = kind_as_node (asked_by_node rows) (kind_of_node (first_of (codes "ticks") rows) (first_of (codes "workers") rows) (first_of (codes "turns") rows) (all_of (codes "peers") rows))
+    go false true =
+        kind_as_load (asked_by_load rows)
+        (kind_of_making (asked_number (first_of (codes "count") rows)) (asked_seed (first_of (codes "seed") rows))
+        (kind_of_number (first_of (codes "count") rows)) (kind_of_seed (first_of (codes "seed") rows)))
+    go false false = kind_as_task (asked_task name rows) (kind_of_task name rows)
 
 kind_of_command : (command : Option (Text × List Row)) → HasKind (asked_command command)
 kind_of_command None = (kinds.MissingSubcommand, inl refl)
@@ -334,11 +352,11 @@ identity_options name rows word other w =
     ∙ ap (λ (x : Option Text). asked_under name (asked_identity x)) (sym w)
 
 -- what a call answers that asks the same
-pub same_found : (r : Result Task ErrorKind) (asks other : Result Task Kinds) → other ≡ asks → IfOk r (λ task. asks ≡ Ok task) → IfOk r (λ task. other ≡ Ok task)
+pub same_found : {A : Type 0} (r : Result A ErrorKind) (asks other : Result A Kinds) → other ≡ asks → IfOk r (λ task. asks ≡ Ok task) → IfOk r (λ task. other ≡ Ok task)
 same_found (Ok task) asks other is found = is ∙ found
 same_found (Err kind) asks other is found = tt
 
-pub same_refused : (r : Result Task ErrorKind) (asks other : Result Task Kinds) → other ≡ asks → IfErr r (λ kind. asks ≡ Err (kind ∷ [])) → IfErr r (λ kind. other ≡ Err (kind ∷ []))
+pub same_refused : {A : Type 0} (r : Result A ErrorKind) (asks other : Result A Kinds) → other ≡ asks → IfErr r (λ kind. asks ≡ Err (kind ∷ [])) → IfErr r (λ kind. other ≡ Err (kind ∷ []))
 same_refused (Ok task) asks other is refused = tt
 same_refused (Err kind) asks other is refused = is ∙ refused
 
@@ -396,6 +414,11 @@ node_words rows ticks workers turns peers t w n p =
     ∙ ap (λ (x : Option Text). asked_node ticks x (first_of (codes "turns") rows) (all_of (codes "peers") rows)) (sym w)
     ∙ ap (λ (x : Option Text). asked_node ticks workers x (all_of (codes "peers") rows)) (sym n)
     ∙ ap (λ (x : Option (List Text)). asked_node ticks workers turns x) (sym p)
+
+-- `load`
+pub load_words : (rows : List Row) (count seed : Option Text) → count ≡ first_of (codes "count") rows → seed ≡ first_of (codes "seed") rows → asked_by_load rows ≡ asked_load count seed
+load_words rows count seed c s =
+    ap (λ (x : Option Text). asked_load x (first_of (codes "seed") rows)) (sym c) ∙ ap (λ (x : Option Text). asked_load count x) (sym s)
 
 -- what a call answers that asks the same
 pub same_task : {A : Type 0} (r : Result A WordsFault) (asks other : Result A Kinds) → other ≡ asks → IfOk r (λ task. asks ≡ Ok task) → IfOk r (λ task. other ≡ Ok task)

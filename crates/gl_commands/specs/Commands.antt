@@ -66,6 +66,11 @@ node_command =
     (optional_option (codes "ticks"))) (optional_option (codes "workers")))
     (optional_option (codes "turns"))) (optional_words (codes "peers"))
 
+abbrev pub load_command : App
+load_command =
+    with_rule (with_rule (new_app (codes "load")) (required_option (codes "count")))
+    (required_option (codes "seed"))
+
 -- The program without its commands. Its words are those behind its name; one of them has to be a
 -- command, of which `help` is none.
 abbrev pub bare_program : App
@@ -95,10 +100,13 @@ nodeless_program =
     (with_subcommand (with_subcommand keyless_program endorse_command.top) genesis_command.top)
     sign_command.top
 
--- And with the one that founds a service anew, and the one that serves as a node.
+-- And with the one that founds a service anew, the one that serves as a node, and the one that makes
+-- a ledger.
 unfoldable pub program : App
 program =
-    with_subcommand (with_subcommand nodeless_program recover_command.top) node_command.top
+    with_subcommand
+    (with_subcommand (with_subcommand nodeless_program recover_command.top) node_command.top)
+    load_command.top
 
 -- The command is this one, with no option that holds for others too.
 abbrev pub IsCommand : App → Command → Type 0

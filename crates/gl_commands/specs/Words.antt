@@ -22,20 +22,21 @@ use Rattle.gl_lms.specs.declared.types.Types.TheVariants.{H5W4, H5W8, H10W4, H10
 use Rattle.gl_commands.specs.Commands.{program}
 use Rattle.gl_commands.specs.declared.task.Asked.{Asked}
 use Rattle.gl_commands.specs.declared.task.Asked.TheVariants as asks
+use Rattle.gl_commands.specs.declared.task.LoadTask.{LoadTask}
 use Rattle.gl_commands.specs.declared.task.NodeTask.{NodeTask}
 use Rattle.gl_commands.specs.declared.task.Task.{Task}
 use Rattle.gl_commands.specs.declared.task.Task.TheVariants as tasks
 use Rattle.gl_commands.specs.declared.task.WordsFault.{WordsFault}
 use Rattle.gl_commands.specs.declared.task.WordsFault.TheVariants as faults
 
-abbrev pub spelled_key : Result (List ℕ) LineFault → Result (List ℕ) Kinds
-spelled_key (Ok key) = Ok key
-spelled_key (Err fault) = Err (kinds.ValueValidation ∷ [])
+abbrev pub spelled_hex : Result (List ℕ) LineFault → Result (List ℕ) Kinds
+spelled_hex (Ok bytes) = Ok bytes
+spelled_hex (Err fault) = Err (kinds.ValueValidation ∷ [])
 
 -- The key is a word of 120 digits of lower-case hexadecimal.
 abbrev pub asked_identity : Option Text → Result (List ℕ) Kinds
 asked_identity None = Err (kinds.MissingRequiredArgument ∷ [])
-asked_identity (Some word) = spelled_key (hex_sized word 60)
+asked_identity (Some word) = spelled_hex (hex_sized word 60)
 
 -- What the command with a name asks for under a key.
 abbrev pub task_under : Text → List ℕ → Task
@@ -178,6 +179,20 @@ asked_node ticks workers turns peers =
     asked_serving (asked_ticks ticks) (asked_workers workers) (asked_turns turns)
     (asked_peers peers)
 
+-- A seed is a word of 64 digits of lower-case hexadecimal.
+abbrev pub asked_seed : Option Text → Result (List ℕ) Kinds
+asked_seed None = Err (kinds.MissingRequiredArgument ∷ [])
+asked_seed (Some word) = spelled_hex (hex_sized word 32)
+
+-- The count of requests is tried before the seed.
+abbrev pub asked_making : Result ℕ Kinds → Result (List ℕ) Kinds → Result LoadTask Kinds
+asked_making (Err told) seed = Err told
+asked_making (Ok count) (Err told) = Err told
+asked_making (Ok count) (Ok seed) = Ok (record { count = count; seed = seed })
+
+abbrev pub asked_load : Option Text → Option Text → Result LoadTask Kinds
+asked_load count seed = asked_making (asked_number count) (asked_seed seed)
+
 -- What a command with an option for a service's key asks for with these values of them.
 abbrev pub asked_with_identity : Text → List Row → Result Task Kinds
 asked_with_identity name rows =
@@ -185,14 +200,14 @@ asked_with_identity name rows =
     then asked_sign (first_of (codes "identity") rows) (first_of (codes "member") rows)
     else asked_under name (asked_identity (first_of (codes "identity") rows))
 
--- What a command with options but `deal` and `node` asks for with these values of them.
+-- What a command with options but `deal`, `node` and `load` asks for with these values of them.
 abbrev pub asked_options : Text → List Row → Result Task Kinds
 asked_options name rows =
     if bytes_eq name (codes "keygen")
     then asked_keygen (first_of (codes "kind") rows) (first_of (codes "types") rows)
     else asked_with_identity name rows
 
--- What a command with options or words but `node` asks for with these.
+-- What a command with options or words but `node` and `load` asks for with these.
 abbrev pub asked_with_words : Text → List Row → Result Task Kinds
 asked_with_words name rows =
     if bytes_eq name (codes "deal")
@@ -211,7 +226,7 @@ abbrev pub unless_plain : Option Task → Result Task Kinds → Result Task Kind
 unless_plain (Some task) other = Ok task
 unless_plain None other = other
 
--- The task that a command asks for which isn't `node`.
+-- The task that a command asks for which is neither `node` nor `load`.
 abbrev pub asked_task : Text → List Row → Result Task Kinds
 asked_task name rows = unless_plain (plain_task name) (asked_with_words name rows)
 
@@ -223,17 +238,26 @@ abbrev pub as_node : Result NodeTask Kinds → Result Asked Kinds
 as_node (Ok node) = Ok (asks.Node node)
 as_node (Err told) = Err told
 
+abbrev pub as_load : Result LoadTask Kinds → Result Asked Kinds
+as_load (Ok load) = Ok (asks.Load load)
+as_load (Err told) = Err told
+
 -- How the node is to serve that `node` asks for with these values of its options and words.
 abbrev pub asked_by_node : List Row → Result NodeTask Kinds
 asked_by_node rows =
     asked_node (first_of (codes "ticks") rows) (first_of (codes "workers") rows)
     (first_of (codes "turns") rows) (all_of (codes "peers") rows)
 
+-- Which ledger `load` asks for with these values of its options.
+abbrev pub asked_by_load : List Row → Result LoadTask Kinds
+asked_by_load rows = asked_load (first_of (codes "count") rows) (first_of (codes "seed") rows)
+
 -- What a command asks for with these values of its options.
 abbrev pub asked_named : Text → List Row → Result Asked Kinds
 asked_named name rows =
     if bytes_eq name (codes "node") then as_node (asked_by_node rows)
-    else as_task (asked_task name rows)
+    else (if bytes_eq name (codes "load") then as_load (asked_by_load rows)
+    else as_task (asked_task name rows))
 
 abbrev pub asked_command : Option (Text × List Row) → Result Asked Kinds
 asked_command None = Err (kinds.MissingSubcommand ∷ [])

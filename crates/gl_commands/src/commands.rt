@@ -2,7 +2,7 @@
 
 ghost use Rattle.std.specs.Prelude.{◌≡◌, IfOk, codes, false};
 ghost use Rattle.clap.specs.Walk.{rule_of};
-ghost use Rattle.gl_commands.specs.Commands.{IsCommand, audit_command, bare_program, deal_command, diskless_program, keygen_command, keyless_program, node_command, nodeless_program, optional_option, optional_words, program, required_option, required_words, sign_command, verify_command};
+ghost use Rattle.gl_commands.specs.Commands.{IsCommand, audit_command, bare_program, deal_command, diskless_program, keygen_command, keyless_program, load_command, node_command, nodeless_program, optional_option, optional_words, program, required_option, required_words, sign_command, verify_command};
 
 use crate::help::VERSION;
 use clap::{Arg, Command};
@@ -86,6 +86,14 @@ fn node_command<'a>(alloc: Global) -> Result<Command<'a>, AllocError>
         .arg(optional_words(alloc, "peers"))
 }
 
+fn load_command<'a>(alloc: Global) -> Result<Command<'a>, AllocError>
+    ensures { IfOk result (IsCommand load_command) }
+{
+    Command::new(alloc, "load")
+        .arg(required_option(alloc, "count"))?
+        .arg(required_option(alloc, "seed"))
+}
+
 /// The program without its commands.
 fn bare_program<'a>(alloc: Global) -> Command<'a>
     ensures { IsCommand bare_program result }
@@ -129,12 +137,14 @@ fn nodeless_program<'a>(alloc: Global) -> Result<Command<'a>, AllocError>
         .subcommand(sign_command(alloc)?)
 }
 
-/// And with the one that founds a service anew, and the one that serves as a node.
+/// And with the one that founds a service anew, the one that serves as a node, and the one that makes
+/// a ledger.
 #[tactic(auto, unfolding(crate::specs::Commands::program))]
 pub(crate) fn program<'a>(alloc: Global) -> Result<Command<'a>, AllocError>
     ensures { IfOk result (IsCommand program) }
 {
     nodeless_program(alloc)?
         .subcommand(Command::new(alloc, "recover"))?
-        .subcommand(node_command(alloc)?)
+        .subcommand(node_command(alloc)?)?
+        .subcommand(load_command(alloc)?)
 }

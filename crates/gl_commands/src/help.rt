@@ -55,6 +55,12 @@ Commands:
       make the node stand for election. It serves until it is stopped; with --turns
       it ends once it asked so often for what comes next. --workers 0 may be said
       too. It writes how many payloads it served and how many frames it lost
+  ccfg load --count N --seed HEX
+      makes a ledger of N requests, at most 100000, on one node over a disk in
+      memory, audits it, and writes six lines of it: how many entries, signatures
+      and bytes it has, how many keys the requests wrote to, its last transaction,
+      and the root of the tree over its entries. All keys and all requests come
+      from the seed, which is 64 digits of lower-case hexadecimal
   ccfg --help, ccfg --version
       write this text, and the version
 
@@ -77,7 +83,7 @@ Exit statuses:
   5  the file failed
   6  the sockets failed
   7  out of memory
-  8  the input passes a limit, or the node asked as often as it may
+  8  the input or the count passes a limit, or the node asked as often as it may
   9  the input is no schedule, no receipt, no seed, not as long as a secret with
      its seed, or not what is to be signed
 At 1, 2, 8 and 9 exactly one line is written, 'fault' and why: of a ledger,
@@ -90,4 +96,5 @@ Examples:
   ccfg audit --identity $(cat identity) < valid.ledger
   head -c 32 /dev/urandom | ccfg @disk=node.key keygen --kind node --types h10w4
   ccfg @disk=service.key endorse < node.json > endorsed.json
+  ccfg load --count 250 --seed $(printf %064d 0)
 ";

@@ -4,10 +4,11 @@
 
 mod commands;
 mod help;
+mod load_words;
 mod node_words;
 mod task;
 mod words;
 
 pub use help::{HELP, VERSION};
-pub use task::{Asked, NodeTask, Task, WordsFault};
+pub use task::{Asked, LoadTask, NodeTask, Task, WordsFault};
 pub use words::read_words;

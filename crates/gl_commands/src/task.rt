@@ -17,6 +17,8 @@ pub enum Asked {
     Task(Task),
     /// To serve as the node of a file.
     Node(NodeTask),
+    /// To make a ledger of so many requests, and tell of it.
+    Load(LoadTask),
 }
 
 /// A task that is done once, with what the source gives.
@@ -59,6 +61,15 @@ pub struct NodeTask {
     pub turns: u64,
     /// The peers: the first has the first connection, and so on.
     pub peers: Sequence<NodeId>,
+}
+
+/// Which ledger is to be made.
+#[derive(Clone, Copy, Debug, PartialEq, Eq)]
+pub struct LoadTask {
+    /// How many requests it takes.
+    pub count: u64,
+    /// The seed of its keys and of its requests.
+    pub seed: [u8; 32],
 }
 
 /// Why words ask for nothing.

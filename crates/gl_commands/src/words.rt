@@ -13,11 +13,12 @@ ghost use Rattle.gl_lines.specs.Words.{hex_sized};
 ghost use Rattle.gl_commands.specs.Commands.{program};
 ghost use Rattle.gl_commands.specs.declared.task.Asked.TheVariants as asks;
 ghost use Rattle.gl_commands.specs.declared.task.NodeTask.{NodeTask as NodeTasks};
-ghost use Rattle.gl_commands.specs.Words.{RefusesOnly, RefusesWords, asked, asked_by_node, asked_command, asked_deal, asked_identity, asked_keygen, asked_member, asked_name, asked_named, asked_number, asked_numbers, asked_options, asked_sign, asked_task, asked_with_identity, asked_with_words, is_member, is_number, named_kind, named_types, plain_task, spelled_key, spelled_member, task_under};
+ghost use Rattle.gl_commands.specs.Words.{RefusesOnly, RefusesWords, asked, asked_by_load, asked_by_node, asked_command, asked_deal, asked_identity, asked_keygen, asked_member, asked_name, asked_named, asked_number, asked_numbers, asked_options, asked_sign, asked_task, asked_with_identity, asked_with_words, is_member, is_number, named_kind, named_types, plain_task, spelled_hex, spelled_member, task_under};
 
 use crate::commands::program;
+use crate::load_words::asked_load;
 use crate::node_words::asked_node;
-use crate::task::{Asked, NodeTask, Task, WordsFault};
+use crate::task::{Asked, LoadTask, NodeTask, Task, WordsFault};
 use clap::ArgMatches;
 use clap::error::ErrorKind;
 use gl_base::Sequence;
@@ -31,8 +32,8 @@ use std::alloc::{AllocError, Global};
 
 /// The key that a word spells.
 fn spelled_key(word: &str) -> Result<HssPublicKey, ErrorKind>
-    ensures found { IfOk result (λ key. spelled_key (hex_sized word.now 60) ≡ Ok key) }
-    ensures refused { IfErr result (λ kind. spelled_key (hex_sized word.now 60) ≡ Err (kind ∷ [])) }
+    ensures found { IfOk result (λ key. spelled_hex (hex_sized word.now 60) ≡ Ok key) }
+    ensures refused { IfErr result (λ kind. spelled_hex (hex_sized word.now 60) ≡ Err (kind ∷ [])) }
 {
     if !is_lower_hex(word.as_bytes()) {
         return Err(ErrorKind::ValueValidation);
@@ -202,7 +203,7 @@ pub(crate) fn number_in(word: &str) -> Option<u64>
 }
 
 /// The number that the option of a command spells.
-fn asked_number(word: Option<&str>) -> Result<u64, ErrorKind>
+pub(crate) fn asked_number(word: Option<&str>) -> Result<u64, ErrorKind>
     ensures found { IfOk result (λ number.
         asked_number (option_map (λ s. s.now) word.entry) ≡ Ok number) }
     ensures refused { IfErr result (λ kind.
@@ -298,7 +299,7 @@ fn asked_options(name: &str, options: &ArgMatches) -> Result<Task, ErrorKind>
     }
 }
 
-/// What a command with options or words asks for, but `node`.
+/// What a command with options or words asks for, but `node` and `load`.
 fn asked_with_words(alloc: Global, name: &str, found: &ArgMatches) -> Result<Task, WordsFault>
     ensures found { IfOk result (λ task.
         asked_with_words name.now (rows_of (found_of found.now)) ≡ Ok task) }
@@ -331,7 +332,7 @@ fn plain_task(name: &str) -> Option<Task>
     }
 }
 
-/// The task that a command asks for which isn't `node`.
+/// The task that a command asks for which is neither `node` nor `load`.
 fn asked_task(alloc: Global, name: &str, found: &ArgMatches) -> Result<Task, WordsFault>
     ensures found { IfOk result (λ task.
         asked_task name.now (rows_of (found_of found.now)) ≡ Ok task) }
@@ -361,6 +362,16 @@ fn asked_by_node(alloc: Global, found: &ArgMatches) -> Result<NodeTask, WordsFau
     )
 }
 
+/// Which ledger `load` asks for.
+fn asked_by_load(found: &ArgMatches) -> Result<LoadTask, ErrorKind>
+    ensures found { IfOk result (λ load.
+        asked_by_load (rows_of (found_of found.now)) ≡ Ok load) }
+    ensures refused { IfErr result (λ kind.
+        asked_by_load (rows_of (found_of found.now)) ≡ Err (kind ∷ [])) }
+{
+    asked_load(found.get_str("count"), found.get_str("seed"))
+}
+
 /// What a command asks for.
 fn asked_named(alloc: Global, name: &str, found: &ArgMatches) -> Result<Asked, WordsFault>
     ensures found { IfOk result (λ asked.
@@ -371,6 +382,9 @@ fn asked_named(alloc: Global, name: &str, found: &ArgMatches) -> Result<Asked, W
 {
     if name == "node" {
         return Ok(Asked::Node(asked_by_node(alloc, found)?));
+    }
+    if name == "load" {
+        return Ok(Asked::Load(asked_by_load(found)?));
     }
     Ok(Asked::Task(asked_task(alloc, name, found)?))
 }

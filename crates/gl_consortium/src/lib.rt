@@ -15,6 +15,3 @@ mod request;
 pub use answer::sign;
 pub use fault::SigningFault;
 pub use laws::law_of_signing;
-
-#[cfg(test)]
-mod tests;

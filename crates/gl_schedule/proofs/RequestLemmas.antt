@@ -21,7 +21,7 @@ use Rattle.gl_world.specs.declared.settings.Settings.{Settings}
 use Rattle.gl_world.specs.Founding.{id_of}
 use Rattle.gl_world.specs.Group.{IsGroup, book_of}
 use Rattle.gl_world.specs.Happened.{answer_to, is_no_memory, with_event}
-use Rattle.gl_world.specs.Running.{ServiceRefusal}
+use Rattle.gl_world.specs.WorldNodes.{ServiceRefusal}
 use Rattle.gl_replication.specs.Stands.{Answers as Refused}
 use Rattle.gl_world.specs.Held.{Held, has_node, seen_event, world_now}
 use Rattle.gl_world.specs.Members.{Signed, next_leaf, leaf_limit, member_request}

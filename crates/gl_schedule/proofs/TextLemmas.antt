@@ -6,7 +6,7 @@ use Rattle.gl_replication.specs.declared.done.Refusal.TheVariants as refusals
 use Rattle.gl_ledger.specs.declared.made.Unmade.{Unmade}
 use Rattle.gl_world.specs.declared.settings.Settings.{Settings}
 use Rattle.gl_world.specs.Founding.{numbers_from}
-use Rattle.gl_world.specs.Running.{ServiceRefusal}
+use Rattle.gl_world.specs.WorldNodes.{ServiceRefusal}
 use Rattle.gl_world.specs.World.{ServiceOutcome}
 use Rattle.gl_world.specs.Happened.{is_no_memory}
 use Rattle.gl_refusals.specs.Reasons.{reason_of, seen_refusal}

@@ -1,7 +1,7 @@
 //! The service of a schedule, and what its lines come to.
 
 ghost use Rattle.std.specs.Prelude.{◌≡◌, ◌∷◌, ◌++◌, [], None, true, length, IfOk, OnOk};
-ghost use Rattle.gl_world.specs.AtStart.{StandAtStart};
+ghost use Rattle.gl_world.specs.AtStart.{AreAtStart};
 ghost use Rattle.gl_world.specs.Founding.{node_ids};
 ghost use Rattle.gl_world.specs.Group.{IsGroup};
 ghost use Rattle.gl_world.specs.Happened.{answer_to, with_event};
@@ -18,12 +18,8 @@ use crate::proposals::Proposals;
 use crate::text::{put_sent, put_unnamed};
 use gl_entry::NodeId;
 use gl_hss::{HssPublic, Levels, LmsKey};
-use gl_ledger::{Given, Reads, Unmade};
 use gl_lines::Line;
-use gl_replication::Book;
-use gl_requests::GovernanceRequest;
-use gl_tx::Request;
-use gl_world::{Event, Members, Settings, World, service_key};
+use gl_world::{Event, Members, Settings, World, WorldNode, service_key};
 use std::alloc::{AllocError, Global};
 use std::marker::Model;
 
@@ -33,17 +29,9 @@ mod questions;
 
 /// The service of a schedule: its world, the members who sign for it, and what its lines may name.
 #[derive(Drop)]
-pub struct Machine<
-    B: Book<
-        Request = Request,
-        Gov = GovernanceRequest,
-        Reads = Reads,
-        Given = Given,
-        Refused = Unmade,
-    >,
-> {
+pub struct Machine<N: WorldNode> {
     settings: Settings,
-    world: World<B>,
+    world: World<N>,
     /// The identifiers of the nodes, in the order of their numbers.
     ids: Vec<NodeId>,
     /// The service's key, which endorses the nodes that join.
@@ -55,15 +43,7 @@ pub struct Machine<
     alloc: Global,
 }
 
-impl<
-    B: Book<
-        Request = Request,
-        Gov = GovernanceRequest,
-        Reads = Reads,
-        Given = Given,
-        Refused = Unmade,
-    >,
-> Model for Machine<B> {
+impl<N: WorldNode> Model for Machine<N> {
     ghost use Rattle.gl_schedule.specs.Playing.{AreOfOne, Playing};
 
     ghost Value = { Playing };
@@ -80,15 +60,11 @@ impl<
 }
 
 /// The identifiers of all nodes of a world, in the order of their numbers.
-fn ids_in<
-    B: Book<
-        Request = Request,
-        Gov = GovernanceRequest,
-        Reads = Reads,
-        Given = Given,
-        Refused = Unmade,
-    >,
->(alloc: Global, world: &World<B>, settings: &Settings) -> Result<Vec<NodeId>, AllocError>
+fn ids_in<N: WorldNode>(
+    alloc: Global,
+    world: &World<N>,
+    settings: &Settings,
+) -> Result<Vec<NodeId>, AllocError>
     requires group { IsGroup settings.now }
     requires settings { world.now.settings ≡ settings.now }
     ensures { IfOk result (λ ids. ids.items ≡ node_ids settings.now) }
@@ -100,25 +76,17 @@ fn ids_in<
     Ok(ids)
 }
 
-impl<
-    B: Book<
-        Request = Request,
-        Gov = GovernanceRequest,
-        Reads = Reads,
-        Given = Given,
-        Refused = Unmade,
-    >,
-> Machine<B> {
-    /// The service as it begins, with a store for each of its nodes.
-    pub fn begin(alloc: Global, settings: Settings, books: Vec<B>) -> Result<Self, AllocError>
+impl<N: WorldNode> Machine<N> {
+    /// The service as it begins, with its nodes.
+    pub fn begin(alloc: Global, settings: Settings, nodes: Vec<N>) -> Result<Self, AllocError>
         requires group { IsGroup settings }
-        requires books { StandAtStart B.stands settings books.items }
+        requires nodes { AreAtStart N.stands settings nodes.items }
         ensures settings { IfOk result (λ machine. machine.world.settings ≡ settings) }
         ensures is_in { IfOk result (λ machine. IsIn (told_at_start settings) machine) }
     {
         let service = service_key(alloc, &settings)?;
         let members = Members::new(alloc, settings, service.hss_public(Levels::Two))?;
-        let world = World::new(alloc, settings, books)?;
+        let world = World::new(alloc, settings, nodes)?;
         let ids = ids_in(alloc, &world, &settings)?;
         Ok(Machine {
             settings,

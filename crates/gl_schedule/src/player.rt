@@ -5,7 +5,7 @@ ghost use Rattle.std.specs.Io.KnownBytes.{Appends};
 ghost use Rattle.gl_outside.specs.Fault.{Rose};
 ghost use Rattle.gl_outside.specs.Sink.{AppendsFront};
 ghost use Rattle.std.specs.List.{AllByRecursion};
-ghost use Rattle.gl_world.specs.AtStart.{StandAtStart};
+ghost use Rattle.gl_world.specs.AtStart.{AreAtStart};
 ghost use Rattle.gl_world.specs.Group.{IsGroup};
 ghost use Rattle.gl_lines.specs.Kept.{IsFit};
 ghost use Rattle.gl_schedule.specs.Play.{Extends, ExtendsFront, GoesOn, IsIn};
@@ -13,25 +13,18 @@ ghost use Rattle.gl_schedule.specs.Told.{Told, told, told_of};
 
 use crate::machine::Machine;
 use crate::text::put_number;
-use gl_ledger::{Given, Reads, Unmade};
 use gl_lines::{Line, Lines};
 use gl_outside::{Sink, SinkFault, write_whole};
-use gl_replication::Book;
-use gl_requests::GovernanceRequest;
-use gl_tx::Request;
-use gl_world::Settings;
+use gl_world::{Settings, WorldNode};
 use std::alloc::{AllocError, Global};
 
 /// The line, with its number, that tells what a line of the schedule comes to.
-fn line_text<
-    B: Book<
-        Request = Request,
-        Gov = GovernanceRequest,
-        Reads = Reads,
-        Given = Given,
-        Refused = Unmade,
-    >,
->(alloc: Global, machine: &mut Machine<B>, number: u64, line: Line) -> Result<Vec<u8>, AllocError>
+fn line_text<N: WorldNode>(
+    alloc: Global,
+    machine: &mut Machine<N>,
+    number: u64,
+    line: Line,
+) -> Result<Vec<u8>, AllocError>
     requires fit { IsFit line }
     ensures text { IfOk result (λ text. (t : Told) → IsIn t machine.old → suc t.lines ≡ number →
         (told machine.old.world.settings t line).text ≡ t.text ++ text.items) }
@@ -47,18 +40,9 @@ fn line_text<
 }
 
 /// Plays one line, and writes what came of it.
-fn play_line<
-    B: Book<
-        Request = Request,
-        Gov = GovernanceRequest,
-        Reads = Reads,
-        Given = Given,
-        Refused = Unmade,
-    >,
-    K: Sink,
->(
+fn play_line<N: WorldNode, K: Sink>(
     alloc: Global,
-    machine: &mut Machine<B>,
+    machine: &mut Machine<N>,
     number: u64,
     line: Line,
     sink: &mut K,
@@ -81,27 +65,18 @@ fn play_line<
     }
 }
 
-/// Plays a schedule over a store for each node of its service: its own line first, and then one for
-/// each line behind it.
-pub fn play<
-    B: Book<
-        Request = Request,
-        Gov = GovernanceRequest,
-        Reads = Reads,
-        Given = Given,
-        Refused = Unmade,
-    >,
-    K: Sink,
->(
+/// Plays a schedule over the nodes of its service: its own line first, and then one for each line
+/// behind it.
+pub fn play<N: WorldNode, K: Sink>(
     alloc: Global,
     settings: Settings,
     lines: Lines,
-    books: Vec<B>,
+    nodes: Vec<N>,
     sink: &mut K,
 ) -> Result<(), SinkFault>
     requires group { IsGroup settings }
     requires fit { AllByRecursion IsFit lines }
-    requires books { StandAtStart B.stands settings books.items }
+    requires nodes { AreAtStart N.stands settings nodes.items }
     ensures whole { OnOk result
         (Appends (K.holds sink.old) (K.holds sink.new) (told_of settings lines).text) }
     ensures front { OnErr result
@@ -109,7 +84,7 @@ pub fn play<
     ensures failed { result ≡ Err SinkFault.Failed → Rose (K.faults sink.old) (K.faults sink.new) }
     ensures never_falls { K.faults sink.old ≤ K.faults sink.new }
 {
-    let mut machine = match Machine::begin(alloc, settings, books) {
+    let mut machine = match Machine::begin(alloc, settings, nodes) {
         Ok(machine) => machine,
         Err(_) => return Err(SinkFault::NoMemory),
     };

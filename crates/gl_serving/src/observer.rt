@@ -29,11 +29,3 @@ impl fmt::Display for Standing {
 pub trait Observer: Drop {
     fn observe(&mut self, standing: Standing);
 }
-
-/// Nobody looks on.
-#[derive(Clone, Copy, Debug)]
-pub struct Unobserved;
-
-impl Observer for Unobserved {
-    fn observe(&mut self, _standing: Standing) {}
-}

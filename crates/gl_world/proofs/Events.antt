@@ -12,7 +12,7 @@ use Rattle.gl_requests.specs.declared.request.GovernanceRequest.{GovernanceReque
 use Rattle.gl_world.specs.declared.event.Event.{Event}
 use Rattle.gl_world.specs.declared.event.Event.TheVariants as events
 use Rattle.gl_world.specs.Held.{index_of, is_among, is_number, node_named, receiver_in}
-use Rattle.gl_world.specs.Running.{node_in, acting_node, receiver_of}
+use Rattle.gl_world.specs.Rules.{node_in, acting_node, receiver_of}
 use Rattle.gl_world.proofs.NodeIds.{number_parts}
 
 pub index_of_at : (ids : List NodeId) (x : NodeId) (i : ℕ) → index_of ids x ≡ Some i → slice_get ids i ≡ Some x

@@ -9,6 +9,7 @@ pub mod Groups
 pub mod MemberSigners
 pub mod NodeIds
 pub mod Sending
+pub mod Carrying
 pub mod Worlds
 pub mod Histories
 pub mod Events

@@ -13,7 +13,7 @@ use Rattle.gl_world.specs.declared.settings.Settings.{Settings}
 use Rattle.gl_world.specs.Founding.{numbers_from, id_of, node_ids, node_of, number_of}
 use Rattle.gl_world.specs.Group.{IsGroup}
 use Rattle.gl_world.specs.Held.{is_number}
-use Rattle.gl_world.specs.Running.{node_in}
+use Rattle.gl_world.specs.Rules.{node_in}
 use Rattle.gl_world.proofs.Endorsements.{numbered}
 use Rattle.gl_world.proofs.Numbers.{among, length-made, not_true}
 

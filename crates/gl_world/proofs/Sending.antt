@@ -22,7 +22,7 @@ use Rattle.gl_ledger.specs.LedgerBook.{ServiceBook}
 use Rattle.gl_election.specs.Bridge.{message_to}
 use Rattle.gl_world.specs.declared.event.Event.{Event}
 use Rattle.gl_world.specs.declared.event.Event.TheVariants as events
-use Rattle.gl_world.specs.Running.{delivery, most_sent, node_in, rule_of}
+use Rattle.gl_world.specs.Rules.{delivery, most_sent, node_in, rule_of}
 use Rattle.gl_election.proofs.Bridging.{signed_again}
 
 module _ {E Q G R A F : Type 0} (b : Book E Q G R A F) where
@@ -276,7 +276,7 @@ rule_few ids sent (events.Deliver message) b x n = go (slice_get sent message)
   where
     go : (m : Option (Message Entry)) → length (delivery m b x n).sent ≤ most_sent b n
     go None = omega arith
-    go (Some m) = message_few b (message_to x m.sender m.view m.body) n
+    go (Some m) = by b (most_sent b n) (same m.receiver x) (on_message b (message_to x m.sender m.view m.body) n) (outcome.idle n) (message_few b (message_to x m.sender m.view m.body) n) (omega arith)
 rule_few ids sent (events.Submit node request) b x n = submit_few b request n
 rule_few ids sent (events.Govern node request) b x n = govern_few b request n
 rule_few ids sent (events.Reserve node) b x n = reserve_few b x n

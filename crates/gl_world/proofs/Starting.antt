@@ -1,5 +1,5 @@
 -- The nodes at the start, by their numbers.
-use Rattle.std.proofs.Common.{◌≡◌, ◌⊎◌, inl, inr, ⊎_elim, ℕ, zero, suc, ◌+◌, ◌-◌, ◌<◌, ◌≤◌, List, [], ◌∷◌, ◌++◌, length, length-append, map, Bool, true, false, ◌||◌, nat_le, Some, slice_get, refl, sym, ◌∙◌, ap, subst, arith, if◌then◌else◌}
+use Rattle.std.proofs.Common.{◌≡◌, ◌⊎◌, inl, inr, ⊎_elim, ℕ, zero, suc, ◌+◌, ◌-◌, ◌<◌, ◌≤◌, List, [], ◌∷◌, ◌++◌, length, map, Bool, true, false, ◌||◌, nat_le, Some, slice_get, refl, sym, ◌∙◌, ap, subst, arith, if◌then◌else◌}
 use Rattle.std.proofs.lemmas.Bool.Decides.{nat_tests}
 use Rattle.std.proofs.lemmas.Bool.{cases_lt}
 use Rattle.gl_entry.specs.declared.entry.Entry.{Entry}
@@ -7,17 +7,18 @@ use Rattle.gl_rules.specs.Identity.{NodeId, same, member}
 use Rattle.gl_rules.specs.World.{begin, joiner, leader_at_start, node_at_start, starter}
 use Rattle.gl_rules.specs.Node.{Node}
 use Rattle.gl_rules.proofs.Ids.{same_self}
-use Rattle.gl_rules.proofs.Lists.{get_push}
 use Rattle.gl_ledger.specs.LedgerBook.{ServiceBook}
 use Rattle.gl_election.specs.Bridge.{seen_message}
 use Rattle.gl_replication.specs.Holding.{Holding}
 use Rattle.gl_replication.specs.Stands.{StandsFor}
 use Rattle.gl_world.specs.declared.settings.Settings.{Settings}
-use Rattle.gl_world.specs.AtStart.{HaveStarted, held_at_start}
+use Rattle.gl_world.specs.AtStart.{AreAtStart, held_at_start}
 use Rattle.gl_world.specs.Founding.{id_of, numbers_from}
 use Rattle.gl_world.specs.Group.{IsGroup, book_of}
-use Rattle.gl_world.specs.Running.{IsRunning, ServiceCore, ServiceNodes}
+use Rattle.gl_world.specs.declared.world.nodes.Nodes.{Nodes}
+use Rattle.gl_world.specs.Running.{IsRunning}
 use Rattle.gl_world.specs.World.{start_of}
+use Rattle.gl_world.specs.WorldNodes.{ServiceCore, StandsAs}
 use Rattle.gl_world.proofs.NodeIds.{numbers_apart}
 use Rattle.gl_world.proofs.Numbers.{member_made}
 
@@ -92,54 +93,14 @@ module _ (s : Settings) (h : IsGroup s) where
       let is : nat_le number s.starting ≡ false = grind (arith, nat_tests) in
       ap (λ (t : Bool). if t then (start_of s).opening else []) is
 
--- ---- one node more
-
 -- what stands behind a list
 pub behind : {A : Type 0} (xs ys : List A) (y : A) → slice_get (xs ++ y ∷ ys) (length xs) ≡ Some y
 behind [] ys y = refl
 behind (x ∷ xs) ys y = behind xs ys y
 
-numbers_more : {A : Type 0} (f : ℕ → A) (first count : ℕ) → map f (numbers_from first (suc count)) ≡ map f (numbers_from first count) ++ f (first + count) ∷ []
-numbers_more f first zero = ap (λ (k : ℕ). f k ∷ []) (omega arith)
-numbers_more {A} f first (suc count) =
-    ap (λ (l : List A). f first ∷ l) (numbers_more f (suc first) count)
-    ∙ ap (λ (k : ℕ). f first ∷ map f (numbers_from (suc first) count) ++ f k ∷ []) (omega arith)
+-- ---- the cores with which nodes start
 
 module _ {S : Type 0} (stands : S → ServiceBook → Holding Entry → Type 0) (s : Settings) where
-  pub added : {old : ServiceNodes S} (new : ServiceNodes S) (x : NodeId) (c : ServiceCore S) → HaveStarted stands s old → x ≡ id_of s (suc (length old.ids.items)) →
-      StandsFor stands c (book_of s) (id_of s (suc (length old.ids.items))) (node_at_start (start_of s) (id_of s (suc (length old.ids.items)))) →
-      new.ids.items ≡ old.ids.items ++ x ∷ [] → new.cores.items ≡ old.cores.items ++ c ∷ [] → new.sent.items ≡ old.sent.items →
-      HaveStarted stands s new × (length new.ids.items ≡ suc (length old.ids.items))
-  added {old} new x c r is stood ids cores sent = (
-    record {
-      ids =
-          ids ∙ ap (λ (l : List NodeId). l ++ x ∷ []) r.ids ∙ ap (λ (y : NodeId). map (id_of s) (numbers_from 1 (length old.ids.items)) ++ y ∷ []) (is ∙ ap (id_of s) (omega arith))
-          ∙ sym (numbers_more (id_of s) 1 (length old.ids.items)) ∙ ap (λ (k : ℕ). map (id_of s) (numbers_from 1 k)) (sym count);
-      whole = omega (arith, ap length cores, length-append old.cores.items (c ∷ []), r.whole, count);
-      stand = λ i d at_i. ⊎_elim
-          (λ (h : slice_get old.cores.items i ≡ Some d). r.stand i d h)
-          (λ (h : (i ≡ length old.cores.items) × (d ≡ c)).
-          subst (λ (k : ℕ). StandsFor stands d (book_of s) (id_of s (suc k)) (node_at_start (start_of s) (id_of s (suc k)))) (sym (h.0 ∙ r.whole))
-          (subst (λ (e : ServiceCore S). StandsFor stands e (book_of s) (id_of s (suc (length old.ids.items))) (node_at_start (start_of s) (id_of s (suc (length old.ids.items))))) (sym h.1) stood))
-          (get_push old.cores.items c i d (ap (λ l. slice_get l i) (sym cores) ∙ at_i));
-      sent = sent ∙ r.sent;
-    },
-    count,
-  )
-    where
-      count : length new.ids.items ≡ suc (length old.ids.items)
-      count = ap length ids ∙ omega (arith, length-append old.ids.items (x ∷ []))
-
-  -- once all have started they run
-  pub all_started : (ns : ServiceNodes S) → IsGroup s → HaveStarted stands s ns → length ns.ids.items ≡ s.starting + s.joiners → IsRunning stands s ns (begin (start_of s))
-  all_started ns h r count = record {
-    group = h;
-    ids = r.ids ∙ ap (λ (k : ℕ). map (id_of s) (numbers_from 1 k)) count;
-    whole = r.whole ∙ count;
-    stand = r.stand;
-    sent = ap (map seen_message) r.sent;
-  }
-
   -- the core of a node as it starts
   pub stood_first : (h : IsGroup s) (c : ServiceCore S) → StandsFor stands c (book_of s) (id_of s 1) (leader_at_start (start_of s)) → StandsFor stands c (book_of s) (id_of s 1) (node_at_start (start_of s) (id_of s 1))
   stood_first h c stood = subst (λ (n : Node Entry). StandsFor stands c (book_of s) (id_of s 1) n) (sym (first_node s)) stood
@@ -151,3 +112,33 @@ module _ {S : Type 0} (stands : S → ServiceBook → Holding Entry → Type 0) 
   pub stood_joining : (h : IsGroup s) (c : ServiceCore S) (number : ℕ) → s.starting < number → number ≤ s.starting + s.joiners → StandsFor stands c (book_of s) (id_of s number) joiner →
       StandsFor stands c (book_of s) (id_of s number) (node_at_start (start_of s) (id_of s number))
   stood_joining h c number low high stood = subst (λ (n : Node Entry). StandsFor stands c (book_of s) (id_of s number) n) (sym (joining_node s h number low high)) stood
+
+-- ---- the identifiers of nodes that start
+
+numbers_more : {A : Type 0} (f : ℕ → A) (first count : ℕ) → map f (numbers_from first (suc count)) ≡ map f (numbers_from first count) ++ f (first + count) ∷ []
+numbers_more f first zero = ap (λ (k : ℕ). f k ∷ []) (omega arith)
+numbers_more {A} f first (suc count) =
+    ap (λ (l : List A). f first ∷ l) (numbers_more f (suc first) count)
+    ∙ ap (λ (k : ℕ). f first ∷ map f (numbers_from (suc first) count) ++ f k ∷ []) (omega arith)
+
+-- one more
+pub one_id : (s : Settings) (i : ℕ) (ids more : List NodeId) (x : NodeId) → ids ≡ map (id_of s) (numbers_from 1 i) → x ≡ id_of s (suc i) → more ≡ ids ++ x ∷ [] → more ≡ map (id_of s) (numbers_from 1 (i + 1))
+one_id s i ids more x so_far is grown =
+    let place : suc i ≡ 1 + i = omega arith in
+    let next : suc i ≡ i + 1 = omega arith in
+    grown ∙ ap (λ (l : List NodeId). l ++ x ∷ []) so_far
+    ∙ ap (λ (y : NodeId). map (id_of s) (numbers_from 1 i) ++ y ∷ []) (is ∙ ap (id_of s) place)
+    ∙ sym (numbers_more (id_of s) 1 i) ∙ ap (λ (k : ℕ). map (id_of s) (numbers_from 1 k)) next
+
+module _ {N S : Type 0} (stands : StandsAs N) (s : Settings) where
+  -- once all have started they run
+  pub all_started : (ns : Nodes N S) → IsGroup s → AreAtStart stands s ns.nodes.items → ns.ids.items ≡ map (id_of s) (numbers_from 1 (length ns.nodes.items)) → ns.sent.items ≡ [] →
+      IsRunning stands s ns (begin (start_of s))
+  all_started ns h at_start ids sent = record {
+    group = h;
+    ids = ids ∙ ap (λ (k : ℕ). map (id_of s) (numbers_from 1 k)) at_start.count;
+    whole = at_start.count;
+    stand = at_start.stand;
+    sent = ap (map seen_message) sent;
+    few = refl;
+  }

@@ -7,36 +7,34 @@ use Rattle.std.specs.Vec.{with_item}
 use Rattle.gl_entry.specs.declared.entry.Entry.{Entry}
 use Rattle.gl_rules.specs.Identity.{NodeId, same, put}
 use Rattle.gl_rules.specs.Message.{Message}
-use Rattle.gl_rules.specs.Outcome.{Step}
-use Rattle.gl_rules.specs.World.{Happened, at, happens, deliver}
+use Rattle.gl_rules.specs.Outcome.{Step, idle}
+use Rattle.gl_rules.specs.World.{Happened, at, happens, deliver, on_message}
 use Rattle.gl_rules.specs.Elections.{timeout, step_down}
 use Rattle.gl_rules.specs.Replication.{replicate, advance, restart}
 use Rattle.gl_rules.specs.Requests.{submit, govern, reserve, sign}
 use Rattle.gl_rules.proofs.Ids.{same_self}
+use Rattle.gl_gov_rules.proofs.Counting.{all_append}
 use Rattle.gl_ledger.specs.LedgerBook.{ServiceBook}
-use Rattle.gl_tx.specs.declared.request.Operation.{Operation}
-use Rattle.gl_requests.specs.declared.request.GovernanceRequest.{GovernanceRequest}
-use Rattle.gl_ledger.specs.declared.made.Reads.{Reads}
 use Rattle.gl_ledger.specs.declared.made.Given.{Given}
 use Rattle.gl_ledger.specs.declared.made.Unmade.{Unmade}
 use Rattle.gl_messages.specs.declared.message.Message as program
 use Rattle.gl_election.specs.Bridge.{seen_message}
 use Rattle.gl_replication.specs.Holding.{Holding}
-use Rattle.gl_replication.specs.Stands.{Answers, StandsFor, Stepped, Steps, Refuses, KeepsAll, Tells, seen_outcome}
-use Rattle.gl_replication.specs.declared.done.Done.{Done}
+use Rattle.gl_replication.specs.Stands.{Answers, StandsFor, Tells, seen_outcome}
 use Rattle.gl_world.specs.declared.event.Event.{Event}
 use Rattle.gl_world.specs.declared.event.Event.TheVariants as events
 use Rattle.gl_world.specs.declared.settings.Settings.{Settings}
 use Rattle.gl_world.specs.Founding.{id_of, node_ids}
 use Rattle.gl_world.specs.Group.{book_of}
 use Rattle.gl_world.specs.Held.{is_among, is_number, receiver_in, seen_event}
-use Rattle.gl_world.specs.Running.{Denies, IsRunning, Keeps, Moves, RunSome, ServiceCore, ServiceNodes, ServiceRefusal, delivery, most_sent, node_in, acting_node, receiver_of, rule_of}
+use Rattle.gl_world.specs.declared.world.nodes.Nodes.{Nodes}
+use Rattle.gl_world.specs.Rules.{acting_node, bring_few, brings_few, delivery, most_sent, node_in, receiver_of, rule_of}
+use Rattle.gl_world.specs.Running.{Denies, IsRunning, Keeps, Moves, RunSome}
+use Rattle.gl_world.specs.WorldNodes.{KeepsAll, OfEach, Refuses, ServiceCore, ServiceDone, ServiceRefusal, StandsAs, Stepped, Steps}
 use Rattle.gl_world.specs.World.{ServiceWorld}
 use Rattle.gl_world.proofs.NodeIds.{id_at, node_is, numbers_apart}
+use Rattle.gl_world.proofs.Carrying.{rule_light}
 use Rattle.gl_world.proofs.Sending.{rule_few}
-
-abbrev pub ServiceDone : Type 0 → Type 0
-ServiceDone S = Done S (List Operation) GovernanceRequest Reads Given Unmade
 
 abbrev ServiceHappened : Type 0
 ServiceHappened = Happened Entry Given Unmade
@@ -46,7 +44,8 @@ ServiceHappened = Happened Entry Given Unmade
 delivered : (b : ServiceBook) (ids : List NodeId) (w : ServiceWorld) (m : Option (Message Entry)) → is_some (receiver_in ids m) ≡ true →
     deliver b w m ≡ at w (receiver_of m) (delivery m b (receiver_of m) (w.nodes (receiver_of m)))
 delivered b ids w None h = absurd cc
-delivered b ids w (Some m) h = refl
+delivered b ids w (Some m) h =
+    ap {B = ServiceHappened} (λ (t : Bool). at w m.receiver (if t then on_message b m (w.nodes m.receiver) else idle (w.nodes m.receiver))) (sym (same_self m.receiver))
 
 pub happens_at : (s : Settings) (w : ServiceWorld) (event : Event) → is_among (node_ids s) w.sent event ≡ true →
     let x = acting_node (node_ids s) w.sent event in
@@ -82,51 +81,53 @@ module _ {X : Type 0} where
       (λ (h : i ≢ k × (slice_get xs i ≡ Some y)). inr ((λ z. h.0 (omega (arith, z))), h.1))
       (set_cases xs k a i y e)
 
-module _ {S : Type 0} (stands : S → ServiceBook → Holding Entry → Type 0) where
+module _ {N S : Type 0} (stands : StandsAs N) where
   -- a step at node k + 1
-  moved : {s : Settings} {ns : ServiceNodes S} {w : ServiceWorld} (k : ℕ) (c : ServiceCore S) (step : Step Entry Given Unmade) (m : ServiceNodes S) →
-      IsRunning stands s ns w → k < s.starting + s.joiners → StandsFor stands c (book_of s) (id_of s (suc k)) step.node →
-      m.ids ≡ ns.ids → m.cores ≡ with_item ns.cores k c → map seen_message m.sent.items ≡ map seen_message ns.sent.items ++ step.sent →
+  moved : {s : Settings} {ns : Nodes N S} {w : ServiceWorld} (k : ℕ) (c : N) (step : Step Entry Given Unmade) (m : Nodes N S) →
+      IsRunning stands s ns w → k < s.starting + s.joiners → stands c (book_of s) (id_of s (suc k)) step.node →
+      m.ids ≡ ns.ids → m.nodes ≡ with_item ns.nodes k c → map seen_message m.sent.items ≡ map seen_message ns.sent.items ++ step.sent → bring_few step.sent ≡ true →
       IsRunning stands s m (at w (id_of s (suc k)) step).world
-  moved {s} {ns} {w} k c step m r low new ids cores sent = record {
+  moved {s} {ns} {w} k c step m r low new ids cores sent few = record {
     group = r.group;
     ids = ap (λ v. v.items) ids ∙ r.ids;
-    whole = ap (λ v. length v.items) cores ∙ length-set ns.cores.items k c ∙ r.whole;
+    whole = ap (λ v. length v.items) cores ∙ length-set ns.nodes.items k c ∙ r.whole;
     stand = λ i d at_i. ⊎_elim
         (λ (h : (i ≡ k) × (d ≡ c)). here i d h.0 h.1)
-        (λ (h : i ≢ k × (slice_get ns.cores.items i ≡ Some d)). elsewhere i d h.0 h.1)
-        (set_cases ns.cores.items k c i d (ap (λ v. slice_get v.items i) (sym cores) ∙ at_i));
+        (λ (h : i ≢ k × (slice_get ns.nodes.items i ≡ Some d)). elsewhere i d h.0 h.1)
+        (set_cases ns.nodes.items k c i d (ap (λ v. slice_get v.items i) (sym cores) ∙ at_i));
     sent = sent ∙ ap (λ l. l ++ step.sent) r.sent;
+    few = all_append (λ (m : Message Entry). brings_few m.body) w.sent step.sent r.few few;
   }
     where
       x : NodeId
       x = id_of s (suc k)
 
-      here : (i : ℕ) (d : ServiceCore S) → i ≡ k → d ≡ c → StandsFor stands d (book_of s) (id_of s (suc i)) (put w.nodes x step.node (id_of s (suc i)))
+      here : (i : ℕ) (d : N) → i ≡ k → d ≡ c → stands d (book_of s) (id_of s (suc i)) (put w.nodes x step.node (id_of s (suc i)))
       here i d p q =
-          subst (λ (j : ℕ). StandsFor stands d (book_of s) (id_of s (suc j)) (put w.nodes x step.node (id_of s (suc j)))) (sym p)
-          (subst (λ (t : Bool). StandsFor stands d (book_of s) x (if t then step.node else w.nodes x)) (sym (same_self x))
-          (subst (λ (e : ServiceCore S). StandsFor stands e (book_of s) x step.node) (sym q) new))
+          subst (λ (j : ℕ). stands d (book_of s) (id_of s (suc j)) (put w.nodes x step.node (id_of s (suc j)))) (sym p)
+          (subst (λ (t : Bool). stands d (book_of s) x (if t then step.node else w.nodes x)) (sym (same_self x))
+          (subst (λ (e : N). stands e (book_of s) x step.node) (sym q) new))
 
-      elsewhere : (i : ℕ) (d : ServiceCore S) → i ≢ k → slice_get ns.cores.items i ≡ Some d → StandsFor stands d (book_of s) (id_of s (suc i)) (put w.nodes x step.node (id_of s (suc i)))
+      elsewhere : (i : ℕ) (d : N) → i ≢ k → slice_get ns.nodes.items i ≡ Some d → stands d (book_of s) (id_of s (suc i)) (put w.nodes x step.node (id_of s (suc i)))
       elsewhere i d other at_i = go (same (id_of s (suc i)) x) refl
         where
-          go : (t : Bool) → same (id_of s (suc i)) x ≡ t → StandsFor stands d (book_of s) (id_of s (suc i)) (if t then step.node else w.nodes (id_of s (suc i)))
-          go true e = absurd (other (numbers_apart s r.group i k (omega (arith, slice_get_within ns.cores.items i d at_i, r.whole)) low e))
+          go : (t : Bool) → same (id_of s (suc i)) x ≡ t → stands d (book_of s) (id_of s (suc i)) (if t then step.node else w.nodes (id_of s (suc i)))
+          go true e = absurd (other (numbers_apart s r.group i k (omega (arith, slice_get_within ns.nodes.items i d at_i, r.whole)) low e))
           go false e = r.stand i d at_i
 
   -- where no node moves
-  pub stay : (ns m : ServiceNodes S) → m.ids ≡ ns.ids → m.cores ≡ ns.cores → m.sent.items ≡ ns.sent.items → Keeps stands ns m
+  pub stay : (ns m : Nodes N S) → m.ids ≡ ns.ids → m.nodes ≡ ns.nodes → m.sent.items ≡ ns.sent.items → Keeps stands ns m
   stay ns m ids cores sent s w r = record {
     group = r.group;
     ids = ap (λ v. v.items) ids ∙ r.ids;
     whole = ap (λ v. length v.items) cores ∙ r.whole;
     stand = λ i c at_i. r.stand i c (ap (λ v. slice_get v.items i) (sym cores) ∙ at_i);
     sent = ap (map seen_message) sent ∙ r.sent;
+    few = r.few;
   }
 
   -- the node at which an event happens, where its core stands at an index
-  placed : {s : Settings} {ns : ServiceNodes S} {w : ServiceWorld} → IsRunning stands s ns w → (event : Event) (k : ℕ) →
+  placed : {s : Settings} {ns : Nodes N S} {w : ServiceWorld} → IsRunning stands s ns w → (event : Event) (k : ℕ) →
       slice_get ns.ids.items k ≡ Some (acting_node ns.ids.items (map seen_message ns.sent.items) event) →
       (k < s.starting + s.joiners) × (acting_node (node_ids s) w.sent event ≡ id_of s (suc k))
   placed {s} {ns} {w} r event k at_k =
@@ -134,14 +135,14 @@ module _ {S : Type 0} (stands : S → ServiceBook → Holding Entry → Type 0) 
       (ap (λ ids. slice_get ids k) (sym r.ids) ∙ at_k ∙ ap (λ ids. Some (acting_node ids (map seen_message ns.sent.items) event)) r.ids ∙ ap (λ sent. Some (acting_node (node_ids s) sent event)) r.sent)
 
   -- there is a core for each identifier
-  pub core_count : (ns : ServiceNodes S) (event : Event) (k : ℕ) → RunSome stands ns → slice_get ns.ids.items k ≡ Some (acting_node ns.ids.items (map seen_message ns.sent.items) event) → k < length ns.cores.items
+  pub core_count : (ns : Nodes N S) (event : Event) (k : ℕ) → RunSome stands ns → slice_get ns.ids.items k ≡ Some (acting_node ns.ids.items (map seen_message ns.sent.items) event) → k < length ns.nodes.items
   core_count ns event k some at_k =
       let r = some.running in
       let p = placed r event k at_k in
       omega (arith, p.0, r.whole)
 
   -- what the core did at that index
-  module _ (event : Event) (k : ℕ) (ns : ServiceNodes S) (old new : ServiceCore S) (core_at : slice_get ns.cores.items k ≡ Some old)
+  module _ (event : Event) (k : ℕ) (ns : Nodes N S) (old new : N) (core_at : slice_get ns.nodes.items k ≡ Some old)
       (id_at_k : slice_get ns.ids.items k ≡ Some (acting_node ns.ids.items (map seen_message ns.sent.items) event)) where
     abbrev Rules : Settings → ServiceWorld → Step Entry Given Unmade
     Rules s w = rule_of (node_ids s) w.sent event (book_of s) (id_of s (suc k)) (w.nodes (id_of s (suc k)))
@@ -158,14 +159,15 @@ module _ {S : Type 0} (stands : S → ServiceBook → Holding Entry → Type 0) 
         ap (λ ids. rule_of ids (map seen_message ns.sent.items) event (book_of s) (id_of s (suc k)) (w.nodes (id_of s (suc k)))) r.ids
         ∙ ap (λ sent. rule_of (node_ids s) sent event (book_of s) (id_of s (suc k)) (w.nodes (id_of s (suc k)))) r.sent
 
-    pub moves_with : (m : ServiceNodes S) (done : ServiceDone S) → m.ids ≡ ns.ids → m.cores ≡ with_item ns.cores k new → m.sent.items ≡ ns.sent.items ++ done.sent →
+    pub moves_with : (m : Nodes N S) (done : ServiceDone S) → m.ids ≡ ns.ids → m.nodes ≡ with_item ns.nodes k new → m.sent.items ≡ ns.sent.items ++ done.sent →
         Steps stands (rule_of ns.ids.items (map seen_message ns.sent.items) event) old done new → Moves stands event ns done.outcome m
     moves_with m done ids cores sent steps s w r among =
         let p = steps (book_of s) (id_of s (suc k)) (w.nodes (id_of s (suc k))) (r.stand k old core_at) in
         let q : Stepped stands (book_of s) (id_of s (suc k)) (Rules s w) done new = subst (λ (step : Step Entry Given Unmade). Stepped stands (book_of s) (id_of s (suc k)) step done new) (rule_is r) p in
         subst (λ (h : ServiceHappened). IsRunning stands s m h.world × (seen_outcome {F = Unmade} done.outcome ≡ h.outcome)) (sym (happens_here r among)) (
           moved k new (Rules s w) m r (placed r event k id_at_k).0 q.node ids cores
-              (ap (map seen_message) sent ∙ map-append seen_message ns.sent.items done.sent ∙ ap (λ l. map seen_message ns.sent.items ++ l) q.sent),
+              (ap (map seen_message) sent ∙ map-append seen_message ns.sent.items done.sent ∙ ap (λ l. map seen_message ns.sent.items ++ l) q.sent)
+              (rule_light (node_ids s) w.sent event (book_of s) (id_of s (suc k)) (w.nodes (id_of s (suc k)))),
           q.outcome,
         )
 
@@ -183,16 +185,17 @@ module _ {S : Type 0} (stands : S → ServiceBook → Holding Entry → Type 0) 
         (subst (λ (l : List program.Message). Refuses stands (rule_of ids (map seen_message l) event) old why) sent_is refuses)
 
     -- it sends no more than there is room for
-    pub sends_few : (some : RunSome stands ns) (most : ℕ) (done : ServiceDone S) (read : ServiceCore S) → slice_get ns.cores.items k ≡ Some read → Tells stands read (λ b x n. most ≡ most_sent b n) →
+    pub sends_few : (holds : S → ServiceBook → Holding Entry → Type 0) (some : RunSome stands ns) (most : ℕ) (done : ServiceDone S) (read : N) (core : ServiceCore S) →
+        slice_get ns.nodes.items k ≡ Some read → OfEach stands read (λ b x n. StandsFor holds core b x n) → Tells holds core (λ b x n. most ≡ most_sent b n) →
         Steps stands (rule_of ns.ids.items (map seen_message ns.sent.items) event) old done new → length done.sent ≤ most
-    sends_few some most done read read_at tells steps =
+    sends_few holds some most done read core read_at cored tells steps =
         let s = some.settings in
         let x = id_of s (suc k) in
         let n = some.world.nodes x in
         let stood = some.running.stand k old core_at in
         let p = steps (book_of s) x n stood in
         let few = rule_few ns.ids.items (map seen_message ns.sent.items) event (book_of s) x n in
-        omega (arith, few, length-map done.sent seen_message, ap length p.sent, tells (book_of s) x n (some.running.stand k read read_at))
+        omega (arith, few, length-map done.sent seen_message, ap length p.sent, tells (book_of s) x n (cored (book_of s) x n (some.running.stand k read read_at)))
 
     pub denies_with : (why : ServiceRefusal S) → Refuses stands (rule_of ns.ids.items (map seen_message ns.sent.items) event) old why → Denies stands event ns why
     denies_with why refuses s w r among =
@@ -200,17 +203,18 @@ module _ {S : Type 0} (stands : S → ServiceBook → Holding Entry → Type 0) 
         (subst (λ (step : Step Entry Given Unmade). Answers why step.outcome) (rule_is r) (refuses (book_of s) (id_of s (suc k)) (w.nodes (id_of s (suc k))) (r.stand k old core_at)))
 
   -- a core that stands for what it stood for
-  pub keeps_with : (k : ℕ) (ns : ServiceNodes S) (old new : ServiceCore S) → slice_get ns.cores.items k ≡ Some old → (m : ServiceNodes S) →
-      m.ids ≡ ns.ids → m.cores ≡ with_item ns.cores k new → m.sent.items ≡ ns.sent.items → KeepsAll stands old new → Keeps stands ns m
+  pub keeps_with : (k : ℕ) (ns : Nodes N S) (old new : N) → slice_get ns.nodes.items k ≡ Some old → (m : Nodes N S) →
+      m.ids ≡ ns.ids → m.nodes ≡ with_item ns.nodes k new → m.sent.items ≡ ns.sent.items → KeepsAll stands old new → Keeps stands ns m
   keeps_with k ns old new core_at m ids cores sent keep s w r = record {
     group = r.group;
     ids = ap (λ v. v.items) ids ∙ r.ids;
-    whole = ap (λ v. length v.items) cores ∙ length-set ns.cores.items k new ∙ r.whole;
+    whole = ap (λ v. length v.items) cores ∙ length-set ns.nodes.items k new ∙ r.whole;
     stand = λ i d at_i. ⊎_elim
         (λ (h : (i ≡ k) × (d ≡ new)).
-        subst (λ (c : ServiceCore S). StandsFor stands c (book_of s) (id_of s (suc i)) (w.nodes (id_of s (suc i)))) (sym h.1)
-        (keep (book_of s) (id_of s (suc i)) (w.nodes (id_of s (suc i))) (r.stand i old (ap (slice_get ns.cores.items) h.0 ∙ core_at))))
-        (λ (h : i ≢ k × (slice_get ns.cores.items i ≡ Some d)). r.stand i d h.1)
-        (set_cases ns.cores.items k new i d (ap (λ v. slice_get v.items i) (sym cores) ∙ at_i));
+        subst (λ (c : N). stands c (book_of s) (id_of s (suc i)) (w.nodes (id_of s (suc i)))) (sym h.1)
+        (keep (book_of s) (id_of s (suc i)) (w.nodes (id_of s (suc i))) (r.stand i old (ap (slice_get ns.nodes.items) h.0 ∙ core_at))))
+        (λ (h : i ≢ k × (slice_get ns.nodes.items i ≡ Some d)). r.stand i d h.1)
+        (set_cases ns.nodes.items k new i d (ap (λ v. slice_get v.items i) (sym cores) ∙ at_i));
     sent = ap (map seen_message) sent ∙ r.sent;
+    few = r.few;
   }

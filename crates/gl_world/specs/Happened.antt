@@ -10,8 +10,8 @@ use Rattle.gl_replication.specs.declared.done.Refusal.TheVariants as refusals
 use Rattle.gl_world.specs.declared.event.Event.{Event}
 use Rattle.gl_world.specs.Group.{book_of}
 use Rattle.gl_world.specs.Held.{Held, seen_event, world_now}
-use Rattle.gl_world.specs.Running.{ServiceRefusal}
 use Rattle.gl_world.specs.World.{ServiceOutcome}
+use Rattle.gl_world.specs.WorldNodes.{ServiceRefusal}
 
 abbrev pub with_event : Held → Event → Held
 with_event h event = record h { events = h.events ++ event ∷ [] }

@@ -6,6 +6,8 @@ pub mod World
 pub mod Headline
 pub mod Members
 pub mod Held
+pub mod WorldNodes
+pub mod Rules
 pub mod AtStart
 pub mod Running
 pub mod Happened

@@ -4,7 +4,7 @@ ghost use Rattle.std.specs.Prelude.{◌≡◌, ◌++◌, IfOk};
 ghost use Rattle.sha2.specs.Sha256.{sha256};
 ghost use Rattle.gl_base.specs.LittleEndian.{little_endian};
 ghost use Rattle.gl_hss.specs.Levels.{level_count};
-ghost use Rattle.gl_world.specs.Keys.{private_key, hss_key, member_seed, service_seed};
+ghost use Rattle.gl_world.specs.Keys.{private_key, hss_key, member_seed, node_seed, service_seed};
 
 use crate::settings::Settings;
 use gl_entry::Digest;
@@ -33,6 +33,13 @@ pub fn numbered_digest(word: &[u8], number: u32, seed: &[u8]) -> Digest
     hasher.update(&number.to_le_bytes());
     hasher.update(seed);
     hasher.finalize()
+}
+
+/// The seed of a node's key.
+pub fn node_seed(settings: &Settings, number: u8) -> Digest
+    ensures { result ≡ node_seed settings.now number }
+{
+    numbered_digest(b"node", u32::from(number), &settings.seed)
 }
 
 /// The seed of a member's key.

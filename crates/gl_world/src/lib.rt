@@ -11,13 +11,15 @@ mod node_key;
 mod nodes;
 mod settings;
 mod world;
+mod world_node;
 
 pub use event::Event;
 pub use founding::{Founding, has_distinct_keys};
-pub use keys::service_key;
+pub use keys::{node_seed, service_key};
 pub use laws::{has_node_keys, is_safe, is_unguarded};
 pub use members::Members;
 pub use node_key::{NodeKey, joining_node};
 pub use nodes::node_ids;
 pub use settings::Settings;
-pub use world::{World, law_of_worlds};
+pub use world::{World, core_at_start, law_of_worlds};
+pub use world_node::WorldNode;

@@ -7,7 +7,7 @@ ghost use Rattle.gl_world.specs.Founding.{node_of, numbers_from};
 ghost use Rattle.gl_world.specs.Keyed.{AreKeysOf, IsKeyOf};
 ghost use Rattle.gl_world.specs.Keys.{private_key, service_seed};
 
-use crate::keys::{numbered_digest, private_key};
+use crate::keys::{node_seed, private_key};
 use crate::settings::Settings;
 use gl_base::{Bytes, Sequence};
 use gl_hss::LmsKey;
@@ -34,8 +34,7 @@ impl NodeKey {
         requires few { number ≤ 32 }
         ensures { IfOk result (λ node. IsKeyOf settings.now number node) }
     {
-        let seed = numbered_digest(b"node", u32::from(number), &settings.seed);
-        let key = private_key(alloc, &seed)?;
+        let key = private_key(alloc, &node_seed(settings, number))?;
         let endorsement = service.sign_leaf(u32::from(number - 1), &key.public())?;
         Ok(NodeKey { key, endorsement })
     }

@@ -8,7 +8,7 @@ ghost use Rattle.gl_config.specs.Stages.{seen_stage};
 ghost use Rattle.gl_election.specs.Bridge.{seen_message};
 ghost use Rattle.gl_world.specs.declared.event.Event.TheVariants.{Deliver, Timeout};
 ghost use Rattle.gl_world.specs.declared.settings.Settings.{Settings};
-ghost use Rattle.gl_world.specs.AtStart.{StandAtStart};
+ghost use Rattle.gl_world.specs.AtStart.{AreAtStart};
 ghost use Rattle.gl_world.specs.Founding.{id_of};
 ghost use Rattle.gl_world.specs.Group.{IsGroup, book_of};
 ghost use Rattle.gl_world.specs.Happened.{Happened, Refuses, is_no_memory};
@@ -16,50 +16,33 @@ ghost use Rattle.gl_world.specs.Headline.{Headline};
 ghost use Rattle.gl_world.specs.Held.{has_node, may_happen, node_now, seen_events, world_now};
 ghost use Rattle.gl_world.specs.World.{start_of};
 
-mod happen;
 mod nodes;
 mod start;
 
 use crate::event::Event;
 use crate::settings::Settings;
 use crate::world::nodes::Nodes;
+use crate::world_node::WorldNode;
 use gl_base::{Status, TxId};
 use gl_config::Stage;
 use gl_entry::{Entry, NodeId};
-use gl_ledger::{Given, Reads, Unmade};
+use gl_ledger::Given;
 use gl_messages::Message;
 use gl_replication::{Book, Outcome, Refusal};
-use gl_requests::GovernanceRequest;
-use gl_tx::Request;
+pub use start::core_at_start;
 use std::alloc::{AllocError, Global};
 use std::marker::Model;
 
-/// All nodes of a service of a schedule, each over a store of its own. It is seen as the settings of
-/// the service and what happened: all the rest is by the rules of consensus.
+/// All nodes of a service of a schedule. It is seen as the settings of the service and what happened:
+/// all the rest is by the rules of consensus.
 #[derive(Drop)]
-pub struct World<
-    B: Book<
-        Request = Request,
-        Gov = GovernanceRequest,
-        Reads = Reads,
-        Given = Given,
-        Refused = Unmade,
-    >,
-> {
+pub struct World<N: WorldNode> {
     settings: Settings,
-    nodes: Nodes<B>,
+    nodes: Nodes<N>,
     events: Vec<Event>,
 }
 
-impl<
-    B: Book<
-        Request = Request,
-        Gov = GovernanceRequest,
-        Reads = Reads,
-        Given = Given,
-        Refused = Unmade,
-    >,
-> Model for World<B> {
+impl<N: WorldNode> Model for World<N> {
     ghost use Rattle.gl_world.specs.Held.{Held, world_now};
     ghost use Rattle.gl_world.specs.Running.{IsRunning};
 
@@ -68,7 +51,7 @@ impl<
     ghost view = { λ w. record { settings = w.settings; events = w.events.items } };
 
     // The nodes run for the world of the rules after all that happened.
-    ghost invariant = { λ w. IsRunning B.stands w.settings w.nodes
+    ghost invariant = { λ w. IsRunning N.stands w.settings w.nodes
         (world_now (record { settings = w.settings; events = w.events.items })) };
 }
 
@@ -91,22 +74,14 @@ fn is_no_memory<B: Book>(why: &Refusal<B>) -> bool
     matches!(why, Refusal::NoMemory)
 }
 
-impl<
-    B: Book<
-        Request = Request,
-        Gov = GovernanceRequest,
-        Reads = Reads,
-        Given = Given,
-        Refused = Unmade,
-    >,
-> World<B> {
-    /// The world of these settings before anything happened: each node is over its store.
-    pub fn new(alloc: Global, settings: Settings, books: Vec<B>) -> Result<Self, AllocError>
+impl<N: WorldNode> World<N> {
+    /// The world of these settings before anything happened, with each node that starts or joins.
+    pub fn new(alloc: Global, settings: Settings, nodes: Vec<N>) -> Result<Self, AllocError>
         requires group { IsGroup settings }
-        requires books { StandAtStart B.stands settings books.items }
+        requires nodes { AreAtStart N.stands settings nodes.items }
         ensures { IfOk result (λ world. world ≡ record { settings = settings; events = [] }) }
     {
-        let nodes = Nodes::start(alloc, &settings, books)?;
+        let nodes = Nodes::start(alloc, &settings, nodes)?;
         Ok(World {
             settings,
             nodes,
@@ -115,7 +90,7 @@ impl<
     }
 
     /// What one event brings about, which is put down.
-    fn settle(&mut self, event: Event) -> Result<Outcome<Given>, Refusal<B>>
+    fn settle(&mut self, event: Event) -> Result<Outcome<Given>, Refusal<N::Book>>
         requires here { may_happen self.old event ≡ true }
         ensures happened { IfOk result (λ outcome. Happened self.old event self.new outcome) }
         ensures refused { IfErr result (λ why. Refuses self.old event self.new why) }
@@ -144,7 +119,7 @@ impl<
     /// is Committed and Invalid, and each committed ledger is sound. A node whose retirement is
     /// committed may be switched off: whoever says so never again counts it in an active
     /// configuration, nor does a leader of a later view than that of a leader who says so.
-    pub fn step(&mut self, event: Event) -> Result<Outcome<Given>, Refusal<B>>
+    pub fn step(&mut self, event: Event) -> Result<Outcome<Given>, Refusal<N::Book>>
         requires here { may_happen self.old event ≡ true }
         ensures happened { IfOk result (λ outcome. Happened self.old event self.new outcome) }
         ensures refused { IfErr result (λ why. Refuses self.old event self.new why) }
@@ -192,7 +167,7 @@ impl<
         ensures { result
             ≡ reported_status (book_of self.now.settings) (node_now self.now node) id }
     {
-        self.nodes.cores[usize::from(node) - 1].status(id)
+        self.nodes.nodes[usize::from(node) - 1].core().status(id)
     }
 
     /// How far the retirement of a node has come, as another one sees it. A node that wasn't removed
@@ -204,7 +179,7 @@ impl<
             (node_now self.now node) (id_of self.now.settings other) }
     {
         let id = self.id(other);
-        self.nodes.cores[usize::from(node) - 1].stage(&id)
+        self.nodes.nodes[usize::from(node) - 1].core().stage(&id)
     }
 
     /// The committed entries of a node above its base, in order.
@@ -213,7 +188,7 @@ impl<
         ensures { result.now
             ≡ drop (node_now self.now node).base (committed_ledger (node_now self.now node)) }
     {
-        self.nodes.cores[usize::from(node) - 1].committed()
+        self.nodes.nodes[usize::from(node) - 1].core().committed()
     }
 
     /// All entries of a node above its base, in order.
@@ -221,6 +196,9 @@ impl<
         requires here { has_node self.now node ≡ true }
         ensures { result.now ≡ drop (node_now self.now node).base (node_now self.now node).log }
     {
-        self.nodes.cores[usize::from(node) - 1].book.entries()
+        self.nodes.nodes[usize::from(node) - 1]
+            .core()
+            .book
+            .entries()
     }
 }

@@ -36,7 +36,7 @@ use std::alloc::Global;
 const BATCH_LIMIT: u64 = 0xffff_ffff;
 
 /// Keeps records as one batch of so many bytes, once there is memory for it.
-fn keep<D: Disk>(
+pub(crate) fn keep<D: Disk>(
     journal: &mut Journal<D>,
     batch: &[Record<'_>],
     len: u64,

@@ -18,11 +18,10 @@ use crate::numbers::node_number;
 use crate::outcome_text::{put_outcome, put_refusal};
 use crate::proposals::NumberedProposal;
 use crate::text::{put_proposal, put_sent, put_unnamed};
-use gl_ledger::{Given, Reads, Unmade};
-use gl_replication::{Book, Outcome};
+use gl_ledger::Given;
+use gl_replication::Outcome;
 use gl_requests::{Digest, GovernanceRequest, MemberAct};
-use gl_tx::Request;
-use gl_world::{Event, joining_node};
+use gl_world::{Event, WorldNode, joining_node};
 use std::alloc::{AllocError, Global};
 
 /// The identifier of the proposal that a request makes.
@@ -38,15 +37,7 @@ fn proposal_made(alloc: Global, request: &GovernanceRequest) -> Result<Option<Di
     }
 }
 
-impl<
-    B: Book<
-        Request = Request,
-        Gov = GovernanceRequest,
-        Reads = Reads,
-        Given = Given,
-        Refused = Unmade,
-    >,
-> Machine<B> {
+impl<N: WorldNode> Machine<N> {
     /// Lists the proposal that a request makes which had this outcome.
     fn note_proposal(
         &mut self,

@@ -14,11 +14,9 @@ use super::Machine;
 use crate::numbers::{member_number, node_number};
 use crate::text::{put_no_proposal, put_spent, put_unnamed};
 use gl_base::{OrNoMemory, Sequence};
-use gl_ledger::{Given, Reads, Unmade};
 use gl_lines::Line;
-use gl_replication::Book;
 use gl_requests::{Action, Digest, GovernanceRequest, MemberAct, copy_actions};
-use gl_tx::Request;
+use gl_world::WorldNode;
 use std::alloc::AllocError;
 
 /// A member's answer to a proposal.
@@ -37,15 +35,7 @@ fn withdrawal_of(proposal: Digest) -> MemberAct
     MemberAct::Withdraw { proposal }
 }
 
-impl<
-    B: Book<
-        Request = Request,
-        Gov = GovernanceRequest,
-        Reads = Reads,
-        Given = Given,
-        Refused = Unmade,
-    >,
-> Machine<B> {
+impl<N: WorldNode> Machine<N> {
     /// What a member asks of a node, signed with its next leaf.
     fn ask(
         &mut self,

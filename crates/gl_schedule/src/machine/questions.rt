@@ -9,21 +9,10 @@ use super::Machine;
 use crate::numbers::node_number;
 use crate::text::{put_ids, put_ledger, put_stage, put_status, put_unnamed};
 use gl_base::TxId;
-use gl_ledger::{Given, Reads, Unmade};
-use gl_replication::Book;
-use gl_requests::GovernanceRequest;
-use gl_tx::Request;
+use gl_world::WorldNode;
 use std::alloc::AllocError;
 
-impl<
-    B: Book<
-        Request = Request,
-        Gov = GovernanceRequest,
-        Reads = Reads,
-        Given = Given,
-        Refused = Unmade,
-    >,
-> Machine<B> {
+impl<N: WorldNode> Machine<N> {
     /// The status of a transaction at a node.
     pub(super) fn tell_status(
         &self,

@@ -1,27 +1,26 @@
-//! Nodes over stores of their own, and the messages that they sent.
+//! The nodes of a world, and the messages that they sent.
 
 ghost use Rattle.std.specs.Prelude.{◌≡◌, ◌<◌, ◌≤◌, true, map, max, length, vec_capacity, slice_get, Some, IfOk, IfErr, IfSome, OnErr};
 ghost use Rattle.gl_rules.specs.Identity.{same};
 ghost use Rattle.gl_election.specs.Bridge.{seen_message};
 ghost use Rattle.gl_replication.specs.Stands.{Tells};
 ghost use Rattle.gl_world.specs.Held.{index_of, is_among, is_number, receiver_in};
-ghost use Rattle.gl_world.specs.Running.{Denies, Keeps, Moves, RunSome, most_sent, acting_node};
+ghost use Rattle.gl_world.specs.Rules.{acting_node, most_sent};
+ghost use Rattle.gl_world.specs.Running.{Denies, Keeps, Moves, RunSome};
 
 use crate::event::Event;
-use crate::world::happen::happen_at;
+use crate::world_node::WorldNode;
 use gl_entry::NodeId;
-use gl_ledger::{Given, Reads, Unmade};
+use gl_ledger::Given;
 use gl_messages::Message;
 use gl_replication::{Book, Core, Outcome, Refusal};
-use gl_requests::GovernanceRequest;
-use gl_tx::Request;
 
-/// Nodes over stores of their own, and the messages that they sent.
+/// The nodes of a world, and the messages that they sent.
 #[derive(Drop)]
-pub struct Nodes<B: Book> {
+pub struct Nodes<N: WorldNode> {
     /// The identifiers of the nodes, in the order of their numbers.
     pub ids: Vec<NodeId>,
-    pub cores: Vec<Core<B>>,
+    pub nodes: Vec<N>,
     pub sent: Vec<Message>,
 }
 
@@ -58,7 +57,7 @@ fn most_sent<B: Book>(core: &Core<B>) -> usize
     core.book.recorded_nodes(signed.seqno).len().max(1)
 }
 
-impl<B: Book> Nodes<B> {
+impl<N: WorldNode> Nodes<N> {
     /// Whether there is a node with this number.
     pub(crate) fn has_node(&self, number: u8) -> bool
         ensures { result ≡ is_number (length self.now.ids.items) number }
@@ -119,33 +118,24 @@ impl<B: Book> Nodes<B> {
             | Event::Restart { node } => usize::from(*node) - 1,
         }
     }
-}
 
-impl<
-    B: Book<
-        Request = Request,
-        Gov = GovernanceRequest,
-        Reads = Reads,
-        Given = Given,
-        Refused = Unmade,
-    >,
-> Nodes<B> {
     /// What an event brings about at its node, whose messages are put behind those that were sent.
     /// Room for them is taken first.
-    pub(crate) fn happen(&mut self, event: &Event) -> Result<Outcome<Given>, Refusal<B>>
-        requires running { RunSome B.stands self.old }
+    pub(crate) fn happen(&mut self, event: &Event) -> Result<Outcome<Given>, Refusal<N::Book>>
+        requires running { RunSome N.stands self.old }
         requires among { is_among self.old.ids.items (map seen_message self.old.sent.items)
             event.now ≡ true }
         ensures moved { IfOk result (λ outcome.
-            Moves B.stands event.now self.old outcome self.new) }
-        ensures refused { IfErr result (λ why. Denies B.stands event.now self.old why) }
-        ensures err { OnErr result (Keeps B.stands self.old self.new) }
+            Moves N.stands event.now self.old outcome self.new) }
+        ensures refused { IfErr result (λ why. Denies N.stands event.now self.old why) }
+        ensures err { OnErr result (Keeps N.stands self.old self.new) }
     {
         let index = self.index_of(event);
-        if self.sent.reserve(most_sent(&self.cores[index])).is_err() {
+        let most = most_sent(self.nodes[index].core());
+        if self.sent.reserve(most).is_err() {
             return Err(Refusal::NoMemory);
         }
-        match happen_at(&mut self.cores[index], &self.ids, &self.sent, event) {
+        match self.nodes[index].happen(&self.ids, &self.sent, event) {
             Err(why) => Err(why),
             Ok(done) => {
                 let mut sent = done.sent.into_vec();

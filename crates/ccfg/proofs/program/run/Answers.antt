@@ -5,7 +5,7 @@ use Rattle.gl_commands.specs.declared.task.Asked.TheVariants as asks_for
 use Rattle.ccfg.specs.Faults.{fault_line}
 use Rattle.ccfg.specs.declared.fault.Fault.TheVariants.{TooMuchJson}
 use Rattle.ccfg.proofs.MomentLemmas.{nothing_done}
-use Rattle.ccfg.proofs.AnswerLemmas.{memory_answers, same_node}
+use Rattle.ccfg.proofs.AnswerLemmas.{memory_answers, same_load, same_node}
 use Rattle.ccfg.proofs.program.run.Goals as goal
 
 pub returns-clause-answers : goal.returns-clause-answers
@@ -22,3 +22,9 @@ returns-in-Ok-Node-clause-node g c node asks =
     let found : asked (map string_bytes c.args.words.now) ≡ Ok (asks_for.Node c.in-Ok-Node.node) = search (rules, c.in-Ok-Node.ensures.found) in
     let same : c.in-Ok-Node.node ≡ node = same_node (asked (map string_bytes c.args.words.now)) c.in-Ok-Node.node node found asks in
     rw same at c.run_node.ensures.runs
+
+pub returns-in-Ok-Load-clause-load : goal.returns-in-Ok-Load-clause-load
+returns-in-Ok-Load-clause-load g c load asks =
+    let found : asked (map string_bytes c.args.words.now) ≡ Ok (asks_for.Load c.in-Ok-Load.load) = search (rules, c.in-Ok-Load.ensures.found) in
+    let same : c.in-Ok-Load.load ≡ load = same_load (asked (map string_bytes c.args.words.now)) c.in-Ok-Load.load load found asks in
+    rw same at c.run_load.ensures

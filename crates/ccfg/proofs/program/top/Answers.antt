@@ -1,6 +1,6 @@
 use Rattle.std.proofs.Common.{sym, ap, ◌∙◌}
 use Rattle.gl_schedule.proofs.HeadlineLemmas.{keeps_headline, tells_moments}
-use Rattle.ccfg.specs.Owed.{asks_node, task_of}
+use Rattle.ccfg.specs.Owed.{asks_beyond, task_of}
 use Rattle.ccfg.proofs.PromiseLemmas as ends
 use Rattle.ccfg.proofs.program.top.Goals as goal
 
@@ -49,25 +49,25 @@ returns-clause-disk_failed g c none is =
     (r.0, ends.is_task _ r.0 r.1, r.2, r.3, r.4)
 
 pub returns-clause-front : goal.returns-clause-front
-returns-clause-front g c = rw c.status.ensures (λ is task e. ends.front _ c.run-ending.result.0 _ (c.run-ending.ensures.answers (ap asks_node e)) is task (ap task_of e))
+returns-clause-front g c = rw c.status.ensures (λ is task e. ends.front _ c.run-ending.result.0 _ (c.run-ending.ensures.answers (ap asks_beyond e)) is task (ap task_of e))
 
 pub returns-clause-other_words : goal.returns-clause-other_words
-returns-clause-other_words g c = rw c.status.ensures (λ kinds e. ends.other_words _ c.run-ending.result.0 _ (c.run-ending.ensures.answers (ap asks_node e)) kinds (ap task_of e))
+returns-clause-other_words g c = rw c.status.ensures (λ kinds e. ends.other_words _ c.run-ending.result.0 _ (c.run-ending.ensures.answers (ap asks_beyond e)) kinds (ap task_of e))
 
 pub returns-clause-answered : goal.returns-clause-answered
-returns-clause-answered g c = rw c.status.ensures (λ task e. ends.answered _ c.run-ending.result.0 _ (c.run-ending.ensures.answers (ap asks_node e)) task (ap task_of e))
+returns-clause-answered g c = rw c.status.ensures (λ task e. ends.answered _ c.run-ending.result.0 _ (c.run-ending.ensures.answers (ap asks_beyond e)) task (ap task_of e))
 
 pub returns-clause-refused : goal.returns-clause-refused
-returns-clause-refused g c = rw c.status.ensures (λ task e. ends.refused _ c.run-ending.result.0 _ (c.run-ending.ensures.answers (ap asks_node e)) task (ap task_of e))
+returns-clause-refused g c = rw c.status.ensures (λ task e. ends.refused _ c.run-ending.result.0 _ (c.run-ending.ensures.answers (ap asks_beyond e)) task (ap task_of e))
 
 pub returns-clause-past_limits : goal.returns-clause-past_limits
-returns-clause-past_limits g c = rw c.status.ensures (λ task e. ends.past_limits _ c.run-ending.result.0 _ (c.run-ending.ensures.answers (ap asks_node e)) task (ap task_of e))
+returns-clause-past_limits g c = rw c.status.ensures (λ task e. ends.past_limits _ c.run-ending.result.0 _ (c.run-ending.ensures.answers (ap asks_beyond e)) task (ap task_of e))
 
 pub returns-clause-unread : goal.returns-clause-unread
-returns-clause-unread g c = rw c.status.ensures (λ task e. ends.unread _ c.run-ending.result.0 _ (c.run-ending.ensures.answers (ap asks_node e)) task (ap task_of e))
+returns-clause-unread g c = rw c.status.ensures (λ task e. ends.unread _ c.run-ending.result.0 _ (c.run-ending.ensures.answers (ap asks_beyond e)) task (ap task_of e))
 
 pub returns-clause-complete : goal.returns-clause-complete
-returns-clause-complete g c = rw c.status.ensures (λ task e. ends.complete _ c.run-ending.result.0 _ (c.run-ending.ensures.answers (ap asks_node e)) task (ap task_of e))
+returns-clause-complete g c = rw c.status.ensures (λ task e. ends.complete _ c.run-ending.result.0 _ (c.run-ending.ensures.answers (ap asks_beyond e)) task (ap task_of e))
 
 pub returns-clause-accepted : goal.returns-clause-accepted
 returns-clause-accepted g c is = c.run-ending.ensures.accepted (ends.status_done c.run-ending.result.0 (sym c.status.ensures ∙ is))

@@ -1,5 +1,5 @@
 use Rattle.std.proofs.Common.{subst}
-use Rattle.gl_world.specs.Running.{ServiceCore}
+use Rattle.gl_world.specs.WorldNodes.{ServiceCore}
 use Rattle.gl_book.specs.Stands.{NodeStore}
 use Rattle.gl_book.proofs.Reopening.{restarts, restarts_next}
 use Rattle.gl_book.proofs.ValidSteps.{IsValid}

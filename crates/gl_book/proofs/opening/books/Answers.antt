@@ -1,16 +1,23 @@
-use Rattle.std.proofs.Common.{◌≡◌, ◌+◌, ◌<◌, ℕ, suc, length, slice_set, refl, sym, ap, subst, ◌∙◌, arith}
+use Rattle.std.proofs.Common.{◌≡◌, ◌+◌, ◌<◌, ℕ, suc, length, slice_set, refl, sym, ap, ap₂, subst, ◌∙◌, arith}
 use Rattle.std.proofs.lemmas.List.{length-set}
 use Rattle.std.proofs.lemmas.Option.{slice_get_read}
+use Rattle.gl_ledger.specs.Makers.{opening_of}
+use Rattle.gl_world.specs.Founding.{keys_of}
 use Rattle.gl_world.specs.World.{start_of}
 use Rattle.gl_book.specs.Opening.{IsOfNode, HaveOpened}
 use Rattle.gl_book.specs.Stands.{NodeStore}
-use Rattle.gl_book.proofs.Openings.{one_opened, opened_one, stand_at_start}
+use Rattle.gl_book.proofs.Openings.{first_founds, has_key, one_opened, opened_one, stand_at_start}
 use Rattle.gl_book.proofs.opening.books.Goals as goal
 
-pub open-requires-clause-first : goal.open-requires-clause-first
-open-requires-clause-first c =
+pub open-requires-clause-founds : goal.open-requires-clause-founds
+open-requires-clause-founds c =
+    let s = c.args.settings.now in
     let some : 0 < length c.in_ok-books.books.items = omega (arith, c.in_ok-books.ensures.len, c.in_ok-founding.ensures.keys.counted, c.requires.first) in
-    (c.in_ok-books.ensures.joining 0 c.index_mut.result.now (slice_get_read c.in_ok-books.books.items _ 0 _ refl some c.index_mut.ensures.value)).0
+    let is = (c.in_ok-books.ensures.joining 0 c.index_mut.result.now (slice_get_read c.in_ok-books.books.items _ 0 _ refl some c.index_mut.ensures.value)).0 in (
+      keys_of s,
+      has_key s c.requires 1 (omega arith) (omega (arith, c.requires.first)) c.index_mut.result.now is,
+      first_founds s c.requires _ _ c.in_ok-founding.ensures.genesis is.named,
+    )
 
 pub open-requires-clause-empty : goal.open-requires-clause-empty
 open-requires-clause-empty c =
@@ -22,10 +29,10 @@ loop-i-init c =
     let s = c.args.settings.now in
     let some : 0 < length c.in_ok-books.books.items = omega (arith, c.in_ok-books.ensures.len, c.in_ok-founding.ensures.keys.counted, c.requires.first) in
     let is = (c.in_ok-books.ensures.joining 0 c.index_mut.result.now (slice_get_read c.in_ok-books.books.items _ 0 _ refl some c.index_mut.ensures.value)).0 in
-    let opened = c.in_ok-open.ensures in (
+    let opened = c.in_ok-open.ensures (keys_of s) (has_key s c.requires 1 (omega arith) (omega (arith, c.requires.first)) c.index_mut.result.now is) in (
       one_opened s 0 c.in_ok-books.books.items c.open.new.self c.in_ok-books.ensures.joining
           (record { named = ap (λ (n : NodeStore). n.me) opened ∙ is.named; key = ap (λ (n : NodeStore). n.key) opened ∙ is.key })
-          (ap (λ (n : NodeStore). n.ledger) opened),
+          (ap (λ (n : NodeStore). n.ledger) opened ∙ ap₂ (opening_of (keys_of s)) c.in_ok-founding.ensures.genesis is.named),
       length-set c.in_ok-books.books.items 0 c.open.new.self ∙ c.in_ok-books.ensures.len ∙ c.in_ok-founding.ensures.keys.counted,
       omega arith,
       c.requires.first,

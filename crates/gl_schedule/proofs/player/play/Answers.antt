@@ -2,7 +2,7 @@ use Rattle.std.proofs.Common.{◌≡◌, ◌∷◌, ◌++◌, [], ap, append_ass
 use Rattle.std.proofs.lemmas.List.{length_push}
 use Rattle.std.specs.Vec.Iter.{into_iter_items}
 use Rattle.gl_lines.specs.Kept.{IsFit}
-use Rattle.gl_schedule.proofs.Played.{begins, begun, goes_on_behind, stops_behind, ends_with, line_fits}
+use Rattle.gl_schedule.proofs.Played.{begins, begun, goes_on_behind, stops_behind, line_fits}
 use Rattle.gl_schedule.proofs.player.play.Goals as goal
 
 pub returns-in-Err-write_whole-clause-front : goal.returns-in-Err-write_whole-clause-front

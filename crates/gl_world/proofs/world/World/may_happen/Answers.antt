@@ -7,4 +7,4 @@ pub returns : goal.returns
 returns g c =
     let h : Held = record { settings = c.self.inside.settings; events = c.self.inside.events.items } in
     let is : c.args.self.now ≡ h = search rules in
-    c.may_happen.ensures ∙ may_here g.B.Book.stands h c.args.self.now c.args.event.now is c.self.invariant
+    c.may_happen.ensures ∙ may_here g.N.WorldNode.stands h c.args.self.now c.args.event.now is c.self.invariant

@@ -7,35 +7,35 @@ use Rattle.gl_world.proofs.world.World.settle.Goals as goal
 pub happen-requires : goal.happen-requires
 happen-requires g c =
     let h : Held = record { settings = c.self.inside.settings; events = c.self.inside.events.items } in
-    record { running = record { settings = h.settings; world = world_now h; running = c.self.invariant }; among = among_here g.B.Book.stands h c.args.self.now c.args.event (search rules) c.self.invariant c.requires.here }
+    record { running = record { settings = h.settings; world = world_now h; running = c.self.invariant }; among = among_here g.N.WorldNode.stands h c.args.self.now c.args.event (search rules) c.self.invariant c.requires.here }
 
 pub invariant_of-self-in-Ok : goal.invariant_of-self-in-Ok
 invariant_of-self-in-Ok g c =
     let h : Held = record { settings = c.self.inside.settings; events = c.self.inside.events.items } in
-    more g.B.Book.stands h c.args.event _ (c.push_reserved.ensures.items ∙ ap (λ (es : List Event). es ++ c.args.event ∷ []) c.reserve.ensures.items)
-    (kept_on g.B.Book.stands c.happen.new.self h c.args.event c.in-Ok.outcome c.self.invariant c.in-Ok.ensures.moved (may_as h c.args.self.now c.args.event (search rules) c.requires.here))
+    more g.N.WorldNode.stands h c.args.event _ (c.push_reserved.ensures.items ∙ ap (λ (es : List Event). es ++ c.args.event ∷ []) c.reserve.ensures.items)
+    (kept_on g.N.WorldNode.stands c.happen.new.self h c.args.event c.in-Ok.outcome c.self.invariant c.in-Ok.ensures.moved (may_as h c.args.self.now c.args.event (search rules) c.requires.here))
 
 pub invariant_of-self-then-is_no_memory : goal.invariant_of-self-then-is_no_memory
 invariant_of-self-then-is_no_memory g c =
     let h : Held = record { settings = c.self.inside.settings; events = c.self.inside.events.items } in
-    as_before g.B.Book.stands c.happen.new.self h _ c.reserve.ensures.items c.self.invariant c.in-Err.ensures.err
+    as_before g.N.WorldNode.stands c.happen.new.self h _ c.reserve.ensures.items c.self.invariant c.in-Err.ensures.err
 
 pub invariant_of-self-in-Err : goal.invariant_of-self-in-Err
 invariant_of-self-in-Err g c =
     let h : Held = record { settings = c.self.inside.settings; events = c.self.inside.events.items } in
-    more g.B.Book.stands h c.args.event _ (c.push_reserved-in-Err.ensures.items ∙ ap (λ (es : List Event). es ++ c.args.event ∷ []) c.reserve.ensures.items)
-    (kept_refused g.B.Book.stands c.happen.new.self h c.args.event c.in-Err.why (search rules) c.self.invariant c.in-Err.ensures.err c.in-Err.ensures.refused (may_as h c.args.self.now c.args.event (search rules) c.requires.here))
+    more g.N.WorldNode.stands h c.args.event _ (c.push_reserved-in-Err.ensures.items ∙ ap (λ (es : List Event). es ++ c.args.event ∷ []) c.reserve.ensures.items)
+    (kept_refused g.N.WorldNode.stands c.happen.new.self h c.args.event c.in-Err.why (search rules) c.self.invariant c.in-Err.ensures.err c.in-Err.ensures.refused (may_as h c.args.self.now c.args.event (search rules) c.requires.here))
 
 pub returns-in-Ok-clause-happened : goal.returns-in-Ok-clause-happened
 returns-in-Ok-clause-happened g c =
     let h : Held = record { settings = c.self.inside.settings; events = c.self.inside.events.items } in
-    happened_by g.B.Book.stands c.happen.new.self c.args.self.now _ h c.args.event c.in-Ok.outcome (search rules)
+    happened_by g.N.WorldNode.stands c.happen.new.self c.args.self.now _ h c.args.event c.in-Ok.outcome (search rules)
     (ap (λ (es : List Event). record { settings = c.self.inside.settings; events = es }) (c.push_reserved.ensures.items ∙ ap (λ (es : List Event). es ++ c.args.event ∷ []) c.reserve.ensures.items))
     c.self.invariant c.in-Ok.ensures.moved (may_as h c.args.self.now c.args.event (search rules) c.requires.here)
 
 pub returns-else-is_no_memory-clause-refused : goal.returns-else-is_no_memory-clause-refused
 returns-else-is_no_memory-clause-refused g c =
     let h : Held = record { settings = c.self.inside.settings; events = c.self.inside.events.items } in
-    refuses_by g.B.Book.stands c.args.self.now _ h c.args.event c.in-Err.why (search rules) (search rules)
+    refuses_by g.N.WorldNode.stands c.args.self.now _ h c.args.event c.in-Err.why (search rules) (search rules)
     (ap (λ (es : List Event). record { settings = c.self.inside.settings; events = es }) (c.push_reserved-in-Err.ensures.items ∙ ap (λ (es : List Event). es ++ c.args.event ∷ []) c.reserve.ensures.items))
     c.self.invariant c.in-Err.ensures.refused (may_as h c.args.self.now c.args.event (search rules) c.requires.here)

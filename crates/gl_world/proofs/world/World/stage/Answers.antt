@@ -11,15 +11,15 @@ pub index-requires : goal.index-requires
 index-requires g c =
     let h : Held = record { settings = c.self.inside.settings; events = c.self.inside.events.items } in
     let is : c.args.self.now ≡ h = search rules in
-    let low = (core_here g.B.Book.stands h c.args.self.now c.args.node is c.self.invariant c.requires.here).0 in
+    let low = (core_here g.N.WorldNode.stands h c.args.self.now c.args.node is c.self.invariant c.requires.here).0 in
     search (rules, low)
 
 pub returns : goal.returns
 returns g c =
     let h : Held = record { settings = c.self.inside.settings; events = c.self.inside.events.items } in
     let is : c.args.self.now ≡ h = search rules in
-    let low = (core_here g.B.Book.stands h c.args.self.now c.args.node is c.self.invariant c.requires.here).0 in
+    let low = (core_here g.N.WorldNode.stands h c.args.self.now c.args.node is c.self.invariant c.requires.here).0 in
     let core_at = slice_get_read _ _ (c.args.node - 1) c.index.result.now refl low (search rules) in
     let old = c.args.self.now in
-    c.stage.ensures (book_of old.settings) (id_of old.settings c.args.node) (node_now old c.args.node) (stands_here g.B.Book.stands h old c.args.node c.index.result.now is c.self.invariant c.requires.here core_at)
+    c.stage.ensures (book_of old.settings) (id_of old.settings c.args.node) (node_now old c.args.node) (c.core.ensures (book_of old.settings) (id_of old.settings c.args.node) (node_now old c.args.node) (stands_here g.N.WorldNode.stands h old c.args.node c.index.result.now is c.self.invariant c.requires.here core_at))
     ∙ ap (stage_at (book_of old.settings) (node_now old c.args.node)) c.id-id.ensures

@@ -1,7 +1,7 @@
 use Rattle.std.proofs.Common.{◌≡◌, ℕ, ◌-◌, Some, map, slice_get, sym, subst, ◌∙◌}
 use Rattle.gl_election.specs.Bridge.{seen_message}
 use Rattle.gl_world.specs.declared.event.Event.{Event}
-use Rattle.gl_world.specs.Running.{acting_node}
+use Rattle.gl_world.specs.Rules.{acting_node}
 use Rattle.gl_world.proofs.Events.{delivered_at, named_at, named_by}
 use Rattle.gl_world.proofs.world.nodes.Nodes.index_of.Goals as goal
 

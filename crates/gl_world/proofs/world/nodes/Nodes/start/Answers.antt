@@ -1,25 +1,26 @@
-use Rattle.std.proofs.Common.{◌≡◌, ◌<◌, ℕ, suc, ◌∷◌, ◌++◌, length, slice_get, refl, sym, ap, subst, ◌∙◌, arith}
-use Rattle.std.specs.Vec.Iter.{into_iter_items}
-use Rattle.std.proofs.lemmas.Option.{slice_get_read}
-use Rattle.gl_world.specs.AtStart.{held_at_start}
+use Rattle.std.proofs.Common.{rules, ◌≡◌, suc, Some, slice_get, sym, ap, ◌∙◌}
+use Rattle.std.proofs.lemmas.Option.{slice_get-get_or}
+use Rattle.gl_rules.specs.World.{node_at_start}
+use Rattle.gl_replication.specs.Stands.{held_by}
+use Rattle.gl_world.specs.Founding.{id_of}
 use Rattle.gl_world.specs.Group.{book_of}
-use Rattle.gl_world.proofs.Starting.{behind}
+use Rattle.gl_world.specs.World.{start_of}
+use Rattle.gl_world.proofs.Starting.{all_started, one_id}
 use Rattle.gl_world.proofs.world.nodes.Nodes.start.Goals as goal
 
-pub add-requires-clause-first : goal.add-requires-clause-first
-add-requires-clause-first g c =
+pub loop-node-preserved : goal.loop-node-preserved
+loop-node-preserved g c =
     let s = c.args.settings.now in
-    let some : 0 < length c.args.books.items = omega (arith, c.requires.books.count, c.requires.group.first) in
-    c.me-first.ensures (book_of s) (held_at_start s 1)
-    (c.requires.books.stand 0 c.index.result.now (slice_get_read c.args.books.items _ 0 _ refl some c.index.ensures))
+    let i = c.loop-node.node-index in
+    let nodes = c.args.nodes.items in
+    let node = c.node-item.result in
+    let x = id_of s (suc i) in
+    let n = node_at_start (start_of s) x in
+    let all = c.deref-node-items.result.now in
+    let at : slice_get nodes i ≡ Some node =
+    ap (λ l. slice_get l i) (sym c.deref-node-items.ensures.value) ∙ slice_get-get_or all i node c.loop-node-test.true ∙ ap (λ m. Some m) (sym c.node-item.is) in
+    let stood = c.core.ensures (book_of s) x n (c.requires.nodes.stand i node at) in
+    one_id s i c.loop-node.ids.items c.push.new.self.items c.me.result c.loop-node.invariant (c.me.ensures (book_of s) (held_by x n) stood.ledger) c.in_ok-push.ensures.items
 
-pub add-requires-clause-book : goal.add-requires-clause-book
-add-requires-clause-book g c =
-    let s = c.args.settings.now in
-    let at = c.loop-book in
-    let next : into_iter_items at.book-iterator ≡ c.in-Some.book ∷ into_iter_items c.next.new.self = c.in-Some.ensures.steps.0 in
-    let all : at.yielded ++ c.in-Some.book ∷ into_iter_items c.next.new.self ≡ c.args.books.items =
-    ap (λ l. at.yielded ++ l) (sym next) ∙ at.invariant.0 ∙ c.into_iter-book-iterator.ensures.into_iter_gives.0 in
-    subst (λ (k : ℕ). g.B.Book.stands c.in-Some.book (book_of s) (held_at_start s (suc k))) (sym at.invariant.2)
-    (c.requires.books.stand (length at.yielded) c.in-Some.book
-    (ap (λ l. slice_get l (length at.yielded)) (sym all) ∙ behind at.yielded (into_iter_items c.next.new.self) c.in-Some.book))
+pub returns : goal.returns
+returns g c = all_started g.N.WorldNode.stands c.args.settings.now _ c.requires.group c.requires.nodes (search rules) (search rules)

@@ -1,0 +1,41 @@
+//! What the options of `load` ask for.
+
+ghost use Rattle.std.specs.Prelude.{◌≡◌, ◌∷◌, [], Err, IfErr, IfOk, Ok, option_map};
+ghost use Rattle.gl_commands.specs.Words.{asked_load, asked_seed};
+
+use crate::task::LoadTask;
+use crate::words::asked_number;
+use clap::error::ErrorKind;
+use gl_lines::is_lower_hex;
+use hex::FromHex;
+
+/// The seed that an option spells.
+fn asked_seed(word: Option<&str>) -> Result<[u8; 32], ErrorKind>
+    ensures found { IfOk result (λ seed.
+        asked_seed (option_map (λ s. s.now) word.entry) ≡ Ok seed) }
+    ensures refused { IfErr result (λ kind.
+        asked_seed (option_map (λ s. s.now) word.entry) ≡ Err (kind ∷ [])) }
+{
+    let Some(word) = word else {
+        return Err(ErrorKind::MissingRequiredArgument);
+    };
+    if !is_lower_hex(word.as_bytes()) {
+        return Err(ErrorKind::ValueValidation);
+    }
+    match <[u8; 32] as FromHex>::from_hex(word) {
+        Ok(seed) => Ok(seed),
+        Err(_) => Err(ErrorKind::ValueValidation),
+    }
+}
+
+/// The ledger that the options of `load` ask for.
+pub(crate) fn asked_load(count: Option<&str>, seed: Option<&str>) -> Result<LoadTask, ErrorKind>
+    ensures found { IfOk result (λ load. asked_load (option_map (λ s. s.now) count.entry)
+        (option_map (λ s. s.now) seed.entry) ≡ Ok load) }
+    ensures refused { IfErr result (λ kind. asked_load (option_map (λ s. s.now) count.entry)
+        (option_map (λ s. s.now) seed.entry) ≡ Err (kind ∷ [])) }
+{
+    let count = asked_number(count)?;
+    let seed = asked_seed(seed)?;
+    Ok(LoadTask { count, seed })
+}

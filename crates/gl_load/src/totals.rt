@@ -1,0 +1,187 @@
+//! The audit of a ledger, and what is counted of it on the way.
+
+ghost use Rattle.std.specs.Prelude.{◌≡◌, ◌+◌, ◌^◌, ◌∷◌, ◌++◌, ◌<◌, ◌≤◌, ℕ, List, [], None, true, length, All, IsTrue, IfOk, OnOk, if◌then◌else◌};
+ghost use Rattle.gl_merkle.specs.Frontier.{HasLeaves};
+ghost use Rattle.gl_vmaps.specs.Kept.{version_of};
+ghost use Rattle.gl_vmaps.specs.Standing.{StandsFor};
+ghost use Rattle.gl_vmaps.specs.Versions.{Placed, placed_at};
+ghost use Rattle.gl_entry.specs.Entry.{frame_bytes, is_entry, is_signature};
+ghost use Rattle.gl_entry.specs.Leaf.{leaf_of};
+ghost use Rattle.gl_entry.specs.declared.entry.Entry.{Entry as Item};
+ghost use Rattle.gl_ledger.specs.Audit.{audited};
+ghost use Rattle.gl_ledger.specs.Broken.{broken};
+ghost use Rattle.gl_ledger.specs.NodeKeys.{service_layers};
+ghost use Rattle.gl_ledger.specs.ServiceRow.{identity_in};
+ghost use Rattle.gl_ledger.specs.Tree.{tables_of};
+ghost use Rattle.gl_store.specs.Kept.{ForLedgers, IsStateOf};
+ghost use Rattle.gl_load.specs.Report.{id_or_none, report_of};
+ghost use Rattle.gl_load.specs.Totals.{AreTotalsOf};
+
+use crate::report::Report;
+use crate::requests::LOAD_MAP;
+use gl_base::{OrNoMemory, TxId};
+use gl_entry::{Content, Entry, leaf};
+use gl_merkle::Frontier;
+use gl_store::LedgerState;
+use gl_vmaps::Tables;
+use std::alloc::{AllocError, Global};
+
+/// What is counted of a ledger that is audited entry by entry: its signatures, the bytes of its
+/// frames, the tables that it makes, and the tree of its leaves.
+#[derive(Drop)]
+struct Totals {
+    state: LedgerState,
+    signatures: u64,
+    bytes: u64,
+    tables: Tables,
+    tree: Frontier,
+}
+
+/// Tries an entry by the rules of the audit, behind those before it. Behind a signature the state
+/// lets go of what later entries don't ask for.
+fn audit(state: &mut LedgerState, entry: &Entry) -> Result<(), AllocError>
+    requires { (ledger : List Item) × IsStateOf ledger state.old
+        × (broken service_layers ledger entry.now ≡ None) }
+    ensures { OnOk result (ForLedgers state.old (λ ledger.
+        IsStateOf (ledger ++ entry.now ∷ []) state.new)) }
+{
+    match state.apply(entry) {
+        Ok(()) => {}
+        Err(OrNoMemory::NoMemory) => return Err(AllocError),
+        Err(OrNoMemory::Fault(_)) => unreachable!(),
+    }
+    if matches!(entry.content, Content::Signature(_)) {
+        state.settle()
+    } else {
+        Ok(())
+    }
+}
+
+/// Adds the leaf of the last entry of a ledger, of which this is the state.
+#[tactic(auto, using(crate::proofs::Auditing::none_empty))]
+fn push_leaf(state: &LedgerState, tree: &mut Frontier, entry: &Entry) -> Result<(), AllocError>
+    requires { (ledger : List Item) × IsStateOf (ledger ++ entry.now ∷ []) state.now }
+    ensures { OnOk result ((ledger : List Item) → IsStateOf (ledger ++ entry.now ∷ []) state.now →
+        HasLeaves tree.old tree.new (tree.old.leaves
+        ++ leaf_of (identity_in (tables_of (ledger ++ entry.now ∷ []))) entry.now ∷ [])) }
+{
+    let Some(identity) = state.identity() else {
+        unreachable!();
+    };
+    tree.push(leaf(entry, identity))
+}
+
+/// Makes the writes of an entry, and keeps of each row the last version alone.
+fn write(tables: &mut Tables, entry: &Entry) -> Result<(), AllocError>
+    requires base { tables.old.base < entry.now.seqno }
+    requires above { (map key : List ℕ) → version_of tables.old map key < entry.now.seqno }
+    ensures written { OnOk result ((ps : List Placed) → StandsFor tables.old ps →
+        StandsFor tables.new (ps ++ placed_at entry.now.seqno entry.now.writes)) }
+    ensures base { OnOk result (tables.new.base ≡ tables.old.base) }
+{
+    tables.apply(entry.seqno, &entry.writes)?;
+    tables.compact(entry.seqno);
+    Ok(())
+}
+
+/// How many bytes the frame of an entry has.
+#[tactic(auto, using(crate::proofs::Auditing::frame_length, crate::proofs::Auditing::body_small, gl_entry::proofs::Sizes::content_within, gl_entry::proofs::Sizes::writes_counted))]
+fn frame_len(entry: &Entry) -> u64
+    requires { is_entry entry.now ≡ true }
+    ensures exact { result ≡ length (frame_bytes entry.now) }
+    ensures small { result ≤ 2 ^ 21 }
+{
+    entry.frame_len()
+}
+
+/// 1 for a signature, 0 for any other entry.
+fn signature_count(entry: &Entry) -> u64
+    ensures { result ≡ (if is_signature entry.now.content then 1 else 0) }
+{
+    match entry.content {
+        Content::Signature(_) => 1,
+        _ => 0,
+    }
+}
+
+/// A transaction, 0.0 where there is none.
+fn id_or_none(id: Option<TxId>) -> TxId
+    ensures { result ≡ id_or_none id }
+{
+    match id {
+        None => TxId { view: 0, seqno: 0 },
+        Some(id) => id,
+    }
+}
+
+impl Totals {
+    /// Those of no entries.
+    fn new(alloc: Global) -> Result<Self, AllocError>
+        ensures { IfOk result (λ totals. AreTotalsOf [] totals) }
+    {
+        Ok(Totals {
+            state: LedgerState::new(alloc)?,
+            signatures: 0,
+            bytes: 0,
+            tables: Tables::new(alloc),
+            tree: Frontier::new(alloc)?,
+        })
+    }
+
+    /// Audits an entry that breaks no rule, and counts it.
+    fn add(&mut self, entry: &Entry) -> Result<(), AllocError>
+        requires next { (ledger : List Item) × AreTotalsOf ledger self.old
+            × (broken service_layers ledger entry.now ≡ None) }
+        requires fits { is_entry entry.now ≡ true }
+        ensures { OnOk result ((ledger : List Item) → AreTotalsOf ledger self.old →
+            AreTotalsOf (ledger ++ entry.now ∷ []) self.new) }
+    {
+        audit(&mut self.state, entry)?;
+        push_leaf(&self.state, &mut self.tree, entry)?;
+        write(&mut self.tables, entry)?;
+        self.bytes += frame_len(entry);
+        self.signatures += signature_count(entry);
+        Ok(())
+    }
+
+    /// What they come to.
+    fn report(&self) -> Report
+        requires { (ledger : List Item) × AreTotalsOf ledger self.now × (0 < length ledger) }
+        ensures { (ledger : List Item) → AreTotalsOf ledger self.now → result ≡ report_of ledger }
+    {
+        let end = self.state.end();
+        Report {
+            entries: end.len,
+            signatures: self.signatures,
+            bytes: self.bytes,
+            keys: self.tables.size(LOAD_MAP),
+            last: id_or_none(end.last),
+            root: self.tree.root(),
+        }
+    }
+}
+
+/// Audits entries, none of which breaks a rule behind those before it, and counts them.
+fn totals_of(alloc: Global, entries: &[Entry]) -> Result<Totals, AllocError>
+    requires valid { audited service_layers entries.now ≡ None }
+    requires fit { All (λ e. IsTrue (is_entry e)) entries.now }
+    ensures { IfOk result (λ totals. AreTotalsOf entries.now totals) }
+{
+    let mut totals = Totals::new(alloc)?;
+    for entry in entries {
+        totals.add(entry)?;
+    }
+    Ok(totals)
+}
+
+/// What is told of a ledger, none of whose entries breaks a rule: each is audited once more, behind
+/// those before it. Fails for want of memory alone.
+pub(crate) fn report(alloc: Global, entries: &[Entry]) -> Result<Report, AllocError>
+    requires some { 0 < length entries.now }
+    requires valid { audited service_layers entries.now ≡ None }
+    requires fit { All (λ e. IsTrue (is_entry e)) entries.now }
+    ensures { IfOk result (λ report. report ≡ report_of entries.now) }
+{
+    let totals = totals_of(alloc, entries)?;
+    Ok(totals.report())
+}

@@ -8,8 +8,8 @@ ghost use Rattle.ccfg.specs.Plans.{PlansPlayable, due_of_plan};
 ghost use Rattle.ccfg.specs.declared.fault.Fault.TheVariants.{Short};
 
 use crate::fault::Fault;
-use crate::load::{LoadStop, load};
 use crate::plan::{Plan, PlanStop};
+use crate::source_bytes::{ReadStop, read_whole};
 use gl_dealing::{can_deal, deal_text};
 use gl_outside::Source;
 use std::alloc::{AllocError, Global};
@@ -89,16 +89,16 @@ pub fn read_dealing_plan<S: Source>(
         Rose (S.faults source.old) (S.faults source.new) }
     ensures no_disk { result ≢ Err PlanStop.DiskFailed }
 {
-    match load(alloc, DEALING_LEN, source) {
+    match read_whole(alloc, DEALING_LEN, source) {
         Ok(text) => match dealing_plan(alloc, threshold, members, &text) {
             Ok(plan) => Ok(plan),
             Err(_) => Err(PlanStop::Memory),
         },
-        Err(LoadStop::TooLong) => {
+        Err(ReadStop::TooLong) => {
             let at = DEALING_LEN as u64;
             Ok(Plan::Refuse(Fault::Trailing { at }))
         }
-        Err(LoadStop::Memory) => Err(PlanStop::Memory),
-        Err(LoadStop::Failed) => Err(PlanStop::SourceFailed),
+        Err(ReadStop::Memory) => Err(PlanStop::Memory),
+        Err(ReadStop::Failed) => Err(PlanStop::SourceFailed),
     }
 }

@@ -12,8 +12,8 @@ ghost use Rattle.gl_journal.specs.declared.fault.JournalFault.{JournalFault};
 ghost use Rattle.gl_keyfile.specs.declared.fault.KeyFileFault.{KeyFileFault};
 
 use crate::fault::Fault;
-use crate::load::{LoadStop, load};
 use crate::plan::{Plan, PlanStop};
+use crate::source_bytes::{ReadStop, read_whole};
 use gl_base::OrNoMemory;
 use gl_forms::write_key;
 use gl_journal::{JournalFault, Key, KeyKind};
@@ -119,17 +119,17 @@ fn plan_on_empty<S: Source, D: Disk>(
     ensures stopped { IsTrue D.honest → result.0 ≡ Err PlanStop.SourceFailed →
         IsUntouched D.bytes D.past disk result.1 }
 {
-    match load(alloc, SEED_LEN, source) {
+    match read_whole(alloc, SEED_LEN, source) {
         Ok(text) => match seed_in(&text) {
             Ok(seed) => begin_file(alloc, Key { kind, types, seed }, disk),
             Err(fault) => (Ok(Plan::Refuse(fault)), disk),
         },
-        Err(LoadStop::TooLong) => {
+        Err(ReadStop::TooLong) => {
             let at = SEED_LEN as u64;
             (Ok(Plan::Refuse(Fault::Trailing { at })), disk)
         }
-        Err(LoadStop::Memory) => (Err(PlanStop::Memory), disk),
-        Err(LoadStop::Failed) => (Err(PlanStop::SourceFailed), disk),
+        Err(ReadStop::Memory) => (Err(PlanStop::Memory), disk),
+        Err(ReadStop::Failed) => (Err(PlanStop::SourceFailed), disk),
     }
 }
 

@@ -1,51 +1,87 @@
-//! The bytes of a source, read whole.
+//! A ledger of so many requests: it is made, audited, and told of.
 
-ghost use Rattle.std.specs.Prelude.{◌≡◌, ◌≤◌, ◌<◌, ◌^◌, length, true, Err, IfOk, IfSome, OnOk};
-ghost use Rattle.gl_outside.specs.Fault.{Rose};
-ghost use Rattle.gl_ledger_file.specs.Given.{OfBytes};
+ghost use Rattle.std.specs.Prelude.{◌≡◌, ◌≤◌, IfOk};
+ghost use Rattle.gl_load.specs.Events.{load_ledger};
+ghost use Rattle.gl_load.specs.Report.{report_of};
+ghost use Rattle.ccfg.specs.Owed.{WritesDue, due_of_answer, due_of_load, report_text};
 
-use gl_outside::{Got, Source};
-use std::alloc::Global;
+use crate::ending::Ending;
+use crate::fault::Fault;
+use crate::output::{refuse, tell};
+use gl_book::StoreBook;
+use gl_commands::LoadTask;
+use gl_fault_lines::{put_hex, put_named};
+use gl_load::{LOAD_LIMIT, LoadFounding, Onlooker, Report, load};
+use gl_outside::Sink;
+use std::alloc::{AllocError, Global};
 
-/// The most bytes that JSON has.
-pub const JSON_LIMIT: usize = 1_048_576;
-
-/// Why a source was not read whole.
-#[derive(Clone, Copy, Debug, PartialEq, Eq)]
-pub enum LoadStop {
-    Memory,
-    /// The source failed.
-    Failed,
-    /// The source has more bytes than the limit.
-    TooLong,
+/// What the ledger of so many requests comes to, which is made and audited for it. Fails for want of
+/// memory alone.
+fn make<O: Onlooker>(
+    alloc: Global,
+    count: u32,
+    seed: &[u8; 32],
+    onlooker: &mut O,
+) -> Result<Report, AllocError>
+    requires { count ≤ 100000 }
+    ensures { IfOk result (λ report. report ≡ report_of (load_ledger seed.now count)) }
+{
+    let founding = LoadFounding::make(alloc, seed)?;
+    let book = StoreBook::founded(alloc, founding.key, founding.genesis)?;
+    load(alloc, count, seed, book, onlooker)
 }
 
-/// Reads a source to its end, if that comes within so many bytes.
-pub fn load<S: Source>(alloc: Global, limit: usize, source: &mut S) -> Result<Vec<u8>, LoadStop>
-    requires { limit < 2 ^ 62 }
-    ensures whole { IfOk result (λ text. IfSome (S.left source.old) (λ given. text.items ≡ given)) }
-    ensures ended { OnOk result (S.ended source.new ≡ true) }
-    ensures within { IfOk result (λ text. length text.items ≤ limit) }
-    ensures long { result ≡ Err LoadStop.TooLong →
-        OfBytes (S.left source.old) (λ given. limit < length given) }
-    ensures failed { result ≡ Err LoadStop.Failed →
-        Rose (S.faults source.old) (S.faults source.new) }
-    ensures never_falls { S.faults source.old ≤ S.faults source.new }
+/// The lines that tell of a ledger that was made.
+fn report_text(alloc: Global, report: &Report) -> Result<Vec<u8>, AllocError>
+    ensures { IfOk result (λ text. text.items ≡ report_text report.now) }
 {
     let mut text = Vec::new(alloc);
-    let mut buffer = [0; 65536];
-    while text.len() <= limit {
-        match source.read(&mut buffer) {
-            Got::Bytes(0) | Got::End => return Ok(text),
-            Got::Bytes(count) => {
-                let (front, _) = buffer.split_at(count);
-                match text.extend_from_slice(front) {
-                    Ok(()) => {}
-                    Err(_) => return Err(LoadStop::Memory),
-                }
-            }
-            Got::Failed => return Err(LoadStop::Failed),
-        }
+    put_named(&mut text, "entries ", report.entries)?;
+    put_named(&mut text, "\nsignatures ", report.signatures)?;
+    put_named(&mut text, "\nbytes ", report.bytes)?;
+    put_named(&mut text, "\nkeys ", report.keys)?;
+    text.extend_from_slice(b"\nlast ")?;
+    report.last.push_text(&mut text)?;
+    text.extend_from_slice(b"\nroot ")?;
+    put_hex(alloc, &mut text, &report.root)?;
+    text.extend_from_slice(b"\n")?;
+    Ok(text)
+}
+
+fn tell_report<K: Sink>(alloc: Global, report: &Report, sink: &mut K) -> Ending
+    ensures { WritesDue result (record {
+      held = K.holds sink.old;
+      holds = K.holds sink.new;
+      faults = K.faults sink.old;
+      faults_now = K.faults sink.new;
+    }) (due_of_answer (report_text report.now)) }
+{
+    match report_text(alloc, report) {
+        Ok(text) => tell(&text, sink),
+        Err(_) => Ending::Memory,
     }
-    Err(LoadStop::TooLong)
+}
+
+/// Makes the ledger of a load, and tells what it comes to. Behind each request the onlooker is told
+/// how many were taken.
+pub fn run_load<K: Sink, O: Onlooker>(
+    alloc: Global,
+    task: &LoadTask,
+    sink: &mut K,
+    onlooker: &mut O,
+) -> Ending
+    ensures { WritesDue result (record {
+      held = K.holds sink.old;
+      holds = K.holds sink.new;
+      faults = K.faults sink.old;
+      faults_now = K.faults sink.new;
+    }) (due_of_load task.now) }
+{
+    if task.count > u64::from(LOAD_LIMIT) {
+        return refuse(alloc, &Fault::TooManyRequests, sink);
+    }
+    match make(alloc, task.count as u32, &task.seed, onlooker) {
+        Ok(report) => tell_report(alloc, &report, sink),
+        Err(_) => Ending::Memory,
+    }
 }

@@ -7,13 +7,13 @@ mod fault;
 mod keygen;
 mod ledger_plan;
 mod load;
-mod loading;
 mod node;
 mod output;
 mod plan;
 mod program;
 mod recovering;
 mod signing;
+mod source_bytes;
 #[cfg(test)]
 mod tests;
 mod verify;
@@ -133,14 +133,21 @@ fn link_at<'a>(
     Ok(TcpLink::new(rt, rt.alloc(), listen, &peers, TICK).unwrap_or(TcpLink::none()))
 }
 
+/// Tells on standard error why a node with so many peers has no link.
+fn tell_no_link(rt: &HostRuntime, called: &Invocation<'_>, count: usize) {
+    let given = called.peers.len();
+    if given == count {
+        let _told = eprint!(rt; "it can't listen at the address that @listen names\n");
+    } else {
+        let _told = eprint!(rt; "{count} peers are named, but @peer gives {given} addresses\n");
+    }
+}
+
 /// Tells on standard error where a link listens, and where its peers do; or why a node has none.
 fn tell_link(rt: &HostRuntime, link: &TcpLink<'_, HostRuntime>, called: &Invocation<'_>) {
     let Some(address) = link.local_addr() else {
         if let Some(count) = peer_count(rt.alloc(), called.words) {
-            let given = called.peers.len();
-            let _told = eprint!(rt;
-                "can't listen at @listen, or {count} peers and {given} @peer\n"
-            );
+            tell_no_link(rt, called, count);
         }
         return;
     };

@@ -19,8 +19,8 @@ ghost use Rattle.ccfg.specs.Nodes.{BeginsAs, BeginsBy, Beginning, HasLedger, Mov
 
 use crate::ending::Ending;
 use crate::fault::Fault;
-use crate::load::{LoadStop, load};
 use crate::output::{refuse, tell};
+use crate::source_bytes::{ReadStop, read_whole};
 use gl_base::OrNoMemory;
 use gl_book::{NodeFile, OpeningFault, StoreBook};
 use gl_commands::NodeTask;
@@ -152,10 +152,10 @@ fn begin<S: Source, D: Disk + Drop>(
     if file.ledger_len() > 0 {
         return reopen(file);
     }
-    match load(alloc, SOURCE_LIMIT, source) {
+    match read_whole(alloc, SOURCE_LIMIT, source) {
         Ok(given) => begin_with(file, &given),
-        Err(LoadStop::Failed) => Err((NodeStop::SourceFailed, file.into_disk())),
-        Err(LoadStop::Memory | LoadStop::TooLong) => Err((NodeStop::Memory, file.into_disk())),
+        Err(ReadStop::Failed) => Err((NodeStop::SourceFailed, file.into_disk())),
+        Err(ReadStop::Memory | ReadStop::TooLong) => Err((NodeStop::Memory, file.into_disk())),
     }
 }
 

@@ -17,9 +17,9 @@ use crate::ending::Ending;
 use crate::fault::Fault;
 use crate::keygen::keygen_plan;
 use crate::ledger_plan::read_ledger_plan;
-use crate::load::{LoadStop, load};
 use crate::recovering::recovering_plan;
 use crate::signing::signing_plan;
+use crate::source_bytes::{ReadStop, read_whole};
 use crate::verify::read_receipt_plan;
 use gl_base::{OrNoMemory, TxId};
 use gl_commands::Task;
@@ -100,14 +100,14 @@ fn read_schedule_plan<S: Source>(alloc: Global, source: &mut S) -> Result<Plan, 
         Rose (S.faults source.old) (S.faults source.new) }
     ensures no_disk { result ≢ Err PlanStop.DiskFailed }
 {
-    match load(alloc, BYTES_LIMIT, source) {
+    match read_whole(alloc, BYTES_LIMIT, source) {
         Ok(text) => match schedule_plan(alloc, &text) {
             Ok(plan) => Ok(plan),
             Err(_) => Err(PlanStop::Memory),
         },
-        Err(LoadStop::TooLong) => Ok(Plan::Refuse(Fault::TooManyBytes)),
-        Err(LoadStop::Memory) => Err(PlanStop::Memory),
-        Err(LoadStop::Failed) => Err(PlanStop::SourceFailed),
+        Err(ReadStop::TooLong) => Ok(Plan::Refuse(Fault::TooManyBytes)),
+        Err(ReadStop::Memory) => Err(PlanStop::Memory),
+        Err(ReadStop::Failed) => Err(PlanStop::SourceFailed),
     }
 }
 

@@ -29,7 +29,7 @@ ghost use Rattle.gl_commands.specs.Words.{asked};
 
 use crate::ending::Ending;
 use crate::fault::Fault;
-use crate::loading::run_load;
+use crate::load::run_load;
 use crate::node::run_node;
 use crate::output::{carry_out, refuse};
 use crate::plan::read_plan;

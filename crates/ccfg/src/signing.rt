@@ -18,8 +18,8 @@ ghost use Rattle.ccfg.specs.Owed.{EndsSource, OfShown, due_of_signed, due_of_sig
 ghost use Rattle.ccfg.specs.Plans.{MovesByLeaf, OpensAsBefore, PlansPlayable, TellsFault, TellsSpent, TellsUnopened, due_of_plan};
 
 use crate::fault::Fault;
-use crate::load::{JSON_LIMIT, LoadStop, load};
 use crate::plan::{Plan, PlanStop};
+use crate::source_bytes::{JSON_LIMIT, ReadStop, read_whole};
 use gl_base::OrNoMemory;
 use gl_consortium::{SigningFault, sign};
 use gl_journal::JournalFault;
@@ -119,11 +119,11 @@ fn plan_with_key<S: Source, D: Disk>(
         (D.past (disk_of file)) (D.past result.1) }
     ensures stopped { result.0 ≡ Err PlanStop.SourceFailed → result.1 ≡ disk_of file }
 {
-    match load(alloc, JSON_LIMIT, source) {
+    match read_whole(alloc, JSON_LIMIT, source) {
         Ok(text) => sign_text(alloc, signing, &text, file),
-        Err(LoadStop::TooLong) => (Ok(Plan::Refuse(Fault::TooMuchJson)), file.into_disk()),
-        Err(LoadStop::Memory) => (Err(PlanStop::Memory), file.into_disk()),
-        Err(LoadStop::Failed) => (Err(PlanStop::SourceFailed), file.into_disk()),
+        Err(ReadStop::TooLong) => (Ok(Plan::Refuse(Fault::TooMuchJson)), file.into_disk()),
+        Err(ReadStop::Memory) => (Err(PlanStop::Memory), file.into_disk()),
+        Err(ReadStop::Failed) => (Err(PlanStop::SourceFailed), file.into_disk()),
     }
 }
 

@@ -8,8 +8,8 @@ ghost use Rattle.ccfg.specs.Plans.{ShowsAccepted, PlansPlayable, due_of_plan};
 ghost use Rattle.gl_commands.specs.declared.task.Task.TheVariants.{Verify};
 
 use crate::fault::Fault;
-use crate::load::{JSON_LIMIT, LoadStop, load};
 use crate::plan::{Plan, PlanStop};
+use crate::source_bytes::{JSON_LIMIT, ReadStop, read_whole};
 use gl_base::{OrNoMemory, TxId};
 use gl_outside::Source;
 use gl_receipt::{read_receipt, verify};
@@ -50,14 +50,14 @@ pub fn read_receipt_plan<S: Source>(
         Rose (S.faults source.old) (S.faults source.new) }
     ensures no_disk { result ≢ Err PlanStop.DiskFailed }
 {
-    match load(alloc, JSON_LIMIT, source) {
+    match read_whole(alloc, JSON_LIMIT, source) {
         Ok(text) => match receipt_plan(alloc, identity, &text) {
             Ok(plan) => Ok(plan),
             Err(_) => Err(PlanStop::Memory),
         },
-        Err(LoadStop::TooLong) => Ok(Plan::Refuse(Fault::TooMuchJson)),
-        Err(LoadStop::Memory) => Err(PlanStop::Memory),
-        Err(LoadStop::Failed) => Err(PlanStop::SourceFailed),
+        Err(ReadStop::TooLong) => Ok(Plan::Refuse(Fault::TooMuchJson)),
+        Err(ReadStop::Memory) => Err(PlanStop::Memory),
+        Err(ReadStop::Failed) => Err(PlanStop::SourceFailed),
     }
 }
 

@@ -27,7 +27,7 @@ use Rattle.gl_lms.specs.declared.types.Types.{Types}
 use Rattle.gl_commands.specs.Commands.{diskless_program, keyless_program, nodeless_program, program}
 use Rattle.gl_commands.specs.declared.task.WordsFault.{WordsFault}
 use Rattle.gl_commands.specs.declared.task.WordsFault.TheVariants.{NoMemory, Refused}
-use Rattle.gl_commands.specs.Words.{Refuses, RefusesOnly, RefusesWords, as_load, as_node, as_task, asked, asked_by_load, asked_by_node, asked_command, asked_deal, asked_dealing, asked_identity, asked_key, asked_keygen, asked_load, asked_making, asked_member, asked_name, asked_named, asked_node, asked_number, asked_numbers, asked_options, asked_peers, asked_request, asked_seed, asked_serving, asked_sign, asked_task, asked_ticks, asked_turns, asked_under, asked_with_identity, asked_with_words, asked_workers, is_member, is_node, is_number, named_kind, named_node, named_types, node_of, number_within, plain_task, spelled_hex, spelled_member, unless_faulty, unless_plain, valid_value}
+use Rattle.gl_commands.specs.Words.{Refuses, RefusesOnly, RefusesWords, as_load, as_node, as_task, asked, asked_by_load, asked_by_node, asked_command, asked_deal, asked_dealing, asked_identity, asked_key, asked_keygen, asked_load, asked_making, asked_member, asked_name, asked_named, asked_node, asked_number, asked_numbers, asked_options, asked_peers, asked_request, asked_seed, asked_serving, asked_sign, asked_task, asked_ticks, asked_turns, asked_under, asked_with_identity, asked_with_words, asked_workers, is_member, is_node, is_number, named_kind, named_types, node_of, number_within, plain_task, spelled_digest, spelled_key, spelled_member, spelled_seed, unless_faulty, unless_plain, valid_value}
 use Rattle.gl_commands.specs.declared.task.Asked.{Asked}
 use Rattle.gl_commands.specs.declared.task.LoadTask.{LoadTask}
 use Rattle.gl_commands.specs.declared.task.NodeTask.{NodeTask}
@@ -38,7 +38,7 @@ abbrev pub HasKind : {A : Type 0} → Result A Kinds → Type 0
 HasKind (Ok value) = Unit {0}
 HasKind (Err told) = (kind : ErrorKind) × IsAmong kind told
 
-kind_of_hex : (name : Text) (key : Result (List ℕ) LineFault) → HasKind (asked_under name (spelled_hex key))
+kind_of_hex : (name : Text) (key : Result (List ℕ) LineFault) → HasKind (asked_under name (spelled_key key))
 kind_of_hex name (Ok key) = tt
 kind_of_hex name (Err fault) = (kinds.ValueValidation, inl refl)
 
@@ -59,7 +59,7 @@ kind_of_name {A = A} named (Some word) = go (named word)
     go None = (kinds.InvalidValue, inl refl)
     go (Some value) = tt
 
-kind_of_spelled : (key : Result (List ℕ) LineFault) → HasKind (spelled_hex key)
+kind_of_spelled : (key : Result (List ℕ) LineFault) → HasKind (spelled_key key)
 kind_of_spelled (Ok key) = tt
 kind_of_spelled (Err fault) = (kinds.ValueValidation, inl refl)
 
@@ -170,20 +170,20 @@ none_of {A = A} test value words i d inside none = go (list_all test (now_of wor
     go false is = refl
 
 -- the identifier that a word spells, by whether it spells one
-pub named_as : (word : Text) → named_node word ≡ (if is_node word then Some (node_of word) else None)
-named_as word = go (named_node word)
+pub named_as : (word : Text) → spelled_digest word ≡ (if is_node word then Some (node_of word) else None)
+named_as word = go (spelled_digest word)
   where
     go : (found : Option (List ℕ)) → found ≡ (if is_some found then Some (unwrap_or found []) else None)
     go None = refl
     go (Some node) = refl
 
 -- one word more that spells an identifier, and one that spells none
-pub one_node : (words : List (Bor Text)) (i : ℕ) (d : Bor Text) (nodes new : List (List ℕ)) (node : List ℕ) → i < length words → Some node ≡ named_node (get_or words i d).now →
+pub one_node : (words : List (Bor Text)) (i : ℕ) (d : Bor Text) (nodes new : List (List ℕ)) (node : List ℕ) → i < length words → Some node ≡ spelled_digest (get_or words i d).now →
     new ≡ nodes ++ node ∷ [] → list_all is_node (now_of (take i words)) ≡ true → nodes ≡ map node_of (now_of (take i words)) →
     (list_all is_node (now_of (take (i + 1) words)) ≡ true) × (new ≡ map node_of (now_of (take (i + 1) words)))
 one_node words i d nodes new node within found pushed all read = one_more is_node node_of words i d nodes new node within (found ∙ named_as (get_or words i d).now) pushed all read
 
-pub no_nodes : (words : List (Bor Text)) (i : ℕ) (d : Bor Text) → i < length words → None ≡ named_node (get_or words i d).now →
+pub no_nodes : (words : List (Bor Text)) (i : ℕ) (d : Bor Text) → i < length words → None ≡ spelled_digest (get_or words i d).now →
     ◌≡◌ {A = Option (List (List ℕ))} None (if list_all is_node (now_of words) then Some (map node_of (now_of words)) else None)
 no_nodes words i d inside none = none_of is_node node_of words i d inside (none ∙ named_as (get_or words i d).now)
 
@@ -286,7 +286,11 @@ kind_as_node (Err told) has = has
 
 kind_of_seed : (word : Option Text) → HasKind (asked_seed word)
 kind_of_seed None = (kinds.MissingRequiredArgument, inl refl)
-kind_of_seed (Some word) = kind_of_spelled (hex_sized word 32)
+kind_of_seed (Some word) = go (spelled_digest word)
+  where
+    go : (found : Option (List ℕ)) → HasKind (spelled_seed found)
+    go None = (kinds.ValueValidation, inl refl)
+    go (Some seed) = tt
 
 kind_of_making : (count : Result ℕ Kinds) (seed : Result (List ℕ) Kinds) → HasKind count → HasKind seed → HasKind (asked_making count seed)
 kind_of_making (Err told) seed c s = c

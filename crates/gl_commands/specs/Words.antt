@@ -29,14 +29,14 @@ use Rattle.gl_commands.specs.declared.task.Task.TheVariants as tasks
 use Rattle.gl_commands.specs.declared.task.WordsFault.{WordsFault}
 use Rattle.gl_commands.specs.declared.task.WordsFault.TheVariants as faults
 
-abbrev pub spelled_hex : Result (List ℕ) LineFault → Result (List ℕ) Kinds
-spelled_hex (Ok bytes) = Ok bytes
-spelled_hex (Err fault) = Err (kinds.ValueValidation ∷ [])
+abbrev pub spelled_key : Result (List ℕ) LineFault → Result (List ℕ) Kinds
+spelled_key (Ok bytes) = Ok bytes
+spelled_key (Err fault) = Err (kinds.ValueValidation ∷ [])
 
 -- The key is a word of 120 digits of lower-case hexadecimal.
 abbrev pub asked_identity : Option Text → Result (List ℕ) Kinds
 asked_identity None = Err (kinds.MissingRequiredArgument ∷ [])
-asked_identity (Some word) = spelled_hex (hex_sized word 60)
+asked_identity (Some word) = spelled_key (hex_sized word 60)
 
 -- What the command with a name asks for under a key.
 abbrev pub task_under : Text → List ℕ → Task
@@ -147,15 +147,15 @@ asked_workers word = number_within 0 0 0 word
 abbrev pub asked_turns : Option Text → Result ℕ Kinds
 asked_turns word = number_within (2 ^ 64 - 1) 1 (2 ^ 64 - 1) word
 
--- A node's identifier: 64 digits of lower-case hexadecimal.
-abbrev pub named_node : Text → Option (List ℕ)
-named_node word = result_ok (hex_sized word 32)
+-- 32 bytes, a node's identifier or a seed: 64 digits of lower-case hexadecimal.
+abbrev pub spelled_digest : Text → Option (List ℕ)
+spelled_digest word = result_ok (hex_sized word 32)
 
 abbrev pub is_node : Text → Bool
-is_node word = is_some (named_node word)
+is_node word = is_some (spelled_digest word)
 
 abbrev pub node_of : Text → List ℕ
-node_of word = unwrap_or (named_node word) []
+node_of word = unwrap_or (spelled_digest word) []
 
 abbrev pub asked_peers : Option (List Text) → Result (List (List ℕ)) Kinds
 asked_peers None = Ok []
@@ -179,10 +179,13 @@ asked_node ticks workers turns peers =
     asked_serving (asked_ticks ticks) (asked_workers workers) (asked_turns turns)
     (asked_peers peers)
 
--- A seed is a word of 64 digits of lower-case hexadecimal.
+abbrev pub spelled_seed : Option (List ℕ) → Result (List ℕ) Kinds
+spelled_seed None = Err (kinds.ValueValidation ∷ [])
+spelled_seed (Some seed) = Ok seed
+
 abbrev pub asked_seed : Option Text → Result (List ℕ) Kinds
 asked_seed None = Err (kinds.MissingRequiredArgument ∷ [])
-asked_seed (Some word) = spelled_hex (hex_sized word 32)
+asked_seed (Some word) = spelled_seed (spelled_digest word)
 
 -- The count of requests is tried before the seed.
 abbrev pub asked_making : Result ℕ Kinds → Result (List ℕ) Kinds → Result LoadTask Kinds

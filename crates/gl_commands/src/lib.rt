@@ -3,6 +3,7 @@
 #![tactic(auto)]
 
 mod commands;
+mod digest_word;
 mod help;
 mod load_words;
 mod node_words;

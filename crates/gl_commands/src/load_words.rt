@@ -3,11 +3,10 @@
 ghost use Rattle.std.specs.Prelude.{◌≡◌, ◌∷◌, [], Err, IfErr, IfOk, Ok, option_map};
 ghost use Rattle.gl_commands.specs.Words.{asked_load, asked_seed};
 
+use crate::digest_word::spelled_digest;
 use crate::task::LoadTask;
 use crate::words::asked_number;
 use clap::error::ErrorKind;
-use gl_lines::is_lower_hex;
-use hex::FromHex;
 
 /// The seed that an option spells.
 fn asked_seed(word: Option<&str>) -> Result<[u8; 32], ErrorKind>
@@ -16,15 +15,9 @@ fn asked_seed(word: Option<&str>) -> Result<[u8; 32], ErrorKind>
     ensures refused { IfErr result (λ kind.
         asked_seed (option_map (λ s. s.now) word.entry) ≡ Err (kind ∷ [])) }
 {
-    let Some(word) = word else {
-        return Err(ErrorKind::MissingRequiredArgument);
-    };
-    if !is_lower_hex(word.as_bytes()) {
-        return Err(ErrorKind::ValueValidation);
-    }
-    match <[u8; 32] as FromHex>::from_hex(word) {
-        Ok(seed) => Ok(seed),
-        Err(_) => Err(ErrorKind::ValueValidation),
+    match word {
+        Some(word) => spelled_digest(word).ok_or(ErrorKind::ValueValidation),
+        None => Err(ErrorKind::MissingRequiredArgument),
     }
 }
 

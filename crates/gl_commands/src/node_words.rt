@@ -2,15 +2,14 @@
 
 ghost use Rattle.std.specs.Prelude.{◌≡◌, ◌∷◌, ◌≤◌, [], Err, IfErr, IfOk, None, Ok, Some, if◌then◌else◌, map, option_map};
 ghost use Rattle.std.specs.List.{list_all};
-ghost use Rattle.gl_commands.specs.Words.{RefusesOnly, asked_node, asked_peers, asked_ticks, asked_turns, asked_workers, is_node, named_node, node_of, number_within};
+ghost use Rattle.gl_commands.specs.Words.{RefusesOnly, asked_node, asked_peers, asked_ticks, asked_turns, asked_workers, is_node, node_of, number_within};
 
+use crate::digest_word::spelled_digest;
 use crate::task::{NodeTask, WordsFault};
 use crate::words::number_in;
 use clap::error::ErrorKind;
 use gl_base::Sequence;
-use gl_lines::is_lower_hex;
 use gl_requests::NodeId;
-use hex::FromHex;
 use std::alloc::{AllocError, Global};
 
 /// So many ticks without word of a leader, where no word says it.
@@ -88,16 +87,6 @@ fn asked_turns(word: Option<&str>) -> Result<u64, ErrorKind>
     number_within(u64::MAX, span, word)
 }
 
-/// The node's identifier that a word spells.
-fn named_node(word: &str) -> Option<NodeId>
-    ensures { result ≡ named_node word.now }
-{
-    if !is_lower_hex(word.as_bytes()) {
-        return None;
-    }
-    <NodeId as FromHex>::from_hex(word).ok()
-}
-
 /// The identifiers that words spell, if each spells one.
 fn named_nodes(alloc: Global, words: &[&str]) -> Result<Option<Vec<NodeId>>, AllocError>
     ensures { IfOk result (λ found. option_map (λ v. v.items) found
@@ -106,7 +95,7 @@ fn named_nodes(alloc: Global, words: &[&str]) -> Result<Option<Vec<NodeId>>, All
 {
     let mut nodes = Vec::new(alloc);
     for word in words {
-        match named_node(word) {
+        match spelled_digest(word) {
             Some(node) => nodes.push(node)?,
             None => return Ok(None),
         }

@@ -13,7 +13,7 @@ ghost use Rattle.gl_lines.specs.Words.{hex_sized};
 ghost use Rattle.gl_commands.specs.Commands.{program};
 ghost use Rattle.gl_commands.specs.declared.task.Asked.TheVariants as asks;
 ghost use Rattle.gl_commands.specs.declared.task.NodeTask.{NodeTask as NodeTasks};
-ghost use Rattle.gl_commands.specs.Words.{RefusesOnly, RefusesWords, asked, asked_by_load, asked_by_node, asked_command, asked_deal, asked_identity, asked_keygen, asked_member, asked_name, asked_named, asked_number, asked_numbers, asked_options, asked_sign, asked_task, asked_with_identity, asked_with_words, is_member, is_number, named_kind, named_types, plain_task, spelled_hex, spelled_member, task_under};
+ghost use Rattle.gl_commands.specs.Words.{RefusesOnly, RefusesWords, asked, asked_by_load, asked_by_node, asked_command, asked_deal, asked_identity, asked_keygen, asked_member, asked_name, asked_named, asked_number, asked_numbers, asked_options, asked_sign, asked_task, asked_with_identity, asked_with_words, is_member, is_number, named_kind, named_types, plain_task, spelled_key, spelled_member, task_under};
 
 use crate::commands::program;
 use crate::load_words::asked_load;
@@ -32,8 +32,8 @@ use std::alloc::{AllocError, Global};
 
 /// The key that a word spells.
 fn spelled_key(word: &str) -> Result<HssPublicKey, ErrorKind>
-    ensures found { IfOk result (λ key. spelled_hex (hex_sized word.now 60) ≡ Ok key) }
-    ensures refused { IfErr result (λ kind. spelled_hex (hex_sized word.now 60) ≡ Err (kind ∷ [])) }
+    ensures found { IfOk result (λ key. spelled_key (hex_sized word.now 60) ≡ Ok key) }
+    ensures refused { IfErr result (λ kind. spelled_key (hex_sized word.now 60) ≡ Err (kind ∷ [])) }
 {
     if !is_lower_hex(word.as_bytes()) {
         return Err(ErrorKind::ValueValidation);

@@ -23,6 +23,3 @@ pub use gated::Gated;
 pub use journal::Journal;
 pub use key::{Key, KeyKind};
 pub use record::{Record, batch_len};
-
-#[cfg(test)]
-mod tests;

@@ -19,6 +19,3 @@ pub use numbers::is_decimal;
 pub use reading::{read_first_line, read_lines};
 pub use split::line_count;
 pub use world::WorldLine;
-
-#[cfg(test)]
-mod tests;

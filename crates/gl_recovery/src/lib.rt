@@ -22,6 +22,3 @@ pub use opening::is_first_key;
 pub use recovering::recover;
 pub use recovering_fault::RecoveringFault;
 pub use starting::start;
-
-#[cfg(test)]
-mod tests;

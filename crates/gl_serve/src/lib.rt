@@ -13,6 +13,3 @@ mod working;
 pub use node::{Outcome, OwnEvent, ServedNode};
 pub use service::{law_of_stops, law_of_whole_streams, serve};
 pub use settings::{ServeEnd, Serving};
-
-#[cfg(test)]
-mod tests;

@@ -17,6 +17,3 @@ pub use overlay::Overlay;
 pub use performed::{Performed, bar_on, perform};
 pub use request::{Answer, Operation, Reply, Request};
 pub use runs::{Ran, run};
-
-#[cfg(test)]
-mod tests;

@@ -17,6 +17,3 @@ pub use row::{Row, Rows};
 pub use table::Version;
 pub use tables::Tables;
 pub use write::{Write, Writes};
-
-#[cfg(test)]
-mod tests;

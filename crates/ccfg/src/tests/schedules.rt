@@ -230,22 +230,59 @@ fn refuses_what_is_too_large(rt: HostRuntime) -> Result<(), Fail> {
 
 #[test]
 fn refuses_a_first_line_that_begins_no_service(rt: HostRuntime) -> Result<(), Fail> {
-    let (status, written) = run(rt.alloc(), &["replay"], b"word\n")?;
-    assert_eq!(rt; status, 9);
-    assert_eq!(rt; written.as_slice(), b"fault line 1\n".as_slice());
+    let alloc = rt.alloc();
+    let rows: [&[u8]; 11] = [
+        b"1 0 0 open",
+        b"1 0 65 open",
+        b"1 0 064 open",
+        b"1 0 1 closed",
+        b"1 0 1",
+        b"1 0 1  open",
+        b"0 0 1 open",
+        b"10 0 1 open",
+        b"1 10 1 open",
+        b"01 0 1 open",
+        b"",
+    ];
+    for settings in rows {
+        let text = schedule(alloc, settings, b"")?;
+        let (status, written) = run(alloc, &["replay"], &text)?;
+        assert_eq!(rt; status, 9, "of {text:?}");
+        assert_eq!(rt; written.as_slice(), b"fault line 1\n".as_slice());
+    }
     Ok(())
 }
 
 #[test]
 fn refuses_what_is_no_schedule(rt: HostRuntime) -> Result<(), Fail> {
     let alloc = rt.alloc();
-    let rows: [(&[u8], usize); 6] = [
+    let rows: [(&[u8], usize); 26] = [
         (b"\n", 2),
         (b"sign 1", 2),
         (b"sign 1\nsign 1 1\nsign\n", 3),
+        (b" sign 1\n", 2),
+        (b"sign 1 \n", 2),
+        (b"sign  1\n", 2),
+        (b"sign 01\n", 2),
+        (b"sign 340282366920938463463374607431768211456\n", 2),
+        (b"Sign 1\n", 2),
         (b"status 1 02.3\n", 2),
+        (b"status 1 2.0\n", 2),
+        (b"deliver\n", 2),
+        (b"stepdown 1\n", 2),
+        (b"join 1 04\n", 2),
+        (b"submit 1\n", 2),
         (b"submit 1 put public:t 61\n", 2),
+        (b"submit 1 put public:t 61 -\n", 2),
         (b"submit 1 put public:t 61 01 ;\n", 2),
+        (b"submit 1 get public:t 6\n", 2),
+        (b"submit 1 get public:t 6B\n", 2),
+        (b"submit 1 add public:t 61 18446744073709551616\n", 2),
+        (b"ack 1 2 3\n", 2),
+        (b"ballot 1 2 3 maybe\n", 2),
+        (b"withdraw 1 2 03\n", 2),
+        (b"again 1 017\n", 2),
+        (b"propose 1 2 {\"actions\":[]}\n", 2),
     ];
     for (lines, number) in rows {
         let text = schedule(alloc, b"1 0 1 open", lines)?;

@@ -1,6 +1,6 @@
 use Rattle.std.proofs.Common.{◌≤◌, ◌+◌, ◌-◌, vec_len}
 use Rattle.std.specs.Io.KnownBytes.{Consumes}
-use Rattle.ccfg.proofs.load.load.Given as goal
+use Rattle.ccfg.proofs.source_bytes.read_whole.Given as goal
 
 -- the text so far is what the source has given
 abbrev pub invariant-loop-buffer : goal.invariant-loop-buffer

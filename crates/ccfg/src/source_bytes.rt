@@ -1,0 +1,55 @@
+//! The bytes of a source, read whole.
+
+ghost use Rattle.std.specs.Prelude.{◌≡◌, ◌≤◌, ◌<◌, ◌^◌, length, true, Err, IfOk, IfSome, OnOk};
+ghost use Rattle.gl_outside.specs.Fault.{Rose};
+ghost use Rattle.gl_ledger_file.specs.Given.{OfBytes};
+
+use gl_outside::{Got, Source};
+use std::alloc::Global;
+
+/// The most bytes that JSON has.
+pub const JSON_LIMIT: usize = 1_048_576;
+
+/// Why a source was not read whole.
+#[derive(Clone, Copy, Debug, PartialEq, Eq)]
+pub enum ReadStop {
+    Memory,
+    /// The source failed.
+    Failed,
+    /// The source has more bytes than the limit.
+    TooLong,
+}
+
+/// Reads a source to its end, if that comes within so many bytes.
+pub fn read_whole<S: Source>(
+    alloc: Global,
+    limit: usize,
+    source: &mut S,
+) -> Result<Vec<u8>, ReadStop>
+    requires { limit < 2 ^ 62 }
+    ensures whole { IfOk result (λ text. IfSome (S.left source.old) (λ given. text.items ≡ given)) }
+    ensures ended { OnOk result (S.ended source.new ≡ true) }
+    ensures within { IfOk result (λ text. length text.items ≤ limit) }
+    ensures long { result ≡ Err ReadStop.TooLong →
+        OfBytes (S.left source.old) (λ given. limit < length given) }
+    ensures failed { result ≡ Err ReadStop.Failed →
+        Rose (S.faults source.old) (S.faults source.new) }
+    ensures never_falls { S.faults source.old ≤ S.faults source.new }
+{
+    let mut text = Vec::new(alloc);
+    let mut buffer = [0; 65536];
+    while text.len() <= limit {
+        match source.read(&mut buffer) {
+            Got::Bytes(0) | Got::End => return Ok(text),
+            Got::Bytes(count) => {
+                let (front, _) = buffer.split_at(count);
+                match text.extend_from_slice(front) {
+                    Ok(()) => {}
+                    Err(_) => return Err(ReadStop::Memory),
+                }
+            }
+            Got::Failed => return Err(ReadStop::Failed),
+        }
+    }
+    Err(ReadStop::TooLong)
+}

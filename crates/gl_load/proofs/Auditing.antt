@@ -9,24 +9,17 @@ use Rattle.std.proofs.lemmas.Option.{slice_get_read}
 use Rattle.gl_base.specs.LittleEndian.{little_endian}
 use Rattle.gl_base.specs.declared.tx_id.TxId.{TxId}
 use Rattle.gl_base.proofs.LittleEndianLaws.{length-little_endian}
-use Rattle.gl_merkle.specs.Frontier.{HasLeaves, IsBase}
-use Rattle.gl_merkle.specs.Frontier as frontiers
-use Rattle.gl_merkle.specs.Peaks.{peaks_of, peaks_within}
 use Rattle.gl_merkle.specs.Tree.{root_of}
-use Rattle.gl_vmaps.specs.Standing.{StandsFor}
 use Rattle.gl_vmaps.specs.Tables.{size_of}
-use Rattle.gl_vmaps.specs.Versions.{placed_at}
 use Rattle.gl_entry.specs.Entry.{body_bytes, body_limit, frame_bytes, is_entry, is_signature}
-use Rattle.gl_entry.specs.Leaf.{id_of, leaf_of}
+use Rattle.gl_entry.specs.Leaf.{id_of}
 use Rattle.gl_entry.specs.declared.entry.Entry.{Entry}
 use Rattle.gl_ledger.specs.Audit.{audited}
 use Rattle.gl_ledger.specs.Broken.{broken}
 use Rattle.gl_ledger.specs.NodeKeys.{service_layers}
 use Rattle.gl_ledger.specs.Recordings.{last_entry}
-use Rattle.gl_ledger.specs.ServiceRow.{identity_in}
-use Rattle.gl_ledger.specs.Tree.{leaves_of, tables_of, writes_of}
+use Rattle.gl_ledger.specs.Tree.{leaves_of, tables_of}
 use Rattle.gl_ledger.proofs.Auditing.{audited_none}
-use Rattle.gl_ledger.proofs.TablesLaws.{length-leaves_of, leaves_of-push, tables_of-push, writes_of-push}
 use Rattle.gl_store.specs.Ends.{end_of}
 use Rattle.gl_store.specs.Kept.{IsStateOf}
 use Rattle.gl_store.specs.declared.ledger_end.LedgerEnd.{LedgerEnd}
@@ -36,10 +29,6 @@ use Rattle.gl_load.specs.Totals.{AreTotalsOf}
 use Rattle.gl_load.specs.declared.report.Report.{Report}
 use Rattle.gl_load.specs.declared.totals.Totals.{Totals}
 use Rattle.gl_load.proofs.Steps.{length-push, length-signatures}
-
-pub none_empty : (ledger : List Entry) (e : Entry) → ledger ++ e ∷ [] ≡ [] → ⊥
-none_empty [] e is = cc
-none_empty (f ∷ ledger) e is = cc
 
 -- ---- a frame
 
@@ -67,35 +56,18 @@ length-file ledger e =
 
 pub counted : (ledger : List Entry) (e : Entry) (old new : Totals) → AreTotalsOf ledger old → IsStateOf (ledger ++ e ∷ []) new.state →
     new.signatures ≡ old.signatures + (if is_signature e.content then 1 else 0) → new.bytes ≡ old.bytes + length (frame_bytes e) → length (frame_bytes e) ≤ 2 ^ 21 →
-    StandsFor new.tables (writes_of ledger ++ placed_at e.seqno e.writes) → new.tables.base ≡ old.tables.base →
-    HasLeaves old.tree new.tree (old.tree.leaves ++ leaf_of (identity_in (tables_of (ledger ++ e ∷ []))) e ∷ []) → AreTotalsOf (ledger ++ e ∷ []) new
-counted ledger e old new t state signs bytes small written from tree = record {
+    AreTotalsOf (ledger ++ e ∷ []) new
+counted ledger e old new t state signs bytes small = record {
   state = state;
   signatures = signs ∙ ap₂ (λ (a : ℕ) (b : ℕ). a + b) t.signatures (sym (one_signature e)) ∙ sym (length-signatures ledger e);
   few = few (is_signature e.content) signs;
   bytes = bytes ∙ ap (λ (k : ℕ). k + length (frame_bytes e)) t.bytes ∙ sym (length-file ledger e);
   small = let before = t.small in omega (arith, before, bytes, small, length-push ledger e);
-  tables = subst (StandsFor new.tables) (sym (writes_of-push ledger e)) written;
-  tables_from = from ∙ t.tables_from;
-  tree_from = tree.base ∙ t.tree_from;
-  tree_whole = tree.peaks ∙ t.tree_whole;
-  leaves = tree.leaves_are
-      ∙ ap₂ (λ (ls : List (List ℕ)) (l : List ℕ). ls ++ l ∷ []) t.leaves (ap (λ tables. leaf_of (identity_in tables) e) (tables_of-push ledger e))
-      ∙ sym (leaves_of-push ledger e);
 }
   where
     few : (b : Bool) → new.signatures ≡ old.signatures + (if b then 1 else 0) → new.signatures ≤ length (ledger ++ e ∷ [])
     few true is = let before = t.few in omega (arith, before, is, length-push ledger e)
     few false is = let before = t.few in omega (arith, before, is, length-push ledger e)
-
--- none of the leaves is below the base
-pub whole_base : (ledger : List Entry) (t : Totals) → AreTotalsOf ledger t → IsBase t.tree []
-unfolding peaks_of peaks_within
-whole_base ledger t at = record { count = sym at.tree_from; peaks = sym at.tree_whole }
-
--- there is a leaf for each entry
-pub counted_leaves : (ledger : List Entry) (t : Totals) → AreTotalsOf ledger t → 0 < length ledger → 0 < frontiers.count_of t.tree
-counted_leaves ledger t at some = let long : length t.tree.leaves ≡ length ledger = ap length at.leaves ∙ length-leaves_of ledger in omega (arith, long, some)
 
 -- ---- what they come to
 

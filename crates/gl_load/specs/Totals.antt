@@ -1,8 +1,6 @@
 -- What is counted of a ledger that is audited entry by entry.
-use Rattle.std.specs.Prelude.{◌≡◌, ◌≤◌, ◌*◌, ◌^◌, List, [], length}
-use Rattle.gl_vmaps.specs.Standing.{StandsFor}
+use Rattle.std.specs.Prelude.{◌≡◌, ◌≤◌, ◌*◌, ◌^◌, List, length}
 use Rattle.gl_entry.specs.declared.entry.Entry.{Entry}
-use Rattle.gl_ledger.specs.Tree.{leaves_of, writes_of}
 use Rattle.gl_store.specs.Kept.{IsStateOf}
 use Rattle.gl_load.specs.Report.{file_of, signatures_in}
 use Rattle.gl_load.specs.declared.totals.Totals.{Totals}
@@ -14,8 +12,3 @@ pub record AreTotalsOf (ledger : List Entry) (t : Totals) : Type 0 where
   pub few : t.signatures ≤ length ledger
   pub bytes : t.bytes ≡ length (file_of ledger)
   pub small : t.bytes ≤ length ledger * 2 ^ 21
-  pub tables : StandsFor t.tables (writes_of ledger)
-  pub tables_from : t.tables.base ≡ 0
-  pub tree_from : t.tree.base ≡ 0
-  pub tree_whole : t.tree.peaks ≡ []
-  pub leaves : t.tree.leaves ≡ leaves_of ledger

@@ -1,18 +1,11 @@
 //! The audit of a ledger, and what is counted of it on the way.
 
-ghost use Rattle.std.specs.Prelude.{◌≡◌, ◌+◌, ◌^◌, ◌∷◌, ◌++◌, ◌<◌, ◌≤◌, ℕ, List, [], None, true, length, All, IsTrue, IfOk, OnOk, if◌then◌else◌};
-ghost use Rattle.gl_merkle.specs.Frontier.{HasLeaves};
-ghost use Rattle.gl_vmaps.specs.Kept.{version_of};
-ghost use Rattle.gl_vmaps.specs.Standing.{StandsFor};
-ghost use Rattle.gl_vmaps.specs.Versions.{Placed, placed_at};
+ghost use Rattle.std.specs.Prelude.{◌≡◌, ◌+◌, ◌^◌, ◌∷◌, ◌++◌, ◌<◌, ◌≤◌, List, [], None, true, length, All, IsTrue, IfOk, OnOk, if◌then◌else◌};
 ghost use Rattle.gl_entry.specs.Entry.{frame_bytes, is_entry, is_signature};
-ghost use Rattle.gl_entry.specs.Leaf.{leaf_of};
 ghost use Rattle.gl_entry.specs.declared.entry.Entry.{Entry as Item};
 ghost use Rattle.gl_ledger.specs.Audit.{audited};
 ghost use Rattle.gl_ledger.specs.Broken.{broken};
 ghost use Rattle.gl_ledger.specs.NodeKeys.{service_layers};
-ghost use Rattle.gl_ledger.specs.ServiceRow.{identity_in};
-ghost use Rattle.gl_ledger.specs.Tree.{tables_of};
 ghost use Rattle.gl_store.specs.Kept.{ForLedgers, IsStateOf};
 ghost use Rattle.gl_load.specs.Report.{id_or_none, report_of};
 ghost use Rattle.gl_load.specs.Totals.{AreTotalsOf};
@@ -20,21 +13,17 @@ ghost use Rattle.gl_load.specs.Totals.{AreTotalsOf};
 use crate::report::Report;
 use crate::requests::LOAD_MAP;
 use gl_base::{OrNoMemory, TxId};
-use gl_entry::{Content, Entry, leaf};
-use gl_merkle::Frontier;
+use gl_entry::{Content, Entry};
 use gl_store::LedgerState;
-use gl_vmaps::Tables;
 use std::alloc::{AllocError, Global};
 
-/// What is counted of a ledger that is audited entry by entry: its signatures, the bytes of its
-/// frames, the tables that it makes, and the tree of its leaves.
+/// What is counted of a ledger that is audited entry by entry: its signatures, and the bytes of its
+/// frames.
 #[derive(Drop)]
 struct Totals {
     state: LedgerState,
     signatures: u64,
     bytes: u64,
-    tables: Tables,
-    tree: Frontier,
 }
 
 /// Tries an entry by the rules of the audit, behind those before it. Behind a signature the state
@@ -55,33 +44,6 @@ fn audit(state: &mut LedgerState, entry: &Entry) -> Result<(), AllocError>
     } else {
         Ok(())
     }
-}
-
-/// Adds the leaf of the last entry of a ledger, of which this is the state.
-#[tactic(auto, using(crate::proofs::Auditing::none_empty))]
-fn push_leaf(state: &LedgerState, tree: &mut Frontier, entry: &Entry) -> Result<(), AllocError>
-    requires { (ledger : List Item) × IsStateOf (ledger ++ entry.now ∷ []) state.now }
-    ensures { OnOk result ((ledger : List Item) → IsStateOf (ledger ++ entry.now ∷ []) state.now →
-        HasLeaves tree.old tree.new (tree.old.leaves
-        ++ leaf_of (identity_in (tables_of (ledger ++ entry.now ∷ []))) entry.now ∷ [])) }
-{
-    let Some(identity) = state.identity() else {
-        unreachable!();
-    };
-    tree.push(leaf(entry, identity))
-}
-
-/// Makes the writes of an entry, and keeps of each row the last version alone.
-fn write(tables: &mut Tables, entry: &Entry) -> Result<(), AllocError>
-    requires base { tables.old.base < entry.now.seqno }
-    requires above { (map key : List ℕ) → version_of tables.old map key < entry.now.seqno }
-    ensures written { OnOk result ((ps : List Placed) → StandsFor tables.old ps →
-        StandsFor tables.new (ps ++ placed_at entry.now.seqno entry.now.writes)) }
-    ensures base { OnOk result (tables.new.base ≡ tables.old.base) }
-{
-    tables.apply(entry.seqno, &entry.writes)?;
-    tables.compact(entry.seqno);
-    Ok(())
 }
 
 /// How many bytes the frame of an entry has.
@@ -123,8 +85,6 @@ impl Totals {
             state: LedgerState::new(alloc)?,
             signatures: 0,
             bytes: 0,
-            tables: Tables::new(alloc),
-            tree: Frontier::new(alloc)?,
         })
     }
 
@@ -137,8 +97,6 @@ impl Totals {
             AreTotalsOf (ledger ++ entry.now ∷ []) self.new) }
     {
         audit(&mut self.state, entry)?;
-        push_leaf(&self.state, &mut self.tree, entry)?;
-        write(&mut self.tables, entry)?;
         self.bytes += frame_len(entry);
         self.signatures += signature_count(entry);
         Ok(())
@@ -154,9 +112,9 @@ impl Totals {
             entries: end.len,
             signatures: self.signatures,
             bytes: self.bytes,
-            keys: self.tables.size(LOAD_MAP),
+            keys: self.state.tables().size(LOAD_MAP),
             last: id_or_none(end.last),
-            root: self.tree.root(),
+            root: self.state.root(),
         }
     }
 }

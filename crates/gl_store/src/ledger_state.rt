@@ -12,7 +12,7 @@ ghost use Rattle.gl_entry.specs.Leaf.{leaf_of};
 ghost use Rattle.gl_gov_rules.specs.Governed as governed;
 ghost use Rattle.gl_ledger.specs.Recordings.{recorded_in};
 ghost use Rattle.gl_ledger.specs.ServiceRow.{state_of_byte, state_of_value, identity_of_value, service_state, identity_in};
-ghost use Rattle.gl_ledger.specs.Tree.{tables_of};
+ghost use Rattle.gl_ledger.specs.Tree.{tables_of, writes_of};
 ghost use Rattle.gl_ledger.specs.Broken.{broken};
 ghost use Rattle.gl_ledger.specs.NodeKeys.{service_layers};
 ghost use Rattle.gl_entry.specs.declared.entry.Entry.{Entry};
@@ -364,6 +364,13 @@ impl LedgerState {
         ensures { ForLedgers self.now (λ ledger. result ≡ end_of ledger) }
     {
         self.end
+    }
+
+    /// The tables that the entries' write sets make.
+    pub fn tables(&self) -> &Tables
+        ensures { ForLedgers self.now (λ ledger. StandsFor result.now (writes_of ledger)) }
+    {
+        &self.tables
     }
 
     /// The service's key, as the ledger has it. `None` where there is no entry.

@@ -377,7 +377,7 @@ impl LedgerState {
     }
 
     /// The root of the tree over all entries.
-    pub(crate) fn root(&self) -> Digest
+    pub fn root(&self) -> Digest
         requires state { IsState self.now }
         requires some { 0 < self.now.end.len }
         ensures { ForLedgers self.now (λ ledger. result ≡ root_of (leaves_of ledger)) }

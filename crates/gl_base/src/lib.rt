@@ -26,6 +26,3 @@ pub use put_row::{put_key, put_map_name, put_optional_value, put_value};
 pub use sequence::{Bytes, Sequence};
 pub use tx_id::{FIRST_VIEW, LAST_SEQNO, LAST_VIEW, Status, TxId, TxIdFault};
 pub use tx_status::status;
-
-#[cfg(test)]
-mod tests;

@@ -13,5 +13,3 @@ mod configuration;
 mod laws;
 mod node_set;
 mod stage;
-#[cfg(test)]
-mod tests;

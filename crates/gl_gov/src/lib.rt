@@ -9,6 +9,4 @@ mod effect;
 mod put;
 mod rows;
 mod state;
-#[cfg(test)]
-mod tests;
 mod touched;

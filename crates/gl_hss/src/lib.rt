@@ -18,6 +18,3 @@ pub use gl_lms::{LMS_KEY_LEN, LmsKey, MAX_LEAF_COUNT, MAX_LMS_SIGNATURE_LEN, Typ
 pub use levels::{HSS_KEY_LEN, HssPublic, Levels, hss_key};
 pub use signer::{HssSigner, KeyExhausted, SignFault};
 pub use verdict::{MAX_HSS_SIGNATURE_LEN, last_key, leaf_of, verify, verify_below};
-
-#[cfg(test)]
-mod tests;

@@ -17,6 +17,3 @@ pub use key::{LmsKey, identifier_of};
 pub use lms::{LmsPublicKey, LmsSignature, key_fields, signature_fields};
 pub use tree::root_candidate;
 pub use types::{LMS_KEY_LEN, MAX_LEAF_COUNT, MAX_LMS_SIGNATURE_LEN, Types};
-
-#[cfg(test)]
-mod tests;

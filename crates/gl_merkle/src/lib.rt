@@ -13,8 +13,6 @@ pub use tree::{Step, climb, path, root};
 mod frontier;
 mod laws;
 mod levels;
-#[cfg(test)]
-mod tests;
 mod tree;
 
 /// A SHA-256 digest: a leaf, an inner node or the root.

@@ -28,6 +28,3 @@ pub use source::{Got, Source};
 pub use stream::{StreamSink, StreamSource};
 pub use sure_disk::{Call, SureDisk};
 pub use tear::Tear;
-
-#[cfg(test)]
-mod tests;

@@ -15,5 +15,3 @@ mod field;
 mod joining;
 mod laws;
 mod share;
-#[cfg(test)]
-mod tests;

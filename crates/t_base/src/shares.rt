@@ -1,6 +1,6 @@
 //! The field, dealing and joining against values from outside.
 
-use crate::{Share, deal, gf_inv, gf_mul, join};
+use gl_shares::{Share, deal, gf_inv, gf_mul, join};
 use std::process::Abort;
 use std::test::Fail;
 

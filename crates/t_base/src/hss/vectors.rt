@@ -1,7 +1,7 @@
 //! Keys, messages and signatures of Bouncy Castle 1.72, in hexadecimal. It accepted each of them, and
 //! refused each of two levels once the bit of `refused` was changed.
 
-use crate::Types;
+use gl_hss::Types;
 
 // A signature that is valid.
 #[derive(Clone, Copy)]

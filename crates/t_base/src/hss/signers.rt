@@ -1,7 +1,8 @@
 //! The worked rows of signers and lengths.
 
-use crate::*;
-use std::alloc::AllocError;
+use gl_hss::{
+    HssFault, HssPublic, HssSigner, KeyExhausted, Levels, LmsKey, SignFault, Types, leaf_of, verify,
+};
 use std::test::Fail;
 
 #[test]

@@ -1,6 +1,12 @@
+//! Sources, sinks, disks, links and gates, over memory and over streams.
+
 ghost use Rattle.std.specs.Prelude.{◌≤◌, IfOk};
 
-use super::*;
+use gl_outside::{
+    Came, Disk, DiskFailed, Gate, Given, Got, Link, MemDisk, MemLink, MemSink, MemSource, NoDisk,
+    OpenGate, Put, Sink, SinkFault, Source, StreamSink, StreamSource, SureDisk, SureLink, SureSink,
+    SureSource, Tear, write_whole,
+};
 use std::alloc::Global;
 use std::io::{ErrorKind, Read, Write};
 use std::sync::{Mutex, Wait};

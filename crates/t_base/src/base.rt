@@ -1,4 +1,10 @@
-use super::*;
+//! Identifiers, their status, and the fields of formats.
+
+use gl_base::{
+    Bytes, CodeFault, Cut, CutFault, FormsFault, OrNoMemory, Pointer, Status, TxId, TxIdFault,
+    put_bytes, put_field, put_flag, put_key, put_map_name, put_optional_value, put_u8, put_u16,
+    put_u32, put_u48, put_u64, put_value, same_bytes, status,
+};
 use std::test::*;
 
 #[test]

@@ -1,49 +1,21 @@
+//! Signatures of another implementation, each valid, and changed in one bit.
+
 ghost use Rattle.std.specs.Prelude.{◌<◌};
 
-use crate::tests::vectors::{
+use crate::hexadecimal::{array_of, bytes_of};
+use crate::hss::vectors::{
     Vector, vector_0, vector_1, vector_2, vector_3, vector_4, vector_5, vector_6, vector_7,
     vector_8, vector_9, vector_10, vector_11, vector_12,
 };
-use crate::*;
-use std::alloc::{AllocError, Global};
+use gl_hss::{
+    EndorsedKey, HssFault, Types, last_key, leaf_of, verify, verify_below, verify_endorsement,
+};
+use std::alloc::Global;
 use std::process::Abort;
 use std::test::Fail;
 
 mod signers;
 mod vectors;
-
-// ---- bytes from hexadecimal
-
-fn digit(c: u8) -> u8 {
-    match c {
-        b'0'..=b'9' => c - b'0',
-        b'a'..=b'f' => c - b'a' + 10,
-        _ => 0,
-    }
-}
-
-fn bytes_of(alloc: Global, text: &str) -> Result<Vec<u8>, AllocError> {
-    let mut out = Vec::new(alloc);
-    for pair in text.as_bytes().chunks(2) {
-        if let [high, low] = pair {
-            out.push(digit(*high).wrapping_mul(16) | digit(*low))?;
-        }
-    }
-    Ok(out)
-}
-
-fn array_of<const N: usize>(
-    rt: &(impl Abort + Alloc<A = Global>),
-    text: &str,
-) -> Result<[u8; N], Fail> {
-    let bytes = bytes_of(rt.alloc(), text)?;
-    let Some(array) = bytes.first_chunk::<N>() else {
-        panic!(rt; "too few digits");
-    };
-    Ok(*array)
-}
-
-// ---- signatures of another implementation
 
 #[derive(Drop)]
 struct Case {

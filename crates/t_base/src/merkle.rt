@@ -3,7 +3,7 @@
 ghost use Rattle.std.specs.Prelude.{◌≡◌, ◌+◌, ◌<◌, ◌≤◌, length, IfOk};
 ghost use Rattle.gl_merkle.specs.Frontier.{count_of};
 
-use crate::{Digest, Frontier, Step, climb, path, root};
+use gl_merkle::{Digest, Frontier, Step, climb, path, root};
 use sha2::{Digest as _, Sha256};
 use std::alloc::{AllocError, Global};
 use std::process::Abort;
@@ -192,16 +192,16 @@ fn peaks_written_out(rt: HostRuntime) -> Result<(), Fail> {
     Ok(())
 }
 
-// Every size to 70, every index, and every base below the size.
+// Every size to 20, every index, and every base below the size.
 #[test]
 fn frontier_agrees_with_plain(rt: HostRuntime) -> Result<(), Fail> {
     let alloc = rt.alloc();
-    let leaves = leaves(alloc, 70)?;
+    let leaves = leaves(alloc, 20)?;
     let whole = frontier_of(alloc, &leaves)?;
-    for base in 0..71 {
+    for base in 0..21 {
         let mut frontier = over_base(alloc, &whole, base)?;
         agrees(&rt, alloc, &frontier, &leaves[..base], base)?;
-        for size in base..70 {
+        for size in base..20 {
             frontier.push(leaves[size])?;
             agrees(&rt, alloc, &frontier, &leaves[..size + 1], base)?;
         }
@@ -213,14 +213,14 @@ fn frontier_agrees_with_plain(rt: HostRuntime) -> Result<(), Fail> {
 #[test]
 fn cuts_agree_with_plain(rt: HostRuntime) -> Result<(), Fail> {
     let alloc = rt.alloc();
-    let mut leaves = leaves(alloc, 70)?;
+    let mut leaves = leaves(alloc, 20)?;
     let whole = frontier_of(alloc, &leaves)?;
-    for to in 0..71 {
+    for to in 0..21 {
         let mut frontier = whole.copy()?;
         frontier.cut(to as u64);
         agrees(&rt, alloc, &frontier, &leaves[..to], 0)?;
         frontier.push(leaf(255))?;
-        if to < 70 {
+        if to < 20 {
             let kept = leaves[to];
             leaves[to] = leaf(255);
             agrees(&rt, alloc, &frontier, &leaves[..to + 1], 0)?;

@@ -1,6 +1,6 @@
 //! Majorities, active configurations and stages of retirement, as tables.
 
-use crate::{Active, Configuration, NodeId, NodeSet, Stage, are_distinct, majority};
+use gl_config::{Active, Configuration, NodeId, NodeSet, Stage, are_distinct, majority};
 use std::alloc::{AllocError, Global};
 use std::process::Abort;
 use std::test::Fail;

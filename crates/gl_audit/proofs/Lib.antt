@@ -1,2 +1,17 @@
+pub mod GovStates
+pub mod Ends
+pub mod TablesLaws
+pub mod SignatureSeqnos
+pub mod LastEntries
+pub mod Beginnings
+pub mod Cutting
+pub mod Nodes
+pub mod Keeping
+pub mod RuleTests
+pub mod InForce
+pub mod Spellings
+pub mod Hashed
+pub mod Binding
+pub mod OfService
 pub mod Steps
 pub mod Verdicts

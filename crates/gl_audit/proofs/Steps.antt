@@ -18,9 +18,9 @@ use Rattle.gl_ledger_file.specs.Reading.{Consumes, IsNext}
 use Rattle.gl_ledger_file.specs.declared.next.Next.{Next}
 use Rattle.gl_ledger_file.specs.declared.next.Next.TheVariants as nexts
 use Rattle.gl_ledger_file.proofs.Reading.{consumes_none, consumes_then, of_all, of_consumed, of_map}
-use Rattle.gl_store.specs.Kept.{ForLedgers, IsStateOf}
-use Rattle.gl_store.specs.declared.ledger_end.LedgerEnd.{LedgerEnd}
-use Rattle.gl_store.specs.declared.ledger_state.LedgerState.{LedgerState}
+use Rattle.gl_audit.specs.Kept.{ForLedgers, IsStateOf}
+use Rattle.gl_audit.specs.declared.ledger_end.LedgerEnd.{LedgerEnd}
+use Rattle.gl_audit.specs.declared.ledger_state.LedgerState.{LedgerState}
 use Rattle.gl_audit.specs.Taking.{AreTaken, Ends, EndsAt, IsTaken, Takes}
 use Rattle.gl_audit.specs.declared.ledger_audit.Stop.{Stop}
 use Rattle.gl_audit.specs.declared.ledger_audit.Stop.TheVariants as stops

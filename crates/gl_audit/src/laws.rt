@@ -12,7 +12,7 @@ ghost use Rattle.gl_ledger_file.specs.LedgerFile.{ledger_file};
 ghost use Rattle.gl_receipt.specs.Law.{AreSized};
 ghost use Rattle.gl_receipt.specs.Receipt.{root_of, IsEvidence};
 ghost use Rattle.gl_receipt.specs.declared.components.Receipt.{Receipt};
-ghost use Rattle.gl_store.specs.Binding.{IsBound};
+ghost use Rattle.gl_audit.specs.Binding.{IsBound};
 ghost use Rattle.gl_audit.specs.Verdict.{verdict, IsValidLedger, IsLedgerOf, IsForeignTo, IsFaulty};
 ghost use Rattle.gl_audit.specs.declared.verdict.Verdict.TheVariants as verdicts;
 

@@ -7,17 +7,17 @@ ghost use Rattle.gl_ledger.specs.Recordings.{last_entry};
 ghost use Rattle.gl_ledger_file.specs.Given.{OfBytes};
 ghost use Rattle.gl_ledger_file.specs.LedgerFile.{LedgerFile};
 ghost use Rattle.gl_ledger_file.specs.declared.next.ReadFault.{ReadFault as ReadFaults};
-ghost use Rattle.gl_store.specs.Kept.{ForLedgers, IsState, IsStateOf};
+ghost use Rattle.gl_audit.specs.Kept.{ForLedgers, IsState, IsStateOf};
 ghost use Rattle.gl_audit.specs.Taking.{Ends, EndsAt, Takes};
 ghost use Rattle.gl_audit.specs.Verdict.{EndsWith, judged, verdict, verdict_of};
 
+use crate::ledger_state::LedgerState;
 use crate::verdict::Verdict;
 use gl_base::OrNoMemory;
 use gl_entry::{Content, Entry, ReadBuffer};
 use gl_ledger_file::{Next, ReadFault, read_next};
 use gl_outside::Source;
 use gl_requests::HssPublicKey;
-use gl_store::LedgerState;
 use std::alloc::{AllocError, Global};
 
 /// How the entries of a file end.

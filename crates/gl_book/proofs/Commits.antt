@@ -14,7 +14,7 @@ use Rattle.gl_ledger.specs.Broken.{commit_behind, commit_from, last_commit, last
 use Rattle.gl_ledger.specs.Audit.{audited}
 use Rattle.gl_ledger.proofs.Auditing.{audited_none}
 use Rattle.gl_ledger.proofs.Commits.{commits_kept}
-use Rattle.gl_store.proofs.Keeping.{next_seqno}
+use Rattle.gl_audit.proofs.Keeping.{next_seqno}
 
 abbrev book : NodeKeys → ServiceBook
 book keys = ledger_book service_layers keys

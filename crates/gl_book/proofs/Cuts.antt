@@ -21,7 +21,7 @@ use Rattle.gl_ledger.specs.LedgerBook.{ServiceBook, ledger_book}
 use Rattle.gl_ledger.specs.Recordings.{requests_of, recorded_nodes}
 use Rattle.gl_ledger.specs.Sound.{IsSound}
 use Rattle.gl_ledger.proofs.Governed.{governed}
-use Rattle.gl_store.proofs.Cutting.{requests_of-take}
+use Rattle.gl_audit.proofs.Cutting.{requests_of-take}
 use Rattle.gl_book.specs.Lists.{AreConfigurationsOf, AreListsOf}
 use Rattle.gl_book.specs.declared.node_lists.NodeLists.{NodeLists}
 use Rattle.gl_book.proofs.Actives.{all_upto}

@@ -30,7 +30,7 @@ use Rattle.gl_ledger.specs.Sound.{IsSound}
 use Rattle.gl_config.specs.NodeSet.{are_distinct}
 use Rattle.gl_book.specs.Lists.{AreConfigurationsOf, AreListsOf, IsListed, nodes_in, last_nodes}
 use Rattle.gl_book.specs.Taken.{IsNoGovernance}
-use Rattle.gl_store.specs.Kept.{Held}
+use Rattle.gl_audit.specs.Committed.{Held}
 use Rattle.gl_book.specs.declared.node_lists.NodeLists.{NodeLists}
 use Rattle.gl_book.proofs.AnyKeys.{any_keys}
 use Rattle.gl_book.proofs.TrustedSets.{trusted_distinct}

@@ -24,7 +24,7 @@ use Rattle.gl_ledger.specs.declared.breach.Broken.{Broken}
 use Rattle.gl_ledger.proofs.Auditing.{audited_none, audited_some}
 use Rattle.gl_ledger_file.specs.LedgerFile.{LedgerFile, ledger_file, with_entry, with_entries}
 use Rattle.gl_ledger_file.proofs.FileLaws.{file_end, file_unread, file_frames}
-use Rattle.gl_store.specs.Calls.{Breaks}
+use Rattle.gl_audit.specs.Kept.{Breaks}
 use Rattle.gl_ledger.proofs.Valid.{valid_sound}
 use Rattle.gl_book.proofs.FrameLaws.{AllFit}
 use Rattle.gl_book.specs.ServiceStart.{TakesFrame, service_start, start_by, fault_or_next, start_unless, start_of_file, start_in, start_behind}

@@ -29,7 +29,7 @@ use Rattle.gl_ledger.specs.declared.made.Given.{Given}
 use Rattle.gl_ledger.specs.declared.made.Reads.{Reads}
 use Rattle.gl_ledger.specs.declared.made.Unmade.{Unmade}
 use Rattle.gl_ledger.proofs.Valid.{valid-push}
-use Rattle.gl_store.proofs.Cutting.{audited-take}
+use Rattle.gl_audit.proofs.Cutting.{audited-take}
 use Rattle.gl_node.specs.Changes.{IsAsKept, IsTurned}
 use Rattle.gl_node.specs.Rules.{answer, rule_of}
 use Rattle.gl_node.specs.declared.event.Event.{Event}

@@ -7,7 +7,7 @@ use Rattle.gl_entry.specs.declared.entry.Entry.{Entry}
 use Rattle.gl_ledger.specs.NodeKeys.{NodeKeys, service_layers}
 use Rattle.gl_ledger.specs.LedgerBook.{ledger_book}
 use Rattle.gl_ledger.specs.Recordings.{recorded_nodes}
-use Rattle.gl_store.specs.Kept.{Held}
+use Rattle.gl_audit.specs.Committed.{Held}
 use Rattle.gl_book.specs.declared.node_lists.NodeLists.{NodeLists}
 
 -- These are the configurations of a ledger, whatever keys its nodes have.

@@ -4,7 +4,7 @@ ghost use Rattle.std.specs.Prelude.{◌≡◌, ◌<◌, ◌^◌, ◌-◌, ◌∷
 ghost use Rattle.gl_base.specs.Answers.{Fails};
 ghost use Rattle.gl_rules.specs.Replication.{checked_append};
 ghost use Rattle.gl_entry.specs.declared.entry.Entry as entries;
-ghost use Rattle.gl_store.specs.Calls.{Breaks};
+ghost use Rattle.gl_audit.specs.Kept.{Breaks};
 ghost use Rattle.gl_book.specs.Lists.{AreListsOf};
 
 use crate::node_lists::NodeLists;

@@ -6,7 +6,8 @@ ghost use Rattle.gl_entry.specs.declared.entry.Entry.{Entry};
 ghost use Rattle.gl_ledger.specs.declared.breach.Broken as breaches;
 ghost use Rattle.gl_ledger.specs.declared.made.Given as givens;
 ghost use Rattle.gl_ledger.specs.declared.made.Unmade as unmades;
-ghost use Rattle.gl_store.specs.Calls.{Breaks, Refuses};
+ghost use Rattle.gl_audit.specs.Kept.{Breaks};
+ghost use Rattle.gl_store.specs.Calls.{Refuses};
 ghost use Rattle.gl_book.specs.Taken.{RefusesFor};
 
 use gl_base::OrNoMemory;

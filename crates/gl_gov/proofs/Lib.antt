@@ -1,9 +1,8 @@
 mod Sizes
 mod Putting
 mod SetParts
-mod Selected
+pub mod Selected
 mod Untouched
-mod TouchedRows
+pub mod TouchedRows
 mod Numbers
 mod RowSizes
-mod States

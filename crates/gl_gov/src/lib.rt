@@ -1,12 +1,12 @@
-//! The state of a service's governance: its requests so far, and the rows that they come to.
+//! The rows of the tables of governance, and what a step changes of them.
 #![tactic(auto)]
 
-pub use effect::{GovernanceEffect, ShareCount};
-pub use state::{GovState, is_founding};
-
 mod between;
-mod effect;
 mod put;
 mod rows;
-mod state;
 mod touched;
+
+pub use between::changes;
+pub use put::selected_rows;
+pub use rows::{member_rows, node_rows, proposal_row, service_row, state_of};
+pub use touched::{Selection, Touched, proposal_named, touched_by};

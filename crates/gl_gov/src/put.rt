@@ -230,8 +230,12 @@ fn put_service_and_shares(
     Ok(())
 }
 
-/// The selected rows, ascending by map and key.
-pub fn rows(alloc: Global, past: &History, selection: &Selection) -> Result<Writes, AllocError>
+/// The selected rows of the governance tables, ascending by map and key.
+pub fn selected_rows(
+    alloc: Global,
+    past: &History,
+    selection: &Selection,
+) -> Result<Writes, AllocError>
     requires bounded { IsBounded past.now }
     ensures { IfOk result (λ writes. writes
         ≡ write_set (filter (is_selected selection.now) (all_rows past.now))) }

@@ -255,6 +255,7 @@ fn votes(alloc: Global, past: &History, id: &[u8; 32]) -> Result<Vec<Vote>, Allo
     Ok(votes)
 }
 
+/// A proposal's state.
 pub fn state_of(past: &History, proposal: &Proposal) -> ProposalState
     ensures { result ≡ proposal_state past.now proposal.now }
 {

@@ -20,9 +20,9 @@ use Rattle.gl_ledger.specs.NodeKeys.{service_layers}
 use Rattle.gl_ledger.specs.Recordings.{last_entry}
 use Rattle.gl_ledger.specs.Tree.{leaves_of, tables_of}
 use Rattle.gl_ledger.proofs.Auditing.{audited_none}
-use Rattle.gl_store.specs.Ends.{end_of}
-use Rattle.gl_store.specs.Kept.{IsStateOf}
-use Rattle.gl_store.specs.declared.ledger_end.LedgerEnd.{LedgerEnd}
+use Rattle.gl_audit.specs.Ends.{end_of}
+use Rattle.gl_audit.specs.Kept.{IsStateOf}
+use Rattle.gl_audit.specs.declared.ledger_end.LedgerEnd.{LedgerEnd}
 use Rattle.gl_load.specs.Report.{file_of, id_or_none, report_of, signatures_in}
 use Rattle.gl_load.specs.Requests.{load_map}
 use Rattle.gl_load.specs.Totals.{AreTotalsOf}

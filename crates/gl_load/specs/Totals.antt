@@ -1,7 +1,7 @@
 -- What is counted of a ledger that is audited entry by entry.
 use Rattle.std.specs.Prelude.{◌≡◌, ◌≤◌, ◌*◌, ◌^◌, List, length}
 use Rattle.gl_entry.specs.declared.entry.Entry.{Entry}
-use Rattle.gl_store.specs.Kept.{IsStateOf}
+use Rattle.gl_audit.specs.Kept.{IsStateOf}
 use Rattle.gl_load.specs.Report.{file_of, signatures_in}
 use Rattle.gl_load.specs.declared.totals.Totals.{Totals}
 

@@ -6,15 +6,15 @@ ghost use Rattle.gl_entry.specs.declared.entry.Entry.{Entry as Item};
 ghost use Rattle.gl_ledger.specs.Audit.{audited};
 ghost use Rattle.gl_ledger.specs.Broken.{broken};
 ghost use Rattle.gl_ledger.specs.NodeKeys.{service_layers};
-ghost use Rattle.gl_store.specs.Kept.{ForLedgers, IsStateOf};
+ghost use Rattle.gl_audit.specs.Kept.{ForLedgers, IsStateOf};
 ghost use Rattle.gl_load.specs.Report.{id_or_none, report_of};
 ghost use Rattle.gl_load.specs.Totals.{AreTotalsOf};
 
 use crate::report::Report;
 use crate::requests::LOAD_MAP;
+use gl_audit::LedgerState;
 use gl_base::{OrNoMemory, TxId};
 use gl_entry::{Content, Entry};
-use gl_store::LedgerState;
 use std::alloc::{AllocError, Global};
 
 /// What is counted of a ledger that is audited entry by entry: its signatures, and the bytes of its

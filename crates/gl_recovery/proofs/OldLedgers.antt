@@ -25,7 +25,7 @@ use Rattle.gl_ledger_file.specs.Reading.{Consumes, IsNext}
 use Rattle.gl_ledger_file.specs.declared.next.Next.{Next}
 use Rattle.gl_ledger_file.specs.declared.next.Next.TheVariants as nexts
 use Rattle.gl_ledger_file.proofs.Reading.{consumes_none, consumes_then, of_all, of_consumed, of_map}
-use Rattle.gl_store.specs.Kept.{Held}
+use Rattle.gl_audit.specs.Committed.{Held}
 use Rattle.gl_recovery.specs.Answers.{AnswersOn, FailsOn}
 use Rattle.gl_recovery.specs.OldLedger.{IsRefused, unless_broken, unless_empty, unless_unread, valid_ledger}
 use Rattle.gl_recovery.specs.declared.fault.RecoveryFault.{RecoveryFault}

@@ -50,7 +50,7 @@ use Rattle.gl_ledger.proofs.TablesLaws.{tables_of-push}
 use Rattle.gl_ledger.proofs.Valid.{valid-push, valid_sound}
 use Rattle.gl_ledger_file.specs.LedgerFile.{LedgerFile, ledger_file}
 use Rattle.gl_ledger_file.proofs.Spelled.{file_of_frames}
-use Rattle.gl_store.proofs.Cutting.{audited-take}
+use Rattle.gl_audit.proofs.Cutting.{audited-take}
 use Rattle.gl_recovery.specs.OldLedger.{has_room, signed_front, unless_broken, unless_empty, unless_unread, valid_ledger, with_signature}
 use Rattle.gl_recovery.specs.Owed.{IsFirstKey, first_endorsement, id_of, recovered_from, recovery_owed, refounded, reopening_signature, unless_refused}
 use Rattle.gl_recovery.specs.Refounded.{IsRefounded}

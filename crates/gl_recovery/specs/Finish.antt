@@ -4,8 +4,8 @@ use Rattle.gl_requests.specs.declared.genesis.ServiceState.{ServiceState}
 use Rattle.gl_requests.specs.declared.genesis.ServiceState.TheVariants as services
 use Rattle.gl_gov_rules.specs.History.{History}
 use Rattle.gl_gov_rules.specs.Service.{is_recovered, service_state}
-use Rattle.gl_gov.specs.State.{share_count}
-use Rattle.gl_gov.specs.declared.effect.ShareCount.{ShareCount}
+use Rattle.gl_audit.specs.GovState.{share_count}
+use Rattle.gl_audit.specs.declared.effect.ShareCount.{ShareCount}
 use Rattle.gl_recovery.specs.declared.finished.FinishFault.{FinishFault}
 use Rattle.gl_recovery.specs.declared.finished.FinishFault.TheVariants as faults
 

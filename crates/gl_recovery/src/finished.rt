@@ -4,7 +4,7 @@ ghost use Rattle.std.specs.Prelude.{◌≡◌};
 ghost use Rattle.gl_gov_rules.specs.Changes.{history};
 ghost use Rattle.gl_recovery.specs.Finish.{finished};
 
-use gl_gov::GovState;
+use gl_audit::GovState;
 use gl_requests::ServiceState;
 use thiserror::Error;
 

@@ -23,7 +23,7 @@ use Rattle.gl_requests.specs.declared.genesis.ServiceState.TheVariants.{Open}
 use Rattle.gl_ledger.specs.declared.refusal.Refusal.{Refusal}
 use Rattle.gl_ledger.specs.declared.refusal.Refusal.TheVariants as refusals
 use Rattle.gl_ledger.proofs.Applications.{request_made, request_refused}
-use Rattle.gl_store.specs.Kept.{Held}
+use Rattle.gl_audit.specs.Committed.{Held}
 use Rattle.gl_store.specs.Calls.{Executes, Signs, Refuses, signature_of}
 
 -- a store with that entry executed the request

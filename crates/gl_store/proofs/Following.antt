@@ -10,7 +10,7 @@ use Rattle.gl_ledger.specs.Signed.{IsSignedAt}
 use Rattle.gl_requests.specs.declared.request.GovernanceRequest.{GovernanceRequest}
 use Rattle.gl_ledger.proofs.Applications.{execute_ok, request_ok}
 use Rattle.gl_ledger.proofs.Following.{book_sign_ok, up_to-push, signature-last}
-use Rattle.gl_store.specs.Kept.{Held}
+use Rattle.gl_audit.specs.Committed.{Held}
 use Rattle.gl_store.specs.Calls.{Executes, Governs, Signs, signature_of}
 use Rattle.gl_store.proofs.Governing.{govern_ok}
 

@@ -22,7 +22,7 @@ use Rattle.gl_ledger.specs.Recordings.{requests_of}
 use Rattle.gl_ledger.specs.declared.refusal.Refusal.TheVariants as refusals
 use Rattle.gl_ledger.proofs.Gathering.{requests-more}
 use Rattle.gl_ledger.proofs.RequestSpellings.{request_in-read}
-use Rattle.gl_store.specs.Kept.{Held}
+use Rattle.gl_audit.specs.Committed.{Held}
 use Rattle.gl_store.specs.Calls.{Governs}
 
 -- the requests behind its entry

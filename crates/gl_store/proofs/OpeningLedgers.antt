@@ -14,7 +14,7 @@ use Rattle.gl_ledger.specs.Broken.{is_unopened}
 use Rattle.gl_ledger.specs.Sound.{IsSound}
 use Rattle.gl_ledger.specs.Audit.{LedgerFault, audited, fault_from, signer_in, signer_of, opened_where, opened_unless, opened}
 use Rattle.gl_store.specs.Kept.{Beside, IsKept}
-use Rattle.gl_store.proofs.LastEntries.{last_at}
+use Rattle.gl_audit.proofs.LastEntries.{last_at}
 
 -- entries of which one breaks a rule
 pub stopped : (entries : List Entry) (seqno : ℕ) (broken : Broken) → fault_from service_layers [] entries ≡ Some (record { seqno = seqno; broken = broken }) → opened service_layers entries ≡ Err seqno

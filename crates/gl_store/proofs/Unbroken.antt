@@ -34,7 +34,8 @@ use Rattle.gl_ledger.proofs.Opening.{founding_unbroken, opening_unbroken}
 use Rattle.gl_ledger.proofs.Openings.{identity_behind_genesis}
 use Rattle.gl_ledger.proofs.Making.{governed_unbroken}
 use Rattle.gl_ledger.proofs.Valid.{may_make_behind, request_unbroken, signature_unbroken}
-use Rattle.gl_store.specs.Kept.{Held, Beside, IsKept}
+use Rattle.gl_audit.specs.Committed.{Held}
+use Rattle.gl_store.specs.Kept.{Beside, IsKept}
 use Rattle.gl_store.specs.Calls.{SignsFor, signature_of}
 use Rattle.std.proofs.lemmas.Bool.{false≢true}
 use Rattle.gl_gov_rules.specs.declared.refusal.GovernanceRefusal.{GovernanceRefusal}

@@ -1,5 +1,5 @@
 -- What the calls of a store come to, in the words of the rules of consensus over a ledger's book.
-use Rattle.std.specs.Prelude.{◌≡◌, ℕ, ◌+◌, List, [], ◌∷◌, ◌++◌, Option, Some, Result, Ok, Err, length, take}
+use Rattle.std.specs.Prelude.{◌≡◌, ℕ, ◌+◌, List, [], ◌∷◌, ◌++◌, Option, Some, Result, Ok, Err, length}
 use Rattle.gl_base.specs.declared.or_no_memory.OrNoMemory.{OrNoMemory}
 use Rattle.gl_base.specs.declared.or_no_memory.OrNoMemory.TheVariants.{NoMemory, Fault}
 use Rattle.gl_base.specs.declared.tx_id.TxId.{TxId}
@@ -17,14 +17,11 @@ use Rattle.gl_ledger.specs.declared.made.Unmade.{Unmade}
 use Rattle.gl_ledger.specs.declared.made.Unmade.TheVariants.{ByStore}
 use Rattle.gl_ledger.specs.Makers.{governance_made, request_result, govern_result, by_store}
 use Rattle.gl_ledger.specs.declared.refusal.Refusal.{Refusal}
-use Rattle.gl_receipt.specs.Made.{Ledger}
-use Rattle.gl_ledger.specs.ServiceRow.{identity_in}
-use Rattle.gl_ledger.specs.Tree.{tables_of, leaves_of}
 use Rattle.gl_ledger.specs.NodeKeys.{service_layers}
 use Rattle.gl_ledger.specs.Audit.{LedgerFault, opened}
 use Rattle.gl_ledger.specs.declared.breach.Broken.{Broken}
 use Rattle.gl_store.specs.declared.not_opening.NotOpening.{NotOpening}
-use Rattle.gl_store.specs.Kept.{Held}
+use Rattle.gl_audit.specs.Committed.{Held}
 
 -- The node's log and its commit are what the store holds.
 pub record IsNodeOf (held : Held) (n : Node Entry) : Type 0 where
@@ -78,11 +75,6 @@ abbrev pub Refuses : {X : Type 0} → Result X Unmade → OrNoMemory Refusal →
 Refuses owed NoMemory = Unit {0}
 Refuses owed (Fault why) = owed ≡ Err (ByStore why)
 
--- An entry is refused for the first rule that it breaks.
-abbrev pub Breaks : Option Broken → OrNoMemory Broken → Type 0
-Breaks owed NoMemory = Unit {0}
-Breaks owed (Fault broken) = owed ≡ Some broken
-
 -- Entries are refused from the first on that breaks a rule, which has this seqno.
 abbrev pub StopsAt : ℕ → Option LedgerFault → OrNoMemory Broken → Type 0
 StopsAt seqno owed NoMemory = Unit {0}
@@ -98,12 +90,3 @@ pub record Opens (entries : List Entry) (held : Held) : Type 0 where
 abbrev pub IsNotOpened : List Entry → OrNoMemory NotOpening → Type 0
 IsNotOpened entries NoMemory = Unit {0}
 IsNotOpened entries (Fault fault) = opened service_layers entries ≡ Err fault.seqno
-
--- What a store holds, as receipts see it.
-abbrev pub receipts_of : Held → Ledger
-receipts_of held = record {
-  entries = held.ledger;
-  leaves = leaves_of held.ledger;
-  commit = held.commit;
-  identity = λ seqno. identity_in (tables_of (take seqno held.ledger));
-}

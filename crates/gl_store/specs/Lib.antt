@@ -1,5 +1,2 @@
-pub mod Ends
 pub mod Kept
 pub mod Calls
-pub mod Binding
-pub mod Known

@@ -3,17 +3,8 @@
 #![tactic(auto)]
 
 mod entries;
-mod known_nodes;
-mod laws;
-mod ledger_end;
-mod ledger_state;
 mod not_opening;
-mod removals;
-mod service_key;
 mod store;
 
-pub use laws::law_of_receipts_in_ledgers;
-pub use ledger_end::LedgerEnd;
-pub use ledger_state::LedgerState;
 pub use not_opening::NotOpening;
 pub use store::Store;

@@ -9,12 +9,10 @@ ghost use Rattle.gl_requests.specs.Ranges.{is_genesis};
 ghost use Rattle.gl_ledger.specs.Ledger.{genesis_entry};
 ghost use Rattle.gl_store.specs.Calls.{signature_of};
 
-use crate::ledger_end::{LedgerEnd, is_unopened};
-use crate::ledger_state::{LedgerState, count_up_to, seqno_at};
 use crate::not_opening::NotOpening;
+use gl_audit::{GovState, LedgerEnd, LedgerState, count_up_to, is_unopened, seqno_at};
 use gl_base::{FIRST_VIEW, OrNoMemory, Status, TxId, status};
 use gl_entry::{Content, Digest, Entry, NodeId};
-use gl_gov::GovState;
 use gl_hss::HssSigner;
 use gl_ledger::Broken;
 use gl_requests::{Genesis, GovernanceRequest, HssPublicKey};
@@ -41,7 +39,8 @@ pub struct Store {
 }
 
 impl Model for Store {
-    ghost use Rattle.gl_store.specs.Kept.{Held, IsKept};
+    ghost use Rattle.gl_audit.specs.Committed.{Held};
+    ghost use Rattle.gl_store.specs.Kept.{IsKept};
 
     ghost Value = { Held };
 
@@ -74,7 +73,8 @@ impl Store {
     ghost use Rattle.gl_ledger.specs.LedgerBook.{ledger_book};
     ghost use Rattle.gl_ledger.specs.Signed.{IsSignedUpTo};
     ghost use Rattle.gl_receipt.specs.Made.{signature_above};
-    ghost use Rattle.gl_store.specs.Calls.{SignsFor, IsNodeOf, Breaks, StopsAt, Opens, IsNotOpened};
+    ghost use Rattle.gl_audit.specs.Kept.{Breaks};
+    ghost use Rattle.gl_store.specs.Calls.{SignsFor, IsNodeOf, StopsAt, Opens, IsNotOpened};
 
     /// Of no entries.
     pub fn new(alloc: Global) -> Result<Self, AllocError>

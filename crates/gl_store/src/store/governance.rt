@@ -5,13 +5,13 @@ ghost use Rattle.gl_base.specs.TxId.{last_seqno};
 ghost use Rattle.gl_entry.specs.Entry.{is_entry, body_bytes, body_limit, content_bytes};
 ghost use Rattle.gl_requests.specs.Ranges.{is_genesis, is_request};
 ghost use Rattle.gl_gov_rules.specs.Governed.{is_founding, is_recovery};
-ghost use Rattle.gl_gov.specs.State as steps;
+ghost use Rattle.gl_audit.specs.GovState as steps;
 
 use super::Store;
 use crate::entries::{governance_entry, governance_limit_passed};
+use gl_audit::GovernanceEffect;
 use gl_base::{FIRST_VIEW, OrNoMemory, TxId};
 use gl_entry::Entry;
-use gl_gov::GovernanceEffect;
 use gl_gov_rules::GovernanceRefusal;
 use gl_ledger::Refusal;
 use gl_requests::{Genesis, GovernanceRequest};
@@ -23,7 +23,7 @@ impl Store {
     ghost use Rattle.gl_gov_rules.specs.Refusals.{refusal, genesis_refusal};
     ghost use Rattle.gl_gov_rules.specs.Rows.{effect_writes};
     ghost use Rattle.gl_gov_rules.specs.ProposalStatus.{proposal_status};
-    ghost use Rattle.gl_gov.specs.State.{share_count};
+    ghost use Rattle.gl_audit.specs.GovState.{share_count};
     ghost use Rattle.gl_ledger.specs.Ledger.{HasViewsUpTo, genesis_entry, governance_entry};
     ghost use Rattle.gl_ledger.specs.Recordings.{last_entry, requests_of};
     ghost use Rattle.gl_ledger.specs.Broken.{is_unopened};

@@ -1,8 +1,7 @@
 //! A store gives receipts of its committed transactions.
 
 use super::Store;
-use crate::ledger_state::{SERVICE_KEY, SERVICE_MAP};
-use crate::service_key::key_behind;
+use gl_audit::{SERVICE_KEY, SERVICE_MAP, key_behind};
 use gl_entry::Entry;
 use gl_merkle::Step;
 use gl_receipt::CommittedLedger;
@@ -13,7 +12,7 @@ impl Store {
     ghost use Rattle.std.specs.Prelude.{◌≡◌, ◌≤◌, IfNone, length, take};
     ghost use Rattle.gl_ledger.specs.ServiceRow.{identity_in};
     ghost use Rattle.gl_ledger.specs.Tree.{tables_of};
-    ghost use Rattle.gl_store.specs.Kept.{key_of};
+    ghost use Rattle.gl_audit.specs.Kept.{key_of};
 
     /// The service's key in force at a seqno: that of the present, where its row was last written up
     /// to there. There is none at 0.
@@ -30,7 +29,7 @@ impl Store {
 }
 
 impl CommittedLedger for Store {
-    ghost use Rattle.gl_store.specs.Calls.{receipts_of};
+    ghost use Rattle.gl_audit.specs.Committed.{receipts_of};
 
     ghost ledger = { receipts_of };
 

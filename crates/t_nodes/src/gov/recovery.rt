@@ -1,7 +1,7 @@
 //! A service that is founded anew, and the shares that its members give.
 
 use super::bench::{Act, Bench, bad, deal, expect, misdeal, refused, rows, secret, share};
-use gl_gov::ShareCount;
+use gl_audit::ShareCount;
 use gl_gov_rules::{Cause, GovernanceRefusal, MemberStatus, NodeStatus, ProposalState, Vote};
 use gl_requests::{Action, ServiceState};
 use sha2::{Digest, Sha256};

@@ -1,6 +1,6 @@
 use Rattle.std.proofs.Common.{◌≡◌, ◌≤◌, length, arith, ap}
 use Rattle.gl_base.specs.TxId.{last_seqno}
-use Rattle.gl_store.specs.declared.ledger_end.LedgerEnd.{LedgerEnd}
+use Rattle.gl_audit.specs.declared.ledger_end.LedgerEnd.{LedgerEnd}
 use Rattle.gl_audit.proofs.ledger_audit.next_seqno.Goals as goal
 
 pub returns : goal.returns

@@ -5,7 +5,7 @@ use Rattle.gl_entry.specs.declared.entry.Entry.{Entry}
 use Rattle.gl_hss.specs.Signer.{signature_size}
 use Rattle.gl_ledger.specs.Ledger.{genesis_entry}
 use Rattle.gl_ledger.specs.Tree.{leaves_of}
-use Rattle.gl_store.specs.Kept.{Held}
+use Rattle.gl_audit.specs.Committed.{Held}
 use Rattle.gl_consortium.specs.Owed.{first_endorsement}
 use Rattle.gl_consortium.proofs.Openings.{genesis_small, opening_small, opening_told}
 use Rattle.gl_consortium.proofs.opening.opening_bytes.Goals as goal

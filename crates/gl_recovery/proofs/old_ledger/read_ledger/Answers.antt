@@ -1,5 +1,5 @@
 use Rattle.std.proofs.Common.{◌≡◌, ℕ, ap, ◌∙◌, sym, subst, arith, Err}
-use Rattle.gl_store.specs.Kept.{Held}
+use Rattle.gl_audit.specs.Committed.{Held}
 use Rattle.gl_ledger_file.specs.Given.{OfBytes}
 use Rattle.gl_ledger_file.specs.LedgerFile.{ledger_file}
 use Rattle.gl_recovery.specs.OldLedger.{valid_ledger}

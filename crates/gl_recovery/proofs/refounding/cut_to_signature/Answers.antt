@@ -2,7 +2,7 @@ use Rattle.std.proofs.Common.{◌≡◌, ℕ, List, take, arith, ap, ◌∙◌}
 use Rattle.gl_entry.specs.declared.entry.Entry.{Entry}
 use Rattle.gl_ledger.specs.Broken.{last_signed, signs_at}
 use Rattle.gl_ledger.specs.Recordings.{last_entry}
-use Rattle.gl_store.specs.Kept.{Held}
+use Rattle.gl_audit.specs.Committed.{Held}
 use Rattle.gl_recovery.proofs.SignedFronts.{front_signed, last_within}
 use Rattle.gl_recovery.proofs.refounding.cut_to_signature.Goals as goal
 

@@ -1,7 +1,7 @@
 use Rattle.std.proofs.Common.{◌≡◌, List, None, max, ap, subst, ◌∙◌}
 use Rattle.gl_entry.specs.declared.entry.Entry.{Entry}
 use Rattle.gl_ledger.specs.NodeKeys.{service_layers}
-use Rattle.gl_store.specs.Kept.{Held}
+use Rattle.gl_audit.specs.Committed.{Held}
 use Rattle.gl_book.specs.Stands.{NodeStore}
 use Rattle.gl_book.proofs.Telling.{tells}
 use Rattle.gl_rules.specs.Log.{greatest_recorded}

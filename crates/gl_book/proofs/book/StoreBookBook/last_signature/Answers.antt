@@ -1,7 +1,7 @@
 use Rattle.std.proofs.Common.{◌≡◌, ℕ, sym, ap, ap₂, ◌∙◌, arith}
 use Rattle.gl_ledger.specs.NodeKeys.{service_layers}
 use Rattle.gl_ledger.specs.LedgerBook.{ledger_book}
-use Rattle.gl_store.specs.Kept.{Held}
+use Rattle.gl_audit.specs.Committed.{Held}
 use Rattle.gl_book.specs.Stands.{NodeStore, whole}
 use Rattle.gl_book.proofs.Telling.{tells, stands_with}
 use Rattle.gl_base.specs.declared.tx_id.TxId.{TxId}

@@ -1,6 +1,6 @@
 use Rattle.std.proofs.Common.{◌≡◌, ℕ, List, ap, ◌∙◌}
 use Rattle.gl_entry.specs.declared.entry.Entry.{Entry}
-use Rattle.gl_store.specs.Kept.{Held}
+use Rattle.gl_audit.specs.Committed.{Held}
 use Rattle.gl_book.specs.Stands.{NodeStore}
 use Rattle.gl_book.proofs.Telling.{tells}
 use Rattle.gl_gov_rules.specs.History.{History}

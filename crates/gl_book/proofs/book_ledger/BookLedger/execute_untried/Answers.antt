@@ -1,6 +1,6 @@
 use Rattle.std.proofs.Common.{rules, ◌<◌, ◌^◌, List, sym, ap, subst}
 use Rattle.gl_entry.specs.declared.entry.Entry.{Entry}
-use Rattle.gl_store.specs.Kept.{Held}
+use Rattle.gl_audit.specs.Committed.{Held}
 use Rattle.gl_ledger.proofs.Valid.{may_make_behind}
 use Rattle.gl_ledger.specs.NodeKeys.{service_layers}
 use Rattle.gl_ledger.specs.Makers.{MayMake}

@@ -1,6 +1,6 @@
 use Rattle.std.proofs.Common.{[], ap, subst, ◌∙◌}
 use Rattle.gl_ledger.specs.Ledger.{genesis_entry}
-use Rattle.gl_store.specs.Kept.{Held}
+use Rattle.gl_audit.specs.Committed.{Held}
 use Rattle.gl_book.specs.Lists.{AreListsOf}
 use Rattle.gl_book.proofs.book_ledger.BookLedger.found.Goals as goal
 

@@ -3,7 +3,7 @@ use Rattle.gl_entry.specs.declared.entry.Entry.{Entry}
 use Rattle.gl_ledger.specs.NodeKeys.{service_layers}
 use Rattle.gl_ledger.specs.Broken.{broken}
 use Rattle.gl_ledger.specs.Makers.{governance_made, govern_result}
-use Rattle.gl_store.specs.Kept.{Held}
+use Rattle.gl_audit.specs.Committed.{Held}
 use Rattle.gl_book.specs.Taken.{RefusesFor}
 use Rattle.gl_book.proofs.Taking.{entry_made, refused_by_rule}
 use Rattle.gl_book.proofs.book_ledger.BookLedger.govern_tried.Goals as goal

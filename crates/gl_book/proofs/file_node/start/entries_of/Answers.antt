@@ -4,7 +4,7 @@ use Rattle.gl_entry.specs.Entry.{is_entry}
 use Rattle.gl_entry.specs.declared.entry.Entry.{Entry}
 use Rattle.gl_ledger.specs.Audit.{audited}
 use Rattle.gl_ledger.specs.NodeKeys.{service_layers}
-use Rattle.gl_store.specs.Kept.{Held}
+use Rattle.gl_audit.specs.Committed.{Held}
 use Rattle.gl_book.specs.Stands.{NodeStore}
 use Rattle.gl_book.proofs.file_node.start.entries_of.Goals as goal
 

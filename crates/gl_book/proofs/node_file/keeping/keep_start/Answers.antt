@@ -1,5 +1,5 @@
 use Rattle.std.proofs.Common.{refl, ap, ◌∙◌}
-use Rattle.gl_store.specs.Kept.{Held}
+use Rattle.gl_audit.specs.Committed.{Held}
 use Rattle.gl_book.specs.AtOpening.{opened_state}
 use Rattle.gl_book.specs.NodeFile.{seen_state}
 use Rattle.gl_book.proofs.Keeping.{none_done, read_folds}

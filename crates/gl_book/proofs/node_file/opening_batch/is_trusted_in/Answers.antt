@@ -5,7 +5,7 @@ use Rattle.gl_gov_rules.specs.History.{History}
 use Rattle.gl_gov_rules.specs.Nodes.{is_trusted_status, node_status, nodes, trusted}
 use Rattle.gl_gov_rules.specs.declared.change.RecordedNode.{RecordedNode}
 use Rattle.gl_ledger.specs.Recordings.{requests_of, trusted_nodes}
-use Rattle.gl_store.specs.Kept.{Held}
+use Rattle.gl_audit.specs.Committed.{Held}
 use Rattle.gl_book.proofs.OpeningSizes.{member-chosen}
 use Rattle.gl_book.proofs.node_file.opening_batch.is_trusted_in.Goals as goal
 

@@ -4,7 +4,7 @@ use Rattle.gl_entry.specs.Entry.{frame_bytes}
 use Rattle.gl_entry.specs.declared.entry.Entry.{Entry}
 use Rattle.gl_ledger.specs.Broken.{is_unopened}
 use Rattle.gl_ledger.specs.Recordings.{last_entry}
-use Rattle.gl_store.specs.Kept.{Held}
+use Rattle.gl_audit.specs.Committed.{Held}
 use Rattle.gl_book.specs.ServiceStart.{start_behind}
 use Rattle.gl_book.proofs.ServiceStarts.{starts_whole, start_step, frames_grow, before_last}
 use Rattle.gl_book.proofs.node_file.opening_ledger.read_ledger.Goals as goal

@@ -6,7 +6,7 @@ use Rattle.gl_ledger.specs.Makers.{opening_of}
 use Rattle.gl_ledger.specs.NodeKeys.{service_layers}
 use Rattle.gl_ledger.specs.Opening.{Founds}
 use Rattle.gl_ledger.specs.declared.breach.Broken as breach
-use Rattle.gl_store.specs.Calls.{Breaks}
+use Rattle.gl_audit.specs.Kept.{Breaks}
 use Rattle.gl_book.specs.Stands.{HasKey, NodeStore}
 use Rattle.gl_book.proofs.Openings.{never_broken, opened_entry, opened_ledger}
 use Rattle.gl_book.proofs.store_book.StoreBook.open.Goals as goal

@@ -1,6 +1,6 @@
 use Rattle.std.proofs.Common.{◌≡◌, ◌<◌, length, ap, arith}
 use Rattle.gl_ledger.specs.Tree.{writes_of}
-use Rattle.gl_store.specs.declared.ledger_end.LedgerEnd.{LedgerEnd}
+use Rattle.gl_audit.specs.declared.ledger_end.LedgerEnd.{LedgerEnd}
 use Rattle.gl_load.proofs.Auditing.{reported}
 use Rattle.gl_load.proofs.totals.Totals.report.Goals as goal
 

@@ -1,5 +1,5 @@
 use Rattle.std.proofs.Common.{ap}
-use Rattle.gl_store.specs.Kept.{Held}
+use Rattle.gl_audit.specs.Committed.{Held}
 use Rattle.gl_store.proofs.Unbroken.{short_endorsement, opening_signed}
 use Rattle.gl_store.proofs.store.Store.begin.Goals as goal
 

@@ -1,7 +1,7 @@
 use Rattle.std.proofs.Common.{sym, subst}
 use Rattle.gl_ledger.specs.Signed.{IsSignedUpTo}
 use Rattle.gl_ledger.proofs.Signatures.{signed_within}
-use Rattle.gl_store.specs.Kept.{Held}
+use Rattle.gl_audit.specs.Committed.{Held}
 use Rattle.gl_store.proofs.store.Store.commit_to.Goals as goal
 
 pub invariant_of-self : goal.invariant_of-self

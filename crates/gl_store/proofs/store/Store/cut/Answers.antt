@@ -3,12 +3,13 @@ use Rattle.gl_merkle.specs.Frontier.{count_of}
 use Rattle.gl_entry.specs.declared.entry.Entry.{Entry}
 use Rattle.gl_ledger.specs.NodeKeys.{service_layers}
 use Rattle.gl_ledger.specs.Recordings.{last_entry}
-use Rattle.gl_store.specs.Ends.{IsRead, end_of}
-use Rattle.gl_store.specs.Kept.{Held}
-use Rattle.gl_store.proofs.Cutting.{audited-take}
-use Rattle.gl_store.proofs.Keeping.{state-cut, kept-cut}
-use Rattle.gl_store.proofs.LastEntries.{last_read}
-use Rattle.gl_store.proofs.TablesLaws.{count_of_frontier}
+use Rattle.gl_audit.specs.Ends.{IsRead, end_of}
+use Rattle.gl_audit.specs.Committed.{Held}
+use Rattle.gl_audit.proofs.Cutting.{audited-take}
+use Rattle.gl_audit.proofs.Keeping.{state-cut}
+use Rattle.gl_store.proofs.Keeping.{kept-cut}
+use Rattle.gl_audit.proofs.LastEntries.{last_read}
+use Rattle.gl_audit.proofs.TablesLaws.{count_of_frontier}
 use Rattle.gl_store.proofs.store.Store.cut.Goals as goal
 
 pub of-requires-clause-read : goal.of-requires-clause-read

@@ -2,8 +2,8 @@ use Rattle.std.proofs.Common.{◌≡◌, ◌∙◌, ◌-◌, length, ap, sym, su
 use Rattle.gl_rules.specs.Log.{entry_at}
 use Rattle.gl_entry.specs.declared.entry.Entry.{Entry}
 use Rattle.gl_ledger.specs.Broken.{is_unopened}
-use Rattle.gl_store.specs.Ends.{IsRead}
-use Rattle.gl_store.proofs.LastEntries.{entry_read, last_of_take}
+use Rattle.gl_audit.specs.Ends.{IsRead}
+use Rattle.gl_audit.proofs.LastEntries.{entry_read, last_of_take}
 use Rattle.gl_store.proofs.store.Store.ends_with_opening.Goals as goal
 
 pub is_unopened-requires : goal.is_unopened-requires

@@ -8,7 +8,7 @@ use Rattle.gl_ledger.specs.Tree.{writes_of, tables_of}
 use Rattle.gl_ledger.specs.Ledger.{execute_result}
 use Rattle.gl_ledger.specs.declared.made.Given.TheVariants.{Replied}
 use Rattle.gl_ledger.specs.Makers.{request_result}
-use Rattle.gl_store.specs.Kept.{Held}
+use Rattle.gl_audit.specs.Committed.{Held}
 use Rattle.gl_store.specs.Calls.{Refuses}
 use Rattle.gl_requests.specs.declared.genesis.ServiceState.TheVariants.{Open}
 use Rattle.gl_ledger.proofs.Applications.{made_within, request_made}

@@ -5,7 +5,7 @@ use Rattle.gl_ledger.specs.NodeKeys.{service_layers}
 use Rattle.gl_ledger.specs.Broken.{is_unopened, broken}
 use Rattle.gl_ledger.specs.Recordings.{last_entry}
 use Rattle.gl_ledger.proofs.Applications.{request_ok}
-use Rattle.gl_store.specs.Kept.{Held}
+use Rattle.gl_audit.specs.Committed.{Held}
 use Rattle.gl_store.proofs.Unbroken.{execution_unbroken}
 use Rattle.gl_store.proofs.store.Store.execute.Goals as goal
 

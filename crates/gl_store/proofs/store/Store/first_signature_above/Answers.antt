@@ -4,8 +4,9 @@ use Rattle.std.specs.List.Sorted.{IsPartitionPoint, IsPartitionedBy}
 use Rattle.gl_rules.specs.Log.{entry_at}
 use Rattle.gl_receipt.specs.Made.{signature_above}
 use Rattle.gl_receipt.proofs.OrderLemmas.{AreInOrder, signature_behind, signature_numbered}
-use Rattle.gl_store.specs.Kept.{Held, signature_seqnos}
-use Rattle.gl_store.proofs.SignatureSeqnos.{seqnos-partitioned, above-is}
+use Rattle.gl_audit.specs.Kept.{signature_seqnos}
+use Rattle.gl_audit.specs.Committed.{Held}
+use Rattle.gl_audit.proofs.SignatureSeqnos.{seqnos-partitioned, above-is}
 use Rattle.gl_store.proofs.store.Store.first_signature_above.Goals as goal
 
 pub returns-in-None-clause-first : goal.returns-in-None-clause-first

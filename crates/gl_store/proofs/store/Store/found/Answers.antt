@@ -1,5 +1,5 @@
 use Rattle.std.proofs.Common.{◌∙◌, ap}
-use Rattle.gl_store.specs.Kept.{Held}
+use Rattle.gl_audit.specs.Committed.{Held}
 use Rattle.gl_store.proofs.Unbroken.{genesis_unbroken}
 use Rattle.gl_store.proofs.store.Store.found.Goals as goal
 

@@ -3,7 +3,7 @@ use Rattle.gl_entry.specs.declared.entry.Entry.{Entry}
 use Rattle.gl_ledger.specs.NodeKeys.{service_layers}
 use Rattle.gl_ledger.specs.Broken.{broken}
 use Rattle.gl_ledger.proofs.Recovering.{recovery_unbroken}
-use Rattle.gl_store.specs.Kept.{Held}
+use Rattle.gl_audit.specs.Committed.{Held}
 use Rattle.gl_store.proofs.store.Store.found_anew.Goals as goal
 
 pub push-requires : goal.push-requires

@@ -4,7 +4,7 @@ use Rattle.gl_requests.specs.declared.request.GovernanceRequest.TheVariants as r
 use Rattle.gl_gov_rules.specs.Changes.{history}
 use Rattle.gl_gov_rules.specs.Refusals.{refusal}
 use Rattle.gl_gov_rules.specs.declared.refusal.GovernanceRefusal.{GovernanceRefusal}
-use Rattle.gl_gov.specs.State.{Refuses}
+use Rattle.gl_audit.specs.GovState.{Refuses}
 use Rattle.gl_ledger.specs.Recordings.{requests_of}
 use Rattle.gl_store.proofs.Unbroken.{genesis_fits, genesis_accepted}
 use Rattle.gl_store.proofs.store.Store.genesis_entry.Goals as goal

@@ -4,12 +4,12 @@ use Rattle.gl_gov_rules.specs.Changes.{history}
 use Rattle.gl_gov_rules.specs.Governed as governed
 use Rattle.gl_gov_rules.specs.declared.change.Recorded.{Recorded}
 use Rattle.gl_gov_rules.specs.ProposalStatus.{proposal_status}
-use Rattle.gl_gov.specs.State.{share_count}
+use Rattle.gl_audit.specs.GovState.{share_count}
 use Rattle.gl_ledger.specs.Recordings.{requests_of}
 use Rattle.gl_ledger.proofs.Governed.{above}
-use Rattle.gl_store.specs.Kept.{Held}
+use Rattle.gl_audit.specs.Committed.{Held}
 use Rattle.gl_store.proofs.Governing.{requests_behind}
-use Rattle.gl_store.proofs.RuleTests.{nothing_kept}
+use Rattle.gl_audit.proofs.RuleTests.{nothing_kept}
 use Rattle.gl_store.proofs.store.Store.governance_entry.Goals as goal
 
 pub effect-requires-clause-above : goal.effect-requires-clause-above

@@ -4,9 +4,10 @@ use Rattle.gl_entry.specs.declared.entry.Entry.{Entry}
 use Rattle.gl_gov_rules.specs.Rows.{service_key, service_map}
 use Rattle.gl_ledger.specs.ServiceRow.{identity_in}
 use Rattle.gl_ledger.specs.Tree.{writes_of, tables_of}
-use Rattle.gl_store.specs.Kept.{Held, key_of}
-use Rattle.gl_store.proofs.Cutting.{writes_of-take}
-use Rattle.gl_store.proofs.InForce.{key_there, key_up_to}
+use Rattle.gl_audit.specs.Kept.{key_of}
+use Rattle.gl_audit.specs.Committed.{Held}
+use Rattle.gl_audit.proofs.Cutting.{writes_of-take}
+use Rattle.gl_audit.proofs.InForce.{key_there, key_up_to}
 use Rattle.gl_store.proofs.store.Store.key_at.Goals as goal
 
 -- the present key, where the service's row was last written up to the seqno

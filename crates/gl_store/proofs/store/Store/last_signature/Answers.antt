@@ -1,6 +1,6 @@
 use Rattle.std.proofs.Common.{◌≡◌, subst}
 use Rattle.gl_ledger.specs.Broken.{last_signed}
-use Rattle.gl_store.specs.Kept.{Held}
+use Rattle.gl_audit.specs.Committed.{Held}
 use Rattle.gl_store.proofs.store.Store.last_signature.Goals as goal
 
 pub returns : goal.returns

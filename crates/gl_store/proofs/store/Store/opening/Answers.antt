@@ -3,7 +3,7 @@ use Rattle.gl_base.specs.declared.or_no_memory.OrNoMemory.{OrNoMemory}
 use Rattle.gl_ledger.specs.declared.breach.Broken.{Broken}
 use Rattle.gl_ledger.specs.Audit.{fault_from}
 use Rattle.gl_ledger.specs.NodeKeys.{service_layers}
-use Rattle.gl_store.specs.Kept.{Held}
+use Rattle.gl_audit.specs.Committed.{Held}
 use Rattle.gl_store.specs.Calls.{StopsAt}
 use Rattle.gl_store.proofs.OpeningLedgers.{stopped}
 use Rattle.gl_store.proofs.store.Store.opening.Goals as goal

@@ -1,7 +1,7 @@
 use Rattle.std.proofs.Common.{◌≡◌, ◌+◌, ◌<◌, ℕ, length, subst, ap, arith}
 use Rattle.gl_base.specs.TxId.{last_seqno}
 use Rattle.gl_ledger.specs.Ledger.{signature_entry}
-use Rattle.gl_store.specs.Kept.{Held}
+use Rattle.gl_audit.specs.Committed.{Held}
 use Rattle.gl_store.specs.Calls.{signature_of}
 use Rattle.gl_store.proofs.Applications.{signs_made}
 use Rattle.gl_store.proofs.Unbroken.{short_endorsement, signing_some, signing_unbroken}

@@ -4,8 +4,8 @@ use Rattle.gl_base.specs.Bytes.{is_digest}
 use Rattle.gl_entry.proofs.Fitting.{is_digest-from}
 use Rattle.gl_ledger.specs.Tree.{leaves_of}
 use Rattle.gl_ledger.proofs.SignatureEntries.{signed_fits}
-use Rattle.gl_store.specs.Kept.{Held}
-use Rattle.gl_store.specs.declared.ledger_end.LedgerEnd.{LedgerEnd}
+use Rattle.gl_audit.specs.Committed.{Held}
+use Rattle.gl_audit.specs.declared.ledger_end.LedgerEnd.{LedgerEnd}
 use Rattle.gl_store.proofs.store.Store.signature_entry.Goals as goal
 
 pub root-root-requires : goal.root-root-requires

@@ -2,7 +2,7 @@ use Rattle.std.proofs.Common.{List, map, sym, ap, subst, ◌∙◌}
 use Rattle.gl_entry.specs.Entry.{frame_bytes}
 use Rattle.gl_entry.specs.declared.entry.Entry.{Entry}
 use Rattle.gl_node.specs.Frames.{EachGoesOn}
-use Rattle.gl_store.specs.Kept.{Held}
+use Rattle.gl_audit.specs.Committed.{Held}
 use Rattle.gl_book.specs.Frames.{goes_on_ledger}
 use Rattle.gl_book.proofs.FrameLaws.{follow_each}
 use Rattle.gl_book.proofs.node_file.kept_book.StoreBookKeptBook.ledger.Goals as goal

@@ -2,8 +2,8 @@ use Rattle.std.proofs.Common.{◌≡◌, ◌≤◌, length, take, subst, sym, ar
 use Rattle.gl_merkle.specs.Frontier.{count_of}
 use Rattle.gl_merkle.specs.Path.{path_of}
 use Rattle.gl_ledger.specs.Tree.{leaves_of}
-use Rattle.gl_store.specs.Kept.{Held}
-use Rattle.gl_store.proofs.TablesLaws.{count_of_frontier, given_of_frontier}
+use Rattle.gl_audit.specs.Committed.{Held}
+use Rattle.gl_audit.proofs.TablesLaws.{count_of_frontier, given_of_frontier}
 use Rattle.gl_store.proofs.store.receipts.StoreCommittedLedger.path.Goals as goal
 
 pub path_of-requires-clause-within : goal.path_of-requires-clause-within

@@ -1,0 +1,10 @@
+use Rattle.gl_audit.proofs.Keeping.{state_empty}
+use Rattle.gl_audit.proofs.ledger_state.LedgerState.new.Goals as goal
+
+pub returns : goal.returns
+returns c =
+    let made = c.in_ok-state.ensures in
+    record {
+      state = state_empty c.in_ok-state.state made.end made.signatures made.gov made.service_state made.identity made.tables made.from_start made.base made.peaks made.leaves;
+      whole = record { tables = made.whole; base = made.base; peaks = made.peaks };
+    }

@@ -1,0 +1,13 @@
+use Rattle.std.proofs.Common.{◌-◌, ◌<◌, ◌∙◌, ap, arith, List}
+use Rattle.gl_gov_rules.specs.declared.change.Recorded.{Recorded}
+use Rattle.gl_gov_rules.specs.Governed as governed
+use Rattle.gl_audit.proofs.Cutting.{taken_back}
+use Rattle.gl_audit.proofs.ledger_state.take.Goals as goal
+
+pub returns-in-Err-clause-gov_kept : goal.returns-in-Err-clause-gov_kept
+returns-in-Err-clause-gov_kept c =
+    let e = c.args.entry.now in
+    let low = c.requires.base in
+    let some : 0 < e.seqno = omega (arith, low) in
+    c.cut.ensures ∙ ap (λ (rs : List Recorded). governed.up_to (e.seqno - 1) rs) c.in_ok-take_request.ensures.recorded
+    ∙ taken_back e.seqno c.args.gov.now e.content some c.requires.behind

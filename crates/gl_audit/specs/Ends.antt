@@ -1,0 +1,38 @@
+-- How a ledger ends.
+use Rattle.std.specs.Prelude.{◌≢◌, ◌+◌, List, None, Some, false, length, option_map, if◌then◌else◌}
+use Rattle.gl_rules.specs.Log.{entry_at}
+use Rattle.gl_entry.specs.Entry.{is_signature}
+use Rattle.gl_entry.specs.Leaf.{id_of}
+use Rattle.gl_entry.specs.declared.entry.Entry.{Entry}
+use Rattle.gl_ledger.specs.Recordings.{last_entry, recording_of, begins}
+use Rattle.gl_ledger.specs.Broken.{last_signed, commit_behind, last_commit, is_unopened}
+use Rattle.gl_audit.specs.declared.ledger_end.LedgerEnd.{LedgerEnd}
+
+-- The entry's bytes spell what it records.
+abbrev pub IsRead : Entry → Type 0
+IsRead e = recording_of e.content ≢ None
+
+-- Of no entries.
+abbrev pub no_end : LedgerEnd
+no_end = record { len = 0; last = None; signed = None; commit = 0; is_unopened = false }
+
+-- How many entries a ledger has, the transactions of its last entry and of its last signature, the
+-- commit that this records, and whether a service begins with the last entry.
+abbrev pub end_of : List Entry → LedgerEnd
+end_of ledger = record {
+  len = length ledger;
+  last = option_map id_of (last_entry ledger);
+  signed = option_map id_of (entry_at ledger (last_signed ledger));
+  commit = last_commit ledger;
+  is_unopened = is_unopened (last_entry ledger);
+}
+
+-- The same with one more entry.
+abbrev pub end_with : LedgerEnd → Entry → LedgerEnd
+end_with end e = record {
+  len = end.len + 1;
+  last = Some (id_of e);
+  signed = if is_signature e.content then Some (id_of e) else end.signed;
+  commit = commit_behind end.commit e.content;
+  is_unopened = begins e;
+}

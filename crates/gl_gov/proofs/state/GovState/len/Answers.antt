@@ -1,6 +1,0 @@
-use Rattle.std.proofs.Common.{subst}
-use Rattle.gl_gov_rules.specs.Governed.{IsGoverned}
-use Rattle.gl_gov.proofs.state.GovState.len.Goals as goal
-
-pub returns-clause-governed : goal.returns-clause-governed
-returns-clause-governed c = subst IsGoverned c.self.view_is c.self.invariant.1

@@ -1,5 +1,0 @@
-use Rattle.gl_gov.proofs.States.{state_of_none}
-use Rattle.gl_gov.proofs.state.GovState.new.Goals as goal
-
-pub invariant_of-result : goal.invariant_of-result
-invariant_of-result c = state_of_none _ c.new.ensures

@@ -1,6 +1,0 @@
-use Rattle.gl_gov_rules.specs.Changes.{history}
-use Rattle.gl_gov.proofs.Selected.{all_selected}
-use Rattle.gl_gov.proofs.state.GovState.rows.Goals as goal
-
-pub returns : goal.returns
-returns c = record { rows = rw (all_selected (history c.args.self.now)) at c.selected_rows.ensures.rows }

@@ -1,9 +1,0 @@
-use Rattle.std.proofs.Common.{◌<◌, subst}
-use Rattle.gl_store.specs.declared.ledger_end.LedgerEnd.{LedgerEnd}
-use Rattle.gl_store.proofs.Keeping.{keyed}
-use Rattle.gl_store.proofs.ledger_state.LedgerState.broken_by_fault.Goals as goal
-
-pub unreachable-requires : goal.unreachable-requires
-unreachable-requires c =
-    let k = c.requires.state.1 in
-    keyed c.requires.state.0 c.args.self.now k (subst (λ (end : LedgerEnd). 0 < end.len) k.ends c.requires.some) c.in_default.is

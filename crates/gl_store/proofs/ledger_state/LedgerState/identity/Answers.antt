@@ -1,5 +1,0 @@
-use Rattle.gl_store.proofs.Keeping.{unkeyed}
-use Rattle.gl_store.proofs.ledger_state.LedgerState.identity.Goals as goal
-
-pub returns-in-None-clause-none : goal.returns-in-None-clause-none
-returns-in-None-clause-none c = λ ledger k. unkeyed ledger _ k c.in-None.is

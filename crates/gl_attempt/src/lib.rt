@@ -10,6 +10,3 @@ mod notes;
 pub use attempt::{Attempt, Fetched};
 pub use conflict::{Conflict, RolledBack, TxFault};
 pub use notes::{Ask, Note, Reads};
-
-#[cfg(test)]
-mod tests;

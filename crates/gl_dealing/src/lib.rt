@@ -9,6 +9,3 @@ mod tree;
 pub use members::can_deal;
 pub use text::deal_text;
 pub use tree::write_dealing;
-
-#[cfg(test)]
-mod tests;

@@ -27,6 +27,3 @@ pub use leaves::{
 };
 pub use message::signed_message;
 pub use reader::{LedgerReader, read_entry};
-
-#[cfg(test)]
-mod tests;

@@ -5,6 +5,3 @@ mod file_disk;
 mod place;
 
 pub use file_disk::FileDisk;
-
-#[cfg(test)]
-mod tests;

@@ -19,6 +19,3 @@ pub use key_tree::write_key;
 pub use request::{proposal_in, read_proposal, read_request};
 pub use settings::{read_recovery, read_settings};
 pub use tree::read_tree;
-
-#[cfg(test)]
-mod tests;

@@ -15,6 +15,3 @@ pub use key_file::KeyFile;
 pub use laws::no_leaf_is_taken_twice;
 pub use leaf::{LeafUse, TakenLeaf};
 pub use signing::Signing;
-
-#[cfg(test)]
-mod tests;

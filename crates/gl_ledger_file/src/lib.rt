@@ -7,6 +7,3 @@ mod next;
 
 pub use laws::law_of_ledger_files;
 pub use next::{Next, ReadFault, read_next};
-
-#[cfg(test)]
-mod tests;

@@ -17,6 +17,3 @@ pub use fault::{FrameFault, MessageFault};
 pub use frames::Frames;
 pub use framing::{FRAME_LIMIT, law_of_streams, put_frame};
 pub use message::{Body, Entries, Message};
-
-#[cfg(test)]
-mod tests;

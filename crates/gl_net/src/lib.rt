@@ -9,6 +9,3 @@ mod tcp_link;
 mod ticker;
 
 pub use tcp_link::TcpLink;
-
-#[cfg(test)]
-mod tests;

@@ -27,6 +27,3 @@ pub use reading::read_receipt;
 pub use text::Text;
 pub use verdict::verify;
 pub use writing::write_receipt;
-
-#[cfg(test)]
-mod tests;

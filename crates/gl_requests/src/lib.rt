@@ -18,6 +18,3 @@ pub use genesis::{
 };
 pub use laws::law_of_requests;
 pub use request::{GovernanceRequest, MemberAct, MemberRequest};
-
-#[cfg(test)]
-mod tests;

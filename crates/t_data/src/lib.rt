@@ -1,0 +1,21 @@
+//! The tests of the libraries of data: requests, entries and their files, the forms of JSON, messages,
+//! receipts and attempts, a module for each. They stand here, over the libraries, since a library with
+//! tests of its own is proved once more with them.
+#![tactic(auto)]
+
+#[cfg(test)]
+mod attempt;
+#[cfg(test)]
+mod entry;
+#[cfg(test)]
+mod forms;
+#[cfg(test)]
+mod ledger_file;
+#[cfg(test)]
+mod messages;
+#[cfg(test)]
+mod receipt;
+#[cfg(test)]
+mod requests;
+#[cfg(test)]
+mod texts;

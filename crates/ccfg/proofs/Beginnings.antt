@@ -10,12 +10,12 @@ use Rattle.gl_journal.specs.declared.fault.JournalFault.TheVariants.{DiskFault}
 use Rattle.gl_journal.specs.declared.key.KeyKind.{KeyKind}
 use Rattle.gl_journal.specs.declared.key.KeyKind.TheVariants as kinds
 use Rattle.gl_lms.specs.declared.types.Types.TheVariants as types
-use Rattle.gl_book.specs.AtOpening.{opening_size}
-use Rattle.gl_book.specs.NodeFile.{opened}
-use Rattle.gl_book.specs.ServiceStart.{start_in}
-use Rattle.gl_book.specs.Turns.{IsOfOpening, IsTooLarge}
-use Rattle.gl_book.specs.declared.node_file.fault.OpeningFault.{OpeningFault}
-use Rattle.gl_book.specs.declared.node_file.fault.OpeningFault.TheVariants as faults
+use Rattle.gl_store_book.specs.AtOpening.{opening_size}
+use Rattle.gl_store_book.specs.NodeFile.{opened}
+use Rattle.gl_store_book.specs.ServiceStart.{start_in}
+use Rattle.gl_store_book.specs.Turns.{IsOfOpening, IsTooLarge}
+use Rattle.gl_store_book.specs.declared.node_file.fault.OpeningFault.{OpeningFault}
+use Rattle.gl_store_book.specs.declared.node_file.fault.OpeningFault.TheVariants as faults
 use Rattle.ccfg.specs.Nodes.{Beginning, HasLedger, OfOpened, begin_behind, begin_with, beginning, beginning_of, has_ledger, opened_by}
 
 -- ---- values

@@ -11,3 +11,7 @@ pub mod RecoveringLemmas
 pub mod Beginnings
 pub mod NodeRuns
 pub mod NodeMoments
+pub mod Openings
+pub mod FileNodes
+pub mod NodeEvents
+pub mod FileStarts

@@ -4,7 +4,7 @@ use Rattle.std.specs.Io.KnownBytes.{Appends, Keeps}
 use Rattle.gl_ledger_file.specs.Given.{OfBytes}
 use Rattle.gl_outside.specs.Disk.{Step}
 use Rattle.gl_outside.specs.Fault.{Rose}
-use Rattle.gl_book.specs.declared.node_file.fault.OpeningFault.{OpeningFault}
+use Rattle.gl_store_book.specs.declared.node_file.fault.OpeningFault.{OpeningFault}
 use Rattle.gl_commands.specs.declared.task.NodeTask.{NodeTask}
 use Rattle.gl_serve.specs.Serves.{calls_after}
 use Rattle.gl_serve.specs.declared.settings.ServeEnd.{ServeEnd}

@@ -1,8 +1,8 @@
 -- The one line that tells why words or bytes are refused.
 use Rattle.std.specs.Prelude.{ℕ, List, ◌++◌, codes, decimal}
 use Rattle.hex.specs.Hex.{encode_lower}
-use Rattle.gl_book.specs.declared.node_file.fault.OpeningFault.{OpeningFault}
-use Rattle.gl_book.specs.declared.node_file.fault.OpeningFault.TheVariants as openings
+use Rattle.gl_store_book.specs.declared.node_file.fault.OpeningFault.{OpeningFault}
+use Rattle.gl_store_book.specs.declared.node_file.fault.OpeningFault.TheVariants as openings
 use Rattle.gl_consortium.specs.declared.fault.SigningFault.{SigningFault}
 use Rattle.gl_consortium.specs.declared.fault.SigningFault.TheVariants as signing
 use Rattle.gl_fault_lines.specs.Texts.{bad_action_text, form_text, journal_text, key_kinds_text, kind_name, nodes_text, receipt_text}

@@ -3,3 +3,5 @@ pub mod Owed
 pub mod Promises
 pub mod Plans
 pub mod Nodes
+pub mod FileNodes
+pub mod Opening

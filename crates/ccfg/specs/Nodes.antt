@@ -13,14 +13,14 @@ use Rattle.gl_journal.specs.Durable.{Durable, OpensToTheSame}
 use Rattle.gl_journal.specs.Records.{key_kind_tag}
 use Rattle.gl_journal.specs.declared.fault.JournalFault.{JournalFault}
 use Rattle.gl_journal.specs.declared.key.KeyKind.TheVariants as kinds
-use Rattle.gl_book.specs.AtOpening.{node_at_opening, opened_state, opening_size, restarted_node}
-use Rattle.gl_book.specs.Frames.{goes_on_ledger}
-use Rattle.gl_book.specs.NodeFile.{opened}
-use Rattle.gl_book.specs.Replicas.{StandsForFile}
-use Rattle.gl_book.specs.ServiceStart.{start_in}
-use Rattle.gl_book.specs.Stands.{NodeStore, Stands}
-use Rattle.gl_book.specs.declared.node_file.fault.OpeningFault.{OpeningFault}
-use Rattle.gl_book.specs.declared.node_file.fault.OpeningFault.TheVariants as faults
+use Rattle.gl_store_book.specs.AtOpening.{node_at_opening, opened_state, opening_size, restarted_node}
+use Rattle.gl_store_book.specs.Frames.{goes_on_ledger}
+use Rattle.gl_store_book.specs.NodeFile.{opened}
+use Rattle.gl_store_book.specs.Replicas.{StandsForFile}
+use Rattle.gl_store_book.specs.ServiceStart.{start_in}
+use Rattle.gl_store_book.specs.Stands.{NodeStore, Stands}
+use Rattle.gl_store_book.specs.declared.node_file.fault.OpeningFault.{OpeningFault}
+use Rattle.gl_store_book.specs.declared.node_file.fault.OpeningFault.TheVariants as faults
 use Rattle.gl_commands.specs.declared.task.NodeTask.{NodeTask}
 use Rattle.gl_serve.specs.Serves.{Serves, calls_after}
 use Rattle.gl_serve.specs.declared.settings.Serving.{Serving}

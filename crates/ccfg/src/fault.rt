@@ -7,7 +7,6 @@ ghost use Rattle.ccfg.specs.Owed.{ending_of_fault, ending_of_recovering};
 use crate::ending::Ending;
 use clap::error::ErrorKind;
 use gl_base::FormsFault;
-use gl_book::OpeningFault;
 use gl_consortium::SigningFault;
 use gl_fault_lines::{
     kind_name, put_bad_action, put_form, put_hex, put_journal, put_key_kinds, put_named, put_nodes,
@@ -17,6 +16,7 @@ use gl_journal::{JournalFault, KeyKind};
 use gl_receipt::ReceiptFault;
 use gl_recovery::{RecoveringFault, RecoveryFault};
 use gl_requests::HssPublicKey;
+use gl_store_book::OpeningFault;
 use std::alloc::{AllocError, Global};
 
 /// Why nothing happens, or that a verdict is no.

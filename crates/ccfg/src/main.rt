@@ -12,6 +12,7 @@ mod output;
 mod plan;
 mod program;
 mod recovering;
+mod schedule_nodes;
 mod signing;
 mod source_bytes;
 #[cfg(test)]

@@ -9,9 +9,9 @@ ghost use Rattle.gl_outside.specs.Fault.{Rose};
 ghost use Rattle.gl_journal.specs.Durable.{Durable, journal_header};
 ghost use Rattle.gl_journal.specs.Parts.{HasGate};
 ghost use Rattle.gl_journal.specs.declared.fault.JournalFault.{JournalFault};
-ghost use Rattle.gl_book.specs.Frames.{goes_on_ledger};
-ghost use Rattle.gl_book.specs.NodeFile.{opened, OpensOnlyTo};
-ghost use Rattle.gl_book.specs.declared.node_file.fault.OpeningFault.{OpeningFault};
+ghost use Rattle.gl_store_book.specs.Frames.{goes_on_ledger};
+ghost use Rattle.gl_store_book.specs.NodeFile.{opened, OpensOnlyTo};
+ghost use Rattle.gl_store_book.specs.declared.node_file.fault.OpeningFault.{OpeningFault};
 ghost use Rattle.ccfg.specs.Owed.{WritesDue, due_of_answer, due_of_fault};
 ghost use Rattle.ccfg.specs.declared.fault.Fault.TheVariants as told;
 ghost use Rattle.gl_serving.specs.OverLink.{KeepsLeaves};
@@ -22,7 +22,6 @@ use crate::fault::Fault;
 use crate::output::{refuse, tell};
 use crate::source_bytes::{ReadStop, read_whole};
 use gl_base::OrNoMemory;
-use gl_book::{NodeFile, OpeningFault, StoreBook};
 use gl_commands::NodeTask;
 use gl_fault_lines::put_number;
 use gl_journal::JournalFault;
@@ -30,6 +29,7 @@ use gl_node::Replica;
 use gl_outside::{Disk, Link, Sink, Source};
 use gl_serve::{ServeEnd, Serving};
 use gl_serving::{Observer, serve_replica};
+use gl_store_book::{NodeFile, OpeningFault, StoreBook};
 use std::alloc::{AllocError, Global};
 
 /// More bytes than any memory holds.

@@ -2,7 +2,7 @@
 
 use crate::program::top;
 use gl_load::Onlooker;
-use gl_outside::{Disk, NoDisk, OpenGate, Sink, Source, SureLink, SureSink, SureSource};
+use gl_outside::{Disk, OpenGate, Sink, Source, SureDisk, SureLink, SureSink, SureSource};
 use gl_serving::{Observer, Standing};
 use std::alloc::{AllocError, Global};
 
@@ -70,14 +70,14 @@ fn status_on<S: Source, K: Sink, D: Disk + Drop + Send>(
     )
 }
 
-/// The status of a run without a disk.
+/// The status of a run over an empty disk.
 fn status_of<S: Source, K: Sink>(
     alloc: Global,
     called: &[String],
     source: &mut S,
     sink: &mut K,
 ) -> u8 {
-    let (status, _disk) = status_on(alloc, called, source, sink, NoDisk::new());
+    let (status, _disk) = status_on(alloc, called, source, sink, SureDisk::new(alloc));
     status
 }
 

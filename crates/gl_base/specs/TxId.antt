@@ -1,5 +1,5 @@
 -- Transaction identifiers and their text (CCF documentation, "Transaction identifiers").
-use Rattle.std.specs.Prelude.{◌≡◌, ◌⊎◌, ℕ, ◌+◌, ◌-◌, ◌^◌, ◌<◌, ◌≤◌, Bool, not, ◌&&◌, List, ◌∷◌, ◌++◌, Option, Some, None, Result, Ok, Err, length, take, drop, position, ◌==◌, nat_lt, if◌then◌else◌, decimal, slice_index}
+use Rattle.std.specs.Prelude.{◌≡◌, ℕ, ◌+◌, ◌-◌, ◌^◌, ◌<◌, ◌≤◌, Bool, not, ◌&&◌, List, ◌∷◌, ◌++◌, Option, Some, None, Result, Ok, Err, length, take, drop, position, ◌==◌, nat_lt, if◌then◌else◌, decimal, slice_index}
 use Rattle.std.specs.Char.{is_ascii_digit}
 use Rattle.std.specs.Str.Parse.{digits_value}
 use Rattle.gl_base.specs.Steps.{◌>>=◌}
@@ -26,10 +26,6 @@ last_count = 2 ^ 64 - 1
 pub record IsTxId (id : TxId) : Type 0 where
   pub view : (0 < id.view) × (id.view ≤ last_view)
   pub seqno : (0 < id.seqno) × (id.seqno ≤ last_seqno)
-
--- Identifiers are ordered by view, and within a view by place.
-abbrev pub IsBefore : TxId → TxId → Type 0
-IsBefore a b = (a.view < b.view) ⊎ ((a.view ≡ b.view) × (a.seqno < b.seqno))
 
 abbrev pub dot : ℕ
 dot = 46

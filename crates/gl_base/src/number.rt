@@ -4,7 +4,7 @@ ghost use Rattle.std.specs.Prelude.{◌≡◌};
 ghost use Rattle.gl_base.specs.LittleEndian.{little_endian, from_little_endian};
 
 #[tactic(auto, unfolding(crate::specs::LittleEndian::little_endian))]
-pub fn u8_of(bytes: &[u8; 1]) -> u8
+pub(crate) fn u8_of(bytes: &[u8; 1]) -> u8
     ensures value { result ≡ from_little_endian bytes.now }
     ensures spelled { little_endian 1 result ≡ bytes.now }
 {
@@ -12,7 +12,7 @@ pub fn u8_of(bytes: &[u8; 1]) -> u8
 }
 
 #[tactic(auto, unfolding(crate::specs::LittleEndian::little_endian))]
-pub fn u16_of(bytes: &[u8; 2]) -> u16
+pub(crate) fn u16_of(bytes: &[u8; 2]) -> u16
     ensures value { result ≡ from_little_endian bytes.now }
     ensures spelled { little_endian 2 result ≡ bytes.now }
 {
@@ -20,7 +20,7 @@ pub fn u16_of(bytes: &[u8; 2]) -> u16
 }
 
 #[tactic(auto, unfolding(crate::specs::LittleEndian::little_endian))]
-pub fn u32_of(bytes: &[u8; 4]) -> u32
+pub(crate) fn u32_of(bytes: &[u8; 4]) -> u32
     ensures value { result ≡ from_little_endian bytes.now }
     ensures spelled { little_endian 4 result ≡ bytes.now }
 {
@@ -28,7 +28,7 @@ pub fn u32_of(bytes: &[u8; 4]) -> u32
 }
 
 #[tactic(auto, unfolding(crate::specs::LittleEndian::little_endian))]
-pub fn u48_of(bytes: &[u8; 6]) -> u64
+pub(crate) fn u48_of(bytes: &[u8; 6]) -> u64
     ensures value { result ≡ from_little_endian bytes.now }
     ensures spelled { little_endian 6 result ≡ bytes.now }
 {
@@ -37,7 +37,7 @@ pub fn u48_of(bytes: &[u8; 6]) -> u64
 }
 
 #[tactic(auto, unfolding(crate::specs::LittleEndian::little_endian))]
-pub fn u64_of(bytes: &[u8; 8]) -> u64
+pub(crate) fn u64_of(bytes: &[u8; 8]) -> u64
     ensures value { result ≡ from_little_endian bytes.now }
     ensures spelled { little_endian 8 result ≡ bytes.now }
 {

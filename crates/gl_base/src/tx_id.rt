@@ -1,6 +1,3 @@
-ghost use Rattle.std.specs.Prelude.{◌↔◌, IsTrue};
-ghost use Rattle.gl_base.specs.TxId.{IsBefore};
-
 use thiserror::Error;
 
 /// The view in which a service begins.
@@ -19,14 +16,6 @@ pub const LAST_SEQNO: u64 = 0xff_ffff_ffff;
 pub struct TxId {
     pub view: u32,
     pub seqno: u64,
-}
-
-impl TxId {
-    pub fn is_before(self, other: TxId) -> bool
-        ensures { IsTrue result ↔ IsBefore self other }
-    {
-        self < other
-    }
 }
 
 /// Why a text is no transaction identifier. A place is counted in the whole text, from 0.

@@ -71,7 +71,7 @@ fn named_in_act(alloc: Global, request: &MemberRequest) -> Result<Option<Digest>
 }
 
 /// The proposal that a request makes, answers or takes back.
-pub fn proposal_named(
+pub(crate) fn proposal_named(
     alloc: Global,
     request: &GovernanceRequest,
 ) -> Result<Option<Digest>, AllocError>
@@ -149,7 +149,7 @@ fn ids_touched(
 }
 
 /// What a request touches that brings these changes about.
-pub fn touched_by(
+pub(crate) fn touched_by(
     alloc: Global,
     past: &History,
     recorded: &Recorded,
@@ -199,7 +199,7 @@ impl Selection {
     ghost use Rattle.gl_gov.specs.Touched.{selects_settings, selects_member, selects_node, selects_proposal};
 
     /// Whether the rows of the constitution, the dealing, the service and the shares are made.
-    pub fn has_settings(&self) -> bool
+    pub(crate) fn has_settings(&self) -> bool
         ensures { result ≡ selects_settings self.now }
     {
         match self {
@@ -208,7 +208,7 @@ impl Selection {
         }
     }
 
-    pub fn has_member(&self, number: u8) -> bool
+    pub(crate) fn has_member(&self, number: u8) -> bool
         ensures { result ≡ selects_member self.now number }
     {
         match self {
@@ -217,7 +217,7 @@ impl Selection {
         }
     }
 
-    pub fn has_node(&self, id: &NodeId) -> bool
+    pub(crate) fn has_node(&self, id: &NodeId) -> bool
         ensures { result ≡ selects_node self.now id.now }
     {
         match self {
@@ -226,7 +226,7 @@ impl Selection {
         }
     }
 
-    pub fn has_proposal(&self, id: &Digest) -> bool
+    pub(crate) fn has_proposal(&self, id: &Digest) -> bool
         ensures { result ≡ selects_proposal self.now id.now }
     {
         match self {

@@ -64,7 +64,7 @@ fn is_ascending(shares: &[ShareDigest]) -> bool
 
 /// Whether the threshold is at least 1, and there are as many shares, for members in ascending
 /// order.
-pub fn is_dealing_in_order(dealing: &Dealing) -> bool
+pub(crate) fn is_dealing_in_order(dealing: &Dealing) -> bool
     ensures { result ≡ is_dealing_in_order dealing.now }
 {
     let shares = dealing.shares.as_slice();
@@ -238,7 +238,7 @@ fn cause_against_rules(past: &History, rules: &[Rule]) -> Option<Cause>
 }
 
 /// Why an action can't be applied behind a history, if it can't: the first cause that stands.
-pub fn cause_against(past: &History, action: &Action) -> Option<Cause>
+fn cause_against(past: &History, action: &Action) -> Option<Cause>
     ensures { result ≡ cause_against past.now action.now }
 {
     match action {
@@ -301,7 +301,7 @@ fn bad_alone(past: &History, action: &Action) -> Option<(u64, Cause)>
 
 /// The index, counted from 1, and the cause of the first action that is bad when they are applied
 /// in order, by the entry with a seqno. An action that is alone is tried on the history itself.
-pub fn first_bad_action(
+pub(crate) fn first_bad_action(
     alloc: Global,
     past: &History,
     seqno: u64,

@@ -137,7 +137,7 @@ fn ballot_changes(
 
 /// Whether one more share, with these, which were given, is as many as the dealing asks for.
 #[tactic(auto, unfolding(gl_gov_rules::specs::Changes::is_complete))]
-pub fn is_complete(past: &History, given: &[Share]) -> bool
+pub(crate) fn is_complete(past: &History, given: &[Share]) -> bool
     requires { given.now ≡ shares_given past.now }
     ensures { result ≡ is_complete past.now }
 {

@@ -162,7 +162,7 @@ fn endorsements_refusal(key: &HssPublicKey, nodes: &[NewNode]) -> Option<Governa
 
 /// What is wrong with a founding.
 #[tactic(auto, unfolding(gl_gov_rules::specs::Refusals::genesis_refusal))]
-pub fn genesis_refusal(past: &History, genesis: &Genesis) -> Option<GovernanceRefusal>
+pub(crate) fn genesis_refusal(past: &History, genesis: &Genesis) -> Option<GovernanceRefusal>
     ensures { result ≡ genesis_refusal past.now genesis.now }
 {
     let nodes = genesis.nodes.as_slice();
@@ -177,7 +177,7 @@ pub fn genesis_refusal(past: &History, genesis: &Genesis) -> Option<GovernanceRe
 
 /// What is wrong with a recovery.
 #[tactic(auto, unfolding(gl_gov_rules::specs::Refusals::recovery_refusal))]
-pub fn recovery_refusal(past: &History, recovery: &Recovery) -> Option<GovernanceRefusal>
+pub(crate) fn recovery_refusal(past: &History, recovery: &Recovery) -> Option<GovernanceRefusal>
     ensures { result ≡ recovery_refusal past.now recovery.now }
 {
     let nodes = recovery.nodes.as_slice();

@@ -62,7 +62,7 @@ fn room_refusal(past: &History, id: &NodeId) -> Option<GovernanceRefusal>
 
 /// What is wrong with a node that joins.
 #[tactic(auto, unfolding(gl_gov_rules::specs::Refusals::join_refusal))]
-pub fn join_refusal(past: &History, node: &NewNode) -> Option<GovernanceRefusal>
+pub(crate) fn join_refusal(past: &History, node: &NewNode) -> Option<GovernanceRefusal>
     ensures { result ≡ join_refusal past.now node.now }
 {
     if is_endorsed_by_service(past, node) {

@@ -31,7 +31,7 @@ fn bad_action_refusal(
 /// What is wrong with a proposal: as many are open as may be, an action of it is bad, or it was
 /// made before.
 #[tactic(auto, unfolding(gl_gov_rules::specs::Refusals::propose_refusal))]
-pub fn propose_refusal(
+pub(crate) fn propose_refusal(
     alloc: Global,
     past: &History,
     seqno: u64,
@@ -83,7 +83,7 @@ fn open_refusal(past: &History, id: &Digest) -> Option<GovernanceRefusal>
 
 /// What is wrong with a member's ballot.
 #[tactic(auto, unfolding(gl_gov_rules::specs::Refusals::ballot_refusal))]
-pub fn ballot_refusal(past: &History, member: u8, id: &Digest) -> Option<GovernanceRefusal>
+pub(crate) fn ballot_refusal(past: &History, member: u8, id: &Digest) -> Option<GovernanceRefusal>
     ensures { result ≡ ballot_refusal past.now member id.now }
 {
     match open_refusal(past, id) {
@@ -116,7 +116,7 @@ fn proposer_refusal(past: &History, member: u8, id: &Digest) -> Option<Governanc
 
 /// What is wrong where a member takes a proposal back.
 #[tactic(auto, unfolding(gl_gov_rules::specs::Refusals::withdraw_refusal))]
-pub fn withdraw_refusal(past: &History, member: u8, id: &Digest) -> Option<GovernanceRefusal>
+pub(crate) fn withdraw_refusal(past: &History, member: u8, id: &Digest) -> Option<GovernanceRefusal>
     ensures { result ≡ withdraw_refusal past.now member id.now }
 {
     match open_refusal(past, id) {

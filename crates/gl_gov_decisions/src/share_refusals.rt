@@ -88,7 +88,7 @@ fn joined_refusal(
 /// What is wrong with a share: the service doesn't wait for shares, the member has given its own,
 /// this isn't the one that was dealt to it, or it completes the threshold with a wrong secret.
 #[tactic(auto, unfolding(gl_gov_rules::specs::Refusals::share_refusal))]
-pub fn share_refusal(
+pub(crate) fn share_refusal(
     alloc: Global,
     past: &History,
     member: u8,

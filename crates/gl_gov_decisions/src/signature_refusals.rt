@@ -68,7 +68,7 @@ fn leaf_refusal(past: &History, request: &MemberRequest) -> Option<GovernanceRef
 /// What is wrong with who signed, and how: a present member signs, which is active but for its Ack,
 /// with a leaf above the last.
 #[tactic(auto, unfolding(gl_gov_rules::specs::Refusals::signed_refusal))]
-pub fn signed_refusal(
+pub(crate) fn signed_refusal(
     alloc: Global,
     past: &History,
     request: &MemberRequest,

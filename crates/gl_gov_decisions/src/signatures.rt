@@ -11,7 +11,7 @@ use std::alloc::{AllocError, Global};
 /// Whether a member's request is signed under its key, which has one level, in the service with
 /// this key.
 #[tactic(auto, unfolding(gl_gov_rules::specs::Signatures::is_signed))]
-pub fn is_signed(
+pub(crate) fn is_signed(
     alloc: Global,
     key: &HssPublicKey,
     identity: &[u8],
@@ -27,7 +27,7 @@ pub fn is_signed(
 
 /// Whether the service with this key, which has two levels, endorses a node's key.
 #[tactic(auto, unfolding(gl_gov_rules::specs::Signatures::is_endorsed))]
-pub fn is_endorsed(identity: &HssPublicKey, key: &LmsPublicKey, endorsement: &[u8]) -> bool
+pub(crate) fn is_endorsed(identity: &HssPublicKey, key: &LmsPublicKey, endorsement: &[u8]) -> bool
     ensures { result ≡ is_endorsed identity.now key.now endorsement.now }
 {
     gl_hss::verify_endorsement(identity, key, endorsement).is_ok()

@@ -60,7 +60,7 @@ fn answer_count(
 
 /// The ballots on a proposal in the requests of the past and in this one behind them, counted anew
 /// over the members who are active in the past.
-pub fn tally(past: &History, last: &Recorded, id: &Digest) -> Tally
+pub(crate) fn tally(past: &History, last: &Recorded, id: &Digest) -> Tally
     ensures { result ≡ tally past.now (past.now.requests ++ last.now ∷ []) id.now }
 {
     let ballots = past.ballots(id);
@@ -108,7 +108,7 @@ fn is_out_of_reach(tally: Tally, rule: Option<Rule>) -> bool
 
 /// Whether the rule of each of a proposal's actions is met.
 #[tactic(auto, unfolding(gl_gov_rules::specs::Tally::is_accepted))]
-pub fn is_accepted(past: &History, tally: Tally, actions: &[Action]) -> bool
+pub(crate) fn is_accepted(past: &History, tally: Tally, actions: &[Action]) -> bool
     ensures { result ≡ is_accepted past.now tally actions.now }
 {
     actions
@@ -118,7 +118,7 @@ pub fn is_accepted(past: &History, tally: Tally, actions: &[Action]) -> bool
 
 /// Whether the rule of one of a proposal's actions can't be met any more.
 #[tactic(auto, unfolding(gl_gov_rules::specs::Tally::is_rejected))]
-pub fn is_rejected(past: &History, tally: Tally, actions: &[Action]) -> bool
+pub(crate) fn is_rejected(past: &History, tally: Tally, actions: &[Action]) -> bool
     ensures { result ≡ is_rejected past.now tally actions.now }
 {
     actions

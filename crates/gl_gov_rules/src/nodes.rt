@@ -172,7 +172,7 @@ impl History {
 
     /// Whether the node's trust was applied.
     #[tactic(auto, unfolding(crate::specs::Nodes::is_trust_applied))]
-    pub fn is_trust_applied(&self, id: &NodeId) -> bool
+    fn is_trust_applied(&self, id: &NodeId) -> bool
         ensures { result ≡ is_trust_applied self.now id.now }
     {
         self.changes()
@@ -182,7 +182,7 @@ impl History {
 
     /// Whether a founding named the node, or its trust was applied.
     #[tactic(auto, unfolding(crate::specs::Nodes::was_trusted))]
-    pub fn was_trusted(&self, node: &RecordedNode) -> bool
+    fn was_trusted(&self, node: &RecordedNode) -> bool
         ensures { result ≡ was_trusted self.now node.now }
     {
         node.is_founding || self.is_trust_applied(&node.id)

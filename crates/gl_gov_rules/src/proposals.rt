@@ -1,6 +1,6 @@
 //! Proposals, the ballots on them, and the state of each.
 
-ghost use Rattle.std.specs.Prelude.{◌≡◌, ◌++◌, ◌∷◌, [], Option, true, count_by, slice_get, IfOk};
+ghost use Rattle.std.specs.Prelude.{◌≡◌, Option, true, count_by, slice_get, IfOk};
 ghost use Rattle.std.specs.Option.{option_copied};
 ghost use Rattle.std.specs.List.{position};
 ghost use Rattle.gl_gov_rules.specs.declared.change.Settling as a_settling;
@@ -178,16 +178,6 @@ impl History {
         ensures { result ≡ has_answered self.now.requests id.now agrees number }
     {
         has_vote(self.ballots(id), agrees, number)
-    }
-
-    /// Whether the member gave this answer to this proposal in a request so far or in this one behind
-    /// them.
-    #[tactic(auto, using(crate::proofs::Answered::answered_with))]
-    pub fn has_answered_with(&self, last: &Recorded, id: &Digest, agrees: bool, number: u8) -> bool
-        ensures { result
-            ≡ has_answered (self.now.requests ++ last.now ∷ []) id.now agrees number }
-    {
-        self.has_answered(id, agrees, number) || is_ballot(id, number, agrees, &last.request)
     }
 
     /// Whether the member answered this proposal.

@@ -237,7 +237,7 @@ impl History {
 
     /// The seqno of the last change that cleared the shares that were given, or 0.
     #[tactic(auto, unfolding(crate::specs::Service::last_clearing))]
-    pub fn last_clearing(&self) -> u64
+    fn last_clearing(&self) -> u64
         ensures { result ≡ last_clearing self.now }
     {
         match last_clearing_change(self.changes()) {

@@ -4,7 +4,7 @@ ghost use Rattle.std.specs.Prelude.{◌≡◌, ◌↔◌, ◌<◌, ◌≤◌, �
 ghost use Rattle.gl_lms.specs.Types.{height};
 ghost use Rattle.gl_lms.specs.Tree.{IsKey};
 ghost use Rattle.gl_lms.specs.Secrets.{public_of};
-ghost use Rattle.gl_hss.specs.Signer.{Signer, endorsement_of, signer_of, levels_above, hss_signature, signature_size, StandsUnder, Refuses};
+ghost use Rattle.gl_hss.specs.Signer.{Signer, signer_of, levels_above, hss_signature, signature_size, StandsUnder, Refuses};
 ghost use Rattle.gl_hss.specs.Hss.{IsValid, HasLeaf};
 
 use gl_lms::bytes::u32str;
@@ -112,34 +112,6 @@ impl HssSigner {
         ensures most { result ≤ self.now.reserved }
     {
         self.used
-    }
-
-    /// Signs with this endorsement from here on, or with a single level where there is none.
-    ///
-    /// It is for a key whose endorsement comes after the signer was made, or gives way to another.
-    pub fn set_endorsement(&mut self, endorsement: Option<Vec<u8>>)
-        ensures { self.new ≡ record self.old { endorsement = endorsement_of endorsement } }
-    {
-        self.endorsement = endorsement;
-    }
-
-    /// Uses every reserved leaf, without a signature.
-    ///
-    /// It is for going on after a stop: nothing is known then of the leaves that were reserved, and
-    /// each may have signed.
-    pub fn skip_reserved(&mut self)
-        ensures { self.new ≡ record self.old { used = self.old.reserved } }
-    {
-        self.used = self.reserved;
-    }
-
-    /// The key alone.
-    ///
-    /// It doesn't know which leaves are used. So another signer of it has to begin at `reserved`.
-    pub fn into_key(self) -> LmsKey
-        ensures { result ≡ self.key }
-    {
-        self.key
     }
 
     // Writes what stands before the last LMS signature.

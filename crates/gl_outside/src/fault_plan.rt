@@ -35,7 +35,7 @@ impl<'a> FaultPlan<'a> {
     }
 
     /// Counts a call, and tells whether it is to fail.
-    pub fn next_fails(&mut self) -> bool
+    pub(crate) fn next_fails(&mut self) -> bool
         ensures numbered { self.new.calls ≡ next_call self.old.calls }
         ensures failing { self.new.failing ≡ self.old.failing }
         ensures chosen { result ≡ fails_next self.old }

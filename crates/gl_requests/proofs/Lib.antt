@@ -5,3 +5,4 @@ pub mod FieldReadings
 pub mod PartReadings
 pub mod ActionReadings
 pub mod RequestReadings
+pub mod RangeTests

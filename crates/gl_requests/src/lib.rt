@@ -7,6 +7,7 @@ mod decode;
 mod encode;
 mod genesis;
 mod laws;
+mod ranges;
 mod request;
 
 pub use action::{Action, Rule};
@@ -17,4 +18,5 @@ pub use genesis::{
     ServiceState, ShareDigest,
 };
 pub use laws::law_of_requests;
+pub use ranges::is_request;
 pub use request::{GovernanceRequest, MemberAct, MemberRequest};

@@ -41,7 +41,7 @@ impl Write {
     }
 
     /// How the row of this map and key stands to the row of the write, by map, then by key.
-    pub fn order_of(&self, map: &[u8], key: &[u8]) -> Ordering
+    fn order_of(&self, map: &[u8], key: &[u8]) -> Ordering
         ensures { result ≡ row_order map.now key.now self.now }
     {
         map.cmp(self.map.as_slice())

@@ -4,9 +4,7 @@
 use crate::tests::{status_on, to_words};
 use gl_journal::KeyKind;
 use gl_keyfile::KeyFile;
-use gl_outside::{
-    Disk, MemDisk, MemSink, MemSource, NoDisk, Sink, Source, SureDisk, SureSink, SureSource,
-};
+use gl_outside::{Disk, MemDisk, MemSink, MemSource, Sink, Source, SureDisk, SureSink, SureSource};
 use std::alloc::{AllocError, Global};
 use std::test::Fail;
 
@@ -98,10 +96,6 @@ fn tells_where_bytes_are_no_seed(rt: HostRuntime) -> Result<(), Fail> {
 fn tells_which_side_fails(rt: HostRuntime) -> Result<(), Fail> {
     let alloc = rt.alloc();
     let mut sink = SureSink::new(alloc, 50);
-
-    let mut source = SureSource::new(&SEED, 32);
-    let (status, disk) = keygen(alloc, "node", &mut source, &mut sink, NoDisk::new())?;
-    assert_eq!(rt; (status, disk.faults), (5, 1));
 
     for number in 1..3 {
         let failing = [number];

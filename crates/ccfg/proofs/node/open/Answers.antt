@@ -6,7 +6,7 @@ use Rattle.gl_journal.specs.declared.fault.JournalFault.{JournalFault}
 use Rattle.gl_journal.specs.declared.fault.JournalFault.TheVariants.{DiskFault}
 use Rattle.gl_journal.specs.declared.key.KeyKind.{KeyKind}
 use Rattle.gl_journal.specs.declared.key.KeyKind.TheVariants as kinds
-use Rattle.gl_book.specs.declared.node_file.fault.OpeningFault.TheVariants as faults
+use Rattle.gl_store_book.specs.declared.node_file.fault.OpeningFault.TheVariants as faults
 use Rattle.ccfg.specs.Nodes.{beginning_of}
 use Rattle.ccfg.specs.declared.node.NodeStop.TheVariants as NodeStop
 use Rattle.ccfg.proofs.Beginnings.{of_honest, begins_of, by_bytes, by_opened, any_bytes, ledger_or_end, ok_map, of_kind, other_kind}

@@ -1,6 +1,0 @@
-use Rattle.std.proofs.Common.{◌≡◌, take}
-use Rattle.gl_book.proofs.configurations.copy_configurations.Given as goal
-
--- those so far
-abbrev pub invariant-loop-configuration : goal.invariant-loop-configuration
-invariant-loop-configuration l = l.copies.items ≡ take l.configuration-index l.configurations

@@ -1,6 +1,0 @@
-use Rattle.std.proofs.Common.{rules, sym, ◌∙◌}
-use Rattle.gl_book.proofs.RangeTests.{sized}
-use Rattle.gl_book.proofs.ranges.is_hss_key.Goals as goal
-
-pub returns : goal.returns
-returns c = search rules ∙ sym (sized 60 c.args.key (search rules) (λ i low. search rules))

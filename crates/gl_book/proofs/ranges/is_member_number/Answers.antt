@@ -1,6 +1,0 @@
-use Rattle.std.proofs.Common.{rules}
-use Rattle.gl_book.proofs.RangeTests.{numbered}
-use Rattle.gl_book.proofs.ranges.is_member_number.Goals as goal
-
-pub returns : goal.returns
-returns c = numbered c.args.number (search rules)

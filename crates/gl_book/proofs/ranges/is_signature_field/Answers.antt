@@ -1,7 +1,0 @@
-use Rattle.std.proofs.Common.{rules, sym}
-use Rattle.gl_base.specs.Bytes.{are_bytes}
-use Rattle.gl_book.proofs.RangeTests.{behind_true, within}
-use Rattle.gl_book.proofs.ranges.is_signature_field.Goals as goal
-
-pub returns : goal.returns
-returns c = sym (behind_true (are_bytes c.args.bytes.now) _ (within c.args.bytes.now (λ i low. search rules)))

@@ -1,0 +1,133 @@
+-- The frames of a ledger's entries are those of this ledger and of no other.
+use Rattle.std.proofs.Common.{◌≡◌, ℕ, suc, List, [], ◌∷◌, ◌++◌, length, map, take, Option, None, Some, Ok, true, false, slice_get, IfSome, IfOk, Result, Err, option_map, refl, sym, ap, subst, ◌∙◌, arith}
+use Rattle.std.specs.Prelude.{is_none}
+use Rattle.std.proofs.lemmas.Option.{slice_get-map}
+use Rattle.std.proofs.lemmas.Bool.Decides.{nat_tests}
+use Rattle.std.proofs.lemmas.List.{append-nil, length-append, map-append, take-map}
+use Rattle.gl_base.specs.Answers.{Fails}
+use Rattle.gl_base.specs.declared.or_no_memory.OrNoMemory.{OrNoMemory}
+use Rattle.gl_base.specs.declared.or_no_memory.OrNoMemory.TheVariants.{NoMemory, Fault}
+use Rattle.gl_entry.specs.Entry.{frame_bytes, frame_size, is_entry}
+use Rattle.gl_entry.specs.Reading.{entry_at, first_entry}
+use Rattle.gl_entry.specs.declared.entry.Entry.{Entry}
+use Rattle.gl_entry.specs.declared.fault.EntryFault.{EntryFault}
+use Rattle.gl_entry.proofs.EntryLaws.{entry_at-reads, length-frame_bytes}
+use Rattle.gl_base.proofs.Lists.{slice_get-of_take}
+use Rattle.gl_ledger.specs.Audit.{audited}
+use Rattle.gl_ledger.specs.Broken.{broken}
+use Rattle.gl_ledger.specs.NodeKeys.{service_layers}
+use Rattle.gl_ledger.specs.declared.breach.Broken.{Broken}
+use Rattle.gl_ledger.proofs.Auditing.{audited_none}
+use Rattle.gl_ledger.proofs.Valid.{valid_sound}
+use Rattle.gl_node.specs.Frames.{EachGoesOn}
+use Rattle.gl_store_book.specs.Frames.{whole_entry, entry_of_frame, ledger_of_frames, is_unbroken, goes_on_ledger, frames_of}
+
+-- ---- one frame
+
+pub whole_is : (size : ℕ) (e : Entry) (n : ℕ) → n ≡ size → whole_entry size (Ok (e, n)) ≡ Some e
+whole_is size e n same = grind (arith, nat_tests)
+
+pub not_whole : (size : ℕ) (e : Entry) (n : ℕ) → (n ≡ size → ⊥) → whole_entry size (Ok (e, n)) ≡ None
+not_whole size e n other = grind (arith, nat_tests)
+
+-- an entry was read that takes all bytes
+pub frame_read : (frame : List ℕ) (e : Entry) (n : ℕ) → first_entry frame ≡ Ok (e, n) → n ≡ length frame → entry_of_frame frame ≡ Some e
+unfolding entry_of_frame
+frame_read frame e n read same = ap (whole_entry (length frame)) read ∙ whole_is (length frame) e n same
+
+-- or that doesn't
+pub frame_cut : (frame : List ℕ) (e : Entry) (n : ℕ) → first_entry frame ≡ Ok (e, n) → (n ≡ length frame → ⊥) → entry_of_frame frame ≡ None
+unfolding entry_of_frame
+frame_cut frame e n read other = ap (whole_entry (length frame)) read ∙ not_whole (length frame) e n other
+
+-- or none was read
+pub frame_unread : (frame : List ℕ) (e : OrNoMemory EntryFault) (fault : EntryFault) → e ≡ Fault fault → Fails e (first_entry frame) → entry_of_frame frame ≡ None
+unfolding entry_of_frame
+frame_unread frame NoMemory fault is fails = absurd (cc)
+frame_unread frame (Fault other) fault is fails = ap (whole_entry (length frame)) fails
+
+-- bytes behind a frame that takes all of them are none
+pub none_over : (frame : List ℕ) (e : Entry) (rest : List ℕ) → frame ≡ frame_bytes e ++ rest → frame_size e ≡ length frame → frame ≡ frame_bytes e
+none_over frame e [] is size = is ∙ append-nil (frame_bytes e)
+none_over frame e (b ∷ rest) is size = absurd (omega (arith, ap length is, length-frame_bytes e, length-append (frame_bytes e) (b ∷ rest)))
+
+pub entry_of_frame-frame_bytes : (e : Entry) → is_entry e ≡ true → entry_of_frame (frame_bytes e) ≡ Some e
+entry_of_frame-frame_bytes e is =
+    frame_read (frame_bytes e) e (frame_size e) (ap (entry_at 0) (sym (append-nil (frame_bytes e))) ∙ entry_at-reads 0 e [] is) (sym (length-frame_bytes e))
+
+-- ---- ledgers
+
+-- Each entry fits its format.
+abbrev pub AllFit : List Entry → Type 0
+AllFit ledger = (i : ℕ) (e : Entry) → slice_get ledger i ≡ Some e → is_entry e ≡ true
+
+pub none_fit : (ledger : List Entry) → ledger ≡ [] → AllFit ledger
+none_fit [] is i e at = absurd (cc)
+none_fit (d ∷ ledger) is i e at = absurd (cc)
+
+pub ledger_of_frames-map : (ledger : List Entry) → AllFit ledger → ledger_of_frames (map frame_bytes ledger) ≡ Some ledger
+unfolding ledger_of_frames
+ledger_of_frames-map [] fits = refl
+ledger_of_frames-map (e ∷ ledger) fits = rw (entry_of_frame-frame_bytes e (fits 0 e refl), ledger_of_frames-map ledger (λ i f at. fits (suc i) f at)) refl
+
+-- a ledger of no entries, where there was none
+pub none_yet : {E : Type 0} (r : Result (List Entry) E) (o : Option (List Entry)) → o ≡ None → IfOk r (λ ledger. ledger ≡ []) → IfOk r (λ ledger. ledger_of_frames (frames_of o) ≡ Some ledger)
+unfolding ledger_of_frames
+none_yet (Ok ledger) o none is = ap (λ (x : Option (List Entry)). ledger_of_frames (frames_of x)) none ∙ ap (λ (l : List Entry). Some l) (sym is)
+none_yet (Err e) o none is = tt
+
+-- whether a frame goes on those of a ledger
+pub goes_on-ledger : (log : List (List ℕ)) (ledger : List Entry) (frame : List ℕ) (o : Option Entry) → log ≡ map frame_bytes ledger → AllFit ledger → entry_of_frame frame ≡ o
+    → goes_on_ledger log frame ≡ is_unbroken (Some ledger) o
+goes_on-ledger log ledger frame o same fits is = rw (same, ledger_of_frames-map ledger fits, is) refl
+
+pub no_frame : (log : List (List ℕ)) (frame : List ℕ) → entry_of_frame frame ≡ None → goes_on_ledger log frame ≡ false
+no_frame log frame none = go (ledger_of_frames log)
+  where
+    go : (o : Option (List Entry)) → is_unbroken o (entry_of_frame frame) ≡ false
+    go None = refl
+    go (Some ledger) = rw none refl
+
+pub frames_push : (ledger : List Entry) (e : Entry) (frame : List ℕ) → frame ≡ frame_bytes e → map frame_bytes (ledger ++ e ∷ []) ≡ map frame_bytes ledger ++ frame ∷ []
+frames_push ledger e frame is = map-append frame_bytes ledger (e ∷ []) ∙ ap (λ (f : List ℕ). map frame_bytes ledger ++ f ∷ []) (sym is)
+
+-- what a frame spells, once one was read
+spelled_some : (read : Option Entry) (e : Entry) (frame : List ℕ) → read ≡ Some e → IfSome read (λ x. (is_entry x ≡ true) × (frame ≡ frame_bytes x)) → frame ≡ frame_bytes e
+spelled_some read e frame is spelled = let P : Option Entry → Type 0 = λ o. IfSome o (λ x. (is_entry x ≡ true) × (frame ≡ frame_bytes x)) in (subst P is spelled).1
+
+-- The frame was read as an entry, and stands behind a ledger.
+pub record IsPushed (log : List (List ℕ)) (ledger : List Entry) (frame : List ℕ) (read : Option Entry) (e : Entry) : Type 0 where
+  pub same : log ≡ map frame_bytes ledger
+  pub fits : AllFit ledger
+  pub value : read ≡ entry_of_frame frame
+  pub spelled : IfSome read (λ x. (is_entry x ≡ true) × (frame ≡ frame_bytes x))
+  pub is : read ≡ Some e
+
+pub pushed : (log : List (List ℕ)) (ledger : List Entry) (frame : List ℕ) (read : Option Entry) (e : Entry) (new : List Entry) → IsPushed log ledger frame read e
+    → broken service_layers ledger e ≡ None → new ≡ ledger ++ e ∷ [] → (goes_on_ledger log frame ≡ true) × (map frame_bytes new ≡ log ++ frame ∷ [])
+pushed log ledger frame read e new p none grown = (
+  goes_on-ledger log ledger frame (Some e) p.same p.fits (sym p.value ∙ p.is) ∙ ap (λ (o : Option Broken). is_none o) none,
+  ap (map frame_bytes) grown ∙ frames_push ledger e frame (spelled_some read e frame p.is p.spelled) ∙ ap (λ (l : List (List ℕ)). l ++ frame ∷ []) (sym p.same),
+)
+
+pub not_pushed : (log : List (List ℕ)) (ledger : List Entry) (frame : List ℕ) (read : Option Entry) (e : Entry) (b : Broken) → IsPushed log ledger frame read e
+    → broken service_layers ledger e ≡ Some b → goes_on_ledger log frame ≡ false
+not_pushed log ledger frame read e b p some =
+    goes_on-ledger log ledger frame (Some e) p.same p.fits (sym p.value ∙ p.is) ∙ ap (λ (o : Option Broken). is_none o) some
+
+pub frames_take : (n : ℕ) (old : Option (List Entry)) (ledger new : List Entry) → old ≡ Some ledger → new ≡ take n ledger → map frame_bytes new ≡ take n (frames_of old)
+frames_take n old ledger new is cut = ap (map frame_bytes) cut ∙ sym (take-map frame_bytes n ledger) ∙ ap (λ (o : Option (List Entry)). take n (frames_of o)) (sym is)
+
+-- the frame of each entry of a valid ledger goes on those before it
+pub follow_each : (ledger : List Entry) → audited service_layers ledger ≡ None → EachGoesOn goes_on_ledger (map frame_bytes ledger)
+follow_each ledger valid i frame at =
+    let there = entry_there (slice_get ledger i) refl (sym (slice_get-map frame_bytes ledger i) ∙ at) in
+    let sound = valid_sound service_layers ledger valid in
+    goes_on-ledger (take i (map frame_bytes ledger)) (take i ledger) frame (Some there.0) (take-map frame_bytes i ledger)
+    (λ j e is. let r = slice_get-of_take i ledger j e is in sound.in_order.fits j e r.1)
+    (ap entry_of_frame (sym there.2) ∙ entry_of_frame-frame_bytes there.0 (sound.in_order.fits i there.0 there.1))
+    ∙ ap (λ (o : Option Broken). is_none o) (audited_none service_layers ledger valid i there.0 there.1)
+  where
+    entry_there : (o : Option Entry) → slice_get ledger i ≡ o → option_map frame_bytes o ≡ Some frame → (e : Entry) × (slice_get ledger i ≡ Some e) × (frame_bytes e ≡ frame)
+    entry_there None is none = absurd (cc)
+    entry_there (Some e) is some = let k : frame_bytes e ≡ frame = cc in (e, is, k)

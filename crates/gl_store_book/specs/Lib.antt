@@ -1,0 +1,11 @@
+pub mod Stands
+pub mod Lists
+pub mod Taken
+pub mod Founding
+pub mod Frames
+pub mod NodeFile
+pub mod ServiceStart
+pub mod AtOpening
+pub mod Turns
+pub mod Replicas
+pub mod Reopening

@@ -1,0 +1,40 @@
+//! What is promised of a node that serves from its file, through a stop: laws, and no code.
+
+ghost use Rattle.std.specs.Prelude.{◌≡◌, None, Ok, IsTrue};
+ghost use Rattle.gl_journal.specs.Durable.{Durable as State};
+ghost use Rattle.gl_ledger.specs.Audit.{audited};
+ghost use Rattle.gl_ledger.specs.NodeKeys.{service_layers};
+ghost use Rattle.gl_node.specs.Kept.{kept_after};
+ghost use Rattle.gl_node.specs.Rules.{rule_of};
+ghost use Rattle.gl_replication.specs.Stands.{Tells};
+ghost use Rattle.gl_store_book.specs.NodeFile.{opened};
+ghost use Rattle.gl_store_book.specs.Reopening.{GivesRestart};
+ghost use Rattle.gl_store_book.specs.Stands.{Stands};
+
+use crate::store_book::StoreBook;
+use gl_node::{Event, Replica};
+use gl_outside::Disk;
+
+/// A node's ledger breaks no rule of the audit.
+fn is_audited(book: &StoreBook)
+    ensures { audited service_layers book.now.ledger ≡ None }
+{
+    let _len = book.ledger.len();
+}
+
+/// A stop forgets nothing. What the file of a node holds between events gives, once it is opened
+/// again, the node's restart. And whatever event comes next, what is to be kept of it gives the
+/// restart of the node that its rule makes.
+pub fn a_stop_forgets_nothing<D: Disk + Drop>(
+    replica: &Replica<D, StoreBook>,
+    event: &Event<StoreBook>,
+)
+    ensures before { IsTrue D.honest → replica.now.stopped ≡ None →
+        Tells Stands replica.now.core (λ b x n. (d : State) →
+        opened (D.bytes replica.now.disk) ≡ Ok d → GivesRestart b n d) }
+    ensures after { Tells Stands replica.now.core (λ b x n. (d : State) →
+        let next = (rule_of event.now b x n).node in GivesRestart b next (kept_after d next)) }
+{
+    let _disk = replica.disk();
+    is_audited(&replica.core().book);
+}

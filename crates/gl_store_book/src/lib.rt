@@ -1,0 +1,26 @@
+//! The store of a node as the book that the rules of consensus read: its ledger, which takes no entry
+//! that breaks a rule of the audit, and the key that it signs with. It knows nothing of commit, so
+//! each entry can be cut away.
+#![tactic(auto)]
+
+mod batch;
+mod book;
+mod book_ledger;
+mod client_book;
+mod configurations;
+mod founding;
+mod laws;
+mod makers;
+mod node_file;
+mod node_lists;
+mod recorded;
+mod refusals;
+mod signing;
+mod store_book;
+
+pub use book_ledger::BookLedger;
+pub use laws::a_stop_forgets_nothing;
+pub use node_file::keeping::{keep, keep_opening};
+pub use node_file::opening_batch::Turn;
+pub use node_file::{NodeFile, OpeningFault};
+pub use store_book::StoreBook;

@@ -1,0 +1,54 @@
+//! A node's key, and its ledger.
+
+ghost use Rattle.std.specs.Prelude.{◌≡◌, [], IfOk};
+
+use crate::book_ledger::BookLedger;
+use gl_config::NodeId;
+use gl_lms::LmsKey;
+use std::alloc::{AllocError, Global};
+use std::marker::Model;
+
+/// A valid ledger, and the key of the node that signs it. The service's endorsement of the key stands
+/// in the ledger, once that records the node.
+#[derive(Drop)]
+pub struct StoreBook {
+    pub(crate) alloc: Global,
+    pub(crate) me: NodeId,
+    pub(crate) key: LmsKey,
+    pub ledger: BookLedger,
+}
+
+impl Model for StoreBook {
+    ghost use Rattle.gl_store_book.specs.Stands.{NodeStore};
+
+    ghost Value = { NodeStore };
+
+    ghost view = { λ b. record {
+      me = b.me;
+      key = b.key;
+      ledger = b.ledger;
+    } };
+}
+
+impl StoreBook {
+    ghost use Rattle.gl_ledger.specs.NodeKeys.{NodeKeys, service_layers};
+    ghost use Rattle.gl_ledger.specs.LedgerBook.{ledger_book};
+    ghost use Rattle.gl_store_book.specs.Stands.{Stands};
+
+    /// That of a node that joins: it has no entry yet. Fails for want of memory alone.
+    pub fn joining(alloc: Global, me: NodeId, key: LmsKey) -> Result<Self, AllocError>
+        ensures holds { IfOk result (λ book.
+            book ≡ record { me = me; key = key; ledger = [] }) }
+        ensures stands { IfOk result (λ book. (keys : NodeKeys) → keys.key_of me ≡ key →
+            Stands book (ledger_book service_layers keys)
+            (record { me = me; base = 0; log = [] })) }
+    {
+        let ledger = BookLedger::new(alloc)?;
+        Ok(StoreBook {
+            alloc,
+            me,
+            key,
+            ledger,
+        })
+    }
+}

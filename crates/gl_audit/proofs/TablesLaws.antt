@@ -22,10 +22,6 @@ versions_below ledger t seqno h stands at map key =
     let same : version_of t map key ≡ version_in (writes_of ledger) map key = version_of-stands t (writes_of ledger) stands map key in
     omega (arith, below, same, at)
 
--- tables of no writes have no version
-pub nothing_below : (t : Kept) (seqno : ℕ) → StandsFor t [] → 0 < seqno → (map key : List ℕ) → version_of t map key < seqno
-nothing_below t seqno stands some map key = let none : version_of t map key ≡ 0 = version_of-stands t [] stands map key in omega (arith, none, some)
-
 -- ---- the root
 
 -- what holds of the whole list of a frontier's leaves holds of those that it is the tree of

@@ -86,7 +86,7 @@ impl KnownNodes {
 
     /// The fault that `node_signature_fault` tells. The endorsement of a known node isn't hashed
     /// again.
-    pub fn signature_fault(
+    pub(crate) fn signature_fault(
         &self,
         identity: &HssPublicKey,
         node: &NodeId,
@@ -106,7 +106,7 @@ impl KnownNodes {
     }
 
     /// Knows a node from now on, if the endorsement that was recorded is valid and there is memory.
-    pub fn learn(&mut self, identity: &HssPublicKey, node: &RecordedNode)
+    pub(crate) fn learn(&mut self, identity: &HssPublicKey, node: &RecordedNode)
         ensures { Learns identity.now node.now.id self.old.nodes.items self.new.nodes.items }
     {
         if self.key_of(identity, &node.id).is_some() {

@@ -20,7 +20,7 @@ fn is_above_removal(mark: Option<u64>, removal: Option<u64>, seqno: u64, commit:
 }
 
 /// The same of all recorded nodes.
-pub fn are_above_removals(past: &History, seqno: u64, commit: u64) -> bool
+pub(crate) fn are_above_removals(past: &History, seqno: u64, commit: u64) -> bool
     ensures { result ≡ list_all (λ (n : a_node.RecordedNode). is_above_removal
         (mark past.now n.id) (option_map (λ (c : a_change.Changed). c.seqno)
         (retirement past.now n)) seqno commit) (nodes past.now) }

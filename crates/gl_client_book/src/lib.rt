@@ -7,6 +7,3 @@ mod reply;
 
 pub use client_book::ClientBook;
 pub use reply::given_bytes;
-
-#[cfg(test)]
-mod tests;

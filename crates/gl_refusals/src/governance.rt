@@ -18,7 +18,7 @@ fn status_number(status: Option<NodeStatus>) -> u8
 }
 
 /// The number of a refusal of a request of governance, and its values.
-pub fn governance_reason(alloc: Global, refusal: GovernanceRefusal) -> Result<Reason, AllocError>
+pub(crate) fn governance_reason(alloc: Global, refusal: GovernanceRefusal) -> Result<Reason, AllocError>
     ensures { IfOk result (λ reason. reason ≡ governance_reason refusal) }
 {
     use GovernanceRefusal::*;

@@ -10,6 +10,3 @@ mod value;
 pub use reason::reason_of;
 pub use spelling::values_bytes;
 pub use value::{Reason, Value};
-
-#[cfg(test)]
-mod tests;

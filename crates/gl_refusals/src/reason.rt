@@ -32,7 +32,7 @@ fn store_reason(alloc: Global, refusal: gl_ledger::Refusal) -> Result<Reason, Al
 }
 
 /// Why the ledger takes no entry.
-pub fn unmade_reason(alloc: Global, why: Unmade) -> Result<Reason, AllocError>
+pub(crate) fn unmade_reason(alloc: Global, why: Unmade) -> Result<Reason, AllocError>
     ensures { IfOk result (λ reason. reason ≡ unmade_reason why) }
 {
     match why {

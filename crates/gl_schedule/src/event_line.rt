@@ -9,7 +9,7 @@ use gl_world::Event;
 
 /// The event for which a line asks that asks for one and names nodes alone. Another line is given
 /// back.
-pub fn event_in(line: Line) -> Result<Event, Line>
+pub(crate) fn event_in(line: Line) -> Result<Event, Line>
     ensures event { IfOk result (λ event. event_in line ≡ Some event) }
     ensures other { IfErr result (λ back. (back ≡ line) × (event_in line ≡ None)) }
 {

@@ -13,7 +13,7 @@ pub struct LineRequest {
 }
 
 /// The request of the line with a number, if it made one.
-pub fn request_named(requests: &[LineRequest], line: u128) -> Option<&LineRequest>
+pub(crate) fn request_named(requests: &[LineRequest], line: u128) -> Option<&LineRequest>
     ensures { option_copied result ≡ request_named requests.now line }
 {
     requests

@@ -5,7 +5,7 @@ ghost use Rattle.gl_requests.specs.Ranges.{is_member_number};
 ghost use Rattle.gl_schedule.specs.Play.{byte_number};
 
 /// The number of a node as a byte: 0, which names no node, for one that is too large.
-pub fn node_number(number: u128) -> u8
+pub(crate) fn node_number(number: u128) -> u8
     ensures { result ≡ byte_number number }
 {
     if number < 256 { number as u8 } else { 0 }

@@ -85,7 +85,7 @@ fn put_values_behind(
 }
 
 /// The number of a refusal and its values.
-pub fn put_reason(
+fn put_reason(
     alloc: Global,
     out: &mut Vec<u8>,
     ids: &[NodeId],
@@ -99,7 +99,7 @@ pub fn put_reason(
 }
 
 /// That an event is refused, and why. Want of memory isn't told.
-pub fn put_refusal<
+pub(crate) fn put_refusal<
     B: Book<
         Request = Request,
         Gov = GovernanceRequest,
@@ -142,7 +142,7 @@ fn put_id(out: &mut Vec<u8>, word: &[u8], view: u32, seqno: u64) -> Result<(), A
 }
 
 /// What came of an event that isn't refused.
-pub fn put_outcome(
+pub(crate) fn put_outcome(
     alloc: Global,
     out: &mut Vec<u8>,
     outcome: &Outcome<Given>,

@@ -130,7 +130,7 @@ pub fn put_proposal(
     }
 }
 
-pub fn put_status(out: &mut Vec<u8>, status: Status) -> Result<(), AllocError>
+pub(crate) fn put_status(out: &mut Vec<u8>, status: Status) -> Result<(), AllocError>
     ensures { OnOk result (out.new.items ≡ out.old.items ++ status_text status) }
 {
     match status {
@@ -142,7 +142,7 @@ pub fn put_status(out: &mut Vec<u8>, status: Status) -> Result<(), AllocError>
 }
 
 /// How far a retirement has come.
-pub fn put_stage(out: &mut Vec<u8>, stage: Option<Stage>) -> Result<(), AllocError>
+pub(crate) fn put_stage(out: &mut Vec<u8>, stage: Option<Stage>) -> Result<(), AllocError>
     ensures { OnOk result
         (out.new.items ≡ out.old.items ++ stage_text (option_map seen_stage stage)) }
 {
@@ -176,7 +176,7 @@ fn put_ids_behind(out: &mut Vec<u8>, entries: &[Entry]) -> Result<(), AllocError
     Ok(())
 }
 
-pub fn put_ids(out: &mut Vec<u8>, entries: &[Entry]) -> Result<(), AllocError>
+pub(crate) fn put_ids(out: &mut Vec<u8>, entries: &[Entry]) -> Result<(), AllocError>
     ensures { OnOk result (out.new.items ≡ out.old.items ++ ids_text entries.now) }
 {
     out.extend_from_slice(b"ids")?;
@@ -203,7 +203,7 @@ fn put_entries(alloc: Global, out: &mut Vec<u8>, entries: &[Entry]) -> Result<()
     Ok(())
 }
 
-pub fn put_ledger(alloc: Global, out: &mut Vec<u8>, entries: &[Entry]) -> Result<(), AllocError>
+pub(crate) fn put_ledger(alloc: Global, out: &mut Vec<u8>, entries: &[Entry]) -> Result<(), AllocError>
     requires { AllByRecursion (λ e. is_entry e ≡ true) entries.now }
     ensures { OnOk result (out.new.items ≡ out.old.items ++ ledger_text entries.now) }
 {
@@ -213,7 +213,7 @@ pub fn put_ledger(alloc: Global, out: &mut Vec<u8>, entries: &[Entry]) -> Result
 }
 
 /// That each leaf of a member's key is used, with their number.
-pub fn put_spent(out: &mut Vec<u8>) -> Result<(), AllocError>
+pub(crate) fn put_spent(out: &mut Vec<u8>) -> Result<(), AllocError>
     ensures { OnOk result (out.new.items ≡ out.old.items ++ spent_text) }
 {
     out.extend_from_slice(b"refused 113")?;
@@ -221,14 +221,14 @@ pub fn put_spent(out: &mut Vec<u8>) -> Result<(), AllocError>
 }
 
 /// That a line names no node, no message, no member or no earlier request.
-pub fn put_unnamed(out: &mut Vec<u8>) -> Result<(), AllocError>
+pub(crate) fn put_unnamed(out: &mut Vec<u8>) -> Result<(), AllocError>
     ensures { OnOk result (out.new.items ≡ out.old.items ++ unnamed_text) }
 {
     out.extend_from_slice(b"refused 0")
 }
 
 /// That it names no proposal.
-pub fn put_no_proposal(out: &mut Vec<u8>) -> Result<(), AllocError>
+pub(crate) fn put_no_proposal(out: &mut Vec<u8>) -> Result<(), AllocError>
     ensures { OnOk result (out.new.items ≡ out.old.items ++ no_proposal_text) }
 {
     out.extend_from_slice(b"refused 44")
@@ -246,7 +246,7 @@ fn put_numbers(out: &mut Vec<u8>, before: usize, now: usize) -> Result<(), Alloc
 }
 
 /// The numbers of the new messages, if there are any.
-pub fn put_sent(out: &mut Vec<u8>, before: usize, now: usize) -> Result<(), AllocError>
+pub(crate) fn put_sent(out: &mut Vec<u8>, before: usize, now: usize) -> Result<(), AllocError>
     ensures { OnOk result (out.new.items ≡ out.old.items ++ new_messages (now - before) before) }
 {
     if now <= before {

@@ -20,7 +20,7 @@ use gl_serve::Outcome;
 use std::alloc::{AllocError, Global};
 
 /// A refusal as it is told, or that memory ran out.
-pub fn reason_said(alloc: Global, reason: &Reason) -> Said
+pub(crate) fn reason_said(alloc: Global, reason: &Reason) -> Said
     requires { length reason.now.values ≤ most_values }
     ensures due { Says (reason_said reason.now) result }
     ensures fits { IsTrue (said_fits result) }
@@ -35,7 +35,7 @@ pub fn reason_said(alloc: Global, reason: &Reason) -> Said
 }
 
 /// A refusal of the rules as it is told, or that memory ran out.
-pub fn refusal_said<B: Book<Refused = Unmade>>(alloc: Global, why: &Refusal<B>) -> Said
+pub(crate) fn refusal_said<B: Book<Refused = Unmade>>(alloc: Global, why: &Refusal<B>) -> Said
     ensures due { Says (refusal_said (seen_refusal why.now)) result }
     ensures fits { IsTrue (said_fits result) }
 {
@@ -58,7 +58,7 @@ fn status_byte(status: Status) -> u8
 }
 
 /// Why there is no receipt.
-pub fn make_reason(alloc: Global, fault: MakeFault) -> Result<Reason, AllocError>
+pub(crate) fn make_reason(alloc: Global, fault: MakeFault) -> Result<Reason, AllocError>
     ensures reason { IfOk result (λ reason. reason ≡ make_reason fault) }
     ensures few { IfOk result (λ reason. length reason.values ≤ most_values) }
 {
@@ -71,7 +71,7 @@ pub fn make_reason(alloc: Global, fault: MakeFault) -> Result<Reason, AllocError
 }
 
 /// A receipt's JSON as it is told, or that memory ran out.
-pub fn json_said(alloc: Global, json: Vec<u8>) -> Said
+pub(crate) fn json_said(alloc: Global, json: Vec<u8>) -> Said
     ensures due { Says (json_said json.items) result }
     ensures fits { IsTrue (said_fits result) }
 {

@@ -18,7 +18,7 @@ fn tells_of_service(in_view: bool, sent: &Message) -> bool
 
 /// Whether the count of ticks begins again: a vote was granted, or entries of the node's view were
 /// answered.
-pub fn is_heard(came: u32, view: u32, sent: &[Message]) -> bool
+pub(crate) fn is_heard(came: u32, view: u32, sent: &[Message]) -> bool
     ensures { result ≡ is_heard came view sent.now }
 {
     let in_view = came == view;

@@ -40,7 +40,7 @@ impl PeerMessage {
         self.message.view
     }
 
-    pub fn into_message(self) -> Message
+    pub(crate) fn into_message(self) -> Message
         ensures message { result ≡ self }
         ensures few { brings_few result.body ≡ true }
     {

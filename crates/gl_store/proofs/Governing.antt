@@ -2,7 +2,6 @@
 use Rattle.std.proofs.Common.{◌≡◌, ℕ, ◌+◌, ◌<◌, ◌≤◌, List, [], ◌∷◌, ◌++◌, length, Option, None, Some, Result, Ok, Err, Bool, true, false, ◌||◌, nat_lt, if◌then◌else◌, sym, ◌∙◌, ap, ap₂, arith}
 use Rattle.std.proofs.lemmas.Bool.Decides.{nat_tests}
 use Rattle.gl_base.specs.TxId.{last_seqno}
-use Rattle.gl_base.specs.declared.tx_id.TxId.{TxId}
 use Rattle.gl_entry.specs.Entry.{body_bytes, body_limit}
 use Rattle.gl_entry.specs.declared.entry.Content.TheVariants as content
 use Rattle.gl_entry.specs.declared.entry.Entry.{Entry}
@@ -16,14 +15,12 @@ use Rattle.gl_gov_rules.specs.declared.refusal.GovernanceRefusal.{GovernanceRefu
 use Rattle.gl_ledger.specs.Ledger.{governance_entry}
 use Rattle.gl_ledger.specs.declared.made.Given.{Given}
 use Rattle.gl_ledger.specs.declared.made.Unmade.{Unmade}
-use Rattle.gl_ledger.specs.declared.made.Unmade.TheVariants.{ByStore, Unspelled, Founding}
+use Rattle.gl_ledger.specs.declared.made.Unmade.TheVariants.{Unspelled, Founding}
 use Rattle.gl_ledger.specs.Makers.{unless_refused, governance_made, governed_within, accepted_result, govern_result, by_store}
 use Rattle.gl_ledger.specs.Recordings.{requests_of}
 use Rattle.gl_ledger.specs.declared.refusal.Refusal.TheVariants as refusals
 use Rattle.gl_ledger.proofs.Gathering.{requests-more}
 use Rattle.gl_ledger.proofs.RequestSpellings.{request_in-read}
-use Rattle.gl_audit.specs.Committed.{Held}
-use Rattle.gl_store.specs.Calls.{Governs}
 
 -- the requests behind its entry
 pub requests_behind : (ledger : List Entry) (g : GovernanceRequest) (e : Entry) → is_request g ≡ true → e.content ≡ content.Governance (request_bytes g) →
@@ -35,12 +32,6 @@ pub govern_asked : (ledger : List Entry) (view : ℕ) (g : GovernanceRequest) �
 govern_asked ledger view g fits founding recovery =
     ap (λ (b : Bool). if b then (if is_founding g || is_recovery g then Err Founding else accepted_result ledger view g) else Err Unspelled) fits
     ∙ ap₂ (λ (a b : Bool). if a || b then Err Founding else accepted_result ledger view g) founding recovery
-
--- where the rules of governance refuse it, that is its refusal
-pub govern_refused : (ledger : List Entry) (view : ℕ) (g : GovernanceRequest) (why : GovernanceRefusal) → is_request g ≡ true → is_founding g ≡ false → is_recovery g ≡ false →
-    refusal (history (requests_of ledger)) (length ledger + 1) g ≡ Some why → govern_result ledger view g ≡ Err (ByStore (refusals.Governance why))
-govern_refused ledger view g why fits founding recovery is =
-    govern_asked ledger view g fits founding recovery ∙ ap (λ (o : Option GovernanceRefusal). unless_refused o (governed_within ledger g (governance_entry g ledger view))) is
 
 -- and else it is its entry, within the limits
 pub govern_accepted : (ledger : List Entry) (view : ℕ) (g : GovernanceRequest) → is_request g ≡ true → is_founding g ≡ false → is_recovery g ≡ false →
@@ -80,16 +71,3 @@ govern_ok ledger view g e is = asked (is_request g) (is_founding g || is_recover
     asked false f w = absurd (cc)
     asked true true w = absurd (cc)
     asked true false w = accepted (refusal (history (requests_of ledger)) (length ledger + 1) g) w
-
--- a store with that entry governed the request
-pub governs_made : (old new : Held) (view seqno : ℕ) (g : GovernanceRequest) (e : Entry) → is_request g ≡ true → is_founding g ≡ false → is_recovery g ≡ false →
-    refusal (history (requests_of old.ledger)) (length old.ledger + 1) g ≡ None → e ≡ governance_entry g old.ledger view → length (body_bytes e) ≤ body_limit → length old.ledger < last_seqno →
-    seqno ≡ length old.ledger + 1 → new ≡ record old { ledger = old.ledger ++ e ∷ [] } → Governs old view g (record { view = view; seqno = seqno }) new
-governs_made old new view seqno g e fits founding recovery accepted made small left at grown = record {
-  entry = e;
-  made = govern_accepted old.ledger view g fits founding recovery accepted ∙ ap (governed_within old.ledger g) (sym made) ∙ within_made old.ledger g e small left;
-  enters = record { named = ap named at; entered = grown };
-}
-  where
-    named : ℕ → TxId
-    named n = record { view = view; seqno = n }

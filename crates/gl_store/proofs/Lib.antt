@@ -1,8 +1,6 @@
 pub mod Recorded
-pub mod Counted
 pub mod Applications
 pub mod Governing
 pub mod Keeping
 pub mod Unbroken
 pub mod OpeningLedgers
-pub mod Following

@@ -3,19 +3,16 @@ use Rattle.std.specs.Prelude.{◌≡◌, ℕ, ◌+◌, List, [], ◌∷◌, ◌+
 use Rattle.gl_base.specs.declared.or_no_memory.OrNoMemory.{OrNoMemory}
 use Rattle.gl_base.specs.declared.or_no_memory.OrNoMemory.TheVariants.{NoMemory, Fault}
 use Rattle.gl_base.specs.declared.tx_id.TxId.{TxId}
-use Rattle.gl_hss.specs.Signer.{Signer, hss_signature}
 use Rattle.gl_rules.specs.Identity.{NodeId}
 use Rattle.gl_rules.specs.Node.{Node}
 use Rattle.gl_entry.specs.declared.entry.Entry.{Entry}
 use Rattle.gl_tx.specs.declared.request.Operation.{Operation}
 use Rattle.gl_tx.specs.declared.request.Answer.{Answer}
-use Rattle.gl_ledger.specs.NodeKeys.{IsNodeKey, NodeKeys}
-use Rattle.gl_ledger.specs.Ledger.{message_behind, sign_result}
 use Rattle.gl_requests.specs.declared.request.GovernanceRequest.{GovernanceRequest}
 use Rattle.gl_ledger.specs.declared.made.Given.TheVariants.{Replied}
 use Rattle.gl_ledger.specs.declared.made.Unmade.{Unmade}
 use Rattle.gl_ledger.specs.declared.made.Unmade.TheVariants.{ByStore}
-use Rattle.gl_ledger.specs.Makers.{governance_made, request_result, govern_result, by_store}
+use Rattle.gl_ledger.specs.Makers.{governance_made, request_result, govern_result}
 use Rattle.gl_ledger.specs.declared.refusal.Refusal.{Refusal}
 use Rattle.gl_ledger.specs.NodeKeys.{service_layers}
 use Rattle.gl_ledger.specs.Audit.{LedgerFault, opened}
@@ -45,29 +42,6 @@ pub record Governs (old : Held) (view : ℕ) (g : GovernanceRequest) (id : TxId)
     Type 0 where
   pub entry : Entry
   pub made : govern_result old.ledger view g ≡ Ok (governance_made old.ledger g entry)
-  pub enters : Enters old view entry id new
-
--- The signer signs for a node of the service with this key: it has the key of which the node's
--- identifier is the digest, and an endorsement of it by the service, whichever.
-pub record SignsFor (node : NodeId) (identity : List ℕ) (signer : Signer) : Type 0 where
-  pub keys : NodeKeys
-  pub by : List ℕ
-  pub key : signer.key ≡ keys.key_of node
-  pub endorsement : signer.endorsement ≡ Some by
-  pub endorsed : IsNodeKey keys by identity node
-
--- What a signer signs behind a ledger with its next leaf, in a view and with a commit.
-abbrev pub signature_of : Signer → List Entry → ℕ → ℕ → List ℕ
-signature_of signer ledger view commit =
-    hss_signature signer.key signer.endorsement signer.used (message_behind ledger view commit)
-
--- The store made the entry of a node's signature, with this identifier.
-pub record Signs (old : Held) (node : NodeId) (signer : Signer) (view : ℕ) (id : TxId)
-    (new : Held) : Type 0 where
-  pub entry : Entry
-  pub made : by_store (sign_result node (signature_of signer old.ledger view old.commit) old.ledger
-      view old.commit)
-      ≡ Ok entry
   pub enters : Enters old view entry id new
 
 -- A refusal is the one that is owed; memory may run out at any time.

@@ -2,9 +2,7 @@
 
 ghost use Rattle.std.specs.Prelude.{◌≡◌, ◌+◌, ◌≤◌, ◌<◌, ◌^◌, List, true, length, None, Err, IfOk, IfSome, IfNone, OnOk};
 ghost use Rattle.sha2.specs.Sha256.{sha256};
-ghost use Rattle.gl_base.specs.Bytes.{are_bytes};
 ghost use Rattle.gl_base.specs.TxId.{last_seqno};
-ghost use Rattle.gl_hss.specs.Signer.{hss_signature};
 ghost use Rattle.gl_tx.specs.Request.{is_request, request_bytes, reply_bytes};
 ghost use Rattle.gl_tx.specs.declared.request.Answer.{Answer};
 ghost use Rattle.gl_entry.specs.Entry.{is_entry, body_bytes, body_limit, content_bytes, no_digest};
@@ -17,7 +15,6 @@ ghost use Rattle.gl_ledger.specs.Makers.{governed_within};
 
 use gl_base::{Bytes, LAST_SEQNO, MEBIBYTE};
 use gl_entry::{Content, Digest, Entry};
-use gl_hss::HssSigner;
 use gl_ledger::Refusal;
 use gl_requests::GovernanceRequest;
 use gl_tx::Request;
@@ -30,7 +27,7 @@ pub const NO_DIGEST: Digest = [0; 32];
 
 /// The entry of a request of governance with these writes. One whose request or writes are 2^32 or
 /// more has no place in memory.
-pub fn governance_entry(
+pub(crate) fn governance_entry(
     alloc: Global,
     view: u32,
     seqno: u64,
@@ -63,31 +60,8 @@ pub fn governance_entry(
     })
 }
 
-/// The signature of a message by the signer's next leaf, which isn't spent by that.
-pub fn next_signature(signer: &HssSigner, message: &[u8]) -> Result<Bytes, AllocError>
-    requires left { signer.now.used < signer.now.reserved }
-    requires endorsement { IfSome signer.now.endorsement (λ bytes. length bytes ≤ 2 ^ 15) }
-    ensures bytes { IfOk result (λ signature. signature
-        ≡ hss_signature signer.now.key signer.now.endorsement signer.now.used message.now) }
-    ensures are_bytes { IfOk result (λ signature. are_bytes signature ≡ true) }
-    ensures short { IfOk result (λ signature. length signature ≤ 2 ^ 16) }
-{
-    match signer.signature(message) {
-        Ok(signature) => Ok(to_record(signature)),
-        Err(_) => Err(AllocError),
-    }
-}
-
-/// A signature's bytes, as an entry records them.
-fn to_record(signature: Vec<u8>) -> Bytes
-    ensures value { result ≡ signature.items }
-    ensures are_bytes { are_bytes result ≡ true }
-{
-    Bytes::from(signature)
-}
-
 /// The entry of a request that ran with these writes and this reply.
-pub fn application_entry(
+pub(crate) fn application_entry(
     alloc: Global,
     view: u32,
     seqno: u64,
@@ -121,7 +95,7 @@ pub fn application_entry(
 }
 
 /// The first limit that an entry without a reply passes: the size of its body, its seqno.
-pub fn governance_limit_passed(body_len: u64, seqno: u64) -> Option<Refusal>
+pub(crate) fn governance_limit_passed(body_len: u64, seqno: u64) -> Option<Refusal>
     ensures body { IfNone result (body_len ≤ body_limit) }
     ensures seqno { IfNone result (seqno ≤ last_seqno) }
     ensures owed { IfSome result (λ refusal. (ledger : List made.Entry)
@@ -139,7 +113,7 @@ pub fn governance_limit_passed(body_len: u64, seqno: u64) -> Option<Refusal>
 }
 
 /// The first limit that an entry passes: the size of its body, that of its reply, its seqno.
-pub fn limit_passed(body_len: u64, reply: &[u8], seqno: u64) -> Option<Refusal>
+pub(crate) fn limit_passed(body_len: u64, reply: &[u8], seqno: u64) -> Option<Refusal>
     ensures body { IfNone result (body_len ≤ body_limit) }
     ensures reply { IfNone result (length reply.now ≤ body_limit) }
     ensures seqno { IfNone result (seqno ≤ last_seqno) }

@@ -1,21 +1,19 @@
 //! The store of one node: a valid ledger, and up to which seqno it is committed.
 
-ghost use Rattle.std.specs.Prelude.{◌≡◌, ◌↔◌, ◌+◌, ◌-◌, ◌≤◌, ◌<◌, [], ◌∷◌, ◌++◌, ℕ, List, true, length, take, map, None, Some, IsTrue, IfOk, IfErr, IfSome, IfNone, OnErr, OnOk};
+ghost use Rattle.std.specs.Prelude.{◌≡◌, ◌+◌, ◌-◌, ◌≤◌, ◌<◌, [], ◌∷◌, ◌++◌, true, length, take, None, Some, IfOk, IfErr, IfSome, OnErr, OnOk};
 ghost use Rattle.std.specs.List.{AllByRecursion};
 ghost use Rattle.std.specs.Option.{option_copied};
 ghost use Rattle.gl_vmaps.specs.Standing.{StandsFor};
 ghost use Rattle.gl_entry.specs.Entry.{is_entry};
 ghost use Rattle.gl_requests.specs.Ranges.{is_genesis};
 ghost use Rattle.gl_ledger.specs.Ledger.{genesis_entry};
-ghost use Rattle.gl_store.specs.Calls.{signature_of};
 
 use crate::not_opening::NotOpening;
 use gl_audit::{GovState, LedgerEnd, LedgerState, count_up_to, is_unopened, seqno_at};
-use gl_base::{FIRST_VIEW, OrNoMemory, Status, TxId, status};
-use gl_entry::{Content, Digest, Entry, NodeId};
-use gl_hss::HssSigner;
+use gl_base::{OrNoMemory, Status, TxId, status};
+use gl_entry::{Digest, Entry};
 use gl_ledger::Broken;
-use gl_requests::{Genesis, GovernanceRequest, HssPublicKey};
+use gl_requests::Genesis;
 use gl_vmaps::Tables;
 use std::alloc::{AllocError, Global};
 use std::marker::Model;
@@ -56,16 +54,12 @@ impl Store {
     ghost use Rattle.gl_rules.specs.Log.{entry_at};
     ghost use Rattle.gl_rules.specs.Node.{Node};
     ghost use Rattle.gl_rules.specs.Safety.{reported_status, view_of};
-    ghost use Rattle.gl_rules.specs.Identity.{member};
-    ghost use Rattle.gl_requests.specs.Spelling.{node_id};
     ghost use Rattle.gl_gov_rules.specs.History.{no_history};
     ghost use Rattle.gl_gov_rules.specs.Refusals.{genesis_refusal};
-    ghost use Rattle.gl_ledger.specs.Ledger.{opening_ledger};
     ghost use Rattle.gl_merkle.specs.Tree.{root_of};
-    ghost use Rattle.gl_ledger.specs.Tree.{writes_of, tables_of, leaves_of};
-    ghost use Rattle.gl_ledger.specs.Recordings.{last_entry, requests_of, recorded_nodes};
-    ghost use Rattle.gl_ledger.specs.ServiceRow.{identity_in};
-    ghost use Rattle.gl_ledger.specs.Broken.{is_unopened, last_signed, last_commit, may_record, broken};
+    ghost use Rattle.gl_ledger.specs.Tree.{writes_of, leaves_of};
+    ghost use Rattle.gl_ledger.specs.Recordings.{last_entry, requests_of};
+    ghost use Rattle.gl_ledger.specs.Broken.{is_unopened, last_signed, last_commit, broken};
     ghost use Rattle.gl_ledger.specs.Sound.{IsSound};
     ghost use Rattle.gl_ledger.specs.Audit.{audited, fault_from};
     ghost use Rattle.gl_ledger.specs.Layers.{Layers};
@@ -74,7 +68,7 @@ impl Store {
     ghost use Rattle.gl_ledger.specs.Signed.{IsSignedUpTo};
     ghost use Rattle.gl_receipt.specs.Made.{signature_above};
     ghost use Rattle.gl_audit.specs.Kept.{Breaks};
-    ghost use Rattle.gl_store.specs.Calls.{SignsFor, IsNodeOf, StopsAt, Opens, IsNotOpened};
+    ghost use Rattle.gl_store.specs.Calls.{IsNodeOf, StopsAt, Opens, IsNotOpened};
 
     /// Of no entries.
     pub fn new(alloc: Global) -> Result<Self, AllocError>
@@ -86,39 +80,6 @@ impl Store {
             commit: 0,
             alloc,
         })
-    }
-
-    /// The store of a service that begins: the genesis with seqno 1, and the signature of one of its
-    /// nodes with seqno 2, both in view 2 and committed. The signer's next leaf is spent. Fails for
-    /// want of memory alone, and then no leaf is spent.
-    pub fn begin(
-        alloc: Global,
-        genesis: Genesis,
-        node: NodeId,
-        signer: &mut HssSigner,
-    ) -> Result<Self, AllocError>
-        requires accepted { genesis_refusal no_history genesis ≡ None }
-        requires fits { is_genesis genesis ≡ true }
-        requires named { member node (map node_id genesis.nodes) ≡ true }
-        requires signer { SignsFor node genesis.identity signer.old }
-        requires left { signer.old.used < signer.old.reserved }
-        ensures opened { IfOk result (λ store. store ≡ record {
-          ledger = opening_ledger genesis node
-              (signature_of signer.old (genesis_entry genesis ∷ []) 2 2);
-          commit = 2;
-        }) }
-        ensures spent { OnOk result (signer.new ≡ record signer.old {
-          used = signer.old.used + 1;
-        }) }
-        ensures err { OnErr result (signer.new ≡ signer.old) }
-    {
-        let mut store = Store::new(alloc)?;
-        store.found(genesis)?;
-        let opening = store.signature_entry(node, FIRST_VIEW, 2, signer)?;
-        store.push(opening)?;
-        signer.spend();
-        store.commit = 2;
-        Ok(store)
     }
 
     /// Adds the entry of a genesis to a store of no entries. Fails for want of memory alone, and then
@@ -232,15 +193,6 @@ impl Store {
         &self.state.gov
     }
 
-    /// The seqno up to which the ledger is committed, itself included: that of a signature, or 0.
-    pub fn commit(&self) -> u64
-        ensures commit { result ≡ self.now.commit }
-        ensures within { self.now.commit ≤ length self.now.ledger }
-        ensures signed { IsSignedUpTo self.now.ledger self.now.commit }
-    {
-        self.commit
-    }
-
     /// The seqno of the last signature, committed or not; 0 where there is none.
     pub fn last_signature(&self) -> u64
         ensures { result ≡ last_signed self.now.ledger }
@@ -284,32 +236,6 @@ impl Store {
         }
     }
 
-    /// The first rule of the audit that an entry breaks behind the ledger, if it breaks one. Fails
-    /// for want of memory alone.
-    pub fn broken(&mut self, entry: &Entry) -> Result<Option<Broken>, AllocError>
-        ensures broken { IfOk result (λ found.
-            found ≡ broken service_layers self.old.ledger entry.now) }
-        ensures kept { self.new ≡ self.old }
-    {
-        self.state.broken(entry)
-    }
-
-    /// Whether a node is recorded.
-    pub fn is_recorded(&self, node: &NodeId) -> bool
-        ensures { result ≡ member node.now (recorded_nodes self.now.ledger) }
-    {
-        self.state.is_recorded(node)
-    }
-
-    /// Whether the next signature may record this commit: the seqno of that signature itself, where
-    /// it opens the service, or else the seqno of a signature that isn't below the commit that the
-    /// last one recorded, nor below the removal of a node that was marked behind that one.
-    pub fn may_record(&self, commit: u64) -> bool
-        ensures { result ≡ may_record self.now.ledger commit }
-    {
-        self.state.may_record(commit)
-    }
-
     /// Whether a service begins with the last entry, so that the next one has to be the signature
     /// that opens it.
     pub fn is_unopened(&self) -> bool
@@ -323,14 +249,6 @@ impl Store {
         ensures { result ≡ length self.now.ledger + 1 }
     {
         self.entries.len() as u64 + 1
-    }
-
-    /// The service's key, as the ledger has it. `None` where there is no entry.
-    pub fn identity(&self) -> Option<&HssPublicKey>
-        ensures some { IfSome result (λ key. key.now ≡ identity_in (tables_of self.now.ledger)) }
-        ensures none { IfNone result (self.now.ledger ≡ []) }
-    {
-        self.state.identity()
     }
 
     /// The status of a transaction by what this store holds (CCF documentation, "Transaction

@@ -52,7 +52,7 @@ impl NodeLists {
     }
 
     /// Takes in what the last entry of a ledger changes. Want of memory leaves both lists as they were.
-    pub fn push_last(&mut self, alloc: Global, store: &Store) -> Result<(), AllocError>
+    pub(crate) fn push_last(&mut self, alloc: Global, store: &Store) -> Result<(), AllocError>
         requires { (ledger : List Entry) × (e : Entry) × (store.now.ledger ≡ ledger ++ e ∷ [])
             × AreListsOf ledger self.old }
         ensures pushed { OnOk result (AreListsOf store.now.ledger self.new) }

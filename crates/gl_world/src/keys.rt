@@ -14,7 +14,7 @@ use sha2::{Digest as _, Sha256};
 use std::alloc::{AllocError, Global};
 
 /// The digest of a word and a seed.
-pub fn word_digest(word: &[u8], seed: &[u8]) -> Digest
+pub(crate) fn word_digest(word: &[u8], seed: &[u8]) -> Digest
     ensures { result ≡ sha256 (word.now ++ seed.now) }
 {
     let mut hasher = Sha256::new();
@@ -25,7 +25,7 @@ pub fn word_digest(word: &[u8], seed: &[u8]) -> Digest
 
 /// The digest of a word, a number and a seed.
 #[tactic(auto, unfolding(gl_base::specs::LittleEndian::little_endian))]
-pub fn numbered_digest(word: &[u8], number: u32, seed: &[u8]) -> Digest
+pub(crate) fn numbered_digest(word: &[u8], number: u32, seed: &[u8]) -> Digest
     ensures { result ≡ sha256 (word.now ++ little_endian 4 number ++ seed.now) }
 {
     let mut hasher = Sha256::new();
@@ -43,7 +43,7 @@ pub fn node_seed(settings: &Settings, number: u8) -> Digest
 }
 
 /// The seed of a member's key.
-pub fn member_seed(settings: &Settings, number: u8) -> Digest
+pub(crate) fn member_seed(settings: &Settings, number: u8) -> Digest
     ensures { result ≡ member_seed settings.now number }
 {
     numbered_digest(b"mem", u32::from(number), &settings.seed)

@@ -54,7 +54,7 @@ impl NodeKey {
 }
 
 /// The keys of the first so many nodes, in the order of their numbers.
-pub fn node_keys(
+pub(crate) fn node_keys(
     alloc: Global,
     settings: &Settings,
     service: &LmsKey,
@@ -72,7 +72,7 @@ pub fn node_keys(
 }
 
 /// The first so many nodes, as a genesis names them.
-pub fn new_nodes(
+pub(crate) fn new_nodes(
     alloc: Global,
     settings: &Settings,
     keys: &[NodeKey],

@@ -12,7 +12,7 @@ use std::test::Fail;
 mod keys;
 
 #[test]
-fn keys_of_each_type(rt: HostRuntime) -> Result<(), Fail> {
+fn keys_of_seeds(rt: HostRuntime) -> Result<(), Fail> {
     for row in &KEYS {
         let seed = array_of(&rt, row.seed)?;
         let root = bytes_of(rt.alloc(), row.root)?;

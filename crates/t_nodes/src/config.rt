@@ -42,7 +42,8 @@ fn more_than_half(rt: HostRuntime) -> Result<(), Fail> {
     Ok(())
 }
 
-// The nodes 1, 2 and 3 begin; at seqno 7 nodes 3, 4 and 5 are trusted in their place.
+// The nodes 1, 2 and 3 begin; at seqno 7 nodes 3, 4 and 5 are trusted in their place. At commit 2 both
+// count, and the old nodes have no majority of the new ones; at commit 8 the new ones count alone.
 #[test]
 fn nodes_are_replaced(rt: HostRuntime) -> Result<(), Fail> {
     let configurations = [
@@ -55,27 +56,35 @@ fn nodes_are_replaced(rt: HostRuntime) -> Result<(), Fail> {
             nodes: set(rt.alloc(), &[3, 4, 5])?,
         },
     ];
-    let old = set(rt.alloc(), &[1, 2, 3])?;
-    let both = set(rt.alloc(), &[1, 2, 3, 4])?;
-    let new = set(rt.alloc(), &[3, 4])?;
-
-    // At commit 2 both count: the old nodes have no majority of the new ones.
-    let active = Active::of(&configurations, 2);
-    assert_eq!(rt; active.quorum(&old), false);
-    assert_eq!(rt; active.quorum(&both), true);
-    assert_eq!(rt; active.quorum_upto(&old, 6), true);
-    assert_eq!(rt; active.quorum_upto(&old, 8), false);
-    assert_eq!(rt; active.quorum_upto(&both, 8), true);
-    assert_eq!(rt; active.holds(&id(1)), true);
-    assert_eq!(rt; active.holds(&id(5)), true);
-    assert_eq!(rt; active.holds(&id(6)), false);
-
-    // At commit 8 the new ones count alone.
-    let active = Active::of(&configurations, 8);
-    assert_eq!(rt; active.quorum(&old), false);
-    assert_eq!(rt; active.quorum(&new), true);
-    assert_eq!(rt; active.holds(&id(1)), false);
-    assert_eq!(rt; active.holds(&id(3)), true);
+    // Each commit, who votes, up to which seqno configurations are asked, and whether it is enough.
+    let votes: [(u64, &[u8], Option<u64>, bool); 7] = [
+        (2, &[1, 2, 3], None, false),
+        (2, &[1, 2, 3, 4], None, true),
+        (2, &[1, 2, 3], Some(6), true),
+        (2, &[1, 2, 3], Some(8), false),
+        (2, &[1, 2, 3, 4], Some(8), true),
+        (8, &[1, 2, 3], None, false),
+        (8, &[3, 4], None, true),
+    ];
+    for (commit, voters, upto, is_enough) in votes {
+        let voters = set(rt.alloc(), voters)?;
+        let active = Active::of(&configurations, commit);
+        let told = match upto {
+            None => active.quorum(&voters),
+            Some(seqno) => active.quorum_upto(&voters, seqno),
+        };
+        assert_eq!(rt; told, is_enough);
+    }
+    for (commit, number, is_held) in [
+        (2, 1, true),
+        (2, 5, true),
+        (2, 6, false),
+        (8, 1, false),
+        (8, 3, true),
+    ] {
+        let active = Active::of(&configurations, commit);
+        assert_eq!(rt; active.holds(&id(number)), is_held);
+    }
     Ok(())
 }
 

@@ -1,7 +1,12 @@
-//! Tests of the libraries that a node is made of: configurations and governance.
+//! Tests of the libraries that a node is made of: configurations, governance, what clients are
+//! answered, and refusals.
 #![tactic(auto)]
 
+#[cfg(test)]
+mod client_book;
 #[cfg(test)]
 mod config;
 #[cfg(test)]
 mod gov;
+#[cfg(test)]
+mod refusals;

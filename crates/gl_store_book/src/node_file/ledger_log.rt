@@ -40,7 +40,7 @@ fn entry_of_frame(alloc: Global, frame: &[u8]) -> Result<Option<Entry>, AllocErr
 
 impl LedgerLog {
     /// The ledger.
-    pub fn into_ledger(self, alloc: Global) -> Result<BookLedger, AllocError>
+    pub(crate) fn into_ledger(self, alloc: Global) -> Result<BookLedger, AllocError>
         ensures frames { IfOk result (λ ledger. frames_of self.ledger ≡ frames_of (Some ledger)) }
         ensures ledger { IfOk result (λ ledger.
             ledger_of_frames (frames_of self.ledger) ≡ Some ledger) }

@@ -109,11 +109,7 @@ pub struct Turn {
 
 impl Turn {
     /// Those of a node once its service opens.
-    pub(crate) fn at_opening(
-        state: &Durable<LedgerLog>,
-        me: &NodeId,
-        opening: &OpeningLedger,
-    ) -> Turn
+    pub(crate) fn at_opening(state: &Durable<LedgerLog>, me: &NodeId, opening: &OpeningLedger) -> Turn
         requires { me.now ≡ node_of (seen_state state.now) }
         ensures { IsTurnOf (service_start opening.now.ledger opening.now.first)
             (seen_state state.now) result }
@@ -140,7 +136,7 @@ impl Turn {
     }
 
     /// Adds their record, where one of them is new.
-    pub fn push_record(&self, records: &mut Vec<Record<'_>>) -> Result<(), AllocError>
+    fn push_record(&self, records: &mut Vec<Record<'_>>) -> Result<(), AllocError>
         ensures { OnOk result (record_values records.new.items
             ≡ record_values records.old.items ++ turn_records self.now) }
     {

@@ -1,6 +1,5 @@
-//! Keys of seeds, a row for each parameter set. A program in Python computed the roots, written after
-//! RFC 8554 and its appendix A alone. Of the identifiers and seeds of eight keys of Bouncy Castle 1.72
-//! and of two of appendix F, test case 2, it makes the roots that stand there.
+//! Keys of seeds, of each height and of each width, whose roots `examples/lms/keys.py` computes: a
+//! program in Python that makes the roots of keys of Bouncy Castle 1.72 and of RFC 8554, appendix F.
 
 use gl_lms::Types;
 
@@ -12,7 +11,7 @@ pub(super) struct KeyRow {
     pub(super) root: &'static str,
 }
 
-pub(super) const KEYS: [KeyRow; 4] = [
+pub(super) const KEYS: [KeyRow; 3] = [
     KeyRow {
         types: Types::H5W4,
         seed: "aba88479a873e27153521c083435b99ff2d9d2ab2ee43ff9ab09be14479e14db",
@@ -27,10 +26,5 @@ pub(super) const KEYS: [KeyRow; 4] = [
         types: Types::H10W4,
         seed: "de28ee65d47492413d7c9b860641a25df7db9f429c5454099cf49d6a6ae2ce4b",
         root: "15b9bb4994fdbfdc7b1d0d49836968960adbc4f88e4c14e72b43d1bc36237bf8",
-    },
-    KeyRow {
-        types: Types::H10W8,
-        seed: "928ddb9e110ec3c532669356965a1b675460f29a2c538fc0e4c003fed754d292",
-        root: "f3543a785eea0be744466ac2f0db0bb854dc46d3da8b1751aee51cc60879a055",
     },
 ];

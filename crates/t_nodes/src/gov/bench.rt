@@ -17,44 +17,97 @@ use std::test::Fail;
 /// What came of a request.
 #[derive(Clone, Copy, Debug, PartialEq, Eq)]
 pub enum Told {
+    /// An action that can't be, by its place from 1 on. A founding counts as the action 0.
+    Bad(u64, Cause),
     Refused(GovernanceRefusal),
     /// The first eight bytes of the digest of all rows.
     Rows(u64),
 }
 
-pub fn rows(digest: u64) -> Told {
-    Told::Rows(digest)
+fn told_of(why: GovernanceRefusal) -> Told {
+    match why {
+        GovernanceRefusal::BadAction { index, cause } => Told::Bad(index, cause),
+        other => Told::Refused(other),
+    }
 }
 
-pub fn refused(why: GovernanceRefusal) -> Told {
-    Told::Refused(why)
-}
+/// A dealing of shares to members: how many of them join to the secret, and who gets one.
+pub type Dealt<'a> = (u8, &'a [u8]);
 
-pub fn bad(index: u64, cause: Cause) -> Told {
-    Told::Refused(GovernanceRefusal::BadAction { index, cause })
-}
-
-/// What came of a request is what was to come of it.
-pub fn expect(rt: &impl Abort, told: Told, due: Told) {
-    assert_eq!(rt; told, due);
-}
-
-/// A dealing of shares to these members.
+/// What a member proposes, by the numbers of members and nodes.
 #[derive(Clone, Copy)]
-pub struct Dealt<'a> {
-    threshold: u8,
-    holders: &'a [u8],
-    secret_digest: [u8; 32],
+pub enum Act<'a> {
+    /// Takes a member in, with the key of the second number.
+    SetMember(u8, u8),
+    RemoveMember(u8),
+    Deal(Dealt<'a>),
+    /// A dealing whose shares join to another secret than it names.
+    Misdeal(Dealt<'a>),
+    Trust(u8),
+    RemoveNode(u8),
+    Open,
+    /// The fractions of the first six actions, and that of the seventh.
+    Rules([u16; 2], [u16; 2]),
 }
 
-/// The secret whose shares `share` gives. Two of them join to it.
-pub fn secret() -> [u8; 32] {
+/// Which proposal is meant: one of two that are kept in mind, or one that nobody made.
+#[derive(Clone, Copy)]
+pub enum Meant {
+    P,
+    Q,
+    Unmade,
+}
+
+/// What the service is asked for, by the numbers of members and nodes.
+#[derive(Clone, Copy)]
+pub enum Ask<'a> {
+    /// An opening service with these nodes and members.
+    Found(&'a [u8], &'a [u8], Dealt<'a>),
+    /// One whose nodes the service's key with a number endorses. Each member is a number and that of
+    /// its key.
+    FoundBy(u8, &'a [u8], &'a [(u8, u8)], Dealt<'a>),
+    /// The service anew, with its second key.
+    Recover(&'a [u8]),
+    /// A node, which the service's key with the second number endorses.
+    Join(u8, u8),
+    Mark(u8),
+    /// The last request once more.
+    Again,
+    Ack(u8),
+    /// An Ack of the second member that the first one signs.
+    AckBy(u8, u8),
+    Propose(u8, &'a [Act<'a>]),
+    /// A proposal that is kept in mind as P.
+    ProposeP(u8, &'a [Act<'a>]),
+    /// A proposal that is kept in mind as Q.
+    ProposeQ(u8, &'a [Act<'a>]),
+    Yes(u8, Meant),
+    No(u8, Meant),
+    Withdraw(u8, Meant),
+    /// The share that was dealt to the second member, by the first one.
+    Give(u8, u8),
+}
+
+/// A request, and what is to come of it.
+pub type Row<'a> = (Ask<'a>, Told);
+
+/// Asks for one thing after the other, and compares what comes of each.
+pub fn play(rt: &impl Abort, bench: &mut Bench, rows: &[Row<'_>]) -> Result<(), Fail> {
+    for (place, (ask, due)) in rows.iter().enumerate() {
+        let told = bench.ask(*ask)?;
+        assert_eq!(rt; told, *due, "row {place}");
+    }
+    Ok(())
+}
+
+// The secret whose shares `share` gives. Two of them join to it.
+fn secret() -> [u8; 32] {
     Sha256::digest(b"secret")
 }
 
-/// The share of a member whose number is below 4: the bytes of the secret, to each of which the
-/// number times its place, from 1 on, is added. No such product is large enough to be reduced.
-pub fn share(member: u8) -> [u8; 32] {
+// The share of a member whose number is below 4: the bytes of the secret, to each of which the
+// number times its place, from 1 on, is added. No such product is large enough to be reduced.
+fn share(member: u8) -> [u8; 32] {
     let mut share = secret();
     for (byte, second) in share.iter_mut().zip(1..=32u8) {
         if member % 2 == 1 {
@@ -65,37 +118,6 @@ pub fn share(member: u8) -> [u8; 32] {
         }
     }
     share
-}
-
-pub fn deal(threshold: u8, holders: &[u8]) -> Dealt<'_> {
-    Dealt {
-        threshold,
-        holders,
-        secret_digest: Sha256::digest(&secret()),
-    }
-}
-
-/// A dealing whose shares join to another secret than it names.
-pub fn misdeal(threshold: u8, holders: &[u8]) -> Dealt<'_> {
-    Dealt {
-        threshold,
-        holders,
-        secret_digest: Sha256::digest(b"another"),
-    }
-}
-
-/// What a member proposes, by the numbers of members and nodes.
-#[derive(Clone, Copy)]
-pub enum Act<'a> {
-    /// Takes a member in, with the key of the second number.
-    SetMember(u8, u8),
-    RemoveMember(u8),
-    Deal(Dealt<'a>),
-    Trust(u8),
-    RemoveNode(u8),
-    Open,
-    /// The fractions of the first six actions, and that of the seventh.
-    Rules([u16; 2], [u16; 2]),
 }
 
 // Writes a length with so many bytes, the least significant first.
@@ -119,11 +141,13 @@ fn put_rule(out: &mut Vec<u8>, rule: [u16; 2]) -> Result<(), AllocError> {
     out.extend_from_slice(&den.to_le_bytes())
 }
 
-fn put_dealing(out: &mut Vec<u8>, dealt: Dealt<'_>) -> Result<(), AllocError> {
-    out.push(dealt.threshold)?;
-    out.extend_from_slice(&dealt.secret_digest)?;
-    put_length(out, 1, dealt.holders.len())?;
-    for member in dealt.holders {
+// A dealing of the secret with this digest.
+fn put_dealing(out: &mut Vec<u8>, dealt: Dealt<'_>, digest: [u8; 32]) -> Result<(), AllocError> {
+    let (threshold, holders) = dealt;
+    out.push(threshold)?;
+    out.extend_from_slice(&digest)?;
+    put_length(out, 1, holders.len())?;
+    for member in holders {
         out.push(*member)?;
         out.extend_from_slice(&Sha256::digest(&share(*member)))?;
     }
@@ -174,7 +198,7 @@ fn record(
             copy.record(seqno, request.copy(alloc)?)?;
             rows_of(alloc, &copy)
         }
-        Err(OrNoMemory::Fault(why)) => Ok(Told::Refused(why)),
+        Err(OrNoMemory::Fault(why)) => Ok(told_of(why)),
         Err(OrNoMemory::NoMemory) => Err(Fail::from("out of memory")),
     }
 }
@@ -189,7 +213,7 @@ fn step(alloc: Global, state: &mut GovState, request: &GovernanceRequest) -> Res
     let known = record(alloc, state, seqno, request)?;
     let told = match state.step(seqno, request) {
         Ok(_) => rows_of(alloc, state)?,
-        Err(OrNoMemory::Fault(why)) => Told::Refused(why),
+        Err(OrNoMemory::Fault(why)) => told_of(why),
         Err(OrNoMemory::NoMemory) => return Err(Fail::from("out of memory")),
     };
     if told != known {
@@ -313,7 +337,11 @@ impl Bench {
             Act::RemoveMember(number) => out.extend_from_slice(&[2, number])?,
             Act::Deal(dealt) => {
                 out.push(3)?;
-                put_dealing(out, dealt)?;
+                put_dealing(out, dealt, Sha256::digest(&secret()))?;
+            }
+            Act::Misdeal(dealt) => {
+                out.push(3)?;
+                put_dealing(out, dealt, Sha256::digest(b"another"))?;
             }
             Act::Trust(node) => {
                 out.push(4)?;
@@ -342,15 +370,14 @@ impl Bench {
         step(self.alloc, &mut self.state, &request)
     }
 
-    /// Takes the last request once more.
-    pub fn again(&mut self) -> Result<Told, Fail> {
+    // Takes the last request once more.
+    fn again(&mut self) -> Result<Told, Fail> {
         let bytes = Vec::from_slice(self.alloc, &self.last)?;
         self.take(bytes)
     }
 
-    /// The identifier of the proposal that the last request makes.
-    pub fn last_id(&self) -> [u8; 32] {
-        Sha256::digest(&self.last)
+    pub fn alloc(&self) -> Global {
+        self.alloc
     }
 
     /// What the rows are now.
@@ -358,9 +385,7 @@ impl Bench {
         rows_of(self.alloc, &self.state)
     }
 
-    /// Founds an opening service whose nodes the service's key with a number endorses. Each member is
-    /// a number and that of its key.
-    pub fn found_by(
+    fn found_by(
         &mut self,
         endorser: u8,
         nodes: &[u8],
@@ -375,12 +400,11 @@ impl Bench {
             bytes.push(*number)?;
             bytes.extend_from_slice(&self.member_key(*key))?;
         }
-        put_dealing(&mut bytes, dealt)?;
+        put_dealing(&mut bytes, dealt, Sha256::digest(&secret()))?;
         self.take(bytes)
     }
 
-    /// Founds an opening service.
-    pub fn found(&mut self, nodes: &[u8], members: &[u8], dealt: Dealt<'_>) -> Result<Told, Fail> {
+    fn found(&mut self, nodes: &[u8], members: &[u8], dealt: Dealt<'_>) -> Result<Told, Fail> {
         let mut pairs = Vec::new(self.alloc);
         for member in members {
             pairs.push((*member, *member))?;
@@ -388,8 +412,7 @@ impl Bench {
         self.found_by(1, nodes, &pairs, dealt)
     }
 
-    /// Founds the service anew with its second key.
-    pub fn recover(&mut self, nodes: &[u8]) -> Result<Told, Fail> {
+    fn recover(&mut self, nodes: &[u8]) -> Result<Told, Fail> {
         let mut bytes = Vec::from_slice(self.alloc, &[2])?;
         bytes.extend_from_slice(&self.service_key(2)?.hss_public(Levels::Two))?;
         self.put_nodes(&mut bytes, 2, nodes)?;
@@ -400,13 +423,13 @@ impl Bench {
         Ok(told)
     }
 
-    pub fn join(&mut self, node: u8, service: u8) -> Result<Told, Fail> {
+    fn join(&mut self, node: u8, service: u8) -> Result<Told, Fail> {
         let mut bytes = Vec::from_slice(self.alloc, &[3])?;
         self.put_node(&mut bytes, service, node)?;
         self.take(bytes)
     }
 
-    pub fn mark(&mut self, node: u8) -> Result<Told, Fail> {
+    fn mark(&mut self, node: u8) -> Result<Told, Fail> {
         let mut bytes = Vec::from_slice(self.alloc, &[4])?;
         bytes.extend_from_slice(&self.node_id(node)?)?;
         self.take(bytes)
@@ -431,17 +454,12 @@ impl Bench {
         self.take(bytes)
     }
 
-    pub fn ack(&mut self, member: u8) -> Result<Told, Fail> {
-        self.ack_by(member, member)
-    }
-
-    /// An Ack of a member that a member signs.
-    pub fn ack_by(&mut self, signer: u8, member: u8) -> Result<Told, Fail> {
+    fn ack_by(&mut self, signer: u8, member: u8) -> Result<Told, Fail> {
         let request = Vec::from_slice(self.alloc, &[5, member])?;
         self.ask_by(signer, request)
     }
 
-    pub fn propose(&mut self, member: u8, actions: &[Act<'_>]) -> Result<Told, Fail> {
+    fn propose(&mut self, member: u8, actions: &[Act<'_>]) -> Result<Told, Fail> {
         let mut request = Vec::from_slice(self.alloc, &[6, member])?;
         put_length(&mut request, 1, actions.len())?;
         for action in actions {
@@ -450,45 +468,77 @@ impl Bench {
         self.ask_by(member, request)
     }
 
-    /// Proposes, and keeps the proposal in mind as P.
-    pub fn propose_p(&mut self, member: u8, actions: &[Act<'_>]) -> Result<Told, Fail> {
-        let told = self.propose(member, actions)?;
-        self.p = self.last_id();
-        Ok(told)
-    }
-
-    /// Proposes, and keeps the proposal in mind as Q.
-    pub fn propose_q(&mut self, member: u8, actions: &[Act<'_>]) -> Result<Told, Fail> {
-        let told = self.propose(member, actions)?;
-        self.q = self.last_id();
-        Ok(told)
-    }
-
-    fn ballot(&mut self, member: u8, id: [u8; 32], agrees: u8) -> Result<Told, Fail> {
+    fn ballot(&mut self, member: u8, meant: Meant, agrees: u8) -> Result<Told, Fail> {
         let mut request = Vec::from_slice(self.alloc, &[7, member])?;
-        request.extend_from_slice(&id)?;
+        request.extend_from_slice(&self.id(meant))?;
         request.push(agrees)?;
         self.ask_by(member, request)
     }
 
-    pub fn yes(&mut self, member: u8, id: [u8; 32]) -> Result<Told, Fail> {
-        self.ballot(member, id, 1)
-    }
-
-    pub fn no(&mut self, member: u8, id: [u8; 32]) -> Result<Told, Fail> {
-        self.ballot(member, id, 0)
-    }
-
-    pub fn withdraw(&mut self, member: u8, id: [u8; 32]) -> Result<Told, Fail> {
+    fn withdraw(&mut self, member: u8, meant: Meant) -> Result<Told, Fail> {
         let mut request = Vec::from_slice(self.alloc, &[8, member])?;
-        request.extend_from_slice(&id)?;
+        request.extend_from_slice(&self.id(meant))?;
         self.ask_by(member, request)
     }
 
-    /// Gives the share that was dealt to `holder`.
-    pub fn give(&mut self, member: u8, holder: u8) -> Result<Told, Fail> {
+    fn give(&mut self, member: u8, holder: u8) -> Result<Told, Fail> {
         let mut request = Vec::from_slice(self.alloc, &[9, member])?;
         request.extend_from_slice(&share(holder))?;
         self.ask_by(member, request)
+    }
+
+    // The identifier of a proposal.
+    fn id(&self, meant: Meant) -> [u8; 32] {
+        match meant {
+            Meant::P => self.p,
+            Meant::Q => self.q,
+            Meant::Unmade => [0; 32],
+        }
+    }
+
+    /// Asks for something, and tells what comes of it.
+    pub fn ask(&mut self, ask: Ask<'_>) -> Result<Told, Fail> {
+        match ask {
+            Ask::Found(nodes, members, dealt) => self.found(nodes, members, dealt),
+            Ask::FoundBy(endorser, nodes, members, dealt) => {
+                self.found_by(endorser, nodes, members, dealt)
+            }
+            Ask::Recover(nodes) => self.recover(nodes),
+            Ask::Join(node, service) => self.join(node, service),
+            Ask::Mark(node) => self.mark(node),
+            Ask::Again => self.again(),
+            other => self.ask_as_member(other),
+        }
+    }
+
+    // What a member asks for. Others ask for the rest.
+    fn ask_as_member(&mut self, ask: Ask<'_>) -> Result<Told, Fail> {
+        match ask {
+            Ask::Ack(member) => self.ack_by(member, member),
+            Ask::AckBy(signer, member) => self.ack_by(signer, member),
+            Ask::Yes(member, meant) => self.ballot(member, meant, 1),
+            Ask::No(member, meant) => self.ballot(member, meant, 0),
+            Ask::Withdraw(member, meant) => self.withdraw(member, meant),
+            Ask::Give(member, holder) => self.give(member, holder),
+            other => self.ask_by_proposal(other),
+        }
+    }
+
+    // What a member proposes.
+    fn ask_by_proposal(&mut self, ask: Ask<'_>) -> Result<Told, Fail> {
+        let (member, actions) = match ask {
+            Ask::Propose(member, actions)
+            | Ask::ProposeP(member, actions)
+            | Ask::ProposeQ(member, actions) => (member, actions),
+            _ => return Err(Fail::from("no proposal")),
+        };
+        let told = self.propose(member, actions)?;
+        let id = Sha256::digest(&self.last);
+        match ask {
+            Ask::ProposeP(_, _) => self.p = id,
+            Ask::ProposeQ(_, _) => self.q = id,
+            _ => {}
+        }
+        Ok(told)
     }
 }

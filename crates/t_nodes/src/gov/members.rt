@@ -1,123 +1,115 @@
 //! Proposals of members, and their ballots.
 
-use super::bench::{Act, Bench, bad, deal, expect, refused, rows};
+use super::bench::Ask::{Ack, Again, No, Propose, ProposeP, ProposeQ, Withdraw, Yes};
+use super::bench::Meant::{P, Q, Unmade};
+use super::bench::Told::{Bad, Refused, Rows};
+use super::bench::{Act, Bench, Row, Told, play};
 use super::founding;
 use gl_gov_rules::{Cause, GovernanceRefusal, ProposalState};
 use std::process::Abort;
 use std::test::Fail;
 
-/// Proposals with a bad action that concerns members.
-pub fn propose_bad_members(rt: &impl Abort, bench: &mut Bench) -> Result<(), Fail> {
-    let told = bench.propose(1, &[Act::RemoveMember(6)])?;
-    expect(rt, told, bad(1, Cause::NotPresent));
-    let third = [Act::Open, Act::RemoveMember(1), Act::RemoveMember(2)];
-    expect(rt, bench.propose(1, &third)?, bad(3, Cause::TooFewHolders));
-    let told = bench.propose(1, &[Act::SetMember(1, 1)])?;
-    expect(rt, told, bad(1, Cause::NumberUsed));
-    let told = bench.propose(1, &[Act::SetMember(6, 2)])?;
-    expect(rt, told, bad(1, Cause::KeyUsed));
-    let four = Act::Deal(deal(4, &[1, 2, 3]));
-    expect(rt, bench.propose(1, &[four])?, bad(1, Cause::Dealing));
-    Ok(())
-}
-
-/// Proposals with another bad action.
-pub fn propose_bad_nodes(rt: &impl Abort, bench: &mut Bench) -> Result<(), Fail> {
-    let told = bench.propose(1, &[Act::Trust(3)])?;
-    expect(rt, told, bad(1, Cause::NotRecorded));
-    let told = bench.propose(1, &[Act::Trust(1)])?;
-    expect(rt, told, bad(1, Cause::NodeStatus));
-    let both = [Act::RemoveNode(1), Act::RemoveNode(2)];
-    expect(rt, bench.propose(1, &both)?, bad(2, Cause::LastTrusted));
-    let all = Act::Rules([1, 2], [2, 2]);
-    expect(rt, bench.propose(1, &[all])?, bad(1, Cause::Fraction));
-    Ok(())
-}
+/// Proposals with a bad action.
+pub const BAD: [Row<'static>; 9] = [
+    (
+        Propose(1, &[Act::RemoveMember(6)]),
+        Bad(1, Cause::NotPresent),
+    ),
+    (
+        Propose(1, &[Act::Open, Act::RemoveMember(1), Act::RemoveMember(2)]),
+        Bad(3, Cause::TooFewHolders),
+    ),
+    (
+        Propose(1, &[Act::SetMember(1, 1)]),
+        Bad(1, Cause::NumberUsed),
+    ),
+    (Propose(1, &[Act::SetMember(6, 2)]), Bad(1, Cause::KeyUsed)),
+    (
+        Propose(1, &[Act::Deal((4, &[1, 2, 3]))]),
+        Bad(1, Cause::Dealing),
+    ),
+    (Propose(1, &[Act::Trust(3)]), Bad(1, Cause::NotRecorded)),
+    (Propose(1, &[Act::Trust(1)]), Bad(1, Cause::NodeStatus)),
+    (
+        Propose(1, &[Act::RemoveNode(1), Act::RemoveNode(2)]),
+        Bad(2, Cause::LastTrusted),
+    ),
+    (
+        Propose(1, &[Act::Rules([1, 2], [2, 2])]),
+        Bad(1, Cause::Fraction),
+    ),
+];
 
 /// A proposal to open the service, which three of five members accept.
-pub fn open(rt: &impl Abort, bench: &mut Bench) -> Result<(), Fail> {
-    let told = bench.propose_p(1, &[Act::Open])?;
-    expect(rt, told, rows(0xab7c094744439c77));
-    let p = bench.p;
-    expect(
-        rt,
-        bench.withdraw(2, p)?,
-        refused(GovernanceRefusal::NotProposer),
-    );
-    expect(rt, bench.yes(1, p)?, rows(0xc417feabfb9a4d19));
-    expect(rt, bench.no(1, p)?, refused(GovernanceRefusal::HasBallot));
-    expect(rt, bench.yes(2, p)?, rows(0x9cdca297c7ccf0c0));
-    expect(rt, bench.yes(3, p)?, rows(0x5884b8226dfd9b9e));
-    Ok(())
-}
+pub const OPEN: [Row<'static>; 6] = [
+    (ProposeP(1, &[Act::Open]), Rows(0xab7c094744439c77)),
+    (Withdraw(2, P), Refused(GovernanceRefusal::NotProposer)),
+    (Yes(1, P), Rows(0xc417feabfb9a4d19)),
+    (No(1, P), Refused(GovernanceRefusal::HasBallot)),
+    (Yes(2, P), Rows(0x9cdca297c7ccf0c0)),
+    (Yes(3, P), ACCEPTED),
+];
+
+const ACCEPTED: Told = Rows(0x5884b8226dfd9b9e);
 
 /// What comes too late.
-pub fn come_late(rt: &impl Abort, bench: &mut Bench) -> Result<(), Fail> {
-    let p = bench.p;
-    let state = ProposalState::Accepted;
-    expect(
-        rt,
-        bench.yes(4, p)?,
-        refused(GovernanceRefusal::NotOpen { state }),
-    );
-    expect(
-        rt,
-        bench.yes(4, [0; 32])?,
-        refused(GovernanceRefusal::NoProposal),
-    );
-    let told = bench.propose(1, &[Act::Open])?;
-    expect(rt, told, bad(1, Cause::NotOpening));
-    Ok(())
-}
+pub const COME_LATE: [Row<'static>; 3] = [
+    (
+        Yes(4, P),
+        Refused(GovernanceRefusal::NotOpen {
+            state: ProposalState::Accepted,
+        }),
+    ),
+    (Yes(4, Unmade), Refused(GovernanceRefusal::NoProposal)),
+    (Propose(1, &[Act::Open]), Bad(1, Cause::NotOpening)),
+];
 
 /// A proposal that three of five members refuse, and one that is taken back.
-pub fn reject(rt: &impl Abort, bench: &mut Bench) -> Result<(), Fail> {
-    let told = bench.propose_p(5, &[Act::SetMember(6, 6)])?;
-    expect(rt, told, rows(0x9fbcbca5e3d01e59));
-    let p = bench.p;
-    expect(rt, bench.no(1, p)?, rows(0x54f9bfbd2ceb58ea));
-    expect(rt, bench.no(2, p)?, rows(0x8b9d6ef51768bd95));
-    expect(rt, bench.no(3, p)?, rows(0x6a8a5f97fcf9c0fd));
-    let told = bench.propose_p(5, &[Act::SetMember(6, 6)])?;
-    expect(rt, told, rows(0x2a2ae289650883dc));
-    let p = bench.p;
-    expect(rt, bench.withdraw(5, p)?, rows(0x1bdbda9e4436cd66));
-    Ok(())
-}
+pub const REJECT: [Row<'static>; 6] = [
+    (
+        ProposeP(5, &[Act::SetMember(6, 6)]),
+        Rows(0x9fbcbca5e3d01e59),
+    ),
+    (No(1, P), Rows(0x54f9bfbd2ceb58ea)),
+    (No(2, P), Rows(0x8b9d6ef51768bd95)),
+    (No(3, P), Rows(0x6a8a5f97fcf9c0fd)),
+    (
+        ProposeP(5, &[Act::SetMember(6, 6)]),
+        Rows(0x2a2ae289650883dc),
+    ),
+    (Withdraw(5, P), Rows(0x1bdbda9e4436cd66)),
+];
 
 /// A member agrees and is removed then, so that it counts no more.
-pub fn remove_member(rt: &impl Abort, bench: &mut Bench) -> Result<(), Fail> {
-    let rules = Act::Rules([0, 1], [0, 1]);
-    let told = bench.propose_q(1, &[Act::SetMember(7, 7), rules])?;
-    expect(rt, told, rows(0xa2e38cde1736bbd1));
-    let q = bench.q;
-    expect(rt, bench.yes(5, q)?, rows(0x971196a8b7215f74));
-    expect(rt, bench.yes(1, q)?, rows(0xcfa6f7c72454e5e6));
-    let told = bench.propose_p(1, &[Act::RemoveMember(5)])?;
-    expect(rt, told, rows(0x462462a8c80d20a0));
-    let p = bench.p;
-    expect(rt, bench.yes(1, p)?, rows(0x90a95e9dff2d48c9));
-    expect(rt, bench.yes(2, p)?, rows(0x90865f37089c8e30));
-    expect(rt, bench.yes(3, p)?, rows(0x53dd65ce6979f1df));
-    expect(rt, bench.ack(5)?, refused(GovernanceRefusal::NotMember));
-    Ok(())
-}
+pub const REMOVE_MEMBER: [Row<'static>; 8] = [
+    (
+        ProposeQ(1, &[Act::SetMember(7, 7), Act::Rules([0, 1], [0, 1])]),
+        Rows(0xa2e38cde1736bbd1),
+    ),
+    (Yes(5, Q), Rows(0x971196a8b7215f74)),
+    (Yes(1, Q), Rows(0xcfa6f7c72454e5e6)),
+    (
+        ProposeP(1, &[Act::RemoveMember(5)]),
+        Rows(0x462462a8c80d20a0),
+    ),
+    (Yes(1, P), Rows(0x90a95e9dff2d48c9)),
+    (Yes(2, P), Rows(0x90865f37089c8e30)),
+    (Yes(3, P), Rows(0x53dd65ce6979f1df)),
+    (Ack(5), Refused(GovernanceRefusal::NotMember)),
+];
 
 // Takes the last request back, and once more.
 #[test]
 fn cuts_and_copies(rt: HostRuntime) -> Result<(), Fail> {
     let mut bench = Bench::new(rt.alloc(), 1, 6, 3)?;
-    founding::found(&rt, &mut bench)?;
-    founding::acknowledge(&rt, &mut bench)?;
-    propose_bad_members(&rt, &mut bench)?;
-    propose_bad_nodes(&rt, &mut bench)?;
-    open(&rt, &mut bench)?;
-    let accepted = rows(0x5884b8226dfd9b9e);
+    for rows in [&founding::FOUND[..], &founding::ACKNOWLEDGE, &BAD, &OPEN] {
+        play(&rt, &mut bench, rows)?;
+    }
     let copy = bench.state.copy()?;
     bench.state.cut(10);
-    expect(&rt, bench.rows()?, rows(0x9cdca297c7ccf0c0));
-    expect(&rt, bench.again()?, accepted);
+    assert_eq!(rt; bench.rows()?, Rows(0x9cdca297c7ccf0c0));
+    assert_eq!(rt; bench.ask(Again)?, ACCEPTED);
     bench.state = copy;
-    expect(&rt, bench.rows()?, accepted);
+    assert_eq!(rt; bench.rows()?, ACCEPTED);
     Ok(())
 }

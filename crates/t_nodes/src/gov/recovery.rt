@@ -1,72 +1,91 @@
-//! A service that is founded anew, and the shares that its members give.
+//! A service that is founded anew, and the shares that its members give. The digests are by Python's
+//! hashlib.
 
-use super::bench::{Act, Bench, bad, deal, expect, misdeal, refused, rows, secret, share};
+use super::bench::Ask::{Give, ProposeP, Recover, Yes};
+use super::bench::Meant::P;
+use super::bench::Told::{Bad, Refused, Rows};
+use super::bench::{Act, Bench, Row};
 use gl_audit::ShareCount;
 use gl_gov_rules::{Cause, GovernanceRefusal, MemberStatus, NodeStatus, ProposalState, Vote};
 use gl_requests::{Action, ServiceState};
-use sha2::{Digest, Sha256};
 use std::process::Abort;
 use std::test::Fail;
 
+// The digest of the share that was dealt to member 1.
+const SHARE_OF_1: [u8; 32] = [
+    0x23, 0x29, 0xea, 0xf8, 0x3a, 0xe2, 0xa5, 0x7f, 0x30, 0x52, 0x80, 0x03, 0xaa, 0x68, 0x1d, 0x3e,
+    0xec, 0xb5, 0x73, 0xf2, 0xac, 0x33, 0x1d, 0xd6, 0x92, 0x5b, 0x16, 0xb1, 0x67, 0x25, 0xb7, 0xee,
+];
+
+// The digest of the secret to which the shares join.
+const SECRET: [u8; 32] = [
+    0x38, 0x81, 0x21, 0x9d, 0x08, 0x7d, 0xd9, 0xc6, 0x34, 0x37, 0x3f, 0xd3, 0x3d, 0xfa, 0x33, 0xa2,
+    0xcb, 0x6b, 0xfc, 0x6c, 0x52, 0x0b, 0x64, 0xb8, 0xbb, 0x60, 0xef, 0x2c, 0xeb, 0x53, 0x4a, 0xe7,
+];
+
+// The digest that a dealing of another secret names.
+const ANOTHER: [u8; 32] = [
+    0xae, 0x44, 0x8a, 0xc8, 0x6c, 0x4e, 0x8e, 0x4d, 0xec, 0x64, 0x57, 0x29, 0x70, 0x8e, 0xf4, 0x18,
+    0x73, 0xae, 0x79, 0xc6, 0xdf, 0xf8, 0x4e, 0xff, 0x73, 0x36, 0x09, 0x89, 0x48, 0x7f, 0x08, 0xe5,
+];
+
 /// What is asked before the service is founded anew, and that.
-pub fn recover(rt: &impl Abort, bench: &mut Bench) -> Result<(), Fail> {
-    let state = ServiceState::Open;
-    let early = bench.give(3, 3)?;
-    expect(
-        rt,
-        early,
-        refused(GovernanceRefusal::ServiceState { state }),
-    );
-    let told = bench.propose_p(2, &[Act::SetMember(6, 6)])?;
-    expect(rt, told, rows(0x57ab9e02e8d24df5));
-    expect(rt, bench.recover(&[2])?, bad(0, Cause::NodeStatus));
-    expect(rt, bench.recover(&[5, 6])?, rows(0x7f30f282cdff3f34));
-    let p = bench.p;
-    let state = ProposalState::Dropped;
-    expect(
-        rt,
-        bench.yes(1, p)?,
-        refused(GovernanceRefusal::NotOpen { state }),
-    );
-    Ok(())
-}
+pub const RECOVER: [Row<'static>; 5] = [
+    (
+        Give(3, 3),
+        Refused(GovernanceRefusal::ServiceState {
+            state: ServiceState::Open,
+        }),
+    ),
+    (
+        ProposeP(2, &[Act::SetMember(6, 6)]),
+        Rows(0x57ab9e02e8d24df5),
+    ),
+    (Recover(&[2]), Bad(0, Cause::NodeStatus)),
+    (Recover(&[5, 6]), Rows(0x7f30f282cdff3f34)),
+    (
+        Yes(1, P),
+        Refused(GovernanceRefusal::NotOpen {
+            state: ProposalState::Dropped,
+        }),
+    ),
+];
 
 /// The service waits for shares, of which two join to another secret than was dealt.
-pub fn give_in_vain(rt: &impl Abort, bench: &mut Bench) -> Result<(), Fail> {
-    let told = bench.propose_p(1, &[Act::Deal(misdeal(2, &[2, 3])), Act::Open])?;
-    expect(rt, told, rows(0xc5e0a5ee5f66c7ec));
-    let p = bench.p;
-    expect(rt, bench.yes(1, p)?, rows(0x056b08771a6f1d83));
-    let digest = Sha256::digest(&share(1));
-    let other = bench.give(2, 1)?;
-    expect(rt, other, refused(GovernanceRefusal::WrongShare { digest }));
-    expect(rt, bench.give(2, 2)?, rows(0x368468ab3c9f18f1));
-    let twice = bench.give(2, 2)?;
-    expect(
-        rt,
-        twice,
-        refused(GovernanceRefusal::KnownShare { member: 2 }),
-    );
-    let want = Sha256::digest(b"another");
-    let got = Sha256::digest(&secret());
-    expect(
-        rt,
-        bench.give(3, 3)?,
-        refused(GovernanceRefusal::Secret { want, got }),
-    );
-    Ok(())
-}
+pub const GIVE_IN_VAIN: [Row<'static>; 6] = [
+    (
+        ProposeP(1, &[Act::Misdeal((2, &[2, 3])), Act::Open]),
+        Rows(0xc5e0a5ee5f66c7ec),
+    ),
+    (Yes(1, P), Rows(0x056b08771a6f1d83)),
+    (
+        Give(2, 1),
+        Refused(GovernanceRefusal::WrongShare { digest: SHARE_OF_1 }),
+    ),
+    (Give(2, 2), Rows(0x368468ab3c9f18f1)),
+    (
+        Give(2, 2),
+        Refused(GovernanceRefusal::KnownShare { member: 2 }),
+    ),
+    (
+        Give(3, 3),
+        Refused(GovernanceRefusal::Secret {
+            want: ANOTHER,
+            got: SECRET,
+        }),
+    ),
+];
 
 /// A dealing of the secret itself, whose shares open the service.
-pub fn give(rt: &impl Abort, bench: &mut Bench) -> Result<(), Fail> {
-    let told = bench.propose_p(1, &[Act::Deal(deal(2, &[2, 3]))])?;
-    expect(rt, told, rows(0x46abba60c3b49ddc));
-    let p = bench.p;
-    expect(rt, bench.yes(1, p)?, rows(0x6c037bfa779f3b3d));
-    expect(rt, bench.give(2, 2)?, rows(0xf896275098fb171f));
-    expect(rt, bench.give(3, 3)?, rows(0x7f51d8b37f8fd91f));
-    Ok(())
-}
+pub const GIVE: [Row<'static>; 4] = [
+    (
+        ProposeP(1, &[Act::Deal((2, &[2, 3]))]),
+        Rows(0x46abba60c3b49ddc),
+    ),
+    (Yes(1, P), Rows(0x6c037bfa779f3b3d)),
+    (Give(2, 2), Rows(0xf896275098fb171f)),
+    (Give(3, 3), Rows(0x7f51d8b37f8fd91f)),
+];
 
 /// What is known of the service in the end.
 pub fn know_service(rt: &impl Abort, bench: &Bench) -> Result<(), Fail> {

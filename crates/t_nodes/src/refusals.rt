@@ -1,14 +1,13 @@
 //! Refusals by hand: their numbers, their values, and the bytes of these.
 
-use crate::governance::governance_reason;
-use crate::reason::{not_primary, unmade_reason};
-use crate::spelling::values_bytes;
-use crate::value::{Reason, Value};
+use gl_store_book::StoreBook;
 use gl_gov_rules::{Cause, GovernanceRefusal, NodeStatus, ProposalState};
 use gl_ledger::{Refusal, Unmade};
+use gl_refusals::{Reason, Value, reason_of, values_bytes};
+use gl_replication::Refusal as NodeRefusal;
 use gl_requests::ServiceState;
 use gl_tx::Abort;
-use std::alloc::{AllocError, Global};
+use std::alloc::Global;
 use std::test::Fail;
 
 /// Each refusal of governance that has no digest: its number, and its values.
@@ -145,6 +144,39 @@ const LEDGER: [(Unmade, u16, &[u64]); 6] = [
     (Unmade::NoEntry, 117, &[]),
 ];
 
+/// Each refusal of governance that has digests: its number, and these.
+const DIGESTS: [(GovernanceRefusal, u16, &[[u8; 32]]); 3] = [
+    (
+        GovernanceRefusal::Secret {
+            want: [1; 32],
+            got: [2; 32],
+        },
+        103,
+        &[[1; 32], [2; 32]],
+    ),
+    (
+        GovernanceRefusal::KnownProposal { id: [3; 32] },
+        52,
+        &[[3; 32]],
+    ),
+    (
+        GovernanceRefusal::WrongShare { digest: [4; 32] },
+        100,
+        &[[4; 32]],
+    ),
+];
+
+/// What a client is told where a node refuses an event.
+fn told(alloc: Global, why: NodeRefusal<StoreBook>) -> Result<Reason, Fail> {
+    Ok(reason_of(alloc, &why)?.ok_or("no reason")?)
+}
+
+/// What a client is told where governance refuses a request.
+fn told_of(alloc: Global, why: GovernanceRefusal) -> Result<Reason, Fail> {
+    let why = Unmade::ByStore(Refusal::Governance(why));
+    told(alloc, NodeRefusal::ByLedger(why))
+}
+
 /// Whether a reason has this number and these numbers as values.
 fn tells(reason: &Reason, code: u16, values: &[u64]) -> bool {
     reason.code == code
@@ -159,69 +191,60 @@ fn tells(reason: &Reason, code: u16, values: &[u64]) -> bool {
 
 #[test]
 fn tells_refusals_of_governance(rt: HostRuntime) -> Result<(), Fail> {
-    let alloc = rt.alloc();
     for (refusal, code, values) in &GOVERNANCE {
-        assert!(rt; tells(&governance_reason(alloc, *refusal)?, *code, values));
+        let reason = told_of(rt.alloc(), *refusal)?;
+        assert!(rt; tells(&reason, *code, values));
     }
-    for (i, cause) in CAUSES.iter().enumerate() {
+    Ok(())
+}
+
+#[test]
+fn tells_causes(rt: HostRuntime) -> Result<(), Fail> {
+    for (cause, number) in CAUSES.iter().zip(1..) {
         let refusal = GovernanceRefusal::BadAction {
             index: 7,
             cause: *cause,
         };
-        assert!(rt; tells(&governance_reason(alloc, refusal)?, 48, &[7, i as u64 + 1]));
+        let reason = told_of(rt.alloc(), refusal)?;
+        assert!(rt; tells(&reason, 48, &[7, number]));
     }
     Ok(())
 }
 
 #[test]
 fn tells_digests(rt: HostRuntime) -> Result<(), Fail> {
-    let alloc = rt.alloc();
-    let secret = GovernanceRefusal::Secret {
-        want: [1; 32],
-        got: [2; 32],
-    };
-    let reason = governance_reason(alloc, secret)?;
-    assert_eq!(rt; reason.code, 103);
-    assert_eq!(rt;
-        reason.values.as_slice(),
-        [Value::Digest([1; 32]), Value::Digest([2; 32])].as_slice()
-    );
-    let known = governance_reason(alloc, GovernanceRefusal::KnownProposal { id: [3; 32] })?;
-    assert_eq!(rt; known.code, 52);
-    assert_eq!(rt;
-        known.values.as_slice(),
-        [Value::Digest([3; 32])].as_slice()
-    );
-    let wrong = governance_reason(alloc, GovernanceRefusal::WrongShare { digest: [4; 32] })?;
-    assert_eq!(rt; wrong.code, 100);
-    assert_eq!(rt;
-        wrong.values.as_slice(),
-        [Value::Digest([4; 32])].as_slice()
-    );
+    for (refusal, code, digests) in &DIGESTS {
+        let reason = told_of(rt.alloc(), *refusal)?;
+        assert_eq!(rt; (reason.code, reason.values.len()), (*code, digests.len()));
+        for (value, digest) in reason.values.as_slice().iter().zip(*digests) {
+            assert_eq!(rt; *value, Value::Digest(*digest));
+        }
+    }
     Ok(())
 }
 
 #[test]
 fn tells_refusals_of_a_ledger(rt: HostRuntime) -> Result<(), Fail> {
     for (refusal, code, values) in &LEDGER {
-        assert!(rt; tells(&unmade_reason(rt.alloc(), *refusal)?, *code, values));
+        let reason = told(rt.alloc(), NodeRefusal::ByLedger(*refusal))?;
+        assert!(rt; tells(&reason, *code, values));
     }
     Ok(())
 }
 
-fn leader_bytes(alloc: Global, leader: Option<[u8; 32]>) -> Result<Vec<u8>, AllocError> {
-    values_bytes(alloc, not_primary(alloc, 7, leader)?.values.as_slice())
+fn leader_bytes(alloc: Global, leader: Option<[u8; 32]>) -> Result<Vec<u8>, Fail> {
+    let reason = told(alloc, NodeRefusal::NotPrimary(7, leader))?;
+    Ok(values_bytes(alloc, reason.values.as_slice())?)
 }
 
 #[test]
 fn spells_leaders(rt: HostRuntime) -> Result<(), Fail> {
-    let alloc = rt.alloc();
-    let none = leader_bytes(alloc, None)?;
+    let none = leader_bytes(rt.alloc(), None)?;
     assert_eq!(rt;
         none.as_slice(),
         [7, 0, 0, 0, 0, 0, 0, 0, 0, 0, 0, 0].as_slice()
     );
-    let one = leader_bytes(alloc, Some([9; 32]))?;
+    let one = leader_bytes(rt.alloc(), Some([9; 32]))?;
     assert_eq!(rt; one.len(), 44);
     assert_eq!(rt;
         &one[..13],

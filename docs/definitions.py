@@ -1,22 +1,24 @@
 #!/usr/bin/env -S python3 -B
-# Makes docs/DEFINITIONS.md from the comments of the definitions in crates/*/specs. With --check it writes nothing, and
-# fails where the page differs from what it would write.
+# The definitions of the contracts, from the comments above them in crates/*/specs.
+#
+#   docs/definitions.py NAME..         prints the public definitions of these crates: name, meaning, public standard
+#   docs/definitions.py --standards    writes docs/STANDARDS.md: of all crates those that name a public standard
+#   docs/definitions.py --check        fails where that page differs from what it would write
 import re
 import sys
 from pathlib import Path
 
 TOP = Path(__file__).resolve().parent.parent
-PAGE = TOP / "docs" / "DEFINITIONS.md"
+PAGE = TOP / "docs" / "STANDARDS.md"
 
-HEAD = """# Definitions
+HEAD = """# Definitions of public standards
 
-The contracts of Galdoxe say what its calls do in words of their own. This page lists every public definition of the
-specifications with the comment that stands above it there, and the public standard that the comment names. It is made by
-`docs/definitions.py` from the files themselves; how a definition and a clause are read, and in which order, tells
-[READING.md](READING.md).
+Each row is a definition of the specifications that says what a public standard says, with the section that its comment
+names. `docs/definitions.py --standards` writes this page from the files themselves. All definitions of a crate, with the
+comment that stands above each, are printed by `docs/definitions.py NAME`.
 
-A row without a comment is a step of the definition above it.
-
+| crate | definition | meaning | standard |
+|---|---|---|---|
 """
 
 DEFINITION = re.compile(
@@ -69,43 +71,62 @@ def definitions(text):
     return head, found
 
 
-def row(name, comment, head):
+def parts(name, comment, head):
+    """The name of a definition, what it means, and the sections of standards that its comment names."""
     standards = STANDARD.findall(comment)
     meaning = STANDARD.sub("", comment)
     named = NAMED.search(head)
     if named:
         standards += [f"{named.group(0)}, {section}" for section in SECTION.findall(meaning)]
         meaning = SECTION.sub("", meaning)
-    meaning = meaning.replace(" .", ".").replace("  ", " ").strip()
-    name, meaning = name.replace("|", "\\|"), meaning.replace("|", "\\|")
-    return f"| `{name}` | {meaning} | {'; '.join(standards)} |"
+    for was, now in ((" .", "."), (" ,", ","), (" :", ":"), ("  ", " ")):
+        meaning = meaning.replace(was, now)
+    return name, meaning.strip(), "; ".join(standards)
+
+
+def files_of(crate):
+    """The files of a crate's specifications, each with the comment at its head and its definitions."""
+    for file in sorted((TOP / "crates" / crate / "specs").glob("*.antt")):
+        head, found = definitions(file.read_text())
+        if file.name != "Lib.antt" and found:
+            yield file, head, [parts(name, comment, head) for name, comment in found]
+
+
+def print_crate(crate):
+    print(f"{crate}: {about(crate)}")
+    for file, head, rows in files_of(crate):
+        print(f"\n{file.relative_to(TOP)}: {head}\n")
+        for name, meaning, standards in rows:
+            print(f"  {name}: {meaning or 'a step of the definition above'}" + (f" ({standards})" if standards else ""))
+    print()
+
+
+def escaped(text):
+    return text.replace("|", "\\|")
 
 
 def page():
-    parts = [HEAD]
+    rows = []
     for crate in crates():
-        specs = TOP / "crates" / crate / "specs"
-        files = [f for f in sorted(specs.glob("*.antt")) if f.name != "Lib.antt"]
-        tables = []
-        for file in files:
-            head, found = definitions(file.read_text())
-            if not found:
-                continue
-            rows = "\n".join(row(name, comment, head) for name, comment in found)
-            link = f"../crates/{crate}/specs/{file.name}"
-            tables.append(f"### [{file.name}]({link})\n\n{head}\n\n| Name | Meaning | Standard |\n|---|---|---|\n{rows}\n")
-        if tables:
-            parts.append(f"## {crate}\n\n{about(crate)}\n\n" + "\n".join(tables) + "\n")
-    return "".join(parts).rstrip() + "\n"
+        for file, _, found in files_of(crate):
+            for name, meaning, standards in found:
+                if standards:
+                    link = f"[`{escaped(name)}`](../crates/{crate}/specs/{file.name})"
+                    rows.append(f"| `{crate}` | {link} | {escaped(meaning)} | {escaped(standards)} |")
+    return HEAD + "\n".join(rows) + "\n"
 
 
-def main():
-    made = page()
-    if "--check" in sys.argv[1:]:
-        if PAGE.read_text() != made:
-            sys.exit("docs/DEFINITIONS.md is not what docs/definitions.py makes: run docs/definitions.py")
-        return
-    PAGE.write_text(made)
+def main(words):
+    if words == ["--standards"]:
+        PAGE.write_text(page())
+    elif words == ["--check"]:
+        if PAGE.read_text() != page():
+            sys.exit("docs/STANDARDS.md is not what docs/definitions.py makes: run docs/definitions.py --standards")
+    elif words and set(words) <= set(crates()):
+        for crate in words:
+            print_crate(crate)
+    else:
+        sys.exit("docs/definitions.py NAME.. | --standards | --check, where NAME is a crate:\n" + " ".join(crates()))
 
 
-main()
+main(sys.argv[1:])

@@ -48,6 +48,10 @@ class Story:
         self.identity, ids = program.found(NAMES, MEMBERS, "opening")
         self.nodes = nodes_of(program, NAMES, ids)
         self.service = Service({node.id: node.address for node in self.nodes})
+        self.leading = None  # the node that leads
+
+    def others(self):
+        return [node for node in self.nodes if node is not self.leading]
 
     # ---- Nodes
 
@@ -63,6 +67,23 @@ class Story:
         role, view, commit = within(20, lambda: test(node.standing()) and node.standing(), what)
         seen(f"{node.name} tells: {role} view {view} commit {commit}")
         return role, view, commit
+
+    def settled(self):
+        """The node that leads, once the others follow it in its view. It is node 1, which signed the
+        opening, unless it began so late that the others elected one of themselves."""
+        stands = [node.standing() for node in self.nodes]
+        if None in stands or len({view for _, view, _ in stands}) > 1:
+            return None
+        if sorted(role for role, _, _ in stands) != ["follower", "follower", "leader"]:
+            return None
+        return next(node for node, of in zip(self.nodes, stands) if of[0] == "leader")
+
+    def settle(self):
+        """Waits for a leader, whichever node it is, and prints where each node stands then."""
+        self.leading = within(60, self.settled, "a node leads, and the others follow it")
+        for node in self.nodes:
+            role, view, commit = node.standing()
+            seen(f"{node.name} tells: {role} view {view} commit {commit}")
 
     def leader(self, view, nodes):
         """The node that leads, in this view or a later one."""
@@ -97,7 +118,7 @@ class Story:
 
 def open_service(story):
     """The members acknowledge the service and open it. A put before that is refused: 51, it is opening."""
-    leader, program = story.nodes[0], story.program
+    leader, program = story.leading, story.program
     story.client(leader, "put public:t 61 31", wanted=1)
 
     def signed(member, asked):
@@ -119,7 +140,7 @@ def open_service(story):
 def watch(story):
     """A put over one connection, and what becomes of it: Pending at first, and without a receipt, then
     Committed."""
-    client = Client(story.nodes[0].address)
+    client = Client(story.leading.address)
     id = client.ask(SUBMIT, request(put(b"public:t", b"a", b"1"))).id
     put_at = time.monotonic()
     first = client.ask(STATUS_OF, transaction(id))
@@ -136,14 +157,15 @@ def watch(story):
 
 def ask(story):
     """A put, its status at two nodes, a read, a node that doesn't lead, and the put's receipt."""
-    first, second, _ = story.nodes
+    first, (second, _) = story.leading, story.others()
     id = watch(story)
     required(story.client(first, f"status {id}") == "Committed", "so says the leader")
-    within(20, lambda: story.status_at(second, id) == "Committed", "node2 knows it too")
+    within(20, lambda: story.status_at(second, id) == "Committed", f"{second.name} knows it too")
     required(story.client(second, f"status {id}") == "Committed", "and so says another node")
     required(story.accepted(first, "get public:t 61").endswith(" value 31"), "the value is read")
     answer = story.client(second, "put public:t 61 32", wanted=1)
-    required(answer == f"refused 110 2 {first.id}", "who doesn't lead names the view and the leader")
+    wanted = f"refused 110 {first.standing()[1]} {first.id}"
+    required(answer == wanted, "who doesn't lead names the view and the leader")
     story.client(second, f"receipt {id}", out="receipt.json")
     told = story.program.ccfg(f"verify --identity {story.identity}", "receipt.json")
     required(told.decode().split() == ["valid", id], "the receipt is valid under the service's key alone")
@@ -181,8 +203,10 @@ def statuses(story, ids):
 
 
 def lose_leader(story):
-    """The leader is killed while it has puts to do, and another node is elected."""
-    first, *others = story.nodes
+    """The leader is killed while it has puts to do, and another node is elected. It gives the killed
+    node, the new leader's view, the puts known to be committed before, and all that were accepted."""
+    first, others = story.leading, story.others()
+    view_before = first.standing()[1]
     load = Load({node.id: node.address for node in story.nodes})
     load.start()
     within(30, lambda: load.has(LOAD_BEFORE), "the load is under way")
@@ -191,18 +215,19 @@ def lose_leader(story):
     killed = time.monotonic()
     first.process.wait(10)
     before = len(load.ids)
-    seen(f"in the midst of puts, {before} of them accepted, {len(sure)} known to be committed, node1 is killed")
-    leader, (_, view, _) = within(30, lambda: story.leader(3, others), "another node leads")
-    seen(f"{time.monotonic() - killed:.1f} seconds later {leader.name} tells: leader view {view}")
+    seen(f"in the midst of puts, {before} of them accepted, {len(sure)} known to be committed, {first.name} is killed")
+    elected = within(30, lambda: story.leader(view_before + 1, others), "another node leads")
+    story.leading, (_, view, _) = elected
+    seen(f"{time.monotonic() - killed:.1f} seconds later {story.leading.name} tells: leader view {view}")
     within(60, lambda: load.has(before + LOAD_AFTER), "puts go on")
     load.going = False
     load.join(40)
     later = [id for id in load.ids if id[0] >= view]
     required(len(later) >= LOAD_AFTER // 2, f"the puts go on: {len(later)} more are accepted in view {view}")
-    return leader, sure, load.ids
+    return first, view, sure, load.ids
 
 
-def count_load(story, view, sure, ids):
+def count_load(story, killed, view, sure, ids):
     """What became of the load: what was committed stays so, and nothing is lost that the new leader took."""
     last = f"{ids[-1][0]}.{ids[-1][1]}"
     story.committed(last)
@@ -211,20 +236,20 @@ def count_load(story, view, sure, ids):
     seen(f"of {len(ids)} puts {len(committed)} are Committed, and {len(lost)} are Invalid")
     required(not counts, "no put is left undecided")
     required(set(sure) <= set(committed), "each put that was committed before is so now")
-    required(all(id[0] < view for id in lost), "node1 alone had accepted those that are Invalid")
+    required(all(id[0] < view for id in lost), f"{killed.name} alone had accepted those that are Invalid")
 
 
-def take_back(story, leader):
+def take_back(story, killed):
     """The killed node goes on from its file, and takes what it missed."""
-    first = story.nodes[0]
-    story.begin(first, "/dev/null")
+    leader = story.leading
+    story.begin(killed, "/dev/null")
     story.accepted(leader, "put public:t 62 33")
     wanted = leader.standing()[2]
 
     def has_all(of):
         return of and of[0] == "follower" and of[2] >= wanted
 
-    story.tell_standing(first, has_all, f"node1 knows all that {leader.name} had committed")
+    story.tell_standing(killed, has_all, f"{killed.name} knows all that {leader.name} had committed")
 
 
 def committed_ledger(story, node, standing):
@@ -252,14 +277,12 @@ def compare(story):
 def play(story):
     for node in story.nodes:
         story.begin(node, "opening.ledger")
-    for node in story.nodes:
-        role = "leader" if node is story.nodes[0] else "follower"
-        story.tell_standing(node, lambda of: of and of[0] == role, f"{node.name} is a {role}")
+    story.settle()
     open_service(story)
     ask(story)
-    leader, sure, ids = lose_leader(story)
-    count_load(story, leader.standing()[1], sure, ids)
-    take_back(story, leader)
+    killed, view, sure, ids = lose_leader(story)
+    count_load(story, killed, view, sure, ids)
+    take_back(story, killed)
     compare(story)
     seen("all as wanted")
 

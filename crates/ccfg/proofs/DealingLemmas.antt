@@ -1,8 +1,8 @@
 -- What is owed where a recovery secret is to be dealt.
 use Rattle.std.proofs.Common.{◌≡◌, ℕ, ◌<◌, List, length, Option, Bool, true, false, nat_lt, if◌then◌else◌, refl, ap, ◌∙◌, arith}
 use Rattle.std.proofs.lemmas.Bool.Decides.{nat_tests}
-use Rattle.gl_ledger_file.specs.Given.{OfBytes}
-use Rattle.gl_dealing.specs.Members.{can_deal}
+use Rattle.gl_entry.specs.Given.{OfBytes}
+use Rattle.gl_consortium.specs.Members.{can_deal}
 use Rattle.ccfg.specs.declared.fault.Fault.TheVariants as faults
 use Rattle.ccfg.specs.Owed.{Due, dealing_len, due_of_answer, due_of_dealing, due_of_fault, text_of_dealing}
 use Rattle.ccfg.proofs.ShownLemmas.{of_map}

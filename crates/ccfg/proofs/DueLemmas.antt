@@ -6,7 +6,7 @@ use Rattle.std.specs.Io.KnownBytes.{Appends, Consumes, Keeps}
 use Rattle.gl_outside.specs.Sink.{AppendsFront}
 use Rattle.gl_lines.specs.Lines.{line_count}
 use Rattle.gl_receipt.specs.Form.{receipt_from}
-use Rattle.gl_ledger_file.specs.Given.{OfBytes}
+use Rattle.gl_entry.specs.Given.{OfBytes}
 use Rattle.gl_load.specs.Events.{load_ledger}
 use Rattle.gl_load.specs.Report.{report_of}
 use Rattle.gl_audit.specs.Verdict.{verdict as verdict_on}
@@ -28,7 +28,7 @@ use Rattle.ccfg.specs.declared.plan.PlanStop.TheVariants as stops
 use Rattle.ccfg.proofs.ShownLemmas.{both_any, both_map, of_map}
 use Rattle.gl_journal.specs.declared.key.KeyKind.{KeyKind}
 use Rattle.gl_keyfile.specs.declared.leaf.LeafUse.{LeafUse}
-use Rattle.gl_lms.specs.declared.types.Types.{Types}
+use Rattle.gl_hss.specs.declared.types.Types.{Types}
 use Rattle.gl_outside.specs.Disk.{Step}
 use Rattle.gl_outside.specs.Fault.{Rose}
 use Rattle.gl_schedule.specs.Told.{text_of_schedule}

@@ -10,7 +10,7 @@ use Rattle.gl_rules.proofs.Lists.{get_push}
 use Rattle.gl_entry.specs.Entry.{frame_bytes, is_entry}
 use Rattle.gl_entry.specs.declared.entry.Entry.{Entry}
 use Rattle.gl_entry.proofs.EntryLaws.{body_within}
-use Rattle.gl_lms.specs.declared.types.Types.TheVariants.{H5W4}
+use Rattle.gl_hss.specs.declared.types.Types.TheVariants.{H5W4}
 use Rattle.gl_outside.specs.SureDisk.{disk_past}
 use Rattle.gl_outside.specs.declared.sure_disk.SureDisk.{SureDisk}
 use Rattle.gl_journal.specs.Durable.{Durable, fold_records, key_alone, leaf_count}

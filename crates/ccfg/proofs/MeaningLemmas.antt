@@ -31,8 +31,8 @@ use Rattle.gl_recovery.specs.declared.recovering_fault.RecoveringFault.{Recoveri
 use Rattle.gl_recovery.specs.declared.recovering_fault.RecoveringFault.TheVariants as recoverings
 use Rattle.gl_keyfile.specs.Signing.{kind_of}
 use Rattle.gl_keyfile.specs.declared.signing.Signing.{Signing}
-use Rattle.gl_lms.specs.declared.types.Types.{Types}
-use Rattle.gl_dealing.specs.Members.{can_deal}
+use Rattle.gl_hss.specs.declared.types.Types.{Types}
+use Rattle.gl_consortium.specs.Members.{can_deal}
 use Rattle.ccfg.proofs.DealingLemmas.{dealing_due, long_dealing, short_dealing, whole_dealing}
 use Rattle.ccfg.proofs.KeyLemmas.{key_of, long_seed, seed_due, short_seed, whole_seed}
 use Rattle.ccfg.proofs.SigningLemmas.{is_own_kind, long_text, same_kind, signed_ends, text_due, unsigned_due, with_key, with_other_key}

@@ -8,9 +8,9 @@ use Rattle.gl_outside.proofs.Moments.{so_too, started, stayed, then_too}
 use Rattle.gl_store_book.specs.AtOpening.{opened_state}
 use Rattle.gl_store_book.specs.Frames.{goes_on_ledger}
 use Rattle.gl_store_book.specs.NodeFile.{opened, OpensOnlyTo}
-use Rattle.gl_serving.specs.OverLink.{KeepsLeaves}
+use Rattle.gl_serve.specs.OverLink.{KeepsLeaves}
 use Rattle.gl_store_book.specs.Stands.{NodeStore}
-use Rattle.gl_serving.specs.Types.{NodeSeen}
+use Rattle.gl_serve.specs.Types.{NodeSeen}
 use Rattle.ccfg.specs.Nodes.{KeepsNode, MovesNode, disk_behind}
 use Rattle.ccfg.specs.declared.node.NodeStop.{NodeStop}
 use Rattle.ccfg.specs.declared.node.NodeStop.TheVariants as stops

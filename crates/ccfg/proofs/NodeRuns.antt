@@ -1,7 +1,7 @@
 -- What a run of a node comes to, by how it stopped before it served, or how it served.
 use Rattle.std.proofs.Common.{◌≡◌, ◌⊎◌, inl, inr, ℕ, Bool, true, false, ◌||◌, List, Option, None, Some, Result, Ok, Err, IsTrue, is_ok, refl, sym, subst, ◌∙◌}
 use Rattle.std.specs.Io.KnownBytes.{Appends, Keeps}
-use Rattle.gl_ledger_file.specs.Given.{OfBytes}
+use Rattle.gl_entry.specs.Given.{OfBytes}
 use Rattle.gl_outside.specs.Disk.{Step}
 use Rattle.gl_outside.specs.Fault.{Rose}
 use Rattle.gl_store_book.specs.declared.node_file.fault.OpeningFault.{OpeningFault}

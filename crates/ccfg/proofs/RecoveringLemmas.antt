@@ -1,7 +1,7 @@
 -- What is owed where a service is founded anew.
 use Rattle.std.proofs.Common.{◌≡◌, ◌≢◌, ℕ, List, Option, Bool, true, false, Result, Ok, Err, IfOk, sym, ap, ◌∙◌}
 use Rattle.gl_journal.specs.Durable.{Durable}
-use Rattle.gl_ledger_file.specs.Given.{OfBytes}
+use Rattle.gl_entry.specs.Given.{OfBytes}
 use Rattle.gl_recovery.specs.Recovering.{is_of_outside, is_source_read, recover_owed}
 use Rattle.gl_recovery.specs.declared.recovering_fault.RecoveringFault.{RecoveringFault}
 use Rattle.gl_recovery.specs.declared.recovering_fault.RecoveringFault.TheVariants.{DiskFailed}

@@ -1,7 +1,7 @@
 -- What is said of what a disk shows, whether it is honest or not, and of the bytes that a source
 -- gives.
 use Rattle.std.proofs.Common.{◌≡◌, ℕ, List, [], Bool, true, false, Option, None, Some, IfSome, Result, Ok, Err, IfOk, subst, ap, ◌∙◌}
-use Rattle.gl_ledger_file.specs.Given.{OfBytes}
+use Rattle.gl_entry.specs.Given.{OfBytes}
 use Rattle.ccfg.specs.Owed.{Due, OfShown, Shown, due_of, shown_by}
 use Rattle.ccfg.specs.Plans.{due_of_plan}
 use Rattle.ccfg.specs.declared.plan.Plan.{Plan}

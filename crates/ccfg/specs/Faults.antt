@@ -5,7 +5,7 @@ use Rattle.gl_store_book.specs.declared.node_file.fault.OpeningFault.{OpeningFau
 use Rattle.gl_store_book.specs.declared.node_file.fault.OpeningFault.TheVariants as openings
 use Rattle.gl_consortium.specs.declared.fault.SigningFault.{SigningFault}
 use Rattle.gl_consortium.specs.declared.fault.SigningFault.TheVariants as signing
-use Rattle.gl_fault_lines.specs.Texts.{bad_action_text, form_text, journal_text, key_kinds_text, kind_name, nodes_text, receipt_text}
+use Rattle.gl_commands.specs.Texts.{bad_action_text, form_text, journal_text, key_kinds_text, kind_name, nodes_text, receipt_text}
 use Rattle.gl_gov_rules.specs.Numbers.{cause_number}
 use Rattle.gl_recovery.specs.declared.fault.RecoveryFault.{RecoveryFault}
 use Rattle.gl_recovery.specs.declared.fault.RecoveryFault.TheVariants as recovery

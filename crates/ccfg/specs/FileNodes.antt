@@ -39,8 +39,8 @@ pub record IsFileNode (f : SeenFileNode) : Type 0 where
   pub state : Durable
   pub file : OpensToNode f.disk.bytes.items state
 
--- A file with this durable state is this node's, in the service of which this is the book: the node's
--- key is the file's.
+-- A file with this durable state is this node's, in the service of which this is the book: the
+-- node's key is the file's.
 pub record IsFileIn (state : Durable) (b : ServiceBook) (x : NodeId) : Type 0 where
   pub keys : NodeKeys
   pub book : b ≡ ledger_book service_layers keys

@@ -5,7 +5,7 @@ use Rattle.gl_entry.specs.declared.entry.Entry.{Entry}
 use Rattle.gl_rules.specs.Node.{Node}
 use Rattle.gl_rules.specs.World.{Start}
 use Rattle.gl_ledger.specs.LedgerBook.{ServiceBook}
-use Rattle.gl_ledger_file.specs.Given.{OfBytes}
+use Rattle.gl_entry.specs.Given.{OfBytes}
 use Rattle.gl_outside.specs.Disk.{Leaves, Step}
 use Rattle.gl_outside.specs.Fault.{Rose}
 use Rattle.gl_outside.specs.Link.{Exchange, Inward}
@@ -26,9 +26,9 @@ use Rattle.gl_serve.specs.Serves.{Serves, calls_after}
 use Rattle.gl_serve.specs.declared.settings.Serving.{Serving}
 use Rattle.gl_serve.specs.declared.settings.ServeEnd.{ServeEnd}
 use Rattle.gl_serve.specs.declared.settings.ServeEnd.TheVariants as ends
-use Rattle.gl_serving.specs.OverLink.{KeepsLeaves}
-use Rattle.gl_serving.specs.Serving.{serving_rules}
-use Rattle.gl_serving.specs.Types.{NodeSeen}
+use Rattle.gl_serve.specs.OverLink.{KeepsLeaves}
+use Rattle.gl_serve.specs.Serving.{serving_rules}
+use Rattle.gl_serve.specs.Types.{NodeSeen}
 use Rattle.ccfg.specs.Faults.{fault_line}
 use Rattle.ccfg.specs.Owed.{Written}
 use Rattle.ccfg.specs.Promises.{TellsFront}
@@ -101,8 +101,8 @@ abbrev pub disk_behind : {D : Type 0} → Result (NodeSeen D NodeStore) (NodeSto
 disk_behind (Ok replica) = replica.disk
 disk_behind (Err stopped) = stopped.1
 
--- Of a disk with these bytes and this history an image is one that a stop might have left before, or
--- it opens as the bytes do, or it opens to their key, with no fewer spent leaves.
+-- Of a disk with these bytes and this history an image is one that a stop might have left before,
+-- or it opens as the bytes do, or it opens to their key, with no fewer spent leaves.
 abbrev pub KeepsNode : List ℕ → List Step → List ℕ → Type 0
 KeepsNode bytes past image =
     OpensToTheSame goes_on_ledger bytes past image
@@ -114,8 +114,8 @@ MovesNode bytes before after = Leaves (KeepsNode bytes before) before after
 
 -- ---- how it serves
 
--- What is told of a serve whose link ended: so many payloads were in the grammar, and so many frames
--- were lost.
+-- What is told of a serve whose link ended: so many payloads were in the grammar, and so many
+-- frames were lost.
 abbrev pub served_line : ℕ × ℕ → List ℕ
 served_line counts =
     codes "served " ++ decimal counts.0 ++ codes " lost " ++ decimal counts.1 ++ codes "\n"

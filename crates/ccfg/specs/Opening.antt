@@ -16,7 +16,8 @@ pub record IsOfNode (s : Settings) (number : ℕ) (node : NodeStore) : Type 0 wh
 abbrev pub opened_at : Settings → ℕ → ℕ → List Entry
 opened_at s count number = if nat_le number count then (start_of s).opening else []
 
--- They are the stores of the nodes in the order of their numbers, and the first so many have opened.
+-- They are the stores of the nodes in the order of their numbers, and the first so many have
+-- opened.
 abbrev pub HaveOpened : Settings → ℕ → List NodeStore → Type 0
 HaveOpened s count books =
     (i : ℕ) (node : NodeStore) → slice_get books i ≡ Some node →

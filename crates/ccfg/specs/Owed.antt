@@ -11,8 +11,8 @@ use Rattle.gl_base.specs.declared.tx_id.TxId.{TxId}
 use Rattle.gl_consortium.specs.Owed.{owed}
 use Rattle.gl_consortium.specs.declared.fault.SigningFault.{SigningFault}
 use Rattle.gl_consortium.specs.declared.fault.SigningFault.TheVariants as signings
-use Rattle.gl_dealing.specs.Dealt.{deal_text, dealt}
-use Rattle.gl_dealing.specs.Members.{can_deal}
+use Rattle.gl_consortium.specs.Dealt.{deal_text, dealt}
+use Rattle.gl_consortium.specs.Members.{can_deal}
 use Rattle.gl_forms.specs.Key.{key_tree}
 use Rattle.gl_journal.specs.Durable.{Durable}
 use Rattle.gl_journal.specs.Records.{key_kind_tag}
@@ -26,7 +26,7 @@ use Rattle.gl_keyfile.specs.Signing.{kind_of, use_of}
 use Rattle.gl_keyfile.specs.declared.leaf.LeafUse.{LeafUse}
 use Rattle.gl_keyfile.specs.declared.leaf.LeafUse.TheVariants.{Start}
 use Rattle.gl_keyfile.specs.declared.signing.Signing.{Signing}
-use Rattle.gl_lms.specs.declared.types.Types.{Types}
+use Rattle.gl_hss.specs.declared.types.Types.{Types}
 use Rattle.gl_load.specs.Events.{load_ledger}
 use Rattle.gl_load.specs.Report.{report_of}
 use Rattle.gl_load.specs.declared.report.Report.{Report}
@@ -39,7 +39,7 @@ use Rattle.gl_receipt.specs.Form.{receipt_from}
 use Rattle.gl_receipt.specs.Verdict.{verdict}
 use Rattle.gl_receipt.specs.declared.components.Receipt.{Receipt}
 use Rattle.gl_receipt.specs.declared.fault.ReceiptFault.{ReceiptFault}
-use Rattle.gl_ledger_file.specs.Given.{OfBytes}
+use Rattle.gl_entry.specs.Given.{OfBytes}
 use Rattle.gl_recovery.specs.Recovering.{is_source_read, recover_owed}
 use Rattle.gl_recovery.specs.declared.recovering_fault.RecoveringFault.{RecoveringFault}
 use Rattle.gl_recovery.specs.declared.recovering_fault.RecoveringFault.TheVariants as recoverings

@@ -8,7 +8,7 @@ use Rattle.gl_base.specs.declared.tx_id.TxId.{TxId}
 use Rattle.gl_consortium.specs.Owed.{owed}
 use Rattle.gl_consortium.specs.declared.fault.SigningFault.{SigningFault}
 use Rattle.gl_consortium.specs.declared.fault.SigningFault.TheVariants as signings
-use Rattle.gl_dealing.specs.Members.{can_deal}
+use Rattle.gl_consortium.specs.Members.{can_deal}
 use Rattle.gl_journal.specs.Durable.{Durable}
 use Rattle.gl_journal.specs.declared.fault.JournalFault.{JournalFault}
 use Rattle.gl_journal.specs.declared.key.KeyKind.{KeyKind}
@@ -244,8 +244,8 @@ IsPastLimit tasks.Recover shown given text = TellsUnfounded endings.PastLimit sh
 
 -- At 9: the bytes are within the limits and have no reading, and the text tells their first bad
 -- line, or what differs first from a receipt or from the form of what is to be signed; or they are
--- no seed, or no secret with the seed of its dealing, or have no settings of a service in front, and
--- the text tells where they differ.
+-- no seed, or no secret with the seed of its dealing, or have no settings of a service in front,
+-- and the text tells where they differ.
 abbrev pub IsNoReading : Task → Shown → List ℕ → List ℕ → Type 0
 IsNoReading tasks.Replay shown given text =
     (number : ℕ) × HasBadLine given number × (text ≡ fault_line (faults.BadLine number))

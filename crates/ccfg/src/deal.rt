@@ -2,7 +2,7 @@
 
 ghost use Rattle.std.specs.Prelude.{◌≡◌, ◌≢◌, ◌<◌, ◌≤◌, Err, IfErr, IfOk, drop, length, take};
 ghost use Rattle.gl_outside.specs.Fault.{Rose};
-ghost use Rattle.gl_ledger_file.specs.Given.{OfBytes};
+ghost use Rattle.gl_entry.specs.Given.{OfBytes};
 ghost use Rattle.ccfg.specs.Owed.{EndsSource, dealing_len, due_of_dealing, secret_len};
 ghost use Rattle.ccfg.specs.Plans.{PlansPlayable, due_of_plan};
 ghost use Rattle.ccfg.specs.declared.fault.Fault.TheVariants.{Short};
@@ -10,7 +10,7 @@ ghost use Rattle.ccfg.specs.declared.fault.Fault.TheVariants.{Short};
 use crate::fault::Fault;
 use crate::plan::{Plan, PlanStop};
 use crate::source_bytes::{ReadStop, read_whole};
-use gl_dealing::{can_deal, deal_text};
+use gl_consortium::{can_deal, deal_text};
 use gl_outside::Source;
 use std::alloc::{AllocError, Global};
 

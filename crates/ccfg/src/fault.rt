@@ -7,11 +7,11 @@ ghost use Rattle.ccfg.specs.Owed.{ending_of_fault, ending_of_recovering};
 use crate::ending::Ending;
 use clap::error::ErrorKind;
 use gl_base::FormsFault;
-use gl_consortium::SigningFault;
-use gl_fault_lines::{
+use gl_commands::{
     kind_name, put_bad_action, put_form, put_hex, put_journal, put_key_kinds, put_named, put_nodes,
     put_number, put_numbers, put_receipt,
 };
+use gl_consortium::SigningFault;
 use gl_journal::{JournalFault, KeyKind};
 use gl_receipt::ReceiptFault;
 use gl_recovery::{RecoveringFault, RecoveryFault};

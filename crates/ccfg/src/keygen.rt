@@ -1,7 +1,7 @@
 //! What there is to do where a key is to begin: its file is begun, and its public form told.
 
 ghost use Rattle.std.specs.Prelude.{◌≡◌, ◌≢◌, ℕ, ◌<◌, ◌≤◌, [], Err, IfErr, IfOk, IsTrue, length};
-ghost use Rattle.gl_ledger_file.specs.Given.{OfBytes};
+ghost use Rattle.gl_entry.specs.Given.{OfBytes};
 ghost use Rattle.gl_outside.specs.Fault.{Rose};
 ghost use Rattle.ccfg.specs.Owed.{EndsSource, OfShown, due_of_answer, due_of_seed, key_line, on_empty, seed_len};
 ghost use Rattle.ccfg.specs.Plans.{IsUntouched, PlansPlayable, TellsFault, ShowsKept, due_of_plan};
@@ -16,9 +16,9 @@ use crate::plan::{Plan, PlanStop};
 use crate::source_bytes::{ReadStop, read_whole};
 use gl_base::OrNoMemory;
 use gl_forms::write_key;
+use gl_hss::Types;
 use gl_journal::{JournalFault, Key, KeyKind};
 use gl_keyfile::{KeyFile, KeyFileFault, key_form};
-use gl_lms::Types;
 use gl_outside::{Disk, Source};
 use std::alloc::{AllocError, Global};
 

@@ -2,7 +2,7 @@
 
 ghost use Rattle.std.specs.Prelude.{◌≡◌, ◌≢◌, ◌++◌, Bool, Err, IfOk, OnOk};
 ghost use Rattle.gl_outside.specs.Fault.{Rose};
-ghost use Rattle.gl_ledger_file.specs.Given.{OfBytes};
+ghost use Rattle.gl_entry.specs.Given.{OfBytes};
 ghost use Rattle.gl_audit.specs.Verdict.{EndsWith};
 ghost use Rattle.gl_audit.specs.Verdict as audits_to;
 ghost use Rattle.ccfg.specs.Owed.{EndsSource, due_of_audit, ledger_line, signed_text};

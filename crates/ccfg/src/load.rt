@@ -8,15 +8,14 @@ ghost use Rattle.ccfg.specs.Owed.{WritesDue, due_of_answer, due_of_load, report_
 use crate::ending::Ending;
 use crate::fault::Fault;
 use crate::output::{refuse, tell};
-use gl_commands::LoadTask;
-use gl_fault_lines::{put_hex, put_named};
+use gl_commands::{LoadTask, put_hex, put_named};
 use gl_load::{LOAD_LIMIT, LoadFounding, Onlooker, Report, load};
 use gl_outside::Sink;
 use gl_store_book::StoreBook;
 use std::alloc::{AllocError, Global};
 
-/// What the ledger of so many requests comes to, which is made and audited for it. Fails for want of
-/// memory alone.
+/// What the ledger of so many requests comes to, which is made and audited for it. Fails for want
+/// of memory alone.
 fn make<O: Onlooker>(
     alloc: Global,
     count: u32,

@@ -21,12 +21,10 @@ mod verify;
 
 use ending::Ending;
 use gl_commands::{Asked, HELP, VERSION, read_words};
-use gl_file::FileDisk;
 use gl_load::Onlooker;
-use gl_net::TcpLink;
 use gl_outside::{OpenGate, Sink, SinkFault, StreamSink, StreamSource, write_whole};
-use gl_progress::WatchedSource;
-use gl_serving::{Observer, Standing};
+use gl_serve::{Observer, Standing};
+use gl_system::{FileDisk, TcpLink, WatchedSource};
 use std::alloc::{AllocError, Global};
 use std::io::IsTerminal;
 use std::net::SocketAddr;
@@ -112,9 +110,9 @@ fn peer_count(alloc: Global, words: &[String]) -> Option<usize> {
     }
 }
 
-/// The link over sockets: it listens at an address and connects to the peers. Where no node is asked
-/// for, without an address, with more or fewer addresses than peers, or where it can't listen there,
-/// each call of the link fails.
+/// The link over sockets: it listens at an address and connects to the peers. Where no node is
+/// asked for, without an address, with more or fewer addresses than peers, or where it can't listen
+/// there, each call of the link fails.
 fn link_at<'a>(
     rt: &'a HostRuntime,
     called: &Invocation<'_>,
@@ -158,8 +156,9 @@ fn tell_link(rt: &HostRuntime, link: &TcpLink<'_, HostRuntime>, called: &Invocat
     }
 }
 
-/// Tells on standard error how far a run is: where a node stands, in a line of its own each time that
-/// this changed; and at a terminal how many requests a load took, in a line over the one before.
+/// Tells on standard error how far a run is: where a node stands, in a line of its own each time
+/// that this changed; and at a terminal how many requests a load took, in a line over the one
+/// before.
 #[derive(Drop)]
 struct ProgressLines<'a> {
     rt: &'a HostRuntime,
@@ -219,8 +218,8 @@ fn is_audit(words: &[String]) -> bool {
     matches!(words, [command, ..] if command.as_str() == "audit")
 }
 
-/// The exit status of a run over the standard streams, the disk and the link. An audit and a load tell
-/// at a terminal how far they are, a link tells where it listens, and a node where it stands.
+/// The exit status of a run over the standard streams, the disk and the link. An audit and a load
+/// tell at a terminal how far they are, a link tells where it listens, and a node where it stands.
 fn status(rt: &HostRuntime) -> Result<u8, AllocError> {
     let all = words_behind_name(rt)?;
     let called = invocation_of(rt.alloc(), &all)?;

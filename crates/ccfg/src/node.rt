@@ -3,7 +3,7 @@
 
 ghost use Rattle.std.specs.Prelude.{◌≡◌, ◌≢◌, ◌⊎◌, ◌++◌, ◌≤◌, ℕ, false, true, Err, IfOk, IsTrue, None, Ok, codes, decimal};
 ghost use Rattle.gl_base.specs.declared.or_no_memory.OrNoMemory.{OrNoMemory};
-ghost use Rattle.gl_ledger_file.specs.Given.{OfBytes};
+ghost use Rattle.gl_entry.specs.Given.{OfBytes};
 ghost use Rattle.gl_outside.specs.Disk.{Leaves};
 ghost use Rattle.gl_outside.specs.Fault.{Rose};
 ghost use Rattle.gl_journal.specs.Durable.{Durable, journal_header};
@@ -14,7 +14,7 @@ ghost use Rattle.gl_store_book.specs.NodeFile.{opened, OpensOnlyTo};
 ghost use Rattle.gl_store_book.specs.declared.node_file.fault.OpeningFault.{OpeningFault};
 ghost use Rattle.ccfg.specs.Owed.{WritesDue, due_of_answer, due_of_fault};
 ghost use Rattle.ccfg.specs.declared.fault.Fault.TheVariants as told;
-ghost use Rattle.gl_serving.specs.OverLink.{KeepsLeaves};
+ghost use Rattle.gl_serve.specs.OverLink.{KeepsLeaves};
 ghost use Rattle.ccfg.specs.Nodes.{BeginsAs, BeginsBy, Beginning, HasLedger, MovesNode, NodeRuns, OfOpened, beginning, beginning_of, disk_behind, has_ledger, reopened, served_line};
 
 use crate::ending::Ending;
@@ -22,13 +22,11 @@ use crate::fault::Fault;
 use crate::output::{refuse, tell};
 use crate::source_bytes::{ReadStop, read_whole};
 use gl_base::OrNoMemory;
-use gl_commands::NodeTask;
-use gl_fault_lines::put_number;
+use gl_commands::{NodeTask, put_number};
 use gl_journal::JournalFault;
 use gl_node::Replica;
 use gl_outside::{Disk, Link, Sink, Source};
-use gl_serve::{ServeEnd, Serving};
-use gl_serving::{Observer, serve_replica};
+use gl_serve::{Observer, ServeEnd, Serving, serve_replica};
 use gl_store_book::{NodeFile, OpeningFault, StoreBook};
 use std::alloc::{AllocError, Global};
 

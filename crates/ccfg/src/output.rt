@@ -92,7 +92,8 @@ pub(crate) fn tell<K: Sink>(text: &[u8], sink: &mut K) -> Ending
     }
 }
 
-/// Plays the lines of a service's schedule, at its nodes, each of which serves from a file in memory.
+/// Plays the lines of a service's schedule, at its nodes, each of which serves from a file in
+/// memory.
 fn play_service<K: Sink>(alloc: Global, settings: Settings, lines: Lines, sink: &mut K) -> Ending
     requires { IsPlayable (Service settings lines) }
     ensures { WritesDue result (record {

@@ -2,12 +2,12 @@
 
 ghost use Rattle.std.specs.Prelude.{◌≡◌, ◌≢◌, ℕ, ◌<◌, ◌≤◌, Err, IfErr, IfOk, IsTrue, Some, false, length};
 ghost use Rattle.gl_outside.specs.Fault.{Rose};
-ghost use Rattle.gl_ledger_file.specs.Given.{OfBytes};
+ghost use Rattle.gl_entry.specs.Given.{OfBytes};
 ghost use Rattle.gl_journal.specs.Durable.{journal_header};
 ghost use Rattle.gl_journal.specs.Parts.{HasGate};
 ghost use Rattle.gl_journal.specs.declared.key.KeyKind.{KeyKind};
 ghost use Rattle.gl_keyfile.specs.declared.leaf.LeafUse.{LeafUse};
-ghost use Rattle.gl_lms.specs.declared.types.Types.{Types};
+ghost use Rattle.gl_hss.specs.declared.types.Types.{Types};
 ghost use Rattle.ccfg.specs.Owed.{EndsSource, OfShown, bytes_limit, due_of, due_of_schedule, ending_of_stop, leaf_use, uses_disk};
 ghost use Rattle.ccfg.specs.Plans.{IsUntouched, MovesByLeaf, OpensAsBefore, PlansPlayable, TellsFault, TellsSpent, ShowsAccepted, ShowsKept, due_of_plan};
 ghost use Rattle.gl_commands.specs.declared.task.Task.TheVariants.{Keygen};

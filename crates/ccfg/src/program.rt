@@ -10,7 +10,7 @@ ghost use Rattle.gl_journal.specs.Durable.{journal_header};
 ghost use Rattle.gl_journal.specs.Parts.{HasGate};
 ghost use Rattle.gl_journal.specs.declared.key.KeyKind.{KeyKind};
 ghost use Rattle.gl_keyfile.specs.declared.leaf.LeafUse.{LeafUse};
-ghost use Rattle.gl_lms.specs.declared.types.Types.{Types};
+ghost use Rattle.gl_hss.specs.declared.types.Types.{Types};
 ghost use Rattle.ccfg.specs.declared.ending.Ending.{Ending as Endings};
 ghost use Rattle.ccfg.specs.declared.ending.Ending.TheVariants.{DiskFailed, Done, Memory, NoReading, NotValid, PastLimit, SinkFailed, SourceFailed};
 ghost use Rattle.gl_commands.specs.declared.task.Task.TheVariants.{Keygen, Verify};
@@ -20,7 +20,7 @@ ghost use Rattle.gl_commands.specs.declared.task.LoadTask.{LoadTask as LoadTasks
 ghost use Rattle.gl_commands.specs.declared.task.NodeTask.{NodeTask as NodeTasks};
 ghost use Rattle.ccfg.specs.Nodes.{MovesNode, NodeRuns};
 ghost use Rattle.gl_schedule.specs.Moments.{KeepsHeadline, TellsMoments};
-ghost use Rattle.gl_ledger_file.specs.Given.{OfBytes};
+ghost use Rattle.gl_entry.specs.Given.{OfBytes};
 ghost use Rattle.ccfg.specs.Owed.{Answers, AsksTaskOrNothing, EndsSource, OfShown, Runs, WritesDue, due_of, due_of_load, exit_status, leaf_use, task_of, uses_disk};
 ghost use Rattle.ccfg.specs.Plans.{IsUntouched, KeepsKey, MovesByLeaf, OpensAsBefore, SpendsLeaf};
 ghost use Rattle.ccfg.specs.Promises.{IsAnswer, IsFaultLine, IsKindLine, IsPastLimit, IsRefusal, IsNoReading, Tells, TellsAccepted, TellsFront};
@@ -36,7 +36,7 @@ use crate::plan::read_plan;
 use gl_commands::{Asked, Task, WordsFault, read_words};
 use gl_load::Onlooker;
 use gl_outside::{Disk, Gate, Link, Sink, Source};
-use gl_serving::Observer;
+use gl_serve::Observer;
 use std::alloc::Global;
 
 /// Does what the words ask for with the bytes of the source, and gives the disk back.
@@ -226,14 +226,14 @@ fn run<S: Source, K: Sink, D: Disk + Drop, L: Link, O: Observer + Onlooker>(
 /// behind them, with the key of the disk's file, and prints the ledger that opens it; `node --ticks
 /// N --workers 0 --turns N ID..` serves as the node of the disk's file over the link, with the
 /// peers ID.., until the link ends, and prints how many payloads it served and how many frames were
-/// lost; `load --count N --seed HEX` makes a ledger of N requests on one node over a disk in memory,
-/// audits it, and prints what it comes to. Behind each event of the node the observer is told where it
-/// stands, and behind each request of a load how many were taken. The answer is the exit status, and
-/// the disk: 0 done, 1 the receipt or the ledger is not valid, the disk is not empty, a
-/// secret can't be dealt so, nothing is signed or no service is founded anew, 2 other words, 3 the
-/// source failed, 4 the sink failed, 5 the disk failed, 6 the link failed, 7 want of memory, 8 a
-/// limit is passed, 9 no schedule, no receipt, no seed, no secret with its seed, nothing to sign or
-/// no settings. No command uses the gate yet.
+/// lost; `load --count N --seed HEX` makes a ledger of N requests on one node over a disk in
+/// memory, audits it, and prints what it comes to. Behind each event of the node the observer is
+/// told where it stands, and behind each request of a load how many were taken. The answer is the
+/// exit status, and the disk: 0 done, 1 the receipt or the ledger is not valid, the disk is not
+/// empty, a secret can't be dealt so, nothing is signed or no service is founded anew, 2 other
+/// words, 3 the source failed, 4 the sink failed, 5 the disk failed, 6 the link failed, 7 want of
+/// memory, 8 a limit is passed, 9 no schedule, no receipt, no seed, no secret with its seed,
+/// nothing to sign or no settings. No command uses the gate yet.
 pub fn top<
     S: Source,
     K: Sink,
@@ -450,8 +450,8 @@ pub fn top<
     ensures node_any_moment { IsTrue D.honest → HasGate journal_header (D.bytes disk)
         → (node : NodeTasks) → asked (map string_bytes words.now) ≡ Ok (asks.Node node)
         → MovesNode (D.bytes disk) (D.past disk) (D.past result.1) }
-    // `load`: the lines that tell of its ledger are written, or that the count passes the limit, and
-    // the run ends so.
+    // `load`: the lines that tell of its ledger are written, or that the count passes the limit,
+    // and the run ends so.
     ensures load { (load : LoadTasks) → asked (map string_bytes words.now) ≡ Ok (asks.Load load) →
         (e : Endings) × (result.0 ≡ exit_status e) × WritesDue e (record {
           held = K.holds sink.old;

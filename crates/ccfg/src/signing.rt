@@ -2,7 +2,7 @@
 //! is told made with the next leaf of the key, which the file then keeps as spent.
 
 ghost use Rattle.std.specs.Prelude.{◌≡◌, ◌≢◌, ◌≤◌, ℕ, Err, IfOk, IsTrue, length};
-ghost use Rattle.gl_ledger_file.specs.Given.{OfBytes};
+ghost use Rattle.gl_entry.specs.Given.{OfBytes};
 ghost use Rattle.gl_base.specs.declared.or_no_memory.OrNoMemory.{OrNoMemory};
 ghost use Rattle.gl_consortium.specs.declared.fault.SigningFault.{SigningFault};
 ghost use Rattle.gl_journal.specs.declared.fault.JournalFault.{JournalFault};

@@ -2,7 +2,7 @@
 
 ghost use Rattle.std.specs.Prelude.{◌≡◌, ◌≤◌, ◌<◌, ◌^◌, length, true, Err, IfOk, IfSome, OnOk};
 ghost use Rattle.gl_outside.specs.Fault.{Rose};
-ghost use Rattle.gl_ledger_file.specs.Given.{OfBytes};
+ghost use Rattle.gl_entry.specs.Given.{OfBytes};
 
 use gl_outside::{Got, Source};
 use std::alloc::Global;

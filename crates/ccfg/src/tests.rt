@@ -4,7 +4,7 @@
 
 use crate::tests::table::Table;
 use gl_load::Onlooker;
-use gl_serving::{Observer, Standing};
+use gl_serve::{Observer, Standing};
 use std::test::Fail;
 
 mod audits;

@@ -2,7 +2,7 @@
 
 ghost use Rattle.std.specs.Prelude.{◌≡◌, ◌≢◌, ◌≤◌, ◌++◌, Err, IfOk, OnOk, length};
 ghost use Rattle.gl_outside.specs.Fault.{Rose};
-ghost use Rattle.gl_ledger_file.specs.Given.{OfBytes};
+ghost use Rattle.gl_entry.specs.Given.{OfBytes};
 ghost use Rattle.ccfg.specs.Owed.{EndsSource, due_of_receipt, json_limit, valid_line};
 ghost use Rattle.ccfg.specs.Plans.{ShowsAccepted, PlansPlayable, due_of_plan};
 ghost use Rattle.gl_commands.specs.declared.task.Task.TheVariants.{Verify};

@@ -119,8 +119,8 @@ impl Attempt {
     }
 
     /// Runs the request on the present tables, unless entries were cut away since the attempt
-    /// began, or else what was read has been written since. `cuts` is the present count of cuts, which
-    /// rises by one at each cut that takes an entry away, and stays at its last value.
+    /// began, or else what was read has been written since. `cuts` is the present count of cuts,
+    /// which rises by one at each cut that takes an entry away, and stays at its last value.
     pub fn finish(&self, tables: &Tables, cuts: u64) -> Result<Ran, OrNoMemory<TxFault>>
         requires ready { next_of self.now ≡ None }
         ensures exact { Answers (λ ran. ran) result

@@ -1,5 +1,7 @@
 //! Requests of applications that read their rows one at a time, each maybe at another moment, and
 //! then run at once.
+//!
+//! Begin with `Attempt`: `begin`, `fetch`, `finish`.
 #![tactic(auto)]
 
 mod asks;

@@ -19,7 +19,7 @@ use Rattle.gl_base.proofs.LittleEndianLaws.{length-little_endian}
 use Rattle.gl_base.proofs.Numerals.{by_index}
 use Rattle.gl_entry.specs.Leaf.{evidence_digest, evidence_text}
 use Rattle.gl_entry.specs.SignedMessage.{signed_message}
-use Rattle.gl_lms.proofs.Octets.{sha256_bytes}
+use Rattle.gl_hss.proofs.Octets.{sha256_bytes}
 
 -- ---- parts of one length are the same where the whole is
 

@@ -12,12 +12,12 @@ use Rattle.gl_ledger.specs.Recordings.{last_entry}
 use Rattle.gl_ledger.specs.declared.breach.Broken.{Broken}
 use Rattle.gl_ledger.proofs.Faults.{broken_first, fault_from-append}
 use Rattle.gl_ledger.proofs.Passing.{passing}
-use Rattle.gl_ledger_file.specs.Given.{OfBytes}
-use Rattle.gl_ledger_file.specs.LedgerFile.{LedgerFile, ledger_file, no_entries, with_entries}
-use Rattle.gl_ledger_file.specs.Reading.{Consumes, IsNext}
-use Rattle.gl_ledger_file.specs.declared.next.Next.{Next}
-use Rattle.gl_ledger_file.specs.declared.next.Next.TheVariants as nexts
-use Rattle.gl_ledger_file.proofs.Reading.{consumes_none, consumes_then, of_all, of_consumed, of_map}
+use Rattle.gl_entry.specs.Given.{OfBytes}
+use Rattle.gl_entry.specs.LedgerFile.{LedgerFile, ledger_file, no_entries, with_entries}
+use Rattle.gl_entry.specs.FileReading.{Consumes, IsNext}
+use Rattle.gl_entry.specs.declared.next.Next.{Next}
+use Rattle.gl_entry.specs.declared.next.Next.TheVariants as nexts
+use Rattle.gl_entry.proofs.Reading.{consumes_none, consumes_then, of_all, of_consumed, of_map}
 use Rattle.gl_audit.specs.Kept.{ForLedgers, IsStateOf}
 use Rattle.gl_audit.specs.declared.ledger_end.LedgerEnd.{LedgerEnd}
 use Rattle.gl_audit.specs.declared.ledger_state.LedgerState.{LedgerState}

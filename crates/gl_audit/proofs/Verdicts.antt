@@ -12,13 +12,13 @@ use Rattle.gl_ledger.specs.Recordings.{last_entry}
 use Rattle.gl_ledger.specs.Sound.{IsSound}
 use Rattle.gl_ledger.proofs.Pushes.{no_last}
 use Rattle.gl_ledger.proofs.Valid.{valid_sound}
-use Rattle.gl_ledger_file.specs.LedgerFile.{LedgerFile, ledger_file}
+use Rattle.gl_entry.specs.LedgerFile.{LedgerFile, ledger_file}
 use Rattle.gl_entry.specs.Leaf.{id_of}
 use Rattle.gl_audit.specs.Verdict.{IsFaulty, IsForeignTo, IsLedgerOf, IsValidLedger, judged, key_in_force, last_signature, unless_broken, unless_unread, verdict, verdict_of}
 use Rattle.gl_audit.specs.declared.verdict.Verdict.{Verdict}
 use Rattle.gl_audit.specs.declared.verdict.Verdict.TheVariants as verdicts
-use Rattle.gl_ledger_file.proofs.FileLaws.{file_end}
-use Rattle.gl_ledger_file.proofs.Spelled.{no_bytes}
+use Rattle.gl_entry.proofs.FileLaws.{file_end}
+use Rattle.gl_entry.proofs.Spelled.{no_bytes}
 
 -- ---- the last entry of a file
 

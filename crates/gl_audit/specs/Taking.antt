@@ -8,8 +8,8 @@ use Rattle.gl_ledger.specs.NodeKeys.{service_layers}
 use Rattle.gl_ledger.specs.declared.breach.Broken.{Broken}
 use Rattle.gl_audit.specs.Kept.{IsStateOf}
 use Rattle.gl_audit.specs.declared.ledger_state.LedgerState.{LedgerState}
-use Rattle.gl_ledger_file.specs.Given.{OfBytes}
-use Rattle.gl_ledger_file.specs.LedgerFile.{LedgerFile, ledger_file}
+use Rattle.gl_entry.specs.Given.{OfBytes}
+use Rattle.gl_entry.specs.LedgerFile.{LedgerFile, ledger_file}
 use Rattle.gl_audit.specs.declared.ledger_audit.Stop.{Stop}
 use Rattle.gl_audit.specs.declared.ledger_audit.Stop.TheVariants as stops
 

@@ -13,7 +13,7 @@ use Rattle.gl_ledger.specs.NodeKeys.{service_layers}
 use Rattle.gl_ledger.specs.Recordings.{last_entry}
 use Rattle.gl_ledger.specs.ServiceRow.{identity_in}
 use Rattle.gl_ledger.specs.Tree.{tables_of}
-use Rattle.gl_ledger_file.specs.LedgerFile.{LedgerFile, ledger_file}
+use Rattle.gl_entry.specs.LedgerFile.{LedgerFile, ledger_file}
 use Rattle.gl_audit.specs.declared.verdict.Verdict.{Verdict}
 use Rattle.gl_audit.specs.declared.verdict.Verdict.TheVariants as verdicts
 

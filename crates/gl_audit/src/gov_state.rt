@@ -144,8 +144,8 @@ impl GovState {
         }
     }
 
-    /// What `step` would do: the effect of the request, or why it is refused. The state is as it was
-    /// behind it.
+    /// What `step` would do: the effect of the request, or why it is refused. The state is as it
+    /// was behind it.
     pub fn effect(
         &mut self,
         seqno: u64,
@@ -171,8 +171,8 @@ impl GovState {
         Ok(effect)
     }
 
-    /// Takes a request of which it is known that no rule refuses it, so that no signature is verified
-    /// anew. Want of memory leaves all as it was.
+    /// Takes a request of which it is known that no rule refuses it, so that no signature is
+    /// verified anew. Want of memory leaves all as it was.
     pub fn record(&mut self, seqno: u64, request: GovernanceRequest) -> Result<(), AllocError>
         requires above { IsAbove seqno self.old }
         requires founding { is_founding request ≡ is_nothing self.old }

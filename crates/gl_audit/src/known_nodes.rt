@@ -29,8 +29,8 @@ impl KnownNode {
     }
 }
 
-/// Nodes whose endorsements were verified. They are kept for speed alone: no answer depends on which
-/// they are.
+/// Nodes whose endorsements were verified. They are kept for speed alone: no answer depends on
+/// which they are.
 #[derive(Drop)]
 pub struct KnownNodes {
     nodes: Vec<KnownNode>,

@@ -8,7 +8,7 @@ ghost use Rattle.gl_entry.specs.declared.entry.Entry.{Entry};
 ghost use Rattle.gl_entry.specs.declared.entry.Signature as signatures;
 ghost use Rattle.gl_ledger.specs.NodeKeys.{service_layers};
 ghost use Rattle.gl_ledger.specs.Sound.{IsSound};
-ghost use Rattle.gl_ledger_file.specs.LedgerFile.{ledger_file};
+ghost use Rattle.gl_entry.specs.LedgerFile.{ledger_file};
 ghost use Rattle.gl_receipt.specs.Law.{AreSized};
 ghost use Rattle.gl_receipt.specs.Receipt.{root_of, IsEvidence};
 ghost use Rattle.gl_receipt.specs.declared.components.Receipt.{Receipt};

@@ -4,9 +4,9 @@ ghost use Rattle.std.specs.Prelude.{◌≡◌, ◌+◌, length, ◌≤◌, [], B
 ghost use Rattle.gl_base.specs.declared.or_no_memory.OrNoMemory.TheVariants.{Fault};
 ghost use Rattle.gl_outside.specs.Fault.{Rose};
 ghost use Rattle.gl_ledger.specs.Recordings.{last_entry};
-ghost use Rattle.gl_ledger_file.specs.Given.{OfBytes};
-ghost use Rattle.gl_ledger_file.specs.LedgerFile.{LedgerFile};
-ghost use Rattle.gl_ledger_file.specs.declared.next.ReadFault.{ReadFault as ReadFaults};
+ghost use Rattle.gl_entry.specs.Given.{OfBytes};
+ghost use Rattle.gl_entry.specs.LedgerFile.{LedgerFile};
+ghost use Rattle.gl_entry.specs.declared.next.ReadFault.{ReadFault as ReadFaults};
 ghost use Rattle.gl_audit.specs.Kept.{ForLedgers, IsState, IsStateOf};
 ghost use Rattle.gl_audit.specs.Taking.{Ends, EndsAt, Takes};
 ghost use Rattle.gl_audit.specs.Verdict.{EndsWith, judged, verdict, verdict_of};
@@ -14,8 +14,7 @@ ghost use Rattle.gl_audit.specs.Verdict.{EndsWith, judged, verdict, verdict_of};
 use crate::ledger_state::LedgerState;
 use crate::verdict::Verdict;
 use gl_base::OrNoMemory;
-use gl_entry::{Content, Entry, ReadBuffer};
-use gl_ledger_file::{Next, ReadFault, read_next};
+use gl_entry::{Content, Entry, Next, ReadBuffer, ReadFault, read_next};
 use gl_outside::Source;
 use gl_requests::HssPublicKey;
 use std::alloc::{AllocError, Global};
@@ -31,8 +30,8 @@ enum Stop {
     Broken(u8),
 }
 
-/// Adds an entry to the ledger, or tells the first rule that it breaks. Behind a signature the state
-/// is settled, so that it holds no more than the tables and what came since.
+/// Adds an entry to the ledger, or tells the first rule that it breaks. Behind a signature the
+/// state is settled, so that it holds no more than the tables and what came since.
 fn take_entry(state: &mut LedgerState, entry: &Entry) -> Result<Option<u8>, AllocError>
     requires { IsState state.old }
     ensures { IfOk result (λ rule. ForLedgers state.old (λ before.

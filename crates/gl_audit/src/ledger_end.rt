@@ -21,8 +21,8 @@ const GENESIS_TAG: u8 = 1;
 /// The first byte of a request that founds a service anew.
 const RECOVER_TAG: u8 = 2;
 
-/// How many entries a ledger has, the transaction of the last one and that of the last signature, if
-/// there are such, the commit that this signature records, 0 without one, and whether a service
+/// How many entries a ledger has, the transaction of the last one and that of the last signature,
+/// if there are such, the commit that this signature records, 0 without one, and whether a service
 /// begins with the last entry: a signature is to open it.
 #[derive(Clone, Copy, Debug, PartialEq, Eq)]
 pub struct LedgerEnd {

@@ -34,7 +34,7 @@ use std::alloc::{AllocError, Global};
 mod rules;
 mod signatures;
 
-pub use signatures::{count_up_to, seqno_at};
+pub(crate) use signatures::{count_up_to, seqno_at};
 
 /// The map of the service's row (CCF documentation, "Builtin Maps").
 pub const SERVICE_MAP: &[u8] = b"public:ccf.gov.service";
@@ -313,8 +313,8 @@ impl LedgerState {
         Ok(())
     }
 
-    /// Takes an entry that another node made. Refused for the first rule of the audit that it breaks
-    /// behind the ledger, if it breaks one. Want of memory, too, leaves all as it was.
+    /// Takes an entry that another node made. Refused for the first rule of the audit that it
+    /// breaks behind the ledger, if it breaks one. Want of memory, too, leaves all as it was.
     pub fn apply(&mut self, entry: &Entry) -> Result<(), OrNoMemory<Broken>>
         requires state { IsState self.old }
         ensures unbroken { OnOk result (ForLedgers self.old (λ ledger.
@@ -347,9 +347,9 @@ impl LedgerState {
         }
     }
 
-    /// Lets go of what only a cut or a receipt needs: of each row the versions but for its last one,
-    /// and the leaves of the tree but for the roots of its complete subtrees. Fails for want of
-    /// memory alone.
+    /// Lets go of what only a cut or a receipt needs: of each row the versions but for its last
+    /// one, and the leaves of the tree but for the roots of its complete subtrees. Fails for want
+    /// of memory alone.
     pub fn settle(&mut self) -> Result<(), AllocError>
         ensures { ForLedgers self.old (λ ledger. IsStateOf ledger self.new) }
     {

@@ -1,6 +1,8 @@
-//! What an entry does to a ledger, or the first rule of the audit that it breaks; and the audit of a
-//! ledger file: whether its bytes are a valid ledger of a service, and if not, the first entry that
-//! breaks a rule (CCF documentation, "Ledger" and "Audit").
+//! What an entry does to a ledger, or the first rule of the audit that it breaks; and the audit of
+//! a ledger file: whether its bytes are a valid ledger of a service, and if not, the first entry
+//! that breaks a rule (CCF documentation, "Ledger" and "Audit").
+//!
+//! Begin with `audit`, the verdict on a file, and `LedgerState`, what an entry does to a ledger.
 #![tactic(auto)]
 
 mod effect;
@@ -16,7 +18,7 @@ mod service_key;
 mod verdict;
 
 pub use effect::{GovernanceEffect, ShareCount};
-pub use gl_ledger_file::ReadFault;
+pub use gl_entry::ReadFault;
 pub use gov_state::{GovState, is_founding};
 pub use laws::{law_of_receipts, law_of_verdicts};
 pub use ledger_audit::audit;

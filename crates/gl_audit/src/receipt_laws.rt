@@ -21,11 +21,11 @@ ghost use Rattle.gl_audit.specs.Committed.{Held};
 /// A receipt whose commit evidence is that of a transaction under some key, and whose path leads to
 /// the root that a signature of a sound ledger signs, shows the entry of that ledger which has the
 /// transaction's identifier, and the key is the one in force there. Else two inputs of
-/// SHA-256 with one digest are named, one that is hashed where the receipt is verified, and one that
-/// is hashed for the signed root. A receipt that is accepted has such evidence; and where the message
-/// that its signature signs is the one of a signature of the ledger, its path leads to that root.
-/// A ledger that breaks no rule of the audit is of its service, as receipts ask: so the receipts that
-/// a store gives are accepted under the service's key.
+/// SHA-256 with one digest are named, one that is hashed where the receipt is verified, and one
+/// that is hashed for the signed root. A receipt that is accepted has such evidence; and where the
+/// message that its signature signs is the one of a signature of the ledger, its path leads to that
+/// root. A ledger that breaks no rule of the audit is of its service, as receipts ask: so the
+/// receipts that a store gives are accepted under the service's key.
 pub fn law_of_receipts_in_ledgers()
     ensures bound { (ledger : List Entry) (count : ℕ) (e : Entry) (s : signatures.Signature) →
         IsSound service_layers ledger → slice_get ledger count ≡ Some e →

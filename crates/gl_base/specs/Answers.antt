@@ -8,8 +8,8 @@ abbrev pub Fails : {Y F : Type 0} → OrNoMemory F → Result Y F → Type 0
 Fails NoMemory reading = Unit {0}
 Fails (Fault fault) reading = reading ≡ Err fault
 
--- The call answers what this reading gives, or memory ran out. `view` turns what the call gives into
--- what the reading gives: for a call that leaves a rest, it adds the rest.
+-- The call answers what this reading gives, or memory ran out. `view` turns what the call gives
+-- into what the reading gives: for a call that leaves a rest, it adds the rest.
 abbrev pub Answers : {X Y F : Type 0} → (X → Y) → Result X (OrNoMemory F) → Result Y F → Type 0
 Answers view (Ok x) reading = reading ≡ Ok (view x)
 Answers view (Err e) reading = Fails e reading

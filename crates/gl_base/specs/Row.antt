@@ -1,5 +1,5 @@
--- A map's name, a key and a value as fields of bytes (CCF documentation, "Key-Value Store"): how they
--- are spelled, how they are read, and within which limits.
+-- A map's name, a key and a value as fields of bytes (CCF documentation, "Key-Value Store"): how
+-- they are spelled, how they are read, and within which limits.
 use Rattle.std.specs.Prelude.{ℕ, List, [], ◌∷◌, Bool, true, ◌&&◌, Option, None, Some, Result, Ok, Err, length, nat_le, ◌==◌, if◌then◌else◌}
 use Rattle.std.specs.Char.{is_ascii_graphic}
 use Rattle.std.specs.List.{list_all}
@@ -68,8 +68,8 @@ key_at unread = field (string_at 2 key_limit unread) >>= some_bytes unread.at
 unfoldable pub value_at : ℕ → Unread → Result (List ℕ × Unread) CodeFault
 value_at limit unread = field (string_at 4 limit unread)
 
--- What stands behind a byte that says whether there is a value; the byte's place is told where it is
--- neither 0 nor 1.
+-- What stands behind a byte that says whether there is a value; the byte's place is told where it
+-- is neither 0 nor 1.
 abbrev pub optional_behind : ℕ → ℕ → ℕ × Unread → Result (Option (List ℕ) × Unread) CodeFault
 optional_behind limit place flag =
     if flag.0 == 0 then Ok (None, flag.1)

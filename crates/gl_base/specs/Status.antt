@@ -1,4 +1,5 @@
--- The status of a transaction, told by what one node knows (CCF documentation, "Transaction status").
+-- The status of a transaction, told by what one node knows (CCF documentation, "Transaction
+-- status").
 use Rattle.std.specs.Prelude.{ℕ, Bool, false, Option, Some, None, ◌==◌, nat_lt, nat_le, if◌then◌else◌}
 use Rattle.gl_base.specs.declared.tx_id.TxId.{TxId}
 use Rattle.gl_base.specs.declared.tx_id.Status.{Status}

@@ -1,6 +1,8 @@
 //! What the crates above have in common: transaction identifiers and their status, the fields that
-//! every format is made of, lists in memory of their own, and what a call answers that may run out of
-//! memory.
+//! every format is made of, lists in memory of their own, and what a call answers that may run out
+//! of memory.
+//!
+//! Begin with `Cut`, which reads fields, and `OrNoMemory`, which most calls answer.
 #![tactic(auto)]
 
 mod bytes;

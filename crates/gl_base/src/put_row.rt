@@ -1,5 +1,5 @@
-//! A map's name, a key and a value, written behind what a list of bytes holds. Want of memory leaves
-//! the list as it was.
+//! A map's name, a key and a value, written behind what a list of bytes holds. Want of memory
+//! leaves the list as it was.
 
 ghost use Rattle.std.specs.Prelude.{◌≡◌, ◌++◌, ◌^◌, ◌<◌, ◌≤◌, length, OnOk, OnErr};
 ghost use Rattle.std.specs.Option.{ForSome, option_copied};

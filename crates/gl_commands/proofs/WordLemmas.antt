@@ -23,7 +23,7 @@ use Rattle.gl_lines.specs.Numbers.{is_decimal}
 use Rattle.gl_lines.specs.Words.{hex_sized}
 use Rattle.gl_lines.specs.declared.fault.LineFault.{LineFault}
 use Rattle.gl_lines.proofs.NumberLemmas.{decimal_digits}
-use Rattle.gl_lms.specs.declared.types.Types.{Types}
+use Rattle.gl_hss.specs.declared.types.Types.{Types}
 use Rattle.gl_commands.specs.Commands.{diskless_program, keyless_program, nodeless_program, program}
 use Rattle.gl_commands.specs.declared.task.WordsFault.{WordsFault}
 use Rattle.gl_commands.specs.declared.task.WordsFault.TheVariants.{NoMemory, Refused}

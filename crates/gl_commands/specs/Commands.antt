@@ -100,8 +100,8 @@ nodeless_program =
     (with_subcommand (with_subcommand keyless_program endorse_command.top) genesis_command.top)
     sign_command.top
 
--- And with the one that founds a service anew, the one that serves as a node, and the one that makes
--- a ledger.
+-- And with the one that founds a service anew, the one that serves as a node, and the one that
+-- makes a ledger.
 unfoldable pub program : App
 program =
     with_subcommand

@@ -17,8 +17,8 @@ use Rattle.gl_keyfile.specs.declared.signing.Signing.TheVariants.{Endorsement, O
 use Rattle.gl_lines.specs.Numbers.{is_decimal}
 use Rattle.gl_lines.specs.Words.{hex_sized}
 use Rattle.gl_lines.specs.declared.fault.LineFault.{LineFault}
-use Rattle.gl_lms.specs.declared.types.Types.{Types}
-use Rattle.gl_lms.specs.declared.types.Types.TheVariants.{H5W4, H5W8, H10W4, H10W8}
+use Rattle.gl_hss.specs.declared.types.Types.{Types}
+use Rattle.gl_hss.specs.declared.types.Types.TheVariants.{H5W4, H5W8, H10W4, H10W8}
 use Rattle.gl_commands.specs.Commands.{program}
 use Rattle.gl_commands.specs.declared.task.Asked.{Asked}
 use Rattle.gl_commands.specs.declared.task.Asked.TheVariants as asks

@@ -5,9 +5,9 @@ ghost use Rattle.gl_commands.specs.declared.task.WordsFault.TheVariants.{Refused
 
 use clap::error::ErrorKind;
 use gl_base::Sequence;
+use gl_hss::Types;
 use gl_journal::KeyKind;
 use gl_keyfile::Signing;
-use gl_lms::Types;
 use gl_requests::{HssPublicKey, NodeId};
 
 /// What the words ask for.

@@ -1,5 +1,5 @@
--- The configurations of a ledger with their seqnos, and which of them are active at a commit (CCF's documentation, consensus:
--- reconfiguration).
+-- The configurations of a ledger with their seqnos, and which of them are active at a commit (CCF's
+-- documentation, consensus: reconfiguration).
 use Rattle.std.specs.Prelude.{ℕ, zero, suc, List, [], ◌∷◌, ◌++◌, Option, None, Some, length, take, map, filter, nat_le, nat_lt}
 use Rattle.gl_rules.specs.Identity.{NodeId}
 use Rattle.gl_rules.specs.Book.{Book}
@@ -32,7 +32,8 @@ at_seqno seqno None = []
 at_seqno seqno (Some nodes) = record { seqno = seqno; nodes = nodes } ∷ []
 
 module _ {E Q G R A F : Type 0} (book : Book E Q G R A F) where
-  -- the configurations of a ledger at or below a seqno: one for each seqno at which its set of trusted nodes changes
+  -- the configurations of a ledger at or below a seqno: one for each seqno at which its set of
+  -- trusted nodes changes
   unfoldable pub configurations_upto : List E → ℕ → List Configuration
   configurations_upto log zero = []
   configurations_upto log (suc seqno) = configurations_upto log seqno ++ at_seqno (suc seqno) (book.configuration (take (suc seqno) log))

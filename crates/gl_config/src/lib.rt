@@ -1,5 +1,7 @@
 //! Configurations: the sets of trusted nodes of a ledger, which of them are active at a commit, and
 //! majorities of them.
+//!
+//! Begin with `Active`.
 #![tactic(auto)]
 
 pub use active::Active;

@@ -19,9 +19,9 @@ pub enum Stage {
 }
 
 impl Stage {
-    /// The last stage that holds, by the seqno of the node's removal and that of its mark, the seqno
-    /// of the last signature, 0 where there is none, and commit. A node that wasn't removed is at no
-    /// stage.
+    /// The last stage that holds, by the seqno of the node's removal and that of its mark, the
+    /// seqno of the last signature, 0 where there is none, and commit. A node that wasn't removed
+    /// is at no stage.
     #[tactic(auto, unfolding(gl_rules::specs::Retirement::stage))]
     pub fn of(
         removal: Option<u64>,

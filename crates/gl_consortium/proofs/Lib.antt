@@ -6,3 +6,6 @@ pub mod Openings
 pub mod Reading
 pub mod Signed
 pub mod Opened
+mod MemberLemmas
+mod TreeLemmas
+mod DealtLemmas

@@ -5,8 +5,8 @@ use Rattle.std.specs.Cmp.Lexicographic.{bytes_decides}
 use Rattle.std.proofs.lemmas.Bool.{and_parts, true≢false}
 use Rattle.sha2.specs.Sha256.{sha256}
 use Rattle.gl_base.specs.Bytes.{are_bytes, are_sized, same_bytes}
-use Rattle.gl_lms.specs.Types.{height}
-use Rattle.gl_lms.proofs.Octets.{seed_IsKey, seed_key_bytes}
+use Rattle.gl_hss.specs.Types.{height}
+use Rattle.gl_hss.proofs.Octets.{seed_IsKey, seed_key_bytes}
 use Rattle.gl_hss.specs.Signer.{StandsUnder, hss_signature}
 use Rattle.gl_rules.specs.Identity.{NodeId, member}
 use Rattle.gl_rules.specs.World.{first_view}

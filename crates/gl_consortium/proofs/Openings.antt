@@ -6,10 +6,10 @@ use Rattle.std.proofs.lemmas.Bool.Decides.{nat_tests}
 use Rattle.std.specs.Prelude.{nat_le}
 use Rattle.gl_base.specs.LittleEndian.{little_endian}
 use Rattle.gl_base.proofs.LittleEndianLaws.{length-little_endian}
-use Rattle.gl_lms.specs.Secrets.{PrivateKey}
-use Rattle.gl_lms.specs.Types.{signature_len}
-use Rattle.gl_lms.specs.declared.types.Types.{Types}
-use Rattle.gl_lms.specs.declared.types.Types.TheVariants.{H5W4, H5W8, H10W4, H10W8}
+use Rattle.gl_hss.specs.Secrets.{PrivateKey}
+use Rattle.gl_hss.specs.Types.{signature_len}
+use Rattle.gl_hss.specs.declared.types.Types.{Types}
+use Rattle.gl_hss.specs.declared.types.Types.TheVariants.{H5W4, H5W8, H10W4, H10W8}
 use Rattle.gl_merkle.specs.Tree.{root_of}
 use Rattle.gl_hss.specs.Signer.{hss_signature, signature_size}
 use Rattle.gl_entry.specs.Entry.{body_bytes, body_limit, frame_bytes, is_entry, no_digest}

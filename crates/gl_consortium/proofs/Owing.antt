@@ -9,11 +9,11 @@ use Rattle.gl_base.specs.declared.json.FormsFault.{FormsFault}
 use Rattle.gl_base.specs.declared.or_no_memory.OrNoMemory.{OrNoMemory}
 use Rattle.gl_base.specs.declared.or_no_memory.OrNoMemory.TheVariants.{NoMemory, Fault}
 use Rattle.gl_base.proofs.Steps.{bind_ok}
-use Rattle.gl_lms.specs.Types.{height}
-use Rattle.gl_lms.specs.declared.types.Types.{Types}
+use Rattle.gl_hss.specs.Types.{height}
+use Rattle.gl_hss.specs.declared.types.Types.{Types}
 use Rattle.gl_requests.specs.declared.genesis.Genesis as founding
 use Rattle.gl_requests.specs.declared.genesis.NewNode.{NewNode}
-use Rattle.gl_lms.specs.Secrets.{PrivateKey}
+use Rattle.gl_hss.specs.Secrets.{PrivateKey}
 use Rattle.gl_gov_rules.specs.History.{no_history}
 use Rattle.gl_gov_rules.specs.Refusals.{genesis_refusal}
 use Rattle.gl_gov_rules.specs.declared.refusal.GovernanceRefusal.{GovernanceRefusal}

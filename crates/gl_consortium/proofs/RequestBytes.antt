@@ -2,10 +2,10 @@
 use Rattle.std.proofs.Common.{◌≡◌, ℕ, ◌+◌, ◌≤◌, ◌<◌, ◌^◌, List, [], ◌∷◌, ◌++◌, length, drop, codes, None, refl, sym, ◌∙◌, ap, ap₂, append_assoc, arith}
 use Rattle.std.proofs.lemmas.List.{drop_at}
 use Rattle.gl_base.specs.LittleEndian.{little_endian}
-use Rattle.gl_lms.specs.Types.{signature_len}
-use Rattle.gl_lms.specs.declared.types.Types.{Types}
-use Rattle.gl_lms.specs.declared.types.Types.TheVariants.{H5W4, H5W8, H10W4, H10W8}
-use Rattle.gl_lms.specs.Secrets.{PrivateKey}
+use Rattle.gl_hss.specs.Types.{signature_len}
+use Rattle.gl_hss.specs.declared.types.Types.{Types}
+use Rattle.gl_hss.specs.declared.types.Types.TheVariants.{H5W4, H5W8, H10W4, H10W8}
+use Rattle.gl_hss.specs.Secrets.{PrivateKey}
 use Rattle.gl_hss.specs.Signer.{hss_signature, signature_size}
 use Rattle.gl_requests.specs.Spelling.{act_bytes, signed_bytes}
 use Rattle.gl_requests.specs.declared.request.MemberAct.{MemberAct}

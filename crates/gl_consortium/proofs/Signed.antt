@@ -4,11 +4,11 @@ use Rattle.std.specs.Prelude.{is_ok}
 use Rattle.std.proofs.lemmas.Bool.Decides.{nat_tests}
 use Rattle.gl_base.specs.Steps.{◌>>=◌}
 use Rattle.gl_base.proofs.Steps.{bind_ok, ok_injective}
-use Rattle.gl_lms.specs.Bytes.{number_at, u32str}
-use Rattle.gl_lms.specs.Types.{height}
-use Rattle.gl_lms.specs.Secrets.{public_of}
-use Rattle.gl_lms.proofs.Octets.{seed_IsKey}
-use Rattle.gl_lms.proofs.Signing.{signature_by-Signs}
+use Rattle.gl_hss.specs.Bytes.{number_at, u32str}
+use Rattle.gl_hss.specs.Types.{height}
+use Rattle.gl_hss.specs.Secrets.{public_of}
+use Rattle.gl_hss.proofs.Octets.{seed_IsKey}
+use Rattle.gl_hss.proofs.Signing.{signature_by-Signs}
 use Rattle.gl_hss.specs.Hss.{IsEndorsed, IsHssKey, IsValid}
 use Rattle.gl_hss.specs.Signer.{StandsUnder}
 use Rattle.gl_hss.proofs.Endorsements.{endorsement_there}

@@ -6,11 +6,11 @@ use Rattle.serde_json.specs.Written.{compact_text}
 use Rattle.gl_base.specs.Bytes.{same_bytes}
 use Rattle.gl_base.specs.Steps.{◌>>=◌}
 use Rattle.gl_base.specs.declared.json.FormsFault.{FormsFault}
-use Rattle.gl_lms.specs.Types.{height}
-use Rattle.gl_lms.specs.Tree.{key_bytes, signature_bytes}
-use Rattle.gl_lms.specs.Secrets.{PrivateKey, public_of}
-use Rattle.gl_lms.specs.declared.types.Types.{Types}
-use Rattle.gl_lms.specs.Profile.{key_of_seed, signature_by}
+use Rattle.gl_hss.specs.Types.{height}
+use Rattle.gl_hss.specs.Tree.{key_bytes, signature_bytes}
+use Rattle.gl_hss.specs.Secrets.{PrivateKey, public_of}
+use Rattle.gl_hss.specs.declared.types.Types.{Types}
+use Rattle.gl_hss.specs.Profile.{key_of_seed, signature_by}
 use Rattle.gl_hss.specs.Signer.{hss_signature}
 use Rattle.gl_rules.specs.World.{first_view}
 use Rattle.gl_entry.specs.Entry.{frame_bytes}

@@ -115,8 +115,8 @@ fn keeping_fault(error: OrNoMemory<KeyFileFault>) -> OrNoMemory<SigningFault>
 
 /// Signs what a text asks for with the next leaf of a key file, and gives what is told. It is made
 /// before the leaf is taken, and handed out only once the file keeps that the leaf is spent,
-/// whatever comes. A refusal, or want of memory, leaves the disk as it was. Where the disk failed, a
-/// stop leaves the file as it was, or with the leaf spent unused.
+/// whatever comes. A refusal, or want of memory, leaves the disk as it was. Where the disk failed,
+/// a stop leaves the file as it was, or with the leaf spent unused.
 pub fn sign<D: Disk>(
     alloc: Global,
     signing: &Signing,

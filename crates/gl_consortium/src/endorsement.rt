@@ -1,7 +1,7 @@
 //! The endorsement of a node's key.
 
 ghost use Rattle.std.specs.Prelude.{◌≡◌, ◌<◌, ◌^◌, IfOk};
-ghost use Rattle.gl_lms.specs.Types.{height};
+ghost use Rattle.gl_hss.specs.Types.{height};
 ghost use Rattle.gl_consortium.specs.Owed.{endorsement_line};
 
 use gl_base::Bytes;

@@ -12,8 +12,8 @@ ghost use Rattle.gl_consortium.specs.Faults.{IsOfFounding};
 ghost use Rattle.gl_consortium.specs.Laws.{IsEndorsement, IsOpening, IsRequest};
 
 /// A genesis is refused for an action or for a signature alone. An endorsement that is told is
-/// valid, a request that is told is signed, and the check of an opening takes an opening ledger that
-/// is told, unless two keys have one digest.
+/// valid, a request that is told is signed, and the check of an opening takes an opening ledger
+/// that is told, unless two keys have one digest.
 pub fn law_of_signing()
     ensures refusals { (g : Genesis) (why : GovernanceRefusal) →
         genesis_refusal no_history g ≡ Some why → IsOfFounding why }

@@ -1,14 +1,13 @@
 //! The leaf of a key that signs.
 
 ghost use Rattle.std.specs.Prelude.{◌≡◌, ◌<◌, ◌^◌, length, IfOk, OnOk};
-ghost use Rattle.gl_lms.specs.Types.{height};
+ghost use Rattle.gl_hss.specs.Types.{height};
 ghost use Rattle.gl_hss.specs.Signer.{endorsement_of, hss_signature, signature_size};
 ghost use Rattle.gl_consortium.specs.Owed.{has_leaf, private_key};
 
 use crate::fault::SigningFault;
-use gl_hss::{HssSigner, LmsKey, SignFault};
+use gl_hss::{HssSigner, LmsKey, SignFault, Types};
 use gl_journal::Key;
-use gl_lms::Types;
 use std::alloc::{AllocError, Global};
 
 /// Refuses a key of these types that has no leaf with this number.

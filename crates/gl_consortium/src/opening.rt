@@ -2,7 +2,7 @@
 
 ghost use Rattle.std.specs.Prelude.{◌≡◌, ◌<◌, ◌^◌, [], None, true, IfOk, OnOk};
 ghost use Rattle.gl_base.specs.Answers.{Answers};
-ghost use Rattle.gl_lms.specs.Types.{height};
+ghost use Rattle.gl_hss.specs.Types.{height};
 ghost use Rattle.gl_entry.specs.Entry.{no_digest};
 ghost use Rattle.gl_requests.specs.Ranges.{is_genesis};
 ghost use Rattle.gl_gov_rules.specs.History.{no_history};

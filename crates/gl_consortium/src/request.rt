@@ -1,7 +1,7 @@
 //! A member's request.
 
 ghost use Rattle.std.specs.Prelude.{◌≡◌, ◌<◌, ◌≤◌, ◌^◌, length, drop, true, IfOk};
-ghost use Rattle.gl_lms.specs.Types.{height};
+ghost use Rattle.gl_hss.specs.Types.{height};
 ghost use Rattle.gl_requests.specs.Ranges.{is_act};
 ghost use Rattle.gl_consortium.specs.Owed.{request_line};
 

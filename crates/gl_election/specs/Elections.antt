@@ -1,5 +1,6 @@
--- What the events of an election make of a peer, who knows its view, its vote, its role, whom it takes for the leader and who voted
--- for it. Of the ledger it is told the last signature, the active configurations and their other nodes.
+-- What the events of an election make of a peer, who knows its view, its vote, its role, whom it
+-- takes for the leader and who voted for it. Of the ledger it is told the last signature, the
+-- active configurations and their other nodes.
 use Rattle.std.specs.Prelude.{ℕ, ◌+◌, List, [], ◌∷◌, Bool, true, false, ◌&&◌, not, None, Some, Result, Ok, Err, map, nat_lt, ◌==◌, if◌then◌else◌}
 use Rattle.gl_base.specs.declared.tx_id.TxId.{TxId}
 use Rattle.gl_rules.specs.Identity.{NodeId, same, member, with_node}
@@ -54,8 +55,8 @@ campaign_outcome false = BecameCandidate
 abbrev pub vote_request : NodeId → ℕ → TxId → NodeId → Message
 vote_request me view last y = record { from = me; to = y; view = view; body = RequestVote last }
 
--- A candidate of this view, with its own vote: it asks for those of the others, and leads at once where its own is a majority in each
--- active configuration.
+-- A candidate of this view, with its own vote: it asks for those of the others, and leads at once
+-- where its own is a majority in each active configuration.
 abbrev pub campaign : NodeId → TxId → List (List NodeId) → List NodeId → ℕ → Elected × Peer
 campaign me last active others view =
     let won = quorum (λ y. member y (me ∷ [])) active in (
@@ -75,7 +76,8 @@ timeout_as Leader me last active others rose p = idle rose p
 timeout_as Candidate me last active others rose p = campaign_if_allowed me last active others rose p
 timeout_as Follower me last active others rose p = campaign_if_allowed me last active others rose p
 
--- A leader is idle, and any other peer campaigns, if it may. The active configurations are those of the log cut to its last signature.
+-- A leader is idle, and any other peer campaigns, if it may. The active configurations are those of
+-- the log cut to its last signature.
 abbrev pub at_timeout : NodeId → TxId → List (List NodeId) → List NodeId → Peer → Turn
 at_timeout me last active others p = timeout_as p.role me last active others false p
 
@@ -94,8 +96,9 @@ reply_to_vote_request me c granted rose p = (
   vote_if granted c p,
 )
 
--- Whether a peer gives its vote to a candidate of a view, with this last signature: its own view isn't a later one, its vote is free for
--- the candidate, and the signature is at least this node's last one.
+-- Whether a peer gives its vote to a candidate of a view, with this last signature: its own view
+-- isn't a later one, its vote is free for the candidate, and the signature is at least this node's
+-- last one.
 abbrev pub grants : TxId → NodeId → ℕ → TxId → Peer → Bool
 grants last c view theirs p =
     not (nat_lt view p.view)
@@ -132,7 +135,8 @@ vote_reply_as Candidate active y view granted p =
 vote_reply_as Follower active y view granted p = idle false p
 vote_reply_as Leader active y view granted p = idle false p
 
--- A reply in a view: a candidate of that view adds the vote that it grants. A later view is entered, and no vote is counted in it.
+-- A reply in a view: a candidate of that view adds the vote that it grants. A later view is
+-- entered, and no vote is counted in it.
 abbrev pub at_vote_reply : List (List NodeId) → NodeId → ℕ → Bool → Peer → Turn
 at_vote_reply active y view granted p =
     if nat_lt p.view view
@@ -141,8 +145,8 @@ at_vote_reply active y view granted p =
 
 -- ProposeVote
 
--- A leader's wish that this node campaign: a timeout, unless the view is before the peer's. Where the event is refused, a later view
--- isn't entered either.
+-- A leader's wish that this node campaign: a timeout, unless the view is before the peer's. Where
+-- the event is refused, a later view isn't entered either.
 abbrev pub at_propose_vote : NodeId → TxId → List (List NodeId) → List NodeId → ℕ → Peer → Turn
 at_propose_vote me last active others view p =
     if nat_lt view p.view

@@ -1,5 +1,7 @@
-//! Elections as a node takes part in them that knows its view, its vote, its role and its votes, and
-//! nothing of a ledger.
+//! Elections as a node takes part in them that knows its view, its vote, its role and its votes,
+//! and nothing of a ledger.
+//!
+//! Begin with `Peer`.
 #![tactic(auto)]
 
 mod elected;

@@ -150,7 +150,8 @@ fn idle(alloc: Global, rose: bool) -> Elected
 }
 
 impl Peer {
-    /// Enters a view that is later than its own: no vote, no leader, a follower. Tells whether it is.
+    /// Enters a view that is later than its own: no vote, no leader, a follower. Tells whether it
+    /// is.
     fn update_view(&mut self, alloc: Global, view: u32) -> bool
         ensures rose { result ≡ nat_lt self.old.view view }
         ensures peer { self.new ≡ update_view view self.old }
@@ -290,9 +291,9 @@ impl Peer {
         }
     }
 
-    /// A request for a vote. In a view before its own it isn't granted. A later view is entered first.
-    /// It is granted where the vote of this view is free for the candidate, and the candidate's last
-    /// signature, by view and then by seqno, is at least this node's.
+    /// A request for a vote. In a view before its own it isn't granted. A later view is entered
+    /// first. It is granted where the vote of this view is free for the candidate, and the
+    /// candidate's last signature, by view and then by seqno, is at least this node's.
     pub fn on_request_vote(
         &mut self,
         alloc: Global,
@@ -325,8 +326,8 @@ impl Peer {
         })
     }
 
-    /// A reply to such a request. A later view is entered, and no vote counted in it. A candidate of
-    /// this view adds a vote that is granted, and leads where it has a majority in each active
+    /// A reply to such a request. A later view is entered, and no vote counted in it. A candidate
+    /// of this view adds a vote that is granted, and leads where it has a majority in each active
     /// configuration.
     pub fn on_vote_reply(
         &mut self,
@@ -358,8 +359,8 @@ impl Peer {
         }
     }
 
-    /// A leader's wish that this node campaign: a timeout, unless the view is before its own. A later
-    /// view is entered first, but for where the event is refused.
+    /// A leader's wish that this node campaign: a timeout, unless the view is before its own. A
+    /// later view is entered first, but for where the event is refused.
     pub fn on_propose_vote(
         &mut self,
         alloc: Global,
@@ -415,8 +416,8 @@ impl Peer {
         })
     }
 
-    /// The leader hands over to another node of an active configuration: it follows, knows no leader,
-    /// and asks that node to campaign.
+    /// The leader hands over to another node of an active configuration: it follows, knows no
+    /// leader, and asks that node to campaign.
     pub fn step_down(
         &mut self,
         alloc: Global,

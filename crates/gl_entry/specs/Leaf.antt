@@ -25,8 +25,8 @@ abbrev pub evidence_text : List ℕ → TxId → List ℕ
 evidence_text identity id =
     codes "ce:" ++ text_of id ++ codes ":" ++ encode_lower (evidence_digest identity id)
 
--- The leaf of its components: the digest of the digest of a body, the digest of a commit evidence, and
--- claims.
+-- The leaf of its components: the digest of the digest of a body, the digest of a commit evidence,
+-- and claims.
 abbrev pub leaf_of_components : List ℕ → List ℕ → List ℕ → List ℕ
 leaf_of_components body evidence claims = sha256 (body ++ evidence ++ claims)
 

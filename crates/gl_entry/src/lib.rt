@@ -1,5 +1,8 @@
 //! The entries of a ledger (CCF documentation, "Ledger"): their frames, their leaves in the Merkle
-//! tree, the message that a node signs, and a reader of whole ledgers.
+//! tree, the message that a node signs, and a ledger's file, which is read entry by entry from a
+//! source.
+//!
+//! Begin with `Entry`.
 #![tactic(auto)]
 
 mod body;
@@ -11,9 +14,11 @@ mod entry;
 mod fault;
 mod fits;
 mod frame;
+mod laws;
 mod leaves;
 mod lengths;
 mod message;
+mod next;
 mod reader;
 mod writes;
 
@@ -22,8 +27,10 @@ pub use buffer::ReadBuffer;
 pub use entry::{Content, Digest, Entry, NodeId, Signature};
 pub use fault::{EntryFault, LedgerFault};
 pub use frame::one_frame;
+pub use laws::law_of_ledger_files;
 pub use leaves::{
     commit_evidence_digest, evidence, is_evidence, leaf, leaf_of_body, leaf_of_components,
 };
 pub use message::signed_message;
+pub use next::{Next, ReadFault, read_next};
 pub use reader::{LedgerReader, read_entry};

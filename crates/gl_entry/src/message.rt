@@ -5,8 +5,9 @@ ghost use Rattle.gl_entry.specs.SignedMessage.{signed_message};
 
 use crate::entry::Digest;
 
-/// What a node signs in a signature entry: the root of the Merkle tree over all earlier entries, and
-/// the entry's view, its place and the commit that it records, each number with the low byte first.
+/// What a node signs in a signature entry: the root of the Merkle tree over all earlier entries,
+/// and the entry's view, its place and the commit that it records, each number with the low byte
+/// first.
 pub fn signed_message(root: &Digest, view: u32, seqno: u64, commit: u64) -> [u8; 52]
     ensures { result ≡ signed_message root.now view seqno commit }
 {

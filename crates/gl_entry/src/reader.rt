@@ -80,8 +80,8 @@ fn take_next(alloc: Global, kept: &mut ReadBuffer) -> Result<Option<Entry>, OrNo
 
 /// The next entry of a source whose bytes were read as far as they are kept, or `None` where the
 /// source gave its end and no byte is left. A fault takes nothing: the next call gives it again. A
-/// source that failed counted that, and has lost nothing of what it told; nor is anything lost where
-/// memory runs out.
+/// source that failed counted that, and has lost nothing of what it told; nor is anything lost
+/// where memory runs out.
 pub fn read_entry<S: Source>(
     alloc: Global,
     source: &mut S,

@@ -1,4 +1,6 @@
 //! Requests of governance and keys as JSON, read and written.
+//!
+//! Begin with `read_request`, and `read_key` with `write_key`.
 #![tactic(auto)]
 
 mod action;

@@ -9,7 +9,8 @@ use gl_base::{FormsFault, OrNoMemory};
 use serde_json::Value;
 use std::alloc::Global;
 
-/// The JSON tree that a text is, all of it. One that is not UTF-8, or nests deeper than 127, is none.
+/// The JSON tree that a text is, all of it. One that is not UTF-8, or nests deeper than 127, is
+/// none.
 pub fn read_tree(alloc: Global, text: &[u8]) -> Result<Value, OrNoMemory<FormsFault>>
     ensures exact { Answers view result (tree_from text.now) }
 {

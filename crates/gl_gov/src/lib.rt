@@ -1,4 +1,7 @@
 //! The rows of the tables of governance, and what a step changes of them.
+//!
+//! Begin with `selected_rows`, the rows of the tables of governance, and `changes`, what turns some
+//! rows into others.
 #![tactic(auto)]
 
 mod between;

@@ -1,4 +1,6 @@
 //! What is decided on a request of governance: why it is refused, or what it brings about.
+//!
+//! Begin with `refusal` and `changes_of`.
 #![tactic(auto)]
 
 pub use changes::changes_of;

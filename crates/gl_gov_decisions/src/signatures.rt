@@ -4,7 +4,7 @@ ghost use Rattle.std.specs.Prelude.{◌≡◌, true, IfOk};
 ghost use Rattle.gl_requests.specs.Ranges.{is_act};
 ghost use Rattle.gl_gov_rules.specs.Signatures.{is_signed, is_endorsed};
 
-use gl_lms::bytes::number_at;
+use gl_hss::bytes::number_at;
 use gl_requests::{HssPublicKey, LmsPublicKey, MemberRequest};
 use std::alloc::{AllocError, Global};
 

@@ -5,7 +5,7 @@ use Rattle.std.proofs.lemmas.Bool.{and_parts, and_from}
 use Rattle.std.proofs.lemmas.Bool.Decides.{nat_tests}
 use Rattle.sha2.specs.Sha256.{sha256}
 use Rattle.sha2.proofs.Facts256.{length-sha256}
-use Rattle.gl_lms.proofs.Octets as lms
+use Rattle.gl_hss.proofs.Octets as lms
 use Rattle.gl_base.specs.LittleEndian.{little_endian}
 use Rattle.gl_base.specs.Field.{with_u32_length}
 use Rattle.gl_base.specs.Bytes.{is_byte, are_bytes, are_sized, is_digest}

@@ -4,11 +4,11 @@ use Rattle.std.specs.Prelude.{is_ok, ◌==◌, ◌&&◌}
 use Rattle.std.proofs.lemmas.Bool.{and_parts}
 use Rattle.std.proofs.lemmas.Bool.Decides.{nat_tests}
 use Rattle.gl_base.specs.Bytes.{is_byte, are_bytes}
-use Rattle.gl_lms.specs.declared.types.Types.{Types}
-use Rattle.gl_lms.specs.declared.types.Types.TheVariants.{H5W4, H5W8, H10W4, H10W8}
-use Rattle.gl_lms.specs.Bytes.{number_at}
-use Rattle.gl_lms.specs.Types.{signature_len}
-use Rattle.gl_lms.specs.Tree.{Signature, PublicKey}
+use Rattle.gl_hss.specs.declared.types.Types.{Types}
+use Rattle.gl_hss.specs.declared.types.Types.TheVariants.{H5W4, H5W8, H10W4, H10W8}
+use Rattle.gl_hss.specs.Bytes.{number_at}
+use Rattle.gl_hss.specs.Types.{signature_len}
+use Rattle.gl_hss.specs.Tree.{Signature, PublicKey}
 use Rattle.gl_hss.specs.declared.fault.HssFault.{HssFault}
 use Rattle.gl_hss.specs.declared.fault.HssFault.TheVariants as fault
 use Rattle.gl_hss.specs.Hss.{IsValid, IsEndorsed}

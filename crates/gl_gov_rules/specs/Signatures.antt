@@ -1,7 +1,7 @@
 -- Which signatures of members and which endorsements of nodes are valid (RFC 8554, section 6.3),
 -- and the leaf that a member's signature used.
 use Rattle.std.specs.Prelude.{ℕ, List, Result, Ok, Err, Bool, ◌&&◌, is_ok, ◌==◌}
-use Rattle.gl_lms.specs.Bytes.{number_at}
+use Rattle.gl_hss.specs.Bytes.{number_at}
 use Rattle.gl_hss.specs.declared.fault.HssFault.{HssFault}
 use Rattle.gl_hss.specs.Order.{verdict, leaf_verdict, endorsement_verdict}
 use Rattle.gl_requests.specs.Spelling.{signed_bytes}

@@ -93,8 +93,8 @@ impl History {
         Ok(self)
     }
 
-    /// Adds a request and the changes that it brings about. What it needs is made first, so that want
-    /// of memory leaves all as it was.
+    /// Adds a request and the changes that it brings about. What it needs is made first, so that
+    /// want of memory leaves all as it was.
     pub fn push_recorded(
         &mut self,
         alloc: Global,

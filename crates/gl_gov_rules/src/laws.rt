@@ -3,7 +3,7 @@
 ghost use Rattle.std.specs.Prelude.{◌≡◌, ◌↔◌, ◌≤◌, ℕ, List, [], ◌∷◌, ◌++◌, Some, length, true, false};
 ghost use Rattle.std.specs.List.{list_all};
 ghost use Rattle.gl_base.specs.Bytes.{are_bytes};
-ghost use Rattle.gl_lms.specs.Bytes.{number_at};
+ghost use Rattle.gl_hss.specs.Bytes.{number_at};
 ghost use Rattle.gl_hss.specs.Hss.{IsValid, IsEndorsed};
 ghost use Rattle.gl_vmaps.specs.Changes.{Turns};
 ghost use Rattle.gl_vmaps.specs.Tables.{value_in};
@@ -41,9 +41,9 @@ pub fn law_of_bounds()
 {}
 
 /// Whatever requests were accepted one after another, each row of the governance tables is within
-/// the limits of names, keys and values, and so is each write of a request that follows. A request's
-/// write set turns the tables of those before it into those with it, and each of its writes changes
-/// something. That of the first request is its rows.
+/// the limits of names, keys and values, and so is each write of a request that follows. A
+/// request's write set turns the tables of those before it into those with it, and each of its
+/// writes changes something. That of the first request is its rows.
 pub fn law_of_rows()
     ensures rows_fit { (rs : List Recorded) → IsGoverned rs →
         list_all is_write (rows (history rs)) ≡ true }

@@ -1,4 +1,6 @@
 //! The rules of governance, as definitions and laws, and the history of a service.
+//!
+//! Begin with `History` in code, and the definition `refusal`.
 #![tactic(auto)]
 
 pub use ballots::has_vote;

@@ -2,16 +2,16 @@
 use Rattle.std.proofs.Common.{◌≡◌, ℕ, suc, ◌+◌, ◌^◌, ◌<◌, ◌≤◌, List, [], ◌∷◌, length, Result, Ok, Err, refl, ap, arith, inl, inr}
 use Rattle.std.specs.Prelude.{IfOk}
 use Rattle.std.proofs.lemmas.List.{length-append}
-use Rattle.gl_lms.specs.Bytes.{u32str}
-use Rattle.gl_lms.specs.declared.types.Types.{Types}
-use Rattle.gl_lms.specs.declared.types.Types.TheVariants.{H5W4, H5W8, H10W4, H10W8}
+use Rattle.gl_hss.specs.Bytes.{u32str}
+use Rattle.gl_hss.specs.declared.types.Types.{Types}
+use Rattle.gl_hss.specs.declared.types.Types.TheVariants.{H5W4, H5W8, H10W4, H10W8}
 use Rattle.gl_hss.specs.declared.fault.HssFault.{HssFault}
-use Rattle.gl_lms.specs.Types.{height, signature_len}
-use Rattle.gl_lms.specs.Tree.{Signature, PublicKey, key_bytes, signature_bytes}
+use Rattle.gl_hss.specs.Types.{height, signature_len}
+use Rattle.gl_hss.specs.Tree.{Signature, PublicKey, key_bytes, signature_bytes}
 use Rattle.gl_hss.specs.Hss.{Upper, levels_bytes, hss_bytes, AreLevels, SignsDown, IsHssKey, IsValid, HasLeaf, IsEndorsed, last_key}
 use Rattle.gl_hss.specs.Order.{last_key_verdict}
-use Rattle.gl_lms.proofs.Spans.{bytes_at-Spans, length-u32str}
-use Rattle.gl_lms.proofs.Spelled.{length-key_bytes, length-signature_bytes}
+use Rattle.gl_hss.proofs.Spans.{bytes_at-Spans, length-u32str}
+use Rattle.gl_hss.proofs.Spelled.{length-key_bytes, length-signature_bytes}
 use Rattle.gl_hss.proofs.Readings.{reaches_room, top_key_there}
 use Rattle.gl_hss.proofs.Verdicts.{length-last, levels_span, two_stand, levels_of_key_there, hss_key_stands}
 

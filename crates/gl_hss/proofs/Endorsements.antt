@@ -2,15 +2,15 @@
 use Rattle.std.proofs.Common.{◌≡◌, ℕ, ◌+◌, ◌-◌, ◌*◌, true, List, length, Ok, refl, sym, ap, ap₂, subst, ◌∙◌, arith}
 use Rattle.std.specs.Prelude.{◌==◌}
 use Rattle.std.proofs.lemmas.Bool.Decides.{nat_tests}
-use Rattle.gl_lms.specs.declared.types.Types.{Types}
+use Rattle.gl_hss.specs.declared.types.Types.{Types}
 use Rattle.gl_hss.specs.declared.fault.HssFault.TheVariants as fault
-use Rattle.gl_lms.specs.Bytes.{u32str, number_at, bytes_at}
-use Rattle.gl_lms.specs.Types.{height, chain_count, signature_len}
-use Rattle.gl_lms.specs.Tree.{Signature, PublicKey}
+use Rattle.gl_hss.specs.Bytes.{u32str, number_at, bytes_at}
+use Rattle.gl_hss.specs.Types.{height, chain_count, signature_len}
+use Rattle.gl_hss.specs.Tree.{Signature, PublicKey}
 use Rattle.gl_hss.specs.Hss.{IsEndorsed}
-use Rattle.gl_lms.specs.Lent.{signature_fields}
+use Rattle.gl_hss.specs.Lent.{signature_fields}
 use Rattle.gl_hss.specs.Order.{◌>>◌, check, ends, has_root, top_key, signature_at, one_level, endorsement_verdict}
-use Rattle.gl_lms.proofs.Spans.{IsBytes, Spans, Spans-append, spans_number, spans_all, all_spans, bytes_at-bytes_at}
+use Rattle.gl_hss.proofs.Spans.{IsBytes, Spans, Spans-append, spans_number, spans_all, all_spans, bytes_at-bytes_at}
 use Rattle.gl_hss.proofs.Readings.{then_ok, bind_ok, check_ok, top_key_ok, top_key_there, signature_at_ok}
 use Rattle.gl_hss.proofs.Verdicts.{key_is, one_level_ok, one_level_there, hss_key_stands}
 

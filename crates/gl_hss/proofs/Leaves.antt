@@ -4,18 +4,18 @@ use Rattle.std.specs.Prelude.{ok_or, ◌==◌, ◌||◌, if◌then◌else◌}
 use Rattle.std.proofs.lemmas.Bool.{cases_eq}
 use Rattle.std.proofs.lemmas.Bool.Decides.{nat_tests}
 use Rattle.std.proofs.lemmas.List.{length-append}
-use Rattle.gl_lms.specs.declared.types.Types.{Types}
-use Rattle.gl_lms.specs.declared.types.Types.TheVariants.{H5W4, H5W8, H10W4, H10W8}
+use Rattle.gl_hss.specs.declared.types.Types.{Types}
+use Rattle.gl_hss.specs.declared.types.Types.TheVariants.{H5W4, H5W8, H10W4, H10W8}
 use Rattle.gl_hss.specs.declared.fault.HssFault.{HssFault}
 use Rattle.gl_hss.specs.declared.fault.HssFault.TheVariants as fault
-use Rattle.gl_lms.specs.Bytes.{u32str, number_at}
-use Rattle.gl_lms.specs.Types.{height, chain_count, lms_code, ots_code, signature_len, types_of}
-use Rattle.gl_lms.specs.Tree.{Signature, PublicKey, signature_bytes, IsSignature}
+use Rattle.gl_hss.specs.Bytes.{u32str, number_at}
+use Rattle.gl_hss.specs.Types.{height, chain_count, lms_code, ots_code, signature_len, types_of}
+use Rattle.gl_hss.specs.Tree.{Signature, PublicKey, signature_bytes, IsSignature}
 use Rattle.gl_hss.specs.Hss.{Upper, levels_bytes, hss_bytes, AreLevels, HasLeaf}
-use Rattle.gl_lms.specs.Lent.{signature_fields}
+use Rattle.gl_hss.specs.Lent.{signature_fields}
 use Rattle.gl_hss.specs.Order.{◌>>=◌, ◌>>◌, check, reaches, ends, has_leaf, least_types, embedded_key, signature_at, first_signature, leaf_of_one, leaf_below, leaf_of_two, leaf_verdict}
-use Rattle.gl_lms.proofs.Spans.{IsBytes, Spans, Spans-append, spans_number, spans_all, all_spans, spans_left, length-u32str, number_at-Spans}
-use Rattle.gl_lms.proofs.Spelled.{SignatureStands, signature_stands, length-signature_bytes}
+use Rattle.gl_hss.proofs.Spans.{IsBytes, Spans, Spans-append, spans_number, spans_all, all_spans, spans_left, length-u32str, number_at-Spans}
+use Rattle.gl_hss.proofs.Spelled.{SignatureStands, signature_stands, length-signature_bytes}
 use Rattle.gl_hss.proofs.Readings.{then_ok, bind_ok, check_ok, ok_or_ok, reaches_ok, reaches_room, ends_ok, ends_there, has_leaf_ok, has_leaf_there, types_of_ok, types_of_codes, embedded_key_ok, embedded_key_there, IsReadSignature, signature_at_ok, signature_at_there}
 use Rattle.gl_hss.proofs.Verdicts.{key_is, signature_is, length-last, two_stand, levels_span}
 

@@ -3,9 +3,9 @@ use Rattle.std.proofs.Common.{◌≡◌, ℕ, ◌^◌, ◌<◌, ◌≤◌, List,
 use Rattle.std.proofs.lemmas.Bool.Decides.{nat_tests}
 use Rattle.gl_hss.specs.declared.levels.Levels.{Levels}
 use Rattle.gl_hss.specs.declared.levels.Levels.TheVariants.{One, Two}
-use Rattle.gl_lms.specs.Bytes.{u32str, number_at}
+use Rattle.gl_hss.specs.Bytes.{u32str, number_at}
 use Rattle.gl_hss.specs.Levels.{level_count, levels_named}
-use Rattle.gl_lms.proofs.Spans.{IsBytes, number_spelled, number_read}
+use Rattle.gl_hss.proofs.Spans.{IsBytes, number_spelled, number_read}
 
 count_of_named : (n : ℕ) (levels : Levels) → levels_named n ≡ Some levels → n ≡ level_count levels
 count_of_named n One e = grind (arith, nat_tests)

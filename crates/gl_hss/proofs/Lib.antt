@@ -5,3 +5,16 @@ pub mod Signers
 pub mod Endorsements
 pub mod Bounds
 pub mod LevelLemmas
+pub mod Digits
+pub mod Chains
+pub mod Parameters
+pub mod Climbing
+pub mod Spans
+pub mod Spelled
+pub mod Trees
+pub mod Paths
+pub mod Appends
+pub mod Blocks
+pub mod Signing
+pub mod StepInputs
+pub mod Octets

@@ -4,16 +4,16 @@ use Rattle.std.specs.Prelude.{ok_or, ◌||◌, ◌==◌, nat_lt, nat_le}
 use Rattle.std.specs.Str.{bytes_eq}
 use Rattle.std.proofs.lemmas.Bool.Decides.{nat_tests}
 use Rattle.std.proofs.lemmas.Slice.Eq.{bytes_eq-Decides}
-use Rattle.gl_lms.specs.declared.types.Types.{Types}
-use Rattle.gl_lms.specs.declared.types.Types.TheVariants.{H5W4, H5W8, H10W4, H10W8}
+use Rattle.gl_hss.specs.declared.types.Types.{Types}
+use Rattle.gl_hss.specs.declared.types.Types.TheVariants.{H5W4, H5W8, H10W4, H10W8}
 use Rattle.gl_hss.specs.declared.fault.HssFault.{HssFault}
 use Rattle.gl_hss.specs.declared.fault.HssFault.TheVariants as fault
-use Rattle.gl_lms.specs.Bytes.{number_at}
-use Rattle.gl_lms.specs.Types.{height, chain_count, lms_code, ots_code, signature_len, types_of}
-use Rattle.gl_lms.specs.Tree.{Signature, PublicKey, root_candidate}
-use Rattle.gl_lms.specs.Lent.{key_fields, signature_fields}
+use Rattle.gl_hss.specs.Bytes.{number_at}
+use Rattle.gl_hss.specs.Types.{height, chain_count, lms_code, ots_code, signature_len, types_of}
+use Rattle.gl_hss.specs.Tree.{Signature, PublicKey, root_candidate}
+use Rattle.gl_hss.specs.Lent.{key_fields, signature_fields}
 use Rattle.gl_hss.specs.Order.{◌>>=◌, ◌>>◌, check, reaches, ends, has_code, has_leaf, has_root, types_at, embedded_key, top_key, signature_at}
-use Rattle.gl_lms.proofs.Spelled.{HasKeyCodes, HasCodes, KeyStands, SignatureStands}
+use Rattle.gl_hss.proofs.Spelled.{HasKeyCodes, HasCodes, KeyStands, SignatureStands}
 
 -- ---- steps that found no fault
 

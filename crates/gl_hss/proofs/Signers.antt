@@ -1,15 +1,15 @@
 -- What a signer signs is valid under each key under which its endorsement is, has its leaf, and has so many bytes.
 use Rattle.std.proofs.Common.{◌≡◌, ℕ, ◌^◌, ◌<◌, List, [], ◌∷◌, ◌++◌, length, Option, Some, None, ap, ◌∙◌, append_assoc, length-append, arith}
-use Rattle.gl_lms.specs.Bytes.{u32str}
-use Rattle.gl_lms.specs.Types.{height}
-use Rattle.gl_lms.specs.Tree.{Signature, PublicKey, key_bytes, signature_bytes, IsKey}
+use Rattle.gl_hss.specs.Bytes.{u32str}
+use Rattle.gl_hss.specs.Types.{height}
+use Rattle.gl_hss.specs.Tree.{Signature, PublicKey, key_bytes, signature_bytes, IsKey}
 use Rattle.gl_hss.specs.Hss.{hss_bytes, IsValid, HasLeaf}
-use Rattle.gl_lms.specs.Secrets.{PrivateKey, public_of}
-use Rattle.gl_lms.specs.Profile.{randomizer_of, signature_by}
+use Rattle.gl_hss.specs.Secrets.{PrivateKey, public_of}
+use Rattle.gl_hss.specs.Profile.{randomizer_of, signature_by}
 use Rattle.gl_hss.specs.Signer.{levels_above, hss_signature, signature_size, StandsUnder}
-use Rattle.gl_lms.proofs.Spans.{length-u32str}
-use Rattle.gl_lms.proofs.Spelled.{length-key_bytes, length-signature_bytes}
-use Rattle.gl_lms.proofs.Signing.{signature_by-IsSigned, leaf_of_signature}
+use Rattle.gl_hss.proofs.Spans.{length-u32str}
+use Rattle.gl_hss.proofs.Spelled.{length-key_bytes, length-signature_bytes}
+use Rattle.gl_hss.proofs.Signing.{signature_by-IsSigned, leaf_of_signature}
 
 -- the bytes of one level, and of two
 one_level_bytes : (k : PrivateKey) (s : List ℕ) (q : ℕ) (message : List ℕ) → s ≡ hss_signature k None q message → s ≡ hss_bytes k.types [] (signature_by k q message)

@@ -4,17 +4,17 @@ use Rattle.std.specs.Prelude.{◌==◌, ◌||◌, if◌then◌else◌, IsOk, OnO
 use Rattle.std.proofs.lemmas.Bool.Decides.{nat_tests}
 use Rattle.std.proofs.lemmas.List.{length-append, length-drop}
 use Rattle.std.proofs.lemmas.Bool.{cases_eq}
-use Rattle.gl_lms.specs.declared.types.Types.{Types}
-use Rattle.gl_lms.specs.declared.types.Types.TheVariants.{H5W8}
+use Rattle.gl_hss.specs.declared.types.Types.{Types}
+use Rattle.gl_hss.specs.declared.types.Types.TheVariants.{H5W8}
 use Rattle.gl_hss.specs.declared.fault.HssFault.{HssFault}
 use Rattle.gl_hss.specs.declared.fault.HssFault.TheVariants as fault
-use Rattle.gl_lms.specs.Bytes.{u32str, number_at, bytes_at}
-use Rattle.gl_lms.specs.Types.{signature_len}
-use Rattle.gl_lms.specs.Tree.{Signature, PublicKey, key_bytes, signature_bytes, IsKey, IsSignature, IsSigned}
+use Rattle.gl_hss.specs.Bytes.{u32str, number_at, bytes_at}
+use Rattle.gl_hss.specs.Types.{signature_len}
+use Rattle.gl_hss.specs.Tree.{Signature, PublicKey, key_bytes, signature_bytes, IsKey, IsSignature, IsSigned}
 use Rattle.gl_hss.specs.Hss.{Upper, levels_bytes, hss_bytes, SignsDown, IsHssKey, IsValid}
 use Rattle.gl_hss.specs.Order.{◌>>=◌, ◌>>◌, check, reaches, ends, has_root, embedded_key, top_key, signature_at, levels_of_key, one_level, two_levels, least_len, verdict}
-use Rattle.gl_lms.proofs.Spans.{IsBytes, Spans, Spans-append, Spans-from, spans_number, spans_all, all_spans, spans_left, spans_right, bytes_at-Spans, length-u32str, number_at-Spans}
-use Rattle.gl_lms.proofs.Spelled.{KeyStands, SignatureStands, key_fields-IsKey, key_spans, length-key_bytes, key_stands, signature_fields-IsSignature, signature_spans, length-signature_bytes, signature_stands}
+use Rattle.gl_hss.proofs.Spans.{IsBytes, Spans, Spans-append, Spans-from, spans_number, spans_all, all_spans, spans_left, spans_right, bytes_at-Spans, length-u32str, number_at-Spans}
+use Rattle.gl_hss.proofs.Spelled.{KeyStands, SignatureStands, key_fields-IsKey, key_spans, length-key_bytes, key_stands, signature_fields-IsSignature, signature_spans, length-signature_bytes, signature_stands}
 use Rattle.gl_hss.proofs.Readings.{then_ok, bind_ok, check_ok, reaches_ok, reaches_room, ends_ok, ends_there, has_root_ok, has_root_there, IsReadKey, top_key_ok, top_key_there, embedded_key_ok, embedded_key_there, IsReadSignature, signature_at_ok, signature_at_there}
 
 -- ---- the parts that were read

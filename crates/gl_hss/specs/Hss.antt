@@ -1,8 +1,8 @@
 -- Signatures of one or two levels, HSS (RFC 8554, 6), and when one is valid.
 use Rattle.std.specs.Prelude.{ℕ, ◌≡◌, ◌≤◌, ◌+◌, List, [], ◌∷◌, ◌++◌, length}
-use Rattle.gl_lms.specs.declared.types.Types.{Types}
-use Rattle.gl_lms.specs.Bytes.{u32str}
-use Rattle.gl_lms.specs.Tree.{Signature, PublicKey, key_bytes, signature_bytes, IsKey, IsSignature, IsSigned, Signs}
+use Rattle.gl_hss.specs.declared.types.Types.{Types}
+use Rattle.gl_hss.specs.Bytes.{u32str}
+use Rattle.gl_hss.specs.Tree.{Signature, PublicKey, key_bytes, signature_bytes, IsKey, IsSignature, IsSigned, Signs}
 
 -- a level above the last: a signature, and the key that it signs (6.2)
 pub record Upper : Type 0 where

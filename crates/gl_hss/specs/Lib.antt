@@ -3,3 +3,13 @@ pub mod Hss
 pub mod Order
 pub mod Endorsement
 pub mod Signer
+pub mod Bytes
+pub mod Types
+pub mod Ots
+pub mod Tree
+pub mod Lent
+pub mod Secrets
+pub mod Profile
+pub mod Source
+pub mod Nodes
+pub mod Steps

@@ -1,14 +1,14 @@
 -- Which fault comes first: a key and a signature read from left to right, and then the roots.
 use Rattle.std.specs.Prelude.{ℕ, ◌≡◌, ◌+◌, ◌-◌, ◌*◌, ◌^◌, Bool, true, false, List, length, Option, Some, None, Result, Ok, Err, ok_or, ◌==◌, ◌||◌, nat_lt, nat_le, if◌then◌else◌}
 use Rattle.std.specs.Str.{bytes_eq}
-use Rattle.gl_lms.specs.declared.types.Types.{Types}
-use Rattle.gl_lms.specs.declared.types.Types.TheVariants.{H5W4, H5W8}
+use Rattle.gl_hss.specs.declared.types.Types.{Types}
+use Rattle.gl_hss.specs.declared.types.Types.TheVariants.{H5W4, H5W8}
 use Rattle.gl_hss.specs.declared.fault.HssFault.{HssFault}
 use Rattle.gl_hss.specs.declared.fault.HssFault.TheVariants as fault
-use Rattle.gl_lms.specs.Bytes.{bytes_at, number_at}
-use Rattle.gl_lms.specs.Types.{height, chain_count, lms_code, ots_code, signature_len, types_of}
-use Rattle.gl_lms.specs.Tree.{Signature, PublicKey, root_candidate}
-use Rattle.gl_lms.specs.Lent.{key_fields, signature_fields}
+use Rattle.gl_hss.specs.Bytes.{bytes_at, number_at}
+use Rattle.gl_hss.specs.Types.{height, chain_count, lms_code, ots_code, signature_len, types_of}
+use Rattle.gl_hss.specs.Tree.{Signature, PublicKey, root_candidate}
+use Rattle.gl_hss.specs.Lent.{key_fields, signature_fields}
 
 -- what a function returned, seen by view, is this reading
 abbrev pub Gives : {X Y : Type 0} → (X → Y) → Result X HssFault → Result Y HssFault → Type 0

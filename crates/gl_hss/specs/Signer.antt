@@ -3,13 +3,13 @@ use Rattle.std.specs.Prelude.{ℕ, ◌≡◌, ◌+◌, List, ◌++◌, Option, S
 use Rattle.std.specs.Global.{Global}
 use Rattle.gl_hss.specs.declared.signer.SignFault.{SignFault}
 use Rattle.gl_hss.specs.declared.signer.SignFault.TheVariants.{NotReserved, NoMemory}
-use Rattle.gl_lms.specs.declared.types.Types.{Types}
-use Rattle.gl_lms.specs.Bytes.{u32str}
-use Rattle.gl_lms.specs.Types.{signature_len}
-use Rattle.gl_lms.specs.Tree.{key_bytes, signature_bytes}
+use Rattle.gl_hss.specs.declared.types.Types.{Types}
+use Rattle.gl_hss.specs.Bytes.{u32str}
+use Rattle.gl_hss.specs.Types.{signature_len}
+use Rattle.gl_hss.specs.Tree.{key_bytes, signature_bytes}
 use Rattle.gl_hss.specs.Hss.{IsEndorsed}
-use Rattle.gl_lms.specs.Secrets.{PrivateKey, public_of}
-use Rattle.gl_lms.specs.Profile.{signature_by}
+use Rattle.gl_hss.specs.Secrets.{PrivateKey, public_of}
+use Rattle.gl_hss.specs.Profile.{signature_by}
 
 -- the key, the endorsement's bytes if there is one, how many leaves are reserved, and how many used
 pub record Signer : Type 0 where

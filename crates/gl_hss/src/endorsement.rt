@@ -2,16 +2,16 @@
 
 ghost use Rattle.std.specs.Prelude.{◌≡◌, ◌↔◌, ◌+◌, ◌-◌, ◌≤◌, length, Err, IsOk, IfOk, OnOk, IfErr};
 ghost use Rattle.std.specs.Bool.{OnTrue};
-ghost use Rattle.gl_lms.specs.Bytes.{bytes_at};
+ghost use Rattle.gl_hss.specs.Bytes.{bytes_at};
 ghost use Rattle.gl_hss.specs.Hss.{IsEndorsed};
 ghost use Rattle.gl_hss.specs.Order.{endorsement_verdict};
 
+use crate::bytes::{bytes_at, number_at};
 use crate::fault::HssFault;
 use crate::fields::top_key;
 use crate::levels::HSS_KEY_LEN;
 use crate::root::one_level;
-use gl_lms::bytes::{bytes_at, number_at};
-use gl_lms::{LMS_KEY_LEN, MAX_LMS_SIGNATURE_LEN};
+use crate::{LMS_KEY_LEN, MAX_LMS_SIGNATURE_LEN};
 use std::alloc::AllocError;
 use std::marker::Model;
 

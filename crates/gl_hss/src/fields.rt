@@ -1,15 +1,15 @@
 //! Keys and signatures read from left to right, up to the first fault.
 
 ghost use Rattle.std.specs.Prelude.{◌≡◌, ◌+◌, ◌*◌, ◌<◌, ◌≤◌, ◌^◌, length, IfOk, OnOk};
-ghost use Rattle.gl_lms.specs.Types.{height, chain_count, signature_len};
-ghost use Rattle.gl_lms.specs.Bytes.{bytes_at, number_at};
-ghost use Rattle.gl_lms.specs.Tree.{IsKey, IsSignature};
-ghost use Rattle.gl_lms.specs.Lent.{key_of, signature_of, key_fields, signature_fields};
+ghost use Rattle.gl_hss.specs.Types.{height, chain_count, signature_len};
+ghost use Rattle.gl_hss.specs.Bytes.{bytes_at, number_at};
+ghost use Rattle.gl_hss.specs.Tree.{IsKey, IsSignature};
+ghost use Rattle.gl_hss.specs.Lent.{key_of, signature_of, key_fields, signature_fields};
 ghost use Rattle.gl_hss.specs.Order.{Gives, reaches, ends, has_code, has_leaf, least_types, types_at, levels_of_key, top_key, embedded_key, signature_at, first_signature};
 
+use crate::bytes::{bytes_at, number_at};
 use crate::fault::HssFault;
-use gl_lms::bytes::{bytes_at, number_at};
-use gl_lms::{LMS_KEY_LEN, LmsPublicKey, LmsSignature, Types, key_fields, signature_fields};
+use crate::{LMS_KEY_LEN, LmsPublicKey, LmsSignature, Types, key_fields, signature_fields};
 
 // The bytes before the chains of an LMS signature: q, the typecode and C.
 const BEFORE_CHAINS: usize = 40;

@@ -1,14 +1,14 @@
 //! HSS public keys of one and of two levels (section 6.1).
 
 ghost use Rattle.std.specs.Prelude.{◌≡◌, ◌↔◌, ◌++◌, Some, take};
-ghost use Rattle.gl_lms.specs.Bytes.{u32str};
-ghost use Rattle.gl_lms.specs.Tree.{key_bytes};
-ghost use Rattle.gl_lms.specs.Secrets.{public_of};
+ghost use Rattle.gl_hss.specs.Bytes.{u32str};
+ghost use Rattle.gl_hss.specs.Tree.{key_bytes};
+ghost use Rattle.gl_hss.specs.Secrets.{public_of};
 ghost use Rattle.gl_hss.specs.Levels.{level_count, levels_named};
 ghost use Rattle.gl_hss.specs.Hss.{IsHssKey};
 
-use gl_lms::bytes::{number_at, u32str};
-use gl_lms::{LMS_KEY_LEN, LmsKey};
+use crate::bytes::{number_at, u32str};
+use crate::{LMS_KEY_LEN, LmsKey};
 
 /// The bytes of an HSS public key: the number of levels in four bytes, and an LMS public key.
 pub const HSS_KEY_LEN: usize = 60;

@@ -1,13 +1,13 @@
 //! Whether a signature leads to the root of the key that it is to be by (section 5.4.2).
 
 ghost use Rattle.std.specs.Prelude.{◌≡◌, ◌<◌};
-ghost use Rattle.gl_lms.specs.Tree.{IsKey, IsSignature};
-ghost use Rattle.gl_lms.specs.Lent.{key_of, signature_of};
+ghost use Rattle.gl_hss.specs.Tree.{IsKey, IsSignature};
+ghost use Rattle.gl_hss.specs.Lent.{key_of, signature_of};
 ghost use Rattle.gl_hss.specs.Order.{has_root, one_level};
 
 use crate::fault::HssFault;
 use crate::fields::{ends, signature_at};
-use gl_lms::{LmsPublicKey, LmsSignature, root_candidate};
+use crate::{LmsPublicKey, LmsSignature, root_candidate};
 
 // The root that the signature leads to is the key's.
 #[tactic(auto, unfolding(crate::specs::Order::has_root))]

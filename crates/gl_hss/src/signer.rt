@@ -1,14 +1,14 @@
 //! A signer that uses each leaf once.
 
 ghost use Rattle.std.specs.Prelude.{◌≡◌, ◌↔◌, ◌<◌, ◌≤◌, ◌^◌, ◌+◌, ◌++◌, List, ℕ, [], length, Option, Some, None, Ok, Err, IfOk, OnOk, OnErr, IfErr, IsErr};
-ghost use Rattle.gl_lms.specs.Types.{height};
-ghost use Rattle.gl_lms.specs.Tree.{IsKey};
-ghost use Rattle.gl_lms.specs.Secrets.{public_of};
+ghost use Rattle.gl_hss.specs.Types.{height};
+ghost use Rattle.gl_hss.specs.Tree.{IsKey};
+ghost use Rattle.gl_hss.specs.Secrets.{public_of};
 ghost use Rattle.gl_hss.specs.Signer.{Signer, signer_of, levels_above, hss_signature, signature_size, StandsUnder, Refuses};
 ghost use Rattle.gl_hss.specs.Hss.{IsValid, HasLeaf};
 
-use gl_lms::bytes::u32str;
-use gl_lms::{LMS_KEY_LEN, LmsKey};
+use crate::bytes::u32str;
+use crate::{LMS_KEY_LEN, LmsKey};
 use std::alloc::AllocError;
 use std::marker::Model;
 use thiserror::Error;
@@ -45,7 +45,7 @@ pub struct HssSigner {
 
 impl Model for HssSigner {
     ghost use Rattle.std.specs.Prelude.{◌≤◌, ◌^◌};
-    ghost use Rattle.gl_lms.specs.Types.{height};
+    ghost use Rattle.gl_hss.specs.Types.{height};
     ghost use Rattle.gl_hss.specs.Signer.{Signer, signer_of};
 
     ghost Value = { Signer };

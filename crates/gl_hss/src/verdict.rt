@@ -1,13 +1,14 @@
 //! Whether an HSS signature is valid (section 6.3), and which key and leaf made it.
 
 ghost use Rattle.std.specs.Prelude.{◌≡◌, ◌↔◌, ◌+◌, ◌<◌, ◌≤◌, ℕ, List, length, IsOk, IfOk, OnOk, Ok};
-ghost use Rattle.gl_lms.specs.Types.{signature_len};
-ghost use Rattle.gl_lms.specs.Bytes.{bytes_at};
-ghost use Rattle.gl_lms.specs.Tree.{IsKey, IsSignature};
+ghost use Rattle.gl_hss.specs.Types.{signature_len};
+ghost use Rattle.gl_hss.specs.Bytes.{bytes_at};
+ghost use Rattle.gl_hss.specs.Tree.{IsKey, IsSignature};
 ghost use Rattle.gl_hss.specs.Hss.{IsValid, IsValidBy, HasLeaf};
-ghost use Rattle.gl_lms.specs.Lent.{key_of, signature_of, signature_fields};
+ghost use Rattle.gl_hss.specs.Lent.{key_of, signature_of, signature_fields};
 ghost use Rattle.gl_hss.specs.Order.{top_key, has_root, two_levels, verdict, last_key_verdict, leaf_of_one, leaf_below, leaf_of_two, leaf_verdict, least_len};
 
+use crate::bytes::{bytes_at, number_at};
 use crate::endorsement::EndorsedKey;
 use crate::fault::HssFault;
 use crate::fields::{
@@ -15,8 +16,7 @@ use crate::fields::{
 };
 use crate::levels::HSS_KEY_LEN;
 use crate::root::{has_root, one_level};
-use gl_lms::bytes::{bytes_at, number_at};
-use gl_lms::{LMS_KEY_LEN, LmsPublicKey, LmsSignature, MAX_LEAF_COUNT, Types};
+use crate::{LMS_KEY_LEN, LmsPublicKey, LmsSignature, MAX_LEAF_COUNT, Types};
 
 /// The most bytes of an HSS signature of two levels, both of `Types::H10W4`.
 pub const MAX_HSS_SIGNATURE_LEN: usize = 5076;

@@ -2,7 +2,7 @@
 use Rattle.std.specs.Prelude.{◌≡◌, ◌⊎◌, ℕ, zero, suc, ◌+◌, ◌-◌, ◌^◌, Bool, true, false, ◌||◌, List, [], ◌∷◌, ◌++◌, length, take, Option, None, Some, Result, Ok, Err, ◌==◌, nat_lt, if◌then◌else◌}
 use Rattle.gl_base.specs.Cut.{Unread}
 use Rattle.gl_base.specs.declared.fault.CutFault.{CutFault}
-use Rattle.gl_lms.specs.Types.{height}
+use Rattle.gl_hss.specs.Types.{height}
 use Rattle.gl_outside.specs.Disk.{Step, IsImage}
 use Rattle.gl_journal.specs.Gates.{payload_at, payloads_of}
 use Rattle.gl_journal.specs.Parts.{HasGate}

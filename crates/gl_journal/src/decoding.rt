@@ -6,7 +6,7 @@ ghost use Rattle.gl_journal.specs.RecordView.{record_value};
 
 use crate::key::{Key, KeyKind};
 use crate::record::Record;
-use gl_lms::Types;
+use gl_hss::Types;
 
 /// A body that is exactly a number of four bytes.
 #[tactic(auto, using(gl_base::proofs::LittleEndianBytes::from_bytes_4))]

@@ -1,6 +1,6 @@
 //! The key that a journal begins with.
 
-use gl_lms::Types;
+use gl_hss::Types;
 
 /// Whose key it is.
 #[derive(Clone, Copy, Debug, PartialEq, Eq)]

@@ -1,5 +1,7 @@
 //! The file in which a node keeps its key, its view and vote, its ledger and its spent leaves, so
 //! that a stop at any call of the disk leaves the state before that call or after it.
+//!
+//! Begin with `Journal::open`.
 #![tactic(auto)]
 
 mod decoding;

@@ -8,7 +8,7 @@ ghost use Rattle.gl_journal.specs.RecordView.{record_value, record_values};
 
 use crate::key::{Key, KeyKind};
 use gl_entry::NodeId;
-use gl_lms::Types;
+use gl_hss::Types;
 
 /// A record of a journal. The bytes of an entry's frame and of a snapshot stand elsewhere.
 #[derive(Clone, Copy, Debug)]

@@ -1,10 +1,10 @@
 -- The public form of a key.
 use Rattle.std.specs.Prelude.{ℕ, List, ◌++◌, None}
 use Rattle.sha2.specs.Sha256.{sha256}
-use Rattle.gl_lms.specs.Bytes.{u32str}
-use Rattle.gl_lms.specs.Tree.{key_bytes}
-use Rattle.gl_lms.specs.Secrets.{public_of}
-use Rattle.gl_lms.specs.Profile.{key_of_seed}
+use Rattle.gl_hss.specs.Bytes.{u32str}
+use Rattle.gl_hss.specs.Tree.{key_bytes}
+use Rattle.gl_hss.specs.Secrets.{public_of}
+use Rattle.gl_hss.specs.Profile.{key_of_seed}
 use Rattle.gl_forms.specs.declared.key.KeyForm.{KeyForm}
 use Rattle.gl_forms.specs.declared.key.KeyForm.TheVariants as forms
 use Rattle.gl_journal.specs.declared.key.Key.{Key}

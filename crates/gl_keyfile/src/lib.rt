@@ -1,5 +1,7 @@
 //! The file of a service's, a node's or a member's key, on a disk that may stop at any call: it is
 //! begun and opened, and hands out the one-time leaves of its key, none of them twice.
+//!
+//! Begin with `KeyFile`.
 #![tactic(auto)]
 
 mod fault;

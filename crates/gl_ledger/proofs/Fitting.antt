@@ -18,7 +18,7 @@ use Rattle.gl_entry.specs.declared.entry.Entry.{Entry}
 use Rattle.gl_ledger.specs.Tree.{tables_of}
 use Rattle.gl_ledger.specs.Ledger.{application_entry, execute_result}
 use Rattle.gl_ledger.proofs.Applications.{execute_ok}
-use Rattle.gl_lms.proofs.Octets.{sha256_bytes}
+use Rattle.gl_hss.proofs.Octets.{sha256_bytes}
 use Rattle.gl_ledger.proofs.Entries.{application_fits, is_entry-from_fields}
 use Rattle.gl_ledger.proofs.RequestBytes.{request_are_bytes}
 

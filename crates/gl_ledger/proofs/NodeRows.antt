@@ -4,8 +4,8 @@ use Rattle.std.specs.FinMap as rows
 use Rattle.std.proofs.lemmas.Bool.{and_parts, cond-true, cond-false, false≢true}
 use Rattle.sha2.specs.Sha256.{sha256}
 use Rattle.gl_base.specs.Bytes.{are_bytes, are_sized, same_bytes}
-use Rattle.gl_lms.specs.Tree.{key_bytes, IsKey}
-use Rattle.gl_lms.specs.Secrets.{public_of}
+use Rattle.gl_hss.specs.Tree.{key_bytes, IsKey}
+use Rattle.gl_hss.specs.Secrets.{public_of}
 use Rattle.gl_hss.specs.Hss.{IsEndorsed}
 use Rattle.gl_hss.specs.Signer.{StandsUnder}
 use Rattle.gl_rules.specs.Identity.{NodeId, same, member}

@@ -4,17 +4,17 @@ use Rattle.std.specs.Cmp.Lexicographic.{bytes_decides}
 use Rattle.sha2.specs.Sha256.{sha256}
 use Rattle.gl_hss.specs.declared.fault.HssFault.{HssFault}
 use Rattle.gl_hss.specs.declared.fault.HssFault.TheVariants as faults
-use Rattle.gl_lms.specs.Bytes.{u32str}
-use Rattle.gl_lms.specs.Tree.{PublicKey, Signature, key_bytes, signature_bytes}
+use Rattle.gl_hss.specs.Bytes.{u32str}
+use Rattle.gl_hss.specs.Tree.{PublicKey, Signature, key_bytes, signature_bytes}
 use Rattle.gl_hss.specs.Hss.{IsValid, hss_bytes}
 use Rattle.gl_hss.specs.Order.{last_key_verdict}
-use Rattle.gl_lms.specs.Secrets.{PrivateKey, public_of}
-use Rattle.gl_lms.specs.Profile.{signature_by}
+use Rattle.gl_hss.specs.Secrets.{PrivateKey, public_of}
+use Rattle.gl_hss.specs.Profile.{signature_by}
 use Rattle.gl_hss.specs.Signer.{hss_signature, StandsUnder, levels_above}
-use Rattle.gl_lms.proofs.Signing.{signature_by-IsSigned}
+use Rattle.gl_hss.proofs.Signing.{signature_by-IsSigned}
 use Rattle.gl_hss.proofs.Verdicts.{valid_verdict}
 use Rattle.gl_hss.proofs.Bounds.{last_key_valid, length-valid}
-use Rattle.gl_lms.proofs.Octets.{u32str_bytes, signed_bytes}
+use Rattle.gl_hss.proofs.Octets.{u32str_bytes, signed_bytes}
 use Rattle.gl_base.specs.Bytes.{are_bytes}
 use Rattle.gl_rules.specs.Identity.{NodeId}
 use Rattle.gl_entry.specs.declared.entry.Entry.{Entry}

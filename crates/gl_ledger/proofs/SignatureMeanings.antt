@@ -7,7 +7,7 @@ use Rattle.sha2.specs.Sha256.{sha256}
 use Rattle.gl_base.specs.Bytes.{is_byte, are_bytes, same_bytes}
 use Rattle.gl_hss.specs.declared.fault.HssFault.{HssFault}
 use Rattle.gl_hss.specs.declared.fault.HssFault.TheVariants as faults
-use Rattle.gl_lms.specs.Tree.{key_bytes}
+use Rattle.gl_hss.specs.Tree.{key_bytes}
 use Rattle.gl_hss.specs.Hss.{last_key}
 use Rattle.gl_hss.specs.Order.{verdict, last_key_verdict}
 use Rattle.gl_hss.proofs.Verdicts.{verdict_ok, valid_verdict}

@@ -2,7 +2,7 @@
 use Rattle.std.proofs.Common.{◌≡◌, ℕ, ◌+◌, ◌-◌, ◌<◌, ◌≤◌, List, [], ◌∷◌, ◌++◌, length, None, Ok, true, false, refl, sym, ◌∙◌, ap, arith}
 use Rattle.gl_base.specs.TxId.{last_seqno}
 use Rattle.gl_base.proofs.Lists.{slice_get-below}
-use Rattle.gl_lms.specs.declared.types.Types.TheVariants.{H5W4}
+use Rattle.gl_hss.specs.declared.types.Types.TheVariants.{H5W4}
 use Rattle.gl_rules.specs.Identity.{NodeId, member}
 use Rattle.gl_entry.specs.Entry.{is_entry}
 use Rattle.gl_entry.specs.declared.entry.Entry.{Entry}

@@ -1,15 +1,15 @@
--- Nodes that sign with HSS keys of two levels (RFC 8554, section 6): the service's key endorses that
--- of each node, whose leaves sign.
+-- Nodes that sign with HSS keys of two levels (RFC 8554, section 6): the service's key endorses
+-- that of each node, whose leaves sign.
 use Rattle.std.specs.Prelude.{◌≡◌, ℕ, ◌^◌, List, Option, None, Some, Result, Ok, Err, true, if◌then◌else◌}
 use Rattle.sha2.specs.Sha256.{sha256}
 use Rattle.gl_base.specs.Bytes.{are_bytes, same_bytes}
 use Rattle.gl_hss.specs.declared.fault.HssFault.{HssFault}
 use Rattle.gl_hss.specs.declared.fault.HssFault.TheVariants as faults
-use Rattle.gl_lms.specs.Types.{height}
-use Rattle.gl_lms.specs.Tree.{key_bytes, IsKey}
+use Rattle.gl_hss.specs.Types.{height}
+use Rattle.gl_hss.specs.Tree.{key_bytes, IsKey}
 use Rattle.gl_hss.specs.Hss.{IsValidBy}
 use Rattle.gl_hss.specs.Order.{verdict, last_key_verdict}
-use Rattle.gl_lms.specs.Secrets.{PrivateKey, public_of}
+use Rattle.gl_hss.specs.Secrets.{PrivateKey, public_of}
 use Rattle.gl_hss.specs.Signer.{hss_signature, StandsUnder}
 use Rattle.gl_rules.specs.Identity.{NodeId}
 use Rattle.gl_ledger.specs.Layers.{Layers}
@@ -56,8 +56,9 @@ pub record IsSignedBy (identity : List ℕ) (x : NodeId) (message signature : Li
 abbrev pub service_layers : Layers
 service_layers = record { signature_fault = node_signature_fault }
 
--- The service's key endorses the node's by this endorsement, and the node's identifier is the digest
--- of its public key, which has the form that RFC 8554 gives it; key and endorsement are bytes.
+-- The service's key endorses the node's by this endorsement, and the node's identifier is the
+-- digest of its public key, which has the form that RFC 8554 gives it; key and endorsement are
+-- bytes.
 pub record IsNodeKey (keys : NodeKeys) (endorsement identity : List ℕ) (x : NodeId) : Type 0 where
   pub form : IsKey (public_of (keys.key_of x))
   pub stands : StandsUnder (keys.key_of x) (Some endorsement) identity

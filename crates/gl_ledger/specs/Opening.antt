@@ -15,8 +15,8 @@ use Rattle.gl_ledger.specs.Makers.{MakesValid}
 use Rattle.gl_ledger.specs.Sound.{IsUnrecovered}
 use Rattle.gl_ledger.specs.Audit.{opened}
 
--- The opening ledger is one that the check takes, of a service that was never recovered, and the node
--- that signed it is among those that start.
+-- The opening ledger is one that the check takes, of a service that was never recovered, and the
+-- node that signed it is among those that start.
 pub record Begins (layers : Layers) (s : Start Entry) : Type 0 where
   pub checked : opened layers s.opening ≡ Ok s.first
   pub unrecovered : IsUnrecovered s.opening

@@ -1,6 +1,6 @@
 -- How a service is founded anew, after a disaster, behind the last signature of its ledger (CCF
--- documentation, "Disaster Recovery"): by the entry of a recovery, which names another key and other
--- nodes, and by the signature of one of these that opens the service.
+-- documentation, "Disaster Recovery"): by the entry of a recovery, which names another key and
+-- other nodes, and by the signature of one of these that opens the service.
 use Rattle.std.specs.Prelude.{◌≡◌, ◌<◌, ◌≤◌, ◌+◌, ◌^◌, ℕ, List, [], ◌∷◌, ◌++◌, Option, None, Some, Result, Ok, Err, true, length, map}
 use Rattle.gl_base.specs.TxId.{last_seqno}
 use Rattle.gl_rules.specs.Identity.{NodeId, member}
@@ -68,9 +68,9 @@ recovered_of keys r x leaf ledger =
     (signature_behind keys x leaf (with_recovery r ledger) (recovery_view ledger)
     (length ledger + 2)) ledger
 
--- The ledger is valid and ends with a signature, and views and seqnos are left for two entries more.
--- The fields of the recovery are in their ranges, it is accepted, and a node that it names signs
--- validly behind it, with this leaf.
+-- The ledger is valid and ends with a signature, and views and seqnos are left for two entries
+-- more. The fields of the recovery are in their ranges, it is accepted, and a node that it names
+-- signs validly behind it, with this leaf.
 pub record Refounds (layers : Layers) (keys : NodeKeys) (ledger : List Entry) (r : Recovery)
     (x : NodeId) (leaf : ℕ) : Type 0 where
   pub valid : audited layers ledger ≡ None

@@ -30,9 +30,9 @@ use Rattle.gl_ledger.specs.Layers.{Layers}
 use Rattle.gl_ledger.specs.Recordings.{founds, recovers, begins, requests_of, recorded_nodes}
 use Rattle.gl_ledger.specs.Broken.{may_record, fault_of_signature}
 
--- The first entry founds the service, in the first view, and no other does. A recovery, which founds
--- it anew, stands right behind a signature, in the view after its. Behind each of them stands the
--- signature that opens the service, of the same view.
+-- The first entry founds the service, in the first view, and no other does. A recovery, which
+-- founds it anew, stands right behind a signature, in the view after its. Behind each of them
+-- stands the signature that opens the service, of the same view.
 pub record IsFounded (ledger : List Entry) : Type 0 where
   pub first : (e : Entry) → slice_get ledger 0 ≡ Some e →
       (founds e ≡ true) × (e.view ≡ first_view)
@@ -79,8 +79,8 @@ HasGovernedTables ledger =
     tables_of ledger map ≡ effect (requests_of ledger) map
 
 module _ (layers : Layers) where
-  -- A signature entry writes nothing. It is the valid signature of a recorded node, over the root of
-  -- the tree of all earlier entries, and records a commit that it may record.
+  -- A signature entry writes nothing. It is the valid signature of a recorded node, over the root
+  -- of the tree of all earlier entries, and records a commit that it may record.
   pub record IsSignatureEntry (before : List Entry) (e : Entry) (s : signatures.Signature) :
       Type 0 where
     pub writes : e.writes ≡ []

@@ -3,8 +3,8 @@
 ghost use Rattle.std.specs.Prelude.{◌≡◌, ◌<◌, ◌≤◌, ◌↔◌, ◌+◌, ◌^◌, ℕ, suc, List, [], ◌∷◌, ◌++◌, Option, None, Some, Ok, length, map, slice_get, true};
 ghost use Rattle.sha2.specs.Sha256.{sha256};
 ghost use Rattle.gl_base.specs.Bytes.{are_bytes};
-ghost use Rattle.gl_lms.specs.Secrets.{public_of};
-ghost use Rattle.gl_lms.specs.Tree.{IsKey, key_bytes};
+ghost use Rattle.gl_hss.specs.Secrets.{public_of};
+ghost use Rattle.gl_hss.specs.Tree.{IsKey, key_bytes};
 ghost use Rattle.gl_vmaps.specs.Tables.{value_in};
 ghost use Rattle.gl_tx.specs.declared.request.Operation.{Operation};
 ghost use Rattle.gl_entry.specs.declared.entry.Entry.{Entry};
@@ -59,8 +59,8 @@ pub fn is_kept_sound()
         IsSound layers (ledger ++ e ∷ []) }
 {}
 
-/// The audit finds the first entry that breaks a rule. A ledger in which it finds none is sound, and
-/// no commit that a signature of it records is below an earlier one.
+/// The audit finds the first entry that breaks a rule. A ledger in which it finds none is sound,
+/// and no commit that a signature of it records is below an earlier one.
 pub fn is_audited()
     ensures valid { (layers : Layers) (keys : NodeKeys) (ledger : List Entry) →
         audited layers ledger ≡ None ↔ EachFollows (ledger_book layers keys) ledger }
@@ -74,12 +74,12 @@ pub fn is_audited()
 {}
 
 /// A service that begins with a ledger which the check of an opening takes, and in which it was not
-/// recovered, begins as the rules of consensus ask, whatever nodes start. The check takes the opening
-/// ledger of each genesis that founds a service, and tells who signed it. The nodes of that genesis
-/// are recorded, in its order, and are the first configuration. Whatever entries follow, each has in
-/// its row the endorsement that the genesis names. The check takes the recovered ledger of each
-/// recovery that founds a service anew, too. Behind it the key that this names is in force, and of all
-/// nodes those that it names are trusted, in its order.
+/// recovered, begins as the rules of consensus ask, whatever nodes start. The check takes the
+/// opening ledger of each genesis that founds a service, and tells who signed it. The nodes of that
+/// genesis are recorded, in its order, and are the first configuration. Whatever entries follow,
+/// each has in its row the endorsement that the genesis names. The check takes the recovered ledger
+/// of each recovery that founds a service anew, too. Behind it the key that this names is in force,
+/// and of all nodes those that it names are trusted, in its order.
 pub fn is_opened()
     ensures opening { (layers : Layers) (keys : NodeKeys) (s : Start Entry) → Begins layers s →
         IsOpening (ledger_book layers keys) (EachFollows (ledger_book layers keys)) s }
@@ -118,9 +118,9 @@ pub fn is_opened()
         endorsement_in (genesis_entry g ∷ es) (node_id node) ≡ node.endorsement }
 {}
 
-/// Where an entry may be made, the book refuses no request of an application for a rule of the audit,
-/// behind a sound ledger none of governance, and no valid signature of a recorded node with a commit
-/// that the rules of consensus let it record.
+/// Where an entry may be made, the book refuses no request of an application for a rule of the
+/// audit, behind a sound ledger none of governance, and no valid signature of a recorded node with
+/// a commit that the rules of consensus let it record.
 pub fn is_unguarded()
     ensures executes { (layers : Layers) (keys : NodeKeys) (ledger : List Entry) (view : ℕ) →
         view < 2 ^ 32 → MayMake ledger view → (request : List Operation) →
@@ -139,9 +139,9 @@ pub fn is_unguarded()
 {}
 
 /// A node whose key the service's key endorses signs validly: by the test of signatures, and behind
-/// each ledger of its service in which the endorsement stands in the node's row, in an entry that has
-/// room for it. It stands there in each sound ledger, without a recovery, that records the node with
-/// its own key. The digest of the key in a row is the node's identifier.
+/// each ledger of its service in which the endorsement stands in the node's row, in an entry that
+/// has room for it. It stands there in each sound ledger, without a recovery, that records the node
+/// with its own key. The digest of the key in a row is the node's identifier.
 pub fn is_signed()
     ensures valid { (keys : NodeKeys) (endorsement identity : List ℕ) (x : NodeId) (leaf : ℕ)
         (message : List ℕ) → IsNodeKey keys endorsement identity x → leaf < leaf_count keys x →
@@ -162,8 +162,8 @@ pub fn is_signed()
         x ≡ sha256 (key_in ledger x) }
 {}
 
-/// What the test of an entry's signature means by RFC 8554: it has no fault exactly where it is valid
-/// and by the node's key.
+/// What the test of an entry's signature means by RFC 8554: it has no fault exactly where it is
+/// valid and by the node's key.
 pub fn is_meant()
     ensures signature { (identity : List ℕ) (x : NodeId) (message signature : List ℕ) →
         length identity ≡ 60 → are_bytes identity ≡ true → are_bytes signature ≡ true →

@@ -1,8 +1,11 @@
-//! The ledger of a service, without the state that a node keeps: the entries that are made behind it
-//! and why none is made, what its entries come to, the rules of the audit, and the ledger as the book
-//! that the rules of consensus read. A ledger's write sets make the maps of a key-value
-//! store (CCF documentation, "Key-Value Store"); those of governance tell who the members and the
-//! nodes are and whether the service is open ("Builtin Maps").
+//! The ledger of a service, without the state that a node keeps: the entries that are made behind
+//! it and why none is made, what its entries come to, the rules of the audit, and the ledger as the
+//! book that the rules of consensus read. A ledger's write sets make the maps of a key-value store
+//! (CCF documentation, "Key-Value Store"); those of governance tell who the members and the nodes
+//! are and whether the service is open ("Builtin Maps").
+//!
+//! Begin with the definitions `IsSound`, what a ledger must be, and `broken`, the rules of the
+//! audit.
 #![tactic(auto)]
 
 mod breach;

@@ -1,4 +1,6 @@
 //! The grammar of schedules: what happens to a service, line by line, and what is asked of it.
+//!
+//! Begin with `read_first_line` and `read_lines`.
 #![tactic(auto)]
 
 mod fault;

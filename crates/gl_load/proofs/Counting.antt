@@ -9,7 +9,7 @@ use Rattle.gl_ledger.specs.NodeKeys.{service_layers}
 use Rattle.gl_ledger.proofs.Auditing.{audited_all}
 use Rattle.gl_ledger.proofs.Lawful.{lawful, unbroken}
 use Rattle.gl_ledger.proofs.Opened.{begins_opening}
-use Rattle.gl_service.specs.Service.{ServiceEvent}
+use Rattle.gl_world.specs.Service.{ServiceEvent}
 use Rattle.gl_load.specs.Events.{events_up_to, load_ledger, signature_count}
 use Rattle.gl_load.specs.Founding.{load_book, load_id, load_keys, load_start}
 use Rattle.gl_load.specs.Report.{signatures_in}

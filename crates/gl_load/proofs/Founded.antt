@@ -3,12 +3,12 @@ use Rattle.std.proofs.Common.{◌≡◌, ℕ, List, [], ◌∷◌, length, None,
 use Rattle.std.proofs.lemmas.Bool.{and_parts, and_from}
 use Rattle.std.proofs.lemmas.Bool.Decides.{nat_tests}
 use Rattle.gl_base.specs.Bytes.{are_bytes, are_sized}
-use Rattle.gl_lms.specs.declared.types.Types.TheVariants.{H5W4, H10W4}
-use Rattle.gl_lms.specs.Profile.{key_of_seed}
-use Rattle.gl_lms.specs.Secrets.{PrivateKey, public_of}
-use Rattle.gl_lms.specs.Tree.{key_bytes}
-use Rattle.gl_lms.proofs.Octets.{length-seed_key, length-signed, seed_IsKey, seed_key_bytes, signed_bytes}
-use Rattle.gl_lms.proofs.Signing.{signature_by-Signs}
+use Rattle.gl_hss.specs.declared.types.Types.TheVariants.{H5W4, H10W4}
+use Rattle.gl_hss.specs.Profile.{key_of_seed}
+use Rattle.gl_hss.specs.Secrets.{PrivateKey, public_of}
+use Rattle.gl_hss.specs.Tree.{key_bytes}
+use Rattle.gl_hss.proofs.Octets.{length-seed_key, length-signed, seed_IsKey, seed_key_bytes, signed_bytes}
+use Rattle.gl_hss.proofs.Signing.{signature_by-Signs}
 use Rattle.gl_hss.specs.Hss.{IsEndorsed}
 use Rattle.gl_hss.specs.Order.{endorsement_verdict}
 use Rattle.gl_hss.specs.Signer.{StandsUnder}

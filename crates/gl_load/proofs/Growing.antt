@@ -8,7 +8,7 @@ use Rattle.gl_rules.specs.Requests.{reserve, sign, submit}
 use Rattle.gl_rules.specs.World.{Advance, Reserve, Sign}
 use Rattle.gl_rules.proofs.Lists.{push_append}
 use Rattle.gl_entry.specs.declared.entry.Entry.{Entry}
-use Rattle.gl_service.specs.Service.{ServiceEvent}
+use Rattle.gl_world.specs.Service.{ServiceEvent}
 use Rattle.gl_load.specs.Events.{events_up_to, node_behind, signature_count, signing, signs_behind, submitting}
 use Rattle.gl_load.specs.Founding.{load_book, load_id}
 use Rattle.gl_load.specs.Node.{IsRefused}

@@ -11,7 +11,7 @@ use Rattle.gl_tx.specs.declared.request.Operation.{Operation}
 use Rattle.gl_entry.specs.declared.entry.Entry.{Entry}
 use Rattle.gl_ledger.specs.declared.made.Given.{Given}
 use Rattle.gl_ledger.specs.declared.made.Unmade.{Unmade}
-use Rattle.gl_service.specs.Service.{ServiceEvent}
+use Rattle.gl_world.specs.Service.{ServiceEvent}
 use Rattle.gl_load.specs.Events.{node_behind}
 use Rattle.gl_load.specs.Founding.{load_book, load_id, load_start}
 

@@ -6,9 +6,9 @@ use Rattle.std.proofs.lemmas.Bool.Decides.{nat_tests}
 use Rattle.sha2.proofs.Facts256.{length-sha256}
 use Rattle.gl_base.specs.LittleEndian.{little_endian}
 use Rattle.gl_base.proofs.LittleEndianLaws.{length-little_endian}
-use Rattle.gl_lms.specs.Bytes.{u32str}
-use Rattle.gl_lms.proofs.Octets.{u32str_bytes}
-use Rattle.gl_lms.proofs.Spans.{length-u32str}
+use Rattle.gl_hss.specs.Bytes.{u32str}
+use Rattle.gl_hss.proofs.Octets.{u32str_bytes}
+use Rattle.gl_hss.proofs.Spans.{length-u32str}
 use Rattle.gl_vmaps.specs.Name.{is_key, is_value}
 use Rattle.gl_vmaps.specs.Tables.{Tables, wrote_all}
 use Rattle.gl_vmaps.specs.declared.write.Write.{Write}

@@ -7,7 +7,7 @@ use Rattle.gl_tx.specs.declared.request.Operation.{Operation}
 use Rattle.gl_ledger.specs.LedgerBook.{ServiceBook}
 use Rattle.gl_replication.specs.Holding.{Holding}
 use Rattle.gl_replication.specs.Stands.{StandsFor, Tells, held_by}
-use Rattle.gl_service.specs.Service.{ServiceEvent}
+use Rattle.gl_world.specs.Service.{ServiceEvent}
 use Rattle.gl_node.specs.Rules.{rule_of}
 use Rattle.gl_node.specs.Serving.{HoldsWhole}
 use Rattle.gl_node.specs.declared.event.Event.TheVariants as events

@@ -3,10 +3,10 @@ use Rattle.std.proofs.Common.{◌≡◌, ℕ, suc, ◌+◌, ◌<◌, ◌≤◌, 
 use Rattle.std.proofs.lemmas.Bool.Decides.{nat_tests}
 use Rattle.std.proofs.lemmas.List.Elements.{filter-append}
 use Rattle.gl_base.specs.TxId.{last_seqno}
-use Rattle.gl_lms.specs.declared.types.Types.TheVariants.{H10W4}
-use Rattle.gl_lms.specs.Secrets.{public_of}
-use Rattle.gl_lms.specs.Tree.{key_bytes}
-use Rattle.gl_lms.proofs.Octets.{seed_IsKey}
+use Rattle.gl_hss.specs.declared.types.Types.TheVariants.{H10W4}
+use Rattle.gl_hss.specs.Secrets.{public_of}
+use Rattle.gl_hss.specs.Tree.{key_bytes}
+use Rattle.gl_hss.proofs.Octets.{seed_IsKey}
 use Rattle.gl_rules.specs.Identity.{NodeId}
 use Rattle.gl_rules.specs.Log.{entry_at, is_signature_in}
 use Rattle.gl_rules.specs.Node.{Leader, Node, Role}
@@ -34,9 +34,9 @@ use Rattle.gl_ledger.specs.declared.refusal.Refusal.TheVariants.{SeqnoLimit}
 use Rattle.gl_ledger.proofs.Applications.{execute_within, request_made}
 use Rattle.gl_ledger.proofs.Openings.{state_of_opening}
 use Rattle.gl_ledger.proofs.TablesLaws.{tables_of-push}
-use Rattle.gl_service.specs.Service.{ServiceEvent}
-use Rattle.gl_service.proofs.Founded.{IsFoundedBy, leader_key, leader_signs_with_key}
-use Rattle.gl_service.proofs.Leading.{leader_executes}
+use Rattle.gl_world.specs.Service.{ServiceEvent}
+use Rattle.gl_world.proofs.Founded.{IsFoundedBy, leader_key, leader_signs_with_key}
+use Rattle.gl_world.proofs.Leading.{leader_executes}
 use Rattle.gl_world.specs.Keys.{node_seed}
 use Rattle.gl_load.specs.Events.{node_behind}
 use Rattle.gl_load.specs.Founding.{load_book, load_genesis, load_id, load_keys, load_node, load_settings, load_start}

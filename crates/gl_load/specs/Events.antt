@@ -4,7 +4,7 @@ use Rattle.gl_rules.specs.Node.{Node}
 use Rattle.gl_rules.specs.World.{Submit, Reserve, Sign, Advance}
 use Rattle.gl_entry.specs.declared.entry.Entry.{Entry}
 use Rattle.gl_ledger.specs.NodeKeys.{service_layers}
-use Rattle.gl_service.specs.Service.{ServiceEvent, node_of}
+use Rattle.gl_world.specs.Service.{ServiceEvent, node_of}
 use Rattle.gl_load.specs.Founding.{load_id, load_keys, load_start}
 use Rattle.gl_load.specs.Requests.{load_request}
 
@@ -37,6 +37,7 @@ node_behind seed events = node_of service_layers (load_keys seed) (load_start se
 abbrev pub load_ledger : List ℕ → ℕ → List Entry
 load_ledger seed count = (node_behind seed (events_up_to seed count count)).log
 
--- How often the node signs behind so many requests: once for each hundred, and once for what is left.
+-- How often the node signs behind so many requests: once for each hundred, and once for what is
+-- left.
 abbrev pub signature_count : ℕ → ℕ
 signature_count count = (count + 99) / 100

@@ -1,9 +1,9 @@
 -- The service of a load: one node that starts, and all keys from one seed.
 use Rattle.std.specs.Prelude.{ℕ, List, [], ◌∷◌}
-use Rattle.gl_lms.specs.declared.types.Types.TheVariants.{H10W4}
-use Rattle.gl_lms.specs.Tree.{key_bytes}
-use Rattle.gl_lms.specs.Secrets.{PrivateKey, public_of}
-use Rattle.gl_lms.specs.Profile.{key_of_seed}
+use Rattle.gl_hss.specs.declared.types.Types.TheVariants.{H10W4}
+use Rattle.gl_hss.specs.Tree.{key_bytes}
+use Rattle.gl_hss.specs.Secrets.{PrivateKey, public_of}
+use Rattle.gl_hss.specs.Profile.{key_of_seed}
 use Rattle.gl_rules.specs.Identity.{NodeId}
 use Rattle.gl_rules.specs.World.{Start}
 use Rattle.gl_entry.specs.declared.entry.Entry.{Entry}
@@ -23,8 +23,8 @@ use Rattle.gl_world.specs.Keys.{node_seed, private_key, service_seed}
 abbrev pub load_settings : List ℕ → Settings
 load_settings seed = record { starting = 1; joiners = 0; members = 1; state = Open; seed = seed }
 
--- The node's key grows from the seed of node 1 of these settings. It has 1,024 leaves: its types are
--- LMS_SHA256_M32_H10 and LMOTS_SHA256_N32_W4 (RFC 8554, sections 5.1 and 4.1).
+-- The node's key grows from the seed of node 1 of these settings. It has 1,024 leaves: its types
+-- are LMS_SHA256_M32_H10 and LMOTS_SHA256_N32_W4 (RFC 8554, sections 5.1 and 4.1).
 abbrev pub load_key : List ℕ → PrivateKey
 load_key seed = key_of_seed H10W4 (node_seed (load_settings seed) 1)
 

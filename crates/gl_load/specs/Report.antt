@@ -25,8 +25,9 @@ abbrev pub id_or_none : Option TxId → TxId
 id_or_none None = record { view = 0; seqno = 0 }
 id_or_none (Some id) = id
 
--- How many entries and signatures it has, how many bytes, how many keys of the map that the requests
--- write to, the transaction of its last entry, and the root of the tree over all its leaves.
+-- How many entries and signatures it has, how many bytes, how many keys of the map that the
+-- requests write to, the transaction of its last entry, and the root of the tree over all its
+-- leaves.
 abbrev pub report_of : List Entry → Report
 report_of ledger = record {
   entries = length ledger;

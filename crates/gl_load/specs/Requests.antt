@@ -2,7 +2,7 @@
 -- 2008) from its seed.
 use Rattle.std.specs.Prelude.{ℕ, ◌+◌, ◌*◌, ◌%◌, List, [], ◌∷◌, codes}
 use Rattle.rand_chacha.specs.ChaCha.{ChaCha, key_of, word_at}
-use Rattle.gl_lms.specs.Bytes.{u32str}
+use Rattle.gl_hss.specs.Bytes.{u32str}
 use Rattle.gl_tx.specs.declared.request.Operation.{Operation}
 use Rattle.gl_tx.specs.declared.request.Operation.TheVariants.{Put}
 

@@ -1,16 +1,16 @@
 //! The service of a load: its genesis, and its node's key.
 
 ghost use Rattle.std.specs.Prelude.{◌≡◌, ◌∷◌, ◌<◌, ◌^◌, [], IfOk};
-ghost use Rattle.gl_lms.specs.Secrets.{public_of};
-ghost use Rattle.gl_lms.specs.Tree.{key_bytes};
-ghost use Rattle.gl_lms.specs.Types.{height};
+ghost use Rattle.gl_hss.specs.Secrets.{public_of};
+ghost use Rattle.gl_hss.specs.Tree.{key_bytes};
+ghost use Rattle.gl_hss.specs.Types.{height};
 ghost use Rattle.gl_world.specs.Founding.{endorsement_by, genesis_of};
 ghost use Rattle.gl_world.specs.Group.{IsGroup};
 ghost use Rattle.gl_world.specs.Keys.{node_seed};
 ghost use Rattle.gl_load.specs.Founding.{load_settings};
 
 use gl_base::{Bytes, Sequence};
-use gl_lms::{LmsKey, Types};
+use gl_hss::{LmsKey, Types};
 use gl_requests::{Genesis, NewNode, ServiceState};
 use gl_world::{Founding, Settings, node_seed, service_key};
 use std::alloc::{AllocError, Global};
@@ -96,8 +96,8 @@ impl LoadFounding {
     ghost use Rattle.gl_ledger.specs.Opening.{Founds};
     ghost use Rattle.gl_load.specs.Founding.{load_genesis, load_id, load_key, load_keys};
 
-    /// The service of this seed, which its node can found. Making it grows each key once, that of its
-    /// node by some million digests. Fails for want of memory alone.
+    /// The service of this seed, which its node can found. Making it grows each key once, that of
+    /// its node by some million digests. Fails for want of memory alone.
     pub fn make(alloc: Global, seed: &[u8; 32]) -> Result<LoadFounding, AllocError>
         ensures key { IfOk result (λ f. f.key ≡ load_key seed.now) }
         ensures genesis { IfOk result (λ f. f.genesis ≡ load_genesis seed.now) }

@@ -1,6 +1,8 @@
 //! A ledger of any size, made and audited on one machine: a service of one node takes requests that
 //! are drawn from a seed, signs behind each hundred of them, and tells of the ledger that it has
 //! then.
+//!
+//! Begin with `load`.
 #![tactic(auto)]
 
 mod founding;

@@ -13,7 +13,7 @@ use crate::node::{node_at_start, take_request};
 use crate::onlooker::Onlooker;
 use crate::report::Report;
 use crate::totals::report;
-use gl_client_book::ClientBook;
+use gl_answers::ClientBook;
 use gl_node::{KeptBook, Replica};
 use rand_chacha::ChaCha8Rng;
 use rand_core::SeedableRng;

@@ -1,7 +1,7 @@
 //! The requests of a load, drawn from its seed.
 
 ghost use Rattle.std.specs.Prelude.{◌≡◌, ℕ, ◌+◌, ◌<◌, ◌^◌, List, IfOk};
-ghost use Rattle.gl_lms.specs.Bytes.{u32str};
+ghost use Rattle.gl_hss.specs.Bytes.{u32str};
 ghost use Rattle.gl_tx.specs.declared.request.Operation.TheVariants.{Put};
 ghost use Rattle.gl_load.specs.Requests.{load_map, load_request, words_behind};
 
@@ -15,7 +15,7 @@ use std::alloc::{AllocError, Global};
 pub(crate) const LOAD_MAP: &[u8] = b"public:load";
 
 /// The operation that puts a number at another one.
-#[tactic(auto, unfolding(gl_lms::specs::Bytes::u32str))]
+#[tactic(auto, unfolding(gl_hss::specs::Bytes::u32str))]
 fn put(alloc: Global, key: u32, value: u32) -> Result<Operation, AllocError>
     ensures { IfOk result (λ operation. operation ≡ Put load_map (u32str key) (u32str value)) }
 {

@@ -1,4 +1,5 @@
--- Where two ways that end at one root meet: two inputs of the inner hash that differ and have one digest.
+-- Where two ways that end at one root meet: two inputs of the inner hash that differ and have one
+-- digest.
 use Rattle.std.specs.Prelude.{◌≡◌, ◌≢◌, ◌⊎◌, ℕ, List, [], ◌∷◌, ◌++◌}
 use Rattle.sha2.specs.Sha256.{sha256}
 use Rattle.gl_merkle.specs.declared.tree.Step.{Step}

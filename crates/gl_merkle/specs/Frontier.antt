@@ -3,8 +3,8 @@ use Rattle.std.specs.Prelude.{◌≡◌, ℕ, ◌+◌, ◌%◌, ◌≤◌, List,
 use Rattle.gl_merkle.specs.Peaks.{peaks_of}
 use Rattle.gl_merkle.specs.Levels.{Level, nodes_of, rooms_of, AreSized, AreRoomy, Cover}
 
--- A list of leaves: `base` of them are known by their `peaks` alone, greatest first, and behind these stand `leaves`. So
--- many pushes as `spare` says take no memory.
+-- A list of leaves: `base` of them are known by their `peaks` alone, greatest first, and behind
+-- these stand `leaves`. So many pushes as `spare` says take no memory.
 pub record Content : Type 0 where
   pub base : ℕ
   pub peaks : List (List ℕ)
@@ -38,7 +38,8 @@ IsUnchanged old new = HasLeaves old new old.leaves
 abbrev pub leaves_above : ℕ → List Level → List (List ℕ)
 leaves_above b levels = drop (b % 2) (slice_index_or (nodes_of levels) 0 [])
 
--- these levels, over a base of b leaves with these peaks, are those of len leaves, with room for those up to limit
+-- these levels, over a base of b leaves with these peaks, are those of len leaves, with room for
+-- those up to limit
 pub record AreLevels (b : ℕ) (peaks : List (List ℕ)) (len limit : ℕ) (levels : List Level) : Type 0 where
   pub height : length levels ≡ 64
   pub from_base : b ≤ len

@@ -1,6 +1,7 @@
--- The levels of a frontier: level k has the roots of the complete subtrees of 2 ^ k leaves, in order. Over a base of b
--- leaves a level leaves out what lies whole below the base, but for a peak: of the complete nodes that it would have, it
--- holds those from place b / 2 ^ k on, rounded down to an even place. So the next level's base is half of this one's.
+-- The levels of a frontier: level k has the roots of the complete subtrees of 2 ^ k leaves, in
+-- order. Over a base of b leaves a level leaves out what lies whole below the base, but for a peak:
+-- of the complete nodes that it would have, it holds those from place b / 2 ^ k on, rounded down to
+-- an even place. So the next level's base is half of this one's.
 use Rattle.std.specs.Prelude.{◌≡◌, ℕ, zero, suc, ◌+◌, ◌-◌, ◌*◌, ◌/◌, ◌%◌, ◌<◌, ◌≤◌, List, [], ◌∷◌, ◌++◌, Option, Some, None, option_to_list, length, take, drop, map, slice_index_or, nat_eq, nat_lt, if◌then◌else◌, vec_len, vec_capacity}
 use Rattle.std.specs.declared.alloc.Global.{Global}
 use Rattle.std.specs.declared.vec.Vec.{Vec}

@@ -4,8 +4,8 @@ use Rattle.gl_merkle.specs.declared.tree.Step.{Step}
 use Rattle.gl_merkle.specs.declared.tree.Step.TheVariants.{Left, Right}
 use Rattle.gl_merkle.specs.Tree.{inner_of, root_within}
 
--- The steps from the leaf at this index, counted from 1, up to the root of at most 2 ^ h leaves: those within its
--- part of the tree, and then the root of the other part.
+-- The steps from the leaf at this index, counted from 1, up to the root of at most 2 ^ h leaves:
+-- those within its part of the tree, and then the root of the other part.
 unfoldable pub path_within : ℕ → List (List ℕ) → ℕ → List Step
 path_within zero leaves index = []
 path_within (suc h) leaves index =

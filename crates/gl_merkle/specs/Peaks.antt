@@ -1,10 +1,10 @@
--- The peaks of a list of leaves: the roots of its complete subtrees, greatest first, of which there are as many as the
--- number of leaves has ones in binary. The root follows from them alone.
+-- The peaks of a list of leaves: the roots of its complete subtrees, greatest first, of which there
+-- are as many as the number of leaves has ones in binary. The root follows from them alone.
 use Rattle.std.specs.Prelude.{ℕ, zero, suc, ◌^◌, List, [], ◌∷◌, length, take, drop, nat_le, if◌then◌else◌}
 use Rattle.gl_merkle.specs.Tree.{inner_of, root_within}
 
--- the peaks of fewer than 2 ^ h leaves: where there are half of 2 ^ h or more, their root comes first, and then the
--- peaks of the rest
+-- the peaks of fewer than 2 ^ h leaves: where there are half of 2 ^ h or more, their root comes
+-- first, and then the peaks of the rest
 unfoldable pub peaks_within : ℕ → List (List ℕ) → List (List ℕ)
 peaks_within zero leaves = []
 peaks_within (suc h) leaves =
@@ -16,7 +16,8 @@ peaks_within (suc h) leaves =
 unfoldable pub peaks_of : List (List ℕ) → List (List ℕ)
 peaks_of leaves = peaks_within (length leaves) leaves
 
--- the root of the tree with these peaks: the last two are joined, then the one before with that node, and so on
+-- the root of the tree with these peaks: the last two are joined, then the one before with that
+-- node, and so on
 abbrev pub root_of_peaks : List (List ℕ) → List ℕ
 root_of_peaks [] = []
 root_of_peaks (peak ∷ []) = peak

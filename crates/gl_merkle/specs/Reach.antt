@@ -1,5 +1,5 @@
--- Where a way can begin that ends at the root of a list of leaves: at a leaf, whose path it is, or else two inputs of
--- the hash are at hand that tell it apart, whatever the hash is.
+-- Where a way can begin that ends at the root of a list of leaves: at a leaf, whose path it is, or
+-- else two inputs of the hash are at hand that tell it apart, whatever the hash is.
 use Rattle.std.specs.Prelude.{◌≡◌, ◌≢◌, ◌⊎◌, ℕ, zero, suc, ◌-◌, ◌^◌, ◌≤◌, List, [], ◌∷◌, ◌++◌, Contains, length, take, drop, nat_le, slice_index_or, if◌then◌else◌}
 use Rattle.sha2.specs.Sha256.{sha256}
 use Rattle.gl_merkle.specs.declared.tree.Step.{Step}

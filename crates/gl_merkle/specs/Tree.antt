@@ -1,5 +1,5 @@
--- The Merkle tree over a list of digests, each a list of bytes: the tree of RFC 9162, section 2.1.1, over leaves that
--- are hashed already, with no byte before a node's children.
+-- The Merkle tree over a list of digests, each a list of bytes: the tree of RFC 9162, section
+-- 2.1.1, over leaves that are hashed already, with no byte before a node's children.
 use Rattle.std.specs.Prelude.{ℕ, zero, suc, ◌^◌, List, [], ◌++◌, length, take, drop, nat_le, slice_index_or, if◌then◌else◌}
 use Rattle.sha2.specs.Sha256.{sha256}
 
@@ -7,8 +7,8 @@ use Rattle.sha2.specs.Sha256.{sha256}
 abbrev pub inner_of : List ℕ → List ℕ → List ℕ
 inner_of left right = sha256 (left ++ right)
 
--- The root of at most 2 ^ h leaves. One leaf is its own root. Where there are more than half of 2 ^ h, so that half of
--- it is the greatest power of two below their number, the tree is split there.
+-- The root of at most 2 ^ h leaves. One leaf is its own root. Where there are more than half of 2 ^
+-- h, so that half of it is the greatest power of two below their number, the tree is split there.
 unfoldable pub root_within : ℕ → List (List ℕ) → List ℕ
 root_within zero leaves = slice_index_or leaves 0 []
 root_within (suc h) leaves =

@@ -84,8 +84,8 @@ impl Frontier {
         self.len
     }
 
-    /// Makes room: the next `more` pushes take no memory. Where room lacks, as many leaves more as are
-    /// held find it too, so that a reserve before each push costs no more than the pushes.
+    /// Makes room: the next `more` pushes take no memory. Where room lacks, as many leaves more as
+    /// are held find it too, so that a reserve before each push costs no more than the pushes.
     pub fn reserve(&mut self, more: usize) -> Result<(), AllocError>
         ensures ok { OnOk result (more ≤ self.new.spare) }
         ensures kept { self.old.spare ≤ self.new.spare }

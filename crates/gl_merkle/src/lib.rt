@@ -4,6 +4,8 @@
 //! The tree is the one of RFC 9162, section 2.1, over digests that are hashed already: one leaf is
 //! its own root; the tree of `n` leaves is split at the greatest power of two below `n`; an inner
 //! node is the SHA-256 of its left and then its right child, 64 bytes.
+//!
+//! Begin with `Frontier`.
 #![tactic(auto)]
 
 pub use frontier::Frontier;

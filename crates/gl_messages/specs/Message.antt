@@ -68,8 +68,8 @@ body_fits ProposeVote = true
 
 -- Which values they are
 
--- The entries stand one behind the other from a place on, in views that begin at one at least, never
--- fall, and are the message's at most.
+-- The entries stand one behind the other from a place on, in views that begin at one at least,
+-- never fall, and are the message's at most.
 abbrev pub are_behind : ℕ → ℕ → ℕ → List Entry → Bool
 are_behind most view seqno [] = true
 are_behind most view seqno (e ∷ es) =

@@ -1,5 +1,5 @@
--- Messages of nodes read from bytes, and the first fault from the left. Places are counted in all of
--- the message's bytes, also inside an entry.
+-- Messages of nodes read from bytes, and the first fault from the left. Places are counted in all
+-- of the message's bytes, also inside an entry.
 use Rattle.std.specs.Prelude.{ℕ, zero, suc, ◌+◌, ◌-◌, ◌^◌, List, [], ◌∷◌, Bool, Result, Ok, Err, min, nat_le, nat_lt, ◌||◌, ◌==◌, if◌then◌else◌}
 use Rattle.gl_base.specs.Steps.{◌>>=◌}
 use Rattle.gl_base.specs.Cut.{Unread, bytes_at, number_at}

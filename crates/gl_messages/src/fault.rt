@@ -21,8 +21,8 @@ pub enum FrameFault {
 /// first byte of the message, from 0, also inside its entries.
 #[derive(Clone, Copy, Debug, PartialEq, Eq, Error)]
 pub enum MessageFault {
-    /// A field is cut short, or holds what is not allowed there; or bytes are left over; or an entry
-    /// that begins at the place passes the limit on bytes of an Append's entries.
+    /// A field is cut short, or holds what is not allowed there; or bytes are left over; or an
+    /// entry that begins at the place passes the limit on bytes of an Append's entries.
     #[error("the message has a bad field")]
     Code(CodeFault),
     /// An entry of an Append is none.

@@ -51,8 +51,8 @@ impl Frames {
         }
     }
 
-    /// Keeps bytes that came, behind those that are kept. Want of memory keeps none of them; the call
-    /// may then be tried again, but on a stream that is lost.
+    /// Keeps bytes that came, behind those that are kept. Want of memory keeps none of them; the
+    /// call may then be tried again, but on a stream that is lost.
     pub fn feed(&mut self, bytes: &[u8]) -> Result<(), AllocError>
         ensures ok { OnOk result (self.new ≡ self.old ++ bytes.now) }
         ensures err { OnErr result (self.new ≡ self.old) }

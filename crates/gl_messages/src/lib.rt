@@ -1,5 +1,7 @@
 //! What nodes send to one another, what clients ask and are answered, and the frames in which these
 //! stand on a stream.
+//!
+//! Begin with `Message`, and `Frames`.
 #![tactic(auto)]
 
 mod answer;

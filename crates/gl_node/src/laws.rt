@@ -1,4 +1,5 @@
-//! What is promised of the leaves of a file through any events, faults and stops: laws, and no code.
+//! What is promised of the leaves of a file through any events, faults and stops: laws, and no
+//! code.
 
 ghost use Rattle.gl_node.specs.Leaves.{NoLeafTwice, ReservedBefore};
 

@@ -1,5 +1,7 @@
 //! A node of the service that serves from a file: one event at a time goes through the rules, is
 //! kept on the disk, and only then does anything leave.
+//!
+//! Begin with `Replica::event`.
 #![tactic(auto)]
 
 mod change;

@@ -19,9 +19,9 @@ use gl_outside::Disk;
 use gl_replication::{Core, Done};
 use std::marker::Model;
 
-/// A node that serves from a file. It is seen as the node, the disk with the file on it, and whether
-/// the disk failed. The node stands for one of the rules, and until the disk fails its file keeps
-/// it.
+/// A node that serves from a file. It is seen as the node, the disk with the file on it, and
+/// whether the disk failed. The node stands for one of the rules, and until the disk fails its file
+/// keeps it.
 #[derive(Drop)]
 pub struct Replica<D: Disk, B: KeptBook> {
     core: Core<B>,
@@ -94,8 +94,8 @@ impl<D: Disk, B: KeptBook> Replica<D, B> {
             (d : State) → durable B.goes_on (D.bytes self.old.disk) ≡ Ok d →
             (image : List ℕ) → IsImage (D.past self.new.disk) image →
             durable B.goes_on image ≡ Ok (kept_after d (rule_of event b x n).node))) }
-        // At every moment, also where the disk fails, a stop leaves a file that keeps the node as it
-        // was or as the rule makes it.
+        // At every moment, also where the disk fails, a stop leaves a file that keeps the node as
+        // it was or as the rule makes it.
         ensures any_moment { IsTrue D.honest → self.old.stopped ≡ None →
             Tells B.stands self.old.core (λ b x n.
             (d : State) → durable B.goes_on (D.bytes self.old.disk) ≡ Ok d →

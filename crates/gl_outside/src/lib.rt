@@ -1,4 +1,6 @@
 //! The outside: where bytes come from and where they go, each with a count of its faults.
+//!
+//! Begin with the traits `Source`, `Sink`, `Disk` and `Link`.
 #![tactic(auto)]
 
 mod disk;

@@ -1,6 +1,8 @@
 //! Receipts (CCF documentation, "Receipts"): the proof that a service signed a transaction, for
 //! whoever knows the service's key and nothing else. They are verified, and read and written as
 //! JSON.
+//!
+//! Begin with `Receipt`: `make` gives one, `verify` verifies it.
 #![tactic(auto)]
 
 mod components;

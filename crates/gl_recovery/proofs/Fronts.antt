@@ -9,7 +9,7 @@ use Rattle.gl_base.specs.LittleEndian.{from_little_endian}
 use Rattle.gl_base.specs.Steps.{◌>>=◌}
 use Rattle.gl_base.specs.declared.or_no_memory.OrNoMemory.{OrNoMemory}
 use Rattle.gl_base.specs.declared.or_no_memory.OrNoMemory.TheVariants.{Fault}
-use Rattle.gl_ledger_file.specs.Given.{OfBytes}
+use Rattle.gl_entry.specs.Given.{OfBytes}
 use Rattle.gl_recovery.specs.Front.{TakesSettings, len_within, parts_behind, parts_of, settings_len}
 use Rattle.gl_recovery.specs.declared.recovering_fault.RecoveringFault.{RecoveringFault}
 use Rattle.gl_recovery.specs.declared.recovering_fault.RecoveringFault.TheVariants as faults

@@ -19,12 +19,12 @@ use Rattle.gl_ledger.proofs.Auditing.{audited_none}
 use Rattle.gl_ledger.proofs.Faults.{broken_behind}
 use Rattle.gl_ledger.proofs.Passing.{passing}
 use Rattle.gl_ledger.proofs.Valid.{valid-push}
-use Rattle.gl_ledger_file.specs.Given.{OfBytes}
-use Rattle.gl_ledger_file.specs.LedgerFile.{LedgerFile, ledger_file, no_entries, with_entries}
-use Rattle.gl_ledger_file.specs.Reading.{Consumes, IsNext}
-use Rattle.gl_ledger_file.specs.declared.next.Next.{Next}
-use Rattle.gl_ledger_file.specs.declared.next.Next.TheVariants as nexts
-use Rattle.gl_ledger_file.proofs.Reading.{consumes_none, consumes_then, of_all, of_consumed, of_map}
+use Rattle.gl_entry.specs.Given.{OfBytes}
+use Rattle.gl_entry.specs.LedgerFile.{LedgerFile, ledger_file, no_entries, with_entries}
+use Rattle.gl_entry.specs.FileReading.{Consumes, IsNext}
+use Rattle.gl_entry.specs.declared.next.Next.{Next}
+use Rattle.gl_entry.specs.declared.next.Next.TheVariants as nexts
+use Rattle.gl_entry.proofs.Reading.{consumes_none, consumes_then, of_all, of_consumed, of_map}
 use Rattle.gl_audit.specs.Committed.{Held}
 use Rattle.gl_recovery.specs.Answers.{AnswersOn, FailsOn}
 use Rattle.gl_recovery.specs.OldLedger.{IsRefused, unless_broken, unless_empty, unless_unread, valid_ledger}

@@ -8,7 +8,7 @@ use Rattle.gl_base.specs.TxId.{last_seqno}
 use Rattle.gl_base.specs.Steps.{◌>>=◌}
 use Rattle.gl_base.specs.declared.or_no_memory.OrNoMemory.{OrNoMemory}
 use Rattle.gl_base.specs.declared.or_no_memory.OrNoMemory.TheVariants.{NoMemory, Fault}
-use Rattle.gl_lms.specs.Secrets.{PrivateKey}
+use Rattle.gl_hss.specs.Secrets.{PrivateKey}
 use Rattle.gl_hss.specs.Signer.{hss_signature}
 use Rattle.gl_entry.specs.Entry.{frame_bytes}
 use Rattle.gl_entry.specs.declared.entry.Entry.{Entry}
@@ -23,9 +23,9 @@ use Rattle.gl_ledger.specs.Ledger.{message_behind, signature_entry}
 use Rattle.gl_ledger.specs.Recovery.{recovery_entry, recovery_result, recovery_view, with_recovery}
 use Rattle.gl_ledger.specs.declared.refusal.Refusal.{Refusal}
 use Rattle.gl_ledger.specs.declared.refusal.Refusal.TheVariants as refusals
-use Rattle.gl_ledger_file.specs.LedgerFile.{LedgerFile, ledger_file}
-use Rattle.gl_ledger_file.specs.Given.{OfBytes}
-use Rattle.gl_ledger_file.proofs.Reading.{of_map}
+use Rattle.gl_entry.specs.LedgerFile.{LedgerFile, ledger_file}
+use Rattle.gl_entry.specs.Given.{OfBytes}
+use Rattle.gl_entry.proofs.Reading.{of_map}
 use Rattle.gl_recovery.specs.Answers.{AnswersOn, FailsOn}
 use Rattle.gl_recovery.specs.OldLedger.{has_room, is_read_whole, signed_front, unless_broken, unless_empty, unless_unread, valid_ledger, with_signature}
 use Rattle.gl_recovery.specs.Owed.{fault_of, first_endorsement, id_of, in_frames, recovered_from, recovery_owed, refounded, unless_refused}

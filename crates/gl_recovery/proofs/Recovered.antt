@@ -10,8 +10,8 @@ use Rattle.gl_requests.specs.declared.genesis.Recovery.{Recovery}
 use Rattle.gl_forms.specs.Settings.{recovery_in}
 use Rattle.gl_forms.specs.Text.{from_text}
 use Rattle.gl_journal.specs.declared.key.Key.{Key}
-use Rattle.gl_ledger_file.specs.Given.{OfBytes}
-use Rattle.gl_ledger_file.proofs.Reading.{of_all, of_map}
+use Rattle.gl_entry.specs.Given.{OfBytes}
+use Rattle.gl_entry.proofs.Reading.{of_all, of_map}
 use Rattle.gl_recovery.specs.Answers.{FailsOn}
 use Rattle.gl_recovery.specs.Front.{Parts, TakesSettings, parts_of}
 use Rattle.gl_recovery.specs.Owed.{in_frames, recovery_owed}

@@ -7,9 +7,9 @@ use Rattle.sha2.specs.Sha256.{sha256}
 use Rattle.gl_base.specs.Bytes.{are_bytes, are_sized}
 use Rattle.gl_base.proofs.Lists.{slice_get-last}
 use Rattle.gl_base.proofs.Steps.{bind_ok}
-use Rattle.gl_lms.specs.Types.{height}
-use Rattle.gl_lms.specs.Tree.{IsKey, key_bytes}
-use Rattle.gl_lms.specs.Secrets.{PrivateKey, public_of}
+use Rattle.gl_hss.specs.Types.{height}
+use Rattle.gl_hss.specs.Tree.{IsKey, key_bytes}
+use Rattle.gl_hss.specs.Secrets.{PrivateKey, public_of}
 use Rattle.gl_hss.specs.Signer.{StandsUnder}
 use Rattle.gl_merkle.specs.Tree.{root_of}
 use Rattle.gl_rules.specs.Identity.{NodeId, member}
@@ -48,8 +48,8 @@ use Rattle.gl_ledger.proofs.Roots.{root_is_digest}
 use Rattle.gl_ledger.proofs.SignatureEntries.{signed_fits}
 use Rattle.gl_ledger.proofs.TablesLaws.{tables_of-push}
 use Rattle.gl_ledger.proofs.Valid.{valid-push, valid_sound}
-use Rattle.gl_ledger_file.specs.LedgerFile.{LedgerFile, ledger_file}
-use Rattle.gl_ledger_file.proofs.Spelled.{file_of_frames}
+use Rattle.gl_entry.specs.LedgerFile.{LedgerFile, ledger_file}
+use Rattle.gl_entry.proofs.Spelled.{file_of_frames}
 use Rattle.gl_audit.proofs.Cutting.{audited-take}
 use Rattle.gl_recovery.specs.OldLedger.{has_room, signed_front, unless_broken, unless_empty, unless_unread, valid_ledger, with_signature}
 use Rattle.gl_recovery.specs.Owed.{IsFirstKey, first_endorsement, id_of, recovered_from, recovery_owed, refounded, reopening_signature, unless_refused}

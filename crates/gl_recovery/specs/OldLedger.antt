@@ -10,7 +10,7 @@ use Rattle.gl_ledger.specs.Broken.{broken, last_signed}
 use Rattle.gl_ledger.specs.NodeKeys.{service_layers}
 use Rattle.gl_ledger.specs.Recovery.{recovery_view}
 use Rattle.gl_ledger.specs.declared.breach.Broken.{Broken}
-use Rattle.gl_ledger_file.specs.LedgerFile.{LedgerFile}
+use Rattle.gl_entry.specs.LedgerFile.{LedgerFile}
 use Rattle.gl_recovery.specs.declared.fault.RecoveryFault.{RecoveryFault}
 use Rattle.gl_recovery.specs.declared.fault.RecoveryFault.TheVariants as faults
 
@@ -32,16 +32,16 @@ abbrev pub unless_empty : {X : Type 0} → List Entry → Result X RecoveryFault
 unless_empty [] rest = Err (faults.Audit 1 3)
 unless_empty (e ∷ es) rest = rest
 
--- The entries of a ledger file that is a valid ledger, of whatever service; or where it first breaks
--- a rule, and which, as the audit of the file tells it.
+-- The entries of a ledger file that is a valid ledger, of whatever service; or where it first
+-- breaks a rule, and which, as the audit of the file tells it.
 unfoldable pub valid_ledger : LedgerFile → Result (List Entry) RecoveryFault
 valid_ledger file =
     unless_broken (audited service_layers file.entries) (
     unless_unread (suc (length file.entries)) file.fault (
     unless_empty file.entries (Ok file.entries)))
 
--- An entry is refused for the first rule that it breaks behind a ledger, at its seqno; or memory ran
--- out.
+-- An entry is refused for the first rule that it breaks behind a ledger, at its seqno; or memory
+-- ran out.
 abbrev pub IsRefused : List Entry → Entry → OrNoMemory RecoveryFault → Type 0
 IsRefused ledger e NoMemory = Unit {0}
 IsRefused ledger e (Fault fault) =
@@ -63,8 +63,8 @@ abbrev pub with_signature : List Entry → Result (List Entry) RecoveryFault
 with_signature ledger =
     if last_signed ledger == 0 then Err faults.NothingSigned else Ok (signed_front ledger)
 
--- Behind a ledger a view is left, that of a recovery, and two seqnos: that of the recovery, and that
--- of the signature that opens the service.
+-- Behind a ledger a view is left, that of a recovery, and two seqnos: that of the recovery, and
+-- that of the signature that opens the service.
 abbrev pub has_room : List Entry → Result (Unit {0}) RecoveryFault
 has_room ledger =
     if nat_le (2 ^ 32) (recovery_view ledger) then Err faults.ViewLimit

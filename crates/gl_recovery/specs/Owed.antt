@@ -1,11 +1,11 @@
--- What is owed for the recovery of a ledger file: the ledger of the service that is founded anew, or
--- why none is.
+-- What is owed for the recovery of a ledger file: the ledger of the service that is founded anew,
+-- or why none is.
 use Rattle.std.specs.Prelude.{◌≡◌, ℕ, ◌+◌, List, [], ◌∷◌, Some, Result, Ok, Err, length}
 use Rattle.std.specs.List.{flat_map}
 use Rattle.sha2.specs.Sha256.{sha256}
 use Rattle.gl_base.specs.Steps.{◌>>=◌}
-use Rattle.gl_lms.specs.Tree.{key_bytes}
-use Rattle.gl_lms.specs.Secrets.{PrivateKey, public_of}
+use Rattle.gl_hss.specs.Tree.{key_bytes}
+use Rattle.gl_hss.specs.Secrets.{PrivateKey, public_of}
 use Rattle.gl_hss.specs.Signer.{hss_signature}
 use Rattle.gl_entry.specs.Entry.{frame_bytes}
 use Rattle.gl_entry.specs.declared.entry.Entry.{Entry}
@@ -16,7 +16,7 @@ use Rattle.gl_ledger.specs.Ledger.{message_behind}
 use Rattle.gl_ledger.specs.Recovery.{recovered_ledger, recovery_result, recovery_view, with_recovery}
 use Rattle.gl_ledger.specs.declared.refusal.Refusal.{Refusal}
 use Rattle.gl_ledger.specs.declared.refusal.Refusal.TheVariants as refusals
-use Rattle.gl_ledger_file.specs.LedgerFile.{ledger_file}
+use Rattle.gl_entry.specs.LedgerFile.{ledger_file}
 use Rattle.gl_recovery.specs.OldLedger.{has_room, valid_ledger, with_signature}
 use Rattle.gl_recovery.specs.declared.fault.RecoveryFault.{RecoveryFault}
 use Rattle.gl_recovery.specs.declared.fault.RecoveryFault.TheVariants as faults
@@ -36,7 +36,8 @@ first_endorsement [] = []
 first_endorsement (n ∷ ns) = n.endorsement
 
 -- What opens the service anew: an HSS signature of two levels (RFC 8554, section 6.2), with the
--- endorsement of the first node that the recovery names, over what a node signs behind the recovery.
+-- endorsement of the first node that the recovery names, over what a node signs behind the
+-- recovery.
 abbrev pub reopening_signature : Recovery → PrivateKey → ℕ → List Entry → List ℕ
 reopening_signature r by leaf ledger =
     hss_signature by (Some (first_endorsement r.nodes)) leaf

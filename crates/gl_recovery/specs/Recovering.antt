@@ -4,11 +4,11 @@ use Rattle.std.specs.Prelude.{ℕ, ◌^◌, List, [], ◌∷◌, Bool, true, fal
 use Rattle.gl_base.specs.Bytes.{same_bytes}
 use Rattle.gl_base.specs.Steps.{◌>>=◌}
 use Rattle.gl_base.specs.declared.json.FormsFault.{FormsFault}
-use Rattle.gl_lms.specs.Types.{height}
-use Rattle.gl_lms.specs.Tree.{key_bytes}
-use Rattle.gl_lms.specs.Secrets.{PrivateKey, public_of}
-use Rattle.gl_lms.specs.Profile.{key_of_seed}
-use Rattle.gl_lms.specs.declared.types.Types.{Types}
+use Rattle.gl_hss.specs.Types.{height}
+use Rattle.gl_hss.specs.Tree.{key_bytes}
+use Rattle.gl_hss.specs.Secrets.{PrivateKey, public_of}
+use Rattle.gl_hss.specs.Profile.{key_of_seed}
+use Rattle.gl_hss.specs.declared.types.Types.{Types}
 use Rattle.gl_requests.specs.Spelling.{node_id}
 use Rattle.gl_requests.specs.declared.genesis.NewNode.{NewNode}
 use Rattle.gl_requests.specs.declared.genesis.Recovery.{Recovery}
@@ -91,7 +91,7 @@ owed_for key leaf parts =
 unfoldable pub owed_by : Key → ℕ → List ℕ → Result (List ℕ) RecoveringFault
 owed_by key leaf given = parts_of given >>= owed_for key leaf
 
--- What is owed to all the bytes that a source gives, by a key file that opened to a state: the frames
--- of the new ledger, signed with the next leaf of the file's key, or the first refusal.
+-- What is owed to all the bytes that a source gives, by a key file that opened to a state: the
+-- frames of the new ledger, signed with the next leaf of the file's key, or the first refusal.
 abbrev pub recover_owed : Durable → List ℕ → Result (List ℕ) RecoveringFault
 recover_owed state = owed_by state.key state.reserved

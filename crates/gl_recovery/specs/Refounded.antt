@@ -1,7 +1,7 @@
 -- The ledger of a service that was founded anew, as those see it who take it.
 use Rattle.std.specs.Prelude.{◌≡◌, ℕ, ◌<◌, List, [], ◌∷◌, ◌++◌, None, Ok, map}
 use Rattle.std.specs.List.{flat_map}
-use Rattle.gl_lms.specs.Secrets.{PrivateKey}
+use Rattle.gl_hss.specs.Secrets.{PrivateKey}
 use Rattle.gl_entry.specs.Entry.{frame_bytes}
 use Rattle.gl_entry.specs.declared.entry.Entry.{Entry}
 use Rattle.gl_requests.specs.Spelling.{node_id}
@@ -15,7 +15,7 @@ use Rattle.gl_ledger.specs.ServiceRow.{identity_in}
 use Rattle.gl_ledger.specs.Tree.{tables_of}
 use Rattle.gl_ledger.specs.declared.refusal.Refusal.{Refusal}
 use Rattle.gl_ledger.specs.declared.refusal.Refusal.TheVariants as refusals
-use Rattle.gl_ledger_file.specs.LedgerFile.{ledger_file, no_entries, with_entries}
+use Rattle.gl_entry.specs.LedgerFile.{ledger_file, no_entries, with_entries}
 use Rattle.gl_forms.specs.Settings.{recovery_in}
 use Rattle.gl_forms.specs.Text.{from_text}
 use Rattle.gl_journal.specs.declared.key.Key.{Key}
@@ -24,10 +24,10 @@ use Rattle.gl_recovery.specs.OldLedger.{signed_front}
 use Rattle.gl_recovery.specs.Owed.{id_of}
 use Rattle.gl_recovery.specs.Recovering.{private_key}
 
--- The old ledger is valid, and this one is what is signed of it, the recovery and one signature more,
--- with nothing of what stood behind. The check of an opening takes it as signed by the node with this
--- key, so it is valid too. The recovery's key is in force, and the nodes that it names are trusted, in
--- its order, and no others. Its frames are a ledger file.
+-- The old ledger is valid, and this one is what is signed of it, the recovery and one signature
+-- more, with nothing of what stood behind. The check of an opening takes it as signed by the node
+-- with this key, so it is valid too. The recovery's key is in force, and the nodes that it names
+-- are trusted, in its order, and no others. Its frames are a ledger file.
 pub record IsRefounded (r : Recovery) (by : PrivateKey) (old ledger : List Entry) : Type 0 where
   pub valid : audited service_layers old ≡ None
   pub signed : 0 < last_signed old
@@ -47,8 +47,8 @@ IsOfRecovery (refusals.TooLarge size) = Unit {0}
 IsOfRecovery other = ⊥
 
 -- What is told to all the bytes of a source, with the key of a key file: these are settings and an
--- old ledger, and the settings name a recovery; told are the frames of a ledger that is founded anew
--- by it, behind the entries of the old one, and that the node with this key opens.
+-- old ledger, and the settings name a recovery; told are the frames of a ledger that is founded
+-- anew by it, behind the entries of the old one, and that the node with this key opens.
 pub record IsRecovered (key : Key) (given told : List ℕ) : Type 0 where
   pub parts : Parts
   pub given_as : parts_of given ≡ Ok parts

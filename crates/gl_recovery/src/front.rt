@@ -4,7 +4,7 @@ ghost use Rattle.std.specs.Prelude.{◌≡◌, ◌≤◌, ◌<◌, length, true,
 ghost use Rattle.std.specs.Io.KnownBytes.{Consumes, IsAtEnd};
 ghost use Rattle.gl_base.specs.declared.or_no_memory.OrNoMemory.TheVariants.{Fault};
 ghost use Rattle.gl_outside.specs.Fault.{Rose};
-ghost use Rattle.gl_ledger_file.specs.Given.{OfBytes};
+ghost use Rattle.gl_entry.specs.Given.{OfBytes};
 ghost use Rattle.gl_recovery.specs.Front.{TakesSettings, parts_of, settings_len};
 ghost use Rattle.gl_recovery.specs.Recovering.{is_of_outside, is_source_read};
 

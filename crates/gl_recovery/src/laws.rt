@@ -1,9 +1,9 @@
 //! What holds of recoveries, as the contracts of functions that do nothing.
 
 ghost use Rattle.std.specs.Prelude.{◌≡◌, ◌<◌, ◌^◌, ℕ, List, [], ◌∷◌, ◌++◌, Some, Ok, Err, true};
-ghost use Rattle.gl_lms.specs.Secrets.{PrivateKey, public_of};
-ghost use Rattle.gl_lms.specs.Tree.{IsKey};
-ghost use Rattle.gl_lms.specs.Types.{height};
+ghost use Rattle.gl_hss.specs.Secrets.{PrivateKey, public_of};
+ghost use Rattle.gl_hss.specs.Tree.{IsKey};
+ghost use Rattle.gl_hss.specs.Types.{height};
 ghost use Rattle.gl_entry.specs.declared.entry.Entry.{Entry};
 ghost use Rattle.gl_requests.specs.Ranges.{is_recovery};
 ghost use Rattle.gl_requests.specs.declared.genesis.Recovery.{Recovery};
@@ -17,17 +17,17 @@ ghost use Rattle.gl_ledger.specs.Layers.{Layers};
 ghost use Rattle.gl_ledger.specs.Recovery.{recovery_result};
 ghost use Rattle.gl_ledger.specs.Sound.{IsSound};
 ghost use Rattle.gl_ledger.specs.declared.refusal.Refusal.{Refusal};
-ghost use Rattle.gl_ledger_file.specs.LedgerFile.{ledger_file};
+ghost use Rattle.gl_entry.specs.LedgerFile.{ledger_file};
 ghost use Rattle.gl_recovery.specs.Completion.{Completes, CompletesBehind, governance_of};
 ghost use Rattle.gl_recovery.specs.Owed.{IsFirstKey, recovery_owed};
 ghost use Rattle.gl_recovery.specs.Recovering.{recover_owed};
 ghost use Rattle.gl_recovery.specs.Refounded.{IsOfRecovery, IsRecovered, IsRefounded};
 
-/// What the start of a recovery gives. The ledger that is owed is valid: the old one, which is valid
-/// too, up to its last signature, with the recovery and the signature of the first node that it
-/// names behind it; the check of an opening takes it. The recovery's key is in force in it, and
-/// the nodes that it names are trusted, and no others. A recovery is refused for its nodes, for
-/// an endorsement or for its size, and for nothing else.
+/// What the start of a recovery gives. The ledger that is owed is valid: the old one, which is
+/// valid too, up to its last signature, with the recovery and the signature of the first node that
+/// it names behind it; the check of an opening takes it. The recovery's key is in force in it, and
+/// the nodes that it names are trusted, and no others. A recovery is refused for its nodes, for an
+/// endorsement or for its size, and for nothing else.
 pub fn law_of_start()
     ensures refounded { (r : Recovery) (by : PrivateKey) (leaf : ℕ) (bytes : List ℕ)
         (ledger : List Entry) → is_recovery r ≡ true → IsFirstKey by r.nodes →

@@ -1,6 +1,8 @@
 //! The recovery of a service whose nodes are lost: it is founded anew behind the last signature of
 //! its ledger, and opens once enough members gave their shares (CCF documentation, "Disaster
 //! Recovery").
+//!
+//! Begin with `recover`.
 #![tactic(auto)]
 
 mod fault;

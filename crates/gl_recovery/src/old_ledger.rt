@@ -7,14 +7,13 @@ ghost use Rattle.gl_outside.specs.Fault.{Rose};
 ghost use Rattle.gl_ledger.specs.Audit.{audited};
 ghost use Rattle.gl_ledger.specs.Broken.{broken};
 ghost use Rattle.gl_ledger.specs.NodeKeys.{service_layers};
-ghost use Rattle.gl_ledger_file.specs.LedgerFile.{ledger_file};
+ghost use Rattle.gl_entry.specs.LedgerFile.{ledger_file};
 ghost use Rattle.gl_recovery.specs.Answers.{AnswersOn};
 ghost use Rattle.gl_recovery.specs.OldLedger.{IsRefused, unless_empty, valid_ledger};
 
 use crate::fault::RecoveryFault;
 use gl_base::OrNoMemory;
-use gl_entry::{Entry, ReadBuffer};
-use gl_ledger_file::{Next, ReadFault, read_next};
+use gl_entry::{Entry, Next, ReadBuffer, ReadFault, read_next};
 use gl_outside::Source;
 use gl_store::Store;
 use std::alloc::Global;

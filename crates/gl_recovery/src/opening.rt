@@ -2,7 +2,7 @@
 
 ghost use Rattle.std.specs.Prelude.{◌≡◌, ◌<◌, ◌≤◌, ◌+◌, ◌^◌, ◌↔◌, [], Some, length, IsTrue, IfOk};
 ghost use Rattle.gl_base.specs.TxId.{last_seqno};
-ghost use Rattle.gl_lms.specs.Types.{height};
+ghost use Rattle.gl_hss.specs.Types.{height};
 ghost use Rattle.gl_hss.specs.Signer.{hss_signature, signature_size};
 ghost use Rattle.gl_entry.specs.Entry.{body_bytes, body_limit};
 ghost use Rattle.gl_ledger.specs.Ledger.{message_behind, signature_entry};

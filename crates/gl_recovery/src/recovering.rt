@@ -5,14 +5,14 @@ ghost use Rattle.std.specs.Prelude.{◌≡◌, ◌≢◌, ◌≤◌, ◌<◌, �
 ghost use Rattle.gl_base.specs.declared.or_no_memory.OrNoMemory.TheVariants.{Fault, NoMemory};
 ghost use Rattle.gl_outside.specs.Fault.{Rose};
 ghost use Rattle.gl_outside.specs.Disk.{Leaves};
-ghost use Rattle.gl_lms.specs.Types.{height};
+ghost use Rattle.gl_hss.specs.Types.{height};
 ghost use Rattle.gl_requests.specs.Ranges.{is_recovery};
 ghost use Rattle.gl_journal.specs.Durable.{OpensToOneOf};
 ghost use Rattle.gl_journal.specs.declared.key.KeyKind.TheVariants.{Node};
 ghost use Rattle.gl_keyfile.specs.KeyFile.{IsOpened, OpensOnlyTo, any_frame, disk_of, held, opened};
 ghost use Rattle.gl_keyfile.specs.Leaf.{after_leaf};
 ghost use Rattle.gl_keyfile.specs.declared.leaf.LeafUse.TheVariants.{Start};
-ghost use Rattle.gl_ledger_file.specs.Given.{OfBytes};
+ghost use Rattle.gl_entry.specs.Given.{OfBytes};
 ghost use Rattle.gl_recovery.specs.Recovering.{is_of_outside, is_source_read, owed_behind, owed_by, recover_owed};
 ghost use Rattle.gl_recovery.specs.declared.recovering_fault.RecoveringFault.TheVariants.{DiskFailed, SourceFailed};
 ghost use Rattle.gl_recovery.specs.declared.recovering_fault.RecoveringFault.{RecoveringFault};
@@ -93,9 +93,9 @@ fn start_from_source<S: Source>(
 }
 
 /// Founds a service anew from a source, with the next leaf of the key of its first new node, and
-/// gives the frames of the new ledger, as `start` does. The source gives the length of the settings,
-/// in four bytes, the least significant first; so many bytes of settings, as the JSON text that
-/// `gl_forms::read_recovery` reads; and then the old ledger, to its end.
+/// gives the frames of the new ledger, as `start` does. The source gives the length of the
+/// settings, in four bytes, the least significant first; so many bytes of settings, as the JSON
+/// text that `gl_forms::read_recovery` reads; and then the old ledger, to its end.
 ///
 /// The frames are made before the leaf is taken, and handed out only once the file keeps that the
 /// leaf is spent, and that it started a service, whatever comes. A refusal, a failure of the source
@@ -119,8 +119,8 @@ pub fn recover<S: Source, D: Disk>(
         is_of_outside fault ≡ false → OfBytes (S.left source.old) (λ given.
         recover_owed (held file) given ≡ Err fault) }
 
-    // Before anything is told the file keeps that the leaf is spent, and started a service, whatever
-    // comes.
+    // Before anything is told the file keeps that the leaf is spent, and started a service,
+    // whatever comes.
     ensures kept { IsTrue D.honest → OnOk result.0
         (opened (D.bytes result.1) ≡ Ok (after_leaf Start (held file))) }
     ensures after { IsTrue D.honest → OnOk result.0
@@ -143,8 +143,8 @@ pub fn recover<S: Source, D: Disk>(
     ensures no_disk_fault { result.0 ≢ Err (Fault DiskFailed) →
         D.faults result.1 ≡ D.faults (disk_of file) }
 
-    // Where something is told the source gave its end, and where a fault is told for which it has to
-    // be read so far.
+    // Where something is told the source gave its end, and where a fault is told for which it has
+    // to be read so far.
     ensures ended { OnOk result.0 (S.ended source.new ≡ true) }
     ensures read { (fault : RecoveringFault) → result.0 ≡ Err (Fault fault) →
         is_source_read fault ≡ true → S.ended source.new ≡ true }

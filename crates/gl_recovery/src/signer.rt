@@ -1,15 +1,14 @@
 //! The key that signs a recovery: that of the first node, with a leaf left.
 
 ghost use Rattle.std.specs.Prelude.{◌≡◌, ◌<◌, ◌^◌, IfOk, OnOk};
-ghost use Rattle.gl_lms.specs.Types.{height};
+ghost use Rattle.gl_hss.specs.Types.{height};
 ghost use Rattle.gl_recovery.specs.Owed.{IsFirstKey};
 ghost use Rattle.gl_recovery.specs.Recovering.{has_leaf, is_first_node, private_key};
 
 use crate::opening::id_of;
 use crate::recovering_fault::RecoveringFault;
-use gl_hss::LmsKey;
+use gl_hss::{LmsKey, Types};
 use gl_journal::Key;
-use gl_lms::Types;
 use gl_requests::NewNode;
 use std::alloc::{AllocError, Global};
 

@@ -5,7 +5,7 @@ ghost use Rattle.std.specs.List.{AllByRecursion, flat_map};
 ghost use Rattle.gl_base.specs.Answers.{Answers};
 ghost use Rattle.gl_base.specs.declared.or_no_memory.OrNoMemory.TheVariants.{Fault};
 ghost use Rattle.gl_outside.specs.Fault.{Rose};
-ghost use Rattle.gl_lms.specs.Types.{height};
+ghost use Rattle.gl_hss.specs.Types.{height};
 ghost use Rattle.gl_entry.specs.Entry.{body_bytes, body_limit, frame_bytes, is_entry};
 ghost use Rattle.gl_requests.specs.Ranges.{is_recovery};
 ghost use Rattle.gl_ledger.specs.Audit.{audited};
@@ -64,13 +64,13 @@ fn recovered_frames(
     Ok(told)
 }
 
-/// Starts the recovery of a service whose nodes are lost: founds it anew, under the key and with the
-/// nodes that a recovery names, behind the last signature of the old ledger that a source gives.
-/// Gives the frames of the new ledger: those of the old one up to its last signature, the recovery
-/// in the view after, and the signature that opens the service, made with a leaf of the key of the
-/// first node that the recovery names. Nothing is kept of what stood behind the last signature, but
-/// that breaks no rule either. The new nodes begin with this ledger; what its members then have to
-/// do tells `finish`.
+/// Starts the recovery of a service whose nodes are lost: founds it anew, under the key and with
+/// the nodes that a recovery names, behind the last signature of the old ledger that a source
+/// gives. Gives the frames of the new ledger: those of the old one up to its last signature, the
+/// recovery in the view after, and the signature that opens the service, made with a leaf of the
+/// key of the first node that the recovery names. Nothing is kept of what stood behind the last
+/// signature, but that breaks no rule either. The new nodes begin with this ledger; what its
+/// members then have to do tells `finish`.
 ///
 /// Refused, in this order, where the old ledger isn't valid; where it has no signature; where its
 /// last signature is of the last view; where two more seqnos aren't left; where the recovery can't

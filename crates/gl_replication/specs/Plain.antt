@@ -1,5 +1,6 @@
--- A small ledger book: requests are entries, a signature is a given entry in the leader's view, any entry may follow, there are no
--- configurations, no request of governance is taken, each key has 32 leaves, and a message carries one entry.
+-- A small ledger book: requests are entries, a signature is a given entry in the leader's view, any
+-- entry may follow, there are no configurations, no request of governance is taken, each key has 32
+-- leaves, and a message carries one entry.
 use Rattle.std.specs.Prelude.{ℕ, List, [], false, None, Ok, Err}
 use Rattle.gl_entry.specs.Entry.{is_signature}
 use Rattle.gl_entry.specs.declared.entry.Entry.{Entry}

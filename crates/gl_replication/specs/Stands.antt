@@ -1,4 +1,5 @@
--- A core stands for a node of the rules, under rules and for a ledger of which its store needn't know all.
+-- A core stands for a node of the rules, under rules and for a ledger of which its store needn't
+-- know all.
 use Rattle.std.specs.Prelude.{◌<◌, ◌^◌, List, ◌≡◌, ◌≤◌, map}
 use Rattle.gl_base.specs.declared.or_no_memory.OrNoMemory.{OrNoMemory}
 use Rattle.gl_base.specs.declared.or_no_memory.OrNoMemory.TheVariants.{NoMemory, Fault}

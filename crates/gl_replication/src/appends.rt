@@ -67,7 +67,8 @@ impl<B: Book> Core<B> {
         }
     }
 
-    /// The greatest seqno up to this one, within a length, whose entry's view is at most this one, else 0.
+    /// The greatest seqno up to this one, within a length, whose entry's view is at most this one,
+    /// else 0.
     #[tactic(auto, using(crate::proofs::Fronts::matching))]
     fn highest_possible_match(&self, len: u64, view: u32, upto: u64) -> u64
         ensures { Tells B.stands self.now (λ b x n. len ≤ length n.log → upto ≤ len → result ≡
@@ -138,7 +139,8 @@ impl<B: Book> Core<B> {
         self.peer.leader = Some(y);
     }
 
-    /// Commit rises with what is known after a message with this commit, whose last entry has this seqno.
+    /// Commit rises with what is known after a message with this commit, whose last entry has this
+    /// seqno.
     fn commit_after(&mut self, theirs: u64, seqno: u64)
         ensures { Turns B.stands (λ b n. record n { commit = commit_after b theirs seqno n })
             self.old self.new }
@@ -183,7 +185,8 @@ impl<B: Book> Core<B> {
         self.book.replace_tail(seqno, entries)
     }
 
-    /// The log cut to a seqno, and these entries behind it; the view is entered, and y is its leader. All or nothing.
+    /// The log cut to a seqno, and these entries behind it; the view is entered, and y is its
+    /// leader. All or nothing.
     fn replace_tail(
         &mut self,
         y: NodeId,
@@ -221,7 +224,8 @@ impl<B: Book> Core<B> {
         seqno < len && seqno < self.commit
     }
 
-    /// The entries up to a seqno are accept_entries: commit rises, and the leader is answered. The answer was made before.
+    /// The entries up to a seqno are accept_entries: commit rises, and the leader is answered. The
+    /// answer was made before.
     fn accept_entries(&mut self, seqno: u64, theirs: u64, sent: Sequence<Message>) -> Done<B>
         ensures { Replies B.stands (λ b x n. record n { commit = commit_after b theirs seqno n })
             sent self.old result self.new }
@@ -277,8 +281,8 @@ impl<B: Book> Core<B> {
         }
     }
 
-    /// Entries at a node of a view not above the leader's that doesn't lead in it: behind a seqno where the log has an entry
-    /// of that view; else where to try next.
+    /// Entries at a node of a view not above the leader's that doesn't lead in it: behind a seqno
+    /// where the log has an entry of that view; else where to try next.
     fn merge_if_matching(
         &mut self,
         y: NodeId,
@@ -372,7 +376,8 @@ impl<B: Book> Core<B> {
         prev.seqno + held as u64
     }
 
-    /// A leader's entries to this node. Where they are refused, nothing has changed, the view neither.
+    /// A leader's entries to this node. Where they are refused, nothing has changed, the view
+    /// neither.
     pub fn on_append(
         &mut self,
         from: NodeId,

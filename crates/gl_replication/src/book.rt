@@ -18,9 +18,9 @@ use gl_entry::Entry;
 use std::alloc::AllocError;
 
 /// What a store gives to the rules of consensus. Its meaning is a relation between the store, rules
-/// over a ledger book, and what is held for a node: a store needn't know all of the ledger, only what
-/// these calls tell of it. A store that stands for nothing promises nothing; whoever makes one says
-/// for which rules and which ledger it stands.
+/// over a ledger book, and what is held for a node: a store needn't know all of the ledger, only
+/// what these calls tell of it. A store that stands for nothing promises nothing; whoever makes one
+/// says for which rules and which ledger it stands.
 pub trait Book: Drop {
     /// An application's request.
     type Request: Drop;
@@ -85,8 +85,8 @@ pub trait Book: Drop {
         ensures { At stands self.now (λ b h. h.base ≤ seqno →
             result ≡ is_signature_in b view (entry_at h.log seqno)) };
 
-    /// Configurations that give the active ones of the ledger cut to a seqno, and those above commit,
-    /// at each commit that is not below the base.
+    /// Configurations that give the active ones of the ledger cut to a seqno, and those above
+    /// commit, at each commit that is not below the base.
     fn configurations(&self, upto: u64) -> &[Configuration]
         ensures ascending { AllPairs (λ c d. c.seqno < d.seqno) result.now }
         ensures active { At stands self.now (λ b h. (commit : ℕ) → h.base ≤ commit →
@@ -153,8 +153,8 @@ pub trait Book: Drop {
             Fails e (b.sign h.me leaf h.log view commit))) }
         ensures err { OnErr result (Stays stands self.old self.new) };
 
-    /// Cuts the ledger to a seqno and appends these entries, each of which has to follow: on a copy,
-    /// all or nothing.
+    /// Cuts the ledger to a seqno and appends these entries, each of which has to follow: on a
+    /// copy, all or nothing.
     fn replace_tail(
         &mut self,
         seqno: u64,

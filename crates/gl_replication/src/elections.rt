@@ -83,8 +83,8 @@ impl<B: Book> Core<B> {
         self.next.clear();
     }
 
-    /// The other nodes of the active configurations of the log cut to a seqno, in the order in which
-    /// they were recorded.
+    /// The other nodes of the active configurations of the log cut to a seqno, in the order in
+    /// which they were recorded.
     fn others(&self, upto: u64) -> Result<Vec<NodeId>, AllocError>
         ensures { IfOk result (λ nodes. Tells B.stands self.now (λ b x n.
             nodes.items ≡ others b x (record n { log = take upto n.log }))) }
@@ -168,8 +168,8 @@ impl<B: Book> Core<B> {
         }
     }
 
-    /// A reply to such a request: a candidate of that view leads once it has a majority in each active
-    /// configuration.
+    /// A reply to such a request: a candidate of that view leads once it has a majority in each
+    /// active configuration.
     pub fn on_vote_reply(
         &mut self,
         from: NodeId,

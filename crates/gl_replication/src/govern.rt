@@ -117,8 +117,9 @@ impl<B: Book> Core<B> {
         }
     }
 
-    /// The leader takes a request of governance, as one entry. It waits while too many configurations
-    /// stand above commit, and a mark waits until the removal of its node is committed.
+    /// The leader takes a request of governance, as one entry. It waits while too many
+    /// configurations stand above commit, and a mark waits until the removal of its node is
+    /// committed.
     pub fn govern(&mut self, request: &B::Gov) -> Result<Done<B>, Refusal<B>>
         ensures steps { IfOk result (λ done.
             Steps B.stands (λ b x n. govern b request.now n) self.old done self.new) }

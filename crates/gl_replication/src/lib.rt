@@ -1,4 +1,6 @@
 //! A node of the service over any store: each of its calls is a rule of consensus.
+//!
+//! Begin with `Core`, the node, and the trait `Book`, its store.
 #![tactic(auto)]
 
 mod appends;

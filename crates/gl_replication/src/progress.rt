@@ -102,8 +102,8 @@ impl<B: Book> Core<B> {
         Ok(())
     }
 
-    /// What a reply in its view means to the leader: a node holds the log up to a seqno, or is tried
-    /// from one on again.
+    /// What a reply in its view means to the leader: a node holds the log up to a seqno, or is
+    /// tried from one on again.
     fn update_progress(&mut self, y: NodeId, ok: bool, seqno: u64) -> Result<Done<B>, Refusal<B>>
         ensures steps { IfOk result (λ done.
             Steps B.stands (λ b x n. update_progress b ok y seqno n) self.old done self.new) }

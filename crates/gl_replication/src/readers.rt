@@ -25,8 +25,8 @@ impl<B: Book> Core<B> {
         Some(self.book.view_at(seqno))
     }
 
-    /// The status of a transaction by what this node holds (CCF documentation, "Transaction status").
-    /// Only Committed and Invalid are final.
+    /// The status of a transaction by what this node holds (CCF documentation, "Transaction
+    /// status"). Only Committed and Invalid are final.
     pub fn status(&self, id: TxId) -> Status
         ensures { Tells B.stands self.now (λ b x n. result ≡ reported_status b n id) }
     {
@@ -40,8 +40,8 @@ impl<B: Book> Core<B> {
         status(id, self.view_of(id.seqno), committed)
     }
 
-    /// How far the retirement of a node has come, as this node sees it. A node that wasn't removed is
-    /// at no stage.
+    /// How far the retirement of a node has come, as this node sees it. A node that wasn't removed
+    /// is at no stage.
     pub fn stage(&self, node: &NodeId) -> Option<Stage>
         ensures { Tells B.stands self.now (λ b x n.
             option_map seen_stage result ≡ stage_at b n node.now) }

@@ -17,8 +17,8 @@ use gl_election::{Peer, Role};
 use std::alloc::Global;
 
 impl<B: Book> Core<B> {
-    /// A follower in this view, with this vote, commit and start, over a store. So many leaves of its
-    /// key are reserved, and it signs with none of them.
+    /// A follower in this view, with this vote, commit and start, over a store. So many leaves of
+    /// its key are reserved, and it signs with none of them.
     fn follower(
         alloc: Global,
         book: B,
@@ -69,8 +69,8 @@ impl<B: Book> Core<B> {
         Core::follower(alloc, book, FIRST_VIEW, None, 0, spent)
     }
 
-    /// A node that starts the service, over a store of the opening ledger: it has voted for the first
-    /// node. So many leaves of its key were spent before. Takes no memory.
+    /// A node that starts the service, over a store of the opening ledger: it has voted for the
+    /// first node. So many leaves of its key were spent before. Takes no memory.
     pub fn starter(alloc: Global, book: B, first: NodeId, spent: u64) -> Core<B>
         ensures { At B.stands book (λ b h. (s : Start Item) → h.base ≡ 0 → h.log ≡ s.opening →
             s.first ≡ first → spent ≤ b.leaves h.me → StandsFor B.stands result b h.me

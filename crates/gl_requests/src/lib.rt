@@ -1,4 +1,6 @@
 //! Requests of governance: their values, their bytes both ways, and what members sign.
+//!
+//! Begin with `GovernanceRequest`.
 #![tactic(auto)]
 
 mod action;

@@ -252,8 +252,8 @@ module _ {E Q G R A F : Type 0} (book : Book E Q G R A F) where
   abbrev pub IsActive : Node E → NodeId → Type 0
   IsActive n y = in_some y (active book n.log n.commit) ≡ true
 
-  -- A node whose retirement is committed is in no active configuration of whoever has said so, nor of
-  -- a leader of a later view: then and for good, restarts included.
+  -- A node whose retirement is committed is in no active configuration of whoever has said so, nor
+  -- of a leader of a later view: then and for good, restarts included.
   pub record RetiresSafely (s : Start E) (events : List (Event Q G R)) : Type 0 where
     -- of a node that has said so
     pub here : (i j : ℕ) (x y : NodeId) → i ≤ j → IsRetired (node_at s events i x) y →

@@ -1,5 +1,7 @@
 //! What the rules of consensus promise of every run: laws, and no code; and a small ledger that has
 //! all that they ask.
+//!
+//! Begin with the law `is_safe`: the rules of consensus are safe, whatever happens.
 #![tactic(auto)]
 
 pub mod small_book;

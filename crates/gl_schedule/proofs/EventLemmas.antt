@@ -16,7 +16,7 @@ use Rattle.gl_world.specs.Group.{IsGroup, book_of}
 use Rattle.gl_world.specs.Happened.{answer_to, with_event}
 use Rattle.gl_world.specs.Held.{Held, has_node, is_among, may_happen, node_now, receiver_in, seen_event, world_now}
 use Rattle.gl_world.specs.World.{ServiceWorld}
-use Rattle.gl_service.specs.Service.{ServiceEvent}
+use Rattle.gl_world.specs.Service.{ServiceEvent}
 use Rattle.gl_world.proofs.Histories.{after_one}
 use Rattle.gl_lines.specs.declared.line.Line.{Line}
 use Rattle.gl_lines.specs.declared.line.Line.TheVariants as lines

@@ -14,7 +14,7 @@ use Rattle.gl_requests.specs.declared.request.GovernanceRequest.TheVariants as r
 use Rattle.gl_requests.specs.Ranges.{is_member_number}
 use Rattle.gl_lines.specs.References.{id_at}
 use Rattle.gl_ledger.specs.declared.made.Unmade.{Unmade}
-use Rattle.gl_service.specs.Service.{ServiceEvent}
+use Rattle.gl_world.specs.Service.{ServiceEvent}
 use Rattle.gl_world.specs.declared.event.Event.{Event}
 use Rattle.gl_world.specs.declared.event.Event.TheVariants as events
 use Rattle.gl_world.specs.declared.settings.Settings.{Settings}

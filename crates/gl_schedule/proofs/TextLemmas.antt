@@ -9,9 +9,9 @@ use Rattle.gl_world.specs.Founding.{numbers_from}
 use Rattle.gl_world.specs.WorldNodes.{ServiceRefusal}
 use Rattle.gl_world.specs.World.{ServiceOutcome}
 use Rattle.gl_world.specs.Happened.{is_no_memory}
-use Rattle.gl_refusals.specs.Reasons.{reason_of, seen_refusal}
-use Rattle.gl_refusals.specs.declared.value.Reason.{Reason}
-use Rattle.gl_refusals.proofs.Refused.{refused_for}
+use Rattle.gl_answers.specs.Reasons.{reason_of, seen_refusal}
+use Rattle.gl_answers.specs.declared.value.Reason.{Reason}
+use Rattle.gl_answers.proofs.Refused.{refused_for}
 use Rattle.gl_schedule.specs.Text.{new_messages, outcome_text, reason_text, with_numbers}
 
 -- numbers behind a longer text

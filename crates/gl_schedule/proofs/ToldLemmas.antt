@@ -6,7 +6,7 @@ use Rattle.std.proofs.lemmas.List.Sums.{fold-append}
 use Rattle.gl_rules.specs.World.{begin, after, happens, run}
 use Rattle.gl_rules.specs.World as event
 use Rattle.gl_world.specs.declared.settings.Settings.{Settings}
-use Rattle.gl_service.specs.Service.{ServiceEvent}
+use Rattle.gl_world.specs.Service.{ServiceEvent}
 use Rattle.gl_world.specs.Group.{book_of}
 use Rattle.gl_world.specs.World.{ServiceWorld, start_of}
 use Rattle.gl_lines.specs.declared.line.Line.{Line}

@@ -2,7 +2,7 @@
 use Rattle.std.specs.Prelude.{◌≡◌, ℕ, List, Result, Ok, Err, take}
 use Rattle.gl_rules.specs.World.{after}
 use Rattle.gl_world.specs.declared.settings.Settings.{Settings}
-use Rattle.gl_service.specs.Service.{ServiceEvent}
+use Rattle.gl_world.specs.Service.{ServiceEvent}
 use Rattle.gl_world.specs.Group.{book_of}
 use Rattle.gl_world.specs.Headline.{Headline}
 use Rattle.gl_world.specs.World.{ServiceWorld, start_of}

@@ -1,7 +1,7 @@
 -- What contracts see of a machine that plays a schedule, and what it keeps to.
 use Rattle.std.specs.Prelude.{◌≡◌, ℕ, List, true}
 use Rattle.std.specs.List.{AllByRecursion}
-use Rattle.gl_lms.specs.Secrets.{PrivateKey}
+use Rattle.gl_hss.specs.Secrets.{PrivateKey}
 use Rattle.gl_rules.specs.Identity.{NodeId}
 use Rattle.gl_requests.specs.Ranges.{is_member_request}
 use Rattle.gl_requests.specs.declared.request.GovernanceRequest.{GovernanceRequest}
@@ -14,8 +14,8 @@ use Rattle.gl_world.specs.Keys.{private_key, service_seed}
 use Rattle.gl_world.specs.Members.{Signed}
 use Rattle.gl_schedule.specs.declared.line_request.LineRequest.{LineRequest}
 
--- The world of its service, and what lines may name: the requests of governance that lines made, the
--- proposals, and who signed.
+-- The world of its service, and what lines may name: the requests of governance that lines made,
+-- the proposals, and who signed.
 pub record Playing : Type 0 where
   pub world : Held
   pub requests : List LineRequest

@@ -17,10 +17,10 @@ use Rattle.gl_entry.specs.Entry.{frame_bytes}
 use Rattle.gl_entry.specs.declared.entry.Entry.{Entry}
 use Rattle.gl_tx.specs.declared.request.Answer.{Answer}
 use Rattle.gl_tx.specs.declared.request.Answer.TheVariants as answers
-use Rattle.gl_refusals.specs.Reasons.{reason_of}
-use Rattle.gl_refusals.specs.declared.value.Reason.{Reason}
-use Rattle.gl_refusals.specs.declared.value.Value.{Value}
-use Rattle.gl_refusals.specs.declared.value.Value.TheVariants.{Number, Digest, Leader}
+use Rattle.gl_answers.specs.Reasons.{reason_of}
+use Rattle.gl_answers.specs.declared.value.Reason.{Reason}
+use Rattle.gl_answers.specs.declared.value.Value.{Value}
+use Rattle.gl_answers.specs.declared.value.Value.TheVariants.{Number, Digest, Leader}
 use Rattle.gl_world.specs.declared.settings.Settings.{Settings}
 use Rattle.gl_world.specs.Founding.{node_ids, numbers_from}
 use Rattle.gl_world.specs.Members.{leaf_limit}

@@ -17,7 +17,7 @@ use Rattle.gl_world.specs.declared.settings.Settings.{Settings}
 use Rattle.gl_world.specs.Founding.{id_of, node_ids, node_of}
 use Rattle.gl_world.specs.Held.{receiver_in}
 use Rattle.gl_world.specs.Members.{next_leaf, leaf_limit, member_request}
-use Rattle.gl_service.specs.Service.{ServiceEvent}
+use Rattle.gl_world.specs.Service.{ServiceEvent}
 use Rattle.gl_world.specs.Group.{book_of}
 use Rattle.gl_world.specs.World.{ServiceWorld, start_of}
 use Rattle.gl_lines.specs.References.{id_at}
@@ -162,9 +162,9 @@ told_event s t e =
       text = next_text t (outcome_text s done.outcome ++ sent_text t.world done.world);
     }
 
--- So does a request of governance. It is noted for lines that send it again. Where it is accepted, a
--- proposal that it makes gets a number, and the proposal that it concerns is told, in the state that
--- it then has.
+-- So does a request of governance. It is noted for lines that send it again. Where it is accepted,
+-- a proposal that it makes gets a number, and the proposal that it concerns is told, in the state
+-- that it then has.
 abbrev pub told_request : Settings → Told → NodeId → Option ℕ → GovernanceRequest → Told
 told_request s t x signer request =
     let done = happens (book_of s) t.world (event.Govern x request) in

@@ -1,4 +1,6 @@
 //! Schedules: a service and the lines of what happens to it, read, played at its nodes, and told.
+//!
+//! Begin with `read`, which makes a `Schedule` of a text, and `play`, which plays it.
 #![tactic(auto)]
 
 mod event_line;

@@ -121,8 +121,8 @@ impl<N: WorldNode> Machine<N> {
         }
     }
 
-    /// The same, and the messages that it sent are told. An event that names a node or a message that
-    /// there isn't is refused.
+    /// The same, and the messages that it sent are told. An event that names a node or a message
+    /// that there isn't is refused.
     fn happen(&mut self, event: Event, out: &mut Vec<u8>) -> Result<(), AllocError>
         ensures group { IsGroup self.old.world.settings }
         ensures tells { OnOk result (TellsAnywhere (event_effect event)

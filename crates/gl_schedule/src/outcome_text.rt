@@ -11,10 +11,10 @@ ghost use Rattle.gl_world.specs.declared.settings.Settings.{Settings};
 ghost use Rattle.gl_schedule.specs.Text.{given_text, id_text, leader_text, node_text, outcome_text, reason_text, reason_value_text, values_behind};
 
 use crate::text::{put_answers, put_hex, put_number};
+use gl_answers::{Reason, Value, reason_of};
 use gl_base::TxId;
 use gl_entry::NodeId;
 use gl_ledger::{Given, Reads, Unmade};
-use gl_refusals::{Reason, Value, reason_of};
 use gl_replication::{Book, Outcome, Refusal};
 use gl_requests::GovernanceRequest;
 use gl_tx::Request;

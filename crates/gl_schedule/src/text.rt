@@ -203,7 +203,11 @@ fn put_entries(alloc: Global, out: &mut Vec<u8>, entries: &[Entry]) -> Result<()
     Ok(())
 }
 
-pub(crate) fn put_ledger(alloc: Global, out: &mut Vec<u8>, entries: &[Entry]) -> Result<(), AllocError>
+pub(crate) fn put_ledger(
+    alloc: Global,
+    out: &mut Vec<u8>,
+    entries: &[Entry],
+) -> Result<(), AllocError>
     requires { AllByRecursion (λ e. is_entry e ≡ true) entries.now }
     ensures { OnOk result (out.new.items ≡ out.old.items ++ ledger_text entries.now) }
 {

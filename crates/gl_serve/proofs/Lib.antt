@@ -6,3 +6,11 @@ pub mod SendingLaws
 pub mod WorkingLaws
 pub mod Whole
 pub mod Stopping
+pub mod Accepting
+pub mod Batching
+pub mod Happening
+pub mod KeepingEvents
+pub mod Living
+pub mod NoEntries
+pub mod Sending
+pub mod Ending

@@ -7,3 +7,13 @@ pub mod Serves
 pub mod Streams
 pub mod Turns
 pub mod Works
+pub mod Answering
+pub mod Events
+pub mod Hearing
+pub mod Life
+pub mod OverLink
+pub mod NoEntries
+pub mod Payloads
+pub mod Requests
+pub mod Serving
+pub mod Types

@@ -26,9 +26,9 @@ course_of (Err ends.Turns) = Ok tt
 course_of (Err ends.Stopped) = Err halts.Stopped
 course_of (Err ends.NoMemory) = Err halts.NoMemory
 
--- What came was done so, works one behind the other, and the counts are those of the payloads in the
--- grammar and of the frames that were lost. What came is what was ahead of an honest link and isn't
--- any more.
+-- What came was done so, works one behind the other, and the counts are those of the payloads in
+-- the grammar and of the frames that were lost. What came is what was ahead of an honest link and
+-- isn't any more.
 pub record Serves {S Payload : Type 0} (honest : Bool) (rules : Rules S Payload) (settings : Serving)
     (first : S) (past : List Exchange) (ahead : List Arrival)
     (last : S) (now_past : List Exchange) (now_ahead : List Arrival)

@@ -1,5 +1,6 @@
--- Shares of a secret of 32 bytes (A. Shamir, "How to share a secret", Communications of the ACM 22, 1979), each byte by itself, over
--- GF(2^8). The coefficients are drawn by ChaCha20 (RFC 8439) from a seed.
+-- Shares of a secret of 32 bytes (A. Shamir, "How to share a secret", Communications of the ACM 22,
+-- 1979), each byte by itself, over GF(2^8). The coefficients are drawn by ChaCha20 (RFC 8439) from
+-- a seed.
 use Rattle.std.specs.Prelude.{◌≡◌, ℕ, ◌-◌, ◌*◌, ◌%◌, ◌^◌, ◌<◌, ◌≤◌, List, [], ◌∷◌, length, map, bit_xor, slice_index_or, All}
 use Rattle.std.specs.List.{range_with_len}
 use Rattle.rand_chacha.specs.ChaCha.{word_at, key_of}
@@ -23,8 +24,9 @@ share_of polynomials member = record { member = member; value = map (λ p. value
 abbrev pub drawn : List ℕ → ℕ → ℕ
 drawn seed n = word_at 10 (key_of seed) 0 n % 256
 
--- The polynomial of a byte, counted from 0: the secret's byte stands at 0, and the coefficients above it are drawn, that of x first. So
--- each byte has k - 1 of the drawn ones, in the order of the bytes.
+-- The polynomial of a byte, counted from 0: the secret's byte stands at 0, and the coefficients
+-- above it are drawn, that of x first. So each byte has k - 1 of the drawn ones, in the order of
+-- the bytes.
 abbrev pub polynomial_of : List ℕ → ℕ → List ℕ → ℕ → List ℕ
 polynomial_of secret k seed byte = slice_index_or secret byte 0 ∷ map (drawn seed) (range_with_len (byte * (k - 1)) (k - 1))
 

@@ -1,5 +1,6 @@
--- The field GF(2^8) of the polynomial x^8 + x^4 + x^3 + x + 1 (FIPS 197, section 4.2). A number stands for the polynomial
--- over bits in which the coefficient of x^i is its bit i. The sum of two polynomials is bit_xor.
+-- The field GF(2^8) of the polynomial x^8 + x^4 + x^3 + x + 1 (FIPS 197, section 4.2). A number
+-- stands for the polynomial over bits in which the coefficient of x^i is its bit i. The sum of two
+-- polynomials is bit_xor.
 use Rattle.std.specs.Prelude.{ℕ, zero, suc, ◌+◌, ◌*◌, ◌/◌, ◌%◌, ◌^◌, bit_xor, nat_eq, if◌then◌else◌}
 
 -- the coefficient of x^i
@@ -15,13 +16,14 @@ product p q (suc n) = bit_xor (product p q n) (coefficient q n * (p * 2 ^ n))
 abbrev pub modulus : ℕ
 modulus = 0x11b
 
--- the remainder by the modulus of a polynomial without terms from x^(8 + n) on: each term from x^8 on is taken away, the
--- highest first, with the multiple of the modulus that it heads
+-- the remainder by the modulus of a polynomial without terms from x^(8 + n) on: each term from x^8
+-- on is taken away, the highest first, with the multiple of the modulus that it heads
 unfoldable pub remainder : ℕ → ℕ → ℕ
 remainder p zero = p
 remainder p (suc n) = remainder (bit_xor p (coefficient p (8 + n) * (modulus * 2 ^ n))) n
 
--- the product in the field: the remainder of the product of two polynomials without terms from x^8 on
+-- the product in the field: the remainder of the product of two polynomials without terms from x^8
+-- on
 unfoldable pub field_product : ℕ → ℕ → ℕ
 field_product a b = remainder (product a b 8) 8
 

@@ -4,7 +4,8 @@ use Rattle.gl_shares.specs.declared.share.Share.{Share}
 use Rattle.gl_shares.specs.Field.{field_product, inverse_of}
 use Rattle.gl_shares.specs.Dealing.{each_byte}
 
--- What a point gives to the weight of another: itself, divided by its difference from it. Nothing to its own.
+-- What a point gives to the weight of another: itself, divided by its difference from it. Nothing
+-- to its own.
 unfoldable pub quotient : ℕ → ℕ → ℕ
 quotient point other = if nat_eq other point then 1 else field_product other (inverse_of (bit_xor other point))
 

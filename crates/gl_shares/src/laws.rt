@@ -6,9 +6,9 @@ ghost use Rattle.gl_shares.specs.Field.{product, modulus, field_product, inverse
 ghost use Rattle.gl_shares.specs.Dealing.{value_at, polynomials_of, IsPolynomial, IsShareOf};
 ghost use Rattle.gl_shares.specs.Joining.{joined};
 
-/// The product in the field is what is left of the product of the two polynomials less a multiple of
-/// the modulus. With it the bytes are a field: the sum is `bit_xor`, each byte is its own negative, and each but 0 has an
-/// inverse.
+/// The product in the field is what is left of the product of the two polynomials less a multiple
+/// of the modulus. With it the bytes are a field: the sum is `bit_xor`, each byte is its own
+/// negative, and each but 0 has an inverse.
 pub fn law_of_field()
     ensures remainder { (a b : ℕ) → (multiple : ℕ) × (multiple < 2 ^ 8)
         × (product a b 8 ≡ bit_xor (product modulus multiple 8) (field_product a b)) }

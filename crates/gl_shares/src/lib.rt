@@ -1,7 +1,10 @@
-//! Shares of a secret of 32 bytes among members, of which so many as its threshold give it (Shamir).
+//! Shares of a secret of 32 bytes among members, of which so many as its threshold give it
+//! (Shamir).
 //!
 //! Each byte is dealt by itself: a polynomial over GF(2^8) with the byte at 0, of which a member's
 //! share is the value at the member's number.
+//!
+//! Begin with `deal` and `join`.
 #![tactic(auto)]
 
 pub use dealing::deal;

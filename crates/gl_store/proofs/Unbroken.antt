@@ -1,7 +1,7 @@
 -- Which entries that a store makes break no rule.
 use Rattle.std.proofs.Common.{◌≡◌, ℕ, ◌+◌, ◌<◌, List, [], length, Some, None, Ok, true, false, sym, ◌∙◌, ap, subst}
 use Rattle.gl_base.specs.TxId.{last_seqno}
-use Rattle.gl_lms.specs.declared.types.Types.TheVariants.{H5W4}
+use Rattle.gl_hss.specs.declared.types.Types.TheVariants.{H5W4}
 use Rattle.gl_tx.specs.Request.{is_request}
 use Rattle.gl_tx.specs.declared.request.Operation.{Operation}
 use Rattle.gl_tx.specs.declared.request.Answer.{Answer}

@@ -1,5 +1,8 @@
 //! The store of one node: a ledger as a list of entries, the tables that its write sets make, and
 //! the Merkle tree over its entries. The ledger is the book that the rules of consensus read.
+//!
+//! Begin with `Store`: `execute` and `govern` make entries, `apply_entry` takes those of other
+//! nodes.
 #![tactic(auto)]
 
 mod entries;

@@ -82,8 +82,8 @@ impl Store {
         })
     }
 
-    /// Adds the entry of a genesis to a store of no entries. Fails for want of memory alone, and then
-    /// leaves the store as it was.
+    /// Adds the entry of a genesis to a store of no entries. Fails for want of memory alone, and
+    /// then leaves the store as it was.
     pub fn found(&mut self, genesis: Genesis) -> Result<(), AllocError>
         requires first { self.old.ledger ≡ [] }
         requires accepted { genesis_refusal no_history genesis ≡ None }
@@ -97,10 +97,10 @@ impl Store {
         self.push(founding)
     }
 
-    /// The store of an opening ledger, all of it committed: one that ends with the entry that founds
-    /// the service, or founds it anew, and the signature that opens it. Refused where an entry breaks
-    /// a rule of the audit, with the seqno of the first that does, or else where the last entry isn't
-    /// that signature, with its seqno, 0 for no entries.
+    /// The store of an opening ledger, all of it committed: one that ends with the entry that
+    /// founds the service, or founds it anew, and the signature that opens it. Refused where an
+    /// entry breaks a rule of the audit, with the seqno of the first that does, or else where the
+    /// last entry isn't that signature, with its seqno, 0 for no entries.
     pub fn opening(alloc: Global, entries: Vec<Entry>) -> Result<Self, OrNoMemory<NotOpening>>
         ensures opened { IfOk result (λ store. Opens entries.items store) }
         ensures refused { IfErr result (IsNotOpened entries.items) }
@@ -276,8 +276,8 @@ impl Store {
         self.commit = seqno;
     }
 
-    /// Makes room for so many more entries and for their leaves; what they write takes memory of its
-    /// own. Fails for want of memory alone.
+    /// Makes room for so many more entries and for their leaves; what they write takes memory of
+    /// its own. Fails for want of memory alone.
     pub fn reserve(&mut self, more: usize) -> Result<(), AllocError>
         ensures { self.new ≡ self.old }
     {

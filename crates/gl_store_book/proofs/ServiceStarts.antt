@@ -22,8 +22,8 @@ use Rattle.gl_ledger.specs.NodeKeys.{service_layers}
 use Rattle.gl_ledger.specs.Recordings.{last_entry, trusted_nodes}
 use Rattle.gl_ledger.specs.declared.breach.Broken.{Broken}
 use Rattle.gl_ledger.proofs.Auditing.{audited_none, audited_some}
-use Rattle.gl_ledger_file.specs.LedgerFile.{LedgerFile, ledger_file, with_entry, with_entries}
-use Rattle.gl_ledger_file.proofs.FileLaws.{file_end, file_unread, file_frames}
+use Rattle.gl_entry.specs.LedgerFile.{LedgerFile, ledger_file, with_entry, with_entries}
+use Rattle.gl_entry.proofs.FileLaws.{file_end, file_unread, file_frames}
 use Rattle.gl_audit.specs.Kept.{Breaks}
 use Rattle.gl_ledger.proofs.Valid.{valid_sound}
 use Rattle.gl_store_book.proofs.FrameLaws.{AllFit}

@@ -1,7 +1,7 @@
 -- A node that stands for one of the rules, over a file that keeps it, serves.
 use Rattle.std.proofs.Common.{◌≡◌, ℕ, ◌≤◌, ◌^◌, List, [], Bool, true, false, Option, Some, map, unwrap_or, refl, sym, ap, subst, ◌∙◌}
-use Rattle.gl_lms.specs.Secrets.{PrivateKey}
-use Rattle.gl_lms.specs.Types.{height}
+use Rattle.gl_hss.specs.Secrets.{PrivateKey}
+use Rattle.gl_hss.specs.Types.{height}
 use Rattle.gl_rules.specs.Identity.{NodeId}
 use Rattle.gl_rules.specs.Node.{Node}
 use Rattle.gl_rules.specs.Replication.{restart}

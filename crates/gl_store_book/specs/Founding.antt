@@ -1,7 +1,7 @@
 -- A node that founds a service of its own.
 use Rattle.sha2.specs.Sha256.{sha256}
-use Rattle.gl_lms.specs.Secrets.{PrivateKey, public_of}
-use Rattle.gl_lms.specs.Tree.{key_bytes}
+use Rattle.gl_hss.specs.Secrets.{PrivateKey, public_of}
+use Rattle.gl_hss.specs.Tree.{key_bytes}
 use Rattle.gl_rules.specs.Identity.{NodeId}
 use Rattle.gl_ledger.specs.NodeKeys.{NodeKeys}
 

@@ -1,9 +1,9 @@
 -- The file of a node: what its bytes open to, and whose it is.
 use Rattle.std.specs.Prelude.{◌≡◌, ◌≤◌, ℕ, List, Result, Ok, IsTrue, Bool}
 use Rattle.sha2.specs.Sha256.{sha256}
-use Rattle.gl_lms.specs.Tree.{key_bytes}
-use Rattle.gl_lms.specs.Secrets.{PrivateKey, public_of}
-use Rattle.gl_lms.specs.Profile.{key_of_seed}
+use Rattle.gl_hss.specs.Tree.{key_bytes}
+use Rattle.gl_hss.specs.Secrets.{PrivateKey, public_of}
+use Rattle.gl_hss.specs.Profile.{key_of_seed}
 use Rattle.gl_rules.specs.Identity.{NodeId}
 use Rattle.gl_outside.specs.Disk.{Step, IsImage}
 use Rattle.gl_journal.specs.Durable.{Durable, durable, leaf_count}

@@ -10,7 +10,7 @@ use Rattle.gl_entry.specs.declared.fault.EntryFault.{EntryFault}
 use Rattle.gl_ledger.specs.Audit.{LedgerFault, audited, opened}
 use Rattle.gl_ledger.specs.NodeKeys.{service_layers}
 use Rattle.gl_ledger.specs.Recordings.{trusted_nodes}
-use Rattle.gl_ledger_file.specs.LedgerFile.{LedgerFile, ledger_file, with_entries}
+use Rattle.gl_entry.specs.LedgerFile.{LedgerFile, ledger_file, with_entries}
 use Rattle.gl_store.specs.declared.not_opening.NotOpening.{NotOpening}
 
 -- A service begins with an opening ledger: its trusted nodes start with it, and one of its nodes
@@ -32,8 +32,8 @@ abbrev pub start_unless : Option EntryFault → List Entry → Result (Start Ent
 start_unless None ledger = start_by ledger (opened service_layers ledger)
 start_unless (Some fault) ledger = Err (fault_or_next ledger (audited service_layers ledger))
 
--- With what a service begins whose opening ledger is a file; or the seqno by which it is none: of the
--- first entry that breaks a rule, where bytes that are no frame break one, or else of the last
+-- With what a service begins whose opening ledger is a file; or the seqno by which it is none: of
+-- the first entry that breaks a rule, where bytes that are no frame break one, or else of the last
 -- entry.
 abbrev pub start_of_file : LedgerFile → Result (Start Entry) ℕ
 start_of_file file = start_unless file.fault file.entries

@@ -1,6 +1,6 @@
 -- What a node's store holds, and for which rules of consensus and which ledger it stands.
 use Rattle.std.specs.Prelude.{◌≡◌, List}
-use Rattle.gl_lms.specs.Secrets.{PrivateKey}
+use Rattle.gl_hss.specs.Secrets.{PrivateKey}
 use Rattle.gl_rules.specs.Identity.{NodeId}
 use Rattle.gl_entry.specs.declared.entry.Entry.{Entry}
 use Rattle.gl_ledger.specs.NodeKeys.{NodeKeys, service_layers}

@@ -59,7 +59,8 @@ impl Book for StoreBook {
         }
     }
 
-    /// In a valid ledger the commits that signatures record never fall, so the last is the greatest.
+    /// In a valid ledger the commits that signatures record never fall, so the last is the
+    /// greatest.
     fn known_commit(&self) -> u64 {
         self.ledger.store().last_recorded_commit()
     }

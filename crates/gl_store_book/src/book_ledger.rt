@@ -96,8 +96,8 @@ impl BookLedger {
         self.lists.recorded_nodes(&self.store, upto)
     }
 
-    /// Adds an entry. Refused for the first rule of the audit that it breaks behind the ledger, if it
-    /// breaks one. Want of memory, too, leaves all as it was.
+    /// Adds an entry. Refused for the first rule of the audit that it breaks behind the ledger, if
+    /// it breaks one. Want of memory, too, leaves all as it was.
     pub fn apply(&mut self, entry: Entry) -> Result<(), OrNoMemory<Broken>>
         ensures unbroken { OnOk result (broken service_layers self.old entry ≡ None) }
         ensures grown { OnOk result (self.new ≡ self.old ++ entry ∷ []) }
@@ -226,8 +226,8 @@ impl BookLedger {
     }
 }
 
-/// Takes in what the last entry of a store's ledger changes of its nodes. Where memory runs out, the
-/// entry is taken back.
+/// Takes in what the last entry of a store's ledger changes of its nodes. Where memory runs out,
+/// the entry is taken back.
 pub(crate) fn list_last(
     alloc: Global,
     lists: &mut NodeLists,

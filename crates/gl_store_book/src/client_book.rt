@@ -1,10 +1,10 @@
 //! The store of a node, as clients ask it.
 
-ghost use Rattle.gl_client_book.specs.Receipts.{receipts_of};
+ghost use Rattle.gl_answers.specs.Receipts.{receipts_of};
 
 use crate::store_book::StoreBook;
+use gl_answers::ClientBook;
 use gl_base::{OrNoMemory, TxId};
-use gl_client_book::ClientBook;
 use gl_entry::Entry;
 use gl_merkle::Step;
 use gl_node::KeptBook;

@@ -15,7 +15,7 @@ ghost use Rattle.gl_store_book.specs.Stands.{HasKey, Stands, whole};
 use crate::book_ledger::{BookLedger, list_last};
 use crate::store_book::StoreBook;
 use gl_base::{FIRST_VIEW, OrNoMemory};
-use gl_lms::LmsKey;
+use gl_hss::LmsKey;
 use gl_requests::Genesis;
 use sha2::{Digest, Sha256};
 use std::alloc::{AllocError, Global};
@@ -35,8 +35,8 @@ impl BookLedger {
 }
 
 impl StoreBook {
-    /// Founds the service of a genesis that names the node: the genesis, and the signature that opens
-    /// the service, with the first leaf of the node's key.
+    /// Founds the service of a genesis that names the node: the genesis, and the signature that
+    /// opens the service, with the first leaf of the node's key.
     pub fn open(&mut self, genesis: Genesis) -> Result<(), AllocError>
         requires empty { self.old.ledger ≡ [] }
         requires founds { (keys : NodeKeys) × HasKey keys self.old
@@ -55,8 +55,8 @@ impl StoreBook {
     }
 
     /// That of the node with this key as a service of its own begins: the service's genesis, which
-    /// names the node, and the signature that opens it, with the key's first leaf. Fails for want of
-    /// memory alone.
+    /// names the node, and the signature that opens it, with the key's first leaf. Fails for want
+    /// of memory alone.
     pub fn founded(alloc: Global, key: LmsKey, genesis: Genesis) -> Result<Self, AllocError>
         requires { Founds service_layers (key_alone key) genesis (id_of_key key) }
         ensures holds { IfOk result (λ book. book ≡ record {

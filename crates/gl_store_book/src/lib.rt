@@ -1,6 +1,8 @@
-//! The store of a node as the book that the rules of consensus read: its ledger, which takes no entry
-//! that breaks a rule of the audit, and the key that it signs with. It knows nothing of commit, so
-//! each entry can be cut away.
+//! The store of a node as the book that the rules of consensus read: its ledger, which takes no
+//! entry that breaks a rule of the audit, and the key that it signs with. It knows nothing of
+//! commit, so each entry can be cut away.
+//!
+//! Begin with `NodeFile`, the file of a node, and `StoreBook`, its store as the book of consensus.
 #![tactic(auto)]
 
 mod batch;

@@ -51,7 +51,8 @@ impl NodeLists {
         &self.recorded[..count]
     }
 
-    /// Takes in what the last entry of a ledger changes. Want of memory leaves both lists as they were.
+    /// Takes in what the last entry of a ledger changes. Want of memory leaves both lists as they
+    /// were.
     pub(crate) fn push_last(&mut self, alloc: Global, store: &Store) -> Result<(), AllocError>
         requires { (ledger : List Entry) × (e : Entry) × (store.now.ledger ≡ ledger ++ e ∷ [])
             × AreListsOf ledger self.old }

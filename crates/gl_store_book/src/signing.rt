@@ -2,15 +2,15 @@
 
 ghost use Rattle.std.specs.Prelude.{◌≡◌, ◌<◌, ◌^◌, ◌++◌, ℕ, Some, Err, length, IfOk, IfSome, IfNone, OnOk};
 ghost use Rattle.gl_base.specs.TxId.{last_seqno};
-ghost use Rattle.gl_lms.specs.Types.{height};
+ghost use Rattle.gl_hss.specs.Types.{height};
 ghost use Rattle.gl_hss.specs.Signer.{hss_signature, levels_above};
 
 use crate::store_book::StoreBook;
 use gl_base::{Bytes, LAST_SEQNO};
 use gl_entry::{Content, Entry, Signature, signed_message};
+use gl_hss::bytes::u32str;
+use gl_hss::{LMS_KEY_LEN, LmsKey};
 use gl_ledger::{Refusal, Unmade};
-use gl_lms::bytes::u32str;
-use gl_lms::{LMS_KEY_LEN, LmsKey};
 use gl_vmaps::Writes;
 use std::alloc::AllocError;
 
@@ -27,8 +27,8 @@ fn push_levels_above(key: &LmsKey, endorsement: &[u8], out: &mut Vec<u8>) -> Res
     Ok(())
 }
 
-/// The signature of a message by a leaf of a key that another one endorsed. Whoever calls it uses no
-/// leaf for two messages.
+/// The signature of a message by a leaf of a key that another one endorsed. Whoever calls it uses
+/// no leaf for two messages.
 fn signature(
     key: &LmsKey,
     endorsement: &[u8],

@@ -4,12 +4,12 @@ ghost use Rattle.std.specs.Prelude.{◌≡◌, [], IfOk};
 
 use crate::book_ledger::BookLedger;
 use gl_config::NodeId;
-use gl_lms::LmsKey;
+use gl_hss::LmsKey;
 use std::alloc::{AllocError, Global};
 use std::marker::Model;
 
-/// A valid ledger, and the key of the node that signs it. The service's endorsement of the key stands
-/// in the ledger, once that records the node.
+/// A valid ledger, and the key of the node that signs it. The service's endorsement of the key
+/// stands in the ledger, once that records the node.
 #[derive(Drop)]
 pub struct StoreBook {
     pub(crate) alloc: Global,

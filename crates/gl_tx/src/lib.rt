@@ -1,5 +1,7 @@
 //! Requests of applications: their operations, their bytes, and what they come to on tables (CCF
 //! documentation, "Key-Value Store").
+//!
+//! Begin with `Request` and `run`.
 #![tactic(auto)]
 
 mod abort;

@@ -1,6 +1,6 @@
--- Rows that are set, write sets that are made write by write, and the write set that turns some rows
--- into others: it puts the rows whose bytes are new or changed, and removes those that are gone.
--- Rows are writes that set them.
+-- Rows that are set, write sets that are made write by write, and the write set that turns some
+-- rows into others: it puts the rows whose bytes are new or changed, and removes those that are
+-- gone. Rows are writes that set them.
 use Rattle.std.specs.Prelude.{◌≡◌, ◌≢◌, ℕ, List, [], ◌∷◌, ◌++◌, Option, None, Some, Bool, true, ◌&&◌, not, is_some, is_none, map, filter}
 use Rattle.std.specs.List.{list_all, AllByRecursion}
 use Rattle.gl_vmaps.specs.Tables.{Tables, no_tables, same_value, value_in, wrote_all}

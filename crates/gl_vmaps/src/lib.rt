@@ -1,6 +1,8 @@
 //! The tables of a key-value store (CCF documentation, "Key-Value Store"): the names of maps, keys
 //! and values within their limits, write sets, and the tables and versions that write sets at their
 //! places make.
+//!
+//! Begin with `Tables`.
 #![tactic(auto)]
 
 mod journal;

@@ -1,9 +1,9 @@
 -- Keys are bytes, so many of them.
 use Rattle.std.proofs.Common.{◌≡◌, ℕ, List, length, true, arith, length-append}
-use Rattle.gl_lms.specs.declared.types.Types.TheVariants.{H5W4}
-use Rattle.gl_lms.specs.Bytes.{u32str}
-use Rattle.gl_lms.proofs.Spans.{length-u32str}
-use Rattle.gl_lms.proofs.Octets.{u32str_bytes, length-seed_key, seed_key_bytes}
+use Rattle.gl_hss.specs.declared.types.Types.TheVariants.{H5W4}
+use Rattle.gl_hss.specs.Bytes.{u32str}
+use Rattle.gl_hss.proofs.Spans.{length-u32str}
+use Rattle.gl_hss.proofs.Octets.{u32str_bytes, length-seed_key, seed_key_bytes}
 use Rattle.gl_base.specs.Bytes.{are_bytes, are_sized}
 use Rattle.gl_gov_rules.proofs.Digests.{bytes-append, are_sized-true}
 use Rattle.gl_world.specs.Keys.{lms_key, hss_key}

@@ -3,10 +3,10 @@ use Rattle.std.proofs.Common.{◌≡◌, ℕ, zero, suc, ◌+◌, ◌-◌, ◌<�
 use Rattle.std.specs.Prelude.{find, unwrap_or}
 use Rattle.std.proofs.lemmas.Bool.{cases_eq}
 use Rattle.std.specs.Cmp.Lexicographic.{bytes_decides}
-use Rattle.gl_lms.specs.declared.types.Types.TheVariants.{H5W4}
-use Rattle.gl_lms.specs.Secrets.{public_of}
-use Rattle.gl_lms.proofs.Octets.{seed_IsKey, signed_bytes, length-signed}
-use Rattle.gl_lms.proofs.Signing.{signature_by-Signs}
+use Rattle.gl_hss.specs.declared.types.Types.TheVariants.{H5W4}
+use Rattle.gl_hss.specs.Secrets.{public_of}
+use Rattle.gl_hss.proofs.Octets.{seed_IsKey, signed_bytes, length-signed}
+use Rattle.gl_hss.proofs.Signing.{signature_by-Signs}
 use Rattle.gl_hss.specs.Hss.{IsEndorsed}
 use Rattle.gl_hss.specs.Order.{endorsement_verdict}
 use Rattle.gl_hss.specs.Signer.{StandsUnder}

@@ -3,8 +3,8 @@ use Rattle.std.proofs.Common.{◌≡◌, ◌⊎◌, inl, inr, ℕ, zero, suc, �
 use Rattle.std.specs.Cmp.Lexicographic.{bytes_decides}
 use Rattle.std.proofs.lemmas.Bool.{true≢false}
 use Rattle.gl_base.specs.Bytes.{same_bytes}
-use Rattle.gl_lms.specs.declared.types.Types.TheVariants.{H5W4}
-use Rattle.gl_lms.proofs.Octets.{seed_IsKey}
+use Rattle.gl_hss.specs.declared.types.Types.TheVariants.{H5W4}
+use Rattle.gl_hss.proofs.Octets.{seed_IsKey}
 use Rattle.gl_rules.specs.Identity.{NodeId, member}
 use Rattle.gl_rules.specs.Node.{Node}
 use Rattle.gl_rules.specs.World.{first_view}
@@ -28,11 +28,11 @@ use Rattle.gl_ledger.proofs.Opened.{begins_opening, opening_opened, opening_unre
 use Rattle.gl_ledger.proofs.NodeRows.{genesis_endorsement, row_named}
 use Rattle.gl_ledger.proofs.NodeSignatures.{node_makes}
 use Rattle.gl_ledger.proofs.Openings.{identity_behind_genesis}
-use Rattle.gl_service.specs.Service.{ServiceEvent, Leads}
-use Rattle.gl_service.specs.Service as service
-use Rattle.gl_service.proofs.Safe.{begins_retiring, begins_safe}
-use Rattle.gl_service.proofs.Leading.{recorded, records, unrecovered, leader_executes, leader_governs, leader_sound}
-use Rattle.gl_service.proofs.Founded.{IsFoundedBy, leader_identity, leader_key, leader_signs_with_key}
+use Rattle.gl_world.specs.Service.{ServiceEvent, Leads}
+use Rattle.gl_world.specs.Service as service
+use Rattle.gl_world.proofs.Safe.{begins_retiring, begins_safe}
+use Rattle.gl_world.proofs.Leading.{recorded, records, unrecovered, leader_executes, leader_governs, leader_sound}
+use Rattle.gl_world.proofs.Founded.{IsFoundedBy, leader_identity, leader_key, leader_signs_with_key}
 use Rattle.gl_world.specs.declared.settings.Settings.{Settings}
 use Rattle.gl_world.specs.Founding.{numbers_from, endorsement_of, node_of, id_of, node_ids, number_of, keys_of, genesis_of}
 use Rattle.gl_world.specs.Group.{IsGroup, RecordsTwin, book_of}

@@ -8,7 +8,7 @@ use Rattle.gl_rules.specs.Safety.{LeavesAll}
 use Rattle.gl_safety.proofs.Unchanged.{leaves_all}
 use Rattle.gl_ledger.specs.LedgerBook.{ServiceBook}
 use Rattle.gl_ledger.specs.declared.made.Given.{Given}
-use Rattle.gl_service.specs.Service.{ServiceEvent}
+use Rattle.gl_world.specs.Service.{ServiceEvent}
 use Rattle.gl_election.specs.Bridge.{seen_message}
 use Rattle.gl_replication.specs.Stands.{Answers}
 use Rattle.gl_replication.specs.declared.done.Outcome.{Outcome}

@@ -14,3 +14,8 @@ pub mod Worlds
 pub mod Histories
 pub mod Events
 pub mod Starting
+pub mod ViewLimits
+pub mod Safe
+pub mod Unrecovered
+pub mod Leading
+pub mod Founded

@@ -3,14 +3,14 @@ use Rattle.std.proofs.Common.{◌≡◌, ℕ, suc, ◌+◌, ◌-◌, ◌<◌, Li
 use Rattle.std.specs.List.{list_any}
 use Rattle.std.specs.Cmp.Lexicographic.{bytes_decides}
 use Rattle.std.proofs.lemmas.List.{take_at, drop_at}
-use Rattle.gl_lms.specs.declared.types.Types.TheVariants.{H5W4}
-use Rattle.gl_lms.specs.Bytes.{u32str}
-use Rattle.gl_lms.specs.Types.{lms_code, ots_code}
-use Rattle.gl_lms.specs.Tree.{key_bytes}
-use Rattle.gl_lms.specs.Secrets.{node}
-use Rattle.gl_lms.specs.Profile.{identifier_of}
-use Rattle.gl_lms.proofs.Spans.{length-u32str}
-use Rattle.gl_lms.proofs.Octets.{seed_IsKey}
+use Rattle.gl_hss.specs.declared.types.Types.TheVariants.{H5W4}
+use Rattle.gl_hss.specs.Bytes.{u32str}
+use Rattle.gl_hss.specs.Types.{lms_code, ots_code}
+use Rattle.gl_hss.specs.Tree.{key_bytes}
+use Rattle.gl_hss.specs.Secrets.{node}
+use Rattle.gl_hss.specs.Profile.{identifier_of}
+use Rattle.gl_hss.proofs.Spans.{length-u32str}
+use Rattle.gl_hss.proofs.Octets.{seed_IsKey}
 use Rattle.gl_base.specs.Bytes.{same_bytes}
 use Rattle.gl_gov_rules.specs.Actions.{has_key}
 use Rattle.gl_gov_rules.specs.Refusals.{are_keys_distinct}

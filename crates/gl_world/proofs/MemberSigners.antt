@@ -4,11 +4,11 @@ use Rattle.std.specs.Prelude.{slice_index_or}
 use Rattle.std.proofs.lemmas.Bool.{eq-eqb, ne_eqb, and_from}
 use Rattle.std.proofs.lemmas.Bool.Decides.{nat_tests, eqb_tells}
 use Rattle.std.proofs.lemmas.List.{get_or-set_other, get_or-set_same, get_or-replicate, get_or_read_under, length-set, length-replicate}
-use Rattle.gl_lms.specs.Bytes.{u32str}
-use Rattle.gl_lms.specs.Tree.{signature_bytes}
-use Rattle.gl_lms.specs.Profile.{signature_by}
-use Rattle.gl_lms.proofs.Spans.{length-u32str}
-use Rattle.gl_lms.proofs.Octets as octets
+use Rattle.gl_hss.specs.Bytes.{u32str}
+use Rattle.gl_hss.specs.Tree.{signature_bytes}
+use Rattle.gl_hss.specs.Profile.{signature_by}
+use Rattle.gl_hss.proofs.Spans.{length-u32str}
+use Rattle.gl_hss.proofs.Octets as octets
 use Rattle.gl_base.specs.Bytes.{are_bytes, mebibyte}
 use Rattle.gl_hss.specs.Signer.{Signer, hss_signature, levels_above}
 use Rattle.gl_requests.specs.Ranges.{is_act, is_member_number, is_signature_field, is_member_request}

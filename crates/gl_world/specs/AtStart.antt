@@ -10,7 +10,8 @@ use Rattle.gl_world.specs.Group.{book_of}
 use Rattle.gl_world.specs.World.{start_of}
 use Rattle.gl_world.specs.WorldNodes.{StandsAs}
 
--- Node i signs with its key. A node that starts has the opening ledger, and one that joins has none.
+-- Node i signs with its key. A node that starts has the opening ledger, and one that joins has
+-- none.
 abbrev pub held_at_start : Settings → ℕ → Holding Entry
 held_at_start s number = record {
   me = id_of s number;

@@ -2,9 +2,9 @@
 use Rattle.std.specs.Prelude.{ℕ, zero, suc, ◌+◌, ◌-◌, List, [], ◌∷◌, Bool, map, find, unwrap_or}
 use Rattle.sha2.specs.Sha256.{sha256}
 use Rattle.gl_base.specs.Bytes.{same_bytes}
-use Rattle.gl_lms.specs.Tree.{signature_bytes}
-use Rattle.gl_lms.specs.Secrets.{PrivateKey}
-use Rattle.gl_lms.specs.Profile.{signature_by}
+use Rattle.gl_hss.specs.Tree.{signature_bytes}
+use Rattle.gl_hss.specs.Secrets.{PrivateKey}
+use Rattle.gl_hss.specs.Profile.{signature_by}
 use Rattle.gl_requests.specs.Spelling.{node_id}
 use Rattle.gl_ledger.specs.NodeKeys.{NodeKeys}
 use Rattle.gl_requests.specs.declared.genesis.NewNode.{NewNode}
@@ -48,7 +48,8 @@ id_of s number = node_id (node_of s number)
 abbrev pub node_ids : Settings → List NodeId
 node_ids s = map (id_of s) (numbers_from 1 (s.starting + s.joiners))
 
--- The number of the first node that has this identifier, of those that start or join; 1 if none has.
+-- The number of the first node that has this identifier, of those that start or join; 1 if none
+-- has.
 abbrev pub number_of : Settings → NodeId → ℕ
 number_of s x =
     unwrap_or (find (λ number. same_bytes (id_of s number) x)

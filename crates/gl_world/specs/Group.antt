@@ -28,7 +28,8 @@ pub record IsGroup (s : Settings) : Type 0 where
 abbrev pub book_of : Settings → ServiceBook
 book_of s = ledger_book service_layers (keys_of s)
 
--- The ledger records a node with another key than the settings give it, and the two have one digest.
+-- The ledger records a node with another key than the settings give it, and the two have one
+-- digest.
 pub record RecordsTwin (s : Settings) (ledger : List Entry) (x : NodeId) : Type 0 where
   pub same : sha256 (key_in ledger x) ≡ sha256 (lms_key (node_seed s (number_of s x)))
   pub other : key_in ledger x ≡ lms_key (node_seed s (number_of s x)) → ⊥

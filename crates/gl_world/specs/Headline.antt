@@ -3,7 +3,7 @@
 use Rattle.std.specs.Prelude.{List}
 use Rattle.gl_rules.specs.Safety.{IsSafe}
 use Rattle.gl_ledger.specs.Sound.{IsSound}
-use Rattle.gl_service.specs.Service.{ServiceEvent}
+use Rattle.gl_world.specs.Service.{ServiceEvent}
 use Rattle.gl_ledger.specs.NodeKeys.{service_layers}
 use Rattle.gl_world.specs.declared.settings.Settings.{Settings}
 use Rattle.gl_world.specs.Group.{book_of}

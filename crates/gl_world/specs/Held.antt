@@ -8,7 +8,7 @@ use Rattle.gl_rules.specs.Node.{Node}
 use Rattle.gl_rules.specs.Message.{Message}
 use Rattle.gl_rules.specs.World as rules
 use Rattle.gl_rules.specs.World.{after}
-use Rattle.gl_service.specs.Service.{ServiceEvent}
+use Rattle.gl_world.specs.Service.{ServiceEvent}
 use Rattle.gl_world.specs.declared.event.Event.{Event}
 use Rattle.gl_world.specs.declared.event.Event.TheVariants as events
 use Rattle.gl_world.specs.declared.settings.Settings.{Settings}

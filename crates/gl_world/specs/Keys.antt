@@ -2,11 +2,11 @@
 -- 5.1 and 4.1).
 use Rattle.std.specs.Prelude.{ℕ, List, ◌++◌, codes}
 use Rattle.sha2.specs.Sha256.{sha256}
-use Rattle.gl_lms.specs.declared.types.Types.TheVariants.{H5W4}
-use Rattle.gl_lms.specs.Bytes.{u32str}
-use Rattle.gl_lms.specs.Tree.{key_bytes}
-use Rattle.gl_lms.specs.Secrets.{PrivateKey, public_of}
-use Rattle.gl_lms.specs.Profile.{key_of_seed}
+use Rattle.gl_hss.specs.declared.types.Types.TheVariants.{H5W4}
+use Rattle.gl_hss.specs.Bytes.{u32str}
+use Rattle.gl_hss.specs.Tree.{key_bytes}
+use Rattle.gl_hss.specs.Secrets.{PrivateKey, public_of}
+use Rattle.gl_hss.specs.Profile.{key_of_seed}
 use Rattle.gl_base.specs.LittleEndian.{little_endian}
 use Rattle.gl_world.specs.declared.settings.Settings.{Settings}
 

@@ -11,3 +11,4 @@ pub mod Rules
 pub mod AtStart
 pub mod Running
 pub mod Happened
+pub mod Service

@@ -1,8 +1,8 @@
 -- The requests that the members of a schedule sign, each with the key of its own seed, one leaf
 -- after another.
 use Rattle.std.specs.Prelude.{◌≡◌, ℕ, ◌^◌, ◌<◌, List, [], Option, None, Some, count_by, length, nat_eq, slice_index_or}
-use Rattle.gl_lms.specs.Types.{height}
-use Rattle.gl_lms.specs.declared.types.Types.TheVariants.{H5W4}
+use Rattle.gl_hss.specs.Types.{height}
+use Rattle.gl_hss.specs.declared.types.Types.TheVariants.{H5W4}
 use Rattle.gl_base.specs.declared.or_no_memory.OrNoMemory.{OrNoMemory}
 use Rattle.gl_base.specs.declared.or_no_memory.OrNoMemory.TheVariants.{NoMemory, Fault}
 use Rattle.gl_hss.specs.declared.signer.KeyExhausted.{KeyExhausted}

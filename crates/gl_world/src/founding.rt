@@ -13,8 +13,7 @@ use crate::keys::{hss_key, member_seed, service_key};
 use crate::node_key::{NodeKey, new_nodes, node_keys};
 use crate::settings::Settings;
 use gl_base::Sequence;
-use gl_hss::{HssPublic, Levels};
-use gl_lms::identifier_of;
+use gl_hss::{HssPublic, Levels, identifier_of};
 use gl_requests::{Genesis, HssPublicKey, NewMember, NewNode};
 use std::alloc::{AllocError, Global};
 
@@ -33,8 +32,8 @@ fn member(alloc: Global, settings: &Settings, number: u8) -> Result<NewMember, A
     })
 }
 
-/// Whether two members have one key. A key holds the identifier I that its seed gives, so where these
-/// differ no tree is grown.
+/// Whether two members have one key. A key holds the identifier I that its seed gives, so where
+/// these differ no tree is grown.
 fn have_one_key(
     alloc: Global,
     settings: &Settings,
@@ -67,8 +66,8 @@ fn is_key_repeated(alloc: Global, settings: &Settings, number: u8) -> Result<boo
     Ok(false)
 }
 
-/// Whether no two members have one key. Each member is compared with all behind it, which takes four
-/// digests each time, and memory only where the identifiers I of two keys are the same.
+/// Whether no two members have one key. Each member is compared with all behind it, which takes
+/// four digests each time, and memory only where the identifiers I of two keys are the same.
 pub fn has_distinct_keys(alloc: Global, settings: &Settings) -> Result<bool, AllocError>
     ensures { IfOk result (λ distinct. distinct ≡ has_distinct_keys settings.now) }
 {

@@ -9,7 +9,7 @@ ghost use Rattle.gl_requests.specs.declared.request.GovernanceRequest.{Governanc
 ghost use Rattle.gl_requests.specs.declared.genesis.ServiceState.{ServiceState};
 ghost use Rattle.gl_ledger.specs.Makers.{govern_result, request_result, signing_result};
 ghost use Rattle.gl_ledger.specs.Opening.{Begins};
-ghost use Rattle.gl_service.specs.Service.{Leads, ServiceEvent, node_of};
+ghost use Rattle.gl_world.specs.Service.{Leads, ServiceEvent, node_of};
 ghost use Rattle.gl_ledger.specs.NodeKeys.{IsNodeKey, service_layers};
 ghost use Rattle.gl_world.specs.declared.settings.Settings.{Settings};
 ghost use Rattle.gl_world.specs.Founding.{endorsement_of, genesis_of, keys_of, node_ids, number_of};
@@ -33,8 +33,8 @@ pub fn is_safe()
         IsGroup (record { starting = 1; joiners = 0; members = 1; state = state; seed = seed }) }
 {}
 
-/// The service's key endorses the key of each node that starts or joins, and the node's identifier is
-/// the digest of its key. The endorsement, which a genesis or a join of the node brings, has the
+/// The service's key endorses the key of each node that starts or joins, and the node's identifier
+/// is the digest of its key. The endorsement, which a genesis or a join of the node brings, has the
 /// 2,348 bytes of an LMS signature (RFC 8554, section 5.4).
 pub fn has_node_keys()
     ensures keys { (s : Settings) → IsGroup s → (x : NodeId) → member x (node_ids s) ≡ true →
@@ -44,10 +44,10 @@ pub fn has_node_keys()
 {}
 
 /// A leader of such a service refuses no request for a rule of the audit, whatever happened before.
-/// Nor does it refuse a signature with a leaf that its key has, where it is a node that starts by the
-/// settings, or one that joins by them; unless of the latter another key was recorded, whose digest
-/// is that of its own. A node that joined with a key of its own is not among those whose keys the
-/// world has, so nothing is said of its signatures.
+/// Nor does it refuse a signature with a leaf that its key has, where it is a node that starts by
+/// the settings, or one that joins by them; unless of the latter another key was recorded, whose
+/// digest is that of its own. A node that joined with a key of its own is not among those whose
+/// keys the world has, so nothing is said of its signatures.
 pub fn is_unguarded()
     ensures executes { (s : Settings) → IsGroup s → (events : List ServiceEvent) (x : NodeId) →
         Leads service_layers (keys_of s) (start_of s) events x → (request : List Operation) →

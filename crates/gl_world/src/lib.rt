@@ -1,4 +1,7 @@
-//! A service of one schedule: its keys, its genesis, and its ledger as the book of consensus.
+//! A service of one schedule: its keys, its genesis, and its ledger as the book of consensus; all
+//! its nodes, what they sent and what happened; and the laws that such a service is safe.
+//!
+//! Begin with `World::step`, and of laws with `is_safe`.
 #![tactic(auto)]
 
 mod dealing;
@@ -9,6 +12,7 @@ mod laws;
 mod members;
 mod node_key;
 mod nodes;
+mod service_laws;
 mod settings;
 mod world;
 mod world_node;
@@ -20,6 +24,7 @@ pub use laws::{has_node_keys, is_safe, is_unguarded};
 pub use members::Members;
 pub use node_key::{NodeKey, joining_node};
 pub use nodes::node_ids;
+pub use service_laws::{a_leader_may_sign, a_service_is_safe, a_service_is_unguarded};
 pub use settings::Settings;
 pub use world::{World, core_at_start, law_of_worlds};
 pub use world_node::WorldNode;

@@ -1,7 +1,7 @@
 //! The members of a service, who sign requests of governance.
 
 ghost use Rattle.std.specs.Prelude.{◌≡◌, ℕ, ◌+◌, ◌++◌, ◌∷◌, [], ◌^◌, ◌<◌, ◌≤◌, replicate, None, true, IsSome, IfOk, OnOk, OnErr, IfErr};
-ghost use Rattle.gl_lms.specs.Types.{height};
+ghost use Rattle.gl_hss.specs.Types.{height};
 ghost use Rattle.gl_hss.specs.Signer.{hss_signature};
 ghost use Rattle.gl_requests.specs.Ranges.{is_act, is_member_request};
 ghost use Rattle.gl_world.specs.declared.settings.Settings.{Settings};
@@ -20,7 +20,8 @@ use std::marker::Model;
 // A place for each number that a byte can hold. No member has the number 0.
 const PLACES: usize = 256;
 
-/// The signer of a member, no leaf of which is reserved or used. Its tree takes some 35,000 digests.
+/// The signer of a member, no leaf of which is reserved or used. Its tree takes some 35,000
+/// digests.
 fn unused_signer(alloc: Global, settings: &Settings, number: u8) -> Result<HssSigner, AllocError>
     ensures { IfOk result (λ signer. signer ≡ unused_signer settings.now number) }
 {
@@ -147,8 +148,8 @@ fn no_signers(alloc: Global) -> Result<Vec<Option<HssSigner>>, AllocError>
     Ok(signers)
 }
 
-/// The members of a service, who sign requests of governance, each with the key of its own seed, one
-/// leaf after another.
+/// The members of a service, who sign requests of governance, each with the key of its own seed,
+/// one leaf after another.
 ///
 /// A member's key is grown when it first signs, and kept from then on.
 #[derive(Drop)]
@@ -214,8 +215,8 @@ impl Members {
         Ok(bytes)
     }
 
-    /// What a member asks for, signed with its next leaf. Refused where each leaf of its key is used.
-    /// Want of memory leaves all as it was.
+    /// What a member asks for, signed with its next leaf. Refused where each leaf of its key is
+    /// used. Want of memory leaves all as it was.
     #[tactic(auto, unfolding(crate::specs::Members::member_request))]
     pub fn sign(
         &mut self,

@@ -1,8 +1,8 @@
 //! The keys of a service's nodes.
 
 ghost use Rattle.std.specs.Prelude.{◌≡◌, ◌≤◌, ℕ, length, map, IfOk};
-ghost use Rattle.gl_lms.specs.Secrets.{public_of};
-ghost use Rattle.gl_lms.specs.Tree.{key_bytes};
+ghost use Rattle.gl_hss.specs.Secrets.{public_of};
+ghost use Rattle.gl_hss.specs.Tree.{key_bytes};
 ghost use Rattle.gl_world.specs.Founding.{node_of, numbers_from};
 ghost use Rattle.gl_world.specs.Keyed.{AreKeysOf, IsKeyOf};
 ghost use Rattle.gl_world.specs.Keys.{private_key, service_seed};

@@ -33,8 +33,8 @@ pub use start::core_at_start;
 use std::alloc::{AllocError, Global};
 use std::marker::Model;
 
-/// All nodes of a service of a schedule. It is seen as the settings of the service and what happened:
-/// all the rest is by the rules of consensus.
+/// All nodes of a service of a schedule. It is seen as the settings of the service and what
+/// happened: all the rest is by the rules of consensus.
 #[derive(Drop)]
 pub struct World<N: WorldNode> {
     settings: Settings,
@@ -55,8 +55,8 @@ impl<N: WorldNode> Model for World<N> {
         (world_now (record { settings = w.settings; events = w.events.items })) };
 }
 
-/// Before anything happened each node that starts or joins is there, and nothing was sent, so that a
-/// node may time out and no message may be delivered.
+/// Before anything happened each node that starts or joins is there, and nothing was sent, so that
+/// a node may time out and no message may be delivered.
 pub fn law_of_worlds()
     ensures nodes { (s : Settings) (number : ℕ) → 1 ≤ number → number ≤ s.starting + s.joiners →
         has_node (record { settings = s; events = [] }) number ≡ true }
@@ -115,10 +115,10 @@ impl<N: WorldNode> World<N> {
     }
 
     /// One event happens. Want of memory leaves all as it was. Whatever happened, of any two
-    /// committed ledgers, at whatever nodes and moments, one is a prefix of the other, no identifier
-    /// is Committed and Invalid, and each committed ledger is sound. A node whose retirement is
-    /// committed may be switched off: whoever says so never again counts it in an active
-    /// configuration, nor does a leader of a later view than that of a leader who says so.
+    /// committed ledgers, at whatever nodes and moments, one is a prefix of the other, no
+    /// identifier is Committed and Invalid, and each committed ledger is sound. A node whose
+    /// retirement is committed may be switched off: whoever says so never again counts it in an
+    /// active configuration, nor does a leader of a later view than that of a leader who says so.
     pub fn step(&mut self, event: Event) -> Result<Outcome<Given>, Refusal<N::Book>>
         requires here { may_happen self.old event ≡ true }
         ensures happened { IfOk result (λ outcome. Happened self.old event self.new outcome) }
@@ -170,8 +170,8 @@ impl<N: WorldNode> World<N> {
         self.nodes.nodes[usize::from(node) - 1].core().status(id)
     }
 
-    /// How far the retirement of a node has come, as another one sees it. A node that wasn't removed
-    /// is at no stage.
+    /// How far the retirement of a node has come, as another one sees it. A node that wasn't
+    /// removed is at no stage.
     pub fn stage(&self, node: u8, other: u8) -> Option<Stage>
         requires here { has_node self.now node ≡ true }
         requires other { has_node self.now other ≡ true }

@@ -35,9 +35,9 @@ pub trait WorldNode: Drop {
     fn core(&self) -> &Core<Self::Book>
         ensures { OfEach stands self.now (λ b x n. StandsFor Self.Book.stands result.now b x n) };
 
-    /// An event of the world happens at the node, among the nodes with these identifiers, after these
-    /// messages: of each node that it stands for it is the rule's step. A refusal is that of the rule,
-    /// want of memory aside, and leaves all as it was.
+    /// An event of the world happens at the node, among the nodes with these identifiers, after
+    /// these messages: of each node that it stands for it is the rule's step. A refusal is that of
+    /// the rule, want of memory aside, and leaves all as it was.
     fn happen(
         &mut self,
         ids: &[NodeId],

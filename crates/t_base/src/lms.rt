@@ -2,8 +2,8 @@
 
 use crate::hexadecimal::{array_of, bytes_of};
 use crate::lms::keys::KEYS;
-use gl_lms::bytes::number_at;
-use gl_lms::{
+use gl_hss::bytes::number_at;
+use gl_hss::{
     LMS_KEY_LEN, LmsKey, Types, identifier_of, key_fields, root_candidate, signature_fields,
 };
 use sha2::{Digest, Sha256};

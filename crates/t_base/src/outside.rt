@@ -3,7 +3,7 @@
 ghost use Rattle.std.specs.Prelude.{◌≤◌, IfOk};
 
 use gl_outside::{
-    Came, Disk, DiskFailed, Gate, Given, Got, Link, MemDisk, MemLink, MemSink, MemSource,
+    Came, Disk, DiskFailed, Gate, Given, Got, Link, MemDisk, MemLink, MemSink, MemSource, NoDisk,
     OpenGate, Put, Sink, SinkFault, Source, StreamSink, StreamSource, SureDisk, SureLink, SureSink,
     SureSource, Tear, write_whole,
 };

@@ -2,8 +2,7 @@
 
 use crate::entry::PUT;
 use gl_base::OrNoMemory;
-use gl_entry::ReadBuffer;
-use gl_ledger_file::{Next, ReadFault, read_next};
+use gl_entry::{Next, ReadBuffer, ReadFault, read_next};
 use gl_outside::{MemSource, Source, SureSource};
 use std::alloc::Global;
 use std::test::*;

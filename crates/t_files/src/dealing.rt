@@ -15,7 +15,7 @@
 //!     return r
 //! ```
 
-use gl_dealing::{can_deal, deal_text};
+use gl_consortium::{can_deal, deal_text};
 use std::test::Fail;
 
 // `bytes(range(32))`

@@ -1,7 +1,7 @@
 //! A disk over a file of the system, and over one in memory whose calls fail.
 
-use gl_file::FileDisk;
 use gl_outside::{Disk, DiskFailed};
+use gl_system::FileDisk;
 use std::alloc::Global;
 use std::fs::{self, File, Files, Metadata, OpenFile};
 use std::io::{self, Cursor, ErrorKind, Read, Seek, SeekFrom, Write};

@@ -7,9 +7,9 @@ ghost use Rattle.gl_keyfile.specs.KeyFile.{IsOpened};
 
 use gl_base::OrNoMemory;
 use gl_forms::KeyForm;
+use gl_hss::Types;
 use gl_journal::{JournalFault, Key, KeyKind};
 use gl_keyfile::{KeyFile, KeyFileFault, LeafUse, TakenLeaf, key_form};
-use gl_lms::Types;
 use gl_outside::{Disk, MemDisk, SureDisk, Tear};
 use sha2::{Digest, Sha256};
 use std::alloc::Global;

@@ -1,7 +1,7 @@
 //! Links over sockets of this machine.
 
-use gl_net::TcpLink;
 use gl_outside::{Came, Link, Put};
+use gl_system::TcpLink;
 use std::alloc::Global;
 use std::io::{ErrorKind, Read, Write};
 use std::net::{Net, Shutdown, SocketAddr, TcpStream, ToSocketAddrs};

@@ -1,6 +1,6 @@
 //! Replies by hand.
 
-use gl_client_book::given_bytes;
+use gl_answers::given_bytes;
 use gl_gov_rules::{ProposalState, ProposalStatus};
 use gl_ledger::Given;
 use std::test::Fail;

@@ -1,11 +1,11 @@
 //! Refusals by hand: their numbers, their values, and the bytes of these.
 
-use gl_store_book::StoreBook;
+use gl_answers::{Reason, Value, reason_of, values_bytes};
 use gl_gov_rules::{Cause, GovernanceRefusal, NodeStatus, ProposalState};
 use gl_ledger::{Refusal, Unmade};
-use gl_refusals::{Reason, Value, reason_of, values_bytes};
 use gl_replication::Refusal as NodeRefusal;
 use gl_requests::ServiceState;
+use gl_store_book::StoreBook;
 use gl_tx::Abort;
 use std::alloc::Global;
 use std::test::Fail;

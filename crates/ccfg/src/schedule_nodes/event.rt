@@ -14,8 +14,8 @@ use gl_store_book::StoreBook;
 use gl_world::Event;
 use std::alloc::{AllocError, Global};
 
-/// An event of a world as the node knows it where it happens, among the nodes with these identifiers,
-/// after these messages. A restart is no event of a node.
+/// An event of a world as the node knows it where it happens, among the nodes with these
+/// identifiers, after these messages. A restart is no event of a node.
 pub(crate) fn node_event(
     alloc: Global,
     ids: &[NodeId],

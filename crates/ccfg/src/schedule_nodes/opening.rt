@@ -47,9 +47,9 @@ fn joining_books(
     Ok(books)
 }
 
-/// The stores with which the nodes of a service begin, in the order of their numbers: those of nodes
-/// that start have the opening ledger, and those of nodes that join have no entry. It grows the key of
-/// each node and member. Fails for want of memory alone.
+/// The stores with which the nodes of a service begin, in the order of their numbers: those of
+/// nodes that start have the opening ledger, and those of nodes that join have no entry. It grows
+/// the key of each node and member. Fails for want of memory alone.
 pub(crate) fn books(alloc: Global, settings: &Settings) -> Result<Vec<StoreBook>, AllocError>
     requires { IsGroup settings.now }
     ensures { IfOk result (λ books. StandAtStart Stands settings.now books.items) }

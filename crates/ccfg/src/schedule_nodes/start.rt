@@ -21,8 +21,8 @@ use crate::schedule_nodes::opening::books;
 use crate::schedule_nodes::{FileNode, only_memory};
 use gl_config::NodeId;
 use gl_entry::Entry;
+use gl_hss::Types;
 use gl_journal::{Journal, Key, KeyKind, Record};
-use gl_lms::Types;
 use gl_node::Replica;
 use gl_outside::SureDisk;
 use gl_replication::{Book, Core};
@@ -130,8 +130,8 @@ fn keep_node(
 }
 
 impl FileNode {
-    /// The node with a number at the start of a service, whose file keeps it. Fails for want of memory
-    /// alone.
+    /// The node with a number at the start of a service, whose file keeps it. Fails for want of
+    /// memory alone.
     fn begin(
         alloc: Global,
         settings: &Settings,
@@ -190,9 +190,9 @@ fn add_node(
     Ok(())
 }
 
-/// The nodes with which a service begins, in the order of their numbers, each over a file that keeps
-/// it: those that start have the opening ledger, and those that join have no entry. It grows the key of
-/// each node and member. Fails for want of memory alone.
+/// The nodes with which a service begins, in the order of their numbers, each over a file that
+/// keeps it: those that start have the opening ledger, and those that join have no entry. It grows
+/// the key of each node and member. Fails for want of memory alone.
 pub fn nodes(alloc: Global, settings: &Settings) -> Result<Vec<FileNode>, AllocError>
     requires { IsGroup settings.now }
     ensures { IfOk result (λ nodes. AreAtStart StandsOverFile settings.now nodes.items) }

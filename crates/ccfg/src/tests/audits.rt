@@ -33,7 +33,9 @@ const VOTE: &str = "\
 
 /// The ledger of one request and its signature, and where its last frame begins and ends.
 const SIGNED: &str = "a request that is signed";
+
 const LAST_FRAME: usize = 10699;
+
 const LEN: usize = 15592;
 
 const AUDIT: Run<'static> = Run {

@@ -18,10 +18,7 @@ pub const RUNS: &[Run<'static>] = &[
     Run {
         name: "250 requests",
         words: &["load", "--count", "250", "--seed", SEED],
-        due: Due::Has(&[
-            "entries 255\nsignatures 4\nbytes ",
-            "\nlast 2.255\nroot ",
-        ]),
+        due: Due::Has(&["entries 255\nsignatures 4\nbytes ", "\nlast 2.255\nroot "]),
         ..RUN
     },
     Run {

@@ -158,13 +158,21 @@ pub const RUNS: &[Run<'static>] = &[
     Run {
         name: "ballots",
         input: &[World("1 0 8 open"), Asked(FIVE_ACTIVE), Asked(BALLOTS)],
-        due: Due::Is(&[Text("1 ok\n"), Answered(2, FIVE_ACTIVE), Answered(7, BALLOTS)]),
+        due: Due::Is(&[
+            Text("1 ok\n"),
+            Answered(2, FIVE_ACTIVE),
+            Answered(7, BALLOTS),
+        ]),
         ..REPLAY
     },
     Run {
         name: "ballots of a removed member",
         input: &[World("1 0 8 open"), Asked(FIVE_ACTIVE), Asked(REMOVED)],
-        due: Due::Is(&[Text("1 ok\n"), Answered(2, FIVE_ACTIVE), Answered(7, REMOVED)]),
+        due: Due::Is(&[
+            Text("1 ok\n"),
+            Answered(2, FIVE_ACTIVE),
+            Answered(7, REMOVED),
+        ]),
         ..REPLAY
     },
     Run {

@@ -226,7 +226,11 @@ pub const RUNS: &[Run<'static>] = &[
     Run {
         name: "a rollback, and messages again",
         input: &[World("3 0 1 open"), Asked(ROLLBACK), Asked(REPEATED)],
-        due: Due::Is(&[Text("1 ok\n"), Answered(2, ROLLBACK), Answered(19, REPEATED)]),
+        due: Due::Is(&[
+            Text("1 ok\n"),
+            Answered(2, ROLLBACK),
+            Answered(19, REPEATED),
+        ]),
         ..REPLAY
     },
     Run {

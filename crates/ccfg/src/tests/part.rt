@@ -86,7 +86,12 @@ fn sent_in(traffic: &Traffic) -> Option<&[u8]> {
 
 fn sent_by<'a>(lefts: &'a [Left], name: &str, number: usize) -> &'a [u8] {
     match left_by(lefts, name) {
-        Some(left) => left.traffic.iter().filter_map(sent_in).nth(number).unwrap_or(&[]),
+        Some(left) => left
+            .traffic
+            .iter()
+            .filter_map(sent_in)
+            .nth(number)
+            .unwrap_or(&[]),
         None => &[],
     }
 }
@@ -312,11 +317,7 @@ fn put_part(
 }
 
 /// The bytes of these parts, one behind the other.
-pub fn bytes_of(
-    alloc: Global,
-    parts: &[Part<'_>],
-    lefts: &[Left],
-) -> Result<Vec<u8>, AllocError> {
+pub fn bytes_of(alloc: Global, parts: &[Part<'_>], lefts: &[Left]) -> Result<Vec<u8>, AllocError> {
     let mut out = Vec::new(alloc);
     for part in parts {
         put_part(alloc, &mut out, part, lefts)?;

@@ -30,12 +30,19 @@ const RECOVER: Run<'static> = Run {
 /// The length of the settings, 4,981 bytes, and their parts: a key of 120 digits, an endorsement of
 /// 4,696 and a key of 112, and the text between them.
 const LENGTH: Part<'static> = Hex("75130000");
+
 const IDENTITY_TEXT: Part<'static> = Text("{\"identity\":\"");
+
 const NODES_TEXT: Part<'static> = Text("\",\"nodes\":[{\"endorsement\":\"");
+
 const KEY_TEXT: Part<'static> = Text("\",\"key\":\"");
+
 const END_TEXT: Part<'static> = Text("\"}]}");
+
 const IDENTITY: Part<'static> = Member("the new service", "key");
+
 const ENDORSEMENT: Part<'static> = Member("the new node, endorsed", "endorsement");
+
 const KEY: Part<'static> = Member("the new node", "key");
 
 const REFUSED: Run<'static> = Run {
@@ -181,9 +188,18 @@ pub const RUNS: &[Run<'static>] = &[
         due: Due::Is(&[Text("served 4 lost 0\n")]),
         sent: Some(&[
             Frame::Begins(0, &[Hex("23 0700000000000000")]),
-            Frame::Payload(0, &[Hex("21 0800000000000000 5100 08000000 0600000000000000")]),
-            Frame::Payload(0, &[Hex("21 0900000000000000 5000 08000000 0300000000000000")]),
-            Frame::Payload(0, &[Hex("21 0a00000000000000 3300 08000000 0100000000000000")]),
+            Frame::Payload(
+                0,
+                &[Hex("21 0800000000000000 5100 08000000 0600000000000000")],
+            ),
+            Frame::Payload(
+                0,
+                &[Hex("21 0900000000000000 5000 08000000 0300000000000000")],
+            ),
+            Frame::Payload(
+                0,
+                &[Hex("21 0a00000000000000 3300 08000000 0100000000000000")],
+            ),
         ]),
         ..NODE
     },
@@ -256,26 +272,50 @@ pub const RUNS: &[Run<'static>] = &[
 
 /// What alice, bob and carol ask for, as members 1, 2 and 3 of the new service.
 const ALICE: Run<'static> = Run {
-    words: &["sign", "--identity", "$key of the new service", "--member", "1"],
+    words: &[
+        "sign",
+        "--identity",
+        "$key of the new service",
+        "--member",
+        "1",
+    ],
     ..RUN
 };
+
 const BOB: Run<'static> = Run {
-    words: &["sign", "--identity", "$key of the new service", "--member", "2"],
+    words: &[
+        "sign",
+        "--identity",
+        "$key of the new service",
+        "--member",
+        "2",
+    ],
     ..RUN
 };
+
 const CAROL: Run<'static> = Run {
-    words: &["sign", "--identity", "$key of the new service", "--member", "3"],
+    words: &[
+        "sign",
+        "--identity",
+        "$key of the new service",
+        "--member",
+        "3",
+    ],
     ..RUN
 };
 
 const ACK: &[Part<'static>] = &[Text("{\"op\":\"ack\"}")];
+
 const BALLOT: &[Part<'static>] = &[
     Text("{\"op\":\"ballot\",\"proposal_id\":\""),
     Digits(Sent("a proposal to open", 3), 29, 61),
     Text("\",\"vote\":true}"),
 ];
+
 const SHARE_TEXT: Part<'static> = Text("{\"op\":\"share\",\"share\":\"");
+
 const SHARE_END: Part<'static> = Text("\"}");
+
 const NINES: &str = "0909090909090909090909090909090909090909090909090909090909090909";
 
 /// The acknowledgements of three members, and a proposal to open the service.
@@ -283,17 +323,23 @@ const ACK_OF_ALICE: Arrival<'static> = Payload(
     0,
     &[Hex("11 0100000000000000"), Sized(Written("alice's ack"))],
 );
+
 const ACK_OF_BOB: Arrival<'static> = Payload(
     0,
     &[Hex("11 0200000000000000"), Sized(Written("bob's ack"))],
 );
+
 const ACK_OF_CAROL: Arrival<'static> = Payload(
     0,
     &[Hex("11 0300000000000000"), Sized(Written("carol's ack"))],
 );
+
 const PROPOSED: Arrival<'static> = Payload(
     0,
-    &[Hex("11 0400000000000000"), Sized(Written("alice's proposal"))],
+    &[
+        Hex("11 0400000000000000"),
+        Sized(Written("alice's proposal")),
+    ],
 );
 
 /// Three members, of whose shares two are enough, open a recovered service. The opening ledger is that
@@ -401,10 +447,22 @@ pub const OPENED: &[Run<'static>] = &[
         link: &[ACK_OF_ALICE, ACK_OF_BOB, ACK_OF_CAROL, PROPOSED],
         due: Due::Is(&[Text("served 4 lost 0\n")]),
         sent: Some(&[
-            Frame::Payload(0, &[Hex("20 0100000000000000 03000000 0500000000000000 00000000")]),
-            Frame::Payload(0, &[Hex("20 0200000000000000 03000000 0600000000000000 00000000")]),
-            Frame::Payload(0, &[Hex("20 0300000000000000 03000000 0700000000000000 00000000")]),
-            Frame::Begins(0, &[Hex("20 0400000000000000 03000000 0800000000000000 21000000")]),
+            Frame::Payload(
+                0,
+                &[Hex("20 0100000000000000 03000000 0500000000000000 00000000")],
+            ),
+            Frame::Payload(
+                0,
+                &[Hex("20 0200000000000000 03000000 0600000000000000 00000000")],
+            ),
+            Frame::Payload(
+                0,
+                &[Hex("20 0300000000000000 03000000 0700000000000000 00000000")],
+            ),
+            Frame::Begins(
+                0,
+                &[Hex("20 0400000000000000 03000000 0800000000000000 21000000")],
+            ),
         ]),
         ..NODE
     },
@@ -472,27 +530,54 @@ pub const OPENED: &[Run<'static>] = &[
             ACK_OF_BOB,
             ACK_OF_CAROL,
             PROPOSED,
-            Payload(0, &[Hex("11 0500000000000000"), Sized(Written("alice's ballot"))]),
-            Payload(0, &[Hex("11 0600000000000000"), Sized(Written("bob's ballot"))]),
-            PUT,
-            Payload(0, &[Hex("11 0800000000000000"), Sized(Written("alice's share"))]),
             Payload(
                 0,
-                &[Hex("11 0900000000000000"), Sized(Written("alice's share once more"))],
+                &[Hex("11 0500000000000000"), Sized(Written("alice's ballot"))],
             ),
             Payload(
                 0,
-                &[Hex("11 0a00000000000000"), Sized(Written("a wrong share of bob's"))],
+                &[Hex("11 0600000000000000"), Sized(Written("bob's ballot"))],
             ),
             PUT,
-            Payload(0, &[Hex("11 0b00000000000000"), Sized(Written("bob's share"))]),
+            Payload(
+                0,
+                &[Hex("11 0800000000000000"), Sized(Written("alice's share"))],
+            ),
+            Payload(
+                0,
+                &[
+                    Hex("11 0900000000000000"),
+                    Sized(Written("alice's share once more")),
+                ],
+            ),
+            Payload(
+                0,
+                &[
+                    Hex("11 0a00000000000000"),
+                    Sized(Written("a wrong share of bob's")),
+                ],
+            ),
+            PUT,
+            Payload(
+                0,
+                &[Hex("11 0b00000000000000"), Sized(Written("bob's share"))],
+            ),
             PUT,
         ],
         due: Due::Is(&[Text("served 13 lost 0\n")]),
         sent: Some(&[
-            Frame::Payload(0, &[Hex("20 0100000000000000 03000000 0500000000000000 00000000")]),
-            Frame::Payload(0, &[Hex("20 0200000000000000 03000000 0600000000000000 00000000")]),
-            Frame::Payload(0, &[Hex("20 0300000000000000 03000000 0700000000000000 00000000")]),
+            Frame::Payload(
+                0,
+                &[Hex("20 0100000000000000 03000000 0500000000000000 00000000")],
+            ),
+            Frame::Payload(
+                0,
+                &[Hex("20 0200000000000000 03000000 0600000000000000 00000000")],
+            ),
+            Frame::Payload(
+                0,
+                &[Hex("20 0300000000000000 03000000 0700000000000000 00000000")],
+            ),
             Frame::Payload(
                 0,
                 &[
@@ -518,10 +603,19 @@ pub const OPENED: &[Run<'static>] = &[
                 ],
             ),
             // 51: it waits for shares.
-            Frame::Payload(0, &[Hex("21 0700000000000000 3300 08000000 0300000000000000")]),
-            Frame::Payload(0, &[Hex("20 0800000000000000 03000000 0b00000000000000 00000000")]),
+            Frame::Payload(
+                0,
+                &[Hex("21 0700000000000000 3300 08000000 0300000000000000")],
+            ),
+            Frame::Payload(
+                0,
+                &[Hex("20 0800000000000000 03000000 0b00000000000000 00000000")],
+            ),
             // 101, with the member; 100, with the digest of what was given, by Python's hashlib.
-            Frame::Payload(0, &[Hex("21 0900000000000000 6500 08000000 0100000000000000")]),
+            Frame::Payload(
+                0,
+                &[Hex("21 0900000000000000 6500 08000000 0100000000000000")],
+            ),
             Frame::Payload(
                 0,
                 &[Hex(
@@ -529,8 +623,14 @@ pub const OPENED: &[Run<'static>] = &[
                     8c0cc17a04942cc4f8e0fe0b302606d3108860c126428ba2ceeb5f9ed41c2b05",
                 )],
             ),
-            Frame::Payload(0, &[Hex("21 0700000000000000 3300 08000000 0300000000000000")]),
-            Frame::Payload(0, &[Hex("20 0b00000000000000 03000000 0c00000000000000 00000000")]),
+            Frame::Payload(
+                0,
+                &[Hex("21 0700000000000000 3300 08000000 0300000000000000")],
+            ),
+            Frame::Payload(
+                0,
+                &[Hex("20 0b00000000000000 03000000 0c00000000000000 00000000")],
+            ),
             Frame::Payload(
                 0,
                 &[Hex("20 0700000000000000 03000000 0d00000000000000 03000000 010000")],

@@ -51,10 +51,7 @@ const OPERATIONS: Lines<'static> = &[
         "refused 122 1 4",
     ),
     ("submit 1 check public:t 62 -", "accepted 2.4 done"),
-    (
-        "submit 1 follow public:t 63 public:u",
-        "accepted 2.5 none",
-    ),
+    ("submit 1 follow public:t 63 public:u", "accepted 2.5 none"),
     ("submit 1 size public:t", "accepted 2.6 number 1"),
     ("submit 1 put secret 61 01", "refused 122 1 1"),
     ("submit 1 put public:ccf.gov.x 61 01", "refused 122 1 2"),

@@ -4,25 +4,27 @@
 use crate::tests::founding::{ENDORSE, GENESIS, NODE_KEY};
 use crate::tests::part::Of::{Disk, Sent, Written};
 use crate::tests::part::Part;
-use crate::tests::part::Part::{
-    All, Cut, Entry, Front, Hex, Member, Sized, Spelled, Text, Times,
-};
+use crate::tests::part::Part::{All, Cut, Entry, Front, Hex, Member, Sized, Spelled, Text, Times};
 use crate::tests::run::Arrival::{Bytes, Payload, Single, Ticks};
 use crate::tests::run::{Arrival, Due, Frame, InTurn, RUN, Run};
 
 /// As message 7: what the status of transaction 2.1 is; and that it is committed. The length of each
 /// stands in front.
-const STATUS_OF: &[Part<'static>] =
-    &[Hex("00000015 12 0700000000000000 02000000 0100000000000000")];
+const STATUS_OF: &[Part<'static>] = &[Hex(
+    "00000015 12 0700000000000000 02000000 0100000000000000",
+)];
+
 const COMMITTED: &[Part<'static>] = &[Hex("0000000a 22 0700000000000000 02")];
 
 /// As message 8: a byte 1 at the key `a` of the map `m`, which isn't public.
-const PUT_IN_SECRET: &[Part<'static>] =
-    &[Hex("10 0800000000000000 0c000000 0100 03 016d 010061 0100000001")];
+const PUT_IN_SECRET: &[Part<'static>] = &[Hex(
+    "10 0800000000000000 0c000000 0100 03 016d 010061 0100000001",
+)];
 
 /// At the key `a` of the map `public:t`.
-const PUT: &[Part<'static>] =
-    &[Hex("10 0800000000000000 14000000 0100 03 087075626c69633a74 010061 0100000001")];
+const PUT: &[Part<'static>] = &[Hex(
+    "10 0800000000000000 14000000 0100 03 087075626c69633a74 010061 0100000001",
+)];
 
 pub const NODE: Run<'static> = Run {
     words: &["node", "--ticks", "5", "--turns", "40"],
@@ -160,11 +162,17 @@ pub const RUNS: &[Run<'static>] = &[
             // A member's request, and once more.
             Payload(
                 0,
-                &[Hex("11 0c00000000000000"), Sized(Written("an acknowledgement"))],
+                &[
+                    Hex("11 0c00000000000000"),
+                    Sized(Written("an acknowledgement")),
+                ],
             ),
             Payload(
                 0,
-                &[Hex("11 0d00000000000000"), Sized(Written("an acknowledgement"))],
+                &[
+                    Hex("11 0d00000000000000"),
+                    Sized(Written("an acknowledgement")),
+                ],
             ),
             // It signs, and commits.
             Ticks(1),
@@ -183,27 +191,35 @@ pub const RUNS: &[Run<'static>] = &[
             // 122: operation 1, cause 2.
             Frame::Payload(
                 0,
-                &[Hex(
-                    "21 0900000000000000 7a00 10000000 0100000000000000 0200000000000000",
-                )],
+                &[Hex("21 0900000000000000 7a00 10000000 0100000000000000 0200000000000000")],
             ),
             // Pending; and 80 with that.
             Frame::Payload(0, &[Hex("22 0a00000000000000 01")]),
-            Frame::Payload(0, &[Hex("21 0b00000000000000 5000 08000000 0100000000000000")]),
-            Frame::Payload(0, &[Hex("20 0c00000000000000 02000000 0400000000000000 00000000")]),
+            Frame::Payload(
+                0,
+                &[Hex("21 0b00000000000000 5000 08000000 0100000000000000")],
+            ),
+            Frame::Payload(
+                0,
+                &[Hex("20 0c00000000000000 02000000 0400000000000000 00000000")],
+            ),
             // 43: the last leaf is 0, and so is this one.
             Frame::Payload(
                 0,
-                &[Hex(
-                    "21 0d00000000000000 2b00 10000000 0000000000000000 0000000000000000",
-                )],
+                &[Hex("21 0d00000000000000 2b00 10000000 0000000000000000 0000000000000000")],
             ),
             // Committed; and its receipt.
             Frame::Payload(0, &[Hex("22 0e00000000000000 02")]),
             Frame::Begins(0, &[Hex("23 0f00000000000000")]),
             // 81, with the commit.
-            Frame::Payload(0, &[Hex("21 1000000000000000 5100 08000000 0500000000000000")]),
-            Frame::Payload(0, &[Hex("21 1100000000000000 5100 08000000 0500000000000000")]),
+            Frame::Payload(
+                0,
+                &[Hex("21 1000000000000000 5100 08000000 0500000000000000")],
+            ),
+            Frame::Payload(
+                0,
+                &[Hex("21 1100000000000000 5100 08000000 0500000000000000")],
+            ),
         ]),
         ..BEGINNING
     },
@@ -320,20 +336,28 @@ const FOLLOWER: Run<'static> = Run {
 };
 
 /// The entry 2.3 of a put, and 3.3 of another value; behind each the digest of the reply `01 00 00`.
-const ENTRY: Part<'static> = Hex("0100 5b0000000000 02000000 0300000000000000 02 \
+const ENTRY: Part<'static> = Hex(
+    "0100 5b0000000000 02000000 0300000000000000 02 \
     14000000 0100 03 087075626c69633a74 010061 0100000001 \
     01000000 087075626c69633a74 010061 01 0100000001 \
-    fb50dc0717ff266cf9baf82b1ce7a1c2ef6d9247859680b11a19fb7077f5f222");
-const OTHER_ENTRY: Part<'static> = Hex("0100 5b0000000000 03000000 0300000000000000 02 \
+    fb50dc0717ff266cf9baf82b1ce7a1c2ef6d9247859680b11a19fb7077f5f222",
+);
+
+const OTHER_ENTRY: Part<'static> = Hex(
+    "0100 5b0000000000 03000000 0300000000000000 02 \
     14000000 0100 03 087075626c69633a74 010061 0100000002 \
     01000000 087075626c69633a74 010061 01 0100000002 \
-    fb50dc0717ff266cf9baf82b1ce7a1c2ef6d9247859680b11a19fb7077f5f222");
+    fb50dc0717ff266cf9baf82b1ce7a1c2ef6d9247859680b11a19fb7077f5f222",
+);
 
 /// On connection 2 a client asks for the status of 2.3 and of 3.3: the commit is 2.2, so that 2.3 is
 /// unknown once it was cut off, and 3.3 is pending.
 const ASKED: Arrival<'static> = Payload(2, &[Hex("12 0100000000000000 02000000 0300000000000000")]);
-const ASKED_NEXT: Arrival<'static> =
-    Payload(2, &[Hex("12 0200000000000000 03000000 0300000000000000")]);
+
+const ASKED_NEXT: Arrival<'static> = Payload(
+    2,
+    &[Hex("12 0200000000000000 03000000 0300000000000000")],
+);
 
 /// A follower takes entries of its leader, and then those of the next view's leader in their place.
 pub const FOLLOWED: &[Run<'static>] = &[

@@ -182,7 +182,8 @@ impl LedgerState {
         }
     }
 
-    /// Whether the commit isn't below the removal of a node that was marked behind the last signature.
+    /// Whether the commit isn't below the removal of a node that was marked behind the last
+    /// signature.
     fn is_above_removals(&self, commit: u64) -> bool
         ensures { ForLedgers self.now (λ ledger.
             result ≡ list_all (λ (y : NodeId). is_above_removal (mark ledger y)

@@ -30,11 +30,11 @@ impl Store {
     ghost use Rattle.gl_ledger.specs.Makers.{governance_made, govern_result, status_behind};
     ghost use Rattle.gl_store.specs.Calls.{Governs, Refuses};
 
-    /// Takes a request of governance that founds no service, and makes its entry, in a view that isn't
-    /// below that of any entry before. A genesis comes by `found`, a recovery by `found_anew`. Gives the
-    /// entry's identifier and what the request did. Refused, in this order, for what it asks, where the
-    /// entry's body has more than 1 MiB, and where no seqno is left. Want of memory, too, leaves the
-    /// store as it was.
+    /// Takes a request of governance that founds no service, and makes its entry, in a view that
+    /// isn't below that of any entry before. A genesis comes by `found`, a recovery by
+    /// `found_anew`. Gives the entry's identifier and what the request did. Refused, in this order,
+    /// for what it asks, where the entry's body has more than 1 MiB, and where no seqno is left.
+    /// Want of memory, too, leaves the store as it was.
     pub fn govern(
         &mut self,
         view: u32,
@@ -66,8 +66,8 @@ impl Store {
         Ok((TxId { view, seqno }, effect))
     }
 
-    /// The entry that a request of governance makes behind the ledger in a view, and what the request
-    /// does. The ledger stays without it. Refused as by `govern`.
+    /// The entry that a request of governance makes behind the ledger in a view, and what the
+    /// request does. The ledger stays without it. Refused as by `govern`.
     pub fn entry_of_governance(
         &mut self,
         view: u32,

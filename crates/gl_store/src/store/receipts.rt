@@ -14,8 +14,8 @@ impl Store {
     ghost use Rattle.gl_ledger.specs.Tree.{tables_of};
     ghost use Rattle.gl_audit.specs.Kept.{key_of};
 
-    /// The service's key in force at a seqno: that of the present, where its row was last written up
-    /// to there. There is none at 0.
+    /// The service's key in force at a seqno: that of the present, where its row was last written
+    /// up to there. There is none at 0.
     fn key_at(&self, seqno: u64) -> Option<HssPublicKey>
         requires { seqno ≤ length self.now.ledger }
         ensures key { result ≡ key_of (identity_in (tables_of (take seqno self.now.ledger))) }

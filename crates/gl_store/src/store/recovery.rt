@@ -57,10 +57,11 @@ impl Store {
         next_view(self.last_entry())
     }
 
-    /// Founds the service anew, under another key and with other nodes: adds the entry of a recovery
-    /// behind a ledger that ends with a signature. The entry behind it has to be the signature that
-    /// opens the service again. Refused, in this order, for what the recovery asks, and where the
-    /// entry's body has more than 1 MiB. Want of memory, too, leaves the store as it was.
+    /// Founds the service anew, under another key and with other nodes: adds the entry of a
+    /// recovery behind a ledger that ends with a signature. The entry behind it has to be the
+    /// signature that opens the service again. Refused, in this order, for what the recovery asks,
+    /// and where the entry's body has more than 1 MiB. Want of memory, too, leaves the store as it
+    /// was.
     pub fn found_anew(&mut self, recovery: Recovery) -> Result<(), OrNoMemory<Refusal>>
         requires signed { signs_at (last_entry self.old.ledger) ≡ true }
         requires view { recovery_view self.old.ledger < 2 ^ 32 }

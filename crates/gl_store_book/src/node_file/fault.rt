@@ -17,9 +17,9 @@ pub enum OpeningFault {
     /// The file has a key of another kind than a node's.
     #[error("the key is of the kind {got:?}, not {want:?}")]
     KeyKind { want: KeyKind, got: KeyKind },
-    /// The ledger opens no service. The entry with this seqno is the first that breaks a rule; bytes
-    /// that are no frame break one, too. Or none does, and it is the last one, which is no opening
-    /// signature.
+    /// The ledger opens no service. The entry with this seqno is the first that breaks a rule;
+    /// bytes that are no frame break one, too. Or none does, and it is the last one, which is no
+    /// opening signature.
     #[error("the ledger opens no service: {seqno}")]
     NotOpening { seqno: u64 },
     /// The batch that keeps the opening ledger would have `size` bytes, more than a length has room

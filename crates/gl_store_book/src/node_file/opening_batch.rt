@@ -109,7 +109,11 @@ pub struct Turn {
 
 impl Turn {
     /// Those of a node once its service opens.
-    pub(crate) fn at_opening(state: &Durable<LedgerLog>, me: &NodeId, opening: &OpeningLedger) -> Turn
+    pub(crate) fn at_opening(
+        state: &Durable<LedgerLog>,
+        me: &NodeId,
+        opening: &OpeningLedger,
+    ) -> Turn
         requires { me.now ≡ node_of (seen_state state.now) }
         ensures { IsTurnOf (service_start opening.now.ledger opening.now.first)
             (seen_state state.now) result }

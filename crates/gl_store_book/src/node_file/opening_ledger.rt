@@ -48,8 +48,8 @@ fn take_frame(
     }
 }
 
-/// The ledger whose frames the bytes are, one behind the other, and whether a service begins with the
-/// entry before its last.
+/// The ledger whose frames the bytes are, one behind the other, and whether a service begins with
+/// the entry before its last.
 fn read_ledger(alloc: Global, bytes: &[u8]) -> Result<(BookLedger, bool), OrNoMemory<NotOpening>>
     ensures start { IfOk result (λ read. start_in bytes.now ≡ start_behind read.0 []) }
     ensures frames { IfOk result (λ read. bytes.now ≡ flat_map frame_bytes read.0) }

@@ -3,7 +3,7 @@
 ghost use Rattle.std.specs.Prelude.{◌≡◌, ◌≢◌, ◌<◌, ◌≤◌, ◌^◌, [], None, Ok, Err, ℕ, IsTrue, IsOk, IfOk, IfErr};
 ghost use Rattle.gl_base.specs.declared.or_no_memory.OrNoMemory.{OrNoMemory};
 ghost use Rattle.gl_entry.specs.declared.entry.Entry.{Entry as Item};
-ghost use Rattle.gl_lms.specs.Types.{height};
+ghost use Rattle.gl_hss.specs.Types.{height};
 ghost use Rattle.gl_outside.specs.Disk.{Leaves};
 ghost use Rattle.gl_outside.specs.Fault.{Rose};
 ghost use Rattle.gl_rules.specs.Replication.{restart};
@@ -34,8 +34,8 @@ use crate::store_book::StoreBook;
 use gl_base::OrNoMemory;
 use gl_config::NodeId;
 use gl_election::Role;
+use gl_hss::LmsKey;
 use gl_journal::Durable;
-use gl_lms::LmsKey;
 use gl_node::Replica;
 use gl_outside::Disk;
 use gl_replication::Core;
@@ -165,11 +165,11 @@ impl<D: Disk + Drop> NodeFile<D> {
         }
     }
 
-    /// The node of the file with the opening ledger whose frames the bytes are, one behind the other.
-    /// The file has no ledger, and keeps the opening one as one batch. The ledger is committed at the
-    /// signature that opens the service. The node leads that signed it, where the file tells the
-    /// start of a service, no leaf was spent since, and it keeps no vote; each other one follows. An
-    /// error gives the disk back.
+    /// The node of the file with the opening ledger whose frames the bytes are, one behind the
+    /// other. The file has no ledger, and keeps the opening one as one batch. The ledger is
+    /// committed at the signature that opens the service. The node leads that signed it, where the
+    /// file tells the start of a service, no leaf was spent since, and it keeps no vote; each other
+    /// one follows. An error gives the disk back.
     pub fn begin(self, bytes: &[u8]) -> Result<Replica<D, StoreBook>, (OrNoMemory<OpeningFault>, D)>
         requires { self.state.log ≡ [] }
 

@@ -74,8 +74,8 @@ impl<N: WorldNode> Nodes<N> {
         index_of(&self.ids, &self.sent.get(message)?.to)
     }
 
-    /// Whether the nodes that an event names are among these, and the message that it names was sent
-    /// to one of them.
+    /// Whether the nodes that an event names are among these, and the message that it names was
+    /// sent to one of them.
     pub(crate) fn may_happen(&self, event: &Event) -> bool
         ensures { result
             ≡ is_among self.now.ids.items (map seen_message self.now.sent.items) event.now }

@@ -4,8 +4,8 @@ ghost use Rattle.std.specs.Prelude.{◌≡◌, ◌≤◌, true, IfOk};
 ghost use Rattle.gl_requests.specs.Ranges.{is_request};
 ghost use Rattle.gl_gov_rules.specs.Governed.{IsAbove, is_founding, is_nothing};
 
-use gl_base::OrNoMemory;
 use gl_audit::{GovState, is_founding};
+use gl_base::OrNoMemory;
 use gl_gov_rules::{Cause, GovernanceRefusal};
 use gl_hss::{HssPublic, HssSigner, Levels, LmsKey, Types};
 use gl_requests::GovernanceRequest;

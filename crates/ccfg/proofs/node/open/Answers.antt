@@ -1,6 +1,6 @@
 use Rattle.std.proofs.Common.{◌≡◌, ◌≢◌, inl, inr, ⊎_elim, Result, Ok, Err, arith, refl, rules, sym, ap, ◌∙◌}
 use Rattle.gl_base.specs.declared.or_no_memory.OrNoMemory.TheVariants as stops
-use Rattle.gl_ledger_file.specs.Given.{OfBytes}
+use Rattle.gl_entry.specs.Given.{OfBytes}
 use Rattle.gl_journal.specs.Durable.{Durable}
 use Rattle.gl_journal.specs.declared.fault.JournalFault.{JournalFault}
 use Rattle.gl_journal.specs.declared.fault.JournalFault.TheVariants.{DiskFault}

@@ -1,6 +1,6 @@
 use Rattle.gl_ledger.specs.NodeKeys.{service_layers}
 use Rattle.gl_audit.proofs.Binding.{bound}
-use Rattle.gl_ledger_file.specs.LedgerFile.{ledger_file}
+use Rattle.gl_entry.specs.LedgerFile.{ledger_file}
 use Rattle.gl_audit.proofs.Verdicts.{sound}
 use Rattle.gl_audit.proofs.laws.law_of_receipts.Goals as goal
 

@@ -1,5 +1,5 @@
 use Rattle.std.proofs.Common.{◌≡◌, Ok, sym, ap₂, ◌∙◌}
-use Rattle.gl_lms.specs.Secrets.{PrivateKey}
+use Rattle.gl_hss.specs.Secrets.{PrivateKey}
 use Rattle.gl_requests.specs.declared.genesis.NewNode.{NewNode}
 use Rattle.gl_consortium.specs.Owed.{has_leaf, is_first_node, opening_owed, private_key}
 use Rattle.gl_consortium.proofs.Owing.{opening_refused, refused_as}

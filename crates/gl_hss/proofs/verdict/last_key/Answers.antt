@@ -1,5 +1,5 @@
 use Rattle.std.proofs.Common.{sym, ap, ◌∙◌}
-use Rattle.gl_lms.specs.Tree.{key_bytes}
+use Rattle.gl_hss.specs.Tree.{key_bytes}
 use Rattle.gl_hss.specs.Hss.{last_key}
 use Rattle.gl_hss.proofs.Bounds.{bytes, last_key_valid, bytes_are}
 use Rattle.gl_hss.proofs.verdict.last_key.Goals as goal

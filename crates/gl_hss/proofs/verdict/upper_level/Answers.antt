@@ -1,5 +1,5 @@
 use Rattle.std.proofs.Common.{sym, ap, ◌∙◌}
-use Rattle.gl_lms.specs.Lent.{key_of, signature_of}
+use Rattle.gl_hss.specs.Lent.{key_of, signature_of}
 use Rattle.gl_hss.specs.Order.{top_key}
 use Rattle.gl_hss.proofs.Endorsements.{endorsed_root}
 use Rattle.gl_hss.proofs.verdict.upper_level.Goals as goal

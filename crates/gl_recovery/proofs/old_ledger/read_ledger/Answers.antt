@@ -1,7 +1,7 @@
 use Rattle.std.proofs.Common.{◌≡◌, ℕ, ap, ◌∙◌, sym, subst, arith, Err}
 use Rattle.gl_audit.specs.Committed.{Held}
-use Rattle.gl_ledger_file.specs.Given.{OfBytes}
-use Rattle.gl_ledger_file.specs.LedgerFile.{ledger_file}
+use Rattle.gl_entry.specs.Given.{OfBytes}
+use Rattle.gl_entry.specs.LedgerFile.{ledger_file}
 use Rattle.gl_recovery.specs.OldLedger.{valid_ledger}
 use Rattle.gl_recovery.specs.declared.fault.RecoveryFault.TheVariants as faults
 use Rattle.gl_recovery.proofs.OldLedgers.{ends_broken, ends_unread, ends_whole, goes_on, refused_as, whole_answers}

@@ -1,6 +1,6 @@
 use Rattle.std.proofs.Common.{◌≡◌, Ok, sym, ap₂, ◌∙◌, subst}
-use Rattle.gl_lms.specs.Secrets.{PrivateKey}
-use Rattle.gl_ledger_file.specs.Given.{OfBytes}
+use Rattle.gl_hss.specs.Secrets.{PrivateKey}
+use Rattle.gl_entry.specs.Given.{OfBytes}
 use Rattle.gl_recovery.specs.Answers.{FailsOn}
 use Rattle.gl_recovery.specs.Owed.{in_frames, recovery_owed}
 use Rattle.gl_recovery.specs.Recovering.{has_leaf, is_first_node, private_key}

@@ -1,5 +1,5 @@
 use Rattle.std.proofs.Common.{◌≡◌, sym, ◌∙◌, ap, ap₂}
-use Rattle.gl_lms.specs.Profile.{identifier_of}
+use Rattle.gl_hss.specs.Profile.{identifier_of}
 use Rattle.gl_base.specs.Bytes.{same_bytes}
 use Rattle.gl_world.specs.Keys.{member_seed}
 use Rattle.gl_world.proofs.MemberKeys.{keys_differ}

@@ -1,5 +1,5 @@
 use Rattle.std.proofs.Common.{rules, ◌<◌, ◌^◌, ℕ, List, refl, sym, subst, arith}
-use Rattle.gl_lms.specs.declared.types.Types.TheVariants.{H5W4}
+use Rattle.gl_hss.specs.declared.types.Types.TheVariants.{H5W4}
 use Rattle.gl_journal.specs.Durable.{key_alone}
 use Rattle.gl_journal.specs.declared.key.KeyKind.TheVariants as kinds
 use Rattle.gl_rules.specs.World.{node_at_start}

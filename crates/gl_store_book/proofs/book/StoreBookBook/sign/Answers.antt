@@ -3,8 +3,8 @@ use Rattle.gl_entry.specs.declared.entry.Entry.{Entry}
 use Rattle.gl_ledger.specs.NodeKeys.{service_layers}
 use Rattle.gl_store_book.specs.Stands.{NodeStore}
 use Rattle.gl_store_book.proofs.Telling.{tells, stands_for_itself}
-use Rattle.gl_lms.specs.Types.{height}
-use Rattle.gl_lms.specs.declared.types.Types.{Types}
+use Rattle.gl_hss.specs.Types.{height}
+use Rattle.gl_hss.specs.declared.types.Types.{Types}
 use Rattle.gl_ledger.specs.declared.breach.Broken.{Broken}
 use Rattle.gl_base.specs.Answers.{Fails}
 use Rattle.gl_ledger.specs.Broken.{broken}

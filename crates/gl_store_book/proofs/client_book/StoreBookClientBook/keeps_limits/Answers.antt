@@ -1,8 +1,8 @@
 use Rattle.std.proofs.Common.{List, All, IsTrue, sym, ap, subst}
 use Rattle.gl_entry.specs.Entry.{is_entry}
 use Rattle.gl_entry.specs.declared.entry.Entry.{Entry}
-use Rattle.gl_client_book.specs.Limits.{KeepsLimits}
-use Rattle.gl_client_book.proofs.ServiceLimits.{service_limits}
+use Rattle.gl_answers.specs.Limits.{KeepsLimits}
+use Rattle.gl_answers.proofs.ServiceLimits.{service_limits}
 use Rattle.gl_ledger.specs.LedgerBook.{ServiceBook, ledger_book}
 use Rattle.gl_ledger.specs.NodeKeys.{service_layers}
 use Rattle.gl_replication.specs.Holding.{Holding}

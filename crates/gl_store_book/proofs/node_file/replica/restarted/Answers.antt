@@ -1,6 +1,6 @@
 use Rattle.std.proofs.Common.{ℕ, ◌≤◌, ◌^◌, refl, sym, subst}
-use Rattle.gl_lms.specs.Types.{height}
-use Rattle.gl_lms.specs.Secrets.{PrivateKey}
+use Rattle.gl_hss.specs.Types.{height}
+use Rattle.gl_hss.specs.Secrets.{PrivateKey}
 use Rattle.gl_rules.specs.World.{joiner}
 use Rattle.gl_ledger.specs.LedgerBook.{ledger_book}
 use Rattle.gl_ledger.specs.NodeKeys.{service_layers}

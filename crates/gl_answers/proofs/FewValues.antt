@@ -1,0 +1,54 @@
+-- A refusal has two values at most.
+use Rattle.std.proofs.Common.{◌≤◌, length, lit≤}
+use Rattle.gl_gov_rules.specs.declared.refusal.GovernanceRefusal.{GovernanceRefusal}
+use Rattle.gl_gov_rules.specs.declared.refusal.GovernanceRefusal.TheVariants as governance
+use Rattle.gl_ledger.specs.declared.refusal.Refusal.TheVariants as ledger
+use Rattle.gl_ledger.specs.declared.made.Unmade.{Unmade}
+use Rattle.gl_ledger.specs.declared.made.Unmade.TheVariants.{ByStore, Unspelled, NoEntry, NoEvidenceYet, Founding, ByRule}
+use Rattle.gl_rules.specs.Outcome as rules
+use Rattle.gl_answers.specs.Reasons.{governance_reason, most_values, reason_of, unmade_reason}
+
+few_of_governance : (why : GovernanceRefusal) → length (governance_reason why).values ≤ most_values
+few_of_governance governance.NotMember = lit≤ tt
+few_of_governance governance.NotActive = lit≤ tt
+few_of_governance governance.Signature = lit≤ tt
+few_of_governance (governance.LeafNotGreater last got) = lit≤ tt
+few_of_governance governance.NoProposal = lit≤ tt
+few_of_governance (governance.NotOpen state) = lit≤ tt
+few_of_governance governance.HasBallot = lit≤ tt
+few_of_governance governance.NotProposer = lit≤ tt
+few_of_governance (governance.BadAction index cause) = lit≤ tt
+few_of_governance (governance.NodeState status) = lit≤ tt
+few_of_governance (governance.TooMany limit) = lit≤ tt
+few_of_governance (governance.ServiceState state) = lit≤ tt
+few_of_governance (governance.KnownProposal id) = lit≤ tt
+few_of_governance (governance.WrongShare digest) = lit≤ tt
+few_of_governance (governance.KnownShare member) = lit≤ tt
+few_of_governance (governance.Secret want got) = lit≤ tt
+
+few_of_unmade : (why : Unmade) → length (unmade_reason why).values ≤ most_values
+few_of_unmade (ByStore (ledger.ServiceState state)) = lit≤ tt
+few_of_unmade (ByStore (ledger.Aborted abort)) = lit≤ tt
+few_of_unmade (ByStore (ledger.TooLarge size)) = lit≤ tt
+few_of_unmade (ByStore ledger.SeqnoLimit) = lit≤ tt
+few_of_unmade (ByStore (ledger.Governance why)) = few_of_governance why
+few_of_unmade Unspelled = lit≤ tt
+few_of_unmade NoEntry = lit≤ tt
+few_of_unmade NoEvidenceYet = lit≤ tt
+few_of_unmade Founding = lit≤ tt
+few_of_unmade (ByRule broken) = lit≤ tt
+
+pub few_values : (why : rules.Refusal Unmade) → length (reason_of why).values ≤ most_values
+few_values (rules.NotPrimary view leader) = lit≤ tt
+few_values (rules.TooManyPending limit) = lit≤ tt
+few_values (rules.NotReserved reserved) = lit≤ tt
+few_values (rules.KeyExhausted reserved) = lit≤ tt
+few_values (rules.NothingToSign seqno) = lit≤ tt
+few_values (rules.RemovalNotCommitted place commit) = lit≤ tt
+few_values (rules.BelowCommit commit cut) = lit≤ tt
+few_values (rules.RolledBack before now) = lit≤ tt
+few_values rules.NotPeer = lit≤ tt
+few_values (rules.BelowBase base) = lit≤ tt
+few_values rules.ViewLimit = lit≤ tt
+few_values (rules.NoLaterSignature commit) = lit≤ tt
+few_values (rules.ByLedger why) = few_of_unmade why

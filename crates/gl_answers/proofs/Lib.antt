@@ -1,0 +1,4 @@
+pub mod ServiceLimits
+pub mod FewValues
+pub mod Refused
+pub mod ValueSizes

@@ -1,0 +1,5 @@
+pub mod Limits
+pub mod Receipts
+pub mod Reply
+pub mod Reasons
+pub mod Spelling

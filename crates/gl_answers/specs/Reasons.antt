@@ -1,0 +1,110 @@
+-- Why an event is refused, as whoever asked is told it: each refusal has a number, and values in
+-- order.
+use Rattle.std.specs.Prelude.{ℕ, List, [], ◌∷◌, Option, None, Some, map}
+use Rattle.gl_requests.specs.Spelling.{state_byte}
+use Rattle.gl_tx.specs.Abort.{number_of}
+use Rattle.gl_gov_rules.specs.Numbers.{cause_number}
+use Rattle.gl_gov_rules.specs.Rows.{node_byte, proposal_byte}
+use Rattle.gl_gov_rules.specs.declared.refusal.GovernanceRefusal.{GovernanceRefusal}
+use Rattle.gl_gov_rules.specs.declared.refusal.GovernanceRefusal.TheVariants as governance
+use Rattle.gl_gov_rules.specs.declared.refusal.NodeStatus.{NodeStatus}
+use Rattle.gl_ledger.specs.declared.refusal.Refusal.TheVariants as ledger
+use Rattle.gl_ledger.specs.declared.made.Unmade.{Unmade}
+use Rattle.gl_ledger.specs.declared.made.Unmade.TheVariants.{ByStore, Unspelled, NoEntry, NoEvidenceYet, Founding, ByRule}
+use Rattle.gl_rules.specs.Outcome as rules
+use Rattle.gl_replication.specs.declared.done.Refusal.{Refusal}
+use Rattle.gl_replication.specs.declared.done.Refusal.TheVariants as refusals
+use Rattle.gl_answers.specs.declared.value.Reason.{Reason}
+use Rattle.gl_answers.specs.declared.value.Value.{Value}
+use Rattle.gl_answers.specs.declared.value.Value.TheVariants.{Number, Digest, Leader}
+
+-- A reason with these numbers.
+abbrev pub numbers : ℕ → List ℕ → Reason
+numbers code values = record { code = code; values = map Number values }
+
+-- A reason with these digests.
+abbrev pub digests : ℕ → List (List ℕ) → Reason
+digests code values = record { code = code; values = map Digest values }
+
+-- The number of a node's status, 0 where the node isn't recorded.
+abbrev pub status_number : Option NodeStatus → ℕ
+status_number None = 0
+status_number (Some status) = node_byte status
+
+-- Why a request of governance is refused.
+abbrev pub governance_reason : GovernanceRefusal → Reason
+governance_reason governance.NotMember = numbers 40 []
+governance_reason governance.NotActive = numbers 41 []
+governance_reason governance.Signature = numbers 42 []
+governance_reason (governance.LeafNotGreater last got) = numbers 43 (last ∷ got ∷ [])
+governance_reason governance.NoProposal = numbers 44 []
+governance_reason (governance.NotOpen state) = numbers 45 (proposal_byte state ∷ [])
+governance_reason governance.HasBallot = numbers 46 []
+governance_reason governance.NotProposer = numbers 47 []
+governance_reason (governance.BadAction index cause) =
+    numbers 48 (index ∷ cause_number cause ∷ [])
+governance_reason (governance.NodeState status) = numbers 49 (status_number status ∷ [])
+governance_reason (governance.TooMany limit) = numbers 50 (limit ∷ [])
+governance_reason (governance.ServiceState state) = numbers 51 (state_byte state ∷ [])
+governance_reason (governance.KnownProposal id) = digests 52 (id ∷ [])
+governance_reason (governance.WrongShare digest) = digests 100 (digest ∷ [])
+governance_reason (governance.KnownShare member) = numbers 101 (member ∷ [])
+governance_reason (governance.Secret want got) = digests 103 (want ∷ got ∷ [])
+
+-- Why a ledger takes no entry.
+abbrev pub unmade_reason : Unmade → Reason
+unmade_reason (ByStore (ledger.ServiceState state)) = numbers 51 (state_byte state ∷ [])
+unmade_reason (ByStore (ledger.Aborted abort)) =
+    numbers 122 (abort.operation ∷ number_of abort.cause ∷ [])
+unmade_reason (ByStore (ledger.TooLarge size)) = numbers 119 (size ∷ [])
+unmade_reason (ByStore ledger.SeqnoLimit) = numbers 130 []
+unmade_reason (ByStore (ledger.Governance why)) = governance_reason why
+unmade_reason Unspelled = numbers 117 []
+unmade_reason NoEntry = numbers 117 []
+unmade_reason NoEvidenceYet = numbers 117 []
+unmade_reason Founding = numbers 117 []
+unmade_reason (ByRule broken) = numbers 117 []
+
+-- Why an event is refused by the rules of consensus.
+abbrev pub reason_of : rules.Refusal Unmade → Reason
+reason_of (rules.NotPrimary view leader) =
+    record { code = 110; values = Number view ∷ Leader leader ∷ [] }
+reason_of (rules.TooManyPending limit) = numbers 111 (limit ∷ [])
+reason_of (rules.NotReserved reserved) = numbers 112 (reserved ∷ [])
+reason_of (rules.KeyExhausted reserved) = numbers 113 (reserved ∷ [])
+reason_of (rules.NothingToSign seqno) = numbers 114 (seqno ∷ [])
+reason_of (rules.RemovalNotCommitted place commit) = numbers 115 (place ∷ commit ∷ [])
+reason_of (rules.BelowCommit commit cut) = numbers 116 (commit ∷ cut ∷ [])
+reason_of (rules.RolledBack before now) = numbers 124 (before ∷ now ∷ [])
+reason_of rules.NotPeer = numbers 126 []
+reason_of (rules.BelowBase base) = numbers 127 (base ∷ [])
+reason_of rules.ViewLimit = numbers 128 []
+reason_of (rules.NoLaterSignature commit) = numbers 81 (commit ∷ [])
+reason_of (rules.ByLedger why) = unmade_reason why
+
+-- The number of a refusal, and its values in order.
+abbrev pub code_of : rules.Refusal Unmade → ℕ
+code_of why = (reason_of why).code
+
+abbrev pub values_of : rules.Refusal Unmade → List Value
+values_of why = (reason_of why).values
+
+-- No refusal has more values.
+abbrev pub most_values : ℕ
+most_values = 2
+
+-- A node's refusal as the rules know it. Want of memory is none.
+abbrev pub seen_refusal : {S Q G R A F : Type 0} → Refusal S Q G R A F → Option (rules.Refusal F)
+seen_refusal refusals.NoMemory = None
+seen_refusal (refusals.NotPrimary view leader) = Some (rules.NotPrimary view leader)
+seen_refusal (refusals.TooManyPending limit) = Some (rules.TooManyPending limit)
+seen_refusal (refusals.NotReserved reserved) = Some (rules.NotReserved reserved)
+seen_refusal (refusals.KeyExhausted reserved) = Some (rules.KeyExhausted reserved)
+seen_refusal (refusals.NothingToSign seqno) = Some (rules.NothingToSign seqno)
+seen_refusal (refusals.RemovalNotCommitted seqno commit) =
+    Some (rules.RemovalNotCommitted seqno commit)
+seen_refusal (refusals.BelowCommit commit seqno) = Some (rules.BelowCommit commit seqno)
+seen_refusal refusals.NotPeer = Some rules.NotPeer
+seen_refusal (refusals.BelowBase base) = Some (rules.BelowBase base)
+seen_refusal refusals.ViewLimit = Some rules.ViewLimit
+seen_refusal (refusals.ByLedger why) = Some (rules.ByLedger why)

@@ -1,0 +1,19 @@
+//! What whoever asks a node is told: the answer to a request that was accepted, the receipt of a
+//! transaction, and why an event is refused, by its number and its values in order.
+//!
+//! Begin with the trait `ClientBook` for what is answered to an accepted request, and `reason_of`
+//! for a refusal.
+#![tactic(auto)]
+
+mod client_book;
+mod governance;
+mod reason;
+mod reply;
+mod spelling;
+mod value;
+
+pub use client_book::ClientBook;
+pub use reason::reason_of;
+pub use reply::given_bytes;
+pub use spelling::values_bytes;
+pub use value::{Reason, Value};

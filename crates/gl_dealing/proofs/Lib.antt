@@ -1,3 +1,0 @@
-mod MemberLemmas
-mod TreeLemmas
-mod DealtLemmas

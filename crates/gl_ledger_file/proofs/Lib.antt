@@ -1,3 +1,0 @@
-pub mod FileLaws
-pub mod Reading
-pub mod Spelled

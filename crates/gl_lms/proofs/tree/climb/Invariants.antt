@@ -1,6 +1,0 @@
-use Rattle.std.proofs.Common.{◌≡◌, ◌/◌, ◌^◌}
-use Rattle.gl_lms.specs.Tree.{climb}
-use Rattle.gl_lms.proofs.tree.climb.Given as goal
-
-abbrev pub invariant-loop-i : goal.invariant-loop-i
-invariant-loop-i l = (l.value ≡ climb l.identifier l.path l.fn.node l.i l.fn.value) × (l.node ≡ l.fn.node / 2 ^ l.i)

@@ -1,3 +1,0 @@
-pub mod FewValues
-pub mod Refused
-pub mod ValueSizes

@@ -1,0 +1,288 @@
+//! What a node does with payloads and with events of its own.
+
+ghost use Rattle.std.specs.Prelude.{◌≡◌, ◌⊎◌, ℕ, [], ◌∷◌, All, IfOk, IsTrue, length, true};
+ghost use Rattle.gl_messages.specs.Answer.{said_fits};
+ghost use Rattle.gl_messages.specs.Message.{body_fits};
+ghost use Rattle.gl_messages.specs.declared.answer.Said.TheVariants.{StatusIs};
+ghost use Rattle.gl_node.specs.Rules.{has_few_entries};
+ghost use Rattle.gl_node.specs.declared.event.Event.TheVariants as events;
+ghost use Rattle.gl_receipt.specs.Made.{receipt_of};
+ghost use Rattle.gl_answers.specs.Reasons.{numbers};
+ghost use Rattle.gl_answers.specs.Receipts.{receipts_of};
+ghost use Rattle.gl_replication.specs.Stands.{Tells};
+ghost use Rattle.gl_rules.specs.Log.{entry_at, is_signature_in};
+ghost use Rattle.gl_rules.specs.Safety.{reported_status};
+ghost use Rattle.gl_serve.specs.Rules.{Fits};
+ghost use Rattle.gl_serve.specs.Answering.{Answers, IsAccepted, IsAnswered, Says, message_outcome, nothing, reason_said, receipt_said};
+ghost use Rattle.gl_serve.specs.Events.{Happens};
+ghost use Rattle.gl_serve.specs.Requests.{is_request};
+ghost use Rattle.gl_serve.specs.Serving.{Asks, Comes, Handles, Happen, HappenUnsigned, Owns, Questions, Tell};
+
+use crate::answering::{accept, answer, json_said, make_reason, reason_said, refusal_said};
+use crate::heard::is_heard;
+use crate::payload::{Ask, Payload};
+use crate::peer_message::PeerMessage;
+use crate::{Outcome, OwnEvent};
+use gl_answers::{ClientBook, Reason};
+use gl_base::{OrNoMemory, Sequence, TxId};
+use gl_messages::Said;
+use gl_node::{Event, KeptBook, NodeFault, Replica};
+use gl_outside::Disk;
+use gl_receipt::write_receipt;
+use gl_replication::{Core, Done};
+use std::alloc::Global;
+
+/// An event happens.
+fn happen<D: Disk, B: KeptBook + ClientBook>(
+    replica: &mut Replica<D, B>,
+    event: Event<B>,
+) -> Result<Done<B>, NodeFault<B>>
+    requires few { has_few_entries event ≡ true }
+    ensures happens { Happens B.stands B.goes_on D.honest D.bytes D.past D.faults
+        event replica.old result replica.new }
+    ensures fits { IfOk result (λ done. All (λ m. IsTrue (body_fits m.body)) done.sent) }
+    ensures accepted { IfOk result (λ done.
+        is_request event ≡ true → IsAccepted done.outcome) }
+{
+    replica.core().book.keeps_limits();
+    replica.event(event)
+}
+
+/// Nothing is sent.
+fn nothing(alloc: Global) -> Outcome
+    ensures outcome { result ≡ nothing }
+    ensures fits { Fits result }
+{
+    Outcome::Done {
+        messages: Sequence::from(Vec::new(alloc)),
+        answer: None,
+        heard: false,
+    }
+}
+
+/// A message of a peer.
+fn on_message<D: Disk, B: KeptBook + ClientBook>(
+    replica: &mut Replica<D, B>,
+    message: PeerMessage,
+) -> Outcome
+    ensures comes { Comes B.stands B.goes_on D.honest D.bytes D.past D.faults
+        (events.Message message) replica.old replica.new (λ came.
+        result ≡ message_outcome message.view replica.new.core.peer.view came) }
+    ensures fits { Fits result }
+{
+    let alloc = replica.core().alloc;
+    let view = message.view();
+    match happen(replica, Event::Message(message.into_message())) {
+        Ok(done) => {
+            let heard = is_heard(view, replica.core().peer.view, done.sent.as_slice());
+            Outcome::Done {
+                messages: done.sent,
+                answer: None,
+                heard,
+            }
+        }
+        Err(NodeFault::Refused(_)) => nothing(alloc),
+        Err(_) => Outcome::Stopped,
+    }
+}
+
+/// A request of a client.
+fn on_request<D: Disk, B: KeptBook + ClientBook>(
+    replica: &mut Replica<D, B>,
+    number: u64,
+    event: Event<B>,
+) -> Outcome
+    requires request { is_request event ≡ true }
+    requires few { has_few_entries event ≡ true }
+    ensures comes { Comes B.stands B.goes_on D.honest D.bytes D.past D.faults
+        event replica.old replica.new (λ came. Answers number came result) }
+    ensures fits { Fits result }
+    ensures answered { IsAnswered number result }
+{
+    let alloc = replica.core().alloc;
+    match happen(replica, event) {
+        Ok(done) => accept(alloc, number, done),
+        Err(NodeFault::Refused(why)) => answer(alloc, number, refusal_said(alloc, &why)),
+        Err(_) => Outcome::Stopped,
+    }
+}
+
+/// The receipt of a transaction as it is told, or that memory ran out.
+fn receipt_said<B: KeptBook + ClientBook>(core: &Core<B>, id: TxId) -> Said
+    ensures due { Tells B.stands core.now (λ b x n.
+        Says (receipt_said (receipt_of (receipts_of n.log n.commit) id)) result) }
+    ensures fits { IsTrue (said_fits result) }
+{
+    match core.book.receipt(core.commit, id) {
+        Ok(receipt) => match write_receipt(core.alloc, &receipt) {
+            Ok(json) => json_said(core.alloc, json),
+            Err(_) => Said::Memory,
+        },
+        Err(OrNoMemory::Fault(fault)) => match make_reason(core.alloc, fault) {
+            Ok(reason) => reason_said(core.alloc, &reason),
+            Err(_) => Said::Memory,
+        },
+        Err(OrNoMemory::NoMemory) => Said::Memory,
+    }
+}
+
+/// That no snapshot is handed out, or that memory ran out.
+fn part_said<B: KeptBook + ClientBook>(core: &Core<B>) -> Said
+    ensures due { Tells B.stands core.now (λ b x n.
+        Says (reason_said (numbers 81 (n.commit ∷ []))) result) }
+    ensures fits { IsTrue (said_fits result) }
+{
+    match Reason::numbers(core.alloc, 81, &[core.commit]) {
+        Ok(reason) => reason_said(core.alloc, &reason),
+        Err(_) => Said::Memory,
+    }
+}
+
+/// What a client asks.
+fn on_ask<D: Disk, B: KeptBook + ClientBook>(
+    replica: &mut Replica<D, B>,
+    number: u64,
+    ask: Ask,
+) -> Outcome
+    ensures asks { Asks B.stands B.goes_on D.honest D.bytes D.past D.faults
+        replica.old number ask result replica.new }
+    ensures fits { Fits result }
+    ensures answered { IsAnswered number result }
+{
+    match ask {
+        Ask::Submit(request) => on_request(replica, number, Event::Submit(request)),
+        Ask::Govern(request) => on_request(replica, number, Event::Govern(request)),
+        Ask::StatusOf(id) => status_of(replica, number, id),
+        Ask::ReceiptOf(id) => receipt(replica, number, id),
+        Ask::SnapshotPart { .. } => part(replica, number),
+    }
+}
+
+fn status_of<D: Disk, B: KeptBook + ClientBook>(
+    replica: &Replica<D, B>,
+    number: u64,
+    id: TxId,
+) -> Outcome
+    ensures told { Tell B.stands B.goes_on D.honest D.bytes D.past D.faults
+        replica.now.stopped replica.now number
+        (λ b n told. told ≡ StatusIs (reported_status b n id)) result }
+    ensures fits { Fits result }
+    ensures answered { IsAnswered number result }
+{
+    if replica.stopped().is_some() {
+        return Outcome::Stopped;
+    }
+    let core = replica.core();
+    answer(core.alloc, number, Said::StatusIs(core.status(id)))
+}
+
+fn receipt<D: Disk, B: KeptBook + ClientBook>(
+    replica: &Replica<D, B>,
+    number: u64,
+    id: TxId,
+) -> Outcome
+    ensures told { Tell B.stands B.goes_on D.honest D.bytes D.past D.faults
+        replica.now.stopped replica.now number
+        (λ b n. Says (receipt_said (receipt_of (receipts_of n.log n.commit) id))) result }
+    ensures fits { Fits result }
+    ensures answered { IsAnswered number result }
+{
+    if replica.stopped().is_some() {
+        return Outcome::Stopped;
+    }
+    let core = replica.core();
+    answer(core.alloc, number, receipt_said(core, id))
+}
+
+fn part<D: Disk, B: KeptBook + ClientBook>(replica: &Replica<D, B>, number: u64) -> Outcome
+    ensures told { Tell B.stands B.goes_on D.honest D.bytes D.past D.faults
+        replica.now.stopped replica.now number
+        (λ b n. Says (reason_said (numbers 81 (n.commit ∷ [])))) result }
+    ensures fits { Fits result }
+    ensures answered { IsAnswered number result }
+{
+    if replica.stopped().is_some() {
+        return Outcome::Stopped;
+    }
+    let core = replica.core();
+    answer(core.alloc, number, part_said(core))
+}
+
+/// A payload comes.
+pub fn handle<D: Disk, B: KeptBook + ClientBook>(
+    replica: &mut Replica<D, B>,
+    payload: Payload,
+) -> Outcome
+    ensures handles { Handles B.stands B.goes_on D.honest D.bytes D.past D.faults
+        replica.old payload result replica.new }
+    ensures fits { Fits result }
+{
+    match payload {
+        Payload::Peer(message) => on_message(replica, message),
+        Payload::Client { number, ask } => on_ask(replica, number, ask),
+    }
+}
+
+/// An event of the node's own happens.
+fn happen_alone<D: Disk, B: KeptBook + ClientBook>(
+    replica: &mut Replica<D, B>,
+    event: Event<B>,
+) -> Outcome
+    requires few { has_few_entries event ≡ true }
+    ensures happen { Happen B.stands B.goes_on D.honest D.bytes D.past D.faults
+        replica.old event result replica.new }
+    ensures fits { Fits result }
+{
+    match happen(replica, event) {
+        Ok(done) => Outcome::Done {
+            messages: done.sent,
+            answer: None,
+            heard: false,
+        },
+        Err(NodeFault::Refused(_)) => nothing(replica.core().alloc),
+        Err(_) => Outcome::Stopped,
+    }
+}
+
+/// Whether the last entry is a signature of the node's view.
+fn is_signed<B: KeptBook + ClientBook>(core: &Core<B>) -> bool
+    ensures { Tells B.stands core.now (λ b x n.
+        result ≡ is_signature_in b n.view (entry_at n.log (length n.log))) }
+{
+    core.book
+        .is_signature_in(core.peer.view, core.book.ledger_len())
+}
+
+/// An event of the node's own happens, unless the last entry is a signature of its view.
+fn happen_unsigned<D: Disk, B: KeptBook + ClientBook>(
+    replica: &mut Replica<D, B>,
+    event: Event<B>,
+) -> Outcome
+    requires few { has_few_entries event ≡ true }
+    ensures happen { HappenUnsigned B.stands B.goes_on D.honest D.bytes D.past D.faults
+        replica.old event result replica.new }
+    ensures fits { Fits result }
+{
+    if is_signed(replica.core()) {
+        return nothing(replica.core().alloc);
+    }
+    happen_alone(replica, event)
+}
+
+/// An event of the node's own.
+pub fn own<D: Disk, B: KeptBook + ClientBook>(
+    replica: &mut Replica<D, B>,
+    event: OwnEvent,
+) -> Outcome
+    ensures owns { Owns B.stands B.goes_on D.honest D.bytes D.past D.faults
+        replica.old event result replica.new }
+    ensures fits { Fits result }
+{
+    match event {
+        OwnEvent::Replicate(peer) => happen_alone(replica, Event::Replicate(peer)),
+        OwnEvent::Reserve => happen_unsigned(replica, Event::Reserve),
+        OwnEvent::Sign => happen_unsigned(replica, Event::Sign),
+        OwnEvent::Advance => happen_alone(replica, Event::Advance),
+        OwnEvent::Timeout => happen_alone(replica, Event::Timeout),
+    }
+}

@@ -1,5 +1,0 @@
-pub mod ViewLimits
-pub mod Safe
-pub mod Unrecovered
-pub mod Leading
-pub mod Founded

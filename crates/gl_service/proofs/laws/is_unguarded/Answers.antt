@@ -1,9 +1,0 @@
-use Rattle.gl_service.proofs.Leading.{leader_executes, leader_governs, leader_signs}
-use Rattle.gl_service.proofs.laws.is_unguarded.Goals as goal
-
-pub returns : goal.returns
-returns c = record {
-  executes = λ layers keys s h events x leads request. leader_executes layers keys s h events x leads request;
-  governs = λ layers keys s h events x leads request. leader_governs layers keys s h events x leads request;
-  signs = λ layers keys s h events x leads leaf valid. leader_signs layers keys s h events x leads leaf valid;
-}

@@ -1,6 +1,0 @@
-use Rattle.gl_serving.proofs.Living.{serve_lives}
-use Rattle.gl_serving.proofs.laws.a_serve_is_events_of_its_node.Goals as goal
-
-pub returns : goal.returns
-returns g c told settings first last before after ahead left result s =
-    serve_lives g.B.Book.stands g.B.KeptBook.goes_on g.D.Disk.honest g.D.Disk.bytes g.D.Disk.past g.D.Disk.faults settings told _ _ _ _ result s.went

@@ -1,6 +1,6 @@
 #!/usr/bin/env -S python3 -B
 # Measures hash-based signatures against the SHA-256 digests that they need: making a key, signing, verifying, and verifying
-# below an endorsed key. All times are processor times of one run of a program over crates/gl_lms and crates/gl_hss, built in a
+# below an endorsed key. All times are processor times of one run of a program over crates/gl_hss, built in a
 # folder of its own, and each is divided by the time of as many digests of one block in the same run. Prints the least ratio of
 # three rounds, and fails where one is above its limit.
 import hashlib
@@ -124,10 +124,9 @@ def counts(round, public):
 def rounds(work):
     crate = os.path.join(work, "crates", "hss_bench")
     os.makedirs(os.path.join(crate, "src"))
-    for name in ("gl_lms", "gl_hss"):
-        shutil.copytree(os.path.join(TOP, "crates", name), os.path.join(work, "crates", name), ignore=shutil.ignore_patterns("out"))
+    shutil.copytree(os.path.join(TOP, "crates", "gl_hss"), os.path.join(work, "crates", "gl_hss"), ignore=shutil.ignore_patterns("out"))
     for path, text in [
-        (os.path.join(work, "crates.txt"), "gl_lms: sha2\ngl_hss: gl_lms thiserror\nhss_bench: gl_hss sha2 anyhow\n"),
+        (os.path.join(work, "crates.txt"), "gl_hss: thiserror sha2\nhss_bench: gl_hss sha2 anyhow\n"),
         (os.path.join(crate, "stdin"), ""),
         (os.path.join(crate, "src", "main.rt"), PROGRAM),
     ]:

@@ -1,7 +1,7 @@
 #!/usr/bin/env -S python3 -B
 # Measures a node's file on the disk of the machine: committing 2,000 batches of 1 KiB (11 entries), against plain writes of as many bytes with
 # two writes and two syncs each; and opening a file of 100,000 entries, against reading and hashing its bytes. The program over
-# crates/gl_journal and crates/gl_file is built in a folder of its own. Prints the rate of both kinds of batch by the clock, and
+# crates/gl_journal and crates/gl_system is built in a folder of its own. Prints the rate of both kinds of batch by the clock, and
 # the processor times of opening and of hashing. Fails where batches have less than 0.9 of the plain rate, or where opening takes
 # more than three times hashing.
 import os
@@ -19,9 +19,9 @@ BATCHES, SIZE, ENTRIES, ROUNDS = 2_000, 11 * 98, 100_000, 3
 PROGRAM = """#![tactic(auto)]
 
 use gl_base::OrNoMemory;
-use gl_file::FileDisk;
+use gl_system::FileDisk;
 use gl_journal::{FrameLog, Journal, JournalFault, Key, KeyKind, Record, batch_len};
-use gl_lms::Types;
+use gl_hss::Types;
 use gl_outside::Disk;
 use sha2::{Digest, Sha256};
 use std::alloc::{AllocError, Global};
@@ -112,13 +112,13 @@ def build(work):
         name, _, stands = line.split("#")[0].partition(":")
         if stands:
             table[name.strip()] = stands.split()
-    wanted = ["gl_journal", "gl_file"]
+    wanted = ["gl_journal", "gl_system"]
     for name in wanted:
         wanted += [below for below in table[name] if below in table and below not in wanted]
     for name in wanted:
         shutil.copytree(os.path.join(TOP, "crates", name), os.path.join(work, "crates", name), copy_function=os.link)
     lines = [f"{name}: {' '.join(table[name])}" for name in table if name in wanted]
-    lines.append("journal_bench: gl_base gl_file gl_journal gl_lms gl_outside sha2 anyhow")
+    lines.append("journal_bench: gl_base gl_hss gl_journal gl_outside gl_system sha2 anyhow")
     for path, text in [
         (os.path.join(work, "crates.txt"), "\n".join(lines) + "\n"),
         (os.path.join(crate, "stdin"), ""),

@@ -1,11 +1,12 @@
 #!/usr/bin/env python3
-"""Prints roots of LMS keys that grow from seeds, by Python's hashlib alone: rows of the tests of gl_lms stand there.
+"""Prints roots of LMS keys that grow from seeds, by Python's hashlib alone: rows of the tests of keys in `t_base`.
 
     examples/lms/keys.py
 
 It is written after RFC 8554 and its appendix A. First it makes the roots of keys of other implementations from their
 identifiers and seeds, and ends with status 1 where one is another: the first eight are of Bouncy Castle 1.72, the last
-two of appendix F, test case 2. Then it prints the roots of the first six seeds with the identifier of this repository. It takes a minute or two.
+two of appendix F, test case 2. Then it prints the roots of the first six seeds with the
+identifier of this repository. It takes a minute or two.
 """
 import hashlib
 import struct

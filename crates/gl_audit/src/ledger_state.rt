@@ -34,7 +34,7 @@ use std::alloc::{AllocError, Global};
 mod rules;
 mod signatures;
 
-pub(crate) use signatures::{count_up_to, seqno_at};
+pub use signatures::{count_up_to, seqno_at};
 
 /// The map of the service's row (CCF documentation, "Builtin Maps").
 pub const SERVICE_MAP: &[u8] = b"public:ccf.gov.service";

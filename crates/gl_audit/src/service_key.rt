@@ -44,7 +44,7 @@ fn written_key(write: &Write) -> Option<HssPublicKey>
 }
 
 /// The key in force behind these entries. `None` where there is none.
-pub(crate) fn key_behind(entries: &[Entry]) -> Option<HssPublicKey>
+pub fn key_behind(entries: &[Entry]) -> Option<HssPublicKey>
     ensures { result ≡ key_of (identity_in (tables_of entries.now)) }
 {
     let mut key = None;

@@ -112,7 +112,7 @@ fn put_removals(
 
 /// The write set that turns the rows before into those after.
 #[tactic(auto, using(crate::proofs::Putting::puts))]
-pub(crate) fn changes(alloc: Global, before: &Writes, after: &Writes) -> Result<Writes, AllocError>
+pub fn changes(alloc: Global, before: &Writes, after: &Writes) -> Result<Writes, AllocError>
     ensures { IfOk result (λ writes. writes ≡ changes before.now after.now) }
 {
     let (before, after) = (before.as_slice(), after.as_slice());

@@ -71,7 +71,7 @@ fn named_in_act(alloc: Global, request: &MemberRequest) -> Result<Option<Digest>
 }
 
 /// The proposal that a request makes, answers or takes back.
-pub(crate) fn proposal_named(
+pub fn proposal_named(
     alloc: Global,
     request: &GovernanceRequest,
 ) -> Result<Option<Digest>, AllocError>
@@ -149,7 +149,7 @@ fn ids_touched(
 }
 
 /// What a request touches that brings these changes about.
-pub(crate) fn touched_by(
+pub fn touched_by(
     alloc: Global,
     past: &History,
     recorded: &Recorded,

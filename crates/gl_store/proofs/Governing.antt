@@ -1,6 +1,5 @@
 -- What the book makes of a request of governance, as what a store answers.
-use Rattle.std.proofs.Common.{◌≡◌, ℕ, ◌+◌, ◌<◌, ◌≤◌, List, [], ◌∷◌, ◌++◌, length, Option, None, Some, Result, Ok, Err, Bool, true, false, ◌||◌, nat_lt, if◌then◌else◌, sym, ◌∙◌, ap, ap₂, arith}
-use Rattle.std.proofs.lemmas.Bool.Decides.{nat_tests}
+use Rattle.std.proofs.Common.{◌≡◌, ℕ, ◌+◌, List, [], ◌∷◌, ◌++◌, length, Option, None, Some, Result, Ok, Err, Bool, true, false, ◌||◌, nat_lt, if◌then◌else◌, sym, ap}
 use Rattle.gl_base.specs.TxId.{last_seqno}
 use Rattle.gl_entry.specs.Entry.{body_bytes, body_limit}
 use Rattle.gl_entry.specs.declared.entry.Content.TheVariants as content
@@ -26,24 +25,6 @@ use Rattle.gl_ledger.proofs.RequestSpellings.{request_in-read}
 pub requests_behind : (ledger : List Entry) (g : GovernanceRequest) (e : Entry) → is_request g ≡ true → e.content ≡ content.Governance (request_bytes g) →
     requests_of (ledger ++ e ∷ []) ≡ requests_of ledger ++ record { seqno = length ledger + 1; request = g } ∷ []
 requests_behind ledger g e fits is = requests-more ledger e (request_bytes g) g is (request_in-read g fits)
-
--- a request that founds nothing is made or refused behind the ledger
-pub govern_asked : (ledger : List Entry) (view : ℕ) (g : GovernanceRequest) → is_request g ≡ true → is_founding g ≡ false → is_recovery g ≡ false → govern_result ledger view g ≡ accepted_result ledger view g
-govern_asked ledger view g fits founding recovery =
-    ap (λ (b : Bool). if b then (if is_founding g || is_recovery g then Err Founding else accepted_result ledger view g) else Err Unspelled) fits
-    ∙ ap₂ (λ (a b : Bool). if a || b then Err Founding else accepted_result ledger view g) founding recovery
-
--- and else it is its entry, within the limits
-pub govern_accepted : (ledger : List Entry) (view : ℕ) (g : GovernanceRequest) → is_request g ≡ true → is_founding g ≡ false → is_recovery g ≡ false →
-    refusal (history (requests_of ledger)) (length ledger + 1) g ≡ None → govern_result ledger view g ≡ governed_within ledger g (governance_entry g ledger view)
-govern_accepted ledger view g fits founding recovery is =
-    govern_asked ledger view g fits founding recovery ∙ ap (λ (o : Option GovernanceRefusal). unless_refused o (governed_within ledger g (governance_entry g ledger view))) is
-
-pub within_made : (ledger : List Entry) (g : GovernanceRequest) (e : Entry) → length (body_bytes e) ≤ body_limit → length ledger < last_seqno → governed_within ledger g e ≡ Ok (governance_made ledger g e)
-within_made ledger g e small left =
-    ap₂ (λ (a b : Bool). by_store (if a then Err (refusals.TooLarge (length (body_bytes e))) else (if b then Ok (governance_made ledger g e) else Err refusals.SeqnoLimit)))
-    (let t : nat_lt body_limit (length (body_bytes e)) ≡ false = grind (arith, nat_tests, small) in t)
-    (let t : nat_lt (length ledger) last_seqno ≡ true = grind (arith, nat_tests, left) in t)
 
 abbrev entry_or : Entry → Result (Entry × Given) Unmade → Entry
 entry_or e (Ok made) = made.0

@@ -3,8 +3,8 @@
 ghost use Rattle.std.specs.Prelude.{◌≤◌, IfOk};
 
 use gl_outside::{
-    Came, Disk, DiskFailed, Gate, Given, Got, Link, MemDisk, MemLink, MemSink, MemSource, NoDisk,
-    OpenGate, Put, Sink, SinkFault, Source, StreamSink, StreamSource, SureDisk, SureLink, SureSink,
+    Came, Disk, DiskFailed, Gate, Given, Got, Link, MemDisk, MemLink, MemSink, MemSource, OpenGate,
+    Put, Sink, SinkFault, Source, StreamSink, StreamSource, SureDisk, SureLink, SureSink,
     SureSource, Tear, write_whole,
 };
 use std::alloc::Global;

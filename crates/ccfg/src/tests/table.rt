@@ -5,8 +5,7 @@ use crate::tests::Unwatched;
 use crate::tests::part::{Part, bytes_of};
 use crate::tests::run::{Arrival, Due, Frame, InTurn, Run};
 use gl_outside::{
-    Disk, Given, MemDisk, MemLink, MemSink, MemSource, NoDisk, OpenGate, SureDisk, SureLink,
-    Traffic,
+    Disk, Given, MemDisk, MemLink, MemSink, MemSource, OpenGate, SureDisk, SureLink, Traffic,
 };
 use std::alloc::{AllocError, Global};
 use std::process::Abort;
@@ -160,11 +159,15 @@ fn call<D: Disk + Drop + Send>(
     Ok((left, disk))
 }
 
+/// The calls of a disk that isn't there: each fails, and a run makes no more behind them.
+const FIRST_CALLS: &[u64] = &[1, 2, 3, 4, 5, 6, 7, 8];
+
 /// Plays a run behind earlier ones.
 pub fn play(alloc: Global, run: &Run<'_>, lefts: &[Left]) -> Result<Left, AllocError> {
     let prepared = prepare(alloc, run, lefts)?;
     let Some(parts) = run.disk else {
-        let (left, _disk) = call(alloc, run, &prepared, NoDisk::new())?;
+        let none = MemDisk::new(SureDisk::new(alloc), FIRST_CALLS);
+        let (left, _disk) = call(alloc, run, &prepared, none)?;
         return Ok(left);
     };
     let bytes = bytes_of(alloc, parts, lefts)?;

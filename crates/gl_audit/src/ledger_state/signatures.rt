@@ -9,7 +9,7 @@ ghost use Rattle.gl_audit.specs.Kept.{ForLedgers};
 use super::LedgerState;
 
 /// How many of the seqnos, which ascend, are at most this one.
-pub(crate) fn count_up_to(seqnos: &[u64], limit: u64) -> usize
+pub fn count_up_to(seqnos: &[u64], limit: u64) -> usize
     ensures within { result ≤ length seqnos.now }
     ensures point { IsPartitionedBy (λ seqno. nat_le seqno limit) seqnos.now →
         IsPartitionPoint (λ seqno. nat_le seqno limit ≡ true) (λ seqno. nat_le seqno limit ≡ false)

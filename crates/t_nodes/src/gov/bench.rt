@@ -8,6 +8,7 @@ use gl_audit::{GovState, is_founding};
 use gl_base::OrNoMemory;
 use gl_gov_rules::{Cause, GovernanceRefusal};
 use gl_hss::{HssPublic, HssSigner, Levels, LmsKey, Types};
+use gl_recovery::{FinishFault, finish};
 use gl_requests::GovernanceRequest;
 use sha2::{Digest, Sha256};
 use std::alloc::{AllocError, Global};
@@ -22,6 +23,8 @@ pub enum Told {
     Refused(GovernanceRefusal),
     /// The first eight bytes of the digest of all rows.
     Rows(u64),
+    /// The recovery is finished, or why it isn't.
+    Finished(Result<(), FinishFault>),
 }
 
 fn told_of(why: GovernanceRefusal) -> Told {
@@ -86,6 +89,8 @@ pub enum Ask<'a> {
     Withdraw(u8, Meant),
     /// The share that was dealt to the second member, by the first one.
     Give(u8, u8),
+    /// Whether the recovery is finished.
+    Finish,
 }
 
 /// A request, and what is to come of it.
@@ -507,6 +512,7 @@ impl Bench {
             Ask::Join(node, service) => self.join(node, service),
             Ask::Mark(node) => self.mark(node),
             Ask::Again => self.again(),
+            Ask::Finish => Ok(Told::Finished(finish(&self.state))),
             other => self.ask_as_member(other),
         }
     }

@@ -1,12 +1,13 @@
 //! A service that is founded anew, and the shares that its members give. The digests are by Python's
 //! hashlib.
 
-use super::bench::Ask::{Give, ProposeP, Recover, Yes};
+use super::bench::Ask::{Finish, Give, ProposeP, Recover, Yes};
 use super::bench::Meant::P;
-use super::bench::Told::{Bad, Refused, Rows};
+use super::bench::Told::{Bad, Finished, Refused, Rows};
 use super::bench::{Act, Bench, Row};
 use gl_audit::ShareCount;
 use gl_gov_rules::{Cause, GovernanceRefusal, MemberStatus, NodeStatus, ProposalState, Vote};
+use gl_recovery::FinishFault;
 use gl_requests::{Action, ServiceState};
 use std::process::Abort;
 use std::test::Fail;
@@ -30,7 +31,13 @@ const ANOTHER: [u8; 32] = [
 ];
 
 /// What is asked before the service is founded anew, and that.
-pub const RECOVER: [Row<'static>; 5] = [
+pub const RECOVER: [Row<'static>; 7] = [
+    (
+        Finish,
+        Finished(Err(FinishFault::NotRecovering {
+            state: Some(ServiceState::Open),
+        })),
+    ),
     (
         Give(3, 3),
         Refused(GovernanceRefusal::ServiceState {
@@ -49,20 +56,34 @@ pub const RECOVER: [Row<'static>; 5] = [
             state: ProposalState::Dropped,
         }),
     ),
+    (
+        Finish,
+        Finished(Err(FinishFault::NotRecovering {
+            state: Some(ServiceState::Opening),
+        })),
+    ),
 ];
 
 /// The service waits for shares, of which two join to another secret than was dealt.
-pub const GIVE_IN_VAIN: [Row<'static>; 6] = [
+pub const GIVE_IN_VAIN: [Row<'static>; 8] = [
     (
         ProposeP(1, &[Act::Misdeal((2, &[2, 3])), Act::Open]),
         Rows(0xc5e0a5ee5f66c7ec),
     ),
     (Yes(1, P), Rows(0x056b08771a6f1d83)),
     (
+        Finish,
+        Finished(Err(FinishFault::NotYet { have: 0, need: 2 })),
+    ),
+    (
         Give(2, 1),
         Refused(GovernanceRefusal::WrongShare { digest: SHARE_OF_1 }),
     ),
     (Give(2, 2), Rows(0x368468ab3c9f18f1)),
+    (
+        Finish,
+        Finished(Err(FinishFault::NotYet { have: 1, need: 2 })),
+    ),
     (
         Give(2, 2),
         Refused(GovernanceRefusal::KnownShare { member: 2 }),
@@ -77,7 +98,7 @@ pub const GIVE_IN_VAIN: [Row<'static>; 6] = [
 ];
 
 /// A dealing of the secret itself, whose shares open the service.
-pub const GIVE: [Row<'static>; 4] = [
+pub const GIVE: [Row<'static>; 5] = [
     (
         ProposeP(1, &[Act::Deal((2, &[2, 3]))]),
         Rows(0x46abba60c3b49ddc),
@@ -85,6 +106,7 @@ pub const GIVE: [Row<'static>; 4] = [
     (Yes(1, P), Rows(0x6c037bfa779f3b3d)),
     (Give(2, 2), Rows(0xf896275098fb171f)),
     (Give(3, 3), Rows(0x7f51d8b37f8fd91f)),
+    (Finish, Finished(Ok(()))),
 ];
 
 /// What is known of the service in the end.

@@ -1,5 +1,5 @@
-//! The tests of the libraries of data: requests, entries and their files, the forms of JSON, messages,
-//! receipts and attempts, a module for each. They stand here, over the libraries, since a library with
+//! The tests of the libraries of data: tables, requests, entries and their files, the forms of JSON,
+//! messages, receipts and attempts, a module for each. They stand here, over the libraries, since a library with
 //! tests of its own is proved once more with them.
 #![tactic(auto)]
 
@@ -17,5 +17,7 @@ mod messages;
 mod receipt;
 #[cfg(test)]
 mod requests;
+#[cfg(test)]
+mod tables;
 #[cfg(test)]
 mod texts;

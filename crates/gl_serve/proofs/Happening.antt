@@ -21,7 +21,7 @@ use Rattle.gl_serve.specs.Events.{Happens}
 use Rattle.gl_serve.specs.Requests.{is_request}
 use Rattle.gl_serve.specs.Types.{NodeCore, NodeDone, NodeEvent, NodeFaults, NodeSeen}
 use Rattle.gl_serve.proofs.Accepting.{accepted_from, rule_settles}
-use Rattle.gl_serve.proofs.Sending.{fit_sent, rule_fits}
+use Rattle.gl_serve.proofs.SentMessages.{fit_sent, rule_fits}
 
 module _ {D S : Type 0} (stands : S → ServiceBook → Holding Entry → Type 0)
     (event : NodeEvent S) (old new : NodeSeen D S) (held : NodeCore S) (is : held ≡ old.core) (limits : At stands held.book (λ b h. KeepsLimits b h.log)) (some : StandsForSome stands old.core) (done : NodeDone S) (steps : Steps stands (rule_of event) old.core done new.core) where

@@ -12,5 +12,5 @@ pub mod Happening
 pub mod KeepingEvents
 pub mod Living
 pub mod NoEntries
-pub mod Sending
+pub mod SentMessages
 pub mod Ending

@@ -2,21 +2,19 @@
 //! one is worked out from the rules, and `examples/audit/verify_ledger.py`, which is written from
 //! the documents of the format alone, says the same of it.
 
-use crate::tests::part::Of::Ledger;
-use crate::tests::part::Part::{All, Bytes, Cut, Text, World};
 use crate::tests::receipts::IDENTITY as OTHER_IDENTITY;
-use crate::tests::run::{Due, RUN, Run};
-use crate::tests::table::Table;
+use crate::tests::{join, one_open, run, status_of, to_words};
+use gl_outside::{MemSink, MemSource, SureSink, SureSource};
 use std::alloc::{AllocError, Global};
-use std::process::Abort;
+use std::test::Fail;
 
 /// The key of the service whose seed is zeros.
-pub const IDENTITY: &str = "\
+const IDENTITY: &str = "\
     00000002000000050000000358d23188ef65205d9e7e3a23be517855dbdfe85fa3d204fab5ee0af77f0a1c4af7f\
     c810c8a9a4007e2768290e9012cb1";
 
 /// One request, and the signature behind it.
-const LINES: &str = "\
+const LINES: &[u8] = b"\
     submit 1 put public:t 61 01\n\
     reserve 1\n\
     sign 1\n\
@@ -24,130 +22,132 @@ const LINES: &str = "\
     ledger 1\n";
 
 /// A vote that opens the service, and a request.
-const VOTE: &str = "\
+const VOTE: &[u8] = b"\
     ack 1 1\n\
     propose 1 1 {\"actions\":[{\"args\":{},\"name\":\"transition_service_to_open\"}]}\n\
     ballot 1 1 1 yes\n\
     submit 1 put public:t 61 01\n\
     ledger 1\n";
 
-/// The ledger of one request and its signature, and where its last frame begins and ends.
-const SIGNED: &str = "a request that is signed";
-
+/// Where the last frame of the first ledger begins.
 const LAST_FRAME: usize = 10699;
 
-const LEN: usize = 15592;
+/// Puts the frame that a word of an answer spells, if it is that long.
+fn put_frame(alloc: Global, ledger: &mut Vec<u8>, word: &[u8]) -> Result<(), AllocError> {
+    if word.len() > 150
+        && let Ok(frame) = hex::decode(alloc, word)
+    {
+        ledger.extend_from_slice(&frame)?;
+    }
+    Ok(())
+}
 
-const AUDIT: Run<'static> = Run {
-    words: &["audit", "--identity", IDENTITY],
-    input: &[All(Ledger(SIGNED))],
-    ..RUN
-};
+/// The ledger whose frames stand in an answer.
+fn frames_in(alloc: Global, told: &[u8]) -> Result<Vec<u8>, AllocError> {
+    let mut ledger = Vec::new(alloc);
+    let mut word = Vec::new(alloc);
+    for byte in told {
+        if matches!(*byte, b' ' | b'\n') {
+            put_frame(alloc, &mut ledger, &word)?;
+            word.clear();
+        } else {
+            word.push(*byte)?;
+        }
+    }
+    Ok(ledger)
+}
 
-/// The third entry breaks a rule. In pieces of 100 bytes it ends in the 107th.
-const BROKEN: Run<'static> = Run {
-    input: &[
-        Cut(Ledger(SIGNED), 0, 10608),
-        Bytes(&[1]),
-        Cut(Ledger(SIGNED), 10609, LEN),
-    ],
-    piece: 100,
-    ..AUDIT
-};
+/// The ledger of the schedule of this service and these lines.
+fn replayed(alloc: Global, world: &[u8], lines: &[u8]) -> Result<Vec<u8>, AllocError> {
+    let (_, told) = run(alloc, &["replay"], &join(alloc, &[world, lines])?)?;
+    frames_in(alloc, &told)
+}
 
-const RUNS: &[Run<'static>] = &[
-    Run {
-        name: SIGNED,
-        words: &["replay"],
-        input: &[World("1 0 1 open"), Text(LINES)],
-        due: Due::Begins(&[Text("1 ok\n")]),
-        ..RUN
-    },
-    Run {
-        name: "a vote",
-        words: &["replay"],
-        input: &[World("1 0 1 opening"), Text(VOTE)],
-        due: Due::Begins(&[Text("1 ok\n")]),
-        ..RUN
-    },
-    Run {
-        name: "what was replayed",
-        due: Due::Is(&[Text("valid 2.4 2.4\n")]),
-        ..AUDIT
-    },
-    Run {
-        name: "the ledger of a vote",
-        input: &[All(Ledger("a vote"))],
-        due: Due::Is(&[Text("valid 2.6 2.2\n")]),
-        ..AUDIT
-    },
-    Run {
-        name: "whose ledger it is",
-        words: &["audit", "--identity", OTHER_IDENTITY],
-        status: 1,
-        due: Due::Is(&[Text("fault foreign "), Text(IDENTITY), Text("\n")]),
-        ..AUDIT
-    },
-    Run {
-        name: "the last entry twice",
-        input: &[All(Ledger(SIGNED)), Cut(Ledger(SIGNED), LAST_FRAME, LEN)],
-        status: 1,
-        due: Due::Is(&[Text("fault seqno 5 rule 2\n")]),
-        ..AUDIT
-    },
-    // It reads no further than the first fault,
-    Run {
-        name: "a read behind the first fault fails",
-        reads: &[108],
-        status: 1,
-        due: Due::Is(&[Text("fault seqno 3 rule 3\n")]),
-        ..BROKEN
-    },
-    // and tells of the source also where the entry that would come breaks a rule.
-    Run {
-        name: "the first read fails",
-        reads: &[1],
-        status: 3,
-        due: Due::Is(&[]),
-        ..BROKEN
-    },
-    Run {
-        name: "a read before the fault fails",
-        reads: &[50],
-        status: 3,
-        due: Due::Is(&[]),
-        ..BROKEN
-    },
-    Run {
-        name: "the read of the fault fails",
-        reads: &[107],
-        status: 3,
-        due: Due::Is(&[]),
-        ..BROKEN
-    },
-    Run {
-        name: "the verdict isn't written",
-        input: &[],
-        sink_piece: 4,
-        writes: &[3],
-        status: 4,
-        due: Due::Is(&[Text("fault se")]),
-        ..AUDIT
-    },
-];
+/// The ledger of one request and its signature.
+fn signed_ledger(alloc: Global) -> Result<Vec<u8>, AllocError> {
+    replayed(alloc, &one_open(alloc)?, LINES)
+}
 
-/// Where the ledger ends, and what is due then.
-const ENDS: [(usize, u8, &str); 9] = [
-    (0, 1, "fault seqno 1 rule 3\n"),
-    (5, 1, "fault seqno 1 rule 1\n"),
-    (5706, 1, "fault seqno 1 rule 1\n"),
-    (5707, 0, "valid 2.1 -\n"),
-    (5708, 1, "fault seqno 2 rule 1\n"),
-    (10600, 0, "valid 2.2 2.2\n"),
-    (LAST_FRAME, 0, "valid 2.3 2.2\n"),
-    (LAST_FRAME + 5, 1, "fault seqno 4 rule 1\n"),
-    (15591, 1, "fault seqno 4 rule 1\n"),
-];
+fn audited(alloc: Global, ledger: &[u8]) -> Result<(u8, Vec<u8>), AllocError> {
+    run(alloc, &["audit", "--identity", IDENTITY], ledger)
+}
+
+/// The front of a ledger.
+fn front(ledger: &[u8], len: usize) -> &[u8] {
+    ledger.get(..len).unwrap_or(&[])
+}
+
+#[test]
+fn audits_what_was_replayed(rt: HostRuntime) -> Result<(), Fail> {
+    let alloc = rt.alloc();
+    let (status, written) = audited(alloc, &signed_ledger(alloc)?)?;
+    assert_eq!(rt; status, 0);
+    assert_eq!(rt; written.as_slice(), b"valid 2.4 2.4\n".as_slice());
+    Ok(())
+}
+
+#[test]
+fn audits_a_vote(rt: HostRuntime) -> Result<(), Fail> {
+    let alloc = rt.alloc();
+    let world = crate::tests::world(alloc, b"1 0 1 opening")?;
+    let (status, written) = audited(alloc, &replayed(alloc, &world, VOTE)?)?;
+    assert_eq!(rt; status, 0);
+    assert_eq!(rt; written.as_slice(), b"valid 2.6 2.2\n".as_slice());
+    Ok(())
+}
+
+#[test]
+fn tells_whose_ledger_it_is(rt: HostRuntime) -> Result<(), Fail> {
+    let alloc = rt.alloc();
+    let ledger = signed_ledger(alloc)?;
+    let (status, written) = run(alloc, &["audit", "--identity", OTHER_IDENTITY], &ledger)?;
+    let due = format!(in alloc; "fault foreign {IDENTITY}\n")?;
+    assert_eq!(rt; status, 1);
+    assert_eq!(rt; written.as_slice(), due.as_bytes());
+    Ok(())
+}
+
+#[test]
+fn tells_where_a_ledger_ends(rt: HostRuntime) -> Result<(), Fail> {
+    let alloc = rt.alloc();
+    let ledger = signed_ledger(alloc)?;
+    let rows: [(usize, &str); 9] = [
+        (0, "fault seqno 1 rule 3\n"),
+        (5, "fault seqno 1 rule 1\n"),
+        (5706, "fault seqno 1 rule 1\n"),
+        (5707, "valid 2.1 -\n"),
+        (5708, "fault seqno 2 rule 1\n"),
+        (10600, "valid 2.2 2.2\n"),
+        (LAST_FRAME, "valid 2.3 2.2\n"),
+        (LAST_FRAME + 5, "fault seqno 4 rule 1\n"),
+        (15591, "fault seqno 4 rule 1\n"),
+    ];
+    for (len, due) in rows {
+        let (_, written) = audited(alloc, front(&ledger, len))?;
+        assert_eq!(rt; written.as_slice(), due.as_bytes(), "of {len} bytes");
+    }
+    Ok(())
+}
+
+#[test]
+fn tells_of_the_last_entry_twice(rt: HostRuntime) -> Result<(), Fail> {
+    let alloc = rt.alloc();
+    let ledger = signed_ledger(alloc)?;
+    let last = ledger.get(LAST_FRAME..).unwrap_or(&[]);
+    let (status, written) = audited(alloc, &join(alloc, &[&ledger, last])?)?;
+    assert_eq!(rt; status, 1);
+    assert_eq!(rt; written.as_slice(), b"fault seqno 5 rule 2\n".as_slice());
+    Ok(())
+}
+
+/// The ledger with this byte at a place.
+fn with_byte(alloc: Global, ledger: &[u8], at: usize, byte: u8) -> Result<Vec<u8>, AllocError> {
+    let mut changed = Vec::from_slice(alloc, ledger)?;
+    if let Some(there) = changed.get_mut(at) {
+        *there = byte;
+    }
+    Ok(changed)
+}
 
 /// A changed byte breaks this rule at this seqno. Each row breaks rules behind the one that is told,
 /// too, as the signature behind it no longer signs what stands there.
@@ -179,32 +179,65 @@ const CHANGED: [(usize, u8, u64, u8); 25] = [
     (13182, 0x72, 4, 11),
 ];
 
-pub fn play(rt: &impl Abort, alloc: Global, table: &mut Table) -> Result<(), AllocError> {
-    table.play_all(rt, RUNS)?;
-    for (len, status, due) in ENDS {
-        let run = Run {
-            name: "a ledger that is cut",
-            input: &[Cut(Ledger(SIGNED), 0, len)],
-            status,
-            due: Due::Is(&[Text(due)]),
-            ..AUDIT
-        };
-        table.play(rt, &run)?;
-    }
+#[test]
+fn tells_the_first_rule_that_is_broken(rt: HostRuntime) -> Result<(), Fail> {
+    let alloc = rt.alloc();
+    let ledger = signed_ledger(alloc)?;
     for (at, byte, seqno, rule) in CHANGED {
-        let line = format!(in alloc; "fault seqno {seqno} rule {rule}\n")?;
-        let run = Run {
-            name: "a changed ledger",
-            input: &[
-                Cut(Ledger(SIGNED), 0, at),
-                Bytes(&[byte]),
-                Cut(Ledger(SIGNED), at.saturating_add(1), LEN),
-            ],
-            status: 1,
-            due: Due::Is(&[Text(line.as_str())]),
-            ..AUDIT
-        };
-        table.play(rt, &run)?;
+        let (status, written) = audited(alloc, &with_byte(alloc, &ledger, at, byte)?)?;
+        let due = format!(in alloc; "fault seqno {seqno} rule {rule}\n")?;
+        assert_eq!(rt; status, 1, "of {at}");
+        assert_eq!(rt; written.as_slice(), due.as_bytes(), "of {at}");
     }
+    Ok(())
+}
+
+/// An audit of a ledger that is read in pieces of 100 bytes, of whose reads one fails.
+fn audited_over_failed_read(
+    alloc: Global,
+    ledger: &[u8],
+    at: u64,
+) -> Result<(u8, Vec<u8>), AllocError> {
+    let called = to_words(alloc, &["audit", "--identity", IDENTITY])?;
+    let failing = [at];
+    let mut source = MemSource::new(ledger, 100, &failing);
+    let mut sink = SureSink::new(alloc, 50);
+    let status = status_of(alloc, &called, &mut source, &mut sink);
+    Ok((status, sink.held))
+}
+
+/// The third entry ends in the 107th piece. It breaks a rule, so no more is read.
+#[test]
+fn reads_no_further_than_the_first_fault(rt: HostRuntime) -> Result<(), Fail> {
+    let alloc = rt.alloc();
+    let ledger = with_byte(alloc, &signed_ledger(alloc)?, 10608, 0x01)?;
+    let (status, written) = audited_over_failed_read(alloc, &ledger, 108)?;
+    assert_eq!(rt; status, 1);
+    assert_eq!(rt; written.as_slice(), b"fault seqno 3 rule 3\n".as_slice());
+    Ok(())
+}
+
+/// Also where the entry that would come breaks a rule.
+#[test]
+fn ends_with_3_and_writes_nothing_where_the_source_fails(rt: HostRuntime) -> Result<(), Fail> {
+    let alloc = rt.alloc();
+    let ledger = with_byte(alloc, &signed_ledger(alloc)?, 10608, 0x01)?;
+    for at in [1, 50, 107] {
+        let (status, written) = audited_over_failed_read(alloc, &ledger, at)?;
+        assert_eq!(rt; status, 3, "at read {at}");
+        assert_eq!(rt; written.len(), 0);
+    }
+    Ok(())
+}
+
+#[test]
+fn ends_with_4_where_the_verdict_is_not_written(rt: HostRuntime) -> Result<(), Fail> {
+    let alloc = rt.alloc();
+    let called = to_words(alloc, &["audit", "--identity", IDENTITY])?;
+    let failing = [3];
+    let mut source = SureSource::new(b"", 50);
+    let mut sink = MemSink::new(alloc, 4, &failing);
+    assert_eq!(rt; status_of(alloc, &called, &mut source, &mut sink), 4);
+    assert_eq!(rt; sink.inner.held.as_slice(), b"fault se".as_slice());
     Ok(())
 }

@@ -1,10 +1,7 @@
 //! Secrets that are dealt. The digest is by Python's hashlib.
 
-use crate::tests::part::Part::{Text, Times};
-use crate::tests::run::{Due, RUN, Run};
-use crate::tests::table::Table;
-use std::alloc::AllocError;
-use std::process::Abort;
+use crate::tests::run;
+use std::test::Fail;
 
 /// What is told of a secret of 32 bytes 07, of which each of two members has a share.
 const DEALT: &str = "\
@@ -17,37 +14,22 @@ const DEALT: &str = "\
     7 0707070707070707070707070707070707070707070707070707070707070707\n\
     9 0707070707070707070707070707070707070707070707070707070707070707\n";
 
-/// A threshold, the first of two members, how many bytes come, and what is due.
-const ROWS: [(&str, &str, usize, u8, &str); 6] = [
-    ("1", "7", 64, 0, DEALT),
-    ("0", "7", 64, 1, "fault BadAction 0 10\n"),
-    ("3", "7", 64, 1, "fault BadAction 0 10\n"),
-    ("1", "256", 64, 1, "fault BadAction 0 10\n"),
-    ("3", "7", 63, 9, "fault Short 63\n"),
-    ("3", "7", 65, 9, "fault Trailing 64\n"),
-];
-
-/// More members have to agree than there are.
-const TOO_FEW: Run<'static> = Run {
-    name: "two of one member",
-    words: &["deal", "--threshold", "2", "5"],
-    input: &[Times(&[7], 64)],
-    status: 1,
-    due: Due::Is(&[Text("fault BadAction 0 10\n")]),
-    ..RUN
-};
-
-pub fn play(rt: &impl Abort, table: &mut Table) -> Result<(), AllocError> {
-    for (threshold, member, count, status, due) in ROWS {
-        let run = Run {
-            name: "a dealing",
-            words: &["deal", "--threshold", threshold, member, "9"],
-            input: &[Times(&[7], count)],
-            status,
-            due: Due::Is(&[Text(due)]),
-            ..RUN
-        };
-        table.play(rt, &run)?;
+#[test]
+fn deals_a_secret_or_tells_why_not(rt: HostRuntime) -> Result<(), Fail> {
+    let bytes = [7; 65];
+    let rows: [(&str, &str, usize, u8, &str); 6] = [
+        ("1", "7", 64, 0, DEALT),
+        ("0", "7", 64, 1, "fault BadAction 0 10\n"),
+        ("3", "7", 64, 1, "fault BadAction 0 10\n"),
+        ("1", "256", 64, 1, "fault BadAction 0 10\n"),
+        ("3", "7", 63, 9, "fault Short 63\n"),
+        ("3", "7", 65, 9, "fault Trailing 64\n"),
+    ];
+    for (threshold, member, count, due, line) in rows {
+        let called = ["deal", "--threshold", threshold, member, "9"];
+        let (status, written) = run(rt.alloc(), &called, &bytes[..count])?;
+        assert_eq!(rt; status, due, "of {threshold} {member} {count}");
+        assert_eq!(rt; written.as_slice(), line.as_bytes());
     }
-    table.play(rt, &TOO_FEW)
+    Ok(())
 }

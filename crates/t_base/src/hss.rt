@@ -3,9 +3,9 @@
 ghost use Rattle.std.specs.Prelude.{◌<◌};
 
 use crate::hexadecimal::{array_of, bytes_of};
+use crate::hss::two_levels::{vector_8, vector_9, vector_10, vector_11, vector_12};
 use crate::hss::vectors::{
     Vector, vector_0, vector_1, vector_2, vector_3, vector_4, vector_5, vector_6, vector_7,
-    vector_8, vector_9, vector_10, vector_11, vector_12,
 };
 use gl_hss::{
     EndorsedKey, HssFault, Types, last_key, leaf_of, verify, verify_below, verify_endorsement,
@@ -15,6 +15,7 @@ use std::process::Abort;
 use std::test::Fail;
 
 mod signers;
+mod two_levels;
 mod vectors;
 
 #[derive(Drop)]

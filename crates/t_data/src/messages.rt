@@ -1,4 +1,5 @@
-//! Messages and frames against bytes that a program in Python wrote out, which knows the format alone.
+//! Messages and frames against bytes that a program in Python wrote out, which knows the format
+//! alone.
 
 ghost use Rattle.std.specs.Prelude.{IsTrue};
 ghost use Rattle.gl_messages.specs.Answer.{is_answer};
@@ -240,8 +241,8 @@ fn tells_the_first_fault_of_a_message(rt: HostRuntime) -> Result<(), Fail> {
     ] = MESSAGES;
     let value = |at| MessageFault::Code(CodeFault::Value { at });
     let order = |want, got| MessageFault::Order { want, got };
-    // The row of the table above, the place from which bytes are changed, the new bytes, the fault. In
-    // the Append the first entry begins at 91, with its view at 99 and its place at 103, and the
+    // The row of the table above, the place from which bytes are changed, the new bytes, the fault.
+    // In the Append the first entry begins at 91, with its view at 99 and its place at 103, and the
     // second at 190.
     let rows = [
         (request, 0, b"\x00".as_slice(), value(0)),

@@ -173,8 +173,8 @@ fn a_key_of_height_5_has_32_leaves(rt: HostRuntime) -> Result<(), Fail> {
     Ok(())
 }
 
-/// How many images that a stop may leave, while a leaf is taken from the file with these bytes, give
-/// the same leaf once more, and how many the next one.
+/// How many images that a stop may leave, while a leaf is taken from the file with these bytes,
+/// give the same leaf once more, and how many the next one.
 fn count_images(alloc: Global, bytes: &[u8], leaf_use: LeafUse) -> Result<[u32; 2], Fail> {
     let file = opened(alloc, bytes, KeyKind::Member)?;
     let first = file.journal.gated.disk.calls.len();
@@ -195,7 +195,8 @@ fn count_images(alloc: Global, bytes: &[u8], leaf_use: LeafUse) -> Result<[u32; 
     Ok(counts)
 }
 
-/// The file with these bytes, in which a leaf is taken for this use, and what it tells as its start.
+/// The file with these bytes, in which a leaf is taken for this use, and what it tells as its
+/// start.
 fn taken(alloc: Global, bytes: &[u8], leaf_use: LeafUse) -> Result<(SureDisk, Option<u32>), Fail> {
     let disk = next_leaf(alloc, bytes, leaf_use)?.disk;
     let start = opened(alloc, &disk.bytes, KeyKind::Member)?.start();

@@ -1,5 +1,5 @@
-//! Tests of the libraries over files and sockets: a disk over a file, a link over sockets, key files
-//! and dealings.
+//! Tests of the libraries over files and sockets: a disk over a file, a link over sockets, key
+//! files and dealings.
 #![tactic(auto)]
 
 #[cfg(test)]

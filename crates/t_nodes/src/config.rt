@@ -42,8 +42,9 @@ fn more_than_half(rt: HostRuntime) -> Result<(), Fail> {
     Ok(())
 }
 
-// The nodes 1, 2 and 3 begin; at seqno 7 nodes 3, 4 and 5 are trusted in their place. At commit 2 both
-// count, and the old nodes have no majority of the new ones; at commit 8 the new ones count alone.
+// The nodes 1, 2 and 3 begin; at seqno 7 nodes 3, 4 and 5 are trusted in their place. At commit 2
+// both count, and the old nodes have no majority of the new ones; at commit 8 the new ones count
+// alone.
 #[test]
 fn nodes_are_replaced(rt: HostRuntime) -> Result<(), Fail> {
     let configurations = [

@@ -149,8 +149,8 @@ fn with_byte(alloc: Global, ledger: &[u8], at: usize, byte: u8) -> Result<Vec<u8
     Ok(changed)
 }
 
-/// A changed byte breaks this rule at this seqno. Each row breaks rules behind the one that is told,
-/// too, as the signature behind it no longer signs what stands there.
+/// A changed byte breaks this rule at this seqno. Each row breaks rules behind the one that is
+/// told, too, as the signature behind it no longer signs what stands there.
 const CHANGED: [(usize, u8, u64, u8); 25] = [
     (10600, 0x02, 3, 1),
     (10700, 0x01, 4, 1),

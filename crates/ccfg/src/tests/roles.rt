@@ -83,8 +83,8 @@ const MESSAGES: Rows<'static> = &[
     ("deliver 9", "idle"),
 ];
 
-/// Proposals to stand: at a follower, at a candidate and at a leader, both of a later view, and at a
-/// candidate of its view.
+/// Proposals to stand: at a follower, at a candidate and at a leader, both of a later view, and at
+/// a candidate of its view.
 const PROPOSALS: Rows<'static> = &[
     ("timeout 3", "candidate sent 1 2"),
     ("stepdown 1 2", "ok sent 3"),

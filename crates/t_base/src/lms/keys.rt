@@ -1,5 +1,6 @@
 //! Keys of seeds, of each height and of each width, whose roots `examples/lms/keys.py` computes: a
-//! program in Python that makes the roots of keys of Bouncy Castle 1.72 and of RFC 8554, appendix F.
+//! program in Python that makes the roots of keys of Bouncy Castle 1.72 and of RFC 8554, appendix
+//! F.
 
 use gl_hss::Types;
 

@@ -1,6 +1,7 @@
 //! A ledger of eight entries that a program in Python made which knows the formats and RFC 8554
-//! alone, and the receipt of its third entry by that program. The sixth entry has a valid signature.
-//! Here the service is taken as recovered at the seventh, from which on it has another key.
+//! alone, and the receipt of its third entry by that program. The sixth entry has a valid
+//! signature. Here the service is taken as recovered at the seventh, from which on it has another
+//! key.
 
 use super::identity;
 use super::mem_ledger::MemLedger;

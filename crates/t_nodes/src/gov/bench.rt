@@ -66,8 +66,8 @@ pub enum Meant {
 pub enum Ask<'a> {
     /// An opening service with these nodes and members.
     Found(&'a [u8], &'a [u8], Dealt<'a>),
-    /// One whose nodes the service's key with a number endorses. Each member is a number and that of
-    /// its key.
+    /// One whose nodes the service's key with a number endorses. Each member is a number and that
+    /// of its key.
     FoundBy(u8, &'a [u8], &'a [(u8, u8)], Dealt<'a>),
     /// The service anew, with its second key.
     Recover(&'a [u8]),

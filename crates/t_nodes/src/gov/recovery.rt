@@ -1,5 +1,5 @@
-//! A service that is founded anew, and the shares that its members give. The digests are by Python's
-//! hashlib.
+//! A service that is founded anew, and the shares that its members give. The digests are by
+//! Python's hashlib.
 
 use super::bench::Ask::{Finish, Give, ProposeP, Recover, Yes};
 use super::bench::Meant::P;

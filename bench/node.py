@@ -64,8 +64,9 @@ class Services:
             node.begin(peers_of(node, nodes), 20 + 10 * number, "opening.ledger")
         for node in nodes:
             within(30, node.standing, f"{node.name} serves")
-        within(30, lambda: nodes[0].standing()[0] == "leader", "the first node leads")
-        return nodes
+        leads = lambda: next((node for node in nodes if node.standing()[0] == "leader"), None)
+        leader = within(30, leads, "a node leads")
+        return [leader, *(node for node in nodes if node is not leader)]
 
     def end(self):
         for node in self.nodes:

@@ -171,7 +171,8 @@ asked_serving (Err told) workers turns peers = Err told
 asked_serving (Ok ticks) (Err told) turns peers = Err told
 asked_serving (Ok ticks) (Ok workers) (Err told) peers = Err told
 asked_serving (Ok ticks) (Ok workers) (Ok turns) (Err told) = Err told
-asked_serving (Ok ticks) (Ok workers) (Ok turns) (Ok peers) = Ok (record { ticks = ticks; turns = turns; peers = peers })
+asked_serving (Ok ticks) (Ok workers) (Ok turns) (Ok peers)
+    = Ok (record { ticks = ticks; turns = turns; peers = peers })
 
 abbrev pub asked_node :
     Option Text → Option Text → Option Text → Option (List Text) → Result NodeTask Kinds

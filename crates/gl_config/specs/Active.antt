@@ -36,7 +36,8 @@ module _ {E Q G R A F : Type 0} (book : Book E Q G R A F) where
   -- trusted nodes changes
   unfoldable pub configurations_upto : List E → ℕ → List Configuration
   configurations_upto log zero = []
-  configurations_upto log (suc seqno) = configurations_upto log seqno ++ at_seqno (suc seqno) (book.configuration (take (suc seqno) log))
+  configurations_upto log (suc seqno) = configurations_upto log seqno
+      ++ at_seqno (suc seqno) (book.configuration (take (suc seqno) log))
 
   -- the configurations of a ledger
   abbrev pub configurations_of : List E → List Configuration

@@ -100,7 +100,8 @@ pub fn deal_text(
 
     // The first line is read as the action that sets the dealing.
     ensures reads_back { OnOk result (
-        (let dealing = dealing_of threshold secret.now (dealt threshold numbers.now secret.now seed) in
+        (let dealing = dealing_of threshold secret.now
+        (dealt threshold numbers.now secret.now seed) in
         from_text (action_in []) (action_text dealing) ≡ Ok (SetRecoveryThreshold dealing))) }
 {
     let shares = dealt(alloc, threshold, numbers, secret, seed)?;

@@ -60,15 +60,21 @@ vote_request me view last y = record { from = me; to = y; view = view; body = Re
 abbrev pub campaign : NodeId → TxId → List (List NodeId) → List NodeId → ℕ → Elected × Peer
 campaign me last active others view =
     let won = quorum (λ y. member y (me ∷ [])) active in (
-      record { outcome = campaign_outcome won; sent = map (vote_request me view last) others; rose = true },
+      record {
+        outcome = campaign_outcome won;
+        sent = map (vote_request me view last) others;
+        rose = true;
+      },
       record { view = view; vote = Some me; role = role_by won; leader = None; votes = me ∷ [] },
     )
 
 -- A node of an active configuration campaigns for the next view, if there is one.
-abbrev pub campaign_if_allowed : NodeId → TxId → List (List NodeId) → List NodeId → Bool → Peer → Turn
+abbrev pub campaign_if_allowed : NodeId → TxId → List (List NodeId) → List NodeId → Bool → Peer →
+    Turn
 campaign_if_allowed me last active others rose p =
     if in_some me active
-    then (if p.view == last_view then Err ViewLimit else Ok (campaign me last active others (p.view + 1)))
+    then (if p.view == last_view then Err ViewLimit
+    else Ok (campaign me last active others (p.view + 1)))
     else idle rose p
 
 abbrev pub timeout_as : Role → NodeId → TxId → List (List NodeId) → List NodeId → Bool → Peer → Turn

@@ -35,7 +35,8 @@ pub fn law_of_elections<Q, G, R, A, F>()
         (n : Node Entry) → IsPeerOf p n →
         on_message book (message_to x y view ProposeVote) n
         ≡ step_of book (at_propose_vote x (last_of book n)
-        (active book (signed_prefix book n.log) n.commit) (others book x (signed book n)) view p) n }
+        (active book (signed_prefix book n.log) n.commit)
+        (others book x (signed book n)) view p) n }
     ensures step_down { (book : Book Entry Q G R A F) (x y : NodeId) (p : Peer) (n : Node Entry) →
         IsPeerOf p n →
         step_down book x y n ≡ step_of book (at_step_down x (active book n.log n.commit) y p) n }

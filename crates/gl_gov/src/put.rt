@@ -220,7 +220,8 @@ fn put_service_and_shares(
     selection: &Selection,
 ) -> Result<(), AllocError>
     ensures { OnOk result (writes.new ≡ set_from writes.old (filter (is_selected selection.now)
-        (write_of service_write (service_row past.now) ++ map share_write (shares_given past.now)))) }
+        (write_of service_write (service_row past.now)
+        ++ map share_write (shares_given past.now)))) }
 {
     if !selection.has_settings() {
         return Ok(());

@@ -70,7 +70,8 @@ governance_made ledger g e = (e, Governed (status_behind ledger g))
 -- What a request of governance makes that is accepted, within the limits of bodies and seqnos.
 abbrev pub governed_within : List Entry → GovernanceRequest → Entry → Result (Entry × Given) Unmade
 governed_within ledger g e =
-    by_store (within_size (length (body_bytes e)) (within_seqnos ledger (governance_made ledger g e)))
+    by_store (within_size (length (body_bytes e))
+    (within_seqnos ledger (governance_made ledger g e)))
 
 -- What a request of governance makes that founds no service: first it may be refused for what it
 -- asks, then for its size, then for want of a seqno.

@@ -69,7 +69,8 @@ pub(crate) fn with_ids(alloc: Global, value: &Value, ids: &[NodeId]) -> Result<V
 
 #[cycle(with_ids)]
 fn items_with_ids(alloc: Global, values: &[Value], ids: &[NodeId]) -> Result<Vec<Value>, AllocError>
-    ensures { IfOk result (λ vs. items_view vs.items ≡ items_with_ids ids.now (items_view values.now)) }
+    ensures { IfOk result (λ vs.
+        items_view vs.items ≡ items_with_ids ids.now (items_view values.now)) }
 {
     let mut new = Vec::with_capacity(alloc, values.len())?;
     for value in values {

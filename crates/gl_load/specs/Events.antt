@@ -31,7 +31,8 @@ events_up_to seed count (suc n) = events_up_to seed count n ++ events_of seed co
 
 -- The node of the service, as the rules of consensus have it after these events.
 abbrev pub node_behind : List ℕ → List ServiceEvent → Node Entry
-node_behind seed events = node_of service_layers (load_keys seed) (load_start seed) events (load_id seed)
+node_behind seed events = node_of service_layers (load_keys seed) (load_start seed) events
+    (load_id seed)
 
 -- The ledger of a load of so many requests.
 abbrev pub load_ledger : List ℕ → ℕ → List Entry

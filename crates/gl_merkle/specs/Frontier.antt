@@ -40,7 +40,8 @@ leaves_above b levels = drop (b % 2) (slice_index_or (nodes_of levels) 0 [])
 
 -- these levels, over a base of b leaves with these peaks, are those of len leaves, with room for
 -- those up to limit
-pub record AreLevels (b : ℕ) (peaks : List (List ℕ)) (len limit : ℕ) (levels : List Level) : Type 0 where
+pub record AreLevels (b : ℕ) (peaks : List (List ℕ)) (len limit : ℕ)
+    (levels : List Level) : Type 0 where
   pub height : length levels ≡ 64
   pub from_base : b ≤ len
   pub within : len ≤ limit

@@ -56,7 +56,8 @@ HasRoom (v ∷ vs) = (vec_len v < vec_capacity v) × (vec_len v % 2 ≡ 1 → Ha
 abbrev pub with_node : List (List (List ℕ)) → List ℕ → List (List (List ℕ))
 with_node [] x = []
 with_node (r ∷ rs) x = (r ++ x ∷ []) ∷
-    (if nat_eq (length r % 2) 0 then rs else with_node rs (inner_of (slice_index_or r (length r - 1) []) x))
+    (if nat_eq (length r % 2) 0 then rs else with_node rs
+    (inner_of (slice_index_or r (length r - 1) []) x))
 
 -- the levels cut to the tree of n nodes
 abbrev pub cut_to : ℕ → ℕ → List (List (List ℕ)) → List (List (List ℕ))
@@ -69,9 +70,10 @@ base_levels zero b ps = []
 base_levels (suc k) b ps =
     if nat_eq (b % 2) 0
     then [] ∷ base_levels k (b / 2) ps
-    else (slice_index_or ps (length ps - 1) [] ∷ []) ∷ base_levels k (b / 2) (take (length ps - 1) ps)
+    else (slice_index_or ps (length ps - 1) [] ∷ [])
+    ∷ base_levels k (b / 2) (take (length ps - 1) ps)
 
--- ---- the tree of the first n nodes of a level, and the incomplete node behind them, if there is one
+-- ---- the tree of the first n nodes of a level, and the incomplete node behind them, if any
 
 -- the last of n nodes of a level over a base of b
 abbrev pub last_node : List (List ℕ) → ℕ → ℕ → List ℕ
@@ -109,7 +111,8 @@ step_at r b n place tail =
 abbrev pub steps_of : List (List (List ℕ)) → ℕ → ℕ → ℕ → Option (List ℕ) → List Step
 steps_of [] b n place tail = []
 steps_of (r ∷ rs) b n place tail =
-    option_to_list (step_at r b n place tail) ++ steps_of rs (b / 2) (n / 2) (place / 2) (next_tail r b n tail)
+    option_to_list (step_at r b n place tail) ++ steps_of rs (b / 2) (n / 2) (place / 2)
+    (next_tail r b n tail)
 
 -- the peaks of n nodes, greatest first
 abbrev pub level_peaks : List (List (List ℕ)) → ℕ → ℕ → List (List ℕ)

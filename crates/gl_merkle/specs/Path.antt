@@ -12,8 +12,10 @@ path_within (suc h) leaves index =
     if nat_le (length leaves) (2 ^ h)
     then path_within h leaves index
     else (if nat_le index (2 ^ h)
-    then path_within h (take (2 ^ h) leaves) index ++ Right (root_within h (drop (2 ^ h) leaves)) ∷ []
-    else path_within h (drop (2 ^ h) leaves) (index - 2 ^ h) ++ Left (root_within h (take (2 ^ h) leaves)) ∷ [])
+    then path_within h (take (2 ^ h) leaves) index ++ Right (root_within h (drop (2 ^ h) leaves))
+    ∷ []
+    else path_within h (drop (2 ^ h) leaves) (index - 2 ^ h)
+    ++ Left (root_within h (take (2 ^ h) leaves)) ∷ [])
 
 -- the steps from the leaf at this index, counted from 1, up to the root: n leaves are at most 2 ^ n
 unfoldable pub path_of : List (List ℕ) → ℕ → List Step

@@ -36,14 +36,16 @@ unfoldable pub inputs_of : List (List ℕ) → List (List ℕ)
 inputs_of leaves = inputs_within (length leaves) leaves
 
 -- the node is the leaf at this index, counted from 1, and the steps are its path
-pub record IsPathFrom (index : ℕ) (node : List ℕ) (steps : List Step) (leaves : List (List ℕ)) : Type 0 where
+pub record IsPathFrom (index : ℕ) (node : List ℕ) (steps : List Step)
+    (leaves : List (List ℕ)) : Type 0 where
   pub from_one : 1 ≤ index
   pub within : index ≤ length leaves
   pub leaf : node ≡ slice_index_or leaves (index - 1) []
   pub path : steps ≡ path_of leaves index
 
 -- this is hashed on the way and that in the tree, to one digest, and they differ
-pub record HaveOneDigest (this that node : List ℕ) (steps : List Step) (leaves : List (List ℕ)) : Type 0 where
+pub record HaveOneDigest (this that node : List ℕ) (steps : List Step)
+    (leaves : List (List ℕ)) : Type 0 where
   pub on_way : Contains (inputs_on node steps) this
   pub in_tree : Contains (inputs_of leaves) that
   pub differ : this ≢ that
@@ -55,7 +57,8 @@ pub record IsInner (children node : List ℕ) (leaves : List (List ℕ)) : Type 
   pub digest : node ≡ sha256 children
 
 -- the way goes on past a leaf: this is hashed on the way, and its digest is the leaf
-pub record IsPastLeaf (this leaf node : List ℕ) (steps : List Step) (leaves : List (List ℕ)) : Type 0 where
+pub record IsPastLeaf (this leaf node : List ℕ) (steps : List Step)
+    (leaves : List (List ℕ)) : Type 0 where
   pub on_way : Contains (inputs_on node steps) this
   pub in_list : Contains leaves leaf
   pub digest : leaf ≡ sha256 this

@@ -168,7 +168,8 @@ impl Frontier {
         requires above_base { self.now.base < index }
         requires inside { index ≤ size }
         requires within { size ≤ count_of self.now }
-        ensures { IfOk result (λ steps. ForLeaves self.now (λ leaves. steps.items ≡ path_of (take size leaves) index)) }
+        ensures { IfOk result (λ steps. ForLeaves self.now (λ leaves.
+            steps.items ≡ path_of (take size leaves) index)) }
     {
         steps_from(self.alloc, &self.levels, self.base, size, index - 1)
     }
@@ -179,7 +180,8 @@ impl Frontier {
         requires from_base { self.now.base ≤ size }
         requires within { size ≤ count_of self.now }
         ensures count { IfOk result (λ peaks. length peaks.items ≡ count_ones size) }
-        ensures peaks { IfOk result (λ peaks. ForLeaves self.now (λ leaves. peaks.items ≡ peaks_of (take size leaves))) }
+        ensures peaks { IfOk result (λ peaks. ForLeaves self.now (λ leaves.
+            peaks.items ≡ peaks_of (take size leaves))) }
     {
         peaks_of_levels(self.alloc, &self.levels, self.base, size)
     }

@@ -12,7 +12,8 @@ ghost use Rattle.gl_merkle.specs.Reach.{IsDigest, sibling_of, IsReached};
 /// greatest power of two below their number.
 pub fn law_of_split()
     ensures one { (leaf : List ℕ) → root_of (leaf ∷ []) ≡ leaf }
-    ensures several { (k : ℕ) (leaves : List (List ℕ)) → 2 ^ k < length leaves → length leaves ≤ 2 * 2 ^ k →
+    ensures several { (k : ℕ) (leaves : List (List ℕ)) → 2 ^ k < length leaves →
+        length leaves ≤ 2 * 2 ^ k →
         root_of leaves ≡ inner_of (root_of (take (2 ^ k) leaves)) (root_of (drop (2 ^ k) leaves)) }
 {}
 
@@ -34,8 +35,10 @@ pub fn law_of_collision()
 /// The root of leaves follows from their peaks, of which there are as many as the number of leaves
 /// has ones in binary.
 pub fn law_of_peaks()
-    ensures count { (leaves : List (List ℕ)) → length (peaks_of leaves) ≡ count_ones (length leaves) }
-    ensures root { (leaves : List (List ℕ)) → 0 < length leaves → root_of leaves ≡ root_of_peaks (peaks_of leaves) }
+    ensures count { (leaves : List (List ℕ)) →
+        length (peaks_of leaves) ≡ count_ones (length leaves) }
+    ensures root { (leaves : List (List ℕ)) → 0 < length leaves →
+        root_of leaves ≡ root_of_peaks (peaks_of leaves) }
 {}
 
 /// A way that ends at the root of a list of leaves is the path of one of them, or two inputs of the

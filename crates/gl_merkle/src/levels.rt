@@ -168,7 +168,8 @@ pub(crate) fn steps_from(
     requires from_base { base ≤ place }
     requires inside { place ≤ size }
     requires within { HoldFirst base size (nodes_of levels.now) }
-    ensures { IfOk result (λ steps. steps.items ≡ steps_of (nodes_of levels.now) base size place None) }
+    ensures { IfOk result (λ steps.
+        steps.items ≡ steps_of (nodes_of levels.now) base size place None) }
 {
     let mut base = base;
     let mut size = size;

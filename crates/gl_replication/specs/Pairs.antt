@@ -22,6 +22,7 @@ index_of [] y = None
 index_of (p ∷ ps) y = if same y p.0 then Some 0 else option_map suc (index_of ps y)
 
 -- A node has this seqno then, and the others have what they had.
-pub record Puts (old : List (NodeId × ℕ)) (y : NodeId) (seqno : ℕ) (new : List (NodeId × ℕ)) : Type 0 where
+pub record Puts (old : List (NodeId × ℕ)) (y : NodeId) (seqno : ℕ)
+    (new : List (NodeId × ℕ)) : Type 0 where
   pub held : (z : NodeId) → held new z ≡ put (held old) y seqno z
   pub tried : (z : NodeId) → tried new z ≡ put (tried old) y (Some seqno) z

@@ -11,14 +11,26 @@ use Rattle.gl_rules.specs.Outcome.{Step, Refusal, Refused}
 
 -- Whether a log has an entry of this view at this seqno, or the seqno is 0.
 abbrev pub is_matching : {E Q G R A F : Type 0} → Book E Q G R A F → List E → Position → Bool
-is_matching b log prev = (prev.seqno == 0) || (nat_le prev.seqno (length log) && (view_at b log prev.seqno == prev.view))
+is_matching b log prev = (prev.seqno == 0) || (nat_le prev.seqno (length log)
+    && (view_at b log prev.seqno == prev.view))
 
 abbrev pub append_reply_to : {E : Type 0} → NodeId → NodeId → ℕ → Bool → ℕ → List (Message E)
-append_reply_to x y view ok seqno = record { sender = x; receiver = y; view = view; body = AppendReply ok seqno } ∷ []
+append_reply_to x y view ok seqno = record {
+  sender = x;
+  receiver = y;
+  view = view;
+  body = AppendReply ok seqno;
+} ∷ []
 
 -- a follower of y in this view, with its log and its cuts as they are
 abbrev pub following : {E : Type 0} → NodeId → ℕ → Node E → Node E
-following y view n = if nat_lt n.view view then record n { view = view; vote = None; votes = []; role = Follower; leader = Some y } else record n { role = Follower; leader = Some y }
+following y view n = if nat_lt n.view view then record n {
+  view = view;
+  vote = None;
+  votes = [];
+  role = Follower;
+  leader = Some y;
+} else record n { role = Follower; leader = Some y }
 
 -- Whether it is a leader's role.
 abbrev pub is_leading : Role → Bool

@@ -57,7 +57,8 @@ module _ {S Q G R A F : Type 0} where
   Answers (refusals.NotReserved reserved) o = o ≡ Refused (NotReserved reserved)
   Answers (refusals.KeyExhausted reserved) o = o ≡ Refused (KeyExhausted reserved)
   Answers (refusals.NothingToSign seqno) o = o ≡ Refused (NothingToSign seqno)
-  Answers (refusals.RemovalNotCommitted seqno commit) o = o ≡ Refused (RemovalNotCommitted seqno commit)
+  Answers (refusals.RemovalNotCommitted seqno commit) o = o
+      ≡ Refused (RemovalNotCommitted seqno commit)
   Answers (refusals.BelowCommit commit seqno) o = o ≡ Refused (BelowCommit commit seqno)
   Answers (refusals.BelowBase base) o = o ≡ Refused (BelowBase base)
   Answers refusals.NotPeer o = o ≡ Refused NotPeer
@@ -76,7 +77,8 @@ module _ {S Q G R A F : Type 0} where
 
   module _ (stands : S → Book Entry Q G R A F → Holding Entry → Type 0) where
     -- The core stands for a node x, under these rules.
-    pub record StandsFor (c : Core S Q G R A F) (b : Book Entry Q G R A F) (x : NodeId) (n : Node Entry) : Type 0 where
+    pub record StandsFor (c : Core S Q G R A F) (b : Book Entry Q G R A F) (x : NodeId)
+        (n : Node Entry) : Type 0 where
       pub ledger : stands c.book b (held_by x n)
       pub same : seen c n ≡ n
       pub above : n.base ≤ n.commit
@@ -89,41 +91,51 @@ module _ {S Q G R A F : Type 0} where
       pub leaves : n.reserved ≤ b.leaves x
 
     -- What a step of the rules comes to.
-    pub record Stepped (b : Book Entry Q G R A F) (x : NodeId) (step : Step Entry A F) (done : Done S Q G R A F) (new : Core S Q G R A F) : Type 0 where
+    pub record Stepped (b : Book Entry Q G R A F) (x : NodeId) (step : Step Entry A F)
+        (done : Done S Q G R A F) (new : Core S Q G R A F) : Type 0 where
       pub node : StandsFor new b x step.node
       pub outcome : seen_outcome done.outcome ≡ step.outcome
       pub sent : map seen_message done.sent ≡ step.sent
 
     -- This holds of each node that it stands for.
-    abbrev pub Tells : Core S Q G R A F → (Book Entry Q G R A F → NodeId → Node Entry → Type 0) → Type 0
-    Tells c P = (b : Book Entry Q G R A F) (x : NodeId) (n : Node Entry) → StandsFor c b x n → P b x n
+    abbrev pub Tells : Core S Q G R A F → (Book Entry Q G R A F → NodeId → Node Entry → Type 0) →
+        Type 0
+    Tells c P = (b : Book Entry Q G R A F) (x : NodeId) (n : Node Entry) → StandsFor c b x n →
+        P b x n
 
     -- Of each node that it stands for the call is a rule's step.
-    abbrev pub Steps : (Book Entry Q G R A F → NodeId → Node Entry → Step Entry A F) → Core S Q G R A F → Done S Q G R A F → Core S Q G R A F → Type 0
+    abbrev pub Steps : (Book Entry Q G R A F → NodeId → Node Entry → Step Entry A F) →
+        Core S Q G R A F → Done S Q G R A F → Core S Q G R A F → Type 0
     Steps rule old done new = Tells old (λ b x n. Stepped b x (rule b x n) done new)
 
     -- Of each node that it stands for the rule refuses so.
-    abbrev pub Refuses : (Book Entry Q G R A F → NodeId → Node Entry → Step Entry A F) → Core S Q G R A F → Refusal S Q G R A F → Type 0
+    abbrev pub Refuses : (Book Entry Q G R A F → NodeId → Node Entry → Step Entry A F) →
+        Core S Q G R A F → Refusal S Q G R A F → Type 0
     Refuses rule old why = Tells old (λ b x n. Answers why (rule b x n).outcome)
 
     -- Of each node that it stands for this guard lets every step of a rule through.
-    abbrev pub Passes : (Book Entry Q G R A F → Node Entry → Step Entry A F → Step Entry A F) → Core S Q G R A F → Type 0
+    abbrev pub Passes : (Book Entry Q G R A F → Node Entry → Step Entry A F → Step Entry A F) →
+        Core S Q G R A F → Type 0
     Passes guard c = Tells c (λ b x n. (step : Step Entry A F) → guard b n step ≡ step)
 
     -- Of each node that it stands for this guard refuses so, whatever the step.
-    abbrev pub Stops : (Book Entry Q G R A F → Node Entry → Step Entry A F → Step Entry A F) → Core S Q G R A F → Refusal S Q G R A F → Type 0
-    Stops guard c why = Tells c (λ b x n. (step : Step Entry A F) → Answers why (guard b n step).outcome)
+    abbrev pub Stops : (Book Entry Q G R A F → Node Entry → Step Entry A F → Step Entry A F) →
+        Core S Q G R A F → Refusal S Q G R A F → Type 0
+    Stops guard c why = Tells c (λ b x n. (step : Step Entry A F) →
+        Answers why (guard b n step).outcome)
 
     -- It stands for each node for which it stood.
     abbrev pub KeepsAll : Core S Q G R A F → Core S Q G R A F → Type 0
     KeepsAll old new = Tells old (λ b x n. StandsFor new b x n)
 
     -- It stands for another node in place of each.
-    abbrev pub Turns : (Book Entry Q G R A F → Node Entry → Node Entry) → Core S Q G R A F → Core S Q G R A F → Type 0
+    abbrev pub Turns : (Book Entry Q G R A F → Node Entry → Node Entry) → Core S Q G R A F →
+        Core S Q G R A F → Type 0
     Turns f old new = Tells old (λ b x n. StandsFor new b x (f b n))
 
     -- The log is cut where the view rose, and a new leader begins behind it.
-    pub record Settled (b : Book Entry Q G R A F) (x : NodeId) (n : Node Entry) (elected : Elected) (done : Done S Q G R A F) (new : Core S Q G R A F) : Type 0 where
+    pub record Settled (b : Book Entry Q G R A F) (x : NodeId) (n : Node Entry) (elected : Elected)
+        (done : Done S Q G R A F) (new : Core S Q G R A F) : Type 0 where
       pub node : StandsFor new b x (begin_leading b elected.outcome (cut_if_rose b elected.rose n))
       pub outcome : seen_outcome {F = F} done.outcome ≡ elections.seen_outcome b elected.outcome
       pub sent : done.sent ≡ elected.sent
@@ -132,9 +144,14 @@ module _ {S Q G R A F : Type 0} where
     Settles elected old done new = Tells old (λ b x n. Settled b x n elected done new)
 
     -- It stands for a node with another log in place of each, of which this holds.
-    abbrev pub Grows : (Book Entry Q G R A F → Node Entry → List Entry → Type 0) → (Book Entry Q G R A F → Node Entry → List Entry → Node Entry) → Core S Q G R A F → Core S Q G R A F → Type 0
-    Grows P f old new = Tells old (λ b x n. (log : List Entry) × P b n log × StandsFor new b x (f b n log))
+    abbrev pub Grows : (Book Entry Q G R A F → Node Entry → List Entry → Type 0) →
+        (Book Entry Q G R A F → Node Entry → List Entry → Node Entry) → Core S Q G R A F →
+        Core S Q G R A F → Type 0
+    Grows P f old new = Tells old (λ b x n. (log : List Entry) × P b n log
+        × StandsFor new b x (f b n log))
 
     -- It stands for another node in place of each, and sends these messages.
-    abbrev pub Replies : (Book Entry Q G R A F → NodeId → Node Entry → Node Entry) → List Message → Core S Q G R A F → Done S Q G R A F → Core S Q G R A F → Type 0
-    Replies f sent old done new = Tells old (λ b x n. StandsFor new b x (f b x n)) × (done.outcome ≡ answers.Done) × (done.sent ≡ sent)
+    abbrev pub Replies : (Book Entry Q G R A F → NodeId → Node Entry → Node Entry) → List Message →
+        Core S Q G R A F → Done S Q G R A F → Core S Q G R A F → Type 0
+    Replies f sent old done new = Tells old (λ b x n. StandsFor new b x (f b x n))
+        × (done.outcome ≡ answers.Done) × (done.sent ≡ sent)

@@ -34,7 +34,8 @@ pub trait Book: Drop {
     type Refused: Copy;
 
     // Under these rules it stands for what is held, a ledger whole from seqno 1.
-    ghost stands: { Self → Rules Item Self.Request Self.Gov Self.Reads Self.Given Self.Refused → Holding Item → Type 0 };
+    ghost stands: { Self → Rules Item Self.Request Self.Gov Self.Reads Self.Given Self.Refused →
+        Holding Item → Type 0 };
 
     /// With whose key it signs.
     fn me(&self) -> NodeId

@@ -135,7 +135,8 @@ impl<B: Book> Core<B> {
         seqno: u64,
     ) -> Result<Done<B>, Refusal<B>>
         ensures steps { IfOk result (λ done. Steps B.stands (λ b x n.
-            on_message b (message_to x from view (AppendReply ok seqno)) n) self.old done self.new) }
+            on_message b (message_to x from view (AppendReply ok seqno)) n)
+            self.old done self.new) }
         ensures refused { IfErr result (λ why. IsNoMemory why) }
         ensures err { OnErr result (KeepsAll B.stands self.old self.new) }
         ensures quiet { IfOk result (λ done. done.sent ≡ []) }

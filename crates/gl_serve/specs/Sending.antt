@@ -17,7 +17,8 @@ counted lost (Sent true conn frame ∷ more) = counted lost more
 counted lost (Sent false conn frame ∷ more) = counted (next_call lost) more
 
 -- These lines were sent, and the lost ones counted. An honest link's history shows them.
-pub record Sends (honest : Bool) (before : List Exchange) (lost : ℕ) (after : List Exchange) (lost_now : ℕ)
+pub record Sends (honest : Bool) (before : List Exchange) (lost : ℕ) (after : List Exchange)
+    (lost_now : ℕ)
     (lines : List Line) : Type 0 where
   pub exchanges : List Exchange
   pub history : IsTrue honest → after ≡ before ++ exchanges

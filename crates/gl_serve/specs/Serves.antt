@@ -29,7 +29,8 @@ course_of (Err ends.NoMemory) = Err halts.NoMemory
 -- What came was done so, works one behind the other, and the counts are those of the payloads in
 -- the grammar and of the frames that were lost. What came is what was ahead of an honest link and
 -- isn't any more.
-pub record Serves {S Payload : Type 0} (honest : Bool) (rules : Rules S Payload) (settings : Serving)
+pub record Serves {S Payload : Type 0} (honest : Bool) (rules : Rules S Payload)
+    (settings : Serving)
     (first : S) (past : List Exchange) (ahead : List Arrival)
     (last : S) (now_past : List Exchange) (now_ahead : List Arrival)
     (result : Result (ℕ × ℕ) ServeEnd) : Type 0 where

@@ -29,7 +29,8 @@ course_of_turn (Ok turn) = Ok tt
 course_of_turn (Err halt) = Err halt
 
 -- Behind what came before, something comes or nothing, and is done.
-pub record Turned {S Payload : Type 0} (honest : Bool) (rules : Rules S Payload) (settings : Serving)
+pub record Turned {S Payload : Type 0} (honest : Bool) (rules : Rules S Payload)
+    (settings : Serving)
     (before : List Arrival) (from : Stand S) (ahead : List Arrival) (to : Stand S)
     (now_ahead : List Arrival) (kept : ℕ → Stream) (result : Result Turn Halt) : Type 0 where
   pub came : List Arrival

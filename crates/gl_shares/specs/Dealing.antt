@@ -18,7 +18,11 @@ value_at (c ∷ cs) x = bit_xor c (field_product x (value_at cs x))
 
 -- a member's share: of each polynomial the value at the member's number
 abbrev pub share_of : List (List ℕ) → ℕ → Share
-share_of polynomials member = record { member = member; value = map (λ p. value_at p member) polynomials }
+share_of polynomials member = record {
+  member = member;
+  value
+      = map (λ p. value_at p member) polynomials;
+}
 
 -- the low byte of a word that is drawn, counted from 0
 abbrev pub drawn : List ℕ → ℕ → ℕ
@@ -28,7 +32,8 @@ drawn seed n = word_at 10 (key_of seed) 0 n % 256
 -- above it are drawn, that of x first. So each byte has k - 1 of the drawn ones, in the order of
 -- the bytes.
 abbrev pub polynomial_of : List ℕ → ℕ → List ℕ → ℕ → List ℕ
-polynomial_of secret k seed byte = slice_index_or secret byte 0 ∷ map (drawn seed) (range_with_len (byte * (k - 1)) (k - 1))
+polynomial_of secret k seed byte = slice_index_or secret byte 0
+    ∷ map (drawn seed) (range_with_len (byte * (k - 1)) (k - 1))
 
 -- the polynomials of a secret's 32 bytes
 unfoldable pub polynomials_of : List ℕ → ℕ → List ℕ → List (List ℕ)

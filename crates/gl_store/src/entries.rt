@@ -119,7 +119,8 @@ pub(crate) fn limit_passed(body_len: u64, reply: &[u8], seqno: u64) -> Option<Re
     ensures seqno { IfNone result (seqno ≤ last_seqno) }
     ensures owed { IfSome result (λ refusal.
         (ledger : List made.Entry) (e : made.Entry) (answers : List Answer) →
-        body_len ≡ length (body_bytes e) → reply.now ≡ reply_bytes answers → seqno ≡ length ledger + 1 →
+        body_len ≡ length (body_bytes e) → reply.now ≡ reply_bytes answers → seqno
+        ≡ length ledger + 1 →
         within_limits ledger e answers ≡ Err refusal) }
 {
     let reply_len = reply.len() as u64;

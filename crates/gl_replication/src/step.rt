@@ -1,7 +1,6 @@
 //! What an event makes of a node.
 
 ghost use Rattle.std.specs.Prelude.{◌≡◌, true, IfOk, IfErr, OnErr};
-ghost use Rattle.gl_rules.specs.Identity.{same};
 ghost use Rattle.gl_replication.specs.Events.{delivery, rule_of, takes_memory};
 ghost use Rattle.gl_replication.specs.Stands.{IsNoMemory, KeepsAll, Refuses, Steps};
 

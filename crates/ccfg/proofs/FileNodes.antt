@@ -16,6 +16,8 @@ use Rattle.gl_ledger.specs.LedgerBook.{ServiceBook, ledger_book}
 use Rattle.gl_ledger.specs.NodeKeys.{service_layers}
 use Rattle.gl_ledger.specs.declared.made.Given.{Given}
 use Rattle.gl_ledger.specs.declared.made.Unmade.{Unmade}
+use Rattle.gl_replication.specs.Events.{rule_of}
+use Rattle.gl_replication.specs.declared.event.Event.{Event}
 use Rattle.gl_replication.specs.Stands as standing
 use Rattle.gl_replication.specs.Stands.{StandsFor, Tells, seen_outcome}
 use Rattle.gl_replication.specs.declared.done.Outcome.TheVariants as answers
@@ -26,9 +28,7 @@ use Rattle.gl_requests.specs.declared.request.GovernanceRequest.{GovernanceReque
 use Rattle.gl_ledger.specs.declared.made.Reads.{Reads}
 use Rattle.gl_node.specs.Answers.{OnRefusal}
 use Rattle.gl_node.specs.Kept.{kept_after}
-use Rattle.gl_node.specs.Rules.{rule_of}
 use Rattle.gl_node.specs.Serving.{StandsForSome}
-use Rattle.gl_node.specs.declared.event.Event.{Event}
 use Rattle.gl_node.specs.declared.fault.NodeFault.{NodeFault}
 use Rattle.gl_node.specs.declared.fault.NodeFault.TheVariants as node_faults
 use Rattle.gl_rules.specs.Outcome.{Step}

@@ -10,8 +10,8 @@ use Rattle.gl_messages.specs.declared.message.Body.{Body}
 use Rattle.gl_messages.specs.declared.message.Body.TheVariants as bodies
 use Rattle.gl_messages.specs.declared.message.Message as program
 use Rattle.gl_election.specs.Bridge.{seen_body, seen_message}
-use Rattle.gl_node.specs.Rules as served
-use Rattle.gl_node.specs.declared.event.Event.TheVariants as served_events
+use Rattle.gl_replication.specs.Events as served
+use Rattle.gl_replication.specs.declared.event.Event.TheVariants as served_events
 use Rattle.gl_world.specs.declared.event.Event.{Event}
 use Rattle.gl_world.specs.declared.event.Event.TheVariants as events
 use Rattle.gl_world.specs.Held.{is_among, receiver_in}

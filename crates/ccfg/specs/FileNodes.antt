@@ -15,10 +15,10 @@ use Rattle.gl_ledger.specs.declared.made.Reads.{Reads}
 use Rattle.gl_ledger.specs.declared.made.Unmade.{Unmade}
 use Rattle.gl_ledger.specs.LedgerBook.{ServiceBook, ledger_book}
 use Rattle.gl_ledger.specs.NodeKeys.{NodeKeys, service_layers}
+use Rattle.gl_replication.specs.Events.{has_few_entries, rule_of}
+use Rattle.gl_replication.specs.declared.event.Event.{Event}
 use Rattle.gl_replication.specs.Stands.{StandsFor}
-use Rattle.gl_node.specs.Rules.{has_few_entries, rule_of}
 use Rattle.gl_node.specs.Seen.{Seen}
-use Rattle.gl_node.specs.declared.event.Event.{Event}
 use Rattle.gl_rules.specs.Replication.{restart}
 use Rattle.gl_world.specs.WorldNodes.{Rule}
 use Rattle.gl_store_book.specs.NodeFile.{IsOpened, key_of, node_of, opened}

@@ -5,12 +5,12 @@ use Rattle.gl_rules.specs.World.{leader_at_start}
 use Rattle.gl_entry.specs.declared.entry.Entry.{Entry}
 use Rattle.gl_tx.specs.declared.request.Operation.{Operation}
 use Rattle.gl_ledger.specs.LedgerBook.{ServiceBook}
+use Rattle.gl_replication.specs.Events.{rule_of}
+use Rattle.gl_replication.specs.declared.event.Event.TheVariants as events
 use Rattle.gl_replication.specs.Holding.{Holding}
 use Rattle.gl_replication.specs.Stands.{StandsFor, Tells, held_by}
 use Rattle.gl_world.specs.Service.{ServiceEvent}
-use Rattle.gl_node.specs.Rules.{rule_of}
 use Rattle.gl_node.specs.Serving.{HoldsWhole}
-use Rattle.gl_node.specs.declared.event.Event.TheVariants as events
 use Rattle.gl_load.specs.Events.{events_up_to, load_ledger, node_behind, signs_behind}
 use Rattle.gl_load.specs.Founding.{load_book, load_id, load_start}
 use Rattle.gl_load.specs.Node.{IsAfter, IsBehind, IsLed, IsUnsigned, Takes}

@@ -9,9 +9,9 @@ use Rattle.gl_entry.specs.declared.entry.Entry.{Entry}
 use Rattle.gl_ledger.specs.LedgerBook.{ServiceBook}
 use Rattle.gl_ledger.specs.declared.made.Unmade.{Unmade}
 use Rattle.gl_world.specs.Service.{ServiceEvent}
+use Rattle.gl_replication.specs.Events.{rule_of}
 use Rattle.gl_replication.specs.Holding.{Holding}
 use Rattle.gl_replication.specs.Stands.{StandsFor}
-use Rattle.gl_node.specs.Rules.{rule_of}
 use Rattle.gl_load.specs.Events.{events_up_to, node_behind, submitting}
 use Rattle.gl_load.specs.Founding.{load_book, load_id}
 use Rattle.gl_load.specs.Requests.{words_behind}

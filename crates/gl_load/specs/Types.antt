@@ -5,10 +5,10 @@ use Rattle.gl_requests.specs.declared.request.GovernanceRequest.{GovernanceReque
 use Rattle.gl_ledger.specs.declared.made.Given.{Given}
 use Rattle.gl_ledger.specs.declared.made.Reads.{Reads}
 use Rattle.gl_ledger.specs.declared.made.Unmade.{Unmade}
+use Rattle.gl_replication.specs.declared.event.Event.{Event}
 use Rattle.gl_replication.specs.declared.node.Core.{Core}
 use Rattle.gl_rules.specs.Outcome.{Outcome}
 use Rattle.gl_node.specs.Seen.{Seen}
-use Rattle.gl_node.specs.declared.event.Event.{Event}
 use Rattle.gl_load.specs.declared.memory_disk.MemoryDisk.{MemoryDisk}
 
 abbrev pub LoadSeen : Type 0 → Type 0

@@ -1,7 +1,7 @@
 //! The node of a load, and what happens at it.
 
 ghost use Rattle.std.specs.Prelude.{◌≡◌, suc, ◌<◌, ◌≤◌, [], None, true, IfOk, OnOk};
-ghost use Rattle.gl_node.specs.Rules.{has_few_entries, rule_of};
+ghost use Rattle.gl_replication.specs.Events.{has_few_entries, rule_of};
 ghost use Rattle.gl_replication.specs.Stands.{IsNoMemory, StandsFor, Tells};
 ghost use Rattle.gl_load.specs.Events.{events_up_to, signs_behind};
 ghost use Rattle.gl_load.specs.Founding.{load_book, load_holding};
@@ -14,8 +14,8 @@ use crate::requests::next_request;
 use gl_answers::ClientBook;
 use gl_hss::Types;
 use gl_journal::{Journal, Key, KeyKind};
-use gl_node::{Event, KeptBook, NodeFault, Replica};
-use gl_replication::{Core, Refusal};
+use gl_node::{KeptBook, NodeFault, Replica};
+use gl_replication::{Core, Event, Refusal};
 use rand_chacha::ChaCha8Rng;
 use std::alloc::{AllocError, Global};
 

@@ -1,25 +1,21 @@
 -- How much each kind of event may change.
-use Rattle.std.proofs.Common.{◌≡◌, ◌⊎◌, inl, inr, ℕ, Bool, true, false, ◌&&◌, nat_le, length, if◌then◌else◌, refl, sym, ap, subst}
+use Rattle.std.proofs.Common.{◌≡◌, ◌⊎◌, inl, inr, ℕ, Bool, true, if◌then◌else◌, sym, ap, subst}
 use Rattle.gl_base.specs.declared.tx_id.TxId.{TxId}
-use Rattle.std.specs.List.{list_all}
-use Rattle.gl_entry.specs.Entry.{is_entry}
 use Rattle.gl_entry.specs.declared.entry.Entry.{Entry}
 use Rattle.gl_rules.specs.Identity.{NodeId, same}
 use Rattle.gl_rules.specs.Book.{Book}
 use Rattle.gl_rules.specs.Node.{Node}
 use Rattle.gl_rules.specs.Outcome.{Step, idle}
-use Rattle.gl_messages.specs.Fields.{is_id, is_u64}
-use Rattle.gl_messages.specs.Message.{are_behind, are_within, is_body, is_message, most_entries}
 use Rattle.gl_messages.specs.declared.message.Body.{Body}
-use Rattle.gl_messages.specs.declared.message.Body.TheVariants.{RequestVote, VoteReply, Append, AppendReply, ProposeVote}
+use Rattle.gl_messages.specs.declared.message.Body.TheVariants.{RequestVote, VoteReply, AppendReply, ProposeVote}
 use Rattle.gl_messages.specs.declared.message.Message.{Message}
 use Rattle.gl_election.specs.Elections.{position}
-use Rattle.gl_node.specs.Rules.{answer, brings_few, delivery, rule_of}
+use Rattle.gl_replication.specs.Events.{answer, delivery, rule_of}
+use Rattle.gl_replication.specs.declared.event.Event.{Event}
+use Rattle.gl_replication.specs.declared.event.Event.TheVariants as events
 use Rattle.gl_node.specs.Changes.{Extends, IsAsKept, IsTurned, MayChange, TakesEntries}
 use Rattle.gl_node.specs.declared.change.Change.{Change}
 use Rattle.gl_node.specs.declared.change.Change.TheVariants as changes
-use Rattle.gl_node.specs.declared.event.Event.{Event}
-use Rattle.gl_node.specs.declared.event.Event.TheVariants as events
 use Rattle.gl_node.proofs.Turning.{timeout_turned, request_vote_turned, vote_reply_turned, append_answer_turned, propose_vote_turned, reserve_turned, step_down_kept, replicate_kept, advance_kept}
 use Rattle.gl_node.proofs.Extending.{submit_adds, govern_adds, sign_adds}
 
@@ -65,24 +61,3 @@ module _ {S Q G R A F : Type 0} (x : NodeId) (e : Event S Q G R A F) where
       go changes.Turn h = λ b n. subst (λ (s : Step Entry A F). IsTurned n s.node) (same_step b n) (h b n)
       go (changes.Entries view prev es) h = λ b n. subst (λ (s : Step Entry A F). TakesEntries b x n view prev es.now s) (same_step b n) (h b n)
       go changes.Entry h = λ b n. subst (λ (s : Step Entry A F). Extends n s) (same_step b n) (h b n)
-
-both_first : (a b : Bool) → (a && b) ≡ true → a ≡ true
-both_first true b h = refl
-both_first false b h = absurd (cc)
-
-both_second : (a b : Bool) → (a && b) ≡ true → b ≡ true
-both_second true b h = h
-both_second false b h = absurd (cc)
-
-body_brings_few : (view : ℕ) (body : Body) → is_body view body ≡ true → brings_few body ≡ true
-body_brings_few view (RequestVote last) h = refl
-body_brings_few view (VoteReply granted) h = refl
-body_brings_few view (Append prev commit es) h =
-    both_second (is_id prev && is_u64 commit) (nat_le (length es) most_entries)
-    (both_first _ (list_all is_entry es) (both_first _ (are_within es) (both_first _ (are_behind view prev.view prev.seqno es) h)))
-body_brings_few view (AppendReply ok seqno) h = refl
-body_brings_few view ProposeVote h = refl
-
--- what is a message brings few entries
-pub message_brings_few : (m : Message) → is_message m ≡ true → brings_few m.body ≡ true
-message_brings_few m is = body_brings_few m.view m.body (both_second _ (is_body m.view m.body) is)

@@ -20,11 +20,11 @@ use Rattle.gl_messages.specs.declared.message.Body.TheVariants.{RequestVote, Vot
 use Rattle.gl_messages.specs.declared.message.Message.{Message}
 use Rattle.gl_election.specs.Bridge.{message_to, seen_body}
 use Rattle.gl_election.specs.Elections.{position}
+use Rattle.gl_replication.specs.Events.{answer, delivery, rule_of}
+use Rattle.gl_replication.specs.declared.event.Event.{Event}
+use Rattle.gl_replication.specs.declared.event.Event.TheVariants as events
 use Rattle.gl_node.specs.Changes.{IsAsKept, IsTurned}
 use Rattle.gl_node.specs.Leaves.{Happening, Served, Lost, Kept, Stopped, leaf_if_signed, leaf_in, leaf_of, leaves_through, node_after}
-use Rattle.gl_node.specs.Rules.{answer, delivery, rule_of}
-use Rattle.gl_node.specs.declared.event.Event.{Event}
-use Rattle.gl_node.specs.declared.event.Event.TheVariants as events
 use Rattle.gl_node.proofs.Taking.{IsLed, entries_led}
 use Rattle.gl_node.proofs.Turning.{timeout_turned, request_vote_turned, vote_reply_turned, append_answer_turned, propose_vote_turned, reserve_turned, step_down_kept, replicate_kept, advance_kept}
 

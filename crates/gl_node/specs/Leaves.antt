@@ -7,9 +7,9 @@ use Rattle.gl_rules.specs.Node.{Node}
 use Rattle.gl_rules.specs.Outcome.{Outcome, Done, Idle, BecameCandidate, BecameLeader, Accepted, Signed, Committed, Refused}
 use Rattle.gl_rules.specs.Replication.{restart}
 use Rattle.gl_rules.specs.Requests.{sign}
-use Rattle.gl_node.specs.Rules.{rule_of}
-use Rattle.gl_node.specs.declared.event.Event.{Event}
-use Rattle.gl_node.specs.declared.event.Event.TheVariants as events
+use Rattle.gl_replication.specs.Events.{rule_of}
+use Rattle.gl_replication.specs.declared.event.Event.{Event}
+use Rattle.gl_replication.specs.declared.event.Event.TheVariants as events
 
 -- What happens to a node and its file. A refused event changes nothing, and isn't told of here.
 pub data Happening (S Q G R A F : Type 0) : Type 0 where

@@ -1,5 +1,4 @@
 pub mod Frames
-pub mod Rules
 pub mod Kept
 pub mod Serving
 pub mod Changes

@@ -1,17 +1,15 @@
 //! What an event may change of what a file keeps of a node.
 
 ghost use Rattle.std.specs.Prelude.{◌≡◌, true};
+ghost use Rattle.gl_replication.specs.Events.{answer, brings_few, has_few_entries, rule_of};
 ghost use Rattle.gl_node.specs.Changes.{BringsFew, MayChange};
 ghost use Rattle.gl_rules.specs.Identity.{NodeId as Id};
-ghost use Rattle.gl_node.specs.Rules.{answer, brings_few, has_few_entries, rule_of};
 
-use crate::event::Event;
-use crate::keeping::is_same;
 use gl_base::TxId;
 use gl_config::NodeId;
 use gl_entry::Entry;
 use gl_messages::{Body, Message};
-use gl_replication::Book;
+use gl_replication::{Book, Event};
 
 /// What an event may change of what a file keeps of a node.
 #[derive(Clone, Copy, Debug)]
@@ -51,6 +49,7 @@ fn change_by<B: Book>(message: &Message) -> Change<'_>
 }
 
 /// What an event may change at a node.
+#[tactic(auto, unfolding(gl_rules::specs::Identity::same))]
 pub(crate) fn change_of<'a, B: Book>(event: &'a Event<B>, me: &NodeId) -> Change<'a>
     requires { has_few_entries event.now ≡ true }
     ensures change { MayChange (rule_of event.now) me.now result }
@@ -61,7 +60,7 @@ pub(crate) fn change_of<'a, B: Book>(event: &'a Event<B>, me: &NodeId) -> Change
         Event::Timeout | Event::Reserve => Change::Turn,
         Event::Submit(_) | Event::Govern(_) | Event::Sign => Change::Entry,
         Event::Message(message) => {
-            if is_same(&message.to, me) {
+            if message.to == *me {
                 change_by::<B>(message)
             } else {
                 Change::Nothing

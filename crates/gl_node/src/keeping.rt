@@ -11,7 +11,6 @@ ghost use Rattle.gl_journal.specs.RecordView.{record_value};
 ghost use Rattle.gl_journal.specs.declared.record.Record.TheVariants.{Vote};
 ghost use Rattle.gl_node.specs.Frames.{EachGoesOn, appends_size};
 ghost use Rattle.gl_node.specs.Kept.{is_same_vote, with_vote};
-ghost use Rattle.gl_rules.specs.Identity.{same};
 ghost use Rattle.gl_node.specs.Serving.{kept_of};
 ghost use Rattle.gl_node.specs.Batches.{Folds, IsChange, IsRoom, records_size};
 
@@ -23,21 +22,14 @@ use gl_outside::{Disk, DiskFailed};
 use gl_replication::Core;
 use std::alloc::{AllocError, Global};
 
-/// Whether two identifiers are one.
-#[tactic(auto, unfolding(gl_rules::specs::Identity::same))]
-pub(crate) fn is_same(x: &NodeId, y: &NodeId) -> bool
-    ensures { result ≡ same x.now y.now }
-{
-    x == y
-}
-
 /// Whether two votes are one.
+#[tactic(auto, unfolding(gl_rules::specs::Identity::same))]
 fn is_same_vote(x: &Option<NodeId>, y: &Option<NodeId>) -> bool
     ensures { result ≡ is_same_vote x.now y.now }
 {
     match (x, y) {
         (None, None) => true,
-        (Some(x), Some(y)) => is_same(x, y),
+        (Some(x), Some(y)) => x == y,
         _ => false,
     }
 }

@@ -6,7 +6,6 @@
 
 mod change;
 mod changed;
-mod event;
 mod fault;
 mod frames;
 mod happen;
@@ -17,7 +16,6 @@ mod replica;
 mod serving;
 mod taking_back;
 
-pub use event::Event;
 pub use fault::NodeFault;
 pub use kept_book::KeptBook;
 pub use laws::{a_leaf_is_reserved_before_it_signs, no_leaf_signs_twice};

@@ -4,19 +4,18 @@ ghost use Rattle.std.specs.Prelude.{◌≡◌, ◌↔◌, ℕ, List, true, None,
 ghost use Rattle.gl_outside.specs.Disk.{IsImage, Leaves, LeavesOnly};
 ghost use Rattle.gl_outside.specs.Fault.{Rose};
 ghost use Rattle.gl_journal.specs.Durable.{Durable as State, durable, OpensToOneOf};
+ghost use Rattle.gl_replication.specs.Events.{has_few_entries, rule_of};
 ghost use Rattle.gl_replication.specs.Stands.{KeepsAll, Refuses, Steps, Tells};
 ghost use Rattle.gl_node.specs.Answers.{OnRefusal, stopped_by, stopped_count};
 ghost use Rattle.gl_node.specs.Kept.{kept_after};
-ghost use Rattle.gl_node.specs.Rules.{has_few_entries, rule_of};
 ghost use Rattle.gl_node.specs.Serving.{IsServing, OpensToCore, StandsForSome};
 
-use crate::event::Event;
 use crate::fault::NodeFault;
 use crate::kept_book::KeptBook;
 use crate::serving::serve;
 use gl_journal::Journal;
 use gl_outside::Disk;
-use gl_replication::{Core, Done};
+use gl_replication::{Core, Done, Event};
 use std::marker::Model;
 
 /// A node that serves from a file. It is seen as the node, the disk with the file on it, and

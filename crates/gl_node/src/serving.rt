@@ -3,15 +3,14 @@
 ghost use Rattle.std.specs.Prelude.{◌≡◌, ◌≤◌, ℕ, length, true};
 ghost use Rattle.gl_entry.specs.declared.entry.Entry.{Entry as Item};
 ghost use Rattle.gl_messages.specs.Message.{most_entries};
+ghost use Rattle.gl_replication.specs.Events.{has_few_entries, rule_of};
 ghost use Rattle.gl_replication.specs.Stands.{Tells};
 ghost use Rattle.gl_node.specs.Changes.{Extends, IsAsKept, IsTurned, TakesEntries};
 ghost use Rattle.gl_node.specs.Comes.{Comes};
-ghost use Rattle.gl_node.specs.Rules.{has_few_entries, rule_of};
 ghost use Rattle.gl_node.specs.Serving.{IsServing};
 
 use crate::change::{Change, change_of};
 use crate::changed::{Before, ledger_len};
-use crate::event::Event;
 use crate::fault::NodeFault;
 use crate::frames::{frames_behind, frames_of, room};
 use crate::happen::happen;
@@ -22,7 +21,7 @@ use gl_base::TxId;
 use gl_entry::Entry;
 use gl_journal::Journal;
 use gl_outside::Disk;
-use gl_replication::{Core, Done, Refusal};
+use gl_replication::{Core, Done, Event, Refusal};
 
 /// An event that changes nothing of what the file keeps. It takes no memory but what the node does.
 fn pass<D: Disk, B: KeptBook>(

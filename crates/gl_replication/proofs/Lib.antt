@@ -12,3 +12,4 @@ pub mod Plains
 pub mod Peers
 pub mod Readings
 pub mod Keeping
+pub mod Bringing

@@ -4,3 +4,4 @@ pub mod Pairs
 pub mod Stands
 pub mod Replies
 pub mod Plain
+pub mod Events

@@ -12,7 +12,7 @@ use gl_messages::{Body, Message};
 
 impl<B: Book> Core<B> {
     /// What the node does with a message to it. To whom it is addressed is for the caller to see.
-    pub fn on_message(&mut self, message: &Message) -> Result<Done<B>, Refusal<B>>
+    pub(crate) fn on_message(&mut self, message: &Message) -> Result<Done<B>, Refusal<B>>
         ensures steps { IfOk result (λ done. Steps B.stands (λ b x n. on_message b
             (message_to x message.now.from message.now.view (seen_body message.now.body)) n)
             self.old done self.new) }

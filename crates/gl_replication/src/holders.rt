@@ -1,29 +1,21 @@
 //! Majorities of the nodes that are known to hold the log up to a seqno.
 
 ghost use Rattle.std.specs.Prelude.{◌≡◌, ◌≤◌, ◌<◌, length, AllPairs};
-ghost use Rattle.gl_rules.specs.Identity.{same};
 ghost use Rattle.gl_rules.specs.Majority.{majority, quorum, tally};
 ghost use Rattle.gl_config.specs.Active.{active_of, sets_of};
 ghost use Rattle.gl_replication.specs.Pairs.{held, holds};
 
 use gl_config::{Active, Configuration, NodeId, NodeSet};
 
-/// Whether two identifiers are one.
-#[tactic(auto, unfolding(gl_rules::specs::Identity::same))]
-pub(crate) fn is_same(x: &NodeId, y: &NodeId) -> bool
-    ensures { result ≡ same x.now y.now }
-{
-    x == y
-}
-
 /// The seqno that the first pair of a node has, 0 where it has none.
+#[tactic(auto, unfolding(gl_rules::specs::Identity::same))]
 pub(crate) fn held(pairs: &[(NodeId, u64)], y: &NodeId) -> u64
     ensures { result ≡ held pairs.now y.now }
 {
     match pairs.split_first() {
         None => 0,
         Some((pair, rest)) => {
-            if is_same(y, &pair.0) {
+            if *y == pair.0 {
                 return pair.1;
             }
             held(rest, y)
@@ -32,10 +24,11 @@ pub(crate) fn held(pairs: &[(NodeId, u64)], y: &NodeId) -> u64
 }
 
 /// Whether y holds the log up to a seqno, as far as the leader knows.
+#[tactic(auto, unfolding(gl_rules::specs::Identity::same))]
 fn is_holding(me: &NodeId, seqno: u64, matched: &[(NodeId, u64)], y: &NodeId) -> bool
     ensures { result ≡ holds me.now seqno (held matched.now) y.now }
 {
-    is_same(y, me) || seqno <= held(matched, y)
+    y == me || seqno <= held(matched, y)
 }
 
 /// How many of these nodes hold the log up to a seqno.

@@ -1,6 +1,6 @@
-//! A node of the service over any store: each of its calls is a rule of consensus.
+//! A node of the service over any store: each event is the step of its rule of consensus.
 //!
-//! Begin with `Core`, the node, and the trait `Book`, its store.
+//! Begin with `Core::step`, and the trait `Book`, the node's store.
 #![tactic(auto)]
 
 mod appends;
@@ -8,6 +8,7 @@ mod book;
 mod deliveries;
 mod done;
 mod elections;
+mod event;
 mod govern;
 mod holders;
 mod leaves;
@@ -16,8 +17,10 @@ mod progress;
 mod readers;
 mod replicate;
 mod start;
+mod step;
 
 pub use book::Book;
 pub use done::{Done, Outcome, Refusal};
+pub use event::Event;
 pub use leaves::Leaves;
 pub use node::Core;

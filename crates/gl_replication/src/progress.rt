@@ -10,12 +10,13 @@ ghost use Rattle.gl_replication.specs.Stands.{IsNoMemory, KeepsAll, Steps, Tells
 
 use crate::book::Book;
 use crate::done::{Done, Refusal};
-use crate::holders::{held, is_same};
+use crate::holders::held;
 use crate::node::Core;
 use gl_config::NodeId;
 use std::alloc::AllocError;
 
 /// The index of the first pair of a node.
+#[tactic(auto, unfolding(gl_rules::specs::Identity::same))]
 pub(crate) fn index_of(pairs: &[(NodeId, u64)], y: &NodeId) -> Option<usize>
     ensures value { result ≡ index_of pairs.now y.now }
     ensures within { IfSome result (λ index. index < length pairs.now) }
@@ -23,7 +24,7 @@ pub(crate) fn index_of(pairs: &[(NodeId, u64)], y: &NodeId) -> Option<usize>
     match pairs.split_first() {
         None => None,
         Some((pair, rest)) => {
-            if is_same(y, &pair.0) {
+            if *y == pair.0 {
                 return Some(0);
             }
             let index = index_of(rest, y)?;
@@ -33,13 +34,14 @@ pub(crate) fn index_of(pairs: &[(NodeId, u64)], y: &NodeId) -> Option<usize>
 }
 
 /// The seqno that the first pair of a node has, if it has one.
+#[tactic(auto, unfolding(gl_rules::specs::Identity::same))]
 pub(crate) fn tried(pairs: &[(NodeId, u64)], y: &NodeId) -> Option<u64>
     ensures { result ≡ tried pairs.now y.now }
 {
     match pairs.split_first() {
         None => None,
         Some((pair, rest)) => {
-            if is_same(y, &pair.0) {
+            if *y == pair.0 {
                 return Some(pair.1);
             }
             tried(rest, y)
@@ -127,7 +129,7 @@ impl<B: Book> Core<B> {
     }
 
     /// A node's reply to the leader's entries.
-    pub fn on_append_reply(
+    pub(crate) fn on_append_reply(
         &mut self,
         from: NodeId,
         view: u32,

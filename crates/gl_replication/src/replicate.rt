@@ -7,7 +7,6 @@ ghost use Rattle.gl_replication.specs.Stands.{KeepsAll, Refuses, Steps, Tells};
 
 use crate::book::Book;
 use crate::done::{Done, Outcome, Refusal};
-use crate::holders::is_same;
 use crate::node::Core;
 use gl_base::{Sequence, TxId};
 use gl_config::{Active, NodeId};
@@ -37,7 +36,7 @@ impl<B: Book> Core<B> {
     fn is_peer(&self, to: &NodeId) -> bool
         ensures { Tells B.stands self.now (λ b x n. result ≡ is_peer b x to.now n) }
     {
-        let is_me = is_same(to, &self.book.me());
+        let is_me = *to == self.book.me();
         let len = self.book.ledger_len();
         let is_active = Active::of(self.book.configurations(len), self.commit).holds(to);
         let is_removed = self.book.removal(to).is_some();
@@ -102,7 +101,7 @@ impl<B: Book> Core<B> {
     }
 
     /// The leader sends a node the entries from its next seqno on, as many as one message carries.
-    pub fn replicate(&mut self, to: NodeId) -> Result<Done<B>, Refusal<B>>
+    pub(crate) fn replicate(&mut self, to: NodeId) -> Result<Done<B>, Refusal<B>>
         ensures steps { IfOk result (λ done.
             Steps B.stands (λ b x n. replicate b x to n) self.old done self.new) }
         ensures refused { IfErr result (λ why.

@@ -13,12 +13,12 @@ use Rattle.gl_requests.specs.declared.request.GovernanceRequest.{GovernanceReque
 use Rattle.gl_ledger.specs.LedgerBook.{ServiceBook}
 use Rattle.gl_ledger.specs.declared.made.Given.{Given}
 use Rattle.gl_ledger.specs.declared.made.Unmade.{Unmade}
+use Rattle.gl_replication.specs.Events.{rule_of}
+use Rattle.gl_replication.specs.declared.event.Event.TheVariants as events
 use Rattle.gl_replication.specs.Stands.{seen_outcome}
 use Rattle.gl_replication.specs.declared.done.Outcome as done
 use Rattle.gl_replication.specs.declared.done.Outcome.TheVariants as answers
 use Rattle.gl_answers.specs.Limits.{FitsGiven, KeepsLimits}
-use Rattle.gl_node.specs.Rules.{rule_of}
-use Rattle.gl_node.specs.declared.event.Event.TheVariants as events
 use Rattle.gl_serve.specs.Answering.{IsAccepted}
 use Rattle.gl_serve.specs.Requests.{is_request}
 use Rattle.gl_serve.specs.Types.{NodeEvent}

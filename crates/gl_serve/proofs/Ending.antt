@@ -9,11 +9,11 @@ use Rattle.gl_outside.specs.Fault.{Rose}
 use Rattle.gl_outside.proofs.Moments.{so_too}
 use Rattle.gl_journal.specs.Durable.{Durable, GoesOn, durable}
 use Rattle.gl_journal.specs.declared.fault.JournalFault.{JournalFault}
+use Rattle.gl_replication.specs.Events.{rule_of}
+use Rattle.gl_replication.specs.declared.event.Event.TheVariants as events
 use Rattle.gl_replication.specs.Holding.{Holding}
 use Rattle.gl_replication.specs.Stands.{StandsFor}
 use Rattle.gl_node.specs.Kept.{kept_after}
-use Rattle.gl_node.specs.Rules.{rule_of}
-use Rattle.gl_node.specs.declared.event.Event.TheVariants as events
 use Rattle.gl_node.specs.declared.fault.NodeFault.TheVariants.{Refused, DiskFault, Stopped}
 use Rattle.gl_node.proofs.Signing.{reserved_before}
 use Rattle.gl_outside.specs.Link.{Arrival, Exchange}

@@ -4,6 +4,7 @@ use Rattle.gl_entry.specs.declared.entry.Entry.{Entry}
 use Rattle.gl_messages.specs.Message.{body_fits}
 use Rattle.gl_messages.specs.declared.message.Message.{Message}
 use Rattle.gl_ledger.specs.LedgerBook.{ServiceBook}
+use Rattle.gl_replication.specs.Events.{rule_of}
 use Rattle.gl_replication.specs.Holding.{Holding}
 use Rattle.gl_replication.specs.Standing.{At}
 use Rattle.gl_replication.specs.Stands.{KeepsAll, Refuses, Steps, Tells, held_by}
@@ -13,7 +14,6 @@ use Rattle.gl_outside.specs.Fault.{Rose}
 use Rattle.gl_journal.specs.Durable.{Durable, GoesOn, OpensToOneOf, durable}
 use Rattle.gl_node.specs.Answers.{OnRefusal, stopped_count}
 use Rattle.gl_node.specs.Kept.{kept_after}
-use Rattle.gl_node.specs.Rules.{rule_of}
 use Rattle.gl_node.specs.Serving.{StandsForSome}
 use Rattle.gl_node.specs.declared.fault.NodeFault.TheVariants.{Refused, DiskFault, Stopped}
 use Rattle.gl_serve.specs.Answering.{IsAccepted}

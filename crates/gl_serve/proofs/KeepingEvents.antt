@@ -7,10 +7,10 @@ use Rattle.gl_ledger.specs.LedgerBook.{ServiceBook}
 use Rattle.gl_outside.specs.Disk.{Leaves, Step}
 use Rattle.gl_outside.proofs.Moments.{Images, so_too, started, stayed, then_too}
 use Rattle.gl_journal.specs.Durable.{Durable, GoesOn, OpensToOneOf, durable}
+use Rattle.gl_replication.specs.Events.{rule_of}
 use Rattle.gl_replication.specs.Holding.{Holding}
 use Rattle.gl_replication.specs.Stands.{StandsFor}
 use Rattle.gl_node.specs.Kept.{kept_after}
-use Rattle.gl_node.specs.Rules.{rule_of}
 use Rattle.gl_node.specs.declared.fault.NodeFault.TheVariants.{Refused, DiskFault, Stopped}
 use Rattle.gl_serve.specs.Events.{Happens}
 use Rattle.gl_serve.specs.Life.{IsKeptThrough, Lived, Lives, MayKeep, kept_behind, kept_through, node_behind}

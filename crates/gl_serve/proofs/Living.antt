@@ -7,10 +7,10 @@ use Rattle.gl_ledger.specs.LedgerBook.{ServiceBook}
 use Rattle.gl_outside.specs.Disk.{Step}
 use Rattle.gl_outside.specs.Link.{Arrival}
 use Rattle.gl_journal.specs.Durable.{GoesOn}
+use Rattle.gl_replication.specs.Events.{rule_of}
+use Rattle.gl_replication.specs.declared.event.Event.TheVariants as events
 use Rattle.gl_replication.specs.Holding.{Holding}
 use Rattle.gl_replication.specs.Stands.{StandsFor}
-use Rattle.gl_node.specs.Rules.{rule_of}
-use Rattle.gl_node.specs.declared.event.Event.TheVariants as events
 use Rattle.gl_node.specs.declared.fault.NodeFault.TheVariants.{Refused, DiskFault, Stopped}
 use Rattle.gl_node.proofs.Signing.{leaves_rise}
 use Rattle.gl_serve.specs.Doing.{Does, Line, Moment, One}

@@ -23,9 +23,9 @@ use Rattle.gl_messages.specs.declared.message.Body as sent
 use Rattle.gl_messages.specs.declared.message.Body.TheVariants as bodies
 use Rattle.gl_messages.specs.declared.message.Message as sent_message
 use Rattle.gl_election.specs.Bridge.{message_to, seen_body, seen_message}
-use Rattle.gl_node.specs.Rules.{rule_of}
-use Rattle.gl_node.specs.declared.event.Event.{Event}
-use Rattle.gl_node.specs.declared.event.Event.TheVariants as events
+use Rattle.gl_replication.specs.Events.{rule_of}
+use Rattle.gl_replication.specs.declared.event.Event.{Event}
+use Rattle.gl_replication.specs.declared.event.Event.TheVariants as events
 use Rattle.gl_serve.proofs.Batching.{batch_fits}
 
 -- a body keeps the limits of messages

@@ -8,11 +8,11 @@ use Rattle.gl_ledger.specs.LedgerBook.{ServiceBook}
 use Rattle.gl_outside.specs.Disk.{Leaves, LeavesOnly, Step}
 use Rattle.gl_outside.specs.Link.{Arrival, Exchange}
 use Rattle.gl_journal.specs.Durable.{Durable, GoesOn, durable}
+use Rattle.gl_replication.specs.Events.{rule_of}
 use Rattle.gl_replication.specs.Holding.{Holding}
 use Rattle.gl_replication.specs.Stands.{StandsFor, Tells}
 use Rattle.gl_node.specs.Kept.{kept_after}
 use Rattle.gl_node.specs.Leaves.{Served, Lost, leaves_through}
-use Rattle.gl_node.specs.Rules.{rule_of}
 use Rattle.gl_node.specs.declared.fault.NodeFault.TheVariants.{Refused, DiskFault, Stopped}
 use Rattle.gl_serve.specs.Serves.{Serves}
 use Rattle.gl_serve.specs.declared.settings.Serving.{Serving}

@@ -10,12 +10,12 @@ use Rattle.gl_messages.specs.declared.answer.Said.TheVariants as said
 use Rattle.gl_outside.specs.Disk.{Step}
 use Rattle.gl_journal.specs.Durable.{GoesOn}
 use Rattle.gl_receipt.specs.Made.{receipt_of}
+use Rattle.gl_replication.specs.declared.event.Event.TheVariants as events
 use Rattle.gl_replication.specs.Holding.{Holding}
 use Rattle.gl_replication.specs.Replies.{is_leading}
 use Rattle.gl_replication.specs.Stands.{Tells}
 use Rattle.gl_answers.specs.Reasons.{numbers}
 use Rattle.gl_answers.specs.Receipts.{receipts_of}
-use Rattle.gl_node.specs.declared.event.Event.TheVariants as events
 use Rattle.gl_serve.specs.Rules.{Rules}
 use Rattle.gl_serve.specs.declared.node.OwnEvent.{OwnEvent}
 use Rattle.gl_serve.specs.declared.node.OwnEvent.TheVariants as own

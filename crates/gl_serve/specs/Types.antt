@@ -5,12 +5,12 @@ use Rattle.gl_requests.specs.declared.request.GovernanceRequest.{GovernanceReque
 use Rattle.gl_ledger.specs.declared.made.Given.{Given}
 use Rattle.gl_ledger.specs.declared.made.Reads.{Reads}
 use Rattle.gl_ledger.specs.declared.made.Unmade.{Unmade}
+use Rattle.gl_replication.specs.declared.event.Event.{Event}
 use Rattle.gl_replication.specs.declared.done.Done.{Done}
 use Rattle.gl_replication.specs.declared.done.Refusal.{Refusal}
 use Rattle.gl_replication.specs.declared.node.Core.{Core}
 use Rattle.gl_node.specs.Leaves.{Happening}
 use Rattle.gl_node.specs.Seen.{Seen}
-use Rattle.gl_node.specs.declared.event.Event.{Event}
 use Rattle.gl_node.specs.declared.fault.NodeFault.{NodeFault}
 
 -- Over a disk D and a store S.

@@ -13,7 +13,7 @@ pub struct PeerMessage {
 impl Model for PeerMessage {
     ghost use Rattle.std.specs.Prelude.{◌≡◌, true};
     ghost use Rattle.gl_messages.specs.declared.message.Message.{Message as Value_};
-    ghost use Rattle.gl_node.specs.Rules.{brings_few};
+    ghost use Rattle.gl_replication.specs.Events.{brings_few};
 
     ghost Value = { Value_ };
 
@@ -24,7 +24,7 @@ impl Model for PeerMessage {
 
 impl PeerMessage {
     ghost use Rattle.std.specs.Prelude.{◌≡◌, true};
-    ghost use Rattle.gl_node.specs.Rules.{brings_few};
+    ghost use Rattle.gl_replication.specs.Events.{brings_few};
 
     pub fn new(message: Message) -> Self
         requires { brings_few message.body ≡ true }

@@ -4,11 +4,11 @@ ghost use Rattle.std.specs.Prelude.{◌≡◌, ◌⊎◌, ℕ, [], ◌∷◌, Al
 ghost use Rattle.gl_messages.specs.Answer.{said_fits};
 ghost use Rattle.gl_messages.specs.Message.{body_fits};
 ghost use Rattle.gl_messages.specs.declared.answer.Said.TheVariants.{StatusIs};
-ghost use Rattle.gl_node.specs.Rules.{has_few_entries};
-ghost use Rattle.gl_node.specs.declared.event.Event.TheVariants as events;
 ghost use Rattle.gl_receipt.specs.Made.{receipt_of};
 ghost use Rattle.gl_answers.specs.Reasons.{numbers};
 ghost use Rattle.gl_answers.specs.Receipts.{receipts_of};
+ghost use Rattle.gl_replication.specs.Events.{has_few_entries};
+ghost use Rattle.gl_replication.specs.declared.event.Event.TheVariants as events;
 ghost use Rattle.gl_replication.specs.Stands.{Tells};
 ghost use Rattle.gl_rules.specs.Log.{entry_at, is_signature_in};
 ghost use Rattle.gl_rules.specs.Safety.{reported_status};
@@ -26,10 +26,10 @@ use crate::{Outcome, OwnEvent};
 use gl_answers::{ClientBook, Reason};
 use gl_base::{OrNoMemory, Sequence, TxId};
 use gl_messages::Said;
-use gl_node::{Event, KeptBook, NodeFault, Replica};
+use gl_node::{KeptBook, NodeFault, Replica};
 use gl_outside::Disk;
 use gl_receipt::write_receipt;
-use gl_replication::{Core, Done};
+use gl_replication::{Core, Done, Event};
 use std::alloc::Global;
 
 /// An event happens.

@@ -17,9 +17,9 @@ use Rattle.gl_ledger.specs.declared.made.Unmade.{Unmade}
 use Rattle.gl_ledger.specs.NodeKeys.{service_layers}
 use Rattle.gl_ledger.proofs.Valid.{valid_sound}
 use Rattle.gl_node.specs.Kept.{kept_after}
-use Rattle.gl_node.specs.Rules.{rule_of}
 use Rattle.gl_node.specs.Serving.{IsFileOf, OpensToCore}
-use Rattle.gl_node.specs.declared.event.Event.{Event}
+use Rattle.gl_replication.specs.Events.{rule_of}
+use Rattle.gl_replication.specs.declared.event.Event.{Event}
 use Rattle.gl_replication.specs.Holding.{Holding}
 use Rattle.gl_replication.specs.Stands.{StandsFor}
 use Rattle.gl_store_book.specs.Replicas.{NodeCore}

@@ -30,10 +30,10 @@ use Rattle.gl_ledger.specs.declared.made.Reads.{Reads}
 use Rattle.gl_ledger.specs.declared.made.Unmade.{Unmade}
 use Rattle.gl_ledger.proofs.Valid.{valid-push}
 use Rattle.gl_audit.proofs.Cutting.{audited-take}
+use Rattle.gl_replication.specs.Events.{answer, rule_of}
+use Rattle.gl_replication.specs.declared.event.Event.{Event}
+use Rattle.gl_replication.specs.declared.event.Event.TheVariants as events
 use Rattle.gl_node.specs.Changes.{IsAsKept, IsTurned}
-use Rattle.gl_node.specs.Rules.{answer, rule_of}
-use Rattle.gl_node.specs.declared.event.Event.{Event}
-use Rattle.gl_node.specs.declared.event.Event.TheVariants as events
 use Rattle.gl_node.proofs.Turning.{timeout_turned, request_vote_turned, vote_reply_turned, append_answer_turned, propose_vote_turned, reserve_turned, step_down_kept, replicate_kept, advance_kept}
 
 -- No entry breaks a rule behind those before it.

@@ -5,15 +5,16 @@ ghost use Rattle.gl_journal.specs.Durable.{Durable as State};
 ghost use Rattle.gl_ledger.specs.Audit.{audited};
 ghost use Rattle.gl_ledger.specs.NodeKeys.{service_layers};
 ghost use Rattle.gl_node.specs.Kept.{kept_after};
-ghost use Rattle.gl_node.specs.Rules.{rule_of};
+ghost use Rattle.gl_replication.specs.Events.{rule_of};
 ghost use Rattle.gl_replication.specs.Stands.{Tells};
 ghost use Rattle.gl_store_book.specs.NodeFile.{opened};
 ghost use Rattle.gl_store_book.specs.Reopening.{GivesRestart};
 ghost use Rattle.gl_store_book.specs.Stands.{Stands};
 
 use crate::store_book::StoreBook;
-use gl_node::{Event, Replica};
+use gl_node::Replica;
 use gl_outside::Disk;
+use gl_replication::Event;
 
 /// A node's ledger breaks no rule of the audit.
 fn is_audited(book: &StoreBook)

@@ -9,7 +9,7 @@ ghost use Rattle.ccfg.specs.FileNodes.{IsEventOf};
 use crate::schedule_nodes::copies::copy_message;
 use gl_config::NodeId;
 use gl_messages::Message;
-use gl_node::Event as NodeEvent;
+use gl_replication::Event as NodeEvent;
 use gl_store_book::StoreBook;
 use gl_world::Event;
 use std::alloc::{AllocError, Global};

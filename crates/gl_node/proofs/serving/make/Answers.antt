@@ -1,9 +1,9 @@
 use Rattle.std.proofs.Common.{◌≡◌, ◌≤◌, length, drop, map, sym, ap, ◌∙◌, arith}
 use Rattle.gl_entry.specs.Entry.{frame_bytes}
 use Rattle.gl_journal.specs.Parts.{items_of}
+use Rattle.gl_replication.specs.Events.{rule_of}
 use Rattle.gl_replication.specs.declared.done.Refusal.TheVariants.{NoMemory}
 use Rattle.gl_node.specs.Batches.{IsChange}
-use Rattle.gl_node.specs.Rules.{rule_of}
 use Rattle.gl_node.proofs.Coming.{done_by, broken_by, refused_by, untouched}
 use Rattle.gl_node.proofs.Making.{more_front, one_longer, small_behind, step_extended, step_more, step_reserves, step_rises}
 use Rattle.gl_node.proofs.Standings.{log_of, reserved_of, to_change, used_of}

@@ -1,4 +1,4 @@
-use Rattle.gl_node.specs.Rules.{rule_of}
+use Rattle.gl_replication.specs.Events.{rule_of}
 use Rattle.gl_node.proofs.Coming.{passed_by, refused_by, untouched}
 use Rattle.gl_node.proofs.serving.pass.Goals as goal
 

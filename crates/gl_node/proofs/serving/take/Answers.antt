@@ -2,11 +2,11 @@ use Rattle.std.proofs.Common.{◌≡◌, ◌≤◌, ℕ, ◌-◌, ◌+◌, lengt
 use Rattle.gl_entry.specs.Entry.{frame_bytes}
 use Rattle.gl_journal.specs.Parts.{items_of}
 use Rattle.gl_journal.proofs.PartLaws.{length_items_of}
+use Rattle.gl_replication.specs.Events.{rule_of}
 use Rattle.gl_replication.specs.declared.done.Refusal.TheVariants.{NoMemory}
 use Rattle.gl_replication.proofs.Merging.{rest_is}
 use Rattle.gl_node.specs.Batches.{IsChange}
 use Rattle.gl_node.specs.Frames.{appends_size, frame_if_fits}
-use Rattle.gl_node.specs.Rules.{rule_of}
 use Rattle.gl_node.proofs.Coming.{done_by, broken_by, refused_by}
 use Rattle.gl_node.proofs.Taking.{step_led, step_tail, few_new}
 use Rattle.gl_node.proofs.Standings.{to_change}

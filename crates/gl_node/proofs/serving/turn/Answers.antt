@@ -1,7 +1,7 @@
 use Rattle.std.proofs.Common.{[], refl}
+use Rattle.gl_replication.specs.Events.{rule_of}
 use Rattle.gl_replication.specs.declared.done.Refusal.TheVariants.{NoMemory}
 use Rattle.gl_node.specs.Batches.{IsChange}
-use Rattle.gl_node.specs.Rules.{rule_of}
 use Rattle.gl_node.proofs.Coming.{done_by, broken_by, refused_by}
 use Rattle.gl_node.proofs.Standings.{turned_change}
 use Rattle.gl_node.proofs.serving.turn.Goals as goal

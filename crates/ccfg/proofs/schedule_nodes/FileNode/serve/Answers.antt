@@ -1,6 +1,6 @@
 use Rattle.std.proofs.Common.{◌≡◌, refl, subst}
-use Rattle.gl_node.specs.Rules.{rule_of}
 use Rattle.gl_outside.specs.SureDisk.{disk_past}
+use Rattle.gl_replication.specs.Events.{rule_of}
 use Rattle.gl_replication.specs.Stands as standing
 use Rattle.gl_world.specs.WorldNodes.{KeepsAll, Refuses, Steps}
 use Rattle.ccfg.specs.FileNodes.{SeenFileNode, StandsOverFile}

@@ -1,7 +1,7 @@
 use Rattle.std.proofs.Common.{map, None, Some, sym}
 use Rattle.gl_election.specs.Bridge.{seen_message}
-use Rattle.gl_node.specs.Rules as served
 use Rattle.gl_rules.specs.Replication.{restart}
+use Rattle.gl_replication.specs.Events as served
 use Rattle.gl_world.specs.Rules.{rule_of}
 use Rattle.ccfg.proofs.FileNodes.{err_refuses, ok_steps}
 use Rattle.ccfg.proofs.NodeEvents.{event_is}

@@ -1,6 +1,6 @@
 use Rattle.std.proofs.Common.{map, Some, None, refl}
 use Rattle.gl_election.specs.Bridge.{seen_message}
-use Rattle.gl_node.specs.declared.event.Event.TheVariants as served_events
+use Rattle.gl_replication.specs.declared.event.Event.TheVariants as served_events
 use Rattle.ccfg.proofs.NodeEvents.{as_event, delivers, was_sent}
 use Rattle.ccfg.proofs.schedule_nodes.event.node_event.Goals as goal
 

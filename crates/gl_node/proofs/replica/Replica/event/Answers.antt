@@ -1,9 +1,9 @@
 use Rattle.std.proofs.Common.{◌≡◌, ℕ, Option, None, Ok, IsTrue, subst}
 use Rattle.gl_outside.specs.Disk.{Leaves}
 use Rattle.gl_journal.specs.Durable.{Durable, durable, OpensToOneOf}
+use Rattle.gl_replication.specs.Events.{rule_of}
 use Rattle.gl_replication.specs.Stands.{Tells}
 use Rattle.gl_node.specs.Kept.{kept_after}
-use Rattle.gl_node.specs.Rules.{rule_of}
 use Rattle.gl_node.specs.Seen.{Seen}
 use Rattle.gl_node.specs.Serving.{IsReplica}
 use Rattle.gl_node.proofs.Coming.{every_moment}

@@ -1,10 +1,10 @@
 //! What may happen at a node.
 
+use crate::book::Book;
 use gl_config::NodeId;
 use gl_messages::Message;
-use gl_replication::Book;
 
-/// What may happen at a node.
+/// What may happen at a node, but for a restart.
 #[derive(Drop)]
 pub enum Event<B: Book> {
     /// The node has heard of no leader for too long.

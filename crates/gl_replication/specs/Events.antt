@@ -1,5 +1,5 @@
 -- The rule of an event, at the node where it happens.
-use Rattle.std.specs.Prelude.{Bool, true, length, nat_le, if◌then◌else◌}
+use Rattle.std.specs.Prelude.{Bool, true, false, length, nat_le, if◌then◌else◌}
 use Rattle.gl_entry.specs.declared.entry.Entry.{Entry}
 use Rattle.gl_rules.specs.Identity.{NodeId, same}
 use Rattle.gl_rules.specs.Book.{Book}
@@ -14,8 +14,8 @@ use Rattle.gl_messages.specs.declared.message.Body.{Body}
 use Rattle.gl_messages.specs.declared.message.Body.TheVariants.{RequestVote, VoteReply, Append, AppendReply, ProposeVote}
 use Rattle.gl_messages.specs.declared.message.Message.{Message}
 use Rattle.gl_election.specs.Bridge.{message_to, seen_body}
-use Rattle.gl_node.specs.declared.event.Event.{Event}
-use Rattle.gl_node.specs.declared.event.Event.TheVariants as events
+use Rattle.gl_replication.specs.declared.event.Event.{Event}
+use Rattle.gl_replication.specs.declared.event.Event.TheVariants as events
 
 -- A body brings so many entries at most as one message carries.
 abbrev pub brings_few : Body → Bool
@@ -37,6 +37,18 @@ module _ {S Q G R A F : Type 0} where
   has_few_entries (events.Replicate to) = true
   has_few_entries events.Advance = true
   has_few_entries (events.StepDown to) = true
+
+  -- Whether it may want memory: a node reserves a leaf and commits without.
+  abbrev pub takes_memory : Event S Q G R A F → Bool
+  takes_memory events.Timeout = true
+  takes_memory (events.Message m) = true
+  takes_memory (events.Submit request) = true
+  takes_memory (events.Govern request) = true
+  takes_memory events.Reserve = false
+  takes_memory events.Sign = true
+  takes_memory (events.Replicate to) = true
+  takes_memory events.Advance = false
+  takes_memory (events.StepDown to) = true
 
 -- What a node does with a message, whoever it is for.
 abbrev pub answer : {Q G R A F : Type 0} → Message → Book Entry Q G R A F → NodeId → Node Entry →

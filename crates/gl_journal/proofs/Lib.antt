@@ -6,3 +6,4 @@ pub mod Settling
 pub mod RecordLaws
 pub mod PayloadLaws
 pub mod DurableLaws
+pub mod Exits

@@ -1,13 +1,12 @@
 -- What bytes open to, by the parts that they are made of.
-use Rattle.std.proofs.Common.{◌≡◌, ℕ, zero, suc, ◌+◌, ◌^◌, ◌<◌, List, [], ◌∷◌, ◌++◌, length, get_or, take, drop, Option, None, Some, Ok, Err, Vec, refl, sym, ◌∙◌, ap, arith, append_assoc, length-append}
+use Rattle.std.proofs.Common.{◌≡◌, ℕ, zero, suc, ◌+◌, ◌^◌, ◌<◌, List, [], ◌∷◌, ◌++◌, length, get_or, take, drop, Option, None, Some, Ok, Err, IsOk, Vec, refl, sym, ◌∙◌, ap, arith, append_assoc, length-append}
 use Rattle.std.proofs.lemmas.List.{append-nil, drop_more}
 use Rattle.std.specs.declared.alloc.Global.{Global}
-use Rattle.gl_base.specs.declared.fault.CutFault.{CutFault}
-use Rattle.gl_journal.specs.Gates.{body_of, batches, payload_at, Opening, payloads_from, mismatch, opening_answer, payloads_of}
+use Rattle.gl_journal.specs.Gates.{body_of, batches, with_first, Opening, payloads_from, mismatch, opening_answer, payloads_of}
 use Rattle.gl_journal.specs.Parts.{FileParts, Parts, IsClosed, items_of}
 use Rattle.gl_journal.specs.declared.fault.JournalFault.TheVariants.{NotJournal}
 use Rattle.gl_journal.proofs.Headers.{begins_with}
-use Rattle.gl_journal.proofs.Openings.{with_front, opened_closed, opened_end, opened_cut, opened_batches, payloads_of_file, FitLengths-push, batches-push, length-body}
+use Rattle.gl_journal.proofs.Openings.{with_front, opened_closed, opened_end, opened_batch, opened_batches, payloads_of_file, FitLengths-push, batches-push, length-body}
 
 pub items_of_push : (payloads : List (Vec ℕ Global)) (payload : Vec ℕ Global) → items_of (payloads ++ payload ∷ []) ≡ items_of payloads ++ payload.items ∷ []
 items_of_push [] payload = refl
@@ -17,20 +16,20 @@ pub opens_to_parts : (at : ℕ) (bytes : List ℕ) (payloads : List (List ℕ)) 
 opens_to_parts at bytes payloads place rest parts =
     ap (payloads_from at) parts.split ∙ opened_batches at payloads rest parts.fit ∙ ap (λ (n : ℕ). with_front payloads (payloads_from n rest)) (sym parts.current)
 
-nothing_open : (place : ℕ) (rest : List ℕ) → IsClosed rest → payloads_from place rest ≡ Ok []
+pub nothing_open : (place : ℕ) (rest : List ℕ) → IsClosed rest → payloads_from place rest ≡ Ok []
 nothing_open place [] shut = opened_end place
 nothing_open place (gate ∷ tail) shut = opened_closed place gate tail shut
 
--- where no gate is open behind them, the payloads are all
-pub opens_whole : (at : ℕ) (bytes : List ℕ) (payloads : List (List ℕ)) (place : ℕ) (rest : List ℕ) → Parts at bytes payloads place rest → IsClosed rest → payloads_from at bytes ≡ Ok payloads
-opens_whole at bytes payloads place rest parts shut =
-    opens_to_parts at bytes payloads place rest parts ∙ ap (with_front payloads) (nothing_open place rest shut) ∙ ap (λ (l : List (List ℕ)). Ok l) (append-nil payloads)
-
--- where the next batch isn't whole, its place is opening_answer
-pub opens_cut : (at : ℕ) (bytes : List ℕ) (payloads : List (List ℕ)) (place : ℕ) (behind : List ℕ) (fault : CutFault) → Parts at bytes payloads place (1 ∷ behind) → payload_at (place + 1) behind ≡ Err fault
+-- where the next batch isn't whole, its place is told
+pub opens_cut : (at : ℕ) (bytes : List ℕ) (payloads : List (List ℕ)) (place : ℕ) (behind : List ℕ) → Parts at bytes payloads place (1 ∷ behind) → payloads_from place (1 ∷ behind) ≡ Err (place + 1)
     → payloads_from at bytes ≡ Err (place + 1)
-opens_cut at bytes payloads place behind fault parts is =
-    opens_to_parts at bytes payloads place (1 ∷ behind) parts ∙ ap (with_front payloads) (opened_cut place behind fault is)
+opens_cut at bytes payloads place behind parts is = opens_to_parts at bytes payloads place (1 ∷ behind) parts ∙ ap (with_front payloads) is
+
+-- a batch that was read at a place
+pub opens_first : (at : ℕ) (bytes behind payload : List ℕ) (next : ℕ) (rest : List ℕ) → bytes ≡ 1 ∷ behind → behind ≡ body_of payload ++ rest → length payload < 2 ^ 32 → next ≡ at + 5 + length payload
+    → payloads_from at bytes ≡ with_first payload (payloads_from next rest)
+opens_first at bytes behind payload next rest is_open spelled small is =
+    ap (payloads_from at) (is_open ∙ ap (λ (l : List ℕ). 1 ∷ l) spelled) ∙ opened_batch at payload rest small ∙ ap (λ (n : ℕ). with_first payload (payloads_from n rest)) (sym is)
 
 -- one batch more
 pub parts_push : (at : ℕ) (bytes : List ℕ) (payloads : List (List ℕ)) (place : ℕ) (behind payload : List ℕ) (place' : ℕ) (rest : List ℕ) → Parts at bytes payloads place (1 ∷ behind)
@@ -56,6 +55,11 @@ pub file_opens : (header bytes : List ℕ) (opening : Opening) → mismatch head
 unfolding payloads_of
 file_opens header bytes opening begins is = ap (λ (o : Option ℕ). opening_answer o (payloads_from (length header) (drop (length header) bytes))) begins ∙ ap (opening_answer None) is
 
+answer_opened : (differs : Option ℕ) (opening : Opening) → IsOk (opening_answer differs opening) → (differs ≡ None) × IsOk opening
+answer_opened (Some at) opening opens = cc
+answer_opened None (Ok payloads) opens = (refl, refl)
+answer_opened None (Err at) opens = cc
+
 pub file_differs : (header bytes : List ℕ) (at : ℕ) → mismatch header bytes ≡ Some at → payloads_of header bytes ≡ Err (NotJournal at)
 unfolding payloads_of
 file_differs header bytes at is = ap (λ (o : Option ℕ). opening_answer o (payloads_from (length header) (drop (length header) bytes))) is
@@ -66,6 +70,12 @@ opens_by_parts header bytes payloads place rest parts =
     ap (payloads_of header) parts.split ∙ payloads_of_file header payloads rest parts.fit
     ∙ ap (λ (o : Opening). opening_answer None (with_front payloads o)) (nothing_open (length (header ++ batches payloads)) rest parts.closed)
     ∙ ap (λ (l : List (List ℕ)). Ok l) (append-nil payloads)
+
+-- a file that opens begins with its header, and what stands behind it opens
+pub file_opened : (header bytes : List ℕ) → IsOk (payloads_of header bytes)
+    → (mismatch header bytes ≡ None) × IsOk (payloads_from (length header) (drop (length header) bytes))
+unfolding payloads_of
+file_opened header bytes opens = answer_opened (mismatch header bytes) (payloads_from (length header) (drop (length header) bytes)) opens
 
 -- the first of the lists that are left
 pub items_of_drop : (lists : List (Vec ℕ Global)) (i : ℕ) (first : Vec ℕ Global) → i < length lists → first ≡ get_or lists i first → items_of (drop i lists) ≡ first.items ∷ items_of (drop (i + 1) lists)

@@ -1,11 +1,11 @@
 -- How payloads fold, record by record.
-use Rattle.std.proofs.Common.{◌≡◌, ℕ, zero, suc, ◌+◌, ◌≤◌, List, [], ◌∷◌, ◌++◌, length, Option, None, Some, IsSome, Result, Ok, Err, refl, ◌∙◌, ap, arith, length-append}
+use Rattle.std.proofs.Common.{◌≡◌, ℕ, zero, suc, ◌+◌, ◌≤◌, List, [], ◌∷◌, ◌++◌, length, Option, None, Some, IsSome, Result, Ok, Err, IsOk, refl, ◌∙◌, ap, arith}
 use Rattle.gl_base.specs.Cut.{Unread}
 use Rattle.gl_base.specs.declared.fault.CutFault.{CutFault}
-use Rattle.gl_journal.specs.Gates.{batches, body_of, payload_at}
+use Rattle.gl_journal.specs.Gates.{body_of, payload_at, Opening, with_first}
 use Rattle.gl_journal.specs.Records.{RecordValue, then_some, kind_of, record_body, record_bytes, records_bytes, record_of, IsRecord, AreRecords}
-use Rattle.gl_journal.specs.Durable.{Durable, GoesOn, Folding, Next, fold_record, fold_records, fold_next, after_fold, after_record, after_body, fold_within, fold_payload, then_folding, fold_payloads}
-use Rattle.gl_journal.proofs.Openings.{behind_shorter, payload_at-body, length-body}
+use Rattle.gl_journal.specs.Durable.{Durable, GoesOn, Folding, Next, fold_record, fold_records, fold_next, after_fold, after_record, after_body, fold_within, fold_payload, then_folding, fold_payloads, fold_opening, begins_with_key}
+use Rattle.gl_journal.proofs.Openings.{behind_shorter, payload_at-body}
 use Rattle.gl_journal.proofs.RecordLaws.{record_of-spelled, body_fits}
 
 module _ (goes_on : GoesOn) where
@@ -122,5 +122,23 @@ module _ (goes_on : GoesOn) where
       → fold_payloads goes_on place (payload ∷ payloads) state ≡ Err at
   payloads_stop place payload payloads state at folds = ap (λ (r : Folding). then_folding r (fold_payloads goes_on (place + 5 + length payload) payloads)) folds
 
-pub length-batches : (payload : List ℕ) (payloads : List (List ℕ)) → length (batches (payload ∷ payloads)) ≡ 5 + length payload + length (batches payloads)
-length-batches payload payloads = omega (arith, length-append (1 ∷ body_of payload) (batches payloads), length-body payload)
+  -- the first payload that bytes open to
+  pub opening_step : (place : ℕ) (payload : List ℕ) (opening : Opening) (state next : Option Durable) (place' : ℕ) → fold_payload goes_on (place + 5) payload state ≡ Ok next → place' ≡ place + 5 + length payload
+      → fold_opening goes_on place (with_first payload opening) state ≡ fold_opening goes_on place' opening next
+  opening_step place payload (Ok payloads) state next place' folds is = payloads_step place payload payloads state next place' folds (omega (arith, is))
+  opening_step place payload (Err at) state next place' folds is = refl
+
+  pub opening_stop : (place : ℕ) (payload : List ℕ) (opening : Opening) (state : Option Durable) (at : ℕ) → IsOk opening → fold_payload goes_on (place + 5) payload state ≡ Err at
+      → fold_opening goes_on place (with_first payload opening) state ≡ Err at
+  opening_stop place payload (Ok payloads) state at opens folds = payloads_stop place payload payloads state at folds
+  opening_stop place payload (Err p) state at opens folds = cc
+
+-- the first payload tells whether a key begins them
+pub begins_first : (payload : List ℕ) (opening : Opening) (payloads : List (List ℕ)) → with_first payload opening ≡ Ok payloads → begins_with_key (payload ∷ []) ≡ begins_with_key payloads
+begins_first [] (Ok more) payloads is = let same : [] ∷ more ≡ payloads = cc in ap begins_with_key same
+begins_first (kind ∷ payload) (Ok more) payloads is = let same : (kind ∷ payload) ∷ more ≡ payloads = cc in ap begins_with_key same
+begins_first payload (Err at) payloads is = cc
+
+pub first_opens : (payload : List ℕ) (opening : Opening) → IsOk (with_first payload opening) → IsOk opening
+first_opens payload (Ok payloads) opens = refl
+first_opens payload (Err at) opens = cc

@@ -4,7 +4,7 @@ use Rattle.gl_base.specs.Cut.{Unread}
 use Rattle.gl_base.specs.declared.fault.CutFault.{CutFault}
 use Rattle.gl_hss.specs.Types.{height}
 use Rattle.gl_outside.specs.Disk.{Step, IsImage}
-use Rattle.gl_journal.specs.Gates.{payload_at, payloads_of}
+use Rattle.gl_journal.specs.Gates.{payload_at, Opening, payloads_of}
 use Rattle.gl_journal.specs.Parts.{HasGate}
 use Rattle.gl_journal.specs.Records.{RecordValue, Key, Vote, Cut, Append, Signer, Install, Start, then_some, record_of}
 use Rattle.gl_journal.specs.declared.fault.JournalFault.{JournalFault}
@@ -130,6 +130,11 @@ fold_payloads goes_on place [] state = Ok state
 fold_payloads goes_on place (payload ∷ payloads) state =
     then_folding (fold_payload goes_on (place + 5) payload state)
     (fold_payloads goes_on (place + 5 + length payload) payloads)
+
+-- The same of the payloads that bytes open to.
+abbrev pub fold_opening : GoesOn → ℕ → Opening → Option Durable → Folding
+fold_opening goes_on place (Ok payloads) state = fold_payloads goes_on place payloads state
+fold_opening goes_on place (Err at) state = Err at
 
 -- The first record of the first payload is of the kind of a key.
 abbrev pub begins_with_key : List (List ℕ) → Bool

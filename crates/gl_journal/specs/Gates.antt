@@ -1,5 +1,6 @@
 -- A file of payloads behind gates: a header, and then batches of a gate, a length and a payload.
-use Rattle.std.specs.Prelude.{ℕ, zero, suc, ◌+◌, ◌-◌, ◌^◌, ◌<◌, List, [], ◌∷◌, ◌++◌, length, drop, Option, None, Some, Result, Ok, Err, ◌==◌, if◌then◌else◌}
+use Rattle.std.specs.Prelude.{ℕ, zero, suc, ◌+◌, ◌-◌, ◌^◌, ◌<◌, List, [], ◌∷◌, ◌++◌, length, drop, Option, None, Some, Result, Ok, Err, Vec, ◌==◌, if◌then◌else◌}
+use Rattle.std.specs.declared.alloc.Global.{Global}
 use Rattle.gl_base.specs.LittleEndian.{little_endian}
 use Rattle.gl_base.specs.Cut.{Unread, string_at}
 use Rattle.gl_base.specs.declared.fault.CutFault.{CutFault}
@@ -9,6 +10,10 @@ use Rattle.gl_journal.specs.declared.fault.JournalFault.TheVariants.{NotJournal,
 -- What stands behind a gate: the length of the payload in four bytes, and the payload.
 abbrev pub body_of : List ℕ → List ℕ
 body_of payload = little_endian 4 (length payload) ++ payload
+
+-- The payload of a batch that is being made: what stands behind four bytes for its length.
+abbrev pub payload_in : Vec ℕ Global → List ℕ
+payload_in batch = drop 4 batch.items
 
 -- Batches behind open gates. An open gate is a byte 1.
 abbrev pub batches : List (List ℕ) → List ℕ

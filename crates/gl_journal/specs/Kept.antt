@@ -1,5 +1,5 @@
 -- A journal whose file is kept, and its room.
-use Rattle.std.specs.Prelude.{◌≡◌, ℕ, ◌≤◌, List, vec_capacity}
+use Rattle.std.specs.Prelude.{◌≡◌, ℕ, ◌+◌, ◌≤◌, List, vec_capacity}
 use Rattle.gl_outside.specs.Disk.{Step}
 use Rattle.gl_journal.specs.Stops.{IsOpen, HasPayloadRoom}
 use Rattle.gl_journal.specs.Durable.{journal_header}
@@ -12,8 +12,9 @@ pub record IsKept {D : Type 0} (bytes : D → List ℕ) (past : D → List Step)
   pub header : journal.gated.header ≡ journal_header
   pub settled : IsOpen bytes past journal.gated
 
--- There is memory for a batch of so many bytes, over a disk with this room.
+-- There is memory for a batch of so many bytes, with its length and a gate, over a disk with this
+-- room.
 pub record HasBatchRoom {D : Type 0} (room_end room_calls : D → ℕ) (journal : Journal D) (size : ℕ)
     : Type 0 where
-  pub buffer : size ≤ vec_capacity journal.buffer
+  pub buffer : size + 5 ≤ vec_capacity journal.buffer
   pub disk : HasPayloadRoom room_end room_calls journal.gated size

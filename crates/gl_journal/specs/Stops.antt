@@ -46,7 +46,7 @@ OpensAsBefore header bytes past image =
 pub record HasRoom (place size room_end room_calls : ℕ) : Type 0 where
   pub within : place + size + 6 < 2 ^ 64
   pub end : place + size + 6 ≤ room_end
-  pub calls : 6 ≤ room_calls
+  pub calls : 4 ≤ room_calls
 
 -- The same of a file over a disk with this room.
 abbrev pub HasPayloadRoom : {D : Type 0} → (D → ℕ) → (D → ℕ) → Gated D → ℕ → Type 0

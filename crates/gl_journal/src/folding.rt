@@ -1,10 +1,9 @@
 //! The fold of whole payloads.
 
-ghost use Rattle.std.specs.Prelude.{◌≡◌, ℕ, ◌+◌, ◌^◌, ◌<◌, [], ◌∷◌, length, IfSome, IfNone, OnOk, Ok, Err, option_map};
+ghost use Rattle.std.specs.Prelude.{◌≡◌, ℕ, ◌+◌, ◌^◌, ◌<◌, List, [], ◌∷◌, length, IfSome, IfNone, IsOk, OnOk, None, Ok, Err, option_map};
 ghost use Rattle.gl_journal.specs.declared.fault.JournalFault.{JournalFault};
-ghost use Rattle.gl_journal.specs.Gates.{batches};
-ghost use Rattle.gl_journal.specs.Parts.{items_of};
-ghost use Rattle.gl_journal.specs.Durable.{fold_payload, fold_payloads, begins_with_key, durable_of};
+ghost use Rattle.gl_journal.specs.Gates.{opening_answer, payloads_from, payloads_of};
+ghost use Rattle.gl_journal.specs.Durable.{fold_payload, fold_opening, begins_with_key, durable_of, durable, journal_header};
 ghost use Rattle.gl_base.specs.Answers.{Answers};
 ghost use Rattle.gl_journal.specs.RecordView.{state_of};
 
@@ -12,7 +11,7 @@ use crate::decoding::record_of;
 use crate::durable::{Durable, fold_next};
 use crate::entry_log::EntryLog;
 use crate::fault::JournalFault;
-use crate::reading::LENGTH_LIMIT;
+use crate::reading::{LENGTH_LIMIT, batch_behind, behind_open_gate};
 use gl_base::{Cut, OrNoMemory};
 use std::alloc::Global;
 
@@ -63,58 +62,88 @@ fn fold_payload<L: EntryLog>(
     Ok(())
 }
 
-/// Folds payloads, of which the first stands behind the gate at 8.
+/// Folds the payloads of batches, of which the first stands at 8.
 fn fold_payloads<L: EntryLog>(
     state: &mut Option<Durable<L>>,
     alloc: Global,
-    payloads: &[Vec<u8>],
+    batches: &[u8],
 ) -> Result<(), OrNoMemory<JournalFault>>
-    requires { 8 + length (batches (items_of payloads.now)) < 2 ^ 64 }
+    requires size { 8 + length batches.now < 2 ^ 64 }
+    requires opens { IsOk (payloads_from 8 batches.now) }
     ensures folds { OnOk result
-        (fold_payloads L.goes_on 8 (items_of payloads.now)
+        (fold_opening L.goes_on 8 (payloads_from 8 batches.now)
         (option_map (state_of L.frames) state.old)
         ≡ Ok (option_map (state_of L.frames) state.new)) }
     ensures fault { (fault : JournalFault) → result ≡ Err (OrNoMemory.Fault fault) →
         (place : ℕ) × (fault ≡ JournalFault.BadRecord place)
-        × (fold_payloads L.goes_on 8 (items_of payloads.now)
+        × (fold_opening L.goes_on 8 (payloads_from 8 batches.now)
         (option_map (state_of L.frames) state.old) ≡ Err place) }
 {
     let mut place = 8;
-    for payload in payloads {
-        fold_payload(state, alloc, place + 5, payload)?;
-        place += 5 + payload.len();
+    let mut rest = batches;
+    while let Some(behind) = behind_open_gate(rest) {
+        let batch = batch_behind(behind, place)?;
+        fold_payload(state, alloc, place + 5, batch.payload)?;
+        place = batch.next;
+        rest = batch.rest;
     }
     Ok(())
 }
 
-/// Whether the first record of the first payload is of the kind of a key.
-fn begins_with_key(payloads: &[Vec<u8>]) -> bool
-    ensures { result ≡ begins_with_key (items_of payloads.now) }
+/// Whether the first record of a payload is of the kind of a key.
+fn is_of_key(payload: &[u8]) -> bool
+    ensures { result ≡ begins_with_key (payload.now ∷ []) }
 {
-    match payloads.first() {
-        Some(payload) => payload.first() == Some(&1),
-        None => false,
+    payload.first() == Some(&1)
+}
+
+/// Whether the first record of the first payload is of the kind of a key.
+fn begins_with_key(batches: &[u8]) -> bool
+    requires { 8 + length batches.now < 2 ^ 64 }
+    ensures { (payloads : List (List ℕ)) → payloads_from 8 batches.now ≡ Ok payloads →
+        result ≡ begins_with_key payloads }
+{
+    let Some(behind) = behind_open_gate(batches) else {
+        return false;
+    };
+    match batch_behind(behind, 8) {
+        Ok(batch) => is_of_key(batch.payload),
+        Err(_) => false,
     }
 }
 
-/// What the payloads of a file fold into.
-pub(crate) fn fold_file<L: EntryLog>(
+/// What the batches behind the header of a journal fold into.
+fn fold_batches<L: EntryLog>(
     alloc: Global,
-    payloads: &[Vec<u8>],
+    batches: &[u8],
 ) -> Result<Durable<L>, OrNoMemory<JournalFault>>
-    requires { 8 + length (batches (items_of payloads.now)) < 2 ^ 64 }
+    requires size { 8 + length batches.now < 2 ^ 64 }
+    requires opens { IsOk (payloads_from 8 batches.now) }
     ensures exact { Answers (state_of L.frames) result
-        (durable_of L.goes_on (Ok (items_of payloads.now))) }
+        (durable_of L.goes_on (opening_answer None (payloads_from 8 batches.now))) }
     ensures no_disk { result ≡ Err (OrNoMemory.Fault JournalFault.DiskFault) → ⊥ }
 {
     let no_key = JournalFault::NotJournal { at: 8 };
-    if !begins_with_key(payloads) {
+    if !begins_with_key(batches) {
         return Err(OrNoMemory::Fault(no_key));
     }
     let mut state = None;
-    fold_payloads(&mut state, alloc, payloads)?;
+    fold_payloads(&mut state, alloc, batches)?;
     match state {
         Some(durable) => Ok(durable),
         None => Err(OrNoMemory::Fault(no_key)),
     }
+}
+
+/// What the records of a journal's file fold into.
+pub(crate) fn fold_file<L: EntryLog>(
+    alloc: Global,
+    file: &[u8],
+) -> Result<Durable<L>, OrNoMemory<JournalFault>>
+    requires { IsOk (payloads_of journal_header file.now) }
+    ensures exact { Answers (state_of L.frames) result (durable L.goes_on file.now) }
+    ensures no_disk { result ≡ Err (OrNoMemory.Fault JournalFault.DiskFault) → ⊥ }
+{
+    let (_, batches) = file.split_at(8);
+    fold_batches(alloc, batches)
 }

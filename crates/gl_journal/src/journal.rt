@@ -18,7 +18,7 @@ use crate::fault::JournalFault;
 use crate::folding::fold_file;
 use crate::gated::Gated;
 use crate::key::Key;
-use crate::record::{Record, put_key, put_records};
+use crate::record::{Record, begin_batch, put_key, put_records};
 use gl_base::OrNoMemory;
 use gl_outside::{Disk, DiskFailed};
 use std::alloc::{AllocError, Global};
@@ -27,7 +27,7 @@ use std::alloc::{AllocError, Global};
 #[derive(Debug, Drop)]
 pub struct Journal<D> {
     pub gated: Gated<D>,
-    /// Memory for the bytes of the next batch.
+    /// Memory for the next batch, with its length in front and a gate behind.
     buffer: Vec<u8>,
 }
 
@@ -44,8 +44,11 @@ impl<D: Disk> Journal<D> {
         ensures past { IsTrue D.honest → D.past self.new.gated.disk ≡ D.past self.old.gated.disk }
         ensures faults { D.faults self.new.gated.disk ≡ D.faults self.old.gated.disk }
     {
+        let Some(size) = len.checked_add(5) else {
+            return Err(AllocError);
+        };
         self.buffer.clear();
-        self.buffer.reserve(len as usize)?;
+        self.buffer.reserve(size as usize)?;
         self.gated.room(len)
     }
 
@@ -78,9 +81,9 @@ impl<D: Disk> Journal<D> {
         ensures faults { Counts (D.faults self.old.gated.disk)
             (D.faults self.new.gated.disk) result }
     {
-        self.buffer.clear();
+        begin_batch(&mut self.buffer);
         put_records(&mut self.buffer, records);
-        self.gated.append(&self.buffer)
+        self.gated.append(&mut self.buffer)
     }
 
     /// Keeps the key as the first batch.
@@ -98,9 +101,9 @@ impl<D: Disk> Journal<D> {
         ensures faults { Counts (D.faults self.old.gated.disk)
             (D.faults self.new.gated.disk) result }
     {
-        self.buffer.clear();
+        begin_batch(&mut self.buffer);
         put_key(&mut self.buffer, key);
-        self.gated.append(&self.buffer)
+        self.gated.append(&mut self.buffer)
     }
 
     /// Begins a journal with its key, on a disk that holds nothing. Once it answers Ok, the file
@@ -183,11 +186,11 @@ impl<D: Disk> Journal<D> {
             (fault ≡ JournalFault.DiskFault → ⊥) →
             durable L.goes_on (D.bytes disk) ≡ Err fault }
     {
-        let (gated, payloads) = match Gated::open(alloc, disk, HEADER) {
+        let (gated, file) = match Gated::open(alloc, disk, HEADER) {
             Ok(found) => found,
             Err(error) => return Err(error),
         };
-        let state = match fold_file(alloc, &payloads) {
+        let state = match fold_file(alloc, &file) {
             Ok(state) => state,
             Err(error) => return Err((error, gated.disk)),
         };

@@ -5,13 +5,13 @@ ghost use Rattle.gl_base.specs.declared.or_no_memory.OrNoMemory.{OrNoMemory};
 ghost use Rattle.gl_outside.specs.Fault.{Rose};
 ghost use Rattle.gl_outside.specs.Disk.{Torn, LeavesOnly, Leaves, written};
 ghost use Rattle.gl_journal.specs.declared.fault.JournalFault.{JournalFault};
-ghost use Rattle.gl_journal.specs.Gates.{batches, payloads_of};
-ghost use Rattle.gl_journal.specs.Parts.{FileParts, HasGate, items_of};
+ghost use Rattle.gl_journal.specs.Gates.{payloads_of};
+ghost use Rattle.gl_journal.specs.Parts.{FileParts, HasGate};
 ghost use Rattle.gl_journal.specs.Stops.{IsSettled, IsOpen, OpensAsBefore, HasCause};
 
 use crate::fault::JournalFault;
 use crate::gated::Gated;
-use crate::reading::{keep, read_all, read_file};
+use crate::reading::{end_of_payloads, keep, read_all};
 use gl_base::OrNoMemory;
 use gl_outside::Disk;
 use std::alloc::Global;
@@ -121,20 +121,19 @@ impl<D: Disk> Gated<D> {
         })
     }
 
-    /// Opens a file that a stop may have left, and gives its payloads. Where the file ends before
-    /// the closed gate behind them, that gate is written. An error gives the disk back.
+    /// Opens a file that a stop may have left, and gives its bytes as they were read, which open.
+    /// Where the file ends before the closed gate behind its payloads, that gate is written. An
+    /// error gives the disk back.
     pub fn open(
         alloc: Global,
         disk: D,
         header: [u8; 8],
-    ) -> Result<(Gated<D>, Vec<Vec<u8>>), (OrNoMemory<JournalFault>, D)>
-        ensures payloads { IsTrue D.honest → IfOk result (λ found.
-            payloads_of header (D.bytes disk) ≡ Ok (items_of found.1.items)) }
+    ) -> Result<(Gated<D>, Vec<u8>), (OrNoMemory<JournalFault>, D)>
+        ensures bytes { IsTrue D.honest → IfOk result (λ found. found.1.items ≡ D.bytes disk) }
+        ensures payloads { IfOk result (λ found. IsOk (payloads_of header found.1.items)) }
         ensures open { IsTrue D.honest → IfOk result (λ found. IsOpen D.bytes D.past found.0
             × (payloads_of header (D.bytes found.0.disk) ≡ payloads_of header (D.bytes disk))) }
         ensures header { IfOk result (λ found. found.0.header ≡ header) }
-        ensures place { IfOk result (λ found.
-            found.0.place ≡ length (header ++ batches (items_of found.1.items))) }
 
         // At every moment each image that a stop may leave is one that it might have left before,
         // or opens as the file did.
@@ -162,11 +161,10 @@ impl<D: Disk> Gated<D> {
             Ok(bytes) => bytes,
             Err(error) => return Err((error, disk)),
         };
-        let found = match read_file(alloc, &header, &bytes) {
-            Ok(found) => found,
-            Err(error) => return Err((error, disk)),
+        let place = match end_of_payloads(&header, &bytes) {
+            Ok(place) => place as u64,
+            Err(fault) => return Err((OrNoMemory::Fault(fault), disk)),
         };
-        let place = found.place as u64;
         match close_end(&mut disk, place, bytes.len() as u64) {
             Ok(()) => {}
             Err(error) => return Err((error, disk)),
@@ -176,6 +174,6 @@ impl<D: Disk> Gated<D> {
             header,
             place,
         };
-        Ok((gated, found.payloads))
+        Ok((gated, bytes))
     }
 }

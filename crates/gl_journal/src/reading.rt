@@ -1,10 +1,10 @@
 //! The payloads of a file, read from its bytes.
 
-ghost use Rattle.std.specs.Prelude.{◌≡◌, ◌⊎◌, ℕ, ◌+◌, ◌^◌, ◌<◌, List, ◌∷◌, length, IsTrue, OnOk, OnErr, IfOk, IfSome, IfNone, Ok, Err};
+ghost use Rattle.std.specs.Prelude.{◌≡◌, ◌⊎◌, ℕ, ◌+◌, ◌^◌, ◌<◌, ◌≤◌, List, ◌∷◌, ◌++◌, length, IsTrue, IsOk, OnOk, OnErr, IfOk, IfSome, IfNone, Ok, Err};
 ghost use Rattle.gl_outside.specs.Disk.{Kept, IsImage, LeavesOnly, Leaves};
 ghost use Rattle.gl_journal.specs.declared.fault.JournalFault.{JournalFault};
-ghost use Rattle.gl_journal.specs.Gates.{payloads_from, mismatch, payloads_of};
-ghost use Rattle.gl_journal.specs.Parts.{FileParts, Parts, IsClosed, items_of};
+ghost use Rattle.gl_journal.specs.Gates.{body_of, payloads_from, mismatch, payloads_of};
+ghost use Rattle.gl_journal.specs.Parts.{FileParts, Parts, IsClosed};
 ghost use Rattle.gl_journal.specs.Stops.{HasCause};
 
 use crate::fault::JournalFault;
@@ -12,18 +12,19 @@ use gl_base::{Cut, OrNoMemory};
 use gl_outside::Disk;
 use std::alloc::Global;
 
-/// Payloads, and the place of the closed gate behind them.
-#[derive(Debug, Drop)]
-pub(crate) struct Found {
-    pub(crate) payloads: Vec<Vec<u8>>,
-    pub(crate) place: usize,
+/// A batch behind its gate: the payload, what stands behind it, and the place of that.
+#[derive(Clone, Copy, Debug)]
+pub(crate) struct Batch<'a> {
+    pub(crate) payload: &'a [u8],
+    pub(crate) rest: &'a [u8],
+    pub(crate) next: usize,
 }
 
 /// The most bytes of a payload, and of a record's body.
 pub(crate) const LENGTH_LIMIT: u64 = 0xffff_ffff;
 
 /// The bytes behind a gate that is open.
-fn behind_open_gate(bytes: &[u8]) -> Option<&[u8]>
+pub(crate) fn behind_open_gate(bytes: &[u8]) -> Option<&[u8]>
     ensures open { IfSome result (λ behind. bytes.now ≡ 1 ∷ behind.now) }
     ensures closed { IfNone result (IsClosed bytes.now) }
 {
@@ -33,34 +34,46 @@ fn behind_open_gate(bytes: &[u8]) -> Option<&[u8]>
     }
 }
 
-/// Reads the payloads from the gate at a place on.
-fn read_batches(alloc: Global, bytes: &[u8], at: usize) -> Result<Found, OrNoMemory<JournalFault>>
+/// The batch whose gate stands at a place and is open, from the bytes behind the gate.
+pub(crate) fn batch_behind(behind: &[u8], at: usize) -> Result<Batch<'_>, JournalFault>
+    requires { at + 1 + length behind.now < 2 ^ 64 }
+    ensures spelled { IfOk result (λ batch.
+        behind.now ≡ body_of batch.payload.now ++ batch.rest.now) }
+    ensures small { IfOk result (λ batch. length batch.payload.now < 2 ^ 32) }
+    ensures next { IfOk result (λ batch. batch.next ≡ at + 5 + length batch.payload.now) }
+    ensures fault { (fault : JournalFault) → result ≡ Err fault →
+        (fault ≡ JournalFault.BadRecord (at + 1))
+        × (payloads_from at (1 ∷ behind.now) ≡ Err (at + 1)) }
+{
+    let mut cut = Cut::new_at(behind, at + 1);
+    let Ok(payload) = cut.bytes(32, LENGTH_LIMIT) else {
+        let at = at as u64 + 1;
+        return Err(JournalFault::BadRecord { at });
+    };
+    Ok(Batch {
+        payload,
+        rest: cut.rest(),
+        next: cut.at(),
+    })
+}
+
+/// The place behind the batches from the gate at a place on, where no gate is open.
+fn end_of_batches(bytes: &[u8], at: usize) -> Result<usize, JournalFault>
     requires { at + length bytes.now < 2 ^ 64 }
-    ensures parts { IfOk result (λ found. (rest : List ℕ)
-        × Parts at bytes.now (items_of found.payloads.items) found.place rest × IsClosed rest) }
-    ensures fault { (fault : JournalFault) → result ≡ Err (OrNoMemory.Fault fault) →
+    ensures parts { IfOk result (λ place. (payloads : List (List ℕ)) × (rest : List ℕ)
+        × Parts at bytes.now payloads place rest × IsClosed rest) }
+    ensures fault { (fault : JournalFault) → result ≡ Err fault →
         (place : ℕ) × (fault ≡ JournalFault.BadRecord place)
         × (payloads_from at bytes.now ≡ Err place) }
 {
-    let mut payloads = Vec::new(alloc);
     let mut place = at;
     let mut rest = bytes;
     while let Some(behind) = behind_open_gate(rest) {
-        let mut cut = Cut::new_at(behind, place + 1);
-        let Ok(payload) = cut.bytes(32, LENGTH_LIMIT) else {
-            let at = place as u64 + 1;
-            return Err(OrNoMemory::Fault(JournalFault::BadRecord { at }));
-        };
-        let Ok(copy) = payload.to_vec(alloc) else {
-            return Err(OrNoMemory::NoMemory);
-        };
-        let Ok(()) = payloads.push(copy) else {
-            return Err(OrNoMemory::NoMemory);
-        };
-        place = cut.at();
-        rest = cut.rest();
+        let batch = batch_behind(behind, place)?;
+        place = batch.next;
+        rest = batch.rest;
     }
-    Ok(Found { payloads, place })
+    Ok(place)
 }
 
 /// The first byte of the header that differs, or that the file doesn't have.
@@ -75,26 +88,22 @@ fn first_mismatch(header: &[u8], bytes: &[u8]) -> Option<usize>
     None
 }
 
-/// Reads the payloads of a file under a header.
-pub(crate) fn read_file(
-    alloc: Global,
-    header: &[u8],
-    bytes: &[u8],
-) -> Result<Found, OrNoMemory<JournalFault>>
-    ensures payloads { IfOk result (λ found.
-        payloads_of header.now bytes.now ≡ Ok (items_of found.payloads.items)) }
-    ensures parts { IfOk result (λ found. (rest : List ℕ)
-        × FileParts header.now bytes.now (items_of found.payloads.items) found.place rest) }
-    ensures fault { (fault : JournalFault) → result ≡ Err (OrNoMemory.Fault fault) →
+/// The place of the closed gate behind the payloads of a file under a header.
+pub(crate) fn end_of_payloads(header: &[u8], bytes: &[u8]) -> Result<usize, JournalFault>
+    ensures parts { IfOk result (λ place. (payloads : List (List ℕ)) × (rest : List ℕ)
+        × FileParts header.now bytes.now payloads place rest) }
+    ensures opens { OnOk result (IsOk (payloads_of header.now bytes.now)) }
+    ensures within { IfOk result (λ place. place ≤ length bytes.now) }
+    ensures fault { (fault : JournalFault) → result ≡ Err fault →
         payloads_of header.now bytes.now ≡ Err fault }
-    ensures no_disk { result ≡ Err (OrNoMemory.Fault JournalFault.DiskFault) → ⊥ }
+    ensures no_disk { result ≡ Err JournalFault.DiskFault → ⊥ }
 {
     if let Some(at) = first_mismatch(header, bytes) {
         let at = at as u64;
-        return Err(OrNoMemory::Fault(JournalFault::NotJournal { at }));
+        return Err(JournalFault::NotJournal { at });
     }
     let (_, rest) = bytes.split_at(header.len());
-    read_batches(alloc, rest, header.len())
+    end_of_batches(rest, header.len())
 }
 
 /// Keeps what reads give.

@@ -1,6 +1,6 @@
 //! The records of a journal, and their bytes.
 
-ghost use Rattle.std.specs.Prelude.{◌≡◌, ◌+◌, ◌^◌, ◌<◌, ◌≤◌, ◌∷◌, ◌++◌, length, vec_len, vec_capacity, IfSome};
+ghost use Rattle.std.specs.Prelude.{◌≡◌, ◌+◌, ◌^◌, ◌<◌, ◌≤◌, [], ◌∷◌, ◌++◌, length, vec_len, vec_capacity, IfSome};
 ghost use Rattle.gl_base.specs.LittleEndian.{little_endian};
 ghost use Rattle.gl_journal.specs.Gates.{body_of};
 ghost use Rattle.gl_journal.specs.Records.{Key as KeyOf, Vote, key_kind_tag, types_tag, vote_bytes, record_bytes, record_body, records_bytes, IsRecord, AreRecords};
@@ -97,6 +97,17 @@ fn put_all(out: &mut Vec<u8>, bytes: &[u8])
         Ok(()) => {}
         Err(_) => {}
     }
+}
+
+/// A batch of no record yet: four bytes for its length, in memory that was taken before.
+pub(crate) fn begin_batch(out: &mut Vec<u8>)
+    requires { 4 ≤ vec_capacity out.old }
+    ensures begun { out.new.items ≡ 0 ∷ 0 ∷ 0 ∷ 0 ∷ [] }
+    ensures len { vec_len out.new ≡ 4 }
+    ensures room { vec_capacity out.old ≤ vec_capacity out.new }
+{
+    out.clear();
+    put_all(out, &[0; 4]);
 }
 
 /// The kind of a record, and the length of its body.

@@ -208,10 +208,10 @@ fn a_stop_leaves_the_leaf_or_the_next_one(rt: HostRuntime) -> Result<(), Fail> {
     let alloc = rt.alloc();
     let begun = created(alloc)?.into_disk();
     for (leaf_use, due) in [(LeafUse::Signature, None), (LeafUse::Start, Some(1))] {
-        assert_eq!(rt; count_images(alloc, &begun.bytes, leaf_use)?, [29, 6]);
+        assert_eq!(rt; count_images(alloc, &begun.bytes, leaf_use)?, [19, 6]);
         let (disk, start) = taken(alloc, &begun.bytes, leaf_use)?;
         assert_eq!(rt; start, due);
-        assert_eq!(rt; count_images(alloc, &disk.bytes, leaf_use)?, [29, 6]);
+        assert_eq!(rt; count_images(alloc, &disk.bytes, leaf_use)?, [19, 6]);
     }
     Ok(())
 }
@@ -257,13 +257,13 @@ fn end_at(alloc: Global, failing: u64) -> Result<usize, Fail> {
 #[test]
 fn each_call_of_the_disk_fails_in_turn(rt: HostRuntime) -> Result<(), Fail> {
     let mut ends: [u32; 3] = [0; 3];
-    for number in 1..18 {
+    for number in 1..14 {
         let Some(count) = ends.get_mut(end_at(rt.alloc(), number)?) else {
             return Err(Fail::from("another end"));
         };
         *count = count.saturating_add(1);
     }
-    assert_eq!(rt; ends, [10, 6, 1]);
+    assert_eq!(rt; ends, [8, 4, 1]);
     Ok(())
 }
 

@@ -118,7 +118,7 @@ fn tells_which_side_fails(rt: HostRuntime) -> Result<(), Fail> {
 fn each_call_of_the_disk_fails_in_turn(rt: HostRuntime) -> Result<(), Fail> {
     let alloc = rt.alloc();
     let mut begun: u32 = 0;
-    for number in 1..14 {
+    for number in 1..12 {
         let failing = [number];
         let mut source = SureSource::new(&SEED, 32);
         let mut sink = SureSink::new(alloc, 1000);

@@ -1,50 +1,49 @@
-use Rattle.std.proofs.Common.{◌≡◌, ℕ, ◌+◌, List, length, drop, option_map, Ok, ◌∙◌, ap, subst, arith}
-use Rattle.gl_journal.specs.Gates.{batches}
-use Rattle.gl_journal.specs.Parts.{items_of}
-use Rattle.gl_journal.specs.Durable.{fold_payload, fold_payloads}
+use Rattle.std.proofs.Common.{◌≡◌, Err, length, IsOk, option_map, ◌∙◌, ap, subst, arith, length-append}
+use Rattle.gl_base.specs.declared.or_no_memory.OrNoMemory.{OrNoMemory}
+use Rattle.gl_base.specs.declared.or_no_memory.OrNoMemory.TheVariants.{Fault}
+use Rattle.gl_journal.specs.Gates.{Opening, body_of, payloads_from, with_first}
+use Rattle.gl_journal.specs.Durable.{fold_opening}
 use Rattle.gl_journal.specs.RecordView.{state_of}
-use Rattle.gl_journal.proofs.PartLaws.{items_of_drop}
-use Rattle.gl_journal.proofs.PayloadLaws.{length-batches, payloads_step}
+use Rattle.gl_journal.specs.declared.fault.JournalFault.{JournalFault}
+use Rattle.gl_journal.proofs.Exits.{same_fault}
+use Rattle.gl_journal.proofs.Openings.{length-body}
+use Rattle.gl_journal.proofs.PartLaws.{nothing_open, opens_first}
+use Rattle.gl_journal.proofs.PayloadLaws.{first_opens, opening_step, opening_stop}
 use Rattle.gl_journal.proofs.folding.fold_payloads.Goals as goal
 
-pub overflow_add-place : goal.overflow_add-place
-overflow_add-place g c =
-    let i = c.loop-payload.payload-index in
-    let head = items_of_drop c.args.payloads.now i c.payload-item.result c.loop-payload-test.true c.payload-item.is in
-    let size = length-batches c.payload-item.result.items (items_of (drop (i + 1) c.args.payloads.now)) in
-    let whole = ap (λ (l : List (List ℕ)). length (batches l)) head in
-    omega (arith, c.loop-payload.invariant.size, whole, size)
-
-pub fold_payload-requires : goal.fold_payload-requires
-fold_payload-requires g c =
-    let i = c.loop-payload.payload-index in
-    let head = items_of_drop c.args.payloads.now i c.payload-item.result c.loop-payload-test.true c.payload-item.is in
-    let size = length-batches c.payload-item.result.items (items_of (drop (i + 1) c.args.payloads.now)) in
-    let whole = ap (λ (l : List (List ℕ)). length (batches l)) head in
-    omega (arith, c.loop-payload.invariant.size, whole, size, ap length c.deref.ensures.value)
-
-pub overflow_add-place-in-loop-payload-2 : goal.overflow_add-place-in-loop-payload-2
-overflow_add-place-in-loop-payload-2 g c =
-    let i = c.loop-payload.payload-index in
-    let head = items_of_drop c.args.payloads.now i c.payload-item.result c.loop-payload-test.true c.payload-item.is in
-    let size = length-batches c.payload-item.result.items (items_of (drop (i + 1) c.args.payloads.now)) in
-    let whole = ap (λ (l : List (List ℕ)). length (batches l)) head in
-    omega (arith, c.loop-payload.invariant.size, whole, size, c.len.ensures, ap length c.deref.ensures.value, c.deref.ensures.len)
-
-pub loop-payload-preserved : goal.loop-payload-preserved
-loop-payload-preserved g c =
-    let i = c.loop-payload.payload-index in
-    let head = items_of_drop c.args.payloads.now i c.payload-item.result c.loop-payload-test.true c.payload-item.is in
-    let size = length-batches c.payload-item.result.items (items_of (drop (i + 1) c.args.payloads.now)) in
-    let whole = ap (λ (l : List (List ℕ)). length (batches l)) head in
+pub loop-behind-preserved : goal.loop-behind-preserved
+loop-behind-preserved g c =
     let goes_on = g.L.EntryLog.goes_on in
-    let state = option_map (state_of g.L.EntryLog.frames) c.loop-payload.state in
+    let place = c.loop-behind.place in
+    let rest = c.loop-behind.rest.now in
+    let batch = c.in_ok-batch.batch in
+    let is = c.in_ok-batch.ensures in
+    let state = option_map (state_of g.L.EntryLog.frames) c.loop-behind.state in
     let next = option_map (state_of g.L.EntryLog.frames) c.fold_payload.new.state in
-    let place = c.loop-payload.place in
-    let folds = subst (λ (l : List ℕ). fold_payload goes_on (place + 5) l state ≡ Ok next) c.deref.ensures.value c.in_ok-fold_payload.ensures.folds in
-    let further : place + (5 + c.len.result) ≡ place + (5 + length c.payload-item.result.items) = omega (arith, c.len.ensures, ap length c.deref.ensures.value, c.deref.ensures.len) in
+    let more = payloads_from batch.next batch.rest.now in
+    let first : payloads_from place rest ≡ with_first batch.payload.now more = opens_first place rest c.in-Some.behind.now batch.payload.now batch.next batch.rest.now c.in-Some.ensures.open is.spelled is.small is.next in
     record {
-      folded = c.loop-payload.invariant.folded ∙ ap (λ (l : List (List ℕ)). fold_payloads goes_on place l state) head
-          ∙ payloads_step goes_on place c.payload-item.result.items (items_of (drop (i + 1) c.args.payloads.now)) state next (place + (5 + c.len.result)) folds further;
-      size = omega (arith, c.loop-payload.invariant.size, whole, size, further);
+      opens = first_opens batch.payload.now more (subst (λ (o : Opening). IsOk o) first c.loop-behind.invariant.opens);
+      folded = c.loop-behind.invariant.folded ∙ ap (λ (o : Opening). fold_opening goes_on place o state) first ∙ opening_step goes_on place batch.payload.now more state next batch.next c.in_ok-fold_payload.ensures.folds is.next;
+      size = omega (arith, is.next, c.loop-behind.invariant.size, ap length is.spelled, ap length c.in-Some.ensures.open, length-append (body_of batch.payload.now) batch.rest.now, length-body batch.payload.now);
     }
+
+pub returns-in_err-fold_payload-clause-fault : goal.returns-in_err-fold_payload-clause-fault
+returns-in_err-fold_payload-clause-fault g c fault e =
+    let goes_on = g.L.EntryLog.goes_on in
+    let place = c.loop-behind.place in
+    let rest = c.loop-behind.rest.now in
+    let batch = c.in_ok-batch.batch in
+    let is = c.in_ok-batch.ensures in
+    let state = option_map (state_of g.L.EntryLog.frames) c.loop-behind.state in
+    let more = payloads_from batch.next batch.rest.now in
+    let first : payloads_from place rest ≡ with_first batch.payload.now more = opens_first place rest c.in-Some.behind.now batch.payload.now batch.next batch.rest.now c.in-Some.ensures.open is.spelled is.small is.next in
+    let opens = first_opens batch.payload.now more (subst (λ (o : Opening). IsOk o) first c.loop-behind.invariant.opens) in
+    let met : c.in_err-fold_payload.field-0.0 ≡ Fault fault = same_fault c.from_residual-in_err-fold_payload.result c.in_err-fold_payload.field-0.0 (Fault fault) c.from_residual-in_err-fold_payload.ensures.1 e in
+    let told = c.fold_payload.ensures.fault fault (c.in_err-fold_payload.was ∙ ap (λ (x : OrNoMemory JournalFault). Err x) met) in
+    (told.0, told.1, c.loop-behind.invariant.folded ∙ ap (λ (o : Opening). fold_opening goes_on place o state) first ∙ opening_stop goes_on place batch.payload.now more state told.0 opens told.2)
+
+pub returns-clause-folds : goal.returns-clause-folds
+returns-clause-folds g c =
+    let state = option_map (state_of g.L.EntryLog.frames) c.loop-behind.state in
+    c.loop-behind.invariant.folded ∙ ap (λ (o : Opening). fold_opening g.L.EntryLog.goes_on c.loop-behind.place o state) (nothing_open c.loop-behind.place c.loop-behind.rest.now c.in_default.ensures.closed)

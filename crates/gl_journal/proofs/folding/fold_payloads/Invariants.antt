@@ -1,12 +1,15 @@
-use Rattle.std.proofs.Common.{◌≡◌, ◌+◌, length, drop, option_map}
-use Rattle.gl_journal.specs.Gates.{batches}
-use Rattle.gl_journal.specs.Parts.{items_of}
-use Rattle.gl_journal.specs.Durable.{fold_payloads}
+use Rattle.std.proofs.Common.{◌≡◌, ◌+◌, IsOk, length, option_map}
+use Rattle.gl_journal.specs.Gates.{payloads_from}
+use Rattle.gl_journal.specs.Durable.{fold_opening}
 use Rattle.gl_journal.specs.RecordView.{state_of}
 use Rattle.gl_journal.proofs.folding.fold_payloads.Given as goal
 
-abbrev pub invariant-loop-payload : goal.invariant-loop-payload
-invariant-loop-payload g l = record {
-  folded : fold_payloads g.L.EntryLog.goes_on 8 (items_of l.payloads) (option_map (state_of g.L.EntryLog.frames) l.fn.state) ≡ fold_payloads g.L.EntryLog.goes_on l.place (items_of (drop l.payload-index l.payloads)) (option_map (state_of g.L.EntryLog.frames) l.state);
-  size : l.place + length (batches (items_of (drop l.payload-index l.payloads))) ≡ 8 + length (batches (items_of l.payloads));
+abbrev pub invariant-loop-behind : goal.invariant-loop-behind
+invariant-loop-behind g l = record {
+  opens : IsOk (payloads_from l.place l.rest);
+  folded : fold_opening g.L.EntryLog.goes_on 8 (payloads_from 8 l.batches) (option_map (state_of g.L.EntryLog.frames) l.fn.state) ≡ fold_opening g.L.EntryLog.goes_on l.place (payloads_from l.place l.rest) (option_map (state_of g.L.EntryLog.frames) l.state);
+  size : l.place + length l.rest ≡ 8 + length l.batches;
 }
+
+abbrev pub decreases-loop-behind : goal.decreases-loop-behind
+decreases-loop-behind g l = length l.rest

@@ -1,91 +1,96 @@
-use Rattle.std.proofs.Common.{ℕ, ◌+◌, List, [], ◌∷◌, length, ◌≡◌, ◌∙◌, inr, ap, subst, sym, arith}
-use Rattle.gl_outside.specs.Disk.{Step, Touched, IsImage, Torn, written, LeavesOnly}
-use Rattle.gl_outside.proofs.Moments.{Images, stayed, goes_on, so_too}
-use Rattle.gl_outside.proofs.Tearing.{kept_on}
+use Rattle.std.proofs.Common.{ℕ, ◌+◌, List, [], ◌∷◌, ◌++◌, length, ◌≡◌, ◌∙◌, ap, subst, arith, length-append}
+use Rattle.gl_outside.specs.Disk.{Torn, Leaves, written}
+use Rattle.gl_outside.proofs.Moments.{so_too, then_too}
+use Rattle.gl_journal.specs.Gates.{body_of, payload_in}
 use Rattle.gl_journal.specs.Stops.{OpensTo}
-use Rattle.gl_journal.proofs.Appending.{settled_gate, staged, torn_behind, torn_gate, settled_after}
+use Rattle.gl_journal.proofs.Appending.{staged, torn_behind, torn_gate, settled_after}
+use Rattle.gl_journal.proofs.Openings.{length-body}
 use Rattle.gl_journal.proofs.gated.Gated.append.Goals as goal
 
-pub returns-in_err-stage-clause-any_moment : goal.returns-in_err-stage-clause-any_moment
-returns-in_err-stage-clause-any_moment g c h =
+-- a payload with its length and a closed gate
+length-sealed : (payload : List ℕ) → length (body_of payload ++ 0 ∷ []) ≡ length payload + 5
+length-sealed payload = omega (arith, length-append (body_of payload) (0 ∷ []), length-body payload)
+
+pub write_kept-requires-clause-room : goal.write_kept-requires-clause-room
+write_kept-requires-clause-room g c =
+    let size = ap length (c.deref.ensures.value ∙ c.seal.ensures) ∙ length-sealed (payload_in c.args.batch.now) in
+    let end = c.requires.room.end in
+    omega (arith, size, end)
+
+pub overflow_add-self-2 : goal.overflow_add-self-2
+overflow_add-self-2 g c =
+    let size = ap length c.seal.ensures ∙ length-sealed (payload_in c.args.batch.now) in
+    let within = c.requires.room.within in
+    omega (arith, size, within, c.len.ensures)
+
+pub returns-in_err-write_kept-clause-any_moment : goal.returns-in_err-write_kept-clause-any_moment
+returns-in_err-write_kept-clause-any_moment g c h =
     let header = c.args.self.now.header in
     let place = c.args.self.now.place in
-    let payload = c.args.payload.now in
+    let payload = payload_in c.args.batch.now in
     let bytes = g.D.Disk.bytes c.args.self.now.disk in
     let past = g.D.Disk.past c.args.self.now.disk in
-    let s = c.requires.open h in
-    let P = OpensTo header bytes payload in
-    let one = so_too (Torn (place + 1) (length payload + 5) bytes) P past (g.D.Disk.past c.stage.new.disk) (torn_behind header place bytes past s payload (length payload + 5)) (c.stage.ensures.torn h) in
-    one
+    let size = length c.deref.result.now in
+    so_too (Torn (place + 1) size bytes) (OpensTo header bytes payload) past (g.D.Disk.past c.write_kept.new.disk) (torn_behind header place bytes past (c.requires.open h) payload size) (c.write_kept.ensures.torn h)
 
-pub returns-in_err-write_at-clause-any_moment : goal.returns-in_err-write_at-clause-any_moment
-returns-in_err-write_at-clause-any_moment g c h =
+pub returns-in_err-write_kept-2-clause-any_moment : goal.returns-in_err-write_kept-2-clause-any_moment
+returns-in_err-write_kept-2-clause-any_moment g c h =
     let header = c.args.self.now.header in
     let place = c.args.self.now.place in
-    let payload = c.args.payload.now in
+    let payload = payload_in c.args.batch.now in
     let bytes = g.D.Disk.bytes c.args.self.now.disk in
     let past = g.D.Disk.past c.args.self.now.disk in
+    let mid = g.D.Disk.past c.write_kept.new.disk in
+    let after = g.D.Disk.past c.write_kept-2.new.disk in
     let s = c.requires.open h in
+    let size = length c.deref.result.now in
     let P = OpensTo header bytes payload in
-    let one = so_too (Torn (place + 1) (length payload + 5) bytes) P past (g.D.Disk.past c.stage.new.disk) (torn_behind header place bytes past s payload (length payload + 5)) (c.stage.ensures.torn h) in
-    let whole = staged header place bytes past s payload c.requires.small in
-    let only : LeavesOnly (g.D.Disk.past c.stage.new.disk) whole = subst (LeavesOnly (g.D.Disk.past c.stage.new.disk)) (c.in_ok-stage.ensures.written h) (c.in_ok-stage.ensures.kept h) in
-    let each : Images P (Touched place 1 ∷ g.D.Disk.past c.stage.new.disk) = λ image left.
-    torn_gate header place bytes past s payload c.requires.small image (subst (λ (old : List ℕ). Torn place 1 old image) (only left.0 left.1) left.2) in
-    let two = goes_on P past (g.D.Disk.past c.stage.new.disk) (g.D.Disk.past c.write_at.new.self) (Touched place 1) one (c.write_at.ensures.past h) (subst (Images P) (sym (c.write_at.ensures.past h)) each) in
-    two
-
-pub returns-in_err-sync-clause-any_moment : goal.returns-in_err-sync-clause-any_moment
-returns-in_err-sync-clause-any_moment g c h =
-    let header = c.args.self.now.header in
-    let place = c.args.self.now.place in
-    let payload = c.args.payload.now in
-    let bytes = g.D.Disk.bytes c.args.self.now.disk in
-    let past = g.D.Disk.past c.args.self.now.disk in
-    let s = c.requires.open h in
-    let P = OpensTo header bytes payload in
-    let one = so_too (Torn (place + 1) (length payload + 5) bytes) P past (g.D.Disk.past c.stage.new.disk) (torn_behind header place bytes past s payload (length payload + 5)) (c.stage.ensures.torn h) in
-    let whole = staged header place bytes past s payload c.requires.small in
-    let only : LeavesOnly (g.D.Disk.past c.stage.new.disk) whole = subst (LeavesOnly (g.D.Disk.past c.stage.new.disk)) (c.in_ok-stage.ensures.written h) (c.in_ok-stage.ensures.kept h) in
-    let each : Images P (Touched place 1 ∷ g.D.Disk.past c.stage.new.disk) = λ image left.
-    torn_gate header place bytes past s payload c.requires.small image (subst (λ (old : List ℕ). Torn place 1 old image) (only left.0 left.1) left.2) in
-    let two = goes_on P past (g.D.Disk.past c.stage.new.disk) (g.D.Disk.past c.write_at.new.self) (Touched place 1) one (c.write_at.ensures.past h) (subst (Images P) (sym (c.write_at.ensures.past h)) each) in
-    stayed P past (g.D.Disk.past c.write_at.new.self) (g.D.Disk.past c.sync.new.self) two (c.in_err-sync.ensures.failed h)
-
-pub returns-clause-open : goal.returns-clause-open
-returns-clause-open g c h =
-    let place = c.args.self.now.place in
-    let is : g.D.Disk.bytes c.sync.new.self ≡ written (staged c.args.self.now.header place (g.D.Disk.bytes c.args.self.now.disk) (g.D.Disk.past c.args.self.now.disk) (c.requires.open h) c.args.payload.now c.requires.small) place (1 ∷ []) =
-    c.in_ok-sync.ensures.bytes h ∙ c.in_ok-write_at.ensures.written h ∙ ap (λ (l : List ℕ). written l place (1 ∷ [])) (c.in_ok-stage.ensures.written h) in
-    let keeps : LeavesOnly (g.D.Disk.past c.sync.new.self) (g.D.Disk.bytes c.sync.new.self) = λ image left.
-    subst (λ (p : List Step). IsImage p image) (c.in_ok-sync.ensures.kept h) left ∙ sym (c.in_ok-sync.ensures.bytes h) in
-    let both = settled_after c.args.self.now.header place (g.D.Disk.bytes c.args.self.now.disk) (g.D.Disk.past c.args.self.now.disk) (c.requires.open h) c.args.payload.now c.requires.small (place + (5 + length c.args.payload.now)) (g.D.Disk.bytes c.sync.new.self) (g.D.Disk.past c.sync.new.self) (omega arith) is keeps in
-    both.0
-
-pub returns-clause-kept : goal.returns-clause-kept
-returns-clause-kept g c h =
-    let place = c.args.self.now.place in
-    let is : g.D.Disk.bytes c.sync.new.self ≡ written (staged c.args.self.now.header place (g.D.Disk.bytes c.args.self.now.disk) (g.D.Disk.past c.args.self.now.disk) (c.requires.open h) c.args.payload.now c.requires.small) place (1 ∷ []) =
-    c.in_ok-sync.ensures.bytes h ∙ c.in_ok-write_at.ensures.written h ∙ ap (λ (l : List ℕ). written l place (1 ∷ [])) (c.in_ok-stage.ensures.written h) in
-    let keeps : LeavesOnly (g.D.Disk.past c.sync.new.self) (g.D.Disk.bytes c.sync.new.self) = λ image left.
-    subst (λ (p : List Step). IsImage p image) (c.in_ok-sync.ensures.kept h) left ∙ sym (c.in_ok-sync.ensures.bytes h) in
-    let both = settled_after c.args.self.now.header place (g.D.Disk.bytes c.args.self.now.disk) (g.D.Disk.past c.args.self.now.disk) (c.requires.open h) c.args.payload.now c.requires.small (place + (5 + length c.args.payload.now)) (g.D.Disk.bytes c.sync.new.self) (g.D.Disk.past c.sync.new.self) (omega arith) is keeps in
-    both.1
+    let first = so_too (Torn (place + 1) size bytes) P past mid (torn_behind header place bytes past s payload size) (c.write_kept.ensures.torn h) in
+    let whole : g.D.Disk.bytes c.write_kept.new.disk ≡ staged header place bytes past s payload c.requires.small =
+    c.in_ok-write_kept.ensures.written h ∙ ap (written bytes (place + 1)) (c.deref.ensures.value ∙ c.seal.ensures) in
+    let torn = subst (λ (l : List ℕ). Leaves (Torn place 1 l) mid after) whole (c.write_kept-2.ensures.torn h) in
+    then_too P past mid after first (so_too (Torn place 1 (staged header place bytes past s payload c.requires.small)) P mid after (torn_gate header place bytes past s payload c.requires.small) torn)
 
 pub returns-clause-any_moment : goal.returns-clause-any_moment
 returns-clause-any_moment g c h =
     let header = c.args.self.now.header in
     let place = c.args.self.now.place in
-    let payload = c.args.payload.now in
+    let payload = payload_in c.args.batch.now in
+    let bytes = g.D.Disk.bytes c.args.self.now.disk in
+    let past = g.D.Disk.past c.args.self.now.disk in
+    let mid = g.D.Disk.past c.write_kept.new.disk in
+    let after = g.D.Disk.past c.write_kept-2.new.disk in
+    let s = c.requires.open h in
+    let size = length c.deref.result.now in
+    let P = OpensTo header bytes payload in
+    let first = so_too (Torn (place + 1) size bytes) P past mid (torn_behind header place bytes past s payload size) (c.write_kept.ensures.torn h) in
+    let whole : g.D.Disk.bytes c.write_kept.new.disk ≡ staged header place bytes past s payload c.requires.small =
+    c.in_ok-write_kept.ensures.written h ∙ ap (written bytes (place + 1)) (c.deref.ensures.value ∙ c.seal.ensures) in
+    let torn = subst (λ (l : List ℕ). Leaves (Torn place 1 l) mid after) whole (c.write_kept-2.ensures.torn h) in
+    then_too P past mid after first (so_too (Torn place 1 (staged header place bytes past s payload c.requires.small)) P mid after (torn_gate header place bytes past s payload c.requires.small) torn)
+
+pub returns-clause-open : goal.returns-clause-open
+returns-clause-open g c h =
+    let header = c.args.self.now.header in
+    let place = c.args.self.now.place in
+    let payload = payload_in c.args.batch.now in
     let bytes = g.D.Disk.bytes c.args.self.now.disk in
     let past = g.D.Disk.past c.args.self.now.disk in
     let s = c.requires.open h in
-    let P = OpensTo header bytes payload in
-    let one = so_too (Torn (place + 1) (length payload + 5) bytes) P past (g.D.Disk.past c.stage.new.disk) (torn_behind header place bytes past s payload (length payload + 5)) (c.stage.ensures.torn h) in
-    let whole = staged header place bytes past s payload c.requires.small in
-    let only : LeavesOnly (g.D.Disk.past c.stage.new.disk) whole = subst (LeavesOnly (g.D.Disk.past c.stage.new.disk)) (c.in_ok-stage.ensures.written h) (c.in_ok-stage.ensures.kept h) in
-    let each : Images P (Touched place 1 ∷ g.D.Disk.past c.stage.new.disk) = λ image left.
-    torn_gate header place bytes past s payload c.requires.small image (subst (λ (old : List ℕ). Torn place 1 old image) (only left.0 left.1) left.2) in
-    let two = goes_on P past (g.D.Disk.past c.stage.new.disk) (g.D.Disk.past c.write_at.new.self) (Touched place 1) one (c.write_at.ensures.past h) (subst (Images P) (sym (c.write_at.ensures.past h)) each) in
-    kept_on P past (g.D.Disk.past c.write_at.new.self) (g.D.Disk.past c.sync.new.self) (g.D.Disk.bytes c.write_at.new.self) two (c.in_ok-sync.ensures.kept h)
-    (subst P (c.in_ok-sync.ensures.bytes h) (settled_gate header (place + (5 + length payload)) (g.D.Disk.bytes c.sync.new.self) (g.D.Disk.past c.sync.new.self) (returns-clause-open g c h), inr (returns-clause-kept g c h)))
+    let size = ap length c.seal.ensures ∙ length-sealed payload in
+    let is : g.D.Disk.bytes c.write_kept-2.new.disk ≡ written (staged header place bytes past s payload c.requires.small) place (1 ∷ []) =
+    c.in_ok-write_kept-2.ensures.written h ∙ ap (λ (l : List ℕ). written l place (1 ∷ [])) (c.in_ok-write_kept.ensures.written h ∙ ap (written bytes (place + 1)) (c.deref.ensures.value ∙ c.seal.ensures)) in
+    (settled_after header place bytes past s payload c.requires.small (place + c.len.result) (g.D.Disk.bytes c.write_kept-2.new.disk) (g.D.Disk.past c.write_kept-2.new.disk) (omega (arith, size, c.len.ensures)) is (c.in_ok-write_kept-2.ensures.kept h)).0
+
+pub returns-clause-kept : goal.returns-clause-kept
+returns-clause-kept g c h =
+    let header = c.args.self.now.header in
+    let place = c.args.self.now.place in
+    let payload = payload_in c.args.batch.now in
+    let bytes = g.D.Disk.bytes c.args.self.now.disk in
+    let past = g.D.Disk.past c.args.self.now.disk in
+    let s = c.requires.open h in
+    let size = ap length c.seal.ensures ∙ length-sealed payload in
+    let is : g.D.Disk.bytes c.write_kept-2.new.disk ≡ written (staged header place bytes past s payload c.requires.small) place (1 ∷ []) =
+    c.in_ok-write_kept-2.ensures.written h ∙ ap (λ (l : List ℕ). written l place (1 ∷ [])) (c.in_ok-write_kept.ensures.written h ∙ ap (written bytes (place + 1)) (c.deref.ensures.value ∙ c.seal.ensures)) in
+    (settled_after header place bytes past s payload c.requires.small (place + c.len.result) (g.D.Disk.bytes c.write_kept-2.new.disk) (g.D.Disk.past c.write_kept-2.new.disk) (omega (arith, size, c.len.ensures)) is (c.in_ok-write_kept-2.ensures.kept h)).1

@@ -1,4 +1,6 @@
-use Rattle.std.proofs.Common.{length, ap, arith}
+use Rattle.std.proofs.Common.{◌≡◌, ℕ, List, length, sym, ◌∙◌, ap, subst, arith}
+use Rattle.gl_journal.specs.Parts.{FileParts}
+use Rattle.gl_journal.proofs.PartLaws.{opens_by_parts}
 use Rattle.gl_journal.proofs.Settling.{read_leaves, end_leaves}
 use Rattle.gl_journal.proofs.gated.Gated.open.Goals as goal
 
@@ -6,8 +8,8 @@ pub returns-in-Err-clause-any_moment_err : goal.returns-in-Err-clause-any_moment
 returns-in-Err-clause-any_moment_err g c h has =
     read_leaves c.args.header (g.D.Disk.bytes c.args.disk) (g.D.Disk.past c.args.disk) (g.D.Disk.past c.read_all.new.disk) has (c.read_all.ensures.any_moment h)
 
-pub returns-in-Err-read_file-clause-any_moment_err : goal.returns-in-Err-read_file-clause-any_moment_err
-returns-in-Err-read_file-clause-any_moment_err g c h has =
+pub returns-in-Err-end_of_payloads-clause-any_moment_err : goal.returns-in-Err-end_of_payloads-clause-any_moment_err
+returns-in-Err-end_of_payloads-clause-any_moment_err g c h has =
     read_leaves c.args.header (g.D.Disk.bytes c.args.disk) (g.D.Disk.past c.args.disk) (g.D.Disk.past c.read_all.new.disk) has (c.read_all.ensures.any_moment h)
 
 pub returns-in-Err-close_end-clause-any_moment_err : goal.returns-in-Err-close_end-clause-any_moment_err
@@ -19,3 +21,14 @@ pub returns-clause-any_moment : goal.returns-clause-any_moment
 returns-clause-any_moment g c h has =
     end_leaves c.args.header (g.D.Disk.bytes c.args.disk) (g.D.Disk.bytes c.read_all.new.disk) c.len.result (g.D.Disk.past c.args.disk) (g.D.Disk.past c.read_all.new.disk) (g.D.Disk.past c.close_end.new.disk) has
     (omega (arith, ap length (c.in-Ok.ensures.bytes h), c.len.ensures)) (c.in-Ok.ensures.same h) (c.read_all.ensures.any_moment h) (c.close_end.ensures.torn h)
+
+pub returns-clause-open : goal.returns-clause-open
+returns-clause-open g c h =
+    let header = c.args.header in
+    let base = g.D.Disk.bytes c.args.disk in
+    let place = c.in-Ok-end_of_payloads.place in
+    let found = c.in-Ok-end_of_payloads.ensures.parts in
+    let file : c.deref.result.now ≡ base = c.deref.ensures.value ∙ c.in-Ok.ensures.bytes h in
+    let parts : FileParts header base found.0 place found.1 = subst (λ (l : List ℕ). FileParts header l found.0 place found.1) file found.2 in
+    let is = c.in-Ok-close_end.ensures.settled h header found.0 found.1 (subst (λ (l : List ℕ). FileParts header l found.0 place found.1) (sym (c.in-Ok.ensures.same h)) parts) in
+    (is.0, is.1 ∙ sym (opens_by_parts header base found.0 place found.1 parts))

@@ -1,7 +1,7 @@
-use Rattle.std.proofs.Common.{◌≡◌, ℕ, List, ◌++◌, Ok, sym, ◌∙◌, ap, subst}
+use Rattle.std.proofs.Common.{◌≡◌, ℕ, List, ◌++◌, drop, Ok, sym, ◌∙◌, ap, subst}
 use Rattle.gl_outside.specs.Disk.{IsImage}
 use Rattle.gl_outside.proofs.Moments.{so_too}
-use Rattle.gl_journal.specs.Gates.{payloads_of, with_last}
+use Rattle.gl_journal.specs.Gates.{payload_in, payloads_of, with_last}
 use Rattle.gl_journal.specs.Stops.{IsOpen, OpensTo}
 use Rattle.gl_journal.specs.Records.{records_bytes}
 use Rattle.gl_journal.specs.Durable.{durable, journal_header, OpensToOneOf}
@@ -17,9 +17,10 @@ returns-clause-kept g c h goes_on state next opens folds =
     let bytes' = g.D.Disk.bytes c.append.new.self.disk in
     let before = c.args.self.now.gated.header in
     let header : before ≡ journal_header = (c.requires.open h).header in
-    let payload : c.deref.result.now ≡ records_bytes recs = c.deref.ensures.value ∙ c.put_records.ensures.put ∙ ap (λ (l : List ℕ). l ++ records_bytes recs) c.clear.ensures.items in
+    let put : List ℕ = payload_in c.put_records.new.out in
+    let payload : put ≡ records_bytes recs = ap (drop 4) c.put_records.ensures.put ∙ ap (λ (l : List ℕ). drop 4 (l ++ records_bytes recs)) c.begin_batch.ensures.begun in
     when_ok c.append.result
-    (λ (is : payloads_of c.append.new.self.header bytes' ≡ with_last c.deref.result.now (payloads_of before bytes)).
+    (λ (is : payloads_of c.append.new.self.header bytes' ≡ with_last put (payloads_of before bytes)).
     durable_after goes_on bytes bytes' recs state next opens c.put_records.ensures.fields folds
     (ap (λ (l : List ℕ). payloads_of l bytes') (sym (c.append.ensures.header ∙ header)) ∙ is
     ∙ ap (λ (l : List ℕ). with_last l (payloads_of before bytes)) payload
@@ -39,8 +40,9 @@ returns-clause-any_moment g c h goes_on state next opens folds =
     let bytes = g.D.Disk.bytes c.args.self.now.gated.disk in
     let before = c.args.self.now.gated.header in
     let header : before ≡ journal_header = (c.requires.open h).header in
-    let payload : c.deref.result.now ≡ records_bytes recs = c.deref.ensures.value ∙ c.put_records.ensures.put ∙ ap (λ (l : List ℕ). l ++ records_bytes recs) c.clear.ensures.items in
-    so_too (OpensTo before bytes c.deref.result.now) (OpensToOneOf goes_on state next) (g.D.Disk.past c.args.self.now.gated.disk) (g.D.Disk.past c.append.new.self.disk)
+    let put : List ℕ = payload_in c.put_records.new.out in
+    let payload : put ≡ records_bytes recs = ap (drop 4) c.put_records.ensures.put ∙ ap (λ (l : List ℕ). drop 4 (l ++ records_bytes recs)) c.begin_batch.ensures.begun in
+    so_too (OpensTo before bytes put) (OpensToOneOf goes_on state next) (g.D.Disk.past c.args.self.now.gated.disk) (g.D.Disk.past c.append.new.self.disk)
     (λ image opens_to. durable_between goes_on bytes image recs state next opens c.put_records.ensures.fields folds
-    (subst (λ (l : List ℕ). OpensTo journal_header bytes l image) payload (subst (λ (l : List ℕ). OpensTo l bytes c.deref.result.now image) header opens_to)))
+    (subst (λ (l : List ℕ). OpensTo journal_header bytes l image) payload (subst (λ (l : List ℕ). OpensTo l bytes put image) header opens_to)))
     (c.append.ensures.any_moment h)

@@ -1,5 +1,5 @@
-use Rattle.std.proofs.Common.{◌≡◌, ℕ, List, ◌++◌, sym, ◌∙◌, ap}
-use Rattle.gl_journal.specs.Gates.{payloads_of, with_last}
+use Rattle.std.proofs.Common.{◌≡◌, ℕ, List, ◌++◌, drop, sym, ◌∙◌, ap}
+use Rattle.gl_journal.specs.Gates.{payload_in, payloads_of, with_last}
 use Rattle.gl_journal.specs.Records.{Key, record_bytes}
 use Rattle.gl_journal.specs.Durable.{journal_header}
 use Rattle.gl_journal.proofs.DurableLaws.{durable_first, when_ok}
@@ -12,10 +12,11 @@ returns-clause-kept g c h goes_on =
     let bytes' = g.D.Disk.bytes c.append.new.self.disk in
     let before = c.args.self.now.gated.header in
     let header : before ≡ journal_header = (c.requires.open h).header in
-    let payload : c.deref.result.now ≡ record_bytes (Key key) = c.deref.ensures.value ∙ c.put_key.ensures.put ∙ ap (λ (l : List ℕ). l ++ record_bytes (Key key)) c.clear.ensures.items in
+    let put : List ℕ = payload_in c.put_key.new.out in
+    let payload : put ≡ record_bytes (Key key) = ap (drop 4) c.put_key.ensures.put ∙ ap (λ (l : List ℕ). drop 4 (l ++ record_bytes (Key key))) c.begin_batch.ensures.begun in
     when_ok c.append.result
-    (λ (is : payloads_of c.append.new.self.header bytes' ≡ with_last c.deref.result.now (payloads_of before bytes)).
-    durable_first goes_on bytes bytes' c.deref.result.now key (c.requires.none h) c.put_key.ensures.fields payload
+    (λ (is : payloads_of c.append.new.self.header bytes' ≡ with_last put (payloads_of before bytes)).
+    durable_first goes_on bytes bytes' put key (c.requires.none h) c.put_key.ensures.fields payload
     (ap (λ (l : List ℕ). payloads_of l bytes') (sym (c.append.ensures.header ∙ header)) ∙ is
-    ∙ ap (λ (l : List ℕ). with_last c.deref.result.now (payloads_of l bytes)) header))
+    ∙ ap (λ (l : List ℕ). with_last put (payloads_of l bytes)) header))
     (c.append.ensures.kept h)

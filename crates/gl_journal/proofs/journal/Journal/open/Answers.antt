@@ -1,12 +1,10 @@
-use Rattle.std.proofs.Common.{◌≡◌, List, Vec, ℕ, Ok, Err, sym, ◌∙◌, ap, subst}
-use Rattle.std.specs.declared.alloc.Global.{Global}
+use Rattle.std.proofs.Common.{◌≡◌, Err, sym, ◌∙◌, ap, subst}
 use Rattle.gl_base.specs.declared.or_no_memory.OrNoMemory.{OrNoMemory}
 use Rattle.gl_base.specs.declared.or_no_memory.OrNoMemory.TheVariants as errors
 use Rattle.gl_base.specs.Answers.{Fails}
 use Rattle.gl_outside.proofs.Moments.{so_too}
-use Rattle.gl_journal.specs.Parts.{items_of}
 use Rattle.gl_journal.specs.Stops.{OpensAsBefore}
-use Rattle.gl_journal.specs.Durable.{durable_of, journal_header, OpensToTheSame}
+use Rattle.gl_journal.specs.Durable.{durable, journal_header, OpensToTheSame}
 use Rattle.gl_journal.specs.declared.fault.JournalFault.{JournalFault}
 use Rattle.gl_journal.proofs.DurableLaws.{durable_opened, durable_same, same_state, error_of}
 use Rattle.gl_journal.proofs.journal.Journal.open.Goals as goal
@@ -40,18 +38,14 @@ returns-in-Err-clause-damaged g c h fault back e other =
 pub returns-in-Err-fold_file-clause-damaged : goal.returns-in-Err-fold_file-clause-damaged
 returns-in-Err-fold_file-clause-damaged g c h fault back e other =
     let goes_on = g.L.EntryLog.goes_on in
-    let payloads = items_of c.in-Ok.found.1.items in
     let error = error_of c.in-Err-fold_file.error (errors.Fault fault) c.in-Ok.found.0.disk back e in
-    let exact = subst (λ (x : OrNoMemory JournalFault). Fails x (durable_of goes_on (Ok (items_of c.deref.result.now)))) error c.in-Err-fold_file.ensures.exact in
-    durable_opened goes_on (g.D.Disk.bytes c.args.disk) (Ok payloads) (c.in-Ok.ensures.payloads h)
-    ∙ ap (λ (l : List (Vec ℕ Global)). durable_of goes_on (Ok (items_of l))) (sym c.deref.ensures.value) ∙ exact
+    let exact = subst (λ (x : OrNoMemory JournalFault). Fails x (durable goes_on c.deref.result.now)) error c.in-Err-fold_file.ensures.exact in
+    ap (durable goes_on) (sym (c.deref.ensures.value ∙ c.in-Ok.ensures.bytes h)) ∙ exact
 
 pub returns-clause-durable : goal.returns-clause-durable
 returns-clause-durable g c h =
     let goes_on = g.L.EntryLog.goes_on in
-    let payloads = items_of c.in-Ok.found.1.items in
-    durable_opened goes_on (g.D.Disk.bytes c.args.disk) (Ok payloads) (c.in-Ok.ensures.payloads h)
-    ∙ ap (λ (l : List (Vec ℕ Global)). durable_of goes_on (Ok (items_of l))) (sym c.deref.ensures.value) ∙ c.in-Ok-fold_file.ensures.exact
+    ap (durable goes_on) (sym (c.deref.ensures.value ∙ c.in-Ok.ensures.bytes h)) ∙ c.in-Ok-fold_file.ensures.exact
 
 pub returns-clause-open : goal.returns-clause-open
 returns-clause-open g c h =

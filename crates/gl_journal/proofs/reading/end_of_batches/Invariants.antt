@@ -1,10 +1,10 @@
-use Rattle.std.proofs.Common.{◌≡◌, ◌+◌, length}
-use Rattle.gl_journal.specs.Parts.{Parts, items_of}
-use Rattle.gl_journal.proofs.reading.read_batches.Given as goal
+use Rattle.std.proofs.Common.{◌≡◌, ℕ, ◌+◌, List, length}
+use Rattle.gl_journal.specs.Parts.{Parts}
+use Rattle.gl_journal.proofs.reading.end_of_batches.Given as goal
 
 abbrev pub invariant-loop-behind : goal.invariant-loop-behind
 invariant-loop-behind l = record {
-  parts : Parts l.at l.bytes (items_of l.payloads.items) l.place l.rest;
+  parts : (payloads : List (List ℕ)) × Parts l.at l.bytes payloads l.place l.rest;
   size : l.place + length l.rest ≡ l.at + length l.bytes;
 }
 

@@ -108,9 +108,6 @@ module _ {N S : Type 0} (stands : StandsAs N) where
   pub more : {ns : Nodes N S} (h : Held) (event : Event) (items : List Event) → items ≡ h.events ++ event ∷ [] → IsKept ns (with_event h event) → IsKept ns (record { settings = h.settings; events = items })
   more {ns} h event items is r = subst (λ (es : List Event). IsKept ns (record { settings = h.settings; events = es })) (sym is) r
 
-  pub as_before : {old : Nodes N S} (new : Nodes N S) (h : Held) (items : List Event) → items ≡ h.events → IsKept old h → Keeps stands old new → IsKept new (record { settings = h.settings; events = items })
-  as_before new h items is r keeps = subst (λ (es : List Event). IsKept new (record { settings = h.settings; events = es })) (sym is) (keeps h.settings (world_now h) r)
-
   pub happened_by : {old_nodes : Nodes N S} (new_nodes : Nodes N S) (old new h : Held) (event : Event) (o : Outcome Given) → old ≡ h → new ≡ with_event h event → IsKept old_nodes h → Moves stands event old_nodes o new_nodes →
       may_happen h event ≡ true → Happened old event new o
   happened_by new_nodes old new h event o was is r moves here = subst (λ (m : Held). Happened m event new o) (sym was)

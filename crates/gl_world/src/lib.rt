@@ -7,6 +7,7 @@
 mod dealing;
 mod event;
 mod founding;
+mod history;
 mod keys;
 mod laws;
 mod members;
@@ -19,6 +20,7 @@ mod world_node;
 
 pub use event::Event;
 pub use founding::{Founding, has_distinct_keys};
+pub use history::History;
 pub use keys::{node_seed, service_key};
 pub use laws::{has_node_keys, is_safe, is_unguarded};
 pub use members::Members;

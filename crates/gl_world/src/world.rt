@@ -20,6 +20,7 @@ mod nodes;
 mod start;
 
 use crate::event::Event;
+use crate::history::History;
 use crate::settings::Settings;
 use crate::world::nodes::Nodes;
 use crate::world_node::WorldNode;
@@ -39,7 +40,7 @@ use std::marker::Model;
 pub struct World<N: WorldNode> {
     settings: Settings,
     nodes: Nodes<N>,
-    events: Vec<Event>,
+    history: History<Event>,
 }
 
 impl<N: WorldNode> Model for World<N> {
@@ -48,11 +49,11 @@ impl<N: WorldNode> Model for World<N> {
 
     ghost Value = { Held };
 
-    ghost view = { λ w. record { settings = w.settings; events = w.events.items } };
+    ghost view = { λ w. record { settings = w.settings; events = w.history.items } };
 
     // The nodes run for the world of the rules after all that happened.
     ghost invariant = { λ w. IsRunning N.stands w.settings w.nodes
-        (world_now (record { settings = w.settings; events = w.events.items })) };
+        (world_now (record { settings = w.settings; events = w.history.items })) };
 }
 
 /// Before anything happened each node that starts or joins is there, and nothing was sent, so that
@@ -85,30 +86,27 @@ impl<N: WorldNode> World<N> {
         Ok(World {
             settings,
             nodes,
-            events: Vec::new(alloc),
+            history: History::new(),
         })
     }
 
     /// What one event brings about, which is put down.
-    fn settle(&mut self, event: Event) -> Result<Outcome<Given>, Refusal<N::Book>>
-        requires here { may_happen self.old event ≡ true }
-        ensures happened { IfOk result (λ outcome. Happened self.old event self.new outcome) }
-        ensures refused { IfErr result (λ why. Refuses self.old event self.new why) }
+    fn settle(&mut self, event: &Event) -> Result<Outcome<Given>, Refusal<N::Book>>
+        requires here { may_happen self.old event.now ≡ true }
+        ensures happened { IfOk result (λ outcome. Happened self.old event.now self.new outcome) }
+        ensures refused { IfErr result (λ why. Refuses self.old event.now self.new why) }
         ensures group { IsGroup self.new.settings }
     {
-        if self.events.reserve(1).is_err() {
-            return Err(Refusal::NoMemory);
-        }
-        match self.nodes.happen(&event) {
+        match self.nodes.happen(event) {
             Ok(outcome) => {
-                self.events.push_reserved(event);
+                self.history = self.history.then(event);
                 Ok(outcome)
             }
             Err(why) => {
                 if is_no_memory(&why) {
                     return Err(why);
                 }
-                self.events.push_reserved(event);
+                self.history = self.history.then(event);
                 Err(why)
             }
         }
@@ -127,7 +125,7 @@ impl<N: WorldNode> World<N> {
         ensures retirement { RetiresSafely (book_of self.new.settings)
             (start_of self.new.settings) (seen_events self.new) }
     {
-        self.settle(event)
+        self.settle(&event)
     }
 
     /// Whether the nodes that an event names are of this world, and the message that it names was

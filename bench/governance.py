@@ -5,7 +5,10 @@
 # beginning takes most of the shorter run and a machine's speed changes meanwhile. Prints the ratio of the two without that of
 # beginning, and the time of the longer one without that of signing too, against that of the SHA-256 digests that its 10,000
 # verified signatures need.
-# Fails where the first isn't below 12, or the second is above 1.5.
+# Then a service that nine nodes joined takes 150 and 1,500 proposals of two actions, each of which is tried behind the one before
+# it; more than 1,500 the 64 keys of 32 leaves can't sign. Every 200th sets the constitution, so that it drops those that are open,
+# of which there may be 256. Prints the ratio of these two as well, without that of beginning.
+# Fails where the first or the last isn't below 12, or the second is above 1.5.
 import json
 import sys
 import tempfile
@@ -56,17 +59,56 @@ def measure(work, count):
     return time
 
 
+# The second service: all nodes join and all members acknowledge, and 33 of them agree that from then on one who agrees is enough.
+JOINERS, CLEARED = 9, 200
+JOINED = f"world 1 {JOINERS} {MEMBERS} open " + "07" * 32
+EASY = {"name": "set_constitution", "args": {"rules": {name: [0, 1] for name in NAMES}}}
+TRUSTS = [{"name": "transition_node_to_trusted", "args": {"node": f"#{node}"}} for node in (2, 3)]
+CLEARS, PAIR = (json.dumps({"actions": actions}, separators=(",", ":")) for actions in ([EASY, EASY], TRUSTS))
+
+
+# The requests before the proposals of which the time is taken, and these: each is left open until one clears them.
+def prepared():
+    yield from (f"join 1 {node}" for node in range(2, 2 + JOINERS))
+    yield from (f"ack 1 {member}" for member in range(1, MEMBERS + 1))
+    yield f"propose 1 {MEMBERS} {CLEARS}"
+    yield from (f"ballot 1 {member} 1 yes" for member in range(1, 34))
+
+
+def pairs(count):
+    for n in range(count):
+        member = n % MEMBERS + 1
+        if n % CLEARED < CLEARED - 1:
+            yield f"propose 1 {member} {PAIR}"
+        else:
+            yield f"propose 1 {member} {CLEARS}"
+            yield f"ballot 1 {member % MEMBERS + 1} {n + 2} yes"
+
+
+def measure_pairs(work, count):
+    asked = [*prepared(), *pairs(count)]
+    time, _, _, lines = program.replay(work, [JOINED, *asked], 1)
+    assert sum(" accepted " in line for line in lines) == len(asked), lines[:200]
+    assert sum(line.endswith(" Accepted") for line in lines) == 1 + count // CLEARED
+    return time
+
+
 program.build()
 times = []
+paired = []
 with tempfile.TemporaryDirectory() as work:
     one = program.digest(work)
     for _ in range(ROUNDS):
         begin = program.replay(work, [WORLD, *requests(MEMBERS)], 1)[0]
         times.append((begin, measure(work, 1_000), measure(work, 10_000)))
+        paired.append(tuple(measure_pairs(work, count) for count in (0, 150, 1_500)))
+begin, few, many = map(median, zip(*paired))
+growth = (many - begin) / (few - begin)
 begin, small, large = map(median, zip(*times))
 ratio = (large - begin) / (small - begin)
 without_signing = large - begin - (10_000 // (REPEATS + 1) - MEMBERS) * MADE * one
 share = without_signing / ((10_000 - MEMBERS) * VERIFIED * one)
 print(f"10,000 lines take {ratio:.1f} times 1,000, at most 12")
 print(f"10,000 lines without signing take {share:.2f} times the digests of their signatures, at most 1.5")
-sys.exit(0 if ratio < 12 and share <= 1.5 else 1)
+print(f"1,500 proposals of two actions take {growth:.1f} times 150, at most 12")
+sys.exit(0 if ratio < 12 and share <= 1.5 and growth < 12 else 1)

@@ -6,3 +6,4 @@ mod Untouched
 pub mod TouchedRows
 mod Numbers
 mod RowSizes
+mod OpenIds

@@ -1,17 +1,17 @@
 //! Which rows of the governance tables a request can change.
 
-ghost use Rattle.std.specs.Prelude.{◌≡◌, ◌++◌, is_some, map, true, IfOk, OnOk};
+ghost use Rattle.std.specs.Prelude.{◌≡◌, ◌++◌, Some, is_some, map, slice_get, true, IfOk, OnOk};
 ghost use Rattle.std.specs.Option.{option_to_list};
 ghost use Rattle.gl_requests.specs.Ranges.{is_request, is_member_request};
 ghost use Rattle.gl_gov_rules.specs.History.{History};
 ghost use Rattle.gl_gov_rules.specs.Service.{share_in};
+ghost use Rattle.gl_gov_rules.specs.Proposals.{proposals, settled_state, is_open_state};
 ghost use Rattle.gl_gov_rules.specs.Changes.{changes_of, changed_at};
 ghost use Rattle.gl_gov_rules.specs.ProposalStatus.{named_in_act, proposal_named};
 ghost use Rattle.gl_gov.specs.Touched.{signer, node_named, is_open, open_ids, is_loud, ids_touched, touched_by};
 
-use crate::rows::state_of;
 use gl_base::Sequence;
-use gl_gov_rules::{Changed, History, Proposal, ProposalState, Recorded};
+use gl_gov_rules::{Changed, History, Proposal, ProposalState, Recorded, Settling};
 use gl_requests::{Digest, GovernanceRequest, MemberAct, MemberRequest, NodeId};
 use std::alloc::{AllocError, Global};
 
@@ -102,18 +102,32 @@ fn is_loud(recorded: &Recorded, changes: &[Changed]) -> bool
     !changes.is_empty() || gives_share(&recorded.request)
 }
 
-fn is_open(past: &History, proposal: &Proposal) -> bool
+/// Whether a proposal that is settled so is open.
+fn is_open_so(settling: Option<Settling>) -> bool
+    ensures { result ≡ is_open_state (settled_state settling) }
+{
+    match settling {
+        None => true,
+        Some(settling) => matches!(settling.state, ProposalState::Open),
+    }
+}
+
+/// Whether the proposal at a place among all is open, as what settled it tells.
+#[tactic(auto, using(crate::proofs::OpenIds::is_place, crate::proofs::OpenIds::open_at))]
+fn is_open(past: &History, place: usize, proposal: &Proposal) -> bool
+    requires { slice_get (proposals past.now) place ≡ Some proposal.now }
     ensures { result ≡ is_open past.now proposal.now }
 {
-    matches!(state_of(past, proposal), ProposalState::Open)
+    let settlings = past.settlings();
+    is_open_so(settlings[place])
 }
 
 /// Adds the identifiers of the proposals that are open.
 fn push_open_ids(ids: &mut Vec<Digest>, past: &History) -> Result<(), AllocError>
     ensures { OnOk result (ids.new.items ≡ ids.old.items ++ open_ids past.now) }
 {
-    for proposal in past.proposals() {
-        if is_open(past, proposal) {
+    for (place, proposal) in past.proposals().iter().enumerate() {
+        if is_open(past, place, proposal) {
             ids.push(proposal.id)?;
         }
     }

@@ -1,1 +1,2 @@
 mod Voting
+mod Applied

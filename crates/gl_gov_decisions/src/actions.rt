@@ -1,40 +1,22 @@
 //! When an action is bad, and what a proposal's actions come to when they are applied in order.
 
-ghost use Rattle.std.specs.Prelude.{◌≡◌, ◌≤◌, length, IfOk, IfSome, Some};
+ghost use Rattle.std.specs.Prelude.{◌≡◌, ◌≤◌, length, IfSome, Some};
 ghost use Rattle.gl_gov_rules.specs.Nodes.{is_pending_status, is_trusted_status};
-ghost use Rattle.gl_gov_rules.specs.Actions.{is_number_used, is_key_used, is_below_all, is_ascending, is_dealing_in_order, are_present, is_dealing_among, holders_without, are_too_few_without, is_pending_node, is_trusted_node, are_fractions, is_opening, cause_against, with_applied, at_index, first_bad_action};
+ghost use Rattle.gl_gov_rules.specs.Actions.{is_below_all, is_ascending, is_dealing_in_order, are_present, is_dealing_among, holders_without, are_too_few_without, is_pending_node, is_trusted_node, are_fractions, is_opening, cause_against, first_bad_action};
 
 use crate::limits::{MAX_DENOMINATOR, MAX_MEMBERS, MAX_TRUSTED_NODES};
-use gl_gov_rules::{Cause, Change, Changed, History, NodeStatus, RecordedNode};
-use gl_requests::{
-    Action, Dealing, HssPublicKey, NewMember, NodeId, Rule, ServiceState, ShareDigest,
-};
-use std::alloc::{AllocError, Global};
-
-/// Whether the number is one that a member has or had.
-#[tactic(auto, unfolding(gl_gov_rules::specs::Actions::is_number_used))]
-fn is_number_used(past: &History, number: u8) -> bool
-    ensures { result ≡ is_number_used past.now number }
-{
-    past.members().iter().any(|member| member.number == number)
-}
-
-/// Whether the key is one that a member has or had.
-#[tactic(auto, unfolding(gl_gov_rules::specs::Actions::is_key_used))]
-fn is_key_used(past: &History, key: &HssPublicKey) -> bool
-    ensures { result ≡ is_key_used past.now key.now }
-{
-    past.members().iter().any(|member| member.key == *key)
-}
+use crate::trial::Trial;
+use gl_gov_rules::{Cause, History, NodeStatus, RecordedNode};
+use gl_requests::{Action, Dealing, NewMember, NodeId, Rule, ServiceState, ShareDigest};
 
 /// Why a member can't be taken in.
 #[tactic(auto, unfolding(gl_gov_rules::specs::Actions::cause_against))]
-fn cause_against_member(past: &History, member: &NewMember) -> Option<Cause>
+fn cause_against_member(past: &Trial, member: &NewMember) -> Option<Cause>
     ensures { result ≡ cause_against past.now (Action.SetMember member.now) }
 {
-    if is_number_used(past, member.number) {
+    if past.is_number_used(member.number) {
         Some(Cause::NumberUsed)
-    } else if is_key_used(past, &member.key) {
+    } else if past.is_key_used(&member.key) {
         Some(Cause::KeyUsed)
     } else if MAX_MEMBERS <= past.present_count() {
         Some(Cause::Full)
@@ -73,7 +55,7 @@ pub(crate) fn is_dealing_in_order(dealing: &Dealing) -> bool
 
 /// Whether all who are to hold these shares are present.
 #[tactic(auto, unfolding(gl_gov_rules::specs::Actions::are_present))]
-fn are_present(past: &History, shares: &[ShareDigest]) -> bool
+fn are_present(past: &Trial, shares: &[ShareDigest]) -> bool
     ensures { result ≡ are_present past.now shares.now }
 {
     shares.iter().all(|share| past.is_present(share.member))
@@ -81,14 +63,14 @@ fn are_present(past: &History, shares: &[ShareDigest]) -> bool
 
 /// Whether the dealing is one among members that are present.
 #[tactic(auto, unfolding(gl_gov_rules::specs::Actions::is_dealing_among))]
-fn is_dealing_among(past: &History, dealing: &Dealing) -> bool
+fn is_dealing_among(past: &Trial, dealing: &Dealing) -> bool
     ensures { result ≡ is_dealing_among past.now dealing.now }
 {
     is_dealing_in_order(dealing) && are_present(past, dealing.shares.as_slice())
 }
 
 /// How many holders of a share would be left without this member.
-fn holders_without(past: &History, number: u8, dealing: &Dealing) -> usize
+fn holders_without(past: &Trial, number: u8, dealing: &Dealing) -> usize
     ensures { result ≡ holders_without past.now number (Some dealing.now) }
 {
     dealing
@@ -101,7 +83,7 @@ fn holders_without(past: &History, number: u8, dealing: &Dealing) -> usize
 
 /// Whether fewer holders of a share would be left than the dealing in force asks for.
 #[tactic(auto, unfolding(gl_gov_rules::specs::Actions::are_too_few_without))]
-fn are_too_few_without(past: &History, number: u8) -> bool
+fn are_too_few_without(past: &Trial, number: u8) -> bool
     ensures { result ≡ are_too_few_without past.now number }
 {
     match past.dealing() {
@@ -112,7 +94,7 @@ fn are_too_few_without(past: &History, number: u8) -> bool
 
 /// Why a member can't be removed.
 #[tactic(auto, unfolding(gl_gov_rules::specs::Actions::cause_against))]
-fn cause_against_removal(past: &History, number: u8) -> Option<Cause>
+fn cause_against_removal(past: &Trial, number: u8) -> Option<Cause>
     ensures { result ≡ cause_against past.now (Action.RemoveMember number) }
 {
     if !past.is_present(number) {
@@ -126,7 +108,7 @@ fn cause_against_removal(past: &History, number: u8) -> Option<Cause>
 
 /// Why a recovery secret can't be dealt so.
 #[tactic(auto, unfolding(gl_gov_rules::specs::Actions::cause_against))]
-fn cause_against_dealing(past: &History, dealing: &Dealing) -> Option<Cause>
+fn cause_against_dealing(past: &Trial, dealing: &Dealing) -> Option<Cause>
     ensures { result ≡ cause_against past.now (Action.SetRecoveryThreshold dealing.now) }
 {
     if is_dealing_among(past, dealing) {
@@ -148,13 +130,13 @@ fn is_trusted(status: NodeStatus) -> bool
     matches!(status, NodeStatus::Trusted)
 }
 
-fn is_pending_node(past: &History, node: &RecordedNode) -> bool
+fn is_pending_node(past: &Trial, node: &RecordedNode) -> bool
     ensures { result ≡ is_pending_node past.now (Some node.now) }
 {
     is_pending(past.node_status(node))
 }
 
-fn is_trusted_node(past: &History, node: &RecordedNode) -> bool
+fn is_trusted_node(past: &Trial, node: &RecordedNode) -> bool
     ensures { result ≡ is_trusted_node past.now (Some node.now) }
 {
     is_trusted(past.node_status(node))
@@ -162,7 +144,7 @@ fn is_trusted_node(past: &History, node: &RecordedNode) -> bool
 
 /// Why a node can't be trusted.
 #[tactic(auto, unfolding(gl_gov_rules::specs::Actions::cause_against))]
-fn cause_against_trust(past: &History, id: &NodeId) -> Option<Cause>
+fn cause_against_trust(past: &Trial, id: &NodeId) -> Option<Cause>
     ensures { result ≡ cause_against past.now (Action.TransitionNodeToTrusted id.now) }
 {
     match past.node(id) {
@@ -181,7 +163,7 @@ fn cause_against_trust(past: &History, id: &NodeId) -> Option<Cause>
 
 /// Why a node can't be taken out of service.
 #[tactic(auto, unfolding(gl_gov_rules::specs::Actions::cause_against))]
-fn cause_against_retirement(past: &History, id: &NodeId) -> Option<Cause>
+fn cause_against_retirement(past: &Trial, id: &NodeId) -> Option<Cause>
     ensures { result ≡ cause_against past.now (Action.RemoveNode id.now) }
 {
     match past.node(id) {
@@ -206,7 +188,7 @@ fn is_opening(state: Option<ServiceState>) -> bool
 
 /// Why the service can't be opened.
 #[tactic(auto, unfolding(gl_gov_rules::specs::Actions::cause_against))]
-fn cause_against_opening(past: &History) -> Option<Cause>
+fn cause_against_opening(past: &Trial) -> Option<Cause>
     ensures { result ≡ cause_against past.now Action.TransitionServiceToOpen }
 {
     if is_opening(past.service_state()) {
@@ -227,7 +209,7 @@ fn are_fractions(rules: &[Rule]) -> bool
 
 /// Why a constitution can't be set. The history plays no part in it.
 #[tactic(auto, unfolding(gl_gov_rules::specs::Actions::cause_against))]
-fn cause_against_rules(past: &History, rules: &[Rule]) -> Option<Cause>
+fn cause_against_rules(past: &Trial, rules: &[Rule]) -> Option<Cause>
     ensures { result ≡ cause_against past.now (Action.SetConstitution rules.now) }
 {
     if are_fractions(rules) {
@@ -238,7 +220,7 @@ fn cause_against_rules(past: &History, rules: &[Rule]) -> Option<Cause>
 }
 
 /// Why an action can't be applied behind a history, if it can't: the first cause that stands.
-fn cause_against(past: &History, action: &Action) -> Option<Cause>
+fn cause_against(past: &Trial, action: &Action) -> Option<Cause>
     ensures { result ≡ cause_against past.now action.now }
 {
     match action {
@@ -252,66 +234,21 @@ fn cause_against(past: &History, action: &Action) -> Option<Cause>
     }
 }
 
-/// The history with one more action applied, by the entry with a seqno.
-fn with_applied(
-    alloc: Global,
-    past: History,
-    seqno: u64,
-    action: &Action,
-) -> Result<History, AllocError>
-    ensures { IfOk result (λ next. next ≡ with_applied past seqno action.now) }
-{
-    let action = action.copy(alloc)?;
-    past.with_change(Changed {
-        seqno,
-        change: Change::Applied(action),
-    })
-}
-
-/// The index and the cause of the first action that is bad when they are applied in order, each to
-/// a copy of the history that has those before it.
-fn first_bad_in_order(
-    alloc: Global,
-    past: &History,
-    seqno: u64,
-    actions: &[Action],
-) -> Result<Option<(u64, Cause)>, AllocError>
-    ensures first { IfOk result (λ bad. bad ≡ first_bad_action past.now seqno 1 actions.now) }
-    ensures index { IfOk result (λ bad. IfSome bad (λ b. b.0 ≤ length actions.now)) }
-{
-    let mut trial = past.copy(alloc)?;
-    for (i, action) in actions.iter().enumerate() {
-        if let Some(cause) = cause_against(&trial, action) {
-            return Ok(Some((i as u64 + 1, cause)));
-        }
-        trial = with_applied(alloc, trial, seqno, action)?;
-    }
-    Ok(None)
-}
-
-/// The index 1 and the cause of an action that is bad behind the history.
-fn bad_alone(past: &History, action: &Action) -> Option<(u64, Cause)>
-    ensures { result ≡ at_index 1 (cause_against past.now action.now) }
-{
-    match cause_against(past, action) {
-        None => None,
-        Some(cause) => Some((1, cause)),
-    }
-}
-
 /// The index, counted from 1, and the cause of the first action that is bad when they are applied
-/// in order, by the entry with a seqno. An action that is alone is tried on the history itself.
+/// in order, by the entry with a seqno: each is tried on the history with those before it.
 pub(crate) fn first_bad_action(
-    alloc: Global,
     past: &History,
     seqno: u64,
     actions: &[Action],
-) -> Result<Option<(u64, Cause)>, AllocError>
-    ensures first { IfOk result (λ bad. bad ≡ first_bad_action past.now seqno 1 actions.now) }
-    ensures index { IfOk result (λ bad. IfSome bad (λ b. b.0 ≤ length actions.now)) }
+) -> Option<(u64, Cause)>
+    ensures first { result ≡ first_bad_action past.now seqno 1 actions.now }
+    ensures index { IfSome result (λ bad. bad.0 ≤ length actions.now) }
 {
-    match actions {
-        [action] => Ok(bad_alone(past, action)),
-        _ => first_bad_in_order(alloc, past, seqno, actions),
+    for (i, action) in actions.iter().enumerate() {
+        let trial = Trial::new(past, seqno, &actions[..i]);
+        if let Some(cause) = cause_against(&trial, action) {
+            return Some((i as u64 + 1, cause));
+        }
     }
+    None
 }

@@ -126,7 +126,7 @@ fn ballot_changes(
     let seqno = last.seqno;
     let tally = tally(past, last, &id);
     if is_accepted(past, tally, actions) {
-        let bad = first_bad_action(alloc, past, seqno, actions)?;
+        let bad = first_bad_action(past, seqno, actions);
         acceptance_changes(alloc, seqno, id, actions, bad)
     } else if is_rejected(past, tally, actions) {
         one_change(alloc, seqno, Change::Settled(id, ProposalState::Rejected))

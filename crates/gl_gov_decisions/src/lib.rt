@@ -18,3 +18,4 @@ mod share_refusals;
 mod signature_refusals;
 mod signatures;
 mod tally;
+mod trial;

@@ -13,18 +13,12 @@ use gl_requests::{Action, Digest, MemberRequest};
 use std::alloc::{AllocError, Global};
 
 /// The first action that is bad, as a refusal.
-fn bad_action_refusal(
-    alloc: Global,
-    past: &History,
-    seqno: u64,
-    actions: &[Action],
-) -> Result<Option<GovernanceRefusal>, AllocError>
-    ensures { IfOk result (λ why.
-        why ≡ bad_action_refusal (first_bad_action past.now seqno 1 actions.now)) }
+fn bad_action_refusal(past: &History, seqno: u64, actions: &[Action]) -> Option<GovernanceRefusal>
+    ensures { result ≡ bad_action_refusal (first_bad_action past.now seqno 1 actions.now) }
 {
-    match first_bad_action(alloc, past, seqno, actions)? {
-        None => Ok(None),
-        Some((index, cause)) => Ok(Some(GovernanceRefusal::BadAction { index, cause })),
+    match first_bad_action(past, seqno, actions) {
+        None => None,
+        Some((index, cause)) => Some(GovernanceRefusal::BadAction { index, cause }),
     }
 }
 
@@ -46,7 +40,7 @@ pub(crate) fn propose_refusal(
             limit: MAX_OPEN_PROPOSALS,
         }));
     }
-    if let Some(why) = bad_action_refusal(alloc, past, seqno, actions)? {
+    if let Some(why) = bad_action_refusal(past, seqno, actions) {
         return Ok(Some(why));
     }
     let id = request.proposal_id(alloc)?;

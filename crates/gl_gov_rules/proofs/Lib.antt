@@ -1,7 +1,7 @@
 pub mod Answered
 mod ListsByNumber
 mod ByRequests
-mod Settled
+pub mod Settled
 mod ToldAt
 mod Answers
 pub mod Telling

@@ -12,7 +12,6 @@ use crate::told::{GivenShare, Mark, Signed};
 use gl_requests::{Digest, NewMember};
 use std::alloc::{AllocError, Global};
 use std::marker::Model;
-use std::slice::from_ref;
 
 /// All requests so far at the seqnos of their entries, and all changes that they brought about.
 ///
@@ -76,21 +75,6 @@ impl History {
             by_request: self.by_request.copy(alloc)?,
             settlings: Vec::from_slice(alloc, &self.settlings)?,
         })
-    }
-
-    /// The history with one more change.
-    pub fn with_change(mut self, changed: Changed) -> Result<Self, AllocError>
-        ensures { IfOk result (λ past.
-            past ≡ record self { changes = self.changes ++ changed ∷ [] }) }
-    {
-        self.by_change.push(&changed)?;
-        settle(
-            &mut self.settlings,
-            &self.by_request.proposals,
-            from_ref(&changed),
-        );
-        self.changes.push(changed)?;
-        Ok(self)
     }
 
     /// Adds a request and the changes that it brings about. What it needs is made first, so that

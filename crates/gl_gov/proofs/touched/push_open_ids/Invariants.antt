@@ -4,6 +4,6 @@ use Rattle.gl_gov_rules.specs.Proposals.{proposals}
 use Rattle.gl_gov.specs.Touched.{is_open, open_ids}
 use Rattle.gl_gov.proofs.touched.push_open_ids.Given as goal
 
-abbrev pub invariant-loop-proposal : goal.invariant-loop-proposal
-invariant-loop-proposal l =
-    l.ids.items ++ map (λ (p : Proposal). p.id) (filter (is_open l.past) (drop l.proposal-index (proposals l.past))) ≡ l.fn.ids.items ++ open_ids l.past
+abbrev pub invariant-loop-place : goal.invariant-loop-place
+invariant-loop-place l =
+    l.ids.items ++ map (λ (p : Proposal). p.id) (filter (is_open l.past) (drop l.place (proposals l.past))) ≡ l.fn.ids.items ++ open_ids l.past

@@ -148,12 +148,13 @@ pub fn member_write(alloc: Global, member: &MemberRow) -> Result<Write, AllocErr
 // Nodes
 
 /// The seqno of the entry that retired a node, or 0.
+#[tactic(auto, using(crate::proofs::Seqnos::no_seqno, crate::proofs::Seqnos::some_seqno))]
 fn removal(past: &History, node: &RecordedNode) -> u64
     ensures { result ≡ seqno_of (retirement past.now node.now) }
 {
-    match past.retirement(node) {
+    match past.removal(node) {
         None => 0,
-        Some(changed) => changed.seqno,
+        Some(seqno) => seqno,
     }
 }
 

@@ -1,16 +1,24 @@
 -- The nodes that a ledger records, and the removals of those that are marked, by the history of its requests.
-use Rattle.std.proofs.Common.{◌≡◌, ℕ, suc, List, [], ◌∷◌, map, Option, Some, None, is_some, option_map, Bool, ◌||◌, ◌&&◌, slice_get, Bor, refl, sym, ◌∙◌, ap, ap₂}
-use Rattle.std.specs.List.{list_all, list_any}
+use Rattle.std.proofs.Common.{◌≡◌, ℕ, suc, List, [], ◌∷◌, map, Option, Some, None, is_some, option_map, Bool, true, false, cond, find, nat_lt, nat_le, ◌||◌, ◌&&◌, slice_get, Bor, refl, sym, ◌∙◌, ap, ap₂, arith}
+use Rattle.std.specs.List.{list_all, list_any, filter_map}
+use Rattle.std.proofs.lemmas.Bool.{or_left, or_parts}
+use Rattle.std.proofs.lemmas.Bool.Decides.{nat_tests}
+use Rattle.gl_base.specs.Bytes.{same_bytes}
 use Rattle.std.specs.Option.{option_copied}
 use Rattle.gl_rules.specs.Identity.{NodeId, same, member}
 use Rattle.gl_vmaps.proofs.TablesLaws.{same_bytes-symm}
 use Rattle.gl_entry.specs.declared.entry.Entry.{Entry}
 use Rattle.gl_gov_rules.specs.declared.change.Changed.{Changed}
+use Rattle.gl_gov_rules.specs.declared.change.Recorded.{Recorded}
 use Rattle.gl_gov_rules.specs.declared.change.RecordedNode.{RecordedNode}
 use Rattle.gl_gov_rules.specs.History.{History}
 use Rattle.gl_gov_rules.specs.Changes.{history}
 use Rattle.gl_gov_rules.specs.Governed.{IsGoverned}
+use Rattle.gl_gov_rules.specs.declared.told.Mark.{Mark}
+use Rattle.gl_gov_rules.specs.Told.{mark_in}
+use Rattle.gl_gov_rules.specs.Index.{first_mark, marks_of, has_mark_behind}
 use Rattle.gl_gov_rules.specs.Nodes as nodes
+use Rattle.gl_gov_rules.proofs.Telling.{mark_first}
 use Rattle.gl_gov_rules.proofs.Counting.{find_passes}
 use Rattle.gl_gov_rules.proofs.NewNodes.{node_at}
 use Rattle.gl_ledger.specs.NodeKeys.{service_layers}
@@ -75,6 +83,37 @@ all_above ledger commit all =
     each_of (λ (y : NodeId). is_above_removal (mark ledger y) (removal ledger y) (last_signed ledger) commit) (above (last_signed ledger) commit (history (requests_of ledger)))
     (nodes.nodes (history (requests_of ledger)))
     (λ i n at. ap₂ (λ (m r : Option ℕ). is_above_removal m r (last_signed ledger) commit) (sym (mark_is ledger n.id)) (sym (removal_is ledger all i n at)))
+
+-- where no node is marked behind the last signature nothing else is asked
+
+low_mark : (mark seqno commit : ℕ) (removal : Option ℕ) → nat_lt seqno mark ≡ false → is_above_removal (Some mark) removal seqno commit ≡ true
+low_mark mark seqno commit None low = refl
+low_mark mark seqno commit (Some at) low = let le : nat_le mark seqno ≡ true = grind (arith, nat_tests) in or_left (nat_le mark seqno) (nat_le at commit) le
+
+low_first : (id : List ℕ) (seqno commit : ℕ) (removal : Option ℕ) (ms : List Mark) → list_any (λ (m : Mark). nat_lt seqno m.seqno) ms ≡ false →
+    is_above_removal (first_mark id ms) removal seqno commit ≡ true
+low_first id seqno commit removal [] none = refl
+low_first id seqno commit removal (m ∷ ms) none =
+    let both = or_parts (nat_lt seqno m.seqno) (list_any (λ (x : Mark). nat_lt seqno x.seqno) ms) none in
+    by (same_bytes id m.id) (low_mark m.seqno seqno commit removal both.0) (low_first id seqno commit removal ms both.1)
+  where
+    by : (b : Bool) → is_above_removal (Some m.seqno) removal seqno commit ≡ true → is_above_removal (first_mark id ms) removal seqno commit ≡ true →
+        is_above_removal (option_map (λ (x : Mark). x.seqno) (cond b (Some m) (find (λ (x : Mark). same_bytes id x.id) ms))) removal seqno commit ≡ true
+    by true here rest = here
+    by false here rest = rest
+
+low_each : (past : History) (seqno commit : ℕ) → has_mark_behind past seqno ≡ false → (n : RecordedNode) → above seqno commit past n ≡ true
+unfolding nodes.mark has_mark_behind marks_of
+low_each past seqno commit none n =
+    ap (λ (o : Option ℕ). is_above_removal o (retired_at past n) seqno commit) (mark_first n.id past.requests)
+    ∙ low_first n.id seqno commit (retired_at past n) (filter_map (λ (r : Recorded). mark_in r.seqno r.request) past.requests) none
+
+all_of : {A : Type 0} (p : A → Bool) → ((x : A) → p x ≡ true) → (xs : List A) → list_all p xs ≡ true
+all_of p each [] = refl
+all_of p each (x ∷ xs) = rw (each x) (all_of p each xs)
+
+pub above_unmarked : (past : History) (seqno commit : ℕ) → has_mark_behind past seqno ≡ false → list_all (above seqno commit past) (nodes.nodes past) ≡ true
+above_unmarked past seqno commit none = all_of (above seqno commit past) (low_each past seqno commit none) (nodes.nodes past)
 
 -- and so it is by the history kept
 pub above_kept : (ledger : List Entry) (s : LedgerState) (past : History) (signed commit : ℕ) → IsStateOf ledger s → past ≡ history s.gov → signed ≡ last_signed ledger →

@@ -19,8 +19,8 @@ fn is_above_removal(mark: Option<u64>, removal: Option<u64>, seqno: u64, commit:
     }
 }
 
-/// The same of all recorded nodes.
-pub(crate) fn are_above_removals(past: &History, seqno: u64, commit: u64) -> bool
+/// The same of all recorded nodes, each asked.
+fn are_all_above(past: &History, seqno: u64, commit: u64) -> bool
     ensures { result ≡ list_all (λ (n : a_node.RecordedNode). is_above_removal
         (mark past.now n.id) (option_map (λ (c : a_change.Changed). c.seqno)
         (retirement past.now n)) seqno commit) (nodes past.now) }
@@ -28,4 +28,13 @@ pub(crate) fn are_above_removals(past: &History, seqno: u64, commit: u64) -> boo
     past.nodes().iter().all(|node| {
         is_above_removal(past.mark(&node.id), past.removal(node), seqno, commit)
     })
+}
+
+/// The same of all recorded nodes. Where none was marked behind the seqno, none is asked.
+pub(crate) fn are_above_removals(past: &History, seqno: u64, commit: u64) -> bool
+    ensures { result ≡ list_all (λ (n : a_node.RecordedNode). is_above_removal
+        (mark past.now n.id) (option_map (λ (c : a_change.Changed). c.seqno)
+        (retirement past.now n)) seqno commit) (nodes past.now) }
+{
+    !past.has_mark_behind(seqno) || are_all_above(past, seqno, commit)
 }

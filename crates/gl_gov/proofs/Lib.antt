@@ -1,4 +1,5 @@
 mod Sizes
+mod Seqnos
 mod Putting
 mod SetParts
 pub mod Selected

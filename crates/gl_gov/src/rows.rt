@@ -53,7 +53,7 @@ fn row(alloc: Global, map: &[u8], key: &[u8], value: Vec<u8>) -> Result<Write, A
 
 // The constitution, the dealing, and shares
 
-pub fn rule_write(alloc: Global, number: u8, rule: &Rule) -> Result<Write, AllocError>
+pub(crate) fn rule_write(alloc: Global, number: u8, rule: &Rule) -> Result<Write, AllocError>
     ensures { IfOk result (λ write.
         write ≡ row constitution_map (number ∷ []) (rule_bytes rule.now)) }
 {
@@ -61,7 +61,7 @@ pub fn rule_write(alloc: Global, number: u8, rule: &Rule) -> Result<Write, Alloc
     row(alloc, b"public:ccf.gov.constitution", &[number], value)
 }
 
-pub fn dealing_write(alloc: Global, dealing: &Dealing) -> Result<Write, AllocError>
+pub(crate) fn dealing_write(alloc: Global, dealing: &Dealing) -> Result<Write, AllocError>
     requires { is_dealing dealing.now ≡ true }
     ensures { IfOk result (λ write. write ≡ dealing_write dealing.now) }
 {
@@ -73,7 +73,7 @@ pub fn dealing_write(alloc: Global, dealing: &Dealing) -> Result<Write, AllocErr
     )
 }
 
-pub fn share_write(alloc: Global, share: &Share) -> Result<Write, AllocError>
+pub(crate) fn share_write(alloc: Global, share: &Share) -> Result<Write, AllocError>
     ensures { IfOk result (λ write. write ≡ share_write share.now) }
 {
     let value = Vec::from_slice(alloc, &share.value)?;
@@ -110,7 +110,7 @@ pub fn service_write(alloc: Global, service: &ServiceRow) -> Result<Write, Alloc
 // Members
 
 #[tactic(auto, unfolding(gl_gov_rules::specs::Rows::member_row))]
-pub fn member_row(past: &History, member: &NewMember) -> MemberRow
+pub(crate) fn member_row(past: &History, member: &NewMember) -> MemberRow
     ensures { result ≡ member_row past.now member.now }
 {
     MemberRow {
@@ -135,7 +135,7 @@ pub fn member_rows(alloc: Global, past: &History) -> Result<Vec<MemberRow>, Allo
 }
 
 #[tactic(auto, using(crate::proofs::Sizes::sizes))]
-pub fn member_write(alloc: Global, member: &MemberRow) -> Result<Write, AllocError>
+pub(crate) fn member_write(alloc: Global, member: &MemberRow) -> Result<Write, AllocError>
     ensures { IfOk result (λ write. write ≡ member_write member.now) }
 {
     let mut value = Vec::new(alloc);
@@ -148,12 +148,13 @@ pub fn member_write(alloc: Global, member: &MemberRow) -> Result<Write, AllocErr
 // Nodes
 
 /// The seqno of the entry that retired a node, or 0.
+#[tactic(auto, using(crate::proofs::Seqnos::no_seqno, crate::proofs::Seqnos::some_seqno))]
 fn removal(past: &History, node: &RecordedNode) -> u64
     ensures { result ≡ seqno_of (retirement past.now node.now) }
 {
-    match past.retirement(node) {
+    match past.removal(node) {
         None => 0,
-        Some(changed) => changed.seqno,
+        Some(seqno) => seqno,
     }
 }
 
@@ -293,7 +294,7 @@ fn put_votes(out: &mut Vec<u8>, ballots: &[Vote]) -> Result<(), AllocError>
 }
 
 #[tactic(auto, using(crate::proofs::Sizes::sizes))]
-pub fn proposal_write(
+pub(crate) fn proposal_write(
     alloc: Global,
     id: &[u8; 32],
     proposal: &ProposalRow,

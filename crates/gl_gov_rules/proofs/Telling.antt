@@ -22,11 +22,14 @@ use Rattle.gl_gov_rules.specs.declared.told.Mark.{Mark}
 use Rattle.gl_gov_rules.specs.declared.told.GivenShare.{GivenShare}
 use Rattle.gl_gov_rules.specs.declared.told.Signed.{Signed}
 use Rattle.gl_gov_rules.specs.Members.{removes_member, is_ack_by, is_by, leaf_behind, leaf_behind_last}
-use Rattle.gl_gov_rules.specs.Nodes.{marks}
+use Rattle.gl_gov_rules.specs.declared.change.RecordedNode.{RecordedNode}
+use Rattle.gl_gov_rules.specs.declared.told.Trust.{Trust}
+use Rattle.gl_gov_rules.specs.declared.told.Retirement.{Retirement}
+use Rattle.gl_gov_rules.specs.Nodes.{marks, trusts, retires}
 use Rattle.gl_gov_rules.specs.Service.{share_in, share_behind}
 use Rattle.gl_gov_rules.specs.Proposals.{is_ballot, is_answer_on, same_answer, has_answered, ballot_on, ballot_in, ballot_in_act, ballots_on, is_vote}
-use Rattle.gl_gov_rules.specs.Told.{removed_in, mark_in, given_in, given_share, signed_by, signed_in}
-use Rattle.gl_gov_rules.specs.Index.{AreLeavesSmall, last_leaf, next_or_zero, first_mark, given_behind}
+use Rattle.gl_gov_rules.specs.Told.{removed_in, trust_in, retirement_in, mark_in, given_in, given_share, signed_by, signed_in}
+use Rattle.gl_gov_rules.specs.Index.{AreLeavesSmall, last_leaf, next_or_zero, first_mark, is_node_or_all, is_retirement_of, first_retirement, given_behind}
 
 -- ---- any of what is told
 
@@ -141,6 +144,60 @@ pub mark_first : (id : List ℕ) (rs : List Recorded) →
 mark_first id rs =
     find_told (λ (r : Recorded). marks id r.request) (λ (r : Recorded). mark_in r.seqno r.request) (λ (m : Mark). same_bytes id m.id) (λ (r : Recorded). r.seqno) (λ (m : Mark). m.seqno)
     (λ r. mark_told id r r.request) rs
+
+trust_by : (id : List ℕ) (seqno : ℕ) (c : Change) → trusts id c ≡ list_any (λ (t : Trust). same_bytes id t.id) (cons_option (trust_in seqno c) [])
+trust_by id seqno (changes.Founded state key) = refl
+trust_by id seqno (changes.Recovered key) = refl
+trust_by id seqno (changes.Settled on state) = refl
+trust_by id seqno changes.Completed = refl
+trust_by id seqno (changes.Applied a) = by a
+  where
+    by : (a : Action) → trusts id (changes.Applied a) ≡ list_any (λ (t : Trust). same_bytes id t.id) (cons_option (trust_in seqno (changes.Applied a)) [])
+    by (actions.SetMember m) = refl
+    by (actions.RemoveMember m) = refl
+    by (actions.SetRecoveryThreshold d) = refl
+    by (actions.TransitionNodeToTrusted other) = alone (same_bytes id other)
+    by (actions.RemoveNode other) = refl
+    by actions.TransitionServiceToOpen = refl
+    by (actions.SetConstitution rules) = refl
+
+pub trust_any : (id : List ℕ) (cs : List Changed) →
+    list_any (λ (c : Changed). trusts id c.change) cs ≡ list_any (λ (t : Trust). same_bytes id t.id) (filter_map (λ (c : Changed). trust_in c.seqno c.change) cs)
+trust_any id cs =
+    any_told (λ (c : Changed). trusts id c.change) (λ (c : Changed). trust_in c.seqno c.change) (λ (t : Trust). same_bytes id t.id) (λ c. trust_by id c.seqno c.change) cs
+
+change_if : (c : Changed) (r : Retirement) (b : Bool) → c.seqno ≡ r.seqno → option_map (λ (x : Changed). x.seqno) (cond b (Some c) None) ≡ option_map (λ (x : Retirement). x.seqno) (cond b (Some r) None)
+change_if c r true same = ap Some same
+change_if c r false same = refl
+
+change_never : (c : Changed) (b : Bool) → option_map (λ (x : Changed). x.seqno) (cond (b && false) (Some c) None) ≡ None
+change_never c true = refl
+change_never c false = refl
+
+retirement_told : (n : RecordedNode) (c : Changed) (change : Change) →
+    option_map (λ (x : Changed). x.seqno) (cond (nat_lt n.seqno c.seqno && retires n.id change) (Some c) None) ≡ first_retirement n (cons_option (retirement_in c.seqno change) [])
+retirement_told n c (changes.Founded state key) = change_never c (nat_lt n.seqno c.seqno)
+retirement_told n c (changes.Recovered key) = change_if c (record { seqno = c.seqno; id = None }) (nat_lt n.seqno c.seqno && true) refl
+retirement_told n c (changes.Settled on state) = change_never c (nat_lt n.seqno c.seqno)
+retirement_told n c changes.Completed = change_never c (nat_lt n.seqno c.seqno)
+retirement_told n c (changes.Applied a) = by a
+  where
+    by : (a : Action) →
+        option_map (λ (x : Changed). x.seqno) (cond (nat_lt n.seqno c.seqno && retires n.id (changes.Applied a)) (Some c) None) ≡ first_retirement n (cons_option (retirement_in c.seqno (changes.Applied a)) [])
+    by (actions.SetMember m) = change_never c (nat_lt n.seqno c.seqno)
+    by (actions.RemoveMember m) = change_never c (nat_lt n.seqno c.seqno)
+    by (actions.SetRecoveryThreshold d) = change_never c (nat_lt n.seqno c.seqno)
+    by (actions.TransitionNodeToTrusted other) = change_never c (nat_lt n.seqno c.seqno)
+    by (actions.RemoveNode other) = change_if c (record { seqno = c.seqno; id = Some other }) (nat_lt n.seqno c.seqno && same_bytes n.id other) refl
+    by actions.TransitionServiceToOpen = change_never c (nat_lt n.seqno c.seqno)
+    by (actions.SetConstitution rules) = change_never c (nat_lt n.seqno c.seqno)
+
+pub retirement_first : (n : RecordedNode) (cs : List Changed) →
+    option_map (λ (c : Changed). c.seqno) (find (λ (c : Changed). nat_lt n.seqno c.seqno && retires n.id c.change) cs)
+    ≡ first_retirement n (filter_map (λ (c : Changed). retirement_in c.seqno c.change) cs)
+retirement_first n cs =
+    find_told (λ (c : Changed). nat_lt n.seqno c.seqno && retires n.id c.change) (λ (c : Changed). retirement_in c.seqno c.change) (is_retirement_of n) (λ (c : Changed). c.seqno)
+    (λ (r : Retirement). r.seqno) (λ c. retirement_told n c c.change) cs
 
 -- ---- ballots
 

@@ -1,7 +1,7 @@
 -- What stands beside the requests and the changes of a history, so that no question about members,
 -- nodes, proposals or shares goes through all requests.
-use Rattle.std.specs.Prelude.{◌≡◌, ℕ, ◌+◌, ◌-◌, ◌≤◌, ◌<◌, List, Option, None, Some, length, find, map, filter_map, option_map, slice_get, nat_lt, nat_eq, Bool, ◌&&◌, if◌then◌else◌, vec_len, vec_capacity}
-use Rattle.std.specs.List.{AllByRecursion, position_or_len, flat_map}
+use Rattle.std.specs.Prelude.{◌≡◌, ℕ, ◌+◌, ◌-◌, ◌≤◌, ◌<◌, List, Option, None, Some, true, length, find, map, filter_map, option_map, slice_get, nat_lt, nat_eq, Bool, ◌&&◌, ◌||◌, if◌then◌else◌, vec_len, vec_capacity}
+use Rattle.std.specs.List.{AllByRecursion, position_or_len, flat_map, list_any}
 use Rattle.std.specs.declared.vec.Vec.{Vec}
 use Rattle.std.specs.declared.alloc.Global.{Global}
 use Rattle.gl_base.specs.Bytes.{same_bytes}
@@ -13,10 +13,13 @@ use Rattle.gl_gov_rules.specs.declared.change.Recorded.{Recorded}
 use Rattle.gl_gov_rules.specs.declared.change.Changed.{Changed}
 use Rattle.gl_gov_rules.specs.declared.change.Ballot.{Ballot}
 use Rattle.gl_gov_rules.specs.declared.change.Proposal.{Proposal}
+use Rattle.gl_gov_rules.specs.declared.change.RecordedNode.{RecordedNode}
 use Rattle.gl_gov_rules.specs.declared.change.Settling.{Settling}
 use Rattle.gl_gov_rules.specs.declared.told.Signed.{Signed}
 use Rattle.gl_gov_rules.specs.declared.told.Mark.{Mark}
 use Rattle.gl_gov_rules.specs.declared.told.GivenShare.{GivenShare}
+use Rattle.gl_gov_rules.specs.declared.told.Trust.{Trust}
+use Rattle.gl_gov_rules.specs.declared.told.Retirement.{Retirement}
 use Rattle.gl_gov_rules.specs.History.{History}
 use Rattle.gl_shares.specs.declared.share.Share.{Share}
 use Rattle.gl_gov_rules.specs.declared.ballots.Ballots.{Ballots}
@@ -25,9 +28,9 @@ use Rattle.gl_gov_rules.specs.declared.index.ByRequest.{ByRequest}
 use Rattle.gl_gov_rules.specs.declared.index.Added.{Added}
 use Rattle.gl_gov_rules.specs.Lists.{lists_of, list_at, HasRoomAt}
 use Rattle.gl_gov_rules.specs.Members.{member_named, leaf_behind}
-use Rattle.gl_gov_rules.specs.Nodes.{nodes_recorded}
+use Rattle.gl_gov_rules.specs.Nodes.{nodes_recorded, nodes}
 use Rattle.gl_gov_rules.specs.Proposals.{proposal_in, ballot_on, settling_in}
-use Rattle.gl_gov_rules.specs.Told.{removed_in, mark_in, given_in, signed_by}
+use Rattle.gl_gov_rules.specs.Told.{removed_in, trust_in, retirement_in, mark_in, given_in, signed_by}
 
 -- There is room for what a request tells of its signer.
 abbrev pub HasRoomForSigner : List (Vec Signed Global) → GovernanceRequest → Type 0
@@ -59,10 +62,14 @@ HasRoomForAnswer b other = Unit {0}
 abbrev pub AreLeavesSmall : List Recorded → Type 0
 AreLeavesSmall rs = AllByRecursion (λ (r : Recorded). leaf_behind r.request ≤ 1024) rs
 
--- The members whom changes name, and the numbers of those whom they remove.
+-- The members whom changes name, the numbers of those whom they remove, the nodes that they trust,
+-- and what takes nodes out of service.
 pub record IsOfChanges (cs : List Changed) (x : ByChange) : Type 0 where
   pub members : x.members.items ≡ filter_map (λ (c : Changed). member_named c.change) cs
   pub removed : x.removed.items ≡ filter_map (λ (c : Changed). removed_in c.change) cs
+  pub trusts : x.trusts.items ≡ filter_map (λ (c : Changed). trust_in c.seqno c.change) cs
+  pub retirements : x.retirements.items
+      ≡ filter_map (λ (c : Changed). retirement_in c.seqno c.change) cs
 
 -- What requests tell: the nodes, the marks, the shares and the proposals in order, what is told of
 -- each signer, and the ballots on each proposal.
@@ -87,6 +94,8 @@ pub record IsOfRequest (seqno : ℕ) (g : GovernanceRequest) (x : Added) : Type 
 pub record HasRoomForNamed (x more : ByChange) : Type 0 where
   pub members : vec_len x.members + vec_len more.members ≤ vec_capacity x.members
   pub removed : vec_len x.removed + vec_len more.removed ≤ vec_capacity x.removed
+  pub trusts : vec_len x.trusts + vec_len more.trusts ≤ vec_capacity x.trusts
+  pub retirements : vec_len x.retirements + vec_len more.retirements ≤ vec_capacity x.retirements
 
 pub record HasRoomForAdded (x : ByRequest) (added : Added) (g : GovernanceRequest) : Type 0 where
   pub nodes : vec_len x.nodes + vec_len added.nodes ≤ vec_capacity x.nodes
@@ -107,10 +116,16 @@ pub record IsIndexed (rs : List Recorded) (cs : List Changed) (x : ByChange) (y 
   pub requests : IsOfRequests rs y
   pub settlings : ss ≡ map (settling_in cs) (made rs)
 
--- The numbers of the members who were removed, the marks, the shares that were given at any time,
--- and what is told of a signer.
+-- The numbers of the members who were removed, the trusts of nodes, what took nodes out of
+-- service, the marks, the shares that were given at any time, and what is told of a signer.
 unfoldable pub removed : History → List ℕ
 removed h = filter_map (λ (c : Changed). removed_in c.change) h.changes
+
+unfoldable pub trusts_of : History → List Trust
+trusts_of h = filter_map (λ (c : Changed). trust_in c.seqno c.change) h.changes
+
+unfoldable pub retirements_of : History → List Retirement
+retirements_of h = filter_map (λ (c : Changed). retirement_in c.seqno c.change) h.changes
 
 unfoldable pub marks_of : History → List Mark
 marks_of h = filter_map (λ (r : Recorded). mark_in r.seqno r.request) h.requests
@@ -120,6 +135,17 @@ given h = filter_map (λ (r : Recorded). given_in r.seqno r.request) h.requests
 
 unfoldable pub signed : ℕ → History → List Signed
 signed n h = filter_map (λ (r : Recorded). signed_by n r.seqno r.request) h.requests
+
+-- Behind a seqno a node was marked; a node was recorded, trusted, taken out of service or marked.
+unfoldable pub has_mark_behind : History → ℕ → Bool
+has_mark_behind h seqno = list_any (λ (m : Mark). nat_lt seqno m.seqno) (marks_of h)
+
+unfoldable pub has_node_news : History → ℕ → Bool
+has_node_news h seqno =
+    list_any (λ (n : RecordedNode). nat_lt seqno n.seqno) (nodes h)
+    || list_any (λ (t : Trust). nat_lt seqno t.seqno) (trusts_of h)
+    || list_any (λ (r : Retirement). nat_lt seqno r.seqno) (retirements_of h)
+    || has_mark_behind h seqno
 
 -- 1 plus the leaf of the last of these, 0 without one.
 abbrev pub next_or_zero : Option Signed → ℕ
@@ -133,6 +159,19 @@ last_leaf ss = next_or_zero (slice_get ss (length ss - 1))
 abbrev pub first_mark : List ℕ → List Mark → Option ℕ
 first_mark id ms =
     option_map (λ (m : Mark). m.seqno) (find (λ (m : Mark). same_bytes id m.id) ms)
+
+-- It takes this node out of service, behind the node's own entry.
+abbrev pub is_node_or_all : List ℕ → Option (List ℕ) → Bool
+is_node_or_all id None = true
+is_node_or_all id (Some other) = same_bytes id other
+
+abbrev pub is_retirement_of : RecordedNode → Retirement → Bool
+is_retirement_of n r = nat_lt n.seqno r.seqno && is_node_or_all n.id r.id
+
+-- The seqno of the first that does.
+abbrev pub first_retirement : RecordedNode → List Retirement → Option ℕ
+first_retirement n rs =
+    option_map (λ (r : Retirement). r.seqno) (find (is_retirement_of n) rs)
 
 -- A share, where it was given behind a seqno.
 abbrev pub given_behind : ℕ → GivenShare → Option Share

@@ -1,5 +1,6 @@
 -- What a request tells of a node that it marks, of the share that it gives and of the member who
--- signed it; and the removal that a change applies. Each is kept beside a history.
+-- signed it; and what a change tells of the member or the nodes that it removes, and of the node
+-- that it trusts. Each is kept beside a history.
 use Rattle.std.specs.Prelude.{ℕ, suc, Option, None, Some, option_map, nat_eq, if◌then◌else◌}
 use Rattle.gl_shares.specs.declared.share.Share.{Share}
 use Rattle.gl_requests.specs.declared.action.Action.TheVariants as actions
@@ -9,6 +10,8 @@ use Rattle.gl_requests.specs.declared.request.GovernanceRequest.TheVariants as r
 use Rattle.gl_gov_rules.specs.declared.change.Change.{Change}
 use Rattle.gl_gov_rules.specs.declared.change.Change.TheVariants as changes
 use Rattle.gl_gov_rules.specs.declared.told.Mark.{Mark}
+use Rattle.gl_gov_rules.specs.declared.told.Trust.{Trust}
+use Rattle.gl_gov_rules.specs.declared.told.Retirement.{Retirement}
 use Rattle.gl_gov_rules.specs.declared.told.GivenShare.{GivenShare}
 use Rattle.gl_gov_rules.specs.declared.told.Signed.{Signed}
 use Rattle.gl_gov_rules.specs.Members.{is_ack}
@@ -19,6 +22,19 @@ use Rattle.gl_gov_rules.specs.Signatures.{leaf_of}
 abbrev pub removed_in : Change → Option ℕ
 removed_in (changes.Applied (actions.RemoveMember number)) = Some number
 removed_in other = None
+
+-- The trust of a node that a change applies.
+abbrev pub trust_in : ℕ → Change → Option Trust
+trust_in seqno (changes.Applied (actions.TransitionNodeToTrusted id)) =
+    Some (record { id = id; seqno = seqno })
+trust_in seqno other = None
+
+-- What takes a node out of service, or by a recovery all nodes.
+abbrev pub retirement_in : ℕ → Change → Option Retirement
+retirement_in seqno (changes.Recovered key) = Some (record { seqno = seqno; id = None })
+retirement_in seqno (changes.Applied (actions.RemoveNode id)) =
+    Some (record { seqno = seqno; id = Some id })
+retirement_in seqno other = None
 
 -- The mark of a node.
 abbrev pub mark_in : ℕ → GovernanceRequest → Option Mark

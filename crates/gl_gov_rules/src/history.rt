@@ -8,7 +8,7 @@ use crate::cut::changes_up_to;
 use crate::index::{Added, ByChange, ByRequest, append_reserved};
 use crate::lists::{cut_list, list_at};
 use crate::settlings::{cut_settlings, push_settling, settle};
-use crate::told::{GivenShare, Mark, Signed};
+use crate::told::{GivenShare, Mark, Retirement, Signed, Trust};
 use gl_requests::{Digest, NewMember};
 use std::alloc::{AllocError, Global};
 use std::marker::Model;
@@ -46,7 +46,7 @@ impl History {
     ghost use Rattle.gl_gov_rules.specs.Members.{members};
     ghost use Rattle.gl_gov_rules.specs.Nodes.{nodes};
     ghost use Rattle.gl_gov_rules.specs.Proposals.{proposals, ballots_on, settlings};
-    ghost use Rattle.gl_gov_rules.specs.Index.{removed, marks_of, given, signed, AreLeavesSmall};
+    ghost use Rattle.gl_gov_rules.specs.Index.{removed, trusts_of, retirements_of, marks_of, given, signed, AreLeavesSmall};
     ghost use Rattle.gl_gov_rules.specs.Changes.{history};
     ghost use Rattle.gl_gov_rules.specs.Governed.{up_to};
     ghost use Rattle.gl_gov_rules.specs.Rising.{IsRising};
@@ -171,6 +171,22 @@ impl History {
         ensures { result.now ≡ removed self.now }
     {
         &self.by_change.removed
+    }
+
+    /// The trusts of nodes that were applied, in order.
+    #[tactic(auto, unfolding(crate::specs::Index::trusts_of))]
+    pub(crate) fn trusts(&self) -> &[Trust]
+        ensures { result.now ≡ trusts_of self.now }
+    {
+        &self.by_change.trusts
+    }
+
+    /// What took nodes out of service, in order.
+    #[tactic(auto, unfolding(crate::specs::Index::retirements_of))]
+    pub(crate) fn retirements(&self) -> &[Retirement]
+        ensures { result.now ≡ retirements_of self.now }
+    {
+        &self.by_change.retirements
     }
 
     /// The marks of nodes, in order.

@@ -15,9 +15,12 @@ use crate::change::{Changed, Proposal, Recorded, RecordedNode};
 use crate::copy::copy_all;
 use crate::lists::{copy_lists, cut_list, cut_lists};
 use crate::members::{named_count, push_member_named, push_removed, removed_count};
-use crate::nodes::push_nodes_recorded;
+use crate::nodes::{push_nodes_recorded, retirement_count, trust_count};
 use crate::proposals::proposal_in;
-use crate::told::{GivenShare, Mark, Signed, given_in, mark_in, push_signer, reserve_signer};
+use crate::told::{
+    GivenShare, Mark, Retirement, Signed, Trust, given_in, mark_in, push_signer, reserve_signer,
+    retirement_in, trust_in,
+};
 use gl_requests::{GovernanceRequest, NewMember};
 use std::alloc::{AllocError, Global};
 
@@ -28,6 +31,10 @@ pub(crate) struct ByChange {
     pub(crate) members: Vec<NewMember>,
     /// The numbers of the members whom they remove.
     pub(crate) removed: Vec<u8>,
+    /// The trusts of nodes that they apply.
+    pub(crate) trusts: Vec<Trust>,
+    /// What takes nodes out of service.
+    pub(crate) retirements: Vec<Retirement>,
 }
 
 /// What requests tell.
@@ -60,6 +67,19 @@ pub(crate) fn append_reserved<T: Drop>(list: &mut Vec<T>, more: Vec<T>)
     }
 }
 
+/// Adds an item, where there is one, to a list.
+fn add_some<T: Drop>(list: &mut Vec<T>, item: Option<T>) -> Result<(), AllocError>
+    ensures { OnOk result (list.new.items ≡ list.old.items ++ option_to_list item) }
+{
+    match item {
+        None => Ok(()),
+        Some(item) => {
+            list.push(item)?;
+            Ok(())
+        }
+    }
+}
+
 /// Adds an item, where there is one, to a list that has room for it.
 fn push_some<T: Drop>(list: &mut Vec<T>, item: Option<T>)
     requires { vec_len list.old + 1 ≤ vec_capacity list.old }
@@ -78,6 +98,8 @@ impl ByChange {
         ByChange {
             members: Vec::new(alloc),
             removed: Vec::new(alloc),
+            trusts: Vec::new(alloc),
+            retirements: Vec::new(alloc),
         }
     }
 
@@ -88,6 +110,9 @@ impl ByChange {
     {
         push_member_named(&mut self.members, &changed.change)?;
         push_removed(&mut self.removed, &changed.change)?;
+        add_some(&mut self.trusts, trust_in(changed.seqno, &changed.change))?;
+        let retirement = retirement_in(changed.seqno, &changed.change);
+        add_some(&mut self.retirements, retirement)?;
         Ok(())
     }
 
@@ -110,6 +135,8 @@ impl ByChange {
         Ok(ByChange {
             members: Vec::from_slice(alloc, &self.members)?,
             removed: Vec::from_slice(alloc, &self.removed)?,
+            trusts: Vec::from_slice(alloc, &self.trusts)?,
+            retirements: Vec::from_slice(alloc, &self.retirements)?,
         })
     }
 
@@ -119,7 +146,9 @@ impl ByChange {
         ensures room { OnOk result (HasRoomForNamed self.new more.now) }
     {
         self.members.reserve(more.members.len())?;
-        self.removed.reserve(more.removed.len())
+        self.removed.reserve(more.removed.len())?;
+        self.trusts.reserve(more.trusts.len())?;
+        self.retirements.reserve(more.retirements.len())
     }
 
     /// Adds what more changes tell.
@@ -130,6 +159,8 @@ impl ByChange {
     {
         append_reserved(&mut self.members, more.members);
         append_reserved(&mut self.removed, more.removed);
+        append_reserved(&mut self.trusts, more.trusts);
+        append_reserved(&mut self.retirements, more.retirements);
     }
 
     /// Cuts it back to what the first changes tell, which are left.
@@ -139,6 +170,8 @@ impl ByChange {
     {
         self.members.truncate(named_count(left));
         self.removed.truncate(removed_count(left));
+        self.trusts.truncate(trust_count(left));
+        self.retirements.truncate(retirement_count(left));
     }
 }
 

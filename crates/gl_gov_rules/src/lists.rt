@@ -1,7 +1,8 @@
 //! Lists of what stands at rising seqnos, and such lists by number: a number without one has an
 //! empty list.
 
-ghost use Rattle.std.specs.Prelude.{◌≡◌, ℕ, ◌<◌, ◌≤◌, ◌∷◌, ◌++◌, [], nat_le, slice_set, filter, vec_len, IfOk, OnOk};
+ghost use Rattle.std.specs.Prelude.{◌≡◌, ℕ, ◌<◌, ◌≤◌, ◌∷◌, ◌++◌, [], nat_le, nat_lt, slice_set, filter, vec_len, IfOk, OnOk};
+ghost use Rattle.std.specs.List.{list_any};
 ghost use Rattle.std.specs.List.Sorted.{IsPartitionedBy};
 ghost use Rattle.gl_gov_rules.specs.Lists.{lists_of, list_at, HasRoomAt};
 
@@ -27,6 +28,13 @@ pub(crate) fn cut_list<T: AtSeqno>(list: &mut Vec<T>, to: u64)
         { item.seqno() <= to },
     );
     list.truncate(count);
+}
+
+/// Whether one of these stands behind a seqno.
+pub(crate) fn is_any_behind<T: AtSeqno>(list: &[T], seqno: u64) -> bool
+    ensures { result ≡ list_any (λ x. nat_lt seqno (T.seqno_at x)) list.now }
+{
+    list.iter().any(|item| seqno < item.seqno())
 }
 
 /// Cuts each list back to what stands up to a seqno.

@@ -1,18 +1,21 @@
 //! Which nodes were recorded, and the status of each.
 
-ghost use Rattle.std.specs.Prelude.{◌≡◌, ◌++◌, ◌∷◌, [], true, false, map, option_map, IfOk, OnOk};
+ghost use Rattle.std.specs.Prelude.{◌≡◌, ◌++◌, ◌∷◌, [], true, false, map, option_map, count_by, is_some, IfOk, OnOk};
 ghost use Rattle.std.specs.Option.{option_copied};
 ghost use Rattle.std.specs.List.{list_any};
 ghost use Rattle.gl_base.specs.Bytes.{same_bytes};
 ghost use Rattle.gl_gov_rules.specs.declared.told.Mark as a_mark;
 ghost use Rattle.gl_gov_rules.specs.declared.change.Changed as a_change;
-ghost use Rattle.gl_gov_rules.specs.Nodes.{recorded_node, nodes_recorded, trusts, retires};
-ghost use Rattle.gl_gov_rules.specs.Index.{first_mark};
+ghost use Rattle.gl_gov_rules.specs.declared.told.Trust as a_trust;
+ghost use Rattle.gl_gov_rules.specs.Nodes.{recorded_node, nodes_recorded, retires};
+ghost use Rattle.gl_gov_rules.specs.Told.{trust_in, retirement_in};
+ghost use Rattle.gl_gov_rules.specs.Index.{first_mark, is_node_or_all, is_retirement_of, first_retirement};
 
 use crate::change::{Change, Changed, RecordedNode};
 use crate::history::History;
+use crate::lists::is_any_behind;
 use crate::refusal::NodeStatus;
-use crate::told::Mark;
+use crate::told::{Mark, Retirement, Trust, retirement_in, trust_in};
 use gl_requests::{Action, GovernanceRequest, NewNode, NodeId};
 use std::alloc::{AllocError, Global};
 
@@ -87,16 +90,6 @@ pub(crate) fn push_nodes_recorded(
     }
 }
 
-/// Whether the change is the applied trust of this node.
-fn trusts(id: &NodeId, change: &Change) -> bool
-    ensures { result ≡ trusts id.now change.now }
-{
-    match change {
-        Change::Applied(Action::TransitionNodeToTrusted(other)) => id == other,
-        _ => false,
-    }
-}
-
 /// Whether the change takes this node out of service.
 fn retires(id: &NodeId, change: &Change) -> bool
     ensures { result ≡ retires id.now change.now }
@@ -106,6 +99,65 @@ fn retires(id: &NodeId, change: &Change) -> bool
         Change::Applied(Action::RemoveNode(other)) => id == other,
         _ => false,
     }
+}
+
+/// Whether this is the node, or all nodes.
+fn is_node_or_all(id: &NodeId, other: &Option<NodeId>) -> bool
+    ensures { result ≡ is_node_or_all id.now other.now }
+{
+    match other {
+        None => true,
+        Some(other) => id == other,
+    }
+}
+
+/// Whether it takes this node out of service, behind the node's own entry.
+fn is_retirement_of(node: &RecordedNode, retirement: &Retirement) -> bool
+    ensures { result ≡ is_retirement_of node.now retirement.now }
+{
+    node.seqno < retirement.seqno && is_node_or_all(&node.id, &retirement.id)
+}
+
+/// The seqno of the first of these that takes the node out of service.
+fn first_retirement(node: &RecordedNode, retirements: &[Retirement]) -> Option<u64>
+    ensures { result ≡ first_retirement node.now retirements.now }
+{
+    match retirements
+        .iter()
+        .find(|retirement| is_retirement_of(node, retirement))
+    {
+        None => None,
+        Some(retirement) => Some(retirement.seqno),
+    }
+}
+
+/// Whether one of these is the node's.
+fn is_among(id: &NodeId, trusts: &[Trust]) -> bool
+    ensures { result ≡ list_any (λ (t : a_trust.Trust). same_bytes id.now t.id) trusts.now }
+{
+    trusts.iter().any(|trust| *id == trust.id)
+}
+
+/// How many nodes the changes trust.
+pub(crate) fn trust_count(changes: &[Changed]) -> usize
+    ensures { result
+        ≡ count_by (λ (c : a_change.Changed). is_some (trust_in c.seqno c.change)) changes.now }
+{
+    changes
+        .iter()
+        .filter(|changed| trust_in(changed.seqno, &changed.change).is_some())
+        .count()
+}
+
+/// How many of the changes take nodes out of service.
+pub(crate) fn retirement_count(changes: &[Changed]) -> usize
+    ensures { result
+        ≡ count_by (λ (c : a_change.Changed). is_some (retirement_in c.seqno c.change)) changes.now }
+{
+    changes
+        .iter()
+        .filter(|changed| retirement_in(changed.seqno, &changed.change).is_some())
+        .count()
 }
 
 /// Whether one of these marks this node.
@@ -126,6 +178,7 @@ fn first_mark(marks: &[Mark], id: &NodeId) -> Option<u64>
 }
 
 impl History {
+    ghost use Rattle.gl_gov_rules.specs.Index.{has_mark_behind, has_node_news};
     ghost use Rattle.gl_gov_rules.specs.Nodes.{node, retirement, mark, is_marked, is_trust_applied, was_trusted, node_status, trusted_count, pending_count};
 
     /// The node with this identifier, if it is recorded.
@@ -150,10 +203,7 @@ impl History {
         ensures { result
             ≡ option_map (λ (c : a_change.Changed). c.seqno) (retirement self.now node.now) }
     {
-        match self.retirement(node) {
-            None => None,
-            Some(changed) => Some(changed.seqno),
-        }
+        first_retirement(node, self.retirements())
     }
 
     /// The seqno of the entry that marked a node, if one did.
@@ -170,14 +220,31 @@ impl History {
         is_any_of(self.marks(), id)
     }
 
+    /// Whether a node was marked behind a seqno. One look at each mark.
+    #[tactic(auto, unfolding(crate::specs::Index::has_mark_behind))]
+    pub fn has_mark_behind(&self, seqno: u64) -> bool
+        ensures { result ≡ has_mark_behind self.now seqno }
+    {
+        is_any_behind(self.marks(), seqno)
+    }
+
+    /// Whether a node was recorded, trusted, taken out of service or marked behind a seqno. One look
+    /// at each of these.
+    #[tactic(auto, unfolding(crate::specs::Index::has_node_news))]
+    pub fn has_node_news(&self, seqno: u64) -> bool
+        ensures { result ≡ has_node_news self.now seqno }
+    {
+        is_any_behind(self.nodes(), seqno)
+            || is_any_behind(self.trusts(), seqno)
+            || is_any_behind(self.retirements(), seqno)
+            || self.has_mark_behind(seqno)
+    }
+
     /// Whether the node's trust was applied.
-    #[tactic(auto, unfolding(crate::specs::Nodes::is_trust_applied))]
     fn is_trust_applied(&self, id: &NodeId) -> bool
         ensures { result ≡ is_trust_applied self.now id.now }
     {
-        self.changes()
-            .iter()
-            .any(|changed| trusts(id, &changed.change))
+        is_among(id, self.trusts())
     }
 
     /// Whether a founding named the node, or its trust was applied.
@@ -195,7 +262,7 @@ impl History {
     {
         if self.is_marked(&node.id) {
             NodeStatus::Marked
-        } else if self.retirement(node).is_some() {
+        } else if self.removal(node).is_some() {
             NodeStatus::Retired
         } else if self.was_trusted(node) {
             NodeStatus::Trusted

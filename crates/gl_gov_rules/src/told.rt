@@ -5,7 +5,7 @@ ghost use Rattle.std.specs.Option.{option_to_list};
 ghost use Rattle.gl_gov_rules.specs.Service.{share_in};
 ghost use Rattle.gl_gov_rules.specs.Members.{leaf_behind};
 ghost use Rattle.gl_gov_rules.specs.Lists.{lists_of, list_at, HasRoomAt};
-ghost use Rattle.gl_gov_rules.specs.Told.{removed_in, mark_in, given_in, signed_in, signed_by};
+ghost use Rattle.gl_gov_rules.specs.Told.{removed_in, trust_in, retirement_in, mark_in, given_in, signed_in, signed_by};
 ghost use Rattle.gl_gov_rules.specs.Index.{HasRoomForSigner};
 
 use crate::change::{Ballot, Change, Proposal, Recorded, RecordedNode};
@@ -20,6 +20,21 @@ use std::alloc::{AllocError, Global};
 pub(crate) struct Mark {
     pub(crate) id: NodeId,
     pub(crate) seqno: u64,
+}
+
+/// A node whose trust was applied.
+#[derive(Clone, Copy, Debug)]
+pub(crate) struct Trust {
+    pub(crate) id: NodeId,
+    pub(crate) seqno: u64,
+}
+
+/// What took a node out of service, or by a recovery all nodes.
+#[derive(Clone, Copy, Debug)]
+pub(crate) struct Retirement {
+    pub(crate) seqno: u64,
+    /// The node, none where it is all of them.
+    pub(crate) id: Option<NodeId>,
 }
 
 /// A share that a member gave.
@@ -70,6 +85,22 @@ impl AtSeqno for Mark {
     }
 }
 
+impl AtSeqno for Trust {
+    ghost seqno_at = { λ t. t.seqno };
+
+    fn seqno(&self) -> u64 {
+        self.seqno
+    }
+}
+
+impl AtSeqno for Retirement {
+    ghost seqno_at = { λ r. r.seqno };
+
+    fn seqno(&self) -> u64 {
+        self.seqno
+    }
+}
+
 impl AtSeqno for GivenShare {
     ghost seqno_at = { λ s. s.seqno };
 
@@ -100,6 +131,30 @@ pub(crate) fn removed_in(change: &Change) -> Option<u8>
 {
     match change {
         Change::Applied(Action::RemoveMember(number)) => Some(*number),
+        _ => None,
+    }
+}
+
+/// The trust of a node that the change at a seqno applies.
+pub(crate) fn trust_in(seqno: u64, change: &Change) -> Option<Trust>
+    ensures { result ≡ trust_in seqno change.now }
+{
+    match change {
+        Change::Applied(Action::TransitionNodeToTrusted(id)) => Some(Trust { id: *id, seqno }),
+        _ => None,
+    }
+}
+
+/// What the change at a seqno takes out of service.
+pub(crate) fn retirement_in(seqno: u64, change: &Change) -> Option<Retirement>
+    ensures { result ≡ retirement_in seqno change.now }
+{
+    match change {
+        Change::Recovered(_) => Some(Retirement { seqno, id: None }),
+        Change::Applied(Action::RemoveNode(id)) => Some(Retirement {
+            seqno,
+            id: Some(*id),
+        }),
         _ => None,
     }
 }

@@ -162,7 +162,7 @@ impl LedgerState {
     }
 
     /// Whether a node is recorded.
-    pub fn is_recorded(&self, node: &NodeId) -> bool
+    fn is_recorded(&self, node: &NodeId) -> bool
         ensures { ForLedgers self.now (λ ledger.
             result ≡ member node.now (recorded_nodes ledger)) }
     {

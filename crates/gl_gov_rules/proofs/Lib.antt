@@ -24,6 +24,7 @@ pub mod HistoryLists
 pub mod Removals
 pub mod NewNodes
 pub mod Statuses
+pub mod NodeNews
 pub mod TrustedBy
 pub mod SomeTrusted
 pub mod RowsSet

@@ -131,6 +131,8 @@ impl<D: Disk> Gated<D> {
     ) -> Result<(Gated<D>, Vec<u8>), (OrNoMemory<JournalFault>, D)>
         ensures bytes { IsTrue D.honest → IfOk result (λ found. found.1.items ≡ D.bytes disk) }
         ensures payloads { IfOk result (λ found. IsOk (payloads_of header found.1.items)) }
+        ensures place { IfOk result (λ found. (payloads : List (List ℕ)) × (rest : List ℕ)
+            × FileParts header found.1.items payloads found.0.place rest) }
         ensures open { IsTrue D.honest → IfOk result (λ found. IsOpen D.bytes D.past found.0
             × (payloads_of header (D.bytes found.0.disk) ≡ payloads_of header (D.bytes disk))) }
         ensures header { IfOk result (λ found. found.0.header ≡ header) }

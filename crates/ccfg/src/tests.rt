@@ -1,6 +1,6 @@
 //! Runs of the whole program, over objects in memory. They are data: each run is a row of a table
-//! (`run.rt`), and one test goes over the rows of a subject. The README of this crate tells how a row
-//! is added.
+//! (`run.rt`), and one test goes over the rows of a subject. The README of this crate tells how a
+//! row is added.
 
 use crate::tests::table::Table;
 use gl_load::Onlooker;

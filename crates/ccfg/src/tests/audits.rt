@@ -146,8 +146,8 @@ pub const ENDS: Inputs = &[
     (&[Cut(WHOLE, 0, 15591)], 1, "fault seqno 4 rule 1"),
 ];
 
-/// A changed byte breaks this rule at this seqno. Each row breaks rules behind the one that is told,
-/// too, as the signature behind it no longer signs what stands there.
+/// A changed byte breaks this rule at this seqno. Each row breaks rules behind the one that is
+/// told, too, as the signature behind it no longer signs what stands there.
 pub const CHANGED: Inputs = &[
     (&[Changed(WHOLE, 10600, 0x02)], 1, "fault seqno 3 rule 1"),
     (&[Changed(WHOLE, 10700, 0x01)], 1, "fault seqno 4 rule 1"),

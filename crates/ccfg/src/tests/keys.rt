@@ -1,6 +1,6 @@
-//! Keys that are begun. The public keys are by RFC 8554 over Python's hashlib, from a seed of 32 bytes
-//! 07; the files are spelled by hand from the documents of the journal: a header, an open gate, a
-//! batch with the record of a key, and a closed gate.
+//! Keys that are begun. The public keys are by RFC 8554 over Python's hashlib, from a seed of 32
+//! bytes 07; the files are spelled by hand from the documents of the journal: a header, an open
+//! gate, a batch with the record of a key, and a closed gate.
 
 use crate::tests::part::Of::Disk;
 use crate::tests::part::Part;

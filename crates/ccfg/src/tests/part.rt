@@ -49,8 +49,8 @@ pub enum Part<'a> {
     Hex(&'a str),
     /// These bytes, so many times.
     Times(&'a [u8], usize),
-    /// This text so many times; for each `%` in it stands a number, which begins at its first one and
-    /// then goes up by its second.
+    /// This text so many times; for each `%` in it stands a number, which begins at its first one
+    /// and then goes up by its second.
     Each(i64, &'a str, &'a [(i64, i64)]),
     /// This text, and behind it so many bytes of zero in digits, so many times.
     Zeros(&'a str, usize, usize),

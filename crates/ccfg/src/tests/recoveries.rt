@@ -178,8 +178,8 @@ pub const RUNS: &[Run<'static>] = &[
         due: Due::Is(&[Text("fault foreign "), IDENTITY, Text("\n")]),
         ..RUN
     },
-    // No committed signature under the key of 2.4 stands above it: 81, with the commit. 2.5 is gone: 80,
-    // with that it is invalid. The service isn't open: 51.
+    // No committed signature under the key of 2.4 stands above it: 81, with the commit. 2.5 is
+    // gone: 80, with that it is invalid. The service isn't open: 51.
     Run {
         name: "questions to the new node",
         input: &[All(Written("the new ledger"))],
@@ -342,8 +342,8 @@ const PROPOSED: Arrival<'static> = Payload(
     ],
 );
 
-/// Three members, of whose shares two are enough, open a recovered service. The opening ledger is that
-/// of two entries, so that the recovery is 3.3 and its signature 3.4.
+/// Three members, of whose shares two are enough, open a recovered service. The opening ledger is
+/// that of two entries, so that the recovery is 3.3 and its signature 3.4.
 pub const OPENED: &[Run<'static>] = &[
     Run {
         name: "alice",
@@ -520,7 +520,8 @@ pub const OPENED: &[Run<'static>] = &[
         due: Due::SignedBy(3),
         ..BOB
     },
-    // Bob's yes is the second of three, and the service waits for shares. The second share opens it.
+    // Bob's yes is the second of three, and the service waits for shares. The second share opens
+    // it.
     Run {
         name: "shares that open a service",
         input: &[All(Written("the recovery of three members"))],

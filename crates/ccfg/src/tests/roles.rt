@@ -81,8 +81,8 @@ const MESSAGES: Lines<'static> = &[
     ("deliver 9", "idle"),
 ];
 
-/// Proposals to stand: at a follower, at a candidate and at a leader, both of a later view, and at a
-/// candidate of its view.
+/// Proposals to stand: at a follower, at a candidate and at a leader, both of a later view, and at
+/// a candidate of its view.
 const PROPOSALS: Lines<'static> = &[
     ("timeout 3", "candidate sent 1 2"),
     ("stepdown 1 2", "ok sent 3"),
@@ -147,8 +147,9 @@ pub const RUNS: &[Run<'static>] = &[
         due: Due::Is(&[Text("1 ok\n"), Answered(2, LATER_PROPOSAL)]),
         ..REPLAY
     },
-    // Fifteen configurations behind commit wait, made by member 1 alone: nodes 2 to 10 are trusted one
-    // by one, and then nodes 10 to 5 removed. Two members make a sixteenth, and no mark is taken.
+    // Fifteen configurations behind commit wait, made by member 1 alone: nodes 2 to 10 are trusted
+    // one by one, and then nodes 10 to 5 removed. Two members make a sixteenth, and no mark is
+    // taken.
     Run {
         name: "sixteen configurations behind commit",
         input: &[

@@ -64,8 +64,8 @@ pub enum InTurn {
 #[derive(Clone, Copy, Debug)]
 pub struct Run<'a> {
     pub name: &'static str,
-    /// The words. For `$key of NAME` and `$node of NAME` stand the key and the identifier in the JSON
-    /// that an earlier run wrote.
+    /// The words. For `$key of NAME` and `$node of NAME` stand the key and the identifier in the
+    /// JSON that an earlier run wrote.
     pub words: &'a [&'a str],
     /// What the source gives, how many bytes of that at most, and the most that a read of it gives.
     pub input: &'a [Part<'a>],
@@ -96,8 +96,8 @@ pub struct Run<'a> {
     pub sent: Option<&'a [Frame<'a>]>,
     /// what comes once calls fail in turn,
     pub in_turn: &'a [InTurn],
-    /// and whether each front of the input is played too: of one that ends at a line what is told of its
-    /// lines, and of each other one that its last line is none.
+    /// and whether each front of the input is played too: of one that ends at a line what is told
+    /// of its lines, and of each other one that its last line is none.
     pub fronts: bool,
 }
 

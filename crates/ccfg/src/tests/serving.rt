@@ -1,5 +1,5 @@
-//! Serves as the node of a file, over links in memory. Payloads and answers are spelled by hand from
-//! the documents of the messages; `examples/three-nodes/client.py` spells and reads the same.
+//! Serves as the node of a file, over links in memory. Payloads and answers are spelled by hand
+//! from the documents of the messages; `examples/three-nodes/client.py` spells and reads the same.
 
 use crate::tests::founding::{ENDORSE, GENESIS, NODE_KEY};
 use crate::tests::part::Of::{Disk, Sent, Written};
@@ -8,8 +8,8 @@ use crate::tests::part::Part::{All, Cut, Entry, Front, Hex, Member, Sized, Spell
 use crate::tests::run::Arrival::{Bytes, Payload, Single, Ticks};
 use crate::tests::run::{Arrival, Due, Frame, InTurn, RUN, Run};
 
-/// As message 7: what the status of transaction 2.1 is; and that it is committed. The length of each
-/// stands in front.
+/// As message 7: what the status of transaction 2.1 is; and that it is committed. The length of
+/// each stands in front.
 const STATUS_OF: &[Part<'static>] = &[Hex(
     "00000015 12 0700000000000000 02000000 0100000000000000",
 )];
@@ -335,7 +335,8 @@ const FOLLOWER: Run<'static> = Run {
     ..RUN
 };
 
-/// The entry 2.3 of a put, and 3.3 of another value; behind each the digest of the reply `01 00 00`.
+/// The entry 2.3 of a put, and 3.3 of another value; behind each the digest of the reply
+/// `01 00 00`.
 const ENTRY: Part<'static> = Hex(
     "0100 5b0000000000 02000000 0300000000000000 02 \
     14000000 0100 03 087075626c69633a74 010061 0100000001 \
@@ -350,8 +351,8 @@ const OTHER_ENTRY: Part<'static> = Hex(
     fb50dc0717ff266cf9baf82b1ce7a1c2ef6d9247859680b11a19fb7077f5f222",
 );
 
-/// On connection 2 a client asks for the status of 2.3 and of 3.3: the commit is 2.2, so that 2.3 is
-/// unknown once it was cut off, and 3.3 is pending.
+/// On connection 2 a client asks for the status of 2.3 and of 3.3: the commit is 2.2, so that 2.3
+/// is unknown once it was cut off, and 3.3 is pending.
 const ASKED: Arrival<'static> = Payload(2, &[Hex("12 0100000000000000 02000000 0300000000000000")]);
 
 const ASKED_NEXT: Arrival<'static> = Payload(

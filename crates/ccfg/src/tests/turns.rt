@@ -92,8 +92,8 @@ fn is_failed_due(what: InTurn, call: u64, before: &[u8], left: &Left, whole: &Le
 /// More calls than a run makes of an object.
 const CALLS: u64 = 2000;
 
-/// Plays a run once for each call that may fail, up to the first that isn't made. Tells at which call
-/// it comes to something else than is owed.
+/// Plays a run once for each call that may fail, up to the first that isn't made. Tells at which
+/// call it comes to something else than is owed.
 pub fn first_undue_call(
     alloc: Global,
     run: &Run<'_>,

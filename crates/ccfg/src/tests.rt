@@ -115,7 +115,7 @@ fn keys_that_begin(rt: HostRuntime) -> Result<(), Fail> {
 #[test]
 fn what_keys_of_files_sign(rt: HostRuntime) -> Result<(), Fail> {
     let mut table = Table::new(rt.alloc());
-    table.play_all(&rt, founding::RUNS)?;
+    founding::play(&rt, &mut table)?;
     table.play_all(&rt, signing::RUNS)?;
     Ok(())
 }
@@ -123,7 +123,7 @@ fn what_keys_of_files_sign(rt: HostRuntime) -> Result<(), Fail> {
 #[test]
 fn serves_of_one_node(rt: HostRuntime) -> Result<(), Fail> {
     let mut table = Table::new(rt.alloc());
-    table.play_all(&rt, founding::RUNS)?;
+    founding::play(&rt, &mut table)?;
     table.play_all(&rt, serving::RUNS)?;
     Ok(())
 }
@@ -131,7 +131,7 @@ fn serves_of_one_node(rt: HostRuntime) -> Result<(), Fail> {
 #[test]
 fn serves_of_a_follower(rt: HostRuntime) -> Result<(), Fail> {
     let mut table = Table::new(rt.alloc());
-    table.play_all(&rt, founding::RUNS)?;
+    founding::play(&rt, &mut table)?;
     table.play_all(&rt, serving::FOLLOWED)?;
     Ok(())
 }
@@ -139,18 +139,20 @@ fn serves_of_a_follower(rt: HostRuntime) -> Result<(), Fail> {
 #[test]
 fn recoveries_of_a_ledger(rt: HostRuntime) -> Result<(), Fail> {
     let mut table = Table::new(rt.alloc());
-    table.play_all(&rt, founding::RUNS)?;
-    table.play_all(&rt, recoveries::FRONTS)?;
-    table.play_all(&rt, recoveries::KEYS)?;
-    table.play_all(&rt, recoveries::RUNS)?;
+    founding::play(&rt, &mut table)?;
+    recoveries::play_fronts(&rt, &mut table)?;
+    recoveries::play_keys(&rt, &mut table)?;
+    recoveries::play_recoveries(&rt, &mut table)?;
     Ok(())
 }
 
 #[test]
 fn shares_that_open_a_recovered_service(rt: HostRuntime) -> Result<(), Fail> {
     let mut table = Table::new(rt.alloc());
-    table.play_all(&rt, founding::RUNS)?;
-    table.play_all(&rt, recoveries::KEYS)?;
-    table.play_all(&rt, recoveries::OPENED)?;
+    founding::play(&rt, &mut table)?;
+    recoveries::play_keys(&rt, &mut table)?;
+    recoveries::play_members(&rt, &mut table)?;
+    recoveries::play_requests(&rt, &mut table)?;
+    recoveries::play_opened(&rt, &mut table)?;
     Ok(())
 }

@@ -4,6 +4,9 @@ use crate::tests::part::Of::{Disk, Written};
 use crate::tests::part::Part;
 use crate::tests::part::Part::{All, Cut, Hex, Member, Text, Times};
 use crate::tests::run::{Due, RUN, Run};
+use crate::tests::table::Table;
+use std::alloc::AllocError;
+use std::process::Abort;
 
 /// A key of so many leaves, 32, whose seed is of one byte.
 pub const SERVICE_KEY: Run<'static> = Run {
@@ -58,7 +61,7 @@ pub const SETTINGS: &[Part<'static>] = &[
 pub const STARTED: Part<'static> = Hex("01 12000000 05 04000000 01000000 07 04000000 01000000 00");
 
 /// The keys, an endorsement, and the ledger that opens the service.
-pub const RUNS: &[Run<'static>] = &[
+const RUNS: &[Run<'static>] = &[
     Run {
         name: "the service",
         input: &[Times(&[1], 32)],
@@ -90,3 +93,8 @@ pub const RUNS: &[Run<'static>] = &[
         ..GENESIS
     },
 ];
+
+/// Founds the service.
+pub fn play(rt: &impl Abort, table: &mut Table) -> Result<(), AllocError> {
+    table.play_all(rt, RUNS)
+}

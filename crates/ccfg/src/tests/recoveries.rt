@@ -10,6 +10,9 @@ use crate::tests::part::{Lines, Part};
 use crate::tests::run::Arrival::Payload;
 use crate::tests::run::{Arrival, Due, Frame, InTurn, RUN, Run};
 use crate::tests::serving::NODE;
+use crate::tests::table::Table;
+use std::alloc::AllocError;
+use std::process::Abort;
 
 /// A put that is signed, and one that nobody signs.
 const OLD: Lines<'static> = &[
@@ -51,7 +54,7 @@ const REFUSED: Run<'static> = Run {
 };
 
 /// Settings that have no reading, behind the runs that found a service.
-pub const FRONTS: &[Run<'static>] = &[
+const FRONTS: &[Run<'static>] = &[
     Run {
         name: "no length",
         status: 9,
@@ -103,7 +106,7 @@ pub const FRONTS: &[Run<'static>] = &[
 ];
 
 /// The keys of the new service.
-pub const KEYS: &[Run<'static>] = &[
+const KEYS: &[Run<'static>] = &[
     Run {
         name: "the new service",
         input: &[Times(&[17], 32)],
@@ -135,7 +138,7 @@ const ASKED: &[Arrival<'static>] = &[
 
 /// The ledger of a schedule is lost but for a copy, and is recovered. What is due is worked out by
 /// hand; `examples/audit/recover_ledger.py` makes such ledgers from the documents alone.
-pub const RUNS: &[Run<'static>] = &[
+const RUNS: &[Run<'static>] = &[
     Run {
         name: "the old ledger",
         words: &["replay"],
@@ -344,7 +347,7 @@ const PROPOSED: Arrival<'static> = Payload(
 
 /// Three members, of whose shares two are enough, open a recovered service. The opening ledger is
 /// that of two entries, so that the recovery is 3.3 and its signature 3.4.
-pub const OPENED: &[Run<'static>] = &[
+const MEMBERS: &[Run<'static>] = &[
     Run {
         name: "alice",
         input: &[Times(&[33], 32)],
@@ -409,6 +412,10 @@ pub const OPENED: &[Run<'static>] = &[
         due: Due::Begins(&[All(Written("the opening of three members"))]),
         ..RECOVER
     },
+];
+
+/// What the members ask for.
+const REQUESTS: &[Run<'static>] = &[
     Run {
         name: "alice's ack",
         input: ACK,
@@ -520,126 +527,126 @@ pub const OPENED: &[Run<'static>] = &[
         due: Due::SignedBy(3),
         ..BOB
     },
-    // Bob's yes is the second of three, and the service waits for shares. The second share opens
-    // it.
-    Run {
-        name: "shares that open a service",
-        input: &[All(Written("the recovery of three members"))],
-        disk: Some(&[All(Disk("the recovery of three members"))]),
-        link: &[
-            ACK_OF_ALICE,
-            ACK_OF_BOB,
-            ACK_OF_CAROL,
-            PROPOSED,
-            Payload(
-                0,
-                &[Hex("11 0500000000000000"), Sized(Written("alice's ballot"))],
-            ),
-            Payload(
-                0,
-                &[Hex("11 0600000000000000"), Sized(Written("bob's ballot"))],
-            ),
-            PUT,
-            Payload(
-                0,
-                &[Hex("11 0800000000000000"), Sized(Written("alice's share"))],
-            ),
-            Payload(
-                0,
-                &[
-                    Hex("11 0900000000000000"),
-                    Sized(Written("alice's share once more")),
-                ],
-            ),
-            Payload(
-                0,
-                &[
-                    Hex("11 0a00000000000000"),
-                    Sized(Written("a wrong share of bob's")),
-                ],
-            ),
-            PUT,
-            Payload(
-                0,
-                &[Hex("11 0b00000000000000"), Sized(Written("bob's share"))],
-            ),
-            PUT,
-        ],
-        due: Due::Is(&[Text("served 13 lost 0\n")]),
-        sent: Some(&[
-            Frame::Payload(
-                0,
-                &[Hex("20 0100000000000000 03000000 0500000000000000 00000000")],
-            ),
-            Frame::Payload(
-                0,
-                &[Hex("20 0200000000000000 03000000 0600000000000000 00000000")],
-            ),
-            Frame::Payload(
-                0,
-                &[Hex("20 0300000000000000 03000000 0700000000000000 00000000")],
-            ),
-            Frame::Payload(
-                0,
-                &[
-                    Hex("20 0400000000000000 03000000 0800000000000000 21000000"),
-                    PROPOSAL,
-                    Hex("01"),
-                ],
-            ),
-            Frame::Payload(
-                0,
-                &[
-                    Hex("20 0500000000000000 03000000 0900000000000000 21000000"),
-                    PROPOSAL,
-                    Hex("01"),
-                ],
-            ),
-            Frame::Payload(
-                0,
-                &[
-                    Hex("20 0600000000000000 03000000 0a00000000000000 21000000"),
-                    PROPOSAL,
-                    Hex("02"),
-                ],
-            ),
-            // 51: it waits for shares.
-            Frame::Payload(
-                0,
-                &[Hex("21 0700000000000000 3300 08000000 0300000000000000")],
-            ),
-            Frame::Payload(
-                0,
-                &[Hex("20 0800000000000000 03000000 0b00000000000000 00000000")],
-            ),
-            // 101, with the member; 100, with the digest of what was given, by Python's hashlib.
-            Frame::Payload(
-                0,
-                &[Hex("21 0900000000000000 6500 08000000 0100000000000000")],
-            ),
-            Frame::Payload(
-                0,
-                &[Hex(
-                    "21 0a00000000000000 6400 24000000 20000000 \
-                    8c0cc17a04942cc4f8e0fe0b302606d3108860c126428ba2ceeb5f9ed41c2b05",
-                )],
-            ),
-            Frame::Payload(
-                0,
-                &[Hex("21 0700000000000000 3300 08000000 0300000000000000")],
-            ),
-            Frame::Payload(
-                0,
-                &[Hex("20 0b00000000000000 03000000 0c00000000000000 00000000")],
-            ),
-            Frame::Payload(
-                0,
-                &[Hex("20 0700000000000000 03000000 0d00000000000000 03000000 010000")],
-            ),
-        ]),
-        ..NODE
-    },
 ];
+
+/// Bob's yes is the second of three, and the service waits for shares. The second share opens it.
+const OPENED: &[Run<'static>] = &[Run {
+    name: "shares that open a service",
+    input: &[All(Written("the recovery of three members"))],
+    disk: Some(&[All(Disk("the recovery of three members"))]),
+    link: &[
+        ACK_OF_ALICE,
+        ACK_OF_BOB,
+        ACK_OF_CAROL,
+        PROPOSED,
+        Payload(
+            0,
+            &[Hex("11 0500000000000000"), Sized(Written("alice's ballot"))],
+        ),
+        Payload(
+            0,
+            &[Hex("11 0600000000000000"), Sized(Written("bob's ballot"))],
+        ),
+        PUT,
+        Payload(
+            0,
+            &[Hex("11 0800000000000000"), Sized(Written("alice's share"))],
+        ),
+        Payload(
+            0,
+            &[
+                Hex("11 0900000000000000"),
+                Sized(Written("alice's share once more")),
+            ],
+        ),
+        Payload(
+            0,
+            &[
+                Hex("11 0a00000000000000"),
+                Sized(Written("a wrong share of bob's")),
+            ],
+        ),
+        PUT,
+        Payload(
+            0,
+            &[Hex("11 0b00000000000000"), Sized(Written("bob's share"))],
+        ),
+        PUT,
+    ],
+    due: Due::Is(&[Text("served 13 lost 0\n")]),
+    sent: Some(&[
+        Frame::Payload(
+            0,
+            &[Hex("20 0100000000000000 03000000 0500000000000000 00000000")],
+        ),
+        Frame::Payload(
+            0,
+            &[Hex("20 0200000000000000 03000000 0600000000000000 00000000")],
+        ),
+        Frame::Payload(
+            0,
+            &[Hex("20 0300000000000000 03000000 0700000000000000 00000000")],
+        ),
+        Frame::Payload(
+            0,
+            &[
+                Hex("20 0400000000000000 03000000 0800000000000000 21000000"),
+                PROPOSAL,
+                Hex("01"),
+            ],
+        ),
+        Frame::Payload(
+            0,
+            &[
+                Hex("20 0500000000000000 03000000 0900000000000000 21000000"),
+                PROPOSAL,
+                Hex("01"),
+            ],
+        ),
+        Frame::Payload(
+            0,
+            &[
+                Hex("20 0600000000000000 03000000 0a00000000000000 21000000"),
+                PROPOSAL,
+                Hex("02"),
+            ],
+        ),
+        // 51: it waits for shares.
+        Frame::Payload(
+            0,
+            &[Hex("21 0700000000000000 3300 08000000 0300000000000000")],
+        ),
+        Frame::Payload(
+            0,
+            &[Hex("20 0800000000000000 03000000 0b00000000000000 00000000")],
+        ),
+        // 101, with the member; 100, with the digest of what was given, by Python's hashlib.
+        Frame::Payload(
+            0,
+            &[Hex("21 0900000000000000 6500 08000000 0100000000000000")],
+        ),
+        Frame::Payload(
+            0,
+            &[Hex(
+                "21 0a00000000000000 6400 24000000 20000000 \
+                    8c0cc17a04942cc4f8e0fe0b302606d3108860c126428ba2ceeb5f9ed41c2b05",
+            )],
+        ),
+        Frame::Payload(
+            0,
+            &[Hex("21 0700000000000000 3300 08000000 0300000000000000")],
+        ),
+        Frame::Payload(
+            0,
+            &[Hex("20 0b00000000000000 03000000 0c00000000000000 00000000")],
+        ),
+        Frame::Payload(
+            0,
+            &[Hex("20 0700000000000000 03000000 0d00000000000000 03000000 010000")],
+        ),
+    ]),
+    ..NODE
+}];
 
 /// The proposal's identifier, as it was answered.
 const PROPOSAL: Part<'static> = Cut(Sent("a proposal to open", 3), 29, 61);
@@ -649,3 +656,33 @@ const PUT: Arrival<'static> = Payload(
     0,
     &[Hex("10 0700000000000000 14000000 0100 03 087075626c69633a74 010061 0100000001")],
 );
+
+/// Plays settings that have no reading, behind the runs that found a service.
+pub fn play_fronts(rt: &impl Abort, table: &mut Table) -> Result<(), AllocError> {
+    table.play_all(rt, FRONTS)
+}
+
+/// Makes the keys of the new service.
+pub fn play_keys(rt: &impl Abort, table: &mut Table) -> Result<(), AllocError> {
+    table.play_all(rt, KEYS)
+}
+
+/// Recovers ledgers of schedules.
+pub fn play_recoveries(rt: &impl Abort, table: &mut Table) -> Result<(), AllocError> {
+    table.play_all(rt, RUNS)
+}
+
+/// Recovers a service of three members.
+pub fn play_members(rt: &impl Abort, table: &mut Table) -> Result<(), AllocError> {
+    table.play_all(rt, MEMBERS)
+}
+
+/// Signs what they ask for.
+pub fn play_requests(rt: &impl Abort, table: &mut Table) -> Result<(), AllocError> {
+    table.play_all(rt, REQUESTS)
+}
+
+/// Opens the service by their shares.
+pub fn play_opened(rt: &impl Abort, table: &mut Table) -> Result<(), AllocError> {
+    table.play_all(rt, OPENED)
+}

@@ -1,21 +1,14 @@
 -- The key that is in force behind the first entries of a ledger: what their write sets leave in the service's row. Each leaf is under the one behind its own entry.
-use Rattle.std.proofs.Common.{◌≡◌, ℕ, zero, suc, ◌+◌, ◌≤◌, nat_le, max, List, [], ◌∷◌, ◌++◌, length, take, slice_get, Option, Some, None, IfNone, Bool, true, false, refl, sym, ap, ◌∙◌, arith, if◌then◌else◌, cond}
-use Rattle.std.specs.Option.{option_or}
-use Rattle.std.proofs.lemmas.Bool.Decides.{nat_tests}
+use Rattle.std.proofs.Common.{◌≡◌, ℕ, zero, suc, ◌≤◌, List, [], ◌∷◌, ◌++◌, length, take, slice_get, Option, Some, None, IfNone, refl, sym, ap, ◌∙◌, arith}
 use Rattle.std.proofs.lemmas.List.{length-take-le}
-use Rattle.gl_vmaps.specs.Tables.{Tables, no_tables, value_in, wrote_all}
-use Rattle.gl_vmaps.specs.LastWrite.{last_write, value_behind}
-use Rattle.gl_vmaps.specs.Versions.{Placed, written_behind, written_by, is_to_row, version_in, up_to}
-use Rattle.gl_vmaps.specs.declared.write.Write.{Write}
-use Rattle.gl_vmaps.proofs.LastWrites.{last_such-cons}
-use Rattle.gl_vmaps.proofs.TablesLaws as tables_laws
-use Rattle.gl_vmaps.proofs.TablesLaws.{value_in-wrote_all, value_in-written_by, written_behind-append}
+use Rattle.gl_vmaps.specs.Tables.{Tables, no_tables, wrote_all}
+use Rattle.gl_vmaps.specs.Versions.{written_behind}
+use Rattle.gl_vmaps.proofs.TablesLaws.{written_behind-append}
 use Rattle.gl_entry.specs.Leaf.{leaf_of}
 use Rattle.gl_entry.specs.declared.entry.Entry.{Entry}
-use Rattle.gl_gov_rules.specs.Rows.{service_map, service_key}
-use Rattle.gl_ledger.specs.ServiceRow.{identity_of_value, identity_in}
+use Rattle.gl_ledger.specs.ServiceRow.{identity_in}
 use Rattle.gl_ledger.specs.Tree.{writes_of, tables_of, leaves_from, leaves_of}
-use Rattle.gl_ledger.proofs.TablesLaws.{placed_in, written_behind-placed_at, tables_of-push}
+use Rattle.gl_ledger.proofs.TablesLaws.{placed_in, written_behind-placed_at}
 use Rattle.gl_ledger.specs.NodeKeys.{service_layers}
 use Rattle.gl_ledger.specs.Sound.{IsSound}
 use Rattle.gl_ledger.proofs.Founded.{length_identity}
@@ -46,21 +39,7 @@ pub leaf_in_force : (ledger : List Entry) (seqno : ℕ) (e : Entry) → entry_at
 leaf_in_force ledger zero e at = absurd (cc)
 leaf_in_force ledger (suc i) e at = leaf_under no_tables ledger i e at
 
--- ---- the service's row
-
--- behind one more entry the key is the one that it wrote, or as before
-pub key_pushed : (es : List Entry) (e : Entry) →
-    identity_in (tables_of (es ++ e ∷ [])) ≡ identity_of_value (value_behind (last_write service_map service_key e.writes) (value_in (tables_of es) service_map service_key))
-key_pushed es e =
-    ap identity_in (tables_of-push es e) ∙ ap identity_of_value (value_in-wrote_all (tables_of es) e.writes service_map service_key)
-
--- where the entry doesn't write to the row, it is as before
-pub key_kept : (es : List Entry) (e : Entry) → last_write service_map service_key e.writes ≡ None → identity_in (tables_of (es ++ e ∷ [])) ≡ identity_in (tables_of es)
-key_kept es e none = key_pushed es e ∙ ap (λ (o : Option Write). identity_of_value (value_behind o (value_in (tables_of es) service_map service_key))) none
-
--- and else it is the one that the entry wrote
-pub key_written : (es : List Entry) (e : Entry) (w : Write) → last_write service_map service_key e.writes ≡ Some w → identity_in (tables_of (es ++ e ∷ [])) ≡ identity_of_value w.value
-key_written es e w is = key_pushed es e ∙ ap (λ (o : Option Write). identity_of_value (value_behind o (value_in (tables_of es) service_map service_key))) is
+-- ---- the service's key
 
 -- from the first entry on there is a key
 pub key_there : (ledger : List Entry) → IsSound service_layers ledger → (seqno : ℕ) → seqno ≤ length ledger → (o : Option (List ℕ)) → o ≡ key_of (identity_in (tables_of (take seqno ledger))) → IfNone o (seqno ≡ 0)
@@ -69,41 +48,3 @@ key_there ledger sound zero within None is = refl
 key_there ledger sound (suc n) within None is =
     let long : length (take (suc n) ledger) ≡ suc n = length-take-le (suc n) ledger within in
     absurd (none_of (identity_in (tables_of (take (suc n) ledger))) (length_identity service_layers (take (suc n) ledger) (sound_front service_layers ledger sound (suc n)) (omega (arith, long))) is)
-
--- without a write above a seqno the last write to a row is the last one up to there
-last_up_to : (seqno : ℕ) (ps : List Placed) (m k : List ℕ) → version_in ps m k ≤ seqno → last_write m k (tables_laws.writes_of ps) ≡ last_write m k (tables_laws.writes_of (up_to seqno ps))
-last_up_to seqno [] m k low = refl
-last_up_to seqno (p ∷ ps) m k low = go (nat_le p.place seqno) refl (is_to_row m k p.write) refl
-    (last_up_to seqno ps m k (let a : version_in (p ∷ ps) m k ≤ seqno = low in omega (arith, a)))
-  where
-    more : (qs : List Placed) → last_write m k (tables_laws.writes_of (p ∷ qs)) ≡ option_or (last_write m k (tables_laws.writes_of qs)) (cond (is_to_row m k p.write) (Some p.write) None)
-    more qs = last_such-cons (is_to_row m k) p.write (tables_laws.writes_of qs)
-
-    or_none : (o : Option Write) → option_or o None ≡ o
-    or_none None = refl
-    or_none (Some w) = refl
-
-    kept : (b : Bool) → nat_le p.place seqno ≡ b → up_to seqno (p ∷ ps) ≡ cond b (p ∷ up_to seqno ps) (up_to seqno ps)
-    kept b is = ap (λ (x : Bool). cond x (p ∷ up_to seqno ps) (up_to seqno ps)) is
-
-    go : (b : Bool) → nat_le p.place seqno ≡ b → (t : Bool) → is_to_row m k p.write ≡ t → last_write m k (tables_laws.writes_of ps) ≡ last_write m k (tables_laws.writes_of (up_to seqno ps)) →
-        last_write m k (tables_laws.writes_of (p ∷ ps)) ≡ last_write m k (tables_laws.writes_of (up_to seqno (p ∷ ps)))
-    go true within t to rest =
-        more ps ∙ ap (λ (o : Option Write). option_or o (cond (is_to_row m k p.write) (Some p.write) None)) rest ∙ sym (more (up_to seqno ps))
-        ∙ ap (λ (qs : List Placed). last_write m k (tables_laws.writes_of qs)) (sym (kept true within))
-    go false above true to rest =
-        absurd (let a : (max (if is_to_row m k p.write then p.place else 0) (version_in ps m k)) ≤ seqno = low in
-        let b : (if is_to_row m k p.write then p.place else 0) ≡ p.place = ap (λ (x : Bool). if x then p.place else 0) to in
-        let c : seqno + 1 ≤ p.place = grind (arith, nat_tests, above) in
-        omega (arith, a, b, c))
-    go false above false to rest =
-        more ps ∙ ap (λ (x : Bool). option_or (last_write m k (tables_laws.writes_of ps)) (cond x (Some p.write) None)) to ∙ or_none (last_write m k (tables_laws.writes_of ps)) ∙ rest
-        ∙ ap (λ (qs : List Placed). last_write m k (tables_laws.writes_of qs)) (sym (kept false above))
-
--- so the row has the value that it had there, and the key is the one in force there
-pub key_up_to : (seqno : ℕ) (ps : List Placed) → version_in ps service_map service_key ≤ seqno → identity_in (written_by ps) ≡ identity_in (written_by (up_to seqno ps))
-key_up_to seqno ps low =
-    ap identity_of_value
-    (value_in-written_by ps service_map service_key
-    ∙ ap (λ (o : Option Write). value_behind o None) (last_up_to seqno ps service_map service_key low)
-    ∙ sym (value_in-written_by (up_to seqno ps) service_map service_key))

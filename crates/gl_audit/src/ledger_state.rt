@@ -37,10 +37,10 @@ mod signatures;
 pub use signatures::{count_up_to, seqno_at};
 
 /// The map of the service's row (CCF documentation, "Builtin Maps").
-pub const SERVICE_MAP: &[u8] = b"public:ccf.gov.service";
+pub(crate) const SERVICE_MAP: &[u8] = b"public:ccf.gov.service";
 
 /// The key of the service's row.
-pub const SERVICE_KEY: &[u8] = b"s";
+pub(crate) const SERVICE_KEY: &[u8] = b"s";
 
 /// How a ledger ends, the seqnos of its signatures, the requests of governance that it records, the
 /// tables that its write sets make, what these tell of the service, the tree of its leaves, and the

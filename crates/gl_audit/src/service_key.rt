@@ -1,57 +1,24 @@
-//! The service's key that is in force behind entries, as their write sets leave it.
+//! The service's key that is in force behind the first entries of a ledger.
 
-ghost use Rattle.std.specs.Prelude.{◌≡◌};
-ghost use Rattle.std.specs.Option.{option_copied};
-ghost use Rattle.gl_vmaps.specs.LastWrite.{last_write};
-ghost use Rattle.gl_vmaps.specs.Versions.{is_to_row};
-ghost use Rattle.gl_gov_rules.specs.Rows.{service_key, service_map};
-ghost use Rattle.gl_ledger.specs.ServiceRow.{identity_in, identity_of_value};
+ghost use Rattle.std.specs.Prelude.{◌≡◌, ◌≤◌, take};
+ghost use Rattle.gl_ledger.specs.ServiceRow.{identity_in};
 ghost use Rattle.gl_ledger.specs.Tree.{tables_of};
-ghost use Rattle.gl_audit.specs.Kept.{key_of};
+ghost use Rattle.gl_audit.specs.Kept.{key_of, ForLedgers};
 
-use crate::ledger_state::{SERVICE_KEY, SERVICE_MAP, key_in};
-use gl_entry::Entry;
+use crate::ledger_state::{LedgerState, SERVICE_KEY, SERVICE_MAP, key_in};
 use gl_requests::HssPublicKey;
-use gl_vmaps::Write;
 
-/// Whether a write is to the row of the service.
-fn is_to_service(write: &Write) -> bool
-    ensures { result ≡ is_to_row service_map service_key write.now }
-{
-    SERVICE_MAP == write.map.as_slice() && SERVICE_KEY == write.key.as_slice()
-}
-
-/// The last write of an entry to the row of the service, if it has one.
-fn service_write(entry: &Entry) -> Option<&Write>
-    ensures { option_copied result ≡ last_write service_map service_key entry.now.writes }
-{
-    entry
-        .writes
-        .as_slice()
-        .iter()
-        .rev()
-        .find(|write| is_to_service(write))
-}
-
-/// The key that a write to the row of the service leaves in force.
-fn written_key(write: &Write) -> Option<HssPublicKey>
-    ensures { result ≡ key_of (identity_of_value write.now.value) }
-{
-    match &write.value {
-        None => None,
-        Some(value) => key_in(value.as_slice()),
-    }
-}
-
-/// The key in force behind these entries. `None` where there is none.
-pub fn key_behind(entries: &[Entry]) -> Option<HssPublicKey>
-    ensures { result ≡ key_of (identity_in (tables_of entries.now)) }
-{
-    let mut key = None;
-    for entry in entries {
-        if let Some(write) = service_write(entry) {
-            key = written_key(write);
+impl LedgerState {
+    /// The key in force behind the entries up to a seqno, as their write sets leave it. `None`
+    /// where there is none. It is found in the time of a look-up.
+    pub fn key_at(&self, seqno: u64) -> Option<HssPublicKey>
+        requires { self.now.tables.compacted ≤ seqno }
+        ensures { ForLedgers self.now (λ ledger.
+            result ≡ key_of (identity_in (tables_of (take seqno ledger)))) }
+    {
+        match self.tables.get_at(SERVICE_MAP, SERVICE_KEY, seqno) {
+            None => None,
+            Some(row) => key_in(row),
         }
     }
-    key
 }

@@ -10,4 +10,4 @@ mod not_opening;
 mod store;
 
 pub use not_opening::NotOpening;
-pub use store::Store;
+pub use store::{Store, Tail};

@@ -22,6 +22,9 @@ mod governance;
 mod receipts;
 mod recovery;
 mod requests;
+mod tail;
+
+pub use tail::Tail;
 
 /// A ledger of one node, and up to which seqno it is committed. Seqnos count from 1. At every
 /// moment the ledger is valid: no entry of it breaks a rule of the audit behind those before it. So

@@ -1,10 +1,11 @@
 //! A valid ledger, and beside it what the rules of consensus ask of its nodes.
 
-ghost use Rattle.std.specs.Prelude.{◌≡◌, ◌<◌, ◌^◌, ◌-◌, ◌∷◌, ◌++◌, [], List, Ok, None, take, length, AllPairs, IfOk, IfErr, OnOk, OnErr};
+ghost use Rattle.std.specs.Prelude.{◌≡◌, ◌≤◌, ◌<◌, ◌^◌, ◌-◌, ◌∷◌, ◌++◌, [], List, Ok, None, take, length, AllPairs, IfOk, IfErr, OnOk, OnErr};
 ghost use Rattle.gl_base.specs.Answers.{Fails};
 ghost use Rattle.gl_rules.specs.Replication.{checked_append};
 ghost use Rattle.gl_entry.specs.declared.entry.Entry as entries;
 ghost use Rattle.gl_audit.specs.Kept.{Breaks};
+ghost use Rattle.gl_store.specs.Kept.{IsTailOf};
 ghost use Rattle.gl_store_book.specs.Lists.{AreListsOf};
 
 use crate::node_lists::NodeLists;
@@ -13,9 +14,10 @@ use gl_base::OrNoMemory;
 use gl_config::{Configuration, NodeId};
 use gl_entry::{Content, Entry};
 use gl_ledger::{Broken, Unmade};
-use gl_store::Store;
+use gl_store::{Store, Tail};
 use std::alloc::{AllocError, Global};
 use std::marker::Model;
+use std::mem::replace;
 
 /// A store of which nothing is committed, so that it can be cut anywhere, with the lists of its
 /// configurations and of the nodes that it records.
@@ -191,26 +193,54 @@ impl BookLedger {
         Ok(())
     }
 
+    /// Cuts off the entries above a seqno, with the lists of the ledger that they ended. Want of
+    /// memory leaves all as it was.
+    fn cut_off(&mut self, to: u64) -> Result<(Tail, NodeLists), AllocError>
+        requires within { to ≤ length self.old }
+        ensures cut { OnOk result (self.new ≡ take to self.old) }
+        ensures tail { IfOk result (λ r. IsTailOf self.new r.0) }
+        ensures entries { IfOk result (λ r. self.new ++ r.0.entries.items ≡ self.old) }
+        ensures lists { IfOk result (λ r. AreListsOf self.old r.1) }
+        ensures err { OnErr result (self.new ≡ self.old) }
+    {
+        let mut front = self.lists.copy(self.alloc)?;
+        front.cut(&self.store, to);
+        let tail = self.store.cut_off(to)?;
+        let lists = replace(&mut self.lists, front);
+        Ok((tail, lists))
+    }
+
+    /// Puts entries that were cut off back behind those that were left, with the lists of all of
+    /// them. Takes no memory.
+    fn put_back(&mut self, tail: Tail, lists: NodeLists)
+        requires tail { IsTailOf self.old tail }
+        requires lists { AreListsOf (self.old ++ tail.entries.items) lists }
+        ensures { self.new ≡ self.old ++ tail.entries.items }
+    {
+        self.store.put_back(tail);
+        self.lists = lists;
+    }
+
     /// Cuts the ledger to a seqno below its end and adds copies of entries, each of which has to
-    /// follow: all or nothing, on a copy that takes the ledger's place.
-    fn append_to_copy(&mut self, seqno: u64, entries: &[Entry]) -> Result<(), OrNoMemory<Unmade>>
+    /// follow: all or nothing.
+    fn append_behind(&mut self, seqno: u64, entries: &[Entry]) -> Result<(), OrNoMemory<Unmade>>
+        requires within { seqno ≤ length self.old }
         ensures replaced { OnOk result ((keys : NodeKeys) → checked_append
             (ledger_book service_layers keys) (take seqno self.old) entries.now ≡ Ok self.new) }
         ensures refused { IfErr result (λ e. (keys : NodeKeys) → Fails e (checked_append
             (ledger_book service_layers keys) (take seqno self.old) entries.now)) }
         ensures err { OnErr result (self.new ≡ self.old) }
     {
-        let mut copy = self.copy()?;
-        copy.cut(seqno);
-        if let Err(error) = copy.append_each(entries) {
+        let (tail, lists) = self.cut_off(seqno)?;
+        if let Err(error) = self.append(entries) {
+            self.put_back(tail, lists);
             return Err(error);
         }
-        *self = copy;
         Ok(())
     }
 
     /// Cuts the ledger to a seqno and adds copies of entries, each of which has to follow: all or
-    /// nothing. A ledger that isn't cut by it isn't copied.
+    /// nothing. No entry of the ledger is copied but those that are cut off.
     pub fn replace_tail(&mut self, seqno: u64, entries: &[Entry]) -> Result<(), OrNoMemory<Unmade>>
         ensures replaced { OnOk result ((keys : NodeKeys) → checked_append
             (ledger_book service_layers keys) (take seqno self.old) entries.now ≡ Ok self.new) }
@@ -219,7 +249,7 @@ impl BookLedger {
         ensures err { OnErr result (self.new ≡ self.old) }
     {
         if seqno < self.len() {
-            self.append_to_copy(seqno, entries)
+            self.append_behind(seqno, entries)
         } else {
             self.append(entries)
         }

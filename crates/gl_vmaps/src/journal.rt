@@ -235,7 +235,7 @@ pub(crate) fn copy_journal(
 ) -> Result<VecDeque<Written>, AllocError>
     ensures { IfOk result (λ copy. copy.items ≡ journal.now.items) }
 {
-    let mut copy = VecDeque::new(alloc);
+    let mut copy = VecDeque::with_capacity(alloc, journal.len())?;
     for written in journal.iter() {
         copy.push_back(Written {
             place: written.place,

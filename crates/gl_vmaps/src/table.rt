@@ -133,7 +133,7 @@ fn trim_in(rows: &mut Rows, key: &[u8], place: u64)
 fn copy_chain(alloc: Global, chain: &VecDeque<Version>) -> Result<VecDeque<Version>, AllocError>
     ensures { IfOk result (λ copy. copy.items ≡ chain.now.items) }
 {
-    let mut copy = VecDeque::new(alloc);
+    let mut copy = VecDeque::with_capacity(alloc, chain.len())?;
     for version in chain.iter() {
         copy.push_back(version.copy(alloc)?)?;
     }
@@ -164,6 +164,19 @@ fn value_up_to(chain: &VecDeque<Version>, to: u64) -> Option<&Value>
     match chain.get(count - 1) {
         None => None,
         Some(version) => version.value.as_ref(),
+    }
+}
+
+/// The value that the row with a key had at a place, if it had one.
+fn value_at<'a>(rows: &'a Rows, key: &[u8], to: u64) -> Option<&'a Value>
+    requires { IsNonDecreasingBy (λ version. version.place)
+        (chain_of (chains_by rows.now.entries) key.now) }
+    ensures { option_copied result ≡
+        last_value (versions_up_to to (chain_of (chains_by rows.now.entries) key.now)) }
+{
+    match rows.get(key) {
+        None => None,
+        Some(chain) => value_up_to(chain, to),
     }
 }
 
@@ -264,6 +277,15 @@ impl Table {
         ensures { option_copied result ≡ last_or None (chain_of self.now key.now) }
     {
         last_of(&self.rows, key)
+    }
+
+    /// The value that a row had at a place, if it had one.
+    pub(crate) fn value_at(&self, key: &[u8], to: u64) -> Option<&Value>
+        requires { IsNonDecreasingBy (λ version. version.place) (chain_of self.now key.now) }
+        ensures { option_copied result ≡
+            last_value (versions_up_to to (chain_of self.now key.now)) }
+    {
+        value_at(&self.rows, key, to)
     }
 
     /// The number of rows that have a value.

@@ -2,14 +2,18 @@
 
 ghost use Rattle.std.specs.Prelude.{◌≡◌, ◌≤◌, ◌<◌, ◌^◌, None, IsTrue, IfSome, length, reverse};
 ghost use Rattle.std.specs.List.{last_or};
+ghost use Rattle.std.specs.List.Sorted.{IsNonDecreasingBy};
 ghost use Rattle.std.specs.Option.{option_copied};
 ghost use Rattle.gl_vmaps.specs.Name.{is_value};
 ghost use Rattle.gl_vmaps.specs.Chains.{maps_by, rows_in, found_in, present};
+ghost use Rattle.gl_vmaps.specs.Kept.{last_value};
+ghost use Rattle.gl_vmaps.specs.Standing.{versions_up_to};
 
 use crate::journal::{
     Maps, Written, copy_journal, copy_maps, ends_above, maps_of_rows, newest_of, pop_last,
     push_writes, rows_of_maps, settle_first, starts_up_to,
 };
+use crate::name::Value;
 use crate::row::Rows;
 use crate::table::Version;
 use crate::write::Writes;
@@ -62,6 +66,19 @@ fn last_version<'a>(maps: &'a Maps, map: &[u8], key: &[u8]) -> Option<&'a Versio
     match maps.get(map) {
         None => None,
         Some(table) => table.last(key),
+    }
+}
+
+/// The value that a row had at a place, if it had one.
+fn value_at<'a>(maps: &'a Maps, map: &[u8], key: &[u8], to: u64) -> Option<&'a Value>
+    requires { IsNonDecreasingBy (λ version. version.place)
+        (found_in (maps_by maps.now.entries) map.now key.now) }
+    ensures { option_copied result ≡
+        last_value (versions_up_to to (found_in (maps_by maps.now.entries) map.now key.now)) }
+{
+    match maps.get(map) {
+        None => None,
+        Some(table) => table.value_at(key, to),
     }
 }
 
@@ -136,6 +153,20 @@ impl Tables {
         match last_version(&self.maps, map, key) {
             None => None,
             Some(version) => value_in(version),
+        }
+    }
+
+    /// The value that a key of a map had at a place, which is not below the compacted one, if the
+    /// map had that key there.
+    pub fn get_at(&self, map: &[u8], key: &[u8], place: u64) -> Option<&[u8]>
+        requires { self.now.compacted ≤ place }
+        ensures value { option_copied result ≡ value_up_to self.now place map.now key.now }
+        ensures stands { (ps : List Placed) → StandsFor self.now ps →
+            option_copied result ≡ value_in (written_by (up_to place ps)) map.now key.now }
+    {
+        match value_at(&self.maps, map, key, place) {
+            None => None,
+            Some(value) => Some(value.as_slice()),
         }
     }
 

@@ -1,7 +1,6 @@
 //! A store gives receipts of its committed transactions.
 
 use super::Store;
-use gl_audit::{SERVICE_KEY, SERVICE_MAP, key_behind};
 use gl_entry::Entry;
 use gl_merkle::Step;
 use gl_receipt::CommittedLedger;
@@ -14,17 +13,13 @@ impl Store {
     ghost use Rattle.gl_ledger.specs.Tree.{tables_of};
     ghost use Rattle.gl_audit.specs.Kept.{key_of};
 
-    /// The service's key in force at a seqno: that of the present, where its row was last written
-    /// up to there. There is none at 0.
+    /// The service's key in force at a seqno. There is none at 0.
     fn key_at(&self, seqno: u64) -> Option<HssPublicKey>
         requires { seqno ≤ length self.now.ledger }
         ensures key { result ≡ key_of (identity_in (tables_of (take seqno self.now.ledger))) }
         ensures none { IfNone result (seqno ≡ 0) }
     {
-        if self.state.tables.version_of(SERVICE_MAP, SERVICE_KEY) <= seqno {
-            return self.state.identity;
-        }
-        key_behind(&self.entries[..seqno as usize])
+        self.state.key_at(seqno)
     }
 }
 

@@ -19,6 +19,7 @@ ghost use Rattle.ccfg.specs.FileNodes.{IsMemoryFile, SeenFileNode, StandsOverFil
 ghost use Rattle.gl_store_book.specs.Stands.{Stands};
 ghost use Rattle.gl_store_book.specs.Turns.{turn_records};
 
+use crate::schedule_nodes::disk::BytesDisk;
 use crate::schedule_nodes::opening::books;
 use crate::schedule_nodes::{FileNode, only_memory};
 use gl_config::NodeId;
@@ -26,7 +27,6 @@ use gl_entry::Entry;
 use gl_hss::{LmsKey, Types};
 use gl_journal::{Journal, Key, KeyKind, Record};
 use gl_node::Replica;
-use gl_outside::SureDisk;
 use gl_replication::{Book, Core};
 use gl_store_book::{StoreBook, Turn, keep, keep_opening};
 use gl_world::{ServiceKeys, Settings, core_at_start, node_seed};
@@ -45,10 +45,10 @@ fn frames_of(alloc: Global, entries: &[Entry]) -> Result<Vec<u8>, AllocError>
 }
 
 /// A file in memory with this key. Fails for want of memory alone.
-fn create(alloc: Global, key: Key) -> Result<Journal<SureDisk>, AllocError>
+fn create(alloc: Global, key: Key) -> Result<Journal<BytesDisk>, AllocError>
     ensures { IfOk result (λ journal. IsMemoryFile journal (key_alone key)) }
 {
-    match Journal::create(alloc, SureDisk::new(alloc), key) {
+    match Journal::create(alloc, BytesDisk::new(alloc), key) {
         Ok(journal) => Ok(journal),
         Err((error, _)) => Err(only_memory(error)),
     }
@@ -56,7 +56,7 @@ fn create(alloc: Global, key: Key) -> Result<Journal<SureDisk>, AllocError>
 
 /// The file keeps how many leaves are reserved. Fails for want of memory alone.
 #[tactic(auto, unfolding(gl_base::specs::LittleEndian::little_endian))]
-fn keep_leaves(journal: &mut Journal<SureDisk>, reserved: u32) -> Result<(), AllocError>
+fn keep_leaves(journal: &mut Journal<BytesDisk>, reserved: u32) -> Result<(), AllocError>
     requires { (state : State) × IsMemoryFile journal.old state }
     ensures { (state : State) → IsMemoryFile journal.old state → state.reserved ≤ reserved →
         reserved ≤ leaf_count state →
@@ -109,7 +109,7 @@ fn entries_of(book: &StoreBook) -> &[Entry]
 /// The file keeps the view and the vote of a node, and its ledger. Fails for want of memory alone.
 fn keep_node(
     alloc: Global,
-    journal: &mut Journal<SureDisk>,
+    journal: &mut Journal<BytesDisk>,
     core: &Core<StoreBook>,
 ) -> Result<(), AllocError>
     requires open { (state : State) × IsMemoryFile journal.old state }

@@ -1,5 +1,9 @@
+use Rattle.gl_lines.proofs.FirstLines.{first_within}
 use Rattle.gl_schedule.proofs.HeadlineLemmas.{group_of}
 use Rattle.gl_schedule.proofs.schedule.read.Goals as goal
+
+pub service_of-requires : goal.service_of-requires
+service_of-requires c = first_within c.args.text.now c.in_ok-world.world c.in_ok-world.behind.now c.in_ok-world.ensures
 
 pub returns-clause-playable : goal.returns-clause-playable
 returns-clause-playable c =

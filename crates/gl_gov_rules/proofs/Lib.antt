@@ -24,7 +24,6 @@ pub mod HistoryLists
 pub mod Removals
 pub mod NewNodes
 pub mod Statuses
-pub mod NodeNews
 pub mod TrustedBy
 pub mod SomeTrusted
 pub mod RowsSet

@@ -1,6 +1,6 @@
 -- What stands beside the requests and the changes of a history, so that no question about members,
 -- nodes, proposals or shares goes through all requests.
-use Rattle.std.specs.Prelude.{◌≡◌, ℕ, ◌+◌, ◌-◌, ◌≤◌, ◌<◌, List, Option, None, Some, true, length, find, map, filter_map, option_map, slice_get, nat_lt, nat_eq, Bool, ◌&&◌, ◌||◌, if◌then◌else◌, vec_len, vec_capacity}
+use Rattle.std.specs.Prelude.{◌≡◌, ℕ, ◌+◌, ◌-◌, ◌≤◌, ◌<◌, List, Option, None, Some, true, length, find, map, filter_map, option_map, slice_get, nat_lt, nat_eq, Bool, ◌&&◌, if◌then◌else◌, vec_len, vec_capacity}
 use Rattle.std.specs.List.{AllByRecursion, position_or_len, flat_map, list_any}
 use Rattle.std.specs.declared.vec.Vec.{Vec}
 use Rattle.std.specs.declared.alloc.Global.{Global}
@@ -28,7 +28,7 @@ use Rattle.gl_gov_rules.specs.declared.index.ByRequest.{ByRequest}
 use Rattle.gl_gov_rules.specs.declared.index.Added.{Added}
 use Rattle.gl_gov_rules.specs.Lists.{lists_of, list_at, HasRoomAt}
 use Rattle.gl_gov_rules.specs.Members.{member_named, leaf_behind}
-use Rattle.gl_gov_rules.specs.Nodes.{nodes_recorded, nodes}
+use Rattle.gl_gov_rules.specs.Nodes.{nodes_recorded}
 use Rattle.gl_gov_rules.specs.Proposals.{proposal_in, ballot_on, settling_in}
 use Rattle.gl_gov_rules.specs.Told.{removed_in, trust_in, retirement_in, mark_in, given_in, signed_by}
 
@@ -136,16 +136,9 @@ given h = filter_map (λ (r : Recorded). given_in r.seqno r.request) h.requests
 unfoldable pub signed : ℕ → History → List Signed
 signed n h = filter_map (λ (r : Recorded). signed_by n r.seqno r.request) h.requests
 
--- Behind a seqno a node was marked; a node was recorded, trusted, taken out of service or marked.
+-- Behind a seqno a node was marked.
 unfoldable pub has_mark_behind : History → ℕ → Bool
 has_mark_behind h seqno = list_any (λ (m : Mark). nat_lt seqno m.seqno) (marks_of h)
-
-unfoldable pub has_node_news : History → ℕ → Bool
-has_node_news h seqno =
-    list_any (λ (n : RecordedNode). nat_lt seqno n.seqno) (nodes h)
-    || list_any (λ (t : Trust). nat_lt seqno t.seqno) (trusts_of h)
-    || list_any (λ (r : Retirement). nat_lt seqno r.seqno) (retirements_of h)
-    || has_mark_behind h seqno
 
 -- 1 plus the leaf of the last of these, 0 without one.
 abbrev pub next_or_zero : Option Signed → ℕ

@@ -178,7 +178,7 @@ fn first_mark(marks: &[Mark], id: &NodeId) -> Option<u64>
 }
 
 impl History {
-    ghost use Rattle.gl_gov_rules.specs.Index.{has_mark_behind, has_node_news};
+    ghost use Rattle.gl_gov_rules.specs.Index.{has_mark_behind};
     ghost use Rattle.gl_gov_rules.specs.Nodes.{node, retirement, mark, is_marked, is_trust_applied, was_trusted, node_status, trusted_count, pending_count};
 
     /// The node with this identifier, if it is recorded.
@@ -226,18 +226,6 @@ impl History {
         ensures { result ≡ has_mark_behind self.now seqno }
     {
         is_any_behind(self.marks(), seqno)
-    }
-
-    /// Whether a node was recorded, trusted, taken out of service or marked behind a seqno. One look
-    /// at each of these.
-    #[tactic(auto, unfolding(crate::specs::Index::has_node_news))]
-    pub fn has_node_news(&self, seqno: u64) -> bool
-        ensures { result ≡ has_node_news self.now seqno }
-    {
-        is_any_behind(self.nodes(), seqno)
-            || is_any_behind(self.trusts(), seqno)
-            || is_any_behind(self.retirements(), seqno)
-            || self.has_mark_behind(seqno)
     }
 
     /// Whether the node's trust was applied.

@@ -85,22 +85,6 @@ impl AtSeqno for Mark {
     }
 }
 
-impl AtSeqno for Trust {
-    ghost seqno_at = { λ t. t.seqno };
-
-    fn seqno(&self) -> u64 {
-        self.seqno
-    }
-}
-
-impl AtSeqno for Retirement {
-    ghost seqno_at = { λ r. r.seqno };
-
-    fn seqno(&self) -> u64 {
-        self.seqno
-    }
-}
-
 impl AtSeqno for GivenShare {
     ghost seqno_at = { λ s. s.seqno };
 

@@ -1,5 +1,5 @@
 -- The configurations of a ledger and the nodes that it records, with one more entry.
-use Rattle.std.proofs.Common.{◌≡◌, ℕ, zero, suc, ◌+◌, ◌-◌, ◌≤◌, ◌<◌, List, [], ◌∷◌, ◌++◌, length, map, take, Option, Some, None, Bool, true, false, if◌then◌else◌, refl, sym, ap, ap₂, subst, ◌∙◌, arith, nat_eq, true≢false, slice_get, length-append}
+use Rattle.std.proofs.Common.{◌≡◌, ℕ, zero, suc, ◌-◌, ◌≤◌, List, [], ◌∷◌, ◌++◌, length, map, take, Option, Some, None, Bool, true, false, if◌then◌else◌, refl, sym, ap, ap₂, subst, ◌∙◌, arith, nat_eq, true≢false, slice_get, length-append}
 use Rattle.std.specs.List.{filter}
 use Rattle.std.specs.Cmp.Lexicographic.{bytes_decides, pointwise}
 use Rattle.std.proofs.lemmas.Bool.{and_from, and_parts}
@@ -19,15 +19,11 @@ use Rattle.gl_gov_rules.specs.declared.change.RecordedNode.{RecordedNode}
 use Rattle.gl_gov_rules.specs.History.{History}
 use Rattle.gl_gov_rules.specs.Changes.{history}
 use Rattle.gl_gov_rules.specs.Nodes as nodes
-use Rattle.gl_gov_rules.specs.Index.{has_node_news}
-use Rattle.gl_gov_rules.proofs.NodeNews.{nodes_still}
-use Rattle.gl_requests.specs.declared.request.GovernanceRequest.{GovernanceRequest}
-use Rattle.gl_requests.specs.Reading.{request_in}
 use Rattle.gl_ledger.specs.NodeKeys.{NodeKeys, service_layers}
 use Rattle.gl_ledger.specs.LedgerBook.{ServiceBook, ledger_book}
-use Rattle.gl_ledger.specs.Recordings.{same_nodes, changed_set, recorded_at, recorded_in, requests_of, recorded_nodes, trusted_nodes, configuration}
+use Rattle.gl_ledger.specs.Recordings.{same_nodes, changed_set, requests_of, recorded_nodes, trusted_nodes, configuration}
 use Rattle.gl_ledger.proofs.Configurations.{same_nodes_are, configuration_is, configuration_kept}
-use Rattle.gl_ledger.proofs.Gathering.{requests-push, requests-quiet}
+use Rattle.gl_ledger.proofs.Gathering.{requests-quiet}
 use Rattle.gl_ledger.proofs.Growth as growth
 use Rattle.gl_ledger.proofs.Governed.{governed}
 use Rattle.gl_ledger.specs.Sound.{IsSound}
@@ -161,48 +157,6 @@ listed_quiet ledger e lists quiet are = record {
   configured = configured_still ledger e lists.configurations.items (sym (trusted_quiet ledger e quiet)) are.configured;
   recorded = are.recorded ∙ sym (recorded_quiet ledger e quiet);
 }
-
--- ---- entries that tell nothing of nodes
-
-abbrev AreSameNodes : List Recorded → List Recorded → Type 0
-AreSameNodes rs more = (nodes.nodes (history more) ≡ nodes.nodes (history rs)) × (nodes.trusted (history more) ≡ nodes.trusted (history rs))
-
-none_same : (rs : List Recorded) → AreSameNodes rs (rs ++ [])
-none_same rs = let same : rs ++ [] ≡ rs = append-nil rs in (ap (λ (us : List Recorded). nodes.nodes (history us)) same, ap (λ (us : List Recorded). nodes.trusted (history us)) same)
-
-still_at : (rs : List Recorded) (s at : ℕ) (o : Option GovernanceRequest) → s < at → has_node_news (history (rs ++ recorded_at at o)) s ≡ false → AreSameNodes rs (rs ++ recorded_at at o)
-still_at rs s at None low none = none_same rs
-still_at rs s at (Some request) low none = nodes_still rs (record { seqno = at; request = request }) s low none
-
-still_in : (rs : List Recorded) (s at : ℕ) (c : Content) → s < at → has_node_news (history (rs ++ recorded_in at c)) s ≡ false → AreSameNodes rs (rs ++ recorded_in at c)
-still_in rs s at (content.Governance bytes) low none = still_at rs s at (request_in bytes) low none
-still_in rs s at (content.Application bytes) low none = none_same rs
-still_in rs s at (content.Signature x) low none = none_same rs
-still_in rs s at (content.Evidence d) low none = none_same rs
-
-nodes_kept : (ledger : List Entry) (e : Entry) → has_node_news (history (requests_of (ledger ++ e ∷ []))) (length ledger) ≡ false → AreSameNodes (requests_of ledger) (requests_of (ledger ++ e ∷ []))
-nodes_kept ledger e none =
-    subst (AreSameNodes (requests_of ledger)) (sym (requests-push ledger e))
-    (still_in (requests_of ledger) (length ledger) (length ledger + 1) e.content (omega arith)
-    (ap (λ (rs : List Recorded). has_node_news (history rs) (length ledger)) (sym (requests-push ledger e)) ∙ none))
-
--- they leave the lists as they are
-listed_kept : (ledger : List Entry) (e : Entry) (lists : NodeLists) → has_node_news (history (requests_of (ledger ++ e ∷ []))) (length ledger) ≡ false →
-    AreListsOf ledger lists → AreListsOf (ledger ++ e ∷ []) lists
-unfolding trusted_nodes recorded_nodes
-listed_kept ledger e lists none are =
-    let same = nodes_kept ledger e none in
-    record {
-      configured = configured_still ledger e lists.configurations.items (sym same.1) are.configured;
-      recorded = are.recorded ∙ sym (ap ids same.0);
-    }
-
-pub listed_still : (all ledger : List Entry) (e : Entry) (past : History) (len : ℕ) (lists : NodeLists) → past ≡ history (requests_of all) → all ≡ ledger ++ e ∷ [] → len ≡ length all →
-    has_node_news past (len - 1) ≡ false → AreListsOf ledger lists → AreListsOf all lists
-listed_still all ledger e past len lists is more at none are =
-    let low : length ledger ≡ len - 1 = let l = ap (λ (es : List Entry). length es) more in let long = length-append ledger (e ∷ []) in omega (arith, at, l, long) in
-    subst (λ (es : List Entry). AreListsOf es lists) (sym more)
-    (listed_kept ledger e lists (ap₂ has_node_news (ap (λ (es : List Entry). history (requests_of es)) (sym more) ∙ sym is) low ∙ none) are)
 
 -- ---- no entries
 

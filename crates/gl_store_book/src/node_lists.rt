@@ -51,8 +51,8 @@ impl NodeLists {
         &self.recorded[..count]
     }
 
-    /// Takes in what the last entry of a ledger changes: nothing where it tells nothing of nodes.
-    /// Want of memory leaves both lists as they were.
+    /// Takes in what the last entry of a ledger changes. Want of memory leaves both lists as they
+    /// were.
     pub(crate) fn push_last(&mut self, alloc: Global, store: &Store) -> Result<(), AllocError>
         requires { (ledger : List Entry) × (e : Entry) × (store.now.ledger ≡ ledger ++ e ∷ [])
             × AreListsOf ledger self.old }
@@ -61,14 +61,9 @@ impl NodeLists {
             (self.new.configurations.items ≡ self.old.configurations.items) }
         ensures recorded { OnErr result (self.new.recorded.items ≡ self.old.recorded.items) }
     {
-        let len = store.ledger_len();
-        prove!(len > 0);
-        let past = store.gov().history();
-        if !past.has_node_news(len - 1) {
-            return Ok(());
-        }
+        prove!(store.ledger_len() > 0);
         let count = self.recorded.len();
-        push_recorded(&mut self.recorded, past.nodes())?;
+        push_recorded(&mut self.recorded, store.gov().history().nodes())?;
         if let Err(error) = push_configuration(alloc, &mut self.configurations, store) {
             self.recorded.truncate(count);
             return Err(error);

@@ -1,4 +1,6 @@
+use Rattle.std.proofs.Common.{sym, subst}
 use Rattle.gl_lines.proofs.FirstLines.{first_within}
+use Rattle.gl_schedule.specs.Playable.{IsPlayable}
 use Rattle.gl_schedule.proofs.HeadlineLemmas.{group_of}
 use Rattle.gl_schedule.proofs.schedule.read.Goals as goal
 
@@ -7,4 +9,5 @@ service_of-requires c = first_within c.args.text.now c.in_ok-world.world c.in_ok
 
 pub returns-clause-playable : goal.returns-clause-playable
 returns-clause-playable c =
+    subst IsPlayable (sym c.service.ensures)
     (group_of c.args.text.now c.in_ok-world.world c.in_ok-world.behind.now c.in_ok-settings.settings c.in_ok-world.ensures c.in_ok-settings.ensures.gives, c.in_ok-lines.ensures.fit)

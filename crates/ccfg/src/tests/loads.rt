@@ -1,31 +1,40 @@
 //! Ledgers of so many requests.
 
-use crate::tests::part::Part::Text;
-use crate::tests::run::{Due, RUN, Run};
+use crate::tests::run;
+use std::test::Fail;
 
 const SEED: &str = "0000000000000000000000000000000000000000000000000000000000000000";
 
-pub const RUNS: &[Run<'static>] = &[
-    Run {
-        name: "no request",
-        words: &["load", "--count", "0", "--seed", SEED],
-        due: Due::Has(&[
+#[test]
+fn tells_of_a_ledger_of_so_many_requests(rt: HostRuntime) -> Result<(), Fail> {
+    let rows: [(&str, &str, &str); 2] = [
+        (
+            "0",
             "entries 2\nsignatures 1\nbytes ",
             "\nkeys 0\nlast 2.2\nroot ",
-        ]),
-        ..RUN
-    },
-    Run {
-        name: "250 requests",
-        words: &["load", "--count", "250", "--seed", SEED],
-        due: Due::Has(&["entries 255\nsignatures 4\nbytes ", "\nlast 2.255\nroot "]),
-        ..RUN
-    },
-    Run {
-        name: "a request too many",
-        words: &["load", "--count", "100001", "--seed", SEED],
-        status: 8,
-        due: Due::Is(&[Text("fault count 100000\n")]),
-        ..RUN
-    },
-];
+        ),
+        (
+            "250",
+            "entries 255\nsignatures 4\nbytes ",
+            "\nlast 2.255\nroot ",
+        ),
+    ];
+    for (count, front, end) in rows {
+        let called = ["load", "--count", count, "--seed", SEED];
+        let (status, told) = run(rt.alloc(), &called, b"")?;
+        assert_eq!(rt; status, 0);
+        let told = str::from_utf8(&told)?;
+        assert!(rt; told.starts_with(front));
+        assert!(rt; told.contains(end));
+    }
+    Ok(())
+}
+
+#[test]
+fn refuses_more_requests_than_its_limit(rt: HostRuntime) -> Result<(), Fail> {
+    let called = ["load", "--count", "100001", "--seed", SEED];
+    let (status, told) = run(rt.alloc(), &called, b"")?;
+    assert_eq!(rt; status, 8);
+    assert_eq!(rt; told.as_slice(), b"fault count 100000\n".as_slice());
+    Ok(())
+}

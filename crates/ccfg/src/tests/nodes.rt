@@ -1,12 +1,10 @@
 //! Schedules of many nodes, each line with what is told of it, worked out by hand.
 
-use crate::tests::part::Lines;
-use crate::tests::part::Part::{Answered, Asked, Text, World};
-use crate::tests::run::{Due, Run};
-use crate::tests::schedules::REPLAY;
+use crate::tests::members::{Rows, plays};
+use std::test::Fail;
 
 /// A put that nobody commits is rolled back: node 2 wins the next view without it.
-const ROLLBACK: Lines<'static> = &[
+const ROLLBACK: [(&str, &str); 17] = [
     ("submit 1 put public:t 61 01", "accepted 2.3 done"),
     ("timeout 2", "candidate sent 1 2"),
     ("deliver 2", "ok sent 3"),
@@ -27,7 +25,7 @@ const ROLLBACK: Lines<'static> = &[
 ];
 
 /// Messages that come again, behind that.
-const REPEATED: Lines<'static> = &[
+const REPEATED: [(&str, &str); 5] = [
     ("deliver 3", "idle"),
     ("deliver 4", "ok sent 8"),
     ("deliver 4", "ok sent 9"),
@@ -36,8 +34,17 @@ const REPEATED: Lines<'static> = &[
     ("submit 1 size public:t", "refused 110 3 2"),
 ];
 
+#[test]
+fn rolls_back_what_nobody_committed(rt: HostRuntime) -> Result<(), Fail> {
+    plays(&rt, rt.alloc(), b"3 0 1 open", &ROLLBACK)?;
+    let mut rows = Vec::from_slice(rt.alloc(), &ROLLBACK)?;
+    rows.extend_from_slice(&REPEATED)?;
+    plays(&rt, rt.alloc(), b"3 0 1 open", &rows)?;
+    Ok(())
+}
+
 /// Node 2 grants its vote once more when the request comes again.
-const GRANTED_AGAIN: Lines<'static> = &[
+const GRANTED_AGAIN: Rows<'static> = &[
     ("submit 2 size public:t", "refused 110 2 -"),
     ("timeout 2", "candidate sent 1 2"),
     ("deliver 2", "ok sent 3"),
@@ -46,7 +53,7 @@ const GRANTED_AGAIN: Lines<'static> = &[
 ];
 
 /// Views and votes last through restarts: node 3 doesn't vote for a second node in view 3.
-const RESTARTS: Lines<'static> = &[
+const RESTARTS: Rows<'static> = &[
     ("timeout 2", "candidate sent 1 2"),
     ("deliver 2", "ok sent 3"),
     ("restart 3", "ok"),
@@ -57,7 +64,7 @@ const RESTARTS: Lines<'static> = &[
 ];
 
 /// A leader that steps down has another node stand, and follows.
-const STEPS_DOWN: Lines<'static> = &[
+const STEPS_DOWN: Rows<'static> = &[
     ("stepdown 1 2", "ok sent 1"),
     ("deliver 1", "candidate sent 2 3"),
     ("submit 1 size public:t", "refused 110 2 -"),
@@ -66,7 +73,7 @@ const STEPS_DOWN: Lines<'static> = &[
 ];
 
 /// Numbers that name nothing, nodes that are no peers, and a node in no configuration.
-const NO_PEERS: Lines<'static> = &[
+const NO_PEERS: Rows<'static> = &[
     ("replicate 1 1", "refused 126"),
     ("stepdown 1 1", "refused 126"),
     ("replicate 1 4", "refused 0"),
@@ -75,12 +82,18 @@ const NO_PEERS: Lines<'static> = &[
     ("mark 1 2", "refused 49 2"),
 ];
 
-/// A node in no configuration.
-const JOINER: Lines<'static> = &[("timeout 2", "idle")];
+#[test]
+fn plays_elections(rt: HostRuntime) -> Result<(), Fail> {
+    for rows in [GRANTED_AGAIN, RESTARTS, STEPS_DOWN, NO_PEERS] {
+        plays(&rt, rt.alloc(), b"3 0 1 open", rows)?;
+    }
+    plays(&rt, rt.alloc(), b"1 1 1 open", &[("timeout 2", "idle")])?;
+    Ok(())
+}
 
 /// A signature of an earlier view is committed by one of the leader's own view alone, though a
 /// majority holds it.
-const EARLIER_VIEW: Lines<'static> = &[
+const EARLIER_VIEW: Rows<'static> = &[
     ("submit 1 put public:t 61 01", "accepted 2.3 done"),
     ("reserve 1", "ok"),
     ("sign 1", "signed 2.4"),
@@ -125,8 +138,14 @@ const EARLIER_VIEW: Lines<'static> = &[
     ("advance 1", "commit 4.5"),
 ];
 
+#[test]
+fn commits_its_own_view_alone(rt: HostRuntime) -> Result<(), Fail> {
+    plays(&rt, rt.alloc(), b"5 0 1 open", EARLIER_VIEW)?;
+    Ok(())
+}
+
 /// Two nodes leave and two come: what is signed behind that waits for a majority of the new ones.
-const RECONFIGURED: Lines<'static> = &[
+const RECONFIGURED: Rows<'static> = &[
     ("ack 1 1", "accepted 2.3"),
     ("join 1 4", "accepted 2.4"),
     ("join 1 5", "accepted 2.5"),
@@ -176,7 +195,7 @@ const RECONFIGURED: Lines<'static> = &[
 ];
 
 /// A node is retired, stage by stage, and marked once its removal is committed.
-const RETIRED: Lines<'static> = &[
+const RETIRED: Rows<'static> = &[
     ("ack 1 1", "accepted 2.3"),
     (
         r##"propose 1 1 {"actions":[{"args":{"node":"#1"},"name":"remove_node"}]}"##,
@@ -216,69 +235,9 @@ const RETIRED: Lines<'static> = &[
     ("deliver 10", "leader"),
 ];
 
-pub const RUNS: &[Run<'static>] = &[
-    Run {
-        name: "a rollback",
-        input: &[World("3 0 1 open"), Asked(ROLLBACK)],
-        due: Due::Is(&[Text("1 ok\n"), Answered(2, ROLLBACK)]),
-        ..REPLAY
-    },
-    Run {
-        name: "a rollback, and messages again",
-        input: &[World("3 0 1 open"), Asked(ROLLBACK), Asked(REPEATED)],
-        due: Due::Is(&[
-            Text("1 ok\n"),
-            Answered(2, ROLLBACK),
-            Answered(19, REPEATED),
-        ]),
-        ..REPLAY
-    },
-    Run {
-        name: "a vote that is granted again",
-        input: &[World("3 0 1 open"), Asked(GRANTED_AGAIN)],
-        due: Due::Is(&[Text("1 ok\n"), Answered(2, GRANTED_AGAIN)]),
-        ..REPLAY
-    },
-    Run {
-        name: "votes last through restarts",
-        input: &[World("3 0 1 open"), Asked(RESTARTS)],
-        due: Due::Is(&[Text("1 ok\n"), Answered(2, RESTARTS)]),
-        ..REPLAY
-    },
-    Run {
-        name: "a leader that steps down",
-        input: &[World("3 0 1 open"), Asked(STEPS_DOWN)],
-        due: Due::Is(&[Text("1 ok\n"), Answered(2, STEPS_DOWN)]),
-        ..REPLAY
-    },
-    Run {
-        name: "nodes that are no peers",
-        input: &[World("3 0 1 open"), Asked(NO_PEERS)],
-        due: Due::Is(&[Text("1 ok\n"), Answered(2, NO_PEERS)]),
-        ..REPLAY
-    },
-    Run {
-        name: "a joiner that times out",
-        input: &[World("1 1 1 open"), Asked(JOINER)],
-        due: Due::Is(&[Text("1 ok\n"), Answered(2, JOINER)]),
-        ..REPLAY
-    },
-    Run {
-        name: "a signature of an earlier view",
-        input: &[World("5 0 1 open"), Asked(EARLIER_VIEW)],
-        due: Due::Is(&[Text("1 ok\n"), Answered(2, EARLIER_VIEW)]),
-        ..REPLAY
-    },
-    Run {
-        name: "another set of nodes",
-        input: &[World("3 2 1 open"), Asked(RECONFIGURED)],
-        due: Due::Is(&[Text("1 ok\n"), Answered(2, RECONFIGURED)]),
-        ..REPLAY
-    },
-    Run {
-        name: "a node that is retired",
-        input: &[World("3 0 1 open"), Asked(RETIRED)],
-        due: Due::Is(&[Text("1 ok\n"), Answered(2, RETIRED)]),
-        ..REPLAY
-    },
-];
+#[test]
+fn changes_its_nodes(rt: HostRuntime) -> Result<(), Fail> {
+    plays(&rt, rt.alloc(), b"3 2 1 open", RECONFIGURED)?;
+    plays(&rt, rt.alloc(), b"3 0 1 open", RETIRED)?;
+    Ok(())
+}

@@ -378,7 +378,7 @@ impl<B: Book> Core<B> {
 
     /// A leader's entries to this node. Where they are refused, nothing has changed, the view
     /// neither.
-    pub(crate) fn on_append(
+    pub fn on_append(
         &mut self,
         from: NodeId,
         view: u32,

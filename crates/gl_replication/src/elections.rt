@@ -122,7 +122,7 @@ impl<B: Book> Core<B> {
 
     /// A timeout: a node that doesn't lead campaigns for the next view, if it is in an active
     /// configuration of its log cut to its last signature.
-    pub(crate) fn timeout(&mut self) -> Result<Done<B>, Refusal<B>>
+    pub fn timeout(&mut self) -> Result<Done<B>, Refusal<B>>
         ensures steps { IfOk result (λ done.
             Steps B.stands (λ b x n. timeout b x n) self.old done self.new) }
         ensures refused { IfErr result (λ why.
@@ -144,7 +144,7 @@ impl<B: Book> Core<B> {
     }
 
     /// A candidate's request for a vote in a view.
-    pub(crate) fn on_request_vote(
+    pub fn on_request_vote(
         &mut self,
         from: NodeId,
         view: u32,
@@ -170,7 +170,7 @@ impl<B: Book> Core<B> {
 
     /// A reply to such a request: a candidate of that view leads once it has a majority in each
     /// active configuration.
-    pub(crate) fn on_vote_reply(
+    pub fn on_vote_reply(
         &mut self,
         from: NodeId,
         view: u32,
@@ -195,7 +195,7 @@ impl<B: Book> Core<B> {
     }
 
     /// A leader's wish that this node campaign.
-    pub(crate) fn on_propose_vote(&mut self, from: NodeId, view: u32) -> Result<Done<B>, Refusal<B>>
+    pub fn on_propose_vote(&mut self, from: NodeId, view: u32) -> Result<Done<B>, Refusal<B>>
         ensures steps { IfOk result (λ done. Steps B.stands (λ b x n.
             on_message b (message_to x from view ProposeVote) n) self.old done self.new) }
         ensures refused { IfErr result (λ why. Refuses B.stands (λ b x n.
@@ -220,7 +220,7 @@ impl<B: Book> Core<B> {
     }
 
     /// The leader hands over to another node of an active configuration.
-    pub(crate) fn step_down(&mut self, to: NodeId) -> Result<Done<B>, Refusal<B>>
+    pub fn step_down(&mut self, to: NodeId) -> Result<Done<B>, Refusal<B>>
         ensures steps { IfOk result (λ done.
             Steps B.stands (λ b x n. step_down b x to n) self.old done self.new) }
         ensures refused { IfErr result (λ why.

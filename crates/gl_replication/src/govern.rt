@@ -120,7 +120,7 @@ impl<B: Book> Core<B> {
     /// The leader takes a request of governance, as one entry. It waits while too many
     /// configurations stand above commit, and a mark waits until the removal of its node is
     /// committed.
-    pub(crate) fn govern(&mut self, request: &B::Gov) -> Result<Done<B>, Refusal<B>>
+    pub fn govern(&mut self, request: &B::Gov) -> Result<Done<B>, Refusal<B>>
         ensures steps { IfOk result (λ done.
             Steps B.stands (λ b x n. govern b request.now n) self.old done self.new) }
         ensures refused { IfErr result (λ why.
@@ -136,7 +136,7 @@ impl<B: Book> Core<B> {
 
     /// One more leaf of its key, at any node. Takes no memory.
     #[tactic(auto, unfolding(gl_rules::specs::Requests::reserve))]
-    pub(crate) fn reserve(&mut self) -> Result<Done<B>, Refusal<B>>
+    pub fn reserve(&mut self) -> Result<Done<B>, Refusal<B>>
         ensures steps { IfOk result (λ done.
             Steps B.stands (λ b x n. reserve b x n) self.old done self.new) }
         ensures refused { IfErr result (λ why.

@@ -56,7 +56,7 @@ impl<B: Book> Core<B> {
     }
 
     /// The leader takes an application's request, as one entry.
-    pub(crate) fn submit(&mut self, request: &B::Request) -> Result<Done<B>, Refusal<B>>
+    pub fn submit(&mut self, request: &B::Request) -> Result<Done<B>, Refusal<B>>
         ensures steps { IfOk result (λ done.
             Steps B.stands (λ b x n. submit b request.now n) self.old done self.new) }
         ensures refused { IfErr result (λ why.
@@ -114,7 +114,7 @@ impl<B: Book> Core<B> {
     }
 
     /// The leader signs the ledger so far.
-    pub(crate) fn sign(&mut self) -> Result<Done<B>, Refusal<B>>
+    pub fn sign(&mut self) -> Result<Done<B>, Refusal<B>>
         ensures steps { IfOk result (λ done.
             Steps B.stands (λ b x n. sign b x n) self.old done self.new) }
         ensures refused { IfErr result (λ why.
@@ -206,7 +206,7 @@ impl<B: Book> Core<B> {
     }
 
     /// The leader commits the greatest seqno that it may. Takes no memory.
-    pub(crate) fn advance(&mut self) -> Result<Done<B>, Refusal<B>>
+    pub fn advance(&mut self) -> Result<Done<B>, Refusal<B>>
         ensures steps { IfOk result (λ done.
             Steps B.stands (λ b x n. advance b x n) self.old done self.new) }
         ensures refused { IfErr result (λ why.

@@ -129,7 +129,7 @@ impl<B: Book> Core<B> {
     }
 
     /// A node's reply to the leader's entries.
-    pub(crate) fn on_append_reply(
+    pub fn on_append_reply(
         &mut self,
         from: NodeId,
         view: u32,

@@ -101,7 +101,7 @@ impl<B: Book> Core<B> {
     }
 
     /// The leader sends a node the entries from its next seqno on, as many as one message carries.
-    pub(crate) fn replicate(&mut self, to: NodeId) -> Result<Done<B>, Refusal<B>>
+    pub fn replicate(&mut self, to: NodeId) -> Result<Done<B>, Refusal<B>>
         ensures steps { IfOk result (λ done.
             Steps B.stands (λ b x n. replicate b x to n) self.old done self.new) }
         ensures refused { IfErr result (λ why.

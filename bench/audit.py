@@ -20,7 +20,7 @@ SMALL, LARGE = 10_000, 99_900
 HEAD = 8
 
 
-# A service that takes so many puts, and signs as often as it can, each time behind a put.
+# A service that takes so many puts, and signs as often as it can, each time after a put.
 def schedule(puts):
     space = puts // SIGNATURES
     lines, signed = [program.WORLD], 0

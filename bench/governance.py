@@ -5,7 +5,7 @@
 # beginning takes most of the shorter run and a machine's speed changes meanwhile. Prints the ratio of the two without that of
 # beginning, and the time of the longer one without that of signing too, against that of the SHA-256 digests that its 10,000
 # verified signatures need.
-# Then a service that nine nodes joined takes 150 and 1,500 proposals of two actions, each of which is tried behind the one before
+# Then a service that nine nodes joined takes 150 and 1,500 proposals of two actions, each of which is tried after the one before
 # it; more than 1,500 the 64 keys of 32 leaves can't sign. Every 200th sets the constitution, so that it drops those that are open,
 # of which there may be 256. Prints the ratio of these two as well, without that of beginning.
 # Fails where the first or the last isn't below 12, or the second is above 1.5.

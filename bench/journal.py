@@ -139,7 +139,7 @@ def clock(call):
     return time.monotonic() - start
 
 
-# What a batch costs at least: its bytes and the gate behind them, synced, and then the gate before them, synced.
+# What a batch costs at least: its bytes and the gate after them, synced, and then the gate before them, synced.
 def plain(path):
     file = os.open(path, os.O_RDWR | os.O_CREAT | os.O_TRUNC, 0o600)
     piece = bytes(SIZE + 5)

@@ -36,7 +36,7 @@ def digests(told):
     return key(10) + 3 * key(5) + signatures * signature + 2 * entries * (body + 2 + 2 + 2 + 1 + 2)
 
 
-# The least processor time of three runs, the greatest peak, and what was told.
+# The least processor time of three runs, the greatest peak, and what was reported.
 def load(work, count):
     out = f"{work}/told"
     command = [program.PROGRAM, "load", "--count", str(count), "--seed", SEED]

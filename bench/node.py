@@ -42,7 +42,7 @@ CONNECTIONS = 32
 COMMITS = 20 if QUICK else 60
 TICK = 0.1
 # A put waits for the tick that signs it, half a tick at the mean. A leader sends first in a tick and signs then, so the signature
-# goes out at the next tick, and the one behind that counts who holds it: two ticks.
+# goes out at the next tick, and the one after that counts who holds it: two ticks.
 BOUND = 3 * TICK
 ROOM = 64 * 2**20
 

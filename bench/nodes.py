@@ -1,7 +1,7 @@
 #!/usr/bin/env -S python3 -B
 # Replays schedules of several nodes with the built program, and prints the least processor time of three runs of each, less
-# that of founding the service where it says so. Node 1 leads and takes puts; behind each 50 of them they are sent to each other
-# node, and its answer comes back. Nothing is signed behind the opening. Fails where a put at three nodes costs more than 3.6
+# that of founding the service where it says so. Node 1 leads and takes puts; after each 50 of them they are sent to each other
+# node, and its answer comes back. Nothing is signed after the opening. Fails where a put at three nodes costs more than 3.6
 # times a put at one, or where 100,000 lines of three nodes don't take below 12 times 10,000. Prints beside it what an election
 # among nine nodes takes, in which every node is asked and the fifth vote wins.
 import sys

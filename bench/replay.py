@@ -1,6 +1,6 @@
 #!/usr/bin/env -S python3 -B
 # Replays schedules of 10,000 and of 100,000 lines with the built program: mostly submits, and the 31 signatures that a key
-# of 32 leaves has left, evenly spread, each reserved before it and committed behind it. Prints the least processor time of
+# of 32 leaves has left, evenly spread, each reserved before it and committed after it. Prints the least processor time of
 # five runs of each, the ratio of both, and for the longer one the peak of memory against the size of its text. Fails where
 # the ratio isn't below 12 or the peak isn't below 40 times the text.
 import sys

@@ -25,7 +25,7 @@ class Key:
         return sha256(self.prefix(q), big(i, 2), b"\xff", self.seed)
 
     def ends(self, q, digits):
-        """The value of each chain of a leaf behind so many steps (4.3 and 4.5)."""
+        """The value of each chain of a leaf after so many steps (4.3 and 4.5)."""
         prefix, ends = self.prefix(q), []
         for i, digit in enumerate(digits):
             value = self.secret(q, i)

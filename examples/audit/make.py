@@ -5,7 +5,7 @@
     make.py < ANSWERS > LEDGER
 
 PROGRAM is the path of the built `ccfg`. It replays the schedules of this folder, whose last line
-asks for the ledger; the frames that it prints in hexadecimal, one behind the other, are the bytes
+asks for the ledger; the frames that it prints in hexadecimal, one after the other, are the bytes
 of the ledger. Without a word those of the first ledger in the answers of any replay are written.
 """
 import json

@@ -1,9 +1,9 @@
 #!/usr/bin/env -S python3 -B
-"""Founds a service anew over its old ledger, with nothing but SHA-256: something for `ccfg audit`.
+"""Recovers a service over its old ledger, with nothing but SHA-256: something for `ccfg audit`.
 
     recover_ledger.py SEED LEDGER RECOVERED
 
-It cuts the file LEDGER behind its last signature, puts a recovery behind it, which names a new key
+It cuts the file LEDGER after its last signature, puts a recovery after it, which names a new key
 of the service and one new node, and then the signature by which that node opens the service. The
 result is the file RECOVERED. It prints the new key, 60 bytes in hexadecimal: under that one the
 result is valid, and under the old one it is another service's.
@@ -66,7 +66,7 @@ class Founder:
         return frame(service.last.view + 1, service.seqno + 1, GOVERNANCE, content, writes)
 
     def opening(self, service):
-        """The frame of the signature behind it: of its view, and the commit is its own seqno."""
+        """The frame of the signature after it: of its view, and the commit is its own seqno."""
         view, seqno, root = service.last.view, service.seqno + 1, service.tree.root()
         signed = self.node.sign(0, signed_message(root, view, seqno, seqno))
         signature = big(1, 4) + self.endorsement + self.node.public() + signed
@@ -74,7 +74,7 @@ class Founder:
         return frame(view, seqno, SIGNATURE, content)
 
     def found(self, front):
-        """The ledger that goes on behind a signature."""
+        """The ledger that goes on after a signature."""
         service, made = Service(), front
         service.follow_all(front)
         for make in (self.recovery, self.opening):

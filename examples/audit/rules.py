@@ -47,12 +47,12 @@ RECOVERED = FOUNDER.found(front_of(LONGER))
 E1, E2, E3, E4, END = ends_of(BASE)
 VERSION, FLAGS, SIZE, VIEW, SEQNO, KIND, CONTENT_LEN, CONTENT = 0, 1, 2, 8, 12, 20, 21, 25
 # In a signature's content: the node at 0, the commit at 32, the root at 40, the signature's length
-# at 72, and 4,756 bytes of it. No writes and the claims stand behind it.
+# at 72, and 4,756 bytes of it. No writes and the claims stand after it.
 NODE, COMMIT, ROOT = CONTENT, CONTENT + 32, CONTENT + 40
 SIGN_LEN, SIGN, SIGN_END = CONTENT + 72, CONTENT + 76, CONTENT + 76 + 4756
 NODE_ID = BASE[E2 + NODE : E2 + NODE + 32]
 # In the genesis's content: tag 0, state 1, identity 2, count of nodes 62, key 63, endorsement
-# behind its length 123, count of members 2471, member 2472, threshold 2533. Of its writes the first
+# after its length 123, count of members 2471, member 2472, threshold 2533. Of its writes the first
 # is the rule 1/2 of action 1, the last the service's row.
 IDENTITY_AT, NODE_KEY, ENDORSEMENT = CONTENT + 2, CONTENT + 63, CONTENT + 123
 MEMBER, THRESHOLD = CONTENT + 2472, CONTENT + 2533
@@ -68,7 +68,7 @@ V3, V4, V5, V6 = ends_of(VOTE)[2:6]
 ACTIVE, LEAF, PROPOSED, DECIDED = 2418, 2481, 2549, 2580
 WRITE_COUNT, OPENED, OPENED_END = 2416, 2590, 2683
 # The recovery: 3.9, and 3.10 opens the service. In the content of 3.9: identity 1, count of nodes
-# 61, endorsement behind its length 122. In its write set: the old node's status and the seqno of
+# 61, endorsement after its length 122. In its write set: the old node's status and the seqno of
 # the entry that retired it, the new node's order and status, the service's state and whether it
 # was recovered.
 R9, R10, RECOVERED_END = ends_of(RECOVERED)[8:]
@@ -88,13 +88,13 @@ def root_of(data, identity=None):
 
 
 def unsigned(data, seqno, commit, view=2):
-    """A signature entry behind a ledger, whose signature has no bytes."""
+    """A signature entry after a ledger, whose signature has no bytes."""
     content = NODE_ID + little(commit, 8) + root_of(data) + little(0, 4)
     return frame(view, seqno, 3, content)
 
 
 def signed(data, seqno, commit, view):
-    """A signature entry behind a ledger, by the node of the genesis and under that key."""
+    """A signature entry after a ledger, by the node of the genesis and under that key."""
     root, node = root_of(data), Key(sha256(b"node", little(1, 4), bytes.fromhex(SEED)))
     signature = node.sign(31, signed_message(root, view, seqno, commit))
     signature = big(1, 4) + BASE[ENDORSEMENT : ENDORSEMENT + 2348] + node.public() + signature
@@ -272,7 +272,7 @@ BASE_ROWS = [
     ("a signature without a byte", [behind(unsigned(BASE, 5, 4))], 5, 11),
     # Rule 12.
     ("evidence", [behind(frame(2, 5, 4, EVIDENCE))], 5, 12),
-    # Several at once: the first entry is told, and of it the least rule.
+    # Several at once: the first entry is reported, and of it the least rule.
     (
         "1 before 2: flags, and a seqno",
         [put(E3 + FLAGS, b"\x01"), put(E3 + SEQNO, b"\x04")],
@@ -529,7 +529,7 @@ def try_bits(told, bits):
 
 
 def try_all(words):
-    """Tries the rows, each front and changed bits: with the reader, which knows rules 7 and 8 of
+    """Tries the rows, each prefix and changed bits: with the reader, which knows rules 7 and 8 of
     foundings alone, or with a program."""
     if words:
         told = told_by(words[0])

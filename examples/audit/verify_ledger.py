@@ -7,7 +7,7 @@ HEX is the service's key, 60 bytes as lower-case hexadecimal; the ledger is FILE
 input. It prints `valid LAST SIGNED` (status 0), `fault seqno N rule R` or `fault foreign HEX`
 (status 1), as docs/AUDIT.md tells. It knows that page, docs/FORMATS.md and RFC 8554 alone.
 
-Of requests of governance rules 7 and 8 are tried where they found the service, once or anew. The
+Of requests of governance rules 7 and 8 are tried where they found the service, once or again. The
 write set of any other is taken as it stands, and that is said on the standard error.
 """
 import argparse
@@ -56,7 +56,7 @@ def behind_length(data):
 
 
 class Fields:
-    """Bytes whose fields are cut off the front. Bytes that spell nothing break rule 1."""
+    """Bytes whose fields are cut off the start. Bytes that encode nothing break rule 1."""
 
     def __init__(self, data):
         self.data, self.at = data, 0
@@ -227,7 +227,7 @@ class Governance:
         required(self.holders == sorted(set(self.holders) & set(numbers)), 7)
 
     def check_nodes(self, recorded):
-        """The nodes of a genesis or a recovery are accepted behind those that are recorded."""
+        """The nodes of a genesis or a recovery are accepted after those that are recorded."""
         ids = [sha256(key) for key, _ in self.nodes]
         required(1 <= len(ids) == len(set(ids)) <= 32 and not recorded & set(ids), 7)
         required(len(recorded) + len(ids) < 2**16 and self.identity[:4] == big(2, 4), 7)
@@ -427,11 +427,11 @@ class Service:
         return self.table(b"service").get(b"s", b"")[:1] == b"\x02"
 
     def is_unopened(self):
-        """The last entry founds the service, once or anew, so that a signature opens it."""
+        """The last entry founds the service, once or again, so that a signature opens it."""
         return self.last is not None and self.last.asks(GENESIS, RECOVER)
 
     def follow_all(self, data):
-        """Takes the entries whose frames these bytes are, one behind the other."""
+        """Takes the entries whose frames these bytes are, one after the other."""
         ledger = Fields(data)
         while ledger.at < len(data):
             self.follow(Entry(ledger))

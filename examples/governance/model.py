@@ -6,7 +6,7 @@
 It plays one service's requests (SCRIPT) and prints for each what comes of it: `refused CODE VALUES`,
 or `rows DIGEST`, the first eight bytes of the digest of all rows, each as a length of one byte and
 the map, of two bytes and the key, of four and the value, ascending. It knows docs/GOVERNANCE.md,
-docs/FORMATS.md and RFC 8554 alone; where the proved definitions count all ballots anew from the list
+docs/FORMATS.md and RFC 8554 alone; where the proved definitions count all ballots again from the list
 of requests, it keeps members, nodes and proposals in tables.
 """
 import sys

@@ -1,5 +1,5 @@
 #!/usr/bin/env -S python3 -B
-"""A service of three members loses its nodes, and is recovered: founded anew over its old ledger by
+"""A service of three members loses its nodes, and is recovered over its old ledger by
 `ccfg recover`, and opened again by the shares of two members. Prints each command and what it tells.
 
     recover.py CCFG FOLDER

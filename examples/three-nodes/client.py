@@ -121,7 +121,7 @@ class Memory(NamedTuple):
 
 
 class Fields:
-    """Bytes whose fields are cut off the front."""
+    """Bytes whose fields are cut off the start."""
 
     def __init__(self, data):
         self.data = data
@@ -305,7 +305,7 @@ def id_of(text):
 
 
 def asked(words):
-    """What the words ask for: its kind, its fields, and how a reply is told."""
+    """What the words ask for: its kind, its fields, and how a reply is reported."""
     match words:
         case ["put", name, key, value]:
             fields = request(put(name.encode(), bytes.fromhex(key), bytes.fromhex(value)))

@@ -1,12 +1,12 @@
 #!/usr/bin/env -S python3 -B
 """Reads a node's file and writes its ledger, as `ccfg audit` takes it: the frames of its entries, one
-behind the other, committed or not.
+after the other, committed or not.
 
     export.py FILE [LAST] > LEDGER
 
 With LAST only the entries up to this seqno are written. It knows docs/FORMATS.md alone, and of the
 README of crates/gl_journal, to which that page sends its reader, the bytes of a file. The node may be
-running: what it is just writing stands behind a gate that isn't open, and is left out. FILE is secret,
+running: what it is just writing stands after a gate that isn't open, and is left out. FILE is secret,
 as it has the seed of the node's key; LEDGER isn't. It tries no rule: audit the ledger.
 
 On the standard error it tells how many entries the file keeps, and how many leaves of the node's key
@@ -32,7 +32,7 @@ def front(data, at, size):
 
 
 def payloads_of(data):
-    """The payloads behind open gates, up to the first gate that isn't open."""
+    """The payloads after open gates, up to the first gate that isn't open."""
     if not data.startswith(HEADER):
         sys.exit("the file is no journal")
     at = len(HEADER)

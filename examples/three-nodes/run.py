@@ -25,7 +25,7 @@ HERE = Path(__file__).resolve().parent
 SECONDS = 240
 NAMES, MEMBERS = ["node1", "node2", "node3"], ["alice", "bob"]
 TICKS = [10, 15, 20]  # so many ticks without a word of a leader, each node another number
-LOAD_BEFORE, LOAD_AFTER = 150, 100  # puts that are accepted before the leader is killed, and behind it
+LOAD_BEFORE, LOAD_AFTER = 150, 100  # puts that are accepted before the leader is killed, and after it
 PAUSE = 0.005  # seconds between two puts of the load
 
 
@@ -265,7 +265,7 @@ def committed_ledger(story, node, standing):
 
 
 def compare(story):
-    """The nodes end. Their ledgers are valid, and of their committed ledgers one is a front of the other."""
+    """The nodes end. Their ledgers are valid, and of their committed ledgers one is a prefix of the other."""
     stands = [node.stop() for node in story.nodes]
     seen("the nodes are ended by SIGTERM")
     ledgers = [committed_ledger(story, *of) for of in zip(story.nodes, stands)]

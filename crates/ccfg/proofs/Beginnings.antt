@@ -2,7 +2,7 @@
 use Rattle.std.proofs.Common.{◌≡◌, ◌≢◌, ◌⊎◌, inl, inr, ℕ, ◌<◌, ◌≤◌, ◌^◌, Bool, true, false, nat_lt, ◌==◌, if◌then◌else◌, List, [], ◌∷◌, Option, None, Some, Result, Ok, Err, IfOk, IsOk, IsTrue, refl, sym, ap, subst, ◌∙◌, arith, ltb-false, ltb-true}
 use Rattle.gl_entry.specs.declared.entry.Entry.{Entry}
 use Rattle.gl_rules.specs.World.{Start}
-use Rattle.gl_entry.specs.Given.{OfBytes}
+use Rattle.gl_entry.specs.SourceBytes.{OfBytes}
 use Rattle.gl_journal.specs.Durable.{Durable, key_alone}
 use Rattle.gl_journal.specs.Records.{key_kind_tag}
 use Rattle.gl_journal.specs.declared.fault.JournalFault.{JournalFault}
@@ -13,10 +13,10 @@ use Rattle.gl_hss.specs.declared.types.Types.TheVariants as types
 use Rattle.gl_store_book.specs.AtOpening.{opening_size}
 use Rattle.gl_store_book.specs.NodeFile.{opened}
 use Rattle.gl_store_book.specs.ServiceStart.{start_in}
-use Rattle.gl_store_book.specs.Turns.{IsOfOpening, IsTooLarge}
+use Rattle.gl_store_book.specs.ViewVotes.{IsOfOpening, IsTooLarge}
 use Rattle.gl_store_book.specs.declared.node_file.fault.OpeningFault.{OpeningFault}
 use Rattle.gl_store_book.specs.declared.node_file.fault.OpeningFault.TheVariants as faults
-use Rattle.ccfg.specs.Nodes.{Beginning, HasLedger, OfOpened, begin_behind, begin_with, beginning, beginning_of, has_ledger, opened_by}
+use Rattle.ccfg.specs.Nodes.{Beginning, HasLedger, OfOpened, begin_after, begin_with, beginning, beginning_of, has_ledger, opened_by}
 
 -- ---- values
 
@@ -40,9 +40,9 @@ pub any_bytes : {Q : List ℕ → Type 0} (given : Option (List ℕ)) → ((byte
 any_bytes None f = ([], f [])
 any_bytes (Some bytes) f = f bytes
 
-pub by_opened : (honest : Bool) (held : List ℕ) (told : Result Durable JournalFault) (Q : Result Durable JournalFault → Type 0) → (IsTrue honest → opened held ≡ told) → Q told → OfOpened honest held Q
-by_opened true held told Q e q = subst Q (sym (e refl)) q
-by_opened false held told Q e q = (told, q)
+pub by_opened : (honest : Bool) (held : List ℕ) (printed : Result Durable JournalFault) (Q : Result Durable JournalFault → Type 0) → (IsTrue honest → opened held ≡ printed) → Q printed → OfOpened honest held Q
+by_opened true held printed Q e q = subst Q (sym (e refl)) q
+by_opened false held printed Q e q = (printed, q)
 
 -- a source is read to its end where the file has no ledger
 pub ledger_or_end : {A E : Type 0} (r : Result A E) (honest : Bool) (held : List ℕ) (d : Durable) (ended : Bool) → (IsTrue honest → opened held ≡ Ok d) → (has_ledger d.log ≡ false → IfOk r (λ a. ended ≡ true)) →
@@ -79,22 +79,22 @@ too_large d s high = go (nat_lt (opening_size s d) (2 ^ 32)) refl
     go false e = refl
     go true e = absurd (omega (arith, high, ltb-true (opening_size s d) (2 ^ 32) e))
 
-behind : (d : Durable) (log : List (List ℕ)) (given : List ℕ) (r : Result (Start Entry) ℕ) → has_ledger log ≡ false → given ≢ [] → start_in given ≡ r → begin_behind d log given ≡ begin_with d r
-behind d (frame ∷ frames) given r none some e = absurd cc
-behind d [] [] r none some e = absurd (some refl)
-behind d [] (byte ∷ more) r none some e = ap (begin_with d) e
+suffix : (d : Durable) (log : List (List ℕ)) (given : List ℕ) (r : Result (Start Entry) ℕ) → has_ledger log ≡ false → given ≢ [] → start_in given ≡ r → begin_after d log given ≡ begin_with d r
+suffix d (frame ∷ frames) given r none some e = absurd cc
+suffix d [] [] r none some e = absurd (some refl)
+suffix d [] (byte ∷ more) r none some e = ap (begin_with d) e
 
 pub begins_with : (d : Durable) (given : List ℕ) (s : Start Entry) → has_ledger d.log ≡ false → given ≢ [] → start_in given ≡ Ok s → opening_size s d < 2 ^ 32 → beginning d given ≡ Ok (opened_by s d)
-begins_with d given s none some e low = behind d d.log given (Ok s) none some e ∙ fits_one d s low
+begins_with d given s none some e low = suffix d d.log given (Ok s) none some e ∙ fits_one d s low
 
 pub refused_with : (d : Durable) (given : List ℕ) (fault : OpeningFault) → has_ledger d.log ≡ false → given ≢ [] → IsOfOpening fault → fault ≢ faults.Journal DiskFault →
     ((seqno : ℕ) → fault ≡ faults.NotOpening seqno → start_in given ≡ Err seqno) → ((size : ℕ) → fault ≡ faults.TooLarge size → IsTooLarge (start_in given) d size) → beginning d given ≡ Err fault
 refused_with d given (faults.Journal fault) none some of other not_opening large = absurd (other (ap faults.Journal of))
 refused_with d given (faults.KeyKind want got) none some of other not_opening large = absurd of
-refused_with d given (faults.NotOpening seqno) none some of other not_opening large = behind d d.log given (Err seqno) none some (not_opening seqno refl)
+refused_with d given (faults.NotOpening seqno) none some of other not_opening large = suffix d d.log given (Err seqno) none some (not_opening seqno refl)
 refused_with d given (faults.TooLarge size) none some of other not_opening large =
     let h = large size refl in
-    behind d d.log given (Ok h.0) none some h.1 ∙ too_large d h.0 (subst (λ n. 2 ^ 32 ≤ n) h.2 h.3) ∙ ap (λ n. Err (faults.TooLarge n)) (sym h.2)
+    suffix d d.log given (Ok h.0) none some h.1 ∙ too_large d h.0 (subst (λ n. 2 ^ 32 ≤ n) h.2 h.3) ∙ ap (λ n. Err (faults.TooLarge n)) (sym h.2)
 
 -- ---- the file
 

@@ -14,21 +14,21 @@ use Rattle.gl_journal.specs.declared.fault.JournalFault.{JournalFault}
 use Rattle.gl_journal.specs.declared.fault.JournalFault.TheVariants as faults
 use Rattle.gl_ledger.specs.LedgerBook.{ServiceBook, ledger_book}
 use Rattle.gl_ledger.specs.NodeKeys.{service_layers}
-use Rattle.gl_ledger.specs.declared.made.Given.{Given}
-use Rattle.gl_ledger.specs.declared.made.Unmade.{Unmade}
+use Rattle.gl_ledger.specs.declared.response.Response.{Response}
+use Rattle.gl_ledger.specs.declared.response.Rejection.{Rejection}
 use Rattle.gl_replication.specs.Events.{rule_of}
 use Rattle.gl_replication.specs.declared.event.Event.{Event}
-use Rattle.gl_replication.specs.Stands as standing
-use Rattle.gl_replication.specs.Stands.{StandsFor, Tells, seen_outcome}
+use Rattle.gl_replication.specs.Stands as node_status
+use Rattle.gl_replication.specs.Stands.{Reports, StandsFor, seen_outcome}
 use Rattle.gl_replication.specs.declared.done.Outcome.TheVariants as answers
 use Rattle.gl_rules.specs.Outcome as outcomes
 use Rattle.gl_election.specs.Bridge.{seen_message}
 use Rattle.gl_tx.specs.declared.request.Operation.{Operation}
 use Rattle.gl_requests.specs.declared.request.GovernanceRequest.{GovernanceRequest}
-use Rattle.gl_ledger.specs.declared.made.Reads.{Reads}
+use Rattle.gl_ledger.specs.declared.response.Reads.{Reads}
 use Rattle.gl_node.specs.Answers.{OnRefusal}
 use Rattle.gl_node.specs.Kept.{kept_after}
-use Rattle.gl_node.specs.Serving.{StandsForSome}
+use Rattle.gl_node.specs.Persistence.{StandsForSome}
 use Rattle.gl_node.specs.declared.fault.NodeFault.{NodeFault}
 use Rattle.gl_node.specs.declared.fault.NodeFault.TheVariants as node_faults
 use Rattle.gl_rules.specs.Outcome.{Step}
@@ -36,15 +36,15 @@ use Rattle.gl_world.specs.WorldNodes.{KeepsAll, Refuses, Rule, ServiceDone, Serv
 use Rattle.gl_store_book.specs.AtOpening.{restarted_node}
 use Rattle.ccfg.specs.FileNodes.{IsFileIn, IsFileNode, OpensToNode, SeenFileNode, StandsOverFile}
 use Rattle.gl_store_book.specs.NodeFile.{node_of, opened}
-use Rattle.gl_store_book.specs.Reopening.{GivesRestart}
+use Rattle.gl_store_book.specs.Restarts.{GivesRestart}
 use Rattle.gl_store_book.specs.Replicas.{StandsForFile}
 use Rattle.gl_store_book.specs.Stands.{NodeStore, Stands}
 use Rattle.gl_store_book.specs.declared.node_file.fault.OpeningFault.{OpeningFault}
 use Rattle.gl_store_book.specs.declared.node_file.fault.OpeningFault.TheVariants as openings
-use Rattle.gl_store_book.proofs.Reopening.{same_ok}
+use Rattle.gl_store_book.proofs.RestartLaws.{same_ok}
 
 abbrev pub NodeEvent : Type 0
-NodeEvent = Event NodeStore (List Operation) GovernanceRequest Reads Given Unmade
+NodeEvent = Event NodeStore (List Operation) GovernanceRequest Reads Response Rejection
 
 -- ---- a disk that never fails
 
@@ -107,8 +107,8 @@ file_kept bytes d b x is f e other = subst (λ (s : Durable). IsFileIn s b x) (o
 -- ---- a restart
 
 pub turned : (old new : SeenFileNode) (d : Durable) → opened old.disk.bytes.items ≡ Ok d → opened new.disk.bytes.items ≡ Ok d → StandsForFile d new.core (λ b. restarted_node b d) →
-    Tells Stands old.core (λ b x n. (e : Durable) → opened old.disk.bytes.items ≡ Ok e → GivesRestart b n e) →
-    (b : ServiceBook) (x : NodeId) (n : Node Entry) → StandsOverFile old b x n → StandsOverFile new b x (restart {A = Given} {F = Unmade} b n).node
+    Reports Stands old.core (λ b x n. (e : Durable) → opened old.disk.bytes.items ≡ Ok e → GivesRestart b n e) →
+    (b : ServiceBook) (x : NodeId) (n : Node Entry) → StandsOverFile old b x n → StandsOverFile new b x (restart {A = Response} {F = Rejection} b n).node
 turned old new d before after stands gives b x n s =
     let f = s.file d before in
     let here : StandsFor Stands new.core (ledger_book service_layers f.keys) (node_of d) (restarted_node (ledger_book service_layers f.keys) d) = stands f.keys f.key in
@@ -120,12 +120,12 @@ turned old new d before after stands gives b x n s =
     }
 
 -- it answers so, and sends nothing
-restart_says : (b : ServiceBook) (n : Node Entry) → ((restart {A = Given} {F = Unmade} b n).outcome ≡ outcomes.Done) × ((restart {A = Given} {F = Unmade} b n).sent ≡ [])
+restart_says : (b : ServiceBook) (n : Node Entry) → ((restart {A = Response} {F = Rejection} b n).outcome ≡ outcomes.Done) × ((restart {A = Response} {F = Rejection} b n).sent ≡ [])
 unfolding restart
 restart_says b n = (refl, refl)
 
 pub restarted_steps : (old new : SeenFileNode) (done : ServiceDone NodeStore) (d : Durable) → opened old.disk.bytes.items ≡ Ok d → opened new.disk.bytes.items ≡ Ok d → StandsForFile d new.core (λ b. restarted_node b d) →
-    Tells Stands old.core (λ b x n. (e : Durable) → opened old.disk.bytes.items ≡ Ok e → GivesRestart b n e) → done.outcome ≡ answers.Done → done.sent ≡ [] →
+    Reports Stands old.core (λ b x n. (e : Durable) → opened old.disk.bytes.items ≡ Ok e → GivesRestart b n e) → done.outcome ≡ answers.Done → done.sent ≡ [] →
     Steps StandsOverFile (λ b x n. restart b n) old done new
 restarted_steps old new done d before after stands gives is none b x n s = record {
   node = turned old new d before after stands gives b x n s;
@@ -136,7 +136,7 @@ restarted_steps old new done d before after stands gives is none b x n s = recor
 -- ---- why a node refuses
 
 abbrev pub ServiceFault : Type 0
-ServiceFault = NodeFault NodeStore (List Operation) GovernanceRequest Reads Given Unmade
+ServiceFault = NodeFault NodeStore (List Operation) GovernanceRequest Reads Response Rejection
 
 pub err_as : {T E : Type 0} (result : Result T E) (fault other : E) → result ≡ Err fault → fault ≡ other → result ≡ Err other
 err_as {E = E} result fault other is same = is ∙ ap (λ (f : E). Err f) same
@@ -154,11 +154,11 @@ module _ (result : Result (ServiceDone NodeStore) ServiceFault) (fault : Service
 
 -- the file keeps of each node for which the core stood what the rule makes of it
 abbrev pub KeepsRule : NodeEvent → SeenFileNode → SeenFileNode → Type 0
-KeepsRule event old new = Tells Stands old.core (λ b x n. (e : Durable) → opened old.disk.bytes.items ≡ Ok e →
+KeepsRule event old new = Reports Stands old.core (λ b x n. (e : Durable) → opened old.disk.bytes.items ≡ Ok e →
     opened new.disk.bytes.items ≡ Ok (kept_after e (rule_of event b x n).node))
 
 pub served_steps : (event : NodeEvent) (old new : SeenFileNode) (done : ServiceDone NodeStore) → IsFileNode old → KeepsRule event old new →
-    standing.Steps Stands (rule_of event) old.core done new.core → Steps StandsOverFile (rule_of event) old done new
+    node_status.Steps Stands (rule_of event) old.core done new.core → Steps StandsOverFile (rule_of event) old done new
 served_steps event old new done is kept steps b x n s =
     let p = steps b x n s.core in
     let now = kept b x n s.core is.state is.file.opens in
@@ -176,7 +176,7 @@ pub serves_on : (event : NodeEvent) (old new : SeenFileNode) → IsFileNode old 
 serves_on event old new is some kept same = record {
   serves = same ∙ is.serves;
   state = kept_after is.state (rule_of event some.rules some.me some.node).node;
-  file = record { opens = kept some.rules some.me some.node some.standing is.state is.file.opens; kind = is.file.kind };
+  file = record { opens = kept some.rules some.me some.node some.node_status is.state is.file.opens; kind = is.file.kind };
 }
 
 -- and one that refuses
@@ -187,7 +187,7 @@ refuses_on old new is bytes same = record {
   file = record { opens = ap opened bytes ∙ is.file.opens; kind = is.file.kind };
 }
 
-pub keeps_over : (old new : SeenFileNode) → new.disk.bytes.items ≡ old.disk.bytes.items → standing.KeepsAll Stands old.core new.core → KeepsAll StandsOverFile old new
+pub keeps_over : (old new : SeenFileNode) → new.disk.bytes.items ≡ old.disk.bytes.items → node_status.KeepsAll Stands old.core new.core → KeepsAll StandsOverFile old new
 keeps_over old new bytes keeps b x n s = record {
   core = keeps b x n s.core;
   file = λ state opens. s.file state (ap opened (sym bytes) ∙ opens);
@@ -197,10 +197,10 @@ keeps_over old new bytes keeps b x n s = record {
 
 module _ (rule other : Rule) (same : (b : ServiceBook) (x : NodeId) (n : Node Entry) → other b x n ≡ rule b x n) (old : SeenFileNode) where
   pub steps_as : (new : SeenFileNode) (done : ServiceDone NodeStore) → Steps StandsOverFile rule old done new → Steps StandsOverFile other old done new
-  steps_as new done steps b x n s = subst (λ (step : Step Entry Given Unmade). Stepped StandsOverFile b x step done new) (sym (same b x n)) (steps b x n s)
+  steps_as new done steps b x n s = subst (λ (step : Step Entry Response Rejection). Stepped StandsOverFile b x step done new) (sym (same b x n)) (steps b x n s)
 
   pub refuses_as : (why : ServiceRefusal NodeStore) → Refuses StandsOverFile rule old why → Refuses StandsOverFile other old why
-  refuses_as why refuses b x n s = subst (λ (step : Step Entry Given Unmade). standing.Answers why step.outcome) (sym (same b x n)) (refuses b x n s)
+  refuses_as why refuses b x n s = subst (λ (step : Step Entry Response Rejection). node_status.Answers why step.outcome) (sym (same b x n)) (refuses b x n s)
 
   pub ok_steps : (new : SeenFileNode) (result : Result (ServiceDone NodeStore) (ServiceRefusal NodeStore)) → IfOk result (λ done. Steps StandsOverFile rule old done new) → IfOk result (λ done. Steps StandsOverFile other old done new)
   ok_steps new (Ok done) steps = steps_as new done steps

@@ -21,7 +21,7 @@ use Rattle.gl_ledger.specs.Audit.{audited}
 use Rattle.gl_ledger.specs.NodeKeys.{service_layers}
 use Rattle.gl_replication.specs.Holding.{Holding}
 use Rattle.gl_replication.specs.Stands.{StandsFor}
-use Rattle.gl_node.specs.Serving.{IsServing}
+use Rattle.gl_node.specs.Persistence.{IsServing}
 use Rattle.gl_world.specs.declared.settings.Settings.{Settings}
 use Rattle.gl_world.specs.Founding.{id_of, keys_of}
 use Rattle.gl_world.specs.Group.{IsGroup, book_of}
@@ -37,7 +37,7 @@ use Rattle.gl_store_book.proofs.Batches.{before}
 use Rattle.gl_store_book.proofs.FrameLaws.{AllFit}
 use Rattle.gl_store_book.proofs.OpeningFolds.{appends_fold}
 use Rattle.gl_store_book.proofs.OpeningSizes.{append_len, records_bytes-append}
-use Rattle.gl_store_book.proofs.Serving.{holds_whole, ledger_in}
+use Rattle.gl_store_book.proofs.ServedNodes.{holds_whole, ledger_in}
 
 -- ---- the frames of a ledger
 
@@ -140,7 +140,7 @@ module _ (s : Settings) (h : IsGroup s) (number : ℕ) (low : 1 ≤ number) (hig
   pub serving_at_start : (journal : Journal SureDisk) (n : Node Entry) → StandsFor Stands core (book_of s) (id_of s number) n → IsMemoryFile journal (state_at_start s number core) →
       IsServing Stands ledger_in goes_on_ledger true (λ (disk : SureDisk). disk.bytes.items) disk_past core journal
   serving_at_start journal n stood file = record {
-    some = record { rules = book_of s; me = id_of s number; node = n; standing = stood };
+    some = record { rules = book_of s; me = id_of s number; node = n; node_status = stood };
     whole = holds_whole core.book;
     file = λ honest. record {
       kept = file.kept honest;

@@ -3,7 +3,7 @@ pub mod KeyLemmas
 pub mod DealingLemmas
 pub mod SigningLemmas
 pub mod MomentLemmas
-pub mod DueLemmas
+pub mod ExpectedOutputLaws
 pub mod AnswerLemmas
 pub mod MeaningLemmas
 mod PromiseLemmas

@@ -11,9 +11,9 @@ use Rattle.gl_store_book.specs.NodeFile.{opened, OpensOnlyTo}
 use Rattle.gl_serve.specs.OverLink.{KeepsLeaves}
 use Rattle.gl_store_book.specs.Stands.{NodeStore}
 use Rattle.gl_serve.specs.Types.{NodeSeen}
-use Rattle.ccfg.specs.Nodes.{KeepsNode, MovesNode, disk_behind}
-use Rattle.ccfg.specs.declared.node.NodeStop.{NodeStop}
-use Rattle.ccfg.specs.declared.node.NodeStop.TheVariants as stops
+use Rattle.ccfg.specs.Nodes.{KeepsNode, MovesNode, disk_after}
+use Rattle.ccfg.specs.declared.node.NodeError.{NodeError}
+use Rattle.ccfg.specs.declared.node.NodeError.TheVariants as stops
 
 -- the file keeps what it kept
 pub keeps_same_file : (d : Durable) (image : List ℕ) → opened image ≡ Ok d → KeepsLeaves goes_on_ledger d image
@@ -34,8 +34,8 @@ reopened_moments d before after only same =
     (started (KeepsLeaves goes_on_ledger d) before (λ image left. keeps_same_file d image (only image left))) same
 
 -- the disk of a file that goes on is handed over, or back
-pub reopened_disk : {D : Type 0} (r : Result (NodeSeen D NodeStore) (NodeStop × D)) (disk : D) → IfOk r (λ replica. replica.disk ≡ disk) →
-    ((why : NodeStop) (back : D) → r ≡ Err (why, back) → (why ≡ stops.Memory) × (back ≡ disk)) → disk_behind r ≡ disk
+pub reopened_disk : {D : Type 0} (r : Result (NodeSeen D NodeStore) (NodeError × D)) (disk : D) → IfOk r (λ replica. replica.disk ≡ disk) →
+    ((why : NodeError) (back : D) → r ≡ Err (why, back) → (why ≡ stops.Memory) × (back ≡ disk)) → disk_after r ≡ disk
 reopened_disk (Ok replica) disk same err = same
 reopened_disk (Err (why, back)) disk same err = (err why back refl).1
 
@@ -44,7 +44,7 @@ pub opening_moments : (s : Start Entry) (d : Durable) (before after : List Step)
 opening_moments s d before after = so_too (OpensToOneOf goes_on_ledger d (opened_state s d)) (KeepsLeaves goes_on_ledger d) before after (one_of s d)
 
 -- the disk failed, or it didn't
-pub by_stop : (stop : NodeStop) (A : Type 0) → (stop ≡ stops.DiskFailed → A) → (stop ≢ stops.DiskFailed → A) → A
+pub by_stop : (stop : NodeError) (A : Type 0) → (stop ≡ stops.DiskFailed → A) → (stop ≢ stops.DiskFailed → A) → A
 by_stop (stops.Refused fault) A failed other = other (λ is. cc)
 by_stop stops.SourceFailed A failed other = other (λ is. cc)
 by_stop stops.DiskFailed A failed other = failed refl

@@ -1,7 +1,7 @@
 -- What a run of a node comes to, by how it stopped before it served, or how it served.
 use Rattle.std.proofs.Common.{◌≡◌, ◌⊎◌, inl, inr, ℕ, Bool, true, false, ◌||◌, List, Option, None, Some, Result, Ok, Err, IsTrue, is_ok, refl, sym, subst, ◌∙◌}
 use Rattle.std.specs.Io.KnownBytes.{Appends, Keeps}
-use Rattle.gl_entry.specs.Given.{OfBytes}
+use Rattle.gl_entry.specs.SourceBytes.{OfBytes}
 use Rattle.gl_outside.specs.Disk.{Step}
 use Rattle.gl_outside.specs.Fault.{Rose}
 use Rattle.gl_store_book.specs.declared.node_file.fault.OpeningFault.{OpeningFault}
@@ -11,12 +11,12 @@ use Rattle.gl_serve.specs.declared.settings.ServeEnd.{ServeEnd}
 use Rattle.gl_serve.specs.declared.settings.ServeEnd.TheVariants as ends
 use Rattle.ccfg.specs.Faults.{fault_line}
 use Rattle.ccfg.specs.Nodes.{HasLedger, NodeRun, NodeRuns, NotBegun, OfOpened, Served, beginning_of, served_line}
-use Rattle.ccfg.specs.Owed.{WritesDue, due_of_answer, due_of_fault}
+use Rattle.ccfg.specs.ExpectedOutput.{WritesOutput, output_of_answer, output_of_fault}
 use Rattle.ccfg.specs.declared.ending.Ending.{Ending}
 use Rattle.ccfg.specs.declared.ending.Ending.TheVariants as endings
-use Rattle.ccfg.specs.declared.fault.Fault.TheVariants as told
-use Rattle.ccfg.specs.declared.node.NodeStop.{NodeStop}
-use Rattle.ccfg.specs.declared.node.NodeStop.TheVariants as stops
+use Rattle.ccfg.specs.declared.fault.Fault.TheVariants as printed
+use Rattle.ccfg.specs.declared.node.NodeError.{NodeError}
+use Rattle.ccfg.specs.declared.node.NodeError.TheVariants as stops
 
 -- nothing was written
 pub keeps_same : (held holds : Option (List ℕ)) → holds ≡ held → Keeps held holds
@@ -36,67 +36,67 @@ module _ {D : Type 0} (honest : Bool) (bytes : D → List ℕ) (past : D → Lis
   Comes e = NodeRuns honest bytes past faults_of honest_link task r e
 
   -- it is told why the node didn't begin
-  tells_refusal : (fault : OpeningFault) → NotBegun honest bytes past faults_of honest_link task r fault → (e : Ending) → WritesDue e r.written (due_of_fault (told.Opening fault)) → Comes e
-  tells_refusal fault none endings.Done w = absurd (let q : endings.NotValid ≡ endings.Done = w.0 in cc)
-  tells_refusal fault none endings.NotValid w = (fault, none, w.1)
-  tells_refusal fault none endings.OtherWords w = absurd (let q : endings.NotValid ≡ endings.OtherWords = w.0 in cc)
-  tells_refusal fault none endings.SourceFailed w = absurd w
-  tells_refusal fault none endings.SinkFailed w = (w.0, (fault_line (told.Opening fault), inl (fault, none, refl), w.1))
-  tells_refusal fault none endings.DiskFailed w = absurd w
-  tells_refusal fault none endings.LinkFailed w = absurd w
-  tells_refusal fault none endings.Memory w = inr (fault_line (told.Opening fault), inl (fault, none, refl), w)
-  tells_refusal fault none endings.PastLimit w = absurd (let q : endings.NotValid ≡ endings.PastLimit = w.0 in cc)
-  tells_refusal fault none endings.NoReading w = absurd (let q : endings.NotValid ≡ endings.NoReading = w.0 in cc)
+  prints_refusal : (fault : OpeningFault) → NotBegun honest bytes past faults_of honest_link task r fault → (e : Ending) → WritesOutput e r.written (output_of_fault (printed.Opening fault)) → Comes e
+  prints_refusal fault none endings.Done w = absurd (let q : endings.NotValid ≡ endings.Done = w.0 in cc)
+  prints_refusal fault none endings.NotValid w = (fault, none, w.1)
+  prints_refusal fault none endings.OtherWords w = absurd (let q : endings.NotValid ≡ endings.OtherWords = w.0 in cc)
+  prints_refusal fault none endings.SourceFailed w = absurd w
+  prints_refusal fault none endings.SinkFailed w = (w.0, (fault_line (printed.Opening fault), inl (fault, none, refl), w.1))
+  prints_refusal fault none endings.DiskFailed w = absurd w
+  prints_refusal fault none endings.LinkFailed w = absurd w
+  prints_refusal fault none endings.Memory w = inr (fault_line (printed.Opening fault), inl (fault, none, refl), w)
+  prints_refusal fault none endings.PastLimit w = absurd (let q : endings.NotValid ≡ endings.PastLimit = w.0 in cc)
+  prints_refusal fault none endings.NoReading w = absurd (let q : endings.NotValid ≡ endings.NoReading = w.0 in cc)
 
-  -- the counts are told
-  tells_counts : (counts : ℕ × ℕ) → r.link_now.inward.ended ≡ true → OfOpened honest (bytes r.disk) (λ opens. HasLedger opens ⊎ (r.ended ≡ true)) → Served honest bytes past faults_of honest_link task r (Ok counts) →
-      (e : Ending) → WritesDue e r.written (due_of_answer (served_line counts)) → Comes e
-  tells_counts counts ended asked served endings.Done w = (ended, asked, counts, served, w.1)
-  tells_counts counts ended asked served endings.NotValid w = absurd (let q : endings.Done ≡ endings.NotValid = w.0 in cc)
-  tells_counts counts ended asked served endings.OtherWords w = absurd (let q : endings.Done ≡ endings.OtherWords = w.0 in cc)
-  tells_counts counts ended asked served endings.SourceFailed w = absurd w
-  tells_counts counts ended asked served endings.SinkFailed w = (w.0, (served_line counts, inr (inl (counts, served, refl)), w.1))
-  tells_counts counts ended asked served endings.DiskFailed w = absurd w
-  tells_counts counts ended asked served endings.LinkFailed w = absurd w
-  tells_counts counts ended asked served endings.Memory w = inr (served_line counts, inr (inl (counts, served, refl)), w)
-  tells_counts counts ended asked served endings.PastLimit w = absurd (let q : endings.Done ≡ endings.PastLimit = w.0 in cc)
-  tells_counts counts ended asked served endings.NoReading w = absurd (let q : endings.Done ≡ endings.NoReading = w.0 in cc)
+  -- the counts are reported
+  prints_counts : (counts : ℕ × ℕ) → r.link_now.inward.ended ≡ true → OfOpened honest (bytes r.disk) (λ opens. HasLedger opens ⊎ (r.ended ≡ true)) → Served honest bytes past faults_of honest_link task r (Ok counts) →
+      (e : Ending) → WritesOutput e r.written (output_of_answer (served_line counts)) → Comes e
+  prints_counts counts ended asked served endings.Done w = (ended, asked, counts, served, w.1)
+  prints_counts counts ended asked served endings.NotValid w = absurd (let q : endings.Done ≡ endings.NotValid = w.0 in cc)
+  prints_counts counts ended asked served endings.OtherWords w = absurd (let q : endings.Done ≡ endings.OtherWords = w.0 in cc)
+  prints_counts counts ended asked served endings.SourceFailed w = absurd w
+  prints_counts counts ended asked served endings.SinkFailed w = (w.0, (served_line counts, inr (inl (counts, served, refl)), w.1))
+  prints_counts counts ended asked served endings.DiskFailed w = absurd w
+  prints_counts counts ended asked served endings.LinkFailed w = absurd w
+  prints_counts counts ended asked served endings.Memory w = inr (served_line counts, inr (inl (counts, served, refl)), w)
+  prints_counts counts ended asked served endings.PastLimit w = absurd (let q : endings.Done ≡ endings.PastLimit = w.0 in cc)
+  prints_counts counts ended asked served endings.NoReading w = absurd (let q : endings.Done ≡ endings.NoReading = w.0 in cc)
 
   -- it is told that its turns are over
-  tells_turns : r.link_now.inward.calls ≡ calls_after task.turns r.link.inward.calls → Served honest bytes past faults_of honest_link task r (Err ends.Turns) →
-      (e : Ending) → WritesDue e r.written (due_of_fault (told.Turns task.turns)) → Comes e
-  tells_turns calls served endings.Done w = absurd (let q : endings.PastLimit ≡ endings.Done = w.0 in cc)
-  tells_turns calls served endings.NotValid w = absurd (let q : endings.PastLimit ≡ endings.NotValid = w.0 in cc)
-  tells_turns calls served endings.OtherWords w = absurd (let q : endings.PastLimit ≡ endings.OtherWords = w.0 in cc)
-  tells_turns calls served endings.SourceFailed w = absurd w
-  tells_turns calls served endings.SinkFailed w = (w.0, (fault_line (told.Turns task.turns), inr (inr (served, refl)), w.1))
-  tells_turns calls served endings.DiskFailed w = absurd w
-  tells_turns calls served endings.LinkFailed w = absurd w
-  tells_turns calls served endings.Memory w = inr (fault_line (told.Turns task.turns), inr (inr (served, refl)), w)
-  tells_turns calls served endings.PastLimit w = (calls, served, w.1)
-  tells_turns calls served endings.NoReading w = absurd (let q : endings.PastLimit ≡ endings.NoReading = w.0 in cc)
+  prints_turns : r.link_now.inward.calls ≡ calls_after task.turns r.link.inward.calls → Served honest bytes past faults_of honest_link task r (Err ends.Turns) →
+      (e : Ending) → WritesOutput e r.written (output_of_fault (printed.Turns task.turns)) → Comes e
+  prints_turns calls served endings.Done w = absurd (let q : endings.PastLimit ≡ endings.Done = w.0 in cc)
+  prints_turns calls served endings.NotValid w = absurd (let q : endings.PastLimit ≡ endings.NotValid = w.0 in cc)
+  prints_turns calls served endings.OtherWords w = absurd (let q : endings.PastLimit ≡ endings.OtherWords = w.0 in cc)
+  prints_turns calls served endings.SourceFailed w = absurd w
+  prints_turns calls served endings.SinkFailed w = (w.0, (fault_line (printed.Turns task.turns), inr (inr (served, refl)), w.1))
+  prints_turns calls served endings.DiskFailed w = absurd w
+  prints_turns calls served endings.LinkFailed w = absurd w
+  prints_turns calls served endings.Memory w = inr (fault_line (printed.Turns task.turns), inr (inr (served, refl)), w)
+  prints_turns calls served endings.PastLimit w = (calls, served, w.1)
+  prints_turns calls served endings.NoReading w = absurd (let q : endings.PastLimit ≡ endings.NoReading = w.0 in cc)
 
-  -- nothing is told, and the run ends so
+  -- nothing is reported, and the run ends so
   abbrev Quiet : Ending → Ending → Type 0
   Quiet e ending = (e ≡ ending) × Keeps r.written.held r.written.holds
 
   -- it didn't begin
-  pub stops_so : (stop : NodeStop) (e : Ending) → r.link_now ≡ r.link →
+  pub stops_so : (stop : NodeError) (e : Ending) → r.link_now ≡ r.link →
       ((fault : OpeningFault) → stop ≡ stops.Refused fault → OfOpened honest (bytes r.disk) (λ opens. OfBytes r.given (λ given. beginning_of opens given ≡ Err fault))) →
       (stop ≡ stops.SourceFailed → Rose r.faults r.faults_now) →
       (stop ≡ stops.DiskFailed → Rose (faults_of r.disk) (faults_of r.disk_now)) →
-      ((fault : OpeningFault) → stop ≡ stops.Refused fault → WritesDue e r.written (due_of_fault (told.Opening fault))) →
+      ((fault : OpeningFault) → stop ≡ stops.Refused fault → WritesOutput e r.written (output_of_fault (printed.Opening fault))) →
       (stop ≡ stops.SourceFailed → Quiet e endings.SourceFailed) →
       (stop ≡ stops.DiskFailed → Quiet e endings.DiskFailed) →
       (stop ≡ stops.Memory → Quiet e endings.Memory) → Comes e
-  stops_so (stops.Refused fault) e link refused source disk tells tells_source tells_disk tells_memory =
-      tells_refusal fault (refused fault refl, link) e (tells fault refl)
-  stops_so stops.SourceFailed e link refused source disk tells tells_source tells_disk tells_memory =
-      let q = tells_source refl in subst Comes (sym q.0) (source refl, link, q.1)
-  stops_so stops.DiskFailed e link refused source disk tells tells_source tells_disk tells_memory =
-      let q = tells_disk refl in subst Comes (sym q.0) (disk refl, q.1)
-  stops_so stops.Memory e link refused source disk tells tells_source tells_disk tells_memory =
-      let q = tells_memory refl in subst Comes (sym q.0) (inl q.1)
+  stops_so (stops.Refused fault) e link refused source disk prints prints_source prints_disk prints_memory =
+      prints_refusal fault (refused fault refl, link) e (prints fault refl)
+  stops_so stops.SourceFailed e link refused source disk prints prints_source prints_disk prints_memory =
+      let q = prints_source refl in subst Comes (sym q.0) (source refl, link, q.1)
+  stops_so stops.DiskFailed e link refused source disk prints prints_source prints_disk prints_memory =
+      let q = prints_disk refl in subst Comes (sym q.0) (disk refl, q.1)
+  stops_so stops.Memory e link refused source disk prints prints_source prints_disk prints_memory =
+      let q = prints_memory refl in subst Comes (sym q.0) (inl q.1)
 
   -- it served
   pub serves_so : (end : Result (ℕ × ℕ) ServeEnd) (e : Ending) → Served honest bytes past faults_of honest_link task r end →
@@ -105,18 +105,18 @@ module _ {D : Type 0} (honest : Bool) (bytes : D → List ℕ) (past : D → Lis
       (end ≡ Err ends.Turns → r.link_now.inward.calls ≡ calls_after task.turns r.link.inward.calls) →
       (end ≡ Err ends.LinkFailed → Rose r.link.inward.faults r.link_now.inward.faults) →
       (end ≡ Err ends.Stopped → Rose (faults_of r.disk) (faults_of r.disk_now)) →
-      ((counts : ℕ × ℕ) → end ≡ Ok counts → WritesDue e r.written (due_of_answer (served_line counts))) →
-      (end ≡ Err ends.Turns → WritesDue e r.written (due_of_fault (told.Turns task.turns))) →
+      ((counts : ℕ × ℕ) → end ≡ Ok counts → WritesOutput e r.written (output_of_answer (served_line counts))) →
+      (end ≡ Err ends.Turns → WritesOutput e r.written (output_of_fault (printed.Turns task.turns))) →
       (end ≡ Err ends.LinkFailed → Quiet e endings.LinkFailed) →
       (end ≡ Err ends.Stopped → Quiet e endings.DiskFailed) →
       (end ≡ Err ends.NoMemory → Quiet e endings.Memory) → Comes e
-  serves_so (Ok counts) e served asked ended calls link disk tells tells_turned tells_link tells_stop tells_memory =
-      tells_counts counts (ends_true r.link.inward.ended r.link_now.inward.ended ended) asked served e (tells counts refl)
-  serves_so (Err ends.Turns) e served asked ended calls link disk tells tells_turned tells_link tells_stop tells_memory =
-      tells_turns (calls refl) served e (tells_turned refl)
-  serves_so (Err ends.LinkFailed) e served asked ended calls link disk tells tells_turned tells_link tells_stop tells_memory =
-      let q = tells_link refl in subst Comes (sym q.0) (link refl, served, q.1)
-  serves_so (Err ends.Stopped) e served asked ended calls link disk tells tells_turned tells_link tells_stop tells_memory =
-      let q = tells_stop refl in subst Comes (sym q.0) (disk refl, q.1)
-  serves_so (Err ends.NoMemory) e served asked ended calls link disk tells tells_turned tells_link tells_stop tells_memory =
-      let q = tells_memory refl in subst Comes (sym q.0) (inl q.1)
+  serves_so (Ok counts) e served asked ended calls link disk prints prints_turned prints_link prints_stop prints_memory =
+      prints_counts counts (ends_true r.link.inward.ended r.link_now.inward.ended ended) asked served e (prints counts refl)
+  serves_so (Err ends.Turns) e served asked ended calls link disk prints prints_turned prints_link prints_stop prints_memory =
+      prints_turns (calls refl) served e (prints_turned refl)
+  serves_so (Err ends.LinkFailed) e served asked ended calls link disk prints prints_turned prints_link prints_stop prints_memory =
+      let q = prints_link refl in subst Comes (sym q.0) (link refl, served, q.1)
+  serves_so (Err ends.Stopped) e served asked ended calls link disk prints prints_turned prints_link prints_stop prints_memory =
+      let q = prints_stop refl in subst Comes (sym q.0) (disk refl, q.1)
+  serves_so (Err ends.NoMemory) e served asked ended calls link disk prints prints_turned prints_link prints_stop prints_memory =
+      let q = prints_memory refl in subst Comes (sym q.0) (inl q.1)

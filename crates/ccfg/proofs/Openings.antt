@@ -9,7 +9,7 @@ use Rattle.gl_hss.specs.Secrets.{PrivateKey, public_of}
 use Rattle.gl_rules.specs.Identity.{NodeId, same}
 use Rattle.gl_requests.specs.declared.genesis.Genesis as request
 use Rattle.gl_ledger.specs.NodeKeys.{service_layers}
-use Rattle.gl_ledger.specs.Opening.{Founds}
+use Rattle.gl_ledger.specs.OpeningLedger.{Founds}
 use Rattle.gl_world.specs.declared.settings.Settings.{Settings}
 use Rattle.gl_world.specs.declared.node_key.NodeKey.{NodeKey}
 use Rattle.gl_world.specs.AtStart.{StandAtStart}
@@ -20,7 +20,7 @@ use Rattle.gl_world.specs.Keys.{private_key, node_seed}
 use Rattle.gl_world.specs.World.{start_of}
 use Rattle.gl_world.proofs.Groups.{group_founds}
 use Rattle.gl_world.proofs.NodeIds.{number_is}
-use Rattle.ccfg.specs.Opening.{IsOfNode, HaveOpened, opened_at}
+use Rattle.ccfg.specs.OpeningStores.{IsOfNode, HaveOpened, opened_at}
 use Rattle.gl_store_book.specs.Stands.{HasKey, NodeStore, Stands, whole}
 
 -- a store of a node signs with the node's key

@@ -4,8 +4,8 @@ use Rattle.std.specs.Io.KnownBytes.{Appends, Keeps}
 use Rattle.clap.specs.Kinds.{Kinds}
 use Rattle.clap.specs.declared.error.kind.ErrorKind.{ErrorKind}
 use Rattle.gl_outside.specs.Fault.{Rose}
-use Rattle.gl_outside.specs.Sink.{AppendsFront}
-use Rattle.gl_entry.specs.Given.{OfBytes}
+use Rattle.gl_outside.specs.Sink.{AppendsPrefix}
+use Rattle.gl_entry.specs.SourceBytes.{OfBytes}
 use Rattle.ccfg.specs.declared.ending.Ending.{Ending}
 use Rattle.ccfg.specs.declared.ending.Ending.TheVariants as endings
 use Rattle.ccfg.specs.declared.fault.Fault.TheVariants as faults
@@ -13,55 +13,55 @@ use Rattle.gl_commands.specs.declared.task.Task.{Task}
 use Rattle.ccfg.specs.Faults.{fault_line}
 use Rattle.gl_commands.specs.declared.task.Asked.{Asked}
 use Rattle.gl_commands.specs.declared.task.Asked.TheVariants as asks_for
-use Rattle.ccfg.specs.Owed.{Answers, asks_beyond, task_of, Due, EndsSource, OfShown, OfRun, Owed, Run, Runs, Shown, WritesDue, due_of, due_of_fault, exit_status, uses_disk}
-use Rattle.ccfg.specs.Promises.{IsAnswer, IsKindLine, IsPastLimit, IsRefusal, IsNoReading, Tells, TellsFront}
-use Rattle.ccfg.proofs.ShownLemmas.{both_map, from_both, shown_any, shown_map, if_told, some_map, whatever_told}
+use Rattle.ccfg.specs.ExpectedOutput.{Answers, asks_beyond, task_of, Output, EndsSource, OfShown, OfRun, Expected, Run, Runs, Shown, WritesOutput, output_of, output_of_fault, exit_status, uses_disk}
+use Rattle.ccfg.specs.Promises.{IsAnswer, IsKindLine, IsPastLimit, IsRefusal, IsNoReading, Reports, PrintsPrefix}
+use Rattle.ccfg.proofs.ShownLemmas.{both_map, from_both, shown_any, shown_map, if_printed, some_map, whatever_printed}
 use Rattle.ccfg.proofs.MeaningLemmas.{Means, answer_ends, limit_ends, means, refusal_ends, unread_ends}
 
--- what it means of the bytes that all of what is due was written
-abbrev WritesAll : Ending → Run → Due → Type 0
-WritesAll e r due = (due.ending ≡ e) × Appends r.written.held r.written.holds due.text
+-- what it means of the bytes that all of the expected output was written
+abbrev WritesAll : Ending → Run → Output → Type 0
+WritesAll e r output = (output.ending ≡ e) × Appends r.written.held r.written.holds output.text
 
-meant : (e : Ending) (r : Run) (task : Task) (h : Shown) (g : List ℕ) → WritesAll e r (due_of task h g) → Tells (Means task h g e) r.written.held r.written.holds
-meant e r task h g w = ((due_of task h g).text, subst (λ (x : Ending). Means task h g x (due_of task h g).text) w.0 (means task h g), w.1)
+meant : (e : Ending) (r : Run) (task : Task) (h : Shown) (g : List ℕ) → WritesAll e r (output_of task h g) → Reports (Means task h g e) r.written.held r.written.holds
+meant e r task h g w = ((output_of task h g).text, subst (λ (x : Ending). Means task h g x (output_of task h g).text) w.0 (means task h g), w.1)
 
 -- of the disk and the source of a run
 run_map : (r : Run) (P Q : Shown → List ℕ → Type 0) → ((h : Shown) (g : List ℕ) → P h g → Q h g) → OfRun r P → OfRun r Q
 run_map r P Q f p = both_map r.disk.honest r.disk.held r.given P Q f p
 
-of_meant : (e : Ending) (r : Run) (task : Task) → OfRun r (λ h g. WritesAll e r (due_of task h g)) → OfRun r (λ h g. Tells (Means task h g e) r.written.held r.written.holds)
-of_meant e r task p = run_map r (λ h g. WritesAll e r (due_of task h g)) (λ h g. Tells (Means task h g e) r.written.held r.written.holds) (meant e r task) p
+of_meant : (e : Ending) (r : Run) (task : Task) → OfRun r (λ h g. WritesAll e r (output_of task h g)) → OfRun r (λ h g. Reports (Means task h g e) r.written.held r.written.holds)
+of_meant e r task p = run_map r (λ h g. WritesAll e r (output_of task h g)) (λ h g. Reports (Means task h g e) r.written.held r.written.holds) (meant e r task) p
 
 -- and that the source gave its end, where it is read whole
-abbrev ReadsAll : Ending → Run → Due → Type 0
-ReadsAll e r due = EndsSource due r.ended × WritesAll e r due
+abbrev ReadsAll : Ending → Run → Output → Type 0
+ReadsAll e r output = EndsSource output r.ended × WritesAll e r output
 
-all_written : (e : Ending) (r : Run) (owed : Owed) → OfRun r (λ h g. ReadsAll e r (owed h g)) → OfRun r (λ h g. WritesAll e r (owed h g))
-all_written e r owed p = run_map r (λ h g. ReadsAll e r (owed h g)) (λ h g. WritesAll e r (owed h g)) (λ h g w. w.1) p
+all_written : (e : Ending) (r : Run) (expected_output : Expected) → OfRun r (λ h g. ReadsAll e r (expected_output h g)) → OfRun r (λ h g. WritesAll e r (expected_output h g))
+all_written e r expected_output p = run_map r (λ h g. ReadsAll e r (expected_output h g)) (λ h g. WritesAll e r (expected_output h g)) (λ h g w. w.1) p
 
-of_read : (e : Ending) (r : Run) (task : Task) → OfRun r (λ h g. ReadsAll e r (due_of task h g)) →
-    OfRun r (λ h g. EndsSource (due_of task h g) r.ended × Tells (Means task h g e) r.written.held r.written.holds)
+of_read : (e : Ending) (r : Run) (task : Task) → OfRun r (λ h g. ReadsAll e r (output_of task h g)) →
+    OfRun r (λ h g. EndsSource (output_of task h g) r.ended × Reports (Means task h g e) r.written.held r.written.holds)
 of_read e r task p =
-    run_map r (λ h g. ReadsAll e r (due_of task h g)) (λ h g. EndsSource (due_of task h g) r.ended × Tells (Means task h g e) r.written.held r.written.holds) (λ h g w. (w.0, meant e r task h g w.1)) p
+    run_map r (λ h g. ReadsAll e r (output_of task h g)) (λ h g. EndsSource (output_of task h g) r.ended × Reports (Means task h g e) r.written.held r.written.holds) (λ h g w. (w.0, meant e r task h g w.1)) p
 
 -- no bytes are owed the ending of other words
-no_other_words : (r : Run) (task : Task) → Runs endings.OtherWords r (due_of task) → ⊥
+no_other_words : (r : Run) (task : Task) → Runs endings.OtherWords r (output_of task) → ⊥
 no_other_words r task runs =
-    from_both r.disk.honest r.disk.held r.given (λ h g. WritesAll endings.OtherWords r (due_of task h g)) ⊥ (λ h g w. (meant endings.OtherWords r task h g w).1) runs
+    from_both r.disk.honest r.disk.held r.given (λ h g. WritesAll endings.OtherWords r (output_of task h g)) ⊥ (λ h g w. (meant endings.OtherWords r task h g w).1) runs
 
 -- The ending that a line of words has.
-abbrev kind_due : ErrorKind → Due
-kind_due kind = due_of_fault (faults.Words kind)
+abbrev kind_output : ErrorKind → Output
+kind_output kind = output_of_fault (faults.Words kind)
 
-abbrev TellsKind : Kinds → Run → Type 0
-TellsKind kinds r = Tells (IsKindLine kinds) r.written.held r.written.holds
+abbrev PrintsKind : Kinds → Run → Type 0
+PrintsKind kinds r = Reports (IsKindLine kinds) r.written.held r.written.holds
 
-abbrev TellsKindFront : Kinds → Run → Type 0
-TellsKindFront kinds r = TellsFront (IsKindLine kinds) r.written.held r.written.holds
+abbrev PrintsKindPrefix : Kinds → Run → Type 0
+PrintsKindPrefix kinds r = PrintsPrefix (IsKindLine kinds) r.written.held r.written.holds
 
 kinds_end : (e : Ending) (r : Run) (kinds : Kinds) → Answers (Err kinds) e r →
-    (e ≡ endings.OtherWords) × TellsKind kinds r
-    ⊎ ((e ≡ endings.SinkFailed) ⊎ (e ≡ endings.Memory)) × TellsKindFront kinds r
+    (e ≡ endings.OtherWords) × PrintsKind kinds r
+    ⊎ ((e ≡ endings.SinkFailed) ⊎ (e ≡ endings.Memory)) × PrintsKindPrefix kinds r
 kinds_end endings.Done r kinds a = absurd (let q : endings.OtherWords ≡ endings.Done = a.2.0 in cc)
 kinds_end endings.NotValid r kinds a = absurd (let q : endings.OtherWords ≡ endings.NotValid = a.2.0 in cc)
 kinds_end endings.OtherWords r kinds a = inl (refl, (fault_line (faults.Words a.0), (a.0, a.1, refl), a.2.1))
@@ -75,18 +75,18 @@ kinds_end endings.NoReading r kinds a = absurd (let q : endings.OtherWords ≡ e
 
 -- A task was asked for and was run.
 abbrev RunsTask : Result Task Kinds → Ending → Run → Type 0
-RunsTask asks e r = (task : Task) × (asks ≡ Ok task) × Runs e r (due_of task)
+RunsTask asks e r = (task : Task) × (asks ≡ Ok task) × Runs e r (output_of task)
 
 task_ran : (asks : Result Task Kinds) (e : Ending) (r : Run) → Answers asks e r → e ≢ endings.OtherWords → e ≢ endings.SinkFailed → e ≢ endings.Memory → RunsTask asks e r
 task_ran (Ok task) e r a words sink memory = (task, refl, a)
 task_ran (Err kinds) e r a words sink memory = go (kinds_end e r kinds a)
   where
-    go : (e ≡ endings.OtherWords) × TellsKind kinds r ⊎ ((e ≡ endings.SinkFailed) ⊎ (e ≡ endings.Memory)) × TellsKindFront kinds r → RunsTask (Err kinds) e r
+    go : (e ≡ endings.OtherWords) × PrintsKind kinds r ⊎ ((e ≡ endings.SinkFailed) ⊎ (e ≡ endings.Memory)) × PrintsKindPrefix kinds r → RunsTask (Err kinds) e r
     go (inl p) = absurd (words p.0)
     go (inr (inl is, p)) = absurd (sink is)
     go (inr (inr is, p)) = absurd (memory is)
 
-runs_as : (asks : Result Task Kinds) (task : Task) (e : Ending) (r : Run) → asks ≡ Ok task → Answers asks e r → Runs e r (due_of task)
+runs_as : (asks : Result Task Kinds) (task : Task) (e : Ending) (r : Run) → asks ≡ Ok task → Answers asks e r → Runs e r (output_of task)
 runs_as asks task e r is a = subst (λ (x : Result Task Kinds). Answers x e r) is a
 
 -- The endings, by the status.
@@ -148,10 +148,10 @@ never asks e r a is = no_link asks e r a (status_link e is)
 
 -- 0
 pub done : (asks : Result Task Kinds) (e : Ending) (r : Run) → Answers asks e r → exit_status e ≡ 0 →
-    (task : Task) × (asks ≡ Ok task) × (r.ended ≡ true) × OfRun r (λ h g. Tells (IsAnswer task h g) r.written.held r.written.holds)
+    (task : Task) × (asks ≡ Ok task) × (r.ended ≡ true) × OfRun r (λ h g. Reports (IsAnswer task h g) r.written.held r.written.holds)
 done asks e r a is = go e (status_done e is) a
   where
-    go : (e : Ending) → e ≡ endings.Done → Answers asks e r → (task : Task) × (asks ≡ Ok task) × (r.ended ≡ true) × OfRun r (λ h g. Tells (IsAnswer task h g) r.written.held r.written.holds)
+    go : (e : Ending) → e ≡ endings.Done → Answers asks e r → (task : Task) × (asks ≡ Ok task) × (r.ended ≡ true) × OfRun r (λ h g. Reports (IsAnswer task h g) r.written.held r.written.holds)
     go endings.Done same a =
         let ran = task_ran asks endings.Done r a (λ q. cc) (λ q. cc) (λ q. cc) in
         (ran.0, ran.1, ran.2.0, of_meant endings.Done r ran.0 ran.2.1)
@@ -159,20 +159,20 @@ done asks e r a is = go e (status_done e is) a
 
 -- 1
 pub not_valid : (asks : Result Task Kinds) (e : Ending) (r : Run) → Answers asks e r → exit_status e ≡ 1 →
-    (task : Task) × (asks ≡ Ok task) × OfRun r (λ h g. EndsSource (due_of task h g) r.ended × Tells (IsRefusal task h g) r.written.held r.written.holds)
+    (task : Task) × (asks ≡ Ok task) × OfRun r (λ h g. EndsSource (output_of task h g) r.ended × Reports (IsRefusal task h g) r.written.held r.written.holds)
 not_valid asks e r a is = go e (status_not_valid e is) a
   where
-    go : (e : Ending) → e ≡ endings.NotValid → Answers asks e r → (task : Task) × (asks ≡ Ok task) × OfRun r (λ h g. EndsSource (due_of task h g) r.ended × Tells (IsRefusal task h g) r.written.held r.written.holds)
+    go : (e : Ending) → e ≡ endings.NotValid → Answers asks e r → (task : Task) × (asks ≡ Ok task) × OfRun r (λ h g. EndsSource (output_of task h g) r.ended × Reports (IsRefusal task h g) r.written.held r.written.holds)
     go endings.NotValid same a =
         let ran = task_ran asks endings.NotValid r a (λ q. cc) (λ q. cc) (λ q. cc) in
         (ran.0, ran.1, of_read endings.NotValid r ran.0 ran.2)
     go e same a = cc
 
 -- 2
-pub words : (asks : Result Task Kinds) (e : Ending) (r : Run) → Answers asks e r → exit_status e ≡ 2 → (kinds : Kinds) × (asks ≡ Err kinds) × TellsKind kinds r
+pub words : (asks : Result Task Kinds) (e : Ending) (r : Run) → Answers asks e r → exit_status e ≡ 2 → (kinds : Kinds) × (asks ≡ Err kinds) × PrintsKind kinds r
 words asks e r a is = go asks e (status_words e is) a
   where
-    go : (asks : Result Task Kinds) (e : Ending) → e ≡ endings.OtherWords → Answers asks e r → (kinds : Kinds) × (asks ≡ Err kinds) × TellsKind kinds r
+    go : (asks : Result Task Kinds) (e : Ending) → e ≡ endings.OtherWords → Answers asks e r → (kinds : Kinds) × (asks ≡ Err kinds) × PrintsKind kinds r
     go (Ok task) endings.OtherWords same a = absurd (no_other_words r task a)
     go (Err kinds) endings.OtherWords same a = (kinds, refl, (fault_line (faults.Words a.0), (a.0, a.1, refl), a.2.1))
     go asks e same a = cc
@@ -193,18 +193,18 @@ pub sink_failed : (asks : Result Task Kinds) (e : Ending) (r : Run) → Answers 
 sink_failed asks e r a is = go asks e (status_sink e is) a
   where
     go : (asks : Result Task Kinds) (e : Ending) → e ≡ endings.SinkFailed → Answers asks e r → Rose r.written.faults r.written.faults_now
-    go (Ok task) endings.SinkFailed same a = from_both r.disk.honest r.disk.held r.given (λ h g. WritesDue endings.SinkFailed r.written (due_of task h g)) (Rose r.written.faults r.written.faults_now) (λ h g w. w.0) a
+    go (Ok task) endings.SinkFailed same a = from_both r.disk.honest r.disk.held r.given (λ h g. WritesOutput endings.SinkFailed r.written (output_of task h g)) (Rose r.written.faults r.written.faults_now) (λ h g w. w.0) a
     go (Err kinds) endings.SinkFailed same a = a.2.0
     go asks e same a = cc
 
 -- 4 and 7
-pub front : (asks : Result Task Kinds) (e : Ending) (r : Run) → Answers asks e r → (exit_status e ≡ 4) ⊎ (exit_status e ≡ 7) → (task : Task) → asks ≡ Ok task →
-    OfRun r (λ h g. AppendsFront r.written.held r.written.holds (due_of task h g).text)
-front asks e r a is task asked = go e is (runs_as asks task e r asked a)
+pub prefix : (asks : Result Task Kinds) (e : Ending) (r : Run) → Answers asks e r → (exit_status e ≡ 4) ⊎ (exit_status e ≡ 7) → (task : Task) → asks ≡ Ok task →
+    OfRun r (λ h g. AppendsPrefix r.written.held r.written.holds (output_of task h g).text)
+prefix asks e r a is task asked = go e is (runs_as asks task e r asked a)
   where
-    go : (e : Ending) → (exit_status e ≡ 4) ⊎ (exit_status e ≡ 7) → Runs e r (due_of task) → OfRun r (λ h g. AppendsFront r.written.held r.written.holds (due_of task h g).text)
+    go : (e : Ending) → (exit_status e ≡ 4) ⊎ (exit_status e ≡ 7) → Runs e r (output_of task) → OfRun r (λ h g. AppendsPrefix r.written.held r.written.holds (output_of task h g).text)
     go endings.SinkFailed is runs =
-        run_map r (λ h g. WritesDue endings.SinkFailed r.written (due_of task h g)) (λ h g. AppendsFront r.written.held r.written.holds (due_of task h g).text) (λ h g w. w.1) runs
+        run_map r (λ h g. WritesOutput endings.SinkFailed r.written (output_of task h g)) (λ h g. AppendsPrefix r.written.held r.written.holds (output_of task h g).text) (λ h g w. w.1) runs
     go endings.Memory is runs = runs
     go e (inl is) runs = absurd (omega (arith, is))
     go e (inr is) runs = absurd (omega (arith, is))
@@ -248,11 +248,11 @@ refusing e (inl is) = inl (status_not_valid e is)
 refusing e (inr (inl is)) = inr (inl (status_source e is))
 refusing e (inr (inr is)) = inr (inr (status_reading e is))
 
--- the endings at which something may be told
-pub telling : (e : Ending) → (exit_status e ≡ 0) ⊎ (exit_status e ≡ 4) ⊎ (exit_status e ≡ 7) → (e ≡ endings.Done) ⊎ (e ≡ endings.SinkFailed) ⊎ (e ≡ endings.Memory)
-telling e (inl is) = inl (status_done e is)
-telling e (inr (inl is)) = inr (inl (status_sink e is))
-telling e (inr (inr is)) = inr (inr (status_memory e is))
+-- the endings at which something may be reported
+pub reporting : (e : Ending) → (exit_status e ≡ 0) ⊎ (exit_status e ≡ 4) ⊎ (exit_status e ≡ 7) → (e ≡ endings.Done) ⊎ (e ≡ endings.SinkFailed) ⊎ (e ≡ endings.Memory)
+reporting e (inl is) = inl (status_done e is)
+reporting e (inr (inl is)) = inr (inl (status_sink e is))
+reporting e (inr (inr is)) = inr (inr (status_memory e is))
 
 -- the endings at which nothing is signed
 pub unsigned : (e : Ending) → (exit_status e ≡ 1) ⊎ (exit_status e ≡ 3) ⊎ (exit_status e ≡ 8) ⊎ (exit_status e ≡ 9) → (e ≡ endings.NotValid) ⊎ (e ≡ endings.SourceFailed) ⊎ (e ≡ endings.PastLimit) ⊎ (e ≡ endings.NoReading)
@@ -263,114 +263,114 @@ unsigned e (inr (inr (inr is))) = inr (inr (inr (status_reading e is)))
 
 -- 8
 pub limits : (asks : Result Task Kinds) (e : Ending) (r : Run) → Answers asks e r → exit_status e ≡ 8 →
-    (task : Task) × (asks ≡ Ok task) × OfRun r (λ h g. Tells (IsPastLimit task h g) r.written.held r.written.holds)
+    (task : Task) × (asks ≡ Ok task) × OfRun r (λ h g. Reports (IsPastLimit task h g) r.written.held r.written.holds)
 limits asks e r a is = go e (status_limit e is) a
   where
-    go : (e : Ending) → e ≡ endings.PastLimit → Answers asks e r → (task : Task) × (asks ≡ Ok task) × OfRun r (λ h g. Tells (IsPastLimit task h g) r.written.held r.written.holds)
+    go : (e : Ending) → e ≡ endings.PastLimit → Answers asks e r → (task : Task) × (asks ≡ Ok task) × OfRun r (λ h g. Reports (IsPastLimit task h g) r.written.held r.written.holds)
     go endings.PastLimit same a =
         let ran = task_ran asks endings.PastLimit r a (λ q. cc) (λ q. cc) (λ q. cc) in
-        (ran.0, ran.1, of_meant endings.PastLimit r ran.0 (all_written endings.PastLimit r (due_of ran.0) ran.2))
+        (ran.0, ran.1, of_meant endings.PastLimit r ran.0 (all_written endings.PastLimit r (output_of ran.0) ran.2))
     go e same a = cc
 
 -- 9
 pub no_reading : (asks : Result Task Kinds) (e : Ending) (r : Run) → Answers asks e r → exit_status e ≡ 9 →
-    (task : Task) × (asks ≡ Ok task) × OfRun r (λ h g. Tells (IsNoReading task h g) r.written.held r.written.holds)
+    (task : Task) × (asks ≡ Ok task) × OfRun r (λ h g. Reports (IsNoReading task h g) r.written.held r.written.holds)
 no_reading asks e r a is = go e (status_reading e is) a
   where
-    go : (e : Ending) → e ≡ endings.NoReading → Answers asks e r → (task : Task) × (asks ≡ Ok task) × OfRun r (λ h g. Tells (IsNoReading task h g) r.written.held r.written.holds)
+    go : (e : Ending) → e ≡ endings.NoReading → Answers asks e r → (task : Task) × (asks ≡ Ok task) × OfRun r (λ h g. Reports (IsNoReading task h g) r.written.held r.written.holds)
     go endings.NoReading same a =
         let ran = task_ran asks endings.NoReading r a (λ q. cc) (λ q. cc) (λ q. cc) in
-        (ran.0, ran.1, of_meant endings.NoReading r ran.0 (all_written endings.NoReading r (due_of ran.0) ran.2))
+        (ran.0, ran.1, of_meant endings.NoReading r ran.0 (all_written endings.NoReading r (output_of ran.0) ran.2))
     go e same a = cc
 
 -- words that ask for nothing
 pub other_words : (asks : Result Task Kinds) (e : Ending) (r : Run) → Answers asks e r → (kinds : Kinds) → asks ≡ Err kinds →
-    (exit_status e ≡ 2) × TellsKind kinds r ⊎ ((exit_status e ≡ 4) ⊎ (exit_status e ≡ 7)) × TellsKindFront kinds r
+    (exit_status e ≡ 2) × PrintsKind kinds r ⊎ ((exit_status e ≡ 4) ⊎ (exit_status e ≡ 7)) × PrintsKindPrefix kinds r
 other_words asks e r a kinds is = go (kinds_end e r kinds (subst (λ (x : Result Task Kinds). Answers x e r) is a))
   where
-    go : (e ≡ endings.OtherWords) × TellsKind kinds r ⊎ ((e ≡ endings.SinkFailed) ⊎ (e ≡ endings.Memory)) × TellsKindFront kinds r →
-        (exit_status e ≡ 2) × TellsKind kinds r ⊎ ((exit_status e ≡ 4) ⊎ (exit_status e ≡ 7)) × TellsKindFront kinds r
+    go : (e ≡ endings.OtherWords) × PrintsKind kinds r ⊎ ((e ≡ endings.SinkFailed) ⊎ (e ≡ endings.Memory)) × PrintsKindPrefix kinds r →
+        (exit_status e ≡ 2) × PrintsKind kinds r ⊎ ((exit_status e ≡ 4) ⊎ (exit_status e ≡ 7)) × PrintsKindPrefix kinds r
     go (inl p) = inl (ap exit_status p.0, p.1)
     go (inr (inl is, p)) = inr (inl (ap exit_status is), p)
     go (inr (inr is, p)) = inr (inr (ap exit_status is), p)
 
--- The ends of a run that comes to the status that is owed, or to a failure before it.
+-- The ends of a run that comes to the expected status, or to a failure before it.
 abbrev EndsBy : ℕ → ℕ → Type 0
 EndsBy answer status = (status ≡ answer) ⊎ (status ≡ 3) ⊎ (status ≡ 4) ⊎ (status ≡ 5) ⊎ (status ≡ 7)
 
 -- Of what the disk of a run showed, and of the bytes that its source tells.
-abbrev Told : Run → (Shown → List ℕ → Type 0) → Type 0
-Told r P = OfShown r.disk.honest r.disk.held (λ h. IfSome r.given (λ g. P h g))
+abbrev Printed : Run → (Shown → List ℕ → Type 0) → Type 0
+Printed r P = OfShown r.disk.honest r.disk.held (λ h. IfSome r.given (λ g. P h g))
 
-told_map : (r : Run) (P Q : Shown → List ℕ → Type 0) → ((h : Shown) (g : List ℕ) → P h g → Q h g) → Told r P → Told r Q
-told_map r P Q f p = shown_map r.disk.honest r.disk.held (λ h. IfSome r.given (P h)) (λ h. IfSome r.given (Q h)) (λ h q. some_map r.given (P h) (Q h) (f h) q) p
+printed_map : (r : Run) (P Q : Shown → List ℕ → Type 0) → ((h : Shown) (g : List ℕ) → P h g → Q h g) → Printed r P → Printed r Q
+printed_map r P Q f p = shown_map r.disk.honest r.disk.held (λ h. IfSome r.given (P h)) (λ h. IfSome r.given (Q h)) (λ h q. some_map r.given (P h) (Q h) (f h) q) p
 
-of_told : (r : Run) (P : Shown → List ℕ → Type 0) → OfRun r P → Told r P
-of_told r P p = shown_map r.disk.honest r.disk.held (λ h. OfBytes r.given (P h)) (λ h. IfSome r.given (P h)) (λ h q. if_told r.given (P h) q) p
+of_printed : (r : Run) (P : Shown → List ℕ → Type 0) → OfRun r P → Printed r P
+of_printed r P p = shown_map r.disk.honest r.disk.held (λ h. OfBytes r.given (P h)) (λ h. IfSome r.given (P h)) (λ h q. if_printed r.given (P h) q) p
 
-whatever : (r : Run) (P : Shown → List ℕ → Type 0) → ((h : Shown) (g : List ℕ) → P h g) → Told r P
-whatever r P f = shown_any r.disk.honest r.disk.held (λ h. IfSome r.given (P h)) (λ h. whatever_told r.given (P h) (f h))
+whatever : (r : Run) (P : Shown → List ℕ → Type 0) → ((h : Shown) (g : List ℕ) → P h g) → Printed r P
+whatever r P f = shown_any r.disk.honest r.disk.held (λ h. IfSome r.given (P h)) (λ h. whatever_printed r.given (P h) (f h))
 
-due_end : (e : Ending) (r : Run) (owed : Owed) → Runs e r owed → Told r (λ h g. EndsBy (exit_status (owed h g).ending) (exit_status e))
-due_end e r owed runs = go e runs
+output_end : (e : Ending) (r : Run) (expected_output : Expected) → Runs e r expected_output → Printed r (λ h g. EndsBy (exit_status (expected_output h g).ending) (exit_status e))
+output_end e r expected_output runs = go e runs
   where
-    told : (e : Ending) → OfRun r (λ h g. WritesAll e r (owed h g)) → Told r (λ h g. EndsBy (exit_status (owed h g).ending) (exit_status e))
-    told e p =
-        of_told r (λ h g. EndsBy (exit_status (owed h g).ending) (exit_status e))
-        (run_map r (λ h g. WritesAll e r (owed h g)) (λ h g. EndsBy (exit_status (owed h g).ending) (exit_status e)) (λ h g w. inl (sym (ap exit_status w.0))) p)
+    reported : (e : Ending) → OfRun r (λ h g. WritesAll e r (expected_output h g)) → Printed r (λ h g. EndsBy (exit_status (expected_output h g).ending) (exit_status e))
+    reported e p =
+        of_printed r (λ h g. EndsBy (exit_status (expected_output h g).ending) (exit_status e))
+        (run_map r (λ h g. WritesAll e r (expected_output h g)) (λ h g. EndsBy (exit_status (expected_output h g).ending) (exit_status e)) (λ h g w. inl (sym (ap exit_status w.0))) p)
 
-    go : (e : Ending) → Runs e r owed → Told r (λ h g. EndsBy (exit_status (owed h g).ending) (exit_status e))
-    go endings.Done runs = told endings.Done runs.1
-    go endings.NotValid runs = told endings.NotValid (all_written endings.NotValid r owed runs)
-    go endings.OtherWords runs = told endings.OtherWords runs
-    go endings.SourceFailed runs = whatever r (λ h g. EndsBy (exit_status (owed h g).ending) 3) (λ h g. inr (inl refl))
-    go endings.SinkFailed runs = whatever r (λ h g. EndsBy (exit_status (owed h g).ending) 4) (λ h g. inr (inr (inl refl)))
+    go : (e : Ending) → Runs e r expected_output → Printed r (λ h g. EndsBy (exit_status (expected_output h g).ending) (exit_status e))
+    go endings.Done runs = reported endings.Done runs.1
+    go endings.NotValid runs = reported endings.NotValid (all_written endings.NotValid r expected_output runs)
+    go endings.OtherWords runs = reported endings.OtherWords runs
+    go endings.SourceFailed runs = whatever r (λ h g. EndsBy (exit_status (expected_output h g).ending) 3) (λ h g. inr (inl refl))
+    go endings.SinkFailed runs = whatever r (λ h g. EndsBy (exit_status (expected_output h g).ending) 4) (λ h g. inr (inr (inl refl)))
     go endings.LinkFailed runs = absurd runs
-    go endings.DiskFailed runs = whatever r (λ h g. EndsBy (exit_status (owed h g).ending) 5) (λ h g. inr (inr (inr (inl refl))))
-    go endings.Memory runs = whatever r (λ h g. EndsBy (exit_status (owed h g).ending) 7) (λ h g. inr (inr (inr (inr refl))))
-    go endings.PastLimit runs = told endings.PastLimit (all_written endings.PastLimit r owed runs)
-    go endings.NoReading runs = told endings.NoReading (all_written endings.NoReading r owed runs)
+    go endings.DiskFailed runs = whatever r (λ h g. EndsBy (exit_status (expected_output h g).ending) 5) (λ h g. inr (inr (inr (inl refl))))
+    go endings.Memory runs = whatever r (λ h g. EndsBy (exit_status (expected_output h g).ending) 7) (λ h g. inr (inr (inr (inr refl))))
+    go endings.PastLimit runs = reported endings.PastLimit (all_written endings.PastLimit r expected_output runs)
+    go endings.NoReading runs = reported endings.NoReading (all_written endings.NoReading r expected_output runs)
 
 -- What is owed this ending, by what it is.
-abbrev AreOwed : (Task → Shown → List ℕ → List ℕ → Type 0) → Ending → Type 0
-AreOwed P ending = (task : Task) (h : Shown) (g text : List ℕ) → P task h g text → (due_of task h g).ending ≡ ending
+abbrev AreExpected : (Task → Shown → List ℕ → List ℕ → Type 0) → Ending → Type 0
+AreExpected P ending = (task : Task) (h : Shown) (g text : List ℕ) → P task h g text → (output_of task h g).ending ≡ ending
 
-comes_to : (P : Task → Shown → List ℕ → List ℕ → Type 0) (ending : Ending) → AreOwed P ending → (asks : Result Task Kinds) (e : Ending) (r : Run) → Answers asks e r →
-    (task : Task) → asks ≡ Ok task → Told r (λ h g. (text : List ℕ) → P task h g text → EndsBy (exit_status ending) (exit_status e))
-comes_to P ending owed asks e r a task is =
-    told_map r (λ h g. EndsBy (exit_status (due_of task h g).ending) (exit_status e)) (λ h g. (text : List ℕ) → P task h g text → EndsBy (exit_status ending) (exit_status e))
-    (λ h g ends text p. subst (λ (x : Ending). EndsBy (exit_status x) (exit_status e)) (owed task h g text p) ends)
-    (due_end e r (due_of task) (runs_as asks task e r is a))
+comes_to : (P : Task → Shown → List ℕ → List ℕ → Type 0) (ending : Ending) → AreExpected P ending → (asks : Result Task Kinds) (e : Ending) (r : Run) → Answers asks e r →
+    (task : Task) → asks ≡ Ok task → Printed r (λ h g. (text : List ℕ) → P task h g text → EndsBy (exit_status ending) (exit_status e))
+comes_to P ending expected_output asks e r a task is =
+    printed_map r (λ h g. EndsBy (exit_status (output_of task h g).ending) (exit_status e)) (λ h g. (text : List ℕ) → P task h g text → EndsBy (exit_status ending) (exit_status e))
+    (λ h g ends text p. subst (λ (x : Ending). EndsBy (exit_status x) (exit_status e)) (expected_output task h g text p) ends)
+    (output_end e r (output_of task) (runs_as asks task e r is a))
 
 pub answered : (asks : Result Task Kinds) (e : Ending) (r : Run) → Answers asks e r → (task : Task) → asks ≡ Ok task →
-    Told r (λ h g. (text : List ℕ) → IsAnswer task h g text → EndsBy 0 (exit_status e))
+    Printed r (λ h g. (text : List ℕ) → IsAnswer task h g text → EndsBy 0 (exit_status e))
 answered asks e r a task is = comes_to IsAnswer endings.Done answer_ends asks e r a task is
 
 pub refused : (asks : Result Task Kinds) (e : Ending) (r : Run) → Answers asks e r → (task : Task) → asks ≡ Ok task →
-    Told r (λ h g. (text : List ℕ) → IsRefusal task h g text → EndsBy 1 (exit_status e))
+    Printed r (λ h g. (text : List ℕ) → IsRefusal task h g text → EndsBy 1 (exit_status e))
 refused asks e r a task is = comes_to IsRefusal endings.NotValid refusal_ends asks e r a task is
 
 pub past_limits : (asks : Result Task Kinds) (e : Ending) (r : Run) → Answers asks e r → (task : Task) → asks ≡ Ok task →
-    Told r (λ h g. (text : List ℕ) → IsPastLimit task h g text → EndsBy 8 (exit_status e))
+    Printed r (λ h g. (text : List ℕ) → IsPastLimit task h g text → EndsBy 8 (exit_status e))
 past_limits asks e r a task is = comes_to IsPastLimit endings.PastLimit limit_ends asks e r a task is
 
 pub unread : (asks : Result Task Kinds) (e : Ending) (r : Run) → Answers asks e r → (task : Task) → asks ≡ Ok task →
-    Told r (λ h g. (text : List ℕ) → IsNoReading task h g text → EndsBy 9 (exit_status e))
+    Printed r (λ h g. (text : List ℕ) → IsNoReading task h g text → EndsBy 9 (exit_status e))
 unread asks e r a task is = comes_to IsNoReading endings.NoReading unread_ends asks e r a task is
 
 pub complete : (asks : Result Task Kinds) (e : Ending) (r : Run) → Answers asks e r → (task : Task) → asks ≡ Ok task →
     (Rose r.faults r.faults_now → ⊥) → (Rose r.written.faults r.written.faults_now → ⊥) → (Rose r.disk.faults r.disk.faults_now → ⊥) →
-    Told r (λ h g. (exit_status e ≡ exit_status (due_of task h g).ending) ⊎ (exit_status e ≡ 7))
+    Printed r (λ h g. (exit_status e ≡ exit_status (output_of task h g).ending) ⊎ (exit_status e ≡ 7))
 complete asks e r a task is source sink disk =
-    told_map r (λ h g. EndsBy (exit_status (due_of task h g).ending) (exit_status e)) (λ h g. (exit_status e ≡ exit_status (due_of task h g).ending) ⊎ (exit_status e ≡ 7))
-    (λ h g ends. go (exit_status (due_of task h g).ending) ends) (due_end e r (due_of task) (runs_as asks task e r is a))
+    printed_map r (λ h g. EndsBy (exit_status (output_of task h g).ending) (exit_status e)) (λ h g. (exit_status e ≡ exit_status (output_of task h g).ending) ⊎ (exit_status e ≡ 7))
+    (λ h g ends. go (exit_status (output_of task h g).ending) ends) (output_end e r (output_of task) (runs_as asks task e r is a))
   where
-    go : (owed : ℕ) → EndsBy owed (exit_status e) → (exit_status e ≡ owed) ⊎ (exit_status e ≡ 7)
-    go owed (inl is) = inl is
-    go owed (inr (inl is)) = absurd (source (source_failed asks e r a is).2)
-    go owed (inr (inr (inl is))) = absurd (sink (sink_failed asks e r a is))
-    go owed (inr (inr (inr (inl is)))) = absurd (disk (disk_ended asks e r a is).0)
-    go owed (inr (inr (inr (inr is)))) = inr is
+    go : (expected_output : ℕ) → EndsBy expected_output (exit_status e) → (exit_status e ≡ expected_output) ⊎ (exit_status e ≡ 7)
+    go expected_output (inl is) = inl is
+    go expected_output (inr (inl is)) = absurd (source (source_failed asks e r a is).2)
+    go expected_output (inr (inr (inl is))) = absurd (sink (sink_failed asks e r a is))
+    go expected_output (inr (inr (inr (inl is)))) = absurd (disk (disk_ended asks e r a is).0)
+    go expected_output (inr (inr (inr (inr is)))) = inr is
 
 -- Words that ask for a task, or for nothing
 pub is_task : (a : Result Asked Kinds) (task : Task) → task_of a ≡ Ok task → a ≡ Ok (asks_for.Task task)

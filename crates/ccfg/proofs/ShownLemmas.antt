@@ -1,11 +1,11 @@
 -- What is said of what a disk shows, whether it is honest or not, and of the bytes that a source
 -- gives.
 use Rattle.std.proofs.Common.{◌≡◌, ℕ, List, [], Bool, true, false, Option, None, Some, IfSome, Result, Ok, Err, IfOk, subst, ap, ◌∙◌}
-use Rattle.gl_entry.specs.Given.{OfBytes}
-use Rattle.ccfg.specs.Owed.{Due, OfShown, Shown, due_of, shown_by}
-use Rattle.ccfg.specs.Plans.{due_of_plan}
+use Rattle.gl_entry.specs.SourceBytes.{OfBytes}
+use Rattle.ccfg.specs.ExpectedOutput.{OfShown, Output, Shown, output_of, shown_by}
+use Rattle.ccfg.specs.Plans.{output_of_plan}
 use Rattle.ccfg.specs.declared.plan.Plan.{Plan}
-use Rattle.ccfg.specs.declared.plan.PlanStop.{PlanStop}
+use Rattle.ccfg.specs.declared.plan.PlanError.{PlanError}
 use Rattle.gl_commands.specs.declared.task.Task.{Task}
 
 -- what holds of the bytes that a source gives, from what else does
@@ -60,13 +60,13 @@ pub from_both : (honest : Bool) (held : List ℕ) (given : Option (List ℕ)) (P
 from_both honest held given P Q f p = from_shown honest held (λ h. OfBytes given (λ g. P h g)) Q (λ h q. from_given given (P h) Q (f h) q) p
 
 -- what holds where the source tells its bytes
-pub if_told : (given : Option (List ℕ)) (P : List ℕ → Type 0) → OfBytes given P → IfSome given P
-if_told None P p = tt
-if_told (Some g) P p = p
+pub if_printed : (given : Option (List ℕ)) (P : List ℕ → Type 0) → OfBytes given P → IfSome given P
+if_printed None P p = tt
+if_printed (Some g) P p = p
 
-pub whatever_told : (given : Option (List ℕ)) (P : List ℕ → Type 0) → ((g : List ℕ) → P g) → IfSome given P
-whatever_told None P holds = tt
-whatever_told (Some g) P holds = holds g
+pub whatever_printed : (given : Option (List ℕ)) (P : List ℕ → Type 0) → ((g : List ℕ) → P g) → IfSome given P
+whatever_printed None P holds = tt
+whatever_printed (Some g) P holds = holds g
 
 pub some_map : (given : Option (List ℕ)) (P Q : List ℕ → Type 0) → ((g : List ℕ) → P g → Q g) → IfSome given P → IfSome given Q
 some_map None P Q f p = tt
@@ -90,9 +90,9 @@ pub at_ok : {T E : Type 0} (r : Result T E) (t : T) (P : T → Type 0) → r ≡
 at_ok r t P is p = let Q : Result _ _ → Type 0 = λ x. IfOk x P in subst Q is p
 
 -- what a task owes that uses no disk
-pub diskless_due : (task plain : Task) (owed : List ℕ → Due) (honest : Bool) (held : List ℕ) (given : Option (List ℕ)) (r : Result Plan PlanStop) → task ≡ plain → ((h : Shown) (g : List ℕ) → due_of plain h g ≡ owed g) →
-    IfOk r (λ plan. OfBytes given (λ g. owed g ≡ due_of_plan plan)) → IfOk r (λ plan. OfShown honest held (λ h. OfBytes given (λ g. due_of task h g ≡ due_of_plan plan)))
-diskless_due task plain owed honest held given r is same due =
-    ok_map r (λ plan. OfBytes given (λ g. owed g ≡ due_of_plan plan)) (λ plan. OfShown honest held (λ h. OfBytes given (λ g. due_of task h g ≡ due_of_plan plan)))
-    (λ plan owes. shown_any honest held (λ h. OfBytes given (λ g. due_of task h g ≡ due_of_plan plan))
-    (λ h. of_map given (λ g. owed g ≡ due_of_plan plan) (λ g. due_of task h g ≡ due_of_plan plan) (λ g o. ap (λ (t : Task). due_of t h g) is ∙ same h g ∙ o) owes)) due
+pub diskless_output : (task plain : Task) (expected_output : List ℕ → Output) (honest : Bool) (held : List ℕ) (given : Option (List ℕ)) (r : Result Plan PlanError) → task ≡ plain → ((h : Shown) (g : List ℕ) → output_of plain h g ≡ expected_output g) →
+    IfOk r (λ plan. OfBytes given (λ g. expected_output g ≡ output_of_plan plan)) → IfOk r (λ plan. OfShown honest held (λ h. OfBytes given (λ g. output_of task h g ≡ output_of_plan plan)))
+diskless_output task plain expected_output honest held given r is same output =
+    ok_map r (λ plan. OfBytes given (λ g. expected_output g ≡ output_of_plan plan)) (λ plan. OfShown honest held (λ h. OfBytes given (λ g. output_of task h g ≡ output_of_plan plan)))
+    (λ plan owes. shown_any honest held (λ h. OfBytes given (λ g. output_of task h g ≡ output_of_plan plan))
+    (λ h. of_map given (λ g. expected_output g ≡ output_of_plan plan) (λ g. output_of task h g ≡ output_of_plan plan) (λ g o. ap (λ (t : Task). output_of t h g) is ∙ same h g ∙ o) owes)) output

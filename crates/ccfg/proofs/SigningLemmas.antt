@@ -2,10 +2,10 @@
 use Rattle.std.proofs.Common.{◌≡◌, ◌<◌, ◌≤◌, inl, inr, ℕ, List, [], length, Option, Bool, true, false, Result, Ok, Err, IfOk, IsTrue, nat_lt, if◌then◌else◌, refl, sym, ap, subst, ◌∙◌, arith}
 use Rattle.std.proofs.lemmas.Bool.Decides.{nat_tests}
 use Rattle.gl_base.specs.declared.json.FormsFault.{FormsFault}
-use Rattle.gl_entry.specs.Given.{OfBytes}
+use Rattle.gl_entry.specs.SourceBytes.{OfBytes}
 use Rattle.gl_base.specs.declared.or_no_memory.OrNoMemory.{OrNoMemory}
 use Rattle.gl_base.specs.declared.or_no_memory.OrNoMemory.TheVariants.{Fault as fault_of}
-use Rattle.gl_consortium.specs.Owed.{owed}
+use Rattle.gl_consortium.specs.ExpectedOutput.{expected_output}
 use Rattle.gl_consortium.specs.declared.fault.SigningFault.{SigningFault}
 use Rattle.gl_consortium.specs.declared.fault.SigningFault.TheVariants as signings
 use Rattle.gl_journal.specs.Durable.{Durable, key_alone}
@@ -14,35 +14,35 @@ use Rattle.gl_journal.specs.declared.fault.JournalFault.TheVariants.{DiskFault}
 use Rattle.gl_journal.specs.declared.key.KeyKind.{KeyKind}
 use Rattle.gl_journal.specs.declared.key.KeyKind.TheVariants.{Service, Node, Member}
 use Rattle.gl_keyfile.specs.KeyFile.{opened}
-use Rattle.gl_keyfile.specs.Signing.{kind_of}
+use Rattle.gl_keyfile.specs.SigningRequest.{kind_of}
 use Rattle.gl_keyfile.specs.declared.fault.KeyFileFault.{KeyFileFault}
 use Rattle.gl_keyfile.specs.declared.fault.KeyFileFault.TheVariants.{Journal, KeyKind as KeyKindOf}
 use Rattle.gl_keyfile.specs.declared.leaf.LeafUse.{LeafUse}
-use Rattle.gl_keyfile.specs.declared.signing.Signing.{Signing}
+use Rattle.gl_keyfile.specs.declared.signature.Signing.{Signing}
 use Rattle.gl_hss.specs.declared.types.Types.TheVariants.{H5W4}
 use Rattle.gl_outside.specs.Disk.{Step}
 use Rattle.ccfg.specs.declared.fault.Fault.TheVariants as faults
 use Rattle.ccfg.specs.declared.plan.Plan.{Plan}
-use Rattle.ccfg.specs.declared.plan.Plan.TheVariants.{Play, Show, ShowLedger, Tell, Refuse}
-use Rattle.ccfg.specs.declared.plan.PlanStop.{PlanStop}
+use Rattle.ccfg.specs.declared.plan.Plan.TheVariants.{Play, Show, ShowLedger, Print, Refuse}
+use Rattle.ccfg.specs.declared.plan.PlanError.{PlanError}
 use Rattle.gl_commands.specs.declared.task.Task.{Task}
 use Rattle.gl_commands.specs.declared.task.Task.TheVariants.{Recover, Sign}
-use Rattle.ccfg.specs.Plans.{OpensAsBefore, PlansPlayable, TellsFault, TellsSpent, TellsUnopened, due_of_plan}
+use Rattle.ccfg.specs.Plans.{OpensAsBefore, PlansPlayable, PrintsFault, PrintsSpent, PrintsUnopened, output_of_plan}
 use Rattle.ccfg.proofs.ShownLemmas.{of_any, of_map, ok_map}
-use Rattle.ccfg.specs.Owed.{Due, EndsSource, OfShown, Shown, due_of, due_of_fault, due_of_recovering, due_of_signed, due_of_signing, due_of_text, due_with_key, is_kind, json_limit}
+use Rattle.ccfg.specs.ExpectedOutput.{EndsSource, OfShown, Output, Shown, is_kind, json_limit, output_of, output_of_fault, output_of_recovering, output_of_signed, output_of_signing, output_of_text, output_with_key}
 use Rattle.ccfg.specs.Promises.{HasKey}
 
-abbrev pub text_due : Signing → Durable → List ℕ → Bool → Result (List ℕ) SigningFault → Due
-text_due signing state given long signed = if long then due_of_fault faults.TooMuchJson else due_of_signed signed
+abbrev pub text_output : Signing → Durable → List ℕ → Bool → Result (List ℕ) SigningFault → Output
+text_output signing state given long signed = if long then output_of_fault faults.TooMuchJson else output_of_signed signed
 
-pub text_is : (signing : Signing) (state : Durable) (given : List ℕ) (long : Bool) (signed : Result (List ℕ) SigningFault) → nat_lt json_limit (length given) ≡ long → owed signing state given ≡ signed → due_of_text signing state given ≡ text_due signing state given long signed
-unfolding due_of_text
+pub text_is : (signing : Signing) (state : Durable) (given : List ℕ) (long : Bool) (signed : Result (List ℕ) SigningFault) → nat_lt json_limit (length given) ≡ long → expected_output signing state given ≡ signed → output_of_text signing state given ≡ text_output signing state given long signed
+unfolding output_of_text
 text_is signing state given long signed l s = rw (l, s) refl
 
-pub long_text : (signing : Signing) (state : Durable) (given : List ℕ) → json_limit < length given → due_of_text signing state given ≡ due_of_fault faults.TooMuchJson
-long_text signing state given more = text_is signing state given true (owed signing state given) (grind (arith, nat_tests)) refl
+pub long_text : (signing : Signing) (state : Durable) (given : List ℕ) → json_limit < length given → output_of_text signing state given ≡ output_of_fault faults.TooMuchJson
+long_text signing state given more = text_is signing state given true (expected_output signing state given) (grind (arith, nat_tests)) refl
 
-pub short_text : (signing : Signing) (state : Durable) (given : List ℕ) (signed : Result (List ℕ) SigningFault) → length given ≤ json_limit → owed signing state given ≡ signed → due_of_text signing state given ≡ due_of_signed signed
+pub short_text : (signing : Signing) (state : Durable) (given : List ℕ) (signed : Result (List ℕ) SigningFault) → length given ≤ json_limit → expected_output signing state given ≡ signed → output_of_text signing state given ≡ output_of_signed signed
 short_text signing state given signed within is = text_is signing state given false signed (grind (arith, nat_tests)) is
 
 pub same_kind : (want got : KeyKind) → is_kind want got ≡ true → got ≡ want
@@ -64,55 +64,55 @@ other_kind want got other = go (is_kind want got) refl
     go false is = is
 
 -- what is owed with a key of the kind that is wanted
-pub with_key : (kind : KeyKind) (owes : Durable → List ℕ → Due) (shown : Shown) (state : Durable) (given : List ℕ) → HasKey kind shown state → due_with_key kind owes shown.opens given ≡ owes state given
+pub with_key : (kind : KeyKind) (owes : Durable → List ℕ → Output) (shown : Shown) (state : Durable) (given : List ℕ) → HasKey kind shown state → output_with_key kind owes shown.opens given ≡ owes state given
 with_key kind owes shown state given key =
-    ap (λ (opens : Result Durable JournalFault). due_with_key kind owes opens given) key.0
-    ∙ ap (λ (b : Bool). if b then owes state given else due_of_fault (faults.KeyKind kind state.key.kind)) (is_own_kind kind state.key.kind key.1)
+    ap (λ (opens : Result Durable JournalFault). output_with_key kind owes opens given) key.0
+    ∙ ap (λ (b : Bool). if b then owes state given else output_of_fault (faults.KeyKind kind state.key.kind)) (is_own_kind kind state.key.kind key.1)
 
 -- and with one of another kind
-pub with_other_key : (kind : KeyKind) (owes : Durable → List ℕ → Due) (state : Durable) (given : List ℕ) → (state.key.kind ≡ kind → ⊥) → due_with_key kind owes (Ok state) given ≡ due_of_fault (faults.KeyKind kind state.key.kind)
+pub with_other_key : (kind : KeyKind) (owes : Durable → List ℕ → Output) (state : Durable) (given : List ℕ) → (state.key.kind ≡ kind → ⊥) → output_with_key kind owes (Ok state) given ≡ output_of_fault (faults.KeyKind kind state.key.kind)
 with_other_key kind owes state given other =
-    ap (λ (b : Bool). if b then owes state given else due_of_fault (faults.KeyKind kind state.key.kind)) (other_kind kind state.key.kind other)
+    ap (λ (b : Bool). if b then owes state given else output_of_fault (faults.KeyKind kind state.key.kind)) (other_kind kind state.key.kind other)
 
-pub with_own_key : (kind : KeyKind) (owes : Durable → List ℕ → Due) (state : Durable) (given : List ℕ) → state.key.kind ≡ kind → due_with_key kind owes (Ok state) given ≡ owes state given
+pub with_own_key : (kind : KeyKind) (owes : Durable → List ℕ → Output) (state : Durable) (given : List ℕ) → state.key.kind ≡ kind → output_with_key kind owes (Ok state) given ≡ owes state given
 with_own_key kind owes state given own =
-    ap (λ (b : Bool). if b then owes state given else due_of_fault (faults.KeyKind kind state.key.kind)) (is_own_kind kind state.key.kind own)
+    ap (λ (b : Bool). if b then owes state given else output_of_fault (faults.KeyKind kind state.key.kind)) (is_own_kind kind state.key.kind own)
 
-pub signed_ends : (signing : Signing) (shown : Shown) (given : List ℕ) (state : Durable) (signed : Result (List ℕ) SigningFault) → HasKey (kind_of signing) shown state → length given ≤ json_limit → owed signing state given ≡ signed →
-    (due_of_signing signing shown.opens given).ending ≡ (due_of_signed signed).ending
+pub signed_ends : (signing : Signing) (shown : Shown) (given : List ℕ) (state : Durable) (signed : Result (List ℕ) SigningFault) → HasKey (kind_of signing) shown state → length given ≤ json_limit → expected_output signing state given ≡ signed →
+    (output_of_signing signing shown.opens given).ending ≡ (output_of_signed signed).ending
 signed_ends signing shown given state signed key within is =
-    ap (λ (d : Due). d.ending) (with_key (kind_of signing) (due_of_text signing) shown state given key ∙ short_text signing state given signed within is)
+    ap (λ (d : Output). d.ending) (with_key (kind_of signing) (output_of_text signing) shown state given key ∙ short_text signing state given signed within is)
 
 -- a fault of signing, and not of the form
-pub unsigned_due : (fault : SigningFault) → ((form : FormsFault) → fault ≡ signings.Form form → ⊥) → due_of_signed (Err fault) ≡ due_of_fault (faults.Signing fault)
-unsigned_due (signings.Form form) other = absurd (other form refl)
-unsigned_due (signings.NotFirstNode want got) other = refl
-unsigned_due (signings.KeyExhausted reserved) other = refl
-unsigned_due (signings.BadAction index cause) other = refl
-unsigned_due signings.Signature other = refl
-unsigned_due signings.DiskFailed other = refl
+pub unsigned_output : (fault : SigningFault) → ((form : FormsFault) → fault ≡ signings.Form form → ⊥) → output_of_signed (Err fault) ≡ output_of_fault (faults.Signing fault)
+unsigned_output (signings.Form form) other = absurd (other form refl)
+unsigned_output (signings.NotFirstNode want got) other = refl
+unsigned_output (signings.KeyExhausted reserved) other = refl
+unsigned_output (signings.BadAction index cause) other = refl
+unsigned_output signings.Signature other = refl
+unsigned_output signings.DiskFailed other = refl
 
 -- bytes that aren't signed
-pub unsigned_text : (signing : Signing) (state : Durable) (text : List ℕ) (fault : SigningFault) (r : Result Plan PlanStop) → length text ≤ json_limit → ((fault ≡ signings.DiskFailed → ⊥) → owed signing state text ≡ Err fault) →
-    IfOk r (λ plan. due_of_signed (Err fault) ≡ due_of_plan plan) → IfOk r (λ plan. TellsFault plan × (fault ≡ signings.DiskFailed → ⊥)) → IfOk r (λ plan. due_of_text signing state text ≡ due_of_plan plan)
-unsigned_text signing state text fault (Ok plan) within is due told = short_text signing state text (Err fault) within (is told.1) ∙ due
-unsigned_text signing state text fault (Err stop) within is due told = tt
+pub unsigned_text : (signing : Signing) (state : Durable) (text : List ℕ) (fault : SigningFault) (r : Result Plan PlanError) → length text ≤ json_limit → ((fault ≡ signings.DiskFailed → ⊥) → expected_output signing state text ≡ Err fault) →
+    IfOk r (λ plan. output_of_signed (Err fault) ≡ output_of_plan plan) → IfOk r (λ plan. PrintsFault plan × (fault ≡ signings.DiskFailed → ⊥)) → IfOk r (λ plan. output_of_text signing state text ≡ output_of_plan plan)
+unsigned_text signing state text fault (Ok plan) within is output printed = short_text signing state text (Err fault) within (is printed.1) ∙ output
+unsigned_text signing state text fault (Err stop) within is output printed = tt
 
 -- more bytes than the limit
-pub long_texts : (signing : Signing) (state : Durable) (given : Option (List ℕ)) → OfBytes given (λ g. json_limit < length g) → OfBytes given (λ g. due_of_text signing state g ≡ due_of_fault faults.TooMuchJson)
-long_texts signing state given more = of_map given (λ g. json_limit < length g) (λ g. due_of_text signing state g ≡ due_of_fault faults.TooMuchJson) (long_text signing state) more
+pub long_texts : (signing : Signing) (state : Durable) (given : Option (List ℕ)) → OfBytes given (λ g. json_limit < length g) → OfBytes given (λ g. output_of_text signing state g ≡ output_of_fault faults.TooMuchJson)
+long_texts signing state given more = of_map given (λ g. json_limit < length g) (λ g. output_of_text signing state g ≡ output_of_fault faults.TooMuchJson) (long_text signing state) more
 
 -- a task that signs
-pub signing_due : (task : Task) (signing : Signing) (honest : Bool) (held : List ℕ) (given : Option (List ℕ)) (r : Result Plan PlanStop) → task ≡ Sign signing →
-    IfOk r (λ plan. OfShown honest held (λ h. OfBytes given (λ g. due_of_signing signing h.opens g ≡ due_of_plan plan))) → IfOk r (λ plan. OfShown honest held (λ h. OfBytes given (λ g. due_of task h g ≡ due_of_plan plan)))
-signing_due task signing honest held given r is due =
-    subst (λ (t : Task). IfOk r (λ plan. OfShown honest held (λ h. OfBytes given (λ g. due_of t h g ≡ due_of_plan plan)))) (sym is) due
+pub signing_output : (task : Task) (signing : Signing) (honest : Bool) (held : List ℕ) (given : Option (List ℕ)) (r : Result Plan PlanError) → task ≡ Sign signing →
+    IfOk r (λ plan. OfShown honest held (λ h. OfBytes given (λ g. output_of_signing signing h.opens g ≡ output_of_plan plan))) → IfOk r (λ plan. OfShown honest held (λ h. OfBytes given (λ g. output_of task h g ≡ output_of_plan plan)))
+signing_output task signing honest held given r is output =
+    subst (λ (t : Task). IfOk r (λ plan. OfShown honest held (λ h. OfBytes given (λ g. output_of t h g ≡ output_of_plan plan)))) (sym is) output
 
--- the task that founds a service anew
-pub recover_due : (task : Task) (honest : Bool) (held : List ℕ) (given : Option (List ℕ)) (r : Result Plan PlanStop) → task ≡ Recover →
-    IfOk r (λ plan. OfShown honest held (λ h. OfBytes given (λ g. due_of_recovering h.opens g ≡ due_of_plan plan))) → IfOk r (λ plan. OfShown honest held (λ h. OfBytes given (λ g. due_of task h g ≡ due_of_plan plan)))
-recover_due task honest held given r is due =
-    subst (λ (t : Task). IfOk r (λ plan. OfShown honest held (λ h. OfBytes given (λ g. due_of t h g ≡ due_of_plan plan)))) (sym is) due
+-- the task that recovers a service
+pub recover_output : (task : Task) (honest : Bool) (held : List ℕ) (given : Option (List ℕ)) (r : Result Plan PlanError) → task ≡ Recover →
+    IfOk r (λ plan. OfShown honest held (λ h. OfBytes given (λ g. output_of_recovering h.opens g ≡ output_of_plan plan))) → IfOk r (λ plan. OfShown honest held (λ h. OfBytes given (λ g. output_of task h g ≡ output_of_plan plan)))
+recover_output task honest held given r is output =
+    subst (λ (t : Task). IfOk r (λ plan. OfShown honest held (λ h. OfBytes given (λ g. output_of t h g ≡ output_of_plan plan)))) (sym is) output
 
 -- what a disk shows that opens so
 abbrev shows : Result Durable JournalFault → Shown
@@ -123,103 +123,103 @@ pub opens_so : (honest : Bool) (held : List ℕ) (opens : Result Durable Journal
 opens_so true held opens P is p = subst P (sym (is refl)) p
 opens_so false held opens P is p = (shows opens, p)
 
--- with a key of the kind that is wanted, what is owed for its state is owed
-pub owed_with_key : (honest : Bool) (held : List ℕ) (given : Option (List ℕ)) (kind : KeyKind) (owes : Durable → List ℕ → Due) (state : Durable) (r : Result Plan PlanStop) → (IsTrue honest → opened held ≡ Ok state) → state.key.kind ≡ kind →
-    IfOk r (λ plan. OfBytes given (λ g. owes state g ≡ due_of_plan plan)) → IfOk r (λ plan. OfShown honest held (λ h. OfBytes given (λ g. due_with_key kind owes h.opens g ≡ due_of_plan plan)))
-owed_with_key honest held given kind owes state r opens own due =
-    ok_map r (λ plan. OfBytes given (λ g. owes state g ≡ due_of_plan plan)) (λ plan. OfShown honest held (λ h. OfBytes given (λ g. due_with_key kind owes h.opens g ≡ due_of_plan plan)))
-    (λ plan is. opens_so honest held (Ok state) (λ o. OfBytes given (λ g. due_with_key kind owes o g ≡ due_of_plan plan)) opens
-    (of_map given (λ g. owes state g ≡ due_of_plan plan) (λ g. due_with_key kind owes (Ok state) g ≡ due_of_plan plan) (λ g d. with_own_key kind owes state g own ∙ d) is)) due
+-- with a key of the kind that is wanted, the expected output for its state is owed
+pub expected_with_key : (honest : Bool) (held : List ℕ) (given : Option (List ℕ)) (kind : KeyKind) (owes : Durable → List ℕ → Output) (state : Durable) (r : Result Plan PlanError) → (IsTrue honest → opened held ≡ Ok state) → state.key.kind ≡ kind →
+    IfOk r (λ plan. OfBytes given (λ g. owes state g ≡ output_of_plan plan)) → IfOk r (λ plan. OfShown honest held (λ h. OfBytes given (λ g. output_with_key kind owes h.opens g ≡ output_of_plan plan)))
+expected_with_key honest held given kind owes state r opens own output =
+    ok_map r (λ plan. OfBytes given (λ g. owes state g ≡ output_of_plan plan)) (λ plan. OfShown honest held (λ h. OfBytes given (λ g. output_with_key kind owes h.opens g ≡ output_of_plan plan)))
+    (λ plan is. opens_so honest held (Ok state) (λ o. OfBytes given (λ g. output_with_key kind owes o g ≡ output_of_plan plan)) opens
+    (of_map given (λ g. owes state g ≡ output_of_plan plan) (λ g. output_with_key kind owes (Ok state) g ≡ output_of_plan plan) (λ g d. with_own_key kind owes state g own ∙ d) is)) output
 
 -- where no key file could be opened
-told_kind : (want got asked had : KeyKind) (plan : Plan) → asked ≡ want → got ≡ had → plan ≡ Refuse (faults.KeyKind asked had) → due_of_fault (faults.KeyKind want got) ≡ due_of_plan plan
-told_kind want got asked had plan w g p =
-    ap (λ (k : KeyKind). due_of_fault (faults.KeyKind k got)) (sym w) ∙ ap (λ (k : KeyKind). due_of_fault (faults.KeyKind asked k)) g ∙ ap due_of_plan (sym p)
+printed_kind : (want got asked had : KeyKind) (plan : Plan) → asked ≡ want → got ≡ had → plan ≡ Refuse (faults.KeyKind asked had) → output_of_fault (faults.KeyKind want got) ≡ output_of_plan plan
+printed_kind want got asked had plan w g p =
+    ap (λ (k : KeyKind). output_of_fault (faults.KeyKind k got)) (sym w) ∙ ap (λ (k : KeyKind). output_of_fault (faults.KeyKind asked k)) g ∙ ap output_of_plan (sym p)
 
-unopened_due : (honest : Bool) (held : List ℕ) (given : Option (List ℕ)) (kind : KeyKind) (owes : Durable → List ℕ → Due) (error : OrNoMemory KeyFileFault) (plan : Plan) →
+unopened_output : (honest : Bool) (held : List ℕ) (given : Option (List ℕ)) (kind : KeyKind) (owes : Durable → List ℕ → Output) (error : OrNoMemory KeyFileFault) (plan : Plan) →
     (IsTrue honest → (fault : JournalFault) → error ≡ fault_of (Journal fault) → (fault ≡ DiskFault → ⊥) → opened held ≡ Err fault) →
     (IsTrue honest → (want got : KeyKind) → error ≡ fault_of (KeyKindOf want got) → (state : Durable) × (opened held ≡ Ok state) × (state.key.kind ≡ got)) →
     ((want got : KeyKind) → error ≡ fault_of (KeyKindOf want got) → (want ≡ kind) × (got ≡ kind → ⊥)) →
-    TellsUnopened error plan → OfShown honest held (λ h. OfBytes given (λ g. due_with_key kind owes h.opens g ≡ due_of_plan plan))
-unopened_due honest held given kind owes error plan damaged other kinds (inl t) =
-    subst (λ (p : Plan). OfShown honest held (λ h. OfBytes given (λ g. due_with_key kind owes h.opens g ≡ due_of_plan p))) (sym t.3)
-    (opens_so honest held (Err t.0) (λ o. OfBytes given (λ g. due_with_key kind owes o g ≡ due_of_fault (faults.Journal t.0))) (λ yes. damaged yes t.0 t.1 t.2)
-    (of_any given (λ g. due_with_key kind owes (Err t.0) g ≡ due_of_fault (faults.Journal t.0)) (λ g. refl)))
-unopened_due true held given kind owes error plan damaged other kinds (inr t) =
+    PrintsUnopened error plan → OfShown honest held (λ h. OfBytes given (λ g. output_with_key kind owes h.opens g ≡ output_of_plan plan))
+unopened_output honest held given kind owes error plan damaged other kinds (inl t) =
+    subst (λ (p : Plan). OfShown honest held (λ h. OfBytes given (λ g. output_with_key kind owes h.opens g ≡ output_of_plan p))) (sym t.3)
+    (opens_so honest held (Err t.0) (λ o. OfBytes given (λ g. output_with_key kind owes o g ≡ output_of_fault (faults.Journal t.0))) (λ yes. damaged yes t.0 t.1 t.2)
+    (of_any given (λ g. output_with_key kind owes (Err t.0) g ≡ output_of_fault (faults.Journal t.0)) (λ g. refl)))
+unopened_output true held given kind owes error plan damaged other kinds (inr t) =
     let k = kinds t.0 t.1 t.2 in
     let s = other refl t.0 t.1 t.2 in
     let own : s.0.key.kind ≡ kind → ⊥ = λ is. k.1 (sym s.2 ∙ is) in
-    of_any given (λ g. due_with_key kind owes (opened held) g ≡ due_of_plan plan)
-    (λ g. ap (λ (o : Result Durable JournalFault). due_with_key kind owes o g) s.1 ∙ with_other_key kind owes s.0 g own ∙ told_kind kind s.0.key.kind t.0 t.1 plan k.0 s.2 t.3)
-unopened_due false held given kind owes error plan damaged other kinds (inr t) =
+    of_any given (λ g. output_with_key kind owes (opened held) g ≡ output_of_plan plan)
+    (λ g. ap (λ (o : Result Durable JournalFault). output_with_key kind owes o g) s.1 ∙ with_other_key kind owes s.0 g own ∙ printed_kind kind s.0.key.kind t.0 t.1 plan k.0 s.2 t.3)
+unopened_output false held given kind owes error plan damaged other kinds (inr t) =
     let k = kinds t.0 t.1 t.2 in
     let state = key_alone (record { kind = t.1; types = H5W4; seed = [] }) in (
       shows (Ok state),
-      of_any given (λ g. due_with_key kind owes (Ok state) g ≡ due_of_plan plan)
-          (λ g. with_other_key kind owes state g k.1 ∙ told_kind kind t.1 t.0 t.1 plan k.0 refl t.3),
+      of_any given (λ g. output_with_key kind owes (Ok state) g ≡ output_of_plan plan)
+          (λ g. with_other_key kind owes state g k.1 ∙ printed_kind kind t.1 t.0 t.1 plan k.0 refl t.3),
     )
 
-pub all_unopened_due : (honest : Bool) (held : List ℕ) (given : Option (List ℕ)) (kind : KeyKind) (owes : Durable → List ℕ → Due) (error : OrNoMemory KeyFileFault) (r : Result Plan PlanStop) →
+pub all_unopened_output : (honest : Bool) (held : List ℕ) (given : Option (List ℕ)) (kind : KeyKind) (owes : Durable → List ℕ → Output) (error : OrNoMemory KeyFileFault) (r : Result Plan PlanError) →
     (IsTrue honest → (fault : JournalFault) → error ≡ fault_of (Journal fault) → (fault ≡ DiskFault → ⊥) → opened held ≡ Err fault) →
     (IsTrue honest → (want got : KeyKind) → error ≡ fault_of (KeyKindOf want got) → (state : Durable) × (opened held ≡ Ok state) × (state.key.kind ≡ got)) →
     ((want got : KeyKind) → error ≡ fault_of (KeyKindOf want got) → (want ≡ kind) × (got ≡ kind → ⊥)) →
-    IfOk r (TellsUnopened error) → IfOk r (λ plan. OfShown honest held (λ h. OfBytes given (λ g. due_with_key kind owes h.opens g ≡ due_of_plan plan)))
-all_unopened_due honest held given kind owes error r damaged other kinds told =
-    ok_map r (TellsUnopened error) (λ plan. OfShown honest held (λ h. OfBytes given (λ g. due_with_key kind owes h.opens g ≡ due_of_plan plan)))
-    (λ plan t. unopened_due honest held given kind owes error plan damaged other kinds t) told
+    IfOk r (PrintsUnopened error) → IfOk r (λ plan. OfShown honest held (λ h. OfBytes given (λ g. output_with_key kind owes h.opens g ≡ output_of_plan plan)))
+all_unopened_output honest held given kind owes error r damaged other kinds printed =
+    ok_map r (PrintsUnopened error) (λ plan. OfShown honest held (λ h. OfBytes given (λ g. output_with_key kind owes h.opens g ≡ output_of_plan plan)))
+    (λ plan t. unopened_output honest held given kind owes error plan damaged other kinds t) printed
 
 -- a file that could not be opened opens as it did
 unopened_kept : (held holds : List ℕ) (error : OrNoMemory KeyFileFault) (plan : Plan) →
     ((fault : JournalFault) → error ≡ fault_of (Journal fault) → (fault ≡ DiskFault → ⊥) → opened held ≡ Err fault) →
     ((want got : KeyKind) → error ≡ fault_of (KeyKindOf want got) → (state : Durable) × (opened held ≡ Ok state) × (opened holds ≡ Ok state)) →
-    TellsUnopened error plan → OpensAsBefore held holds
+    PrintsUnopened error plan → OpensAsBefore held holds
 unopened_kept held holds error plan damaged other (inl t) = λ state is. absurd (let no = damaged t.0 t.1 t.2 in cc)
 unopened_kept held holds error plan damaged other (inr t) = λ state is. let s = other t.0 t.1 t.2 in cc
 
-pub all_unopened_kept : (held holds : List ℕ) (error : OrNoMemory KeyFileFault) (r : Result Plan PlanStop) →
+pub all_unopened_kept : (held holds : List ℕ) (error : OrNoMemory KeyFileFault) (r : Result Plan PlanError) →
     ((fault : JournalFault) → error ≡ fault_of (Journal fault) → (fault ≡ DiskFault → ⊥) → opened held ≡ Err fault) →
     ((want got : KeyKind) → error ≡ fault_of (KeyKindOf want got) → (state : Durable) × (opened held ≡ Ok state) × (opened holds ≡ Ok state)) →
-    IfOk r (TellsUnopened error) → IfOk r (λ plan. TellsFault plan → OpensAsBefore held holds)
-all_unopened_kept held holds error r damaged other told =
-    ok_map r (TellsUnopened error) (λ plan. TellsFault plan → OpensAsBefore held holds) (λ plan t fault. unopened_kept held holds error plan damaged other t) told
+    IfOk r (PrintsUnopened error) → IfOk r (λ plan. PrintsFault plan → OpensAsBefore held holds)
+all_unopened_kept held holds error r damaged other printed =
+    ok_map r (PrintsUnopened error) (λ plan. PrintsFault plan → OpensAsBefore held holds) (λ plan t fault. unopened_kept held holds error plan damaged other t) printed
 
 -- it tells no key
-unopened_spent : (leaf : LeafUse) (held : List ℕ) (past : List Step) (error : OrNoMemory KeyFileFault) (plan : Plan) → TellsUnopened error plan → TellsSpent leaf held past plan
-unopened_spent leaf held past error plan (inl t) = subst (TellsSpent leaf held past) (sym t.3) tt
-unopened_spent leaf held past error plan (inr t) = subst (TellsSpent leaf held past) (sym t.3) tt
+unopened_spent : (leaf : LeafUse) (held : List ℕ) (past : List Step) (error : OrNoMemory KeyFileFault) (plan : Plan) → PrintsUnopened error plan → PrintsSpent leaf held past plan
+unopened_spent leaf held past error plan (inl t) = subst (PrintsSpent leaf held past) (sym t.3) tt
+unopened_spent leaf held past error plan (inr t) = subst (PrintsSpent leaf held past) (sym t.3) tt
 
-pub all_unopened_spent : (leaf : LeafUse) (held : List ℕ) (past : List Step) (error : OrNoMemory KeyFileFault) (r : Result Plan PlanStop) → IfOk r (TellsUnopened error) → IfOk r (λ plan. TellsSpent leaf held past plan)
-all_unopened_spent leaf held past error r told = ok_map r (TellsUnopened error) (λ plan. TellsSpent leaf held past plan) (unopened_spent leaf held past error) told
+pub all_unopened_spent : (leaf : LeafUse) (held : List ℕ) (past : List Step) (error : OrNoMemory KeyFileFault) (r : Result Plan PlanError) → IfOk r (PrintsUnopened error) → IfOk r (λ plan. PrintsSpent leaf held past plan)
+all_unopened_spent leaf held past error r printed = ok_map r (PrintsUnopened error) (λ plan. PrintsSpent leaf held past plan) (unopened_spent leaf held past error) printed
 
 -- and nothing is read for it
-unopened_ended : (error : OrNoMemory KeyFileFault) (plan : Plan) (ended : Bool) → TellsUnopened error plan → EndsSource (due_of_plan plan) ended
-unopened_ended error plan ended (inl t) = subst (λ (p : Plan). EndsSource (due_of_plan p) ended) (sym t.3) (λ is. cc)
-unopened_ended error plan ended (inr t) = subst (λ (p : Plan). EndsSource (due_of_plan p) ended) (sym t.3) (λ is. cc)
+unopened_ended : (error : OrNoMemory KeyFileFault) (plan : Plan) (ended : Bool) → PrintsUnopened error plan → EndsSource (output_of_plan plan) ended
+unopened_ended error plan ended (inl t) = subst (λ (p : Plan). EndsSource (output_of_plan p) ended) (sym t.3) (λ is. cc)
+unopened_ended error plan ended (inr t) = subst (λ (p : Plan). EndsSource (output_of_plan p) ended) (sym t.3) (λ is. cc)
 
-pub all_unopened_ended : (error : OrNoMemory KeyFileFault) (r : Result Plan PlanStop) (ended : Bool) → IfOk r (TellsUnopened error) → IfOk r (λ plan. EndsSource (due_of_plan plan) ended)
-all_unopened_ended error r ended told = ok_map r (TellsUnopened error) (λ plan. EndsSource (due_of_plan plan) ended) (λ plan t. unopened_ended error plan ended t) told
+pub all_unopened_ended : (error : OrNoMemory KeyFileFault) (r : Result Plan PlanError) (ended : Bool) → IfOk r (PrintsUnopened error) → IfOk r (λ plan. EndsSource (output_of_plan plan) ended)
+all_unopened_ended error r ended printed = ok_map r (PrintsUnopened error) (λ plan. EndsSource (output_of_plan plan) ended) (λ plan t. unopened_ended error plan ended t) printed
 
-unopened_playable : (error : OrNoMemory KeyFileFault) (plan : Plan) → TellsUnopened error plan → PlansPlayable plan
+unopened_playable : (error : OrNoMemory KeyFileFault) (plan : Plan) → PrintsUnopened error plan → PlansPlayable plan
 unopened_playable error plan (inl t) = subst PlansPlayable (sym t.3) tt
 unopened_playable error plan (inr t) = subst PlansPlayable (sym t.3) tt
 
-pub all_unopened_playable : (error : OrNoMemory KeyFileFault) (r : Result Plan PlanStop) → IfOk r (TellsUnopened error) → IfOk r (λ plan. PlansPlayable plan)
-all_unopened_playable error r told = ok_map r (TellsUnopened error) PlansPlayable (unopened_playable error) told
+pub all_unopened_playable : (error : OrNoMemory KeyFileFault) (r : Result Plan PlanError) → IfOk r (PrintsUnopened error) → IfOk r (λ plan. PlansPlayable plan)
+all_unopened_playable error r printed = ok_map r (PrintsUnopened error) PlansPlayable (unopened_playable error) printed
 
 -- a leaf that is spent of what was opened is spent of what it was opened from
-moved_spent : (leaf : LeafUse) (held holds : List ℕ) (state : Durable) (past : List Step) (plan : Plan) → opened held ≡ Ok state → opened holds ≡ Ok state → TellsSpent leaf holds past plan → TellsSpent leaf held past plan
-moved_spent leaf held holds state past (Play schedule) is same told = told
-moved_spent leaf held holds state past (Show id) is same told = told
-moved_spent leaf held holds state past (ShowLedger last signed) is same told = told
-moved_spent leaf held holds state past (Refuse fault) is same told = told
-moved_spent leaf held holds state past (Tell text) is same told =
-    (told.0, is ∙ sym same ∙ told.1, told.2)
+moved_spent : (leaf : LeafUse) (held holds : List ℕ) (state : Durable) (past : List Step) (plan : Plan) → opened held ≡ Ok state → opened holds ≡ Ok state → PrintsSpent leaf holds past plan → PrintsSpent leaf held past plan
+moved_spent leaf held holds state past (Play schedule) is same printed = printed
+moved_spent leaf held holds state past (Show id) is same printed = printed
+moved_spent leaf held holds state past (ShowLedger last signed) is same printed = printed
+moved_spent leaf held holds state past (Refuse fault) is same printed = printed
+moved_spent leaf held holds state past (Print text) is same printed =
+    (printed.0, is ∙ sym same ∙ printed.1, printed.2)
 
-pub all_moved_spent : (leaf : LeafUse) (held holds : List ℕ) (state : Durable) (past : List Step) (r : Result Plan PlanStop) → opened held ≡ Ok state → opened holds ≡ Ok state →
-    IfOk r (λ plan. TellsSpent leaf holds past plan) → IfOk r (λ plan. TellsSpent leaf held past plan)
-all_moved_spent leaf held holds state past r is same told =
-    ok_map r (λ plan. TellsSpent leaf holds past plan) (λ plan. TellsSpent leaf held past plan) (λ plan t. moved_spent leaf held holds state past plan is same t) told
+pub all_moved_spent : (leaf : LeafUse) (held holds : List ℕ) (state : Durable) (past : List Step) (r : Result Plan PlanError) → opened held ≡ Ok state → opened holds ≡ Ok state →
+    IfOk r (λ plan. PrintsSpent leaf holds past plan) → IfOk r (λ plan. PrintsSpent leaf held past plan)
+all_moved_spent leaf held holds state past r is same printed =
+    ok_map r (λ plan. PrintsSpent leaf holds past plan) (λ plan. PrintsSpent leaf held past plan) (λ plan t. moved_spent leaf held holds state past plan is same t) printed
 
 -- a leaf that is spent for the use of a task
-pub spent_for : (leaf own : LeafUse) (held : List ℕ) (past : List Step) (r : Result Plan PlanStop) → own ≡ leaf → IfOk r (λ plan. TellsSpent own held past plan) → IfOk r (λ plan. TellsSpent leaf held past plan)
-spent_for leaf own held past r is told = subst (λ (l : LeafUse). IfOk r (λ plan. TellsSpent l held past plan)) is told
+pub spent_for : (leaf own : LeafUse) (held : List ℕ) (past : List Step) (r : Result Plan PlanError) → own ≡ leaf → IfOk r (λ plan. PrintsSpent own held past plan) → IfOk r (λ plan. PrintsSpent leaf held past plan)
+spent_for leaf own held past r is printed = subst (λ (l : LeafUse). IfOk r (λ plan. PrintsSpent l held past plan)) is printed

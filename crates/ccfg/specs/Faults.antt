@@ -1,4 +1,4 @@
--- The one line that tells why words or bytes are refused.
+-- The one line that reports why words or bytes are refused.
 use Rattle.std.specs.Prelude.{ℕ, List, ◌++◌, codes, decimal}
 use Rattle.hex.specs.Hex.{encode_lower}
 use Rattle.gl_store_book.specs.declared.node_file.fault.OpeningFault.{OpeningFault}
@@ -23,7 +23,7 @@ signing_text (signing.BadAction index cause) = bad_action_text index (cause_numb
 signing_text signing.Signature = codes "Signature"
 signing_text signing.DiskFailed = codes "DiskFailed"
 
--- Why no service is founded anew behind an old ledger.
+-- Why no service is recovered after an old ledger.
 abbrev pub recovery_text : RecoveryFault → List ℕ
 recovery_text (recovery.Audit seqno rule) =
     codes "Audit " ++ decimal seqno ++ codes " " ++ decimal rule
@@ -35,7 +35,7 @@ recovery_text recovery.Signature = codes "Signature"
 recovery_text (recovery.TooLarge size) = codes "TooLarge " ++ decimal size
 recovery_text recovery.SourceFailed = codes "SourceFailed"
 
--- Why no service is founded anew.
+-- Why no service is recovered.
 abbrev pub recovering_text : RecoveringFault → List ℕ
 recovering_text recovering.SourceFailed = codes "SourceFailed"
 recovering_text recovering.TooMuchJson = codes "json 1048576"

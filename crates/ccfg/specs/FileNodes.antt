@@ -10,9 +10,9 @@ use Rattle.gl_outside.specs.declared.sure_disk.SureDisk.{SureDisk}
 use Rattle.gl_journal.specs.Durable.{Durable}
 use Rattle.gl_journal.specs.declared.journal.Journal.{Journal}
 use Rattle.gl_journal.specs.declared.key.KeyKind.TheVariants as kinds
-use Rattle.gl_ledger.specs.declared.made.Given.{Given}
-use Rattle.gl_ledger.specs.declared.made.Reads.{Reads}
-use Rattle.gl_ledger.specs.declared.made.Unmade.{Unmade}
+use Rattle.gl_ledger.specs.declared.response.Response.{Response}
+use Rattle.gl_ledger.specs.declared.response.Reads.{Reads}
+use Rattle.gl_ledger.specs.declared.response.Rejection.{Rejection}
 use Rattle.gl_ledger.specs.LedgerBook.{ServiceBook, ledger_book}
 use Rattle.gl_ledger.specs.NodeKeys.{NodeKeys, service_layers}
 use Rattle.gl_replication.specs.Events.{has_few_entries, rule_of}
@@ -26,7 +26,7 @@ use Rattle.gl_store_book.specs.Stands.{NodeStore, Stands}
 
 -- The node, the disk with its file, and whether it has stopped.
 abbrev pub SeenFileNode : Type 0
-SeenFileNode = Seen SureDisk NodeStore (List Operation) GovernanceRequest Reads Given Unmade
+SeenFileNode = Seen SureDisk NodeStore (List Operation) GovernanceRequest Reads Response Rejection
 
 -- The file opens to this state, and has a node's key.
 pub record OpensToNode (bytes : List ℕ) (state : Durable) : Type 0 where
@@ -59,7 +59,7 @@ IsMemoryFile journal state = IsOpened true (λ disk. disk.bytes.items) disk_past
 
 -- An event of a world with this rule is one of its node, with the same rule, or a restart.
 abbrev pub IsEventOf : Rule →
-    Option (Event NodeStore (List Operation) GovernanceRequest Reads Given Unmade) → Type 0
+    Option (Event NodeStore (List Operation) GovernanceRequest Reads Response Rejection) → Type 0
 IsEventOf rule None =
     (b : ServiceBook) (x : NodeId) (n : Node Entry) → rule b x n ≡ restart b n
 IsEventOf rule (Some event) =

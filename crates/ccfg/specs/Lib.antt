@@ -1,7 +1,7 @@
 pub mod Faults
-pub mod Owed
+pub mod ExpectedOutput
 pub mod Promises
 pub mod Plans
 pub mod Nodes
 pub mod FileNodes
-pub mod Opening
+pub mod OpeningStores

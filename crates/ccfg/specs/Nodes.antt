@@ -5,7 +5,7 @@ use Rattle.gl_entry.specs.declared.entry.Entry.{Entry}
 use Rattle.gl_rules.specs.Node.{Node}
 use Rattle.gl_rules.specs.World.{Start}
 use Rattle.gl_ledger.specs.LedgerBook.{ServiceBook}
-use Rattle.gl_entry.specs.Given.{OfBytes}
+use Rattle.gl_entry.specs.SourceBytes.{OfBytes}
 use Rattle.gl_outside.specs.Disk.{Leaves, Step}
 use Rattle.gl_outside.specs.Fault.{Rose}
 use Rattle.gl_outside.specs.Link.{Exchange, Inward}
@@ -27,15 +27,15 @@ use Rattle.gl_serve.specs.declared.settings.Serving.{Serving}
 use Rattle.gl_serve.specs.declared.settings.ServeEnd.{ServeEnd}
 use Rattle.gl_serve.specs.declared.settings.ServeEnd.TheVariants as ends
 use Rattle.gl_serve.specs.OverLink.{KeepsLeaves}
-use Rattle.gl_serve.specs.Serving.{serving_rules}
+use Rattle.gl_serve.specs.NodeWork.{serving_rules}
 use Rattle.gl_serve.specs.Types.{NodeSeen}
 use Rattle.ccfg.specs.Faults.{fault_line}
-use Rattle.ccfg.specs.Owed.{Written}
-use Rattle.ccfg.specs.Promises.{TellsFront}
+use Rattle.ccfg.specs.ExpectedOutput.{Written}
+use Rattle.ccfg.specs.Promises.{PrintsPrefix}
 use Rattle.ccfg.specs.declared.ending.Ending.{Ending}
 use Rattle.ccfg.specs.declared.ending.Ending.TheVariants as endings
-use Rattle.ccfg.specs.declared.fault.Fault.TheVariants as told
-use Rattle.ccfg.specs.declared.node.NodeStop.{NodeStop}
+use Rattle.ccfg.specs.declared.fault.Fault.TheVariants as printed
+use Rattle.ccfg.specs.declared.node.NodeError.{NodeError}
 
 -- ---- how a node begins
 
@@ -65,12 +65,12 @@ begin_from d [] = Ok (reopened d)
 begin_from d (byte ∷ given) = begin_with d (start_in (byte ∷ given))
 
 -- Where the file has a ledger, the source is not asked.
-abbrev pub begin_behind : Durable → List (List ℕ) → List ℕ → Result Beginning OpeningFault
-begin_behind d [] given = begin_from d given
-begin_behind d (frame ∷ frames) given = Ok (reopened d)
+abbrev pub begin_after : Durable → List (List ℕ) → List ℕ → Result Beginning OpeningFault
+begin_after d [] given = begin_from d given
+begin_after d (frame ∷ frames) given = Ok (reopened d)
 
 abbrev pub beginning : Durable → List ℕ → Result Beginning OpeningFault
-beginning d given = begin_behind d d.log given
+beginning d given = begin_after d d.log given
 
 -- The same by what the bytes of the disk open to: a journal whose key is a node's.
 abbrev pub beginning_of : Result Durable JournalFault → List ℕ → Result Beginning OpeningFault
@@ -83,7 +83,7 @@ beginning_of (Ok d) given =
 -- something that bytes may open to.
 abbrev pub OfOpened : Bool → List ℕ → (Result Durable JournalFault → Type 0) → Type 0
 OfOpened true held P = P (opened held)
-OfOpened false held P = (told : Result Durable JournalFault) × P told
+OfOpened false held P = (printed : Result Durable JournalFault) × P printed
 
 -- Whether the file has a ledger, so that the source is not asked.
 abbrev pub has_ledger : List (List ℕ) → Bool
@@ -97,9 +97,9 @@ HasLedger (Ok d) = has_ledger d.log ≡ true
 -- ---- what a stop leaves of its file
 
 -- The disk of a node that began, or that didn't.
-abbrev pub disk_behind : {D : Type 0} → Result (NodeSeen D NodeStore) (NodeStop × D) → D
-disk_behind (Ok replica) = replica.disk
-disk_behind (Err stopped) = stopped.1
+abbrev pub disk_after : {D : Type 0} → Result (NodeSeen D NodeStore) (NodeError × D) → D
+disk_after (Ok replica) = replica.disk
+disk_after (Err stopped) = stopped.1
 
 -- Of a disk with these bytes and this history an image is one that a stop might have left before,
 -- or it opens as the bytes do, or it opens to their key, with no fewer spent leaves.
@@ -184,12 +184,12 @@ module _ {D : Type 0} (honest : Bool) (bytes : D → List ℕ) (past : D → Lis
         OfOpened honest (bytes r.disk) (λ opens. OfBytes r.given (λ given.
         beginning_of opens given ≡ Err fault)) × (r.link_now ≡ r.link)
 
-    -- A text that is due: why it didn't begin, the counts, or that its turns are over.
-    abbrev pub NodeDue : List ℕ → Type 0
-    NodeDue text =
-        ((fault : OpeningFault) × NotBegun fault × (text ≡ fault_line (told.Opening fault)))
+    -- A expected text: why it didn't begin, the counts, or that its turns are over.
+    abbrev pub NodeOutput : List ℕ → Type 0
+    NodeOutput text =
+        ((fault : OpeningFault) × NotBegun fault × (text ≡ fault_line (printed.Opening fault)))
         ⊎ ((counts : ℕ × ℕ) × Served (Ok counts) × (text ≡ served_line counts))
-        ⊎ (Served (Err ends.Turns) × (text ≡ fault_line (told.Turns task.turns)))
+        ⊎ (Served (Err ends.Turns) × (text ≡ fault_line (printed.Turns task.turns)))
 
     -- What a run comes to, by how it ends.
     abbrev pub NodeRuns : Ending → Type 0
@@ -200,14 +200,14 @@ module _ {D : Type 0} (honest : Bool) (bytes : D → List ℕ) (past : D → Lis
         × Appends r.written.held r.written.holds (served_line counts)
     NodeRuns endings.NotValid =
         (fault : OpeningFault) × NotBegun fault
-        × Appends r.written.held r.written.holds (fault_line (told.Opening fault))
+        × Appends r.written.held r.written.holds (fault_line (printed.Opening fault))
     NodeRuns endings.OtherWords = ⊥
     NodeRuns endings.SourceFailed =
         Rose r.faults r.faults_now × (r.link_now ≡ r.link)
         × Keeps r.written.held r.written.holds
     NodeRuns endings.SinkFailed =
         Rose r.written.faults r.written.faults_now
-        × TellsFront NodeDue r.written.held r.written.holds
+        × PrintsPrefix NodeOutput r.written.held r.written.holds
     NodeRuns endings.DiskFailed =
         Rose (faults_of r.disk) (faults_of r.disk_now)
         × Keeps r.written.held r.written.holds
@@ -216,9 +216,9 @@ module _ {D : Type 0} (honest : Bool) (bytes : D → List ℕ) (past : D → Lis
         × Keeps r.written.held r.written.holds
     NodeRuns endings.Memory =
         Keeps r.written.held r.written.holds
-        ⊎ TellsFront NodeDue r.written.held r.written.holds
+        ⊎ PrintsPrefix NodeOutput r.written.held r.written.holds
     NodeRuns endings.PastLimit =
         (r.link_now.inward.calls ≡ calls_after task.turns r.link.inward.calls)
         × Served (Err ends.Turns)
-        × Appends r.written.held r.written.holds (fault_line (told.Turns task.turns))
+        × Appends r.written.held r.written.holds (fault_line (printed.Turns task.turns))
     NodeRuns endings.NoReading = ⊥

@@ -18,30 +18,30 @@ use Rattle.gl_receipt.specs.Receipt.{Accepts}
 use Rattle.gl_receipt.specs.declared.components.Receipt.{Receipt}
 use Rattle.ccfg.specs.declared.fault.Fault.TheVariants as faults
 use Rattle.ccfg.specs.declared.plan.Plan.{Plan}
-use Rattle.ccfg.specs.declared.plan.Plan.TheVariants.{Play, Show, ShowLedger, Tell, Refuse}
+use Rattle.ccfg.specs.declared.plan.Plan.TheVariants.{Play, Show, ShowLedger, Print, Refuse}
 use Rattle.gl_schedule.specs.Playable.{IsPlayable}
 use Rattle.gl_commands.specs.declared.task.Task.{Task}
 use Rattle.gl_commands.specs.declared.task.Task.TheVariants as tasks
-use Rattle.ccfg.specs.Owed.{Due, due_of_fault, due_of_answer, ledger_line, valid_line}
-use Rattle.gl_schedule.specs.Told.{text_of_schedule}
+use Rattle.ccfg.specs.ExpectedOutput.{Output, output_of_fault, output_of_answer, ledger_line, valid_line}
+use Rattle.gl_schedule.specs.Output.{text_of_schedule}
 
-abbrev pub due_of_plan : Plan → Due
-due_of_plan (Play schedule) = due_of_answer (text_of_schedule schedule)
-due_of_plan (Show id) = due_of_answer (valid_line id)
-due_of_plan (ShowLedger last signed) = due_of_answer (ledger_line last signed)
-due_of_plan (Tell text) = due_of_answer text.items
-due_of_plan (Refuse fault) = due_of_fault fault
+abbrev pub output_of_plan : Plan → Output
+output_of_plan (Play schedule) = output_of_answer (text_of_schedule schedule)
+output_of_plan (Show id) = output_of_answer (valid_line id)
+output_of_plan (ShowLedger last signed) = output_of_answer (ledger_line last signed)
+output_of_plan (Print text) = output_of_answer text.items
+output_of_plan (Refuse fault) = output_of_fault fault
 
 -- A schedule that is to be played is one that may be read.
 abbrev pub PlansPlayable : Plan → Type 0
 PlansPlayable (Play schedule) = IsPlayable schedule
 PlansPlayable (Show id) = Unit {0}
 PlansPlayable (ShowLedger last signed) = Unit {0}
-PlansPlayable (Tell text) = Unit {0}
+PlansPlayable (Print text) = Unit {0}
 PlansPlayable (Refuse fault) = Unit {0}
 
--- Where a receipt is verified nothing is played, no ledger is shown and no other answer is told,
--- and a transaction only where the bytes are a receipt that is accepted for it.
+-- Where a receipt is verified nothing is played, no ledger is shown and no other answer is
+-- reported, and a transaction only where the bytes are a receipt that is accepted for it.
 abbrev pub ShowsAccepted : Task → List ℕ → Plan → Type 0
 ShowsAccepted tasks.Replay given plan = Unit {0}
 ShowsAccepted (tasks.Audit identity) given plan = Unit {0}
@@ -51,7 +51,7 @@ ShowsAccepted (tasks.Sign signing) given plan = Unit {0}
 ShowsAccepted tasks.Recover given plan = Unit {0}
 ShowsAccepted (tasks.Verify identity) given (Play schedule) = ⊥
 ShowsAccepted (tasks.Verify identity) given (ShowLedger last signed) = ⊥
-ShowsAccepted (tasks.Verify identity) given (Tell text) = ⊥
+ShowsAccepted (tasks.Verify identity) given (Print text) = ⊥
 ShowsAccepted (tasks.Verify identity) given (Show id) =
     (receipt : Receipt) × (receipt_from given ≡ Ok receipt) × Accepts identity receipt id
 ShowsAccepted (tasks.Verify identity) given (Refuse fault) = Unit {0}
@@ -62,18 +62,18 @@ abbrev pub KeepsKey : KeyKind → Types → List Step → List ℕ → Type 0
 KeepsKey kind types past seed =
     OpensOnlyTo past (key_alone (record { kind = kind; types = types; seed = seed }))
 
--- Where a key is begun, it is kept before it is shown, and nothing else is told but a fault.
+-- Where a key is begun, it is kept before it is shown, and nothing else is reported but a fault.
 abbrev pub ShowsKept : KeyKind → Types → List Step → List ℕ → Plan → Type 0
 ShowsKept kind types past seed (Play schedule) = ⊥
 ShowsKept kind types past seed (Show id) = ⊥
 ShowsKept kind types past seed (ShowLedger last signed) = ⊥
-ShowsKept kind types past seed (Tell text) = KeepsKey kind types past seed
+ShowsKept kind types past seed (Print text) = KeepsKey kind types past seed
 ShowsKept kind types past seed (Refuse fault) = Unit {0}
 
--- Where no key file of the kind that is wanted could be opened, that is told: where the bytes
+-- Where no key file of the kind that is wanted could be opened, that is reported: where the bytes
 -- differ from a key file, or which kind the key is of. A failure of the disk is told by no line.
-abbrev pub TellsUnopened : OrNoMemory KeyFileFault → Plan → Type 0
-TellsUnopened error plan =
+abbrev pub PrintsUnopened : OrNoMemory KeyFileFault → Plan → Type 0
+PrintsUnopened error plan =
     ((fault : JournalFault) × (error ≡ stops.Fault (files.Journal fault))
     × (fault ≢ journals.DiskFault) × (plan ≡ Refuse (faults.Journal fault)))
     ⊎ ((want : KeyKind) × (got : KeyKind) × (error ≡ stops.Fault (files.KeyKind want got))
@@ -86,14 +86,14 @@ SpendsLeaf leaf held past =
     (state : Durable) × (opened held ≡ Ok state)
     × OpensOnlyTo past (after_leaf leaf state)
 
--- Where something is signed, its leaf is spent before it is told, and nothing else is told but a
--- fault.
-abbrev pub TellsSpent : LeafUse → List ℕ → List Step → Plan → Type 0
-TellsSpent leaf held past (Play schedule) = ⊥
-TellsSpent leaf held past (Show id) = ⊥
-TellsSpent leaf held past (ShowLedger last signed) = ⊥
-TellsSpent leaf held past (Tell text) = SpendsLeaf leaf held past
-TellsSpent leaf held past (Refuse fault) = Unit {0}
+-- Where something is signed, its leaf is spent before it is reported, and nothing else is reported
+-- but a fault.
+abbrev pub PrintsSpent : LeafUse → List ℕ → List Step → Plan → Type 0
+PrintsSpent leaf held past (Play schedule) = ⊥
+PrintsSpent leaf held past (Show id) = ⊥
+PrintsSpent leaf held past (ShowLedger last signed) = ⊥
+PrintsSpent leaf held past (Print text) = SpendsLeaf leaf held past
+PrintsSpent leaf held past (Refuse fault) = Unit {0}
 
 -- An image that a stop might have left before, or one that has its closed gate and opens to the
 -- state before a leaf is spent for this use, or to that after it.
@@ -111,13 +111,13 @@ MovesByLeaf leaf held before after =
 abbrev pub OpensAsBefore : List ℕ → List ℕ → Type 0
 OpensAsBefore held holds = (state : Durable) → opened held ≡ Ok state → opened holds ≡ Ok state
 
--- A fault is told.
-abbrev pub TellsFault : Plan → Type 0
-TellsFault (Play schedule) = ⊥
-TellsFault (Show id) = ⊥
-TellsFault (ShowLedger last signed) = ⊥
-TellsFault (Tell text) = ⊥
-TellsFault (Refuse fault) = Unit {0}
+-- A fault is reported.
+abbrev pub PrintsFault : Plan → Type 0
+PrintsFault (Play schedule) = ⊥
+PrintsFault (Show id) = ⊥
+PrintsFault (ShowLedger last signed) = ⊥
+PrintsFault (Print text) = ⊥
+PrintsFault (Refuse fault) = Unit {0}
 
 -- The disk has the bytes that it had, and a stop may leave what it might have left.
 pub record IsUntouched {D : Type 0} (bytes_of : D → List ℕ) (past_of : D → List Step) (old new : D)

@@ -5,7 +5,7 @@ use Rattle.clap.specs.Kinds.{Kinds, IsAmong}
 use Rattle.clap.specs.declared.error.kind.ErrorKind.{ErrorKind}
 use Rattle.gl_base.specs.declared.json.FormsFault.{FormsFault}
 use Rattle.gl_base.specs.declared.tx_id.TxId.{TxId}
-use Rattle.gl_consortium.specs.Owed.{owed}
+use Rattle.gl_consortium.specs.ExpectedOutput.{expected_output}
 use Rattle.gl_consortium.specs.declared.fault.SigningFault.{SigningFault}
 use Rattle.gl_consortium.specs.declared.fault.SigningFault.TheVariants as signings
 use Rattle.gl_consortium.specs.Members.{can_deal}
@@ -13,17 +13,17 @@ use Rattle.gl_journal.specs.Durable.{Durable}
 use Rattle.gl_journal.specs.declared.fault.JournalFault.{JournalFault}
 use Rattle.gl_journal.specs.declared.key.KeyKind.{KeyKind}
 use Rattle.gl_journal.specs.declared.key.KeyKind.TheVariants.{Node}
-use Rattle.gl_keyfile.specs.Signing.{kind_of}
-use Rattle.gl_keyfile.specs.declared.signing.Signing.{Signing}
+use Rattle.gl_keyfile.specs.SigningRequest.{kind_of}
+use Rattle.gl_keyfile.specs.declared.signature.Signing.{Signing}
 use Rattle.gl_lines.specs.declared.fault.ScheduleFault.TheVariants.{BadLine}
 use Rattle.gl_lines.specs.Lines.{line_count}
-use Rattle.gl_outside.specs.Sink.{AppendsFront}
+use Rattle.gl_outside.specs.Sink.{AppendsPrefix}
 use Rattle.gl_receipt.specs.Form.{receipt_from}
 use Rattle.gl_receipt.specs.Receipt.{Accepts}
 use Rattle.gl_receipt.specs.Verdict.{verdict}
 use Rattle.gl_receipt.specs.declared.components.Receipt.{Receipt}
 use Rattle.gl_receipt.specs.declared.fault.ReceiptFault.{ReceiptFault}
-use Rattle.gl_recovery.specs.Recovering.{recover_owed}
+use Rattle.gl_recovery.specs.RecoveryOutput.{expected_recover}
 use Rattle.gl_recovery.specs.declared.recovering_fault.RecoveringFault.{RecoveringFault}
 use Rattle.gl_audit.specs.Verdict as audits_to
 use Rattle.gl_audit.specs.declared.verdict.Verdict.TheVariants as audits
@@ -35,9 +35,9 @@ use Rattle.gl_schedule.specs.declared.schedule.Schedule.{Schedule}
 use Rattle.gl_commands.specs.declared.task.Task.{Task}
 use Rattle.gl_commands.specs.declared.task.Task.TheVariants as tasks
 use Rattle.ccfg.specs.Faults.{fault_line}
-use Rattle.ccfg.specs.Owed.{Shown, bytes_limit, dealing_len, ending_of_recovering, json_limit, key_line, ledger_line, lines_limit, seed_len, text_of_dealing, valid_line}
+use Rattle.ccfg.specs.ExpectedOutput.{Shown, bytes_limit, dealing_len, ending_of_recovering, json_limit, key_line, ledger_line, lines_limit, seed_len, text_of_dealing, valid_line}
 use Rattle.gl_schedule.specs.Schedules.{reads}
-use Rattle.gl_schedule.specs.Told.{text_of_schedule}
+use Rattle.gl_schedule.specs.Output.{text_of_schedule}
 
 -- Schedules
 
@@ -75,21 +75,21 @@ IsReceipt given receipt = (length given ≤ json_limit) × (receipt_from given �
 -- Ledgers
 
 -- The text tells of a valid ledger of the service with this key, and that is what the bytes are.
-abbrev pub TellsValidLedger : List ℕ → List ℕ → List ℕ → Type 0
-TellsValidLedger identity given text =
+abbrev pub PrintsValidLedger : List ℕ → List ℕ → List ℕ → Type 0
+PrintsValidLedger identity given text =
     (last : TxId) × (signed : Option TxId)
     × (audits_to.verdict identity given ≡ audits.Valid last signed)
     × (text ≡ ledger_line last signed)
 
 -- The text tells the key of another service, and the bytes are a valid ledger of that one.
-abbrev pub TellsForeignLedger : List ℕ → List ℕ → List ℕ → Type 0
-TellsForeignLedger identity given text =
+abbrev pub PrintsForeignLedger : List ℕ → List ℕ → List ℕ → Type 0
+PrintsForeignLedger identity given text =
     (key : List ℕ) × (audits_to.verdict identity given ≡ audits.Foreign key)
     × (text ≡ fault_line (faults.Foreign key))
 
--- The text tells the first entry that breaks a rule, and the bytes are no valid ledger.
-abbrev pub TellsFaultyLedger : List ℕ → List ℕ → List ℕ → Type 0
-TellsFaultyLedger identity given text =
+-- The text reports the first entry that breaks a rule, and the bytes are no valid ledger.
+abbrev pub PrintsFaultyLedger : List ℕ → List ℕ → List ℕ → Type 0
+PrintsFaultyLedger identity given text =
     (seqno : ℕ) × (rule : ℕ) × (audits_to.verdict identity given ≡ audits.Fault seqno rule)
     × (text ≡ fault_line (faults.Broken seqno rule))
 
@@ -98,26 +98,26 @@ TellsFaultyLedger identity given text =
 abbrev pub IsSeed : List ℕ → Type 0
 IsSeed given = length given ≡ seed_len
 
--- The text tells how many bytes there are, and that is too few.
-abbrev pub TellsShort : ℕ → List ℕ → List ℕ → Type 0
-TellsShort size given text =
+-- The text reports how many bytes there are, and that is too few.
+abbrev pub PrintsShort : ℕ → List ℕ → List ℕ → Type 0
+PrintsShort size given text =
     (length given < size) × (text ≡ fault_line (faults.Short (length given)))
 
 -- The text tells where the bytes are to end, and there are more.
-abbrev pub TellsLong : ℕ → List ℕ → List ℕ → Type 0
-TellsLong size given text = (size < length given) × (text ≡ fault_line (faults.Trailing size))
+abbrev pub PrintsLong : ℕ → List ℕ → List ℕ → Type 0
+PrintsLong size given text = (size < length given) × (text ≡ fault_line (faults.Trailing size))
 
 -- Dealings
 
 -- The text tells the dealing of the secret among the members.
-abbrev pub TellsDealing : ℕ → List ℕ → List ℕ → List ℕ → Type 0
-TellsDealing threshold members given text =
+abbrev pub PrintsDealing : ℕ → List ℕ → List ℕ → List ℕ → Type 0
+PrintsDealing threshold members given text =
     (length given ≡ dealing_len) × (can_deal threshold members ≡ true)
     × (text ≡ text_of_dealing threshold members given)
 
 -- The text tells that no secret can be dealt so among the members, and it is so.
-abbrev pub TellsBadDealing : ℕ → List ℕ → List ℕ → List ℕ → Type 0
-TellsBadDealing threshold members given text =
+abbrev pub PrintsBadDealing : ℕ → List ℕ → List ℕ → List ℕ → Type 0
+PrintsBadDealing threshold members given text =
     (length given ≡ dealing_len) × (can_deal threshold members ≡ false)
     × (text ≡ fault_line faults.BadDealing)
 
@@ -128,55 +128,55 @@ abbrev pub HasKey : KeyKind → Shown → Durable → Type 0
 HasKey kind shown state = (shown.opens ≡ Ok state) × (state.key.kind ≡ kind)
 
 -- The text tells where the disk's bytes differ from a key file.
-abbrev pub TellsNoKeyFile : Shown → List ℕ → Type 0
-TellsNoKeyFile shown text =
+abbrev pub PrintsNoKeyFile : Shown → List ℕ → Type 0
+PrintsNoKeyFile shown text =
     (fault : JournalFault) × (shown.opens ≡ Err fault) × (text ≡ fault_line (faults.Journal fault))
 
 -- The text tells the kind of the file's key, which is another one than that which is wanted.
-abbrev pub TellsOtherKey : KeyKind → Shown → List ℕ → Type 0
-TellsOtherKey kind shown text =
+abbrev pub PrintsOtherKey : KeyKind → Shown → List ℕ → Type 0
+PrintsOtherKey kind shown text =
     (state : Durable) × (shown.opens ≡ Ok state) × (state.key.kind ≢ kind)
     × (text ≡ fault_line (faults.KeyKind kind state.key.kind))
 
--- The bytes are within the limit, and the key of the file signs them: the text is what is told
+-- The bytes are within the limit, and the key of the file signs them: the text is what is reported
 -- then.
 abbrev pub IsSigned : Signing → Shown → List ℕ → List ℕ → Type 0
 IsSigned signing shown given text =
     (state : Durable) × HasKey (kind_of signing) shown state × (length given ≤ json_limit)
-    × (owed signing state given ≡ Ok text)
+    × (expected_output signing state given ≡ Ok text)
 
 -- The bytes are within the limit and aren't signed, for this reason.
 abbrev pub IsUnsigned : Signing → Shown → List ℕ → SigningFault → Type 0
 IsUnsigned signing shown given fault =
     (state : Durable) × HasKey (kind_of signing) shown state × (length given ≤ json_limit)
-    × (owed signing state given ≡ Err fault)
+    × (expected_output signing state given ≡ Err fault)
 
--- The text tells why nothing is signed, though the bytes have their form.
-abbrev pub TellsUnsigned : Signing → Shown → List ℕ → List ℕ → Type 0
-TellsUnsigned signing shown given text =
+-- The text reports why nothing is signed, though the bytes have their form.
+abbrev pub PrintsUnsigned : Signing → Shown → List ℕ → List ℕ → Type 0
+PrintsUnsigned signing shown given text =
     (fault : SigningFault) × IsUnsigned signing shown given fault
     × ((form : FormsFault) → fault ≢ signings.Form form)
     × (text ≡ fault_line (faults.Signing fault))
 
 -- The text tells what differs first from the form of what is to be signed.
-abbrev pub TellsOtherForm : Signing → Shown → List ℕ → List ℕ → Type 0
-TellsOtherForm signing shown given text =
+abbrev pub PrintsOtherForm : Signing → Shown → List ℕ → List ℕ → Type 0
+PrintsOtherForm signing shown given text =
     (fault : FormsFault) × IsUnsigned signing shown given (signings.Form fault)
     × (text ≡ fault_line (faults.Form fault))
 
 -- Recoveries
 
--- The key of a node's file founds the service anew by the settings and behind the old ledger that
--- the bytes are, and the text is the ledger that opens it.
+-- The key of a node's file recovers the service by the settings and after the old ledger that the
+-- bytes are, and the text is the ledger that opens it.
 abbrev pub IsRefounded : Shown → List ℕ → List ℕ → Type 0
 IsRefounded shown given text =
-    (state : Durable) × HasKey Node shown state × (recover_owed state given ≡ Ok text)
+    (state : Durable) × HasKey Node shown state × (expected_recover state given ≡ Ok text)
 
--- The text tells why no service is founded anew, and a run that tells it ends so.
-abbrev pub TellsUnfounded : Ending → Shown → List ℕ → List ℕ → Type 0
-TellsUnfounded ending shown given text =
+-- The text reports why no service is recovered, and a run that tells it ends so.
+abbrev pub PrintsUnfounded : Ending → Shown → List ℕ → List ℕ → Type 0
+PrintsUnfounded ending shown given text =
     (fault : RecoveringFault) × (ending_of_recovering fault ≡ ending)
-    × ((state : Durable) × HasKey Node shown state × (recover_owed state given ≡ Err fault))
+    × ((state : Durable) × HasKey Node shown state × (expected_recover state given ≡ Err fault))
     × (text ≡ fault_line (faults.Recovering fault))
 
 -- Texts. Each says of what the disk showed, and of the bytes of the source, what they have to be
@@ -187,27 +187,27 @@ TellsUnfounded ending shown given text =
 -- the service with the key, and the text tells its last transaction and that of its last signature;
 -- or the disk held nothing and they are a seed, and the text tells the public form of its key; or
 -- they are a secret with the seed of its dealing, and the text tells that; or the key of the disk's
--- file signs them, or founds a service anew by them, and the text is what is told then.
+-- file signs them, or recovers a service by them, and the text is what is reported then.
 abbrev pub IsAnswer : Task → Shown → List ℕ → List ℕ → Type 0
 IsAnswer tasks.Replay shown given text =
     (schedule : Schedule) × ReadsAs given schedule × (text ≡ text_of_schedule schedule)
 IsAnswer (tasks.Verify identity) shown given text =
     (receipt : Receipt) × IsReceipt given receipt
     × (id : TxId) × (verdict identity receipt ≡ Ok id) × (text ≡ valid_line id)
-IsAnswer (tasks.Audit identity) shown given text = TellsValidLedger identity given text
+IsAnswer (tasks.Audit identity) shown given text = PrintsValidLedger identity given text
 IsAnswer (tasks.Keygen kind types) shown given text =
     (shown.len ≡ 0) × IsSeed given
     × (text ≡ key_line (record { kind = kind; types = types; seed = given }))
 IsAnswer (tasks.Deal threshold members) shown given text =
-    TellsDealing threshold members given text
+    PrintsDealing threshold members given text
 IsAnswer (tasks.Sign signing) shown given text = IsSigned signing shown given text
 IsAnswer tasks.Recover shown given text = IsRefounded shown given text
 
 -- At 1: the bytes are a receipt that is not valid under the key, or they are no valid ledger of the
--- service with the key, and the text tells why; or the disk that is to take a key held bytes, and
--- the text tells how many; or a secret can't be dealt so among the members; or the disk has no key
--- file of the kind that signs, or its key doesn't sign the bytes or founds no service anew by them,
--- and the text tells why.
+-- service with the key, and the text reports why; or the disk that is to take a key held bytes, and
+-- the text reports how many; or a secret can't be dealt so among the members; or the disk has no
+-- key file of the kind that signs, or its key doesn't sign the bytes or recovers no service by
+-- them, and the text reports why.
 abbrev pub IsRefusal : Task → Shown → List ℕ → List ℕ → Type 0
 IsRefusal tasks.Replay shown given text = ⊥
 IsRefusal (tasks.Verify identity) shown given text =
@@ -215,17 +215,17 @@ IsRefusal (tasks.Verify identity) shown given text =
     × (fault : ReceiptFault) × (verdict identity receipt ≡ Err fault)
     × (text ≡ fault_line (faults.NotValid fault))
 IsRefusal (tasks.Audit identity) shown given text =
-    TellsForeignLedger identity given text ⊎ TellsFaultyLedger identity given text
+    PrintsForeignLedger identity given text ⊎ PrintsFaultyLedger identity given text
 IsRefusal (tasks.Keygen kind types) shown given text =
     (0 < shown.len) × (text ≡ fault_line (faults.NotEmpty shown.len))
 IsRefusal (tasks.Deal threshold members) shown given text =
-    TellsBadDealing threshold members given text
+    PrintsBadDealing threshold members given text
 IsRefusal (tasks.Sign signing) shown given text =
-    TellsNoKeyFile shown text ⊎ TellsOtherKey (kind_of signing) shown text
-    ⊎ TellsUnsigned signing shown given text
+    PrintsNoKeyFile shown text ⊎ PrintsOtherKey (kind_of signing) shown text
+    ⊎ PrintsUnsigned signing shown given text
 IsRefusal tasks.Recover shown given text =
-    TellsNoKeyFile shown text ⊎ TellsOtherKey Node shown text
-    ⊎ TellsUnfounded endings.NotValid shown given text
+    PrintsNoKeyFile shown text ⊎ PrintsOtherKey Node shown text
+    ⊎ PrintsUnfounded endings.NotValid shown given text
 
 -- At 8: the bytes pass a limit, and the text names it.
 abbrev pub IsPastLimit : Task → Shown → List ℕ → List ℕ → Type 0
@@ -240,7 +240,7 @@ IsPastLimit (tasks.Deal threshold members) shown given text = ⊥
 IsPastLimit (tasks.Sign signing) shown given text =
     (state : Durable) × HasKey (kind_of signing) shown state × HasTooMuchJson given
     × (text ≡ fault_line faults.TooMuchJson)
-IsPastLimit tasks.Recover shown given text = TellsUnfounded endings.PastLimit shown given text
+IsPastLimit tasks.Recover shown given text = PrintsUnfounded endings.PastLimit shown given text
 
 -- At 9: the bytes are within the limits and have no reading, and the text tells their first bad
 -- line, or what differs first from a receipt or from the form of what is to be signed; or they are
@@ -253,11 +253,11 @@ IsNoReading (tasks.Verify identity) shown given text =
     (fault : FormsFault) × HasOtherForm given fault × (text ≡ fault_line (faults.Form fault))
 IsNoReading (tasks.Audit identity) shown given text = ⊥
 IsNoReading (tasks.Keygen kind types) shown given text =
-    (shown.len ≡ 0) × (TellsShort seed_len given text ⊎ TellsLong seed_len given text)
+    (shown.len ≡ 0) × (PrintsShort seed_len given text ⊎ PrintsLong seed_len given text)
 IsNoReading (tasks.Deal threshold members) shown given text =
-    TellsShort dealing_len given text ⊎ TellsLong dealing_len given text
-IsNoReading (tasks.Sign signing) shown given text = TellsOtherForm signing shown given text
-IsNoReading tasks.Recover shown given text = TellsUnfounded endings.NoReading shown given text
+    PrintsShort dealing_len given text ⊎ PrintsLong dealing_len given text
+IsNoReading (tasks.Sign signing) shown given text = PrintsOtherForm signing shown given text
+IsNoReading tasks.Recover shown given text = PrintsUnfounded endings.NoReading shown given text
 
 -- At 2: the line of one of these kinds of fault.
 abbrev pub IsKindLine : Kinds → List ℕ → Type 0
@@ -270,15 +270,15 @@ IsFaultLine text = (fault : Fault) × (text ≡ fault_line fault)
 
 -- The bytes are a receipt that is accepted for a transaction under this key, and exactly the line
 -- of this transaction was written.
-abbrev pub TellsAccepted : List ℕ → List ℕ → Option (List ℕ) → Option (List ℕ) → Type 0
-TellsAccepted identity given held holds =
+abbrev pub PrintsAccepted : List ℕ → List ℕ → Option (List ℕ) → Option (List ℕ) → Type 0
+PrintsAccepted identity given held holds =
     (receipt : Receipt) × (receipt_from given ≡ Ok receipt)
     × (id : TxId) × Accepts identity receipt id × Appends held holds (valid_line id)
 
 -- Exactly such a text was written.
-abbrev pub Tells : (List ℕ → Type 0) → Option (List ℕ) → Option (List ℕ) → Type 0
-Tells P held holds = (text : List ℕ) × P text × Appends held holds text
+abbrev pub Reports : (List ℕ → Type 0) → Option (List ℕ) → Option (List ℕ) → Type 0
+Reports P held holds = (text : List ℕ) × P text × Appends held holds text
 
--- A front of such a text was written.
-abbrev pub TellsFront : (List ℕ → Type 0) → Option (List ℕ) → Option (List ℕ) → Type 0
-TellsFront P held holds = (text : List ℕ) × P text × AppendsFront held holds text
+-- A prefix of such a text was written.
+abbrev pub PrintsPrefix : (List ℕ → Type 0) → Option (List ℕ) → Option (List ℕ) → Type 0
+PrintsPrefix P held holds = (text : List ℕ) × P text × AppendsPrefix held holds text

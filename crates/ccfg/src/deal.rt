@@ -2,14 +2,14 @@
 
 ghost use Rattle.std.specs.Prelude.{◌≡◌, ◌≢◌, ◌<◌, ◌≤◌, Err, IfErr, IfOk, drop, length, take};
 ghost use Rattle.gl_outside.specs.Fault.{Rose};
-ghost use Rattle.gl_entry.specs.Given.{OfBytes};
-ghost use Rattle.ccfg.specs.Owed.{EndsSource, dealing_len, due_of_dealing, secret_len};
-ghost use Rattle.ccfg.specs.Plans.{PlansPlayable, due_of_plan};
+ghost use Rattle.gl_entry.specs.SourceBytes.{OfBytes};
+ghost use Rattle.ccfg.specs.ExpectedOutput.{EndsSource, dealing_len, output_of_dealing, secret_len};
+ghost use Rattle.ccfg.specs.Plans.{PlansPlayable, output_of_plan};
 ghost use Rattle.ccfg.specs.declared.fault.Fault.TheVariants.{Short};
 
 use crate::fault::Fault;
-use crate::plan::{Plan, PlanStop};
-use crate::source_bytes::{ReadStop, read_whole};
+use crate::plan::{Plan, PlanError};
+use crate::source_bytes::{ReadError, read_whole};
 use gl_consortium::{can_deal, deal_text};
 use gl_outside::Source;
 use std::alloc::{AllocError, Global};
@@ -27,7 +27,7 @@ struct Dealt {
     seed: [u8; SECRET_LEN],
 }
 
-/// The secret that these bytes begin with and the seed behind it; they are not more than both have.
+/// The secret that these bytes begin with and the seed after it; they are not more than both have.
 fn secret_in(text: &[u8]) -> Result<Dealt, Fault>
     requires { length text.now ≤ dealing_len }
     ensures secret { IfOk result (λ dealt. dealt.secret ≡ take secret_len text.now) }
@@ -51,7 +51,7 @@ fn secret_in(text: &[u8]) -> Result<Dealt, Fault>
 
 /// What there is to do with bytes that are not more than a secret and the seed of its dealing have.
 /// Their length is tried before the members.
-#[tactic(auto, unfolding(crate::specs::Owed::due_of_dealing))]
+#[tactic(auto, unfolding(crate::specs::ExpectedOutput::output_of_dealing))]
 fn dealing_plan(
     alloc: Global,
     threshold: u64,
@@ -59,14 +59,14 @@ fn dealing_plan(
     text: &[u8],
 ) -> Result<Plan, AllocError>
     requires { length text.now ≤ dealing_len }
-    ensures due { IfOk result (λ plan.
-        due_of_dealing threshold members.now text.now ≡ due_of_plan plan) }
+    ensures output { IfOk result (λ plan.
+        output_of_dealing threshold members.now text.now ≡ output_of_plan plan) }
     ensures playable { IfOk result (λ plan. PlansPlayable plan) }
 {
     match secret_in(text) {
         Ok(dealt) if can_deal(threshold, members) => {
-            let told = deal_text(alloc, threshold, members, &dealt.secret, dealt.seed)?;
-            Ok(Plan::Tell(told))
+            let reported = deal_text(alloc, threshold, members, &dealt.secret, dealt.seed)?;
+            Ok(Plan::Print(reported))
         }
         Ok(_) => Ok(Plan::Refuse(Fault::BadDealing)),
         Err(fault) => Ok(Plan::Refuse(fault)),
@@ -80,25 +80,25 @@ pub fn read_dealing_plan<S: Source>(
     threshold: u64,
     members: &[u64],
     source: &mut S,
-) -> Result<Plan, PlanStop>
-    ensures due { IfOk result (λ plan. OfBytes (S.left source.old) (λ given.
-        due_of_dealing threshold members.now given ≡ due_of_plan plan)) }
-    ensures ended { IfOk result (λ plan. EndsSource (due_of_plan plan) (S.ended source.new)) }
+) -> Result<Plan, PlanError>
+    ensures output { IfOk result (λ plan. OfBytes (S.left source.old) (λ given.
+        output_of_dealing threshold members.now given ≡ output_of_plan plan)) }
+    ensures ended { IfOk result (λ plan. EndsSource (output_of_plan plan) (S.ended source.new)) }
     ensures playable { IfOk result (λ plan. PlansPlayable plan) }
-    ensures failed { result ≡ Err PlanStop.SourceFailed →
+    ensures failed { result ≡ Err PlanError.SourceFailed →
         Rose (S.faults source.old) (S.faults source.new) }
-    ensures no_disk { result ≢ Err PlanStop.DiskFailed }
+    ensures no_disk { result ≢ Err PlanError.DiskFailed }
 {
     match read_whole(alloc, DEALING_LEN, source) {
         Ok(text) => match dealing_plan(alloc, threshold, members, &text) {
             Ok(plan) => Ok(plan),
-            Err(_) => Err(PlanStop::Memory),
+            Err(_) => Err(PlanError::Memory),
         },
-        Err(ReadStop::TooLong) => {
+        Err(ReadError::TooLong) => {
             let at = DEALING_LEN as u64;
             Ok(Plan::Refuse(Fault::Trailing { at }))
         }
-        Err(ReadStop::Memory) => Err(PlanStop::Memory),
-        Err(ReadStop::Failed) => Err(PlanStop::SourceFailed),
+        Err(ReadError::Memory) => Err(PlanError::Memory),
+        Err(ReadError::Failed) => Err(PlanError::SourceFailed),
     }
 }

@@ -2,7 +2,7 @@
 
 ghost use Rattle.std.specs.Prelude.{◌≡◌, ◌++◌, IfOk, OnOk, codes, decimal};
 ghost use Rattle.ccfg.specs.Faults.{fault_line, fault_text, opening_text, recovering_text, recovery_text, signing_text};
-ghost use Rattle.ccfg.specs.Owed.{ending_of_fault, ending_of_recovering};
+ghost use Rattle.ccfg.specs.ExpectedOutput.{ending_of_fault, ending_of_recovering};
 
 use crate::ending::Ending;
 use clap::error::ErrorKind;
@@ -56,7 +56,7 @@ pub enum Fault {
     BadDealing,
     /// What is to be signed has its form, and isn't signed.
     Signing(SigningFault),
-    /// No service is founded anew.
+    /// No service is recovered.
     Recovering(RecoveringFault),
     /// The file has no node, or the node can't begin with the opening ledger.
     Opening(OpeningFault),
@@ -79,7 +79,7 @@ fn put_signing(alloc: Global, out: &mut Vec<u8>, fault: &SigningFault) -> Result
     }
 }
 
-/// Why no service is founded anew behind an old ledger.
+/// Why no service is recovered after an old ledger.
 fn put_recovery(out: &mut Vec<u8>, fault: RecoveryFault) -> Result<(), AllocError>
     ensures { OnOk result (out.new.items ≡ out.old.items ++ recovery_text fault) }
 {
@@ -98,7 +98,7 @@ fn put_recovery(out: &mut Vec<u8>, fault: RecoveryFault) -> Result<(), AllocErro
     }
 }
 
-/// Why no service is founded anew.
+/// Why no service is recovered.
 fn put_recovering(
     alloc: Global,
     out: &mut Vec<u8>,
@@ -132,7 +132,7 @@ fn put_opening(out: &mut Vec<u8>, fault: OpeningFault) -> Result<(), AllocError>
     }
 }
 
-/// How a run ends that tells why no service is founded anew.
+/// How a run ends that reports why no service is recovered.
 fn recovering_ending(fault: &RecoveringFault) -> Ending
     ensures { result ≡ ending_of_recovering fault.now }
 {

@@ -1,10 +1,10 @@
 //! What there is to do where a key is to begin: its file is begun, and its public form told.
 
 ghost use Rattle.std.specs.Prelude.{◌≡◌, ◌≢◌, ℕ, ◌<◌, ◌≤◌, [], Err, IfErr, IfOk, IsTrue, length};
-ghost use Rattle.gl_entry.specs.Given.{OfBytes};
+ghost use Rattle.gl_entry.specs.SourceBytes.{OfBytes};
 ghost use Rattle.gl_outside.specs.Fault.{Rose};
-ghost use Rattle.ccfg.specs.Owed.{EndsSource, OfShown, due_of_answer, due_of_seed, key_line, on_empty, seed_len};
-ghost use Rattle.ccfg.specs.Plans.{IsUntouched, PlansPlayable, TellsFault, ShowsKept, due_of_plan};
+ghost use Rattle.ccfg.specs.ExpectedOutput.{EndsSource, OfShown, key_line, on_empty, output_of_answer, output_of_seed, seed_len};
+ghost use Rattle.ccfg.specs.Plans.{IsUntouched, PlansPlayable, PrintsFault, ShowsKept, output_of_plan};
 ghost use Rattle.ccfg.specs.declared.fault.Fault.TheVariants.{NotEmpty, Short};
 ghost use Rattle.ccfg.specs.declared.plan.Plan.TheVariants.{Refuse};
 ghost use Rattle.gl_base.specs.declared.or_no_memory.OrNoMemory.{OrNoMemory};
@@ -12,8 +12,8 @@ ghost use Rattle.gl_journal.specs.declared.fault.JournalFault.{JournalFault};
 ghost use Rattle.gl_keyfile.specs.declared.fault.KeyFileFault.{KeyFileFault};
 
 use crate::fault::Fault;
-use crate::plan::{Plan, PlanStop};
-use crate::source_bytes::{ReadStop, read_whole};
+use crate::plan::{Plan, PlanError};
+use crate::source_bytes::{ReadError, read_whole};
 use gl_base::OrNoMemory;
 use gl_forms::write_key;
 use gl_hss::Types;
@@ -52,43 +52,43 @@ fn seed_in(text: &[u8]) -> Result<[u8; SEED_LEN], Fault>
 
 /// What there is to do where no key file could be begun. A disk that tells bytes now told before
 /// that it holds none; so it is taken to hold one at least.
-fn begin_stop(error: OrNoMemory<KeyFileFault>) -> Result<Plan, PlanStop>
-    ensures not_empty { IfOk result (λ plan. (len told : ℕ)
+fn begin_stop(error: OrNoMemory<KeyFileFault>) -> Result<Plan, PlanError>
+    ensures not_empty { IfOk result (λ plan. (len reported : ℕ)
         × (error ≡ OrNoMemory.Fault (KeyFileFault.Journal (JournalFault.NotEmpty len)))
-        × (0 < told) × (plan ≡ Refuse (NotEmpty told))) }
-    ensures disk_failed { result ≡ Err PlanStop.DiskFailed → (fault : KeyFileFault)
+        × (0 < reported) × (plan ≡ Refuse (NotEmpty reported))) }
+    ensures disk_failed { result ≡ Err PlanError.DiskFailed → (fault : KeyFileFault)
         × (error ≡ OrNoMemory.Fault fault)
         × ((len : ℕ) → fault ≢ KeyFileFault.Journal (JournalFault.NotEmpty len)) }
-    ensures no_source { result ≢ Err PlanStop.SourceFailed }
+    ensures no_source { result ≢ Err PlanError.SourceFailed }
 {
     match error {
-        OrNoMemory::NoMemory => Err(PlanStop::Memory),
+        OrNoMemory::NoMemory => Err(PlanError::Memory),
         OrNoMemory::Fault(KeyFileFault::Journal(JournalFault::NotEmpty { len })) => {
             Ok(Plan::Refuse(Fault::NotEmpty { len: len.max(1) }))
         }
-        OrNoMemory::Fault(_) => Err(PlanStop::DiskFailed),
+        OrNoMemory::Fault(_) => Err(PlanError::DiskFailed),
     }
 }
 
-/// Begins the file of a key on an empty disk. The line that is to be told then is made before, so
-/// that no memory is wanted behind it.
-fn begin_file<D: Disk>(alloc: Global, key: Key, disk: D) -> (Result<Plan, PlanStop>, D)
+/// Begins the file of a key on an empty disk. The line that is to be reported then is made before,
+/// so that no memory is wanted after it.
+fn begin_file<D: Disk>(alloc: Global, key: Key, disk: D) -> (Result<Plan, PlanError>, D)
     requires empty { IsTrue D.honest → D.bytes disk ≡ [] }
-    ensures due { IfOk result.0 (λ plan. OfShown D.honest (D.bytes disk) (λ shown.
-        on_empty shown.len (due_of_answer (key_line key)) ≡ due_of_plan plan)) }
+    ensures output { IfOk result.0 (λ plan. OfShown D.honest (D.bytes disk) (λ shown.
+        on_empty shown.len (output_of_answer (key_line key)) ≡ output_of_plan plan)) }
     ensures playable { IfOk result.0 (λ plan. PlansPlayable plan) }
-    ensures disk_failed { result.0 ≡ Err PlanStop.DiskFailed →
+    ensures disk_failed { result.0 ≡ Err PlanError.DiskFailed →
         Rose (D.faults disk) (D.faults result.1) }
-    ensures no_source { result.0 ≢ Err PlanStop.SourceFailed }
+    ensures no_source { result.0 ≢ Err PlanError.SourceFailed }
     ensures kept { IsTrue D.honest → IfOk result.0 (λ plan.
         ShowsKept key.kind key.types (D.past result.1) key.seed plan) }
-    ensures begun { IsTrue D.honest → IfOk result.0 (λ plan. TellsFault plan → ⊥) }
+    ensures begun { IsTrue D.honest → IfOk result.0 (λ plan. PrintsFault plan → ⊥) }
 {
     let Ok(line) = key_line(alloc, &key) else {
-        return (Err(PlanStop::Memory), disk);
+        return (Err(PlanError::Memory), disk);
     };
     match KeyFile::create(alloc, disk, key) {
-        Ok(file) => (Ok(Plan::Tell(line)), file.into_disk()),
+        Ok(file) => (Ok(Plan::Print(line)), file.into_disk()),
         Err((error, disk)) => (begin_stop(error), disk),
     }
 }
@@ -101,22 +101,22 @@ fn plan_on_empty<S: Source, D: Disk>(
     types: Types,
     source: &mut S,
     disk: D,
-) -> (Result<Plan, PlanStop>, D)
+) -> (Result<Plan, PlanError>, D)
     requires empty { IsTrue D.honest → D.bytes disk ≡ [] }
-    ensures due { IfOk result.0 (λ plan. OfShown D.honest (D.bytes disk) (λ shown.
+    ensures output { IfOk result.0 (λ plan. OfShown D.honest (D.bytes disk) (λ shown.
         OfBytes (S.left source.old) (λ given.
-        on_empty shown.len (due_of_seed kind types given) ≡ due_of_plan plan))) }
-    ensures ended { IfOk result.0 (λ plan. EndsSource (due_of_plan plan) (S.ended source.new)) }
+        on_empty shown.len (output_of_seed kind types given) ≡ output_of_plan plan))) }
+    ensures ended { IfOk result.0 (λ plan. EndsSource (output_of_plan plan) (S.ended source.new)) }
     ensures playable { IfOk result.0 (λ plan. PlansPlayable plan) }
-    ensures failed { result.0 ≡ Err PlanStop.SourceFailed →
+    ensures failed { result.0 ≡ Err PlanError.SourceFailed →
         Rose (S.faults source.old) (S.faults source.new) }
-    ensures disk_failed { result.0 ≡ Err PlanStop.DiskFailed →
+    ensures disk_failed { result.0 ≡ Err PlanError.DiskFailed →
         Rose (D.faults disk) (D.faults result.1) }
     ensures kept { IsTrue D.honest → IfOk result.0 (λ plan. OfBytes (S.left source.old) (λ given.
         ShowsKept kind types (D.past result.1) given plan)) }
     ensures refused { IsTrue D.honest →
-        IfOk result.0 (λ plan. TellsFault plan → IsUntouched D.bytes D.past disk result.1) }
-    ensures stopped { IsTrue D.honest → result.0 ≡ Err PlanStop.SourceFailed →
+        IfOk result.0 (λ plan. PrintsFault plan → IsUntouched D.bytes D.past disk result.1) }
+    ensures stopped { IsTrue D.honest → result.0 ≡ Err PlanError.SourceFailed →
         IsUntouched D.bytes D.past disk result.1 }
 {
     match read_whole(alloc, SEED_LEN, source) {
@@ -124,12 +124,12 @@ fn plan_on_empty<S: Source, D: Disk>(
             Ok(seed) => begin_file(alloc, Key { kind, types, seed }, disk),
             Err(fault) => (Ok(Plan::Refuse(fault)), disk),
         },
-        Err(ReadStop::TooLong) => {
+        Err(ReadError::TooLong) => {
             let at = SEED_LEN as u64;
             (Ok(Plan::Refuse(Fault::Trailing { at })), disk)
         }
-        Err(ReadStop::Memory) => (Err(PlanStop::Memory), disk),
-        Err(ReadStop::Failed) => (Err(PlanStop::SourceFailed), disk),
+        Err(ReadError::Memory) => (Err(PlanError::Memory), disk),
+        Err(ReadError::Failed) => (Err(PlanError::SourceFailed), disk),
     }
 }
 
@@ -142,15 +142,15 @@ pub fn keygen_plan<S: Source, D: Disk>(
     types: Types,
     source: &mut S,
     disk: D,
-) -> (Result<Plan, PlanStop>, D)
-    ensures due { IfOk result.0 (λ plan. OfShown D.honest (D.bytes disk) (λ shown.
+) -> (Result<Plan, PlanError>, D)
+    ensures output { IfOk result.0 (λ plan. OfShown D.honest (D.bytes disk) (λ shown.
         OfBytes (S.left source.old) (λ given.
-        on_empty shown.len (due_of_seed kind types given) ≡ due_of_plan plan))) }
-    ensures ended { IfOk result.0 (λ plan. EndsSource (due_of_plan plan) (S.ended source.new)) }
+        on_empty shown.len (output_of_seed kind types given) ≡ output_of_plan plan))) }
+    ensures ended { IfOk result.0 (λ plan. EndsSource (output_of_plan plan) (S.ended source.new)) }
     ensures playable { IfOk result.0 (λ plan. PlansPlayable plan) }
-    ensures failed { result.0 ≡ Err PlanStop.SourceFailed →
+    ensures failed { result.0 ≡ Err PlanError.SourceFailed →
         Rose (S.faults source.old) (S.faults source.new) }
-    ensures disk_failed { result.0 ≡ Err PlanStop.DiskFailed →
+    ensures disk_failed { result.0 ≡ Err PlanError.DiskFailed →
         Rose (D.faults disk) (D.faults result.1) }
     ensures kept { IsTrue D.honest → IfOk result.0 (λ plan. OfBytes (S.left source.old) (λ given.
         ShowsKept kind types (D.past result.1) given plan)) }
@@ -158,14 +158,14 @@ pub fn keygen_plan<S: Source, D: Disk>(
         IsUntouched D.bytes D.past disk result.1 }
     ensures unread { IsTrue D.honest → 0 < length (D.bytes disk) → source.new ≡ source.old }
     ensures refused { IsTrue D.honest →
-        IfOk result.0 (λ plan. TellsFault plan → IsUntouched D.bytes D.past disk result.1) }
-    ensures stopped { IsTrue D.honest → result.0 ≡ Err PlanStop.SourceFailed →
+        IfOk result.0 (λ plan. PrintsFault plan → IsUntouched D.bytes D.past disk result.1) }
+    ensures stopped { IsTrue D.honest → result.0 ≡ Err PlanError.SourceFailed →
         IsUntouched D.bytes D.past disk result.1 }
 {
     let mut disk = disk;
     match disk.len() {
         Ok(0) => plan_on_empty(alloc, kind, types, source, disk),
         Ok(len) => (Ok(Plan::Refuse(Fault::NotEmpty { len })), disk),
-        Err(_) => (Err(PlanStop::DiskFailed), disk),
+        Err(_) => (Err(PlanError::DiskFailed), disk),
     }
 }

@@ -2,14 +2,14 @@
 
 ghost use Rattle.std.specs.Prelude.{◌≡◌, ◌≢◌, ◌++◌, Bool, Err, IfOk, OnOk};
 ghost use Rattle.gl_outside.specs.Fault.{Rose};
-ghost use Rattle.gl_entry.specs.Given.{OfBytes};
+ghost use Rattle.gl_entry.specs.SourceBytes.{OfBytes};
 ghost use Rattle.gl_audit.specs.Verdict.{EndsWith};
 ghost use Rattle.gl_audit.specs.Verdict as audits_to;
-ghost use Rattle.ccfg.specs.Owed.{EndsSource, due_of_audit, ledger_line, signed_text};
-ghost use Rattle.ccfg.specs.Plans.{PlansPlayable, due_of_plan};
+ghost use Rattle.ccfg.specs.ExpectedOutput.{EndsSource, ledger_line, output_of_audit, signed_text};
+ghost use Rattle.ccfg.specs.Plans.{PlansPlayable, output_of_plan};
 
 use crate::fault::Fault;
-use crate::plan::{Plan, PlanStop};
+use crate::plan::{Plan, PlanError};
 use gl_audit::{Verdict, audit};
 use gl_base::{OrNoMemory, TxId};
 use gl_outside::Source;
@@ -18,9 +18,9 @@ use std::alloc::{AllocError, Global};
 
 /// What there is to do with a verdict.
 fn plan_of_verdict(verdict: Verdict) -> Plan
-    ensures due { due_of_audit verdict ≡ due_of_plan result }
+    ensures output { output_of_audit verdict ≡ output_of_plan result }
     ensures ended { (ended : Bool) → EndsWith verdict ended
-        → EndsSource (due_of_plan result) ended }
+        → EndsSource (output_of_plan result) ended }
     ensures playable { PlansPlayable result }
 {
     match verdict {
@@ -36,19 +36,19 @@ pub fn read_ledger_plan<S: Source>(
     alloc: Global,
     identity: &HssPublicKey,
     source: &mut S,
-) -> Result<Plan, PlanStop>
-    ensures due { IfOk result (λ plan. OfBytes (S.left source.old) (λ given.
-        due_of_audit (audits_to.verdict identity.now given) ≡ due_of_plan plan)) }
-    ensures ended { IfOk result (λ plan. EndsSource (due_of_plan plan) (S.ended source.new)) }
+) -> Result<Plan, PlanError>
+    ensures output { IfOk result (λ plan. OfBytes (S.left source.old) (λ given.
+        output_of_audit (audits_to.verdict identity.now given) ≡ output_of_plan plan)) }
+    ensures ended { IfOk result (λ plan. EndsSource (output_of_plan plan) (S.ended source.new)) }
     ensures playable { IfOk result (λ plan. PlansPlayable plan) }
-    ensures failed { result ≡ Err PlanStop.SourceFailed →
+    ensures failed { result ≡ Err PlanError.SourceFailed →
         Rose (S.faults source.old) (S.faults source.new) }
-    ensures no_disk { result ≢ Err PlanStop.DiskFailed }
+    ensures no_disk { result ≢ Err PlanError.DiskFailed }
 {
     match audit(alloc, identity, source) {
         Ok(verdict) => Ok(plan_of_verdict(verdict)),
-        Err(OrNoMemory::Fault(_)) => Err(PlanStop::SourceFailed),
-        Err(OrNoMemory::NoMemory) => Err(PlanStop::Memory),
+        Err(OrNoMemory::Fault(_)) => Err(PlanError::SourceFailed),
+        Err(OrNoMemory::NoMemory) => Err(PlanError::Memory),
     }
 }
 

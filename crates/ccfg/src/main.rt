@@ -11,9 +11,9 @@ mod node;
 mod output;
 mod plan;
 mod program;
-mod recovering;
+mod recovery;
 mod schedule_nodes;
-mod signing;
+mod signature;
 mod source_bytes;
 #[cfg(test)]
 mod tests;
@@ -21,9 +21,9 @@ mod verify;
 
 use ending::Ending;
 use gl_commands::{Asked, HELP, VERSION, read_words};
-use gl_load::Onlooker;
+use gl_load::LoadObserver;
 use gl_outside::{OpenGate, Sink, SinkFault, StreamSink, StreamSource, write_whole};
-use gl_serve::{Observer, Standing};
+use gl_serve::{NodeStatus, Observer};
 use gl_system::{FileDisk, TcpLink, WatchedSource};
 use std::alloc::{AllocError, Global};
 use std::io::IsTerminal;
@@ -34,9 +34,9 @@ use std::{env, io};
 /// How many milliseconds a tick lasts.
 const TICK: u32 = 100;
 
-/// The words behind the program's name. One that is no text stands for no words at all, since no
+/// The words after the program's name. One that is no text stands for no words at all, since no
 /// command has such a word.
-fn words_behind_name(rt: &HostRuntime) -> Result<Vec<String>, AllocError> {
+fn words_after_name(rt: &HostRuntime) -> Result<Vec<String>, AllocError> {
     match env::args(rt) {
         Ok(all) => all.skip(1).collect(rt.alloc()),
         Err(error) if error.kind() == io::ErrorKind::InvalidData => Ok(Vec::new(rt.alloc())),
@@ -44,7 +44,7 @@ fn words_behind_name(rt: &HostRuntime) -> Result<Vec<String>, AllocError> {
     }
 }
 
-/// What leading words name, and the words behind them.
+/// What leading words name, and the words after them.
 #[derive(Drop)]
 struct Invocation<'a> {
     /// The path of the disk's file, the last one if several are named.
@@ -133,26 +133,26 @@ fn link_at<'a>(
 }
 
 /// Tells on standard error why a node with so many peers has no link.
-fn tell_no_link(rt: &HostRuntime, called: &Invocation<'_>, count: usize) {
+fn print_no_link(rt: &HostRuntime, called: &Invocation<'_>, count: usize) {
     let given = called.peers.len();
     if given == count {
-        let _told = eprint!(rt; "it can't listen at the address that @listen names\n");
+        let _printed = eprint!(rt; "it can't listen at the address that @listen names\n");
     } else {
-        let _told = eprint!(rt; "{count} peers are named, but @peer gives {given} addresses\n");
+        let _printed = eprint!(rt; "{count} peers are named, but @peer gives {given} addresses\n");
     }
 }
 
 /// Tells on standard error where a link listens, and where its peers do; or why a node has none.
-fn tell_link(rt: &HostRuntime, link: &TcpLink<'_, HostRuntime>, called: &Invocation<'_>) {
+fn print_link(rt: &HostRuntime, link: &TcpLink<'_, HostRuntime>, called: &Invocation<'_>) {
     let Some(address) = link.local_addr() else {
         if let Some(count) = peer_count(rt.alloc(), called.words) {
-            tell_no_link(rt, called, count);
+            print_no_link(rt, called, count);
         }
         return;
     };
-    let _told = eprint!(rt; "listens at {address}\n");
+    let _printed = eprint!(rt; "listens at {address}\n");
     for (index, peer) in called.peers.iter().enumerate() {
-        let _told = eprint!(rt; "peer {index} at {peer}\n");
+        let _printed = eprint!(rt; "peer {index} at {peer}\n");
     }
 }
 
@@ -162,39 +162,39 @@ fn tell_link(rt: &HostRuntime, link: &TcpLink<'_, HostRuntime>, called: &Invocat
 #[derive(Drop)]
 struct ProgressLines<'a> {
     rt: &'a HostRuntime,
-    told: Option<Standing>,
+    reported: Option<NodeStatus>,
     at_terminal: bool,
 }
 
-/// Of so many requests one is told.
-const TOLD_REQUESTS: u32 = 1_000;
+/// Of so many requests one is reported.
+const PRINTED_REQUESTS: u32 = 1_000;
 
-impl Onlooker for ProgressLines<'_> {
+impl LoadObserver for ProgressLines<'_> {
     fn taken(&mut self, requests: u32) {
-        if !self.at_terminal || requests % TOLD_REQUESTS != 0 {
+        if !self.at_terminal || requests % PRINTED_REQUESTS != 0 {
             return;
         }
-        let up = if requests > TOLD_REQUESTS {
+        let up = if requests > PRINTED_REQUESTS {
             "\x1b[A"
         } else {
             ""
         };
-        let _told = eprint!(self.rt; "{up}{requests:>9} requests\n");
+        let _printed = eprint!(self.rt; "{up}{requests:>9} requests\n");
     }
 }
 
 impl Observer for ProgressLines<'_> {
-    fn observe(&mut self, standing: Standing) {
-        if self.told == Some(standing) {
+    fn observe(&mut self, node_status: NodeStatus) {
+        if self.reported == Some(node_status) {
             return;
         }
-        let _told = eprint!(self.rt; "{standing}\n");
-        self.told = Some(standing);
+        let _printed = eprint!(self.rt; "{node_status}\n");
+        self.reported = Some(node_status);
     }
 }
 
 /// What the program tells of itself, if the words ask for that alone.
-fn told_of_itself(alloc: Global, words: &[String]) -> Result<Option<String>, AllocError> {
+fn printed_of_itself(alloc: Global, words: &[String]) -> Result<Option<String>, AllocError> {
     match words {
         [word] if word.as_str() == "--help" => Ok(Some(String::from_str(alloc, HELP)?)),
         [word] if word.as_str() == "--version" => Ok(Some(format!(in alloc;
@@ -221,18 +221,18 @@ fn is_audit(words: &[String]) -> bool {
 /// The exit status of a run over the standard streams, the disk and the link. An audit and a load
 /// tell at a terminal how far they are, a link tells where it listens, and a node where it stands.
 fn status(rt: &HostRuntime) -> Result<u8, AllocError> {
-    let all = words_behind_name(rt)?;
+    let all = words_after_name(rt)?;
     let called = invocation_of(rt.alloc(), &all)?;
     let words = called.words;
     let mut sink = StreamSink::new(io::writer(rt));
-    if let Some(text) = told_of_itself(rt.alloc(), words)? {
+    if let Some(text) = printed_of_itself(rt.alloc(), words)? {
         return Ok(print(text.as_str(), &mut sink).status());
     }
     let at_terminal = rt.stderr().is_terminal();
-    let told = at_terminal && is_audit(words);
-    let mut source = WatchedSource::new(StreamSource::new(rt.reader()), rt, told);
+    let reported = at_terminal && is_audit(words);
+    let mut source = WatchedSource::new(StreamSource::new(rt.reader()), rt, reported);
     let mut link = link_at(rt, &called)?;
-    tell_link(rt, &link, &called);
+    print_link(rt, &link, &called);
     let (status, _disk) = program::top(
         rt.alloc(),
         words,
@@ -242,7 +242,7 @@ fn status(rt: &HostRuntime) -> Result<u8, AllocError> {
         &mut link,
         ProgressLines {
             rt,
-            told: None,
+            reported: None,
             at_terminal,
         },
         &OpenGate,

@@ -3,7 +3,7 @@
 
 ghost use Rattle.std.specs.Prelude.{◌≡◌, ◌≢◌, ◌⊎◌, ◌++◌, ◌≤◌, ℕ, false, true, Err, IfOk, IsTrue, None, Ok, codes, decimal};
 ghost use Rattle.gl_base.specs.declared.or_no_memory.OrNoMemory.{OrNoMemory};
-ghost use Rattle.gl_entry.specs.Given.{OfBytes};
+ghost use Rattle.gl_entry.specs.SourceBytes.{OfBytes};
 ghost use Rattle.gl_outside.specs.Disk.{Leaves};
 ghost use Rattle.gl_outside.specs.Fault.{Rose};
 ghost use Rattle.gl_journal.specs.Durable.{Durable, journal_header};
@@ -12,15 +12,15 @@ ghost use Rattle.gl_journal.specs.declared.fault.JournalFault.{JournalFault};
 ghost use Rattle.gl_store_book.specs.Frames.{goes_on_ledger};
 ghost use Rattle.gl_store_book.specs.NodeFile.{opened, OpensOnlyTo};
 ghost use Rattle.gl_store_book.specs.declared.node_file.fault.OpeningFault.{OpeningFault};
-ghost use Rattle.ccfg.specs.Owed.{WritesDue, due_of_answer, due_of_fault};
-ghost use Rattle.ccfg.specs.declared.fault.Fault.TheVariants as told;
+ghost use Rattle.ccfg.specs.ExpectedOutput.{WritesOutput, output_of_answer, output_of_fault};
+ghost use Rattle.ccfg.specs.declared.fault.Fault.TheVariants as reported;
 ghost use Rattle.gl_serve.specs.OverLink.{KeepsLeaves};
-ghost use Rattle.ccfg.specs.Nodes.{BeginsAs, BeginsBy, Beginning, HasLedger, MovesNode, NodeRuns, OfOpened, beginning, beginning_of, disk_behind, has_ledger, reopened, served_line};
+ghost use Rattle.ccfg.specs.Nodes.{BeginsAs, BeginsBy, Beginning, HasLedger, MovesNode, NodeRuns, OfOpened, beginning, beginning_of, disk_after, has_ledger, reopened, served_line};
 
 use crate::ending::Ending;
 use crate::fault::Fault;
-use crate::output::{refuse, tell};
-use crate::source_bytes::{ReadStop, read_whole};
+use crate::output::{refuse, write_out};
+use crate::source_bytes::{ReadError, read_whole};
 use gl_base::OrNoMemory;
 use gl_commands::{NodeTask, put_number};
 use gl_journal::JournalFault;
@@ -35,7 +35,7 @@ const SOURCE_LIMIT: usize = 0x3fff_ffff_ffff_ffff;
 
 /// Why no node begins.
 #[derive(Clone, Copy, Debug, PartialEq, Eq)]
-pub enum NodeStop {
+pub enum NodeError {
     /// The file is no node's, or the source gives no opening ledger.
     Refused(OpeningFault),
     SourceFailed,
@@ -44,36 +44,36 @@ pub enum NodeStop {
 }
 
 /// Why no node begins whose file can't be opened, or can't begin.
-fn stop_of(error: OrNoMemory<OpeningFault>) -> NodeStop
-    ensures refused { (fault : OpeningFault) → result ≡ NodeStop.Refused fault →
+fn stop_of(error: OrNoMemory<OpeningFault>) -> NodeError
+    ensures refused { (fault : OpeningFault) → result ≡ NodeError.Refused fault →
         (error ≡ OrNoMemory.Fault fault)
         × (fault ≢ OpeningFault.Journal JournalFault.DiskFault) }
-    ensures disk_failed { result ≡ NodeStop.DiskFailed →
+    ensures disk_failed { result ≡ NodeError.DiskFailed →
         error ≡ OrNoMemory.Fault (OpeningFault.Journal JournalFault.DiskFault) }
     ensures disk { error ≡ OrNoMemory.Fault (OpeningFault.Journal JournalFault.DiskFault) →
-        result ≡ NodeStop.DiskFailed }
-    ensures no_source { result ≢ NodeStop.SourceFailed }
+        result ≡ NodeError.DiskFailed }
+    ensures no_source { result ≢ NodeError.SourceFailed }
 {
     match error {
-        OrNoMemory::NoMemory => NodeStop::Memory,
-        OrNoMemory::Fault(OpeningFault::Journal(JournalFault::DiskFault)) => NodeStop::DiskFailed,
-        OrNoMemory::Fault(fault) => NodeStop::Refused(fault),
+        OrNoMemory::NoMemory => NodeError::Memory,
+        OrNoMemory::Fault(OpeningFault::Journal(JournalFault::DiskFault)) => NodeError::DiskFailed,
+        OrNoMemory::Fault(fault) => NodeError::Refused(fault),
     }
 }
 
 /// The node of a file goes on from what the file keeps.
-fn reopen<D: Disk + Drop>(file: NodeFile<D>) -> Result<Replica<D, StoreBook>, (NodeStop, D)>
+fn reopen<D: Disk + Drop>(file: NodeFile<D>) -> Result<Replica<D, StoreBook>, (NodeError, D)>
     requires kept { IsTrue D.honest → opened (D.bytes file.disk) ≡ Ok file.state }
     ensures begins { IfOk result (λ replica. BeginsAs D.honest D.bytes D.past D.faults
         (reopened file.state) file.state replica) }
     ensures same { IfOk result (λ replica. replica.disk ≡ file.disk) }
     ensures going { IfOk result (λ replica. replica.stopped ≡ None) }
-    ensures err { (why : NodeStop) (back : D) → result ≡ Err (why, back) →
-        (why ≡ NodeStop.Memory) × (back ≡ file.disk) }
+    ensures err { (why : NodeError) (back : D) → result ≡ Err (why, back) →
+        (why ≡ NodeError.Memory) × (back ≡ file.disk) }
 {
     match file.reopen() {
         Ok(replica) => Ok(replica),
-        Err((_, disk)) => Err((NodeStop::Memory, disk)),
+        Err((_, disk)) => Err((NodeError::Memory, disk)),
     }
 }
 
@@ -82,7 +82,7 @@ fn reopen<D: Disk + Drop>(file: NodeFile<D>) -> Result<Replica<D, StoreBook>, (N
 fn begin_with<D: Disk + Drop>(
     file: NodeFile<D>,
     given: &[u8],
-) -> Result<Replica<D, StoreBook>, (NodeStop, D)>
+) -> Result<Replica<D, StoreBook>, (NodeError, D)>
     requires kept { IsTrue D.honest → opened (D.bytes file.disk) ≡ Ok file.state }
     requires only { IsTrue D.honest → OpensOnlyTo (D.past file.disk) file.state }
     requires none { has_ledger file.state.log ≡ false }
@@ -90,19 +90,19 @@ fn begin_with<D: Disk + Drop>(
         × (beginning file.state given.now ≡ Ok b)
         × BeginsAs D.honest D.bytes D.past D.faults b file.state replica) }
     ensures refused { (fault : OpeningFault) (back : D) →
-        result ≡ Err (NodeStop.Refused fault, back) → beginning file.state given.now ≡ Err fault }
-    ensures no_source { (back : D) → result ≢ Err (NodeStop.SourceFailed, back) }
+        result ≡ Err (NodeError.Refused fault, back) → beginning file.state given.now ≡ Err fault }
+    ensures no_source { (back : D) → result ≢ Err (NodeError.SourceFailed, back) }
     ensures going { IfOk result (λ replica. replica.stopped ≡ None) }
     ensures quiet { IfOk result (λ replica. D.faults replica.disk ≡ D.faults file.disk) }
-    ensures untouched { IsTrue D.honest → (why : NodeStop) (back : D) → result ≡ Err (why, back) →
-        why ≢ NodeStop.DiskFailed → (D.bytes back ≡ D.bytes file.disk)
+    ensures untouched { IsTrue D.honest → (why : NodeError) (back : D) → result ≡ Err (why, back) →
+        why ≢ NodeError.DiskFailed → (D.bytes back ≡ D.bytes file.disk)
         × (D.past back ≡ D.past file.disk) }
-    ensures disk_failed { (back : D) → result ≡ Err (NodeStop.DiskFailed, back) →
+    ensures disk_failed { (back : D) → result ≡ Err (NodeError.DiskFailed, back) →
         Rose (D.faults file.disk) (D.faults back) }
     ensures spent { IsTrue D.honest → IfOk result (λ replica.
         KeepsLeaves goes_on_ledger file.state (D.bytes replica.disk)) }
     ensures any_moment { IsTrue D.honest → Leaves (KeepsLeaves goes_on_ledger file.state)
-        (D.past file.disk) (D.past (disk_behind result)) }
+        (D.past file.disk) (D.past (disk_after result)) }
 {
     if given.is_empty() {
         return reopen(file);
@@ -119,17 +119,17 @@ fn begin<S: Source, D: Disk + Drop>(
     alloc: Global,
     source: &mut S,
     file: NodeFile<D>,
-) -> Result<Replica<D, StoreBook>, (NodeStop, D)>
+) -> Result<Replica<D, StoreBook>, (NodeError, D)>
     requires kept { IsTrue D.honest → opened (D.bytes file.disk) ≡ Ok file.state }
     requires only { IsTrue D.honest → OpensOnlyTo (D.past file.disk) file.state }
     ensures begins { IfOk result (λ replica. OfBytes (S.left source.old) (λ given. (b : Beginning)
         × (beginning file.state given ≡ Ok b)
         × BeginsAs D.honest D.bytes D.past D.faults b file.state replica)) }
     ensures refused { (fault : OpeningFault) (back : D) →
-        result ≡ Err (NodeStop.Refused fault, back) → OfBytes (S.left source.old) (λ given.
+        result ≡ Err (NodeError.Refused fault, back) → OfBytes (S.left source.old) (λ given.
         beginning file.state given ≡ Err fault) }
-    ensures untouched { IsTrue D.honest → (why : NodeStop) (back : D) → result ≡ Err (why, back) →
-        why ≢ NodeStop.DiskFailed → (D.bytes back ≡ D.bytes file.disk)
+    ensures untouched { IsTrue D.honest → (why : NodeError) (back : D) → result ≡ Err (why, back) →
+        why ≢ NodeError.DiskFailed → (D.bytes back ≡ D.bytes file.disk)
         × (D.past back ≡ D.past file.disk) }
     ensures going { IfOk result (λ replica. replica.stopped ≡ None) }
     ensures quiet { IfOk result (λ replica. D.faults replica.disk ≡ D.faults file.disk) }
@@ -137,23 +137,23 @@ fn begin<S: Source, D: Disk + Drop>(
     ensures ended { has_ledger file.state.log ≡ false →
         IfOk result (λ replica. S.ended source.new ≡ true) }
     ensures ended_refused { (fault : OpeningFault) (back : D) →
-        result ≡ Err (NodeStop.Refused fault, back) → S.ended source.new ≡ true }
-    ensures source_failed { (back : D) → result ≡ Err (NodeStop.SourceFailed, back) →
+        result ≡ Err (NodeError.Refused fault, back) → S.ended source.new ≡ true }
+    ensures source_failed { (back : D) → result ≡ Err (NodeError.SourceFailed, back) →
         Rose (S.faults source.old) (S.faults source.new) }
-    ensures disk_failed { (back : D) → result ≡ Err (NodeStop.DiskFailed, back) →
+    ensures disk_failed { (back : D) → result ≡ Err (NodeError.DiskFailed, back) →
         Rose (D.faults file.disk) (D.faults back) }
     ensures spent { IsTrue D.honest → IfOk result (λ replica.
         KeepsLeaves goes_on_ledger file.state (D.bytes replica.disk)) }
     ensures any_moment { IsTrue D.honest → Leaves (KeepsLeaves goes_on_ledger file.state)
-        (D.past file.disk) (D.past (disk_behind result)) }
+        (D.past file.disk) (D.past (disk_after result)) }
 {
     if file.ledger_len() > 0 {
         return reopen(file);
     }
     match read_whole(alloc, SOURCE_LIMIT, source) {
         Ok(given) => begin_with(file, &given),
-        Err(ReadStop::Failed) => Err((NodeStop::SourceFailed, file.into_disk())),
-        Err(ReadStop::Memory | ReadStop::TooLong) => Err((NodeStop::Memory, file.into_disk())),
+        Err(ReadError::Failed) => Err((NodeError::SourceFailed, file.into_disk())),
+        Err(ReadError::Memory | ReadError::TooLong) => Err((NodeError::Memory, file.into_disk())),
     }
 }
 
@@ -162,27 +162,27 @@ fn open<S: Source, D: Disk + Drop>(
     alloc: Global,
     source: &mut S,
     disk: D,
-) -> Result<Replica<D, StoreBook>, (NodeStop, D)>
+) -> Result<Replica<D, StoreBook>, (NodeError, D)>
     ensures begins { IfOk result (λ replica. OfOpened D.honest (D.bytes disk) (λ opens.
         OfBytes (S.left source.old) (λ given.
         BeginsBy D.honest D.bytes D.past D.faults opens given replica))) }
     ensures refused { (fault : OpeningFault) (back : D) →
-        result ≡ Err (NodeStop.Refused fault, back) →
+        result ≡ Err (NodeError.Refused fault, back) →
         OfOpened D.honest (D.bytes disk) (λ opens. OfBytes (S.left source.old) (λ given.
         beginning_of opens given ≡ Err fault)) }
     ensures ended { IfOk result (λ replica. OfOpened D.honest (D.bytes disk) (λ opens.
         HasLedger opens ⊎ (S.ended source.new ≡ true))) }
     ensures going { IfOk result (λ replica. replica.stopped ≡ None) }
-    ensures source_failed { (back : D) → result ≡ Err (NodeStop.SourceFailed, back) →
+    ensures source_failed { (back : D) → result ≡ Err (NodeError.SourceFailed, back) →
         Rose (S.faults source.old) (S.faults source.new) }
-    ensures disk_failed { (back : D) → result ≡ Err (NodeStop.DiskFailed, back) →
+    ensures disk_failed { (back : D) → result ≡ Err (NodeError.DiskFailed, back) →
         Rose (D.faults disk) (D.faults back) }
     ensures quiet { IfOk result (λ replica. D.faults replica.disk ≡ D.faults disk) }
     ensures spent { IsTrue D.honest → IfOk result (λ replica. (d : Durable)
         × (opened (D.bytes disk) ≡ Ok d)
         × KeepsLeaves goes_on_ledger d (D.bytes replica.disk)) }
     ensures any_moment { IsTrue D.honest → HasGate journal_header (D.bytes disk) →
-        MovesNode (D.bytes disk) (D.past disk) (D.past (disk_behind result)) }
+        MovesNode (D.bytes disk) (D.past disk) (D.past (disk_after result)) }
 {
     match NodeFile::open(alloc, disk) {
         Ok(file) => begin(alloc, source, file),
@@ -190,31 +190,31 @@ fn open<S: Source, D: Disk + Drop>(
     }
 }
 
-/// Tells why no node begins, where that is told.
-fn tell_stop<K: Sink>(alloc: Global, stop: NodeStop, sink: &mut K) -> Ending
-    ensures refused { (fault : OpeningFault) → stop ≡ NodeStop.Refused fault →
-        WritesDue result (record {
+/// Tells why no node begins, where that is reported.
+fn print_stop<K: Sink>(alloc: Global, stop: NodeError, sink: &mut K) -> Ending
+    ensures refused { (fault : OpeningFault) → stop ≡ NodeError.Refused fault →
+        WritesOutput result (record {
           held = K.holds sink.old;
           holds = K.holds sink.new;
           faults = K.faults sink.old;
           faults_now = K.faults sink.new;
-        }) (due_of_fault (told.Opening fault)) }
-    ensures source_failed { stop ≡ NodeStop.SourceFailed →
+        }) (output_of_fault (reported.Opening fault)) }
+    ensures source_failed { stop ≡ NodeError.SourceFailed →
         (result ≡ Ending.SourceFailed) × (sink.new ≡ sink.old) }
-    ensures disk_failed { stop ≡ NodeStop.DiskFailed →
+    ensures disk_failed { stop ≡ NodeError.DiskFailed →
         (result ≡ Ending.DiskFailed) × (sink.new ≡ sink.old) }
-    ensures memory { stop ≡ NodeStop.Memory →
+    ensures memory { stop ≡ NodeError.Memory →
         (result ≡ Ending.Memory) × (sink.new ≡ sink.old) }
 {
     match stop {
-        NodeStop::Refused(fault) => refuse(alloc, &Fault::Opening(fault), sink),
-        NodeStop::SourceFailed => Ending::SourceFailed,
-        NodeStop::DiskFailed => Ending::DiskFailed,
-        NodeStop::Memory => Ending::Memory,
+        NodeError::Refused(fault) => refuse(alloc, &Fault::Opening(fault), sink),
+        NodeError::SourceFailed => Ending::SourceFailed,
+        NodeError::DiskFailed => Ending::DiskFailed,
+        NodeError::Memory => Ending::Memory,
     }
 }
 
-/// The line that tells how many payloads were in the grammar, and how many frames were lost.
+/// The line that reports how many payloads were in the grammar, and how many frames were lost.
 fn served_line(alloc: Global, counts: (u64, u64)) -> Result<Vec<u8>, AllocError>
     ensures { IfOk result (λ line. line.items ≡ served_line counts) }
 {
@@ -226,41 +226,41 @@ fn served_line(alloc: Global, counts: (u64, u64)) -> Result<Vec<u8>, AllocError>
     Ok(line)
 }
 
-fn tell_counts<K: Sink>(alloc: Global, counts: (u64, u64), sink: &mut K) -> Ending
-    ensures { WritesDue result (record {
+fn print_counts<K: Sink>(alloc: Global, counts: (u64, u64), sink: &mut K) -> Ending
+    ensures { WritesOutput result (record {
       held = K.holds sink.old;
       holds = K.holds sink.new;
       faults = K.faults sink.old;
       faults_now = K.faults sink.new;
-    }) (due_of_answer (served_line counts)) }
+    }) (output_of_answer (served_line counts)) }
 {
     match served_line(alloc, counts) {
-        Ok(line) => tell(&line, sink),
+        Ok(line) => write_out(&line, sink),
         Err(_) => Ending::Memory,
     }
 }
 
-/// Tells how a serve ended, where that is told.
-fn tell_end<K: Sink>(
+/// Tells how a serve ended, where that is reported.
+fn print_end<K: Sink>(
     alloc: Global,
     turns: u64,
     end: Result<(u64, u64), ServeEnd>,
     sink: &mut K,
 ) -> Ending
     ensures counts { (counts : ℕ × ℕ) → end ≡ Ok counts →
-        WritesDue result (record {
+        WritesOutput result (record {
           held = K.holds sink.old;
           holds = K.holds sink.new;
           faults = K.faults sink.old;
           faults_now = K.faults sink.new;
-        }) (due_of_answer (served_line counts)) }
+        }) (output_of_answer (served_line counts)) }
     ensures turns { end ≡ Err ServeEnd.Turns →
-        WritesDue result (record {
+        WritesOutput result (record {
           held = K.holds sink.old;
           holds = K.holds sink.new;
           faults = K.faults sink.old;
           faults_now = K.faults sink.new;
-        }) (due_of_fault (told.Turns turns)) }
+        }) (output_of_fault (reported.Turns turns)) }
     ensures link_failed { end ≡ Err ServeEnd.LinkFailed →
         (result ≡ Ending.LinkFailed) × (sink.new ≡ sink.old) }
     ensures stopped { end ≡ Err ServeEnd.Stopped →
@@ -269,7 +269,7 @@ fn tell_end<K: Sink>(
         (result ≡ Ending.Memory) × (sink.new ≡ sink.old) }
 {
     match end {
-        Ok(counts) => tell_counts(alloc, counts, sink),
+        Ok(counts) => print_counts(alloc, counts, sink),
         Err(ServeEnd::Turns) => refuse(alloc, &Fault::Turns { turns }, sink),
         Err(ServeEnd::LinkFailed) => Ending::LinkFailed,
         Err(ServeEnd::Stopped) => Ending::DiskFailed,
@@ -277,9 +277,9 @@ fn tell_end<K: Sink>(
     }
 }
 
-/// Serves as the node of the disk's file over the link until that ends, and tells how many payloads
-/// were in the grammar and how many frames were lost. Behind each event of the node the observer is
-/// told where it stands.
+/// Serves as the node of the disk's file over the link until that ends, and reports how many
+/// payloads were in the grammar and how many frames were lost. After each event of the node the
+/// observer is told where it stands.
 pub fn run_node<S: Source, K: Sink, D: Disk + Drop, L: Link, O: Observer>(
     alloc: Global,
     task: &NodeTask,
@@ -317,8 +317,8 @@ pub fn run_node<S: Source, K: Sink, D: Disk + Drop, L: Link, O: Observer>(
                 turns: task.turns,
             };
             let (end, disk) = serve_replica(alloc, link, replica, observer, &settings);
-            (tell_end(alloc, task.turns, end, sink), disk)
+            (print_end(alloc, task.turns, end, sink), disk)
         }
-        Err((stop, disk)) => (tell_stop(alloc, stop, sink), disk),
+        Err((stop, disk)) => (print_stop(alloc, stop, sink), disk),
     }
 }

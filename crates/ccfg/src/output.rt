@@ -1,8 +1,8 @@
 //! What is written to the sink.
 
 ghost use Rattle.ccfg.specs.declared.plan.Plan.TheVariants.{Play, Show, ShowLedger};
-ghost use Rattle.ccfg.specs.Owed.{WritesDue, due_of_answer, due_of_fault};
-ghost use Rattle.ccfg.specs.Plans.{PlansPlayable, due_of_plan};
+ghost use Rattle.ccfg.specs.ExpectedOutput.{WritesOutput, output_of_answer, output_of_fault};
+ghost use Rattle.ccfg.specs.Plans.{PlansPlayable, output_of_plan};
 ghost use Rattle.gl_schedule.specs.Playable.{IsPlayable};
 ghost use Rattle.gl_schedule.specs.declared.schedule.Schedule.TheVariants.{Service};
 
@@ -21,12 +21,12 @@ use std::alloc::Global;
 
 /// Tells a fault.
 pub fn refuse<K: Sink>(alloc: Global, fault: &Fault, sink: &mut K) -> Ending
-    ensures { WritesDue result (record {
+    ensures { WritesOutput result (record {
       held = K.holds sink.old;
       holds = K.holds sink.new;
       faults = K.faults sink.old;
       faults_now = K.faults sink.new;
-    }) (due_of_fault fault.now) }
+    }) (output_of_fault fault.now) }
 {
     let Ok(line) = fault.line(alloc) else {
         return Ending::Memory;
@@ -40,12 +40,12 @@ pub fn refuse<K: Sink>(alloc: Global, fault: &Fault, sink: &mut K) -> Ending
 
 /// Tells the transaction of a valid receipt.
 fn show<K: Sink>(alloc: Global, id: TxId, sink: &mut K) -> Ending
-    ensures { WritesDue result (record {
+    ensures { WritesOutput result (record {
       held = K.holds sink.old;
       holds = K.holds sink.new;
       faults = K.faults sink.old;
       faults_now = K.faults sink.new;
-    }) (due_of_plan (Show id)) }
+    }) (output_of_plan (Show id)) }
 {
     let Ok(line) = valid_line(alloc, id) else {
         return Ending::Memory;
@@ -59,12 +59,12 @@ fn show<K: Sink>(alloc: Global, id: TxId, sink: &mut K) -> Ending
 
 /// Tells the last transaction of a valid ledger, and that of its last signature.
 fn show_ledger<K: Sink>(alloc: Global, last: TxId, signed: Option<TxId>, sink: &mut K) -> Ending
-    ensures { WritesDue result (record {
+    ensures { WritesOutput result (record {
       held = K.holds sink.old;
       holds = K.holds sink.new;
       faults = K.faults sink.old;
       faults_now = K.faults sink.new;
-    }) (due_of_plan (ShowLedger last signed)) }
+    }) (output_of_plan (ShowLedger last signed)) }
 {
     let Ok(line) = ledger_line(alloc, last, signed) else {
         return Ending::Memory;
@@ -77,13 +77,13 @@ fn show_ledger<K: Sink>(alloc: Global, last: TxId, signed: Option<TxId>, sink: &
 }
 
 /// Tells an answer as it is.
-pub(crate) fn tell<K: Sink>(text: &[u8], sink: &mut K) -> Ending
-    ensures { WritesDue result (record {
+pub(crate) fn write_out<K: Sink>(text: &[u8], sink: &mut K) -> Ending
+    ensures { WritesOutput result (record {
       held = K.holds sink.old;
       holds = K.holds sink.new;
       faults = K.faults sink.old;
       faults_now = K.faults sink.new;
-    }) (due_of_answer text.now) }
+    }) (output_of_answer text.now) }
 {
     match write_whole(sink, text) {
         Ok(()) => Ending::Done,
@@ -96,12 +96,12 @@ pub(crate) fn tell<K: Sink>(text: &[u8], sink: &mut K) -> Ending
 /// memory.
 fn play_service<K: Sink>(alloc: Global, settings: Settings, lines: Lines, sink: &mut K) -> Ending
     requires { IsPlayable (Service settings lines) }
-    ensures { WritesDue result (record {
+    ensures { WritesOutput result (record {
       held = K.holds sink.old;
       holds = K.holds sink.new;
       faults = K.faults sink.old;
       faults_now = K.faults sink.new;
-    }) (due_of_plan (Play (Service settings lines))) }
+    }) (output_of_plan (Play (Service settings lines))) }
 {
     let Ok(nodes) = nodes(alloc, &settings) else {
         return Ending::Memory;
@@ -116,12 +116,12 @@ fn play_service<K: Sink>(alloc: Global, settings: Settings, lines: Lines, sink: 
 /// Plays a schedule; one without a service prints nothing.
 fn perform<K: Sink>(alloc: Global, schedule: Schedule, sink: &mut K) -> Ending
     requires { IsPlayable schedule }
-    ensures { WritesDue result (record {
+    ensures { WritesOutput result (record {
       held = K.holds sink.old;
       holds = K.holds sink.new;
       faults = K.faults sink.old;
       faults_now = K.faults sink.new;
-    }) (due_of_plan (Play schedule)) }
+    }) (output_of_plan (Play schedule)) }
 {
     match schedule {
         Schedule::Empty => Ending::Done,
@@ -132,18 +132,18 @@ fn perform<K: Sink>(alloc: Global, schedule: Schedule, sink: &mut K) -> Ending
 /// Does what a plan says.
 pub fn carry_out<K: Sink>(alloc: Global, plan: Plan, sink: &mut K) -> Ending
     requires { PlansPlayable plan }
-    ensures { WritesDue result (record {
+    ensures { WritesOutput result (record {
       held = K.holds sink.old;
       holds = K.holds sink.new;
       faults = K.faults sink.old;
       faults_now = K.faults sink.new;
-    }) (due_of_plan plan) }
+    }) (output_of_plan plan) }
 {
     match plan {
         Plan::Play(schedule) => perform(alloc, schedule, sink),
         Plan::Show(id) => show(alloc, id, sink),
         Plan::ShowLedger(last, signed) => show_ledger(alloc, last, signed, sink),
-        Plan::Tell(text) => tell(&text, sink),
+        Plan::Print(text) => write_out(&text, sink),
         Plan::Refuse(fault) => refuse(alloc, &fault, sink),
     }
 }

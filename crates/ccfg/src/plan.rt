@@ -2,14 +2,14 @@
 
 ghost use Rattle.std.specs.Prelude.{◌≡◌, ◌≢◌, ℕ, ◌<◌, ◌≤◌, Err, IfErr, IfOk, IsTrue, Some, false, length};
 ghost use Rattle.gl_outside.specs.Fault.{Rose};
-ghost use Rattle.gl_entry.specs.Given.{OfBytes};
+ghost use Rattle.gl_entry.specs.SourceBytes.{OfBytes};
 ghost use Rattle.gl_journal.specs.Durable.{journal_header};
 ghost use Rattle.gl_journal.specs.Parts.{HasGate};
 ghost use Rattle.gl_journal.specs.declared.key.KeyKind.{KeyKind};
 ghost use Rattle.gl_keyfile.specs.declared.leaf.LeafUse.{LeafUse};
 ghost use Rattle.gl_hss.specs.declared.types.Types.{Types};
-ghost use Rattle.ccfg.specs.Owed.{EndsSource, OfShown, bytes_limit, due_of, due_of_schedule, ending_of_stop, leaf_use, uses_disk};
-ghost use Rattle.ccfg.specs.Plans.{IsUntouched, MovesByLeaf, OpensAsBefore, PlansPlayable, TellsFault, TellsSpent, ShowsAccepted, ShowsKept, due_of_plan};
+ghost use Rattle.ccfg.specs.ExpectedOutput.{EndsSource, OfShown, bytes_limit, ending_of_stop, leaf_use, output_of, output_of_schedule, uses_disk};
+ghost use Rattle.ccfg.specs.Plans.{IsUntouched, MovesByLeaf, OpensAsBefore, PlansPlayable, PrintsFault, PrintsSpent, ShowsAccepted, ShowsKept, output_of_plan};
 ghost use Rattle.gl_commands.specs.declared.task.Task.TheVariants.{Keygen};
 
 use crate::deal::read_dealing_plan;
@@ -17,9 +17,9 @@ use crate::ending::Ending;
 use crate::fault::Fault;
 use crate::keygen::keygen_plan;
 use crate::ledger_plan::read_ledger_plan;
-use crate::recovering::recovering_plan;
-use crate::signing::signing_plan;
-use crate::source_bytes::{ReadStop, read_whole};
+use crate::recovery::recovering_plan;
+use crate::signature::signing_plan;
+use crate::source_bytes::{ReadError, read_whole};
 use crate::verify::read_receipt_plan;
 use gl_base::{OrNoMemory, TxId};
 use gl_commands::Task;
@@ -45,37 +45,37 @@ pub enum Plan {
     ShowLedger(TxId, Option<TxId>),
     /// To tell what is made already: a dealing, the public form of a key that is kept, or what is
     /// signed with a leaf that is spent.
-    Tell(Vec<u8>),
-    /// To tell a fault.
+    Print(Vec<u8>),
+    /// To report a fault.
     Refuse(Fault),
 }
 
 /// Why there is no plan.
 #[derive(Clone, Copy, Debug, PartialEq, Eq)]
-pub enum PlanStop {
+pub enum PlanError {
     Memory,
     SourceFailed,
     DiskFailed,
 }
 
-impl PlanStop {
+impl PlanError {
     /// How a run ends that has no plan.
     pub fn ending(self) -> Ending
         ensures { result ≡ ending_of_stop self }
     {
         match self {
-            PlanStop::Memory => Ending::Memory,
-            PlanStop::SourceFailed => Ending::SourceFailed,
-            PlanStop::DiskFailed => Ending::DiskFailed,
+            PlanError::Memory => Ending::Memory,
+            PlanError::SourceFailed => Ending::SourceFailed,
+            PlanError::DiskFailed => Ending::DiskFailed,
         }
     }
 }
 
 /// What there is to do with a schedule's text within the limit on bytes.
-#[tactic(auto, unfolding(crate::specs::Owed::due_of_schedule))]
+#[tactic(auto, unfolding(crate::specs::ExpectedOutput::output_of_schedule))]
 fn schedule_plan(alloc: Global, text: &[u8]) -> Result<Plan, AllocError>
     requires { length text.now ≤ bytes_limit }
-    ensures due { IfOk result (λ plan. due_of_schedule text.now ≡ due_of_plan plan) }
+    ensures output { IfOk result (λ plan. output_of_schedule text.now ≡ output_of_plan plan) }
     ensures playable { IfOk result (λ plan. PlansPlayable plan) }
 {
     if line_count(text) > LINES_LIMIT {
@@ -91,23 +91,23 @@ fn schedule_plan(alloc: Global, text: &[u8]) -> Result<Plan, AllocError>
 }
 
 /// What there is to do with what a source gives, which is to be a schedule.
-fn read_schedule_plan<S: Source>(alloc: Global, source: &mut S) -> Result<Plan, PlanStop>
-    ensures due { IfOk result (λ plan.
-        OfBytes (S.left source.old) (λ given. due_of_schedule given ≡ due_of_plan plan)) }
-    ensures ended { IfOk result (λ plan. EndsSource (due_of_plan plan) (S.ended source.new)) }
+fn read_schedule_plan<S: Source>(alloc: Global, source: &mut S) -> Result<Plan, PlanError>
+    ensures output { IfOk result (λ plan.
+        OfBytes (S.left source.old) (λ given. output_of_schedule given ≡ output_of_plan plan)) }
+    ensures ended { IfOk result (λ plan. EndsSource (output_of_plan plan) (S.ended source.new)) }
     ensures playable { IfOk result (λ plan. PlansPlayable plan) }
-    ensures failed { result ≡ Err PlanStop.SourceFailed →
+    ensures failed { result ≡ Err PlanError.SourceFailed →
         Rose (S.faults source.old) (S.faults source.new) }
-    ensures no_disk { result ≢ Err PlanStop.DiskFailed }
+    ensures no_disk { result ≢ Err PlanError.DiskFailed }
 {
     match read_whole(alloc, BYTES_LIMIT, source) {
         Ok(text) => match schedule_plan(alloc, &text) {
             Ok(plan) => Ok(plan),
-            Err(_) => Err(PlanStop::Memory),
+            Err(_) => Err(PlanError::Memory),
         },
-        Err(ReadStop::TooLong) => Ok(Plan::Refuse(Fault::TooManyBytes)),
-        Err(ReadStop::Memory) => Err(PlanStop::Memory),
-        Err(ReadStop::Failed) => Err(PlanStop::SourceFailed),
+        Err(ReadError::TooLong) => Ok(Plan::Refuse(Fault::TooManyBytes)),
+        Err(ReadError::Memory) => Err(PlanError::Memory),
+        Err(ReadError::Failed) => Err(PlanError::SourceFailed),
     }
 }
 
@@ -117,19 +117,19 @@ pub fn read_plan<S: Source, D: Disk>(
     task: &Task,
     source: &mut S,
     disk: D,
-) -> (Result<Plan, PlanStop>, D)
-    ensures due { IfOk result.0 (λ plan. OfShown D.honest (D.bytes disk) (λ shown.
-        OfBytes (S.left source.old) (λ given. due_of task.now shown given ≡ due_of_plan plan))) }
+) -> (Result<Plan, PlanError>, D)
+    ensures output { IfOk result.0 (λ plan. OfShown D.honest (D.bytes disk) (λ shown.
+        OfBytes (S.left source.old) (λ given. output_of task.now shown given ≡ output_of_plan plan))) }
     ensures sound { IfOk result.0 (λ plan.
         OfBytes (S.left source.old) (λ given. ShowsAccepted task.now given plan)) }
-    ensures ended { IfOk result.0 (λ plan. EndsSource (due_of_plan plan) (S.ended source.new)) }
+    ensures ended { IfOk result.0 (λ plan. EndsSource (output_of_plan plan) (S.ended source.new)) }
     ensures playable { IfOk result.0 (λ plan. PlansPlayable plan) }
-    ensures failed { result.0 ≡ Err PlanStop.SourceFailed →
+    ensures failed { result.0 ≡ Err PlanError.SourceFailed →
         Rose (S.faults source.old) (S.faults source.new) }
-    ensures disk_failed { result.0 ≡ Err PlanStop.DiskFailed →
+    ensures disk_failed { result.0 ≡ Err PlanError.DiskFailed →
         Rose (D.faults disk) (D.faults result.1) }
     ensures disk { uses_disk task.now ≡ false →
-        (result.1 ≡ disk) × (result.0 ≢ Err PlanStop.DiskFailed) }
+        (result.1 ≡ disk) × (result.0 ≢ Err PlanError.DiskFailed) }
 
     // A key that is to begin.
     ensures kept { IsTrue D.honest → (kind : KeyKind) (types : Types) →
@@ -141,20 +141,20 @@ pub fn read_plan<S: Source, D: Disk>(
     ensures unread { IsTrue D.honest → 0 < length (D.bytes disk) → (kind : KeyKind)
         (types : Types) → task.now ≡ Keygen kind types → source.new ≡ source.old }
     ensures refused { IsTrue D.honest → (kind : KeyKind) (types : Types) →
-        task.now ≡ Keygen kind types → IfOk result.0 (λ plan. TellsFault plan →
+        task.now ≡ Keygen kind types → IfOk result.0 (λ plan. PrintsFault plan →
         IsUntouched D.bytes D.past disk result.1) }
     ensures stopped { IsTrue D.honest → (kind : KeyKind) (types : Types) →
-        task.now ≡ Keygen kind types → result.0 ≡ Err PlanStop.SourceFailed →
+        task.now ≡ Keygen kind types → result.0 ≡ Err PlanError.SourceFailed →
         IsUntouched D.bytes D.past disk result.1 }
 
     // Something that is to be signed with a leaf of the file's key.
     ensures spent { IsTrue D.honest → (leaf : LeafUse) → leaf_use task.now ≡ Some leaf →
-        IfOk result.0 (λ plan. TellsSpent leaf (D.bytes disk) (D.past result.1) plan) }
+        IfOk result.0 (λ plan. PrintsSpent leaf (D.bytes disk) (D.past result.1) plan) }
     ensures unspent { IsTrue D.honest → (leaf : LeafUse) → leaf_use task.now ≡ Some leaf →
-        IfOk result.0 (λ plan. TellsFault plan →
+        IfOk result.0 (λ plan. PrintsFault plan →
         OpensAsBefore (D.bytes disk) (D.bytes result.1)) }
     ensures unspent_stopped { IsTrue D.honest → (leaf : LeafUse) →
-        leaf_use task.now ≡ Some leaf → result.0 ≡ Err PlanStop.SourceFailed →
+        leaf_use task.now ≡ Some leaf → result.0 ≡ Err PlanError.SourceFailed →
         OpensAsBefore (D.bytes disk) (D.bytes result.1) }
     ensures any_moment { IsTrue D.honest → HasGate journal_header (D.bytes disk) →
         (leaf : LeafUse) → leaf_use task.now ≡ Some leaf →

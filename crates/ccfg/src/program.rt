@@ -5,7 +5,7 @@ ghost use Rattle.std.specs.String.{string_bytes};
 ghost use Rattle.std.specs.Io.KnownBytes.{Keeps};
 ghost use Rattle.clap.specs.Kinds.{Kinds};
 ghost use Rattle.gl_outside.specs.Fault.{Rose};
-ghost use Rattle.gl_outside.specs.Sink.{AppendsFront};
+ghost use Rattle.gl_outside.specs.Sink.{AppendsPrefix};
 ghost use Rattle.gl_journal.specs.Durable.{journal_header};
 ghost use Rattle.gl_journal.specs.Parts.{HasGate};
 ghost use Rattle.gl_journal.specs.declared.key.KeyKind.{KeyKind};
@@ -19,11 +19,11 @@ ghost use Rattle.gl_commands.specs.declared.task.Asked.TheVariants as asks;
 ghost use Rattle.gl_commands.specs.declared.task.LoadTask.{LoadTask as LoadTasks};
 ghost use Rattle.gl_commands.specs.declared.task.NodeTask.{NodeTask as NodeTasks};
 ghost use Rattle.ccfg.specs.Nodes.{MovesNode, NodeRuns};
-ghost use Rattle.gl_schedule.specs.Moments.{KeepsHeadline, TellsMoments};
-ghost use Rattle.gl_entry.specs.Given.{OfBytes};
-ghost use Rattle.ccfg.specs.Owed.{Answers, AsksTaskOrNothing, EndsSource, OfShown, Runs, WritesDue, due_of, due_of_load, exit_status, leaf_use, task_of, uses_disk};
+ghost use Rattle.gl_schedule.specs.Moments.{KeepsHeadline, PrintsMoments};
+ghost use Rattle.gl_entry.specs.SourceBytes.{OfBytes};
+ghost use Rattle.ccfg.specs.ExpectedOutput.{Answers, AsksTaskOrNothing, EndsSource, OfShown, Runs, WritesOutput, exit_status, leaf_use, output_of, output_of_load, task_of, uses_disk};
 ghost use Rattle.ccfg.specs.Plans.{IsUntouched, KeepsKey, MovesByLeaf, OpensAsBefore, SpendsLeaf};
-ghost use Rattle.ccfg.specs.Promises.{IsAnswer, IsFaultLine, IsKindLine, IsPastLimit, IsRefusal, IsNoReading, Tells, TellsAccepted, TellsFront};
+ghost use Rattle.ccfg.specs.Promises.{IsAnswer, IsFaultLine, IsKindLine, IsPastLimit, IsRefusal, IsNoReading, Reports, PrintsAccepted, PrintsPrefix};
 ghost use Rattle.gl_schedule.specs.Schedules.{reads};
 ghost use Rattle.gl_commands.specs.Words.{asked};
 
@@ -34,7 +34,7 @@ use crate::node::run_node;
 use crate::output::{carry_out, refuse};
 use crate::plan::read_plan;
 use gl_commands::{Asked, Task, WordsFault, read_words};
-use gl_load::Onlooker;
+use gl_load::LoadObserver;
 use gl_outside::{Disk, Gate, Link, Sink, Source};
 use gl_serve::Observer;
 use std::alloc::Global;
@@ -50,7 +50,7 @@ fn execute<S: Source, K: Sink, D: Disk>(
     ensures disk { uses_disk task.now ≡ false → (result.1 ≡ disk) × (result.0 ≢ DiskFailed) }
     ensures accepted { result.0 ≡ Done → (identity : List ℕ)
         → task.now ≡ Verify identity → OfBytes (S.left source.old) (λ given.
-        TellsAccepted identity given (K.holds sink.old) (K.holds sink.new)) }
+        PrintsAccepted identity given (K.holds sink.old) (K.holds sink.new)) }
     ensures kept { result.0 ≡ Done → IsTrue D.honest → (kind : KeyKind) (types : Types)
         → task.now ≡ Keygen kind types → OfBytes (S.left source.old)
         (KeepsKey kind types (D.past result.1)) }
@@ -68,7 +68,7 @@ fn execute<S: Source, K: Sink, D: Disk>(
     ensures spent { IsTrue D.honest
         → (result.0 ≡ Done) ⊎ (result.0 ≡ SinkFailed) ⊎ (result.0 ≡ Memory) → (leaf : LeafUse)
         → leaf_use task.now ≡ Some leaf → SpendsLeaf leaf (D.bytes disk) (D.past result.1)
-        ⊎ TellsFront IsFaultLine (K.holds sink.old) (K.holds sink.new) }
+        ⊎ PrintsPrefix IsFaultLine (K.holds sink.old) (K.holds sink.new) }
     ensures any_moment { IsTrue D.honest → HasGate journal_header (D.bytes disk)
         → (leaf : LeafUse) → leaf_use task.now ≡ Some leaf
         → MovesByLeaf leaf (D.bytes disk) (D.past disk) (D.past result.1) }
@@ -92,7 +92,7 @@ fn execute<S: Source, K: Sink, D: Disk>(
         faults = K.faults sink.old;
         faults_now = K.faults sink.new;
       };
-    }) (due_of task.now) }
+    }) (output_of task.now) }
 {
     let (plan, disk) = read_plan(alloc, task, source, disk);
     match plan {
@@ -101,7 +101,7 @@ fn execute<S: Source, K: Sink, D: Disk>(
     }
 }
 
-fn run<S: Source, K: Sink, D: Disk + Drop, L: Link, O: Observer + Onlooker>(
+fn run<S: Source, K: Sink, D: Disk + Drop, L: Link, O: Observer + LoadObserver>(
     alloc: Global,
     words: &[String],
     source: &mut S,
@@ -118,7 +118,7 @@ fn run<S: Source, K: Sink, D: Disk + Drop, L: Link, O: Observer + Onlooker>(
     ensures accepted { result.0 ≡ Done → (identity : List ℕ)
         → asked (map string_bytes words.now) ≡ Ok (asks.Task (Verify identity))
         → OfBytes (S.left source.old) (λ given.
-        TellsAccepted identity given (K.holds sink.old) (K.holds sink.new)) }
+        PrintsAccepted identity given (K.holds sink.old) (K.holds sink.new)) }
     ensures kept { result.0 ≡ Done → IsTrue D.honest → (kind : KeyKind) (types : Types)
         → asked (map string_bytes words.now) ≡ Ok (asks.Task (Keygen kind types))
         → OfBytes (S.left source.old)
@@ -142,7 +142,7 @@ fn run<S: Source, K: Sink, D: Disk + Drop, L: Link, O: Observer + Onlooker>(
         → (task : Tasks) (leaf : LeafUse)
         → asked (map string_bytes words.now) ≡ Ok (asks.Task task) → leaf_use task ≡ Some leaf
         → SpendsLeaf leaf (D.bytes disk) (D.past result.1)
-        ⊎ TellsFront IsFaultLine (K.holds sink.old) (K.holds sink.new) }
+        ⊎ PrintsPrefix IsFaultLine (K.holds sink.old) (K.holds sink.new) }
     ensures any_moment { IsTrue D.honest → HasGate journal_header (D.bytes disk)
         → (task : Tasks) (leaf : LeafUse)
         → asked (map string_bytes words.now) ≡ Ok (asks.Task task) → leaf_use task ≡ Some leaf
@@ -192,12 +192,12 @@ fn run<S: Source, K: Sink, D: Disk + Drop, L: Link, O: Observer + Onlooker>(
         → (node : NodeTasks) → asked (map string_bytes words.now) ≡ Ok (asks.Node node)
         → MovesNode (D.bytes disk) (D.past disk) (D.past result.1) }
     ensures load { (load : LoadTasks) → asked (map string_bytes words.now) ≡ Ok (asks.Load load) →
-        WritesDue result.0 (record {
+        WritesOutput result.0 (record {
           held = K.holds sink.old;
           holds = K.holds sink.new;
           faults = K.faults sink.old;
           faults_now = K.faults sink.new;
-        }) (due_of_load load) }
+        }) (output_of_load load) }
     ensures load_alone { (load : LoadTasks)
         → asked (map string_bytes words.now) ≡ Ok (asks.Load load)
         → (source.new ≡ source.old) × (result.1 ≡ disk) × (link.new ≡ link.old) }
@@ -221,25 +221,25 @@ fn run<S: Source, K: Sink, D: Disk + Drop, L: Link, O: Observer + Onlooker>(
 /// its dealing, 64 bytes, among the members N.., and prints the action that sets this dealing, and
 /// each member's share; `endorse`, `genesis` and `sign --identity HEX --member N` sign what the
 /// source gives with the key of the disk's file, and print a node's endorsed key, the ledger that
-/// opens a service, or the request of member N to the service with the key HEX; `recover` founds a
-/// service anew by the settings that the source gives and behind the ledger that stands there
-/// behind them, with the key of the disk's file, and prints the ledger that opens it; `node --ticks
-/// N --workers 0 --turns N ID..` serves as the node of the disk's file over the link, with the
-/// peers ID.., until the link ends, and prints how many payloads it served and how many frames were
-/// lost; `load --count N --seed HEX` makes a ledger of N requests on one node over a disk in
-/// memory, audits it, and prints what it comes to. Behind each event of the node the observer is
-/// told where it stands, and behind each request of a load how many were taken. The answer is the
-/// exit status, and the disk: 0 done, 1 the receipt or the ledger is not valid, the disk is not
-/// empty, a secret can't be dealt so, nothing is signed or no service is founded anew, 2 other
-/// words, 3 the source failed, 4 the sink failed, 5 the disk failed, 6 the link failed, 7 want of
-/// memory, 8 a limit is passed, 9 no schedule, no receipt, no seed, no secret with its seed,
-/// nothing to sign or no settings. No command uses the gate yet.
+/// opens a service, or the request of member N to the service with the key HEX; `recover` recovers
+/// a service by the settings that the source gives and after the ledger that stands there after
+/// them, with the key of the disk's file, and prints the ledger that opens it; `node --ticks N
+/// --workers 0 --turns N ID..` serves as the node of the disk's file over the link, with the peers
+/// ID.., until the link ends, and prints how many payloads it served and how many frames were lost;
+/// `load --count N --seed HEX` makes a ledger of N requests on one node over a disk in memory,
+/// audits it, and prints what it comes to. After each event of the node the observer is told where
+/// it stands, and after each request of a load how many were taken. The answer is the exit status,
+/// and the disk: 0 done, 1 the receipt or the ledger is not valid, the disk is not empty, a secret
+/// can't be dealt so, nothing is signed or no service is recovered, 2 other words, 3 the source
+/// failed, 4 the sink failed, 5 the disk failed, 6 the link failed, 7 out of memory, 8 a limit is
+/// passed, 9 no schedule, no receipt, no seed, no secret with its seed, nothing to sign or no
+/// settings. No command uses the gate yet.
 pub fn top<
     S: Source,
     K: Sink,
     D: Disk + Drop + Send,
     L: Link,
-    O: Observer + Onlooker,
+    O: Observer + LoadObserver,
     G: Gate + Sync,
 >(
     alloc: Global,
@@ -278,13 +278,13 @@ pub fn top<
         → result.0 ≡ 0 → (task : Tasks) × (asked (map string_bytes words.now) ≡ Ok (asks.Task task))
         × (S.ended source.new ≡ true)
         × OfShown D.honest (D.bytes disk) (λ shown. OfBytes (S.left source.old) (λ given.
-        Tells (IsAnswer task shown given) (K.holds sink.old) (K.holds sink.new))) }
-    // 0, for `verify`: the bytes are a receipt that is accepted for the transaction that is told
-    // under the key.
+        Reports (IsAnswer task shown given) (K.holds sink.old) (K.holds sink.new))) }
+    // 0, for `verify`: the bytes are a receipt that is accepted for the transaction that is
+    // reported under the key.
     ensures accepted { result.0 ≡ 0 → (identity : List ℕ)
         → asked (map string_bytes words.now) ≡ Ok (asks.Task (Verify identity))
         → OfBytes (S.left source.old) (λ given.
-        TellsAccepted identity given (K.holds sink.old) (K.holds sink.new)) }
+        PrintsAccepted identity given (K.holds sink.old) (K.holds sink.new)) }
     // 0, for `keygen` on an honest disk: whatever a stop leaves of the disk opens to the key of
     // this kind and these types with the source's bytes as its seed, and to nothing else.
     ensures kept { result.0 ≡ 0 → IsTrue D.honest → (kind : KeyKind) (types : Types)
@@ -295,13 +295,13 @@ pub fn top<
     ensures signed { result.0 ≡ 0 → IsTrue D.honest → (task : Tasks) (leaf : LeafUse)
         → asked (map string_bytes words.now) ≡ Ok (asks.Task task) → leaf_use task ≡ Some leaf
         → SpendsLeaf leaf (D.bytes disk) (D.past result.1) }
-    // 0, 4 and 7: so it is there too, unless what was written is a front of a fault's line, or
+    // 0, 4 and 7: so it is there too, unless what was written is a prefix of a fault's line, or
     // nothing.
     ensures spent { IsTrue D.honest → (result.0 ≡ 0) ⊎ (result.0 ≡ 4) ⊎ (result.0 ≡ 7)
         → (task : Tasks) (leaf : LeafUse)
         → asked (map string_bytes words.now) ≡ Ok (asks.Task task) → leaf_use task ≡ Some leaf
         → SpendsLeaf leaf (D.bytes disk) (D.past result.1)
-        ⊎ TellsFront IsFaultLine (K.holds sink.old) (K.holds sink.new) }
+        ⊎ PrintsPrefix IsFaultLine (K.holds sink.old) (K.holds sink.new) }
     // Whatever the status: where something is to be signed, and the file of an honest disk has its
     // closed gate and opens to a state, then at every moment each image that a stop may leave is
     // one that it might have left before, or opens to that state, or to the one with the next leaf
@@ -310,22 +310,22 @@ pub fn top<
         → (task : Tasks) (leaf : LeafUse)
         → asked (map string_bytes words.now) ≡ Ok (asks.Task task) → leaf_use task ≡ Some leaf
         → MovesByLeaf leaf (D.bytes disk) (D.past disk) (D.past result.1) }
-    // 1: the words ask for a task, and exactly the line was written that tells why the bytes'
+    // 1: the words ask for a task, and exactly the line was written that reports why the bytes'
     // receipt or ledger is not valid, that the disk isn't empty, that the secret can't be dealt so,
-    // why nothing is signed, or why no service is founded anew. The source gave its end, unless the
+    // why nothing is signed, or why no service is recovered. The source gave its end, unless the
     // line tells an entry that breaks a rule, of the disk, or of the settings of a service that is
-    // to be founded anew: then nothing is said of the end.
+    // to be recovered: then nothing is said of the end.
     ensures not_valid { AsksTaskOrNothing (map string_bytes words.now)
         → result.0 ≡ 1 → (task : Tasks)
         × (asked (map string_bytes words.now) ≡ Ok (asks.Task task))
         × OfShown D.honest (D.bytes disk) (λ shown. OfBytes (S.left source.old) (λ given.
-        EndsSource (due_of task shown given) (S.ended source.new)
-        × Tells (IsRefusal task shown given) (K.holds sink.old) (K.holds sink.new))) }
+        EndsSource (output_of task shown given) (S.ended source.new)
+        × Reports (IsRefusal task shown given) (K.holds sink.old) (K.holds sink.new))) }
     // 2: the words ask for nothing, and exactly the line of a kind of their fault was written.
     ensures words { AsksTaskOrNothing (map string_bytes words.now)
         → result.0 ≡ 2 → (kinds : Kinds)
         × (asked (map string_bytes words.now) ≡ Err kinds)
-        × Tells (IsKindLine kinds) (K.holds sink.old) (K.holds sink.new) }
+        × Reports (IsKindLine kinds) (K.holds sink.old) (K.holds sink.new) }
     // 3: the words ask for a task, the source failed, by its count of faults, and nothing was
     // written.
     ensures source_failed { AsksTaskOrNothing (map string_bytes words.now)
@@ -336,11 +336,11 @@ pub fn top<
     // 4: the sink failed, by its count of faults.
     ensures sink_failed { AsksTaskOrNothing (map string_bytes words.now)
         → result.0 ≡ 4 → Rose (K.faults sink.old) (K.faults sink.new) }
-    // 4 and 7: a front of what is due was written.
-    ensures front { (result.0 ≡ 4) ⊎ (result.0 ≡ 7) → (task : Tasks)
+    // 4 and 7: a prefix of the expected output was written.
+    ensures prefix { (result.0 ≡ 4) ⊎ (result.0 ≡ 7) → (task : Tasks)
         → asked (map string_bytes words.now) ≡ Ok (asks.Task task)
         → OfShown D.honest (D.bytes disk) (λ shown. OfBytes (S.left source.old) (λ given.
-        AppendsFront (K.holds sink.old) (K.holds sink.new) (due_of task shown given).text)) }
+        AppendsPrefix (K.holds sink.old) (K.holds sink.new) (output_of task shown given).text)) }
     // 5: the words ask for a task that uses the disk, the disk failed, by its count of faults, and
     // nothing was written.
     ensures disk_failed { AsksTaskOrNothing (map string_bytes words.now)
@@ -351,21 +351,21 @@ pub fn top<
     ensures limits { AsksTaskOrNothing (map string_bytes words.now)
         → result.0 ≡ 8 → (task : Tasks) × (asked (map string_bytes words.now) ≡ Ok (asks.Task task))
         × OfShown D.honest (D.bytes disk) (λ shown. OfBytes (S.left source.old) (λ given.
-        Tells (IsPastLimit task shown given) (K.holds sink.old) (K.holds sink.new))) }
+        Reports (IsPastLimit task shown given) (K.holds sink.old) (K.holds sink.new))) }
     // 9: the bytes are within the limits and have no reading, and exactly the line was written that
     // tells where.
     ensures no_reading { AsksTaskOrNothing (map string_bytes words.now)
         → result.0 ≡ 9 → (task : Tasks)
         × (asked (map string_bytes words.now) ≡ Ok (asks.Task task))
         × OfShown D.honest (D.bytes disk) (λ shown. OfBytes (S.left source.old) (λ given.
-        Tells (IsNoReading task shown given) (K.holds sink.old) (K.holds sink.new))) }
+        Reports (IsNoReading task shown given) (K.holds sink.old) (K.holds sink.new))) }
     // 6: only `node` ends so.
     ensures never { AsksTaskOrNothing (map string_bytes words.now) → result.0 ≢ 6 }
-    // Words that ask for nothing: 2 and the line of a kind of their fault, or 4 or 7 and a front.
+    // Words that ask for nothing: 2 and the line of a kind of their fault, or 4 or 7 and a prefix.
     ensures other_words { (kinds : Kinds) → asked (map string_bytes words.now) ≡ Err kinds
-        → (result.0 ≡ 2) × Tells (IsKindLine kinds) (K.holds sink.old) (K.holds sink.new)
+        → (result.0 ≡ 2) × Reports (IsKindLine kinds) (K.holds sink.old) (K.holds sink.new)
         ⊎ ((result.0 ≡ 4) ⊎ (result.0 ≡ 7))
-        × TellsFront (IsKindLine kinds) (K.holds sink.old) (K.holds sink.new) }
+        × PrintsPrefix (IsKindLine kinds) (K.holds sink.old) (K.holds sink.new) }
     // They leave the source unread: it is as it was.
     ensures source { (kinds : Kinds) → asked (map string_bytes words.now) ≡ Err kinds
         → source.new ≡ source.old }
@@ -402,7 +402,7 @@ pub fn top<
         (text : List ℕ) → IsAnswer task shown given text
         → (result.0 ≡ 0) ⊎ (result.0 ≡ 3) ⊎ (result.0 ≡ 4) ⊎ (result.0 ≡ 5) ⊎ (result.0 ≡ 7))) }
     // a receipt or a ledger that is not valid, a disk that isn't empty, members among whom a secret
-    // can't be dealt so, what isn't signed, or what founds no service anew, gives 1,
+    // can't be dealt so, what isn't signed, or what recovers no service, gives 1,
     ensures refused { (task : Tasks) → asked (map string_bytes words.now) ≡ Ok (asks.Task task)
         → OfShown D.honest (D.bytes disk) (λ shown. IfSome (S.left source.old) (λ given.
         (text : List ℕ) → IsRefusal task shown given text
@@ -417,13 +417,13 @@ pub fn top<
         → OfShown D.honest (D.bytes disk) (λ shown. IfSome (S.left source.old) (λ given.
         (text : List ℕ) → IsNoReading task shown given text
         → (result.0 ≡ 9) ⊎ (result.0 ≡ 3) ⊎ (result.0 ≡ 4) ⊎ (result.0 ≡ 5) ⊎ (result.0 ≡ 7))) }
-    // A source, a sink and a disk that don't fail: the status that is owed, or want of memory.
+    // A source, a sink and a disk that don't fail: the expected status, or running out of memory.
     ensures complete { (task : Tasks) → asked (map string_bytes words.now) ≡ Ok (asks.Task task)
         → (Rose (S.faults source.old) (S.faults source.new) → ⊥)
         → (Rose (K.faults sink.old) (K.faults sink.new) → ⊥)
         → (Rose (D.faults disk) (D.faults result.1) → ⊥)
         → OfShown D.honest (D.bytes disk) (λ shown. IfSome (S.left source.old) (λ given.
-        (result.0 ≡ exit_status (due_of task shown given).ending) ⊎ (result.0 ≡ 7))) }
+        (result.0 ≡ exit_status (output_of task shown given).ending) ⊎ (result.0 ≡ 7))) }
     // `node`: it began by its file and the source, what it did over the link came to this end, and
     // so the run ends and writes.
     ensures node { (node : NodeTasks) → asked (map string_bytes words.now) ≡ Ok (asks.Node node) →
@@ -453,19 +453,19 @@ pub fn top<
     // `load`: the lines that tell of its ledger are written, or that the count passes the limit,
     // and the run ends so.
     ensures load { (load : LoadTasks) → asked (map string_bytes words.now) ≡ Ok (asks.Load load) →
-        (e : Endings) × (result.0 ≡ exit_status e) × WritesDue e (record {
+        (e : Endings) × (result.0 ≡ exit_status e) × WritesOutput e (record {
           held = K.holds sink.old;
           holds = K.holds sink.new;
           faults = K.faults sink.old;
           faults_now = K.faults sink.new;
-        }) (due_of_load load) }
+        }) (output_of_load load) }
     // It uses neither the source, nor the disk, nor the link.
     ensures load_alone { (load : LoadTasks)
         → asked (map string_bytes words.now) ≡ Ok (asks.Load load)
         → (source.new ≡ source.old) × (result.1 ≡ disk) × (link.new ≡ link.old) }
     // Whatever bytes are read: each line of their schedule, if they are one, is told in a moment of
     // the events of which the headline speaks.
-    ensures moments { (given : List ℕ) → TellsMoments (reads given) }
+    ensures moments { (given : List ℕ) → PrintsMoments (reads given) }
     // Whatever bytes are read: of the service of their schedule, if they are one, the headline
     // holds.
     ensures headline { (given : List ℕ) → KeepsHeadline (reads given) }

@@ -25,12 +25,12 @@ use std::marker::Model;
 
 mod copies;
 mod event;
-mod opening;
+mod opening_stores;
 mod start;
 
 pub use start::nodes;
 
-/// Want of memory, which is the one error that there can be.
+/// Running out of memory, which is the one error that there can be.
 fn only_memory<F: Copy>(error: OrNoMemory<F>) -> AllocError
     requires { (fault : F) → error ≢ OrNoMemory.Fault fault }
 {
@@ -40,7 +40,7 @@ fn only_memory<F: Copy>(error: OrNoMemory<F>) -> AllocError
     }
 }
 
-/// A node's file with these bytes, opened on a disk of its own. Fails for want of memory alone.
+/// A node's file with these bytes, opened on a disk of its own. Fails only where memory runs out.
 fn open_file(alloc: Global, bytes: &[u8]) -> Result<NodeFile<SureDisk>, AllocError>
     requires { (state : State) × OpensToNode bytes.now state }
     ensures { IfOk result (λ file. OpensToNode bytes.now file.state
@@ -84,7 +84,10 @@ impl Model for FileNode {
 
 impl FileNode {
     /// An event of the node. The disk never fails, so the node never stops.
-    fn serve(&mut self, event: NodeEvent<StoreBook>) -> Result<Done<StoreBook>, Refusal<StoreBook>>
+    fn dispatch(
+        &mut self,
+        event: NodeEvent<StoreBook>,
+    ) -> Result<Done<StoreBook>, Refusal<StoreBook>>
         requires { has_few_entries event ≡ true }
         ensures steps { IfOk result (λ done.
             Steps StandsOverFile (rule_of event) self.old done self.new) }
@@ -100,10 +103,10 @@ impl FileNode {
         }
     }
 
-    /// The node stops, and what its file holds is opened anew.
+    /// The node stops, and what its file holds is opened again.
     fn restart(&mut self) -> Result<Done<StoreBook>, Refusal<StoreBook>>
         // It is the node that the file gives.
-        ensures anew { IfOk result (λ done. (state : State) →
+        ensures again { IfOk result (λ done. (state : State) →
             opened self.old.disk.bytes.items ≡ Ok state →
             StandsForFile state self.new.core (λ b. restarted_node b state)) }
         ensures steps { IfOk result (λ done.
@@ -137,7 +140,7 @@ impl WorldNode for FileNode {
         self.replica.core()
     }
 
-    fn happen(
+    fn apply_event(
         &mut self,
         ids: &[NodeId],
         sent: &[Message],
@@ -147,7 +150,7 @@ impl WorldNode for FileNode {
         match node_event(alloc, ids, sent, event) {
             Err(_) => Err(Refusal::NoMemory),
             Ok(None) => self.restart(),
-            Ok(Some(event)) => self.serve(event),
+            Ok(Some(event)) => self.dispatch(event),
         }
     }
 }

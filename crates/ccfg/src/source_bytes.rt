@@ -2,7 +2,7 @@
 
 ghost use Rattle.std.specs.Prelude.{◌≡◌, ◌≤◌, ◌<◌, ◌^◌, length, true, Err, IfOk, IfSome, OnOk};
 ghost use Rattle.gl_outside.specs.Fault.{Rose};
-ghost use Rattle.gl_entry.specs.Given.{OfBytes};
+ghost use Rattle.gl_entry.specs.SourceBytes.{OfBytes};
 
 use gl_outside::{Got, Source};
 use std::alloc::Global;
@@ -12,7 +12,7 @@ pub const JSON_LIMIT: usize = 1_048_576;
 
 /// Why a source was not read whole.
 #[derive(Clone, Copy, Debug, PartialEq, Eq)]
-pub enum ReadStop {
+pub enum ReadError {
     Memory,
     /// The source failed.
     Failed,
@@ -25,14 +25,14 @@ pub fn read_whole<S: Source>(
     alloc: Global,
     limit: usize,
     source: &mut S,
-) -> Result<Vec<u8>, ReadStop>
+) -> Result<Vec<u8>, ReadError>
     requires { limit < 2 ^ 62 }
     ensures whole { IfOk result (λ text. IfSome (S.left source.old) (λ given. text.items ≡ given)) }
     ensures ended { OnOk result (S.ended source.new ≡ true) }
     ensures within { IfOk result (λ text. length text.items ≤ limit) }
-    ensures long { result ≡ Err ReadStop.TooLong →
+    ensures long { result ≡ Err ReadError.TooLong →
         OfBytes (S.left source.old) (λ given. limit < length given) }
-    ensures failed { result ≡ Err ReadStop.Failed →
+    ensures failed { result ≡ Err ReadError.Failed →
         Rose (S.faults source.old) (S.faults source.new) }
     ensures never_falls { S.faults source.old ≤ S.faults source.new }
 {
@@ -42,14 +42,14 @@ pub fn read_whole<S: Source>(
         match source.read(&mut buffer) {
             Got::Bytes(0) | Got::End => return Ok(text),
             Got::Bytes(count) => {
-                let (front, _) = buffer.split_at(count);
-                match text.extend_from_slice(front) {
+                let (prefix, _) = buffer.split_at(count);
+                match text.extend_from_slice(prefix) {
                     Ok(()) => {}
-                    Err(_) => return Err(ReadStop::Memory),
+                    Err(_) => return Err(ReadError::Memory),
                 }
             }
-            Got::Failed => return Err(ReadStop::Failed),
+            Got::Failed => return Err(ReadError::Failed),
         }
     }
-    Err(ReadStop::TooLong)
+    Err(ReadError::TooLong)
 }

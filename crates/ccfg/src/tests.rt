@@ -1,9 +1,9 @@
 //! Runs of the whole program, over objects in memory.
 
 use crate::program::top;
-use gl_load::Onlooker;
+use gl_load::LoadObserver;
 use gl_outside::{Disk, OpenGate, Sink, Source, SureDisk, SureLink, SureSink, SureSource};
-use gl_serve::{Observer, Standing};
+use gl_serve::{NodeStatus, Observer};
 use std::alloc::{AllocError, Global};
 
 mod audits;
@@ -16,8 +16,8 @@ mod receipts;
 mod recoveries;
 mod roles;
 mod schedules;
-mod serving;
-mod signing;
+mod serve;
+mod signatures;
 mod words;
 
 /// Nobody looks on.
@@ -25,10 +25,10 @@ mod words;
 struct Unwatched;
 
 impl Observer for Unwatched {
-    fn observe(&mut self, _standing: Standing) {}
+    fn observe(&mut self, _standing: NodeStatus) {}
 }
 
-impl Onlooker for Unwatched {
+impl LoadObserver for Unwatched {
     fn taken(&mut self, _requests: u32) {}
 }
 
@@ -90,7 +90,7 @@ fn run(alloc: Global, called: &[&str], text: &[u8]) -> Result<(u8, Vec<u8>), All
     Ok((status, sink.held))
 }
 
-/// These parts, one behind the other.
+/// These parts, one after the other.
 fn join(alloc: Global, parts: &[&[u8]]) -> Result<Vec<u8>, AllocError> {
     let mut text = Vec::new(alloc);
     for part in parts {

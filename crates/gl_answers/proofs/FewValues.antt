@@ -3,10 +3,10 @@ use Rattle.std.proofs.Common.{◌≤◌, length, lit≤}
 use Rattle.gl_gov_rules.specs.declared.refusal.GovernanceRefusal.{GovernanceRefusal}
 use Rattle.gl_gov_rules.specs.declared.refusal.GovernanceRefusal.TheVariants as governance
 use Rattle.gl_ledger.specs.declared.refusal.Refusal.TheVariants as ledger
-use Rattle.gl_ledger.specs.declared.made.Unmade.{Unmade}
-use Rattle.gl_ledger.specs.declared.made.Unmade.TheVariants.{ByStore, Unspelled, NoEntry, NoEvidenceYet, Founding, ByRule}
+use Rattle.gl_ledger.specs.declared.response.Rejection.{Rejection}
+use Rattle.gl_ledger.specs.declared.response.Rejection.TheVariants.{ByStore, Unencodable, NoEntry, NoEvidenceYet, Founding, ByRule}
 use Rattle.gl_rules.specs.Outcome as rules
-use Rattle.gl_answers.specs.Reasons.{governance_reason, most_values, reason_of, unmade_reason}
+use Rattle.gl_answers.specs.Reasons.{governance_reason, most_values, reason_of, rejected_reason}
 
 few_of_governance : (why : GovernanceRefusal) → length (governance_reason why).values ≤ most_values
 few_of_governance governance.NotMember = lit≤ tt
@@ -26,19 +26,19 @@ few_of_governance (governance.WrongShare digest) = lit≤ tt
 few_of_governance (governance.KnownShare member) = lit≤ tt
 few_of_governance (governance.Secret want got) = lit≤ tt
 
-few_of_unmade : (why : Unmade) → length (unmade_reason why).values ≤ most_values
-few_of_unmade (ByStore (ledger.ServiceState state)) = lit≤ tt
-few_of_unmade (ByStore (ledger.Aborted abort)) = lit≤ tt
-few_of_unmade (ByStore (ledger.TooLarge size)) = lit≤ tt
-few_of_unmade (ByStore ledger.SeqnoLimit) = lit≤ tt
-few_of_unmade (ByStore (ledger.Governance why)) = few_of_governance why
-few_of_unmade Unspelled = lit≤ tt
-few_of_unmade NoEntry = lit≤ tt
-few_of_unmade NoEvidenceYet = lit≤ tt
-few_of_unmade Founding = lit≤ tt
-few_of_unmade (ByRule broken) = lit≤ tt
+few_of_rejected : (why : Rejection) → length (rejected_reason why).values ≤ most_values
+few_of_rejected (ByStore (ledger.ServiceState state)) = lit≤ tt
+few_of_rejected (ByStore (ledger.Aborted abort)) = lit≤ tt
+few_of_rejected (ByStore (ledger.TooLarge size)) = lit≤ tt
+few_of_rejected (ByStore ledger.SeqnoLimit) = lit≤ tt
+few_of_rejected (ByStore (ledger.Governance why)) = few_of_governance why
+few_of_rejected Unencodable = lit≤ tt
+few_of_rejected NoEntry = lit≤ tt
+few_of_rejected NoEvidenceYet = lit≤ tt
+few_of_rejected Founding = lit≤ tt
+few_of_rejected (ByRule broken) = lit≤ tt
 
-pub few_values : (why : rules.Refusal Unmade) → length (reason_of why).values ≤ most_values
+pub few_values : (why : rules.Refusal Rejection) → length (reason_of why).values ≤ most_values
 few_values (rules.NotPrimary view leader) = lit≤ tt
 few_values (rules.TooManyPending limit) = lit≤ tt
 few_values (rules.NotReserved reserved) = lit≤ tt
@@ -51,4 +51,4 @@ few_values rules.NotPeer = lit≤ tt
 few_values (rules.BelowBase base) = lit≤ tt
 few_values rules.ViewLimit = lit≤ tt
 few_values (rules.NoLaterSignature commit) = lit≤ tt
-few_values (rules.ByLedger why) = few_of_unmade why
+few_values (rules.ByLedger why) = few_of_rejected why

@@ -4,7 +4,7 @@ use Rattle.gl_rules.specs.Outcome as rules
 use Rattle.gl_replication.specs.Stands.{Answers}
 use Rattle.gl_replication.specs.declared.done.Refusal.{Refusal}
 use Rattle.gl_replication.specs.declared.done.Refusal.TheVariants as refusals
-use Rattle.gl_ledger.specs.declared.made.Unmade.{Unmade}
+use Rattle.gl_ledger.specs.declared.response.Rejection.{Rejection}
 use Rattle.gl_answers.specs.Reasons.{reason_of, seen_refusal}
 use Rattle.gl_answers.specs.declared.value.Reason.{Reason}
 
@@ -27,9 +27,9 @@ some_mapped : {A B : Type 0} (f : A → B) (x : Option A) (y : B) → Some y ≡
 some_mapped f None y is = absurd (cc)
 some_mapped f (Some a) y is = (a, cc, refl)
 
--- where a node's refusal is told for a reason, the rules refuse for that reason
-pub refused_for : {S Q G R A : Type 0} (why : Refusal S Q G R A Unmade) (reason : Reason) (o : rules.Outcome A Unmade) → Some reason ≡ option_map reason_of (seen_refusal why) → Answers why o →
-    (r : rules.Refusal Unmade) × (reason ≡ reason_of r) × (o ≡ rules.Refused r)
-refused_for why reason o told answers =
-    let p = some_mapped reason_of (seen_refusal why) reason told in
+-- where a node's refusal is reported for a reason, the rules refuse for that reason
+pub refused_for : {S Q G R A : Type 0} (why : Refusal S Q G R A Rejection) (reason : Reason) (o : rules.Outcome A Rejection) → Some reason ≡ option_map reason_of (seen_refusal why) → Answers why o →
+    (r : rules.Refusal Rejection) × (reason ≡ reason_of r) × (o ≡ rules.Refused r)
+refused_for why reason o reported answers =
+    let p = some_mapped reason_of (seen_refusal why) reason reported in
     (p.0, p.1, seen_as why o p.0 p.2 answers)

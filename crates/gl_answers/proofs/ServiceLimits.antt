@@ -1,4 +1,5 @@
--- The book of a service keeps the limits, where its ledger's entries are ones that a ledger may hold.
+-- The book of a service keeps the limits, where its ledger's entries are ones that a ledger may
+-- hold.
 use Rattle.std.proofs.Common.{◌≡◌, ◌≤◌, ℕ, ◌+◌, List, length, Bool, true, false, ◌||◌, nat_lt, Option, Some, None, Result, Ok, Err, All, IsTrue, if◌then◌else◌, refl, subst, arith}
 use Rattle.std.proofs.lemmas.Bool.{ltb-false}
 use Rattle.gl_base.specs.Bytes.{mebibyte}
@@ -29,9 +30,9 @@ use Rattle.gl_ledger.specs.Recordings.{requests_of}
 use Rattle.gl_ledger.specs.ServiceRow.{service_state}
 use Rattle.gl_ledger.specs.Tree.{tables_of}
 use Rattle.gl_ledger.specs.declared.breach.Broken.{Broken}
-use Rattle.gl_ledger.specs.declared.made.Given.{Given}
-use Rattle.gl_ledger.specs.declared.made.Unmade.{Unmade}
-use Rattle.gl_ledger.specs.declared.made.Unmade.TheVariants.{Founding, Unspelled}
+use Rattle.gl_ledger.specs.declared.response.Response.{Response}
+use Rattle.gl_ledger.specs.declared.response.Rejection.{Rejection}
+use Rattle.gl_ledger.specs.declared.response.Rejection.TheVariants.{Founding, Unencodable}
 use Rattle.gl_ledger.specs.declared.refusal.Refusal.{Refusal}
 use Rattle.gl_ledger.specs.declared.refusal.Refusal.TheVariants.{SeqnoLimit, TooLarge}
 use Rattle.gl_answers.specs.Limits.{FitsGiven, KeepsLimits}
@@ -42,7 +43,7 @@ Short (Ok made) = length (reply_bytes made.1) ≤ mebibyte
 Short (Err why) = Unit {0}
 
 -- whatever is made can be answered
-abbrev Answerable : Result (Entry × Given) Unmade → Type 0
+abbrev Answerable : Result (Entry × Response) Rejection → Type 0
 Answerable (Ok made) = FitsGiven made.1
 Answerable (Err why) = Unit {0}
 
@@ -81,7 +82,7 @@ module _ (layers : Layers) (ledger : List Entry) (view : ℕ) where
   requested : (q : List Operation) → Answerable (request_result ledger view q)
   requested q = go (is_request q)
     where
-      go : (t : Bool) → Answerable (if t then with_reply (execute_result ledger view q) else Err Unspelled)
+      go : (t : Bool) → Answerable (if t then with_reply (execute_result ledger view q) else Err Unencodable)
       go true = replied (execute_result ledger view q) (short_executed q (service_state (tables_of ledger)))
       go false = tt
 
@@ -100,20 +101,20 @@ module _ (layers : Layers) (ledger : List Entry) (view : ℕ) where
   governs : (g : GovernanceRequest) → Answerable (govern_result ledger view g)
   governs g = go (ranges.is_request g) (is_founding g || is_recovery g)
     where
-      go : (t u : Bool) → Answerable (if t then (if u then Err Founding else accepted_result ledger view g) else Err Unspelled)
+      go : (t u : Bool) → Answerable (if t then (if u then Err Founding else accepted_result ledger view g) else Err Unencodable)
       go true true = tt
       go true false = accepted g (governance.refusal (history (requests_of ledger)) (length ledger + 1) g)
       go false u = tt
 
-  unbroken : (made : Entry × Given) (o : Option Broken) → FitsGiven made.1 → Answerable (unless_broken o made)
+  unbroken : (made : Entry × Response) (o : Option Broken) → FitsGiven made.1 → Answerable (unless_broken o made)
   unbroken made None fits = fits
   unbroken made (Some why) fits = tt
 
-  guards : (r : Result (Entry × Given) Unmade) → Answerable r → Answerable (guarded layers (λ (made : Entry × Given). made.0) ledger r)
+  guards : (r : Result (Entry × Response) Rejection) → Answerable r → Answerable (guarded layers (λ (made : Entry × Response). made.0) ledger r)
   guards (Ok made) fits = unbroken made (broken layers ledger made.0) fits
   guards (Err why) fits = tt
 
-answered : (r : Result (Entry × Given) Unmade) (e : Entry) (given : Given) → Answerable r → r ≡ Ok (e, given) → FitsGiven given
+answered : (r : Result (Entry × Response) Rejection) (e : Entry) (given : Response) → Answerable r → r ≡ Ok (e, given) → FitsGiven given
 answered r e given fits is = subst Answerable is fits
 
 -- for the store of a service

@@ -3,7 +3,7 @@ use Rattle.std.proofs.Common.{ℕ, ◌+◌, ◌≤◌, List, ◌++◌, length, a
 use Rattle.gl_base.specs.Field.{with_u32_length}
 use Rattle.gl_base.specs.LittleEndian.{little_endian}
 use Rattle.gl_base.proofs.LittleEndianLaws.{length-little_endian}
-use Rattle.gl_answers.specs.Spelling.{most_bytes}
+use Rattle.gl_answers.specs.Encoding.{most_bytes}
 
 pub number_within : (out : List ℕ) (n : ℕ) → length (out ++ little_endian 8 n) ≤ length out + most_bytes
 number_within out n = omega (arith, length-append out (little_endian 8 n), length-little_endian 8 n)

@@ -2,4 +2,4 @@ pub mod Limits
 pub mod Receipts
 pub mod Reply
 pub mod Reasons
-pub mod Spelling
+pub mod Encoding

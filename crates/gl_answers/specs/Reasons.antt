@@ -1,7 +1,7 @@
 -- Why an event is refused, as whoever asked is told it: each refusal has a number, and values in
 -- order.
 use Rattle.std.specs.Prelude.{ℕ, List, [], ◌∷◌, Option, None, Some, map}
-use Rattle.gl_requests.specs.Spelling.{state_byte}
+use Rattle.gl_requests.specs.Encoding.{state_byte}
 use Rattle.gl_tx.specs.Abort.{number_of}
 use Rattle.gl_gov_rules.specs.Numbers.{cause_number}
 use Rattle.gl_gov_rules.specs.Rows.{node_byte, proposal_byte}
@@ -9,8 +9,8 @@ use Rattle.gl_gov_rules.specs.declared.refusal.GovernanceRefusal.{GovernanceRefu
 use Rattle.gl_gov_rules.specs.declared.refusal.GovernanceRefusal.TheVariants as governance
 use Rattle.gl_gov_rules.specs.declared.refusal.NodeStatus.{NodeStatus}
 use Rattle.gl_ledger.specs.declared.refusal.Refusal.TheVariants as ledger
-use Rattle.gl_ledger.specs.declared.made.Unmade.{Unmade}
-use Rattle.gl_ledger.specs.declared.made.Unmade.TheVariants.{ByStore, Unspelled, NoEntry, NoEvidenceYet, Founding, ByRule}
+use Rattle.gl_ledger.specs.declared.response.Rejection.{Rejection}
+use Rattle.gl_ledger.specs.declared.response.Rejection.TheVariants.{ByStore, Unencodable, NoEntry, NoEvidenceYet, Founding, ByRule}
 use Rattle.gl_rules.specs.Outcome as rules
 use Rattle.gl_replication.specs.declared.done.Refusal.{Refusal}
 use Rattle.gl_replication.specs.declared.done.Refusal.TheVariants as refusals
@@ -52,21 +52,21 @@ governance_reason (governance.KnownShare member) = numbers 101 (member ∷ [])
 governance_reason (governance.Secret want got) = digests 103 (want ∷ got ∷ [])
 
 -- Why a ledger takes no entry.
-abbrev pub unmade_reason : Unmade → Reason
-unmade_reason (ByStore (ledger.ServiceState state)) = numbers 51 (state_byte state ∷ [])
-unmade_reason (ByStore (ledger.Aborted abort)) =
+abbrev pub rejected_reason : Rejection → Reason
+rejected_reason (ByStore (ledger.ServiceState state)) = numbers 51 (state_byte state ∷ [])
+rejected_reason (ByStore (ledger.Aborted abort)) =
     numbers 122 (abort.operation ∷ number_of abort.cause ∷ [])
-unmade_reason (ByStore (ledger.TooLarge size)) = numbers 119 (size ∷ [])
-unmade_reason (ByStore ledger.SeqnoLimit) = numbers 130 []
-unmade_reason (ByStore (ledger.Governance why)) = governance_reason why
-unmade_reason Unspelled = numbers 117 []
-unmade_reason NoEntry = numbers 117 []
-unmade_reason NoEvidenceYet = numbers 117 []
-unmade_reason Founding = numbers 117 []
-unmade_reason (ByRule broken) = numbers 117 []
+rejected_reason (ByStore (ledger.TooLarge size)) = numbers 119 (size ∷ [])
+rejected_reason (ByStore ledger.SeqnoLimit) = numbers 130 []
+rejected_reason (ByStore (ledger.Governance why)) = governance_reason why
+rejected_reason Unencodable = numbers 117 []
+rejected_reason NoEntry = numbers 117 []
+rejected_reason NoEvidenceYet = numbers 117 []
+rejected_reason Founding = numbers 117 []
+rejected_reason (ByRule broken) = numbers 117 []
 
 -- Why an event is refused by the rules of consensus.
-abbrev pub reason_of : rules.Refusal Unmade → Reason
+abbrev pub reason_of : rules.Refusal Rejection → Reason
 reason_of (rules.NotPrimary view leader) =
     record { code = 110; values = Number view ∷ Leader leader ∷ [] }
 reason_of (rules.TooManyPending limit) = numbers 111 (limit ∷ [])
@@ -80,20 +80,20 @@ reason_of rules.NotPeer = numbers 126 []
 reason_of (rules.BelowBase base) = numbers 127 (base ∷ [])
 reason_of rules.ViewLimit = numbers 128 []
 reason_of (rules.NoLaterSignature commit) = numbers 81 (commit ∷ [])
-reason_of (rules.ByLedger why) = unmade_reason why
+reason_of (rules.ByLedger why) = rejected_reason why
 
 -- The number of a refusal, and its values in order.
-abbrev pub code_of : rules.Refusal Unmade → ℕ
+abbrev pub code_of : rules.Refusal Rejection → ℕ
 code_of why = (reason_of why).code
 
-abbrev pub values_of : rules.Refusal Unmade → List Value
+abbrev pub values_of : rules.Refusal Rejection → List Value
 values_of why = (reason_of why).values
 
 -- No refusal has more values.
 abbrev pub most_values : ℕ
 most_values = 2
 
--- A node's refusal as the rules know it. Want of memory is none.
+-- A node's refusal as the rules know it. Running out of memory is none.
 abbrev pub seen_refusal : {S Q G R A F : Type 0} → Refusal S Q G R A F → Option (rules.Refusal F)
 seen_refusal refusals.NoMemory = None
 seen_refusal (refusals.NotPrimary view leader) = Some (rules.NotPrimary view leader)

@@ -7,7 +7,7 @@ ghost use Rattle.gl_receipt.specs.Made.{receipt_of};
 ghost use Rattle.gl_replication.specs.Standing.{At};
 
 use gl_base::{OrNoMemory, TxId};
-use gl_ledger::{Given, Reads, Unmade};
+use gl_ledger::{Reads, Rejection, Response};
 use gl_receipt::{MakeFault, Receipt};
 use gl_replication::Book;
 use gl_requests::GovernanceRequest;
@@ -19,8 +19,8 @@ pub trait ClientBook: Book<
     Request = Request,
     Gov = GovernanceRequest,
     Reads = Reads,
-    Given = Given,
-    Refused = Unmade,
+    Response = Response,
+    Refused = Rejection,
 > {
     /// The receipt of a transaction, where the ledger is committed up to a seqno (CCF
     /// documentation, "Receipts").

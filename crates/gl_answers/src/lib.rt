@@ -6,14 +6,14 @@
 #![tactic(auto)]
 
 mod client_book;
+mod encoding;
 mod governance;
 mod reason;
 mod reply;
-mod spelling;
 mod value;
 
 pub use client_book::ClientBook;
+pub use encoding::values_bytes;
 pub use reason::reason_of;
 pub use reply::given_bytes;
-pub use spelling::values_bytes;
 pub use value::{Reason, Value};

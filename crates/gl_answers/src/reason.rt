@@ -1,20 +1,20 @@
 //! Why an event is refused.
 
 ghost use Rattle.std.specs.Prelude.{◌≡◌, ◌≤◌, length, option_map, IfOk, IfSome};
-ghost use Rattle.gl_ledger.specs.declared.made.Unmade.TheVariants.{ByStore};
-ghost use Rattle.gl_answers.specs.Reasons.{most_values, reason_of, seen_refusal, unmade_reason};
+ghost use Rattle.gl_ledger.specs.declared.response.Rejection.TheVariants.{ByStore};
+ghost use Rattle.gl_answers.specs.Reasons.{most_values, reason_of, rejected_reason, seen_refusal};
 ghost use Rattle.gl_rules.specs.Outcome.{NotPrimary};
 
 use crate::governance::governance_reason;
 use crate::value::{Reason, Value};
 use gl_base::Sequence;
-use gl_ledger::Unmade;
+use gl_ledger::Rejection;
 use gl_replication::{Book, Refusal};
 use gl_requests::NodeId;
 use std::alloc::{AllocError, Global};
 
 fn store_reason(alloc: Global, refusal: gl_ledger::Refusal) -> Result<Reason, AllocError>
-    ensures { IfOk result (λ reason. reason ≡ unmade_reason (ByStore refusal)) }
+    ensures { IfOk result (λ reason. reason ≡ rejected_reason (ByStore refusal)) }
 {
     match refusal {
         gl_ledger::Refusal::ServiceState(state) => {
@@ -32,16 +32,16 @@ fn store_reason(alloc: Global, refusal: gl_ledger::Refusal) -> Result<Reason, Al
 }
 
 /// Why the ledger takes no entry.
-pub(crate) fn unmade_reason(alloc: Global, why: Unmade) -> Result<Reason, AllocError>
-    ensures { IfOk result (λ reason. reason ≡ unmade_reason why) }
+pub(crate) fn rejected_reason(alloc: Global, why: Rejection) -> Result<Reason, AllocError>
+    ensures { IfOk result (λ reason. reason ≡ rejected_reason why) }
 {
     match why {
-        Unmade::ByStore(refusal) => store_reason(alloc, refusal),
-        Unmade::Unspelled
-        | Unmade::NoEntry
-        | Unmade::NoEvidenceYet
-        | Unmade::Founding
-        | Unmade::ByRule(_) => Reason::numbers(alloc, 117, &[]),
+        Rejection::ByStore(refusal) => store_reason(alloc, refusal),
+        Rejection::Unencodable
+        | Rejection::NoEntry
+        | Rejection::NoEvidenceYet
+        | Rejection::Founding
+        | Rejection::ByRule(_) => Reason::numbers(alloc, 117, &[]),
     }
 }
 
@@ -59,17 +59,17 @@ pub fn not_primary(alloc: Global, view: u32, leader: Option<NodeId>) -> Result<R
     })
 }
 
-/// The number of a refusal, and its values: 2 at most. Want of memory has none, since it is no
-/// refusal of the rules.
+/// The number of a refusal, and its values: 2 at most. Running out of memory has none, since it is
+/// no refusal of the rules.
 #[tactic(auto, using(crate::proofs::FewValues::few_values))]
-pub fn reason_of<B: Book<Refused = Unmade>>(
+pub fn reason_of<B: Book<Refused = Rejection>>(
     alloc: Global,
     refusal: &Refusal<B>,
 ) -> Result<Option<Reason>, AllocError>
     ensures exact { IfOk result (λ reason.
         reason ≡ option_map reason_of (seen_refusal refusal.now)) }
     ensures few { IfOk result (λ reason.
-        IfSome reason (λ told. length told.values ≤ most_values)) }
+        IfSome reason (λ reported. length reported.values ≤ most_values)) }
 {
     let reason = match refusal {
         Refusal::NoMemory => return Ok(None),
@@ -85,7 +85,7 @@ pub fn reason_of<B: Book<Refused = Unmade>>(
         Refusal::NotPeer => Reason::numbers(alloc, 126, &[])?,
         Refusal::BelowBase(base) => Reason::numbers(alloc, 127, &[*base])?,
         Refusal::ViewLimit => Reason::numbers(alloc, 128, &[])?,
-        Refusal::ByLedger(why) => unmade_reason(alloc, *why)?,
+        Refusal::ByLedger(why) => rejected_reason(alloc, *why)?,
     };
     Ok(Some(reason))
 }

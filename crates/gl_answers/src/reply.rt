@@ -5,19 +5,19 @@ ghost use Rattle.gl_base.specs.Bytes.{mebibyte};
 ghost use Rattle.gl_answers.specs.Limits.{FitsGiven};
 ghost use Rattle.gl_answers.specs.Reply.{given_bytes};
 
-use gl_ledger::Given;
+use gl_ledger::Response;
 use std::alloc::{AllocError, Global};
 
 /// The bytes that a client is answered for what a ledger gave to its request: 1 MiB at most.
-pub fn given_bytes(alloc: Global, given: &Given) -> Result<Vec<u8>, AllocError>
+pub fn given_bytes(alloc: Global, given: &Response) -> Result<Vec<u8>, AllocError>
     requires { FitsGiven given.now }
     ensures bytes { IfOk result (λ bytes. bytes.items ≡ given_bytes given.now) }
     ensures within { IfOk result (λ bytes. length bytes.items ≤ mebibyte) }
 {
     match given {
-        Given::Replied(reply) => reply.encode(alloc),
-        Given::Governed(None) => Ok(Vec::new(alloc)),
-        Given::Governed(Some(status)) => {
+        Response::Replied(reply) => reply.encode(alloc),
+        Response::Governed(None) => Ok(Vec::new(alloc)),
+        Response::Governed(Some(status)) => {
             let mut bytes = Vec::from_slice(alloc, &status.id)?;
             bytes.push(status.state.byte())?;
             Ok(bytes)

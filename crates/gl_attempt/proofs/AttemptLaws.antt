@@ -9,10 +9,10 @@ use Rattle.gl_base.specs.declared.or_no_memory.OrNoMemory.{OrNoMemory}
 use Rattle.gl_vmaps.specs.Kept.{Kept}
 use Rattle.gl_vmaps.specs.Standing.{StandsFor}
 use Rattle.gl_vmaps.specs.Tables.{Tables, no_tables, same_bytes, with_row, wrote, value_in}
-use Rattle.gl_vmaps.specs.Versions.{Placed, written_by, written_behind, is_to_map, is_to_row, greatest_place}
+use Rattle.gl_vmaps.specs.Versions.{Placed, written_by, written_after, is_to_map, is_to_row, greatest_place}
 use Rattle.gl_vmaps.specs.declared.write.Write.{Write}
 use Rattle.gl_vmaps.proofs.StandingLaws.{version_of-stands, map_version_of-stands}
-use Rattle.gl_vmaps.proofs.TablesLaws.{same_bytes-eq, value_in-wrote, written_behind-append}
+use Rattle.gl_vmaps.proofs.TablesLaws.{same_bytes-eq, value_in-wrote, written_after-append}
 use Rattle.gl_tx.specs.Sees.{Sees, sees_in}
 use Rattle.gl_tx.specs.Run.{run_seeing}
 use Rattle.gl_attempt.specs.Asks.{is_of_row, is_of_map, is_noted, value_in_note, size_in_note, sees_by, asks_from, next_ask}
@@ -110,18 +110,18 @@ none-such is_such (p ∷ ps) began above h = (go (is_such p.write) h, none-such 
     go true most = let above_here : began < p.place = above.0 in absurd (omega arith)
     go false most = refl
 
-value-behind : (t : Tables) (ps : List Placed) (map key : List ℕ) → AllByRecursion (λ (p : Placed). is_to_row map key p.write ≡ false) ps →
-    value_in (written_behind t ps) map key ≡ value_in t map key
-value-behind t [] map key none = refl
-value-behind t (p ∷ ps) map key none =
-    value-behind (wrote t p.write) ps map key none.1 ∙ value_in-wrote t p.write map key
+value-suffix : (t : Tables) (ps : List Placed) (map key : List ℕ) → AllByRecursion (λ (p : Placed). is_to_row map key p.write ≡ false) ps →
+    value_in (written_after t ps) map key ≡ value_in t map key
+value-suffix t [] map key none = refl
+value-suffix t (p ∷ ps) map key none =
+    value-suffix (wrote t p.write) ps map key none.1 ∙ value_in-wrote t p.write map key
     ∙ ap (λ (b : Bool). cond b p.write.value (value_in t map key)) none.0
 
-rows-behind : (t : Tables) (ps : List Placed) (map : List ℕ) → AllByRecursion (λ (p : Placed). is_to_map map p.write ≡ false) ps →
-    written_behind t ps map ≡ t map
-rows-behind t [] map none = refl
-rows-behind t (p ∷ ps) map none =
-    rows-behind (wrote t p.write) ps map none.1
+rows-suffix : (t : Tables) (ps : List Placed) (map : List ℕ) → AllByRecursion (λ (p : Placed). is_to_map map p.write ≡ false) ps →
+    written_after t ps map ≡ t map
+rows-suffix t [] map none = refl
+rows-suffix t (p ∷ ps) map none =
+    rows-suffix (wrote t p.write) ps map none.1
     ∙ ap (λ (b : Bool). cond b (with_row (t map) p.write.key p.write.value) (t map)) none.0
 
 -- where the versions are at or below the length at the begin, what was seen then is seen now
@@ -130,12 +130,12 @@ still_seen : (before since : List Placed) (began : ℕ) (note : Note) → AllByR
 still_seen before since began (notes.Row map key value) above unchanged found =
     let none = none-such (is_to_row map key) since began above (greatest-since (is_to_row map key) before since began unchanged) in
     let same : value_in (written_by (before ++ since)) map key ≡ value_in (written_by before) map key =
-    ap (λ (t : Tables). value_in t map key) (written_behind-append no_tables before since) ∙ value-behind (written_by before) since map key none in
+    ap (λ (t : Tables). value_in t map key) (written_after-append no_tables before since) ∙ value-suffix (written_by before) since map key none in
     found ∙ ap (λ (v : Option (List ℕ)). notes.Row map key v) (sym same)
 still_seen before since began (notes.Map map size) above unchanged found =
     let none = none-such (is_to_map map) since began above (greatest-since (is_to_map map) before since began unchanged) in
     let same : written_by (before ++ since) map ≡ written_by before map =
-    ap (λ (t : Tables). t map) (written_behind-append no_tables before since) ∙ rows-behind (written_by before) since map none in
+    ap (λ (t : Tables). t map) (written_after-append no_tables before since) ∙ rows-suffix (written_by before) since map none in
     found ∙ ap (λ (n : ℕ). notes.Map map n) (sym (ap len same))
 
 seen_now : (began : ℕ) (now : List Placed) (ns : List Note) → conflict_of began (versioned_by now) ns ≡ None → AllByRecursion (IsNotedSince began now) ns →
@@ -157,7 +157,8 @@ seen_now began now (n ∷ ns) none since =
           again h,
         )
 
--- An attempt all of whose notes were made since it began, and that meets no conflict, runs on what it noted.
+-- An attempt all of whose notes were made since it began, and that meets no conflict, runs on what
+-- it noted.
 pub run_seeing-since : (os : List Operation) (began : ℕ) (now : List Placed) (ns : List Note) → next_ask os ns ≡ None → conflict_of began (versioned_by now) ns ≡ None →
     AllByRecursion (IsNotedSince began now) ns → run_seeing os (sees_by ns) ≡ run_seeing os (sees_in (written_by now))
 run_seeing-since os began now ns ready none since = run_seeing-noted os (sees_in (written_by now)) ns ready (seen_now began now ns none since)

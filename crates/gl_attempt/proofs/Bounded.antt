@@ -1,4 +1,5 @@
--- However long a request is fetched for, at most 128 notes are made: two for each of its operations.
+-- However long a request is fetched for, at most 128 notes are made: two for each of its
+-- operations.
 use Rattle.std.proofs.Common.{◌≡◌, ◌⊎◌, inl, inr, ℕ, suc, ◌*◌, ◌≤◌, List, [], ◌∷◌, ◌++◌, Option, None, Some, Result, Ok, Err, Bool, true, false, not, ◌&&◌, refl, sym, ap, ◌∙◌, subst, cond, find, is_some, length, map, arith, length-append, append_assoc}
 use Rattle.std.specs.List.{list_all}
 use Rattle.std.specs.Option.{option_or}
@@ -13,9 +14,9 @@ use Rattle.gl_vmaps.specs.Versions.{is_to_map}
 use Rattle.gl_vmaps.specs.Writes.{write_order, put_before, with_write}
 use Rattle.gl_vmaps.specs.declared.write.Write.{Write}
 use Rattle.gl_vmaps.proofs.TablesLaws.{same_bytes-itself, same_bytes-eq}
-use Rattle.gl_tx.specs.Sees.{Sees, write_to, behind}
+use Rattle.gl_tx.specs.Sees.{Sees, write_to, suffix}
 use Rattle.gl_tx.specs.Run.{bar_on, perform_result, with_writes}
-use Rattle.gl_attempt.specs.Asks.{row_asks, rows_written, key_asks, allowed_asks, asks_unless_barred, asks_of, asks_behind, asks_from, is_of_row, is_of_map, note_on, is_noted, value_in_note, size_in_note, sees_by, next_ask, ask_of, AreAskedBehind, AreAsked}
+use Rattle.gl_attempt.specs.Asks.{row_asks, rows_written, key_asks, allowed_asks, asks_unless_barred, asks_of, asks_after, asks_from, is_of_row, is_of_map, note_on, is_noted, value_in_note, size_in_note, sees_by, next_ask, ask_of, AreAskedAfter, AreAsked}
 use Rattle.gl_tx.specs.declared.performed.Performed.{Performed}
 use Rattle.gl_tx.specs.declared.abort.Cause.{Cause}
 use Rattle.gl_attempt.specs.declared.notes.Ask.{Ask}
@@ -40,10 +41,10 @@ AreDifferent (x ∷ xs) = (Among xs x → ⊥) × AreDifferent xs
 abbrev AllAmong : {A : Type 0} → List A → List A → Type 0
 AllAmong {A} xs ys = (a : A) → Among xs a → Among ys a
 
-among-front : {A : Type 0} → (xs ys : List A) (a : A) → Among xs a → Among (xs ++ ys) a
-among-front [] ys a h = absurd h
-among-front (x ∷ xs) ys a (inl e) = inl e
-among-front (x ∷ xs) ys a (inr h) = inr (among-front xs ys a h)
+among-prefix : {A : Type 0} → (xs ys : List A) (a : A) → Among xs a → Among (xs ++ ys) a
+among-prefix [] ys a h = absurd h
+among-prefix (x ∷ xs) ys a (inl e) = inl e
+among-prefix (x ∷ xs) ys a (inr h) = inr (among-prefix xs ys a h)
 
 among-back : {A : Type 0} → (xs ys : List A) (a : A) → Among ys a → Among (xs ++ ys) a
 among-back [] ys a h = h
@@ -76,45 +77,45 @@ length-different {A} (x ∷ xs) ys all among =
     let rest = length-different xs less.0 all.1 (λ z h. less.2 z (λ e. all.0 (subst (λ (y : A). Among xs y) (sym e) h)) (among z (inr h))) in
     omega (arith, rest, less.1)
 
--- ---- the known front of a list, and the first behind it that isn't known
+-- ---- the known prefix of a list, and the first after it that isn't known
 
-abbrev pub front : {A : Type 0} → (A → Bool) → List A → List A
-front known [] = []
-front known (x ∷ xs) = x ∷ cond (known x) (front known xs) []
+abbrev pub prefix : {A : Type 0} → (A → Bool) → List A → List A
+prefix known [] = []
+prefix known (x ∷ xs) = x ∷ cond (known x) (prefix known xs) []
 
 abbrev Begins : {A : Type 0} → List A → List A → Type 0
 Begins {A} xs ys = (rest : List A) × (xs ++ rest ≡ ys)
 
-front-begins : {A : Type 0} → (known : A → Bool) (xs : List A) → Begins (front known xs) xs
-front-begins known [] = ([], refl)
-front-begins {A} known (x ∷ xs) = go (known x) (front-begins known xs)
+prefix-begins : {A : Type 0} → (known : A → Bool) (xs : List A) → Begins (prefix known xs) xs
+prefix-begins known [] = ([], refl)
+prefix-begins {A} known (x ∷ xs) = go (known x) (prefix-begins known xs)
   where
-    go : (b : Bool) → Begins (front known xs) xs → Begins (x ∷ cond b (front known xs) []) (x ∷ xs)
+    go : (b : Bool) → Begins (prefix known xs) xs → Begins (x ∷ cond b (prefix known xs) []) (x ∷ xs)
     go true begins = (begins.0, ap (λ (ys : List A). x ∷ ys) begins.1)
     go false begins = (xs, refl)
 
-front-known : {A : Type 0} → (known : A → Bool) (xs ys : List A) → list_all known xs ≡ true → front known (xs ++ ys) ≡ xs ++ front known ys
-front-known known [] ys all = refl
-front-known {A} known (x ∷ xs) ys all =
+prefix-known : {A : Type 0} → (known : A → Bool) (xs ys : List A) → list_all known xs ≡ true → prefix known (xs ++ ys) ≡ xs ++ prefix known ys
+prefix-known known [] ys all = refl
+prefix-known {A} known (x ∷ xs) ys all =
     let both = and_parts (known x) (list_all known xs) all in
-    ap (λ (b : Bool). x ∷ cond b (front known (xs ++ ys)) []) both.0 ∙ ap (λ (zs : List A). x ∷ zs) (front-known known xs ys both.1)
+    ap (λ (b : Bool). x ∷ cond b (prefix known (xs ++ ys)) []) both.0 ∙ ap (λ (zs : List A). x ∷ zs) (prefix-known known xs ys both.1)
 
-front-unknown : {A : Type 0} → (known : A → Bool) (xs ys : List A) → list_all known xs ≡ false → front known (xs ++ ys) ≡ front known xs
-front-unknown known [] ys all = absurd (cc)
-front-unknown {A} known (x ∷ xs) ys all = go (known x) all (front-unknown known xs ys)
+prefix-unknown : {A : Type 0} → (known : A → Bool) (xs ys : List A) → list_all known xs ≡ false → prefix known (xs ++ ys) ≡ prefix known xs
+prefix-unknown known [] ys all = absurd (cc)
+prefix-unknown {A} known (x ∷ xs) ys all = go (known x) all (prefix-unknown known xs ys)
   where
-    go : (b : Bool) → (b && list_all known xs) ≡ false → (list_all known xs ≡ false → front known (xs ++ ys) ≡ front known xs) →
-        x ∷ cond b (front known (xs ++ ys)) [] ≡ x ∷ cond b (front known xs) []
+    go : (b : Bool) → (b && list_all known xs) ≡ false → (list_all known xs ≡ false → prefix known (xs ++ ys) ≡ prefix known xs) →
+        x ∷ cond b (prefix known (xs ++ ys)) [] ≡ x ∷ cond b (prefix known xs) []
     go true h again = ap (λ (zs : List A). x ∷ zs) (again h)
     go false h again = refl
 
 -- the first that isn't known ends the front, and all before it are known
-front-found : {A : Type 0} → (known : A → Bool) (xs : List A) (a : A) → find (λ x. not (known x)) xs ≡ Some a → Among (front known xs) a
-front-found known [] a e = absurd (cc)
-front-found {A} known (x ∷ xs) a e = go (known x) e (front-found known xs a)
+prefix-found : {A : Type 0} → (known : A → Bool) (xs : List A) (a : A) → find (λ x. not (known x)) xs ≡ Some a → Among (prefix known xs) a
+prefix-found known [] a e = absurd (cc)
+prefix-found {A} known (x ∷ xs) a e = go (known x) e (prefix-found known xs a)
   where
-    go : (b : Bool) → cond (not b) (Some x) (find (λ x. not (known x)) xs) ≡ Some a → (find (λ x. not (known x)) xs ≡ Some a → Among (front known xs) a) →
-        Among (x ∷ cond b (front known xs) []) a
+    go : (b : Bool) → cond (not b) (Some x) (find (λ x. not (known x)) xs) ≡ Some a → (find (λ x. not (known x)) xs ≡ Some a → Among (prefix known xs) a) →
+        Among (x ∷ cond b (prefix known xs) []) a
     go true h again = inr (again h)
     go false h again = let same : x ≡ a = cc in inl same
 
@@ -126,15 +127,15 @@ found-unknown {A} known (x ∷ xs) a e = go (known x) refl e (found-unknown know
     go true is h again = again h
     go false is h again = let same : x ≡ a = cc in subst (λ (y : A). known y ≡ false) same is
 
--- what is in front of it is known to whoever knows it and what was known before
-front-all : {A : Type 0} → (known wider : A → Bool) (xs : List A) (a : A) → ((x : A) → known x ≡ true → wider x ≡ true) → wider a ≡ true →
-    find (λ x. not (known x)) xs ≡ Some a → list_all wider (front known xs) ≡ true
-front-all known wider [] a more here e = absurd (cc)
-front-all {A} known wider (x ∷ xs) a more here e = go (known x) refl e (front-all known wider xs a more here)
+-- what is before it is known to whoever knows it and what was known before
+prefix-all : {A : Type 0} → (known wider : A → Bool) (xs : List A) (a : A) → ((x : A) → known x ≡ true → wider x ≡ true) → wider a ≡ true →
+    find (λ x. not (known x)) xs ≡ Some a → list_all wider (prefix known xs) ≡ true
+prefix-all known wider [] a more here e = absurd (cc)
+prefix-all {A} known wider (x ∷ xs) a more here e = go (known x) refl e (prefix-all known wider xs a more here)
   where
     go : (b : Bool) → known x ≡ b → cond (not b) (Some x) (find (λ x. not (known x)) xs) ≡ Some a →
-        (find (λ x. not (known x)) xs ≡ Some a → list_all wider (front known xs) ≡ true) → list_all wider (x ∷ cond b (front known xs) []) ≡ true
-    go true is h again = and_from (wider x) (list_all wider (front known xs)) (more x is) (again h)
+        (find (λ x. not (known x)) xs ≡ Some a → list_all wider (prefix known xs) ≡ true) → list_all wider (x ∷ cond b (prefix known xs) []) ≡ true
+    go true is h again = and_from (wider x) (list_all wider (prefix known xs)) (more x is) (again h)
     go false is h again = let same : a ≡ x = cc in and_from (wider x) true (subst (λ (y : A). wider y ≡ true) same here) refl
 
 -- ---- what was asked for so far stays asked for where nothing that is known changes
@@ -142,71 +143,71 @@ front-all {A} known wider (x ∷ xs) a more here e = go (known x) refl e (front-
 begins-append : {A : Type 0} → (xs ys zs : List A) → Begins xs ys → Begins xs (ys ++ zs)
 begins-append {A} xs ys zs begins = (begins.0 ++ zs, sym (append_assoc xs begins.0 zs) ∙ ap (λ (us : List A). us ++ zs) begins.1)
 
-begins-behind : {A : Type 0} → (xs ys zs : List A) → Begins ys zs → Begins (xs ++ ys) (xs ++ zs)
-begins-behind {A} xs ys zs begins = (begins.0, append_assoc xs ys begins.0 ∙ ap (λ (us : List A). xs ++ us) begins.1)
+begins-suffix : {A : Type 0} → (xs ys zs : List A) → Begins ys zs → Begins (xs ++ ys) (xs ++ zs)
+begins-suffix {A} xs ys zs begins = (begins.0, append_assoc xs ys begins.0 ∙ ap (λ (us : List A). xs ++ us) begins.1)
 
 follow-stays : (known : Ask → Bool) (s t : Sees) (ws : List Write) (map key target : List ℕ) → AreAlike known s t →
-    Begins (front known (allowed_asks (Follow map key target) s ws)) (allowed_asks (Follow map key target) t ws)
+    Begins (prefix known (allowed_asks (Follow map key target) s ws)) (allowed_asks (Follow map key target) t ws)
 follow-stays known s t ws map key target alike = go (list_all known (row_asks ws map key)) refl
   where
-    go : (b : Bool) → list_all known (row_asks ws map key) ≡ b → Begins (front known (allowed_asks (Follow map key target) s ws)) (allowed_asks (Follow map key target) t ws)
+    go : (b : Bool) → list_all known (row_asks ws map key) ≡ b → Begins (prefix known (allowed_asks (Follow map key target) s ws)) (allowed_asks (Follow map key target) t ws)
     go true is =
-        subst (λ (xs : List Ask). Begins (front known (allowed_asks (Follow map key target) s ws)) xs)
+        subst (λ (xs : List Ask). Begins (prefix known (allowed_asks (Follow map key target) s ws)) xs)
         (ap (λ (v : Option (List ℕ)). row_asks ws map key ++ key_asks ws target v) (value-alike known s t ws map key alike is))
-        (front-begins known (allowed_asks (Follow map key target) s ws))
+        (prefix-begins known (allowed_asks (Follow map key target) s ws))
     go false is =
         subst (λ (xs : List Ask). Begins xs (allowed_asks (Follow map key target) t ws))
-        (sym (front-unknown known (row_asks ws map key) (key_asks ws target ((behind s ws).value map key)) is))
-        (begins-append (front known (row_asks ws map key)) (row_asks ws map key) (key_asks ws target ((behind t ws).value map key)) (front-begins known (row_asks ws map key)))
+        (sym (prefix-unknown known (row_asks ws map key) (key_asks ws target ((suffix s ws).value map key)) is))
+        (begins-append (prefix known (row_asks ws map key)) (row_asks ws map key) (key_asks ws target ((suffix t ws).value map key)) (prefix-begins known (row_asks ws map key)))
 
-allowed-stays : (known : Ask → Bool) (s t : Sees) (ws : List Write) (o : Operation) → AreAlike known s t → Begins (front known (allowed_asks o s ws)) (allowed_asks o t ws)
-allowed-stays known s t ws (Get map key) alike = front-begins known (row_asks ws map key)
-allowed-stays known s t ws (Has map key) alike = front-begins known (row_asks ws map key)
+allowed-stays : (known : Ask → Bool) (s t : Sees) (ws : List Write) (o : Operation) → AreAlike known s t → Begins (prefix known (allowed_asks o s ws)) (allowed_asks o t ws)
+allowed-stays known s t ws (Get map key) alike = prefix-begins known (row_asks ws map key)
+allowed-stays known s t ws (Has map key) alike = prefix-begins known (row_asks ws map key)
 allowed-stays known s t ws (Put map key value) alike = ([], refl)
-allowed-stays known s t ws (Remove map key) alike = front-begins known (row_asks ws map key)
-allowed-stays known s t ws (Add map key amount) alike = front-begins known (row_asks ws map key)
-allowed-stays known s t ws (Check map key expected) alike = front-begins known (row_asks ws map key)
+allowed-stays known s t ws (Remove map key) alike = prefix-begins known (row_asks ws map key)
+allowed-stays known s t ws (Add map key amount) alike = prefix-begins known (row_asks ws map key)
+allowed-stays known s t ws (Check map key expected) alike = prefix-begins known (row_asks ws map key)
 allowed-stays known s t ws (Follow map key target) alike = follow-stays known s t ws map key target alike
-allowed-stays known s t ws (Size map) alike = front-begins known (asks.Map map ∷ rows_written map ws)
+allowed-stays known s t ws (Size map) alike = prefix-begins known (asks.Map map ∷ rows_written map ws)
 
-asks_of-stays : (known : Ask → Bool) (s t : Sees) (ws : List Write) (o : Operation) → AreAlike known s t → Begins (front known (asks_of o s ws)) (asks_of o t ws)
+asks_of-stays : (known : Ask → Bool) (s t : Sees) (ws : List Write) (o : Operation) → AreAlike known s t → Begins (prefix known (asks_of o s ws)) (asks_of o t ws)
 asks_of-stays known s t ws o alike = go (bar_on o)
   where
-    go : (b : Option Cause) → Begins (front known (asks_unless_barred b (allowed_asks o s ws))) (asks_unless_barred b (allowed_asks o t ws))
+    go : (b : Option Cause) → Begins (prefix known (asks_unless_barred b (allowed_asks o s ws))) (asks_unless_barred b (allowed_asks o t ws))
     go None = allowed-stays known s t ws o alike
     go (Some cause) = ([], refl)
 
 abbrev asks_next : List Operation → Sees → List Write → Result Performed Cause → List Ask
-asks_next os s ws r = asks_behind (λ done. asks_from os s (with_writes ws done.write)) r
+asks_next os s ws r = asks_after (λ done. asks_from os s (with_writes ws done.write)) r
 
-asks_from-stays : (known : Ask → Bool) (s t : Sees) (os : List Operation) (ws : List Write) → AreAlike known s t → Begins (front known (asks_from os s ws)) (asks_from os t ws)
+asks_from-stays : (known : Ask → Bool) (s t : Sees) (os : List Operation) (ws : List Write) → AreAlike known s t → Begins (prefix known (asks_from os s ws)) (asks_from os t ws)
 asks_from-stays known s t [] ws alike = ([], refl)
 asks_from-stays known s t (o ∷ os) ws alike =
-    go (list_all known (asks_of o s ws)) refl (behind-stays (perform_result o (behind s ws)) (λ done. asks_from-stays known s t os (with_writes ws done.write) alike))
+    go (list_all known (asks_of o s ws)) refl (suffix-stays (perform_result o (suffix s ws)) (λ done. asks_from-stays known s t os (with_writes ws done.write) alike))
   where
-    behind-stays : (r : Result Performed Cause) → ((done : Performed) → Begins (front known (asks_from os s (with_writes ws done.write))) (asks_from os t (with_writes ws done.write))) →
-        Begins (front known (asks_next os s ws r)) (asks_next os t ws r)
-    behind-stays (Err cause) again = ([], refl)
-    behind-stays (Ok done) again = again done
+    suffix-stays : (r : Result Performed Cause) → ((done : Performed) → Begins (prefix known (asks_from os s (with_writes ws done.write))) (asks_from os t (with_writes ws done.write))) →
+        Begins (prefix known (asks_next os s ws r)) (asks_next os t ws r)
+    suffix-stays (Err cause) again = ([], refl)
+    suffix-stays (Ok done) again = again done
 
     go : (b : Bool) → list_all known (asks_of o s ws) ≡ b →
-        Begins (front known (asks_next os s ws (perform_result o (behind s ws)))) (asks_next os t ws (perform_result o (behind s ws))) →
-        Begins (front known (asks_from (o ∷ os) s ws)) (asks_from (o ∷ os) t ws)
+        Begins (prefix known (asks_next os s ws (perform_result o (suffix s ws)))) (asks_next os t ws (perform_result o (suffix s ws))) →
+        Begins (prefix known (asks_from (o ∷ os) s ws)) (asks_from (o ∷ os) t ws)
     go true is again =
-        let rest = asks_next os s ws (perform_result o (behind s ws)) in
-        let after = asks_next os t ws (perform_result o (behind s ws)) in
-        let begins : Begins (asks_of o s ws ++ front known rest) (asks_of o s ws ++ after) =
-        begins-behind (asks_of o s ws) (front known rest) after again in
-        let first : Begins (front known (asks_of o s ws ++ rest)) (asks_of o s ws ++ after) =
-        subst (λ (xs : List Ask). Begins xs (asks_of o s ws ++ after)) (sym (front-known known (asks_of o s ws) rest is)) begins in
-        subst (λ (xs : List Ask). Begins (front known (asks_of o s ws ++ rest)) xs)
+        let rest = asks_next os s ws (perform_result o (suffix s ws)) in
+        let after = asks_next os t ws (perform_result o (suffix s ws)) in
+        let begins : Begins (asks_of o s ws ++ prefix known rest) (asks_of o s ws ++ after) =
+        begins-suffix (asks_of o s ws) (prefix known rest) after again in
+        let first : Begins (prefix known (asks_of o s ws ++ rest)) (asks_of o s ws ++ after) =
+        subst (λ (xs : List Ask). Begins xs (asks_of o s ws ++ after)) (sym (prefix-known known (asks_of o s ws) rest is)) begins in
+        subst (λ (xs : List Ask). Begins (prefix known (asks_of o s ws ++ rest)) xs)
         (ap (λ (xs : List Ask). xs ++ after) (asks_of-alike known s t ws o alike is)
         ∙ ap (λ (r : Result Performed Cause). asks_of o t ws ++ asks_next os t ws r) (perform_result-alike known s t ws o alike is))
         first
     go false is again =
         subst (λ (xs : List Ask). Begins xs (asks_from (o ∷ os) t ws))
-        (sym (front-unknown known (asks_of o s ws) (asks_next os s ws (perform_result o (behind s ws))) is))
-        (begins-append (front known (asks_of o s ws)) (asks_of o t ws) (asks_next os t ws (perform_result o (behind t ws))) (asks_of-stays known s t ws o alike))
+        (sym (prefix-unknown known (asks_of o s ws) (asks_next os s ws (perform_result o (suffix s ws))) is))
+        (begins-append (prefix known (asks_of o s ws)) (asks_of o t ws) (asks_next os t ws (perform_result o (suffix t ws))) (asks_of-stays known s t ws o alike))
 
 -- ---- two asks for each operation
 
@@ -241,19 +242,19 @@ own_ask-row (Size map) w e = absurd (cc)
 
 -- the key that a followed value is
 abbrev further_asks : Operation → Sees → List Write → List Ask
-further_asks (Follow map key target) s ws = key_asks ws target ((behind s ws).value map key)
+further_asks (Follow map key target) s ws = key_asks ws target ((suffix s ws).value map key)
 further_asks other s ws = []
 
 abbrev charges : Operation → Sees → List Write → List Ask
 charges o s ws = own_ask o ∷ further_asks o s ws
 
-abbrev charges_behind : (Performed → List Ask) → Result Performed Cause → List Ask
-charges_behind rest (Err cause) = []
-charges_behind rest (Ok done) = rest done
+abbrev charges_after : (Performed → List Ask) → Result Performed Cause → List Ask
+charges_after rest (Err cause) = []
+charges_after rest (Ok done) = rest done
 
 abbrev charges_from : List Operation → Sees → List Write → List Ask
 charges_from [] s ws = []
-charges_from (o ∷ os) s ws = charges o s ws ++ charges_behind (λ done. charges_from os s (with_writes ws done.write)) (perform_result o (behind s ws))
+charges_from (o ∷ os) s ws = charges o s ws ++ charges_after (λ done. charges_from os s (with_writes ws done.write)) (perform_result o (suffix s ws))
 
 length-row_asks : (ws : List Write) (map key : List ℕ) → length (row_asks ws map key) ≤ 1
 length-row_asks ws map key = go (is_some (write_to map key ws))
@@ -277,15 +278,15 @@ length-further_asks (Put map key value) s ws = omega arith
 length-further_asks (Remove map key) s ws = omega arith
 length-further_asks (Add map key amount) s ws = omega arith
 length-further_asks (Check map key expected) s ws = omega arith
-length-further_asks (Follow map key target) s ws = length-key_asks ws target ((behind s ws).value map key)
+length-further_asks (Follow map key target) s ws = length-key_asks ws target ((suffix s ws).value map key)
 length-further_asks (Size map) s ws = omega arith
 
 length-charges_from : (os : List Operation) (s : Sees) (ws : List Write) → length (charges_from os s ws) ≤ 2 * length os
 length-charges_from [] s ws = omega arith
-length-charges_from (o ∷ os) s ws = go (perform_result o (behind s ws)) (λ done. length-charges_from os s (with_writes ws done.write))
+length-charges_from (o ∷ os) s ws = go (perform_result o (suffix s ws)) (λ done. length-charges_from os s (with_writes ws done.write))
   where
     go : (r : Result Performed Cause) → ((done : Performed) → length (charges_from os s (with_writes ws done.write)) ≤ 2 * length os) →
-        length (charges o s ws ++ charges_behind (λ done. charges_from os s (with_writes ws done.write)) r) ≤ 2 * length (o ∷ os)
+        length (charges o s ws ++ charges_after (λ done. charges_from os s (with_writes ws done.write)) r) ≤ 2 * length (o ∷ os)
     go (Err cause) again = omega (arith, length-append (charges o s ws) [], length-further_asks o s ws)
     go (Ok done) again = omega (arith, length-append (charges o s ws) (charges_from os s (with_writes ws done.write)), length-further_asks o s ws, again done)
 
@@ -325,7 +326,7 @@ allowed-charged (Remove map key) s ws a h = inl (inl (among-row_asks ws map key 
 allowed-charged (Add map key amount) s ws a h = inl (inl (among-row_asks ws map key a h))
 allowed-charged (Check map key expected) s ws a h = inl (inl (among-row_asks ws map key a h))
 allowed-charged (Follow map key target) s ws a h =
-    elim (among-append (row_asks ws map key) (key_asks ws target ((behind s ws).value map key)) a h) [
+    elim (among-append (row_asks ws map key) (key_asks ws target ((suffix s ws).value map key)) a h) [
       | inl f ↦ inl (inl (among-row_asks ws map key a f))
       | inr b ↦ inl (inr b)
     ]
@@ -357,21 +358,21 @@ among-with_writes ws (Some w) o a is h = elim (among-with_write ws w a h) [ inl 
 asks_from-charged : (os : List Operation) (s : Sees) (ws : List Write) (a : Ask) → Among (asks_from os s ws) a → Among (charges_from os s ws) a ⊎ Among (rows ws) a
 asks_from-charged [] s ws a h = absurd h
 asks_from-charged (o ∷ os) s ws a h =
-    go (perform_result o (behind s ws)) (perform_result-own o (behind s ws)) (λ done. asks_from-charged os s (with_writes ws done.write) a) h
+    go (perform_result o (suffix s ws)) (perform_result-own o (suffix s ws)) (λ done. asks_from-charged os s (with_writes ws done.write) a) h
   where
     go : (r : Result Performed Cause) → WritesTo (own_row o) r →
         ((done : Performed) → Among (asks_from os s (with_writes ws done.write)) a → Among (charges_from os s (with_writes ws done.write)) a ⊎ Among (rows (with_writes ws done.write)) a) →
         Among (asks_of o s ws ++ asks_next os s ws r) a →
-        Among (charges o s ws ++ charges_behind (λ done. charges_from os s (with_writes ws done.write)) r) a ⊎ Among (rows ws) a
+        Among (charges o s ws ++ charges_after (λ done. charges_from os s (with_writes ws done.write)) r) a ⊎ Among (rows ws) a
     go (Err cause) own again there =
         elim (among-append (asks_of o s ws) [] a there) [
-          | inl f ↦ elim (asks_of-charged o s ws a f) [ inl c ↦ inl (among-front (charges o s ws) [] a c) | inr r ↦ inr r ]
+          | inl f ↦ elim (asks_of-charged o s ws a f) [ inl c ↦ inl (among-prefix (charges o s ws) [] a c) | inr r ↦ inr r ]
           | inr never ↦ absurd never
         ]
     go (Ok done) own again there =
         let rest = charges_from os s (with_writes ws done.write) in
         elim (among-append (asks_of o s ws) (asks_from os s (with_writes ws done.write)) a there) [
-          | inl f ↦ elim (asks_of-charged o s ws a f) [ inl c ↦ inl (among-front (charges o s ws) rest a c) | inr r ↦ inr r ]
+          | inl f ↦ elim (asks_of-charged o s ws a f) [ inl c ↦ inl (among-prefix (charges o s ws) rest a c) | inr r ↦ inr r ]
           | inr b ↦
               elim (again done b) [
                 | inl c ↦ inl (among-back (charges o s ws) rest a c)
@@ -439,9 +440,10 @@ is_noted-last ns n =
     is_noted-among (ns ++ n ∷ []) (ask_of n)
     (subst (λ (xs : List Ask). Among xs (ask_of n)) (sym (asked-push ns n)) (among-back (asked ns) (ask_of n ∷ []) (ask_of n) (inl refl)))
 
--- the notes are of different asks, and the run on them asks for each before the first that isn't noted
+-- the notes are of different asks, and the run on them asks for each before the first that isn't
+-- noted
 abbrev known_asks : List Operation → List Note → List Ask
-known_asks os ns = front (is_noted ns) (asks_from os (sees_by ns) [])
+known_asks os ns = prefix (is_noted ns) (asks_from os (sees_by ns) [])
 
 record AreReached (os : List Operation) (ns : List Note) : Type 0 where
   pub different : AreDifferent (asked ns)
@@ -452,10 +454,10 @@ still_reached : (os : List Operation) (ns : List Note) (n : Note) (a : Ask) → 
     Among (known_asks os ns) a → Among (known_asks os (ns ++ n ∷ [])) a
 still_reached os ns n a next h =
     let stays = asks_from-stays (is_noted ns) (sees_by ns) (sees_by (ns ++ n ∷ [])) os [] (alike-more ns n) in
-    let known = front-all (is_noted ns) (is_noted (ns ++ n ∷ [])) (asks_from os (sees_by ns) []) (ask_of n) (is_noted-more ns n) (is_noted-last ns n) next in
-    subst (λ (xs : List Ask). Among (front (is_noted (ns ++ n ∷ [])) xs) a) stays.1
-    (subst (λ (xs : List Ask). Among xs a) (sym (front-known (is_noted (ns ++ n ∷ [])) (known_asks os ns) stays.0 known))
-    (among-front (known_asks os ns) (front (is_noted (ns ++ n ∷ [])) stays.0) a h))
+    let known = prefix-all (is_noted ns) (is_noted (ns ++ n ∷ [])) (asks_from os (sees_by ns) []) (ask_of n) (is_noted-more ns n) (is_noted-last ns n) next in
+    subst (λ (xs : List Ask). Among (prefix (is_noted (ns ++ n ∷ [])) xs) a) stays.1
+    (subst (λ (xs : List Ask). Among xs a) (sym (prefix-known (is_noted (ns ++ n ∷ [])) (known_asks os ns) stays.0 known))
+    (among-prefix (known_asks os ns) (prefix (is_noted (ns ++ n ∷ [])) stays.0) a h))
 
 next-new : (os : List Operation) (ns : List Note) (n : Note) → next_ask os ns ≡ Some (ask_of n) → Among (asked ns) (ask_of n) → ⊥
 next-new os ns n next h =
@@ -473,13 +475,13 @@ reached-more os ns n before next = record {
             elim b [
               | inl e ↦
                   subst (λ (x : Ask). Among (known_asks os (ns ++ n ∷ [])) x) e
-                  (still_reached os ns n (ask_of n) next (front-found (is_noted ns) (asks_from os (sees_by ns) []) (ask_of n) next))
+                  (still_reached os ns n (ask_of n) next (prefix-found (is_noted ns) (asks_from os (sees_by ns) []) (ask_of n) next))
               | inr never ↦ absurd never
             ]
       ];
 }
 
-reached-all : (os : List Operation) (before ns : List Note) → AreReached os before → AreAskedBehind os before ns → AreReached os (before ++ ns)
+reached-all : (os : List Operation) (before ns : List Note) → AreReached os before → AreAskedAfter os before ns → AreReached os (before ++ ns)
 reached-all os before [] is h = subst (AreReached os) (sym (append-nil before)) is
 reached-all os before (n ∷ ns) is h =
     subst (AreReached os) (append_assoc before (n ∷ []) ns) (reached-all os (before ++ n ∷ []) ns (reached-more os before n is h.0) h.1)
@@ -488,20 +490,20 @@ reached-all os before (n ∷ ns) is h =
 pub length-AreAsked : (os : List Operation) (ns : List Note) → length os ≤ 64 → AreAsked os ns → length ns ≤ 128
 length-AreAsked os ns few h =
     let is = reached-all os [] ns (record { different = tt; reached = λ a never. absurd never }) h in
-    let begins = front-begins (is_noted ns) (asks_from os (sees_by ns) []) in
+    let begins = prefix-begins (is_noted ns) (asks_from os (sees_by ns) []) in
     let charged : (a : Ask) → Among (asked ns) a → Among (charges_from os (sees_by ns) []) a =
     λ a there.
     elim (asks_from-charged os (sees_by ns) [] a
-    (subst (λ (xs : List Ask). Among xs a) begins.1 (among-front (known_asks os ns) begins.0 a (is.reached a there)))) [ inl c ↦ c | inr never ↦ absurd never ] in
+    (subst (λ (xs : List Ask). Among xs a) begins.1 (among-prefix (known_asks os ns) begins.0 a (is.reached a there)))) [ inl c ↦ c | inr never ↦ absurd never ] in
     let within = length-different (asked ns) (charges_from os (sees_by ns) []) is.different charged in
     omega (arith, within, length-asked ns, length-charges_from os (sees_by ns) [])
 
-asked_behind-push : (os : List Operation) (before ns : List Note) (n : Note) → AreAskedBehind os before ns → next_ask os (before ++ ns) ≡ Some (ask_of n) →
-    AreAskedBehind os before (ns ++ n ∷ [])
-asked_behind-push os before [] n h next = (subst (λ (xs : List Note). next_ask os xs ≡ Some (ask_of n)) (append-nil before) next, tt)
-asked_behind-push os before (x ∷ ns) n h next =
-    (h.0, asked_behind-push os (before ++ x ∷ []) ns n h.1 (subst (λ (xs : List Note). next_ask os xs ≡ Some (ask_of n)) (sym (append_assoc before (x ∷ []) ns)) next))
+asked_after-push : (os : List Operation) (before ns : List Note) (n : Note) → AreAskedAfter os before ns → next_ask os (before ++ ns) ≡ Some (ask_of n) →
+    AreAskedAfter os before (ns ++ n ∷ [])
+asked_after-push os before [] n h next = (subst (λ (xs : List Note). next_ask os xs ≡ Some (ask_of n)) (append-nil before) next, tt)
+asked_after-push os before (x ∷ ns) n h next =
+    (h.0, asked_after-push os (before ++ x ∷ []) ns n h.1 (subst (λ (xs : List Note). next_ask os xs ≡ Some (ask_of n)) (sym (append_assoc before (x ∷ []) ns)) next))
 
 -- one more note, of what is asked for next
 pub AreAsked-push : (os : List Operation) (ns : List Note) (n : Note) → AreAsked os ns → next_ask os ns ≡ Some (ask_of n) → AreAsked os (ns ++ n ∷ [])
-AreAsked-push os ns n h next = asked_behind-push os [] ns n h next
+AreAsked-push os ns n h next = asked_after-push os [] ns n h next

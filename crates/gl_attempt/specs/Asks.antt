@@ -4,7 +4,7 @@ use Rattle.gl_vmaps.specs.Name.{is_key}
 use Rattle.gl_vmaps.specs.Tables.{same_bytes}
 use Rattle.gl_vmaps.specs.Versions.{is_to_map}
 use Rattle.gl_vmaps.specs.declared.write.Write.{Write}
-use Rattle.gl_tx.specs.Sees.{Sees, write_to, behind}
+use Rattle.gl_tx.specs.Sees.{Sees, write_to, suffix}
 use Rattle.gl_tx.specs.Run.{bar_on, perform_result, with_writes}
 use Rattle.gl_tx.specs.declared.performed.Performed.{Performed}
 use Rattle.gl_tx.specs.declared.abort.Cause.{Cause}
@@ -30,8 +30,8 @@ abbrev pub key_asks : List Write → List ℕ → Option (List ℕ) → List Ask
 key_asks ws target None = []
 key_asks ws target (Some key) = if is_key key then row_asks ws target key else []
 
--- What an operation on maps that it may name asks for, in order. The number of a map's keys behind
--- a write set follows from the number before and from which of the rows that the set writes were
+-- What an operation on maps that it may name asks for, in order. The number of a map's keys after a
+-- write set follows from the number before and from which of the rows that the set writes were
 -- there.
 abbrev pub allowed_asks : Operation → Sees → List Write → List Ask
 allowed_asks (Get map key) sees ws = row_asks ws map key
@@ -41,7 +41,7 @@ allowed_asks (Remove map key) sees ws = row_asks ws map key
 allowed_asks (Add map key amount) sees ws = row_asks ws map key
 allowed_asks (Check map key expected) sees ws = row_asks ws map key
 allowed_asks (Follow map key target) sees ws =
-    row_asks ws map key ++ key_asks ws target ((behind sees ws).value map key)
+    row_asks ws map key ++ key_asks ws target ((suffix sees ws).value map key)
 allowed_asks (Size map) sees ws = asks.Map map ∷ rows_written map ws
 
 -- What an operation asks for: nothing, where no request may name one of its maps.
@@ -52,18 +52,18 @@ asks_unless_barred (Some cause) asked = []
 abbrev pub asks_of : Operation → Sees → List Write → List Ask
 asks_of operation sees ws = asks_unless_barred (bar_on operation) (allowed_asks operation sees ws)
 
--- Behind an operation that fails nothing is asked for.
-abbrev pub asks_behind : (Performed → List Ask) → Result Performed Cause → List Ask
-asks_behind rest (Err cause) = []
-asks_behind rest (Ok done) = rest done
+-- After an operation that fails nothing is asked for.
+abbrev pub asks_after : (Performed → List Ask) → Result Performed Cause → List Ask
+asks_after rest (Err cause) = []
+asks_after rest (Ok done) = rest done
 
--- What operations ask for, in order, each behind what earlier ones wrote.
+-- What operations ask for, in order, each after what earlier ones wrote.
 abbrev pub asks_from : List Operation → Sees → List Write → List Ask
 asks_from [] sees ws = []
 asks_from (operation ∷ operations) sees ws =
     asks_of operation sees ws
-    ++ asks_behind (λ done. asks_from operations sees (with_writes ws done.write))
-    (perform_result operation (behind sees ws))
+    ++ asks_after (λ done. asks_from operations sees (with_writes ws done.write))
+    (perform_result operation (suffix sees ws))
 
 -- The note is of this row; and of the number of this map's keys.
 abbrev pub is_of_row : List ℕ → List ℕ → Note → Bool
@@ -124,11 +124,11 @@ is_note (notes.Row map key value) = true
 is_note (notes.Map map size) = nat_lt size (2 ^ 63)
 
 -- Each note is of what the run on the notes before it asks for.
-abbrev pub AreAskedBehind : List Operation → List Note → List Note → Type 0
-AreAskedBehind operations before [] = Unit {0}
-AreAskedBehind operations before (note ∷ noted) =
+abbrev pub AreAskedAfter : List Operation → List Note → List Note → Type 0
+AreAskedAfter operations before [] = Unit {0}
+AreAskedAfter operations before (note ∷ noted) =
     (next_ask operations before ≡ Some (ask_of note))
-    × AreAskedBehind operations (before ++ note ∷ []) noted
+    × AreAskedAfter operations (before ++ note ∷ []) noted
 
 abbrev pub AreAsked : List Operation → List Note → Type 0
-AreAsked operations noted = AreAskedBehind operations [] noted
+AreAsked operations noted = AreAskedAfter operations [] noted

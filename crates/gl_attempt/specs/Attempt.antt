@@ -122,7 +122,7 @@ abbrev pub IsSeen : Sees → Note → Type 0
 IsSeen sees note = note ≡ note_of sees (ask_of note)
 
 -- The note was made since the attempt began, and no cut came between: the writes of then are a
--- front of those of now, and all writes since are above the length at the begin.
+-- prefix of those of now, and all writes since are above the length at the begin.
 pub record IsNotedSince (began : ℕ) (now : List Placed) (note : Note) : Type 0 where
   pub before : List Placed
   pub since : List Placed

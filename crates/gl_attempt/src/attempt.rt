@@ -71,7 +71,7 @@ impl Attempt {
     }
 
     /// Notes the next row or map that the run on what is noted asks for, as the tables have it now.
-    /// This is at most 128 times `More`. Want of memory leaves the attempt as it was.
+    /// This is at most 128 times `More`. Running out of memory leaves the attempt as it was.
     pub fn fetch(&mut self, tables: &Tables) -> Result<Fetched, AllocError>
         ensures answer { IfOk result (λ fetched. fetched ≡ fetch_answer (next_of self.old)) }
         ensures noted { OnOk result (self.new ≡ with_fetch self.old (sees_of tables.now)) }

@@ -36,7 +36,7 @@ impl Note {
     ghost use Rattle.std.specs.Prelude.{◌≡◌, IfOk};
     ghost use Rattle.gl_attempt.specs.Asks.{is_of_row, is_of_map};
 
-    /// The same note in memory of its own. Fails for want of memory alone.
+    /// The same note in memory of its own. Fails only where memory runs out.
     pub fn copy(&self, alloc: Global) -> Result<Self, AllocError>
         ensures { IfOk result (λ note. note ≡ self.now) }
     {
@@ -150,7 +150,7 @@ impl Reads {
         &self.notes
     }
 
-    /// The same notes in memory of their own. Fails for want of memory alone.
+    /// The same notes in memory of their own. Fails only where memory runs out.
     pub fn copy(&self, alloc: Global) -> Result<Self, AllocError>
         ensures { IfOk result (λ reads. reads ≡ self.now) }
     {
@@ -161,7 +161,7 @@ impl Reads {
         Ok(Reads { notes })
     }
 
-    /// Adds a note. Want of memory leaves the notes as they were.
+    /// Adds a note. Running out of memory leaves the notes as they were.
     pub(crate) fn push(&mut self, note: Note) -> Result<(), AllocError>
         requires { IsTrue (is_note note) }
         ensures ok { OnOk result (self.new ≡ self.old ++ note ∷ []) }

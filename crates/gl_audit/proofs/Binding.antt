@@ -39,7 +39,7 @@ use Rattle.gl_receipt.specs.declared.components.LeafComponents.{LeafComponents}
 use Rattle.gl_receipt.specs.declared.components.Receipt.{Receipt}
 use Rattle.gl_receipt.proofs.LawLemmas.{same_leaf}
 use Rattle.gl_audit.specs.Binding.{evidence_input, hashed_for_leaf, hashed_for_receipt, hashed_from, hashed_for_ledger, IsBound}
-use Rattle.gl_audit.proofs.Spellings.{same_parts, IsSmall, same_evidence}
+use Rattle.gl_audit.proofs.UniqueEncodings.{same_parts, IsSmall, same_evidence}
 use Rattle.gl_audit.proofs.Hashed.{IsPair, pairs_on, pairs_of, length-leaf_input, HasLeaf, has_leaf}
 
 -- equal, or not
@@ -136,7 +136,7 @@ module _ (layers : Layers) (ledger : List Entry) (sound : IsSound layers ledger)
 
     same_components : r.leaf_components ≡ components → IsBound identity r id ledger count
     same_components same =
-        let texts : evidence_text identity id ≡ evidence_text l.identity (id_of l.entry) = sym evidence.spelled ∙ ap (λ (c : LeafComponents). c.commit_evidence) same in
+        let texts : evidence_text identity id ≡ evidence_text l.identity (id_of l.entry) = sym evidence.encoded ∙ ap (λ (c : LeafComponents). c.commit_evidence) same in
         let both = same_evidence identity l.identity id (id_of l.entry) (omega (arith, evidence.named.view.1), omega (arith, evidence.named.seqno.1)) ranges.small texts in
         elim (same_or_not (evidence_input identity id) (evidence_input l.identity (id_of l.entry))) [
           | inl one ↦ shown same both.0 (key one)
@@ -145,9 +145,9 @@ module _ (layers : Layers) (ledger : List Entry) (sound : IsSound layers ledger)
       where
         key : evidence_input identity id ≡ evidence_input l.identity (id_of l.entry) → identity ≡ l.identity
         key one =
-            let front = same_parts (identity ++ little_endian 4 id.view) (l.identity ++ little_endian 4 (id_of l.entry).view) (little_endian 8 id.seqno) (little_endian 8 (id_of l.entry).seqno)
+            let prefix = same_parts (identity ++ little_endian 4 id.view) (l.identity ++ little_endian 4 (id_of l.entry).view) (little_endian 8 id.seqno) (little_endian 8 (id_of l.entry).seqno)
             (length-little_endian 8 id.seqno ∙ sym (length-little_endian 8 (id_of l.entry).seqno)) one in
-            (same_parts identity l.identity (little_endian 4 id.view) (little_endian 4 (id_of l.entry).view) (length-little_endian 4 id.view ∙ sym (length-little_endian 4 (id_of l.entry).view)) front.0).0
+            (same_parts identity l.identity (little_endian 4 id.view) (little_endian 4 (id_of l.entry).view) (length-little_endian 4 id.view ∙ sym (length-little_endian 4 (id_of l.entry).view)) prefix.0).0
 
     at_leaf : AreBound r.leaf_components components → IsBound identity r id ledger count
     at_leaf (inl same) = same_components same

@@ -1,4 +1,5 @@
--- What a cut leaves of a ledger: its writes up to there, its requests of governance, its leaves, that it breaks no rule, and the signatures below.
+-- What a cut leaves of a ledger: its writes up to there, its requests of governance, its leaves,
+-- that it breaks no rule, and the signatures below.
 use Rattle.std.proofs.Common.{◌≡◌, ℕ, zero, suc, ◌+◌, ◌-◌, ◌<◌, ◌≤◌, nat_le, List, [], ◌∷◌, ◌++◌, take, slice_get, Option, Some, None, true, false, cond, refl, sym, ◌∙◌, ap, ap₂, arith}
 use Rattle.std.proofs.lemmas.Bool.Decides.{nat_tests}
 use Rattle.std.specs.List.{AllByRecursion}
@@ -12,7 +13,7 @@ use Rattle.gl_entry.specs.Leaf.{leaf_of}
 use Rattle.gl_entry.specs.declared.entry.Content.{Content}
 use Rattle.gl_entry.specs.declared.entry.Content.TheVariants as content
 use Rattle.gl_entry.specs.declared.entry.Entry.{Entry}
-use Rattle.gl_requests.specs.Reading.{request_in}
+use Rattle.gl_requests.specs.Parsing.{request_in}
 use Rattle.gl_requests.specs.declared.request.GovernanceRequest.{GovernanceRequest}
 use Rattle.gl_gov_rules.specs.declared.change.Recorded.{Recorded}
 use Rattle.gl_gov_rules.specs.Governed as governed
@@ -29,7 +30,7 @@ use Rattle.gl_ledger.proofs.Auditing.{audited_none, audited_all}
 
 -- ---- writes
 
--- the i-th entry has the seqno i behind the first one's
+-- the i-th entry has the seqno i after the first one's
 abbrev CountFrom : ℕ → List Entry → Type 0
 CountFrom n es = (i : ℕ) (e : Entry) → slice_get es i ≡ Some e → e.seqno ≡ n + i
 

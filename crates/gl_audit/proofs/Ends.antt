@@ -1,4 +1,4 @@
--- How a ledger ends with one more entry, and behind a cut.
+-- How a ledger ends with one more entry, and after a cut.
 use Rattle.std.proofs.Common.{◌≡◌, ℕ, zero, suc, ◌+◌, List, [], ◌∷◌, ◌++◌, length, slice_get, Option, Some, option_map, Bool, true, false, if◌then◌else◌, refl, sym, ◌∙◌, ap, ap₂, arith, length-append}
 use Rattle.gl_base.specs.declared.tx_id.TxId.{TxId}
 use Rattle.gl_base.proofs.Lists.{slice_get-last, slice_get-append}
@@ -7,19 +7,19 @@ use Rattle.gl_entry.specs.Entry.{is_signature}
 use Rattle.gl_entry.specs.Leaf.{id_of}
 use Rattle.gl_entry.specs.declared.entry.Entry.{Entry}
 use Rattle.gl_ledger.specs.Recordings.{last_entry, begins}
-use Rattle.gl_ledger.specs.Broken.{last_signed, commit_behind, commit_from, last_commit, is_unopened}
+use Rattle.gl_ledger.specs.Broken.{last_signed, commit_after, commit_from, last_commit, is_unopened}
 use Rattle.gl_ledger.proofs.Signatures.{last_signature-push, last_signature-signed, last_is_signed}
 use Rattle.gl_audit.specs.Ends.{end_of, end_with}
 use Rattle.gl_audit.specs.Kept.{commit_at}
 use Rattle.gl_audit.proofs.SignatureSeqnos.{last_commit-is}
 use Rattle.gl_audit.specs.declared.ledger_end.LedgerEnd.{LedgerEnd}
 
--- the last entry is the one behind
+-- the last entry is the one after
 last_entry-push : (ledger : List Entry) (e : Entry) → last_entry (ledger ++ e ∷ []) ≡ Some e
 last_entry-push ledger e =
     ap (slice_get (ledger ++ e ∷ [])) (let long : length (ledger ++ e ∷ []) ≡ length ledger + 1 = length-append ledger (e ∷ []) in omega (arith, long)) ∙ slice_get-last ledger e
 
--- the last signature's entry stays where another entry comes behind it
+-- the last signature's entry stays where another entry comes after it
 signature-push : (ledger : List Entry) (e : Entry) → is_signature e.content ≡ false → entry_at (ledger ++ e ∷ []) (last_signed (ledger ++ e ∷ [])) ≡ entry_at ledger (last_signed ledger)
 signature-push ledger e other = ap (entry_at (ledger ++ e ∷ [])) (last_signature-push ledger e other) ∙ go (last_signed ledger) refl
   where
@@ -29,7 +29,7 @@ signature-push ledger e other = ap (entry_at (ledger ++ e ∷ [])) (last_signatu
         let there = last_is_signed ledger i is in
         slice_get-append ledger (e ∷ []) i there.0 there.1 ∙ sym there.1
 
--- and one that comes behind is the last one
+-- and one that comes after is the last one
 signature-signed : (ledger : List Entry) (e : Entry) → is_signature e.content ≡ true → entry_at (ledger ++ e ∷ []) (last_signed (ledger ++ e ∷ [])) ≡ Some e
 signature-signed ledger e signs = ap (entry_at (ledger ++ e ∷ [])) (last_signature-signed ledger e signs) ∙ slice_get-last ledger e
 
@@ -43,9 +43,9 @@ signed-push ledger e = go (is_signature e.content) refl
     go true is = ap (option_map id_of) (signature-signed ledger e is)
     go false is = ap (option_map id_of) (signature-push ledger e is)
 
-commit-push : (commit : ℕ) (ledger : List Entry) (e : Entry) → commit_from commit (ledger ++ e ∷ []) ≡ commit_behind (commit_from commit ledger) e.content
+commit-push : (commit : ℕ) (ledger : List Entry) (e : Entry) → commit_from commit (ledger ++ e ∷ []) ≡ commit_after (commit_from commit ledger) e.content
 commit-push commit [] e = refl
-commit-push commit (f ∷ ledger) e = commit-push (commit_behind commit f.content) ledger e
+commit-push commit (f ∷ ledger) e = commit-push (commit_after commit f.content) ledger e
 
 ended : ℕ → Option TxId → Option TxId → ℕ → Bool → LedgerEnd
 ended len last signed commit unopened = record { len = len; last = last; signed = signed; commit = commit; is_unopened = unopened }

@@ -1,4 +1,5 @@
--- A state's history is that of its requests, each of which follows those before it: of no requests, with one more, and cut.
+-- A state's history is that of its requests, each of which follows those before it: of no requests,
+-- with one more, and cut.
 use Rattle.std.proofs.Common.{◌≡◌, ℕ, ◌+◌, ◌-◌, ◌<◌, ◌≤◌, zero, suc, true, List, [], ◌∷◌, ◌++◌, Option, None, Some, count_by, filter_map, is_some, length, map, take, slice_get, nat_le, refl, sym, ◌∙◌, ap, subst, arith}
 use Rattle.std.specs.List.{cons_option, AllByRecursion}
 use Rattle.gl_base.proofs.Lists.{slice_get-within}
@@ -63,10 +64,10 @@ above_more m n (r ∷ rs) more all = (omega (arith, all.0), above_more m n rs mo
 -- what is above the last seqno is above all
 pub above_last : (rs : List Recorded) (r : Recorded) (n : ℕ) → IsGoverned rs → slice_get rs (length rs - 1) ≡ Some r → r.seqno < n → IsAbove n rs
 above_last rs r n all at more =
-    let front : List Recorded = take (length rs - 1) rs in
+    let prefix : List Recorded = take (length rs - 1) rs in
     let long : length rs ≡ suc (length rs - 1) = omega (arith, slice_get-within rs (length rs - 1) r at) in
     subst (IsAbove n) (sym (split_last rs r (length rs - 1) long at))
-    (each_append (λ (x : Recorded). x.seqno < n) front (r ∷ []) (above_more r.seqno n front more (all (length rs - 1) r at).above) (more, tt))
+    (each_append (λ (x : Recorded). x.seqno < n) prefix (r ∷ []) (above_more r.seqno n prefix more (all (length rs - 1) r at).above) (more, tt))
 
 -- ---- a step
 

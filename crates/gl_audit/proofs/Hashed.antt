@@ -1,4 +1,5 @@
--- What is hashed on a way and in a tree has 64 bytes, and for a leaf 96; and the leaf of each entry.
+-- What is hashed on a way and in a tree has 64 bytes, and for a leaf 96; and the leaf of each
+-- entry.
 use Rattle.std.proofs.Common.{◌≡◌, ℕ, zero, suc, ◌^◌, ◌<◌, ◌≤◌, List, [], ◌∷◌, ◌++◌, length, take, drop, get_or, slice_get, Some, refl, sym, ap, ◌∙◌, arith, length-append, inl, inr, All, Contains}
 use Rattle.std.proofs.Math.Nat.{pow-suc}
 use Rattle.std.proofs.lemmas.Nat.{pow_pos}
@@ -16,7 +17,7 @@ use Rattle.gl_merkle.specs.Reach.{IsDigest, sibling_of, inputs_on, inputs_within
 use Rattle.gl_merkle.proofs.PathLemmas.{length-joined}
 use Rattle.gl_merkle.proofs.TreeLemmas.{below_pow, root_within-low, root_within-split}
 use Rattle.gl_vmaps.specs.Tables.{Tables, wrote_all}
-use Rattle.gl_vmaps.specs.Versions.{written_behind}
+use Rattle.gl_vmaps.specs.Versions.{written_after}
 use Rattle.gl_entry.specs.Leaf.{id_of}
 use Rattle.gl_entry.specs.declared.entry.Entry.{Entry}
 use Rattle.gl_ledger.specs.ServiceRow.{identity_in}
@@ -26,7 +27,7 @@ use Rattle.gl_receipt.specs.Made.{components_of}
 use Rattle.gl_receipt.specs.Receipt.{leaf_of}
 use Rattle.gl_receipt.specs.declared.components.LeafComponents.{LeafComponents}
 use Rattle.gl_audit.specs.Binding.{hashed_for_leaf, hashed_from}
-use Rattle.gl_audit.proofs.InForce.{written_behind-cons}
+use Rattle.gl_audit.proofs.InForce.{written_after-cons}
 
 -- two digests side by side
 abbrev pub IsPair : List ℕ → Type 0
@@ -82,7 +83,7 @@ pairs_within (suc h) ls some fits all =
       | inl lt ↦ (
           let two = pow-suc 2 h in
           let full = pow_pos h in
-          let front = length-take-le (2 ^ h) ls (omega arith) in
+          let prefix = length-take-le (2 ^ h) ls (omega arith) in
           let back = length-drop (2 ^ h) ls in
           let first = All-take IsDigest (2 ^ h) ls all in
           let rest = All-drop IsDigest (2 ^ h) ls all in
@@ -106,12 +107,12 @@ length-leaf_input c size =
 
 -- ---- the leaf of each entry
 
--- the entry at a place behind tables, its leaf, and what is hashed for it
+-- the entry at a place after tables, its leaf, and what is hashed for it
 pub record HasLeaf (tables : Tables) (es : List Entry) (place : ℕ) : Type 0 where
   pub entry : Entry
   pub stands : slice_get es place ≡ Some entry
   pub identity : List ℕ
-  pub in_force : identity ≡ identity_in (written_behind tables (writes_of (take (suc place) es)))
+  pub in_force : identity ≡ identity_in (written_after tables (writes_of (take (suc place) es)))
   pub leaf : (d : List ℕ) → get_or (leaves_from tables es) place d ≡ leaf_of (components_of identity (id_of entry) entry)
   pub hashed : (x : List ℕ) → Contains (hashed_for_leaf identity (id_of entry) (components_of identity (id_of entry) entry)) x → Contains (hashed_from tables es) x
 
@@ -121,7 +122,7 @@ has_leaf zero t (e ∷ es) within = record {
   entry = e;
   stands = refl;
   identity = identity_in (wrote_all t e.writes);
-  in_force = ap identity_in (sym (written_behind-cons t e []));
+  in_force = ap identity_in (sym (written_after-cons t e []));
   leaf = λ d. refl;
   hashed = λ x at.
       let identity : List ℕ = identity_in (wrote_all t e.writes) in
@@ -133,7 +134,7 @@ has_leaf (suc place) t (e ∷ es) within =
       entry = rest.entry;
       stands = rest.stands;
       identity = rest.identity;
-      in_force = rest.in_force ∙ ap identity_in (sym (written_behind-cons t e (take (suc place) es)));
+      in_force = rest.in_force ∙ ap identity_in (sym (written_after-cons t e (take (suc place) es)));
       leaf = rest.leaf;
       hashed = λ x at.
           let identity : List ℕ = identity_in (wrote_all t e.writes) in

@@ -1,4 +1,5 @@
--- The last entry of a ledger and of its first entries, and that the entries of a valid ledger are read.
+-- The last entry of a ledger and of its first entries, and that the entries of a valid ledger are
+-- read.
 use Rattle.std.proofs.Common.{◌≡◌, ℕ, zero, suc, ◌-◌, ◌≤◌, List, [], ◌∷◌, length, take, slice_get, Option, Some, None, IfSome, refl, sym, ◌∙◌, ap, subst, arith}
 use Rattle.std.proofs.lemmas.List.{length-take-le}
 use Rattle.gl_base.proofs.Lists.{slice_get-below, slice_get-take}

@@ -6,10 +6,10 @@ pub mod LastEntries
 pub mod Beginnings
 pub mod Cutting
 pub mod Nodes
-pub mod Keeping
+pub mod KeptLedgers
 pub mod RuleTests
 pub mod InForce
-pub mod Spellings
+pub mod UniqueEncodings
 pub mod Hashed
 pub mod Binding
 pub mod OfService

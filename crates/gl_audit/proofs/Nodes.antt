@@ -1,4 +1,5 @@
--- The nodes that a ledger records, and the removals of those that are marked, by the history of its requests.
+-- The nodes that a ledger records, and the removals of those that are marked, by the history of its
+-- requests.
 use Rattle.std.proofs.Common.{◌≡◌, ℕ, suc, List, [], ◌∷◌, map, Option, Some, None, is_some, option_map, Bool, true, false, cond, find, nat_lt, nat_le, ◌||◌, ◌&&◌, slice_get, Bor, refl, sym, ◌∙◌, ap, ap₂, arith}
 use Rattle.std.specs.List.{list_all, list_any, filter_map}
 use Rattle.std.proofs.lemmas.Bool.{or_left, or_parts}
@@ -14,11 +15,11 @@ use Rattle.gl_gov_rules.specs.declared.change.RecordedNode.{RecordedNode}
 use Rattle.gl_gov_rules.specs.History.{History}
 use Rattle.gl_gov_rules.specs.Changes.{history}
 use Rattle.gl_gov_rules.specs.Governed.{IsGoverned}
-use Rattle.gl_gov_rules.specs.declared.told.Mark.{Mark}
-use Rattle.gl_gov_rules.specs.Told.{mark_in}
-use Rattle.gl_gov_rules.specs.Index.{first_mark, marks_of, has_mark_behind}
+use Rattle.gl_gov_rules.specs.declared.request_facts.Mark.{Mark}
+use Rattle.gl_gov_rules.specs.RequestFacts.{mark_in}
+use Rattle.gl_gov_rules.specs.Index.{first_mark, marks_of, has_mark_after}
 use Rattle.gl_gov_rules.specs.Nodes as nodes
-use Rattle.gl_gov_rules.proofs.Telling.{mark_first}
+use Rattle.gl_gov_rules.proofs.HistoryIndex.{mark_first}
 use Rattle.gl_gov_rules.proofs.Counting.{find_passes}
 use Rattle.gl_gov_rules.proofs.NewNodes.{node_at}
 use Rattle.gl_ledger.specs.NodeKeys.{service_layers}
@@ -72,7 +73,7 @@ each_of f g (n ∷ ns) each = ap₂ (λ (a b : Bool). a && b) (each 0 n refl) (e
 abbrev above : ℕ → ℕ → History → RecordedNode → Bool
 above signed commit past n = is_above_removal (nodes.mark past n.id) (retired_at past n) signed commit
 
--- the commit is above the removals of all nodes that were marked behind the last signature
+-- the commit is above the removals of all nodes that were marked after the last signature
 abbrev pub are_above : List Entry → ℕ → Bool
 are_above ledger commit = list_all (λ (y : NodeId). is_above_removal (mark ledger y) (removal ledger y) (last_signed ledger) commit) (recorded_nodes ledger)
 
@@ -84,7 +85,7 @@ all_above ledger commit all =
     (nodes.nodes (history (requests_of ledger)))
     (λ i n at. ap₂ (λ (m r : Option ℕ). is_above_removal m r (last_signed ledger) commit) (sym (mark_is ledger n.id)) (sym (removal_is ledger all i n at)))
 
--- where no node is marked behind the last signature nothing else is asked
+-- where no node is marked after the last signature nothing else is asked
 
 low_mark : (mark seqno commit : ℕ) (removal : Option ℕ) → nat_lt seqno mark ≡ false → is_above_removal (Some mark) removal seqno commit ≡ true
 low_mark mark seqno commit None low = refl
@@ -102,8 +103,8 @@ low_first id seqno commit removal (m ∷ ms) none =
     by true here rest = here
     by false here rest = rest
 
-low_each : (past : History) (seqno commit : ℕ) → has_mark_behind past seqno ≡ false → (n : RecordedNode) → above seqno commit past n ≡ true
-unfolding nodes.mark has_mark_behind marks_of
+low_each : (past : History) (seqno commit : ℕ) → has_mark_after past seqno ≡ false → (n : RecordedNode) → above seqno commit past n ≡ true
+unfolding nodes.mark has_mark_after marks_of
 low_each past seqno commit none n =
     ap (λ (o : Option ℕ). is_above_removal o (retired_at past n) seqno commit) (mark_first n.id past.requests)
     ∙ low_first n.id seqno commit (retired_at past n) (filter_map (λ (r : Recorded). mark_in r.seqno r.request) past.requests) none
@@ -112,7 +113,7 @@ all_of : {A : Type 0} (p : A → Bool) → ((x : A) → p x ≡ true) → (xs : 
 all_of p each [] = refl
 all_of p each (x ∷ xs) = rw (each x) (all_of p each xs)
 
-pub above_unmarked : (past : History) (seqno commit : ℕ) → has_mark_behind past seqno ≡ false → list_all (above seqno commit past) (nodes.nodes past) ≡ true
+pub above_unmarked : (past : History) (seqno commit : ℕ) → has_mark_after past seqno ≡ false → list_all (above seqno commit past) (nodes.nodes past) ≡ true
 above_unmarked past seqno commit none = all_of (above seqno commit past) (low_each past seqno commit none) (nodes.nodes past)
 
 -- and so it is by the history kept

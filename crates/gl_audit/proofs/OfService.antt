@@ -33,7 +33,7 @@ use Rattle.gl_audit.specs.Committed.{receipts_of}
 use Rattle.gl_audit.proofs.Binding.{has_ranges}
 use Rattle.gl_audit.proofs.Cutting.{leaves_of-take}
 use Rattle.gl_ledger.proofs.Founded.{identity_sized, length_identity}
-use Rattle.gl_ledger.proofs.Fronts.{sound_front}
+use Rattle.gl_ledger.proofs.LedgerPrefixes.{sound_prefix}
 use Rattle.gl_ledger.proofs.TablesLaws.{tables_of-push}
 use Rattle.gl_audit.proofs.InForce.{leaf_in_force}
 
@@ -67,7 +67,7 @@ module _ (ledger : List Entry) (sound : IsSound service_layers ledger) where
       let stands : IsSignatureEntry service_layers (take (suc i) ledger) e s = subst (λ (c : Content). StandsAs service_layers c (take (suc i) ledger) e) is (sound.serial (suc i) e at) in
       let within = slice_get-within ledger (suc i) e at in
       let long : length (take (suc i) ledger) ≡ suc i = length-take-le (suc i) ledger (omega (arith, within)) in
-      let before = sound_front service_layers ledger sound (suc i) in
+      let before = sound_prefix service_layers ledger sound (suc i) in
       let key = identity (suc i) in
       let sized = and_parts (length key == 60) (are_bytes key) (identity_sized service_layers (take (suc i) ledger) before (omega (arith, long))) in
       let recorded : is_recorded_signature s ≡ true = subst (λ (c : Content). is_content c ≡ true) is (fits_parts e (sound.in_order.fits (suc i) e at)).content in

@@ -7,7 +7,7 @@ use Rattle.gl_tx.specs.declared.request.Operation.{Operation}
 use Rattle.gl_base.specs.Bytes.{are_bytes, same_bytes, is_digest}
 use Rattle.gl_base.specs.declared.fault.CodeFault.{CodeFault}
 use Rattle.gl_merkle.specs.Tree.{root_of}
-use Rattle.gl_tx.specs.Reading.{request_of}
+use Rattle.gl_tx.specs.Parsing.{request_of}
 use Rattle.gl_entry.specs.declared.entry.Content.{Content}
 use Rattle.gl_entry.specs.declared.entry.Content.TheVariants as content
 use Rattle.gl_entry.specs.declared.entry.Signature as signatures
@@ -20,7 +20,7 @@ use Rattle.gl_ledger.specs.declared.recording.Recording.{Recording}
 use Rattle.gl_ledger.specs.declared.recording.Recording.TheVariants as recordings
 use Rattle.gl_requests.specs.declared.request.GovernanceRequest.{GovernanceRequest}
 use Rattle.gl_ledger.specs.Tree.{leaves_of}
-use Rattle.gl_requests.specs.Reading.{request_in}
+use Rattle.gl_requests.specs.Parsing.{request_in}
 use Rattle.gl_ledger.specs.NodeKeys.{service_layers}
 use Rattle.gl_ledger.specs.Recordings.{last_entry, begins, recording_of, governance_recording, application_recording, requests_of, recorded_nodes}
 use Rattle.gl_ledger.specs.Broken.{required}
@@ -29,14 +29,14 @@ use Rattle.std.proofs.lemmas.Bool.{and_parts, not-true}
 use Rattle.gl_ledger.specs.Sound.{IsSound}
 use Rattle.gl_ledger.specs.Broken.{may_record, replay, breach, is_next_view, is_in_order, fault_of_signature, broken_by_fault, broken_by_signature, broken_where, broken}
 use Rattle.gl_gov_rules.specs.Governed as governance
-use Rattle.gl_ledger.proofs.RequestSpellings.{request_in-spelled}
+use Rattle.gl_ledger.proofs.RequestEncodings.{request_in-encoded}
 use Rattle.gl_ledger.proofs.Governed.{above, nothing_recorded}
 use Rattle.gl_audit.specs.Kept.{IsStateOf, ForLedgers}
 use Rattle.gl_ledger.specs.declared.breach.Broken.{Broken}
 use Rattle.gl_audit.specs.declared.ledger_end.LedgerEnd.{LedgerEnd}
 use Rattle.gl_audit.specs.declared.ledger_state.LedgerState.{LedgerState}
 
--- what an entry records that none of its bytes spell, or that they do
+-- what an entry records that none of its bytes encode, or that they do
 pub broken_unread : (ledger : List Entry) (e : Entry) → recording_of e.content ≡ None → broken service_layers ledger e ≡ Some (breach 1 (length ledger + 1) e)
 unfolding broken
 broken_unread ledger e is = ap (λ (o : Option Recording). broken_where service_layers o ledger e) is
@@ -60,7 +60,8 @@ nothing_is (e ∷ es) sound = some_recorded (governance.is_nothing (requests_of 
 pub nothing_kept : (ledger : List Entry) (s : LedgerState) → IsStateOf ledger s → governance.is_nothing s.gov ≡ (length ledger == 0)
 nothing_kept ledger s k = ap governance.is_nothing k.governed ∙ nothing_is ledger k.sound
 
--- where views and order let a request pass, it founds the service exactly where nothing of governance is recorded
+-- where views and order let a request pass, it founds the service exactly where nothing of
+-- governance is recorded
 pub founding_asked : (ledger : List Entry) (s : LedgerState) (g : GovernanceRequest) (view : ℕ) → IsStateOf ledger s →
     is_next_view (last_entry ledger) (recordings.Governance g) view ≡ true → is_in_order (last_entry ledger) (recordings.Governance g) view ≡ true →
     governance.is_founding g ≡ governance.is_nothing s.gov
@@ -91,7 +92,7 @@ recorded_fits e g reads fits = by_content e.content reads (third (nat_lt e.view 
   where
     read_from : (bytes : List ℕ) (o : Option GovernanceRequest) → request_in bytes ≡ o → governance_recording o ≡ Some (recordings.Governance g) → are_bytes bytes ≡ true → ranges.is_request g ≡ true
     read_from bytes None is r all = absurd (cc)
-    read_from bytes (Some h) is r all = let same : h ≡ g = cc in (request_in-spelled bytes g all (is ∙ ap (λ (x : GovernanceRequest). Some x) same)).0
+    read_from bytes (Some h) is r all = let same : h ≡ g = cc in (request_in-encoded bytes g all (is ∙ ap (λ (x : GovernanceRequest). Some x) same)).0
 
     by_application : (r : Result (List Operation) CodeFault) → application_recording r ≡ Some (recordings.Governance g) → ⊥
     by_application (Ok q) is = cc

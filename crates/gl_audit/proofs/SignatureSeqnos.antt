@@ -1,4 +1,5 @@
--- The seqnos of a ledger's signatures: those of one with one more entry and of a cut one, the last one, and the first above a seqno.
+-- The seqnos of a ledger's signatures: those of one with one more entry and of a cut one, the last
+-- one, and the first above a seqno.
 use Rattle.std.proofs.Common.{◌≡◌, ℕ, zero, suc, ◌+◌, ◌-◌, ◌<◌, ◌≤◌, nat_le, List, [], ◌∷◌, ◌++◌, length, take, drop, get_or, slice_get, Option, None, Some, Bool, true, false, cond, not, ◌&&◌, ◌==◌, refl, sym, ◌∙◌, ap, subst, arith}
 use Rattle.std.specs.List.{find}
 use Rattle.std.specs.List.Sorted.{IsPartitionPoint, IsPartitionedBy}
@@ -11,7 +12,7 @@ use Rattle.gl_entry.specs.Entry.{is_signature, recorded_commit}
 use Rattle.gl_entry.specs.declared.entry.Content.{Content}
 use Rattle.gl_entry.specs.declared.entry.Content.TheVariants as content
 use Rattle.gl_entry.specs.declared.entry.Entry.{Entry}
-use Rattle.gl_ledger.specs.Broken.{last_signed, signs_at, commit_behind, commit_from, last_commit}
+use Rattle.gl_ledger.specs.Broken.{last_signed, signs_at, commit_after, commit_from, last_commit}
 use Rattle.gl_audit.specs.Kept.{seqno_if, signed_from, signature_seqnos, commit_at}
 
 -- the entry at a seqno, where there is one
@@ -21,18 +22,18 @@ entry_if ledger (Some seqno) = entry_at ledger seqno
 
 -- ---- one more entry
 
-behind_first : (b : Bool) (n : ℕ) (xs ys : List ℕ) → seqno_if b n (xs ++ ys) ≡ seqno_if b n xs ++ ys
-behind_first true n xs ys = refl
-behind_first false n xs ys = refl
+after_first : (b : Bool) (n : ℕ) (xs ys : List ℕ) → seqno_if b n (xs ++ ys) ≡ seqno_if b n xs ++ ys
+after_first true n xs ys = refl
+after_first false n xs ys = refl
 
 signed_from-push : (n : ℕ) (es : List Entry) (e : Entry) → signed_from n (es ++ e ∷ []) ≡ signed_from n es ++ seqno_if (is_signature e.content) (n + length es) []
 signed_from-push n [] e = ap (λ (k : ℕ). seqno_if (is_signature e.content) k []) (omega arith)
 signed_from-push n (f ∷ es) e =
     ap (seqno_if (is_signature f.content) n)
     (signed_from-push (suc n) es e ∙ ap (λ (k : ℕ). signed_from (suc n) es ++ seqno_if (is_signature e.content) k []) (omega arith))
-    ∙ behind_first (is_signature f.content) n (signed_from (suc n) es) (seqno_if (is_signature e.content) (n + length (f ∷ es)) [])
+    ∙ after_first (is_signature f.content) n (signed_from (suc n) es) (seqno_if (is_signature e.content) (n + length (f ∷ es)) [])
 
--- a signature's seqno comes behind all others, and other entries add none
+-- a signature's seqno comes after all others, and other entries add none
 pub seqnos-push : (ledger : List Entry) (e : Entry) →
     signature_seqnos (ledger ++ e ∷ []) ≡ signature_seqnos ledger ++ seqno_if (is_signature e.content) (suc (length ledger)) []
 seqnos-push ledger e = signed_from-push 1 ledger e ∙ ap (λ (k : ℕ). signature_seqnos ledger ++ seqno_if (is_signature e.content) k []) (omega arith)
@@ -48,9 +49,9 @@ none_signed n (e ∷ es) is = go (is_signature e.content) (last_signed es) refl 
     go false zero more w again = again more
     go b (suc m) more w again = absurd (let q : suc (suc m) ≡ 0 = w in omega (arith, q))
 
-last_behind : (n s : ℕ) (xs : List ℕ) → slice_get xs (length xs - 1) ≡ Some s → slice_get (n ∷ xs) (length (n ∷ xs) - 1) ≡ Some s
-last_behind n s [] is = absurd (cc)
-last_behind n s (x ∷ xs) is =
+last_after : (n s : ℕ) (xs : List ℕ) → slice_get xs (length xs - 1) ≡ Some s → slice_get (n ∷ xs) (length (n ∷ xs) - 1) ≡ Some s
+last_after n s [] is = absurd (cc)
+last_after n s (x ∷ xs) is =
     ap (slice_get (n ∷ x ∷ xs)) (let q : length (n ∷ x ∷ xs) - 1 ≡ suc (length xs) = omega arith in q)
     ∙ ap (slice_get (x ∷ xs)) (let q : length xs ≡ length (x ∷ xs) - 1 = omega arith in q) ∙ is
 
@@ -66,7 +67,7 @@ last_from n i (e ∷ es) is = go (is_signature e.content) (last_signed es) i ref
     go false zero j more w again = absurd (let q : 0 ≡ suc j = w in omega (arith, q))
     go b (suc m) zero more w again = absurd (let q : suc (suc m) ≡ suc zero = w in omega (arith, q))
     go true (suc m) (suc j) more w again =
-        last_behind n (n + suc j) (signed_from (suc n) es) (again j (more ∙ (let q : suc (suc m) ≡ suc (suc j) = w in omega (arith, q))) ∙ ap (λ (k : ℕ). Some k) (omega arith))
+        last_after n (n + suc j) (signed_from (suc n) es) (again j (more ∙ (let q : suc (suc m) ≡ suc (suc j) = w in omega (arith, q))) ∙ ap (λ (k : ℕ). Some k) (omega arith))
     go false (suc m) (suc j) more w again = again j (more ∙ (let q : suc (suc m) ≡ suc (suc j) = w in omega (arith, q))) ∙ ap (λ (k : ℕ). Some k) (omega arith)
 
 -- the last seqno is that of the last signature
@@ -86,9 +87,9 @@ commit_or commit es (suc i) = commit_at (slice_get es i)
 
 commit_from-is : (commit : ℕ) (es : List Entry) → commit_from commit es ≡ commit_or commit es (last_signed es)
 commit_from-is commit [] = refl
-commit_from-is commit (e ∷ es) = commit_from-is (commit_behind commit e.content) es ∙ go (last_signed es)
+commit_from-is commit (e ∷ es) = commit_from-is (commit_after commit e.content) es ∙ go (last_signed es)
   where
-    here : (c : Content) (f : Entry) → f.content ≡ c → commit_behind commit c ≡ commit_or commit (f ∷ es) (seqno_with_first (is_signature c) 0)
+    here : (c : Content) (f : Entry) → f.content ≡ c → commit_after commit c ≡ commit_or commit (f ∷ es) (seqno_with_first (is_signature c) 0)
     here (content.Governance b) f is = refl
     here (content.Application b) f is = refl
     here (content.Signature s) f is = sym (ap recorded_commit is)
@@ -98,7 +99,7 @@ commit_from-is commit (e ∷ es) = commit_from-is (commit_behind commit e.conten
     later true i = refl
     later false i = refl
 
-    go : (m : ℕ) → commit_or (commit_behind commit e.content) es m ≡ commit_or commit (e ∷ es) (seqno_with_first (is_signature e.content) m)
+    go : (m : ℕ) → commit_or (commit_after commit e.content) es m ≡ commit_or commit (e ∷ es) (seqno_with_first (is_signature e.content) m)
     go zero = here e.content e refl
     go (suc i) = later (is_signature e.content) i
 
@@ -135,7 +136,7 @@ rising n (e ∷ es) i j d le low = go (is_signature e.content) i j le low (λ h 
     go true (suc h) (suc k) u w again = again h k (omega (arith, u)) (omega (arith, w))
     go false h k u w again = again h k u w
 
--- so that none that is at most a seqno comes behind one above it
+-- so that none that is at most a seqno comes after one above it
 pub seqnos-partitioned : (ledger : List Entry) (to : ℕ) → IsPartitionedBy (λ s. nat_le s to) (signature_seqnos ledger)
 seqnos-partitioned ledger to i j d le low up = let r = rising 1 ledger i j d le low in grind (arith, nat_tests)
 
@@ -188,8 +189,8 @@ abbrev entry_from : ℕ → List Entry → Option ℕ → Option Entry
 entry_from n es None = None
 entry_from n es (Some seqno) = slice_get es (seqno - n)
 
-entry_behind : (n k : ℕ) (e : Entry) (es : List Entry) → entry_from (suc n) es (slice_get (signed_from (suc n) es) k) ≡ entry_from n (e ∷ es) (slice_get (signed_from (suc n) es) k)
-entry_behind n k e es = go (slice_get (signed_from (suc n) es) k) refl
+entry_after : (n k : ℕ) (e : Entry) (es : List Entry) → entry_from (suc n) es (slice_get (signed_from (suc n) es) k) ≡ entry_from n (e ∷ es) (slice_get (signed_from (suc n) es) k)
+entry_after n k e es = go (slice_get (signed_from (suc n) es) k) refl
   where
     go : (o : Option ℕ) → slice_get (signed_from (suc n) es) k ≡ o → entry_from (suc n) es o ≡ entry_from n (e ∷ es) o
     go None is = refl
@@ -210,7 +211,7 @@ above_cut n (e ∷ es) zero k cut = go (is_signature e.content) k cut (λ m c. a
     go true zero c again = ap (slice_get (e ∷ es)) (let q : 0 ≡ n - n = omega arith in q)
     go true (suc m) c again = absurd (let r : n < n + 0 = c.0 0 0 (omega arith) in omega (arith, r))
     go false m c again =
-        again m (λ j d low. let r = c.0 j d low in omega (arith, r), λ j d high low. let r = no_less (suc n) es j d low in omega (arith, r)) ∙ entry_behind n m e es
+        again m (λ j d low. let r = c.0 j d low in omega (arith, r), λ j d high low. let r = no_less (suc n) es j d low in omega (arith, r)) ∙ entry_after n m e es
 above_cut n (e ∷ es) (suc t) k cut = go (is_signature e.content) k cut (λ m c. above_cut (suc n) es t m c)
   where
     moved : (m : ℕ) → IsCutAt (signed_from (suc n) es) (n + suc t) m → IsCutAt (signed_from (suc n) es) (suc n + t) m
@@ -220,8 +221,8 @@ above_cut n (e ∷ es) (suc t) k cut = go (is_signature e.content) k cut (λ m c
         ((h : ℕ) → IsCutAt (signed_from (suc n) es) (suc n + t) h → find (λ (f : Entry). is_signature f.content) (drop t es) ≡ entry_from (suc n) es (slice_get (signed_from (suc n) es) h)) →
         find (λ (f : Entry). is_signature f.content) (drop t es) ≡ entry_from n (e ∷ es) (slice_get (seqno_if b n (signed_from (suc n) es)) m)
     go true zero c again = absurd (let r : n + suc t ≤ n = c.1 0 0 (omega arith) (omega arith) in omega (arith, r))
-    go true (suc m) c again = again m (moved m (cut_next n (n + suc t) m (signed_from (suc n) es) c)) ∙ entry_behind n m e es
-    go false m c again = again m (moved m c) ∙ entry_behind n m e es
+    go true (suc m) c again = again m (moved m (cut_next n (n + suc t) m (signed_from (suc n) es) c)) ∙ entry_after n m e es
+    go false m c again = again m (moved m c) ∙ entry_after n m e es
 
 -- the first signature above a seqno is the entry at the first of their seqnos above it
 pub above-is : (ledger : List Entry) (seqno n : ℕ) → IsPartitionPoint (λ s. nat_le s seqno ≡ true) (λ s. nat_le s seqno ≡ false) (signature_seqnos ledger) n →

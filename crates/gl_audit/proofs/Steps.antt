@@ -12,28 +12,28 @@ use Rattle.gl_ledger.specs.Recordings.{last_entry}
 use Rattle.gl_ledger.specs.declared.breach.Broken.{Broken}
 use Rattle.gl_ledger.proofs.Faults.{broken_first, fault_from-append}
 use Rattle.gl_ledger.proofs.Passing.{passing}
-use Rattle.gl_entry.specs.Given.{OfBytes}
+use Rattle.gl_entry.specs.SourceBytes.{OfBytes}
 use Rattle.gl_entry.specs.LedgerFile.{LedgerFile, ledger_file, no_entries, with_entries}
 use Rattle.gl_entry.specs.FileReading.{Consumes, IsNext}
 use Rattle.gl_entry.specs.declared.next.Next.{Next}
 use Rattle.gl_entry.specs.declared.next.Next.TheVariants as nexts
-use Rattle.gl_entry.proofs.Reading.{consumes_none, consumes_then, of_all, of_consumed, of_map}
+use Rattle.gl_entry.proofs.FileSteps.{consumes_none, consumes_then, of_all, of_consumed, of_map}
 use Rattle.gl_audit.specs.Kept.{ForLedgers, IsStateOf}
 use Rattle.gl_audit.specs.declared.ledger_end.LedgerEnd.{LedgerEnd}
 use Rattle.gl_audit.specs.declared.ledger_state.LedgerState.{LedgerState}
-use Rattle.gl_audit.specs.Taking.{AreTaken, Ends, EndsAt, IsTaken, Takes}
+use Rattle.gl_audit.specs.AuditSteps.{AreTaken, Ends, EndsAt, IsTaken, Takes}
 use Rattle.gl_audit.specs.declared.ledger_audit.Stop.{Stop}
 use Rattle.gl_audit.specs.declared.ledger_audit.Stop.TheVariants as stops
 use Rattle.gl_audit.specs.Verdict.{judged, unless_broken, unless_unread, verdict, verdict_of}
 use Rattle.gl_audit.specs.declared.verdict.Verdict.{Verdict}
 use Rattle.gl_audit.specs.declared.verdict.Verdict.TheVariants as verdicts
 
--- ---- the first fault of entries one behind the other
+-- ---- the first fault of entries one after the other
 
 taken_one : (before : List Entry) (e : Entry) → broken service_layers before e ≡ None → fault_from service_layers before (e ∷ []) ≡ None
 taken_one before e none = ap (λ (o : Option Broken). fault_or (length before + 1) o None) none
 
--- ---- the auditor's state behind what it has taken
+-- ---- the auditor's state after what it has taken
 
 pub record HasTaken (old new : Option (List ℕ)) (before now : List Entry) : Type 0 where
   pub entries : List Entry
@@ -57,28 +57,28 @@ go_on old mid new before now next e t c is = record {
 
 -- What the calls told, where they told this.
 at_entry : (mid new : Option (List ℕ)) (n : Next) (e : Entry) → n ≡ nexts.Entry e → IsNext mid n new → Consumes mid (e ∷ []) new
-at_entry mid new n e is told = subst (λ (x : Next). IsNext mid x new) is told
+at_entry mid new n e is reported = subst (λ (x : Next). IsNext mid x new) is reported
 
-as_told : (now next : List Entry) (e : Entry) (told rule : Option ℕ) → told ≡ rule → IsTaken now e told next → IsTaken now e rule next
-as_told now next e told rule is taken = subst (λ (r : Option ℕ). IsTaken now e r next) is taken
+as_reported : (now next : List Entry) (e : Entry) (reported rule : Option ℕ) → reported ≡ rule → IsTaken now e reported next → IsTaken now e rule next
+as_reported now next e reported rule is taken = subst (λ (r : Option ℕ). IsTaken now e r next) is taken
 
-pub goes_on : (old mid new : Option (List ℕ)) (before now next : List Entry) (n : Next) (e : Entry) (told : Option ℕ) → HasTaken old mid before now → n ≡ nexts.Entry e → IsNext mid n new → told ≡ None → IsTaken now e told next → HasTaken old new before next
-goes_on old mid new before now next n e told t is read none taken = go_on old mid new before now next e t (at_entry mid new n e is read) (as_told now next e told None none taken)
+pub goes_on : (old mid new : Option (List ℕ)) (before now next : List Entry) (n : Next) (e : Entry) (reported : Option ℕ) → HasTaken old mid before now → n ≡ nexts.Entry e → IsNext mid n new → reported ≡ None → IsTaken now e reported next → HasTaken old new before next
+goes_on old mid new before now next n e reported t is read none taken = go_on old mid new before now next e t (at_entry mid new n e is read) (as_reported now next e reported None none taken)
 
 added_whole : (before now : List Entry) (entries : List Entry) → AreTaken before entries now → AreTaken before (entries ++ []) now
 added_whole before now entries a = subst (λ (es : List Entry). AreTaken before es now) (sym (append-nil entries)) a
 
 pub ends_whole : (old new : Option (List ℕ)) (before now : List Entry) → (n : Next) (after : Option (List ℕ)) → HasTaken old new before now → n ≡ nexts.End → IsNext new n after → OfBytes old (λ bytes. Ends before (ledger_file bytes) stops.End now)
-ends_whole old new before now n after t is told =
+ends_whole old new before now n after t is reported =
     of_consumed old new t.entries (λ file. Ends before file stops.End now) t.consumed
     (of_map new (λ bytes. ledger_file bytes ≡ no_entries None) (λ rest. Ends before (with_entries t.entries (ledger_file rest)) stops.End now)
-    (λ rest is. subst (λ (file : LedgerFile). Ends before (with_entries t.entries file) stops.End now) (sym is) (added_whole before now t.entries t.added, refl)) (subst (λ (x : Next). IsNext new x after) is told))
+    (λ rest is. subst (λ (file : LedgerFile). Ends before (with_entries t.entries file) stops.End now) (sym is) (added_whole before now t.entries t.added, refl)) (subst (λ (x : Next). IsNext new x after) is reported))
 
 pub ends_unread : (old new : Option (List ℕ)) (before now : List Entry) → (n : Next) (after : Option (List ℕ)) → HasTaken old new before now → n ≡ nexts.Unread → IsNext new n after → OfBytes old (λ bytes. Ends before (ledger_file bytes) stops.Unread now)
-ends_unread old new before now n after t is told =
+ends_unread old new before now n after t is reported =
     of_consumed old new t.entries (λ file. Ends before file stops.Unread now) t.consumed
     (of_map new (λ bytes. (f : EntryFault) × (ledger_file bytes ≡ no_entries (Some f))) (λ rest. Ends before (with_entries t.entries (ledger_file rest)) stops.Unread now)
-    (λ rest is. subst (λ (file : LedgerFile). Ends before (with_entries t.entries file) stops.Unread now) (sym is.1) (added_whole before now t.entries t.added, is.0, refl)) (subst (λ (x : Next). IsNext new x after) is told))
+    (λ rest is. subst (λ (file : LedgerFile). Ends before (with_entries t.entries file) stops.Unread now) (sym is.1) (added_whole before now t.entries t.added, is.0, refl)) (subst (λ (x : Next). IsNext new x after) is reported))
 
 end_broken : (old mid new : Option (List ℕ)) (before now next : List Entry) (e : Entry) (rule : ℕ) → HasTaken old mid before now → Consumes mid (e ∷ []) new → IsTaken now e (Some rule) next
     → OfBytes old (λ bytes. Ends before (ledger_file bytes) (stops.Broken rule) next)
@@ -95,15 +95,15 @@ end_broken old mid new before now next e rule t c is =
         ∙ broken_first service_layers now e more is.0 is.1
         ∙ ap (λ (l : List Entry). Some (record { seqno = suc (length l); broken = is.0 })) (sym is.3)
 
-pub ends_broken : (old mid new : Option (List ℕ)) (before now next : List Entry) (n : Next) (e : Entry) (told : Option ℕ) (rule : ℕ) → HasTaken old mid before now → n ≡ nexts.Entry e → IsNext mid n new → told ≡ Some rule → IsTaken now e told next
+pub ends_broken : (old mid new : Option (List ℕ)) (before now next : List Entry) (n : Next) (e : Entry) (reported : Option ℕ) (rule : ℕ) → HasTaken old mid before now → n ≡ nexts.Entry e → IsNext mid n new → reported ≡ Some rule → IsTaken now e reported next
     → OfBytes old (λ bytes. Ends before (ledger_file bytes) (stops.Broken rule) next)
-ends_broken old mid new before now next n e told rule t is read some taken = end_broken old mid new before now next e rule t (at_entry mid new n e is read) (as_told now next e told (Some rule) some taken)
+ends_broken old mid new before now next n e reported rule t is read some taken = end_broken old mid new before now next e rule t (at_entry mid new n e is read) (as_reported now next e reported (Some rule) some taken)
 
 -- ---- an audit comes to an end: there are no more entries than seqnos
 
-pub smaller : (now next : List Entry) (e : Entry) (told : Option ℕ) → told ≡ None → IsTaken now e told next → last_seqno - length next < last_seqno - length now
-smaller now next e told none taken =
-    let is = as_told now next e told None none taken in
+pub smaller : (now next : List Entry) (e : Entry) (reported : Option ℕ) → reported ≡ None → IsTaken now e reported next → last_seqno - length next < last_seqno - length now
+smaller now next e reported none taken =
+    let is = as_reported now next e reported None none taken in
     let p = passing service_layers now e is.0 in
     let left : length now + 1 ≤ last_seqno = grind (arith, nat_tests, p.named) in
     let one : length next ≡ length now + 1 = ap length is.1 ∙ length-append now (e ∷ []) in
@@ -137,28 +137,28 @@ at_broken identity ledger rule file e =
     ap (λ (n : ℕ). verdicts.Fault n rule) next ∙ ap (λ (r : ℕ). verdicts.Fault (suc (length ledger)) r) (sym e.1) ∙ sym faulty
 
 -- What the auditor tells where the entries ended so.
-abbrev pub told_at : Stop → List ℕ → List Entry → Verdict
-told_at stops.End identity ledger = judged identity ledger (last_entry ledger)
-told_at stops.Unread identity ledger = verdicts.Fault (length ledger + 1) 1
-told_at (stops.Broken rule) identity ledger = verdicts.Fault (length ledger + 1) rule
+abbrev pub reported_at : Stop → List ℕ → List Entry → Verdict
+reported_at stops.End identity ledger = judged identity ledger (last_entry ledger)
+reported_at stops.Unread identity ledger = verdicts.Fault (length ledger + 1) 1
+reported_at (stops.Broken rule) identity ledger = verdicts.Fault (length ledger + 1) rule
 
-told_right : (stop : Stop) (identity : List ℕ) (ledger : List Entry) (file : LedgerFile) → Ends [] file stop ledger → told_at stop identity ledger ≡ verdict_of identity file
-told_right stops.End identity ledger file e = at_whole identity ledger file e
-told_right stops.Unread identity ledger file e = at_unread identity ledger file e
-told_right (stops.Broken rule) identity ledger file e = at_broken identity ledger rule file e
+reported_right : (stop : Stop) (identity : List ℕ) (ledger : List Entry) (file : LedgerFile) → Ends [] file stop ledger → reported_at stop identity ledger ≡ verdict_of identity file
+reported_right stops.End identity ledger file e = at_whole identity ledger file e
+reported_right stops.Unread identity ledger file e = at_unread identity ledger file e
+reported_right (stops.Broken rule) identity ledger file e = at_broken identity ledger rule file e
 
-pub told_verdict : (stop at : Stop) (told : Verdict) (identity : List ℕ) (ledger : List Entry) → stop ≡ at → told ≡ told_at at identity ledger → (file : LedgerFile) → Ends [] file stop ledger → told ≡ verdict_of identity file
-told_verdict stop at told identity ledger is same file e = same ∙ told_right at identity ledger file (subst (λ (s : Stop). Ends [] file s ledger) is e)
+pub reported_verdict : (stop at : Stop) (reported : Verdict) (identity : List ℕ) (ledger : List Entry) → stop ≡ at → reported ≡ reported_at at identity ledger → (file : LedgerFile) → Ends [] file stop ledger → reported ≡ verdict_of identity file
+reported_verdict stop at reported identity ledger is same file e = same ∙ reported_right at identity ledger file (subst (λ (s : Stop). Ends [] file s ledger) is e)
 
-pub of_taken : (given : Option (List ℕ)) (told : Verdict) (identity : List ℕ) (stop : Stop) (state : LedgerState) →
-    ForLedgers state (λ ledger. (file : LedgerFile) → Ends [] file stop ledger → told ≡ verdict_of identity file) → EndsAt given stop state → OfBytes given (λ bytes. told ≡ verdict identity bytes)
+pub of_taken : (given : Option (List ℕ)) (reported : Verdict) (identity : List ℕ) (stop : Stop) (state : LedgerState) →
+    ForLedgers state (λ ledger. (file : LedgerFile) → Ends [] file stop ledger → reported ≡ verdict_of identity file) → EndsAt given stop state → OfBytes given (λ bytes. reported ≡ verdict identity bytes)
 unfolding verdict
-of_taken given told identity stop state f e =
-    of_map given (λ bytes. Ends [] (ledger_file bytes) stop e.0) (λ bytes. told ≡ verdict identity bytes) (λ bytes ends. f e.0 e.1 (ledger_file bytes) ends) e.2
+of_taken given reported identity stop state f e =
+    of_map given (λ bytes. Ends [] (ledger_file bytes) stop e.0) (λ bytes. reported ≡ verdict identity bytes) (λ bytes ends. f e.0 e.1 (ledger_file bytes) ends) e.2
 
 -- ---- the auditor's state
 
--- behind what was read of the bytes this is the state of the ledger that was taken
+-- after what was read of the bytes this is the state of the ledger that was taken
 pub record IsAt (old new : Option (List ℕ)) (state : LedgerState) : Type 0 where
   pub ledger : List Entry
   pub taken : HasTaken old new [] ledger
@@ -172,25 +172,25 @@ starts_at left kept state none stands =
     at_first None kept none = refl
     at_first (Some bytes) kept none = ap (λ (xs : List ℕ). Some (xs ++ bytes)) none
 
-pub goes_on_at : (old mid new : Option (List ℕ)) (before after : LedgerState) (n : Next) (e : Entry) (told : Option ℕ) → (a : IsAt old mid before) → n ≡ nexts.Entry e → IsNext mid n new → told ≡ None →
-    Takes a.ledger e told after → IsAt old new after
-goes_on_at old mid new before after n e told a is read none t =
-    record { ledger = t.0; taken = goes_on old mid new [] a.ledger t.0 n e told a.taken is read none t.1; stands = t.2 }
+pub goes_on_at : (old mid new : Option (List ℕ)) (before after : LedgerState) (n : Next) (e : Entry) (reported : Option ℕ) → (a : IsAt old mid before) → n ≡ nexts.Entry e → IsNext mid n new → reported ≡ None →
+    Takes a.ledger e reported after → IsAt old new after
+goes_on_at old mid new before after n e reported a is read none t =
+    record { ledger = t.0; taken = goes_on old mid new [] a.ledger t.0 n e reported a.taken is read none t.1; stands = t.2 }
 
 pub ends_whole_at : (old new : Option (List ℕ)) (state : LedgerState) (n : Next) (after : Option (List ℕ)) → IsAt old new state → n ≡ nexts.End → IsNext new n after → EndsAt old stops.End state
-ends_whole_at old new state n after a is told = (a.ledger, a.stands, ends_whole old new [] a.ledger n after a.taken is told)
+ends_whole_at old new state n after a is reported = (a.ledger, a.stands, ends_whole old new [] a.ledger n after a.taken is reported)
 
 pub ends_unread_at : (old new : Option (List ℕ)) (state : LedgerState) (n : Next) (after : Option (List ℕ)) → IsAt old new state → n ≡ nexts.Unread → IsNext new n after → EndsAt old stops.Unread state
-ends_unread_at old new state n after a is told = (a.ledger, a.stands, ends_unread old new [] a.ledger n after a.taken is told)
+ends_unread_at old new state n after a is reported = (a.ledger, a.stands, ends_unread old new [] a.ledger n after a.taken is reported)
 
-pub ends_broken_at : (old mid new : Option (List ℕ)) (before after : LedgerState) (n : Next) (e : Entry) (told : Option ℕ) (rule : ℕ) → (a : IsAt old mid before) → n ≡ nexts.Entry e → IsNext mid n new →
-    told ≡ Some rule → Takes a.ledger e told after → EndsAt old (stops.Broken rule) after
-ends_broken_at old mid new before after n e told rule a is read some t = (t.0, t.2, ends_broken old mid new [] a.ledger t.0 n e told rule a.taken is read some t.1)
+pub ends_broken_at : (old mid new : Option (List ℕ)) (before after : LedgerState) (n : Next) (e : Entry) (reported : Option ℕ) (rule : ℕ) → (a : IsAt old mid before) → n ≡ nexts.Entry e → IsNext mid n new →
+    reported ≡ Some rule → Takes a.ledger e reported after → EndsAt old (stops.Broken rule) after
+ends_broken_at old mid new before after n e reported rule a is read some t = (t.0, t.2, ends_broken old mid new [] a.ledger t.0 n e reported rule a.taken is read some t.1)
 
-pub smaller_at : (old mid : Option (List ℕ)) (before after : LedgerState) (e : Entry) (told : Option ℕ) → (a : IsAt old mid before) → told ≡ None → Takes a.ledger e told after →
+pub smaller_at : (old mid : Option (List ℕ)) (before after : LedgerState) (e : Entry) (reported : Option ℕ) → (a : IsAt old mid before) → reported ≡ None → Takes a.ledger e reported after →
     last_seqno - after.end.len < last_seqno - before.end.len
-smaller_at old mid before after e told a none t =
-    let less = smaller a.ledger t.0 e told none t.1 in
+smaller_at old mid before after e reported a none t =
+    let less = smaller a.ledger t.0 e reported none t.1 in
     let was = ap (λ (end : LedgerEnd). end.len) a.stands.ends in
     let is = ap (λ (end : LedgerEnd). end.len) t.2.ends in
     omega (arith, less, was, is)

@@ -18,7 +18,7 @@ use Rattle.gl_audit.specs.Verdict.{IsFaulty, IsForeignTo, IsLedgerOf, IsValidLed
 use Rattle.gl_audit.specs.declared.verdict.Verdict.{Verdict}
 use Rattle.gl_audit.specs.declared.verdict.Verdict.TheVariants as verdicts
 use Rattle.gl_entry.proofs.FileLaws.{file_end}
-use Rattle.gl_entry.proofs.Spelled.{no_bytes}
+use Rattle.gl_entry.proofs.EncodedEntries.{no_bytes}
 
 -- ---- the last entry of a file
 
@@ -35,33 +35,34 @@ no_last_of_none bytes none = ap (λ (given : List ℕ). last_entry (ledger_file 
 not_empty : (bytes : List ℕ) (e : Entry) → last_entry (ledger_file bytes).entries ≡ Some e → bytes ≢ []
 not_empty bytes e is none = let other = sym (no_last_of_none bytes none) ∙ is in cc
 
--- ---- what was found, by what was told
+-- ---- what was found, by what was reported
 
--- What an auditor judges by: the first rule that is broken, bytes that are no frame, the last entry.
-abbrev told : List ℕ → List Entry → Option LedgerFault → Option EntryFault → Option Entry → Verdict
-told identity ledger broken fault last = unless_broken broken (unless_unread (suc (length ledger)) fault (judged identity ledger last))
+-- What an auditor judges by: the first rule that is broken, bytes that are no frame, the last
+-- entry.
+abbrev reported : List ℕ → List Entry → Option LedgerFault → Option EntryFault → Option Entry → Verdict
+reported identity ledger broken fault last = unless_broken broken (unless_unread (suc (length ledger)) fault (judged identity ledger last))
 
 -- No rule is broken, there are no other bytes, and this is the last entry.
 abbrev IsWhole : Option LedgerFault → Option EntryFault → Option Entry → Type 0
 IsWhole broken fault last = (broken ≡ None) × (fault ≡ None) × ((e : Entry) × (last ≡ Some e))
 
 module _ (identity : List ℕ) (ledger : List Entry) where
-  record IsToldValid (broken : Option LedgerFault) (fault : Option EntryFault) (last : Option Entry) (id : TxId) (signed : Option TxId) : Type 0 where
+  record IsReportedValid (broken : Option LedgerFault) (fault : Option EntryFault) (last : Option Entry) (id : TxId) (signed : Option TxId) : Type 0 where
     whole : IsWhole broken fault last
     service : key_in_force ledger ≡ identity
     named : option_map id_of last ≡ Some id
     signs : last_signature ledger ≡ signed
 
-  told_valid : (broken : Option LedgerFault) (fault : Option EntryFault) (last : Option Entry) (id : TxId) (signed : Option TxId)
-      → told identity ledger broken fault last ≡ verdicts.Valid id signed → IsToldValid broken fault last id signed
-  told_valid (Some b) fault last id signed h = absurd cc
-  told_valid None (Some f) last id signed h = absurd cc
-  told_valid None None None id signed h = absurd cc
-  told_valid None None (Some e) id signed h = go (same_bytes (key_in_force ledger) identity) refl h
+  reported_valid : (broken : Option LedgerFault) (fault : Option EntryFault) (last : Option Entry) (id : TxId) (signed : Option TxId)
+      → reported identity ledger broken fault last ≡ verdicts.Valid id signed → IsReportedValid broken fault last id signed
+  reported_valid (Some b) fault last id signed h = absurd cc
+  reported_valid None (Some f) last id signed h = absurd cc
+  reported_valid None None None id signed h = absurd cc
+  reported_valid None None (Some e) id signed h = go (same_bytes (key_in_force ledger) identity) refl h
     where
       go : (b : Bool) → same_bytes (key_in_force ledger) identity ≡ b
           → (if b then verdicts.Valid (id_of e) (last_signature ledger) else verdicts.Foreign (key_in_force ledger)) ≡ verdicts.Valid id signed
-          → IsToldValid None None (Some e) id signed
+          → IsReportedValid None None (Some e) id signed
       go true same is = record {
         whole = (refl, refl, (e, refl));
         service = (bytes_decides (key_in_force ledger) identity).0 same;
@@ -70,21 +71,21 @@ module _ (identity : List ℕ) (ledger : List Entry) where
       }
       go false other is = absurd cc
 
-  record IsToldForeign (broken : Option LedgerFault) (fault : Option EntryFault) (last : Option Entry) (key : List ℕ) : Type 0 where
+  record IsReportedForeign (broken : Option LedgerFault) (fault : Option EntryFault) (last : Option Entry) (key : List ℕ) : Type 0 where
     whole : IsWhole broken fault last
     service : key_in_force ledger ≡ key
     other : key ≢ identity
 
-  told_foreign : (broken : Option LedgerFault) (fault : Option EntryFault) (last : Option Entry) (key : List ℕ)
-      → told identity ledger broken fault last ≡ verdicts.Foreign key → IsToldForeign broken fault last key
-  told_foreign (Some b) fault last key h = absurd cc
-  told_foreign None (Some f) last key h = absurd cc
-  told_foreign None None None key h = absurd cc
-  told_foreign None None (Some e) key h = go (same_bytes (key_in_force ledger) identity) refl h
+  reported_foreign : (broken : Option LedgerFault) (fault : Option EntryFault) (last : Option Entry) (key : List ℕ)
+      → reported identity ledger broken fault last ≡ verdicts.Foreign key → IsReportedForeign broken fault last key
+  reported_foreign (Some b) fault last key h = absurd cc
+  reported_foreign None (Some f) last key h = absurd cc
+  reported_foreign None None None key h = absurd cc
+  reported_foreign None None (Some e) key h = go (same_bytes (key_in_force ledger) identity) refl h
     where
       go : (b : Bool) → same_bytes (key_in_force ledger) identity ≡ b
           → (if b then verdicts.Valid (id_of e) (last_signature ledger) else verdicts.Foreign (key_in_force ledger)) ≡ verdicts.Foreign key
-          → IsToldForeign None None (Some e) key
+          → IsReportedForeign None None (Some e) key
       go true same is = absurd cc
       go false other is =
           let service : key_in_force ledger ≡ key = cc in
@@ -94,18 +95,18 @@ module _ (identity : List ℕ) (ledger : List Entry) where
             other = λ one. let same = (bytes_decides (key_in_force ledger) identity).1 (service ∙ one) in cc;
           }
 
-  abbrev IsToldFaulty : Option LedgerFault → Option EntryFault → Option Entry → ℕ → ℕ → Type 0
-  IsToldFaulty broken fault last seqno rule =
+  abbrev IsReportedFaulty : Option LedgerFault → Option EntryFault → Option Entry → ℕ → ℕ → Type 0
+  IsReportedFaulty broken fault last seqno rule =
       ((b : LedgerFault) × (broken ≡ Some b) × (b.seqno ≡ seqno) × (b.broken.rule ≡ rule))
       ⊎ (((broken ≡ None) × ((f : EntryFault) × (fault ≡ Some f)) × (seqno ≡ suc (length ledger)) × (rule ≡ 1))
       ⊎ ((fault ≡ None) × (last ≡ None) × (seqno ≡ 1) × (rule ≡ 3)))
 
-  told_faulty : (broken : Option LedgerFault) (fault : Option EntryFault) (last : Option Entry) (seqno rule : ℕ)
-      → told identity ledger broken fault last ≡ verdicts.Fault seqno rule → IsToldFaulty broken fault last seqno rule
-  told_faulty (Some b) fault last seqno rule h = inl (b, refl, cc, cc)
-  told_faulty None (Some f) last seqno rule h = inr (inl (refl, (f, refl), cc, cc))
-  told_faulty None None None seqno rule h = inr (inr (refl, refl, cc, cc))
-  told_faulty None None (Some e) seqno rule h = absurd (go (same_bytes (key_in_force ledger) identity) h)
+  reported_faulty : (broken : Option LedgerFault) (fault : Option EntryFault) (last : Option Entry) (seqno rule : ℕ)
+      → reported identity ledger broken fault last ≡ verdicts.Fault seqno rule → IsReportedFaulty broken fault last seqno rule
+  reported_faulty (Some b) fault last seqno rule h = inl (b, refl, cc, cc)
+  reported_faulty None (Some f) last seqno rule h = inr (inl (refl, (f, refl), cc, cc))
+  reported_faulty None None None seqno rule h = inr (inr (refl, refl, cc, cc))
+  reported_faulty None None (Some e) seqno rule h = absurd (go (same_bytes (key_in_force ledger) identity) h)
     where
       go : (b : Bool) → (if b then verdicts.Valid (id_of e) (last_signature ledger) else verdicts.Foreign (key_in_force ledger)) ≡ verdicts.Fault seqno rule → ⊥
       go true is = cc
@@ -140,7 +141,7 @@ module _ (identity bytes : List ℕ) where
   abbrev fault_found : Option LedgerFault
   fault_found = audited service_layers entries
 
-  verdict_is : verdict identity bytes ≡ told identity entries fault_found (ledger_file bytes).fault (last_entry entries)
+  verdict_is : verdict identity bytes ≡ reported identity entries fault_found (ledger_file bytes).fault (last_entry entries)
   unfolding verdict
   verdict_is = refl
 
@@ -151,12 +152,12 @@ module _ (identity bytes : List ℕ) where
   of_valid : IsValidLedger bytes → verdict identity bytes ≡ judged identity entries (last_entry entries)
   of_valid v =
       verdict_is
-      ∙ ap (λ (broken : Option LedgerFault). told identity entries broken (ledger_file bytes).fault (last_entry entries)) v.unbroken
-      ∙ ap (λ (fault : Option EntryFault). told identity entries None fault (last_entry entries)) v.whole
+      ∙ ap (λ (broken : Option LedgerFault). reported identity entries broken (ledger_file bytes).fault (last_entry entries)) v.unbroken
+      ∙ ap (λ (fault : Option EntryFault). reported identity entries None fault (last_entry entries)) v.whole
 
   is_ledger_of : (last : TxId) (signed : Option TxId) → verdict identity bytes ≡ verdicts.Valid last signed → IsLedgerOf identity bytes last signed
   is_ledger_of last signed h =
-      let t = told_valid identity entries fault_found (ledger_file bytes).fault (last_entry entries) last signed (sym verdict_is ∙ h) in
+      let t = reported_valid identity entries fault_found (ledger_file bytes).fault (last_entry entries) last signed (sym verdict_is ∙ h) in
       record { valid = is_valid t.whole; service = t.service; ends = t.named; signs = t.signs }
 
   of_ledger : (last : TxId) (signed : Option TxId) → IsLedgerOf identity bytes last signed → verdict identity bytes ≡ verdicts.Valid last signed
@@ -164,7 +165,7 @@ module _ (identity bytes : List ℕ) where
 
   is_foreign_to : (key : List ℕ) → verdict identity bytes ≡ verdicts.Foreign key → IsForeignTo identity bytes key
   is_foreign_to key h =
-      let t = told_foreign identity entries fault_found (ledger_file bytes).fault (last_entry entries) key (sym verdict_is ∙ h) in
+      let t = reported_foreign identity entries fault_found (ledger_file bytes).fault (last_entry entries) key (sym verdict_is ∙ h) in
       record { valid = is_valid t.whole; service = t.service; other = t.other }
 
   of_foreign : (key : List ℕ) → IsForeignTo identity bytes key → verdict identity bytes ≡ verdicts.Foreign key
@@ -173,9 +174,9 @@ module _ (identity bytes : List ℕ) where
       of_valid f.valid ∙ judged_foreign identity entries (last_entry entries) last.0 key last.1 f.service f.other
 
   is_faulty : (seqno rule : ℕ) → verdict identity bytes ≡ verdicts.Fault seqno rule → IsFaulty bytes seqno rule
-  is_faulty seqno rule h = go (told_faulty identity entries fault_found (ledger_file bytes).fault (last_entry entries) seqno rule (sym verdict_is ∙ h))
+  is_faulty seqno rule h = go (reported_faulty identity entries fault_found (ledger_file bytes).fault (last_entry entries) seqno rule (sym verdict_is ∙ h))
     where
-      go : IsToldFaulty identity entries fault_found (ledger_file bytes).fault (last_entry entries) seqno rule → IsFaulty bytes seqno rule
+      go : IsReportedFaulty identity entries fault_found (ledger_file bytes).fault (last_entry entries) seqno rule → IsFaulty bytes seqno rule
       go (inl b) = inl b
       go (inr (inl u)) = inr (inl u)
       go (inr (inr e)) = inr (inr (no_bytes bytes (no_last entries e.1) e.0, e.2, e.3))
@@ -187,12 +188,12 @@ module _ (identity bytes : List ℕ) where
   of_faulty : (seqno rule : ℕ) → IsFaulty bytes seqno rule → verdict identity bytes ≡ verdicts.Fault seqno rule
   of_faulty seqno rule (inl b) =
       verdict_is
-      ∙ ap (λ (broken : Option LedgerFault). told identity entries broken (ledger_file bytes).fault (last_entry entries)) b.1
+      ∙ ap (λ (broken : Option LedgerFault). reported identity entries broken (ledger_file bytes).fault (last_entry entries)) b.1
       ∙ ap (λ (n : ℕ). verdicts.Fault n b.0.broken.rule) b.2 ∙ ap (verdicts.Fault seqno) b.3
   of_faulty seqno rule (inr (inl u)) =
       verdict_is
-      ∙ ap (λ (broken : Option LedgerFault). told identity entries broken (ledger_file bytes).fault (last_entry entries)) u.0
-      ∙ ap (λ (fault : Option EntryFault). told identity entries None fault (last_entry entries)) u.1.1
+      ∙ ap (λ (broken : Option LedgerFault). reported identity entries broken (ledger_file bytes).fault (last_entry entries)) u.0
+      ∙ ap (λ (fault : Option EntryFault). reported identity entries None fault (last_entry entries)) u.1.1
       ∙ ap (λ (n : ℕ). verdicts.Fault n 1) (sym u.2) ∙ ap (verdicts.Fault seqno) (sym u.3)
   of_faulty seqno rule (inr (inr e)) = of_empty e.0 ∙ ap (λ (n : ℕ). verdicts.Fault n 3) (sym e.1) ∙ ap (verdicts.Fault seqno) (sym e.2)
 

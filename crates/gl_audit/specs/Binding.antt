@@ -31,8 +31,8 @@ abbrev pub hashed_for_receipt : List ℕ → Receipt → TxId → List (List ℕ
 hashed_for_receipt identity r id =
     hashed_for_leaf identity id r.leaf_components ++ inputs_on (leaf_of r.leaf_components) r.proof
 
--- What is hashed for the leaves of entries that stand behind tables, each under the identity that
--- is in force once the entry's own writes are made.
+-- What is hashed for the leaves of entries that stand after tables, each under the identity that is
+-- in force once the entry's own writes are made.
 abbrev pub hashed_from : Tables → List Entry → List (List ℕ)
 hashed_from tables [] = []
 hashed_from tables (e ∷ es) =

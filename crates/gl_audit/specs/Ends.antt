@@ -5,10 +5,10 @@ use Rattle.gl_entry.specs.Entry.{is_signature}
 use Rattle.gl_entry.specs.Leaf.{id_of}
 use Rattle.gl_entry.specs.declared.entry.Entry.{Entry}
 use Rattle.gl_ledger.specs.Recordings.{last_entry, recording_of, begins}
-use Rattle.gl_ledger.specs.Broken.{last_signed, commit_behind, last_commit, is_unopened}
+use Rattle.gl_ledger.specs.Broken.{last_signed, commit_after, last_commit, is_unopened}
 use Rattle.gl_audit.specs.declared.ledger_end.LedgerEnd.{LedgerEnd}
 
--- The entry's bytes spell what it records.
+-- The entry's bytes encode what it records.
 abbrev pub IsRead : Entry → Type 0
 IsRead e = recording_of e.content ≢ None
 
@@ -33,6 +33,6 @@ end_with end e = record {
   len = end.len + 1;
   last = Some (id_of e);
   signed = if is_signature e.content then Some (id_of e) else end.signed;
-  commit = commit_behind end.commit e.content;
+  commit = commit_after end.commit e.content;
   is_unopened = begins e;
 }

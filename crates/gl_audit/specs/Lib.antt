@@ -5,4 +5,4 @@ pub mod Known
 pub mod Committed
 pub mod Binding
 pub mod Verdict
-pub mod Taking
+pub mod AuditSteps

@@ -89,7 +89,7 @@ IsBroken bytes seqno rule =
     (fault : LedgerFault) × (audited service_layers (ledger_file bytes).entries ≡ Some fault)
     × (fault.seqno ≡ seqno) × (fault.broken.rule ≡ rule)
 
--- No entry breaks a rule, but behind the last one stand bytes that are no frame. They break rule 1,
+-- No entry breaks a rule, but after the last one stand bytes that are no frame. They break rule 1,
 -- at the next seqno.
 abbrev pub IsUnread : List ℕ → ℕ → ℕ → Type 0
 IsUnread bytes seqno rule =

@@ -16,7 +16,7 @@ pub struct GovernanceEffect {
     /// What its entry writes: the rows whose bytes are new or changed, and the removals of those
     /// that are gone.
     pub writes: Writes,
-    /// The proposal that it makes, answers or takes back, and its state behind this request.
+    /// The proposal that it makes, answers or takes back, and its state after this request.
     pub proposal: Option<ProposalStatus>,
     /// The shares that are given with it.
     pub shares: ShareCount,

@@ -1,4 +1,4 @@
-//! The state of governance behind the requests so far.
+//! The state of governance after the requests so far.
 
 ghost use Rattle.std.specs.Prelude.{◌≡◌, true, IfOk};
 ghost use Rattle.gl_requests.specs.Ranges.{is_request};
@@ -24,7 +24,7 @@ use std::alloc::{AllocError, Global};
 use std::marker::Model;
 
 /// The requests of governance so far, each at the seqno of its entry. At every moment each of them
-/// was accepted behind those before it.
+/// was accepted after those before it.
 #[derive(Drop)]
 pub struct GovState {
     past: History,
@@ -101,7 +101,7 @@ impl GovState {
     }
 
     /// Takes the request of the entry with a seqno, and tells what it does. Refused for the first
-    /// rule that it breaks, if it breaks one. Want of memory, too, leaves all as it was.
+    /// rule that it breaks, if it breaks one. Running out of memory, too, leaves all as it was.
     pub fn step(
         &mut self,
         seqno: u64,
@@ -145,7 +145,7 @@ impl GovState {
     }
 
     /// What `step` would do: the effect of the request, or why it is refused. The state is as it
-    /// was behind it.
+    /// was after it.
     pub fn effect(
         &mut self,
         seqno: u64,
@@ -172,7 +172,7 @@ impl GovState {
     }
 
     /// Takes a request of which it is known that no rule refuses it, so that no signature is
-    /// verified anew. Want of memory leaves all as it was.
+    /// verified again. Running out of memory leaves all as it was.
     pub fn record(&mut self, seqno: u64, request: GovernanceRequest) -> Result<(), AllocError>
         requires above { IsAbove seqno self.old }
         requires founding { is_founding request ≡ is_nothing self.old }
@@ -187,8 +187,8 @@ impl GovState {
         self.push(recorded, changes)
     }
 
-    /// Adds a request that no rule refuses, and the changes that it brings about. Want of memory
-    /// leaves all as it was.
+    /// Adds a request that no rule refuses, and the changes that it brings about. Running out of
+    /// memory leaves all as it was.
     fn push(&mut self, recorded: Recorded, changes: Vec<Changed>) -> Result<(), AllocError>
         requires above { IsAbove recorded.seqno self.old }
         requires founding { is_founding recorded.request ≡ is_nothing self.old }
@@ -245,7 +245,7 @@ impl GovState {
         self.past.cut(to);
     }
 
-    /// The same state in memory of its own. Fails for want of memory alone.
+    /// The same state in memory of its own. Fails only where memory runs out.
     pub fn copy(&self) -> Result<Self, AllocError>
         ensures { IfOk result (λ copy. copy ≡ self.now) }
     {

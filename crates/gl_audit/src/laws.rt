@@ -16,11 +16,11 @@ ghost use Rattle.gl_audit.specs.Binding.{IsBound};
 ghost use Rattle.gl_audit.specs.Verdict.{verdict, IsValidLedger, IsLedgerOf, IsForeignTo, IsFaulty};
 ghost use Rattle.gl_audit.specs.declared.verdict.Verdict.TheVariants as verdicts;
 
-/// Each verdict is told exactly where it is true. `Valid`: all of the file's bytes are entries,
+/// Each verdict is reported exactly where it is true. `Valid`: all of the file's bytes are entries,
 /// none of them breaks a rule, and the key in force is the one under which the file was audited.
-/// `Foreign`: none breaks a rule, but another key is in force, which is told. `Fault`: an entry
+/// `Foreign`: none breaks a rule, but another key is in force, which is reported. `Fault`: an entry
 /// breaks a rule, or else bytes are no entry, or else there are none; the first that is wrong is
-/// told. The entries of a file that is `Valid` or `Foreign` are a sound ledger.
+/// reported. The entries of a file that is `Valid` or `Foreign` are a sound ledger.
 pub fn law_of_verdicts()
     ensures valid { (identity bytes : List ℕ) (last : TxId) (signed : Option TxId) →
         verdict identity bytes ≡ verdicts.Valid last signed

@@ -4,11 +4,11 @@ ghost use Rattle.std.specs.Prelude.{◌≡◌, ◌+◌, length, ◌≤◌, [], B
 ghost use Rattle.gl_base.specs.declared.or_no_memory.OrNoMemory.TheVariants.{Fault};
 ghost use Rattle.gl_outside.specs.Fault.{Rose};
 ghost use Rattle.gl_ledger.specs.Recordings.{last_entry};
-ghost use Rattle.gl_entry.specs.Given.{OfBytes};
+ghost use Rattle.gl_entry.specs.SourceBytes.{OfBytes};
 ghost use Rattle.gl_entry.specs.LedgerFile.{LedgerFile};
 ghost use Rattle.gl_entry.specs.declared.next.ReadFault.{ReadFault as ReadFaults};
 ghost use Rattle.gl_audit.specs.Kept.{ForLedgers, IsState, IsStateOf};
-ghost use Rattle.gl_audit.specs.Taking.{Ends, EndsAt, Takes};
+ghost use Rattle.gl_audit.specs.AuditSteps.{Ends, EndsAt, Takes};
 ghost use Rattle.gl_audit.specs.Verdict.{EndsWith, judged, verdict, verdict_of};
 
 use crate::ledger_state::LedgerState;
@@ -30,7 +30,7 @@ enum Stop {
     Broken(u8),
 }
 
-/// Adds an entry to the ledger, or tells the first rule that it breaks. Behind a signature the
+/// Adds an entry to the ledger, or reports the first rule that it breaks. After a signature the
 /// state is settled, so that it holds no more than the tables and what came since.
 fn take_entry(state: &mut LedgerState, entry: &Entry) -> Result<Option<u8>, AllocError>
     requires { IsState state.old }
@@ -103,7 +103,7 @@ fn next_seqno(state: &LedgerState) -> u64
     state.end().len.saturating_add(1)
 }
 
-/// The verdict on a file whose entries ended so, behind those that were added.
+/// The verdict on a file whose entries ended so, after those that were added.
 fn verdict_at(stop: Stop, identity: &HssPublicKey, state: &LedgerState) -> Verdict
     ensures verdict { ForLedgers state.now (λ ledger.
         (file : LedgerFile) → Ends [] file stop ledger → result ≡ verdict_of identity.now file) }
@@ -126,9 +126,9 @@ pub fn audit<S: Source>(
     identity: &HssPublicKey,
     source: &mut S,
 ) -> Result<Verdict, OrNoMemory<ReadFault>>
-    ensures verdict { IfOk result (λ told.
-        OfBytes (S.left source.old) (λ given. told ≡ verdict identity.now given)) }
-    ensures ended { IfOk result (λ told. EndsWith told (S.ended source.new)) }
+    ensures verdict { IfOk result (λ reported.
+        OfBytes (S.left source.old) (λ given. reported ≡ verdict identity.now given)) }
+    ensures ended { IfOk result (λ reported. EndsWith reported (S.ended source.new)) }
     ensures failed { (fault : ReadFaults) → result ≡ Err (Fault fault) →
         Rose (S.faults source.old) (S.faults source.new) }
     ensures never_falls { S.faults source.old ≤ S.faults source.new }

@@ -4,11 +4,11 @@ ghost use Rattle.std.specs.Prelude.{◌≡◌, ◌<◌, ◌||◌, ℕ, Some, IfS
 ghost use Rattle.std.specs.Option.{option_copied};
 ghost use Rattle.gl_rules.specs.Log.{entry_at};
 ghost use Rattle.gl_audit.specs.Kept.{commit_at};
-ghost use Rattle.gl_requests.specs.Reading.{request_in};
+ghost use Rattle.gl_requests.specs.Parsing.{request_in};
 ghost use Rattle.gl_requests.specs.declared.request.GovernanceRequest.{GovernanceRequest as Request};
 ghost use Rattle.gl_gov_rules.specs.Governed.{is_founding, is_recovery};
 ghost use Rattle.gl_ledger.specs.Recordings.{begins, last_entry};
-ghost use Rattle.gl_ledger.specs.Broken.{commit_behind, is_unopened, last_signed};
+ghost use Rattle.gl_ledger.specs.Broken.{commit_after, is_unopened, last_signed};
 ghost use Rattle.gl_entry.specs.Leaf.{id_of};
 ghost use Rattle.gl_audit.specs.Ends.{IsRead, end_of, end_with, no_end};
 
@@ -18,7 +18,7 @@ use gl_entry::{Content, Entry};
 /// The first byte of a request that founds a service.
 const GENESIS_TAG: u8 = 1;
 
-/// The first byte of a request that founds a service anew.
+/// The first byte of a request that recovers a service.
 const RECOVER_TAG: u8 = 2;
 
 /// How many entries a ledger has, the transaction of the last one and that of the last signature,
@@ -62,7 +62,7 @@ fn id_in(entry: Option<&Entry>) -> Option<TxId>
     }
 }
 
-/// Whether a request of governance with these bytes founds a service, or founds it anew. Takes no
+/// Whether a request of governance with these bytes founds a service, or recovers it. Takes no
 /// memory: the first byte tells.
 fn begins_service(request: &[u8]) -> bool
     ensures { (g : Request) → request_in request.now ≡ Some g →
@@ -96,9 +96,9 @@ pub fn is_unopened(entry: Option<&Entry>) -> bool
     }
 }
 
-/// The commit of the last signature behind an entry.
-fn commit_behind(commit: u64, content: &Content) -> u64
-    ensures { result ≡ commit_behind commit content.now }
+/// The commit of the last signature after an entry.
+fn commit_after(commit: u64, content: &Content) -> u64
+    ensures { result ≡ commit_after commit content.now }
 {
     match content {
         Content::Signature(signature) => signature.commit,
@@ -139,7 +139,7 @@ impl LedgerEnd {
             len: self.len + 1,
             last: Some(id),
             signed: if signs { Some(id) } else { self.signed },
-            commit: commit_behind(self.commit, &entry.content),
+            commit: commit_after(self.commit, &entry.content),
             is_unopened: begins(entry),
         }
     }

@@ -92,7 +92,7 @@ fn state_in(tables: &Tables) -> ServiceState
     }
 }
 
-/// The service's key, which stands in its row behind two bytes.
+/// The service's key, which stands in its row after two bytes.
 pub(crate) fn key_in(value: &[u8]) -> Option<HssPublicKey>
     ensures { result ≡ key_of (identity_of_value (Some value.now)) }
 {
@@ -121,7 +121,8 @@ fn identity_in(tables: &Tables) -> Option<HssPublicKey>
     }
 }
 
-/// Takes the request that an entry records, if it records one. Want of memory leaves all as it was.
+/// Takes the request that an entry records, if it records one. Running out of memory leaves all as
+/// it was.
 fn take_request(alloc: Global, gov: &mut GovState, entry: &Entry) -> Result<(), AllocError>
     requires follows { AllByRecursion (governed.Follows gov.old)
         (recorded_in entry.now.seqno entry.now.content) }
@@ -140,7 +141,7 @@ fn take_request(alloc: Global, gov: &mut GovState, entry: &Entry) -> Result<(), 
     gov.record(entry.seqno, request)
 }
 
-/// Takes an entry's request and its writes. Want of memory leaves both as they were.
+/// Takes an entry's request and its writes. Running out of memory leaves both as they were.
 fn take(
     alloc: Global,
     gov: &mut GovState,
@@ -149,7 +150,7 @@ fn take(
 ) -> Result<(), AllocError>
     requires base { tables.old.base < entry.now.seqno }
     requires above { (map key : List ℕ) → version_of tables.old map key < entry.now.seqno }
-    requires behind { governed.IsAbove entry.now.seqno gov.old }
+    requires suffix { governed.IsAbove entry.now.seqno gov.old }
     requires follows { AllByRecursion (governed.Follows gov.old)
         (recorded_in entry.now.seqno entry.now.content) }
     ensures recorded { OnOk result
@@ -248,15 +249,15 @@ impl LedgerState {
         self.end = self.end.with(entry);
     }
 
-    /// Takes what an entry makes, behind which the tables tell the service's key. A request that it
-    /// records follows those before it. Want of memory leaves all as it was.
+    /// Takes what an entry makes, after which the tables tell the service's key. A request that it
+    /// records follows those before it. Running out of memory leaves all as it was.
     fn push_made(&mut self, entry: &Entry) -> Result<(), AllocError>
         requires len { self.old.end.len < u64.MAX }
         requires read { IsRead entry.now }
         requires base { self.old.tables.base < entry.now.seqno }
         requires above { (map key : List ℕ) →
             version_of self.old.tables map key < entry.now.seqno }
-        requires behind { governed.IsAbove entry.now.seqno self.old.gov }
+        requires suffix { governed.IsAbove entry.now.seqno self.old.gov }
         requires follows { AllByRecursion (governed.Follows self.old.gov)
             (recorded_in entry.now.seqno entry.now.content) }
         requires keyed { (ps : List Placed) × StandsFor self.old.tables ps
@@ -299,7 +300,8 @@ impl LedgerState {
         Ok(())
     }
 
-    /// Takes an entry that breaks no rule behind the ledger. Want of memory leaves all as it was.
+    /// Takes an entry that breaks no rule after the ledger. Running out of memory leaves all as it
+    /// was.
     pub fn push(&mut self, entry: &Entry) -> Result<(), AllocError>
         requires unbroken { (ledger : List Entry) × IsStateOf ledger self.old
             × (broken service_layers ledger entry.now ≡ None) }
@@ -314,7 +316,7 @@ impl LedgerState {
     }
 
     /// Takes an entry that another node made. Refused for the first rule of the audit that it
-    /// breaks behind the ledger, if it breaks one. Want of memory, too, leaves all as it was.
+    /// breaks after the ledger, if it breaks one. Running out of memory, too, leaves all as it was.
     pub fn apply(&mut self, entry: &Entry) -> Result<(), OrNoMemory<Broken>>
         requires state { IsState self.old }
         ensures unbroken { OnOk result (ForLedgers self.old (λ ledger.
@@ -348,8 +350,8 @@ impl LedgerState {
     }
 
     /// Lets go of what only a cut or a receipt needs: of each row the versions but for its last
-    /// one, and the leaves of the tree but for the roots of its complete subtrees. Fails for want
-    /// of memory alone.
+    /// one, and the leaves of the tree but for the roots of its complete subtrees. Fails only where
+    /// memory runs out.
     pub fn settle(&mut self) -> Result<(), AllocError>
         ensures { ForLedgers self.old (λ ledger. IsStateOf ledger self.new) }
     {

@@ -25,5 +25,5 @@ pub use ledger_audit::audit;
 pub use ledger_end::{LedgerEnd, is_unopened};
 pub use ledger_state::{LedgerState, SERVICE_KEY, SERVICE_MAP, count_up_to, seqno_at};
 pub use receipt_laws::law_of_receipts_in_ledgers;
-pub use service_key::key_behind;
+pub use service_key::key_after;
 pub use verdict::Verdict;

@@ -9,7 +9,7 @@ ghost use Rattle.gl_ledger.specs.Broken.{is_above_removal};
 
 use gl_gov_rules::History;
 
-/// Of a node that is marked behind a seqno, the removal is not above a commit.
+/// Of a node that is marked after a seqno, the removal is not above a commit.
 fn is_above_removal(mark: Option<u64>, removal: Option<u64>, seqno: u64, commit: u64) -> bool
     ensures { result ≡ is_above_removal mark removal seqno commit }
 {
@@ -30,11 +30,11 @@ fn are_all_above(past: &History, seqno: u64, commit: u64) -> bool
     })
 }
 
-/// The same of all recorded nodes. Where none was marked behind the seqno, none is asked.
+/// The same of all recorded nodes. Where none was marked after the seqno, none is asked.
 pub(crate) fn are_above_removals(past: &History, seqno: u64, commit: u64) -> bool
     ensures { result ≡ list_all (λ (n : a_node.RecordedNode). is_above_removal
         (mark past.now n.id) (option_map (λ (c : a_change.Changed). c.seqno)
         (retirement past.now n)) seqno commit) (nodes past.now) }
 {
-    !past.has_mark_behind(seqno) || are_all_above(past, seqno, commit)
+    !past.has_mark_after(seqno) || are_all_above(past, seqno, commit)
 }

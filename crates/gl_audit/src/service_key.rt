@@ -1,4 +1,4 @@
-//! The service's key that is in force behind entries, as their write sets leave it.
+//! The service's key that is in force after entries, as their write sets leave it.
 
 ghost use Rattle.std.specs.Prelude.{◌≡◌};
 ghost use Rattle.std.specs.Option.{option_copied};
@@ -43,8 +43,8 @@ fn written_key(write: &Write) -> Option<HssPublicKey>
     }
 }
 
-/// The key in force behind these entries. `None` where there is none.
-pub fn key_behind(entries: &[Entry]) -> Option<HssPublicKey>
+/// The key in force after these entries. `None` where there is none.
+pub fn key_after(entries: &[Entry]) -> Option<HssPublicKey>
     ensures { result ≡ key_of (identity_in (tables_of entries.now)) }
 {
     let mut key = None;

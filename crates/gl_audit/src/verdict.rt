@@ -8,7 +8,7 @@ use gl_requests::HssPublicKey;
 pub enum Verdict {
     /// No entry breaks a rule, and the ledger is of the service with the key under which it was
     /// audited. With its last transaction, and that of its last signature, if it has one: what
-    /// stands behind that is signed by nobody.
+    /// stands after that is signed by nobody.
     Valid { last: TxId, signed: Option<TxId> },
     /// No entry breaks a rule, but the ledger is of the service with this key.
     Foreign { identity: HssPublicKey },

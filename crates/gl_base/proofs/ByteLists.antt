@@ -22,15 +22,15 @@ are_bytes-each [] e i = omega arith
 are_bytes-each (x ∷ xs) e zero = let parts = and_parts (is_byte x) (are_bytes xs) e in grind (arith, nat_tests, parts.0)
 are_bytes-each (x ∷ xs) e (suc i) = are_bytes-each xs (and_parts (is_byte x) (are_bytes xs) e).1 i
 
--- those in front of others are bytes too, and those behind them
-pub AreBytes-front : (xs ys : List ℕ) → AreBytes (xs ++ ys) → AreBytes xs
-AreBytes-front [] ys all i = omega arith
-AreBytes-front (x ∷ xs) ys all zero = all zero
-AreBytes-front (x ∷ xs) ys all (suc i) = AreBytes-front xs ys (λ k. all (suc k)) i
+-- those before others are bytes too, and those after them
+pub AreBytes-prefix : (xs ys : List ℕ) → AreBytes (xs ++ ys) → AreBytes xs
+AreBytes-prefix [] ys all i = omega arith
+AreBytes-prefix (x ∷ xs) ys all zero = all zero
+AreBytes-prefix (x ∷ xs) ys all (suc i) = AreBytes-prefix xs ys (λ k. all (suc k)) i
 
-pub AreBytes-behind : (xs ys : List ℕ) → AreBytes (xs ++ ys) → AreBytes ys
-AreBytes-behind [] ys all = all
-AreBytes-behind (x ∷ xs) ys all = AreBytes-behind xs ys (λ k. all (suc k))
+pub AreBytes-suffix : (xs ys : List ℕ) → AreBytes (xs ++ ys) → AreBytes ys
+AreBytes-suffix [] ys all = all
+AreBytes-suffix (x ∷ xs) ys all = AreBytes-suffix xs ys (λ k. all (suc k))
 
 pub AreBytes-take : (n : ℕ) (xs : List ℕ) → AreBytes xs → AreBytes (take n xs)
 AreBytes-take zero xs all i = omega arith

@@ -10,5 +10,5 @@ pub mod LittleEndianLaws
 pub mod Fields
 pub mod Names
 pub mod RowLaws
-pub mod Readings
+pub mod ParsedBytes
 pub mod Repeated

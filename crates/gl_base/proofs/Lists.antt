@@ -1,4 +1,5 @@
--- Lists: what stands at an index of a list that is cut, joined or pushed to, and its first elements.
+-- Lists: what stands at an index of a list that is cut, joined or pushed to, and its first
+-- elements.
 use Rattle.std.proofs.Common.{◌≡◌, ◌⊎◌, inl, inr, ⊎_elim, ℕ, zero, suc, ◌+◌, ◌≤◌, ◌<◌, List, [], ◌∷◌, ◌++◌, length, take, drop, map, get_or, Some, None, slice_get, refl, ap, arith, add-one, drop-cons}
 
 module _ {A : Type 0} where
@@ -68,7 +69,7 @@ module _ {A : Type 0} where
   slice_get-push (z ∷ xs) y (suc i) x e =
       ⊎_elim (λ (s : slice_get xs i ≡ Some x). inl s) (λ (s : (i ≡ length xs) × (x ≡ y)). inr (ap suc s.0, s.1)) (slice_get-push xs y i x e)
 
-  -- the last element stands behind all others
+  -- the last element stands after all others
   pub slice_get-last : (xs : List A) (x : A) → slice_get (xs ++ x ∷ []) (length xs) ≡ Some x
   slice_get-last [] x = refl
   slice_get-last (y ∷ xs) x = slice_get-last xs x
@@ -117,13 +118,13 @@ module _ {A : Type 0} where
       let r : take k l ≡ take k m = take-same k l m (omega arith) (λ j w g d. a (suc j) w (omega arith) d) in
       cc
 
-  -- fewer of the first elements are a front of more of them, with more behind the list too
-  pub fronts : (xs more : List A) (c d : ℕ) → c ≤ d → c ≤ length xs → (rest : List A) × (take c xs ++ rest ≡ take d (xs ++ more))
-  fronts xs more zero d le within = (take d (xs ++ more), refl)
-  fronts [] more (suc c) d le within = absurd (omega arith)
-  fronts (x ∷ xs) more (suc c) zero le within = absurd (omega arith)
-  fronts (x ∷ xs) more (suc c) (suc d) le within =
-      let r = fronts xs more c d (omega arith) (omega arith) in (r.0, ap {B = List A} (λ t. x ∷ t) r.1)
+  -- fewer of the first elements are a prefix of more of them, with more after the list too
+  pub prefixes : (xs more : List A) (c d : ℕ) → c ≤ d → c ≤ length xs → (rest : List A) × (take c xs ++ rest ≡ take d (xs ++ more))
+  prefixes xs more zero d le within = (take d (xs ++ more), refl)
+  prefixes [] more (suc c) d le within = absurd (omega arith)
+  prefixes (x ∷ xs) more (suc c) zero le within = absurd (omega arith)
+  prefixes (x ∷ xs) more (suc c) (suc d) le within =
+      let r = prefixes xs more c d (omega arith) (omega arith) in (r.0, ap {B = List A} (λ t. x ∷ t) r.1)
 
 -- what is made of a list from a place on begins with what is made of the element there
 pub map-drop : {A B : Type 0} (f : A → B) (xs : List A) (i : ℕ) (d : A) → i < length xs → map f (drop i xs) ≡ f (get_or xs i d) ∷ map f (drop (i + 1) xs)

@@ -15,7 +15,7 @@ pub from_bytes_4 : (xs : List ℕ) → length xs ≡ 4 → from_le_bytes w32 xs 
 from_bytes_4 (a ∷ b ∷ c ∷ d ∷ []) h = omega arith
 from_bytes_4 _ h = absurd (omega arith)
 
--- six bytes, and two zeros behind them
+-- six bytes, and two zeros after them
 pub from_bytes_6 : (xs : List ℕ) → length xs ≡ 6
     → from_le_bytes w64 (get_or xs 0 0 ∷ get_or xs 1 0 ∷ get_or xs 2 0 ∷ get_or xs 3 0 ∷ get_or xs 4 0 ∷ get_or xs 5 0 ∷ 0 ∷ 0 ∷ []) ≡ from_little_endian xs
 from_bytes_6 (a ∷ b ∷ c ∷ d ∷ e ∷ f ∷ []) h = omega arith

@@ -1,4 +1,4 @@
--- A number's bytes spell it, and a spelling of so many bytes is that of its number.
+-- A number's bytes encode it, and an encoding of so many bytes is that of its number.
 use Rattle.std.proofs.Common.{◌≡◌, ℕ, zero, suc, ◌+◌, ◌*◌, ◌/◌, ◌%◌, ◌^◌, ◌<◌, List, [], ◌∷◌, length, refl, ap, arith}
 use Rattle.std.proofs.lemmas.Nat.{div-mul-add, mod-mul-add, div_below}
 use Rattle.std.proofs.Math.Nat.{pow-suc}
@@ -36,8 +36,8 @@ from_little_endian-lt (x ∷ xs) all =
     let others = from_little_endian-lt xs (AreBytes-tail x xs all) in
     omega (arith, pow-suc 256 (length xs))
 
--- The one spelling, by so many bytes, of the number that they spell.
-pub spelling_of : (size n : ℕ) (xs : List ℕ) → length xs ≡ size → AreBytes xs → n ≡ from_little_endian xs → little_endian size n ≡ xs
-spelling_of size n xs long all value =
-    let spelled = little_endian-from_little_endian xs all in
+-- The one encoding, by so many bytes, of the number that they encode.
+pub encoding_of : (size n : ℕ) (xs : List ℕ) → length xs ≡ size → AreBytes xs → n ≡ from_little_endian xs → little_endian size n ≡ xs
+encoding_of size n xs long all value =
+    let encoded = little_endian-from_little_endian xs all in
     cc

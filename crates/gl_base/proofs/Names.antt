@@ -1,4 +1,5 @@
--- Which texts that are read are visible, and which bytes are within the limits of a name, a key or a value.
+-- Which texts that are read are visible, and which bytes are within the limits of a name, a key or
+-- a value.
 use Rattle.std.proofs.Common.{◌≡◌, ℕ, suc, ◌+◌, ◌≤◌, Bool, true, false, not, cond, nat_lt, List, [], ◌∷◌, length, Option, None, Some, Ok, refl, arith}
 use Rattle.std.specs.Char.{is_ascii_graphic}
 use Rattle.std.specs.List.{list_all, position, position_or_len}
@@ -10,7 +11,8 @@ use Rattle.gl_base.proofs.Fields.{text_at_ok}
 use Rattle.gl_base.specs.Bytes.{are_bytes}
 use Rattle.gl_base.specs.Row.{map_name_limit, key_limit, is_map_name_field, is_key_field, is_value_field}
 
--- where no first byte is found that isn't visible, none is there, and where none is there, none is found
+-- where no first byte is found that isn't visible, none is there, and where none is there, none is
+-- found
 not_some : (n m : ℕ) → cond (nat_lt n m) (Some n) None ≡ None → m ≤ n
 not_some n m e = absurd_some (nat_lt n m) refl e
   where
@@ -50,7 +52,7 @@ none_hidden xs all = none_from (position_or_len is_no_text xs) (length xs) (none
 pub string_at_within : (size limit : ℕ) (old new : Unread) (xs : List ℕ) → string_at size limit old ≡ Ok (xs, new) → length xs ≤ limit
 string_at_within size limit old new xs e =
     let string = string_at_ok size limit old new xs e in
-    let long = bytes_at_length string.count string.behind new xs string.bytes in
+    let long = bytes_at_length string.count string.suffix new xs string.bytes in
     omega (arith, string.within, long)
 
 pub map_name-text : (old new : Unread) (xs : List ℕ) → text_at map_name_limit old ≡ Ok (xs, new) → 1 ≤ length xs →

@@ -11,7 +11,7 @@ use Rattle.gl_base.proofs.Steps.{cond_ok, bind_ok, ok_injective}
 -- The bytes that are read are the front of those that are there, and the others are left.
 pub record Taken (count : ℕ) (unread new : Unread) (xs : List ℕ) : Type 0 where
   pub enough : count ≤ length unread.bytes
-  pub front : xs ≡ take count unread.bytes
+  pub prefix : xs ≡ take count unread.bytes
   pub place : new.at ≡ unread.at + count
   pub back : new.bytes ≡ drop count unread.bytes
 
@@ -24,7 +24,7 @@ bytes_at_ok count unread new xs e =
     let pair : there ≡ (xs, new) = ok_injective {E = CutFault} there (xs, new) taken.1 in
     record {
       enough = grind (arith, nat_tests, taken.0);
-      front = sym (ap (λ (p : List ℕ × Unread). p.0) pair);
+      prefix = sym (ap (λ (p : List ℕ × Unread). p.0) pair);
       place = sym (ap (λ (p : List ℕ × Unread). p.1.at) pair);
       back = sym (ap (λ (p : List ℕ × Unread). p.1.bytes) pair);
     }
@@ -32,7 +32,7 @@ bytes_at_ok count unread new xs e =
 pub bytes_at_length : (count : ℕ) (unread new : Unread) (xs : List ℕ) → bytes_at count unread ≡ Ok (xs, new) → length xs ≡ count
 bytes_at_length count unread new xs e =
     let taken = bytes_at_ok count unread new xs e in
-    ap length taken.front ∙ length-take-le count unread.bytes taken.enough
+    ap length taken.prefix ∙ length-take-le count unread.bytes taken.enough
 
 pub number_from : (size n : ℕ) (unread new : Unread) (xs : List ℕ) → bytes_at size unread ≡ Ok (xs, new) → n ≡ from_little_endian xs → number_at size unread ≡ Ok (n, new)
 unfolding number_at
@@ -42,7 +42,7 @@ pub number_fault : (size : ℕ) (unread : Unread) (fault : CutFault) → bytes_a
 unfolding number_at
 number_fault size unread fault e = rw e refl
 
--- A number is what its bytes spell.
+-- A number is what its bytes encode.
 pub record NumberTaken (size n : ℕ) (unread new : Unread) : Type 0 where
   pub bytes : List ℕ
   pub taken : Taken size unread new bytes
@@ -62,13 +62,13 @@ number_at_ok size n unread new e =
       value = sym (ap (λ (p : ℕ × Unread). p.0) pair);
     }
 
--- A string stands behind its length, which is within the limit.
+-- A string stands after its length, which is within the limit.
 pub record StringTaken (size limit : ℕ) (unread new : Unread) (xs : List ℕ) : Type 0 where
   pub count : ℕ
-  pub behind : Unread
-  pub len : number_at size unread ≡ Ok (count, behind)
+  pub suffix : Unread
+  pub len : number_at size unread ≡ Ok (count, suffix)
   pub within : count ≤ limit
-  pub bytes : bytes_at count behind ≡ Ok (xs, new)
+  pub bytes : bytes_at count suffix ≡ Ok (xs, new)
 
 pub string_at_ok : (size limit : ℕ) (unread new : Unread) (xs : List ℕ) → string_at size limit unread ≡ Ok (xs, new) → StringTaken size limit unread new xs
 unfolding string_at
@@ -78,7 +78,7 @@ string_at_ok size limit unread new xs e =
     let taken = cond_ok {A = List ℕ × Unread} {E = CutFault} (nat_lt limit there.0.0) (TooLong unread.at there.0.0) (bytes_at there.0.0 there.0.1) (xs, new) there.2 in
     record {
       count = there.0.0;
-      behind = there.0.1;
+      suffix = there.0.1;
       len = there.1;
       within = grind (arith, nat_tests, taken.0);
       bytes = taken.1;
@@ -88,8 +88,8 @@ string_at_ok size limit unread new xs e =
 pub string_at_fits : (size limit : ℕ) (unread new : Unread) (xs : List ℕ) → string_at size limit unread ≡ Ok (xs, new) → size + length xs ≤ length unread.bytes
 string_at_fits size limit unread new xs e =
     let string = string_at_ok size limit unread new xs e in
-    let len = number_at_ok size string.count unread string.behind string.len in
-    let bytes = bytes_at_ok string.count string.behind new xs string.bytes in
-    let same = bytes_at_length string.count string.behind new xs string.bytes in
-    let left : length string.behind.bytes ≡ length unread.bytes - size = ap length len.taken.back ∙ length-drop size unread.bytes in
+    let len = number_at_ok size string.count unread string.suffix string.len in
+    let bytes = bytes_at_ok string.count string.suffix new xs string.bytes in
+    let same = bytes_at_length string.count string.suffix new xs string.bytes in
+    let left : length string.suffix.bytes ≡ length unread.bytes - size = ap length len.taken.back ∙ length-drop size unread.bytes in
     omega (arith, bytes.enough, len.taken.enough, same, left)

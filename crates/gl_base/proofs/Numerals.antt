@@ -1,4 +1,4 @@
--- Texts of decimal digits, and the number that they spell.
+-- Texts of decimal digits, and the number that they encode.
 use Rattle.std.proofs.Common.{◌≡◌, ℕ, ◌+◌, ◌-◌, ◌*◌, ◌<◌, ◌≤◌, Bool, true, false, cond, List, length, take, get_or, min, Some, None, refl, arith}
 use Rattle.std.specs.Char.{digit_value}
 use Rattle.std.specs.Int.{IsInRange}

@@ -1,15 +1,15 @@
--- Pieces written one behind the other.
+-- Pieces written one after the other.
 use Rattle.std.proofs.Common.{◌≡◌, ℕ, ◌+◌, ◌-◌, ◌≤◌, List, ◌++◌, length, drop, sym, ap, ◌∙◌, subst, arith}
 use Rattle.std.proofs.Math.Seq.{drop-append-add, drop-append_seam}
 use Rattle.std.proofs.lemmas.List.{drop-drop}
 
--- Behind a piece that was written the bytes are as they were.
-pub rest_behind : (at : ℕ) (out front piece room back : List ℕ) → length front ≡ at → room ≡ drop at out → back ≡ drop (length piece) room
-    → drop (at + length piece) (front ++ (piece ++ back)) ≡ drop (at + length piece) out
-rest_behind at out front piece room back e f g =
-    let step : drop (length front + length piece) (front ++ (piece ++ back)) ≡ drop (length piece) (drop at out) =
-    drop-append-add front (piece ++ back) (length piece) ∙ drop-append_seam piece back ∙ g ∙ ap (drop (length piece)) f in
-    subst (λ (n : ℕ). drop (n + length piece) (front ++ (piece ++ back)) ≡ drop (length piece) (drop at out)) e step
+-- After a piece that was written the bytes are as they were.
+pub rest_after : (at : ℕ) (out prefix piece room back : List ℕ) → length prefix ≡ at → room ≡ drop at out → back ≡ drop (length piece) room
+    → drop (at + length piece) (prefix ++ (piece ++ back)) ≡ drop (at + length piece) out
+rest_after at out prefix piece room back e f g =
+    let step : drop (length prefix + length piece) (prefix ++ (piece ++ back)) ≡ drop (length piece) (drop at out) =
+    drop-append-add prefix (piece ++ back) (length piece) ∙ drop-append_seam piece back ∙ g ∙ ap (drop (length piece)) f in
+    subst (λ (n : ℕ). drop (n + length piece) (prefix ++ (piece ++ back)) ≡ drop (length piece) (drop at out)) e step
     ∙ drop-drop (length piece) at out
 
 -- What is the same from one place on is the same from a later one on.

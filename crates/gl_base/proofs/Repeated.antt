@@ -1,4 +1,5 @@
--- One reading after another, so many times: as a loop does it, what it takes, and what it gives where its spelling stands.
+-- One reading after another, so many times: as a loop does it, what it takes, and what it gives
+-- where its encoding stands.
 use Rattle.std.proofs.Common.{◌≡◌, ℕ, zero, suc, ◌+◌, ◌-◌, ◌≤◌, ◌<◌, Bool, true, List, [], ◌∷◌, ◌++◌, length, Result, Ok, Err, refl, sym, ap, subst, ◌∙◌, append_assoc, length-append, suc-mul, ◌*◌, arith}
 use Rattle.std.specs.List.{flat_map, list_all}
 use Rattle.std.proofs.lemmas.Bool.{and_parts, and_from}
@@ -11,7 +12,7 @@ use Rattle.gl_base.specs.declared.or_no_memory.OrNoMemory.{OrNoMemory}
 use Rattle.gl_base.specs.declared.or_no_memory.OrNoMemory.TheVariants.{NoMemory, Fault}
 use Rattle.gl_base.proofs.Steps.{bind_ok, ok_injective}
 use Rattle.gl_base.proofs.ByteLists.{AreBytes}
-use Rattle.gl_base.proofs.Readings.{Spelled, IsSpelled, Gets, IsRead, both_parts}
+use Rattle.gl_base.proofs.ParsedBytes.{Encoded, IsEncoded, Gets, IsRead, both_parts}
 
 -- The second reads what the first does, so many times.
 pub record Repeats {X : Type 0} (one : Unread → Result (X × Unread) CodeFault) (many : ℕ → Unread → Result (List X × Unread) CodeFault) : Type 0 where
@@ -20,66 +21,66 @@ pub record Repeats {X : Type 0} (one : Unread → Result (X × Unread) CodeFault
 
 -- ---- as a loop does it
 
--- What was read before, in front of what is still read.
-abbrev pub with_front : {X : Type 0} → List X → Result (List X × Unread) CodeFault → Result (List X × Unread) CodeFault
-with_front front read = read >>= λ x. Ok (front ++ x.0, x.1)
+-- What was read before, before what is still read.
+abbrev pub with_prefix : {X : Type 0} → List X → Result (List X × Unread) CodeFault → Result (List X × Unread) CodeFault
+with_prefix prefix read = read >>= λ x. Ok (prefix ++ x.0, x.1)
 
-regroup : {X : Type 0} → (front : List X) (x : X) (read : Result (List X × Unread) CodeFault)
-    → with_front front (read >>= λ rest. Ok (x ∷ rest.0, rest.1)) ≡ with_front (front ++ x ∷ []) read
-regroup {X = X} front x (Ok rest) = ap (λ (xs : List X). Ok (xs, rest.1)) (sym (append_assoc front (x ∷ []) rest.0))
-regroup front x (Err fault) = refl
+regroup : {X : Type 0} → (prefix : List X) (x : X) (read : Result (List X × Unread) CodeFault)
+    → with_prefix prefix (read >>= λ rest. Ok (x ∷ rest.0, rest.1)) ≡ with_prefix (prefix ++ x ∷ []) read
+regroup {X = X} prefix x (Ok rest) = ap (λ (xs : List X). Ok (xs, rest.1)) (sym (append_assoc prefix (x ∷ []) rest.0))
+regroup prefix x (Err fault) = refl
 
 one_more : {X : Type 0} {one : Unread → Result (X × Unread) CodeFault} {many : ℕ → Unread → Result (List X × Unread) CodeFault} → Repeats one many
-    → (front : List X) (count i : ℕ) (old new : Unread) (x : X) → i < count → one old ≡ Ok (x, new)
-    → with_front front (many (count - i) old) ≡ with_front (front ++ x ∷ []) (many (count - (i + 1)) new)
-one_more {X = X} {many = many} repeats front count i old new x within read =
+    → (prefix : List X) (count i : ℕ) (old new : Unread) (x : X) → i < count → one old ≡ Ok (x, new)
+    → with_prefix prefix (many (count - i) old) ≡ with_prefix (prefix ++ x ∷ []) (many (count - (i + 1)) new)
+one_more {X = X} {many = many} repeats prefix count i old new x within read =
     let left : count - i ≡ suc (count - (i + 1)) = omega arith in
-    rw (left, repeats.more, read) (regroup front x (many (count - (i + 1)) new))
+    rw (left, repeats.more, read) (regroup prefix x (many (count - (i + 1)) new))
 
 pub goes_on : {X : Type 0} {one : Unread → Result (X × Unread) CodeFault} {many : ℕ → Unread → Result (List X × Unread) CodeFault} → Repeats one many
-    → (front : List X) (count i : ℕ) (old new : Unread) (x : X) (total : Result (List X × Unread) CodeFault) → i < count → one old ≡ Ok (x, new)
-    → with_front front (many (count - i) old) ≡ total → with_front (front ++ x ∷ []) (many (count - (i + 1)) new) ≡ total
-goes_on repeats front count i old new x total within read so_far = sym (one_more repeats front count i old new x within read) ∙ so_far
+    → (prefix : List X) (count i : ℕ) (old new : Unread) (x : X) (total : Result (List X × Unread) CodeFault) → i < count → one old ≡ Ok (x, new)
+    → with_prefix prefix (many (count - i) old) ≡ total → with_prefix (prefix ++ x ∷ []) (many (count - (i + 1)) new) ≡ total
+goes_on repeats prefix count i old new x total within read so_far = sym (one_more repeats prefix count i old new x within read) ∙ so_far
 
 pub ends : {X : Type 0} {one : Unread → Result (X × Unread) CodeFault} {many : ℕ → Unread → Result (List X × Unread) CodeFault} → Repeats one many
-    → (e : OrNoMemory CodeFault) (front : List X) (count i : ℕ) (old : Unread) (total : Result (List X × Unread) CodeFault) → i < count → Fails e (one old)
-    → with_front front (many (count - i) old) ≡ total → Fails e total
-ends repeats NoMemory front count i old total within failed so_far = tt
-ends {X = X} {many = many} repeats (Fault fault) front count i old total within failed so_far =
+    → (e : OrNoMemory CodeFault) (prefix : List X) (count i : ℕ) (old : Unread) (total : Result (List X × Unread) CodeFault) → i < count → Fails e (one old)
+    → with_prefix prefix (many (count - i) old) ≡ total → Fails e total
+ends repeats NoMemory prefix count i old total within failed so_far = tt
+ends {X = X} {many = many} repeats (Fault fault) prefix count i old total within failed so_far =
     let left : count - i ≡ suc (count - (i + 1)) = omega arith in
-    let all : with_front front (many (count - i) old) ≡ Err fault = rw (left, repeats.more, failed) refl in
+    let all : with_prefix prefix (many (count - i) old) ≡ Err fault = rw (left, repeats.more, failed) refl in
     sym so_far ∙ all
 
 pub is_done : {X : Type 0} {one : Unread → Result (X × Unread) CodeFault} {many : ℕ → Unread → Result (List X × Unread) CodeFault} → Repeats one many
-    → (front : List X) (count i : ℕ) (new : Unread) (total : Result (List X × Unread) CodeFault) → count ≤ i → with_front front (many (count - i) new) ≡ total → total ≡ Ok (front, new)
-is_done {X = X} {many = many} repeats front count i new total over so_far =
+    → (prefix : List X) (count i : ℕ) (new : Unread) (total : Result (List X × Unread) CodeFault) → count ≤ i → with_prefix prefix (many (count - i) new) ≡ total → total ≡ Ok (prefix, new)
+is_done {X = X} {many = many} repeats prefix count i new total over so_far =
     let left : count - i ≡ 0 = omega arith in
-    let all : with_front front (many (count - i) new) ≡ Ok (front, new) = rw (left, repeats.none) (ap (λ (xs : List X). Ok (xs, new)) (append-nil front)) in
+    let all : with_prefix prefix (many (count - i) new) ≡ Ok (prefix, new) = rw (left, repeats.none) (ap (λ (xs : List X). Ok (xs, new)) (append-nil prefix)) in
     sym so_far ∙ all
 
 -- ---- what it takes
 
-pub many-spelled : {X : Type 0} {one : Unread → Result (X × Unread) CodeFault} {many : ℕ → Unread → Result (List X × Unread) CodeFault} → Repeats one many
-    → (bytes : X → List ℕ) (is : X → Bool) → IsSpelled one bytes is
+pub many-encoded : {X : Type 0} {one : Unread → Result (X × Unread) CodeFault} {many : ℕ → Unread → Result (List X × Unread) CodeFault} → Repeats one many
+    → (bytes : X → List ℕ) (is : X → Bool) → IsEncoded one bytes is
     → (count : ℕ) (old new : Unread) (xs : List X) → AreBytes old.bytes → many count old ≡ Ok (xs, new)
-    → Spelled (flat_map bytes) (list_all is) old xs new × (length xs ≡ count)
-many-spelled {X = X} repeats bytes is spelled zero old new xs all read =
+    → Encoded (flat_map bytes) (list_all is) old xs new × (length xs ≡ count)
+many-encoded {X = X} repeats bytes is encoded zero old new xs all read =
     let same : ◌≡◌ {A = List X × Unread} ([], old) (xs, new) = ok_injective {A = List X × Unread} {E = CodeFault} ([], old) (xs, new) (sym (repeats.none old) ∙ read) in
-    subst (λ (y : List X × Unread). Spelled (flat_map bytes) (list_all is) old y.0 y.1 × (length y.0 ≡ 0)) same
+    subst (λ (y : List X × Unread). Encoded (flat_map bytes) (list_all is) old y.0 y.1 × (length y.0 ≡ 0)) same
     (record { parts = refl; left = all; limits = refl }, refl)
-many-spelled {X = X} {one = one} {many = many} repeats bytes is spelled (suc count) old new xs all read =
+many-encoded {X = X} {one = one} {many = many} repeats bytes is encoded (suc count) old new xs all read =
     let first = bind_ok {A = X × Unread} {B = List X × Unread} {E = CodeFault} (one old)
     (λ (first : X × Unread). many count first.1 >>= λ (rest : List X × Unread). Ok (first.0 ∷ rest.0, rest.1)) (xs, new) (sym (repeats.more count old) ∙ read) in
     let rest = bind_ok {A = List X × Unread} {B = List X × Unread} {E = CodeFault} (many count first.0.1)
     (λ (rest : List X × Unread). Ok (first.0.0 ∷ rest.0, rest.1)) (xs, new) first.2 in
     let same : ◌≡◌ {A = List X × Unread} (first.0.0 ∷ rest.0.0, rest.0.1) (xs, new) = ok_injective {A = List X × Unread} {E = CodeFault} (first.0.0 ∷ rest.0.0, rest.0.1) (xs, new) rest.2 in
-    let front = spelled old first.0.1 first.0.0 all first.1 in
-    let behind = many-spelled repeats bytes is spelled count first.0.1 rest.0.1 rest.0.0 front.left rest.1 in
-    let parts = both_parts old.bytes (bytes first.0.0) first.0.1.bytes (flat_map bytes rest.0.0) rest.0.1.bytes front.parts behind.0.parts in
-    subst (λ (y : List X × Unread). Spelled (flat_map bytes) (list_all is) old y.0 y.1 × (length y.0 ≡ suc count)) {x = (first.0.0 ∷ rest.0.0, rest.0.1)} same
-    (record { parts = parts; left = behind.0.left; limits = and_from (is first.0.0) (list_all is rest.0.0) front.limits behind.0.limits }, ap suc behind.1)
+    let prefix = encoded old first.0.1 first.0.0 all first.1 in
+    let after = many-encoded repeats bytes is encoded count first.0.1 rest.0.1 rest.0.0 prefix.left rest.1 in
+    let parts = both_parts old.bytes (bytes first.0.0) first.0.1.bytes (flat_map bytes rest.0.0) rest.0.1.bytes prefix.parts after.0.parts in
+    subst (λ (y : List X × Unread). Encoded (flat_map bytes) (list_all is) old y.0 y.1 × (length y.0 ≡ suc count)) {x = (first.0.0 ∷ rest.0.0, rest.0.1)} same
+    (record { parts = parts; left = after.0.left; limits = and_from (is first.0.0) (list_all is rest.0.0) prefix.limits after.0.limits }, ap suc after.1)
 
--- ---- what it gives where its spelling stands
+-- ---- what it gives where its encoding stands
 
 pub many-read : {X : Type 0} {one : Unread → Result (X × Unread) CodeFault} {many : ℕ → Unread → Result (List X × Unread) CodeFault} → Repeats one many
     → (bytes : X → List ℕ) (is : X → Bool) → IsRead one bytes is
@@ -98,7 +99,7 @@ many-read {X = X} {many = many} repeats bytes is read at (x ∷ xs) rest all =
           ∙ rw (repeats.more, first.read, others.read) refl;
     }
 
--- ---- how long its spelling is
+-- ---- how long its encoding is
 
 pub length-flat_map-le : {X : Type 0} → (bytes : X → List ℕ) (is : X → Bool) (most : ℕ) → ((x : X) → is x ≡ true → length (bytes x) ≤ most)
     → (xs : List X) → list_all is xs ≡ true → length (flat_map bytes xs) ≤ length xs * most

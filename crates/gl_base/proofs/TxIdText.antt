@@ -91,7 +91,7 @@ parsed_gives : (text left right : List ℕ) (i view seqno : ℕ) → (length tex
     → take i text ≡ left → drop (i + 1) text ≡ right → part_read 0 last_view left ≡ Ok view → part_read (i + 1) last_seqno right ≡ Ok seqno
     → parsed text ≡ Ok (record { view = view; seqno = seqno })
 unfolding parsed sides_read
-parsed_gives text left right i view seqno some place front back v s = rw (some, place, front, back, v, s) refl
+parsed_gives text left right i view seqno some place prefix back v s = rw (some, place, prefix, back, v, s) refl
 
 pub parsed-text_of : (id : TxId) → IsTxId id → parsed (text_of id) ≡ Ok id
 parsed-text_of id is =
@@ -108,8 +108,8 @@ joined : (text left right : List ℕ) (i byte : ℕ) → text ≡ take i text ++
     → take i text ≡ left → drop (i + 1) text ≡ right → byte ≡ dot → text ≡ left ++ dot ∷ right
 joined text left right i byte cut e f g =
     let next : suc i ≡ i + 1 = omega arith in
-    let behind : drop (suc i) text ≡ right = ap (λ (n : ℕ). drop n text) next ∙ f in
-    cut ∙ rw (e, behind, g) refl
+    let after : drop (suc i) text ≡ right = ap (λ (n : ℕ). drop n text) next ∙ f in
+    cut ∙ rw (e, after, g) refl
 
 pub parsed_ok : (text : List ℕ) (id : TxId) → parsed text ≡ Ok id → IsTxId id × (text ≡ text_of id)
 unfolding parsed sides_read
@@ -126,12 +126,12 @@ parsed_ok text id h =
     let read : TxId = record { view = v.0; seqno = s.0 } in
     let same : read ≡ id = cc in
     let within : IsTxId read = record { view = (left.1, left.2); seqno = (right.1, right.2) } in
-    let spelled : text ≡ text_of read = joined text (decimal v.0) (decimal s.0) b.0 (get_or text b.0 0) cut left.0 right.0 byte in
-    subst (λ (t : TxId). IsTxId t × (text ≡ text_of t)) same (within, spelled)
+    let encoded : text ≡ text_of read = joined text (decimal v.0) (decimal s.0) b.0 (get_or text b.0 0) cut left.0 right.0 byte in
+    subst (λ (t : TxId). IsTxId t × (text ≡ text_of t)) same (within, encoded)
 
-pub read_spelled : (text : List ℕ) (r : Result TxId TxIdFault) → r ≡ parsed text → IfOk r (λ id. IsTxId id × (text ≡ text_of id))
-read_spelled text (Ok id) e = parsed_ok text id (sym e)
-read_spelled text (Err fault) e = tt
+pub read_encoded : (text : List ℕ) (r : Result TxId TxIdFault) → r ≡ parsed text → IfOk r (λ id. IsTxId id × (text ≡ text_of id))
+read_encoded text (Ok id) e = parsed_ok text id (sym e)
+read_encoded text (Err fault) e = tt
 
 pub read_only : (text : List ℕ) (r : Result TxId TxIdFault) → r ≡ parsed text → (id : TxId) → IsTxId id → text ≡ text_of id → r ≡ Ok id
 read_only text r e id is t = e ∙ ap parsed t ∙ parsed-text_of id is

@@ -1,4 +1,4 @@
--- Values read from the front of bytes: beside the faults of their fields, what isn't allowed where
+-- Values read from the start of bytes: beside the faults of their fields, what isn't allowed where
 -- it stands, and bytes that are left over.
 use Rattle.std.specs.Prelude.{ℕ, List, Bool, true, false, Result, Ok, Err, length, ◌==◌, if◌then◌else◌}
 use Rattle.gl_base.specs.Cut.{Unread, number_at}
@@ -30,7 +30,7 @@ flag_in place byte =
 unfoldable pub flag_at : Unread → Result (Bool × Unread) CodeFault
 flag_at unread = field (number_at 1 unread) >>= flag_in unread.at
 
--- Nothing may be left over: the first byte that is, is told.
+-- Nothing may be left over: the first byte that is, is reported.
 abbrev pub ended : {X : Type 0} → X × Unread → Result X CodeFault
 ended read = if length read.1.bytes == 0 then Ok read.0 else Err (Trailing read.1.at)
 

@@ -1,4 +1,4 @@
--- Fields read from the front of bytes, from left to right, and the first fault that is met.
+-- Fields read from the start of bytes, from left to right, and the first fault that is met.
 use Rattle.std.specs.Prelude.{◌≡◌, ◌≢◌, ℕ, ◌+◌, ◌/◌, ◌^◌, ◌<◌, ◌≤◌, Bool, not, List, length, take, drop, Option, None, Some, Result, Ok, Err, position, ◌==◌, nat_lt, if◌then◌else◌}
 use Rattle.std.specs.Char.{is_ascii_graphic}
 use Rattle.gl_base.specs.LittleEndian.{from_little_endian}
@@ -11,7 +11,7 @@ pub record Unread : Type 0 where
   pub at : ℕ
   pub bytes : List ℕ
 
--- The place behind the last byte.
+-- The place after the last byte.
 abbrev pub end_of : Unread → ℕ
 end_of unread = unread.at + length unread.bytes
 
@@ -51,7 +51,7 @@ abbrev pub is_no_text : ℕ → Bool
 is_no_text byte = not (is_ascii_graphic byte)
 
 -- The bytes of a field, which begin at a place, are all text, or else the place of the first that
--- isn't is told.
+-- isn't is reported.
 abbrev pub all_text : ℕ → (List ℕ × Unread) → Option ℕ → Result (List ℕ × Unread) CutFault
 all_text start field None = Ok field
 all_text start field (Some i) = Err (NotText (start + i))

@@ -1,4 +1,4 @@
--- How fields of bytes are spelled: behind their length, which is a number with the low byte first.
+-- How fields of bytes are encoded: after their length, which is a number with the low byte first.
 use Rattle.std.specs.Prelude.{◌≡◌, ◌≢◌, ◌⊎◌, ℕ, List, ◌++◌, ◌<◌, ◌^◌, ◌/◌, ◌==◌, length, if◌then◌else◌}
 use Rattle.gl_base.specs.LittleEndian.{little_endian}
 
@@ -18,10 +18,10 @@ with_u32_length bytes = little_endian 4 (length bytes) ++ bytes
 abbrev pub IsWidth : ℕ → Type 0
 IsWidth width = (width ≡ 0) ⊎ (width ≡ 8) ⊎ (width ≡ 16) ⊎ (width ≡ 32)
 
--- Bytes behind a length of a width, or alone.
-abbrev pub field_spelling : ℕ → List ℕ → List ℕ
-field_spelling width xs = if width == 0 then xs else little_endian (width / 8) (length xs) ++ xs
+-- Bytes after a length of a width, or alone.
+abbrev pub field_encoding : ℕ → List ℕ → List ℕ
+field_encoding width xs = if width == 0 then xs else little_endian (width / 8) (length xs) ++ xs
 
--- The length of the bytes can be spelled in this width, if there is a length.
+-- The length of the bytes can be encoded in this width, if there is a length.
 abbrev pub FitsWidth : ℕ → List ℕ → Type 0
 FitsWidth width xs = width ≢ 0 → length xs < 256 ^ (width / 8)

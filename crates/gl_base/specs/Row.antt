@@ -1,5 +1,5 @@
 -- A map's name, a key and a value as fields of bytes (CCF documentation, "Key-Value Store"): how
--- they are spelled, how they are read, and within which limits.
+-- they are encoded, how they are read, and within which limits.
 use Rattle.std.specs.Prelude.{ℕ, List, [], ◌∷◌, Bool, true, ◌&&◌, Option, None, Some, Result, Ok, Err, length, nat_le, ◌==◌, if◌then◌else◌}
 use Rattle.std.specs.Char.{is_ascii_graphic}
 use Rattle.std.specs.List.{list_all}
@@ -37,7 +37,7 @@ abbrev pub is_optional_value_field : ℕ → Option (List ℕ) → Bool
 is_optional_value_field limit None = true
 is_optional_value_field limit (Some value) = is_value_field limit value
 
--- Spelling
+-- Encoding
 
 abbrev pub map_name_bytes : List ℕ → List ℕ
 map_name_bytes name = with_u8_length name
@@ -48,14 +48,14 @@ key_bytes key = with_u16_length key
 abbrev pub value_bytes : List ℕ → List ℕ
 value_bytes value = with_u32_length value
 
--- No value is a byte 0, and a value stands behind a byte 1.
+-- No value is a byte 0, and a value stands after a byte 1.
 abbrev pub optional_value_bytes : Option (List ℕ) → List ℕ
 optional_value_bytes None = 0 ∷ []
 optional_value_bytes (Some value) = 1 ∷ value_bytes value
 
 -- Reading
 
--- Bytes behind a length that begins at a place, of which there is one at least.
+-- Bytes after a length that begins at a place, of which there is one at least.
 abbrev pub some_bytes : ℕ → List ℕ × Unread → Result (List ℕ × Unread) CodeFault
 some_bytes place read = if length read.0 == 0 then Err (faults.Value place) else Ok read
 
@@ -68,14 +68,14 @@ key_at unread = field (string_at 2 key_limit unread) >>= some_bytes unread.at
 unfoldable pub value_at : ℕ → Unread → Result (List ℕ × Unread) CodeFault
 value_at limit unread = field (string_at 4 limit unread)
 
--- What stands behind a byte that says whether there is a value; the byte's place is told where it
--- is neither 0 nor 1.
-abbrev pub optional_behind : ℕ → ℕ → ℕ × Unread → Result (Option (List ℕ) × Unread) CodeFault
-optional_behind limit place flag =
+-- What stands after a byte that says whether there is a value; the byte's place is told where it is
+-- neither 0 nor 1.
+abbrev pub optional_after : ℕ → ℕ → ℕ × Unread → Result (Option (List ℕ) × Unread) CodeFault
+optional_after limit place flag =
     if flag.0 == 0 then Ok (None, flag.1)
     else (if flag.0 == 1
     then (value_at limit flag.1 >>= λ value. Ok (Some value.0, value.1))
     else Err (faults.Value place))
 
 unfoldable pub optional_value_at : ℕ → Unread → Result (Option (List ℕ) × Unread) CodeFault
-optional_value_at limit unread = field (number_at 1 unread) >>= optional_behind limit unread.at
+optional_value_at limit unread = field (number_at 1 unread) >>= optional_after limit unread.at

@@ -1,4 +1,4 @@
--- Steps of a reading, one behind the other: the first fault ends it.
+-- Steps of a reading, one after the other: the first fault ends it.
 use Rattle.std.specs.Prelude.{Result, Ok, Err}
 
 infixl 10 ◌>>=◌

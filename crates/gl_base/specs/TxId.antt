@@ -43,7 +43,7 @@ is_no_digit byte = not (is_ascii_digit byte)
 abbrev pub zero_digit : ℕ
 zero_digit = 48
 
--- The number that digits spell, from 1 to a limit, or else what is wrong with it.
+-- The number that digits encode, from 1 to a limit, or else what is wrong with it.
 abbrev pub in_range : ℕ → ℕ → Result ℕ TxIdFault
 in_range limit value =
     if nat_lt limit value then Err TooBig
@@ -55,7 +55,7 @@ digits_read start limit part =
     if (slice_index part 0 == zero_digit) && nat_lt 1 (length part) then Err (LeadingZero start)
     else in_range limit (digits_value 10 part)
 
--- The first byte that is no digit is told before anything else that is wrong with the part.
+-- The first byte that is no digit is reported before anything else that is wrong with the part.
 abbrev pub from_digits : ℕ → ℕ → List ℕ → Option ℕ → Result ℕ TxIdFault
 from_digits start limit part (Some i) = Err (Digit (start + i))
 from_digits start limit part None = digits_read start limit part
@@ -65,7 +65,7 @@ part_read start limit part =
     if length part == 0 then Err Empty
     else from_digits start limit part (position is_no_digit part)
 
--- The left part is the view, and is told first; the right part is the seqno.
+-- The left part is the view, and is reported first; the right part is the seqno.
 unfoldable pub sides_read : List ℕ → ℕ → Result TxId TxIdFault
 sides_read text i = do
   view ← part_read 0 last_view (take i text)
@@ -76,7 +76,7 @@ abbrev pub from_dot : List ℕ → Option ℕ → Result TxId TxIdFault
 from_dot text None = Err NoDot
 from_dot text (Some i) = sides_read text i
 
--- The identifier that a text spells, or the first thing that is wrong, from left to right.
+-- The identifier that a text encodes, or the first thing that is wrong, from left to right.
 unfoldable pub parsed : List ℕ → Result TxId TxIdFault
 parsed text =
     if length text == 0 then Err Empty

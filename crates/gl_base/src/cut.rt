@@ -1,10 +1,10 @@
-//! Fields read from the front of bytes.
+//! Fields read from the start of bytes.
 
 ghost use Rattle.std.specs.Prelude.{◌≡◌, ◌⊎◌, ℕ, Bool, List, ◌∷◌, ◌+◌, ◌/◌, ◌^◌, ◌<◌, ◌≤◌, ◌++◌, length, position, Option, IsTrue, IfOk, IfErr, IsOkAnd, Ok};
 ghost use Rattle.std.specs.Option.{option_copied};
 ghost use Rattle.gl_base.specs.LittleEndian.{little_endian};
 ghost use Rattle.gl_base.specs.Bytes.{are_bytes};
-ghost use Rattle.gl_base.specs.Field.{IsWidth, field_spelling};
+ghost use Rattle.gl_base.specs.Field.{IsWidth, field_encoding};
 ghost use Rattle.gl_base.specs.Cut.{Unread, Gives, bytes_at, number_at, string_at, field_at, FitsField, FitsText, is_no_text, text_at};
 ghost use Rattle.gl_base.specs.Code.{ended, flag_byte, flag_at};
 ghost use Rattle.gl_base.specs.Row.{map_name_at, key_at, value_at, optional_value_at, map_name_bytes, key_bytes, value_bytes, optional_value_bytes, is_map_name_field, is_key_field, is_value_field, is_optional_value_field};
@@ -17,8 +17,8 @@ const MAP_NAME_LIMIT: u64 = 128;
 
 const KEY_LIMIT: u64 = 1024;
 
-/// Bytes of which the front was read, field by field. A read that answers a fault leaves the cut
-/// as it was. What is read is spelled so (`spelled`), and what is spelled so is read (`only`).
+/// Bytes of which the front was read, field by field. A read that answers a fault leaves the cut as
+/// it was. What is read is encoded so (`encoded`), and what is encoded so is read (`only`).
 #[derive(Debug, Drop)]
 pub struct Cut<'a> {
     rest: &'a [u8],
@@ -77,10 +77,10 @@ impl<'a> Cut<'a> {
         ensures { Gives (λ s. s.now) result self.old self.new (bytes_at N self.old) }
     {
         match self.rest.split_first_chunk::<N>() {
-            Some((front, rest)) => {
+            Some((prefix, rest)) => {
                 self.rest = rest;
                 self.at += N;
-                Ok(front)
+                Ok(prefix)
             }
             None => Err(CutFault::Short {
                 at: self.at + self.rest.len(),
@@ -91,7 +91,7 @@ impl<'a> Cut<'a> {
     /// So many bytes, without a length.
     pub fn array<const N: usize>(&mut self) -> Result<&'a [u8; N], CutFault>
         ensures exact { Gives (λ s. s.now) result self.old self.new (bytes_at N self.old) }
-        ensures spelled { IfOk result (λ s. self.old.bytes ≡ s.now ++ self.new.bytes) }
+        ensures encoded { IfOk result (λ s. self.old.bytes ≡ s.now ++ self.new.bytes) }
         ensures only { (xs rest : List ℕ) → length xs ≡ N → self.old.bytes ≡ xs ++ rest →
             IsOkAnd result (λ s. s.now ≡ xs) }
     {
@@ -101,7 +101,7 @@ impl<'a> Cut<'a> {
     #[tactic(auto, using(crate::proofs::Numbers::number_from), unfolding(crate::specs::Cut::number_at))]
     pub fn u8(&mut self) -> Result<u8, CutFault>
         ensures exact { Gives (λ n. n) result self.old self.new (number_at 1 self.old) }
-        ensures spelled { IfOk result (λ n. self.old.bytes ≡ little_endian 1 n ++ self.new.bytes) }
+        ensures encoded { IfOk result (λ n. self.old.bytes ≡ little_endian 1 n ++ self.new.bytes) }
         ensures only { (n : ℕ) (rest : List ℕ) → n < 2 ^ 8 →
             self.old.bytes ≡ little_endian 1 n ++ rest → result ≡ Ok n }
     {
@@ -114,7 +114,7 @@ impl<'a> Cut<'a> {
     #[tactic(auto, using(crate::proofs::Numbers::number_from), unfolding(crate::specs::Cut::number_at))]
     pub fn u16(&mut self) -> Result<u16, CutFault>
         ensures exact { Gives (λ n. n) result self.old self.new (number_at 2 self.old) }
-        ensures spelled { IfOk result (λ n. self.old.bytes ≡ little_endian 2 n ++ self.new.bytes) }
+        ensures encoded { IfOk result (λ n. self.old.bytes ≡ little_endian 2 n ++ self.new.bytes) }
         ensures only { (n : ℕ) (rest : List ℕ) → n < 2 ^ 16 →
             self.old.bytes ≡ little_endian 2 n ++ rest → result ≡ Ok n }
     {
@@ -127,7 +127,7 @@ impl<'a> Cut<'a> {
     #[tactic(auto, using(crate::proofs::Numbers::number_from), unfolding(crate::specs::Cut::number_at))]
     pub fn u32(&mut self) -> Result<u32, CutFault>
         ensures exact { Gives (λ n. n) result self.old self.new (number_at 4 self.old) }
-        ensures spelled { IfOk result (λ n. self.old.bytes ≡ little_endian 4 n ++ self.new.bytes) }
+        ensures encoded { IfOk result (λ n. self.old.bytes ≡ little_endian 4 n ++ self.new.bytes) }
         ensures only { (n : ℕ) (rest : List ℕ) → n < 2 ^ 32 →
             self.old.bytes ≡ little_endian 4 n ++ rest → result ≡ Ok n }
     {
@@ -141,7 +141,7 @@ impl<'a> Cut<'a> {
     #[tactic(auto, using(crate::proofs::Numbers::number_from), unfolding(crate::specs::Cut::number_at))]
     pub fn u48(&mut self) -> Result<u64, CutFault>
         ensures exact { Gives (λ n. n) result self.old self.new (number_at 6 self.old) }
-        ensures spelled { IfOk result (λ n. self.old.bytes ≡ little_endian 6 n ++ self.new.bytes) }
+        ensures encoded { IfOk result (λ n. self.old.bytes ≡ little_endian 6 n ++ self.new.bytes) }
         ensures only { (n : ℕ) (rest : List ℕ) → n < 2 ^ 48 →
             self.old.bytes ≡ little_endian 6 n ++ rest → result ≡ Ok n }
     {
@@ -154,7 +154,7 @@ impl<'a> Cut<'a> {
     #[tactic(auto, using(crate::proofs::Numbers::number_from), unfolding(crate::specs::Cut::number_at))]
     pub fn u64(&mut self) -> Result<u64, CutFault>
         ensures exact { Gives (λ n. n) result self.old self.new (number_at 8 self.old) }
-        ensures spelled { IfOk result (λ n. self.old.bytes ≡ little_endian 8 n ++ self.new.bytes) }
+        ensures encoded { IfOk result (λ n. self.old.bytes ≡ little_endian 8 n ++ self.new.bytes) }
         ensures only { (n : ℕ) (rest : List ℕ) → n < 2 ^ 64 →
             self.old.bytes ≡ little_endian 8 n ++ rest → result ≡ Ok n }
     {
@@ -173,10 +173,10 @@ impl<'a> Cut<'a> {
                 at: self.at + self.rest.len(),
             });
         }
-        let (front, rest) = self.rest.split_at(count as usize);
+        let (prefix, rest) = self.rest.split_at(count as usize);
         self.rest = rest;
-        self.at += front.len();
-        Ok(front)
+        self.at += prefix.len();
+        Ok(prefix)
     }
 
     /// A length of so many bits.
@@ -184,7 +184,7 @@ impl<'a> Cut<'a> {
     fn length(&mut self, width: u32) -> Result<u64, CutFault>
         requires { (width ≡ 8) ⊎ (width ≡ 16) ⊎ (width ≡ 32) }
         ensures exact { Gives (λ n. n) result self.old self.new (number_at (width / 8) self.old) }
-        ensures spelled { IfOk result (λ n.
+        ensures encoded { IfOk result (λ n.
             self.old.bytes ≡ little_endian (width / 8) n ++ self.new.bytes) }
     {
         match width {
@@ -209,7 +209,7 @@ impl<'a> Cut<'a> {
         requires { (width ≡ 8) ⊎ (width ≡ 16) ⊎ (width ≡ 32) }
         ensures exact { Gives (λ s. s.now) result self.old self.new
             (string_at (width / 8) limit self.old) }
-        ensures spelled { IfOk result (λ s. self.old.bytes ≡
+        ensures encoded { IfOk result (λ s. self.old.bytes ≡
             little_endian (width / 8) (length s.now) ++ (s.now ++ self.new.bytes)) }
     {
         let mut ahead = self.copy();
@@ -222,16 +222,16 @@ impl<'a> Cut<'a> {
         Ok(bytes)
     }
 
-    /// Bytes behind their length of `width` bits (8, 16 or 32), which is `limit` at most. With the
+    /// Bytes after their length of `width` bits (8, 16 or 32), which is `limit` at most. With the
     /// width 0 there is no length, and `limit` is the number of the bytes.
     pub fn bytes(&mut self, width: u32, limit: u64) -> Result<&'a [u8], CutFault>
         requires { IsWidth width }
         ensures exact { Gives (λ s. s.now) result self.old self.new
             (field_at width limit self.old) }
-        ensures spelled { IfOk result (λ s.
-            self.old.bytes ≡ field_spelling width s.now ++ self.new.bytes) }
+        ensures encoded { IfOk result (λ s.
+            self.old.bytes ≡ field_encoding width s.now ++ self.new.bytes) }
         ensures only { (xs rest : List ℕ) → FitsField width limit xs →
-            self.old.bytes ≡ field_spelling width xs ++ rest → IsOkAnd result (λ s. s.now ≡ xs) }
+            self.old.bytes ≡ field_encoding width xs ++ rest → IsOkAnd result (λ s. s.now ≡ xs) }
     {
         if width == 0 {
             self.take(limit)
@@ -243,7 +243,7 @@ impl<'a> Cut<'a> {
     #[tactic(auto, unfolding(crate::specs::Cut::text_at))]
     fn name(&mut self, limit: u64) -> Result<&'a [u8], CutFault>
         ensures exact { Gives (λ s. s.now) result self.old self.new (text_at limit self.old) }
-        ensures spelled { IfOk result (λ s.
+        ensures encoded { IfOk result (λ s.
             self.old.bytes ≡ little_endian 1 (length s.now) ++ (s.now ++ self.new.bytes)) }
     {
         let mut ahead = self.copy();
@@ -257,11 +257,11 @@ impl<'a> Cut<'a> {
         Ok(name)
     }
 
-    /// A name behind its length of 8 bits, which is `limit` at most: visible ASCII characters, 21
-    /// to 7e in hexadecimal. It may be empty.
+    /// A name after its length of 8 bits, which is `limit` at most: visible ASCII characters, 21 to
+    /// 7e in hexadecimal. It may be empty.
     pub fn text(&mut self, limit: u64) -> Result<&'a [u8], CutFault>
         ensures exact { Gives (λ s. s.now) result self.old self.new (text_at limit self.old) }
-        ensures spelled { IfOk result (λ s.
+        ensures encoded { IfOk result (λ s.
             self.old.bytes ≡ little_endian 1 (length s.now) ++ (s.now ++ self.new.bytes)) }
         ensures only { (xs rest : List ℕ) → FitsText limit xs →
             self.old.bytes ≡ little_endian 1 (length xs) ++ (xs ++ rest) →
@@ -273,7 +273,7 @@ impl<'a> Cut<'a> {
     #[tactic(auto, unfolding(crate::specs::Code::flag_at, crate::specs::LittleEndian::little_endian))]
     fn flag_field(&mut self) -> Result<bool, CodeFault>
         ensures exact { Gives (λ b. b) result self.old self.new (flag_at self.old) }
-        ensures spelled { IfOk result (λ b. self.old.bytes ≡ flag_byte b ∷ self.new.bytes) }
+        ensures encoded { IfOk result (λ b. self.old.bytes ≡ flag_byte b ∷ self.new.bytes) }
     {
         let mut ahead = self.copy();
         match ahead.u8()? {
@@ -292,7 +292,7 @@ impl<'a> Cut<'a> {
     /// A byte 0 for no, or 1 for yes.
     pub fn flag(&mut self) -> Result<bool, CodeFault>
         ensures exact { Gives (λ b. b) result self.old self.new (flag_at self.old) }
-        ensures spelled { IfOk result (λ b. self.old.bytes ≡ flag_byte b ∷ self.new.bytes) }
+        ensures encoded { IfOk result (λ b. self.old.bytes ≡ flag_byte b ∷ self.new.bytes) }
         ensures only { (b : Bool) (rest : List ℕ) → self.old.bytes ≡ flag_byte b ∷ rest →
             IsOkAnd result (λ said. said ≡ b) }
     {
@@ -314,7 +314,7 @@ impl<'a> Cut<'a> {
     fn map_name_field(&mut self) -> Result<&'a [u8], CodeFault>
         ensures exact { Gives (λ name. name.now) result self.old self.new (map_name_at self.old) }
         ensures valid { IfOk result (λ name. IsTrue (is_map_name_field name.now)) }
-        ensures spelled { IfOk result (λ name.
+        ensures encoded { IfOk result (λ name.
             self.old.bytes ≡ map_name_bytes name.now ++ self.new.bytes) }
     {
         let mut ahead = self.copy();
@@ -324,11 +324,11 @@ impl<'a> Cut<'a> {
         Ok(name)
     }
 
-    /// A map's name behind its length of one byte: 1 to 128 visible ASCII characters.
+    /// A map's name after its length of one byte: 1 to 128 visible ASCII characters.
     pub fn map_name(&mut self) -> Result<&'a [u8], CodeFault>
         ensures exact { Gives (λ name. name.now) result self.old self.new (map_name_at self.old) }
         ensures valid { IfOk result (λ name. IsTrue (is_map_name_field name.now)) }
-        ensures spelled { IfOk result (λ name.
+        ensures encoded { IfOk result (λ name.
             self.old.bytes ≡ map_name_bytes name.now ++ self.new.bytes) }
         ensures only { (xs rest : List ℕ) → IsTrue (is_map_name_field xs) →
             self.old.bytes ≡ map_name_bytes xs ++ rest → IsOkAnd result (λ name. name.now ≡ xs) }
@@ -340,7 +340,7 @@ impl<'a> Cut<'a> {
     fn key_field(&mut self) -> Result<&'a [u8], CodeFault>
         ensures exact { Gives (λ key. key.now) result self.old self.new (key_at self.old) }
         ensures valid { IfOk result (λ key. IsTrue (is_key_field key.now)) }
-        ensures spelled { IfOk result (λ key.
+        ensures encoded { IfOk result (λ key.
             self.old.bytes ≡ key_bytes key.now ++ self.new.bytes) }
     {
         let mut ahead = self.copy();
@@ -350,11 +350,11 @@ impl<'a> Cut<'a> {
         Ok(key)
     }
 
-    /// A key behind its length of two bytes: 1 to 1,024 bytes.
+    /// A key after its length of two bytes: 1 to 1,024 bytes.
     pub fn key(&mut self) -> Result<&'a [u8], CodeFault>
         ensures exact { Gives (λ key. key.now) result self.old self.new (key_at self.old) }
         ensures valid { IfOk result (λ key. IsTrue (is_key_field key.now)) }
-        ensures spelled { IfOk result (λ key.
+        ensures encoded { IfOk result (λ key.
             self.old.bytes ≡ key_bytes key.now ++ self.new.bytes) }
         ensures only { (xs rest : List ℕ) → IsTrue (is_key_field xs) →
             self.old.bytes ≡ key_bytes xs ++ rest → IsOkAnd result (λ key. key.now ≡ xs) }
@@ -367,7 +367,7 @@ impl<'a> Cut<'a> {
         ensures exact { Gives (λ value. value.now) result self.old self.new
             (value_at limit self.old) }
         ensures valid { IfOk result (λ value. IsTrue (is_value_field limit value.now)) }
-        ensures spelled { IfOk result (λ value.
+        ensures encoded { IfOk result (λ value.
             self.old.bytes ≡ value_bytes value.now ++ self.new.bytes) }
     {
         let mut ahead = self.copy();
@@ -377,13 +377,13 @@ impl<'a> Cut<'a> {
         Ok(value)
     }
 
-    /// A value behind its length of four bytes, which is `limit` at most.
+    /// A value after its length of four bytes, which is `limit` at most.
     pub fn value(&mut self, limit: u64) -> Result<&'a [u8], CodeFault>
         requires { limit < 2 ^ 32 }
         ensures exact { Gives (λ value. value.now) result self.old self.new
             (value_at limit self.old) }
         ensures valid { IfOk result (λ value. IsTrue (is_value_field limit value.now)) }
-        ensures spelled { IfOk result (λ value.
+        ensures encoded { IfOk result (λ value.
             self.old.bytes ≡ value_bytes value.now ++ self.new.bytes) }
         ensures only { (xs rest : List ℕ) → IsTrue (is_value_field limit xs) →
             self.old.bytes ≡ value_bytes xs ++ rest → IsOkAnd result (λ value. value.now ≡ xs) }
@@ -398,7 +398,7 @@ impl<'a> Cut<'a> {
             (optional_value_at limit self.old) }
         ensures valid { IfOk result (λ value.
             IsTrue (is_optional_value_field limit (option_copied value))) }
-        ensures spelled { IfOk result (λ value.
+        ensures encoded { IfOk result (λ value.
             self.old.bytes ≡ optional_value_bytes (option_copied value) ++ self.new.bytes) }
     {
         let mut ahead = self.copy();
@@ -423,7 +423,7 @@ impl<'a> Cut<'a> {
             (optional_value_at limit self.old) }
         ensures valid { IfOk result (λ value.
             IsTrue (is_optional_value_field limit (option_copied value))) }
-        ensures spelled { IfOk result (λ value.
+        ensures encoded { IfOk result (λ value.
             self.old.bytes ≡ optional_value_bytes (option_copied value) ++ self.new.bytes) }
         ensures only { (v : Option (List ℕ)) (rest : List ℕ) →
             IsTrue (is_optional_value_field limit v) →

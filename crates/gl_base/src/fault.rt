@@ -1,4 +1,4 @@
-//! Why bytes are not the spelling of a value.
+//! Why bytes are not the encoding of a value.
 
 ghost use Rattle.std.specs.Prelude.{◌≡◌};
 ghost use Rattle.gl_base.specs.declared.fault.CodeFault.TheVariants.{Cut};
@@ -20,14 +20,14 @@ pub enum CutFault {
     NotText { at: usize },
 }
 
-/// Why bytes are not the spelling of a value: the first fault from the left. A place is counted
+/// Why bytes are not the encoding of a value: the first fault from the left. A place is counted
 /// from the first of all the bytes, from 0.
 #[derive(Clone, Copy, Debug, PartialEq, Eq, Error)]
 pub enum CodeFault {
     /// A field could not be read.
     #[error("a field could not be read")]
     Cut(CutFault),
-    /// Bytes are left over behind the value; the first of them stands at `at`.
+    /// Bytes are left over after the value; the first of them stands at `at`.
     #[error("bytes are left over from {at} on")]
     Trailing { at: usize },
     /// What the field that begins at `at` holds is not allowed there: a count or a tag out of its

@@ -37,10 +37,10 @@ fn put_escaped_byte(out: &mut Vec<u8>, byte: u8) -> Result<(), AllocError>
 }
 
 /// Writes a name with `~` as `~0` and `/` as `~1` (RFC 6901, section 3). What was written before
-/// want of memory stays.
+/// memory ran out stays.
 fn put_escaped(out: &mut Vec<u8>, name: &[u8]) -> Result<(), AllocError>
     ensures put { OnOk result (out.new.items ≡ out.old.items ++ escaped name.now) }
-    ensures front { take (vec_len out.old) out.new.items ≡ out.old.items }
+    ensures prefix { take (vec_len out.old) out.new.items ≡ out.old.items }
 {
     for byte in name {
         put_escaped_byte(out, *byte)?;
@@ -50,7 +50,7 @@ fn put_escaped(out: &mut Vec<u8>, name: &[u8]) -> Result<(), AllocError>
 
 fn put_member(out: &mut Vec<u8>, name: &[u8]) -> Result<(), AllocError>
     ensures put { OnOk result (out.new.items ≡ member_of out.old.items name.now) }
-    ensures front { take (vec_len out.old) out.new.items ≡ out.old.items }
+    ensures prefix { take (vec_len out.old) out.new.items ≡ out.old.items }
 {
     out.push(b'/')?;
     put_escaped(out, name)
@@ -58,7 +58,7 @@ fn put_member(out: &mut Vec<u8>, name: &[u8]) -> Result<(), AllocError>
 
 fn put_item(out: &mut Vec<u8>, index: u64) -> Result<(), AllocError>
     ensures put { OnOk result (out.new.items ≡ item_of out.old.items index) }
-    ensures front { take (vec_len out.old) out.new.items ≡ out.old.items }
+    ensures prefix { take (vec_len out.old) out.new.items ≡ out.old.items }
 {
     let mut buffer = Buffer::new();
     out.push(b'/')?;

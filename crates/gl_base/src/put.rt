@@ -1,10 +1,10 @@
-//! Fields written behind what a list of bytes holds. Numbers are written with their least
-//! significant byte first. Want of memory leaves the list as it was.
+//! Fields written after what a list of bytes holds. Numbers are written with their least
+//! significant byte first. Running out of memory leaves the list as it was.
 
 ghost use Rattle.std.specs.Prelude.{◌≡◌, [], ◌∷◌, ◌++◌, ◌^◌, ◌<◌, take, OnOk, OnErr};
 ghost use Rattle.gl_base.specs.LittleEndian.{little_endian};
 ghost use Rattle.gl_base.specs.Code.{flag_byte};
-ghost use Rattle.gl_base.specs.Field.{IsWidth, FitsWidth, field_spelling};
+ghost use Rattle.gl_base.specs.Field.{IsWidth, FitsWidth, field_encoding};
 
 use std::alloc::AllocError;
 
@@ -70,7 +70,7 @@ pub fn put_bytes(out: &mut Vec<u8>, value: &[u8]) -> Result<(), AllocError>
     out.extend_from_slice(value)
 }
 
-/// Takes back what was written behind the first `before` bytes, if that failed.
+/// Takes back what was written after the first `before` bytes, if that failed.
 pub(crate) fn undo_on_err(
     out: &mut Vec<u8>,
     before: usize,
@@ -86,7 +86,7 @@ pub(crate) fn undo_on_err(
     written
 }
 
-/// Writes bytes behind those of their length.
+/// Writes bytes after those of their length.
 fn put_sized(out: &mut Vec<u8>, len: &[u8], bytes: &[u8]) -> Result<(), AllocError>
     ensures put { OnOk result (out.new.items ≡ out.old.items ++ (len.now ++ bytes.now)) }
     ensures kept { OnErr result (out.new.items ≡ out.old.items) }
@@ -97,12 +97,12 @@ fn put_sized(out: &mut Vec<u8>, len: &[u8], bytes: &[u8]) -> Result<(), AllocErr
     undo_on_err(out, before, written)
 }
 
-/// Bytes behind their length of `width` bits (8, 16 or 32). With the width 0 there is no length.
+/// Bytes after their length of `width` bits (8, 16 or 32). With the width 0 there is no length.
 #[tactic(auto, unfolding(crate::specs::LittleEndian::little_endian))]
 pub fn put_field(out: &mut Vec<u8>, width: u32, value: &[u8]) -> Result<(), AllocError>
     requires width { IsWidth width }
     requires fits { FitsWidth width value.now }
-    ensures put { OnOk result (out.new.items ≡ out.old.items ++ field_spelling width value.now) }
+    ensures put { OnOk result (out.new.items ≡ out.old.items ++ field_encoding width value.now) }
     ensures kept { OnErr result (out.new.items ≡ out.old.items) }
 {
     match width {

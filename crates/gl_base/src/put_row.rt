@@ -1,4 +1,4 @@
-//! A map's name, a key and a value, written behind what a list of bytes holds. Want of memory
+//! A map's name, a key and a value, written after what a list of bytes holds. Running out of memory
 //! leaves the list as it was.
 
 ghost use Rattle.std.specs.Prelude.{◌≡◌, ◌++◌, ◌^◌, ◌<◌, ◌≤◌, length, OnOk, OnErr};
@@ -8,7 +8,7 @@ ghost use Rattle.gl_base.specs.Row.{map_name_limit, key_limit, map_name_bytes, k
 use crate::put::{put_field, undo_on_err};
 use std::alloc::AllocError;
 
-/// A map's name behind its length of one byte.
+/// A map's name after its length of one byte.
 pub fn put_map_name(out: &mut Vec<u8>, name: &[u8]) -> Result<(), AllocError>
     requires { length name.now ≤ map_name_limit }
     ensures put { OnOk result (out.new.items ≡ out.old.items ++ map_name_bytes name.now) }
@@ -17,7 +17,7 @@ pub fn put_map_name(out: &mut Vec<u8>, name: &[u8]) -> Result<(), AllocError>
     put_field(out, 8, name)
 }
 
-/// A key behind its length of two bytes.
+/// A key after its length of two bytes.
 pub fn put_key(out: &mut Vec<u8>, key: &[u8]) -> Result<(), AllocError>
     requires { length key.now ≤ key_limit }
     ensures put { OnOk result (out.new.items ≡ out.old.items ++ key_bytes key.now) }
@@ -26,7 +26,7 @@ pub fn put_key(out: &mut Vec<u8>, key: &[u8]) -> Result<(), AllocError>
     put_field(out, 16, key)
 }
 
-/// A value behind its length of four bytes.
+/// A value after its length of four bytes.
 pub fn put_value(out: &mut Vec<u8>, value: &[u8]) -> Result<(), AllocError>
     requires { length value.now < 2 ^ 32 }
     ensures put { OnOk result (out.new.items ≡ out.old.items ++ value_bytes value.now) }

@@ -10,7 +10,7 @@ use crate::tx_id::{LAST_SEQNO, LAST_VIEW, TxId, TxIdFault};
 use itoa::Buffer;
 use std::alloc::AllocError;
 
-/// The number that the digits spell, or the last u64 where it is greater.
+/// The number that the digits encode, or the last u64 where it is greater.
 fn capped_value(digits: &[u8]) -> u64
     requires { AllDigits 10 digits.now }
     ensures { result ≡ min last_count (digits_value 10 digits.now) }
@@ -106,7 +106,7 @@ fn read(text: &[u8]) -> Result<TxId, TxIdFault>
     }
 }
 
-/// Copies the piece to a place of the buffer, and gives the place behind it.
+/// Copies the piece to a place of the buffer, and gives the place after it.
 fn put(out: &mut [u8], at: usize, piece: &[u8]) -> usize
     requires { at + length piece.now ≤ length out.old }
     ensures place { result ≡ at + length piece.now }
@@ -119,10 +119,10 @@ fn put(out: &mut [u8], at: usize, piece: &[u8]) -> usize
     at + piece.len()
 }
 
-/// Writes the text behind what the list holds. What was written before want of memory stays.
+/// Writes the text after what the list holds. What was written before memory ran out stays.
 fn put_text(out: &mut Vec<u8>, id: TxId) -> Result<(), AllocError>
     ensures put { OnOk result (out.new.items ≡ out.old.items ++ text_of id) }
-    ensures front { take (vec_len out.old) out.new.items ≡ out.old.items }
+    ensures prefix { take (vec_len out.old) out.new.items ≡ out.old.items }
 {
     let mut buffer = Buffer::new();
     put_bytes(out, buffer.format(id.view).as_bytes())?;
@@ -136,13 +136,13 @@ impl TxId {
         ensures exact { result ≡ parsed text.now }
 
         // What is read is the text of an identifier, and every such text is read.
-        ensures spelled { IfOk result (λ id. IsTxId id × (text.now ≡ text_of id)) }
+        ensures encoded { IfOk result (λ id. IsTxId id × (text.now ≡ text_of id)) }
         ensures only { (id : Id) → IsTxId id → text.now ≡ text_of id → result ≡ Ok id }
     {
         read(text)
     }
 
-    /// Writes the text `view.seqno` to the front of the buffer, and gives its length. The buffer
+    /// Writes the text `view.seqno` to the start of the buffer, and gives its length. The buffer
     /// has room for every identifier.
     pub fn text_into(self, out: &mut [u8; 24]) -> usize
         requires { self.seqno ≤ last_seqno }
@@ -156,8 +156,8 @@ impl TxId {
         put(out, len, buffer.format(self.seqno).as_bytes())
     }
 
-    /// Writes the text `view.seqno` behind what the list holds, also of numbers that no transaction
-    /// has. Want of memory leaves the list as it was.
+    /// Writes the text `view.seqno` after what the list holds, also of numbers that no transaction
+    /// has. Running out of memory leaves the list as it was.
     pub fn push_text(self, out: &mut Vec<u8>) -> Result<(), AllocError>
         ensures put { OnOk result (out.new.items ≡ out.old.items ++ text_of self) }
         ensures kept { OnErr result (out.new.items ≡ out.old.items) }

@@ -1,4 +1,4 @@
--- What words ask for, and that of those which ask for nothing some kind of fault is told.
+-- What words ask for, and that of those which ask for nothing some kind of fault is reported.
 use Rattle.std.proofs.Common.{◌≡◌, ◌<◌, ◌^◌, ◌-◌, ℕ, zero, suc, ◌+◌, ◌++◌, Bor, length, get_or, is_some, take, unwrap_or, nat_le, nat_lt, arith, List, [], ◌∷◌, Bool, true, false, Option, None, Some, Result, Ok, Err, IfOk, IfErr, ◌&&◌, map, if◌then◌else◌, refl, ap, ◌∙◌, ◌⊎◌, inl, inr, subst, sym, codes}
 use Rattle.std.specs.List.{list_all}
 use Rattle.std.specs.Str.{bytes_eq}
@@ -27,18 +27,18 @@ use Rattle.gl_hss.specs.declared.types.Types.{Types}
 use Rattle.gl_commands.specs.Commands.{diskless_program, keyless_program, nodeless_program, program}
 use Rattle.gl_commands.specs.declared.task.WordsFault.{WordsFault}
 use Rattle.gl_commands.specs.declared.task.WordsFault.TheVariants.{NoMemory, Refused}
-use Rattle.gl_commands.specs.Words.{Refuses, RefusesOnly, RefusesWords, as_load, as_node, as_task, asked, asked_by_load, asked_by_node, asked_command, asked_deal, asked_dealing, asked_identity, asked_key, asked_keygen, asked_load, asked_making, asked_member, asked_name, asked_named, asked_node, asked_number, asked_numbers, asked_options, asked_peers, asked_request, asked_seed, asked_serving, asked_sign, asked_task, asked_ticks, asked_turns, asked_under, asked_with_identity, asked_with_words, asked_workers, is_member, is_node, is_number, named_kind, named_types, node_of, number_within, plain_task, spelled_digest, spelled_key, spelled_member, spelled_seed, unless_faulty, unless_plain, valid_value}
+use Rattle.gl_commands.specs.Words.{Refuses, RefusesOnly, RefusesWords, as_load, as_node, as_task, asked, asked_by_load, asked_by_node, asked_command, asked_deal, asked_dealing, asked_identity, asked_key, asked_keygen, asked_load, asked_making, asked_member, asked_name, asked_named, asked_node, asked_number, asked_numbers, asked_options, asked_peers, asked_request, asked_seed, asked_serving, asked_sign, asked_task, asked_ticks, asked_turns, asked_under, asked_with_identity, asked_with_words, asked_workers, encoded_digest, encoded_key, encoded_member, encoded_seed, is_member, is_node, is_number, named_kind, named_types, node_of, number_within, plain_task, unless_faulty, unless_plain, valid_value}
 use Rattle.gl_commands.specs.declared.task.Asked.{Asked}
 use Rattle.gl_commands.specs.declared.task.LoadTask.{LoadTask}
 use Rattle.gl_commands.specs.declared.task.NodeTask.{NodeTask}
 use Rattle.gl_commands.specs.declared.task.Task.{Task}
 
--- Some kind is told, if the words ask for nothing.
+-- Some kind is reported, if the words ask for nothing.
 abbrev pub HasKind : {A : Type 0} → Result A Kinds → Type 0
 HasKind (Ok value) = Unit {0}
-HasKind (Err told) = (kind : ErrorKind) × IsAmong kind told
+HasKind (Err printed) = (kind : ErrorKind) × IsAmong kind printed
 
-kind_of_hex : (name : Text) (key : Result (List ℕ) LineFault) → HasKind (asked_under name (spelled_key key))
+kind_of_hex : (name : Text) (key : Result (List ℕ) LineFault) → HasKind (asked_under name (encoded_key key))
 kind_of_hex name (Ok key) = tt
 kind_of_hex name (Err fault) = (kinds.ValueValidation, inl refl)
 
@@ -47,8 +47,8 @@ kind_of_identity name None = (kinds.MissingRequiredArgument, inl refl)
 kind_of_identity name (Some word) = kind_of_hex name (hex_sized word 60)
 
 kind_of_key : (kind : Result KeyKind Kinds) (types : Result Types Kinds) → HasKind kind → HasKind types → HasKind (asked_key kind types)
-kind_of_key (Err told) types k t = k
-kind_of_key (Ok kind) (Err told) k t = t
+kind_of_key (Err printed) types k t = k
+kind_of_key (Ok kind) (Err printed) k t = t
 kind_of_key (Ok kind) (Ok types) k t = tt
 
 kind_of_name : {A : Type 0} (named : Text → Option A) (word : Option Text) → HasKind (asked_name named word)
@@ -59,13 +59,13 @@ kind_of_name {A = A} named (Some word) = go (named word)
     go None = (kinds.InvalidValue, inl refl)
     go (Some value) = tt
 
-kind_of_spelled : (key : Result (List ℕ) LineFault) → HasKind (spelled_key key)
-kind_of_spelled (Ok key) = tt
-kind_of_spelled (Err fault) = (kinds.ValueValidation, inl refl)
+kind_of_encoded : (key : Result (List ℕ) LineFault) → HasKind (encoded_key key)
+kind_of_encoded (Ok key) = tt
+kind_of_encoded (Err fault) = (kinds.ValueValidation, inl refl)
 
 kind_of_asked : (word : Option Text) → HasKind (asked_identity word)
 kind_of_asked None = (kinds.MissingRequiredArgument, inl refl)
-kind_of_asked (Some word) = kind_of_spelled (hex_sized word 60)
+kind_of_asked (Some word) = kind_of_encoded (hex_sized word 60)
 
 kind_of_member : (word : Option Text) → HasKind (asked_member word)
 kind_of_member None = (kinds.MissingRequiredArgument, inl refl)
@@ -86,21 +86,21 @@ within number member = go (nat_le 1 number) (nat_le number 255) refl refl member
     go true true l h all = grind (arith, nat_tests)
     go low high l h all = cc
 
--- The number that a decimal word spells, as it is parsed.
+-- The number that a decimal word encodes, as it is parsed.
 pub member_parsed : {E : Type 0} (word : List ℕ) (r : Result ℕ E) → is_decimal word ≡ true → ParsesUnsigned 8 10 word r → OkIff r ((0 < length word) × (digits_value 10 word < 2 ^ 8)) (digits_value 10 word)
 member_parsed word r decimal parses = parse_digits (numerals_by_value (AllDigits 10) tells_digits) 8 word r parses (decimal_digits word decimal)
 
-abbrev spelled_by : Bool → Bool → ℕ → Result ℕ Kinds
-spelled_by decimal member number = if decimal && member then Ok number else Err (kinds.ValueValidation ∷ [])
+abbrev encoded_by : Bool → Bool → ℕ → Result ℕ Kinds
+encoded_by decimal member number = if decimal && member then Ok number else Err (kinds.ValueValidation ∷ [])
 
 -- a decimal word that is no number of eight bits
-pub spelled_too_much : {E : Type 0} (word : List ℕ) (r : Result ℕ E) (e : E) → true ≡ is_decimal word → ParsesUnsigned 8 10 word r → r ≡ Err e → spelled_member word ≡ Err (kinds.ValueValidation ∷ [])
-spelled_too_much {E = E} word r e decimal parses is =
+pub encoded_too_much : {E : Type 0} (word : List ℕ) (r : Result ℕ E) (e : E) → true ≡ is_decimal word → ParsesUnsigned 8 10 word r → r ≡ Err e → encoded_member word ≡ Err (kinds.ValueValidation ∷ [])
+encoded_too_much {E = E} word r e decimal parses is =
     let over : (0 < length word) × (digits_value 10 word < 2 ^ 8) → ⊥ = subst (λ (x : Result ℕ E). OkIff x ((0 < length word) × (digits_value 10 word < 2 ^ 8)) (digits_value 10 word)) is (member_parsed word r (sym decimal) parses) in
-    ap (λ (b : Bool). spelled_by b (is_member (digits_value 10 word)) (digits_value 10 word)) (sym decimal) ∙ go (is_member (digits_value 10 word)) refl over
+    ap (λ (b : Bool). encoded_by b (is_member (digits_value 10 word)) (digits_value 10 word)) (sym decimal) ∙ go (is_member (digits_value 10 word)) refl over
   where
-    go : (b : Bool) → is_member (digits_value 10 word) ≡ b → ((0 < length word) × (digits_value 10 word < 2 ^ 8) → ⊥) → spelled_by true (is_member (digits_value 10 word)) (digits_value 10 word) ≡ Err (kinds.ValueValidation ∷ [])
-    go false same over = ap (λ (x : Bool). spelled_by true x (digits_value 10 word)) same
+    go : (b : Bool) → is_member (digits_value 10 word) ≡ b → ((0 < length word) × (digits_value 10 word < 2 ^ 8) → ⊥) → encoded_by true (is_member (digits_value 10 word)) (digits_value 10 word) ≡ Err (kinds.ValueValidation ∷ [])
+    go false same over = ap (λ (x : Bool). encoded_by true x (digits_value 10 word)) same
     go true same over = absurd (over (some_digit word (sym decimal), within (digits_value 10 word) same))
 
 and_false : (b : Bool) → (b && false) ≡ false
@@ -137,30 +137,30 @@ no_value {A = A} test value word = go (test word)
     go true is = cc
     go false is = refl
 
--- the texts behind references
+-- the texts after references
 abbrev pub now_of : List (Bor Text) → List Text
 now_of words = map (λ s. s.now) words
 
--- one word more that spells a value
+-- one word more that encodes a value
 pub one_more : {A : Type 0} (test : Text → Bool) (value : Text → A) (words : List (Bor Text)) (i : ℕ) (d : Bor Text) (values new : List A) (v : A) → i < length words → Some v ≡ (if test (get_or words i d).now then Some (value (get_or words i d).now) else None) →
     new ≡ values ++ v ∷ [] → list_all test (now_of (take i words)) ≡ true → values ≡ map value (now_of (take i words)) →
     (list_all test (now_of (take (i + 1) words)) ≡ true) × (new ≡ map value (now_of (take (i + 1) words)))
 one_more {A = A} test value words i d values new v within found pushed all read =
     let word : Text = (get_or words i d).now in
     let texts : now_of (take (i + 1) words) ≡ now_of (take i words) ++ word ∷ [] = ap now_of (take_more words i d within) ∙ map-append (λ (s : Bor Text). s.now) (take i words) (get_or words i d ∷ []) in
-    let spelled = some_value test value word v found in (
-      ap (list_all test) texts ∙ list_all-append test (now_of (take i words)) (word ∷ []) ∙ and_from (list_all test (now_of (take i words))) (test word && true) all (and_from (test word) true spelled.0 refl),
-      pushed ∙ ap (λ (l : List A). l ++ v ∷ []) read ∙ ap (λ (m : A). map value (now_of (take i words)) ++ m ∷ []) spelled.1
+    let encoded = some_value test value word v found in (
+      ap (list_all test) texts ∙ list_all-append test (now_of (take i words)) (word ∷ []) ∙ and_from (list_all test (now_of (take i words))) (test word && true) all (and_from (test word) true encoded.0 refl),
+      pushed ∙ ap (λ (l : List A). l ++ v ∷ []) read ∙ ap (λ (m : A). map value (now_of (take i words)) ++ m ∷ []) encoded.1
           ∙ sym (map-append value (now_of (take i words)) (word ∷ [])) ∙ ap (map value) (sym texts),
     )
 
--- a word that spells none
+-- a word that encodes none
 pub not_all : (test : Text → Bool) (words : List (Bor Text)) (i : ℕ) (d : Bor Text) → i < length words → test (get_or words i d).now ≡ false → list_all test (now_of words) ≡ false
 not_all test [] i d inside other = absurd (omega (arith, inside))
 not_all test (first ∷ words) zero d inside other = ap (λ (b : Bool). b && list_all test (now_of words)) other
 not_all test (first ∷ words) (suc i) d inside other = ap (λ (b : Bool). test first.now && b) (not_all test words i d (omega (arith, inside)) other) ∙ and_false (test first.now)
 
--- so the words don't spell values
+-- so the words don't encode values
 pub none_of : {A : Type 0} (test : Text → Bool) (value : Text → A) (words : List (Bor Text)) (i : ℕ) (d : Bor Text) → i < length words → ◌≡◌ {A = Option A} None (if test (get_or words i d).now then Some (value (get_or words i d).now) else None) →
     ◌≡◌ {A = Option (List A)} None (if list_all test (now_of words) then Some (map value (now_of words)) else None)
 none_of {A = A} test value words i d inside none = go (list_all test (now_of words)) (not_all test words i d inside (no_value test value (get_or words i d).now none))
@@ -169,27 +169,27 @@ none_of {A = A} test value words i d inside none = go (list_all test (now_of wor
     go true is = cc
     go false is = refl
 
--- the identifier that a word spells, by whether it spells one
-pub named_as : (word : Text) → spelled_digest word ≡ (if is_node word then Some (node_of word) else None)
-named_as word = go (spelled_digest word)
+-- the identifier that a word encodes, by whether it encodes one
+pub named_as : (word : Text) → encoded_digest word ≡ (if is_node word then Some (node_of word) else None)
+named_as word = go (encoded_digest word)
   where
     go : (found : Option (List ℕ)) → found ≡ (if is_some found then Some (unwrap_or found []) else None)
     go None = refl
     go (Some node) = refl
 
--- one word more that spells an identifier, and one that spells none
-pub one_node : (words : List (Bor Text)) (i : ℕ) (d : Bor Text) (nodes new : List (List ℕ)) (node : List ℕ) → i < length words → Some node ≡ spelled_digest (get_or words i d).now →
+-- one word more that encodes an identifier, and one that encodes none
+pub one_node : (words : List (Bor Text)) (i : ℕ) (d : Bor Text) (nodes new : List (List ℕ)) (node : List ℕ) → i < length words → Some node ≡ encoded_digest (get_or words i d).now →
     new ≡ nodes ++ node ∷ [] → list_all is_node (now_of (take i words)) ≡ true → nodes ≡ map node_of (now_of (take i words)) →
     (list_all is_node (now_of (take (i + 1) words)) ≡ true) × (new ≡ map node_of (now_of (take (i + 1) words)))
 one_node words i d nodes new node within found pushed all read = one_more is_node node_of words i d nodes new node within (found ∙ named_as (get_or words i d).now) pushed all read
 
-pub no_nodes : (words : List (Bor Text)) (i : ℕ) (d : Bor Text) → i < length words → None ≡ spelled_digest (get_or words i d).now →
+pub no_nodes : (words : List (Bor Text)) (i : ℕ) (d : Bor Text) → i < length words → None ≡ encoded_digest (get_or words i d).now →
     ◌≡◌ {A = Option (List (List ℕ))} None (if list_all is_node (now_of words) then Some (map node_of (now_of words)) else None)
 no_nodes words i d inside none = none_of is_node node_of words i d inside (none ∙ named_as (get_or words i d).now)
 
 kind_of_request : (key : Result (List ℕ) Kinds) (member : Result ℕ Kinds) → HasKind key → HasKind member → HasKind (asked_request key member)
-kind_of_request (Err told) member k m = k
-kind_of_request (Ok key) (Err told) k m = m
+kind_of_request (Err printed) member k m = k
+kind_of_request (Ok key) (Err printed) k m = m
 kind_of_request (Ok key) (Ok member) k m = tt
 
 kind_of_sign : (identity member : Option Text) → HasKind (asked_sign identity member)
@@ -228,8 +228,8 @@ kind_of_numbers (Some words) = go (list_all is_number words)
     go false = (kinds.ValueValidation, inl refl)
 
 kind_of_dealing : (threshold : Result ℕ Kinds) (members : Result (List ℕ) Kinds) → HasKind threshold → HasKind members → HasKind (asked_dealing threshold members)
-kind_of_dealing (Err told) members t m = t
-kind_of_dealing (Ok threshold) (Err told) t m = m
+kind_of_dealing (Err printed) members t m = t
+kind_of_dealing (Ok threshold) (Err printed) t m = m
 kind_of_dealing (Ok threshold) (Ok members) t m = tt
 
 kind_of_within : (default least greatest : ℕ) (word : Option Text) → HasKind (number_within default least greatest word)
@@ -249,10 +249,10 @@ kind_of_peers (Some words) = go (list_all is_node words)
     go false = (kinds.ValueValidation, inl refl)
 
 kind_of_serving : (ticks workers turns : Result ℕ Kinds) (peers : Result (List (List ℕ)) Kinds) → HasKind ticks → HasKind workers → HasKind turns → HasKind peers → HasKind (asked_serving ticks workers turns peers)
-kind_of_serving (Err told) workers turns peers t w n p = t
-kind_of_serving (Ok ticks) (Err told) turns peers t w n p = w
-kind_of_serving (Ok ticks) (Ok workers) (Err told) peers t w n p = n
-kind_of_serving (Ok ticks) (Ok workers) (Ok turns) (Err told) t w n p = p
+kind_of_serving (Err printed) workers turns peers t w n p = t
+kind_of_serving (Ok ticks) (Err printed) turns peers t w n p = w
+kind_of_serving (Ok ticks) (Ok workers) (Err printed) peers t w n p = n
+kind_of_serving (Ok ticks) (Ok workers) (Ok turns) (Err printed) t w n p = p
 kind_of_serving (Ok ticks) (Ok workers) (Ok turns) (Ok peers) t w n p = tt
 
 kind_of_node : (ticks workers turns : Option Text) (peers : Option (List Text)) → HasKind (asked_node ticks workers turns peers)
@@ -278,28 +278,28 @@ kind_of_task name rows = go (plain_task name)
 
 kind_as_task : (asked : Result Task Kinds) → HasKind asked → HasKind (as_task asked)
 kind_as_task (Ok task) has = tt
-kind_as_task (Err told) has = has
+kind_as_task (Err printed) has = has
 
 kind_as_node : (asked : Result NodeTask Kinds) → HasKind asked → HasKind (as_node asked)
 kind_as_node (Ok node) has = tt
-kind_as_node (Err told) has = has
+kind_as_node (Err printed) has = has
 
 kind_of_seed : (word : Option Text) → HasKind (asked_seed word)
 kind_of_seed None = (kinds.MissingRequiredArgument, inl refl)
-kind_of_seed (Some word) = go (spelled_digest word)
+kind_of_seed (Some word) = go (encoded_digest word)
   where
-    go : (found : Option (List ℕ)) → HasKind (spelled_seed found)
+    go : (found : Option (List ℕ)) → HasKind (encoded_seed found)
     go None = (kinds.ValueValidation, inl refl)
     go (Some seed) = tt
 
 kind_of_making : (count : Result ℕ Kinds) (seed : Result (List ℕ) Kinds) → HasKind count → HasKind seed → HasKind (asked_making count seed)
-kind_of_making (Err told) seed c s = c
-kind_of_making (Ok count) (Err told) c s = s
+kind_of_making (Err printed) seed c s = c
+kind_of_making (Ok count) (Err printed) c s = s
 kind_of_making (Ok count) (Ok seed) c s = tt
 
 kind_as_load : (asked : Result LoadTask Kinds) → HasKind asked → HasKind (as_load asked)
 kind_as_load (Ok load) has = tt
-kind_as_load (Err told) has = has
+kind_as_load (Err printed) has = has
 
 kind_of_named : (name : Text) (rows : List Row) → HasKind (asked_named name rows)
 kind_of_named name rows = go (bytes_eq name (codes "node")) (bytes_eq name (codes "load"))
@@ -316,7 +316,7 @@ kind_of_command : (command : Option (Text × List Row)) → HasKind (asked_comma
 kind_of_command None = (kinds.MissingSubcommand, inl refl)
 kind_of_command (Some command) = kind_of_named command.0 command.1
 
-kind_of_faults : (told : Kinds) (task : Result Asked Kinds) → HasKind task → HasKind (unless_faulty told task)
+kind_of_faults : (printed : Kinds) (task : Result Asked Kinds) → HasKind task → HasKind (unless_faulty printed task)
 kind_of_faults [] task has = has
 kind_of_faults (kind ∷ more) task has = (kind, inl refl)
 
@@ -373,7 +373,7 @@ found_kinds : (words : List Text) (kind : ErrorKind) → IsAmong kind (fault_of 
 unfolding asked
 found_kinds words kind among = go (fault_of program words) among
   where
-    go : (told : Kinds) → IsAmong kind told → Refuses (unless_faulty told (asked_command (subcommand_of program words))) kind
+    go : (printed : Kinds) → IsAmong kind printed → Refuses (unless_faulty printed (asked_command (subcommand_of program words))) kind
     go [] among = absurd among
     go (k ∷ ks) among = (k ∷ ks, refl, among)
 
@@ -386,7 +386,7 @@ entered_as app words m is matches = (matches (ap is_simple is ∙ simple)).1 ∙
 
 pub kind_found : (app : App) (words : List Text) (kind found : ErrorKind) → app ≡ program → kind ≡ found →
     (is_simple_and_free app ≡ true → (found ≡ kinds.OutOfMemory) ⊎ IsAmong found (fault_of app words)) → (kind ≡ kinds.OutOfMemory → ⊥) → Refuses (asked words) kind
-kind_found app words kind found is same told other = go (told (ap is_simple_and_free is ∙ free))
+kind_found app words kind found is same printed other = go (printed (ap is_simple_and_free is ∙ free))
   where
     go : (found ≡ kinds.OutOfMemory) ⊎ IsAmong found (fault_of app words) → Refuses (asked words) kind
     go (inl memory) = absurd (other (same ∙ memory))

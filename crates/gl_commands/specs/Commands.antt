@@ -71,7 +71,7 @@ load_command =
     with_rule (with_rule (new_app (codes "load")) (required_option (codes "count")))
     (required_option (codes "seed"))
 
--- The program without its commands. Its words are those behind its name; one of them has to be a
+-- The program without its commands. Its words are those after its name; one of them has to be a
 -- command, of which `help` is none.
 abbrev pub bare_program : App
 bare_program = on_top (λ s. record s {
@@ -100,8 +100,8 @@ nodeless_program =
     (with_subcommand (with_subcommand keyless_program endorse_command.top) genesis_command.top)
     sign_command.top
 
--- And with the one that founds a service anew, the one that serves as a node, and the one that
--- makes a ledger.
+-- And with the one that recovers a service, the one that serves as a node, and the one that makes a
+-- ledger.
 unfoldable pub program : App
 program =
     with_subcommand

@@ -1,4 +1,4 @@
--- The texts of faults: a name, and the values behind it.
+-- The texts of faults: a name, and the values after it.
 use Rattle.std.specs.Prelude.{ℕ, List, [], ◌∷◌, ◌++◌, codes, decimal}
 use Rattle.hex.specs.Hex.{encode_lower}
 use Rattle.clap.specs.declared.error.kind.ErrorKind.{ErrorKind}
@@ -46,7 +46,8 @@ form_text forms.NotJson = codes "NotJson"
 form_text (forms.Shape path) = codes "Shape " ++ path_text path
 form_text (forms.Hex path) = codes "Hex " ++ path_text path
 
--- What is wrong with a signature. Where two values are told, the one that is wanted comes first.
+-- What is wrong with a signature. Where two values are reported, the one that is wanted comes
+-- first.
 abbrev pub hss_text : HssFault → List ℕ
 hss_text (hss.Types at) = codes "Types " ++ decimal at
 hss_text (hss.Length want got) = codes "Length " ++ decimal want ++ codes " " ++ decimal got

@@ -13,7 +13,7 @@ use Rattle.clap.specs.declared.error.kind.ErrorKind.{ErrorKind}
 use Rattle.clap.specs.declared.error.kind.ErrorKind.TheVariants as kinds
 use Rattle.gl_journal.specs.declared.key.KeyKind.{KeyKind}
 use Rattle.gl_journal.specs.declared.key.KeyKind.TheVariants.{Service, Node, Member}
-use Rattle.gl_keyfile.specs.declared.signing.Signing.TheVariants.{Endorsement, Opening, Request}
+use Rattle.gl_keyfile.specs.declared.signature.Signing.TheVariants.{Endorsement, Opening, Request}
 use Rattle.gl_lines.specs.Numbers.{is_decimal}
 use Rattle.gl_lines.specs.Words.{hex_sized}
 use Rattle.gl_lines.specs.declared.fault.LineFault.{LineFault}
@@ -29,14 +29,14 @@ use Rattle.gl_commands.specs.declared.task.Task.TheVariants as tasks
 use Rattle.gl_commands.specs.declared.task.WordsFault.{WordsFault}
 use Rattle.gl_commands.specs.declared.task.WordsFault.TheVariants as faults
 
-abbrev pub spelled_key : Result (List ℕ) LineFault → Result (List ℕ) Kinds
-spelled_key (Ok bytes) = Ok bytes
-spelled_key (Err fault) = Err (kinds.ValueValidation ∷ [])
+abbrev pub encoded_key : Result (List ℕ) LineFault → Result (List ℕ) Kinds
+encoded_key (Ok bytes) = Ok bytes
+encoded_key (Err fault) = Err (kinds.ValueValidation ∷ [])
 
 -- The key is a word of 120 digits of lower-case hexadecimal.
 abbrev pub asked_identity : Option Text → Result (List ℕ) Kinds
 asked_identity None = Err (kinds.MissingRequiredArgument ∷ [])
-asked_identity (Some word) = spelled_key (hex_sized word 60)
+asked_identity (Some word) = encoded_key (hex_sized word 60)
 
 -- What the command with a name asks for under a key.
 abbrev pub task_under : Text → List ℕ → Task
@@ -45,7 +45,7 @@ task_under name key =
 
 abbrev pub asked_under : Text → Result (List ℕ) Kinds → Result Task Kinds
 asked_under name (Ok key) = Ok (task_under name key)
-asked_under name (Err told) = Err told
+asked_under name (Err printed) = Err printed
 
 -- The kind of key that a word names.
 abbrev pub named_kind : Text → Option KeyKind
@@ -73,8 +73,8 @@ asked_name named (Some word) = valid_value (named word)
 
 -- The kind of key is tried before the types.
 abbrev pub asked_key : Result KeyKind Kinds → Result Types Kinds → Result Task Kinds
-asked_key (Err told) types = Err told
-asked_key (Ok kind) (Err told) = Err told
+asked_key (Err printed) types = Err printed
+asked_key (Ok kind) (Err printed) = Err printed
 asked_key (Ok kind) (Ok types) = Ok (tasks.Keygen kind types)
 
 abbrev pub asked_keygen : Option Text → Option Text → Result Task Kinds
@@ -84,26 +84,26 @@ asked_keygen kind types = asked_key (asked_name named_kind kind) (asked_name nam
 abbrev pub is_member : ℕ → Bool
 is_member number = nat_le 1 number && nat_le number 255
 
--- It is spelled in decimal, without a sign and without a leading zero.
-abbrev pub spelled_member : Text → Result ℕ Kinds
-spelled_member word =
+-- It is encoded in decimal, without a sign and without a leading zero.
+abbrev pub encoded_member : Text → Result ℕ Kinds
+encoded_member word =
     if is_decimal word && is_member (digits_value 10 word) then Ok (digits_value 10 word)
     else Err (kinds.ValueValidation ∷ [])
 
 abbrev pub asked_member : Option Text → Result ℕ Kinds
 asked_member None = Err (kinds.MissingRequiredArgument ∷ [])
-asked_member (Some word) = spelled_member word
+asked_member (Some word) = encoded_member word
 
 -- The service's key is tried before the member's number.
 abbrev pub asked_request : Result (List ℕ) Kinds → Result ℕ Kinds → Result Task Kinds
-asked_request (Err told) member = Err told
-asked_request (Ok key) (Err told) = Err told
+asked_request (Err printed) member = Err printed
+asked_request (Ok key) (Err printed) = Err printed
 asked_request (Ok key) (Ok member) = Ok (tasks.Sign (Request key member))
 
 abbrev pub asked_sign : Option Text → Option Text → Result Task Kinds
 asked_sign identity member = asked_request (asked_identity identity) (asked_member member)
 
--- A number of 64 bits, spelled in decimal, without a sign and without a leading zero.
+-- A number of 64 bits, encoded in decimal, without a sign and without a leading zero.
 abbrev pub is_number : Text → Bool
 is_number word = is_decimal word && nat_lt (digits_value 10 word) (2 ^ 64)
 
@@ -120,8 +120,8 @@ asked_numbers (Some words) =
 
 -- The threshold is tried before the members' numbers.
 abbrev pub asked_dealing : Result ℕ Kinds → Result (List ℕ) Kinds → Result Task Kinds
-asked_dealing (Err told) members = Err told
-asked_dealing (Ok threshold) (Err told) = Err told
+asked_dealing (Err printed) members = Err printed
+asked_dealing (Ok threshold) (Err printed) = Err printed
 asked_dealing (Ok threshold) (Ok members) = Ok (tasks.Deal threshold members)
 
 abbrev pub asked_deal : Option Text → Option (List Text) → Result Task Kinds
@@ -148,14 +148,14 @@ abbrev pub asked_turns : Option Text → Result ℕ Kinds
 asked_turns word = number_within (2 ^ 64 - 1) 1 (2 ^ 64 - 1) word
 
 -- 32 bytes, a node's identifier or a seed: 64 digits of lower-case hexadecimal.
-abbrev pub spelled_digest : Text → Option (List ℕ)
-spelled_digest word = result_ok (hex_sized word 32)
+abbrev pub encoded_digest : Text → Option (List ℕ)
+encoded_digest word = result_ok (hex_sized word 32)
 
 abbrev pub is_node : Text → Bool
-is_node word = is_some (spelled_digest word)
+is_node word = is_some (encoded_digest word)
 
 abbrev pub node_of : Text → List ℕ
-node_of word = unwrap_or (spelled_digest word) []
+node_of word = unwrap_or (encoded_digest word) []
 
 abbrev pub asked_peers : Option (List Text) → Result (List (List ℕ)) Kinds
 asked_peers None = Ok []
@@ -167,10 +167,10 @@ asked_peers (Some words) =
 abbrev pub asked_serving :
     Result ℕ Kinds → Result ℕ Kinds → Result ℕ Kinds → Result (List (List ℕ)) Kinds →
     Result NodeTask Kinds
-asked_serving (Err told) workers turns peers = Err told
-asked_serving (Ok ticks) (Err told) turns peers = Err told
-asked_serving (Ok ticks) (Ok workers) (Err told) peers = Err told
-asked_serving (Ok ticks) (Ok workers) (Ok turns) (Err told) = Err told
+asked_serving (Err printed) workers turns peers = Err printed
+asked_serving (Ok ticks) (Err printed) turns peers = Err printed
+asked_serving (Ok ticks) (Ok workers) (Err printed) peers = Err printed
+asked_serving (Ok ticks) (Ok workers) (Ok turns) (Err printed) = Err printed
 asked_serving (Ok ticks) (Ok workers) (Ok turns) (Ok peers)
     = Ok (record { ticks = ticks; turns = turns; peers = peers })
 
@@ -180,18 +180,18 @@ asked_node ticks workers turns peers =
     asked_serving (asked_ticks ticks) (asked_workers workers) (asked_turns turns)
     (asked_peers peers)
 
-abbrev pub spelled_seed : Option (List ℕ) → Result (List ℕ) Kinds
-spelled_seed None = Err (kinds.ValueValidation ∷ [])
-spelled_seed (Some seed) = Ok seed
+abbrev pub encoded_seed : Option (List ℕ) → Result (List ℕ) Kinds
+encoded_seed None = Err (kinds.ValueValidation ∷ [])
+encoded_seed (Some seed) = Ok seed
 
 abbrev pub asked_seed : Option Text → Result (List ℕ) Kinds
 asked_seed None = Err (kinds.MissingRequiredArgument ∷ [])
-asked_seed (Some word) = spelled_seed (spelled_digest word)
+asked_seed (Some word) = encoded_seed (encoded_digest word)
 
 -- The count of requests is tried before the seed.
 abbrev pub asked_making : Result ℕ Kinds → Result (List ℕ) Kinds → Result LoadTask Kinds
-asked_making (Err told) seed = Err told
-asked_making (Ok count) (Err told) = Err told
+asked_making (Err printed) seed = Err printed
+asked_making (Ok count) (Err printed) = Err printed
 asked_making (Ok count) (Ok seed) = Ok (record { count = count; seed = seed })
 
 abbrev pub asked_load : Option Text → Option Text → Result LoadTask Kinds
@@ -236,15 +236,15 @@ asked_task name rows = unless_plain (plain_task name) (asked_with_words name row
 
 abbrev pub as_task : Result Task Kinds → Result Asked Kinds
 as_task (Ok task) = Ok (asks.Task task)
-as_task (Err told) = Err told
+as_task (Err printed) = Err printed
 
 abbrev pub as_node : Result NodeTask Kinds → Result Asked Kinds
 as_node (Ok node) = Ok (asks.Node node)
-as_node (Err told) = Err told
+as_node (Err printed) = Err printed
 
 abbrev pub as_load : Result LoadTask Kinds → Result Asked Kinds
 as_load (Ok load) = Ok (asks.Load load)
-as_load (Err told) = Err told
+as_load (Err printed) = Err printed
 
 -- How the node is to serve that `node` asks for with these values of its options and words.
 abbrev pub asked_by_node : List Row → Result NodeTask Kinds
@@ -272,15 +272,15 @@ abbrev pub unless_faulty : Kinds → Result Asked Kinds → Result Asked Kinds
 unless_faulty [] found = found
 unless_faulty (kind ∷ more) found = Err (kind ∷ more)
 
--- What the words ask for, or the kinds of fault of which one is told.
+-- What the words ask for, or the kinds of fault of which one is reported.
 unfoldable pub asked : List Text → Result Asked Kinds
 asked words = unless_faulty (fault_of program words) (asked_command (subcommand_of program words))
 
--- The words ask for nothing, and this is the kind of fault that is told.
+-- The words ask for nothing, and this is the kind of fault that is reported.
 abbrev pub Refuses : Result Asked Kinds → ErrorKind → Type 0
-Refuses asked kind = (told : Kinds) × (asked ≡ Err told) × IsAmong kind told
+Refuses asked kind = (printed : Kinds) × (asked ≡ Err printed) × IsAmong kind printed
 
--- Memory ran out, or nothing is asked for, and this kind of fault alone is told.
+-- Memory ran out, or nothing is asked for, and this kind of fault alone is reported.
 abbrev pub RefusesOnly : {A : Type 0} → Result A Kinds → WordsFault → Type 0
 RefusesOnly asked faults.NoMemory = Unit {0}
 RefusesOnly asked (faults.Refused kind) = asked ≡ Err (kind ∷ [])

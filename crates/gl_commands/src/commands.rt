@@ -137,8 +137,8 @@ fn nodeless_program<'a>(alloc: Global) -> Result<Command<'a>, AllocError>
         .subcommand(sign_command(alloc)?)
 }
 
-/// And with the one that founds a service anew, the one that serves as a node, and the one that
-/// makes a ledger.
+/// And with the one that recovers a service, the one that serves as a node, and the one that makes
+/// a ledger.
 #[tactic(auto, unfolding(crate::specs::Commands::program))]
 pub(crate) fn program<'a>(alloc: Global) -> Result<Command<'a>, AllocError>
     ensures { IfOk result (IsCommand program) }

@@ -20,7 +20,7 @@ pub fn put_journal(out: &mut Vec<u8>, fault: JournalFault) -> Result<(), AllocEr
     }
 }
 
-/// The number by which a kind of key is told, which is that in its file.
+/// The number by which a kind of key is reported, which is that in its file.
 fn key_kind_tag(kind: KeyKind) -> u64
     ensures { result ≡ key_kind_tag kind }
 {

@@ -1,5 +1,5 @@
 //! The command line of `ccfg`: its commands and their options, what words ask for, what the program
-//! tells of itself, and the texts of faults: a name and the values behind it.
+//! tells of itself, and the texts of faults: a name and the values after it.
 //!
 //! Begin with `read_words` for what words ask for, and `put_receipt` or `put_journal` for the text
 //! of a fault.

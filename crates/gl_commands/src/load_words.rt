@@ -3,12 +3,12 @@
 ghost use Rattle.std.specs.Prelude.{◌≡◌, ◌∷◌, [], Err, IfErr, IfOk, Ok, option_map};
 ghost use Rattle.gl_commands.specs.Words.{asked_load, asked_seed};
 
-use crate::digest_word::spelled_digest;
+use crate::digest_word::encoded_digest;
 use crate::task::LoadTask;
 use crate::words::asked_number;
 use clap::error::ErrorKind;
 
-/// The seed that an option spells.
+/// The seed that an option encodes.
 fn asked_seed(word: Option<&str>) -> Result<[u8; 32], ErrorKind>
     ensures found { IfOk result (λ seed.
         asked_seed (option_map (λ s. s.now) word.entry) ≡ Ok seed) }
@@ -16,7 +16,7 @@ fn asked_seed(word: Option<&str>) -> Result<[u8; 32], ErrorKind>
         asked_seed (option_map (λ s. s.now) word.entry) ≡ Err (kind ∷ [])) }
 {
     match word {
-        Some(word) => spelled_digest(word).ok_or(ErrorKind::ValueValidation),
+        Some(word) => encoded_digest(word).ok_or(ErrorKind::ValueValidation),
         None => Err(ErrorKind::MissingRequiredArgument),
     }
 }

@@ -4,7 +4,7 @@ ghost use Rattle.std.specs.Prelude.{◌≡◌, ◌∷◌, ◌≤◌, [], Err, If
 ghost use Rattle.std.specs.List.{list_all};
 ghost use Rattle.gl_commands.specs.Words.{RefusesOnly, asked_node, asked_peers, asked_ticks, asked_turns, asked_workers, is_node, node_of, number_within};
 
-use crate::digest_word::spelled_digest;
+use crate::digest_word::encoded_digest;
 use crate::task::{NodeTask, WordsFault};
 use crate::words::number_in;
 use clap::error::ErrorKind;
@@ -87,7 +87,7 @@ fn asked_turns(word: Option<&str>) -> Result<u64, ErrorKind>
     number_within(u64::MAX, span, word)
 }
 
-/// The identifiers that words spell, if each spells one.
+/// The identifiers that words encode, if each encodes one.
 fn named_nodes(alloc: Global, words: &[&str]) -> Result<Option<Vec<NodeId>>, AllocError>
     ensures { IfOk result (λ found. option_map (λ v. v.items) found
         ≡ (if list_all is_node (map (λ s. s.now) words.now)
@@ -95,7 +95,7 @@ fn named_nodes(alloc: Global, words: &[&str]) -> Result<Option<Vec<NodeId>>, All
 {
     let mut nodes = Vec::new(alloc);
     for word in words {
-        match spelled_digest(word) {
+        match encoded_digest(word) {
             Some(node) => nodes.push(node)?,
             None => return Ok(None),
         }
@@ -103,7 +103,7 @@ fn named_nodes(alloc: Global, words: &[&str]) -> Result<Option<Vec<NodeId>>, All
     Ok(Some(nodes))
 }
 
-/// The peers that the words of a command spell.
+/// The peers that the words of a command encode.
 fn asked_peers(alloc: Global, words: Option<&[&str]>) -> Result<Sequence<NodeId>, WordsFault>
     ensures found { IfOk result (λ peers.
         asked_peers (option_map (λ s. map (λ v. v.now) s.now) words.entry) ≡ Ok peers) }

@@ -48,7 +48,7 @@ pub enum Task {
     Sign {
         signing: Signing,
     },
-    /// To found a service anew with the key of a file, and tell the ledger that opens it.
+    /// To recover a service with the key of a file, and tell the ledger that opens it.
     Recover,
 }
 

@@ -74,7 +74,7 @@ pub(crate) fn put_digests(
     put_hex(alloc, out, got)
 }
 
-/// A name with a space behind it, and a number.
+/// A name with a space after it, and a number.
 pub fn put_named(out: &mut Vec<u8>, name: &str, n: u64) -> Result<(), AllocError>
     ensures { OnOk result (out.new.items ≡ out.old.items ++ (name.now ++ decimal n)) }
 {

@@ -13,7 +13,7 @@ ghost use Rattle.gl_lines.specs.Words.{hex_sized};
 ghost use Rattle.gl_commands.specs.Commands.{program};
 ghost use Rattle.gl_commands.specs.declared.task.Asked.TheVariants as asks;
 ghost use Rattle.gl_commands.specs.declared.task.NodeTask.{NodeTask as NodeTasks};
-ghost use Rattle.gl_commands.specs.Words.{RefusesOnly, RefusesWords, asked, asked_by_load, asked_by_node, asked_command, asked_deal, asked_identity, asked_keygen, asked_member, asked_name, asked_named, asked_number, asked_numbers, asked_options, asked_sign, asked_task, asked_with_identity, asked_with_words, is_member, is_number, named_kind, named_types, plain_task, spelled_key, spelled_member, task_under};
+ghost use Rattle.gl_commands.specs.Words.{RefusesOnly, RefusesWords, asked, asked_by_load, asked_by_node, asked_command, asked_deal, asked_identity, asked_keygen, asked_member, asked_name, asked_named, asked_number, asked_numbers, asked_options, asked_sign, asked_task, asked_with_identity, asked_with_words, encoded_key, encoded_member, is_member, is_number, named_kind, named_types, plain_task, task_under};
 
 use crate::commands::program;
 use crate::load_words::asked_load;
@@ -30,10 +30,10 @@ use gl_requests::HssPublicKey;
 use hex::FromHex;
 use std::alloc::{AllocError, Global};
 
-/// The key that a word spells.
-fn spelled_key(word: &str) -> Result<HssPublicKey, ErrorKind>
-    ensures found { IfOk result (λ key. spelled_key (hex_sized word.now 60) ≡ Ok key) }
-    ensures refused { IfErr result (λ kind. spelled_key (hex_sized word.now 60) ≡ Err (kind ∷ [])) }
+/// The key that a word encodes.
+fn encoded_key(word: &str) -> Result<HssPublicKey, ErrorKind>
+    ensures found { IfOk result (λ key. encoded_key (hex_sized word.now 60) ≡ Ok key) }
+    ensures refused { IfErr result (λ kind. encoded_key (hex_sized word.now 60) ≡ Err (kind ∷ [])) }
 {
     if !is_lower_hex(word.as_bytes()) {
         return Err(ErrorKind::ValueValidation);
@@ -44,7 +44,7 @@ fn spelled_key(word: &str) -> Result<HssPublicKey, ErrorKind>
     }
 }
 
-/// The key that the option of a command spells.
+/// The key that the option of a command encodes.
 fn asked_identity(word: Option<&str>) -> Result<HssPublicKey, ErrorKind>
     ensures found { IfOk result (λ key.
         asked_identity (option_map (λ s. s.now) word.entry) ≡ Ok key) }
@@ -52,7 +52,7 @@ fn asked_identity(word: Option<&str>) -> Result<HssPublicKey, ErrorKind>
         asked_identity (option_map (λ s. s.now) word.entry) ≡ Err (kind ∷ [])) }
 {
     match word {
-        Some(word) => spelled_key(word),
+        Some(word) => encoded_key(word),
         None => Err(ErrorKind::MissingRequiredArgument),
     }
 }
@@ -95,8 +95,8 @@ fn named_types(word: &str) -> Option<Types>
 fn asked_kind(word: Option<&str>) -> Result<KeyKind, ErrorKind>
     ensures found { IfOk result (λ kind.
         asked_name named_kind (option_map (λ s. s.now) word.entry) ≡ Ok kind) }
-    ensures refused { IfErr result (λ told.
-        asked_name named_kind (option_map (λ s. s.now) word.entry) ≡ Err (told ∷ [])) }
+    ensures refused { IfErr result (λ printed.
+        asked_name named_kind (option_map (λ s. s.now) word.entry) ≡ Err (printed ∷ [])) }
 {
     match word {
         Some(word) => named_kind(word).ok_or(ErrorKind::InvalidValue),
@@ -108,8 +108,8 @@ fn asked_kind(word: Option<&str>) -> Result<KeyKind, ErrorKind>
 fn asked_types(word: Option<&str>) -> Result<Types, ErrorKind>
     ensures found { IfOk result (λ types.
         asked_name named_types (option_map (λ s. s.now) word.entry) ≡ Ok types) }
-    ensures refused { IfErr result (λ told.
-        asked_name named_types (option_map (λ s. s.now) word.entry) ≡ Err (told ∷ [])) }
+    ensures refused { IfErr result (λ printed.
+        asked_name named_types (option_map (λ s. s.now) word.entry) ≡ Err (printed ∷ [])) }
 {
     match word {
         Some(word) => named_types(word).ok_or(ErrorKind::InvalidValue),
@@ -121,16 +121,16 @@ fn asked_types(word: Option<&str>) -> Result<Types, ErrorKind>
 fn asked_keygen(kind: Option<&str>, types: Option<&str>) -> Result<Task, ErrorKind>
     ensures found { IfOk result (λ task. asked_keygen
         (option_map (λ s. s.now) kind.entry) (option_map (λ s. s.now) types.entry) ≡ Ok task) }
-    ensures refused { IfErr result (λ told. asked_keygen
+    ensures refused { IfErr result (λ printed. asked_keygen
         (option_map (λ s. s.now) kind.entry) (option_map (λ s. s.now) types.entry)
-        ≡ Err (told ∷ [])) }
+        ≡ Err (printed ∷ [])) }
 {
     match asked_kind(kind) {
         Ok(kind) => match asked_types(types) {
             Ok(types) => Ok(Task::Keygen { kind, types }),
-            Err(told) => Err(told),
+            Err(printed) => Err(printed),
         },
-        Err(told) => Err(told),
+        Err(printed) => Err(printed),
     }
 }
 
@@ -147,10 +147,10 @@ fn member_number(number: u8) -> Result<u8, ErrorKind>
     }
 }
 
-/// The member's number that a word spells.
-fn spelled_member(word: &str) -> Result<u8, ErrorKind>
-    ensures found { IfOk result (λ number. spelled_member word.now ≡ Ok number) }
-    ensures refused { IfErr result (λ kind. spelled_member word.now ≡ Err (kind ∷ [])) }
+/// The member's number that a word encodes.
+fn encoded_member(word: &str) -> Result<u8, ErrorKind>
+    ensures found { IfOk result (λ number. encoded_member word.now ≡ Ok number) }
+    ensures refused { IfErr result (λ kind. encoded_member word.now ≡ Err (kind ∷ [])) }
 {
     if !is_decimal(word.as_bytes()) {
         return Err(ErrorKind::ValueValidation);
@@ -161,7 +161,7 @@ fn spelled_member(word: &str) -> Result<u8, ErrorKind>
     }
 }
 
-/// The member's number that the option of a command spells.
+/// The member's number that the option of a command encodes.
 fn asked_member(word: Option<&str>) -> Result<u8, ErrorKind>
     ensures found { IfOk result (λ number.
         asked_member (option_map (λ s. s.now) word.entry) ≡ Ok number) }
@@ -169,7 +169,7 @@ fn asked_member(word: Option<&str>) -> Result<u8, ErrorKind>
         asked_member (option_map (λ s. s.now) word.entry) ≡ Err (kind ∷ [])) }
 {
     match word {
-        Some(word) => spelled_member(word),
+        Some(word) => encoded_member(word),
         None => Err(ErrorKind::MissingRequiredArgument),
     }
 }
@@ -178,21 +178,21 @@ fn asked_member(word: Option<&str>) -> Result<u8, ErrorKind>
 fn asked_sign(identity: Option<&str>, member: Option<&str>) -> Result<Task, ErrorKind>
     ensures found { IfOk result (λ task. asked_sign (option_map (λ s. s.now) identity.entry)
         (option_map (λ s. s.now) member.entry) ≡ Ok task) }
-    ensures refused { IfErr result (λ told. asked_sign (option_map (λ s. s.now) identity.entry)
-        (option_map (λ s. s.now) member.entry) ≡ Err (told ∷ [])) }
+    ensures refused { IfErr result (λ printed. asked_sign (option_map (λ s. s.now) identity.entry)
+        (option_map (λ s. s.now) member.entry) ≡ Err (printed ∷ [])) }
 {
     match asked_identity(identity) {
         Ok(identity) => match asked_member(member) {
             Ok(member) => Ok(Task::Sign {
                 signing: Signing::Request { identity, member },
             }),
-            Err(told) => Err(told),
+            Err(printed) => Err(printed),
         },
-        Err(told) => Err(told),
+        Err(printed) => Err(printed),
     }
 }
 
-/// The number that a word spells.
+/// The number that a word encodes.
 pub(crate) fn number_in(word: &str) -> Option<u64>
     ensures { result ≡ (if is_number word.now then Some (digits_value 10 word.now) else None) }
 {
@@ -202,7 +202,7 @@ pub(crate) fn number_in(word: &str) -> Option<u64>
     word.parse::<u64>().ok()
 }
 
-/// The number that the option of a command spells.
+/// The number that the option of a command encodes.
 pub(crate) fn asked_number(word: Option<&str>) -> Result<u64, ErrorKind>
     ensures found { IfOk result (λ number.
         asked_number (option_map (λ s. s.now) word.entry) ≡ Ok number) }
@@ -215,7 +215,7 @@ pub(crate) fn asked_number(word: Option<&str>) -> Result<u64, ErrorKind>
     }
 }
 
-/// The numbers that words spell, if each spells one.
+/// The numbers that words encode, if each encodes one.
 fn numbers_in(alloc: Global, words: &[&str]) -> Result<Option<Vec<u64>>, AllocError>
     ensures { IfOk result (λ found. option_map (λ v. v.items) found
         ≡ (if list_all is_number (map (λ s. s.now) words.now)
@@ -231,7 +231,7 @@ fn numbers_in(alloc: Global, words: &[&str]) -> Result<Option<Vec<u64>>, AllocEr
     Ok(Some(numbers))
 }
 
-/// The numbers of members that the words of a command spell.
+/// The numbers of members that the words of a command encode.
 fn asked_members(alloc: Global, words: Option<&[&str]>) -> Result<Sequence<u64>, WordsFault>
     ensures found { IfOk result (λ numbers.
         asked_numbers (option_map (λ s. map (λ v. v.now) s.now) words.entry) ≡ Ok numbers) }
@@ -424,7 +424,7 @@ fn matches_of<'a>(alloc: Global, words: &'a [String]) -> Result<ArgMatches<'a>, 
     }
 }
 
-/// What the words ask for, which are those behind the program's name. What `clap` finds wrong with
+/// What the words ask for, which are those after the program's name. What `clap` finds wrong with
 /// them comes before the tests of the values.
 pub fn read_words(alloc: Global, words: &[String]) -> Result<Asked, WordsFault>
     ensures found { IfOk result (λ found. asked (map string_bytes words.now) ≡ Ok found) }

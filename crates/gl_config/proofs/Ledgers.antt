@@ -133,10 +133,10 @@ module _ {E Q G R A F : Type 0} (book : Book E Q G R A F) (log : List E) where
   unfolding active_of
   upto-active_of commit seqno n low high =
       let cs : List Configuration = configurations_upto book log n in
-      let front : upto commit cs ≡ configurations_upto book log commit = upto-configurations n commit (omega arith) in
+      let prefix : upto commit cs ≡ configurations_upto book log commit = upto-configurations n commit (omega arith) in
       filter-append (λ (c : Configuration). nat_le c.seqno seqno) (last_of (upto commit cs)) (above commit cs)
       ∙ ap₂ (λ a b. a ++ b)
-      (ap (λ r. upto seqno (last_of r)) front
+      (ap (λ r. upto seqno (last_of r)) prefix
       ∙ upto_all seqno (last_of (configurations_upto book log commit)) (All-last_of (λ c. c.seqno ≤ seqno) (configurations_upto book log commit) (within commit seqno low))
       ∙ ap last_of (sym (upto-configurations seqno commit low)))
       (upto-above seqno commit cs ∙ ap (above commit) (upto-configurations n seqno high))

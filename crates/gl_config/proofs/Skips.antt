@@ -1,4 +1,5 @@
--- The active configurations of an ascending list are its end: from the last one at or below commit on.
+-- The active configurations of an ascending list are its end: from the last one at or below commit
+-- on.
 use Rattle.std.proofs.Common.{◌≡◌, inl, inr, ℕ, zero, suc, ◌≤◌, ◌<◌, List, [], ◌∷◌, length, take, take_all, drop, length-drop, subst, ◌-◌, get_or, refl, sym, ap, ◌∙◌, arith}
 use Rattle.std.specs.List.{All, AllPairs}
 use Rattle.std.proofs.lemmas.List.Elements.{All-head, All-tail}

@@ -1,4 +1,4 @@
--- The dealing that is told is one: its fields are in their ranges.
+-- The dealing that is reported is one: its fields are in their ranges.
 use Rattle.std.proofs.Common.{◌≡◌, ℕ, ◌&&◌, ◌==◌, true, List, [], ◌∷◌, length, map, nat_le, nat_lt, All, Ok, refl, ap, subst, ◌∙◌, arith}
 use Rattle.std.specs.List.{list_all}
 use Rattle.std.proofs.lemmas.Bool.{and_from}

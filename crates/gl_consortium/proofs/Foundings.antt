@@ -17,9 +17,9 @@ abbrev AnyOfFounding : Option GovernanceRefusal → Type 0
 AnyOfFounding None = Unit {0}
 AnyOfFounding (Some why) = IsOfFounding why
 
-either : (first behind : Option GovernanceRefusal) → AnyOfFounding first → AnyOfFounding behind → AnyOfFounding (first orelse behind)
-either None behind a b = b
-either (Some why) behind a b = a
+either : (first after : Option GovernanceRefusal) → AnyOfFounding first → AnyOfFounding after → AnyOfFounding (first orelse after)
+either None after a b = b
+either (Some why) after a b = a
 
 for_cause : (bad : Bool) (cause : Cause) → AnyOfFounding (where_is bad (founding_fault cause))
 for_cause true cause = tt
@@ -63,7 +63,7 @@ genesis_so h g =
 pub refused_so : (h : History) (g : founding.Genesis) (why : GovernanceRefusal) → genesis_refusal h g ≡ Some why → IsOfFounding why
 refused_so h g why is = subst AnyOfFounding is (genesis_so h g)
 
--- what is answered to the question whether a genesis is refused behind no request
+-- what is answered to the question whether a genesis is refused after no request
 pub answered : (h : History) (copied g : founding.Genesis) (why : Option GovernanceRefusal) → h ≡ no_history → copied ≡ g → why ≡ refusal h 1 (requests.Genesis copied) → genesis_refusal no_history g ≡ why
 unfolding refusal
 answered h copied g why none same is = sym (ap₂ genesis_refusal none same) ∙ sym is

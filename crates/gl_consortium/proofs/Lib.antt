@@ -1,9 +1,9 @@
-pub mod Owing
-pub mod Keeping
+pub mod ExpectedOutputLaws
+pub mod KeptLeaves
 pub mod RequestBytes
 pub mod Foundings
 pub mod Openings
-pub mod Reading
+pub mod TextForms
 pub mod Signed
 pub mod Opened
 mod MemberLemmas

@@ -6,14 +6,14 @@ use Rattle.std.proofs.lemmas.List.Elements.{All-nil, All-cons, All-weaker}
 use Rattle.std.proofs.lemmas.List.Kept.{AllPairs-cons}
 use Rattle.gl_consortium.specs.Members.{ascend_above, can_deal}
 
--- the next of them decides, and those behind it
+-- the next of them decides, and those after it
 pub ascend-next : (least : ℕ) (numbers : List ℕ) (i : ℕ) → i < length numbers →
     ascend_above least (drop i numbers) ≡ (nat_lt least (get_or numbers i 0) && nat_le (get_or numbers i 0) 255 && ascend_above (get_or numbers i 0) (drop (i + 1) numbers))
 ascend-next least numbers i within =
     ap (ascend_above least) (drop-cons numbers i 0 within)
     ∙ ap (λ (n : ℕ). nat_lt least (get_or numbers i 0) && nat_le (get_or numbers i 0) 255 && ascend_above (get_or numbers i 0) (drop n numbers)) (let e : suc i ≡ i + 1 = omega arith in e)
 
--- a number and those behind it
+-- a number and those after it
 record Ascends (least number : ℕ) (numbers : List ℕ) : Type 0 where
   above : least < number
   most : number ≤ 255

@@ -1,4 +1,5 @@
--- The check of an opening takes an opening ledger that is told, unless two keys have one digest.
+-- The check of an opening takes an opening ledger that is reported, unless two keys have one
+-- digest.
 use Rattle.std.proofs.Common.{◌≡◌, ◌⊎◌, inl, inr, ℕ, zero, suc, ◌-◌, ◌<◌, ◌^◌, ◌&&◌, ◌||◌, List, [], ◌∷◌, length, map, take, slice_get, Bool, true, false, if◌then◌else◌, Option, Some, None, Ok, Err, refl, sym, ◌∙◌, ap, subst, arith}
 use Rattle.std.specs.List.{list_all}
 use Rattle.std.specs.Cmp.Lexicographic.{bytes_decides}
@@ -13,7 +14,7 @@ use Rattle.gl_rules.specs.World.{first_view}
 use Rattle.gl_rules.proofs.Ids.{same_self}
 use Rattle.gl_entry.specs.Entry.{is_entry}
 use Rattle.gl_entry.specs.declared.entry.Entry.{Entry}
-use Rattle.gl_requests.specs.Spelling.{node_id}
+use Rattle.gl_requests.specs.Encoding.{node_id}
 use Rattle.gl_requests.specs.Ranges as ranges
 use Rattle.gl_requests.proofs.Sizes.{sized_length}
 use Rattle.gl_requests.specs.declared.genesis.NewNode.{NewNode}
@@ -27,27 +28,27 @@ use Rattle.gl_gov_rules.proofs.FoundingAccepted.{accepted_parts, accepted_passes
 use Rattle.gl_gov_rules.proofs.NewNodes.{nodes_new}
 use Rattle.gl_ledger.specs.Audit.{LedgerFault, audited, opened, opened_unless, opened_where, signer_of}
 use Rattle.gl_ledger.specs.Broken.{broken, is_unopened}
-use Rattle.gl_ledger.specs.Ledger.{genesis_entry, message_behind, signature_entry}
-use Rattle.gl_ledger.specs.Makers.{MakesValid, signature_behind}
+use Rattle.gl_ledger.specs.Ledger.{genesis_entry, message_after, signature_entry}
+use Rattle.gl_ledger.specs.Makers.{MakesValid, signature_after}
 use Rattle.gl_ledger.specs.NodeKeys.{IsNodeKey, NodeKeys, service_layers}
 use Rattle.gl_ledger.specs.Recordings.{endorsement_in, founds, last_entry, recovers}
 use Rattle.gl_ledger.proofs.Auditing.{audited_all}
 use Rattle.gl_ledger.proofs.NodeRows.{genesis_endorsement}
 use Rattle.gl_ledger.proofs.NodeSignatures.{node_makes}
-use Rattle.gl_ledger.proofs.Opening.{founded, founding_unbroken, opening_unbroken}
-use Rattle.gl_ledger.proofs.Openings.{identity_behind_genesis}
+use Rattle.gl_ledger.proofs.OpeningLaws.{founded, founding_unbroken, opening_unbroken}
+use Rattle.gl_ledger.proofs.Openings.{identity_after_genesis}
 use Rattle.gl_ledger.proofs.SignatureEntries.{signed_is_entry}
 use Rattle.gl_journal.specs.Durable.{Durable}
 use Rattle.gl_journal.specs.declared.key.Key.{Key}
 use Rattle.gl_keyfile.specs.Form.{lms_key}
-use Rattle.gl_keyfile.specs.declared.signing.Signing.TheVariants.{Opening}
-use Rattle.gl_consortium.specs.Owed.{first_endorsement, first_id, id_of, is_first_node, opening_bytes, opening_of, opening_signature, owed, owed_for, private_key}
+use Rattle.gl_keyfile.specs.declared.signature.Signing.TheVariants.{Opening}
+use Rattle.gl_consortium.specs.ExpectedOutput.{expected_for, expected_output, first_endorsement, first_id, id_of, is_first_node, opening_bytes, opening_of, opening_signature, private_key}
 use Rattle.gl_consortium.specs.Laws.{HasTwin, IsOpening}
 use Rattle.gl_consortium.specs.declared.document.Document.{Document}
 use Rattle.gl_consortium.specs.declared.document.Document.TheVariants.{Settings}
 use Rattle.gl_consortium.specs.declared.fault.SigningFault.TheVariants as faults
-use Rattle.gl_consortium.proofs.Owing.{OpeningParts, opening_parts, read_of_told}
-use Rattle.gl_consortium.proofs.Reading.{settings_read}
+use Rattle.gl_consortium.proofs.ExpectedOutputLaws.{OpeningParts, opening_parts, read_of_reported}
+use Rattle.gl_consortium.proofs.TextForms.{settings_read}
 
 -- ---- the fields of a genesis
 
@@ -84,8 +85,8 @@ module _ (key : Key) (leaf : ℕ) (g : founding.Genesis) (n : NewNode) (ns : Lis
   abbrev node : NodeId
   node = id_of (private_key key)
 
-  abbrev front : List Entry
-  front = genesis_entry g ∷ []
+  abbrev prefix : List Entry
+  prefix = genesis_entry g ∷ []
 
   endorsed : is_endorsed g.identity (lms_key key) n.endorsement ≡ true
   unfolding are_endorsed
@@ -117,29 +118,29 @@ module _ (key : Key) (leaf : ℕ) (g : founding.Genesis) (n : NewNode) (ns : Lis
       (ap (λ (b : Bool). b || member (sha256 n.key) (map node_id ns)) (same_self (sha256 n.key))))
 
   -- its endorsement is the one in its row
-  row : endorsement_in front node ≡ n.endorsement
+  row : endorsement_in prefix node ≡ n.endorsement
   row =
       let apart = (nodes_new no_history g.nodes (accepted_passes g h.accepted).nodes).apart in
-      ap (λ (k : List ℕ). endorsement_in front (sha256 k)) (sym h.same) ∙ genesis_endorsement g [] 0 n h.fits apart (ap (λ (l : List NewNode). slice_get l 0) h.nodes)
+      ap (λ (k : List ℕ). endorsement_in prefix (sha256 k)) (sym h.same) ∙ genesis_endorsement g [] 0 n h.fits apart (ap (λ (l : List NewNode). slice_get l 0) h.nodes)
 
-  makes : (q : ℕ) → q < 2 ^ height key.types → MakesValid service_layers keys node q front first_view 2
-  makes q low = node_makes keys g.identity node q front first_view 2 (subst (λ (e : List ℕ). IsNodeKey keys e g.identity node) (sym row) is_node_key) low (identity_behind_genesis g)
+  makes : (q : ℕ) → q < 2 ^ height key.types → MakesValid service_layers keys node q prefix first_view 2
+  makes q low = node_makes keys g.identity node q prefix first_view 2 (subst (λ (e : List ℕ). IsNodeKey keys e g.identity node) (sym row) is_node_key) low (identity_after_genesis g)
 
   -- the endorsement of the first node is what signs
-  with_first : opening_signature (private_key key) leaf g ≡ signature_behind keys node leaf front first_view 2
+  with_first : opening_signature (private_key key) leaf g ≡ signature_after keys node leaf prefix first_view 2
   with_first =
-      ap (λ (e : List ℕ). hss_signature (private_key key) (Some e) leaf (message_behind front first_view 2)) (ap first_endorsement h.nodes ∙ sym row)
+      ap (λ (e : List ℕ). hss_signature (private_key key) (Some e) leaf (message_after prefix first_view 2)) (ap first_endorsement h.nodes ∙ sym row)
 
   abbrev last : List ℕ → Entry
-  last signature = signature_entry node signature front first_view 2
+  last signature = signature_entry node signature prefix first_view 2
 
   -- the signature breaks no rule
-  last_unbroken : broken service_layers front (last (opening_signature (private_key key) leaf g)) ≡ None
+  last_unbroken : broken service_layers prefix (last (opening_signature (private_key key) leaf g)) ≡ None
   last_unbroken =
       let valid = makes leaf h.below in
-      let signature = signature_behind keys node leaf front first_view 2 in
-      let entry : is_entry (last signature) ≡ true = signed_is_entry service_layers keys node leaf front first_view 2 (sha256_digest (lms_key key)) (omega arith) (omega arith) (omega arith) (omega arith) valid in
-      subst (λ (s : List ℕ). broken service_layers front (last s) ≡ None) (sym with_first)
+      let signature = signature_after keys node leaf prefix first_view 2 in
+      let entry : is_entry (last signature) ≡ true = signed_is_entry service_layers keys node leaf prefix first_view 2 (sha256_digest (lms_key key)) (omega arith) (omega arith) (omega arith) (omega arith) valid in
+      subst (λ (s : List ℕ). broken service_layers prefix (last s) ≡ None) (sym with_first)
       (opening_unbroken service_layers g h.fits node signature named entry valid.valid)
 
   -- nor does the genesis
@@ -154,7 +155,7 @@ module _ (key : Key) (leaf : ℕ) (g : founding.Genesis) (n : NewNode) (ns : Lis
 
   each : (i : ℕ) (e : Entry) → slice_get ledger i ≡ Some e → broken service_layers (take i ledger) e ≡ None
   each zero e at = subst (λ (x : Entry). broken service_layers [] x ≡ None) (let same : genesis_entry g ≡ e = cc in same) first_unbroken
-  each (suc zero) e at = subst (λ (x : Entry). broken service_layers front x ≡ None) (let same : last (opening_signature (private_key key) leaf g) ≡ e = cc in same) last_unbroken
+  each (suc zero) e at = subst (λ (x : Entry). broken service_layers prefix x ≡ None) (let same : last (opening_signature (private_key key) leaf g) ≡ e = cc in same) last_unbroken
   each (suc (suc i)) e at = absurd (cc)
 
   -- so the check takes it
@@ -163,13 +164,13 @@ module _ (key : Key) (leaf : ℕ) (g : founding.Genesis) (n : NewNode) (ns : Lis
   taken =
       let none : audited service_layers ledger ≡ None = audited_all service_layers ledger each in
       let one : length ledger - 1 ≡ 1 = omega arith in
-      let none_before : length front - 1 ≡ 0 = omega arith in
+      let none_before : length prefix - 1 ≡ 0 = omega arith in
       ap (λ (o : Option LedgerFault). opened_unless service_layers o ledger) none
       ∙ ap (λ (j : ℕ). opened_where (is_unopened (last_entry (take j ledger))) (signer_of (slice_get ledger j)) (length ledger)) one
-      ∙ ap (λ (j : ℕ). opened_where (is_unopened (slice_get front j)) (Some node) (length ledger)) none_before
+      ∙ ap (λ (j : ℕ). opened_where (is_unopened (slice_get prefix j)) (Some node) (length ledger)) none_before
       ∙ ap (λ (b : Bool). opened_where (b || recovers (genesis_entry g)) (Some node) (length ledger)) founds_service
 
--- ---- what is told
+-- ---- what is reported
 
 -- the identifiers are the same where the key is that of the first node
 same_id : (key : Key) (ns : List NewNode) → is_first_node (private_key key) ns ≡ Ok tt → first_id ns ≡ id_of (private_key key)
@@ -179,25 +180,25 @@ same_id key ns is = go (same_bytes (first_id ns) (id_of (private_key key))) refl
     go true test is = (bytes_decides (first_id ns) (id_of (private_key key))).0 test
     go false test is = absurd cc
 
-opening_opens : (key : Key) (leaf : ℕ) (g : founding.Genesis) (told : List ℕ) → ranges.is_genesis g ≡ true → OpeningParts key leaf g told → (ns : List NewNode) → g.nodes ≡ ns →
+opening_opens : (key : Key) (leaf : ℕ) (g : founding.Genesis) (reported : List ℕ) → ranges.is_genesis g ≡ true → OpeningParts key leaf g reported → (ns : List NewNode) → g.nodes ≡ ns →
     (opened service_layers (opening_of (private_key key) leaf g) ≡ Ok (sha256 (lms_key key))) ⊎ HasTwin (lms_key key)
-opening_opens key leaf g told fits parts [] is =
+opening_opens key leaf g reported fits parts [] is =
     let some = (accepted_parts g parts.accepted).some_nodes in
     absurd (omega (arith, some, ap length is))
-opening_opens key leaf g told fits parts (n ∷ ns) is = go (same_bytes n.key (lms_key key)) refl
+opening_opens key leaf g reported fits parts (n ∷ ns) is = go (same_bytes n.key (lms_key key)) refl
   where
     go : (b : Bool) → same_bytes n.key (lms_key key) ≡ b → (opened service_layers (opening_of (private_key key) leaf g) ≡ Ok (sha256 (lms_key key))) ⊎ HasTwin (lms_key key)
     go true test = inl (taken key leaf g n ns (record { fits = fits; accepted = parts.accepted; below = parts.below; nodes = is; same = (bytes_decides n.key (lms_key key)).0 test }))
     go false test = inr (n.key, sym (ap first_id is) ∙ same_id key g.nodes parts.first, λ (same : n.key ≡ lms_key key). true≢false (sym ((bytes_decides n.key (lms_key key)).1 same) ∙ test))
 
-opening_told : (key : Key) (leaf : ℕ) (g : founding.Genesis) (told : List ℕ) → ranges.is_genesis g ≡ true → owed_for key leaf (Settings g) ≡ Ok told → IsOpening key told
-unfolding owed_for opening_bytes
-opening_told key leaf g told fits is =
-    let parts = opening_parts key leaf g told is in
-    record { ledger = opening_of (private_key key) leaf g; told_is = parts.told_is; opens = opening_opens key leaf g told fits parts g.nodes refl }
+opening_reported : (key : Key) (leaf : ℕ) (g : founding.Genesis) (reported : List ℕ) → ranges.is_genesis g ≡ true → expected_for key leaf (Settings g) ≡ Ok reported → IsOpening key reported
+unfolding expected_for opening_bytes
+opening_reported key leaf g reported fits is =
+    let parts = opening_parts key leaf g reported is in
+    record { ledger = opening_of (private_key key) leaf g; reported_is = parts.reported_is; opens = opening_opens key leaf g reported fits parts g.nodes refl }
 
-pub opens : (state : Durable) (text told : List ℕ) → owed Opening state text ≡ Ok told → IsOpening state.key told
-opens state text told is =
-    let found = read_of_told Opening state text told is in
+pub opens : (state : Durable) (text reported : List ℕ) → expected_output Opening state text ≡ Ok reported → IsOpening state.key reported
+opens state text reported is =
+    let found = read_of_reported Opening state text reported is in
     let document = settings_read text found.0 found.1 in
-    opening_told state.key state.reserved document.0 told document.2 (subst (λ (d : Document). owed_for state.key state.reserved d ≡ Ok told) document.1 found.2)
+    opening_reported state.key state.reserved document.0 reported document.2 (subst (λ (d : Document). expected_for state.key state.reserved d ≡ Ok reported) document.1 found.2)

@@ -28,7 +28,7 @@ use Rattle.gl_ledger.specs.Tree.{leaves_of}
 use Rattle.gl_ledger.proofs.Entries.{length-body_bytes}
 use Rattle.gl_ledger.proofs.GenesisEntries.{genesis_is_entry}
 use Rattle.gl_rules.specs.World.{first_view}
-use Rattle.gl_consortium.specs.Owed.{first_endorsement, id_of, opening_bytes, opening_signature}
+use Rattle.gl_consortium.specs.ExpectedOutput.{first_endorsement, id_of, opening_bytes, opening_signature}
 
 -- the entry of the signature that opens a service
 abbrev pub opening_entry : List ℕ → List ℕ → List ℕ → Entry
@@ -54,7 +54,7 @@ signature_len-most H5W8 = omega arith
 signature_len-most H10W4 = omega arith
 signature_len-most H10W8 = omega arith
 
--- and that of the signature behind it
+-- and that of the signature after it
 pub opening_small : (g : founding.Genesis) (types : Types) (node root endorsement signature : List ℕ) (e : Entry) → genesis_refusal no_history g ≡ None → length node ≡ 32 → length root ≡ 32 → endorsement ≡ first_endorsement g.nodes →
     length signature ≡ signature_size types (Some endorsement) → e ≡ opening_entry node root signature → length (body_bytes e) ≤ body_limit
 opening_small g types node root endorsement signature e accepted node_long root_long endorsement_is size e_is =
@@ -69,14 +69,14 @@ two_frames : (a b : Entry) → frame_bytes a ++ frame_bytes b ≡ flat_map frame
 two_frames a b = ap (λ (xs : List ℕ). frame_bytes a ++ xs) (sym (append-nil (frame_bytes b)))
 
 -- the frames of both are those of the opening ledger
-pub opening_told : (by : PrivateKey) (leaf : ℕ) (g : founding.Genesis) (first e : Entry) (node root message endorsement signature told : List ℕ) → first ≡ genesis_entry g → node ≡ id_of by →
+pub opening_reported : (by : PrivateKey) (leaf : ℕ) (g : founding.Genesis) (first e : Entry) (node root message endorsement signature reported : List ℕ) → first ≡ genesis_entry g → node ≡ id_of by →
     root ≡ root_of (leaves_of (genesis_entry g ∷ [])) → message ≡ signed_message root 2 2 2 → endorsement ≡ first_endorsement g.nodes → signature ≡ hss_signature by (Some endorsement) leaf message →
-    e ≡ opening_entry node root signature → told ≡ frame_bytes first ++ frame_bytes e → told ≡ opening_bytes by leaf g
+    e ≡ opening_entry node root signature → reported ≡ frame_bytes first ++ frame_bytes e → reported ≡ opening_bytes by leaf g
 unfolding opening_bytes
-opening_told by leaf g first e node root message endorsement signature told first_is node_is root_is message_is endorsement_is signature_is e_is told_is =
-    let front : List Entry = genesis_entry g ∷ [] in
-    let said : message ≡ signed_message (root_of (leaves_of front)) 2 2 2 = message_is ∙ ap (λ (r : List ℕ). signed_message r 2 2 2) root_is in
+opening_reported by leaf g first e node root message endorsement signature reported first_is node_is root_is message_is endorsement_is signature_is e_is reported_is =
+    let prefix : List Entry = genesis_entry g ∷ [] in
+    let said : message ≡ signed_message (root_of (leaves_of prefix)) 2 2 2 = message_is ∙ ap (λ (r : List ℕ). signed_message r 2 2 2) root_is in
     let signed : signature ≡ opening_signature by leaf g = signature_is ∙ ap₂ (λ (o m : List ℕ). hss_signature by (Some o) leaf m) endorsement_is said in
-    let made : opening_entry node root signature ≡ signature_entry (id_of by) (opening_signature by leaf g) front first_view 2 =
-    ap₂ (λ (n r : List ℕ). opening_entry n r signature) node_is root_is ∙ ap (opening_entry (id_of by) (root_of (leaves_of front))) signed in
-    told_is ∙ two_frames first e ∙ ap₂ (λ (a b : Entry). flat_map frame_bytes (a ∷ b ∷ [])) first_is (e_is ∙ made)
+    let made : opening_entry node root signature ≡ signature_entry (id_of by) (opening_signature by leaf g) prefix first_view 2 =
+    ap₂ (λ (n r : List ℕ). opening_entry n r signature) node_is root_is ∙ ap (opening_entry (id_of by) (root_of (leaves_of prefix))) signed in
+    reported_is ∙ two_frames first e ∙ ap₂ (λ (a b : Entry). flat_map frame_bytes (a ∷ b ∷ [])) first_is (e_is ∙ made)

@@ -22,6 +22,6 @@ IsOfKeeping NoMemory = Unit {0}
 IsOfKeeping (Fault fault) = fault ≡ Journal DiskFault
 
 -- It is told so.
-abbrev pub IsToldAs : OrNoMemory KeyFileFault → OrNoMemory SigningFault → Type 0
-IsToldAs NoMemory told = told ≡ NoMemory
-IsToldAs (Fault fault) told = told ≡ Fault DiskFailed
+abbrev pub IsReportedAs : OrNoMemory KeyFileFault → OrNoMemory SigningFault → Type 0
+IsReportedAs NoMemory reported = reported ≡ NoMemory
+IsReportedAs (Fault fault) reported = reported ≡ Fault DiskFailed

@@ -1,5 +1,5 @@
 pub mod Texts
-pub mod Owed
+pub mod ExpectedOutput
 pub mod Faults
 pub mod Laws
 pub mod Members

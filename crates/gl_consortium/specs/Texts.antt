@@ -11,8 +11,8 @@ use Rattle.gl_forms.specs.Settings.{settings_in}
 use Rattle.gl_forms.specs.Text.{from_text}
 use Rattle.gl_forms.specs.declared.key.KeyForm.{KeyForm}
 use Rattle.gl_forms.specs.declared.key.KeyForm.TheVariants as forms
-use Rattle.gl_keyfile.specs.declared.signing.Signing.{Signing}
-use Rattle.gl_keyfile.specs.declared.signing.Signing.TheVariants.{Endorsement, Opening, Request}
+use Rattle.gl_keyfile.specs.declared.signature.Signing.{Signing}
+use Rattle.gl_keyfile.specs.declared.signature.Signing.TheVariants.{Endorsement, Opening, Request}
 use Rattle.gl_consortium.specs.declared.document.Document.{Document}
 use Rattle.gl_consortium.specs.declared.document.Document.TheVariants.{NodeKey, Settings, Act}
 

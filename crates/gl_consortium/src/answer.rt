@@ -1,5 +1,5 @@
-//! Signing: what is told is made with the next leaf of the file, and handed out once the file keeps
-//! that the leaf is spent.
+//! Signing: what is reported is made with the next leaf of the file, and handed out once the file
+//! keeps that the leaf is spent.
 
 ghost use Rattle.std.specs.Prelude.{◌≡◌, List, IsTrue, IfOk, Ok, Err, true};
 ghost use Rattle.gl_base.specs.Answers.{Answers};
@@ -9,17 +9,17 @@ ghost use Rattle.gl_outside.specs.Disk.{Leaves};
 ghost use Rattle.gl_journal.specs.Durable.{Durable as State, OpensToOneOf};
 ghost use Rattle.gl_keyfile.specs.KeyFile.{any_frame, opened, OpensOnlyTo, disk_of, held, IsOpened};
 ghost use Rattle.gl_keyfile.specs.Leaf.{after_leaf};
-ghost use Rattle.gl_keyfile.specs.Signing.{kind_of, use_of};
+ghost use Rattle.gl_keyfile.specs.SigningRequest.{kind_of, use_of};
 ghost use Rattle.gl_consortium.specs.Texts.{fits};
-ghost use Rattle.gl_consortium.specs.Owed.{opening_owed, owed, owed_for};
-ghost use Rattle.gl_consortium.specs.Faults.{IsOfKeeping, IsToldAs};
+ghost use Rattle.gl_consortium.specs.ExpectedOutput.{expected_for, expected_opening, expected_output};
+ghost use Rattle.gl_consortium.specs.Faults.{IsOfKeeping, IsReportedAs};
 ghost use Rattle.gl_consortium.specs.declared.fault.SigningFault.{SigningFault};
 
 use crate::document::{Document, read_document};
 use crate::endorsement::endorsement_line;
 use crate::fault::SigningFault;
 use crate::leaf::{check_leaf, private_key};
-use crate::opening::{check_accepted, check_first_node, opening_bytes};
+use crate::opening_ledger::{check_accepted, check_first_node, opening_bytes};
 use crate::request::request_bytes;
 use gl_base::OrNoMemory;
 use gl_journal::{JournalFault, Key};
@@ -28,35 +28,35 @@ use gl_outside::Disk;
 use gl_requests::Genesis;
 use std::alloc::Global;
 
-/// What is owed for the opening of a service.
-#[tactic(auto, unfolding(crate::specs::Owed::opening_owed))]
-fn opening_owed(
+/// The expected output for the opening of a service.
+#[tactic(auto, unfolding(crate::specs::ExpectedOutput::expected_opening))]
+fn expected_opening(
     alloc: Global,
     key: &Key,
     leaf: u32,
     genesis: Genesis,
 ) -> Result<Vec<u8>, OrNoMemory<SigningFault>>
     requires { fits (Document.Settings genesis) ≡ true }
-    ensures { Answers (λ told. told.items) result (opening_owed key.now leaf genesis) }
+    ensures { Answers (λ reported. reported.items) result (expected_opening key.now leaf genesis) }
 {
     let by = private_key(alloc, key)?;
     check_first_node(&by, genesis.nodes.as_slice())?;
     check_leaf(key.types, leaf)?;
     check_accepted(alloc, &genesis)?;
-    let told = opening_bytes(alloc, by, leaf, genesis)?;
-    Ok(told)
+    let reported = opening_bytes(alloc, by, leaf, genesis)?;
+    Ok(reported)
 }
 
-/// What is owed for what was read, by a key of which so many leaves are spent.
-#[tactic(auto, unfolding(crate::specs::Owed::owed_for))]
-fn owed_for(
+/// The expected output for what was read, by a key of which so many leaves are spent.
+#[tactic(auto, unfolding(crate::specs::ExpectedOutput::expected_for))]
+fn expected_for(
     alloc: Global,
     key: &Key,
     leaf: u32,
     document: Document,
 ) -> Result<Vec<u8>, OrNoMemory<SigningFault>>
     requires { fits document ≡ true }
-    ensures { Answers (λ told. told.items) result (owed_for key.now leaf document) }
+    ensures { Answers (λ reported. reported.items) result (expected_for key.now leaf document) }
 {
     match document {
         Document::NodeKey {
@@ -65,10 +65,10 @@ fn owed_for(
         } => {
             check_leaf(key.types, leaf)?;
             let by = private_key(alloc, key)?;
-            let told = endorsement_line(alloc, &by, leaf, node_key, node)?;
-            Ok(told)
+            let reported = endorsement_line(alloc, &by, leaf, node_key, node)?;
+            Ok(reported)
         }
-        Document::Settings(genesis) => opening_owed(alloc, key, leaf, genesis),
+        Document::Settings(genesis) => expected_opening(alloc, key, leaf, genesis),
         Document::Act {
             identity,
             member,
@@ -76,14 +76,14 @@ fn owed_for(
         } => {
             check_leaf(key.types, leaf)?;
             let by = private_key(alloc, key)?;
-            let told = request_bytes(alloc, by, leaf, &identity, member, act)?;
-            Ok(told)
+            let reported = request_bytes(alloc, by, leaf, &identity, member, act)?;
+            Ok(reported)
         }
     }
 }
 
-/// What is owed for a text by a key of which so many leaves are spent.
-fn owed(
+/// The expected output for a text by a key of which so many leaves are spent.
+fn expected_output(
     alloc: Global,
     signing: &Signing,
     text: &[u8],
@@ -91,10 +91,10 @@ fn owed(
     leaf: u32,
 ) -> Result<Vec<u8>, OrNoMemory<SigningFault>>
     ensures { (state : State) → state.key ≡ key.now → state.reserved ≡ leaf →
-        Answers (λ told. told.items) result (owed signing.now state text.now) }
+        Answers (λ reported. reported.items) result (expected_output signing.now state text.now) }
 {
     match read_document(alloc, signing, text) {
-        Ok(document) => owed_for(alloc, key, leaf, document),
+        Ok(document) => expected_for(alloc, key, leaf, document),
         Err(error) => Err(error.widen()),
     }
 }
@@ -102,7 +102,7 @@ fn owed(
 /// Why a leaf that the key has was not kept.
 fn keeping_fault(error: OrNoMemory<KeyFileFault>) -> OrNoMemory<SigningFault>
     requires { IsOfKeeping error }
-    ensures { IsToldAs error result }
+    ensures { IsReportedAs error result }
 {
     match error {
         OrNoMemory::NoMemory => OrNoMemory::NoMemory,
@@ -113,10 +113,10 @@ fn keeping_fault(error: OrNoMemory<KeyFileFault>) -> OrNoMemory<SigningFault>
     }
 }
 
-/// Signs what a text asks for with the next leaf of a key file, and gives what is told. It is made
-/// before the leaf is taken, and handed out only once the file keeps that the leaf is spent,
-/// whatever comes. A refusal, or want of memory, leaves the disk as it was. Where the disk failed,
-/// a stop leaves the file as it was, or with the leaf spent unused.
+/// Signs what a text asks for with the next leaf of a key file, and gives what is reported. It is
+/// made before the leaf is taken, and handed out only once the file keeps that the leaf is spent,
+/// whatever comes. A refusal, or running out of memory, leaves the disk as it was. Where the disk
+/// failed, a stop leaves the file as it was, or with the leaf spent unused.
 pub fn sign<D: Disk>(
     alloc: Global,
     signing: &Signing,
@@ -126,15 +126,15 @@ pub fn sign<D: Disk>(
     requires open { IsTrue D.honest → IsOpened D.bytes D.past file }
     requires kind { (held file).key.kind ≡ kind_of signing.now }
 
-    ensures told { IfOk result.0 (λ told.
-        owed signing.now (held file) text.now ≡ Ok told.items) }
+    ensures reported { IfOk result.0 (λ reported.
+        expected_output signing.now (held file) text.now ≡ Ok reported.items) }
     ensures refused { (fault : SigningFault) → result.0 ≡ Err (OrNoMemory.Fault fault) →
-        (fault ≡ SigningFault.DiskFailed → ⊥) → owed signing.now (held file) text.now ≡ Err fault }
+        (fault ≡ SigningFault.DiskFailed → ⊥) → expected_output signing.now (held file) text.now ≡ Err fault }
 
     // Before anything is told the file keeps that the leaf is spent, whatever comes.
-    ensures kept { IsTrue D.honest → IfOk result.0 (λ told.
+    ensures kept { IsTrue D.honest → IfOk result.0 (λ reported.
         opened (D.bytes result.1) ≡ Ok (after_leaf (use_of signing.now) (held file))) }
-    ensures after { IsTrue D.honest → IfOk result.0 (λ told.
+    ensures after { IsTrue D.honest → IfOk result.0 (λ reported.
         OpensOnlyTo (D.past result.1) (after_leaf (use_of signing.now) (held file))) }
 
     // A refusal leaves the disk as it was.
@@ -154,12 +154,12 @@ pub fn sign<D: Disk>(
     ensures no_disk_fault { (result.0 ≡ Err (OrNoMemory.Fault SigningFault.DiskFailed) → ⊥) →
         D.faults result.1 ≡ D.faults (disk_of file) }
 {
-    let told = match owed(alloc, signing, text, file.key(), file.reserved()) {
-        Ok(told) => told,
+    let reported = match expected_output(alloc, signing, text, file.key(), file.reserved()) {
+        Ok(reported) => reported,
         Err(error) => return (Err(error), file.into_disk()),
     };
     match file.take_leaf(signing.leaf_use()) {
-        Ok(taken) => (Ok(told), taken.disk),
+        Ok(taken) => (Ok(reported), taken.disk),
         Err((error, disk)) => (Err(keeping_fault(error)), disk),
     }
 }

@@ -2,7 +2,7 @@
 
 ghost use Rattle.std.specs.Prelude.{◌≡◌, ◌<◌, ◌^◌, IfOk};
 ghost use Rattle.gl_hss.specs.Types.{height};
-ghost use Rattle.gl_consortium.specs.Owed.{endorsement_line};
+ghost use Rattle.gl_consortium.specs.ExpectedOutput.{endorsement_line};
 
 use gl_base::Bytes;
 use gl_forms::{KeyForm, write_key};
@@ -10,8 +10,8 @@ use gl_hss::LmsKey;
 use gl_requests::{LmsPublicKey, NodeId};
 use std::alloc::{AllocError, Global};
 
-/// A node's key in its form, endorsed by a leaf of the service's key, and a newline behind it.
-#[tactic(auto, unfolding(crate::specs::Owed::endorsement_line))]
+/// A node's key in its form, endorsed by a leaf of the service's key, and a newline after it.
+#[tactic(auto, unfolding(crate::specs::ExpectedOutput::endorsement_line))]
 pub(crate) fn endorsement_line(
     alloc: Global,
     by: &LmsKey,

@@ -3,7 +3,7 @@
 ghost use Rattle.std.specs.Prelude.{◌≡◌, ◌<◌, ◌^◌, length, IfOk, OnOk};
 ghost use Rattle.gl_hss.specs.Types.{height};
 ghost use Rattle.gl_hss.specs.Signer.{endorsement_of, hss_signature, signature_size};
-ghost use Rattle.gl_consortium.specs.Owed.{has_leaf, private_key};
+ghost use Rattle.gl_consortium.specs.ExpectedOutput.{has_leaf, private_key};
 
 use crate::fault::SigningFault;
 use gl_hss::{HssSigner, LmsKey, SignFault, Types};

@@ -12,7 +12,7 @@ mod fault;
 mod laws;
 mod leaf;
 mod members;
-mod opening;
+mod opening_ledger;
 mod request;
 mod text;
 mod tree;

@@ -3,7 +3,7 @@
 ghost use Rattle.std.specs.Prelude.{◌≡◌, ◌<◌, ◌≤◌, ◌^◌, length, drop, true, IfOk};
 ghost use Rattle.gl_hss.specs.Types.{height};
 ghost use Rattle.gl_requests.specs.Ranges.{is_act};
-ghost use Rattle.gl_consortium.specs.Owed.{request_line};
+ghost use Rattle.gl_consortium.specs.ExpectedOutput.{request_line};
 
 use crate::leaf::hss_signature;
 use gl_base::{Bytes, put_bytes, put_u32};
@@ -11,7 +11,7 @@ use gl_hss::LmsKey;
 use gl_requests::{HssPublicKey, MemberAct, MemberRequest};
 use std::alloc::{AllocError, Global};
 
-/// Behind so many bytes of what a member signs the request's own begin: a word of 7 bytes and the
+/// After so many bytes of what a member signs the request's own begin: a word of 7 bytes and the
 /// service's key stand before them.
 const REQUEST_AT: usize = 67;
 
@@ -23,9 +23,9 @@ fn own_bytes(message: &[u8]) -> &[u8]
     &message[REQUEST_AT..]
 }
 
-/// The bytes of a member's request, signed by a leaf of its key: those that are signed behind the
-/// word and the service's key, and the signature behind its length.
-#[tactic(auto, unfolding(crate::specs::Owed::request_line))]
+/// The bytes of a member's request, signed by a leaf of its key: those that are signed after the
+/// word and the service's key, and the signature after its length.
+#[tactic(auto, unfolding(crate::specs::ExpectedOutput::request_line))]
 pub(crate) fn request_bytes(
     alloc: Global,
     by: LmsKey,
@@ -36,7 +36,7 @@ pub(crate) fn request_bytes(
 ) -> Result<Vec<u8>, AllocError>
     requires leaf { leaf < 2 ^ height by.types }
     requires fits { is_act act ≡ true }
-    ensures { IfOk result (λ told. told.items
+    ensures { IfOk result (λ reported. reported.items
         ≡ request_line by leaf identity.now member act) }
 {
     let unsigned = MemberRequest {
@@ -46,8 +46,8 @@ pub(crate) fn request_bytes(
     };
     let message = unsigned.signed_bytes(alloc, identity)?;
     let signature = hss_signature(by, None, leaf, &message)?;
-    let mut told = Vec::from_slice(alloc, own_bytes(&message))?;
-    put_u32(&mut told, signature.len() as u32)?;
-    put_bytes(&mut told, &signature)?;
-    Ok(told)
+    let mut reported = Vec::from_slice(alloc, own_bytes(&message))?;
+    put_u32(&mut reported, signature.len() as u32)?;
+    put_bytes(&mut reported, &signature)?;
+    Ok(reported)
 }

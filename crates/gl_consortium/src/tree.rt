@@ -56,7 +56,7 @@ fn action_tree(alloc: Global, dealing: &Dealing) -> Result<Value, AllocError>
 }
 
 /// The JSON text of the action that sets the dealing, without spaces and with each object's members
-/// in the order of their names. No newline stands behind it.
+/// in the order of their names. No newline stands after it.
 pub fn write_dealing(alloc: Global, dealing: &Dealing) -> Result<Vec<u8>, AllocError>
     ensures text { IfOk result (λ t. t.items ≡ compact_text (action_tree dealing.now)) }
     ensures reads_back { is_dealing dealing.now ≡ true →

@@ -22,7 +22,7 @@ use Rattle.gl_election.specs.declared.peer.Peer.{Peer}
 use Rattle.gl_election.specs.declared.peer.Role.{Role}
 use Rattle.gl_election.specs.declared.peer.Role.TheVariants.{Follower, Candidate, Leader}
 use Rattle.gl_election.specs.Elections as seats
-use Rattle.gl_election.specs.Elections.{Turn, position}
+use Rattle.gl_election.specs.Elections.{ElectionStep, position}
 use Rattle.gl_election.specs.Bridge.{seen_role, seen_message, tx_id, with_peer, IsPeerOf, step_of, last_of, signed, cut_if_rose, begin_leading, seen_outcome}
 
 -- A log cut to its last signature
@@ -87,7 +87,7 @@ module _ {Q G R A F : Type 0} (b : Book Entry Q G R A F) (x : NodeId) where
       ap {B = List (messages.Message Entry)} (λ (m : List (messages.Message Entry)). record { sender = x; receiver = y; view = view; body = messages.RequestVote (position last) } ∷ m) (requests_seen view last to)
 
   -- a delivery that its turn refuses is undone by it
-  undone : (t : Turn) (n : Node Entry) → undo_if_refused (step_of b t n).outcome n (step_of b t n) ≡ step_of b t n
+  undone : (t : ElectionStep) (n : Node Entry) → undo_if_refused (step_of b t n).outcome n (step_of b t n) ≡ step_of b t n
   undone (Err why) n = refl
   undone (Ok turn) n = go turn.0.outcome (begin_leading b turn.0.outcome (with_peer turn.1 (cut_if_rose b turn.0.rose n))) (map seen_message turn.0.sent)
     where

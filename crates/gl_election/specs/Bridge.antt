@@ -19,7 +19,7 @@ use Rattle.gl_election.specs.declared.elected.ElectionRefusal.TheVariants as ref
 use Rattle.gl_election.specs.declared.peer.Peer.{Peer}
 use Rattle.gl_election.specs.declared.peer.Role.{Role}
 use Rattle.gl_election.specs.declared.peer.Role.TheVariants as roles
-use Rattle.gl_election.specs.Elections.{Turn, position}
+use Rattle.gl_election.specs.Elections.{ElectionStep, position}
 
 -- The program's roles, messages and answers as the rules write them.
 
@@ -75,7 +75,7 @@ module _ {E Q G R A F : Type 0} (book : Book E Q G R A F) where
   abbrev pub last_of : rules.Node E → TxId
   last_of n = tx_id (last_signature_position book n.log)
 
-  -- A new leader begins behind its log, and knows nothing of the others.
+  -- A new leader begins after its log, and knows nothing of the others.
   abbrev pub begin_leading : ElectionOutcome → rules.Node E → rules.Node E
   begin_leading answers.BecameLeader n =
       record n { start = length n.log + 1; matched = λ _. 0; next = λ _. None }
@@ -96,7 +96,7 @@ module _ {E Q G R A F : Type 0} (book : Book E Q G R A F) where
 
 -- What a turn of its peer makes of a node.
 module _ {Q G R A F : Type 0} (book : Book Entry Q G R A F) where
-  abbrev pub step_of : Turn → rules.Node Entry → outcomes.Step Entry A F
+  abbrev pub step_of : ElectionStep → rules.Node Entry → outcomes.Step Entry A F
   step_of (Err why) n = outcomes.refuse n (seen_refusal book why)
   step_of (Ok turn) n = record {
     node = begin_leading book turn.0.outcome (with_peer turn.1 (cut_if_rose book turn.0.rose n));

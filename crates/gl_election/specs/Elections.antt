@@ -21,8 +21,8 @@ use Rattle.gl_election.specs.declared.peer.Role.{Role}
 use Rattle.gl_election.specs.declared.peer.Role.TheVariants.{Follower, Candidate, Leader}
 
 -- What is answered and sent, and the peer then; or why the event is refused.
-abbrev pub Turn : Type 0
-Turn = Result (Elected × Peer) ElectionRefusal
+abbrev pub ElectionStep : Type 0
+ElectionStep = Result (Elected × Peer) ElectionRefusal
 
 -- A signature's place in a ledger, as the rules write it.
 abbrev pub position : TxId → Position
@@ -31,7 +31,7 @@ position last = record { view = last.view; seqno = last.seqno }
 abbrev pub idle_answer : Bool → Elected
 idle_answer rose = record { outcome = Idle; sent = []; rose = rose }
 
-abbrev pub idle : Bool → Peer → Turn
+abbrev pub idle : Bool → Peer → ElectionStep
 idle rose p = Ok (idle_answer rose, p)
 
 -- A peer in a view that it has just entered: no vote, no leader, a follower.
@@ -70,21 +70,21 @@ campaign me last active others view =
 
 -- A node of an active configuration campaigns for the next view, if there is one.
 abbrev pub campaign_if_allowed : NodeId → TxId → List (List NodeId) → List NodeId → Bool → Peer →
-    Turn
+    ElectionStep
 campaign_if_allowed me last active others rose p =
     if in_some me active
     then (if p.view == last_view then Err ViewLimit
     else Ok (campaign me last active others (p.view + 1)))
     else idle rose p
 
-abbrev pub timeout_as : Role → NodeId → TxId → List (List NodeId) → List NodeId → Bool → Peer → Turn
+abbrev pub timeout_as : Role → NodeId → TxId → List (List NodeId) → List NodeId → Bool → Peer → ElectionStep
 timeout_as Leader me last active others rose p = idle rose p
 timeout_as Candidate me last active others rose p = campaign_if_allowed me last active others rose p
 timeout_as Follower me last active others rose p = campaign_if_allowed me last active others rose p
 
 -- A leader is idle, and any other peer campaigns, if it may. The active configurations are those of
 -- the log cut to its last signature.
-abbrev pub at_timeout : NodeId → TxId → List (List NodeId) → List NodeId → Peer → Turn
+abbrev pub at_timeout : NodeId → TxId → List (List NodeId) → List NodeId → Peer → ElectionStep
 at_timeout me last active others p = timeout_as p.role me last active others false p
 
 -- RequestVote
@@ -111,7 +111,7 @@ grants last c view theirs p =
     && (may_vote_for p.vote c && is_up_to_date (position theirs) (position last))
 
 -- A request for a vote.
-abbrev pub at_request_vote : NodeId → TxId → NodeId → ℕ → TxId → Peer → Turn
+abbrev pub at_request_vote : NodeId → TxId → NodeId → ℕ → TxId → Peer → ElectionStep
 at_request_vote me last c view theirs p =
     let q = update_view view p in
     Ok (reply_to_vote_request me c (grants last c view theirs q) (nat_lt p.view view) q)
@@ -135,7 +135,7 @@ count_votes active p =
     let won = quorum (λ y. member y p.votes) active in
     (record { outcome = vote_outcome won; sent = []; rose = false }, lead_if won p)
 
-abbrev pub vote_reply_as : Role → List (List NodeId) → NodeId → ℕ → Bool → Peer → Turn
+abbrev pub vote_reply_as : Role → List (List NodeId) → NodeId → ℕ → Bool → Peer → ElectionStep
 vote_reply_as Candidate active y view granted p =
     if granted && (view == p.view) then Ok (count_votes active (add_vote y p)) else idle false p
 vote_reply_as Follower active y view granted p = idle false p
@@ -143,7 +143,7 @@ vote_reply_as Leader active y view granted p = idle false p
 
 -- A reply in a view: a candidate of that view adds the vote that it grants. A later view is
 -- entered, and no vote is counted in it.
-abbrev pub at_vote_reply : List (List NodeId) → NodeId → ℕ → Bool → Peer → Turn
+abbrev pub at_vote_reply : List (List NodeId) → NodeId → ℕ → Bool → Peer → ElectionStep
 at_vote_reply active y view granted p =
     if nat_lt p.view view
     then idle true (enter_view view)
@@ -153,7 +153,7 @@ at_vote_reply active y view granted p =
 
 -- A leader's wish that this node campaign: a timeout, unless the view is before the peer's. Where
 -- the event is refused, a later view isn't entered either.
-abbrev pub at_propose_vote : NodeId → TxId → List (List NodeId) → List NodeId → ℕ → Peer → Turn
+abbrev pub at_propose_vote : NodeId → TxId → List (List NodeId) → List NodeId → ℕ → Peer → ElectionStep
 at_propose_vote me last active others view p =
     if nat_lt view p.view
     then idle false p
@@ -174,12 +174,12 @@ hand_over me y p = (
   record p { role = Follower; leader = None },
 )
 
-abbrev pub step_down_as : Role → NodeId → List (List NodeId) → NodeId → Peer → Turn
+abbrev pub step_down_as : Role → NodeId → List (List NodeId) → NodeId → Peer → ElectionStep
 step_down_as Leader me active y p =
     if not (same y me) && in_some y active then Ok (hand_over me y p) else Err NotPeer
 step_down_as Candidate me active y p = Err (NotPrimary p.view p.leader)
 step_down_as Follower me active y p = Err (NotPrimary p.view p.leader)
 
 -- A leader hands over to another node of an active configuration.
-abbrev pub at_step_down : NodeId → List (List NodeId) → NodeId → Peer → Turn
+abbrev pub at_step_down : NodeId → List (List NodeId) → NodeId → Peer → ElectionStep
 at_step_down me active y p = step_down_as p.role me active y p

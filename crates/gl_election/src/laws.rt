@@ -18,7 +18,7 @@ ghost use Rattle.gl_election.specs.Bridge.{IsPeerOf, message_to, signed, last_of
 
 /// The rules of elections are what their turns make of a node's peer, over any ledger book: a
 /// timeout, the three deliveries of an election, and a leader that steps down. The log is cut where
-/// the view rises, and a new leader begins behind it.
+/// the view rises, and a new leader begins after it.
 pub fn law_of_elections<Q, G, R, A, F>()
     ensures timeout { (book : Book Entry Q G R A F) (x : NodeId) (p : Peer) (n : Node Entry) →
         IsPeerOf p n → timeout book x n ≡ step_of book (at_timeout x (last_of book n)

@@ -96,7 +96,7 @@ fn only(alloc: Global, node: NodeId) -> Result<NodeSet, AllocError>
     Ok(NodeSet::new(nodes))
 }
 
-/// The set with one more node, in front of the others.
+/// The set with one more node, before the others.
 fn with_vote(alloc: Global, node: NodeId, nodes: &NodeSet) -> Result<NodeSet, AllocError>
     requires { member node nodes.now ≡ false }
     ensures { IfOk result (λ more. more ≡ node ∷ nodes.now) }
@@ -200,7 +200,7 @@ impl Peer {
         })
     }
 
-    /// Campaigns for the view behind this one, if it may.
+    /// Campaigns for the view after this one, if it may.
     fn campaign_if_allowed(
         &mut self,
         alloc: Global,

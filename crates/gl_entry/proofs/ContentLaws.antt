@@ -1,4 +1,4 @@
--- What an entry records: its spelling reads back, and what reads is spelled so.
+-- What an entry records: its encoding reads back, and what reads is encoded so.
 use Rattle.std.proofs.Common.{◌≡◌, ℕ, ◌+◌, ◌^◌, ◌≤◌, nat_lt, ◌==◌, Bool, true, false, cond, ◌&&◌, List, [], ◌++◌, length, Result, Ok, Err, refl, sym, ap, ◌∙◌, subst, append-nil, arith}
 use Rattle.std.proofs.lemmas.Bool.{and_parts}
 use Rattle.std.proofs.lemmas.Bool.Decides.{nat_tests}
@@ -18,7 +18,7 @@ use Rattle.gl_entry.specs.declared.entry.Signature as signatures
 use Rattle.gl_entry.specs.declared.entry.Content.{Content}
 use Rattle.gl_entry.specs.declared.entry.Content.TheVariants as content
 use Rattle.gl_entry.specs.Entry.{body_limit, kind_tag, signature_bytes, content_bytes, is_recorded_signature, is_content}
-use Rattle.gl_entry.specs.Reading.{is_kind, signature_at, evidence_at, content_of}
+use Rattle.gl_entry.specs.Parsing.{is_kind, signature_at, evidence_at, content_of}
 use Rattle.gl_entry.proofs.Sizes.{length-signature_bytes}
 use Rattle.gl_entry.proofs.Parts.{took_then, number-took, bytes-took, sized-took, Lies, lie_both, number-reads, bytes-reads, sized-reads}
 
@@ -36,9 +36,9 @@ ended_there x at = refl
 
 -- ---- a signature
 
-pub signature-spelled : (old : Unread) (read : Content × Unread) → AreBytes old.bytes → signature_at old ≡ Ok read → Took (content_bytes read.0) (is_content read.0) old read.1
+pub signature-encoded : (old : Unread) (read : Content × Unread) → AreBytes old.bytes → signature_at old ≡ Ok read → Took (content_bytes read.0) (is_content read.0) old read.1
 unfolding signature_at
-signature-spelled old read all e =
+signature-encoded old read all e =
     let node = bind_ok {E = CodeFault} (field (bytes_at 32 old)) _ read e in
     let commit = bind_ok {E = CodeFault} (field (number_at 8 node.0.1)) _ read node.2 in
     let root = bind_ok {E = CodeFault} (field (bytes_at 32 commit.0.1)) _ read commit.2 in
@@ -75,9 +75,9 @@ signature-reads s old new is within there =
 
 -- ---- evidence
 
-pub evidence-spelled : (old : Unread) (read : Content × Unread) → AreBytes old.bytes → evidence_at old ≡ Ok read → Took (content_bytes read.0) (is_content read.0) old read.1
+pub evidence-encoded : (old : Unread) (read : Content × Unread) → AreBytes old.bytes → evidence_at old ≡ Ok read → Took (content_bytes read.0) (is_content read.0) old read.1
 unfolding evidence_at
-evidence-spelled old read all e =
+evidence-encoded old read all e =
     let digest = bind_ok {E = CodeFault} (field (bytes_at 32 old)) _ read e in
     let gave : Content × Unread = (content.Evidence digest.0.0, digest.0.1) in
     let same : gave ≡ read = ok_injective {E = CodeFault} gave read digest.2 in
@@ -102,10 +102,10 @@ whole_ok : (reading : Unread → Result (Content × Unread) CodeFault) (place : 
     ((read : Content × Unread) → reading (record { at = place; bytes = bytes }) ≡ Ok read → Took (content_bytes read.0) (is_content read.0) (record { at = place; bytes = bytes }) read.1) →
     whole_at reading place bytes ≡ Ok recorded →
     (read : Content × Unread) × (reading (record { at = place; bytes = bytes }) ≡ Ok read) × (read.0 ≡ recorded) × (bytes ≡ content_bytes recorded) × (is_content recorded ≡ true)
-whole_ok reading place bytes recorded spelled e =
+whole_ok reading place bytes recorded encoded e =
     let there = bind_ok {A = Content × Unread} {E = CodeFault} (reading (record { at = place; bytes = bytes })) ended recorded e in
     let end = ended_ok there.0 recorded there.2 in
-    let took = spelled there.0 there.1 in
+    let took = encoded there.0 there.1 in
     let parts : bytes ≡ content_bytes there.0.0 = took.bytes ∙ ap (λ (xs : List ℕ). content_bytes there.0.0 ++ xs) end.1 ∙ append-nil (content_bytes there.0.0) in
     (there.0, there.1, end.0, parts ∙ ap content_bytes end.0, ap is_content (sym end.0) ∙ took.valid)
 
@@ -139,17 +139,17 @@ content_by false true three kind place bytes recorded a b c is all e =
     let tag : kind ≡ 2 = grind (arith, nat_tests) in
     subst (IsContentOf kind bytes) same (record { bytes_are = refl; valid = are_bytes-true bytes all; tag = tag })
 content_by false false true kind place bytes recorded a b c is all e =
-    let whole = whole_ok signature_at place bytes recorded (λ read f. signature-spelled (record { at = place; bytes = bytes }) read all f) e in
+    let whole = whole_ok signature_at place bytes recorded (λ read f. signature-encoded (record { at = place; bytes = bytes }) read all f) e in
     let tag : kind ≡ 3 = grind (arith, nat_tests) in
     record { bytes_are = whole.3; valid = whole.4; tag = tag ∙ sym (signature_tag (record { at = place; bytes = bytes }) whole.0 whole.1) ∙ ap kind_tag whole.2 }
 content_by false false false kind place bytes recorded a b c is all e =
-    let whole = whole_ok evidence_at place bytes recorded (λ read f. evidence-spelled (record { at = place; bytes = bytes }) read all f) e in
+    let whole = whole_ok evidence_at place bytes recorded (λ read f. evidence-encoded (record { at = place; bytes = bytes }) read all f) e in
     let tag : kind ≡ 4 = grind (arith, nat_tests) in
     record { bytes_are = whole.3; valid = whole.4; tag = tag ∙ sym (evidence_tag (record { at = place; bytes = bytes }) whole.0 whole.1) ∙ ap kind_tag whole.2 }
 
-pub content_of-spelled : (kind place : ℕ) (bytes : List ℕ) (recorded : Content) → is_kind kind ≡ true → AreBytes bytes → content_of kind place bytes ≡ Ok recorded → IsContentOf kind bytes recorded
+pub content_of-encoded : (kind place : ℕ) (bytes : List ℕ) (recorded : Content) → is_kind kind ≡ true → AreBytes bytes → content_of kind place bytes ≡ Ok recorded → IsContentOf kind bytes recorded
 unfolding content_of
-content_of-spelled kind place bytes recorded is all e = content_by (kind == 1) (kind == 2) (kind == 3) kind place bytes recorded refl refl refl is all e
+content_of-encoded kind place bytes recorded is all e = content_by (kind == 1) (kind == 2) (kind == 3) kind place bytes recorded refl refl refl is all e
 
 all_of_it : (place : ℕ) (xs : List ℕ) → Lies xs (record { at = place; bytes = xs }) (record { at = place + length xs; bytes = [] })
 all_of_it place xs = record { bytes = sym (append-nil xs); place = refl }

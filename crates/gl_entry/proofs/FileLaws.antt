@@ -14,11 +14,11 @@ use Rattle.gl_entry.specs.declared.entry.Entry.{Entry}
 use Rattle.gl_entry.specs.declared.fault.EntryFault.{EntryFault}
 use Rattle.gl_entry.specs.declared.fault.EntryFault.TheVariants as faults
 use Rattle.gl_entry.specs.Entry.{body_limit, frame_bytes, is_entry}
-use Rattle.gl_entry.specs.Reading.{entry_field, required, size_at, frame_at, whole_body}
+use Rattle.gl_entry.specs.Parsing.{entry_field, required, size_at, frame_at, whole_body}
 use Rattle.gl_entry.specs.Stream.{next_entry}
-use Rattle.gl_entry.proofs.EntryLaws.{entry_field_ok, behind_frame, first_frame-reads}
+use Rattle.gl_entry.proofs.EntryLaws.{entry_field_ok, after_frame, first_frame-reads}
 use Rattle.gl_entry.proofs.Ordered.{required_ok}
-use Rattle.gl_entry.specs.LedgerFile.{file_behind, file_within, ledger_file, no_entries, with_entries, with_entry}
+use Rattle.gl_entry.specs.LedgerFile.{file_after, file_within, ledger_file, no_entries, with_entries, with_entry}
 
 -- ---- how many bytes are taken
 
@@ -32,8 +32,8 @@ bytes-left count old x e = go (nat_lt (length old.bytes) count) refl e
     go true t h = absurd cc
     go false t h =
         let within : count ≤ length old.bytes = grind (arith, nat_tests) in
-        let behind : drop count old.bytes ≡ x.1.bytes = ap (λ (p : List ℕ × Unread). p.1.bytes) (ok_injective {E = CutFault} (take count old.bytes, record { at = old.at + count; bytes = drop count old.bytes }) x h) in
-        omega (arith, within, length-drop count old.bytes, ap length behind)
+        let after : drop count old.bytes ≡ x.1.bytes = ap (λ (p : List ℕ × Unread). p.1.bytes) (ok_injective {E = CutFault} (take count old.bytes, record { at = old.at + count; bytes = drop count old.bytes }) x h) in
+        omega (arith, within, length-drop count old.bytes, ap length after)
 
 number-left : (size : ℕ) (old : Unread) (x : ℕ × Unread) → number_at size old ≡ Ok x → size + length x.1.bytes ≡ length old.bytes
 unfolding number_at
@@ -69,24 +69,24 @@ frame-left old read e =
     let b = bytes-left size.0.0 size.0.1 body.0 (entry_field_ok (bytes_at size.0.0 size.0.1) body.0 body.1) in
     omega (arith, a, b, ap (λ (x : Entry × Unread). length x.1.bytes) same)
 
-behind_some : Option (Entry × List ℕ) → List ℕ
-behind_some None = []
-behind_some (Some read) = read.1
+after_some : Option (Entry × List ℕ) → List ℕ
+after_some None = []
+after_some (Some read) = read.1
 
 pub next-left : (bytes : List ℕ) (e : Entry) (rest : List ℕ) → next_entry bytes ≡ Ok (Some (e, rest)) → length rest < length bytes
-unfolding next_entry behind_some
+unfolding next_entry after_some
 next-left [] e rest h = absurd cc
 next-left (byte ∷ bytes) e rest h =
     let there = bind_ok {E = EntryFault} (frame_at (unread_of (byte ∷ bytes))) _ (Some (e, rest)) h in
     let same = ok_injective {E = EntryFault} (Some (there.0.0, there.0.1.bytes)) (Some (e, rest)) there.2 in
-    let behind : there.0.1.bytes ≡ rest = ap behind_some same in
-    omega (arith, frame-left (unread_of (byte ∷ bytes)) there.0 there.1, ap length behind)
+    let after : there.0.1.bytes ≡ rest = ap after_some same in
+    omega (arith, frame-left (unread_of (byte ∷ bytes)) there.0 there.1, ap length after)
 
 -- ---- more fuel
 
 fuel_step : (n m : ℕ) (bytes : List ℕ) (next : Result (Option (Entry × List ℕ)) EntryFault) → next_entry bytes ≡ next → length bytes ≤ n → length bytes ≤ m
     → ((rest : List ℕ) → length rest < n → length rest < m → file_within n rest ≡ file_within m rest)
-    → file_behind next (file_within n) ≡ file_behind next (file_within m)
+    → file_after next (file_within n) ≡ file_after next (file_within m)
 fuel_step n m bytes (Err fault) is a b more = refl
 fuel_step n m bytes (Ok None) is a b more = refl
 fuel_step n m bytes (Ok (Some read)) is a b more =
@@ -104,7 +104,7 @@ pub file_step : (bytes : List ℕ) (e : Entry) (rest : List ℕ) → next_entry 
 unfolding ledger_file
 file_step bytes e rest h =
     let short = next-left bytes e rest h in
-    ap (λ next. file_behind next (file_within (length bytes))) h
+    ap (λ next. file_after next (file_within (length bytes))) h
     ∙ ap (with_entry e) (fuel (length bytes) (suc (length rest)) rest short (omega arith))
 
 pub file_end : ledger_file [] ≡ no_entries None
@@ -113,11 +113,11 @@ file_end = refl
 
 pub file_unread : (bytes : List ℕ) (fault : EntryFault) → next_entry bytes ≡ Err fault → ledger_file bytes ≡ no_entries (Some fault)
 unfolding ledger_file
-file_unread bytes fault h = ap (λ next. file_behind next (file_within (length bytes))) h
+file_unread bytes fault h = ap (λ next. file_after next (file_within (length bytes))) h
 
 -- ---- a file that begins with frames
 
-next_frame-some : (bytes : List ℕ) (e : Entry) (rest : List ℕ) → (some : 1 ≤ length bytes) → frame_at (unread_of bytes) ≡ Ok (e, behind_frame 0 e rest) → next_entry bytes ≡ Ok (Some (e, rest))
+next_frame-some : (bytes : List ℕ) (e : Entry) (rest : List ℕ) → (some : 1 ≤ length bytes) → frame_at (unread_of bytes) ≡ Ok (e, after_frame 0 e rest) → next_entry bytes ≡ Ok (Some (e, rest))
 unfolding next_entry
 next_frame-some [] e rest some h = absurd (omega (arith, some))
 next_frame-some (byte ∷ bytes) e rest some h = ap (λ (r : Result (Entry × Unread) EntryFault). r >>= λ read. Ok (Some (read.0, read.1.bytes))) h

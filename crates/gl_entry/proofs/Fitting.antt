@@ -1,4 +1,5 @@
--- An entry fits where its body is small and it writes and claims what its kind may: its other fields are in their ranges, as their types have it.
+-- An entry fits where its body is small and it writes and claims what its kind may: its other
+-- fields are in their ranges, as their types have it.
 use Rattle.std.proofs.Common.{◌≡◌, ℕ, ◌<◌, ◌^◌, ◌==◌, nat_lt, nat_le, List, length, Bool, true, false, ◌&&◌, ◌||◌, refl, ◌∙◌, sym, arith}
 use Rattle.std.specs.List.{list_all}
 use Rattle.std.proofs.lemmas.Bool.{and_from}

@@ -1,4 +1,4 @@
--- What is read of enough bytes is read of them with more behind.
+-- What is read of enough bytes is read of them with more after it.
 use Rattle.std.proofs.Common.{◌≡◌, ℕ, ◌+◌, ◌≤◌, nat_lt, nat_le, ◌==◌, Bool, true, false, List, ◌∷◌, ◌++◌, length, take, drop, Option, None, Some, Result, Ok, Err, refl, sym, ap, ◌∙◌, length-append, length-drop, arith}
 use Rattle.std.proofs.lemmas.Bool.Decides.{nat_tests}
 use Rattle.std.proofs.lemmas.List.{take-append-le}
@@ -13,16 +13,16 @@ use Rattle.gl_entry.specs.declared.entry.Entry.{Entry}
 use Rattle.gl_entry.specs.declared.fault.EntryFault.{EntryFault}
 use Rattle.gl_entry.specs.declared.fault.EntryFault.TheVariants as faults
 use Rattle.gl_entry.specs.Entry.{body_limit}
-use Rattle.gl_entry.specs.Reading.{entry_field, required, whole_body, size_at, frame_at}
+use Rattle.gl_entry.specs.Parsing.{entry_field, required, whole_body, size_at, frame_at}
 use Rattle.gl_entry.specs.Stream.{next_entry, size_wanted, wanted}
 use Rattle.gl_entry.proofs.EntryLaws.{entry_field_ok}
 use Rattle.gl_entry.proofs.Ordered.{required_ok}
 
--- The same bytes to be read, with more behind them.
+-- The same bytes to be read, with more after them.
 abbrev pub with_more : List ℕ → Unread → Unread
 with_more more unread = record { at = unread.at; bytes = unread.bytes ++ more }
 
--- The same reading, with more bytes behind what it leaves.
+-- The same reading, with more bytes after what it leaves.
 abbrev pub leaving : {A E : Type 0} → List ℕ → Result (A × Unread) E → Result (A × Unread) E
 leaving more (Ok read) = Ok (read.0, with_more more read.1)
 leaving more (Err fault) = Err fault
@@ -54,10 +54,10 @@ bytes_at-more : (count : ℕ) (more : List ℕ) (old : Unread) → count ≤ len
 bytes_at-more count more old enough =
     let long = length-append old.bytes more in
     let grown = bytes_at-enough count (with_more more old) (omega (arith, long)) in
-    let front : take count (old.bytes ++ more) ≡ take count old.bytes = take-append-le count old.bytes more enough in
+    let prefix : take count (old.bytes ++ more) ≡ take count old.bytes = take-append-le count old.bytes more enough in
     let back : drop count (old.bytes ++ more) ≡ drop count old.bytes ++ more = drop-append-le count old.bytes more enough in
     grown
-    ∙ ap (λ (xs : List ℕ). Ok (xs, record { at = old.at + count; bytes = drop count (old.bytes ++ more) })) front
+    ∙ ap (λ (xs : List ℕ). Ok (xs, record { at = old.at + count; bytes = drop count (old.bytes ++ more) })) prefix
     ∙ ap (λ (xs : List ℕ). Ok (take count old.bytes, record { at = old.at + count; bytes = xs })) back
     ∙ sym (ap (leaving {E = CutFault} more) (bytes_at-enough count old enough))
 
@@ -127,7 +127,7 @@ frame_at-more more old enough =
 
 -- ---- the next entry
 
--- The next entry with more bytes behind it.
+-- The next entry with more bytes after it.
 abbrev pub next_leaving : List ℕ → Result (Option (Entry × List ℕ)) EntryFault → Result (Option (Entry × List ℕ)) EntryFault
 next_leaving more (Ok None) = Ok None
 next_leaving more (Ok (Some next)) = Ok (Some (next.0, next.1 ++ more))

@@ -11,7 +11,7 @@ use Rattle.gl_entry.specs.declared.fault.EntryFault.{EntryFault}
 use Rattle.gl_base.specs.declared.or_no_memory.OrNoMemory.{OrNoMemory}
 use Rattle.gl_base.specs.declared.or_no_memory.OrNoMemory.TheVariants as errors
 use Rattle.gl_base.specs.Answers.{Fails}
-use Rattle.gl_entry.specs.Reading.{row_of, write_at, writes_from}
+use Rattle.gl_entry.specs.Parsing.{row_of, write_at, writes_from}
 
 -- the last of the writes, if there is one
 abbrev pub last_of : List Write → Option Write
@@ -28,39 +28,39 @@ abbrev Reading : Type 0
 Reading = Result (List Write × Unread) EntryFault
 
 -- what was read before, and what is still read
-abbrev pub with_front : List Write → Reading → Reading
-with_front front read = read >>= λ x. Ok (front ++ x.0, x.1)
+abbrev pub with_prefix : List Write → Reading → Reading
+with_prefix prefix read = read >>= λ x. Ok (prefix ++ x.0, x.1)
 
-regroup : (front : List Write) (w : Write) (read : Reading) → with_front front (read >>= λ x. Ok (w ∷ x.0, x.1)) ≡ with_front (front ++ w ∷ []) read
-regroup front w (Ok x) = ap (λ (ws : List Write). Ok (ws, x.1)) (simp append_assoc)
-regroup front w (Err f) = refl
+regroup : (prefix : List Write) (w : Write) (read : Reading) → with_prefix prefix (read >>= λ x. Ok (w ∷ x.0, x.1)) ≡ with_prefix (prefix ++ w ∷ []) read
+regroup prefix w (Ok x) = ap (λ (ws : List Write). Ok (ws, x.1)) (simp append_assoc)
+regroup prefix w (Err f) = refl
 
--- the writes from the one behind these on
-abbrev pub behind : List Write → ℕ → ℕ → Unread → Reading
-behind front count i unread = with_front front (writes_from (i + 1) (row_of (last_of front)) (count - i) unread)
+-- the writes from the one after these on
+abbrev pub suffix : List Write → ℕ → ℕ → Unread → Reading
+suffix prefix count i unread = with_prefix prefix (writes_from (i + 1) (row_of (last_of prefix)) (count - i) unread)
 
-pub goes_on : (front : List Write) (count i : ℕ) (old new : Unread) (w : Write) (total : Reading) → i < count → write_at (i + 1) (row_of (last_of front)) old ≡ Ok (w, new)
-    → behind front count i old ≡ total → behind (front ++ w ∷ []) count (i + 1) new ≡ total
+pub goes_on : (prefix : List Write) (count i : ℕ) (old new : Unread) (w : Write) (total : Reading) → i < count → write_at (i + 1) (row_of (last_of prefix)) old ≡ Ok (w, new)
+    → suffix prefix count i old ≡ total → suffix (prefix ++ w ∷ []) count (i + 1) new ≡ total
 unfolding writes_from
-goes_on front count i old new w total lt h so_far =
+goes_on prefix count i old new w total lt h so_far =
     let k : count - i ≡ suc (count - (i + 1)) = omega arith in
     let next : suc (i + 1) ≡ i + 1 + 1 = omega arith in
-    let row : Some (w.map, w.key) ≡ row_of (last_of (front ++ w ∷ [])) = ap row_of (sym (last_of-push front w)) in
-    let one : behind front count i old ≡ behind (front ++ w ∷ []) count (i + 1) new = rw (k, h, next, row) (regroup front w (writes_from (i + 1 + 1) (row_of (last_of (front ++ w ∷ []))) (count - (i + 1)) new)) in
+    let row : Some (w.map, w.key) ≡ row_of (last_of (prefix ++ w ∷ [])) = ap row_of (sym (last_of-push prefix w)) in
+    let one : suffix prefix count i old ≡ suffix (prefix ++ w ∷ []) count (i + 1) new = rw (k, h, next, row) (regroup prefix w (writes_from (i + 1 + 1) (row_of (last_of (prefix ++ w ∷ []))) (count - (i + 1)) new)) in
     sym one ∙ so_far
 
-pub ends : (e : OrNoMemory EntryFault) (front : List Write) (count i : ℕ) (old : Unread) (total : Reading) → i < count → Fails e (write_at (i + 1) (row_of (last_of front)) old)
-    → behind front count i old ≡ total → Fails e total
+pub ends : (e : OrNoMemory EntryFault) (prefix : List Write) (count i : ℕ) (old : Unread) (total : Reading) → i < count → Fails e (write_at (i + 1) (row_of (last_of prefix)) old)
+    → suffix prefix count i old ≡ total → Fails e total
 unfolding writes_from
-ends errors.NoMemory front count i old total lt h so_far = tt
-ends (errors.Fault f) front count i old total lt h so_far =
+ends errors.NoMemory prefix count i old total lt h so_far = tt
+ends (errors.Fault f) prefix count i old total lt h so_far =
     let k : count - i ≡ suc (count - (i + 1)) = omega arith in
-    let one : behind front count i old ≡ Err f = rw (k, h) refl in
+    let one : suffix prefix count i old ≡ Err f = rw (k, h) refl in
     sym so_far ∙ one
 
-pub is_done : (front : List Write) (count i : ℕ) (old : Unread) (total : Reading) → count ≤ i → behind front count i old ≡ total → total ≡ Ok (front, old)
+pub is_done : (prefix : List Write) (count i : ℕ) (old : Unread) (total : Reading) → count ≤ i → suffix prefix count i old ≡ total → total ≡ Ok (prefix, old)
 unfolding writes_from
-is_done front count i old total le so_far =
+is_done prefix count i old total le so_far =
     let k : count - i ≡ 0 = omega arith in
-    let one : behind front count i old ≡ Ok (front, old) = rw k (ap (λ (ws : List Write). Ok (ws, old)) (append-nil front)) in
+    let one : suffix prefix count i old ≡ Ok (prefix, old) = rw k (ap (λ (ws : List Write). Ok (ws, old)) (append-nil prefix)) in
     sym so_far ∙ one

@@ -1,4 +1,4 @@
--- std's bytes of a number are those by which it is spelled here.
+-- std's bytes of a number are those by which it is encoded here.
 use Rattle.std.proofs.Common.{rules, ◌≡◌, ℕ, w32, w64}
 use Rattle.std.specs.Int.{to_le_bytes}
 use Rattle.gl_base.specs.LittleEndian.{little_endian}

@@ -18,7 +18,7 @@ pub ruleset signature_size = (length-signature_bytes)
 
 pub ruleset field_size = (length-append, length-little_endian)
 
--- Its fields, one behind the other, behind their size.
+-- Its fields, one after the other, after their size.
 pub signature_fields : (out : List ℕ) (n : ℕ) (s : signatures.Signature) → n ≡ length (signature_bytes s) →
     ((((out ++ little_endian 4 n) ++ s.node) ++ little_endian 8 s.commit) ++ s.root) ++ with_u32_length s.signature ≡ out ++ with_u32_length (signature_bytes s)
 signature_fields out n s e = rw e (simp append_assoc)

@@ -37,7 +37,7 @@ recorded_commit (content.Application b) = 0
 recorded_commit (content.Signature s) = s.commit
 recorded_commit (content.Evidence d) = 0
 
--- The byte that spells what kind of entry it is.
+-- The byte that encodes what kind of entry it is.
 abbrev pub kind_tag : Content → ℕ
 kind_tag (content.Governance b) = 1
 kind_tag (content.Application b) = 2
@@ -59,8 +59,8 @@ content_bytes (content.Evidence d) = d
 abbrev pub write_bytes : Write → List ℕ
 write_bytes w = map_name_bytes w.map ++ key_bytes w.key ++ optional_value_bytes w.value
 
--- The body of an entry's frame: view, place, what it records, its writes behind their count, and
--- its claims.
+-- The body of an entry's frame: view, place, what it records, its writes after their count, and its
+-- claims.
 abbrev pub body_bytes : Entry → List ℕ
 body_bytes e =
     little_endian 4 e.view ++ little_endian 8 e.seqno

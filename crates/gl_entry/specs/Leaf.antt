@@ -35,6 +35,6 @@ abbrev pub leaf_of : List ℕ → Entry → List ℕ
 leaf_of identity e =
     leaf_of_components (sha256 (body_bytes e)) (sha256 (evidence_text identity (id_of e))) e.claims
 
--- The hasher was fed with these bytes behind what it held.
+-- The hasher was fed with these bytes after what it held.
 abbrev pub Feeds : Sha256 → Sha256 → List ℕ → Type 0
 Feeds old new bytes = (message : List ℕ) → Holds256 old message → Holds256 new (message ++ bytes)

@@ -1,8 +1,8 @@
 pub mod Entry
 pub mod Leaf
-pub mod Reading
+pub mod Parsing
 pub mod SignedMessage
 pub mod Stream
-pub mod Given
+pub mod SourceBytes
 pub mod LedgerFile
 pub mod FileReading

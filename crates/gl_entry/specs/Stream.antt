@@ -1,14 +1,14 @@
--- The entries of a ledger's bytes, one frame behind the other.
+-- The entries of a ledger's bytes, one frame after the other.
 use Rattle.std.specs.Prelude.{◌≡◌, ◌⊎◌, ℕ, ◌+◌, ◌≤◌, List, [], ◌∷◌, ◌++◌, Bool, true, Option, None, Some, Result, Ok, Err, length}
 use Rattle.std.specs.Io.KnownBytes.{IsAtEnd}
 use Rattle.gl_base.specs.Steps.{◌>>=◌}
 use Rattle.gl_base.specs.Code.{unread_of}
 use Rattle.gl_base.specs.Cut.{Unread}
-use Rattle.gl_entry.specs.Reading.{size_at, frame_at}
+use Rattle.gl_entry.specs.Parsing.{size_at, frame_at}
 use Rattle.gl_entry.specs.declared.entry.Entry.{Entry}
 use Rattle.gl_entry.specs.declared.fault.EntryFault.{EntryFault}
 
--- The next entry of a ledger of which these bytes are left, and the bytes behind its frame; none
+-- The next entry of a ledger of which these bytes are left, and the bytes after its frame; none
 -- where no bytes are left.
 unfoldable pub next_entry : List ℕ → Result (Option (Entry × List ℕ)) EntryFault
 next_entry [] = Ok None
@@ -21,7 +21,7 @@ abbrev pub to_read : List ℕ → Option (List ℕ) → Option (List ℕ)
 to_read kept None = None
 to_read kept (Some left) = Some (kept ++ left)
 
--- The next entry of these bytes, or none where there are none, and what is left behind it.
+-- The next entry of these bytes, or none where there are none, and what is left after it.
 abbrev pub GivesNext : List ℕ → Option Entry → Option (List ℕ) → Type 0
 GivesNext bytes None left = bytes ≡ []
 GivesNext bytes (Some e) left =
@@ -43,7 +43,7 @@ wanted bytes = size_wanted (size_at (unread_of bytes))
 abbrev pub IsSettled : List ℕ → Option (List ℕ) → Bool → Type 0
 IsSettled kept left ended = (wanted kept ≤ length kept) ⊎ (IsAtEnd left × (ended ≡ true))
 
--- The next entry was taken from the front of the bytes, if there are any.
+-- The next entry was taken from the start of the bytes, if there are any.
 abbrev pub TakesNext : List ℕ → Option Entry → List ℕ → Type 0
 TakesNext old None new = (old ≡ []) × (new ≡ [])
 TakesNext old (Some e) new = next_entry old ≡ Ok (Some (e, new))

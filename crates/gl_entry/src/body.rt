@@ -4,7 +4,7 @@ ghost use Rattle.std.specs.Prelude.{◌≡◌, ◌+◌, ◌^◌, ◌<◌, length
 ghost use Rattle.gl_base.specs.Answers.{Answers};
 ghost use Rattle.gl_base.specs.Cut.{Gives, string_at};
 ghost use Rattle.gl_entry.specs.Entry.{body_limit, content_bytes, body_bytes, is_no_digest, may_write, may_claim};
-ghost use Rattle.gl_entry.specs.Reading.{kind_at, content_at, claims_at, body_at};
+ghost use Rattle.gl_entry.specs.Parsing.{kind_at, content_at, claims_at, body_at};
 
 use crate::contents::{content_of, kind_tag, put_content, read_digest};
 use crate::entry::{BODY_LIMIT, Content, Digest, Entry};
@@ -33,7 +33,7 @@ impl Entry {
     }
 }
 
-#[tactic(auto, unfolding(crate::specs::Reading::kind_at))]
+#[tactic(auto, unfolding(crate::specs::Parsing::kind_at))]
 fn read_kind(cut: &mut Cut<'_>) -> Result<u8, OrNoMemory<EntryFault>>
     ensures { Answers (λ kind. (kind, cut.new)) result (kind_at cut.old) }
 {
@@ -57,7 +57,7 @@ fn read_request<'a>(cut: &mut Cut<'a>) -> Result<(usize, &'a [u8]), CutFault>
     Ok((cut.at() - request.len(), request))
 }
 
-#[tactic(auto, unfolding(crate::specs::Reading::content_at))]
+#[tactic(auto, unfolding(crate::specs::Parsing::content_at))]
 fn read_content(alloc: Global, cut: &mut Cut<'_>) -> Result<Content, OrNoMemory<EntryFault>>
     ensures { Answers (λ content. (content, cut.new)) result (content_at cut.old) }
 {
@@ -72,7 +72,7 @@ pub(crate) fn is_no_digest(digest: &Digest) -> bool
     same_bytes(digest, &[0; 32])
 }
 
-#[tactic(auto, unfolding(crate::specs::Reading::claims_at))]
+#[tactic(auto, unfolding(crate::specs::Parsing::claims_at))]
 fn read_claims(cut: &mut Cut<'_>, may_claim: bool) -> Result<Digest, OrNoMemory<EntryFault>>
     ensures { Answers (λ claims. (claims, cut.new)) result (claims_at may_claim cut.old) }
 {
@@ -97,7 +97,7 @@ pub(crate) fn may_claim(content: &Content) -> bool
 }
 
 /// Reads a body.
-#[tactic(auto, unfolding(crate::specs::Reading::body_at))]
+#[tactic(auto, unfolding(crate::specs::Parsing::body_at))]
 pub(crate) fn read_body(alloc: Global, cut: &mut Cut<'_>) -> Result<Entry, OrNoMemory<EntryFault>>
     ensures { Answers (λ entry. (entry, cut.new)) result (body_at cut.old) }
 {

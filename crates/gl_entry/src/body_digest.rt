@@ -24,7 +24,7 @@ fn feed_len(hasher: &mut Sha256, len: usize)
     hasher.update(&[a, b, c, d]);
 }
 
-/// Feeds bytes behind their length.
+/// Feeds bytes after their length.
 fn feed_sized(hasher: &mut Sha256, bytes: &[u8])
     ensures { Feeds hasher.old hasher.new (with_u32_length bytes.now) }
 {
@@ -32,7 +32,7 @@ fn feed_sized(hasher: &mut Sha256, bytes: &[u8])
     hasher.update(bytes);
 }
 
-/// Feeds what a signature records behind its length.
+/// Feeds what a signature records after its length.
 #[tactic(auto, unfolding(gl_base::specs::LittleEndian::little_endian))]
 fn feed_signature(hasher: &mut Sha256, signature: &Signature)
     ensures { Feeds hasher.old hasher.new (with_u32_length (signature_bytes signature.now)) }
@@ -108,7 +108,7 @@ impl Entry {
     }
 }
 
-/// The SHA-256 digest of the bytes of writes behind their count, as they stand in a body. Takes no
+/// The SHA-256 digest of the bytes of writes after their count, as they stand in a body. Takes no
 /// memory.
 pub fn writes_digest(writes: &[Write]) -> Digest
     ensures { result

@@ -31,8 +31,8 @@ impl Model for ReadBuffer {
     ghost invariant = { λ k. k.start ≤ length k.buffer.items };
 }
 
-/// Moves what stands behind the first bytes to the front, in their place.
-fn drop_front(buffer: &mut Vec<u8>, count: usize)
+/// Moves what stands after the first bytes to the start, in their place.
+fn drop_prefix(buffer: &mut Vec<u8>, count: usize)
     requires { count ≤ length buffer.old.items }
     ensures { buffer.new.items ≡ drop count buffer.old.items }
 {
@@ -60,8 +60,8 @@ fn read_piece<S: Source>(source: &mut S, buffer: &mut Vec<u8>) -> Result<Got, Al
     let mut piece = [0; PIECE];
     let got = source.read(&mut piece);
     if let Got::Bytes(count) = got {
-        let (front, _) = piece.split_at(count);
-        buffer.extend_from_slice(front)?;
+        let (prefix, _) = piece.split_at(count);
+        buffer.extend_from_slice(prefix)?;
     }
     Ok(got)
 }
@@ -85,7 +85,7 @@ impl ReadBuffer {
         rest
     }
 
-    /// Takes bytes from the front. Moves none.
+    /// Takes bytes from the start. Moves none.
     pub(crate) fn take(&mut self, count: usize)
         requires { count ≤ length self.old }
         ensures { self.new ≡ drop count self.old }
@@ -93,8 +93,8 @@ impl ReadBuffer {
         self.start += count;
     }
 
-    /// Reads one piece behind the others. Where memory runs out nothing was read. The bytes move to
-    /// the front of the buffer, if any were taken since the last read.
+    /// Reads one piece after the others. Where memory runs out nothing was read. The bytes move to
+    /// the start of the buffer, if any were taken since the last read.
     pub(crate) fn read_from<S: Source>(&mut self, source: &mut S) -> Result<Got, AllocError>
         ensures kept { Keeps (to_read self.old (S.left source.old))
             (to_read self.new (S.left source.new)) }
@@ -105,7 +105,7 @@ impl ReadBuffer {
         ensures quiet { (result ≡ Ok Got.Failed → ⊥) → S.faults source.new ≡ S.faults source.old }
         ensures never_falls { S.faults source.old ≤ S.faults source.new }
     {
-        drop_front(&mut self.buffer, self.start);
+        drop_prefix(&mut self.buffer, self.start);
         self.start = 0;
         read_piece(source, &mut self.buffer)
     }

@@ -1,5 +1,5 @@
 //! What an entry records, as bytes both ways. Numbers have their least significant byte first, and
-//! bytes of no fixed length stand behind their length.
+//! bytes of no fixed length stand after their length.
 
 ghost use Rattle.std.specs.Prelude.{◌≡◌, ◌+◌, ◌++◌, ◌^◌, ◌<◌, length, IfOk, OnOk};
 ghost use Rattle.gl_base.specs.Answers.{Answers};
@@ -7,7 +7,7 @@ ghost use Rattle.gl_base.specs.Cut.{Gives, bytes_at};
 ghost use Rattle.gl_base.specs.Code.{whole_at};
 ghost use Rattle.gl_base.specs.Field.{with_u32_length};
 ghost use Rattle.gl_entry.specs.Entry.{kind_tag, recorded_commit, signature_bytes, content_bytes};
-ghost use Rattle.gl_entry.specs.Reading.{signature_at, evidence_at, content_of};
+ghost use Rattle.gl_entry.specs.Parsing.{signature_at, evidence_at, content_of};
 
 use crate::entry::{BODY_LIMIT, Content, Digest, Signature};
 use gl_base::{
@@ -55,7 +55,7 @@ pub(crate) fn signature_len(signature: &Signature) -> u32
     signature_size(signature) as u32
 }
 
-/// Writes what a signature records behind its length.
+/// Writes what a signature records after its length.
 #[tactic(auto, using(crate::proofs::Sizes::signature_size))]
 fn put_signature(out: &mut Vec<u8>, signature: &Signature) -> Result<(), AllocError>
     requires { length (signature_bytes signature.now) < 2 ^ 32 }
@@ -70,7 +70,7 @@ fn put_signature(out: &mut Vec<u8>, signature: &Signature) -> Result<(), AllocEr
     Ok(())
 }
 
-/// Writes what an entry records behind its length.
+/// Writes what an entry records after its length.
 pub(crate) fn put_content(out: &mut Vec<u8>, content: &Content) -> Result<(), AllocError>
     requires { length (content_bytes content.now) < 2 ^ 32 }
     ensures { OnOk result (out.new.items ≡
@@ -100,7 +100,7 @@ pub(crate) fn read_digest(cut: &mut Cut<'_>) -> Result<Digest, CutFault>
     Ok(digest)
 }
 
-#[tactic(auto, unfolding(crate::specs::Reading::signature_at))]
+#[tactic(auto, unfolding(crate::specs::Parsing::signature_at))]
 fn read_signature(alloc: Global, cut: &mut Cut<'_>) -> Result<Content, OrNoMemory<CodeFault>>
     ensures { Answers (λ content. (content, cut.new)) result (signature_at cut.old) }
 {
@@ -116,7 +116,7 @@ fn read_signature(alloc: Global, cut: &mut Cut<'_>) -> Result<Content, OrNoMemor
     }))
 }
 
-#[tactic(auto, unfolding(crate::specs::Reading::evidence_at))]
+#[tactic(auto, unfolding(crate::specs::Parsing::evidence_at))]
 fn read_evidence(cut: &mut Cut<'_>) -> Result<Content, CodeFault>
     ensures { Gives (λ content. content) result cut.old cut.new (evidence_at cut.old) }
 {
@@ -145,7 +145,7 @@ fn evidence_of(place: usize, bytes: &[u8]) -> Result<Content, OrNoMemory<CodeFau
 
 /// What an entry of this kind, 1 to 4, records, from all of the bytes of its request, the first of
 /// which stands at this place.
-#[tactic(auto, unfolding(crate::specs::Reading::content_of))]
+#[tactic(auto, unfolding(crate::specs::Parsing::content_of))]
 pub(crate) fn content_of(
     alloc: Global,
     kind: u8,

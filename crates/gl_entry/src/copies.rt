@@ -1,4 +1,4 @@
-//! Entries in memory of their own. A copy fails for want of memory alone.
+//! Entries in memory of their own. A copy fails only where memory runs out.
 
 ghost use Rattle.std.specs.Prelude.{◌≡◌, IfOk};
 

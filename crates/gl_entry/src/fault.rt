@@ -30,7 +30,7 @@ pub enum EntryFault {
     /// The body's size is above 1 MiB.
     #[error("the body of {size} bytes is too large")]
     Size { size: u64 },
-    /// The write with this number, counted from 1, does not stand behind the one before it.
+    /// The write with this number, counted from 1, does not stand after the one before it.
     #[error("the write {index} is out of order")]
     Writes { index: u32 },
 }

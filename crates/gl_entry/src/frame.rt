@@ -4,7 +4,7 @@ ghost use Rattle.std.specs.Prelude.{◌≡◌, ◌+◌, ◌++◌, ◌<◌, ◌�
 ghost use Rattle.gl_base.specs.Answers.{Answers};
 ghost use Rattle.gl_base.specs.Cut.{Gives, bytes_at};
 ghost use Rattle.gl_entry.specs.Entry.{body_limit, body_bytes, is_entry, frame_bytes, frame_size};
-ghost use Rattle.gl_entry.specs.Reading.{size_at, whole_body, frame_at, entry_at, first_entry};
+ghost use Rattle.gl_entry.specs.Parsing.{size_at, whole_body, frame_at, entry_at, first_entry};
 ghost use Rattle.gl_entry.specs.declared.entry.Entry.{Entry as EntryValue};
 
 use crate::body::read_body;
@@ -13,8 +13,8 @@ use crate::fault::EntryFault;
 use gl_base::{Cut, CutFault, OrNoMemory, put_bytes, put_u48};
 use std::alloc::{AllocError, Global};
 
-/// Reads the size of the body, behind the version and the flags.
-#[tactic(auto, unfolding(crate::specs::Reading::size_at))]
+/// Reads the size of the body, after the version and the flags.
+#[tactic(auto, unfolding(crate::specs::Parsing::size_at))]
 pub(crate) fn read_size(cut: &mut Cut<'_>) -> Result<u64, EntryFault>
     ensures exact { MatchResult result
         (λ size. size_at cut.old ≡ Ok (size, cut.new)) (λ fault. size_at cut.old ≡ Err fault) }
@@ -56,7 +56,7 @@ fn read_span<'a>(cut: &mut Cut<'a>, size: u64) -> Result<(usize, &'a [u8]), CutF
     Ok((cut.at() - body.len(), body))
 }
 
-#[tactic(auto, unfolding(crate::specs::Reading::frame_at))]
+#[tactic(auto, unfolding(crate::specs::Parsing::frame_at))]
 fn read_frame(alloc: Global, cut: &mut Cut<'_>) -> Result<Entry, OrNoMemory<EntryFault>>
     ensures { Answers (λ entry. (entry, cut.new)) result (frame_at cut.old) }
 {
@@ -80,7 +80,7 @@ fn read_first(
 }
 
 impl Entry {
-    /// The bytes of the frame: the body behind a version, flags and its size.
+    /// The bytes of the frame: the body after a version, flags and its size.
     #[tactic(auto, using(crate::proofs::Sizes::content_within, crate::proofs::Sizes::writes_counted))]
     pub fn encode(&self, alloc: Global) -> Result<Vec<u8>, AllocError>
         requires { length (body_bytes self.now) ≤ body_limit }
@@ -96,11 +96,11 @@ impl Entry {
     /// The entry whose frame the bytes begin with, and how many bytes the frame has. Bytes may
     /// follow.
     pub fn decode(alloc: Global, bytes: &[u8]) -> Result<(Self, usize), OrNoMemory<EntryFault>>
-        // What is read is spelled so.
+        // What is read is encoded so.
         ensures found { IfOk result (λ read. IsTrue (is_entry read.0)
             × (read.1 ≡ frame_size read.0)
             × (rest : List ℕ) × (bytes.now ≡ frame_bytes read.0 ++ rest)) }
-        // What is spelled so is read, whatever follows it, unless memory runs out.
+        // What is encoded so is read, whatever follows it, unless memory runs out.
         ensures only { (e : EntryValue) (rest : List ℕ) → IsTrue (is_entry e) →
             bytes.now ≡ frame_bytes e ++ rest →
             Answers (λ read. read) result (Ok (e, frame_size e)) }
@@ -130,7 +130,7 @@ impl Entry {
     }
 }
 
-/// No frame is a proper front of another.
+/// No frame is a proper prefix of another.
 pub fn one_frame()
     ensures { (e f : EntryValue) (x y : List ℕ) → IsTrue (is_entry e) → IsTrue (is_entry f) →
         frame_bytes e ++ x ≡ frame_bytes f ++ y → (e ≡ f) × (x ≡ y) }

@@ -49,35 +49,35 @@ fn evidence_digits(identity: &[u8; 60], id: TxId) -> [u8; 64]
     digits
 }
 
-/// What stands behind the piece at the front of the text, if it does stand there.
-fn behind<'a>(text: &'a [u8], piece: &[u8]) -> Option<&'a [u8]>
+/// What stands after the piece at the start of the text, if it does stand there.
+fn suffix<'a>(text: &'a [u8], piece: &[u8]) -> Option<&'a [u8]>
     ensures some { IfSome result (λ rest. text.now ≡ piece.now ++ rest.now) }
     ensures none { IfNone result ((rest : List ℕ) → text.now ≢ piece.now ++ rest) }
 {
     text.strip_prefix(piece)
 }
 
-/// What stands behind the text of the identifier.
-fn behind_id<'a>(text: &'a [u8], id: TxId) -> Option<&'a [u8]>
+/// What stands after the text of the identifier.
+fn after_id<'a>(text: &'a [u8], id: TxId) -> Option<&'a [u8]>
     ensures some { IfSome result (λ rest. text.now ≡ text_of id ++ rest.now) }
     ensures none { IfNone result ((rest : List ℕ) → text.now ≢ text_of id ++ rest) }
 {
     let mut buffer = Buffer::new();
-    let rest = behind(text, buffer.format(id.view).as_bytes())?;
-    let rest = behind(rest, b".")?;
-    behind(rest, buffer.format(id.seqno).as_bytes())
+    let rest = suffix(text, buffer.format(id.view).as_bytes())?;
+    let rest = suffix(rest, b".")?;
+    suffix(rest, buffer.format(id.seqno).as_bytes())
 }
 
-/// What stands behind `ce:`, the identifier and `:`.
-fn behind_evidence_id<'a>(text: &'a [u8], id: TxId) -> Option<&'a [u8]>
+/// What stands after `ce:`, the identifier and `:`.
+fn after_evidence_id<'a>(text: &'a [u8], id: TxId) -> Option<&'a [u8]>
     ensures some { IfSome result (λ rest.
         text.now ≡ codes "ce:" ++ text_of id ++ codes ":" ++ rest.now) }
     ensures none { IfNone result ((rest : List ℕ) →
         text.now ≢ codes "ce:" ++ text_of id ++ codes ":" ++ rest) }
 {
-    let rest = behind(text, b"ce:")?;
-    let rest = behind_id(rest, id)?;
-    behind(rest, b":")
+    let rest = suffix(text, b"ce:")?;
+    let rest = after_id(rest, id)?;
+    suffix(rest, b":")
 }
 
 /// Whether the text is the commit evidence of this transaction of the service with this key. Takes
@@ -85,7 +85,7 @@ fn behind_evidence_id<'a>(text: &'a [u8], id: TxId) -> Option<&'a [u8]>
 pub fn is_evidence(text: &[u8], identity: &[u8; 60], id: TxId) -> bool
     ensures { IsTrue result ↔ (text.now ≡ evidence_text identity.now id) }
 {
-    match behind_evidence_id(text, id) {
+    match after_evidence_id(text, id) {
         None => false,
         Some(digits) => same_bytes(digits, &evidence_digits(identity, id)),
     }

@@ -12,12 +12,12 @@ pub fn signed_message(root: &Digest, view: u32, seqno: u64, commit: u64) -> [u8;
     ensures { result ≡ signed_message root.now view seqno commit }
 {
     let mut message = [0; 52];
-    let (front, rest) = message.split_at_mut(32);
-    front.copy_from_slice(root);
-    let (front, rest) = rest.split_at_mut(4);
-    front.copy_from_slice(&view.to_le_bytes());
-    let (front, rest) = rest.split_at_mut(8);
-    front.copy_from_slice(&seqno.to_le_bytes());
+    let (prefix, rest) = message.split_at_mut(32);
+    prefix.copy_from_slice(root);
+    let (prefix, rest) = rest.split_at_mut(4);
+    prefix.copy_from_slice(&view.to_le_bytes());
+    let (prefix, rest) = rest.split_at_mut(8);
+    prefix.copy_from_slice(&seqno.to_le_bytes());
     rest.copy_from_slice(&commit.to_le_bytes());
     message
 }

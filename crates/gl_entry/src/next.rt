@@ -29,9 +29,9 @@ pub enum Next {
     Unread,
 }
 
-/// What the file goes on with that a source gives, behind the bytes that were read and are kept:
-/// its next entry, its end, or bytes that are no frame. It ends where the source gave its end and
-/// no byte is left. Bytes that are no frame stay where they are: the next call tells them again. A
+/// What the file goes on with that a source gives, after the bytes that were read and are kept: its
+/// next entry, its end, or bytes that are no frame. It ends where the source gave its end and no
+/// byte is left. Bytes that are no frame stay where they are: the next call tells them again. A
 /// source that failed counted that, and has lost nothing of what it told; nor is anything lost
 /// where memory runs out.
 pub fn read_next<S: Source>(

@@ -117,7 +117,7 @@ pub fn read_entry<S: Source>(
     }
 }
 
-/// Reads the entries of a ledger from a source, one frame behind the other, whatever pieces the
+/// Reads the entries of a ledger from a source, one frame after the other, whatever pieces the
 /// source gives. It keeps the bytes that it has read and not yet taken.
 #[derive(Debug, Drop)]
 pub struct LedgerReader<S> {

@@ -7,7 +7,7 @@ ghost use Rattle.gl_base.specs.Answers.{Answers};
 ghost use Rattle.gl_base.specs.Row.{optional_value_at};
 ghost use Rattle.gl_vmaps.specs.Writes.{is_ordered};
 ghost use Rattle.gl_entry.specs.Entry.{write_bytes};
-ghost use Rattle.gl_entry.specs.Reading.{part, row_of, is_behind, removal_of, write_at, writes_from, writes_at};
+ghost use Rattle.gl_entry.specs.Parsing.{part, row_of, is_after, removal_of, write_at, writes_from, writes_at};
 
 use crate::fault::EntryFault;
 use gl_base::{CodeFault, Cut, OrNoMemory, put_key, put_map_name, put_optional_value, put_u32};
@@ -43,9 +43,9 @@ pub(crate) fn refused(at: usize) -> OrNoMemory<EntryFault>
     OrNoMemory::Fault(EntryFault::Code(CodeFault::Value { at }))
 }
 
-fn is_behind(before: Option<&Write>, map: &MapName, key: &Key) -> bool
+fn is_after(before: Option<&Write>, map: &MapName, key: &Key) -> bool
     ensures { result ≡
-        is_behind (row_of (option_copied before.entry)) (removal_of map.now key.now) }
+        is_after (row_of (option_copied before.entry)) (removal_of map.now key.now) }
 {
     match before {
         None => true,
@@ -69,8 +69,8 @@ fn read_value(alloc: Global, cut: &mut Cut<'_>) -> Result<Option<Value>, OrNoMem
     }
 }
 
-/// Reads the write with this number, which stands behind the one before it.
-#[tactic(auto, unfolding(crate::specs::Reading::write_at))]
+/// Reads the write with this number, which stands after the one before it.
+#[tactic(auto, unfolding(crate::specs::Parsing::write_at))]
 fn read_write(
     alloc: Global,
     cut: &mut Cut<'_>,
@@ -82,7 +82,7 @@ fn read_write(
 {
     let map = MapName::from_slice(alloc, cut.map_name()?)?;
     let key = Key::from_slice(alloc, cut.key()?)?;
-    if !is_behind(before, &map, &key) {
+    if !is_after(before, &map, &key) {
         return Err(OrNoMemory::Fault(EntryFault::Writes { index: number }));
     }
     let value = read_value(alloc, cut)?;
@@ -106,8 +106,8 @@ fn read_rows(
     Ok(writes)
 }
 
-/// Reads the writes behind their count.
-#[tactic(auto, unfolding(crate::specs::Reading::writes_at))]
+/// Reads the writes after their count.
+#[tactic(auto, unfolding(crate::specs::Parsing::writes_at))]
 pub(crate) fn read_writes(
     alloc: Global,
     cut: &mut Cut<'_>,

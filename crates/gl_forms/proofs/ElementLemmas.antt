@@ -12,7 +12,7 @@ use Rattle.gl_base.specs.declared.or_no_memory.OrNoMemory.{OrNoMemory}
 use Rattle.gl_base.specs.declared.or_no_memory.OrNoMemory.TheVariants.{NoMemory, Fault}
 use Rattle.gl_forms.specs.Form.{elements_from}
 
--- what is read, behind the elements that are done
+-- what is read, after the elements that are done
 abbrev pub after : {X : Type 0} → List X → Result (List X) FormsFault → Result (List X) FormsFault
 after done (Ok rest) = Ok (done ++ rest)
 after done (Err fault) = Err fault

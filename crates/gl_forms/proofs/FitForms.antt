@@ -23,7 +23,7 @@ use Rattle.gl_forms.specs.Key.{one_key_in, has_endorsement, node_key_names, opti
 use Rattle.gl_forms.specs.Ranges.{is_endorsement, is_key}
 use Rattle.gl_forms.specs.declared.key.KeyForm.{KeyForm}
 use Rattle.gl_forms.specs.Settings.{state_named, state_in, settings_names, settings_in, recovery_in}
-use Rattle.gl_forms.proofs.FitLemmas.{Fits, gives, fails, behind, behind_any, weaker, at_place, either, IsIn, number_fits, IsSized, sized_fits, IsSignature, endorsement_fits, FormFits, Listed, list_fits}
+use Rattle.gl_forms.proofs.FitLemmas.{Fits, gives, fails, suffix, after_any, weaker, at_place, either, IsIn, number_fits, IsSized, sized_fits, IsSignature, endorsement_fits, FormFits, Listed, list_fits}
 
 -- ---- members of objects
 
@@ -54,72 +54,72 @@ counted_is is xs h =
 member_fits : FormFits is_member member_in
 unfolding member_in
 member_fits place value =
-    behind_any (object_at place (codes "key" ∷ codes "number" ∷ []) value) (λ only.
-    behind (sized_member 60 place (codes "key") value) (λ key key_is.
-    behind (number_member 1 255 place (codes "number") value) (λ number number_is.
+    after_any (object_at place (codes "key" ∷ codes "number" ∷ []) value) (λ only.
+    suffix (sized_member 60 place (codes "key") value) (λ key key_is.
+    suffix (number_member 1 255 place (codes "number") value) (λ number number_is.
     gives (and_from (is_member_number number) (are_sized 60 key) (byte_is 1 number number_is) key_is))))
 
 node_fits : FormFits is_node node_in
 unfolding node_in
 node_fits place value =
-    behind_any (object_at place (codes "endorsement" ∷ codes "key" ∷ []) value) (λ only.
-    behind (endorsement_member place (codes "endorsement") value) (λ endorsement endorsement_is.
-    behind (sized_member 56 place (codes "key") value) (λ key key_is.
+    after_any (object_at place (codes "endorsement" ∷ codes "key" ∷ []) value) (λ only.
+    suffix (endorsement_member place (codes "endorsement") value) (λ endorsement endorsement_is.
+    suffix (sized_member 56 place (codes "key") value) (λ key key_is.
     gives (and_from (are_sized 56 key) (is_signature_field endorsement) key_is endorsement_is))))
 
 share_fits : FormFits is_share share_in
 unfolding share_in
 share_fits place value =
-    behind_any (object_at place (codes "digest" ∷ codes "member" ∷ []) value) (λ only.
-    behind (sized_member 32 place (codes "digest") value) (λ digest digest_is.
-    behind (number_member 1 255 place (codes "member") value) (λ holder holder_is.
+    after_any (object_at place (codes "digest" ∷ codes "member" ∷ []) value) (λ only.
+    suffix (sized_member 32 place (codes "digest") value) (λ digest digest_is.
+    suffix (number_member 1 255 place (codes "member") value) (λ holder holder_is.
     gives (and_from (is_member_number holder) (is_digest digest) (byte_is 1 holder holder_is) digest_is))))
 
 dealing_fits : FormFits is_dealing dealing_in
 unfolding dealing_in
 dealing_fits place value =
-    behind_any (object_at place dealing_names value) (λ only.
-    behind (sized_member 32 place (codes "secret_digest") value) (λ secret secret_is.
-    behind (list_fits share_in is_share share_fits 0 255 place (codes "shares") value) (λ shares shares_are.
-    behind (number_member 0 255 place (codes "threshold") value) (λ threshold threshold_is.
+    after_any (object_at place dealing_names value) (λ only.
+    suffix (sized_member 32 place (codes "secret_digest") value) (λ secret secret_is.
+    suffix (list_fits share_in is_share share_fits 0 255 place (codes "shares") value) (λ shares shares_are.
+    suffix (number_member 0 255 place (codes "threshold") value) (λ threshold threshold_is.
     let byte = (and_parts (nat_le 0 threshold) (is_byte threshold) (byte_is 0 threshold threshold_is)).1 in
     let first = and_from (is_byte threshold) (is_digest secret) byte secret_is in
     gives (and_from (is_byte threshold && is_digest secret) (are_counted is_share shares) first (counted_is is_share shares shares_are))))))
 
 dealing_member : (name : List ℕ) → FormFits is_dealing (λ place. dealing_at place name)
 unfolding dealing_at
-dealing_member name place value = behind_any (member_at value_in place name value) (λ dealing. dealing_fits (member_of place name) dealing)
+dealing_member name place value = after_any (member_at value_in place name value) (λ dealing. dealing_fits (member_of place name) dealing)
 
 -- ---- actions
 
 set_member_fits : FormFits is_action set_member_in
 unfolding set_member_in
-set_member_fits place args = behind (member_fits place args) (λ new is. gives is)
+set_member_fits place args = suffix (member_fits place args) (λ new is. gives is)
 
 remove_member_fits : FormFits is_action remove_member_in
 unfolding remove_member_in
 remove_member_fits place args =
-    behind_any (object_at place (codes "number" ∷ []) args) (λ only. behind (number_member 1 255 place (codes "number") args) (λ number is. gives (byte_is 1 number is)))
+    after_any (object_at place (codes "number" ∷ []) args) (λ only. suffix (number_member 1 255 place (codes "number") args) (λ number is. gives (byte_is 1 number is)))
 
 set_threshold_fits : FormFits is_action set_threshold_in
 unfolding set_threshold_in
-set_threshold_fits place args = behind (dealing_fits place args) (λ dealing is. gives is)
+set_threshold_fits place args = suffix (dealing_fits place args) (λ dealing is. gives is)
 
 node_id_fits : FormFits is_digest node_id_in
 unfolding node_id_in
-node_id_fits place args = behind_any (object_at place (codes "node" ∷ []) args) (λ only. sized_member 32 place (codes "node") args)
+node_id_fits place args = after_any (object_at place (codes "node" ∷ []) args) (λ only. sized_member 32 place (codes "node") args)
 
 trust_node_fits : FormFits is_action trust_node_in
 unfolding trust_node_in
-trust_node_fits place args = behind (node_id_fits place args) (λ id is. gives is)
+trust_node_fits place args = suffix (node_id_fits place args) (λ id is. gives is)
 
 remove_node_fits : FormFits is_action remove_node_in
 unfolding remove_node_in
-remove_node_fits place args = behind (node_id_fits place args) (λ id is. gives is)
+remove_node_fits place args = suffix (node_id_fits place args) (λ id is. gives is)
 
 open_service_fits : FormFits is_action open_service_in
 unfolding open_service_in
-open_service_fits place args = behind_any (object_at place [] args) (λ only. gives refl)
+open_service_fits place args = after_any (object_at place [] args) (λ only. gives refl)
 
 half_fits : (place : List ℕ) (index : ℕ) (pair : Data) → Fits (IsIn 0 65535) (half_at place index pair)
 half_fits place index pair = at_place (item_of place index) (number_fits 0 65535 (element index pair))
@@ -127,9 +127,9 @@ half_fits place index pair = at_place (item_of place index) (number_fits 0 65535
 rule_fits : (name : List ℕ) → FormFits is_rule (λ place. rule_at place name)
 unfolding rule_at
 rule_fits name place value =
-    behind_any (member_at pair_in place name value) (λ pair.
-    behind (half_fits (member_of place name) 0 pair) (λ num num_is.
-    behind (half_fits (member_of place name) 1 pair) (λ den den_is.
+    after_any (member_at pair_in place name value) (λ pair.
+    suffix (half_fits (member_of place name) 0 pair) (λ num num_is.
+    suffix (half_fits (member_of place name) 1 pair) (λ den den_is.
     gives (and_from (nat_lt num 65536) (nat_lt den 65536) (half_is num num_is) (half_is den den_is)))))
 
 -- as many rules as names
@@ -141,23 +141,23 @@ rules_of_fits : (place : List ℕ) (names : List (List ℕ)) (value : Data) → 
 unfolding rules_of
 rules_of_fits place [] value = gives (record { count = refl; all = refl })
 rules_of_fits place (name ∷ names) value =
-    behind (rule_fits name place value) (λ rule rule_is.
-    behind (rules_of_fits place names value) (λ rules are.
+    suffix (rule_fits name place value) (λ rule rule_is.
+    suffix (rules_of_fits place names value) (λ rules are.
     gives (record { count = ap suc are.count; all = and_from (is_rule rule) (list_all is_rule rules) rule_is are.all })))
 
 rules_fit : FormFits are_rules rules_in
 unfolding rules_in
 rules_fit place value =
-    behind_any (object_at place action_names value) (λ only.
+    after_any (object_at place action_names value) (λ only.
     weaker (rules_of_fits place action_names value) (λ rules are.
     and_from (length rules == 7) (list_all is_rule rules) (eq-eqb (length rules) 7 are.count) are.all))
 
 set_constitution_fits : FormFits is_action set_constitution_in
 unfolding set_constitution_in
 set_constitution_fits place args =
-    behind_any (object_at place (codes "rules" ∷ []) args) (λ only.
-    behind_any (member_at value_in place (codes "rules") args) (λ object.
-    behind (rules_fit (member_of place (codes "rules")) object) (λ rules are. gives are)))
+    after_any (object_at place (codes "rules" ∷ []) args) (λ only.
+    after_any (member_at value_in place (codes "rules") args) (λ object.
+    suffix (rules_fit (member_of place (codes "rules")) object) (λ rules are. gives are)))
 
 action_named_fits : (named name : List ℕ) → FormFits is_action (action_named named name)
 unfolding action_named
@@ -173,9 +173,9 @@ action_named_fits named name place args =
 action_fits : FormFits is_action action_in
 unfolding action_in
 action_fits place value =
-    behind_any (object_at place (codes "args" ∷ codes "name" ∷ []) value) (λ only.
-    behind_any (member_at some_object_in place (codes "args") value) (λ args.
-    behind_any (member_at text_in place (codes "name") value) (λ name.
+    after_any (object_at place (codes "args" ∷ codes "name" ∷ []) value) (λ only.
+    after_any (member_at some_object_in place (codes "args") value) (λ args.
+    after_any (member_at text_in place (codes "name") value) (λ name.
     action_named_fits (member_of place (codes "name")) name (member_of place (codes "args")) args)))
 
 actions_are : (list : List Action) → Listed is_action 1 16 list → are_actions list ≡ true
@@ -195,26 +195,26 @@ IsAct a = is_act a ≡ true
 
 ack_fits : (value : Data) → Fits IsAct (ack_in value)
 unfolding ack_in
-ack_fits value = behind_any (object_at [] (codes "op" ∷ []) value) (λ only. gives refl)
+ack_fits value = after_any (object_at [] (codes "op" ∷ []) value) (λ only. gives refl)
 
 propose_fits : (value : Data) → Fits IsAct (propose_in value)
 unfolding propose_in
-propose_fits value = behind_any (object_at [] (codes "actions" ∷ codes "op" ∷ []) value) (λ only. behind (actions_fit value) (λ list are. gives are))
+propose_fits value = after_any (object_at [] (codes "actions" ∷ codes "op" ∷ []) value) (λ only. suffix (actions_fit value) (λ list are. gives are))
 
 ballot_fits : (value : Data) → Fits IsAct (ballot_in value)
 unfolding ballot_in
 ballot_fits value =
-    behind_any (object_at [] (codes "op" ∷ codes "proposal_id" ∷ codes "vote" ∷ []) value) (λ only.
-    behind (sized_member 32 [] (codes "proposal_id") value) (λ id is.
-    behind_any (member_at flag_in [] (codes "vote") value) (λ vote. gives is)))
+    after_any (object_at [] (codes "op" ∷ codes "proposal_id" ∷ codes "vote" ∷ []) value) (λ only.
+    suffix (sized_member 32 [] (codes "proposal_id") value) (λ id is.
+    after_any (member_at flag_in [] (codes "vote") value) (λ vote. gives is)))
 
 withdraw_fits : (value : Data) → Fits IsAct (withdraw_in value)
 unfolding withdraw_in
-withdraw_fits value = behind_any (object_at [] (codes "op" ∷ codes "proposal_id" ∷ []) value) (λ only. behind (sized_member 32 [] (codes "proposal_id") value) (λ id is. gives is))
+withdraw_fits value = after_any (object_at [] (codes "op" ∷ codes "proposal_id" ∷ []) value) (λ only. suffix (sized_member 32 [] (codes "proposal_id") value) (λ id is. gives is))
 
 share_act_fits : (value : Data) → Fits IsAct (share_act_in value)
 unfolding share_act_in
-share_act_fits value = behind_any (object_at [] (codes "op" ∷ codes "share" ∷ []) value) (λ only. behind (sized_member 32 [] (codes "share") value) (λ share is. gives is))
+share_act_fits value = after_any (object_at [] (codes "op" ∷ codes "share" ∷ []) value) (λ only. suffix (sized_member 32 [] (codes "share") value) (λ share is. gives is))
 
 act_named_fits : (op : List ℕ) (value : Data) → Fits IsAct (act_named op value)
 unfolding act_named
@@ -227,7 +227,7 @@ act_named_fits op value =
 
 pub act_fits : (value : Data) → Fits IsAct (act_in value)
 unfolding act_in
-act_fits value = behind_any (word_at [] (codes "op") value) (λ op. act_named_fits op value)
+act_fits value = after_any (word_at [] (codes "op") value) (λ op. act_named_fits op value)
 
 -- ---- settings
 
@@ -238,7 +238,7 @@ state_named_fits : (name : List ℕ) → Fits IsFirst (state_named name)
 state_named_fits name = either (same_bytes name (codes "open")) (gives refl) (either (same_bytes name (codes "opening")) (gives refl) fails)
 
 state_member : (name : List ℕ) (value : Data) → Fits IsFirst (member_at state_in [] name value)
-state_member name value = at_place (member_of [] name) (behind_any (text_in (get name value)) state_named_fits)
+state_member name value = at_place (member_of [] name) (after_any (text_in (get name value)) state_named_fits)
 
 genesis_is : (state : ServiceState) (identity : List ℕ) (nodes : List NewNode) (members : List NewMember) (dealing : Dealing)
     → IsFirst state → IsSized 60 identity → are_counted is_node nodes ≡ true → are_counted is_member members ≡ true → is_dealing dealing ≡ true
@@ -252,21 +252,21 @@ genesis_is state identity nodes members dealing a b c d e =
 pub settings_fit : (value : Data) → Fits (λ g. is_genesis g ≡ true) (settings_in value)
 unfolding settings_in
 settings_fit value =
-    behind_any (object_at [] settings_names value) (λ only.
-    behind (dealing_member (codes "dealing") [] value) (λ dealing dealing_is.
-    behind (sized_member 60 [] (codes "identity") value) (λ identity identity_is.
-    behind (list_fits member_in is_member member_fits 0 255 [] (codes "members") value) (λ members members_are.
-    behind (list_fits node_in is_node node_fits 0 255 [] (codes "nodes") value) (λ nodes nodes_are.
-    behind (state_member (codes "state") value) (λ state state_is.
+    after_any (object_at [] settings_names value) (λ only.
+    suffix (dealing_member (codes "dealing") [] value) (λ dealing dealing_is.
+    suffix (sized_member 60 [] (codes "identity") value) (λ identity identity_is.
+    suffix (list_fits member_in is_member member_fits 0 255 [] (codes "members") value) (λ members members_are.
+    suffix (list_fits node_in is_node node_fits 0 255 [] (codes "nodes") value) (λ nodes nodes_are.
+    suffix (state_member (codes "state") value) (λ state state_is.
     gives (genesis_is state identity nodes members dealing state_is identity_is
     (counted_is is_node nodes nodes_are) (counted_is is_member members members_are) dealing_is)))))))
 
 pub recovery_fits : (value : Data) → Fits (λ r. is_recovery r ≡ true) (recovery_in value)
 unfolding recovery_in
 recovery_fits value =
-    behind_any (object_at [] (codes "identity" ∷ codes "nodes" ∷ []) value) (λ only.
-    behind (sized_member 60 [] (codes "identity") value) (λ identity identity_is.
-    behind (list_fits node_in is_node node_fits 0 255 [] (codes "nodes") value) (λ nodes nodes_are.
+    after_any (object_at [] (codes "identity" ∷ codes "nodes" ∷ []) value) (λ only.
+    suffix (sized_member 60 [] (codes "identity") value) (λ identity identity_is.
+    suffix (list_fits node_in is_node node_fits 0 255 [] (codes "nodes") value) (λ nodes nodes_are.
     gives (and_from (are_sized 60 identity) (are_counted is_node nodes) identity_is (counted_is is_node nodes nodes_are)))))
 
 -- ---- keys
@@ -276,7 +276,7 @@ IsKeyForm k = is_key k ≡ true
 
 one_key_fits : (value : Data) → Fits (IsSized 60) (one_key_in value)
 unfolding one_key_in
-one_key_fits value = behind_any (object_at [] (codes "key" ∷ codes "kind" ∷ []) value) (λ only. sized_member 60 [] (codes "key") value)
+one_key_fits value = after_any (object_at [] (codes "key" ∷ codes "kind" ∷ []) value) (λ only. sized_member 60 [] (codes "key") value)
 
 abbrev IsEndorsement : Option (List ℕ) → Type 0
 IsEndorsement e = is_endorsement e ≡ true
@@ -284,24 +284,24 @@ IsEndorsement e = is_endorsement e ≡ true
 optional_fits : (value : Data) → Fits IsEndorsement (optional_endorsement_in value)
 unfolding optional_endorsement_in
 optional_fits value =
-    either (has_endorsement value) (behind (endorsement_member [] (codes "endorsement") value) (λ bytes is. gives is)) (gives refl)
+    either (has_endorsement value) (suffix (endorsement_member [] (codes "endorsement") value) (λ bytes is. gives is)) (gives refl)
 
 node_key_fits : (value : Data) → Fits IsKeyForm (node_key_in value)
 unfolding node_key_in
 node_key_fits value =
-    behind_any (object_at [] (node_key_names (has_endorsement value)) value) (λ only.
-    behind (optional_fits value) (λ endorsement endorsement_is.
-    behind (sized_member 56 [] (codes "key") value) (λ key key_is.
-    behind (sized_member 32 [] (codes "node") value) (λ id id_is.
+    after_any (object_at [] (node_key_names (has_endorsement value)) value) (λ only.
+    suffix (optional_fits value) (λ endorsement endorsement_is.
+    suffix (sized_member 56 [] (codes "key") value) (λ key key_is.
+    suffix (sized_member 32 [] (codes "node") value) (λ id id_is.
     gives (and_from (are_sized 56 key && is_digest id) (is_endorsement endorsement) (and_from (are_sized 56 key) (is_digest id) key_is id_is) endorsement_is)))))
 
 key_of_kind_fits : (kind : List ℕ) (value : Data) → Fits IsKeyForm (key_of_kind kind value)
 unfolding key_of_kind
 key_of_kind_fits kind value =
-    either (same_bytes kind (codes "service")) (behind (one_key_fits value) (λ key is. gives is))
-    (either (same_bytes kind (codes "member")) (behind (one_key_fits value) (λ key is. gives is))
+    either (same_bytes kind (codes "service")) (suffix (one_key_fits value) (λ key is. gives is))
+    (either (same_bytes kind (codes "member")) (suffix (one_key_fits value) (λ key is. gives is))
     (either (same_bytes kind (codes "node")) (node_key_fits value) fails))
 
 pub key_fits : (value : Data) → Fits IsKeyForm (key_in value)
 unfolding key_in
-key_fits value = behind_any (word_at [] (codes "kind") value) (λ kind. key_of_kind_fits kind value)
+key_fits value = after_any (word_at [] (codes "kind") value) (λ kind. key_of_kind_fits kind value)

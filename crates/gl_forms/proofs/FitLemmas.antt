@@ -19,8 +19,8 @@ use Rattle.gl_base.specs.declared.or_no_memory.OrNoMemory.{OrNoMemory}
 use Rattle.gl_base.proofs.ByteLists.{are_bytes-true}
 use Rattle.gl_requests.specs.Ranges.{is_signature_field}
 use Rattle.gl_forms.specs.Form.{text_in, number_in, has_so_many, list_in, is_lower_digit, lower_digits, decoded, sized_in, not_too_long, long_digits_in, endorsement_in, at, elements_from, list_at}
-use Rattle.gl_forms.specs.declared.misfit.Misfit.{Misfit}
-use Rattle.gl_forms.specs.declared.misfit.Misfit.TheVariants.{Shape, Hex}
+use Rattle.gl_forms.specs.declared.form_error.FormError.{FormError}
+use Rattle.gl_forms.specs.declared.form_error.FormError.TheVariants.{Shape, Hex}
 
 -- ---- readings
 
@@ -34,16 +34,16 @@ gives h = record { holds = h }
 pub fails : {X E : Type 0} {P : X → Type 0} {e : E} → Fits {X = X} {E = E} P (Err e)
 fails = record { holds = tt }
 
--- a reading behind one of which something holds
-pub behind : {A B E : Type 0} {P : A → Type 0} {Q : B → Type 0} {r : Result A E} {f : A → Result B E} → Fits P r
+-- a reading after one of which something holds
+pub suffix : {A B E : Type 0} {P : A → Type 0} {Q : B → Type 0} {r : Result A E} {f : A → Result B E} → Fits P r
     → ((x : A) → P x → Fits Q (f x)) → Fits Q (r >>= f)
-behind {r = Ok x} h each = each x h.holds
-behind {r = Err e} h each = fails
+suffix {r = Ok x} h each = each x h.holds
+suffix {r = Err e} h each = fails
 
--- a reading behind any
-pub behind_any : {A B E : Type 0} {Q : B → Type 0} {f : A → Result B E} → (r : Result A E) → ((x : A) → Fits Q (f x)) → Fits Q (r >>= f)
-behind_any (Ok x) each = each x
-behind_any (Err e) each = fails
+-- a reading after any
+pub after_any : {A B E : Type 0} {Q : B → Type 0} {f : A → Result B E} → (r : Result A E) → ((x : A) → Fits Q (f x)) → Fits Q (r >>= f)
+after_any (Ok x) each = each x
+after_any (Err e) each = fails
 
 -- what follows of a reading's value
 pub weaker : {A E : Type 0} {P Q : A → Type 0} {r : Result A E} → Fits P r → ((x : A) → P x → Q x) → Fits Q r
@@ -51,7 +51,7 @@ weaker {r = Ok x} h each = gives (each x h.holds)
 weaker {r = Err e} h each = fails
 
 -- a reading of a value, at its place
-pub at_place : {X : Type 0} {P : X → Type 0} {r : Result X Misfit} → (path : List ℕ) → Fits P r → Fits P (at path r)
+pub at_place : {X : Type 0} {P : X → Type 0} {r : Result X FormError} → (path : List ℕ) → Fits P r → Fits P (at path r)
 at_place {r = Ok x} path h = gives h.holds
 at_place {r = Err e} path h = fails
 
@@ -77,7 +77,7 @@ IsIn low high n = (nat_le low n && nat_le n high) ≡ true
 
 pub number_fits : (low high : ℕ) (value : Option Data) → Fits (IsIn low high) (number_in low high value)
 number_fits low high value =
-    behind_any (ok_or (option_and_then as_u64 (option_and_then as_number value)) Shape) (λ n. if_passes (nat_le low n && nat_le n high) n Shape (λ e. e))
+    after_any (ok_or (option_and_then as_u64 (option_and_then as_number value)) Shape) (λ n. if_passes (nat_le low n && nat_le n high) n Shape (λ e. e))
 
 -- ---- hexadecimal
 
@@ -97,7 +97,7 @@ sized_is digits size bytes e =
 
 pub sized_fits : (size : ℕ) (value : Option Data) → Fits (IsSized size) (sized_in size value)
 sized_fits size value =
-    behind_any (text_in value >>= lower_digits) (λ digits. decoded_fits {P = IsSized size} (decode_sized digits size) (sized_is digits size))
+    after_any (text_in value >>= lower_digits) (λ digits. decoded_fits {P = IsSized size} (decode_sized digits size) (sized_is digits size))
 
 -- not too long for 1 MiB of bytes
 abbrev IsShort : List ℕ → Type 0
@@ -106,8 +106,8 @@ IsShort text = length text ≤ 2 * mebibyte
 long_fits : (value : Option Data) → Fits IsShort (long_digits_in value)
 long_fits value =
     let bound : Fits IsShort (text_in value >>= not_too_long) =
-    behind_any (text_in value) (λ text. if_passes (nat_le (length text) (2 * mebibyte)) text Shape (λ e. grind (arith, nat_tests, e)))
-    in behind bound (λ text h. if_passes (list_all is_lower_digit text) text Hex (λ e. h))
+    after_any (text_in value) (λ text. if_passes (nat_le (length text) (2 * mebibyte)) text Shape (λ e. grind (arith, nat_tests, e)))
+    in suffix bound (λ text h. if_passes (list_all is_lower_digit text) text Hex (λ e. h))
 
 abbrev pub IsSignature : List ℕ → Type 0
 IsSignature bytes = is_signature_field bytes ≡ true
@@ -120,7 +120,7 @@ short_is digits bytes short e =
     and_from (are_bytes bytes) (nat_le (length bytes) mebibyte) (are_bytes-true bytes ok.3) test
 
 pub endorsement_fits : (value : Option Data) → Fits IsSignature (endorsement_in value)
-endorsement_fits value = behind (long_fits value) (λ digits short. decoded_fits {P = IsSignature} (decode_of digits) (λ bytes. short_is digits bytes short))
+endorsement_fits value = suffix (long_fits value) (λ digits short. decoded_fits {P = IsSignature} (decode_of digits) (λ bytes. short_is digits bytes short))
 
 -- ---- lists
 
@@ -138,8 +138,8 @@ elements_fit : {X : Type 0} → (form : List ℕ → Data → Result X FormsFaul
 unfolding elements_from
 elements_fit form is each place index no_items = gives (record { count = refl; all = refl })
 elements_fit form is each place index (item value values) =
-    behind (each (item_of place index) value) (λ x h.
-    behind (elements_fit form is each place (suc index) values) (λ xs k.
+    suffix (each (item_of place index) value) (λ x h.
+    suffix (elements_fit form is each place (suc index) values) (λ xs k.
     gives (record { count = ap suc k.count; all = and_from (is x) (list_all is xs) h k.all })))
 
 -- a list of low to high elements within their ranges
@@ -159,12 +159,12 @@ count_is low high values e =
 
 counted_fits : (low high : ℕ) (value : Option Data) → Fits (IsCount low high) (list_in low high value)
 counted_fits low high value =
-    behind_any (ok_or (option_and_then as_array value) Shape) (λ values. if_passes (has_so_many low high values) values Shape (count_is low high values))
+    after_any (ok_or (option_and_then as_array value) Shape) (λ values. if_passes (has_so_many low high values) values Shape (count_is low high values))
 
 pub list_fits : {X : Type 0} → (form : List ℕ → Data → Result X FormsFault) (is : X → Bool) → FormFits is form
     → (low high : ℕ) (place name : List ℕ) (value : Data) → Fits (Listed is low high) (list_at form low high place name value)
 unfolding list_at
 list_fits form is each low high place name value =
-    behind (at_place (member_of place name) (counted_fits low high (get name value))) (λ values count.
+    suffix (at_place (member_of place name) (counted_fits low high (get name value))) (λ values count.
     weaker (elements_fit form is each (member_of place name) 0 values) (λ xs h.
     record { least = omega (arith, count.least, h.count); most = omega (arith, count.most, h.count); all = h.all }))

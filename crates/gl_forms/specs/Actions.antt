@@ -94,7 +94,7 @@ action_named named name place args =
     else (if same_bytes name (codes "set_constitution") then set_constitution_in place args
     else Err (faults.Shape named)))))))
 
--- An action: that its arguments are an object comes before its name, and they come behind it.
+-- An action: that its arguments are an object comes before its name, and they come after it.
 unfoldable pub action_in : List ℕ → Data → Result Action FormsFault
 action_in place value = do
   only ← object_at place (codes "args" ∷ codes "name" ∷ []) value

@@ -71,7 +71,7 @@ one_key_tree kind key = object (
     )
     )
 
--- The members of a node's key behind its endorsement.
+-- The members of a node's key after its endorsement.
 abbrev pub node_key_members : List ℕ → List ℕ → Members
 node_key_members key id =
     member (codes "key") (hex_tree key) (

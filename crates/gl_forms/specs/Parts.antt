@@ -6,7 +6,7 @@ use Rattle.serde_json.specs.Data.{Data}
 use Rattle.gl_base.specs.Json.{member_of}
 use Rattle.gl_base.specs.Steps.{◌>>=◌}
 use Rattle.gl_base.specs.declared.json.FormsFault.{FormsFault}
-use Rattle.gl_forms.specs.declared.misfit.Misfit.{Misfit}
+use Rattle.gl_forms.specs.declared.form_error.FormError.{FormError}
 use Rattle.gl_forms.specs.Form.{value_in, number_in, sized_in, endorsement_in, object_at, member_at, list_at}
 use Rattle.gl_requests.specs.declared.genesis.NewNode.{NewNode}
 use Rattle.gl_requests.specs.declared.genesis.NewMember.{NewMember}
@@ -14,23 +14,23 @@ use Rattle.gl_requests.specs.declared.genesis.ShareDigest.{ShareDigest}
 use Rattle.gl_requests.specs.declared.genesis.Dealing.{Dealing}
 
 -- A SHA-256 digest, or an identifier that is one.
-abbrev pub digest_in : Option Data → Result (List ℕ) Misfit
+abbrev pub digest_in : Option Data → Result (List ℕ) FormError
 digest_in value = sized_in 32 value
 
 -- An HSS key, of a service or of a member.
-abbrev pub hss_key_in : Option Data → Result (List ℕ) Misfit
+abbrev pub hss_key_in : Option Data → Result (List ℕ) FormError
 hss_key_in value = sized_in 60 value
 
 -- An LMS key, of a node.
-abbrev pub lms_key_in : Option Data → Result (List ℕ) Misfit
+abbrev pub lms_key_in : Option Data → Result (List ℕ) FormError
 lms_key_in value = sized_in 56 value
 
 -- A number that a byte holds.
-abbrev pub byte_in : Option Data → Result ℕ Misfit
+abbrev pub byte_in : Option Data → Result ℕ FormError
 byte_in value = number_in 0 255 value
 
 -- The number of a member, which is not 0.
-abbrev pub member_number_in : Option Data → Result ℕ Misfit
+abbrev pub member_number_in : Option Data → Result ℕ FormError
 member_number_in value = number_in 1 255 value
 
 -- A member: its key and its number.

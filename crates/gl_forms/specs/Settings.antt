@@ -1,11 +1,11 @@
--- What founds a service, and founds it anew, in a JSON tree.
+-- What founds a service, and recovers it, in a JSON tree.
 use Rattle.std.specs.Prelude.{ℕ, List, [], ◌∷◌, codes, Option, Result, Ok, Err, if◌then◌else◌}
 use Rattle.serde_json.specs.Data.{Data}
 use Rattle.gl_base.specs.Bytes.{same_bytes}
 use Rattle.gl_base.specs.Steps.{◌>>=◌}
 use Rattle.gl_base.specs.declared.json.FormsFault.{FormsFault}
-use Rattle.gl_forms.specs.declared.misfit.Misfit.{Misfit}
-use Rattle.gl_forms.specs.declared.misfit.Misfit.TheVariants.{Shape}
+use Rattle.gl_forms.specs.declared.form_error.FormError.{FormError}
+use Rattle.gl_forms.specs.declared.form_error.FormError.TheVariants.{Shape}
 use Rattle.gl_forms.specs.Form.{text_in, object_at, member_at, list_at}
 use Rattle.gl_forms.specs.Parts.{hss_key_in, member_in, node_in, dealing_at}
 use Rattle.gl_requests.specs.declared.genesis.ServiceState.{ServiceState}
@@ -14,12 +14,12 @@ use Rattle.gl_requests.specs.declared.genesis.Genesis as founding
 use Rattle.gl_requests.specs.declared.genesis.Recovery.{Recovery}
 
 -- The state with this name. A service is founded in no other.
-abbrev pub state_named : List ℕ → Result ServiceState Misfit
+abbrev pub state_named : List ℕ → Result ServiceState FormError
 state_named name =
     if same_bytes name (codes "open") then Ok Open
     else (if same_bytes name (codes "opening") then Ok Opening else Err Shape)
 
-abbrev pub state_in : Option Data → Result ServiceState Misfit
+abbrev pub state_in : Option Data → Result ServiceState FormError
 state_in value = text_in value >>= state_named
 
 abbrev pub settings_names : List (List ℕ)
@@ -45,7 +45,7 @@ settings_in value = do
       }
       )
 
--- The settings of a service that is founded anew.
+-- The settings of a service that is recovered.
 unfoldable pub recovery_in : Data → Result Recovery FormsFault
 recovery_in value = do
   only ← object_at [] (codes "identity" ∷ codes "nodes" ∷ []) value

@@ -8,7 +8,7 @@ ghost use Rattle.gl_forms.specs.Place.{pointer_of};
 ghost use Rattle.serde_json.specs.View.{view};
 
 use crate::element::{Element, list_at};
-use crate::misfit::Misfit;
+use crate::form_error::FormError;
 use crate::object::{byte_at, half_at, object_at, sized_at, text_at, value_at};
 use crate::part::dealing_in;
 use crate::place::Place;
@@ -123,7 +123,7 @@ fn pair_at<'a>(
 {
     match pair_in(value.get(name)) {
         Ok(pair) => Ok(pair),
-        Err(misfit) => Err(misfit.at(alloc, &Place::Member(place, name))),
+        Err(form_error) => Err(form_error.at(alloc, &Place::Member(place, name))),
     }
 }
 
@@ -215,7 +215,7 @@ fn action_named(
     } else if name == "set_constitution" {
         set_constitution_in(alloc, place, args)
     } else {
-        Err(Misfit::Shape.at(alloc, named))
+        Err(FormError::Shape.at(alloc, named))
     }
 }
 
@@ -231,7 +231,7 @@ fn some_object_at<'a>(
 {
     match some_object_in(value.get(name)) {
         Ok(object) => Ok(object),
-        Err(misfit) => Err(misfit.at(alloc, &Place::Member(place, name))),
+        Err(form_error) => Err(form_error.at(alloc, &Place::Member(place, name))),
     }
 }
 

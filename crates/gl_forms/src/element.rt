@@ -68,6 +68,6 @@ pub(crate) fn list_at<T: Element>(
     let place = Place::Member(place, name);
     match list_in(value.get(name), low, high) {
         Ok(values) => Ok(Sequence::from(elements_at(alloc, &place, values)?)),
-        Err(misfit) => Err(misfit.at(alloc, &place)),
+        Err(form_error) => Err(form_error.at(alloc, &place)),
     }
 }

@@ -8,7 +8,7 @@ ghost use Rattle.gl_forms.specs.Text.{from_text};
 ghost use Rattle.gl_forms.specs.Ranges.{is_key};
 ghost use Rattle.serde_json.specs.View.{view};
 
-use crate::misfit::Misfit;
+use crate::form_error::FormError;
 use crate::object::{endorsement_at, object_at, sized_at, word_at};
 use crate::place::Place;
 use crate::tree::read_tree;
@@ -106,7 +106,7 @@ fn key_of_kind(alloc: Global, kind: &str, value: &Value) -> Result<KeyForm, OrNo
     } else if kind == "node" {
         node_key_in(alloc, value)
     } else {
-        Err(Misfit::Shape.at(alloc, &Place::Member(&Place::Whole, "kind")))
+        Err(FormError::Shape.at(alloc, &Place::Member(&Place::Whole, "kind")))
     }
 }
 

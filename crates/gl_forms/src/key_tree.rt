@@ -73,7 +73,7 @@ fn key_tree(alloc: Global, key: &KeyForm) -> Result<Value, AllocError>
 }
 
 /// The JSON text of a key, without spaces and with the object's members in the order of their
-/// names. No newline stands behind it.
+/// names. No newline stands after it.
 pub fn write_key(alloc: Global, key: &KeyForm) -> Result<Vec<u8>, AllocError>
     ensures text { IfOk result (λ t. t.items ≡ compact_text (key_tree key.now)) }
 

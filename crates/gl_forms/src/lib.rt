@@ -5,9 +5,9 @@
 
 mod action;
 mod element;
+mod form_error;
 mod key;
 mod key_tree;
-mod misfit;
 mod object;
 mod part;
 mod place;

@@ -7,7 +7,7 @@ ghost use Rattle.gl_forms.specs.Place.{pointer_of};
 ghost use Rattle.hex.specs.Hex.{decode_of};
 ghost use Rattle.serde_json.specs.View.{view};
 
-use crate::misfit::Misfit;
+use crate::form_error::FormError;
 use crate::place::Place;
 use crate::value::{
     flag_in, long_digits_in, number_in, only_members_in, sized_in, text_in, value_in,
@@ -18,16 +18,16 @@ use serde_json::Value;
 use std::alloc::Global;
 
 /// What was found in the value at a place, or its fault there.
-fn told<T>(
+fn report<T>(
     alloc: Global,
     place: &Place,
-    found: Result<T, Misfit>,
+    found: Result<T, FormError>,
 ) -> Result<T, OrNoMemory<FormsFault>>
     ensures { Answers (λ x. x) result (at (pointer_of place.now) found) }
 {
     match found {
         Ok(value) => Ok(value),
-        Err(misfit) => Err(misfit.at(alloc, place)),
+        Err(form_error) => Err(form_error.at(alloc, place)),
     }
 }
 
@@ -41,7 +41,7 @@ pub(crate) fn object_at(
     ensures { Answers (λ u. u) result
         (object_at (pointer_of place.now) (map (λ s. s.now) names.now) (view value.now)) }
 {
-    told(alloc, place, only_members_in(names, value))
+    report(alloc, place, only_members_in(names, value))
 }
 
 /// A member of the object at a place, whatever it is.
@@ -56,7 +56,7 @@ pub(crate) fn value_at<'a>(
 {
     match value_in(value.get(name)) {
         Ok(found) => Ok(found),
-        Err(misfit) => Err(misfit.at(alloc, &Place::Member(place, name))),
+        Err(form_error) => Err(form_error.at(alloc, &Place::Member(place, name))),
     }
 }
 
@@ -71,7 +71,7 @@ pub(crate) fn text_at<'a>(
 {
     match text_in(value.get(name)) {
         Ok(text) => Ok(text),
-        Err(misfit) => Err(misfit.at(alloc, &Place::Member(place, name))),
+        Err(form_error) => Err(form_error.at(alloc, &Place::Member(place, name))),
     }
 }
 
@@ -84,7 +84,7 @@ pub(crate) fn flag_at(
     ensures { Answers (λ b. b) result
         (member_at flag_in (pointer_of place.now) name.now (view value.now)) }
 {
-    told(alloc, &Place::Member(place, name), flag_in(value.get(name)))
+    report(alloc, &Place::Member(place, name), flag_in(value.get(name)))
 }
 
 /// A number from `low` that a byte holds.
@@ -100,7 +100,7 @@ pub(crate) fn byte_at(
 {
     match number_in(value.get(name), low as u64, 0xff) {
         Ok(number) => Ok(number as u8),
-        Err(misfit) => Err(misfit.at(alloc, &Place::Member(place, name))),
+        Err(form_error) => Err(form_error.at(alloc, &Place::Member(place, name))),
     }
 }
 
@@ -115,7 +115,7 @@ pub(crate) fn half_at(
 {
     match number_in(value.get(index), 0, 0xffff) {
         Ok(number) => Ok(number as u16),
-        Err(misfit) => Err(misfit.at(alloc, &Place::Item(place, index as u64))),
+        Err(form_error) => Err(form_error.at(alloc, &Place::Item(place, index as u64))),
     }
 }
 
@@ -129,7 +129,7 @@ pub(crate) fn sized_at<const N: usize>(
     ensures { Answers (λ b. b) result
         (member_at (sized_in N) (pointer_of place.now) name.now (view value.now)) }
 {
-    told(
+    report(
         alloc,
         &Place::Member(place, name),
         sized_in(value.get(name)),
@@ -144,7 +144,7 @@ fn decoded_at(alloc: Global, place: &Place, digits: &str) -> Result<Bytes, OrNoM
     match hex::decode(alloc, digits) {
         Ok(bytes) => Ok(Bytes::from(bytes)),
         Err(FromHexError::OutOfMemory) => Err(OrNoMemory::NoMemory),
-        Err(_) => Err(Misfit::Hex.at(alloc, place)),
+        Err(_) => Err(FormError::Hex.at(alloc, place)),
     }
 }
 
@@ -160,12 +160,12 @@ pub(crate) fn endorsement_at(
 {
     match long_digits_in(value.get(name)) {
         Ok(digits) => decoded_at(alloc, &Place::Member(place, name), digits),
-        Err(misfit) => Err(misfit.at(alloc, &Place::Member(place, name))),
+        Err(form_error) => Err(form_error.at(alloc, &Place::Member(place, name))),
     }
 }
 
 /// The text of a member that decides which others there are. Where it is missing the object is
-/// told.
+/// reported.
 #[tactic(auto, unfolding(crate::specs::Form::word_at))]
 pub(crate) fn word_at<'a>(
     alloc: Global,
@@ -178,6 +178,6 @@ pub(crate) fn word_at<'a>(
 {
     match value.get(name) {
         Some(_) => text_at(alloc, place, name, value),
-        None => Err(Misfit::Shape.at(alloc, place)),
+        None => Err(FormError::Shape.at(alloc, place)),
     }
 }

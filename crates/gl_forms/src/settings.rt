@@ -1,4 +1,4 @@
-//! What founds a service, and founds it anew, read from its JSON form.
+//! What founds a service, and recovers it, read from its JSON form.
 
 ghost use Rattle.std.specs.Prelude.{◌≡◌, [], true, IfOk};
 ghost use Rattle.gl_base.specs.Answers.{Answers};
@@ -9,7 +9,7 @@ ghost use Rattle.gl_requests.specs.Ranges.{is_genesis, is_recovery};
 ghost use Rattle.serde_json.specs.View.{view};
 
 use crate::element::list_at;
-use crate::misfit::Misfit;
+use crate::form_error::FormError;
 use crate::object::{object_at, sized_at, text_at};
 use crate::part::dealing_at;
 use crate::place::Place;
@@ -22,7 +22,7 @@ use std::alloc::Global;
 const SETTINGS_NAMES: [&str; 5] = ["dealing", "identity", "members", "nodes", "state"];
 
 /// The state with this name. A service is founded in no other.
-fn state_named(name: &str) -> Result<ServiceState, Misfit>
+fn state_named(name: &str) -> Result<ServiceState, FormError>
     ensures { result ≡ state_named name.now }
 {
     if name == "open" {
@@ -30,7 +30,7 @@ fn state_named(name: &str) -> Result<ServiceState, Misfit>
     } else if name == "opening" {
         Ok(ServiceState::Opening)
     } else {
-        Err(Misfit::Shape)
+        Err(FormError::Shape)
     }
 }
 
@@ -44,7 +44,7 @@ fn state_at(
     let text = text_at(alloc, &Place::Whole, name, value)?;
     match state_named(text) {
         Ok(state) => Ok(state),
-        Err(misfit) => Err(misfit.at(alloc, &Place::Member(&Place::Whole, name))),
+        Err(form_error) => Err(form_error.at(alloc, &Place::Member(&Place::Whole, name))),
     }
 }
 
@@ -87,8 +87,8 @@ pub fn read_settings(alloc: Global, text: &[u8]) -> Result<Genesis, OrNoMemory<F
     settings_in(alloc, &tree)
 }
 
-/// The settings of a service that is founded anew, of a JSON text, all of it, or the first value of
-/// it that has another form.
+/// The settings of a service that is recovered, of a JSON text, all of it, or the first value of it
+/// that has another form.
 pub fn read_recovery(alloc: Global, text: &[u8]) -> Result<Recovery, OrNoMemory<FormsFault>>
     ensures exact { Answers (λ r. r) result (from_text recovery_in text.now) }
     ensures fits { IfOk result (λ r. is_recovery r ≡ true) }

@@ -6,37 +6,37 @@ ghost use Rattle.gl_forms.specs.Form.{Finds, value_in, text_in, flag_in, number_
 ghost use Rattle.serde_json.specs.Find.{get, as_object};
 ghost use Rattle.serde_json.specs.View.{view, items_view};
 
-use crate::misfit::Misfit;
+use crate::form_error::FormError;
 use gl_base::MEBIBYTE;
 use hex::FromHex;
 use serde_json::Value;
 
-pub(crate) fn value_in(value: Option<&Value>) -> Result<&Value, Misfit>
+pub(crate) fn value_in(value: Option<&Value>) -> Result<&Value, FormError>
     ensures { Finds (λ v. view v.now) result (value_in (option_map (λ v. view v.now) value.entry)) }
 {
-    value.ok_or(Misfit::Shape)
+    value.ok_or(FormError::Shape)
 }
 
-pub(crate) fn text_in(value: Option<&Value>) -> Result<&str, Misfit>
+pub(crate) fn text_in(value: Option<&Value>) -> Result<&str, FormError>
     ensures { Finds (λ s. s.now) result (text_in (option_map (λ v. view v.now) value.entry)) }
 {
-    value.and_then(Value::as_str).ok_or(Misfit::Shape)
+    value.and_then(Value::as_str).ok_or(FormError::Shape)
 }
 
-pub(crate) fn flag_in(value: Option<&Value>) -> Result<bool, Misfit>
+pub(crate) fn flag_in(value: Option<&Value>) -> Result<bool, FormError>
     ensures { result ≡ flag_in (option_map (λ v. view v.now) value.entry) }
 {
-    value.and_then(Value::as_bool).ok_or(Misfit::Shape)
+    value.and_then(Value::as_bool).ok_or(FormError::Shape)
 }
 
 /// A number from `low` to `high`.
-pub(crate) fn number_in(value: Option<&Value>, low: u64, high: u64) -> Result<u64, Misfit>
+pub(crate) fn number_in(value: Option<&Value>, low: u64, high: u64) -> Result<u64, FormError>
     ensures value { result ≡ number_in low high (option_map (λ v. view v.now) value.entry) }
     ensures bound { IfOk result (λ n. n ≤ high) }
 {
-    let number = value.and_then(Value::as_u64).ok_or(Misfit::Shape)?;
+    let number = value.and_then(Value::as_u64).ok_or(FormError::Shape)?;
     if number < low || high < number {
-        return Err(Misfit::Shape);
+        return Err(FormError::Shape);
     }
     Ok(number)
 }
@@ -48,20 +48,24 @@ fn has_so_many(elements: &[Value], low: usize, high: usize) -> bool
 }
 
 /// The elements of a list that has from `low` to `high` of them.
-pub(crate) fn list_in(value: Option<&Value>, low: usize, high: usize) -> Result<&Vec<Value>, Misfit>
+pub(crate) fn list_in(
+    value: Option<&Value>,
+    low: usize,
+    high: usize,
+) -> Result<&Vec<Value>, FormError>
     ensures { Finds (λ v. items_view v.now.items) result
         (list_in low high (option_map (λ v. view v.now) value.entry)) }
 {
-    let elements = value.and_then(Value::as_array).ok_or(Misfit::Shape)?;
+    let elements = value.and_then(Value::as_array).ok_or(FormError::Shape)?;
     if has_so_many(elements, low, high) {
         Ok(elements)
     } else {
-        Err(Misfit::Shape)
+        Err(FormError::Shape)
     }
 }
 
 /// A list of two elements, as it is.
-pub(crate) fn pair_in(value: Option<&Value>) -> Result<&Value, Misfit>
+pub(crate) fn pair_in(value: Option<&Value>) -> Result<&Value, FormError>
     ensures { Finds (λ v. view v.now) result (pair_in (option_map (λ v. view v.now) value.entry)) }
 {
     list_in(value, 2, 2)?;
@@ -69,11 +73,11 @@ pub(crate) fn pair_in(value: Option<&Value>) -> Result<&Value, Misfit>
 }
 
 /// Some object, as it is.
-pub(crate) fn some_object_in(value: Option<&Value>) -> Result<&Value, Misfit>
+pub(crate) fn some_object_in(value: Option<&Value>) -> Result<&Value, FormError>
     ensures { Finds (λ v. view v.now) result
         (some_object_in (option_map (λ v. view v.now) value.entry)) }
 {
-    value.and_then(Value::as_object).ok_or(Misfit::Shape)?;
+    value.and_then(Value::as_object).ok_or(FormError::Shape)?;
     value_in(value)
 }
 
@@ -85,29 +89,29 @@ fn is_lower_hex(text: &[u8]) -> bool
 }
 
 /// The text, if it has digits of lower-case hexadecimal alone.
-fn lower_digits(text: &str) -> Result<&str, Misfit>
+fn lower_digits(text: &str) -> Result<&str, FormError>
     ensures { Finds (λ s. s.now) result (lower_digits text.now) }
 {
     if is_lower_hex(text.as_bytes()) {
         Ok(text)
     } else {
-        Err(Misfit::Hex)
+        Err(FormError::Hex)
     }
 }
 
 /// The text, if it is not too long for 1 MiB of bytes.
-fn not_too_long(text: &str) -> Result<&str, Misfit>
+fn not_too_long(text: &str) -> Result<&str, FormError>
     ensures { Finds (λ s. s.now) result (not_too_long text.now) }
 {
     if text.len() as u64 <= 2 * MEBIBYTE {
         Ok(text)
     } else {
-        Err(Misfit::Shape)
+        Err(FormError::Shape)
     }
 }
 
 /// The digits of lower-case hexadecimal, for at most 1 MiB of bytes, that a text is.
-pub(crate) fn long_digits_in(value: Option<&Value>) -> Result<&str, Misfit>
+pub(crate) fn long_digits_in(value: Option<&Value>) -> Result<&str, FormError>
     ensures { Finds (λ s. s.now) result
         (long_digits_in (option_map (λ v. view v.now) value.entry)) }
 {
@@ -115,11 +119,11 @@ pub(crate) fn long_digits_in(value: Option<&Value>) -> Result<&str, Misfit>
 }
 
 /// The `N` bytes of a text in lower-case hexadecimal.
-pub(crate) fn sized_in<const N: usize>(value: Option<&Value>) -> Result<[u8; N], Misfit>
+pub(crate) fn sized_in<const N: usize>(value: Option<&Value>) -> Result<[u8; N], FormError>
     ensures { result ≡ sized_in N (option_map (λ v. view v.now) value.entry) }
 {
     let digits = lower_digits(text_in(value)?)?;
-    <[u8; N] as FromHex>::from_hex(digits).map_err(|_| Misfit::Hex)
+    <[u8; N] as FromHex>::from_hex(digits).map_err(|_| FormError::Hex)
 }
 
 fn has_count(value: &Value, count: usize) -> bool
@@ -138,12 +142,12 @@ fn has_each(value: &Value, names: &[&str]) -> bool
 }
 
 /// Nothing, if the value is an object with exactly the members of these names.
-pub(crate) fn only_members_in(names: &[&str], value: &Value) -> Result<(), Misfit>
+pub(crate) fn only_members_in(names: &[&str], value: &Value) -> Result<(), FormError>
     ensures { result ≡ only_members_in (map (λ s. s.now) names.now) (view value.now) }
 {
     if has_count(value, names.len()) && has_each(value, names) {
         Ok(())
     } else {
-        Err(Misfit::Shape)
+        Err(FormError::Shape)
     }
 }

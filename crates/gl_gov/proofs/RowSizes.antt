@@ -2,7 +2,7 @@
 use Rattle.std.proofs.Common.{◌≡◌, ℕ, ◌≤◌, true, length, ◌∙◌, ap}
 use Rattle.std.specs.List.{flat_map, list_all}
 use Rattle.std.proofs.lemmas.Bool.{and_parts}
-use Rattle.gl_requests.specs.Spelling.{action_bytes}
+use Rattle.gl_requests.specs.Encoding.{action_bytes}
 use Rattle.gl_requests.specs.Ranges.{is_action_count, is_action}
 use Rattle.gl_gov_rules.specs.declared.change.RecordedNode.{RecordedNode}
 use Rattle.gl_gov_rules.specs.declared.change.Proposal.{Proposal}

@@ -31,19 +31,19 @@ pub touched_proposal : (t : Touched) (id value : List ℕ) → is_touched t (row
 unfolding is_touched
 touched_proposal t id value = refl
 
-pub touched_rule : (t : Touched) (key value : List ℕ) → is_touched t (row constitution_map key value) ≡ t.is_loud
+pub touched_rule : (t : Touched) (key value : List ℕ) → is_touched t (row constitution_map key value) ≡ t.changes_more
 unfolding is_touched
 touched_rule t key value = refl
 
-pub touched_dealing : (t : Touched) (key value : List ℕ) → is_touched t (row dealing_map key value) ≡ t.is_loud
+pub touched_dealing : (t : Touched) (key value : List ℕ) → is_touched t (row dealing_map key value) ≡ t.changes_more
 unfolding is_touched
 touched_dealing t key value = refl
 
-pub touched_service : (t : Touched) (key value : List ℕ) → is_touched t (row service_map key value) ≡ t.is_loud
+pub touched_service : (t : Touched) (key value : List ℕ) → is_touched t (row service_map key value) ≡ t.changes_more
 unfolding is_touched
 touched_service t key value = refl
 
-pub touched_share : (t : Touched) (key value : List ℕ) → is_touched t (row shares_map key value) ≡ t.is_loud
+pub touched_share : (t : Touched) (key value : List ℕ) → is_touched t (row shares_map key value) ≡ t.changes_more
 unfolding is_touched
 touched_share t key value = refl
 
@@ -164,7 +164,7 @@ none_alike_put s set ws alike is = sym (ap (set_from set) (alike ∙ ap (λ (b :
 
 -- ---- all rows
 
--- the parts are put one behind another
+-- the parts are put one after another
 put_parts : (s : Selection) (a b c d e : List Write) →
     write_set (filter (is_selected s) (a ++ b ++ c ++ d ++ e))
     ≡ set_from (set_from (set_from (set_from (set_from [] (filter (is_selected s) a)) (filter (is_selected s) b)) (filter (is_selected s) c)) (filter (is_selected s) d)) (filter (is_selected s) e)
@@ -183,8 +183,8 @@ pub rows_put : (s : Selection) (h : History) →
 unfolding all_rows
 rows_put s h =
     let a = rule_writes_of (constitution h) ++ write_of dealing_write (dealing h) in
-    let front = a ++ map member_write (member_rows h) ++ map node_write (node_rows h) ++ proposal_writes h in
-    ap (λ (ws : List Write). write_set (filter (is_selected s) ws)) (append_assoc front (write_of service_write (service_row h)) (map share_write (shares_given h)))
+    let prefix = a ++ map member_write (member_rows h) ++ map node_write (node_rows h) ++ proposal_writes h in
+    ap (λ (ws : List Write). write_set (filter (is_selected s) ws)) (append_assoc prefix (write_of service_write (service_row h)) (map share_write (shares_given h)))
     ∙ put_parts s a (map member_write (member_rows h)) (map node_write (node_rows h)) (proposal_writes h) (write_of service_write (service_row h) ++ map share_write (shares_given h))
 
 all_kept : (ws : List Write) → filter (is_selected selections.All) ws ≡ ws

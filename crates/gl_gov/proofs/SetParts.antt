@@ -1,5 +1,5 @@
--- The part of a write set that a test of map and key keeps; and rows that are the same but for such a
--- part: what turns the ones into the others turns the part of the ones into that of the others.
+-- The part of a write set that a test of map and key keeps; and rows that are the same but for such
+-- a part: what turns the ones into the others turns the part of the ones into that of the others.
 use Rattle.std.proofs.Common.{◌≡◌, ℕ, List, [], ◌∷◌, ◌++◌, map, filter, find, Option, Some, None, Bool, true, false, ◌&&◌, not, is_none, is_some, cond, refl, sym, ◌∙◌, ap, ap₂}
 use Rattle.std.specs.List.{list_all, AllByRecursion}
 use Rattle.std.specs.Option.{option_or}
@@ -9,7 +9,7 @@ use Rattle.std.proofs.lemmas.Bool.{and_parts, and_from}
 use Rattle.gl_vmaps.specs.Tables.{same_bytes, same_value}
 use Rattle.gl_vmaps.specs.Versions.{is_to_row}
 use Rattle.gl_vmaps.specs.Writes.{write_order, is_ordered, with_write, put_before}
-use Rattle.gl_vmaps.specs.LastWrite.{last_write, value_behind}
+use Rattle.gl_vmaps.specs.LastWrite.{last_write, value_after}
 use Rattle.gl_vmaps.specs.Changes.{row_in, set_from, write_set, are_rows, is_changed, is_gone, removal_of, changes}
 use Rattle.gl_vmaps.specs.declared.write.Write.{Write}
 use Rattle.gl_vmaps.proofs.LastWrites.{last_such-cons}
@@ -53,7 +53,7 @@ own_last (x ∷ xs) ordered = (
 own_value : (ws : List Write) → is_ordered ws ≡ true → AllByRecursion (λ (w : Write). row_in ws w.map w.key ≡ w.value) ws
 own_value ws ordered =
     then_all (λ (w : Write). last_write w.map w.key ws ≡ Some w) (λ (w : Write). row_in ws w.map w.key ≡ w.value) ws
-    (λ w h. row_in-last_write ws w.map w.key ∙ ap (λ (o : Option Write). value_behind o None) h) (own_last ws ordered)
+    (λ w h. row_in-last_write ws w.map w.key ∙ ap (λ (o : Option Write). value_after o None) h) (own_last ws ordered)
 
 module _ (t : Write → Bool) where
   all_kept : (P : Write → Type 0) (ws : List Write) → AllByRecursion P ws → AllByRecursion P (filter t ws)
@@ -94,7 +94,7 @@ module _ (t : Write → Bool) where
   -- so is the row's value
   row_in-kept : (name key : List ℕ) (ws : List Write) → ((w : Write) → is_to_row name key w ≡ true → t w ≡ true) → row_in (filter t ws) name key ≡ row_in ws name key
   row_in-kept name key ws keeps =
-      row_in-last_write (filter t ws) name key ∙ ap (λ (o : Option Write). value_behind o None) (last-kept name key ws keeps) ∙ sym (row_in-last_write ws name key)
+      row_in-last_write (filter t ws) name key ∙ ap (λ (o : Option Write). value_after o None) (last-kept name key ws keeps) ∙ sym (row_in-last_write ws name key)
 
 -- ---- sets
 

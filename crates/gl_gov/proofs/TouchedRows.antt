@@ -1,4 +1,5 @@
--- What a request changes of the rows is among those that it touches, so its write set is made of them.
+-- What a request changes of the rows is among those that it touches, so its write set is made of
+-- them.
 use Rattle.std.proofs.Common.{◌≡◌, ℕ, suc, List, [], ◌∷◌, ◌++◌, map, filter, filter_map, length, Option, None, Some, is_some, Bool, true, false, not, ◌||◌, ◌==◌, nat_lt, if◌then◌else◌, refl, sym, ◌∙◌, ap, ap₂, append-nil, arith}
 use Rattle.std.specs.List.{list_all, cons_option}
 use Rattle.std.specs.Cmp.Lexicographic.{bytes_decides}
@@ -8,7 +9,7 @@ use Rattle.std.proofs.lemmas.List.Elements.{filter_agree, filter_map-append}
 use Rattle.gl_vmaps.specs.Changes.{write_set, are_rows, changes}
 use Rattle.gl_vmaps.specs.declared.write.Write.{Write}
 use Rattle.gl_shares.specs.declared.share.Share.{Share}
-use Rattle.gl_requests.specs.Spelling.{node_id}
+use Rattle.gl_requests.specs.Encoding.{node_id}
 use Rattle.gl_requests.specs.declared.action.Rule.{Rule}
 use Rattle.gl_requests.specs.declared.request.GovernanceRequest.{GovernanceRequest}
 use Rattle.gl_requests.specs.declared.request.GovernanceRequest.TheVariants as requests
@@ -18,22 +19,22 @@ use Rattle.gl_gov_rules.specs.declared.change.Change.{Change}
 use Rattle.gl_gov_rules.specs.declared.change.Changed.{Changed}
 use Rattle.gl_gov_rules.specs.History.{History, last_set}
 use Rattle.gl_gov_rules.specs.Nodes.{nodes_recorded}
-use Rattle.gl_gov_rules.specs.Service.{sets_rules, constitution, sets_dealing, dealing, identity, is_recovered, service_state, last_clearing, share_in, share_behind, shares_given}
+use Rattle.gl_gov_rules.specs.Service.{sets_rules, constitution, sets_dealing, dealing, identity, is_recovered, service_state, last_clearing, share_in, share_after, shares_given}
 use Rattle.gl_gov_rules.specs.Changes.{request_changes, changes_of, changed_at, with_request, history}
 use Rattle.gl_gov_rules.specs.Rows.{rule_writes_from, rule_writes_of, write_of, dealing_write, member_rows, member_write, node_rows, node_write, proposal_writes, service_row, service_write, share_write, all_rows, rows, effect_writes}
 use Rattle.gl_gov_rules.proofs.Prefixes.{requests_with, changes_with, history-more}
-use Rattle.gl_gov_rules.proofs.HistoryLists.{nodes_behind}
+use Rattle.gl_gov_rules.proofs.HistoryLists.{nodes_after}
 use Rattle.gl_gov_rules.proofs.RowsSet.{are_rows_rows}
 use Rattle.gl_gov.specs.declared.touched.Touched.{Touched}
 use Rattle.gl_gov.specs.declared.touched.Selection.TheVariants as selections
-use Rattle.gl_gov.specs.Touched.{node_named, are_any, is_loud, touched_by, is_id_of, touches_node, is_touched, is_selected}
+use Rattle.gl_gov.specs.Touched.{node_named, are_any, changes_more, touched_by, is_id_of, touches_node, is_touched, is_selected}
 use Rattle.gl_gov.proofs.Selected.{touched_member, touched_node, touched_rule, touched_dealing, touched_service, touched_share}
 use Rattle.gl_gov.proofs.SetParts.{AsksRow, changes_of_part}
 use Rattle.gl_gov.proofs.Untouched.{left, left-append, left_none, members_left, nodes_left, proposals_left}
 
--- ---- where a request is loud, all is touched but proposals
+-- ---- where a request changes more, all is touched but proposals
 
-module _ (t : Touched) (loud : t.is_loud ≡ true) where
+module _ (t : Touched) (is_more : t.changes_more ≡ true) where
   all_made : {A : Type 0} (f : A → Write) → ((a : A) → is_touched t (f a) ≡ true) → (xs : List A) → left t (map f xs) ≡ []
   all_made {A} f each xs = left_none t (map f xs) (all xs)
     where
@@ -47,7 +48,7 @@ module _ (t : Touched) (loud : t.is_loud ≡ true) where
 
   all_rules_from : (number : ℕ) (rules : List Rule) → list_all (is_touched t) (rule_writes_from number rules) ≡ true
   all_rules_from number [] = refl
-  all_rules_from number (r ∷ rules) = and_from _ (list_all (is_touched t) (rule_writes_from (suc number) rules)) (touched_rule t _ _ ∙ loud) (all_rules_from (suc number) rules)
+  all_rules_from number (r ∷ rules) = and_from _ (list_all (is_touched t) (rule_writes_from (suc number) rules)) (touched_rule t _ _ ∙ is_more) (all_rules_from (suc number) rules)
 
   all_rules : (o : Option (List Rule)) → left t (rule_writes_of o) ≡ []
   all_rules None = refl
@@ -79,7 +80,7 @@ same_parts t h k same =
     same_append t (rule_writes_of (constitution k)) (write_of dealing_write (dealing k)) (rule_writes_of (constitution h)) (write_of dealing_write (dealing h)) same.rules same.dealt)
     same.members) same.nodes) same.proposed) same.service) same.shares
 
--- ---- a request behind a history
+-- ---- a request after a history
 
 abbrev NoShare : Option Share → Type 0
 NoShare o = o ≡ None
@@ -88,16 +89,16 @@ nothing_about : (cs : List Change) → are_any cs ≡ false → cs ≡ []
 nothing_about [] is = refl
 nothing_about (c ∷ cs) is = absurd (cc)
 
--- where it isn't loud it brings nothing about, and gives no share
-quiet_changes : (h : History) (r : Recorded) → is_loud h r ≡ false → (with_request h r).changes ≡ h.changes
-unfolding is_loud
+-- where it doesn't change more it brings nothing about, and gives no share
+quiet_changes : (h : History) (r : Recorded) → changes_more h r ≡ false → (with_request h r).changes ≡ h.changes
+unfolding changes_more
 quiet_changes h r is =
     changes_with h r
     ∙ ap (λ (cs : List Change). h.changes ++ map (changed_at r.seqno) cs) (nothing_about (changes_of h r) (or_parts (are_any (changes_of h r)) (is_some (share_in r.request)) is).0)
     ∙ append-nil h.changes
 
-no_share : (h : History) (r : Recorded) → is_loud h r ≡ false → share_in r.request ≡ None
-unfolding is_loud
+no_share : (h : History) (r : Recorded) → changes_more h r ≡ false → share_in r.request ≡ None
+unfolding changes_more
 no_share h r is = go (share_in r.request) (or_parts (are_any (changes_of h r)) (is_some (share_in r.request)) is).1
   where
     go : (o : Option Share) → is_some o ≡ false → o ≡ None
@@ -114,55 +115,55 @@ names_recorded h rs seqno (requests.Mark id) quiet = refl
 names_recorded h rs seqno (requests.Member m) quiet = refl
 
 module _ (h : History) (r : Recorded) where
-  abbrev behind : History
-  behind = with_request h r
+  abbrev after : History
+  after = with_request h r
 
   abbrev t : Touched
   t = touched_by h r
 
-  same_proposals : left t (proposal_writes behind) ≡ left t (proposal_writes h)
-  same_proposals = proposals_left h behind r (requests_with h r) t (is_loud h r) (map (changed_at r.seqno) (changes_of h r)) (changes_with h r) (quiet_changes h r) refl
+  same_proposals : left t (proposal_writes after) ≡ left t (proposal_writes h)
+  same_proposals = proposals_left h after r (requests_with h r) t (changes_more h r) (map (changed_at r.seqno) (changes_of h r)) (changes_with h r) (quiet_changes h r) refl
 
-  loud_parts : is_loud h r ≡ true → SameParts t h behind
-  loud_parts loud = record {
-    rules = all_rules t loud (constitution behind) ∙ sym (all_rules t loud (constitution h));
-    dealt = all_one t loud dealing_write (λ d. touched_dealing t _ _ ∙ loud) (dealing behind) ∙ sym (all_one t loud dealing_write (λ d. touched_dealing t _ _ ∙ loud) (dealing h));
-    members = all_made t loud member_write (λ m. touched_member t _ _ ∙ or_left (is_loud h r) _ loud) (member_rows behind) ∙ sym (all_made t loud member_write (λ m. touched_member t _ _ ∙ or_left (is_loud h r) _ loud) (member_rows h));
-    nodes = all_made t loud node_write (λ n. touched_node t _ _ ∙ or_left (is_loud h r) _ loud) (node_rows behind) ∙ sym (all_made t loud node_write (λ n. touched_node t _ _ ∙ or_left (is_loud h r) _ loud) (node_rows h));
+  changes_more_parts : changes_more h r ≡ true → SameParts t h after
+  changes_more_parts is_more = record {
+    rules = all_rules t is_more (constitution after) ∙ sym (all_rules t is_more (constitution h));
+    dealt = all_one t is_more dealing_write (λ d. touched_dealing t _ _ ∙ is_more) (dealing after) ∙ sym (all_one t is_more dealing_write (λ d. touched_dealing t _ _ ∙ is_more) (dealing h));
+    members = all_made t is_more member_write (λ m. touched_member t _ _ ∙ or_left (changes_more h r) _ is_more) (member_rows after) ∙ sym (all_made t is_more member_write (λ m. touched_member t _ _ ∙ or_left (changes_more h r) _ is_more) (member_rows h));
+    nodes = all_made t is_more node_write (λ n. touched_node t _ _ ∙ or_left (changes_more h r) _ is_more) (node_rows after) ∙ sym (all_made t is_more node_write (λ n. touched_node t _ _ ∙ or_left (changes_more h r) _ is_more) (node_rows h));
     proposed = same_proposals;
-    service = all_one t loud service_write (λ s. touched_service t _ _ ∙ loud) (service_row behind) ∙ sym (all_one t loud service_write (λ s. touched_service t _ _ ∙ loud) (service_row h));
-    shares = all_made t loud share_write (λ s. touched_share t _ _ ∙ loud) (shares_given behind) ∙ sym (all_made t loud share_write (λ s. touched_share t _ _ ∙ loud) (shares_given h));
+    service = all_one t is_more service_write (λ s. touched_service t _ _ ∙ is_more) (service_row after) ∙ sym (all_one t is_more service_write (λ s. touched_service t _ _ ∙ is_more) (service_row h));
+    shares = all_made t is_more share_write (λ s. touched_share t _ _ ∙ is_more) (shares_given after) ∙ sym (all_made t is_more share_write (λ s. touched_share t _ _ ∙ is_more) (shares_given h));
   }
 
-  module _ (calm : is_loud h r ≡ false) where
-    quiet : (behind).changes ≡ h.changes
+  module _ (calm : changes_more h r ≡ false) where
+    quiet : (after).changes ≡ h.changes
     quiet = quiet_changes h r calm
 
-    same_constitution : constitution behind ≡ constitution h
+    same_constitution : constitution after ≡ constitution h
     unfolding constitution
     same_constitution = ap (last_set sets_rules) quiet
 
-    same_dealing : dealing behind ≡ dealing h
+    same_dealing : dealing after ≡ dealing h
     unfolding dealing
     same_dealing = ap (last_set sets_dealing) quiet
 
-    same_service : service_row behind ≡ service_row h
+    same_service : service_row after ≡ service_row h
     unfolding service_row service_state is_recovered identity
     same_service = ap (λ (cs : List Changed). service_row (record { requests = []; changes = cs })) quiet
 
-    same_clearing : last_clearing behind ≡ last_clearing h
+    same_clearing : last_clearing after ≡ last_clearing h
     unfolding last_clearing
     same_clearing = ap (λ (cs : List Changed). last_clearing (record { requests = []; changes = cs })) quiet
 
-    same_shares : shares_given behind ≡ shares_given h
+    same_shares : shares_given after ≡ shares_given h
     unfolding shares_given
     same_shares =
-        ap₂ (λ (n : ℕ) (rs : List Recorded). filter_map (share_behind n) rs) same_clearing (requests_with h r)
-        ∙ filter_map-append (share_behind (last_clearing h)) h.requests (r ∷ [])
-        ∙ ap (λ (o : Option Share). filter_map (share_behind (last_clearing h)) h.requests ++ cons_option o []) none
-        ∙ append-nil (filter_map (share_behind (last_clearing h)) h.requests)
+        ap₂ (λ (n : ℕ) (rs : List Recorded). filter_map (share_after n) rs) same_clearing (requests_with h r)
+        ∙ filter_map-append (share_after (last_clearing h)) h.requests (r ∷ [])
+        ∙ ap (λ (o : Option Share). filter_map (share_after (last_clearing h)) h.requests ++ cons_option o []) none
+        ∙ append-nil (filter_map (share_after (last_clearing h)) h.requests)
       where
-        none : share_behind (last_clearing h) r ≡ None
+        none : share_after (last_clearing h) r ≡ None
         none = ap (λ (o : Option Share). if nat_lt (last_clearing h) r.seqno then o else None) (no_share h r calm) ∙ go (nat_lt (last_clearing h) r.seqno)
           where
             go : (b : Bool) → NoShare (if b then None else None)
@@ -170,7 +171,7 @@ module _ (h : History) (r : Recorded) where
             go false = refl
 
     nodes_named : list_all (λ (n : RecordedNode). touches_node t n.id) (nodes_recorded r.seqno r.request) ≡ true
-    unfolding is_loud changes_of
+    unfolding changes_more changes_of
     nodes_named =
         go (nodes_recorded r.seqno r.request) (names_recorded h (h.requests ++ r ∷ []) r.seqno r.request (or_parts (are_any (changes_of h r)) (is_some (share_in r.request)) calm).0)
       where
@@ -178,26 +179,26 @@ module _ (h : History) (r : Recorded) where
         go [] all = refl
         go (n ∷ ns) all =
             let both = and_parts (is_id_of (node_named r.request) n.id) (list_all (λ (m : RecordedNode). is_id_of (node_named r.request) m.id) ns) all in
-            and_from (touches_node t n.id) (list_all (λ (m : RecordedNode). touches_node t m.id) ns) (or_right (is_loud h r) (is_id_of (node_named r.request) n.id) both.0) (go ns both.1)
+            and_from (touches_node t n.id) (list_all (λ (m : RecordedNode). touches_node t m.id) ns) (or_right (changes_more h r) (is_id_of (node_named r.request) n.id) both.0) (go ns both.1)
 
-    quiet_parts : SameParts t h behind
+    quiet_parts : SameParts t h after
     quiet_parts = record {
       rules = ap (λ (o : Option (List Rule)). left t (rule_writes_of o)) same_constitution;
       dealt = ap (λ o. left t (write_of dealing_write o)) same_dealing;
-      members = members_left h behind r (requests_with h r) t quiet refl;
-      nodes = nodes_left h behind r (requests_with h r) t quiet refl (nodes_recorded r.seqno r.request) (nodes_behind h r) nodes_named;
+      members = members_left h after r (requests_with h r) t quiet refl;
+      nodes = nodes_left h after r (requests_with h r) t quiet refl (nodes_recorded r.seqno r.request) (nodes_after h r) nodes_named;
       proposed = same_proposals;
       service = ap (λ o. left t (write_of service_write o)) same_service;
       shares = ap (λ (ss : List Share). left t (map share_write ss)) same_shares;
     }
 
-  -- the rows that a request doesn't touch are the same behind it
-  pub untouched : left t (all_rows behind) ≡ left t (all_rows h)
-  untouched = go (is_loud h r) refl
+  -- the rows that a request doesn't touch are the same after it
+  pub untouched : left t (all_rows after) ≡ left t (all_rows h)
+  untouched = go (changes_more h r) refl
     where
-      go : (b : Bool) → is_loud h r ≡ b → left t (all_rows behind) ≡ left t (all_rows h)
-      go true is = same_parts t h behind (loud_parts is)
-      go false is = same_parts t h behind (quiet_parts is)
+      go : (b : Bool) → changes_more h r ≡ b → left t (all_rows after) ≡ left t (all_rows h)
+      go true is = same_parts t h after (changes_more_parts is)
+      go false is = same_parts t h after (quiet_parts is)
 
 -- ---- the write set
 
@@ -213,7 +214,7 @@ selected_touched : (t : Touched) (ws : List Write) → filter (is_selected (sele
 unfolding is_selected
 selected_touched t ws = filter_agree (is_selected (selections.Touched t)) (is_touched t) (λ w. refl) ws
 
--- the write set of a request turns the rows that it touches into those behind it
+-- the write set of a request turns the rows that it touches into those after it
 pub effect_touched : (rs : List Recorded) (r : Recorded) →
     changes (write_set (filter (is_selected (selections.Touched (touched_by (history rs) r))) (all_rows (history rs))))
     (write_set (filter (is_selected (selections.Touched (touched_by (history rs) r))) (all_rows (history (rs ++ r ∷ [])))))
@@ -228,37 +229,37 @@ effect_touched rs r =
     ∙ sym (changes_of_part (is_touched touched) (asks_touched touched) (all_rows h) (all_rows k) (rows_are_rows h) (rows_are_rows k) same)
 
 -- so what is told of a request that is recorded is its write set
-pub told_writes : (past : History) (rs next : List Recorded) (r : Recorded) (touched : Touched) (before writes : List Write) → past ≡ history rs → touched ≡ touched_by past r →
+pub reported_writes : (past : History) (rs next : List Recorded) (r : Recorded) (touched : Touched) (before writes : List Write) → past ≡ history rs → touched ≡ touched_by past r →
     before ≡ write_set (filter (is_selected (selections.Touched touched)) (all_rows (history rs))) → next ≡ rs ++ r ∷ [] →
     writes ≡ changes before (write_set (filter (is_selected (selections.Touched touched)) (all_rows (history next)))) → writes ≡ effect_writes rs r
-told_writes past rs next r touched before writes of by old pushed told =
-    told
+reported_writes past rs next r touched before writes of by old pushed reported =
+    reported
     ∙ ap₂ (λ (xs : List Write) (ys : List Recorded). changes xs (write_set (filter (is_selected (selections.Touched touched)) (all_rows (history ys))))) old pushed
     ∙ ap
     (λ (x : Touched). changes (write_set (filter (is_selected (selections.Touched x)) (all_rows (history rs)))) (write_set (filter (is_selected (selections.Touched x)) (all_rows (history (rs ++ r ∷ []))))))
     (by ∙ ap (λ (h : History). touched_by h r) of)
     ∙ effect_touched rs r
 
--- ---- whether a request is loud, by its changes at its seqno
+-- ---- whether a request changes more, by its changes at its seqno
 
 any_brought : (seqno : ℕ) (cs : List Change) → not (length (map (changed_at seqno) cs) == 0) ≡ are_any cs
 any_brought seqno [] = refl
 any_brought seqno (c ∷ cs) = grind (arith, nat_tests)
 
 -- it is, where there is a change
-pub loud_by_change : (h : History) (r : Recorded) (brought : List Changed) (empty : Bool) → brought ≡ map (changed_at r.seqno) (changes_of h r) → empty ≡ (length brought == 0) →
-    empty ≡ false → not empty ≡ is_loud h r
-unfolding is_loud
-loud_by_change h r brought empty are tells is =
+pub changes_more_by_change : (h : History) (r : Recorded) (brought : List Changed) (empty : Bool) → brought ≡ map (changed_at r.seqno) (changes_of h r) → empty ≡ (length brought == 0) →
+    empty ≡ false → not empty ≡ changes_more h r
+unfolding changes_more
+changes_more_by_change h r brought empty are reports is =
     let any : are_any (changes_of h r) ≡ true =
-    sym (any_brought r.seqno (changes_of h r)) ∙ ap (λ (cs : List Changed). not (length cs == 0)) (sym are) ∙ ap not (sym tells ∙ is) in
+    sym (any_brought r.seqno (changes_of h r)) ∙ ap (λ (cs : List Changed). not (length cs == 0)) (sym are) ∙ ap not (sym reports ∙ is) in
     ap not is ∙ sym (or_left (are_any (changes_of h r)) (is_some (share_in r.request)) any)
 
 -- and where there is none, as it gives a share
-pub loud_by_share : (h : History) (r : Recorded) (brought : List Changed) (empty gives : Bool) → brought ≡ map (changed_at r.seqno) (changes_of h r) → empty ≡ (length brought == 0) →
-    empty ≡ true → gives ≡ is_some (share_in r.request) → gives ≡ is_loud h r
-unfolding is_loud
-loud_by_share h r brought empty gives are tells is share =
+pub changes_more_by_share : (h : History) (r : Recorded) (brought : List Changed) (empty gives : Bool) → brought ≡ map (changed_at r.seqno) (changes_of h r) → empty ≡ (length brought == 0) →
+    empty ≡ true → gives ≡ is_some (share_in r.request) → gives ≡ changes_more h r
+unfolding changes_more
+changes_more_by_share h r brought empty gives are reports is share =
     let none : are_any (changes_of h r) ≡ false =
-    sym (any_brought r.seqno (changes_of h r)) ∙ ap (λ (cs : List Changed). not (length cs == 0)) (sym are) ∙ ap not (sym tells ∙ is) in
+    sym (any_brought r.seqno (changes_of h r)) ∙ ap (λ (cs : List Changed). not (length cs == 0)) (sym are) ∙ ap not (sym reports ∙ is) in
     share ∙ sym (ap (λ (b : Bool). b || is_some (share_in r.request)) none)

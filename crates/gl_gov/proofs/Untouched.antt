@@ -1,4 +1,4 @@
--- The rows that a request doesn't touch are the same behind it, table by table.
+-- The rows that a request doesn't touch are the same after it, table by table.
 use Rattle.std.proofs.Common.{◌≡◌, ◌⊎◌, inl, inr, ℕ, suc, List, [], ◌∷◌, ◌++◌, map, filter, filter_map, reverse, find, Option, None, Some, IfSome, is_some, Bool, true, false, not, ◌&&◌, ◌||◌, nat_eq, cond, slice_get, if◌then◌else◌, refl, sym, ◌∙◌, ap, ap₂, append-nil}
 use Rattle.std.specs.List.{list_all, list_any, cons_option}
 use Rattle.std.specs.Option.{option_to_list}
@@ -11,7 +11,7 @@ use Rattle.gl_base.specs.Bytes.{same_bytes}
 use Rattle.gl_vmaps.specs.LastWrite.{last_such}
 use Rattle.gl_vmaps.specs.declared.write.Write.{Write}
 use Rattle.gl_vmaps.proofs.TablesLaws.{same_bytes-symm}
-use Rattle.gl_requests.specs.Spelling.{proposal_id}
+use Rattle.gl_requests.specs.Encoding.{proposal_id}
 use Rattle.gl_requests.specs.declared.genesis.NewMember.{NewMember}
 use Rattle.gl_requests.specs.declared.request.MemberAct.{MemberAct}
 use Rattle.gl_requests.specs.declared.request.MemberAct.TheVariants as acts
@@ -32,7 +32,7 @@ use Rattle.gl_gov_rules.specs.declared.row.MemberRow.{MemberRow}
 use Rattle.gl_gov_rules.specs.declared.row.NodeRow.{NodeRow}
 use Rattle.gl_gov_rules.specs.declared.row.ProposalRow.{ProposalRow}
 use Rattle.gl_gov_rules.specs.History.{History, seqno_of}
-use Rattle.gl_gov_rules.specs.Members.{members, is_removed, is_by, is_ack, is_ack_by, has_acked, member_status, leaf_behind_last, next_leaf}
+use Rattle.gl_gov_rules.specs.Members.{members, is_removed, is_by, is_ack, is_ack_by, has_acked, member_status, leaf_after_last, next_leaf}
 use Rattle.gl_gov_rules.specs.Nodes.{nodes, trusts, marks, retirement, is_marked, is_trust_applied, was_trusted, node_status}
 use Rattle.gl_gov_rules.specs.Proposals.{proposal_in_act, proposal_in, proposals, state_settled, first_or_open, proposal_state, is_open_state, is_answer_on, is_ballot, has_answered}
 use Rattle.gl_gov_rules.specs.ProposalStatus.{named_in_act, proposal_named}
@@ -93,7 +93,7 @@ left_none t (w ∷ ws) all =
     let both = and_parts (is_touched t w) (list_all (is_touched t) ws) all in
     ap (λ (b : Bool). cond (not b) (w ∷ left t ws) (left t ws)) both.0 ∙ left_none t ws both.1
 
--- ---- a request behind a history
+-- ---- a request after a history
 
 -- the history `k` is `h` with one more request, and more changes
 module _ (h k : History) (r : Recorded) (asked : k.requests ≡ h.requests ++ r ∷ []) where
@@ -128,7 +128,7 @@ module _ (h k : History) (r : Recorded) (asked : k.requests ≡ h.requests ++ r 
     unfolding next_leaf
     same_leaf number is =
         let p : Recorded → Bool = λ (x : Recorded). is_by number x.request in
-        ap leaf_behind_last (ap (last_such p) asked ∙ last_such_push p h.requests r is)
+        ap leaf_after_last (ap (last_such p) asked ∙ last_such_push p h.requests r is)
 
     same_status : (number : ℕ) → is_by number r.request ≡ false → member_status k number ≡ member_status h number
     unfolding member_status
@@ -148,7 +148,7 @@ module _ (h k : History) (r : Recorded) (asked : k.requests ≡ h.requests ++ r 
     unfolding member_row
     member_touched x m is =
         let key : is_key_of t.member (m.number ∷ []) ≡ true = ap (λ (o : Option ℕ). is_key_of o (m.number ∷ [])) signed ∙ signed_key m.number r.request ∙ is in
-        touched_member t (m.number ∷ []) _ ∙ or_right t.is_loud (is_key_of t.member (m.number ∷ [])) key
+        touched_member t (m.number ∷ []) _ ∙ or_right t.changes_more (is_key_of t.member (m.number ∷ [])) key
 
     member_alike : (m : NewMember) → Alike t (member_write (member_row k m)) (member_write (member_row h m))
     member_alike m = go (is_by m.number r.request) refl
@@ -227,7 +227,7 @@ module _ (h k : History) (r : Recorded) (asked : k.requests ≡ h.requests ++ r 
       where
         go : (b : Bool) → is_id_of (node_named r.request) n.id ≡ b → Alike t (node_write (node_row k order n)) (node_write (node_row h order n))
         go true is =
-            let touches = or_right t.is_loud (is_id_of t.node n.id) (ap (λ (o : Option (List ℕ)). is_id_of o n.id) named ∙ is) in
+            let touches = or_right t.changes_more (is_id_of t.node n.id) (ap (λ (o : Option (List ℕ)). is_id_of o n.id) named ∙ is) in
             inr (node_touched t k order n touches, node_touched t h order n touches)
         go false is = inl (ap node_write (same_node_row quiet order n is))
 
@@ -316,14 +316,14 @@ module _ (h k : History) (r : Recorded) (asked : k.requests ≡ h.requests ++ r 
       go false e = refl
       go true e = absurd (both_ways (list_any (same_bytes p.id) (open_ids h)) is (open_named i p at e))
 
-  -- where a request isn't loud it brings nothing about
-  state_same : (loud : Bool) (more : List Changed) → k.changes ≡ h.changes ++ more → (loud ≡ false → k.changes ≡ h.changes) → (i : ℕ) (p : Proposal) → slice_get (proposals h) i ≡ Some p →
-      list_any (same_bytes p.id) (if loud then open_ids h else []) ≡ false → proposal_state k p ≡ proposal_state h p
+  -- where a request doesn't change more it brings nothing about
+  state_same : (is_more : Bool) (more : List Changed) → k.changes ≡ h.changes ++ more → (is_more ≡ false → k.changes ≡ h.changes) → (i : ℕ) (p : Proposal) → slice_get (proposals h) i ≡ Some p →
+      list_any (same_bytes p.id) (if is_more then open_ids h else []) ≡ false → proposal_state k p ≡ proposal_state h p
   state_same true more brought quiet i p at is = settled_stays more brought p (settled_unless_named i p at is)
   state_same false more brought quiet i p at is = state_quiet (quiet refl) p
 
-  module _ (t : Touched) (loud : Bool) (more : List Changed) (brought : k.changes ≡ h.changes ++ more) (quiet : loud ≡ false → k.changes ≡ h.changes)
-      (names : t.proposals ≡ ids_touched loud h r.request) where
+  module _ (t : Touched) (is_more : Bool) (more : List Changed) (brought : k.changes ≡ h.changes ++ more) (quiet : is_more ≡ false → k.changes ≡ h.changes)
+      (names : t.proposals ≡ ids_touched is_more h r.request) where
     proposal_touched : (x : History) (p : Proposal) → touches_proposal t p.id ≡ true → is_touched t (proposal_write p.id (proposal_row x p)) ≡ true
     proposal_touched x p is = touched_proposal t p.id _ ∙ is
 
@@ -334,10 +334,10 @@ module _ (h k : History) (r : Recorded) (asked : k.requests ≡ h.requests ++ r 
         go true is = inr (proposal_touched k p is, proposal_touched h p is)
         go false is =
             let own : List (List ℕ) = option_to_list (proposal_named r.request) in
-            let others : List (List ℕ) = if loud then open_ids h else [] in
+            let others : List (List ℕ) = if is_more then open_ids h else [] in
             let all = sym (list_any-append (same_bytes p.id) own others) ∙ ap (list_any (same_bytes p.id)) (sym names) ∙ is in
             let both = or_parts (list_any (same_bytes p.id) own) (list_any (same_bytes p.id) others) all in
-            inl (ap (proposal_write p.id) (same_proposal_row p (state_same loud more brought quiet i p at both.1) both.0))
+            inl (ap (proposal_write p.id) (same_proposal_row p (state_same is_more more brought quiet i p at both.1) both.0))
 
     -- the proposal that a request makes is one that it names
     made_named : (m : MemberRequest) (act : MemberAct) (seqno : ℕ) → IfSome (proposal_in_act seqno m act) (λ (p : Proposal). list_any (same_bytes p.id) (option_to_list (named_in_act m act)) ≡ true)
@@ -361,7 +361,7 @@ module _ (h k : History) (r : Recorded) (asked : k.requests ≡ h.requests ++ r 
     none_new None named = refl
     none_new (Some p) named =
         let own : List (List ℕ) = option_to_list (proposal_named r.request) in
-        let others : List (List ℕ) = if loud then open_ids h else [] in
+        let others : List (List ℕ) = if is_more then open_ids h else [] in
         let touches = ap (list_any (same_bytes p.id)) names ∙ list_any-append (same_bytes p.id) own others ∙ or_left (list_any (same_bytes p.id) own) (list_any (same_bytes p.id) others) named in
         left_none t (write_in k p ∷ []) (and_from (is_touched t (write_in k p)) true (proposal_touched k p touches) refl)
 
@@ -371,7 +371,7 @@ module _ (h k : History) (r : Recorded) (asked : k.requests ≡ h.requests ++ r 
         let f : Recorded → Option Proposal = λ (x : Recorded). proposal_in x.seqno x.request in
         ap (filter_map f) asked ∙ filter_map-append f h.requests (r ∷ [])
 
-    -- the rows of proposals that the request neither names nor finds open where it is loud
+    -- the rows of proposals that the request neither names nor finds open where it changes more
     pub proposals_left : left t (proposal_writes k) ≡ left t (proposal_writes h)
     unfolding proposal_writes
     proposals_left =

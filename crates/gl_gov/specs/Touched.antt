@@ -1,11 +1,11 @@
 -- Which rows of the governance tables a request can change, by their map and key. All others are
--- the same behind it.
+-- the same after it.
 use Rattle.std.specs.Prelude.{ℕ, List, [], ◌∷◌, ◌++◌, Option, None, Some, Bool, true, false, ◌||◌, is_some, map, filter, if◌then◌else◌}
 use Rattle.std.specs.List.{list_any}
 use Rattle.std.specs.Option.{option_to_list}
 use Rattle.gl_base.specs.Bytes.{same_bytes}
 use Rattle.gl_vmaps.specs.declared.write.Write.{Write}
-use Rattle.gl_requests.specs.Spelling.{node_id}
+use Rattle.gl_requests.specs.Encoding.{node_id}
 use Rattle.gl_requests.specs.declared.request.GovernanceRequest.{GovernanceRequest}
 use Rattle.gl_requests.specs.declared.request.GovernanceRequest.TheVariants as requests
 use Rattle.gl_gov_rules.specs.declared.change.Recorded.{Recorded}
@@ -41,26 +41,26 @@ is_open h p = is_open_state (proposal_state h p)
 abbrev pub open_ids : History → List (List ℕ)
 open_ids h = map (λ (p : Proposal). p.id) (filter (is_open h) (proposals h))
 
--- A loud request brings changes about, or gives a share.
+-- A request that changes more brings changes about, or gives a share.
 abbrev pub are_any : List Change → Bool
 are_any [] = false
 are_any (c ∷ cs) = true
 
-unfoldable pub is_loud : History → Recorded → Bool
-is_loud h r = are_any (changes_of h r) || is_some (share_in r.request)
+unfoldable pub changes_more : History → Recorded → Bool
+changes_more h r = are_any (changes_of h r) || is_some (share_in r.request)
 
--- The proposal that a request names, and where it is loud all that are open.
+-- The proposal that a request names, and where it changes more all that are open.
 abbrev pub ids_touched : Bool → History → GovernanceRequest → List (List ℕ)
-ids_touched loud h request =
-    option_to_list (proposal_named request) ++ (if loud then open_ids h else [])
+ids_touched is_more h request =
+    option_to_list (proposal_named request) ++ (if is_more then open_ids h else [])
 
--- What a request behind a history touches.
+-- What a request after a history touches.
 abbrev pub touched_by : History → Recorded → Touched
 touched_by h r = record {
-  is_loud = is_loud h r;
+  changes_more = changes_more h r;
   member = signer r.request;
   node = node_named r.request;
-  proposals = ids_touched (is_loud h r) h r.request;
+  proposals = ids_touched (changes_more h r) h r.request;
 }
 
 -- Which rows these are
@@ -74,13 +74,13 @@ abbrev pub is_id_of : Option (List ℕ) → List ℕ → Bool
 is_id_of None id = false
 is_id_of (Some named) id = same_bytes id named
 
--- A loud request can change each row but those of proposals that are neither named nor open. Any
--- other changes those that it names alone.
+-- A request that changes more can change each row but those of proposals that are neither named nor
+-- open. Any other changes those that it names alone.
 abbrev pub touches_member : Touched → List ℕ → Bool
-touches_member t key = t.is_loud || is_key_of t.member key
+touches_member t key = t.changes_more || is_key_of t.member key
 
 abbrev pub touches_node : Touched → List ℕ → Bool
-touches_node t id = t.is_loud || is_id_of t.node id
+touches_node t id = t.changes_more || is_id_of t.node id
 
 abbrev pub touches_proposal : Touched → List ℕ → Bool
 touches_proposal t id = list_any (same_bytes id) t.proposals
@@ -89,13 +89,13 @@ unfoldable pub is_touched : Touched → Write → Bool
 is_touched t w =
     if same_bytes w.map members_map then touches_member t w.key
     else (if same_bytes w.map nodes_map then touches_node t w.key
-    else (if same_bytes w.map proposals_map then touches_proposal t w.key else t.is_loud))
+    else (if same_bytes w.map proposals_map then touches_proposal t w.key else t.changes_more))
 
 -- Which rows are made: all, or those that are touched
 
 abbrev pub selects_settings : Selection → Bool
 selects_settings selections.All = true
-selects_settings (selections.Touched t) = t.is_loud
+selects_settings (selections.Touched t) = t.changes_more
 
 abbrev pub selects_member : Selection → ℕ → Bool
 selects_member selections.All number = true

@@ -5,7 +5,7 @@ ghost use Rattle.std.specs.Prelude.{◌≡◌, ℕ, ◌≤◌, ◌<◌, ◌^◌,
 ghost use Rattle.std.specs.List.{flat_map, list_all, cons_option};
 ghost use Rattle.gl_vmaps.specs.Name.{is_map_name, is_value};
 ghost use Rattle.gl_vmaps.specs.Changes.{row};
-ghost use Rattle.gl_requests.specs.Spelling.{rule_bytes, action_bytes};
+ghost use Rattle.gl_requests.specs.Encoding.{rule_bytes, action_bytes};
 ghost use Rattle.gl_requests.specs.Ranges.{is_dealing, is_action};
 ghost use Rattle.gl_gov_rules.specs.Service.{dealing};
 ghost use Rattle.gl_gov_rules.specs.Rows.{constitution_map, service_row, service_write, member_row, member_rows, member_write, node_row, node_rows, node_write, vote_of, votes, proposal_row, vote_bytes, proposal_write, dealing_write, share_write};
@@ -211,7 +211,7 @@ pub fn node_write(alloc: Global, node: &NodeRow) -> Result<Write, AllocError>
 // Proposals
 
 /// A member's ballot on the proposal of which these are the ballots, if it has answered.
-#[tactic(auto, using(gl_gov_rules::proofs::Telling::answered_any))]
+#[tactic(auto, using(gl_gov_rules::proofs::HistoryIndex::answered_any))]
 fn vote_of(ballots: &[Ballot], member: u8) -> Option<Vote>
     ensures { (rs : List Recorded) (id : List ℕ) →
         ballots.now ≡ ballots_on id rs → result ≡ vote_of rs id member }

@@ -8,23 +8,23 @@ ghost use Rattle.gl_gov_rules.specs.Service.{share_in};
 ghost use Rattle.gl_gov_rules.specs.Proposals.{proposals, settled_state, is_open_state};
 ghost use Rattle.gl_gov_rules.specs.Changes.{changes_of, changed_at};
 ghost use Rattle.gl_gov_rules.specs.ProposalStatus.{named_in_act, proposal_named};
-ghost use Rattle.gl_gov.specs.Touched.{signer, node_named, is_open, open_ids, is_loud, ids_touched, touched_by};
+ghost use Rattle.gl_gov.specs.Touched.{signer, node_named, is_open, open_ids, changes_more, ids_touched, touched_by};
 
 use gl_base::Sequence;
 use gl_gov_rules::{Changed, History, Proposal, ProposalState, Recorded, Settling};
 use gl_requests::{Digest, GovernanceRequest, MemberAct, MemberRequest, NodeId};
 use std::alloc::{AllocError, Global};
 
-/// What a request touches. All other rows are the same behind it.
+/// What a request touches. All other rows are the same after it.
 #[derive(Debug, Drop)]
 pub struct Touched {
     /// It brings changes about, or gives a share.
-    pub is_loud: bool,
+    pub changes_more: bool,
     /// The member who signed it.
     pub member: Option<u8>,
     /// The node that joins, or that is marked.
     pub node: Option<NodeId>,
-    /// The proposal that it names, and where it is loud all that are open.
+    /// The proposal that it names, and where it changes more all that are open.
     pub proposals: Sequence<Digest>,
 }
 
@@ -94,10 +94,10 @@ fn gives_share(request: &GovernanceRequest) -> bool
 }
 
 /// Whether the request brings changes about, which are these, or gives a share.
-fn is_loud(recorded: &Recorded, changes: &[Changed]) -> bool
+fn changes_more(recorded: &Recorded, changes: &[Changed]) -> bool
     ensures { (h : History) →
         changes.now ≡ map (changed_at recorded.now.seqno) (changes_of h recorded.now) →
-        result ≡ is_loud h recorded.now }
+        result ≡ changes_more h recorded.now }
 {
     !changes.is_empty() || gives_share(&recorded.request)
 }
@@ -144,19 +144,19 @@ fn push_id(ids: &mut Vec<Digest>, id: Option<Digest>) -> Result<(), AllocError>
     }
 }
 
-/// The proposal that the request names, and where it is loud all that are open.
+/// The proposal that the request names, and where it changes more all that are open.
 fn ids_touched(
     alloc: Global,
-    is_loud: bool,
+    changes_more: bool,
     past: &History,
     request: &GovernanceRequest,
 ) -> Result<Vec<Digest>, AllocError>
     requires { is_request request.now ≡ true }
-    ensures { IfOk result (λ ids. ids.items ≡ ids_touched is_loud past.now request.now) }
+    ensures { IfOk result (λ ids. ids.items ≡ ids_touched changes_more past.now request.now) }
 {
     let mut ids = Vec::new(alloc);
     push_id(&mut ids, proposal_named(alloc, request)?)?;
-    if is_loud {
+    if changes_more {
         push_open_ids(&mut ids, past)?;
     }
     Ok(ids)
@@ -175,10 +175,10 @@ pub fn touched_by(
     ensures { IfOk result (λ touched. touched ≡ touched_by past.now recorded.now) }
 {
     let request = &recorded.request;
-    let is_loud = is_loud(recorded, changes);
-    let proposals = ids_touched(alloc, is_loud, past, request)?;
+    let changes_more = changes_more(recorded, changes);
+    let proposals = ids_touched(alloc, changes_more, past, request)?;
     Ok(Touched {
-        is_loud,
+        changes_more,
         member: signer(request),
         node: node_named(request),
         proposals: Sequence::from(proposals),
@@ -192,13 +192,13 @@ impl Touched {
     fn has_member(&self, number: u8) -> bool
         ensures { result ≡ touches_member self.now (number ∷ []) }
     {
-        self.is_loud || self.member == Some(number)
+        self.changes_more || self.member == Some(number)
     }
 
     fn has_node(&self, id: &NodeId) -> bool
         ensures { result ≡ touches_node self.now id.now }
     {
-        self.is_loud || self.node == Some(*id)
+        self.changes_more || self.node == Some(*id)
     }
 
     fn has_proposal(&self, id: &Digest) -> bool
@@ -218,7 +218,7 @@ impl Selection {
     {
         match self {
             Selection::All => true,
-            Selection::Touched(touched) => touched.is_loud,
+            Selection::Touched(touched) => touched.changes_more,
         }
     }
 

@@ -23,7 +23,7 @@ use Rattle.gl_gov_rules.specs.Actions.{is_number_used, has_key, is_key_used, wit
 use Rattle.gl_gov_rules.proofs.Counting.{one_if, count-cons, count-append, find_passes}
 use Rattle.gl_gov_rules.proofs.Finding.{found_at}
 use Rattle.gl_gov_rules.proofs.LastSet.{last_set-append, last_set-cons}
-use Rattle.gl_gov_decisions.specs.Trial.{applied_at, with_all_applied, takes_in, opens, status_behind}
+use Rattle.gl_gov_decisions.specs.Trial.{applied_at, with_all_applied, takes_in, opens, status_after}
 
 -- ---- whether any of the changes does
 
@@ -148,7 +148,7 @@ trusted_with h s list n = by n.is_founding _ _ _ (any_with (λ (c : Changed). tr
     by false x y z e = e
 
 pub status : (h : History) (s : ℕ) (list : List Action) (n : RecordedNode) →
-    status_behind (list_any (λ a. nat_lt n.seqno s && retires n.id (changes.Applied a)) list) (list_any (λ a. trusts n.id (changes.Applied a)) list) (node_status h n)
+    status_after (list_any (λ a. nat_lt n.seqno s && retires n.id (changes.Applied a)) list) (list_any (λ a. trusts n.id (changes.Applied a)) list) (node_status h n)
     ≡ node_status (with_all_applied h s list) n
 unfolding node_status
 status h s list n =
@@ -160,7 +160,7 @@ status h s list n =
     kept : Bool → Bool → Bool → NodeStatus
     kept marked gone trust = cond marked statuses.Marked (cond gone statuses.Retired (cond trust statuses.Trusted statuses.Pending))
 
-    by : (marked gone trust retired now : Bool) → status_behind retired now (kept marked gone trust) ≡ kept marked (gone || retired) (trust || now)
+    by : (marked gone trust retired now : Bool) → status_after retired now (kept marked gone trust) ≡ kept marked (gone || retired) (trust || now)
     by true gone trust retired now = refl
     by false true trust retired now = refl
     by false false true true now = refl

@@ -8,7 +8,7 @@ use Rattle.gl_gov_rules.specs.History.{History}
 use Rattle.gl_gov_rules.specs.Members.{is_active, members}
 use Rattle.gl_gov_rules.specs.Proposals.{has_answered, ballots_on, is_ballot, is_vote}
 use Rattle.gl_gov_rules.specs.Tally.{answer_count}
-use Rattle.gl_gov_rules.proofs.Telling.{answered_any}
+use Rattle.gl_gov_rules.proofs.HistoryIndex.{answered_any}
 use Rattle.gl_gov_rules.proofs.Answered.{answered_with}
 
 same_filter : {A : Type 0} (p q : A → Bool) → ((x : A) → p x ≡ q x) → (xs : List A) → filter p xs ≡ filter q xs

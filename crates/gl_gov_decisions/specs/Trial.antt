@@ -1,4 +1,4 @@
--- The actions of a proposal that are tried in order: each behind the history with those before it
+-- The actions of a proposal that are tried in order: each after the history with those before it
 -- applied.
 use Rattle.std.specs.Prelude.{ℕ, List, ◌++◌, Bool, true, false, map, if◌then◌else◌}
 use Rattle.gl_requests.specs.declared.genesis.NewMember.{NewMember}
@@ -28,11 +28,11 @@ abbrev pub opens : Action → Bool
 opens actions.TransitionServiceToOpen = true
 opens other = false
 
--- The status of a node behind actions, of which one retires it or trusts it.
-abbrev pub status_behind : Bool → Bool → NodeStatus → NodeStatus
-status_behind retired is_trusted statuses.Pending =
+-- The status of a node after actions, of which one retires it or trusts it.
+abbrev pub status_after : Bool → Bool → NodeStatus → NodeStatus
+status_after retired is_trusted statuses.Pending =
     if retired then statuses.Retired
     else (if is_trusted then statuses.Trusted else statuses.Pending)
-status_behind retired is_trusted statuses.Trusted =
+status_after retired is_trusted statuses.Trusted =
     if retired then statuses.Retired else statuses.Trusted
-status_behind retired is_trusted other = other
+status_after retired is_trusted other = other

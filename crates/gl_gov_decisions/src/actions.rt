@@ -219,7 +219,7 @@ fn cause_against_rules(past: &Trial, rules: &[Rule]) -> Option<Cause>
     }
 }
 
-/// Why an action can't be applied behind a history, if it can't: the first cause that stands.
+/// Why an action can't be applied after a history, if it can't: the first cause that stands.
 fn cause_against(past: &Trial, action: &Action) -> Option<Cause>
     ensures { result ≡ cause_against past.now action.now }
 {

@@ -1,4 +1,4 @@
-//! What a request brings about: the ballots are counted anew at each ballot, and what is accepted
+//! What a request brings about: the ballots are counted again at each ballot, and what is accepted
 //! is applied then.
 
 ghost use Rattle.std.specs.Prelude.{◌≡◌, ◌++◌, ◌∷◌, [], if◌then◌else◌, IfOk, OnOk, map};
@@ -187,7 +187,7 @@ fn act_changes(
     }
 }
 
-/// What a request that is recorded behind a history brings about, each change at its seqno.
+/// What a request that is recorded after a history brings about, each change at its seqno.
 #[tactic(auto, unfolding(gl_gov_rules::specs::Changes::changes_of))]
 pub fn changes_of(
     alloc: Global,

@@ -1,4 +1,4 @@
-//! What is wrong with a founding, or with a recovery that founds a service anew.
+//! What is wrong with a founding, or with a recovery that recovers a service.
 
 ghost use Rattle.std.specs.Prelude.{◌≡◌, not};
 ghost use Rattle.std.specs.List.{list_any};

@@ -58,7 +58,7 @@ fn member_refusal(
     }
 }
 
-/// Why a request at a seqno is refused behind a history, if it is.
+/// Why a request at a seqno is refused after a history, if it is.
 #[tactic(auto, unfolding(gl_gov_rules::specs::Refusals::refusal))]
 pub fn refusal(
     alloc: Global,

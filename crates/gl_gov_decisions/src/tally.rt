@@ -3,7 +3,7 @@
 ghost use Rattle.std.specs.Prelude.{◌≡◌, ◌++◌, ◌∷◌, [], ◌&&◌, ◌||◌, count_by};
 ghost use Rattle.std.specs.List.{list_any};
 ghost use Rattle.gl_requests.specs.declared.genesis.NewMember as a_member;
-ghost use Rattle.gl_requests.specs.Spelling.{action_number};
+ghost use Rattle.gl_requests.specs.Encoding.{action_number};
 ghost use Rattle.gl_gov_rules.specs.Members.{members, is_active};
 ghost use Rattle.gl_gov_rules.specs.Proposals.{ballots_on, is_ballot, is_vote};
 ghost use Rattle.gl_gov_rules.specs.Service.{constitution};
@@ -13,7 +13,7 @@ use gl_gov_rules::{Ballot, History, Recorded, Tally, has_vote, is_ballot};
 use gl_requests::{Action, Digest, Rule};
 
 /// Whether the member gave this answer in one of the ballots on a proposal, or in this request
-/// behind them.
+/// after them.
 fn has_answered(ballots: &[Ballot], last: &Recorded, id: &Digest, agrees: bool, number: u8) -> bool
     ensures { result ≡ (list_any (is_vote number agrees) ballots.now
         || is_ballot id.now number agrees last.now.request) }
@@ -22,7 +22,7 @@ fn has_answered(ballots: &[Ballot], last: &Recorded, id: &Digest, agrees: bool, 
 }
 
 /// How many of the members who are active in the past gave this answer in these ballots on a
-/// proposal or in this request behind them.
+/// proposal or in this request after them.
 fn vote_count(
     past: &History,
     ballots: &[Ballot],
@@ -43,7 +43,7 @@ fn vote_count(
 }
 
 /// How many of the members who are active in the past gave this answer in its requests, which have
-/// these ballots on a proposal, or in this one behind them.
+/// these ballots on a proposal, or in this one after them.
 fn answer_count(
     past: &History,
     ballots: &[Ballot],
@@ -58,7 +58,7 @@ fn answer_count(
     vote_count(past, ballots, last, id, agrees)
 }
 
-/// The ballots on a proposal in the requests of the past and in this one behind them, counted anew
+/// The ballots on a proposal in the requests of the past and in this one after them, counted again
 /// over the members who are active in the past.
 pub(crate) fn tally(past: &History, last: &Recorded, id: &Digest) -> Tally
     ensures { result ≡ tally past.now (past.now.requests ++ last.now ∷ []) id.now }

@@ -1,4 +1,4 @@
-//! A history with a few more actions applied, as a proposal's actions are tried one behind another:
+//! A history with a few more actions applied, as a proposal's actions are tried one after another:
 //! no part of the history is copied, and each question goes over the few actions besides.
 
 ghost use Rattle.std.specs.Prelude.{◌≡◌, ◌&&◌, find, is_some, nat_lt, reverse};
@@ -9,13 +9,13 @@ ghost use Rattle.gl_gov_rules.specs.Members.{has_number, removes_member};
 ghost use Rattle.gl_gov_rules.specs.Nodes.{trusts, retires};
 ghost use Rattle.gl_gov_rules.specs.Service.{sets_dealing, state_once_open};
 ghost use Rattle.gl_gov_rules.specs.Actions.{has_key};
-ghost use Rattle.gl_gov_decisions.specs.Trial.{takes_in, opens, status_behind};
+ghost use Rattle.gl_gov_decisions.specs.Trial.{takes_in, opens, status_after};
 
 use gl_gov_rules::{History, NodeStatus, RecordedNode};
 use gl_requests::{Action, Dealing, HssPublicKey, NewMember, NodeId, ServiceState};
 use std::marker::Model;
 
-/// A history, and actions that are applied behind it by the entry with a seqno.
+/// A history, and actions that are applied after it by the entry with a seqno.
 #[derive(Drop)]
 pub(crate) struct Trial<'a> {
     past: &'a History,
@@ -130,9 +130,9 @@ fn retire_node(node: &RecordedNode, seqno: u64, applied: &[Action]) -> bool
         .any(|action| node.seqno < seqno && retires(&node.id, action))
 }
 
-/// The status of a node behind actions, of which one retires it or trusts it.
-fn status_behind(retired: bool, trusted: bool, status: NodeStatus) -> NodeStatus
-    ensures { result ≡ status_behind retired trusted status }
+/// The status of a node after actions, of which one retires it or trusts it.
+fn status_after(retired: bool, trusted: bool, status: NodeStatus) -> NodeStatus
+    ensures { result ≡ status_after retired trusted status }
 {
     match status {
         NodeStatus::Pending if retired => NodeStatus::Retired,
@@ -280,7 +280,7 @@ impl<'a> Trial<'a> {
     {
         let retired = retire_node(node, self.seqno, self.applied);
         let trusted = trust_node(&node.id, self.applied);
-        status_behind(retired, trusted, self.past.node_status(node))
+        status_after(retired, trusted, self.past.node_status(node))
     }
 
     /// How many nodes are trusted.

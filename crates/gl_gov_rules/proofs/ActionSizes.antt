@@ -7,7 +7,7 @@ use Rattle.std.proofs.lemmas.Bool.Decides.{nat_tests}
 use Rattle.gl_base.specs.Bytes.{is_byte, are_bytes, are_sized, is_digest}
 use Rattle.gl_base.specs.LittleEndian.{little_endian}
 use Rattle.gl_base.proofs.LittleEndianLaws.{length-little_endian}
-use Rattle.gl_requests.specs.Spelling.{share_bytes, dealing_bytes, rule_bytes, action_bytes}
+use Rattle.gl_requests.specs.Encoding.{share_bytes, dealing_bytes, rule_bytes, action_bytes}
 use Rattle.gl_requests.specs.Ranges.{are_counted, is_member_number, is_share, is_dealing, is_rule, is_action}
 use Rattle.gl_requests.specs.declared.genesis.ShareDigest.{ShareDigest}
 use Rattle.gl_requests.specs.declared.genesis.Dealing.{Dealing}

@@ -33,7 +33,7 @@ pushed_place : {X : Type 0} (p : X → Bool) (xs : List X) (y : X) → p y ≡ t
 pushed_place p [] y passes high = rw passes refl
 pushed_place p (x ∷ xs) y passes high = pushed_step (p x) (length xs) (position_or_len p xs) _ high (pushed_place p xs y passes)
 
--- the place of an identifier that is put behind those that hold it not
+-- the place of an identifier that is put after those that hold it not
 pub place_pushed : (ids : List (List ℕ)) (id : List ℕ) → length ids ≤ place_of ids id → place_of (ids ++ id ∷ []) id ≡ place_of ids id
 place_pushed ids id high = pushed_place (same_bytes id) ids id (same_self id) high
 

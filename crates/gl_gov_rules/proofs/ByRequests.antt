@@ -12,7 +12,7 @@ use Rattle.gl_gov_rules.specs.Rising.{IsRising}
 use Rattle.std.proofs.Math.Seq.{take-append_seam}
 use Rattle.gl_gov_rules.proofs.CutLists.{named_length}
 use Rattle.gl_gov_rules.proofs.Counting.{each_append}
-use Rattle.gl_gov_rules.proofs.Rising.{AreBehind, rest_rises, rest_behind}
+use Rattle.gl_gov_rules.proofs.Rising.{AreAfter, rest_rises, rest_after}
 
 -- ---- one more
 
@@ -33,12 +33,12 @@ all_more f xs us ys zs vs before here put = rw (put, before, here) (sym (filter_
 
 -- ---- a part
 
--- what the first items tell stands in front
-pub told_left : {A B : Type 0} (f : A → Option B) (n k : ℕ) (xs left : List A) (ys after : List B) → left ≡ take n xs → ys ≡ filter_map f xs →
+-- what the first items tell stands first
+pub reported_left : {A B : Type 0} (f : A → Option B) (n k : ℕ) (xs left : List A) (ys after : List B) → left ≡ take n xs → ys ≡ filter_map f xs →
     k ≡ count_by (λ x. is_some (f x)) left → after ≡ take k ys → after ≡ filter_map f left
-told_left f n k xs left ys after front are counted taken =
+reported_left f n k xs left ys after prefix are counted taken =
     let whole : ys ≡ filter_map f left ++ filter_map f (drop n xs) =
-    are ∙ ap (filter_map f) (sym (take-append-drop n xs)) ∙ filter_map-append f (take n xs) (drop n xs) ∙ ap (λ us. filter_map f us ++ filter_map f (drop n xs)) (sym front) in
+    are ∙ ap (filter_map f) (sym (take-append-drop n xs)) ∙ filter_map-append f (take n xs) (drop n xs) ∙ ap (λ us. filter_map f us ++ filter_map f (drop n xs)) (sym prefix) in
     taken ∙ ap (λ m. take m ys) (counted ∙ named_length f left) ∙ ap (take (length (filter_map f left))) whole ∙ take-append_seam (filter_map f left) (filter_map f (drop n xs))
 
 kept_step : {A : Type 0} (P : A → Type 0) (x : A) (xs : List A) (b : Bool) → P x → AllByRecursion P xs → AllByRecursion P (cond b (x ∷ xs) xs)
@@ -92,15 +92,15 @@ module _ {Y : Type 0} (seq : Y → ℕ) where
   goes to q (y ∷ ys) e at = let here : nat_le (seq y) to ≡ false = ap (λ n. nat_le n to) at.0 ∙ e in rw here (goes to q ys e at.1)
 
   module _ (f : Recorded → List Y) (each : (r : Recorded) → StandAt r.seqno (f r)) where
-    from_behind : (q : ℕ) (rs : List Recorded) → AreBehind q rs → AreFrom q (flat_map f rs)
-    from_behind q [] behind = tt
-    from_behind q (r ∷ rs) behind =
-        each_append (λ (y : Y). q ≤ seq y) (f r) (flat_map f rs) (stand_from q r.seqno (f r) (omega (arith, behind.0)) (each r)) (from_behind q rs behind.1)
+    from_after : (q : ℕ) (rs : List Recorded) → AreAfter q rs → AreFrom q (flat_map f rs)
+    from_after q [] suffix = tt
+    from_after q (r ∷ rs) suffix =
+        each_append (λ (y : Y). q ≤ seq y) (f r) (flat_map f rs) (stand_from q r.seqno (f r) (omega (arith, suffix.0)) (each r)) (from_after q rs suffix.1)
 
     rises : (rs : List Recorded) → IsRising rs → Rises (flat_map f rs)
     rises [] rising = tt
     rises (r ∷ rs) rising =
-        rises_put r.seqno (f r) (flat_map f rs) (each r) (from_behind r.seqno rs (rest_behind r rs rising)) (rises rs (rest_rises r rs rising))
+        rises_put r.seqno (f r) (flat_map f rs) (each r) (from_after r.seqno rs (rest_after r rs rising)) (rises rs (rest_rises r rs rising))
 
     filtered_step : (to : ℕ) (r : Recorded) (rs : List Recorded) (b : Bool) → nat_le r.seqno to ≡ b →
         filter (λ (y : Y). nat_le (seq y) to) (flat_map f rs) ≡ flat_map f (up_to to rs) →

@@ -109,8 +109,8 @@ all_of_none : {A : Type 0} (xs : List A) → list_all (λ x. true) xs ≡ true
 all_of_none [] = refl
 all_of_none (x ∷ xs) = all_of_none xs
 
--- Where each of the ys meets at most one of the xs, and only if it passes, there are no more xs than
--- ys that pass and xs that none meets.
+-- Where each of the ys meets at most one of the xs, and only if it passes, there are no more xs
+-- than ys that pass and xs that none meets.
 pub pigeonhole : {A B : Type 0} (passes : B → Bool) (meets : B → A → Bool) (xs : List A) → ((y : B) → count_by (meets y) xs ≤ one_if (passes y)) →
     (ys : List B) → length xs ≤ count_by passes ys + count_by (λ x. not (list_any (λ y. meets y x) ys)) xs
 pigeonhole passes meets xs few [] = omega (arith, count_all (λ x. true) xs (all_of_none xs))

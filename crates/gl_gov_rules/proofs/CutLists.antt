@@ -1,5 +1,5 @@
--- What is left of each list of a history that is cut stands in front of it, and is as long as what
--- is counted up to the seqno.
+-- What is left of each list of a history that is cut stands before it, and is as long as what is
+-- counted up to the seqno.
 use Rattle.std.proofs.Common.{◌≡◌, ℕ, suc, nat_le, Bool, true, false, cond, Option, None, Some, is_some, List, [], ◌∷◌, ◌++◌, length, take, map, refl, sym, ◌∙◌, ap, append_assoc, append-nil, subst}
 use Rattle.std.specs.List.{filter, filter_map, cons_option, count_by, fold}
 use Rattle.std.proofs.Math.Seq.{take-append_seam}
@@ -11,13 +11,13 @@ use Rattle.gl_gov_rules.specs.History.{History, no_history}
 use Rattle.gl_gov_rules.specs.Changes.{history, with_request, changed_at, changes_of}
 use Rattle.gl_gov_rules.specs.Governed.{up_to}
 use Rattle.gl_gov_rules.specs.Rising.{IsRising}
-use Rattle.gl_gov_rules.proofs.Rising.{AreBehind, rest_rises, rest_behind}
+use Rattle.gl_gov_rules.proofs.Rising.{AreAfter, rest_rises, rest_after}
 use Rattle.gl_gov_rules.proofs.Cutting.{changes_up_to, cut_to, none_above, history-up_to}
 
--- ---- what passes a test, where all of it stands in front
+-- ---- what passes a test, where all of it stands first
 
-front : {X : Type 0} (p : X → Bool) (xs rest : List X) → xs ≡ filter p xs ++ rest → take (count_by p xs) xs ≡ filter p xs
-front p xs rest whole =
+prefix : {X : Type 0} (p : X → Bool) (xs rest : List X) → xs ≡ filter p xs ++ rest → take (count_by p xs) xs ≡ filter p xs
+prefix p xs rest whole =
     ap (λ n. take n xs) (sym (length-filter p xs)) ∙ ap (λ ys. take (length (filter p xs)) ys) whole ∙ take-append_seam (filter p xs) rest
 
 named_filter : {X Y : Type 0} (f : X → Option Y) (xs : List X) → length (filter (λ x. is_some (f x)) xs) ≡ length (filter_map f xs)
@@ -42,36 +42,36 @@ abbrev pub requests_above : ℕ → List Recorded → List Recorded
 requests_above p [] = []
 requests_above p (r ∷ rs) = cond (nat_le r.seqno p) (requests_above p rs) (r ∷ rs)
 
-requests_split_step : (p : ℕ) (r : Recorded) (rs : List Recorded) (b : Bool) → nat_le r.seqno p ≡ b → AreBehind r.seqno rs → rs ≡ up_to p rs ++ requests_above p rs →
+requests_split_step : (p : ℕ) (r : Recorded) (rs : List Recorded) (b : Bool) → nat_le r.seqno p ≡ b → AreAfter r.seqno rs → rs ≡ up_to p rs ++ requests_above p rs →
     r ∷ rs ≡ cond b (r ∷ up_to p rs) (up_to p rs) ++ cond b (requests_above p rs) (r ∷ rs)
 requests_split_step p r rs true e later rest = ap (λ xs. r ∷ xs) rest
 requests_split_step p r rs false e later rest = sym (ap (λ xs. xs ++ r ∷ rs) (none_above p r.seqno rs e later))
 
 pub requests_split : (p : ℕ) (rs : List Recorded) → IsRising rs → rs ≡ up_to p rs ++ requests_above p rs
 requests_split p [] rising = refl
-requests_split p (r ∷ rs) rising = requests_split_step p r rs (nat_le r.seqno p) refl (rest_behind r rs rising) (requests_split p rs (rest_rises r rs rising))
+requests_split p (r ∷ rs) rising = requests_split_step p r rs (nat_le r.seqno p) refl (rest_after r rs rising) (requests_split p rs (rest_rises r rs rising))
 
 pub requests_left : (p : ℕ) (rs : List Recorded) → IsRising rs → take (count_by (λ (r : Recorded). nat_le r.seqno p) rs) rs ≡ up_to p rs
-requests_left p rs rising = front (λ (r : Recorded). nat_le r.seqno p) rs (requests_above p rs) (requests_split p rs rising)
+requests_left p rs rising = prefix (λ (r : Recorded). nat_le r.seqno p) rs (requests_above p rs) (requests_split p rs rising)
 
 -- ---- changes
 
--- the changes that requests bring about behind a history
-abbrev changes_behind : History → List Recorded → List Changed
-changes_behind h [] = []
-changes_behind h (r ∷ rs) = map (changed_at r.seqno) (changes_of h r) ++ changes_behind (with_request h r) rs
+-- the changes that requests bring about after a history
+abbrev changes_after : History → List Recorded → List Changed
+changes_after h [] = []
+changes_after h (r ∷ rs) = map (changed_at r.seqno) (changes_of h r) ++ changes_after (with_request h r) rs
 
 changes_with : (h : History) (r : Recorded) → (with_request h r).changes ≡ h.changes ++ map (changed_at r.seqno) (changes_of h r)
 unfolding with_request
 changes_with h r = refl
 
-changes_onto : (h : History) (rs : List Recorded) → (fold with_request h rs).changes ≡ h.changes ++ changes_behind h rs
+changes_onto : (h : History) (rs : List Recorded) → (fold with_request h rs).changes ≡ h.changes ++ changes_after h rs
 changes_onto h [] = sym (append-nil h.changes)
 changes_onto h (r ∷ rs) =
-    changes_onto (with_request h r) rs ∙ ap (λ xs. xs ++ changes_behind (with_request h r) rs) (changes_with h r)
-    ∙ append_assoc h.changes (map (changed_at r.seqno) (changes_of h r)) (changes_behind (with_request h r) rs)
+    changes_onto (with_request h r) rs ∙ ap (λ xs. xs ++ changes_after (with_request h r) rs) (changes_with h r)
+    ∙ append_assoc h.changes (map (changed_at r.seqno) (changes_of h r)) (changes_after (with_request h r) rs)
 
-history_split : (us rs : List Recorded) → (history (us ++ rs)).changes ≡ (history us).changes ++ changes_behind (history us) rs
+history_split : (us rs : List Recorded) → (history (us ++ rs)).changes ≡ (history us).changes ++ changes_after (history us) rs
 unfolding history
 history_split us rs = ap (λ (h : History). h.changes) (fold-append with_request no_history us rs) ∙ changes_onto (history us) rs
 
@@ -82,9 +82,9 @@ changes_left p h rising whole =
     let rs : List Recorded = requests_above p h.requests in
     let same : (history us).changes ≡ changes_up_to p h.changes =
     ap (λ (x : History). x.changes) (history-up_to p h.requests rising) ∙ sym (ap (λ (x : History). changes_up_to p x.changes) whole) in
-    front (λ (c : Changed). nat_le c.seqno p) h.changes (changes_behind (history us) rs)
+    prefix (λ (c : Changed). nat_le c.seqno p) h.changes (changes_after (history us) rs)
     (ap (λ (x : History). x.changes) (whole ∙ ap history (requests_split p h.requests rising)) ∙ history_split us rs
-    ∙ ap (λ xs. xs ++ changes_behind (history us) rs) same)
+    ∙ ap (λ xs. xs ++ changes_after (history us) rs) same)
 
 -- ---- the history that is left
 

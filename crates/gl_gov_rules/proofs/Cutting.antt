@@ -10,7 +10,7 @@ use Rattle.gl_gov_rules.specs.History.{History, no_history}
 use Rattle.gl_gov_rules.specs.Changes.{history, with_request, changed_at, changes_of}
 use Rattle.gl_gov_rules.specs.Governed.{up_to}
 use Rattle.gl_gov_rules.specs.Rising.{IsRising}
-use Rattle.gl_gov_rules.proofs.Rising.{AreBehind, rest_rises, rest_behind}
+use Rattle.gl_gov_rules.proofs.Rising.{AreAfter, rest_rises, rest_after}
 
 abbrev pub changes_up_to : ℕ → List Changed → List Changed
 changes_up_to seqno cs = filter (λ (c : Changed). nat_le c.seqno seqno) cs
@@ -63,26 +63,26 @@ above : (p q s : ℕ) → nat_le q p ≡ false → q < s → nat_le s p ≡ fals
 above p q s e more = grind (arith, nat_tests)
 
 -- requests above the seqno leave nothing
-all_above : (p q : ℕ) (h : History) (rs : List Recorded) → nat_le q p ≡ false → AreBehind q rs → cut_to p (fold with_request h rs) ≡ cut_to p h
+all_above : (p q : ℕ) (h : History) (rs : List Recorded) → nat_le q p ≡ false → AreAfter q rs → cut_to p (fold with_request h rs) ≡ cut_to p h
 all_above p q h [] e more = refl
 all_above p q h (r ∷ rs) e more = all_above p q (with_request h r) rs e more.1 ∙ cut_above p h r (above p q r.seqno e more.0)
 
-pub none_above : (p q : ℕ) (rs : List Recorded) → nat_le q p ≡ false → AreBehind q rs → up_to p rs ≡ []
+pub none_above : (p q : ℕ) (rs : List Recorded) → nat_le q p ≡ false → AreAfter q rs → up_to p rs ≡ []
 none_above p q [] e more = refl
 none_above p q (r ∷ rs) e more = let gone : nat_le r.seqno p ≡ false = above p q r.seqno e more.0 in rw gone (none_above p q rs e more.1)
 
-cut_step : (p : ℕ) (h : History) (r : Recorded) (rs : List Recorded) (b : Bool) → nat_le r.seqno p ≡ b → AreBehind r.seqno rs →
+cut_step : (p : ℕ) (h : History) (r : Recorded) (rs : List Recorded) (b : Bool) → nat_le r.seqno p ≡ b → AreAfter r.seqno rs →
     cut_to p h ≡ h →
     (cut_to p (with_request h r) ≡ with_request h r → fold with_request (with_request h r) (up_to p rs) ≡ cut_to p (fold with_request (with_request h r) rs)) →
     fold with_request h (up_to p (r ∷ rs)) ≡ cut_to p (fold with_request h (r ∷ rs))
-cut_step p h r rs true e later same behind = rw e (behind (cut_below p h r e same))
-cut_step p h r rs false e later same behind =
+cut_step p h r rs true e later same after = rw e (after (cut_below p h r e same))
+cut_step p h r rs false e later same after =
     rw e (ap (fold with_request h) (none_above p r.seqno rs e later)
     ∙ sym same ∙ sym (cut_above p h r e) ∙ sym (all_above p r.seqno (with_request h r) rs e later))
 
 cut_fold : (p : ℕ) (h : History) (rs : List Recorded) → IsRising rs → cut_to p h ≡ h → fold with_request h (up_to p rs) ≡ cut_to p (fold with_request h rs)
 cut_fold p h [] rising same = sym same
-cut_fold p h (r ∷ rs) rising same = cut_step p h r rs (nat_le r.seqno p) refl (rest_behind r rs rising) same (λ kept. cut_fold p (with_request h r) rs (rest_rises r rs rising) kept)
+cut_fold p h (r ∷ rs) rising same = cut_step p h r rs (nat_le r.seqno p) refl (rest_after r rs rising) same (λ kept. cut_fold p (with_request h r) rs (rest_rises r rs rising) kept)
 
 pub history-up_to : (p : ℕ) (rs : List Recorded) → IsRising rs → history (up_to p rs) ≡ cut_to p (history rs)
 unfolding history

@@ -1,4 +1,4 @@
--- Digests are bytes, 32 of them, numbers in bytes are bytes, and so are lists one behind the other.
+-- Digests are bytes, 32 of them, numbers in bytes are bytes, and so are lists one after the other.
 use Rattle.std.proofs.Common.{◌≡◌, ℕ, zero, suc, ◌<◌, List, [], ◌∷◌, ◌++◌, ◌/◌, ◌%◌, length, Bool, true, ◌==◌, flat_map, refl, arith}
 use Rattle.std.specs.List.{list_all}
 use Rattle.std.proofs.lemmas.Bool.{and_parts, and_from}
@@ -25,11 +25,11 @@ unfolding little_endian
 number_bytes zero n = refl
 number_bytes (suc size) n = and_from (is_byte (n % 256)) (are_bytes (little_endian size (n / 256))) (below n) (number_bytes size (n / 256))
 
--- bytes behind their length
+-- bytes after their length
 pub length_bytes : (xs : List ℕ) → are_bytes xs ≡ true → are_bytes (with_u32_length xs) ≡ true
 length_bytes xs all = bytes-append (little_endian 4 (length xs)) xs (number_bytes 4 (length xs)) all
 
--- parts that are bytes, one behind the other
+-- parts that are bytes, one after the other
 pub flat_bytes : {A : Type 0} (bytes : A → List ℕ) (is : A → Bool) (xs : List A) → ((x : A) → is x ≡ true → are_bytes (bytes x) ≡ true) → list_all is xs ≡ true → are_bytes (flat_map bytes xs) ≡ true
 flat_bytes bytes is [] each all = refl
 flat_bytes bytes is (x ∷ xs) each all =

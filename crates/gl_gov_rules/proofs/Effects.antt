@@ -1,4 +1,5 @@
--- The rows of a history are in order, each with a value; the write set of a request turns the tables of those before it into those with it, and that of the first is its rows.
+-- The rows of a history are in order, each with a value; the write set of a request turns the
+-- tables of those before it into those with it, and that of the first is its rows.
 use Rattle.std.proofs.Common.{◌≡◌, List, [], ◌∷◌, ◌++◌, true, refl, ◌∙◌, ap}
 use Rattle.gl_vmaps.specs.declared.write.Write.{Write}
 use Rattle.gl_vmaps.specs.Writes.{is_ordered}

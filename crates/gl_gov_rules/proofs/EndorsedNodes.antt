@@ -1,11 +1,12 @@
--- With what a node is recorded: one of a founding as the founding names it, and each, where no recovery stands, with an endorsement by the service's key.
+-- With what a node is recorded: one of a founding as the founding names it, and each, where no
+-- recovery stands, with an endorsement by the service's key.
 use Rattle.std.proofs.Common.{◌≡◌, ℕ, zero, suc, List, [], ◌∷◌, ◌++◌, map, flat_map, find, Some, None, Bool, true, false, not, ◌&&◌, slice_get, refl, sym, ◌∙◌, ap, subst}
 use Rattle.std.specs.List.{list_any, list_all, AllByRecursion}
 use Rattle.std.specs.Cmp.Lexicographic.{bytes_decides}
 use Rattle.std.proofs.lemmas.Bool.{and_parts, or_parts, not-true, both_ways, cond-true, cond-false, false_from_ne_true}
 use Rattle.std.proofs.lemmas.List.Folds.{list_any-append}
 use Rattle.gl_base.specs.Bytes.{are_sized, same_bytes}
-use Rattle.gl_requests.specs.Spelling.{node_id}
+use Rattle.gl_requests.specs.Encoding.{node_id}
 use Rattle.gl_requests.specs.Ranges as ranges
 use Rattle.gl_requests.specs.declared.genesis.Genesis.{Genesis}
 use Rattle.gl_requests.specs.declared.genesis.NewNode.{NewNode}
@@ -66,13 +67,13 @@ pub record IsEndorsedBy (key : List ℕ) (n : RecordedNode) : Type 0 where
   pub fits : ranges.is_node n.node ≡ true
   pub endorsed : is_endorsed key n.node.key n.node.endorsement ≡ true
 
--- the service's key behind these requests
-abbrev key_behind : List Recorded → List ℕ
-key_behind rs = key_in_force (identity (history rs))
+-- the service's key after these requests
+abbrev key_after : List Recorded → List ℕ
+key_after rs = key_in_force (identity (history rs))
 
 -- where no recovery stands, it endorses each node
 abbrev AreEndorsed : List Recorded → Type 0
-AreEndorsed rs = has_recovery rs ≡ false → AllByRecursion (IsEndorsedBy (key_behind rs)) (nodes (history rs))
+AreEndorsed rs = has_recovery rs ≡ false → AllByRecursion (IsEndorsedBy (key_after rs)) (nodes (history rs))
 
 -- no request records no node
 none_yet : (P : RecordedNode → Type 0) → AllByRecursion P (nodes (history []))
@@ -116,24 +117,24 @@ module _ (rs : List Recorded) (r : Recorded) (follows : Follows rs r) (old : Are
   accepted q is = ap (refusal (history rs) r.seqno) (sym is) ∙ follows.accepted
 
   -- by a key that endorses those before it and those of the request
-  with_key : (key : List ℕ) (q : GovernanceRequest) → r.request ≡ q → key_behind (rs ++ r ∷ []) ≡ key → AllByRecursion (IsEndorsedBy key) (nodes (history rs)) →
-      AllByRecursion (IsEndorsedBy key) (nodes_recorded r.seqno q) → AllByRecursion (IsEndorsedBy (key_behind (rs ++ r ∷ []))) (nodes (history (rs ++ r ∷ [])))
-  with_key key q is told before new =
-      subst (λ (k : List ℕ). AllByRecursion (IsEndorsedBy k) (nodes (history (rs ++ r ∷ [])))) (sym told)
+  with_key : (key : List ℕ) (q : GovernanceRequest) → r.request ≡ q → key_after (rs ++ r ∷ []) ≡ key → AllByRecursion (IsEndorsedBy key) (nodes (history rs)) →
+      AllByRecursion (IsEndorsedBy key) (nodes_recorded r.seqno q) → AllByRecursion (IsEndorsedBy (key_after (rs ++ r ∷ []))) (nodes (history (rs ++ r ∷ [])))
+  with_key key q is reported before new =
+      subst (λ (k : List ℕ). AllByRecursion (IsEndorsedBy k) (nodes (history (rs ++ r ∷ [])))) (sym reported)
       (subst (AllByRecursion (IsEndorsedBy key)) (sym (nodes_more rs r ∙ ap (λ (x : GovernanceRequest). nodes (history rs) ++ nodes_recorded r.seqno x) is))
       (each_append (IsEndorsedBy key) (nodes (history rs)) (nodes_recorded r.seqno q) before new))
 
   -- with a request that names no key
-  with_same : (q : GovernanceRequest) → r.request ≡ q → is_founding q ≡ false → is_recovery q ≡ false → AllByRecursion (IsEndorsedBy (key_behind rs)) (nodes_recorded r.seqno q) →
-      AllByRecursion (IsEndorsedBy (key_behind (rs ++ r ∷ []))) (nodes (history (rs ++ r ∷ [])))
+  with_same : (q : GovernanceRequest) → r.request ≡ q → is_founding q ≡ false → is_recovery q ≡ false → AllByRecursion (IsEndorsedBy (key_after rs)) (nodes_recorded r.seqno q) →
+      AllByRecursion (IsEndorsedBy (key_after (rs ++ r ∷ []))) (nodes (history (rs ++ r ∷ [])))
   with_same q is founds recovers new =
-      with_key (key_behind rs) q is (ap key_in_force (identity_kept rs r (ap is_founding is ∙ founds) (ap is_recovery is ∙ recovers))) (old parts.0) new
+      with_key (key_after rs) q is (ap key_in_force (identity_kept rs r (ap is_founding is ∙ founds) (ap is_recovery is ∙ recovers))) (old parts.0) new
 
-  by_request : (q : GovernanceRequest) → r.request ≡ q → AllByRecursion (IsEndorsedBy (key_behind (rs ++ r ∷ []))) (nodes (history (rs ++ r ∷ [])))
+  by_request : (q : GovernanceRequest) → r.request ≡ q → AllByRecursion (IsEndorsedBy (key_after (rs ++ r ∷ []))) (nodes (history (rs ++ r ∷ [])))
   by_request (requests.Genesis g) is =
       let first : rs ≡ [] = nothing rs (sym follows.founding ∙ ap is_founding is) in
       let whole : r ≡ record { seqno = r.seqno; request = requests.Genesis g } = ap (λ (q : GovernanceRequest). record { seqno = r.seqno; request = q }) is in
-      with_key g.identity (requests.Genesis g) is (ap (λ (x : Recorded). key_behind (rs ++ x ∷ [])) whole ∙ ap key_in_force (founding_named rs r.seqno g))
+      with_key g.identity (requests.Genesis g) is (ap (λ (x : Recorded). key_after (rs ++ x ∷ [])) whole ∙ ap key_in_force (founding_named rs r.seqno g))
       (subst (λ (xs : List Recorded). AllByRecursion (IsEndorsedBy g.identity) (nodes (history xs))) (sym first) (none_yet (IsEndorsedBy g.identity)))
       (all_endorsed g.identity r.seqno g.nodes (nodes_fit g (fits (requests.Genesis g) is)) (genesis_passes (history rs) r.seqno g (accepted (requests.Genesis g) is)).1)
   by_request (requests.Recover q) is = absurd (let both = or_parts (is_recovery r.request) false parts.1 in let w = sym (ap is_recovery is) ∙ both.0 in cc)
@@ -145,11 +146,12 @@ module _ (rs : List Recorded) (r : Recorded) (follows : Follows rs r) (old : Are
 
 are_endorsed_nodes : (rs : List Recorded) → IsGoverned rs → AreEndorsed rs
 are_endorsed_nodes =
-    governed_induction AreEndorsed (λ none. none_yet (IsEndorsedBy (key_behind []))) (λ rs r all follows old none. by_request rs r follows old none r.request refl)
+    governed_induction AreEndorsed (λ none. none_yet (IsEndorsedBy (key_after []))) (λ rs r all follows old none. by_request rs r follows old none r.request refl)
 
--- of requests that follow one another, none of which is a recovery, each node that is recorded has its own identifier, and the service's key endorses it
+-- of requests that follow one another, none of which is a recovery, each node that is recorded has
+-- its own identifier, and the service's key endorses it
 pub endorsed_node : (rs : List Recorded) → IsGoverned rs → list_any (λ (r : Recorded). is_recovery r.request) rs ≡ false → (x : List ℕ) (n : RecordedNode) → node (history rs) x ≡ Some n →
     IsEndorsedBy (key_in_force (identity (history rs))) n × (n.id ≡ x)
 endorsed_node rs all none x n is =
     let at = found_at (has_id x) (nodes (history rs)) n (sym (node_is (history rs) x) ∙ is) in
-    (each_at (IsEndorsedBy (key_behind rs)) (nodes (history rs)) (are_endorsed_nodes rs all none) at.place n at.stands, (bytes_decides n.id x).0 at.passes)
+    (each_at (IsEndorsedBy (key_after rs)) (nodes (history rs)) (are_endorsed_nodes rs all none) at.place n at.stands, (bytes_decides n.id x).0 at.passes)

@@ -1,4 +1,5 @@
--- What the tests of signatures and of endorsements mean by RFC 8554, and how long an endorsement is.
+-- What the tests of signatures and of endorsements mean by RFC 8554, and how long an endorsement
+-- is.
 use Rattle.std.proofs.Common.{◌≡◌, ◌↔◌, ℕ, zero, suc, ◌+◌, ◌<◌, ◌≤◌, List, [], ◌∷◌, length, get_or, Result, Ok, Err, Bool, true, false, refl, ap, ap₂, arith}
 use Rattle.std.specs.Prelude.{is_ok, ◌==◌, ◌&&◌}
 use Rattle.std.proofs.lemmas.Bool.{and_parts}
@@ -13,10 +14,10 @@ use Rattle.gl_hss.specs.declared.fault.HssFault.{HssFault}
 use Rattle.gl_hss.specs.declared.fault.HssFault.TheVariants as fault
 use Rattle.gl_hss.specs.Hss.{IsValid, IsEndorsed}
 use Rattle.gl_hss.specs.Order.{◌>>◌, check, ends, has_root, top_key, signature_at, one_level, verdict, endorsement_verdict}
-use Rattle.gl_hss.proofs.Readings.{then_ok, bind_ok, ends_ok}
+use Rattle.gl_hss.proofs.ParsedFields.{then_ok, bind_ok, ends_ok}
 use Rattle.gl_hss.proofs.Verdicts.{verdict_ok, valid_verdict}
 use Rattle.gl_hss.proofs.Endorsements.{endorsement_ok, endorsement_there}
-use Rattle.gl_requests.specs.Spelling.{signed_bytes}
+use Rattle.gl_requests.specs.Encoding.{signed_bytes}
 use Rattle.gl_requests.specs.declared.request.MemberRequest.{MemberRequest}
 use Rattle.gl_gov_rules.specs.Signatures.{is_signed, is_endorsed}
 
@@ -41,8 +42,8 @@ unfolding endorsement_verdict
 verdict-length identity key e (Err f) is ok = absurd cc
 verdict-length identity key e (Ok u) is ok =
     let test = check (number_at identity 0 == 2) (fault.Levels 2 (number_at identity 0)) in
-    let front = bind_ok (test >> top_key identity) (λ (k : PublicKey). one_level k key e 0) u is in
-    one_level-length front.0 key e u front.2
+    let prefix = bind_ok (test >> top_key identity) (λ (k : PublicKey). one_level k key e 0) u is in
+    one_level-length prefix.0 key e u prefix.2
 
 pub endorsed-length : (identity key e : List ℕ) → is_endorsed identity key e ≡ true → length e ≤ 2508
 unfolding is_endorsed

@@ -1,4 +1,4 @@
--- At most 64 members are present behind requests that follow one another.
+-- At most 64 members are present after requests that follow one another.
 use Rattle.std.proofs.Common.{◌≡◌, ℕ, ◌≤◌, List, [], ◌∷◌, ◌++◌, length, map, Option, None, Some, Bool, true, false, if◌then◌else◌, nat_lt, not, refl, sym, ◌∙◌, arith}
 use Rattle.std.proofs.lemmas.Bool.Decides.{nat_tests}
 use Rattle.gl_requests.specs.declared.genesis.Genesis as founding
@@ -114,6 +114,6 @@ few_more rs r all follows few =
     rw (changes_more rs r)
     (left_brought h (h.requests ++ r ∷ []) r.seqno r.request follows.accepted (λ founds. first_left rs (sym follows.founding ∙ founds)) few)
 
--- behind requests that follow one another at most 64 members are left
+-- after requests that follow one another at most 64 members are left
 pub few_left : (rs : List Recorded) → IsGoverned rs → AreFew rs
 few_left = governed_induction AreFew (rw nothing_left (omega arith)) few_more

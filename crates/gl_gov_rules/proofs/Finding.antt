@@ -71,13 +71,13 @@ module _ {A : Type 0} where
       let both = or_parts (p x) (list_any p xs) e in
       and_from (not (p x)) (list_all (λ y. not (p y)) xs) (not_from_false (p x) both.0) (none_all p xs both.1)
 
-  -- ---- with more behind
+  -- ---- with more after
 
   -- what is found stays found
   pub find_kept : (p : A → Bool) (xs ys : List A) (x : A) → find p xs ≡ Some x → find p (xs ++ ys) ≡ Some x
   find_kept p xs ys x found = find-append p xs ys ∙ ap (λ (o : Option A). option_or o (find p ys)) found
 
-  -- what is found was found before, or stands behind
+  -- what is found was found before, or stands after
   pub find_new : (p : A → Bool) (xs ys : List A) (x : A) → find p (xs ++ ys) ≡ Some x → (find p xs ≡ Some x) ⊎ ((find p xs ≡ None) × (find p ys ≡ Some x))
   find_new p xs ys x e = go (find p xs) refl (sym (find-append p xs ys) ∙ e)
     where
@@ -118,11 +118,11 @@ module _ {A : Type 0} where
       (λ (f : p y ≡ false). (r.0, ap (λ (l : List A). slice_get l r.0) (cond-false (p y) (y ∷ filter p xs) (filter p xs) f) ∙ r.1))
       (cases_Bool (p y))
 
-  -- ---- what stands behind
+  -- ---- what stands after
 
-  pub behind_at : (xs ys : List A) (j : ℕ) (y : A) → slice_get ys j ≡ Some y → (k : ℕ) × (slice_get (xs ++ ys) k ≡ Some y)
-  behind_at [] ys j y at = (j, at)
-  behind_at (x ∷ xs) ys j y at = let r = behind_at xs ys j y at in (suc r.0, r.1)
+  pub after_at : (xs ys : List A) (j : ℕ) (y : A) → slice_get ys j ≡ Some y → (k : ℕ) × (slice_get (xs ++ ys) k ≡ Some y)
+  after_at [] ys j y at = (j, at)
+  after_at (x ∷ xs) ys j y at = let r = after_at xs ys j y at in (suc r.0, r.1)
 
   -- ---- another that passes
 

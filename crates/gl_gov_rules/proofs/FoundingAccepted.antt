@@ -18,7 +18,7 @@ use Rattle.gl_gov_rules.proofs.Endorsements.{endorsed-length}
 use Rattle.gl_gov_rules.proofs.NoneStands.{none_of, not_bad, not_denied, neither}
 use Rattle.gl_gov_rules.proofs.Prefixes.{history_of_none}
 
--- a genesis behind no request is refused by the rules of foundings
+-- a genesis after no request is refused by the rules of foundings
 pub refusal_of_genesis : (g : founding.Genesis) → refusal (history []) 1 (requests.Genesis g) ≡ genesis_refusal no_history g
 unfolding refusal
 refusal_of_genesis g = rw history_of_none refl
@@ -28,8 +28,8 @@ pub accepts : (g : founding.Genesis) → members_refusal g ≡ None → nodes_re
 unfolding genesis_refusal
 accepts g members nodes endorsed = rw (members, nodes, endorsed) refl
 
--- an accepted genesis has a node, at most 32 of them and at most 64 members, and its endorsements are
--- short
+-- an accepted genesis has a node, at most 32 of them and at most 64 members, and its endorsements
+-- are short
 pub record AcceptedParts (g : founding.Genesis) : Type 0 where
   pub some_nodes : 1 ≤ length g.nodes
   pub few_nodes : length g.nodes ≤ 32

@@ -6,7 +6,7 @@ use Rattle.std.proofs.lemmas.Bool.{cond-false}
 use Rattle.gl_vmaps.specs.LastWrite.{last_such}
 use Rattle.gl_vmaps.proofs.LastWrites.{last_such-cons}
 use Rattle.gl_shares.specs.declared.share.Share.{Share}
-use Rattle.gl_requests.specs.Spelling.{node_id}
+use Rattle.gl_requests.specs.Encoding.{node_id}
 use Rattle.gl_requests.specs.declared.genesis.NewMember.{NewMember}
 use Rattle.gl_requests.specs.declared.genesis.NewNode.{NewNode}
 use Rattle.gl_requests.specs.declared.genesis.Genesis as founding
@@ -22,7 +22,7 @@ use Rattle.gl_gov_rules.specs.declared.refusal.NodeStatus.TheVariants as node_st
 use Rattle.gl_gov_rules.specs.History.{History, set_by, last_set}
 use Rattle.gl_gov_rules.specs.Members.{member_named, members, removes_member, is_removed, has_acked, member_status, next_leaf}
 use Rattle.gl_gov_rules.specs.Nodes.{recorded_node, nodes, retires, retirement, is_marked, was_trusted, node_status, is_trusted_status, trusted}
-use Rattle.gl_gov_rules.specs.Service.{sets_rules, constitution, sets_dealing, dealing, sets_identity, identity, is_recovery, is_recovered, sets_state, service_state, last_clearing, share_behind, shares_given}
+use Rattle.gl_gov_rules.specs.Service.{sets_rules, constitution, sets_dealing, dealing, sets_identity, identity, is_recovery, is_recovered, sets_state, service_state, last_clearing, share_after, shares_given}
 use Rattle.gl_gov_rules.specs.Proposals.{proposals}
 use Rattle.gl_gov_rules.specs.Changes.{first_rules, set_member, founding_changes, changes_of, changed_at, with_request, history}
 
@@ -110,7 +110,7 @@ founding_unrecovered g = rw (founded_changes g) (no_member_such (λ (c : Changed
 
 pub founding_shares : (g : founding.Genesis) → shares_given (founded g) ≡ []
 unfolding shares_given
-founding_shares g = ap (filter_map (share_behind (last_clearing (founded g)))) (founded_requests g) ∙ by (nat_lt (last_clearing (founded g)) 1)
+founding_shares g = ap (filter_map (share_after (last_clearing (founded g)))) (founded_requests g) ∙ by (nat_lt (last_clearing (founded g)) 1)
   where
     by : (b : Bool) → cons_option {X = Share} (if b then None else None) [] ≡ []
     by true = refl

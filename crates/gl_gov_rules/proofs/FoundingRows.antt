@@ -2,7 +2,7 @@
 use Rattle.std.proofs.Common.{◌≡◌, ℕ, suc, List, [], ◌∷◌, ◌++◌, map, Some, true, false, refl, ◌∙◌, ap, ap₂, append-nil}
 use Rattle.gl_vmaps.specs.Changes.{write_set}
 use Rattle.gl_vmaps.specs.declared.write.Write.{Write}
-use Rattle.gl_requests.specs.Spelling.{node_id}
+use Rattle.gl_requests.specs.Encoding.{node_id}
 use Rattle.gl_requests.specs.declared.genesis.NewMember.{NewMember}
 use Rattle.gl_requests.specs.declared.genesis.NewNode.{NewNode}
 use Rattle.gl_requests.specs.declared.genesis.Genesis as founding
@@ -78,10 +78,10 @@ founded_proposals g = rw (founding_proposals g) refl
 pub founding_rows : (g : founding.Genesis) → all_rows (founded g) ≡ founding_writes g
 unfolding all_rows
 founding_rows g =
-    let front : List Write = rule_writes_from 1 first_rules ++ dealing_write g.dealing ∷ [] ++ map (λ (m : NewMember). member_write (first_member_row m)) g.members ++ first_node_writes 1 g.nodes in
+    let prefix : List Write = rule_writes_from 1 first_rules ++ dealing_write g.dealing ∷ [] ++ map (λ (m : NewMember). member_write (first_member_row m)) g.members ++ first_node_writes 1 g.nodes in
     let service : List Write = service_write (first_service_row g) ∷ [] in
     rw (founding_constitution g, founding_dealing g, founded_members g, founded_nodes g, founded_proposals g, founded_service g, founding_shares g)
-    (append-nil (front ++ [] ++ service) ∙ ap (λ (ws : List Write). ws ++ service) (append-nil front))
+    (append-nil (prefix ++ [] ++ service) ∙ ap (λ (ws : List Write). ws ++ service) (append-nil prefix))
 
 -- so its tables are those of these writes
 pub founding_write_set : (g : founding.Genesis) → rows (founded g) ≡ write_set (founding_writes g)

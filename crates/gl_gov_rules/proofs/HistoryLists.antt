@@ -50,13 +50,13 @@ changes_below n rs above = below_onto n no_history rs tt above
 
 -- ---- nodes
 
-pub nodes_behind : (h : History) (r : Recorded) → nodes (with_request h r) ≡ nodes h ++ nodes_recorded r.seqno r.request
+pub nodes_after : (h : History) (r : Recorded) → nodes (with_request h r) ≡ nodes h ++ nodes_recorded r.seqno r.request
 unfolding nodes
-nodes_behind h r =
+nodes_after h r =
     let f : Recorded → List RecordedNode = λ (x : Recorded). nodes_recorded x.seqno x.request in
     ap (flat_map f) (requests_with h r) ∙ flat_map-append f h.requests (r ∷ []) ∙ ap (λ (ns : List RecordedNode). flat_map f h.requests ++ ns) (append-nil (nodes_recorded r.seqno r.request))
 
--- one request more records its nodes behind all others
+-- one request more records its nodes after all others
 pub nodes_more : (rs : List Recorded) (r : Recorded) → nodes (history (rs ++ r ∷ [])) ≡ nodes (history rs) ++ nodes_recorded r.seqno r.request
 unfolding nodes
 nodes_more rs r =

@@ -1,4 +1,5 @@
--- The service's key stays: of all that requests bring about only a founding and a recovery name one.
+-- The service's key stays: of all that requests bring about only a founding and a recovery name
+-- one.
 use Rattle.std.proofs.Common.{◌≡◌, ℕ, List, [], ◌∷◌, ◌++◌, map, Option, Some, None, slice_get, Bool, true, false, ◌||◌, refl, sym, ◌∙◌, ap, ap₂, if◌then◌else◌}
 use Rattle.std.specs.List.{list_all, list_any}
 use Rattle.std.specs.Option.{option_or}
@@ -157,7 +158,7 @@ founding_brings : (h : History) (s : ℕ) (g : Genesis) → changes_of h (record
 unfolding changes_of
 founding_brings h s g = refl
 
--- what it brings about behind its first change
+-- what it brings about after its first change
 abbrev founding_rest : Genesis → List Change
 founding_rest g = changes.Applied (actions.SetConstitution first_rules) ∷ changes.Applied (actions.SetRecoveryThreshold g.dealing) ∷ map set_member g.members
 
@@ -179,7 +180,7 @@ founding_named rs s g =
 abbrev pub has_recovery : List Recorded → Bool
 has_recovery rs = list_any (λ (r : Recorded). is_recovery r.request) rs
 
--- behind a founding, and without a recovery, its key is the service's
+-- after a founding, and without a recovery, its key is the service's
 abbrev HasKeyOf : Genesis → List Recorded → Type 0
 HasKeyOf g rs = has_recovery rs ≡ false → slice_get rs 0 ≡ Some (first_founding g) → identity (history rs) ≡ Some g.identity
 

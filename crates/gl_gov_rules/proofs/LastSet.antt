@@ -21,7 +21,7 @@ module _ {A : Type 0} (sets : Change → Option A) where
   abbrev is_setting : Changed → Bool
   is_setting c = is_some (sets c.change)
 
-  -- the last thing set is that of the changes behind, or else that of those in front
+  -- the last thing set is that of the later changes, or else that of the earlier ones
   pub last_set-append : (cs ds : List Changed) → last_set sets (cs ++ ds) ≡ option_or (last_set sets ds) (last_set sets cs)
   last_set-append cs ds =
       ap (λ (xs : List Changed). set_by sets (find is_setting xs)) (reverse-append cs ds)
@@ -46,9 +46,9 @@ module _ {A : Type 0} (sets : Change → Option A) where
   pub set_before : (cs ds : List Changed) → is_some (last_set sets cs) ≡ true → is_some (last_set sets (cs ++ ds)) ≡ true
   set_before cs ds there = ap is_some (last_set-append cs ds) ∙ some_of_second (last_set sets ds) (last_set sets cs) there
 
-  -- what changes behind set is set
-  pub set_behind : (cs ds : List Changed) → is_some (last_set sets ds) ≡ true → is_some (last_set sets (cs ++ ds)) ≡ true
-  set_behind cs ds there = ap is_some (last_set-append cs ds) ∙ some_of_first (last_set sets ds) (last_set sets cs) there
+  -- what changes after set is set
+  pub set_after : (cs ds : List Changed) → is_some (last_set sets ds) ≡ true → is_some (last_set sets (cs ++ ds)) ≡ true
+  set_after cs ds there = ap is_some (last_set-append cs ds) ∙ some_of_first (last_set sets ds) (last_set sets cs) there
 
   -- so is what the first of them sets
   pub set_by_first : (c : Changed) (cs : List Changed) → is_some (sets c.change) ≡ true → is_some (last_set sets (c ∷ cs)) ≡ true

@@ -2,9 +2,9 @@ pub mod Answered
 mod ListsByNumber
 mod ByRequests
 pub mod Settled
-mod ToldAt
+mod FactsAtSeqno
 mod Answers
-pub mod Telling
+pub mod HistoryIndex
 pub mod Rising
 pub mod Cutting
 pub mod CutLists
@@ -29,7 +29,7 @@ pub mod SomeTrusted
 pub mod RowsSet
 pub mod Effects
 pub mod Digests
-pub mod SpelledParts
+pub mod EncodedParts
 pub mod RowParts
 pub mod RowFormats
 pub mod ProposalFormats

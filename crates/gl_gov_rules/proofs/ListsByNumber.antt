@@ -8,7 +8,7 @@ use Rattle.std.proofs.lemmas.List.{get_or-map, map-set, map-append, set-get_or, 
 use Rattle.std.proofs.lemmas.Bool.{cases_eq, cases_lt}
 use Rattle.gl_gov_rules.specs.Lists.{lists_of, list_at}
 
--- ---- what passes a test stands in front
+-- ---- what passes a test stands first
 
 none_pass : {X : Type 0} (p : X → Bool) (xs : List X) → ((k : ℕ) (d : X) → k < length xs → p (get_or xs k d) ≡ false) → filter p xs ≡ []
 none_pass p [] none = refl
@@ -18,12 +18,12 @@ none_pass p (x ∷ xs) none =
 
 some_pass : {X : Type 0} (p : X → Bool) (xs : List X) (i : ℕ) → ((k : ℕ) (d : X) → k < i → p (get_or xs k d) ≡ true) →
     ((k : ℕ) (d : X) → i ≤ k → k < length xs → p (get_or xs k d) ≡ false) → take i xs ≡ filter p xs
-some_pass p [] zero front rest = refl
-some_pass p [] (suc i) front rest = refl
-some_pass p (x ∷ xs) zero front rest = sym (none_pass p (x ∷ xs) (λ k d lt. rest k d (omega arith) lt))
-some_pass p (x ∷ xs) (suc i) front rest =
-    let here : p x ≡ true = front zero x (omega arith) in
-    rw here (ap (λ ys. x ∷ ys) (some_pass p xs i (λ k d lt. front (suc k) d (omega arith)) (λ k d le lt. rest (suc k) d (omega arith) (omega arith))))
+some_pass p [] zero prefix rest = refl
+some_pass p [] (suc i) prefix rest = refl
+some_pass p (x ∷ xs) zero prefix rest = sym (none_pass p (x ∷ xs) (λ k d lt. rest k d (omega arith) lt))
+some_pass p (x ∷ xs) (suc i) prefix rest =
+    let here : p x ≡ true = prefix zero x (omega arith) in
+    rw here (ap (λ ys. x ∷ ys) (some_pass p xs i (λ k d lt. prefix (suc k) d (omega arith)) (λ k d le lt. rest (suc k) d (omega arith) (omega arith))))
 
 pub taken_to_point : {X : Type 0} (p : X → Bool) (xs ys : List X) (i : ℕ) → ys ≡ take i xs → IsPartitionPoint (λ y. p y ≡ true) (λ y. p y ≡ false) xs i → ys ≡ filter p xs
 taken_to_point p xs ys i taken point = taken ∙ some_pass p xs i (λ k d lt. point.0 k d (omega arith) lt) (λ k d le lt. point.1 k d le lt)

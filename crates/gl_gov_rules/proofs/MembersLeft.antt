@@ -1,4 +1,4 @@
--- How many members are present behind changes: at most 64 as long as each action was tried, and as
+-- How many members are present after changes: at most 64 as long as each action was tried, and as
 -- many as there are holders of shares at the least.
 use Rattle.std.proofs.Common.{◌≡◌, ℕ, suc, ◌+◌, ◌≤◌, ◌<◌, List, [], ◌∷◌, ◌++◌, length, map, None, is_some, Bool, true, false, not, ◌&&◌, ◌||◌, nat_eq, nat_le, nat_lt, find, filter_map, count_by, refl, sym, ◌∙◌, ap, append-nil, subst, arith}
 use Rattle.std.specs.List.{list_all, list_any, AllByRecursion}
@@ -23,7 +23,7 @@ use Rattle.gl_gov_rules.specs.Changes.{changed_at, set_member}
 use Rattle.gl_gov_rules.proofs.Counting.{one_if, all_weaker, find_passes, count-cons, count-append, count_alike, count_weaker, count_none, pigeonhole_met}
 use Rattle.gl_gov_rules.proofs.NoneStands.{none_of, not_bad, no_cause}
 
--- ---- the members that are left behind changes
+-- ---- the members that are left after changes
 
 abbrev pub members_in : List Changed → List NewMember
 members_in cs = filter_map (λ (c : Changed). member_named c.change) cs
@@ -70,7 +70,7 @@ present_count-left h =
 
 -- ---- holders of shares
 
--- none of those behind a number has it
+-- none of those after a number has it
 others_differ : (number : ℕ) (shares : List ShareDigest) → is_below_all number shares ≡ true → list_all (λ (s : ShareDigest). not (nat_eq number s.member)) shares ≡ true
 others_differ number shares below =
     all_weaker (λ (s : ShareDigest). nat_lt number s.member) (λ (s : ShareDigest). not (nat_eq number s.member)) (λ s e. differ number s.member e) shares below
@@ -155,7 +155,7 @@ room_left h m none =
     let used = where_is (is_number_used h m.number) causes.NumberUsed orelse where_is (is_key_used h m.key) causes.KeyUsed in
     not_bad (nat_le 64 (present_count h)) causes.Full (none_of used full none).1
 
--- behind an action that can be applied no more than 64 are left
+-- after an action that can be applied no more than 64 are left
 pub left_applied : (h : History) (seqno : ℕ) (a : Action) → cause_against h a ≡ None → left_in h.changes ≤ 64 → left_in (h.changes ++ changed_at seqno (changes.Applied a) ∷ []) ≤ 64
 left_applied h seqno (actions.SetMember m) none few =
     let full = room_left h m none in

@@ -1,5 +1,5 @@
--- What is known of the nodes of a request that isn't refused: they are distinct, and none of them was
--- recorded. So no two of all nodes have one identifier.
+-- What is known of the nodes of a request that isn't refused: they are distinct, and none of them
+-- was recorded. So no two of all nodes have one identifier.
 use Rattle.std.proofs.Common.{◌≡◌, ◌⊎◌, inl, inr, ℕ, zero, suc, ◌+◌, List, [], ◌∷◌, ◌++◌, length, map, Option, Some, None, is_some, Bool, true, false, not, ◌||◌, ◌==◌, nat_lt, nat_le, slice_get, refl, sym, ◌∙◌, ap, subst}
 use Rattle.std.specs.List.{list_any}
 use Rattle.std.specs.Cmp.Lexicographic.{bytes_decides}
@@ -7,7 +7,7 @@ use Rattle.std.proofs.lemmas.Bool.{and_parts, or_parts, not-true, not-false, bot
 use Rattle.std.proofs.lemmas.Option.{same_Some}
 use Rattle.gl_base.proofs.Lists.{slice_get-of_append}
 use Rattle.gl_base.specs.Bytes.{same_bytes}
-use Rattle.gl_requests.specs.Spelling.{node_id}
+use Rattle.gl_requests.specs.Encoding.{node_id}
 use Rattle.gl_requests.specs.declared.genesis.NewNode.{NewNode}
 use Rattle.gl_requests.specs.declared.request.GovernanceRequest.{GovernanceRequest}
 use Rattle.gl_requests.specs.declared.request.GovernanceRequest.TheVariants as requests
@@ -97,9 +97,9 @@ AreFresh ns more = (i j : ℕ) (m n : RecordedNode) → slice_get ns i ≡ Some 
 same_self : (id : List ℕ) → same_bytes id id ≡ true
 same_self id = (bytes_decides id id).1 refl
 
--- those that stand behind have other identifiers than the first
-behind_differ : (n : NewNode) (ns : List NewNode) (j : ℕ) (m : NewNode) → are_ids_distinct (n ∷ ns) ≡ true → slice_get ns j ≡ Some m → node_id n ≡ node_id m → ⊥
-behind_differ n ns j m apart at same =
+-- those that stand after have other identifiers than the first
+after_differ : (n : NewNode) (ns : List NewNode) (j : ℕ) (m : NewNode) → are_ids_distinct (n ∷ ns) ≡ true → slice_get ns j ≡ Some m → node_id n ≡ node_id m → ⊥
+after_differ n ns j m apart at same =
     let both = and_parts (not (list_any (is_node_with (node_id n)) ns)) (are_ids_distinct ns) apart in
     both_ways (list_any (is_node_with (node_id n)) ns) (not-true (list_any (is_node_with (node_id n)) ns) both.0)
     (any_from (is_node_with (node_id n)) ns j m at ((bytes_decides (node_id m) (node_id n)).1 (sym same)))
@@ -109,10 +109,10 @@ apart_places [] apart i j m n left right same = absurd cc
 apart_places (x ∷ ns) apart zero zero m n left right same = refl
 apart_places (x ∷ ns) apart zero (suc j) m n left right same =
     let is : x ≡ m = same_Some x m left in
-    absurd (behind_differ x ns j n apart right (ap node_id is ∙ same))
+    absurd (after_differ x ns j n apart right (ap node_id is ∙ same))
 apart_places (x ∷ ns) apart (suc i) zero m n left right same =
     let is : x ≡ n = same_Some x n right in
-    absurd (behind_differ x ns i m apart left (ap node_id is ∙ sym same))
+    absurd (after_differ x ns i m apart left (ap node_id is ∙ sym same))
 apart_places (x ∷ ns) apart (suc i) (suc j) m n left right same =
     ap suc (apart_places ns (and_parts (not (list_any (is_node_with (node_id x)) ns)) (are_ids_distinct ns) apart).1 i j m n left right same)
 
@@ -168,8 +168,8 @@ recorded_fresh h s q e i j m n left right same = unrecorded h n.id i m (recorded
 
 -- ---- all nodes
 
-pub distinct_behind : (xs ys : List RecordedNode) → AreDistinct xs → AreDistinct ys → AreFresh xs ys → AreDistinct (xs ++ ys)
-distinct_behind xs ys first rest fresh i j m n left right same = go (slice_get-of_append xs ys i m left) (slice_get-of_append xs ys j n right)
+pub distinct_after : (xs ys : List RecordedNode) → AreDistinct xs → AreDistinct ys → AreFresh xs ys → AreDistinct (xs ++ ys)
+distinct_after xs ys first rest fresh i j m n left right same = go (slice_get-of_append xs ys i m left) (slice_get-of_append xs ys j n right)
   where
     go : (slice_get xs i ≡ Some m) ⊎ ((k : ℕ) × (i ≡ length xs + k) × (slice_get ys k ≡ Some m)) →
         (slice_get xs j ≡ Some n) ⊎ ((k : ℕ) × (j ≡ length xs + k) × (slice_get ys k ≡ Some n)) → i ≡ j
@@ -188,7 +188,7 @@ nodes_distinct = governed_induction (λ (rs : List Recorded). AreDistinct (nodes
     (subst AreDistinct (sym no_nodes) (λ i j m n left right same. absurd cc))
     (λ rs r all follows old.
     subst AreDistinct (sym (nodes_more rs r))
-    (distinct_behind (nodes (history rs)) (nodes_recorded r.seqno r.request) old (recorded_distinct (history rs) r.seqno r.request follows.accepted) (recorded_fresh (history rs) r.seqno r.request follows.accepted)))
+    (distinct_after (nodes (history rs)) (nodes_recorded r.seqno r.request) old (recorded_distinct (history rs) r.seqno r.request follows.accepted) (recorded_fresh (history rs) r.seqno r.request follows.accepted)))
 
 -- the node that stands at a place is the one with its identifier
 pub node_in : (h : History) (i : ℕ) (n : RecordedNode) → AreDistinct (nodes h) → slice_get (nodes h) i ≡ Some n → node h n.id ≡ Some n

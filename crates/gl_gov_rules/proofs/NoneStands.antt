@@ -4,9 +4,9 @@ use Rattle.gl_gov_rules.specs.declared.refusal.Cause.{Cause}
 use Rattle.gl_gov_rules.specs.Actions.{◌orelse◌, where_is, at_index}
 
 -- neither of two stands
-pub none_of : {R : Type 0} (first behind : Option R) → first orelse behind ≡ None → (first ≡ None) × (behind ≡ None)
-none_of None behind none = (refl, none)
-none_of (Some r) behind none = absurd cc
+pub none_of : {R : Type 0} (first after : Option R) → first orelse after ≡ None → (first ≡ None) × (after ≡ None)
+none_of None after none = (refl, none)
+none_of (Some r) after none = absurd cc
 
 -- it is not bad
 pub not_bad : {R : Type 0} (bad : Bool) (r : R) → where_is bad r ≡ None → bad ≡ false

@@ -38,21 +38,21 @@ history_of_none = refl
 -- ---- prefixes
 
 -- the requests in front follow one another
-pub governed_front : (front rest : List Recorded) → IsGoverned (front ++ rest) → IsGoverned front
-governed_front front rest all i r at =
-    let within = slice_get-within front i r at in
-    subst (λ rs. Follows rs r) (take-append-le i front rest (omega (arith, within))) (all i r (slice_get-append front rest i r at))
+pub governed_prefix : (prefix rest : List Recorded) → IsGoverned (prefix ++ rest) → IsGoverned prefix
+governed_prefix prefix rest all i r at =
+    let within = slice_get-within prefix i r at in
+    subst (λ rs. Follows rs r) (take-append-le i prefix rest (omega (arith, within))) (all i r (slice_get-append prefix rest i r at))
 
--- the request behind them follows them
-pub governed_next : (front : List Recorded) (r : Recorded) (rest : List Recorded) → IsGoverned (front ++ r ∷ rest) → Follows front r
-governed_next front r rest all =
-    let at : slice_get (front ++ r ∷ rest) (length front) ≡ Some r =
-    ap (λ rs. slice_get rs (length front)) (sym (push-append front r rest)) ∙ slice_get-append (front ++ r ∷ []) rest (length front) r (slice_get-last front r) in
-    subst (λ rs. Follows rs r) (take-append_seam front (r ∷ rest)) (all (length front) r at)
+-- the request after them follows them
+pub governed_next : (prefix : List Recorded) (r : Recorded) (rest : List Recorded) → IsGoverned (prefix ++ r ∷ rest) → Follows prefix r
+governed_next prefix r rest all =
+    let at : slice_get (prefix ++ r ∷ rest) (length prefix) ≡ Some r =
+    ap (λ rs. slice_get rs (length prefix)) (sym (push-append prefix r rest)) ∙ slice_get-append (prefix ++ r ∷ []) rest (length prefix) r (slice_get-last prefix r) in
+    subst (λ rs. Follows rs r) (take-append_seam prefix (r ∷ rest)) (all (length prefix) r at)
 
 -- so do the first ones, so many of them
 pub governed_take : (n : ℕ) (rs : List Recorded) → IsGoverned rs → IsGoverned (take n rs)
-governed_take n rs all = governed_front (take n rs) (drop n rs) (rw (take-append-drop n rs) all)
+governed_take n rs all = governed_prefix (take n rs) (drop n rs) (rw (take-append-drop n rs) all)
 
 -- with one more that follows them
 pub governed_more : (rs : List Recorded) (r : Recorded) → IsGoverned rs → Follows rs r → IsGoverned (rs ++ r ∷ [])
@@ -63,19 +63,19 @@ governed_more rs r all follows i q at =
     (λ (new : (i ≡ length rs) × (q ≡ r)). rw (new.1, new.0, take-append_seam rs (r ∷ [])) follows)
     (slice_get-push rs r i q at)
 
--- the requests and the one behind them
+-- the requests and the one after them
 pub governed_last : (rs : List Recorded) (r : Recorded) → IsGoverned (rs ++ r ∷ []) → IsGoverned rs × Follows rs r
-governed_last rs r all = (governed_front rs (r ∷ []) all, governed_next rs r [] all)
+governed_last rs r all = (governed_prefix rs (r ∷ []) all, governed_next rs r [] all)
 
 -- ---- the induction
 
--- from those in front to all
+-- from those before to all
 induction_from : (P : List Recorded → Type 0) → ((rs : List Recorded) (r : Recorded) → IsGoverned rs → Follows rs r → P rs → P (rs ++ r ∷ [])) →
-    (front rest : List Recorded) → IsGoverned (front ++ rest) → P front → P (front ++ rest)
-induction_from P step front [] all holds = rw append-nil holds
-induction_from P step front (r ∷ rest) all holds =
-    let next = step front r (governed_front front (r ∷ rest) all) (governed_next front r rest all) holds in
-    subst P (push-append front r rest) (induction_from P step (front ++ r ∷ []) rest (rw push-append all) next)
+    (prefix rest : List Recorded) → IsGoverned (prefix ++ rest) → P prefix → P (prefix ++ rest)
+induction_from P step prefix [] all holds = rw append-nil holds
+induction_from P step prefix (r ∷ rest) all holds =
+    let next = step prefix r (governed_prefix prefix (r ∷ rest) all) (governed_next prefix r rest all) holds in
+    subst P (push-append prefix r rest) (induction_from P step (prefix ++ r ∷ []) rest (rw push-append all) next)
 
 -- what holds of no requests, and with each that follows, holds of all that follow one another
 pub governed_induction : (P : List Recorded → Type 0) → P [] → ((rs : List Recorded) (r : Recorded) → IsGoverned rs → Follows rs r → P rs → P (rs ++ r ∷ [])) →

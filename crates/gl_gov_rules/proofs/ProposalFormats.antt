@@ -8,7 +8,7 @@ use Rattle.gl_base.specs.Field.{with_u32_length}
 use Rattle.gl_base.specs.Bytes.{is_byte, are_bytes, is_digest}
 use Rattle.gl_base.proofs.LittleEndianLaws.{length-little_endian}
 use Rattle.gl_vmaps.specs.Writes.{is_write}
-use Rattle.gl_requests.specs.Spelling.{counted_bytes, action_bytes}
+use Rattle.gl_requests.specs.Encoding.{counted_bytes, action_bytes}
 use Rattle.gl_requests.specs.Ranges.{is_action, is_action_count}
 use Rattle.gl_requests.proofs.Sizes.{sized_length}
 use Rattle.gl_gov_rules.specs.declared.change.Recorded.{Recorded}
@@ -21,7 +21,7 @@ use Rattle.gl_gov_rules.specs.Proposals.{proposal_state, has_answered}
 use Rattle.gl_gov_rules.specs.Rows.{proposals_map, proposal_byte, vote_of, member_numbers, votes, vote_bytes, proposal_row, proposal_write}
 use Rattle.gl_gov_rules.specs.Governed.{IsBoundedProposal}
 use Rattle.gl_gov_rules.proofs.Digests.{bytes-append, one_byte, length_bytes, flat_bytes, sized_bytes}
-use Rattle.gl_gov_rules.proofs.SpelledParts.{counted_are_bytes, action_are_bytes}
+use Rattle.gl_gov_rules.proofs.EncodedParts.{counted_are_bytes, action_are_bytes}
 use Rattle.gl_gov_rules.proofs.RowParts.{all_found, is_made_proposal}
 use Rattle.gl_gov_rules.proofs.RowFormats.{row_fits, flag_byte_byte}
 
@@ -77,16 +77,16 @@ proposal_row_fits h p fits bounded =
     let id = sized_length 32 p.id both.0 in
     let list = flat_map action_bytes p.actions in
     let ballots = votes h.requests p.id in
-    let front = proposal_byte (proposal_state h p) ∷ p.proposer ∷ [] in
+    let prefix = proposal_byte (proposal_state h p) ∷ p.proposer ∷ [] in
     let asked = with_u32_length list in
     let said = counted_bytes vote_bytes ballots in
     let listed = flat_bytes action_bytes is_action p.actions action_are_bytes (and_parts (is_action_count (length p.actions)) (list_all is_action p.actions) bounded.fits).1 in
-    row_fits proposals_map p.id (front ++ asked ++ said) refl
+    row_fits proposals_map p.id (prefix ++ asked ++ said) refl
     (omega (arith, id)) (omega (arith, id)) (sized_bytes 32 p.id both.0)
     (omega (
       arith,
-      length-append (front ++ asked) said,
-      length-append front asked,
+      length-append (prefix ++ asked) said,
+      length-append prefix asked,
       length-append (little_endian 4 (length list)) list,
       length-append (little_endian 1 (length ballots)) (flat_map vote_bytes ballots),
       length-little_endian 4 (length list),
@@ -95,8 +95,8 @@ proposal_row_fits h p fits bounded =
       votes_few h.requests p.id,
       bounded.small,
     ))
-    (bytes-append (front ++ asked) said
-    (bytes-append front asked
+    (bytes-append (prefix ++ asked) said
+    (bytes-append prefix asked
     (one_byte (proposal_byte (proposal_state h p)) (p.proposer ∷ []) (proposal_byte_byte (proposal_state h p)) (one_byte p.proposer [] both.1 refl))
     (length_bytes list listed))
     (counted_are_bytes vote_bytes is_vote ballots vote_are_bytes (votes_fit h.requests p.id)))

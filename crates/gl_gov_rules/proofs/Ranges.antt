@@ -197,6 +197,6 @@ in_range_more rs r all follows before =
           (brought_in_range h (h.requests ++ r ∷ []) r.seqno r.request follows.fits before.0)),
     )
 
--- behind requests that follow one another all proposals and changes are in their ranges
+-- after requests that follow one another all proposals and changes are in their ranges
 pub are_in_range : (rs : List Recorded) → IsGoverned rs → AreInRange rs
 are_in_range = governed_induction AreInRange in_range_of_none in_range_more

@@ -1,5 +1,5 @@
--- The seqnos of a node's removal and of its Mark: once there they stay, and a new one is that of the
--- last request.
+-- The seqnos of a node's removal and of its Mark: once there they stay, and a new one is that of
+-- the last request.
 use Rattle.std.proofs.Common.{◌≡◌, ◌⊎◌, inl, inr, ⊎_elim, ℕ, zero, suc, ◌<◌, List, [], ◌∷◌, ◌++◌, map, Option, Some, None, Bool, true, false, ◌&&◌, find, option_map, nat_lt, slice_get, refl, sym, ◌∙◌, ap, arith}
 use Rattle.std.specs.Cmp.Lexicographic.{bytes_decides}
 use Rattle.std.proofs.lemmas.Bool.{and_parts, ltb-true}
@@ -45,7 +45,7 @@ unfolding removal
 removal_from h id s r =
     ap (removal_of h) r.recorded ∙ ap (option_map (λ (c : Changed). c.seqno)) r.retired ∙ ap Some r.seqno
 
--- what takes the node out of service behind its own entry
+-- what takes the node out of service after its own entry
 abbrev pub takes_out : RecordedNode → Changed → Bool
 takes_out n c = nat_lt n.seqno c.seqno && retires n.id c.change
 

@@ -12,7 +12,7 @@ use Rattle.gl_vmaps.specs.Name.{is_map_name, is_key, is_value}
 use Rattle.gl_vmaps.specs.Writes.{is_write}
 use Rattle.gl_vmaps.specs.Changes.{row}
 use Rattle.gl_shares.specs.declared.share.Share.{Share}
-use Rattle.gl_requests.specs.Spelling.{state_byte, rule_bytes, dealing_bytes}
+use Rattle.gl_requests.specs.Encoding.{state_byte, rule_bytes, dealing_bytes}
 use Rattle.gl_requests.specs.Ranges.{is_signature_field, are_counted, is_node, is_share, is_dealing, are_rules, is_rule, is_member}
 use Rattle.gl_requests.proofs.Sizes.{sized_length, length-dealing_bytes}
 use Rattle.gl_requests.specs.declared.genesis.ServiceState.{ServiceState}
@@ -31,7 +31,7 @@ use Rattle.gl_gov_rules.specs.Members.{member_status, next_leaf}
 use Rattle.gl_gov_rules.specs.Nodes.{node_status, retirement}
 use Rattle.gl_gov_rules.specs.Rows.{service_map, service_key, service_row_of, service_write, members_map, member_byte, member_row, member_write, nodes_map, node_byte, node_row, node_write, constitution_map, rule_writes_from, rule_writes_of, dealing_map, dealing_key, dealing_write, shares_map, share_write, write_of}
 use Rattle.gl_gov_rules.proofs.Digests.{bytes-append, one_byte, number_bytes, length_bytes, sized_bytes}
-use Rattle.gl_gov_rules.proofs.SpelledParts.{member_parts, dealing_are_bytes, rule_are_bytes}
+use Rattle.gl_gov_rules.proofs.EncodedParts.{member_parts, dealing_are_bytes, rule_are_bytes}
 use Rattle.gl_gov_rules.proofs.RowParts.{is_recorded_node, is_given_share}
 
 -- a row within the limits of maps, keys and values

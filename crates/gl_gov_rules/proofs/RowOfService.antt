@@ -1,5 +1,5 @@
 -- What the row of the service tells: it is the last write to its place among all rows, it is there
--- behind a founding, and it has the key and the state that are in force.
+-- after a founding, and it has the key and the state that are in force.
 use Rattle.std.proofs.Common.{◌≡◌, ℕ, suc, List, [], ◌∷◌, ◌++◌, map, Option, Some, None, is_some, Bool, true, false, not, refl, sym, ◌∙◌, ap, subst, if◌then◌else◌}
 use Rattle.std.specs.List.{list_all}
 use Rattle.std.specs.FinMap.{get}
@@ -29,7 +29,7 @@ use Rattle.gl_gov_rules.specs.Changes.{first_rules, set_member, request_changes,
 use Rattle.gl_gov_rules.specs.Rows.{service_map, service_key, service_row_of, service_row, service_write, member_write, member_rows, node_write, node_rows, proposal_write, proposal_row, proposal_writes, rule_writes_from, rule_writes_of, dealing_write, share_write, write_of, all_rows, rows, effect}
 use Rattle.gl_gov_rules.specs.Governed.{is_founding, is_nothing, Follows, IsGoverned}
 use Rattle.gl_gov_rules.proofs.Prefixes.{changes_more, governed_induction}
-use Rattle.gl_gov_rules.proofs.LastSet.{set_before, set_behind, set_by_first}
+use Rattle.gl_gov_rules.proofs.LastSet.{set_after, set_before, set_by_first}
 
 -- ---- writes to other maps
 
@@ -58,7 +58,7 @@ one_elsewhere name write each (Some a) = and_from (is_elsewhere name (write a)) 
 both_elsewhere : (name : List ℕ) (xs ys : List Write) → are_elsewhere name xs ≡ true → are_elsewhere name ys ≡ true → are_elsewhere name (xs ++ ys) ≡ true
 both_elsewhere name xs ys first rest = list_all-append (is_elsewhere name) xs ys ∙ and_from (are_elsewhere name xs) (are_elsewhere name ys) first rest
 
--- ---- the rows in front of the service's, and those behind it
+-- ---- the rows before the service's, and those after it
 
 rules_from : (number : ℕ) (rules : List Rule) → are_elsewhere service_map (rule_writes_from number rules) ≡ true
 rules_from number [] = refl
@@ -72,12 +72,12 @@ proposals_elsewhere : (h : History) → are_elsewhere service_map (proposal_writ
 unfolding proposal_writes
 proposals_elsewhere h = made_elsewhere service_map (λ (p : Proposal). proposal_write p.id (proposal_row h p)) (λ p. refl) (proposals h)
 
--- all rows in front of the service's
-abbrev in_front : History → List Write
-in_front h = rule_writes_of (constitution h) ++ write_of dealing_write (dealing h) ++ map member_write (member_rows h) ++ map node_write (node_rows h) ++ proposal_writes h
+-- all rows before the service's
+abbrev rows_before_service : History → List Write
+rows_before_service h = rule_writes_of (constitution h) ++ write_of dealing_write (dealing h) ++ map member_write (member_rows h) ++ map node_write (node_rows h) ++ proposal_writes h
 
-front_elsewhere : (h : History) → are_elsewhere service_map (in_front h) ≡ true
-front_elsewhere h =
+prefix_elsewhere : (h : History) → are_elsewhere service_map (rows_before_service h) ≡ true
+prefix_elsewhere h =
     let rules : List Write = rule_writes_of (constitution h) in
     let dealt : List Write = write_of dealing_write (dealing h) in
     let ms : List Write = map member_write (member_rows h) in
@@ -96,46 +96,46 @@ of_service h = write_of service_write (service_row h)
 abbrev of_shares : History → List Write
 of_shares h = map share_write (shares_given h)
 
-parts_of_rows : (h : History) → all_rows h ≡ in_front h ++ of_service h ++ of_shares h
+parts_of_rows : (h : History) → all_rows h ≡ rows_before_service h ++ of_service h ++ of_shares h
 unfolding all_rows
 parts_of_rows h = refl
 
--- ---- what is told
+-- ---- what is reported
 
--- the tables of all rows in front of the service's
-abbrev table_in_front : History → Tables
-table_in_front h = wrote_all no_tables (in_front h)
+-- the tables of all rows before the service's
+abbrev table_before_service : History → Tables
+table_before_service h = wrote_all no_tables (rows_before_service h)
 
 -- the row of the service is as the service's own write leaves it
-told_by_own : (rs : List Recorded) → value_in (effect rs) service_map service_key ≡ value_in (wrote_all (table_in_front (history rs)) (of_service (history rs))) service_map service_key
+reported_by_own : (rs : List Recorded) → value_in (effect rs) service_map service_key ≡ value_in (wrote_all (table_before_service (history rs)) (of_service (history rs))) service_map service_key
 unfolding rows
-told_by_own rs =
+reported_by_own rs =
     let h : History = history rs in
     ap (λ (r : Rows). get r service_key)
     (rows-write_set no_tables (all_rows h) service_map ∙ ap (λ (ws : List Write). wrote_all no_tables ws service_map) (parts_of_rows h)
-    ∙ ap (λ (t : Tables). t service_map) (wrote_all-append no_tables (in_front h ++ of_service h) (of_shares h) ∙ ap (λ (t : Tables). wrote_all t (of_shares h)) (wrote_all-append no_tables (in_front h) (of_service h)))
-    ∙ passed_over service_map (wrote_all (table_in_front h) (of_service h)) (of_shares h) (made_elsewhere service_map share_write (λ s. refl) (shares_given h)))
+    ∙ ap (λ (t : Tables). t service_map) (wrote_all-append no_tables (rows_before_service h ++ of_service h) (of_shares h) ∙ ap (λ (t : Tables). wrote_all t (of_shares h)) (wrote_all-append no_tables (rows_before_service h) (of_service h)))
+    ∙ passed_over service_map (wrote_all (table_before_service h) (of_service h)) (of_shares h) (made_elsewhere service_map share_write (λ s. refl) (shares_given h)))
 
 -- the tables have the service's row
 pub service_value : (rs : List Recorded) (s : ServiceRow) → service_row (history rs) ≡ Some s → value_in (effect rs) service_map service_key ≡ (service_write s).value
 service_value rs s there =
-    told_by_own rs ∙ ap (λ (o : Option ServiceRow). value_in (wrote_all (table_in_front (history rs)) (write_of service_write o)) service_map service_key) there
-    ∙ value_in-wrote (table_in_front (history rs)) (service_write s) service_map service_key
+    reported_by_own rs ∙ ap (λ (o : Option ServiceRow). value_in (wrote_all (table_before_service (history rs)) (write_of service_write o)) service_map service_key) there
+    ∙ value_in-wrote (table_before_service (history rs)) (service_write s) service_map service_key
 
 -- without one they have none
 pub service_none : (rs : List Recorded) → service_row (history rs) ≡ None → value_in (effect rs) service_map service_key ≡ None
 service_none rs none =
-    told_by_own rs ∙ ap (λ (o : Option ServiceRow). value_in (wrote_all (table_in_front (history rs)) (write_of service_write o)) service_map service_key) none
-    ∙ ap (λ (r : Rows). get r service_key) (passed_over service_map no_tables (in_front (history rs)) (front_elsewhere (history rs))) ∙ value_in-nothing service_map service_key
+    reported_by_own rs ∙ ap (λ (o : Option ServiceRow). value_in (wrote_all (table_before_service (history rs)) (write_of service_write o)) service_map service_key) none
+    ∙ ap (λ (r : Rows). get r service_key) (passed_over service_map no_tables (rows_before_service (history rs)) (prefix_elsewhere (history rs))) ∙ value_in-nothing service_map service_key
 
--- ---- behind a founding
+-- ---- after a founding
 
 -- the service's key and its state are set by these changes
 pub record AreSet (cs : List Changed) : Type 0 where
   pub key : is_some (last_set sets_identity cs) ≡ true
   pub state : (recovered : Bool) → is_some (last_set (sets_state recovered) cs) ≡ true
 
--- what a founding brings about behind its first change
+-- what a founding brings about after its first change
 abbrev founding_rest : founding.Genesis → List Change
 founding_rest g = changes.Applied (actions.SetConstitution first_rules) ∷ changes.Applied (actions.SetRecoveryThreshold g.dealing) ∷ map set_member g.members
 
@@ -153,14 +153,14 @@ founding_sets_both : (h : History) (r : Recorded) → is_founding r.request ≡ 
 unfolding changes_of
 founding_sets_both h r founds = founding_sets h (h.requests ++ r ∷ []) r.seqno r.request founds
 
--- what stood in front stays, and what comes behind is set
+-- what stood in front stays, and what comes after is set
 set_kept : (cs ds : List Changed) → AreSet cs → AreSet (cs ++ ds)
 set_kept cs ds set = record { key = set_before sets_identity cs ds set.key; state = λ recovered. set_before (sets_state recovered) cs ds (set.state recovered) }
 
 set_new : (cs ds : List Changed) → AreSet ds → AreSet (cs ++ ds)
-set_new cs ds set = record { key = set_behind sets_identity cs ds set.key; state = λ recovered. set_behind (sets_state recovered) cs ds (set.state recovered) }
+set_new cs ds set = record { key = set_after sets_identity cs ds set.key; state = λ recovered. set_after (sets_state recovered) cs ds (set.state recovered) }
 
--- behind the first request both are set
+-- after the first request both are set
 both_set : (rs : List Recorded) → IsGoverned rs → is_nothing rs ≡ false → AreSet (history rs).changes
 both_set = governed_induction (λ (rs : List Recorded). is_nothing rs ≡ false → AreSet (history rs).changes) (λ e. absurd cc) step
   where
@@ -180,7 +180,7 @@ row_of_both h set = go (last_set (sets_state (is_recovered h)) h.changes) (last_
     go (Some state) None there key = absurd cc
     go (Some state) (Some own) there key = (record { state = state; is_recovered = is_recovered h; identity = own }, refl)
 
--- behind a founding the service has a row
+-- after a founding the service has a row
 pub founded_row : (r : Recorded) (rs : List Recorded) → IsGoverned (r ∷ rs) → (s : ServiceRow) × (service_row (history (r ∷ rs)) ≡ Some s)
 founded_row r rs all = row_of_both (history (r ∷ rs)) (both_set (r ∷ rs) all refl)
 
@@ -198,9 +198,9 @@ row_parts h s there = go (service_state h) (identity h) there
         (ap (λ (r : ServiceRow). Some r.identity) same, ap (λ (r : ServiceRow). Some r.state) same)
 
 -- its key is the one in force
-pub identity_told : (rs : List Recorded) (s : ServiceRow) → service_row (history rs) ≡ Some s → identity (history rs) ≡ Some s.identity
-identity_told rs s there = (row_parts (history rs) s there).0
+pub identity_reported : (rs : List Recorded) (s : ServiceRow) → service_row (history rs) ≡ Some s → identity (history rs) ≡ Some s.identity
+identity_reported rs s there = (row_parts (history rs) s there).0
 
 -- and so is its state
-pub state_told : (rs : List Recorded) (s : ServiceRow) → service_row (history rs) ≡ Some s → service_state (history rs) ≡ Some s.state
-state_told rs s there = (row_parts (history rs) s there).1
+pub state_reported : (rs : List Recorded) (s : ServiceRow) → service_row (history rs) ≡ Some s → service_state (history rs) ≡ Some s.state
+state_reported rs s there = (row_parts (history rs) s there).1

@@ -1,10 +1,11 @@
--- What the members, nodes, proposals and shares of requests that follow one another are made of is in its range.
+-- What the members, nodes, proposals and shares of requests that follow one another are made of is
+-- in its range.
 use Rattle.std.proofs.Common.{◌≡◌, ℕ, List, [], ◌∷◌, ◌++◌, length, map, Option, None, Some, IfSome, Bool, true, false, ◌&&◌, if◌then◌else◌, nat_lt, flat_map, filter_map, refl}
 use Rattle.std.specs.List.{list_all, cons_option}
 use Rattle.std.proofs.lemmas.Bool.{and_parts, and_from}
 use Rattle.gl_base.specs.Bytes.{is_byte, is_digest, are_sized}
 use Rattle.gl_shares.specs.declared.share.Share.{Share}
-use Rattle.gl_requests.specs.Spelling.{node_id, proposal_id, request_bytes}
+use Rattle.gl_requests.specs.Encoding.{node_id, proposal_id, request_bytes}
 use Rattle.gl_requests.specs.Ranges.{is_node, is_member, is_dealing, are_counted, is_act, is_member_number, is_signature_field, is_first_state, is_member_request, is_request}
 use Rattle.gl_requests.specs.declared.genesis.NewNode.{NewNode}
 use Rattle.gl_requests.specs.declared.genesis.NewMember.{NewMember}
@@ -23,7 +24,7 @@ use Rattle.gl_gov_rules.specs.declared.change.Change.TheVariants as changes
 use Rattle.gl_gov_rules.specs.declared.change.Changed.{Changed}
 use Rattle.gl_gov_rules.specs.Members.{member_named, members}
 use Rattle.gl_gov_rules.specs.Nodes.{recorded_node, nodes_recorded, nodes}
-use Rattle.gl_gov_rules.specs.Service.{share_in_act, share_in, share_behind, last_clearing, shares_given}
+use Rattle.gl_gov_rules.specs.Service.{share_in_act, share_in, share_after, last_clearing, shares_given}
 use Rattle.gl_gov_rules.specs.Proposals.{proposal_in_act, proposal_in, proposals}
 use Rattle.gl_gov_rules.specs.History.{History}
 use Rattle.gl_gov_rules.specs.Changes.{history}
@@ -32,7 +33,7 @@ use Rattle.gl_gov_rules.proofs.Counting.{all_append}
 use Rattle.gl_gov_rules.proofs.Prefixes.{requests_more, history_of_none, governed_induction}
 use Rattle.gl_gov_rules.proofs.Ranges.{is_change, are_changes, member_act}
 use Rattle.gl_gov_rules.proofs.Digests.{sha256_digest}
-use Rattle.gl_gov_rules.proofs.SpelledParts.{number_byte}
+use Rattle.gl_gov_rules.proofs.EncodedParts.{number_byte}
 
 -- ---- lists
 
@@ -158,7 +159,7 @@ share_of_request : (q : GovernanceRequest) → is_request q ≡ true → IfSome 
 share_of_request (requests.Member m) fits = share_of_act m m.act fits (member_act m fits)
 share_of_request other fits = tt
 
-share_fits : (from : ℕ) (r : Recorded) → is_request r.request ≡ true → IfSome (share_behind from r) (λ (s : Share). is_given_share s ≡ true)
+share_fits : (from : ℕ) (r : Recorded) → is_request r.request ≡ true → IfSome (share_after from r) (λ (s : Share). is_given_share s ≡ true)
 share_fits from r fits = late (nat_lt from r.seqno)
   where
     late : (b : Bool) → IfSome (if b then share_in r.request else None) (λ (s : Share). is_given_share s ≡ true)
@@ -168,4 +169,4 @@ share_fits from r fits = late (nat_lt from r.seqno)
 -- where requests are in their ranges, so are the shares that were given
 pub shares_fit : (h : History) → are_requests h.requests ≡ true → list_all is_given_share (shares_given h) ≡ true
 unfolding shares_given
-shares_fit h all = all_found (λ (r : Recorded). is_request r.request) is_given_share (share_behind (last_clearing h)) (share_fits (last_clearing h)) h.requests all
+shares_fit h all = all_found (λ (r : Recorded). is_request r.request) is_given_share (share_after (last_clearing h)) (share_fits (last_clearing h)) h.requests all

@@ -56,7 +56,7 @@ pub settling-append : (cs ds : List Changed) (p : Proposal) → settling_in (cs 
 unfolding settling_in
 settling-append cs ds p = ap first_settling (filter_map-append (settling_by p) cs ds) ∙ first_append (filter_map (settling_by p) cs) (filter_map (settling_by p) ds)
 
--- an element behind so many
+-- an element after so many
 at_end : {X : Type 0} (us vs : List X) (x d : X) (i : ℕ) → length us ≡ i → get_or (us ++ x ∷ vs) i d ≡ x
 at_end [] vs x d i e = rw (sym e) refl
 at_end (u ∷ us) vs x d zero e = absurd (omega (arith, e))
@@ -83,17 +83,17 @@ settle_one f g xs ys i d e y lt are is =
 
 -- ---- one more proposal
 
-behind_all : {X : Type 0} (us : List X) (o : Option X) (n : ℕ) → length us ≡ n → slice_get (us ++ option_to_list o) n ≡ o
-behind_all [] None n e = refl
-behind_all [] (Some x) n e = rw (sym e) refl
-behind_all (u ∷ us) o zero e = absurd (omega (arith, e))
-behind_all (u ∷ us) o (suc n) e = behind_all us o n (omega (arith, e))
+after_all : {X : Type 0} (us : List X) (o : Option X) (n : ℕ) → length us ≡ n → slice_get (us ++ option_to_list o) n ≡ o
+after_all [] None n e = refl
+after_all [] (Some x) n e = rw (sym e) refl
+after_all (u ∷ us) o zero e = absurd (omega (arith, e))
+after_all (u ∷ us) o (suc n) e = after_all us o n (omega (arith, e))
 
 pub one_settled : {A B : Type 0} (f : A → B) (xs : List A) (o : Option A) (ys zs : List B) (n : ℕ) → ys ≡ map f xs → length ys ≡ n →
     zs ≡ ys ++ option_to_list (option_map f (slice_get (xs ++ option_to_list o) n)) → zs ≡ map f (xs ++ option_to_list o)
 one_settled {A = A} f xs o ys zs n are size put =
     put ∙ ap (λ us. us ++ option_to_list (option_map f (slice_get (xs ++ option_to_list o) n))) are
-    ∙ ap (λ p. map f xs ++ option_to_list (option_map f p)) (behind_all xs o n (sym (length-map xs f) ∙ ap length (sym are) ∙ size))
+    ∙ ap (λ p. map f xs ++ option_to_list (option_map f p)) (after_all xs o n (sym (length-map xs f) ∙ ap length (sym are) ∙ size))
     ∙ by o ∙ sym (map-append f xs (option_to_list o))
   where
     by : (p : Option A) → map f xs ++ option_to_list (option_map f p) ≡ map f xs ++ map f (option_to_list p)
@@ -131,12 +131,13 @@ kept_or : (to : ℕ) (o a : Option Settling) → settling_up_to to o ≡ o → s
 kept_or to None a kept gone = gone
 kept_or to (Some s) a kept gone = kept
 
--- where all changes above the seqno stand behind the others, what settles a proposal up to it is the first of those up to it
+-- where all changes above the seqno stand after the others, what settles a proposal up to it is the
+-- first of those up to it
 pub settling_left : (to : ℕ) (p : Proposal) (cs ds : List Changed) → AllByRecursion (λ (c : Changed). nat_le c.seqno to ≡ true) cs →
     AllByRecursion (λ (c : Changed). nat_le c.seqno to ≡ false) ds → settling_up_to to (settling_in (cs ++ ds) p) ≡ settling_in cs p
 unfolding settling_in
-settling_left to p cs ds front back =
-    ap (settling_up_to to) (settling-append cs ds p) ∙ kept_or to (first_settling (filter_map (settling_by p) cs)) (first_settling (filter_map (settling_by p) ds)) (first_kept to p cs front) (first_gone to p ds back)
+settling_left to p cs ds prefix back =
+    ap (settling_up_to to) (settling-append cs ds p) ∙ kept_or to (first_settling (filter_map (settling_by p) cs)) (first_settling (filter_map (settling_by p) ds)) (first_kept to p cs prefix) (first_gone to p ds back)
 
 all_in : {X : Type 0} (p : X → Bool) (xs : List X) → AllByRecursion (λ x. p x ≡ true) (filter p xs)
 all_in p [] = tt
@@ -158,7 +159,7 @@ none_out {X = X} p (x ∷ xs) e = step (p x) refl e (none_out p xs)
     step true is none rest = absurd (omega (arith, none))
     step false is none rest = (is, rest none)
 
--- behind all that passes nothing does
+-- after all that passes nothing does
 rest_fails : {X : Type 0} (p : X → Bool) (xs ys : List X) → xs ≡ filter p xs ++ ys → AllByRecursion (λ x. p x ≡ false) ys
 rest_fails p xs ys whole =
     let twice : filter p xs ≡ filter p xs ++ filter p ys =
@@ -170,8 +171,8 @@ is_low to c = nat_le c.seqno to
 
 map_settled : (to : ℕ) (ps : List Proposal) (cs ds : List Changed) → AllByRecursion (λ (c : Changed). is_low to c ≡ true) cs → AllByRecursion (λ (c : Changed). is_low to c ≡ false) ds →
     map (settling_up_to to) (map (settling_in (cs ++ ds)) ps) ≡ map (settling_in cs) ps
-map_settled to [] cs ds front back = refl
-map_settled to (p ∷ ps) cs ds front back = rw (settling_left to p cs ds front back) (ap (λ ys. settling_in cs p ∷ ys) (map_settled to ps cs ds front back))
+map_settled to [] cs ds prefix back = refl
+map_settled to (p ∷ ps) cs ds prefix back = rw (settling_left to p cs ds prefix back) (ap (λ ys. settling_in cs p ∷ ys) (map_settled to ps cs ds prefix back))
 
 made_parts : (to : ℕ) (rs : List Recorded) → IsRising rs → made rs ≡ made (up_to to rs) ++ made (requests_above to rs)
 made_parts to rs rising = ap made (requests_split to rs rising) ∙ filter_map-append (λ (r : Recorded). proposal_in r.seqno r.request) (up_to to rs) (requests_above to rs)
@@ -179,10 +180,10 @@ made_parts to rs rising = ap made (requests_split to rs rising) ∙ filter_map-a
 -- what settles the proposals up to a seqno, by the changes up to it
 pub settled_left : (to n count : ℕ) (rs : List Recorded) (cs left : List Changed) (ss after : List (Option Settling)) → IsRising rs → left ≡ take n cs → left ≡ filter (is_low to) cs →
     ss ≡ map (settling_in cs) (made rs) → count ≡ length (made (up_to to rs)) → after ≡ map (settling_up_to to) (take count ss) → after ≡ map (settling_in left) (made (up_to to rs))
-settled_left to n count rs cs left ss after rising front low are counted cut =
+settled_left to n count rs cs left ss after rising prefix low are counted cut =
     let us = made (up_to to rs) in
     let ds = drop n cs in
-    let parts : cs ≡ left ++ ds = sym (take-append-drop n cs) ∙ ap (λ zs. zs ++ ds) (sym front) in
+    let parts : cs ≡ left ++ ds = sym (take-append-drop n cs) ∙ ap (λ zs. zs ++ ds) (sym prefix) in
     let back : AllByRecursion (λ (c : Changed). is_low to c ≡ false) ds = rest_fails (is_low to) cs ds (parts ∙ ap (λ zs. zs ++ ds) low) in
     let ahead : AllByRecursion (λ (c : Changed). is_low to c ≡ true) left = rw low (all_in (is_low to) cs) in
     let taken : take count ss ≡ map (settling_in cs) us =

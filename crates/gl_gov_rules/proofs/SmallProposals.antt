@@ -3,7 +3,7 @@ use Rattle.std.proofs.Common.{◌≡◌, ℕ, ◌≤◌, List, [], ◌∷◌, �
 use Rattle.std.specs.List.{list_all, cons_option, AllByRecursion}
 use Rattle.std.proofs.lemmas.Bool.{and_parts}
 use Rattle.std.proofs.lemmas.Bool.Decides.{nat_tests}
-use Rattle.gl_requests.specs.Spelling.{action_bytes, proposal_id}
+use Rattle.gl_requests.specs.Encoding.{action_bytes, proposal_id}
 use Rattle.gl_requests.specs.Ranges.{is_action, is_action_count, are_actions, is_act, is_request}
 use Rattle.gl_requests.specs.declared.action.Action.{Action}
 use Rattle.gl_requests.specs.declared.request.MemberAct.{MemberAct}

@@ -1,4 +1,4 @@
--- Behind requests that follow one another some node is trusted, once there is a request.
+-- After requests that follow one another some node is trusted, once there is a request.
 use Rattle.std.proofs.Common.{◌≡◌, ◌⊎◌, inl, inr, ⊎_elim, ℕ, ◌+◌, ◌<◌, List, [], ◌∷◌, ◌++◌, length, map, filter, Option, Some, None, Bool, true, false, ◌||◌, ◌==◌, slice_get, refl, sym, ◌∙◌, ap, subst, append-nil, arith, if◌then◌else◌}
 use Rattle.std.specs.Cmp.Lexicographic.{bytes_decides}
 use Rattle.std.proofs.lemmas.Bool.{or_from, or_cases, false_from_ne_true}
@@ -31,7 +31,7 @@ use Rattle.gl_gov_rules.specs.Changes.{founding_changes, acceptance_changes, bal
 use Rattle.gl_gov_rules.specs.Refusals.{refusal}
 use Rattle.gl_gov_rules.specs.Governed.{is_founding, is_nothing, IsAbove, Follows, IsGoverned}
 use Rattle.gl_gov_rules.proofs.Prefixes.{requests_more, changes_more, governed_induction}
-use Rattle.gl_gov_rules.proofs.Finding.{any_false, each_at, filter_has, map_place, behind_at}
+use Rattle.gl_gov_rules.proofs.Finding.{any_false, each_at, filter_has, map_place, after_at}
 use Rattle.gl_gov_rules.proofs.HistoryLists.{requests_of, changes_below, nodes_more}
 use Rattle.gl_gov_rules.proofs.Removals.{removal_read, takes_out, node_kept, recorded_seqno, brought_seqno, not_before, marks_same}
 use Rattle.gl_gov_rules.proofs.NewNodes.{genesis_new, recovery_new, recorded_new, AreDistinct, nodes_distinct, node_in}
@@ -69,12 +69,12 @@ HasTrusted h = SomeTrusted (nodes h) h.requests h.changes
 abbrev pub one_more : ℕ → GovernanceRequest → Recorded
 one_more s q = record { seqno = s; request = q }
 
-abbrev pub HasTrustedBehind : History → ℕ → GovernanceRequest → List Change → Type 0
-HasTrustedBehind h s q cs = SomeTrusted (nodes h ++ nodes_recorded s q) (h.requests ++ one_more s q ∷ []) (h.changes ++ map (changed_at s) cs)
+abbrev pub HasTrustedAfter : History → ℕ → GovernanceRequest → List Change → Type 0
+HasTrustedAfter h s q cs = SomeTrusted (nodes h ++ nodes_recorded s q) (h.requests ++ one_more s q ∷ []) (h.changes ++ map (changed_at s) cs)
 
 -- a node that is trusted stays so, as long as the request doesn't mark it and nothing takes it out
 stays : (h : History) (s : ℕ) (q : GovernanceRequest) (cs : List Change) (t : HasTrusted h) →
-    marks t.of.id q ≡ false → IsTrusted h.requests (h.changes ++ map (changed_at s) cs) t.of → HasTrustedBehind h s q cs
+    marks t.of.id q ≡ false → IsTrusted h.requests (h.changes ++ map (changed_at s) cs) t.of → HasTrustedAfter h s q cs
 stays h s q cs t other is = record {
   of = t.of;
   place = t.place;
@@ -83,7 +83,7 @@ stays h s q cs t other is = record {
 }
 
 -- a request that brings nothing about
-stays_plain : (h : History) (s : ℕ) (q : GovernanceRequest) (t : HasTrusted h) → marks t.of.id q ≡ false → HasTrustedBehind h s q []
+stays_plain : (h : History) (s : ℕ) (q : GovernanceRequest) (t : HasTrusted h) → marks t.of.id q ≡ false → HasTrustedAfter h s q []
 stays_plain h s q t other = stays h s q [] t other (subst (λ (cs : List Changed). IsTrusted h.requests cs t.of) (sym (append-nil h.changes)) t.is)
 
 -- ---- foundings
@@ -94,9 +94,9 @@ first_of (n ∷ ns) e = (n, refl)
 
 -- the first node that a founding or a recovery names is trusted
 founded : (rs : List Recorded) (s : ℕ) (q : GovernanceRequest) (cs : List Change) (n : RecordedNode) → IsGoverned rs → IsAbove s rs → refusal (history rs) s q ≡ None →
-    slice_get (nodes_recorded s q) 0 ≡ Some n → n.is_founding ≡ true → marks n.id q ≡ false → HasTrustedBehind (history rs) s q cs
+    slice_get (nodes_recorded s q) 0 ≡ Some n → n.is_founding ≡ true → marks n.id q ≡ false → HasTrustedAfter (history rs) s q cs
 founded rs s q cs n all above accepted at founding other =
-    let place = behind_at (nodes h) (nodes_recorded s q) 0 n at in
+    let place = after_at (nodes h) (nodes_recorded s q) 0 n at in
     record {
       of = n;
       place = place.0;
@@ -118,10 +118,10 @@ founded rs s q cs n all above accepted at founding other =
     own = recorded_seqno s q 0 n at
 
     late : (i : ℕ) (c : Changed) → n.seqno < c.seqno → (slice_get h.changes i ≡ Some c) ⊎ ((k : ℕ) × (i ≡ length h.changes + k) × (slice_get more k ≡ Some c)) → ⊥
-    late i c behind (inl old) =
+    late i c suffix (inl old) =
         let low : c.seqno < s = each_at (λ (x : Changed). x.seqno < s) h.changes (changes_below s rs above) i c old in
-        absurd (omega (arith, low, behind, own))
-    late i c behind (inr now) = absurd (omega (arith, brought_seqno s cs now.0 c now.2, behind, own))
+        absurd (omega (arith, low, suffix, own))
+    late i c suffix (inr now) = absurd (omega (arith, brought_seqno s cs now.0 c now.2, suffix, own))
 
     unmarked : marked_in h.requests n.id ≡ false
     unmarked = false_from_ne_true (marked_in h.requests n.id) (λ e.
@@ -144,16 +144,16 @@ mark_other h s id t apart accepted = false_from_ne_true (same_bytes t.of.id id) 
 -- ---- members
 
 -- changes that take no node out of service
-quiet : (h : History) (s : ℕ) (m : MemberRequest) (c : Change) (t : HasTrusted h) → retires t.of.id c ≡ false → HasTrustedBehind h s (requests.Member m) (c ∷ [])
+quiet : (h : History) (s : ℕ) (m : MemberRequest) (c : Change) (t : HasTrusted h) → retires t.of.id c ≡ false → HasTrustedAfter h s (requests.Member m) (c ∷ [])
 quiet h s m c t e =
     stays h s (requests.Member m) (c ∷ []) t refl
     (kept_by_changes h.requests h.changes (changed_at s c ∷ []) t.of (or_from (takes_out t.of (changed_at s c)) false (harmless t.of s c e) refl) t.is)
 
-none_trusted : (h : History) (s : ℕ) (m : MemberRequest) (t : HasTrusted h) → HasTrustedBehind h s (requests.Member m) []
+none_trusted : (h : History) (s : ℕ) (m : MemberRequest) (t : HasTrusted h) → HasTrustedAfter h s (requests.Member m) []
 none_trusted h s m t = stays_plain h s (requests.Member m) t refl
 
 accepted_trusted : (h : History) (s : ℕ) (m : MemberRequest) (id : List ℕ) (list : List Action) → AreDistinct (nodes h) → HasTrusted h →
-    (bad : Option (ℕ × Cause)) → first_bad_action h s 1 list ≡ bad → HasTrustedBehind h s (requests.Member m) (acceptance_changes id list bad)
+    (bad : Option (ℕ × Cause)) → first_bad_action h s 1 list ≡ bad → HasTrustedAfter h s (requests.Member m) (acceptance_changes id list bad)
 accepted_trusted h s m id list apart t None is =
     let after = all_kept h s 1 list apart is t in
     record {
@@ -166,27 +166,27 @@ accepted_trusted h s m id list apart t None is =
 accepted_trusted h s m id list apart t (Some bad) is = quiet h s m (changes.Settled id states.Failed) t refl
 
 ballot_trusted : (h : History) (s : ℕ) (m : MemberRequest) (id : List ℕ) (count : Tally) (list : List Action) → AreDistinct (nodes h) → HasTrusted h →
-    HasTrustedBehind h s (requests.Member m) (ballot_changes h s id count list)
+    HasTrustedAfter h s (requests.Member m) (ballot_changes h s id count list)
 unfolding ballot_changes
 ballot_trusted h s m id count list apart t = by (is_accepted h count list) (is_rejected h count list)
   where
-    by : (a b : Bool) → HasTrustedBehind h s (requests.Member m) (if a then acceptance_changes id list (first_bad_action h s 1 list) else (if b then changes.Settled id states.Rejected ∷ [] else []))
+    by : (a b : Bool) → HasTrustedAfter h s (requests.Member m) (if a then acceptance_changes id list (first_bad_action h s 1 list) else (if b then changes.Settled id states.Rejected ∷ [] else []))
     by true b = accepted_trusted h s m id list apart t (first_bad_action h s 1 list) refl
     by false true = quiet h s m (changes.Settled id states.Rejected) t refl
     by false false = none_trusted h s m t
 
-act_trusted : (h : History) (rs : List Recorded) (s : ℕ) (m : MemberRequest) (act : MemberAct) → AreDistinct (nodes h) → HasTrusted h → HasTrustedBehind h s (requests.Member m) (act_changes h rs s act)
+act_trusted : (h : History) (rs : List Recorded) (s : ℕ) (m : MemberRequest) (act : MemberAct) → AreDistinct (nodes h) → HasTrusted h → HasTrustedAfter h s (requests.Member m) (act_changes h rs s act)
 act_trusted h rs s m acts.Ack apart t = none_trusted h s m t
 act_trusted h rs s m (acts.Propose list) apart t = none_trusted h s m t
 act_trusted h rs s m (acts.Ballot id agrees) apart t = by (proposal h id)
   where
-    by : (o : Option Proposal) → HasTrustedBehind h s (requests.Member m) (ballot_changes_on h rs s id o)
+    by : (o : Option Proposal) → HasTrustedAfter h s (requests.Member m) (ballot_changes_on h rs s id o)
     by None = none_trusted h s m t
     by (Some p) = ballot_trusted h s m id (tally h rs id) p.actions apart t
 act_trusted h rs s m (acts.Withdraw id) apart t = quiet h s m (changes.Settled id states.Withdrawn) t refl
 act_trusted h rs s m (acts.Share share) apart t = by (is_complete h)
   where
-    by : (b : Bool) → HasTrustedBehind h s (requests.Member m) (if b then changes.Completed ∷ [] else [])
+    by : (b : Bool) → HasTrustedAfter h s (requests.Member m) (if b then changes.Completed ∷ [] else [])
     by true = quiet h s m changes.Completed t refl
     by false = none_trusted h s m t
 
@@ -197,7 +197,7 @@ abbrev pub IsSomeTrusted : List Recorded → Type 0
 IsSomeTrusted rs = is_nothing rs ≡ false → HasTrusted (history rs)
 
 request_trusted : (rs : List Recorded) (s : ℕ) (q : GovernanceRequest) → IsGoverned rs → IsAbove s rs → refusal (history rs) s q ≡ None → is_founding q ≡ is_nothing rs → IsSomeTrusted rs →
-    HasTrustedBehind (history rs) s q (request_changes (history rs) ((history rs).requests ++ one_more s q ∷ []) s q)
+    HasTrustedAfter (history rs) s q (request_changes (history rs) ((history rs).requests ++ one_more s q ∷ []) s q)
 request_trusted rs s (requests.Genesis g) all above accepted first old =
     let n = first_of g.nodes (genesis_new (history rs) s g accepted).some in
     founded rs s (requests.Genesis g) (founding_changes g) (recorded_node s true n.0) all above accepted (map_place (recorded_node s true) g.nodes 0 n.0 n.1) refl refl
@@ -218,7 +218,7 @@ more_trusted : (rs : List Recorded) (r : Recorded) → IsGoverned rs → Follows
 more_trusted rs r all follows old =
     let h : History = history rs in
     let t = request_trusted rs r.seqno r.request all follows.above follows.accepted follows.founding old in
-    let with_changes = subst (λ (cs : List Change). HasTrustedBehind h r.seqno r.request cs) (sym (changes_are h r)) t in
+    let with_changes = subst (λ (cs : List Change). HasTrustedAfter h r.seqno r.request cs) (sym (changes_are h r)) t in
     rw (nodes_more rs r, requests_more rs r, changes_more rs r) with_changes
 
 has_trusted : (rs : List Recorded) → IsGoverned rs → IsSomeTrusted rs

@@ -1,5 +1,5 @@
--- What the status of a node tells: a node that is marked was taken out of service before, one that was
--- taken out of service isn't trusted, and only recorded nodes are trusted.
+-- What the status of a node tells: a node that is marked was taken out of service before, one that
+-- was taken out of service isn't trusted, and only recorded nodes are trusted.
 use Rattle.std.proofs.Common.{◌≡◌, ℕ, List, map, filter, Option, Some, None, is_some, Bool, true, false, not, ◌&&◌, cond, refl, sym, ◌∙◌, ap}
 use Rattle.std.specs.List.{list_any}
 use Rattle.std.specs.Cmp.Lexicographic.{bytes_decides}

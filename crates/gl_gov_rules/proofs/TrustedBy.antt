@@ -1,5 +1,6 @@
 -- Whether a node is trusted, read off the two lists of a history: what keeps a trusted node trusted
--- when a request or changes come behind, and that actions which can be applied in order leave one.
+-- when a request or changes come after it, and that actions which can be applied in order leave
+-- one.
 use Rattle.std.proofs.Common.{◌≡◌, ⊎_elim, ℕ, ◌+◌, List, [], ◌∷◌, ◌++◌, map, Some, None, is_some, is_none, Bool, true, false, not, ◌&&◌, ◌||◌, ◌==◌, nat_lt, count_by, slice_get, refl, sym, ◌∙◌, ap, subst, append-nil}
 use Rattle.std.specs.List.{list_any}
 use Rattle.std.specs.Cmp.Lexicographic.{bytes_decides}
@@ -146,7 +147,7 @@ other_trusted g id i n apart none at trusted same =
     both_ways (is_trusted_node g (node g id) && (trusted_count g == 1)) (not_last g id none)
     (and_from (is_trusted_node g (node g id)) (trusted_count g == 1) (ap (is_trusted_node g) found ∙ trusted) (ap (λ (k : ℕ). k == 1) (count_is g ∙ one))))
 
--- behind an action that can be applied some node is trusted where one was
+-- after an action that can be applied some node is trusted where one was
 pub apply_kept : (g : History) (s : ℕ) (a : Action) → AreDistinct (nodes g) → cause_against g a ≡ None → SomeTrusted (nodes g) g.requests g.changes →
     SomeTrusted (nodes g) g.requests (g.changes ++ changed_at s (changes.Applied a) ∷ [])
 apply_kept g s a apart none t = by a none
@@ -199,7 +200,7 @@ nodes_applied : (g : History) (s : ℕ) (a : Action) → nodes g ≡ nodes (with
 unfolding nodes
 nodes_applied g s a = refl
 
--- behind actions that can be applied in order, too
+-- after actions that can be applied in order, too
 pub all_kept : (g : History) (s index : ℕ) (list : List Action) → AreDistinct (nodes g) → first_bad_action g s index list ≡ None → SomeTrusted (nodes g) g.requests g.changes →
     SomeTrusted (nodes g) g.requests (g.changes ++ all_applied s list)
 all_kept g s index [] apart none t = subst (SomeTrusted (nodes g) g.requests) (sym (append-nil g.changes)) t

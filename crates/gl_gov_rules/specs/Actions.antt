@@ -19,11 +19,11 @@ use Rattle.gl_gov_rules.specs.Members.{has_number, members, is_present, present_
 use Rattle.gl_gov_rules.specs.Nodes.{node, node_status, is_pending_status, is_trusted_status, trusted_count}
 use Rattle.gl_gov_rules.specs.Service.{dealing, threshold_of, service_state}
 
--- The first of two that stands: what is behind is tried only where the first doesn't stand.
+-- The first of two that stands: what is after is tried only where the first doesn't stand.
 infixl 10 ◌orelse◌
 abbrev pub ◌orelse◌ : {R : Type 0} → Option R → Option R → Option R
-(Some r) orelse behind = Some r
-None orelse behind = behind
+(Some r) orelse after = Some r
+None orelse after = after
 
 abbrev pub where_is : {R : Type 0} → Bool → R → Option R
 where_is bad r = if bad then Some r else None
@@ -94,7 +94,7 @@ abbrev pub is_opening : Option ServiceState → Bool
 is_opening (Some services.Opening) = true
 is_opening other = false
 
--- Why an action can't be applied behind a history, if it can't: the first cause that stands.
+-- Why an action can't be applied after a history, if it can't: the first cause that stands.
 unfoldable pub cause_against : History → Action → Option Cause
 cause_against h (actions.SetMember m) =
     where_is (is_number_used h m.number) causes.NumberUsed

@@ -1,4 +1,4 @@
--- What a request brings about, and the history of a list of requests: the ballots are counted anew
+-- What a request brings about, and the history of a list of requests: the ballots are counted again
 -- at each ballot, and what is accepted is applied then.
 use Rattle.std.specs.Prelude.{ℕ, suc, List, [], ◌∷◌, ◌++◌, Option, None, Some, Bool, length, replicate, map, fold, nat_le, if◌then◌else◌}
 use Rattle.gl_requests.specs.declared.genesis.NewMember.{NewMember}
@@ -64,7 +64,7 @@ act_changes h rs seqno (acts.Withdraw id) = changes.Settled id states.Withdrawn 
 act_changes h rs seqno (acts.Share share) = if is_complete h then changes.Completed ∷ [] else []
 act_changes h rs seqno other = []
 
--- What a request brings about behind a history; ballots are those among the requests `rs`.
+-- What a request brings about after a history; ballots are those among the requests `rs`.
 abbrev pub request_changes : History → List Recorded → ℕ → GovernanceRequest → List Change
 request_changes h rs seqno (requests.Genesis g) = founding_changes g
 request_changes h rs seqno (requests.Recover r) = changes.Recovered r.identity ∷ []

@@ -2,7 +2,7 @@
 -- come to, so that each of its rows is within the limits of tables.
 use Rattle.std.specs.Prelude.{◌≡◌, ℕ, ◌≤◌, ◌<◌, ◌^◌, List, [], ◌∷◌, None, Some, Bool, true, false, length, take, slice_get, filter, nat_le, IfSome}
 use Rattle.std.specs.List.{flat_map, AllByRecursion}
-use Rattle.gl_requests.specs.Spelling.{action_bytes}
+use Rattle.gl_requests.specs.Encoding.{action_bytes}
 use Rattle.gl_requests.specs.Ranges.{is_dealing, are_rules, are_actions, is_request}
 use Rattle.gl_requests.specs.declared.request.GovernanceRequest.{GovernanceRequest}
 use Rattle.gl_requests.specs.declared.request.GovernanceRequest.TheVariants as requests
@@ -21,7 +21,7 @@ abbrev pub is_founding : GovernanceRequest → Bool
 is_founding (requests.Genesis g) = true
 is_founding other = false
 
--- The request founds a service anew.
+-- The request recovers a service.
 abbrev pub is_recovery : GovernanceRequest → Bool
 is_recovery (requests.Recover r) = true
 is_recovery other = false

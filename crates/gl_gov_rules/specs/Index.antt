@@ -15,11 +15,11 @@ use Rattle.gl_gov_rules.specs.declared.change.Ballot.{Ballot}
 use Rattle.gl_gov_rules.specs.declared.change.Proposal.{Proposal}
 use Rattle.gl_gov_rules.specs.declared.change.RecordedNode.{RecordedNode}
 use Rattle.gl_gov_rules.specs.declared.change.Settling.{Settling}
-use Rattle.gl_gov_rules.specs.declared.told.Signed.{Signed}
-use Rattle.gl_gov_rules.specs.declared.told.Mark.{Mark}
-use Rattle.gl_gov_rules.specs.declared.told.GivenShare.{GivenShare}
-use Rattle.gl_gov_rules.specs.declared.told.Trust.{Trust}
-use Rattle.gl_gov_rules.specs.declared.told.Retirement.{Retirement}
+use Rattle.gl_gov_rules.specs.declared.request_facts.Signed.{Signed}
+use Rattle.gl_gov_rules.specs.declared.request_facts.Mark.{Mark}
+use Rattle.gl_gov_rules.specs.declared.request_facts.GivenShare.{GivenShare}
+use Rattle.gl_gov_rules.specs.declared.request_facts.Trust.{Trust}
+use Rattle.gl_gov_rules.specs.declared.request_facts.Retirement.{Retirement}
 use Rattle.gl_gov_rules.specs.History.{History}
 use Rattle.gl_shares.specs.declared.share.Share.{Share}
 use Rattle.gl_gov_rules.specs.declared.ballots.Ballots.{Ballots}
@@ -27,10 +27,10 @@ use Rattle.gl_gov_rules.specs.declared.index.ByChange.{ByChange}
 use Rattle.gl_gov_rules.specs.declared.index.ByRequest.{ByRequest}
 use Rattle.gl_gov_rules.specs.declared.index.Added.{Added}
 use Rattle.gl_gov_rules.specs.Lists.{lists_of, list_at, HasRoomAt}
-use Rattle.gl_gov_rules.specs.Members.{member_named, leaf_behind}
+use Rattle.gl_gov_rules.specs.Members.{member_named, leaf_after}
 use Rattle.gl_gov_rules.specs.Nodes.{nodes_recorded}
 use Rattle.gl_gov_rules.specs.Proposals.{proposal_in, ballot_on, settling_in}
-use Rattle.gl_gov_rules.specs.Told.{removed_in, trust_in, retirement_in, mark_in, given_in, signed_by}
+use Rattle.gl_gov_rules.specs.RequestFacts.{removed_in, trust_in, retirement_in, mark_in, given_in, signed_by}
 
 -- There is room for what a request tells of its signer.
 abbrev pub HasRoomForSigner : List (Vec Signed Global) → GovernanceRequest → Type 0
@@ -60,7 +60,7 @@ HasRoomForAnswer b other = Unit {0}
 
 -- The leaves that signed requests are those of trees of 1,024.
 abbrev pub AreLeavesSmall : List Recorded → Type 0
-AreLeavesSmall rs = AllByRecursion (λ (r : Recorded). leaf_behind r.request ≤ 1024) rs
+AreLeavesSmall rs = AllByRecursion (λ (r : Recorded). leaf_after r.request ≤ 1024) rs
 
 -- The members whom changes name, the numbers of those whom they remove, the nodes that they trust,
 -- and what takes nodes out of service.
@@ -136,9 +136,9 @@ given h = filter_map (λ (r : Recorded). given_in r.seqno r.request) h.requests
 unfoldable pub signed : ℕ → History → List Signed
 signed n h = filter_map (λ (r : Recorded). signed_by n r.seqno r.request) h.requests
 
--- Behind a seqno a node was marked.
-unfoldable pub has_mark_behind : History → ℕ → Bool
-has_mark_behind h seqno = list_any (λ (m : Mark). nat_lt seqno m.seqno) (marks_of h)
+-- After a seqno a node was marked.
+unfoldable pub has_mark_after : History → ℕ → Bool
+has_mark_after h seqno = list_any (λ (m : Mark). nat_lt seqno m.seqno) (marks_of h)
 
 -- 1 plus the leaf of the last of these, 0 without one.
 abbrev pub next_or_zero : Option Signed → ℕ
@@ -153,7 +153,7 @@ abbrev pub first_mark : List ℕ → List Mark → Option ℕ
 first_mark id ms =
     option_map (λ (m : Mark). m.seqno) (find (λ (m : Mark). same_bytes id m.id) ms)
 
--- It takes this node out of service, behind the node's own entry.
+-- It takes this node out of service, after the node's own entry.
 abbrev pub is_node_or_all : List ℕ → Option (List ℕ) → Bool
 is_node_or_all id None = true
 is_node_or_all id (Some other) = same_bytes id other
@@ -166,9 +166,9 @@ abbrev pub first_retirement : RecordedNode → List Retirement → Option ℕ
 first_retirement n rs =
     option_map (λ (r : Retirement). r.seqno) (find (is_retirement_of n) rs)
 
--- A share, where it was given behind a seqno.
-abbrev pub given_behind : ℕ → GivenShare → Option Share
-given_behind seqno g = if nat_lt seqno g.seqno then Some g.share else None
+-- A share, where it was given after a seqno.
+abbrev pub given_after : ℕ → GivenShare → Option Share
+given_after seqno g = if nat_lt seqno g.seqno then Some g.share else None
 
 -- Two proposals have the same identifier and the same seqno.
 abbrev pub is_same_proposal : Proposal → Proposal → Bool

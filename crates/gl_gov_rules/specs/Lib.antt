@@ -14,5 +14,5 @@ pub mod Governed
 pub mod Rising
 pub mod Numbers
 pub mod Lists
-pub mod Told
+pub mod RequestFacts
 pub mod Index

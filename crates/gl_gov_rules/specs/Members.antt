@@ -83,15 +83,15 @@ unfoldable pub active_count : History → ℕ
 active_count h = count_by (λ (m : NewMember). is_active h m.number) (members h)
 
 -- 1 plus the leaf that signed a request, if a member did.
-abbrev pub leaf_behind : GovernanceRequest → ℕ
-leaf_behind (requests.Member m) = suc (leaf_of m.signature)
-leaf_behind other = 0
+abbrev pub leaf_after : GovernanceRequest → ℕ
+leaf_after (requests.Member m) = suc (leaf_of m.signature)
+leaf_after other = 0
 
-abbrev pub leaf_behind_last : Option Recorded → ℕ
-leaf_behind_last None = 0
-leaf_behind_last (Some r) = leaf_behind r.request
+abbrev pub leaf_after_last : Option Recorded → ℕ
+leaf_after_last None = 0
+leaf_after_last (Some r) = leaf_after r.request
 
 -- 1 plus the leaf of the last request that the member signed, 0 without one.
 unfoldable pub next_leaf : History → ℕ → ℕ
 next_leaf h number =
-    leaf_behind_last (last_such (λ (r : Recorded). is_by number r.request) h.requests)
+    leaf_after_last (last_such (λ (r : Recorded). is_by number r.request) h.requests)

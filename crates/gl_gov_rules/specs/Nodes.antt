@@ -2,7 +2,7 @@
 use Rattle.std.specs.Prelude.{ℕ, List, [], ◌∷◌, Option, None, Some, Bool, true, false, ◌&&◌, ◌||◌, map, filter, find, flat_map, option_map, count_by, is_some, nat_lt, if◌then◌else◌}
 use Rattle.std.specs.List.{list_any}
 use Rattle.gl_base.specs.Bytes.{same_bytes}
-use Rattle.gl_requests.specs.Spelling.{node_id}
+use Rattle.gl_requests.specs.Encoding.{node_id}
 use Rattle.gl_requests.specs.declared.genesis.NewNode.{NewNode}
 use Rattle.gl_requests.specs.declared.action.Action.TheVariants as actions
 use Rattle.gl_requests.specs.declared.request.GovernanceRequest.{GovernanceRequest}
@@ -54,7 +54,7 @@ abbrev pub marks : List ℕ → GovernanceRequest → Bool
 marks id (requests.Mark other) = same_bytes id other
 marks id other = false
 
--- The first change behind the node's own entry that took it out of service.
+-- The first change after the node's own entry that took it out of service.
 unfoldable pub retirement : History → RecordedNode → Option Changed
 retirement h n =
     find (λ (c : Changed). nat_lt n.seqno c.seqno && retires n.id c.change) h.changes

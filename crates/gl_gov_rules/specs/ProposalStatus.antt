@@ -1,6 +1,6 @@
 -- The proposal that a request concerns, and its state.
 use Rattle.std.specs.Prelude.{ℕ, List, Option, None, Some, option_map}
-use Rattle.gl_requests.specs.Spelling.{proposal_id}
+use Rattle.gl_requests.specs.Encoding.{proposal_id}
 use Rattle.gl_requests.specs.declared.request.MemberAct.{MemberAct}
 use Rattle.gl_requests.specs.declared.request.MemberAct.TheVariants as acts
 use Rattle.gl_requests.specs.declared.request.MemberRequest.{MemberRequest}
@@ -30,6 +30,6 @@ abbrev pub status_with : History → Option (List ℕ) → Option ProposalStatus
 status_with h None = None
 status_with h (Some id) = option_map (status_of h) (proposal h id)
 
--- The proposal that a request concerns, and its state behind the request.
+-- The proposal that a request concerns, and its state after the request.
 unfoldable pub proposal_status : History → GovernanceRequest → Option ProposalStatus
 proposal_status h request = status_with h (proposal_named request)

@@ -2,7 +2,7 @@
 use Rattle.std.specs.Prelude.{ℕ, List, [], ◌∷◌, Option, None, Some, Bool, true, false, ◌&&◌, ◌||◌, not, find, map, filter_map, option_map, count_by, nat_lt, nat_le, nat_eq, if◌then◌else◌}
 use Rattle.std.specs.List.{list_any}
 use Rattle.gl_base.specs.Bytes.{same_bytes}
-use Rattle.gl_requests.specs.Spelling.{proposal_id}
+use Rattle.gl_requests.specs.Encoding.{proposal_id}
 use Rattle.gl_requests.specs.declared.action.Action.TheVariants as actions
 use Rattle.gl_requests.specs.declared.request.MemberAct.{MemberAct}
 use Rattle.gl_requests.specs.declared.request.MemberAct.TheVariants as acts
@@ -41,7 +41,7 @@ has_proposal_id id p = same_bytes p.id id
 unfoldable pub proposal : History → List ℕ → Option Proposal
 proposal h id = find (has_proposal_id id) (proposals h)
 
--- Dropped, where what drops proposals stands behind the proposal.
+-- Dropped, where what drops proposals stands after the proposal.
 abbrev pub dropped_if : Bool → Option ProposalState
 dropped_if later = if later then Some states.Dropped else None
 

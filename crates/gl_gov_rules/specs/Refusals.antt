@@ -5,7 +5,7 @@ use Rattle.sha2.specs.Sha256.{sha256}
 use Rattle.gl_base.specs.Bytes.{same_bytes}
 use Rattle.gl_shares.specs.Joining.{joined}
 use Rattle.gl_shares.specs.declared.share.Share.{Share}
-use Rattle.gl_requests.specs.Spelling.{node_id, proposal_id}
+use Rattle.gl_requests.specs.Encoding.{node_id, proposal_id}
 use Rattle.gl_requests.specs.declared.genesis.ServiceState.{ServiceState}
 use Rattle.gl_requests.specs.declared.genesis.ServiceState.TheVariants as services
 use Rattle.gl_requests.specs.declared.genesis.NewNode.{NewNode}
@@ -244,7 +244,7 @@ act_refusal h seqno m (acts.Ballot id agrees) = ballot_refusal h m.member id
 act_refusal h seqno m (acts.Withdraw id) = withdraw_refusal h m.member id
 act_refusal h seqno m (acts.Share share) = share_refusal h m.member share
 
--- Why a request at a seqno is refused behind a history, if it is.
+-- Why a request at a seqno is refused after a history, if it is.
 unfoldable pub refusal : History → ℕ → GovernanceRequest → Option GovernanceRefusal
 refusal h seqno (requests.Genesis g) = genesis_refusal h g
 refusal h seqno (requests.Recover r) = recovery_refusal h r

@@ -9,7 +9,7 @@ use Rattle.gl_vmaps.specs.Tables.{Tables, no_tables, wrote_all}
 use Rattle.gl_vmaps.specs.Changes.{row, write_set, changes}
 use Rattle.gl_vmaps.specs.declared.write.Write.{Write}
 use Rattle.gl_shares.specs.declared.share.Share.{Share}
-use Rattle.gl_requests.specs.Spelling.{state_byte, counted_bytes, rule_bytes, dealing_bytes, action_bytes}
+use Rattle.gl_requests.specs.Encoding.{state_byte, counted_bytes, rule_bytes, dealing_bytes, action_bytes}
 use Rattle.gl_requests.specs.declared.genesis.ServiceState.{ServiceState}
 use Rattle.gl_requests.specs.declared.genesis.NewMember.{NewMember}
 use Rattle.gl_requests.specs.declared.genesis.Dealing.{Dealing}
@@ -221,6 +221,6 @@ rows h = write_set (all_rows h)
 abbrev pub effect : List Recorded → Tables
 effect rs = wrote_all no_tables (rows (history rs))
 
--- The write set of a request behind others: it turns their rows into those with it.
+-- The write set of a request after others: it turns their rows into those with it.
 abbrev pub effect_writes : List Recorded → Recorded → List Write
 effect_writes rs r = changes (rows (history rs)) (rows (history (rs ++ r ∷ [])))

@@ -94,9 +94,9 @@ abbrev pub share_in : GovernanceRequest → Option Share
 share_in (requests.Member m) = share_in_act m.member m.act
 share_in other = None
 
-abbrev pub share_behind : ℕ → Recorded → Option Share
-share_behind seqno r = if nat_lt seqno r.seqno then share_in r.request else None
+abbrev pub share_after : ℕ → Recorded → Option Share
+share_after seqno r = if nat_lt seqno r.seqno then share_in r.request else None
 
--- The shares given behind the last change that cleared them, in the order in which they were given.
+-- The shares given after the last change that cleared them, in the order in which they were given.
 unfoldable pub shares_given : History → List Share
-shares_given h = filter_map (share_behind (last_clearing h)) h.requests
+shares_given h = filter_map (share_after (last_clearing h)) h.requests

@@ -4,7 +4,7 @@ use Rattle.std.specs.Prelude.{ℕ, List, Result, Ok, Err, Bool, ◌&&◌, is_ok,
 use Rattle.gl_hss.specs.Bytes.{number_at}
 use Rattle.gl_hss.specs.declared.fault.HssFault.{HssFault}
 use Rattle.gl_hss.specs.Order.{verdict, leaf_verdict, endorsement_verdict}
-use Rattle.gl_requests.specs.Spelling.{signed_bytes}
+use Rattle.gl_requests.specs.Encoding.{signed_bytes}
 use Rattle.gl_requests.specs.declared.request.MemberRequest.{MemberRequest}
 
 -- A member's request is signed under its key, which has one level, in the service with this key.

@@ -1,7 +1,7 @@
 -- Counting the ballots on a proposal, and whether they settle it.
 use Rattle.std.specs.Prelude.{ℕ, ◌*◌, ◌-◌, List, Option, None, Some, Bool, true, false, ◌&&◌, not, count_by, slice_get, nat_lt}
 use Rattle.std.specs.List.{list_any, list_all}
-use Rattle.gl_requests.specs.Spelling.{action_number}
+use Rattle.gl_requests.specs.Encoding.{action_number}
 use Rattle.gl_requests.specs.declared.genesis.NewMember.{NewMember}
 use Rattle.gl_requests.specs.declared.action.Rule.{Rule}
 use Rattle.gl_requests.specs.declared.action.Action.{Action}
@@ -18,7 +18,7 @@ answer_count h rs id agrees =
     count_by (λ (m : NewMember). is_active h m.number && has_answered rs id agrees m.number)
     (members h)
 
--- The ballots on a proposal among these requests, counted anew over the members who are active.
+-- The ballots on a proposal among these requests, counted again over the members who are active.
 abbrev pub tally : History → List Recorded → List ℕ → Tally
 tally h rs id = record {
   all = active_count h;

@@ -13,17 +13,17 @@ pub struct Recorded {
 /// The state of a proposal (CCF documentation, "Proposals").
 #[derive(Clone, Copy, Debug, PartialEq, Eq)]
 pub enum ProposalState {
-    /// Members may answer it. Spelled as the byte 1.
+    /// Members may answer it. Encoded as the byte 1.
     Open,
-    /// Enough members agreed, and its actions were applied. Spelled as the byte 2.
+    /// Enough members agreed, and its actions were applied. Encoded as the byte 2.
     Accepted,
-    /// So many members refused that enough never will agree. Spelled as the byte 3.
+    /// So many members refused that enough never will agree. Encoded as the byte 3.
     Rejected,
-    /// Its proposer took it back. Spelled as the byte 4.
+    /// Its proposer took it back. Encoded as the byte 4.
     Withdrawn,
-    /// Enough members agreed, but an action was bad, and none was applied. Spelled as the byte 5.
+    /// Enough members agreed, but an action was bad, and none was applied. Encoded as the byte 5.
     Failed,
-    /// A new constitution or a recovery came first. Spelled as the byte 6.
+    /// A new constitution or a recovery came first. Encoded as the byte 6.
     Dropped,
 }
 
@@ -40,7 +40,7 @@ pub struct ProposalStatus {
 pub enum Change {
     /// The service was founded in this state, with this key.
     Founded(ServiceState, HssPublicKey),
-    /// The service was founded anew with this key.
+    /// The service was recovered with this key.
     Recovered(HssPublicKey),
     /// The action was applied.
     Applied(Action),

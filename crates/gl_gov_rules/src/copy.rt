@@ -1,4 +1,5 @@
-//! What a history holds once more, in memory of its own. Each copy fails for want of memory alone.
+//! What a history holds once more, in memory of its own. Each copy fails only where memory runs
+//! out.
 
 ghost use Rattle.std.specs.Prelude.{◌≡◌, IfOk};
 

@@ -7,8 +7,8 @@ use crate::copy::copy_all;
 use crate::cut::changes_up_to;
 use crate::index::{Added, ByChange, ByRequest, append_reserved};
 use crate::lists::{cut_list, list_at};
+use crate::request_facts::{GivenShare, Mark, Retirement, Signed, Trust};
 use crate::settlings::{cut_settlings, push_settling, settle};
-use crate::told::{GivenShare, Mark, Retirement, Signed, Trust};
 use gl_requests::{Digest, NewMember};
 use std::alloc::{AllocError, Global};
 use std::marker::Model;
@@ -78,7 +78,7 @@ impl History {
     }
 
     /// Adds a request and the changes that it brings about. What it needs is made first, so that
-    /// want of memory leaves all as it was.
+    /// running out of memory leaves all as it was.
     pub fn push_recorded(
         &mut self,
         alloc: Global,
@@ -92,15 +92,15 @@ impl History {
         }) }
         ensures kept { OnErr result (self.new ≡ self.old) }
     {
-        let told = ByChange::of(alloc, &changes)?;
+        let reported = ByChange::of(alloc, &changes)?;
         let added = Added::of(alloc, recorded.seqno, &recorded.request)?;
         self.requests.reserve(1)?;
         self.changes.reserve(changes.len())?;
-        self.by_change.reserve(&told)?;
+        self.by_change.reserve(&reported)?;
         self.by_request.reserve(alloc, &added, &recorded.request)?;
         self.settlings.reserve(1)?;
         settle(&mut self.settlings, &self.by_request.proposals, &changes);
-        self.by_change.append(told);
+        self.by_change.append(reported);
         self.by_request.push(added, &recorded);
         self.requests.push_reserved(recorded);
         append_reserved(&mut self.changes, changes);
@@ -208,7 +208,7 @@ impl History {
     /// What the requests tell that this member signed, in order.
     #[tactic(auto, unfolding(crate::specs::Index::signed))]
     pub(crate) fn signed(&self, number: u8) -> &[Signed]
-        ensures told { result.now ≡ signed number self.now }
+        ensures reported { result.now ≡ signed number self.now }
         ensures leaves { AreLeavesSmall self.now.requests }
     {
         list_at(&self.by_request.signed, number as usize)

@@ -17,7 +17,7 @@ use crate::lists::{copy_lists, cut_list, cut_lists};
 use crate::members::{named_count, push_member_named, push_removed, removed_count};
 use crate::nodes::{push_nodes_recorded, retirement_count, trust_count};
 use crate::proposals::proposal_in;
-use crate::told::{
+use crate::request_facts::{
     GivenShare, Mark, Retirement, Signed, Trust, given_in, mark_in, push_signer, reserve_signer,
     retirement_in, trust_in,
 };
@@ -118,13 +118,13 @@ impl ByChange {
 
     /// What these changes tell.
     pub(crate) fn of(alloc: Global, changes: &[Changed]) -> Result<Self, AllocError>
-        ensures { IfOk result (λ told. IsOfChanges changes.now told) }
+        ensures { IfOk result (λ reported. IsOfChanges changes.now reported) }
     {
-        let mut told = ByChange::new(alloc);
+        let mut reported = ByChange::new(alloc);
         for changed in changes {
-            told.push(changed)?;
+            reported.push(changed)?;
         }
-        Ok(told)
+        Ok(reported)
     }
 
     /// The same once more, in memory of its own.
@@ -183,7 +183,7 @@ impl Added {
         request: &GovernanceRequest,
     ) -> Result<Self, AllocError>
         requires { is_request request.now ≡ true }
-        ensures { IfOk result (λ told. IsOfRequest seqno request.now told) }
+        ensures { IfOk result (λ reported. IsOfRequest seqno request.now reported) }
     {
         let mut nodes = Vec::new(alloc);
         push_nodes_recorded(alloc, &mut nodes, seqno, request)?;
@@ -244,7 +244,7 @@ impl ByRequest {
     /// Adds what one more request tells.
     pub(crate) fn push(&mut self, added: Added, recorded: &Recorded)
         requires room { HasRoomForAdded self.old added recorded.now.request }
-        requires told { IsOfRequest recorded.now.seqno recorded.now.request added }
+        requires reported { IsOfRequest recorded.now.seqno recorded.now.request added }
         ensures { (rs : List Recorded) →
             IsOfRequests rs self.old → IsOfRequests (rs ++ recorded.now ∷ []) self.new }
     {

@@ -8,7 +8,7 @@ ghost use Rattle.gl_hss.specs.Hss.{IsValid, IsEndorsed};
 ghost use Rattle.gl_vmaps.specs.Changes.{Turns};
 ghost use Rattle.gl_vmaps.specs.Tables.{value_in};
 ghost use Rattle.gl_vmaps.specs.Writes.{is_ordered, is_write};
-ghost use Rattle.gl_requests.specs.Spelling.{signed_bytes};
+ghost use Rattle.gl_requests.specs.Encoding.{signed_bytes};
 ghost use Rattle.gl_requests.specs.declared.request.MemberRequest.{MemberRequest};
 ghost use Rattle.gl_gov_rules.specs.declared.change.Recorded.{Recorded};
 ghost use Rattle.gl_gov_rules.specs.Signatures.{is_signed, is_endorsed};

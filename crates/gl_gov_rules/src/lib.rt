@@ -31,7 +31,7 @@ mod nodes;
 mod numbers;
 mod proposals;
 mod refusal;
+mod request_facts;
 mod row;
 mod service;
 mod settlings;
-mod told;

@@ -30,8 +30,8 @@ pub(crate) fn cut_list<T: AtSeqno>(list: &mut Vec<T>, to: u64)
     list.truncate(count);
 }
 
-/// Whether one of these stands behind a seqno.
-pub(crate) fn is_any_behind<T: AtSeqno>(list: &[T], seqno: u64) -> bool
+/// Whether one of these stands after a seqno.
+pub(crate) fn is_any_after<T: AtSeqno>(list: &[T], seqno: u64) -> bool
     ensures { result ≡ list_any (λ x. nat_lt seqno (T.seqno_at x)) list.now }
 {
     list.iter().any(|item| seqno < item.seqno())

@@ -3,16 +3,16 @@
 ghost use Rattle.std.specs.Prelude.{◌≡◌, ◌≤◌, ◌++◌, count_by, is_some, nat_eq, OnOk};
 ghost use Rattle.std.specs.Option.{option_copied, option_to_list};
 ghost use Rattle.std.specs.List.{list_any};
-ghost use Rattle.gl_gov_rules.specs.declared.told.Signed as a_signed;
+ghost use Rattle.gl_gov_rules.specs.declared.request_facts.Signed as a_signed;
 ghost use Rattle.gl_gov_rules.specs.declared.change.Changed as a_change;
 ghost use Rattle.gl_gov_rules.specs.Members.{member_named};
-ghost use Rattle.gl_gov_rules.specs.Told.{removed_in};
+ghost use Rattle.gl_gov_rules.specs.RequestFacts.{removed_in};
 ghost use Rattle.gl_gov_rules.specs.Index.{last_leaf};
 
 use crate::change::{Change, Changed};
 use crate::history::History;
 use crate::refusal::MemberStatus;
-use crate::told::{Signed, removed_in};
+use crate::request_facts::{Signed, removed_in};
 use gl_requests::{Action, NewMember};
 use std::alloc::AllocError;
 

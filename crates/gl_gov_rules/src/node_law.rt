@@ -27,7 +27,7 @@ ghost use Rattle.gl_gov_rules.specs.Changes.{history};
 ghost use Rattle.gl_gov_rules.specs.Governed.{IsAbove, Follows, IsGoverned};
 
 /// A node's removal and its Mark stay as they are once they are there, and they come with the last
-/// request, the Mark only behind the removal. No two nodes have one identifier. Those that are
+/// request, the Mark only after the removal. No two nodes have one identifier. Those that are
 /// trusted are recorded and not removed, and there is always one.
 pub fn law_of_nodes()
     ensures removal_kept { (rs : List Recorded) (r : Recorded) (id : List ℕ) (s : ℕ) →
@@ -60,7 +60,7 @@ pub fn law_of_nodes()
         removal (history rs) id ≡ Some s → IsAbove n rs → s < n }
     ensures mark_within { (rs : List Recorded) (id : List ℕ) (s n : ℕ) →
         mark (history rs) id ≡ Some s → IsAbove n rs → s < n }
-    // Behind the first request some node is always trusted.
+    // After the first request some node is always trusted.
     ensures some_trusted { (r : Recorded) (rs : List Recorded) → IsGoverned (r ∷ rs) →
         0 < length (trusted (history (r ∷ rs))) }
 {}

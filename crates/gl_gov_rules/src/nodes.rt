@@ -4,18 +4,18 @@ ghost use Rattle.std.specs.Prelude.{◌≡◌, ◌++◌, ◌∷◌, [], true, fa
 ghost use Rattle.std.specs.Option.{option_copied};
 ghost use Rattle.std.specs.List.{list_any};
 ghost use Rattle.gl_base.specs.Bytes.{same_bytes};
-ghost use Rattle.gl_gov_rules.specs.declared.told.Mark as a_mark;
+ghost use Rattle.gl_gov_rules.specs.declared.request_facts.Mark as a_mark;
 ghost use Rattle.gl_gov_rules.specs.declared.change.Changed as a_change;
-ghost use Rattle.gl_gov_rules.specs.declared.told.Trust as a_trust;
+ghost use Rattle.gl_gov_rules.specs.declared.request_facts.Trust as a_trust;
 ghost use Rattle.gl_gov_rules.specs.Nodes.{recorded_node, nodes_recorded, retires};
-ghost use Rattle.gl_gov_rules.specs.Told.{trust_in, retirement_in};
+ghost use Rattle.gl_gov_rules.specs.RequestFacts.{trust_in, retirement_in};
 ghost use Rattle.gl_gov_rules.specs.Index.{first_mark, is_node_or_all, is_retirement_of, first_retirement};
 
 use crate::change::{Change, Changed, RecordedNode};
 use crate::history::History;
-use crate::lists::is_any_behind;
+use crate::lists::is_any_after;
 use crate::refusal::NodeStatus;
-use crate::told::{Mark, Retirement, Trust, retirement_in, trust_in};
+use crate::request_facts::{Mark, Retirement, Trust, retirement_in, trust_in};
 use gl_requests::{Action, GovernanceRequest, NewNode, NodeId};
 use std::alloc::{AllocError, Global};
 
@@ -111,7 +111,7 @@ fn is_node_or_all(id: &NodeId, other: &Option<NodeId>) -> bool
     }
 }
 
-/// Whether it takes this node out of service, behind the node's own entry.
+/// Whether it takes this node out of service, after the node's own entry.
 fn is_retirement_of(node: &RecordedNode, retirement: &Retirement) -> bool
     ensures { result ≡ is_retirement_of node.now retirement.now }
 {
@@ -178,7 +178,7 @@ fn first_mark(marks: &[Mark], id: &NodeId) -> Option<u64>
 }
 
 impl History {
-    ghost use Rattle.gl_gov_rules.specs.Index.{has_mark_behind};
+    ghost use Rattle.gl_gov_rules.specs.Index.{has_mark_after};
     ghost use Rattle.gl_gov_rules.specs.Nodes.{node, retirement, mark, is_marked, is_trust_applied, was_trusted, node_status, trusted_count, pending_count};
 
     /// The node with this identifier, if it is recorded.
@@ -189,7 +189,7 @@ impl History {
         self.nodes().iter().find(|node| node.id == *id)
     }
 
-    /// The first change behind the node's own entry that took it out of service.
+    /// The first change after the node's own entry that took it out of service.
     #[tactic(auto, unfolding(crate::specs::Nodes::retirement))]
     pub fn retirement(&self, node: &RecordedNode) -> Option<&Changed>
         ensures { option_copied result ≡ retirement self.now node.now }
@@ -220,12 +220,12 @@ impl History {
         is_any_of(self.marks(), id)
     }
 
-    /// Whether a node was marked behind a seqno. One look at each mark.
-    #[tactic(auto, unfolding(crate::specs::Index::has_mark_behind))]
-    pub fn has_mark_behind(&self, seqno: u64) -> bool
-        ensures { result ≡ has_mark_behind self.now seqno }
+    /// Whether a node was marked after a seqno. One look at each mark.
+    #[tactic(auto, unfolding(crate::specs::Index::has_mark_after))]
+    pub fn has_mark_after(&self, seqno: u64) -> bool
+        ensures { result ≡ has_mark_after self.now seqno }
     {
-        is_any_behind(self.marks(), seqno)
+        is_any_after(self.marks(), seqno)
     }
 
     /// Whether the node's trust was applied.

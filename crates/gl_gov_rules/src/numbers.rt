@@ -7,7 +7,7 @@ impl ProposalState {
     ghost use Rattle.std.specs.Prelude.{◌≡◌};
     ghost use Rattle.gl_gov_rules.specs.Rows.{proposal_byte};
 
-    /// The byte that spells the state.
+    /// The byte that encodes the state.
     pub fn byte(self) -> u8
         ensures byte { result ≡ proposal_byte self }
     {
@@ -26,7 +26,7 @@ impl MemberStatus {
     ghost use Rattle.std.specs.Prelude.{◌≡◌};
     ghost use Rattle.gl_gov_rules.specs.Rows.{member_byte};
 
-    /// The byte that spells the status.
+    /// The byte that encodes the status.
     pub fn byte(self) -> u8
         ensures byte { result ≡ member_byte self }
     {
@@ -42,7 +42,7 @@ impl NodeStatus {
     ghost use Rattle.std.specs.Prelude.{◌≡◌};
     ghost use Rattle.gl_gov_rules.specs.Rows.{node_byte};
 
-    /// The byte that spells the status.
+    /// The byte that encodes the status.
     pub fn byte(self) -> u8
         ensures byte { result ≡ node_byte self }
     {

@@ -51,7 +51,7 @@ pub(crate) fn proposal_in(
     }
 }
 
-/// Dropped, where what drops proposals stands behind the proposal.
+/// Dropped, where what drops proposals stands after the proposal.
 fn dropped_if(later: bool) -> Option<ProposalState>
     ensures { result ≡ dropped_if later }
 {
@@ -173,7 +173,7 @@ impl History {
     }
 
     /// Whether the member gave this answer to this proposal.
-    #[tactic(auto, using(crate::proofs::Telling::answered_any))]
+    #[tactic(auto, using(crate::proofs::HistoryIndex::answered_any))]
     pub fn has_answered(&self, id: &Digest, agrees: bool, number: u8) -> bool
         ensures { result ≡ has_answered self.now.requests id.now agrees number }
     {

@@ -7,24 +7,24 @@ use thiserror::Error;
 /// The status of a member (CCF documentation, "Members").
 #[derive(Clone, Copy, Debug, PartialEq, Eq)]
 pub enum MemberStatus {
-    /// It has not yet acknowledged the service. Spelled as the byte 1.
+    /// It has not yet acknowledged the service. Encoded as the byte 1.
     Accepted,
-    /// It proposes, votes and gives its share. Spelled as the byte 2.
+    /// It proposes, votes and gives its share. Encoded as the byte 2.
     Active,
-    /// It is no member any more. Spelled as the byte 3.
+    /// It is no member any more. Encoded as the byte 3.
     Removed,
 }
 
 /// The status of a node (CCF documentation, "Nodes").
 #[derive(Clone, Copy, Debug, PartialEq, Eq)]
 pub enum NodeStatus {
-    /// It joined, and members have not yet trusted it. Spelled as the byte 1.
+    /// It joined, and members have not yet trusted it. Encoded as the byte 1.
     Pending,
-    /// It takes part in consensus. Spelled as the byte 2.
+    /// It takes part in consensus. Encoded as the byte 2.
     Trusted,
-    /// It was taken out of service. Spelled as the byte 3.
+    /// It was taken out of service. Encoded as the byte 3.
     Retired,
-    /// It was retired, and may be switched off once that is committed. Spelled as the byte 4.
+    /// It was retired, and may be switched off once that is committed. Encoded as the byte 4.
     Marked,
 }
 

@@ -17,7 +17,7 @@ pub struct Vote {
 #[derive(Clone, Copy, Debug, PartialEq, Eq)]
 pub struct ServiceRow {
     pub state: ServiceState,
-    /// Whether it was founded anew after a disaster.
+    /// Whether it was recovered after a disaster.
     pub is_recovered: bool,
     /// The service's key.
     pub identity: HssPublicKey,

@@ -6,11 +6,11 @@ ghost use Rattle.std.specs.Option.{option_copied, option_to_list};
 ghost use Rattle.gl_vmaps.specs.LastWrite.{last_such};
 ghost use Rattle.gl_gov_rules.specs.declared.change.Changed as a_change;
 ghost use Rattle.gl_gov_rules.specs.Service.{sets_rules, sets_dealing, sets_identity, state_once_open, sets_state, clears_shares};
-ghost use Rattle.gl_gov_rules.specs.Index.{given_behind};
+ghost use Rattle.gl_gov_rules.specs.Index.{given_after};
 
 use crate::change::{Change, Changed};
 use crate::history::History;
-use crate::told::GivenShare;
+use crate::request_facts::GivenShare;
 use gl_requests::{Action, Dealing, HssPublicKey, Rule, ServiceState};
 use gl_shares::Share;
 use std::alloc::{AllocError, Global};
@@ -136,9 +136,9 @@ fn last_clearing_change(changes: &[Changed]) -> Option<&Changed>
         .find(|changed| clears_shares(&changed.change))
 }
 
-/// The share, where it was given behind this seqno.
-fn given_behind(seqno: u64, given: &GivenShare) -> Option<Share>
-    ensures { result ≡ given_behind seqno given.now }
+/// The share, where it was given after this seqno.
+fn given_after(seqno: u64, given: &GivenShare) -> Option<Share>
+    ensures { result ≡ given_after seqno given.now }
 {
     if seqno < given.seqno {
         Some(given.share)
@@ -147,16 +147,16 @@ fn given_behind(seqno: u64, given: &GivenShare) -> Option<Share>
     }
 }
 
-/// Adds the share, where it was given behind this seqno.
-fn push_share_behind(
+/// Adds the share, where it was given after this seqno.
+fn push_share_after(
     shares: &mut Vec<Share>,
     seqno: u64,
     given: &GivenShare,
 ) -> Result<(), AllocError>
     ensures { OnOk result
-        (shares.new.items ≡ shares.old.items ++ option_to_list (given_behind seqno given.now)) }
+        (shares.new.items ≡ shares.old.items ++ option_to_list (given_after seqno given.now)) }
 {
-    match given_behind(seqno, given) {
+    match given_after(seqno, given) {
         None => Ok(()),
         Some(share) => {
             shares.push(share)?;
@@ -165,14 +165,14 @@ fn push_share_behind(
     }
 }
 
-/// The shares that were given behind this seqno.
-fn shares_behind(alloc: Global, seqno: u64, given: &[GivenShare]) -> Result<Vec<Share>, AllocError>
+/// The shares that were given after this seqno.
+fn shares_after(alloc: Global, seqno: u64, given: &[GivenShare]) -> Result<Vec<Share>, AllocError>
     ensures { IfOk result (λ shares.
-        shares.items ≡ filter_map (given_behind seqno) given.now) }
+        shares.items ≡ filter_map (given_after seqno) given.now) }
 {
     let mut shares = Vec::new(alloc);
     for given in given {
-        push_share_behind(&mut shares, seqno, given)?;
+        push_share_after(&mut shares, seqno, given)?;
     }
     Ok(shares)
 }
@@ -246,17 +246,17 @@ impl History {
         }
     }
 
-    /// The shares given behind the last change that cleared them, in the order in which they were
+    /// The shares given after the last change that cleared them, in the order in which they were
     /// given.
-    #[tactic(auto, unfolding(crate::specs::Service::shares_given, crate::specs::Index::given), using(crate::proofs::Telling::given_since))]
+    #[tactic(auto, unfolding(crate::specs::Service::shares_given, crate::specs::Index::given), using(crate::proofs::HistoryIndex::given_since))]
     pub fn shares_given(&self, alloc: Global) -> Result<Vec<Share>, AllocError>
         ensures { IfOk result (λ shares. shares.items ≡ shares_given self.now) }
     {
-        shares_behind(alloc, self.last_clearing(), self.given())
+        shares_after(alloc, self.last_clearing(), self.given())
     }
 
-    /// How many shares were given behind the last change that cleared them.
-    #[tactic(auto, unfolding(crate::specs::Service::shares_given, crate::specs::Index::given), using(crate::proofs::Telling::given_count))]
+    /// How many shares were given after the last change that cleared them.
+    #[tactic(auto, unfolding(crate::specs::Service::shares_given, crate::specs::Index::given), using(crate::proofs::HistoryIndex::given_count))]
     pub fn shares_given_count(&self) -> usize
         ensures { result ≡ length (shares_given self.now) }
     {

@@ -60,7 +60,7 @@ fn proposal_at(proposals: &[Proposal], place: usize) -> Option<&Proposal>
     proposals.get(place)
 }
 
-/// Adds what settles the proposal behind those that are told of, if there is one.
+/// Adds what settles the proposal after those that are told of, if there is one.
 pub(crate) fn push_settling(
     settlings: &mut Vec<Option<Settling>>,
     proposals: &[Proposal],

@@ -1,11 +1,11 @@
--- Strings of 32 bytes, one behind the other.
+-- Strings of 32 bytes, one after the other.
 use Rattle.std.proofs.Common.{◌≡◌, ℕ, zero, suc, ◌+◌, ◌*◌, ◌<◌, ◌≤◌, List, [], ◌++◌, length, take, drop, sym, ap, ◌∙◌, add-one, arith, inl, inr}
 use Rattle.std.proofs.lemmas.Bool.{cases_eq}
 use Rattle.std.proofs.lemmas.List.{take_all, drop_at, take-append-le, drop-append-le, length-append, length-drop}
 use Rattle.gl_hss.specs.Bytes.{block}
 
-block_front : (xs ys : List ℕ) (i : ℕ) → 32 * i + 32 ≤ length xs → block (xs ++ ys) i ≡ block xs i
-block_front xs ys i room =
+block_prefix : (xs ys : List ℕ) (i : ℕ) → 32 * i + 32 ≤ length xs → block (xs ++ ys) i ≡ block xs i
+block_prefix xs ys i room =
     ap (take 32) (drop-append-le (32 * i) xs ys (omega arith)) ∙ take-append-le 32 (drop (32 * i) xs) ys (omega (arith, length-drop (32 * i) xs))
 
 block_last : (xs y : List ℕ) (i : ℕ) → length xs ≡ 32 * i → length y ≡ 32 → block (xs ++ y) i ≡ y
@@ -30,5 +30,5 @@ block-blocks all item h (suc n) i below =
     let len = length-blocks all item h n in
     ap (λ (s : List ℕ). block s i) step ∙ elim (cases_eq i n) [
       | inl last ↦ block_last (all n) (item n) i (omega arith) (h.sized n) ∙ ap item (sym last)
-      | inr other ↦ block_front (all n) (item n) i (omega arith) ∙ block-blocks all item h n i (omega arith)
+      | inr other ↦ block_prefix (all n) (item n) i (omega arith) ∙ block-blocks all item h n i (omega arith)
     ]

@@ -11,8 +11,8 @@ use Rattle.gl_hss.specs.Tree.{Signature, PublicKey, key_bytes, signature_bytes}
 use Rattle.gl_hss.specs.Hss.{Upper, levels_bytes, hss_bytes, AreLevels, SignsDown, IsHssKey, IsValid, HasLeaf, IsEndorsed, last_key}
 use Rattle.gl_hss.specs.Order.{last_key_verdict}
 use Rattle.gl_hss.proofs.Spans.{bytes_at-Spans, length-u32str}
-use Rattle.gl_hss.proofs.Spelled.{length-key_bytes, length-signature_bytes}
-use Rattle.gl_hss.proofs.Readings.{reaches_room, top_key_there}
+use Rattle.gl_hss.proofs.EncodedFields.{length-key_bytes, length-signature_bytes}
+use Rattle.gl_hss.proofs.ParsedFields.{reaches_room, top_key_there}
 use Rattle.gl_hss.proofs.Verdicts.{length-last, levels_span, two_stand, levels_of_key_there, hss_key_stands}
 
 signature_len-most : (t : Types) → signature_len t ≤ 2508
@@ -31,23 +31,23 @@ leaves-most H10W8 = omega arith
 
 pub length-endorsement : (identity key e : List ℕ) → IsEndorsed identity key e → length e ≤ 2508
 length-endorsement identity key e h =
-    omega (arith, ap length h.signs.spelled, length-signature_bytes h.top.types h.signs.fields h.signs.signed.form, signature_len-most h.top.types)
+    omega (arith, ap length h.signs.encoded, length-signature_bytes h.top.types h.signs.fields h.signs.signed.form, signature_len-most h.top.types)
 
 length-levels : (s : List ℕ) (k : PublicKey) (us : List Upper) (last : Signature) (message : List ℕ) → 4 ≤ length s → length us + 1 ≤ 2 → s ≡ hss_bytes k.types us last → SignsDown k us last message → length s ≤ 5076
-length-levels s k [] last message room few spelled signs =
-    omega (arith, length-last s 4 (signature_bytes k.types last) (levels_span s k.types [] last spelled) room, length-signature_bytes k.types last signs.form, signature_len-most k.types)
-length-levels s k (u ∷ []) last message room few spelled signs =
-    let h = two_stand k.types u last s (levels_span s k.types (u ∷ []) last spelled) signs.0.form signs.1 signs.2.form in
+length-levels s k [] last message room few encoded signs =
+    omega (arith, length-last s 4 (signature_bytes k.types last) (levels_span s k.types [] last encoded) room, length-signature_bytes k.types last signs.form, signature_len-most k.types)
+length-levels s k (u ∷ []) last message room few encoded signs =
+    let h = two_stand k.types u last s (levels_span s k.types (u ∷ []) last encoded) signs.0.form signs.1 signs.2.form in
     omega (arith, h.end, signature_len-most k.types, signature_len-most u.key.types)
-length-levels s k (u ∷ v ∷ us) last message room few spelled signs =
+length-levels s k (u ∷ v ∷ us) last message room few encoded signs =
     let most : suc (suc (length us)) + 1 ≤ 2 = few in
     absurd (omega arith)
 
 pub length-valid : (key message s : List ℕ) → IsValid key message s → length s ≤ 5076
 length-valid key message s v =
     let n = length v.upper in
-    let room : 4 ≤ length s = omega (arith, ap length v.spelled, length-append (u32str n) (levels_bytes v.top.types v.upper v.last), length-u32str n) in
-    length-levels s v.top v.upper v.last message room v.of_key.few v.spelled v.signs
+    let room : 4 ≤ length s = omega (arith, ap length v.encoded, length-append (u32str n) (levels_bytes v.top.types v.upper v.last), length-u32str n) in
+    length-levels s v.top v.upper v.last message room v.of_key.few v.encoded v.signs
 
 -- ---- leaves
 
@@ -68,22 +68,22 @@ bytes_are x y e = cc
 
 last_key_levels : (key message s : List ℕ) (k : PublicKey) (us : List Upper) (last : Signature) → IsHssKey key (length us + 1) k → s ≡ hss_bytes k.types us last → SignsDown k us last message → last_key_verdict key s ≡ Ok (key_bytes (last_key k us))
 unfolding last_key_verdict
-last_key_levels key message s k [] last of_key spelled signs =
+last_key_levels key message s k [] last of_key encoded signs =
     let h = hss_key_stands key k 1 of_key in
     rw (levels_of_key_there key 1 h.named (inl refl), top_key_there k key h.top)
     (ap bytes (bytes_at-Spans key 4 (length key) 56 (key_bytes k) h.span (length-key_bytes k of_key.form)))
-last_key_levels key message s k (u ∷ []) last of_key spelled signs =
+last_key_levels key message s k (u ∷ []) last of_key encoded signs =
     let h = hss_key_stands key k 2 of_key in
     let at = 4 + signature_len k.types in
-    let two = two_stand k.types u last s (levels_span s k.types (u ∷ []) last spelled) signs.0.form signs.1 signs.2.form in
+    let two = two_stand k.types u last s (levels_span s k.types (u ∷ []) last encoded) signs.0.form signs.1 signs.2.form in
     rw (levels_of_key_there key 2 h.named (inr refl), top_key_there k key h.top, reaches_room s (at + 56) (at + 56 + signature_len H5W8) two.key.room)
     (ap bytes two.middle)
-last_key_levels key message s k (u ∷ v ∷ us) last of_key spelled signs =
+last_key_levels key message s k (u ∷ v ∷ us) last of_key encoded signs =
     let few : suc (suc (length us)) + 1 ≤ 2 = of_key.few in
     absurd (omega arith)
 
 pub last_key_valid : (key message s : List ℕ) (v : IsValid key message s) → last_key_verdict key s ≡ Ok (key_bytes (last_key v.top v.upper))
-last_key_valid key message s v = last_key_levels key message s v.top v.upper v.last v.of_key v.spelled v.signs
+last_key_valid key message s v = last_key_levels key message s v.top v.upper v.last v.of_key v.encoded v.signs
 
 pub if_ok : (r : Result ℕ HssFault) (P : ℕ → Type 0) → ((q : ℕ) → r ≡ Ok q → P q) → IfOk r P
 if_ok (Ok q) P h = h q refl

@@ -11,7 +11,7 @@ use Rattle.gl_hss.specs.Hss.{IsEndorsed}
 use Rattle.gl_hss.specs.Lent.{signature_fields}
 use Rattle.gl_hss.specs.Order.{◌>>◌, check, ends, has_root, top_key, signature_at, one_level, endorsement_verdict}
 use Rattle.gl_hss.proofs.Spans.{IsBytes, Spans, Spans-append, spans_number, spans_all, all_spans, bytes_at-bytes_at}
-use Rattle.gl_hss.proofs.Readings.{then_ok, bind_ok, check_ok, top_key_ok, top_key_there, signature_at_ok}
+use Rattle.gl_hss.proofs.ParsedFields.{then_ok, bind_ok, check_ok, top_key_ok, top_key_there, signature_at_ok}
 use Rattle.gl_hss.proofs.Verdicts.{key_is, one_level_ok, one_level_there, hss_key_stands}
 
 -- what is accepted is an endorsement
@@ -19,24 +19,24 @@ pub endorsement_ok : (identity key e : List ℕ) → IsBytes identity → length
 unfolding endorsement_verdict
 endorsement_ok identity key e identity-fits identity-len fits ok =
     let test = check (number_at identity 0 == 2) (fault.Levels 2 (number_at identity 0)) in
-    let front = bind_ok (test >> top_key identity) (λ (k : PublicKey). one_level k key e 0) tt ok in
-    let k = front.0 in
-    let read = then_ok test (top_key identity) k front.1 in
+    let prefix = bind_ok (test >> top_key identity) (λ (k : PublicKey). one_level k key e 0) tt ok in
+    let k = prefix.0 in
+    let read = then_ok test (top_key identity) k prefix.1 in
     let passed = check_ok (number_at identity 0 == 2) _ read.0.0 read.0.1 in
     let two : number_at identity 0 ≡ 2 = grind (arith, nat_tests) in
     let key-is = key_is k identity 4 identity-fits (top_key_ok identity k identity-len read.1) in
     let levels : Spans identity 0 (u32str 2) 4 = rw (← two) (spans_number identity 0 4 identity-fits (omega arith) refl) in
-    let lone = one_level_ok k key e 0 tt fits front.2 in
+    let lone = one_level_ok k key e 0 tt fits prefix.2 in
     record {
       top = k;
       leaf = lone.signature.leaf;
       of_key = record {
-        spelled = spans_all identity _ (rw identity-len (Spans-append identity 0 4 60 _ _ levels key-is.span));
+        encoded = spans_all identity _ (rw identity-len (Spans-append identity 0 4 60 _ _ levels key-is.span));
         form = key-is.form;
         some = omega arith;
         few = omega arith;
       };
-      signs = record { fields = lone.signature; spelled = spans_all e _ lone.span; leaf = refl; signed = lone.signed };
+      signs = record { fields = lone.signature; encoded = spans_all e _ lone.span; leaf = refl; signed = lone.signed };
     }
 
 -- what is an endorsement is accepted
@@ -46,7 +46,7 @@ endorsement_there identity key e h =
     let stands = hss_key_stands identity h.top 2 h.of_key in
     let named : (number_at identity 0 == 2) ≡ true = grind (arith, nat_tests, stands.named) in
     rw (named, top_key_there h.top identity stands.top)
-    (one_level_there h.top key e 0 h.signs.fields (all_spans e _ h.signs.spelled) h.signs.signed)
+    (one_level_there h.top key e 0 h.signs.fields (all_spans e _ h.signs.encoded) h.signs.signed)
 
 -- ---- the upper level that it is
 
@@ -69,10 +69,10 @@ unfolding endorsement_verdict one_level
 endorsed_root identity key e s k g at endorsed top fields place signature-is key-is =
     let verified = endorsement_there identity key e endorsed in
     let test = check (number_at identity 0 == 2) (fault.Levels 2 (number_at identity 0)) in
-    let front = bind_ok (test >> top_key identity) (λ (x : PublicKey). one_level x key e 0) tt verified in
-    let read = then_ok test (top_key identity) front.0 front.1 in
-    let same : front.0 ≡ k = cc (read.1, top) in
-    let lone = subst (λ (x : PublicKey). one_level x key e 0 ≡ Ok tt) same front.2 in
+    let prefix = bind_ok (test >> top_key identity) (λ (x : PublicKey). one_level x key e 0) tt verified in
+    let read = then_ok test (top_key identity) prefix.0 prefix.1 in
+    let same : prefix.0 ≡ k = cc (read.1, top) in
+    let lone = subst (λ (x : PublicKey). one_level x key e 0 ≡ Ok tt) same prefix.2 in
     let len = 0 + signature_len k.types in
     let inner = bind_ok (signature_at k.types e 0 len) (λ (x : Signature). ends e len >> has_root k x key) tt lone in
     let rest = then_ok (ends e len) (has_root k inner.0 key) tt inner.2 in

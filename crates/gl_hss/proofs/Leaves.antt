@@ -1,4 +1,4 @@
--- A leaf is found exactly where the bytes spell a signature with that leaf.
+-- A leaf is found exactly where the bytes encode a signature with that leaf.
 use Rattle.std.proofs.Common.{◌≡◌, ℕ, suc, ◌+◌, ◌*◌, ◌^◌, ◌<◌, ◌≤◌, Bool, true, false, List, [], ◌∷◌, ◌++◌, length, Option, Some, Result, Ok, refl, sym, ap, subst, ◌∙◌, arith, inl, inr}
 use Rattle.std.specs.Prelude.{ok_or, ◌==◌, ◌||◌, if◌then◌else◌}
 use Rattle.std.proofs.lemmas.Bool.{cases_eq}
@@ -15,8 +15,8 @@ use Rattle.gl_hss.specs.Hss.{Upper, levels_bytes, hss_bytes, AreLevels, HasLeaf}
 use Rattle.gl_hss.specs.Lent.{signature_fields}
 use Rattle.gl_hss.specs.Order.{◌>>=◌, ◌>>◌, check, reaches, ends, has_leaf, least_types, embedded_key, signature_at, first_signature, leaf_of_one, leaf_below, leaf_of_two, leaf_verdict}
 use Rattle.gl_hss.proofs.Spans.{IsBytes, Spans, Spans-append, spans_number, spans_all, all_spans, spans_left, length-u32str, number_at-Spans}
-use Rattle.gl_hss.proofs.Spelled.{SignatureStands, signature_stands, length-signature_bytes}
-use Rattle.gl_hss.proofs.Readings.{then_ok, bind_ok, check_ok, ok_or_ok, reaches_ok, reaches_room, ends_ok, ends_there, has_leaf_ok, has_leaf_there, types_of_ok, types_of_codes, embedded_key_ok, embedded_key_there, IsReadSignature, signature_at_ok, signature_at_there}
+use Rattle.gl_hss.proofs.EncodedFields.{SignatureStands, signature_stands, length-signature_bytes}
+use Rattle.gl_hss.proofs.ParsedFields.{then_ok, bind_ok, check_ok, ok_or_ok, reaches_ok, reaches_room, ends_ok, ends_there, has_leaf_ok, has_leaf_there, types_of_ok, types_of_codes, embedded_key_ok, embedded_key_there, IsReadSignature, signature_at_ok, signature_at_there}
 use Rattle.gl_hss.proofs.Verdicts.{key_is, signature_is, length-last, two_stand, levels_span}
 
 -- ---- the first signature
@@ -44,26 +44,26 @@ pub record IsFirst (t : Types) (q : ℕ) (s : List ℕ) : Type 0 where
   pub read : IsReadSignature t (signature_fields t s 4) s 4
   pub leaf : number_at s 4 ≡ q
 
-first_signature_ok : (s : List ℕ) (behind : ℕ) (x : Types × ℕ) → first_signature s behind ≡ Ok x → IsFirst x.0 x.1 s
+first_signature_ok : (s : List ℕ) (after : ℕ) (x : Types × ℕ) → first_signature s after ≡ Ok x → IsFirst x.0 x.1 s
 unfolding first_signature
-first_signature_ok s behind x e =
-    let tail = λ (least : Types). λ (t : Types). has_leaf t (number_at s 4) >> reaches s (4 + signature_len t) (4 + signature_len t + behind) >> found t (number_at s 4) in
-    let rest = λ (least : Types). reaches s (48 + 32 * chain_count least) (4 + signature_len least + behind) >> ok_or (types_of (number_at s (44 + 32 * chain_count least)) (number_at s 8)) (fault.Types (44 + 32 * chain_count least)) >>= tail least in
-    let first = bind_ok (reaches s 12 (4 + signature_len H5W8 + behind) >> ok_or (least_types (number_at s 8)) (fault.Types 8)) rest x e in
+first_signature_ok s after x e =
+    let tail = λ (least : Types). λ (t : Types). has_leaf t (number_at s 4) >> reaches s (4 + signature_len t) (4 + signature_len t + after) >> found t (number_at s 4) in
+    let rest = λ (least : Types). reaches s (48 + 32 * chain_count least) (4 + signature_len least + after) >> ok_or (types_of (number_at s (44 + 32 * chain_count least)) (number_at s 8)) (fault.Types (44 + 32 * chain_count least)) >>= tail least in
+    let first = bind_ok (reaches s 12 (4 + signature_len H5W8 + after) >> ok_or (least_types (number_at s 8)) (fault.Types 8)) rest x e in
     let least = first.0 in
-    let least-is = ok_or_ok (least_types (number_at s 8)) (fault.Types 8) least (then_ok (reaches s 12 (4 + signature_len H5W8 + behind)) (ok_or (least_types (number_at s 8)) (fault.Types 8)) least first.1).1 in
-    let second = bind_ok (reaches s (48 + 32 * chain_count least) (4 + signature_len least + behind) >> ok_or (types_of (number_at s (44 + 32 * chain_count least)) (number_at s 8)) (fault.Types (44 + 32 * chain_count least))) (tail least) x first.2 in
+    let least-is = ok_or_ok (least_types (number_at s 8)) (fault.Types 8) least (then_ok (reaches s 12 (4 + signature_len H5W8 + after)) (ok_or (least_types (number_at s 8)) (fault.Types 8)) least first.1).1 in
+    let second = bind_ok (reaches s (48 + 32 * chain_count least) (4 + signature_len least + after) >> ok_or (types_of (number_at s (44 + 32 * chain_count least)) (number_at s 8)) (fault.Types (44 + 32 * chain_count least))) (tail least) x first.2 in
     let t = second.0 in
-    let codes = types_of_ok (number_at s (44 + 32 * chain_count least)) (number_at s 8) t (ok_or_ok (types_of (number_at s (44 + 32 * chain_count least)) (number_at s 8)) (fault.Types (44 + 32 * chain_count least)) t (then_ok (reaches s (48 + 32 * chain_count least) (4 + signature_len least + behind)) (ok_or (types_of (number_at s (44 + 32 * chain_count least)) (number_at s 8)) (fault.Types (44 + 32 * chain_count least))) t second.1).1) in
-    let last = then_ok (has_leaf t (number_at s 4) >> reaches s (4 + signature_len t) (4 + signature_len t + behind)) (found t (number_at s 4)) x second.2 in
-    let front = then_ok (has_leaf t (number_at s 4)) (reaches s (4 + signature_len t) (4 + signature_len t + behind)) last.0.0 last.0.1 in
+    let codes = types_of_ok (number_at s (44 + 32 * chain_count least)) (number_at s 8) t (ok_or_ok (types_of (number_at s (44 + 32 * chain_count least)) (number_at s 8)) (fault.Types (44 + 32 * chain_count least)) t (then_ok (reaches s (48 + 32 * chain_count least) (4 + signature_len least + after)) (ok_or (types_of (number_at s (44 + 32 * chain_count least)) (number_at s 8)) (fault.Types (44 + 32 * chain_count least))) t second.1).1) in
+    let last = then_ok (has_leaf t (number_at s 4) >> reaches s (4 + signature_len t) (4 + signature_len t + after)) (found t (number_at s 4)) x second.2 in
+    let prefix = then_ok (has_leaf t (number_at s 4)) (reaches s (4 + signature_len t) (4 + signature_len t + after)) last.0.0 last.0.1 in
     let chains : chain_count least ≡ chain_count t = least_chains t least (ap least_types (sym codes.1) ∙ least-is) in
     let lms : number_at s (44 + 32 * chain_count t) ≡ lms_code t = rw (← chains) codes.0 in
     let pair : (t, number_at s 4) ≡ x = cc (last.1) in
     let answer : IsFirst t (number_at s 4) s = record {
       read = record {
-        room = reaches_ok s (4 + signature_len t) (4 + signature_len t + behind) last.0.0 front.1;
-        leaf = has_leaf_ok t (number_at s 4) front.0.0 front.0.1;
+        room = reaches_ok s (4 + signature_len t) (4 + signature_len t + after) last.0.0 prefix.1;
+        leaf = has_leaf_ok t (number_at s 4) prefix.0.0 prefix.0.1;
         codes = record { ots = codes.1; lms = lms };
         fields = refl;
       };
@@ -72,9 +72,9 @@ first_signature_ok s behind x e =
     let P : Types × ℕ → Type 0 = λ y. IsFirst y.0 y.1 s in
     subst P pair answer
 
-first_signature_there : (t : Types) (g : Signature) (s : List ℕ) (behind : ℕ) → SignatureStands t g s 4 → g.leaf < 2 ^ height t → first_signature s behind ≡ Ok (t, g.leaf)
+first_signature_there : (t : Types) (g : Signature) (s : List ℕ) (after : ℕ) → SignatureStands t g s 4 → g.leaf < 2 ^ height t → first_signature s after ≡ Ok (t, g.leaf)
 unfolding first_signature
-first_signature_there t g s behind h leaf =
+first_signature_there t g s after h leaf =
     let least = least_there t in
     let chains : chain_count least.0 ≡ chain_count t = least_chains t least.0 least.1 in
     let ots : number_at s 8 ≡ ots_code t = h.codes.ots in
@@ -84,16 +84,16 @@ first_signature_there t g s behind h leaf =
     let types-read : ok_or (types_of (number_at s (44 + 32 * chain_count least.0)) (number_at s 8)) (fault.Types (44 + 32 * chain_count least.0)) ≡ Ok t =
     ap (λ (o : Option Types). ok_or o (fault.Types (44 + 32 * chain_count least.0))) (ap (λ (n : ℕ). types_of n (number_at s 8)) lms ∙ ap (types_of (lms_code t)) ots ∙ types_of_codes t) in
     rw (
-      reaches_room s 12 (4 + signature_len H5W8 + behind) (omega (arith, h.room)),
+      reaches_room s 12 (4 + signature_len H5W8 + after) (omega (arith, h.room)),
       least-read,
-      reaches_room s (48 + 32 * chain_count least.0) (4 + signature_len least.0 + behind) (omega (arith, chains, h.room)),
+      reaches_room s (48 + 32 * chain_count least.0) (4 + signature_len least.0 + after) (omega (arith, chains, h.room)),
       types-read,
       leaf-is,
       has_leaf_there t g.leaf leaf,
-      reaches_room s (4 + signature_len t) (4 + signature_len t + behind) h.room,
+      reaches_room s (4 + signature_len t) (4 + signature_len t + after) h.room,
     ) refl
 
--- ---- a leaf that is found is spelled
+-- ---- a leaf that is found is encoded
 
 pub leaf_of_one_ok : (s : List ℕ) (q : ℕ) → IsBytes s → number_at s 0 ≡ 0 → 4 ≤ length s → leaf_of_one s ≡ Ok q → HasLeaf s q
 unfolding leaf_of_one
@@ -112,7 +112,7 @@ leaf_of_one_ok s q fits zero room e =
       last = signature_fields t s 4;
       few = omega arith;
       form = is.form;
-      spelled = spans_all s _ (rw end (Spans-append s 0 4 (4 + signature_len t) _ _ head is.span));
+      encoded = spans_all s _ (rw end (Spans-append s 0 4 (4 + signature_len t) _ _ head is.span));
       leaf = h.leaf ∙ leaf;
     }
 
@@ -142,7 +142,7 @@ leaf_of_two_ok s q fits one room e =
       last = l;
       few = omega arith;
       form = (upper-is.form, key-is.form, last-is.form);
-      spelled = spans_all s _ (rw end (Spans-append s 0 4 len _ _ head levels));
+      encoded = spans_all s _ (rw end (Spans-append s 0 4 len _ _ head levels));
       leaf = cc (rest.1);
     }
 
@@ -150,9 +150,9 @@ pub leaf_verdict_ok : (s : List ℕ) (q : ℕ) → IsBytes s → leaf_verdict s 
 unfolding leaf_verdict
 leaf_verdict_ok s q fits e =
     let last = then_ok (reaches s 4 (4 + signature_len H5W8) >> check (number_at s 0 == 0 || number_at s 0 == 1) (fault.Levels 1 (number_at s 0))) (if number_at s 0 == 0 then leaf_of_one s else leaf_of_two s) q e in
-    let front = then_ok (reaches s 4 (4 + signature_len H5W8)) (check (number_at s 0 == 0 || number_at s 0 == 1) (fault.Levels 1 (number_at s 0))) last.0.0 last.0.1 in
-    let room = reaches_ok s 4 _ front.0.0 front.0.1 in
-    let test = check_ok (number_at s 0 == 0 || number_at s 0 == 1) _ last.0.0 front.1 in
+    let prefix = then_ok (reaches s 4 (4 + signature_len H5W8)) (check (number_at s 0 == 0 || number_at s 0 == 1) (fault.Levels 1 (number_at s 0))) last.0.0 last.0.1 in
+    let room = reaches_ok s 4 _ prefix.0.0 prefix.0.1 in
+    let test = check_ok (number_at s 0 == 0 || number_at s 0 == 1) _ last.0.0 prefix.1 in
     elim (cases_eq (number_at s 0) 0) [
       | inl zero ↦
           let b : (number_at s 0 == 0) ≡ true = grind (arith, nat_tests) in
@@ -165,7 +165,7 @@ leaf_verdict_ok s q fits e =
           leaf_of_two_ok s q fits one room read
     ]
 
--- ---- a leaf that is spelled is found
+-- ---- a leaf that is encoded is found
 
 leaf_of_one_there : (t : Types) (g : Signature) (s : List ℕ) → Spans s 4 (signature_bytes t g) (length s) → 4 ≤ length s → IsSignature t g → leaf_of_one s ≡ Ok g.leaf
 unfolding leaf_of_one
@@ -186,23 +186,23 @@ leaf_of_two_there t u g s span form =
     ) refl
 
 levels_number : (s : List ℕ) (t : Types) (us : List Upper) (g : Signature) → s ≡ hss_bytes t us g → length us ≤ 1 → number_at s 0 ≡ length us
-levels_number s t us g spelled few =
-    number_at-Spans s 0 4 (length us) (spans_left s 0 (length s) 4 (u32str (length us)) (levels_bytes t us g) (all_spans s (u32str (length us) ++ levels_bytes t us g) spelled) (length-u32str (length us))) (omega arith)
+levels_number s t us g encoded few =
+    number_at-Spans s 0 4 (length us) (spans_left s 0 (length s) 4 (u32str (length us)) (levels_bytes t us g) (all_spans s (u32str (length us) ++ levels_bytes t us g) encoded) (length-u32str (length us))) (omega arith)
 
 levels_room : (s : List ℕ) (t : Types) (us : List Upper) (g : Signature) → s ≡ hss_bytes t us g → 4 ≤ length s
-levels_room s t us g spelled = omega (arith, ap length spelled, length-append (u32str (length us)) (levels_bytes t us g), length-u32str (length us))
+levels_room s t us g encoded = omega (arith, ap length encoded, length-append (u32str (length us)) (levels_bytes t us g), length-u32str (length us))
 
 leaf_levels : (s : List ℕ) (t : Types) (us : List Upper) (g : Signature) → length us ≤ 1 → AreLevels t us g → s ≡ hss_bytes t us g → leaf_verdict s ≡ Ok g.leaf
 unfolding leaf_verdict
-leaf_levels s t [] g few form spelled =
-    let room = levels_room s t [] g spelled in
-    rw (reaches_room s 4 (4 + signature_len H5W8) room, levels_number s t [] g spelled few) (leaf_of_one_there t g s (levels_span s t [] g spelled) room form)
-leaf_levels s t (u ∷ []) g few form spelled =
-    let room = levels_room s t (u ∷ []) g spelled in
-    rw (reaches_room s 4 (4 + signature_len H5W8) room, levels_number s t (u ∷ []) g spelled few) (leaf_of_two_there t u g s (levels_span s t (u ∷ []) g spelled) form)
-leaf_levels s t (u ∷ v ∷ us) g few form spelled =
+leaf_levels s t [] g few form encoded =
+    let room = levels_room s t [] g encoded in
+    rw (reaches_room s 4 (4 + signature_len H5W8) room, levels_number s t [] g encoded few) (leaf_of_one_there t g s (levels_span s t [] g encoded) room form)
+leaf_levels s t (u ∷ []) g few form encoded =
+    let room = levels_room s t (u ∷ []) g encoded in
+    rw (reaches_room s 4 (4 + signature_len H5W8) room, levels_number s t (u ∷ []) g encoded few) (leaf_of_two_there t u g s (levels_span s t (u ∷ []) g encoded) form)
+leaf_levels s t (u ∷ v ∷ us) g few form encoded =
     let small : suc (suc (length us)) ≤ 1 = few in
     absurd (omega arith)
 
 pub leaf_there : (s : List ℕ) (q : ℕ) → HasLeaf s q → leaf_verdict s ≡ Ok q
-leaf_there s q h = leaf_levels s h.types h.upper h.last h.few h.form h.spelled ∙ ap number h.leaf
+leaf_there s q h = leaf_levels s h.types h.upper h.last h.few h.form h.encoded ∙ ap number h.leaf

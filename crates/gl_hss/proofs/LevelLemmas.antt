@@ -5,7 +5,7 @@ use Rattle.gl_hss.specs.declared.levels.Levels.{Levels}
 use Rattle.gl_hss.specs.declared.levels.Levels.TheVariants.{One, Two}
 use Rattle.gl_hss.specs.Bytes.{u32str, number_at}
 use Rattle.gl_hss.specs.Levels.{level_count, levels_named}
-use Rattle.gl_hss.proofs.Spans.{IsBytes, number_spelled, number_read}
+use Rattle.gl_hss.proofs.Spans.{IsBytes, number_encoded, number_read}
 
 count_of_named : (n : ℕ) (levels : Levels) → levels_named n ≡ Some levels → n ≡ level_count levels
 count_of_named n One e = grind (arith, nat_tests)
@@ -21,7 +21,7 @@ count_small Two = omega arith
 
 pub found_as_named : (key : List ℕ) (levels : Levels) → IsBytes key → 4 ≤ length key → (levels_named (number_at key 0) ≡ Some levels) ↔ (take 4 key ≡ u32str (level_count levels))
 found_as_named key levels fits room = (
-  λ found. sym (number_spelled key 0 fits room) ∙ ap u32str (count_of_named (number_at key 0) levels found),
+  λ found. sym (number_encoded key 0 fits room) ∙ ap u32str (count_of_named (number_at key 0) levels found),
   λ named. ap levels_named (number_read key 0 (level_count levels) named (count_small levels)) ∙ named_of_count levels,
 )
 

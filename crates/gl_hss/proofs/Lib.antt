@@ -1,4 +1,4 @@
-pub mod Readings
+pub mod ParsedFields
 pub mod Verdicts
 pub mod Leaves
 pub mod Signers
@@ -10,11 +10,11 @@ pub mod Chains
 pub mod Parameters
 pub mod Climbing
 pub mod Spans
-pub mod Spelled
+pub mod EncodedFields
 pub mod Trees
 pub mod Paths
 pub mod Appends
 pub mod Blocks
-pub mod Signing
+pub mod ValidSignatures
 pub mod StepInputs
 pub mod Octets

@@ -17,8 +17,8 @@ use Rattle.gl_hss.specs.Tree.{leaf_node, inner_node, key_bytes, signature_bytes,
 use Rattle.gl_hss.specs.Secrets.{PrivateKey, secret, key_of_leaf, node_above, node, public_of, shown_chains, siblings, signature_with}
 use Rattle.gl_hss.specs.Profile.{identifier_of, key_of_seed, randomizer_of, signature_by}
 use Rattle.gl_hss.proofs.Blocks.{AreBlocks}
-use Rattle.gl_hss.proofs.Spelled.{length-key_bytes, length-signature_bytes}
-use Rattle.gl_hss.proofs.Signing.{length-node_above, shown_blocks, sibling_blocks, signature_by-IsSigned}
+use Rattle.gl_hss.proofs.EncodedFields.{length-key_bytes, length-signature_bytes}
+use Rattle.gl_hss.proofs.ValidSignatures.{length-node_above, shown_blocks, sibling_blocks, signature_by-IsSigned}
 
 -- each number is a byte
 abbrev pub all_bytes : List ℕ → Bool
@@ -84,7 +84,7 @@ node_bytes k (suc n) r =
     (leaf_bytes k.identifier r (key_of_leaf k (r - 2 ^ height k.types)))
     (inner_bytes k.identifier r (node_above k n (2 * r)) (node_above k n (2 * r + 1)))
 
--- strings of which each is bytes, one behind the other
+-- strings of which each is bytes, one after the other
 blocks_bytes : (all item : ℕ → List ℕ) → AreBlocks all item → ((n : ℕ) → all_bytes (item n) ≡ true) → (n : ℕ) → all_bytes (all n) ≡ true
 blocks_bytes all item h each zero = ap all_bytes h.none
 blocks_bytes all item h each (suc n) =

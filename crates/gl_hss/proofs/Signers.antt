@@ -1,4 +1,5 @@
--- What a signer signs is valid under each key under which its endorsement is, has its leaf, and has so many bytes.
+-- What a signer signs is valid under each key under which its endorsement is, has its leaf, and has
+-- so many bytes.
 use Rattle.std.proofs.Common.{◌≡◌, ℕ, ◌^◌, ◌<◌, List, [], ◌∷◌, ◌++◌, length, Option, Some, None, ap, ◌∙◌, append_assoc, length-append, arith}
 use Rattle.gl_hss.specs.Bytes.{u32str}
 use Rattle.gl_hss.specs.Types.{height}
@@ -8,8 +9,8 @@ use Rattle.gl_hss.specs.Secrets.{PrivateKey, public_of}
 use Rattle.gl_hss.specs.Profile.{randomizer_of, signature_by}
 use Rattle.gl_hss.specs.Signer.{levels_above, hss_signature, signature_size, StandsUnder}
 use Rattle.gl_hss.proofs.Spans.{length-u32str}
-use Rattle.gl_hss.proofs.Spelled.{length-key_bytes, length-signature_bytes}
-use Rattle.gl_hss.proofs.Signing.{signature_by-IsSigned, leaf_of_signature}
+use Rattle.gl_hss.proofs.EncodedFields.{length-key_bytes, length-signature_bytes}
+use Rattle.gl_hss.proofs.ValidSignatures.{signature_by-IsSigned, leaf_of_signature}
 
 -- the bytes of one level, and of two
 one_level_bytes : (k : PrivateKey) (s : List ℕ) (q : ℕ) (message : List ℕ) → s ≡ hss_signature k None q message → s ≡ hss_bytes k.types [] (signature_by k q message)
@@ -18,10 +19,10 @@ one_level_bytes k s q message e = e
 
 two_level_bytes : (k : PrivateKey) (e s : List ℕ) (q : ℕ) (message : List ℕ) (top : PublicKey) (fields : Signature) → e ≡ signature_bytes top.types fields → s ≡ hss_signature k (Some e) q message → s ≡ hss_bytes top.types (record { signature = fields; key = public_of k } ∷ []) (signature_by k q message)
 unfolding levels_above
-two_level_bytes k e s q message top fields spelled is =
+two_level_bytes k e s q message top fields encoded is =
     let key = key_bytes (public_of k) in
     let last = signature_bytes k.types (signature_by k q message) in
-    is ∙ ap (λ (x : List ℕ). u32str 1 ++ x ++ key ++ last) spelled
+    is ∙ ap (λ (x : List ℕ). u32str 1 ++ x ++ key ++ last) encoded
     ∙ ap (λ (x : List ℕ). x ++ last) (append_assoc (u32str 1) (signature_bytes top.types fields) key)
     ∙ append_assoc (u32str 1) (signature_bytes top.types fields ++ key) last
 
@@ -50,8 +51,8 @@ signer-IsValid k None s q message hss_key form leaf is stands = record {
   top = public_of k;
   upper = [];
   last = signature_by k q message;
-  of_key = record { spelled = stands; form = form; some = omega arith; few = omega arith };
-  spelled = one_level_bytes k s q message is;
+  of_key = record { encoded = stands; form = form; some = omega arith; few = omega arith };
+  encoded = one_level_bytes k s q message is;
   signs = signature_by-IsSigned k q message leaf;
 }
 signer-IsValid k (Some e) s q message hss_key form leaf is stands =
@@ -62,7 +63,7 @@ signer-IsValid k (Some e) s q message hss_key form leaf is stands =
       upper = record { signature = signs.fields; key = public_of k } ∷ [];
       last = signature_by k q message;
       of_key = stands.of_key;
-      spelled = two_level_bytes k e s q message top signs.fields signs.spelled is;
+      encoded = two_level_bytes k e s q message top signs.fields signs.encoded is;
       signs = (signs.signed, form, signature_by-IsSigned k q message leaf);
     }
 
@@ -76,7 +77,7 @@ signer-HasLeaf k None s q message hss_key form leaf is stands =
       last = signature_by k q message;
       few = omega arith;
       form = signed.form;
-      spelled = one_level_bytes k s q message is;
+      encoded = one_level_bytes k s q message is;
       leaf = leaf_of_signature k q (randomizer_of k q) message;
     }
 signer-HasLeaf k (Some e) s q message hss_key form leaf is stands =
@@ -89,6 +90,6 @@ signer-HasLeaf k (Some e) s q message hss_key form leaf is stands =
       last = signature_by k q message;
       few = omega arith;
       form = (signs.signed.form, form, signed.form);
-      spelled = two_level_bytes k e s q message top signs.fields signs.spelled is;
+      encoded = two_level_bytes k e s q message top signs.fields signs.encoded is;
       leaf = leaf_of_signature k q (randomizer_of k q) message;
     }

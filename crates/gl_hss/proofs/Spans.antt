@@ -24,7 +24,7 @@ length-bytes_at s at n h = omega (arith, length-take n (drop at s), length-drop 
 pub record Spans (s : List ℕ) (from : ℕ) (text : List ℕ) (to : ℕ) : Type 0 where
   pub parts : drop from s ≡ text ++ drop to s
 
--- two texts, one behind the other
+-- two texts, one after the other
 pub Spans-append : (s : List ℕ) (a b c : ℕ) (x y : List ℕ) → Spans s a x b → Spans s b y c → Spans s a (x ++ y) c
 Spans-append s a b c x y p q = record {
   parts = p.parts ∙ ap (λ (t : List ℕ). x ++ t) q.parts ∙ sym (append_assoc x y (drop c s));
@@ -40,8 +40,8 @@ spans_bytes s at n to e = record {
 pub spans_number : (s : List ℕ) (at to : ℕ) → IsBytes s → at + 4 ≤ length s → at + 4 ≡ to → Spans s at (u32str (number_at s at)) to
 unfolding u32str number_at
 spans_number s at to fits room e =
-    let spelled = be_bytes_4 (bytes_at s at 4) _ (length-bytes_at s at 4 room) (bytes_at-fits s at 4 fits) refl in
-    record { parts = (spans_bytes s at 4 to e).parts ∙ ap (λ (t : List ℕ). t ++ drop to s) (sym spelled) }
+    let encoded = be_bytes_4 (bytes_at s at 4) _ (length-bytes_at s at 4 room) (bytes_at-fits s at 4 fits) refl in
+    record { parts = (spans_bytes s at 4 to e).parts ∙ ap (λ (t : List ℕ). t ++ drop to s) (sym encoded) }
 
 -- a text that ends the string
 pub spans_all : (s : List ℕ) (x : List ℕ) → Spans s 0 x (length s) → s ≡ x
@@ -92,10 +92,10 @@ bytes_at-bytes_at s at n from m to h e =
     ∙ ap (take m) (drop-drop from at s)
     ∙ ap (λ (k : ℕ). bytes_at s k m) e
 
--- the bytes that spell the number that stands there
-pub number_spelled : (s : List ℕ) (at : ℕ) → IsBytes s → at + 4 ≤ length s → u32str (number_at s at) ≡ bytes_at s at 4
+-- the bytes that encode the number that stands there
+pub number_encoded : (s : List ℕ) (at : ℕ) → IsBytes s → at + 4 ≤ length s → u32str (number_at s at) ≡ bytes_at s at 4
 unfolding u32str number_at
-number_spelled s at fits room = be_bytes_4 (bytes_at s at 4) _ (length-bytes_at s at 4 room) (bytes_at-fits s at 4 fits) refl
+number_encoded s at fits room = be_bytes_4 (bytes_at s at 4) _ (length-bytes_at s at 4 room) (bytes_at-fits s at 4 fits) refl
 
 pub number_read : (s : List ℕ) (at n : ℕ) → bytes_at s at 4 ≡ u32str n → n < 2 ^ 32 → number_at s at ≡ n
 unfolding u32str number_at

@@ -14,6 +14,6 @@ pub numbered : (input : List ℕ) (j : ℕ) → 22 < length input → set input 
 numbered input j h = set_split input 22 j h ∙ sym (append_assoc (take 22 input) (j ∷ []) (drop 23 input))
 
 -- the prefix stays where the number and the value are written
-pub prefix-kept : (input front v : List ℕ) (j : ℕ) → front ≡ take 23 (set input 22 j) → length front ≡ 23 → step_prefix (front ++ v) ≡ step_prefix input
-prefix-kept input front v j is len =
-    take-append-le 22 front v (omega (arith, len)) ∙ ap (take 22) is ∙ take-take 22 23 (set input 22 j) (omega arith) ∙ take-set input 22 j
+pub prefix-kept : (input first_part v : List ℕ) (j : ℕ) → first_part ≡ take 23 (set input 22 j) → length first_part ≡ 23 → step_prefix (first_part ++ v) ≡ step_prefix input
+prefix-kept input first_part v j is len =
+    take-append-le 22 first_part v (omega (arith, len)) ∙ ap (take 22) is ∙ take-take 22 23 (set input 22 j) (omega arith) ∙ take-set input 22 j

@@ -14,8 +14,8 @@ use Rattle.gl_hss.specs.Tree.{Signature, PublicKey, key_bytes, signature_bytes, 
 use Rattle.gl_hss.specs.Hss.{Upper, levels_bytes, hss_bytes, SignsDown, IsHssKey, IsValid}
 use Rattle.gl_hss.specs.Order.{◌>>=◌, ◌>>◌, check, reaches, ends, has_root, embedded_key, top_key, signature_at, levels_of_key, one_level, two_levels, least_len, verdict}
 use Rattle.gl_hss.proofs.Spans.{IsBytes, Spans, Spans-append, Spans-from, spans_number, spans_all, all_spans, spans_left, spans_right, bytes_at-Spans, length-u32str, number_at-Spans}
-use Rattle.gl_hss.proofs.Spelled.{KeyStands, SignatureStands, key_fields-IsKey, key_spans, length-key_bytes, key_stands, signature_fields-IsSignature, signature_spans, length-signature_bytes, signature_stands}
-use Rattle.gl_hss.proofs.Readings.{then_ok, bind_ok, check_ok, reaches_ok, reaches_room, ends_ok, ends_there, has_root_ok, has_root_there, IsReadKey, top_key_ok, top_key_there, embedded_key_ok, embedded_key_there, IsReadSignature, signature_at_ok, signature_at_there}
+use Rattle.gl_hss.proofs.EncodedFields.{KeyStands, SignatureStands, key_fields-IsKey, key_spans, length-key_bytes, key_stands, signature_fields-IsSignature, signature_spans, length-signature_bytes, signature_stands}
+use Rattle.gl_hss.proofs.ParsedFields.{then_ok, bind_ok, check_ok, reaches_ok, reaches_room, ends_ok, ends_there, has_root_ok, has_root_there, IsReadKey, top_key_ok, top_key_there, embedded_key_ok, embedded_key_there, IsReadSignature, signature_at_ok, signature_at_there}
 
 -- ---- the parts that were read
 
@@ -47,7 +47,7 @@ signature_is t g s at fits h =
 
 -- ---- what is accepted is valid
 
--- what stands behind the number of upper levels
+-- what stands after the number of upper levels
 pub record Accepted (k : PublicKey) (message s : List ℕ) (levels : ℕ) : Type 0 where
   pub upper : List Upper
   pub last : Signature
@@ -91,8 +91,8 @@ two_levels_ok k message s u fits e =
     let third = bind_ok (signature_at next.types s (at + 56) len) (λ (l : Signature). ends s len >> has_root k g (bytes_at s at 56) >> has_root next l message) u second.2 in
     let l = third.0 in
     let rest = then_ok (ends s len >> has_root k g (bytes_at s at 56)) (has_root next l message) u third.2 in
-    let front = then_ok (ends s len) (has_root k g (bytes_at s at 56)) rest.0.0 rest.0.1 in
-    let end : length s ≡ len = ends_ok s len front.0.0 front.0.1 in
+    let prefix = then_ok (ends s len) (has_root k g (bytes_at s at 56)) rest.0.0 rest.0.1 in
+    let end : length s ≡ len = ends_ok s len prefix.0.0 prefix.0.1 in
     let upper-is = signature_is k.types g s 4 fits (signature_at_ok k.types s 4 (at + 56 + signature_len H5W8) g first.1) in
     let key-is = key_is next s at fits (embedded_key_ok s at next second.1) in
     let last-is = signature_is next.types l s (at + 56) fits (signature_at_ok next.types s (at + 56) len l third.1) in
@@ -103,7 +103,7 @@ two_levels_ok k message s u fits e =
       count = refl;
       span = rw end (Spans-append s 4 (at + 56) len _ _ (Spans-append s 4 at (at + 56) _ _ upper-is.span key-is.span) last-is.span);
       signs = (
-        record { form = upper-is.form; root = rw (← middle) (has_root_ok k g (bytes_at s at 56) rest.0.0 front.1) },
+        record { form = upper-is.form; root = rw (← middle) (has_root_ok k g (bytes_at s at 56) rest.0.0 prefix.1) },
         key-is.form,
         record { form = last-is.form; root = has_root_ok next l message u rest.1 },
       );
@@ -141,10 +141,10 @@ verdict_ok key message s key-fits key-len fits e =
     let key-read = bind_ok (top_key key) (λ (k : PublicKey). reaches s 4 (least_len k.types levels) >> check (number_at s 0 == levels - 1) (fault.Levels (levels - 1) (number_at s 0)) >> (if levels == 1 then one_level k message s 4 else two_levels k message s)) tt levels-read.2 in
     let k = key-read.0 in
     let last = then_ok (reaches s 4 (least_len k.types levels) >> check (number_at s 0 == levels - 1) (fault.Levels (levels - 1) (number_at s 0))) (if levels == 1 then one_level k message s 4 else two_levels k message s) tt key-read.2 in
-    let front = then_ok (reaches s 4 (least_len k.types levels)) (check (number_at s 0 == levels - 1) (fault.Levels (levels - 1) (number_at s 0))) last.0.0 last.0.1 in
+    let prefix = then_ok (reaches s 4 (least_len k.types levels)) (check (number_at s 0 == levels - 1) (fault.Levels (levels - 1) (number_at s 0))) last.0.0 last.0.1 in
     let named = levels_of_key_ok key levels levels-read.1 in
-    let room : 4 ≤ length s = reaches_ok s 4 _ front.0.0 front.0.1 in
-    let test = check_ok (number_at s 0 == levels - 1) _ last.0.0 front.1 in
+    let room : 4 ≤ length s = reaches_ok s 4 _ prefix.0.0 prefix.0.1 in
+    let test = check_ok (number_at s 0 == levels - 1) _ last.0.0 prefix.1 in
     let count : number_at s 0 ≡ levels - 1 = grind (arith, nat_tests) in
     let a = accepted levels k message s named.1 fits last.1 in
     let upper-count : number_at s 0 ≡ length a.upper = omega (arith, a.count) in
@@ -156,12 +156,12 @@ verdict_ok key message s key-fits key-len fits e =
       upper = a.upper;
       last = a.last;
       of_key = record {
-        spelled = spans_all key _ (rw key-len (Spans-append key 0 4 60 _ _ key-levels key-is.span));
+        encoded = spans_all key _ (rw key-len (Spans-append key 0 4 60 _ _ key-levels key-is.span));
         form = key-is.form;
         some = omega (arith, a.count);
         few = omega (arith, a.count, few named.1);
       };
-      spelled = spans_all s _ (Spans-append s 0 4 (length s) _ _ s-levels a.span);
+      encoded = spans_all s _ (Spans-append s 0 4 (length s) _ _ s-levels a.span);
       signs = a.signs;
     }
 
@@ -202,12 +202,12 @@ two_stand t u last s span upper-form key-form last-form =
     let a-len : length a ≡ n = length-signature_bytes t u.signature upper-form in
     let k-len : length k ≡ 56 = length-key_bytes u.key key-form in
     let l-len : length l ≡ signature_len u.key.types = length-signature_bytes u.key.types last last-form in
-    let front-len : length (a ++ k) ≡ n + 56 = omega (arith, length-append a k) in
-    let front = spans_left s 4 (length s) (n + 56) (a ++ k) l span front-len in
-    let behind = spans_right s 4 (length s) (n + 56) (a ++ k) l span front-len in
-    let upper-span = spans_left s 4 (4 + (n + 56)) n a k front a-len in
-    let key-span = spans_right s 4 (4 + (n + 56)) n a k front a-len in
-    let last-span = Spans-from s (4 + (n + 56)) (4 + n + 56) (length s) l (omega arith) behind in
+    let prefix-len : length (a ++ k) ≡ n + 56 = omega (arith, length-append a k) in
+    let prefix = spans_left s 4 (length s) (n + 56) (a ++ k) l span prefix-len in
+    let after = spans_right s 4 (length s) (n + 56) (a ++ k) l span prefix-len in
+    let upper-span = spans_left s 4 (4 + (n + 56)) n a k prefix a-len in
+    let key-span = spans_right s 4 (4 + (n + 56)) n a k prefix a-len in
+    let last-span = Spans-from s (4 + (n + 56)) (4 + n + 56) (length s) l (omega arith) after in
     let last-stands = signature_stands u.key.types last s (4 + n + 56) (length s) last-span last-form in
     record {
       upper = signature_stands t u.signature s 4 (4 + n) upper-span upper-form;
@@ -240,7 +240,7 @@ pub record HssKeyStands (k : PublicKey) (key : List ℕ) (levels : ℕ) : Type 0
 
 pub hss_key_stands : (key : List ℕ) (k : PublicKey) (levels : ℕ) → IsHssKey key levels k → HssKeyStands k key levels
 hss_key_stands key k levels of_key =
-    let whole = all_spans key (u32str levels ++ key_bytes k) of_key.spelled in
+    let whole = all_spans key (u32str levels ++ key_bytes k) of_key.encoded in
     let few = of_key.few in
     let span = spans_right key 0 (length key) 4 (u32str levels) (key_bytes k) whole (length-u32str levels) in
     record {
@@ -249,27 +249,27 @@ hss_key_stands key k levels of_key =
       top = key_stands k key 4 (length key) span of_key.form;
     }
 
--- how the levels stand behind their number
+-- how the levels stand after their number
 pub record HeadStands (k : PublicKey) (key s : List ℕ) (levels : ℕ) : Type 0 where
   pub top : HssKeyStands k key levels
   pub room : 4 ≤ length s
   pub count : number_at s 0 ≡ levels - 1
 
 head_stands : (key s : List ℕ) (k : PublicKey) (us : List Upper) (t : Types) (last : Signature) → IsHssKey key (length us + 1) k → s ≡ hss_bytes t us last → HeadStands k key s (length us + 1)
-head_stands key s k us t last of_key spelled =
+head_stands key s k us t last of_key encoded =
     let n = length us in
-    let s-span = all_spans s (u32str n ++ levels_bytes t us last) spelled in
+    let s-span = all_spans s (u32str n ++ levels_bytes t us last) encoded in
     let few = of_key.few in
     let count = number_at-Spans s 0 4 n (spans_left s 0 (length s) 4 (u32str n) (levels_bytes t us last) s-span (length-u32str n)) (omega arith) in
     record {
       top = hss_key_stands key k (n + 1) of_key;
-      room = omega (arith, ap length spelled, length-append (u32str n) (levels_bytes t us last), length-u32str n);
+      room = omega (arith, ap length encoded, length-append (u32str n) (levels_bytes t us last), length-u32str n);
       count = omega (arith, count);
     }
 
 pub levels_span : (s : List ℕ) (t : Types) (us : List Upper) (last : Signature) → s ≡ hss_bytes t us last → Spans s 4 (levels_bytes t us last) (length s)
-levels_span s t us last spelled =
-    spans_right s 0 (length s) 4 (u32str (length us)) (levels_bytes t us last) (all_spans s (u32str (length us) ++ levels_bytes t us last) spelled) (length-u32str (length us))
+levels_span s t us last encoded =
+    spans_right s 0 (length s) 4 (u32str (length us)) (levels_bytes t us last) (all_spans s (u32str (length us) ++ levels_bytes t us last) encoded) (length-u32str (length us))
 
 verdict_from : (key message s : List ℕ) (k : PublicKey) (levels : ℕ) → (levels ≡ 1) ⊎ (levels ≡ 2) → HeadStands k key s levels → (if levels == 1 then one_level k message s 4 else two_levels k message s) ≡ Ok tt → verdict key message s ≡ Ok tt
 unfolding verdict
@@ -279,18 +279,18 @@ verdict_from key message s k levels which h e =
 
 -- what is valid is accepted
 valid_levels : (key message s : List ℕ) (k : PublicKey) (us : List Upper) (last : Signature) → IsHssKey key (length us + 1) k → s ≡ hss_bytes k.types us last → SignsDown k us last message → verdict key message s ≡ Ok tt
-valid_levels key message s k [] last of_key spelled signs =
-    verdict_from key message s k 1 (inl refl) (head_stands key s k [] k.types last of_key spelled)
-    (one_level_there k message s 4 last (levels_span s k.types [] last spelled) signs)
-valid_levels key message s k (u ∷ []) last of_key spelled signs =
-    verdict_from key message s k 2 (inr refl) (head_stands key s k (u ∷ []) k.types last of_key spelled)
-    (two_levels_there k message s u last (levels_span s k.types (u ∷ []) last spelled) signs)
-valid_levels key message s k (u ∷ v ∷ us) last of_key spelled signs =
+valid_levels key message s k [] last of_key encoded signs =
+    verdict_from key message s k 1 (inl refl) (head_stands key s k [] k.types last of_key encoded)
+    (one_level_there k message s 4 last (levels_span s k.types [] last encoded) signs)
+valid_levels key message s k (u ∷ []) last of_key encoded signs =
+    verdict_from key message s k 2 (inr refl) (head_stands key s k (u ∷ []) k.types last of_key encoded)
+    (two_levels_there k message s u last (levels_span s k.types (u ∷ []) last encoded) signs)
+valid_levels key message s k (u ∷ v ∷ us) last of_key encoded signs =
     let few : suc (suc (length us)) + 1 ≤ 2 = of_key.few in
     absurd (omega arith)
 
 pub valid_verdict : (key message s : List ℕ) → IsValid key message s → verdict key message s ≡ Ok tt
-valid_verdict key message s v = valid_levels key message s v.top v.upper v.last v.of_key v.spelled v.signs
+valid_verdict key message s v = valid_levels key message s v.top v.upper v.last v.of_key v.encoded v.signs
 
 -- an answer that is Ok is Ok of nothing
 pub ok_nothing : (r : Result (Unit {0}) HssFault) → IsOk r → r ≡ Ok tt

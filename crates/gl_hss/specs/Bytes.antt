@@ -16,7 +16,7 @@ u32str n = to_be_bytes w32 n
 abbrev pub bytes_at : List ℕ → ℕ → ℕ → List ℕ
 bytes_at s at n = take n (drop at s)
 
--- the number that four bytes from place `at` on spell
+-- the number that four bytes from place `at` on encode
 unfoldable pub number_at : List ℕ → ℕ → ℕ
 number_at s at = from_be_bytes w32 (bytes_at s at 4)
 

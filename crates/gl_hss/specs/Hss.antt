@@ -32,7 +32,7 @@ SignsDown k (u ∷ us) last message =
 
 -- the bytes are an HSS public key of so many levels, one or two, with this key on top (6.1)
 pub record IsHssKey (bytes : List ℕ) (levels : ℕ) (k : PublicKey) : Type 0 where
-  pub spelled : bytes ≡ u32str levels ++ key_bytes k
+  pub encoded : bytes ≡ u32str levels ++ key_bytes k
   pub form : IsKey k
   pub some : 1 ≤ levels
   pub few : levels ≤ 2
@@ -43,7 +43,7 @@ pub record IsValid (key message signature : List ℕ) : Type 0 where
   pub upper : List Upper
   pub last : Signature
   pub of_key : IsHssKey key (length upper + 1) top
-  pub spelled : signature ≡ hss_bytes top.types upper last
+  pub encoded : signature ≡ hss_bytes top.types upper last
   pub signs : SignsDown top upper last message
 
 -- the key that makes the last LMS signature: the one on top, or the last one that is signed
@@ -57,14 +57,14 @@ pub record IsValidBy (key by message signature : List ℕ) : Type 0 where
   pub valid : IsValid key message signature
   pub signer : key_bytes (last_key valid.top valid.upper) ≡ by
 
--- the bytes spell an HSS signature of one or two levels, whose last LMS signature has leaf q
+-- the bytes encode an HSS signature of one or two levels, whose last LMS signature has leaf q
 pub record HasLeaf (signature : List ℕ) (q : ℕ) : Type 0 where
   pub types : Types
   pub upper : List Upper
   pub last : Signature
   pub few : length upper ≤ 1
   pub form : AreLevels types upper last
-  pub spelled : signature ≡ hss_bytes types upper last
+  pub encoded : signature ≡ hss_bytes types upper last
   pub leaf : last.leaf ≡ q
 
 -- the bytes are an endorsement of the key: a signature of its bytes by an HSS key of two levels, as

@@ -35,7 +35,7 @@ check false f = Err f
 unfoldable pub reaches : List ℕ → ℕ → ℕ → Result (Unit {0}) HssFault
 reaches s end want = check (nat_le end (length s)) (fault.Length want (length s))
 
--- nothing stands behind the signature
+-- nothing stands after the signature
 unfoldable pub ends : List ℕ → ℕ → Result (Unit {0}) HssFault
 ends s want = check (length s == want) (fault.Length want (length s))
 
@@ -72,7 +72,7 @@ unfoldable pub top_key : List ℕ → Result PublicKey HssFault
 top_key key = types_at key 4 60 >>= λ t. Ok (key_fields t key 4)
 
 -- the LMS public key in a signature from this place on. Before its types are read, the signature
--- behind it counts as the shortest.
+-- after it counts as the shortest.
 unfoldable pub embedded_key : List ℕ → ℕ → Result PublicKey HssFault
 embedded_key s at =
     types_at s at (at + 56 + signature_len H5W8) >>= λ t.
@@ -92,17 +92,17 @@ signature_at t s at want =
     >> reaches s (at + signature_len t) want
     >> Ok (signature_fields t s at)
 
--- the types and the leaf of the LMS signature at place 4, by a key that isn't known. `behind` is
--- the least number of bytes behind it.
+-- the types and the leaf of the LMS signature at place 4, by a key that isn't known. `after` is the
+-- least number of bytes after it.
 unfoldable pub first_signature : List ℕ → ℕ → Result (Types × ℕ) HssFault
-first_signature s behind =
-    reaches s 12 (4 + signature_len H5W8 + behind)
+first_signature s after =
+    reaches s 12 (4 + signature_len H5W8 + after)
     >> ok_or (least_types (number_at s 8)) (fault.Types 8) >>= λ least.
-    reaches s (48 + 32 * chain_count least) (4 + signature_len least + behind)
+    reaches s (48 + 32 * chain_count least) (4 + signature_len least + after)
     >> ok_or (types_of (number_at s (44 + 32 * chain_count least)) (number_at s 8))
     (fault.Types (44 + 32 * chain_count least)) >>= λ t.
     has_leaf t (number_at s 4)
-    >> reaches s (4 + signature_len t) (4 + signature_len t + behind)
+    >> reaches s (4 + signature_len t) (4 + signature_len t + after)
     >> Ok (t, number_at s 4)
 
 -- ---- the whole
@@ -127,7 +127,7 @@ endorsement_verdict identity key endorsement =
     >> top_key identity >>= λ k.
     one_level k key endorsement 0
 
--- a signature of two levels: the last one stands at place `at`, 56 bytes behind the upper one
+-- a signature of two levels: the last one stands at place `at`, 56 bytes after the upper one
 unfoldable pub two_levels : PublicKey → List ℕ → List ℕ → Result (Unit {0}) HssFault
 two_levels k message s =
     let at = 4 + signature_len k.types in
@@ -159,7 +159,7 @@ leaf_of_one s =
     ends s (4 + signature_len x.0)
     >> Ok x.1
 
--- the leaf behind an upper LMS signature with these types
+-- the leaf after an upper LMS signature with these types
 unfoldable pub leaf_below : Types → List ℕ → Result ℕ HssFault
 leaf_below t s =
     let at = 4 + signature_len t in

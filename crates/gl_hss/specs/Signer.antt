@@ -51,7 +51,7 @@ unfoldable pub StandsUnder : PrivateKey → Option (List ℕ) → List ℕ → T
 StandsUnder k None hss_key = hss_key ≡ u32str 1 ++ key_bytes (public_of k)
 StandsUnder k (Some e) hss_key = IsEndorsed hss_key (key_bytes (public_of k)) e
 
--- when a signer refuses to sign: every reserved leaf is used; want of memory says nothing
+-- when a signer refuses to sign: every reserved leaf is used; running out of memory says nothing
 abbrev pub Refuses : Signer → SignFault → Type 0
 Refuses s (NotReserved n) = (n ≡ s.reserved) × (s.used ≡ s.reserved)
 Refuses s NoMemory = Unit {0}

@@ -83,6 +83,6 @@ pub record IsSigned (k : PublicKey) (message : List ℕ) (s : Signature) : Type 
 -- the bytes are a signature of the message by leaf q, valid under the LMS public key (5.4)
 pub record Signs (k : PublicKey) (q : ℕ) (message bytes : List ℕ) : Type 0 where
   pub fields : Signature
-  pub spelled : bytes ≡ signature_bytes k.types fields
+  pub encoded : bytes ≡ signature_bytes k.types fields
   pub leaf : fields.leaf ≡ q
   pub signed : IsSigned k message fields

@@ -28,7 +28,7 @@ pub fn bytes_at(bytes: &[u8], at: usize, len: usize) -> &[u8]
     &bytes[at..at + len]
 }
 
-/// The number that four bytes from place `at` on spell, the high byte first.
+/// The number that four bytes from place `at` on encode, the high byte first.
 #[tactic(auto, unfolding(crate::specs::Bytes::number_at))]
 pub fn number_at(bytes: &[u8], at: usize) -> u32
     requires { at + 4 ≤ length bytes.now }

@@ -40,7 +40,7 @@ fn endorsement_verdict(
 /// signs.
 ///
 /// As in `verify` the first fault from left to right is answered: the place in `Types` counts in
-/// the identity for its own types (4 or 8), else in the endorsement. What the 56 bytes spell isn't
+/// the identity for its own types (4 or 8), else in the endorsement. What the 56 bytes encode isn't
 /// looked at.
 pub fn verify_endorsement(
     identity: &[u8; HSS_KEY_LEN],

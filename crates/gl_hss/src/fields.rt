@@ -31,7 +31,7 @@ pub(crate) fn reaches(signature: &[u8], end: usize, want: usize) -> Result<(), H
     }
 }
 
-// Nothing stands behind the signature.
+// Nothing stands after the signature.
 #[tactic(auto, unfolding(crate::specs::Order::ends))]
 pub(crate) fn ends(signature: &[u8], want: usize) -> Result<(), HssFault>
     ensures { result ≡ ends signature.now want }
@@ -176,24 +176,24 @@ fn least_types(ots: u32) -> Option<Types>
     }
 }
 
-// The types and the leaf of the first LMS signature, by a key that isn't known. At least `behind`
-// bytes stand behind it.
+// The types and the leaf of the first LMS signature, by a key that isn't known. At least `after`
+// bytes stand after it.
 #[tactic(auto, unfolding(crate::specs::Order::first_signature))]
-pub(crate) fn first_signature(signature: &[u8], behind: usize) -> Result<(Types, u32), HssFault>
-    requires { behind < 65536 }
-    ensures { result ≡ first_signature signature.now behind }
+pub(crate) fn first_signature(signature: &[u8], after: usize) -> Result<(Types, u32), HssFault>
+    requires { after < 65536 }
+    ensures { result ≡ first_signature signature.now after }
 {
-    let least_len = 4 + Types::H5W8.signature_len() + behind;
+    let least_len = 4 + Types::H5W8.signature_len() + after;
     reaches(signature, 12, least_len)?;
     let ots = number_at(signature, 8);
     let least = least_types(ots).ok_or(HssFault::Types { at: 8 })?;
     let code_at = 44 + 32 * least.chain_count();
-    reaches(signature, code_at + 4, 4 + least.signature_len() + behind)?;
+    reaches(signature, code_at + 4, 4 + least.signature_len() + after)?;
     let code = HssFault::Types { at: code_at as u64 };
     let types = Types::of_codes(number_at(signature, code_at), ots).ok_or(code)?;
     let q = number_at(signature, 4);
     has_leaf(types, q)?;
     let end = 4 + types.signature_len();
-    reaches(signature, end, end + behind)?;
+    reaches(signature, end, end + after)?;
     Ok((types, q))
 }

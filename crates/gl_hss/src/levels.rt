@@ -58,8 +58,8 @@ pub fn hss_key(levels: Levels, key: &[u8; LMS_KEY_LEN]) -> [u8; HSS_KEY_LEN]
     ensures { result ≡ u32str (level_count levels) ++ key.now }
 {
     let mut out = [0; HSS_KEY_LEN];
-    let (front, back) = out.split_at_mut(4);
-    front.copy_from_slice(&u32str(levels.count()));
+    let (first_part, back) = out.split_at_mut(4);
+    first_part.copy_from_slice(&u32str(levels.count()));
     back.copy_from_slice(key);
     out
 }

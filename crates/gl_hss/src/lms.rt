@@ -1,4 +1,4 @@
-//! LMS keys and signatures as their fields, lent from the bytes that spell them (section 5).
+//! LMS keys and signatures as their fields, lent from the bytes that encode them (section 5).
 
 ghost use Rattle.std.specs.Prelude.{◌≡◌, ◌+◌, ◌*◌, ◌<◌, ◌≤◌, ◌^◌, length};
 ghost use Rattle.gl_hss.specs.Types.{height, chain_count, signature_len};

@@ -73,8 +73,8 @@ pub(crate) fn digits(types: Types, digest: &[u8; 32]) -> [u8; 34]
     ensures { result ≡ digits types digest.now }
 {
     let mut out = [0; 34];
-    let (front, back) = out.split_at_mut(32);
-    front.copy_from_slice(digest);
+    let (first_part, back) = out.split_at_mut(32);
+    first_part.copy_from_slice(digest);
     back.copy_from_slice(&u16str(checksum(types, digest)));
     out
 }
@@ -86,8 +86,8 @@ pub(crate) fn chain_prefix(identifier: &[u8], q: u32, i: u16) -> [u8; PREFIX_LEN
     ensures { result ≡ chain_prefix identifier.now q i }
 {
     let mut out = [0; PREFIX_LEN];
-    let (front, back) = out.split_at_mut(16);
-    front.copy_from_slice(identifier);
+    let (first_part, back) = out.split_at_mut(16);
+    first_part.copy_from_slice(identifier);
     let (leaf, chain) = back.split_at_mut(4);
     leaf.copy_from_slice(&u32str(q));
     chain.copy_from_slice(&u16str(i));
@@ -100,8 +100,8 @@ pub(crate) fn step_input(prefix: &[u8; PREFIX_LEN], value: &[u8; 32]) -> [u8; ST
     ensures value { step_value result ≡ value.now }
 {
     let mut out = [0; STEP_LEN];
-    let (front, back) = out.split_at_mut(PREFIX_LEN);
-    front.copy_from_slice(prefix);
+    let (first_part, back) = out.split_at_mut(PREFIX_LEN);
+    first_part.copy_from_slice(prefix);
     let (_, end) = back.split_at_mut(1);
     end.copy_from_slice(value);
     out

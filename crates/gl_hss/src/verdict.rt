@@ -21,7 +21,7 @@ use crate::{LMS_KEY_LEN, LmsPublicKey, LmsSignature, MAX_LEAF_COUNT, Types};
 /// The most bytes of an HSS signature of two levels, both of `Types::H10W4`.
 pub const MAX_HSS_SIGNATURE_LEN: usize = 5076;
 
-// The upper level signs the key behind it: it is the endorsement of the known key, or it leads to
+// The upper level signs the key after it: it is the endorsement of the known key, or it leads to
 // the root of the key on top.
 fn upper_level(
     identity: &[u8; HSS_KEY_LEN],
@@ -137,7 +137,7 @@ fn verify_knowing(
 /// Key and signature are read from left to right, then the roots are compared from the top on, and
 /// the first fault is answered. Where bytes are missing or left over, `Length` has the fewest bytes
 /// that a signature has which begins so; before the types of the key inside are read, the signature
-/// behind it counts as the shortest. The place in `Types` counts in the key for the key's own types
+/// after it counts as the shortest. The place in `Types` counts in the key for the key's own types
 /// (4 or 8), else in the signature.
 pub fn verify(key: &[u8; HSS_KEY_LEN], message: &[u8], signature: &[u8]) -> Result<(), HssFault>
     ensures valid { IsOk result ↔ IsValid key.now message.now signature.now }
@@ -204,7 +204,7 @@ fn leaf_of_one(signature: &[u8]) -> Result<u32, HssFault>
     Ok(q)
 }
 
-// The leaf behind an upper LMS signature with these types.
+// The leaf after an upper LMS signature with these types.
 #[tactic(auto, unfolding(crate::specs::Order::leaf_below))]
 fn leaf_below(types: Types, signature: &[u8]) -> Result<u32, HssFault>
     ensures { result ≡ leaf_below types signature.now }

@@ -6,13 +6,13 @@ use Rattle.gl_outside.specs.Disk.{Step, Torn, written, LeavesOnly}
 use Rattle.gl_journal.specs.Gates.{body_of, batches, FitLengths, Opening, payloads_from, opening_answer, payloads_of, with_last, with_first}
 use Rattle.gl_journal.specs.Parts.{HasGate}
 use Rattle.gl_journal.specs.Stops.{IsSettled, OpensTo}
-use Rattle.gl_journal.proofs.Openings.{with_front, opened_closed, opened_batch, payloads_of_file, FitLengths-push, batches-push, length-body}
+use Rattle.gl_journal.proofs.Openings.{with_prefix, opened_closed, opened_batch, payloads_of_file, FitLengths-push, batches-push, length-body}
 
 -- a file of batches and a closed gate
 pub closed_file : (header : List ℕ) (payloads : List (List ℕ)) (gate : ℕ) (tail : List ℕ) → FitLengths payloads → gate ≢ 1 → payloads_of header (header ++ batches payloads ++ gate ∷ tail) ≡ Ok payloads
 closed_file header payloads gate tail fit shut =
     payloads_of_file header payloads (gate ∷ tail) fit
-    ∙ ap (λ (o : Opening). opening_answer None (with_front payloads o)) (opened_closed (length (header ++ batches payloads)) gate tail shut)
+    ∙ ap (λ (o : Opening). opening_answer None (with_prefix payloads o)) (opened_closed (length (header ++ batches payloads)) gate tail shut)
     ∙ ap (λ (l : List (List ℕ)). Ok l) (append-nil payloads)
 
 pub has_gate : (header image : List ℕ) (payloads : List (List ℕ)) (gate : ℕ) (tail : List ℕ) → image ≡ header ++ batches payloads ++ gate ∷ tail → FitLengths payloads → gate ≢ 1 → HasGate header image
@@ -29,100 +29,100 @@ pub settled_gate : (header : List ℕ) (place : ℕ) (bytes : List ℕ) (past : 
 settled_gate header place bytes past s = has_gate header bytes s.payloads s.gate s.tail s.file s.fit s.closed
 
 module _ (header : List ℕ) (place : ℕ) (bytes : List ℕ) (past : List Step) (s : IsSettled header place bytes past) where
-  abbrev front : List ℕ
-  front = header ++ batches s.payloads
+  abbrev prefix : List ℕ
+  prefix = header ++ batches s.payloads
 
   pub opens_now : payloads_of header bytes ≡ Ok s.payloads
   opens_now = ap (payloads_of header) s.file ∙ closed_file header s.payloads s.gate s.tail s.fit s.closed
 
   pub below : place + 1 ≤ length bytes
-  below = omega (arith, ap length s.file, s.current, length-append front (s.gate ∷ s.tail))
+  below = omega (arith, ap length s.file, s.current, length-append prefix (s.gate ∷ s.tail))
 
-  to_gate : take (place + 1) bytes ≡ front ++ s.gate ∷ []
+  to_gate : take (place + 1) bytes ≡ prefix ++ s.gate ∷ []
   to_gate =
-      let split : bytes ≡ (front ++ s.gate ∷ []) ++ s.tail = s.file ∙ sym (append_assoc front (s.gate ∷ []) s.tail) in
-      ap (λ (l : List ℕ). take (place + 1) l) split ∙ take_at (front ++ s.gate ∷ []) s.tail (place + 1) (omega (arith, s.current, length-append front (s.gate ∷ [])))
+      let split : bytes ≡ (prefix ++ s.gate ∷ []) ++ s.tail = s.file ∙ sym (append_assoc prefix (s.gate ∷ []) s.tail) in
+      ap (λ (l : List ℕ). take (place + 1) l) split ∙ take_at (prefix ++ s.gate ∷ []) s.tail (place + 1) (omega (arith, s.current, length-append prefix (s.gate ∷ [])))
 
-  -- the closed gate stands in each outcome of what is written behind it
-  pub torn_behind : (payload : List ℕ) (count : ℕ) (image : List ℕ) → Torn (place + 1) count bytes image → OpensTo header bytes payload image
-  torn_behind payload count image torn =
+  -- the closed gate stands in each outcome of what is written after it
+  pub torn_after : (payload : List ℕ) (count : ℕ) (image : List ℕ) → Torn (place + 1) count bytes image → OpensTo header bytes payload image
+  torn_after payload count image torn =
       let rest : List ℕ = drop (place + 1) image in
-      let whole : image ≡ front ++ s.gate ∷ drop (place + 1) image =
-      sym (take-append-drop (place + 1) image) ∙ ap (λ (l : List ℕ). l ++ drop (place + 1) image) (torn.before ∙ to_gate) ∙ append_assoc front (s.gate ∷ []) (drop (place + 1) image) in (
+      let whole : image ≡ prefix ++ s.gate ∷ drop (place + 1) image =
+      sym (take-append-drop (place + 1) image) ∙ ap (λ (l : List ℕ). l ++ drop (place + 1) image) (torn.before ∙ to_gate) ∙ append_assoc prefix (s.gate ∷ []) (drop (place + 1) image) in (
         has_gate header image s.payloads s.gate (drop (place + 1) image) whole s.fit s.closed,
         inl (ap (payloads_of header) whole ∙ closed_file header s.payloads s.gate (drop (place + 1) image) s.fit s.closed ∙ sym opens_now),
       )
 
   module _ (payload : List ℕ) (small : length payload < 2 ^ 32) where
-    -- what stands behind the batch and its closed gate
-    abbrev behind : List ℕ
-    behind = drop (place + 1 + length (body_of payload ++ 0 ∷ [])) bytes
+    -- what stands after the batch and its closed gate
+    abbrev suffix : List ℕ
+    suffix = drop (place + 1 + length (body_of payload ++ 0 ∷ [])) bytes
 
-    -- the file with the batch behind the closed gate
+    -- the file with the batch after the closed gate
     abbrev pub staged : List ℕ
     staged = written bytes (place + 1) (body_of payload ++ 0 ∷ [])
 
-    abbrev batch_behind : List ℕ
-    batch_behind = body_of payload ++ (0 ∷ behind)
+    abbrev batch_after : List ℕ
+    batch_after = body_of payload ++ (0 ∷ suffix)
 
-    staged_is : staged ≡ front ++ s.gate ∷ batch_behind
+    staged_is : staged ≡ prefix ++ s.gate ∷ batch_after
     staged_is =
-        ap (λ (l : List ℕ). l ++ (body_of payload ++ 0 ∷ []) ++ behind) to_gate
-        ∙ append_assoc (front ++ s.gate ∷ []) (body_of payload ++ 0 ∷ []) behind
-        ∙ append_assoc front (s.gate ∷ []) ((body_of payload ++ 0 ∷ []) ++ behind)
-        ∙ ap (λ (l : List ℕ). front ++ s.gate ∷ l) (append_assoc (body_of payload) (0 ∷ []) behind)
+        ap (λ (l : List ℕ). l ++ (body_of payload ++ 0 ∷ []) ++ suffix) to_gate
+        ∙ append_assoc (prefix ++ s.gate ∷ []) (body_of payload ++ 0 ∷ []) suffix
+        ∙ append_assoc prefix (s.gate ∷ []) ((body_of payload ++ 0 ∷ []) ++ suffix)
+        ∙ ap (λ (l : List ℕ). prefix ++ s.gate ∷ l) (append_assoc (body_of payload) (0 ∷ []) suffix)
 
     pub staged_long : place + 1 ≤ length staged
-    staged_long = omega (arith, ap length staged_is, s.current, length-append front (s.gate ∷ batch_behind))
+    staged_long = omega (arith, ap length staged_is, s.current, length-append prefix (s.gate ∷ batch_after))
 
-    staged_back : drop (place + 1) staged ≡ batch_behind
+    staged_back : drop (place + 1) staged ≡ batch_after
     staged_back =
-        let split : staged ≡ (front ++ s.gate ∷ []) ++ batch_behind = staged_is ∙ sym (append_assoc front (s.gate ∷ []) batch_behind) in
-        ap (λ (l : List ℕ). drop (place + 1) l) split ∙ drop_at (front ++ s.gate ∷ []) batch_behind (place + 1) (omega (arith, s.current, length-append front (s.gate ∷ [])))
+        let split : staged ≡ (prefix ++ s.gate ∷ []) ++ batch_after = staged_is ∙ sym (append_assoc prefix (s.gate ∷ []) batch_after) in
+        ap (λ (l : List ℕ). drop (place + 1) l) split ∙ drop_at (prefix ++ s.gate ∷ []) batch_after (place + 1) (omega (arith, s.current, length-append prefix (s.gate ∷ [])))
 
-    staged_front : take place staged ≡ front
-    staged_front = ap (λ (l : List ℕ). take place l) staged_is ∙ take_at front (s.gate ∷ batch_behind) place (sym s.current)
+    staged_prefix : take place staged ≡ prefix
+    staged_prefix = ap (λ (l : List ℕ). take place l) staged_is ∙ take_at prefix (s.gate ∷ batch_after) place (sym s.current)
 
-    whole_batch : (at : ℕ) → payloads_from at (1 ∷ batch_behind) ≡ Ok (payload ∷ [])
-    whole_batch at = opened_batch at payload (0 ∷ behind) small ∙ ap (with_first payload) (opened_closed (at + 5 + length payload) 0 behind (omega arith))
+    whole_batch : (at : ℕ) → payloads_from at (1 ∷ batch_after) ≡ Ok (payload ∷ [])
+    whole_batch at = opened_batch at payload (0 ∷ suffix) small ∙ ap (with_first payload) (opened_closed (at + 5 + length payload) 0 suffix (omega arith))
 
-    opened_is : front ++ 1 ∷ batch_behind ≡ header ++ batches (s.payloads ++ payload ∷ []) ++ 0 ∷ behind
+    opened_is : prefix ++ 1 ∷ batch_after ≡ header ++ batches (s.payloads ++ payload ∷ []) ++ 0 ∷ suffix
     opened_is =
-        append_assoc header (batches s.payloads) (1 ∷ batch_behind)
-        ∙ ap (λ (l : List ℕ). header ++ l) (sym (batches-push s.payloads payload (0 ∷ behind)))
-        ∙ sym (append_assoc header (batches (s.payloads ++ payload ∷ [])) (0 ∷ behind))
+        append_assoc header (batches s.payloads) (1 ∷ batch_after)
+        ∙ ap (λ (l : List ℕ). header ++ l) (sym (batches-push s.payloads payload (0 ∷ suffix)))
+        ∙ sym (append_assoc header (batches (s.payloads ++ payload ∷ [])) (0 ∷ suffix))
 
-    any_gate : (gate : ℕ) → OpensTo header bytes payload (front ++ gate ∷ batch_behind)
+    any_gate : (gate : ℕ) → OpensTo header bytes payload (prefix ++ gate ∷ batch_after)
     any_gate gate = elim (cases_eq gate 1) [
       | inl is_open ↦ (
-        has_gate header (front ++ gate ∷ batch_behind) (s.payloads ++ payload ∷ []) 0 behind (ap (λ (g : ℕ). front ++ g ∷ batch_behind) is_open ∙ opened_is) (FitLengths-push s.payloads payload s.fit small) (λ e. omega arith),
+        has_gate header (prefix ++ gate ∷ batch_after) (s.payloads ++ payload ∷ []) 0 suffix (ap (λ (g : ℕ). prefix ++ g ∷ batch_after) is_open ∙ opened_is) (FitLengths-push s.payloads payload s.fit small) (λ e. omega arith),
         inr (
-            ap (λ (g : ℕ). payloads_of header (front ++ g ∷ batch_behind)) is_open
-            ∙ payloads_of_file header s.payloads (1 ∷ batch_behind) s.fit
-            ∙ ap (λ (o : Opening). opening_answer None (with_front s.payloads o)) (whole_batch (length front))
+            ap (λ (g : ℕ). payloads_of header (prefix ++ g ∷ batch_after)) is_open
+            ∙ payloads_of_file header s.payloads (1 ∷ batch_after) s.fit
+            ∙ ap (λ (o : Opening). opening_answer None (with_prefix s.payloads o)) (whole_batch (length prefix))
             ∙ sym (ap (with_last payload) opens_now)
             ),
       )
       | inr shut ↦ (
-        has_gate header (front ++ gate ∷ batch_behind) s.payloads gate batch_behind refl s.fit shut,
-        inl (closed_file header s.payloads gate batch_behind s.fit shut ∙ sym opens_now),
+        has_gate header (prefix ++ gate ∷ batch_after) s.payloads gate batch_after refl s.fit shut,
+        inl (closed_file header s.payloads gate batch_after s.fit shut ∙ sym opens_now),
       )
     ]
 
     -- the batch stands whole in each outcome of the write of its gate
     pub torn_gate : (image : List ℕ) → Torn place 1 staged image → OpensTo header bytes payload image
     torn_gate image torn =
-        let back : drop place image ≡ get_or image place 0 ∷ batch_behind =
-        drop_more image place 0 (omega (arith, staged_long, torn.no_shorter)) ∙ ap (λ (l : List ℕ). get_or image place 0 ∷ l) (torn.behind ∙ staged_back) in
-        let whole : image ≡ front ++ get_or image place 0 ∷ batch_behind =
-        sym (take-append-drop place image) ∙ ap (λ (l : List ℕ). l ++ drop place image) (torn.before ∙ staged_front) ∙ ap (λ (l : List ℕ). front ++ l) back in
+        let back : drop place image ≡ get_or image place 0 ∷ batch_after =
+        drop_more image place 0 (omega (arith, staged_long, torn.no_shorter)) ∙ ap (λ (l : List ℕ). get_or image place 0 ∷ l) (torn.suffix ∙ staged_back) in
+        let whole : image ≡ prefix ++ get_or image place 0 ∷ batch_after =
+        sym (take-append-drop place image) ∙ ap (λ (l : List ℕ). l ++ drop place image) (torn.before ∙ staged_prefix) ∙ ap (λ (l : List ℕ). prefix ++ l) back in
         subst (OpensTo header bytes payload) (sym whole) (any_gate (get_or image place 0))
 
-    open_is : written staged place (1 ∷ []) ≡ header ++ batches (s.payloads ++ payload ∷ []) ++ 0 ∷ behind
+    open_is : written staged place (1 ∷ []) ≡ header ++ batches (s.payloads ++ payload ∷ []) ++ 0 ∷ suffix
     open_is =
-        ap (λ (l : List ℕ). l ++ (1 ∷ []) ++ drop (place + 1) staged) staged_front
-        ∙ ap (λ (l : List ℕ). front ++ (1 ∷ []) ++ l) staged_back
-        ∙ append_assoc front (1 ∷ []) batch_behind
+        ap (λ (l : List ℕ). l ++ (1 ∷ []) ++ drop (place + 1) staged) staged_prefix
+        ∙ ap (λ (l : List ℕ). prefix ++ (1 ∷ []) ++ l) staged_back
+        ∙ append_assoc prefix (1 ∷ []) batch_after
         ∙ opened_is
 
     -- and then the file is settled, with one payload more
@@ -146,12 +146,12 @@ module _ (header : List ℕ) (place : ℕ) (bytes : List ℕ) (past : List Step)
           record {
             payloads = s.payloads ++ payload ∷ [];
             gate = 0;
-            tail = behind;
+            tail = suffix;
             file = is ∙ open_is;
             closed = λ e. omega arith;
             fit = fit;
             current = place_is ∙ sym longer;
             kept = keeps;
           },
-          ap (payloads_of header) (is ∙ open_is) ∙ closed_file header (s.payloads ++ payload ∷ []) 0 behind fit (λ e. omega arith) ∙ sym (ap (with_last payload) opens_now),
+          ap (payloads_of header) (is ∙ open_is) ∙ closed_file header (s.payloads ++ payload ∷ []) 0 suffix fit (λ e. omega arith) ∙ sym (ap (with_last payload) opens_now),
         )

@@ -12,7 +12,7 @@ use Rattle.gl_journal.specs.Durable.{Durable, GoesOn, Folding, key_alone, fold_r
 use Rattle.gl_journal.specs.declared.fault.JournalFault.{JournalFault}
 use Rattle.gl_journal.specs.declared.fault.JournalFault.TheVariants.{NotJournal}
 use Rattle.gl_journal.specs.declared.key.Key.{Key as KeyFields}
-use Rattle.gl_journal.proofs.PayloadLaws.{fold_payloads-push, fold_spelled, fold_end}
+use Rattle.gl_journal.proofs.PayloadLaws.{fold_payloads-push, fold_encoded, fold_end}
 
 pub when_ok : {T E A B : Type 0} (result : Result T E) → (A → B) → OnOk result A → OnOk result B
 when_ok (Ok x) f a = f a
@@ -69,11 +69,11 @@ module _ (goes_on : GoesOn) where
   pub durable_first : (bytes bytes' payload : List ℕ) (key : KeyFields) → payloads_of journal_header bytes ≡ Ok [] → IsRecord (Key key) → payload ≡ record_bytes (Key key)
       → payloads_of journal_header bytes' ≡ with_last payload (payloads_of journal_header bytes) → durable goes_on bytes' ≡ Ok (key_alone key)
   unfolding durable
-  durable_first bytes bytes' payload key none is spelled kept =
-      let whole : payload ≡ record_bytes (Key key) ++ [] = spelled ∙ sym (append-nil (record_bytes (Key key))) in
+  durable_first bytes bytes' payload key none is encoded kept =
+      let whole : payload ≡ record_bytes (Key key) ++ [] = encoded ∙ sym (append-nil (record_bytes (Key key))) in
       let one : payloads_of journal_header bytes' ≡ Ok ((record_bytes (Key key) ++ []) ∷ []) =
       kept ∙ ap (with_last payload) none ∙ ap (λ (l : List ℕ). Ok (l ∷ [])) whole in
-      let folds = fold_spelled goes_on 13 (Key key) [] None (key_alone key) is (first_key key) ∙ fold_end goes_on (13 + 1 + 4 + length (record_body (Key key))) (Some (key_alone key)) in
+      let folds = fold_encoded goes_on 13 (Key key) [] None (key_alone key) is (first_key key) ∙ fold_end goes_on (13 + 1 + 4 + length (record_body (Key key))) (Some (key_alone key)) in
       ap (durable_of goes_on) one ∙ ap (λ (r : Folding). fold_answer (then_folding r (λ s. Ok s))) folds
 
   -- what the payloads of a file fold into

@@ -6,39 +6,39 @@ use Rattle.gl_journal.specs.Gates.{body_of, batches, with_first, Opening, payloa
 use Rattle.gl_journal.specs.Parts.{FileParts, Parts, IsClosed, items_of}
 use Rattle.gl_journal.specs.declared.fault.JournalFault.TheVariants.{NotJournal}
 use Rattle.gl_journal.proofs.Headers.{begins_with}
-use Rattle.gl_journal.proofs.Openings.{with_front, opened_closed, opened_end, opened_batch, opened_batches, payloads_of_file, FitLengths-push, batches-push, length-body}
+use Rattle.gl_journal.proofs.Openings.{with_prefix, opened_closed, opened_end, opened_batch, opened_batches, payloads_of_file, FitLengths-push, batches-push, length-body}
 
 pub items_of_push : (payloads : List (Vec ℕ Global)) (payload : Vec ℕ Global) → items_of (payloads ++ payload ∷ []) ≡ items_of payloads ++ payload.items ∷ []
 items_of_push [] payload = refl
 items_of_push (first ∷ payloads) payload = ap (λ (l : List (List ℕ)). first.items ∷ l) (items_of_push payloads payload)
 
-pub opens_to_parts : (at : ℕ) (bytes : List ℕ) (payloads : List (List ℕ)) (place : ℕ) (rest : List ℕ) → Parts at bytes payloads place rest → payloads_from at bytes ≡ with_front payloads (payloads_from place rest)
+pub opens_to_parts : (at : ℕ) (bytes : List ℕ) (payloads : List (List ℕ)) (place : ℕ) (rest : List ℕ) → Parts at bytes payloads place rest → payloads_from at bytes ≡ with_prefix payloads (payloads_from place rest)
 opens_to_parts at bytes payloads place rest parts =
-    ap (payloads_from at) parts.split ∙ opened_batches at payloads rest parts.fit ∙ ap (λ (n : ℕ). with_front payloads (payloads_from n rest)) (sym parts.current)
+    ap (payloads_from at) parts.split ∙ opened_batches at payloads rest parts.fit ∙ ap (λ (n : ℕ). with_prefix payloads (payloads_from n rest)) (sym parts.current)
 
 pub nothing_open : (place : ℕ) (rest : List ℕ) → IsClosed rest → payloads_from place rest ≡ Ok []
 nothing_open place [] shut = opened_end place
 nothing_open place (gate ∷ tail) shut = opened_closed place gate tail shut
 
--- where the next batch isn't whole, its place is told
-pub opens_cut : (at : ℕ) (bytes : List ℕ) (payloads : List (List ℕ)) (place : ℕ) (behind : List ℕ) → Parts at bytes payloads place (1 ∷ behind) → payloads_from place (1 ∷ behind) ≡ Err (place + 1)
+-- where the next batch isn't whole, its place is reported
+pub opens_cut : (at : ℕ) (bytes : List ℕ) (payloads : List (List ℕ)) (place : ℕ) (after : List ℕ) → Parts at bytes payloads place (1 ∷ after) → payloads_from place (1 ∷ after) ≡ Err (place + 1)
     → payloads_from at bytes ≡ Err (place + 1)
-opens_cut at bytes payloads place behind parts is = opens_to_parts at bytes payloads place (1 ∷ behind) parts ∙ ap (with_front payloads) is
+opens_cut at bytes payloads place after parts is = opens_to_parts at bytes payloads place (1 ∷ after) parts ∙ ap (with_prefix payloads) is
 
 -- a batch that was read at a place
-pub opens_first : (at : ℕ) (bytes behind payload : List ℕ) (next : ℕ) (rest : List ℕ) → bytes ≡ 1 ∷ behind → behind ≡ body_of payload ++ rest → length payload < 2 ^ 32 → next ≡ at + 5 + length payload
+pub opens_first : (at : ℕ) (bytes after payload : List ℕ) (next : ℕ) (rest : List ℕ) → bytes ≡ 1 ∷ after → after ≡ body_of payload ++ rest → length payload < 2 ^ 32 → next ≡ at + 5 + length payload
     → payloads_from at bytes ≡ with_first payload (payloads_from next rest)
-opens_first at bytes behind payload next rest is_open spelled small is =
-    ap (payloads_from at) (is_open ∙ ap (λ (l : List ℕ). 1 ∷ l) spelled) ∙ opened_batch at payload rest small ∙ ap (λ (n : ℕ). with_first payload (payloads_from n rest)) (sym is)
+opens_first at bytes after payload next rest is_open encoded small is =
+    ap (payloads_from at) (is_open ∙ ap (λ (l : List ℕ). 1 ∷ l) encoded) ∙ opened_batch at payload rest small ∙ ap (λ (n : ℕ). with_first payload (payloads_from n rest)) (sym is)
 
 -- one batch more
-pub parts_push : (at : ℕ) (bytes : List ℕ) (payloads : List (List ℕ)) (place : ℕ) (behind payload : List ℕ) (place' : ℕ) (rest : List ℕ) → Parts at bytes payloads place (1 ∷ behind)
-    → behind ≡ body_of payload ++ rest → length payload < 2 ^ 32 → place' ≡ place + 5 + length payload → Parts at bytes (payloads ++ payload ∷ []) place' rest
-parts_push at bytes payloads place behind payload place' rest parts is small next =
+pub parts_push : (at : ℕ) (bytes : List ℕ) (payloads : List (List ℕ)) (place : ℕ) (after payload : List ℕ) (place' : ℕ) (rest : List ℕ) → Parts at bytes payloads place (1 ∷ after)
+    → after ≡ body_of payload ++ rest → length payload < 2 ^ 32 → place' ≡ place + 5 + length payload → Parts at bytes (payloads ++ payload ∷ []) place' rest
+parts_push at bytes payloads place after payload place' rest parts is small next =
     let whole : bytes ≡ batches (payloads ++ payload ∷ []) ++ rest = parts.split ∙ ap (λ (l : List ℕ). batches payloads ++ 1 ∷ l) is ∙ sym (batches-push payloads payload rest) in record {
       split = whole;
       fit = FitLengths-push payloads payload parts.fit small;
-      current = omega (arith, parts.current, ap length whole, ap length parts.split, ap length is, length-append (batches payloads) (1 ∷ behind), length-append (batches (payloads ++ payload ∷ [])) rest, length-append (body_of payload) rest, length-body payload);
+      current = omega (arith, parts.current, ap length whole, ap length parts.split, ap length is, length-append (batches payloads) (1 ∷ after), length-append (batches (payloads ++ payload ∷ [])) rest, length-append (body_of payload) rest, length-body payload);
     }
 
 -- a file that begins with its header
@@ -68,10 +68,10 @@ file_differs header bytes at is = ap (λ (o : Option ℕ). opening_answer o (pay
 pub opens_by_parts : (header bytes : List ℕ) (payloads : List (List ℕ)) (place : ℕ) (rest : List ℕ) → FileParts header bytes payloads place rest → payloads_of header bytes ≡ Ok payloads
 opens_by_parts header bytes payloads place rest parts =
     ap (payloads_of header) parts.split ∙ payloads_of_file header payloads rest parts.fit
-    ∙ ap (λ (o : Opening). opening_answer None (with_front payloads o)) (nothing_open (length (header ++ batches payloads)) rest parts.closed)
+    ∙ ap (λ (o : Opening). opening_answer None (with_prefix payloads o)) (nothing_open (length (header ++ batches payloads)) rest parts.closed)
     ∙ ap (λ (l : List (List ℕ)). Ok l) (append-nil payloads)
 
--- a file that opens begins with its header, and what stands behind it opens
+-- a file that opens begins with its header, and what stands after it opens
 pub file_opened : (header bytes : List ℕ) → IsOk (payloads_of header bytes)
     → (mismatch header bytes ≡ None) × IsOk (payloads_from (length header) (drop (length header) bytes))
 unfolding payloads_of

@@ -5,8 +5,8 @@ use Rattle.gl_base.specs.declared.fault.CutFault.{CutFault}
 use Rattle.gl_journal.specs.Gates.{body_of, payload_at, Opening, with_first}
 use Rattle.gl_journal.specs.Records.{RecordValue, then_some, kind_of, record_body, record_bytes, records_bytes, record_of, IsRecord, AreRecords}
 use Rattle.gl_journal.specs.Durable.{Durable, GoesOn, Folding, Next, fold_record, fold_records, fold_next, after_fold, after_record, after_body, fold_within, fold_payload, then_folding, fold_payloads, fold_opening, begins_with_key}
-use Rattle.gl_journal.proofs.Openings.{behind_shorter, payload_at-body}
-use Rattle.gl_journal.proofs.RecordLaws.{record_of-spelled, body_fits}
+use Rattle.gl_journal.proofs.Openings.{after_shorter, payload_at-body}
+use Rattle.gl_journal.proofs.RecordLaws.{record_of-encoded, body_fits}
 
 module _ (goes_on : GoesOn) where
   same_fold : (at : ℕ) (folded : Option Durable) (new : Unread) (f g : Next) → ((state : Option Durable) → f new.at new.bytes state ≡ g new.at new.bytes state) → after_fold at folded new f ≡ after_fold at folded new g
@@ -30,7 +30,7 @@ module _ (goes_on : GoesOn) where
   same_count (suc n) zero at (kind ∷ bytes) state p q = absurd (omega arith)
   same_count (suc n) (suc m) at [] state p q = refl
   same_count (suc n) (suc m) at (kind ∷ bytes) state p q = same_body at kind state (payload_at (at + 1) bytes) (fold_within goes_on n) (fold_within goes_on m)
-      (λ it next is. same_count n m it.1.at it.1.bytes next (omega (arith, behind_shorter (at + 1) bytes it.0 it.1 is)) (omega (arith, behind_shorter (at + 1) bytes it.0 it.1 is)))
+      (λ it next is. same_count n m it.1.at it.1.bytes next (omega (arith, after_shorter (at + 1) bytes it.0 it.1 is)) (omega (arith, after_shorter (at + 1) bytes it.0 it.1 is)))
 
   pub fold_end : (at : ℕ) (state : Option Durable) → fold_payload goes_on at [] state ≡ Ok state
   unfolding fold_payload
@@ -44,7 +44,7 @@ module _ (goes_on : GoesOn) where
       ap (λ (r : Result (List ℕ × Unread) CutFault). after_body goes_on at kind state r (fold_within goes_on (length bytes))) read
       ∙ ap (λ (o : Option RecordValue). after_record goes_on at o state new (fold_within goes_on (length bytes))) is
       ∙ ap (λ (o : Option Durable). after_fold at o new (fold_within goes_on (length bytes))) folds
-      ∙ same_count (length bytes) (length new.bytes) new.at new.bytes (Some next) (behind_shorter (at + 1) bytes body new read) (omega arith)
+      ∙ same_count (length bytes) (length new.bytes) new.at new.bytes (Some next) (after_shorter (at + 1) bytes body new read) (omega arith)
 
   pub fold_on : (at kind : ℕ) (bytes body : List ℕ) (new : Unread) (rec : RecordValue) (state next : Option Durable) → payload_at (at + 1) bytes ≡ Ok (body, new) → record_of kind body ≡ Some rec → fold_next goes_on state rec ≡ next → IsSome next
       → fold_payload goes_on at (kind ∷ bytes) state ≡ fold_payload goes_on new.at new.bytes next
@@ -72,28 +72,28 @@ module _ (goes_on : GoesOn) where
       ∙ ap (λ (o : Option RecordValue). after_record goes_on at o state new (fold_within goes_on (length bytes))) is
       ∙ ap (λ (o : Option Durable). after_fold at o new (fold_within goes_on (length bytes))) folds
 
-  -- a record as it is spelled, which folds
-  pub fold_spelled : (at : ℕ) (rec : RecordValue) (rest : List ℕ) (state : Option Durable) (next : Durable) → IsRecord rec → fold_next goes_on state rec ≡ Some next
+  -- a record as it is encoded, which folds
+  pub fold_encoded : (at : ℕ) (rec : RecordValue) (rest : List ℕ) (state : Option Durable) (next : Durable) → IsRecord rec → fold_next goes_on state rec ≡ Some next
       → fold_payload goes_on at (record_bytes rec ++ rest) state ≡ fold_payload goes_on (at + 1 + 4 + length (record_body rec)) rest (Some next)
-  fold_spelled at rec rest state next is folds =
+  fold_encoded at rec rest state next is folds =
       fold_read at (kind_of rec) (body_of (record_body rec) ++ rest) (record_body rec) (record { at = at + 1 + 4 + length (record_body rec); bytes = rest }) rec state next
-      (payload_at-body (at + 1) (record_body rec) rest (body_fits rec is)) (record_of-spelled rec is) folds
+      (payload_at-body (at + 1) (record_body rec) rest (body_fits rec is)) (record_of-encoded rec is) folds
 
-  behind_key : (state : Durable) (rec : RecordValue) (next : Option Durable) → fold_record goes_on state rec ≡ next → fold_next goes_on (Some state) rec ≡ next
+  after_key : (state : Durable) (rec : RecordValue) (next : Option Durable) → fold_record goes_on state rec ≡ next → fold_next goes_on (Some state) rec ≡ next
   unfolding fold_next
-  behind_key state rec next is = is
+  after_key state rec next is = is
 
   some_first : (folded : Option Durable) (recs : List RecordValue) (state' : Durable) → then_some folded (λ next. fold_records goes_on next recs) ≡ Some state' → (next : Durable) × (folded ≡ Some next) × (fold_records goes_on next recs ≡ Some state')
   some_first None recs state' is = cc
   some_first (Some next) recs state' is = (next, refl, is)
 
   -- a payload of records is read as their fold
-  pub fold_payload-spelled : (at : ℕ) (recs : List RecordValue) (state state' : Durable) → AreRecords recs → fold_records goes_on state recs ≡ Some state' → fold_payload goes_on at (records_bytes recs) (Some state) ≡ Ok (Some state')
-  fold_payload-spelled at [] state state' are is = let same : state ≡ state' = cc in fold_end at (Some state) ∙ ap (λ (s : Durable). Ok (Some s)) same
-  fold_payload-spelled at (rec ∷ recs) state state' are is =
+  pub fold_payload-encoded : (at : ℕ) (recs : List RecordValue) (state state' : Durable) → AreRecords recs → fold_records goes_on state recs ≡ Some state' → fold_payload goes_on at (records_bytes recs) (Some state) ≡ Ok (Some state')
+  fold_payload-encoded at [] state state' are is = let same : state ≡ state' = cc in fold_end at (Some state) ∙ ap (λ (s : Durable). Ok (Some s)) same
+  fold_payload-encoded at (rec ∷ recs) state state' are is =
       let first = some_first (fold_record goes_on state rec) recs state' is in
-      fold_spelled at rec (records_bytes recs) (Some state) first.0 are.0 (behind_key state rec (Some first.0) first.1)
-      ∙ fold_payload-spelled (at + 1 + 4 + length (record_body rec)) recs first.0 state' are.1 first.2
+      fold_encoded at rec (records_bytes recs) (Some state) first.0 are.0 (after_key state rec (Some first.0) first.1)
+      ∙ fold_payload-encoded (at + 1 + 4 + length (record_body rec)) recs first.0 state' are.1 first.2
 
   ok_last : (first : Folding) (state state' : Durable) (f g : Option Durable → Folding)
       → then_folding first f ≡ Ok (Some state) → ((next : Option Durable) → f next ≡ Ok (Some state) → g next ≡ Ok (Some state')) → then_folding first g ≡ Ok (Some state')
@@ -105,7 +105,7 @@ module _ (goes_on : GoesOn) where
       → fold_payloads goes_on place (payloads ++ records_bytes recs ∷ []) first ≡ Ok (Some state')
   fold_payloads-push place [] recs first state state' folds are is =
       let same : first ≡ Some state = cc in
-      let folded = ap (fold_payload goes_on (place + 5) (records_bytes recs)) same ∙ fold_payload-spelled (place + 5) recs state state' are is in
+      let folded = ap (fold_payload goes_on (place + 5) (records_bytes recs)) same ∙ fold_payload-encoded (place + 5) recs state state' are is in
       ap (λ (r : Folding). then_folding r (λ s. fold_payloads goes_on (place + 5 + length (records_bytes recs)) [] s)) folded
   fold_payloads-push place (payload ∷ payloads) recs first state state' folds are is =
       ok_last (fold_payload goes_on (place + 5) payload first) state state' (fold_payloads goes_on (place + 5 + length payload) payloads) (fold_payloads goes_on (place + 5 + length payload) (payloads ++ records_bytes recs ∷ [])) folds
@@ -133,7 +133,7 @@ module _ (goes_on : GoesOn) where
   opening_stop place payload (Ok payloads) state at opens folds = payloads_stop place payload payloads state at folds
   opening_stop place payload (Err p) state at opens folds = cc
 
--- the first payload tells whether a key begins them
+-- the first payload reports whether a key begins them
 pub begins_first : (payload : List ℕ) (opening : Opening) (payloads : List (List ℕ)) → with_first payload opening ≡ Ok payloads → begins_with_key (payload ∷ []) ≡ begins_with_key payloads
 begins_first [] (Ok more) payloads is = let same : [] ∷ more ≡ payloads = cc in ap begins_with_key same
 begins_first (kind ∷ payload) (Ok more) payloads is = let same : (kind ∷ payload) ∷ more ≡ payloads = cc in ap begins_with_key same

@@ -1,4 +1,4 @@
--- Records are read as they are spelled.
+-- Records are read as they are encoded.
 use Rattle.std.proofs.Common.{◌≡◌, nat_lt, false, ℕ, ◌+◌, ◌^◌, ◌<◌, ◌≤◌, List, [], ◌∷◌, ◌++◌, length, get_or, take, drop, Option, None, Some, refl, sym, ◌∙◌, ap, subst, arith, append_assoc, length-append}
 use Rattle.std.proofs.lemmas.Bool.Decides.{nat_tests}
 use Rattle.std.proofs.lemmas.List.{take_at, take_all, take_more, drop_at, drop_more}
@@ -13,55 +13,55 @@ use Rattle.gl_journal.specs.RecordView.{record_value, record_values}
 use Rattle.gl_journal.specs.declared.record.Record.{Record}
 use Rattle.gl_journal.specs.Records.{RecordValue, Key, Vote, Cut, Append, Signer, Install, Start, kind_of, key_kind_tag, types_tag, key_kind_in, types_in, key_with, key_in, record_body, record_bytes, records_bytes, vote_bytes, whole_number, then_some, vote_in, vote_record_in, record_of, IsRecord, IsId, AreRecords}
 
-whole_number-spelled : (size n : ℕ) → n < 256 ^ size → whole_number size (little_endian size n) ≡ Some n
-whole_number-spelled size n small =
+whole_number-encoded : (size n : ℕ) → n < 256 ^ size → whole_number size (little_endian size n) ≡ Some n
+whole_number-encoded size n small =
     let long = length-little_endian size n in
     let value = from_little_endian-little_endian size n small in
     rw (long, value) (grind (arith, nat_tests))
 
-kind-spelled : (kind : KeyKind) → key_kind_in (key_kind_tag kind) ≡ Some kind
-kind-spelled Service = refl
-kind-spelled Node = refl
-kind-spelled Member = refl
+kind-encoded : (kind : KeyKind) → key_kind_in (key_kind_tag kind) ≡ Some kind
+kind-encoded Service = refl
+kind-encoded Node = refl
+kind-encoded Member = refl
 
-types-spelled : (types : Types) → types_in (types_tag types) ≡ Some types
-types-spelled H5W4 = refl
-types-spelled H5W8 = refl
-types-spelled H10W4 = refl
-types-spelled H10W8 = refl
+types-encoded : (types : Types) → types_in (types_tag types) ≡ Some types
+types-encoded H5W4 = refl
+types-encoded H5W8 = refl
+types-encoded H10W4 = refl
+types-encoded H10W8 = refl
 
-key-spelled : (key : KeyFields) → length key.seed ≡ 32 → key_in (record_body (Key key)) ≡ Some (Key key)
-key-spelled key is =
-    ap (λ (k : Option KeyKind). key_with k (types_in (types_tag key.types)) key.seed) (kind-spelled key.kind)
-    ∙ ap (λ (t : Option Types). key_with (Some key.kind) t key.seed) (types-spelled key.types)
+key-encoded : (key : KeyFields) → length key.seed ≡ 32 → key_in (record_body (Key key)) ≡ Some (Key key)
+key-encoded key is =
+    ap (λ (k : Option KeyKind). key_with k (types_in (types_tag key.types)) key.seed) (kind-encoded key.kind)
+    ∙ ap (λ (t : Option Types). key_with (Some key.kind) t key.seed) (types-encoded key.types)
     ∙ rw is refl
 
-vote_in-spelled : (vote : Option (List ℕ)) → IsId vote → vote_in (vote_bytes vote) ≡ Some vote
-vote_in-spelled None is = refl
-vote_in-spelled (Some id) is = rw is refl
+vote_in-encoded : (vote : Option (List ℕ)) → IsId vote → vote_in (vote_bytes vote) ≡ Some vote
+vote_in-encoded None is = refl
+vote_in-encoded (Some id) is = rw is refl
 
 vote_long : (vote : Option (List ℕ)) → 1 ≤ length (vote_bytes vote)
 vote_long None = omega arith
 vote_long (Some id) = omega arith
 
-vote_spelled : (view : ℕ) (vote : Option (List ℕ)) → IsRecord (Vote view vote) → vote_record_in (little_endian 4 view ++ vote_bytes vote) ≡ Some (Vote view vote)
-vote_spelled view vote is =
+vote_encoded : (view : ℕ) (vote : Option (List ℕ)) → IsRecord (Vote view vote) → vote_record_in (little_endian 4 view ++ vote_bytes vote) ≡ Some (Vote view vote)
+vote_encoded view vote is =
     let size = length-little_endian 4 view in
-    let back : vote_in (drop 4 (little_endian 4 view ++ vote_bytes vote)) ≡ Some vote = ap vote_in (drop_at (little_endian 4 view) (vote_bytes vote) 4 size) ∙ vote_in-spelled vote is.1 in
-    let front : from_little_endian (take 4 (little_endian 4 view ++ vote_bytes vote)) ≡ view =
+    let back : vote_in (drop 4 (little_endian 4 view ++ vote_bytes vote)) ≡ Some vote = ap vote_in (drop_at (little_endian 4 view) (vote_bytes vote) 4 size) ∙ vote_in-encoded vote is.1 in
+    let prefix : from_little_endian (take 4 (little_endian 4 view ++ vote_bytes vote)) ≡ view =
     ap from_little_endian (take_at (little_endian 4 view) (vote_bytes vote) 4 size) ∙ from_little_endian-little_endian 4 view (omega arith) in
     let long : nat_lt (length (little_endian 4 view ++ vote_bytes vote)) 5 ≡ false = grind (arith, nat_tests, size, vote_long vote, length-append (little_endian 4 view) (vote_bytes vote)) in
-    rw (long, back, front) refl
+    rw (long, back, prefix) refl
 
-pub record_of-spelled : (rec : RecordValue) → IsRecord rec → record_of (kind_of rec) (record_body rec) ≡ Some rec
+pub record_of-encoded : (rec : RecordValue) → IsRecord rec → record_of (kind_of rec) (record_body rec) ≡ Some rec
 unfolding record_of
-record_of-spelled (Key key) is = key-spelled key is
-record_of-spelled (Vote view vote) is = vote_spelled view vote is
-record_of-spelled (Cut to) is = ap (λ (o : Option ℕ). then_some o (λ n. Some (Cut n))) (whole_number-spelled 8 to (omega arith))
-record_of-spelled (Append frame) is = refl
-record_of-spelled (Signer reserved) is = ap (λ (o : Option ℕ). then_some o (λ n. Some (Signer n))) (whole_number-spelled 4 reserved (omega arith))
-record_of-spelled (Install body) is = refl
-record_of-spelled (Start leaves) is = ap (λ (o : Option ℕ). then_some o (λ n. Some (Start n))) (whole_number-spelled 4 leaves (omega arith))
+record_of-encoded (Key key) is = key-encoded key is
+record_of-encoded (Vote view vote) is = vote_encoded view vote is
+record_of-encoded (Cut to) is = ap (λ (o : Option ℕ). then_some o (λ n. Some (Cut n))) (whole_number-encoded 8 to (omega arith))
+record_of-encoded (Append frame) is = refl
+record_of-encoded (Signer reserved) is = ap (λ (o : Option ℕ). then_some o (λ n. Some (Signer n))) (whole_number-encoded 4 reserved (omega arith))
+record_of-encoded (Install body) is = refl
+record_of-encoded (Start leaves) is = ap (λ (o : Option ℕ). then_some o (λ n. Some (Start n))) (whole_number-encoded 4 leaves (omega arith))
 
 pub body_fits : (rec : RecordValue) → IsRecord rec → length (record_body rec) < 2 ^ 32
 body_fits (Key key) is = omega (arith, is)
@@ -80,8 +80,8 @@ AreRecords-push (first ∷ recs) rec are is = (are.0, AreRecords-push recs rec a
 pub whole_of : (size n : ℕ) (body bytes : List ℕ) → length body ≡ size → bytes ≡ take size body → n ≡ from_little_endian bytes → Some n ≡ whole_number size body
 whole_of size n body bytes long is value =
     let same : bytes ≡ body = is ∙ take_all size body (omega arith) in
-    let spelled : n ≡ from_little_endian body = value ∙ ap from_little_endian same in
-    rw (long, ← spelled) (grind (arith, nat_tests))
+    let encoded : n ≡ from_little_endian body = value ∙ ap from_little_endian same in
+    rw (long, ← encoded) (grind (arith, nat_tests))
 
 record_values-push : (records : List Record) (one : Record) → record_values (records ++ one ∷ []) ≡ record_values records ++ record_value one ∷ []
 record_values-push [] one = refl
@@ -97,7 +97,7 @@ are_records_next d records i below are here =
 first_bytes : (d : Record) (records : List Record) (i : ℕ) → i < length records → records_bytes (record_values (drop i records)) ≡ record_bytes (record_value (get_or records i d)) ++ records_bytes (record_values (drop (i + 1) records))
 first_bytes d records i below = ap (λ (l : List Record). records_bytes (record_values l)) (drop_more records i d below)
 
--- one record more behind those that were written
+-- one record more after those that were written
 pub put_next : (d : Record) (records : List Record) (i : ℕ) (out out' all : List ℕ) → i < length records → out' ≡ out ++ record_bytes (record_value (get_or records i d))
     → out ++ records_bytes (record_values (drop i records)) ≡ all → out' ++ records_bytes (record_values (drop (i + 1) records)) ≡ all
 put_next d records i out out' all below is so_far =
@@ -105,7 +105,7 @@ put_next d records i out out' all below is so_far =
     ap (λ (l : List ℕ). l ++ rest) is ∙ append_assoc out (record_bytes (record_value (get_or records i d))) rest
     ∙ ap (λ (l : List ℕ). out ++ l) (sym (first_bytes d records i below)) ∙ so_far
 
--- how many bytes it has, and those behind it
+-- how many bytes it has, and those after it
 pub next_sizes : (d : Record) (records : List Record) (i : ℕ) (out out' : List ℕ) → i < length records → out' ≡ out ++ record_bytes (record_value (get_or records i d))
     → (length (records_bytes (record_values (drop i records))) + length out ≡ length out' + length (records_bytes (record_values (drop (i + 1) records))))
     × (length (records_bytes (record_values (drop (i + 1) records))) ≤ length (records_bytes (record_values (drop i records))))

@@ -20,7 +20,7 @@ settled_by_gate header bytes payloads place (gate ∷ tail) bytes' past parts be
   ap (payloads_of header) same ∙ opens_by_parts header bytes payloads place (gate ∷ tail) parts,
 )
 
--- a closed gate written behind a file that lacked it
+-- a closed gate written after a file that lacked it
 pub settled_by_closing : (header bytes : List ℕ) (payloads : List (List ℕ)) (place : ℕ) (rest : List ℕ) (bytes' : List ℕ) (past : List Step) → FileParts header bytes payloads place rest → length bytes ≤ place → bytes' ≡ written bytes place (0 ∷ []) → LeavesOnly past bytes'
     → IsSettled header place bytes' past × (payloads_of header bytes' ≡ Ok payloads)
 settled_by_closing header bytes payloads place (gate ∷ tail) bytes' past parts above is keeps =
@@ -51,13 +51,13 @@ settled_at_first header bytes place bytes' past none here is keeps =
       ap (payloads_of header) file ∙ closed_file header [] 0 [] tt (λ e. omega arith),
     )
 
--- a byte that is torn behind the end of a file that has its gate
+-- a byte that is torn after the end of a file that has its gate
 pub torn_end : (header bytes image : List ℕ) (len : ℕ) → HasGate header bytes → len ≡ length bytes → Torn len 1 bytes image → HasGate header image × (payloads_of header image ≡ payloads_of header bytes)
 torn_end header bytes image len has size torn =
     let parts = has.parts in
-    let front : take len image ≡ header ++ batches has.payloads ++ has.gate ∷ has.tail = torn.before ∙ take_all len bytes (omega arith) ∙ parts.split in
+    let prefix : take len image ≡ header ++ batches has.payloads ++ has.gate ∷ has.tail = torn.before ∙ take_all len bytes (omega arith) ∙ parts.split in
     let whole : image ≡ header ++ batches has.payloads ++ has.gate ∷ (has.tail ++ drop len image) =
-    sym (take-append-drop len image) ∙ ap (λ (l : List ℕ). l ++ drop len image) front ∙ append_assoc (header ++ batches has.payloads) (has.gate ∷ has.tail) (drop len image) in (
+    sym (take-append-drop len image) ∙ ap (λ (l : List ℕ). l ++ drop len image) prefix ∙ append_assoc (header ++ batches has.payloads) (has.gate ∷ has.tail) (drop len image) in (
       has_gate header image has.payloads has.gate (has.tail ++ drop len image) whole parts.fit parts.closed,
       ap (payloads_of header) whole ∙ closed_file header has.payloads has.gate (has.tail ++ drop len image) parts.fit parts.closed
           ∙ sym (opens_by_parts header bytes has.payloads has.place (has.gate ∷ has.tail) parts),

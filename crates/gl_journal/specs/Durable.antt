@@ -46,7 +46,7 @@ leaf_count state = 2 ^ height state.key.types
 abbrev pub GoesOn : Type 0
 GoesOn = List (List ℕ) → List ℕ → Bool
 
--- One record more behind a key, where it folds. A key is the first record alone, and a view, the
+-- One record more after a key, where it folds. A key is the first record alone, and a view, the
 -- count of leaves and a ledger's base never fall.
 abbrev pub fold_record : GoesOn → Durable → RecordValue → Option Durable
 fold_record goes_on state (Key key) = None
@@ -65,7 +65,7 @@ fold_record goes_on state (Install body) = None
 fold_record goes_on state (Start leaves) =
     if nat_lt (leaf_count state) leaves then None else Some (record state { start = Some leaves })
 
--- Records, one behind the other, where all of them fold.
+-- Records, one after the other, where all of them fold.
 abbrev pub fold_records : GoesOn → Durable → List RecordValue → Option Durable
 fold_records goes_on state [] = Some state
 fold_records goes_on state (rec ∷ recs) =
@@ -81,12 +81,12 @@ first_record (Signer reserved) = None
 first_record (Install body) = None
 first_record (Start leaves) = None
 
--- One record more behind those before it, if there were any.
+-- One record more after those before it, if there were any.
 unfoldable pub fold_next : GoesOn → Option Durable → RecordValue → Option Durable
 fold_next goes_on None rec = first_record rec
 fold_next goes_on (Some state) rec = fold_record goes_on state rec
 
--- What records fold into so far, or the place of the first that doesn't spell or fold.
+-- What records fold into so far, or the place of the first that doesn't parse or fold.
 abbrev pub Folding : Type 0
 Folding = Result (Option Durable) ℕ
 
@@ -124,7 +124,7 @@ abbrev pub then_folding : Folding → (Option Durable → Folding) → Folding
 then_folding (Ok state) f = f state
 then_folding (Err at) f = Err at
 
--- The records of payloads, of which the first stands behind the gate at a place.
+-- The records of payloads, of which the first stands after the gate at a place.
 abbrev pub fold_payloads : GoesOn → ℕ → List (List ℕ) → Option Durable → Folding
 fold_payloads goes_on place [] state = Ok state
 fold_payloads goes_on place (payload ∷ payloads) state =

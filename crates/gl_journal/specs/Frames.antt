@@ -1,6 +1,6 @@
 -- Frames of entries.
 use Rattle.std.specs.Prelude.{ℕ, Bool, false, List, length, Result, Ok, Err, ◌==◌}
-use Rattle.gl_entry.specs.Reading.{first_entry}
+use Rattle.gl_entry.specs.Parsing.{first_entry}
 use Rattle.gl_entry.specs.declared.entry.Entry.{Entry}
 use Rattle.gl_entry.specs.declared.fault.EntryFault.{EntryFault}
 

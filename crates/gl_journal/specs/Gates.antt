@@ -1,4 +1,4 @@
--- A file of payloads behind gates: a header, and then batches of a gate, a length and a payload.
+-- A file of payloads after gates: a header, and then batches of a gate, a length and a payload.
 use Rattle.std.specs.Prelude.{ℕ, zero, suc, ◌+◌, ◌-◌, ◌^◌, ◌<◌, List, [], ◌∷◌, ◌++◌, length, drop, Option, None, Some, Result, Ok, Err, Vec, ◌==◌, if◌then◌else◌}
 use Rattle.std.specs.declared.alloc.Global.{Global}
 use Rattle.gl_base.specs.LittleEndian.{little_endian}
@@ -7,15 +7,15 @@ use Rattle.gl_base.specs.declared.fault.CutFault.{CutFault}
 use Rattle.gl_journal.specs.declared.fault.JournalFault.{JournalFault}
 use Rattle.gl_journal.specs.declared.fault.JournalFault.TheVariants.{NotJournal, BadRecord}
 
--- What stands behind a gate: the length of the payload in four bytes, and the payload.
+-- What stands after a gate: the length of the payload in four bytes, and the payload.
 abbrev pub body_of : List ℕ → List ℕ
 body_of payload = little_endian 4 (length payload) ++ payload
 
--- The payload of a batch that is being made: what stands behind four bytes for its length.
+-- The payload of a batch that is being made: what stands after four bytes for its length.
 abbrev pub payload_in : Vec ℕ Global → List ℕ
 payload_in batch = drop 4 batch.items
 
--- Batches behind open gates. An open gate is a byte 1.
+-- Batches after open gates. An open gate is a byte 1.
 abbrev pub batches : List (List ℕ) → List ℕ
 batches [] = []
 batches (payload ∷ payloads) = 1 ∷ body_of payload ++ batches payloads
@@ -29,8 +29,8 @@ FitLengths (payload ∷ payloads) = (length payload < 2 ^ 32) × FitLengths payl
 abbrev pub length_limit : ℕ
 length_limit = 2 ^ 32 - 1
 
--- Bytes behind their length of four bytes, of which the first stands at a place, and what is unread
--- behind them.
+-- Bytes after their length of four bytes, of which the first stands at a place, and what is unread
+-- after them.
 abbrev pub payload_at : ℕ → List ℕ → Result (List ℕ × Unread) CutFault
 payload_at at bytes = string_at 4 length_limit (record { at = at; bytes = bytes })
 
@@ -42,21 +42,21 @@ abbrev pub with_first : List ℕ → Opening → Opening
 with_first payload (Ok payloads) = Ok (payload ∷ payloads)
 with_first payload (Err at) = Err at
 
--- Behind an open gate at a place: the payload, and what is behind it. Where it isn't whole, the
--- place of its length is told.
-abbrev pub behind_gate : ℕ → Result (List ℕ × Unread) CutFault → (ℕ → List ℕ → Opening) → Opening
-behind_gate at (Err fault) next = Err (at + 1)
-behind_gate at (Ok read) next = with_first read.0 (next read.1.at read.1.bytes)
+-- After an open gate at a place: the payload, and what is after it. Where it isn't whole, the place
+-- of its length is reported.
+abbrev pub after_gate : ℕ → Result (List ℕ × Unread) CutFault → (ℕ → List ℕ → Opening) → Opening
+after_gate at (Err fault) next = Err (at + 1)
+after_gate at (Ok read) next = with_first read.0 (next read.1.at read.1.bytes)
 
 -- The payloads of at most so many batches, from the gate at a place on. A gate is closed that isn't
--- 1, or that isn't there; what stands behind it means nothing.
+-- 1, or that isn't there; what stands after it means nothing.
 abbrev pub payloads_within : ℕ → ℕ → List ℕ → Opening
 payloads_within zero at bytes = Ok []
 payloads_within (suc count) at [] = Ok []
 payloads_within (suc count) at (gate ∷ bytes) =
-    if gate == 1 then behind_gate at (payload_at (at + 1) bytes) (payloads_within count) else Ok []
+    if gate == 1 then after_gate at (payload_at (at + 1) bytes) (payloads_within count) else Ok []
 
--- The payloads behind open gates up to the first closed one. There are at most as many as bytes.
+-- The payloads after open gates up to the first closed one. There are at most as many as bytes.
 unfoldable pub payloads_from : ℕ → List ℕ → Opening
 payloads_from at bytes = payloads_within (length bytes) at bytes
 
@@ -76,7 +76,7 @@ opening_answer (Some at) opening = Err (NotJournal at)
 opening_answer None (Ok payloads) = Ok payloads
 opening_answer None (Err at) = Err (BadRecord at)
 
--- What a file under this header opens to: the payloads behind its open gates, or the fault.
+-- What a file under this header opens to: the payloads after its open gates, or the fault.
 unfoldable pub payloads_of : List ℕ → List ℕ → Result (List (List ℕ)) JournalFault
 payloads_of header file =
     opening_answer (mismatch header file)

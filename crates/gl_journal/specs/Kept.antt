@@ -6,7 +6,7 @@ use Rattle.gl_journal.specs.Durable.{journal_header}
 use Rattle.gl_journal.specs.declared.journal.Journal.{Journal}
 
 -- Over a disk with these bytes and this history: the file is a settled journal, and the next batch
--- goes behind its closed gate.
+-- goes after its closed gate.
 pub record IsKept {D : Type 0} (bytes : D → List ℕ) (past : D → List Step) (journal : Journal D)
     : Type 0 where
   pub header : journal.gated.header ≡ journal_header

@@ -15,7 +15,7 @@ pub record Parts (at : ℕ) (bytes : List ℕ) (payloads : List (List ℕ)) (pla
   pub fit : FitLengths payloads
   pub current : place ≡ at + length (batches payloads)
 
--- A file is the header, batches up to a place, and behind them bytes where no gate is open.
+-- A file is the header, batches up to a place, and after them bytes where no gate is open.
 pub record FileParts (header bytes : List ℕ) (payloads : List (List ℕ)) (place : ℕ)
     (rest : List ℕ) : Type 0 where
   pub split : bytes ≡ header ++ batches payloads ++ rest
@@ -23,7 +23,7 @@ pub record FileParts (header bytes : List ℕ) (payloads : List (List ℕ)) (pla
   pub current : place ≡ length (header ++ batches payloads)
   pub closed : IsClosed rest
 
--- The file has the closed gate behind its payloads.
+-- The file has the closed gate after its payloads.
 pub record HasGate (header bytes : List ℕ) : Type 0 where
   pub payloads : List (List ℕ)
   pub place : ℕ

@@ -57,7 +57,7 @@ record_body (Start leaves) = little_endian 4 leaves
 abbrev pub record_bytes : RecordValue → List ℕ
 record_bytes rec = kind_of rec ∷ body_of (record_body rec)
 
--- Records, one behind the other.
+-- Records, one after the other.
 abbrev pub records_bytes : List RecordValue → List ℕ
 records_bytes [] = []
 records_bytes (rec ∷ recs) = record_bytes rec ++ records_bytes recs

@@ -10,7 +10,7 @@ use Rattle.gl_journal.specs.declared.fault.JournalFault.{JournalFault}
 use Rattle.gl_journal.specs.declared.fault.JournalFault.TheVariants.{DiskFault}
 use Rattle.gl_journal.specs.declared.gated.Gated.{Gated}
 
--- The file is the header, batches behind open gates, and at this place a closed gate; and a stop
+-- The file is the header, batches after open gates, and at this place a closed gate; and a stop
 -- leaves it so.
 pub record IsSettled (header : List ℕ) (place : ℕ) (bytes : List ℕ) (past : List Step)
     : Type 0 where
@@ -24,7 +24,7 @@ pub record IsSettled (header : List ℕ) (place : ℕ) (bytes : List ℕ) (past 
   pub kept : LeavesOnly past bytes
 
 -- Over a disk with these bytes and this history: the file is settled, and the next payload goes
--- behind its closed gate.
+-- after its closed gate.
 abbrev pub IsOpen : {D : Type 0} → (D → List ℕ) → (D → List Step) → Gated D → Type 0
 IsOpen bytes past gated = IsSettled gated.header gated.place (bytes gated.disk) (past gated.disk)
 

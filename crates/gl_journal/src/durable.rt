@@ -21,7 +21,7 @@ pub struct Durable<L> {
     pub vote: Option<NodeId>,
     /// Whether a Vote record was there: also a node that gave no vote may have one.
     pub has_vote_record: bool,
-    /// The place behind which `log` begins.
+    /// The place after which `log` begins.
     pub base: u64,
     pub log: L,
     /// How many leaves of the key are spent or reserved.
@@ -47,7 +47,7 @@ impl<L: EntryLog> Durable<L> {
         }
     }
 
-    /// Takes one record more behind the key, and answers whether it folds.
+    /// Takes one record more after the key, and answers whether it folds.
     fn fold_record(&mut self, alloc: Global, one: &Record<'_>) -> Result<bool, AllocError>
         ensures folds { result ≡ Ok true →
             fold_record L.goes_on (state_of L.frames self.old) (record_value one.now)

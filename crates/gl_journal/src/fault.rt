@@ -17,7 +17,7 @@ pub enum JournalFault {
     #[error("the file is no journal from {at} on")]
     NotJournal { at: u64 },
     /// The batch whose length stands at `at` is cut; or the record whose kind stands there isn't
-    /// spelled as its kind asks, or doesn't follow from those before it.
+    /// encoded as its kind asks, or doesn't follow from those before it.
     #[error("the file has a bad record at {at}")]
     BadRecord { at: u64 },
     /// The disk failed, and counted it.

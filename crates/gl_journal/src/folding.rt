@@ -11,17 +11,17 @@ use crate::decoding::record_of;
 use crate::durable::{Durable, fold_next};
 use crate::entry_log::EntryLog;
 use crate::fault::JournalFault;
-use crate::reading::{LENGTH_LIMIT, batch_behind, behind_open_gate};
+use crate::reader::{LENGTH_LIMIT, after_open_gate, batch_after};
 use gl_base::{Cut, OrNoMemory};
 use std::alloc::Global;
 
-/// The first byte, and those behind it.
+/// The first byte, and those after it.
 fn first_of(bytes: &[u8]) -> Option<(u8, &[u8])>
     ensures some { IfSome result (λ first. bytes.now ≡ first.0 ∷ first.1.now) }
     ensures none { IfNone result (bytes.now ≡ []) }
 {
     match bytes.split_first() {
-        Some((first, behind)) => Some((*first, behind)),
+        Some((first, suffix)) => Some((*first, suffix)),
         None => None,
     }
 }
@@ -44,9 +44,9 @@ fn fold_payload<L: EntryLog>(
 {
     let mut place = at;
     let mut rest = payload;
-    while let Some((kind, behind)) = first_of(rest) {
+    while let Some((kind, suffix)) = first_of(rest) {
         let bad = JournalFault::BadRecord { at: place as u64 };
-        let mut cut = Cut::new_at(behind, place + 1);
+        let mut cut = Cut::new_at(suffix, place + 1);
         let Ok(body) = cut.bytes(32, LENGTH_LIMIT) else {
             return Err(OrNoMemory::Fault(bad));
         };
@@ -81,8 +81,8 @@ fn fold_payloads<L: EntryLog>(
 {
     let mut place = 8;
     let mut rest = batches;
-    while let Some(behind) = behind_open_gate(rest) {
-        let batch = batch_behind(behind, place)?;
+    while let Some(suffix) = after_open_gate(rest) {
+        let batch = batch_after(suffix, place)?;
         fold_payload(state, alloc, place + 5, batch.payload)?;
         place = batch.next;
         rest = batch.rest;
@@ -103,16 +103,16 @@ fn begins_with_key(batches: &[u8]) -> bool
     ensures { (payloads : List (List ℕ)) → payloads_from 8 batches.now ≡ Ok payloads →
         result ≡ begins_with_key payloads }
 {
-    let Some(behind) = behind_open_gate(batches) else {
+    let Some(suffix) = after_open_gate(batches) else {
         return false;
     };
-    match batch_behind(behind, 8) {
+    match batch_after(suffix, 8) {
         Ok(batch) => is_of_key(batch.payload),
         Err(_) => false,
     }
 }
 
-/// What the batches behind the header of a journal fold into.
+/// What the batches after the header of a journal fold into.
 fn fold_batches<L: EntryLog>(
     alloc: Global,
     batches: &[u8],

@@ -1,4 +1,4 @@
-//! A file of payloads behind gates. A payload is written and kept behind a closed gate, in one write
+//! A file of payloads after gates. A payload is written and kept after a closed gate, in one write
 //! with its length and the next closed gate, and then its gate is opened by a write of its own.
 
 ghost use Rattle.std.specs.Prelude.{◌≡◌, ◌+◌, ◌^◌, ◌<◌, ◌≤◌, [], ◌∷◌, ◌++◌, length, vec_len, vec_capacity, IsTrue, OnOk};
@@ -10,27 +10,27 @@ ghost use Rattle.gl_journal.specs.Stops.{IsOpen, OpensTo, HasPayloadRoom};
 use gl_outside::{Disk, DiskFailed};
 use std::alloc::AllocError;
 
-/// A file of payloads behind gates, on a disk. The first gate stands behind the header.
+/// A file of payloads after gates, on a disk. The first gate stands after the header.
 #[derive(Debug, Drop)]
 pub struct Gated<D> {
     pub disk: D,
     /// What the file begins with.
     pub header: [u8; 8],
-    /// The place of the closed gate behind the last payload.
+    /// The place of the closed gate after the last payload.
     pub place: u64,
 }
 
-/// Puts the length of a payload over the four bytes in front of it, and a closed gate behind it.
+/// Puts the length of a payload over the four bytes before it, and a closed gate after it.
 #[tactic(auto, unfolding(gl_base::specs::LittleEndian::little_endian))]
 fn seal(batch: &mut Vec<u8>)
-    requires front { 4 ≤ vec_len batch.old }
+    requires prefix { 4 ≤ vec_len batch.old }
     requires small { length (payload_in batch.old) < 2 ^ 32 }
     requires gate { vec_len batch.old < vec_capacity batch.old }
     ensures { batch.new.items ≡ body_of (payload_in batch.old) ++ 0 ∷ [] }
 {
     let len = (batch.len() - 4) as u32;
-    let (front, _) = batch.split_at_mut(4);
-    front.copy_from_slice(&len.to_le_bytes());
+    let (prefix, _) = batch.split_at_mut(4);
+    prefix.copy_from_slice(&len.to_le_bytes());
     batch.push_reserved(0);
 }
 
@@ -75,12 +75,12 @@ impl<D: Disk> Gated<D> {
         self.disk.room(end, 4)
     }
 
-    /// Adds a payload, which stands behind four bytes for its length, in memory that was taken
+    /// Adds a payload, which stands after four bytes for its length, in memory that was taken
     /// before. Once it answers Ok, the file keeps it whatever comes. After a failure the file isn't
     /// to be used again: what a stop leaves opens with this payload or without it.
     pub fn append(&mut self, batch: &mut Vec<u8>) -> Result<(), DiskFailed>
         requires open { IsTrue D.honest → IsOpen D.bytes D.past self.old }
-        requires front { 4 ≤ vec_len batch.old }
+        requires prefix { 4 ≤ vec_len batch.old }
         requires small { length (payload_in batch.old) < 2 ^ 32 }
         requires gate { vec_len batch.old < vec_capacity batch.old }
         requires room { HasPayloadRoom D.room_end D.room_calls self.old

@@ -13,8 +13,8 @@ mod frame_log;
 mod gated;
 mod journal;
 mod key;
-mod opening;
-mod reading;
+mod open;
+mod reader;
 mod record;
 
 pub use durable::Durable;

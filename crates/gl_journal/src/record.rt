@@ -17,7 +17,7 @@ pub enum Record<'a> {
     Key(Key),
     /// The view that the node is in, and the node that it voted for there.
     Vote { view: u32, vote: Option<NodeId> },
-    /// The entries behind a place were taken away.
+    /// The entries after a place were taken away.
     Cut { to: u64 },
     /// An entry was appended.
     Append { frame: &'a [u8] },
@@ -86,7 +86,7 @@ pub fn batch_len(records: &[Record<'_>]) -> Option<u64>
     Some(len)
 }
 
-/// Bytes behind others that have room for them.
+/// Bytes after others that have room for them.
 fn put_all(out: &mut Vec<u8>, bytes: &[u8])
     requires { vec_len out.old + length bytes.now ≤ vec_capacity out.old }
     ensures put { out.new.items ≡ out.old.items ++ bytes.now }
@@ -206,7 +206,7 @@ pub(crate) fn put_key(out: &mut Vec<u8>, key: &Key)
     put_all(out, &key.seed);
 }
 
-/// A record behind others, in memory that was taken before.
+/// A record after others, in memory that was taken before.
 #[tactic(auto, unfolding(gl_base::specs::LittleEndian::little_endian))]
 fn put_record(out: &mut Vec<u8>, one: &Record<'_>)
     requires room { vec_len out.old + length (record_bytes (record_value one.now))

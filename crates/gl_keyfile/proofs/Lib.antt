@@ -1,3 +1,3 @@
 pub mod Folding
 pub mod Bounds
-pub mod Keeping
+pub mod UnwrittenFiles

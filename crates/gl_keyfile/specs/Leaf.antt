@@ -13,7 +13,7 @@ after_leaf Signature state = record state { reserved = state.reserved + 1 }
 after_leaf Start state =
     record state { reserved = state.reserved + 1; start = Some (state.reserved + 1) }
 
--- What a file opens to once its next leaves are taken for these uses, one behind the other.
+-- What a file opens to once its next leaves are taken for these uses, one after the other.
 abbrev pub after_leaves : List LeafUse → Durable → Durable
 after_leaves [] state = state
 after_leaves (leaf_use ∷ others) state = after_leaves others (after_leaf leaf_use state)

@@ -1,4 +1,4 @@
 pub mod Form
 pub mod KeyFile
 pub mod Leaf
-pub mod Signing
+pub mod SigningRequest

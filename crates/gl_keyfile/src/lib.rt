@@ -9,11 +9,11 @@ mod form;
 mod key_file;
 mod laws;
 mod leaf;
-mod signing;
+mod signature;
 
 pub use fault::KeyFileFault;
 pub use form::key_form;
 pub use key_file::KeyFile;
 pub use laws::no_leaf_is_taken_twice;
 pub use leaf::{LeafUse, TakenLeaf};
-pub use signing::Signing;
+pub use signature::Signing;

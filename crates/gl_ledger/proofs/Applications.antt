@@ -22,10 +22,10 @@ use Rattle.gl_entry.specs.declared.entry.Entry.{Entry}
 use Rattle.gl_ledger.specs.ServiceRow.{service_state}
 use Rattle.gl_ledger.specs.Tree.{tables_of}
 use Rattle.gl_ledger.specs.Ledger.{application_entry, execute_result, execute_in, run_result, within_limits}
-use Rattle.gl_ledger.specs.declared.made.Given.{Given}
-use Rattle.gl_ledger.specs.declared.made.Given.TheVariants.{Replied}
-use Rattle.gl_ledger.specs.declared.made.Unmade.{Unmade}
-use Rattle.gl_ledger.specs.declared.made.Unmade.TheVariants.{ByStore, Unspelled}
+use Rattle.gl_ledger.specs.declared.response.Response.{Response}
+use Rattle.gl_ledger.specs.declared.response.Response.TheVariants.{Replied}
+use Rattle.gl_ledger.specs.declared.response.Rejection.{Rejection}
+use Rattle.gl_ledger.specs.declared.response.Rejection.TheVariants.{ByStore, Unencodable}
 use Rattle.gl_ledger.specs.Makers.{with_reply, request_result}
 use Rattle.gl_requests.specs.declared.genesis.ServiceState.{ServiceState}
 use Rattle.gl_requests.specs.declared.genesis.ServiceState.TheVariants.{Opening, Open, WaitingForRecoveryShares}
@@ -80,7 +80,8 @@ within_limits_ok ledger made e reply a h =
         let place : length ledger < last_seqno = grind (arith, nat_tests) in
         (both.0, both.1, small, short, place)
 
--- what execute_result gives: an open service, a run, its entry and its answers, and that nothing is above its limit
+-- what execute_result gives: an open service, a run, its entry and its answers, and that nothing is
+-- above its limit
 pub execute_ok : (ledger : List Entry) (view : ℕ) (q : List Operation) (e : Entry) (a : List Answer) → execute_result ledger view q ≡ Ok (e, a) →
     (service_state (tables_of ledger) ≡ Open) × (ran : Ran) × (run q (tables_of ledger) ≡ Ok ran) × (e ≡ application_entry ledger view q ran) × (a ≡ ran.reply)
     × (length (body_bytes e) ≤ body_limit) × (length (reply_bytes a) ≤ body_limit) × (length ledger < last_seqno)
@@ -107,7 +108,8 @@ execute_ok ledger view q e a h = go (service_state (tables_of ledger)) refl h
     go WaitingForRecoveryShares is p = absurd (cc)
     go Open is p = let r = ran_ok (run q (tables_of ledger)) p in (is, r.0, r.1, r.2, r.3, r.4, r.5, r.6)
 
--- what execute_result gives where the request ran: its entry and its answers, unless a limit is passed
+-- what execute_result gives where the request ran: its entry and its answers, unless a limit is
+-- passed
 pub execute_ran : (ledger : List Entry) (view : ℕ) (q : List Operation) (ran : Ran) → service_state (tables_of ledger) ≡ Open →
     run q (tables_of ledger) ≡ Ok ran → execute_result ledger view q ≡ within_limits ledger (application_entry ledger view q ran) ran.reply
 execute_ran ledger view q ran is_open runs =
@@ -132,35 +134,36 @@ execute_within ledger view q ran e is_open runs made body reply left =
 pub application_made : (ledger : List Entry) (view place : ℕ) (q : List Operation) (ran : Ran) (reply : List ℕ) (e : Entry) →
     e ≡ record { view = view; seqno = place; content = content.Application (request_bytes q); writes = ran.writes; claims = sha256 reply } →
     place ≡ length ledger + 1 → reply ≡ reply_bytes ran.reply → e ≡ application_entry ledger view q ran
-application_made ledger view place q ran reply e made at spelled = made ∙ rw (at, spelled) refl
+application_made ledger view place q ran reply e made at encoded = made ∙ rw (at, encoded) refl
 
--- the entry that is made where the request ran, and the body, the reply and the seqno are within their limits
+-- the entry that is made where the request ran, and the body, the reply and the seqno are within
+-- their limits
 pub made_within : (ledger : List Entry) (view seqno : ℕ) (q : List Operation) (ran : Ran) (reply body : List ℕ) (e : Entry) → service_state (tables_of ledger) ≡ Open →
     run q (tables_of ledger) ≡ Ok ran →
     e ≡ record { view = view; seqno = seqno; content = content.Application (request_bytes q); writes = ran.writes; claims = sha256 reply } →
     seqno ≡ length ledger + 1 → reply ≡ reply_bytes ran.reply → body ≡ body_bytes e → length body ≤ body_limit → length reply ≤ body_limit → seqno ≤ last_seqno →
     execute_result ledger view q ≡ Ok (e, ran.reply)
-made_within ledger view seqno q ran reply body e is_open runs made at spelled sized small short named =
-    execute_within ledger view q ran e is_open runs (application_made ledger view seqno q ran reply e made at spelled)
-    (subst (λ (xs : List ℕ). length xs ≤ body_limit) sized small) (subst (λ (xs : List ℕ). length xs ≤ body_limit) spelled short) (omega (arith, at, named))
+made_within ledger view seqno q ran reply body e is_open runs made at encoded sized small short named =
+    execute_within ledger view q ran e is_open runs (application_made ledger view seqno q ran reply e made at encoded)
+    (subst (λ (xs : List ℕ). length xs ≤ body_limit) sized small) (subst (λ (xs : List ℕ). length xs ≤ body_limit) encoded short) (omega (arith, at, named))
 
 -- ---- the same in the book's words
 
--- a request that bytes spell
-pub request_spelled : (ledger : List Entry) (view : ℕ) (q : List Operation) → is_request q ≡ true →
+-- a request that bytes encode
+pub request_encoded : (ledger : List Entry) (view : ℕ) (q : List Operation) → is_request q ≡ true →
     request_result ledger view q ≡ with_reply (execute_result ledger view q)
-request_spelled ledger view q fits =
-    ap (λ (b : Bool). if b then with_reply (execute_result ledger view q) else Err Unspelled) fits
+request_encoded ledger view q fits =
+    ap (λ (b : Bool). if b then with_reply (execute_result ledger view q) else Err Unencodable) fits
 
 pub request_made : (ledger : List Entry) (view : ℕ) (q : List Operation) (e : Entry) (a : List Answer) → is_request q ≡ true →
     execute_result ledger view q ≡ Ok (e, a) → request_result ledger view q ≡ Ok (e, Replied a)
-request_made ledger view q e a fits made = request_spelled ledger view q fits ∙ ap with_reply made
+request_made ledger view q e a fits made = request_encoded ledger view q fits ∙ ap with_reply made
 
 pub request_refused : (ledger : List Entry) (view : ℕ) (q : List Operation) (why : Refusal) → is_request q ≡ true →
     execute_result ledger view q ≡ Err why → request_result ledger view q ≡ Err (ByStore why)
-request_refused ledger view q why fits refused = request_spelled ledger view q fits ∙ ap with_reply refused
+request_refused ledger view q why fits refused = request_encoded ledger view q fits ∙ ap with_reply refused
 
-abbrev replying : Entry → List Answer → Result (Entry × Given) Unmade
+abbrev replying : Entry → List Answer → Result (Entry × Response) Rejection
 replying e a = Ok (e, Replied a)
 
 -- what an application request makes in the book's words is what the ledger makes of it
@@ -169,11 +172,11 @@ pub request_ok : (ledger : List Entry) (view : ℕ) (q : List Operation) (e : En
 request_ok ledger view q e a h = go (is_request q) refl (execute_result ledger view q) refl h
   where
     go : (b : Bool) → is_request q ≡ b → (r : Result (Entry × List Answer) Refusal) → execute_result ledger view q ≡ r →
-        (if b then with_reply r else Err Unspelled) ≡ replying e a → (is_request q ≡ true) × (execute_result ledger view q ≡ Ok (e, a))
+        (if b then with_reply r else Err Unencodable) ≡ replying e a → (is_request q ≡ true) × (execute_result ledger view q ≡ Ok (e, a))
     go false is r from p = absurd (cc)
     go true is (Err why) from p = absurd (cc)
     go true is (Ok done) from p =
         let one : (done.0, Replied done.1) ≡ (e, Replied a) = cc in
-        let reply : Replied done.1 ≡ Replied a = ap (λ (t : Entry × Given). t.1) one in
+        let reply : Replied done.1 ≡ Replied a = ap (λ (t : Entry × Response). t.1) one in
         let answers : done.1 ≡ a = cc in
-        (is, from ∙ ap₂ given (ap (λ (t : Entry × Given). t.0) one) answers)
+        (is, from ∙ ap₂ given (ap (λ (t : Entry × Response). t.0) one) answers)

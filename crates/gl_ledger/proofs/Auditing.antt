@@ -14,9 +14,9 @@ module _ (layers : Layers) where
   abbrev Follow : List Entry → ℕ → Type 0
   Follow ledger n = (i : ℕ) (e : Entry) → i < n → slice_get ledger i ≡ Some e → broken layers (take i ledger) e ≡ None
 
-  front : (xs ys : List Entry) → take (length xs) (xs ++ ys) ≡ xs
-  front [] ys = refl
-  front (x ∷ xs) ys = ap (λ (l : List Entry). x ∷ l) (front xs ys)
+  prefix : (xs ys : List Entry) → take (length xs) (xs ++ ys) ≡ xs
+  prefix [] ys = refl
+  prefix (x ∷ xs) ys = ap (λ (l : List Entry). x ∷ l) (prefix xs ys)
 
   there : (xs ys : List Entry) (y : Entry) → slice_get (xs ++ y ∷ ys) (length xs) ≡ Some y
   there [] ys y = refl
@@ -28,7 +28,7 @@ module _ (layers : Layers) where
       (λ (u : length before ≤ i).
       let same : i ≡ length before = omega arith in
       let is : d ≡ e = let w : slice_get (before ++ e ∷ es) (length before) ≡ Some d = ap (slice_get (before ++ e ∷ es)) (sym same) ∙ at in let v = there before es e in cc in
-      ap (λ (k : ℕ). broken layers (take k (before ++ e ∷ es)) d) same ∙ ap (λ (l : List Entry). broken layers l d) (front before (e ∷ es)) ∙ ap (broken layers before) is ∙ one)
+      ap (λ (k : ℕ). broken layers (take k (before ++ e ∷ es)) d) same ∙ ap (λ (l : List Entry). broken layers l d) (prefix before (e ∷ es)) ∙ ap (broken layers before) is ∙ one)
       (cases_lt i (length before))
 
   moved : (before es : List Entry) (e : Entry) → (before ++ e ∷ []) ++ es ≡ before ++ e ∷ es
@@ -63,7 +63,7 @@ module _ (layers : Layers) where
             seqno = omega arith;
             entry = e;
             at = there before es e;
-            breaks = ap (λ (l : List Entry). broken layers l e) (front before (e ∷ es)) ∙ is;
+            breaks = ap (λ (l : List Entry). broken layers l e) (prefix before (e ∷ es)) ∙ is;
             follow = f;
           })
       go None is w again =

@@ -1,4 +1,5 @@
--- In a valid ledger the commits that signatures record never fall, and the last one is the greatest.
+-- In a valid ledger the commits that signatures record never fall, and the last one is the
+-- greatest.
 use Rattle.std.proofs.Common.{◌≡◌, ℕ, zero, suc, ◌+◌, ◌≤◌, List, [], ◌∷◌, ◌++◌, length, Bool, true, false, ◌&&◌, ◌==◌, nat_le, max, if◌then◌else◌, Option, Some, None, refl, sym, ap, ◌∙◌, arith, length-append}
 use Rattle.std.specs.List.{list_all}
 use Rattle.std.proofs.lemmas.Bool.{and_parts}
@@ -22,7 +23,7 @@ use Rattle.gl_ledger.specs.NodeKeys.{NodeKeys}
 use Rattle.gl_ledger.specs.declared.recording.Recording.{Recording}
 use Rattle.gl_ledger.specs.declared.recording.Recording.TheVariants as recordings
 use Rattle.gl_ledger.specs.Recordings.{last_entry, recording_of, recorded_nodes}
-use Rattle.gl_ledger.specs.Broken.{is_unopened, broken_by, signs_at, commit_behind, commit_from, last_commit, is_later_commit, may_record, broken}
+use Rattle.gl_ledger.specs.Broken.{is_unopened, broken_by, signs_at, commit_after, commit_from, last_commit, is_later_commit, may_record, broken}
 use Rattle.gl_ledger.specs.LedgerBook.{ledger_book}
 use Rattle.gl_ledger.proofs.Passing.{passed, Passes, passing}
 use Rattle.gl_ledger.proofs.Lawful.{unbroken}
@@ -32,9 +33,9 @@ module _ (layers : Layers) (keys : NodeKeys) where
     pub greatest : greatest_recorded (ledger_book layers keys) ledger ≤ last_commit ledger
     pub within : last_commit ledger ≤ length ledger
 
-  commit_push : (commit : ℕ) (es : List Entry) (e : Entry) → commit_from commit (es ++ e ∷ []) ≡ commit_behind (commit_from commit es) e.content
+  commit_push : (commit : ℕ) (es : List Entry) (e : Entry) → commit_from commit (es ++ e ∷ []) ≡ commit_after (commit_from commit es) e.content
   commit_push commit [] e = refl
-  commit_push commit (f ∷ es) e = commit_push (commit_behind commit f.content) es e
+  commit_push commit (f ∷ es) e = commit_push (commit_after commit f.content) es e
 
   greatest_push : (es : List Entry) (e : Entry) → greatest_recorded (ledger_book layers keys) (es ++ e ∷ []) ≡ max (greatest_recorded (ledger_book layers keys) es) (if is_signature e.content then recorded_commit e.content else 0)
   unfolding greatest_recorded
@@ -80,7 +81,7 @@ module _ (layers : Layers) (keys : NodeKeys) where
       p : Passes layers ledger e
       p = passing layers ledger e h
 
-      go : (x : Content) → e.content ≡ x → last_commit (ledger ++ e ∷ []) ≡ commit_behind (last_commit ledger) e.content →
+      go : (x : Content) → e.content ≡ x → last_commit (ledger ++ e ∷ []) ≡ commit_after (last_commit ledger) e.content →
           greatest_recorded (ledger_book layers keys) (ledger ++ e ∷ []) ≡ max (greatest_recorded (ledger_book layers keys) ledger) (if is_signature e.content then recorded_commit e.content else 0) →
           length (ledger ++ e ∷ []) ≡ length ledger + 1 → KeepsCommits (ledger ++ e ∷ [])
       go (content.Signature s) is c g l =
@@ -90,22 +91,22 @@ module _ (layers : Layers) (keys : NodeKeys) where
           let two = passed (same_bytes s.root (root_of (leaves_of ledger))) _ _ one.1 in
           let three = passed (may_record ledger s.commit) _ _ two.1 in
           let low = signed_commit ledger s s.commit k three.0 in
-          let c' : last_commit (ledger ++ e ∷ []) ≡ s.commit = c ∙ ap (commit_behind (last_commit ledger)) is in
+          let c' : last_commit (ledger ++ e ∷ []) ≡ s.commit = c ∙ ap (commit_after (last_commit ledger)) is in
           let g' : greatest_recorded (ledger_book layers keys) (ledger ++ e ∷ []) ≡ max (greatest_recorded (ledger_book layers keys) ledger) s.commit =
           g ∙ ap (λ (x : Content). max (greatest_recorded (ledger_book layers keys) ledger) (if is_signature x then recorded_commit x else 0)) is in
           record { greatest = omega (arith, k.greatest, low.0); within = omega (arith, low.1) }
       go (content.Governance b) is c g l =
-          let c' : last_commit (ledger ++ e ∷ []) ≡ last_commit ledger = c ∙ ap (commit_behind (last_commit ledger)) is in
+          let c' : last_commit (ledger ++ e ∷ []) ≡ last_commit ledger = c ∙ ap (commit_after (last_commit ledger)) is in
           let g' : greatest_recorded (ledger_book layers keys) (ledger ++ e ∷ []) ≡ max (greatest_recorded (ledger_book layers keys) ledger) 0 =
           g ∙ ap (λ (x : Content). max (greatest_recorded (ledger_book layers keys) ledger) (if is_signature x then recorded_commit x else 0)) is in
           record { greatest = omega (arith, k.greatest); within = omega (arith, k.within) }
       go (content.Application b) is c g l =
-          let c' : last_commit (ledger ++ e ∷ []) ≡ last_commit ledger = c ∙ ap (commit_behind (last_commit ledger)) is in
+          let c' : last_commit (ledger ++ e ∷ []) ≡ last_commit ledger = c ∙ ap (commit_after (last_commit ledger)) is in
           let g' : greatest_recorded (ledger_book layers keys) (ledger ++ e ∷ []) ≡ max (greatest_recorded (ledger_book layers keys) ledger) 0 =
           g ∙ ap (λ (x : Content). max (greatest_recorded (ledger_book layers keys) ledger) (if is_signature x then recorded_commit x else 0)) is in
           record { greatest = omega (arith, k.greatest); within = omega (arith, k.within) }
       go (content.Evidence d) is c g l =
-          let c' : last_commit (ledger ++ e ∷ []) ≡ last_commit ledger = c ∙ ap (commit_behind (last_commit ledger)) is in
+          let c' : last_commit (ledger ++ e ∷ []) ≡ last_commit ledger = c ∙ ap (commit_after (last_commit ledger)) is in
           let g' : greatest_recorded (ledger_book layers keys) (ledger ++ e ∷ []) ≡ max (greatest_recorded (ledger_book layers keys) ledger) 0 =
           g ∙ ap (λ (x : Content). max (greatest_recorded (ledger_book layers keys) ledger) (if is_signature x then recorded_commit x else 0)) is in
           record { greatest = omega (arith, k.greatest); within = omega (arith, k.within) }

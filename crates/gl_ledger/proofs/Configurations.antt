@@ -1,4 +1,5 @@
--- The configuration that begins with an entry is the set of nodes that are trusted there, and one that is in force at a seqno is that of the nodes that are trusted there too.
+-- The configuration that begins with an entry is the set of nodes that are trusted there, and one
+-- that is in force at a seqno is that of the nodes that are trusted there too.
 use Rattle.std.proofs.Common.{◌≡◌, ℕ, zero, suc, ◌-◌, ◌≤◌, List, [], ◌∷◌, length, take, Option, Some, None, Bool, true, false, refl, sym, ◌∙◌, ap, arith, if◌then◌else◌}
 use Rattle.std.proofs.lemmas.Bool.{and_parts}
 use Rattle.std.proofs.lemmas.List.{length-take-le, take-take}

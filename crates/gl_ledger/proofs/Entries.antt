@@ -1,4 +1,5 @@
--- Which entries fit their format: those whose fields are in their ranges and whose body is small enough.
+-- Which entries fit their format: those whose fields are in their ranges and whose body is small
+-- enough.
 use Rattle.std.proofs.Common.{◌≡◌, ℕ, ◌+◌, ◌<◌, ◌≤◌, ◌^◌, nat_lt, nat_le, List, ◌∷◌, ◌++◌, length, Bool, true, ◌&&◌, ◌||◌, refl, ◌∙◌, ap, arith, length-append}
 use Rattle.std.specs.List.{list_all, flat_map, AllByRecursion}
 use Rattle.std.specs.Cmp.Lexicographic.{bytes_decides}

@@ -7,7 +7,7 @@ use Rattle.gl_ledger.specs.Layers.{Layers}
 use Rattle.gl_ledger.specs.declared.breach.Broken.{Broken}
 
 module _ (layers : Layers) where
-  -- behind entries that break no rule it is that of the others
+  -- after entries that break no rule it is that of the others
   pub fault_from-append : (before xs ys : List Entry) → fault_from layers before xs ≡ None → fault_from layers before (xs ++ ys) ≡ fault_from layers (before ++ xs) ys
   fault_from-append before [] ys none = ap (λ (l : List Entry). fault_from layers l ys) (sym (append-nil before))
   fault_from-append before (x ∷ xs) ys none = go (broken layers before x) none (λ h. fault_from-append (before ++ x ∷ []) xs ys h)
@@ -25,7 +25,7 @@ module _ (layers : Layers) where
       ap (λ (o : Option Broken). fault_or (length ledger + 1) o (fault_from layers (ledger ++ e ∷ []) more)) is
       ∙ ap (λ (n : ℕ). Some (record { seqno = n; broken = b })) next
 
-  pub broken_behind : (ledger : List Entry) (e : Entry) (more : List Entry) (b : Broken) → audited layers ledger ≡ None → broken layers ledger e ≡ Some b →
+  pub broken_after : (ledger : List Entry) (e : Entry) (more : List Entry) (b : Broken) → audited layers ledger ≡ None → broken layers ledger e ≡ Some b →
       audited layers (ledger ++ e ∷ more) ≡ Some (record { seqno = suc (length ledger); broken = b })
   unfolding audited
-  broken_behind ledger e more b none is = fault_from-append [] ledger (e ∷ more) none ∙ broken_first ledger e more b is
+  broken_after ledger e more b none is = fault_from-append [] ledger (e ∷ more) none ∙ broken_first ledger e more b is

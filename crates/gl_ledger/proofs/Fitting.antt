@@ -22,7 +22,7 @@ use Rattle.gl_hss.proofs.Octets.{sha256_bytes}
 use Rattle.gl_ledger.proofs.Entries.{application_fits, is_entry-from_fields}
 use Rattle.gl_ledger.proofs.RequestBytes.{request_are_bytes}
 
--- what a request makes behind a ledger fits its format, in a view of four bytes
+-- what a request makes after a ledger fits its format, in a view of four bytes
 pub execute_fits : (ledger : List Entry) (view : ℕ) (q : List Operation) (e : Entry) (a : List Answer) → view < 2 ^ 32 → is_request q ≡ true → execute_result ledger view q ≡ Ok (e, a) → is_entry e ≡ true
 execute_fits ledger view q e a low fits h =
     let made = execute_ok ledger view q e a h in

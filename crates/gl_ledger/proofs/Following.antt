@@ -1,4 +1,5 @@
--- What may follow a ledger: the view that the next entry may have, and the places that may be committed.
+-- What may follow a ledger: the view that the next entry may have, and the places that may be
+-- committed.
 use Rattle.std.proofs.Common.{◌≡◌, ℕ, zero, suc, ◌+◌, ◌<◌, ◌≤◌, List, [], ◌∷◌, ◌++◌, length, Some, Ok, Err, Bool, true, false, nat_lt, refl, sym, subst, arith, ⊎_elim, if◌then◌else◌}
 use Rattle.std.specs.List.{slice_get}
 use Rattle.std.proofs.lemmas.Bool.Decides.{nat_tests}

@@ -1,4 +1,5 @@
--- The service's key in a sound ledger: it has its size, and without a recovery it is that of the genesis.
+-- The service's key in a sound ledger: it has its size, and without a recovery it is that of the
+-- genesis.
 use Rattle.std.proofs.Common.{◌≡◌, ℕ, suc, ◌<◌, List, [], ◌∷◌, ◌++◌, length, take, Option, Some, None, Result, Ok, Err, Bool, true, false, ◌&&◌, refl, sym, ◌∙◌, ap, subst, arith, slice_get}
 use Rattle.std.specs.FinMap as rows
 use Rattle.std.specs.List.{list_any}
@@ -8,14 +9,14 @@ use Rattle.std.proofs.lemmas.List.Folds.{list_any-append}
 use Rattle.gl_base.specs.Bytes.{are_sized}
 use Rattle.gl_base.specs.declared.fault.CodeFault.{CodeFault}
 use Rattle.gl_vmaps.specs.Tables.{Rows}
-use Rattle.gl_tx.specs.Reading.{request_of}
+use Rattle.gl_tx.specs.Parsing.{request_of}
 use Rattle.gl_tx.specs.declared.request.Operation.{Operation}
 use Rattle.gl_entry.specs.declared.entry.Content.{Content}
 use Rattle.gl_entry.specs.declared.entry.Content.TheVariants as content
 use Rattle.gl_entry.specs.declared.entry.Entry.{Entry}
-use Rattle.gl_requests.specs.Spelling.{request_bytes}
+use Rattle.gl_requests.specs.Encoding.{request_bytes}
 use Rattle.gl_requests.specs.Ranges as ranges
-use Rattle.gl_requests.specs.Reading.{request_in}
+use Rattle.gl_requests.specs.Parsing.{request_in}
 use Rattle.gl_requests.proofs.Sizes.{sized_length}
 use Rattle.gl_requests.specs.declared.genesis.Genesis as founding
 use Rattle.gl_requests.specs.declared.request.GovernanceRequest.{GovernanceRequest}
@@ -26,7 +27,7 @@ use Rattle.gl_gov_rules.specs.Service.{identity}
 use Rattle.gl_gov_rules.specs.Rows.{service_map, service_key, effect}
 use Rattle.gl_gov_rules.specs.Governed as rules
 use Rattle.gl_gov_rules.proofs.FoundingReadings.{founding_recorded}
-use Rattle.gl_gov_rules.proofs.RowOfService.{service_value, founded_row, identity_told}
+use Rattle.gl_gov_rules.proofs.RowOfService.{service_value, founded_row, identity_reported}
 use Rattle.gl_gov_rules.proofs.KeptIdentity as kept
 use Rattle.gl_ledger.specs.Layers.{Layers}
 use Rattle.gl_ledger.specs.Recordings.{governance_recording, application_recording, records_founding, records_recovery, recording_of, founds, recovers, recorded_at, recorded_in, requests_from, requests_of}
@@ -36,7 +37,7 @@ use Rattle.gl_ledger.specs.Ledger.{genesis_entry}
 use Rattle.gl_ledger.specs.Sound.{IsSound, IsUnrecovered}
 use Rattle.gl_ledger.proofs.Identities.{identity_fits}
 use Rattle.gl_ledger.proofs.Governed.{governed}
-use Rattle.gl_ledger.proofs.RequestSpellings.{request_in-read}
+use Rattle.gl_ledger.proofs.RequestEncodings.{request_in-read}
 
 -- ---- the entry that founds
 
@@ -78,12 +79,12 @@ pub founding_requests : (f : Entry) (es : List Entry) (by : FoundedBy f) → req
 founding_requests f es by =
     ap (λ (c : Content). recorded_in 1 c ++ requests_from 2 es) by.content_is ∙ ap (λ (o : Option GovernanceRequest). recorded_at 1 o ++ requests_from 2 es) by.reads
 
--- ---- entries that found nothing anew
+-- ---- entries that recover nothing
 
 abbrev recovers_in : List Recorded → Bool
 recovers_in rs = list_any (λ (r : Recorded). rules.is_recovery r.request) rs
 
--- an entry that founds nothing anew records no recovery
+-- an entry that recovers nothing records no recovery
 none_in : (seqno : ℕ) (c : Content) → records_recovery (recording_of c) ≡ false → recovers_in (recorded_in seqno c) ≡ false
 none_in seqno (content.Application bytes) h = refl
 none_in seqno (content.Signature s) h = refl
@@ -104,10 +105,10 @@ none_recover seqno (e ∷ es) each =
 -- ---- the key
 
 -- the service's row tells the key that is in force
-pub told_key : (r : Recorded) (rs : List Recorded) (key : List ℕ) → rules.IsGoverned (r ∷ rs) → identity (history (r ∷ rs)) ≡ Some key → identity_in (effect (r ∷ rs)) ≡ key
-told_key r rs key all is =
+pub reported_key : (r : Recorded) (rs : List Recorded) (key : List ℕ) → rules.IsGoverned (r ∷ rs) → identity (history (r ∷ rs)) ≡ Some key → identity_in (effect (r ∷ rs)) ≡ key
+reported_key r rs key all is =
     let row = founded_row r rs all in
-    ap identity_of_value (service_value (r ∷ rs) row.0 row.1) ∙ same_Some row.0.identity key (sym (identity_told (r ∷ rs) row.0 row.1) ∙ is)
+    ap identity_of_value (service_value (r ∷ rs) row.0 row.1) ∙ same_Some row.0.identity key (sym (identity_reported (r ∷ rs) row.0 row.1) ∙ is)
 
 module _ (layers : Layers) (e : Entry) (es : List Entry) (sound : IsSound layers (e ∷ es)) (none : IsUnrecovered (e ∷ es)) (by : FoundedBy e) where
   -- the key of the genesis is in force, where no recovery follows
@@ -117,11 +118,12 @@ module _ (layers : Layers) (e : Entry) (es : List Entry) (sound : IsSound layers
       let are = founding_requests e es by in
       let all : rules.IsGoverned (founding_recorded by.genesis ∷ more) = subst rules.IsGoverned are (governed layers (e ∷ es) sound) in
       ap (λ (r : Rows). identity_of_value (rows.get r service_key)) (sound.governed service_map refl ∙ ap (λ (rs : List Recorded). effect rs service_map) are)
-      ∙ told_key (founding_recorded by.genesis) more by.genesis.identity all
+      ∙ reported_key (founding_recorded by.genesis) more by.genesis.identity all
       (kept.founded_identity by.genesis more all (none_recover 2 es (λ i f at. none (suc i) f at)))
 
 module _ (layers : Layers) where
-  -- of a sound ledger that begins with a genesis, and in which no recovery follows, the key of the genesis is the service's
+  -- of a sound ledger that begins with a genesis, and in which no recovery follows, the key of the
+  -- genesis is the service's
   pub founded_identity : (g : founding.Genesis) (ledger : List Entry) → IsSound layers ledger → IsUnrecovered ledger → slice_get ledger 0 ≡ Some (genesis_entry g) → ranges.is_genesis g ≡ true →
       identity_in (tables_of ledger) ≡ g.identity
   founded_identity g [] sound none first fits = absurd (cc)
@@ -143,11 +145,11 @@ module _ (layers : Layers) where
       let rs : List Recorded = founding_recorded by.genesis ∷ requests_from 2 es in
       let all : rules.IsGoverned rs = subst rules.IsGoverned are (governed layers (e ∷ es) sound) in
       let row = founded_row (founding_recorded by.genesis) (requests_from 2 es) all in
-      let told = identity_told rs row.0 row.1 in
+      let reported = identity_reported rs row.0 row.1 in
       let is : identity_in (tables_of (e ∷ es)) ≡ row.0.identity =
       ap (λ (r : Rows). identity_of_value (rows.get r service_key)) (sound.governed service_map refl ∙ ap (λ (rs : List Recorded). effect rs service_map) are)
-      ∙ told_key (founding_recorded by.genesis) (requests_from 2 es) row.0.identity all told in
-      ap (are_sized 60) is ∙ identity_fits rs all row.0.identity told
+      ∙ reported_key (founding_recorded by.genesis) (requests_from 2 es) row.0.identity all reported in
+      ap (are_sized 60) is ∙ identity_fits rs all row.0.identity reported
 
   -- so it has 60 bytes
   pub length_identity : (ledger : List Entry) → IsSound layers ledger → 0 < length ledger → length (identity_in (tables_of ledger)) ≡ 60

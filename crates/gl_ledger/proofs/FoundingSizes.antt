@@ -12,7 +12,7 @@ use Rattle.gl_vmaps.specs.Writes.{write_order, with_write, put_before}
 use Rattle.gl_vmaps.specs.Changes.{row, set_from}
 use Rattle.gl_vmaps.specs.declared.write.Write.{Write}
 use Rattle.gl_entry.specs.Entry.{write_bytes}
-use Rattle.gl_requests.specs.Spelling.{state_byte, node_bytes, member_bytes, share_bytes, counted_bytes, dealing_bytes, request_bytes}
+use Rattle.gl_requests.specs.Encoding.{state_byte, node_bytes, member_bytes, share_bytes, counted_bytes, dealing_bytes, request_bytes}
 use Rattle.gl_requests.specs.Ranges.{is_node, is_member, is_share, is_genesis}
 use Rattle.gl_requests.specs.declared.genesis.NewNode.{NewNode}
 use Rattle.gl_requests.specs.declared.genesis.NewMember.{NewMember}

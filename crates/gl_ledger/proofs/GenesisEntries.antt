@@ -5,7 +5,7 @@ use Rattle.gl_rules.specs.World.{first_view}
 use Rattle.gl_vmaps.specs.declared.write.Write.{Write}
 use Rattle.gl_vmaps.proofs.WriteLaws.{all_writes}
 use Rattle.gl_entry.specs.Entry.{no_digest, is_entry, write_bytes}
-use Rattle.gl_requests.specs.Spelling.{request_bytes}
+use Rattle.gl_requests.specs.Encoding.{request_bytes}
 use Rattle.gl_requests.specs.Ranges.{is_genesis}
 use Rattle.gl_requests.specs.declared.genesis.Genesis as founding
 use Rattle.gl_requests.specs.declared.request.GovernanceRequest.TheVariants as requests

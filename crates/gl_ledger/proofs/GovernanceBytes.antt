@@ -1,11 +1,11 @@
--- A request of governance in its ranges is spelled by bytes.
+-- A request of governance in its ranges is encoded by bytes.
 use Rattle.std.proofs.Common.{◌≡◌, ℕ, List, [], ◌∷◌, ◌++◌, length, Bool, true, false, ◌&&◌, nat_le, nat_lt, refl}
 use Rattle.std.specs.List.{list_all}
 use Rattle.std.proofs.lemmas.Bool.{and_parts}
 use Rattle.gl_base.specs.Bytes.{is_byte, are_bytes, are_sized, mebibyte}
 use Rattle.gl_base.specs.Code.{flag_byte}
 use Rattle.gl_base.specs.Field.{with_u32_length}
-use Rattle.gl_requests.specs.Spelling.{state_byte, counted_bytes, node_bytes, member_bytes, dealing_bytes, action_bytes, act_tag, act_fields, act_bytes, request_bytes}
+use Rattle.gl_requests.specs.Encoding.{state_byte, counted_bytes, node_bytes, member_bytes, dealing_bytes, action_bytes, act_tag, act_fields, act_bytes, request_bytes}
 use Rattle.gl_requests.specs.Ranges.{is_signature_field, are_counted, is_node, is_member_number, is_member, is_dealing, is_action, is_action_count, is_act, is_first_state, is_genesis, is_recovery, is_member_request, is_request}
 use Rattle.gl_requests.specs.declared.genesis.ServiceState.{ServiceState}
 use Rattle.gl_requests.specs.declared.genesis.ServiceState.TheVariants as services
@@ -19,7 +19,7 @@ use Rattle.gl_requests.specs.declared.request.MemberRequest.{MemberRequest}
 use Rattle.gl_requests.specs.declared.request.GovernanceRequest.{GovernanceRequest}
 use Rattle.gl_requests.specs.declared.request.GovernanceRequest.TheVariants as requests
 use Rattle.gl_gov_rules.proofs.Digests.{bytes-append, one_byte, length_bytes, sized_bytes}
-use Rattle.gl_gov_rules.proofs.SpelledParts.{number_byte, member_parts, counted_are_bytes, dealing_are_bytes, action_are_bytes}
+use Rattle.gl_gov_rules.proofs.EncodedParts.{number_byte, member_parts, counted_are_bytes, dealing_are_bytes, action_are_bytes}
 
 -- an endorsement, or a signature
 field_bytes : (bytes : List ℕ) → is_signature_field bytes ≡ true → are_bytes bytes ≡ true
@@ -36,7 +36,7 @@ node_are_bytes n fits =
 member_are_bytes : (m : NewMember) → is_member m ≡ true → are_bytes (member_bytes m) ≡ true
 member_are_bytes m fits = let both = member_parts m fits in one_byte m.number m.key both.0 (sized_bytes 60 m.key both.1)
 
--- nodes, and members, behind their count
+-- nodes, and members, after their count
 nodes_are_bytes : (ns : List NewNode) → are_counted is_node ns ≡ true → are_bytes (counted_bytes node_bytes ns) ≡ true
 nodes_are_bytes ns fits = counted_are_bytes node_bytes is_node ns node_are_bytes (and_parts (nat_lt (length ns) 256) (list_all is_node ns) fits).1
 
@@ -45,7 +45,7 @@ members_are_bytes ms fits = counted_are_bytes member_bytes is_member ms member_a
 
 -- ---- foundings
 
--- the state of a service, and what founds one or founds it anew
+-- the state of a service, and what founds one or recovers it
 state_is_byte : (s : ServiceState) → is_byte (state_byte s) ≡ true
 state_is_byte services.Opening = refl
 state_is_byte services.Open = refl

@@ -5,12 +5,12 @@ use Rattle.gl_base.specs.declared.fault.CodeFault.{CodeFault}
 use Rattle.gl_base.proofs.Lists.{slice_get-within, slice_get-below, slice_get-of_take, take-next, take-all, take-past}
 use Rattle.gl_rules.specs.Safety.{EachFollows}
 use Rattle.gl_rules.proofs.Soundness.{follows_sound}
-use Rattle.gl_tx.specs.Reading.{request_of}
+use Rattle.gl_tx.specs.Parsing.{request_of}
 use Rattle.gl_tx.specs.declared.request.Operation.{Operation}
 use Rattle.gl_entry.specs.declared.entry.Content.{Content}
 use Rattle.gl_entry.specs.declared.entry.Content.TheVariants as content
 use Rattle.gl_entry.specs.declared.entry.Entry.{Entry}
-use Rattle.gl_requests.specs.Reading.{request_in}
+use Rattle.gl_requests.specs.Parsing.{request_in}
 use Rattle.gl_requests.specs.declared.request.GovernanceRequest.{GovernanceRequest}
 use Rattle.gl_gov_rules.specs.declared.change.Recorded.{Recorded}
 use Rattle.gl_gov_rules.specs.Governed as rules
@@ -91,10 +91,10 @@ nothing_recorded layers ledger sound h = nothing_where ledger (λ e s. (sound.fo
 -- ---- each request
 
 -- the first entries of a longer ledger are none only where none is asked for
-no_front : (k : ℕ) (es : List Entry) → k < length es → take k es ≡ [] → k ≡ 0
-no_front zero es low h = refl
-no_front (suc k) [] low h = absurd (omega (arith, low))
-no_front (suc k) (e ∷ es) low h = absurd (cc)
+no_prefix : (k : ℕ) (es : List Entry) → k < length es → take k es ≡ [] → k ≡ 0
+no_prefix zero es low h = refl
+no_prefix (suc k) [] low h = absurd (omega (arith, low))
+no_prefix (suc k) (e ∷ es) low h = absurd (cc)
 
 -- the first ones, one more than n, where there are no more than n
 same_all : (n : ℕ) (es : List Entry) → length es ≤ n → take n es ≡ take (suc n) es
@@ -113,7 +113,7 @@ module _ (layers : Layers) (ledger : List Entry) (sound : IsSound layers ledger)
           absurd (let w : is_nothing (requests_of (take 0 ledger)) ≡ false = ap (λ (k : ℕ). is_nothing (requests_of (take k ledger))) (sym none) ∙ q in cc)
       go false true p q =
           let empty : take i ledger ≡ [] = nothing_where (take i ledger) (λ f s. (sound.founded.first f (slice_get-of_take i ledger 0 f s).1).0) q in
-          let first : i ≡ 0 = no_front i ledger (slice_get-within ledger i e at) empty in
+          let first : i ≡ 0 = no_prefix i ledger (slice_get-within ledger i e at) empty in
           absurd (let w = (sound.founded.first e (ap (slice_get ledger) (sym first) ∙ at)).0 in let v = is ∙ p in let u = sym w ∙ v in cc)
 
   -- a request follows those that are recorded before it
@@ -158,29 +158,29 @@ module _ (layers : Layers) (ledger : List Entry) (sound : IsSound layers ledger)
 
 -- ---- one request more
 
--- what is read as a request of governance is spelled so
-spelled_as : (c : Content) (g : GovernanceRequest) → recording_of c ≡ Some (recordings.Governance g) → (bytes : List ℕ) × (c ≡ content.Governance bytes) × (request_in bytes ≡ Some g)
-spelled_as (content.Governance bytes) g h = (bytes, refl, go (request_in bytes) h)
+-- what is read as a request of governance is encoded so
+encoded_as : (c : Content) (g : GovernanceRequest) → recording_of c ≡ Some (recordings.Governance g) → (bytes : List ℕ) × (c ≡ content.Governance bytes) × (request_in bytes ≡ Some g)
+encoded_as (content.Governance bytes) g h = (bytes, refl, go (request_in bytes) h)
   where
     go : (o : Option GovernanceRequest) → governance_recording o ≡ Some (recordings.Governance g) → o ≡ Some g
     go None w = absurd (cc)
     go (Some q) w = let k : recordings.Governance q ≡ recordings.Governance g = cc in let same : q ≡ g = cc in ap Some same
-spelled_as (content.Application bytes) g h = absurd (go (request_of bytes) h)
+encoded_as (content.Application bytes) g h = absurd (go (request_of bytes) h)
   where
     go : (o : Result (List Operation) CodeFault) → application_recording o ≡ Some (recordings.Governance g) → ⊥
     go (Err fault) w = cc
     go (Ok q) w = cc
-spelled_as (content.Signature s) g h = absurd (cc)
-spelled_as (content.Evidence d) g h = absurd (cc)
+encoded_as (content.Signature s) g h = absurd (cc)
+encoded_as (content.Evidence d) g h = absurd (cc)
 
 -- the request of an entry that breaks no rule follows those that are recorded
 pub follows : (layers : Layers) (ledger : List Entry) (e : Entry) (g : GovernanceRequest) → IsSound layers ledger → broken layers ledger e ≡ None →
     recording_of e.content ≡ Some (recordings.Governance g) → Follows (requests_of ledger) (record { seqno = length ledger + 1; request = g })
 follows layers ledger e g sound h reads =
     let r : Recorded = record { seqno = length ledger + 1; request = g } in
-    let spelled = spelled_as e.content g reads in
+    let encoded = encoded_as e.content g reads in
     (governed_last (requests_of ledger) r
-    (subst rules.IsGoverned (requests-more ledger e spelled.0 g spelled.1 spelled.2) (governed layers (ledger ++ e ∷ []) (sound-push layers ledger e sound h)))).1
+    (subst rules.IsGoverned (requests-more ledger e encoded.0 g encoded.1 encoded.2) (governed layers (ledger ++ e ∷ []) (sound-push layers ledger e sound h)))).1
 
 -- ---- ledgers whose entries follow
 

@@ -1,4 +1,5 @@
--- The key of a service that was founded, whether or not it was recovered, is one that a request names, so it has its size.
+-- The key of a service that was founded, whether or not it was recovered, is one that a request
+-- names, so it has its size.
 use Rattle.std.proofs.Common.{◌≡◌, ℕ, List, [], ◌∷◌, ◌++◌, map, Option, Some, None, Bool, true, false, ◌&&◌, refl, sym, ◌∙◌, ap}
 use Rattle.std.specs.Option.{option_or}
 use Rattle.std.proofs.lemmas.Bool.{and_parts}
@@ -42,7 +43,7 @@ founding_set seqno g =
     ∙ ap (λ (o : Option (List ℕ)). option_or o None)
     (last_set-cons sets_identity dealt members ∙ ap (λ (o : Option (List ℕ)). option_or o None) (members_set seqno g.members)))
 
--- behind a request that names a key this one is the service's
+-- after a request that names a key this one is the service's
 named : (rs : List Recorded) (r : Recorded) (key : List ℕ) → last_set sets_identity (map (changed_at r.seqno) (changes_of (history rs) r)) ≡ Some key → identity (history (rs ++ r ∷ [])) ≡ Some key
 unfolding identity
 named rs r key is =
@@ -79,10 +80,10 @@ HasSizedKey rs = (key : List ℕ) → identity (history rs) ≡ Some key → are
 
 -- one that a request names
 sized_as : (rs : List Recorded) (named : List ℕ) → identity (history rs) ≡ Some named → are_sized 60 named ≡ true → HasSizedKey rs
-sized_as rs named is sized key told = ap (are_sized 60) (same_Some key named (sym told ∙ is)) ∙ sized
+sized_as rs named is sized key reported = ap (are_sized 60) (same_Some key named (sym reported ∙ is)) ∙ sized
 
-behind : (rs : List Recorded) (r : Recorded) → Follows rs r → HasSizedKey rs → HasSizedKey (rs ++ r ∷ [])
-behind rs r follows old = go r.request refl
+suffix : (rs : List Recorded) (r : Recorded) → Follows rs r → HasSizedKey rs → HasSizedKey (rs ++ r ∷ [])
+suffix rs r follows old = go r.request refl
   where
     whole : (q : GovernanceRequest) → r.request ≡ q → r ≡ record { seqno = r.seqno; request = q }
     whole q is = ap (λ (x : GovernanceRequest). record { seqno = r.seqno; request = x }) is
@@ -91,21 +92,21 @@ behind rs r follows old = go r.request refl
     fits q is = ap ranges.is_request (sym is) ∙ follows.fits
 
     go : (q : GovernanceRequest) → r.request ≡ q → HasSizedKey (rs ++ r ∷ [])
-    go (requests.Genesis g) is key told =
+    go (requests.Genesis g) is key reported =
         sized_as (rs ++ r ∷ []) g.identity (ap (λ (x : Recorded). identity (history (rs ++ x ∷ []))) (whole (requests.Genesis g) is) ∙ founding_named rs r.seqno g)
-        (genesis_sized g (fits (requests.Genesis g) is)) key told
-    go (requests.Recover q) is key told =
+        (genesis_sized g (fits (requests.Genesis g) is)) key reported
+    go (requests.Recover q) is key reported =
         sized_as (rs ++ r ∷ []) q.identity (ap (λ (x : Recorded). identity (history (rs ++ x ∷ []))) (whole (requests.Recover q) is) ∙ recovery_named rs r.seqno q)
-        (recovery_sized q (fits (requests.Recover q) is)) key told
-    go (requests.Join n) is key told = old key (sym (identity_kept rs r (ap is_founding is) (ap is_recovery is)) ∙ told)
-    go (requests.Mark id) is key told = old key (sym (identity_kept rs r (ap is_founding is) (ap is_recovery is)) ∙ told)
-    go (requests.Member m) is key told = old key (sym (identity_kept rs r (ap is_founding is) (ap is_recovery is)) ∙ told)
+        (recovery_sized q (fits (requests.Recover q) is)) key reported
+    go (requests.Join n) is key reported = old key (sym (identity_kept rs r (ap is_founding is) (ap is_recovery is)) ∙ reported)
+    go (requests.Mark id) is key reported = old key (sym (identity_kept rs r (ap is_founding is) (ap is_recovery is)) ∙ reported)
+    go (requests.Member m) is key reported = old key (sym (identity_kept rs r (ap is_founding is) (ap is_recovery is)) ∙ reported)
 
 -- without a request there is none
 nothing_sized : HasSizedKey []
 unfolding identity history
-nothing_sized key told = absurd (cc)
+nothing_sized key reported = absurd (cc)
 
 -- of requests that were accepted one after another the key has the size of an HSS public key
 pub identity_fits : (rs : List Recorded) → IsGoverned rs → HasSizedKey rs
-identity_fits rs all = governed_induction HasSizedKey nothing_sized (λ before r old follows kept. behind before r follows kept) rs all
+identity_fits rs all = governed_induction HasSizedKey nothing_sized (λ before r old follows kept. suffix before r follows kept) rs all

@@ -11,7 +11,7 @@ use Rattle.gl_entry.specs.Entry.{is_signature, is_evidence, recorded_commit, bod
 use Rattle.gl_entry.specs.declared.entry.Content.{Content}
 use Rattle.gl_entry.specs.declared.entry.Content.TheVariants as content
 use Rattle.gl_entry.specs.declared.entry.Entry.{Entry}
-use Rattle.gl_requests.specs.Spelling.{request_bytes}
+use Rattle.gl_requests.specs.Encoding.{request_bytes}
 use Rattle.gl_requests.specs.Ranges as ranges
 use Rattle.gl_requests.specs.declared.request.GovernanceRequest.{GovernanceRequest}
 use Rattle.gl_requests.specs.declared.request.GovernanceRequest.TheVariants as requests
@@ -29,21 +29,21 @@ use Rattle.gl_ledger.specs.declared.recording.Recording.TheVariants as recording
 use Rattle.gl_ledger.specs.Recordings.{requests_of, removal, mark, recording_of}
 use Rattle.gl_ledger.specs.declared.breach.Broken.{Broken}
 use Rattle.gl_ledger.specs.Broken.{broken, broken_by}
-use Rattle.gl_ledger.specs.declared.made.Given.{Given}
-use Rattle.gl_ledger.specs.declared.made.Given.TheVariants.{Replied}
-use Rattle.gl_ledger.specs.declared.made.Unmade.{Unmade}
-use Rattle.gl_ledger.specs.declared.made.Unmade.TheVariants.{Unspelled, Founding}
+use Rattle.gl_ledger.specs.declared.response.Response.{Response}
+use Rattle.gl_ledger.specs.declared.response.Response.TheVariants.{Replied}
+use Rattle.gl_ledger.specs.declared.response.Rejection.{Rejection}
+use Rattle.gl_ledger.specs.declared.response.Rejection.TheVariants.{Unencodable, Founding}
 use Rattle.gl_ledger.specs.Makers.{with_reply, request_result, by_store, unless_refused, unless_broken, unless_empty, guarded, governance_made, govern_result, signed_entry, signing_result}
 use Rattle.gl_ledger.specs.LedgerBook.{ServiceBook, marked_node, by_rule, ledger_book}
 use Rattle.gl_ledger.proofs.Applications.{execute_ok}
 use Rattle.gl_ledger.proofs.Growth.{IsNoGovernance}
 use Rattle.gl_ledger.proofs.Passing.{passing}
-use Rattle.gl_ledger.proofs.RequestSpellings.{request_in-read}
+use Rattle.gl_ledger.proofs.RequestEncodings.{request_in-read}
 use Rattle.gl_ledger.proofs.Gathering.{requests-more}
 use Rattle.gl_ledger.proofs.Governed.{no_rule_broken, followed}
 use Rattle.gl_ledger.proofs.Places.{Records, none_removed, removal_stays, removal_comes, none_marked, mark_stays, mark_comes, mark_quiet, mark_by, marked}
 
-abbrev done : {X : Type 0} → X → Result X Unmade
+abbrev done : {X : Type 0} → X → Result X Rejection
 done x = Ok x
 
 -- what is made where there is a seqno left
@@ -75,7 +75,7 @@ module _ (layers : Layers) (keys : NodeKeys) where
   book = ledger_book layers keys
 
   -- what is let through was made, and its entry breaks nothing
-  pub guarded_ok : {X : Type 0} (entry_of : X → Entry) (ledger : List Entry) (r : Result X Unmade) (x : X) → guarded layers entry_of ledger r ≡ Ok x →
+  pub guarded_ok : {X : Type 0} (entry_of : X → Entry) (ledger : List Entry) (r : Result X Rejection) (x : X) → guarded layers entry_of ledger r ≡ Ok x →
       (r ≡ Ok x) × (broken layers ledger (entry_of x) ≡ None)
   guarded_ok {X} entry_of ledger (Err why) x h = absurd (cc)
   guarded_ok {X} entry_of ledger (Ok made) x h = go (broken layers ledger (entry_of made)) refl h
@@ -84,8 +84,8 @@ module _ (layers : Layers) (keys : NodeKeys) where
       go None is w = let p : made ≡ x = cc in (w, subst (λ (y : X). broken layers ledger (entry_of y) ≡ None) p is)
       go (Some why) is w = absurd (cc)
 
-  -- what an application request makes is its entry, where bytes spell it
-  request_ok : (ledger : List Entry) (view : ℕ) (q : List Operation) (made : Entry × Given) → request_result ledger view q ≡ Ok made →
+  -- what an application request makes is its entry, where bytes encode it
+  request_ok : (ledger : List Entry) (view : ℕ) (q : List Operation) (made : Entry × Response) → request_result ledger view q ≡ Ok made →
       (is_request q ≡ true) × (a : List Answer) × (execute_result ledger view q ≡ Ok (made.0, a))
   request_ok ledger view q made h = go (is_request q) refl h
     where
@@ -93,9 +93,9 @@ module _ (layers : Layers) (keys : NodeKeys) where
       answered (Err why) w = absurd (cc)
       answered (Ok m) w =
           let p : (m.0, Replied m.1) ≡ made = cc in
-          (m.1, ap (λ (e : Entry). Ok (e, m.1)) (ap (λ (t : Entry × Given). t.0) p))
+          (m.1, ap (λ (e : Entry). Ok (e, m.1)) (ap (λ (t : Entry × Response). t.0) p))
 
-      go : (b : Bool) → is_request q ≡ b → (if b then with_reply (execute_result ledger view q) else Err Unspelled) ≡ Ok made →
+      go : (b : Bool) → is_request q ≡ b → (if b then with_reply (execute_result ledger view q) else Err Unencodable) ≡ Ok made →
           (is_request q ≡ true) × (a : List Answer) × (execute_result ledger view q ≡ Ok (made.0, a))
       go false is w = absurd (cc)
       go true is w = let r = answered (execute_result ledger view q) w in (is, r.0, r.1)
@@ -106,8 +106,8 @@ module _ (layers : Layers) (keys : NodeKeys) where
       let made = signed_entry keys x leaf ledger view commit in
       within_seqnos_ok ledger made e (by_store_ok (within_seqnos ledger made) e h)
 
-  -- behind an entry
-  signing_some : {X : Type 0} (ledger : List Entry) (r : Result X Unmade) (made : X) → unless_empty ledger r ≡ Ok made → r ≡ Ok made
+  -- after an entry
+  signing_some : {X : Type 0} (ledger : List Entry) (r : Result X Rejection) (made : X) → unless_empty ledger r ≡ Ok made → r ≡ Ok made
   signing_some [] r made h = absurd (cc)
   signing_some (f ∷ fs) r made h = h
 
@@ -120,10 +120,10 @@ module _ (layers : Layers) (keys : NodeKeys) where
   makes ledger view e z v h = record { view_is = v; follows = ap by_rule h; sound = sound_push book ledger e z (ap by_rule h) }
 
   -- what an application request, a signature and a request of governance make
-  executed_lawful : (ledger : List Entry) (view : ℕ) (q : List Operation) (e : Entry) (a : Given) → EachFollows book ledger →
+  executed_lawful : (ledger : List Entry) (view : ℕ) (q : List Operation) (e : Entry) (a : Response) → EachFollows book ledger →
       book.execute ledger view q ≡ Ok (e, a) → Makes book (EachFollows book) ledger view e × (book.is_signature e ≡ false) × MarksNone book ledger e
   executed_lawful ledger view q e a z h =
-      let one = guarded_ok (λ (made : Entry × Given). made.0) ledger (request_result ledger view q) (e, a) h in
+      let one = guarded_ok (λ (made : Entry × Response). made.0) ledger (request_result ledger view q) (e, a) h in
       let two = request_ok ledger view q (e, a) one.0 in
       let made = execute_ok ledger view q e two.1 two.2 in (
         makes ledger view e z (ap (λ (x : Entry). x.view) made.3) one.1,
@@ -142,49 +142,49 @@ module _ (layers : Layers) (keys : NodeKeys) where
         ap (λ (f : Entry). recorded_commit f.content) is,
       )
 
-  -- what a request of governance makes is its entry, where bytes spell it
-  governed_ok : (ledger : List Entry) (view : ℕ) (g : GovernanceRequest) (made : Entry × Given) → govern_result ledger view g ≡ Ok made →
+  -- what a request of governance makes is its entry, where bytes encode it
+  governed_ok : (ledger : List Entry) (view : ℕ) (g : GovernanceRequest) (made : Entry × Response) → govern_result ledger view g ≡ Ok made →
       (ranges.is_request g ≡ true) × (made.0 ≡ governance_entry g ledger view)
   governed_ok ledger view g made h = go (ranges.is_request g) (is_founding g || is_recovery g) (refusal (history (requests_of ledger)) (length ledger + 1) g) refl h
     where
       e : Entry
       e = governance_entry g ledger view
 
-      kept : Result (Entry × Given) Refusal
+      kept : Result (Entry × Response) Refusal
       kept = within_seqnos ledger (governance_made ledger g e)
 
-      within : Result (Entry × Given) Unmade
+      within : Result (Entry × Response) Rejection
       within = by_store (within_size (length (body_bytes e)) kept)
 
-      go : (a b : Bool) (o : Option GovernanceRefusal) → ranges.is_request g ≡ a → (if a then (if b then Err Founding else unless_refused o within) else Err Unspelled) ≡ Ok made →
+      go : (a b : Bool) (o : Option GovernanceRefusal) → ranges.is_request g ≡ a → (if a then (if b then Err Founding else unless_refused o within) else Err Unencodable) ≡ Ok made →
           (ranges.is_request g ≡ true) × (made.0 ≡ e)
       go false b o is w = absurd (cc)
       go true true o is w = absurd (cc)
       go true false (Some why) is w = absurd (cc)
       go true false None is w = (
         is,
-        ap (λ (t : Entry × Given). t.0) (within_seqnos_ok ledger (governance_made ledger g e) made
+        ap (λ (t : Entry × Response). t.0) (within_seqnos_ok ledger (governance_made ledger g e) made
             (within_size_ok (length (body_bytes e)) kept made (by_store_ok (within_size (length (body_bytes e)) kept) made w))),
       )
 
-  governed_lawful : (ledger : List Entry) (view : ℕ) (g : GovernanceRequest) (e : Entry) (a : Given) → EachFollows book ledger →
+  governed_lawful : (ledger : List Entry) (view : ℕ) (g : GovernanceRequest) (e : Entry) (a : Response) → EachFollows book ledger →
       book.govern ledger view g ≡ Ok (e, a) → Makes book (EachFollows book) ledger view e × (book.is_signature e ≡ false)
   governed_lawful ledger view g e a z h =
-      let one = guarded_ok (λ (made : Entry × Given). made.0) ledger (govern_result ledger view g) (e, a) h in
+      let one = guarded_ok (λ (made : Entry × Response). made.0) ledger (govern_result ledger view g) (e, a) h in
       let is = governed_ok ledger view g (e, a) one.0 in
       (makes ledger view e z (ap (λ (x : Entry). x.view) is.1) one.1, ap (λ (x : Entry). is_signature x.content) is.1)
 
   -- the entry that a request makes records it
   governed_records : (ledger : List Entry) (view : ℕ) (g : GovernanceRequest) (e : Entry) → ranges.is_request g ≡ true → e ≡ governance_entry g ledger view → Records ledger e g
   governed_records ledger view g e fits is =
-      let spelled : e.content ≡ content.Governance (request_bytes g) = ap (λ (x : Entry). x.content) is in
-      record { bytes = request_bytes g; spelled = spelled; more = requests-more ledger e (request_bytes g) g spelled (request_in-read g fits) }
+      let encoded : e.content ≡ content.Governance (request_bytes g) = ap (λ (x : Entry). x.content) is in
+      record { bytes = request_bytes g; encoded = encoded; more = requests-more ledger e (request_bytes g) g encoded (request_in-read g fits) }
 
   -- it marks no node but the one that the request marks
-  governed_marks : (ledger : List Entry) (view : ℕ) (g : GovernanceRequest) (e : Entry) (a : Given) (y : NodeId) (seqno : ℕ) →
+  governed_marks : (ledger : List Entry) (view : ℕ) (g : GovernanceRequest) (e : Entry) (a : Response) (y : NodeId) (seqno : ℕ) →
       book.govern ledger view g ≡ Ok (e, a) → mark (ledger ++ e ∷ []) y ≡ Some seqno → (mark ledger y ≡ Some seqno) ⊎ (marked_node g ≡ Some y)
   governed_marks ledger view g e a y seqno h m =
-      let one = guarded_ok (λ (made : Entry × Given). made.0) ledger (govern_result ledger view g) (e, a) h in
+      let one = guarded_ok (λ (made : Entry × Response). made.0) ledger (govern_result ledger view g) (e, a) h in
       let is = governed_ok ledger view g (e, a) one.0 in
       ⊎_elim (λ (old : mark ledger y ≡ Some seqno). inl old) (λ (new : (seqno ≡ length ledger + 1) × (g ≡ requests.Mark y)). inr (ap marked_node new.1))
       (mark_by ledger e g y seqno (governed_records ledger view g e is.0 is.1) m)

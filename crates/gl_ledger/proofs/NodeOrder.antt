@@ -6,13 +6,13 @@ use Rattle.std.specs.Option.{option_or}
 use Rattle.std.proofs.lemmas.Bool.{and_parts, or_parts, not-true}
 use Rattle.gl_vmaps.specs.Tables.{Tables, Rows, no_tables, same_bytes, value_in, wrote_all}
 use Rattle.gl_vmaps.specs.Versions.{is_to_row}
-use Rattle.gl_vmaps.specs.LastWrite.{last_write, value_behind}
+use Rattle.gl_vmaps.specs.LastWrite.{last_write, value_after}
 use Rattle.gl_vmaps.specs.declared.write.Write.{Write}
 use Rattle.gl_vmaps.proofs.LastWrites.{last_such-cons}
 use Rattle.gl_vmaps.proofs.TablesLaws.{value_in-wrote_all, same_bytes-symm}
 use Rattle.gl_vmaps.proofs.SameValues.{same_bytes_self}
 use Rattle.gl_vmaps.proofs.WriteSets.{rows-write_set, wrote_all-append}
-use Rattle.gl_requests.specs.Spelling.{node_id}
+use Rattle.gl_requests.specs.Encoding.{node_id}
 use Rattle.gl_requests.specs.declared.genesis.NewMember.{NewMember}
 use Rattle.gl_requests.specs.declared.genesis.NewNode.{NewNode}
 use Rattle.gl_requests.specs.declared.genesis.Genesis as founding
@@ -61,7 +61,7 @@ its_row order (m ∷ ms) (suc k) n apart at =
     ∙ ap (λ (o : Option Write). option_or o (cond (is_to_row nodes_map (node_id n) (named_row order m)) (Some (named_row order m)) None)) (its_row (suc order) ms k n both.1 at)
     ∙ ap (λ (i : ℕ). Some (named_row i n)) place
 
--- behind a genesis the row of its i-th node, counted from 0, has the number i + 1
+-- after a genesis the row of its i-th node, counted from 0, has the number i + 1
 pub row_of_node : (g : founding.Genesis) (i : ℕ) (node : NewNode) → are_ids_distinct g.nodes ≡ true → slice_get g.nodes i ≡ Some node →
     value_in (tables_of (genesis_entry g ∷ [])) nodes_map (node_id node)
     ≡ (node_write (record { id = node_id node; order = suc i; status = statuses.Trusted; key = node.key; endorsement = node.endorsement; removal = 0 })).value
@@ -76,5 +76,5 @@ row_of_node g i node apart at =
     ∙ ap (λ (r : Rows). rows.get r (node_id node)) (rows-write_set no_tables (founding_writes g) nodes_map)
     ∙ ap (λ (t : Tables). value_in t nodes_map (node_id node)) (wrote_all-append no_tables (before ++ named) service ∙ ap (λ (t : Tables). wrote_all t service) (wrote_all-append no_tables before named))
     ∙ value_in-wrote_all first named nodes_map (node_id node)
-    ∙ ap (λ (o : Option Write). value_behind o (value_in first nodes_map (node_id node))) (its_row 1 g.nodes i node apart at)
+    ∙ ap (λ (o : Option Write). value_after o (value_in first nodes_map (node_id node))) (its_row 1 g.nodes i node apart at)
     ∙ ap (λ (k : ℕ). (named_row k node).value) place

@@ -1,4 +1,5 @@
--- What a ledger records of its nodes: those of a genesis as that names them, and where no recovery stands each with an endorsement by the service's key in force.
+-- What a ledger records of its nodes: those of a genesis as that names them, and where no recovery
+-- stands each with an endorsement by the service's key in force.
 use Rattle.std.proofs.Common.{◌≡◌, ℕ, ◌<◌, List, [], ◌∷◌, ◌++◌, length, find, Option, Some, Bool, true, false, ◌||◌, refl, sym, ◌∙◌, ap, subst, arith, slice_get}
 use Rattle.std.specs.FinMap as rows
 use Rattle.std.proofs.lemmas.Bool.{and_parts, cond-true, cond-false, false≢true}
@@ -13,7 +14,7 @@ use Rattle.gl_vmaps.specs.Tables.{Rows}
 use Rattle.gl_vmaps.proofs.TablesLaws.{same_bytes-symm}
 use Rattle.gl_entry.specs.declared.entry.Entry.{Entry}
 use Rattle.gl_requests.specs.Ranges as ranges
-use Rattle.gl_requests.specs.Spelling.{node_id}
+use Rattle.gl_requests.specs.Encoding.{node_id}
 use Rattle.gl_requests.proofs.Sizes.{sized_length}
 use Rattle.gl_requests.specs.declared.genesis.NewNode.{NewNode}
 use Rattle.gl_requests.specs.declared.genesis.Genesis as founding
@@ -31,7 +32,7 @@ use Rattle.gl_gov_rules.specs.Signatures.{is_endorsed}
 use Rattle.gl_gov_rules.proofs.EndorsedNodes.{IsEndorsedBy, endorsed_node, founding_node}
 use Rattle.gl_gov_rules.proofs.Endorsements.{endorsement_means}
 use Rattle.gl_gov_rules.proofs.FoundingReadings.{founding_recorded}
-use Rattle.gl_gov_rules.proofs.RowOfService.{founded_row, identity_told, service_value}
+use Rattle.gl_gov_rules.proofs.RowOfService.{founded_row, identity_reported, service_value}
 use Rattle.gl_ledger.specs.ServiceRow.{identity_in, identity_of_value}
 use Rattle.gl_ledger.specs.Tree.{tables_of}
 use Rattle.gl_ledger.specs.Ledger.{genesis_entry}
@@ -42,7 +43,7 @@ use Rattle.gl_ledger.specs.Sound.{IsSound, IsUnrecovered}
 use Rattle.gl_ledger.proofs.Founded.{founded_by, founding_requests, identity_sized, none_recover}
 use Rattle.gl_ledger.proofs.Governed.{governed}
 use Rattle.gl_ledger.proofs.RecordedNodes.{ids, recorded_are}
-use Rattle.gl_ledger.proofs.RequestSpellings.{request_in-read}
+use Rattle.gl_ledger.proofs.RequestEncodings.{request_in-read}
 
 -- ---- a genesis
 
@@ -90,7 +91,7 @@ in_force layers (e ∷ es) sound some =
     let row = founded_row (founding_recorded by.genesis) (requests_from 2 es) all in
     ap (λ (r : Rows). identity_of_value (rows.get r service_key)) (sound.governed service_map refl ∙ ap (λ (rs : List Recorded). effect rs service_map) are)
     ∙ ap identity_of_value (service_value rs row.0 row.1)
-    ∙ sym (ap (λ (rs : List Recorded). key_in_force (identity (history rs))) are ∙ ap key_in_force (identity_told rs row.0 row.1))
+    ∙ sym (ap (λ (rs : List Recorded). key_in_force (identity (history rs))) are ∙ ap key_in_force (identity_reported rs row.0 row.1))
 
 module _ (layers : Layers) (ledger : List Entry) (sound : IsSound layers ledger) (none : IsUnrecovered ledger) (x : NodeId) (recorded : member x (recorded_nodes ledger) ≡ true) where
   some : 0 < length ledger

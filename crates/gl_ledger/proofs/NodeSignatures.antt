@@ -1,4 +1,5 @@
--- What a node signs with one of its leaves is a signature of it, valid behind a ledger of its service.
+-- What a node signs with one of its leaves is a signature of it, valid after a ledger of its
+-- service.
 use Rattle.std.proofs.Common.{◌≡◌, ℕ, ◌<◌, ◌≤◌, ◌^◌, List, [], ◌∷◌, ◌++◌, length, Some, None, Result, Ok, Bool, true, if◌then◌else◌, sym, ap, ◌∙◌, append_assoc, arith}
 use Rattle.std.specs.Cmp.Lexicographic.{bytes_decides}
 use Rattle.sha2.specs.Sha256.{sha256}
@@ -11,7 +12,7 @@ use Rattle.gl_hss.specs.Order.{last_key_verdict}
 use Rattle.gl_hss.specs.Secrets.{PrivateKey, public_of}
 use Rattle.gl_hss.specs.Profile.{signature_by}
 use Rattle.gl_hss.specs.Signer.{hss_signature, StandsUnder, levels_above}
-use Rattle.gl_hss.proofs.Signing.{signature_by-IsSigned}
+use Rattle.gl_hss.proofs.ValidSignatures.{signature_by-IsSigned}
 use Rattle.gl_hss.proofs.Verdicts.{valid_verdict}
 use Rattle.gl_hss.proofs.Bounds.{last_key_valid, length-valid}
 use Rattle.gl_hss.proofs.Octets.{u32str_bytes, signed_bytes}
@@ -20,7 +21,7 @@ use Rattle.gl_rules.specs.Identity.{NodeId}
 use Rattle.gl_entry.specs.declared.entry.Entry.{Entry}
 use Rattle.gl_ledger.specs.ServiceRow.{identity_in}
 use Rattle.gl_ledger.specs.Tree.{tables_of}
-use Rattle.gl_ledger.specs.Ledger.{message_behind}
+use Rattle.gl_ledger.specs.Ledger.{message_after}
 use Rattle.gl_ledger.specs.Makers.{MakesValid}
 use Rattle.gl_ledger.specs.Recordings.{endorsement_in}
 use Rattle.gl_gov_rules.proofs.Digests.{bytes-append}
@@ -30,10 +31,10 @@ use Rattle.gl_ledger.specs.NodeKeys.{NodeKeys, leaf_count, node_signature, signe
 two_levels : (k : PrivateKey) (e : List ℕ) (q : ℕ) (message : List ℕ) (top : PublicKey) (fields : Signature) → e ≡ signature_bytes top.types fields →
     hss_signature k (Some e) q message ≡ hss_bytes top.types (record { signature = fields; key = public_of k } ∷ []) (signature_by k q message)
 unfolding levels_above
-two_levels k e q message top fields spelled =
+two_levels k e q message top fields encoded =
     let key = key_bytes (public_of k) in
     let last = signature_bytes k.types (signature_by k q message) in
-    ap (λ (x : List ℕ). u32str 1 ++ x ++ key ++ last) spelled
+    ap (λ (x : List ℕ). u32str 1 ++ x ++ key ++ last) encoded
     ∙ ap (λ (x : List ℕ). x ++ last) (append_assoc (u32str 1) (signature_bytes top.types fields) key)
     ∙ append_assoc (u32str 1) (signature_bytes top.types fields ++ key) last
 
@@ -60,7 +61,7 @@ module _ (keys : NodeKeys) (endorsement identity : List ℕ) (x : NodeId) (leaf 
           upper = record { signature = signs.fields; key = public_of k } ∷ [];
           last = signature_by k leaf message;
           of_key = h.stands.of_key;
-          spelled = two_levels k endorsement leaf message top signs.fields signs.spelled;
+          encoded = two_levels k endorsement leaf message top signs.fields signs.encoded;
           signs = (signs.signed, h.form, signature_by-IsSigned k leaf message low);
         }
 
@@ -80,12 +81,13 @@ module _ (keys : NodeKeys) (endorsement identity : List ℕ) (x : NodeId) (leaf 
     pub node_short : length (node_signature keys endorsement x leaf message) ≤ 2 ^ 16
     node_short = let most = length-valid identity message (node_signature keys endorsement x leaf message) valid in omega (arith, most)
 
--- so what it signs behind a ledger whose service it is of, with the endorsement in its row, is valid there
+-- so what it signs after a ledger whose service it is of, with the endorsement in its row, is valid
+-- there
 pub node_makes : (keys : NodeKeys) (identity : List ℕ) (x : NodeId) (leaf : ℕ) (ledger : List Entry) (view commit : ℕ) →
     IsNodeKey keys (endorsement_in ledger x) identity x → leaf < leaf_count keys x → identity_in (tables_of ledger) ≡ identity → MakesValid service_layers keys x leaf ledger view commit
 node_makes keys identity x leaf ledger view commit h low is =
     let e = endorsement_in ledger x in
-    let message = message_behind ledger view commit in
+    let message = message_after ledger view commit in
     record {
       bytes = node_bytes keys e identity x leaf message h;
       short = node_short keys e identity x leaf message h low;

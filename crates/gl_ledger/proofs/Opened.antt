@@ -14,7 +14,7 @@ use Rattle.gl_entry.specs.declared.entry.Content.{Content}
 use Rattle.gl_entry.specs.declared.entry.Content.TheVariants as content
 use Rattle.gl_entry.specs.declared.entry.Entry.{Entry}
 use Rattle.gl_entry.specs.declared.entry.Signature as signatures
-use Rattle.gl_requests.specs.Spelling.{node_id}
+use Rattle.gl_requests.specs.Encoding.{node_id}
 use Rattle.gl_gov_rules.specs.declared.refusal.GovernanceRefusal.{GovernanceRefusal}
 use Rattle.gl_gov_rules.specs.History.{no_history}
 use Rattle.gl_gov_rules.specs.Changes.{history}
@@ -41,9 +41,9 @@ use Rattle.gl_ledger.proofs.Lawful.{unbroken}
 use Rattle.gl_ledger.proofs.Pushes.{no_last}
 use Rattle.gl_ledger.proofs.Auditing.{audited_none, audited_all}
 use Rattle.gl_ledger.specs.Sound.{IsUnrecovered}
-use Rattle.gl_ledger.specs.Opening.{Begins, Founds}
+use Rattle.gl_ledger.specs.OpeningLedger.{Begins, Founds}
 use Rattle.gl_ledger.proofs.Founded.{FoundedBy, founded_by, founding_requests}
-use Rattle.gl_ledger.proofs.Opening.{founding_recorded_nodes, founding_configuration, genesis_read, founded, follow}
+use Rattle.gl_ledger.proofs.OpeningLaws.{founding_recorded_nodes, founding_configuration, genesis_read, founded, follow}
 
 module _ (layers : Layers) (keys : NodeKeys) where
   -- ---- two entries
@@ -225,8 +225,8 @@ module _ (layers : Layers) (keys : NodeKeys) where
       let f = founding_is (last_entry (take (length ledger - 1) ledger)) parts.1 in
       let there = slice_get-of_take (length ledger - 1) ledger (length (take (length ledger - 1) ledger) - 1) f.0 f.1 in
       let founded : founds f.0 ≡ true = founding_begins f.0 (ap is_unopened (sym f.1) ∙ parts.1) (unrecovered (length (take (length ledger - 1) ledger) - 1) f.0 there.1) in
-      let front = alone (take (length ledger - 1) ledger) f.0 (sound_cut (ledger_book layers keys) ledger (length ledger - 1) z) f.1 founded in
-      let two = pair ledger f.0 front in
+      let prefix = alone (take (length ledger - 1) ledger) f.0 (sound_cut (ledger_book layers keys) ledger (length ledger - 1) z) f.1 founded in
+      let two = pair ledger f.0 prefix in
       record {
         genesis = f.0;
         signature = two.0;

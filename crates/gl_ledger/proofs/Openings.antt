@@ -1,7 +1,7 @@
--- What the tables behind a genesis tell: the service's state and its key.
+-- What the tables after a genesis tell: the service's state and its key.
 use Rattle.std.proofs.Common.{◌≡◌, ℕ, List, [], ◌∷◌, Some, refl, ◌∙◌, ap}
 use Rattle.gl_vmaps.specs.Tables.{no_tables, value_in, wrote_all}
-use Rattle.gl_requests.specs.Spelling.{state_byte}
+use Rattle.gl_requests.specs.Encoding.{state_byte}
 use Rattle.gl_requests.specs.declared.genesis.Genesis as founding
 use Rattle.gl_requests.specs.declared.genesis.ServiceState.{ServiceState}
 use Rattle.gl_requests.specs.declared.genesis.ServiceState.TheVariants as services
@@ -16,7 +16,7 @@ use Rattle.gl_ledger.specs.Tree.{tables_of}
 use Rattle.gl_ledger.specs.Ledger.{genesis_entry, signature_entry, opening_ledger}
 use Rattle.gl_ledger.proofs.TablesLaws.{tables_of-push}
 
--- the tables behind a genesis are its effect
+-- the tables after a genesis are its effect
 pub tables_of_genesis : (g : founding.Genesis) → tables_of (genesis_entry g ∷ []) ≡ effect (founding_recorded g ∷ [])
 tables_of_genesis g = tables_of-push [] (genesis_entry g) ∙ ap (wrote_all no_tables) (first_effect (founding_recorded g))
 
@@ -48,9 +48,9 @@ state_of_opening g node bytes =
 pub identity_of_genesis : (g : founding.Genesis) → identity_in (effect (founding_recorded g ∷ [])) ≡ g.identity
 identity_of_genesis g = ap identity_of_value (service_value g)
 
--- its key is the one in force behind its entry
-pub identity_behind_genesis : (g : founding.Genesis) → identity_in (tables_of (genesis_entry g ∷ [])) ≡ g.identity
-identity_behind_genesis g = ap identity_in (tables_of_genesis g) ∙ identity_of_genesis g
+-- its key is the one in force after its entry
+pub identity_after_genesis : (g : founding.Genesis) → identity_in (tables_of (genesis_entry g ∷ [])) ≡ g.identity
+identity_after_genesis g = ap identity_in (tables_of_genesis g) ∙ identity_of_genesis g
 
 -- and in its opening ledger
 pub identity_of_opening : (g : founding.Genesis) (node bytes : List ℕ) → identity_in (tables_of (opening_ledger g node bytes)) ≡ g.identity

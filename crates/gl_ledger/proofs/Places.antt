@@ -1,4 +1,5 @@
--- Where nodes are removed and marked in ledgers: at the seqno of the entry that brought it, and there it stays.
+-- Where nodes are removed and marked in ledgers: at the seqno of the entry that brought it, and
+-- there it stays.
 use Rattle.std.proofs.Common.{◌≡◌, ◌⊎◌, inl, inr, ⊎_elim, ℕ, ◌+◌, ◌<◌, List, [], ◌∷◌, ◌++◌, length, Option, Some, None, false, refl, sym, ◌∙◌, ap, subst, arith}
 use Rattle.std.proofs.lemmas.List.{append-nil}
 use Rattle.gl_rules.specs.Identity.{NodeId}
@@ -6,7 +7,7 @@ use Rattle.gl_entry.specs.Entry.{is_signature}
 use Rattle.gl_entry.specs.declared.entry.Content.{Content}
 use Rattle.gl_entry.specs.declared.entry.Content.TheVariants as content
 use Rattle.gl_entry.specs.declared.entry.Entry.{Entry}
-use Rattle.gl_requests.specs.Reading.{request_in}
+use Rattle.gl_requests.specs.Parsing.{request_in}
 use Rattle.gl_requests.specs.declared.request.GovernanceRequest.{GovernanceRequest}
 use Rattle.gl_requests.specs.declared.request.GovernanceRequest.TheVariants as requests
 use Rattle.gl_gov_rules.specs.declared.change.Recorded.{Recorded}
@@ -31,7 +32,7 @@ next_recorded ledger g = record { seqno = length ledger + 1; request = g }
 -- an entry that records a request of governance
 pub record Records (ledger : List Entry) (e : Entry) (g : GovernanceRequest) : Type 0 where
   pub bytes : List ℕ
-  pub spelled : e.content ≡ content.Governance bytes
+  pub encoded : e.content ≡ content.Governance bytes
   pub more : requests_of (ledger ++ e ∷ []) ≡ requests_of ledger ++ next_recorded ledger g ∷ []
 
 -- with one more entry the requests are the same, or one more
@@ -55,7 +56,7 @@ recorded_or ledger e = go e.content refl
       where
         read : (o : Option GovernanceRequest) → request_in bytes ≡ o → (requests_of (ledger ++ e ∷ []) ≡ requests_of ledger) ⊎ ((g : GovernanceRequest) × Records ledger e g)
         read None reads = inl (unread bytes is reads)
-        read (Some g) reads = inr (g, record { bytes = bytes; spelled = is; more = requests-more ledger e bytes g is reads })
+        read (Some g) reads = inr (g, record { bytes = bytes; encoded = is; more = requests-more ledger e bytes g is reads })
 
 -- ---- removals
 
@@ -120,12 +121,12 @@ mark_comes ledger e y seqno h = ⊎_elim
     (mark_by ledger e one.0 y seqno one.1 h))
     (recorded_or ledger e)
 
--- no node is marked behind the last entry
+-- no node is marked after the last entry
 mark_below : (ledger : List Entry) (y : NodeId) (seqno : ℕ) → mark ledger y ≡ Some seqno → seqno < length ledger + 1
 unfolding mark
 mark_below ledger y seqno h = mark_within (requests_of ledger) y seqno (length ledger + 1) h (above ledger)
 
--- the entry at which a node is marked is no signature, and stands behind the node's removal
+-- the entry at which a node is marked is no signature, and stands after the node's removal
 pub marked : (layers : Layers) (ledger : List Entry) (e : Entry) (y : NodeId) → IsSound layers (ledger ++ e ∷ []) → mark (ledger ++ e ∷ []) y ≡ Some (length ledger + 1) →
     (is_signature e.content ≡ false) × ((seqno : ℕ) × (removal ledger y ≡ Some seqno))
 unfolding removal mark
@@ -133,7 +134,7 @@ marked layers ledger e y sound h = ⊎_elim
     (λ (same : requests_of (ledger ++ e ∷ []) ≡ requests_of ledger). old (ap (λ (rs : List Recorded). nodes.mark (history rs) y) (sym same) ∙ h))
     (λ (one : (g : GovernanceRequest) × Records ledger e g). ⊎_elim old
     (λ (new : (length ledger + 1 ≡ length ledger + 1) × (one.0 ≡ requests.Mark y)). (
-      ap is_signature one.1.spelled,
+      ap is_signature one.1.encoded,
       statuses.marked (requests_of ledger) (next_recorded ledger one.0) y
           (governed_last (requests_of ledger) (next_recorded ledger one.0) (subst rules.IsGoverned one.1.more (governed layers (ledger ++ e ∷ []) sound))).1 new.1,
     ))

@@ -1,10 +1,10 @@
--- What holds of each entry behind those before it, in a ledger with one more.
+-- What holds of each entry after those before it, in a ledger with one more.
 use Rattle.std.proofs.Common.{◌≡◌, ⊎_elim, ℕ, ◌-◌, ◌<◌, List, [], ◌∷◌, ◌++◌, length, take, Some, None, refl, sym, ◌∙◌, ap, subst, arith, slice_get}
 use Rattle.gl_base.proofs.Lists.{slice_get-push, take-push, take-all, slice_get-within}
 use Rattle.gl_entry.specs.declared.entry.Entry.{Entry}
 use Rattle.gl_ledger.specs.Recordings.{last_entry}
 
--- what holds of each entry behind those before it holds with one more
+-- what holds of each entry after those before it holds with one more
 pub each-push : (P : ℕ → List Entry → Entry → Type 0) (ledger : List Entry) (e : Entry) → ((i : ℕ) (f : Entry) → slice_get ledger i ≡ Some f → P i (take i ledger) f) → P (length ledger) ledger e →
     (i : ℕ) (f : Entry) → slice_get (ledger ++ e ∷ []) i ≡ Some f → P i (take i (ledger ++ e ∷ [])) f
 each-push P ledger e h one i f s = ⊎_elim

@@ -1,4 +1,5 @@
--- The nodes that a ledger records: their identifiers are digests, and a recorded node stays recorded.
+-- The nodes that a ledger records: their identifiers are digests, and a recorded node stays
+-- recorded.
 use Rattle.std.proofs.Common.{◌≡◌, ℕ, suc, List, [], ◌∷◌, ◌++◌, map, Bool, true, false, ◌||◌, refl, sym, ◌∙◌, ap, append_assoc}
 use Rattle.std.specs.List.{list_all, list_any, flat_map}
 use Rattle.std.proofs.lemmas.Bool.{and_parts, and_from}
@@ -7,7 +8,7 @@ use Rattle.gl_base.specs.Bytes.{same_bytes, is_digest}
 use Rattle.gl_rules.specs.Identity.{NodeId, same, member}
 use Rattle.gl_rules.proofs.Ids.{same_is}
 use Rattle.gl_entry.specs.declared.entry.Entry.{Entry}
-use Rattle.gl_requests.specs.Spelling.{node_id}
+use Rattle.gl_requests.specs.Encoding.{node_id}
 use Rattle.gl_requests.specs.declared.genesis.NewNode.{NewNode}
 use Rattle.gl_requests.specs.declared.request.GovernanceRequest.{GovernanceRequest}
 use Rattle.gl_requests.specs.declared.request.GovernanceRequest.TheVariants as requests
@@ -35,7 +36,7 @@ pub recorded_are : (es : List Entry) → recorded_nodes es ≡ ids_of (requests_
 unfolding recorded_nodes nodes
 recorded_are es = ap ids_of (lists.requests_of (requests_of es))
 
--- those of two lists, one behind the other
+-- those of two lists, one after the other
 ids_both : (xs ys : List RecordedNode) → ids (xs ++ ys) ≡ ids xs ++ ids ys
 ids_both [] ys = refl
 ids_both (x ∷ xs) ys = ap (λ (zs : List NodeId). x.id ∷ zs) (ids_both xs ys)
@@ -108,7 +109,7 @@ member_left x (y ∷ ys) zs h = go (same x y) h (member_left x ys zs)
 
 -- ---- longer ledgers
 
--- a longer ledger records more requests behind the same
+-- a longer ledger records more requests after the same
 requests_append : (seqno : ℕ) (es fs : List Entry) → (rs : List Recorded) × (requests_from seqno (es ++ fs) ≡ requests_from seqno es ++ rs)
 requests_append seqno [] fs = (requests_from seqno fs, refl)
 requests_append seqno (e ∷ es) fs =

@@ -1,4 +1,5 @@
--- Behind a recovery the nodes that it names are trusted, in its order, and none that was recorded before.
+-- After a recovery the nodes that it names are trusted, in its order, and none that was recorded
+-- before.
 use Rattle.std.proofs.Common.{◌≡◌, ⊎_elim, ℕ, suc, ◌+◌, ◌<◌, List, [], ◌∷◌, ◌++◌, length, map, filter, Some, None, Bool, true, false, ◌||◌, nat_lt, slice_get, refl, sym, ◌∙◌, ap, arith}
 use Rattle.std.specs.List.{list_any, flat_map}
 use Rattle.std.proofs.lemmas.Bool.{and_from, or_from, or_left, or_right, or_cases, both_ways, false_from_ne_true, cond-true, cond-false}
@@ -6,7 +7,7 @@ use Rattle.std.proofs.lemmas.Bool.Decides.{nat_tests}
 use Rattle.std.proofs.lemmas.List.Folds.{list_any-append}
 use Rattle.std.proofs.lemmas.List.Elements.{filter-append}
 use Rattle.gl_base.proofs.Lists.{slice_get-of_append, slice_get-push}
-use Rattle.gl_requests.specs.Spelling.{node_id}
+use Rattle.gl_requests.specs.Encoding.{node_id}
 use Rattle.gl_requests.specs.declared.genesis.NewNode.{NewNode}
 use Rattle.gl_requests.specs.declared.genesis.Recovery.{Recovery}
 use Rattle.gl_requests.specs.declared.request.GovernanceRequest.TheVariants as requests
@@ -112,10 +113,10 @@ module _ (rs : List Recorded) (s : ℕ) (q : Recovery) (all : IsGoverned rs) (fo
   retired : (i : ℕ) (n : RecordedNode) → slice_get (nodes before) i ≡ Some n → is_trusted_in after n ≡ false
   retired i n at = false_from_ne_true (is_trusted_in after n) (λ stays.
       let low = earlier i n at in
-      let behind : nat_lt n.seqno s ≡ true = grind (arith, nat_tests, low) in
+      let suffix : nat_lt n.seqno s ≡ true = grind (arith, nat_tests, low) in
       let out : list_any (takes_out n) after.changes ≡ true =
       ap (list_any (takes_out n)) changes_after ∙ list_any-append (takes_out n) before.changes (recovered ∷ [])
-      ∙ or_right (list_any (takes_out n) before.changes) (takes_out n recovered || false) (or_left (takes_out n recovered) false (and_from (nat_lt n.seqno s) true behind refl)) in
+      ∙ or_right (list_any (takes_out n) before.changes) (takes_out n recovered || false) (or_left (takes_out n recovered) false (and_from (nat_lt n.seqno s) true suffix refl)) in
       both_ways (list_any (takes_out n) after.changes) (trusted_read after n stays).serves out)
 
   -- the nodes that it names

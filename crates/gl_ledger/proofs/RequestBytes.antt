@@ -1,4 +1,4 @@
--- A request that bytes spell is spelled by bytes.
+-- A request that bytes encode is encoded by bytes.
 use Rattle.std.proofs.Common.{◌≡◌, ℕ, nat_le, List, [], ◌∷◌, ◌++◌, length, Option, Some, None, true, ◌&&◌, refl, arith}
 use Rattle.std.specs.List.{list_all, flat_map}
 use Rattle.std.proofs.lemmas.Bool.{and_parts, and_from}

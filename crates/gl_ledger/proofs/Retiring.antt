@@ -39,7 +39,7 @@ in_no_option x None none = refl
 in_no_option x (Some c) none = ap (λ (b : Bool). b || false) (none c refl)
 
 module _ (layers : Layers) (keys : NodeKeys) (ledger : List Entry) (y : NodeId) (removed : ℕ) (each : EachFollows (ledger_book layers keys) ledger) (is_removed : removal ledger y ≡ Some removed) where
-  -- the removal stands in each front of the ledger that reaches it
+  -- the removal stands in each prefix of the ledger that reaches it
   stands_in : (n k : ℕ) → k ≤ n → removed ≤ k → removal (take n ledger) y ≡ Some removed → removal (take k ledger) y ≡ Some removed
   stands_in zero k le low h = let none : 0 ≡ k = omega (arith, le) in subst (λ (j : ℕ). removal (take j ledger) y ≡ Some removed) none h
   stands_in (suc n) k le low h = ⊎_elim
@@ -79,7 +79,7 @@ module _ (layers : Layers) (keys : NodeKeys) (ledger : List Entry) (y : NodeId) 
         in_no_option y (configuration_at (ledger_book layers keys) ledger commit)
         (λ c is. ap (member y) (in_force layers keys ledger commit c within is) ∙ untrusted commit within low)
 
-    -- nor in one that begins behind it
+    -- nor in one that begins after it
     not_above : (n : ℕ) → n ≤ length ledger → in_some y (configurations_above (ledger_book layers keys) ledger commit n) ≡ false
     unfolding configurations_above
     not_above zero le = refl

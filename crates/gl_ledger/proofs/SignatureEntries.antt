@@ -15,7 +15,7 @@ use Rattle.gl_entry.specs.declared.entry.Signature as signatures
 use Rattle.gl_ledger.specs.Tree.{leaves_of}
 use Rattle.gl_ledger.specs.Layers.{Layers}
 use Rattle.gl_ledger.specs.NodeKeys.{NodeKeys}
-use Rattle.gl_ledger.specs.Makers.{MakesValid, signature_behind, signed_entry}
+use Rattle.gl_ledger.specs.Makers.{MakesValid, signature_after, signed_entry}
 use Rattle.gl_ledger.proofs.Roots.{root_is_digest}
 use Rattle.gl_ledger.proofs.Entries.{is_entry-from_fields, length-body_bytes}
 
@@ -49,4 +49,4 @@ signed_fits node root signature view seqno commit named digest low fits number b
 pub signed_is_entry : (layers : Layers) (keys : NodeKeys) (x : NodeId) (leaf : ℕ) (ledger : List Entry) (view commit : ℕ) → is_digest x ≡ true → 1 ≤ length ledger → view < 2 ^ 32 → length ledger + 1 < 2 ^ 64 → commit < 2 ^ 64 →
     MakesValid layers keys x leaf ledger view commit → is_entry (signed_entry keys x leaf ledger view commit) ≡ true
 signed_is_entry layers keys x leaf ledger view commit named some low fits number v =
-    signed_fits x (root_of (leaves_of ledger)) (signature_behind keys x leaf ledger view commit) view (length ledger + 1) commit named (root_is_digest ledger some) low fits number v.bytes v.short
+    signed_fits x (root_of (leaves_of ledger)) (signature_after keys x leaf ledger view commit) view (length ledger + 1) commit named (root_is_digest ledger some) low fits number v.bytes v.short

@@ -7,7 +7,7 @@ use Rattle.gl_entry.specs.declared.entry.Content.{Content}
 use Rattle.gl_entry.specs.declared.entry.Content.TheVariants as content
 use Rattle.gl_entry.specs.declared.entry.Entry.{Entry}
 use Rattle.gl_entry.specs.declared.entry.Signature as signatures
-use Rattle.gl_ledger.specs.Broken.{last_signed, commit_behind, commit_from, last_commit}
+use Rattle.gl_ledger.specs.Broken.{last_signed, commit_after, commit_from, last_commit}
 use Rattle.gl_ledger.specs.Signed.{IsSignedAt, IsSignedUpTo}
 use Rattle.gl_base.proofs.Lists.{slice_get-within, slice_get-append}
 
@@ -23,21 +23,21 @@ last_signature-signed [] e h = rw h refl
 last_signature-signed (f ∷ ledger) e h = ap (λ (n : ℕ). seqno_with_first (is_signature f.content) n) (last_signature-signed ledger e h)
 
 -- the same of the last commit
-commit-push : (commit : ℕ) (ledger : List Entry) (e : Entry) → commit_from commit (ledger ++ e ∷ []) ≡ commit_behind (commit_from commit ledger) e.content
+commit-push : (commit : ℕ) (ledger : List Entry) (e : Entry) → commit_from commit (ledger ++ e ∷ []) ≡ commit_after (commit_from commit ledger) e.content
 commit-push commit [] e = refl
-commit-push commit (f ∷ ledger) e = commit-push (commit_behind commit f.content) ledger e
+commit-push commit (f ∷ ledger) e = commit-push (commit_after commit f.content) ledger e
 
 pub last_commit-push : (ledger : List Entry) (e : Entry) → is_signature e.content ≡ false → last_commit (ledger ++ e ∷ []) ≡ last_commit ledger
 last_commit-push ledger e h = commit-push 0 ledger e ∙ stays e.content h
   where
-    stays : (c : Content) → is_signature c ≡ false → commit_behind (last_commit ledger) c ≡ last_commit ledger
+    stays : (c : Content) → is_signature c ≡ false → commit_after (last_commit ledger) c ≡ last_commit ledger
     stays (content.Governance b) other = refl
     stays (content.Application b) other = refl
     stays (content.Signature s) other = absurd (cc)
     stays (content.Evidence d) other = refl
 
 pub last_commit-signed : (ledger : List Entry) (e : Entry) (s : signatures.Signature) → e.content ≡ content.Signature s → last_commit (ledger ++ e ∷ []) ≡ s.commit
-last_commit-signed ledger e s is = commit-push 0 ledger e ∙ ap (commit_behind (last_commit ledger)) is
+last_commit-signed ledger e s is = commit-push 0 ledger e ∙ ap (commit_after (last_commit ledger)) is
 
 -- a signature stays at its place
 pub signed_at-push : (ledger : List Entry) (e : Entry) (place : ℕ) → IsSignedAt ledger place → IsSignedAt (ledger ++ e ∷ []) place
@@ -78,7 +78,8 @@ signed_at_last ledger some = go (last_signed ledger) refl some
     go zero is p = absurd (omega arith)
     go (suc i) is p = last_is_signed ledger i is
 
--- the last entry is a signature where the last signature stands at the ledger's length, and nowhere else
+-- the last entry is a signature where the last signature stands at the ledger's length, and nowhere
+-- else
 pub last_if_signed : (ledger : List Entry) (i : ℕ) (e : Entry) → length ledger ≡ suc i → slice_get ledger i ≡ Some e → is_signature e.content ≡ true → last_signed ledger ≡ suc i
 last_if_signed [] i e long at signs = absurd (omega arith)
 last_if_signed (f ∷ []) zero e long at signs = let p : f ≡ e = cc in rw (p, signs) refl

@@ -18,12 +18,12 @@ use Rattle.gl_vmaps.specs.Tables.{Tables, Rows, no_tables, wrote, wrote_all, wit
 use Rattle.gl_vmaps.specs.Writes.{is_write, is_ordered}
 use Rattle.gl_vmaps.specs.declared.write.Write.{Write}
 use Rattle.gl_tx.specs.Request.{reply_bytes}
-use Rattle.gl_tx.specs.Reading.{request_of}
+use Rattle.gl_tx.specs.Parsing.{request_of}
 use Rattle.gl_tx.specs.Run.{run}
 use Rattle.gl_tx.specs.declared.runs.Ran.{Ran}
 use Rattle.gl_tx.specs.declared.request.Operation.{Operation}
 use Rattle.gl_tx.specs.declared.abort.Abort.{Abort}
-use Rattle.gl_tx.proofs.Formats.{request-spelled}
+use Rattle.gl_tx.proofs.Formats.{request-encoded}
 use Rattle.gl_entry.specs.Entry.{no_digest, is_signature, is_entry, is_content, may_write, may_claim, are_no_writes, is_no_digest, body_bytes, body_limit}
 use Rattle.gl_entry.specs.declared.entry.Content.{Content}
 use Rattle.gl_entry.specs.declared.entry.Content.TheVariants as content
@@ -37,7 +37,7 @@ use Rattle.gl_vmaps.specs.Changes.{Turns}
 use Rattle.gl_requests.specs.declared.genesis.ServiceState.{ServiceState}
 use Rattle.gl_requests.specs.declared.genesis.ServiceState.TheVariants.{Opening, Open, WaitingForRecoveryShares}
 use Rattle.gl_requests.specs.declared.request.GovernanceRequest.{GovernanceRequest}
-use Rattle.gl_requests.specs.Reading.{request_in}
+use Rattle.gl_requests.specs.Parsing.{request_in}
 use Rattle.gl_requests.specs.declared.request.GovernanceRequest.TheVariants as requests
 use Rattle.gl_gov_rules.specs.declared.refusal.GovernanceRefusal.{GovernanceRefusal}
 use Rattle.gl_gov_rules.specs.Changes.{history}
@@ -57,7 +57,7 @@ use Rattle.gl_vmaps.proofs.SameValues.{same_bytes_is}
 use Rattle.gl_ledger.proofs.Pushes.{each-push, no_last}
 use Rattle.gl_ledger.proofs.Gathering.{requests-quiet, requests-more, signing_is}
 use Rattle.gl_ledger.proofs.Passing.{passed, Passes, passing}
-use Rattle.gl_ledger.proofs.RequestSpellings.{request_in-spelled}
+use Rattle.gl_ledger.proofs.RequestEncodings.{request_in-encoded}
 use Rattle.gl_gov_rules.proofs.Effects.{no_rows, effect_turns}
 
 -- ---- what fits its format
@@ -107,7 +107,7 @@ wrote_all_local t u (w ∷ ws) map h = wrote_all_local (wrote t w) (wrote u w) w
 -- ---- one more entry
 
 -- a view that is next isn't below the one before it
-next_up : (anew : Bool) (before view : ℕ) → (if anew then view == before + 1 else nat_le before view) ≡ true → before ≤ view
+next_up : (again : Bool) (before view : ℕ) → (if again then view == before + 1 else nat_le before view) ≡ true → before ≤ view
 next_up true before view w = let u : view ≡ before + 1 = grind (arith, nat_tests, w) in omega (arith, u)
 next_up false before view w = grind (arith, nat_tests, w)
 
@@ -118,7 +118,7 @@ module _ (layers : Layers) (ledger : List Entry) (e : Entry) (sound : IsSound la
   seqno : e.seqno ≡ suc (length ledger)
   seqno = let h = p.seqno in let u : e.seqno ≡ length ledger + 1 = grind (arith, nat_tests) in omega arith
 
-  -- an entry behind the last one has a view that none is above
+  -- an entry after the last one has a view that none is above
   up : (i : ℕ) (f : Entry) → slice_get ledger i ≡ Some f → f.view ≤ e.view
   up i f s = go (last_entry ledger) refl p.view
     where
@@ -165,12 +165,12 @@ module _ (layers : Layers) (ledger : List Entry) (e : Entry) (sound : IsSound la
           let one = passed (are_same_writes e.writes ran.writes) _ _ w in
           let two = passed (same_bytes e.claims (sha256 (reply_bytes ran.reply))) _ None one.1 in
           let writes : e.writes ≡ ran.writes = same_writes_are e.writes ran.writes one.0 in
-          let spelled = request-spelled bytes q (are_bytes-each bytes all) reads in
+          let encoded = request-encoded bytes q (are_bytes-each bytes all) reads in
           let stands : IsApplicationEntry ledger e bytes = record {
             is_open = ap (λ (r : Rows). state_of_value (rows.get r service_key)) (sym (sound.governed service_map refl)) ∙ is_state;
             request = q;
-            fits = spelled.0;
-            spelled = spelled.1;
+            fits = encoded.0;
+            encoded = encoded.1;
             ran = ran;
             runs = runs;
             writes = writes;
@@ -205,14 +205,14 @@ module _ (layers : Layers) (ledger : List Entry) (e : Entry) (sound : IsSound la
   governance bytes g is reads =
       let one = accepted (refusal (history before) (length ledger + 1) g) _ (rest_of (recordings.Governance g) (ap recording_of is ∙ ap governance_recording reads)) in
       let two = passed (are_same_writes e.writes (effect_writes before r)) _ None one.1 in
-      let spelled = request_in-spelled bytes g (sym (ap is_content is) ∙ fits.content) reads in
+      let encoded = request_in-encoded bytes g (sym (ap is_content is) ∙ fits.content) reads in
       let turns : Turns e.writes (effect before) (effect (before ++ r ∷ [])) =
       subst (λ (ws : List Write). Turns ws (effect before) (effect (before ++ r ∷ []))) (sym (same_writes_are e.writes (effect_writes before r) two.0)) (effect_turns before r) in
       let stands : IsGovernanceEntry ledger e bytes = record {
         request = g;
         reads = reads;
-        fits = spelled.0;
-        spelled = spelled.1;
+        fits = encoded.0;
+        encoded = encoded.1;
         accepted = one.0;
         turns = turns;
         claims = none_claimed e.claims (sym (ap (λ (x : Bool). x || is_no_digest e.claims) (ap may_claim is)) ∙ fits.claims);
@@ -275,23 +275,23 @@ module _ (layers : Layers) (ledger : List Entry) (e : Entry) (sound : IsSound la
   recovering_as : recovers e ≡ is_recovering p.recording
   recovering_as = ap records_recovery p.reads
 
-  -- what the order asks of the entry behind the last one
+  -- what the order asks of the entry after the last one
   ordered : (i : ℕ) (d : Entry) → slice_get ledger i ≡ Some d → suc i ≡ length ledger → is_in_order (Some d) p.recording e.view ≡ true
   ordered i d at last =
       let here : length ledger - 1 ≡ i = omega (arith, last) in
       ap (λ (o : Option Entry). is_in_order o p.recording e.view) (sym (ap (slice_get ledger) here ∙ at)) ∙ p.order
 
-  -- a recovery stands right behind a signature, in the view after its
+  -- a recovery stands right after a signature, in the view after its
   recovered_of : (i : ℕ) (d : Entry) → slice_get ledger i ≡ Some d → suc i ≡ length ledger → recovers e ≡ true → (is_signature d.content ≡ true) × (e.view ≡ d.view + 1)
-  recovered_of i d at last anew =
+  recovered_of i d at last again =
       let here : length ledger - 1 ≡ i = omega (arith, last) in
-      let is : is_recovering p.recording ≡ true = sym recovering_as ∙ anew in
+      let is : is_recovering p.recording ≡ true = sym recovering_as ∙ again in
       let order = (and_parts (not (is_founding p.recording)) (not (is_recovering p.recording) || is_signature d.content) (and_parts _ _ (ordered i d at last)).0).1 in
       let view : is_next_view (Some d) p.recording e.view ≡ true = ap (λ (o : Option Entry). is_next_view o p.recording e.view) (sym (ap (slice_get ledger) here ∙ at)) ∙ p.view in
       let next : (e.view == d.view + 1) ≡ true = sym (ap (λ (b : Bool). if b then e.view == d.view + 1 else nat_le d.view e.view) is) ∙ view in
       (sym (ap (λ (b : Bool). not b || is_signature d.content) is) ∙ order, grind (arith, nat_tests, next))
 
-  -- behind an entry with which a service begins stands a signature of its view
+  -- after an entry with which a service begins stands a signature of its view
   opened_of : (i : ℕ) (d : Entry) → slice_get ledger i ≡ Some d → suc i ≡ length ledger → begins d ≡ true → (is_signature e.content ≡ true) × (e.view ≡ d.view)
   opened_of i d at last starts =
       let w = (and_parts (not (is_founding p.recording) && (not (is_recovering p.recording) || is_signature d.content)) (not (begins d) || (is_signing p.recording && (e.view == d.view))) (ordered i d at last)).1 in
@@ -300,7 +300,7 @@ module _ (layers : Layers) (ledger : List Entry) (e : Entry) (sound : IsSound la
       let same = parts.1 in
       (sym (signing_is e.content p.recording p.reads) ∙ parts.0, grind (arith, nat_tests, same))
 
-  -- what holds of each entry and the one behind it holds with one entry more
+  -- what holds of each entry and the one after it holds with one entry more
   pairs : (P : Entry → Entry → Type 0) → ((i : ℕ) (d f : Entry) → slice_get ledger i ≡ Some d → slice_get ledger (suc i) ≡ Some f → P d f) →
       ((i : ℕ) (d : Entry) → slice_get ledger i ≡ Some d → suc i ≡ length ledger → P d e) →
       (i : ℕ) (d f : Entry) → slice_get (ledger ++ e ∷ []) i ≡ Some d → slice_get (ledger ++ e ∷ []) (suc i) ≡ Some f → P d f
@@ -326,7 +326,7 @@ module _ (layers : Layers) (ledger : List Entry) (e : Entry) (sound : IsSound la
         (λ (new : (i ≡ length ledger) × (f ≡ e)). new.0 ∙ once_of (ap founds (sym new.1) ∙ h))
         (slice_get-push ledger e i f s);
     recovered = pairs (λ d f. recovers f ≡ true → (is_signature d.content ≡ true) × (f.view ≡ d.view + 1)) sound.founded.recovered recovered_of;
-    opened = λ i d f at starts next. pairs (λ d f. begins d ≡ true → (is_signature f.content ≡ true) × (f.view ≡ d.view)) (λ j x y here behind is. sound.founded.opened j x y here is behind) opened_of i d f at next starts;
+    opened = λ i d f at starts next. pairs (λ d f. begins d ≡ true → (is_signature f.content ≡ true) × (f.view ≡ d.view)) (λ j x y here after is. sound.founded.opened j x y here is after) opened_of i d f at next starts;
   }
 
   all_sound : IsSound layers (ledger ++ e ∷ [])

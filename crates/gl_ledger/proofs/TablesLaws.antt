@@ -4,8 +4,8 @@ use Rattle.std.specs.List.{slice_get}
 use Rattle.std.proofs.lemmas.Grind.{flat_map-append}
 use Rattle.std.proofs.lemmas.List.{append-nil}
 use Rattle.gl_vmaps.specs.Tables.{Tables, no_tables, wrote, wrote_all}
-use Rattle.gl_vmaps.specs.Versions.{Placed, placed_at, written_behind, greatest_place, version_in, is_to_row, IsAbove}
-use Rattle.gl_vmaps.proofs.TablesLaws.{written_behind-append}
+use Rattle.gl_vmaps.specs.Versions.{Placed, placed_at, written_after, greatest_place, version_in, is_to_row, IsAbove}
+use Rattle.gl_vmaps.proofs.TablesLaws.{written_after-append}
 use Rattle.gl_vmaps.specs.declared.write.Write.{Write}
 use Rattle.gl_entry.specs.Leaf.{leaf_of}
 use Rattle.gl_entry.specs.declared.entry.Entry.{Entry}
@@ -21,40 +21,40 @@ placed_in e = placed_at e.seqno e.writes
 -- ---- the tables
 
 -- places make no difference to what a write set makes of tables
-pub written_behind-placed_at : (t : Tables) (place : ℕ) (ws : List Write) → written_behind t (placed_at place ws) ≡ wrote_all t ws
-written_behind-placed_at t place [] = refl
-written_behind-placed_at t place (w ∷ ws) = written_behind-placed_at (wrote t w) place ws
+pub written_after-placed_at : (t : Tables) (place : ℕ) (ws : List Write) → written_after t (placed_at place ws) ≡ wrote_all t ws
+written_after-placed_at t place [] = refl
+written_after-placed_at t place (w ∷ ws) = written_after-placed_at (wrote t w) place ws
 
 pub writes_of-push : (ledger : List Entry) (e : Entry) → writes_of (ledger ++ e ∷ []) ≡ writes_of ledger ++ placed_in e
 writes_of-push ledger e = flat_map-append placed_in ledger (e ∷ []) ∙ ap (λ (ps : List Placed). writes_of ledger ++ ps) (append-nil (placed_in e))
 
--- what is written behind an entry and others is written behind what the entry makes
-written_behind-cons : (t : Tables) (e : Entry) (es : List Entry) → written_behind t (writes_of (e ∷ es)) ≡ written_behind (wrote_all t e.writes) (writes_of es)
-written_behind-cons t e es =
-    written_behind-append t (placed_in e) (writes_of es) ∙ ap (λ (s : Tables). written_behind s (writes_of es)) (written_behind-placed_at t e.seqno e.writes)
+-- what is written after an entry and others is written after what the entry makes
+written_after-cons : (t : Tables) (e : Entry) (es : List Entry) → written_after t (writes_of (e ∷ es)) ≡ written_after (wrote_all t e.writes) (writes_of es)
+written_after-cons t e es =
+    written_after-append t (placed_in e) (writes_of es) ∙ ap (λ (s : Tables). written_after s (writes_of es)) (written_after-placed_at t e.seqno e.writes)
 
--- the last entry's writes come behind all others
+-- the last entry's writes come after all others
 pub tables_of-push : (ledger : List Entry) (e : Entry) → tables_of (ledger ++ e ∷ []) ≡ wrote_all (tables_of ledger) e.writes
 tables_of-push ledger e =
-    ap (written_behind no_tables) (writes_of-push ledger e) ∙ written_behind-append no_tables (writes_of ledger) (placed_in e)
-    ∙ written_behind-placed_at (tables_of ledger) e.seqno e.writes
+    ap (written_after no_tables) (writes_of-push ledger e) ∙ written_after-append no_tables (writes_of ledger) (placed_in e)
+    ∙ written_after-placed_at (tables_of ledger) e.seqno e.writes
 
 -- ---- the leaves
 
--- the leaf of an entry behind tables
-abbrev pub leaf_behind : Tables → Entry → List ℕ
-leaf_behind t e = leaf_of (identity_in (wrote_all t e.writes)) e
+-- the leaf of an entry after tables
+abbrev pub leaf_after : Tables → Entry → List ℕ
+leaf_after t e = leaf_of (identity_in (wrote_all t e.writes)) e
 
 leaves_from-push : (t : Tables) (es : List Entry) (e : Entry) →
-    leaves_from t (es ++ e ∷ []) ≡ leaves_from t es ++ leaf_behind (written_behind t (writes_of es)) e ∷ []
+    leaves_from t (es ++ e ∷ []) ≡ leaves_from t es ++ leaf_after (written_after t (writes_of es)) e ∷ []
 leaves_from-push t [] e = refl
 leaves_from-push t (f ∷ es) e =
-    ap (λ (ls : List (List ℕ)). leaf_behind t f ∷ ls)
+    ap (λ (ls : List (List ℕ)). leaf_after t f ∷ ls)
     (leaves_from-push (wrote_all t f.writes) es e
-    ∙ ap (λ (s : Tables). leaves_from (wrote_all t f.writes) es ++ leaf_behind s e ∷ []) (sym (written_behind-cons t f es)))
+    ∙ ap (λ (s : Tables). leaves_from (wrote_all t f.writes) es ++ leaf_after s e ∷ []) (sym (written_after-cons t f es)))
 
--- the last entry's leaf comes behind all others, under the identity that is in force there
-pub leaves_of-push : (ledger : List Entry) (e : Entry) → leaves_of (ledger ++ e ∷ []) ≡ leaves_of ledger ++ leaf_behind (tables_of ledger) e ∷ []
+-- the last entry's leaf comes after all others, under the identity that is in force there
+pub leaves_of-push : (ledger : List Entry) (e : Entry) → leaves_of (ledger ++ e ∷ []) ≡ leaves_of ledger ++ leaf_after (tables_of ledger) e ∷ []
 leaves_of-push ledger e = leaves_from-push no_tables ledger e
 
 -- each entry has one leaf

@@ -1,4 +1,5 @@
--- Valid ledgers: they are sound, an entry that breaks no rule keeps one valid, and where it was opened entries may be made behind it.
+-- Valid ledgers: they are sound, an entry that breaks no rule keeps one valid, and where it was
+-- opened entries may be made after it.
 use Rattle.std.proofs.Common.{◌≡◌, ℕ, ◌+◌, ◌-◌, ◌<◌, ◌≤◌, List, [], ◌∷◌, ◌++◌, length, None, Ok, true, false, refl, sym, ◌∙◌, ap, arith}
 use Rattle.gl_base.specs.TxId.{last_seqno}
 use Rattle.gl_base.proofs.Lists.{slice_get-below}
@@ -20,7 +21,7 @@ use Rattle.gl_ledger.specs.LedgerBook.{by_rule}
 use Rattle.gl_ledger.specs.Audit.{audited}
 use Rattle.gl_ledger.proofs.Auditing.{audited_none, audited_all}
 use Rattle.gl_ledger.proofs.Governed.{followed}
-use Rattle.gl_ledger.proofs.Making.{executed_unbroken, signature_with, signed_broken}
+use Rattle.gl_ledger.proofs.MadeEntries.{executed_unbroken, signature_with, signed_broken}
 use Rattle.gl_ledger.proofs.Passing.{passes}
 use Rattle.gl_ledger.proofs.Pushes.{each-push}
 
@@ -35,14 +36,14 @@ module _ (layers : Layers) where
   pub valid-push : (ledger : List Entry) (e : Entry) → audited layers ledger ≡ None → broken layers ledger e ≡ None → audited layers (ledger ++ e ∷ []) ≡ None
   valid-push ledger e h one = audited_all layers (ledger ++ e ∷ []) (each-push (λ i before f. broken layers before f ≡ None) ledger e (audited_none layers ledger h) one)
 
-  -- behind a last entry with which no service begins
-  pub may_make_behind : (ledger : List Entry) (view : ℕ) → 0 < length ledger → is_unopened (last_entry ledger) ≡ false → HasViewsUpTo view ledger → MayMake ledger view
-  may_make_behind ledger view some opened up =
+  -- after a last entry with which no service begins
+  pub may_make_after : (ledger : List Entry) (view : ℕ) → 0 < length ledger → is_unopened (last_entry ledger) ≡ false → HasViewsUpTo view ledger → MayMake ledger view
+  may_make_after ledger view some opened up =
       let last = slice_get-below ledger (length ledger - 1) (omega (arith, some)) in
       record {
         last = last.0;
         is_last = last.1;
-        behind = ap is_unopened (sym last.1) ∙ opened;
+        after = ap is_unopened (sym last.1) ∙ opened;
         up = up (length ledger - 1) last.0 last.1;
       }
 

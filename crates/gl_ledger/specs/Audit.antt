@@ -40,7 +40,7 @@ module _ (layers : Layers) where
   fault_from before (e ∷ es) =
       fault_or (length before + 1) (broken layers before e) (fault_from (before ++ e ∷ []) es)
 
-  -- The first entry of a ledger that breaks a rule behind those before it, if one does. An empty
+  -- The first entry of a ledger that breaks a rule after those before it, if one does. An empty
   -- ledger has none; that it founds no service is for the audit of a file to say.
   unfoldable pub audited : List Entry → Option LedgerFault
   audited ledger = fault_from [] ledger

@@ -1,6 +1,6 @@
--- The rules of the audit, and the first of them that an entry breaks behind a ledger. A ledger is
--- valid where no entry of it breaks one behind those before it. A node refuses an entry from
--- another node for the same answer.
+-- The rules of the audit, and the first of them that an entry breaks after a ledger. A ledger is
+-- valid where no entry of it breaks one after those before it. A node refuses an entry from another
+-- node for the same answer.
 use Rattle.std.specs.Prelude.{ℕ, ◌+◌, List, [], ◌∷◌, ◌++◌, Option, None, Some, Result, Ok, Err, Bool, true, false, not, ◌&&◌, ◌||◌, ◌==◌, nat_le, length, if◌then◌else◌}
 use Rattle.std.specs.List.{list_all, flat_map}
 use Rattle.sha2.specs.Sha256.{sha256}
@@ -59,15 +59,15 @@ breach rule seqno e = replay rule seqno no_digest (sha256 (body_bytes e))
 
 -- Rules 3 and 4: views and what comes first. Rule 2 is that of seqnos, which identifiers can name.
 
--- The first entry founds the service, in the first view. Behind it views never fall, and a recovery
+-- The first entry founds the service, in the first view. After it views never fall, and a recovery
 -- is of the view after the last.
 abbrev pub is_next_view : Option Entry → Recording → ℕ → Bool
 is_next_view None recording view = is_founding recording && (view == first_view)
 is_next_view (Some last) recording view =
     if is_recovering recording then view == last.view + 1 else nat_le last.view view
 
--- An entry that founds a service stands first, and a recovery right behind a signature. The entry
--- behind either of them is a signature of its view.
+-- An entry that founds a service stands first, and a recovery right after a signature. The entry
+-- after either of them is a signature of its view.
 abbrev pub is_in_order : Option Entry → Recording → ℕ → Bool
 is_in_order None recording view = true
 is_in_order (Some last) recording view =
@@ -86,7 +86,7 @@ are_same_writes [] (w ∷ ws) = false
 are_same_writes (v ∷ vs) [] = false
 are_same_writes (v ∷ vs) (w ∷ ws) = is_same_write v w && are_same_writes vs ws
 
--- The digest of a write set: of its bytes in a body, behind its count.
+-- The digest of a write set: of its bytes in a body, after its count.
 abbrev pub writes_digest : List Write → List ℕ
 writes_digest ws = sha256 (little_endian 4 (length ws) ++ flat_map write_bytes ws)
 
@@ -142,21 +142,21 @@ abbrev pub last_signed : List Entry → ℕ
 last_signed [] = 0
 last_signed (e ∷ es) = seqno_with_first (is_signature e.content) (last_signed es)
 
-abbrev pub commit_behind : ℕ → Content → ℕ
-commit_behind commit (content.Signature s) = s.commit
-commit_behind commit (content.Governance bytes) = commit
-commit_behind commit (content.Application bytes) = commit
-commit_behind commit (content.Evidence d) = commit
+abbrev pub commit_after : ℕ → Content → ℕ
+commit_after commit (content.Signature s) = s.commit
+commit_after commit (content.Governance bytes) = commit
+commit_after commit (content.Application bytes) = commit
+commit_after commit (content.Evidence d) = commit
 
 abbrev pub commit_from : ℕ → List Entry → ℕ
 commit_from commit [] = commit
-commit_from commit (e ∷ es) = commit_from (commit_behind commit e.content) es
+commit_from commit (e ∷ es) = commit_from (commit_after commit e.content) es
 
 -- The commit that the last signature of a ledger records, 0 where there is none.
 abbrev pub last_commit : List Entry → ℕ
 last_commit ledger = commit_from 0 ledger
 
--- Of a node that is marked behind a seqno, the removal is not above commit.
+-- Of a node that is marked after a seqno, the removal is not above commit.
 abbrev pub is_above_removal : Option ℕ → Option ℕ → ℕ → ℕ → Bool
 is_above_removal None removal seqno commit = true
 is_above_removal (Some mark) None seqno commit = true
@@ -182,8 +182,7 @@ is_later_commit ledger commit =
     is_above_removal (mark ledger y) (removal ledger y) (last_signed ledger) commit)
     (recorded_nodes ledger)
 
--- The commit that a signature behind a ledger may record: its own seqno, where it opens the
--- service.
+-- The commit that a signature after a ledger may record: its own seqno, where it opens the service.
 abbrev pub may_record : List Entry → ℕ → Bool
 may_record ledger commit =
     if is_unopened (last_entry ledger)
@@ -191,7 +190,7 @@ may_record ledger commit =
     else is_later_commit ledger commit
 
 module _ (layers : Layers) where
-  -- Why the signature of an entry isn't valid behind a ledger, under the identity in force.
+  -- Why the signature of an entry isn't valid after a ledger, under the identity in force.
   abbrev pub fault_of_signature : List Entry → Entry → signatures.Signature → Option HssFault
   fault_of_signature ledger e s =
       layers.signature_fault (identity_in (tables_of ledger)) s.node
@@ -228,6 +227,6 @@ module _ (layers : Layers) where
       (broken_by recording ledger e)
       ))))
 
-  -- The first rule that an entry breaks behind a ledger, if it breaks one.
+  -- The first rule that an entry breaks after a ledger, if it breaks one.
   unfoldable pub broken : List Entry → Entry → Option Broken
   broken ledger e = broken_where (recording_of e.content) ledger e

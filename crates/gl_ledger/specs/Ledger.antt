@@ -1,4 +1,4 @@
--- The entries that are made of requests behind a ledger, and why none is made.
+-- The entries that are made of requests after a ledger, and why none is made.
 use Rattle.std.specs.Prelude.{◌≡◌, ℕ, ◌+◌, ◌≤◌, List, [], ◌∷◌, Some, Result, Ok, Err, length, nat_lt, slice_get, if◌then◌else◌}
 use Rattle.sha2.specs.Sha256.{sha256}
 use Rattle.gl_merkle.specs.Tree.{root_of}
@@ -14,7 +14,7 @@ use Rattle.gl_entry.specs.Entry.{no_digest, body_bytes, body_limit}
 use Rattle.gl_entry.specs.SignedMessage.{signed_message}
 use Rattle.gl_entry.specs.declared.entry.Content.TheVariants as content
 use Rattle.gl_entry.specs.declared.entry.Entry.{Entry}
-use Rattle.gl_requests.specs.Spelling as requests_spelled
+use Rattle.gl_requests.specs.Encoding as requests_encoded
 use Rattle.gl_requests.specs.declared.genesis.Genesis as founding
 use Rattle.gl_requests.specs.declared.genesis.ServiceState.{ServiceState}
 use Rattle.gl_requests.specs.declared.genesis.ServiceState.TheVariants.{Open}
@@ -28,12 +28,12 @@ use Rattle.gl_ledger.specs.Tree.{tables_of, leaves_of}
 use Rattle.gl_ledger.specs.declared.refusal.Refusal.{Refusal}
 use Rattle.gl_ledger.specs.declared.refusal.Refusal.TheVariants as refusals
 
--- The entry of a request of governance behind a ledger, with the write set of its effect.
+-- The entry of a request of governance after a ledger, with the write set of its effect.
 abbrev pub governance_entry : GovernanceRequest → List Entry → ℕ → Entry
 governance_entry g ledger view = record {
   view = view;
   seqno = length ledger + 1;
-  content = content.Governance (requests_spelled.request_bytes g);
+  content = content.Governance (requests_encoded.request_bytes g);
   writes = effect_writes (requests_of ledger)
       (record { seqno = length ledger + 1; request = g });
   claims = no_digest;
@@ -43,7 +43,7 @@ governance_entry g ledger view = record {
 abbrev pub genesis_entry : founding.Genesis → Entry
 genesis_entry g = governance_entry (requests.Genesis g) [] first_view
 
--- The entry of a node's signature behind a ledger, of these bytes, which records this commit.
+-- The entry of a node's signature after a ledger, of these bytes, which records this commit.
 abbrev pub signature_entry : NodeId → List ℕ → List Entry → ℕ → ℕ → Entry
 signature_entry node signature ledger view commit = record {
   view = view;
@@ -58,10 +58,10 @@ signature_entry node signature ledger view commit = record {
   claims = no_digest;
 }
 
--- What a node signs behind a ledger: the root of the tree of its entries, and the signature's
+-- What a node signs after a ledger: the root of the tree of its entries, and the signature's
 -- identifier and commit.
-abbrev pub message_behind : List Entry → ℕ → ℕ → List ℕ
-message_behind ledger view commit =
+abbrev pub message_after : List Entry → ℕ → ℕ → List ℕ
+message_after ledger view commit =
     signed_message (root_of (leaves_of ledger)) view (length ledger + 1) commit
 
 -- The opening ledger: the genesis, and the first signature, which records its own seqno.
@@ -74,7 +74,7 @@ abbrev pub HasViewsUpTo : ℕ → List Entry → Type 0
 HasViewsUpTo view ledger =
     (i : ℕ) (e : Entry) → slice_get ledger i ≡ Some e → e.view ≤ view
 
--- The entry of a request that ran behind a ledger.
+-- The entry of a request that ran after a ledger.
 abbrev pub application_entry : List Entry → ℕ → List Operation → Ran → Entry
 application_entry ledger view operations ran = record {
   view = view;
@@ -99,7 +99,7 @@ within_limits ledger e answers =
     within_size (length (body_bytes e))
     (within_size (length (reply_bytes answers)) (within_seqnos ledger (e, answers)))
 
--- What a request that ran makes behind a ledger: its entry and its reply, or its abort.
+-- What a request that ran makes after a ledger: its entry and its reply, or its abort.
 abbrev pub run_result : List Entry → ℕ → List Operation → Result Ran Abort →
     Result (Entry × List Answer) Refusal
 run_result ledger view operations (Err abort) = Err (refusals.Aborted abort)
@@ -113,12 +113,12 @@ execute_in Open ledger view operations =
     run_result ledger view operations (run operations (tables_of ledger))
 execute_in state ledger view operations = Err (refusals.ServiceState state)
 
--- What an application request makes behind a ledger: an entry and a reply, or its refusal.
+-- What an application request makes after a ledger: an entry and a reply, or its refusal.
 abbrev pub execute_result : List Entry → ℕ → List Operation → Result (Entry × List Answer) Refusal
 execute_result ledger view operations =
     execute_in (service_state (tables_of ledger)) ledger view operations
 
--- What a node's signature, of these bytes, makes behind a ledger.
+-- What a node's signature, of these bytes, makes after a ledger.
 abbrev pub sign_result : NodeId → List ℕ → List Entry → ℕ → ℕ → Result Entry Refusal
 sign_result node signature ledger view commit =
     within_seqnos ledger (signature_entry node signature ledger view commit)

@@ -15,12 +15,12 @@ use Rattle.gl_ledger.specs.Layers.{Layers}
 use Rattle.gl_ledger.specs.NodeKeys.{NodeKeys, leaf_count}
 use Rattle.gl_ledger.specs.Recordings.{requests_of, recorded_nodes, configuration, removal, mark}
 use Rattle.gl_ledger.specs.declared.breach.Broken.{Broken}
-use Rattle.gl_ledger.specs.declared.made.Reads.{Reads}
+use Rattle.gl_ledger.specs.declared.response.Reads.{Reads}
 use Rattle.gl_ledger.specs.declared.refusal.Refusal.TheVariants as refusals
 use Rattle.gl_ledger.specs.Broken.{broken}
-use Rattle.gl_ledger.specs.declared.made.Given.{Given}
-use Rattle.gl_ledger.specs.declared.made.Unmade.{Unmade}
-use Rattle.gl_ledger.specs.declared.made.Unmade.TheVariants.{ByStore, NoEvidenceYet, ByRule}
+use Rattle.gl_ledger.specs.declared.response.Response.{Response}
+use Rattle.gl_ledger.specs.declared.response.Rejection.{Rejection}
+use Rattle.gl_ledger.specs.declared.response.Rejection.TheVariants.{ByStore, NoEvidenceYet, ByRule}
 use Rattle.gl_ledger.specs.Makers.{guarded, request_result, govern_result, unless_empty, signing_result}
 
 -- The node that a request marks.
@@ -28,16 +28,16 @@ abbrev pub marked_node : GovernanceRequest → Option NodeId
 marked_node (requests.Mark x) = Some x
 marked_node other = None
 
-abbrev pub by_refusal : Option GovernanceRefusal → Option Unmade
+abbrev pub by_refusal : Option GovernanceRefusal → Option Rejection
 by_refusal None = None
 by_refusal (Some why) = Some (ByStore (refusals.Governance why))
 
-abbrev pub by_rule : Option Broken → Option Unmade
+abbrev pub by_rule : Option Broken → Option Rejection
 by_rule None = None
 by_rule (Some why) = Some (ByRule why)
 
 abbrev pub ServiceBook : Type 0
-ServiceBook = Book Entry (List Operation) GovernanceRequest Reads Given Unmade
+ServiceBook = Book Entry (List Operation) GovernanceRequest Reads Response Rejection
 
 abbrev pub ledger_book : Layers → NodeKeys → ServiceBook
 ledger_book layers keys = record {

@@ -11,5 +11,5 @@ pub mod Sound
 pub mod Makers
 pub mod LedgerBook
 pub mod Audit
-pub mod Opening
+pub mod OpeningLedger
 pub mod Recovery

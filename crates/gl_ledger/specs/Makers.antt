@@ -21,96 +21,96 @@ use Rattle.gl_gov_rules.specs.declared.change.ProposalStatus.{ProposalStatus}
 use Rattle.gl_gov_rules.specs.Governed.{is_founding, is_recovery}
 use Rattle.gl_gov_rules.specs.Refusals.{refusal}
 use Rattle.gl_ledger.specs.Tree.{leaves_of}
-use Rattle.gl_ledger.specs.Ledger.{governance_entry, genesis_entry, signature_entry, opening_ledger, message_behind, execute_result, sign_result, within_size, within_seqnos}
+use Rattle.gl_ledger.specs.Ledger.{governance_entry, genesis_entry, signature_entry, opening_ledger, message_after, execute_result, sign_result, within_size, within_seqnos}
 use Rattle.gl_ledger.specs.declared.refusal.Refusal.{Refusal}
 use Rattle.gl_ledger.specs.declared.refusal.Refusal.TheVariants as refusals
 use Rattle.gl_ledger.specs.Layers.{Layers}
 use Rattle.gl_ledger.specs.NodeKeys.{NodeKeys, node_signature}
 use Rattle.gl_ledger.specs.Recordings.{endorsement_in, last_entry, requests_of}
 use Rattle.gl_ledger.specs.declared.breach.Broken.{Broken}
-use Rattle.gl_ledger.specs.declared.made.Given.{Given}
-use Rattle.gl_ledger.specs.declared.made.Given.TheVariants.{Replied, Governed}
-use Rattle.gl_ledger.specs.declared.made.Unmade.{Unmade}
-use Rattle.gl_ledger.specs.declared.made.Unmade.TheVariants.{ByStore, Unspelled, NoEntry, Founding, ByRule}
+use Rattle.gl_ledger.specs.declared.response.Response.{Response}
+use Rattle.gl_ledger.specs.declared.response.Response.TheVariants.{Replied, Governed}
+use Rattle.gl_ledger.specs.declared.response.Rejection.{Rejection}
+use Rattle.gl_ledger.specs.declared.response.Rejection.TheVariants.{ByStore, Unencodable, NoEntry, Founding, ByRule}
 use Rattle.gl_ledger.specs.Broken.{is_unopened, fault_of_signature, broken}
 
-abbrev pub with_reply : Result (Entry × List Answer) Refusal → Result (Entry × Given) Unmade
+abbrev pub with_reply : Result (Entry × List Answer) Refusal → Result (Entry × Response) Rejection
 with_reply (Ok made) = Ok (made.0, Replied made.1)
 with_reply (Err why) = Err (ByStore why)
 
--- What an application request makes, where bytes spell it.
-abbrev pub request_result : List Entry → ℕ → List Operation → Result (Entry × Given) Unmade
+-- What an application request makes, where bytes encode it.
+abbrev pub request_result : List Entry → ℕ → List Operation → Result (Entry × Response) Rejection
 request_result ledger view q =
-    if is_request q then with_reply (execute_result ledger view q) else Err Unspelled
+    if is_request q then with_reply (execute_result ledger view q) else Err Unencodable
 
-abbrev pub by_store : {X : Type 0} → Result X Refusal → Result X Unmade
+abbrev pub by_store : {X : Type 0} → Result X Refusal → Result X Rejection
 by_store (Ok made) = Ok made
 by_store (Err why) = Err (ByStore why)
 
-abbrev pub unless_refused : Option GovernanceRefusal → Result (Entry × Given) Unmade →
-    Result (Entry × Given) Unmade
+abbrev pub unless_refused : Option GovernanceRefusal → Result (Entry × Response) Rejection →
+    Result (Entry × Response) Rejection
 unless_refused None made = made
 unless_refused (Some why) made = Err (ByStore (refusals.Governance why))
 
 -- Nothing is signed where there is no entry.
-abbrev pub unless_empty : {X : Type 0} → List Entry → Result X Unmade → Result X Unmade
+abbrev pub unless_empty : {X : Type 0} → List Entry → Result X Rejection → Result X Rejection
 unless_empty [] made = Err NoEntry
 unless_empty (e ∷ es) made = made
 
--- The proposal that a request behind a ledger concerns, in the state that it then has.
-abbrev pub status_behind : List Entry → GovernanceRequest → Option ProposalStatus
-status_behind ledger g =
+-- The proposal that a request after a ledger concerns, in the state that it then has.
+abbrev pub status_after : List Entry → GovernanceRequest → Option ProposalStatus
+status_after ledger g =
     proposal_status (history (requests_of ledger
     ++ record { seqno = length ledger + 1; request = g } ∷ [])) g
 
 -- The entry of an accepted request, and what is answered.
-abbrev pub governance_made : List Entry → GovernanceRequest → Entry → Entry × Given
-governance_made ledger g e = (e, Governed (status_behind ledger g))
+abbrev pub governance_made : List Entry → GovernanceRequest → Entry → Entry × Response
+governance_made ledger g e = (e, Governed (status_after ledger g))
 
 -- What a request of governance makes that is accepted, within the limits of bodies and seqnos.
-abbrev pub governed_within : List Entry → GovernanceRequest → Entry → Result (Entry × Given) Unmade
+abbrev pub governed_within : List Entry → GovernanceRequest → Entry → Result (Entry × Response) Rejection
 governed_within ledger g e =
     by_store (within_size (length (body_bytes e))
     (within_seqnos ledger (governance_made ledger g e)))
 
 -- What a request of governance makes that founds no service: first it may be refused for what it
 -- asks, then for its size, then for want of a seqno.
-abbrev pub accepted_result : List Entry → ℕ → GovernanceRequest → Result (Entry × Given) Unmade
+abbrev pub accepted_result : List Entry → ℕ → GovernanceRequest → Result (Entry × Response) Rejection
 accepted_result ledger view g =
     unless_refused (refusal (history (requests_of ledger)) (length ledger + 1) g)
     (governed_within ledger g (governance_entry g ledger view))
 
--- What a request of governance makes, where bytes spell it.
-abbrev pub govern_result : List Entry → ℕ → GovernanceRequest → Result (Entry × Given) Unmade
+-- What a request of governance makes, where bytes encode it.
+abbrev pub govern_result : List Entry → ℕ → GovernanceRequest → Result (Entry × Response) Rejection
 govern_result ledger view g =
     if ranges.is_request g
     then (if is_founding g || is_recovery g then Err Founding else accepted_result ledger view g)
-    else Err Unspelled
+    else Err Unencodable
 
--- An entry may be made in a view behind a ledger: the ledger has an entry, the last one doesn't
+-- An entry may be made in a view after a ledger: the ledger has an entry, the last one doesn't
 -- found the service, and its view is not above this one.
 pub record MayMake (ledger : List Entry) (view : ℕ) : Type 0 where
   pub last : Entry
   pub is_last : last_entry ledger ≡ Some last
-  pub behind : is_unopened (Some last) ≡ false
+  pub suffix : is_unopened (Some last) ≡ false
   pub up : last.view ≤ view
 
-abbrev pub unless_broken : {X : Type 0} → Option Broken → X → Result X Unmade
+abbrev pub unless_broken : {X : Type 0} → Option Broken → X → Result X Rejection
 unless_broken None made = Ok made
 unless_broken (Some why) made = Err (ByRule why)
 
 module _ (layers : Layers) where
   -- What was made, unless its entry breaks a rule.
-  abbrev pub guarded : {X : Type 0} → (X → Entry) → List Entry → Result X Unmade → Result X Unmade
+  abbrev pub guarded : {X : Type 0} → (X → Entry) → List Entry → Result X Rejection → Result X Rejection
   guarded entry_of ledger (Ok made) = unless_broken (broken layers ledger (entry_of made)) made
   guarded entry_of ledger (Err why) = Err why
 
 module _ (keys : NodeKeys) where
-  -- The signature of a node behind a ledger, with one of its leaves, which records this commit. It
+  -- The signature of a node after a ledger, with one of its leaves, which records this commit. It
   -- has the endorsement that stands in the node's own row of the ledger.
-  abbrev pub signature_behind : NodeId → ℕ → List Entry → ℕ → ℕ → List ℕ
-  signature_behind x leaf ledger view commit =
-      node_signature keys (endorsement_in ledger x) x leaf (message_behind ledger view commit)
+  abbrev pub signature_after : NodeId → ℕ → List Entry → ℕ → ℕ → List ℕ
+  signature_after x leaf ledger view commit =
+      node_signature keys (endorsement_in ledger x) x leaf (message_after ledger view commit)
 
   -- What its entry records.
   abbrev pub signature_made : NodeId → ℕ → List Entry → ℕ → ℕ → signatures.Signature
@@ -118,29 +118,29 @@ module _ (keys : NodeKeys) where
     node = x;
     commit = commit;
     root = root_of (leaves_of ledger);
-    signature = signature_behind x leaf ledger view commit;
+    signature = signature_after x leaf ledger view commit;
   }
 
   -- Its entry.
   abbrev pub signed_entry : NodeId → ℕ → List Entry → ℕ → ℕ → Entry
   signed_entry x leaf ledger view commit =
-      signature_entry x (signature_behind x leaf ledger view commit) ledger view commit
+      signature_entry x (signature_after x leaf ledger view commit) ledger view commit
 
-  abbrev pub signing_result : NodeId → ℕ → List Entry → ℕ → ℕ → Result Entry Unmade
+  abbrev pub signing_result : NodeId → ℕ → List Entry → ℕ → ℕ → Result Entry Rejection
   signing_result x leaf ledger view commit =
-      by_store (sign_result x (signature_behind x leaf ledger view commit) ledger view commit)
+      by_store (sign_result x (signature_after x leaf ledger view commit) ledger view commit)
 
   -- The opening ledger: the genesis, and a node's signature with its first leaf, which records its
   -- own seqno.
   abbrev pub opening_of : founding.Genesis → NodeId → List Entry
   opening_of g x =
-      opening_ledger g x (signature_behind x 0 (genesis_entry g ∷ []) first_view 2)
+      opening_ledger g x (signature_after x 0 (genesis_entry g ∷ []) first_view 2)
 
--- What a node signs behind a ledger is valid there, and an entry has room for it.
+-- What a node signs after a ledger is valid there, and an entry has room for it.
 pub record MakesValid (layers : Layers) (keys : NodeKeys) (x : NodeId) (leaf : ℕ)
     (ledger : List Entry) (view commit : ℕ) : Type 0 where
-  pub bytes : are_bytes (signature_behind keys x leaf ledger view commit) ≡ true
-  pub short : length (signature_behind keys x leaf ledger view commit) ≤ 2 ^ 16
+  pub bytes : are_bytes (signature_after keys x leaf ledger view commit) ≡ true
+  pub short : length (signature_after keys x leaf ledger view commit) ≤ 2 ^ 16
   pub valid : fault_of_signature layers ledger (signed_entry keys x leaf ledger view commit)
       (signature_made keys x leaf ledger view commit)
       ≡ None

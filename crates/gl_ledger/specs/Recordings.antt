@@ -4,12 +4,12 @@ use Rattle.std.specs.Prelude.{ℕ, suc, ◌-◌, List, [], ◌∷◌, ◌++◌, 
 use Rattle.gl_base.specs.Bytes.{same_bytes}
 use Rattle.gl_base.specs.declared.fault.CodeFault.{CodeFault}
 use Rattle.gl_rules.specs.Identity.{NodeId}
-use Rattle.gl_tx.specs.Reading.{request_of}
+use Rattle.gl_tx.specs.Parsing.{request_of}
 use Rattle.gl_tx.specs.declared.request.Operation.{Operation}
 use Rattle.gl_entry.specs.declared.entry.Content.{Content}
 use Rattle.gl_entry.specs.declared.entry.Content.TheVariants as content
 use Rattle.gl_entry.specs.declared.entry.Entry.{Entry}
-use Rattle.gl_requests.specs.Reading.{request_in}
+use Rattle.gl_requests.specs.Parsing.{request_in}
 use Rattle.gl_requests.specs.declared.request.GovernanceRequest.{GovernanceRequest}
 use Rattle.gl_gov_rules.specs.declared.change.Recorded.{Recorded}
 use Rattle.gl_gov_rules.specs.declared.change.RecordedNode.{RecordedNode}
@@ -34,7 +34,7 @@ is_founding (recordings.Application request) = false
 is_founding (recordings.Signature s) = false
 is_founding (recordings.Evidence d) = false
 
--- It is a request that founds a service anew.
+-- It is a request that recovers a service.
 abbrev pub is_recovering : Recording → Bool
 is_recovering (recordings.Governance request) = governed.is_recovery request
 is_recovering (recordings.Application request) = false
@@ -60,7 +60,7 @@ records_recovery (Some recording) = is_recovering recording
 abbrev pub last_entry : List Entry → Option Entry
 last_entry ledger = slice_get ledger (length ledger - 1)
 
--- What an entry records, if its bytes spell it.
+-- What an entry records, if its bytes encode it.
 abbrev pub recording_of : Content → Option Recording
 recording_of (content.Governance bytes) = governance_recording (request_in bytes)
 recording_of (content.Application bytes) = application_recording (request_of bytes)
@@ -71,7 +71,7 @@ recording_of (content.Evidence d) = Some (recordings.Evidence d)
 abbrev pub founds : Entry → Bool
 founds e = records_founding (recording_of e.content)
 
--- The entry founds a service anew.
+-- The entry recovers a service.
 abbrev pub recovers : Entry → Bool
 recovers e = records_recovery (recording_of e.content)
 

@@ -1,4 +1,4 @@
--- How a service is founded anew, after a disaster, behind the last signature of its ledger (CCF
+-- How a service is recovered, after a disaster, after the last signature of its ledger (CCF
 -- documentation, "Disaster Recovery"): by the entry of a recovery, which names another key and
 -- other nodes, and by the signature of one of these that opens the service.
 use Rattle.std.specs.Prelude.{◌≡◌, ◌<◌, ◌≤◌, ◌+◌, ◌^◌, ℕ, List, [], ◌∷◌, ◌++◌, Option, None, Some, Result, Ok, Err, true, length, map}
@@ -6,7 +6,7 @@ use Rattle.gl_base.specs.TxId.{last_seqno}
 use Rattle.gl_rules.specs.Identity.{NodeId, member}
 use Rattle.gl_entry.specs.Entry.{body_bytes}
 use Rattle.gl_entry.specs.declared.entry.Entry.{Entry}
-use Rattle.gl_requests.specs.Spelling.{node_id}
+use Rattle.gl_requests.specs.Encoding.{node_id}
 use Rattle.gl_requests.specs.Ranges.{is_request}
 use Rattle.gl_requests.specs.declared.genesis.Recovery.{Recovery}
 use Rattle.gl_requests.specs.declared.request.GovernanceRequest.TheVariants as requests
@@ -20,7 +20,7 @@ use Rattle.gl_ledger.specs.Layers.{Layers}
 use Rattle.gl_ledger.specs.NodeKeys.{NodeKeys}
 use Rattle.gl_ledger.specs.Recordings.{last_entry, requests_of}
 use Rattle.gl_ledger.specs.Broken.{signs_at}
-use Rattle.gl_ledger.specs.Makers.{signature_behind, MakesValid}
+use Rattle.gl_ledger.specs.Makers.{signature_after, MakesValid}
 use Rattle.gl_ledger.specs.Audit.{audited}
 
 -- The view of the last entry, 0 where there is none.
@@ -28,11 +28,11 @@ abbrev pub view_of_last : Option Entry → ℕ
 view_of_last None = 0
 view_of_last (Some last) = last.view
 
--- The view in which a service is founded anew: the one after the view of the ledger's last entry.
+-- The view in which a service is recovered: the one after the view of the ledger's last entry.
 abbrev pub recovery_view : List Entry → ℕ
 recovery_view ledger = view_of_last (last_entry ledger) + 1
 
--- The entry of a recovery behind a ledger, with the write set of its effect.
+-- The entry of a recovery after a ledger, with the write set of its effect.
 abbrev pub recovery_entry : Recovery → List Entry → Entry
 recovery_entry r ledger = governance_entry (requests.Recover r) ledger (recovery_view ledger)
 
@@ -46,14 +46,14 @@ abbrev pub where_accepted : {X : Type 0} → Option GovernanceRefusal → Result
 where_accepted None made = made
 where_accepted (Some why) made = Err (refusals.Governance why)
 
--- What a recovery makes behind a ledger, its entry; unless the rules of governance refuse it, or
+-- What a recovery makes after a ledger, its entry; unless the rules of governance refuse it, or
 -- else the body is too large.
 abbrev pub recovery_result : Recovery → List Entry → Result Entry Refusal
 recovery_result r ledger =
     where_accepted (refusal (history (requests_of ledger)) (length ledger + 1) (requests.Recover r))
     (within_size (length (body_bytes (recovery_entry r ledger))) (Ok (recovery_entry r ledger)))
 
--- The recovered ledger: the old one, the recovery, and the signature that opens the service anew,
+-- The recovered ledger: the old one, the recovery, and the signature that opens the service again,
 -- which is of the recovery's view and records its own seqno.
 abbrev pub recovered_ledger : Recovery → NodeId → List ℕ → List Entry → List Entry
 recovered_ledger r node signature ledger =
@@ -65,12 +65,12 @@ recovered_ledger r node signature ledger =
 abbrev pub recovered_of : NodeKeys → Recovery → NodeId → ℕ → List Entry → List Entry
 recovered_of keys r x leaf ledger =
     recovered_ledger r x
-    (signature_behind keys x leaf (with_recovery r ledger) (recovery_view ledger)
+    (signature_after keys x leaf (with_recovery r ledger) (recovery_view ledger)
     (length ledger + 2)) ledger
 
 -- The ledger is valid and ends with a signature, and views and seqnos are left for two entries
 -- more. The fields of the recovery are in their ranges, it is accepted, and a node that it names
--- signs validly behind it, with this leaf.
+-- signs validly after it, with this leaf.
 pub record Refounds (layers : Layers) (keys : NodeKeys) (ledger : List Entry) (r : Recovery)
     (x : NodeId) (leaf : ℕ) : Type 0 where
   pub valid : audited layers ledger ≡ None

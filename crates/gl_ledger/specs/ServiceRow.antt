@@ -1,12 +1,12 @@
 -- What the service's row tells: its state, and the key that is in force.
 use Rattle.std.specs.Prelude.{ℕ, List, [], ◌∷◌, Option, None, Some, drop, ◌==◌, if◌then◌else◌}
 use Rattle.gl_vmaps.specs.Tables.{Tables, value_in}
-use Rattle.gl_requests.specs.Spelling.{state_byte}
+use Rattle.gl_requests.specs.Encoding.{state_byte}
 use Rattle.gl_requests.specs.declared.genesis.ServiceState.{ServiceState}
 use Rattle.gl_requests.specs.declared.genesis.ServiceState.TheVariants as services
 use Rattle.gl_gov_rules.specs.Rows.{service_map, service_key}
 
--- The state that a byte spells; a byte that spells none counts as that of a service that opens.
+-- The state that a byte encodes; a byte that encodes none counts as that of a service that opens.
 abbrev pub state_of_byte : ℕ → ServiceState
 state_of_byte byte =
     if byte == state_byte services.Open then services.Open
@@ -23,7 +23,7 @@ state_of_value (Some (b ∷ bytes)) = state_of_byte b
 abbrev pub service_state : Tables → ServiceState
 service_state tables = state_of_value (value_in tables service_map service_key)
 
--- The service's key behind the two bytes that its row begins with; without a row there is none.
+-- The service's key after the two bytes that its row begins with; without a row there is none.
 abbrev pub identity_of_value : Option (List ℕ) → List ℕ
 identity_of_value None = []
 identity_of_value (Some value) = drop 2 value

@@ -14,9 +14,9 @@ use Rattle.gl_entry.specs.declared.entry.Content.{Content}
 use Rattle.gl_entry.specs.declared.entry.Content.TheVariants as content
 use Rattle.gl_entry.specs.declared.entry.Entry.{Entry}
 use Rattle.gl_entry.specs.declared.entry.Signature as signatures
-use Rattle.gl_requests.specs.Spelling as requests_spelled
+use Rattle.gl_requests.specs.Encoding as requests_encoded
 use Rattle.gl_requests.specs.Ranges as ranges
-use Rattle.gl_requests.specs.Reading.{request_in}
+use Rattle.gl_requests.specs.Parsing.{request_in}
 use Rattle.gl_requests.specs.declared.genesis.ServiceState.TheVariants.{Open}
 use Rattle.gl_requests.specs.declared.request.GovernanceRequest.{GovernanceRequest}
 use Rattle.gl_gov_rules.specs.Changes.{history}
@@ -31,8 +31,8 @@ use Rattle.gl_ledger.specs.Recordings.{founds, recovers, begins, requests_of, re
 use Rattle.gl_ledger.specs.Broken.{may_record, fault_of_signature}
 
 -- The first entry founds the service, in the first view, and no other does. A recovery, which
--- founds it anew, stands right behind a signature, in the view after its. Behind each of them
--- stands the signature that opens the service, of the same view.
+-- recovers it, stands right after a signature, in the view after its. After each of them stands the
+-- signature that opens the service, of the same view.
 pub record IsFounded (ledger : List Entry) : Type 0 where
   pub first : (e : Entry) → slice_get ledger 0 ≡ Some e →
       (founds e ≡ true) × (e.view ≡ first_view)
@@ -43,7 +43,7 @@ pub record IsFounded (ledger : List Entry) : Type 0 where
   pub opened : (i : ℕ) (e f : Entry) → slice_get ledger i ≡ Some e → begins e ≡ true →
       slice_get ledger (suc i) ≡ Some f → (is_signature f.content ≡ true) × (f.view ≡ e.view)
 
--- No entry of the ledger founds its service anew.
+-- No entry of the ledger recovers its service.
 abbrev pub IsUnrecovered : List Entry → Type 0
 IsUnrecovered ledger =
     (i : ℕ) (e : Entry) → slice_get ledger i ≡ Some e → recovers e ≡ false
@@ -53,7 +53,7 @@ pub record IsGovernanceEntry (before : List Entry) (e : Entry) (bytes : List ℕ
   pub request : GovernanceRequest
   pub reads : request_in bytes ≡ Some request
   pub fits : ranges.is_request request ≡ true
-  pub spelled : bytes ≡ requests_spelled.request_bytes request
+  pub encoded : bytes ≡ requests_encoded.request_bytes request
   pub accepted : refusal (history (requests_of before)) (length before + 1) request ≡ None
   pub turns : Turns e.writes (effect (requests_of before))
       (effect (requests_of before
@@ -66,7 +66,7 @@ pub record IsApplicationEntry (before : List Entry) (e : Entry) (bytes : List �
   pub is_open : service_state (effect (requests_of before)) ≡ Open
   pub request : List Operation
   pub fits : is_request request ≡ true
-  pub spelled : bytes ≡ request_bytes request
+  pub encoded : bytes ≡ request_bytes request
   pub ran : Ran
   pub runs : run request (tables_of before) ≡ Ok ran
   pub writes : e.writes ≡ ran.writes
@@ -90,7 +90,7 @@ module _ (layers : Layers) where
     pub commit : may_record before s.commit ≡ true
     pub valid : fault_of_signature layers before e s ≡ None
 
-  -- The entry is what its content says it is, behind the ledger before it. For now there is no
+  -- The entry is what its content says it is, after the ledger before it. For now there is no
   -- evidence entry.
   abbrev pub StandsAs : Content → List Entry → Entry → Type 0
   StandsAs (content.Governance bytes) before e = IsGovernanceEntry before e bytes
@@ -98,7 +98,7 @@ module _ (layers : Layers) where
   StandsAs (content.Signature s) before e = IsSignatureEntry before e s
   StandsAs (content.Evidence d) before e = ⊥
 
-  -- A ledger is one serial run: each entry is what it says behind the entries before it, and behind
+  -- A ledger is one serial run: each entry is what it says after the entries before it, and after
   -- no others.
   abbrev pub IsSerial : List Entry → Type 0
   IsSerial ledger =

@@ -15,7 +15,7 @@ writes_of ledger = flat_map (λ (e : Entry). placed_at e.seqno e.writes) ledger
 abbrev pub tables_of : List Entry → Tables
 tables_of ledger = written_by (writes_of ledger)
 
--- The leaves of entries that stand behind tables, each under the identity that is in force once the
+-- The leaves of entries that stand after tables, each under the identity that is in force once the
 -- entry's own writes are made.
 abbrev pub leaves_from : Tables → List Entry → List (List ℕ)
 leaves_from tables [] = []

@@ -39,7 +39,7 @@ pub enum EntryRefusal {
     },
 }
 
-/// The first rule of the audit that an entry breaks behind a ledger.
+/// The first rule of the audit that an entry breaks after a ledger.
 #[derive(Clone, Copy, Debug, PartialEq, Eq, Error)]
 #[error("rule {rule}: {refusal}")]
 pub struct Broken {

@@ -13,7 +13,7 @@ ghost use Rattle.gl_rules.specs.Log.{greatest_recorded};
 ghost use Rattle.gl_rules.specs.Safety.{EachFollows, IsLawful, IsOpening, IsRetiring, MayRecord};
 ghost use Rattle.gl_rules.specs.World.{Start};
 ghost use Rattle.gl_requests.specs.Ranges.{is_genesis};
-ghost use Rattle.gl_requests.specs.Spelling.{node_id};
+ghost use Rattle.gl_requests.specs.Encoding.{node_id};
 ghost use Rattle.gl_requests.specs.declared.genesis.Genesis.{Genesis};
 ghost use Rattle.gl_requests.specs.declared.genesis.NewNode.{NewNode};
 ghost use Rattle.gl_requests.specs.declared.genesis.Recovery.{Recovery};
@@ -33,7 +33,7 @@ ghost use Rattle.gl_ledger.specs.Makers.{MayMake, MakesValid, govern_result, ope
 ghost use Rattle.gl_ledger.specs.LedgerBook.{ledger_book};
 ghost use Rattle.gl_ledger.specs.Audit.{LedgerFault, IsFaultOf, audited, opened};
 ghost use Rattle.gl_ledger.specs.NodeKeys.{IsNodeKey, IsSignedBy, NodeKeys, leaf_count, node_signature, node_signature_fault, service_layers};
-ghost use Rattle.gl_ledger.specs.Opening.{Begins, Founds};
+ghost use Rattle.gl_ledger.specs.OpeningLedger.{Begins, Founds};
 ghost use Rattle.gl_ledger.specs.Recovery.{Refounds, recovered_of};
 
 /// The ledger has the laws that the rules of consensus ask of a book.
@@ -78,8 +78,8 @@ pub fn is_audited()
 /// opening ledger of each genesis that founds a service, and tells who signed it. The nodes of that
 /// genesis are recorded, in its order, and are the first configuration. Whatever entries follow,
 /// each has in its row the endorsement that the genesis names. The check takes the recovered ledger
-/// of each recovery that founds a service anew, too. Behind it the key that this names is in force,
-/// and of all nodes those that it names are trusted, in its order.
+/// of each recovery that recovers a service, too. After it the key that this names is in force, and
+/// of all nodes those that it names are trusted, in its order.
 pub fn is_opened()
     ensures opening { (layers : Layers) (keys : NodeKeys) (s : Start Entry) → Begins layers s →
         IsOpening (ledger_book layers keys) (EachFollows (ledger_book layers keys)) s }
@@ -119,8 +119,8 @@ pub fn is_opened()
 {}
 
 /// Where an entry may be made, the book refuses no request of an application for a rule of the
-/// audit, behind a sound ledger none of governance, and no valid signature of a recorded node with
-/// a commit that the rules of consensus let it record.
+/// audit, after a sound ledger none of governance, and no valid signature of a recorded node with a
+/// commit that the rules of consensus let it record.
 pub fn is_unguarded()
     ensures executes { (layers : Layers) (keys : NodeKeys) (ledger : List Entry) (view : ℕ) →
         view < 2 ^ 32 → MayMake ledger view → (request : List Operation) →
@@ -138,7 +138,7 @@ pub fn is_unguarded()
         ≡ signing_result keys node leaf ledger view commit }
 {}
 
-/// A node whose key the service's key endorses signs validly: by the test of signatures, and behind
+/// A node whose key the service's key endorses signs validly: by the test of signatures, and after
 /// each ledger of its service in which the endorsement stands in the node's row, in an entry that
 /// has room for it. It stands there in each sound ledger, without a recovery, that records the node
 /// with its own key. The digest of the key in a row is the node's identifier.

@@ -1,8 +1,8 @@
 //! What an entry records.
 
 ghost use Rattle.std.specs.Prelude.{◌≡◌, IfOk};
-ghost use Rattle.gl_tx.specs.Reading.{request_of};
-ghost use Rattle.gl_requests.specs.Reading.{request_in};
+ghost use Rattle.gl_tx.specs.Parsing.{request_of};
+ghost use Rattle.gl_requests.specs.Parsing.{request_in};
 ghost use Rattle.gl_ledger.specs.Recordings.{application_recording, governance_recording, recording_of};
 
 use gl_base::OrNoMemory;
@@ -47,7 +47,7 @@ fn application_recording(alloc: Global, bytes: &[u8]) -> Result<Option<Recording
 }
 
 /// What an entry with this content records, in memory of its own. `None` where the bytes of its
-/// request spell none. Fails for want of memory alone.
+/// request encode none. Fails only where memory runs out.
 pub fn recording_of(alloc: Global, content: &Content) -> Result<Option<Recording>, AllocError>
     ensures recording { IfOk result (λ recording.
         recording ≡ recording_of content.now) }

@@ -10,7 +10,7 @@ use gl_requests::ServiceState;
 use gl_tx::Abort;
 use thiserror::Error;
 
-/// Why no entry is made behind a ledger.
+/// Why no entry is made after a ledger.
 #[derive(Clone, Copy, Debug, PartialEq, Eq, Error)]
 pub enum Refusal {
     /// The service is in this state, and takes requests of applications only when it is open.

@@ -10,7 +10,7 @@ use Rattle.gl_base.specs.Steps.{◌>>=◌}
 use Rattle.gl_lines.specs.declared.fault.LineFault.{LineFault}
 use Rattle.gl_lines.specs.declared.fault.LineFault.TheVariants.{NoReading}
 use Rattle.gl_lines.specs.declared.fault.ScheduleFault.{ScheduleFault}
-use Rattle.gl_lines.specs.Reading.{first_line, first_line_of, number_within, settings_read, state_of, or_line, world_of, world_read}
+use Rattle.gl_lines.specs.Parsing.{first_line, first_line_of, number_within, settings_read, state_of, or_line, world_of, world_read}
 
 -- a number that is read is within its limits
 within : (least most : ℕ) (word : List ℕ) (n : ℕ) → number_within least most word ≡ Ok n → (least ≤ n) × (n ≤ most)
@@ -78,7 +78,7 @@ world_in : WorldLine → Result (WorldLine × List ℕ) ScheduleFault → WorldL
 world_in other (Ok (w, rest)) = w
 world_in other (Err fault) = other
 
-from_first : (line : List ℕ) (behind : Option (List ℕ)) (w : WorldLine) (rest : List ℕ) → first_line_of line behind ≡ Ok (w, rest) → IsWithinLimits w
+from_first : (line : List ℕ) (suffix : Option (List ℕ)) (w : WorldLine) (rest : List ℕ) → first_line_of line suffix ≡ Ok (w, rest) → IsWithinLimits w
 unfolding world_in
 from_first line None w rest e = absurd (cc)
 from_first line (Some text) w rest e = go (world_of line) refl e
@@ -91,4 +91,4 @@ from_first line (Some text) w rest e = go (world_of line) refl e
 -- the service of a first line that is read
 pub first_within : (text : List ℕ) (w : WorldLine) (rest : List ℕ) → first_line text ≡ Ok (w, rest) → IsWithinLimits w
 unfolding first_line
-first_within text w rest e = from_first (cut newline text).front (cut newline text).behind w rest e
+first_within text w rest e = from_first (cut newline text).prefix (cut newline text).suffix w rest e

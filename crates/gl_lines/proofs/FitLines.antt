@@ -12,7 +12,7 @@ use Rattle.gl_requests.specs.declared.action.Action.{Action}
 use Rattle.gl_forms.specs.Form.{object_at}
 use Rattle.gl_forms.specs.Requests.{proposal_in}
 use Rattle.gl_forms.specs.Text.{tree_from}
-use Rattle.gl_forms.proofs.FitLemmas.{Fits, gives, fails, behind, behind_any, either}
+use Rattle.gl_forms.proofs.FitLemmas.{Fits, gives, fails, suffix, after_any, either}
 use Rattle.gl_forms.proofs.FitForms.{actions_fit}
 use Rattle.gl_lines.specs.declared.fault.LineFault.{LineFault}
 use Rattle.gl_lines.specs.declared.line.Line.{Line}
@@ -23,7 +23,7 @@ use Rattle.gl_lines.specs.Numbers.{counted_number}
 use Rattle.gl_lines.specs.Operations.{operations_of}
 use Rattle.gl_lines.specs.References.{with_ids, names_unknown}
 use Rattle.gl_lines.specs.MemberLines.{ack_line, answer_of, ballot_of, ballot_line, withdraw_of, withdraw_line, again_line, if_form, unless_unknown, actions_of, propose_of, propose_cut}
-use Rattle.gl_lines.specs.Reading.{short_line, pair_line, request_of, if_parsed, member_line, node_line, call_line, deliver_line, command_line, line_of, or_line, lines_read}
+use Rattle.gl_lines.specs.Parsing.{short_line, pair_line, request_of, if_parsed, member_line, node_line, call_line, deliver_line, command_line, line_of, or_line, lines_read}
 
 -- ---- proposals
 
@@ -33,20 +33,20 @@ form_fits {r = Err fault} h = fails
 
 proposal_fits : (value : Data) → Fits AreProposed (proposal_in value)
 unfolding proposal_in
-proposal_fits value = behind_any (object_at [] (codes "actions" ∷ []) value) (λ only. actions_fit value)
+proposal_fits value = after_any (object_at [] (codes "actions" ∷ []) value) (λ only. actions_fit value)
 
-abbrev IsOwed : Option (List Action) → Type 0
-IsOwed list = IfSome list AreProposed
+abbrev IsExpected : Option (List Action) → Type 0
+IsExpected list = IfSome list AreProposed
 
-unless : (unknown : Bool) (list : List Action) → AreProposed list → IsOwed (unless_unknown unknown list)
+unless : (unknown : Bool) (list : List Action) → AreProposed list → IsExpected (unless_unknown unknown list)
 unless true list are = tt
 unless false list are = are
 
-actions_are : (ids : List (List ℕ)) (json : List ℕ) → Fits IsOwed (actions_of ids json)
+actions_are : (ids : List (List ℕ)) (json : List ℕ) → Fits IsExpected (actions_of ids json)
 unfolding actions_of
 actions_are ids json =
-    behind_any (if_form (tree_from json)) (λ tree.
-    behind (form_fits (proposal_fits (with_ids ids tree))) (λ list fit.
+    after_any (if_form (tree_from json)) (λ tree.
+    suffix (form_fits (proposal_fits (with_ids ids tree))) (λ list fit.
     gives (unless (names_unknown ids tree) list fit)))
 
 -- ---- lines
@@ -58,7 +58,7 @@ propose_cut_fits : (ids : List (List ℕ)) (node : ℕ) (member : List ℕ) (jso
 unfolding propose_of
 propose_cut_fits ids node member None = fails
 propose_cut_fits ids node member (Some json) =
-    behind_any (counted_number member) (λ m. behind (actions_are ids json) (λ list are. gives are))
+    after_any (counted_number member) (λ m. suffix (actions_are ids json) (λ list are. gives are))
 
 ballot_fits : (node : ℕ) (words : List (List ℕ)) → FitLine (ballot_line node words)
 unfolding ballot_of
@@ -66,14 +66,14 @@ ballot_fits node [] = fails
 ballot_fits node (a ∷ []) = fails
 ballot_fits node (a ∷ b ∷ []) = fails
 ballot_fits node (member ∷ proposal ∷ answer ∷ []) =
-    behind_any (counted_number member) (λ m. behind_any (counted_number proposal) (λ p. behind_any (answer_of answer) (λ agrees. gives tt)))
+    after_any (counted_number member) (λ m. after_any (counted_number proposal) (λ p. after_any (answer_of answer) (λ agrees. gives tt)))
 ballot_fits node (a ∷ b ∷ c ∷ d ∷ words) = fails
 
 withdraw_fits : (node : ℕ) (words : List (List ℕ)) → FitLine (withdraw_line node words)
 unfolding withdraw_of
 withdraw_fits node [] = fails
 withdraw_fits node (a ∷ []) = fails
-withdraw_fits node (member ∷ proposal ∷ []) = behind_any (counted_number member) (λ m. behind_any (counted_number proposal) (λ p. gives tt))
+withdraw_fits node (member ∷ proposal ∷ []) = after_any (counted_number member) (λ m. after_any (counted_number proposal) (λ p. gives tt))
 withdraw_fits node (a ∷ b ∷ c ∷ words) = fails
 
 pair_fits : (name : List ℕ) (node other : ℕ) → FitLine (pair_line name node other)
@@ -87,12 +87,12 @@ pair_fits name node other =
 member_fits : (ids : List (List ℕ)) (name : List ℕ) (node : ℕ) (rest : List ℕ) → FitLine (member_line ids name node rest)
 unfolding ack_line again_line
 member_fits ids name node rest =
-    either (is name (codes "ack")) (behind_any (counted_number rest) (λ m. gives tt))
-    (either (is name (codes "propose")) (propose_cut_fits ids node (cut space rest).front (cut space rest).behind)
+    either (is name (codes "ack")) (after_any (counted_number rest) (λ m. gives tt))
+    (either (is name (codes "propose")) (propose_cut_fits ids node (cut space rest).prefix (cut space rest).suffix)
     (either (is name (codes "ballot")) (ballot_fits node (words_of rest))
     (either (is name (codes "withdraw")) (withdraw_fits node (words_of rest))
-    (either (is name (codes "again")) (behind_any (counted_number rest) (λ line. gives tt))
-    (behind_any (counted_number rest) (pair_fits name node))))))
+    (either (is name (codes "again")) (after_any (counted_number rest) (λ line. gives tt))
+    (after_any (counted_number rest) (pair_fits name node))))))
 
 request_fits : (node : ℕ) (all : List Operation) → FitLine (request_of node all)
 request_fits node all = either (is_count (length all)) (gives tt) fails
@@ -115,22 +115,22 @@ node_fits : (ids : List (List ℕ)) (name : List ℕ) (node : ℕ) (rest : Optio
 unfolding node_line
 node_fits ids name node None = short_fits name node
 node_fits ids name node (Some rest) =
-    either (is name (codes "submit")) (behind_any (operations_of (words_of rest)) (request_fits node))
+    either (is name (codes "submit")) (after_any (operations_of (words_of rest)) (request_fits node))
     (either (is name (codes "status")) (status_fits node (parsed rest)) (member_fits ids name node rest))
 
 call_fits : (ids : List (List ℕ)) (name text : List ℕ) → FitLine (call_line ids name text)
 unfolding call_line
-call_fits ids name text = behind_any (counted_number (cut space text).front) (λ node. node_fits ids name node (cut space text).behind)
+call_fits ids name text = after_any (counted_number (cut space text).prefix) (λ node. node_fits ids name node (cut space text).suffix)
 
 command_fits : (ids : List (List ℕ)) (name : List ℕ) (text : Option (List ℕ)) → FitLine (command_line ids name text)
 unfolding deliver_line
 command_fits ids name None = fails
 command_fits ids name (Some text) =
-    either (is name (codes "deliver")) (behind_any (counted_number text) (λ message. gives tt)) (call_fits ids name text)
+    either (is name (codes "deliver")) (after_any (counted_number text) (λ message. gives tt)) (call_fits ids name text)
 
 line_fits : (ids : List (List ℕ)) (line : List ℕ) → FitLine (line_of ids line)
 unfolding line_of
-line_fits ids line = command_fits ids (cut space line).front (cut space line).behind
+line_fits ids line = command_fits ids (cut space line).prefix (cut space line).suffix
 
 -- ---- schedules
 
@@ -141,13 +141,13 @@ at_line : (number : ℕ) (r : Result Line LineFault) → FitLine r → Fits IsFi
 at_line number (Ok line) h = gives h.holds
 at_line number (Err fault) h = fails
 
-all_fit : (ids : List (List ℕ)) (number : ℕ) (lines : List (List ℕ)) (open_behind : Bool) → Fits FitLines (lines_read ids number lines open_behind)
+all_fit : (ids : List (List ℕ)) (number : ℕ) (lines : List (List ℕ)) (open_after : Bool) → Fits FitLines (lines_read ids number lines open_after)
 unfolding lines_read
-all_fit ids number [] open_behind = either open_behind fails (gives tt)
-all_fit ids number (line ∷ lines) open_behind =
-    behind (at_line number (line_of ids line) (line_fits ids line)) (λ first is_fit.
-    behind (all_fit ids (suc number) lines open_behind) (λ rest are. gives (is_fit, are)))
+all_fit ids number [] open_after = either open_after fails (gives tt)
+all_fit ids number (line ∷ lines) open_after =
+    suffix (at_line number (line_of ids line) (line_fits ids line)) (λ first is_fit.
+    suffix (all_fit ids (suc number) lines open_after) (λ rest are. gives (is_fit, are)))
 
 -- lines that are read
-pub lines_fit : (ids : List (List ℕ)) (number : ℕ) (lines : List (List ℕ)) (open_behind : Bool) (all : List Line) → lines_read ids number lines open_behind ≡ Ok all → AllByRecursion IsFit all
-lines_fit ids number lines open_behind all read = (subst (Fits FitLines) read (all_fit ids number lines open_behind)).holds
+pub lines_fit : (ids : List (List ℕ)) (number : ℕ) (lines : List (List ℕ)) (open_after : Bool) (all : List Line) → lines_read ids number lines open_after ≡ Ok all → AllByRecursion IsFit all
+lines_fit ids number lines open_after all read = (subst (Fits FitLines) read (all_fit ids number lines open_after)).holds

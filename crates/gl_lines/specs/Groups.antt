@@ -2,11 +2,11 @@
 use Rattle.std.specs.Prelude.{ℕ, List, [], Option, None, Some}
 use Rattle.gl_lines.specs.Operations.{groups_of, with_group}
 
--- The words of the operations behind a semicolon, operation by operation; nothing may stand behind.
-abbrev pub groups_behind : Option (List (List ℕ)) → Option (List (List (List ℕ)))
-groups_behind None = Some []
-groups_behind (Some words) = groups_of words
+-- The words of the operations after a semicolon, operation by operation; nothing may follow.
+abbrev pub groups_after : Option (List (List ℕ)) → Option (List (List (List ℕ)))
+groups_after None = Some []
+groups_after (Some words) = groups_of words
 
 -- The words of one operation before those.
 abbrev pub group_before : List (List ℕ) → Option (List (List ℕ)) → Option (List (List (List ℕ)))
-group_before group behind = with_group group (groups_behind behind)
+group_before group after = with_group group (groups_after after)

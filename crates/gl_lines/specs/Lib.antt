@@ -7,7 +7,7 @@ pub mod References
 pub mod MemberLines
 pub mod Unread
 pub mod Groups
-pub mod Reading
+pub mod Parsing
 pub mod Worlds
 pub mod Kept
 pub mod AtLines

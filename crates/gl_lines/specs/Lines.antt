@@ -1,4 +1,4 @@
--- The lines of a text. Each ends with a newline; what stands behind the last one is an open line.
+-- The lines of a text. Each ends with a newline; what stands after the last one is an open line.
 use Rattle.std.specs.Prelude.{ℕ, ◌+◌, ◌-◌, List, [], ◌∷◌, ◌++◌, Option, None, Some, length, take, drop, position, count_by, slice_get, Bool, nat_lt, ◌==◌, if◌then◌else◌}
 
 abbrev pub newline : ℕ
@@ -7,7 +7,7 @@ newline = 10
 abbrev pub is_newline : ℕ → Bool
 is_newline byte = byte == newline
 
--- The lines of a text, without their newlines, and the bytes of an open line behind them.
+-- The lines of a text, without their newlines, and the bytes of an open line after them.
 pub record Split : Type 0 where
   pub lines : List (List ℕ)
   pub open_line : List ℕ
@@ -39,19 +39,19 @@ open_line_count (Some byte) = if is_newline byte then 0 else 1
 abbrev pub line_count : List ℕ → ℕ
 line_count text = count_by is_newline text + open_line_count (slice_get text (length text - 1))
 
--- The front of a text, and what stands behind it, if something does.
+-- The prefix of a text, and what stands after it, if something does.
 pub record Cut : Type 0 where
-  pub front : List ℕ
-  pub behind : Option (List ℕ)
+  pub prefix : List ℕ
+  pub suffix : Option (List ℕ)
 
 abbrev pub cut_at : List ℕ → Option ℕ → Cut
-cut_at text None = record { front = text; behind = None }
+cut_at text None = record { prefix = text; suffix = None }
 cut_at text (Some place) =
-    record { front = take place text; behind = Some (drop 1 (drop place text)) }
+    record { prefix = take place text; suffix = Some (drop 1 (drop place text)) }
 
 abbrev pub is_byte : ℕ → ℕ → Bool
 is_byte byte other = other == byte
 
--- A text up to the first such byte, and what stands behind that byte, if the text has one.
+-- A text up to the first such byte, and what stands after that byte, if the text has one.
 abbrev pub cut : ℕ → List ℕ → Cut
 cut byte text = cut_at text (position (is_byte byte) text)

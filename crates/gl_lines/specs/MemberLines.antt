@@ -67,6 +67,6 @@ abbrev pub propose_cut : List (List ℕ) → ℕ → List ℕ → Option (List �
 propose_cut ids node member None = Err NoReading
 propose_cut ids node member (Some json) = propose_of ids node member json
 
--- All that stands behind the member's number is the JSON.
+-- All that stands after the member's number is the JSON.
 abbrev pub propose_line : List (List ℕ) → ℕ → List ℕ → Result Line LineFault
-propose_line ids node rest = propose_cut ids node (cut space rest).front (cut space rest).behind
+propose_line ids node rest = propose_cut ids node (cut space rest).prefix (cut space rest).suffix

@@ -12,7 +12,7 @@ is_decimal text =
     nat_le 1 (length text) && list_all is_ascii_digit text
     && (not (slice_index text 0 == 48) || (length text == 1))
 
--- The number below a limit that a text spells.
+-- The number below a limit that a text encodes.
 abbrev pub number_below : ℕ → List ℕ → Result ℕ LineFault
 number_below limit text =
     if is_decimal text && nat_lt (digits_value 10 text) limit then Ok (digits_value 10 text)

@@ -50,7 +50,7 @@ unfoldable pub follow_of : List ℕ → List ℕ → List ℕ → Result Operati
 follow_of map key target =
     row_of map key >>= λ row. map_of target >>= λ t. Ok (operations.Follow row.0 row.1 t)
 
--- How many words stand behind the name of an operation.
+-- How many words stand after the name of an operation.
 abbrev pub arity : List ℕ → Option ℕ
 arity name =
     if is name (codes "get") || is name (codes "has") || is name (codes "remove") then Some 2
@@ -75,7 +75,7 @@ abbrev pub size_of : List ℕ → List ℕ → Result Operation LineFault
 size_of name map =
     if is name (codes "size") then (map_of map >>= λ m. Ok (operations.Size m)) else Err NoReading
 
--- The operation of a name and the words behind it.
+-- The operation of a name and the words after it.
 unfoldable pub operation_of : List (List ℕ) → Result Operation LineFault
 operation_of (name ∷ map ∷ []) = size_of name map
 operation_of (name ∷ map ∷ key ∷ []) = row_of map key >>= operation_of_two name

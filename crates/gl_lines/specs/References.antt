@@ -10,7 +10,7 @@ abbrev pub if_number : Result ℕ LineFault → Option ℕ
 if_number (Ok n) = Some n
 if_number (Err fault) = None
 
--- The number of the node that a text names: behind a `#` it is decimal.
+-- The number of the node that a text names: after a `#` it is decimal.
 abbrev pub reference_in : List ℕ → Option ℕ
 reference_in [] = None
 reference_in (mark ∷ digits) = if mark == 35 then if_number (counted_number digits) else None

@@ -1,4 +1,4 @@
--- Words, and what single words spell.
+-- Words, and what single words encode.
 use Rattle.std.specs.Prelude.{ℕ, List, [], ◌∷◌, ◌++◌, Result, Ok, Err, Bool, ◌==◌, ◌&&◌, ◌||◌, nat_le, length, codes, if◌then◌else◌}
 use Rattle.std.specs.List.{list_all}
 use Rattle.hex.specs.Hex.{decode_of, decode_sized}
@@ -33,7 +33,7 @@ abbrev pub if_ok : {E : Type 0} → Result (List ℕ) E → Result (List ℕ) Li
 if_ok (Ok bytes) = Ok bytes
 if_ok (Err e) = Err NoReading
 
--- The bytes that lower-case hexadecimal digits spell, two digits a byte.
+-- The bytes that lower-case hexadecimal digits encode, two digits a byte.
 abbrev pub hex_bytes : List ℕ → Result (List ℕ) LineFault
 hex_bytes text = if list_all is_lower_digit text then if_ok (decode_of text) else Err NoReading
 
@@ -42,7 +42,7 @@ abbrev pub hex_sized : List ℕ → ℕ → Result (List ℕ) LineFault
 hex_sized text size =
     if list_all is_lower_digit text then if_ok (decode_sized text size) else Err NoReading
 
--- No bytes are spelled by a full stop.
+-- No bytes are encoded by a full stop.
 abbrev pub value_bytes : List ℕ → Result (List ℕ) LineFault
 value_bytes text =
     if is text (codes ".") then Ok []

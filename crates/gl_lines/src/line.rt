@@ -4,7 +4,7 @@ use gl_base::{Sequence, TxId};
 use gl_requests::Action;
 use gl_tx::Request;
 
-/// A line of a schedule behind its first. Nodes are named by their numbers, from 1, and messages by
+/// A line of a schedule after its first. Nodes are named by their numbers, from 1, and messages by
 /// theirs, in the order in which they were sent; other numbers name nothing.
 #[derive(Debug, Drop)]
 pub enum Line {
@@ -107,5 +107,5 @@ pub enum Line {
     },
 }
 
-/// The lines of a schedule behind its first.
+/// The lines of a schedule after its first.
 pub type Lines = Sequence<Line>;

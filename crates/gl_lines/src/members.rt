@@ -162,7 +162,7 @@ fn propose_of(
     })
 }
 
-/// All that stands behind the member's number is the JSON.
+/// All that stands after the member's number is the JSON.
 pub(crate) fn propose_line(
     alloc: Global,
     node: u128,

@@ -1,4 +1,4 @@
-//! What single words spell: the names of maps, keys and values.
+//! What single words encode: the names of maps, keys and values.
 
 ghost use Rattle.std.specs.Prelude.{◌≡◌};
 ghost use Rattle.std.specs.List.{list_all};
@@ -34,7 +34,7 @@ fn hex_bytes(alloc: Global, text: &[u8]) -> Result<Vec<u8>, OrNoMemory<LineFault
     }
 }
 
-/// The 32 bytes that lower-case hexadecimal digits spell.
+/// The 32 bytes that lower-case hexadecimal digits encode.
 pub(crate) fn seed_of(text: &[u8]) -> Result<[u8; 32], LineFault>
     ensures { result ≡ hex_sized text.now 32 }
 {
@@ -47,7 +47,7 @@ pub(crate) fn seed_of(text: &[u8]) -> Result<[u8; 32], LineFault>
     }
 }
 
-/// The bytes of a value, of which a full stop spells none.
+/// The bytes of a value, of which a full stop encodes none.
 fn value_bytes(alloc: Global, text: &[u8]) -> Result<Vec<u8>, OrNoMemory<LineFault>>
     ensures { Answers (λ bytes. bytes.items) result (value_bytes text.now) }
 {

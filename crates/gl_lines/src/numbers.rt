@@ -32,7 +32,7 @@ fn with_digit(number: u128, digit: u8) -> Option<u128>
         .checked_add(u128::from(digit - b'0'))
 }
 
-/// The number that the digits spell, if it is below 2^128.
+/// The number that the digits encode, if it is below 2^128.
 fn digits_value(digits: &[u8]) -> Option<u128>
     requires { AllDigits 10 digits.now }
     ensures { SomeIff result (digits_value 10 digits.now < 2 ^ 128) (digits_value 10 digits.now) }

@@ -127,7 +127,7 @@ fn operation_of_three(
     }
 }
 
-/// The operation of a name and the words behind it.
+/// The operation of a name and the words after it.
 #[tactic(auto, unfolding(crate::specs::Operations::operation_of))]
 fn operation_of(alloc: Global, words: &[&[u8]]) -> Result<Operation, OrNoMemory<LineFault>>
     ensures { Answers (λ x. x) result (operation_of (bytes_of words.now)) }
@@ -143,7 +143,7 @@ fn operation_of(alloc: Global, words: &[&[u8]]) -> Result<Operation, OrNoMemory<
     }
 }
 
-/// How many words stand behind the name of an operation. `None` where it names none.
+/// How many words stand after the name of an operation. `None` where it names none.
 fn arity(name: &[u8]) -> Option<usize>
     ensures { result ≡ arity name.now }
 {
@@ -162,7 +162,7 @@ fn arity(name: &[u8]) -> Option<usize>
     }
 }
 
-/// The words of the first operation, and the words behind the semicolon that follows them, if one
+/// The words of the first operation, and the words after the semicolon that follows them, if one
 /// does. `None` where the words are those of no operations.
 fn first_group<'a, 'b>(words: &'a [&'b [u8]]) -> Option<(&'a [&'b [u8]], Option<&'a [&'b [u8]]>)>
     ensures group { MatchOption result
@@ -176,15 +176,15 @@ fn first_group<'a, 'b>(words: &'a [&'b [u8]]) -> Option<(&'a [&'b [u8]], Option<
     if words.len() <= count {
         return None;
     }
-    let (group, behind) = words.split_at(count + 1);
-    match behind.split_first() {
+    let (group, suffix) = words.split_at(count + 1);
+    match suffix.split_first() {
         None => Some((group, None)),
         Some((semicolon, rest)) if *semicolon == b";".as_slice() => Some((group, Some(rest))),
         Some(_) => None,
     }
 }
 
-/// The operations that words spell, with a semicolon between two.
+/// The operations that words encode, with a semicolon between two.
 pub(crate) fn operations_of(
     alloc: Global,
     words: &[&[u8]],
@@ -195,7 +195,7 @@ pub(crate) fn operations_of(
     let mut operations = Vec::with_capacity(alloc, 1)?;
     let mut left = Some(words);
     while let Some(words) = left {
-        let (group, behind) = match first_group(words) {
+        let (group, suffix) = match first_group(words) {
             Some(first) => first,
             None => return Err(OrNoMemory::Fault(LineFault::NoReading)),
         };
@@ -203,7 +203,7 @@ pub(crate) fn operations_of(
             Ok(operation) => operations.push(operation)?,
             Err(stop) => return Err(stop),
         }
-        left = behind;
+        left = suffix;
     }
     Ok(operations)
 }

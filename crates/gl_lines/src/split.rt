@@ -19,7 +19,7 @@ pub fn line_count(text: &[u8]) -> usize
     }
 }
 
-/// The parts of a text that end with this byte, without it, and what stands behind the last.
+/// The parts of a text that end with this byte, without it, and what stands after the last.
 fn parts_of(alloc: Global, text: &[u8], end: u8) -> Result<(Vec<&[u8]>, &[u8]), AllocError>
     ensures { IfOk result (λ x. parts_of end text.now
         ≡ record { lines = bytes_of x.0.items; open_line = x.1.now }) }
@@ -28,8 +28,8 @@ fn parts_of(alloc: Global, text: &[u8], end: u8) -> Result<(Vec<&[u8]>, &[u8]), 
     let mut start = 0;
     for (i, byte) in text.iter().enumerate() {
         if *byte == end {
-            let (front, _) = text.split_at(i);
-            let (_, part) = front.split_at(start);
+            let (prefix, _) = text.split_at(i);
+            let (_, part) = prefix.split_at(start);
             parts.push(part)?;
             start = i + 1;
         }
@@ -38,7 +38,7 @@ fn parts_of(alloc: Global, text: &[u8], end: u8) -> Result<(Vec<&[u8]>, &[u8]), 
     Ok((parts, open))
 }
 
-/// The lines of a text, without their newlines, and the open line behind them.
+/// The lines of a text, without their newlines, and the open line after them.
 pub(crate) fn lines_of(alloc: Global, text: &[u8]) -> Result<(Vec<&[u8]>, &[u8]), AllocError>
     ensures { IfOk result (λ x. lines_of text.now
         ≡ record { lines = bytes_of x.0.items; open_line = x.1.now }) }
@@ -61,16 +61,16 @@ fn first_place(text: &[u8], byte: u8) -> Option<usize>
     text.iter().position(|other| *other == byte)
 }
 
-/// A text up to the first such byte, and what stands behind that byte, if the text has one.
+/// A text up to the first such byte, and what stands after that byte, if the text has one.
 pub(crate) fn cut(text: &[u8], byte: u8) -> (&[u8], Option<&[u8]>)
-    ensures { cut byte text.now ≡ record { front = result.0.now; behind = option_copied result.1 } }
+    ensures { cut byte text.now ≡ record { prefix = result.0.now; suffix = option_copied result.1 } }
 {
     match first_place(text, byte) {
         None => (text, None),
         Some(place) => {
-            let (front, behind) = text.split_at(place);
-            let (_, rest) = behind.split_at(1);
-            (front, Some(rest))
+            let (prefix, suffix) = text.split_at(place);
+            let (_, rest) = suffix.split_at(1);
+            (prefix, Some(rest))
         }
     }
 }

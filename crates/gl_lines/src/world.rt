@@ -3,7 +3,7 @@
 ghost use Rattle.std.specs.Prelude.{◌≡◌};
 ghost use Rattle.gl_base.specs.Answers.{Answers};
 ghost use Rattle.gl_lines.specs.Parts.{bytes_of};
-ghost use Rattle.gl_lines.specs.Reading.{number_within, settings_read, state_of, world_of, world_read};
+ghost use Rattle.gl_lines.specs.Parsing.{number_within, settings_read, state_of, world_of, world_read};
 
 use crate::fault::LineFault;
 use crate::names::seed_of;
@@ -37,7 +37,7 @@ pub struct WorldLine {
 }
 
 /// A number from one to another.
-#[tactic(auto, unfolding(crate::specs::Reading::number_within))]
+#[tactic(auto, unfolding(crate::specs::Parsing::number_within))]
 fn number_within(least: u8, most: u8, word: &[u8]) -> Result<u8, LineFault>
     ensures { result ≡ number_within least most word.now }
 {
@@ -61,7 +61,7 @@ fn state_of(word: &[u8]) -> Result<bool, LineFault>
     }
 }
 
-#[tactic(auto, unfolding(crate::specs::Reading::settings_read))]
+#[tactic(auto, unfolding(crate::specs::Parsing::settings_read))]
 fn settings_read(
     starting: &[u8],
     joiners: &[u8],
@@ -85,7 +85,7 @@ fn settings_read(
     })
 }
 
-#[tactic(auto, unfolding(crate::specs::Reading::world_read))]
+#[tactic(auto, unfolding(crate::specs::Parsing::world_read))]
 fn world_read(words: &[&[u8]]) -> Result<WorldLine, LineFault>
     ensures { result ≡ world_read (bytes_of words.now) }
 {
@@ -98,7 +98,7 @@ fn world_read(words: &[&[u8]]) -> Result<WorldLine, LineFault>
 }
 
 /// What the first line says.
-#[tactic(auto, unfolding(crate::specs::Reading::world_of))]
+#[tactic(auto, unfolding(crate::specs::Parsing::world_of))]
 pub(crate) fn world_of(alloc: Global, line: &[u8]) -> Result<WorldLine, OrNoMemory<LineFault>>
     ensures { Answers (λ x. x) result (world_of line.now) }
 {

@@ -84,7 +84,7 @@ reported ledger t end keys last root at ends k l r =
     let bytes : t.bytes ≡ length (file_of ledger) = at.bytes in
     cc
 
--- ---- the entries of a ledger, one behind the other
+-- ---- the entries of a ledger, one after the other
 
 module _ (ledger : List Entry) (i : ℕ) (e : Entry) (low : i < length ledger) (is : e ≡ get_or ledger i e) where
   pub unbroken_at : audited service_layers ledger ≡ None → broken service_layers (take i ledger) e ≡ None

@@ -8,7 +8,7 @@ use Rattle.gl_hss.specs.Profile.{key_of_seed}
 use Rattle.gl_hss.specs.Secrets.{PrivateKey, public_of}
 use Rattle.gl_hss.specs.Tree.{key_bytes}
 use Rattle.gl_hss.proofs.Octets.{length-seed_key, length-signed, seed_IsKey, seed_key_bytes, signed_bytes}
-use Rattle.gl_hss.proofs.Signing.{signature_by-Signs}
+use Rattle.gl_hss.proofs.ValidSignatures.{signature_by-Signs}
 use Rattle.gl_hss.specs.Hss.{IsEndorsed}
 use Rattle.gl_hss.specs.Order.{endorsement_verdict}
 use Rattle.gl_hss.specs.Signer.{StandsUnder}
@@ -25,12 +25,12 @@ use Rattle.gl_gov_rules.proofs.Digests.{are_sized-true}
 use Rattle.gl_gov_rules.proofs.FoundingAccepted.{accepted_passes, accepts}
 use Rattle.gl_ledger.specs.Ledger.{genesis_entry}
 use Rattle.gl_ledger.specs.NodeKeys.{IsNodeKey, service_layers}
-use Rattle.gl_ledger.specs.Opening.{Begins, Founds}
+use Rattle.gl_ledger.specs.OpeningLedger.{Begins, Founds}
 use Rattle.gl_ledger.proofs.NodeRows.{genesis_endorsement}
 use Rattle.gl_ledger.proofs.NodeSignatures.{node_makes}
 use Rattle.gl_ledger.proofs.Opened.{opening_opened, opening_unrecovered}
-use Rattle.gl_ledger.proofs.Opening.{member_first}
-use Rattle.gl_ledger.proofs.Openings.{identity_behind_genesis}
+use Rattle.gl_ledger.proofs.OpeningLaws.{member_first}
+use Rattle.gl_ledger.proofs.Openings.{identity_after_genesis}
 use Rattle.gl_world.specs.declared.settings.Settings.{Settings}
 use Rattle.gl_world.specs.Founding.{endorsement_by, genesis_of}
 use Rattle.gl_world.specs.Group.{IsGroup}
@@ -66,7 +66,7 @@ module _ (seed : List ℕ) where
   endorsed = record {
     top = public_of (private_key (service_seed s));
     leaf = 0;
-    of_key = record { spelled = refl; form = seed_IsKey H5W4 (service_seed s); some = omega arith; few = omega arith };
+    of_key = record { encoded = refl; form = seed_IsKey H5W4 (service_seed s); some = omega arith; few = omega arith };
     signs = signature_by-Signs (private_key (service_seed s)) 0 (load_public seed) (load_node seed).endorsement (omega arith) refl;
   }
 
@@ -120,7 +120,7 @@ module _ (seed : List ℕ) where
     valid = node_makes (load_keys seed) (load_genesis seed).identity (load_id seed) 0 (genesis_entry (load_genesis seed) ∷ []) first_view 2
         (subst (λ (e : List ℕ). IsNodeKey (load_keys seed) e (load_genesis seed).identity (load_id seed))
         (sym (genesis_endorsement (load_genesis seed) [] 0 (load_node seed) load_fits refl refl)) has_key)
-        (omega arith) (identity_behind_genesis (load_genesis seed));
+        (omega arith) (identity_after_genesis (load_genesis seed));
   }
 
   pub load_begins : Begins service_layers (load_start seed)

@@ -1,8 +1,8 @@
 pub mod Founded
 pub mod Running
-pub mod Happening
+pub mod NodeSteps
 pub mod Steps
 pub mod Growing
 pub mod Counting
-pub mod Serving
+pub mod NodeEvents
 pub mod Auditing

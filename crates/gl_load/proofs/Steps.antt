@@ -22,14 +22,14 @@ use Rattle.gl_entry.specs.declared.entry.Entry.{Entry}
 use Rattle.gl_requests.specs.declared.genesis.ServiceState.TheVariants.{Open}
 use Rattle.gl_ledger.specs.Ledger.{application_entry, genesis_entry}
 use Rattle.gl_ledger.specs.LedgerBook.{ServiceBook}
-use Rattle.gl_ledger.specs.Makers.{by_store, signature_behind, signed_entry}
+use Rattle.gl_ledger.specs.Makers.{by_store, signature_after, signed_entry}
 use Rattle.gl_ledger.specs.NodeKeys.{service_layers}
 use Rattle.gl_ledger.specs.Recordings.{key_in}
 use Rattle.gl_ledger.specs.ServiceRow.{service_state}
 use Rattle.gl_ledger.specs.Tree.{tables_of}
-use Rattle.gl_ledger.specs.declared.made.Given.{Given}
-use Rattle.gl_ledger.specs.declared.made.Given.TheVariants.{Replied}
-use Rattle.gl_ledger.specs.declared.made.Unmade.{Unmade}
+use Rattle.gl_ledger.specs.declared.response.Response.{Response}
+use Rattle.gl_ledger.specs.declared.response.Response.TheVariants.{Replied}
+use Rattle.gl_ledger.specs.declared.response.Rejection.{Rejection}
 use Rattle.gl_ledger.specs.declared.refusal.Refusal.TheVariants.{SeqnoLimit}
 use Rattle.gl_ledger.proofs.Applications.{execute_within, request_made}
 use Rattle.gl_ledger.proofs.Openings.{state_of_opening}
@@ -38,7 +38,7 @@ use Rattle.gl_world.specs.Service.{ServiceEvent}
 use Rattle.gl_world.proofs.Founded.{IsFoundedBy, leader_key, leader_signs_with_key}
 use Rattle.gl_world.proofs.Leading.{leader_executes}
 use Rattle.gl_world.specs.Keys.{node_seed}
-use Rattle.gl_load.specs.Events.{node_behind}
+use Rattle.gl_load.specs.Events.{node_after}
 use Rattle.gl_load.specs.Founding.{load_book, load_genesis, load_id, load_keys, load_node, load_settings, load_start}
 use Rattle.gl_load.specs.Node.{IsRefused}
 use Rattle.gl_load.specs.Report.{signatures_in}
@@ -46,7 +46,8 @@ use Rattle.gl_load.specs.Requests.{load_request}
 use Rattle.gl_load.proofs.Founded.{load_begins, load_fits}
 use Rattle.gl_load.proofs.Running.{load_is_request, load_ran, load_runs, load_short, load_small, load_state}
 
--- what is known of the node: it leads, the service is open, its ledger has so many entries, and so many leaves are used and reserved, one for each signature
+-- what is known of the node: it leads, the service is open, its ledger has so many entries, and so
+-- many leaves are used and reserved, one for each signature
 pub record IsAt (n : Node Entry) (len used reserved : ℕ) : Type 0 where
   pub leads : n.role ≡ Leader
   pub long : length n.log ≡ len
@@ -67,7 +68,7 @@ at_start seed = record {
   signs = refl;
   used_is = refl;
   reserved_is = refl;
-  is_open = state_of_opening (load_genesis seed) (load_id seed) (signature_behind (load_keys seed) (load_id seed) 0 (genesis_entry (load_genesis seed) ∷ []) 2 2);
+  is_open = state_of_opening (load_genesis seed) (load_id seed) (signature_after (load_keys seed) (load_id seed) 0 (genesis_entry (load_genesis seed) ∷ []) 2 2);
 }
 
 pub length-push : (log : List Entry) (e : Entry) → length (log ++ e ∷ []) ≡ length log + 1
@@ -80,9 +81,9 @@ length-signatures log e = ap length (filter-append (λ (f : Entry). is_signature
 at_end : (log : List Entry) (e : Entry) → entry_at (log ++ e ∷ []) (length (log ++ e ∷ [])) ≡ Some e
 at_end log e = ap (entry_at (log ++ e ∷ [])) (let r : length (log ++ e ∷ []) ≡ suc (length log) = omega (arith, length-push log e) in r) ∙ push_get log e
 
-module _ (seed : List ℕ) (events : List ServiceEvent) (len used reserved : ℕ) (at : IsAt (node_behind seed events) len used reserved) where
+module _ (seed : List ℕ) (events : List ServiceEvent) (len used reserved : ℕ) (at : IsAt (node_after seed events) len used reserved) where
   abbrev n : Node Entry
-  n = node_behind seed events
+  n = node_after seed events
 
   abbrev b : ServiceBook
   b = load_book seed
@@ -106,13 +107,13 @@ module _ (seed : List ℕ) (events : List ServiceEvent) (len used reserved : ℕ
     unfolding submit
     submits =
         ap (λ (r : Role). as_leader r n (execute_request b (load_request seed i) n)) at.leads
-        ∙ ap (λ (r : Result (Entry × Given) Unmade). append_result b n r) executed
+        ∙ ap (λ (r : Result (Entry × Response) Rejection). append_result b n r) executed
 
     pub submit_unrefused : IsRefused (submit b (load_request seed i) n).outcome → ⊥
-    submit_unrefused r = let w = sym (ap (λ (s : Step Entry Given Unmade). s.outcome) submits) ∙ r.1 in cc
+    submit_unrefused r = let w = sym (ap (λ (s : Step Entry Response Rejection). s.outcome) submits) ∙ r.1 in cc
 
     pub submit_at : IsAt (submit b (load_request seed i) n).node (len + 1) used reserved
-    submit_at = subst (λ (s : Step Entry Given Unmade). IsAt s.node (len + 1) used reserved) (sym submits) (record {
+    submit_at = subst (λ (s : Step Entry Response Rejection). IsAt s.node (len + 1) used reserved) (sym submits) (record {
       leads = at.leads;
       long = length-push n.log e ∙ ap (λ (k : ℕ). k + 1) at.long;
       signs = length-signatures n.log e ∙ omega (arith, at.signs);
@@ -123,7 +124,7 @@ module _ (seed : List ℕ) (events : List ServiceEvent) (len used reserved : ℕ
 
     pub submit_unsigned : IsUnsigned seed (submit b (load_request seed i) n).node
     submit_unsigned =
-        subst (λ (s : Step Entry Given Unmade). IsUnsigned seed s.node) (sym submits) (ap (is_signature_in b n.view) (at_end n.log e))
+        subst (λ (s : Step Entry Response Rejection). IsUnsigned seed s.node) (sym submits) (ap (is_signature_in b n.view) (at_end n.log e))
 
   -- ---- a leaf
 
@@ -135,10 +136,10 @@ module _ (seed : List ℕ) (events : List ServiceEvent) (len used reserved : ℕ
         ap (λ (t : Bool). if t then refuse n (KeyExhausted n.reserved) else quiet (record n { reserved = n.reserved + 1 }) Done) full
 
     pub reserve_unrefused : IsRefused (reserve b x n).outcome → ⊥
-    reserve_unrefused r = let w = sym (ap (λ (s : Step Entry Given Unmade). s.outcome) reserves) ∙ r.1 in cc
+    reserve_unrefused r = let w = sym (ap (λ (s : Step Entry Response Rejection). s.outcome) reserves) ∙ r.1 in cc
 
     pub reserve_at : IsAt (reserve b x n).node len used (reserved + 1)
-    reserve_at = subst (λ (s : Step Entry Given Unmade). IsAt s.node len used (reserved + 1)) (sym reserves) (record {
+    reserve_at = subst (λ (s : Step Entry Response Rejection). IsAt s.node len used (reserved + 1)) (sym reserves) (record {
       leads = at.leads;
       long = at.long;
       signs = at.signs;
@@ -148,7 +149,7 @@ module _ (seed : List ℕ) (events : List ServiceEvent) (len used reserved : ℕ
     })
 
     pub reserve_unsigned : IsUnsigned seed n → IsUnsigned seed (reserve b x n).node
-    reserve_unsigned none = subst (λ (s : Step Entry Given Unmade). IsUnsigned seed s.node) (sym reserves) none
+    reserve_unsigned none = subst (λ (s : Step Entry Response Rejection). IsUnsigned seed s.node) (sym reserves) none
 
   -- ---- a signature
 
@@ -178,13 +179,13 @@ module _ (seed : List ℕ) (events : List ServiceEvent) (len used reserved : ℕ
         ap (λ (r : Role). as_leader r n (sign_as_leader b x n)) at.leads
         ∙ ap (λ (t : Bool). if t then refuse n (NotReserved n.reserved) else unless) unused
         ∙ ap (λ (t : Bool). if t then refuse n (NothingToSign (length n.log)) else made) none
-        ∙ ap (λ (r : Result Entry Unmade). append_signature b n r) signing
+        ∙ ap (λ (r : Result Entry Rejection). append_signature b n r) signing
 
     pub sign_unrefused : IsRefused (sign b x n).outcome → ⊥
-    sign_unrefused r = let w = sym (ap (λ (s : Step Entry Given Unmade). s.outcome) signs) ∙ r.1 in cc
+    sign_unrefused r = let w = sym (ap (λ (s : Step Entry Response Rejection). s.outcome) signs) ∙ r.1 in cc
 
     pub sign_at : IsAt (sign b x n).node (len + 1) (used + 1) reserved
-    sign_at = subst (λ (s : Step Entry Given Unmade). IsAt s.node (len + 1) (used + 1) reserved) (sym signs) (record {
+    sign_at = subst (λ (s : Step Entry Response Rejection). IsAt s.node (len + 1) (used + 1) reserved) (sym signs) (record {
       leads = at.leads;
       long = length-push n.log f ∙ ap (λ (k : ℕ). k + 1) at.long;
       signs = length-signatures n.log f ∙ ap (λ (k : ℕ). k + 1) at.signs;
@@ -200,15 +201,15 @@ module _ (seed : List ℕ) (events : List ServiceEvent) (len used reserved : ℕ
   advances = ap (λ (r : Role). as_leader r n (commit_to b n (greatest_to_commit b x n (length n.log)))) at.leads
 
   pub advance_unrefused : IsRefused (advance b x n).outcome → ⊥
-  advance_unrefused r = go (greatest_to_commit b x n (length n.log)) (sym (ap (λ (s : Step Entry Given Unmade). s.outcome) advances) ∙ r.1)
+  advance_unrefused r = go (greatest_to_commit b x n (length n.log)) (sym (ap (λ (s : Step Entry Response Rejection). s.outcome) advances) ∙ r.1)
     where
-      go : (o : Option ℕ) → (commit_to {F = Unmade} b n o).outcome ≡ Refused r.0 → ⊥
+      go : (o : Option ℕ) → (commit_to {F = Rejection} b n o).outcome ≡ Refused r.0 → ⊥
       go None is = cc
       go (Some seqno) is = cc
 
   pub advance_at : IsAt (advance b x n).node len used reserved
-  advance_at = subst (λ (s : Step Entry Given Unmade). IsAt s.node len used reserved) (sym advances) (go (greatest_to_commit b x n (length n.log)))
+  advance_at = subst (λ (s : Step Entry Response Rejection). IsAt s.node len used reserved) (sym advances) (go (greatest_to_commit b x n (length n.log)))
     where
-      go : (o : Option ℕ) → IsAt (commit_to {F = Unmade} b n o).node len used reserved
+      go : (o : Option ℕ) → IsAt (commit_to {F = Rejection} b n o).node len used reserved
       go None = at
       go (Some seqno) = record { leads = at.leads; long = at.long; signs = at.signs; used_is = at.used_is; reserved_is = at.reserved_is; is_open = at.is_open }

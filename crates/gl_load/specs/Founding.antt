@@ -7,7 +7,7 @@ use Rattle.gl_hss.specs.Profile.{key_of_seed}
 use Rattle.gl_rules.specs.Identity.{NodeId}
 use Rattle.gl_rules.specs.World.{Start}
 use Rattle.gl_entry.specs.declared.entry.Entry.{Entry}
-use Rattle.gl_requests.specs.Spelling.{node_id}
+use Rattle.gl_requests.specs.Encoding.{node_id}
 use Rattle.gl_requests.specs.declared.genesis.NewNode.{NewNode}
 use Rattle.gl_requests.specs.declared.genesis.Genesis as request
 use Rattle.gl_requests.specs.declared.genesis.ServiceState.TheVariants.{Open}

@@ -16,7 +16,7 @@ use Rattle.gl_load.specs.declared.report.Report.{Report}
 abbrev pub signatures_in : List Entry → List Entry
 signatures_in ledger = filter (λ (e : Entry). is_signature e.content) ledger
 
--- A ledger as a file: the frames of its entries, one behind the other.
+-- A ledger as a file: the frames of its entries, one after the other.
 abbrev pub file_of : List Entry → List ℕ
 file_of ledger = flat_map frame_bytes ledger
 

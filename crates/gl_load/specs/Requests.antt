@@ -24,5 +24,5 @@ abbrev pub load_request : List ℕ → ℕ → List Operation
 load_request seed n = load_operation seed n ∷ []
 
 -- The generator once so many requests were drawn.
-abbrev pub words_behind : List ℕ → ℕ → ChaCha
-words_behind seed n = record { key = key_of seed; stream = 0; word_pos = 2 * n }
+abbrev pub words_after : List ℕ → ℕ → ChaCha
+words_after seed n = record { key = key_of seed; stream = 0; word_pos = 2 * n }

@@ -2,9 +2,9 @@
 use Rattle.std.specs.Prelude.{List}
 use Rattle.gl_tx.specs.declared.request.Operation.{Operation}
 use Rattle.gl_requests.specs.declared.request.GovernanceRequest.{GovernanceRequest}
-use Rattle.gl_ledger.specs.declared.made.Given.{Given}
-use Rattle.gl_ledger.specs.declared.made.Reads.{Reads}
-use Rattle.gl_ledger.specs.declared.made.Unmade.{Unmade}
+use Rattle.gl_ledger.specs.declared.response.Response.{Response}
+use Rattle.gl_ledger.specs.declared.response.Reads.{Reads}
+use Rattle.gl_ledger.specs.declared.response.Rejection.{Rejection}
 use Rattle.gl_replication.specs.declared.event.Event.{Event}
 use Rattle.gl_replication.specs.declared.node.Core.{Core}
 use Rattle.gl_rules.specs.Outcome.{Outcome}
@@ -12,13 +12,13 @@ use Rattle.gl_node.specs.Seen.{Seen}
 use Rattle.gl_load.specs.declared.memory_disk.MemoryDisk.{MemoryDisk}
 
 abbrev pub LoadSeen : Type 0 → Type 0
-LoadSeen S = Seen MemoryDisk S (List Operation) GovernanceRequest Reads Given Unmade
+LoadSeen S = Seen MemoryDisk S (List Operation) GovernanceRequest Reads Response Rejection
 
 abbrev pub LoadCore : Type 0 → Type 0
-LoadCore S = Core S (List Operation) GovernanceRequest Reads Given Unmade
+LoadCore S = Core S (List Operation) GovernanceRequest Reads Response Rejection
 
 abbrev pub LoadEvent : Type 0 → Type 0
-LoadEvent S = Event S (List Operation) GovernanceRequest Reads Given Unmade
+LoadEvent S = Event S (List Operation) GovernanceRequest Reads Response Rejection
 
 abbrev pub LoadOutcome : Type 0
-LoadOutcome = Outcome Given Unmade
+LoadOutcome = Outcome Response Rejection

@@ -93,11 +93,11 @@ pub struct LoadFounding {
 
 impl LoadFounding {
     ghost use Rattle.gl_ledger.specs.NodeKeys.{service_layers};
-    ghost use Rattle.gl_ledger.specs.Opening.{Founds};
+    ghost use Rattle.gl_ledger.specs.OpeningLedger.{Founds};
     ghost use Rattle.gl_load.specs.Founding.{load_genesis, load_id, load_key, load_keys};
 
     /// The service of this seed, which its node can found. Making it grows each key once, that of
-    /// its node by some million digests. Fails for want of memory alone.
+    /// its node by some million digests. Fails only where memory runs out.
     pub fn make(alloc: Global, seed: &[u8; 32]) -> Result<LoadFounding, AllocError>
         ensures key { IfOk result (λ f. f.key ≡ load_key seed.now) }
         ensures genesis { IfOk result (λ f. f.genesis ≡ load_genesis seed.now) }

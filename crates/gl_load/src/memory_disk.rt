@@ -37,9 +37,9 @@ fn overwrite(bytes: &mut Vec<u8>, at: usize, piece: &[u8])
     ensures len { vec_len bytes.new ≡ max (vec_len bytes.old) (at + length piece.now) }
 {
     let over = piece.len().min(bytes.len() - at);
-    let (front, behind) = piece.split_at(over);
-    bytes[at..at + over].copy_from_slice(front);
-    match bytes.extend_from_slice(behind) {
+    let (prefix, suffix) = piece.split_at(over);
+    bytes[at..at + over].copy_from_slice(prefix);
+    match bytes.extend_from_slice(suffix) {
         Ok(()) => {}
         Err(_) => {}
     }
@@ -70,8 +70,8 @@ impl Disk for MemoryDisk {
     fn read_at(&mut self, at: u64, buf: &mut [u8]) -> Result<(), DiskFailed> {
         let at = (at as usize).min(self.bytes.len());
         let count = buf.len().min(self.bytes.len() - at);
-        let (front, _) = buf.split_at_mut(count);
-        front.copy_from_slice(&self.bytes[at..at + count]);
+        let (prefix, _) = buf.split_at_mut(count);
+        prefix.copy_from_slice(&self.bytes[at..at + count]);
         Ok(())
     }
 
@@ -87,7 +87,7 @@ impl Disk for MemoryDisk {
     }
 
     /// Where it takes memory, it takes as much again as there is, so that what is written one piece
-    /// behind the other costs no more than the pieces.
+    /// after the other costs no more than the pieces.
     fn room(&mut self, end: u64, _calls: u64) -> Result<(), AllocError> {
         let end = end as usize;
         if end > self.room_end {

@@ -2,11 +2,11 @@
 
 ghost use Rattle.std.specs.Prelude.{◌≡◌, suc, ◌<◌, ◌≤◌, [], None, true, IfOk, OnOk};
 ghost use Rattle.gl_replication.specs.Events.{has_few_entries, rule_of};
-ghost use Rattle.gl_replication.specs.Stands.{IsNoMemory, StandsFor, Tells};
-ghost use Rattle.gl_load.specs.Events.{events_up_to, signs_behind};
+ghost use Rattle.gl_replication.specs.Stands.{IsNoMemory, Reports, StandsFor};
+ghost use Rattle.gl_load.specs.Events.{events_up_to, signs_after};
 ghost use Rattle.gl_load.specs.Founding.{load_book, load_holding};
-ghost use Rattle.gl_load.specs.Node.{HasLeaf, HasSigned, IsAfter, IsBehind, IsLed, IsUnsigned, Takes};
-ghost use Rattle.gl_load.specs.Requests.{words_behind};
+ghost use Rattle.gl_load.specs.Node.{HasLeaf, HasSigned, IsAfter, IsLed, IsSuffix, IsUnsigned, Takes};
+ghost use Rattle.gl_load.specs.Requests.{words_after};
 
 use crate::founding::key_seed;
 use crate::memory_disk::MemoryDisk;
@@ -54,7 +54,7 @@ pub(crate) fn node_at_start<B: KeptBook + ClientBook>(
 }
 
 /// Why an event didn't happen that no rule refuses.
-fn want_of_memory<B: KeptBook + ClientBook>(why: Refusal<B>) -> AllocError
+fn out_of_memory<B: KeptBook + ClientBook>(why: Refusal<B>) -> AllocError
     requires { IsNoMemory why }
 {
     match why {
@@ -63,21 +63,21 @@ fn want_of_memory<B: KeptBook + ClientBook>(why: Refusal<B>) -> AllocError
     }
 }
 
-/// An event happens at the node, which its rule doesn't refuse. Fails for want of memory alone.
-fn happen<B: KeptBook + ClientBook>(
+/// An event happens at the node, which its rule doesn't refuse. Fails only where memory runs out.
+fn apply_event<B: KeptBook + ClientBook>(
     node: &mut Replica<MemoryDisk, B>,
     event: Event<B>,
 ) -> Result<(), AllocError>
     requires few { has_few_entries event ≡ true }
     requires going { node.old.stopped ≡ None }
     requires taken { Takes B.stands event node.old.core }
-    ensures steps { OnOk result (Tells B.stands node.old.core (λ b x n.
+    ensures steps { OnOk result (Reports B.stands node.old.core (λ b x n.
         StandsFor B.stands node.new.core b x (rule_of event b x n).node)) }
     ensures going { node.new.stopped ≡ None }
 {
     match node.event(event) {
         Ok(_) => Ok(()),
-        Err(NodeFault::Refused(why)) => Err(want_of_memory(why)),
+        Err(NodeFault::Refused(why)) => Err(out_of_memory(why)),
         Err(NodeFault::DiskFault | NodeFault::Stopped { .. }) => unreachable!(),
     }
 }
@@ -93,12 +93,12 @@ fn submit<B: KeptBook + ClientBook>(
 ) -> Result<(), AllocError>
     requires few { count ≤ 100000 }
     requires more { done < count }
-    requires behind { IsBehind B.stands seed.now count done node.old words.old }
+    requires suffix { IsSuffix B.stands seed.now count done node.old words.old }
     ensures unsigned { OnOk result (IsUnsigned B.stands seed.now count done node.new) }
-    ensures words { OnOk result (words.new ≡ words_behind seed.now (suc done)) }
+    ensures words { OnOk result (words.new ≡ words_after seed.now (suc done)) }
 {
     let request = next_request(alloc, words)?;
-    happen(node, Event::Submit(request))
+    apply_event(node, Event::Submit(request))
 }
 
 /// The node reserves a leaf of its key.
@@ -113,7 +113,7 @@ fn reserve<B: KeptBook + ClientBook>(
     requires unsigned { IsUnsigned B.stands seed.now count done node.old }
     ensures { OnOk result (HasLeaf B.stands seed.now count done node.new) }
 {
-    happen(node, Event::Reserve)
+    apply_event(node, Event::Reserve)
 }
 
 /// The node signs its ledger.
@@ -128,7 +128,7 @@ fn sign_ledger<B: KeptBook + ClientBook>(
     requires leaf { HasLeaf B.stands seed.now count done node.old }
     ensures { OnOk result (HasSigned B.stands seed.now count done node.new) }
 {
-    happen(node, Event::Sign)
+    apply_event(node, Event::Sign)
 }
 
 /// The node commits what it signed.
@@ -140,12 +140,12 @@ fn commit<B: KeptBook + ClientBook>(
 ) -> Result<(), AllocError>
     requires few { count ≤ 100000 }
     requires more { done < count }
-    requires signs { signs_behind count (suc done) ≡ true }
+    requires signs { signs_after count (suc done) ≡ true }
     requires signed { HasSigned B.stands seed.now count done node.old }
     ensures { OnOk result
         (IsAfter B.stands seed.now (events_up_to seed.now count (suc done)) node.new) }
 {
-    happen(node, Event::Advance)
+    apply_event(node, Event::Advance)
 }
 
 /// The node signs its ledger with one more leaf, and commits what it signed.
@@ -157,7 +157,7 @@ fn sign<B: KeptBook + ClientBook>(
 ) -> Result<(), AllocError>
     requires few { count ≤ 100000 }
     requires more { done < count }
-    requires signs { signs_behind count (suc done) ≡ true }
+    requires signs { signs_after count (suc done) ≡ true }
     requires unsigned { IsUnsigned B.stands seed.now count done node.old }
     ensures { OnOk result
         (IsAfter B.stands seed.now (events_up_to seed.now count (suc done)) node.new) }
@@ -167,14 +167,14 @@ fn sign<B: KeptBook + ClientBook>(
     commit(seed, node, count, done)
 }
 
-/// Whether the node of a load of so many requests signs behind the first so many of them.
+/// Whether the node of a load of so many requests signs after the first so many of them.
 fn is_due(count: u32, done: u32) -> bool
-    ensures { result ≡ signs_behind count done }
+    ensures { result ≡ signs_after count done }
 {
     done % 100 == 0 || done == count
 }
 
-/// The node signs behind each hundred requests, and behind the last one.
+/// The node signs after each hundred requests, and after the last one.
 fn sign_if_due<B: KeptBook + ClientBook>(
     seed: &[u8; 32],
     node: &mut Replica<MemoryDisk, B>,
@@ -195,7 +195,7 @@ fn sign_if_due<B: KeptBook + ClientBook>(
     }
 }
 
-/// One request more, and what follows it. Fails for want of memory alone.
+/// One request more, and what follows it. Fails only where memory runs out.
 pub(crate) fn take_request<B: KeptBook + ClientBook>(
     alloc: Global,
     seed: &[u8; 32],
@@ -206,8 +206,8 @@ pub(crate) fn take_request<B: KeptBook + ClientBook>(
 ) -> Result<(), AllocError>
     requires few { count ≤ 100000 }
     requires more { done < count }
-    requires behind { IsBehind B.stands seed.now count done node.old words.old }
-    ensures { OnOk result (IsBehind B.stands seed.now count (suc done) node.new words.new) }
+    requires suffix { IsSuffix B.stands seed.now count done node.old words.old }
+    ensures { OnOk result (IsSuffix B.stands seed.now count (suc done) node.new words.new) }
 {
     submit(alloc, seed, node, words, count, done)?;
     sign_if_due(seed, node, count, done)

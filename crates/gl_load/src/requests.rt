@@ -3,7 +3,7 @@
 ghost use Rattle.std.specs.Prelude.{◌≡◌, ℕ, ◌+◌, ◌<◌, ◌^◌, List, IfOk};
 ghost use Rattle.gl_hss.specs.Bytes.{u32str};
 ghost use Rattle.gl_tx.specs.declared.request.Operation.TheVariants.{Put};
-ghost use Rattle.gl_load.specs.Requests.{load_map, load_request, words_behind};
+ghost use Rattle.gl_load.specs.Requests.{load_map, load_request, words_after};
 
 use gl_tx::{Operation, Request};
 use gl_vmaps::{Key, MapName, Value};
@@ -26,12 +26,12 @@ fn put(alloc: Global, key: u32, value: u32) -> Result<Operation, AllocError>
     })
 }
 
-/// The next request, by the next two words. Fails for want of memory alone.
+/// The next request, by the next two words. Fails only where memory runs out.
 pub(crate) fn next_request(alloc: Global, words: &mut ChaCha8Rng) -> Result<Request, AllocError>
     ensures request { IfOk result (λ request. (seed : List ℕ) (n : ℕ) → n < 2 ^ 32 →
-        words.old ≡ words_behind seed n → request ≡ load_request seed n) }
+        words.old ≡ words_after seed n → request ≡ load_request seed n) }
     ensures words { (seed : List ℕ) (n : ℕ) → n < 2 ^ 32 →
-        words.old ≡ words_behind seed n → words.new ≡ words_behind seed (n + 1) }
+        words.old ≡ words_after seed n → words.new ≡ words_after seed (n + 1) }
 {
     let key = words.next_word() % 1000;
     let value = words.next_word();

@@ -26,7 +26,7 @@ struct Totals {
     bytes: u64,
 }
 
-/// Tries an entry by the rules of the audit, behind those before it. Behind a signature the state
+/// Tries an entry by the rules of the audit, after those before it. After a signature the state
 /// lets go of what later entries don't ask for.
 fn audit(state: &mut LedgerState, entry: &Entry) -> Result<(), AllocError>
     requires { (ledger : List Item) × IsStateOf ledger state.old
@@ -119,7 +119,7 @@ impl Totals {
     }
 }
 
-/// Audits entries, none of which breaks a rule behind those before it, and counts them.
+/// Audits entries, none of which breaks a rule after those before it, and counts them.
 fn totals_of(alloc: Global, entries: &[Entry]) -> Result<Totals, AllocError>
     requires valid { audited service_layers entries.now ≡ None }
     requires fit { All (λ e. IsTrue (is_entry e)) entries.now }
@@ -132,8 +132,8 @@ fn totals_of(alloc: Global, entries: &[Entry]) -> Result<Totals, AllocError>
     Ok(totals)
 }
 
-/// What is told of a ledger, none of whose entries breaks a rule: each is audited once more, behind
-/// those before it. Fails for want of memory alone.
+/// What is told of a ledger, none of whose entries breaks a rule: each is audited once more, after
+/// those before it. Fails only where memory runs out.
 pub(crate) fn report(alloc: Global, entries: &[Entry]) -> Result<Report, AllocError>
     requires some { 0 < length entries.now }
     requires valid { audited service_layers entries.now ≡ None }

@@ -116,7 +116,7 @@ base_levels-odd k b ps odd = rw (ne_eqb (b % 2) 0 (λ q. omega arith))
 
 -- ---- what is read
 
--- the incomplete node behind these, with the one behind the nodes of this level
+-- the incomplete node after these, with the one after the nodes of this level
 carry : List (List ℕ) → Option (List ℕ) → Option (List ℕ)
 carry [] t = t
 carry (x ∷ []) t = Some (over_tail x t)
@@ -162,7 +162,7 @@ next_tail-carry r ls b n t e low high =
       | inr odd ↦ rw (ne_eqb _ _ odd, last-at_level r ls b n e low high (omega arith)) (sym (carry-odd (take n ls) t (omega arith)))
     ]
 
--- the level above, of the first n nodes and the incomplete one behind them
+-- the level above, of the first n nodes and the incomplete one after them
 pub pair_all-level : (r ls : List (List ℕ)) (b n : ℕ) (t : Option (List ℕ)) → r ≡ drop (b / 2 * 2) ls → b ≤ n → n ≤ length ls → pair_all (take n ls ++ option_to_list t) ≡ take (n / 2) (pairs_of ls) ++ option_to_list (next_tail r b n t)
 pair_all-level r ls b n t e low high =
     pair_all-tail (take n ls) t ∙ ap₂ (λ a c. a ++ option_to_list c) (pairs_of-take n ls) (sym (next_tail-carry r ls b n t e low high))

@@ -1,4 +1,5 @@
--- The tree from below: the nodes of a level in pairs, the last one without a neighbour taken along as it is.
+-- The tree from below: the nodes of a level in pairs, the last one without a neighbour taken along
+-- as it is.
 use Rattle.std.proofs.Common.{◌≡◌, ℕ, zero, suc, ◌+◌, ◌*◌, ◌-◌, ◌/◌, ◌%◌, ◌^◌, ◌<◌, ◌≤◌, cond, eqb, ltb, List, [], ◌∷◌, ◌++◌, Option, Some, None, option_to_list, length, take, drop, get_or, refl, sym, ap, ap₂, ◌∙◌, arith, length-drop, append_assoc, inl, inr}
 use Rattle.std.proofs.Math.Nat.{pow-suc}
 use Rattle.std.proofs.lemmas.Bool.{cases_lt, eq-eqb, ne_eqb, lt-ltb, le-ltb}
@@ -147,20 +148,20 @@ path_within-pairs (suc h) ls p lt fits =
       | inl gt ↦ (
           let size = length-take-le (2 ^ suc h) ls (omega arith) in
           let rest = length-drop (2 ^ suc h) ls in
-          let front = pair_all-take (2 ^ h) (2 ^ suc h) ls four (omega arith) in
+          let prefix = pair_all-take (2 ^ h) (2 ^ suc h) ls four (omega arith) in
           let back = pair_all-drop (2 ^ h) (2 ^ suc h) ls four in
           elim (cases_lt p (2 ^ suc h)) [
             | inl left ↦ (
                 let here = path_within-pairs h (take (2 ^ suc h) ls) p (omega arith) (omega arith) in
                 let there = root_within-pairs h (drop (2 ^ suc h) ls) (omega arith) in
                 path_within-left (suc h) ls (p + 1) gt (omega arith)
-                ∙ rw (here, there, front, back, step_in-take (2 ^ h) (2 ^ suc h) p ls four gt left, path_within-left h (pair_all ls) (p / 2 + 1) (omega arith) (omega arith), append_assoc))
+                ∙ rw (here, there, prefix, back, step_in-take (2 ^ h) (2 ^ suc h) p ls four gt left, path_within-left h (pair_all ls) (p / 2 + 1) (omega arith) (omega arith), append_assoc))
             | inr right ↦ (
                 let here = path_within-pairs h (drop (2 ^ suc h) ls) (p - 2 ^ suc h) (omega arith) (omega arith) in
                 let there = root_within-pairs h (take (2 ^ suc h) ls) (omega arith) in
                 let place : p + 1 - 2 ^ suc h ≡ p - 2 ^ suc h + 1 = omega arith in
                 let above : (p - 2 ^ suc h) / 2 + 1 ≡ p / 2 + 1 - 2 ^ h = omega arith in
                 path_within-right (suc h) ls (p + 1) gt (omega arith)
-                ∙ rw (place, here, there, front, back, step_in-drop (2 ^ h) (2 ^ suc h) p ls four right, path_within-right h (pair_all ls) (p / 2 + 1) (omega arith) (omega arith), above, append_assoc))
+                ∙ rw (place, here, there, prefix, back, step_in-drop (2 ^ h) (2 ^ suc h) p ls four right, path_within-right h (pair_all ls) (p / 2 + 1) (omega arith) (omega arith), above, append_assoc))
           ])
     ]

@@ -53,8 +53,8 @@ length-joined a x = ap length (joined-input a x) ∙ length-sha256 (input_of a x
 
 same_ends : (z a w b : List ℕ) → length a ≡ length b → z ++ a ≡ w ++ b → a ≡ b
 same_ends z a w b len e =
-    let fronts : length z ≡ length w = omega (arith, length-append z a, length-append w b, ap length e) in
-    sym (drop_at z a (length z) refl) ∙ ap (drop (length z)) e ∙ drop_at w b (length z) (sym fronts)
+    let prefixes : length z ≡ length w = omega (arith, length-append z a, length-append w b, ap length e) in
+    sym (drop_at z a (length z) refl) ∙ ap (drop (length z)) e ∙ drop_at w b (length z) (sym prefixes)
 
 input_of-differ : (a b : List ℕ) (x y : Step) → length a ≡ length b → a ≢ b → IsSameSide x y → input_of a x ≢ input_of b y
 input_of-differ a b (Left z) (Left w) len ne same = λ e. ne (same_ends z a w b len e)

@@ -90,11 +90,11 @@ peaks_within-pairs (suc h) ls fits =
       | inr le ↦ (
           let size = length-take-le (2 ^ suc h) ls (omega arith) in
           let rest = length-drop (2 ^ suc h) ls in
-          let front = root_within-pairs h (take (2 ^ suc h) ls) (omega arith) in
+          let prefix = root_within-pairs h (take (2 ^ suc h) ls) (omega arith) in
           let even = pair_all-even (take (2 ^ suc h) ls) (omega arith) in
           let half_of : 2 ^ suc h / 2 ≡ 2 ^ h = omega arith in
           peaks_within-high (suc h) ls le
-          ∙ rw (front, even, pairs_of-take (2 ^ suc h) ls, half_of, peaks_within-pairs h (drop (2 ^ suc h) ls) (omega arith), pairs_of-drop (2 ^ h) (2 ^ suc h) ls four, unpaired-drop (2 ^ h) (2 ^ suc h) ls four le, peaks_within-high h (pairs_of ls) (omega arith)))
+          ∙ rw (prefix, even, pairs_of-take (2 ^ suc h) ls, half_of, peaks_within-pairs h (drop (2 ^ suc h) ls) (omega arith), pairs_of-drop (2 ^ h) (2 ^ suc h) ls four, unpaired-drop (2 ^ h) (2 ^ suc h) ls four le, peaks_within-high h (pairs_of ls) (omega arith)))
     ]
 
 length-unpaired : (ls : List (List ℕ)) → length (unpaired ls) ≡ length ls % 2

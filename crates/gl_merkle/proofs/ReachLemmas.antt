@@ -147,11 +147,11 @@ reach-node h node t (Left z) ls digest here all lt fits meet in_left in_right =
     let size = length-take-le (2 ^ h) ls (omega arith) in
     let a = root_within h (take (2 ^ h) ls) in
     let b = root_within h (drop (2 ^ h) ls) in
-    let front = length-root_within h (take (2 ^ h) ls) (omega arith) (omega arith) (All-take IsDigest (2 ^ h) ls all) in
+    let prefix = length-root_within h (take (2 ^ h) ls) (omega arith) (omega arith) (All-take IsDigest (2 ^ h) ls all) in
     let one = sym (fold-append joined node t (Left z ∷ [])) ∙ meet ∙ root_within-split h ls lt in
     elim (cases_Bool (bytes_eq (z ++ climb_of node t) (a ++ b))) [
       | inl same ↦ (
-          let parts = same_parts z (climb_of node t) a b digest front ((bytes_eq-Decides (z ++ climb_of node t) (a ++ b)).0 same) in
+          let parts = same_parts z (climb_of node t) a b digest prefix ((bytes_eq-Decides (z ++ climb_of node t) (a ++ b)).0 same) in
           rw parts.0 (reached-right h node t ls lt (in_right parts.1)))
       | inr other ↦ inr (inl (
         z ++ climb_of node t,
@@ -168,11 +168,11 @@ reach-node h node t (Right z) ls digest here all lt fits meet in_left in_right =
     let size = length-take-le (2 ^ h) ls (omega arith) in
     let a = root_within h (take (2 ^ h) ls) in
     let b = root_within h (drop (2 ^ h) ls) in
-    let front = length-root_within h (take (2 ^ h) ls) (omega arith) (omega arith) (All-take IsDigest (2 ^ h) ls all) in
+    let prefix = length-root_within h (take (2 ^ h) ls) (omega arith) (omega arith) (All-take IsDigest (2 ^ h) ls all) in
     let one = sym (fold-append joined node t (Right z ∷ [])) ∙ meet ∙ root_within-split h ls lt in
     elim (cases_Bool (bytes_eq (climb_of node t ++ z) (a ++ b))) [
       | inl same ↦ (
-          let parts = same_parts (climb_of node t) z a b here front ((bytes_eq-Decides (climb_of node t ++ z) (a ++ b)).0 same) in
+          let parts = same_parts (climb_of node t) z a b here prefix ((bytes_eq-Decides (climb_of node t ++ z) (a ++ b)).0 same) in
           rw parts.1 (reached-left h node t ls lt (in_left parts.0)))
       | inr other ↦ inr (inl (
         climb_of node t ++ z,

@@ -1,4 +1,5 @@
--- The tree split at the greatest power of two below the number of its leaves, whatever height bounds it.
+-- The tree split at the greatest power of two below the number of its leaves, whatever height
+-- bounds it.
 use Rattle.std.proofs.Common.{◌≡◌, ℕ, zero, suc, ◌*◌, ◌-◌, ◌^◌, ◌<◌, ◌≤◌, List, [], ◌∷◌, ◌++◌, length, take, drop, sym, ap₂, ◌∙◌, arith, length-drop, inl, inr}
 use Rattle.std.proofs.Math.Nat.{pow-suc, pow-le-pow_right}
 use Rattle.std.proofs.lemmas.Bool.{le-leb, lt-leb, cond-true, cond-false, cases_lt}
@@ -90,7 +91,8 @@ pub path_of-one : (ls : List (List ℕ)) (i : ℕ) → length ls ≡ 1 → path_
 unfolding path_within
 path_of-one ls i one = path_of-within 0 ls i (omega arith)
 
--- the path of a leaf in the left part, and in the right part: w is the greatest power of two below the leaves' number
+-- the path of a leaf in the left part, and in the right part: w is the greatest power of two below
+-- the leaves' number
 pub path_of-left : (k w : ℕ) (ls : List (List ℕ)) (i : ℕ) → w ≡ 2 ^ k → w < length ls → length ls ≤ 2 * w → i ≤ w → path_of ls i ≡ path_of (take w ls) i ++ Right (root_of (drop w ls)) ∷ []
 path_of-left k w ls i e lt le at =
     let two = pow-suc 2 k in

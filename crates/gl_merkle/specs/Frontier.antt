@@ -3,7 +3,7 @@ use Rattle.std.specs.Prelude.{◌≡◌, ℕ, ◌+◌, ◌%◌, ◌≤◌, List,
 use Rattle.gl_merkle.specs.Peaks.{peaks_of}
 use Rattle.gl_merkle.specs.Levels.{Level, nodes_of, rooms_of, AreSized, AreRoomy, Cover}
 
--- A list of leaves: `base` of them are known by their `peaks` alone, greatest first, and behind
+-- A list of leaves: `base` of them are known by their `peaks` alone, greatest first, and after
 -- these stand `leaves`. So many pushes as `spare` says take no memory.
 pub record Content : Type 0 where
   pub base : ℕ

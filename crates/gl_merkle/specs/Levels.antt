@@ -73,22 +73,22 @@ base_levels (suc k) b ps =
     else (slice_index_or ps (length ps - 1) [] ∷ [])
     ∷ base_levels k (b / 2) (take (length ps - 1) ps)
 
--- ---- the tree of the first n nodes of a level, and the incomplete node behind them, if any
+-- ---- the tree of the first n nodes of a level, and the incomplete node after them, if any
 
 -- the last of n nodes of a level over a base of b
 abbrev pub last_node : List (List ℕ) → ℕ → ℕ → List ℕ
 last_node r b n = slice_index_or r (n - 1 - b / 2 * 2) []
 
--- a node with the incomplete one behind it
+-- a node with the incomplete one after it
 abbrev pub over_tail : List ℕ → Option (List ℕ) → List ℕ
 over_tail node None = node
 over_tail node (Some tail) = inner_of node tail
 
--- the incomplete node behind those of the next level
+-- the incomplete node after those of the next level
 abbrev pub next_tail : List (List ℕ) → ℕ → ℕ → Option (List ℕ) → Option (List ℕ)
 next_tail r b n tail = if nat_eq (n % 2) 0 then tail else Some (over_tail (last_node r b n) tail)
 
--- the incomplete node behind those of the last level
+-- the incomplete node after those of the last level
 abbrev pub tail_of : List (List (List ℕ)) → ℕ → ℕ → Option (List ℕ) → Option (List ℕ)
 tail_of [] b n tail = tail
 tail_of (r ∷ rs) b n tail = tail_of rs (b / 2) (n / 2) (next_tail r b n tail)

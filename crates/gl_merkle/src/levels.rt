@@ -101,7 +101,7 @@ pub(crate) fn copy_levels(alloc: Global, levels: &[Level]) -> Result<Vec<Level>,
     Ok(copied)
 }
 
-// The last of the first `size` nodes of a level, and the incomplete one behind it, in one node.
+// The last of the first `size` nodes of a level, and the incomplete one after it, in one node.
 fn tail_over(level: &Level, base: u64, size: u64, tail: Option<Digest>) -> Option<Digest>
     requires from_base { base ≤ size }
     requires within { size ≤ vec_len level.now + base / 2 * 2 }

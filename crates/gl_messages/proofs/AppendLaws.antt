@@ -1,4 +1,5 @@
--- The entries of an Append: their frames read back, and what reads are frames of entries in order and within the limits.
+-- The entries of an Append: their frames read back, and what reads are frames of entries in order
+-- and within the limits.
 use Rattle.std.proofs.Common.{◌≡◌, ℕ, zero, suc, ◌+◌, ◌≤◌, ◌<◌, ◌==◌, nat_le, nat_lt, Bool, true, false, cond, ◌&&◌, ◌||◌, List, [], ◌∷◌, length, Result, Ok, Err, refl, ap, ap₂, subst, length-append, arith}
 use Rattle.std.specs.List.{list_all}
 use Rattle.std.proofs.lemmas.Bool.{and_parts, and_from}
@@ -9,12 +10,12 @@ use Rattle.gl_base.proofs.Steps.{bind_ok, ok_injective, cond_ok}
 use Rattle.gl_base.proofs.ByteLists.{AreBytes}
 use Rattle.gl_base.proofs.RowLaws.{Took}
 use Rattle.gl_entry.specs.Entry.{body_limit, is_entry, frame_bytes, frame_size}
-use Rattle.gl_entry.specs.Reading.{frame_at}
+use Rattle.gl_entry.specs.Parsing.{frame_at}
 use Rattle.gl_entry.specs.declared.entry.Entry.{Entry}
 use Rattle.gl_entry.specs.declared.fault.EntryFault.{EntryFault}
-use Rattle.gl_entry.proofs.EntryLaws.{frame-spelled, frame-reads, length-frame_bytes}
+use Rattle.gl_entry.proofs.EntryLaws.{frame-encoded, frame-reads, length-frame_bytes}
 use Rattle.gl_entry.proofs.Parts.{took_then, Lies, lie_both}
-use Rattle.gl_messages.specs.Message.{most_entries, most_bytes, frames_bytes, frames_size, has_fitting_body, are_within, entries_fit, are_behind}
+use Rattle.gl_messages.specs.Message.{most_entries, most_bytes, frames_bytes, frames_size, has_fitting_body, are_within, entries_fit, are_after}
 use Rattle.gl_messages.specs.MessageReading.{view_in, seqno_in, in_order, has_room, roomy, placed_at, entry_in, entry_at, with_entry, entries_at}
 use Rattle.gl_messages.specs.declared.append.Before.{Before}
 use Rattle.gl_messages.specs.declared.fault.MessageFault.{MessageFault}
@@ -79,7 +80,7 @@ entry_finds most before e old new is follows there =
 
 -- ---- room
 
--- Each entry has room behind those before it.
+-- Each entry has room after those before it.
 abbrev pub rooms : Before → List Entry → Bool
 rooms before [] = true
 rooms before (e ∷ es) = has_room before (frame_size e) && rooms (with_entry before e) es
@@ -128,7 +129,7 @@ within_rooms (e ∷ f ∷ es) before none is =
 
 pub record TookEntries (most : ℕ) (before : Before) (count : ℕ) (es : List Entry) (old new : Unread) : Type 0 where
   pub took : Took (frames_bytes es) (list_all is_entry es) old new
-  pub behind : are_behind most before.view before.seqno es ≡ true
+  pub suffix : are_after most before.view before.seqno es ≡ true
   pub room : rooms before es ≡ true
   pub counted : length es ≡ count
 
@@ -138,14 +139,14 @@ entries_take most before zero old read all e =
     let gave : List Entry × Unread = ([], old) in
     let same : gave ≡ read = ok_injective {E = MessageFault} gave read e in
     let nothing : Took [] true old old = record { bytes = refl; place = omega arith; valid = refl; rest = all } in
-    subst (λ (r : List Entry × Unread). TookEntries most before 0 r.0 old r.1) same (record { took = nothing; behind = refl; room = refl; counted = refl })
+    subst (λ (r : List Entry × Unread). TookEntries most before 0 r.0 old r.1) same (record { took = nothing; suffix = refl; room = refl; counted = refl })
 entries_take most before (suc count) old read all e =
     let first = bind_ok {E = MessageFault} (entry_at most before old) _ read e in
     let rest = bind_ok {E = MessageFault} (entries_at most (with_entry before first.0.0) count first.0.1) _ read first.2 in
     let gave : List Entry × Unread = (first.0.0 ∷ rest.0.0, rest.0.1) in
     let same : gave ≡ read = ok_injective {E = MessageFault} gave read rest.2 in
     let one = entry_ok most before old first.0 first.1 in
-    let frame = frame-spelled old first.0 all one.0 in
+    let frame = frame-encoded old first.0 all one.0 in
     let others = entries_take most (with_entry before first.0.0) count first.0.1 rest.0 frame.rest rest.1 in
     let both = took_then (frame_bytes first.0.0) (frames_bytes rest.0.0) (is_entry first.0.0) (list_all is_entry rest.0.0) old first.0.1 rest.0.1 frame others.took in
     let low : nat_le before.view first.0.0.view ≡ true = grind (arith, nat_tests, one.1.low) in
@@ -153,22 +154,22 @@ entries_take most before (suc count) old read all e =
     let next : (first.0.0.seqno == before.seqno + 1) ≡ true = grind (arith, nat_tests, one.1.next) in
     let got : TookEntries most before (suc count) gave.0 old gave.1 = record {
       took = both;
-      behind = rw (low, high, next) others.behind;
+      suffix = rw (low, high, next) others.suffix;
       room = and_from (has_room before (frame_size first.0.0)) (rooms (with_entry before first.0.0) rest.0.0) one.1.room others.room;
       counted = ap suc others.counted;
     } in
     subst (λ (r : List Entry × Unread). TookEntries most before (suc count) r.0 old r.1) same got
 
-pub entries_find : (most : ℕ) (es : List Entry) (before : Before) (old new : Unread) → list_all is_entry es ≡ true → are_behind most before.view before.seqno es ≡ true → rooms before es ≡ true → Lies (frames_bytes es) old new
+pub entries_find : (most : ℕ) (es : List Entry) (before : Before) (old new : Unread) → list_all is_entry es ≡ true → are_after most before.view before.seqno es ≡ true → rooms before es ≡ true → Lies (frames_bytes es) old new
     → entries_at most before (length es) old ≡ Ok (es, new)
 unfolding entries_at
-entries_find most [] before old new are behind room there =
+entries_find most [] before old new are suffix room there =
     let place : old.at ≡ new.at = omega (arith, there.place) in
     let same : old ≡ new = ap₂ (λ (n : ℕ) (xs : List ℕ). record { at = n; bytes = xs }) place there.bytes in
     ap (λ (u : Unread). Ok ([], u)) same
-entries_find most (e ∷ es) before old new are behind room there =
+entries_find most (e ∷ es) before old new are suffix room there =
     let valid = and_parts (is_entry e) (list_all is_entry es) are in
-    let rest = and_parts (nat_le before.view e.view && nat_le e.view most && (e.seqno == before.seqno + 1)) (are_behind most e.view e.seqno es) behind in
+    let rest = and_parts (nat_le before.view e.view && nat_le e.view most && (e.seqno == before.seqno + 1)) (are_after most e.view e.seqno es) suffix in
     let seqno = and_parts (nat_le before.view e.view && nat_le e.view most) (e.seqno == before.seqno + 1) rest.0 in
     let views = and_parts (nat_le before.view e.view) (nat_le e.view most) seqno.0 in
     let roomy = and_parts (has_room before (frame_size e)) (rooms (with_entry before e) es) room in

@@ -15,7 +15,7 @@ use Rattle.gl_base.proofs.Numbers.{bytes_at_ok}
 use Rattle.gl_base.proofs.Steps.{ok_injective}
 use Rattle.gl_entry.specs.Entry as entries
 use Rattle.gl_entry.specs.Entry.{body_limit, is_entry, frame_bytes, frame_size}
-use Rattle.gl_entry.specs.Reading.{frame_at}
+use Rattle.gl_entry.specs.Parsing.{frame_at}
 use Rattle.gl_entry.specs.declared.entry.Entry.{Entry}
 use Rattle.gl_entry.proofs.EntryLaws.{first_frame-reads, length-frame_bytes}
 use Rattle.gl_entry.proofs.Parts.{Lies, bytes-reads}
@@ -28,40 +28,40 @@ abbrev Reading : Type 0
 Reading = Result (List Entry × Unread) MessageFault
 
 -- What was read before, and what is still read.
-abbrev with_front : List Entry → Reading → Reading
-with_front front read = read >>= λ x. Ok (front ++ x.0, x.1)
+abbrev with_prefix : List Entry → Reading → Reading
+with_prefix prefix read = read >>= λ x. Ok (prefix ++ x.0, x.1)
 
-regroup : (front : List Entry) (e : Entry) (read : Reading) → with_front front (read >>= λ x. Ok (e ∷ x.0, x.1)) ≡ with_front (front ++ e ∷ []) read
-regroup front e (Ok x) = ap (λ (es : List Entry). Ok (es, x.1)) (sym (append_assoc front (e ∷ []) x.0))
-regroup front e (Err f) = refl
+regroup : (prefix : List Entry) (e : Entry) (read : Reading) → with_prefix prefix (read >>= λ x. Ok (e ∷ x.0, x.1)) ≡ with_prefix (prefix ++ e ∷ []) read
+regroup prefix e (Ok x) = ap (λ (es : List Entry). Ok (es, x.1)) (sym (append_assoc prefix (e ∷ []) x.0))
+regroup prefix e (Err f) = refl
 
--- The entries behind those that were read.
-abbrev pub behind : ℕ → List Entry → ℕ → ℕ → Before → Unread → Reading
-behind most front count i before unread = with_front front (entries_at most before (count - i) unread)
+-- The entries after those that were read.
+abbrev pub suffix : ℕ → List Entry → ℕ → ℕ → Before → Unread → Reading
+suffix most prefix count i before unread = with_prefix prefix (entries_at most before (count - i) unread)
 
-pub goes_on : (most : ℕ) (front : List Entry) (count i : ℕ) (before next : Before) (old new : Unread) (e : Entry) (total : Reading) → i < count → entry_at most before old ≡ Ok (e, new) → next ≡ with_entry before e
-    → behind most front count i before old ≡ total → behind most (front ++ e ∷ []) count (i + 1) next new ≡ total
+pub goes_on : (most : ℕ) (prefix : List Entry) (count i : ℕ) (before next : Before) (old new : Unread) (e : Entry) (total : Reading) → i < count → entry_at most before old ≡ Ok (e, new) → next ≡ with_entry before e
+    → suffix most prefix count i before old ≡ total → suffix most (prefix ++ e ∷ []) count (i + 1) next new ≡ total
 unfolding entries_at
-goes_on most front count i before next old new e total lt h is so_far =
+goes_on most prefix count i before next old new e total lt h is so_far =
     let k : count - i ≡ suc (count - (i + 1)) = omega arith in
-    let one : behind most front count i before old ≡ behind most (front ++ e ∷ []) count (i + 1) (with_entry before e) new =
-    rw (k, h) (regroup front e (entries_at most (with_entry before e) (count - (i + 1)) new)) in
-    ap (λ (b : Before). behind most (front ++ e ∷ []) count (i + 1) b new) is ∙ sym one ∙ so_far
+    let one : suffix most prefix count i before old ≡ suffix most (prefix ++ e ∷ []) count (i + 1) (with_entry before e) new =
+    rw (k, h) (regroup prefix e (entries_at most (with_entry before e) (count - (i + 1)) new)) in
+    ap (λ (b : Before). suffix most (prefix ++ e ∷ []) count (i + 1) b new) is ∙ sym one ∙ so_far
 
-pub ends : (most : ℕ) (failed : OrNoMemory MessageFault) (front : List Entry) (count i : ℕ) (before : Before) (old : Unread) (total : Reading) → i < count → Fails failed (entry_at most before old)
-    → behind most front count i before old ≡ total → Fails failed total
+pub ends : (most : ℕ) (failed : OrNoMemory MessageFault) (prefix : List Entry) (count i : ℕ) (before : Before) (old : Unread) (total : Reading) → i < count → Fails failed (entry_at most before old)
+    → suffix most prefix count i before old ≡ total → Fails failed total
 unfolding entries_at
-ends most errors.NoMemory front count i before old total lt h so_far = tt
-ends most (errors.Fault f) front count i before old total lt h so_far =
+ends most errors.NoMemory prefix count i before old total lt h so_far = tt
+ends most (errors.Fault f) prefix count i before old total lt h so_far =
     let k : count - i ≡ suc (count - (i + 1)) = omega arith in
-    let one : behind most front count i before old ≡ Err f = rw (k, h) refl in
+    let one : suffix most prefix count i before old ≡ Err f = rw (k, h) refl in
     sym so_far ∙ one
 
-pub is_done : (most : ℕ) (front : List Entry) (count i : ℕ) (before : Before) (old : Unread) (total : Reading) → count ≤ i → behind most front count i before old ≡ total → total ≡ Ok (front, old)
+pub is_done : (most : ℕ) (prefix : List Entry) (count i : ℕ) (before : Before) (old : Unread) (total : Reading) → count ≤ i → suffix most prefix count i before old ≡ total → total ≡ Ok (prefix, old)
 unfolding entries_at
-is_done most front count i before old total le so_far =
+is_done most prefix count i before old total le so_far =
     let k : count - i ≡ 0 = omega arith in
-    let one : behind most front count i before old ≡ Ok (front, old) = rw k (ap (λ (es : List Entry). Ok (es, old)) (append-nil front)) in
+    let one : suffix most prefix count i before old ≡ Ok (prefix, old) = rw k (ap (λ (es : List Entry). Ok (es, old)) (append-nil prefix)) in
     sym so_far ∙ one
 
 -- ---- the bytes of a frame
@@ -80,7 +80,7 @@ all_read view old new count (Err fault) all given =
     let failed = given.0 in
     absurd cc
 
--- An entry that was read from the front of bytes, and the bytes behind its frame.
+-- An entry that was read from the start of bytes, and the bytes after its frame.
 pub record Framed (old : Unread) (e : Entry) (size : ℕ) : Type 0 where
   pub new : Unread
   pub read : frame_at old ≡ Ok (e, new)

@@ -1,4 +1,4 @@
--- What a client's message is spelled as reads back, and what reads is spelled so.
+-- What a client's message is encoded as reads back, and what reads is encoded so.
 use Rattle.std.proofs.Common.{◌≡◌, ℕ, ◌+◌, ◌≤◌, true, List, [], ◌∷◌, ◌++◌, length, Result, Ok, refl, sym, ap, ◌∙◌, subst, length-append, arith}
 use Rattle.std.proofs.lemmas.Bool.{and_parts}
 use Rattle.std.proofs.lemmas.Bool.Decides.{nat_tests}
@@ -98,12 +98,12 @@ unfolding client_at
 client_finds c old new is there =
     let parts = and_parts (is_u64 c.number) (is_call c.call) is in
     let head = lie_both (call_tag c.call ∷ []) (little_endian 8 c.number ++ call_bytes c.call) old new there in
-    let behind = lie_both (little_endian 8 c.number) (call_bytes c.call) head.mid new head.second in
+    let after = lie_both (little_endian 8 c.number) (call_bytes c.call) head.mid new head.second in
     let within = tag_within c.call in
     rw (
       tag_finds 16 20 (call_tag c.call) old head.mid within.0 within.1 (omega arith) head.first,
-      number_finds 8 c.number head.mid behind.mid parts.0 behind.first,
-      call_finds c.call behind.mid new parts.1 behind.second,
+      number_finds 8 c.number head.mid after.mid parts.0 after.first,
+      call_finds c.call after.mid new parts.1 after.second,
     ) refl
 
 -- ---- its length
@@ -119,7 +119,7 @@ pub client_bytes-fit : (c : Client) → call_fits c.call ≡ true → length (cl
 client_bytes-fit c is =
     omega (arith, call_bytes-le c.call is, length-append (little_endian 8 c.number) (call_bytes c.call), length-little_endian 8 c.number)
 
--- ---- what reads can be spelled
+-- ---- what reads can be encoded
 
 call_fits_of : (call : Call) → is_call call ≡ true → call_fits call ≡ true
 call_fits_of (Submit request) is = (and_parts (is_within request) (are_bytes request) is).0

@@ -1,4 +1,4 @@
--- What a message is spelled as reads back, and what reads is spelled so.
+-- What a message is encoded as reads back, and what reads is encoded so.
 use Rattle.std.proofs.Common.{◌≡◌, ℕ, ◌+◌, ◌^◌, ◌≤◌, ◌==◌, nat_le, nat_lt, Bool, true, false, cond, ◌&&◌, List, [], ◌∷◌, ◌++◌, length, Result, Ok, Err, refl, sym, ap, ap₂, ◌∙◌, subst, append-nil, length-append, arith}
 use Rattle.std.specs.List.{list_all}
 use Rattle.std.proofs.lemmas.Bool.{and_parts, and_from}
@@ -22,7 +22,7 @@ use Rattle.gl_entry.proofs.ContentLaws.{ended_ok}
 use Rattle.gl_entry.proofs.EntryLaws.{body_within}
 use Rattle.gl_messages.specs.Frames.{frame_limit}
 use Rattle.gl_messages.specs.Fields.{is_u64, id_bytes, is_id, id_at, tag_at}
-use Rattle.gl_messages.specs.Message.{body_tag, body_bytes, message_bytes, frames_bytes, most_entries, has_fitting_body, are_within, are_behind, body_fits, is_body, is_message}
+use Rattle.gl_messages.specs.Message.{body_tag, body_bytes, message_bytes, frames_bytes, most_entries, has_fitting_body, are_within, are_after, body_fits, is_body, is_message}
 use Rattle.gl_messages.specs.MessageReading.{part, request_vote_at, vote_reply_at, append_reply_at, count_at, before_first, entries_at, append_at, body_at, message_at, message_of}
 use Rattle.gl_messages.specs.declared.message.Body.{Body}
 use Rattle.gl_messages.specs.declared.message.Body.TheVariants.{RequestVote, VoteReply, Append, AppendReply, ProposeVote}
@@ -43,12 +43,12 @@ lifted tag_of bytes is tag reading takes old read all e = takes old read all (pa
 
 -- ---- a byte that says no or yes
 
-flag_by : (a b : Bool) (place byte : ℕ) (behind : Unread) (read : Bool × Unread) → (byte == 0) ≡ a → (byte == 1) ≡ b →
-    ◌≡◌ {A = Result (Bool × Unread) CodeFault} (cond a (Ok (false, behind)) (cond b (Ok (true, behind)) (Err (codes.Value place)))) (Ok read) →
-    (said : Bool) × (◌≡◌ {A = Bool × Unread} (said, behind) read) × (byte ≡ flag_byte said)
-flag_by true b place byte behind read p q e = (false, ok_injective {E = CodeFault} (false, behind) read e, grind (arith, nat_tests))
-flag_by false true place byte behind read p q e = (true, ok_injective {E = CodeFault} (true, behind) read e, grind (arith, nat_tests))
-flag_by false false place byte behind read p q e = absurd cc
+flag_by : (a b : Bool) (place byte : ℕ) (suffix : Unread) (read : Bool × Unread) → (byte == 0) ≡ a → (byte == 1) ≡ b →
+    ◌≡◌ {A = Result (Bool × Unread) CodeFault} (cond a (Ok (false, suffix)) (cond b (Ok (true, suffix)) (Err (codes.Value place)))) (Ok read) →
+    (content : Bool) × (◌≡◌ {A = Bool × Unread} (content, suffix) read) × (byte ≡ flag_byte content)
+flag_by true b place byte suffix read p q e = (false, ok_injective {E = CodeFault} (false, suffix) read e, grind (arith, nat_tests))
+flag_by false true place byte suffix read p q e = (true, ok_injective {E = CodeFault} (true, suffix) read e, grind (arith, nat_tests))
+flag_by false false place byte suffix read p q e = absurd cc
 
 abbrev flag_bytes : Bool → List ℕ
 flag_bytes b = flag_byte b ∷ []
@@ -57,10 +57,10 @@ flag_takes : Takes flag_bytes (λ b. true) flag_at
 unfolding flag_at
 flag_takes old read all e =
     let byte = bind_ok {A = ℕ × Unread} {B = Bool × Unread} {E = CodeFault} (field (number_at 1 old)) (flag_in old.at) read e in
-    let told = flag_by (byte.0.0 == 0) (byte.0.0 == 1) old.at byte.0.0 byte.0.1 read refl refl byte.2 in
+    let reported = flag_by (byte.0.0 == 0) (byte.0.0 == 1) old.at byte.0.0 byte.0.1 read refl refl byte.2 in
     let flag = flag-took byte.0.0 old byte.0.1 all (field_ok (number_at 1 old) byte.0 byte.1) in
-    let took : Took (flag_bytes told.0) true old byte.0.1 = record { bytes = flag.bytes ∙ ap (λ (n : ℕ). n ∷ byte.0.1.bytes) told.2; place = flag.place; valid = refl; rest = flag.rest } in
-    subst (λ (r : Bool × Unread). Took (flag_bytes r.0) true old r.1) told.1 took
+    let took : Took (flag_bytes reported.0) true old byte.0.1 = record { bytes = flag.bytes ∙ ap (λ (n : ℕ). n ∷ byte.0.1.bytes) reported.2; place = flag.place; valid = refl; rest = flag.rest } in
+    subst (λ (r : Bool × Unread). Took (flag_bytes r.0) true old r.1) reported.1 took
 
 flag_finds : (b : Bool) (old new : Unread) → Lies (flag_bytes b) old new → flag_at old ≡ Ok (b, new)
 flag_finds b old new there =
@@ -123,7 +123,7 @@ append_takes view old read all e =
     let abc = took_then (id_bytes prev.0.0 ++ little_endian 8 commit.0.0) (little_endian 2 count.0.0) (is_id prev.0.0 && is_u64 commit.0.0) (nat_lt count.0.0 (256 ^ 2)) old commit.0.1 count.0.1 ab c in
     let whole = took_then (id_bytes prev.0.0 ++ little_endian 8 commit.0.0 ++ little_endian 2 count.0.0) (frames_bytes es.0.0) (is_id prev.0.0 && is_u64 commit.0.0 && nat_lt count.0.0 (256 ^ 2)) (list_all is_entry es.0.0) old count.0.1 es.0.1 abc d.took in
     let few : nat_le (length es.0.0) most_entries ≡ true = ap (λ (n : ℕ). nat_le n most_entries) d.counted ∙ counted.1 in
-    let valid : is_body view made ≡ true = rw (a.valid, b.valid, few, d.took.valid, rooms_within es.0.0 (before_first prev.0.0) refl d.room, d.behind) refl in
+    let valid : is_body view made ≡ true = rw (a.valid, b.valid, few, d.took.valid, rooms_within es.0.0 (before_first prev.0.0) refl d.room, d.suffix) refl in
     let took : Took (body_bytes made) (is_body view made) old es.0.1 = record {
       bytes = whole.bytes ∙ ap (λ (n : ℕ). (id_bytes prev.0.0 ++ little_endian 8 commit.0.0 ++ little_endian 2 n ++ frames_bytes es.0.0) ++ es.0.1.bytes) (sym d.counted);
       place = whole.place ∙ ap (λ (n : ℕ). old.at + length (id_bytes prev.0.0 ++ little_endian 8 commit.0.0 ++ little_endian 2 n ++ frames_bytes es.0.0)) (sym d.counted);
@@ -141,7 +141,7 @@ body_takes view tag least most =
     let last : 5 ≡ tag = grind (arith, nat_tests) in
     subst (λ (t : ℕ). BodyAt view t (λ unread. Ok (ProposeVote, unread))) last (propose_takes view)))))
 
--- ---- what is spelled so is read
+-- ---- what is encoded so is read
 
 count_finds : (n : ℕ) (old new : Unread) → nat_le n most_entries ≡ true → Lies (little_endian 2 n) old new → count_at old ≡ Ok (n, new)
 unfolding count_at
@@ -155,7 +155,7 @@ append_finds view prev commit es old new is there =
     let d = lie_both (id_bytes prev ++ little_endian 8 commit ++ little_endian 2 (length es)) (frames_bytes es) old new there in
     let c = lie_both (id_bytes prev ++ little_endian 8 commit) (little_endian 2 (length es)) old d.mid d.first in
     let b = lie_both (id_bytes prev) (little_endian 8 commit) old c.mid c.first in
-    let p5 = and_parts (is_id prev && is_u64 commit && nat_le (length es) most_entries && list_all is_entry es && are_within es) (are_behind view prev.view prev.seqno es) is in
+    let p5 = and_parts (is_id prev && is_u64 commit && nat_le (length es) most_entries && list_all is_entry es && are_within es) (are_after view prev.view prev.seqno es) is in
     let p4 = and_parts (is_id prev && is_u64 commit && nat_le (length es) most_entries && list_all is_entry es) (are_within es) p5.0 in
     let p3 = and_parts (is_id prev && is_u64 commit && nat_le (length es) most_entries) (list_all is_entry es) p4.0 in
     let p2 = and_parts (is_id prev && is_u64 commit) (nat_le (length es) most_entries) p3.0 in
@@ -249,8 +249,8 @@ message_finds m old new is there =
 
 -- ---- all of the bytes
 
-pub whole_spelled : (bytes : List ℕ) (m : Message) → AreBytes bytes → message_of bytes ≡ Ok m → (is_message m ≡ true) × (bytes ≡ message_bytes m)
-whole_spelled bytes m all e =
+pub whole_encoded : (bytes : List ℕ) (m : Message) → AreBytes bytes → message_of bytes ≡ Ok m → (is_message m ≡ true) × (bytes ≡ message_bytes m)
+whole_encoded bytes m all e =
     let there = bind_ok {A = Message × Unread} {E = MessageFault} (message_at (unread_of bytes)) _ m e in
     let end = ended_ok there.0 m (part_ok (ended there.0) m there.2) in
     let took = message_takes (unread_of bytes) there.0 all there.1 in
@@ -297,7 +297,7 @@ message_bytes-fit m sender receiver is =
       length-append m.from m.to,
     )
 
--- ---- what reads can be spelled
+-- ---- what reads can be encoded
 
 entries_fit_of : (es : List Entry) → list_all is_entry es ≡ true → list_all has_fitting_body es ≡ true
 entries_fit_of [] are = refl
@@ -310,7 +310,7 @@ body_fits_of : (view : ℕ) (body : Body) → is_body view body ≡ true → bod
 body_fits_of view (RequestVote last) is = refl
 body_fits_of view (VoteReply granted) is = refl
 body_fits_of view (Append prev commit es) is =
-    let p5 = and_parts (is_id prev && is_u64 commit && nat_le (length es) most_entries && list_all is_entry es && are_within es) (are_behind view prev.view prev.seqno es) is in
+    let p5 = and_parts (is_id prev && is_u64 commit && nat_le (length es) most_entries && list_all is_entry es && are_within es) (are_after view prev.view prev.seqno es) is in
     let p4 = and_parts (is_id prev && is_u64 commit && nat_le (length es) most_entries && list_all is_entry es) (are_within es) p5.0 in
     let p3 = and_parts (is_id prev && is_u64 commit && nat_le (length es) most_entries) (list_all is_entry es) p4.0 in
     let p2 = and_parts (is_id prev && is_u64 commit) (nat_le (length es) most_entries) p3.0 in

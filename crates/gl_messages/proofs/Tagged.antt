@@ -1,4 +1,5 @@
--- Readings of values of several kinds, each behind its tag: what they took from the front of bytes, and what they give where a spelling lies.
+-- Readings of values of several kinds, each after its tag: what they took from the start of bytes,
+-- and what they give where an encoding lies.
 use Rattle.std.proofs.Common.{◌≡◌, ◌⊎◌, inl, inr, ℕ, ◌+◌, ◌==◌, Bool, true, false, cond, ◌&&◌, List, [], ◌++◌, length, Result, Ok, Err, IfOk, refl, sym, ap, ◌∙◌, subst, append-nil, arith}
 use Rattle.std.proofs.lemmas.Bool.{eqb-true}
 use Rattle.gl_base.specs.Steps.{◌>>=◌}
@@ -13,7 +14,7 @@ use Rattle.gl_base.proofs.RowLaws.{Took}
 use Rattle.gl_entry.proofs.Parts.{took_then, Lies}
 use Rattle.gl_entry.proofs.ContentLaws.{ended_ok}
 
--- What a reading reads is spelled so, within its limits.
+-- What a reading reads is encoded so, within its limits.
 abbrev pub Takes : {X E : Type 0} → (X → List ℕ) → (X → Bool) → (Unread → Result (X × Unread) E) → Type 0
 Takes {X} bytes is reading = (old : Unread) (read : X × Unread) → AreBytes old.bytes → reading old ≡ Ok read → Took (bytes read.0) (is read.0) old read.1
 
@@ -21,7 +22,7 @@ Takes {X} bytes is reading = (old : Unread) (read : X × Unread) → AreBytes ol
 abbrev pub TakesAt : {X E : Type 0} → (X → ℕ) → (X → List ℕ) → (X → Bool) → ℕ → (Unread → Result (X × Unread) E) → Type 0
 TakesAt {X} tag_of bytes is tag reading = (old : Unread) (read : X × Unread) → AreBytes old.bytes → reading old ≡ Ok read → (tag_of read.0 ≡ tag) × Took (bytes read.0) (is read.0) old read.1
 
--- What is spelled so is read, whatever stands behind it.
+-- What is encoded so is read, whatever stands after it.
 abbrev pub Finds : {X E : Type 0} → (X → List ℕ) → (X → Bool) → (Unread → Result (X × Unread) E) → Type 0
 Finds {X} bytes is reading = (x : X) (old new : Unread) → is x ≡ true → Lies (bytes x) old new → reading old ≡ Ok (x, new)
 
@@ -38,11 +39,11 @@ retook xs ys p q old new e f took = record {
 pub one_takes : {X Y E : Type 0} → (tag_of : X → ℕ) (bytes : X → List ℕ) (is : X → Bool) (tag : ℕ) (field_bytes : Y → List ℕ) (is_field : Y → Bool) (field_at : Unread → Result (Y × Unread) E) (make : Y → X)
     → Takes field_bytes is_field field_at → ((y : Y) → tag_of (make y) ≡ tag) → ((y : Y) → bytes (make y) ≡ field_bytes y) → ((y : Y) → is (make y) ≡ is_field y)
     → TakesAt tag_of bytes is tag (λ unread. field_at unread >>= λ y. Ok (make y.0, y.1))
-one_takes {X} {Y} {E} tag_of bytes is tag field_bytes is_field field_at make takes tags spells valid old read all e =
+one_takes {X} {Y} {E} tag_of bytes is tag field_bytes is_field field_at make takes tags encodes valid old read all e =
     let y = bind_ok {E = E} (field_at old) (λ y. Ok (make y.0, y.1)) read e in
     let gave : X × Unread = (make y.0.0, y.0.1) in
     let same : gave ≡ read = ok_injective {E = E} gave read y.2 in
-    let took = retook (field_bytes y.0.0) (bytes (make y.0.0)) (is_field y.0.0) (is (make y.0.0)) old y.0.1 (spells y.0.0) (valid y.0.0) (takes old y.0 all y.1) in
+    let took = retook (field_bytes y.0.0) (bytes (make y.0.0)) (is_field y.0.0) (is (make y.0.0)) old y.0.1 (encodes y.0.0) (valid y.0.0) (takes old y.0 all y.1) in
     subst (λ (r : X × Unread). (tag_of r.0 ≡ tag) × Took (bytes r.0) (is r.0) old r.1) same (tags y.0.0, took)
 
 pub two_take : {X A B E : Type 0} → (tag_of : X → ℕ) (bytes : X → List ℕ) (is : X → Bool) (tag : ℕ)
@@ -50,7 +51,7 @@ pub two_take : {X A B E : Type 0} → (tag_of : X → ℕ) (bytes : X → List �
     → Takes first_bytes is_first first_at → Takes second_bytes is_second second_at
     → ((a : A) (b : B) → tag_of (make a b) ≡ tag) → ((a : A) (b : B) → bytes (make a b) ≡ first_bytes a ++ second_bytes b) → ((a : A) (b : B) → is (make a b) ≡ (is_first a && is_second b))
     → TakesAt tag_of bytes is tag (λ unread. first_at unread >>= λ a. second_at a.1 >>= λ b. Ok (make a.0 b.0, b.1))
-two_take {X} {A} {B} {E} tag_of bytes is tag first_bytes is_first first_at second_bytes is_second second_at make first second tags spells valid old read all e =
+two_take {X} {A} {B} {E} tag_of bytes is tag first_bytes is_first first_at second_bytes is_second second_at make first second tags encodes valid old read all e =
     let a = bind_ok {E = E} (first_at old) (λ (a : A × Unread). second_at a.1 >>= λ b. Ok (make a.0 b.0, b.1)) read e in
     let b = bind_ok {E = E} (second_at a.0.1) (λ b. Ok (make a.0.0 b.0, b.1)) read a.2 in
     let gave : X × Unread = (make a.0.0 b.0.0, b.0.1) in
@@ -58,15 +59,15 @@ two_take {X} {A} {B} {E} tag_of bytes is tag first_bytes is_first first_at secon
     let took_a = first old a.0 all a.1 in
     let took_b = second a.0.1 b.0 took_a.rest b.1 in
     let both = took_then (first_bytes a.0.0) (second_bytes b.0.0) (is_first a.0.0) (is_second b.0.0) old a.0.1 b.0.1 took_a took_b in
-    let took = retook (first_bytes a.0.0 ++ second_bytes b.0.0) (bytes (make a.0.0 b.0.0)) (is_first a.0.0 && is_second b.0.0) (is (make a.0.0 b.0.0)) old b.0.1 (spells a.0.0 b.0.0) (valid a.0.0 b.0.0) both in
+    let took = retook (first_bytes a.0.0 ++ second_bytes b.0.0) (bytes (make a.0.0 b.0.0)) (is_first a.0.0 && is_second b.0.0) (is (make a.0.0 b.0.0)) old b.0.1 (encodes a.0.0 b.0.0) (valid a.0.0 b.0.0) both in
     subst (λ (r : X × Unread). (tag_of r.0 ≡ tag) × Took (bytes r.0) (is r.0) old r.1) same (tags a.0.0 b.0.0, took)
 
 pub none_takes : {X E : Type 0} → (tag_of : X → ℕ) (bytes : X → List ℕ) (is : X → Bool) (x : X) → bytes x ≡ [] → is x ≡ true → TakesAt {X = X} {E = E} tag_of bytes is (tag_of x) (λ unread. Ok (x, unread))
-none_takes {X} {E} tag_of bytes is x spells valid old read all e =
+none_takes {X} {E} tag_of bytes is x encodes valid old read all e =
     let gave : X × Unread = (x, old) in
     let same : gave ≡ read = ok_injective {E = E} gave read e in
     let nothing : Took [] true old old = record { bytes = refl; place = omega arith; valid = refl; rest = all } in
-    subst (λ (r : X × Unread). (tag_of r.0 ≡ tag_of x) × Took (bytes r.0) (is r.0) old r.1) same (refl, retook [] (bytes x) true (is x) old old spells valid nothing)
+    subst (λ (r : X × Unread). (tag_of r.0 ≡ tag_of x) × Took (bytes r.0) (is r.0) old r.1) same (refl, retook [] (bytes x) true (is x) old old encodes valid nothing)
 
 -- ---- one tag or another
 

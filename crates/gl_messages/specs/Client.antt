@@ -68,7 +68,7 @@ receipt_of_at unread = id_at unread >>= λ id. Ok (ReceiptOf id.0, id.1)
 unfoldable pub part_at : Unread → Result (Call × Unread) CodeFault
 part_at unread = field (number_at 8 unread) >>= λ offset. Ok (SnapshotPart offset.0, offset.1)
 
--- The fields behind a tag from 16 to 20 and the number.
+-- The fields after a tag from 16 to 20 and the number.
 abbrev pub call_at : ℕ → Unread → Result (Call × Unread) CodeFault
 call_at tag unread =
     if tag == 16 then submit_at unread
@@ -84,6 +84,6 @@ client_at unread = do
   call ← call_at tag.0 number.1
   Ok (record { number = number.0; call = call.0 }, call.1)
 
--- The client's message that bytes spell, all of them, or the first fault.
+-- The client's message that bytes encode, all of them, or the first fault.
 abbrev pub client_of : List ℕ → Result Client CodeFault
 client_of bytes = whole client_at bytes

@@ -19,7 +19,7 @@ is_within bytes = nat_le (length bytes) mebibyte
 abbrev pub is_sized : List ℕ → Bool
 is_sized bytes = is_within bytes && are_bytes bytes
 
--- They stand behind their length in four bytes.
+-- They stand after their length in four bytes.
 unfoldable pub sized_at : Unread → Result (List ℕ × Unread) CodeFault
 sized_at unread = field (string_at 4 mebibyte unread)
 

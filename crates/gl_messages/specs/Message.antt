@@ -68,20 +68,20 @@ body_fits ProposeVote = true
 
 -- Which values they are
 
--- The entries stand one behind the other from a place on, in views that begin at one at least,
--- never fall, and are the message's at most.
-abbrev pub are_behind : ℕ → ℕ → ℕ → List Entry → Bool
-are_behind most view seqno [] = true
-are_behind most view seqno (e ∷ es) =
+-- The entries stand one after the other from a place on, in views that begin at one at least, never
+-- fall, and are the message's at most.
+abbrev pub are_after : ℕ → ℕ → ℕ → List Entry → Bool
+are_after most view seqno [] = true
+are_after most view seqno (e ∷ es) =
     nat_le view e.view && nat_le e.view most && (e.seqno == seqno + 1)
-    && are_behind most e.view e.seqno es
+    && are_after most e.view e.seqno es
 
 abbrev pub is_body : ℕ → Body → Bool
 is_body view (RequestVote last) = is_id last
 is_body view (VoteReply granted) = true
 is_body view (Append prev commit es) =
     is_id prev && is_u64 commit && nat_le (length es) most_entries && list_all is_entry es
-    && are_within es && are_behind view prev.view prev.seqno es
+    && are_within es && are_after view prev.view prev.seqno es
 is_body view (AppendReply ok seqno) = is_u64 seqno
 is_body view ProposeVote = true
 

@@ -8,7 +8,7 @@ use Rattle.gl_base.specs.declared.tx_id.TxId.{TxId}
 use Rattle.gl_base.specs.declared.fault.CodeFault.{CodeFault}
 use Rattle.gl_base.specs.declared.fault.CodeFault.TheVariants as codes
 use Rattle.gl_entry.specs.Entry.{frame_size}
-use Rattle.gl_entry.specs.Reading.{entry_field, size_at, frame_at}
+use Rattle.gl_entry.specs.Parsing.{entry_field, size_at, frame_at}
 use Rattle.gl_entry.specs.declared.entry.Entry.{Entry}
 use Rattle.gl_entry.specs.declared.fault.EntryFault.{EntryFault}
 use Rattle.gl_messages.specs.Fields.{id_at, tag_at}
@@ -37,7 +37,7 @@ view_in most before view =
     if nat_lt view before then Err (faults.Order before view)
     else (if nat_lt most view then Err (faults.Order most view) else Ok view)
 
--- A place is the one behind the place before; the last number of 64 bits has none behind it.
+-- A place is the one after the place before; the last number of 64 bits has none after it.
 abbrev pub seqno_in : ℕ → ℕ → Result ℕ MessageFault
 seqno_in before seqno =
     if seqno == before + 1 then Ok seqno
@@ -54,7 +54,7 @@ abbrev pub roomy : Before → ℕ → Entry → Result Entry MessageFault
 roomy before place e =
     if has_room before (frame_size e) then Ok e else Err (faults.Code (codes.Value place))
 
--- The view of an entry, and the bytes of the body that stand behind it.
+-- The view of an entry, and the bytes of the body that stand after it.
 unfoldable pub view_at : Unread → Result (ℕ × Unread) EntryFault
 view_at unread = do
   size ← size_at unread
@@ -70,7 +70,7 @@ placed_at most before unread = do
   seqno_in before.seqno seqno.0
 
 -- An entry whose frame reads has room, and then is in order. Else the order is tried before what is
--- wrong behind it.
+-- wrong after it.
 abbrev pub entry_in : ℕ → Before → Unread → Result (Entry × Unread) EntryFault
     → Result (Entry × Unread) MessageFault
 entry_in most before unread (Ok read) = do
@@ -83,7 +83,7 @@ entry_in most before unread (Err fault) =
 unfoldable pub entry_at : ℕ → Before → Unread → Result (Entry × Unread) MessageFault
 entry_at most before unread = entry_in most before unread (frame_at unread)
 
--- What stands before the entry behind this one.
+-- What stands before the entry after this one.
 abbrev pub with_entry : Before → Entry → Before
 with_entry before e =
     record { view = e.view; seqno = e.seqno; size = before.size + frame_size e }
@@ -128,7 +128,7 @@ append_reply_at unread = do
   seqno ← field (number_at 8 ok.1)
   Ok (AppendReply ok.0 seqno.0, seqno.1)
 
--- The fields behind a tag from 1 to 5, of a message of this view.
+-- The fields after a tag from 1 to 5, of a message of this view.
 abbrev pub body_at : ℕ → ℕ → Unread → Result (Body × Unread) MessageFault
 body_at tag view unread =
     if tag == 1 then part (request_vote_at unread)
@@ -149,6 +149,6 @@ message_at unread = do
     body.1,
   )
 
--- The message that bytes spell, all of them, or the first fault.
+-- The message that bytes encode, all of them, or the first fault.
 abbrev pub message_of : List ℕ → Result Message MessageFault
 message_of bytes = message_at (unread_of bytes) >>= λ read. part (ended read)

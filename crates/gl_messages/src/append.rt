@@ -6,7 +6,7 @@ ghost use Rattle.gl_base.specs.Answers.{Answers};
 ghost use Rattle.gl_base.specs.Cut.{Gives, bytes_at, number_at};
 ghost use Rattle.gl_base.specs.LittleEndian.{little_endian};
 ghost use Rattle.gl_entry.specs.Entry.{body_limit, frame_size};
-ghost use Rattle.gl_entry.specs.Reading.{entry_field, size_at, frame_at};
+ghost use Rattle.gl_entry.specs.Parsing.{entry_field, size_at, frame_at};
 ghost use Rattle.gl_messages.specs.Fields.{id_bytes, id_at};
 ghost use Rattle.gl_messages.specs.Message.{most_entries, frames_bytes, has_fitting_body, entries_fit};
 ghost use Rattle.gl_messages.specs.MessageReading.{part, view_in, seqno_in, in_order, has_room, view_at, placed_at, entry_at, with_entry, entries_at, count_at, before_first, append_at};
@@ -46,7 +46,7 @@ fn put_entries(alloc: Global, out: &mut Vec<u8>, entries: &[Entry]) -> Result<()
     Ok(())
 }
 
-/// Writes the fields of an Append. What was written before want of memory stays.
+/// Writes the fields of an Append. What was written before memory ran out stays.
 pub(crate) fn put_append(
     alloc: Global,
     out: &mut Vec<u8>,
@@ -107,8 +107,8 @@ fn has_room(before: &Before, size: u64) -> bool
     before.size == 0 || (before.size <= MOST_BYTES && size <= MOST_BYTES - before.size)
 }
 
-/// Reads the size of an entry's body, behind the version and the flags.
-#[tactic(auto, unfolding(gl_entry::specs::Reading::size_at))]
+/// Reads the size of an entry's body, after the version and the flags.
+#[tactic(auto, unfolding(gl_entry::specs::Parsing::size_at))]
 fn read_size(cut: &mut Cut<'_>) -> Result<u64, EntryFault>
     ensures { MatchResult result
         (λ size. size_at cut.old ≡ Ok (size, cut.new)) (λ fault. size_at cut.old ≡ Err fault) }
@@ -137,7 +137,7 @@ fn read_span<'a>(cut: &mut Cut<'a>, size: u64) -> Result<(usize, &'a [u8]), CutF
     Ok((cut.at() - span.len(), span))
 }
 
-/// Reads the view of an entry. Gives also the bytes of the body that stand behind it.
+/// Reads the view of an entry. Gives also the bytes of the body that stand after it.
 #[tactic(auto, unfolding(crate::specs::MessageReading::view_at))]
 fn read_view<'a>(cut: &mut Cut<'a>) -> Result<(u32, Cut<'a>), EntryFault>
     ensures { MatchResult result
@@ -181,7 +181,7 @@ fn all_of<'a>(cut: &Cut<'a>) -> (usize, &'a [u8])
     (end.at() - rest.len(), rest)
 }
 
-/// Reads the entry whose frame stands at the front, and gives the number of the frame's bytes.
+/// Reads the entry whose frame stands at the start, and gives the number of the frame's bytes.
 fn read_frame(alloc: Global, cut: &mut Cut<'_>) -> Result<(Entry, u64), OrNoMemory<EntryFault>>
     ensures exact { Answers (λ read. (read.0, cut.new)) result (frame_at cut.old) }
     ensures size { IfOk result (λ read. read.1 ≡ frame_size read.0) }

@@ -92,7 +92,7 @@ fn read_part(cut: &mut Cut<'_>) -> Result<Call, OrNoMemory<CodeFault>>
     Ok(Call::SnapshotPart { offset })
 }
 
-/// Reads what stands behind a tag from 16 to 20 and the number.
+/// Reads what stands after a tag from 16 to 20 and the number.
 fn read_call(alloc: Global, tag: u8, cut: &mut Cut<'_>) -> Result<Call, OrNoMemory<CodeFault>>
     ensures { Answers (λ call. (call, cut.new)) result (call_at tag cut.old) }
 {
@@ -145,12 +145,12 @@ impl Client {
         Ok(out)
     }
 
-    /// The message that the bytes spell, all of them.
+    /// The message that the bytes encode, all of them.
     pub fn decode(alloc: Global, bytes: &[u8]) -> Result<Self, OrNoMemory<CodeFault>>
-        // What is read is spelled so.
+        // What is read is encoded so.
         ensures found { IfOk result (λ client.
             IsTrue (is_client client) × (bytes.now ≡ client_bytes client)) }
-        // What is spelled so is read, unless memory runs out.
+        // What is encoded so is read, unless memory runs out.
         ensures only { (c : Value) → IsTrue (is_client c) → bytes.now ≡ client_bytes c →
             Answers (λ client. client) result (Ok c) }
         // Which fault it is.

@@ -28,7 +28,7 @@ pub enum MessageFault {
     /// An entry of an Append is none.
     #[error("an entry of the message is none")]
     Entry(EntryFault),
-    /// An entry of an Append has another place than the one behind the place before it, or a view
+    /// An entry of an Append has another place than the one after the place before it, or a view
     /// below that of the entry before or above the message's.
     #[error("an entry has {got} where {want} is wanted")]
     Order { want: u64, got: u64 },

@@ -40,7 +40,7 @@ pub(crate) fn read_tag(cut: &mut Cut<'_>, least: u8, most: u8) -> Result<u8, OrN
     }
 }
 
-/// Writes bytes behind their length. What was written before want of memory stays.
+/// Writes bytes after their length. What was written before memory ran out stays.
 pub(crate) fn put_sized(out: &mut Vec<u8>, bytes: &Bytes) -> Result<(), AllocError>
     requires { length bytes.now ≤ mebibyte }
     ensures { OnOk result (out.new.items ≡ out.old.items ++ with_u32_length bytes.now) }
@@ -48,7 +48,7 @@ pub(crate) fn put_sized(out: &mut Vec<u8>, bytes: &Bytes) -> Result<(), AllocErr
     put_field(out, 32, bytes.as_slice())
 }
 
-/// Writes a view and a place. What was written before want of memory stays.
+/// Writes a view and a place. What was written before memory ran out stays.
 pub(crate) fn put_id(out: &mut Vec<u8>, id: TxId) -> Result<(), AllocError>
     ensures { OnOk result (out.new.items ≡ out.old.items ++ id_bytes id) }
 {

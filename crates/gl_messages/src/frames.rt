@@ -35,7 +35,7 @@ impl Model for Frames {
 }
 
 impl Frames {
-    ghost use Rattle.gl_messages.specs.Frames.{frame_limit, front, whole, IsNoFrame, GivesFront};
+    ghost use Rattle.gl_messages.specs.Frames.{frame_limit, prefix, whole, IsNoFrame, GivesPrefix};
 
     /// No bytes. Takes no memory.
     pub fn new(alloc: Global) -> Self
@@ -51,8 +51,8 @@ impl Frames {
         }
     }
 
-    /// Keeps bytes that came, behind those that are kept. Want of memory keeps none of them; the
-    /// call may then be tried again, but on a stream that is lost.
+    /// Keeps bytes that came, after those that are kept. Running out of memory keeps none of them;
+    /// the call may then be tried again, but on a stream that is lost.
     pub fn feed(&mut self, bytes: &[u8]) -> Result<(), AllocError>
         ensures ok { OnOk result (self.new ≡ self.old ++ bytes.now) }
         ensures err { OnErr result (self.new ≡ self.old) }
@@ -67,21 +67,21 @@ impl Frames {
     /// whole frame and with no length above 2 MiB. Where memory runs out the stream is lost: every
     /// later call answers that too.
     pub fn next(&mut self) -> Result<Option<Vec<u8>>, OrNoMemory<FrameFault>>
-        ensures given { GivesFront (λ payload. payload.items) self.old result self.new }
+        ensures given { GivesPrefix (λ payload. payload.items) self.old result self.new }
         // At most 2 MiB and the four bytes of a length are kept once there is no payload.
         ensures kept { result ≡ Ok None → length self.new < frame_limit + 4 }
     {
         if self.is_lost {
             return Err(OrNoMemory::NoMemory);
         }
-        let Some((head, behind)) = self.buffer.as_slice().split_first_chunk::<4>() else {
+        let Some((head, suffix)) = self.buffer.as_slice().split_first_chunk::<4>() else {
             return Ok(None);
         };
         let len = u32::from_be_bytes(*head);
         if len > FRAME_LIMIT {
             return Err(OrNoMemory::Fault(FrameFault::FrameTooLong { len }));
         }
-        if behind.len() < len as usize {
+        if suffix.len() < len as usize {
             return Ok(None);
         }
         Ok(Some(self.take()?))
@@ -89,8 +89,8 @@ impl Frames {
 
     /// Takes the payload of the whole frame that the bytes begin with.
     fn take(&mut self) -> Result<Vec<u8>, AllocError>
-        requires { IsNoFrame (front self.old) → ⊥ }
-        ensures { IfOk result (λ payload. front self.old ≡ whole payload.items self.new) }
+        requires { IsNoFrame (prefix self.old) → ⊥ }
+        ensures { IfOk result (λ payload. prefix self.old ≡ whole payload.items self.new) }
     {
         if self.is_lost {
             return Err(AllocError);

@@ -2,15 +2,15 @@
 
 ghost use Rattle.std.specs.Prelude.{◌≡◌, ◌+◌, ◌<◌, ◌≤◌, ◌++◌, ◌∷◌, ℕ, List, [], length, OnOk, OnErr};
 ghost use Rattle.std.specs.List.{flat_map};
-ghost use Rattle.gl_messages.specs.Frames.{frame_limit, framed, front, whole, IsNoFrame, payloads, rest};
+ghost use Rattle.gl_messages.specs.Frames.{frame_limit, framed, prefix, whole, IsNoFrame, payloads, rest};
 
 use std::alloc::AllocError;
 
 /// The most bytes of a payload: 2 MiB.
 pub const FRAME_LIMIT: u32 = 2_097_152;
 
-/// Writes a payload behind its length in four bytes, the most significant first. Want of memory
-/// leaves the list as it was.
+/// Writes a payload after its length in four bytes, the most significant first. Running out of
+/// memory leaves the list as it was.
 pub fn put_frame(out: &mut Vec<u8>, payload: &[u8]) -> Result<(), AllocError>
     requires { length payload.now ≤ frame_limit }
     ensures put { OnOk result (out.new.items ≡ out.old.items ++ framed payload.now) }
@@ -29,18 +29,18 @@ pub fn put_frame(out: &mut Vec<u8>, payload: &[u8]) -> Result<(), AllocError>
 /// come back.
 pub fn law_of_streams()
     // The payloads are found one after the other, up to where no whole frame stands.
-    ensures first { (stream payload more : List ℕ) → front stream ≡ whole payload more →
+    ensures first { (stream payload more : List ℕ) → prefix stream ≡ whole payload more →
         (payloads stream ≡ payload ∷ payloads more) × (rest stream ≡ rest more) }
-    ensures none { (stream : List ℕ) → IsNoFrame (front stream) →
+    ensures none { (stream : List ℕ) → IsNoFrame (prefix stream) →
         (payloads stream ≡ []) × (rest stream ≡ stream) }
-    ensures last { (stream : List ℕ) → IsNoFrame (front (rest stream)) }
-    // What comes behind a stream adds to its payloads, and changes none.
+    ensures last { (stream : List ℕ) → IsNoFrame (prefix (rest stream)) }
+    // What comes after a stream adds to its payloads, and changes none.
     ensures grows { (stream more : List ℕ) →
         (payloads (stream ++ more) ≡ payloads stream ++ payloads (rest stream ++ more))
         × (rest (stream ++ more) ≡ rest (rest stream ++ more)) }
     ensures back { (payload more : List ℕ) → length payload ≤ frame_limit →
-        front (framed payload ++ more) ≡ whole payload more }
-    // No frame is a proper front of another.
+        prefix (framed payload ++ more) ≡ whole payload more }
+    // No frame is a proper prefix of another.
     ensures one { (a b x y : List ℕ) → length a ≤ frame_limit → length b ≤ frame_limit →
         framed a ++ x ≡ framed b ++ y → (a ≡ b) × (x ≡ y) }
 {}

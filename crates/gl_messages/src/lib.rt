@@ -13,7 +13,7 @@ mod frames;
 mod framing;
 mod message;
 
-pub use answer::{Answer, Said};
+pub use answer::{Answer, AnswerBody};
 pub use client::{Call, Client};
 pub use fault::{FrameFault, MessageFault};
 pub use frames::Frames;

@@ -15,7 +15,7 @@ use gl_base::{CodeFault, Cut, OrNoMemory, Sequence, TxId, put_bytes, put_flag, p
 use gl_entry::{Entry, NodeId};
 use std::alloc::{AllocError, Global};
 
-/// Entries of a ledger, one behind the other.
+/// Entries of a ledger, one after the other.
 pub type Entries = Sequence<Entry>;
 
 /// What a message says. A view and a place of a ledger are both 0 where there is no entry.
@@ -42,7 +42,7 @@ pub enum Body {
     /// Answers that.
     AppendReply {
         ok: bool,
-        /// The last seqno that was taken; or, where none was, the one behind which to try.
+        /// The last seqno that was taken; or, where none was, the one after which to try.
         seqno: u64,
     },
     /// Asks the receiver to campaign for the next view.
@@ -116,7 +116,7 @@ fn read_append_reply(cut: &mut Cut<'_>) -> Result<Body, OrNoMemory<CodeFault>>
     Ok(Body::AppendReply { ok, seqno })
 }
 
-/// Reads what stands behind a tag from 1 to 5 and the view of the message.
+/// Reads what stands after a tag from 1 to 5 and the view of the message.
 fn read_body(
     alloc: Global,
     tag: u8,
@@ -196,12 +196,12 @@ impl Message {
         Ok(out)
     }
 
-    /// The message that the bytes spell, all of them.
+    /// The message that the bytes encode, all of them.
     pub fn decode(alloc: Global, bytes: &[u8]) -> Result<Self, OrNoMemory<MessageFault>>
-        // What is read is spelled so.
+        // What is read is encoded so.
         ensures found { IfOk result (λ message.
             IsTrue (is_message message) × (bytes.now ≡ message_bytes message)) }
-        // What is spelled so is read, unless memory runs out.
+        // What is encoded so is read, unless memory runs out.
         ensures only { (m : Value) → IsTrue (is_message m) → bytes.now ≡ message_bytes m →
             Answers (λ message. message) result (Ok m) }
         // Which fault it is.

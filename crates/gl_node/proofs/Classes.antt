@@ -16,7 +16,7 @@ use Rattle.gl_replication.specs.declared.event.Event.TheVariants as events
 use Rattle.gl_node.specs.Changes.{Extends, IsAsKept, IsTurned, MayChange, TakesEntries}
 use Rattle.gl_node.specs.declared.change.Change.{Change}
 use Rattle.gl_node.specs.declared.change.Change.TheVariants as changes
-use Rattle.gl_node.proofs.Turning.{timeout_turned, request_vote_turned, vote_reply_turned, append_answer_turned, propose_vote_turned, reserve_turned, step_down_kept, replicate_kept, advance_kept}
+use Rattle.gl_node.proofs.ElectionSteps.{timeout_turned, request_vote_turned, vote_reply_turned, append_answer_turned, propose_vote_turned, reserve_turned, step_down_kept, replicate_kept, advance_kept}
 use Rattle.gl_node.proofs.Extending.{submit_adds, govern_adds, sign_adds}
 
 module _ {Q G R A F : Type 0} where
@@ -25,7 +25,7 @@ module _ {Q G R A F : Type 0} where
 
   -- each message but a leader's entries
   pub hears : (m : Message) → ((last : TxId) × (m.body ≡ RequestVote last)) ⊎ (((granted : Bool) × (m.body ≡ VoteReply granted)) ⊎ (((ok : Bool) × (seqno : ℕ) × (m.body ≡ AppendReply ok seqno)) ⊎ (m.body ≡ ProposeVote))) →
-      (x : NodeId) → MayChange {Q = Q} {G = G} {R = R} {A = A} {F = F} (answer m) x changes.Turn
+      (x : NodeId) → MayChange {Q = Q} {G = G} {R = R} {A = A} {F = F} (answer m) x changes.ElectionStep
   hears m is x b n = by is
     where
       by : ((last : TxId) × (m.body ≡ RequestVote last)) ⊎ (((granted : Bool) × (m.body ≡ VoteReply granted)) ⊎ (((ok : Bool) × (seqno : ℕ) × (m.body ≡ AppendReply ok seqno)) ⊎ (m.body ≡ ProposeVote))) → Heard b x n m m.body
@@ -40,9 +40,9 @@ module _ {S Q G R A F : Type 0} (x : NodeId) (e : Event S Q G R A F) where
   brings_entry (inr (inl r)) = subst (λ (v : Event S Q G R A F). MayChange (rule_of v) x changes.Entry) (sym r.1) (λ b n. govern_adds b r.0 n)
   brings_entry (inr (inr r)) = subst (λ (v : Event S Q G R A F). MayChange (rule_of v) x changes.Entry) (sym r) (λ b n. sign_adds b x n)
 
-  pub turns : (e ≡ events.Timeout) ⊎ (e ≡ events.Reserve) → MayChange (rule_of e) x changes.Turn
-  turns (inl r) = subst (λ (v : Event S Q G R A F). MayChange (rule_of v) x changes.Turn) (sym r) (λ b n. timeout_turned b x n)
-  turns (inr r) = subst (λ (v : Event S Q G R A F). MayChange (rule_of v) x changes.Turn) (sym r) (λ b n. reserve_turned b x n)
+  pub turns : (e ≡ events.Timeout) ⊎ (e ≡ events.Reserve) → MayChange (rule_of e) x changes.ElectionStep
+  turns (inl r) = subst (λ (v : Event S Q G R A F). MayChange (rule_of v) x changes.ElectionStep) (sym r) (λ b n. timeout_turned b x n)
+  turns (inr r) = subst (λ (v : Event S Q G R A F). MayChange (rule_of v) x changes.ElectionStep) (sym r) (λ b n. reserve_turned b x n)
 
   pub keeps_all : ((y : NodeId) × (e ≡ events.Replicate y)) ⊎ ((e ≡ events.Advance) ⊎ ((y : NodeId) × (e ≡ events.StepDown y))) → MayChange (rule_of e) x changes.Nothing
   keeps_all (inl r) = subst (λ (v : Event S Q G R A F). MayChange (rule_of v) x changes.Nothing) (sym r.1) (λ b n. replicate_kept b x r.0 n)
@@ -58,6 +58,6 @@ module _ {S Q G R A F : Type 0} (x : NodeId) (e : Event S Q G R A F) where
 
       go : (c : Change) → MayChange {Q = Q} {G = G} {R = R} {A = A} {F = F} (answer m) x c → MayChange {Q = Q} {G = G} {R = R} {A = A} {F = F} (delivery m) x c
       go changes.Nothing h = λ b n. subst (λ (s : Step Entry A F). IsAsKept n s.node) (same_step b n) (h b n)
-      go changes.Turn h = λ b n. subst (λ (s : Step Entry A F). IsTurned n s.node) (same_step b n) (h b n)
+      go changes.ElectionStep h = λ b n. subst (λ (s : Step Entry A F). IsTurned n s.node) (same_step b n) (h b n)
       go (changes.Entries view prev es) h = λ b n. subst (λ (s : Step Entry A F). TakesEntries b x n view prev es.now s) (same_step b n) (h b n)
       go changes.Entry h = λ b n. subst (λ (s : Step Entry A F). Extends n s) (same_step b n) (h b n)

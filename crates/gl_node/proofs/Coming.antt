@@ -14,18 +14,18 @@ use Rattle.gl_journal.specs.Stops.{IsSettled}
 use Rattle.gl_journal.specs.declared.journal.Journal.{Journal}
 use Rattle.gl_journal.proofs.Appending.{settled_gate}
 use Rattle.gl_replication.specs.Holding.{Holding}
-use Rattle.gl_replication.specs.Stands.{KeepsAll, Refuses, StandsFor, Steps, Tells}
+use Rattle.gl_replication.specs.Stands.{KeepsAll, Refuses, Reports, StandsFor, Steps}
 use Rattle.gl_replication.specs.declared.node.Core.{Core}
 use Rattle.gl_replication.specs.declared.done.Done.{Done}
 use Rattle.gl_replication.specs.declared.done.Refusal.{Refusal}
 use Rattle.gl_node.specs.Changes.{IsAsKept}
 use Rattle.gl_node.specs.Comes.{Comes, IsBroken, IsDone, IsRefused}
 use Rattle.gl_node.specs.Kept.{kept_after}
-use Rattle.gl_node.specs.Serving.{HoldsWhole, IsFileOf, IsServing, StandsForSome, kept_of}
+use Rattle.gl_node.specs.Persistence.{HoldsWhole, IsFileOf, IsServing, StandsForSome, kept_of}
 use Rattle.gl_node.specs.declared.fault.NodeFault.{NodeFault}
 use Rattle.gl_node.specs.declared.fault.NodeFault.TheVariants.{Refused, DiskFault, Stopped}
 use Rattle.gl_node.proofs.Standings.{keeps_kept, kept_same, kept_still, still_keeps}
-use Rattle.gl_node.proofs.Turning.{as_it_was}
+use Rattle.gl_node.proofs.ElectionSteps.{as_it_was}
 
 -- an image of a settled file opens as the file does
 settled_image : (goes_on : GoesOn) (place : ℕ) (bytes : List ℕ) (past : List Step) (state next : Durable) → IsSettled journal_header place bytes past → durable goes_on bytes ≡ Ok state → (image : List ℕ) → IsImage past image → OpensToOneOf goes_on state next image
@@ -87,7 +87,7 @@ module _ {D S Q G R A F : Type 0} (stands : S → Book Entry Q G R A F → Holdi
     }
 
     -- an event that changes nothing of what the file keeps
-    pub passed_by : (rule : Book Entry Q G R A F → NodeId → Node Entry → outcomes.Step Entry A F) (done : Done S Q G R A F) → Steps stands rule c done c' → Tells stands c (λ b x n. IsAsKept n (rule b x n).node) → IsDone stands ledger goes_on honest bytes past faults rule c j done c' j'
+    pub passed_by : (rule : Book Entry Q G R A F → NodeId → Node Entry → outcomes.Step Entry A F) (done : Done S Q G R A F) → Steps stands rule c done c' → Reports stands c (λ b x n. IsAsKept n (rule b x n).node) → IsDone stands ledger goes_on honest bytes past faults rule c j done c' j'
     passed_by rule done steps kept =
         let s = here.some.standing in
         let b = here.some.rules in
@@ -178,7 +178,7 @@ module _ {D S Q G R A F T E : Type 0} (stands : S → Book Entry Q G R A F → H
 module _ {D S Q G R A F : Type 0} (stands : S → Book Entry Q G R A F → Holding Entry → Type 0) (ledger : S → List Entry) (goes_on : GoesOn) (honest : Bool) (bytes : D → List ℕ) (past : D → List Step) (faults : D → ℕ)
     (rule : Book Entry Q G R A F → NodeId → Node Entry → outcomes.Step Entry A F) {c : Core S Q G R A F} {j : Journal D} (here : IsServing stands ledger goes_on honest bytes past c j) where
   abbrev Moments : Journal D → Type 0
-  Moments j' = Tells stands c (λ b x n. (d : Durable) → durable goes_on (bytes j.gated.disk) ≡ Ok d →
+  Moments j' = Reports stands c (λ b x n. (d : Durable) → durable goes_on (bytes j.gated.disk) ≡ Ok d →
       Leaves (OpensToOneOf goes_on d (kept_after d (rule b x n).node)) (past j.gated.disk) (past j'.gated.disk))
 
   pub every_moment : (result : Result (Done S Q G R A F) (NodeFault S Q G R A F)) (c' : Core S Q G R A F) (j' : Journal D) → Comes stands ledger goes_on honest bytes past faults rule c j result c' j' → IsTrue honest → Moments j'

@@ -1,4 +1,4 @@
--- Records put behind others: what they lead to, and how many bytes they have.
+-- Records put after others: what they lead to, and how many bytes they have.
 use Rattle.std.proofs.Common.{◌≡◌, ◌≤◌, ℕ, ◌+◌, ◌-◌, Bool, true, false, ◌||◌, ◌&&◌, ◌==◌, not, nat_lt, if◌then◌else◌, List, [], ◌∷◌, ◌++◌, length, take, Option, None, Some, refl, sym, ap, ◌∙◌, arith, length-append}
 use Rattle.std.proofs.lemmas.Bool.Decides.{nat_tests}
 use Rattle.std.proofs.lemmas.List.{take_all}
@@ -57,9 +57,9 @@ module _ (goes_on : GoesOn) where
   cut_folds m kept base within =
       let low : nat_lt kept m.base ≡ false = grind (arith, nat_tests) in
       let high : nat_lt (m.base + length m.log) kept ≡ false = grind (arith, nat_tests) in
-      let front : kept - m.base ≡ kept = omega (arith, base) in
+      let prefix : kept - m.base ≡ kept = omega (arith, base) in
       ap (λ (t : Bool). if t then None else Some (record m { log = take (kept - m.base) m.log })) (neither (nat_lt kept m.base) (nat_lt (m.base + length m.log) kept) low high)
-      ∙ ap (λ (k : ℕ). Some (record m { log = take k m.log })) front
+      ∙ ap (λ (k : ℕ). Some (record m { log = take k m.log })) prefix
 
   pub whole_folds : (m : Durable) (kept : ℕ) → length m.log ≤ kept → record m { log = take kept m.log } ≡ m
   whole_folds m kept all = ap (λ (l : List (List ℕ)). record m { log = l }) (take_all kept m.log all)

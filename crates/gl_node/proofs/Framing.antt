@@ -55,13 +55,13 @@ items_append (f ∷ fs) gs = ap (λ (l : List (List ℕ)). f.items ∷ l) (items
 -- a frame goes on those before it
 pub goes_next : (goes_on : GoesOn) (log : List (List ℕ)) (fs : List (Vec ℕ Global)) (i : ℕ) (f : Vec ℕ Global) → i < length fs → f ≡ get_or fs i f → EachGoesOn goes_on (log ++ items_of fs) → goes_on (log ++ items_of (take i fs)) f.items ≡ true
 goes_next goes_on log fs i f below is each =
-    let front = log ++ items_of (take i fs) in
+    let prefix = log ++ items_of (take i fs) in
     let rest = items_of (drop (i + 1) fs) in
     let parts : items_of fs ≡ items_of (take i fs) ++ f.items ∷ rest =
     ap items_of (sym (take-append-drop i fs)) ∙ items_append (take i fs) (drop i fs) ∙ ap (λ (l : List (List ℕ)). items_of (take i fs) ++ l) (items_of_drop fs i f below is) in
-    let whole : log ++ items_of fs ≡ front ++ f.items ∷ rest = ap (λ (l : List (List ℕ)). log ++ l) parts ∙ sym (append_assoc log (items_of (take i fs)) (f.items ∷ rest)) in
-    let goes = subst (EachGoesOn goes_on) whole each (length front) f.items (get_at front rest f.items) in
-    sym (ap (λ (l : List (List ℕ)). goes_on l f.items) (take_at front (f.items ∷ rest) (length front) refl)) ∙ goes
+    let whole : log ++ items_of fs ≡ prefix ++ f.items ∷ rest = ap (λ (l : List (List ℕ)). log ++ l) parts ∙ sym (append_assoc log (items_of (take i fs)) (f.items ∷ rest)) in
+    let goes = subst (EachGoesOn goes_on) whole each (length prefix) f.items (get_at prefix rest f.items) in
+    sym (ap (λ (l : List (List ℕ)). goes_on l f.items) (take_at prefix (f.items ∷ rest) (length prefix) refl)) ∙ goes
 
 pub log_more : (log : List (List ℕ)) (fs : List (Vec ℕ Global)) (i : ℕ) (f : Vec ℕ Global) → i < length fs → f ≡ get_or fs i f → (log ++ items_of (take i fs)) ++ f.items ∷ [] ≡ log ++ items_of (take (i + 1) fs)
 log_more log fs i f below is = append_assoc log (items_of (take i fs)) (f.items ∷ []) ∙ ap (λ (l : List (List ℕ)). log ++ l) (sym (items_more fs i f below is))
@@ -116,27 +116,27 @@ map_drop f zero l = refl
 map_drop f (suc k) [] = refl
 map_drop f (suc k) (x ∷ l) = map_drop f k l
 
-items_behind : (k : ℕ) (fs : List (Vec ℕ Global)) → items_of (drop k fs) ≡ drop k (items_of fs)
-items_behind zero fs = refl
-items_behind (suc k) [] = refl
-items_behind (suc k) (f ∷ fs) = items_behind k fs
+items_after : (k : ℕ) (fs : List (Vec ℕ Global)) → items_of (drop k fs) ≡ drop k (items_of fs)
+items_after zero fs = refl
+items_after (suc k) [] = refl
+items_after (suc k) (f ∷ fs) = items_after k fs
 
 -- a part of the frames has no more bytes
 pub appends_part : (i k : ℕ) (fs : List (Vec ℕ Global)) → appends_size (items_of (take i (drop k fs))) ≤ appends_size (items_of fs)
-appends_part i k fs = let e = ap appends_size (items_behind k fs) in omega (arith, e, appends_within (drop k fs) i, appends_drop k (items_of fs))
+appends_part i k fs = let e = ap appends_size (items_after k fs) in omega (arith, e, appends_within (drop k fs) i, appends_drop k (items_of fs))
 
 -- a ledger that is another up to a seqno
 pub frames_parts : (kept : ℕ) (old new : List Entry) → take kept new ≡ take kept old → map frame_bytes new ≡ take kept (map frame_bytes old) ++ map frame_bytes (drop kept new)
-frames_parts kept old new front =
+frames_parts kept old new prefix =
     ap (map frame_bytes) (sym (take-append-drop kept new)) ∙ map-append frame_bytes (take kept new) (drop kept new)
-    ∙ ap (λ (l : List Entry). map frame_bytes l ++ map frame_bytes (drop kept new)) front
+    ∙ ap (λ (l : List Entry). map frame_bytes l ++ map frame_bytes (drop kept new)) prefix
     ∙ ap (λ (l : List (List ℕ)). l ++ map frame_bytes (drop kept new)) (map_take frame_bytes kept old)
 
--- the last ones of the frames of entries, where these are a ledger's behind a seqno
+-- the last ones of the frames of entries, where these are a ledger's after a seqno
 pub frames_tail : (fs : List (Vec ℕ Global)) (es new : List Entry) (kept k : ℕ) → items_of fs ≡ map frame_if_fits es → drop kept new ≡ drop k es → All (λ e. IsTrue (is_entry e)) new →
     items_of (drop k fs) ≡ map frame_bytes (drop kept new)
 frames_tail fs es new kept k made tail fit =
-    items_behind k fs ∙ ap (drop k) made ∙ sym (map_drop frame_if_fits k es) ∙ ap (map frame_if_fits) (sym tail) ∙ frames_fit (drop kept new) (All-drop Fits kept new fit)
+    items_after k fs ∙ ap (drop k) made ∙ sym (map_drop frame_if_fits k es) ∙ ap (map frame_if_fits) (sym tail) ∙ frames_fit (drop kept new) (All-drop Fits kept new fit)
 
 -- memory for a batch is memory for a smaller one
 pub room_less : {D : Type 0} (room_end room_calls : D → ℕ) (j : Journal D) (size less : ℕ) → less ≤ size → HasBatchRoom room_end room_calls j size → HasBatchRoom room_end room_calls j less

@@ -1,11 +1,11 @@
-pub mod Turning
+pub mod ElectionSteps
 pub mod Extending
 pub mod Classes
 pub mod Folding
 pub mod Framing
 pub mod Standings
-pub mod Taking
-pub mod Making
+pub mod TakenEntries
+pub mod OneMoreEntry
 pub mod Coming
-pub mod Opening
-pub mod Signing
+pub mod CoreOverFile
+pub mod SignedLeaves

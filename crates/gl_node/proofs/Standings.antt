@@ -13,12 +13,12 @@ use Rattle.gl_replication.specs.Holding.{Holding}
 use Rattle.gl_replication.specs.Standing.{At}
 use Rattle.gl_replication.specs.Stands.{StandsFor}
 use Rattle.gl_replication.specs.declared.node.Core.{Core}
-use Rattle.gl_replication.proofs.Turns.{same4}
+use Rattle.gl_replication.proofs.PeerSteps.{same4}
 use Rattle.gl_node.specs.Batches.{IsChange}
 use Rattle.gl_node.specs.Changes.{IsAsKept, IsTurned}
 use Rattle.gl_node.specs.Frames.{EachGoesOn}
 use Rattle.gl_node.specs.Kept.{is_same_vote, kept_after, keeping}
-use Rattle.gl_node.specs.Serving.{HoldsWhole, IsFileOf, kept_of}
+use Rattle.gl_node.specs.Persistence.{HoldsWhole, IsFileOf, kept_of}
 use Rattle.gl_node.specs.declared.changed.Before.{Before}
 use Rattle.gl_node.proofs.Folding.{vote_stays}
 use Rattle.gl_node.proofs.Framing.{frames_parts, length_map}
@@ -71,12 +71,12 @@ module _ {S Q G R A F : Type 0} (stands : S → Book Entry Q G R A F → Holding
         reserved = f.reserved ∙ reserved_of s ∙ sym k.reserved ∙ sym (reserved_of s');
       }
 
-      -- an event that keeps the ledger up to a seqno, and brings the frames behind it
+      -- an event that keeps the ledger up to a seqno, and brings the frames after it
       pub to_change : (goes_on : GoesOn) (d : Durable) (before : Before) (kept : ℕ) (frames : List (List ℕ)) → n.view ≤ m.view → n.reserved ≤ m.reserved →
           kept ≤ length (ledger c.book) → take kept (ledger c'.book) ≡ take kept (ledger c.book) → frames ≡ map frame_bytes (drop kept (ledger c'.book)) → IsFileOf ledger d c → leaf_count d ≡ b.leaves x →
           before.view ≡ c.peer.view → before.vote ≡ c.peer.vote → before.len ≡ length (ledger c.book) → before.leaves ≡ c.leaves →
           EachGoesOn goes_on (map frame_bytes (ledger c'.book)) → IsChange ledger goes_on d before kept frames c'
-      to_change goes_on d before kept frames rises more within front behind f leaves view vote len spent follow =
+      to_change goes_on d before kept frames rises more within prefix after f leaves view vote len spent follow =
           let reserved : before.leaves.reserved ≡ n.reserved = ap (λ l. l.reserved) spent ∙ reserved_of s in
           record {
             view = f.view ∙ sym view;
@@ -87,9 +87,9 @@ module _ {S Q G R A F : Type 0} (stands : S → Book Entry Q G R A F → Holding
             rises = omega (arith, view, view_of s, rises, view_of s');
             within = omega (arith, len, within);
             log =
-                frames_parts kept (ledger c.book) (ledger c'.book) front
+                frames_parts kept (ledger c.book) (ledger c'.book) prefix
                 ∙ ap (λ (l : List (List ℕ)). take kept l ++ map frame_bytes (drop kept (ledger c'.book))) (sym f.log)
-                ∙ ap (λ (l : List (List ℕ)). take kept d.log ++ l) (sym behind);
+                ∙ ap (λ (l : List (List ℕ)). take kept d.log ++ l) (sym after);
             follow = follow;
             more = omega (arith, reserved, more, reserved_of s');
             leaves = omega (arith, reserved_of s', s'.leaves, leaves);

@@ -25,7 +25,7 @@ pub record IsRoom (records : Vec Record Global) (count : ℕ) : Type 0 where
   pub room : count + 3 ≤ vec_capacity records
 
 -- A file with this durable state kept what was there before, and a core has now what is to be kept:
--- no earlier view, the ledger cut to a seqno with the entries of these frames behind it, and no
+-- no earlier view, the ledger cut to a seqno with the entries of these frames after it, and no
 -- fewer reserved leaves.
 pub record IsChange {S Q G R A F : Type 0} (ledger : S → List Entry) (goes : GoesOn) (d : Durable)
     (before : Before) (kept : ℕ) (frames : List (List ℕ)) (c : Core S Q G R A F) : Type 0 where

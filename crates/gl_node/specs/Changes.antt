@@ -55,7 +55,7 @@ abbrev pub MayChange : {Q G R A F : Type 0} →
     (Book Entry Q G R A F → NodeId → Node Entry → Step Entry A F) → NodeId → Change → Type 0
 MayChange {Q} {G} {R} {A} {F} rule x changes.Nothing =
     (b : Book Entry Q G R A F) (n : Node Entry) → IsAsKept n (rule b x n).node
-MayChange {Q} {G} {R} {A} {F} rule x changes.Turn =
+MayChange {Q} {G} {R} {A} {F} rule x changes.ElectionStep =
     (b : Book Entry Q G R A F) (n : Node Entry) → IsTurned n (rule b x n).node
 MayChange {Q} {G} {R} {A} {F} rule x (changes.Entries view prev es) =
     (b : Book Entry Q G R A F) (n : Node Entry) → TakesEntries b x n view prev es.now (rule b x n)
@@ -65,6 +65,6 @@ MayChange {Q} {G} {R} {A} {F} rule x changes.Entry =
 -- It brings so many entries at most as one message carries.
 abbrev pub BringsFew : Change → Type 0
 BringsFew changes.Nothing = Unit {0}
-BringsFew changes.Turn = Unit {0}
+BringsFew changes.ElectionStep = Unit {0}
 BringsFew (changes.Entries view prev es) = length es.now ≤ most_entries
 BringsFew changes.Entry = Unit {0}

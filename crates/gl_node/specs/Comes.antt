@@ -10,11 +10,11 @@ use Rattle.gl_outside.specs.Fault.{Rose}
 use Rattle.gl_journal.specs.Durable.{Durable, GoesOn, durable, OpensToOneOf}
 use Rattle.gl_journal.specs.declared.journal.Journal.{Journal}
 use Rattle.gl_replication.specs.Holding.{Holding}
-use Rattle.gl_replication.specs.Stands.{KeepsAll, Refuses, StandsFor, Steps, Tells}
+use Rattle.gl_replication.specs.Stands.{KeepsAll, Refuses, Reports, StandsFor, Steps}
 use Rattle.gl_replication.specs.declared.node.Core.{Core}
 use Rattle.gl_replication.specs.declared.done.Done.{Done}
 use Rattle.gl_replication.specs.declared.done.Refusal.{Refusal}
-use Rattle.gl_node.specs.Serving.{HoldsWhole, IsServing, StandsForSome, kept_of}
+use Rattle.gl_node.specs.Persistence.{HoldsWhole, IsServing, StandsForSome, kept_of}
 use Rattle.gl_node.specs.declared.fault.NodeFault.{NodeFault}
 use Rattle.gl_node.specs.declared.fault.NodeFault.TheVariants.{Refused, DiskFault, Stopped}
 
@@ -54,9 +54,9 @@ module _ {D S Q G R A F : Type 0} (stands : S → Book Entry Q G R A F → Holdi
           × (past j'.gated.disk ≡ past j.gated.disk)
       pub quiet : faults j'.gated.disk ≡ faults j.gated.disk
 
-  -- The disk failed behind the event.
+  -- The disk failed after the event.
   pub record IsBroken (c' : Core S Q G R A F) (j' : Journal D) : Type 0 where
-    pub turned : Tells stands c (λ b x n. StandsFor stands c' b x (rule b x n).node)
+    pub turned : Reports stands c (λ b x n. StandsFor stands c' b x (rule b x n).node)
     pub some : StandsForSome stands c'
     pub whole : HoldsWhole stands ledger c'.book
     pub any_moment : LeavesEither c' j'

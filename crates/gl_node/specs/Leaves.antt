@@ -15,7 +15,7 @@ use Rattle.gl_replication.specs.declared.event.Event.TheVariants as events
 pub data Happening (S Q G R A F : Type 0) : Type 0 where
   -- an event is done, and kept
   Served : (event : Event S Q G R A F) → Happening S Q G R A F
-  -- a fault of the disk or a stop behind an event, which the file doesn't keep, and it is opened
+  -- a fault of the disk or a stop after an event, which the file doesn't keep, and it is opened
   -- again
   Lost : (event : Event S Q G R A F) → Happening S Q G R A F
   -- the same, and the file keeps the event

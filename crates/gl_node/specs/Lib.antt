@@ -1,6 +1,6 @@
 pub mod Frames
 pub mod Kept
-pub mod Serving
+pub mod Persistence
 pub mod Changes
 pub mod Batches
 pub mod Comes

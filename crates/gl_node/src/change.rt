@@ -17,8 +17,8 @@ pub(crate) enum Change<'a> {
     /// Nothing.
     Nothing,
     /// The view and the vote, a tail of the ledger, which is cut off, and the reserved leaves.
-    Turn,
-    /// The same, and entries of a leader of this view behind this one.
+    ElectionStep,
+    /// The same, and entries of a leader of this view after this one.
     Entries {
         view: u32,
         prev: TxId,
@@ -31,7 +31,7 @@ pub(crate) enum Change<'a> {
 /// What a message may change at the node that it is for.
 fn change_by<B: Book>(message: &Message) -> Change<'_>
     requires { brings_few message.now.body ≡ true }
-    ensures change { (x : Id) → MayChange {Q = B.Request} {G = B.Gov} {R = B.Reads} {A = B.Given}
+    ensures change { (x : Id) → MayChange {Q = B.Request} {G = B.Gov} {R = B.Reads} {A = B.Response}
         {F = B.Refused} (answer message.now) x result }
     ensures few { BringsFew result }
 {
@@ -44,7 +44,7 @@ fn change_by<B: Book>(message: &Message) -> Change<'_>
         Body::RequestVote { .. }
         | Body::VoteReply { .. }
         | Body::AppendReply { .. }
-        | Body::ProposeVote => Change::Turn,
+        | Body::ProposeVote => Change::ElectionStep,
     }
 }
 
@@ -57,7 +57,7 @@ pub(crate) fn change_of<'a, B: Book>(event: &'a Event<B>, me: &NodeId) -> Change
 {
     match event {
         Event::Replicate(_) | Event::Advance | Event::StepDown(_) => Change::Nothing,
-        Event::Timeout | Event::Reserve => Change::Turn,
+        Event::Timeout | Event::Reserve => Change::ElectionStep,
         Event::Submit(_) | Event::Govern(_) | Event::Sign => Change::Entry,
         Event::Message(message) => {
             if message.to == *me {

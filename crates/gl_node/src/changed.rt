@@ -4,7 +4,7 @@ ghost use Rattle.std.specs.Prelude.{◌≡◌, ◌<◌, ◌^◌, All, IsTrue, le
 ghost use Rattle.gl_entry.specs.Entry.{frame_bytes, is_entry};
 ghost use Rattle.gl_replication.specs.Standing.{At};
 ghost use Rattle.gl_node.specs.Frames.{EachGoesOn};
-ghost use Rattle.gl_node.specs.Serving.{HoldsWhole};
+ghost use Rattle.gl_node.specs.Persistence.{HoldsWhole};
 
 use crate::kept_book::KeptBook;
 use gl_config::NodeId;

@@ -34,8 +34,8 @@ pub(crate) fn frames_of(alloc: Global, entries: &[Entry]) -> Result<Vec<Vec<u8>>
     Ok(frames)
 }
 
-/// The frames of a ledger's entries behind a seqno.
-pub(crate) fn frames_behind<B: KeptBook>(
+/// The frames of a ledger's entries after a seqno.
+pub(crate) fn frames_after<B: KeptBook>(
     alloc: Global,
     book: &B,
     seqno: u64,

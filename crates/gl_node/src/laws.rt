@@ -7,10 +7,10 @@ use crate::kept_book::KeptBook;
 
 /// No leaf of a file signs twice.
 pub fn no_leaf_signs_twice<B: KeptBook>()
-    ensures { NoLeafTwice B B.Request B.Gov B.Reads B.Given B.Refused }
+    ensures { NoLeafTwice B B.Request B.Gov B.Reads B.Response B.Refused }
 {}
 
 /// A leaf is reserved in the file before it signs.
 pub fn a_leaf_is_reserved_before_it_signs<B: KeptBook>()
-    ensures { ReservedBefore B B.Request B.Gov B.Reads B.Given B.Refused }
+    ensures { ReservedBefore B B.Request B.Gov B.Reads B.Response B.Refused }
 {}

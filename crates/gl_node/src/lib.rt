@@ -6,15 +6,15 @@
 
 mod change;
 mod changed;
+mod dispatch;
 mod fault;
 mod frames;
-mod happen;
-mod keeping;
 mod kept_book;
 mod laws;
+mod persist;
 mod replica;
-mod serving;
-mod taking_back;
+mod rollback;
+mod rule;
 
 pub use fault::NodeFault;
 pub use kept_book::KeptBook;

@@ -5,14 +5,14 @@ ghost use Rattle.gl_outside.specs.Disk.{IsImage, Leaves, LeavesOnly};
 ghost use Rattle.gl_outside.specs.Fault.{Rose};
 ghost use Rattle.gl_journal.specs.Durable.{Durable as State, durable, OpensToOneOf};
 ghost use Rattle.gl_replication.specs.Events.{has_few_entries, rule_of};
-ghost use Rattle.gl_replication.specs.Stands.{KeepsAll, Refuses, Steps, Tells};
+ghost use Rattle.gl_replication.specs.Stands.{KeepsAll, Refuses, Reports, Steps};
 ghost use Rattle.gl_node.specs.Answers.{OnRefusal, stopped_by, stopped_count};
 ghost use Rattle.gl_node.specs.Kept.{kept_after};
-ghost use Rattle.gl_node.specs.Serving.{IsServing, OpensToCore, StandsForSome};
+ghost use Rattle.gl_node.specs.Persistence.{IsServing, OpensToCore, StandsForSome};
 
+use crate::dispatch::dispatch;
 use crate::fault::NodeFault;
 use crate::kept_book::KeptBook;
-use crate::serving::serve;
 use gl_journal::Journal;
 use gl_outside::Disk;
 use gl_replication::{Core, Done, Event};
@@ -30,9 +30,9 @@ pub struct Replica<D: Disk, B: KeptBook> {
 
 impl<D: Disk, B: KeptBook> Model for Replica<D, B> {
     ghost use Rattle.gl_node.specs.Seen.{Seen};
-    ghost use Rattle.gl_node.specs.Serving.{IsReplica};
+    ghost use Rattle.gl_node.specs.Persistence.{IsReplica};
 
-    ghost Value = { Seen D B B.Request B.Gov B.Reads B.Given B.Refused };
+    ghost Value = { Seen D B B.Request B.Gov B.Reads B.Response B.Refused };
 
     ghost view = { λ r. record {
       core = r.core;
@@ -76,7 +76,7 @@ impl<D: Disk, B: KeptBook> Replica<D, B> {
         // Of every node that it stands for the event is the rule's step.
         ensures steps { IfOk result (λ done.
             Steps B.stands (rule_of event) self.old.core done self.new.core) }
-        // A refusal is that of the rule, want of memory aside, and leaves all as it was.
+        // A refusal is that of the rule, running out of memory aside, and leaves all as it was.
         ensures refused { OnRefusal result (λ why.
             Refuses B.stands (rule_of event) self.old.core why) }
         ensures stays { OnRefusal result (λ why. KeepsAll B.stands self.old.core self.new.core) }
@@ -85,18 +85,18 @@ impl<D: Disk, B: KeptBook> Replica<D, B> {
             × (D.past self.new.disk ≡ D.past self.old.disk)) }
 
         // Once it is answered the file keeps it, and so does whatever a stop leaves.
-        ensures kept { IsTrue D.honest → OnOk result (Tells B.stands self.old.core (λ b x n.
+        ensures kept { IsTrue D.honest → OnOk result (Reports B.stands self.old.core (λ b x n.
             (d : State) → durable B.goes_on (D.bytes self.old.disk) ≡ Ok d →
             durable B.goes_on (D.bytes self.new.disk)
             ≡ Ok (kept_after d (rule_of event b x n).node))) }
-        ensures after { IsTrue D.honest → OnOk result (Tells B.stands self.old.core (λ b x n.
+        ensures after { IsTrue D.honest → OnOk result (Reports B.stands self.old.core (λ b x n.
             (d : State) → durable B.goes_on (D.bytes self.old.disk) ≡ Ok d →
             (image : List ℕ) → IsImage (D.past self.new.disk) image →
             durable B.goes_on image ≡ Ok (kept_after d (rule_of event b x n).node))) }
         // At every moment, also where the disk fails, a stop leaves a file that keeps the node as
         // it was or as the rule makes it.
         ensures any_moment { IsTrue D.honest → self.old.stopped ≡ None →
-            Tells B.stands self.old.core (λ b x n.
+            Reports B.stands self.old.core (λ b x n.
             (d : State) → durable B.goes_on (D.bytes self.old.disk) ≡ Ok d →
             Leaves (OpensToOneOf B.goes_on d (kept_after d (rule_of event b x n).node))
             (D.past self.old.disk) (D.past self.new.disk)) }
@@ -114,7 +114,7 @@ impl<D: Disk, B: KeptBook> Replica<D, B> {
         if let Some(count) = self.stopped {
             return Err(NodeFault::Stopped { count });
         }
-        let came = serve(&mut self.core, &mut self.journal, &event);
+        let came = dispatch(&mut self.core, &mut self.journal, &event);
         self.stopped = stopped_by(&came, self.journal.gated.disk.faults());
         came
     }

@@ -6,7 +6,7 @@ use Rattle.gl_outside.specs.Fault.{Rose, last_count}
 pub Rose-after : (before mid now : ℕ) → before ≤ mid → Rose mid now → Rose before now
 Rose-after before mid now kept rose = elim rose [ inl more ↦ inl (omega arith) | inr last ↦ inr last ]
 
--- The count rose in an earlier call, and fell in none behind it.
+-- The count rose in an earlier call, and fell in none after it.
 pub Rose-before : (before mid now : ℕ) → Rose before mid → mid ≤ now → Rose before now
 Rose-before before mid now rose kept = elim rose [ inl more ↦ inl (omega arith) | inr last ↦ inr (omega arith) ]
 

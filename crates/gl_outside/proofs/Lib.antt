@@ -1,4 +1,4 @@
-pub mod Fronts
+pub mod TextPrefixes
 pub mod Faults
 pub mod Plans
 pub mod Moments

@@ -20,7 +20,7 @@ steps-push : (pieces bytes : List ℕ) (past : List Step) (calls : List Call) (c
 steps-push pieces bytes past [] call = refl
 steps-push pieces bytes past (one ∷ calls) call = steps-push pieces (done_by pieces bytes one) (step_of bytes one ∷ past) calls call
 
--- Pieces behind those of the calls change nothing.
+-- Pieces after those of the calls change nothing.
 
 range-more : (xs ys : List ℕ) (start count : ℕ) → start + count ≤ length xs → slice_range (xs ++ ys) start (start + count) ≡ slice_range xs start (start + count)
 range-more xs ys start count there =
@@ -80,7 +80,7 @@ recorded first pieces pieces' more calls calls' call is_pieces is_calls there =
     ∙ ap (λ (b : List ℕ). step_of b call ∷ steps_after (pieces ++ more) first (Kept first ∷ []) calls) (reads-more pieces more first calls there)
     ∙ ap (λ (past : List Step). step_of (reads_after pieces first calls) call ∷ past) (steps-more pieces more first (Kept first ∷ []) calls there)
 
--- What reads give behind it.
+-- What reads give after it.
 pub read_on : (first pieces pieces' more : List ℕ) (calls calls' : List Call) (call : Call) → pieces' ≡ pieces ++ more → calls' ≡ calls ++ call ∷ [] → pieces_end calls ≤ length pieces
     → reads_after pieces' first calls' ≡ done_by pieces' (reads_after pieces first calls) call
 read_on first pieces pieces' more calls calls' call is_pieces is_calls there =
@@ -88,7 +88,7 @@ read_on first pieces pieces' more calls calls' call is_pieces is_calls there =
     ∙ reads-push pieces' first calls call
     ∙ ap (λ (b : List ℕ). done_by pieces' b call) (ap (λ (l : List ℕ). reads_after l first calls) is_pieces ∙ reads-more pieces more first calls there)
 
--- The last piece is the one that was put behind the others.
+-- The last piece is the one that was put after the others.
 pub last_piece : (pieces pieces' piece : List ℕ) (start : ℕ) → pieces' ≡ pieces ++ piece → start ≡ length pieces → slice_range pieces' start (start + length piece) ≡ piece
 last_piece pieces pieces' piece start is_pieces is_start =
     ap (λ (l : List ℕ). slice_range l start (start + length piece)) is_pieces

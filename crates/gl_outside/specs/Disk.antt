@@ -16,12 +16,12 @@ written bytes at piece = take at bytes ++ piece ++ drop (at + length piece) byte
 -- the old ones.
 pub record Torn (at count : ℕ) (old new : List ℕ) : Type 0 where
   pub before : take at new ≡ take at old
-  pub behind : drop (at + count) new ≡ drop (at + count) old
+  pub suffix : drop (at + count) new ≡ drop (at + count) old
   pub no_shorter : length old ≤ length new
   pub no_longer : length new ≤ max (length old) (at + count)
 
 -- An image is what a stop may leave once these steps were done, the newest of which stands first.
--- Before the first sync that is told, a stop may leave anything.
+-- Before the first sync that is reported, a stop may leave anything.
 abbrev pub IsImage : List Step → List ℕ → Type 0
 IsImage [] image = Unit {0}
 IsImage (Kept bytes ∷ past) image = image ≡ bytes

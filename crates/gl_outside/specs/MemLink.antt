@@ -1,13 +1,13 @@
 -- The record that a link in memory keeps.
 use Rattle.std.specs.Prelude.{List, map, drop, true, false}
 use Rattle.gl_outside.specs.Link as link
-use Rattle.gl_outside.specs.declared.mem_link.Given.{Given}
-use Rattle.gl_outside.specs.declared.mem_link.Given.TheVariants as given
+use Rattle.gl_outside.specs.declared.mem_link.Incoming.{Incoming}
+use Rattle.gl_outside.specs.declared.mem_link.Incoming.TheVariants as given
 use Rattle.gl_outside.specs.declared.mem_link.SureLink.{SureLink}
 use Rattle.gl_outside.specs.declared.mem_link.Traffic.{Traffic}
 use Rattle.gl_outside.specs.declared.mem_link.Traffic.TheVariants.{Came, Ticked, Sent, Lost}
 
-abbrev pub arrival_of : Given → link.Arrival
+abbrev pub arrival_of : Incoming → link.Arrival
 arrival_of (given.Bytes conn bytes) = link.Bytes conn bytes.now
 arrival_of given.Tick = link.Tick
 

@@ -1,5 +1,5 @@
 -- The record that a disk in memory keeps: what it held at first, its writes and syncs, the oldest
--- first, and the pieces of all writes, one behind the other.
+-- first, and the pieces of all writes, one after the other.
 use Rattle.std.specs.Prelude.{◌≡◌, ℕ, ◌+◌, ◌-◌, max, List, [], ◌∷◌, length, slice_range}
 use Rattle.gl_outside.specs.Disk.{Step, Kept, Touched, Torn, written}
 use Rattle.gl_outside.specs.declared.sure_disk.Call.{Call}

@@ -7,7 +7,7 @@ use Rattle.gl_outside.specs.declared.sure_disk.Call.TheVariants.{Wrote, Lost, Sy
 use Rattle.gl_outside.specs.declared.tear.Tear.{Tear}
 use Rattle.gl_outside.specs.declared.tear.Tear.TheVariants.{Old, Whole, Half, Filled}
 
--- What stands in a piece's range, from its front, where the rest is as it was.
+-- What stands in a piece's range, from its start, where the rest is as it was.
 abbrev pub left_of : Tear → List ℕ → List ℕ
 left_of Old piece = []
 left_of Whole piece = piece

@@ -9,7 +9,7 @@ ghost use Rattle.gl_outside.specs.Plan.{faults_of, fails_next, is_chosen};
 pub struct FaultPlan<'a> {
     /// The numbers of the calls that are to fail. The first call is 1.
     pub failing: &'a [u64],
-    /// How many calls there were. Calls behind the last value of a u64 aren't counted, and don't
+    /// How many calls there were. Calls after the last value of a u64 aren't counted, and don't
     /// fail.
     pub calls: u64,
 }
@@ -34,7 +34,7 @@ impl<'a> FaultPlan<'a> {
         faults
     }
 
-    /// Counts a call, and tells whether it is to fail.
+    /// Counts a call, and reports whether it is to fail.
     pub(crate) fn next_fails(&mut self) -> bool
         ensures numbered { self.new.calls ≡ next_call self.old.calls }
         ensures failing { self.new.failing ≡ self.old.failing }
@@ -47,7 +47,7 @@ impl<'a> FaultPlan<'a> {
     }
 }
 
-/// Whether the call behind so many is to fail.
+/// Whether the call after so many is to fail.
 fn is_next_chosen(failing: &[u64], calls: u64) -> bool
     ensures chosen { result ≡ is_chosen failing.now (calls + 1) }
     ensures counted { IsTrue result → calls + 1 < 2 ^ 64 }

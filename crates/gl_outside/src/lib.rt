@@ -21,7 +21,7 @@ pub use fault_plan::FaultPlan;
 pub use gate::{Gate, OpenGate};
 pub use link::{Came, Link};
 pub use mem_disk::MemDisk;
-pub use mem_link::{Given, MemLink, SureLink, Traffic};
+pub use mem_link::{Incoming, MemLink, SureLink, Traffic};
 pub use memory::{MemSink, MemSource, SureSink, SureSource};
 pub use sink::{Put, Sink, SinkFault, write_whole};
 pub use source::{Got, Source};

@@ -13,7 +13,7 @@ use std::alloc::Global;
 
 /// What is to come.
 #[derive(Clone, Copy, Debug)]
-pub enum Given<'a> {
+pub enum Incoming<'a> {
     /// Bytes of a connection.
     Bytes(u64, &'a [u8]),
     Tick,
@@ -28,12 +28,12 @@ pub enum Traffic {
     Lost(u64, Vec<u8>),
 }
 
-/// A link in memory that fails for want of memory alone.
+/// A link in memory that fails only where memory runs out.
 #[derive(Debug, Drop)]
 pub struct SureLink<'a> {
     alloc: Global,
     /// All that is to come, and how much of it came.
-    pub all: &'a [Given<'a>],
+    pub all: &'a [Incoming<'a>],
     pub done: usize,
     /// What came and was sent, in order.
     pub past: Vec<Traffic>,
@@ -44,7 +44,7 @@ pub struct SureLink<'a> {
 }
 
 impl<'a> SureLink<'a> {
-    pub fn new(alloc: Global, all: &'a [Given<'a>]) -> Self
+    pub fn new(alloc: Global, all: &'a [Incoming<'a>]) -> Self
         ensures all { (result.all ≡ all.entry) × (result.done ≡ 0) }
         ensures past { result.past.items ≡ [] }
         ensures none_yet { (result.calls ≡ 0) × (result.ended ≡ false) }
@@ -115,14 +115,14 @@ impl Link for SureLink<'_> {
                 self.ended = true;
                 Came::Ended
             }
-            Some(Given::Tick) => {
+            Some(Incoming::Tick) => {
                 if self.past.push(Traffic::Ticked).is_err() {
                     return Came::NoMemory;
                 }
                 self.done += 1;
                 Came::Tick
             }
-            Some(Given::Bytes(conn, bytes)) => {
+            Some(Incoming::Bytes(conn, bytes)) => {
                 let conn = *conn;
                 let Ok(given) = bytes.to_vec(self.alloc) else {
                     return Came::NoMemory;

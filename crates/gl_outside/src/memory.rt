@@ -58,9 +58,9 @@ impl Source for SureSource<'_> {
             return Got::End;
         }
         let count = self.piece.max(1).min(buf.len()).min(self.left.len());
-        let (front, rest) = self.left.split_at(count);
+        let (prefix, rest) = self.left.split_at(count);
         let (start, _) = buf.split_at_mut(count);
-        start.copy_from_slice(front);
+        start.copy_from_slice(prefix);
         self.left = rest;
         Got::Bytes(count)
     }
@@ -124,7 +124,7 @@ impl Source for MemSource<'_> {
     }
 }
 
-/// A sink in memory that fails for want of memory alone.
+/// A sink in memory that fails only where memory runs out.
 #[derive(Debug, Drop)]
 pub struct SureSink {
     /// The bytes that were written.
@@ -158,8 +158,8 @@ impl Sink for SureSink {
         ensures piece { self.new.piece ≡ self.old.piece }
     {
         let count = self.piece.max(1).min(piece.len());
-        let (front, _) = piece.split_at(count);
-        match self.held.extend_from_slice(front) {
+        let (prefix, _) = piece.split_at(count);
+        match self.held.extend_from_slice(prefix) {
             Ok(()) => Put::Took(count),
             Err(_) => Put::NoMemory,
         }

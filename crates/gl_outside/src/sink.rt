@@ -1,14 +1,14 @@
 ghost use Rattle.std.specs.Prelude.{◌≡◌, ℕ, ◌≤◌, List, Option, [], length, take, OnOk, OnErr};
 ghost use Rattle.std.specs.Io.KnownBytes.{Appends};
 ghost use Rattle.gl_outside.specs.Fault.{Rose};
-ghost use Rattle.gl_outside.specs.Sink.{taken_count, AppendsFront};
+ghost use Rattle.gl_outside.specs.Sink.{taken_count, AppendsPrefix};
 
 use thiserror::Error;
 
 /// What a write came to.
 #[derive(Clone, Copy, Debug, PartialEq, Eq)]
 pub enum Put {
-    /// So many bytes of the piece were taken, from its front. None are taken of an empty piece
+    /// So many bytes of the piece were taken, from its start. None are taken of an empty piece
     /// alone.
     Took(usize),
     /// The sink failed, and counted it. Nothing was taken.
@@ -25,7 +25,7 @@ pub trait Sink {
     // How often the sink failed, up to the last value of a u64.
     ghost faults: { Self → ℕ };
 
-    /// Writes some of the piece, from its front.
+    /// Writes some of the piece, from its start.
     fn write(&mut self, piece: &[u8]) -> Put
         ensures within { taken_count result ≤ length piece.now }
         ensures appended { Appends (holds self.old) (holds self.new)
@@ -47,7 +47,7 @@ impl<K: Sink> Sink for &mut K {
     }
 }
 
-/// Why not all of the bytes were written. A front of them may have been.
+/// Why not all of the bytes were written. A prefix of them may have been.
 #[derive(Clone, Copy, Debug, PartialEq, Eq, Error)]
 pub enum SinkFault {
     #[error("the sink failed")]
@@ -59,7 +59,7 @@ pub enum SinkFault {
 /// Writes all of the bytes, by as many writes as that takes.
 pub fn write_whole<K: Sink>(sink: &mut K, bytes: &[u8]) -> Result<(), SinkFault>
     ensures whole { OnOk result (Appends (K.holds sink.old) (K.holds sink.new) bytes.now) }
-    ensures front { OnErr result (AppendsFront (K.holds sink.old) (K.holds sink.new) bytes.now) }
+    ensures prefix { OnErr result (AppendsPrefix (K.holds sink.old) (K.holds sink.new) bytes.now) }
 
     ensures failed { result ≡ Err SinkFault.Failed → Rose (K.faults sink.old) (K.faults sink.new) }
     ensures quiet { (result ≡ Err SinkFault.Failed → ⊥) → K.faults sink.new ≡ K.faults sink.old }

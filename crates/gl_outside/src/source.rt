@@ -6,7 +6,7 @@ ghost use Rattle.gl_outside.specs.Source.{given_count, gave_end};
 /// What a read came to.
 #[derive(Clone, Copy, Debug, PartialEq, Eq)]
 pub enum Got {
-    /// So many bytes stand at the front of the buffer. No bytes, for a buffer that has room, are
+    /// So many bytes stand at the start of the buffer. No bytes, for a buffer that has room, are
     /// taken as the end.
     Bytes(usize),
     /// There is nothing more to read.
@@ -26,7 +26,7 @@ pub trait Source {
     // Whether a read gave the end.
     ghost ended: { Self → Bool };
 
-    /// Reads some bytes into the front of the buffer.
+    /// Reads some bytes into the start of the buffer.
     fn read(&mut self, buf: &mut [u8]) -> Got
         ensures within { given_count result ≤ length buf.new }
         ensures taken { Consumes (left self.old) (left self.new)

@@ -36,7 +36,7 @@ pub struct SureDisk {
     pub first: Vec<u8>,
     /// The writes and syncs, the oldest first.
     pub calls: Vec<Call>,
-    /// The pieces of all writes, one behind the other.
+    /// The pieces of all writes, one after the other.
     pub pieces: Vec<u8>,
     /// The place up to which writes take no memory.
     pub room_end: usize,
@@ -87,7 +87,7 @@ impl SureDisk {
         })
     }
 
-    /// What a stop may leave once so many of the calls were done. All writes behind the last sync
+    /// What a stop may leave once so many of the calls were done. All writes after the last sync
     /// are torn in the same way.
     pub fn image(&self, alloc: Global, calls: usize, tear: Tear) -> Result<Vec<u8>, AllocError>
         requires { calls ≤ vec_len self.now.calls }
@@ -132,7 +132,7 @@ impl SureDisk {
     }
 }
 
-/// Puts bytes behind others, in memory that is there.
+/// Puts bytes after others, in memory that is there.
 fn append(list: &mut Vec<u8>, piece: &[u8])
     requires { vec_len list.old + length piece.now ≤ vec_capacity list.old }
     ensures items { list.new.items ≡ list.old.items ++ piece.now }
@@ -164,9 +164,9 @@ pub(crate) fn overwrite(bytes: &mut Vec<u8>, at: usize, piece: &[u8])
     ensures capacity { vec_capacity bytes.old ≤ vec_capacity bytes.new }
 {
     let over = piece.len().min(bytes.len() - at);
-    let (front, behind) = piece.split_at(over);
-    bytes[at..at + over].copy_from_slice(front);
-    append(bytes, behind);
+    let (prefix, suffix) = piece.split_at(over);
+    bytes[at..at + over].copy_from_slice(prefix);
+    append(bytes, suffix);
 }
 
 /// Does a call on record again: to the bytes that reads give, and to what a stop leaves.

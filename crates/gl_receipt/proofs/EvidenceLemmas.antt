@@ -19,7 +19,7 @@ use Rattle.gl_base.proofs.Numerals.{by_index}
 use Rattle.gl_base.proofs.TxIdText.{parsed-text_of, parsed_ok}
 use Rattle.gl_entry.specs.Leaf.{evidence_digest, evidence_text}
 use Rattle.gl_receipt.specs.Receipt.{IsEvidence}
-use Rattle.gl_receipt.specs.Verdict.{is_colon, named_id, told_by, transaction_of}
+use Rattle.gl_receipt.specs.Verdict.{is_colon, named_id, reported_by, transaction_of}
 use Rattle.gl_receipt.specs.declared.fault.ReceiptFault.{ReceiptFault}
 use Rattle.gl_receipt.specs.declared.fault.ReceiptFault.TheVariants.{Evidence}
 
@@ -33,7 +33,7 @@ no_colon view seqno k small short within =
           let digit = digits_decimal by_index view small k before in
           let same = get_or-append (decimal view) (46 ∷ decimal seqno) 0 k before in
           grind (arith, nat_tests))
-      | inr behind ↦ elim (cases_lt (length (decimal view)) k) [
+      | inr after ↦ elim (cases_lt (length (decimal view)) k) [
         | inr here ↦ (
             let at : k ≡ length (decimal view) = omega arith in
             rw (at, get_or-append_seam (decimal view) 46 (decimal seqno) 0) refl)
@@ -60,45 +60,45 @@ before_colon id rest is =
     position_or_len_is is_colon (text ++ 58 ∷ rest) (length text) 0 (omega arith) before (λ _. there) in
     rw place (take-append_seam text (58 ∷ rest))
 
-spelled : (a b : List ℕ) → ((codes "ce:" ++ a) ++ codes ":") ++ b ≡ 99 ∷ 101 ∷ 58 ∷ (a ++ 58 ∷ b)
-spelled a b = rw (append_assoc, append_assoc) refl
+encoded : (a b : List ℕ) → ((codes "ce:" ++ a) ++ codes ":") ++ b ≡ 99 ∷ 101 ∷ 58 ∷ (a ++ 58 ∷ b)
+encoded a b = rw (append_assoc, append_assoc) refl
 
 pub named-evidence : (identity : List ℕ) (id : TxId) → IsTxId id → named_id (evidence_text identity id) ≡ Ok id
 named-evidence identity id is =
     let digits : List ℕ = encode_lower (evidence_digest identity id) in
-    let text : evidence_text identity id ≡ 99 ∷ 101 ∷ 58 ∷ (text_of id ++ 58 ∷ digits) = spelled (text_of id) digits in
+    let text : evidence_text identity id ≡ 99 ∷ 101 ∷ 58 ∷ (text_of id ++ 58 ∷ digits) = encoded (text_of id) digits in
     ap (λ (t : List ℕ). parsed (before_first is_colon (drop 3 t))) text
     ∙ ap parsed (before_colon id digits is) ∙ parsed-text_of id is
 
-told_if : (identity text : List ℕ) (j id : TxId) (b : Bool) → same_bytes text (evidence_text identity j) ≡ b
+reported_if : (identity text : List ℕ) (j id : TxId) (b : Bool) → same_bytes text (evidence_text identity j) ≡ b
     → cond {A = Result TxId ReceiptFault} b (Ok j) (Err Evidence) ≡ Ok id → (j ≡ id) × (text ≡ evidence_text identity id)
-told_if identity text j id true same e =
+reported_if identity text j id true same e =
     let one : j ≡ id = cc in
     (one, (bytes_decides text (evidence_text identity j)).0 same ∙ ap (evidence_text identity) one)
-told_if identity text j id false other e = cc
+reported_if identity text j id false other e = cc
 
-told_ok : (identity text : List ℕ) (found : Result TxId TxIdFault) (id : TxId) → told_by identity text found ≡ Ok id
+reported_ok : (identity text : List ℕ) (found : Result TxId TxIdFault) (id : TxId) → reported_by identity text found ≡ Ok id
     → (found ≡ Ok id) × (text ≡ evidence_text identity id)
-told_ok identity text (Err fault) id h = cc
-told_ok identity text (Ok j) id h =
-    let told = told_if identity text j id (same_bytes text (evidence_text identity j)) refl h in
-    (ap Ok told.0, told.1)
+reported_ok identity text (Err fault) id h = cc
+reported_ok identity text (Ok j) id h =
+    let report = reported_if identity text j id (same_bytes text (evidence_text identity j)) refl h in
+    (ap Ok report.0, report.1)
 
 -- the transaction of a text is the one whose evidence it is
 pub transaction-evidence : (identity text : List ℕ) (id : TxId) → (transaction_of identity text ≡ Ok id) ↔ IsEvidence identity text id
 unfolding transaction_of
 transaction-evidence identity text id = (
   λ h.
-      let told = told_ok identity text (named_id text) id h in
-      record { named = (parsed_ok _ id told.0).0; spelled = told.1 },
+      let report = reported_ok identity text (named_id text) id h in
+      record { named = (parsed_ok _ id report.0).0; encoded = report.1 },
   λ is.
-      let found : named_id text ≡ Ok id = ap named_id is.spelled ∙ named-evidence identity id is.named in
-      let same : same_bytes text (evidence_text identity id) ≡ true = (bytes_decides text (evidence_text identity id)).1 is.spelled in
+      let found : named_id text ≡ Ok id = ap named_id is.encoded ∙ named-evidence identity id is.named in
+      let same : same_bytes text (evidence_text identity id) ≡ true = (bytes_decides text (evidence_text identity id)).1 is.encoded in
       rw (found, same) refl,
 )
 
 pub one_transaction : (identity other text : List ℕ) (a b : TxId) → IsEvidence identity text a → IsEvidence other text b → a ≡ b
 one_transaction identity other text a b is has =
-    let first : named_id text ≡ Ok a = ap named_id is.spelled ∙ named-evidence identity a is.named in
-    let second : named_id text ≡ Ok b = ap named_id has.spelled ∙ named-evidence other b has.named in
+    let first : named_id text ≡ Ok a = ap named_id is.encoded ∙ named-evidence identity a is.named in
+    let second : named_id text ≡ Ok b = ap named_id has.encoded ∙ named-evidence other b has.named in
     cc

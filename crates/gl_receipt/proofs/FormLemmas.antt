@@ -20,8 +20,8 @@ use Rattle.gl_receipt.specs.Tree.{hex_tree, step_tree, leaf_components_tree, pro
 use Rattle.gl_receipt.specs.declared.components.LeafComponents.{LeafComponents}
 use Rattle.gl_receipt.specs.declared.components.Signed.{Signed}
 use Rattle.gl_receipt.specs.declared.components.Receipt.{Receipt}
-use Rattle.gl_receipt.specs.declared.form.Misfit.{Misfit}
-use Rattle.gl_receipt.specs.declared.form.Misfit.TheVariants.{Shape}
+use Rattle.gl_receipt.specs.declared.form.FormError.{FormError}
+use Rattle.gl_receipt.specs.declared.form.FormError.TheVariants.{Shape}
 use Rattle.gl_receipt.proofs.HexLemmas.{all_lower}
 
 pub members_len-view : (es : List (String Global × Value)) → members_len (members_view es) ≡ length es
@@ -79,7 +79,7 @@ receipt_in-tree r is =
 -- the test of an object's members, by its two parts
 pub object_in-parts : (names : List (Bor (List ℕ))) (value : Data) (count each : Bool)
     → count ≡ has_count (length names) (as_object value) → each ≡ list_all (λ name. is_some (get name.now value)) names
-    → object_in (map (λ s. s.now) names) value ≡ cond {A = Result (Unit {0}) Misfit} (count && each) (Ok tt) (Err Shape)
+    → object_in (map (λ s. s.now) names) value ≡ cond {A = Result (Unit {0}) FormError} (count && each) (Ok tt) (Err Shape)
 object_in-parts names value count each e f =
     let size = length-map names (λ (s : Bor (List ℕ)). s.now) in
     let all = list_all-map (λ (name : List ℕ). is_some (get name value)) (λ (s : Bor (List ℕ)). s.now) names in

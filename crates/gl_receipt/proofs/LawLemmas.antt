@@ -21,8 +21,8 @@ same_or_not xs ys = elim (cases_Bool (bytes_eq xs ys)) [
 ]
 
 -- parts of one length are the same where the whole is
-same_front : (a b x y : List ℕ) → length a ≡ length b → a ++ x ≡ b ++ y → a ≡ b
-same_front a b x y len e = sym (take_at a x (length a) refl) ∙ ap (take (length a)) e ∙ take_at b y (length a) (sym len)
+same_prefix : (a b x y : List ℕ) → length a ≡ length b → a ++ x ≡ b ++ y → a ≡ b
+same_prefix a b x y len e = sym (take_at a x (length a) refl) ∙ ap (take (length a)) e ∙ take_at b y (length a) (sym len)
 
 same_rest : (a b x y : List ℕ) → length a ≡ length b → a ++ x ≡ b ++ y → x ≡ y
 same_rest a b x y len e = sym (drop_at a x (length a) refl) ∙ ap (drop (length a)) e ∙ drop_at b y (length a) (sym len)
@@ -42,10 +42,10 @@ same_input c d size other same =
     let flat : c.write_set_digest ++ (sha256 c.commit_evidence ++ c.claims_digest) ≡ d.write_set_digest ++ (sha256 d.commit_evidence ++ d.claims_digest) =
     sym (append_assoc c.write_set_digest (sha256 c.commit_evidence) c.claims_digest) ∙ same
     ∙ append_assoc d.write_set_digest (sha256 d.commit_evidence) d.claims_digest in
-    let write_set = same_front _ _ _ _ (size.write_set ∙ sym other.write_set) flat in
+    let write_set = same_prefix _ _ _ _ (size.write_set ∙ sym other.write_set) flat in
     let rest = same_rest _ _ _ _ (size.write_set ∙ sym other.write_set) flat in
     let long : length (sha256 c.commit_evidence) ≡ length (sha256 d.commit_evidence) = length-sha256 _ ∙ sym (length-sha256 _) in
-    let evidence = same_front _ _ _ _ long rest in
+    let evidence = same_prefix _ _ _ _ long rest in
     let claims = same_rest _ _ _ _ long rest in
     elim (same_or_not c.commit_evidence d.commit_evidence) [
       | inl one ↦ inl (parts_are c d claims one write_set)

@@ -51,8 +51,8 @@ evidence_utf8 identity id small short =
     let seqno : IsAscii (46 ∷ decimal id.seqno) = IsAscii-cons 46 (decimal id.seqno) (omega arith) (IsAscii-decimal id.seqno short) in
     let text : IsAscii (text_of id) = IsAscii-append (decimal id.view) (46 ∷ decimal id.seqno) (IsAscii-decimal id.view small) seqno in
     let digits : IsAscii (encode_lower (evidence_digest identity id)) = IsAscii-encode_with lower_digits (evidence_digest identity id) (ascii_from lower_digits refl) in
-    let front : IsAscii (codes "ce:" ++ text_of id) = IsAscii-append (codes "ce:") (text_of id) (ascii_from (codes "ce:") refl) text in
-    let most : IsAscii ((codes "ce:" ++ text_of id) ++ codes ":") = IsAscii-append (codes "ce:" ++ text_of id) (codes ":") front (ascii_from (codes ":") refl) in
+    let prefix : IsAscii (codes "ce:" ++ text_of id) = IsAscii-append (codes "ce:") (text_of id) (ascii_from (codes "ce:") refl) text in
+    let most : IsAscii ((codes "ce:" ++ text_of id) ++ codes ":") = IsAscii-append (codes "ce:" ++ text_of id) (codes ":") prefix (ascii_from (codes ":") refl) in
     IsUtf8-from_ascii (evidence_text identity id) (IsAscii-append ((codes "ce:" ++ text_of id) ++ codes ":") (encode_lower (evidence_digest identity id)) most digits)
 
 -- ---- the first that passes a test
@@ -153,7 +153,7 @@ accepted l id e s committed numbered later above there signs is =
     ap (λ (x : List ℕ). climb_of x (path_of first id.seqno)) (sym leaf) ∙ climbs first id.seqno (omega (arith, here.0)) (omega (arith, above, size)) in
     let message : List ℕ = signed_message (root_of first) s.view s.seqno (recorded_commit s.content) in
     record {
-      evidence = record { named = subst (λ (i : TxId). IsTxId i) same (is.named id.seqno e of.there); spelled = refl };
+      evidence = record { named = subst (λ (i : TxId). IsTxId i) same (is.named id.seqno e of.there); encoded = refl };
       signature =
           subst (λ (x : List ℕ). IsValid key (signed_message x s.view s.seqno (recorded_commit s.content)) (recorded_signature s.content)) (sym root)
           (subst (λ (k : List ℕ). IsValid k message (recorded_signature s.content)) (sym (same_key l id.seqno s later)) (is.signatures s.seqno s there signs));

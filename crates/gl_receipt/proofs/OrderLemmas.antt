@@ -39,9 +39,9 @@ found_at es n f order found =
     let place : f.seqno ≡ suc (n + j) = order (n + j) f there in
     (omega (arith, place), ap (entry_at es) place ∙ there)
 
-pub signature_behind : (es : List Entry) (n : ℕ) (o : Option (Bor Entry)) → AreInOrder es → option_copied o ≡ signature_above es n → IfSome o (λ e. n < e.now.seqno)
-signature_behind es n None order found = tt
-signature_behind es n (Some e) order found = (found_at es n e.now order (sym found)).0
+pub signature_after : (es : List Entry) (n : ℕ) (o : Option (Bor Entry)) → AreInOrder es → option_copied o ≡ signature_above es n → IfSome o (λ e. n < e.now.seqno)
+signature_after es n None order found = tt
+signature_after es n (Some e) order found = (found_at es n e.now order (sym found)).0
 
 pub signature_numbered : (es : List Entry) (n : ℕ) (o : Option (Bor Entry)) → AreInOrder es → option_copied o ≡ signature_above es n
     → IfSome o (λ e. entry_at es e.now.seqno ≡ option_copied o)

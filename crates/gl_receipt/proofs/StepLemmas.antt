@@ -15,7 +15,7 @@ use Rattle.gl_receipt.specs.Ranges.{HasDigest}
 use Rattle.gl_receipt.specs.Tree.{step_tree}
 use Rattle.gl_receipt.specs.Form.{step_in, steps_from}
 
--- what was read, behind the steps that are done
+-- what was read, after the steps that are done
 abbrev pub after : List Step → Result (List Step) FormsFault → Result (List Step) FormsFault
 after done (Ok steps) = Ok (done ++ steps)
 after done (Err fault) = Err fault

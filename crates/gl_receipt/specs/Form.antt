@@ -20,52 +20,52 @@ use Rattle.gl_merkle.specs.declared.tree.Step.TheVariants.{Left, Right}
 use Rattle.gl_receipt.specs.declared.components.LeafComponents.{LeafComponents}
 use Rattle.gl_receipt.specs.declared.components.Signed.{Signed}
 use Rattle.gl_receipt.specs.declared.components.Receipt.{Receipt}
-use Rattle.gl_receipt.specs.declared.form.Misfit.{Misfit}
-use Rattle.gl_receipt.specs.declared.form.Misfit.TheVariants.{Shape, Hex}
+use Rattle.gl_receipt.specs.declared.form.FormError.{FormError}
+use Rattle.gl_receipt.specs.declared.form.FormError.TheVariants.{Shape, Hex}
 
 -- What a function found, seen by view, is this reading.
-abbrev pub Finds : {X Y : Type 0} → (X → Y) → Result X Misfit → Result Y Misfit → Type 0
+abbrev pub Finds : {X Y : Type 0} → (X → Y) → Result X FormError → Result Y FormError → Type 0
 Finds view (Ok x) reading = reading ≡ Ok (view x)
-Finds view (Err misfit) reading = reading ≡ Err misfit
+Finds view (Err form_error) reading = reading ≡ Err form_error
 
 -- Values. One that is missing has the wrong shape.
 
-abbrev pub value_in : Option Data → Result Data Misfit
+abbrev pub value_in : Option Data → Result Data FormError
 value_in value = ok_or value Shape
 
-abbrev pub text_in : Option Data → Result (List ℕ) Misfit
+abbrev pub text_in : Option Data → Result (List ℕ) FormError
 text_in value = ok_or (option_and_then as_str value) Shape
 
-abbrev pub array_in : Option Data → Result Items Misfit
+abbrev pub array_in : Option Data → Result Items FormError
 array_in value = ok_or (option_and_then as_array value) Shape
 
 -- An integer below 2^64; any other number is no integer in the tree.
-abbrev pub u64_in : Option Data → Result ℕ Misfit
+abbrev pub u64_in : Option Data → Result ℕ FormError
 u64_in value = ok_or (option_and_then as_u64 (option_and_then as_number value)) Shape
 
-abbrev pub below : ℕ → ℕ → Result ℕ Misfit
+abbrev pub below : ℕ → ℕ → Result ℕ FormError
 below limit n = if nat_lt n limit then Ok n else Err Shape
 
-abbrev pub u32_in : Option Data → Result ℕ Misfit
+abbrev pub u32_in : Option Data → Result ℕ FormError
 u32_in value = u64_in value >>= below (2 ^ 32)
 
 -- A digit of lower-case hexadecimal: `0` to `9`, `a` to `f`.
 abbrev pub is_lower_digit : ℕ → Bool
 is_lower_digit c = (nat_le 48 c && nat_le c 57) || (nat_le 97 c && nat_le c 102)
 
-abbrev pub lower_digits : List ℕ → Result (List ℕ) Misfit
+abbrev pub lower_digits : List ℕ → Result (List ℕ) FormError
 lower_digits text = if list_all is_lower_digit text then Ok text else Err Hex
 
-abbrev pub decoded : Result (List ℕ) FromHexError → Result (List ℕ) Misfit
+abbrev pub decoded : Result (List ℕ) FromHexError → Result (List ℕ) FormError
 decoded (Ok bytes) = Ok bytes
 decoded (Err e) = Err Hex
 
 -- The bytes of a text in lower-case hexadecimal, two digits each.
-abbrev pub bytes_in : Option Data → Result (List ℕ) Misfit
+abbrev pub bytes_in : Option Data → Result (List ℕ) FormError
 bytes_in value = text_in value >>= lower_digits >>= λ digits. decoded (decode_of digits)
 
 -- 32 of them.
-abbrev pub digest_in : Option Data → Result (List ℕ) Misfit
+abbrev pub digest_in : Option Data → Result (List ℕ) FormError
 digest_in value = text_in value >>= lower_digits >>= λ digits. decoded (decode_sized digits 32)
 
 -- It is an object with so many members.
@@ -79,24 +79,24 @@ abbrev pub has_members : List (List ℕ) → Data → Bool
 has_members names value =
     has_count (length names) (as_object value) && list_all (λ name. is_some (get name value)) names
 
-abbrev pub object_in : List (List ℕ) → Data → Result (Unit {0}) Misfit
+abbrev pub object_in : List (List ℕ) → Data → Result (Unit {0}) FormError
 object_in names value = if has_members names value then Ok tt else Err Shape
 
 -- Places
 
 -- Memory ran out, or this is the fault.
-abbrev pub IsToldAs : OrNoMemory FormsFault → FormsFault → Type 0
-IsToldAs NoMemory fault = Unit {0}
-IsToldAs (Fault told) fault = told ≡ fault
+abbrev pub IsReportedAs : OrNoMemory FormsFault → FormsFault → Type 0
+IsReportedAs NoMemory fault = Unit {0}
+IsReportedAs (Fault report) fault = report ≡ fault
 
 -- What is wrong with a value, told with its path.
-abbrev pub fault_at : List ℕ → Misfit → FormsFault
+abbrev pub fault_at : List ℕ → FormError → FormsFault
 fault_at path Shape = faults.Shape path
 fault_at path Hex = faults.Hex path
 
-abbrev pub at : {X : Type 0} → List ℕ → Result X Misfit → Result X FormsFault
+abbrev pub at : {X : Type 0} → List ℕ → Result X FormError → Result X FormsFault
 at path (Ok x) = Ok x
-at path (Err misfit) = Err (fault_at path misfit)
+at path (Err form_error) = Err (fault_at path form_error)
 
 -- The path of a member inside members.
 abbrev pub path_of : List (List ℕ) → List ℕ
@@ -107,12 +107,12 @@ abbrev pub step_path : ℕ → List (List ℕ) → List ℕ
 step_path index names = fold member_of (item_of (path_of (codes "proof" ∷ [])) index) names
 
 -- A member of the whole, in its form.
-abbrev pub outer_member_in : {X : Type 0} → (Option Data → Result X Misfit) → List ℕ → Data
+abbrev pub outer_member_in : {X : Type 0} → (Option Data → Result X FormError) → List ℕ → Data
     → Result X FormsFault
 outer_member_in form name value = at (path_of (name ∷ [])) (form (get name value))
 
 -- A member of a member, in its form.
-abbrev pub member_in : {X : Type 0} → (Option Data → Result X Misfit) → List ℕ → List ℕ → Data
+abbrev pub member_in : {X : Type 0} → (Option Data → Result X FormError) → List ℕ → List ℕ → Data
     → Result X FormsFault
 member_in form object name value = at (path_of (object ∷ name ∷ [])) (form (get name value))
 

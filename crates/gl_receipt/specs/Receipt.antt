@@ -26,7 +26,7 @@ message_of r = signed_message (root_of r) r.signed.view r.signed.seqno r.signed.
 -- The text is the commit evidence of this transaction of the service with this key.
 pub record IsEvidence (identity text : List ℕ) (id : TxId) : Type 0 where
   pub named : IsTxId id
-  pub spelled : text ≡ evidence_text identity id
+  pub encoded : text ≡ evidence_text identity id
 
 -- The receipt is accepted for this transaction under this key: the evidence is its own, and the
 -- signature of the root to which its path leads is valid (RFC 8554, section 6.3).

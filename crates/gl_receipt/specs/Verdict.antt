@@ -18,20 +18,19 @@ use Rattle.gl_receipt.specs.declared.fault.ReceiptFault.TheVariants.{Evidence, H
 abbrev pub is_colon : ℕ → Bool
 is_colon byte = byte == 58
 
--- The identifier that a text of commit evidence names: it stands behind `ce:`, up to the next
--- colon.
+-- The identifier that a text of commit evidence names: it stands after `ce:`, up to the next colon.
 abbrev pub named_id : List ℕ → Result TxId TxIdFault
 named_id text = parsed (before_first is_colon (drop 3 text))
 
 -- The text has to be the commit evidence of the transaction that it names.
-abbrev pub told_by : List ℕ → List ℕ → Result TxId TxIdFault → Result TxId ReceiptFault
-told_by identity text (Err fault) = Err Evidence
-told_by identity text (Ok id) =
+abbrev pub reported_by : List ℕ → List ℕ → Result TxId TxIdFault → Result TxId ReceiptFault
+reported_by identity text (Err fault) = Err Evidence
+reported_by identity text (Ok id) =
     if same_bytes text (evidence_text identity id) then Ok id else Err Evidence
 
 -- The transaction of the service with this key whose commit evidence the text is.
 unfoldable pub transaction_of : List ℕ → List ℕ → Result TxId ReceiptFault
-transaction_of identity text = told_by identity text (named_id text)
+transaction_of identity text = reported_by identity text (named_id text)
 
 -- What the signature's verdict means for the receipt.
 abbrev pub of_signature : Result (Unit {0}) HssFault → Result (Unit {0}) ReceiptFault

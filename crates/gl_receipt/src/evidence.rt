@@ -23,7 +23,7 @@ fn up_to_colon(text: &[u8]) -> &[u8]
     }
 }
 
-/// What stands behind the first three bytes, up to the next colon.
+/// What stands after the first three bytes, up to the next colon.
 fn id_text(text: &[u8]) -> &[u8]
     ensures { result.now ≡ before_first is_colon (drop 3 text.now) }
 {

@@ -2,7 +2,7 @@
 
 ghost use Rattle.std.specs.Prelude.{◌≡◌, ◌++◌, map, fold, option_map, is_some, IfOk, OnOk, take, vec_len};
 ghost use Rattle.gl_base.specs.Json.{member_of};
-ghost use Rattle.gl_receipt.specs.Form.{Finds, IsToldAs, value_in, text_in, array_in, u64_in, u32_in, lower_digits, digest_in, has_count, object_in, fault_at, path_of, step_path, is_lower_digit};
+ghost use Rattle.gl_receipt.specs.Form.{Finds, IsReportedAs, value_in, text_in, array_in, u64_in, u32_in, lower_digits, digest_in, has_count, object_in, fault_at, path_of, step_path, is_lower_digit};
 ghost use Rattle.serde_json.specs.Find.{get, as_object};
 ghost use Rattle.serde_json.specs.View.{view, items_view};
 ghost use Rattle.std.specs.List.{list_all};
@@ -15,7 +15,7 @@ use std::alloc::{AllocError, Global};
 
 /// What is wrong with a value, wherever it stands.
 #[derive(Clone, Copy, Debug, PartialEq, Eq)]
-pub(crate) enum Misfit {
+pub(crate) enum FormError {
     Shape,
     Hex,
 }
@@ -46,70 +46,70 @@ fn step_path(alloc: Global, index: u64, names: &[&str]) -> Result<Pointer, Alloc
     Ok(path)
 }
 
-impl Misfit {
+impl FormError {
     /// The fault with a path.
-    fn told(self, path: Pointer) -> FormsFault
+    fn report(self, path: Pointer) -> FormsFault
         ensures { result ≡ fault_at path self }
     {
         match self {
-            Misfit::Shape => FormsFault::Shape { path },
-            Misfit::Hex => FormsFault::Hex { path },
+            FormError::Shape => FormsFault::Shape { path },
+            FormError::Hex => FormsFault::Hex { path },
         }
     }
 
-    /// The fault of a member inside members, or want of memory.
+    /// The fault of a member inside members, or running out of memory.
     pub(crate) fn at(self, alloc: Global, names: &[&str]) -> OrNoMemory<FormsFault>
-        ensures { IsToldAs result (fault_at (path_of (map (λ s. s.now) names.now)) self) }
+        ensures { IsReportedAs result (fault_at (path_of (map (λ s. s.now) names.now)) self) }
     {
         match path_of(alloc, names) {
-            Ok(path) => OrNoMemory::Fault(self.told(path)),
+            Ok(path) => OrNoMemory::Fault(self.report(path)),
             Err(_) => OrNoMemory::NoMemory,
         }
     }
 
-    /// The fault of a member of an element of the proof, or want of memory.
+    /// The fault of a member of an element of the proof, or running out of memory.
     pub(crate) fn in_step(self, alloc: Global, index: u64, names: &[&str]) -> OrNoMemory<FormsFault>
-        ensures { IsToldAs result (fault_at (step_path index (map (λ s. s.now) names.now)) self) }
+        ensures { IsReportedAs result (fault_at (step_path index (map (λ s. s.now) names.now)) self) }
     {
         match step_path(alloc, index, names) {
-            Ok(path) => OrNoMemory::Fault(self.told(path)),
+            Ok(path) => OrNoMemory::Fault(self.report(path)),
             Err(_) => OrNoMemory::NoMemory,
         }
     }
 }
 
 /// The value. One that is missing has the wrong shape, here and below.
-pub(crate) fn value_in(value: Option<&Value>) -> Result<&Value, Misfit>
+pub(crate) fn value_in(value: Option<&Value>) -> Result<&Value, FormError>
     ensures { Finds (λ v. view v.now) result (value_in (option_map (λ v. view v.now) value.entry)) }
 {
-    value.ok_or(Misfit::Shape)
+    value.ok_or(FormError::Shape)
 }
 
-pub(crate) fn text_in(value: Option<&Value>) -> Result<&str, Misfit>
+pub(crate) fn text_in(value: Option<&Value>) -> Result<&str, FormError>
     ensures { Finds (λ s. s.now) result (text_in (option_map (λ v. view v.now) value.entry)) }
 {
-    value.and_then(Value::as_str).ok_or(Misfit::Shape)
+    value.and_then(Value::as_str).ok_or(FormError::Shape)
 }
 
-pub(crate) fn array_in(value: Option<&Value>) -> Result<&Vec<Value>, Misfit>
+pub(crate) fn array_in(value: Option<&Value>) -> Result<&Vec<Value>, FormError>
     ensures { Finds (λ v. items_view v.now.items) result
         (array_in (option_map (λ v. view v.now) value.entry)) }
 {
-    value.and_then(Value::as_array).ok_or(Misfit::Shape)
+    value.and_then(Value::as_array).ok_or(FormError::Shape)
 }
 
-pub(crate) fn u64_in(value: Option<&Value>) -> Result<u64, Misfit>
+pub(crate) fn u64_in(value: Option<&Value>) -> Result<u64, FormError>
     ensures { result ≡ u64_in (option_map (λ v. view v.now) value.entry) }
 {
-    value.and_then(Value::as_u64).ok_or(Misfit::Shape)
+    value.and_then(Value::as_u64).ok_or(FormError::Shape)
 }
 
-pub(crate) fn u32_in(value: Option<&Value>) -> Result<u32, Misfit>
+pub(crate) fn u32_in(value: Option<&Value>) -> Result<u32, FormError>
     ensures { result ≡ u32_in (option_map (λ v. view v.now) value.entry) }
 {
     let number = u64_in(value)?;
     if number > 0xffff_ffff {
-        return Err(Misfit::Shape);
+        return Err(FormError::Shape);
     }
     Ok(number as u32)
 }
@@ -122,22 +122,22 @@ fn is_lower_hex(text: &[u8]) -> bool
 }
 
 /// The text, if it has digits of lower-case hexadecimal alone.
-pub(crate) fn lower_digits(text: &str) -> Result<&str, Misfit>
+pub(crate) fn lower_digits(text: &str) -> Result<&str, FormError>
     ensures { Finds (λ s. s.now) result (lower_digits text.now) }
 {
     if is_lower_hex(text.as_bytes()) {
         Ok(text)
     } else {
-        Err(Misfit::Hex)
+        Err(FormError::Hex)
     }
 }
 
 /// The 32 bytes of a text in lower-case hexadecimal.
-pub(crate) fn digest_in(value: Option<&Value>) -> Result<Digest, Misfit>
+pub(crate) fn digest_in(value: Option<&Value>) -> Result<Digest, FormError>
     ensures { result ≡ digest_in (option_map (λ v. view v.now) value.entry) }
 {
     let digits = lower_digits(text_in(value)?)?;
-    <Digest as FromHex>::from_hex(digits).map_err(|_| Misfit::Hex)
+    <Digest as FromHex>::from_hex(digits).map_err(|_| FormError::Hex)
 }
 
 fn has_count(value: &Value, count: usize) -> bool
@@ -156,12 +156,12 @@ fn has_each(value: &Value, names: &[&str]) -> bool
 }
 
 /// Nothing, if the value is an object with exactly these members.
-pub(crate) fn object_in(names: &[&str], value: &Value) -> Result<(), Misfit>
+pub(crate) fn object_in(names: &[&str], value: &Value) -> Result<(), FormError>
     ensures { result ≡ object_in (map (λ s. s.now) names.now) (view value.now) }
 {
     if has_count(value, names.len()) && has_each(value, names) {
         Ok(())
     } else {
-        Err(Misfit::Shape)
+        Err(FormError::Shape)
     }
 }

@@ -24,8 +24,8 @@ use Rattle.gl_ledger.specs.Recordings.{requests_of}
 use Rattle.gl_ledger.specs.Recovery.{recovery_entry, recovery_result, where_accepted}
 use Rattle.gl_ledger.specs.declared.refusal.Refusal.{Refusal}
 use Rattle.gl_ledger.specs.declared.refusal.Refusal.TheVariants as refusals
-use Rattle.gl_ledger.proofs.Recovering.{recovery_made}
-use Rattle.gl_recovery.specs.Owed.{first_endorsement, unless_refused}
+use Rattle.gl_ledger.proofs.RecoveryLaws.{recovery_made}
+use Rattle.gl_recovery.specs.ExpectedOutput.{first_endorsement, unless_refused}
 use Rattle.gl_recovery.specs.Refounded.{IsOfRecovery}
 
 -- ---- what is made
@@ -85,9 +85,9 @@ abbrev AnyOfRecovery : Option GovernanceRefusal → Type 0
 AnyOfRecovery None = Unit {0}
 AnyOfRecovery (Some why) = IsOfRecovery (refusals.Governance why)
 
-either : (first behind : Option GovernanceRefusal) → AnyOfRecovery first → AnyOfRecovery behind → AnyOfRecovery (first orelse behind)
-either None behind a b = b
-either (Some why) behind a b = a
+either : (first after : Option GovernanceRefusal) → AnyOfRecovery first → AnyOfRecovery after → AnyOfRecovery (first orelse after)
+either None after a b = b
+either (Some why) after a b = a
 
 for_cause : (bad : Bool) (cause : Cause) → AnyOfRecovery (where_is bad (founding_fault cause))
 for_cause true cause = tt

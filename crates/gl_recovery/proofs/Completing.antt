@@ -1,4 +1,5 @@
--- A recovered service opens at a share alone, with which those that are given give the secret that was dealt.
+-- A recovered service opens at a share alone, with which those that are given give the secret that
+-- was dealt.
 use Rattle.std.proofs.Common.{◌≡◌, ℕ, suc, ◌<◌, ◌≤◌, nat_le, nat_lt, List, [], ◌∷◌, ◌++◌, map, length, length-append, cond, Bool, true, false, not, if◌then◌else◌, Option, None, Some, refl, sym, ◌∙◌, ap, ap₂, subst, arith}
 use Rattle.std.specs.List.{AllByRecursion, list_any, cons_option}
 use Rattle.std.specs.Option.{option_or}
@@ -38,7 +39,7 @@ use Rattle.gl_gov_rules.specs.Changes.{acceptance_changes, act_changes, ballot_c
 use Rattle.gl_gov_rules.specs.Governed.{Follows, IsAbove, IsGoverned, is_founding, is_nothing, is_recovery}
 use Rattle.gl_gov_rules.specs.Proposals.{proposal}
 use Rattle.gl_gov_rules.specs.Refusals.{is_dealt, secret_refusal, waiting_refusal}
-use Rattle.gl_gov_rules.specs.Service.{clears_shares, dealing, is_recovered, last_clearing, service_state, sets_state, share_behind, share_in, shares_given, threshold_of}
+use Rattle.gl_gov_rules.specs.Service.{clears_shares, dealing, is_recovered, last_clearing, service_state, sets_state, share_after, share_in, shares_given, threshold_of}
 use Rattle.gl_gov_rules.specs.Service as service
 use Rattle.gl_gov_rules.specs.Tally.{is_accepted, is_rejected, tally}
 use Rattle.gl_gov_rules.proofs.HistoryLists.{AreBelow, changes_below}
@@ -46,9 +47,9 @@ use Rattle.gl_gov_rules.proofs.KeptIdentity.{recovered_kept}
 use Rattle.gl_gov_rules.proofs.LastSet.{last_set-append, last_set-cons}
 use Rattle.gl_gov_rules.proofs.NoneStands.{not_bad, not_denied}
 use Rattle.gl_gov_rules.proofs.Prefixes.{changes_more, governed_last}
-use Rattle.gl_gov_rules.proofs.RowOfService.{founded_row, state_told}
+use Rattle.gl_gov_rules.proofs.RowOfService.{founded_row, state_reported}
 use Rattle.gl_recovery.specs.Completion.{Completes, GiveSecret}
-use Rattle.gl_recovery.proofs.SharesGiven.{IsAccepted, are_given, dealing_kept, gives_accepted, shares_kept}
+use Rattle.gl_recovery.proofs.SubmittedShares.{IsAccepted, are_given, dealing_kept, gives_accepted, shares_kept}
 
 -- ---- which changes open a recovered service
 
@@ -175,7 +176,7 @@ cleared_before rs r some above = last_below r.seqno (history rs).changes (some_b
 
 founded_state : (rs : List Recorded) → is_nothing rs ≡ false → IsGoverned rs → (state : ServiceState) × (service_state (history rs) ≡ Some state)
 founded_state [] some all = absurd cc
-founded_state (x ∷ rs) some all = let row = founded_row x rs all in (row.0.state, state_told (x ∷ rs) row.0 row.1)
+founded_state (x ∷ rs) some all = let row = founded_row x rs all in (row.0.state, state_reported (x ∷ rs) row.0 row.1)
 
 waiting_is : (state : ServiceState) → waiting_refusal (Some state) ≡ None → state ≡ services.WaitingForRecoveryShares
 waiting_is services.Opening none = absurd cc
@@ -185,8 +186,8 @@ waiting_is services.WaitingForRecoveryShares none = refl
 -- ---- a share that completes the threshold
 
 module _ (rs : List Recorded) (r : Recorded) (all : IsGoverned (rs ++ r ∷ [])) (m : MemberRequest) (is : r.request ≡ requests.Member m) (last : IsLastShare (history rs) m.act) where
-  front : IsGoverned rs
-  front = (governed_last rs r all).0
+  prefix : IsGoverned rs
+  prefix = (governed_last rs r all).0
 
   follows : Follows rs r
   follows = (governed_last rs r all).1
@@ -213,8 +214,8 @@ module _ (rs : List Recorded) (r : Recorded) (all : IsGoverned (rs ++ r ∷ []))
   kept : list_any clears_shares (changes_of (history rs) r) ≡ false
   kept = ap (list_any clears_shares) brought
 
-  behind : share_behind (last_clearing (history rs)) r ≡ Some share
-  behind = go (nat_lt (last_clearing (history rs)) r.seqno) refl
+  after : share_after (last_clearing (history rs)) r ≡ Some share
+  after = go (nat_lt (last_clearing (history rs)) r.seqno) refl
     where
       in_request : share_in r.request ≡ Some share
       in_request = ap share_in is ∙ ap (service.share_in_act m.member) last.gives
@@ -224,11 +225,11 @@ module _ (rs : List Recorded) (r : Recorded) (all : IsGoverned (rs ++ r ∷ []))
       go false test = absurd (let low = cleared_before rs r some follows.above in grind (arith, nat_tests))
 
   given : shares_given (history (rs ++ r ∷ [])) ≡ old ++ share ∷ []
-  given = shares_kept rs r kept ∙ ap (λ (o : Option Share). old ++ cons_option o []) behind
+  given = shares_kept rs r kept ∙ ap (λ (o : Option Share). old ++ cons_option o []) after
 
   waited : service_state (history rs) ≡ Some services.WaitingForRecoveryShares
   waited =
-      let state = founded_state rs some front in
+      let state = founded_state rs some prefix in
       state.1 ∙ ap Some (waiting_is state.0 (ap waiting_refusal (sym state.1) ∙ accepted.waiting))
 
   record IsDealt : Type 0 where

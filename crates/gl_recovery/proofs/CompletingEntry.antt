@@ -3,7 +3,7 @@ use Rattle.std.proofs.Common.{◌≡◌, ℕ, ◌+◌, List, [], ◌∷◌, ◌+
 use Rattle.gl_entry.specs.declared.entry.Content.{Content}
 use Rattle.gl_entry.specs.declared.entry.Content.TheVariants as content
 use Rattle.gl_entry.specs.declared.entry.Entry.{Entry}
-use Rattle.gl_requests.specs.Reading.{request_in}
+use Rattle.gl_requests.specs.Parsing.{request_in}
 use Rattle.gl_requests.specs.declared.genesis.ServiceState.TheVariants.{Open}
 use Rattle.gl_requests.specs.declared.request.GovernanceRequest.{GovernanceRequest}
 use Rattle.gl_gov_rules.specs.declared.change.Recorded.{Recorded}
@@ -15,7 +15,7 @@ use Rattle.gl_ledger.specs.Recordings.{recorded_at, recorded_in, requests_of}
 use Rattle.gl_ledger.specs.Sound.{IsSound}
 use Rattle.gl_ledger.proofs.Gathering.{requests-push}
 use Rattle.gl_ledger.proofs.Governed.{governed}
-use Rattle.gl_recovery.specs.Completion.{CompletesBehind, governance_of}
+use Rattle.gl_recovery.specs.Completion.{CompletesAfter, governance_of}
 use Rattle.gl_recovery.proofs.Completing.{completes}
 
 -- an entry records a request, or none
@@ -29,11 +29,11 @@ one_or_none P none one seqno (content.Governance bytes) = go (request_in bytes)
     go None = none
     go (Some g) = one (record { seqno = seqno; request = g })
 
-pub completes_behind : (layers : Layers) (ledger : List Entry) (e : Entry) → IsSound layers (ledger ++ e ∷ []) → is_recovered (governance_of (ledger ++ e ∷ [])) ≡ true →
-    (service_state (governance_of ledger) ≡ Some Open → ⊥) → service_state (governance_of (ledger ++ e ∷ [])) ≡ Some Open → CompletesBehind ledger e
-completes_behind layers ledger e sound recovered closed opened =
+pub completes_after : (layers : Layers) (ledger : List Entry) (e : Entry) → IsSound layers (ledger ++ e ∷ []) → is_recovered (governance_of (ledger ++ e ∷ [])) ≡ true →
+    (service_state (governance_of ledger) ≡ Some Open → ⊥) → service_state (governance_of (ledger ++ e ∷ [])) ≡ Some Open → CompletesAfter ledger e
+completes_after layers ledger e sound recovered closed opened =
     one_or_none
-    (λ (recorded : List Recorded). recorded_in (length ledger + 1) e.content ≡ recorded → CompletesBehind ledger e)
+    (λ (recorded : List Recorded). recorded_in (length ledger + 1) e.content ≡ recorded → CompletesAfter ledger e)
     (λ (none : recorded_in (length ledger + 1) e.content ≡ []).
     let same : requests_of (ledger ++ e ∷ []) ≡ requests_of ledger = requests-push ledger e ∙ ap (λ (rs : List Recorded). requests_of ledger ++ rs) none ∙ append-nil (requests_of ledger) in
     absurd (closed (ap (λ (rs : List Recorded). service_state (history rs)) (sym same) ∙ opened)))

@@ -1,4 +1,4 @@
--- The entry of the signature that opens a service anew is small.
+-- The entry of the signature that opens a service again is small.
 use Rattle.std.proofs.Common.{◌≡◌, ℕ, ◌+◌, ◌≤◌, ◌^◌, List, [], ◌++◌, length, Some, ap, arith, length-append}
 use Rattle.std.specs.List.{flat_map}
 use Rattle.gl_base.specs.LittleEndian.{little_endian}

@@ -31,7 +31,7 @@ pub record GiveSecret (d : Dealing) (shares : List Share) : Type 0 where
   pub own : AreOwn d shares
   pub secret : sha256 (joined shares) ≡ d.secret_digest
 
--- A request completes a recovery behind others: while the service waits for shares, a member gives
+-- A request completes a recovery after others: while the service waits for shares, a member gives
 -- one, and with it those that are given give the secret that was dealt.
 pub record Completes (before : List Recorded) (r : Recorded) : Type 0 where
   pub by : MemberRequest
@@ -49,8 +49,8 @@ pub record Completes (before : List Recorded) (r : Recorded) : Type 0 where
 abbrev pub governance_of : List Entry → History
 governance_of ledger = history (requests_of ledger)
 
--- An entry behind a ledger records a request that completes the recovery.
-abbrev pub CompletesBehind : List Entry → Entry → Type 0
-CompletesBehind ledger e =
+-- An entry after a ledger records a request that completes the recovery.
+abbrev pub CompletesAfter : List Entry → Entry → Type 0
+CompletesAfter ledger e =
     (r : Recorded) × (recorded_in (length ledger + 1) e.content ≡ r ∷ [])
     × Completes (requests_of ledger) r

@@ -1,8 +1,8 @@
 pub mod Finish
 pub mod Completion
 pub mod OldLedger
-pub mod Owed
+pub mod ExpectedOutput
 pub mod Answers
-pub mod Front
-pub mod Recovering
+pub mod SettingsPrefix
+pub mod RecoveryOutput
 pub mod Refounded

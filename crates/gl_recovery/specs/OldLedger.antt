@@ -1,4 +1,4 @@
--- The old ledger of a service that is to be founded anew, and what of it is kept.
+-- The old ledger of a service that is to be recovered, and what of it is kept.
 use Rattle.std.specs.Prelude.{◌≡◌, ℕ, suc, ◌+◌, ◌^◌, List, [], ◌∷◌, Bool, true, false, Option, None, Some, Result, Ok, Err, length, take, nat_le, nat_lt, ◌==◌, if◌then◌else◌}
 use Rattle.gl_base.specs.TxId.{last_seqno}
 use Rattle.gl_base.specs.declared.or_no_memory.OrNoMemory.{OrNoMemory}
@@ -40,31 +40,31 @@ valid_ledger file =
     unless_unread (suc (length file.entries)) file.fault (
     unless_empty file.entries (Ok file.entries)))
 
--- An entry is refused for the first rule that it breaks behind a ledger, at its seqno; or memory
--- ran out.
+-- An entry is refused for the first rule that it breaks after a ledger, at its seqno; or memory ran
+-- out.
 abbrev pub IsRefused : List Entry → Entry → OrNoMemory RecoveryFault → Type 0
 IsRefused ledger e NoMemory = Unit {0}
 IsRefused ledger e (Fault fault) =
     (b : Broken) × (broken service_layers ledger e ≡ Some b)
     × (fault ≡ faults.Audit (suc (length ledger)) b.rule)
 
--- Whether the file is read to its end before this is told: not where an entry breaks a rule, where
--- the reading stops, nor where the source failed.
+-- Whether the file is read to its end before this is reported: not where an entry breaks a rule,
+-- where the reading stops, nor where the source failed.
 abbrev pub is_read_whole : RecoveryFault → Bool
 is_read_whole (faults.Audit seqno rule) = false
 is_read_whole faults.SourceFailed = false
 is_read_whole other = true
 
--- A ledger up to its last signature, this included: what stands behind it is signed by nobody.
-abbrev pub signed_front : List Entry → List Entry
-signed_front ledger = take (last_signed ledger) ledger
+-- A ledger up to its last signature, this included: what stands after it is signed by nobody.
+abbrev pub signed_prefix : List Entry → List Entry
+signed_prefix ledger = take (last_signed ledger) ledger
 
 abbrev pub with_signature : List Entry → Result (List Entry) RecoveryFault
 with_signature ledger =
-    if last_signed ledger == 0 then Err faults.NothingSigned else Ok (signed_front ledger)
+    if last_signed ledger == 0 then Err faults.NothingSigned else Ok (signed_prefix ledger)
 
--- Behind a ledger a view is left, that of a recovery, and two seqnos: that of the recovery, and
--- that of the signature that opens the service.
+-- After a ledger a view is left, that of a recovery, and two seqnos: that of the recovery, and that
+-- of the signature that opens the service.
 abbrev pub has_room : List Entry → Result (Unit {0}) RecoveryFault
 has_room ledger =
     if nat_le (2 ^ 32) (recovery_view ledger) then Err faults.ViewLimit

@@ -1,4 +1,4 @@
-//! Why no service is founded anew.
+//! Why no service is recovered.
 
 ghost use Rattle.std.specs.Prelude.{◌≡◌};
 ghost use Rattle.gl_base.specs.declared.or_no_memory.OrNoMemory.TheVariants.{Fault};
@@ -7,7 +7,7 @@ use gl_base::OrNoMemory;
 use gl_gov_rules::Cause;
 use thiserror::Error;
 
-/// Why no service is founded anew behind an old ledger.
+/// Why no service is recovered after an old ledger.
 #[derive(Clone, Copy, Debug, PartialEq, Eq, Error)]
 pub enum RecoveryFault {
     /// The old ledger isn't valid: the entry with this seqno is the first that breaks a rule of the
@@ -20,10 +20,10 @@ pub enum RecoveryFault {
     /// The last signature of the old ledger is of the last view.
     #[error("no view is left")]
     ViewLimit,
-    /// Behind the last signature of the old ledger fewer than two seqnos are left.
+    /// After the last signature of the old ledger fewer than two seqnos are left.
     #[error("no two seqnos are left")]
     SeqnoLimit,
-    /// The recovery can't found the service anew by its nodes. The index is 0, that of a founding.
+    /// The recovery can't recover the service by its nodes. The index is 0, that of a founding.
     #[error("the action {index} is bad: {cause}")]
     BadAction { index: u64, cause: Cause },
     /// A node of the recovery has no valid endorsement by its key.

@@ -22,7 +22,7 @@ pub enum FinishFault {
 }
 
 /// Whether the recovery of a service is finished, so that it is open again. It isn't exactly while
-/// the service waits for shares, where it tells how many are given and how many the dealing asks
+/// the service waits for shares, where it reports how many are given and how many the dealing asks
 /// for; nor where the service has no recovery to finish. Takes no memory.
 #[tactic(auto, unfolding(crate::specs::Finish::finished))]
 pub fn finish(gov: &GovState) -> Result<(), FinishFault>

@@ -18,21 +18,21 @@ ghost use Rattle.gl_ledger.specs.Recovery.{recovery_result};
 ghost use Rattle.gl_ledger.specs.Sound.{IsSound};
 ghost use Rattle.gl_ledger.specs.declared.refusal.Refusal.{Refusal};
 ghost use Rattle.gl_entry.specs.LedgerFile.{ledger_file};
-ghost use Rattle.gl_recovery.specs.Completion.{Completes, CompletesBehind, governance_of};
-ghost use Rattle.gl_recovery.specs.Owed.{IsFirstKey, recovery_owed};
-ghost use Rattle.gl_recovery.specs.Recovering.{recover_owed};
+ghost use Rattle.gl_recovery.specs.Completion.{Completes, CompletesAfter, governance_of};
+ghost use Rattle.gl_recovery.specs.ExpectedOutput.{IsFirstKey, expected_recovery};
+ghost use Rattle.gl_recovery.specs.RecoveryOutput.{expected_recover};
 ghost use Rattle.gl_recovery.specs.Refounded.{IsOfRecovery, IsRecovered, IsRefounded};
 
 /// What the start of a recovery gives. The ledger that is owed is valid: the old one, which is
 /// valid too, up to its last signature, with the recovery and the signature of the first node that
-/// it names behind it; the check of an opening takes it. The recovery's key is in force in it, and
+/// it names after it; the check of an opening takes it. The recovery's key is in force in it, and
 /// the nodes that it names are trusted, and no others. A recovery is refused for its nodes, for an
 /// endorsement or for its size, and for nothing else.
 pub fn law_of_start()
     ensures refounded { (r : Recovery) (by : PrivateKey) (leaf : ℕ) (bytes : List ℕ)
         (ledger : List Entry) → is_recovery r ≡ true → IsFirstKey by r.nodes →
         IsKey (public_of by) → leaf < 2 ^ height by.types →
-        recovery_owed r by leaf bytes ≡ Ok ledger →
+        expected_recovery r by leaf bytes ≡ Ok ledger →
         IsRefounded r by (ledger_file bytes).entries ledger }
     ensures refusals { (r : Recovery) (ledger : List Entry) (why : Refusal) →
         recovery_result r ledger ≡ Err why → IsOfRecovery why }
@@ -40,10 +40,10 @@ pub fn law_of_start()
 
 /// What a recovery from a source and a key file tells. The bytes of the source are settings and an
 /// old ledger; told are the frames of a ledger as `law_of_start` has it, by the recovery that the
-/// settings name and behind that old ledger, which the node with the file's key opens.
+/// settings name and after that old ledger, which the node with the file's key opens.
 pub fn law_of_recover()
-    ensures { (state : Durable) (given told : List ℕ) →
-        recover_owed state given ≡ Ok told → IsRecovered state.key given told }
+    ensures { (state : Durable) (given reported : List ℕ) →
+        expected_recover state given ≡ Ok reported → IsRecovered state.key given reported }
 {}
 
 /// A recovered service opens at a share alone: one with which at least as many distinct members'
@@ -60,5 +60,5 @@ pub fn law_of_recovery()
         is_recovered (governance_of (ledger ++ e ∷ [])) ≡ true →
         (service_state (governance_of ledger) ≡ Some Open → ⊥) →
         service_state (governance_of (ledger ++ e ∷ [])) ≡ Some Open →
-        CompletesBehind ledger e }
+        CompletesAfter ledger e }
 {}

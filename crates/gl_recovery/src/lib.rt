@@ -1,5 +1,5 @@
-//! The recovery of a service whose nodes are lost: it is founded anew behind the last signature of
-//! its ledger, and opens once enough members gave their shares (CCF documentation, "Disaster
+//! The recovery of a service whose nodes are lost: it is recovered after the last signature of its
+//! ledger, and opens once enough members gave their shares (CCF documentation, "Disaster
 //! Recovery").
 //!
 //! Begin with `recover`.
@@ -7,20 +7,20 @@
 
 mod fault;
 mod finished;
-mod front;
 mod laws;
 mod old_ledger;
-mod opening;
-mod recovering;
+mod opening_ledger;
 mod recovering_fault;
-mod refounding;
+mod recovery;
+mod recovery_entry;
+mod settings_prefix;
 mod signer;
-mod starting;
+mod start_ledger;
 
 pub use fault::RecoveryFault;
 pub use finished::{FinishFault, finish};
 pub use laws::{law_of_recover, law_of_recovery, law_of_start};
-pub use opening::is_first_key;
-pub use recovering::recover;
+pub use opening_ledger::is_first_key;
 pub use recovering_fault::RecoveringFault;
-pub use starting::start;
+pub use recovery::recover;
+pub use start_ledger::start;

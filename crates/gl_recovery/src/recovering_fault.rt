@@ -1,8 +1,8 @@
-//! Why no service is founded anew from a source and a key file.
+//! Why no service is recovered from a source and a key file.
 
 ghost use Rattle.std.specs.Prelude.{◌≡◌};
 ghost use Rattle.gl_base.specs.declared.or_no_memory.OrNoMemory.TheVariants.{Fault};
-ghost use Rattle.gl_recovery.specs.Recovering.{widened};
+ghost use Rattle.gl_recovery.specs.RecoveryOutput.{widened};
 ghost use Rattle.gl_recovery.specs.declared.recovering_fault.RecoveringFault.TheVariants as faults;
 
 use crate::fault::RecoveryFault;
@@ -10,7 +10,7 @@ use gl_base::{FormsFault, OrNoMemory};
 use gl_requests::NodeId;
 use thiserror::Error;
 
-/// Why no service is founded anew from a source and a key file.
+/// Why no service is recovered from a source and a key file.
 #[derive(Debug, Drop, PartialEq, Eq, Error)]
 pub enum RecoveringFault {
     /// The source failed, and counted it.
@@ -32,7 +32,7 @@ pub enum RecoveringFault {
     /// All leaves of the key are spent, so many as `reserved`: 2^h of RFC 8554, section 5.1.
     #[error("all {reserved} leaves of the key are spent")]
     KeyExhausted { reserved: u32 },
-    /// The service can't be founded anew behind the old ledger. The source doesn't fail so: that is
+    /// The service can't be recovered after the old ledger. The source doesn't fail so: that is
     /// `SourceFailed`.
     #[error("{0}")]
     Recovery(RecoveryFault),

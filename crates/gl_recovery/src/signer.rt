@@ -2,10 +2,10 @@
 
 ghost use Rattle.std.specs.Prelude.{◌≡◌, ◌<◌, ◌^◌, IfOk, OnOk};
 ghost use Rattle.gl_hss.specs.Types.{height};
-ghost use Rattle.gl_recovery.specs.Owed.{IsFirstKey};
-ghost use Rattle.gl_recovery.specs.Recovering.{has_leaf, is_first_node, private_key};
+ghost use Rattle.gl_recovery.specs.ExpectedOutput.{IsFirstKey};
+ghost use Rattle.gl_recovery.specs.RecoveryOutput.{has_leaf, is_first_node, private_key};
 
-use crate::opening::id_of;
+use crate::opening_ledger::id_of;
 use crate::recovering_fault::RecoveringFault;
 use gl_hss::{LmsKey, Types};
 use gl_journal::Key;

@@ -3,7 +3,7 @@ use Rattle.std.proofs.Common.{◌≡◌, ℕ, Bool, true, false, ◌&&◌, nat_l
 use Rattle.std.specs.List.{list_all}
 use Rattle.gl_entry.specs.Entry.{is_entry}
 use Rattle.gl_messages.specs.Fields.{is_id, is_u64}
-use Rattle.gl_messages.specs.Message.{are_behind, are_within, is_body, is_message, most_entries}
+use Rattle.gl_messages.specs.Message.{are_after, are_within, is_body, is_message, most_entries}
 use Rattle.gl_messages.specs.declared.message.Body.{Body}
 use Rattle.gl_messages.specs.declared.message.Body.TheVariants.{RequestVote, VoteReply, Append, AppendReply, ProposeVote}
 use Rattle.gl_messages.specs.declared.message.Message.{Message}
@@ -22,7 +22,7 @@ body_brings_few view (RequestVote last) h = refl
 body_brings_few view (VoteReply granted) h = refl
 body_brings_few view (Append prev commit es) h =
     both_second (is_id prev && is_u64 commit) (nat_le (length es) most_entries)
-    (both_first _ (list_all is_entry es) (both_first _ (are_within es) (both_first _ (are_behind view prev.view prev.seqno es) h)))
+    (both_first _ (list_all is_entry es) (both_first _ (are_within es) (both_first _ (are_after view prev.view prev.seqno es) h)))
 body_brings_few view (AppendReply ok seqno) h = refl
 body_brings_few view ProposeVote h = refl
 

@@ -75,12 +75,12 @@ module _ {S Q G R A F : Type 0} (stands : S → Book Entry Q G R A F → Holding
       seqno ≤ length n.log → c.commit < seqno → signed ≡ true → (n.base ≤ seqno → signed ≡ is_signature_in b c.peer.view (entry_at n.log seqno)) → me ≡ x →
       ((commit : ℕ) → n.base ≤ commit → sets_of (active_of cs commit) ≡ active b (take seqno n.log) commit) →
       r ≡ quorum (holds me seqno (held c.matched.items)) (sets_of (active_of cs c.commit)) → r ≡ may_commit b x n seqno
-  may {c} {b} {x} {n} s seqno me r signed cs w above is told mine active_is result =
+  may {c} {b} {x} {n} s seqno me r signed cs w above is reported mine active_is result =
       let commit_is : c.commit ≡ n.commit = ap (λ (m : Node Entry). m.commit) s.same in
       let view_is : c.peer.view ≡ n.view = ap (λ (m : Node Entry). m.view) s.same in
       all_of r (nat_lt n.commit seqno) (is_signature_in b n.view (entry_at n.log seqno)) (quorum (λ y. same y x || nat_le seqno (n.matched y)) (active_upto b n.log n.commit seqno))
       (grind (arith, nat_tests))
-      (ap (λ v. is_signature_in b v (entry_at n.log seqno)) (sym view_is) ∙ sym (told (omega (arith, s.above))) ∙ is)
+      (ap (λ v. is_signature_in b v (entry_at n.log seqno)) (sym view_is) ∙ sym (reported (omega (arith, s.above))) ∙ is)
       (result
       ∙ ap (λ m. quorum (holds me seqno (held c.matched.items)) (sets_of (active_of cs m))) commit_is
       ∙ ap (quorum (holds me seqno (held c.matched.items))) (active_is n.commit s.above ∙ active_cut b n.log n.commit seqno (omega arith) w)

@@ -1,8 +1,8 @@
 pub mod Rows
 pub mod Cuts
 pub mod Commits
-pub mod Turns
-pub mod Fronts
+pub mod PeerSteps
+pub mod LogPrefixes
 pub mod Tails
 pub mod Merging
 pub mod Appending
@@ -10,6 +10,6 @@ pub mod SetPairs
 pub mod Replying
 pub mod Plains
 pub mod Peers
-pub mod Readings
-pub mod Keeping
+pub mod NodeReadings
+pub mod KeptPrefixes
 pub mod Bringing

@@ -1,4 +1,4 @@
--- What the entries behind a seqno come to, branch by branch.
+-- What the entries after a seqno come to, branch by branch.
 use Rattle.std.proofs.Common.{◌≡◌, ◌≤◌, ℕ, ◌+◌, ◌==◌, ◌&&◌, List, map, length, take, drop, Bool, true, false, nat_lt, Result, Err, if◌then◌else◌, refl, sym, ap, ◌∙◌, arith, length-take, length-drop, ◌-◌}
 use Rattle.std.proofs.lemmas.Bool.Decides.{nat_tests}
 use Rattle.gl_rules.specs.Identity.{NodeId}
@@ -18,16 +18,16 @@ use Rattle.gl_replication.specs.declared.node.Core.{Core}
 use Rattle.gl_replication.specs.declared.done.Done.{Done}
 use Rattle.gl_base.specs.Answers.{Fails}
 use Rattle.gl_base.specs.declared.or_no_memory.OrNoMemory.{OrNoMemory}
-use Rattle.gl_base.specs.declared.or_no_memory.OrNoMemory.TheVariants as unmade
+use Rattle.gl_base.specs.declared.or_no_memory.OrNoMemory.TheVariants as rejected
 use Rattle.gl_rules.proofs.Lists.{take_past}
 use Rattle.gl_replication.proofs.Cuts.{take_part}
 
 pub rest_is : {E : Type 0} (held : ℕ) (es : List E) → take (length es - held) (drop held es) ≡ drop held es
 rest_is held es = take_past (length es - held) (drop held es) (omega (arith, length-drop held es))
 
-pub owed : {X F : Type 0} (r : Result X F) (e : OrNoMemory F) (why : F) → e ≡ unmade.Fault why → Fails e r → r ≡ Err why
-owed r unmade.NoMemory why is k = absurd (cc)
-owed r (unmade.Fault w) why is k = let z : w ≡ why = cc in k ∙ ap Err z
+pub expected_output : {X F : Type 0} (r : Result X F) (e : OrNoMemory F) (why : F) → e ≡ rejected.Fault why → Fails e r → r ≡ Err why
+expected_output r rejected.NoMemory why is k = absurd (cc)
+expected_output r (rejected.Fault w) why is k = let z : w ≡ why = cc in k ∙ ap Err z
 
 module _ {E Q G R A F : Type 0} (b : Book E Q G R A F) (y : NodeId) (view : ℕ) (n : Node E) (low : n.view ≤ view) where
   abbrev f : Node E

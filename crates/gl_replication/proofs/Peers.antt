@@ -9,7 +9,7 @@ use Rattle.gl_rules.specs.Replication.{is_peer, is_reached}
 use Rattle.gl_replication.specs.Holding.{Holding}
 use Rattle.gl_replication.specs.Stands.{StandsFor}
 use Rattle.gl_replication.specs.declared.node.Core.{Core}
-use Rattle.gl_replication.proofs.Turns.{commit_of, same2, same4}
+use Rattle.gl_replication.proofs.PeerSteps.{commit_of, same2, same4}
 
 module _ {S Q G R A F : Type 0} (stands : S → Book Entry Q G R A F → Holding Entry → Type 0) where
   pub peer_is : {c : Core S Q G R A F} {b : Book Entry Q G R A F} {x : NodeId} {n : Node Entry} → StandsFor stands c b x n → (y me : NodeId) (sets : List (List NodeId)) (removal mark : Option ℕ) (is_me is_active is_removed is_marked : Bool) →

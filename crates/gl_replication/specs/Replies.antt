@@ -38,12 +38,12 @@ is_leading roles.Leader = true
 is_leading roles.Candidate = false
 is_leading roles.Follower = false
 
--- A step leaves a node's log as it is up to a seqno. Behind it then stand the last ones of these
+-- A step leaves a node's log as it is up to a seqno. After it then stand the last ones of these
 -- entries, unless the step is refused.
 pub record KeepsUpTo {E A F : Type 0} (seqno : ℕ) (es : List E) (n : Node E) (step : Step E A F)
     : Type 0 where
   pub before : seqno ≤ length n.log
   pub after : seqno ≤ length step.node.log
-  pub front : take seqno step.node.log ≡ take seqno n.log
+  pub prefix : take seqno step.node.log ≡ take seqno n.log
   pub tail : ((why : Refusal F) → step.outcome ≡ Refused why → ⊥) →
       drop seqno step.node.log ≡ drop (length es - (length step.node.log - seqno)) es

@@ -49,7 +49,7 @@ module _ {S Q G R A F : Type 0} where
     cuts = c.cuts;
   }
 
-  -- The refusal is that of the rules; want of memory may come at any time.
+  -- The refusal is that of the rules; running out of memory may come at any time.
   abbrev pub Answers : Refusal S Q G R A F → outcomes.Outcome A F → Type 0
   Answers refusals.NoMemory o = Unit {0}
   Answers (refusals.NotPrimary view leader) o = o ≡ Refused (NotPrimary view leader)
@@ -98,42 +98,42 @@ module _ {S Q G R A F : Type 0} where
       pub sent : map seen_message done.sent ≡ step.sent
 
     -- This holds of each node that it stands for.
-    abbrev pub Tells : Core S Q G R A F → (Book Entry Q G R A F → NodeId → Node Entry → Type 0) →
+    abbrev pub Reports : Core S Q G R A F → (Book Entry Q G R A F → NodeId → Node Entry → Type 0) →
         Type 0
-    Tells c P = (b : Book Entry Q G R A F) (x : NodeId) (n : Node Entry) → StandsFor c b x n →
+    Reports c P = (b : Book Entry Q G R A F) (x : NodeId) (n : Node Entry) → StandsFor c b x n →
         P b x n
 
     -- Of each node that it stands for the call is a rule's step.
     abbrev pub Steps : (Book Entry Q G R A F → NodeId → Node Entry → Step Entry A F) →
         Core S Q G R A F → Done S Q G R A F → Core S Q G R A F → Type 0
-    Steps rule old done new = Tells old (λ b x n. Stepped b x (rule b x n) done new)
+    Steps rule old done new = Reports old (λ b x n. Stepped b x (rule b x n) done new)
 
     -- Of each node that it stands for the rule refuses so.
     abbrev pub Refuses : (Book Entry Q G R A F → NodeId → Node Entry → Step Entry A F) →
         Core S Q G R A F → Refusal S Q G R A F → Type 0
-    Refuses rule old why = Tells old (λ b x n. Answers why (rule b x n).outcome)
+    Refuses rule old why = Reports old (λ b x n. Answers why (rule b x n).outcome)
 
     -- Of each node that it stands for this guard lets every step of a rule through.
     abbrev pub Passes : (Book Entry Q G R A F → Node Entry → Step Entry A F → Step Entry A F) →
         Core S Q G R A F → Type 0
-    Passes guard c = Tells c (λ b x n. (step : Step Entry A F) → guard b n step ≡ step)
+    Passes guard c = Reports c (λ b x n. (step : Step Entry A F) → guard b n step ≡ step)
 
     -- Of each node that it stands for this guard refuses so, whatever the step.
     abbrev pub Stops : (Book Entry Q G R A F → Node Entry → Step Entry A F → Step Entry A F) →
         Core S Q G R A F → Refusal S Q G R A F → Type 0
-    Stops guard c why = Tells c (λ b x n. (step : Step Entry A F) →
+    Stops guard c why = Reports c (λ b x n. (step : Step Entry A F) →
         Answers why (guard b n step).outcome)
 
     -- It stands for each node for which it stood.
     abbrev pub KeepsAll : Core S Q G R A F → Core S Q G R A F → Type 0
-    KeepsAll old new = Tells old (λ b x n. StandsFor new b x n)
+    KeepsAll old new = Reports old (λ b x n. StandsFor new b x n)
 
     -- It stands for another node in place of each.
     abbrev pub Turns : (Book Entry Q G R A F → Node Entry → Node Entry) → Core S Q G R A F →
         Core S Q G R A F → Type 0
-    Turns f old new = Tells old (λ b x n. StandsFor new b x (f b n))
+    Turns f old new = Reports old (λ b x n. StandsFor new b x (f b n))
 
-    -- The log is cut where the view rose, and a new leader begins behind it.
+    -- The log is cut where the view rose, and a new leader begins after it.
     pub record Settled (b : Book Entry Q G R A F) (x : NodeId) (n : Node Entry) (elected : Elected)
         (done : Done S Q G R A F) (new : Core S Q G R A F) : Type 0 where
       pub node : StandsFor new b x (begin_leading b elected.outcome (cut_if_rose b elected.rose n))
@@ -141,17 +141,17 @@ module _ {S Q G R A F : Type 0} where
       pub sent : done.sent ≡ elected.sent
 
     abbrev pub Settles : Elected → Core S Q G R A F → Done S Q G R A F → Core S Q G R A F → Type 0
-    Settles elected old done new = Tells old (λ b x n. Settled b x n elected done new)
+    Settles elected old done new = Reports old (λ b x n. Settled b x n elected done new)
 
     -- It stands for a node with another log in place of each, of which this holds.
     abbrev pub Grows : (Book Entry Q G R A F → Node Entry → List Entry → Type 0) →
         (Book Entry Q G R A F → Node Entry → List Entry → Node Entry) → Core S Q G R A F →
         Core S Q G R A F → Type 0
-    Grows P f old new = Tells old (λ b x n. (log : List Entry) × P b n log
+    Grows P f old new = Reports old (λ b x n. (log : List Entry) × P b n log
         × StandsFor new b x (f b n log))
 
     -- It stands for another node in place of each, and sends these messages.
     abbrev pub Replies : (Book Entry Q G R A F → NodeId → Node Entry → Node Entry) → List Message →
         Core S Q G R A F → Done S Q G R A F → Core S Q G R A F → Type 0
-    Replies f sent old done new = Tells old (λ b x n. StandsFor new b x (f b x n))
+    Replies f sent old done new = Reports old (λ b x n. StandsFor new b x (f b x n))
         × (done.outcome ≡ answers.Done) × (done.sent ≡ sent)

@@ -9,7 +9,7 @@ ghost use Rattle.gl_rules.specs.Steps.{cut_to, one_more_cut, enter_view, update_
 ghost use Rattle.gl_rules.specs.Replication.{checked_append, commit_after, become_follower, merge_if_matching, matching_prefix_len, highest_possible_match, merge_entries};
 ghost use Rattle.gl_election.specs.Elections.{position};
 ghost use Rattle.gl_election.specs.Bridge.{message_to, seen_message};
-ghost use Rattle.gl_replication.specs.Stands.{Grows, KeepsAll, Refuses, Replies, Steps, Tells, Turns};
+ghost use Rattle.gl_replication.specs.Stands.{Grows, KeepsAll, Refuses, Replies, Reports, Steps, Turns};
 ghost use Rattle.gl_replication.specs.declared.done.Outcome.TheVariants as answers;
 ghost use Rattle.gl_replication.specs.Replies.{KeepsUpTo, is_matching, is_leading, append_reply_to, following};
 
@@ -25,11 +25,11 @@ use std::alloc::AllocError;
 
 impl<B: Book> Core<B> {
     /// The length of the log once it is in this view.
-    #[tactic(auto, unfolding(gl_rules::specs::Steps::enter_view), using(crate::proofs::Fronts::last_within))]
+    #[tactic(auto, unfolding(gl_rules::specs::Steps::enter_view), using(crate::proofs::LogPrefixes::last_within))]
     fn len_in_view(&self, view: u32) -> u64
         ensures limit { result < 2 ^ 40 }
-        ensures within { Tells B.stands self.now (λ b x n. result ≤ length n.log) }
-        ensures value { Tells B.stands self.now (λ b x n. (update_view b view n).log ≡ take
+        ensures within { Reports B.stands self.now (λ b x n. result ≤ length n.log) }
+        ensures value { Reports B.stands self.now (λ b x n. (update_view b view n).log ≡ take
             result n.log) }
     {
         if view > self.peer.view {
@@ -39,19 +39,19 @@ impl<B: Book> Core<B> {
     }
 
     /// Whether the log up to a length has an entry of this view at this seqno, or the seqno is 0.
-    #[tactic(auto, using(crate::proofs::Fronts::matching))]
+    #[tactic(auto, using(crate::proofs::LogPrefixes::matching))]
     fn is_matching(&self, len: u64, prev: TxId) -> bool
-        ensures value { Tells B.stands self.now (λ b x n. len ≤ length n.log → result ≡
+        ensures value { Reports B.stands self.now (λ b x n. len ≤ length n.log → result ≡
             is_matching b (take len n.log) (position prev)) }
         ensures within { result ≡ true → prev.seqno ≤ len }
     {
         prev.seqno == 0 || (prev.seqno <= len && self.book.view_at(prev.seqno) == prev.view)
     }
 
-    /// How many of the entries the log up to a length holds behind a seqno with their views.
-    #[tactic(auto, unfolding(gl_rules::specs::Replication::matching_prefix_len), using(crate::proofs::Fronts::matching))]
+    /// How many of the entries the log up to a length holds after a seqno with their views.
+    #[tactic(auto, unfolding(gl_rules::specs::Replication::matching_prefix_len), using(crate::proofs::LogPrefixes::matching))]
     fn matching_prefix_len(&self, len: u64, prev: u64, entries: &[Entry]) -> usize
-        ensures value { Tells B.stands self.now (λ b x n. len ≤ length n.log → result ≡
+        ensures value { Reports B.stands self.now (λ b x n. len ≤ length n.log → result ≡
             matching_prefix_len b (drop prev (take len n.log)) entries.now) }
         ensures within { result ≤ length entries.now }
         ensures reach { prev ≤ len → prev + result ≤ len }
@@ -69,9 +69,9 @@ impl<B: Book> Core<B> {
 
     /// The greatest seqno up to this one, within a length, whose entry's view is at most this one,
     /// else 0.
-    #[tactic(auto, using(crate::proofs::Fronts::matching))]
+    #[tactic(auto, using(crate::proofs::LogPrefixes::matching))]
     fn highest_possible_match(&self, len: u64, view: u32, upto: u64) -> u64
-        ensures { Tells B.stands self.now (λ b x n. len ≤ length n.log → upto ≤ len → result ≡
+        ensures { Reports B.stands self.now (λ b x n. len ≤ length n.log → upto ≤ len → result ≡
             highest_possible_match b (take len n.log) view upto) }
     {
         let mut seqno = upto;
@@ -92,7 +92,7 @@ impl<B: Book> Core<B> {
         ok: bool,
         seqno: u64,
     ) -> Result<Sequence<Message>, AllocError>
-        ensures value { IfOk result (λ sent. Tells B.stands self.now (λ b x n. map seen_message
+        ensures value { IfOk result (λ sent. Reports B.stands self.now (λ b x n. map seen_message
             sent ≡ append_reply_to x to view ok seqno)) }
         ensures few { IfOk result (λ sent. length sent ≤ 1) }
     {
@@ -107,7 +107,7 @@ impl<B: Book> Core<B> {
     }
 
     /// A view that rises: no vote, no leader, and the log cut to its last signature.
-    #[tactic(auto, unfolding(gl_rules::specs::Steps::enter_view), using(crate::proofs::Fronts::last_within))]
+    #[tactic(auto, unfolding(gl_rules::specs::Steps::enter_view), using(crate::proofs::LogPrefixes::last_within))]
     fn enter_view(&mut self, view: u32)
         ensures { Turns B.stands (λ b n. enter_view b view n) self.old self.new }
     {
@@ -174,18 +174,18 @@ impl<B: Book> Core<B> {
         self.peer.leader = Some(y);
     }
 
-    /// The log cut to a seqno, and these entries behind it. All or nothing.
-    fn append_behind(&mut self, seqno: u64, entries: &[Entry]) -> Result<(), OrNoMemory<B::Refused>>
+    /// The log cut to a seqno, and these entries after it. All or nothing.
+    fn append_after(&mut self, seqno: u64, entries: &[Entry]) -> Result<(), OrNoMemory<B::Refused>>
         ensures grown { IfOk result (λ r. Grows B.stands (λ b n l. checked_append b (take seqno
             n.log) entries.now ≡ Ok l) (λ b n l. record n { log = l }) self.old self.new) }
-        ensures refused { IfErr result (λ e. Tells B.stands self.old (λ b x n. Fails e
+        ensures refused { IfErr result (λ e. Reports B.stands self.old (λ b x n. Fails e
             (checked_append b (take seqno n.log) entries.now))) }
         ensures err { OnErr result (KeepsAll B.stands self.old self.new) }
     {
         self.book.replace_tail(seqno, entries)
     }
 
-    /// The log cut to a seqno, and these entries behind it; the view is entered, and y is its
+    /// The log cut to a seqno, and these entries after it; the view is entered, and y is its
     /// leader. All or nothing.
     fn replace_tail(
         &mut self,
@@ -196,17 +196,17 @@ impl<B: Book> Core<B> {
         entries: &[Entry],
     ) -> Result<(), OrNoMemory<B::Refused>>
         requires within { seqno ≤ len }
-        requires len { Tells B.stands self.old (λ b x n. (len ≤ length n.log) × ((update_view b
+        requires len { Reports B.stands self.old (λ b x n. (len ≤ length n.log) × ((update_view b
             view n).log ≡ take len n.log)) }
         ensures grown { IfOk result (λ r. Grows B.stands (λ b n l. checked_append b (take seqno
             n.log) entries.now ≡ Ok l) (λ b n l. record (cut_to seqno (become_follower b y
             (update_view b view n))) { log = l }) self.old self.new) }
-        ensures refused { IfErr result (λ e. Tells B.stands self.old (λ b x n. Fails e
+        ensures refused { IfErr result (λ e. Reports B.stands self.old (λ b x n. Fails e
             (checked_append b (take seqno n.log) entries.now))) }
         ensures err { OnErr result (KeepsAll B.stands self.old self.new) }
     {
         let before = self.book.ledger_len();
-        match self.append_behind(seqno, entries) {
+        match self.append_after(seqno, entries) {
             Err(why) => Err(why),
             Ok(()) => {
                 self.count_cut(len < before);
@@ -237,7 +237,7 @@ impl<B: Book> Core<B> {
         }
     }
 
-    /// Entries behind a seqno prev of a log in its view, of which it holds the first ones.
+    /// Entries after a seqno prev of a log in its view, of which it holds the first ones.
     fn merge_entries(
         &mut self,
         y: NodeId,
@@ -250,7 +250,7 @@ impl<B: Book> Core<B> {
     ) -> Result<Done<B>, Refusal<B>>
         requires within { (prev + held ≤ len) × (held ≤ length entries.now) × (len < 2 ^ 40) }
         requires view { self.old.peer.view ≤ view }
-        requires len { Tells B.stands self.old (λ b x n. (len ≤ length n.log) × ((update_view b
+        requires len { Reports B.stands self.old (λ b x n. (len ≤ length n.log) × ((update_view b
             view n).log ≡ take len n.log)) }
         ensures steps { IfOk result (λ done. Steps B.stands (λ b x n. merge_entries b x y prev
             entries.now held theirs (become_follower b y (update_view b view n))) self.old done
@@ -281,7 +281,7 @@ impl<B: Book> Core<B> {
         }
     }
 
-    /// Entries at a node of a view not above the leader's that doesn't lead in it: behind a seqno
+    /// Entries at a node of a view not above the leader's that doesn't lead in it: after a seqno
     /// where the log has an entry of that view; else where to try next.
     fn merge_if_matching(
         &mut self,
@@ -354,8 +354,8 @@ impl<B: Book> Core<B> {
 
     /// Up to which seqno the log stays as it is when a leader's entries are taken, by whomever they
     /// are sent.
-    pub fn kept_behind(&self, view: u32, prev: TxId, entries: &[Entry]) -> u64
-        ensures { Tells B.stands self.now (λ b x n. (from : NodeId) (commit : ℕ) → KeepsUpTo result
+    pub fn kept_upto(&self, view: u32, prev: TxId, entries: &[Entry]) -> u64
+        ensures { Reports B.stands self.now (λ b x n. (from : NodeId) (commit : ℕ) → KeepsUpTo result
             entries.now n (on_message b (message_to x from view (Append (position prev)
             entries.now commit)) n)) }
     {

@@ -29,12 +29,12 @@ pub trait Book: Drop {
     /// The reads of a transaction.
     type Reads: Drop;
     /// An answer to a request.
-    type Given: Drop;
+    type Response: Drop;
     /// Why the ledger takes no entry.
     type Refused: Copy;
 
     // Under these rules it stands for what is held, a ledger whole from seqno 1.
-    ghost stands: { Self → Rules Item Self.Request Self.Gov Self.Reads Self.Given Self.Refused →
+    ghost stands: { Self → Rules Item Self.Request Self.Gov Self.Reads Self.Response Self.Refused →
         Holding Item → Type 0 };
 
     /// With whose key it signs.
@@ -104,7 +104,7 @@ pub trait Book: Drop {
     fn removal(&self, node: &NodeId) -> Option<u64>
         ensures { At stands self.now (λ b h. result ≡ b.removal h.log node.now) };
 
-    /// The seqno of the mark behind its removal, if there is one.
+    /// The seqno of the mark after its removal, if there is one.
     fn mark(&self, node: &NodeId) -> Option<u64>
         ensures { At stands self.now (λ b h. result ≡ b.mark h.log node.now) };
 
@@ -116,17 +116,17 @@ pub trait Book: Drop {
     fn mark_refusal(&self, node: &NodeId) -> Option<Self::Refused>
         ensures { At stands self.now (λ b h. result ≡ b.mark_refusal h.log node.now) };
 
-    /// The entries behind a seqno, not below the base: as many as one message carries.
-    fn batch(&self, behind: u64) -> Result<Vec<Entry>, AllocError>
-        ensures { IfOk result (λ entries. At stands self.now (λ b h. h.base ≤ behind →
-            entries.items ≡ batch b (drop behind h.log))) };
+    /// The entries after a seqno, not below the base: as many as one message carries.
+    fn batch(&self, after: u64) -> Result<Vec<Entry>, AllocError>
+        ensures { IfOk result (λ entries. At stands self.now (λ b h. h.base ≤ after →
+            entries.items ≡ batch b (drop after h.log))) };
 
     /// Takes an entry for a request, and tells its view and the answer.
     fn execute(
         &mut self,
         view: u32,
         request: &Self::Request,
-    ) -> Result<(u32, Self::Given), OrNoMemory<Self::Refused>>
+    ) -> Result<(u32, Self::Response), OrNoMemory<Self::Refused>>
         ensures made { IfOk result (λ r. Enters stands self.old self.new (λ b h e.
             (b.execute h.log view request.now ≡ Ok (e, r.1)) × (r.0 ≡ b.view_of e))) }
         ensures refused { IfErr result (λ e. At stands self.old (λ b h.
@@ -138,7 +138,7 @@ pub trait Book: Drop {
         &mut self,
         view: u32,
         request: &Self::Gov,
-    ) -> Result<(u32, Self::Given), OrNoMemory<Self::Refused>>
+    ) -> Result<(u32, Self::Response), OrNoMemory<Self::Refused>>
         ensures made { IfOk result (λ r. Enters stands self.old self.new (λ b h e.
             (b.govern h.log view request.now ≡ Ok (e, r.1)) × (r.0 ≡ b.view_of e))) }
         ensures refused { IfErr result (λ e. At stands self.old (λ b h.

@@ -24,7 +24,7 @@ pub enum Outcome<A> {
 /// The answer, and what the node sends, in order.
 #[derive(Drop)]
 pub struct Done<B: Book> {
-    pub outcome: Outcome<B::Given>,
+    pub outcome: Outcome<B::Response>,
     pub sent: Sequence<Message>,
 }
 

@@ -12,7 +12,7 @@ ghost use Rattle.gl_election.specs.Elections.{position};
 ghost use Rattle.gl_config.specs.Active.{sets_of};
 ghost use Rattle.gl_election.specs.Bridge.{begin_leading, message_to};
 ghost use Rattle.gl_election.specs.declared.elected.ElectionOutcome.TheVariants.{BecameLeader};
-ghost use Rattle.gl_replication.specs.Stands.{KeepsAll, Refuses, Settles, Steps, Tells, Turns, refusal_of};
+ghost use Rattle.gl_replication.specs.Stands.{KeepsAll, Refuses, Reports, Settles, Steps, Turns, refusal_of};
 
 use crate::book::Book;
 use crate::done::{Done, Outcome, Refusal};
@@ -74,7 +74,7 @@ impl<B: Book> Core<B> {
         self.cut_to(last.seqno);
     }
 
-    /// A new leader begins behind its log, and knows nothing of the others.
+    /// A new leader begins after its log, and knows nothing of the others.
     fn begin_leading(&mut self)
         ensures { Turns B.stands (λ b n. begin_leading b BecameLeader n) self.old self.new }
     {
@@ -86,7 +86,7 @@ impl<B: Book> Core<B> {
     /// The other nodes of the active configurations of the log cut to a seqno, in the order in
     /// which they were recorded.
     fn others(&self, upto: u64) -> Result<Vec<NodeId>, AllocError>
-        ensures { IfOk result (λ nodes. Tells B.stands self.now (λ b x n.
+        ensures { IfOk result (λ nodes. Reports B.stands self.now (λ b x n.
             nodes.items ≡ others b x (record n { log = take upto n.log }))) }
     {
         let active = Active::of(self.book.configurations(upto), self.commit);

@@ -4,7 +4,7 @@ ghost use Rattle.std.specs.Prelude.{◌≡◌, [], length, IfOk, IfErr, OnOk, On
 ghost use Rattle.gl_rules.specs.Configuration.{configurations_above};
 ghost use Rattle.gl_rules.specs.Requests.{append_result, govern, govern_as_leader, if_markable, if_removal_committed, reserve, unless_mark_refused};
 ghost use Rattle.gl_config.specs.Active.{above};
-ghost use Rattle.gl_replication.specs.Stands.{IsNoMemory, KeepsAll, Passes, Refuses, Steps, Stops, Tells};
+ghost use Rattle.gl_replication.specs.Stands.{IsNoMemory, KeepsAll, Passes, Refuses, Reports, Steps, Stops};
 
 use crate::book::Book;
 use crate::done::{Done, Outcome, Refusal};
@@ -29,7 +29,7 @@ fn count_above(configurations: &[Configuration], seqno: u64) -> usize
 impl<B: Book> Core<B> {
     /// How many configurations of its log stand above commit.
     fn pending(&self) -> u64
-        ensures { Tells B.stands self.now (λ b x n.
+        ensures { Reports B.stands self.now (λ b x n.
             result ≡ length (configurations_above b n.log n.commit (length n.log))) }
     {
         let len = self.book.ledger_len();

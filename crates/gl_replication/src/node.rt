@@ -4,7 +4,7 @@ ghost use Rattle.std.specs.Prelude.{◌≡◌, ◌≤◌, ◌<◌, ◌==◌, [],
 ghost use Rattle.gl_rules.specs.Requests.{execute_request, sign, sign_as_leader, submit};
 ghost use Rattle.gl_rules.specs.Replication.{advance, commit_to, greatest_to_commit, may_commit, restart};
 ghost use Rattle.gl_replication.specs.Standing.{At};
-ghost use Rattle.gl_replication.specs.Stands.{IsNoMemory, KeepsAll, Refuses, Steps, Tells};
+ghost use Rattle.gl_replication.specs.Stands.{IsNoMemory, KeepsAll, Refuses, Reports, Steps};
 
 use crate::book::Book;
 use crate::done::{Done, Outcome, Refusal};
@@ -23,7 +23,7 @@ pub struct Core<B: Book> {
     pub peer: Peer,
     pub leaves: Leaves,
     pub commit: u64,
-    /// The seqno behind its log when it became leader.
+    /// The seqno after its log when it became leader.
     pub start: u64,
     /// How often entries were cut off its log, up to `u64::MAX`.
     pub cuts: u64,
@@ -72,7 +72,7 @@ impl<B: Book> Core<B> {
 
     /// Whether each reserved leaf is used. A leaf that isn't is one that the key has.
     fn is_exhausted(&self) -> bool
-        ensures value { Tells B.stands self.now (λ b x n. result ≡ (n.used == n.reserved)) }
+        ensures value { Reports B.stands self.now (λ b x n. result ≡ (n.used == n.reserved)) }
         ensures free { result ≡ false → self.now.leaves.used < self.now.leaves.reserved }
         ensures within { result ≡ false → self.now.leaves.used < u64.MAX }
         ensures leaf { result ≡ false →
@@ -153,7 +153,7 @@ impl<B: Book> Core<B> {
 
     /// Whether it may commit a seqno, as the leader.
     fn may_commit(&self, seqno: u64) -> bool
-        ensures { Tells B.stands self.now (λ b x n.
+        ensures { Reports B.stands self.now (λ b x n.
             seqno ≤ length n.log → result ≡ may_commit b x n seqno) }
     {
         if seqno <= self.commit || !self.book.is_signature_in(self.peer.view, seqno) {
@@ -170,7 +170,7 @@ impl<B: Book> Core<B> {
 
     /// The greatest seqno that it may commit.
     fn greatest_to_commit(&self) -> Option<u64>
-        ensures value { Tells B.stands self.now (λ b x n.
+        ensures value { Reports B.stands self.now (λ b x n.
             result ≡ greatest_to_commit b x n (length n.log)) }
         ensures above { IfSome result (λ seqno. self.now.commit < seqno) }
     {

@@ -6,7 +6,7 @@ ghost use Rattle.gl_rules.specs.World.{on_message};
 ghost use Rattle.gl_election.specs.Bridge.{message_to};
 ghost use Rattle.gl_rules.specs.Replication.{lower_next, next_of, update_match, update_progress};
 ghost use Rattle.gl_replication.specs.Pairs.{Puts, index_of, tried};
-ghost use Rattle.gl_replication.specs.Stands.{IsNoMemory, KeepsAll, Steps, Tells, Turns};
+ghost use Rattle.gl_replication.specs.Stands.{IsNoMemory, KeepsAll, Reports, Steps, Turns};
 
 use crate::book::Book;
 use crate::done::{Done, Refusal};
@@ -60,7 +60,7 @@ pub(crate) fn set_seqno(pairs: &mut Vec<(NodeId, u64)>, y: NodeId, seqno: u64)
     }
 }
 
-/// The seqno behind this one, where the next one isn't before it.
+/// The seqno after this one, where the next one isn't before it.
 fn one_after_at_most(next: u64, seqno: u64) -> u64
     ensures { result ≡ min next (seqno + 1) }
 {
@@ -70,7 +70,7 @@ fn one_after_at_most(next: u64, seqno: u64) -> u64
 impl<B: Book> Core<B> {
     /// Which seqno a node is sent next.
     pub(crate) fn next_of(&self, y: &NodeId) -> u64
-        ensures { Tells B.stands self.now (λ b x n. result ≡ next_of b n y.now) }
+        ensures { Reports B.stands self.now (λ b x n. result ≡ next_of b n y.now) }
     {
         tried(&self.next, y).unwrap_or(self.start)
     }

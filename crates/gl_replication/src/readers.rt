@@ -6,7 +6,7 @@ ghost use Rattle.gl_rules.specs.Log.{entry_at};
 ghost use Rattle.gl_rules.specs.Retirement.{stage_at};
 ghost use Rattle.gl_rules.specs.Safety.{committed_ledger, reported_status, view_of};
 ghost use Rattle.gl_config.specs.Stages.{seen_stage};
-ghost use Rattle.gl_replication.specs.Stands.{Tells};
+ghost use Rattle.gl_replication.specs.Stands.{Reports};
 
 use crate::book::Book;
 use crate::node::Core;
@@ -17,7 +17,7 @@ use gl_entry::Entry;
 impl<B: Book> Core<B> {
     /// The view of the entry at a seqno, if there is one.
     fn view_of(&self, seqno: u64) -> Option<u32>
-        ensures { Tells B.stands self.now (λ b x n. result ≡ view_of b (entry_at n.log seqno)) }
+        ensures { Reports B.stands self.now (λ b x n. result ≡ view_of b (entry_at n.log seqno)) }
     {
         if seqno == 0 || seqno > self.book.ledger_len() {
             return None;
@@ -28,7 +28,7 @@ impl<B: Book> Core<B> {
     /// The status of a transaction by what this node holds (CCF documentation, "Transaction
     /// status"). Only Committed and Invalid are final.
     pub fn status(&self, id: TxId) -> Status
-        ensures { Tells B.stands self.now (λ b x n. result ≡ reported_status b n id) }
+        ensures { Reports B.stands self.now (λ b x n. result ≡ reported_status b n id) }
     {
         let committed = match self.view_of(self.commit) {
             None => None,
@@ -43,7 +43,7 @@ impl<B: Book> Core<B> {
     /// How far the retirement of a node has come, as this node sees it. A node that wasn't removed
     /// is at no stage.
     pub fn stage(&self, node: &NodeId) -> Option<Stage>
-        ensures { Tells B.stands self.now (λ b x n.
+        ensures { Reports B.stands self.now (λ b x n.
             option_map seen_stage result ≡ stage_at b n node.now) }
     {
         let signed = self.book.last_signature();
@@ -57,7 +57,7 @@ impl<B: Book> Core<B> {
 
     /// The committed entries above the base, in order.
     pub fn committed(&self) -> &[Entry]
-        ensures { Tells B.stands self.now (λ b x n.
+        ensures { Reports B.stands self.now (λ b x n.
             result.now ≡ drop n.base (committed_ledger n)) }
     {
         let entries = self.book.entries();

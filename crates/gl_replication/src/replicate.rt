@@ -3,7 +3,7 @@
 ghost use Rattle.std.specs.Prelude.{◌≡◌, ◌≤◌, ◌-◌, ◌&&◌, ◌||◌, not, length, if◌then◌else◌, IfOk, IfErr, OnErr};
 ghost use Rattle.gl_rules.specs.Outcome.{refuse, NotPeer};
 ghost use Rattle.gl_rules.specs.Replication.{is_peer, is_reached, next_of, replicate, send_append};
-ghost use Rattle.gl_replication.specs.Stands.{KeepsAll, Refuses, Steps, Tells};
+ghost use Rattle.gl_replication.specs.Stands.{KeepsAll, Refuses, Reports, Steps};
 
 use crate::book::Book;
 use crate::done::{Done, Outcome, Refusal};
@@ -34,7 +34,7 @@ impl<B: Book> Core<B> {
     /// Whether another node is to have entries: one of an active configuration, or one that was
     /// removed and has no mark that is committed here.
     fn is_peer(&self, to: &NodeId) -> bool
-        ensures { Tells B.stands self.now (λ b x n. result ≡ is_peer b x to.now n) }
+        ensures { Reports B.stands self.now (λ b x n. result ≡ is_peer b x to.now n) }
     {
         let is_me = *to == self.book.me();
         let len = self.book.ledger_len();
@@ -44,20 +44,20 @@ impl<B: Book> Core<B> {
         is_to_have(is_me, is_active, is_removed, is_marked)
     }
 
-    /// The entries behind a seqno, as many as one message carries.
-    fn send_append(&mut self, to: NodeId, behind: u64) -> Result<Done<B>, Refusal<B>>
+    /// The entries after a seqno, as many as one message carries.
+    fn send_append(&mut self, to: NodeId, after: u64) -> Result<Done<B>, Refusal<B>>
         ensures steps { IfOk result (λ done.
-            Steps B.stands (λ b x n. send_append b x to behind n) self.old done self.new) }
+            Steps B.stands (λ b x n. send_append b x to after n) self.old done self.new) }
         ensures refused { IfErr result (λ why.
-            Refuses B.stands (λ b x n. send_append b x to behind n) self.old why) }
+            Refuses B.stands (λ b x n. send_append b x to after n) self.old why) }
         ensures err { OnErr result (KeepsAll B.stands self.old self.new) }
         ensures few { IfOk result (λ done. length done.sent ≤ 1) }
     {
         let base = self.book.base();
-        if behind < base {
+        if after < base {
             return Err(Refusal::BelowBase(base));
         }
-        let entries = match self.book.batch(behind) {
+        let entries = match self.book.batch(after) {
             Err(_) => return Err(Refusal::NoMemory),
             Ok(entries) => entries,
         };
@@ -67,8 +67,8 @@ impl<B: Book> Core<B> {
             view: self.peer.view,
             body: Body::Append {
                 prev: TxId {
-                    view: self.book.view_at(behind),
-                    seqno: behind,
+                    view: self.book.view_at(after),
+                    seqno: after,
                 },
                 commit: self.commit,
                 entries: Sequence::from(entries),
@@ -96,8 +96,8 @@ impl<B: Book> Core<B> {
         if !self.is_peer(&to) {
             return Err(Refusal::NotPeer);
         }
-        let behind = self.next_of(&to).saturating_sub(1);
-        self.send_append(to, behind)
+        let after = self.next_of(&to).saturating_sub(1);
+        self.send_append(to, after)
     }
 
     /// The leader sends a node the entries from its next seqno on, as many as one message carries.

@@ -1,4 +1,4 @@
--- Actions, and what members ask for: what is read is spelled so, and what is spelled so is read.
+-- Actions, and what members ask for: what is read is encoded so, and what is encoded so is read.
 use Rattle.std.proofs.Common.{◌≡◌, ℕ, ◌+◌, Bool, true, ◌&&◌, ◌==◌, nat_le, List, [], ◌∷◌, ◌++◌, length, Ok, Err, refl, sym, ap, subst, ◌∙◌, append_assoc, arith}
 use Rattle.std.specs.List.{list_all, flat_map}
 use Rattle.std.proofs.lemmas.Bool.{and_parts, and_from, eqb-true}
@@ -7,38 +7,38 @@ use Rattle.gl_base.specs.Bytes.{is_byte, is_digest}
 use Rattle.gl_base.specs.Code.{flag_at}
 use Rattle.gl_base.specs.declared.fault.CodeFault.TheVariants as faults
 use Rattle.gl_base.proofs.Fields.{tag_read}
-use Rattle.gl_base.proofs.Readings.{IsSpelled, Gets, IsRead}
+use Rattle.gl_base.proofs.ParsedBytes.{IsEncoded, Gets, IsRead}
 use Rattle.gl_base.proofs.Repeated.{many-read}
 use Rattle.gl_requests.specs.declared.action.Action.{Action}
 use Rattle.gl_requests.specs.declared.action.Action.TheVariants as actions
 use Rattle.gl_requests.specs.declared.request.MemberAct.{MemberAct}
 use Rattle.gl_requests.specs.declared.request.MemberAct.TheVariants as acts
-use Rattle.gl_requests.specs.Spelling.{counted_bytes, member_bytes, dealing_bytes, rule_bytes, action_bytes, act_tag, act_fields}
+use Rattle.gl_requests.specs.Encoding.{counted_bytes, member_bytes, dealing_bytes, rule_bytes, action_bytes, act_tag, act_fields}
 use Rattle.gl_requests.specs.Ranges.{is_member_number, is_member, is_dealing, is_rule, is_action, is_action_count, are_actions, is_act}
-use Rattle.gl_requests.specs.Reading.{as_value, repeated_at, digest_at, member_number_at, member_at, dealing_at, rule_at, action_fields_at, action_at, actions_in, actions_at, ballot_at, act_at, is_act_tag}
+use Rattle.gl_requests.specs.Parsing.{as_value, repeated_at, digest_at, member_number_at, member_at, dealing_at, rule_at, action_fields_at, action_at, actions_in, actions_at, ballot_at, act_at, is_act_tag}
 use Rattle.gl_requests.proofs.Repeats.{repeats}
-use Rattle.gl_requests.proofs.Behind.{IsBehind, field_behind, made_behind, from_behind, last_behind, value_behind, cond_behind, fault_behind, tag_behind, kind_behind}
-use Rattle.gl_requests.proofs.FieldReadings.{one_byte, tagged-spelled, themselves, digest-spelled, digest-read, member_number-spelled, member_number-read, flag_bytes, any_flag, flag-spelled, flag-read, are_many, repeated-spelled, counted-made, counted-gets}
-use Rattle.gl_requests.proofs.PartReadings.{member-spelled, member-read, dealing-spelled, dealing-read, rule-spelled, rule-read}
+use Rattle.gl_requests.proofs.Remainders.{IsAfter, field_after, made_after, from_after, last_after, value_after, cond_after, fault_after, tag_after, kind_after}
+use Rattle.gl_requests.proofs.FieldReadings.{one_byte, tagged-encoded, themselves, digest-encoded, digest-read, member_number-encoded, member_number-read, flag_bytes, any_flag, flag-encoded, flag-read, are_many, repeated-encoded, counted-made, counted-gets}
+use Rattle.gl_requests.proofs.PartReadings.{member-encoded, member-read, dealing-encoded, dealing-read, rule-encoded, rule-read}
 
 -- ---- an action
 
-fields-behind : (place n : ℕ) → IsBehind (one_byte n) (λ unread. action_fields_at place (n, unread)) action_bytes is_action
+fields-suffix : (place n : ℕ) → IsAfter (one_byte n) (λ unread. action_fields_at place (n, unread)) action_bytes is_action
 unfolding action_fields_at
-fields-behind place n =
-    kind_behind n 1 member_at member_bytes is_member member-spelled actions.SetMember action_bytes is_action (λ m is. (refl, is)) _
-    (λ a. kind_behind n 2 member_number_at one_byte is_member_number member_number-spelled actions.RemoveMember action_bytes is_action (λ m is. (refl, is)) _
-    (λ b. kind_behind n 3 dealing_at dealing_bytes is_dealing dealing-spelled actions.SetRecoveryThreshold action_bytes is_action (λ d is. (refl, is)) _
-    (λ c. kind_behind n 4 digest_at themselves is_digest digest-spelled actions.TransitionNodeToTrusted action_bytes is_action (λ id is. (refl, is)) _
-    (λ d. kind_behind n 5 digest_at themselves is_digest digest-spelled actions.RemoveNode action_bytes is_action (λ id is. (refl, is)) _
-    (λ e. tag_behind n 6 one_byte (λ unread. Ok (actions.TransitionServiceToOpen, unread)) _ action_bytes (λ (m : ℕ). is_action)
-    (made_behind (one_byte 6) actions.TransitionServiceToOpen action_bytes is_action refl refl)
-    (λ f. kind_behind n 7 (repeated_at rule_at 7) (flat_map rule_bytes) (are_many is_rule 7) (repeated-spelled rule_at rule_bytes is_rule rule-spelled 7) actions.SetConstitution action_bytes is_action (λ rules is. (refl, is)) _
-    (λ g. fault_behind (one_byte n) (faults.Value place) action_bytes is_action)))))))
+fields-suffix place n =
+    kind_after n 1 member_at member_bytes is_member member-encoded actions.SetMember action_bytes is_action (λ m is. (refl, is)) _
+    (λ a. kind_after n 2 member_number_at one_byte is_member_number member_number-encoded actions.RemoveMember action_bytes is_action (λ m is. (refl, is)) _
+    (λ b. kind_after n 3 dealing_at dealing_bytes is_dealing dealing-encoded actions.SetRecoveryThreshold action_bytes is_action (λ d is. (refl, is)) _
+    (λ c. kind_after n 4 digest_at themselves is_digest digest-encoded actions.TransitionNodeToTrusted action_bytes is_action (λ id is. (refl, is)) _
+    (λ d. kind_after n 5 digest_at themselves is_digest digest-encoded actions.RemoveNode action_bytes is_action (λ id is. (refl, is)) _
+    (λ e. tag_after n 6 one_byte (λ unread. Ok (actions.TransitionServiceToOpen, unread)) _ action_bytes (λ (m : ℕ). is_action)
+    (made_after (one_byte 6) actions.TransitionServiceToOpen action_bytes is_action refl refl)
+    (λ f. kind_after n 7 (repeated_at rule_at 7) (flat_map rule_bytes) (are_many is_rule 7) (repeated-encoded rule_at rule_bytes is_rule rule-encoded 7) actions.SetConstitution action_bytes is_action (λ rules is. (refl, is)) _
+    (λ g. fault_after (one_byte n) (faults.Value place) action_bytes is_action)))))))
 
-pub action-spelled : IsSpelled action_at action_bytes is_action
+pub action-encoded : IsEncoded action_at action_bytes is_action
 unfolding action_at
-action-spelled = tagged-spelled action_fields_at action_bytes is_action (λ place n byte. fields-behind place n)
+action-encoded = tagged-encoded action_fields_at action_bytes is_action (λ place n byte. fields-suffix place n)
 
 pub action-read : IsRead action_at action_bytes is_action
 unfolding action_at action_fields_at
@@ -76,19 +76,19 @@ actions-made n list byte few many =
     let count : is_action_count (length list) ≡ true = subst (λ (k : ℕ). is_action_count k ≡ true) (sym long) few in
     (counted-made action_bytes n list byte long, and_from (is_action_count (length list)) (list_all is_action list) count both.1)
 
-pub actions-spelled : IsSpelled actions_at (counted_bytes action_bytes) are_actions
+pub actions-encoded : IsEncoded actions_at (counted_bytes action_bytes) are_actions
 unfolding actions_at
-actions-spelled = tagged-spelled actions_in (counted_bytes action_bytes) are_actions
-    (λ place n byte. cond_behind (is_action_count n) (one_byte n) (λ unread. repeated_at action_at n unread) (λ unread. Err (faults.Value place)) (counted_bytes action_bytes) are_actions
-    (λ few. last_behind (one_byte n) (repeated_at action_at n) (flat_map action_bytes) (are_many is_action n) (repeated-spelled action_at action_bytes is_action action-spelled n) (counted_bytes action_bytes) are_actions
+actions-encoded = tagged-encoded actions_in (counted_bytes action_bytes) are_actions
+    (λ place n byte. cond_after (is_action_count n) (one_byte n) (λ unread. repeated_at action_at n unread) (λ unread. Err (faults.Value place)) (counted_bytes action_bytes) are_actions
+    (λ few. last_after (one_byte n) (repeated_at action_at n) (flat_map action_bytes) (are_many is_action n) (repeated-encoded action_at action_bytes is_action action-encoded n) (counted_bytes action_bytes) are_actions
     (λ list many. actions-made n list byte few many))
-    (λ none. fault_behind (one_byte n) (faults.Value place) (counted_bytes action_bytes) are_actions))
+    (λ none. fault_after (one_byte n) (faults.Value place) (counted_bytes action_bytes) are_actions))
 
-actions-behind : (at : ℕ) (list : List Action) (rest : List ℕ) → is_action_count (length list) ≡ true
+actions-suffix : (at : ℕ) (list : List Action) (rest : List ℕ) → is_action_count (length list) ≡ true
     → Gets (repeated_at action_at (length list) (record { at = at + 1; bytes = flat_map action_bytes list ++ rest })) list rest
     → Gets (actions_at (record { at = at; bytes = counted_bytes action_bytes list ++ rest })) list rest
 unfolding actions_at
-actions-behind at list rest few others =
+actions-suffix at list rest few others =
     let most = (and_parts (nat_le 1 (length list)) (nat_le (length list) 16) few).1 in
     let byte : is_byte (length list) ≡ true = grind (arith, nat_tests, most) in
     record { place = others.place; read = rw (counted-gets action_bytes at list rest byte, few, others.read) refl }
@@ -96,7 +96,7 @@ actions-behind at list rest few others =
 pub actions-read : IsRead actions_at (counted_bytes action_bytes) are_actions
 actions-read at list rest is =
     let both = and_parts (is_action_count (length list)) (list_all is_action list) is in
-    actions-behind at list rest both.0 (many-read (repeats action_at) action_bytes is_action action-read (at + 1) list rest both.1)
+    actions-suffix at list rest both.0 (many-read (repeats action_at) action_bytes is_action action-read (at + 1) list rest both.1)
 
 -- ---- what a member asks for
 
@@ -107,29 +107,29 @@ is_act_of tag act = (act_tag act == tag) && is_act act
 abbrev nothing : ℕ → List ℕ
 nothing tag = []
 
-ballot-behind : IsBehind [] ballot_at act_fields (is_act_of 7)
+ballot-suffix : IsAfter [] ballot_at act_fields (is_act_of 7)
 unfolding ballot_at
-ballot-behind =
-    field_behind [] digest_at themselves is_digest digest-spelled _ act_fields (is_act_of 7)
-    (λ id sized. field_behind id flag_at flag_bytes any_flag flag-spelled _ act_fields (is_act_of 7)
-    (λ agrees any. made_behind (id ++ flag_bytes agrees) (acts.Ballot id agrees) act_fields (is_act_of 7) refl sized))
+ballot-suffix =
+    field_after [] digest_at themselves is_digest digest-encoded _ act_fields (is_act_of 7)
+    (λ id sized. field_after id flag_at flag_bytes any_flag flag-encoded _ act_fields (is_act_of 7)
+    (λ agrees any. made_after (id ++ flag_bytes agrees) (acts.Ballot id agrees) act_fields (is_act_of 7) refl sized))
 
-share-behind : (tag : ℕ) → (tag == 9) ≡ true → IsBehind [] (λ unread. as_value acts.Share (digest_at unread)) act_fields (is_act_of tag)
-share-behind tag nine =
-    subst (λ (n : ℕ). IsBehind [] (λ unread. as_value acts.Share (digest_at unread)) act_fields (is_act_of n)) (sym (eqb-true tag 9 nine))
-    (value_behind [] digest_at themselves is_digest digest-spelled acts.Share act_fields (is_act_of 9) (λ share is. (refl, is)))
+share-suffix : (tag : ℕ) → (tag == 9) ≡ true → IsAfter [] (λ unread. as_value acts.Share (digest_at unread)) act_fields (is_act_of tag)
+share-suffix tag nine =
+    subst (λ (n : ℕ). IsAfter [] (λ unread. as_value acts.Share (digest_at unread)) act_fields (is_act_of n)) (sym (eqb-true tag 9 nine))
+    (value_after [] digest_at themselves is_digest digest-encoded acts.Share act_fields (is_act_of 9) (λ share is. (refl, is)))
 
-pub act-spelled : (tag : ℕ) → is_act_tag tag ≡ true → IsSpelled (act_at tag) act_fields (is_act_of tag)
+pub act-encoded : (tag : ℕ) → is_act_tag tag ≡ true → IsEncoded (act_at tag) act_fields (is_act_of tag)
 unfolding act_at
-act-spelled tag known = from_behind (act_at tag) act_fields (is_act_of tag)
-    (tag_behind tag 5 nothing (λ unread. Ok (acts.Ack, unread)) _ act_fields is_act_of
-    (made_behind [] acts.Ack act_fields (is_act_of 5) refl refl)
-    (λ a. tag_behind tag 6 nothing (λ unread. as_value acts.Propose (actions_at unread)) _ act_fields is_act_of
-    (value_behind [] actions_at (counted_bytes action_bytes) are_actions actions-spelled acts.Propose act_fields (is_act_of 6) (λ list is. (refl, is)))
-    (λ b. tag_behind tag 7 nothing ballot_at _ act_fields is_act_of ballot-behind
-    (λ c. tag_behind tag 8 nothing (λ unread. as_value acts.Withdraw (digest_at unread)) _ act_fields is_act_of
-    (value_behind [] digest_at themselves is_digest digest-spelled acts.Withdraw act_fields (is_act_of 8) (λ id is. (refl, is)))
-    (λ d. share-behind tag (rw (a, b, c, d) at known))))))
+act-encoded tag known = from_after (act_at tag) act_fields (is_act_of tag)
+    (tag_after tag 5 nothing (λ unread. Ok (acts.Ack, unread)) _ act_fields is_act_of
+    (made_after [] acts.Ack act_fields (is_act_of 5) refl refl)
+    (λ a. tag_after tag 6 nothing (λ unread. as_value acts.Propose (actions_at unread)) _ act_fields is_act_of
+    (value_after [] actions_at (counted_bytes action_bytes) are_actions actions-encoded acts.Propose act_fields (is_act_of 6) (λ list is. (refl, is)))
+    (λ b. tag_after tag 7 nothing ballot_at _ act_fields is_act_of ballot-suffix
+    (λ c. tag_after tag 8 nothing (λ unread. as_value acts.Withdraw (digest_at unread)) _ act_fields is_act_of
+    (value_after [] digest_at themselves is_digest digest-encoded acts.Withdraw act_fields (is_act_of 8) (λ id is. (refl, is)))
+    (λ d. share-suffix tag (rw (a, b, c, d) at known))))))
 
 -- its fields are read by its tag
 pub act-read : (at : ℕ) (act : MemberAct) (rest : List ℕ) → is_act act ≡ true → Gets (act_at (act_tag act) (record { at = at; bytes = act_fields act ++ rest })) act rest

@@ -1,4 +1,4 @@
--- The fields of a request: what is read is spelled so, and what is spelled so is read.
+-- The fields of a request: what is read is encoded so, and what is encoded so is read.
 use Rattle.std.proofs.Common.{◌≡◌, ℕ, ◌+◌, ◌^◌, ◌<◌, ◌≤◌, ◌%◌, Bool, true, false, ◌&&◌, ◌==◌, nat_le, nat_lt, List, [], ◌∷◌, ◌++◌, length, Result, Ok, Err, refl, sym, ap, subst, ◌∙◌, append_assoc, arith}
 use Rattle.std.specs.List.{list_all, flat_map}
 use Rattle.std.proofs.lemmas.Bool.{and_parts, and_from, eqb-true}
@@ -11,19 +11,19 @@ use Rattle.gl_base.specs.Cut.{Unread, bytes_at, number_at, string_at}
 use Rattle.gl_base.specs.Code.{field, flag_byte, flag_in, flag_at}
 use Rattle.gl_base.specs.declared.fault.CodeFault.{CodeFault}
 use Rattle.gl_base.specs.declared.fault.CodeFault.TheVariants as faults
-use Rattle.gl_base.proofs.ByteLists.{AreBytes, are_bytes-true, AreBytes-front}
-use Rattle.gl_base.proofs.Fields.{bytes_at-append, bytes_at-spelled, number_at-spelled, tag_read}
+use Rattle.gl_base.proofs.ByteLists.{AreBytes, are_bytes-true, AreBytes-prefix}
+use Rattle.gl_base.proofs.Fields.{bytes_at-append, bytes_at-encoded, number_at-encoded, tag_read}
 use Rattle.gl_base.proofs.Numbers.{bytes_at_length}
 use Rattle.gl_base.proofs.RowLaws.{field_ok, flag-took, string-took, string-reads}
 use Rattle.gl_base.proofs.Steps.{bind_ok}
-use Rattle.gl_base.proofs.Readings.{IsSpelled, IsRead, bytes_left}
-use Rattle.gl_base.proofs.Repeated.{many-spelled, many-read}
-use Rattle.gl_requests.specs.Spelling.{counted_bytes}
+use Rattle.gl_base.proofs.ParsedBytes.{IsEncoded, IsRead, bytes_left}
+use Rattle.gl_base.proofs.Repeated.{many-encoded, many-read}
+use Rattle.gl_requests.specs.Encoding.{counted_bytes}
 use Rattle.gl_requests.specs.Ranges.{is_signature_field, are_counted, is_member_number}
-use Rattle.gl_requests.specs.Reading.{repeated_at, counted_at, signature_at, digest_at, member_number_in, member_number_at}
+use Rattle.gl_requests.specs.Parsing.{repeated_at, counted_at, signature_at, digest_at, member_number_in, member_number_at}
 use Rattle.gl_requests.proofs.Sizes.{sized_length}
 use Rattle.gl_requests.proofs.Repeats.{repeats}
-use Rattle.gl_requests.proofs.Behind.{IsBehind, field_behind, made_behind, from_behind, last_behind, cond_behind, fault_behind, tag_behind}
+use Rattle.gl_requests.proofs.Remainders.{IsAfter, field_after, made_after, from_after, last_after, cond_after, fault_after, tag_after}
 
 -- ---- one byte
 
@@ -33,10 +33,10 @@ byte_at unread = field (number_at 1 unread)
 abbrev pub one_byte : ℕ → List ℕ
 one_byte n = n ∷ []
 
-pub byte-spelled : IsSpelled byte_at one_byte is_byte
-byte-spelled old new n all e =
+pub byte-encoded : IsEncoded byte_at one_byte is_byte
+byte-encoded old new n all e =
     let took = flag-took n old new all (field_ok (number_at 1 old) (n, new) e) in
-    let each = AreBytes-front (n ∷ []) new.bytes (subst AreBytes took.bytes all) in
+    let each = AreBytes-prefix (n ∷ []) new.bytes (subst AreBytes took.bytes all) in
     let small : n < 256 = each 0 in
     record { parts = took.bytes; left = took.rest; limits = grind (arith, nat_tests) }
 
@@ -44,14 +44,14 @@ pub byte-read : IsRead byte_at one_byte is_byte
 byte-read at n rest is = record { place = at + 1; read = ap field (tag_read at n rest) }
 
 -- a byte, and what goes on from it and from its place
-pub tagged-spelled : {Z : Type 0} → (next : ℕ → ℕ × Unread → Result (Z × Unread) CodeFault) (bytes : Z → List ℕ) (is : Z → Bool)
-    → ((place n : ℕ) → is_byte n ≡ true → IsBehind (one_byte n) (λ unread. next place (n, unread)) bytes is)
-    → IsSpelled (λ unread. byte_at unread >>= next unread.at) bytes is
-tagged-spelled {Z = Z} next bytes is each old new z all e =
+pub tagged-encoded : {Z : Type 0} → (next : ℕ → ℕ × Unread → Result (Z × Unread) CodeFault) (bytes : Z → List ℕ) (is : Z → Bool)
+    → ((place n : ℕ) → is_byte n ≡ true → IsAfter (one_byte n) (λ unread. next place (n, unread)) bytes is)
+    → IsEncoded (λ unread. byte_at unread >>= next unread.at) bytes is
+tagged-encoded {Z = Z} next bytes is each old new z all e =
     let n = bind_ok {A = ℕ × Unread} {B = Z × Unread} {E = CodeFault} (byte_at old) (next old.at) (z, new) e in
-    let first = byte-spelled old n.0.1 n.0.0 all n.1 in
-    let behind = each old.at n.0.0 first.limits n.0.1 new z first.left n.2 in
-    record { parts = first.parts ∙ behind.parts; left = behind.left; limits = behind.limits }
+    let first = byte-encoded old n.0.1 n.0.0 all n.1 in
+    let after = each old.at n.0.0 first.limits n.0.1 new z first.left n.2 in
+    record { parts = first.parts ∙ after.parts; left = after.left; limits = after.limits }
 
 -- ---- so many bytes
 
@@ -64,11 +64,11 @@ themselves xs = xs
 are_sized-true : (size : ℕ) (xs : List ℕ) → length xs ≡ size → are_bytes xs ≡ true → are_sized size xs ≡ true
 are_sized-true size xs long all = rw (long, all) (grind (arith, nat_tests))
 
-pub sized-spelled : (size : ℕ) → IsSpelled (sized_at size) themselves (are_sized size)
-sized-spelled size old new xs all e =
+pub sized-encoded : (size : ℕ) → IsEncoded (sized_at size) themselves (are_sized size)
+sized-encoded size old new xs all e =
     let read = field_ok (bytes_at size old) (xs, new) e in
-    let parts = bytes_at-spelled size old new xs read in
-    let each = AreBytes-front xs new.bytes (subst AreBytes parts all) in
+    let parts = bytes_at-encoded size old new xs read in
+    let each = AreBytes-prefix xs new.bytes (subst AreBytes parts all) in
     record {
       parts = parts;
       left = bytes_left old.bytes xs new.bytes all parts;
@@ -83,9 +83,9 @@ sized-read size at xs rest is =
       read = subst (λ (n : ℕ). sized_at n (record { at = at; bytes = xs ++ rest }) ≡ Ok (xs, record { at = at + length xs; bytes = rest })) long (ap field (bytes_at-append at xs rest));
     }
 
-pub digest-spelled : IsSpelled digest_at themselves is_digest
+pub digest-encoded : IsEncoded digest_at themselves is_digest
 unfolding digest_at
-digest-spelled = sized-spelled 32
+digest-encoded = sized-encoded 32
 
 pub digest-read : IsRead digest_at themselves is_digest
 unfolding digest_at
@@ -93,9 +93,9 @@ digest-read = sized-read 32
 
 -- ---- an endorsement or a signature
 
-pub signature-spelled : IsSpelled signature_at with_u32_length is_signature_field
+pub signature-encoded : IsEncoded signature_at with_u32_length is_signature_field
 unfolding signature_at
-signature-spelled old new xs all e =
+signature-encoded old new xs all e =
     let took = string-took 4 mebibyte old new xs all (field_ok (string_at 4 mebibyte old) (xs, new) e) in
     let within = took.within in
     let few : nat_le (length xs) mebibyte ≡ true = grind (arith, nat_tests) in
@@ -110,12 +110,12 @@ signature-read at xs rest is =
 
 -- ---- the number of a member
 
-pub member_number-spelled : IsSpelled member_number_at one_byte is_member_number
+pub member_number-encoded : IsEncoded member_number_at one_byte is_member_number
 unfolding member_number_at
-member_number-spelled = tagged-spelled member_number_in one_byte is_member_number
-    (λ place n byte. cond_behind (n == 0) (one_byte n) (λ unread. Err (faults.Value place)) (λ unread. Ok (n, unread)) one_byte is_member_number
-    (λ none. fault_behind (one_byte n) (faults.Value place) one_byte is_member_number)
-    (λ some. made_behind (one_byte n) n one_byte is_member_number refl
+member_number-encoded = tagged-encoded member_number_in one_byte is_member_number
+    (λ place n byte. cond_after (n == 0) (one_byte n) (λ unread. Err (faults.Value place)) (λ unread. Ok (n, unread)) one_byte is_member_number
+    (λ none. fault_after (one_byte n) (faults.Value place) one_byte is_member_number)
+    (λ some. made_after (one_byte n) n one_byte is_member_number refl
     (let least : nat_le 1 n ≡ true = grind (arith, nat_tests, some) in and_from (nat_le 1 n) (is_byte n) least byte)))
 
 pub member_number-read : IsRead member_number_at one_byte is_member_number
@@ -133,14 +133,14 @@ flag_bytes flag = flag_byte flag ∷ []
 abbrev pub any_flag : Bool → Bool
 any_flag flag = true
 
-pub flag-spelled : IsSpelled flag_at flag_bytes any_flag
+pub flag-encoded : IsEncoded flag_at flag_bytes any_flag
 unfolding flag_at
-flag-spelled = tagged-spelled flag_in flag_bytes any_flag
-    (λ place n byte. tag_behind n 0 one_byte (λ unread. Ok (false, unread)) _ flag_bytes (λ k. any_flag)
-    (made_behind (one_byte 0) false flag_bytes any_flag refl refl)
-    (λ some. tag_behind n 1 one_byte (λ unread. Ok (true, unread)) _ flag_bytes (λ k. any_flag)
-    (made_behind (one_byte 1) true flag_bytes any_flag refl refl)
-    (λ other. fault_behind (one_byte n) (faults.Value place) flag_bytes any_flag)))
+flag-encoded = tagged-encoded flag_in flag_bytes any_flag
+    (λ place n byte. tag_after n 0 one_byte (λ unread. Ok (false, unread)) _ flag_bytes (λ k. any_flag)
+    (made_after (one_byte 0) false flag_bytes any_flag refl refl)
+    (λ some. tag_after n 1 one_byte (λ unread. Ok (true, unread)) _ flag_bytes (λ k. any_flag)
+    (made_after (one_byte 1) true flag_bytes any_flag refl refl)
+    (λ other. fault_after (one_byte n) (faults.Value place) flag_bytes any_flag)))
 
 pub flag-read : IsRead flag_at flag_bytes any_flag
 unfolding flag_at
@@ -152,10 +152,10 @@ flag-read at true rest is = record { place = at + 1; read = rw (tag_read at 1 re
 abbrev pub are_many : {X : Type 0} → (X → Bool) → ℕ → List X → Bool
 are_many is n xs = (length xs == n) && list_all is xs
 
-pub repeated-spelled : {X : Type 0} → (one : Unread → Result (X × Unread) CodeFault) (bytes : X → List ℕ) (is : X → Bool)
-    → IsSpelled one bytes is → (n : ℕ) → IsSpelled (repeated_at one n) (flat_map bytes) (are_many is n)
-repeated-spelled one bytes is spelled n old new xs all e =
-    let there = many-spelled (repeats one) bytes is spelled n old new xs all e in
+pub repeated-encoded : {X : Type 0} → (one : Unread → Result (X × Unread) CodeFault) (bytes : X → List ℕ) (is : X → Bool)
+    → IsEncoded one bytes is → (n : ℕ) → IsEncoded (repeated_at one n) (flat_map bytes) (are_many is n)
+repeated-encoded one bytes is encoded n old new xs all e =
+    let there = many-encoded (repeats one) bytes is encoded n old new xs all e in
     let long = there.1 in
     let count : (length xs == n) ≡ true = rw long (grind (arith, nat_tests)) in
     record { parts = there.0.parts; left = there.0.left; limits = and_from (length xs == n) (list_all is xs) count there.0.limits }
@@ -169,7 +169,7 @@ count_byte n byte =
     let same : n % 256 ≡ n = omega arith in
     ap (λ (m : ℕ). m ∷ []) same
 
--- so many parts behind the byte of their number are counted parts
+-- so many parts after the byte of their number are counted parts
 pub counted-made : {X : Type 0} → (bytes : X → List ℕ) (n : ℕ) (xs : List X) → is_byte n ≡ true → length xs ≡ n → n ∷ flat_map bytes xs ≡ counted_bytes bytes xs
 counted-made bytes n xs byte long =
     ap (λ (ys : List ℕ). ys ++ flat_map bytes xs) (sym (count_byte n byte) ∙ ap (little_endian 1) (sym long))
@@ -182,21 +182,21 @@ counted-all bytes is n xs byte many =
     let few : nat_lt (length xs) 256 ≡ true = subst (λ (k : ℕ). is_byte k ≡ true) (sym long) byte in
     (counted-made bytes n xs byte long, and_from (nat_lt (length xs) 256) (list_all is xs) few both.1)
 
-pub counted-spelled : {X : Type 0} → (one : Unread → Result (X × Unread) CodeFault) (bytes : X → List ℕ) (is : X → Bool)
-    → IsSpelled one bytes is → IsSpelled (counted_at one) (counted_bytes bytes) (are_counted is)
+pub counted-encoded : {X : Type 0} → (one : Unread → Result (X × Unread) CodeFault) (bytes : X → List ℕ) (is : X → Bool)
+    → IsEncoded one bytes is → IsEncoded (counted_at one) (counted_bytes bytes) (are_counted is)
 unfolding counted_at
-counted-spelled {X = X} one bytes is spelled = from_behind (counted_at one) (counted_bytes bytes) (are_counted is)
-    (field_behind [] byte_at one_byte is_byte byte-spelled (λ (count : ℕ × Unread). repeated_at one count.0 count.1) (counted_bytes bytes) (are_counted is)
-    (λ n byte. last_behind (one_byte n) (repeated_at one n) (flat_map bytes) (are_many is n) (repeated-spelled one bytes is spelled n) (counted_bytes bytes) (are_counted is)
+counted-encoded {X = X} one bytes is encoded = from_after (counted_at one) (counted_bytes bytes) (are_counted is)
+    (field_after [] byte_at one_byte is_byte byte-encoded (λ (count : ℕ × Unread). repeated_at one count.0 count.1) (counted_bytes bytes) (are_counted is)
+    (λ n byte. last_after (one_byte n) (repeated_at one n) (flat_map bytes) (are_many is n) (repeated-encoded one bytes is encoded n) (counted_bytes bytes) (are_counted is)
     (λ xs many. counted-all bytes is n xs byte many)))
 
--- the count of a list, and the parts behind it
+-- the count of a list, and the parts after it
 pub counted-gets : {X : Type 0} → (bytes : X → List ℕ) (at : ℕ) (xs : List X) (rest : List ℕ) → is_byte (length xs) ≡ true
     → byte_at (record { at = at; bytes = counted_bytes bytes xs ++ rest }) ≡ Ok (length xs, record { at = at + 1; bytes = flat_map bytes xs ++ rest })
 counted-gets bytes at xs rest few =
     let small : length xs < 256 ^ 1 = grind (arith, nat_tests, few) in
     ap (λ (ys : List ℕ). byte_at (record { at = at; bytes = ys })) (append_assoc (little_endian 1 (length xs)) (flat_map bytes xs) rest)
-    ∙ ap field (number_at-spelled 1 at (length xs) (flat_map bytes xs ++ rest) small)
+    ∙ ap field (number_at-encoded 1 at (length xs) (flat_map bytes xs ++ rest) small)
 
 pub counted-read : {X : Type 0} → (one : Unread → Result (X × Unread) CodeFault) (bytes : X → List ℕ) (is : X → Bool)
     → IsRead one bytes is → IsRead (counted_at one) (counted_bytes bytes) (are_counted is)

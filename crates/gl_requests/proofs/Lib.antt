@@ -1,6 +1,6 @@
 pub mod Sizes
 pub mod Repeats
-pub mod Behind
+pub mod Remainders
 pub mod FieldReadings
 pub mod PartReadings
 pub mod ActionReadings

@@ -1,4 +1,4 @@
--- The parts of a request: what is read is spelled so, and what is spelled so is read.
+-- The parts of a request: what is read is encoded so, and what is encoded so is read.
 use Rattle.std.proofs.Common.{◌≡◌, ℕ, ◌+◌, ◌^◌, ◌<◌, Bool, true, ◌&&◌, nat_lt, List, [], ◌∷◌, ◌++◌, length, take, Result, Ok, refl, sym, ap, subst, ◌∙◌, append_assoc, arith}
 use Rattle.std.proofs.lemmas.Bool.{and_parts, and_from}
 use Rattle.std.proofs.lemmas.Bool.Decides.{nat_tests}
@@ -11,32 +11,32 @@ use Rattle.gl_base.specs.declared.fault.CodeFault.{CodeFault}
 use Rattle.gl_base.specs.declared.fault.CodeFault.TheVariants as faults
 use Rattle.gl_base.proofs.ByteLists.{AreBytes, AreBytes-take}
 use Rattle.gl_base.proofs.LittleEndianLaws.{from_little_endian-lt}
-use Rattle.gl_base.proofs.Fields.{number_at-spelled, number_spelled, tag_read}
+use Rattle.gl_base.proofs.Fields.{number_at-encoded, number_encoded, tag_read}
 use Rattle.std.proofs.lemmas.List.{length-take-le}
 use Rattle.gl_base.proofs.Numbers.{number_at_ok}
 use Rattle.gl_base.proofs.RowLaws.{field_ok}
-use Rattle.gl_base.proofs.Readings.{IsSpelled, IsRead, bytes_left}
+use Rattle.gl_base.proofs.ParsedBytes.{IsEncoded, IsRead, bytes_left}
 use Rattle.gl_requests.specs.declared.genesis.ServiceState.{ServiceState}
 use Rattle.gl_requests.specs.declared.genesis.ServiceState.TheVariants.{Opening, Open, WaitingForRecoveryShares}
-use Rattle.gl_requests.specs.Spelling.{state_byte, counted_bytes, node_bytes, member_bytes, share_bytes, dealing_bytes, rule_bytes}
+use Rattle.gl_requests.specs.Encoding.{state_byte, counted_bytes, node_bytes, member_bytes, share_bytes, dealing_bytes, rule_bytes}
 use Rattle.gl_requests.specs.Ranges.{is_signature_field, are_counted, is_node, is_member_number, is_member, is_share, is_dealing, is_rule, is_first_state}
-use Rattle.gl_requests.specs.Reading.{counted_at, state_in, state_at, signature_at, digest_at, node_at, member_number_at, member_at, share_at, dealing_at, rule_at}
-use Rattle.gl_requests.proofs.Behind.{field_behind, made_behind, from_behind, fault_behind, tag_behind}
-use Rattle.gl_requests.proofs.FieldReadings.{byte_at, one_byte, byte-spelled, byte-read, tagged-spelled, sized_at, themselves, sized-spelled, sized-read, digest-spelled, digest-read, signature-spelled, signature-read, member_number-spelled, member_number-read, counted-spelled, counted-read}
+use Rattle.gl_requests.specs.Parsing.{counted_at, state_in, state_at, signature_at, digest_at, node_at, member_number_at, member_at, share_at, dealing_at, rule_at}
+use Rattle.gl_requests.proofs.Remainders.{field_after, made_after, from_after, fault_after, tag_after}
+use Rattle.gl_requests.proofs.FieldReadings.{byte_at, one_byte, byte-encoded, byte-read, tagged-encoded, sized_at, themselves, sized-encoded, sized-read, digest-encoded, digest-read, signature-encoded, signature-read, member_number-encoded, member_number-read, counted-encoded, counted-read}
 
 -- ---- the state
 
 abbrev pub state_bytes : ServiceState → List ℕ
 state_bytes state = state_byte state ∷ []
 
-pub state-spelled : IsSpelled state_at state_bytes is_first_state
+pub state-encoded : IsEncoded state_at state_bytes is_first_state
 unfolding state_at
-state-spelled = tagged-spelled state_in state_bytes is_first_state
-    (λ place n byte. tag_behind n 1 one_byte (λ unread. Ok (Opening, unread)) _ state_bytes (λ k. is_first_state)
-    (made_behind (one_byte 1) Opening state_bytes is_first_state refl refl)
-    (λ other. tag_behind n 2 one_byte (λ unread. Ok (Open, unread)) _ state_bytes (λ k. is_first_state)
-    (made_behind (one_byte 2) Open state_bytes is_first_state refl refl)
-    (λ none. fault_behind (one_byte n) (faults.Value place) state_bytes is_first_state)))
+state-encoded = tagged-encoded state_in state_bytes is_first_state
+    (λ place n byte. tag_after n 1 one_byte (λ unread. Ok (Opening, unread)) _ state_bytes (λ k. is_first_state)
+    (made_after (one_byte 1) Opening state_bytes is_first_state refl refl)
+    (λ other. tag_after n 2 one_byte (λ unread. Ok (Open, unread)) _ state_bytes (λ k. is_first_state)
+    (made_after (one_byte 2) Open state_bytes is_first_state refl refl)
+    (λ none. fault_after (one_byte n) (faults.Value place) state_bytes is_first_state)))
 
 pub state-read : IsRead state_at state_bytes is_first_state
 unfolding state_at
@@ -46,12 +46,12 @@ state-read at WaitingForRecoveryShares rest is = absurd (cc)
 
 -- ---- a node, a member, a share
 
-pub node-spelled : IsSpelled node_at node_bytes is_node
+pub node-encoded : IsEncoded node_at node_bytes is_node
 unfolding node_at
-node-spelled = from_behind node_at node_bytes is_node
-    (field_behind [] (sized_at 56) themselves (are_sized 56) (sized-spelled 56) _ node_bytes is_node
-    (λ key sized. field_behind key signature_at with_u32_length is_signature_field signature-spelled _ node_bytes is_node
-    (λ endorsement fits. made_behind (key ++ with_u32_length endorsement) (record { key = key; endorsement = endorsement }) node_bytes is_node refl
+node-encoded = from_after node_at node_bytes is_node
+    (field_after [] (sized_at 56) themselves (are_sized 56) (sized-encoded 56) _ node_bytes is_node
+    (λ key sized. field_after key signature_at with_u32_length is_signature_field signature-encoded _ node_bytes is_node
+    (λ endorsement fits. made_after (key ++ with_u32_length endorsement) (record { key = key; endorsement = endorsement }) node_bytes is_node refl
     (and_from (are_sized 56 key) (is_signature_field endorsement) sized fits))))
 
 pub node-read : IsRead node_at node_bytes is_node
@@ -66,12 +66,12 @@ node-read at n rest is =
       read = ap (λ (ys : List ℕ). node_at (record { at = at; bytes = ys })) regrouped ∙ rw (key.read, endorsement.read) refl;
     }
 
-pub member-spelled : IsSpelled member_at member_bytes is_member
+pub member-encoded : IsEncoded member_at member_bytes is_member
 unfolding member_at
-member-spelled = from_behind member_at member_bytes is_member
-    (field_behind [] member_number_at one_byte is_member_number member_number-spelled _ member_bytes is_member
-    (λ number valid. field_behind (one_byte number) (sized_at 60) themselves (are_sized 60) (sized-spelled 60) _ member_bytes is_member
-    (λ key sized. made_behind (number ∷ key) (record { number = number; key = key }) member_bytes is_member refl
+member-encoded = from_after member_at member_bytes is_member
+    (field_after [] member_number_at one_byte is_member_number member_number-encoded _ member_bytes is_member
+    (λ number valid. field_after (one_byte number) (sized_at 60) themselves (are_sized 60) (sized-encoded 60) _ member_bytes is_member
+    (λ key sized. made_after (number ∷ key) (record { number = number; key = key }) member_bytes is_member refl
     (and_from (is_member_number number) (are_sized 60 key) valid sized))))
 
 pub member-read : IsRead member_at member_bytes is_member
@@ -82,12 +82,12 @@ member-read at m rest is =
     let key = sized-read 60 number.place m.key rest both.1 in
     record { place = key.place; read = rw (number.read, key.read) refl }
 
-pub share-spelled : IsSpelled share_at share_bytes is_share
+pub share-encoded : IsEncoded share_at share_bytes is_share
 unfolding share_at
-share-spelled = from_behind share_at share_bytes is_share
-    (field_behind [] member_number_at one_byte is_member_number member_number-spelled _ share_bytes is_share
-    (λ member valid. field_behind (one_byte member) digest_at themselves is_digest digest-spelled _ share_bytes is_share
-    (λ digest sized. made_behind (member ∷ digest) (record { member = member; digest = digest }) share_bytes is_share refl
+share-encoded = from_after share_at share_bytes is_share
+    (field_after [] member_number_at one_byte is_member_number member_number-encoded _ share_bytes is_share
+    (λ member valid. field_after (one_byte member) digest_at themselves is_digest digest-encoded _ share_bytes is_share
+    (λ digest sized. made_after (member ∷ digest) (record { member = member; digest = digest }) share_bytes is_share refl
     (and_from (is_member_number member) (is_digest digest) valid sized))))
 
 pub share-read : IsRead share_at share_bytes is_share
@@ -100,13 +100,13 @@ share-read at s rest is =
 
 -- ---- a dealing
 
-pub dealing-spelled : IsSpelled dealing_at dealing_bytes is_dealing
+pub dealing-encoded : IsEncoded dealing_at dealing_bytes is_dealing
 unfolding dealing_at
-dealing-spelled = from_behind dealing_at dealing_bytes is_dealing
-    (field_behind [] byte_at one_byte is_byte byte-spelled _ dealing_bytes is_dealing
-    (λ threshold byte. field_behind (one_byte threshold) digest_at themselves is_digest digest-spelled _ dealing_bytes is_dealing
-    (λ secret sized. field_behind (threshold ∷ secret) (counted_at share_at) (counted_bytes share_bytes) (are_counted is_share) (counted-spelled share_at share_bytes is_share share-spelled) _ dealing_bytes is_dealing
-    (λ shares valid. made_behind ((threshold ∷ secret) ++ counted_bytes share_bytes shares) (record { threshold = threshold; secret_digest = secret; shares = shares }) dealing_bytes is_dealing refl
+dealing-encoded = from_after dealing_at dealing_bytes is_dealing
+    (field_after [] byte_at one_byte is_byte byte-encoded _ dealing_bytes is_dealing
+    (λ threshold byte. field_after (one_byte threshold) digest_at themselves is_digest digest-encoded _ dealing_bytes is_dealing
+    (λ secret sized. field_after (threshold ∷ secret) (counted_at share_at) (counted_bytes share_bytes) (are_counted is_share) (counted-encoded share_at share_bytes is_share share-encoded) _ dealing_bytes is_dealing
+    (λ shares valid. made_after ((threshold ∷ secret) ++ counted_bytes share_bytes shares) (record { threshold = threshold; secret_digest = secret; shares = shares }) dealing_bytes is_dealing refl
     (and_from (is_byte threshold && is_digest secret) (are_counted is_share shares) (and_from (is_byte threshold) (is_digest secret) byte sized) valid)))))
 
 pub dealing-read : IsRead dealing_at dealing_bytes is_dealing
@@ -135,17 +135,17 @@ is_half n = nat_lt n (2 ^ 16)
 number_below : (size n : ℕ) (old new : Unread) → AreBytes old.bytes → number_at size old ≡ Ok (n, new) → n < 256 ^ size
 number_below size n old new all e =
     let number = number_at_ok size n old new e in
-    let front : AreBytes (take size old.bytes) = AreBytes-take size old.bytes all in
-    let long : length number.bytes ≡ size = ap length number.taken.front ∙ length-take-le size old.bytes number.taken.enough in
-    let small : from_little_endian number.bytes < 256 ^ length number.bytes = from_little_endian-lt number.bytes (subst AreBytes (sym number.taken.front) front) in
+    let prefix : AreBytes (take size old.bytes) = AreBytes-take size old.bytes all in
+    let long : length number.bytes ≡ size = ap length number.taken.prefix ∙ length-take-le size old.bytes number.taken.enough in
+    let small : from_little_endian number.bytes < 256 ^ length number.bytes = from_little_endian-lt number.bytes (subst AreBytes (sym number.taken.prefix) prefix) in
     let below : from_little_endian number.bytes < 256 ^ size = subst (λ (k : ℕ). from_little_endian number.bytes < 256 ^ k) long small in
     let value = number.value in
     rw value below
 
-half-spelled : IsSpelled half_at (little_endian 2) is_half
-half-spelled old new n all e =
+half-encoded : IsEncoded half_at (little_endian 2) is_half
+half-encoded old new n all e =
     let read = field_ok (number_at 2 old) (n, new) e in
-    let parts = number_spelled 2 n old new (AreBytes-take 2 old.bytes all) read in
+    let parts = number_encoded 2 n old new (AreBytes-take 2 old.bytes all) read in
     let small : n < 256 ^ 2 = number_below 2 n old new all read in
     let few : is_half n ≡ true = grind (arith, nat_tests) in
     record { parts = parts; left = bytes_left old.bytes (little_endian 2 n) new.bytes all parts; limits = few }
@@ -153,14 +153,14 @@ half-spelled old new n all e =
 half-read : IsRead half_at (little_endian 2) is_half
 half-read at n rest is =
     let small : n < 256 ^ 2 = grind (arith, nat_tests, is) in
-    record { place = at + 2; read = ap field (number_at-spelled 2 at n rest small) }
+    record { place = at + 2; read = ap field (number_at-encoded 2 at n rest small) }
 
-pub rule-spelled : IsSpelled rule_at rule_bytes is_rule
+pub rule-encoded : IsEncoded rule_at rule_bytes is_rule
 unfolding rule_at
-rule-spelled = from_behind rule_at rule_bytes is_rule
-    (field_behind [] half_at (little_endian 2) is_half half-spelled _ rule_bytes is_rule
-    (λ num few. field_behind (little_endian 2 num) half_at (little_endian 2) is_half half-spelled _ rule_bytes is_rule
-    (λ den small. made_behind (little_endian 2 num ++ little_endian 2 den) (record { num = num; den = den }) rule_bytes is_rule refl
+rule-encoded = from_after rule_at rule_bytes is_rule
+    (field_after [] half_at (little_endian 2) is_half half-encoded _ rule_bytes is_rule
+    (λ num few. field_after (little_endian 2 num) half_at (little_endian 2) is_half half-encoded _ rule_bytes is_rule
+    (λ den small. made_after (little_endian 2 num ++ little_endian 2 den) (record { num = num; den = den }) rule_bytes is_rule refl
     (and_from (is_half num) (is_half den) few small))))
 
 pub rule-read : IsRead rule_at rule_bytes is_rule

@@ -6,9 +6,9 @@ use Rattle.gl_base.specs.Bytes.{is_byte, are_bytes, are_sized}
 use Rattle.gl_requests.specs.Ranges.{is_member_number}
 
 -- the part that holds tests nothing
-pub behind_true : (a b : Bool) → a ≡ true → (a && b) ≡ b
-behind_true true b h = refl
-behind_true false b h = absurd (cc)
+pub after_true : (a b : Bool) → a ≡ true → (a && b) ≡ b
+after_true true b h = refl
+after_true false b h = absurd (cc)
 
 pub before_true : (a b : Bool) → b ≡ true → (a && b) ≡ a
 before_true true b h = h

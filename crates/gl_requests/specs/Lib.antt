@@ -1,3 +1,3 @@
-pub mod Spelling
+pub mod Encoding
 pub mod Ranges
-pub mod Reading
+pub mod Parsing

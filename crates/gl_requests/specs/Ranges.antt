@@ -1,4 +1,4 @@
--- Which values are requests: the ranges of their fields, within which bytes spell one of them
+-- Which values are requests: the ranges of their fields, within which bytes encode one of them
 -- alone.
 use Rattle.std.specs.Prelude.{ℕ, ◌^◌, List, Bool, true, false, ◌&&◌, ◌==◌, length, nat_le, nat_lt}
 use Rattle.std.specs.List.{list_all}

@@ -1,4 +1,4 @@
-//! Values once more, in memory of their own. Each copy fails for want of memory alone.
+//! Values once more, in memory of their own. Each copy fails only where memory runs out.
 
 ghost use Rattle.std.specs.Prelude.{◌≡◌, IfOk};
 

@@ -4,9 +4,9 @@ ghost use Rattle.std.specs.Prelude.{◌≡◌, true, Result, IfOk, Ok};
 ghost use Rattle.gl_base.specs.Answers.{Answers};
 ghost use Rattle.gl_base.specs.Cut.{Unread};
 ghost use Rattle.gl_base.specs.declared.fault.CodeFault.{CodeFault as Fault};
-ghost use Rattle.gl_requests.specs.Spelling.{request_bytes};
+ghost use Rattle.gl_requests.specs.Encoding.{request_bytes};
 ghost use Rattle.gl_requests.specs.Ranges.{is_request};
-ghost use Rattle.gl_requests.specs.Reading.{repeated_at, counted_at, state_at, signature_at, digest_at, node_at, member_number_at, member_at, share_at, dealing_at, rule_at, action_at, action_fields_at, actions_at, ballot_at, act_at, member_request_at, genesis_at, recovery_at, request_behind, request_at, request_result};
+ghost use Rattle.gl_requests.specs.Parsing.{repeated_at, counted_at, state_at, signature_at, digest_at, node_at, member_number_at, member_at, share_at, dealing_at, rule_at, action_at, action_fields_at, actions_at, ballot_at, act_at, member_request_at, genesis_at, recovery_at, request_after, request_at, request_result};
 ghost use Rattle.gl_requests.specs.declared.request.GovernanceRequest.{GovernanceRequest as Request};
 
 use crate::action::{Action, Rule};
@@ -21,11 +21,11 @@ use crate::request::{GovernanceRequest, MemberAct, MemberRequest};
 use gl_base::{Bytes, CodeFault, Cut, MEBIBYTE, OrNoMemory, Sequence};
 use std::alloc::Global;
 
-/// A part of which a request has several, one behind the other.
+/// A part of which a request has several, one after the other.
 trait Decode: Drop {
     ghost reading: { Unread → Result (Self × Unread) Fault };
 
-    /// Reads the part from the front of what is still to be read.
+    /// Reads the part from the start of what is still to be read.
     fn read(alloc: Global, cut: &mut Cut<'_>) -> Result<Self, OrNoMemory<CodeFault>>
         ensures { Answers (λ part. (part, cut.new)) result (reading cut.old) };
 }
@@ -44,8 +44,8 @@ fn read_repeated<T: Decode>(
     Ok(Sequence::from(parts))
 }
 
-/// Reads the parts behind their count.
-#[tactic(auto, unfolding(crate::specs::Reading::counted_at))]
+/// Reads the parts after their count.
+#[tactic(auto, unfolding(crate::specs::Parsing::counted_at))]
 fn read_counted<T: Decode>(
     alloc: Global,
     cut: &mut Cut<'_>,
@@ -56,7 +56,7 @@ fn read_counted<T: Decode>(
     read_repeated(alloc, count, cut)
 }
 
-#[tactic(auto, unfolding(crate::specs::Reading::state_at))]
+#[tactic(auto, unfolding(crate::specs::Parsing::state_at))]
 fn read_state(cut: &mut Cut<'_>) -> Result<ServiceState, OrNoMemory<CodeFault>>
     ensures { Answers (λ state. (state, cut.new)) result (state_at cut.old) }
 {
@@ -68,7 +68,7 @@ fn read_state(cut: &mut Cut<'_>) -> Result<ServiceState, OrNoMemory<CodeFault>>
     }
 }
 
-#[tactic(auto, unfolding(crate::specs::Reading::signature_at))]
+#[tactic(auto, unfolding(crate::specs::Parsing::signature_at))]
 fn read_signature(alloc: Global, cut: &mut Cut<'_>) -> Result<Bytes, OrNoMemory<CodeFault>>
     ensures { Answers (λ signature. (signature, cut.new)) result (signature_at cut.old) }
 {
@@ -76,7 +76,7 @@ fn read_signature(alloc: Global, cut: &mut Cut<'_>) -> Result<Bytes, OrNoMemory<
     Ok(Bytes::from(Vec::from_slice(alloc, bytes)?))
 }
 
-#[tactic(auto, unfolding(crate::specs::Reading::digest_at))]
+#[tactic(auto, unfolding(crate::specs::Parsing::digest_at))]
 fn read_digest(cut: &mut Cut<'_>) -> Result<Digest, OrNoMemory<CodeFault>>
     ensures { Answers (λ digest. (digest, cut.new)) result (digest_at cut.old) }
 {
@@ -84,7 +84,7 @@ fn read_digest(cut: &mut Cut<'_>) -> Result<Digest, OrNoMemory<CodeFault>>
 }
 
 /// Reads the number of a member, which isn't 0.
-#[tactic(auto, unfolding(crate::specs::Reading::member_number_at))]
+#[tactic(auto, unfolding(crate::specs::Parsing::member_number_at))]
 fn read_member_number(cut: &mut Cut<'_>) -> Result<u8, OrNoMemory<CodeFault>>
     ensures { Answers (λ number. (number, cut.new)) result (member_number_at cut.old) }
 {
@@ -99,7 +99,7 @@ fn read_member_number(cut: &mut Cut<'_>) -> Result<u8, OrNoMemory<CodeFault>>
 impl Decode for NewNode {
     ghost reading = { node_at };
 
-    #[tactic(auto, unfolding(crate::specs::Reading::node_at))]
+    #[tactic(auto, unfolding(crate::specs::Parsing::node_at))]
     fn read(alloc: Global, cut: &mut Cut<'_>) -> Result<NewNode, OrNoMemory<CodeFault>> {
         let key = *cut.array::<56>()?;
         let endorsement = read_signature(alloc, cut)?;
@@ -110,7 +110,7 @@ impl Decode for NewNode {
 impl Decode for NewMember {
     ghost reading = { member_at };
 
-    #[tactic(auto, unfolding(crate::specs::Reading::member_at))]
+    #[tactic(auto, unfolding(crate::specs::Parsing::member_at))]
     fn read(_alloc: Global, cut: &mut Cut<'_>) -> Result<NewMember, OrNoMemory<CodeFault>> {
         let number = read_member_number(cut)?;
         let key = *cut.array::<60>()?;
@@ -121,7 +121,7 @@ impl Decode for NewMember {
 impl Decode for ShareDigest {
     ghost reading = { share_at };
 
-    #[tactic(auto, unfolding(crate::specs::Reading::share_at))]
+    #[tactic(auto, unfolding(crate::specs::Parsing::share_at))]
     fn read(_alloc: Global, cut: &mut Cut<'_>) -> Result<ShareDigest, OrNoMemory<CodeFault>> {
         let member = read_member_number(cut)?;
         let digest = read_digest(cut)?;
@@ -132,7 +132,7 @@ impl Decode for ShareDigest {
 impl Decode for Rule {
     ghost reading = { rule_at };
 
-    #[tactic(auto, unfolding(crate::specs::Reading::rule_at))]
+    #[tactic(auto, unfolding(crate::specs::Parsing::rule_at))]
     fn read(_alloc: Global, cut: &mut Cut<'_>) -> Result<Rule, OrNoMemory<CodeFault>> {
         let num = cut.u16()?;
         let den = cut.u16()?;
@@ -140,7 +140,7 @@ impl Decode for Rule {
     }
 }
 
-#[tactic(auto, unfolding(crate::specs::Reading::dealing_at))]
+#[tactic(auto, unfolding(crate::specs::Parsing::dealing_at))]
 fn read_dealing(alloc: Global, cut: &mut Cut<'_>) -> Result<Dealing, OrNoMemory<CodeFault>>
     ensures { Answers (λ dealing. (dealing, cut.new)) result (dealing_at cut.old) }
 {
@@ -155,7 +155,7 @@ fn read_dealing(alloc: Global, cut: &mut Cut<'_>) -> Result<Dealing, OrNoMemory<
 }
 
 /// Reads the fields of the action with the number, which stands at the place.
-#[tactic(auto, unfolding(crate::specs::Reading::action_fields_at))]
+#[tactic(auto, unfolding(crate::specs::Parsing::action_fields_at))]
 fn read_action_fields(
     alloc: Global,
     place: usize,
@@ -180,7 +180,7 @@ fn read_action_fields(
 impl Decode for Action {
     ghost reading = { action_at };
 
-    #[tactic(auto, unfolding(crate::specs::Reading::action_at))]
+    #[tactic(auto, unfolding(crate::specs::Parsing::action_at))]
     fn read(alloc: Global, cut: &mut Cut<'_>) -> Result<Action, OrNoMemory<CodeFault>> {
         let place = cut.at();
         let number = cut.u8()?;
@@ -188,8 +188,8 @@ impl Decode for Action {
     }
 }
 
-/// Reads the actions of a proposal behind their count, which is from 1 to 16.
-#[tactic(auto, unfolding(crate::specs::Reading::actions_at))]
+/// Reads the actions of a proposal after their count, which is from 1 to 16.
+#[tactic(auto, unfolding(crate::specs::Parsing::actions_at))]
 fn read_actions(alloc: Global, cut: &mut Cut<'_>) -> Result<Sequence<Action>, OrNoMemory<CodeFault>>
     ensures { Answers (λ actions. (actions, cut.new)) result (actions_at cut.old) }
 {
@@ -201,7 +201,7 @@ fn read_actions(alloc: Global, cut: &mut Cut<'_>) -> Result<Sequence<Action>, Or
     read_repeated(alloc, count, cut)
 }
 
-#[tactic(auto, unfolding(crate::specs::Reading::ballot_at))]
+#[tactic(auto, unfolding(crate::specs::Parsing::ballot_at))]
 fn read_ballot(cut: &mut Cut<'_>) -> Result<MemberAct, OrNoMemory<CodeFault>>
     ensures { Answers (λ act. (act, cut.new)) result (ballot_at cut.old) }
 {
@@ -211,7 +211,7 @@ fn read_ballot(cut: &mut Cut<'_>) -> Result<MemberAct, OrNoMemory<CodeFault>>
 }
 
 /// Reads what a member asks for by a request with the tag, which is from 5 to 9.
-#[tactic(auto, unfolding(crate::specs::Reading::act_at))]
+#[tactic(auto, unfolding(crate::specs::Parsing::act_at))]
 fn read_act(alloc: Global, tag: u8, cut: &mut Cut<'_>) -> Result<MemberAct, OrNoMemory<CodeFault>>
     ensures { Answers (λ act. (act, cut.new)) result (act_at tag cut.old) }
 {
@@ -228,7 +228,7 @@ fn read_act(alloc: Global, tag: u8, cut: &mut Cut<'_>) -> Result<MemberAct, OrNo
     }
 }
 
-#[tactic(auto, unfolding(crate::specs::Reading::member_request_at))]
+#[tactic(auto, unfolding(crate::specs::Parsing::member_request_at))]
 fn read_member_request(
     alloc: Global,
     tag: u8,
@@ -246,7 +246,7 @@ fn read_member_request(
     })
 }
 
-#[tactic(auto, unfolding(crate::specs::Reading::genesis_at))]
+#[tactic(auto, unfolding(crate::specs::Parsing::genesis_at))]
 fn read_genesis(alloc: Global, cut: &mut Cut<'_>) -> Result<Genesis, OrNoMemory<CodeFault>>
     ensures { Answers (λ genesis. (genesis, cut.new)) result (genesis_at cut.old) }
 {
@@ -264,7 +264,7 @@ fn read_genesis(alloc: Global, cut: &mut Cut<'_>) -> Result<Genesis, OrNoMemory<
     })
 }
 
-#[tactic(auto, unfolding(crate::specs::Reading::recovery_at))]
+#[tactic(auto, unfolding(crate::specs::Parsing::recovery_at))]
 fn read_recovery(alloc: Global, cut: &mut Cut<'_>) -> Result<Recovery, OrNoMemory<CodeFault>>
     ensures { Answers (λ recovery. (recovery, cut.new)) result (recovery_at cut.old) }
 {
@@ -273,16 +273,16 @@ fn read_recovery(alloc: Global, cut: &mut Cut<'_>) -> Result<Recovery, OrNoMemor
     Ok(Recovery { identity, nodes })
 }
 
-/// Reads what stands behind the tag, which stands at the place.
-#[tactic(auto, unfolding(crate::specs::Reading::request_behind))]
-fn read_behind(
+/// Reads what stands after the tag, which stands at the place.
+#[tactic(auto, unfolding(crate::specs::Parsing::request_after))]
+fn read_after(
     alloc: Global,
     place: usize,
     tag: u8,
     cut: &mut Cut<'_>,
 ) -> Result<GovernanceRequest, OrNoMemory<CodeFault>>
     ensures { Answers (λ request. (request, cut.new)) result
-        (request_behind place (tag, cut.old)) }
+        (request_after place (tag, cut.old)) }
 {
     match tag {
         GENESIS_TAG => Ok(GovernanceRequest::Genesis(read_genesis(alloc, cut)?)),
@@ -294,8 +294,8 @@ fn read_behind(
     }
 }
 
-/// Reads a tag, and the request behind it.
-#[tactic(auto, unfolding(crate::specs::Reading::request_at))]
+/// Reads a tag, and the request after it.
+#[tactic(auto, unfolding(crate::specs::Parsing::request_at))]
 fn read_request(
     alloc: Global,
     cut: &mut Cut<'_>,
@@ -304,7 +304,7 @@ fn read_request(
 {
     let place = cut.at();
     let tag = cut.u8()?;
-    read_behind(alloc, place, tag, cut)
+    read_after(alloc, place, tag, cut)
 }
 
 fn read_whole_request(
@@ -320,14 +320,14 @@ fn read_whole_request(
 }
 
 impl GovernanceRequest {
-    /// The request that the bytes spell, all of them. Fails with the first fault from the left, or
-    /// for want of memory. Numbers have their least significant byte first; an endorsement or a
+    /// The request that the bytes encode, all of them. Fails with the first fault from the left, or
+    /// where memory runs out. Numbers have their least significant byte first; an endorsement or a
     /// signature has at most 1,048,576 bytes. Whether the request is acceptable is not asked here.
     pub fn decode(alloc: Global, bytes: &[u8]) -> Result<Self, OrNoMemory<CodeFault>>
-        // What is read is spelled so.
+        // What is read is encoded so.
         ensures found { IfOk result (λ request.
             (is_request request ≡ true) × (bytes.now ≡ request_bytes request)) }
-        // What is spelled so is read, unless memory runs out.
+        // What is encoded so is read, unless memory runs out.
         ensures only { (request : Request) → is_request request ≡ true →
             bytes.now ≡ request_bytes request →
             Answers (λ request. request) result (Ok request) }

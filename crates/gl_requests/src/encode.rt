@@ -1,10 +1,10 @@
 //! The bytes of requests. Numbers have their least significant byte first, bytes of no fixed length
-//! stand behind their length, and parts of one kind behind their count.
+//! stand after their length, and parts of one kind after their count.
 
 ghost use Rattle.std.specs.Prelude.{◌≡◌, ℕ, ◌+◌, ◌*◌, ◌≤◌, ◌<◌, ◌^◌, Bool, true, List, ◌++◌, length, IfOk, OnOk};
 ghost use Rattle.std.specs.List.{flat_map, list_all};
 ghost use Rattle.gl_base.specs.Field.{with_u32_length};
-ghost use Rattle.gl_requests.specs.Spelling.{state_byte, node_id, counted_bytes, node_bytes, member_bytes, share_bytes, dealing_bytes, rule_bytes, action_number, action_fields, action_bytes, act_tag, act_fields, act_bytes, request_bytes, signed_bytes, proposal_id};
+ghost use Rattle.gl_requests.specs.Encoding.{state_byte, node_id, counted_bytes, node_bytes, member_bytes, share_bytes, dealing_bytes, rule_bytes, action_number, action_fields, action_bytes, act_tag, act_fields, act_bytes, request_bytes, signed_bytes, proposal_id};
 ghost use Rattle.gl_requests.specs.Ranges.{are_counted, is_node, is_member, is_share, is_dealing, is_rule, is_action, is_act, is_member_request, is_genesis, is_request};
 
 use crate::action::{Action, Rule};
@@ -19,7 +19,7 @@ use std::alloc::{AllocError, Global};
 /// The tag of the request that founds a service.
 pub(crate) const GENESIS_TAG: u8 = 1;
 
-/// The tag of the request that founds a service anew.
+/// The tag of the request that recovers a service.
 pub(crate) const RECOVER_TAG: u8 = 2;
 
 /// The tag of the request that a node be recorded.
@@ -43,13 +43,13 @@ pub(crate) const WITHDRAW_TAG: u8 = 8;
 /// The tag of a recovery share.
 pub(crate) const SHARE_TAG: u8 = 9;
 
-/// A part of which a request has several, one behind the other.
+/// A part of which a request has several, one after the other.
 trait Encode: Drop {
     ghost bytes: { Self → List ℕ };
 
     ghost fits: { Self → Bool };
 
-    /// Writes the part behind what the list holds.
+    /// Writes the part after what the list holds.
     fn put(&self, out: &mut Vec<u8>) -> Result<(), AllocError>
         requires { fits self.now ≡ true }
         ensures { OnOk result (out.new.items ≡ out.old.items ++ bytes self.now) };
@@ -65,7 +65,7 @@ fn put_all<T: Encode>(out: &mut Vec<u8>, parts: &[T]) -> Result<(), AllocError>
     Ok(())
 }
 
-/// Writes the parts behind their count.
+/// Writes the parts after their count.
 fn put_counted<T: Encode>(out: &mut Vec<u8>, parts: &[T]) -> Result<(), AllocError>
     requires { are_counted T.fits parts.now ≡ true }
     ensures { OnOk result (out.new.items ≡ out.old.items ++ counted_bytes T.bytes parts.now) }
@@ -74,7 +74,7 @@ fn put_counted<T: Encode>(out: &mut Vec<u8>, parts: &[T]) -> Result<(), AllocErr
     put_all(out, parts)
 }
 
-/// Writes the bytes behind their length.
+/// Writes the bytes after their length.
 fn put_sized(out: &mut Vec<u8>, bytes: &[u8]) -> Result<(), AllocError>
     requires { length bytes.now < 2 ^ 32 }
     ensures { OnOk result (out.new.items ≡ out.old.items ++ with_u32_length bytes.now) }
@@ -266,7 +266,7 @@ fn put_request(out: &mut Vec<u8>, request: &GovernanceRequest) -> Result<(), All
     }
 }
 
-/// The bytes of actions, one behind the other, without their count.
+/// The bytes of actions, one after the other, without their count.
 pub fn actions_bytes(alloc: Global, actions: &[Action]) -> Result<Vec<u8>, AllocError>
     requires fits { list_all is_action actions.now ≡ true }
     ensures bytes { IfOk result (λ bytes. bytes.items ≡ flat_map action_bytes actions.now) }
@@ -277,7 +277,7 @@ pub fn actions_bytes(alloc: Global, actions: &[Action]) -> Result<Vec<u8>, Alloc
 }
 
 impl ServiceState {
-    /// The byte that spells the state.
+    /// The byte that encodes the state.
     pub fn byte(self) -> u8
         ensures byte { result ≡ state_byte self }
         ensures range { (1 ≤ result) × (result ≤ 3) }

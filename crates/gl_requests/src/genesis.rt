@@ -1,4 +1,4 @@
-//! What founds a service, and what founds it anew after a disaster.
+//! What founds a service, and what recovers it after a disaster.
 
 use gl_base::{Bytes, Sequence};
 
@@ -19,12 +19,12 @@ pub type HssPublicKey = [u8; 60];
 /// What a service takes (CCF documentation, "Opening a Network").
 #[derive(Clone, Copy, Debug, PartialEq, Eq)]
 pub enum ServiceState {
-    /// Only requests of governance are taken. Spelled as the byte 1.
+    /// Only requests of governance are taken. Encoded as the byte 1.
     Opening,
-    /// Requests of applications are taken too. Spelled as the byte 2.
+    /// Requests of applications are taken too. Encoded as the byte 2.
     Open,
     /// A recovered service waits for its members' shares (CCF documentation, "Disaster Recovery").
-    /// Spelled as the byte 3. No request names it.
+    /// Encoded as the byte 3. No request names it.
     WaitingForRecoveryShares,
 }
 
@@ -81,11 +81,11 @@ pub struct Genesis {
     pub dealing: Dealing,
 }
 
-/// The request that founds a service anew, with a key and nodes of its own.
+/// The request that recovers a service, with a key and nodes of its own.
 #[derive(Debug, Drop)]
 pub struct Recovery {
     /// The key of the service from now on, which endorses its nodes.
     pub identity: HssPublicKey,
-    /// The nodes that begin it anew, at most 32.
+    /// The nodes that begin it again, at most 32.
     pub nodes: Sequence<NewNode>,
 }

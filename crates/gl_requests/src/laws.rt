@@ -2,9 +2,9 @@
 
 ghost use Rattle.std.specs.Prelude.{◌≡◌, ℕ, List, Ok, true};
 ghost use Rattle.gl_base.specs.Bytes.{are_bytes};
-ghost use Rattle.gl_requests.specs.Spelling.{request_bytes};
+ghost use Rattle.gl_requests.specs.Encoding.{request_bytes};
 ghost use Rattle.gl_requests.specs.Ranges.{is_request};
-ghost use Rattle.gl_requests.specs.Reading.{request_result};
+ghost use Rattle.gl_requests.specs.Parsing.{request_result};
 ghost use Rattle.gl_requests.specs.declared.request.GovernanceRequest.{GovernanceRequest};
 
 /// The bytes of a request whose fields are in their ranges are read as that request. Bytes that are

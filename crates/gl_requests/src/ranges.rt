@@ -1,4 +1,4 @@
-//! Which requests of governance bytes spell: each field is in its range.
+//! Which requests of governance bytes encode: each field is in its range.
 
 ghost use Rattle.std.specs.Prelude.{◌≡◌, ◌==◌, nat_lt};
 ghost use Rattle.std.specs.List.{list_all};
@@ -217,7 +217,7 @@ fn is_genesis(genesis: &Genesis) -> bool
         && is_dealing(&genesis.dealing)
 }
 
-/// Whether bytes spell the request: each field is in its range.
+/// Whether bytes encode the request: each field is in its range.
 pub fn is_request(request: &GovernanceRequest) -> bool
     ensures { result ≡ ranges.is_request request.now }
 {

@@ -45,7 +45,7 @@ pub struct MemberRequest {
 pub enum GovernanceRequest {
     /// Founds a service. Tag 1.
     Genesis(Genesis),
-    /// Founds a service anew. Tag 2.
+    /// Recovers a service. Tag 2.
     Recover(Recovery),
     /// Asks that a node be recorded, which members may trust then. Tag 3.
     Join(NewNode),

@@ -1,4 +1,5 @@
--- Two identifiers are one where the test says so; functions that differ at one node; majorities that meet.
+-- Two identifiers are one where the test says so; functions that differ at one node; majorities
+-- that meet.
 use Rattle.std.proofs.Common.{◌≡◌, ◌≢◌, ◌⊎◌, inl, inr, ⊎_elim, ℕ, suc, ◌+◌, ◌*◌, ◌≤◌, List, [], ◌∷◌, length, Bool, true, false, ◌&&◌, ◌==◌, if◌then◌else◌, refl, sym, ap, ◌∙◌, true≢false, ltb-true, arith}
 use Rattle.std.specs.Cmp.Lexicographic.{bytes_decides}
 use Rattle.std.proofs.lemmas.Bool.Decides.{nat_tests, leb_tells, eqb_tells}
@@ -14,17 +15,17 @@ unfolding same
 same_self x = (bytes_decides x x).1 refl
 
 -- for `grind`
-pub same_tells : (x y : NodeId) → ((same x y ≡ true) × (x ≡ y)) ⊎ ((same x y ≡ false) × (x ≢ y))
-same_tells x y = go (same x y) refl
+pub same_reports : (x y : NodeId) → ((same x y ≡ true) × (x ≡ y)) ⊎ ((same x y ≡ false) × (x ≢ y))
+same_reports x y = go (same x y) refl
   where
     go : (t : Bool) → same x y ≡ t → ((same x y ≡ true) × (x ≡ y)) ⊎ ((same x y ≡ false) × (x ≢ y))
     go true e = inl (e, same_is x y e)
     go false e = inr (e, λ (z : x ≡ y). true≢false (sym (same_self x) ∙ ap (same x) z ∙ e))
 
 pub cases_same : (x y : NodeId) → (x ≡ y) ⊎ (x ≢ y)
-cases_same x y = ⊎_elim (λ (h : (same x y ≡ true) × (x ≡ y)). inl h.1) (λ (h : (same x y ≡ false) × (x ≢ y)). inr h.1) (same_tells x y)
+cases_same x y = ⊎_elim (λ (h : (same x y ≡ true) × (x ≡ y)). inl h.1) (λ (h : (same x y ≡ false) × (x ≢ y)). inr h.1) (same_reports x y)
 
-pub ruleset id_tests = (leb_tells, eqb_tells, same_tells)
+pub ruleset id_tests = (leb_tells, eqb_tells, same_reports)
 
 pub put_all : {A : Type 0} (P : NodeId → A → Type 0) (f : NodeId → A) (x : NodeId) (a : A) → P x a → ((y : NodeId) → y ≢ x → P y (f y)) → (y : NodeId) → P y (put f x a y)
 put_all P f x a p k y = go (same y x) refl

@@ -1,4 +1,5 @@
--- A ledger whose entries follow is such a ledger where it is cut, and where it takes an entry that may follow; what such an entry keeps, holds of it.
+-- A ledger whose entries follow is such a ledger where it is cut, and where it takes an entry that
+-- may follow; what such an entry keeps, holds of it.
 use Rattle.std.proofs.Common.{◌≡◌, ⊎_elim, ℕ, zero, suc, ◌≤◌, ◌<◌, List, [], ◌∷◌, ◌++◌, length, take, Some, None, slice_get, refl, sym, ap, ◌∙◌, subst, arith}
 use Rattle.std.proofs.lemmas.Bool.{cases_lt}
 use Rattle.gl_rules.specs.Book.{Book}

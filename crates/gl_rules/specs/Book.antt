@@ -19,7 +19,7 @@ pub record Book (E Q G R A F : Type 0) : Type 0 where
   pub configuration : List E → Option (List NodeId)
   -- the nodes that it records, in the order in which they were recorded
   pub recorded_nodes : List E → List NodeId
-  -- the seqno of the entry that removed a node, and the seqno of the mark behind its removal
+  -- the seqno of the entry that removed a node, and the seqno of the mark after its removal
   pub removal : List E → NodeId → Option ℕ
   pub mark : List E → NodeId → Option ℕ
   -- of a node's key: how many one-time leaves it has
@@ -35,5 +35,5 @@ pub record Book (E Q G R A F : Type 0) : Type 0 where
   pub mark_refusal : List E → NodeId → Option F
   -- the refusal where a read key or map has changed above a length
   pub conflict : List E → ℕ → R → Option F
-  -- the rule that an entry breaks behind a ledger; None: it may follow
+  -- the rule that an entry breaks after a ledger; None: it may follow
   pub breaks : List E → E → Option F

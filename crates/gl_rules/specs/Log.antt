@@ -8,8 +8,8 @@ abbrev pub entry_at : {E : Type 0} → List E → ℕ → Option E
 entry_at log zero = None
 entry_at log (suc i) = slice_get log i
 
--- The seqno of the last signature once one more entry is put in front of a ledger: one more than
--- before; where there was none, 1 if the new entry is a signature, else 0.
+-- The seqno of the last signature once one more entry is put before a ledger: one more than before;
+-- where there was none, 1 if the new entry is a signature, else 0.
 abbrev pub seqno_with_first : Bool → ℕ → ℕ
 seqno_with_first here (suc seqno) = suc (suc seqno)
 seqno_with_first true zero = 1

@@ -12,7 +12,7 @@ pub data Body (E : Type 0) : Type 0 where
   -- asks for a vote, with the sender's last signature
   RequestVote : (last : Position) → Body E
   VoteReply : (granted : Bool) → Body E
-  -- the entries behind a seqno, and the sender's commit
+  -- the entries after a seqno, and the sender's commit
   Append : (prev : Position) → (entries : List E) → (commit : ℕ) → Body E
   -- accepted up to this seqno; or not, and which seqno to try next
   AppendReply : (ok : Bool) → (seqno : ℕ) → Body E

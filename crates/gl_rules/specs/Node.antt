@@ -27,7 +27,7 @@ pub record Node (E : Type 0) : Type 0 where
   pub matched : NodeId → ℕ
   -- which seqno each node is sent next; None: start
   pub next : NodeId → Option ℕ
-  -- the seqno behind its log when it became leader
+  -- the seqno after its log when it became leader
   pub start : ℕ
   -- how many of the reserved leaves it has used
   pub used : ℕ

@@ -57,18 +57,18 @@ module _ {E Q G R A F : Type 0} (book : Book E Q G R A F) where
   position_at log seqno = record { view = view_at book log seqno; seqno = seqno }
 
   abbrev pub append_message : NodeId → NodeId → ℕ → Node E → Message E
-  append_message x y behind n = record {
+  append_message x y after n = record {
     sender = x;
     receiver = y;
     view = n.view;
-    body = Append (position_at n.log behind) (batch (drop behind n.log)) n.commit;
+    body = Append (position_at n.log after) (batch (drop after n.log)) n.commit;
   }
 
   abbrev pub send_append : NodeId → NodeId → ℕ → Node E → Step E A F
-  send_append x y behind n =
-      if nat_lt behind n.base
+  send_append x y after n =
+      if nat_lt after n.base
       then refuse n (BelowBase n.base)
-      else record { node = n; sent = append_message x y behind n ∷ []; outcome = Done }
+      else record { node = n; sent = append_message x y after n ∷ []; outcome = Done }
 
   -- Replicate x y: the entries from y's next seqno on, as many as one message carries.
   unfoldable pub replicate : NodeId → NodeId → Node E → Step E A F
@@ -128,7 +128,7 @@ module _ {E Q G R A F : Type 0} (book : Book E Q G R A F) where
   accept_or_refuse before x y seqno theirs n (Ok log) =
       accept_entries x y seqno theirs (record n { log = log })
 
-  -- The entries behind seqno prev, of which the log holds the first ones.
+  -- The entries after seqno prev, of which the log holds the first ones.
   abbrev pub merge_entries : NodeId → NodeId → ℕ → List E → ℕ → ℕ → Node E → Step E A F
   merge_entries x y prev es held theirs n =
       if held == length es

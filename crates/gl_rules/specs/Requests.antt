@@ -99,6 +99,6 @@ module _ {E Q G R A F : Type 0} (book : Book E Q G R A F) where
   append_evidence n (Err why) = refuse n (ByLedger why)
   append_evidence n (Ok e) = quiet (append_entry n e) (Signed (book.view_of e) (length n.log + 1))
 
-  -- Evidence x: the digest of a snapshot. The book makes one right behind a signature alone.
+  -- Evidence x: the digest of a snapshot. The book makes one right after a signature alone.
   unfoldable pub evidence : Node E → Step E A F
   evidence n = if_leader n (append_evidence n (book.evidence n.log n.view))

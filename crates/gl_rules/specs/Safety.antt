@@ -93,14 +93,14 @@ module _ {E Q G R A F : Type 0} (book : Book E Q G R A F) where
     pub taken : (log : List E) (e : E) → Sound log → book.breaks log e ≡ None →
         Sound (log ++ e ∷ [])
     pub cut : (log : List E) (seqno : ℕ) → Sound log → Sound (take seqno log)
-    -- an evidence entry stands right behind a signature
+    -- an evidence entry stands right after a signature
     pub witnessed : (log : List E) (seqno : ℕ) (e : E) → Sound log →
         entry_at log (suc seqno) ≡ Some e → book.is_evidence e ≡ true →
         (f : E) × (entry_at log seqno ≡ Some f) × (book.is_signature f ≡ true)
     -- removals and marks
     pub removals : KeepsPlaces Sound book.removal
     pub markings : KeepsPlaces Sound book.mark
-    -- a mark is no signature, and stands behind the removal of its node
+    -- a mark is no signature, and stands after the removal of its node
     pub marked : (log : List E) (e : E) (y : NodeId) → Sound (log ++ e ∷ []) →
         book.mark (log ++ e ∷ []) y ≡ Some (length log + 1) →
         (book.is_signature e ≡ false) × ((removal : ℕ) × (book.removal log y ≡ Some removal))
@@ -236,7 +236,7 @@ module _ {E Q G R A F : Type 0} (book : Book E Q G R A F) where
     -- none is of a later view
     pub views : (i : ℕ) (x : NodeId) → (node_at s events i x).role ≡ Leader →
         ViewsUpTo (node_at s events i x).view (node_at s events i x).log
-    -- a signature behind it may record its commit
+    -- a signature after it may record its commit
     pub commit : (i : ℕ) (x : NodeId) → (node_at s events i x).role ≡ Leader →
         MayRecord (node_at s events i x).log (node_at s events i x).commit
     -- it is in a configuration of its log, where the first leader is in one of the opening

@@ -1,4 +1,5 @@
--- The headline for whatever the layer of the ledger says of a ledger, where it is kept by an entry that may follow.
+-- The headline for whatever the layer of the ledger says of a ledger, where it is kept by an entry
+-- that may follow.
 use Rattle.std.proofs.Common.{◌≡◌, ⊎_elim, ℕ, zero, suc, ◌≤◌, ◌<◌, List, [], ◌∷◌, ◌++◌, length, take, Option, None, refl, ap, subst, arith}
 use Rattle.std.proofs.lemmas.Bool.{cases_lt}
 use Rattle.gl_rules.specs.Book.{Book}

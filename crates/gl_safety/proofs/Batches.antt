@@ -1,4 +1,4 @@
--- What an Append carries is a front of the entries behind its seqno.
+-- What an Append carries is a prefix of the entries after its seqno.
 use Rattle.std.proofs.Common.{◌≡◌, ℕ, zero, suc, ◌-◌, List, [], ◌∷◌, Bool, true, false, nat_le, if◌then◌else◌, Some, slice_get}
 use Rattle.gl_rules.specs.Book.{Book}
 use Rattle.gl_rules.specs.Replication.{entries_limit, frames_limit, fitting_prefix, batch}

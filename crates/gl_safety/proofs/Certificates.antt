@@ -1,5 +1,6 @@
--- Certificates: a majority in each active configuration acknowledged a signature of its leader's view. The leader took the active
--- configurations by its commit, which rests on an earlier certificate. So certificates are counted by their depth.
+-- Certificates: a majority in each active configuration acknowledged a signature of its leader's
+-- view. The leader took the active configurations by its commit, which rests on an earlier
+-- certificate. So certificates are counted by their depth.
 use Rattle.std.proofs.Common.{◌≡◌, ◌⊎◌, inl, inr, ⊎_elim, ℕ, zero, suc, ◌≤◌, ◌<◌, List, [], length, take, Bool, true, Some, None, slice_get, ap, ◌∙◌, arith}
 use Rattle.gl_rules.specs.Identity.{NodeId}
 use Rattle.gl_rules.specs.Book.{Book}
@@ -13,7 +14,8 @@ use Rattle.gl_safety.proofs.Places.{MarksKnown}
 use Rattle.gl_safety.proofs.Facts.{Holds, Matches, Bound, Rising, Mark, Ballots, mark_grow, holds_grow}
 
 module _ {E Q G R A F : Type 0} {b : Book E Q G R A F} {s : Start E} (o : IsOpening b (EachFollows b) s) where
-  -- the entry at seqno c of l is a signature, at or below a certified one of a view that is at most t
+  -- the entry at seqno c of l is a signature, at or below a certified one of a view that is at most
+  -- t
   pub record SureOver (C : ℕ → ℕ → Type 0) (g : Story E) (l : List E) (c t : ℕ) : Type 0 where
     pub i : ℕ
     pub seqno : c ≡ suc i
@@ -78,7 +80,7 @@ module _ {E Q G R A F : Type 0} {b : Book E Q G R A F} {s : Start E} (o : IsOpen
     pub bid_less : bid.view < u
     pub bid_zero : bid.seqno ≡ 0 → bid.view ≡ 0
     pub bid_top : (i : ℕ) → bid.seqno ≡ suc i → (e : E) × (slice_get log i ≡ Some e) × (b.view_of e ≡ bid.view)
-    pub front : (i : ℕ) (e : E) → slice_get log i ≡ Some e → slice_get (g.led u) i ≡ Some e
+    pub prefix : (i : ℕ) (e : E) → slice_get log i ≡ Some e → slice_get (g.led u) i ≡ Some e
 
   -- what holds of the story
   pub record Tale (g : Story E) : Type 0 where

@@ -1,4 +1,5 @@
--- Who wins a view has all that was certified in earlier views, and nobody else wins it. Both hold of any story at one moment.
+-- Who wins a view has all that was certified in earlier views, and nobody else wins it. Both hold
+-- of any story at one moment.
 use Rattle.std.proofs.Common.{◌≡◌, ◌≢◌, ◌⊎◌, inl, inr, ⊎_elim, ℕ, zero, suc, ◌-◌, ◌≤◌, ◌<◌, List, length, take, Bool, true, Option, Some, None, slice_get, refl, sym, ap, ◌∙◌, subst, arith}
 use Rattle.std.proofs.lemmas.Bool.{cases_eq, cases_lt}
 use Rattle.gl_rules.specs.Identity.{NodeId}
@@ -221,7 +222,7 @@ module _ {E Q G R A F : Type 0} {b : Book E Q G R A F} {s : Start E} (o : IsOpen
       let ch = chief_of_led g t v i e m.at in
       let high : 2 < w = omega (arith, t.low v ch.0 ch.1) in
       let q = t.won w c high a in
-      q.front i e (has_all (winner_of g t w c high q) t before n v i e z m h)
+      q.prefix i e (has_all (winner_of g t w c high q) t before n v i e z m h)
 
   pub completes : (g : Story E) → Tale o g → (n : ℕ) → Before g n
   completes g t zero u c h = absurd (omega arith)

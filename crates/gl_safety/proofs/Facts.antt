@@ -1,4 +1,5 @@
--- What the story says of logs, signatures and votes, each fact about one log or one node; and that it stays.
+-- What the story says of logs, signatures and votes, each fact about one log or one node; and that
+-- it stays.
 use Rattle.std.proofs.Common.{◌≡◌, ◌≢◌, ◌⊎◌, inl, inr, ⊎_elim, ℕ, suc, ◌+◌, ◌≤◌, ◌<◌, List, true, Option, Some, None, slice_get, sym, ap, ◌∙◌, arith}
 use Rattle.gl_rules.specs.Identity.{NodeId}
 use Rattle.gl_rules.specs.Book.{Book}
@@ -41,7 +42,7 @@ module _ {E Q G R A F : Type 0} (b : Book E Q G R A F) where
     pub won : chief view ≡ Some by
     pub lacks : (f : E) → slice_get (led view) i ≡ Some f → b.view_of f ≢ v
 
-  -- es are the entries of l behind p
+  -- es are the entries of l after p
   pub record Segment (l : List E) (p : Position) (es : List E) : Type 0 where
     pub items : (i k : ℕ) (e : E) → k ≡ p.seqno + i → slice_get es i ≡ Some e → slice_get l k ≡ Some e
     pub prev : (j : ℕ) → p.seqno ≡ suc j → 0 < p.view → (e : E) × (slice_get l j ≡ Some e) × (b.view_of e ≡ p.view)

@@ -10,7 +10,7 @@ use Rattle.gl_rules.specs.World.{Start}
 use Rattle.gl_rules.specs.Safety.{IsOpening, EachFollows}
 use Rattle.gl_rules.proofs.Ids.{id_tests, cases_same, put2, put2_cases, put2_at}
 use Rattle.gl_rules.proofs.Lists.{Same, there, within}
-use Rattle.gl_safety.proofs.Story.{Story, Grows, told_held, grows_held}
+use Rattle.gl_safety.proofs.Story.{Story, Grows, reported_held, grows_held}
 use Rattle.gl_safety.proofs.Facts.{Holds, Matches, Bound, Mark, Lost, Ballots, agree, is_led, matches_part, ballots_of}
 use Rattle.gl_safety.proofs.Certificates.{SureOver, Cert, Sured, Tale}
 use Rattle.gl_safety.proofs.Complete.{chief_of_led}
@@ -73,7 +73,7 @@ module _ {E Q G R A F : Type 0} {b : Book E Q G R A F} {s : Start E} (o : IsOpen
   -- a follower takes what the leader of its view sent
   module _ (x : NodeId) (g : Story E) (n : Node E) (r : List E) (seqno theirs cuts : ℕ) (t : Tale o g) (z : Good o g x n) (follows : n.role ≡ Follower)
       (m : Merged b n.log (g.led n.view) seqno r) (kept : Same n.commit n.log r) (sound : EachFollows b r) (sure_c : Sured o g (g.led n.view) theirs n.view) where
-    k : Grows b.view_of x g (told_held x n.view seqno g)
+    k : Grows b.view_of x g (reported_held x n.view seqno g)
     k = grows_held b.view_of x n.view seqno g
 
     matches : Matches b g.led r
@@ -91,8 +91,8 @@ module _ {E Q G R A F : Type 0} {b : Book E Q G R A F} {s : Start E} (o : IsOpen
         m.way
 
     -- an entry of r below seqno
-    in_front : (i : ℕ) (e : E) → i < seqno → slice_get (g.led n.view) i ≡ Some e → slice_get r i ≡ Some e
-    in_front i e h a = let y = there r i (omega (arith, m.long)) in y.1 ∙ sym (m.front i y.0 h y.1) ∙ a
+    in_prefix : (i : ℕ) (e : E) → i < seqno → slice_get (g.led n.view) i ≡ Some e → slice_get r i ≡ Some e
+    in_prefix i e h a = let y = there r i (omega (arith, m.long)) in y.1 ∙ sym (m.prefix i y.0 h y.1) ∙ a
 
     -- a signature that stood stays, or the leader of this view lacks it
     stays : (v i : ℕ) (e : E) → Mark b g.led v i e → slice_get n.log i ≡ Some e → (slice_get r i ≡ Some e) ⊎ Lost b g.chief g.led v i (suc n.view)
@@ -114,7 +114,7 @@ module _ {E Q G R A F : Type 0} {b : Book E Q G R A F} {s : Start E} (o : IsOpen
 
             has : slice_get (g.led n.view) i ≡ Some e → (slice_get r i ≡ Some e) ⊎ Lost b g.chief g.led v i (suc n.view)
             has f = ⊎_elim
-                (λ (q : i < seqno). inl (in_front i e q f))
+                (λ (q : i < seqno). inl (in_prefix i e q f))
                 (λ (q : seqno ≤ i).
                 let y = there n.log d (omega (arith, within n.log i e a)) in
                 let p = agree b g.led n.log (g.led n.view) i e z.logged.matches (t.matches n.view) a f d y.0 (omega arith) y.1 in
@@ -142,7 +142,7 @@ module _ {E Q G R A F : Type 0} {b : Book E Q G R A F} {s : Start E} (o : IsOpen
                 (cases_eq v n.view))
                 (cases_eq (b.view_of u) v)
 
-    tale_held : Tale o (told_held x n.view seqno g)
+    tale_held : Tale o (reported_held x n.view seqno g)
     tale_held = record {
       early = t.early;
       matches = t.matches;
@@ -156,7 +156,7 @@ module _ {E Q G R A F : Type 0} {b : Book E Q G R A F} {s : Start E} (o : IsOpen
       bids = t.bids;
       shuts = λ c w y a. shuts_grow o k 0 w y (t.shuts c w y a);
       stood = t.stood;
-      ballots = λ y. ⊎_elim (λ (q : y ≡ x). subst (Ballots b (told_held x n.view seqno g)) (sym q) own) (λ (q : y ≢ x). ballots_of b k y q (t.ballots y)) (cases_same y x);
+      ballots = λ y. ⊎_elim (λ (q : y ≡ x). subst (Ballots b (reported_held x n.view seqno g)) (sym q) own) (λ (q : y ≢ x). ballots_of b k y q (t.ballots y)) (cases_same y x);
       follows = t.follows;
       marks = t.marks;
     }
@@ -164,7 +164,7 @@ module _ {E Q G R A F : Type 0} {b : Book E Q G R A F} {s : Start E} (o : IsOpen
         holds : (u i : ℕ) → u ≢ n.view → (i < put2 g.held x n.view (max (g.held x n.view) seqno) x u) ⊎ (g.chief u ≡ Some x) → Holds g x u i
         holds u i d q = ⊎_elim (λ (f : i < put2 g.held x n.view (max (g.held x n.view) seqno) x u). inl (grind (arith, id_tests))) (λ (f : g.chief u ≡ Some x). inr f) q
 
-        own : Ballots b (told_held x n.view seqno g) x
+        own : Ballots b (reported_held x n.view seqno g) x
         own = record {
           votes = λ w c d a.
               let v = (t.ballots x).votes w c d a in
@@ -179,7 +179,7 @@ module _ {E Q G R A F : Type 0} {b : Book E Q G R A F} {s : Start E} (o : IsOpen
           within = λ v i a. ⊎_elim
               (λ (q : (x ≡ x) × (v ≡ n.view) × (put2 g.held x n.view (max (g.held x n.view) seqno) x v ≡ max (g.held x n.view) seqno)).
               ⊎_elim
-              (λ (h : i < seqno). let y = there r i (omega (arith, m.long)) in (y.0, ap (λ u. slice_get (g.led u) i) q.1 ∙ m.front i y.0 h y.1))
+              (λ (h : i < seqno). let y = there r i (omega (arith, m.long)) in (y.0, ap (λ u. slice_get (g.led u) i) q.1 ∙ m.prefix i y.0 h y.1))
               (λ (h : seqno ≤ i). let y = (t.ballots x).within n.view i (omega (arith, q.2)) in (y.0, ap (λ u. slice_get (g.led u) i) q.1 ∙ y.1))
               (cases_lt i seqno))
               (λ (q : put2 g.held x n.view (max (g.held x n.view) seqno) x v ≡ g.held x v). (t.ballots x).within v i (omega (arith, q)))
@@ -207,7 +207,7 @@ module _ {E Q G R A F : Type 0} {b : Book E Q G R A F} {s : Start E} (o : IsOpen
             le = omega (arith, q.le, q.seqno, y.1);
             top = q.top;
             done = omega (arith, q.done, y.1);
-            leads = agree b g.led (g.led n.view) (g.led q.v) q.i q.entry (t.matches n.view) (t.matches q.v) q.at q.leads i y.0 (omega (arith, q.seqno, y.1)) (m.front i y.0 (omega (arith, y.1)) y.2);
+            leads = agree b g.led (g.led n.view) (g.led q.v) q.i q.entry (t.matches n.view) (t.matches q.v) q.at q.leads i y.0 (omega (arith, q.seqno, y.1)) (m.prefix i y.0 (omega (arith, y.1)) y.2);
           }))
           sure_c.1,
     )
@@ -238,12 +238,12 @@ module _ {E Q G R A F : Type 0} {b : Book E Q G R A F} {s : Start E} (o : IsOpen
         (cases_lt (max n.commit (max n.base (greatest_recorded b r))) (last_signature b (take (min theirs seqno) r)))
 
     pub made_accept : (y : NodeId) → Reached o x g (accept_entries b x y seqno theirs (record n { log = r; cuts = cuts })).node (accept_entries b x y seqno theirs (record n { log = r; cuts = cuts })).sent
-    made_accept y = (told_held x n.view seqno g, record { grow = k; tale = tale_held; good = good; commits = λ v. inl refl; sent = (let q = put2_at g.held x n.view (max (g.held x n.view) seqno) in omega arith, tt) })
+    made_accept y = (reported_held x n.view seqno g, record { grow = k; tale = tale_held; good = good; commits = λ v. inl refl; sent = (let q = put2_at g.held x n.view (max (g.held x n.view) seqno) in omega arith, tt) })
       where
         n1 : Node E
         n1 = record n { log = r; cuts = cuts; commit = max (max n.commit (max n.base (greatest_recorded b r))) (last_signature b (take (min theirs seqno) r)) }
 
-        good : Good o (told_held x n.view seqno g) x (record n { log = r; cuts = cuts; commit = max (max n.commit (max n.base (greatest_recorded b r))) (last_signature b (take (min theirs seqno) r)) })
+        good : Good o (reported_held x n.view seqno g) x (record n { log = r; cuts = cuts; commit = max (max n.commit (max n.base (greatest_recorded b r))) (last_signature b (take (min theirs seqno) r)) })
         good = record {
           voter = z.voter;
           logged = record {
@@ -267,7 +267,7 @@ module _ {E Q G R A F : Type 0} {b : Book E Q G R A F} {s : Start E} (o : IsOpen
             keeps = λ v i e a w. ⊎_elim
                 (λ (q : i < put2 g.held x n.view (max (g.held x n.view) seqno) x v). ⊎_elim
                 (λ (d : (x ≡ x) × (v ≡ n.view) × (put2 g.held x n.view (max (g.held x n.view) seqno) x v ≡ max (g.held x n.view) seqno)). ⊎_elim
-                (λ (h : i < seqno). inl (in_front i e h (ap (λ u. slice_get (g.led u) i) (sym d.1) ∙ w.at)))
+                (λ (h : i < seqno). inl (in_prefix i e h (ap (λ u. slice_get (g.led u) i) (sym d.1) ∙ w.at)))
                 (λ (h : seqno ≤ i). again v i e w (inl (let f : i < g.held x n.view = omega (arith, d.2) in subst (λ (u : ℕ). i < g.held x u) (sym d.1) f)))
                 (cases_lt i seqno))
                 (λ (d : put2 g.held x n.view (max (g.held x n.view) seqno) x v ≡ g.held x v). again v i e w (inl (omega arith)))

@@ -198,7 +198,7 @@ module _ {E Q G R A F : Type 0} {b : Book E Q G R A F} {s : Start E} (o : IsOpen
       bid_less = q.bid_less;
       bid_zero = q.bid_zero;
       bid_top = q.bid_top;
-      front = λ i e a. k.led u i e (q.front i e a);
+      prefix = λ i e a. k.led u i e (q.prefix i e a);
     }
 
     pub sured_more : (l : List E) (c t : ℕ) → Sured o g l c t → Sured o h l c t

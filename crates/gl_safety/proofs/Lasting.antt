@@ -1,5 +1,5 @@
--- What is certified stays: a node whose log reaches a signature at or below a certified one keeps it, at each event and so
--- for good.
+-- What is certified stays: a node whose log reaches a signature at or below a certified one keeps
+-- it, at each event and so for good.
 use Rattle.std.proofs.Common.{◌≡◌, ◌≢◌, ◌⊎◌, inl, inr, ⊎_elim, ℕ, ◌+◌, ◌-◌, ◌≤◌, ◌<◌, min, List, [], ◌∷◌, length, take, drop, true, false, ◌&&◌, ◌||◌, ◌==◌, nat_lt, nat_le, if◌then◌else◌, Some, Result, Ok, Err, slice_get, refl, sym, ap, ◌∙◌, subst, arith}
 use Rattle.std.proofs.lemmas.Bool.{cases_eq, cases_lt}
 use Rattle.std.proofs.lemmas.Bool.Decides.{nat_tests}
@@ -33,7 +33,8 @@ use Rattle.gl_safety.proofs.Prefixes.{take_further}
 use Rattle.gl_safety.proofs.Walk.{Alike, Takes, event_keeps}
 
 module _ {E Q G R A F : Type 0} {b : Book E Q G R A F} {s : Start E} (o : IsOpening b (EachFollows b) s) (la : IsLawful b (EachFollows b)) where
-  -- in the story at the end, the signature e at index i is at or below the certified one of view v at index j
+  -- in the story at the end, the signature e at index i is at or below the certified one of view v
+  -- at index j
   pub record Certified (h : Story E) (i v j : ℕ) (e : E) : Type 0 where
     pub tale : Tale o h
     pub depth : ℕ

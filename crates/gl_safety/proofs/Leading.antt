@@ -13,7 +13,7 @@ use Rattle.gl_rules.specs.World.{Start}
 use Rattle.gl_rules.specs.Safety.{IsOpening, IsLawful, EachFollows}
 use Rattle.gl_rules.proofs.Ids.{id_tests, same_is, cases_same, put_all, by_test}
 use Rattle.gl_rules.proofs.Lists.{Same, same_take, within, get_left, get_push, take_whole}
-use Rattle.gl_safety.proofs.Story.{Story, Grows, at_view, told_led, told_committed, grows_led, grows_committed}
+use Rattle.gl_safety.proofs.Story.{Story, Grows, at_view, reported_led, reported_committed, grows_led, grows_committed}
 use Rattle.gl_safety.proofs.Configurations.{Backed, backed_by}
 use Rattle.gl_safety.proofs.Facts.{Holds, Covers, Matches, Bound, Rising, Mark, Lost, Voted, Ballots, matches_grow, lost_grow, ballots_of}
 use Rattle.gl_safety.proofs.Certificates.{Cert, Sure, Sured, Tale, sured_grow}
@@ -37,7 +37,7 @@ module _ {E Q G R A F : Type 0} {b : Book E Q G R A F} {s : Start E} (o : IsOpen
     old_in : (i : ℕ) (f : E) → slice_get (g.led n.view) i ≡ Some f → slice_get (n.log ++ e ∷ []) i ≡ Some f
     old_in i f a = get_left n.log (e ∷ []) i f (ap (λ l. slice_get l i) mine ∙ a)
 
-    grows : Grows b.view_of x g (told_led n.view (n.log ++ e ∷ []) g)
+    grows : Grows b.view_of x g (reported_led n.view (n.log ++ e ∷ []) g)
     grows = grows_led b.view_of x n.view (n.log ++ e ∷ []) g won old_in
         (λ i f a. ⊎_elim (λ (q : slice_get n.log i ≡ Some f). inl (ap (λ l. slice_get l i) (sym mine) ∙ q)) (λ (q : (i ≡ length n.log) × (f ≡ e)). inr (ap b.view_of q.1 ∙ view_is)) (get_push n.log e i f a))
 
@@ -85,7 +85,7 @@ module _ {E Q G R A F : Type 0} {b : Book E Q G R A F} {s : Start E} (o : IsOpen
     old_led : (u i : ℕ) (f : E) → u ≢ n.view → slice_get (at_view g.led n.view (n.log ++ e ∷ []) u) i ≡ Some f → slice_get (g.led u) i ≡ Some f
     old_led u i f q d = grind (arith, id_tests)
 
-    known_here : (i : ℕ) (f : E) → slice_get (n.log ++ e ∷ []) i ≡ Some f → b.is_signature f ≡ true → (b.recorded_commit f ≤ suc i) × Sured o (told_led n.view (n.log ++ e ∷ []) g) (n.log ++ e ∷ []) (b.recorded_commit f) n.view
+    known_here : (i : ℕ) (f : E) → slice_get (n.log ++ e ∷ []) i ≡ Some f → b.is_signature f ≡ true → (b.recorded_commit f ≤ suc i) × Sured o (reported_led n.view (n.log ++ e ∷ []) g) (n.log ++ e ∷ []) (b.recorded_commit f) n.view
     known_here i f a d = ⊎_elim
         (λ (q : slice_get n.log i ≡ Some f).
         let r = known_in o g t n.log i f n.view z.logged.matches z.logged.bound q d in
@@ -93,7 +93,7 @@ module _ {E Q G R A F : Type 0} {b : Book E Q G R A F} {s : Start E} (o : IsOpen
         (λ (q : (i ≡ length n.log) × (f ≡ e)).
         let r : b.recorded_commit f ≡ n.commit = ap b.recorded_commit q.1 ∙ records (ap b.is_signature (sym q.1) ∙ d) in (
           omega (arith, q.0, sure_within o g n.log n.commit n.view sure_n),
-          subst (λ (c : ℕ). Sured o (told_led n.view (n.log ++ e ∷ []) g) (n.log ++ e ∷ []) c n.view) (sym r) (sured_grow o grows n.log (n.log ++ e ∷ []) pushed n.commit n.view sure_n),
+          subst (λ (c : ℕ). Sured o (reported_led n.view (n.log ++ e ∷ []) g) (n.log ++ e ∷ []) c n.view) (sym r) (sured_grow o grows n.log (n.log ++ e ∷ []) pushed n.commit n.view sure_n),
         ))
         (get_push n.log e i f a)
 
@@ -158,7 +158,7 @@ module _ {E Q G R A F : Type 0} {b : Book E Q G R A F} {s : Start E} (o : IsOpen
           (get_push n.log e i f c);
     }
 
-    own : Ballots b (told_led n.view (n.log ++ e ∷ []) g) x
+    own : Ballots b (reported_led n.view (n.log ++ e ∷ []) g) x
     own = record {
       votes = λ w c d a.
           let r = (t.ballots x).votes w c d a in
@@ -179,7 +179,7 @@ module _ {E Q G R A F : Type 0} {b : Book E Q G R A F} {s : Start E} (o : IsOpen
         back : {w : ℕ} {c : NodeId} (r : Voted b g x w c) (u i top : ℕ) → Covers r.bid u i ⊎ Lost b g.chief g.led u i top → Covers r.bid u i ⊎ Lost b g.chief (at_view g.led n.view (n.log ++ e ∷ [])) u i top
         back r u i top q = ⊎_elim (λ (f : Covers r.bid u i). inl f) (λ (f : Lost b g.chief g.led u i top). inr (lost_grow b grows u i top f)) q
 
-    tale_append : Tale o (told_led n.view (n.log ++ e ∷ []) g)
+    tale_append : Tale o (reported_led n.view (n.log ++ e ∷ []) g)
     tale_append = record {
       early = t.early;
       matches = λ u. at_led (λ l. Matches b (at_view g.led n.view (n.log ++ e ∷ [])) l) u matches (matches_grow b grows (g.led u) (t.matches u));
@@ -193,8 +193,8 @@ module _ {E Q G R A F : Type 0} {b : Book E Q G R A F} {s : Start E} (o : IsOpen
           (λ (q : u ≡ n.view).
           let r = known_here i f (ap (λ l. slice_get l i) (sym here) ∙ ap (λ v. slice_get (at_view g.led n.view (n.log ++ e ∷ []) v) i) (sym q) ∙ a) d in (
             r.0,
-            subst (λ (w : ℕ). Sured o (told_led n.view (n.log ++ e ∷ []) g) (at_view g.led n.view (n.log ++ e ∷ []) w) (b.recorded_commit f) w) (sym q)
-                (subst (λ (l : List E). Sured o (told_led n.view (n.log ++ e ∷ []) g) l (b.recorded_commit f) n.view) (sym here) r.1),
+            subst (λ (w : ℕ). Sured o (reported_led n.view (n.log ++ e ∷ []) g) (at_view g.led n.view (n.log ++ e ∷ []) w) (b.recorded_commit f) w) (sym q)
+                (subst (λ (l : List E). Sured o (reported_led n.view (n.log ++ e ∷ []) g) l (b.recorded_commit f) n.view) (sym here) r.1),
           ))
           (λ (q : u ≢ n.view).
           let r = t.known u i f (old_led u i f q a) d in
@@ -203,7 +203,7 @@ module _ {E Q G R A F : Type 0} {b : Book E Q G R A F} {s : Start E} (o : IsOpen
       bids = t.bids;
       shuts = λ c w y a. shuts_grow o grows 0 w y (t.shuts c w y a);
       stood = t.stood;
-      ballots = λ y. ⊎_elim (λ (q : y ≡ x). subst (Ballots b (told_led n.view (n.log ++ e ∷ []) g)) (sym q) own) (λ (q : y ≢ x). ballots_of b grows y q (t.ballots y)) (cases_same y x);
+      ballots = λ y. ⊎_elim (λ (q : y ≡ x). subst (Ballots b (reported_led n.view (n.log ++ e ∷ []) g)) (sym q) own) (λ (q : y ≢ x). ballots_of b grows y q (t.ballots y)) (cases_same y x);
       follows = λ u i f a. follows_at u i f (u == n.view) a;
       marks = λ u. at_led (MarksKnown b) u marks_here (t.marks u);
     }
@@ -213,12 +213,12 @@ module _ {E Q G R A F : Type 0} {b : Book E Q G R A F} {s : Start E} (o : IsOpen
         follows_at u i f false a = t.follows u i f a
 
     pub made_append : Reached o x g (append_entry n e) []
-    made_append = (told_led n.view (n.log ++ e ∷ []) g, record { grow = grows; tale = tale_append; good = good; sent = tt; commits = λ v. inl refl })
+    made_append = (reported_led n.view (n.log ++ e ∷ []) g, record { grow = grows; tale = tale_append; good = good; sent = tt; commits = λ v. inl refl })
       where
-        sure_h : (c u : ℕ) → Sured o g n.log c u → Sured o (told_led n.view (n.log ++ e ∷ []) g) (n.log ++ e ∷ []) c u
+        sure_h : (c u : ℕ) → Sured o g n.log c u → Sured o (reported_led n.view (n.log ++ e ∷ []) g) (n.log ++ e ∷ []) c u
         sure_h c u q = sured_grow o grows n.log (n.log ++ e ∷ []) pushed c u q
 
-        good : Good o (told_led n.view (n.log ++ e ∷ []) g) x (append_entry n e)
+        good : Good o (reported_led n.view (n.log ++ e ∷ []) g) x (append_entry n e)
         good = record {
           voter = z.voter;
           logged = record { positive = z.logged.positive; mine = λ a. sym here; matches = matches; bound = bound };
@@ -279,12 +279,12 @@ module _ {E Q G R A F : Type 0} {b : Book E Q G R A F} {s : Start E} (o : IsOpen
   pub good_sent_back : (x y : NodeId) (seqno : ℕ) (g : Story E) (n : Node E) → Good o g x n → Good o g x (lower_next b y seqno n)
   good_sent_back x y seqno g n z = record { voter = z.voter; logged = z.logged; kept = z.kept; commits = z.commits; sound = z.sound }
 
-  -- how far a leader committed is told
+  -- how far a leader committed is reported
   module _ (x : NodeId) (v k : ℕ) (g : Story E) where
-    committed_grows : Grows b.view_of x g (told_committed v k g)
+    committed_grows : Grows b.view_of x g (reported_committed v k g)
     committed_grows = grows_committed b.view_of x v k g
 
-    pub committed_tale : Tale o g → Tale o (told_committed v k g)
+    pub committed_tale : Tale o g → Tale o (reported_committed v k g)
     committed_tale t = record {
       early = t.early;
       matches = t.matches;
@@ -307,7 +307,7 @@ module _ {E Q G R A F : Type 0} {b : Book E Q G R A F} {s : Start E} (o : IsOpen
       marks = t.marks;
     }
 
-    pub committed_good : (y : NodeId) (n : Node E) → Good o g y n → Good o (told_committed v k g) y n
+    pub committed_good : (y : NodeId) (n : Node E) → Good o g y n → Good o (reported_committed v k g) y n
     committed_good y n z = record {
       voter = z.voter;
       logged = z.logged;

@@ -1,5 +1,5 @@
--- An entry of a log stood in the opening ledger, or the book made it. So where those are of a kind, each entry of each
--- log is, and each that a message carries.
+-- An entry of a log stood in the opening ledger, or the book made it. So where those are of a kind,
+-- each entry of each log is, and each that a message carries.
 use Rattle.std.proofs.Common.{◌≡◌, inl, inr, ⊎_elim, ℕ, zero, suc, ◌+◌, ◌-◌, List, [], ◌∷◌, ◌++◌, map, min, length, take, drop, Bool, true, false, ◌&&◌, ◌||◌, not, ◌==◌, nat_lt, nat_le, if◌then◌else◌, Option, Some, None, Result, Ok, Err, slice_get, refl, sym, ◌∙◌, subst}
 use Rattle.std.proofs.lemmas.Option.{get_or_from_slice_get}
 use Rattle.gl_rules.specs.Identity.{NodeId, same, member}
@@ -72,8 +72,8 @@ module _ {E Q G R A F : Type 0} {b : Book E Q G R A F} {Kind : E → Type 0} (ma
   kept n w h = record { log = h; sent = each_none (Carries Kind) }
 
   -- one message without entries
-  tells : (n : Node E) (m : Message E) (w : Outcome A F) → Carries Kind m → Has n → Leaves (record { node = n; sent = m ∷ []; outcome = w })
-  tells n m w c h = record { log = h; sent = each_first (Carries Kind) m [] c (each_none (Carries Kind)) }
+  reports : (n : Node E) (m : Message E) (w : Outcome A F) → Carries Kind m → Has n → Leaves (record { node = n; sent = m ∷ []; outcome = w })
+  reports n m w c h = record { log = h; sent = each_first (Carries Kind) m [] c (each_none (Carries Kind)) }
 
   pushed : (n : Node E) (e : E) → Kind e → Has n → Has (append_entry n e)
   pushed n e c h = each_joined Kind n.log (e ∷ []) h (each_first Kind e [] c (each_none Kind))
@@ -127,8 +127,8 @@ module _ {E Q G R A F : Type 0} {b : Book E Q G R A F} {Kind : E → Type 0} (ma
       (λ d. go false) (λ d. go (may_vote_for n.vote c && is_up_to_date theirs (last_signature_position b n.log)))
     where
       go : (m : Bool) → Leaves (reply_to_vote_request b x c m n)
-      go true = tells (record n { vote = Some c }) (record { sender = x; receiver = c; view = n.view; body = VoteReply true }) outcome.Done tt h
-      go false = tells n (record { sender = x; receiver = c; view = n.view; body = VoteReply false }) outcome.Done tt h
+      go true = reports (record n { vote = Some c }) (record { sender = x; receiver = c; view = n.view; body = VoteReply true }) outcome.Done tt h
+      go false = reports n (record { sender = x; receiver = c; view = n.view; body = VoteReply false }) outcome.Done tt h
 
   reply_leaves : (y : NodeId) (view : ℕ) (granted : Bool) (n : Node E) → Has n → Leaves (on_vote_reply b y view granted n)
   unfolding on_vote_reply
@@ -149,7 +149,7 @@ module _ {E Q G R A F : Type 0} {b : Book E Q G R A F} {Kind : E → Type 0} (ma
   unfolding step_down
   step_down_leaves x y n h = leads n (if not (same y x) && in_some y (active b n.log n.commit) then hand_over b x y n else outcome.refuse n outcome.NotPeer) h
       (by_test Leaves (not (same y x) && in_some y (active b n.log n.commit)) (hand_over b x y n) (outcome.refuse n outcome.NotPeer)
-      (λ d. tells (record n { role = Follower; leader = None }) (record { sender = x; receiver = y; view = n.view; body = ProposeVote }) outcome.Done tt h)
+      (λ d. reports (record n { role = Follower; leader = None }) (record { sender = x; receiver = y; view = n.view; body = ProposeVote }) outcome.Done tt h)
       (λ d. kept n (outcome.Refused outcome.NotPeer) h))
 
   -- requests
@@ -229,8 +229,8 @@ module _ {E Q G R A F : Type 0} {b : Book E Q G R A F} {Kind : E → Type 0} (ma
       (λ e. out (next_of b n y - 1)))
       (λ d. kept n (outcome.Refused outcome.NotPeer) h))
     where
-      out : (behind : ℕ) → Leaves (record { node = n; sent = append_message b x y behind n ∷ []; outcome = outcome.Done })
-      out behind = tells n (append_message b x y behind n) outcome.Done (λ i e a. each_dropped Kind behind n.log h i e (in_batch b (drop behind n.log) i e a)) h
+      out : (suffix : ℕ) → Leaves (record { node = n; sent = append_message b x y suffix n ∷ []; outcome = outcome.Done })
+      out suffix = reports n (append_message b x y suffix n) outcome.Done (λ i e a. each_dropped Kind suffix n.log h i e (in_batch b (drop suffix n.log) i e a)) h
 
   appended : (log es r : List E) → checked_append b log es ≡ Ok r → EachIs Kind log → EachIs Kind es → EachIs Kind r
   unfolding checked_append
@@ -260,7 +260,7 @@ module _ {E Q G R A F : Type 0} {b : Book E Q G R A F} {Kind : E → Type 0} (ma
         go false false = extends held n (checked_append b (take (prev.seqno + held) n.log) (drop held es)) refl h
 
     replies : (seqno : ℕ) (n : Node E) → Has n → Leaves (record { node = n; sent = append_reply b x y false seqno n; outcome = outcome.Done })
-    replies seqno n h = tells n (record { sender = x; receiver = y; view = n.view; body = AppendReply false seqno }) outcome.Done tt h
+    replies seqno n h = reports n (record { sender = x; receiver = y; view = n.view; body = AppendReply false seqno }) outcome.Done tt h
 
     follows : (n : Node E) → Has n → Leaves (merge_if_matching b x y prev es theirs n)
     follows n h = by_test Leaves ((prev.seqno == 0) || (nat_le prev.seqno (length n.log) && (view_at b n.log prev.seqno == prev.view)))

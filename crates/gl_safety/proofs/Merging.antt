@@ -12,7 +12,7 @@ use Rattle.gl_rules.specs.Replication.{matching_prefix_len, unless_broken, check
 module _ {E Q G R A F : Type 0} (b : Book E Q G R A F) where
   -- r is l after it took the first n entries of m
   pub record Merged (l m : List E) (n : ℕ) (r : List E) : Type 0 where
-    pub front : (j : ℕ) (f : E) → j < n → slice_get r j ≡ Some f → slice_get m j ≡ Some f
+    pub prefix : (j : ℕ) (f : E) → j < n → slice_get r j ≡ Some f → slice_get m j ≡ Some f
     pub long : n ≤ length r
     pub way : (r ≡ l) ⊎ (((j : ℕ) (f : E) → slice_get r j ≡ Some f → slice_get m j ≡ Some f) × (d : ℕ) × (d < n) × ((e f : E) → slice_get l d ≡ Some e → slice_get m d ≡ Some f → b.view_of e ≢ b.view_of f))
 
@@ -65,15 +65,15 @@ module _ {E Q G R A F : Type 0} (b : Book E Q G R A F) where
       go None d w again = let y = again w (sound_push b l e z d) in (y.0 ∙ push_append l e es, y.1)
       go (Some why) d w again = absurd (cc)
 
-  -- the leader's log m has es behind p, and l is m up to p
-  module _ (led : ℕ → List E) (l m es : List E) (p : ℕ) (ml : Matches b led l) (mm : Matches b led m) (short : p ≤ length l) (front : Same p l m) (items : (i k : ℕ) (e : E) → k ≡ p + i → slice_get es i ≡ Some e → slice_get m k ≡ Some e) where
+  -- the leader's log m has es after p, and l is m up to p
+  module _ (led : ℕ → List E) (l m es : List E) (p : ℕ) (ml : Matches b led l) (mm : Matches b led m) (short : p ≤ length l) (prefix : Same p l m) (items : (i k : ℕ) (e : E) → k ≡ p + i → slice_get es i ≡ Some e → slice_get m k ≡ Some e) where
     held : ℕ
     held = matching_prefix_len b (drop p l) es
 
     -- up to the first entry that isn't held, the log is the leader's
     pub agreed : (j : ℕ) (f : E) → j < p + matching_prefix_len b (drop p l) es → slice_get l j ≡ Some f → slice_get m j ≡ Some f
     agreed j f h a = ⊎_elim
-        (λ (q : j < p). front j f q a)
+        (λ (q : j < p). prefix j f q a)
         (λ (q : p ≤ j).
         let y = held_in (drop p l) es (j - p) (omega arith) in
         let in_l : slice_get l j ≡ Some y.0 = sym (drop_get p l (j - p) j (omega arith)) ∙ y.2 in
@@ -86,7 +86,7 @@ module _ {E Q G R A F : Type 0} (b : Book E Q G R A F) where
 
     pub merged_all : matching_prefix_len b (drop p l) es ≡ length es → Merged l m (p + length es) l
     merged_all h = record {
-      front = λ j f d a. agreed j f (omega arith) a;
+      prefix = λ j f d a. agreed j f (omega arith) a;
       long = ⊎_elim
           (λ (q : length es ≡ 0). omega arith)
           (λ (q : length es ≢ 0). let y = held_in (drop p l) es (length es - 1) (omega arith) in
@@ -98,7 +98,7 @@ module _ {E Q G R A F : Type 0} (b : Book E Q G R A F) where
 
     pub merged_new : matching_prefix_len b (drop p l) es ≢ length es → Merged l m (p + length es) (take (p + matching_prefix_len b (drop p l) es) l ++ drop (matching_prefix_len b (drop p l) es) es)
     merged_new h = record {
-      front = λ j f d a. new_in j f a;
+      prefix = λ j f d a. new_in j f a;
       long = let q = length-append (take k l) (drop n es) in let u = length-take k l in let w = length-drop n es in omega (arith, q, u, w, n_le, k_le);
       way = inr (new_in, k, omega (arith, n_le), λ e f a c. held_ends (drop p l) es e f (drop_get p l n k refl ∙ a) (in_es f c));
     }

@@ -1,4 +1,5 @@
--- Where a removal or a mark stands: a longer ledger has it at the same seqno, and a shorter one has it where it reaches so far.
+-- Where a removal or a mark stands: a longer ledger has it at the same seqno, and a shorter one has
+-- it where it reaches so far.
 use Rattle.std.proofs.Common.{◌≡◌, ◌⊎◌, inl, inr, ⊎_elim, ℕ, zero, suc, ◌+◌, ◌≤◌, ◌<◌, List, [], ◌∷◌, ◌++◌, length, take, true, false, Option, Some, slice_get, refl, sym, ap, ◌∙◌, subst, length-take, arith}
 use Rattle.std.proofs.lemmas.Bool.{cases_lt}
 use Rattle.gl_rules.specs.Identity.{NodeId}

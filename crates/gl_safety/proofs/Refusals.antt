@@ -24,7 +24,7 @@ use Rattle.gl_rules.specs.Replication.{matching_prefix_len, unless_broken, check
 use Rattle.gl_safety.proofs.Standing.{good_rise}
 use Rattle.gl_safety.proofs.Following.{good_follow}
 use Rattle.gl_safety.proofs.Merging.{held_le, held_in, held_ends, agreed}
-use Rattle.gl_safety.proofs.Replicas.{behind}
+use Rattle.gl_safety.proofs.Replicas.{suffix}
 use Rattle.gl_safety.proofs.Runs.{Holding, first_story, onward_run}
 use Rattle.gl_safety.proofs.Beginning.{holding_first}
 
@@ -104,7 +104,7 @@ module _ {E Q G R A F : Type 0} {b : Book E Q G R A F} {s : Start E} (o : IsOpen
 
   module _ (x y : NodeId) (g : Story E) (n : Node E) (prev : Position) (es : List E) (theirs : ℕ) (t : Tale o g) (z : Good o g x n) (follower : n.role ≡ Follower)
       (segment : Segment b (g.led n.view) prev es) (sure_c : Sured o g (g.led n.view) theirs n.view) where
-    module _ (short : prev.seqno ≤ length n.log) (front : Same prev.seqno n.log (g.led n.view)) where
+    module _ (short : prev.seqno ≤ length n.log) (prefix : Same prev.seqno n.log (g.led n.view)) where
       -- where the first entry that isn't held
       held : ℕ
       held = matching_prefix_len b (drop prev.seqno n.log) es
@@ -139,7 +139,7 @@ module _ {E Q G R A F : Type 0} {b : Book E Q G R A F} {s : Start E} (o : IsOpen
           Fine n (accept_or_refuse b n x y (prev.seqno + length es) theirs (cut_to k n) m)
       extended_fine k d (Ok log) a = tt
       extended_fine k d (Err why) a = applied_fine (g.led n.view) (take k n.log) (drop (matching_prefix_len b (drop prev.seqno n.log) es) es) k why (t.follows n.view)
-          (same_take k n.log (g.led n.view) low (λ j f h c. agreed b g.led n.log (g.led n.view) es prev.seqno z.logged.matches (t.matches n.view) short front segment.items j f (omega arith) c))
+          (same_take k n.log (g.led n.view) low (λ j f h c. agreed b g.led n.log (g.led n.view) es prev.seqno z.logged.matches (t.matches n.view) short prefix segment.items j f (omega arith) c))
           (λ i j e c v. segment.items (matching_prefix_len b (drop prev.seqno n.log) es + i) j e (omega arith) (sym (drop_get (matching_prefix_len b (drop prev.seqno n.log) es) es i (matching_prefix_len b (drop prev.seqno n.log) es + i) refl) ∙ v)) a
         where
           low : k ≤ length n.log
@@ -170,7 +170,7 @@ module _ {E Q G R A F : Type 0} {b : Book E Q G R A F} {s : Start E} (o : IsOpen
     follows_fine = by_test (Fine n) ((prev.seqno == 0) || (nat_le prev.seqno (length n.log) && (view_at b n.log prev.seqno == prev.view)))
         (merge_entries b x y prev.seqno es (matching_prefix_len b (drop prev.seqno n.log) es) theirs n)
         (record { node = n; sent = append_reply b x y false (highest_possible_match b n.log prev.view (min (prev.seqno - 1) (length n.log))) n; outcome = outcome.Done })
-        (λ d. let q = behind o la x y g n prev es theirs t z follower segment sure_c d in merges_fine q.0 q.1)
+        (λ d. let q = suffix o la x y g n prev es theirs t z follower segment sure_c d in merges_fine q.0 q.1)
         (λ d. tt)
 
   append_fine : (x y : NodeId) (view : ℕ) (prev : Position) (es : List E) (theirs : ℕ) (g : Story E) (n : Node E) → Tale o g → Good o g x n → view ≤ n.view → BodySent o g y x view (Append prev es theirs) →

@@ -12,7 +12,7 @@ use Rattle.gl_rules.specs.World.{Start}
 use Rattle.gl_rules.specs.Safety.{IsOpening, IsLawful, EachFollows}
 use Rattle.gl_rules.proofs.Ids.{by_test, id_tests}
 use Rattle.gl_rules.proofs.Lists.{Same, there, within, take_get, drop_get, get_left}
-use Rattle.gl_safety.proofs.Story.{Story, at_view, told_committed, grows_committed}
+use Rattle.gl_safety.proofs.Story.{Story, at_view, reported_committed, grows_committed}
 use Rattle.gl_safety.proofs.Facts.{Segment, agree}
 use Rattle.gl_safety.proofs.Certificates.{Sured, Tale}
 use Rattle.gl_safety.proofs.Signatures.{view_at_is}
@@ -44,13 +44,13 @@ module _ {E Q G R A F : Type 0} {b : Book E Q G R A F} {s : Start E} (o : IsOpen
       (λ e. out r (next_of b n y - 1)))
       (λ d. stay o la x g n t z))
     where
-      out : n.role ≡ Leader → (behind : ℕ) → Reached o x g n (append_message b x y behind n ∷ [])
-      out r behind = (
+      out : n.role ≡ Leader → (suffix : ℕ) → Reached o x g n (append_message b x y suffix n ∷ [])
+      out r suffix = (
         g,
-        made_same o x g n (append_message b x y behind n ∷ []) t z (
+        made_same o x g n (append_message b x y suffix n ∷ []) t z (
           (
             record {
-              items = λ i k e d a. ap (λ l. slice_get l k) (sym mine) ∙ sym (drop_get behind n.log i k d) ∙ in_batch b (drop behind n.log) i e a;
+              items = λ i k e d a. ap (λ l. slice_get l k) (sym mine) ∙ sym (drop_get suffix n.log i k d) ∙ in_batch b (drop suffix n.log) i e a;
               prev = λ j d h.
                   let w = view_of_some n.log j (let q = ap (view_at b n.log) d in omega arith) in
                   (w.0, ap (λ l. slice_get l j) (sym mine) ∙ w.1, w.2 ∙ sym (ap (view_at b n.log) d));
@@ -70,10 +70,10 @@ module _ {E Q G R A F : Type 0} {b : Book E Q G R A F} {s : Start E} (o : IsOpen
     answer_no : (seqno : ℕ) → Reached o x g n (append_reply b x y false seqno n)
     answer_no seqno = (g, made_same o x g n (append_reply b x y false seqno n) t z (tt, tt))
 
-    module _ (short : prev.seqno ≤ length n.log) (front : Same prev.seqno n.log (g.led n.view)) where
+    module _ (short : prev.seqno ≤ length n.log) (prefix : Same prev.seqno n.log (g.led n.view)) where
       reached_takes : matching_prefix_len b (drop prev.seqno n.log) es ≡ length es → By o la x g (accept_entries b x y (prev.seqno + length es) theirs n)
       reached_takes h = made_accept o x g n n.log (prev.seqno + length es) theirs n.cuts t z follows
-          (merged_all b g.led n.log (g.led n.view) es prev.seqno z.logged.matches (t.matches n.view) short front segment.items h)
+          (merged_all b g.led n.log (g.led n.view) es prev.seqno z.logged.matches (t.matches n.view) short prefix segment.items h)
           (λ j f d a. a) z.sound sure_c y
 
       reached_extended : (k : ℕ) → k ≡ prev.seqno + matching_prefix_len b (drop prev.seqno n.log) es → matching_prefix_len b (drop prev.seqno n.log) es ≢ length es → (nat_lt k (length n.log) && nat_lt k n.commit) ≡ false →
@@ -83,7 +83,7 @@ module _ {E Q G R A F : Type 0} {b : Book E Q G R A F} {s : Start E} (o : IsOpen
           let w = applied_is b (take k n.log) (drop (matching_prefix_len b (drop prev.seqno n.log) es) es) log a (sound_cut b n.log k z.sound) in
           made_accept o x g n log (prev.seqno + length es) theirs (cut_to k n).cuts t z follows
           (subst (Merged b n.log (g.led n.view) (prev.seqno + length es)) (ap (λ i. take i n.log ++ drop (matching_prefix_len b (drop prev.seqno n.log) es) es) (sym d) ∙ sym w.0)
-          (merged_new b g.led n.log (g.led n.view) es prev.seqno z.logged.matches (t.matches n.view) short front segment.items h))
+          (merged_new b g.led n.log (g.led n.view) es prev.seqno z.logged.matches (t.matches n.view) short prefix segment.items h))
           (λ j f i c. ⊎_elim
           (λ (q : j < k). ap (λ l. slice_get l j) w.0 ∙ get_left (take k n.log) (drop (matching_prefix_len b (drop prev.seqno n.log) es) es) j f (take_get k n.log j f q c))
           (λ (q : k ≤ j). absurd (let u = within n.log j f c in grind (arith, nat_tests)))
@@ -105,16 +105,16 @@ module _ {E Q G R A F : Type 0} {b : Book E Q G R A F} {s : Start E} (o : IsOpen
               then refuse n (BelowCommit n.commit (prev.seqno + matching_prefix_len b (drop prev.seqno n.log) es))
               else accept_or_refuse b n x y (prev.seqno + length es) theirs (cut_to (prev.seqno + matching_prefix_len b (drop prev.seqno n.log) es) n) (checked_append b (take (prev.seqno + matching_prefix_len b (drop prev.seqno n.log) es) n.log) (drop (matching_prefix_len b (drop prev.seqno n.log) es) es))
 
-    one_front : (j : ℕ) (f e : E) → slice_get n.log j ≡ Some f → slice_get (g.led n.view) j ≡ Some e → b.view_of f ≡ b.view_of e → Same (suc j) n.log (g.led n.view)
-    one_front j f e a c v =
+    one_prefix : (j : ℕ) (f e : E) → slice_get n.log j ≡ Some f → slice_get (g.led n.view) j ≡ Some e → b.view_of f ≡ b.view_of e → Same (suc j) n.log (g.led n.view)
+    one_prefix j f e a c v =
         let p : slice_get (g.led (b.view_of f)) j ≡ Some f = z.logged.matches.below j j f f a (omega arith) a in
         let q : slice_get (g.led (b.view_of e)) j ≡ Some e = (t.matches n.view).below j j e e c (omega arith) c in
         let one : e ≡ f = let u : slice_get (g.led (b.view_of f)) j ≡ slice_get (g.led (b.view_of e)) j = ap (λ v. slice_get (g.led v) j) v in cc in
         agree b g.led n.log (g.led n.view) j f z.logged.matches (t.matches n.view) a (let w : slice_get (g.led n.view) j ≡ Some f = cc in w)
 
     -- the seqno before the entries is the leader's
-    pub behind : ((prev.seqno == 0) || (nat_le prev.seqno (length n.log) && (view_at b n.log prev.seqno == prev.view))) ≡ true → (prev.seqno ≤ length n.log) × Same prev.seqno n.log (g.led n.view)
-    behind a = go prev.seqno refl
+    pub suffix : ((prev.seqno == 0) || (nat_le prev.seqno (length n.log) && (view_at b n.log prev.seqno == prev.view))) ≡ true → (prev.seqno ≤ length n.log) × Same prev.seqno n.log (g.led n.view)
+    suffix a = go prev.seqno refl
       where
         go : (p : ℕ) → prev.seqno ≡ p → (prev.seqno ≤ length n.log) × Same prev.seqno n.log (g.led n.view)
         go zero d = (omega arith, λ j f h e. absurd (omega arith))
@@ -124,14 +124,14 @@ module _ {E Q G R A F : Type 0} {b : Book E Q G R A F} {s : Start E} (o : IsOpen
             let f = there n.log j (omega arith) in
             let at_f : b.view_of f.0 ≡ prev.view = let k : view_at b n.log (suc j) ≡ b.view_of f.0 = view_at_is b n.log j f.0 f.1 in let m : view_at b n.log prev.seqno ≡ view_at b n.log (suc j) = ap (view_at b n.log) d in cc in
             let e = segment.prev j d (omega (arith, (z.logged.bound.view j f.0 f.1).0)) in
-            let all : Same (suc j) n.log (g.led n.view) = one_front j f.0 e.0 f.1 e.1 (let k : b.view_of e.0 ≡ prev.view = e.2 in cc) in
+            let all : Same (suc j) n.log (g.led n.view) = one_prefix j f.0 e.0 f.1 e.1 (let k : b.view_of e.0 ≡ prev.view = e.2 in cc) in
             (low, λ i c h w. all i c (omega arith) w)
 
     reached_follows : By o la x g (merge_if_matching b x y prev es theirs n)
     reached_follows = by_test (By o la x g) ((prev.seqno == 0) || (nat_le prev.seqno (length n.log) && (view_at b n.log prev.seqno == prev.view)))
         (merge_entries b x y prev.seqno es (matching_prefix_len b (drop prev.seqno n.log) es) theirs n)
         (record { node = n; sent = append_reply b x y false (highest_possible_match b n.log prev.view (min (prev.seqno - 1) (length n.log))) n; outcome = Done })
-        (λ d. let q = behind d in reached_merges q.0 q.1)
+        (λ d. let q = suffix d in reached_merges q.0 q.1)
         (λ d. answer_no (highest_possible_match b n.log prev.view (min (prev.seqno - 1) (length n.log))))
 
   pub reached_append : (x y : NodeId) (view : ℕ) (prev : Position) (es : List E) (theirs : ℕ) (g : Story E) (n : Node E) → Tale o g → Good o g x n → view ≤ n.view → BodySent o g y x view (Append prev es theirs) →
@@ -187,7 +187,7 @@ module _ {E Q G R A F : Type 0} {b : Book E Q G R A F} {s : Start E} (o : IsOpen
       go r None d = stay o la x g n t z
       go r (Some p) d =
           let w = greatest_is x n (length n.log) p d in
-          let h = told_committed n.view p g in
+          let h = reported_committed n.view p g in
           let far : suc w.0 ≤ h.committed n.view = let u = w.1 in grind (arith, id_tests) in (
             h,
             record {
@@ -197,16 +197,16 @@ module _ {E Q G R A F : Type 0} {b : Book E Q G R A F} {s : Start E} (o : IsOpen
               sent = tt;
               commits = λ v. ⊎_elim
                   (λ (u : n.view ≡ v). ⊎_elim
-                  (λ (c : g.committed v < p). inr (r, u, let q = told_at v u in omega (arith, q)))
-                  (λ (c : p ≤ g.committed v). inl (let q = told_at v u in omega (arith, q)))
+                  (λ (c : g.committed v < p). inr (r, u, let q = reported_at v u in omega (arith, q)))
+                  (λ (c : p ≤ g.committed v). inl (let q = reported_at v u in omega (arith, q)))
                   (cases_lt (g.committed v) p))
                   (λ (u : n.view ≢ v). inl (grind (arith, id_tests)))
                   (cases_eq n.view v);
             },
           )
         where
-          told_at : (v : ℕ) → n.view ≡ v → at_view g.committed n.view (max (g.committed n.view) p) v ≡ max (g.committed v) p
-          told_at v u = grind (arith, id_tests)
+          reported_at : (v : ℕ) → n.view ≡ v → at_view g.committed n.view (max (g.committed n.view) p) v ≡ max (g.committed v) p
+          reported_at v u = grind (arith, id_tests)
 
   pub reached_restart : (x : NodeId) (g : Story E) (n : Node E) → Tale o g → Good o g x n → By o la x g (restart b n)
   unfolding restart

@@ -1,4 +1,5 @@
--- A node whose retirement is committed is in no active configuration of a node that said so, nor of a later leader, for good.
+-- A node whose retirement is committed is in no active configuration of a node that said so, nor of
+-- a later leader, for good.
 use Rattle.std.proofs.Common.{◌≡◌, ◌≢◌, inl, inr, ⊎_elim, ℕ, suc, ◌≤◌, ◌<◌, List, length, take, Bool, true, false, nat_le, nat_lt, if◌then◌else◌, Option, Some, None, slice_get, refl, sym, ap, ◌∙◌, true≢false, arith}
 use Rattle.std.proofs.lemmas.Bool.{cases_lt}
 use Rattle.std.proofs.lemmas.Bool.Decides.{nat_tests}
@@ -47,16 +48,16 @@ module _ {E Q G R A F : Type 0} {b : Book E Q G R A F} {s : Start E} (o : IsOpen
     -- k's log holds what n committed, so that its commit reaches the removal
     gone : (n k : Node E) (y : NodeId) → EachFollows b n.log → EachFollows b k.log → MarksKnown b k.log → greatest_recorded b k.log ≤ k.commit → k.commit ≤ length k.log →
         (i : ℕ) (e : E) → n.commit ≡ suc i → slice_get n.log i ≡ Some e → b.is_signature e ≡ true → Same n.commit n.log k.log → IsRetired b n y → IsActive b k y → ⊥
-    gone n k y zn zk marks least long i e at_i entry signs front r a =
+    gone n k y zn zk marks least long i e at_i entry signs prefix r a =
         let m = mark_reached n y r in
         let en = mark_entry b la n.log y m.0 zn m.1 in
         let wide : n.commit ≤ length n.log = omega (arith, at_i, within n.log i e entry) in
-        let mark_k : b.mark k.log y ≡ Some m.0 = place_same b b.mark la.markings n.log k.log y m.0 n.commit zn zk wide front m.2 m.1 in
-        let removal_k : b.removal k.log y ≡ Some en.5.0 = place_same b b.removal la.removals n.log k.log y en.5.0 n.commit zn zk wide front (omega (arith, en.5.1, en.1, m.2)) en.5.2 in
+        let mark_k : b.mark k.log y ≡ Some m.0 = place_same b b.mark la.markings n.log k.log y m.0 n.commit zn zk wide prefix m.2 m.1 in
+        let removal_k : b.removal k.log y ≡ Some en.5.0 = place_same b b.removal la.removals n.log k.log y en.5.0 n.commit zn zk wide prefix (omega (arith, en.5.1, en.1, m.2)) en.5.2 in
         let other : en.0 ≢ i = λ (w : en.0 ≡ i).
         let same : en.2 ≡ e = let u : slice_get n.log i ≡ Some en.2 = ap (slice_get n.log) (sym w) ∙ en.3 in let v = sym u ∙ entry in cc in
         true≢false (sym signs ∙ ap b.is_signature (sym same) ∙ en.4) in
-        let in_k : slice_get k.log i ≡ Some e = front i e (omega (arith, at_i)) entry in
+        let in_k : slice_get k.log i ≡ Some e = prefix i e (omega (arith, at_i)) entry in
         let low : en.5.0 ≤ k.commit = omega (arith, marks.known y m.0 en.5.0 mark_k removal_k i e in_k signs (omega (arith, en.1, m.2, at_i)), recorded_le b k.log i e in_k signs, least) in
         true≢false (sym a ∙ re.removed k.log y en.5.0 k.commit zk removal_k low long)
 

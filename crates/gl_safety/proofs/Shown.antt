@@ -1,5 +1,5 @@
--- A run of the small book, computed: a change of configuration, two leaders one after the other, a snapshot, and the one
--- refusal of entries that the laws leave: at a node whose commit is its base.
+-- A run of the small book, computed: a change of configuration, two leaders one after the other, a
+-- snapshot, and the one refusal of entries that the laws leave: at a node whose commit is its base.
 use Rattle.std.proofs.Common.{◌≡◌, ℕ, List, [], ◌∷◌, ◌++◌, refl}
 use Rattle.gl_rules.specs.Node.{Leader}
 use Rattle.gl_rules.specs.Outcome.{Refused, BelowCommit}
@@ -23,14 +23,15 @@ added =
     ∷ Replicate one three ∷ Deliver 2 ∷ Deliver 3
     ∷ Advance one ∷ Submit one 7 ∷ Reserve one ∷ Sign one ∷ []
 
--- Node 2 wins view 3 with 3 and 4; node 1, which has the greater last signature, doesn't vote for it. Its first entry is
--- on the way to node 4.
+-- Node 2 wins view 3 with 3 and 4; node 1, which has the greater last signature, doesn't vote for
+-- it. Its first entry is on the way to node 4.
 abbrev pub second : List (Event ℕ Order ℕ)
 second =
     Timeout two ∷ Deliver 5 ∷ Deliver 6 ∷ Deliver 4 ∷ Deliver 7 ∷ Deliver 8
     ∷ Submit two 8 ∷ Replicate two four ∷ []
 
--- Node 1 wins view 4 with 2 and 3, and commits a signature of its own; node 4 takes a snapshot from it.
+-- Node 1 wins view 4 with 2 and 3, and commits a signature of its own; node 4 takes a snapshot from
+-- it.
 abbrev pub third : List (Event ℕ Order ℕ)
 third =
     Timeout one ∷ Deliver 11 ∷ Deliver 12 ∷ Deliver 14 ∷ Deliver 15

@@ -144,7 +144,7 @@ ok_first x y q a r d e =
     let n : Entry × ℕ = (y, a) in
     ap (λ (p : Entry × ℕ). p.0) (sym (ok_pair m n r d e))
 
--- evidence stands right behind a signature
+-- evidence stands right after a signature
 witness : (log : List Entry) (seqno : ℕ) (e : Entry) → EachFollows small log → entry_at log (suc seqno) ≡ Some e → is_snapshot e.kind ≡ true → (f : Entry) × (entry_at log seqno ≡ Some f) × (signs f.kind ≡ true)
 witness log seqno e z a d =
     let fit = fit_from (take seqno log) e (z seqno e a) in

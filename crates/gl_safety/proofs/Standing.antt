@@ -13,7 +13,7 @@ use Rattle.gl_rules.specs.World.{Start}
 use Rattle.gl_rules.specs.Safety.{IsOpening, IsLawful, EachFollows}
 use Rattle.gl_rules.proofs.Ids.{id_tests, cases_same, put2, put2_cases, put2_at}
 use Rattle.gl_rules.proofs.Lists.{within, get_take}
-use Rattle.gl_safety.proofs.Story.{Story, Grows, early_by, told_stand, grows_same, grows_stand}
+use Rattle.gl_safety.proofs.Story.{Story, Grows, early_by, reported_stand, grows_same, grows_stand}
 use Rattle.gl_safety.proofs.Configurations.{IsNewest}
 use Rattle.gl_safety.proofs.Facts.{Holds, Covers, Mark, Lost, Ballots, matches_part, lost_more, ballots_of}
 use Rattle.gl_safety.proofs.Certificates.{SureOver, Cert, Sured, Settled, Below, Tale}
@@ -100,7 +100,7 @@ module _ {E Q G R A F : Type 0} {b : Book E Q G R A F} {s : Start E} (o : IsOpen
       ((y : NodeId) → gone y ≡ true → (u : ℕ) × (i : ℕ) × (e : E) × (v ≤ u) × Holds g y u i × Mark b g.led u i e) →
       ((u i : ℕ) → Holds g x u i → u < v) →
       ((u i : ℕ) (e : E) → u < v → Holds g x u i → Mark b g.led u i e → Covers l u i ⊎ Lost b g.chief g.led u i v) →
-      Grows b.view_of x g (told_stand x v l gone g) × Tale o (told_stand x v l gone g)
+      Grows b.view_of x g (reported_stand x v l gone g) × Tale o (reported_stand x v l gone g)
   tale_stand x g v l gone t high less unvoted unbid far past_holds covers = (
     k,
     record {
@@ -132,7 +132,7 @@ module _ {E Q G R A F : Type 0} {b : Book E Q G R A F} {s : Start E} (o : IsOpen
   )
     where
       h : Story E
-      h = told_stand x v l gone g
+      h = reported_stand x v l gone g
 
       unshut : (y : NodeId) → g.shut x v y ≡ false
       unshut y = go (g.shut x v y) refl
@@ -141,10 +141,10 @@ module _ {E Q G R A F : Type 0} {b : Book E Q G R A F} {s : Start E} (o : IsOpen
           go false q = refl
           go true q = absurd (let r = (t.stood x v y q).1 in cc)
 
-      k : Grows b.view_of x g (told_stand x v l gone g)
+      k : Grows b.view_of x g (reported_stand x v l gone g)
       k = grows_stand b.view_of x v l gone g high unvoted unbid unshut
 
-      own : Ballots b (told_stand x v l gone g) x
+      own : Ballots b (reported_stand x v l gone g) x
       own = record {
         votes = λ w c d a. ⊎_elim
             (λ (q : (x ≡ x) × (w ≡ v) × (put2 g.ballot x v (Some x) x w ≡ Some x)).
@@ -193,7 +193,7 @@ module _ {E Q G R A F : Type 0} {b : Book E Q G R A F} {s : Start E} (o : IsOpen
       risen = good_rise g x n (n.view + 1) (omega arith) z
 
       h : Story E
-      h = told_stand x (n.view + 1) (last_signature_position b (signed_prefix b n.log)) gone g
+      h = reported_stand x (n.view + 1) (last_signature_position b (signed_prefix b n.log)) gone g
 
       part : (i : ℕ) (e : E) → slice_get (signed_prefix b n.log) i ≡ Some e → slice_get n.log i ≡ Some e
       part i e a = (get_take (last_signature b n.log) n.log i e a).1

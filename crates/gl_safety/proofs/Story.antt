@@ -1,5 +1,6 @@
--- What is told beside the world, only for the proof: who voted for whom, who won which view, and with what. The world
--- never reads it. Every invariant is about one node and the story, one message and the story, or the story alone.
+-- What is reported beside the world, only for the proof: who voted for whom, who won which view,
+-- and with what. The world never reads it. Every invariant is about one node and the story, one
+-- message and the story, or the story alone.
 use Rattle.std.proofs.Common.{◌≡◌, ◌≢◌, ◌⊎◌, inl, inr, ⊎_elim, ℕ, ◌≤◌, ◌<◌, max, List, [], Bool, true, false, ◌==◌, if◌then◌else◌, Option, Some, None, slice_get, refl, ◌∙◌, arith}
 use Rattle.gl_rules.specs.Identity.{NodeId}
 use Rattle.gl_rules.specs.Message.{Position}
@@ -33,23 +34,23 @@ abbrev pub at_view : {A : Type 0} → (ℕ → A) → ℕ → A → ℕ → A
 at_view f v a u = if u == v then a else f u
 
 module _ {E : Type 0} where
-  abbrev pub told_ballot : NodeId → ℕ → NodeId → Story E → Story E
-  told_ballot x v c g = record g { ballot = put2 g.ballot x v (Some c); early = put2 g.early x v (early_by (g.ballot x v) (g.chief v) (g.early x v)) }
+  abbrev pub reported_ballot : NodeId → ℕ → NodeId → Story E → Story E
+  reported_ballot x v c g = record g { ballot = put2 g.ballot x v (Some c); early = put2 g.early x v (early_by (g.ballot x v) (g.chief v) (g.early x v)) }
 
-  abbrev pub told_stand : NodeId → ℕ → Position → (NodeId → Bool) → Story E → Story E
-  told_stand x v l gone g = record (told_ballot x v x g) { bid = put2 g.bid x v (Some l); shut = put2 g.shut x v gone }
+  abbrev pub reported_stand : NodeId → ℕ → Position → (NodeId → Bool) → Story E → Story E
+  reported_stand x v l gone g = record (reported_ballot x v x g) { bid = put2 g.bid x v (Some l); shut = put2 g.shut x v gone }
 
-  abbrev pub told_led : ℕ → List E → Story E → Story E
-  told_led v log g = record g { led = at_view g.led v log }
+  abbrev pub reported_led : ℕ → List E → Story E → Story E
+  reported_led v log g = record g { led = at_view g.led v log }
 
-  abbrev pub told_win : NodeId → ℕ → List E → Story E → Story E
-  told_win x v log g = record (told_led v log g) { chief = at_view g.chief v (Some x) }
+  abbrev pub reported_win : NodeId → ℕ → List E → Story E → Story E
+  reported_win x v log g = record (reported_led v log g) { chief = at_view g.chief v (Some x) }
 
-  abbrev pub told_held : NodeId → ℕ → ℕ → Story E → Story E
-  told_held x v k g = record g { held = put2 g.held x v (max (g.held x v) k) }
+  abbrev pub reported_held : NodeId → ℕ → ℕ → Story E → Story E
+  reported_held x v k g = record g { held = put2 g.held x v (max (g.held x v) k) }
 
-  abbrev pub told_committed : ℕ → ℕ → Story E → Story E
-  told_committed v k g = record g { committed = at_view g.committed v (max (g.committed v) k) }
+  abbrev pub reported_committed : ℕ → ℕ → Story E → Story E
+  reported_committed v k g = record g { committed = at_view g.committed v (max (g.committed v) k) }
 
 -- What x may change of the story.
 pub record Grows {E : Type 0} (view_of : E → ℕ) (x : NodeId) (g h : Story E) : Type 0 where
@@ -124,7 +125,7 @@ module _ {E : Type 0} (view_of : E → ℕ) where
           go None z = refl
           go (Some l) z = absurd (let t = p.bid c v l z in cc)
 
-  pub grows_ballot : (x c : NodeId) (v : ℕ) (g : Story E) → (g.ballot x v ≡ None) ⊎ (g.ballot x v ≡ Some c) → Grows view_of x g (told_ballot x v c g)
+  pub grows_ballot : (x c : NodeId) (v : ℕ) (g : Story E) → (g.ballot x v ≡ None) ⊎ (g.ballot x v ≡ Some c) → Grows view_of x g (reported_ballot x v c g)
   grows_ballot x c v g k = record {
     ballot = λ y u d e. grind (arith, id_tests);
     ballot_of = λ y u d. grind (arith, id_tests);
@@ -146,7 +147,7 @@ module _ {E : Type 0} (view_of : E → ℕ) where
     shut_new = λ d u y e. inl e;
   }
 
-  pub grows_stand : (x : NodeId) (v : ℕ) (l : Position) (gone : NodeId → Bool) (g : Story E) → 2 < v → g.ballot x v ≡ None → g.bid x v ≡ None → ((y : NodeId) → g.shut x v y ≡ false) → Grows view_of x g (told_stand x v l gone g)
+  pub grows_stand : (x : NodeId) (v : ℕ) (l : Position) (gone : NodeId → Bool) (g : Story E) → 2 < v → g.ballot x v ≡ None → g.bid x v ≡ None → ((y : NodeId) → g.shut x v y ≡ false) → Grows view_of x g (reported_stand x v l gone g)
   grows_stand x v l gone g high unvoted unbid unshut = record {
     ballot = λ y u d e. grind (arith, id_tests);
     ballot_of = λ y u d. grind (arith, id_tests);
@@ -168,7 +169,7 @@ module _ {E : Type 0} (view_of : E → ℕ) where
     shut_new = λ d u y e. grind (arith, id_tests);
   }
 
-  pub grows_held : (x : NodeId) (v k : ℕ) (g : Story E) → Grows view_of x g (told_held x v k g)
+  pub grows_held : (x : NodeId) (v k : ℕ) (g : Story E) → Grows view_of x g (reported_held x v k g)
   grows_held x v k g = record {
     ballot = λ y v c e. e;
     ballot_of = λ y v d. refl;
@@ -190,7 +191,7 @@ module _ {E : Type 0} (view_of : E → ℕ) where
     shut_new = λ c v y e. inl e;
   }
 
-  pub grows_win : (x : NodeId) (v : ℕ) (log : List E) (g : Story E) → g.chief v ≡ None → g.led v ≡ [] → Grows view_of x g (told_win x v log g)
+  pub grows_win : (x : NodeId) (v : ℕ) (log : List E) (g : Story E) → g.chief v ≡ None → g.led v ≡ [] → Grows view_of x g (reported_win x v log g)
   grows_win x v log g free empty = record {
     ballot = λ y v c e. e;
     ballot_of = λ y v d. refl;
@@ -214,7 +215,7 @@ module _ {E : Type 0} (view_of : E → ℕ) where
 
   pub grows_led : (x : NodeId) (v : ℕ) (log : List E) (g : Story E) → g.chief v ≡ Some x →
       ((i : ℕ) (e : E) → slice_get (g.led v) i ≡ Some e → slice_get log i ≡ Some e) →
-      ((i : ℕ) (e : E) → slice_get log i ≡ Some e → (slice_get (g.led v) i ≡ Some e) ⊎ (view_of e ≡ v)) → Grows view_of x g (told_led v log g)
+      ((i : ℕ) (e : E) → slice_get log i ≡ Some e → (slice_get (g.led v) i ≡ Some e) ⊎ (view_of e ≡ v)) → Grows view_of x g (reported_led v log g)
   grows_led x v log g mine more new = record {
     ballot = λ y v c e. e;
     ballot_of = λ y v d. refl;
@@ -236,7 +237,7 @@ module _ {E : Type 0} (view_of : E → ℕ) where
     shut_new = λ c v y e. inl e;
   }
 
-  pub grows_committed : (x : NodeId) (v k : ℕ) (g : Story E) → Grows view_of x g (told_committed v k g)
+  pub grows_committed : (x : NodeId) (v k : ℕ) (g : Story E) → Grows view_of x g (reported_committed v k g)
   grows_committed x v k g = record {
     ballot = λ y v c e. e;
     ballot_of = λ y v d. refl;

@@ -9,7 +9,7 @@ use Rattle.gl_rules.specs.Log.{is_up_to_date, last_signature_position}
 use Rattle.gl_rules.specs.World.{Start}
 use Rattle.gl_rules.specs.Safety.{IsOpening, EachFollows}
 use Rattle.gl_rules.proofs.Ids.{id_tests, same_is, cases_same, put2, put2_cases, put2_at}
-use Rattle.gl_safety.proofs.Story.{Story, Grows, early_by, told_ballot, grows_same, grows_ballot}
+use Rattle.gl_safety.proofs.Story.{Story, Grows, early_by, reported_ballot, grows_same, grows_ballot}
 use Rattle.gl_safety.proofs.Facts.{Holds, Covers, Mark, Lost, Ballots, lost_more, ballots_of}
 use Rattle.gl_safety.proofs.Certificates.{Tale}
 use Rattle.gl_safety.proofs.Signatures.{covers_last, covers_more}
@@ -20,7 +20,7 @@ module _ {E Q G R A F : Type 0} {b : Book E Q G R A F} {s : Start E} (o : IsOpen
   -- the story of a vote that was free
   module _ (x c : NodeId) (theirs : Position) (g : Story E) (n : Node E) (t : Tale o g) (z : Good o g x n) (unvoted : g.ballot x n.view ≡ None)
       (least : is_up_to_date theirs (last_signature_position b n.log) ≡ true) (bid_is : g.bid c n.view ≡ Some theirs) where
-    grows : Grows b.view_of x g (told_ballot x n.view c g)
+    grows : Grows b.view_of x g (reported_ballot x n.view c g)
     grows = grows_ballot b.view_of x c n.view g (inl unvoted)
 
     covers : (v i : ℕ) (e : E) → slice_get n.log i ≡ Some e → Mark b g.led v i e → Covers theirs v i
@@ -35,7 +35,7 @@ module _ {E Q G R A F : Type 0} {b : Book E Q G R A F} {s : Start E} (o : IsOpen
         go None d f = refl
         go (Some y) d f = absurd (cc)
 
-    own : Ballots b (told_ballot x n.view c g) x
+    own : Ballots b (reported_ballot x n.view c g) x
     own = record {
       votes = λ w d u a. ⊎_elim
           (λ (q : (x ≡ x) × (w ≡ n.view) × (put2 g.ballot x n.view (Some c) x w ≡ Some c)).
@@ -88,7 +88,7 @@ module _ {E Q G R A F : Type 0} {b : Book E Q G R A F} {s : Start E} (o : IsOpen
             (λ (p : Lost b g.chief g.led v i (suc n.view)). omega (arith, p.above, p.below))
             (z.kept.keeps v i e f m)
 
-    tale_vote : Tale o (told_ballot x n.view c g)
+    tale_vote : Tale o (reported_ballot x n.view c g)
     tale_vote = record {
       early = λ y u d a f. grind (arith, id_tests, t.early y u d);
       matches = t.matches;
@@ -102,12 +102,12 @@ module _ {E Q G R A F : Type 0} {b : Book E Q G R A F} {s : Start E} (o : IsOpen
       bids = t.bids;
       shuts = λ d w y a. shuts_grow o grows 0 w y (t.shuts d w y a);
       stood = t.stood;
-      ballots = λ y. ⊎_elim (λ (q : y ≡ x). subst (Ballots b (told_ballot x n.view c g)) (sym q) own) (λ (q : y ≢ x). ballots_of b grows y q (t.ballots y)) (cases_same y x);
+      ballots = λ y. ⊎_elim (λ (q : y ≡ x). subst (Ballots b (reported_ballot x n.view c g)) (sym q) own) (λ (q : y ≢ x). ballots_of b grows y q (t.ballots y)) (cases_same y x);
       follows = t.follows;
       marks = t.marks;
     }
 
-    good_vote : Good o (told_ballot x n.view c g) x (record n { vote = Some c })
+    good_vote : Good o (reported_ballot x n.view c g) x (record n { vote = Some c })
     good_vote = record {
       voter = record {
         cast = put2_at g.ballot x n.view (Some c);
@@ -131,7 +131,7 @@ module _ {E Q G R A F : Type 0} {b : Book E Q G R A F} {s : Start E} (o : IsOpen
       go : (m : Option NodeId) → n.vote ≡ m → may_vote_for m c ≡ true → Reached o x g (vote_if b true c n) (record { sender = x; receiver = c; view = n.view; body = VoteReply true } ∷ [])
       go None d f =
           let unvoted : g.ballot x n.view ≡ None = z.voter.cast ∙ d in (
-            told_ballot x n.view c g,
+            reported_ballot x n.view c g,
             record {
               grow = grows x c theirs g n t z unvoted least bid_is;
               tale = tale_vote x c theirs g n t z unvoted least bid_is;

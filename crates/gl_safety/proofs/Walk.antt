@@ -1,5 +1,5 @@
--- A property of one node that each rule of the table keeps is kept by each event. Of an Append it is asked where the node
--- takes it.
+-- A property of one node that each rule of the table keeps is kept by each event. Of an Append it
+-- is asked where the node takes it.
 use Rattle.std.proofs.Common.{◌≡◌, ◌⊎◌, inl, inr, ℕ, ◌+◌, ◌-◌, ◌≤◌, List, [], ◌∷◌, length, Bool, true, false, ◌&&◌, ◌||◌, not, ◌==◌, nat_lt, nat_le, if◌then◌else◌, Option, Some, None, Result, Ok, Err, slice_get, refl, arith}
 use Rattle.std.proofs.lemmas.Bool.Decides.{nat_tests}
 use Rattle.gl_rules.specs.Identity.{NodeId, same}
@@ -17,7 +17,8 @@ use Rattle.gl_rules.specs.Requests.{pending_limit, last_count, append_result, ex
 use Rattle.gl_rules.specs.World.{Event, Timeout, Deliver, Submit, Finish, Govern, Reserve, Sign, Evidence, Replicate, Advance, StepDown, Restart, Install, World, at, answer_as, undo_if_refused, on_message, deliver, happens}
 use Rattle.gl_rules.proofs.Ids.{by_test, put_all}
 
--- a node whose log, view and base are those of another, and which leads at most where that one led or was a candidate
+-- a node whose log, view and base are those of another, and which leads at most where that one led
+-- or was a candidate
 pub record Alike {E : Type 0} (n m : Node E) : Type 0 where
   pub log : m.log ≡ n.log
   pub view : m.view ≡ n.view

@@ -11,7 +11,7 @@ use Rattle.gl_rules.specs.World.{Start}
 use Rattle.gl_rules.specs.Safety.{IsOpening, IsLawful, EachFollows}
 use Rattle.gl_rules.proofs.Ids.{id_tests, cases_same, by_test, share}
 use Rattle.gl_rules.proofs.Lists.{Same, same_take, within}
-use Rattle.gl_safety.proofs.Story.{Story, Grows, at_view, told_win, grows_win}
+use Rattle.gl_safety.proofs.Story.{Story, Grows, at_view, reported_win, grows_win}
 use Rattle.gl_safety.proofs.Configurations.{Backed, backed_by}
 use Rattle.gl_safety.proofs.Facts.{Holds, Covers, Matches, Bound, Rising, Mark, Lost, Voted, Ballots, matches_grow, lost_grow, ballots_of}
 use Rattle.gl_safety.proofs.Certificates.{Sured, Below, Won, Tale, sure_grow, sured_grow}
@@ -34,7 +34,8 @@ module _ {E Q G R A F : Type 0} {b : Book E Q G R A F} {s : Start E} (o : IsOpen
     begins : Same (length s.opening) s.opening n.log
     begins = begins_of o g t n.log z.logged.matches long
 
-    -- its commit was certified below its view: else it would share a voter with nodes that had gone too far
+    -- its commit was certified below its view: else it would share a voter with nodes that had gone
+    -- too far
     below : Below o g n.log n.commit n.view
     below = ⊎_elim
         (λ (q : Below o g n.log n.commit n.view). q)
@@ -97,16 +98,16 @@ module _ {E Q G R A F : Type 0} {b : Book E Q G R A F} {s : Start E} (o : IsOpen
     none = t.empty n.view alone
 
     h : Story E
-    h = told_win x n.view n.log g
+    h = reported_win x n.view n.log g
 
   module _ (x : NodeId) (g : Story E) (n : Node E) (t : Tale o g) (z : Good o g x n) (stood : n.role ≡ Candidate) (counts : has_votes b n ≡ true) where
-    grows : Grows b.view_of x g (told_win x n.view n.log g)
+    grows : Grows b.view_of x g (reported_win x n.view n.log g)
     grows = grows_win b.view_of x n.view n.log g (alone x g n t z stood counts) (none x g n t z stood counts)
 
     fresh_mark : (i : ℕ) (e : E) → slice_get n.log i ≡ Some e → b.view_of e ≡ n.view → ⊥
     fresh_mark i e a d = omega (arith, z.kept.fresh stood i e a)
 
-    tale_win : Tale o (told_win x n.view n.log g)
+    tale_win : Tale o (reported_win x n.view n.log g)
     tale_win = record {
       early = λ y u c a d. t.early y u c a (grows.unchief u d);
       matches = λ u. at_led (λ l. Matches b (at_view g.led n.view n.log) l) u (matches_grow b grows n.log z.logged.matches) (matches_grow b grows (g.led u) (t.matches u));
@@ -120,7 +121,7 @@ module _ {E Q G R A F : Type 0} {b : Book E Q G R A F} {s : Start E} (o : IsOpen
       bids = t.bids;
       shuts = λ c w y a. shuts_grow o grows 0 w y (t.shuts c w y a);
       stood = t.stood;
-      ballots = λ y. ⊎_elim (λ (q : y ≡ x). subst (Ballots b (told_win x n.view n.log g)) (sym q) own) (λ (q : y ≢ x). ballots_of b grows y q (t.ballots y)) (cases_same y x);
+      ballots = λ y. ⊎_elim (λ (q : y ≡ x). subst (Ballots b (reported_win x n.view n.log g)) (sym q) own) (λ (q : y ≢ x). ballots_of b grows y q (t.ballots y)) (cases_same y x);
       follows = λ u i e a. follows_at u i e a;
       marks = λ u. at_led (MarksKnown b) u (marks_known b la g.led n.log z.logged.matches z.sound t.follows t.matches t.marks) (t.marks u);
     }
@@ -152,7 +153,7 @@ module _ {E Q G R A F : Type 0} {b : Book E Q G R A F} {s : Start E} (o : IsOpen
         low_at : (u : ℕ) (c : NodeId) → at_view g.chief n.view (Some x) u ≡ Some c → 1 < u
         low_at u c d = ⊎_elim (λ (q : u ≡ n.view). omega (arith, z.logged.positive)) (λ (q : u ≢ n.view). t.low u c (old_chief u c q d)) (cases_eq u n.view)
 
-        here : Won o (told_win x n.view n.log g) n.view x
+        here : Won o (reported_win x n.view n.log g) n.view x
         here = let below_ = below x g n t z stood counts in record {
           log = n.log;
           commit = n.commit;
@@ -172,21 +173,21 @@ module _ {E Q G R A F : Type 0} {b : Book E Q G R A F} {s : Start E} (o : IsOpen
           bid_less = (t.bids x n.view (last_signature_position b n.log) (z.kept.bid_is stood)).1;
           bid_zero = last_zero b n.log;
           bid_top = top_of x g n t z stood counts;
-          front = led_new;
+          prefix = led_new;
         }
 
-        won_at : (u : ℕ) (c : NodeId) → 2 < u → at_view g.chief n.view (Some x) u ≡ Some c → Won o (told_win x n.view n.log g) u c
+        won_at : (u : ℕ) (c : NodeId) → 2 < u → at_view g.chief n.view (Some x) u ≡ Some c → Won o (reported_win x n.view n.log g) u c
         won_at u c d a = ⊎_elim
-            (λ (q : u ≡ n.view). let r : x ≡ c = grind (arith, id_tests) in subst (λ (w : ℕ). Won o (told_win x n.view n.log g) w c) (sym q) (subst (Won o (told_win x n.view n.log g) n.view) r here))
+            (λ (q : u ≡ n.view). let r : x ≡ c = grind (arith, id_tests) in subst (λ (w : ℕ). Won o (reported_win x n.view n.log g) w c) (sym q) (subst (Won o (reported_win x n.view n.log g) n.view) r here))
             (λ (q : u ≢ n.view). won_grow o grows u c (t.won u c d (old_chief u c q a)))
             (cases_eq u n.view)
 
-        known_at : (u i : ℕ) (e : E) → slice_get (at_view g.led n.view n.log u) i ≡ Some e → b.is_signature e ≡ true → (b.recorded_commit e ≤ suc i) × Sured o (told_win x n.view n.log g) (at_view g.led n.view n.log u) (b.recorded_commit e) u
+        known_at : (u i : ℕ) (e : E) → slice_get (at_view g.led n.view n.log u) i ≡ Some e → b.is_signature e ≡ true → (b.recorded_commit e ≤ suc i) × Sured o (reported_win x n.view n.log g) (at_view g.led n.view n.log u) (b.recorded_commit e) u
         known_at u i e a d = ⊎_elim
             (λ (q : u ≡ n.view).
             let r = known_in o g t n.log i e n.view z.logged.matches z.logged.bound (new_led u i e q a) d in (
               r.0,
-              subst (λ (w : ℕ). Sured o (told_win x n.view n.log g) (at_view g.led n.view n.log w) (b.recorded_commit e) w) (sym q)
+              subst (λ (w : ℕ). Sured o (reported_win x n.view n.log g) (at_view g.led n.view n.log w) (b.recorded_commit e) w) (sym q)
                   (sured_grow o grows n.log (at_view g.led n.view n.log n.view) led_new (b.recorded_commit e) n.view r.1),
             ))
             (λ (q : u ≢ n.view).
@@ -207,7 +208,7 @@ module _ {E Q G R A F : Type 0} {b : Book E Q G R A F} {s : Start E} (o : IsOpen
             go true a = mine a
             go false a = t.follows u i e a
 
-        own : Ballots b (told_win x n.view n.log g) x
+        own : Ballots b (reported_win x n.view n.log g) x
         own = record {
           votes = λ w c d a.
               let r = (t.ballots x).votes w c d a in
@@ -232,7 +233,7 @@ module _ {E Q G R A F : Type 0} {b : Book E Q G R A F} {s : Start E} (o : IsOpen
             back r u i e top d q = ⊎_elim (λ (f : Covers r.bid u i). inl f) (λ (f : Lost b g.chief g.led u i top). inr (lost_grow b grows u i top f)) q
 
     pub made_win : Reached o x g (become_leader n) []
-    made_win = (told_win x n.view n.log g, record { grow = grows; tale = tale_win; good = good; sent = tt; commits = λ v. inl refl })
+    made_win = (reported_win x n.view n.log g, record { grow = grows; tale = tale_win; good = good; sent = tt; commits = λ v. inl refl })
       where
         at_new : (i : ℕ) (e : E) → slice_get (at_view g.led n.view n.log n.view) i ≡ Some e → slice_get n.log i ≡ Some e
         at_new i e d = grind (arith, id_tests)
@@ -240,10 +241,10 @@ module _ {E Q G R A F : Type 0} {b : Book E Q G R A F} {s : Start E} (o : IsOpen
         led_here : at_view g.led n.view n.log n.view ≡ n.log
         led_here = grind (arith, id_tests)
 
-        sure_h : (c u : ℕ) → Sured o g n.log c u → Sured o (told_win x n.view n.log g) n.log c u
+        sure_h : (c u : ℕ) → Sured o g n.log c u → Sured o (reported_win x n.view n.log g) n.log c u
         sure_h c u q = sured_more o grows n.log c u q
 
-        good : Good o (told_win x n.view n.log g) x (become_leader n)
+        good : Good o (reported_win x n.view n.log g) x (become_leader n)
         good = record {
           voter = record {
             cast = z.voter.cast;
@@ -275,7 +276,7 @@ module _ {E Q G R A F : Type 0} {b : Book E Q G R A F} {s : Start E} (o : IsOpen
           };
           commits =
               let below_ = below x g n t z stood counts in
-              let sure_v : Sured o (told_win x n.view n.log g) n.log n.commit n.view = sure_to o (told_win x n.view n.log g) n.log n.log n.commit below_.0 n.view (omega (arith, below_.1)) (λ i e d a w. a) (sure_h n.commit below_.0 below_.2) in
+              let sure_v : Sured o (reported_win x n.view n.log g) n.log n.commit n.view = sure_to o (reported_win x n.view n.log g) n.log n.log n.commit below_.0 n.view (omega (arith, below_.1)) (λ i e d a w. a) (sure_h n.commit below_.0 below_.2) in
               record {
                 bounded = inl sure_v;
                 based = let q = z.commits.based in (q.0, sure_h n.base q.0 q.1);

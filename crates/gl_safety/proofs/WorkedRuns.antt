@@ -1,5 +1,5 @@
--- Runs of the small book, worked by hand from the rule of each event and compared with what the definitions compute.
--- Messages count from 0.
+-- Runs of the small book, worked by hand from the rule of each event and compared with what the
+-- definitions compute. Messages count from 0.
 use Rattle.std.proofs.Common.{◌≡◌, ℕ, ◌-◌, List, [], ◌∷◌, ◌++◌, length, map, true, false, Option, Some, None, slice_get, refl}
 use Rattle.gl_base.specs.declared.tx_id.Status.TheVariants.{Invalid}
 use Rattle.gl_rules.specs.Node.{Node}
@@ -52,13 +52,13 @@ rollback =
     Submit one 7 ∷ Timeout two ∷ Deliver 1 ∷ Deliver 2 ∷ Submit two 8 ∷ Reserve two ∷ Sign two
     ∷ Replicate two three ∷ Deliver 3 ∷ Deliver 4 ∷ Advance two ∷ Replicate two one ∷ Deliver 5 ∷ []
 
-rollback_told : reports (begin three_nodes) rollback ≡
+rollback_reported : reports (begin three_nodes) rollback ≡
     line (outcome.Accepted 2 3 7) 0 ∷ line outcome.BecameCandidate 2 ∷ line outcome.Done 1 ∷ line outcome.BecameLeader 0
     ∷ line (outcome.Accepted 3 3 8) 0 ∷ line outcome.Done 0 ∷ line (outcome.Signed 3 4) 0
     ∷ line outcome.Done 1 ∷ line outcome.Done 1 ∷ line outcome.Done 0 ∷ line (outcome.Committed 3 4) 0
     ∷ line outcome.Done 1 ∷ line outcome.Done 1 ∷ []
 unfolding rules_open
-rollback_told = refl
+rollback_reported = refl
 
 rollback_views : views ((after small three_nodes rollback).nodes one) ≡ 2 ∷ 2 ∷ 3 ∷ 3 ∷ []
 unfolding rules_open
@@ -68,12 +68,12 @@ rollback_status : reported_status small ((after small three_nodes rollback).node
 unfolding rules_open
 rollback_status = refl
 
--- Messages that come again: a counted vote is ignored, entries that are held are answered, and a request of the vote's view
--- is refused once the voter has a later signature.
-again_told : reports (after small three_nodes rollback) (Deliver 2 ∷ Deliver 3 ∷ Deliver 3 ∷ Deliver 1 ∷ []) ≡
+-- Messages that come again: a counted vote is ignored, entries that are held are answered, and a
+-- request of the vote's view is refused once the voter has a later signature.
+again_reported : reports (after small three_nodes rollback) (Deliver 2 ∷ Deliver 3 ∷ Deliver 3 ∷ Deliver 1 ∷ []) ≡
     line outcome.Idle 0 ∷ line outcome.Done 1 ∷ line outcome.Done 1 ∷ line outcome.Done 1 ∷ []
 unfolding rules_open
-again_told = refl
+again_reported = refl
 
 again_refused : said (after small three_nodes (rollback ++ Deliver 2 ∷ Deliver 3 ∷ Deliver 3 ∷ Deliver 1 ∷ [])) 9 ≡ Some (VoteReply false)
 unfolding rules_open
@@ -88,7 +88,8 @@ restart_refused : said (after small three_nodes (Timeout two ∷ Deliver 1 ∷ R
 unfolding rules_open
 restart_refused = refl
 
--- A signature of an earlier view is not committed, though a majority holds it; one of the leader's own is.
+-- A signature of an earlier view is not committed, though a majority holds it; one of the leader's
+-- own is.
 abbrev five_nodes : Start Entry
 five_nodes = service one (two ∷ three ∷ four ∷ five ∷ [])
 
@@ -102,12 +103,12 @@ earlier =
     -- 2 and 3 come to hold seqno 4
     ∷ Replicate one two ∷ Deliver 18 ∷ Deliver 19 ∷ Replicate one three ∷ Deliver 20 ∷ Deliver 21 ∷ Replicate one three ∷ Deliver 22 ∷ Deliver 23 ∷ []
 
-earlier_told : reports (after small five_nodes earlier) (Advance one ∷ Reserve one ∷ Sign one ∷ Replicate one two ∷ Deliver 24 ∷ Deliver 25 ∷ Replicate one three ∷ Deliver 26 ∷ Deliver 27 ∷ Advance one ∷ []) ≡
+earlier_reported : reports (after small five_nodes earlier) (Advance one ∷ Reserve one ∷ Sign one ∷ Replicate one two ∷ Deliver 24 ∷ Deliver 25 ∷ Replicate one three ∷ Deliver 26 ∷ Deliver 27 ∷ Advance one ∷ []) ≡
     line outcome.Idle 0 ∷ line outcome.Done 0 ∷ line (outcome.Signed 4 5) 0
     ∷ line outcome.Done 1 ∷ line outcome.Done 1 ∷ line outcome.Done 0 ∷ line outcome.Done 1 ∷ line outcome.Done 1 ∷ line outcome.Done 0
     ∷ line (outcome.Committed 4 5) 0 ∷ []
 unfolding rules_open
-earlier_told = refl
+earlier_reported = refl
 
 earlier_held : views ((after small five_nodes earlier).nodes three) ≡ 2 ∷ 2 ∷ 2 ∷ 2 ∷ []
 unfolding rules_open
@@ -119,11 +120,11 @@ replaced =
     Govern one (SetNodes (set (three ∷ four ∷ five ∷ []))) ∷ Reserve one ∷ Sign one
     ∷ Replicate one two ∷ Deliver 0 ∷ Deliver 1 ∷ Replicate one three ∷ Deliver 2 ∷ Deliver 3 ∷ []
 
-replaced_told : reports (after small three_nodes replaced) (Advance one ∷ Replicate one four ∷ Deliver 4 ∷ Deliver 5 ∷ Replicate one four ∷ Deliver 6 ∷ Deliver 7 ∷ Advance one ∷ []) ≡
+replaced_reported : reports (after small three_nodes replaced) (Advance one ∷ Replicate one four ∷ Deliver 4 ∷ Deliver 5 ∷ Replicate one four ∷ Deliver 6 ∷ Deliver 7 ∷ Advance one ∷ []) ≡
     line outcome.Idle 0 ∷ line outcome.Done 1 ∷ line outcome.Done 1 ∷ line outcome.Done 0
     ∷ line outcome.Done 1 ∷ line outcome.Done 1 ∷ line outcome.Done 0 ∷ line (outcome.Committed 2 4) 0 ∷ []
 unfolding rules_open
-replaced_told = refl
+replaced_reported = refl
 
 replaced_refused : said (after small three_nodes (replaced ++ Replicate one four ∷ Deliver 4 ∷ [])) 5 ≡ Some (AppendReply false 0)
 unfolding rules_open
@@ -170,30 +171,30 @@ known_again : ((after small three_nodes (marked ++ Restart two ∷ [])).nodes tw
 unfolding rules_open
 known_again = refl
 
--- A snapshot: evidence behind a signature, another signature above it, and both committed.
+-- A snapshot: evidence after a signature, another signature above it, and both committed.
 abbrev snapshot : List (Event ℕ Order ℕ)
 snapshot = Submit one 7 ∷ Reserve one ∷ Sign one ∷ Evidence one ∷ Reserve one ∷ Sign one ∷ Advance one ∷ []
 
-snapshot_told : reports (begin (service one [])) (snapshot ++ Install two one ∷ []) ≡
+snapshot_reported : reports (begin (service one [])) (snapshot ++ Install two one ∷ []) ≡
     line (outcome.Accepted 2 3 7) 0 ∷ line outcome.Done 0 ∷ line (outcome.Signed 2 4) 0 ∷ line (outcome.Signed 2 5) 0
     ∷ line outcome.Done 0 ∷ line (outcome.Signed 2 6) 0 ∷ line (outcome.Committed 2 6) 0 ∷ line outcome.Done 0 ∷ []
 unfolding rules_open
-snapshot_told = refl
+snapshot_reported = refl
 
 snapshot_base : ((after small (service one []) (snapshot ++ Install two one ∷ [])).nodes two).base ≡ 4
 unfolding rules_open
 snapshot_base = refl
 
--- What a signature may record behind a removal at 3, a signature at 4 that records 2, and a mark at 5: neither 2, as the
--- removal stands above it, nor 3 or 6, where no signature stands, but 4.
-abbrev behind_mark : List Entry
-behind_mark =
+-- What a signature may record after a removal at 3, a signature at 4 that records 2, and a mark at
+-- 5: neither 2, as the removal stands above it, nor 3 or 6, where no signature stands, but 4.
+abbrev after_mark : List Entry
+after_mark =
     (service one (two ∷ [])).opening
     ++ record { view = 2; kind = Removal one (set (two ∷ [])) }
     ∷ record { view = 2; kind = Signature 2 }
     ∷ record { view = 2; kind = Mark one } ∷ []
 
-recorded_behind_mark : map (λ commit. small.breaks behind_mark (record { view = 2; kind = Signature commit })) (2 ∷ 3 ∷ 4 ∷ 6 ∷ []) ≡
+recorded_after_mark : map (λ commit. small.breaks after_mark (record { view = 2; kind = Signature commit })) (2 ∷ 3 ∷ 4 ∷ 6 ∷ []) ≡
     Some Unfit ∷ Some Unfit ∷ None ∷ Some Unfit ∷ []
 unfolding rules_open
-recorded_behind_mark = refl
+recorded_after_mark = refl

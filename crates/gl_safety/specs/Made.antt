@@ -10,7 +10,7 @@ abbrev pub EachIs : {E : Type 0} → (E → Type 0) → List E → Type 0
 EachIs {E} Kind log = (i : ℕ) (e : E) → slice_get log i ≡ Some e → Kind e
 
 module _ {E Q G R A F : Type 0} (book : Book E Q G R A F) where
-  -- An entry that the book makes, behind whatever ledger.
+  -- An entry that the book makes, after whatever ledger.
   pub data IsMade (e : E) : Type 0 where
     Executed : (log : List E) → (view : ℕ) → (q : Q) → (a : A) →
         book.execute log view q ≡ Ok (e, a) → IsMade e

@@ -164,8 +164,8 @@ is_recordable log commit =
     && none_above log commit log
     )
 
--- Whether an entry of this kind may follow: no removed node comes again, a mark stands behind its
--- removal, a signature records a commit that may be recorded, and evidence stands right behind a
+-- Whether an entry of this kind may follow: no removed node comes again, a mark stands after its
+-- removal, a signature records a commit that may be recorded, and evidence stands right after a
 -- signature.
 abbrev pub fits : List Entry → Kind → Bool
 fits log Plain = true

@@ -1,4 +1,4 @@
--- The headline of what a text reads as, and the moments in which its lines are told.
+-- The headline of what a text reads as, and the moments in which its lines are reported.
 use Rattle.std.proofs.Common.{◌≡◌, ℕ, ◌+◌, List, [], ◌∷◌, map, Result, Ok, Err, Bool, true, false, not, ◌&&◌, ◌||◌, length, if◌then◌else◌, refl, sym, ◌∙◌, ap, ap₂, subst, ◌==◌}
 use Rattle.std.specs.List.{list_any}
 use Rattle.gl_base.specs.Bytes.{same_bytes}
@@ -8,7 +8,7 @@ use Rattle.gl_lines.specs.declared.world.WorldLine.{WorldLine}
 use Rattle.gl_base.specs.Steps.{◌>>=◌}
 use Rattle.gl_lines.specs.declared.fault.ScheduleFault.{ScheduleFault}
 use Rattle.gl_lines.specs.declared.fault.ScheduleFault.TheVariants.{BadLine}
-use Rattle.gl_lines.specs.Reading.{first_line, lines_behind}
+use Rattle.gl_lines.specs.Parsing.{first_line, lines_after}
 use Rattle.gl_lines.specs.Worlds.{IsWithinLimits}
 use Rattle.gl_lines.proofs.FirstLines.{first_within}
 use Rattle.gl_world.specs.declared.settings.Settings.{Settings}
@@ -19,13 +19,13 @@ use Rattle.gl_requests.specs.declared.genesis.ServiceState.TheVariants.{Opening,
 use Rattle.gl_world.proofs.Groups.{group_safe}
 use Rattle.gl_schedule.specs.declared.schedule.Schedule.{Schedule}
 use Rattle.gl_schedule.specs.declared.schedule.Schedule.TheVariants.{Empty, Service}
-use Rattle.gl_schedule.specs.Moments.{KeepsHeadline, TellsMoments}
+use Rattle.gl_schedule.specs.Moments.{KeepsHeadline, PrintsMoments}
 use Rattle.gl_schedule.specs.Schedules.{are_apart, has_distinct_ids, reads, service_of, settings_of}
-use Rattle.gl_schedule.specs.Told.{told_of}
-use Rattle.gl_schedule.proofs.ToldLemmas.{told_in_moments}
+use Rattle.gl_schedule.specs.Output.{output_of}
+use Rattle.gl_schedule.proofs.OutputLemmas.{printed_in_moments}
 
 service_keeps : (s : Settings) (lines : List Line) → IsGroup s → KeepsHeadline (Ok (Service s lines))
-service_keeps s lines group = group_safe s group (told_of s lines).events
+service_keeps s lines group = group_safe s group (output_of s lines).events
 
 -- a first line names one of the two states in which a service begins
 first_state : (b : Bool) → is_first_state (if b then Open else Opening) ≡ true
@@ -86,12 +86,12 @@ group_read given = group_if (length given == 0) _ (first (first_line given) refl
     last s group (Err fault) = tt
 
     second : (w : WorldLine) (rest : List ℕ) → IsWithinLimits w → (r : Result Settings ScheduleFault) → service_of w ≡ r →
-        OfGroup (r >>= λ settings. lines_behind (node_ids settings) rest >>= λ lines. Ok (Service settings lines))
-    second w rest limits (Ok s) is = last s (group_service w s limits is) (lines_behind (node_ids s) rest)
+        OfGroup (r >>= λ settings. lines_after (node_ids settings) rest >>= λ lines. Ok (Service settings lines))
+    second w rest limits (Ok s) is = last s (group_service w s limits is) (lines_after (node_ids s) rest)
     second w rest limits (Err fault) is = tt
 
     first : (r : Result (WorldLine × List ℕ) ScheduleFault) → first_line given ≡ r →
-        OfGroup (r >>= λ first. service_of first.0 >>= λ settings. lines_behind (node_ids settings) first.1 >>= λ lines. Ok (Service settings lines))
+        OfGroup (r >>= λ first. service_of first.0 >>= λ settings. lines_after (node_ids settings) first.1 >>= λ lines. Ok (Service settings lines))
     first (Ok (w, rest)) is = second w rest (first_within given w rest is) (service_of w) refl
     first (Err fault) is = tt
 
@@ -104,13 +104,13 @@ keeps (Ok (Service s lines)) one = service_keeps s lines one
 pub keeps_headline : (given : List ℕ) → KeepsHeadline (reads given)
 keeps_headline given = keeps (reads given) (group_read given)
 
-tells : (r : Result Schedule ScheduleFault) → TellsMoments r
-tells (Err fault) = tt
-tells (Ok Empty) = tt
-tells (Ok (Service s lines)) = told_in_moments s lines
+prints : (r : Result Schedule ScheduleFault) → PrintsMoments r
+prints (Err fault) = tt
+prints (Ok Empty) = tt
+prints (Ok (Service s lines)) = printed_in_moments s lines
 
-pub tells_moments : (given : List ℕ) → TellsMoments (reads given)
-tells_moments given = tells (reads given)
+pub prints_moments : (given : List ℕ) → PrintsMoments (reads given)
+prints_moments given = prints (reads given)
 
 -- the service of a schedule that is read
 pub group_of : (text : List ℕ) (w : WorldLine) (rest : List ℕ) (s : Settings) → first_line text ≡ Ok (w, rest) → service_of w ≡ Ok s → IsGroup s

@@ -1,4 +1,4 @@
-pub mod ToldLemmas
+pub mod OutputLemmas
 pub mod NumberLemmas
 pub mod LogLemmas
 pub mod EventLemmas

@@ -42,13 +42,13 @@ all_from : {A : Type 0} (P : A → Type 0) (xs : List A) → ((i : ℕ) (x : A) 
 all_from P [] each = tt
 all_from P (x ∷ xs) each = (each 0 x refl, all_from P xs (λ i y at. each (suc i) y at))
 
-all_behind : {A : Type 0} (P : A → Type 0) (k : ℕ) (xs : List A) → AllByRecursion P xs → AllByRecursion P (drop k xs)
-all_behind P zero xs all = all
-all_behind P (suc k) [] all = tt
-all_behind P (suc k) (x ∷ xs) all = all_behind P k xs all.1
+all_after : {A : Type 0} (P : A → Type 0) (k : ℕ) (xs : List A) → AllByRecursion P xs → AllByRecursion P (drop k xs)
+all_after P zero xs all = all
+all_after P (suc k) [] all = tt
+all_after P (suc k) (x ∷ xs) all = all_after P k xs all.1
 
 pub held_fit : (h : Held) → IsGroup h.settings → (number : ℕ) → AllByRecursion (λ (e : Entry). is_entry e ≡ true) (held_entries (node_now h number))
 held_fit h group number =
     let n = node_now h number in
     let follows = each_follows h.settings group (seen_events h) (id_of h.settings number) in
-    all_behind (λ (e : Entry). is_entry e ≡ true) n.base n.log (all_from (λ (e : Entry). is_entry e ≡ true) n.log (λ i e at. fits h.settings (take i n.log) e (follows i e at)))
+    all_after (λ (e : Entry). is_entry e ≡ true) n.base n.log (all_from (λ (e : Entry). is_entry e ≡ true) n.log (λ i e at. fits h.settings (take i n.log) e (follows i e at)))

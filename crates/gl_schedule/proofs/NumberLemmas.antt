@@ -9,7 +9,7 @@ use Rattle.gl_world.specs.Held.{Held, has_node, is_number}
 use Rattle.gl_world.proofs.NodeIds.{count_is, number_parts}
 use Rattle.gl_schedule.specs.Play.{byte_number}
 use Rattle.gl_schedule.specs.Text.{unnamed_text}
-use Rattle.gl_schedule.specs.Told.{Effect, Answers, at_named, at_node, at_nodes, at_member}
+use Rattle.gl_schedule.specs.Output.{Effect, Answers, at_named, at_node, at_nodes, at_member}
 use Rattle.gl_requests.specs.Ranges.{is_member_number}
 
 -- it names a node either way, or neither way

@@ -3,7 +3,7 @@ use Rattle.std.proofs.Common.{◌≡◌, ℕ, suc, ◌+◌, ◌-◌, ◌<◌, �
 use Rattle.gl_rules.specs.Outcome as outcome
 use Rattle.gl_replication.specs.Stands.{Answers}
 use Rattle.gl_replication.specs.declared.done.Refusal.TheVariants as refusals
-use Rattle.gl_ledger.specs.declared.made.Unmade.{Unmade}
+use Rattle.gl_ledger.specs.declared.response.Rejection.{Rejection}
 use Rattle.gl_world.specs.declared.settings.Settings.{Settings}
 use Rattle.gl_world.specs.Founding.{numbers_from}
 use Rattle.gl_world.specs.WorldNodes.{ServiceRefusal}
@@ -14,13 +14,13 @@ use Rattle.gl_answers.specs.declared.value.Reason.{Reason}
 use Rattle.gl_answers.proofs.Refused.{refused_for}
 use Rattle.gl_schedule.specs.Text.{new_messages, outcome_text, reason_text, with_numbers}
 
--- numbers behind a longer text
-numbers_behind : (front text : List ℕ) (ns : List ℕ) → with_numbers (front ++ text) ns ≡ front ++ with_numbers text ns
-numbers_behind front text [] = refl
-numbers_behind front text (n ∷ ns) =
-    ap (λ (u : List ℕ). with_numbers (u ++ decimal n) ns) (append_assoc front text (codes " "))
-    ∙ ap (λ (u : List ℕ). with_numbers u ns) (append_assoc front (text ++ codes " ") (decimal n))
-    ∙ numbers_behind front (text ++ codes " " ++ decimal n) ns
+-- numbers after a longer text
+numbers_after : (prefix text : List ℕ) (ns : List ℕ) → with_numbers (prefix ++ text) ns ≡ prefix ++ with_numbers text ns
+numbers_after prefix text [] = refl
+numbers_after prefix text (n ∷ ns) =
+    ap (λ (u : List ℕ). with_numbers (u ++ decimal n) ns) (append_assoc prefix text (codes " "))
+    ∙ ap (λ (u : List ℕ). with_numbers u ns) (append_assoc prefix (text ++ codes " ") (decimal n))
+    ∙ numbers_after prefix (text ++ codes " " ++ decimal n) ns
 
 -- one number more is written
 pub number_more : (out new whole : List ℕ) (i now : ℕ) → i < now → new ≡ out ++ (codes " " ++ decimal (i + 1)) → with_numbers out (numbers_from (i + 1) (now - i)) ≡ whole →
@@ -40,36 +40,36 @@ pub no_more : (out : List ℕ) (first i now : ℕ) → now ≤ i → with_number
 no_more out first i now past = let none : now - i ≡ 0 = omega arith in ap (λ (k : ℕ). with_numbers out (numbers_from first k)) none
 
 -- there is a new message
-pub some_sent : (front : List ℕ) (before now : ℕ) → before < now → with_numbers (front ++ codes " sent") (numbers_from (before + 1) (now - before)) ≡ front ++ new_messages (now - before) before
-some_sent front before now more =
+pub some_sent : (prefix : List ℕ) (before now : ℕ) → before < now → with_numbers (prefix ++ codes " sent") (numbers_from (before + 1) (now - before)) ≡ prefix ++ new_messages (now - before) before
+some_sent prefix before now more =
     let count : now - before ≡ suc (now - before - 1) = omega arith in
-    numbers_behind front (codes " sent") (numbers_from (before + 1) (now - before))
-    ∙ ap (λ (k : ℕ). front ++ with_numbers (codes " sent") (numbers_from (before + 1) k)) count
-    ∙ ap (λ (k : ℕ). front ++ new_messages k before) (sym count)
+    numbers_after prefix (codes " sent") (numbers_from (before + 1) (now - before))
+    ∙ ap (λ (k : ℕ). prefix ++ with_numbers (codes " sent") (numbers_from (before + 1) k)) count
+    ∙ ap (λ (k : ℕ). prefix ++ new_messages k before) (sym count)
 
 -- there is none
-pub none_sent : (front : List ℕ) (before now : ℕ) → now ≤ before → front ≡ front ++ new_messages (now - before) before
-none_sent front before now none =
+pub none_sent : (prefix : List ℕ) (before now : ℕ) → now ≤ before → prefix ≡ prefix ++ new_messages (now - before) before
+none_sent prefix before now none =
     let count : now - before ≡ 0 = omega arith in
-    sym (ap (λ (k : ℕ). front ++ new_messages k before) count ∙ append-nil front)
+    sym (ap (λ (k : ℕ). prefix ++ new_messages k before) count ∙ append-nil prefix)
 
--- a refusal that is told for a reason isn't want of memory
-pub told_other : {S : Type 0} (why : ServiceRefusal S) (reason : Reason) → Some reason ≡ option_map reason_of (seen_refusal why) → is_no_memory why ≡ false
-told_other refusals.NoMemory reason told = absurd (cc)
-told_other (refusals.NotPrimary view leader) reason told = refl
-told_other (refusals.TooManyPending limit) reason told = refl
-told_other (refusals.NotReserved reserved) reason told = refl
-told_other (refusals.KeyExhausted reserved) reason told = refl
-told_other (refusals.NothingToSign seqno) reason told = refl
-told_other (refusals.RemovalNotCommitted seqno commit) reason told = refl
-told_other (refusals.BelowCommit commit seqno) reason told = refl
-told_other refusals.NotPeer reason told = refl
-told_other (refusals.BelowBase base) reason told = refl
-told_other refusals.ViewLimit reason told = refl
-told_other (refusals.ByLedger why) reason told = refl
+-- a refusal that is reported for a reason isn't running out of memory
+pub printed_other : {S : Type 0} (why : ServiceRefusal S) (reason : Reason) → Some reason ≡ option_map reason_of (seen_refusal why) → is_no_memory why ≡ false
+printed_other refusals.NoMemory reason printed = absurd (cc)
+printed_other (refusals.NotPrimary view leader) reason printed = refl
+printed_other (refusals.TooManyPending limit) reason printed = refl
+printed_other (refusals.NotReserved reserved) reason printed = refl
+printed_other (refusals.KeyExhausted reserved) reason printed = refl
+printed_other (refusals.NothingToSign seqno) reason printed = refl
+printed_other (refusals.RemovalNotCommitted seqno commit) reason printed = refl
+printed_other (refusals.BelowCommit commit seqno) reason printed = refl
+printed_other refusals.NotPeer reason printed = refl
+printed_other (refusals.BelowBase base) reason printed = refl
+printed_other refusals.ViewLimit reason printed = refl
+printed_other (refusals.ByLedger why) reason printed = refl
 
--- a refusal other than want of memory is the one that the rules know
-pub refused_by : {S : Type 0} (why : ServiceRefusal S) (o : ServiceOutcome) → is_no_memory why ≡ false → Answers why o → (r : outcome.Refusal Unmade) × (seen_refusal why ≡ Some r) × (o ≡ outcome.Refused r)
+-- a refusal other than running out of memory is the one that the rules know
+pub refused_by : {S : Type 0} (why : ServiceRefusal S) (o : ServiceOutcome) → is_no_memory why ≡ false → Answers why o → (r : outcome.Refusal Rejection) × (seen_refusal why ≡ Some r) × (o ≡ outcome.Refused r)
 refused_by refusals.NoMemory o other answers = absurd (cc)
 refused_by (refusals.NotPrimary view leader) o other answers = (outcome.NotPrimary view leader, refl, answers)
 refused_by (refusals.TooManyPending limit) o other answers = (outcome.TooManyPending limit, refl, answers)
@@ -84,12 +84,12 @@ refused_by refusals.ViewLimit o other answers = (outcome.ViewLimit, refl, answer
 refused_by (refusals.ByLedger why) o other answers = (outcome.ByLedger why, refl, answers)
 
 -- its text is that of the outcome
-pub refusal_told : {S : Type 0} (s : Settings) (why : ServiceRefusal S) (reason : Reason) (o : ServiceOutcome) (front begun whole : List ℕ) → Some reason ≡ option_map reason_of (seen_refusal why) →
-    Answers why o → begun ≡ front ++ codes "refused " → whole ≡ begun ++ reason_text s reason → whole ≡ front ++ outcome_text s o
-refusal_told s why reason o front begun whole told answers is written =
-    let p = refused_for why reason o told answers in
+pub refusal_printed : {S : Type 0} (s : Settings) (why : ServiceRefusal S) (reason : Reason) (o : ServiceOutcome) (prefix begun whole : List ℕ) → Some reason ≡ option_map reason_of (seen_refusal why) →
+    Answers why o → begun ≡ prefix ++ codes "refused " → whole ≡ begun ++ reason_text s reason → whole ≡ prefix ++ outcome_text s o
+refusal_printed s why reason o prefix begun whole printed answers is written =
+    let p = refused_for why reason o printed answers in
     written
     ∙ ap (λ (l : List ℕ). l ++ reason_text s reason) is
-    ∙ append_assoc front (codes "refused ") (reason_text s reason)
-    ∙ ap (λ (r : Reason). front ++ (codes "refused " ++ reason_text s r)) p.1
-    ∙ ap (λ (q : ServiceOutcome). front ++ outcome_text s q) (sym p.2)
+    ∙ append_assoc prefix (codes "refused ") (reason_text s reason)
+    ∙ ap (λ (r : Reason). prefix ++ (codes "refused " ++ reason_text s r)) p.1
+    ∙ ap (λ (q : ServiceOutcome). prefix ++ outcome_text s q) (sym p.2)

@@ -3,7 +3,7 @@ use Rattle.std.specs.Prelude.{ℕ, suc, List, [], ◌∷◌, ◌++◌, Option, N
 use Rattle.std.specs.List.{list_any}
 use Rattle.gl_base.specs.Bytes.{same_bytes}
 use Rattle.gl_rules.specs.Outcome as outcome
-use Rattle.gl_requests.specs.Spelling.{proposal_id}
+use Rattle.gl_requests.specs.Encoding.{proposal_id}
 use Rattle.gl_requests.specs.declared.request.MemberAct.{MemberAct}
 use Rattle.gl_requests.specs.declared.request.MemberAct.TheVariants as acts
 use Rattle.gl_requests.specs.declared.request.MemberRequest.{MemberRequest}
@@ -12,8 +12,8 @@ use Rattle.gl_requests.specs.declared.request.GovernanceRequest.TheVariants as r
 use Rattle.gl_gov_rules.specs.declared.change.ProposalState.{ProposalState}
 use Rattle.gl_gov_rules.specs.declared.change.ProposalState.TheVariants as states
 use Rattle.gl_gov_rules.specs.declared.change.ProposalStatus.{ProposalStatus}
-use Rattle.gl_ledger.specs.declared.made.Given.{Given}
-use Rattle.gl_ledger.specs.declared.made.Given.TheVariants.{Replied, Governed}
+use Rattle.gl_ledger.specs.declared.response.Response.{Response}
+use Rattle.gl_ledger.specs.declared.response.Response.TheVariants.{Replied, Governed}
 use Rattle.gl_world.specs.World.{ServiceOutcome}
 use Rattle.gl_schedule.specs.declared.line_request.LineRequest.{LineRequest}
 use Rattle.gl_schedule.specs.declared.proposals.NumberedProposal.{NumberedProposal}
@@ -43,13 +43,13 @@ abbrev pub with_proposal : List (List ℕ) → Option (List ℕ) → List (List 
 with_proposal ids None = ids
 with_proposal ids (Some id) = if list_any (same_bytes id) ids then ids else ids ++ id ∷ []
 
--- The proposals behind a request with this outcome.
+-- The proposals after a request with this outcome.
 abbrev pub proposals_after : List (List ℕ) → GovernanceRequest → ServiceOutcome → List (List ℕ)
 proposals_after ids request (outcome.Accepted view seqno given) =
     with_proposal ids (proposal_made request)
 proposals_after ids request other = ids
 
-abbrev pub status_given : Given → Option ProposalStatus
+abbrev pub status_given : Response → Option ProposalStatus
 status_given (Replied answers) = None
 status_given (Governed status) = status
 
@@ -89,6 +89,6 @@ abbrev pub numbered_in : List (List ℕ) → Option ProposalStatus → Option Nu
 numbered_in ids None = None
 numbered_in ids (Some status) = Some (numbered_proposal ids status)
 
--- What is told behind the outcome of a request.
+-- What is reported after the outcome of a request.
 abbrev pub governed_text : List (List ℕ) → ServiceOutcome → List ℕ
 governed_text ids o = proposal_text (numbered_in ids (status_after o))

@@ -1,7 +1,7 @@
 pub mod Schedules
 pub mod Text
 pub mod Governed
-pub mod Told
+pub mod Output
 pub mod Moments
 pub mod Playable
 pub mod Playing

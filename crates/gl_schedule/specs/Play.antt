@@ -1,7 +1,7 @@
--- A machine beside what was told.
+-- A machine beside what was reported.
 use Rattle.std.specs.Prelude.{◌≡◌, ℕ, suc, List, [], ◌∷◌, ◌++◌, Option, None, Some, Bool, true, false, nat_lt, if◌then◌else◌}
 use Rattle.std.specs.Io.KnownBytes.{Appends}
-use Rattle.gl_outside.specs.Sink.{AppendsFront}
+use Rattle.gl_outside.specs.Sink.{AppendsPrefix}
 use Rattle.gl_requests.specs.declared.request.GovernanceRequest.{GovernanceRequest}
 use Rattle.gl_world.specs.declared.event.Event.{Event}
 use Rattle.gl_world.specs.declared.event.Event.TheVariants as events
@@ -12,13 +12,13 @@ use Rattle.gl_world.specs.Held.{is_among, seen_event, seen_events, world_now}
 use Rattle.gl_lines.specs.declared.line.Line.{Line}
 use Rattle.gl_lines.specs.declared.line.Line.TheVariants as lines
 use Rattle.gl_schedule.specs.Playing.{Playing}
-use Rattle.gl_schedule.specs.Told.{Told, Effect, Happens, Answers, told, told_effect, next_text}
+use Rattle.gl_schedule.specs.Output.{Output, Effect, Happens, Answers, reported, printed_effect, next_text}
 use Rattle.gl_schedule.specs.Governed.{governed_text, proposals_after}
 use Rattle.gl_schedule.specs.Text.{outcome_text, sent_text, unnamed_text}
 
--- The machine's world is the one that was told, by the same events, and it knows the requests and
--- proposals that were told, and who signed.
-pub record IsIn (t : Told) (m : Playing) : Type 0 where
+-- The machine's world is the one that was reported, by the same events, and it knows the requests
+-- and proposals that were reported, and who signed.
+pub record IsIn (t : Output) (m : Playing) : Type 0 where
   pub world : t.world ≡ world_now m.world
   pub events : t.events ≡ seen_events m.world
   pub requests : t.requests ≡ m.requests
@@ -26,25 +26,25 @@ pub record IsIn (t : Told) (m : Playing) : Type 0 where
   pub signed : t.signed ≡ m.signed
 
 -- What was written is the text of an effect, and then the machine is in what was told again.
-pub record TellsEffect (t : Told) (e : Effect) (old new : Playing) (before after : List ℕ) :
+pub record PrintsEffect (t : Output) (e : Effect) (old new : Playing) (before after : List ℕ) :
     Type 0 where
   pub settings : new.world.settings ≡ old.world.settings
   pub text : List ℕ
-  pub told : (told_effect old.world.settings t e).text ≡ next_text t text
+  pub reported : (printed_effect old.world.settings t e).text ≡ next_text t text
   pub written : after ≡ before ++ text
-  pub is_in : IsIn (told_effect old.world.settings t e) new
+  pub is_in : IsIn (printed_effect old.world.settings t e) new
 
 -- The same of the effect that the line with this number has, by the settings of the service and by
 -- what was told so far.
-abbrev pub Tells : ℕ → (Settings → Told → Effect) → Playing → Playing → List ℕ → List ℕ → Type 0
-Tells number effect old new before after =
-    (t : Told) → IsIn t old → suc t.lines ≡ number →
-    TellsEffect t (effect old.world.settings t) old new before after
+abbrev pub Prints : ℕ → (Settings → Output → Effect) → Playing → Playing → List ℕ → List ℕ → Type 0
+Prints number effect old new before after =
+    (t : Output) → IsIn t old → suc t.lines ≡ number →
+    PrintsEffect t (effect old.world.settings t) old new before after
 
 -- The same whatever the number of the line.
-abbrev pub TellsAnywhere : (Settings → Told → Effect) → Playing → Playing → List ℕ → List ℕ →
+abbrev pub PrintsAnywhere : (Settings → Output → Effect) → Playing → Playing → List ℕ → List ℕ →
     Type 0
-TellsAnywhere effect old new before after = (number : ℕ) → Tells number effect old new before after
+PrintsAnywhere effect old new before after = (number : ℕ) → Prints number effect old new before after
 
 -- ---- events
 
@@ -53,7 +53,7 @@ abbrev pub byte_number : ℕ → ℕ
 byte_number number = if nat_lt number 256 then number else 0
 
 -- An event is refused that names a node or a message that there isn't.
-abbrev pub event_effect : Event → Settings → Told → Effect
+abbrev pub event_effect : Event → Settings → Output → Effect
 event_effect event s t =
     if is_among (node_ids s) t.world.sent event then Happens (seen_event s event)
     else Answers unnamed_text
@@ -81,7 +81,7 @@ asks (lines.Ballot node member proposal agrees) = true
 asks (lines.Withdraw node member proposal) = true
 asks other = false
 
--- A request of governance reached a node, and its outcome was told.
+-- A request of governance reached a node, and its outcome was reported.
 pub record Governs (old : Playing) (node : ℕ) (g : GovernanceRequest) (new : Playing)
     (before after : List ℕ) : Type 0 where
   pub becomes : new ≡ record old {
@@ -107,10 +107,10 @@ pub record Sends (old : Playing) (number node : ℕ) (g : GovernanceRequest) (ne
 
 -- ---- lines
 
--- Behind a line the machine is in what was told with it, and has the same settings.
-pub record GoesOn (t : Told) (line : Line) (old new : Playing) : Type 0 where
+-- After a line the machine is in what was reported with it, and has the same settings.
+pub record GoesOn (t : Output) (line : Line) (old new : Playing) : Type 0 where
   pub settings : new.world.settings ≡ old.world.settings
-  pub is_in : IsIn (told old.world.settings t line) new
+  pub is_in : IsIn (reported old.world.settings t line) new
 
 -- ---- sinks
 
@@ -119,7 +119,7 @@ abbrev pub Extends : Option (List ℕ) → Option (List ℕ) → List ℕ → Li
 Extends held holds text longer =
     (more : List ℕ) × (longer ≡ text ++ more) × Appends held holds more
 
--- The same of a front.
-abbrev pub ExtendsFront : Option (List ℕ) → Option (List ℕ) → List ℕ → List ℕ → Type 0
-ExtendsFront held holds text longer =
-    (more : List ℕ) × (longer ≡ text ++ more) × AppendsFront held holds more
+-- The same of a prefix.
+abbrev pub ExtendsPrefix : Option (List ℕ) → Option (List ℕ) → List ℕ → List ℕ → Type 0
+ExtendsPrefix held holds text longer =
+    (more : List ℕ) × (longer ≡ text ++ more) × AppendsPrefix held holds more

@@ -8,7 +8,7 @@ use Rattle.gl_lines.specs.declared.world.WorldLine.{WorldLine}
 use Rattle.gl_base.specs.Steps.{◌>>=◌}
 use Rattle.gl_lines.specs.declared.fault.ScheduleFault.{ScheduleFault}
 use Rattle.gl_lines.specs.declared.fault.ScheduleFault.TheVariants.{BadLine}
-use Rattle.gl_lines.specs.Reading.{first_line, lines_behind}
+use Rattle.gl_lines.specs.Parsing.{first_line, lines_after}
 use Rattle.gl_world.specs.declared.settings.Settings.{Settings}
 use Rattle.gl_world.specs.Founding.{has_distinct_keys, node_ids}
 use Rattle.gl_schedule.specs.declared.schedule.Schedule.{Schedule}
@@ -46,4 +46,4 @@ unfoldable pub reads : List ℕ → Result Schedule ScheduleFault
 reads text =
     if length text == 0 then Ok Empty
     else (first_line text >>= λ first. service_of first.0 >>= λ settings.
-    lines_behind (node_ids settings) first.1 >>= λ lines. Ok (Service settings lines))
+    lines_after (node_ids settings) first.1 >>= λ lines. Ok (Service settings lines))

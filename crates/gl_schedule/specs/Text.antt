@@ -25,11 +25,11 @@ use Rattle.gl_world.specs.declared.settings.Settings.{Settings}
 use Rattle.gl_world.specs.Founding.{node_ids, numbers_from}
 use Rattle.gl_world.specs.Members.{leaf_limit}
 use Rattle.gl_world.specs.World.{ServiceOutcome, ServiceWorld}
-use Rattle.gl_ledger.specs.declared.made.Given.{Given}
-use Rattle.gl_ledger.specs.declared.made.Given.TheVariants.{Replied, Governed}
-use Rattle.gl_ledger.specs.declared.made.Unmade.{Unmade}
+use Rattle.gl_ledger.specs.declared.response.Response.{Response}
+use Rattle.gl_ledger.specs.declared.response.Response.TheVariants.{Replied, Governed}
+use Rattle.gl_ledger.specs.declared.response.Rejection.{Rejection}
 
--- Numbers behind a word, each behind a space.
+-- Numbers after a word, each after a space.
 abbrev pub with_numbers : List ℕ → List ℕ → List ℕ
 with_numbers text [] = text
 with_numbers text (n ∷ ns) = with_numbers (text ++ codes " " ++ decimal n) ns
@@ -47,16 +47,16 @@ answer_text answers.No = codes "no"
 answer_text answers.Yes = codes "yes"
 answer_text (answers.Number number) = codes "number " ++ decimal number
 
-abbrev pub answers_behind : List Answer → List ℕ
-answers_behind [] = []
-answers_behind (a ∷ rest) = codes " ; " ++ answer_text a ++ answers_behind rest
+abbrev pub answers_after : List Answer → List ℕ
+answers_after [] = []
+answers_after (a ∷ rest) = codes " ; " ++ answer_text a ++ answers_after rest
 
 -- Answers stand apart by a semicolon between spaces.
 abbrev pub answers_text : List Answer → List ℕ
 answers_text [] = []
-answers_text (a ∷ rest) = answer_text a ++ answers_behind rest
+answers_text (a ∷ rest) = answer_text a ++ answers_after rest
 
-abbrev pub given_text : Given → List ℕ
+abbrev pub given_text : Response → List ℕ
 given_text (Replied answers) = codes " " ++ answers_text answers
 given_text (Governed status) = []
 
@@ -75,15 +75,15 @@ reason_value_text s (Number n) = decimal n
 reason_value_text s (Digest digest) = encode_lower digest
 reason_value_text s (Leader leader) = leader_text s leader
 
--- Values, each behind a space.
-abbrev pub values_behind : Settings → List Value → List ℕ
-values_behind s values = flat_map (λ value. codes " " ++ reason_value_text s value) values
+-- Values, each after a space.
+abbrev pub values_after : Settings → List Value → List ℕ
+values_after s values = flat_map (λ value. codes " " ++ reason_value_text s value) values
 
 -- A refusal's number and its values.
 abbrev pub reason_text : Settings → Reason → List ℕ
-reason_text s reason = decimal reason.code ++ values_behind s reason.values
+reason_text s reason = decimal reason.code ++ values_after s reason.values
 
-abbrev pub refusal_text : Settings → Refusal Unmade → List ℕ
+abbrev pub refusal_text : Settings → Refusal Rejection → List ℕ
 refusal_text s why = reason_text s (reason_of why)
 
 abbrev pub id_text : ℕ → ℕ → List ℕ

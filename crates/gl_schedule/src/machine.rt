@@ -7,9 +7,9 @@ ghost use Rattle.gl_world.specs.Group.{IsGroup};
 ghost use Rattle.gl_world.specs.Happened.{answer_to, with_event};
 ghost use Rattle.gl_world.specs.Held.{may_happen, world_now};
 ghost use Rattle.gl_lines.specs.Kept.{IsFit};
-ghost use Rattle.gl_schedule.specs.Play.{IsIn, Tells, TellsAnywhere, event_effect, event_in};
+ghost use Rattle.gl_schedule.specs.Play.{IsIn, Prints, PrintsAnywhere, event_effect, event_in};
 ghost use Rattle.gl_schedule.specs.Text.{outcome_text};
-ghost use Rattle.gl_schedule.specs.Told.{delivers, effect_of, told_at_start};
+ghost use Rattle.gl_schedule.specs.Output.{delivers, effect_of, printed_at_start};
 
 use crate::event_line::event_in;
 use crate::line_request::LineRequest;
@@ -82,7 +82,7 @@ impl<N: WorldNode> Machine<N> {
         requires group { IsGroup settings }
         requires nodes { AreAtStart N.stands settings nodes.items }
         ensures settings { IfOk result (λ machine. machine.world.settings ≡ settings) }
-        ensures is_in { IfOk result (λ machine. IsIn (told_at_start settings) machine) }
+        ensures is_in { IfOk result (λ machine. IsIn (printed_at_start settings) machine) }
     {
         let service = service_key(alloc, &settings)?;
         let members = Members::new(alloc, settings, service.hss_public(Levels::Two))?;
@@ -107,12 +107,12 @@ impl<N: WorldNode> Machine<N> {
         self.world.messages().len()
     }
 
-    /// One event, of which the outcome is told.
+    /// One event, of which the outcome is reported.
     fn step(&mut self, event: Event, out: &mut Vec<u8>) -> Result<(), AllocError>
         requires here { may_happen self.old.world event ≡ true }
         ensures becomes { OnOk result
             (self.new ≡ record self.old { world = with_event self.old.world event }) }
-        ensures told { OnOk result (out.new.items ≡ out.old.items
+        ensures reported { OnOk result (out.new.items ≡ out.old.items
             ++ outcome_text self.old.world.settings (answer_to self.old.world event)) }
     {
         match self.world.step(event) {
@@ -121,11 +121,11 @@ impl<N: WorldNode> Machine<N> {
         }
     }
 
-    /// The same, and the messages that it sent are told. An event that names a node or a message
-    /// that there isn't is refused.
-    fn happen(&mut self, event: Event, out: &mut Vec<u8>) -> Result<(), AllocError>
+    /// The same, and the messages that it sent are reported. An event that names a node or a
+    /// message that there isn't is refused.
+    fn apply_event(&mut self, event: Event, out: &mut Vec<u8>) -> Result<(), AllocError>
         ensures group { IsGroup self.old.world.settings }
-        ensures tells { OnOk result (TellsAnywhere (event_effect event)
+        ensures prints { OnOk result (PrintsAnywhere (event_effect event)
             self.old self.new out.old.items out.new.items) }
     {
         if !self.world.may_happen(&event) {
@@ -138,21 +138,21 @@ impl<N: WorldNode> Machine<N> {
 
     /// The message with a number reaches the node that it is for.
     fn deliver(&mut self, message: u128, out: &mut Vec<u8>) -> Result<(), AllocError>
-        ensures tells { OnOk result (TellsAnywhere (λ s t. delivers s t.world.sent message)
+        ensures prints { OnOk result (PrintsAnywhere (λ s t. delivers s t.world.sent message)
             self.old self.new out.old.items out.new.items) }
     {
         if message == 0 || message > self.sent() as u128 {
             return put_unnamed(out);
         }
         let index = (message - 1) as usize;
-        self.happen(Event::Deliver { message: index }, out)
+        self.apply_event(Event::Deliver { message: index }, out)
     }
 
     /// What a line comes to that isn't an event between nodes.
     fn answer(&mut self, number: u64, line: &Line, out: &mut Vec<u8>) -> Result<(), AllocError>
         requires fit { IsFit line.now }
         requires other { event_in line.now ≡ None }
-        ensures tells { OnOk result (Tells number (λ s t. effect_of s t line.now)
+        ensures prints { OnOk result (Prints number (λ s t. effect_of s t line.now)
             self.old self.new out.old.items out.new.items) }
     {
         match line {
@@ -160,10 +160,10 @@ impl<N: WorldNode> Machine<N> {
             Line::Join { node, joiner } => self.join(number, *node, *joiner, out),
             Line::Mark { node, marked } => self.mark(number, *node, *marked, out),
             Line::Again { node, line } => self.repeat(number, *node, *line, out),
-            Line::Status { node, id } => self.tell_status(*node, *id, out),
-            Line::Stage { node, other } => self.tell_stage(*node, *other, out),
-            Line::Ids { node } => self.tell_ids(*node, out),
-            Line::Ledger { node } => self.tell_ledger(*node, out),
+            Line::Status { node, id } => self.print_status(*node, *id, out),
+            Line::Stage { node, other } => self.print_stage(*node, *other, out),
+            Line::Ids { node } => self.print_ids(*node, out),
+            Line::Ledger { node } => self.print_ledger(*node, out),
             Line::Ack { .. } | Line::Propose { .. } | Line::Ballot { .. } | Line::Withdraw { .. } =>
                 self.ask_for(number, line, out),
             _ => unreachable!(),
@@ -173,11 +173,11 @@ impl<N: WorldNode> Machine<N> {
     /// Plays the line with a number, and tells what it comes to.
     pub fn play(&mut self, number: u64, line: Line, out: &mut Vec<u8>) -> Result<(), AllocError>
         requires fit { IsFit line }
-        ensures tells { OnOk result (Tells number (λ s t. effect_of s t line)
+        ensures prints { OnOk result (Prints number (λ s t. effect_of s t line)
             self.old self.new out.old.items out.new.items) }
     {
         match event_in(line) {
-            Ok(event) => self.happen(event, out),
+            Ok(event) => self.apply_event(event, out),
             Err(line) => self.answer(number, &line, out),
         }
     }

@@ -2,19 +2,19 @@
 
 ghost use Rattle.std.specs.Prelude.{◌≡◌, ◌<◌, ◌^◌, ◌++◌, false, position, IfSome, OnOk};
 ghost use Rattle.gl_base.specs.Bytes.{same_bytes};
-ghost use Rattle.gl_ledger.specs.declared.made.Unmade.{Unmade as Why};
+ghost use Rattle.gl_ledger.specs.declared.response.Rejection.{Rejection as Why};
 ghost use Rattle.gl_replication.specs.Stands.{Answers, seen_outcome};
 ghost use Rattle.gl_world.specs.Founding.{node_ids};
 ghost use Rattle.gl_world.specs.Happened.{is_no_memory};
 ghost use Rattle.gl_world.specs.World.{ServiceOutcome};
 ghost use Rattle.gl_world.specs.declared.settings.Settings.{Settings};
-ghost use Rattle.gl_schedule.specs.Text.{given_text, id_text, leader_text, node_text, outcome_text, reason_text, reason_value_text, values_behind};
+ghost use Rattle.gl_schedule.specs.Text.{given_text, id_text, leader_text, node_text, outcome_text, reason_text, reason_value_text, values_after};
 
 use crate::text::{put_answers, put_hex, put_number};
 use gl_answers::{Reason, Value, reason_of};
 use gl_base::TxId;
 use gl_entry::NodeId;
-use gl_ledger::{Given, Reads, Unmade};
+use gl_ledger::{Reads, Rejection, Response};
 use gl_replication::{Book, Outcome, Refusal};
 use gl_requests::GovernanceRequest;
 use gl_tx::Request;
@@ -67,15 +67,15 @@ fn put_reason_value(
     }
 }
 
-/// Values, each behind a space.
-fn put_values_behind(
+/// Values, each after a space.
+fn put_values_after(
     alloc: Global,
     out: &mut Vec<u8>,
     ids: &[NodeId],
     values: &[Value],
 ) -> Result<(), AllocError>
     ensures { OnOk result ((s : Settings) → ids.now ≡ node_ids s →
-        out.new.items ≡ out.old.items ++ values_behind s values.now) }
+        out.new.items ≡ out.old.items ++ values_after s values.now) }
 {
     for value in values {
         out.extend_from_slice(b" ")?;
@@ -95,20 +95,20 @@ fn put_reason(
         out.new.items ≡ out.old.items ++ reason_text s reason.now) }
 {
     put_number(out, u64::from(reason.code))?;
-    put_values_behind(alloc, out, ids, reason.values.as_slice())
+    put_values_after(alloc, out, ids, reason.values.as_slice())
 }
 
-/// That an event is refused, and why. Want of memory isn't told.
+/// That an event is refused, and why. That memory ran out isn't reported.
 pub(crate) fn put_refusal<
     B: Book<
         Request = Request,
         Gov = GovernanceRequest,
         Reads = Reads,
-        Given = Given,
-        Refused = Unmade,
+        Response = Response,
+        Refused = Rejection,
     >,
 >(alloc: Global, out: &mut Vec<u8>, ids: &[NodeId], refusal: &Refusal<B>) -> Result<(), AllocError>
-    ensures told { OnOk result ((s : Settings) → ids.now ≡ node_ids s → (o : ServiceOutcome) →
+    ensures reported { OnOk result ((s : Settings) → ids.now ≡ node_ids s → (o : ServiceOutcome) →
         Answers refusal.now o → out.new.items ≡ out.old.items ++ outcome_text s o) }
     ensures other { OnOk result (is_no_memory refusal.now ≡ false) }
 {
@@ -120,20 +120,20 @@ pub(crate) fn put_refusal<
     Ok(())
 }
 
-/// The answers of an application's request. Of a request of governance nothing is told here.
-fn put_given(alloc: Global, out: &mut Vec<u8>, given: &Given) -> Result<(), AllocError>
+/// The answers of an application's request. Of a request of governance nothing is reported here.
+fn put_given(alloc: Global, out: &mut Vec<u8>, given: &Response) -> Result<(), AllocError>
     ensures { OnOk result (out.new.items ≡ out.old.items ++ given_text given.now) }
 {
     match given {
-        Given::Replied(reply) => {
+        Response::Replied(reply) => {
             out.extend_from_slice(b" ")?;
             put_answers(alloc, out, reply)
         }
-        Given::Governed(_) => Ok(()),
+        Response::Governed(_) => Ok(()),
     }
 }
 
-/// An identifier behind a word.
+/// An identifier after a word.
 fn put_id(out: &mut Vec<u8>, word: &[u8], view: u32, seqno: u64) -> Result<(), AllocError>
     ensures { OnOk result (out.new.items ≡ out.old.items ++ (word.now ++ id_text view seqno)) }
 {
@@ -145,7 +145,7 @@ fn put_id(out: &mut Vec<u8>, word: &[u8], view: u32, seqno: u64) -> Result<(), A
 pub(crate) fn put_outcome(
     alloc: Global,
     out: &mut Vec<u8>,
-    outcome: &Outcome<Given>,
+    outcome: &Outcome<Response>,
 ) -> Result<(), AllocError>
     ensures { OnOk result ((s : Settings) → out.new.items
         ≡ out.old.items ++ outcome_text s (seen_outcome {F = Why} outcome.now)) }

@@ -3,13 +3,13 @@
 ghost use Rattle.std.specs.Prelude.{◌≡◌, suc, ◌++◌, ◌≤◌, OnErr, OnOk, IfOk, Err};
 ghost use Rattle.std.specs.Io.KnownBytes.{Appends};
 ghost use Rattle.gl_outside.specs.Fault.{Rose};
-ghost use Rattle.gl_outside.specs.Sink.{AppendsFront};
+ghost use Rattle.gl_outside.specs.Sink.{AppendsPrefix};
 ghost use Rattle.std.specs.List.{AllByRecursion};
 ghost use Rattle.gl_world.specs.AtStart.{AreAtStart};
 ghost use Rattle.gl_world.specs.Group.{IsGroup};
 ghost use Rattle.gl_lines.specs.Kept.{IsFit};
-ghost use Rattle.gl_schedule.specs.Play.{Extends, ExtendsFront, GoesOn, IsIn};
-ghost use Rattle.gl_schedule.specs.Told.{Told, told, told_of};
+ghost use Rattle.gl_schedule.specs.Play.{Extends, ExtendsPrefix, GoesOn, IsIn};
+ghost use Rattle.gl_schedule.specs.Output.{Output, output_of, reported};
 
 use crate::machine::Machine;
 use crate::text::put_number;
@@ -26,9 +26,9 @@ fn line_text<N: WorldNode>(
     line: Line,
 ) -> Result<Vec<u8>, AllocError>
     requires fit { IsFit line }
-    ensures text { IfOk result (λ text. (t : Told) → IsIn t machine.old → suc t.lines ≡ number →
-        (told machine.old.world.settings t line).text ≡ t.text ++ text.items) }
-    ensures goes_on { OnOk result ((t : Told) → IsIn t machine.old → suc t.lines ≡ number →
+    ensures text { IfOk result (λ text. (t : Output) → IsIn t machine.old → suc t.lines ≡ number →
+        (reported machine.old.world.settings t line).text ≡ t.text ++ text.items) }
+    ensures goes_on { OnOk result ((t : Output) → IsIn t machine.old → suc t.lines ≡ number →
         GoesOn t line machine.old machine.new) }
 {
     let mut text = Vec::new(alloc);
@@ -48,14 +48,14 @@ fn play_line<N: WorldNode, K: Sink>(
     sink: &mut K,
 ) -> Result<(), SinkFault>
     requires fit { IsFit line }
-    ensures whole { OnOk result ((t : Told) → IsIn t machine.old → suc t.lines ≡ number →
+    ensures whole { OnOk result ((t : Output) → IsIn t machine.old → suc t.lines ≡ number →
         Extends (K.holds sink.old) (K.holds sink.new)
-        t.text (told machine.old.world.settings t line).text) }
-    ensures goes_on { OnOk result ((t : Told) → IsIn t machine.old → suc t.lines ≡ number →
+        t.text (reported machine.old.world.settings t line).text) }
+    ensures goes_on { OnOk result ((t : Output) → IsIn t machine.old → suc t.lines ≡ number →
         GoesOn t line machine.old machine.new) }
-    ensures front { OnErr result ((t : Told) → IsIn t machine.old → suc t.lines ≡ number →
-        ExtendsFront (K.holds sink.old) (K.holds sink.new)
-        t.text (told machine.old.world.settings t line).text) }
+    ensures prefix { OnErr result ((t : Output) → IsIn t machine.old → suc t.lines ≡ number →
+        ExtendsPrefix (K.holds sink.old) (K.holds sink.new)
+        t.text (reported machine.old.world.settings t line).text) }
     ensures failed { result ≡ Err SinkFault.Failed → Rose (K.faults sink.old) (K.faults sink.new) }
     ensures never_falls { K.faults sink.old ≤ K.faults sink.new }
 {
@@ -66,7 +66,7 @@ fn play_line<N: WorldNode, K: Sink>(
 }
 
 /// Plays a schedule over the nodes of its service: its own line first, and then one for each line
-/// behind it.
+/// after it.
 pub fn play<N: WorldNode, K: Sink>(
     alloc: Global,
     settings: Settings,
@@ -78,9 +78,9 @@ pub fn play<N: WorldNode, K: Sink>(
     requires fit { AllByRecursion IsFit lines }
     requires nodes { AreAtStart N.stands settings nodes.items }
     ensures whole { OnOk result
-        (Appends (K.holds sink.old) (K.holds sink.new) (told_of settings lines).text) }
-    ensures front { OnErr result
-        (AppendsFront (K.holds sink.old) (K.holds sink.new) (told_of settings lines).text) }
+        (Appends (K.holds sink.old) (K.holds sink.new) (output_of settings lines).text) }
+    ensures prefix { OnErr result
+        (AppendsPrefix (K.holds sink.old) (K.holds sink.new) (output_of settings lines).text) }
     ensures failed { result ≡ Err SinkFault.Failed → Rose (K.faults sink.old) (K.faults sink.new) }
     ensures never_falls { K.faults sink.old ≤ K.faults sink.new }
 {

@@ -81,8 +81,8 @@ pub fn read(alloc: Global, text: &[u8]) -> Result<Schedule, OrNoMemory<ScheduleF
     if text.is_empty() {
         return Ok(Schedule::Empty);
     }
-    let (world, behind) = read_first_line(alloc, text)?;
+    let (world, after) = read_first_line(alloc, text)?;
     let (settings, ids) = service_of(alloc, &world)?;
-    let lines = read_lines(alloc, behind, &ids)?;
+    let lines = read_lines(alloc, after, &ids)?;
     Ok(Schedule::Service(settings, lines))
 }

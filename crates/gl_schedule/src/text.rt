@@ -7,7 +7,7 @@ ghost use Rattle.hex.specs.Hex.{encode_lower};
 ghost use Rattle.gl_config.specs.Stages.{seen_stage};
 ghost use Rattle.gl_entry.specs.Entry.{is_entry};
 ghost use Rattle.gl_world.specs.Founding.{numbers_from};
-ghost use Rattle.gl_schedule.specs.Text.{value_text, answer_text, answers_behind, answers_text, status_text, stage_text, new_messages, no_proposal_text, unnamed_text, id_text, ids_text, entry_text, ledger_text, spent_text, with_numbers};
+ghost use Rattle.gl_schedule.specs.Text.{value_text, answer_text, answers_after, answers_text, status_text, stage_text, new_messages, no_proposal_text, unnamed_text, id_text, ids_text, entry_text, ledger_text, spent_text, with_numbers};
 ghost use Rattle.gl_schedule.specs.Governed.{proposal_text, state_text};
 
 use crate::proposals::NumberedProposal;
@@ -28,7 +28,7 @@ pub fn put_number(out: &mut Vec<u8>, n: u64) -> Result<(), AllocError>
     out.extend_from_slice(Buffer::new().format(n).as_bytes())
 }
 
-/// A number behind a space.
+/// A number after a space.
 pub fn put_value(out: &mut Vec<u8>, n: u64) -> Result<(), AllocError>
     ensures { OnOk result (out.new.items ≡ out.old.items ++ (codes " " ++ decimal n)) }
 {
@@ -73,12 +73,8 @@ fn put_answer(alloc: Global, out: &mut Vec<u8>, answer: &Answer) -> Result<(), A
     }
 }
 
-fn put_answers_behind(
-    alloc: Global,
-    out: &mut Vec<u8>,
-    answers: &[Answer],
-) -> Result<(), AllocError>
-    ensures { OnOk result (out.new.items ≡ out.old.items ++ answers_behind answers.now) }
+fn put_answers_after(alloc: Global, out: &mut Vec<u8>, answers: &[Answer]) -> Result<(), AllocError>
+    ensures { OnOk result (out.new.items ≡ out.old.items ++ answers_after answers.now) }
 {
     for answer in answers {
         out.extend_from_slice(b" ; ")?;
@@ -94,7 +90,7 @@ pub fn put_answers(alloc: Global, out: &mut Vec<u8>, reply: &Reply) -> Result<()
         [] => Ok(()),
         [first, rest @ ..] => {
             put_answer(alloc, out, first)?;
-            put_answers_behind(alloc, out, rest)
+            put_answers_after(alloc, out, rest)
         }
     }
 }
@@ -164,8 +160,8 @@ fn id_of(entry: &Entry) -> TxId
     }
 }
 
-/// The identifiers of entries, each behind a space.
-fn put_ids_behind(out: &mut Vec<u8>, entries: &[Entry]) -> Result<(), AllocError>
+/// The identifiers of entries, each after a space.
+fn put_ids_after(out: &mut Vec<u8>, entries: &[Entry]) -> Result<(), AllocError>
     ensures { OnOk result (out.new.items
         ≡ out.old.items ++ flat_map (λ e. codes " " ++ id_text e.view e.seqno) entries.now) }
 {
@@ -180,7 +176,7 @@ pub(crate) fn put_ids(out: &mut Vec<u8>, entries: &[Entry]) -> Result<(), AllocE
     ensures { OnOk result (out.new.items ≡ out.old.items ++ ids_text entries.now) }
 {
     out.extend_from_slice(b"ids")?;
-    put_ids_behind(out, entries)
+    put_ids_after(out, entries)
 }
 
 fn put_entry(alloc: Global, out: &mut Vec<u8>, entry: &Entry) -> Result<(), AllocError>
@@ -238,7 +234,7 @@ pub(crate) fn put_no_proposal(out: &mut Vec<u8>) -> Result<(), AllocError>
     out.extend_from_slice(b"refused 44")
 }
 
-/// The numbers of the messages behind the first so many, up to so many.
+/// The numbers of the messages after the first so many, up to so many.
 fn put_numbers(out: &mut Vec<u8>, before: usize, now: usize) -> Result<(), AllocError>
     ensures { OnOk result (out.new.items
         ≡ with_numbers out.old.items (numbers_from (before + 1) (now - before))) }

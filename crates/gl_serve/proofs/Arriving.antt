@@ -3,10 +3,10 @@ use Rattle.std.proofs.Common.{◌≡◌, ◌⊎◌, inl, inr, ℕ, zero, suc, �
 use Rattle.std.proofs.lemmas.Bool.Decides.{nat_tests}
 use Rattle.gl_outside.specs.Fault.{next_call}
 use Rattle.gl_outside.specs.Link.{Arrival, Bytes, Tick, Exchange, Gave}
-use Rattle.gl_serve.specs.declared.desk.Desk.{Desk}
-use Rattle.gl_serve.specs.declared.desk.Halt.{Halt}
-use Rattle.gl_serve.specs.declared.desk.Halt.TheVariants.{Stopped, NoMemory}
-use Rattle.gl_serve.specs.declared.desk.Turn.{Turn}
+use Rattle.gl_serve.specs.declared.session.SessionState.{SessionState}
+use Rattle.gl_serve.specs.declared.session.SessionError.{SessionError}
+use Rattle.gl_serve.specs.declared.session.SessionError.TheVariants.{Stopped, NoMemory}
+use Rattle.gl_serve.specs.declared.session.Progress.{Progress}
 use Rattle.gl_serve.specs.declared.settings.ServeEnd.{ServeEnd}
 use Rattle.gl_serve.specs.declared.settings.Serving.{Serving}
 use Rattle.gl_serve.specs.declared.streams.Stream.{Stream}
@@ -16,9 +16,9 @@ use Rattle.gl_serve.specs.Kept.{fed, kept_of, payloads_of, rest_of}
 use Rattle.gl_serve.specs.Works.{Work, Take, Handle, works, script}
 use Rattle.gl_serve.specs.Doing.{Came}
 use Rattle.gl_serve.specs.Running.{Stand, Ran, Went, end_of}
-use Rattle.gl_serve.specs.Turns.{Tracks, Turned, course_of_turn}
-use Rattle.gl_serve.specs.Serves.{Serves, first_desk, course_of, calls_after}
-use Rattle.gl_serve.proofs.Keeping.{fed_kept, fresh_is}
+use Rattle.gl_serve.specs.Progress.{Tracks, Turned, course_of_turn}
+use Rattle.gl_serve.specs.Serves.{Serves, first_session_state, course_of, calls_after}
+use Rattle.gl_serve.proofs.KeptStreams.{fed_kept, fresh_is}
 use Rattle.gl_serve.proofs.WorkingLaws.{does_one, went_then, went_is}
 
 -- ---- streams
@@ -75,10 +75,10 @@ bytes_works peers kept before conn bytes tracks =
 -- ---- a turn
 
 ran_take : {S Payload : Type 0} (honest : Bool) (rules : Rules S Payload) (settings : Serving) (from : Stand S) (arrival : Arrival) (past : List Exchange)
-    → from.moment.desk.over ≡ None → (IsTrue honest → past ≡ from.past ++ Gave arrival ∷ []) → Ran honest rules settings from (Take arrival ∷ []) (arrival ∷ []) (record { moment = from.moment; past = past; lost = from.lost }) [] []
+    → from.moment.session_state.over ≡ None → (IsTrue honest → past ≡ from.past ++ Gave arrival ∷ []) → Ran honest rules settings from (Take arrival ∷ []) (arrival ∷ []) (record { moment = from.moment; past = past; lost = from.lost }) [] []
 ran_take honest rules settings from arrival past going h = record {
   done = Take arrival ∷ [];
-  said = (Came arrival ∷ []) ∷ [];
+  content = (Came arrival ∷ []) ∷ [];
   exchanges = Gave arrival ∷ [];
   works = refl;
   does = does_one rules settings from.moment from.moment (Take arrival) (Came arrival ∷ []) going (refl, refl);
@@ -90,8 +90,8 @@ ran_take honest rules settings from arrival past going h = record {
 }
 
 -- Something came, and then its works went so.
-pub went_came : {S Payload : Type 0} (honest : Bool) (rules : Rules S Payload) (settings : Serving) (before : List Arrival) (arrival : Arrival) (more : List Work) (from to : Stand S) (past : List Exchange) (result : Result (Unit {0}) Halt)
-    → from.moment.desk.over ≡ None → works settings.peers.now before arrival ≡ Take arrival ∷ more → (IsTrue honest → past ≡ from.past ++ Gave arrival ∷ [])
+pub went_came : {S Payload : Type 0} (honest : Bool) (rules : Rules S Payload) (settings : Serving) (before : List Arrival) (arrival : Arrival) (more : List Work) (from to : Stand S) (past : List Exchange) (result : Result (Unit {0}) SessionError)
+    → from.moment.session_state.over ≡ None → works settings.peers.now before arrival ≡ Take arrival ∷ more → (IsTrue honest → past ≡ from.past ++ Gave arrival ∷ [])
     → Went honest rules settings (record { moment = from.moment; past = past; lost = from.lost }) more [] to result
     → Went honest rules settings from (script settings.peers.now before (arrival ∷ [])) (arrival ∷ []) to result
 went_came {S} honest rules settings before arrival more from to past result going is h went =
@@ -105,7 +105,7 @@ pub ran_still : {S Payload : Type 0} (honest : Bool) (rules : Rules S Payload) (
     → (IsTrue honest → past ≡ from.past ++ []) → Ran honest rules settings from [] [] (record { moment = from.moment; past = past; lost = from.lost }) [] []
 ran_still honest rules settings from past h = record {
   done = [];
-  said = [];
+  content = [];
   exchanges = [];
   works = refl;
   does = (refl, refl);
@@ -116,7 +116,7 @@ ran_still honest rules settings from past h = record {
   lost = refl;
 }
 
--- ---- turns one behind the other
+-- ---- turns one after the other
 
 script-more : (peers : List (List ℕ)) (before came more : List Arrival) → script peers before (came ++ more) ≡ script peers before came ++ script peers (before ++ came) more
 script-more peers before [] more = ap (λ (t : List Arrival). script peers t more) (sym (append-nil before))
@@ -126,7 +126,7 @@ script-more peers before (x ∷ came) more =
     ∙ ap (λ (t : List Arrival). works peers before x ++ script peers (before ++ x ∷ []) came ++ script peers t more) (append_assoc before (x ∷ []) came)
 
 -- All was done of what came, and then a turn.
-pub went_on : {S Payload : Type 0} (honest : Bool) (rules : Rules S Payload) (settings : Serving) (from mid to : Stand S) (came : List Arrival) (ahead now_ahead : List Arrival) (kept : ℕ → Stream) (result : Result Turn Halt)
+pub went_on : {S Payload : Type 0} (honest : Bool) (rules : Rules S Payload) (settings : Serving) (from mid to : Stand S) (came : List Arrival) (ahead now_ahead : List Arrival) (kept : ℕ → Stream) (result : Result Progress SessionError)
     → Ran honest rules settings from (script settings.peers.now [] came) came mid [] [] → (t : Turned honest rules settings came mid ahead to now_ahead kept result)
     → Went honest rules settings from (script settings.peers.now [] (came ++ t.came)) (came ++ t.came) to (course_of_turn result)
 went_on honest rules settings from mid to came ahead now_ahead kept result p t =
@@ -139,29 +139,29 @@ taken_on came more first mid now p q = p ∙ ap (λ (t : List Arrival). came ++ 
 
 -- ---- ends
 
-pub turned_err : {S Payload : Type 0} (honest : Bool) (rules : Rules S Payload) (settings : Serving) (before : List Arrival) (from : Stand S) (ahead : List Arrival) (to : Stand S) (now_ahead : List Arrival) (kept : ℕ → Stream) (came : List Arrival) (halt : Halt) (result : Result Turn Halt)
-    → result ≡ Err halt → Went honest rules settings from (script settings.peers.now before came) came to (Err halt) → (IsTrue honest → ahead ≡ came ++ now_ahead)
+pub turned_err : {S Payload : Type 0} (honest : Bool) (rules : Rules S Payload) (settings : Serving) (before : List Arrival) (from : Stand S) (ahead : List Arrival) (to : Stand S) (now_ahead : List Arrival) (kept : ℕ → Stream) (came : List Arrival) (session_error : SessionError) (result : Result Progress SessionError)
+    → result ≡ Err session_error → Went honest rules settings from (script settings.peers.now before came) came to (Err session_error) → (IsTrue honest → ahead ≡ came ++ now_ahead)
     → Turned honest rules settings before from ahead to now_ahead kept result
-turned_err {S} honest rules settings before from ahead to now_ahead kept came halt result bad went taken =
-    subst (λ (r : Result Turn Halt). Turned honest rules settings before from ahead to now_ahead kept r) (sym bad)
+turned_err {S} honest rules settings before from ahead to now_ahead kept came session_error result bad went taken =
+    subst (λ (r : Result Progress SessionError). Turned honest rules settings before from ahead to now_ahead kept r) (sym bad)
     (record { came = came; went = went; tracks = tt; taken = taken })
 
-halted : (halt : Halt) → course_of (Err (end_of halt)) ≡ Err halt
+halted : (session_error : SessionError) → course_of (Err (end_of session_error)) ≡ Err session_error
 halted Stopped = refl
 halted NoMemory = refl
 
-pub serves_err : {S Payload : Type 0} (honest : Bool) (rules : Rules S Payload) (settings : Serving) (first : S) (past : List Exchange) (ahead : List Arrival) (last : S) (now_past : List Exchange) (now_ahead : List Arrival) (came : List Arrival) (desk : Desk) (lost : ℕ) (halt : Halt) (result : Result (ℕ × ℕ) ServeEnd)
-    → result ≡ Err (end_of halt)
-    → Went honest rules settings (record { moment = record { node = first; desk = first_desk }; past = past; lost = 0 }) (script settings.peers.now [] came) came (record { moment = record { node = last; desk = desk }; past = now_past; lost = lost }) (Err halt)
+pub serves_err : {S Payload : Type 0} (honest : Bool) (rules : Rules S Payload) (settings : Serving) (first : S) (past : List Exchange) (ahead : List Arrival) (last : S) (now_past : List Exchange) (now_ahead : List Arrival) (came : List Arrival) (session_state : SessionState) (lost : ℕ) (session_error : SessionError) (result : Result (ℕ × ℕ) ServeEnd)
+    → result ≡ Err (end_of session_error)
+    → Went honest rules settings (record { moment = record { node = first; session_state = first_session_state }; past = past; lost = 0 }) (script settings.peers.now [] came) came (record { moment = record { node = last; session_state = session_state }; past = now_past; lost = lost }) (Err session_error)
     → (IsTrue honest → ahead ≡ came ++ now_ahead) → Serves honest rules settings first past ahead last now_past now_ahead result
-serves_err {S} honest rules settings first past ahead last now_past now_ahead came desk lost halt result bad went taken =
-    let from : Stand S = record { moment = record { node = first; desk = first_desk }; past = past; lost = 0 } in
-    let to : Stand S = record { moment = record { node = last; desk = desk }; past = now_past; lost = lost } in
+serves_err {S} honest rules settings first past ahead last now_past now_ahead came session_state lost session_error result bad went taken =
+    let from : Stand S = record { moment = record { node = first; session_state = first_session_state }; past = past; lost = 0 } in
+    let to : Stand S = record { moment = record { node = last; session_state = session_state }; past = now_past; lost = lost } in
     subst (λ (r : Result (ℕ × ℕ) ServeEnd). Serves honest rules settings first past ahead last now_past now_ahead r) (sym bad) (record {
       came = came;
-      desk = desk;
+      session_state = session_state;
       lost = lost;
-      went = subst (λ (r : Result (Unit {0}) Halt). Went honest rules settings from (script settings.peers.now [] came) came to r) (sym (halted halt)) went;
+      went = subst (λ (r : Result (Unit {0}) SessionError). Went honest rules settings from (script settings.peers.now [] came) came to r) (sym (halted session_error)) went;
       taken = taken;
       counts = tt;
     })

@@ -1,4 +1,4 @@
--- Payloads one behind the other, and the events of a tick.
+-- Payloads one after the other, and the events of a tick.
 use Rattle.std.proofs.Common.{◌≡◌, ℕ, ◌+◌, ◌<◌, suc, List, [], ◌∷◌, ◌++◌, map, Option, Some, None, take, drop, length, get_or, sym, ap, ◌∙◌, append_assoc, append-nil, take-append-drop, arith}
 use Rattle.std.specs.Option.{option_map}
 use Rattle.std.specs.declared.alloc.Global.{Global}
@@ -9,7 +9,7 @@ use Rattle.gl_serve.specs.declared.streams.Stream.{Stream}
 use Rattle.gl_serve.specs.declared.node.OwnEvent.TheVariants.{Replicate, Reserve, Sign, Advance}
 use Rattle.gl_serve.specs.Kept.{next_of, payloads_of}
 use Rattle.gl_serve.specs.Works.{Work, Handle, Lead, tick_events}
-use Rattle.gl_serve.proofs.Keeping.{next_some, next_none}
+use Rattle.gl_serve.proofs.KeptStreams.{next_some, next_none}
 
 -- ---- payloads
 

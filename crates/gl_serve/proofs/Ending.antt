@@ -15,9 +15,9 @@ use Rattle.gl_replication.specs.Holding.{Holding}
 use Rattle.gl_replication.specs.Stands.{StandsFor}
 use Rattle.gl_node.specs.Kept.{kept_after}
 use Rattle.gl_node.specs.declared.fault.NodeFault.TheVariants.{Refused, DiskFault, Stopped}
-use Rattle.gl_node.proofs.Signing.{reserved_before}
+use Rattle.gl_node.proofs.SignedLeaves.{reserved_before}
 use Rattle.gl_outside.specs.Link.{Arrival, Exchange}
-use Rattle.gl_node.specs.Serving.{OpensToCore, StandsForSome}
+use Rattle.gl_node.specs.Persistence.{OpensToCore, StandsForSome}
 use Rattle.gl_serve.specs.Serves.{Serves, StoppedBy}
 use Rattle.gl_serve.specs.declared.settings.ServeEnd.{ServeEnd}
 use Rattle.gl_serve.specs.declared.settings.ServeEnd.TheVariants as ends
@@ -25,11 +25,11 @@ use Rattle.gl_serve.specs.declared.node.OwnEvent.{OwnEvent}
 use Rattle.gl_serve.specs.declared.node.OwnEvent.TheVariants as own
 use Rattle.gl_serve.specs.declared.node.Outcome.TheVariants as outcomes
 use Rattle.gl_serve.specs.declared.settings.Serving.{Serving}
-use Rattle.gl_serve.specs.Answering.{Answers, own_outcome, message_outcome}
+use Rattle.gl_serve.specs.ClientAnswers.{Answers, own_outcome, message_outcome}
 use Rattle.gl_serve.specs.Events.{Happens}
 use Rattle.gl_serve.specs.Life.{Lived, Lives, MayKeep}
 use Rattle.gl_serve.specs.OverLink.{KeepsLeaves}
-use Rattle.gl_serve.specs.Serving.{Asks, HappenUnless, Handles, Owns, Tell, serving_rules}
+use Rattle.gl_serve.specs.NodeWork.{Asks, HappenUnless, Handles, Owns, Report, serving_rules}
 use Rattle.gl_serve.specs.Types.{NodeDone, NodeEvent, NodeFaults, NodeSeen}
 use Rattle.gl_serve.specs.declared.payload.Ask.{Ask}
 use Rattle.gl_serve.specs.declared.payload.Ask.TheVariants as asks
@@ -84,16 +84,16 @@ module _ {D S : Type 0} (stands : S → ServiceBook → Holding Entry → Type 0
   abbrev Ended : NodeSeen D S → Type 0
   Ended node = (count : ℕ) × (node.stopped ≡ Some count)
 
-  tell_stops : (stopped : Option ℕ) (old new : NodeSeen D S) (number : ℕ) (due : ServiceBook → Node Entry → _) → old.stopped ≡ stopped → Tell stands goes_on honest bytes past faults stopped old number due outcomes.Stopped → new ≡ old → Ended new
-  tell_stops (Some count) old new number due is told same = (count, ap (λ (v : NodeSeen D S). v.stopped) same ∙ is)
-  tell_stops None old new number due is told same = cc (told.2)
+  report_stops : (stopped : Option ℕ) (old new : NodeSeen D S) (number : ℕ) (due : ServiceBook → Node Entry → _) → old.stopped ≡ stopped → Report stands goes_on honest bytes past faults stopped old number due outcomes.Stopped → new ≡ old → Ended new
+  report_stops (Some count) old new number due is reported same = (count, ap (λ (v : NodeSeen D S). v.stopped) same ∙ is)
+  report_stops None old new number due is reported same = cc (reported.2)
 
   ask_stops : (old new : NodeSeen D S) (number : ℕ) (ask : Ask) → Asks stands goes_on honest bytes past faults old number ask outcomes.Stopped new → Ended new
   ask_stops old new number (asks.Submit request) c = stops_node (events.Submit request) old new c.0 c.1 (answer_stops number c.0 c.2)
   ask_stops old new number (asks.Govern request) c = stops_node (events.Govern request) old new c.0 c.1 (answer_stops number c.0 c.2)
-  ask_stops old new number (asks.StatusOf id) c = tell_stops old.stopped old new number _ refl c.0 c.1
-  ask_stops old new number (asks.ReceiptOf id) c = tell_stops old.stopped old new number _ refl c.0 c.1
-  ask_stops old new number (asks.SnapshotPart offset) c = tell_stops old.stopped old new number _ refl c.0 c.1
+  ask_stops old new number (asks.StatusOf id) c = report_stops old.stopped old new number _ refl c.0 c.1
+  ask_stops old new number (asks.ReceiptOf id) c = report_stops old.stopped old new number _ refl c.0 c.1
+  ask_stops old new number (asks.SnapshotPart offset) c = report_stops old.stopped old new number _ refl c.0 c.1
 
   handle_stops : (old new : NodeSeen D S) (payload : Payload) → Handles stands goes_on honest bytes past faults old payload outcomes.Stopped new → Ended new
   handle_stops old new (payloads.Peer m) c = stops_node (events.Message m) old new c.0 c.1 (message_stops m.view new.core.peer.view c.0 c.2)
@@ -181,24 +181,24 @@ module _ {D S : Type 0} (stands : S → ServiceBook → Holding Entry → Type 0
   -- ---- a serve
 
   -- where it ended since the node stopped, the disk failed
-  pub serve_failed : (told : Bool) (settings : Serving) (first last : NodeSeen D S) (before after : List Exchange) (ahead left : List Arrival) (result : Result (ℕ × ℕ) ServeEnd) →
-      Serves told (serving_rules stands goes_on honest bytes past faults) settings first before ahead last after left result → first.stopped ≡ None → result ≡ Err ends.Stopped → Rose (faults first.disk) (faults last.disk)
-  serve_failed told settings first last before after ahead left result s going is =
-      let t = subst (λ (r : Result (ℕ × ℕ) ServeEnd). Serves told (serving_rules stands goes_on honest bytes past faults) settings first before ahead last after left r) is s in
-      let life = serve_lives stands goes_on honest bytes past faults settings told _ _ _ _ (Err ends.Stopped) t.went in
-      life_failed life.0 first last life.1 going (stopped_ends last (serve_stopped (serving_rules stands goes_on honest bytes past faults) settings told first last before after ahead left t))
+  pub serve_failed : (reported : Bool) (settings : Serving) (first last : NodeSeen D S) (before after : List Exchange) (ahead left : List Arrival) (result : Result (ℕ × ℕ) ServeEnd) →
+      Serves reported (serving_rules stands goes_on honest bytes past faults) settings first before ahead last after left result → first.stopped ≡ None → result ≡ Err ends.Stopped → Rose (faults first.disk) (faults last.disk)
+  serve_failed reported settings first last before after ahead left result s going is =
+      let t = subst (λ (r : Result (ℕ × ℕ) ServeEnd). Serves reported (serving_rules stands goes_on honest bytes past faults) settings first before ahead last after left r) is s in
+      let life = serve_lives stands goes_on honest bytes past faults settings reported _ _ _ _ (Err ends.Stopped) t.went in
+      life_failed life.0 first last life.1 going (stopped_ends last (serve_stopped (serving_rules stands goes_on honest bytes past faults) settings reported first last before after ahead left t))
 
   -- whatever it came to, its file has the same key and no fewer spent leaves
-  pub serve_keeps : (ledger : S → List Entry) (told : Bool) (settings : Serving) (first last : NodeSeen D S) (before after : List Exchange) (ahead left : List Arrival) (result : Result (ℕ × ℕ) ServeEnd) →
-      Serves told (serving_rules stands goes_on honest bytes past faults) settings first before ahead last after left result → IsTrue honest → StandsForSome stands first.core → OpensToCore ledger goes_on (bytes first.disk) first.core → LeavesOnly (past first.disk) (bytes first.disk) →
+  pub serve_keeps : (ledger : S → List Entry) (reported : Bool) (settings : Serving) (first last : NodeSeen D S) (before after : List Exchange) (ahead left : List Arrival) (result : Result (ℕ × ℕ) ServeEnd) →
+      Serves reported (serving_rules stands goes_on honest bytes past faults) settings first before ahead last after left result → IsTrue honest → StandsForSome stands first.core → OpensToCore ledger goes_on (bytes first.disk) first.core → LeavesOnly (past first.disk) (bytes first.disk) →
       (d : Durable) → durable goes_on (bytes first.disk) ≡ Ok d → Leaves (KeepsLeaves goes_on d) (past first.disk) (past last.disk)
-  serve_keeps ledger told settings first last before after ahead left result s true_disk some file only d opens =
-      let life = serve_lives stands goes_on honest bytes past faults settings told _ _ _ _ result s.went in
+  serve_keeps ledger reported settings first last before after ahead left result s true_disk some file only d opens =
+      let life = serve_lives stands goes_on honest bytes past faults settings reported _ _ _ _ result s.went in
       let n = some.node in
-      let same : d.reserved ≡ n.reserved = held_reserved d file.0 (sym opens ∙ file.1) ∙ file.2.reserved ∙ ap (λ (m : Node Entry). m.reserved) some.standing.same in
-      let kept = life_is_kept stands goes_on honest bytes past faults true_disk some.rules some.me first last life.0 life.1 n some.standing d opens in
+      let same : d.reserved ≡ n.reserved = held_reserved d file.0 (sym opens ∙ file.1) ∙ file.2.reserved ∙ ap (λ (m : Node Entry). m.reserved) some.node_status.same in
+      let kept = life_is_kept stands goes_on honest bytes past faults true_disk some.rules some.me first last life.0 life.1 n some.node_status d opens in
       so_too (λ (image : List ℕ). (state : Durable) × MayKeep some.rules some.me n d life.0 state × (durable goes_on image ≡ Ok state)) (KeepsLeaves goes_on d) (past first.disk) (past last.disk)
-      (λ image may. let k = leaves_kept some.rules some.me life.0 first last n d may.0 life.1 some.standing same may.1 in (may.0, may.2, k.0, k.1))
+      (λ image may. let k = leaves_kept some.rules some.me life.0 first last n d may.0 life.1 some.node_status same may.1 in (may.0, may.2, k.0, k.1))
       (kept.any_moment only)
     where
       held_reserved : (d e : Durable) → ◌≡◌ {A = Result Durable JournalFault} (Ok d) (Ok e) → d.reserved ≡ e.reserved

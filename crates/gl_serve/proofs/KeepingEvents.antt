@@ -13,7 +13,7 @@ use Rattle.gl_replication.specs.Stands.{StandsFor}
 use Rattle.gl_node.specs.Kept.{kept_after}
 use Rattle.gl_node.specs.declared.fault.NodeFault.TheVariants.{Refused, DiskFault, Stopped}
 use Rattle.gl_serve.specs.Events.{Happens}
-use Rattle.gl_serve.specs.Life.{IsKeptThrough, Lived, Lives, MayKeep, kept_behind, kept_through, node_behind}
+use Rattle.gl_serve.specs.Life.{IsKeptThrough, Lived, Lives, MayKeep, kept_through, kept_upto, node_after}
 use Rattle.gl_serve.specs.Types.{NodeDone, NodeEvent, NodeFaults, NodeSeen}
 use Rattle.gl_serve.proofs.Living.{still}
 
@@ -42,15 +42,15 @@ module _ {D S : Type 0} (stands : S → ServiceBook → Holding Entry → Type 0
 
     -- what an event kept or is to keep
     around : (n : Node Entry) (d : Durable) (result : Result (NodeDone S) (NodeFaults S)) (image : List ℕ) →
-        OpensToOneOf goes_on d (kept_behind d (node_behind b x n event result) result) image → Known n d (life_of result) image
+        OpensToOneOf goes_on d (kept_upto d (node_after b x n event result) result) image → Known n d (life_of result) image
     around n d result image h = go h.1
       where
-        go : (durable goes_on image ≡ Ok d) ⊎ (durable goes_on image ≡ Ok (kept_behind d (node_behind b x n event result) result)) → Known n d (life_of result) image
+        go : (durable goes_on image ≡ Ok d) ⊎ (durable goes_on image ≡ Ok (kept_upto d (node_after b x n event result) result)) → Known n d (life_of result) image
         go (inl e) = (d, inl refl, e)
-        go (inr e) = (kept_behind d (node_behind b x n event result) result, inr (at_first (node_behind b x n event result) (kept_behind d (node_behind b x n event result) result) more), e)
+        go (inr e) = (kept_upto d (node_after b x n event result) result, inr (at_first (node_after b x n event result) (kept_upto d (node_after b x n event result) result) more), e)
 
     later : (n : Node Entry) (d : Durable) (result : Result (NodeDone S) (NodeFaults S)) (image : List ℕ) →
-        Known (node_behind b x n event result) (kept_behind d (node_behind b x n event result) result) more image → Known n d (life_of result) image
+        Known (node_after b x n event result) (kept_upto d (node_after b x n event result) result) more image → Known n d (life_of result) image
     later n d result image h = (h.0, inr h.1, h.2)
 
     moments_by : (result : Result (NodeDone S) (NodeFaults S)) (first next last : NodeSeen D S) (n : Node Entry) (d : Durable) → Happen event first result next → Live next more last →

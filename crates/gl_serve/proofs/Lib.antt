@@ -1,6 +1,6 @@
 pub mod Arriving
 pub mod Draining
-pub mod Keeping
+pub mod KeptStreams
 pub mod Losing
 pub mod SendingLaws
 pub mod WorkingLaws
@@ -8,7 +8,7 @@ pub mod Whole
 pub mod Stopping
 pub mod Accepting
 pub mod Batching
-pub mod Happening
+pub mod EventAnswers
 pub mod KeepingEvents
 pub mod Living
 pub mod NoEntries

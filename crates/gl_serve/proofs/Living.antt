@@ -1,4 +1,5 @@
--- Whatever a serve does at its node is events, one behind the other, through which no leaf signs twice.
+-- Whatever a serve does at its node is events, one after the other, through which no leaf signs
+-- twice.
 use Rattle.std.proofs.Common.{◌≡◌, ℕ, ◌+◌, Bool, true, false, List, [], ◌∷◌, ◌++◌, Option, None, Some, Result, Ok, Err, refl, sym, ap, subst, ◌∙◌, nat_le}
 use Rattle.gl_entry.specs.declared.entry.Entry.{Entry}
 use Rattle.gl_rules.specs.Identity.{NodeId}
@@ -12,7 +13,7 @@ use Rattle.gl_replication.specs.declared.event.Event.TheVariants as events
 use Rattle.gl_replication.specs.Holding.{Holding}
 use Rattle.gl_replication.specs.Stands.{StandsFor}
 use Rattle.gl_node.specs.declared.fault.NodeFault.TheVariants.{Refused, DiskFault, Stopped}
-use Rattle.gl_node.proofs.Signing.{leaves_rise}
+use Rattle.gl_node.proofs.SignedLeaves.{leaves_rise}
 use Rattle.gl_serve.specs.Doing.{Does, Line, Moment, One}
 use Rattle.gl_serve.specs.Doing as doing
 use Rattle.gl_serve.specs.Running.{Stand, Went}
@@ -25,8 +26,8 @@ use Rattle.gl_serve.specs.declared.settings.ServeEnd.{ServeEnd}
 use Rattle.gl_serve.specs.declared.settings.ServeEnd.TheVariants as ends
 use Rattle.gl_serve.specs.declared.settings.Serving.{Serving}
 use Rattle.gl_serve.specs.Events.{Happens}
-use Rattle.gl_serve.specs.Life.{IsLife, Lived, Lives, happenings, node_behind, node_through}
-use Rattle.gl_serve.specs.Serving.{Asks, Comes, HappenUnless, Handles, Owns, serving_rules}
+use Rattle.gl_serve.specs.Life.{IsLife, Lived, Lives, happenings, node_after, node_through}
+use Rattle.gl_serve.specs.NodeWork.{Asks, Comes, HappenUnless, Handles, Owns, serving_rules}
 use Rattle.gl_serve.specs.Types.{NodeDone, NodeEvent, NodeFaults, NodeSeen}
 use Rattle.gl_serve.specs.declared.payload.Ask.{Ask}
 use Rattle.gl_serve.specs.declared.payload.Ask.TheVariants as asks
@@ -56,8 +57,8 @@ module _ {D S : Type 0} (stands : S → ServiceBook → Holding Entry → Type 0
 
   -- ---- a serve is events
 
-  comes : (event : NodeEvent S) (old new : NodeSeen D S) (Told : Result (NodeDone S) (NodeFaults S) → Type 0) → Comes stands goes_on honest bytes past faults event old new Told → Goes old new
-  comes event old new Told c = (record { event = event; result = c.0 } ∷ [], (new, c.1, refl))
+  comes : (event : NodeEvent S) (old new : NodeSeen D S) (Reported : Result (NodeDone S) (NodeFaults S) → Type 0) → Comes stands goes_on honest bytes past faults event old new Reported → Goes old new
+  comes event old new Reported c = (record { event = event; result = c.0 } ∷ [], (new, c.1, refl))
 
   asked : (old : NodeSeen D S) (number : ℕ) (ask : Ask) (outcome : Outcome) (new : NodeSeen D S) → Asks stands goes_on honest bytes past faults old number ask outcome new → Goes old new
   asked old number (asks.Submit request) outcome new h = comes (events.Submit request) old new _ h
@@ -95,7 +96,7 @@ module _ {D S : Type 0} (stands : S → ServiceBook → Holding Entry → Type 0
 
     beats : (m now : Moment (NodeSeen D S)) (leads : Bool) (lines : List Line) → doing.Beats (serving_rules stands goes_on honest bytes past faults) settings m leads lines now → Goes m.node now.node
     beats m now true lines h = stays m.node now.node h.1
-    beats m now false lines h = waits m now (nat_le settings.ticks (m.desk.idle + 1)) lines h
+    beats m now false lines h = waits m now (nat_le settings.ticks (m.session_state.idle + 1)) lines h
 
     leads : (m now : Moment (NodeSeen D S)) (event : OwnEvent) (leading : Bool) (lines : List Line) → doing.Leads (serving_rules stands goes_on honest bytes past faults) settings m event leading lines now → Goes m.node now.node
     leads m now event true lines e = owned m.node event e.outcome now.node e.event
@@ -105,19 +106,19 @@ module _ {D S : Type 0} (stands : S → ServiceBook → Holding Entry → Type 0
     one m now (Take arrival) lines h = stays m.node now.node (ap (λ (v : Moment (NodeSeen D S)). v.node) h.1)
     one m now (Handle conn payload) lines h = read m now conn h.0 lines h.2
     one m now Beat lines h = beats m now ((serving_rules stands goes_on honest bytes past faults).leads m.node) lines h
-    one m now (Lead event) lines h = leads m now event m.desk.leading lines h
+    one m now (Lead event) lines h = leads m now event m.session_state.leading lines h
 
-    does : (works : List Work) (told : List (List Line)) (m now : Moment (NodeSeen D S)) → Does (serving_rules stands goes_on honest bytes past faults) settings m works told now → Goes m.node now.node
-    does [] told m now h = stays m.node now.node (ap (λ (v : Moment (NodeSeen D S)). v.node) h.1)
-    does (work ∷ more) told m now h = goes_then m.node h.1.node now.node (one m h.1 work h.2 h.4) (does more h.3 h.1 now h.6)
+    does : (works : List Work) (reported : List (List Line)) (m now : Moment (NodeSeen D S)) → Does (serving_rules stands goes_on honest bytes past faults) settings m works reported now → Goes m.node now.node
+    does [] reported m now h = stays m.node now.node (ap (λ (v : Moment (NodeSeen D S)). v.node) h.1)
+    does (work ∷ more) reported m now h = goes_then m.node h.1.node now.node (one m h.1 work h.2 h.4) (does more h.3 h.1 now h.6)
 
-    pub serve_lives : (told : Bool) (from to : Stand (NodeSeen D S)) (works : List Work) (came : List Arrival) (result : Result (ℕ × ℕ) ServeEnd) →
-        Went told (serving_rules stands goes_on honest bytes past faults) settings from works came to (course_of result) → Goes from.moment.node to.moment.node
-    serve_lives told from to works came (Ok counts) w = does w.0.done w.0.said from.moment to.moment w.0.does
-    serve_lives told from to works came (Err ends.LinkFailed) w = does w.0.done w.0.said from.moment to.moment w.0.does
-    serve_lives told from to works came (Err ends.Turns) w = does w.0.done w.0.said from.moment to.moment w.0.does
-    serve_lives told from to works came (Err ends.Stopped) w = does w.2.done w.2.said from.moment to.moment w.2.does
-    serve_lives told from to works came (Err ends.NoMemory) w = does w.2.done w.2.said from.moment to.moment w.2.does
+    pub serve_lives : (reported : Bool) (from to : Stand (NodeSeen D S)) (works : List Work) (came : List Arrival) (result : Result (ℕ × ℕ) ServeEnd) →
+        Went reported (serving_rules stands goes_on honest bytes past faults) settings from works came to (course_of result) → Goes from.moment.node to.moment.node
+    serve_lives reported from to works came (Ok counts) w = does w.0.done w.0.content from.moment to.moment w.0.does
+    serve_lives reported from to works came (Err ends.LinkFailed) w = does w.0.done w.0.content from.moment to.moment w.0.does
+    serve_lives reported from to works came (Err ends.Turns) w = does w.0.done w.0.content from.moment to.moment w.0.does
+    serve_lives reported from to works came (Err ends.Stopped) w = does w.2.done w.2.content from.moment to.moment w.2.does
+    serve_lives reported from to works came (Err ends.NoMemory) w = does w.2.done w.2.content from.moment to.moment w.2.does
 
   -- ---- no leaf signs twice through events
 
@@ -136,7 +137,7 @@ module _ {D S : Type 0} (stands : S → ServiceBook → Holding Entry → Type 0
   module _ (b : ServiceBook) (x : NodeId) where
     stands_by : (event : NodeEvent S) (result : Result (NodeDone S) (NodeFaults S)) (more : List (Lived S)) (first next last : NodeSeen D S) (n : Node Entry) → Happen event first result next → Live next more last →
         ((m : Node Entry) → StandsFor stands next.core b x m → StandsFor stands last.core b x (node_through b x m more)) →
-        StandsFor stands first.core b x n → last.stopped ≡ None → StandsFor stands last.core b x (node_through b x (node_behind b x n event result) more)
+        StandsFor stands first.core b x n → last.stopped ≡ None → StandsFor stands last.core b x (node_through b x (node_after b x n event result) more)
     stands_by event (Ok done) more first next last n h lives rest s going = rest (rule_of event b x n).node (h.steps b x n s).node
     stands_by event (Err (Refused why)) more first next last n h lives rest s going = rest n (h.keeps b x n s)
     stands_by event (Err DiskFault) more first next last n h lives rest s going =

@@ -1,7 +1,7 @@
 -- Lost frames and the link's count of failed sends.
 use Rattle.std.proofs.Common.{inl, inr, ℕ, refl, ◌∙◌, arith}
 use Rattle.gl_outside.proofs.Faults.{Rose-after, Rose-before}
-use Rattle.gl_serve.specs.Sending.{Loses}
+use Rattle.gl_serve.specs.Outbox.{Loses}
 
 pub loses_same : (l f : ℕ) → Loses l l f f
 loses_same l f = record { never_falls = omega arith; cause = inl refl }

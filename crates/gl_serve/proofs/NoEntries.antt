@@ -14,7 +14,7 @@ use Rattle.gl_rules.specs.Replication.{checked_append}
 use Rattle.gl_rules.specs.Configuration.{active, configuration_at, configurations_above}
 use Rattle.gl_config.specs.Active.{active_of, last_of, sets_of}
 use Rattle.gl_ledger.specs.LedgerBook.{ServiceBook}
-use Rattle.gl_ledger.specs.declared.made.Unmade.TheVariants.{NoEntry}
+use Rattle.gl_ledger.specs.declared.response.Rejection.TheVariants.{NoEntry}
 use Rattle.gl_answers.specs.Receipts.{receipts_of}
 use Rattle.gl_election.specs.Bridge.{tx_id}
 use Rattle.gl_receipt.specs.Made.{Ledger, at_seqno, commit_id, committed_entry, entry_at, if_committed, later_signature, receipt_by, receipt_of, status_in}

@@ -1,4 +1,4 @@
--- Lines that are sent one behind the other.
+-- Lines that are sent one after the other.
 use Rattle.std.proofs.Common.{◌≡◌, ℕ, List, [], ◌∷◌, ◌++◌, map, Result, Ok, Err, OnOk, OnErr, refl, sym, ap, ◌∙◌, append_assoc, append-nil, Bool, true, false, subst, ◌<◌, ◌+◌, zero, suc, length, take, drop, get_or, take-append-drop, arith}
 use Rattle.std.specs.List.{flat_map}
 use Rattle.std.proofs.lemmas.Grind.{flat_map-append}
@@ -6,7 +6,7 @@ use Rattle.std.proofs.lemmas.List.{map-append}
 use Rattle.gl_outside.specs.Fault.{next_call}
 use Rattle.gl_outside.specs.Link.{Arrival, Exchange, Gave, Sent, arrivals}
 use Rattle.gl_serve.specs.Doing.{Line}
-use Rattle.gl_serve.specs.Sending.{line_of, counted, Sends, SendsSome}
+use Rattle.gl_serve.specs.Outbox.{line_of, counted, Sends, SendsSome}
 
 pub on_err : {T E P : Type 0} → (result : Result T E) → P → OnErr result P
 on_err (Ok value) p = tt
@@ -49,11 +49,11 @@ sent_then honest before mid after l m n xs ys p q = record {
 pub sent_is : (honest : Bool) (before after : List Exchange) (l n : ℕ) (xs ys : List Line) → xs ≡ ys → Sends honest before l after n xs → Sends honest before l after n ys
 sent_is honest before after l n xs ys same p = subst (λ (t : List Line). Sends honest before l after n t) same p
 
--- These lines, and nothing of those behind them.
-pub sent_front : (honest : Bool) (before after : List Exchange) (l n : ℕ) (xs ys all : List Line) → all ≡ xs ++ ys → Sends honest before l after n xs → SendsSome honest before l after n all
-sent_front honest before after l n xs ys all is p = (xs, ys, is, p)
+-- These lines, and nothing of those after them.
+pub sent_prefix : (honest : Bool) (before after : List Exchange) (l n : ℕ) (xs ys all : List Line) → all ≡ xs ++ ys → Sends honest before l after n xs → SendsSome honest before l after n all
+sent_prefix honest before after l n xs ys all is p = (xs, ys, is, p)
 
--- Some of these lines, and nothing of those behind them.
+-- Some of these lines, and nothing of those after them.
 pub some_more : (honest : Bool) (before after : List Exchange) (l n : ℕ) (xs ys all : List Line) → all ≡ xs ++ ys → SendsSome honest before l after n xs → SendsSome honest before l after n all
 some_more honest before after l n xs ys all is p = (p.0, p.1 ++ ys, is ∙ ap (λ (t : List Line). t ++ ys) p.2 ∙ append_assoc p.0 p.1 ys, p.3)
 

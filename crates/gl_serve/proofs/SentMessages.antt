@@ -194,7 +194,7 @@ module _ {Q G R A F : Type 0} (b : Book Entry Q G R A F) where
       by ((prev.seqno == 0) || (nat_le prev.seqno (length n.log) && (view_at b n.log prev.seqno == prev.view)))
       (replication.merge_entries b x y prev.seqno es held theirs n)
       (record { node = n; sent = replication.append_reply b x y false (replication.highest_possible_match b n.log prev.view (min (prev.seqno - 1) (length n.log))) n; outcome = outcome.Done })
-      (by (held == length es) (replication.accept_entries b x y (prev.seqno + length es) theirs n) behind (tt, tt)
+      (by (held == length es) (replication.accept_entries b x y (prev.seqno + length es) theirs n) after (tt, tt)
       (by (nat_lt (prev.seqno + held) (length n.log) && nat_lt (prev.seqno + held) n.commit) (outcome.refuse n (outcome.BelowCommit n.commit (prev.seqno + held))) taken tt (accepted (replication.checked_append b (take (prev.seqno + held) n.log) (drop held es)))))
       (tt, tt)
     where
@@ -208,8 +208,8 @@ module _ {Q G R A F : Type 0} (b : Book Entry Q G R A F) where
       taken : Step Entry A F
       taken = replication.accept_or_refuse b n x y (prev.seqno + length es) theirs (cut_to (prev.seqno + held) n) (replication.checked_append b (take (prev.seqno + held) n.log) (drop held es))
 
-      behind : Step Entry A F
-      behind =
+      after : Step Entry A F
+      after =
           if nat_lt (prev.seqno + held) (length n.log) && nat_lt (prev.seqno + held) n.commit
           then outcome.refuse n (outcome.BelowCommit n.commit (prev.seqno + held))
           else taken
@@ -266,15 +266,15 @@ module _ {Q G R A F : Type 0} (b : Book Entry Q G R A F) where
     replicate_fits x y n are =
         at_leader n.role n (if replication.is_peer b x y n then send else outcome.refuse n outcome.NotPeer)
         (by (replication.is_peer b x y n) send (outcome.refuse n outcome.NotPeer)
-        (by (nat_lt behind n.base) (outcome.refuse n (outcome.BelowBase n.base)) (record { node = n; sent = replication.append_message b x y behind n ∷ []; outcome = outcome.Done }) tt
-        (batch_fits b frames (drop behind n.log) (recursion_from_All (λ (e : Entry). IsTrue (is_entry e)) (drop behind n.log) (All-drop (λ (e : Entry). IsTrue (is_entry e)) behind n.log are)), tt))
+        (by (nat_lt after n.base) (outcome.refuse n (outcome.BelowBase n.base)) (record { node = n; sent = replication.append_message b x y after n ∷ []; outcome = outcome.Done }) tt
+        (batch_fits b frames (drop after n.log) (recursion_from_All (λ (e : Entry). IsTrue (is_entry e)) (drop after n.log) (All-drop (λ (e : Entry). IsTrue (is_entry e)) after n.log are)), tt))
         tt)
       where
-        behind : ℕ
-        behind = replication.next_of b n y - 1
+        after : ℕ
+        after = replication.next_of b n y - 1
 
         send : Step Entry A F
-        send = replication.send_append b x y behind n
+        send = replication.send_append b x y after n
 
     -- an event's rule
     pub rule_fits : {S : Type 0} (event : Event S Q G R A F) (x : NodeId) (n : Node Entry) → All (λ (e : Entry). IsTrue (is_entry e)) n.log → Fits (rule_of event b x n)

@@ -1,12 +1,12 @@
 -- The payloads that are handled are those of the whole streams.
 use Rattle.std.proofs.Common.{◌≡◌, inl, inr, ℕ, List, [], ◌∷◌, ◌++◌, Bool, true, false, map, cond, ◌==◌, refl, sym, ap, ◌∙◌, append_assoc, append-nil, subst}
 use Rattle.gl_outside.specs.Link.{Arrival, Bytes, Tick}
-use Rattle.gl_messages.specs.Frames.{front, payloads}
+use Rattle.gl_messages.specs.Frames.{payloads, prefix}
 use Rattle.gl_messages.proofs.StreamLaws.{first_none, grows}
 use Rattle.gl_serve.specs.declared.node.OwnEvent.{OwnEvent}
 use Rattle.gl_serve.specs.Streams.{stream, fresh}
 use Rattle.gl_serve.specs.Works.{Work, Take, Handle, Beat, Lead, works, script, tick_events, handled}
-use Rattle.gl_serve.proofs.Keeping.{fresh_is}
+use Rattle.gl_serve.proofs.KeptStreams.{fresh_is}
 use Rattle.gl_serve.proofs.Arriving.{same_self, same_or, stream_on, stream_off, stream_tick}
 
 handled-append : (conn : ℕ) (xs ys : List Work) → handled conn (xs ++ ys) ≡ handled conn xs ++ handled conn ys
@@ -51,7 +51,7 @@ whole_from peers conn before (x ∷ came) =
     ∙ ap (λ (t : List (List ℕ)). payloads (stream conn before) ++ t) (sym (handled-append conn (works peers before x) (script peers (before ++ x ∷ []) came)))
 
 payloads_nil : payloads [] ≡ []
-unfolding front
+unfolding prefix
 payloads_nil = (first_none [] tt).0
 
 pub whole_streams : (peers : List (List ℕ)) (came : List Arrival) (conn : ℕ) → handled conn (script peers [] came) ≡ payloads (stream conn came)

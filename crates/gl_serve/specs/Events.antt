@@ -7,7 +7,7 @@ use Rattle.gl_outside.specs.Fault.{Rose}
 use Rattle.gl_journal.specs.Durable.{Durable, GoesOn, OpensToOneOf, durable}
 use Rattle.gl_replication.specs.Events.{rule_of}
 use Rattle.gl_replication.specs.Holding.{Holding}
-use Rattle.gl_replication.specs.Stands.{KeepsAll, Refuses, Steps, Tells}
+use Rattle.gl_replication.specs.Stands.{KeepsAll, Refuses, Reports, Steps}
 use Rattle.gl_node.specs.Kept.{kept_after}
 use Rattle.gl_node.specs.declared.fault.NodeFault.TheVariants.{Refused, DiskFault, Stopped}
 use Rattle.gl_serve.specs.Types.{NodeDone, NodeEvent, NodeFaults, NodeRefusal, NodeSeen}
@@ -20,7 +20,7 @@ module _ {D S : Type 0} (stands : S → ServiceBook → Holding Entry → Type 0
   -- At every moment of the event a stop leaves a file that keeps the node as it was, or as the rule
   -- makes it.
   abbrev pub KeepsThroughout : NodeSeen D S → Type 0
-  KeepsThroughout new = IsTrue honest → Tells stands old.core (λ b x n. (d : Durable) →
+  KeepsThroughout new = IsTrue honest → Reports stands old.core (λ b x n. (d : Durable) →
       durable goes_on (bytes old.disk) ≡ Ok d →
       Leaves (OpensToOneOf goes_on d (kept_after d (rule_of event b x n).node))
       (past old.disk) (past new.disk))
@@ -29,10 +29,10 @@ module _ {D S : Type 0} (stands : S → ServiceBook → Holding Entry → Type 0
   -- whatever a stop leaves.
   pub record IsDone (done : NodeDone S) (new : NodeSeen D S) : Type 0 where
     pub steps : Steps stands (rule_of event) old.core done new.core
-    pub file : IsTrue honest → Tells stands old.core (λ b x n. (d : Durable) →
+    pub file : IsTrue honest → Reports stands old.core (λ b x n. (d : Durable) →
         durable goes_on (bytes old.disk) ≡ Ok d →
         durable goes_on (bytes new.disk) ≡ Ok (kept_after d (rule_of event b x n).node))
-    pub kept : IsTrue honest → Tells stands old.core (λ b x n. (d : Durable) →
+    pub kept : IsTrue honest → Reports stands old.core (λ b x n. (d : Durable) →
         durable goes_on (bytes old.disk) ≡ Ok d →
         (image : List ℕ) → IsImage (past new.disk) image →
         durable goes_on image ≡ Ok (kept_after d (rule_of event b x n).node))

@@ -6,16 +6,16 @@ use Rattle.gl_messages.specs.declared.message.Body.TheVariants.{RequestVote, Vot
 use Rattle.gl_messages.specs.declared.message.Message.{Message}
 
 -- A vote was granted, or entries that came in the node's view were answered.
-abbrev pub body_tells : Bool → Body → Bool
-body_tells in_view (RequestVote last) = false
-body_tells in_view (VoteReply granted) = granted
-body_tells in_view (Append prev commit es) = false
-body_tells in_view (AppendReply ok seqno) = in_view
-body_tells in_view ProposeVote = false
+abbrev pub body_reports : Bool → Body → Bool
+body_reports in_view (RequestVote last) = false
+body_reports in_view (VoteReply granted) = granted
+body_reports in_view (Append prev commit es) = false
+body_reports in_view (AppendReply ok seqno) = in_view
+body_reports in_view ProposeVote = false
 
-abbrev pub tells_of_service : Bool → Message → Bool
-tells_of_service in_view sent = body_tells in_view sent.body
+abbrev pub reports_of_service : Bool → Message → Bool
+reports_of_service in_view sent = body_reports in_view sent.body
 
 -- A message of the one view came to a node that is in the other then, and sends these.
 abbrev pub is_heard : ℕ → ℕ → List Message → Bool
-is_heard came view sent = list_any (tells_of_service (came == view)) sent
+is_heard came view sent = list_any (reports_of_service (came == view)) sent

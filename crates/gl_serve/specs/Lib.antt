@@ -2,12 +2,12 @@ pub mod Doing
 pub mod Kept
 pub mod Rules
 pub mod Running
-pub mod Sending
+pub mod Outbox
 pub mod Serves
 pub mod Streams
-pub mod Turns
+pub mod Progress
 pub mod Works
-pub mod Answering
+pub mod ClientAnswers
 pub mod Events
 pub mod Hearing
 pub mod Life
@@ -15,5 +15,5 @@ pub mod OverLink
 pub mod NoEntries
 pub mod Payloads
 pub mod Requests
-pub mod Serving
+pub mod NodeWork
 pub mod Types

@@ -1,5 +1,5 @@
--- What a serve is to its node: events, one behind the other. So the laws of a node's events are
--- laws of its serves.
+-- What a serve is to its node: events, one after the other. So the laws of a node's events are laws
+-- of its serves.
 use Rattle.std.specs.Prelude.{◌≡◌, ◌⊎◌, ◌≤◌, ◌<◌, ℕ, Bool, List, [], ◌∷◌, ◌++◌, None, Result, Ok, Err, IsTrue, All, AllPairs}
 use Rattle.gl_entry.specs.declared.entry.Entry.{Entry}
 use Rattle.gl_rules.specs.Identity.{NodeId}
@@ -10,7 +10,7 @@ use Rattle.gl_outside.specs.Link.{Arrival, Exchange}
 use Rattle.gl_journal.specs.Durable.{Durable, GoesOn, durable}
 use Rattle.gl_replication.specs.Events.{rule_of}
 use Rattle.gl_replication.specs.Holding.{Holding}
-use Rattle.gl_replication.specs.Stands.{StandsFor, Tells}
+use Rattle.gl_replication.specs.Stands.{Reports, StandsFor}
 use Rattle.gl_node.specs.Kept.{kept_after}
 use Rattle.gl_node.specs.Leaves.{Served, Lost, leaves_through}
 use Rattle.gl_node.specs.declared.fault.NodeFault.TheVariants.{Refused, DiskFault, Stopped}
@@ -18,7 +18,7 @@ use Rattle.gl_serve.specs.Serves.{Serves}
 use Rattle.gl_serve.specs.declared.settings.Serving.{Serving}
 use Rattle.gl_serve.specs.declared.settings.ServeEnd.{ServeEnd}
 use Rattle.gl_serve.specs.Events.{Happens}
-use Rattle.gl_serve.specs.Serving.{serving_rules}
+use Rattle.gl_serve.specs.NodeWork.{serving_rules}
 use Rattle.gl_serve.specs.Types.{NodeDone, NodeEvent, NodeFaults, NodeHappening, NodeSeen}
 
 -- An event at a node, with what it came to.
@@ -28,7 +28,7 @@ pub record Lived (S : Type 0) : Type 0 where
 
 module _ {S : Type 0} where
   -- What such an event was to the node and its file. A refused one changed nothing, and at a node
-  -- that had stopped nothing happened. Behind a fault of the disk the node does nothing more.
+  -- that had stopped nothing happened. After a fault of the disk the node does nothing more.
   abbrev pub happening : NodeEvent S → Result (NodeDone S) (NodeFaults S) → List (NodeHappening S)
   happening event (Ok done) = Served event ∷ []
   happening event (Err (Refused why)) = []
@@ -39,46 +39,46 @@ module _ {S : Type 0} where
   happenings [] = []
   happenings (lived ∷ more) = happening lived.event lived.result ++ happenings more
 
-  -- The node of the rules behind an event, and what its file keeps then. Behind a fault of the disk
+  -- The node of the rules after an event, and what its file keeps then. After a fault of the disk
   -- that is what the file may keep.
-  abbrev pub node_behind : ServiceBook → NodeId → Node Entry → NodeEvent S →
+  abbrev pub node_after : ServiceBook → NodeId → Node Entry → NodeEvent S →
       Result (NodeDone S) (NodeFaults S) → Node Entry
-  node_behind b x n event (Ok done) = (rule_of event b x n).node
-  node_behind b x n event (Err (Refused why)) = n
-  node_behind b x n event (Err DiskFault) = (rule_of event b x n).node
-  node_behind b x n event (Err (Stopped count)) = n
+  node_after b x n event (Ok done) = (rule_of event b x n).node
+  node_after b x n event (Err (Refused why)) = n
+  node_after b x n event (Err DiskFault) = (rule_of event b x n).node
+  node_after b x n event (Err (Stopped count)) = n
 
-  abbrev pub kept_behind : Durable → Node Entry → Result (NodeDone S) (NodeFaults S) → Durable
-  kept_behind d n (Ok done) = kept_after d n
-  kept_behind d n (Err (Refused why)) = d
-  kept_behind d n (Err DiskFault) = kept_after d n
-  kept_behind d n (Err (Stopped count)) = d
+  abbrev pub kept_upto : Durable → Node Entry → Result (NodeDone S) (NodeFaults S) → Durable
+  kept_upto d n (Ok done) = kept_after d n
+  kept_upto d n (Err (Refused why)) = d
+  kept_upto d n (Err DiskFault) = kept_after d n
+  kept_upto d n (Err (Stopped count)) = d
 
-  -- The same behind all events.
+  -- The same after all events.
   abbrev pub node_through : ServiceBook → NodeId → Node Entry → List (Lived S) → Node Entry
   node_through b x n [] = n
   node_through b x n (lived ∷ more) =
-      node_through b x (node_behind b x n lived.event lived.result) more
+      node_through b x (node_after b x n lived.event lived.result) more
 
   abbrev pub kept_through : ServiceBook → NodeId → Node Entry → Durable → List (Lived S) → Durable
   kept_through b x n d [] = d
   kept_through b x n d (lived ∷ more) =
-      let m = node_behind b x n lived.event lived.result in
-      kept_through b x m (kept_behind d m lived.result) more
+      let m = node_after b x n lived.event lived.result in
+      kept_through b x m (kept_upto d m lived.result) more
 
-  -- The file may keep this before one of the events, or behind the last.
+  -- The file may keep this before one of the events, or after the last.
   abbrev pub MayKeep : ServiceBook → NodeId → Node Entry → Durable → List (Lived S) → Durable →
       Type 0
   MayKeep b x n d [] state = state ≡ d
   MayKeep b x n d (lived ∷ more) state =
-      let m = node_behind b x n lived.event lived.result in
-      (state ≡ d) ⊎ MayKeep b x m (kept_behind d m lived.result) more state
+      let m = node_after b x n lived.event lived.result in
+      (state ≡ d) ⊎ MayKeep b x m (kept_upto d m lived.result) more state
 
 -- Over a store that stands for ledgers, and a disk that tells its bytes, its history and its
 -- faults.
 module _ {D S : Type 0} (stands : S → ServiceBook → Holding Entry → Type 0) (goes_on : GoesOn)
     (honest : Bool) (bytes : D → List ℕ) (past : D → List Step) (faults : D → ℕ) where
-  -- From the one node to the other these events happened, one behind the other.
+  -- From the one node to the other these events happened, one after the other.
   abbrev pub Lives : NodeSeen D S → List (Lived S) → NodeSeen D S → Type 0
   Lives first [] last = last ≡ first
   Lives first (lived ∷ more) last =
@@ -89,9 +89,9 @@ module _ {D S : Type 0} (stands : S → ServiceBook → Holding Entry → Type 0
   -- Whatever a serve does at its node, over an honest link or another, is such events.
   abbrev pub ServesByEvents : Type 0
   ServesByEvents =
-      (told : Bool) (settings : Serving) (first last : NodeSeen D S) (before after : List Exchange)
+      (reported : Bool) (settings : Serving) (first last : NodeSeen D S) (before after : List Exchange)
       (ahead left : List Arrival) (result : Result (ℕ × ℕ) ServeEnd) →
-      Serves told (serving_rules stands goes_on honest bytes past faults) settings
+      Serves reported (serving_rules stands goes_on honest bytes past faults) settings
       first before ahead last after left result →
       (life : List (Lived S)) × Lives first life last
 
@@ -108,10 +108,10 @@ module _ {D S : Type 0} (stands : S → ServiceBook → Holding Entry → Type 0
   abbrev pub SignsOnce : Type 0
   SignsOnce =
       (first last : NodeSeen D S) (life : List (Lived S)) → Lives first life last →
-      Tells stands first.core (IsLife first life last)
+      Reports stands first.core (IsLife first life last)
 
   -- Of a file that held this before, and nothing else at a stop: at every moment since then a stop
-  -- leaves what it keeps before one of the events or behind the last. In the end it keeps what the
+  -- leaves what it keeps before one of the events or after the last. In the end it keeps what the
   -- events made of it, unless the disk failed.
   pub record IsKeptThrough (first : NodeSeen D S) (life : List (Lived S)) (last : NodeSeen D S)
       (b : ServiceBook) (x : NodeId) (n : Node Entry) (d : Durable) : Type 0 where
@@ -126,5 +126,5 @@ module _ {D S : Type 0} (stands : S → ServiceBook → Holding Entry → Type 0
   abbrev pub KeepsThrough : Type 0
   KeepsThrough =
       IsTrue honest → (first last : NodeSeen D S) (life : List (Lived S)) → Lives first life last →
-      Tells stands first.core (λ b x n. (d : Durable) →
+      Reports stands first.core (λ b x n. (d : Durable) →
       durable goes_on (bytes first.disk) ≡ Ok d → IsKeptThrough first life last b x n d)

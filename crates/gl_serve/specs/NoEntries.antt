@@ -5,7 +5,7 @@ use Rattle.gl_entry.specs.Entry.{frame_size, is_evidence, is_signature, recorded
 use Rattle.gl_entry.specs.declared.entry.Entry.{Entry}
 use Rattle.gl_rules.specs.Identity.{NodeId}
 use Rattle.gl_ledger.specs.LedgerBook.{ServiceBook}
-use Rattle.gl_ledger.specs.declared.made.Unmade.TheVariants.{NoEntry, NoEvidenceYet}
+use Rattle.gl_ledger.specs.declared.response.Rejection.TheVariants.{NoEntry, NoEvidenceYet}
 use Rattle.gl_replication.specs.Holding.{Holding}
 
 abbrev pub empty_book : ServiceBook

@@ -1,10 +1,10 @@
--- What a payload spells that a node takes.
+-- What a payload encodes that a node takes.
 use Rattle.std.specs.Prelude.{ℕ, List, Option, None, Some, option_map}
 use Rattle.std.specs.Result.{result_ok}
-use Rattle.gl_requests.specs.Reading.{request_result}
+use Rattle.gl_requests.specs.Parsing.{request_result}
 use Rattle.gl_requests.specs.declared.request.GovernanceRequest.{GovernanceRequest}
 use Rattle.gl_requests.specs.declared.request.GovernanceRequest.TheVariants as requests
-use Rattle.gl_tx.specs.Reading.{request_of}
+use Rattle.gl_tx.specs.Parsing.{request_of}
 use Rattle.gl_messages.specs.Client.{client_of}
 use Rattle.gl_messages.specs.MessageReading.{message_of}
 use Rattle.gl_messages.specs.declared.client.Call.{Call}
@@ -51,6 +51,6 @@ abbrev pub payload_or : Option Message → Option Payload → Option Payload
 payload_or None other = other
 payload_or (Some message) other = Some (payloads.Peer message)
 
--- A payload is a message of a peer, or what a client asks. Any other spells nothing.
+-- A payload is a message of a peer, or what a client asks. Any other encodes nothing.
 abbrev pub payload_in : List ℕ → Option Payload
 payload_in bytes = payload_or (result_ok (message_of bytes)) (client_payload_in bytes)

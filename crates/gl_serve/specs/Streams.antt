@@ -10,7 +10,7 @@ stream conn (Bytes from bytes ∷ more) =
     (if from == conn then bytes else []) ++ stream conn more
 stream conn (Tick ∷ more) = stream conn more
 
--- The payloads of a stream that are whole with a piece, and were not before. Behind a length above
+-- The payloads of a stream that are whole with a piece, and were not before. After a length above
 -- the limit none ever is.
 unfoldable pub fresh : List ℕ → List ℕ → List (List ℕ)
 fresh before piece = drop (length (payloads before)) (payloads (before ++ piece))

@@ -20,13 +20,13 @@ pub data Work : Type 0 where
 abbrev pub tick_events : List (List ℕ) → List OwnEvent
 tick_events peers = map Replicate peers ++ Reserve ∷ Sign ∷ Advance ∷ []
 
--- What an arrival gives to do, behind what came before it.
+-- What an arrival gives to do, after what came before it.
 abbrev pub works : List (List ℕ) → List Arrival → Arrival → List Work
 works peers before (Bytes conn bytes) =
     Take (Bytes conn bytes) ∷ map (Handle conn) (fresh (stream conn before) bytes)
 works peers before Tick = Take Tick ∷ Beat ∷ map Lead (tick_events peers)
 
--- What arrivals give to do, behind what came before them.
+-- What arrivals give to do, after what came before them.
 abbrev pub script : List (List ℕ) → List Arrival → List Arrival → List Work
 script peers before [] = []
 script peers before (arrival ∷ more) =

@@ -1,13 +1,13 @@
 //! Whether a node heard of its service.
 
 ghost use Rattle.std.specs.Prelude.{◌≡◌};
-ghost use Rattle.gl_serve.specs.Hearing.{is_heard, tells_of_service};
+ghost use Rattle.gl_serve.specs.Hearing.{is_heard, reports_of_service};
 
 use gl_messages::{Body, Message};
 
 /// Whether an answer tells that a vote was granted, or that entries of the node's view came.
-fn tells_of_service(in_view: bool, sent: &Message) -> bool
-    ensures { result ≡ tells_of_service in_view sent.now }
+fn reports_of_service(in_view: bool, sent: &Message) -> bool
+    ensures { result ≡ reports_of_service in_view sent.now }
 {
     match &sent.body {
         Body::VoteReply { granted } => *granted,
@@ -23,5 +23,5 @@ pub(crate) fn is_heard(came: u32, view: u32, sent: &[Message]) -> bool
 {
     let in_view = came == view;
     sent.iter()
-        .any(|message| tells_of_service(in_view, message))
+        .any(|message| reports_of_service(in_view, message))
 }

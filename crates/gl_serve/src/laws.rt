@@ -6,7 +6,7 @@ use gl_answers::ClientBook;
 use gl_node::KeptBook;
 use gl_outside::Disk;
 
-/// Whatever a serve does at its node is events of the node, one behind the other.
+/// Whatever a serve does at its node is events of the node, one after the other.
 pub fn a_serve_is_events_of_its_node<D: Disk, B: KeptBook + ClientBook>()
     ensures { ServesByEvents B.stands B.goes_on D.honest D.bytes D.past D.faults }
 {}
@@ -17,7 +17,7 @@ pub fn no_leaf_signs_twice_in_a_serve<D: Disk, B: KeptBook + ClientBook>()
 {}
 
 /// At every moment of such events a stop leaves what the node's file keeps before one of them or
-/// behind the last.
+/// after the last.
 pub fn a_stop_leaves_what_an_event_kept<D: Disk, B: KeptBook + ClientBook>()
     ensures { KeepsThrough B.stands B.goes_on D.honest D.bytes D.past D.faults }
 {}

@@ -4,29 +4,29 @@
 //! Begin with `serve_replica`, which serves a node over its file; of any other node, with `serve`.
 #![tactic(auto)]
 
-mod answering;
-mod desk;
+mod answers;
 mod heard;
 mod laws;
 mod node;
 mod observer;
+mod outbox;
 mod over_link;
 mod payload;
 mod peer_message;
-mod sending;
+mod progress;
 mod served;
 mod service;
 mod serving_node;
+mod session;
 mod settings;
 mod streams;
-mod turns;
-mod working;
+mod work;
 
 pub use laws::{
     a_serve_is_events_of_its_node, a_stop_leaves_what_an_event_kept, no_leaf_signs_twice_in_a_serve,
 };
 pub use node::{Outcome, OwnEvent, ServedNode};
-pub use observer::{Observer, Standing};
+pub use observer::{NodeStatus, Observer};
 pub use over_link::serve_replica;
 pub use payload::{Ask, Payload};
 pub use peer_message::PeerMessage;

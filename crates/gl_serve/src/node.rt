@@ -44,13 +44,14 @@ pub enum Outcome {
 
 /// A node that can be served.
 pub trait ServedNode {
-    /// What a payload may spell.
+    /// What a payload may encode.
     type Payload: Drop;
 
     // How the node reads payloads, and what its events may come to.
     ghost rules: { Rules Self Self.Payload };
 
-    /// What a payload spells, `None` where it isn't in the grammar. Fails for want of memory alone.
+    /// What a payload encodes, `None` where it isn't in the grammar. Fails only where memory runs
+    /// out.
     fn read(&self, payload: &[u8]) -> Result<Option<Self::Payload>, AllocError>
         ensures { IfOk result (λ read. (rules).reads payload.now read) };
 

@@ -5,7 +5,7 @@ use std::fmt;
 
 /// Where a node stands.
 #[derive(Clone, Copy, Debug, PartialEq, Eq)]
-pub struct Standing {
+pub struct NodeStatus {
     pub role: Role,
     pub view: u32,
     /// The seqno up to which the node knows its ledger to be committed.
@@ -13,7 +13,7 @@ pub struct Standing {
 }
 
 /// As `leader view 2 commit 2`.
-impl fmt::Display for Standing {
+impl fmt::Display for NodeStatus {
     fn fmt<W: fmt::Write>(&self, f: &mut fmt::Formatter<W>) -> fmt::Result {
         let role = match self.role {
             Role::Follower => "follower",
@@ -27,5 +27,5 @@ impl fmt::Display for Standing {
 /// Is told, as each event of a node ends, where the node stands then. What it makes of it changes
 /// nothing of the node.
 pub trait Observer: Drop {
-    fn observe(&mut self, standing: Standing);
+    fn observe(&mut self, node_status: NodeStatus);
 }

@@ -6,7 +6,7 @@ ghost use Rattle.gl_outside.specs.Disk.{Leaves};
 ghost use Rattle.gl_outside.specs.Fault.{Rose};
 ghost use Rattle.gl_serve.specs.Serves.{AskedAtMost, Serves, calls_after};
 ghost use Rattle.gl_serve.specs.OverLink.{KeepsLeaves};
-ghost use Rattle.gl_serve.specs.Serving.{serving_rules};
+ghost use Rattle.gl_serve.specs.NodeWork.{serving_rules};
 ghost use Rattle.gl_serve.specs.Types.{NodeSeen};
 
 use crate::observer::Observer;
@@ -17,8 +17,8 @@ use gl_node::{KeptBook, Replica};
 use gl_outside::{Disk, Link};
 use std::alloc::Global;
 
-/// Serves over a link, as the node of a file, until the link gives its end. It tells how many
-/// payloads were in the grammar and how many frames were lost, and gives the disk back. Behind each
+/// Serves over a link, as the node of a file, until the link gives its end. It reports how many
+/// payloads were in the grammar and how many frames were lost, and gives the disk back. After each
 /// event the observer is told where the node stands.
 pub fn serve_replica<L: Link, D: Disk, B: KeptBook + ClientBook, O: Observer>(
     alloc: Global,

@@ -1,4 +1,4 @@
-//! What a payload spells.
+//! What a payload encodes.
 
 ghost use Rattle.std.specs.Prelude.{◌≡◌, IfOk};
 ghost use Rattle.gl_serve.specs.Payloads.{ask_of, client_payload_in, governance_ask, governance_ask_in, payload_in, submit_ask_in};
@@ -93,7 +93,7 @@ fn client_payload(alloc: Global, bytes: &[u8]) -> Result<Option<Payload>, AllocE
     }
 }
 
-/// What a payload spells that a node takes, if it spells that.
+/// What a payload encodes that a node takes, if it encodes that.
 pub fn payload_in(alloc: Global, bytes: &[u8]) -> Result<Option<Payload>, AllocError>
     ensures { IfOk result (λ payload. payload ≡ payload_in bytes.now) }
 {

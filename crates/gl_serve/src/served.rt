@@ -1,31 +1,33 @@
 //! What a node does with payloads and with events of its own.
 
 ghost use Rattle.std.specs.Prelude.{◌≡◌, ◌⊎◌, ℕ, [], ◌∷◌, All, IfOk, IsTrue, length, true};
-ghost use Rattle.gl_messages.specs.Answer.{said_fits};
+ghost use Rattle.gl_messages.specs.Answer.{answer_body_fits};
 ghost use Rattle.gl_messages.specs.Message.{body_fits};
-ghost use Rattle.gl_messages.specs.declared.answer.Said.TheVariants.{StatusIs};
+ghost use Rattle.gl_messages.specs.declared.answer.AnswerBody.TheVariants.{StatusIs};
 ghost use Rattle.gl_receipt.specs.Made.{receipt_of};
 ghost use Rattle.gl_answers.specs.Reasons.{numbers};
 ghost use Rattle.gl_answers.specs.Receipts.{receipts_of};
 ghost use Rattle.gl_replication.specs.Events.{has_few_entries};
 ghost use Rattle.gl_replication.specs.declared.event.Event.TheVariants as events;
-ghost use Rattle.gl_replication.specs.Stands.{Tells};
+ghost use Rattle.gl_replication.specs.Stands.{Reports};
 ghost use Rattle.gl_rules.specs.Log.{entry_at, is_signature_in};
 ghost use Rattle.gl_rules.specs.Safety.{reported_status};
 ghost use Rattle.gl_serve.specs.Rules.{Fits};
-ghost use Rattle.gl_serve.specs.Answering.{Answers, IsAccepted, IsAnswered, Says, message_outcome, nothing, reason_said, receipt_said};
+ghost use Rattle.gl_serve.specs.ClientAnswers.{Answers, IsAccepted, IsAnswered, Says, message_outcome, nothing, reason_answer_body, receipt_answer_body};
 ghost use Rattle.gl_serve.specs.Events.{Happens};
 ghost use Rattle.gl_serve.specs.Requests.{is_request};
-ghost use Rattle.gl_serve.specs.Serving.{Asks, Comes, Handles, Happen, HappenUnsigned, Owns, Questions, Tell};
+ghost use Rattle.gl_serve.specs.NodeWork.{Asks, Comes, Handles, Happen, HappenUnsigned, Owns, Questions, Report};
 
-use crate::answering::{accept, answer, json_said, make_reason, reason_said, refusal_said};
+use crate::answers::{
+    accept, answer, json_answer_body, make_reason, reason_answer_body, refusal_answer_body,
+};
 use crate::heard::is_heard;
 use crate::payload::{Ask, Payload};
 use crate::peer_message::PeerMessage;
 use crate::{Outcome, OwnEvent};
 use gl_answers::{ClientBook, Reason};
 use gl_base::{OrNoMemory, Sequence, TxId};
-use gl_messages::Said;
+use gl_messages::AnswerBody;
 use gl_node::{KeptBook, NodeFault, Replica};
 use gl_outside::Disk;
 use gl_receipt::write_receipt;
@@ -33,7 +35,7 @@ use gl_replication::{Core, Done, Event};
 use std::alloc::Global;
 
 /// An event happens.
-fn happen<D: Disk, B: KeptBook + ClientBook>(
+fn apply_event<D: Disk, B: KeptBook + ClientBook>(
     replica: &mut Replica<D, B>,
     event: Event<B>,
 ) -> Result<Done<B>, NodeFault<B>>
@@ -72,7 +74,7 @@ fn on_message<D: Disk, B: KeptBook + ClientBook>(
 {
     let alloc = replica.core().alloc;
     let view = message.view();
-    match happen(replica, Event::Message(message.into_message())) {
+    match apply_event(replica, Event::Message(message.into_message())) {
         Ok(done) => {
             let heard = is_heard(view, replica.core().peer.view, done.sent.as_slice());
             Outcome::Done {
@@ -100,41 +102,41 @@ fn on_request<D: Disk, B: KeptBook + ClientBook>(
     ensures answered { IsAnswered number result }
 {
     let alloc = replica.core().alloc;
-    match happen(replica, event) {
+    match apply_event(replica, event) {
         Ok(done) => accept(alloc, number, done),
-        Err(NodeFault::Refused(why)) => answer(alloc, number, refusal_said(alloc, &why)),
+        Err(NodeFault::Refused(why)) => answer(alloc, number, refusal_answer_body(alloc, &why)),
         Err(_) => Outcome::Stopped,
     }
 }
 
-/// The receipt of a transaction as it is told, or that memory ran out.
-fn receipt_said<B: KeptBook + ClientBook>(core: &Core<B>, id: TxId) -> Said
-    ensures due { Tells B.stands core.now (λ b x n.
-        Says (receipt_said (receipt_of (receipts_of n.log n.commit) id)) result) }
-    ensures fits { IsTrue (said_fits result) }
+/// The receipt of a transaction as it is reported, or that memory ran out.
+fn receipt_answer_body<B: KeptBook + ClientBook>(core: &Core<B>, id: TxId) -> AnswerBody
+    ensures due { Reports B.stands core.now (λ b x n.
+        Says (receipt_answer_body (receipt_of (receipts_of n.log n.commit) id)) result) }
+    ensures fits { IsTrue (answer_body_fits result) }
 {
     match core.book.receipt(core.commit, id) {
         Ok(receipt) => match write_receipt(core.alloc, &receipt) {
-            Ok(json) => json_said(core.alloc, json),
-            Err(_) => Said::Memory,
+            Ok(json) => json_answer_body(core.alloc, json),
+            Err(_) => AnswerBody::Memory,
         },
         Err(OrNoMemory::Fault(fault)) => match make_reason(core.alloc, fault) {
-            Ok(reason) => reason_said(core.alloc, &reason),
-            Err(_) => Said::Memory,
+            Ok(reason) => reason_answer_body(core.alloc, &reason),
+            Err(_) => AnswerBody::Memory,
         },
-        Err(OrNoMemory::NoMemory) => Said::Memory,
+        Err(OrNoMemory::NoMemory) => AnswerBody::Memory,
     }
 }
 
 /// That no snapshot is handed out, or that memory ran out.
-fn part_said<B: KeptBook + ClientBook>(core: &Core<B>) -> Said
-    ensures due { Tells B.stands core.now (λ b x n.
-        Says (reason_said (numbers 81 (n.commit ∷ []))) result) }
-    ensures fits { IsTrue (said_fits result) }
+fn part_answer_body<B: KeptBook + ClientBook>(core: &Core<B>) -> AnswerBody
+    ensures due { Reports B.stands core.now (λ b x n.
+        Says (reason_answer_body (numbers 81 (n.commit ∷ []))) result) }
+    ensures fits { IsTrue (answer_body_fits result) }
 {
     match Reason::numbers(core.alloc, 81, &[core.commit]) {
-        Ok(reason) => reason_said(core.alloc, &reason),
-        Err(_) => Said::Memory,
+        Ok(reason) => reason_answer_body(core.alloc, &reason),
+        Err(_) => AnswerBody::Memory,
     }
 }
 
@@ -163,9 +165,9 @@ fn status_of<D: Disk, B: KeptBook + ClientBook>(
     number: u64,
     id: TxId,
 ) -> Outcome
-    ensures told { Tell B.stands B.goes_on D.honest D.bytes D.past D.faults
+    ensures reported { Report B.stands B.goes_on D.honest D.bytes D.past D.faults
         replica.now.stopped replica.now number
-        (λ b n told. told ≡ StatusIs (reported_status b n id)) result }
+        (λ b n reported. reported ≡ StatusIs (reported_status b n id)) result }
     ensures fits { Fits result }
     ensures answered { IsAnswered number result }
 {
@@ -173,7 +175,7 @@ fn status_of<D: Disk, B: KeptBook + ClientBook>(
         return Outcome::Stopped;
     }
     let core = replica.core();
-    answer(core.alloc, number, Said::StatusIs(core.status(id)))
+    answer(core.alloc, number, AnswerBody::StatusIs(core.status(id)))
 }
 
 fn receipt<D: Disk, B: KeptBook + ClientBook>(
@@ -181,9 +183,9 @@ fn receipt<D: Disk, B: KeptBook + ClientBook>(
     number: u64,
     id: TxId,
 ) -> Outcome
-    ensures told { Tell B.stands B.goes_on D.honest D.bytes D.past D.faults
+    ensures reported { Report B.stands B.goes_on D.honest D.bytes D.past D.faults
         replica.now.stopped replica.now number
-        (λ b n. Says (receipt_said (receipt_of (receipts_of n.log n.commit) id))) result }
+        (λ b n. Says (receipt_answer_body (receipt_of (receipts_of n.log n.commit) id))) result }
     ensures fits { Fits result }
     ensures answered { IsAnswered number result }
 {
@@ -191,13 +193,13 @@ fn receipt<D: Disk, B: KeptBook + ClientBook>(
         return Outcome::Stopped;
     }
     let core = replica.core();
-    answer(core.alloc, number, receipt_said(core, id))
+    answer(core.alloc, number, receipt_answer_body(core, id))
 }
 
 fn part<D: Disk, B: KeptBook + ClientBook>(replica: &Replica<D, B>, number: u64) -> Outcome
-    ensures told { Tell B.stands B.goes_on D.honest D.bytes D.past D.faults
+    ensures reported { Report B.stands B.goes_on D.honest D.bytes D.past D.faults
         replica.now.stopped replica.now number
-        (λ b n. Says (reason_said (numbers 81 (n.commit ∷ [])))) result }
+        (λ b n. Says (reason_answer_body (numbers 81 (n.commit ∷ [])))) result }
     ensures fits { Fits result }
     ensures answered { IsAnswered number result }
 {
@@ -205,7 +207,7 @@ fn part<D: Disk, B: KeptBook + ClientBook>(replica: &Replica<D, B>, number: u64)
         return Outcome::Stopped;
     }
     let core = replica.core();
-    answer(core.alloc, number, part_said(core))
+    answer(core.alloc, number, part_answer_body(core))
 }
 
 /// A payload comes.
@@ -229,11 +231,11 @@ fn happen_alone<D: Disk, B: KeptBook + ClientBook>(
     event: Event<B>,
 ) -> Outcome
     requires few { has_few_entries event ≡ true }
-    ensures happen { Happen B.stands B.goes_on D.honest D.bytes D.past D.faults
+    ensures apply_event { Happen B.stands B.goes_on D.honest D.bytes D.past D.faults
         replica.old event result replica.new }
     ensures fits { Fits result }
 {
-    match happen(replica, event) {
+    match apply_event(replica, event) {
         Ok(done) => Outcome::Done {
             messages: done.sent,
             answer: None,
@@ -246,7 +248,7 @@ fn happen_alone<D: Disk, B: KeptBook + ClientBook>(
 
 /// Whether the last entry is a signature of the node's view.
 fn is_signed<B: KeptBook + ClientBook>(core: &Core<B>) -> bool
-    ensures { Tells B.stands core.now (λ b x n.
+    ensures { Reports B.stands core.now (λ b x n.
         result ≡ is_signature_in b n.view (entry_at n.log (length n.log))) }
 {
     core.book
@@ -259,7 +261,7 @@ fn happen_unsigned<D: Disk, B: KeptBook + ClientBook>(
     event: Event<B>,
 ) -> Outcome
     requires few { has_few_entries event ≡ true }
-    ensures happen { HappenUnsigned B.stands B.goes_on D.honest D.bytes D.past D.faults
+    ensures apply_event { HappenUnsigned B.stands B.goes_on D.honest D.bytes D.past D.faults
         replica.old event result replica.new }
     ensures fits { Fits result }
 {

@@ -3,21 +3,21 @@
 ghost use Rattle.std.specs.Prelude.{◌≡◌, ◌⊎◌, ◌≤◌, ◌||◌, ◌++◌, ℕ, [], Bool, Err, List, IsTrue, IfOk, OnOk, is_ok};
 ghost use Rattle.gl_outside.specs.Fault.{Rose};
 ghost use Rattle.gl_outside.specs.Link.{Arrival, Exchange};
-ghost use Rattle.gl_messages.specs.Frames.{too_long, front, payloads, rest};
+ghost use Rattle.gl_messages.specs.Frames.{too_long, prefix, payloads, rest};
 ghost use Rattle.gl_serve.specs.Streams.{stream};
 ghost use Rattle.gl_serve.specs.declared.settings.Serving.{Serving as Settings};
 ghost use Rattle.gl_serve.specs.Works.{handled, script};
 ghost use Rattle.gl_serve.specs.Serves.{Serves, AskedAtMost, StoppedBy, calls_after};
 
-use crate::desk::{Desk, Session, Turn};
 use crate::node::ServedNode;
+use crate::progress::turn;
+use crate::session::{Progress, Session, SessionState};
 use crate::settings::{ServeEnd, Serving};
 use crate::streams::Streams;
-use crate::turns::turn;
 use gl_outside::Link;
 use std::alloc::Global;
 
-/// Serves until the link gives its end, and tells how many payloads were in the grammar and how
+/// Serves until the link gives its end, and reports how many payloads were in the grammar and how
 /// many frames were lost. Payloads that are whole with what came last are handled before it ends.
 pub fn serve<L: Link, N: ServedNode>(
     alloc: Global,
@@ -51,7 +51,7 @@ pub fn serve<L: Link, N: ServedNode>(
     let mut streams = Streams::new(alloc);
     let mut session = Session {
         alloc,
-        desk: Desk {
+        session_state: SessionState {
             idle: 0,
             leading: false,
             served: 0,
@@ -61,9 +61,9 @@ pub fn serve<L: Link, N: ServedNode>(
     };
     for _ in 0..settings.turns {
         match turn(&mut streams, link, node, settings, &mut session)? {
-            Turn::Took => {}
-            Turn::Ended => return Ok((session.desk.served, session.lost)),
-            Turn::Failed => return Err(ServeEnd::LinkFailed),
+            Progress::Took => {}
+            Progress::Ended => return Ok((session.session_state.served, session.lost)),
+            Progress::Failed => return Err(ServeEnd::LinkFailed),
         }
     }
     Err(ServeEnd::Turns)
@@ -74,12 +74,12 @@ pub fn serve<L: Link, N: ServedNode>(
 pub fn law_of_whole_streams()
     ensures whole { (peers : List (List ℕ)) (came : List Arrival) (conn : ℕ) →
         handled conn (script peers [] came) ≡ payloads (stream conn came) }
-    // Behind a length above 2 MiB there are no more.
-    ensures deaf { (bytes more : List ℕ) (len : ℕ) → front (rest bytes) ≡ too_long len →
+    // After a length above 2 MiB there are no more.
+    ensures deaf { (bytes more : List ℕ) (len : ℕ) → prefix (rest bytes) ≡ too_long len →
         payloads (bytes ++ more) ≡ payloads bytes }
 {}
 
-/// A serve that ends since its node stopped does so behind an event that stopped the node.
+/// A serve that ends since its node stopped does so after an event that stopped the node.
 pub fn law_of_stops<N: ServedNode>()
     ensures { (honest : Bool) (settings : Settings) (first last : N) (before after : List Exchange)
         (ahead left : List Arrival) →

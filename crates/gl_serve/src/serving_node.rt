@@ -1,6 +1,6 @@
 //! A node as a serve knows it.
 
-use crate::observer::{Observer, Standing};
+use crate::observer::{NodeStatus, Observer};
 use crate::payload::{Payload, payload_in};
 use crate::served::{handle, own};
 use crate::{Outcome, OwnEvent, ServedNode};
@@ -36,16 +36,16 @@ impl<D: Disk, B: KeptBook + ClientBook, O: Observer> ServingNode<D, B, O> {
     }
 
     /// Tells who looks on where the node stands.
-    fn tell(&mut self)
+    fn report(&mut self)
         ensures { self.new ≡ self.old }
     {
         let core = self.replica.core();
-        let standing = Standing {
+        let node_status = NodeStatus {
             role: core.peer.role,
             view: core.peer.view,
             commit: core.commit,
         };
-        self.observer.observe(standing);
+        self.observer.observe(node_status);
     }
 
     /// The node.
@@ -64,7 +64,7 @@ impl<D: Disk, B: KeptBook + ClientBook, O: Observer> ServingNode<D, B, O> {
 }
 
 impl<D: Disk, B: KeptBook + ClientBook, O: Observer> ServedNode for ServingNode<D, B, O> {
-    ghost use Rattle.gl_serve.specs.Serving.{serving_rules};
+    ghost use Rattle.gl_serve.specs.NodeWork.{serving_rules};
 
     type Payload = Payload;
 
@@ -76,13 +76,13 @@ impl<D: Disk, B: KeptBook + ClientBook, O: Observer> ServedNode for ServingNode<
 
     fn handle(&mut self, payload: Payload) -> Outcome {
         let outcome = handle(&mut self.replica, payload);
-        self.tell();
+        self.report();
         outcome
     }
 
     fn own(&mut self, event: OwnEvent) -> Outcome {
         let outcome = own(&mut self.replica, event);
-        self.tell();
+        self.report();
         outcome
     }
 

@@ -3,14 +3,14 @@
 ghost use Rattle.std.specs.Prelude.{◌≡◌};
 ghost use Rattle.gl_serve.specs.Running.{end_of};
 
-use crate::desk::Halt;
+use crate::session::SessionError;
 use gl_entry::NodeId;
 use thiserror::Error;
 
 /// How a node serves.
 #[derive(Clone, Copy, Debug)]
 pub struct Serving<'a> {
-    /// The peers: the first has connection 0, the next 1, and so on. Those behind are clients'.
+    /// The peers: the first has connection 0, the next 1, and so on. Those after are clients'.
     pub peers: &'a [NodeId],
     /// So many ticks without word of a leader make a node stand for election: 1 at least.
     pub ticks: u32,
@@ -31,13 +31,13 @@ pub enum ServeEnd {
     Turns,
 }
 
-impl From<Halt> for ServeEnd {
-    ghost from_gives = { λ halt end. end ≡ end_of halt };
+impl From<SessionError> for ServeEnd {
+    ghost from_gives = { λ session_error end. end ≡ end_of session_error };
 
-    fn from(halt: Halt) -> ServeEnd {
-        match halt {
-            Halt::Stopped => ServeEnd::Stopped,
-            Halt::NoMemory => ServeEnd::NoMemory,
+    fn from(session_error: SessionError) -> ServeEnd {
+        match session_error {
+            SessionError::Stopped => ServeEnd::Stopped,
+            SessionError::NoMemory => ServeEnd::NoMemory,
         }
     }
 }

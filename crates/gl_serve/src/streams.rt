@@ -13,7 +13,7 @@ use std::collections::BTreeMap;
 /// What is kept of the stream of a connection.
 #[derive(Drop)]
 pub(crate) enum Stream {
-    /// The bytes that came, behind the frames that were taken.
+    /// The bytes that came, after the frames that were taken.
     Heard(Frames),
     /// Nothing any more: a length above 2 MiB came.
     Deaf,

@@ -1,4 +1,5 @@
--- The field's product is additive on both sides. So what is said of additive functions holds where it holds of the terms x^i.
+-- The field's product is additive on both sides. So what is said of additive functions holds where
+-- it holds of the terms x^i.
 use Rattle.std.proofs.Common.{◌≡◌, ℕ, zero, suc, ◌+◌, ◌-◌, ◌*◌, ◌<◌, ◌≤◌, ◌^◌, bit_xor, refl, sym, ◌∙◌, ap, ap₂, inl, inr, arith}
 use Rattle.std.proofs.lemmas.Bool.{cases_lt}
 use Rattle.std.proofs.Math.Nat.{pow-suc}

@@ -1,5 +1,5 @@
--- Lagrange's interpolation at 0, over any list of distinct points. Here each operation takes any numbers, by their low bytes, so that its
--- laws have no premises.
+-- Lagrange's interpolation at 0, over any list of distinct points. Here each operation takes any
+-- numbers, by their low bytes, so that its laws have no premises.
 use Rattle.std.proofs.Common.{◌≡◌, ◌≢◌, ℕ, suc, ◌%◌, ◌<◌, ◌≤◌, ◌^◌, List, [], ◌∷◌, length, bit_xor, refl, sym, ◌∙◌, ap, ap₂, arith}
 use Rattle.std.proofs.lemmas.Bool.{eq-eqb, ne_eqb}
 use Rattle.std.proofs.lemmas.Nat.{xor_mod, xor_comm, xor_lt}

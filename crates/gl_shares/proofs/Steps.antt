@@ -29,7 +29,7 @@ drop-range f a (suc k) n =
     ap (λ (m : ℕ). drop (suc k) (map f (range_with_len a m))) more ∙ drop-range f (a + 1) k n
     ∙ ap (λ (m : ℕ). map f (range_with_len m n)) on
 
--- of n times d numbers in a row, the d that stand behind i times d
+-- of n times d numbers in a row, the d that stand after i times d
 pub taken-range : (f : ℕ → ℕ) (d n i : ℕ) → i < n → take d (drop (i * d) (map f (range_with_len 0 (n * d)))) ≡ map f (range_with_len (i * d) d)
 taken-range f d n i h =
     let rest : ℕ = n - suc i in

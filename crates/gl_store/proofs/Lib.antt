@@ -1,6 +1,6 @@
 pub mod Recorded
 pub mod Applications
 pub mod Governing
-pub mod Keeping
+pub mod KeptEntries
 pub mod Unbroken
 pub mod OpeningLedgers

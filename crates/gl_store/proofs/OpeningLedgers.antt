@@ -1,4 +1,5 @@
--- Which ledgers open a service: those that end with an entry with which it begins, and the signature behind it.
+-- Which ledgers open a service: those that end with an entry with which it begins, and the
+-- signature after it.
 use Rattle.std.proofs.Common.{◌≡◌, ℕ, suc, ◌-◌, List, [], length, take, slice_get, Option, Some, None, Ok, Err, Bool, true, false, refl, ◌∙◌, ap, arith}
 use Rattle.std.proofs.lemmas.List.{length-take-le}
 use Rattle.gl_base.proofs.Lists.{slice_get-below, slice_get-of_take}

@@ -9,9 +9,9 @@ use Rattle.gl_entry.specs.declared.entry.Entry.{Entry}
 use Rattle.gl_tx.specs.declared.request.Operation.{Operation}
 use Rattle.gl_tx.specs.declared.request.Answer.{Answer}
 use Rattle.gl_requests.specs.declared.request.GovernanceRequest.{GovernanceRequest}
-use Rattle.gl_ledger.specs.declared.made.Given.TheVariants.{Replied}
-use Rattle.gl_ledger.specs.declared.made.Unmade.{Unmade}
-use Rattle.gl_ledger.specs.declared.made.Unmade.TheVariants.{ByStore}
+use Rattle.gl_ledger.specs.declared.response.Response.TheVariants.{Replied}
+use Rattle.gl_ledger.specs.declared.response.Rejection.{Rejection}
+use Rattle.gl_ledger.specs.declared.response.Rejection.TheVariants.{ByStore}
 use Rattle.gl_ledger.specs.Makers.{governance_made, request_result, govern_result}
 use Rattle.gl_ledger.specs.declared.refusal.Refusal.{Refusal}
 use Rattle.gl_ledger.specs.NodeKeys.{service_layers}
@@ -44,15 +44,15 @@ pub record Governs (old : Held) (view : ℕ) (g : GovernanceRequest) (id : TxId)
   pub made : govern_result old.ledger view g ≡ Ok (governance_made old.ledger g entry)
   pub enters : Enters old view entry id new
 
--- A refusal is the one that is owed; memory may run out at any time.
-abbrev pub Refuses : {X : Type 0} → Result X Unmade → OrNoMemory Refusal → Type 0
-Refuses owed NoMemory = Unit {0}
-Refuses owed (Fault why) = owed ≡ Err (ByStore why)
+-- A refusal is the expected one; memory may run out at any time.
+abbrev pub Refuses : {X : Type 0} → Result X Rejection → OrNoMemory Refusal → Type 0
+Refuses expected_output NoMemory = Unit {0}
+Refuses expected_output (Fault why) = expected_output ≡ Err (ByStore why)
 
 -- Entries are refused from the first on that breaks a rule, which has this seqno.
 abbrev pub StopsAt : ℕ → Option LedgerFault → OrNoMemory Broken → Type 0
-StopsAt seqno owed NoMemory = Unit {0}
-StopsAt seqno owed (Fault broken) = owed ≡ Some (record { seqno = seqno; broken = broken })
+StopsAt seqno expected_output NoMemory = Unit {0}
+StopsAt seqno expected_output (Fault broken) = expected_output ≡ Some (record { seqno = seqno; broken = broken })
 
 -- The store holds an opening ledger, which a node signed, all of it committed.
 pub record Opens (entries : List Entry) (held : Held) : Type 0 where

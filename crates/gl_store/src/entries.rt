@@ -8,9 +8,9 @@ ghost use Rattle.gl_tx.specs.declared.request.Answer.{Answer};
 ghost use Rattle.gl_entry.specs.Entry.{is_entry, body_bytes, body_limit, content_bytes, no_digest};
 ghost use Rattle.gl_entry.specs.declared.entry.Entry as made;
 ghost use Rattle.gl_requests.specs.Ranges as ranges;
-ghost use Rattle.gl_requests.specs.Spelling as requests_spelled;
+ghost use Rattle.gl_requests.specs.Encoding as requests_encoded;
 ghost use Rattle.gl_ledger.specs.Ledger.{within_limits};
-ghost use Rattle.gl_ledger.specs.declared.made.Unmade.TheVariants.{ByStore};
+ghost use Rattle.gl_ledger.specs.declared.response.Rejection.TheVariants.{ByStore};
 ghost use Rattle.gl_ledger.specs.Makers.{governed_within};
 
 use gl_base::{Bytes, LAST_SEQNO, MEBIBYTE};
@@ -38,7 +38,7 @@ pub(crate) fn governance_entry(
     ensures made { IfOk result (λ entry. entry ≡ record {
       view = view;
       seqno = seqno;
-      content = Content.Governance (requests_spelled.request_bytes request.now);
+      content = Content.Governance (requests_encoded.request_bytes request.now);
       writes = writes;
       claims = no_digest;
     }) }
@@ -98,7 +98,7 @@ pub(crate) fn application_entry(
 pub(crate) fn governance_limit_passed(body_len: u64, seqno: u64) -> Option<Refusal>
     ensures body { IfNone result (body_len ≤ body_limit) }
     ensures seqno { IfNone result (seqno ≤ last_seqno) }
-    ensures owed { IfSome result (λ refusal. (ledger : List made.Entry)
+    ensures expected_output { IfSome result (λ refusal. (ledger : List made.Entry)
         (g : GovernanceRequest) (e : made.Entry) →
         body_len ≡ length (body_bytes e) → seqno ≡ length ledger + 1 →
         governed_within ledger g e ≡ Err (ByStore refusal)) }
@@ -117,7 +117,7 @@ pub(crate) fn limit_passed(body_len: u64, reply: &[u8], seqno: u64) -> Option<Re
     ensures body { IfNone result (body_len ≤ body_limit) }
     ensures reply { IfNone result (length reply.now ≤ body_limit) }
     ensures seqno { IfNone result (seqno ≤ last_seqno) }
-    ensures owed { IfSome result (λ refusal.
+    ensures expected_output { IfSome result (λ refusal.
         (ledger : List made.Entry) (e : made.Entry) (answers : List Answer) →
         body_len ≡ length (body_bytes e) → reply.now ≡ reply_bytes answers → seqno
         ≡ length ledger + 1 →

@@ -24,7 +24,7 @@ mod recovery;
 mod requests;
 
 /// A ledger of one node, and up to which seqno it is committed. Seqnos count from 1. At every
-/// moment the ledger is valid: no entry of it breaks a rule of the audit behind those before it. So
+/// moment the ledger is valid: no entry of it breaks a rule of the audit after those before it. So
 /// it is one serial run of its requests, its governance tables are the effect of the governance
 /// requests that it records, and each signature is the valid one of a recorded node, over the root
 /// of the tree over all earlier entries. Commit is the seqno of a signature, or 0, and never falls.
@@ -82,7 +82,7 @@ impl Store {
         })
     }
 
-    /// Adds the entry of a genesis to a store of no entries. Fails for want of memory alone, and
+    /// Adds the entry of a genesis to a store of no entries. Fails only where memory runs out, and
     /// then leaves the store as it was.
     pub fn found(&mut self, genesis: Genesis) -> Result<(), AllocError>
         requires first { self.old.ledger ≡ [] }
@@ -98,9 +98,9 @@ impl Store {
     }
 
     /// The store of an opening ledger, all of it committed: one that ends with the entry that
-    /// founds the service, or founds it anew, and the signature that opens it. Refused where an
-    /// entry breaks a rule of the audit, with the seqno of the first that does, or else where the
-    /// last entry isn't that signature, with its seqno, 0 for no entries.
+    /// founds the service, or recovers it, and the signature that opens it. Refused where an entry
+    /// breaks a rule of the audit, with the seqno of the first that does, or else where the last
+    /// entry isn't that signature, with its seqno, 0 for no entries.
     pub fn opening(alloc: Global, entries: Vec<Entry>) -> Result<Self, OrNoMemory<NotOpening>>
         ensures opened { IfOk result (λ store. Opens entries.items store) }
         ensures refused { IfErr result (IsNotOpened entries.items) }
@@ -277,7 +277,7 @@ impl Store {
     }
 
     /// Makes room for so many more entries and for their leaves; what they write takes memory of
-    /// its own. Fails for want of memory alone.
+    /// its own. Fails only where memory runs out.
     pub fn reserve(&mut self, more: usize) -> Result<(), AllocError>
         ensures { self.new ≡ self.old }
     {
@@ -286,7 +286,7 @@ impl Store {
         Ok(())
     }
 
-    /// Adds an entry that breaks no rule. Want of memory leaves the store as it was.
+    /// Adds an entry that breaks no rule. Running out of memory leaves the store as it was.
     fn push(&mut self, entry: Entry) -> Result<(), AllocError>
         requires { broken service_layers self.old.ledger entry ≡ None }
         ensures grown { OnOk result (self.new ≡ record self.old {
@@ -301,7 +301,7 @@ impl Store {
     }
 
     /// Adds an entry that another node made. Refused for the first rule of the audit that it breaks
-    /// behind this ledger, if it breaks one. Want of memory, too, leaves the store as it was.
+    /// after this ledger, if it breaks one. Running out of memory, too, leaves the store as it was.
     pub fn apply_entry(&mut self, entry: Entry) -> Result<(), OrNoMemory<Broken>>
         ensures unbroken { OnOk result (broken service_layers self.old.ledger entry ≡ None) }
         ensures grown { OnOk result (self.new ≡ record self.old {
@@ -343,7 +343,7 @@ impl Store {
         self.state.cut(to, LedgerEnd::of(&self.entries, signed));
     }
 
-    /// A store of its own that holds the same. Fails for want of memory alone.
+    /// A store of its own that holds the same. Fails only where memory runs out.
     pub fn copy(&self) -> Result<Self, AllocError>
         ensures { IfOk result (λ store. store ≡ self.now) }
     {

@@ -20,7 +20,7 @@ module _ {E Q G R A F : Type 0} (book : Book E Q G R A F) (log : List E) where
   one_gone k n None low = refl
   one_gone k n (Some nodes) low = rw (le-ltb n k low) refl
 
-  -- all of them are at or below a seqno behind theirs, and none is above it
+  -- all of them are at or below a seqno after theirs, and none is above it
   pub all_upto : (k n : ℕ) → k ≤ n → upto n (configurations_upto book log k) ≡ configurations_upto book log k
   unfolding configurations_upto
   all_upto zero n low = refl

@@ -14,7 +14,7 @@ use Rattle.gl_ledger.specs.NodeKeys.{NodeKeys, service_layers}
 use Rattle.gl_ledger.specs.LedgerBook.{ServiceBook, by_rule, ledger_book}
 use Rattle.gl_ledger.specs.Broken.{broken}
 use Rattle.gl_ledger.specs.declared.breach.Broken.{Broken}
-use Rattle.gl_ledger.specs.declared.made.Unmade.{Unmade}
+use Rattle.gl_ledger.specs.declared.response.Rejection.{Rejection}
 use Rattle.gl_ledger.specs.declared.refusal.Refusal.TheVariants as refusals
 use Rattle.gl_ledger.specs.Makers.{by_store, unless_empty, signed_entry, signing_result}
 use Rattle.gl_store_book.specs.Taken.{RefusesFor}
@@ -33,12 +33,12 @@ module _ (keys : NodeKeys) where
   appended_none log = refl
 
   -- one that breaks a rule is refused for it
-  pub refused_next : (log : List Entry) (e : Entry) (es : List Entry) (r : OrNoMemory Unmade) → RefusesFor (broken service_layers log e) r → Fails r (checked_append book log (e ∷ es))
+  pub refused_next : (log : List Entry) (e : Entry) (es : List Entry) (r : OrNoMemory Rejection) → RefusesFor (broken service_layers log e) r → Fails r (checked_append book log (e ∷ es))
   unfolding checked_append
   refused_next log e es NoMemory h = tt
-  refused_next log e es (Fault why) h = ap (λ (o : Option Unmade). rules.unless_broken book o (checked_append book (log ++ e ∷ []) es)) h
+  refused_next log e es (Fault why) h = ap (λ (o : Option Rejection). rules.unless_broken book o (checked_append book (log ++ e ∷ []) es)) h
 
-  -- a signature behind an entry, where a seqno is left
+  -- a signature after an entry, where a seqno is left
   pub signing_made : (x : NodeId) (leaf : ℕ) (ledger : List Entry) (view commit : ℕ) → 0 < length ledger → length ledger < last_seqno →
       unless_empty ledger (signing_result keys x leaf ledger view commit) ≡ Ok (signed_entry keys x leaf ledger view commit)
   signing_made x leaf [] view commit some left = absurd (omega (arith, some))
@@ -51,8 +51,8 @@ few zero xs = omega arith
 few (suc n) [] = omega arith
 few (suc n) (x ∷ xs) = let low = few n xs in omega (arith, low)
 
-pub front_kept : (old now : List Entry) (e : Entry) → take (length old) now ≡ old → take (length old) (now ++ e ∷ []) ≡ old
-front_kept old now e front =
+pub prefix_kept : (old now : List Entry) (e : Entry) → take (length old) now ≡ old → take (length old) (now ++ e ∷ []) ≡ old
+prefix_kept old now e prefix =
     let low = few (length old) now in
-    let same : length (take (length old) now) ≡ length old = ap (λ (es : List Entry). length es) front in
-    take-push now e (length old) (omega (arith, low, same)) ∙ front
+    let same : length (take (length old) now) ≡ length old = ap (λ (es : List Entry). length es) prefix in
+    take-push now e (length old) (omega (arith, low, same)) ∙ prefix

@@ -17,25 +17,25 @@ each_at P [] i d all low = absurd (omega arith)
 each_at P (x ∷ xs) zero d all low = all.0
 each_at P (x ∷ xs) (suc i) d all low = each_at P xs i d all.1 (omega arith)
 
-pub behind : {A : Type 0} (xs : List A) (i : ℕ) (d : A) → i < length xs → drop i xs ≡ get_or xs i d ∷ drop (suc i) xs
-behind [] i d low = absurd (omega arith)
-behind (x ∷ xs) zero d low = refl
-behind (x ∷ xs) (suc i) d low = behind xs i d (omega arith)
+pub suffix : {A : Type 0} (xs : List A) (i : ℕ) (d : A) → i < length xs → drop i xs ≡ get_or xs i d ∷ drop (suc i) xs
+suffix [] i d low = absurd (omega arith)
+suffix (x ∷ xs) zero d low = refl
+suffix (x ∷ xs) (suc i) d low = suffix xs i d (omega arith)
 
 pub before : {A : Type 0} (xs : List A) (i : ℕ) (d : A) → i < length xs → take (suc i) xs ≡ take i xs ++ get_or xs i d ∷ []
 before [] i d low = absurd (omega arith)
 before (x ∷ xs) zero d low = refl
 before (x ∷ xs) (suc i) d low = ap (λ ys. x ∷ ys) (before xs i d (omega arith))
 
-pub none_behind : {A : Type 0} (xs : List A) (i : ℕ) → length xs ≤ i → drop i xs ≡ []
-none_behind [] zero low = refl
-none_behind [] (suc i) low = refl
-none_behind (x ∷ xs) zero low = absurd (omega arith)
-none_behind (x ∷ xs) (suc i) low = none_behind xs i (omega arith)
+pub none_after : {A : Type 0} (xs : List A) (i : ℕ) → length xs ≤ i → drop i xs ≡ []
+none_after [] zero low = refl
+none_after [] (suc i) low = refl
+none_after (x ∷ xs) zero low = absurd (omega arith)
+none_after (x ∷ xs) (suc i) low = none_after xs i (omega arith)
 
 -- ---- sizes
 
--- so an entry's size can be told
+-- so an entry's size can be reported
 fits_small : (e : Entry) → is_entry e ≡ true → (length (content_bytes e.content) < 2 ^ 32) × (length e.writes < 2 ^ 32)
 fits_small e fits =
     let small : nat_le (length (body_bytes e)) body_limit ≡ true = (and_parts _ (nat_le (length (body_bytes e)) body_limit) fits).1 in
@@ -51,7 +51,7 @@ writes_small es i d all low = (fits_small (get_or es i d) (each_at (λ (e : Entr
 -- ---- as many as fit
 
 module _ {E Q G R A F : Type 0} (book : Book E Q G R A F) (es : List E) (most room : ℕ) where
-  -- the first ones fit, and of those behind so many as still do
+  -- the first ones fit, and of those after so many as still do
   abbrev pub Fit : ℕ → ℕ → Type 0
   Fit count left = take count es ++ fitting_prefix book (most - count) left (drop count es) ≡ fitting_prefix book most room es
 
@@ -83,7 +83,7 @@ module _ {E Q G R A F : Type 0} (book : Book E Q G R A F) (es : List E) (most ro
 
   pub fit_all : (count left : ℕ) → length es ≤ count → Fit count left → take count es ≡ fitting_prefix book most room es
   fit_all count left past fit =
-      no_more count left (ap (fitting_prefix book (most - count) left) (none_behind es count past) ∙ none_there (most - count) left) fit
+      no_more count left (ap (fitting_prefix book (most - count) left) (none_after es count past) ∙ none_there (most - count) left) fit
 
   pub fit_most : (count left : ℕ) → count ≡ most → Fit count left → take count es ≡ fitting_prefix book most room es
   fit_most count left is fit =
@@ -95,7 +95,7 @@ module _ {E Q G R A F : Type 0} (book : Book E Q G R A F) (es : List E) (most ro
   fit_no_more count left d low there large fit =
       let more : most - count ≡ suc (most - suc count) = omega (arith, low) in
       no_more count left
-      (ap₂ (λ (n : ℕ) (fs : List E). fitting_prefix book n left fs) more (behind es count d there)
+      (ap₂ (λ (n : ℕ) (fs : List E). fitting_prefix book n left fs) more (suffix es count d there)
       ∙ next_too_large (most - suc count) left (get_or es count d) (drop (suc count) es) large)
       fit
 
@@ -108,7 +108,7 @@ module _ {E Q G R A F : Type 0} (book : Book E Q G R A F) (es : List E) (most ro
       ap (λ (fs : List E). fs ++ rest) (before es count d there)
       ∙ append_assoc (take count es) (f ∷ []) rest
       ∙ ap (λ (fs : List E). take count es ++ fs)
-      (sym (ap₂ (λ (n : ℕ) (fs : List E). fitting_prefix book n left fs) more (behind es count d there) ∙ next_fits (most - suc count) left f (drop (suc count) es) fits))
+      (sym (ap₂ (λ (n : ℕ) (fs : List E). fitting_prefix book n left fs) more (suffix es count d there) ∙ next_fits (most - suc count) left f (drop (suc count) es) fits))
       ∙ fit
 
 -- ---- the first of some entries

@@ -10,11 +10,11 @@ use Rattle.gl_entry.specs.declared.entry.Content.TheVariants as content
 use Rattle.gl_entry.specs.declared.entry.Entry.{Entry}
 use Rattle.gl_ledger.specs.NodeKeys.{NodeKeys, service_layers}
 use Rattle.gl_ledger.specs.LedgerBook.{ServiceBook, by_rule, ledger_book}
-use Rattle.gl_ledger.specs.Broken.{commit_behind, commit_from, last_commit, last_signed}
+use Rattle.gl_ledger.specs.Broken.{commit_after, commit_from, last_commit, last_signed}
 use Rattle.gl_ledger.specs.Audit.{audited}
 use Rattle.gl_ledger.proofs.Auditing.{audited_none}
 use Rattle.gl_ledger.proofs.Commits.{commits_kept}
-use Rattle.gl_audit.proofs.Keeping.{next_seqno}
+use Rattle.gl_audit.proofs.KeptLedgers.{next_seqno}
 
 abbrev book : NodeKeys → ServiceBook
 book keys = ledger_book service_layers keys
@@ -23,10 +23,10 @@ book keys = ledger_book service_layers keys
 last_within : (keys : NodeKeys) (commit : ℕ) (es : List Entry) → commit_from commit es ≤ max commit (greatest_recorded (book keys) es)
 unfolding greatest_recorded
 last_within keys commit [] = omega arith
-last_within keys commit (e ∷ es) = go e.content (last_within keys (commit_behind commit e.content) es)
+last_within keys commit (e ∷ es) = go e.content (last_within keys (commit_after commit e.content) es)
   where
-    go : (c : Content) → commit_from (commit_behind commit c) es ≤ max (commit_behind commit c) (greatest_recorded (book keys) es) →
-        commit_from (commit_behind commit c) es ≤ max commit (max (if is_signature c then recorded_commit c else 0) (greatest_recorded (book keys) es))
+    go : (c : Content) → commit_from (commit_after commit c) es ≤ max (commit_after commit c) (greatest_recorded (book keys) es) →
+        commit_from (commit_after commit c) es ≤ max commit (max (if is_signature c then recorded_commit c else 0) (greatest_recorded (book keys) es))
     go (content.Signature s) h = omega arith
     go (content.Governance b) h = omega arith
     go (content.Application b) h = omega arith
@@ -61,6 +61,6 @@ named [] valid = omega arith
 named (e ∷ es) valid =
     let last = slice_get-below (e ∷ es) (length es) (omega arith) in
     let unbroken = audited_none service_layers (e ∷ es) valid (length es) last.0 last.1 in
-    let front : length (take (length es) (e ∷ es)) ≡ length es = length-take-le (length es) (e ∷ es) (omega arith) in
+    let prefix : length (take (length es) (e ∷ es)) ≡ length es = length-take-le (length es) (e ∷ es) (omega arith) in
     let next = (next_seqno (take (length es) (e ∷ es)) last.0 unbroken).1 in
-    omega (arith, next, front)
+    omega (arith, next, prefix)

@@ -1,4 +1,4 @@
--- What is left of the lists where a ledger is cut, and that they stand in front of longer ones.
+-- What is left of the lists where a ledger is cut, and that they stand before longer ones.
 use Rattle.std.proofs.Common.{◌≡◌, ⊎_elim, ℕ, zero, suc, ◌≤◌, ◌<◌, nat_le, List, [], ◌∷◌, ◌++◌, length, take, take_all, refl, sym, ap, ap₂, subst, ◌∙◌, arith, Bool, true, false, cond}
 use Rattle.std.specs.List.{count_by, filter}
 use Rattle.std.proofs.lemmas.Bool.{cases_lt}
@@ -25,8 +25,8 @@ use Rattle.gl_audit.proofs.Cutting.{requests_of-take}
 use Rattle.gl_store_book.specs.Lists.{AreConfigurationsOf, AreListsOf}
 use Rattle.gl_store_book.specs.declared.node_lists.NodeLists.{NodeLists}
 use Rattle.gl_store_book.proofs.Actives.{all_upto}
-use Rattle.gl_store_book.proofs.Fronts.{front, counted_front}
-use Rattle.gl_store_book.proofs.RecordedFronts.{ids, ids_front}
+use Rattle.gl_store_book.proofs.ListPrefixes.{prefix, counted_prefix}
+use Rattle.gl_store_book.proofs.RecordedPrefixes.{ids, ids_prefix}
 
 -- ---- configurations
 
@@ -43,16 +43,16 @@ of_ledger : (keys : NodeKeys) (ledger : List Entry) (upto : ℕ) →
 of_ledger keys ledger upto = ⊎_elim
     (λ (inside : upto < length ledger).
     let low : upto ≤ length ledger = omega (arith, inside) in
-    counted_front (book keys) ledger upto low ∙ sym (configurations_of-cut (book keys) ledger upto low))
+    counted_prefix (book keys) ledger upto low ∙ sym (configurations_of-cut (book keys) ledger upto low))
     (λ (past : length ledger ≤ upto).
     let all = all_upto (book keys) ledger (length ledger) upto past in
-    front (λ (c : Configuration). nat_le c.seqno upto) (configurations_of (book keys) ledger) [] (sym all ∙ sym (append-nil _)) ∙ all
+    prefix (λ (c : Configuration). nat_le c.seqno upto) (configurations_of (book keys) ledger) [] (sym all ∙ sym (append-nil _)) ∙ all
     ∙ ap (configurations_of (book keys)) (sym (take_all upto ledger past)))
     (cases_lt upto (length ledger))
 
-pub configured_front : (ledger : List Entry) (cs : List Configuration) (upto : ℕ) → AreConfigurationsOf ledger cs →
+pub configured_prefix : (ledger : List Entry) (cs : List Configuration) (upto : ℕ) → AreConfigurationsOf ledger cs →
     AreConfigurationsOf (take upto ledger) (take (count_configurations upto cs) cs)
-configured_front ledger cs upto are keys =
+configured_prefix ledger cs upto are keys =
     ap (λ (us : List Configuration). take (count_configurations upto us) us) (are keys) ∙ of_ledger keys ledger upto
 
 -- ---- nodes
@@ -64,14 +64,14 @@ abbrev pub count_nodes : ℕ → List RecordedNode → ℕ
 count_nodes upto ns = count_by (λ (n : RecordedNode). nat_le n.seqno upto) ns
 
 -- those of the ledger cut to a seqno stand in front
-pub recorded_front : (ledger : List Entry) (upto : ℕ) → IsSound service_layers ledger →
+pub recorded_prefix : (ledger : List Entry) (upto : ℕ) → IsSound service_layers ledger →
     take (count_nodes upto (nodes_of ledger)) (recorded_nodes ledger) ≡ recorded_nodes (take upto ledger)
 unfolding recorded_nodes
-recorded_front ledger upto sound =
-    ids_front upto (requests_of ledger) (governed_rise (requests_of ledger) (governed service_layers ledger sound))
+recorded_prefix ledger upto sound =
+    ids_prefix upto (requests_of ledger) (governed_rise (requests_of ledger) (governed service_layers ledger sound))
     ∙ ap (λ (rs : List Recorded). ids (nodes.nodes (history rs))) (sym (requests_of-take ledger upto))
 
--- as many of a list as a front of it has
+-- as many of a list as a prefix of it has
 again : {A : Type 0} (n : ℕ) (xs : List A) → take n xs ≡ take (length (take n xs)) xs
 again zero xs = refl
 again (suc n) [] = refl
@@ -84,17 +84,17 @@ recorded_before ledger e sound =
     let all = recorded_nodes (ledger ++ e ∷ []) in
     let n = count_nodes (length ledger) (nodes_of (ledger ++ e ∷ [])) in
     let before : recorded_nodes ledger ≡ take n all =
-    ap recorded_nodes (sym (take-push ledger e (length ledger) (omega arith) ∙ take-all ledger)) ∙ sym (recorded_front (ledger ++ e ∷ []) (length ledger) sound) in
+    ap recorded_nodes (sym (take-push ledger e (length ledger) (omega arith) ∙ take-all ledger)) ∙ sym (recorded_prefix (ledger ++ e ∷ []) (length ledger) sound) in
     before ∙ again n all ∙ ap (λ (xs : List NodeId). take (length xs) all) (sym before)
 
 -- ---- both
 
-pub listed_front : (ledger : List Entry) (upto : ℕ) (old new : NodeLists) → IsSound service_layers ledger → AreListsOf ledger old →
+pub listed_prefix : (ledger : List Entry) (upto : ℕ) (old new : NodeLists) → IsSound service_layers ledger → AreListsOf ledger old →
     new.configurations.items ≡ take (count_configurations upto old.configurations.items) old.configurations.items →
     new.recorded.items ≡ take (count_nodes upto (nodes_of ledger)) old.recorded.items → AreListsOf (take upto ledger) new
-listed_front ledger upto old new sound are cs ns = record {
-  configured = λ keys. cs ∙ configured_front ledger old.configurations.items upto are.configured keys;
-  recorded = ns ∙ ap (take (count_nodes upto (nodes_of ledger))) are.recorded ∙ recorded_front ledger upto sound;
+listed_prefix ledger upto old new sound are cs ns = record {
+  configured = λ keys. cs ∙ configured_prefix ledger old.configurations.items upto are.configured keys;
+  recorded = ns ∙ ap (take (count_nodes upto (nodes_of ledger))) are.recorded ∙ recorded_prefix ledger upto sound;
 }
 
 -- ---- what is counted
@@ -125,8 +125,8 @@ pub recorded_is : (ledger : List Entry) (past : History) → past ≡ history (r
 unfolding recorded_nodes
 recorded_is ledger past is = ap (λ (h : History). ids (nodes.nodes h)) is
 
-pub pushed_front : (all ledger : List Entry) (e : Entry) (before now : List NodeId) → all ≡ ledger ++ e ∷ [] → IsSound service_layers all →
+pub pushed_prefix : (all ledger : List Entry) (e : Entry) (before now : List NodeId) → all ≡ ledger ++ e ∷ [] → IsSound service_layers all →
     before ≡ recorded_nodes ledger → now ≡ recorded_nodes all → before ≡ take (length before) now
-pushed_front all ledger e before now more sound old new =
+pushed_prefix all ledger e before now more sound old new =
     old ∙ recorded_before ledger e (subst (IsSound service_layers) more sound)
     ∙ ap₂ (λ (xs ys : List NodeId). take (length xs) ys) (sym old) (ap recorded_nodes (sym more) ∙ sym new)

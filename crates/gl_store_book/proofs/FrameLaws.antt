@@ -8,7 +8,7 @@ use Rattle.gl_base.specs.Answers.{Fails}
 use Rattle.gl_base.specs.declared.or_no_memory.OrNoMemory.{OrNoMemory}
 use Rattle.gl_base.specs.declared.or_no_memory.OrNoMemory.TheVariants.{NoMemory, Fault}
 use Rattle.gl_entry.specs.Entry.{frame_bytes, frame_size, is_entry}
-use Rattle.gl_entry.specs.Reading.{entry_at, first_entry}
+use Rattle.gl_entry.specs.Parsing.{entry_at, first_entry}
 use Rattle.gl_entry.specs.declared.entry.Entry.{Entry}
 use Rattle.gl_entry.specs.declared.fault.EntryFault.{EntryFault}
 use Rattle.gl_entry.proofs.EntryLaws.{entry_at-reads, length-frame_bytes}
@@ -46,7 +46,7 @@ unfolding entry_of_frame
 frame_unread frame NoMemory fault is fails = absurd (cc)
 frame_unread frame (Fault other) fault is fails = ap (whole_entry (length frame)) fails
 
--- bytes behind a frame that takes all of them are none
+-- bytes after a frame that takes all of them are none
 pub none_over : (frame : List ℕ) (e : Entry) (rest : List ℕ) → frame ≡ frame_bytes e ++ rest → frame_size e ≡ length frame → frame ≡ frame_bytes e
 none_over frame e [] is size = is ∙ append-nil (frame_bytes e)
 none_over frame e (b ∷ rest) is size = absurd (omega (arith, ap length is, length-frame_bytes e, length-append (frame_bytes e) (b ∷ rest)))
@@ -91,23 +91,23 @@ no_frame log frame none = go (ledger_of_frames log)
 pub frames_push : (ledger : List Entry) (e : Entry) (frame : List ℕ) → frame ≡ frame_bytes e → map frame_bytes (ledger ++ e ∷ []) ≡ map frame_bytes ledger ++ frame ∷ []
 frames_push ledger e frame is = map-append frame_bytes ledger (e ∷ []) ∙ ap (λ (f : List ℕ). map frame_bytes ledger ++ f ∷ []) (sym is)
 
--- what a frame spells, once one was read
-spelled_some : (read : Option Entry) (e : Entry) (frame : List ℕ) → read ≡ Some e → IfSome read (λ x. (is_entry x ≡ true) × (frame ≡ frame_bytes x)) → frame ≡ frame_bytes e
-spelled_some read e frame is spelled = let P : Option Entry → Type 0 = λ o. IfSome o (λ x. (is_entry x ≡ true) × (frame ≡ frame_bytes x)) in (subst P is spelled).1
+-- what a frame encodes, once one was read
+encoded_some : (read : Option Entry) (e : Entry) (frame : List ℕ) → read ≡ Some e → IfSome read (λ x. (is_entry x ≡ true) × (frame ≡ frame_bytes x)) → frame ≡ frame_bytes e
+encoded_some read e frame is encoded = let P : Option Entry → Type 0 = λ o. IfSome o (λ x. (is_entry x ≡ true) × (frame ≡ frame_bytes x)) in (subst P is encoded).1
 
--- The frame was read as an entry, and stands behind a ledger.
+-- The frame was read as an entry, and stands after a ledger.
 pub record IsPushed (log : List (List ℕ)) (ledger : List Entry) (frame : List ℕ) (read : Option Entry) (e : Entry) : Type 0 where
   pub same : log ≡ map frame_bytes ledger
   pub fits : AllFit ledger
   pub value : read ≡ entry_of_frame frame
-  pub spelled : IfSome read (λ x. (is_entry x ≡ true) × (frame ≡ frame_bytes x))
+  pub encoded : IfSome read (λ x. (is_entry x ≡ true) × (frame ≡ frame_bytes x))
   pub is : read ≡ Some e
 
 pub pushed : (log : List (List ℕ)) (ledger : List Entry) (frame : List ℕ) (read : Option Entry) (e : Entry) (new : List Entry) → IsPushed log ledger frame read e
     → broken service_layers ledger e ≡ None → new ≡ ledger ++ e ∷ [] → (goes_on_ledger log frame ≡ true) × (map frame_bytes new ≡ log ++ frame ∷ [])
 pushed log ledger frame read e new p none grown = (
   goes_on-ledger log ledger frame (Some e) p.same p.fits (sym p.value ∙ p.is) ∙ ap (λ (o : Option Broken). is_none o) none,
-  ap (map frame_bytes) grown ∙ frames_push ledger e frame (spelled_some read e frame p.is p.spelled) ∙ ap (λ (l : List (List ℕ)). l ++ frame ∷ []) (sym p.same),
+  ap (map frame_bytes) grown ∙ frames_push ledger e frame (encoded_some read e frame p.is p.encoded) ∙ ap (λ (l : List (List ℕ)). l ++ frame ∷ []) (sym p.same),
 )
 
 pub not_pushed : (log : List (List ℕ)) (ledger : List Entry) (frame : List ℕ) (read : Option Entry) (e : Entry) (b : Broken) → IsPushed log ledger frame read e

@@ -34,7 +34,7 @@ use Rattle.gl_audit.specs.Committed.{Held}
 use Rattle.gl_store_book.specs.declared.node_lists.NodeLists.{NodeLists}
 use Rattle.gl_store_book.proofs.AnyKeys.{any_keys}
 use Rattle.gl_store_book.proofs.TrustedSets.{trusted_distinct}
-use Rattle.gl_store_book.proofs.RecordedFronts.{ids}
+use Rattle.gl_store_book.proofs.RecordedPrefixes.{ids}
 
 -- ---- sets of nodes
 
@@ -57,15 +57,15 @@ changed before now other = go (same_nodes before now) refl
 abbrev book : NodeKeys → ServiceBook
 book keys = ledger_book service_layers keys
 
-front_is : (ledger : List Entry) (e : Entry) → take (length ledger) (ledger ++ e ∷ []) ≡ ledger
-front_is ledger e = take-push ledger e (length ledger) (omega arith) ∙ take-all ledger
+prefix_is : (ledger : List Entry) (e : Entry) → take (length ledger) (ledger ++ e ∷ []) ≡ ledger
+prefix_is ledger e = take-push ledger e (length ledger) (omega arith) ∙ take-all ledger
 
 pub configuration-push : (ledger : List Entry) (e : Entry) → configuration (ledger ++ e ∷ []) ≡ changed_set (trusted_nodes ledger) (trusted_nodes (ledger ++ e ∷ []))
 unfolding configuration
 configuration-push ledger e =
     let long : length (ledger ++ e ∷ []) - 1 ≡ length ledger = let l = length-append ledger (e ∷ []) in omega arith in
     ap (λ (before : List Entry). changed_set (trusted_nodes before) (trusted_nodes (ledger ++ e ∷ [])))
-    (ap (λ (n : ℕ). take n (ledger ++ e ∷ [])) long ∙ front_is ledger e)
+    (ap (λ (n : ℕ). take n (ledger ++ e ∷ [])) long ∙ prefix_is ledger e)
 
 -- at most one configuration comes with it
 pub configurations-push : (keys : NodeKeys) (ledger : List Entry) (e : Entry) →
@@ -81,7 +81,7 @@ configurations-push keys ledger e =
     ∙ ap₂ (λ (cs : List Configuration) (l : List Entry). cs ++ at_seqno (suc (length ledger)) (configuration l))
     (sym (upto-configurations (book keys) more (length more) (length ledger) low)
     ∙ sym (configurations_of-cut (book keys) more (length ledger) low)
-    ∙ ap (configurations_of (book keys)) (front_is ledger e))
+    ∙ ap (configurations_of (book keys)) (prefix_is ledger e))
     all
 
 -- where the trusted nodes stay the same none comes
@@ -95,10 +95,10 @@ configured_still ledger e cs same are keys =
     ∙ sym (configurations-push keys ledger e)
 
 -- where they change the set of those that are trusted now is one
-pub configured_anew : (ledger : List Entry) (e : Entry) (cs : List Configuration) → (trusted_nodes ledger ≡ trusted_nodes (ledger ++ e ∷ []) → ⊥) →
+pub configured_again : (ledger : List Entry) (e : Entry) (cs : List Configuration) → (trusted_nodes ledger ≡ trusted_nodes (ledger ++ e ∷ []) → ⊥) →
     AreConfigurationsOf ledger cs →
     AreConfigurationsOf (ledger ++ e ∷ []) (cs ++ record { seqno = length (ledger ++ e ∷ []); nodes = trusted_nodes (ledger ++ e ∷ []) } ∷ [])
-configured_anew ledger e cs other are keys =
+configured_again ledger e cs other are keys =
     let now = trusted_nodes (ledger ++ e ∷ []) in
     let long : length (ledger ++ e ∷ []) ≡ suc (length ledger) = let l = length-append ledger (e ∷ []) in omega arith in
     let one : configuration (ledger ++ e ∷ []) ≡ Some now = configuration-push ledger e ∙ changed (trusted_nodes ledger) now other in
@@ -174,10 +174,10 @@ listed_none lists none no_node = record {
   recorded = no_node ∙ sym none_recorded;
 }
 
--- an entry that records no request and is behind the last one
-pub listed_behind : (old new : Held) (lists : NodeLists) (e : Entry) → IsNoGovernance e.content → new ≡ record old { ledger = old.ledger ++ e ∷ [] } →
+-- an entry that records no request and is after the last one
+pub listed_after : (old new : Held) (lists : NodeLists) (e : Entry) → IsNoGovernance e.content → new ≡ record old { ledger = old.ledger ++ e ∷ [] } →
     IsListed old lists → IsListed new lists
-listed_behind old new lists e quiet is kept = subst (λ (h : Held). IsListed h lists) (sym is) (record {
+listed_after old new lists e quiet is kept = subst (λ (h : Held). IsListed h lists) (sym is) (record {
   listed = listed_quiet old.ledger e lists quiet kept.listed;
   uncommitted = kept.uncommitted;
 })
@@ -207,9 +207,9 @@ pushed_none all ledger e cs now is more same are =
 pub pushed_one : (all ledger : List Entry) (e : Entry) (cs : List Configuration) (now : List NodeId) (seqno : ℕ) → now ≡ trusted_nodes all → seqno ≡ length all → all ≡ ledger ++ e ∷ [] →
     (last_nodes cs ≡ now → ⊥) → AreConfigurationsOf ledger cs → AreConfigurationsOf all (cs ++ record { seqno = seqno; nodes = now } ∷ [])
 pushed_one all ledger e cs now seqno is at more other are =
-    let anew = configured_anew ledger e cs (λ same. other (trusted_last ledger cs are ∙ same ∙ sym (is ∙ ap trusted_nodes more))) are in
+    let again = configured_again ledger e cs (λ same. other (trusted_last ledger cs are ∙ same ∙ sym (is ∙ ap trusted_nodes more))) are in
     subst (λ (es : List Entry). AreConfigurationsOf es (cs ++ record { seqno = seqno; nodes = now } ∷ [])) (sym more)
-    (λ keys. ap₂ (λ (n : ℕ) (set : List NodeId). cs ++ record { seqno = n; nodes = set } ∷ []) (at ∙ ap (λ (es : List Entry). length es) more) (is ∙ ap trusted_nodes more) ∙ anew keys)
+    (λ keys. ap₂ (λ (n : ℕ) (set : List NodeId). cs ++ record { seqno = n; nodes = set } ∷ []) (at ∙ ap (λ (es : List Entry). length es) more) (is ∙ ap trusted_nodes more) ∙ again keys)
 
 -- they are distinct
 pub trusted_apart : (ledger : List Entry) → IsSound service_layers ledger → are_distinct (trusted_nodes ledger) ≡ true

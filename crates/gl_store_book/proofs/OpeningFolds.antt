@@ -19,25 +19,25 @@ use Rattle.gl_node.specs.Kept.{is_same_vote, with_vote}
 use Rattle.gl_store_book.specs.AtOpening.{opening_view, vote_at_opening, opened_state, vote_records, append_records, opening_records}
 use Rattle.gl_store_book.proofs.FrameLaws.{AllFit, goes_on-ledger, entry_of_frame-frame_bytes}
 
-front : (xs ys : List Entry) → take (length xs) (xs ++ ys) ≡ xs
-front [] ys = refl
-front (x ∷ xs) ys = ap (λ (l : List Entry). x ∷ l) (front xs ys)
+prefix : (xs ys : List Entry) → take (length xs) (xs ++ ys) ≡ xs
+prefix [] ys = refl
+prefix (x ∷ xs) ys = ap (λ (l : List Entry). x ∷ l) (prefix xs ys)
 
 there : (xs ys : List Entry) (y : Entry) → slice_get (xs ++ y ∷ ys) (length xs) ≡ Some y
 there [] ys y = refl
 there (x ∷ xs) ys y = there xs ys y
 
-fit_front : (xs ys : List Entry) → AllFit (xs ++ ys) → AllFit xs
-fit_front [] ys fit i e at = absurd (cc)
-fit_front (x ∷ xs) ys fit zero e at = fit zero e at
-fit_front (x ∷ xs) ys fit (suc i) e at = fit_front xs ys (λ j d is. fit (suc j) d is) i e at
+fit_prefix : (xs ys : List Entry) → AllFit (xs ++ ys) → AllFit xs
+fit_prefix [] ys fit i e at = absurd (cc)
+fit_prefix (x ∷ xs) ys fit zero e at = fit zero e at
+fit_prefix (x ∷ xs) ys fit (suc i) e at = fit_prefix xs ys (λ j d is. fit (suc j) d is) i e at
 
 -- the frame of a valid ledger's entry goes on those before it
 pub goes_on_here : (before es : List Entry) (e : Entry) → audited service_layers (before ++ e ∷ es) ≡ None → AllFit (before ++ e ∷ es) → goes_on_ledger (map frame_bytes before) (frame_bytes e) ≡ true
 goes_on_here before es e valid fit =
     let at = there before es e in
-    let none : broken service_layers before e ≡ None = ap (λ (l : List Entry). broken service_layers l e) (sym (front before (e ∷ es))) ∙ audited_none service_layers (before ++ e ∷ es) valid (length before) e at in
-    goes_on-ledger (map frame_bytes before) before (frame_bytes e) (Some e) refl (fit_front before (e ∷ es) fit) (entry_of_frame-frame_bytes e (fit (length before) e at))
+    let none : broken service_layers before e ≡ None = ap (λ (l : List Entry). broken service_layers l e) (sym (prefix before (e ∷ es))) ∙ audited_none service_layers (before ++ e ∷ es) valid (length before) e at in
+    goes_on-ledger (map frame_bytes before) before (frame_bytes e) (Some e) refl (fit_prefix before (e ∷ es) fit) (entry_of_frame-frame_bytes e (fit (length before) e at))
     ∙ ap (λ o. is_none o) none
 
 -- each entry more

@@ -13,7 +13,7 @@ use Rattle.gl_journal.specs.RecordView.{record_value, record_values}
 use Rattle.gl_journal.specs.declared.record.Record.{Record}
 use Rattle.gl_journal.proofs.Openings.{length-body}
 use Rattle.gl_store_book.specs.AtOpening.{append_records}
-use Rattle.gl_store_book.proofs.Batches.{behind, before, each_at}
+use Rattle.gl_store_book.proofs.Batches.{suffix, before, each_at}
 
 -- ---- records
 
@@ -48,29 +48,29 @@ appends_grow es i e len fit low is so_far small =
     ∙ length-append (records_bytes (append_records (take i es))) (records_bytes (Append (frame_bytes e) ∷ [])) in
     (omega (arith, grown, append_len e, so_far), omega (arith, small, body_within e fits))
 
--- What stands in front of the bytes that are left, and behind that.
-pub record IsInFront (es : List Entry) (i : ℕ) (e : Entry) (rest : List ℕ) (len : ℕ) : Type 0 where
+-- What stands before the bytes that are left, and after that.
+pub record IsInPrefix (es : List Entry) (i : ℕ) (e : Entry) (rest : List ℕ) (len : ℕ) : Type 0 where
   pub within : len ≤ length rest
-  pub front : take len rest ≡ frame_bytes e
-  pub behind : drop len rest ≡ flat_map frame_bytes (drop (i + 1) es)
+  pub prefix : take len rest ≡ frame_bytes e
+  pub suffix : drop len rest ≡ flat_map frame_bytes (drop (i + 1) es)
 
-front_of : (xs ys : List ℕ) → take (length xs) (xs ++ ys) ≡ xs
-front_of [] ys = refl
-front_of (x ∷ xs) ys = ap (λ (l : List ℕ). x ∷ l) (front_of xs ys)
+prefix_of : (xs ys : List ℕ) → take (length xs) (xs ++ ys) ≡ xs
+prefix_of [] ys = refl
+prefix_of (x ∷ xs) ys = ap (λ (l : List ℕ). x ∷ l) (prefix_of xs ys)
 
-pub in_front : (es : List Entry) (i : ℕ) (e : Entry) (rest : List ℕ) (len : ℕ) → i < length es → e ≡ get_or es i e → rest ≡ flat_map frame_bytes (drop i es) → len ≡ frame_size e → IsInFront es i e rest len
-in_front es i e rest len low is left size =
+pub in_prefix : (es : List Entry) (i : ℕ) (e : Entry) (rest : List ℕ) (len : ℕ) → i < length es → e ≡ get_or es i e → rest ≡ flat_map frame_bytes (drop i es) → len ≡ frame_size e → IsInPrefix es i e rest len
+in_prefix es i e rest len low is left size =
     let others = flat_map frame_bytes (drop (suc i) es) in
     let long : len ≡ length (frame_bytes e) = size ∙ sym (length-frame_bytes e) in
-    let whole : rest ≡ frame_bytes e ++ others = left ∙ ap (flat_map frame_bytes) (behind es i e low) ∙ ap (λ (x : Entry). frame_bytes x ++ others) (sym is) in
+    let whole : rest ≡ frame_bytes e ++ others = left ∙ ap (flat_map frame_bytes) (suffix es i e low) ∙ ap (λ (x : Entry). frame_bytes x ++ others) (sym is) in
     let next : suc i ≡ i + 1 = omega arith in
     record {
       within = omega (arith, long, ap length whole, length-append (frame_bytes e) others);
-      front = ap (λ (n : ℕ). take n rest) long ∙ ap (take (length (frame_bytes e))) whole ∙ front_of (frame_bytes e) others;
-      behind = ap (λ (n : ℕ). drop n rest) long ∙ ap (drop (length (frame_bytes e))) whole ∙ drop-append_seam (frame_bytes e) others ∙ ap (λ (n : ℕ). flat_map frame_bytes (drop n es)) next;
+      prefix = ap (λ (n : ℕ). take n rest) long ∙ ap (take (length (frame_bytes e))) whole ∙ prefix_of (frame_bytes e) others;
+      suffix = ap (λ (n : ℕ). drop n rest) long ∙ ap (drop (length (frame_bytes e))) whole ∙ drop-append_seam (frame_bytes e) others ∙ ap (λ (n : ℕ). flat_map frame_bytes (drop n es)) next;
     }
 
--- and its record behind those before
+-- and its record after those before
 pub put_next : (xs : List Record) (one : Record) (new : List Record) (first : List RecordValue) (es : List Entry) (i : ℕ) (e : Entry) (frame : List ℕ)
     → i < length es → e ≡ get_or es i e → new ≡ xs ++ one ∷ [] → record_value one ≡ Append frame → frame ≡ frame_bytes e
     → record_values xs ≡ first ++ append_records (take i es) → record_values new ≡ first ++ append_records (take (i + 1) es)

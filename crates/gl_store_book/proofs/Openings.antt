@@ -8,9 +8,9 @@ use Rattle.gl_ledger.specs.Broken.{broken}
 use Rattle.gl_ledger.specs.Ledger.{genesis_entry}
 use Rattle.gl_ledger.specs.Makers.{opening_of, signed_entry}
 use Rattle.gl_ledger.specs.NodeKeys.{NodeKeys, service_layers}
-use Rattle.gl_ledger.specs.Opening.{Founds}
+use Rattle.gl_ledger.specs.OpeningLedger.{Founds}
 use Rattle.gl_ledger.proofs.Governed.{no_rule_broken}
-use Rattle.gl_ledger.proofs.Opening.{follow}
+use Rattle.gl_ledger.proofs.OpeningLaws.{follow}
 use Rattle.gl_store_book.specs.Stands.{HasKey, NodeStore}
 
 -- the node's signature follows the genesis
@@ -29,8 +29,8 @@ opened_entry keys old ledger g e held founded made =
 pub never_broken : (keys : NodeKeys) (ledger : List Entry) (g : request.Genesis) (x : NodeId) (e : Entry) (b : Broken) → Founds service_layers keys g x → ledger ≡ genesis_entry g ∷ [] →
     e ≡ signed_entry keys x 0 (genesis_entry g ∷ []) 2 2 → broken service_layers ledger e ≡ Some b → ⊥
 never_broken keys ledger g x e b h founded is wrong =
-    let owed : broken service_layers ledger e ≡ None = ap₂ (broken service_layers) founded is ∙ opening_follows keys g x h in
-    let none : Some b ≡ None = sym wrong ∙ owed in
+    let expected_output : broken service_layers ledger e ≡ None = ap₂ (broken service_layers) founded is ∙ opening_follows keys g x h in
+    let none : Some b ≡ None = sym wrong ∙ expected_output in
     cc
 
 -- so the ledger is the opening one

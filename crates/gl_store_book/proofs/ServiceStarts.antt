@@ -11,11 +11,11 @@ use Rattle.gl_base.specs.declared.or_no_memory.OrNoMemory.TheVariants.{NoMemory,
 use Rattle.gl_rules.specs.Identity.{NodeId}
 use Rattle.gl_rules.specs.World.{Start}
 use Rattle.gl_entry.specs.Entry.{frame_bytes, frame_size, is_entry}
-use Rattle.gl_entry.specs.Reading.{first_entry}
+use Rattle.gl_entry.specs.Parsing.{first_entry}
 use Rattle.gl_entry.specs.declared.entry.Entry.{Entry}
 use Rattle.gl_entry.specs.declared.fault.EntryFault.{EntryFault}
 use Rattle.gl_entry.proofs.EntryLaws.{length-frame_bytes}
-use Rattle.gl_entry.proofs.Taking.{next_failed}
+use Rattle.gl_entry.proofs.NextEntries.{next_failed}
 use Rattle.gl_ledger.specs.Audit.{LedgerFault, IsFaultOf, audited, signer_of, opened_where, opened_unless, opened}
 use Rattle.gl_ledger.specs.Broken.{broken, is_unopened}
 use Rattle.gl_ledger.specs.NodeKeys.{service_layers}
@@ -27,13 +27,13 @@ use Rattle.gl_entry.proofs.FileLaws.{file_end, file_unread, file_frames}
 use Rattle.gl_audit.specs.Kept.{Breaks}
 use Rattle.gl_ledger.proofs.Valid.{valid_sound}
 use Rattle.gl_store_book.proofs.FrameLaws.{AllFit}
-use Rattle.gl_store_book.specs.ServiceStart.{TakesFrame, service_start, start_by, fault_or_next, start_unless, start_of_file, start_in, start_behind}
+use Rattle.gl_store_book.specs.ServiceStart.{TakesFrame, service_start, start_by, fault_or_next, start_unless, start_of_file, start_in, start_after}
 
 -- ---- lists
 
-front : (xs ys : List Entry) → take (length xs) (xs ++ ys) ≡ xs
-front [] ys = refl
-front (x ∷ xs) ys = ap (λ (l : List Entry). x ∷ l) (front xs ys)
+prefix : (xs ys : List Entry) → take (length xs) (xs ++ ys) ≡ xs
+prefix [] ys = refl
+prefix (x ∷ xs) ys = ap (λ (l : List Entry). x ∷ l) (prefix xs ys)
 
 there : (xs ys : List Entry) (y : Entry) → slice_get (xs ++ y ∷ ys) (length xs) ≡ Some y
 there [] ys y = refl
@@ -43,15 +43,15 @@ there (x ∷ xs) ys y = there xs ys y
 pub before_last : (ledger new : List Entry) (e : Entry) → new ≡ ledger ++ e ∷ [] → take (length new - 1) new ≡ ledger
 before_last ledger new e is =
     let long : length new - 1 ≡ length ledger = omega (arith, ap length is, length-append ledger (e ∷ [])) in
-    ap (λ (n : ℕ). take n new) long ∙ ap (take (length ledger)) is ∙ front ledger (e ∷ [])
+    ap (λ (n : ℕ). take n new) long ∙ ap (take (length ledger)) is ∙ prefix ledger (e ∷ [])
 
 -- ---- the first entry that breaks a rule
 
-within_front : (xs ys : List Entry) (i : ℕ) → i < length xs → (slice_get (xs ++ ys) i ≡ slice_get xs i) × (take i (xs ++ ys) ≡ take i xs)
-within_front [] ys i low = absurd (omega (arith, low))
-within_front (x ∷ xs) ys zero low = (refl, refl)
-within_front (x ∷ xs) ys (suc i) low =
-    let w = within_front xs ys i (omega (arith, low)) in
+within_prefix : (xs ys : List Entry) (i : ℕ) → i < length xs → (slice_get (xs ++ ys) i ≡ slice_get xs i) × (take i (xs ++ ys) ≡ take i xs)
+within_prefix [] ys i low = absurd (omega (arith, low))
+within_prefix (x ∷ xs) ys zero low = (refl, refl)
+within_prefix (x ∷ xs) ys (suc i) low =
+    let w = within_prefix xs ys i (omega (arith, low)) in
     (w.0, ap (λ (l : List Entry). x ∷ l) w.1)
 
 first_fault : (taken es : List Entry) (e : Entry) (b : Broken) → audited service_layers taken ≡ None → broken service_layers taken e ≡ Some b
@@ -59,12 +59,12 @@ first_fault : (taken es : List Entry) (e : Entry) (b : Broken) → audited servi
 first_fault taken es e b valid breaks = go (audited service_layers (taken ++ e ∷ es)) refl
   where
     here : broken service_layers (take (length taken) (taken ++ e ∷ es)) e ≡ Some b
-    here = ap (λ (l : List Entry). broken service_layers l e) (front taken (e ∷ es)) ∙ breaks
+    here = ap (λ (l : List Entry). broken service_layers l e) (prefix taken (e ∷ es)) ∙ breaks
 
     low : (fault : LedgerFault) (f : IsFaultOf service_layers (taken ++ e ∷ es) fault) → length taken ≤ f.before
     low fault f = ⊎_elim
         (λ (u : f.before < length taken).
-        let w = within_front taken (e ∷ es) f.before u in
+        let w = within_prefix taken (e ∷ es) f.before u in
         let none = audited_none service_layers taken valid f.before f.entry (sym w.0 ∙ f.at) in
         let some : broken service_layers (take f.before taken) f.entry ≡ Some fault.broken = ap (λ (l : List Entry). broken service_layers l f.entry) (sym w.1) ∙ f.breaks in
         absurd (let k = sym none ∙ some in cc))
@@ -92,25 +92,25 @@ not_by (Some unread) ledger fault is = ap (λ (o : Option LedgerFault). Err (fau
 
 -- ---- the bytes
 
-pub starts_whole : (bytes : List ℕ) → start_in bytes ≡ start_behind [] bytes
-unfolding start_in start_behind
+pub starts_whole : (bytes : List ℕ) → start_in bytes ≡ start_after [] bytes
+unfolding start_in start_after
 starts_whole bytes = refl
 
 file_frame : (e : Entry) (rest : List ℕ) → is_entry e ≡ true → ledger_file (frame_bytes e ++ rest) ≡ with_entry e (ledger_file rest)
 file_frame e rest is =
     ap (λ (xs : List ℕ). ledger_file (xs ++ rest)) (sym (append-nil (frame_bytes e))) ∙ file_frames (e ∷ []) rest (and_from (is_entry e) true is refl)
 
--- an entry whose frame stands in front
-pub start_step : (taken : List Entry) (e : Entry) (bytes rest : List ℕ) → is_entry e ≡ true → bytes ≡ frame_bytes e ++ rest → start_behind taken bytes ≡ start_behind (taken ++ e ∷ []) rest
-unfolding start_behind
+-- an entry whose frame stands first
+pub start_step : (taken : List Entry) (e : Entry) (bytes rest : List ℕ) → is_entry e ≡ true → bytes ≡ frame_bytes e ++ rest → start_after taken bytes ≡ start_after (taken ++ e ∷ []) rest
+unfolding start_after
 start_step taken e bytes rest fits is =
     ap (λ (f : LedgerFile). start_of_file (with_entries taken f)) (ap ledger_file is ∙ file_frame e rest fits)
     ∙ ap (λ (l : List Entry). start_unless (ledger_file rest).fault l) (sym (append_assoc taken (e ∷ []) (ledger_file rest).entries))
 
 -- bytes that are no frame
 pub start_unread : (taken : List Entry) (bytes : List ℕ) (fault : EntryFault) → audited service_layers taken ≡ None → 0 < length bytes → first_entry bytes ≡ Err fault
-    → start_behind taken bytes ≡ Err (length taken + 1)
-unfolding start_behind
+    → start_after taken bytes ≡ Err (length taken + 1)
+unfolding start_after
 start_unread taken bytes fault valid some is =
     ap (λ (f : LedgerFile). start_of_file (with_entries taken f)) (file_unread bytes fault (next_failed bytes fault (omega arith) is))
     ∙ ap (λ (l : List Entry). start_unless (Some fault) l) (append-nil taken)
@@ -118,8 +118,8 @@ start_unread taken bytes fault valid some is =
 
 -- an entry that breaks a rule
 pub start_broken : (taken : List Entry) (e : Entry) (b : Broken) (bytes rest : List ℕ) → audited service_layers taken ≡ None → is_entry e ≡ true → bytes ≡ frame_bytes e ++ rest
-    → broken service_layers taken e ≡ Some b → start_behind taken bytes ≡ Err (length taken + 1)
-unfolding start_behind
+    → broken service_layers taken e ≡ Some b → start_after taken bytes ≡ Err (length taken + 1)
+unfolding start_after
 start_broken taken e b bytes rest valid fits is breaks =
     let first = first_fault taken (ledger_file rest).entries e b valid breaks in
     ap (λ (f : LedgerFile). start_of_file (with_entries taken f)) (ap ledger_file is ∙ file_frame e rest fits)
@@ -127,8 +127,8 @@ start_broken taken e b bytes rest valid fits is breaks =
 
 -- no bytes are left
 pub start_end : (ledger : List Entry) → audited service_layers ledger ≡ None
-    → start_behind ledger [] ≡ start_by ledger (opened_where (is_unopened (last_entry (take (length ledger - 1) ledger))) (signer_of (last_entry ledger)) (length ledger))
-unfolding start_behind opened
+    → start_after ledger [] ≡ start_by ledger (opened_where (is_unopened (last_entry (take (length ledger - 1) ledger))) (signer_of (last_entry ledger)) (length ledger))
+unfolding start_after opened
 start_end ledger valid =
     ap (λ (f : LedgerFile). start_of_file (with_entries ledger f)) file_end
     ∙ ap (λ (l : List Entry). start_unless None l) (append-nil ledger)
@@ -145,13 +145,13 @@ frames_grow taken new e bytes rest more whole is grown =
 -- ---- what was read
 
 pub unread_so : (taken : List Entry) (bytes : List ℕ) (e : OrNoMemory EntryFault) (fault : EntryFault) → audited service_layers taken ≡ None → 0 < length bytes → e ≡ Fault fault
-    → Fails e (first_entry bytes) → start_behind taken bytes ≡ Err (length taken + 1)
+    → Fails e (first_entry bytes) → start_after taken bytes ≡ Err (length taken + 1)
 unread_so taken bytes NoMemory fault valid some is fails = absurd (cc)
 unread_so taken bytes (Fault other) fault valid some is fails = start_unread taken bytes other valid some fails
 
 pub broken_so : (taken : List Entry) (read : Entry) (n : ℕ) (bytes : List ℕ) (e : OrNoMemory Broken) (b : Broken) → audited service_layers taken ≡ None
     → (is_entry read ≡ true) × (n ≡ frame_size read) × (rest : List ℕ) × (bytes ≡ frame_bytes read ++ rest) → e ≡ Fault b → Breaks (broken service_layers taken read) e
-    → start_behind taken bytes ≡ Err (length taken + 1)
+    → start_after taken bytes ≡ Err (length taken + 1)
 broken_so taken read n bytes NoMemory b valid found is breaks = absurd (cc)
 broken_so taken read n bytes (Fault other) b valid found is breaks = start_broken taken read other bytes found.2 valid found.0 found.3 breaks
 
@@ -159,19 +159,19 @@ pub taken_so : (old new : List Entry) (read : Entry) (n : ℕ) (bytes : List ℕ
     → new ≡ old ++ read ∷ [] → TakesFrame old bytes n new
 taken_so old new read n bytes found grown =
     let size : n ≡ length (frame_bytes read) = found.1 ∙ sym (length-frame_bytes read) in
-    let behind : drop n bytes ≡ found.2 = ap (λ (k : ℕ). drop k bytes) size ∙ ap (drop (length (frame_bytes read))) found.3 ∙ drop-append_seam (frame_bytes read) found.2 in
+    let after : drop n bytes ≡ found.2 = ap (λ (k : ℕ). drop k bytes) size ∙ ap (drop (length (frame_bytes read))) found.3 ∙ drop-append_seam (frame_bytes read) found.2 in
     record {
       entry = read;
       fits = found.0;
       grown = grown;
       within = omega (arith, size, ap length found.3, length-append (frame_bytes read) found.2);
-      frame = found.3 ∙ ap (λ (xs : List ℕ). frame_bytes read ++ xs) (sym behind);
+      frame = found.3 ∙ ap (λ (xs : List ℕ). frame_bytes read ++ xs) (sym after);
     }
 
 -- the ledger that all bytes are
 pub start_read : (ledger : List Entry) (begun : Bool) (signer : Option NodeId) (seqno : ℕ) → audited service_layers ledger ≡ None
     → begun ≡ is_unopened (last_entry (take (length ledger - 1) ledger)) → signer ≡ signer_of (last_entry ledger) → seqno ≡ length ledger
-    → start_behind ledger [] ≡ start_by ledger (opened_where begun signer seqno)
+    → start_after ledger [] ≡ start_by ledger (opened_where begun signer seqno)
 start_read ledger begun signer seqno valid b s n =
     start_end ledger valid
     ∙ ap (λ (x : Bool). start_by ledger (opened_where x (signer_of (last_entry ledger)) (length ledger))) (sym b)

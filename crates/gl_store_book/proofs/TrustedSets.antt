@@ -27,16 +27,16 @@ module _ (p : RecordedNode → Bool) where
   there x [] h = absurd (cc)
   there x (n ∷ ns) h = go (p n) h (there x ns)
     where
-      behind : IsThere x ns → IsThere x (n ∷ ns)
-      behind t = record { i = suc t.i; node = t.node; at = t.at; named = t.named }
+      suffix : IsThere x ns → IsThere x (n ∷ ns)
+      suffix t = record { i = suc t.i; node = t.node; at = t.at; named = t.named }
 
       first : (b : Bool) → same x n.id ≡ b → (b || member x (chosen ns)) ≡ true → (member x (chosen ns) ≡ true → IsThere x ns) → IsThere x (n ∷ ns)
       first true is w again = record { i = 0; node = n; at = refl; named = same_is x n.id is }
-      first false is w again = behind (again w)
+      first false is w again = suffix (again w)
 
       go : (b : Bool) → member x (map (λ (m : RecordedNode). m.id) (cond b (n ∷ filter p ns) (filter p ns))) ≡ true → (member x (chosen ns) ≡ true → IsThere x ns) → IsThere x (n ∷ ns)
       go true w again = first (same x n.id) refl w again
-      go false w again = behind (again w)
+      go false w again = suffix (again w)
 
   rest : (n : RecordedNode) (ns : List RecordedNode) → AreDistinct (n ∷ ns) → AreDistinct ns
   rest n ns apart i j l m left right is = let k : suc i ≡ suc j = apart (suc i) (suc j) l m left right is in omega arith

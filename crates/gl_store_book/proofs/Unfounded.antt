@@ -14,7 +14,7 @@ use Rattle.gl_gov_rules.specs.Nodes.{nodes, node}
 use Rattle.gl_gov_rules.specs.Service.{identity}
 use Rattle.gl_gov_rules.specs.Signatures.{is_endorsed}
 use Rattle.gl_gov_rules.specs.Refusals.{key_in_force, room_refusal, join_refusal, mark_refusal, signed_refusal, act_refusal, refusal}
-use Rattle.gl_requests.specs.Spelling.{node_id}
+use Rattle.gl_requests.specs.Encoding.{node_id}
 use Rattle.gl_gov_rules.proofs.Endorsements.{unendorsed}
 use Rattle.gl_gov_rules.proofs.Prefixes.{history_of_none}
 
@@ -45,11 +45,11 @@ member_refused seqno m h = absurd (cc)
 
 refused : (seqno : ℕ) (g : GovernanceRequest) → is_founding g ≡ false → is_recovery g ≡ false → refusal no_history seqno g ≡ None → ⊥
 unfolding refusal
-refused seqno (requests.Genesis g) other anew h = absurd (cc)
-refused seqno (requests.Recover r) other anew h = absurd (cc)
-refused seqno (requests.Join n) other anew h = join_refused n h
-refused seqno (requests.Mark id) other anew h = mark_refused id h
-refused seqno (requests.Member m) other anew h = member_refused seqno m h
+refused seqno (requests.Genesis g) other again h = absurd (cc)
+refused seqno (requests.Recover r) other again h = absurd (cc)
+refused seqno (requests.Join n) other again h = join_refused n h
+refused seqno (requests.Mark id) other again h = mark_refused id h
+refused seqno (requests.Member m) other again h = member_refused seqno m h
 
 pub unfounded : (seqno : ℕ) (g : GovernanceRequest) → is_founding g ≡ false → is_recovery g ≡ false → refusal (history []) seqno g ≡ None → ⊥
-unfounded seqno g other anew h = refused seqno g other anew (sym (ap (λ past. refusal past seqno g) history_of_none) ∙ h)
+unfounded seqno g other again h = refused seqno g other again (sym (ap (λ past. refusal past seqno g) history_of_none) ∙ h)

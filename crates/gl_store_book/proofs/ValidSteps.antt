@@ -25,18 +25,18 @@ use Rattle.gl_ledger.specs.LedgerBook.{ServiceBook, by_rule, ledger_book}
 use Rattle.gl_ledger.specs.Makers.{guarded, unless_broken, unless_empty, request_result, govern_result, signing_result}
 use Rattle.gl_ledger.specs.NodeKeys.{NodeKeys, service_layers}
 use Rattle.gl_ledger.specs.declared.breach.Broken.{Broken}
-use Rattle.gl_ledger.specs.declared.made.Given.{Given}
-use Rattle.gl_ledger.specs.declared.made.Reads.{Reads}
-use Rattle.gl_ledger.specs.declared.made.Unmade.{Unmade}
+use Rattle.gl_ledger.specs.declared.response.Response.{Response}
+use Rattle.gl_ledger.specs.declared.response.Reads.{Reads}
+use Rattle.gl_ledger.specs.declared.response.Rejection.{Rejection}
 use Rattle.gl_ledger.proofs.Valid.{valid-push}
 use Rattle.gl_audit.proofs.Cutting.{audited-take}
 use Rattle.gl_replication.specs.Events.{answer, rule_of}
 use Rattle.gl_replication.specs.declared.event.Event.{Event}
 use Rattle.gl_replication.specs.declared.event.Event.TheVariants as events
 use Rattle.gl_node.specs.Changes.{IsAsKept, IsTurned}
-use Rattle.gl_node.proofs.Turning.{timeout_turned, request_vote_turned, vote_reply_turned, append_answer_turned, propose_vote_turned, reserve_turned, step_down_kept, replicate_kept, advance_kept}
+use Rattle.gl_node.proofs.ElectionSteps.{timeout_turned, request_vote_turned, vote_reply_turned, append_answer_turned, propose_vote_turned, reserve_turned, step_down_kept, replicate_kept, advance_kept}
 
--- No entry breaks a rule behind those before it.
+-- No entry breaks a rule after those before it.
 abbrev pub IsValid : List Entry → Type 0
 IsValid ledger = audited service_layers ledger ≡ None
 
@@ -55,7 +55,7 @@ same_made : {X : Type 0} (made x : X) (o : Option Broken) → unless_broken o ma
 same_made made x None is = cc
 same_made made x (Some why) is = absurd (cc)
 
-made_unbroken : {X : Type 0} (entry_of : X → Entry) (ledger : List Entry) (r : Result X Unmade) (x : X) → guarded service_layers entry_of ledger r ≡ Ok x → broken service_layers ledger (entry_of x) ≡ None
+made_unbroken : {X : Type 0} (entry_of : X → Entry) (ledger : List Entry) (r : Result X Rejection) (x : X) → guarded service_layers entry_of ledger r ≡ Ok x → broken service_layers ledger (entry_of x) ≡ None
 made_unbroken entry_of ledger (Err why) x is = absurd (cc)
 made_unbroken entry_of ledger (Ok made) x is =
     ap (λ y. broken service_layers ledger (entry_of y)) (sym (same_made made x (broken service_layers ledger (entry_of made)) is))
@@ -65,10 +65,10 @@ module _ (keys : NodeKeys) where
   abbrev book : ServiceBook
   book = ledger_book service_layers keys
 
-  abbrev Whole : Step Entry Given Unmade → Type 0
+  abbrev Whole : Step Entry Response Rejection → Type 0
   Whole step = IsWhole step.node
 
-  led : (n : Node Entry) (step : Step Entry Given Unmade) → IsWhole n → Whole step → Whole (if_leader n step)
+  led : (n : Node Entry) (step : Step Entry Response Rejection) → IsWhole n → Whole step → Whole (if_leader n step)
   led n step here made = go n.role
     where
       go : (r : Role) → Whole (as_leader r n step)
@@ -76,16 +76,16 @@ module _ (keys : NodeKeys) where
       go Candidate = here
       go Follower = here
 
-  entered : (n : Node Entry) (m : Result (Entry × Given) Unmade) → ((made : Entry × Given) → m ≡ Ok made → broken service_layers n.log made.0 ≡ None) → IsWhole n → Whole (append_result book n m)
+  entered : (n : Node Entry) (m : Result (Entry × Response) Rejection) → ((made : Entry × Response) → m ≡ Ok made → broken service_layers n.log made.0 ≡ None) → IsWhole n → Whole (append_result book n m)
   entered n (Err why) unbroken here = here
   entered n (Ok made) unbroken here = record { base = here.base; valid = valid-push service_layers n.log made.0 here.valid (unbroken made refl) }
 
   submitted : (q : List Operation) (n : Node Entry) → IsWhole n → Whole (submit book q n)
   unfolding submit
   submitted q n here = led n (execute_request book q n) here
-      (entered n (book.execute n.log n.view q) (λ made is. made_unbroken (λ (m : Entry × Given). m.0) n.log (request_result n.log n.view q) made is) here)
+      (entered n (book.execute n.log n.view q) (λ made is. made_unbroken (λ (m : Entry × Response). m.0) n.log (request_result n.log n.view q) made is) here)
 
-  abbrev governs : GovernanceRequest → Node Entry → Step Entry Given Unmade
+  abbrev governs : GovernanceRequest → Node Entry → Step Entry Response Rejection
   governs g n = append_result book n (book.govern n.log n.view g)
 
   governed : (g : GovernanceRequest) (n : Node Entry) → IsWhole n → Whole (govern book g n)
@@ -93,13 +93,13 @@ module _ (keys : NodeKeys) where
   governed g n here = led n (govern_as_leader book g n) here (go (nat_le pending_limit (length (configurations_above book n.log n.commit (length n.log)))) (book.marked_node g))
     where
       made : Whole (governs g n)
-      made = entered n (book.govern n.log n.view g) (λ m is. made_unbroken (λ (m : Entry × Given). m.0) n.log (govern_result n.log n.view g) m is) here
+      made = entered n (book.govern n.log n.view g) (λ m is. made_unbroken (λ (m : Entry × Response). m.0) n.log (govern_result n.log n.view g) m is) here
 
       late : (removal : Option ℕ) → Whole (if_removal_committed book removal n (governs g n))
       late None = made
       late (Some seqno) = by_test Whole (nat_lt n.commit seqno) (outcome.refuse n (outcome.RemovalNotCommitted seqno n.commit)) (governs g n) (λ t. here) (λ t. made)
 
-      marked : (y : NodeId) (why : Option Unmade) → Whole (unless_mark_refused book why y n (governs g n))
+      marked : (y : NodeId) (why : Option Rejection) → Whole (unless_mark_refused book why y n (governs g n))
       marked y (Some why) = here
       marked y None = late (book.removal n.log y)
 
@@ -116,7 +116,7 @@ module _ (keys : NodeKeys) where
   signed x n here = led n (sign_as_leader book x n) here
       (go (n.used == n.reserved) (is_signature_in book n.view (entry_at n.log (length n.log))) (book.sign x n.used n.log n.view n.commit) (unbroken_signature x n.used n.log n.view n.commit))
     where
-      go : (p q : Bool) (m : Result Entry Unmade) → ((e : Entry) → m ≡ Ok e → broken service_layers n.log e ≡ None) →
+      go : (p q : Bool) (m : Result Entry Rejection) → ((e : Entry) → m ≡ Ok e → broken service_layers n.log e ≡ None) →
           Whole (if p then outcome.refuse n (outcome.NotReserved n.reserved) else (if q then outcome.refuse n (outcome.NothingToSign (length n.log)) else append_signature book n m))
       go true q m unbroken = here
       go false true m unbroken = here
@@ -134,7 +134,7 @@ module _ (keys : NodeKeys) where
       go None none made again = again made (valid-push service_layers ledger e here none)
       go (Some why) some made again = absurd (cc)
 
-  taken : (before : Node Entry) (x y : NodeId) (seqno theirs : ℕ) (n : Node Entry) (m : Result (List Entry) Unmade) → ((new : List Entry) → m ≡ Ok new → IsValid new) → n.base ≡ 0 → IsWhole before → Whole (accept_or_refuse book before x y seqno theirs n m)
+  taken : (before : Node Entry) (x y : NodeId) (seqno theirs : ℕ) (n : Node Entry) (m : Result (List Entry) Rejection) → ((new : List Entry) → m ≡ Ok new → IsValid new) → n.base ≡ 0 → IsWhole before → Whole (accept_or_refuse book before x y seqno theirs n m)
   taken before x y seqno theirs n (Err why) valid base here = here
   taken before x y seqno theirs n (Ok log) valid base here = record { base = base; valid = valid log refl }
 
@@ -162,7 +162,7 @@ module _ (keys : NodeKeys) where
       go Candidate = merged x y prev es theirs (become_follower book y n) (record { base = here.base; valid = here.valid })
       go Follower = merged x y prev es theirs (become_follower book y n) (record { base = here.base; valid = here.valid })
 
-  undone : (n : Node Entry) (w : Outcome Given Unmade) (step : Step Entry Given Unmade) → IsWhole n → Whole step → Whole (undo_if_refused w n step)
+  undone : (n : Node Entry) (w : Outcome Response Rejection) (step : Step Entry Response Rejection) → IsWhole n → Whole step → Whole (undo_if_refused w n step)
   undone n (outcome.Refused why) step here made = here
   undone n outcome.Done step here made = made
   undone n outcome.Idle step here made = made
@@ -201,7 +201,7 @@ module _ (keys : NodeKeys) where
   heard x y view (bodies.AppendReply ok seqno) n here = turned n _ here (append_answer_turned book x y view ok seqno n)
   heard x y view bodies.ProposeVote n here = turned n _ here (propose_vote_turned book x y view n)
 
-  pub step_whole : {S : Type 0} (x : NodeId) (e : Event S (List Operation) GovernanceRequest Reads Given Unmade) (n : Node Entry) → IsWhole n → IsWhole (rule_of e book x n).node
+  pub step_whole : {S : Type 0} (x : NodeId) (e : Event S (List Operation) GovernanceRequest Reads Response Rejection) (n : Node Entry) → IsWhole n → IsWhole (rule_of e book x n).node
   step_whole x events.Timeout n here = turned n _ here (timeout_turned book x n)
   step_whole x (events.Message m) n here = by_test Whole (same m.to x) (answer m book x n) (outcome.idle n) (λ t. heard x m.from m.view m.body n here) (λ t. here)
   step_whole x (events.Submit q) n here = submitted q n here

@@ -2,7 +2,7 @@
 use Rattle.std.specs.Prelude.{ℕ, List, [], ◌∷◌, Option, None, Some, Result, Ok, Err, Bool, false, is_none, length, map, option_and_then, ◌==◌, if◌then◌else◌}
 use Rattle.std.specs.Option.{option_map}
 use Rattle.gl_entry.specs.Entry.{frame_bytes}
-use Rattle.gl_entry.specs.Reading.{first_entry}
+use Rattle.gl_entry.specs.Parsing.{first_entry}
 use Rattle.gl_entry.specs.declared.entry.Entry.{Entry}
 use Rattle.gl_entry.specs.declared.fault.EntryFault.{EntryFault}
 use Rattle.gl_journal.specs.Durable.{GoesOn}
@@ -30,7 +30,7 @@ is_unbroken (Some ledger) None = false
 is_unbroken (Some ledger) (Some e) = is_none (broken service_layers ledger e)
 
 -- A frame goes on those before it where these are the frames of a ledger and it is the frame, all
--- of it, of an entry that breaks no rule of the audit behind that ledger.
+-- of it, of an entry that breaks no rule of the audit after that ledger.
 abbrev pub goes_on_ledger : GoesOn
 goes_on_ledger log frame = is_unbroken (ledger_of_frames log) (entry_of_frame frame)
 

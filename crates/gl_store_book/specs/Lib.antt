@@ -6,6 +6,6 @@ pub mod Frames
 pub mod NodeFile
 pub mod ServiceStart
 pub mod AtOpening
-pub mod Turns
+pub mod ViewVotes
 pub mod Replicas
-pub mod Reopening
+pub mod Restarts

@@ -5,9 +5,9 @@ use Rattle.gl_entry.specs.declared.entry.Entry.{Entry}
 use Rattle.gl_journal.specs.Durable.{Durable}
 use Rattle.gl_ledger.specs.NodeKeys.{NodeKeys, service_layers}
 use Rattle.gl_ledger.specs.LedgerBook.{ServiceBook, ledger_book}
-use Rattle.gl_ledger.specs.declared.made.Given.{Given}
-use Rattle.gl_ledger.specs.declared.made.Reads.{Reads}
-use Rattle.gl_ledger.specs.declared.made.Unmade.{Unmade}
+use Rattle.gl_ledger.specs.declared.response.Response.{Response}
+use Rattle.gl_ledger.specs.declared.response.Reads.{Reads}
+use Rattle.gl_ledger.specs.declared.response.Rejection.{Rejection}
 use Rattle.gl_replication.specs.Stands.{StandsFor}
 use Rattle.gl_replication.specs.declared.node.Core.{Core}
 use Rattle.gl_requests.specs.declared.request.GovernanceRequest.{GovernanceRequest}
@@ -17,7 +17,7 @@ use Rattle.gl_store_book.specs.Stands.{NodeStore, Stands}
 
 -- The core of a node over its store.
 abbrev pub NodeCore : Type 0
-NodeCore = Core NodeStore (List Operation) GovernanceRequest Reads Given Unmade
+NodeCore = Core NodeStore (List Operation) GovernanceRequest Reads Response Rejection
 
 -- Under the book of each service in which the node of a file has the file's key, it stands for this
 -- node of the rules.

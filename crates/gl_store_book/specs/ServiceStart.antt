@@ -42,9 +42,9 @@ start_of_file file = start_unless file.fault file.entries
 unfoldable pub start_in : List ℕ → Result (Start Entry) ℕ
 start_in bytes = start_of_file (ledger_file bytes)
 
--- The same of bytes behind entries that were read from others before them.
-unfoldable pub start_behind : List Entry → List ℕ → Result (Start Entry) ℕ
-start_behind taken bytes = start_of_file (with_entries taken (ledger_file bytes))
+-- The same of bytes after entries that were read from others before them.
+unfoldable pub start_after : List Entry → List ℕ → Result (Start Entry) ℕ
+start_after taken bytes = start_of_file (with_entries taken (ledger_file bytes))
 
 -- The bytes are no opening ledger, by this seqno; memory may run out at any time.
 abbrev pub IsNoStart : Result (Start Entry) ℕ → OrNoMemory NotOpening → Type 0

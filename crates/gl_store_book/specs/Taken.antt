@@ -9,8 +9,8 @@ use Rattle.gl_tx.specs.declared.request.Operation.{Operation}
 use Rattle.gl_requests.specs.declared.request.GovernanceRequest.{GovernanceRequest}
 use Rattle.gl_ledger.specs.NodeKeys.{service_layers}
 use Rattle.gl_ledger.specs.declared.breach.Broken.{Broken}
-use Rattle.gl_ledger.specs.declared.made.Given.{Given}
-use Rattle.gl_ledger.specs.declared.made.Unmade.{Unmade}
+use Rattle.gl_ledger.specs.declared.response.Response.{Response}
+use Rattle.gl_ledger.specs.declared.response.Rejection.{Rejection}
 use Rattle.gl_ledger.specs.LedgerBook.{by_rule}
 use Rattle.gl_ledger.specs.Makers.{guarded, request_result, govern_result}
 
@@ -21,25 +21,25 @@ IsNoGovernance (content.Application bytes) = Unit {0}
 IsNoGovernance (content.Signature s) = Unit {0}
 IsNoGovernance (content.Evidence d) = Unit {0}
 
--- What a request of an application comes to behind a ledger, tried by the rules of the audit.
-abbrev pub executed : List Entry → ℕ → List Operation → Result (Entry × Given) Unmade
+-- What a request of an application comes to after a ledger, tried by the rules of the audit.
+abbrev pub executed : List Entry → ℕ → List Operation → Result (Entry × Response) Rejection
 executed ledger view q =
     guarded service_layers (λ made. made.0) ledger (request_result ledger view q)
 
 -- The same of a request of governance.
-abbrev pub governed : List Entry → ℕ → GovernanceRequest → Result (Entry × Given) Unmade
+abbrev pub governed : List Entry → ℕ → GovernanceRequest → Result (Entry × Response) Rejection
 governed ledger view g =
     guarded service_layers (λ made. made.0) ledger (govern_result ledger view g)
 
 -- A refusal for the rule that is broken; memory may run out at any time.
-abbrev pub RefusesFor : Option Broken → OrNoMemory Unmade → Type 0
-RefusesFor owed NoMemory = Unit {0}
-RefusesFor owed (Fault why) = by_rule owed ≡ Some why
+abbrev pub RefusesFor : Option Broken → OrNoMemory Rejection → Type 0
+RefusesFor expected_output NoMemory = Unit {0}
+RefusesFor expected_output (Fault why) = by_rule expected_output ≡ Some why
 
 -- The ledger has one more entry, of this view, which was owed with this answer.
-pub record Takes (owed : Result (Entry × Given) Unmade) (view : ℕ) (given : Given)
+pub record Takes (expected_output : Result (Entry × Response) Rejection) (view : ℕ) (given : Response)
     (old new : List Entry) : Type 0 where
   pub entry : Entry
-  pub made : owed ≡ Ok (entry, given)
+  pub made : expected_output ≡ Ok (entry, given)
   pub in_view : entry.view ≡ view
   pub entered : new ≡ old ++ entry ∷ []

@@ -9,7 +9,7 @@ use gl_base::{OrNoMemory, TxId};
 use gl_config::{Configuration, NodeId};
 use gl_entry::{Content, Entry};
 use gl_gov_decisions::mark_refusal;
-use gl_ledger::{Given, Reads, Refusal, Unmade};
+use gl_ledger::{Reads, Refusal, Rejection, Response};
 use gl_replication::Book;
 use gl_requests::GovernanceRequest;
 use gl_tx::Request;
@@ -24,9 +24,9 @@ impl Book for StoreBook {
 
     type Reads = Reads;
 
-    type Given = Given;
+    type Response = Response;
 
-    type Refused = Unmade;
+    type Refused = Rejection;
 
     ghost stands = { Stands };
 
@@ -111,40 +111,40 @@ impl Book for StoreBook {
         }
     }
 
-    fn mark_refusal(&self, node: &NodeId) -> Option<Unmade> {
+    fn mark_refusal(&self, node: &NodeId) -> Option<Rejection> {
         match mark_refusal(self.ledger.store().gov().history(), node) {
             None => None,
-            Some(why) => Some(Unmade::ByStore(Refusal::Governance(why))),
+            Some(why) => Some(Rejection::ByStore(Refusal::Governance(why))),
         }
     }
 
-    fn batch(&self, behind: u64) -> Result<Vec<Entry>, AllocError> {
+    fn batch(&self, after: u64) -> Result<Vec<Entry>, AllocError> {
         let entries = self.ledger.store().entries();
-        if behind >= self.ledger.len() {
+        if after >= self.ledger.len() {
             return Ok(Vec::new(self.alloc));
         }
-        batch(self.alloc, &entries[behind as usize..])
+        batch(self.alloc, &entries[after as usize..])
     }
 
     fn execute(
         &mut self,
         view: u32,
         request: &Request,
-    ) -> Result<(u32, Given), OrNoMemory<Unmade>> {
+    ) -> Result<(u32, Response), OrNoMemory<Rejection>> {
         let reply = self.ledger.execute(view, request)?;
-        Ok((view, Given::Replied(reply)))
+        Ok((view, Response::Replied(reply)))
     }
 
     fn govern(
         &mut self,
         view: u32,
         request: &GovernanceRequest,
-    ) -> Result<(u32, Given), OrNoMemory<Unmade>> {
+    ) -> Result<(u32, Response), OrNoMemory<Rejection>> {
         let status = self.ledger.govern(view, request)?;
-        Ok((view, Given::Governed(status)))
+        Ok((view, Response::Governed(status)))
     }
 
-    fn sign(&mut self, leaf: u64, view: u32, commit: u64) -> Result<u32, OrNoMemory<Unmade>> {
+    fn sign(&mut self, leaf: u64, view: u32, commit: u64) -> Result<u32, OrNoMemory<Rejection>> {
         if let Some(why) = self.refusal_to_sign() {
             return Err(OrNoMemory::Fault(why));
         }
@@ -156,7 +156,7 @@ impl Book for StoreBook {
         Ok(view)
     }
 
-    fn replace_tail(&mut self, seqno: u64, entries: &[Entry]) -> Result<(), OrNoMemory<Unmade>> {
+    fn replace_tail(&mut self, seqno: u64, entries: &[Entry]) -> Result<(), OrNoMemory<Rejection>> {
         self.ledger.replace_tail(seqno, entries)
     }
 

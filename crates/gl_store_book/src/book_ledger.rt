@@ -12,7 +12,7 @@ use crate::refusals::by_rule;
 use gl_base::OrNoMemory;
 use gl_config::{Configuration, NodeId};
 use gl_entry::{Content, Entry};
-use gl_ledger::{Broken, Unmade};
+use gl_ledger::{Broken, Rejection};
 use gl_store::Store;
 use std::alloc::{AllocError, Global};
 use std::marker::Model;
@@ -84,7 +84,7 @@ impl BookLedger {
     /// The configurations of the ledger cut to a seqno, in the order of their seqnos.
     pub fn configurations(&self, upto: u64) -> &[Configuration]
         ensures ascending { AllPairs (λ c d. c.seqno < d.seqno) result.now }
-        ensures front { AreConfigurationsOf (take upto self.now) result.now }
+        ensures prefix { AreConfigurationsOf (take upto self.now) result.now }
     {
         self.lists.configurations(upto)
     }
@@ -96,8 +96,8 @@ impl BookLedger {
         self.lists.recorded_nodes(&self.store, upto)
     }
 
-    /// Adds an entry. Refused for the first rule of the audit that it breaks behind the ledger, if
-    /// it breaks one. Want of memory, too, leaves all as it was.
+    /// Adds an entry. Refused for the first rule of the audit that it breaks after the ledger, if
+    /// it breaks one. Running out of memory, too, leaves all as it was.
     pub fn apply(&mut self, entry: Entry) -> Result<(), OrNoMemory<Broken>>
         ensures unbroken { OnOk result (broken service_layers self.old entry ≡ None) }
         ensures grown { OnOk result (self.new ≡ self.old ++ entry ∷ []) }
@@ -159,12 +159,12 @@ impl BookLedger {
     }
 
     /// Adds copies of entries one after another, up to the first that breaks a rule.
-    fn append_each(&mut self, entries: &[Entry]) -> Result<(), OrNoMemory<Unmade>>
+    fn append_each(&mut self, entries: &[Entry]) -> Result<(), OrNoMemory<Rejection>>
         ensures appended { OnOk result ((keys : NodeKeys) →
             checked_append (ledger_book service_layers keys) self.old entries.now ≡ Ok self.new) }
         ensures refused { IfErr result (λ e. (keys : NodeKeys) → Fails e
             (checked_append (ledger_book service_layers keys) self.old entries.now)) }
-        ensures front { OnErr result (take (length self.old) self.new ≡ self.old) }
+        ensures prefix { OnErr result (take (length self.old) self.new ≡ self.old) }
     {
         for entry in entries {
             let copy = entry.copy(self.alloc)?;
@@ -176,7 +176,7 @@ impl BookLedger {
     }
 
     /// Adds copies of entries, each of which has to follow: all or nothing.
-    fn append(&mut self, entries: &[Entry]) -> Result<(), OrNoMemory<Unmade>>
+    fn append(&mut self, entries: &[Entry]) -> Result<(), OrNoMemory<Rejection>>
         ensures appended { OnOk result ((keys : NodeKeys) →
             checked_append (ledger_book service_layers keys) self.old entries.now ≡ Ok self.new) }
         ensures refused { IfErr result (λ e. (keys : NodeKeys) → Fails e
@@ -193,7 +193,7 @@ impl BookLedger {
 
     /// Cuts the ledger to a seqno below its end and adds copies of entries, each of which has to
     /// follow: all or nothing, on a copy that takes the ledger's place.
-    fn append_to_copy(&mut self, seqno: u64, entries: &[Entry]) -> Result<(), OrNoMemory<Unmade>>
+    fn append_to_copy(&mut self, seqno: u64, entries: &[Entry]) -> Result<(), OrNoMemory<Rejection>>
         ensures replaced { OnOk result ((keys : NodeKeys) → checked_append
             (ledger_book service_layers keys) (take seqno self.old) entries.now ≡ Ok self.new) }
         ensures refused { IfErr result (λ e. (keys : NodeKeys) → Fails e (checked_append
@@ -211,7 +211,11 @@ impl BookLedger {
 
     /// Cuts the ledger to a seqno and adds copies of entries, each of which has to follow: all or
     /// nothing. A ledger that isn't cut by it isn't copied.
-    pub fn replace_tail(&mut self, seqno: u64, entries: &[Entry]) -> Result<(), OrNoMemory<Unmade>>
+    pub fn replace_tail(
+        &mut self,
+        seqno: u64,
+        entries: &[Entry],
+    ) -> Result<(), OrNoMemory<Rejection>>
         ensures replaced { OnOk result ((keys : NodeKeys) → checked_append
             (ledger_book service_layers keys) (take seqno self.old) entries.now ≡ Ok self.new) }
         ensures refused { IfErr result (λ e. (keys : NodeKeys) → Fails e (checked_append

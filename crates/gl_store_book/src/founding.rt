@@ -8,7 +8,7 @@ ghost use Rattle.gl_ledger.specs.Ledger.{genesis_entry};
 ghost use Rattle.gl_ledger.specs.LedgerBook.{ledger_book};
 ghost use Rattle.gl_ledger.specs.Makers.{opening_of};
 ghost use Rattle.gl_ledger.specs.NodeKeys.{NodeKeys, service_layers};
-ghost use Rattle.gl_ledger.specs.Opening.{Founds};
+ghost use Rattle.gl_ledger.specs.OpeningLedger.{Founds};
 ghost use Rattle.gl_store_book.specs.Founding.{id_of_key, key_alone};
 ghost use Rattle.gl_store_book.specs.Stands.{HasKey, Stands, whole};
 
@@ -55,8 +55,8 @@ impl StoreBook {
     }
 
     /// That of the node with this key as a service of its own begins: the service's genesis, which
-    /// names the node, and the signature that opens it, with the key's first leaf. Fails for want
-    /// of memory alone.
+    /// names the node, and the signature that opens it, with the key's first leaf. Fails only where
+    /// memory runs out.
     pub fn founded(alloc: Global, key: LmsKey, genesis: Genesis) -> Result<Self, AllocError>
         requires { Founds service_layers (key_alone key) genesis (id_of_key key) }
         ensures holds { IfOk result (λ book. book ≡ record {

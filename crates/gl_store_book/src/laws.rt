@@ -6,9 +6,9 @@ ghost use Rattle.gl_ledger.specs.Audit.{audited};
 ghost use Rattle.gl_ledger.specs.NodeKeys.{service_layers};
 ghost use Rattle.gl_node.specs.Kept.{kept_after};
 ghost use Rattle.gl_replication.specs.Events.{rule_of};
-ghost use Rattle.gl_replication.specs.Stands.{Tells};
+ghost use Rattle.gl_replication.specs.Stands.{Reports};
 ghost use Rattle.gl_store_book.specs.NodeFile.{opened};
-ghost use Rattle.gl_store_book.specs.Reopening.{GivesRestart};
+ghost use Rattle.gl_store_book.specs.Restarts.{GivesRestart};
 ghost use Rattle.gl_store_book.specs.Stands.{Stands};
 
 use crate::store_book::StoreBook;
@@ -31,9 +31,9 @@ pub fn a_stop_forgets_nothing<D: Disk + Drop>(
     event: &Event<StoreBook>,
 )
     ensures before { IsTrue D.honest → replica.now.stopped ≡ None →
-        Tells Stands replica.now.core (λ b x n. (d : State) →
+        Reports Stands replica.now.core (λ b x n. (d : State) →
         opened (D.bytes replica.now.disk) ≡ Ok d → GivesRestart b n d) }
-    ensures after { Tells Stands replica.now.core (λ b x n. (d : State) →
+    ensures after { Reports Stands replica.now.core (λ b x n. (d : State) →
         let next = (rule_of event.now b x n).node in GivesRestart b next (kept_after d next)) }
 {
     let _disk = replica.disk();

@@ -17,12 +17,12 @@ mod node_file;
 mod node_lists;
 mod recorded;
 mod refusals;
-mod signing;
+mod signature;
 mod store_book;
 
 pub use book_ledger::BookLedger;
 pub use laws::a_stop_forgets_nothing;
-pub use node_file::keeping::{keep, keep_opening};
-pub use node_file::opening_batch::Turn;
+pub use node_file::opening_batch::ViewVote;
+pub use node_file::persist::{keep, keep_opening};
 pub use node_file::{NodeFile, OpeningFault};
 pub use store_book::StoreBook;

@@ -11,7 +11,7 @@ ghost use Rattle.gl_ledger.specs.Makers.{govern_result};
 ghost use Rattle.gl_ledger.specs.NodeKeys.{service_layers};
 ghost use Rattle.gl_ledger.specs.Recordings.{last_entry};
 ghost use Rattle.gl_ledger.specs.Sound.{IsSound};
-ghost use Rattle.gl_ledger.specs.declared.made.Given.TheVariants.{Governed, Replied};
+ghost use Rattle.gl_ledger.specs.declared.response.Response.TheVariants.{Governed, Replied};
 ghost use Rattle.gl_store_book.specs.Taken.{Takes, executed, governed};
 
 use crate::book_ledger::{BookLedger, list_last};
@@ -19,17 +19,17 @@ use crate::refusals::{by_rule, by_store};
 use gl_base::OrNoMemory;
 use gl_gov_decisions::refusal;
 use gl_gov_rules::ProposalStatus;
-use gl_ledger::{Refusal, Unmade};
+use gl_ledger::{Refusal, Rejection};
 use gl_requests::{GovernanceRequest, is_request};
 use gl_tx::{Reply, Request};
 
-/// Whether the request founds a service, or founds it anew.
+/// Whether the request founds a service, or recovers it.
 fn founds(request: &GovernanceRequest) -> bool
     ensures founding { result ≡ false → is_founding request.now ≡ false }
     ensures recovery { result ≡ false → is_recovery request.now ≡ false }
     ensures refused { result ≡ true → is_request request.now ≡ true →
         (ledger : List entries.Entry) (view : ℕ) →
-        govern_result ledger view request.now ≡ Err Unmade.Founding }
+        govern_result ledger view request.now ≡ Err Rejection.Founding }
 {
     matches!(
         request,
@@ -37,8 +37,8 @@ fn founds(request: &GovernanceRequest) -> bool
     )
 }
 
-/// Why no ledger takes the request, if none does: no bytes spell it, or else it founds a service.
-fn refused_always(request: &GovernanceRequest) -> Option<Unmade>
+/// Why no ledger takes the request, if none does: no bytes encode it, or else it founds a service.
+fn refused_always(request: &GovernanceRequest) -> Option<Rejection>
     ensures refused { IfSome result (λ why. (ledger : List entries.Entry) (view : ℕ) →
         govern_result ledger view request.now ≡ Err why) }
     ensures fits { IfNone result (is_request request.now ≡ true) }
@@ -46,9 +46,9 @@ fn refused_always(request: &GovernanceRequest) -> Option<Unmade>
     ensures recovery { IfNone result (is_recovery request.now ≡ false) }
 {
     if !is_request(request) {
-        Some(Unmade::Unspelled)
+        Some(Rejection::Unencodable)
     } else if founds(request) {
-        Some(Unmade::Founding)
+        Some(Rejection::Founding)
     } else {
         None
     }
@@ -73,7 +73,7 @@ impl BookLedger {
     }
 
     /// Takes an entry for a request of an application, and gives the reply.
-    pub fn execute(&mut self, view: u32, request: &Request) -> Result<Reply, OrNoMemory<Unmade>>
+    pub fn execute(&mut self, view: u32, request: &Request) -> Result<Reply, OrNoMemory<Rejection>>
         ensures made { IfOk result (λ reply. Takes (executed self.old view request.now) view
             (Replied reply) self.old self.new) }
         ensures refused { IfErr result (λ e. Fails e (executed self.old view request.now)) }
@@ -87,7 +87,11 @@ impl BookLedger {
     }
 
     /// The same where the entry breaks no rule.
-    fn execute_untried(&mut self, view: u32, request: &Request) -> Result<Reply, OrNoMemory<Unmade>>
+    fn execute_untried(
+        &mut self,
+        view: u32,
+        request: &Request,
+    ) -> Result<Reply, OrNoMemory<Rejection>>
         requires sound { IsSound service_layers self.old }
         requires up_to { HasViewsUpTo view self.old }
         requires some { 0 < length self.old }
@@ -105,7 +109,11 @@ impl BookLedger {
     }
 
     /// The same where the entry is tried by the rules.
-    fn execute_tried(&mut self, view: u32, request: &Request) -> Result<Reply, OrNoMemory<Unmade>>
+    fn execute_tried(
+        &mut self,
+        view: u32,
+        request: &Request,
+    ) -> Result<Reply, OrNoMemory<Rejection>>
         ensures made { IfOk result (λ reply. Takes (executed self.old view request.now) view
             (Replied reply) self.old self.new) }
         ensures refused { IfErr result (λ e. Fails e (executed self.old view request.now)) }
@@ -126,7 +134,7 @@ impl BookLedger {
         &mut self,
         view: u32,
         request: &GovernanceRequest,
-    ) -> Result<Option<ProposalStatus>, OrNoMemory<Unmade>>
+    ) -> Result<Option<ProposalStatus>, OrNoMemory<Rejection>>
         ensures made { IfOk result (λ status. Takes (governed self.old view request.now) view
             (Governed status) self.old self.new) }
         ensures refused { IfErr result (λ e. Fails e (governed self.old view request.now)) }
@@ -148,7 +156,7 @@ impl BookLedger {
         &mut self,
         view: u32,
         request: &GovernanceRequest,
-    ) -> Result<Option<ProposalStatus>, OrNoMemory<Unmade>>
+    ) -> Result<Option<ProposalStatus>, OrNoMemory<Rejection>>
         requires sound { IsSound service_layers self.old }
         requires up_to { HasViewsUpTo view self.old }
         requires some { 0 < length self.old }
@@ -174,7 +182,7 @@ impl BookLedger {
         &mut self,
         view: u32,
         request: &GovernanceRequest,
-    ) -> Result<Option<ProposalStatus>, OrNoMemory<Unmade>>
+    ) -> Result<Option<ProposalStatus>, OrNoMemory<Rejection>>
         requires some { 0 < length self.old }
         requires fits { is_request request.now ≡ true }
         requires founding { is_founding request.now ≡ false }
@@ -196,7 +204,7 @@ impl BookLedger {
 
     /// Why a ledger of no entries doesn't take the request: without a service there are no members,
     /// no nodes and no key that endorses one.
-    fn refusal_unfounded(&self, view: u32, request: &GovernanceRequest) -> OrNoMemory<Unmade>
+    fn refusal_unfounded(&self, view: u32, request: &GovernanceRequest) -> OrNoMemory<Rejection>
         requires none { length self.now ≡ 0 }
         requires fits { is_request request.now ≡ true }
         requires founding { is_founding request.now ≡ false }
@@ -204,7 +212,7 @@ impl BookLedger {
         ensures { Fails result (governed self.now view request.now) }
     {
         match refusal(self.alloc, self.store.gov().history(), 1, request) {
-            Ok(Some(why)) => OrNoMemory::Fault(Unmade::ByStore(Refusal::Governance(why))),
+            Ok(Some(why)) => OrNoMemory::Fault(Rejection::ByStore(Refusal::Governance(why))),
             Ok(None) => unreachable!(),
             Err(_) => OrNoMemory::NoMemory,
         }

@@ -22,11 +22,11 @@ use std::alloc::Global;
 use std::marker::Model;
 
 mod fault;
-pub(crate) mod keeping;
 mod kept_book;
 mod ledger_log;
 pub(crate) mod opening_batch;
 mod opening_ledger;
+pub(crate) mod persist;
 mod replica;
 
 pub use fault::OpeningFault;

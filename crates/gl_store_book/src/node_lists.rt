@@ -32,7 +32,7 @@ impl NodeLists {
 
     /// The configurations of the ledger cut to a seqno.
     pub fn configurations(&self, upto: u64) -> &[Configuration]
-        ensures front { (ledger : List Entry) → AreListsOf ledger self.now →
+        ensures prefix { (ledger : List Entry) → AreListsOf ledger self.now →
             AreConfigurationsOf (take upto ledger) result.now }
     {
         let count = count_upto(&self.configurations, upto);
@@ -51,8 +51,8 @@ impl NodeLists {
         &self.recorded[..count]
     }
 
-    /// Takes in what the last entry of a ledger changes. Want of memory leaves both lists as they
-    /// were.
+    /// Takes in what the last entry of a ledger changes. Running out of memory leaves both lists as
+    /// they were.
     pub(crate) fn push_last(&mut self, alloc: Global, store: &Store) -> Result<(), AllocError>
         requires { (ledger : List Entry) × (e : Entry) × (store.now.ledger ≡ ledger ++ e ∷ [])
             × AreListsOf ledger self.old }

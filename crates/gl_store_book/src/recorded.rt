@@ -14,7 +14,7 @@ pub(crate) fn count_upto(nodes: &[RecordedNode], seqno: u64) -> usize
     nodes.iter().filter(|node| node.seqno <= seqno).count()
 }
 
-/// Adds the identifiers of the nodes that were recorded behind those that are there.
+/// Adds the identifiers of the nodes that were recorded after those that are there.
 pub(crate) fn push_recorded(
     recorded: &mut Vec<NodeId>,
     nodes: &[RecordedNode],

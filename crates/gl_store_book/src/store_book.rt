@@ -35,7 +35,7 @@ impl StoreBook {
     ghost use Rattle.gl_ledger.specs.LedgerBook.{ledger_book};
     ghost use Rattle.gl_store_book.specs.Stands.{Stands};
 
-    /// That of a node that joins: it has no entry yet. Fails for want of memory alone.
+    /// That of a node that joins: it has no entry yet. Fails only where memory runs out.
     pub fn joining(alloc: Global, me: NodeId, key: LmsKey) -> Result<Self, AllocError>
         ensures holds { IfOk result (λ book.
             book ≡ record { me = me; key = key; ledger = [] }) }

@@ -9,8 +9,8 @@ pub moves_more : (n : ℕ) {waiting left : List ℕ} {held holds now : Option (L
     Moves waiting left held holds → Appends holds now (take n left) →
     Moves waiting (drop n left) held now
 moves_more n {waiting} {left} {held} {holds} {now} moved took = record {
-  front = moved.front ++ take n left;
-  parted = moved.parted ∙ ap (λ l. moved.front ++ l) (sym (take-append-drop n left))
-      ∙ sym (append_assoc moved.front (take n left) (drop n left));
-  written = Appends-trans held holds now moved.front (take n left) moved.written took;
+  prefix = moved.prefix ++ take n left;
+  parted = moved.parted ∙ ap (λ l. moved.prefix ++ l) (sym (take-append-drop n left))
+      ∙ sym (append_assoc moved.prefix (take n left) (drop n left));
+  written = Appends-trans held holds now moved.prefix (take n left) moved.written took;
 }

@@ -6,8 +6,8 @@ use Rattle.std.specs.Io.KnownBytes.{Appends}
 abbrev pub room : ℕ
 room = 64 * 2 ^ 20
 
--- A front of the waiting bytes went to the writer, and the rest is left.
+-- A prefix of the waiting bytes went to the writer, and the rest is left.
 pub record Moves (waiting left : List ℕ) (held holds : Option (List ℕ)) : Type 0 where
-  pub front : List ℕ
-  pub parted : waiting ≡ front ++ left
-  pub written : Appends held holds front
+  pub prefix : List ℕ
+  pub parted : waiting ≡ prefix ++ left
+  pub written : Appends held holds prefix

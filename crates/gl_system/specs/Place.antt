@@ -21,7 +21,7 @@ pub record ReadsAt {F : Type 0} (position : F → Option ℕ) (bytes left : F �
   pub is_moved : IsMoved position bytes at old moved
   pub given : Consumes (left moved) (left new) piece
 
--- The file was moved to the place, and then took these bytes behind those that it held.
+-- The file was moved to the place, and then took these bytes after those that it held.
 pub record WritesAt {F : Type 0} (position : F → Option ℕ) (bytes held : F → Option (List ℕ))
     (at : ℕ) (piece : List ℕ) (old new : F) : Type 0 where
   pub moved : F

@@ -72,7 +72,7 @@ impl Connection {
         self.has_ended = true;
     }
 
-    /// Takes a whole frame behind what waits, or nothing of it.
+    /// Takes a whole frame after what waits, or nothing of it.
     pub(crate) fn put(&mut self, frame: &[u8]) -> Result<(), SendFault> {
         put(&mut self.outgoing, frame)
     }

@@ -143,8 +143,8 @@ impl<F: Read + Write + Seek + OpenFile> Disk for FileDisk<F> {
         self.fail()
     }
 
-    /// Writes until the piece is written. Where it fails, a front of the piece may have been. Where
-    /// the place is past the end, the system fills the gap with zeros.
+    /// Writes until the piece is written. Where it fails, a prefix of the piece may have been.
+    /// Where the place is past the end, the system fills the gap with zeros.
     fn write_at(&mut self, at: u64, piece: &[u8]) -> Result<(), DiskFailed>
         ensures written { OnOk result (IsSomeAnd self.old.file (λ old. IsSomeAnd self.new.file
             (WritesAt F.stream_position F.stream_bytes F.contents at piece.now old))) }

@@ -20,7 +20,7 @@ pub(crate) enum SendFault {
     NoMemory,
 }
 
-/// Takes a whole frame behind the waiting bytes, or nothing of it.
+/// Takes a whole frame after the waiting bytes, or nothing of it.
 pub(crate) fn put(waiting: &mut BytesMut, frame: &[u8]) -> Result<(), SendFault>
     ensures ok { OnOk result (waiting.new.items ≡ waiting.old.items ++ frame.now) }
     ensures full { (result ≡ Err SendFault.Lost)

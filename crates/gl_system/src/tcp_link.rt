@@ -16,7 +16,7 @@ use std::time::Clock;
 ///
 /// Connections 0 to p-1 are those to the p peers, in their order. Each connection that is accepted,
 /// from a client or from a peer, gets the next number from p on, which no other connection gets. A
-/// connection to a peer that broke or could not be made is made anew at the next tick.
+/// connection to a peer that broke or could not be made is made again at the next tick.
 #[derive(Drop)]
 pub struct TcpLink<'a, R> {
     sockets: Option<Sockets<'a, R>>,
@@ -32,7 +32,7 @@ pub struct TcpLink<'a, R> {
 }
 
 /// What a call of `next` tells.
-fn told(arrival: Result<Arrival, NextFault>) -> Came
+fn report(arrival: Result<Arrival, NextFault>) -> Came
     ensures bytes { (conn : ℕ) (bytes : _) → arrival ≡ Ok (Arrival.Bytes conn bytes) →
         result ≡ Came.Bytes conn bytes }
     ensures tick { (result ≡ Came.Tick) ↔ (arrival ≡ Ok Arrival.Tick) }
@@ -149,7 +149,7 @@ impl<R: Net + Clock> Link for TcpLink<'_, R> {
             Some(sockets) => sockets.next(),
             None => Err(NextFault::Failed),
         };
-        let came = told(arrival);
+        let came = report(arrival);
         if let Came::Failed = &came {
             self.faults = self.faults.saturating_add(1);
         }

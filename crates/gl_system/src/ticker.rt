@@ -33,7 +33,7 @@ impl Ticker {
         ensures over { IsTrue result →
             as_nanos self.now.every ≤ instant_nanos now - instant_nanos self.now.last }
         ensures looked { IsTrue result → IsTrue self.now.looked }
-        ensures due { IsTrue self.now.looked →
+        ensures output { IsTrue self.now.looked →
             as_nanos self.now.every ≤ instant_nanos now - instant_nanos self.now.last →
             IsTrue result }
     {

@@ -19,29 +19,30 @@ struct Meter<'a, R> {
     rt: &'a R,
     begun: Instant,
     /// How long after the beginning it was told last, if it was.
-    told: Option<Duration>,
+    report: Option<Duration>,
     bytes: u64,
 }
 
 impl<R: Clock + Eprint> Meter<'_, R> {
-    fn tell(&mut self, elapsed: Duration) {
-        let up = if self.told.is_some() { "\x1b[A" } else { "" };
+    fn print(&mut self, elapsed: Duration) {
+        let up = if self.report.is_some() { "\x1b[A" } else { "" };
         let kilobytes = u128::from(self.bytes) / 1_000;
         let megabytes = kilobytes / 1_000;
         let speed = kilobytes / elapsed.as_millis().max(1);
         let line = eprint!(self.rt; "{up}{megabytes:>9} MB read, {speed:>5} MB a second\n");
         if line.is_ok() {
-            self.told = Some(elapsed);
+            self.report = Some(elapsed);
         }
     }
 
     /// Whether the last line stood long enough.
     fn is_due(&self, elapsed: Duration) -> bool {
-        let since = elapsed.saturating_sub(self.told.unwrap_or(Duration::ZERO));
+        let since = elapsed.saturating_sub(self.report.unwrap_or(Duration::ZERO));
         since >= Duration::from_millis(PAUSE)
     }
 
-    /// Counts what a read came to, and tells it where that is due. The end is told if anything was.
+    /// Counts what a read came to, and tells it where that is due. The end is reported if anything
+    /// was.
     fn add(&mut self, got: Got) {
         let is_end = match got {
             Got::Bytes(count) => {
@@ -53,13 +54,13 @@ impl<R: Clock + Eprint> Meter<'_, R> {
         let Ok(elapsed) = self.begun.elapsed(self.rt) else {
             return;
         };
-        if self.is_due(elapsed) || (is_end && self.told.is_some()) {
-            self.tell(elapsed);
+        if self.is_due(elapsed) || (is_end && self.report.is_some()) {
+            self.print(elapsed);
         }
     }
 }
 
-/// A source whose bytes are counted, if its reading is to be told.
+/// A source whose bytes are counted, if its reading is to be reported.
 #[derive(Drop)]
 pub struct WatchedSource<'a, S, R> {
     pub inner: S,
@@ -67,15 +68,15 @@ pub struct WatchedSource<'a, S, R> {
 }
 
 impl<'a, S, R: Clock + Eprint> WatchedSource<'a, S, R> {
-    /// Where there is no clock nothing is told.
-    pub fn new(inner: S, rt: &'a R, told: bool) -> Self
+    /// Where there is no clock nothing is reported.
+    pub fn new(inner: S, rt: &'a R, report: bool) -> Self
         ensures { result.inner ≡ inner }
     {
         let meter = match Instant::now(rt) {
-            Ok(begun) if told => Some(Meter {
+            Ok(begun) if report => Some(Meter {
                 rt,
                 begun,
-                told: None,
+                report: None,
                 bytes: 0,
             }),
             _ => None,

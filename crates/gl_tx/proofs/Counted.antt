@@ -1,4 +1,5 @@
--- Parts behind their count: what their reading takes, what it gives where its spelling stands, and how long that is.
+-- Parts after their count: what their reading takes, what it gives where its encoding stands, and
+-- how long that is.
 use Rattle.std.proofs.Common.{◌≡◌, ℕ, zero, suc, ◌+◌, ◌-◌, ◌≤◌, ◌<◌, Bool, true, ◌&&◌, List, [], ◌∷◌, ◌++◌, length, Result, Ok, Err, refl, sym, ap, subst, ◌∙◌, append_assoc, length-append, suc-mul, ◌*◌, ◌^◌, nat_le, inl, inr, arith}
 use Rattle.std.specs.List.{flat_map, list_all}
 use Rattle.std.proofs.lemmas.Bool.{and_parts, and_from, leb-true}
@@ -15,13 +16,13 @@ use Rattle.gl_base.specs.declared.or_no_memory.OrNoMemory.TheVariants.{NoMemory,
 use Rattle.gl_base.specs.declared.fault.CodeFault.TheVariants as faults
 use Rattle.gl_base.proofs.Steps.{bind_ok, ok_injective}
 use Rattle.gl_base.proofs.LittleEndianLaws.{length-little_endian}
-use Rattle.gl_base.proofs.Fields.{number_at-spelled, number_spelled}
+use Rattle.gl_base.proofs.Fields.{number_at-encoded, number_encoded}
 use Rattle.gl_base.proofs.ByteLists.{AreBytes, AreBytes-take}
 use Rattle.gl_base.proofs.RowLaws.{field_ok}
 use Rattle.gl_tx.specs.Request.{is_count}
-use Rattle.gl_tx.specs.Reading.{count_result, count_at}
-use Rattle.gl_base.proofs.Readings.{IsSpelled, IsRead, both_parts, bytes_left, chosen}
-use Rattle.gl_base.proofs.Repeated.{Repeats, many-spelled, many-read, length-flat_map-le}
+use Rattle.gl_tx.specs.Parsing.{count_result, count_at}
+use Rattle.gl_base.proofs.ParsedBytes.{IsEncoded, IsRead, both_parts, bytes_left, chosen}
+use Rattle.gl_base.proofs.Repeated.{Repeats, many-encoded, many-read, length-flat_map-le}
 
 abbrev pub counted_at : {X : Type 0} → (ℕ → Unread → Result (List X × Unread) CodeFault) → Unread → Result (List X × Unread) CodeFault
 counted_at many unread = count_at unread >>= λ count. many count.0 count.1
@@ -41,13 +42,13 @@ count_ok place count read e =
       | inr without ↦ cc
     ]
 
-count-spelled : IsSpelled count_at (little_endian 2) is_count
+count-encoded : IsEncoded count_at (little_endian 2) is_count
 unfolding count_at
-count-spelled old new n all e =
+count-encoded old new n all e =
     let number = bind_ok {A = ℕ × Unread} {B = ℕ × Unread} {E = CodeFault} (field (number_at 2 old)) (count_result old.at) (n, new) e in
     let count = count_ok old.at number.0 (n, new) number.2 in
     let read : number_at 2 old ≡ Ok (n, new) = field_ok (number_at 2 old) number.0 number.1 ∙ ap (λ (y : ℕ × Unread). Ok y) count.1 in
-    let parts = number_spelled 2 n old new (AreBytes-take 2 old.bytes all) read in
+    let parts = number_encoded 2 n old new (AreBytes-take 2 old.bytes all) read in
     record { parts = parts; left = bytes_left old.bytes (little_endian 2 n) new.bytes all parts; limits = count.0 }
 
 count-read : IsRead count_at (little_endian 2) is_count
@@ -56,19 +57,19 @@ count-read at n rest is =
     let both = and_parts (nat_le 1 n) (nat_le n 64) is in
     let within = leb-true n 64 both.1 in
     let small : n < 256 ^ 2 = omega arith in
-    let there = number_at-spelled 2 at n rest small in
+    let there = number_at-encoded 2 at n rest small in
     record { place = at + 2; read = rw (there, is) refl }
 
-pub counted-spelled : {X : Type 0} {one : Unread → Result (X × Unread) CodeFault} {many : ℕ → Unread → Result (List X × Unread) CodeFault} → Repeats one many
-    → (bytes : X → List ℕ) (is : X → Bool) → IsSpelled one bytes is → IsSpelled (counted_at many) (counted_bytes bytes) (are_counted is)
-counted-spelled {X = X} {many = many} repeats bytes is spelled old new xs all e =
+pub counted-encoded : {X : Type 0} {one : Unread → Result (X × Unread) CodeFault} {many : ℕ → Unread → Result (List X × Unread) CodeFault} → Repeats one many
+    → (bytes : X → List ℕ) (is : X → Bool) → IsEncoded one bytes is → IsEncoded (counted_at many) (counted_bytes bytes) (are_counted is)
+counted-encoded {X = X} {many = many} repeats bytes is encoded old new xs all e =
     let count = bind_ok {A = ℕ × Unread} {B = List X × Unread} {E = CodeFault} (count_at old) (λ (count : ℕ × Unread). many count.0 count.1) (xs, new) e in
-    let first = count-spelled old count.0.1 count.0.0 all count.1 in
-    let rest = many-spelled repeats bytes is spelled count.0.0 count.0.1 new xs first.left count.2 in
-    let front : old.bytes ≡ little_endian 2 (length xs) ++ count.0.1.bytes = subst (λ (n : ℕ). old.bytes ≡ little_endian 2 n ++ count.0.1.bytes) (sym rest.1) first.parts in
+    let first = count-encoded old count.0.1 count.0.0 all count.1 in
+    let rest = many-encoded repeats bytes is encoded count.0.0 count.0.1 new xs first.left count.2 in
+    let prefix : old.bytes ≡ little_endian 2 (length xs) ++ count.0.1.bytes = subst (λ (n : ℕ). old.bytes ≡ little_endian 2 n ++ count.0.1.bytes) (sym rest.1) first.parts in
     let limits : is_count (length xs) ≡ true = subst (λ (n : ℕ). is_count n ≡ true) (sym rest.1) first.limits in
     record {
-      parts = both_parts old.bytes (little_endian 2 (length xs)) count.0.1.bytes (flat_map bytes xs) new.bytes front rest.0.parts;
+      parts = both_parts old.bytes (little_endian 2 (length xs)) count.0.1.bytes (flat_map bytes xs) new.bytes prefix rest.0.parts;
       left = rest.0.left;
       limits = and_from (is_count (length xs)) (list_all is xs) limits rest.0.limits;
     }
@@ -85,7 +86,7 @@ counted-read {many = many} repeats bytes is read at xs rest limits =
       read = ap (λ (ys : List ℕ). counted_at many (record { at = at; bytes = ys })) regrouped ∙ rw (count.read, others.read) refl;
     }
 
--- ---- how long its spelling is
+-- ---- how long its encoding is
 
 pub length-counted_bytes-le : {X : Type 0} → (bytes : X → List ℕ) (is : X → Bool) (most : ℕ) → ((x : X) → is x ≡ true → length (bytes x) ≤ most)
     → (xs : List X) → are_counted is xs ≡ true → length (counted_bytes bytes xs) ≤ 2 + 64 * most

@@ -1,4 +1,5 @@
--- Requests and replies: what is spelled so is read, what is read is spelled so, and how long the spelling is.
+-- Requests and replies: what is encoded so is read, what is read is encoded so, and how long the
+-- encoding is.
 use Rattle.std.proofs.Common.{◌≡◌, ℕ, ◌+◌, ◌^◌, ◌<◌, ◌≤◌, true, ◌&&◌, nat_le, List, ◌++◌, length, Option, None, Some, Ok, length-append, arith}
 use Rattle.std.specs.List.{list_all}
 use Rattle.std.proofs.lemmas.Bool.{and_parts, leb-true}
@@ -10,42 +11,42 @@ use Rattle.gl_vmaps.specs.Writes.{is_written_value}
 use Rattle.gl_base.specs.Row.{map_name_bytes, key_bytes, value_bytes, optional_value_bytes}
 use Rattle.gl_base.proofs.ByteLists.{AreBytes}
 use Rattle.gl_tx.specs.Request.{is_row, is_u64, is_operation, is_request, is_answer, is_reply, operation_bytes, request_bytes, answer_bytes, reply_bytes}
-use Rattle.gl_tx.specs.Reading.{request_at, request_of, reply_at, reply_of}
+use Rattle.gl_tx.specs.Parsing.{request_at, request_of, reply_at, reply_of}
 use Rattle.gl_tx.specs.declared.request.Operation.{Operation}
 use Rattle.gl_tx.specs.declared.request.Operation.TheVariants.{Get, Has, Put, Remove, Add, Check, Follow, Size}
 use Rattle.gl_tx.specs.declared.request.Answer.{Answer}
 use Rattle.gl_tx.specs.declared.request.Answer.TheVariants as answers
-use Rattle.gl_base.proofs.Readings.{IsSpelled, IsRead, whole-spelled, whole-read}
-use Rattle.gl_tx.proofs.Counted.{counted-spelled, counted-read, length-counted_bytes-le}
-use Rattle.gl_tx.proofs.Operations.{operations_repeat, operation-spelled, operation-read}
-use Rattle.gl_tx.proofs.Replies.{answers_repeat, answer-spelled, answer-read}
+use Rattle.gl_base.proofs.ParsedBytes.{IsEncoded, IsRead, whole-encoded, whole-read}
+use Rattle.gl_tx.proofs.Counted.{counted-encoded, counted-read, length-counted_bytes-le}
+use Rattle.gl_tx.proofs.Operations.{operations_repeat, operation-encoded, operation-read}
+use Rattle.gl_tx.proofs.Replies.{answers_repeat, answer-encoded, answer-read}
 
 -- ---- both ways
 
-pub request_at-spelled : IsSpelled request_at request_bytes is_request
+pub request_at-encoded : IsEncoded request_at request_bytes is_request
 unfolding request_at
-request_at-spelled = counted-spelled operations_repeat operation_bytes is_operation operation-spelled
+request_at-encoded = counted-encoded operations_repeat operation_bytes is_operation operation-encoded
 
 request_at-read : IsRead request_at request_bytes is_request
 unfolding request_at
 request_at-read = counted-read operations_repeat operation_bytes is_operation operation-read
 
-pub request-spelled : (bytes : List ℕ) (operations : List Operation) → AreBytes bytes → request_of bytes ≡ Ok operations → (is_request operations ≡ true) × (bytes ≡ request_bytes operations)
-request-spelled = whole-spelled request_at request_bytes is_request request_at-spelled
+pub request-encoded : (bytes : List ℕ) (operations : List Operation) → AreBytes bytes → request_of bytes ≡ Ok operations → (is_request operations ≡ true) × (bytes ≡ request_bytes operations)
+request-encoded = whole-encoded request_at request_bytes is_request request_at-encoded
 
 pub request-read : (operations : List Operation) → is_request operations ≡ true → request_of (request_bytes operations) ≡ Ok operations
 request-read = whole-read request_at request_bytes is_request request_at-read
 
-pub reply_at-spelled : IsSpelled reply_at reply_bytes is_reply
+pub reply_at-encoded : IsEncoded reply_at reply_bytes is_reply
 unfolding reply_at
-reply_at-spelled = counted-spelled answers_repeat answer_bytes is_answer answer-spelled
+reply_at-encoded = counted-encoded answers_repeat answer_bytes is_answer answer-encoded
 
 reply_at-read : IsRead reply_at reply_bytes is_reply
 unfolding reply_at
 reply_at-read = counted-read answers_repeat answer_bytes is_answer answer-read
 
-pub reply-spelled : (bytes : List ℕ) (answers : List Answer) → AreBytes bytes → reply_of bytes ≡ Ok answers → (is_reply answers ≡ true) × (bytes ≡ reply_bytes answers)
-reply-spelled = whole-spelled reply_at reply_bytes is_reply reply_at-spelled
+pub reply-encoded : (bytes : List ℕ) (answers : List Answer) → AreBytes bytes → reply_of bytes ≡ Ok answers → (is_reply answers ≡ true) × (bytes ≡ reply_bytes answers)
+reply-encoded = whole-encoded reply_at reply_bytes is_reply reply_at-encoded
 
 pub reply-read : (answers : List Answer) → is_reply answers ≡ true → reply_of (reply_bytes answers) ≡ Ok answers
 reply-read = whole-read reply_at reply_bytes is_reply reply_at-read

@@ -1,4 +1,4 @@
--- What an operation is spelled as reads back, and what reads is spelled so.
+-- What an operation is encoded as reads back, and what reads is encoded so.
 use Rattle.std.proofs.Common.{◌≡◌, ℕ, ◌+◌, Bool, true, cond, ◌&&◌, ◌==◌, List, ◌∷◌, ◌++◌, Result, Ok, refl, sym, ap, subst, ◌∙◌, append_assoc, inl, inr}
 use Rattle.std.proofs.lemmas.Bool.{and_parts, and_from, eqb-true}
 use Rattle.gl_base.specs.LittleEndian.{little_endian}
@@ -14,12 +14,12 @@ use Rattle.gl_vmaps.specs.Name.{value_limit}
 use Rattle.gl_base.proofs.RowLaws.{field_ok, flag-took}
 use Rattle.gl_base.proofs.ByteLists.{AreBytes}
 use Rattle.gl_tx.specs.Request.{is_u64, is_row, is_operation, operation_bytes}
-use Rattle.gl_tx.specs.Reading.{row_at, get_at, has_at, put_at, remove_at, add_at, check_at, follow_at, size_at, operation_behind, operation_at, operations_at}
+use Rattle.gl_tx.specs.Parsing.{row_at, get_at, has_at, put_at, remove_at, add_at, check_at, follow_at, size_at, operation_after, operation_at, operations_at}
 use Rattle.gl_tx.specs.declared.request.Operation.{Operation}
 use Rattle.gl_tx.specs.declared.request.Operation.TheVariants.{Get, Has, Put, Remove, Add, Check, Follow, Size}
-use Rattle.gl_base.proofs.Readings.{Spelled, IsSpelled, Gets, IsRead, both_parts, bytes_left, chosen}
+use Rattle.gl_base.proofs.ParsedBytes.{Encoded, IsEncoded, Gets, IsRead, both_parts, bytes_left, chosen}
 use Rattle.gl_base.proofs.Repeated.{Repeats}
-use Rattle.gl_tx.proofs.Fields.{u64-spelled, u64-read, map-spelled, map-read, key-spelled, key-read, value-spelled, value-read, optional-spelled, optional-read}
+use Rattle.gl_tx.proofs.Fields.{u64-encoded, u64-read, map-encoded, map-read, key-encoded, key-read, value-encoded, value-read, optional-encoded, optional-read}
 use Rattle.gl_base.proofs.Fields.{tag_read}
 
 pub operations_repeat : Repeats operation_at operations_at
@@ -37,19 +37,19 @@ is_such_row row = is_row row.0 row.1
 abbrev with_map : List ℕ → List ℕ × Unread → Result ((List ℕ × List ℕ) × Unread) CodeFault
 with_map map key = Ok ((map, key.0), key.1)
 
-row-spelled : IsSpelled row_at row_bytes is_such_row
+row-encoded : IsEncoded row_at row_bytes is_such_row
 unfolding row_at
-row-spelled old new row all e =
+row-encoded old new row all e =
     let map = bind_ok {A = List ℕ × Unread} {B = (List ℕ × List ℕ) × Unread} {E = CodeFault} (map_name_at old)
     (λ (map : List ℕ × Unread). key_at map.1 >>= with_map map.0) (row, new) e in
     let key = bind_ok {A = List ℕ × Unread} {B = (List ℕ × List ℕ) × Unread} {E = CodeFault} (key_at map.0.1) (with_map map.0.0) (row, new) map.2 in
-    let first = map-spelled old map.0.1 map.0.0 all map.1 in
-    let second = key-spelled map.0.1 key.0.1 key.0.0 first.left key.1 in
+    let first = map-encoded old map.0.1 map.0.0 all map.1 in
+    let second = key-encoded map.0.1 key.0.1 key.0.0 first.left key.1 in
     let parts = both_parts old.bytes (map_name_bytes map.0.0) map.0.1.bytes (key_bytes key.0.0) key.0.1.bytes first.parts second.parts in
     let limits = and_from (is_map_name map.0.0) (is_key key.0.0) first.limits second.limits in
     let same : ◌≡◌ {A = (List ℕ × List ℕ) × Unread} ((map.0.0, key.0.0), key.0.1) (row, new) =
     ok_injective {A = (List ℕ × List ℕ) × Unread} {E = CodeFault} ((map.0.0, key.0.0), key.0.1) (row, new) key.2 in
-    subst (λ (y : (List ℕ × List ℕ) × Unread). Spelled row_bytes is_such_row old y.0 y.1) {x = ((map.0.0, key.0.0), key.0.1)} same
+    subst (λ (y : (List ℕ × List ℕ) × Unread). Encoded row_bytes is_such_row old y.0 y.1) {x = ((map.0.0, key.0.0), key.0.1)} same
     (record { parts = parts; left = second.left; limits = limits })
 
 row-read : IsRead row_at row_bytes is_such_row
@@ -64,11 +64,11 @@ row-read at row rest is =
       read = ap (λ (ys : List ℕ). row_at (record { at = at; bytes = ys })) regrouped ∙ rw (map.read, key.read) refl;
     }
 
--- ---- what stands behind a tag
+-- ---- what stands after a tag
 
--- What is read behind a tag is spelled with the tag in front.
-abbrev IsBehind : ℕ → (Unread → Result (Operation × Unread) CodeFault) → Type 0
-IsBehind tag reading = (old new : Unread) (o : Operation) → AreBytes old.bytes → reading old ≡ Ok (o, new)
+-- What is read after a tag is encoded with the tag before it.
+abbrev IsAfter : ℕ → (Unread → Result (Operation × Unread) CodeFault) → Type 0
+IsAfter tag reading = (old new : Unread) (o : Operation) → AreBytes old.bytes → reading old ≡ Ok (o, new)
     → (tag ∷ old.bytes ≡ operation_bytes o ++ new.bytes) × (is_operation o ≡ true)
 
 -- A row alone makes an operation, or a row and one more field.
@@ -81,32 +81,32 @@ made_of make row y = Ok (make row.0 row.1 y.0, y.1)
 abbrev row_and : {Y : Type 0} → (Unread → Result (Y × Unread) CodeFault) → (List ℕ → List ℕ → Y → Operation) → Unread → Result (Operation × Unread) CodeFault
 row_and field_at make unread = row_at unread >>= λ row. field_at row.1 >>= made_of make row.0
 
-row_behind : (tag : ℕ) (make : List ℕ → List ℕ → Operation)
+row_after : (tag : ℕ) (make : List ℕ → List ℕ → Operation)
     → ((map key : List ℕ) → operation_bytes (make map key) ≡ (tag ∷ map_name_bytes map) ++ key_bytes key)
     → ((map key : List ℕ) → is_operation (make map key) ≡ is_row map key)
-    → IsBehind tag (λ unread. row_at unread >>= made_of_row make)
-row_behind tag make bytes is old new o all e =
+    → IsAfter tag (λ unread. row_at unread >>= made_of_row make)
+row_after tag make bytes is old new o all e =
     let row = bind_ok {A = (List ℕ × List ℕ) × Unread} {B = Operation × Unread} {E = CodeFault} (row_at old) (made_of_row make) (o, new) e in
-    let spelled = row-spelled old row.0.1 row.0.0 all row.1 in
+    let encoded = row-encoded old row.0.1 row.0.0 all row.1 in
     let parts : tag ∷ old.bytes ≡ operation_bytes (make row.0.0.0 row.0.0.1) ++ row.0.1.bytes =
-    rw (bytes row.0.0.0 row.0.0.1) (ap (λ (ys : List ℕ). tag ∷ ys) spelled.parts) in
-    let limits : is_operation (make row.0.0.0 row.0.0.1) ≡ true = is row.0.0.0 row.0.0.1 ∙ spelled.limits in
+    rw (bytes row.0.0.0 row.0.0.1) (ap (λ (ys : List ℕ). tag ∷ ys) encoded.parts) in
+    let limits : is_operation (make row.0.0.0 row.0.0.1) ≡ true = is row.0.0.0 row.0.0.1 ∙ encoded.limits in
     let same : ◌≡◌ {A = Operation × Unread} (make row.0.0.0 row.0.0.1, row.0.1) (o, new) =
     ok_injective {A = Operation × Unread} {E = CodeFault} (make row.0.0.0 row.0.0.1, row.0.1) (o, new) row.2 in
     subst (λ (y : Operation × Unread). (tag ∷ old.bytes ≡ operation_bytes y.0 ++ y.1.bytes) × (is_operation y.0 ≡ true)) {x = (make row.0.0.0 row.0.0.1, row.0.1)} same
     (parts, limits)
 
-row_and_behind : {Y : Type 0} → (tag : ℕ) (field_at : Unread → Result (Y × Unread) CodeFault) (field_bytes : Y → List ℕ) (is_field : Y → Bool) (make : List ℕ → List ℕ → Y → Operation)
-    → IsSpelled field_at field_bytes is_field
+row_and_after : {Y : Type 0} → (tag : ℕ) (field_at : Unread → Result (Y × Unread) CodeFault) (field_bytes : Y → List ℕ) (is_field : Y → Bool) (make : List ℕ → List ℕ → Y → Operation)
+    → IsEncoded field_at field_bytes is_field
     → ((map key : List ℕ) (y : Y) → operation_bytes (make map key y) ≡ (tag ∷ map_name_bytes map) ++ key_bytes key ++ field_bytes y)
     → ((map key : List ℕ) (y : Y) → is_operation (make map key y) ≡ (is_row map key && is_field y))
-    → IsBehind tag (row_and field_at make)
-row_and_behind {Y = Y} tag field_at field_bytes is_field make field-spelled bytes is old new o all e =
+    → IsAfter tag (row_and field_at make)
+row_and_after {Y = Y} tag field_at field_bytes is_field make field-encoded bytes is old new o all e =
     let row = bind_ok {A = (List ℕ × List ℕ) × Unread} {B = Operation × Unread} {E = CodeFault} (row_at old)
     (λ (row : (List ℕ × List ℕ) × Unread). field_at row.1 >>= made_of make row.0) (o, new) e in
     let last = bind_ok {A = Y × Unread} {B = Operation × Unread} {E = CodeFault} (field_at row.0.1) (made_of make row.0.0) (o, new) row.2 in
-    let first = row-spelled old row.0.1 row.0.0 all row.1 in
-    let second = field-spelled row.0.1 last.0.1 last.0.0 first.left last.1 in
+    let first = row-encoded old row.0.1 row.0.0 all row.1 in
+    let second = field-encoded row.0.1 last.0.1 last.0.0 first.left last.1 in
     let made : Operation = make row.0.0.0 row.0.0.1 last.0.0 in
     let together = both_parts old.bytes (row_bytes row.0.0) row.0.1.bytes (field_bytes last.0.0) last.0.1.bytes first.parts second.parts in
     let parts : tag ∷ old.bytes ≡ operation_bytes (make row.0.0.0 row.0.0.1 last.0.0) ++ last.0.1.bytes =
@@ -118,71 +118,71 @@ row_and_behind {Y = Y} tag field_at field_bytes is_field make field-spelled byte
     subst (λ (y : Operation × Unread). (tag ∷ old.bytes ≡ operation_bytes y.0 ++ y.1.bytes) × (is_operation y.0 ≡ true)) {x = (make row.0.0.0 row.0.0.1 last.0.0, last.0.1)} same
     (parts, limits)
 
-get_behind : IsBehind 1 get_at
+get_after : IsAfter 1 get_at
 unfolding get_at
-get_behind = row_behind 1 Get (λ map key. refl) (λ map key. refl)
+get_after = row_after 1 Get (λ map key. refl) (λ map key. refl)
 
-has_behind : IsBehind 2 has_at
+has_after : IsAfter 2 has_at
 unfolding has_at
-has_behind = row_behind 2 Has (λ map key. refl) (λ map key. refl)
+has_after = row_after 2 Has (λ map key. refl) (λ map key. refl)
 
-put_behind : IsBehind 3 put_at
+put_after : IsAfter 3 put_at
 unfolding put_at
-put_behind = row_and_behind 3 (value_at value_limit) value_bytes is_value Put value-spelled (λ map key value. refl) (λ map key value. refl)
+put_after = row_and_after 3 (value_at value_limit) value_bytes is_value Put value-encoded (λ map key value. refl) (λ map key value. refl)
 
-remove_behind : IsBehind 4 remove_at
+remove_after : IsAfter 4 remove_at
 unfolding remove_at
-remove_behind = row_behind 4 Remove (λ map key. refl) (λ map key. refl)
+remove_after = row_after 4 Remove (λ map key. refl) (λ map key. refl)
 
-add_behind : IsBehind 5 add_at
+add_after : IsAfter 5 add_at
 unfolding add_at
-add_behind = row_and_behind 5 (λ unread. field (number_at 8 unread)) (little_endian 8) is_u64 Add u64-spelled (λ map key amount. refl) (λ map key amount. refl)
+add_after = row_and_after 5 (λ unread. field (number_at 8 unread)) (little_endian 8) is_u64 Add u64-encoded (λ map key amount. refl) (λ map key amount. refl)
 
-check_behind : IsBehind 6 check_at
+check_after : IsAfter 6 check_at
 unfolding check_at
-check_behind = row_and_behind 6 (optional_value_at value_limit) optional_value_bytes is_written_value Check optional-spelled (λ map key expected. refl) (λ map key expected. refl)
+check_after = row_and_after 6 (optional_value_at value_limit) optional_value_bytes is_written_value Check optional-encoded (λ map key expected. refl) (λ map key expected. refl)
 
-follow_behind : IsBehind 7 follow_at
+follow_after : IsAfter 7 follow_at
 unfolding follow_at
-follow_behind = row_and_behind 7 map_name_at map_name_bytes is_map_name Follow map-spelled (λ map key target. refl) (λ map key target. refl)
+follow_after = row_and_after 7 map_name_at map_name_bytes is_map_name Follow map-encoded (λ map key target. refl) (λ map key target. refl)
 
 abbrev made_of_map : List ℕ × Unread → Result (Operation × Unread) CodeFault
 made_of_map map = Ok (Size map.0, map.1)
 
-size_behind : IsBehind 8 size_at
+size_after : IsAfter 8 size_at
 unfolding size_at
-size_behind old new o all e =
+size_after old new o all e =
     let map = bind_ok {A = List ℕ × Unread} {B = Operation × Unread} {E = CodeFault} (map_name_at old) made_of_map (o, new) e in
-    let spelled = map-spelled old map.0.1 map.0.0 all map.1 in
+    let encoded = map-encoded old map.0.1 map.0.0 all map.1 in
     let same : ◌≡◌ {A = Operation × Unread} (Size map.0.0, map.0.1) (o, new) = ok_injective {A = Operation × Unread} {E = CodeFault} (Size map.0.0, map.0.1) (o, new) map.2 in
     subst (λ (y : Operation × Unread). (8 ∷ old.bytes ≡ operation_bytes y.0 ++ y.1.bytes) × (is_operation y.0 ≡ true)) {x = (Size map.0.0, map.0.1)} same
-    (ap (λ (ys : List ℕ). 8 ∷ ys) spelled.parts, spelled.limits)
+    (ap (λ (ys : List ℕ). 8 ∷ ys) encoded.parts, encoded.limits)
 
 -- One more tag.
-or_tag : (tag k : ℕ) (there others : Unread → Result (Operation × Unread) CodeFault) → IsBehind k there → IsBehind tag others
-    → IsBehind tag (λ unread. cond (tag == k) (there unread) (others unread))
+or_tag : (tag k : ℕ) (there others : Unread → Result (Operation × Unread) CodeFault) → IsAfter k there → IsAfter tag others
+    → IsAfter tag (λ unread. cond (tag == k) (there unread) (others unread))
 or_tag tag k there others is others_are old new o all e =
     elim (chosen {A = Result (Operation × Unread) CodeFault} (tag == k) (there old) (others old) (Ok (o, new)) e) [
       | inl it ↦ subst (λ (t : ℕ). (t ∷ old.bytes ≡ operation_bytes o ++ new.bytes) × (is_operation o ≡ true)) (sym (eqb-true tag k it.0)) (is old new o all it.1)
       | inr other ↦ others_are old new o all other.1
     ]
 
-behind_tag : (place tag : ℕ) → IsBehind tag (λ unread. operation_behind place (tag, unread))
-behind_tag place tag =
-    or_tag tag 1 _ _ get_behind (or_tag tag 2 _ _ has_behind (or_tag tag 3 _ _ put_behind (or_tag tag 4 _ _ remove_behind
-    (or_tag tag 5 _ _ add_behind (or_tag tag 6 _ _ check_behind (or_tag tag 7 _ _ follow_behind (or_tag tag 8 _ _ size_behind
+after_tag : (place tag : ℕ) → IsAfter tag (λ unread. operation_after place (tag, unread))
+after_tag place tag =
+    or_tag tag 1 _ _ get_after (or_tag tag 2 _ _ has_after (or_tag tag 3 _ _ put_after (or_tag tag 4 _ _ remove_after
+    (or_tag tag 5 _ _ add_after (or_tag tag 6 _ _ check_after (or_tag tag 7 _ _ follow_after (or_tag tag 8 _ _ size_after
     (λ old new o all e. cc))))))))
 
-pub operation-spelled : IsSpelled operation_at operation_bytes is_operation
+pub operation-encoded : IsEncoded operation_at operation_bytes is_operation
 unfolding operation_at
-operation-spelled old new o all e =
-    let tag = bind_ok {A = ℕ × Unread} {B = Operation × Unread} {E = CodeFault} (field (number_at 1 old)) (operation_behind old.at) (o, new) e in
+operation-encoded old new o all e =
+    let tag = bind_ok {A = ℕ × Unread} {B = Operation × Unread} {E = CodeFault} (field (number_at 1 old)) (operation_after old.at) (o, new) e in
     let flag = flag-took tag.0.0 old tag.0.1 all (field_ok (number_at 1 old) tag.0 tag.1) in
-    let behind = behind_tag old.at tag.0.0 tag.0.1 new o flag.rest tag.2 in
-    let parts : old.bytes ≡ operation_bytes o ++ new.bytes = flag.bytes ∙ behind.0 in
-    record { parts = parts; left = bytes_left old.bytes (operation_bytes o) new.bytes all parts; limits = behind.1 }
+    let after = after_tag old.at tag.0.0 tag.0.1 new o flag.rest tag.2 in
+    let parts : old.bytes ≡ operation_bytes o ++ new.bytes = flag.bytes ∙ after.0 in
+    record { parts = parts; left = bytes_left old.bytes (operation_bytes o) new.bytes all parts; limits = after.1 }
 
--- ---- what is spelled so is read
+-- ---- what is encoded so is read
 
 row_and_read : {Y : Type 0} → (field_at : Unread → Result (Y × Unread) CodeFault) (field_bytes : Y → List ℕ) (is_field : Y → Bool) (make : List ℕ → List ℕ → Y → Operation)
     → IsRead field_at field_bytes is_field

@@ -21,10 +21,10 @@ pub aborted_next : (answers : List Answer) (operations : List Operation) (operat
     i < length operations → operation ≡ get_or operations i operation →
     so_far answers (run_from (suc i) (drop i operations) s ws) ≡ total →
     ((rest : List Operation) → Fails e (run_from (i + 1) (operation ∷ rest) s ws)) → Fails e total
-aborted_next answers operations operation i s ws total NoMemory within is told fails = tt
-aborted_next answers operations operation i s ws total (Fault abort) within is told fails =
+aborted_next answers operations operation i s ws total NoMemory within is reported fails = tt
+aborted_next answers operations operation i s ws total (Fault abort) within is reported fails =
     let next : drop i operations ≡ operation ∷ drop (suc i) operations =
     drop-cons operations i operation within ∙ ap (λ (o : Operation). o ∷ drop (suc i) operations) (sym is) in
-    sym told ∙ ap (λ (os : List Operation). so_far answers (run_from (suc i) os s ws)) next
+    sym reported ∙ ap (λ (os : List Operation). so_far answers (run_from (suc i) os s ws)) next
     ∙ ap (λ (n : ℕ). so_far answers (run_from n (operation ∷ drop (suc i) operations) s ws)) (sym (add-one i))
     ∙ ap (so_far answers) (fails (drop (suc i) operations))

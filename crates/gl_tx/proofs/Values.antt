@@ -19,6 +19,6 @@ is_value-number n =
     let eight = length-little_endian 8 n in
     value-valid value_limit (little_endian 8 n) (are_bytes-true (little_endian 8 n) (AreBytes-little_endian 8 n)) (omega arith)
 
--- eight bytes hold the number that they spell
+-- eight bytes hold the number that they encode
 pub number_in-eight : (value : List ℕ) (n : ℕ) → length value ≡ 8 → n ≡ from_little_endian value → Ok n ≡ number_in (Some value)
 number_in-eight value n long is = rw (is, eq-eqb (length value) 8 long) refl

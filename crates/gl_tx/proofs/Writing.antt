@@ -1,9 +1,9 @@
--- What is seen behind the write set of a request.
+-- What is seen after the write set of a request.
 use Rattle.std.proofs.Common.{◌≡◌, ◌≤◌, ℕ, ◌+◌, ◌-◌, List, [], ◌∷◌, Option, Result, Ok, Err, OnOk, OnErr, IsTrue, sym, ◌∙◌, ap, subst, arith, length}
 use Rattle.std.specs.declared.cmp.Ordering.{Ordering}
 use Rattle.std.specs.declared.cmp.Ordering.TheVariants.{Less, Equal, Greater}
 use Rattle.gl_vmaps.specs.Growth.{gained, lost}
-use Rattle.gl_vmaps.specs.LastWrite.{value_behind}
+use Rattle.gl_vmaps.specs.LastWrite.{value_after}
 use Rattle.gl_vmaps.specs.Kept.{Kept}
 use Rattle.gl_vmaps.specs.Standing.{StandsFor}
 use Rattle.gl_vmaps.specs.Tables.{Tables, wrote_all, value_in, size_of}
@@ -19,19 +19,20 @@ use Rattle.gl_tx.specs.Run.{run_seeing, run}
 use Rattle.gl_tx.specs.declared.abort.Abort.{Abort}
 use Rattle.gl_tx.specs.declared.request.Operation.{Operation}
 use Rattle.gl_tx.specs.declared.runs.Ran.{Ran}
-use Rattle.gl_tx.specs.Sees.{Sees, sees_in, sees_of, write_to, behind}
+use Rattle.gl_tx.specs.Sees.{Sees, sees_in, sees_of, write_to, suffix}
 
--- What is seen behind a write set on a finite map is the finite map that the set was written to.
-pub behind-sees_in : (t : Tables) (ws : List Write) → IsTrue (is_ordered ws) → behind (sees_in t) ws ≡ sees_in (wrote_all t ws)
-behind-sees_in t ws ordered = λ i. record { value = λ map key. sym (value_same map key) i; size = λ map. size_same map i }
+-- What is seen after a write set on a finite map is the finite map that the set was written to.
+pub suffix-sees_in : (t : Tables) (ws : List Write) → IsTrue (is_ordered ws) → suffix (sees_in t) ws ≡ sees_in (wrote_all t ws)
+suffix-sees_in t ws ordered = λ i. record { value = λ map key. sym (value_same map key) i; size = λ map. size_same map i }
   where
-    value_same : (map key : List ℕ) → value_in (wrote_all t ws) map key ≡ value_behind (write_to map key ws) (value_in t map key)
-    value_same map key = value_in-wrote_all t ws map key ∙ ap (λ (o : Option Write). value_behind o (value_in t map key)) (last_write-find map key ws ordered)
+    value_same : (map key : List ℕ) → value_in (wrote_all t ws) map key ≡ value_after (write_to map key ws) (value_in t map key)
+    value_same map key = value_in-wrote_all t ws map key ∙ ap (λ (o : Option Write). value_after o (value_in t map key)) (last_write-find map key ws ordered)
 
     size_same : (map : List ℕ) → size_of t map + gained (value_in t) map ws - lost (value_in t) map ws ≡ size_of (wrote_all t ws) map
     size_same map = let all = size_of-wrote_all t ws map ordered in omega (arith, all)
 
--- What is seen of tables is what is seen of the finite map that the writes make for which they stand.
+-- What is seen of tables is what is seen of the finite map that the writes make for which they
+-- stand.
 pub sees_of-stands : (t : Kept) (ps : List Placed) → StandsFor t ps → sees_of t ≡ sees_in (written_by ps)
 sees_of-stands t ps stands = λ i. record { value = λ map key. value_of-stands t ps stands map key i; size = λ map. count_of-stands t ps stands map i }
 
@@ -50,11 +51,11 @@ pub length-put : {E : Type 0} (r : Result (Unit {0}) E) (old new : List Write) (
 length-put (Ok x) old new w put = rw put (length-with_write old w)
 length-put (Err e) old new w put = tt
 
--- what holds of a set before a put and of the set that is owed holds behind the put
-pub behind_put : {E : Type 0} (P : List Write → Type 0) (r : Result (Unit {0}) E) (old owed new : List Write) →
-    OnOk r (new ≡ owed) → OnErr r (new ≡ old) → P old → P owed → P new
-behind_put P (Ok x) old owed new put kept before after = subst P (sym put) after
-behind_put P (Err e) old owed new put kept before after = subst P (sym kept) before
+-- what holds of a set before a put and of the expected set holds after the put
+pub after_put : {E : Type 0} (P : List Write → Type 0) (r : Result (Unit {0}) E) (old expected_output new : List Write) →
+    OnOk r (new ≡ expected_output) → OnErr r (new ≡ old) → P old → P expected_output → P new
+after_put P (Ok x) old expected_output new put kept before after = subst P (sym put) after
+after_put P (Err e) old expected_output new put kept before after = subst P (sym kept) before
 
 -- What a run gives on tables it gives on the finite map that the writes make for which they stand.
 pub run-stands : (r : Result Ran (OrNoMemory Abort)) (os : List Operation) (t : Kept) (ps : List Placed) → StandsFor t ps →

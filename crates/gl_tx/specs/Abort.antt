@@ -1,4 +1,4 @@
--- The numbers by which a program tells why an operation failed.
+-- The numbers by which a program reports why an operation failed.
 use Rattle.std.specs.Prelude.{ℕ}
 use Rattle.gl_tx.specs.declared.abort.Cause.{Cause}
 use Rattle.gl_tx.specs.declared.abort.Cause.TheVariants.{NotPublic, Reserved, NotNumber, Overflow, Check, BadKey}

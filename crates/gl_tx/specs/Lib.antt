@@ -1,5 +1,5 @@
 pub mod Request
-pub mod Reading
+pub mod Parsing
 pub mod Abort
 pub mod Sees
 pub mod Run

@@ -5,7 +5,7 @@ use Rattle.gl_vmaps.specs.Name.{is_public, is_governance, is_internal, is_key}
 use Rattle.gl_vmaps.specs.Tables.{Tables, same_bytes, same_value}
 use Rattle.gl_vmaps.specs.Writes.{with_write}
 use Rattle.gl_vmaps.specs.declared.write.Write.{Write}
-use Rattle.gl_tx.specs.Sees.{Sees, sees_in, has_key, behind}
+use Rattle.gl_tx.specs.Sees.{Sees, sees_in, has_key, suffix}
 use Rattle.gl_tx.specs.declared.request.Operation.{Operation}
 use Rattle.gl_tx.specs.declared.request.Operation.TheVariants.{Get, Has, Put, Remove, Add, Check, Follow, Size}
 use Rattle.gl_tx.specs.declared.request.Answer.{Answer}
@@ -107,7 +107,7 @@ abbrev pub with_writes : List Write → Option Write → List Write
 with_writes ws None = ws
 with_writes ws (Some w) = with_write ws w
 
--- The answer of an operation before those of the operations behind it, unless one of these fails.
+-- The answer of an operation before those of the operations after it, unless one of these fails.
 abbrev pub with_answer : Answer → Result Ran Abort → Result Ran Abort
 with_answer answer (Ok ran) = Ok (record ran { reply = answer ∷ ran.reply })
 with_answer answer (Err abort) = Err abort
@@ -118,12 +118,12 @@ abbrev pub goes_on : ℕ → (Performed → Result Ran Abort) → Result Perform
 goes_on number rest (Err cause) = Err (record { operation = number; cause = cause })
 goes_on number rest (Ok done) = with_answer done.answer (rest done)
 
--- The operations from the one with this number on, in order, each behind what earlier ones wrote.
+-- The operations from the one with this number on, in order, each after what earlier ones wrote.
 abbrev pub run_from : ℕ → List Operation → Sees → List Write → Result Ran Abort
 run_from number [] sees ws = Ok (record { reply = []; writes = ws })
 run_from number (operation ∷ operations) sees ws =
     goes_on number (λ done. run_from (suc number) operations sees (with_writes ws done.write))
-    (perform_result operation (behind sees ws))
+    (perform_result operation (suffix sees ws))
 
 -- What a request gives on what it sees: it is aborted by its first operation that fails, counted
 -- from 1.

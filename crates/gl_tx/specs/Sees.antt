@@ -2,7 +2,7 @@
 use Rattle.std.specs.Prelude.{ℕ, ◌+◌, ◌-◌, List, Option, Bool, is_some, find}
 use Rattle.gl_vmaps.specs.Growth.{gained, lost}
 use Rattle.gl_vmaps.specs.Kept.{Kept, value_of, count_of}
-use Rattle.gl_vmaps.specs.LastWrite.{value_behind}
+use Rattle.gl_vmaps.specs.LastWrite.{value_after}
 use Rattle.gl_vmaps.specs.Tables.{Tables, value_in, size_of}
 use Rattle.gl_vmaps.specs.Versions.{is_to_row}
 use Rattle.gl_vmaps.specs.declared.write.Write.{Write}
@@ -28,10 +28,10 @@ has_key sees map key = is_some (sees.value map key)
 abbrev pub write_to : List ℕ → List ℕ → List Write → Option Write
 write_to map key ws = find (is_to_row map key) ws
 
--- What is seen behind a write set: each row as the set has it, or else as it was; and each map's
+-- What is seen after a write set: each row as the set has it, or else as it was; and each map's
 -- number of keys with those that the set adds, and without those that it removes.
-abbrev pub behind : Sees → List Write → Sees
-behind sees ws = record {
-  value = λ map key. value_behind (write_to map key ws) (sees.value map key);
+abbrev pub suffix : Sees → List Write → Sees
+suffix sees ws = record {
+  value = λ map key. value_after (write_to map key ws) (sees.value map key);
   size = λ map. sees.size map + gained sees.value map ws - lost sees.value map ws;
 }

@@ -5,7 +5,7 @@ ghost use Rattle.gl_base.specs.Answers.{Answers};
 ghost use Rattle.gl_base.specs.Row.{map_name_at, key_at, value_at, optional_value_at};
 ghost use Rattle.gl_vmaps.specs.Name.{value_limit};
 ghost use Rattle.gl_tx.specs.Request.{is_request, is_reply, request_bytes, reply_bytes};
-ghost use Rattle.gl_tx.specs.Reading.{row_at, get_at, has_at, put_at, remove_at, add_at, check_at, follow_at, size_at, operation_at, operations_at, count_at, request_at, request_of, answer_at, answers_at, reply_at, reply_of};
+ghost use Rattle.gl_tx.specs.Parsing.{row_at, get_at, has_at, put_at, remove_at, add_at, check_at, follow_at, size_at, operation_at, operations_at, count_at, request_at, request_of, answer_at, answers_at, reply_at, reply_of};
 ghost use Rattle.gl_tx.specs.declared.request.Operation.{Operation};
 ghost use Rattle.gl_tx.specs.declared.request.Answer.{Answer};
 
@@ -49,7 +49,7 @@ fn read_optional_value(
 }
 
 /// Reads a map's name and a key.
-#[tactic(auto, unfolding(crate::specs::Reading::row_at))]
+#[tactic(auto, unfolding(crate::specs::Parsing::row_at))]
 fn read_row(alloc: Global, cut: &mut Cut<'_>) -> Result<(MapName, Key), OrNoMemory<CodeFault>>
     ensures { Answers (λ row. (row, cut.new)) result (row_at cut.old) }
 {
@@ -58,7 +58,7 @@ fn read_row(alloc: Global, cut: &mut Cut<'_>) -> Result<(MapName, Key), OrNoMemo
     Ok((map, key))
 }
 
-#[tactic(auto, unfolding(crate::specs::Reading::get_at))]
+#[tactic(auto, unfolding(crate::specs::Parsing::get_at))]
 fn read_get(alloc: Global, cut: &mut Cut<'_>) -> Result<Operation, OrNoMemory<CodeFault>>
     ensures { Answers (λ operation. (operation, cut.new)) result (get_at cut.old) }
 {
@@ -66,7 +66,7 @@ fn read_get(alloc: Global, cut: &mut Cut<'_>) -> Result<Operation, OrNoMemory<Co
     Ok(Operation::Get { map, key })
 }
 
-#[tactic(auto, unfolding(crate::specs::Reading::has_at))]
+#[tactic(auto, unfolding(crate::specs::Parsing::has_at))]
 fn read_has(alloc: Global, cut: &mut Cut<'_>) -> Result<Operation, OrNoMemory<CodeFault>>
     ensures { Answers (λ operation. (operation, cut.new)) result (has_at cut.old) }
 {
@@ -74,7 +74,7 @@ fn read_has(alloc: Global, cut: &mut Cut<'_>) -> Result<Operation, OrNoMemory<Co
     Ok(Operation::Has { map, key })
 }
 
-#[tactic(auto, unfolding(crate::specs::Reading::put_at))]
+#[tactic(auto, unfolding(crate::specs::Parsing::put_at))]
 fn read_put(alloc: Global, cut: &mut Cut<'_>) -> Result<Operation, OrNoMemory<CodeFault>>
     ensures { Answers (λ operation. (operation, cut.new)) result (put_at cut.old) }
 {
@@ -83,7 +83,7 @@ fn read_put(alloc: Global, cut: &mut Cut<'_>) -> Result<Operation, OrNoMemory<Co
     Ok(Operation::Put { map, key, value })
 }
 
-#[tactic(auto, unfolding(crate::specs::Reading::remove_at))]
+#[tactic(auto, unfolding(crate::specs::Parsing::remove_at))]
 fn read_remove(alloc: Global, cut: &mut Cut<'_>) -> Result<Operation, OrNoMemory<CodeFault>>
     ensures { Answers (λ operation. (operation, cut.new)) result (remove_at cut.old) }
 {
@@ -91,7 +91,7 @@ fn read_remove(alloc: Global, cut: &mut Cut<'_>) -> Result<Operation, OrNoMemory
     Ok(Operation::Remove { map, key })
 }
 
-#[tactic(auto, unfolding(crate::specs::Reading::add_at))]
+#[tactic(auto, unfolding(crate::specs::Parsing::add_at))]
 fn read_add(alloc: Global, cut: &mut Cut<'_>) -> Result<Operation, OrNoMemory<CodeFault>>
     ensures { Answers (λ operation. (operation, cut.new)) result (add_at cut.old) }
 {
@@ -100,7 +100,7 @@ fn read_add(alloc: Global, cut: &mut Cut<'_>) -> Result<Operation, OrNoMemory<Co
     Ok(Operation::Add { map, key, amount })
 }
 
-#[tactic(auto, unfolding(crate::specs::Reading::check_at))]
+#[tactic(auto, unfolding(crate::specs::Parsing::check_at))]
 fn read_check(alloc: Global, cut: &mut Cut<'_>) -> Result<Operation, OrNoMemory<CodeFault>>
     ensures { Answers (λ operation. (operation, cut.new)) result (check_at cut.old) }
 {
@@ -109,7 +109,7 @@ fn read_check(alloc: Global, cut: &mut Cut<'_>) -> Result<Operation, OrNoMemory<
     Ok(Operation::Check { map, key, expected })
 }
 
-#[tactic(auto, unfolding(crate::specs::Reading::follow_at))]
+#[tactic(auto, unfolding(crate::specs::Parsing::follow_at))]
 fn read_follow(alloc: Global, cut: &mut Cut<'_>) -> Result<Operation, OrNoMemory<CodeFault>>
     ensures { Answers (λ operation. (operation, cut.new)) result (follow_at cut.old) }
 {
@@ -118,7 +118,7 @@ fn read_follow(alloc: Global, cut: &mut Cut<'_>) -> Result<Operation, OrNoMemory
     Ok(Operation::Follow { map, key, target })
 }
 
-#[tactic(auto, unfolding(crate::specs::Reading::size_at))]
+#[tactic(auto, unfolding(crate::specs::Parsing::size_at))]
 fn read_size(alloc: Global, cut: &mut Cut<'_>) -> Result<Operation, OrNoMemory<CodeFault>>
     ensures { Answers (λ operation. (operation, cut.new)) result (size_at cut.old) }
 {
@@ -126,8 +126,8 @@ fn read_size(alloc: Global, cut: &mut Cut<'_>) -> Result<Operation, OrNoMemory<C
     Ok(Operation::Size { map })
 }
 
-/// Reads a tag, and the operation behind it.
-#[tactic(auto, unfolding(crate::specs::Reading::operation_at))]
+/// Reads a tag, and the operation after it.
+#[tactic(auto, unfolding(crate::specs::Parsing::operation_at))]
 fn read_operation(alloc: Global, cut: &mut Cut<'_>) -> Result<Operation, OrNoMemory<CodeFault>>
     ensures { Answers (λ operation. (operation, cut.new)) result (operation_at cut.old) }
 {
@@ -161,7 +161,7 @@ fn read_operations(
 }
 
 /// Reads a count from 1 to 64.
-#[tactic(auto, unfolding(crate::specs::Reading::count_at))]
+#[tactic(auto, unfolding(crate::specs::Parsing::count_at))]
 fn read_count(cut: &mut Cut<'_>) -> Result<u16, OrNoMemory<CodeFault>>
     ensures { Answers (λ count. (count, cut.new)) result (count_at cut.old) }
 {
@@ -173,7 +173,7 @@ fn read_count(cut: &mut Cut<'_>) -> Result<u16, OrNoMemory<CodeFault>>
     Ok(count)
 }
 
-#[tactic(auto, unfolding(crate::specs::Reading::request_at))]
+#[tactic(auto, unfolding(crate::specs::Parsing::request_at))]
 fn read_request(alloc: Global, cut: &mut Cut<'_>) -> Result<Vec<Operation>, OrNoMemory<CodeFault>>
     ensures { Answers (λ operations. (operations.items, cut.new)) result (request_at cut.old) }
 {
@@ -191,12 +191,12 @@ fn read_whole_request(alloc: Global, bytes: &[u8]) -> Result<Request, OrNoMemory
 }
 
 impl Request {
-    /// The request that the bytes spell, all of them.
+    /// The request that the bytes encode, all of them.
     pub fn decode(alloc: Global, bytes: &[u8]) -> Result<Self, OrNoMemory<CodeFault>>
-        // What is read is spelled so.
+        // What is read is encoded so.
         ensures found { IfOk result (λ request.
             IsTrue (is_request request) × (bytes.now ≡ request_bytes request)) }
-        // What is spelled so is read, unless memory runs out.
+        // What is encoded so is read, unless memory runs out.
         ensures only { (operations : List Operation) → IsTrue (is_request operations) →
             bytes.now ≡ request_bytes operations →
             Answers (λ request. request) result (Ok operations) }
@@ -207,7 +207,7 @@ impl Request {
     }
 }
 
-#[tactic(auto, unfolding(crate::specs::Reading::answer_at))]
+#[tactic(auto, unfolding(crate::specs::Parsing::answer_at))]
 fn read_answer(alloc: Global, cut: &mut Cut<'_>) -> Result<Answer, OrNoMemory<CodeFault>>
     ensures { Answers (λ answer. (answer, cut.new)) result (answer_at cut.old) }
 {
@@ -237,7 +237,7 @@ fn read_answers(
     Ok(answers)
 }
 
-#[tactic(auto, unfolding(crate::specs::Reading::reply_at))]
+#[tactic(auto, unfolding(crate::specs::Parsing::reply_at))]
 fn read_reply(alloc: Global, cut: &mut Cut<'_>) -> Result<Vec<Answer>, OrNoMemory<CodeFault>>
     ensures { Answers (λ answers. (answers.items, cut.new)) result (reply_at cut.old) }
 {
@@ -255,12 +255,12 @@ fn read_whole_reply(alloc: Global, bytes: &[u8]) -> Result<Reply, OrNoMemory<Cod
 }
 
 impl Reply {
-    /// The reply that the bytes spell, all of them.
+    /// The reply that the bytes encode, all of them.
     pub fn decode(alloc: Global, bytes: &[u8]) -> Result<Self, OrNoMemory<CodeFault>>
-        // What is read is spelled so.
+        // What is read is encoded so.
         ensures found { IfOk result (λ reply.
             IsTrue (is_reply reply) × (bytes.now ≡ reply_bytes reply)) }
-        // What is spelled so is read, unless memory runs out.
+        // What is encoded so is read, unless memory runs out.
         ensures only { (answers : List Answer) → IsTrue (is_reply answers) →
             bytes.now ≡ reply_bytes answers →
             Answers (λ reply. reply) result (Ok answers) }

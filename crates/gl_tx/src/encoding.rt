@@ -1,5 +1,5 @@
 //! The bytes of requests and replies. Numbers have their least significant byte first, and bytes of
-//! no fixed length stand behind their length.
+//! no fixed length stand after their length.
 
 ghost use Rattle.std.specs.Prelude.{◌≡◌, ◌<◌, ◌^◌, ◌∷◌, ◌++◌, length, OnOk, IfOk};
 ghost use Rattle.std.specs.List.{flat_map};

@@ -28,7 +28,7 @@ pub enum Operation {
         key: Key,
         value: Value,
     },
-    /// Removes a key, and tells whether it was there.
+    /// Removes a key, and reports whether it was there.
     Remove {
         map: MapName,
         key: Key,
@@ -104,7 +104,7 @@ impl Operation {
         }
     }
 
-    /// The same operation in memory of its own. Fails for want of memory alone.
+    /// The same operation in memory of its own. Fails only where memory runs out.
     pub fn copy(&self, alloc: Global) -> Result<Self, AllocError>
         ensures { IfOk result (λ operation. operation ≡ self.now) }
     {
@@ -193,7 +193,7 @@ impl Answer {
         }
     }
 
-    /// The same answer in memory of its own. Fails for want of memory alone.
+    /// The same answer in memory of its own. Fails only where memory runs out.
     pub fn copy(&self, alloc: Global) -> Result<Self, AllocError>
         ensures { IfOk result (λ answer. answer ≡ self.now) }
     {
@@ -258,7 +258,7 @@ impl Request {
         Request { operations }
     }
 
-    /// The same request in memory of its own. Fails for want of memory alone.
+    /// The same request in memory of its own. Fails only where memory runs out.
     pub fn copy(&self, alloc: Global) -> Result<Self, AllocError>
         ensures { IfOk result (λ request. request ≡ self.now) }
     {
@@ -321,7 +321,7 @@ impl Reply {
         Reply { answers }
     }
 
-    /// The same reply in memory of its own. Fails for want of memory alone.
+    /// The same reply in memory of its own. Fails only where memory runs out.
     pub fn copy(&self, alloc: Global) -> Result<Self, AllocError>
         ensures { IfOk result (λ reply. reply ≡ self.now) }
     {

@@ -1,4 +1,5 @@
--- Tables at a base: their rows have one version each, and what is written up to the base makes no other difference.
+-- Tables at a base: their rows have one version each, and what is written up to the base makes no
+-- other difference.
 use Rattle.std.proofs.Common.{◌≡◌, ℕ, ◌≤◌, ◌<◌, max, nat_lt, Bool, true, false, cond, List, [], ◌∷◌, ◌++◌, Some, refl, sym, ◌∙◌, ap, subst, if◌then◌else◌, length, arith}
 use Rattle.std.proofs.Math.Nat.{zero-max}
 use Rattle.std.specs.FinMap.{len, empty}
@@ -7,7 +8,7 @@ use Rattle.std.proofs.lemmas.Bool.Decides.{nat_tests}
 use Rattle.std.proofs.lemmas.List.Elements.{filter-append}
 use Rattle.std.specs.declared.cmp.Ordering.TheVariants.{Less}
 use Rattle.gl_vmaps.specs.Tables.{Tables, no_tables, wrote, value_in, size_of}
-use Rattle.gl_vmaps.specs.Versions.{Placed, placed_at, written_behind, written_by, is_to_row, greatest_place}
+use Rattle.gl_vmaps.specs.Versions.{Placed, placed_at, written_after, written_by, is_to_row, greatest_place}
 use Rattle.gl_vmaps.specs.Writes.{is_ordered, write_order}
 use Rattle.gl_vmaps.specs.Standing.{version, versions_in}
 use Rattle.gl_vmaps.specs.Chains.{Maps, rows_in, found_in, with_versions, newest_place}
@@ -16,7 +17,7 @@ use Rattle.gl_vmaps.specs.Rows.{row_write, row_writes, tables_with, above, AreRo
 use Rattle.gl_vmaps.specs.declared.row.Row.{Row}
 use Rattle.gl_vmaps.specs.declared.table.Version.{Version}
 use Rattle.gl_vmaps.specs.declared.write.Write.{Write}
-use Rattle.gl_vmaps.proofs.TablesLaws.{value_in-wrote, written_behind-append, written_by-applied}
+use Rattle.gl_vmaps.proofs.TablesLaws.{value_in-wrote, written_after-append, written_by-applied}
 use Rattle.gl_vmaps.proofs.StandingLaws.{same_rows}
 use Rattle.gl_vmaps.proofs.ChainLaws.{newest-empty}
 use Rattle.gl_vmaps.proofs.JournalLaws.{newest_after, rows_in-empty}
@@ -48,7 +49,7 @@ settled-once base (w ∷ ws) ordered name key =
 -- ---- what was written before makes a difference by the values alone
 
 alike : (t u : Tables) → ((map key : List ℕ) → value_in t map key ≡ value_in u map key) → (ps : List Placed) (map key : List ℕ) →
-    value_in (written_behind t ps) map key ≡ value_in (written_behind u ps) map key
+    value_in (written_after t ps) map key ≡ value_in (written_after u ps) map key
 alike t u same [] map key = same map key
 alike t u same (p ∷ ps) map key =
     alike (wrote t p.write) (wrote u p.write)
@@ -58,10 +59,10 @@ pub base-values : (rows : List Row) (qs ps : List Placed) → AreRowsOf rows (wr
     value_in (written_by (qs ++ ps)) map key ≡ value_in (written_by (placed_at 0 (row_writes rows) ++ ps)) map key
 base-values rows qs ps same map key =
     let made : written_by (placed_at 0 (row_writes rows)) ≡ tables_with rows = written_by-applied [] 0 (row_writes rows) in
-    ap (λ (t : Tables). value_in t map key) (written_behind-append no_tables qs ps)
+    ap (λ (t : Tables). value_in t map key) (written_after-append no_tables qs ps)
     ∙ sym (alike (tables_with rows) (written_by qs) same ps map key)
-    ∙ ap (λ (t : Tables). value_in (written_behind t ps) map key) (sym made)
-    ∙ ap (λ (t : Tables). value_in t map key) (sym (written_behind-append no_tables (placed_at 0 (row_writes rows)) ps))
+    ∙ ap (λ (t : Tables). value_in (written_after t ps) map key) (sym made)
+    ∙ ap (λ (t : Tables). value_in t map key) (sym (written_after-append no_tables (placed_at 0 (row_writes rows)) ps))
 
 pub base-sizes : (rows : List Row) (qs ps : List Placed) → AreRowsOf rows (written_by qs) → (map : List ℕ) →
     size_of (written_by (qs ++ ps)) map ≡ size_of (written_by (placed_at 0 (row_writes rows) ++ ps)) map

@@ -1,4 +1,5 @@
--- Rows that are kept in an ordered map: what they answer, and what they are behind a change of one of them.
+-- Rows that are kept in an ordered map: what they answer, and what they are after a change of one
+-- of them.
 use Rattle.std.proofs.Common.{◌≡◌, ◌≤◌, Bool, true, false, ◌&&◌, cond, List, [], ◌∷◌, ◌++◌, Option, Some, None, refl, sym, ◌∙◌, ap, subst, unwrap_or, IsSome, is_some, nat_lt, zero, suc, ◌+◌, if◌then◌else◌, length, Vec, ℕ, ◌<◌, ◌-◌, ◌↔◌, IfSome, get_or, Bor, Result, Ok, Err, OnErr, arith}
 use Rattle.std.specs.BTreeMap.{BTreeMap, UpdatesBy, is_at}
 use Rattle.std.specs.Cmp.Lexicographic.{slice_cmp}
@@ -35,7 +36,7 @@ apart key other differ x is =
     let same : key ≡ x.items = same_bytes-eq key x.items (sym (is_eq-slice_cmp key x.items) ∙ is) in
     is_eq-slice_cmp other x.items ∙ ap (same_bytes other) (sym same) ∙ differ
 
--- behind a change at some bytes the map has the new value there, and elsewhere what it had
+-- after a change at some bytes the map has the new value there, and elsewhere what it had
 pub found-updated : {X : Type 0} (m n : BTreeMap (Vec ℕ Global) X) (key : List ℕ) (w : Option X) →
     UpdatesBy (λ x y. slice_cmp nat_cmp x.items y.items) (λ k. slice_cmp nat_cmp key k.items) m n w →
     (other : List ℕ) → found other n.entries ≡ (if same_bytes other key then w else found other m.entries)
@@ -298,7 +299,7 @@ newest-pushed chains key v le =
     one other true is = let e : last_place (chain_of (with_chain chains key (chain_of chains key ++ v ∷ [])) other) ≡ v.place = ap last_place is ∙ ap place_or_zero (last_or-append None (chain_of chains key) (v ∷ [])) in omega (arith, e)
     one other false is = let e : last_place (chain_of (with_chain chains key (chain_of chains key ++ v ∷ [])) other) ≡ last_place (chain_of chains other) = ap last_place is in let n = newest-above chains other in omega (arith, e, n)
 
--- what is let go in front of another leaves the last version
+-- what is let go before another leaves the last version
 pub last-trimmed : (place : ℕ) (vs : List Version) → last_or None (trimmed place vs) ≡ last_or None vs
 last-trimmed place [] = refl
 last-trimmed place (v ∷ []) = refl
@@ -312,7 +313,7 @@ trimmed-alike place chains key other = ap (last_or None) (chain_of-with chains k
     go true same = last-trimmed place (chain_of chains key) ∙ ap (λ k. last_or None (chain_of chains k)) (sym (same_bytes-eq other key same))
     go false differ = refl
 
--- ---- what a table knows of its rows, behind a change of one of them
+-- ---- what a table knows of its rows, after a change of one of them
 
 recounted : (value : Option (List ℕ)) (had : Bool) (count : ℕ) →
     (if is_some value then (if had then count else count + 1) else (if had then count - 1 else count)) ≡ sized value had count

@@ -1,4 +1,5 @@
--- The changes from some rows to others turn the tables of the ones into those of the others, and nothing less would.
+-- The changes from some rows to others turn the tables of the ones into those of the others, and
+-- nothing less would.
 use Rattle.std.proofs.Common.{◌≡◌, ◌≢◌, ℕ, List, [], ◌∷◌, ◌++◌, map, filter, Option, Some, None, Bool, true, false, not, is_some, is_none, cond, find, refl, sym, ◌∙◌, ap, ap₂, subst, append_assoc}
 use Rattle.std.specs.List.{list_all, AllByRecursion}
 use Rattle.std.specs.Option.{option_or}
@@ -14,7 +15,7 @@ use Rattle.std.proofs.lemmas.List.Folds.{list_all-append}
 use Rattle.gl_vmaps.specs.Tables.{Tables, no_tables, same_bytes, same_value, value_in, wrote_all}
 use Rattle.gl_vmaps.specs.Versions.{is_to_row}
 use Rattle.gl_vmaps.specs.Writes.{write_order, is_ordered, with_write, put_before}
-use Rattle.gl_vmaps.specs.LastWrite.{last_such, last_write, value_behind}
+use Rattle.gl_vmaps.specs.LastWrite.{last_such, last_write, value_after}
 use Rattle.gl_vmaps.specs.declared.write.Write.{Write}
 use Rattle.gl_vmaps.proofs.LastWrites.{last_such-cons}
 use Rattle.gl_vmaps.proofs.TablesLaws.{value_in-wrote_all, value_in-nothing}
@@ -113,14 +114,14 @@ own_last (x ∷ xs) ordered =
           (both_all (λ (y : Write). write_order x y ≡ Less) (λ (y : Write). last_write y.map y.key xs ≡ Some y) xs (ordered_before x xs ordered) (own_last xs rest)),
     )
 
-row_by : (ws : List Write) (name key : List ℕ) → row_in ws name key ≡ value_behind (last_write name key ws) None
-row_by ws name key = value_in-wrote_all no_tables ws name key ∙ ap (value_behind (last_write name key ws)) (value_in-nothing name key)
+row_by : (ws : List Write) (name key : List ℕ) → row_in ws name key ≡ value_after (last_write name key ws) None
+row_by ws name key = value_in-wrote_all no_tables ws name key ∙ ap (value_after (last_write name key ws)) (value_in-nothing name key)
 
 own_value : (ws : List Write) → is_ordered ws ≡ true → AllByRecursion (λ (w : Write). row_in ws w.map w.key ≡ w.value) ws
 own_value ws ordered = then_all (λ (w : Write). last_write w.map w.key ws ≡ Some w) (λ (w : Write). row_in ws w.map w.key ≡ w.value) ws
-    (λ w h. row_by ws w.map w.key ∙ ap (λ (o : Option Write). value_behind o None) h) (own_last ws ordered)
+    (λ w h. row_by ws w.map w.key ∙ ap (λ (o : Option Write). value_after o None) h) (own_last ws ordered)
 
--- ---- a row behind the changes
+-- ---- a row after the changes
 
 module _ (before after : List Write) (sorted : is_ordered after ≡ true) (name key : List ℕ) where
   puts : List Write
@@ -175,25 +176,25 @@ module _ (before after : List Write) (sorted : is_ordered after ≡ true) (name 
       go : (x : Option Write) → last_write name key after ≡ x → (y : Option Write) → last_write name key before ≡ y → row_in before name key ≡ row_in after name key
       go (Some w) is y at =
           let place = row_is name key w (some_to_row name key after w is) in
-          let now : row_in after name key ≡ w.value = row_by after name key ∙ ap (λ (o : Option Write). value_behind o None) is in
+          let now : row_in after name key ≡ w.value = row_by after name key ∙ ap (λ (o : Option Write). value_after o None) is in
           let was : row_in before w.map w.key ≡ w.value = equal (row_in before w.map w.key) w.value (not_changed w is) in
           ap₂ (λ (m k : List ℕ). row_in before m k) place.0 place.1 ∙ was ∙ sym now
       go None is None at =
-          row_by before name key ∙ ap (λ (o : Option Write). value_behind o None) at ∙ sym (row_by after name key ∙ ap (λ (o : Option Write). value_behind o None) is)
+          row_by before name key ∙ ap (λ (o : Option Write). value_after o None) at ∙ sym (row_by after name key ∙ ap (λ (o : Option Write). value_after o None) is)
       go None is (Some w) at =
           let place = row_is name key w (some_to_row name key before w at) in
-          let now : row_in after name key ≡ None = row_by after name key ∙ ap (λ (o : Option Write). value_behind o None) is in
+          let now : row_in after name key ≡ None = row_by after name key ∙ ap (λ (o : Option Write). value_after o None) is in
           absurd (not_gone w at (ap is_none (sym (ap₂ (λ (m k : List ℕ). row_in after m k) place.0 place.1) ∙ now)))
 
   pub value_turned : value_in (wrote_all (wrote_all no_tables before) (changes_listed before after)) name key ≡ row_in after name key
   value_turned =
       ap (λ (t : Tables). value_in t name key) (wrote_all-append (wrote_all no_tables before) (filter (is_changed before) after) (map removal_of (filter (is_gone after) before)))
       ∙ value_in-wrote_all (wrote_all (wrote_all no_tables before) (filter (is_changed before) after)) (map removal_of (filter (is_gone after) before)) name key
-      ∙ ap (value_behind (last_write name key (map removal_of (filter (is_gone after) before)))) (value_in-wrote_all (wrote_all no_tables before) (filter (is_changed before) after) name key)
+      ∙ ap (value_after (last_write name key (map removal_of (filter (is_gone after) before)))) (value_in-wrote_all (wrote_all no_tables before) (filter (is_changed before) after) name key)
       ∙ go (last_write name key (filter (is_changed before) after)) refl (last_write name key (map removal_of (filter (is_gone after) before))) refl
     where
       go : (p : Option Write) → last_write name key (filter (is_changed before) after) ≡ p → (r : Option Write) → last_write name key (map removal_of (filter (is_gone after) before)) ≡ r →
-          value_behind r (value_behind p (row_in before name key)) ≡ row_in after name key
+          value_after r (value_after p (row_in before name key)) ≡ row_in after name key
       go p is (Some w) at = let g = gone_value w at in g.0 ∙ sym g.1
       go (Some w) is None at = sym (put_value w is)
       go None is None at = kept_value is at
@@ -248,7 +249,7 @@ at_place : (x y : Write) (xs ys : List Write) → AllByRecursion (λ (z : Write)
 at_place x y [] ys all = all.0
 at_place x y (z ∷ xs) ys all = at_place x y xs ys all.1
 
--- a write behind all of a set comes last
+-- a write after all of a set comes last
 with_last : (xs : List Write) (y : Write) (ys : List Write) → is_ordered (xs ++ y ∷ ys) ≡ true → with_write xs y ≡ xs ++ y ∷ []
 with_last [] y ys ordered = refl
 with_last (x ∷ xs) y ys ordered =

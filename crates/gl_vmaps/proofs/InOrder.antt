@@ -1,4 +1,5 @@
--- Rows whose names are within their limits and whose versions rise: they stay so behind each change of the maps.
+-- Rows whose names are within their limits and whose versions rise: they stay so after each change
+-- of the maps.
 use Rattle.std.proofs.Common.{◌≡◌, ℕ, zero, suc, ◌<◌, ◌-◌, nat_lt, Bool, true, false, ◌&&◌, List, [], ◌∷◌, ◌++◌, refl, sym, ◌∙◌, ap, subst, None, if◌then◌else◌, take, drop, length, get_or, arith}
 use Rattle.std.specs.FinMap.{empty}
 use Rattle.std.specs.List.{AllByRecursion}
@@ -116,10 +117,10 @@ rising-in c maps (w ∷ es) journal name key =
         let vs = found_in maps w.map w.key in
         let last = journal.0 in
         let l = has_last vs (let p = last.place in let f = last.fresh in omega (arith, p, f)) in
-        let front : IsNonDecreasingBy place_of (without_last vs) = subst (IsNonDecreasingBy place_of) now rest in
+        let prefix : IsNonDecreasingBy place_of (without_last vs) = subst (IsNonDecreasingBy place_of) now rest in
         let all : IsNonDecreasingBy place_of vs =
         subst (IsNonDecreasingBy place_of) (sym l.split)
-        (IsNonDecreasingBy-push place_of (without_last vs) l.last front
+        (IsNonDecreasingBy-push place_of (without_last vs) l.last prefix
         (λ d some. let e = last-at (without_last vs) d some in let a = l.place in let b = last.place in let f = last.fresh in omega (arith, e, a, b, f))) in
         subst (IsNonDecreasingBy place_of) (ap (λ n. found_in maps n w.key) (sym row.0) ∙ ap (found_in maps name) (sym row.1)) all
     go false differ rest now = subst (IsNonDecreasingBy place_of) now rest

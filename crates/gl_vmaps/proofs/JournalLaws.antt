@@ -46,9 +46,9 @@ last_or-from : (o : Option Version) (v : Version) (vs : List Version) → last_o
 last_or-from o v [] = refl
 last_or-from o v (w ∷ ws) = last_or-from (Some v) w ws
 
-take_front : (vs : List Version) (v : Version) → take (length vs) (vs ++ v ∷ []) ≡ vs
-take_front [] v = refl
-take_front (w ∷ ws) v = ap (λ us. w ∷ us) (take_front ws v)
+take_prefix : (vs : List Version) (v : Version) → take (length vs) (vs ++ v ∷ []) ≡ vs
+take_prefix [] v = refl
+take_prefix (w ∷ ws) v = ap (λ us. w ∷ us) (take_prefix ws v)
 
 length_more : (vs : List Version) (v : Version) → length (vs ++ v ∷ []) ≡ suc (length vs)
 length_more [] v = refl
@@ -58,7 +58,7 @@ pub without_last-pushed : (vs : List Version) (v : Version) → without_last (vs
 without_last-pushed vs v =
     let long = length_more vs v in
     let n : length (vs ++ v ∷ []) - 1 ≡ length vs = omega (arith, long) in
-    ap (λ k. take k (vs ++ v ∷ [])) n ∙ take_front vs v
+    ap (λ k. take k (vs ++ v ∷ [])) n ∙ take_prefix vs v
 
 pub last_place-pushed : (vs : List Version) (v : Version) → last_place (vs ++ v ∷ []) ≡ v.place
 last_place-pushed vs v = ap place_or_zero (last_or-append None vs (v ∷ []))
@@ -84,7 +84,7 @@ itself m key = rw (same_bytes-itself m, same_bytes-itself key) refl
 pub found_in-at : (maps : Maps) (m key : List ℕ) (vs : List Version) → found_in (with_versions maps m key vs) m key ≡ vs
 found_in-at maps m key vs = found_in-with maps m key vs m key ∙ ap (λ (b : Bool). if b then vs else found_in maps m key) (itself m key)
 
--- giving a row its versions anew
+-- giving a row its versions again
 pub with_again : (maps : Maps) (m key : List ℕ) (us vs : List Version) → IsProper maps → IsTidy maps → vs ≡ found_in maps m key → with_versions (with_versions maps m key us) m key vs ≡ maps
 with_again maps m key us vs proper tidy is =
     let once = with_versions maps m key us in
@@ -159,7 +159,7 @@ joined : (b : Bool) (v : Version) (xs ys : List Version) → (xs ++ with_first b
 joined true v xs ys = Rattle.std.proofs.Common.append_assoc xs (v ∷ []) ys
 joined false v xs ys = ap (λ zs. zs ++ ys) (append-nil xs)
 
--- each row has its versions, and behind them what the set writes to it
+-- each row has its versions, and after them what the set writes to it
 pub found_in-pushed : (maps : Maps) (place : ℕ) (ws : List Write) (name key : List ℕ) →
     found_in (pushed_maps maps place ws) name key ≡ found_in maps name key ++ versions_in (placed_at place ws) name key
 found_in-pushed maps place [] name key = sym (append-nil (found_in maps name key))
@@ -273,11 +273,11 @@ all_up_to c to maps (w ∷ es) le journal below name key =
         let last = journal.0 in
         let l = has_last vs (let p = last.place in let f = last.fresh in omega (arith, p, f)) in
         let up : is_up_to to l.last ≡ true = (let a = l.place in let b = last.place in let d : w.place ≤ to = below.0 in grind (arith, nat_tests)) in
-        let front : versions_up_to to (without_last vs) ≡ without_last vs = subst (λ us. versions_up_to to us ≡ us) now rest in
+        let prefix : versions_up_to to (without_last vs) ≡ without_last vs = subst (λ us. versions_up_to to us ≡ us) now rest in
         let one : versions_up_to to (l.last ∷ []) ≡ l.last ∷ [] = rw up refl in
         let all : versions_up_to to vs ≡ vs =
         ap (versions_up_to to) l.split ∙ filter-append (is_up_to to) (without_last vs) (l.last ∷ [])
-        ∙ ap (λ us. us ++ versions_up_to to (l.last ∷ [])) front ∙ ap (λ us. without_last vs ++ us) one ∙ sym l.split in
+        ∙ ap (λ us. us ++ versions_up_to to (l.last ∷ [])) prefix ∙ ap (λ us. without_last vs ++ us) one ∙ sym l.split in
         subst (λ us. versions_up_to to us ≡ us) (ap (λ n. found_in maps n w.key) (sym row.0) ∙ ap (found_in maps name) (sym row.1)) all
     go false differ rest now = subst (λ us. versions_up_to to us ≡ us) now rest
 

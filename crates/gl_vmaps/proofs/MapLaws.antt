@@ -1,4 +1,5 @@
--- Maps that are kept in an ordered map: what their rows are, and what they are behind a change of one row.
+-- Maps that are kept in an ordered map: what their rows are, and what they are after a change of
+-- one row.
 use Rattle.std.proofs.Common.{◌≡◌, ℕ, ◌==◌, Bool, true, false, ◌&&◌, cond, List, [], ◌∷◌, ◌++◌, Option, Some, None, refl, sym, ◌∙◌, ap, subst, unwrap_or, IsSome, if◌then◌else◌, Vec, arith}
 use Rattle.std.specs.BTreeMap.{BTreeMap, UpdatesBy}
 use Rattle.std.specs.Cmp.Lexicographic.{slice_cmp}
@@ -148,7 +149,7 @@ with_same maps name key vs proper tidy same =
         same ∙ ap (λ m. found_in maps m key) (sym (same_bytes-eq n name both.0)) ∙ ap (found_in maps n) (sym (same_bytes-eq k key both.1))
     go n k false is = refl
 
--- ---- the ordered map behind a change of one of its maps
+-- ---- the ordered map after a change of one of its maps
 
 pub maps_by-updated : (m n : BTreeMap (Vec ℕ Global) Chains) (name : List ℕ) (w : Option Chains) →
     UpdatesBy (λ x y. slice_cmp nat_cmp x.items y.items) (λ k. slice_cmp nat_cmp name k.items) m n w →
@@ -219,7 +220,8 @@ maps_by-new m l n name key k none one v same absent updates named nothing filled
     ∙ ap (λ bytes. with_rows (maps_by m.entries) bytes one) named
     ∙ ap (with_rows (maps_by m.entries) name) (filled ∙ ap (λ (t : Chains). with_chain t key (chain_of t key ++ v ∷ [])) rows)
 
--- a map whose rows all have no version is taken out with no other change, where it has no rows without
+-- a map whose rows all have no version is taken out with no other change, where it has no rows
+-- without
 pub maps_by-removed : (m n : BTreeMap (Vec ℕ Global) Chains) (name : List ℕ) →
     UpdatesBy (λ x y. slice_cmp nat_cmp x.items y.items) (λ k. slice_cmp nat_cmp name k.items) m n None →
     rows_in (maps_by m.entries) name ≡ empty → maps_by n.entries ≡ maps_by m.entries

@@ -83,8 +83,8 @@ same_list (x ∷ xs) (y ∷ ys) first second same = go (write_order (row_write x
     go : (o : Ordering) → write_order (row_write x) (row_write y) ≡ o →
         (is_ordered (row_writes xs) ≡ true → is_ordered (row_writes ys) ≡ true → ((n k : List ℕ) → row_value xs n k ≡ row_value ys n k) → xs ≡ ys) → x ∷ xs ≡ y ∷ ys
     go Less before rest_same = no_value x.value (sym (first_value x xs) ∙ same x.map x.key ∙ not_among x y ys before second)
-    go Greater behind rest_same =
-        let before : write_order (row_write y) (row_write x) ≡ Less = write_order_total.antisymm (row_write y) (row_write x) ∙ ap ordering_reverse behind in
+    go Greater after rest_same =
+        let before : write_order (row_write y) (row_write x) ≡ Less = write_order_total.antisymm (row_write y) (row_write x) ∙ ap ordering_reverse after in
         no_value y.value (sym (first_value y ys) ∙ sym (same y.map y.key) ∙ not_among y x xs before first)
     go Equal tied rest_same =
         let row = same_row (row_write x) (row_write y) tied in

@@ -1,4 +1,5 @@
--- The rows of maps as they were at a place: that they stand in order, and that they have the values of that place.
+-- The rows of maps as they were at a place: that they stand in order, and that they have the values
+-- of that place.
 use Rattle.std.proofs.Common.{◌≡◌, ℕ, zero, suc, ◌<◌, ◌≤◌, ◌-◌, Bool, true, false, ◌&&◌, T, cond, List, [], ◌∷◌, ◌++◌, Option, Some, None, refl, sym, ◌∙◌, ap, subst, if◌then◌else◌, unwrap_or, Vec, take, length, get_or, append_assoc, Bor, arith}
 use Rattle.std.specs.Cmp.{tied_itself}
 use Rattle.std.specs.Cmp.Lexicographic.{slice_cmp}
@@ -71,11 +72,11 @@ no_row_later r (x ∷ rows) name key before is =
     ap (λ (b : Bool). if b then Some x.value else row_value rows name key) (other_row name key (row_write r) (row_write x) before.0 is)
     ∙ no_row_later r rows name key before.1 is
 
-values_behind : (rows : List Row) (t : Tables) (name key : List ℕ) → is_ordered (row_writes rows) ≡ true →
+values_after : (rows : List Row) (t : Tables) (name key : List ℕ) → is_ordered (row_writes rows) ≡ true →
     value_in (wrote_all t (row_writes rows)) name key ≡ option_or (row_value rows name key) (value_in t name key)
-values_behind [] t name key ordered = refl
-values_behind (r ∷ rows) t name key ordered =
-    values_behind rows (wrote t (row_write r)) name key (is_ordered-rest (row_write r) (row_writes rows) ordered)
+values_after [] t name key ordered = refl
+values_after (r ∷ rows) t name key ordered =
+    values_after rows (wrote t (row_write r)) name key (is_ordered-rest (row_write r) (row_writes rows) ordered)
     ∙ ap (option_or (row_value rows name key)) (value_in-wrote t (row_write r) name key)
     ∙ go (is_to_row name key (row_write r)) refl
   where
@@ -87,7 +88,7 @@ values_behind (r ∷ rows) t name key ordered =
 -- the tables with rows that stand in order have of each its value
 pub value_in-rows : (rows : List Row) (name key : List ℕ) → is_ordered (row_writes rows) ≡ true → value_in (tables_with rows) name key ≡ row_value rows name key
 value_in-rows rows name key ordered =
-    values_behind rows no_tables name key ordered
+    values_after rows no_tables name key ordered
     ∙ ap (option_or (row_value rows name key)) (value_in-nothing name key)
     ∙ or_none (row_value rows name key)
 
@@ -192,15 +193,15 @@ before_all : (w : Write) (ws : List Write) → AllByRecursion (λ (y : Write). w
 before_all w [] all = refl
 before_all w (y ∷ ys) all = ap is_less all.0
 
--- the rows are those of maps behind this one
-abbrev AreBehind : List ℕ → List Row → Type 0
-AreBehind name rows = AllByRecursion (λ (r : Row). bytes_cmp name r.map ≡ Less) rows
+-- the rows are those of maps after this one
+abbrev AreAfter : List ℕ → List Row → Type 0
+AreAfter name rows = AllByRecursion (λ (r : Row). bytes_cmp name r.map ≡ Less) rows
 
-before_rows : (to : ℕ) (r : Row) (es : List (List ℕ × List Version)) (more : List Row) → T (below_all bytes_cmp r.key es) → AreBehind r.map more →
+before_rows : (to : ℕ) (r : Row) (es : List (List ℕ × List Version)) (more : List Row) → T (below_all bytes_cmp r.key es) → AreAfter r.map more →
     AllByRecursion (λ (y : Write). write_order (row_write r) y ≡ Less) (row_writes (rows_up_to to r.map es ++ more))
-before_rows to r [] [] below behind = tt
-before_rows to r [] (m ∷ more) below behind = (ap (λ (o : Ordering). ordering_then o (bytes_cmp r.key m.key)) behind.0, before_rows to r [] more below behind.1)
-before_rows to r (e ∷ es) more below behind = go (value_at to e.1) (before_rows to r es more (second _ _ below) behind)
+before_rows to r [] [] below after = tt
+before_rows to r [] (m ∷ more) below after = (ap (λ (o : Ordering). ordering_then o (bytes_cmp r.key m.key)) after.0, before_rows to r [] more below after.1)
+before_rows to r (e ∷ es) more below after = go (value_at to e.1) (before_rows to r es more (second _ _ below) after)
   where
     go : (o : Option (List ℕ)) → AllByRecursion (λ (y : Write). write_order (row_write r) y ≡ Less) (row_writes (rows_up_to to r.map es ++ more)) →
         AllByRecursion (λ (y : Write). write_order (row_write r) y ≡ Less) (row_writes ((row_with r.map e.0 o ++ rows_up_to to r.map es) ++ more))
@@ -210,35 +211,35 @@ before_rows to r (e ∷ es) more below behind = go (value_at to e.1) (before_row
       rest,
     )
 
-ordered_rows : (to : ℕ) (name : List ℕ) (es : List (List ℕ × List Version)) (more : List Row) → T (is_sorted bytes_cmp es) → AreBehind name more → is_ordered (row_writes more) ≡ true →
+ordered_rows : (to : ℕ) (name : List ℕ) (es : List (List ℕ × List Version)) (more : List Row) → T (is_sorted bytes_cmp es) → AreAfter name more → is_ordered (row_writes more) ≡ true →
     is_ordered (row_writes (rows_up_to to name es ++ more)) ≡ true
-ordered_rows to name [] more sorted behind ordered = ordered
-ordered_rows to name (e ∷ es) more sorted behind ordered = go (value_at to e.1) (ordered_rows to name es more (second _ _ sorted) behind ordered)
+ordered_rows to name [] more sorted after ordered = ordered
+ordered_rows to name (e ∷ es) more sorted after ordered = go (value_at to e.1) (ordered_rows to name es more (second _ _ sorted) after ordered)
   where
     go : (o : Option (List ℕ)) → is_ordered (row_writes (rows_up_to to name es ++ more)) ≡ true → is_ordered (row_writes ((row_with name e.0 o ++ rows_up_to to name es) ++ more)) ≡ true
     go None rest = rest
     go (Some v) rest =
         let r : Row = record { map = name; key = e.0; value = v } in
         let ws = row_writes (rows_up_to to name es ++ more) in
-        and_from (stands_before name e.0 ws) (is_ordered ws) (before_all (row_write r) ws (before_rows to r es more (first _ _ sorted) behind)) rest
+        and_from (stands_before name e.0 ws) (is_ordered ws) (before_all (row_write r) ws (before_rows to r es more (first _ _ sorted) after)) rest
 
-behind_rows : (to : ℕ) (name other : List ℕ) (es : List (List ℕ × List Version)) (more : List Row) → bytes_cmp name other ≡ Less → AreBehind name more → AreBehind name (rows_up_to to other es ++ more)
-behind_rows to name other [] more less behind = behind
-behind_rows to name other (e ∷ es) more less behind = go (value_at to e.1) (behind_rows to name other es more less behind)
+after_rows : (to : ℕ) (name other : List ℕ) (es : List (List ℕ × List Version)) (more : List Row) → bytes_cmp name other ≡ Less → AreAfter name more → AreAfter name (rows_up_to to other es ++ more)
+after_rows to name other [] more less after = after
+after_rows to name other (e ∷ es) more less after = go (value_at to e.1) (after_rows to name other es more less after)
   where
-    go : (o : Option (List ℕ)) → AreBehind name (rows_up_to to other es ++ more) → AreBehind name ((row_with other e.0 o ++ rows_up_to to other es) ++ more)
+    go : (o : Option (List ℕ)) → AreAfter name (rows_up_to to other es ++ more) → AreAfter name ((row_with other e.0 o ++ rows_up_to to other es) ++ more)
     go None rest = rest
     go (Some v) rest = (less, rest)
 
-behind_all : (to : ℕ) (name : List ℕ) (es : List (Vec ℕ Global × Chains)) → AllByRecursion (λ (y : Vec ℕ Global). bytes_cmp name y.items ≡ Less) (keys_of es) → AreBehind name (all_rows to es)
-behind_all to name [] all = tt
-behind_all to name (e ∷ es) all = behind_rows to name e.0.items (entries e.1) (all_rows to es) all.0 (behind_all to name es all.1)
+after_all : (to : ℕ) (name : List ℕ) (es : List (Vec ℕ Global × Chains)) → AllByRecursion (λ (y : Vec ℕ Global). bytes_cmp name y.items ≡ Less) (keys_of es) → AreAfter name (all_rows to es)
+after_all to name [] all = tt
+after_all to name (e ∷ es) all = after_rows to name e.0.items (entries e.1) (all_rows to es) all.0 (after_all to name es all.1)
 
 all-ordered : (to : ℕ) (es : List (Vec ℕ Global × Chains)) → AreAscending es → is_ordered (row_writes (all_rows to es)) ≡ true
 unfolding IsStrictlySortedBy
 all-ordered to [] ascending = refl
 all-ordered to (e ∷ es) ascending =
-    ordered_rows to e.0.items (entries e.1) (all_rows to es) (entries_sorted e.1) (behind_all to e.0.items es ascending.0) (all-ordered to es ascending.1)
+    ordered_rows to e.0.items (entries e.1) (all_rows to es) (entries_sorted e.1) (after_all to e.0.items es ascending.0) (all-ordered to es ascending.1)
 
 pub ordered-all : (to : ℕ) (es : List (Vec ℕ Global × Chains)) (rows : List Row) → rows ≡ all_rows to es → AreAscending es → is_ordered (row_writes rows) ≡ true
 ordered-all to es rows is ascending = subst (λ rs. is_ordered (row_writes rs) ≡ true) (sym is) (all-ordered to es ascending)
@@ -298,19 +299,19 @@ abbrev pub chain_rows : ℕ → List ℕ → List (Vec ℕ Global × VecDeque Ve
 chain_rows to name [] = []
 chain_rows to name (e ∷ es) = row_up_to to name e.0.items e.1.items ++ chain_rows to name es
 
-abbrev put_front : List ℕ → List Version → List (List ℕ × List Version) → List (List ℕ × List Version)
-put_front key [] rest = rest
-put_front key (v ∷ vs) rest = (key, v ∷ vs) ∷ rest
+abbrev put_prefix : List ℕ → List Version → List (List ℕ × List Version) → List (List ℕ × List Version)
+put_prefix key [] rest = rest
+put_prefix key (v ∷ vs) rest = (key, v ∷ vs) ∷ rest
 
 abbrev pairs : List (Vec ℕ Global × VecDeque Version Global) → List (List ℕ × List Version)
 pairs [] = []
-pairs (e ∷ es) = put_front e.0.items e.1.items (pairs es)
+pairs (e ∷ es) = put_prefix e.0.items e.1.items (pairs es)
 
 rows-pairs : (to : ℕ) (name : List ℕ) (es : List (Vec ℕ Global × VecDeque Version Global)) → chain_rows to name es ≡ rows_up_to to name (pairs es)
 rows-pairs to name [] = refl
 rows-pairs to name (e ∷ es) = go e.1.items (rows-pairs to name es)
   where
-    go : (vs : List Version) → chain_rows to name es ≡ rows_up_to to name (pairs es) → row_up_to to name e.0.items vs ++ chain_rows to name es ≡ rows_up_to to name (put_front e.0.items vs (pairs es))
+    go : (vs : List Version) → chain_rows to name es ≡ rows_up_to to name (pairs es) → row_up_to to name e.0.items vs ++ chain_rows to name es ≡ rows_up_to to name (put_prefix e.0.items vs (pairs es))
     go [] rest = rest
     go (v ∷ vs) rest = ap (λ rows. row_up_to to name e.0.items (v ∷ vs) ++ rows) rest
 
@@ -318,7 +319,7 @@ below_pairs : (key : List ℕ) (es : List (Vec ℕ Global × VecDeque Version Gl
 below_pairs key [] all = tt
 below_pairs key (e ∷ es) all = go e.1.items (below_pairs key es all.1)
   where
-    go : (vs : List Version) → T (below_all bytes_cmp key (pairs es)) → T (below_all bytes_cmp key (put_front e.0.items vs (pairs es)))
+    go : (vs : List Version) → T (below_all bytes_cmp key (pairs es)) → T (below_all bytes_cmp key (put_prefix e.0.items vs (pairs es)))
     go [] rest = rest
     go (v ∷ vs) rest = both _ _ (of_true _ (ap is_lt all.0)) rest
 
@@ -327,7 +328,7 @@ unfolding IsStrictlySortedBy
 sorted_pairs [] ascending = tt
 sorted_pairs (e ∷ es) ascending = go e.1.items (sorted_pairs es ascending.1)
   where
-    go : (vs : List Version) → T (is_sorted bytes_cmp (pairs es)) → T (is_sorted bytes_cmp (put_front e.0.items vs (pairs es)))
+    go : (vs : List Version) → T (is_sorted bytes_cmp (pairs es)) → T (is_sorted bytes_cmp (put_prefix e.0.items vs (pairs es)))
     go [] rest = rest
     go (v ∷ vs) rest = both _ _ (below_pairs e.0.items es ascending.0) rest
 
@@ -338,7 +339,7 @@ find_pairs (e ∷ es) k ascending = go e.1.items refl (same_bytes k e.0.items) (
   where
     go : (vs : List Version) → e.1.items ≡ vs → (b c : Bool) → same_bytes k e.0.items ≡ b → is_eq (bytes_cmp k e.0.items) ≡ same_bytes k e.0.items →
         find bytes_cmp k (pairs es) ≡ some_versions (items_of (found k es)) →
-        find bytes_cmp k (put_front e.0.items vs (pairs es)) ≡ some_versions (items_of (cond (is_eq (bytes_cmp k e.0.items)) (Some e.1) (found k es)))
+        find bytes_cmp k (put_prefix e.0.items vs (pairs es)) ≡ some_versions (items_of (cond (is_eq (bytes_cmp k e.0.items)) (Some e.1) (found k es)))
     go [] none true c same is rest =
         let absent : found k es ≡ None = ap (λ x. found x es) (same_bytes-eq k e.0.items same) ∙ not_later e.0.items es ascending.0 in
         rest ∙ ap (λ o. some_versions (items_of o)) absent ∙ sym (ap some_versions none)

@@ -1,4 +1,5 @@
--- The first write of a journal settled: its row lets go of what stood before it, and all else stays as it was.
+-- The first write of a journal settled: its row lets go of what stood before it, and all else stays
+-- as it was.
 use Rattle.std.proofs.Common.{◌≡◌, ℕ, ◌≤◌, ◌<◌, nat_lt, nat_eq, Bool, true, false, ◌&&◌, ◌||◌, List, [], ◌∷◌, ◌++◌, None, refl, sym, ◌∙◌, ap, subst, if◌then◌else◌, drop, length, reverse, arith}
 use Rattle.std.specs.List.{AllByRecursion, last_or, list_any}
 use Rattle.std.proofs.lemmas.Bool.Decides.{nat_tests}
@@ -101,9 +102,9 @@ has_first c maps (e ∷ es) w journal =
     go (same_bytes w.map e.map && same_bytes w.key e.key) refl
     (ap (list_any (is_of w.place)) (sym (found_in-with maps e.map e.key (without_last (found_in maps e.map e.key)) w.map w.key)) ∙ has_first c (popped maps e) es w journal.2)
   where
-    front : (a b : Bool) → a ≡ true → (a || b) ≡ true
-    front true b is = refl
-    front false b is = cc
+    prefix : (a b : Bool) → a ≡ true → (a || b) ≡ true
+    prefix true b is = refl
+    prefix false b is = cc
 
     go : (b : Bool) → (same_bytes w.map e.map && same_bytes w.key e.key) ≡ b →
         list_any (is_of w.place) (if b then without_last (found_in maps e.map e.key) else found_in maps w.map w.key) ≡ true →
@@ -115,10 +116,10 @@ has_first c maps (e ∷ es) w journal =
         let l = has_last vs (let a = last.place in let b = last.fresh in omega (arith, a, b)) in
         ap (list_any (is_of w.place)) (ap (λ n. found_in maps n w.key) row.0 ∙ ap (found_in maps e.map) row.1 ∙ l.split)
         ∙ any_either (is_of w.place) (without_last vs) (l.last ∷ [])
-        ∙ front (list_any (is_of w.place) (without_last vs)) (list_any (is_of w.place) (l.last ∷ [])) has
+        ∙ prefix (list_any (is_of w.place) (without_last vs)) (list_any (is_of w.place) (l.last ∷ [])) has
     go false differ has = has
 
--- ---- changes of rows, one behind another
+-- ---- changes of rows, one after another
 
 over_again : (maps : Maps) (m key : List ℕ) (us vs : List Version) → IsProper maps → IsTidy maps → with_versions (with_versions maps m key us) m key vs ≡ with_versions maps m key vs
 over_again maps m key us vs proper tidy =
@@ -229,9 +230,9 @@ pub journal-later : (c d : ℕ) (maps : Maps) (es : List Written) → c ≤ d �
 journal-later c d maps [] le journal = λ name key. settled_later c d (found_in maps name key) le (journal name key)
 journal-later c d maps (e ∷ es) le journal = (journal.0, journal.1, journal-later c d (popped maps e) es le journal.2)
 
-all_front : (n : ℕ) (es : List Written) (w : Written) → AllByRecursion (λ (e : Written). e.place ≤ n) (es ++ w ∷ []) → AllByRecursion (λ (e : Written). e.place ≤ n) es
-all_front n [] w all = tt
-all_front n (e ∷ es) w all = (all.0, all_front n es w all.1)
+all_prefix : (n : ℕ) (es : List Written) (w : Written) → AllByRecursion (λ (e : Written). e.place ≤ n) (es ++ w ∷ []) → AllByRecursion (λ (e : Written). e.place ≤ n) es
+all_prefix n [] w all = tt
+all_prefix n (e ∷ es) w all = (all.0, all_prefix n es w all.1)
 
 last_in : (n : ℕ) (es : List Written) (w : Written) → AllByRecursion (λ (e : Written). e.place ≤ n) (es ++ w ∷ []) → w.place ≤ n
 last_in n [] w all = all.0
@@ -244,14 +245,14 @@ still_last c maps e es w proper tidy journal =
     let both = commute c maps e es w proper tidy journal in
     let before = found_in maps e.map e.key in
     let now = found_in (settled maps w) e.map e.key in
-    let front : last_place (without_last now) ≡ last_place (without_last before) =
+    let prefix : last_place (without_last now) ≡ last_place (without_last before) =
     ap last_place (sym (found_in-at (settled maps w) e.map e.key (without_last now)))
     ∙ ap (λ (t : Maps). last_place (found_in t e.map e.key)) both
     ∙ ap place_or_zero (settled-last (popped maps e) w e.map e.key)
     ∙ ap last_place (found_in-at maps e.map e.key (without_last before)) in
     record {
       place = ap place_or_zero (settled-last maps w e.map e.key) ∙ last.place;
-      fresh = subst (λ n. n < e.place) (sym front) last.fresh;
+      fresh = subst (λ n. n < e.place) (sym prefix) last.fresh;
       before = last.before
           ∙ sym (ap (λ (t : Maps). newest_place (rows_in t e.map)) both
           ∙ newest-alike (rows_in (settled (popped maps e) w) e.map) (rows_in (popped maps e) e.map) (λ key. ap place_or_zero (settled-last (popped maps e) w e.map key)));
@@ -274,7 +275,7 @@ settle c d maps [] w proper tidy le within journal = λ name key.
 settle c d maps (e ∷ es) w proper tidy le within journal =
     let us = without_last (found_in maps e.map e.key) in (
       still_last c maps e es w proper tidy journal,
-      all_front e.place es w journal.1,
+      all_prefix e.place es w journal.1,
       subst (λ (t : Maps). IsJournal d t es) (sym (commute c maps e es w proper tidy journal))
           (settle c d (popped maps e) es w (proper-versions maps e.map e.key us proper) (tidy-versions maps e.map e.key us tidy) le within journal.2),
     )
@@ -366,9 +367,9 @@ nothing_left c to maps (e ∷ es) journal above name key =
         let last = journal.0 in
         let l = has_last vs (let p = last.place in let f = last.fresh in omega (arith, p, f)) in
         let over : is_up_to to l.last ≡ false = (let a = l.place in let b = last.place in let d : to < e.place = above.0 in grind (arith, nat_tests)) in
-        let front : latest_from to (without_last vs) ≡ without_last vs = subst (λ us. latest_from to us ≡ us) now rest in
+        let prefix : latest_from to (without_last vs) ≡ without_last vs = subst (λ us. latest_from to us ≡ us) now rest in
         let all : latest_from to vs ≡ vs =
-        ap (latest_from to) l.split ∙ latest-over to (without_last vs) l.last over ∙ ap (λ us. us ++ l.last ∷ []) front ∙ sym l.split in
+        ap (latest_from to) l.split ∙ latest-over to (without_last vs) l.last over ∙ ap (λ us. us ++ l.last ∷ []) prefix ∙ sym l.split in
         subst (λ us. latest_from to us ≡ us) (ap (λ n. found_in maps n e.key) (sym row.0) ∙ ap (found_in maps name) (sym row.1)) all
     go false differ rest now = subst (λ us. latest_from to us ≡ us) now rest
 

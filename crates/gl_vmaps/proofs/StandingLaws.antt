@@ -1,4 +1,5 @@
--- Tables that stand for writes answer as those, and go on doing so behind a write set, a cut and a compaction.
+-- Tables that stand for writes answer as those, and go on doing so after a write set, a cut and a
+-- compaction.
 use Rattle.std.proofs.Common.{◌≡◌, ℕ, ◌≤◌, ◌<◌, max, nat_le, Bool, true, false, ◌||◌, cond, List, [], ◌∷◌, ◌++◌, Option, Some, None, refl, sym, ◌∙◌, ap, subst, is_some, unwrap_or, if◌then◌else◌, Result, Ok, Err, OnOk, OnErr, arith}
 use Rattle.std.specs.Cmp.Lexicographic.{slice_cmp}
 use Rattle.std.specs.FinMap.{get, entries, get-entries, keys, contains_key, contains_key-keys, get-empty, len, same_map, slice_cmp-IsAntisymmetric, nat_cmp-IsAntisymmetric}

@@ -1,4 +1,4 @@
--- What a row has, and how many rows a map has, behind a write and behind a write set.
+-- What a row has, and how many rows a map has, after a write and after a write set.
 use Rattle.std.proofs.Common.{◌≡◌, ℕ, zero, suc, ◌≤◌, arith, ◌+◌, ◌-◌, List, [], ◌∷◌, ◌++◌, Option, Some, None, Bool, true, false, ◌&&◌, refl, sym, ◌∙◌, ap, cond, map, is_some, if◌then◌else◌}
 use Rattle.std.specs.Option.{option_or}
 use Rattle.std.specs.Ordering.{nat_cmp}
@@ -10,8 +10,8 @@ use Rattle.std.proofs.lemmas.Bool.Decides.{nat_tests}
 use Rattle.std.proofs.lemmas.Cmp.{nat_list_cmp_total}
 use Rattle.std.proofs.lemmas.Map.Text.{is_eq-slice_cmp}
 use Rattle.gl_vmaps.specs.Tables.{Tables, Rows, no_tables, same_bytes, with_row, wrote, wrote_all, value_in, has_key, size_of}
-use Rattle.gl_vmaps.specs.Versions.{Placed, placed_at, is_to_map, is_to_row, written_behind, written_by}
-use Rattle.gl_vmaps.specs.LastWrite.{last_write, value_behind}
+use Rattle.gl_vmaps.specs.Versions.{Placed, placed_at, is_to_map, is_to_row, written_after, written_by}
+use Rattle.gl_vmaps.specs.LastWrite.{last_write, value_after}
 use Rattle.gl_vmaps.specs.declared.write.Write.{Write}
 use Rattle.gl_vmaps.proofs.LastWrites.{last_such-cons}
 
@@ -101,21 +101,21 @@ size_of-some t map key has = go (len (t map)) refl
 
 -- ---- a write set
 
-behind_more : (map key : List ℕ) (w : Write) (o : Option Write) (before : Option (List ℕ)) →
-    value_behind o (if is_to_row map key w then w.value else before) ≡ value_behind (option_or o (cond (is_to_row map key w) (Some w) None)) before
-behind_more map key w (Some last) before = refl
-behind_more map key w None before =
-    elim (is_to_row map key w) as (λ b. (if b then w.value else before) ≡ value_behind (cond b (Some w) None) before) [ true ↦ refl | false ↦ refl ]
+after_more : (map key : List ℕ) (w : Write) (o : Option Write) (before : Option (List ℕ)) →
+    value_after o (if is_to_row map key w then w.value else before) ≡ value_after (option_or o (cond (is_to_row map key w) (Some w) None)) before
+after_more map key w (Some last) before = refl
+after_more map key w None before =
+    elim (is_to_row map key w) as (λ b. (if b then w.value else before) ≡ value_after (cond b (Some w) None) before) [ true ↦ refl | false ↦ refl ]
 
 -- a write set leaves what its last write to the row wrote
 pub value_in-wrote_all : (t : Tables) (ws : List Write) (map key : List ℕ) →
-    value_in (wrote_all t ws) map key ≡ value_behind (last_write map key ws) (value_in t map key)
+    value_in (wrote_all t ws) map key ≡ value_after (last_write map key ws) (value_in t map key)
 value_in-wrote_all t [] map key = refl
 value_in-wrote_all t (w ∷ ws) map key =
     value_in-wrote_all (wrote t w) ws map key
-    ∙ ap (λ (v : Option (List ℕ)). value_behind (last_write map key ws) v) (value_in-wrote t w map key)
-    ∙ behind_more map key w (last_write map key ws) (value_in t map key)
-    ∙ ap (λ (o : Option Write). value_behind o (value_in t map key)) (sym (last_such-cons (is_to_row map key) w ws))
+    ∙ ap (λ (v : Option (List ℕ)). value_after (last_write map key ws) v) (value_in-wrote t w map key)
+    ∙ after_more map key w (last_write map key ws) (value_in t map key)
+    ∙ ap (λ (o : Option Write). value_after o (value_in t map key)) (sym (last_such-cons (is_to_row map key) w ws))
 
 -- ---- writes at their places
 
@@ -123,14 +123,14 @@ abbrev pub writes_of : List Placed → List Write
 writes_of ps = map (λ (p : Placed). p.write) ps
 
 -- places make no difference to what is written
-pub written_behind-writes : (t : Tables) (ps : List Placed) → written_behind t ps ≡ wrote_all t (writes_of ps)
-written_behind-writes t [] = refl
-written_behind-writes t (p ∷ ps) = written_behind-writes (wrote t p.write) ps
+pub written_after-writes : (t : Tables) (ps : List Placed) → written_after t ps ≡ wrote_all t (writes_of ps)
+written_after-writes t [] = refl
+written_after-writes t (p ∷ ps) = written_after-writes (wrote t p.write) ps
 
--- what is written behind some writes is written behind what they made
-pub written_behind-append : (t : Tables) (ps qs : List Placed) → written_behind t (ps ++ qs) ≡ written_behind (written_behind t ps) qs
-written_behind-append t [] qs = refl
-written_behind-append t (p ∷ ps) qs = written_behind-append (wrote t p.write) ps qs
+-- what is written after some writes is written after what they made
+pub written_after-append : (t : Tables) (ps qs : List Placed) → written_after t (ps ++ qs) ≡ written_after (written_after t ps) qs
+written_after-append t [] qs = refl
+written_after-append t (p ∷ ps) qs = written_after-append (wrote t p.write) ps qs
 
 -- what the write set of one more entry makes
 pub writes_of-placed_at : (place : ℕ) (ws : List Write) → writes_of (placed_at place ws) ≡ ws
@@ -139,8 +139,8 @@ writes_of-placed_at place (w ∷ ws) = ap (λ vs. w ∷ vs) (writes_of-placed_at
 
 pub written_by-applied : (ps : List Placed) (place : ℕ) (ws : List Write) → written_by (ps ++ placed_at place ws) ≡ wrote_all (written_by ps) ws
 written_by-applied ps place ws =
-    written_behind-append no_tables ps (placed_at place ws)
-    ∙ written_behind-writes (written_by ps) (placed_at place ws)
+    written_after-append no_tables ps (placed_at place ws)
+    ∙ written_after-writes (written_by ps) (placed_at place ws)
     ∙ ap (λ vs. wrote_all (written_by ps) vs) (writes_of-placed_at place ws)
 
 -- before the first write no row has a value, and no map has a row
@@ -151,8 +151,8 @@ pub size_of-nothing : (map : List ℕ) → size_of no_tables map ≡ 0
 size_of-nothing map = len-empty (slice_cmp nat_cmp) (List ℕ)
 
 -- a row has what was last written to it
-pub value_in-written_by : (ps : List Placed) (map key : List ℕ) → value_in (written_by ps) map key ≡ value_behind (last_write map key (writes_of ps)) None
+pub value_in-written_by : (ps : List Placed) (map key : List ℕ) → value_in (written_by ps) map key ≡ value_after (last_write map key (writes_of ps)) None
 value_in-written_by ps map key =
-    ap (λ (t : Tables). value_in t map key) (written_behind-writes no_tables ps)
+    ap (λ (t : Tables). value_in t map key) (written_after-writes no_tables ps)
     ∙ value_in-wrote_all no_tables (writes_of ps) map key
-    ∙ ap (λ (v : Option (List ℕ)). value_behind (last_write map key (writes_of ps)) v) (value_in-nothing map key)
+    ∙ ap (λ (v : Option (List ℕ)). value_after (last_write map key (writes_of ps)) v) (value_in-nothing map key)

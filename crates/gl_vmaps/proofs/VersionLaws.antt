@@ -1,10 +1,11 @@
--- The versions that a list of writes gives a row: its value and version by them, and those of longer and shorter lists.
+-- The versions that a list of writes gives a row: its value and version by them, and those of
+-- longer and shorter lists.
 use Rattle.std.proofs.Common.{◌≡◌, ℕ, ◌≤◌, ◌<◌, max, nat_le, Bool, true, false, ◌&&◌, cond, List, [], ◌∷◌, ◌++◌, Option, Some, None, refl, sym, ◌∙◌, ap, subst, if◌then◌else◌, arith}
 use Rattle.std.proofs.Math.Nat.{max-zero, zero-max}
 use Rattle.std.specs.List.{AllByRecursion, last_or}
 use Rattle.std.specs.Option.{option_and_then}
 use Rattle.gl_vmaps.specs.Tables.{Tables, no_tables, same_bytes, wrote, value_in}
-use Rattle.gl_vmaps.specs.Versions.{Placed, written_behind, written_by, is_to_map, is_to_row, greatest_place, version_in, map_version_in, up_to, AreRising}
+use Rattle.gl_vmaps.specs.Versions.{Placed, written_after, written_by, is_to_map, is_to_row, greatest_place, version_in, map_version_in, up_to, AreRising}
 use Rattle.gl_vmaps.specs.Kept.{last_value, last_place, place_or_zero}
 use Rattle.gl_vmaps.specs.Standing.{version, versions_in, versions_up_to}
 use Rattle.gl_vmaps.specs.declared.table.Version.{Version}
@@ -52,24 +53,24 @@ versions_in-up_to to (p ∷ ps) map key =
 
 -- ---- a row's value
 
-value_behind_all : (t : Tables) (ps : List Placed) (map key : List ℕ) (o : Option Version) → value_in t map key ≡ option_and_then (λ (v : Version). v.value) o →
-    value_in (written_behind t ps) map key ≡ option_and_then (λ (v : Version). v.value) (last_or o (versions_in ps map key))
-value_behind_all t [] map key o before = before
-value_behind_all t (p ∷ ps) map key o before =
+value_after_all : (t : Tables) (ps : List Placed) (map key : List ℕ) (o : Option Version) → value_in t map key ≡ option_and_then (λ (v : Version). v.value) o →
+    value_in (written_after t ps) map key ≡ option_and_then (λ (v : Version). v.value) (last_or o (versions_in ps map key))
+value_after_all t [] map key o before = before
+value_after_all t (p ∷ ps) map key o before =
     go (is_to_row map key p.write) (value_in-wrote t p.write map key)
-    (λ u e. value_behind_all (wrote t p.write) ps map key u e)
+    (λ u e. value_after_all (wrote t p.write) ps map key u e)
     ∙ ap (λ vs. option_and_then (λ (v : Version). v.value) (last_or o vs)) (sym (versions_in-first p ps map key))
   where
     go : (b : Bool) → value_in (wrote t p.write) map key ≡ (if b then p.write.value else value_in t map key) →
         ((u : Option Version) → value_in (wrote t p.write) map key ≡ option_and_then (λ (v : Version). v.value) u →
-        value_in (written_behind (wrote t p.write) ps) map key ≡ option_and_then (λ (v : Version). v.value) (last_or u (versions_in ps map key))) →
-        value_in (written_behind (wrote t p.write) ps) map key ≡ option_and_then (λ (v : Version). v.value) (last_or o (with_first b (version p) (versions_in ps map key)))
+        value_in (written_after (wrote t p.write) ps) map key ≡ option_and_then (λ (v : Version). v.value) (last_or u (versions_in ps map key))) →
+        value_in (written_after (wrote t p.write) ps) map key ≡ option_and_then (λ (v : Version). v.value) (last_or o (with_first b (version p) (versions_in ps map key)))
     go true after rest = rest (Some (version p)) after
     go false after rest = rest o (after ∙ before)
 
 -- a row has what its last version wrote
 pub value_in-versions : (ps : List Placed) (map key : List ℕ) → value_in (written_by ps) map key ≡ last_value (versions_in ps map key)
-value_in-versions ps map key = value_behind_all no_tables ps map key None (value_in-nothing map key)
+value_in-versions ps map key = value_after_all no_tables ps map key None (value_in-nothing map key)
 
 -- ---- a row's version
 

@@ -71,7 +71,7 @@ pub any_either : (test : Version → Bool) (xs ys : List Version) → list_any t
 any_either test [] ys = refl
 any_either test (x ∷ xs) ys = rw (any_either test xs ys) (elim (test x) as (λ b. (b || (list_any test xs || list_any test ys)) ≡ ((b || list_any test xs) || list_any test ys)) [ true ↦ refl | false ↦ refl ])
 
--- what was not among the latest is not missed behind others
+-- what was not among the latest is not missed after others
 pub latest-append : (place : ℕ) (xs ys : List Version) → latest_from place (xs ++ ys) ≡ latest_from place (latest_from place xs ++ ys)
 latest-append place [] ys = refl
 latest-append place (v ∷ xs) ys = rw (any_either (is_up_to place) xs ys) (go (is_up_to place v) (list_any (is_up_to place) xs) refl refl (latest-append place xs ys))

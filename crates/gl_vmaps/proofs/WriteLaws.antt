@@ -14,7 +14,7 @@ use Rattle.std.proofs.lemmas.List.Sums.{sum_by-cons}
 use Rattle.gl_vmaps.specs.Writes.{write_order, is_less, stands_before, is_ordered, with_write, put_before, is_write}
 use Rattle.gl_vmaps.specs.Tables.{Tables, wrote, wrote_all, value_in, has_key, size_of}
 use Rattle.gl_vmaps.specs.Versions.{is_to_map, is_to_row}
-use Rattle.gl_vmaps.specs.LastWrite.{last_write, value_behind}
+use Rattle.gl_vmaps.specs.LastWrite.{last_write, value_after}
 use Rattle.gl_vmaps.specs.Growth.{gains, loses, gained, lost}
 use Rattle.gl_vmaps.specs.declared.write.Write.{Write}
 use Rattle.gl_vmaps.proofs.LastWrites.{last_such-cons}
@@ -30,7 +30,7 @@ less Less e = refl
 less Equal e = absurd (cc)
 less Greater e = absurd (cc)
 
--- a write behind which another belongs stands before it
+-- a write after which another belongs stands before it
 turned : (w x : Write) → write_order w x ≡ Greater → write_order x w ≡ Less
 turned w x is = write_order_total.antisymm x w ∙ ap ordering_reverse is
 
@@ -157,7 +157,7 @@ ordered_before x (y ∷ ys) ordered =
 pub is_ordered-rest : (x : Write) (xs : List Write) → is_ordered (x ∷ xs) ≡ true → is_ordered xs ≡ true
 is_ordered-rest x xs ordered = (and_parts (stands_before x.map x.key xs) (is_ordered xs) ordered).1
 
--- behind a write to a row no other is to it
+-- after a write to a row no other is to it
 no_other : (map key : List ℕ) (w : Write) (ws : List Write) → AllByRecursion (λ y. write_order w y ≡ Less) ws → is_to_row map key w ≡ true → last_write map key ws ≡ None
 no_other map key w [] all is = refl
 no_other map key w (y ∷ ys) all is =
@@ -227,17 +227,17 @@ last_write-with_write map key [] w ordered = refl
 last_write-with_write map key (x ∷ xs) w ordered =
     last_with map key w x xs (write_order w x) refl (ordered_before x xs ordered) (last_write-with_write map key xs w (is_ordered-rest x xs ordered))
 
-put_behind : (b : Bool) (o : Option Write) (w : Write) (before : Option (List ℕ)) → value_behind (cond b (Some w) o) before ≡ (if b then w.value else value_behind o before)
-put_behind true o w before = refl
-put_behind false o w before = refl
+put_after : (b : Bool) (o : Option Write) (w : Write) (before : Option (List ℕ)) → value_after (cond b (Some w) o) before ≡ (if b then w.value else value_after o before)
+put_after true o w before = refl
+put_after false o w before = refl
 
 -- a set with one more write makes what the set makes and then the write
 pub value_in-with_write : (t : Tables) (ws : List Write) (w : Write) → is_ordered ws ≡ true → (map key : List ℕ) →
     value_in (wrote_all t (with_write ws w)) map key ≡ value_in (wrote (wrote_all t ws) w) map key
 value_in-with_write t ws w ordered map key =
     value_in-wrote_all t (with_write ws w) map key
-    ∙ ap (λ (o : Option Write). value_behind o (value_in t map key)) (last_write-with_write map key ws w ordered)
-    ∙ put_behind (is_to_row map key w) (last_write map key ws) w (value_in t map key)
+    ∙ ap (λ (o : Option Write). value_after o (value_in t map key)) (last_write-with_write map key ws w ordered)
+    ∙ put_after (is_to_row map key w) (last_write map key ws) w (value_in t map key)
     ∙ ap (λ (v : Option (List ℕ)). if is_to_row map key w then w.value else v) (sym (value_in-wrote_all t ws map key))
     ∙ sym (value_in-wrote (wrote_all t ws) w map key)
 
@@ -247,7 +247,7 @@ wrote_all-with_write t ws w ordered map =
     same_map nat_list_cmp_total (slice_cmp-IsAntisymmetric nat_cmp-IsAntisymmetric) (wrote_all t (with_write ws w) map) (wrote (wrote_all t ws) w map)
     (value_in-with_write t ws w ordered map)
 
--- ---- the rows of a map behind a write set
+-- ---- the rows of a map after a write set
 
 -- a write leaves the row of another alone
 other_kept : (t : Tables) (map : List ℕ) (w y : Write) → write_order w y ≡ Less → is_to_map map y ≡ true → has_key (wrote t w) map y.key ≡ has_key t map y.key

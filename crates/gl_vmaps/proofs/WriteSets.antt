@@ -38,7 +38,7 @@ value_in-put t ws w ordered =
     own : is_to_row w.map w.key w ≡ true
     own = rw (same_bytes-itself w.map, same_bytes-itself w.key) refl
 
--- the same writes behind tables with the same rows of a map make the same rows of it
+-- the same writes after tables with the same rows of a map make the same rows of it
 wrote_all-rows : (s t : Tables) (ws : List Write) (map : List ℕ) → s map ≡ t map → wrote_all s ws map ≡ wrote_all t ws map
 wrote_all-rows s t [] map same = same
 wrote_all-rows s t (w ∷ ws) map same =

@@ -33,7 +33,7 @@ abbrev pub chains_by : List (Vec ℕ Global × VecDeque Version Global) → Chai
 chains_by [] = finite.empty
 chains_by (e ∷ es) = with_chain (chains_by es) e.0.items e.1.items
 
--- Versions without the first, if another stands behind it and it is below a place.
+-- Versions without the first, if another stands after it and it is below a place.
 abbrev pub is_first_below : ℕ → List Version → Bool
 is_first_below place [] = false
 is_first_below place (v ∷ vs) = nat_lt v.place place

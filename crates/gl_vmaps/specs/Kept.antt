@@ -15,7 +15,7 @@ use Rattle.gl_vmaps.specs.declared.table.Version.{Version}
 abbrev pub Chains : Type 0
 Chains = FinMap (slice_cmp nat_cmp) (List Version)
 
--- What is kept: the base, which is the number of places in front of the first that is held; the
+-- What is kept: the base, which is the number of places before the first that is held; the
 -- compacted place, below which no cut goes; and to each map's name its rows. A row that stood at
 -- the base has a version at place 0.
 pub record Kept : Type 0 where

@@ -11,7 +11,7 @@ last_such is_such xs = find is_such (reverse xs)
 abbrev pub last_write : List ℕ → List ℕ → List Write → Option Write
 last_write map key writes = last_such (is_to_row map key) writes
 
--- The row's value behind such a write: what it wrote, and without a write what was there before.
-abbrev pub value_behind : Option Write → Option (List ℕ) → Option (List ℕ)
-value_behind None before = before
-value_behind (Some w) before = w.value
+-- The row's value after such a write: what it wrote, and without a write what was there before.
+abbrev pub value_after : Option Write → Option (List ℕ) → Option (List ℕ)
+value_after None before = before
+value_after (Some w) before = w.value

@@ -40,8 +40,7 @@ pub record StandsFor (t : Kept) (ps : List Placed) : Type 0 where
       latest_from t.compacted (versions_of t map key)
       ≡ latest_from t.compacted (versions_in ps map key)
 
--- The tables with a write set: each row has its versions, and behind them what the set writes to
--- it.
+-- The tables with a write set: each row has its versions, and after them what the set writes to it.
 pub record HasApplied (old : Kept) (place : ℕ) (writes : List Write) (new : Kept) : Type 0 where
   pub base : new.base ≡ old.base
   pub compacted : new.compacted ≡ old.compacted

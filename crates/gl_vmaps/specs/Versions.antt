@@ -15,13 +15,13 @@ abbrev pub placed_at : ℕ → List Write → List Placed
 placed_at place writes = map (λ (w : Write). record { place = place; write = w }) writes
 
 -- The tables after these writes, one after another.
-abbrev pub written_behind : Tables → List Placed → Tables
-written_behind tables [] = tables
-written_behind tables (p ∷ ps) = written_behind (wrote tables p.write) ps
+abbrev pub written_after : Tables → List Placed → Tables
+written_after tables [] = tables
+written_after tables (p ∷ ps) = written_after (wrote tables p.write) ps
 
 -- What writes make of no tables.
 abbrev pub written_by : List Placed → Tables
-written_by ps = written_behind no_tables ps
+written_by ps = written_after no_tables ps
 
 -- The write is to this map; and to this row of it.
 abbrev pub is_to_map : List ℕ → Write → Bool
@@ -48,7 +48,7 @@ map_version_in ps map = greatest_place (is_to_map map) ps
 abbrev pub up_to : ℕ → List Placed → List Placed
 up_to place ps = filter (λ (p : Placed). nat_le p.place place) ps
 
--- No write has a place above that of one behind it.
+-- No write has a place above that of one after it.
 abbrev pub AreRising : List Placed → Type 0
 AreRising [] = Unit {0}
 AreRising (p ∷ ps) = AllByRecursion (λ (later : Placed). p.place ≤ later.place) ps × AreRising ps

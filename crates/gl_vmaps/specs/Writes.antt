@@ -30,8 +30,8 @@ abbrev pub is_ordered : List Write → Bool
 is_ordered [] = true
 is_ordered (w ∷ ws) = stands_before w.map w.key ws && is_ordered ws
 
--- A write put into an ordered set at its first write: in front of it, in its place where both are
--- to one row, or further behind.
+-- A write put into an ordered set at its first write: before it, in its place where both are to one
+-- row, or further on.
 abbrev pub put_before : Ordering → Write → Write → List Write → List Write → List Write
 put_before Less w x xs rest = w ∷ x ∷ xs
 put_before Equal w x xs rest = w ∷ xs

@@ -39,7 +39,7 @@ pub(crate) fn newest_of(maps: &Maps, map: &[u8]) -> u64
     }
 }
 
-/// Adds a version behind those of a row. Want of memory leaves the maps as they were.
+/// Adds a version after those of a row. Running out of memory leaves the maps as they were.
 pub(crate) fn push_version(
     maps: &mut Maps,
     alloc: Global,
@@ -64,7 +64,7 @@ pub(crate) fn push_version(
     Ok(())
 }
 
-/// Takes back the last version of a row, and tells whether the map has no row left.
+/// Takes back the last version of a row, and reports whether the map has no row left.
 fn shorten(maps: &mut Maps, map: &[u8], key: &[u8], before: u64) -> bool
     requires { let old = maps_by maps.old.entries in before ≡ newest_place (rows_in
         (with_versions old map.now key.now (without_last (found_in old map.now key.now))) map.now) }
@@ -93,7 +93,7 @@ pub(crate) fn pop_version(maps: &mut Maps, map: &[u8], key: &[u8], before: u64)
     }
 }
 
-/// Lets go of the first version of a row, if another stands behind it and it is below a place.
+/// Lets go of the first version of a row, if another stands after it and it is below a place.
 pub(crate) fn trim_version(maps: &mut Maps, map: &[u8], key: &[u8], place: u64)
     ensures { let old = maps_by maps.old.entries in maps_by maps.new.entries ≡
         with_versions old map.now key.now (trimmed place (found_in old map.now key.now)) }
@@ -155,7 +155,7 @@ pub(crate) fn settle_first(maps: &mut Maps, journal: &mut VecDeque<Written>)
     }
 }
 
-/// Adds a write at a place. Want of memory leaves all as it was.
+/// Adds a write at a place. Running out of memory leaves all as it was.
 fn push_write(
     alloc: Global,
     maps: &mut Maps,
@@ -185,7 +185,7 @@ fn push_write(
     Ok(())
 }
 
-/// Adds the writes of a set at a place. Want of memory leaves all as it was.
+/// Adds the writes of a set at a place. Running out of memory leaves all as it was.
 pub(crate) fn push_writes(
     alloc: Global,
     maps: &mut Maps,
@@ -215,7 +215,7 @@ pub(crate) fn push_writes(
     }
 }
 
-/// The same maps in memory of their own. Fails for want of memory alone.
+/// The same maps in memory of their own. Fails only where memory runs out.
 pub(crate) fn copy_maps(alloc: Global, maps: &Maps) -> Result<Maps, AllocError>
     ensures { IfOk result (λ copy. maps_by copy.entries ≡ maps_by maps.now.entries) }
 {
@@ -228,7 +228,7 @@ pub(crate) fn copy_maps(alloc: Global, maps: &Maps) -> Result<Maps, AllocError>
     Ok(copy)
 }
 
-/// The same journal in memory of its own. Fails for want of memory alone.
+/// The same journal in memory of its own. Fails only where memory runs out.
 pub(crate) fn copy_journal(
     alloc: Global,
     journal: &VecDeque<Written>,
@@ -270,8 +270,8 @@ pub(crate) fn maps_of_rows(alloc: Global, rows: Vec<Row>) -> Result<Maps, AllocE
     Ok(maps)
 }
 
-/// The rows that all maps had at a place, each with its value, in their order. Fails for want of
-/// memory alone.
+/// The rows that all maps had at a place, each with its value, in their order. Fails only where
+/// memory runs out.
 pub(crate) fn rows_of_maps(alloc: Global, maps: &Maps, to: u64) -> Result<Vec<Row>, AllocError>
     requires { (name key : List ℕ) →
         IsInOrder name key (found_in (maps_by maps.now.entries) name key) }

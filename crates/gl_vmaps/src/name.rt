@@ -70,7 +70,7 @@ impl MapName {
         MapName { bytes }
     }
 
-    /// The same as `of`, in memory of its own. Fails for want of memory alone.
+    /// The same as `of`, in memory of its own. Fails only where memory runs out.
     pub fn from_slice(alloc: Global, bytes: &[u8]) -> Result<Self, AllocError>
         requires { IsTrue (is_map_name bytes.now) }
         ensures { IfOk result (λ name. name ≡ bytes.now) }
@@ -80,7 +80,7 @@ impl MapName {
         })
     }
 
-    /// The same bytes in memory of their own. Fails for want of memory alone.
+    /// The same bytes in memory of their own. Fails only where memory runs out.
     pub fn copy(&self, alloc: Global) -> Result<Self, AllocError>
         ensures { IfOk result (λ name. name ≡ self.now) }
     {
@@ -143,7 +143,7 @@ impl Key {
         Key { bytes }
     }
 
-    /// The same as `of`, in memory of its own. Fails for want of memory alone.
+    /// The same as `of`, in memory of its own. Fails only where memory runs out.
     pub fn from_slice(alloc: Global, bytes: &[u8]) -> Result<Self, AllocError>
         requires { IsTrue (is_key bytes.now) }
         ensures { IfOk result (λ key. key ≡ bytes.now) }
@@ -153,7 +153,7 @@ impl Key {
         })
     }
 
-    /// The same bytes in memory of their own. Fails for want of memory alone.
+    /// The same bytes in memory of their own. Fails only where memory runs out.
     pub fn copy(&self, alloc: Global) -> Result<Self, AllocError>
         ensures { IfOk result (λ key. key ≡ self.now) }
     {
@@ -216,7 +216,7 @@ impl Value {
         Value { bytes }
     }
 
-    /// The same as `of`, in memory of its own. Fails for want of memory alone.
+    /// The same as `of`, in memory of its own. Fails only where memory runs out.
     pub fn from_slice(alloc: Global, bytes: &[u8]) -> Result<Self, AllocError>
         requires { IsTrue (is_value bytes.now) }
         ensures { IfOk result (λ value. value ≡ bytes.now) }
@@ -226,7 +226,7 @@ impl Value {
         })
     }
 
-    /// The same bytes in memory of their own. Fails for want of memory alone.
+    /// The same bytes in memory of their own. Fails only where memory runs out.
     pub fn copy(&self, alloc: Global) -> Result<Self, AllocError>
         ensures { IfOk result (λ value. value ≡ self.now) }
     {

@@ -28,7 +28,7 @@ pub struct Version {
 impl Version {
     ghost use Rattle.std.specs.Prelude.{◌≡◌, IfOk};
 
-    /// The same version in memory of its own. Fails for want of memory alone.
+    /// The same version in memory of its own. Fails only where memory runs out.
     pub fn copy(&self, alloc: Global) -> Result<Self, AllocError>
         ensures { IfOk result (λ version. version ≡ self.now) }
     {
@@ -56,7 +56,7 @@ fn last_of<'a>(rows: &'a Rows, key: &[u8]) -> Option<&'a Version>
     }
 }
 
-/// Adds a version behind those of a row. Want of memory leaves the rows as they were.
+/// Adds a version after those of a row. Running out of memory leaves the rows as they were.
 fn push_into(rows: &mut Rows, alloc: Global, key: &[u8], version: Version) -> Result<(), AllocError>
     ensures ok { OnOk result (let old = chains_by rows.old.entries in
         chains_by rows.new.entries ≡
@@ -75,7 +75,7 @@ fn push_into(rows: &mut Rows, alloc: Global, key: &[u8], version: Version) -> Re
     Ok(())
 }
 
-/// Takes back the last version of a row, and tells whether no other is left.
+/// Takes back the last version of a row, and reports whether no other is left.
 fn shorten(rows: &mut Rows, key: &[u8]) -> bool
     ensures rows { let old = chains_by rows.old.entries in let chain = chain_of old key.now in
         chains_by rows.new.entries ≡ with_chain old key.now (take (length chain - 1) chain) }
@@ -110,7 +110,7 @@ fn is_first_below(chain: &VecDeque<Version>, place: u64) -> bool
     }
 }
 
-/// Lets go of the first version, if another stands behind it and it is below a place.
+/// Lets go of the first version, if another stands after it and it is below a place.
 fn trim(chain: &mut VecDeque<Version>, place: u64)
     ensures { chain.new.items ≡ trimmed place chain.old.items }
 {
@@ -119,7 +119,7 @@ fn trim(chain: &mut VecDeque<Version>, place: u64)
     }
 }
 
-/// Lets go of the first version of a row, if another stands behind it and it is below a place.
+/// Lets go of the first version of a row, if another stands after it and it is below a place.
 fn trim_in(rows: &mut Rows, key: &[u8], place: u64)
     ensures { let old = chains_by rows.old.entries in
         chains_by rows.new.entries ≡ with_chain old key.now (trimmed place (chain_of old key.now)) }
@@ -200,7 +200,7 @@ fn has_value(last: Option<&Version>) -> bool
     }
 }
 
-/// A count of rows that have a value, behind a change of one of them.
+/// A count of rows that have a value, after a change of one of them.
 fn recount(count: u64, had: bool, has: bool) -> u64
     requires room { count < 2 ^ 63 }
     requires some { IsTrue had → 1 ≤ count }
@@ -289,7 +289,7 @@ impl Table {
         self.rows.is_empty()
     }
 
-    /// Adds a version behind those of a row. Want of memory leaves the rows as they were.
+    /// Adds a version after those of a row. Running out of memory leaves the rows as they were.
     pub(crate) fn push(
         &mut self,
         alloc: Global,
@@ -327,7 +327,7 @@ impl Table {
         self.newest = before;
     }
 
-    /// Lets go of the first version of a row, if another stands behind it and it is below a place.
+    /// Lets go of the first version of a row, if another stands after it and it is below a place.
     pub(crate) fn trim(&mut self, key: &[u8], place: u64)
         ensures { self.new ≡
             with_chain self.old key.now (trimmed place (chain_of self.old key.now)) }
@@ -335,8 +335,8 @@ impl Table {
         trim_in(&mut self.rows, key, place);
     }
 
-    /// Adds the rows that the map with this name had at a place, each with its value. Fails for
-    /// want of memory alone.
+    /// Adds the rows that the map with this name had at a place, each with its value. Fails only
+    /// where memory runs out.
     pub(crate) fn push_rows(
         &self,
         alloc: Global,
@@ -354,7 +354,7 @@ impl Table {
         Ok(())
     }
 
-    /// The same rows in memory of their own. Fails for want of memory alone.
+    /// The same rows in memory of their own. Fails only where memory runs out.
     pub(crate) fn copy(&self, alloc: Global) -> Result<Self, AllocError>
         ensures { IfOk result (λ table. table ≡ self.now) }
     {

@@ -109,7 +109,7 @@ impl Tables {
     }
 
     /// Tables that begin at a base, with these rows. Their versions are 0 until an entry writes
-    /// them. Fails for want of memory alone.
+    /// them. Fails only where memory runs out.
     pub fn at_base(alloc: Global, base: u64, rows: Rows) -> Result<Self, AllocError>
         ensures base { IfOk result (λ tables. tables.base ≡ base) }
         ensures compacted { IfOk result (λ tables. tables.compacted ≡ base) }
@@ -180,7 +180,7 @@ impl Tables {
     }
 
     /// Applies the write set of the entry at a place, which is above the base and above all places
-    /// so far. Want of memory leaves the tables as they were.
+    /// so far. Running out of memory leaves the tables as they were.
     pub fn apply(&mut self, seqno: u64, writes: &Writes) -> Result<(), AllocError>
         requires base { self.old.base < seqno }
         requires above { (map key : List ℕ) → version_of self.old map key < seqno }
@@ -220,7 +220,7 @@ impl Tables {
     }
 
     /// The rows after the entries up to a place, which is not below the compacted one: what a
-    /// snapshot at the place holds. Fails for want of memory alone.
+    /// snapshot at the place holds. Fails only where memory runs out.
     pub fn rows(&self, to: u64) -> Result<Rows, AllocError>
         requires { self.now.compacted ≤ to }
         ensures value { IfOk result (λ rows. (map key : List ℕ) →
@@ -233,7 +233,7 @@ impl Tables {
         Ok(Rows::of(rows_of_maps(self.alloc, &self.maps, to)?))
     }
 
-    /// Tables of their own with the same rows and versions. Fails for want of memory alone.
+    /// Tables of their own with the same rows and versions. Fails only where memory runs out.
     pub fn copy(&self) -> Result<Self, AllocError>
         ensures { IfOk result (λ tables. tables ≡ self.now) }
     {

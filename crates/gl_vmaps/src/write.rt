@@ -25,7 +25,7 @@ impl Write {
     ghost use Rattle.std.specs.Prelude.{◌≡◌, IsTrue, IfOk};
     ghost use Rattle.gl_vmaps.specs.Writes.{row_order, is_write};
 
-    /// The same write in memory of its own. Fails for want of memory alone.
+    /// The same write in memory of its own. Fails only where memory runs out.
     pub fn copy(&self, alloc: Global) -> Result<Self, AllocError>
         ensures { IfOk result (λ write. write ≡ self.now) }
     {
@@ -105,7 +105,7 @@ impl Writes {
         Writes { items }
     }
 
-    /// The same writes in memory of their own. Fails for want of memory alone.
+    /// The same writes in memory of their own. Fails only where memory runs out.
     pub fn copy(&self, alloc: Global) -> Result<Self, AllocError>
         ensures { IfOk result (λ writes. writes ≡ self.now) }
     {
@@ -125,8 +125,8 @@ impl Writes {
         &self.items
     }
 
-    /// Adds a write at its place. It takes the place of an earlier one to the same row. Want of
-    /// memory leaves the set as it was.
+    /// Adds a write at its place. It takes the place of an earlier one to the same row. Running out
+    /// of memory leaves the set as it was.
     pub fn put(&mut self, write: Write) -> Result<(), AllocError>
         ensures ok { OnOk result (self.new ≡ with_write self.old write) }
         ensures err { OnErr result (self.new ≡ self.old) }
@@ -136,7 +136,7 @@ impl Writes {
     }
 }
 
-/// Adds a write to writes that are in order. Want of memory leaves them as they were.
+/// Adds a write to writes that are in order. Running out of memory leaves them as they were.
 fn put_into(items: &mut Vec<Write>, write: Write) -> Result<(), AllocError>
     ensures ok { OnOk result (items.new.items ≡ with_write items.old.items write) }
     ensures err { OnErr result (items.new.items ≡ items.old.items) }

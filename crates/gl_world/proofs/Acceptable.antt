@@ -5,7 +5,7 @@ use Rattle.std.specs.Prelude.{◌==◌}
 use Rattle.std.proofs.lemmas.Bool.{and_parts, and_from}
 use Rattle.std.proofs.lemmas.Bool.Decides.{nat_tests}
 use Rattle.gl_base.specs.Bytes.{is_byte}
-use Rattle.gl_requests.specs.Spelling.{node_id}
+use Rattle.gl_requests.specs.Encoding.{node_id}
 use Rattle.gl_requests.specs.Ranges.{is_node, is_member_number, is_member, is_share, is_dealing, is_genesis}
 use Rattle.gl_requests.specs.declared.genesis.NewNode.{NewNode}
 use Rattle.gl_requests.specs.declared.genesis.ShareDigest.{ShareDigest}
@@ -46,9 +46,9 @@ ids_fewer s first (suc n) (suc m) le all =
     (ids_fewer s (suc first) n m (omega arith) both.1)
 
 -- the identifiers of so many nodes
-pub ids_told : (s : Settings) (first count : ℕ) → map node_id (map (node_of s) (numbers_from first count)) ≡ map (id_of s) (numbers_from first count)
-ids_told s first zero = refl
-ids_told s first (suc count) = ap (λ (xs : List (List ℕ)). id_of s first ∷ xs) (ids_told s (suc first) count)
+pub ids_reported : (s : Settings) (first count : ℕ) → map node_id (map (node_of s) (numbers_from first count)) ≡ map (id_of s) (numbers_from first count)
+ids_reported s first zero = refl
+ids_reported s first (suc count) = ap (λ (xs : List (List ℕ)). id_of s first ∷ xs) (ids_reported s (suc first) count)
 
 -- ---- the dealing
 

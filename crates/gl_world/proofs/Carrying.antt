@@ -85,17 +85,17 @@ module _ {E Q G R A F : Type 0} (b : Book E Q G R A F) where
   batch_few [] = refl
   batch_few (e ∷ es) = let few = fitting_few (entries_limit - 1) (frames_limit - b.frame_size e) es in grind (arith, nat_tests, few)
 
-  sent_light : (x y : NodeId) (behind : ℕ) (n : Node E) → bring_few (replication.append_message b x y behind n ∷ []) ≡ true
-  sent_light x y behind n = ap (λ (t : Bool). t && true) (batch_few (drop behind n.log))
+  sent_light : (x y : NodeId) (suffix : ℕ) (n : Node E) → bring_few (replication.append_message b x y suffix n ∷ []) ≡ true
+  sent_light x y suffix n = ap (λ (t : Bool). t && true) (batch_few (drop suffix n.log))
 
   replicate_light : (x y : NodeId) (n : Node E) → Light (replication.replicate b x y n)
   unfolding replication.replicate
   replicate_light x y n =
-      let behind = replication.next_of b n y - 1 in
-      let send = replication.send_append b x y behind n in
+      let suffix = replication.next_of b n y - 1 in
+      let send = replication.send_append b x y suffix n in
       at_leader n.role n (if replication.is_peer b x y n then send else outcome.refuse n outcome.NotPeer)
       (by (replication.is_peer b x y n) send (outcome.refuse n outcome.NotPeer)
-      (by (nat_lt behind n.base) (outcome.refuse n (outcome.BelowBase n.base)) (record { node = n; sent = replication.append_message b x y behind n ∷ []; outcome = outcome.Done }) refl (sent_light x y behind n))
+      (by (nat_lt suffix n.base) (outcome.refuse n (outcome.BelowBase n.base)) (record { node = n; sent = replication.append_message b x y suffix n ∷ []; outcome = outcome.Done }) refl (sent_light x y suffix n))
       refl)
 
   -- a request
@@ -199,7 +199,7 @@ module _ {E Q G R A F : Type 0} (b : Book E Q G R A F) where
       by ((prev.seqno == 0) || (nat_le prev.seqno (length n.log) && (view_at b n.log prev.seqno == prev.view)))
       (replication.merge_entries b x y prev.seqno es held theirs n)
       (record { node = n; sent = replication.append_reply b x y false (replication.highest_possible_match b n.log prev.view (min (prev.seqno - 1) (length n.log))) n; outcome = outcome.Done })
-      (by (held == length es) (replication.accept_entries b x y (prev.seqno + length es) theirs n) behind refl
+      (by (held == length es) (replication.accept_entries b x y (prev.seqno + length es) theirs n) suffix refl
       (by (nat_lt (prev.seqno + held) (length n.log) && nat_lt (prev.seqno + held) n.commit) (outcome.refuse n (outcome.BelowCommit n.commit (prev.seqno + held))) taken refl (accepted (replication.checked_append b (take (prev.seqno + held) n.log) (drop held es)))))
       refl
     where
@@ -213,8 +213,8 @@ module _ {E Q G R A F : Type 0} (b : Book E Q G R A F) where
       taken : Step E A F
       taken = replication.accept_or_refuse b n x y (prev.seqno + length es) theirs (cut_to (prev.seqno + held) n) (replication.checked_append b (take (prev.seqno + held) n.log) (drop held es))
 
-      behind : Step E A F
-      behind =
+      suffix : Step E A F
+      suffix =
           if nat_lt (prev.seqno + held) (length n.log) && nat_lt (prev.seqno + held) n.commit
           then outcome.refuse n (outcome.BelowCommit n.commit (prev.seqno + held))
           else taken

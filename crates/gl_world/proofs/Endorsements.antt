@@ -6,7 +6,7 @@ use Rattle.std.specs.Cmp.Lexicographic.{bytes_decides}
 use Rattle.gl_hss.specs.declared.types.Types.TheVariants.{H5W4}
 use Rattle.gl_hss.specs.Secrets.{public_of}
 use Rattle.gl_hss.proofs.Octets.{seed_IsKey, signed_bytes, length-signed}
-use Rattle.gl_hss.proofs.Signing.{signature_by-Signs}
+use Rattle.gl_hss.proofs.ValidSignatures.{signature_by-Signs}
 use Rattle.gl_hss.specs.Hss.{IsEndorsed}
 use Rattle.gl_hss.specs.Order.{endorsement_verdict}
 use Rattle.gl_hss.specs.Signer.{StandsUnder}
@@ -36,7 +36,7 @@ module _ (s : Settings) (number : ℕ) where
     endorsed = record {
       top = public_of (private_key (service_seed s));
       leaf = number - 1;
-      of_key = record { spelled = refl; form = seed_IsKey H5W4 (service_seed s); some = omega arith; few = omega arith };
+      of_key = record { encoded = refl; form = seed_IsKey H5W4 (service_seed s); some = omega arith; few = omega arith };
       signs = signature_by-Signs (private_key (service_seed s)) (number - 1) (lms_key (node_seed s number)) (endorsement_of s number) (omega (arith, h.0, h.1)) refl;
     }
 
@@ -57,8 +57,8 @@ found : (test : ℕ → Bool) (k first count : ℕ) → first ≤ k → k < firs
 found test k first zero low high passes = absurd (omega arith)
 found test k first (suc count) low high passes = go (test first) refl (λ next. found test k (suc first) count next (omega arith) passes)
   where
-    behind : test first ≡ false → suc first ≤ k
-    behind is =
+    suffix : test first ≡ false → suc first ≤ k
+    suffix is =
         elim (cases_eq k first) [
           | inl same ↦ absurd (let w = sym is ∙ ap test (sym same) ∙ passes in cc)
           | inr other ↦ omega arith
@@ -73,7 +73,7 @@ found test k first (suc count) low high passes = go (test first) refl (λ next. 
       passes = is;
     }
     go false is rest =
-        let next = rest (behind is) in
+        let next = rest (suffix is) in
         record {
           number = next.number;
           is = ap (λ (b : Bool). cond b (Some first) (find test (numbers_from (suc first) count))) is ∙ next.is;

@@ -19,15 +19,15 @@ pub index_of_at : (ids : List NodeId) (x : NodeId) (i : ℕ) → index_of ids x 
 index_of_at [] x i e = absurd (cc)
 index_of_at (y ∷ ys) x i e = go (same x y) refl i e (λ k. index_of_at ys x k)
   where
-    behind : (o : Option ℕ) (j : ℕ) → index_of ys x ≡ o → option_map suc o ≡ Some j → ((k : ℕ) → index_of ys x ≡ Some k → slice_get ys k ≡ Some x) → slice_get (y ∷ ys) j ≡ Some x
-    behind None j d f again = absurd (cc)
-    behind (Some k) zero d f again = absurd (let is = same_Some (suc k) zero f in omega (arith, is))
-    behind (Some k) (suc j) d f again = let is = same_Some (suc k) (suc j) f in again j (d ∙ ap (λ (n : ℕ). Some n) (omega (arith, is)))
+    suffix : (o : Option ℕ) (j : ℕ) → index_of ys x ≡ o → option_map suc o ≡ Some j → ((k : ℕ) → index_of ys x ≡ Some k → slice_get ys k ≡ Some x) → slice_get (y ∷ ys) j ≡ Some x
+    suffix None j d f again = absurd (cc)
+    suffix (Some k) zero d f again = absurd (let is = same_Some (suc k) zero f in omega (arith, is))
+    suffix (Some k) (suc j) d f again = let is = same_Some (suc k) (suc j) f in again j (d ∙ ap (λ (n : ℕ). Some n) (omega (arith, is)))
 
     go : (t : Bool) → same x y ≡ t → (j : ℕ) → (if t then Some 0 else option_map suc (index_of ys x)) ≡ Some j →
         ((k : ℕ) → index_of ys x ≡ Some k → slice_get ys k ≡ Some x) → slice_get (y ∷ ys) j ≡ Some x
     go true s j f again = let is = same_Some 0 j f in ap (slice_get (y ∷ ys)) (sym is) ∙ ap (λ (z : NodeId). Some z) (sym (same_is x y s))
-    go false s j f again = behind (index_of ys x) j refl f again
+    go false s j f again = suffix (index_of ys x) j refl f again
 
 -- where a message is delivered
 pub delivered_at : (ids : List NodeId) (m : Option (Message Entry)) (i : ℕ) → receiver_in ids m ≡ Some i → slice_get ids i ≡ Some (receiver_of m)

@@ -1,4 +1,6 @@
--- A leader of a service that a genesis founds: the identity in force is that of the genesis, and the nodes of the genesis are recorded as it names them. And what a leader signs that is recorded with its own key is valid.
+-- A leader of a service that a genesis founds: the identity in force is that of the genesis, and
+-- the nodes of the genesis are recorded as it names them. And what a leader signs that is recorded
+-- with its own key is valid.
 use Rattle.std.proofs.Common.{◌≡◌, ℕ, ◌<◌, List, [], ◌∷◌, Some, true, slice_get, refl, ◌∙◌, ap}
 use Rattle.gl_hss.specs.Secrets.{public_of}
 use Rattle.gl_hss.specs.Tree.{IsKey, key_bytes}
@@ -7,7 +9,7 @@ use Rattle.gl_rules.specs.Node.{Node}
 use Rattle.gl_rules.specs.World.{Start}
 use Rattle.gl_entry.specs.declared.entry.Entry.{Entry}
 use Rattle.gl_requests.specs.Ranges.{is_genesis}
-use Rattle.gl_requests.specs.Spelling.{node_id}
+use Rattle.gl_requests.specs.Encoding.{node_id}
 use Rattle.gl_requests.specs.declared.genesis.NewNode.{NewNode}
 use Rattle.gl_requests.specs.declared.genesis.Genesis as request
 use Rattle.gl_gov_rules.specs.Refusals.{are_ids_distinct}
@@ -19,7 +21,7 @@ use Rattle.gl_ledger.specs.NodeKeys.{NodeKeys, leaf_count, service_layers}
 use Rattle.gl_ledger.specs.Recordings.{key_in}
 use Rattle.gl_ledger.specs.Makers.{signing_result}
 use Rattle.gl_ledger.specs.LedgerBook.{ledger_book}
-use Rattle.gl_ledger.specs.Opening.{Begins}
+use Rattle.gl_ledger.specs.OpeningLedger.{Begins}
 use Rattle.gl_ledger.proofs.Founded.{founded_identity}
 use Rattle.gl_ledger.proofs.NodeRows.{genesis_key, row_signs}
 use Rattle.gl_ledger.proofs.NodeSignatures.{node_makes}

@@ -21,13 +21,13 @@ use Rattle.gl_ledger.specs.Broken.{may_record}
 use Rattle.gl_ledger.specs.Ledger.{genesis_entry}
 use Rattle.gl_tx.specs.declared.request.Operation.{Operation}
 use Rattle.gl_ledger.specs.Makers.{request_result, govern_result, signing_result}
-use Rattle.gl_ledger.specs.Opening.{Begins, Founds}
+use Rattle.gl_ledger.specs.OpeningLedger.{Begins, Founds}
 use Rattle.gl_ledger.proofs.Lawful.{lawful}
-use Rattle.gl_ledger.proofs.Opening.{member_first}
+use Rattle.gl_ledger.proofs.OpeningLaws.{member_first}
 use Rattle.gl_ledger.proofs.Opened.{begins_opening, opening_opened, opening_unrecovered}
 use Rattle.gl_ledger.proofs.NodeRows.{genesis_endorsement, row_named}
 use Rattle.gl_ledger.proofs.NodeSignatures.{node_makes}
-use Rattle.gl_ledger.proofs.Openings.{identity_behind_genesis}
+use Rattle.gl_ledger.proofs.Openings.{identity_after_genesis}
 use Rattle.gl_world.specs.Service.{ServiceEvent, Leads}
 use Rattle.gl_world.specs.Service as service
 use Rattle.gl_world.proofs.Safe.{begins_retiring, begins_safe}
@@ -39,7 +39,7 @@ use Rattle.gl_world.specs.Group.{IsGroup, RecordsTwin, book_of}
 use Rattle.gl_world.specs.Keys.{lms_key, node_seed}
 use Rattle.gl_world.specs.Headline.{Headline}
 use Rattle.gl_world.specs.World.{start_of}
-use Rattle.gl_world.proofs.Acceptable.{ids_fewer, ids_told, group_accepted, group_fits}
+use Rattle.gl_world.proofs.Acceptable.{ids_fewer, ids_reported, group_accepted, group_fits}
 use Rattle.gl_world.proofs.Endorsements.{is_node_key, member_has_key, member_endorsement}
 use Rattle.gl_world.proofs.NodeIds.{made_at, number_is}
 use Rattle.gl_world.proofs.Numbers.{member_made}
@@ -79,9 +79,9 @@ pub group_founds : (s : Settings) → IsGroup s → Founds service_layers (keys_
 group_founds s h = record {
   fits = group_fits s h;
   accepted = group_accepted s h;
-  named = ap (member (id_of s 1)) (ids_told s 1 s.starting) ∙ first_in s s.starting h.first;
+  named = ap (member (id_of s 1)) (ids_reported s 1 s.starting) ∙ first_in s s.starting h.first;
   valid = node_makes (keys_of s) (genesis_of s).identity (id_of s 1) 0 (genesis_entry (genesis_of s) ∷ []) first_view 2
-      (founder_has_key s h) (omega arith) (identity_behind_genesis (genesis_of s));
+      (founder_has_key s h) (omega arith) (identity_after_genesis (genesis_of s));
 }
 
 pub group_begins : (s : Settings) → IsGroup s → Begins service_layers (start_of s)

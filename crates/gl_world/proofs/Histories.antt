@@ -7,7 +7,7 @@ use Rattle.gl_rules.specs.World.{begin, happens, run}
 use Rattle.gl_rules.specs.Safety.{LeavesAll}
 use Rattle.gl_safety.proofs.Unchanged.{leaves_all}
 use Rattle.gl_ledger.specs.LedgerBook.{ServiceBook}
-use Rattle.gl_ledger.specs.declared.made.Given.{Given}
+use Rattle.gl_ledger.specs.declared.response.Response.{Response}
 use Rattle.gl_world.specs.Service.{ServiceEvent}
 use Rattle.gl_election.specs.Bridge.{seen_message}
 use Rattle.gl_replication.specs.Stands.{Answers}
@@ -39,7 +39,7 @@ after_one h event =
     ∙ run_append (book_of h.settings) (seen_events h) (seen_event h.settings event ∷ []) (begin (start_of h.settings))
 
 module _ {S Q G R A F : Type 0} where
-  -- a refusal other than want of memory is one of the rules
+  -- a refusal other than running out of memory is one of the rules
   refused_by : (why : Refusal S Q G R A F) (o : outcomes.Outcome A F) → is_no_memory why ≡ false → Answers why o → (r : outcomes.Refusal F) × (o ≡ outcomes.Refused r)
   refused_by refusals.NoMemory o z a = absurd (cc)
   refused_by (refusals.NotPrimary view leader) o z a = (outcomes.NotPrimary view leader, a)
@@ -93,7 +93,7 @@ module _ {N S : Type 0} (stands : StandsAs N) where
   unfolding run
   at_first ns s items is r = subst (λ (es : List Event). IsKept ns (record { settings = s; events = es })) (sym is) r
 
-  pub kept_on : {old : Nodes N S} (new : Nodes N S) (h : Held) (event : Event) (o : Outcome Given) → IsKept old h → Moves stands event old o new → may_happen h event ≡ true → IsKept new (with_event h event)
+  pub kept_on : {old : Nodes N S} (new : Nodes N S) (h : Held) (event : Event) (o : Outcome Response) → IsKept old h → Moves stands event old o new → may_happen h event ≡ true → IsKept new (with_event h event)
   kept_on new h event o r moves here =
       subst (λ (w : ServiceWorld). IsRunning stands h.settings new w) (sym (after_one h event)) (moves h.settings (world_now h) r here).0
 
@@ -108,7 +108,7 @@ module _ {N S : Type 0} (stands : StandsAs N) where
   pub more : {ns : Nodes N S} (h : Held) (event : Event) (items : List Event) → items ≡ h.events ++ event ∷ [] → IsKept ns (with_event h event) → IsKept ns (record { settings = h.settings; events = items })
   more {ns} h event items is r = subst (λ (es : List Event). IsKept ns (record { settings = h.settings; events = es })) (sym is) r
 
-  pub happened_by : {old_nodes : Nodes N S} (new_nodes : Nodes N S) (old new h : Held) (event : Event) (o : Outcome Given) → old ≡ h → new ≡ with_event h event → IsKept old_nodes h → Moves stands event old_nodes o new_nodes →
+  pub happened_by : {old_nodes : Nodes N S} (new_nodes : Nodes N S) (old new h : Held) (event : Event) (o : Outcome Response) → old ≡ h → new ≡ with_event h event → IsKept old_nodes h → Moves stands event old_nodes o new_nodes →
       may_happen h event ≡ true → Happened old event new o
   happened_by new_nodes old new h event o was is r moves here = subst (λ (m : Held). Happened m event new o) (sym was)
       (record { grows = is; answer = (moves h.settings (world_now h) r here).1 })

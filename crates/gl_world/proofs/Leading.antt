@@ -1,4 +1,5 @@
--- Where the log of a leader begins, and what a leader makes: its log and its commit are as the rules of consensus have them, so the guard refuses nothing.
+-- Where the log of a leader begins, and what a leader makes: its log and its commit are as the
+-- rules of consensus have them, so the guard refuses nothing.
 use Rattle.std.proofs.Common.{◌==◌, ◌+◌, ◌≡◌, ◌⊎◌, inl, inr, ℕ, zero, suc, ◌<◌, ◌^◌, List, [], ◌∷◌, length, take, slice_get, Bool, true, if◌then◌else◌, Option, Some, refl, sym, ◌∙◌, ap, subst, arith}
 use Rattle.gl_base.proofs.Lists.{take-all, slice_get-append}
 use Rattle.gl_rules.specs.Identity.{NodeId, member}
@@ -18,14 +19,14 @@ use Rattle.gl_ledger.specs.Recordings.{recorded_nodes}
 use Rattle.gl_ledger.specs.Broken.{is_unopened, is_later_commit, may_record}
 use Rattle.gl_ledger.specs.Makers.{MayMake, MakesValid, request_result, signing_result, govern_result}
 use Rattle.gl_ledger.specs.LedgerBook.{ledger_book}
-use Rattle.gl_ledger.specs.Opening.{Begins}
+use Rattle.gl_ledger.specs.OpeningLedger.{Begins}
 use Rattle.gl_ledger.specs.Sound.{IsSound, IsUnrecovered}
 use Rattle.gl_ledger.proofs.Governed.{followed}
 use Rattle.gl_ledger.proofs.Governing.{govern_is}
 use Rattle.gl_ledger.proofs.Lawful.{lawful}
-use Rattle.gl_ledger.proofs.Making.{execute_is, may_go_on}
+use Rattle.gl_ledger.proofs.MadeEntries.{execute_is, may_go_on}
 use Rattle.gl_ledger.proofs.Opened.{begins_opening, opened_configured}
-use Rattle.gl_ledger.proofs.Signing.{sign_is, may_make, configured_recorded}
+use Rattle.gl_ledger.proofs.AcceptedSignatures.{sign_is, may_make, configured_recorded}
 use Rattle.gl_world.specs.Service.{ServiceEvent, Leads, node_of}
 use Rattle.gl_world.proofs.Unrecovered.{stays_unrecovered}
 use Rattle.gl_world.proofs.ViewLimits.{views_low}
@@ -43,7 +44,7 @@ module _ (layers : Layers) (keys : NodeKeys) (s : Start Entry) (h : Begins layer
   all : LeadersMayRecord (ledger_book layers keys) s events
   all = leaders_may_record opening (lawful layers keys) events
 
-  -- the moment behind all events
+  -- the moment after all events
   whole : take (length events) events ≡ events
   whole = take-all events
 
@@ -71,7 +72,7 @@ module _ (layers : Layers) (keys : NodeKeys) (s : Start Entry) (h : Begins layer
   pub leader_sound : IsSound layers n.log
   leader_sound = followed layers keys n.log follows
 
-  -- an entry may be made behind it
+  -- an entry may be made after it
   may_go : MayMake n.log n.view
   may_go = may_make layers keys n.log n.view n.commit follows unrecovered views may
 
@@ -79,7 +80,7 @@ module _ (layers : Layers) (keys : NodeKeys) (s : Start Entry) (h : Begins layer
   pub records : may_record n.log n.commit ≡ true
   records =
       ap (λ (o : Option Entry). if is_unopened o then n.commit == length n.log + 1 else is_later_commit n.log n.commit) may_go.is_last
-      ∙ ap (λ (b : Bool). if b then n.commit == length n.log + 1 else is_later_commit n.log n.commit) may_go.behind
+      ∙ ap (λ (b : Bool). if b then n.commit == length n.log + 1 else is_later_commit n.log n.commit) may_go.suffix
       ∙ may_go_on layers keys n.log n.commit may
 
   four_bytes : n.view < 2 ^ 32
@@ -106,12 +107,12 @@ module _ (layers : Layers) (keys : NodeKeys) (s : Start Entry) (h : Begins layer
       some_first (suc c) [] e at = absurd (cc)
       some_first (suc c) (a ∷ l) e at = (a, refl, refl)
 
-      front : (l m : List Entry) (a : Entry) → IsPrefixOf l m → slice_get l 0 ≡ Some a → slice_get m 0 ≡ Some a
-      front l m a p at = ap (λ (k : List Entry). slice_get k 0) (sym p.1) ∙ slice_get-append l p.0 0 a at
+      first_part : (l m : List Entry) (a : Entry) → IsPrefixOf l m → slice_get l 0 ≡ Some a → slice_get m 0 ≡ Some a
+      first_part l m a p at = ap (λ (k : List Entry). slice_get k 0) (sym p.1) ∙ slice_get-append l p.0 0 a at
 
       one : (l m : List Entry) (a : Entry) → slice_get l 0 ≡ Some a → slice_get m 0 ≡ Some f → IsPrefixOf l m ⊎ IsPrefixOf m l → a ≡ f
-      one l m a here there (inl p) = let k = sym (front l m a p here) ∙ there in cc
-      one l m a here there (inr p) = let k = sym here ∙ front m l f p there in cc
+      one l m a here there (inl p) = let k = sym (first_part l m a p here) ∙ there in cc
+      one l m a here there (inr p) = let k = sym here ∙ first_part m l f p there in cc
 
   -- ---- what it makes
 

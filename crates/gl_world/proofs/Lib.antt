@@ -9,7 +9,7 @@ pub mod Acceptable
 pub mod Groups
 pub mod MemberSigners
 pub mod NodeIds
-pub mod Sending
+pub mod SentCounts
 pub mod Carrying
 pub mod Worlds
 pub mod Histories

@@ -1,4 +1,4 @@
--- The members whose keys are compared: those left behind the next.
+-- The members whose keys are compared: those left after the next.
 use Rattle.std.proofs.Common.{◌≡◌, ℕ, suc, ◌+◌, ◌-◌, ◌<◌, List, ◌∷◌, ◌++◌, map, length, take, drop, Bool, true, false, not, ◌&&◌, ◌||◌, refl, sym, ◌∙◌, ap, add-one, arith, length-append}
 use Rattle.std.specs.List.{list_any}
 use Rattle.std.specs.Cmp.Lexicographic.{bytes_decides}
@@ -25,7 +25,7 @@ key_of s number = (member_of s number).key
 members-next : (s : Settings) (i n : ℕ) → i < n → members_from s (suc i) (n - i) ≡ member_of s (suc i) ∷ members_from s (suc (suc i)) (n - suc i)
 members-next s i n below = ap (map (member_of s)) (numbers-next i n below)
 
--- where I stands in an HSS key: behind the levels and two typecodes
+-- where I stands in an HSS key: after the levels and two typecodes
 identifier_in : (levels : ℕ) (seed : List ℕ) → drop 8 (take 24 (drop 4 (hss_key levels seed))) ≡ identifier_of seed
 unfolding key_bytes
 identifier_in levels seed =
@@ -33,9 +33,9 @@ identifier_in levels seed =
     let codes = u32str (lms_code k.types) ++ u32str (ots_code k.types) in
     let form = seed_IsKey H5W4 seed in
     let eight : length codes ≡ 8 = omega (arith, length-append (u32str (lms_code k.types)) (u32str (ots_code k.types)), length-u32str (lms_code k.types), length-u32str (ots_code k.types)) in
-    let front : length (codes ++ k.identifier) ≡ 24 = omega (arith, length-append codes k.identifier, eight, form.identifier) in
+    let prefix : length (codes ++ k.identifier) ≡ 24 = omega (arith, length-append codes k.identifier, eight, form.identifier) in
     ap (λ (l : List ℕ). drop 8 (take 24 l)) (drop_at (u32str levels) (lms_key seed) 4 (length-u32str levels))
-    ∙ ap (drop 8) (take_at (codes ++ k.identifier) (node k 1) 24 front)
+    ∙ ap (drop 8) (take_at (codes ++ k.identifier) (node k 1) 24 prefix)
     ∙ drop_at codes k.identifier 8 eight
 
 -- so seeds with different I have different keys
@@ -57,19 +57,19 @@ repeated-next s key i n below other = rw (add-one i)
     (sym (ap (list_any (has_key key)) (members-next s i n below)
     ∙ ap (λ (b : Bool). b || list_any (has_key key) (members_from s (suc (suc i)) (n - suc i))) (ap (λ (k : ℕ). has_key key (member_of s k)) (sym (add-one i)) ∙ other)))
 
--- the members left are those behind the next, with it before them
+-- the members left are those after the next, with it before them
 distinct-next : (s : Settings) (i n : ℕ) → i < n →
     are_keys_distinct (members_from s (suc i) (n - i))
     ≡ (not (list_any (has_key (key_of s (i + 1))) (members_from s (suc (i + 1)) (n - (i + 1)))) && are_keys_distinct (members_from s (suc (i + 1)) (n - (i + 1))))
 distinct-next s i n below = rw (add-one i) (ap are_keys_distinct (members-next s i n below))
 
--- they are not distinct where the next stands behind it again
+-- they are not distinct where the next stands after it again
 pub distinct-found : (s : Settings) (i n : ℕ) → i < n →
     list_any (has_key (key_of s (i + 1))) (members_from s (suc (i + 1)) (n - (i + 1))) ≡ true → are_keys_distinct (members_from s (suc i) (n - i)) ≡ false
 distinct-found s i n below found =
     distinct-next s i n below ∙ ap (λ (b : Bool). not b && are_keys_distinct (members_from s (suc (i + 1)) (n - (i + 1)))) found
 
--- and else they are where those behind it are
+-- and else they are where those after it are
 pub distinct-passed : (s : Settings) (i n : ℕ) → i < n →
     list_any (has_key (key_of s (i + 1))) (members_from s (suc (i + 1)) (n - (i + 1))) ≡ false →
     are_keys_distinct (members_from s (suc (i + 1)) (n - (i + 1))) ≡ are_keys_distinct (members_from s (suc i) (n - i))

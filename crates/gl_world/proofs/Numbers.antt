@@ -6,11 +6,12 @@ use Rattle.gl_rules.specs.Identity.{NodeId, same, member}
 use Rattle.gl_rules.proofs.Ids.{same_is}
 use Rattle.gl_world.specs.Founding.{numbers_from}
 
--- of the numbers behind i up to n the first is the next
+-- of the numbers after i up to n the first is the next
 pub numbers-next : (i n : ℕ) → i < n → numbers_from (suc i) (n - i) ≡ suc i ∷ numbers_from (suc (suc i)) (n - suc i)
 numbers-next i n below = let count : n - i ≡ suc (n - suc i) = omega arith in ap (numbers_from (suc i)) count
 
--- with what is made of the next, what was made so far and what is made of those left is still the whole
+-- with what is made of the next, what was made so far and what is made of those left is still the
+-- whole
 pub push-next : {A : Type 0} (f : ℕ → A) (out new whole : List A) (x : A) (i n : ℕ) → i < n → x ≡ f (i + 1) → new ≡ out ++ x ∷ [] →
     out ++ map f (numbers_from (suc i) (n - i)) ≡ whole → new ++ map f (numbers_from (suc (i + 1)) (n - (i + 1))) ≡ whole
 push-next {A} f out new whole x i n below made pushed before =
@@ -54,8 +55,8 @@ any_fewer test f first (suc n) (suc m) le none = go (test (f first)) none (any_f
     go : (b : Bool) → (b || list_any test (map f (numbers_from (suc first) m))) ≡ false →
         (list_any test (map f (numbers_from (suc first) m)) ≡ false → list_any test (map f (numbers_from (suc first) n)) ≡ false) →
         (b || list_any test (map f (numbers_from (suc first) n))) ≡ false
-    go true w behind = absurd (cc)
-    go false w behind = behind w
+    go true w after = absurd (cc)
+    go false w after = after w
 
 pub not_true : (b : Bool) → not b ≡ true → b ≡ false
 not_true true w = absurd (cc)
@@ -73,5 +74,5 @@ member_made f y first (suc count) h = go (same y (f first)) refl h (member_made 
     go : (b : Bool) → same y (f first) ≡ b → (b || member y (map f (numbers_from (suc first) count))) ≡ true →
         (member y (map f (numbers_from (suc first) count)) ≡ true → (number : ℕ) × (suc first ≤ number) × (number < suc first + count) × (f number ≡ y)) →
         (number : ℕ) × (first ≤ number) × (number < first + suc count) × (f number ≡ y)
-    go true is w behind = (first, omega arith, omega arith, sym (same_is y (f first) is))
-    go false is w behind = let r = behind w in (r.0, omega (arith, r.1), omega (arith, r.2), r.3)
+    go true is w after = (first, omega arith, omega arith, sym (same_is y (f first) is))
+    go false is w after = let r = after w in (r.0, omega (arith, r.1), omega (arith, r.2), r.3)

@@ -1,4 +1,5 @@
--- A service that begins with a ledger which the check of an opening takes is safe, and retires nodes safely.
+-- A service that begins with a ledger which the check of an opening takes is safe, and retires
+-- nodes safely.
 use Rattle.std.proofs.Common.{List}
 use Rattle.gl_rules.specs.World.{Start}
 use Rattle.gl_rules.specs.Safety.{IsSafe, RetiresSafely}
@@ -9,7 +10,7 @@ use Rattle.gl_ledger.specs.Layers.{Layers}
 use Rattle.gl_ledger.specs.NodeKeys.{NodeKeys}
 use Rattle.gl_ledger.specs.Sound.{IsSound}
 use Rattle.gl_ledger.specs.LedgerBook.{ledger_book}
-use Rattle.gl_ledger.specs.Opening.{Begins}
+use Rattle.gl_ledger.specs.OpeningLedger.{Begins}
 use Rattle.gl_ledger.proofs.Lawful.{lawful, unbroken}
 use Rattle.gl_ledger.proofs.Sounding.{sound-push, sound_empty}
 use Rattle.gl_ledger.proofs.Opened.{begins_opening}

@@ -1,4 +1,5 @@
--- The numbers of the members among whom the recovery secret is dealt, and the digests of their shares.
+-- The numbers of the members among whom the recovery secret is dealt, and the digests of their
+-- shares.
 use Rattle.std.proofs.Common.{◌≡◌, ◌≢◌, ℕ, zero, suc, ◌+◌, ◌-◌, ◌<◌, ◌≤◌, List, [], ◌∷◌, ◌++◌, map, All, AllPairs, sym, ◌∙◌, ap, ap₂, arith, add-one, append_assoc}
 use Rattle.std.proofs.lemmas.List.Elements.{All-nil, All-cons}
 use Rattle.std.proofs.lemmas.List.Kept.{AllPairs-cons}

@@ -93,10 +93,10 @@ module _ (s : Settings) (h : IsGroup s) where
       let is : nat_le number s.starting ≡ false = grind (arith, nat_tests) in
       ap (λ (t : Bool). if t then (start_of s).opening else []) is
 
--- what stands behind a list
-pub behind : {A : Type 0} (xs ys : List A) (y : A) → slice_get (xs ++ y ∷ ys) (length xs) ≡ Some y
-behind [] ys y = refl
-behind (x ∷ xs) ys y = behind xs ys y
+-- what stands after a list
+pub suffix : {A : Type 0} (xs ys : List A) (y : A) → slice_get (xs ++ y ∷ ys) (length xs) ≡ Some y
+suffix [] ys y = refl
+suffix (x ∷ xs) ys y = suffix xs ys y
 
 -- ---- the cores with which nodes start
 

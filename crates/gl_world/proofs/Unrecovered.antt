@@ -1,4 +1,5 @@
--- A service that begins unrecovered stays so: the book makes no entry of a recovery, so no node ever holds one.
+-- A service that begins unrecovered stays so: the book makes no entry of a recovery, so no node
+-- ever holds one.
 use Rattle.std.proofs.Common.{◌≡◌, ℕ, ◌+◌, List, [], ◌∷◌, length, Option, Some, None, Result, Ok, Err, Bool, true, false, ◌||◌, nat_lt, if◌then◌else◌, refl, sym, ◌∙◌, ap, subst}
 use Rattle.gl_base.specs.TxId.{last_seqno}
 use Rattle.gl_base.specs.declared.fault.CodeFault.{CodeFault}
@@ -7,7 +8,7 @@ use Rattle.gl_rules.specs.World.{Start}
 use Rattle.gl_safety.specs.Made.{Executed, Governed, Signed, Evident, MakesOnly}
 use Rattle.gl_safety.proofs.Made.{holds_after}
 use Rattle.gl_tx.specs.Request.{is_request}
-use Rattle.gl_tx.specs.Reading.{request_of}
+use Rattle.gl_tx.specs.Parsing.{request_of}
 use Rattle.gl_tx.specs.declared.request.Operation.{Operation}
 use Rattle.gl_tx.specs.declared.request.Answer.{Answer}
 use Rattle.gl_entry.specs.Entry.{body_bytes, body_limit}
@@ -26,23 +27,23 @@ use Rattle.gl_ledger.specs.Sound.{IsUnrecovered}
 use Rattle.gl_ledger.specs.declared.breach.Broken.{Broken}
 use Rattle.gl_ledger.specs.declared.refusal.Refusal.{Refusal}
 use Rattle.gl_ledger.specs.declared.refusal.Refusal.TheVariants as refusals
-use Rattle.gl_ledger.specs.declared.made.Given.{Given}
-use Rattle.gl_ledger.specs.declared.made.Unmade.{Unmade}
-use Rattle.gl_ledger.specs.declared.made.Unmade.TheVariants.{Unspelled, Founding}
+use Rattle.gl_ledger.specs.declared.response.Response.{Response}
+use Rattle.gl_ledger.specs.declared.response.Rejection.{Rejection}
+use Rattle.gl_ledger.specs.declared.response.Rejection.TheVariants.{Unencodable, Founding}
 use Rattle.gl_ledger.specs.Broken.{broken}
 use Rattle.gl_ledger.specs.Makers.{with_reply, request_result, by_store, unless_refused, governance_made, govern_result, unless_broken, guarded, unless_empty, signed_entry, signing_result}
 use Rattle.gl_ledger.specs.LedgerBook.{ledger_book}
-use Rattle.gl_ledger.specs.Opening.{Begins}
+use Rattle.gl_ledger.specs.OpeningLedger.{Begins}
 use Rattle.gl_ledger.proofs.Applications.{execute_ok}
 use Rattle.gl_ledger.proofs.Governing.{neither}
-use Rattle.gl_ledger.proofs.RequestSpellings.{request_in-read}
+use Rattle.gl_ledger.proofs.RequestEncodings.{request_in-read}
 use Rattle.gl_world.specs.Service.{ServiceEvent, node_of}
 
 abbrev NoRecovery : Entry → Type 0
 NoRecovery e = recovers e ≡ false
 
 -- the entry of what is made with an answer, and without one
-abbrev entry_with_answer : Entry × Given → Entry
+abbrev entry_with_answer : Entry × Response → Entry
 entry_with_answer made = made.0
 
 abbrev entry_alone : Entry → Entry
@@ -79,11 +80,11 @@ none_by_store : {X : Type 0} (entry_of : X → Entry) (made : Result X Refusal) 
 none_by_store entry_of (Ok made) none = none
 none_by_store entry_of (Err why) none = tt
 
-none_unless_empty : {X : Type 0} (entry_of : X → Entry) (ledger : List Entry) (made : Result X Unmade) → MakesNone entry_of made → MakesNone entry_of (unless_empty ledger made)
+none_unless_empty : {X : Type 0} (entry_of : X → Entry) (ledger : List Entry) (made : Result X Rejection) → MakesNone entry_of made → MakesNone entry_of (unless_empty ledger made)
 none_unless_empty entry_of [] made none = tt
 none_unless_empty entry_of (e ∷ es) made none = none
 
-none_guarded : {X : Type 0} (layers : Layers) (entry_of : X → Entry) (ledger : List Entry) (made : Result X Unmade) → MakesNone entry_of made → MakesNone entry_of (guarded layers entry_of ledger made)
+none_guarded : {X : Type 0} (layers : Layers) (entry_of : X → Entry) (ledger : List Entry) (made : Result X Rejection) → MakesNone entry_of made → MakesNone entry_of (guarded layers entry_of ledger made)
 none_guarded layers entry_of ledger (Err why) none = tt
 none_guarded layers entry_of ledger (Ok made) none = go (broken layers ledger (entry_of made))
   where
@@ -107,7 +108,7 @@ none_executed ledger view q = go (is_request q)
         let ran = execute_ok ledger view q made.0 made.1 is in
         subst NoRecovery (sym ran.3) (read (request_of _))
 
-    go : (b : Bool) → MakesNone entry_with_answer (if b then with_reply (execute_result ledger view q) else Err Unspelled)
+    go : (b : Bool) → MakesNone entry_with_answer (if b then with_reply (execute_result ledger view q) else Err Unencodable)
     go true = replied (execute_result ledger view q) refl
     go false = tt
 
@@ -118,14 +119,14 @@ none_governed ledger view g = go (ranges.is_request g) (is_founding g || is_reco
     e : Entry
     e = governance_entry g ledger view
 
-    kept : Result (Entry × Given) Refusal
+    kept : Result (Entry × Response) Refusal
     kept = within_seqnos ledger (governance_made ledger g e)
 
-    within : Result (Entry × Given) Unmade
+    within : Result (Entry × Response) Rejection
     within = by_store (within_size (length (body_bytes e)) kept)
 
     go : (a b : Bool) (o : Option GovernanceRefusal) → ranges.is_request g ≡ a → (is_founding g || is_recovery g) ≡ b →
-        MakesNone entry_with_answer (if a then (if b then Err Founding else unless_refused o within) else Err Unspelled)
+        MakesNone entry_with_answer (if a then (if b then Err Founding else unless_refused o within) else Err Unencodable)
     go false b o fits other = tt
     go true true o fits other = tt
     go true false (Some why) fits other = tt

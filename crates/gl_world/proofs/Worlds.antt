@@ -15,12 +15,12 @@ use Rattle.gl_rules.specs.Requests.{submit, govern, reserve, sign}
 use Rattle.gl_rules.proofs.Ids.{same_self}
 use Rattle.gl_gov_rules.proofs.Counting.{all_append}
 use Rattle.gl_ledger.specs.LedgerBook.{ServiceBook}
-use Rattle.gl_ledger.specs.declared.made.Given.{Given}
-use Rattle.gl_ledger.specs.declared.made.Unmade.{Unmade}
+use Rattle.gl_ledger.specs.declared.response.Response.{Response}
+use Rattle.gl_ledger.specs.declared.response.Rejection.{Rejection}
 use Rattle.gl_messages.specs.declared.message.Message as program
 use Rattle.gl_election.specs.Bridge.{seen_message}
 use Rattle.gl_replication.specs.Holding.{Holding}
-use Rattle.gl_replication.specs.Stands.{Answers, StandsFor, Tells, seen_outcome}
+use Rattle.gl_replication.specs.Stands.{Answers, Reports, StandsFor, seen_outcome}
 use Rattle.gl_world.specs.declared.event.Event.{Event}
 use Rattle.gl_world.specs.declared.event.Event.TheVariants as events
 use Rattle.gl_world.specs.declared.settings.Settings.{Settings}
@@ -34,10 +34,10 @@ use Rattle.gl_world.specs.WorldNodes.{KeepsAll, OfEach, Refuses, ServiceCore, Se
 use Rattle.gl_world.specs.World.{ServiceWorld}
 use Rattle.gl_world.proofs.NodeIds.{id_at, node_is, numbers_apart}
 use Rattle.gl_world.proofs.Carrying.{rule_light}
-use Rattle.gl_world.proofs.Sending.{rule_few}
+use Rattle.gl_world.proofs.SentCounts.{rule_few}
 
 abbrev ServiceHappened : Type 0
-ServiceHappened = Happened Entry Given Unmade
+ServiceHappened = Happened Entry Response Rejection
 
 -- ---- an event is a step of its rule
 
@@ -83,7 +83,7 @@ module _ {X : Type 0} where
 
 module _ {N S : Type 0} (stands : StandsAs N) where
   -- a step at node k + 1
-  moved : {s : Settings} {ns : Nodes N S} {w : ServiceWorld} (k : ℕ) (c : N) (step : Step Entry Given Unmade) (m : Nodes N S) →
+  moved : {s : Settings} {ns : Nodes N S} {w : ServiceWorld} (k : ℕ) (c : N) (step : Step Entry Response Rejection) (m : Nodes N S) →
       IsRunning stands s ns w → k < s.starting + s.joiners → stands c (book_of s) (id_of s (suc k)) step.node →
       m.ids ≡ ns.ids → m.nodes ≡ with_item ns.nodes k c → map seen_message m.sent.items ≡ map seen_message ns.sent.items ++ step.sent → bring_few step.sent ≡ true →
       IsRunning stands s m (at w (id_of s (suc k)) step).world
@@ -144,7 +144,7 @@ module _ {N S : Type 0} (stands : StandsAs N) where
   -- what the core did at that index
   module _ (event : Event) (k : ℕ) (ns : Nodes N S) (old new : N) (core_at : slice_get ns.nodes.items k ≡ Some old)
       (id_at_k : slice_get ns.ids.items k ≡ Some (acting_node ns.ids.items (map seen_message ns.sent.items) event)) where
-    abbrev Rules : Settings → ServiceWorld → Step Entry Given Unmade
+    abbrev Rules : Settings → ServiceWorld → Step Entry Response Rejection
     Rules s w = rule_of (node_ids s) w.sent event (book_of s) (id_of s (suc k)) (w.nodes (id_of s (suc k)))
 
     happens_here : {s : Settings} {w : ServiceWorld} → IsRunning stands s ns w → is_among (node_ids s) w.sent event ≡ true →
@@ -163,8 +163,8 @@ module _ {N S : Type 0} (stands : StandsAs N) where
         Steps stands (rule_of ns.ids.items (map seen_message ns.sent.items) event) old done new → Moves stands event ns done.outcome m
     moves_with m done ids cores sent steps s w r among =
         let p = steps (book_of s) (id_of s (suc k)) (w.nodes (id_of s (suc k))) (r.stand k old core_at) in
-        let q : Stepped stands (book_of s) (id_of s (suc k)) (Rules s w) done new = subst (λ (step : Step Entry Given Unmade). Stepped stands (book_of s) (id_of s (suc k)) step done new) (rule_is r) p in
-        subst (λ (h : ServiceHappened). IsRunning stands s m h.world × (seen_outcome {F = Unmade} done.outcome ≡ h.outcome)) (sym (happens_here r among)) (
+        let q : Stepped stands (book_of s) (id_of s (suc k)) (Rules s w) done new = subst (λ (step : Step Entry Response Rejection). Stepped stands (book_of s) (id_of s (suc k)) step done new) (rule_is r) p in
+        subst (λ (h : ServiceHappened). IsRunning stands s m h.world × (seen_outcome {F = Rejection} done.outcome ≡ h.outcome)) (sym (happens_here r among)) (
           moved k new (Rules s w) m r (placed r event k id_at_k).0 q.node ids cores
               (ap (map seen_message) sent ∙ map-append seen_message ns.sent.items done.sent ∙ ap (λ l. map seen_message ns.sent.items ++ l) q.sent)
               (rule_light (node_ids s) w.sent event (book_of s) (id_of s (suc k)) (w.nodes (id_of s (suc k)))),
@@ -186,21 +186,21 @@ module _ {N S : Type 0} (stands : StandsAs N) where
 
     -- it sends no more than there is room for
     pub sends_few : (holds : S → ServiceBook → Holding Entry → Type 0) (some : RunSome stands ns) (most : ℕ) (done : ServiceDone S) (read : N) (core : ServiceCore S) →
-        slice_get ns.nodes.items k ≡ Some read → OfEach stands read (λ b x n. StandsFor holds core b x n) → Tells holds core (λ b x n. most ≡ most_sent b n) →
+        slice_get ns.nodes.items k ≡ Some read → OfEach stands read (λ b x n. StandsFor holds core b x n) → Reports holds core (λ b x n. most ≡ most_sent b n) →
         Steps stands (rule_of ns.ids.items (map seen_message ns.sent.items) event) old done new → length done.sent ≤ most
-    sends_few holds some most done read core read_at cored tells steps =
+    sends_few holds some most done read core read_at cored reports steps =
         let s = some.settings in
         let x = id_of s (suc k) in
         let n = some.world.nodes x in
         let stood = some.running.stand k old core_at in
         let p = steps (book_of s) x n stood in
         let few = rule_few ns.ids.items (map seen_message ns.sent.items) event (book_of s) x n in
-        omega (arith, few, length-map done.sent seen_message, ap length p.sent, tells (book_of s) x n (cored (book_of s) x n (some.running.stand k read read_at)))
+        omega (arith, few, length-map done.sent seen_message, ap length p.sent, reports (book_of s) x n (cored (book_of s) x n (some.running.stand k read read_at)))
 
     pub denies_with : (why : ServiceRefusal S) → Refuses stands (rule_of ns.ids.items (map seen_message ns.sent.items) event) old why → Denies stands event ns why
     denies_with why refuses s w r among =
         subst (λ (h : ServiceHappened). Answers why h.outcome) (sym (happens_here r among))
-        (subst (λ (step : Step Entry Given Unmade). Answers why step.outcome) (rule_is r) (refuses (book_of s) (id_of s (suc k)) (w.nodes (id_of s (suc k))) (r.stand k old core_at)))
+        (subst (λ (step : Step Entry Response Rejection). Answers why step.outcome) (rule_is r) (refuses (book_of s) (id_of s (suc k)) (w.nodes (id_of s (suc k))) (r.stand k old core_at)))
 
   -- a core that stands for what it stood for
   pub keeps_with : (k : ℕ) (ns : Nodes N S) (old new : N) → slice_get ns.nodes.items k ≡ Some old → (m : Nodes N S) →

@@ -5,7 +5,7 @@ use Rattle.gl_base.specs.Bytes.{same_bytes}
 use Rattle.gl_hss.specs.Tree.{signature_bytes}
 use Rattle.gl_hss.specs.Secrets.{PrivateKey}
 use Rattle.gl_hss.specs.Profile.{signature_by}
-use Rattle.gl_requests.specs.Spelling.{node_id}
+use Rattle.gl_requests.specs.Encoding.{node_id}
 use Rattle.gl_ledger.specs.NodeKeys.{NodeKeys}
 use Rattle.gl_requests.specs.declared.genesis.NewNode.{NewNode}
 use Rattle.gl_requests.specs.declared.genesis.NewMember.{NewMember}

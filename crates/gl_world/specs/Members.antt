@@ -7,7 +7,7 @@ use Rattle.gl_base.specs.declared.or_no_memory.OrNoMemory.{OrNoMemory}
 use Rattle.gl_base.specs.declared.or_no_memory.OrNoMemory.TheVariants.{NoMemory, Fault}
 use Rattle.gl_hss.specs.declared.signer.KeyExhausted.{KeyExhausted}
 use Rattle.gl_hss.specs.Signer.{Signer, hss_signature}
-use Rattle.gl_requests.specs.Spelling.{signed_bytes}
+use Rattle.gl_requests.specs.Encoding.{signed_bytes}
 use Rattle.gl_requests.specs.declared.request.MemberAct.{MemberAct}
 use Rattle.gl_requests.specs.declared.request.MemberRequest.{MemberRequest}
 use Rattle.gl_world.specs.declared.settings.Settings.{Settings}
@@ -38,7 +38,7 @@ member_request s number leaf act = record (unsigned number act) {
       (signed_bytes (genesis_of s).identity (unsigned number act));
 }
 
--- Nothing is signed for want of memory, or where each leaf of the key is used.
+-- Nothing is signed where memory runs out, or where each leaf of the key is used.
 abbrev pub Refuses : ℕ → OrNoMemory KeyExhausted → Type 0
 Refuses leaf NoMemory = Unit {0}
 Refuses leaf (Fault fault) = (fault.reserved ≡ leaf_limit) × (leaf ≡ leaf_limit)

@@ -1,8 +1,8 @@
 -- Nodes that run for a world of the rules, and what an event makes of them.
 use Rattle.std.specs.Prelude.{◌≡◌, ℕ, suc, ◌+◌, Some, true, map, length, slice_get}
 use Rattle.gl_rules.specs.World.{happens}
-use Rattle.gl_ledger.specs.declared.made.Given.{Given}
-use Rattle.gl_ledger.specs.declared.made.Unmade.{Unmade}
+use Rattle.gl_ledger.specs.declared.response.Response.{Response}
+use Rattle.gl_ledger.specs.declared.response.Rejection.{Rejection}
 use Rattle.gl_election.specs.Bridge.{seen_message}
 use Rattle.gl_replication.specs.Stands.{Answers, seen_outcome}
 use Rattle.gl_replication.specs.declared.done.Outcome.{Outcome}
@@ -39,10 +39,10 @@ module _ {N S : Type 0} (stands : StandsAs N) where
   Of ns P = (s : Settings) (w : ServiceWorld) → IsRunning s ns w → P s w
 
   -- An event happens in each of them.
-  abbrev pub Moves : Event → Nodes N S → Outcome Given → Nodes N S → Type 0
+  abbrev pub Moves : Event → Nodes N S → Outcome Response → Nodes N S → Type 0
   Moves event old outcome new = Of old (λ s w. is_among (node_ids s) w.sent event ≡ true →
       IsRunning s new (happens (book_of s) w (seen_event s event)).world
-      × (seen_outcome {F = Unmade} outcome ≡ (happens (book_of s) w (seen_event s event)).outcome))
+      × (seen_outcome {F = Rejection} outcome ≡ (happens (book_of s) w (seen_event s event)).outcome))
 
   -- It is refused so in each of them.
   abbrev pub Denies : Event → Nodes N S → ServiceRefusal S → Type 0

@@ -9,7 +9,7 @@ use Rattle.gl_entry.specs.declared.entry.Entry.{Entry}
 use Rattle.gl_requests.specs.declared.request.GovernanceRequest.{GovernanceRequest}
 use Rattle.gl_ledger.specs.Layers.{Layers}
 use Rattle.gl_ledger.specs.NodeKeys.{NodeKeys}
-use Rattle.gl_ledger.specs.declared.made.Reads.{Reads}
+use Rattle.gl_ledger.specs.declared.response.Reads.{Reads}
 use Rattle.gl_ledger.specs.LedgerBook.{ledger_book}
 
 abbrev pub ServiceEvent : Type 0

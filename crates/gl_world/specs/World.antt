@@ -3,8 +3,8 @@ use Rattle.std.specs.Prelude.{map}
 use Rattle.gl_rules.specs.World.{Start, World}
 use Rattle.gl_rules.specs.Outcome.{Outcome}
 use Rattle.gl_entry.specs.declared.entry.Entry.{Entry}
-use Rattle.gl_ledger.specs.declared.made.Given.{Given}
-use Rattle.gl_ledger.specs.declared.made.Unmade.{Unmade}
+use Rattle.gl_ledger.specs.declared.response.Response.{Response}
+use Rattle.gl_ledger.specs.declared.response.Rejection.{Rejection}
 use Rattle.gl_ledger.specs.Makers.{opening_of}
 use Rattle.gl_world.specs.declared.settings.Settings.{Settings}
 use Rattle.gl_world.specs.Founding.{numbers_from, id_of, keys_of, genesis_of}
@@ -18,7 +18,7 @@ start_of s = record {
 }
 
 abbrev pub ServiceOutcome : Type 0
-ServiceOutcome = Outcome Given Unmade
+ServiceOutcome = Outcome Response Rejection
 
 abbrev pub ServiceWorld : Type 0
 ServiceWorld = World Entry

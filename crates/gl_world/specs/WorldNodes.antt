@@ -6,9 +6,9 @@ use Rattle.gl_rules.specs.Node.{Node}
 use Rattle.gl_rules.specs.Outcome.{Step}
 use Rattle.gl_tx.specs.declared.request.Operation.{Operation}
 use Rattle.gl_requests.specs.declared.request.GovernanceRequest.{GovernanceRequest}
-use Rattle.gl_ledger.specs.declared.made.Given.{Given}
-use Rattle.gl_ledger.specs.declared.made.Reads.{Reads}
-use Rattle.gl_ledger.specs.declared.made.Unmade.{Unmade}
+use Rattle.gl_ledger.specs.declared.response.Response.{Response}
+use Rattle.gl_ledger.specs.declared.response.Reads.{Reads}
+use Rattle.gl_ledger.specs.declared.response.Rejection.{Rejection}
 use Rattle.gl_ledger.specs.LedgerBook.{ServiceBook}
 use Rattle.gl_election.specs.Bridge.{seen_message}
 use Rattle.gl_replication.specs.Stands.{Answers, seen_outcome}
@@ -17,17 +17,17 @@ use Rattle.gl_replication.specs.declared.done.Done.{Done}
 use Rattle.gl_replication.specs.declared.done.Refusal.{Refusal}
 
 abbrev pub ServiceCore : Type 0 → Type 0
-ServiceCore S = Core S (List Operation) GovernanceRequest Reads Given Unmade
+ServiceCore S = Core S (List Operation) GovernanceRequest Reads Response Rejection
 
 abbrev pub ServiceDone : Type 0 → Type 0
-ServiceDone S = Done S (List Operation) GovernanceRequest Reads Given Unmade
+ServiceDone S = Done S (List Operation) GovernanceRequest Reads Response Rejection
 
 abbrev pub ServiceRefusal : Type 0 → Type 0
-ServiceRefusal S = Refusal S (List Operation) GovernanceRequest Reads Given Unmade
+ServiceRefusal S = Refusal S (List Operation) GovernanceRequest Reads Response Rejection
 
 -- What a rule makes of a node.
 abbrev pub Rule : Type 0
-Rule = ServiceBook → NodeId → Node Entry → Step Entry Given Unmade
+Rule = ServiceBook → NodeId → Node Entry → Step Entry Response Rejection
 
 -- Under which rules a node of a world stands for which node of them.
 abbrev pub StandsAs : Type 0 → Type 1
@@ -39,7 +39,7 @@ module _ {N : Type 0} (stands : StandsAs N) where
   OfEach c P = (b : ServiceBook) (x : NodeId) (n : Node Entry) → stands c b x n → P b x n
 
   -- What a step of the rules comes to.
-  pub record Stepped {S : Type 0} (b : ServiceBook) (x : NodeId) (step : Step Entry Given Unmade)
+  pub record Stepped {S : Type 0} (b : ServiceBook) (x : NodeId) (step : Step Entry Response Rejection)
       (done : ServiceDone S) (new : N) : Type 0 where
     pub node : stands new b x step.node
     pub outcome : seen_outcome done.outcome ≡ step.outcome
@@ -49,7 +49,8 @@ module _ {N : Type 0} (stands : StandsAs N) where
   abbrev pub Steps : {S : Type 0} → Rule → N → ServiceDone S → N → Type 0
   Steps rule old done new = OfEach old (λ b x n. Stepped b x (rule b x n) done new)
 
-  -- Of each node for which it stands the rule refuses so. Want of memory may come at any time.
+  -- Of each node for which it stands the rule refuses so. Running out of memory may come at any
+  -- time.
   abbrev pub Refuses : {S : Type 0} → Rule → N → ServiceRefusal S → Type 0
   Refuses rule old why = OfEach old (λ b x n. Answers why (rule b x n).outcome)
 

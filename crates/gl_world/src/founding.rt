@@ -51,7 +51,7 @@ fn have_one_key(
     Ok(member_key(alloc, settings, other)? == member_key(alloc, settings, number)?)
 }
 
-/// Whether a member behind this one has its key.
+/// Whether a member after this one has its key.
 fn is_key_repeated(alloc: Global, settings: &Settings, number: u8) -> Result<bool, AllocError>
     requires { number ≤ settings.now.members }
     ensures { IfOk result (λ repeated. repeated
@@ -66,8 +66,8 @@ fn is_key_repeated(alloc: Global, settings: &Settings, number: u8) -> Result<boo
     Ok(false)
 }
 
-/// Whether no two members have one key. Each member is compared with all behind it, which takes
-/// four digests each time, and memory only where the identifiers I of two keys are the same.
+/// Whether no two members have one key. Each member is compared with all after it, which takes four
+/// digests each time, and memory only where the identifiers I of two keys are the same.
 pub fn has_distinct_keys(alloc: Global, settings: &Settings) -> Result<bool, AllocError>
     ensures { IfOk result (λ distinct. distinct ≡ has_distinct_keys settings.now) }
 {

@@ -8,7 +8,7 @@ ghost use Rattle.gl_requests.specs.Ranges.{is_first_state};
 ghost use Rattle.gl_requests.specs.declared.request.GovernanceRequest.{GovernanceRequest};
 ghost use Rattle.gl_requests.specs.declared.genesis.ServiceState.{ServiceState};
 ghost use Rattle.gl_ledger.specs.Makers.{govern_result, request_result, signing_result};
-ghost use Rattle.gl_ledger.specs.Opening.{Begins};
+ghost use Rattle.gl_ledger.specs.OpeningLedger.{Begins};
 ghost use Rattle.gl_world.specs.Service.{Leads, ServiceEvent, node_of};
 ghost use Rattle.gl_ledger.specs.NodeKeys.{IsNodeKey, service_layers};
 ghost use Rattle.gl_world.specs.declared.settings.Settings.{Settings};

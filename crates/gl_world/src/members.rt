@@ -216,7 +216,7 @@ impl Members {
     }
 
     /// What a member asks for, signed with its next leaf. Refused where each leaf of its key is
-    /// used. Want of memory leaves all as it was.
+    /// used. Running out of memory leaves all as it was.
     #[tactic(auto, unfolding(crate::specs::Members::member_request))]
     pub fn sign(
         &mut self,
@@ -232,7 +232,8 @@ impl Members {
         ensures spent { OnOk result
             (self.new ≡ record self.old { signed = self.old.signed ++ number ∷ [] }) }
 
-        // An error that isn't want of memory tells the number of leaves, and each of them is used.
+        // An error that isn't running out of memory tells the number of leaves, and each of them is
+        // used.
         ensures exhausted { IfErr result (Refuses (next_leaf self.old.signed number)) }
         ensures err { OnErr result (self.new ≡ self.old) }
     {

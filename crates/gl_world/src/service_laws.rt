@@ -14,7 +14,7 @@ ghost use Rattle.gl_ledger.specs.Broken.{may_record};
 ghost use Rattle.gl_ledger.specs.Sound.{IsSound, IsUnrecovered};
 ghost use Rattle.gl_ledger.specs.Makers.{MakesValid, govern_result, request_result, signing_result};
 ghost use Rattle.gl_ledger.specs.LedgerBook.{ledger_book};
-ghost use Rattle.gl_ledger.specs.Opening.{Begins};
+ghost use Rattle.gl_ledger.specs.OpeningLedger.{Begins};
 ghost use Rattle.gl_world.specs.Service.{Leads, ServiceEvent, node_of};
 
 /// A service that begins with a ledger which the check of an opening takes, and in which it was not

@@ -27,7 +27,7 @@ use crate::world_node::WorldNode;
 use gl_base::{Status, TxId};
 use gl_config::Stage;
 use gl_entry::{Entry, NodeId};
-use gl_ledger::Given;
+use gl_ledger::Response;
 use gl_messages::Message;
 use gl_replication::{Book, Outcome, Refusal};
 pub use start::core_at_start;
@@ -91,13 +91,13 @@ impl<N: WorldNode> World<N> {
     }
 
     /// What one event brings about, which is put down.
-    fn settle(&mut self, event: &Event) -> Result<Outcome<Given>, Refusal<N::Book>>
+    fn settle(&mut self, event: &Event) -> Result<Outcome<Response>, Refusal<N::Book>>
         requires here { may_happen self.old event.now ≡ true }
         ensures happened { IfOk result (λ outcome. Happened self.old event.now self.new outcome) }
         ensures refused { IfErr result (λ why. Refuses self.old event.now self.new why) }
         ensures group { IsGroup self.new.settings }
     {
-        match self.nodes.happen(event) {
+        match self.nodes.apply_event(event) {
             Ok(outcome) => {
                 self.history = self.history.then(event);
                 Ok(outcome)
@@ -112,12 +112,12 @@ impl<N: WorldNode> World<N> {
         }
     }
 
-    /// One event happens. Want of memory leaves all as it was. Whatever happened, of any two
+    /// One event happens. Running out of memory leaves all as it was. Whatever happened, of any two
     /// committed ledgers, at whatever nodes and moments, one is a prefix of the other, no
     /// identifier is Committed and Invalid, and each committed ledger is sound. A node whose
     /// retirement is committed may be switched off: whoever says so never again counts it in an
     /// active configuration, nor does a leader of a later view than that of a leader who says so.
-    pub fn step(&mut self, event: Event) -> Result<Outcome<Given>, Refusal<N::Book>>
+    pub fn step(&mut self, event: Event) -> Result<Outcome<Response>, Refusal<N::Book>>
         requires here { may_happen self.old event ≡ true }
         ensures happened { IfOk result (λ outcome. Happened self.old event self.new outcome) }
         ensures refused { IfErr result (λ why. Refuses self.old event self.new why) }

@@ -9,7 +9,7 @@ ghost use Rattle.gl_world.specs.WorldNodes.{KeepsAll, OfEach, Refuses, StandsAs,
 
 use crate::event::Event;
 use gl_entry::NodeId;
-use gl_ledger::{Given, Reads, Unmade};
+use gl_ledger::{Reads, Rejection, Response};
 use gl_messages::Message;
 use gl_replication::{Book, Core, Done, Refusal};
 use gl_requests::GovernanceRequest;
@@ -24,8 +24,8 @@ pub trait WorldNode: Drop {
         Request = Request,
         Gov = GovernanceRequest,
         Reads = Reads,
-        Given = Given,
-        Refused = Unmade,
+        Response = Response,
+        Refused = Rejection,
     >;
 
     // Under these rules it stands for this node of them.
@@ -37,8 +37,8 @@ pub trait WorldNode: Drop {
 
     /// An event of the world happens at the node, among the nodes with these identifiers, after
     /// these messages: of each node that it stands for it is the rule's step. A refusal is that of
-    /// the rule, want of memory aside, and leaves all as it was.
-    fn happen(
+    /// the rule, running out of memory aside, and leaves all as it was.
+    fn apply_event(
         &mut self,
         ids: &[NodeId],
         sent: &[Message],

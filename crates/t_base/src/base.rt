@@ -8,7 +8,7 @@ use gl_base::{
 use std::test::*;
 
 #[test]
-fn reads_identifiers_and_tells_the_first_fault(rt: HostRuntime) {
+fn reads_identifiers_and_reports_the_first_fault(rt: HostRuntime) {
     let rows: [(&[u8], Result<TxId, TxIdFault>); 18] = [
         (b"2.3", Ok(TxId { view: 2, seqno: 3 })),
         (
@@ -61,7 +61,7 @@ fn writes_the_longest_identifier(rt: HostRuntime) {
 }
 
 #[test]
-fn tells_the_status_by_the_commit(rt: HostRuntime) {
+fn reports_the_status_by_the_commit(rt: HostRuntime) {
     let commit = Some(TxId { view: 4, seqno: 10 });
     let rows = [
         (4, 10, Some(4), commit, Status::Committed),
@@ -187,7 +187,7 @@ fn writes_the_fields_of_a_row(rt: HostRuntime) -> Result<(), Fail> {
 }
 
 #[test]
-fn writes_any_identifier_behind_a_list(rt: HostRuntime) -> Result<(), Fail> {
+fn writes_any_identifier_after_a_list(rt: HostRuntime) -> Result<(), Fail> {
     let mut out = vec![in rt.alloc(); b'=']?;
     let id = TxId {
         view: 0,
@@ -218,7 +218,7 @@ fn shape_of(rt: &HostRuntime, name: &[u8]) -> Result<(), OrNoMemory<FormsFault>>
 }
 
 #[test]
-fn tells_where_the_shape_differs(rt: HostRuntime) -> Result<(), Fail> {
+fn reports_where_the_shape_differs(rt: HostRuntime) -> Result<(), Fail> {
     let mut path = Pointer::new(rt.alloc());
     path.push_member(b"kind")?;
     let want = OrNoMemory::Fault(FormsFault::Shape { path });
@@ -227,7 +227,7 @@ fn tells_where_the_shape_differs(rt: HostRuntime) -> Result<(), Fail> {
     Ok(())
 }
 
-/// Reads bytes behind their length in memory of their own.
+/// Reads bytes after their length in memory of their own.
 fn read_bytes(rt: &HostRuntime, cut: &mut Cut<'_>) -> Result<Bytes, OrNoMemory<CodeFault>> {
     let bytes = cut.bytes(8, 2)?;
     let copy = Vec::from_slice(rt.alloc(), bytes)?;

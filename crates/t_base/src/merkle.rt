@@ -209,7 +209,7 @@ fn frontier_agrees_with_plain(rt: HostRuntime) -> Result<(), Fail> {
     Ok(())
 }
 
-// A cut to every size, and other leaves behind it.
+// A cut to every size, and other leaves after it.
 #[test]
 fn cuts_agree_with_plain(rt: HostRuntime) -> Result<(), Fail> {
     let alloc = rt.alloc();

@@ -3,8 +3,8 @@
 ghost use Rattle.std.specs.Prelude.{◌≤◌, IfOk};
 
 use gl_outside::{
-    Came, Disk, DiskFailed, Gate, Given, Got, Link, MemDisk, MemLink, MemSink, MemSource, OpenGate,
-    Put, Sink, SinkFault, Source, StreamSink, StreamSource, SureDisk, SureLink, SureSink,
+    Came, Disk, DiskFailed, Gate, Got, Incoming, Link, MemDisk, MemLink, MemSink, MemSource,
+    OpenGate, Put, Sink, SinkFault, Source, StreamSink, StreamSource, SureDisk, SureLink, SureSink,
     SureSource, Tear, write_whole,
 };
 use std::alloc::Global;
@@ -43,7 +43,7 @@ fn gives_all_bytes_in_any_pieces_over_chosen_failures(rt: HostRuntime) -> Result
 }
 
 #[test]
-fn writes_all_bytes_or_a_front_of_them(rt: HostRuntime) -> Result<(), Fail> {
+fn writes_all_bytes_or_a_prefix_of_them(rt: HostRuntime) -> Result<(), Fail> {
     let mut sure = SureSink::new(rt.alloc(), 3);
     write_whole(&mut sure, b"galdoxe")?;
     write_whole(&mut sure, b"")?;
@@ -151,7 +151,7 @@ fn syncs<D: Disk + Drop>(mut disk: D) -> bool {
     disk.room(0, 1).is_ok() && disk.sync().is_ok()
 }
 
-/// Two writes, each behind which comes a sync, of which the second fails.
+/// Two writes, each after which comes a sync, of which the second fails.
 fn twice_written(alloc: Global) -> Result<MemDisk<'static>, Fail> {
     let mut disk = MemDisk::new(SureDisk::holding(alloc, b"abcd")?, &[4]);
     disk.room(7, 4)?;
@@ -192,7 +192,7 @@ fn a_stop_leaves_what_was_kept_and_torn_writes(rt: HostRuntime) -> Result<(), Fa
 
 #[test]
 fn a_link_gives_in_order_and_fails_at_chosen_calls(rt: HostRuntime) -> Result<(), Fail> {
-    let given = [Given::Bytes(1, b"ab"), Given::Tick];
+    let given = [Incoming::Bytes(1, b"ab"), Incoming::Tick];
     let mut link = MemLink::new(SureLink::new(rt.alloc(), &given), &[2], &[1]);
     assert!(rt; matches!(link.next(), Came::Bytes(1, _)));
     assert!(rt; matches!(link.next(), Came::Failed));

@@ -27,7 +27,7 @@ const PROPOSAL: [u8; 32] = [
 ];
 
 /// Whether these are the bytes of the request, of its copy, and of what is read from them.
-fn is_spelled(
+fn is_encoded(
     alloc: Global,
     request: &GovernanceRequest,
     bytes: &[u8],
@@ -43,8 +43,8 @@ fn is_spelled(
     )
 }
 
-/// The same of a member's request, which spells itself as the whole request does.
-fn is_member_spelled(
+/// The same of a member's request, which encodes itself as the whole request does.
+fn is_member_encoded(
     alloc: Global,
     request: MemberRequest,
     bytes: &[u8],
@@ -52,52 +52,52 @@ fn is_member_spelled(
     requires { is_member_request request ≡ true }
 {
     let same = request.encode(alloc)?.as_slice() == bytes;
-    Ok(same && is_spelled(alloc, &GovernanceRequest::Member(request), bytes)?)
+    Ok(same && is_encoded(alloc, &GovernanceRequest::Member(request), bytes)?)
 }
 
 #[test]
-fn spells_requests_of_nodes(rt: HostRuntime) -> Result<(), Fail> {
+fn encodes_requests_of_nodes(rt: HostRuntime) -> Result<(), Fail> {
     let alloc = rt.alloc();
-    assert!(rt; is_spelled(alloc, &samples::genesis(alloc)?, &spelled::genesis(alloc)?)?);
+    assert!(rt; is_encoded(alloc, &samples::genesis(alloc)?, &spelled::genesis(alloc)?)?);
     assert!(rt;
-        is_spelled(
+        is_encoded(
             alloc,
             &samples::recovery(alloc)?,
             &spelled::recovery(alloc)?
         )?
     );
-    assert!(rt; is_spelled(alloc, &samples::join(alloc)?, &spelled::join(alloc)?)?);
-    assert!(rt; is_spelled(alloc, &samples::mark(), &spelled::mark(alloc)?)?);
+    assert!(rt; is_encoded(alloc, &samples::join(alloc)?, &spelled::join(alloc)?)?);
+    assert!(rt; is_encoded(alloc, &samples::mark(), &spelled::mark(alloc)?)?);
     law_of_requests();
     Ok(())
 }
 
 #[test]
-fn spells_proposals(rt: HostRuntime) -> Result<(), Fail> {
+fn encodes_proposals(rt: HostRuntime) -> Result<(), Fail> {
     let alloc = rt.alloc();
     let (one, all) = (samples::proposal(alloc)?, samples::all_actions(alloc)?);
     assert_eq!(rt; all.proposal_id(alloc)?, PROPOSAL);
-    assert!(rt; is_member_spelled(alloc, one, &spelled::proposal(alloc)?)?);
-    assert!(rt; is_member_spelled(alloc, all, &spelled::all_actions(alloc)?)?);
+    assert!(rt; is_member_encoded(alloc, one, &spelled::proposal(alloc)?)?);
+    assert!(rt; is_member_encoded(alloc, all, &spelled::all_actions(alloc)?)?);
     Ok(())
 }
 
 #[test]
-fn spells_requests_of_members(rt: HostRuntime) -> Result<(), Fail> {
+fn encodes_requests_of_members(rt: HostRuntime) -> Result<(), Fail> {
     let alloc = rt.alloc();
     let ballot = samples::ballot(alloc)?;
     let signed = ballot.signed_bytes(alloc, &[9; 60])?;
     assert!(rt; signed.as_slice() == spelled::signed_ballot(alloc)?.as_slice());
-    assert!(rt; is_member_spelled(alloc, ballot, &spelled::ballot(alloc)?)?);
-    assert!(rt; is_member_spelled(alloc, samples::ack(alloc)?, &spelled::ack(alloc)?)?);
+    assert!(rt; is_member_encoded(alloc, ballot, &spelled::ballot(alloc)?)?);
+    assert!(rt; is_member_encoded(alloc, samples::ack(alloc)?, &spelled::ack(alloc)?)?);
     let withdrawal = samples::withdrawal(alloc)?;
-    assert!(rt; is_member_spelled(alloc, withdrawal, &spelled::withdrawal(alloc)?)?);
-    assert!(rt; is_member_spelled(alloc, samples::share(alloc)?, &spelled::share(alloc)?)?);
+    assert!(rt; is_member_encoded(alloc, withdrawal, &spelled::withdrawal(alloc)?)?);
+    assert!(rt; is_member_encoded(alloc, samples::share(alloc)?, &spelled::share(alloc)?)?);
     Ok(())
 }
 
 #[test]
-fn spells_the_parts_of_rows(rt: HostRuntime) -> Result<(), Fail> {
+fn encodes_the_parts_of_rows(rt: HostRuntime) -> Result<(), Fail> {
     let alloc = rt.alloc();
     assert_eq!(rt; samples::node(alloc)?.id(), NODE);
     let actions = actions_bytes(alloc, samples::actions(alloc)?.as_slice())?;

@@ -51,7 +51,7 @@ fn attempt(alloc: Global, request: &[u8], tables: &Tables) -> Result<Attempt, Fa
     Err("more than 128 fetches")?
 }
 
-fn tell(alloc: Global, finished: &Result<Ran, OrNoMemory<TxFault>>) -> Result<String, Fail> {
+fn report(alloc: Global, finished: &Result<Ran, OrNoMemory<TxFault>>) -> Result<String, Fail> {
     let mut out = String::new(alloc);
     match finished {
         Ok(ran) => write!(out, "ran {}", ran.reply.as_slice().len())?,
@@ -81,7 +81,7 @@ fn ends_as(
 ) -> Result<bool, Fail>
     requires { next_of attempt.now ≡ None }
 {
-    Ok(tell(alloc, &attempt.finish(tables, cuts))?.as_str() == want)
+    Ok(report(alloc, &attempt.finish(tables, cuts))?.as_str() == want)
 }
 
 #[test]

@@ -92,7 +92,7 @@ const LEAF: [u8; 32] = [
     0x6a, 0xe3, 0xb0, 0x9b, 0x4f, 0x3e, 0x57, 0x51, 0xb4, 0x0c, 0xa0, 0x56, 0x3d, 0x3c, 0x0c, 0x94,
 ];
 
-// The entry that PUT spells.
+// The entry that PUT encodes.
 fn put_entry(alloc: Global) -> Result<Entry, Fail>
     ensures { IfOk result (λ e. length (content_bytes e.content) < 2 ^ 32) }
 {
@@ -119,7 +119,7 @@ fn put_entry(alloc: Global) -> Result<Entry, Fail>
 }
 
 #[test]
-fn spells_the_entry_of_a_put(rt: HostRuntime) -> Result<(), Fail> {
+fn encodes_the_entry_of_a_put(rt: HostRuntime) -> Result<(), Fail> {
     let entry = put_entry(rt.alloc())?;
     assert_eq!(rt; entry.writes.as_slice().len(), 1);
     let body = entry.body(rt.alloc())?;
@@ -176,9 +176,9 @@ fn fault_of(alloc: Global, bytes: &[u8]) -> Option<OrNoMemory<EntryFault>> {
 }
 
 #[test]
-fn tells_the_first_fault(rt: HostRuntime) -> Result<(), Fail> {
+fn reports_the_first_fault(rt: HostRuntime) -> Result<(), Fail> {
     let value = |at| EntryFault::Code(CodeFault::Value { at });
-    // Each frame with the byte at a place changed, and the one behind it too.
+    // Each frame with the byte at a place changed, and the one after it too.
     let rows = [
         (PUT.as_slice(), 0, [3, 1], EntryFault::Version),
         (PUT.as_slice(), 1, [1, 0xff], EntryFault::Flags),
@@ -288,7 +288,7 @@ fn reads_a_ledger_in_any_pieces(rt: HostRuntime) -> Result<(), Fail> {
 }
 
 #[test]
-fn tells_where_a_ledger_is_cut(rt: HostRuntime) -> Result<(), Fail> {
+fn reports_where_a_ledger_is_cut(rt: HostRuntime) -> Result<(), Fail> {
     let bytes = hex::decode(rt.alloc(), LEDGER)?;
     for len in 0..bytes.len() {
         let whole = match len {
@@ -323,10 +323,10 @@ fn goes_on_where_a_read_failed(rt: HostRuntime) -> Result<(), Fail> {
         let (before, fault) = drain(rt.alloc(), &mut reader)?;
         assert_eq!(rt; fault, Some(OrNoMemory::Fault(LedgerFault::Read)));
         assert_eq!(rt; reader.source.plan.faults(), 1);
-        let (behind, fault) = drain(rt.alloc(), &mut reader)?;
+        let (after, fault) = drain(rt.alloc(), &mut reader)?;
         assert_eq!(rt; fault, None);
         let mut frames = before;
-        frames.extend_from_slice(&behind)?;
+        frames.extend_from_slice(&after)?;
         assert_eq!(rt; frames.as_slice(), bytes.as_slice());
     }
     Ok(())

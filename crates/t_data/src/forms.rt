@@ -1,6 +1,6 @@
 //! Texts that a program in Python made (`examples/forms/make.py`), whole and with values changed.
 
-use crate::texts::{self, told};
+use crate::texts::{self, report};
 use gl_forms::{
     KeyForm, read_key, read_proposal, read_recovery, read_request, read_settings, write_key,
 };
@@ -204,13 +204,13 @@ impl Form {
     }
 }
 
-fn told_of(alloc: Global, form: Form, text: &[u8]) -> Result<String, AllocError> {
+fn report_of(alloc: Global, form: Form, text: &[u8]) -> Result<String, AllocError> {
     match form {
-        Form::Proposal => told(alloc, read_proposal(alloc, text)),
-        Form::Request => told(alloc, read_request(alloc, text)),
-        Form::Settings => told(alloc, read_settings(alloc, text)),
-        Form::Recovery => told(alloc, read_recovery(alloc, text)),
-        Form::Key => told(alloc, read_key(alloc, text)),
+        Form::Proposal => report(alloc, read_proposal(alloc, text)),
+        Form::Request => report(alloc, read_request(alloc, text)),
+        Form::Settings => report(alloc, read_settings(alloc, text)),
+        Form::Recovery => report(alloc, read_recovery(alloc, text)),
+        Form::Key => report(alloc, read_key(alloc, text)),
     }
 }
 
@@ -222,7 +222,7 @@ fn changed(alloc: Global, form: Form, piece: &str, by: &str) -> Result<String, A
     texts::changed(alloc, form.text(), piece, by)
 }
 
-// The first row that is told otherwise: a piece, by what it is replaced, and what is told.
+// The first row that is reported otherwise: a piece, by what it is replaced, and what is reported.
 fn first_other(
     alloc: Global,
     form: Form,
@@ -230,7 +230,7 @@ fn first_other(
 ) -> Result<Option<usize>, AllocError> {
     for (index, (piece, by, want)) in rows.iter().enumerate() {
         let text = changed(alloc, form, piece, by)?;
-        if told_of(alloc, form, text.as_bytes())?.as_str() != *want {
+        if report_of(alloc, form, text.as_bytes())?.as_str() != *want {
             return Ok(Some(index));
         }
     }
@@ -238,7 +238,7 @@ fn first_other(
 }
 
 #[test]
-fn tells_what_differs_in_a_proposal(rt: HostRuntime) -> Result<(), Fail> {
+fn reports_what_differs_in_a_proposal(rt: HostRuntime) -> Result<(), Fail> {
     let rows = [
         ("", "", "no JSON"),
         ("", "[]", "shape "),
@@ -332,7 +332,7 @@ fn tells_what_differs_in_a_proposal(rt: HostRuntime) -> Result<(), Fail> {
 }
 
 #[test]
-fn tells_which_rule_differs(rt: HostRuntime) -> Result<(), Fail> {
+fn reports_which_rule_differs(rt: HostRuntime) -> Result<(), Fail> {
     let rows = [
         ("\"rules\":{", "\"rule\":{", "shape /actions/6/args"),
         (
@@ -372,7 +372,7 @@ fn tells_which_rule_differs(rt: HostRuntime) -> Result<(), Fail> {
 }
 
 #[test]
-fn tells_what_differs_in_a_request(rt: HostRuntime) -> Result<(), Fail> {
+fn reports_what_differs_in_a_request(rt: HostRuntime) -> Result<(), Fail> {
     let rows = [
         ("", "\"ack\"", "shape "),
         ("", "{\"op\":\"other\",\"x\":1}", "shape /op"),
@@ -393,7 +393,7 @@ fn tells_what_differs_in_a_request(rt: HostRuntime) -> Result<(), Fail> {
 }
 
 #[test]
-fn tells_what_differs_in_settings(rt: HostRuntime) -> Result<(), Fail> {
+fn reports_what_differs_in_settings(rt: HostRuntime) -> Result<(), Fail> {
     let rows = [
         ("\"open\"", "\"opening\"", "read"),
         ("\"open\"", "\"waiting\"", "shape /state"),
@@ -434,7 +434,7 @@ fn tells_what_differs_in_settings(rt: HostRuntime) -> Result<(), Fail> {
 }
 
 #[test]
-fn tells_what_differs_in_a_key(rt: HostRuntime) -> Result<(), Fail> {
+fn reports_what_differs_in_a_key(rt: HostRuntime) -> Result<(), Fail> {
     let rows = [
         ("\"kind\":\"node\"", "\"kind\":\"leaf\"", "shape /kind"),
         ("\"kind\":\"node\"", "\"kin\":\"node\"", "shape "),
@@ -466,24 +466,24 @@ fn repeated(alloc: Global, piece: &str, count: usize) -> Result<String, AllocErr
 }
 
 // What is told of a recovery with so many numbers before its node.
-fn told_of_nodes(alloc: Global, count: usize) -> Result<String, AllocError> {
+fn reported_of_nodes(alloc: Global, count: usize) -> Result<String, AllocError> {
     let numbers = repeated(alloc, "0,", count)?;
     let by = format!(in alloc; "\"nodes\":[{numbers}")?;
     let text = changed(alloc, Form::Recovery, "\"nodes\":[", by.as_str())?;
-    told_of(alloc, Form::Recovery, text.as_bytes())
+    report_of(alloc, Form::Recovery, text.as_bytes())
 }
 
 #[test]
 fn counts_nodes_in_a_byte(rt: HostRuntime) -> Result<(), Fail> {
-    let answer = told_of_nodes(rt.alloc(), 254)?;
+    let answer = reported_of_nodes(rt.alloc(), 254)?;
     assert_eq!(rt; answer.as_str(), "shape /nodes/0");
-    let answer = told_of_nodes(rt.alloc(), 255)?;
+    let answer = reported_of_nodes(rt.alloc(), 255)?;
     assert_eq!(rt; answer.as_str(), "shape /nodes");
     Ok(())
 }
 
 // What is told of a key whose endorsement has so many digits.
-fn told_of_digits(alloc: Global, count: usize) -> Result<String, AllocError> {
+fn reported_of_digits(alloc: Global, count: usize) -> Result<String, AllocError> {
     let digits = repeated(alloc, "0", count)?;
     let text = changed(
         alloc,
@@ -491,14 +491,14 @@ fn told_of_digits(alloc: Global, count: usize) -> Result<String, AllocError> {
         "fafbfcfdfeff000102030405",
         digits.as_str(),
     )?;
-    told_of(alloc, Form::Key, text.as_bytes())
+    report_of(alloc, Form::Key, text.as_bytes())
 }
 
 #[test]
 fn takes_an_endorsement_of_a_mebibyte(rt: HostRuntime) -> Result<(), Fail> {
-    let answer = told_of_digits(rt.alloc(), 2_097_152)?;
+    let answer = reported_of_digits(rt.alloc(), 2_097_152)?;
     assert_eq!(rt; answer.as_str(), "read");
-    let answer = told_of_digits(rt.alloc(), 2_097_153)?;
+    let answer = reported_of_digits(rt.alloc(), 2_097_153)?;
     assert_eq!(rt; answer.as_str(), "shape /endorsement");
     Ok(())
 }

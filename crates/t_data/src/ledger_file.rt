@@ -8,7 +8,7 @@ use std::alloc::Global;
 use std::test::*;
 
 /// What a file goes on with, in a word and the seqno of an entry.
-fn told<S: Source>(alloc: Global, source: &mut S, kept: &mut ReadBuffer) -> (&'static str, u64) {
+fn report<S: Source>(alloc: Global, source: &mut S, kept: &mut ReadBuffer) -> (&'static str, u64) {
     match read_next(alloc, source, kept) {
         Ok(Next::Entry(entry)) => ("entry", entry.seqno),
         Ok(Next::End) => ("end", 0),
@@ -19,23 +19,23 @@ fn told<S: Source>(alloc: Global, source: &mut S, kept: &mut ReadBuffer) -> (&'s
 }
 
 #[test]
-fn a_file_ends_behind_its_last_entry(rt: HostRuntime) {
+fn a_file_ends_after_its_last_entry(rt: HostRuntime) {
     let mut source = SureSource::new(&PUT, 7);
     let mut kept = ReadBuffer::new(rt.alloc());
-    assert_eq!(rt; told(rt.alloc(), &mut source, &mut kept), ("entry", 3));
-    assert_eq!(rt; told(rt.alloc(), &mut source, &mut kept), ("end", 0));
+    assert_eq!(rt; report(rt.alloc(), &mut source, &mut kept), ("entry", 3));
+    assert_eq!(rt; report(rt.alloc(), &mut source, &mut kept), ("end", 0));
     assert!(rt; source.ended);
 }
 
 #[test]
-fn bytes_that_are_no_frame_are_told_again(rt: HostRuntime) -> Result<(), Fail> {
+fn bytes_that_are_no_frame_are_reported_again(rt: HostRuntime) -> Result<(), Fail> {
     let mut bytes = Vec::from_slice(rt.alloc(), &PUT)?;
     bytes.extend_from_slice(&PUT[..98])?;
     let mut source = SureSource::new(&bytes, 64);
     let mut kept = ReadBuffer::new(rt.alloc());
-    assert_eq!(rt; told(rt.alloc(), &mut source, &mut kept), ("entry", 3));
-    assert_eq!(rt; told(rt.alloc(), &mut source, &mut kept), ("unread", 0));
-    assert_eq!(rt; told(rt.alloc(), &mut source, &mut kept), ("unread", 0));
+    assert_eq!(rt; report(rt.alloc(), &mut source, &mut kept), ("entry", 3));
+    assert_eq!(rt; report(rt.alloc(), &mut source, &mut kept), ("unread", 0));
+    assert_eq!(rt; report(rt.alloc(), &mut source, &mut kept), ("unread", 0));
     Ok(())
 }
 
@@ -43,8 +43,8 @@ fn bytes_that_are_no_frame_are_told_again(rt: HostRuntime) -> Result<(), Fail> {
 fn a_file_goes_on_where_its_source_failed(rt: HostRuntime) {
     let mut source = MemSource::new(&PUT, 50, &[2]);
     let mut kept = ReadBuffer::new(rt.alloc());
-    assert_eq!(rt; told(rt.alloc(), &mut source, &mut kept), ("failed", 0));
+    assert_eq!(rt; report(rt.alloc(), &mut source, &mut kept), ("failed", 0));
     assert_eq!(rt; source.plan.faults(), 1);
-    assert_eq!(rt; told(rt.alloc(), &mut source, &mut kept), ("entry", 3));
-    assert_eq!(rt; told(rt.alloc(), &mut source, &mut kept), ("end", 0));
+    assert_eq!(rt; report(rt.alloc(), &mut source, &mut kept), ("entry", 3));
+    assert_eq!(rt; report(rt.alloc(), &mut source, &mut kept), ("end", 0));
 }

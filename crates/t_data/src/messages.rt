@@ -9,7 +9,7 @@ ghost use Rattle.gl_messages.specs.Message.{is_message};
 use gl_base::{CodeFault, CutFault, OrNoMemory, Status};
 use gl_entry::{Content, EntryFault};
 use gl_messages::{
-    Answer, Body, Client, FrameFault, Frames, Message, MessageFault, Said, put_frame,
+    Answer, AnswerBody, Body, Client, FrameFault, Frames, Message, MessageFault, put_frame,
 };
 use std::alloc::{AllocError, Global};
 use std::test::*;
@@ -150,7 +150,7 @@ fn answer_bytes(alloc: Global, answer: &Answer) -> Result<Vec<u8>, AllocError>
 }
 
 #[test]
-fn reads_and_spells_each_kind(rt: HostRuntime) -> Result<(), Fail> {
+fn reads_and_encodes_each_kind(rt: HostRuntime) -> Result<(), Fail> {
     for (name, bytes) in MESSAGES {
         let message = Message::decode(rt.alloc(), bytes)?;
         assert_eq!(rt;
@@ -213,7 +213,7 @@ fn reads_the_fields(rt: HostRuntime) -> Result<(), Fail> {
         _ => panic!(rt; "an append"),
     }
     let status = Answer::decode(rt.alloc(), ANSWERS[5].1)?;
-    assert!(rt; matches!(&status.said, Said::StatusIs(Status::Invalid)));
+    assert!(rt; matches!(&status.content, AnswerBody::StatusIs(Status::Invalid)));
     Ok(())
 }
 
@@ -229,7 +229,7 @@ fn changed(alloc: Global, bytes: &[u8], at: usize, new: &[u8]) -> Result<Vec<u8>
 }
 
 #[test]
-fn tells_the_first_fault_of_a_message(rt: HostRuntime) -> Result<(), Fail> {
+fn reports_the_first_fault_of_a_message(rt: HostRuntime) -> Result<(), Fail> {
     let [
         (_, request),
         _,
@@ -268,7 +268,7 @@ fn tells_the_first_fault_of_a_message(rt: HostRuntime) -> Result<(), Fail> {
         (append, 99, b"\x01", order(2, 1)),
         (append, 99, b"\x04", order(3, 4)),
         (append, 103, b"\x04", order(3, 4)),
-        // the order is tried before what is wrong behind it
+        // the order is tried before what is wrong after it
         (
             append,
             99,
@@ -281,7 +281,7 @@ fn tells_the_first_fault_of_a_message(rt: HostRuntime) -> Result<(), Fail> {
             b"\x04\x00\x00\x00\x00\x00\x00\x00\x06",
             order(3, 4),
         ),
-        // and behind what is wrong before it
+        // and after what is wrong before it
         (
             append,
             92,
@@ -318,7 +318,7 @@ fn tells_the_first_fault_of_a_message(rt: HostRuntime) -> Result<(), Fail> {
 }
 
 #[test]
-fn tells_the_first_fault_of_a_client_and_an_answer(rt: HostRuntime) -> Result<(), Fail> {
+fn reports_the_first_fault_of_a_client_and_an_answer(rt: HostRuntime) -> Result<(), Fail> {
     let too_long = |len| CodeFault::Cut(CutFault::TooLong { at: 9, len });
     let rows = [
         (0, b"\x0f".as_slice(), CodeFault::Value { at: 0 }),

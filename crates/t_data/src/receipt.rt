@@ -91,7 +91,7 @@ fn identity(rt: &HostRuntime) -> Result<[u8; 60], Fail> {
 }
 
 // What is read and verified of a text under the service's key.
-fn told(rt: &HostRuntime, text: &[u8]) -> Result<Result<TxId, ReceiptFault>, Fail> {
+fn report(rt: &HostRuntime, text: &[u8]) -> Result<Result<TxId, ReceiptFault>, Fail> {
     let receipt = read_receipt(rt.alloc(), text)?;
     Ok(verify(&identity(rt)?, &receipt))
 }
@@ -104,7 +104,7 @@ fn changed(alloc: Global, piece: &str, by: &str) -> Result<String, AllocError> {
 #[test]
 fn verifies(rt: HostRuntime) -> Result<(), Fail> {
     let id = TxId { view: 2, seqno: 3 };
-    assert_eq!(rt; told(&rt, RECEIPT.as_bytes())?, Ok(id));
+    assert_eq!(rt; report(&rt, RECEIPT.as_bytes())?, Ok(id));
     Ok(())
 }
 
@@ -117,12 +117,12 @@ fn writes_what_it_read(rt: HostRuntime) -> Result<(), Fail> {
 }
 
 // What is answered of the receipt with a piece changed.
-fn told_changed(
+fn reported_changed(
     rt: &HostRuntime,
     piece: &str,
     by: &str,
 ) -> Result<Result<TxId, ReceiptFault>, Fail> {
-    told(rt, changed(rt.alloc(), piece, by)?.as_bytes())
+    report(rt, changed(rt.alloc(), piece, by)?.as_bytes())
 }
 
 // The signature leads to this root, and not to that of the node's key.
@@ -172,23 +172,27 @@ fn finds_another_root(rt: HostRuntime) -> Result<(), Fail> {
         ),
     ];
     for (piece, by, got) in rows {
-        assert_eq!(rt; told_changed(&rt, piece, by)?, leads_to(got)?, "{piece}");
+        assert_eq!(rt;
+            reported_changed(&rt, piece, by)?,
+            leads_to(got)?,
+            "{piece}"
+        );
     }
     Ok(())
 }
 
 #[test]
-fn tells_what_is_wrong(rt: HostRuntime) -> Result<(), Fail> {
+fn reports_what_is_wrong(rt: HostRuntime) -> Result<(), Fail> {
     let evidence = Err(ReceiptFault::Evidence);
-    assert_eq!(rt; told_changed(&rt, "ce:2.3", "ce:2.4")?, evidence);
-    assert_eq!(rt; told_changed(&rt, "ce:2.3", "ce:02.3")?, evidence);
-    assert_eq!(rt; told_changed(&rt, "ce:2.3:", "ce:2.3")?, evidence);
-    assert_eq!(rt; told_changed(&rt, ":ff5070", ":FF5070")?, evidence);
+    assert_eq!(rt; reported_changed(&rt, "ce:2.3", "ce:2.4")?, evidence);
+    assert_eq!(rt; reported_changed(&rt, "ce:2.3", "ce:02.3")?, evidence);
+    assert_eq!(rt; reported_changed(&rt, "ce:2.3:", "ce:2.3")?, evidence);
+    assert_eq!(rt; reported_changed(&rt, ":ff5070", ":FF5070")?, evidence);
     let longer = HssFault::Length {
         want: 2644,
         got: 2645,
     };
-    let answer = told_changed(&rt, "\",\"signed", "00\",\"signed")?;
+    let answer = reported_changed(&rt, "\",\"signed", "00\",\"signed")?;
     assert_eq!(rt; answer, Err(ReceiptFault::Hss(longer)));
     let mut other = identity(&rt)?;
     other[59] ^= 1;
@@ -199,11 +203,11 @@ fn tells_what_is_wrong(rt: HostRuntime) -> Result<(), Fail> {
 
 // Why a text is no receipt, and the path.
 fn refused(alloc: Global, text: &[u8]) -> Result<String, AllocError> {
-    texts::told(alloc, read_receipt(alloc, text))
+    texts::report(alloc, read_receipt(alloc, text))
 }
 
 #[test]
-fn tells_which_value_differs(rt: HostRuntime) -> Result<(), Fail> {
+fn reports_which_value_differs(rt: HostRuntime) -> Result<(), Fail> {
     let rows = [
         ("{", "", "no JSON"),
         ("{\"leaf", "[{\"leaf", "no JSON"),
@@ -255,9 +259,9 @@ fn takes_a_number_for_no_proof(rt: HostRuntime) -> Result<(), Fail> {
         \"write_set_digest\":\"\"},\"proof\":3,\"signature\":\"\",\"signed\":null}";
     let first = refused(rt.alloc(), text)?;
     assert_eq!(rt; first.as_str(), "hex /leaf_components/claims_digest");
-    let (front, rest) = RECEIPT.split_once("[").unwrap_or(("", ""));
+    let (prefix, rest) = RECEIPT.split_once("[").unwrap_or(("", ""));
     let (_, rest) = rest.split_once("]").unwrap_or(("", ""));
-    let text = format!(in rt.alloc(); "{front}3{rest}")?;
+    let text = format!(in rt.alloc(); "{prefix}3{rest}")?;
     assert_eq!(rt;
         refused(rt.alloc(), text.as_bytes())?.as_str(),
         "shape /proof"

@@ -11,7 +11,7 @@ pub(crate) fn changed(
     by: &str,
 ) -> Result<String, AllocError> {
     match text.split_once(piece) {
-        Some((front, rest)) => format!(in alloc; "{front}{by}{rest}"),
+        Some((prefix, rest)) => format!(in alloc; "{prefix}{by}{rest}"),
         None => String::from_str(alloc, "no such piece"),
     }
 }
@@ -22,7 +22,7 @@ fn named(alloc: Global, kind: &str, path: &Pointer) -> Result<String, AllocError
 }
 
 /// That a text was read, or why not, and the path.
-pub(crate) fn told<T: Drop>(
+pub(crate) fn report<T: Drop>(
     alloc: Global,
     read: Result<T, OrNoMemory<FormsFault>>,
 ) -> Result<String, AllocError> {

@@ -69,7 +69,7 @@ fn deals_to_three_members(rt: HostRuntime) -> Result<(), Fail> {
 }
 
 #[test]
-fn tells_among_whom_a_secret_can_be_dealt(rt: HostRuntime) {
+fn prints_among_whom_a_secret_can_be_dealt(rt: HostRuntime) {
     assert!(rt; can_deal(1, &[1]) && can_deal(2, &[7, 9, 255]));
     assert!(rt; !can_deal(0, &[1]) && !can_deal(2, &[5]));
     assert!(rt; !can_deal(1, &[0, 1]) && !can_deal(1, &[1, 256]) && !can_deal(1, &[2, 2]));

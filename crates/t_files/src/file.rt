@@ -9,7 +9,7 @@ use std::os::unix::fs::MetadataExt;
 use std::process::Abort;
 use std::test::*;
 
-/// Writes a text behind the bytes of a disk, and syncs.
+/// Writes a text after the bytes of a disk, and syncs.
 fn append<D: Disk>(disk: &mut D, text: &[u8]) -> Result<(), Fail> {
     let at = disk.len()?;
     let Some(end) = at.checked_add(text.len() as u64) else {
@@ -161,9 +161,9 @@ fn takes_pieces_whole_and_counts_each_failure_once(rt: HostRuntime) -> Result<()
         let synced = disk.sync();
         let mut back = [0; 7];
         let read = disk.read_at(0, &mut back);
-        let told = [wrote.is_ok(), synced.is_ok(), read.is_ok()];
-        let due = [failing > 5, failing > 5, failing > 10];
-        assert_eq!(rt; (told, disk.faults()), (due, faults), "at {failing}");
+        let printed = [wrote.is_ok(), synced.is_ok(), read.is_ok()];
+        let output = [failing > 5, failing > 5, failing > 10];
+        assert_eq!(rt; (printed, disk.faults()), (output, faults), "at {failing}");
         assert!(rt; read.is_err() || back == *b"galdoxe");
     }
     Ok(())

@@ -102,14 +102,14 @@ fn digests(form: &KeyForm) -> (KeyKind, [u8; 32], Option<[u8; 32]>) {
 
 #[test]
 fn a_key_has_the_form_of_its_kind(rt: HostRuntime) -> Result<(), Fail> {
-    for due in [
+    for output in [
         (KeyKind::Service, SERVICE, None),
         (KeyKind::Member, MEMBER, None),
         (KeyKind::Node, NODE, Some(NODE)),
     ] {
-        let (kind, _, _) = due;
+        let (kind, _, _) = output;
         let form = key_form(rt.alloc(), &key_of(kind))?;
-        assert_eq!(rt; digests(&form), due);
+        assert_eq!(rt; digests(&form), output);
         assert!(rt;
             !matches!(
                 form,
@@ -207,10 +207,10 @@ fn taken(alloc: Global, bytes: &[u8], leaf_use: LeafUse) -> Result<(SureDisk, Op
 fn a_stop_leaves_the_leaf_or_the_next_one(rt: HostRuntime) -> Result<(), Fail> {
     let alloc = rt.alloc();
     let begun = created(alloc)?.into_disk();
-    for (leaf_use, due) in [(LeafUse::Signature, None), (LeafUse::Start, Some(1))] {
+    for (leaf_use, output) in [(LeafUse::Signature, None), (LeafUse::Start, Some(1))] {
         assert_eq!(rt; count_images(alloc, &begun.bytes, leaf_use)?, [19, 6]);
         let (disk, start) = taken(alloc, &begun.bytes, leaf_use)?;
-        assert_eq!(rt; start, due);
+        assert_eq!(rt; start, output);
         assert_eq!(rt; count_images(alloc, &disk.bytes, leaf_use)?, [19, 6]);
     }
     Ok(())
@@ -226,7 +226,7 @@ fn expect_fault(error: OrNoMemory<KeyFileFault>, faults: u64) -> Result<(), Fail
 }
 
 /// Where a file is begun and a leaf is taken while a call of the disk fails: 0 where the first of
-/// the two is told, 1 where the second is, and 2 where both were done.
+/// the two is reported, 1 where the second is, and 2 where both were done.
 fn end_at(alloc: Global, failing: u64) -> Result<usize, Fail> {
     let failing = [failing];
     let disk = MemDisk::new(SureDisk::new(alloc), &failing);
@@ -268,7 +268,7 @@ fn each_call_of_the_disk_fails_in_turn(rt: HostRuntime) -> Result<(), Fail> {
 }
 
 #[test]
-fn a_fault_while_a_file_is_opened_is_told(rt: HostRuntime) -> Result<(), Fail> {
+fn a_fault_while_a_file_is_opened_is_printed(rt: HostRuntime) -> Result<(), Fail> {
     let alloc = rt.alloc();
     let begun = created(alloc)?.into_disk();
     let mut faults: u32 = 0;

@@ -82,8 +82,8 @@ fn carries_frames_between_peers(rt: HostRuntime) -> Result<(), Fail> {
     Ok(())
 }
 
-/// A client that sends no more is answered, and two ticks later it is gone. Its number stands
-/// behind that of the peer.
+/// A client that sends no more is answered, and two ticks later it is gone. Its number stands after
+/// that of the peer.
 fn answer<L: Link>(node: &mut L, client: &mut TcpStream) -> Result<(), Fail> {
     expect_bytes(node, 1, b"from a client")?;
     expect_tick(node)?;

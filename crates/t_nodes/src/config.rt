@@ -70,11 +70,11 @@ fn nodes_are_replaced(rt: HostRuntime) -> Result<(), Fail> {
     for (commit, voters, upto, is_enough) in votes {
         let voters = set(rt.alloc(), voters)?;
         let active = Active::of(&configurations, commit);
-        let told = match upto {
+        let reported = match upto {
             None => active.quorum(&voters),
             Some(seqno) => active.quorum_upto(&voters, seqno),
         };
-        assert_eq!(rt; told, is_enough);
+        assert_eq!(rt; reported, is_enough);
     }
     for (commit, number, is_held) in [
         (2, 1, true),

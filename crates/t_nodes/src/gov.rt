@@ -1,5 +1,5 @@
 //! A service's requests against `examples/governance/model.py`, which keeps tables in place of a
-//! history and counts no ballot anew: what each request answers, and a digest of all rows.
+//! history and counts no ballot again: what each request answers, and a digest of all rows.
 
 use bench::{Bench, Row, play};
 use std::test::Fail;

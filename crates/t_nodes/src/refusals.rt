@@ -2,7 +2,7 @@
 
 use gl_answers::{Reason, Value, reason_of, values_bytes};
 use gl_gov_rules::{Cause, GovernanceRefusal, NodeStatus, ProposalState};
-use gl_ledger::{Refusal, Unmade};
+use gl_ledger::{Refusal, Rejection};
 use gl_replication::Refusal as NodeRefusal;
 use gl_requests::ServiceState;
 use gl_store_book::StoreBook;
@@ -114,14 +114,14 @@ const CAUSES: [Cause; 11] = [
 ];
 
 /// Why a ledger takes no entry: the number, and the values.
-const LEDGER: [(Unmade, u16, &[u64]); 6] = [
+const LEDGER: [(Rejection, u16, &[u64]); 6] = [
     (
-        Unmade::ByStore(Refusal::ServiceState(ServiceState::Opening)),
+        Rejection::ByStore(Refusal::ServiceState(ServiceState::Opening)),
         51,
         &[1],
     ),
     (
-        Unmade::ByStore(Refusal::Aborted(Abort {
+        Rejection::ByStore(Refusal::Aborted(Abort {
             operation: 3,
             cause: gl_tx::Cause::Overflow,
         })),
@@ -129,19 +129,19 @@ const LEDGER: [(Unmade, u16, &[u64]); 6] = [
         &[3, 4],
     ),
     (
-        Unmade::ByStore(Refusal::TooLarge { size: 1_048_577 }),
+        Rejection::ByStore(Refusal::TooLarge { size: 1_048_577 }),
         119,
         &[1_048_577],
     ),
-    (Unmade::ByStore(Refusal::SeqnoLimit), 130, &[]),
+    (Rejection::ByStore(Refusal::SeqnoLimit), 130, &[]),
     (
-        Unmade::ByStore(Refusal::Governance(GovernanceRefusal::NotOpen {
+        Rejection::ByStore(Refusal::Governance(GovernanceRefusal::NotOpen {
             state: ProposalState::Dropped,
         })),
         45,
         &[6],
     ),
-    (Unmade::NoEntry, 117, &[]),
+    (Rejection::NoEntry, 117, &[]),
 ];
 
 /// Each refusal of governance that has digests: its number, and these.
@@ -167,18 +167,18 @@ const DIGESTS: [(GovernanceRefusal, u16, &[[u8; 32]]); 3] = [
 ];
 
 /// What a client is told where a node refuses an event.
-fn told(alloc: Global, why: NodeRefusal<StoreBook>) -> Result<Reason, Fail> {
+fn reported(alloc: Global, why: NodeRefusal<StoreBook>) -> Result<Reason, Fail> {
     Ok(reason_of(alloc, &why)?.ok_or("no reason")?)
 }
 
 /// What a client is told where governance refuses a request.
-fn told_of(alloc: Global, why: GovernanceRefusal) -> Result<Reason, Fail> {
-    let why = Unmade::ByStore(Refusal::Governance(why));
-    told(alloc, NodeRefusal::ByLedger(why))
+fn outcome_of(alloc: Global, why: GovernanceRefusal) -> Result<Reason, Fail> {
+    let why = Rejection::ByStore(Refusal::Governance(why));
+    reported(alloc, NodeRefusal::ByLedger(why))
 }
 
 /// Whether a reason has this number and these numbers as values.
-fn tells(reason: &Reason, code: u16, values: &[u64]) -> bool {
+fn reports(reason: &Reason, code: u16, values: &[u64]) -> bool {
     reason.code == code
         && reason.values.len() == values.len()
         && reason
@@ -190,31 +190,31 @@ fn tells(reason: &Reason, code: u16, values: &[u64]) -> bool {
 }
 
 #[test]
-fn tells_refusals_of_governance(rt: HostRuntime) -> Result<(), Fail> {
+fn reports_refusals_of_governance(rt: HostRuntime) -> Result<(), Fail> {
     for (refusal, code, values) in &GOVERNANCE {
-        let reason = told_of(rt.alloc(), *refusal)?;
-        assert!(rt; tells(&reason, *code, values));
+        let reason = outcome_of(rt.alloc(), *refusal)?;
+        assert!(rt; reports(&reason, *code, values));
     }
     Ok(())
 }
 
 #[test]
-fn tells_causes(rt: HostRuntime) -> Result<(), Fail> {
+fn reports_causes(rt: HostRuntime) -> Result<(), Fail> {
     for (cause, number) in CAUSES.iter().zip(1..) {
         let refusal = GovernanceRefusal::BadAction {
             index: 7,
             cause: *cause,
         };
-        let reason = told_of(rt.alloc(), refusal)?;
-        assert!(rt; tells(&reason, 48, &[7, number]));
+        let reason = outcome_of(rt.alloc(), refusal)?;
+        assert!(rt; reports(&reason, 48, &[7, number]));
     }
     Ok(())
 }
 
 #[test]
-fn tells_digests(rt: HostRuntime) -> Result<(), Fail> {
+fn reports_digests(rt: HostRuntime) -> Result<(), Fail> {
     for (refusal, code, digests) in &DIGESTS {
-        let reason = told_of(rt.alloc(), *refusal)?;
+        let reason = outcome_of(rt.alloc(), *refusal)?;
         assert_eq!(rt; (reason.code, reason.values.len()), (*code, digests.len()));
         for (value, digest) in reason.values.as_slice().iter().zip(*digests) {
             assert_eq!(rt; *value, Value::Digest(*digest));
@@ -224,21 +224,21 @@ fn tells_digests(rt: HostRuntime) -> Result<(), Fail> {
 }
 
 #[test]
-fn tells_refusals_of_a_ledger(rt: HostRuntime) -> Result<(), Fail> {
+fn reports_refusals_of_a_ledger(rt: HostRuntime) -> Result<(), Fail> {
     for (refusal, code, values) in &LEDGER {
-        let reason = told(rt.alloc(), NodeRefusal::ByLedger(*refusal))?;
-        assert!(rt; tells(&reason, *code, values));
+        let reason = reported(rt.alloc(), NodeRefusal::ByLedger(*refusal))?;
+        assert!(rt; reports(&reason, *code, values));
     }
     Ok(())
 }
 
 fn leader_bytes(alloc: Global, leader: Option<[u8; 32]>) -> Result<Vec<u8>, Fail> {
-    let reason = told(alloc, NodeRefusal::NotPrimary(7, leader))?;
+    let reason = reported(alloc, NodeRefusal::NotPrimary(7, leader))?;
     Ok(values_bytes(alloc, reason.values.as_slice())?)
 }
 
 #[test]
-fn spells_leaders(rt: HostRuntime) -> Result<(), Fail> {
+fn encodes_leaders(rt: HostRuntime) -> Result<(), Fail> {
     let none = leader_bytes(rt.alloc(), None)?;
     assert_eq!(rt;
         none.as_slice(),

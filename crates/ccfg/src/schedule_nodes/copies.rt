@@ -1,4 +1,4 @@
-//! Messages in memory of their own. A copy fails for want of memory alone.
+//! Messages in memory of their own. A copy fails only where memory runs out.
 
 ghost use Rattle.std.specs.Prelude.{◌≡◌, IfOk};
 

@@ -15,9 +15,9 @@ ghost use Rattle.gl_world.specs.Group.{IsGroup, book_of};
 ghost use Rattle.gl_world.specs.World.{start_of};
 ghost use Rattle.ccfg.specs.FileNodes.{IsMemoryFile, SeenFileNode, StandsOverFile};
 ghost use Rattle.gl_store_book.specs.Stands.{Stands};
-ghost use Rattle.gl_store_book.specs.Turns.{turn_records};
+ghost use Rattle.gl_store_book.specs.ViewVotes.{view_vote_records};
 
-use crate::schedule_nodes::opening::books;
+use crate::schedule_nodes::opening_stores::books;
 use crate::schedule_nodes::{FileNode, only_memory};
 use gl_config::NodeId;
 use gl_entry::Entry;
@@ -26,11 +26,11 @@ use gl_journal::{Journal, Key, KeyKind, Record};
 use gl_node::Replica;
 use gl_outside::SureDisk;
 use gl_replication::{Book, Core};
-use gl_store_book::{StoreBook, Turn, keep, keep_opening};
+use gl_store_book::{StoreBook, ViewVote, keep, keep_opening};
 use gl_world::{Settings, core_at_start, node_seed};
 use std::alloc::{AllocError, Global};
 
-/// The frames of entries, one behind the other.
+/// The frames of entries, one after the other.
 fn frames_of(alloc: Global, entries: &[Entry]) -> Result<Vec<u8>, AllocError>
     requires { AllByRecursion (λ e. is_entry e ≡ true) entries.now }
     ensures { IfOk result (λ bytes. bytes.items ≡ flat_map frame_bytes entries.now) }
@@ -42,7 +42,7 @@ fn frames_of(alloc: Global, entries: &[Entry]) -> Result<Vec<u8>, AllocError>
     Ok(bytes)
 }
 
-/// A file in memory with this key. Fails for want of memory alone.
+/// A file in memory with this key. Fails only where memory runs out.
 fn create(alloc: Global, key: Key) -> Result<Journal<SureDisk>, AllocError>
     ensures { IfOk result (λ journal. IsMemoryFile journal (key_alone key)) }
 {
@@ -52,7 +52,7 @@ fn create(alloc: Global, key: Key) -> Result<Journal<SureDisk>, AllocError>
     }
 }
 
-/// The file keeps how many leaves are reserved. Fails for want of memory alone.
+/// The file keeps how many leaves are reserved. Fails only where memory runs out.
 #[tactic(auto, unfolding(gl_base::specs::LittleEndian::little_endian))]
 fn keep_leaves(journal: &mut Journal<SureDisk>, reserved: u32) -> Result<(), AllocError>
     requires { (state : State) × IsMemoryFile journal.old state }
@@ -68,11 +68,11 @@ fn keep_leaves(journal: &mut Journal<SureDisk>, reserved: u32) -> Result<(), All
 
 /// A view, and a vote for a node in it.
 #[tactic(auto, unfolding(gl_base::specs::LittleEndian::little_endian))]
-fn turn_for(view: u32, node: &NodeId) -> Turn
+fn turn_for(view: u32, node: &NodeId) -> ViewVote
     ensures turn { result ≡ record { view = view; vote = Some node.now; is_new = true } }
-    ensures small { length (records_bytes (turn_records result)) ≤ 42 }
+    ensures small { length (records_bytes (view_vote_records result)) ≤ 42 }
 {
-    Turn {
+    ViewVote {
         view,
         vote: Some(*node),
         is_new: true,
@@ -81,12 +81,12 @@ fn turn_for(view: u32, node: &NodeId) -> Turn
 
 /// A view, and the vote in it.
 #[tactic(auto, unfolding(gl_base::specs::LittleEndian::little_endian))]
-fn turn_of(view: u32, vote: &Option<NodeId>) -> Turn
+fn turn_of(view: u32, vote: &Option<NodeId>) -> ViewVote
     ensures turn { result ≡ record { view = view; vote = vote.now; is_new = true } }
-    ensures small { length (records_bytes (turn_records result)) ≤ 42 }
+    ensures small { length (records_bytes (view_vote_records result)) ≤ 42 }
 {
     match vote {
-        None => Turn {
+        None => ViewVote {
             view,
             vote: None,
             is_new: true,
@@ -104,7 +104,8 @@ fn entries_of(book: &StoreBook) -> &[Entry]
     book.ledger.store().entries()
 }
 
-/// The file keeps the view and the vote of a node, and its ledger. Fails for want of memory alone.
+/// The file keeps the view and the vote of a node, and its ledger. Fails only where memory runs
+/// out.
 fn keep_node(
     alloc: Global,
     journal: &mut Journal<SureDisk>,
@@ -130,8 +131,8 @@ fn keep_node(
 }
 
 impl FileNode {
-    /// The node with a number at the start of a service, whose file keeps it. Fails for want of
-    /// memory alone.
+    /// The node with a number at the start of a service, whose file keeps it. Fails only where
+    /// memory runs out.
     fn begin(
         alloc: Global,
         settings: &Settings,
@@ -161,7 +162,7 @@ impl FileNode {
     }
 }
 
-/// Adds the next node, over its store and a file that keeps it. Fails for want of memory alone.
+/// Adds the next node, over its store and a file that keeps it. Fails only where memory runs out.
 fn add_node(
     alloc: Global,
     settings: &Settings,
@@ -192,7 +193,7 @@ fn add_node(
 
 /// The nodes with which a service begins, in the order of their numbers, each over a file that
 /// keeps it: those that start have the opening ledger, and those that join have no entry. It grows
-/// the key of each node and member. Fails for want of memory alone.
+/// the key of each node and member. Fails only where memory runs out.
 pub fn nodes(alloc: Global, settings: &Settings) -> Result<Vec<FileNode>, AllocError>
     requires { IsGroup settings.now }
     ensures { IfOk result (λ nodes. AreAtStart StandsOverFile settings.now nodes.items) }

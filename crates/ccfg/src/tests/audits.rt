@@ -1,6 +1,6 @@
-//! Ledgers that are audited: that of a schedule, and that ledger changed. What is due for a changed
-//! one is worked out from the rules, and `examples/audit/verify_ledger.py`, which is written from
-//! the documents of the format alone, says the same of it.
+//! Ledgers that are audited: that of a schedule, and that ledger changed. The expected output for a
+//! changed one is worked out from the rules, and `examples/audit/verify_ledger.py`, which is
+//! written from the documents of the format alone, says the same of it.
 
 use crate::tests::receipts::IDENTITY as OTHER_IDENTITY;
 use crate::tests::{join, one_open, run, status_of, to_words};
@@ -13,7 +13,7 @@ const IDENTITY: &str = "\
     00000002000000050000000358d23188ef65205d9e7e3a23be517855dbdfe85fa3d204fab5ee0af77f0a1c4af7f\
     c810c8a9a4007e2768290e9012cb1";
 
-/// One request, and the signature behind it.
+/// One request, and the signature after it.
 const LINES: &[u8] = b"\
     submit 1 put public:t 61 01\n\
     reserve 1\n\
@@ -32,7 +32,7 @@ const VOTE: &[u8] = b"\
 /// Where the last frame of the first ledger begins.
 const LAST_FRAME: usize = 10699;
 
-/// Puts the frame that a word of an answer spells, if it is that long.
+/// Puts the frame that a word of an answer encodes, if it is that long.
 fn put_frame(alloc: Global, ledger: &mut Vec<u8>, word: &[u8]) -> Result<(), AllocError> {
     if word.len() > 150
         && let Ok(frame) = hex::decode(alloc, word)
@@ -43,10 +43,10 @@ fn put_frame(alloc: Global, ledger: &mut Vec<u8>, word: &[u8]) -> Result<(), All
 }
 
 /// The ledger whose frames stand in an answer.
-fn frames_in(alloc: Global, told: &[u8]) -> Result<Vec<u8>, AllocError> {
+fn frames_in(alloc: Global, reported: &[u8]) -> Result<Vec<u8>, AllocError> {
     let mut ledger = Vec::new(alloc);
     let mut word = Vec::new(alloc);
-    for byte in told {
+    for byte in reported {
         if matches!(*byte, b' ' | b'\n') {
             put_frame(alloc, &mut ledger, &word)?;
             word.clear();
@@ -59,8 +59,8 @@ fn frames_in(alloc: Global, told: &[u8]) -> Result<Vec<u8>, AllocError> {
 
 /// The ledger of the schedule of this service and these lines.
 fn replayed(alloc: Global, world: &[u8], lines: &[u8]) -> Result<Vec<u8>, AllocError> {
-    let (_, told) = run(alloc, &["replay"], &join(alloc, &[world, lines])?)?;
-    frames_in(alloc, &told)
+    let (_, reported) = run(alloc, &["replay"], &join(alloc, &[world, lines])?)?;
+    frames_in(alloc, &reported)
 }
 
 /// The ledger of one request and its signature.
@@ -72,8 +72,8 @@ fn audited(alloc: Global, ledger: &[u8]) -> Result<(u8, Vec<u8>), AllocError> {
     run(alloc, &["audit", "--identity", IDENTITY], ledger)
 }
 
-/// The front of a ledger.
-fn front(ledger: &[u8], len: usize) -> &[u8] {
+/// The prefix of a ledger.
+fn prefix(ledger: &[u8], len: usize) -> &[u8] {
     ledger.get(..len).unwrap_or(&[])
 }
 
@@ -97,18 +97,18 @@ fn audits_a_vote(rt: HostRuntime) -> Result<(), Fail> {
 }
 
 #[test]
-fn tells_whose_ledger_it_is(rt: HostRuntime) -> Result<(), Fail> {
+fn prints_whose_ledger_it_is(rt: HostRuntime) -> Result<(), Fail> {
     let alloc = rt.alloc();
     let ledger = signed_ledger(alloc)?;
     let (status, written) = run(alloc, &["audit", "--identity", OTHER_IDENTITY], &ledger)?;
-    let due = format!(in alloc; "fault foreign {IDENTITY}\n")?;
+    let output = format!(in alloc; "fault foreign {IDENTITY}\n")?;
     assert_eq!(rt; status, 1);
-    assert_eq!(rt; written.as_slice(), due.as_bytes());
+    assert_eq!(rt; written.as_slice(), output.as_bytes());
     Ok(())
 }
 
 #[test]
-fn tells_where_a_ledger_ends(rt: HostRuntime) -> Result<(), Fail> {
+fn prints_where_a_ledger_ends(rt: HostRuntime) -> Result<(), Fail> {
     let alloc = rt.alloc();
     let ledger = signed_ledger(alloc)?;
     let rows: [(usize, &str); 9] = [
@@ -122,15 +122,15 @@ fn tells_where_a_ledger_ends(rt: HostRuntime) -> Result<(), Fail> {
         (LAST_FRAME + 5, "fault seqno 4 rule 1\n"),
         (15591, "fault seqno 4 rule 1\n"),
     ];
-    for (len, due) in rows {
-        let (_, written) = audited(alloc, front(&ledger, len))?;
-        assert_eq!(rt; written.as_slice(), due.as_bytes(), "of {len} bytes");
+    for (len, output) in rows {
+        let (_, written) = audited(alloc, prefix(&ledger, len))?;
+        assert_eq!(rt; written.as_slice(), output.as_bytes(), "of {len} bytes");
     }
     Ok(())
 }
 
 #[test]
-fn tells_of_the_last_entry_twice(rt: HostRuntime) -> Result<(), Fail> {
+fn prints_of_the_last_entry_twice(rt: HostRuntime) -> Result<(), Fail> {
     let alloc = rt.alloc();
     let ledger = signed_ledger(alloc)?;
     let last = ledger.get(LAST_FRAME..).unwrap_or(&[]);
@@ -149,8 +149,8 @@ fn with_byte(alloc: Global, ledger: &[u8], at: usize, byte: u8) -> Result<Vec<u8
     Ok(changed)
 }
 
-/// A changed byte breaks this rule at this seqno. Each row breaks rules behind the one that is
-/// told, too, as the signature behind it no longer signs what stands there.
+/// A changed byte breaks this rule at this seqno. Each row breaks rules after the one that is
+/// reported, too, as the signature after it no longer signs what stands there.
 const CHANGED: [(usize, u8, u64, u8); 25] = [
     (10600, 0x02, 3, 1),
     (10700, 0x01, 4, 1),
@@ -180,14 +180,14 @@ const CHANGED: [(usize, u8, u64, u8); 25] = [
 ];
 
 #[test]
-fn tells_the_first_rule_that_is_broken(rt: HostRuntime) -> Result<(), Fail> {
+fn prints_the_first_rule_that_is_broken(rt: HostRuntime) -> Result<(), Fail> {
     let alloc = rt.alloc();
     let ledger = signed_ledger(alloc)?;
     for (at, byte, seqno, rule) in CHANGED {
         let (status, written) = audited(alloc, &with_byte(alloc, &ledger, at, byte)?)?;
-        let due = format!(in alloc; "fault seqno {seqno} rule {rule}\n")?;
+        let output = format!(in alloc; "fault seqno {seqno} rule {rule}\n")?;
         assert_eq!(rt; status, 1, "of {at}");
-        assert_eq!(rt; written.as_slice(), due.as_bytes(), "of {at}");
+        assert_eq!(rt; written.as_slice(), output.as_bytes(), "of {at}");
     }
     Ok(())
 }

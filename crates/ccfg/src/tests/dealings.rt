@@ -15,7 +15,7 @@ const DEALT: &str = "\
     9 0707070707070707070707070707070707070707070707070707070707070707\n";
 
 #[test]
-fn deals_a_secret_or_tells_why_not(rt: HostRuntime) -> Result<(), Fail> {
+fn deals_a_secret_or_prints_why_not(rt: HostRuntime) -> Result<(), Fail> {
     let bytes = [7; 65];
     let rows: [(&str, &str, usize, u8, &str); 6] = [
         ("1", "7", 64, 0, DEALT),
@@ -25,10 +25,10 @@ fn deals_a_secret_or_tells_why_not(rt: HostRuntime) -> Result<(), Fail> {
         ("3", "7", 63, 9, "fault Short 63\n"),
         ("3", "7", 65, 9, "fault Trailing 64\n"),
     ];
-    for (threshold, member, count, due, line) in rows {
+    for (threshold, member, count, output, line) in rows {
         let called = ["deal", "--threshold", threshold, member, "9"];
         let (status, written) = run(rt.alloc(), &called, &bytes[..count])?;
-        assert_eq!(rt; status, due, "of {threshold} {member} {count}");
+        assert_eq!(rt; status, output, "of {threshold} {member} {count}");
         assert_eq!(rt; written.as_slice(), line.as_bytes());
     }
     Ok(())

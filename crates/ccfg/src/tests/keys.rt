@@ -43,12 +43,12 @@ fn begins_a_key_of_each_kind(rt: HostRuntime) -> Result<(), Fail> {
         ("node", KeyKind::Node, NODE),
         ("member", KeyKind::Member, MEMBER),
     ];
-    for (word, kind, due) in rows {
+    for (word, kind, output) in rows {
         let mut source = SureSource::new(&SEED, 5);
         let mut sink = SureSink::new(alloc, 50);
         let begun = keygen(alloc, word, &mut source, &mut sink, SureDisk::new(alloc))?;
         assert_eq!(rt; begun.0, 0);
-        assert_eq!(rt; sink.held.as_slice(), due.as_bytes());
+        assert_eq!(rt; sink.held.as_slice(), output.as_bytes());
         assert_eq!(rt; begun.1.bytes.len(), 53);
 
         // It isn't begun a second time, and the source is left alone.
@@ -71,7 +71,7 @@ fn begins_a_key_of_each_kind(rt: HostRuntime) -> Result<(), Fail> {
 }
 
 #[test]
-fn tells_where_bytes_are_no_seed(rt: HostRuntime) -> Result<(), Fail> {
+fn prints_where_bytes_are_no_seed(rt: HostRuntime) -> Result<(), Fail> {
     let alloc = rt.alloc();
     let rows = [
         (0, "fault Short 0\n"),
@@ -80,12 +80,12 @@ fn tells_where_bytes_are_no_seed(rt: HostRuntime) -> Result<(), Fail> {
         (40, "fault Trailing 32\n"),
     ];
     let bytes = [7; 40];
-    for (count, due) in rows {
+    for (count, output) in rows {
         let mut source = SureSource::new(&bytes[..count], 7);
         let mut sink = SureSink::new(alloc, 50);
         let (status, disk) = keygen(alloc, "node", &mut source, &mut sink, SureDisk::new(alloc))?;
         assert_eq!(rt; status, 9);
-        assert_eq!(rt; sink.held.as_slice(), due.as_bytes());
+        assert_eq!(rt; sink.held.as_slice(), output.as_bytes());
         assert_eq!(rt; source.ended, count < 32);
         assert_eq!(rt; disk.calls.len(), 0);
     }
@@ -93,7 +93,7 @@ fn tells_where_bytes_are_no_seed(rt: HostRuntime) -> Result<(), Fail> {
 }
 
 #[test]
-fn tells_which_side_fails(rt: HostRuntime) -> Result<(), Fail> {
+fn prints_which_side_fails(rt: HostRuntime) -> Result<(), Fail> {
     let alloc = rt.alloc();
     let mut sink = SureSink::new(alloc, 50);
 

@@ -6,7 +6,7 @@ use std::test::Fail;
 const SEED: &str = "0000000000000000000000000000000000000000000000000000000000000000";
 
 #[test]
-fn tells_of_a_ledger_of_so_many_requests(rt: HostRuntime) -> Result<(), Fail> {
+fn prints_of_a_ledger_of_so_many_requests(rt: HostRuntime) -> Result<(), Fail> {
     let rows: [(&str, &str, &str); 2] = [
         (
             "0",
@@ -19,13 +19,13 @@ fn tells_of_a_ledger_of_so_many_requests(rt: HostRuntime) -> Result<(), Fail> {
             "\nlast 2.255\nroot ",
         ),
     ];
-    for (count, front, end) in rows {
+    for (count, prefix, end) in rows {
         let called = ["load", "--count", count, "--seed", SEED];
-        let (status, told) = run(rt.alloc(), &called, b"")?;
+        let (status, reported) = run(rt.alloc(), &called, b"")?;
         assert_eq!(rt; status, 0);
-        let told = str::from_utf8(&told)?;
-        assert!(rt; told.starts_with(front));
-        assert!(rt; told.contains(end));
+        let reported = str::from_utf8(&reported)?;
+        assert!(rt; reported.starts_with(prefix));
+        assert!(rt; reported.contains(end));
     }
     Ok(())
 }
@@ -33,8 +33,8 @@ fn tells_of_a_ledger_of_so_many_requests(rt: HostRuntime) -> Result<(), Fail> {
 #[test]
 fn refuses_more_requests_than_its_limit(rt: HostRuntime) -> Result<(), Fail> {
     let called = ["load", "--count", "100001", "--seed", SEED];
-    let (status, told) = run(rt.alloc(), &called, b"")?;
+    let (status, reported) = run(rt.alloc(), &called, b"")?;
     assert_eq!(rt; status, 8);
-    assert_eq!(rt; told.as_slice(), b"fault count 100000\n".as_slice());
+    assert_eq!(rt; reported.as_slice(), b"fault count 100000\n".as_slice());
     Ok(())
 }

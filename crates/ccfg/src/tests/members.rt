@@ -12,7 +12,7 @@ pub type Rows<'a> = &'a [(&'a str, &'a str)];
 fn add_rows(
     alloc: Global,
     text: &mut Vec<u8>,
-    due: &mut Vec<u8>,
+    output: &mut Vec<u8>,
     first: u8,
     rows: Rows<'_>,
 ) -> Result<(), AllocError> {
@@ -20,16 +20,21 @@ fn add_rows(
         text.extend_from_slice(line.as_bytes())?;
         text.push(b'\n')?;
         let number = i + usize::from(first);
-        due.extend_from_slice(format!(in alloc; "{number} {answer}\n")?.as_bytes())?;
+        output.extend_from_slice(format!(in alloc; "{number} {answer}\n")?.as_bytes())?;
     }
     Ok(())
 }
 
 /// The program answers this text so.
-pub fn answers(rt: &impl Abort, alloc: Global, text: &[u8], due: &[u8]) -> Result<(), AllocError> {
+pub fn answers(
+    rt: &impl Abort,
+    alloc: Global,
+    text: &[u8],
+    output: &[u8],
+) -> Result<(), AllocError> {
     let (status, written) = run(alloc, &["replay"], text)?;
     assert_eq!(rt; status, 0, "of {text:?}");
-    assert_eq!(rt; written.as_slice(), due);
+    assert_eq!(rt; written.as_slice(), output);
     Ok(())
 }
 
@@ -41,9 +46,9 @@ pub fn plays(
     rows: Rows<'_>,
 ) -> Result<(), AllocError> {
     let mut text = world(alloc, settings)?;
-    let mut due = Vec::from_slice(alloc, b"1 ok\n")?;
-    add_rows(alloc, &mut text, &mut due, 2, rows)?;
-    answers(rt, alloc, &text, &due)
+    let mut output = Vec::from_slice(alloc, b"1 ok\n")?;
+    add_rows(alloc, &mut text, &mut output, 2, rows)?;
+    answers(rt, alloc, &text, &output)
 }
 
 /// Five of eight members are active, and the rule is 1/2 for each action.
@@ -55,17 +60,17 @@ const FIVE_ACTIVE: [(&str, &str); 5] = [
     ("ack 1 5", "accepted 2.7"),
 ];
 
-/// Behind these lines.
+/// After these lines.
 fn plays_with_five_active(
     rt: &impl Abort,
     alloc: Global,
     rows: Rows<'_>,
 ) -> Result<(), AllocError> {
     let mut text = world(alloc, b"1 0 8 open")?;
-    let mut due = Vec::from_slice(alloc, b"1 ok\n")?;
-    add_rows(alloc, &mut text, &mut due, 2, &FIVE_ACTIVE)?;
-    add_rows(alloc, &mut text, &mut due, 7, rows)?;
-    answers(rt, alloc, &text, &due)
+    let mut output = Vec::from_slice(alloc, b"1 ok\n")?;
+    add_rows(alloc, &mut text, &mut output, 2, &FIVE_ACTIVE)?;
+    add_rows(alloc, &mut text, &mut output, 7, rows)?;
+    answers(rt, alloc, &text, &output)
 }
 
 /// Three of five are more than half of them, and so are two of four refusals too few.
@@ -175,7 +180,7 @@ fn opens_a_service(rt: HostRuntime) -> Result<(), Fail> {
     Ok(())
 }
 
-/// Of several numbers that name nothing the first is told, and no leaf is used.
+/// Of several numbers that name nothing the first is reported, and no leaf is used.
 #[test]
 fn refuses_numbers_that_name_nothing(rt: HostRuntime) -> Result<(), Fail> {
     let rows = [
@@ -213,18 +218,18 @@ fn refuses_numbers_that_name_nothing(rt: HostRuntime) -> Result<(), Fail> {
 fn signs_with_each_leaf_once(rt: HostRuntime) -> Result<(), Fail> {
     let alloc = rt.alloc();
     let mut text = world(alloc, b"1 0 1 open")?;
-    let mut due = Vec::from_slice(alloc, b"1 ok\n")?;
+    let mut output = Vec::from_slice(alloc, b"1 ok\n")?;
     for number in 2..34 {
         text.extend_from_slice(b"ack 1 1\n")?;
-        due.extend_from_slice(format!(in alloc;
+        output.extend_from_slice(format!(in alloc;
             "{number} accepted 2.{}\n",
             number + 1
         )?.as_bytes())?;
     }
     text.extend_from_slice(b"ack 1 1\nagain 1 34\n")?;
-    due.extend_from_slice(b"34 refused 113 32\n35 refused 0\n")?;
+    output.extend_from_slice(b"34 refused 113 32\n35 refused 0\n")?;
     let (status, written) = run(alloc, &["replay"], &text)?;
     assert_eq!(rt; status, 0);
-    assert_eq!(rt; written.as_slice(), due.as_slice());
+    assert_eq!(rt; written.as_slice(), output.as_slice());
     Ok(())
 }

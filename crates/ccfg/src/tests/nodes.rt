@@ -24,7 +24,7 @@ const ROLLBACK: [(&str, &str); 17] = [
     ("ids 1", "ids 2.1 2.2 3.3 3.4"),
 ];
 
-/// Messages that come again, behind that.
+/// Messages that come again, after that.
 const REPEATED: [(&str, &str); 5] = [
     ("deliver 3", "idle"),
     ("deliver 4", "ok sent 8"),
@@ -144,7 +144,7 @@ fn commits_its_own_view_alone(rt: HostRuntime) -> Result<(), Fail> {
     Ok(())
 }
 
-/// Two nodes leave and two come: what is signed behind that waits for a majority of the new ones.
+/// Two nodes leave and two come: what is signed after that waits for a majority of the new ones.
 const RECONFIGURED: Rows<'static> = &[
     ("ack 1 1", "accepted 2.3"),
     ("join 1 4", "accepted 2.4"),

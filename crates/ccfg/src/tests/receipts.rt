@@ -1,5 +1,5 @@
-//! Receipts that are verified. What is due for a changed one is what `examples/receipt/verify.py`
-//! prints for it.
+//! Receipts that are verified. The expected output for a changed one is what
+//! `examples/receipt/verify.py` prints for it.
 
 use crate::tests::{join, run, status_of, to_words};
 use gl_outside::{MemSink, MemSource, SureSink, SureSource};
@@ -91,15 +91,15 @@ fn verify_under(alloc: Global, identity: &str) -> Result<Vec<String>, AllocError
 
 /// The receipt with the first such piece changed.
 fn changed(alloc: Global, piece: &str, by: &str) -> Result<Vec<u8>, AllocError> {
-    let (front, rest) = RECEIPT.split_once(piece).unwrap_or(("no such piece", ""));
-    join(alloc, &[front.as_bytes(), by.as_bytes(), rest.as_bytes()])
+    let (prefix, rest) = RECEIPT.split_once(piece).unwrap_or(("no such piece", ""));
+    join(alloc, &[prefix.as_bytes(), by.as_bytes(), rest.as_bytes()])
 }
 
 /// The receipt with a number for its proof.
 fn without_proof(alloc: Global) -> Result<Vec<u8>, AllocError> {
-    let (front, rest) = RECEIPT.split_once("[").unwrap_or(("", ""));
+    let (prefix, rest) = RECEIPT.split_once("[").unwrap_or(("", ""));
     let (_, rest) = rest.split_once("]").unwrap_or(("", ""));
-    join(alloc, &[front.as_bytes(), b"3", rest.as_bytes()])
+    join(alloc, &[prefix.as_bytes(), b"3", rest.as_bytes()])
 }
 
 fn verified(alloc: Global, text: &[u8]) -> Result<(u8, Vec<u8>), AllocError> {
@@ -115,7 +115,7 @@ fn verifies_a_receipt(rt: HostRuntime) -> Result<(), Fail> {
 }
 
 #[test]
-fn tells_why_a_receipt_is_not_valid(rt: HostRuntime) -> Result<(), Fail> {
+fn prints_why_a_receipt_is_not_valid(rt: HostRuntime) -> Result<(), Fail> {
     let alloc = rt.alloc();
     let rows = [
         // One digit of the signature.
@@ -139,11 +139,11 @@ fn tells_why_a_receipt_is_not_valid(rt: HostRuntime) -> Result<(), Fail> {
         ),
         ("ce:2.3", "ce:2.4", "fault Evidence\n"),
     ];
-    for (piece, by, due) in rows {
+    for (piece, by, output) in rows {
         let text = changed(alloc, piece, by)?;
         let (status, written) = verified(alloc, &text)?;
         assert_eq!(rt; status, 1, "{piece} as {by}");
-        assert_eq!(rt; written.as_slice(), due.as_bytes());
+        assert_eq!(rt; written.as_slice(), output.as_bytes());
     }
     Ok(())
 }
@@ -159,7 +159,7 @@ fn verifies_under_one_key_alone(rt: HostRuntime) -> Result<(), Fail> {
 }
 
 #[test]
-fn tells_what_is_no_receipt(rt: HostRuntime) -> Result<(), Fail> {
+fn prints_what_is_no_receipt(rt: HostRuntime) -> Result<(), Fail> {
     let alloc = rt.alloc();
     let rows: [(Vec<u8>, &[u8]); 5] = [
         (without_proof(alloc)?, b"fault Shape /proof\n"),
@@ -171,28 +171,28 @@ fn tells_what_is_no_receipt(rt: HostRuntime) -> Result<(), Fail> {
         ),
         (Vec::new(alloc), b"fault NotJson\n"),
     ];
-    for (text, due) in &rows {
+    for (text, output) in &rows {
         let (status, written) = verified(alloc, text)?;
         assert_eq!(rt; status, 9);
-        assert_eq!(rt; written.as_slice(), *due);
+        assert_eq!(rt; written.as_slice(), *output);
     }
     Ok(())
 }
 
 #[test]
-fn tells_its_limit(rt: HostRuntime) -> Result<(), Fail> {
+fn prints_its_limit(rt: HostRuntime) -> Result<(), Fail> {
     let alloc = rt.alloc();
     let rows: [(usize, u8, &[u8]); 2] = [
         (1_048_576, 9, b"fault NotJson\n"),
         (1_048_577, 8, b"fault json 1048576\n"),
     ];
-    for (count, want, due) in rows {
+    for (count, want, output) in rows {
         let text = b" ".repeat(alloc, count)?;
         let mut source = SureSource::new(&text, 65536);
         let mut sink = SureSink::new(alloc, 50);
         let called = verify_under(alloc, IDENTITY)?;
         assert_eq!(rt; status_of(alloc, &called, &mut source, &mut sink), want);
-        assert_eq!(rt; sink.held.as_slice(), due);
+        assert_eq!(rt; sink.held.as_slice(), output);
     }
     Ok(())
 }
@@ -216,11 +216,11 @@ fn ends_with_3_where_a_read_fails(rt: HostRuntime) -> Result<(), Fail> {
 }
 
 #[test]
-fn ends_with_4_behind_what_was_written(rt: HostRuntime) -> Result<(), Fail> {
+fn ends_with_4_after_what_was_written(rt: HostRuntime) -> Result<(), Fail> {
     let alloc = rt.alloc();
     let called = verify_under(alloc, IDENTITY)?;
     let rows: [(u64, &[u8]); 2] = [(1, b""), (2, b"valid")];
-    for (at, due) in rows {
+    for (at, output) in rows {
         let failing = [at];
         let mut source = SureSource::new(RECEIPT.as_bytes(), 3000);
         let mut sink = MemSink::new(alloc, 5, &failing);
@@ -229,7 +229,7 @@ fn ends_with_4_behind_what_was_written(rt: HostRuntime) -> Result<(), Fail> {
             4,
             "at write {at}"
         );
-        assert_eq!(rt; sink.inner.held.as_slice(), due);
+        assert_eq!(rt; sink.inner.held.as_slice(), output);
     }
     Ok(())
 }

@@ -1,6 +1,6 @@
-//! Services that are founded anew with the keys of files on disks in memory.
+//! Services that are recovered with the keys of files on disks in memory.
 
-use crate::tests::signing::{begun, run_on};
+use crate::tests::signatures::{begun, run_on};
 use gl_outside::SureDisk;
 use std::test::Fail;
 
@@ -15,9 +15,9 @@ fn reads_the_settings_first(rt: HostRuntime) -> Result<(), Fail> {
         (b"\x02\x00\x00\x00{}", 9, b"fault Shape .\n"),
         (b"\x02\x00\x00\x00{]", 9, b"fault NotJson\n"),
     ];
-    for (text, due, line) in rows {
+    for (text, output, line) in rows {
         let (status, written, back) = run_on(alloc, &["recover"], text, disk)?;
-        assert_eq!(rt; status, due);
+        assert_eq!(rt; status, output);
         assert_eq!(rt; written.as_slice(), line);
         disk = back;
     }

@@ -134,7 +134,7 @@ fn changed_node(index: usize) -> (&'static str, usize) {
 fn add_change(
     alloc: Global,
     text: &mut Vec<u8>,
-    due: &mut Vec<u8>,
+    output: &mut Vec<u8>,
     index: usize,
 ) -> Result<(), AllocError>
     requires { index < 15 }
@@ -148,15 +148,15 @@ fn add_change(
     text.extend_from_slice(b"\"}]}\n")?;
     text.extend_from_slice(format!(in alloc; "ballot 1 1 {number} yes\n")?.as_bytes())?;
     let (line, seqno) = (12 + 2 * index, 13 + 2 * index);
-    let told = format!(in alloc; "{line} accepted 2.{seqno} proposal {number} Open\n")?;
-    due.extend_from_slice(told.as_bytes())?;
+    let reported = format!(in alloc; "{line} accepted 2.{seqno} proposal {number} Open\n")?;
+    output.extend_from_slice(reported.as_bytes())?;
     let (line, seqno) = (line + 1, seqno + 1);
-    let told = format!(in alloc; "{line} accepted 2.{seqno} proposal {number} Accepted\n")?;
-    due.extend_from_slice(told.as_bytes())?;
+    let reported = format!(in alloc; "{line} accepted 2.{seqno} proposal {number} Accepted\n")?;
+    output.extend_from_slice(reported.as_bytes())?;
     Ok(())
 }
 
-/// A sixteenth configuration behind commit, by two members, and a mark of its node.
+/// A sixteenth configuration after commit, by two members, and a mark of its node.
 const SIXTEENTH: &[u8] =
     b"ack 1 2\npropose 1 2 {\"actions\":[{\"args\":{\"node\":\"#4\"},\"name\":\"remove_node\"}]}\nballot 1 1 16 yes\nballot 1 2 16 yes\nmark 1 4\n";
 
@@ -164,16 +164,16 @@ const SIXTEENTH_TEXT: &[u8] =
     b"42 accepted 2.43\n43 accepted 2.44 proposal 16 Open\n44 accepted 2.45 proposal 16 Open\n45 accepted 2.46 proposal 16 Accepted\n46 refused 111 16\n";
 
 #[test]
-fn waits_behind_sixteen_configurations(rt: HostRuntime) -> Result<(), Fail> {
+fn waits_after_sixteen_configurations(rt: HostRuntime) -> Result<(), Fail> {
     let alloc = rt.alloc();
     let mut text = world(alloc, b"1 9 2 open")?;
-    let mut due = Vec::from_slice(alloc, JOINED_TEXT)?;
+    let mut output = Vec::from_slice(alloc, JOINED_TEXT)?;
     text.extend_from_slice(JOINED)?;
     for index in 0..15usize {
-        add_change(alloc, &mut text, &mut due, index)?;
+        add_change(alloc, &mut text, &mut output, index)?;
     }
     text.extend_from_slice(SIXTEENTH)?;
-    due.extend_from_slice(SIXTEENTH_TEXT)?;
-    answers(&rt, alloc, &text, &due)?;
+    output.extend_from_slice(SIXTEENTH_TEXT)?;
+    answers(&rt, alloc, &text, &output)?;
     Ok(())
 }

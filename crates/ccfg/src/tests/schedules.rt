@@ -1,4 +1,4 @@
-//! Schedules and the text that is due for them, worked out by hand.
+//! Schedules and the expected text for them, worked out by hand.
 
 use crate::tests::{join, one_open, run, status_of, to_words, world};
 use gl_outside::{MemSink, MemSource, SureSink, SureSource};
@@ -6,7 +6,7 @@ use std::alloc::{AllocError, Global};
 use std::process::Abort;
 use std::test::Fail;
 
-/// Lines behind a first one without their newlines, each with what is written for it.
+/// Lines after a first one without their newlines, each with what is written for it.
 const ROW: [(&[u8], &[u8]); 7] = [
     (b"submit 1 put public:t 61 01", b"2 accepted 2.3 done\n"),
     (b"status 1 2.3", b"3 Pending\n"),
@@ -17,14 +17,14 @@ const ROW: [(&[u8], &[u8]); 7] = [
     (b"ids 1", b"8 ids 2.1 2.2 2.3 2.4\n"),
 ];
 
-/// A first line of these settings, and the lines behind it.
+/// A first line of these settings, and the lines after it.
 fn schedule(alloc: Global, settings: &[u8], lines: &[u8]) -> Result<Vec<u8>, AllocError> {
     let mut text = world(alloc, settings)?;
     text.extend_from_slice(lines)?;
     Ok(text)
 }
 
-/// The line that tells the first bad line.
+/// The line that reports the first bad line.
 fn bad_line(alloc: Global, number: usize) -> Result<Vec<u8>, AllocError> {
     let text = format!(in alloc; "fault line {number}\n")?;
     Vec::from_slice(alloc, text.as_bytes())
@@ -62,13 +62,13 @@ fn run_over_failed_write(alloc: Global, text: &[u8], at: u64) -> Result<(u8, Vec
 /// The text of the row, and what is written for it.
 fn row(alloc: Global) -> Result<(Vec<u8>, Vec<u8>), AllocError> {
     let mut text = one_open(alloc)?;
-    let mut due = Vec::from_slice(alloc, b"1 ok\n")?;
+    let mut output = Vec::from_slice(alloc, b"1 ok\n")?;
     for (line, answer) in ROW {
         text.extend_from_slice(line)?;
         text.push(b'\n')?;
-        due.extend_from_slice(answer)?;
+        output.extend_from_slice(answer)?;
     }
-    Ok((text, due))
+    Ok((text, output))
 }
 
 #[test]
@@ -101,11 +101,11 @@ fn replays_schedules(rt: HostRuntime) -> Result<(), Fail> {
             b"1 ok\n2 refused 51 1\n3 refused 0\n",
         ),
     ];
-    for (settings, lines, due) in rows {
+    for (settings, lines, output) in rows {
         let text = schedule(alloc, settings, lines)?;
         let (status, written) = run(alloc, &["replay"], &text)?;
         assert_eq!(rt; status, 0, "of {text:?}");
-        assert_eq!(rt; written.as_slice(), due);
+        assert_eq!(rt; written.as_slice(), output);
     }
     Ok(())
 }
@@ -116,13 +116,13 @@ fn reserves_no_more_than_the_key_has(rt: HostRuntime) -> Result<(), Fail> {
     let reserves = b"reserve 1\n".repeat(alloc, 32)?;
     let text = schedule(alloc, b"1 0 1 open", &reserves)?;
     let (status, written) = run(alloc, &["replay"], &text)?;
-    let mut due = Vec::from_slice(alloc, b"1 ok\n")?;
+    let mut output = Vec::from_slice(alloc, b"1 ok\n")?;
     for number in 2..33 {
-        due.extend_from_slice(format!(in alloc; "{number} ok\n")?.as_bytes())?;
+        output.extend_from_slice(format!(in alloc; "{number} ok\n")?.as_bytes())?;
     }
-    due.extend_from_slice(b"33 refused 113 32\n")?;
+    output.extend_from_slice(b"33 refused 113 32\n")?;
     assert_eq!(rt; status, 0);
-    assert_eq!(rt; written.as_slice(), due.as_slice());
+    assert_eq!(rt; written.as_slice(), output.as_slice());
     Ok(())
 }
 
@@ -183,18 +183,18 @@ fn runs_each_operation(rt: HostRuntime) -> Result<(), Fail> {
         (b"ids 0", b"refused 0"),
     ];
     let mut text = one_open(alloc)?;
-    let mut due = Vec::from_slice(alloc, b"1 ok\n")?;
+    let mut output = Vec::from_slice(alloc, b"1 ok\n")?;
     for (i, (line, answer)) in rows.iter().enumerate() {
         text.extend_from_slice(line)?;
         text.push(b'\n')?;
         let number = format!(in alloc; "{} ", i + 2)?;
-        due.extend_from_slice(number.as_bytes())?;
-        due.extend_from_slice(answer)?;
-        due.push(b'\n')?;
+        output.extend_from_slice(number.as_bytes())?;
+        output.extend_from_slice(answer)?;
+        output.push(b'\n')?;
     }
     let (status, written) = run(alloc, &["replay"], &text)?;
     assert_eq!(rt; status, 0);
-    assert_eq!(rt; written.as_slice(), due.as_slice());
+    assert_eq!(rt; written.as_slice(), output.as_slice());
     Ok(())
 }
 
@@ -223,8 +223,9 @@ fn refuses_what_is_too_large(rt: HostRuntime) -> Result<(), Fail> {
     )?;
     let (status, written) = run(alloc, &["replay"], &text)?;
     assert_eq!(rt; status, 0);
-    let due: &[u8] = b"1 ok\n2 accepted 2.3 done\n3 refused 119 1114456\n4 refused 119 1048658\n";
-    assert_eq!(rt; written.as_slice(), due);
+    let output: &[u8] =
+        b"1 ok\n2 accepted 2.3 done\n3 refused 119 1114456\n4 refused 119 1048658\n";
+    assert_eq!(rt; written.as_slice(), output);
     Ok(())
 }
 
@@ -293,7 +294,7 @@ fn refuses_what_is_no_schedule(rt: HostRuntime) -> Result<(), Fail> {
     Ok(())
 }
 
-/// Adds the line with this number byte by byte. No front that ends within it is a schedule.
+/// Adds the line with this number byte by byte. No prefix that ends within it is a schedule.
 fn add_line(
     rt: &impl Abort,
     alloc: Global,
@@ -301,30 +302,30 @@ fn add_line(
     line: &[u8],
     number: usize,
 ) -> Result<(), AllocError> {
-    let due = bad_line(alloc, number)?;
+    let output = bad_line(alloc, number)?;
     for byte in line {
         text.push(*byte)?;
         let (status, written) = run(alloc, &["replay"], text)?;
         assert_eq!(rt; status, 9, "of {text:?}");
-        assert_eq!(rt; written.as_slice(), due.as_slice());
+        assert_eq!(rt; written.as_slice(), output.as_slice());
     }
     text.push(b'\n')?;
     Ok(())
 }
 
 #[test]
-fn replays_a_schedule_cut_at_a_line_and_refuses_each_other_front(
+fn replays_a_schedule_cut_at_a_line_and_refuses_each_other_prefix(
     rt: HostRuntime,
 ) -> Result<(), Fail> {
     let alloc = rt.alloc();
     let mut text = one_open(alloc)?;
-    let mut due = Vec::from_slice(alloc, b"1 ok\n")?;
+    let mut output = Vec::from_slice(alloc, b"1 ok\n")?;
     for (i, (line, answer)) in ROW.iter().enumerate() {
         add_line(&rt, alloc, &mut text, line, i + 2)?;
-        due.extend_from_slice(answer)?;
+        output.extend_from_slice(answer)?;
         let (status, written) = run(alloc, &["replay"], &text)?;
         assert_eq!(rt; status, 0, "of {text:?}");
-        assert_eq!(rt; written.as_slice(), due.as_slice());
+        assert_eq!(rt; written.as_slice(), output.as_slice());
     }
     Ok(())
 }
@@ -332,7 +333,7 @@ fn replays_a_schedule_cut_at_a_line_and_refuses_each_other_front(
 #[test]
 fn ends_with_3_and_writes_nothing_whichever_read_fails(rt: HostRuntime) -> Result<(), Fail> {
     let alloc = rt.alloc();
-    let (text, due) = row(alloc)?;
+    let (text, output) = row(alloc)?;
     let reads = text.len() as u64 + 1;
     for at in 1..=reads {
         let (status, written) = run_over_failed_read(alloc, &text, at)?;
@@ -341,24 +342,24 @@ fn ends_with_3_and_writes_nothing_whichever_read_fails(rt: HostRuntime) -> Resul
     }
     let (status, written) = run_over_failed_read(alloc, &text, reads + 1)?;
     assert_eq!(rt; status, 0);
-    assert_eq!(rt; written.as_slice(), due.as_slice());
+    assert_eq!(rt; written.as_slice(), output.as_slice());
     Ok(())
 }
 
 #[test]
-fn ends_with_4_behind_the_lines_before_the_failed_write(rt: HostRuntime) -> Result<(), Fail> {
+fn ends_with_4_after_the_lines_before_the_failed_write(rt: HostRuntime) -> Result<(), Fail> {
     let alloc = rt.alloc();
     let (text, whole) = row(alloc)?;
     let (status, written) = run_over_failed_write(alloc, &text, 1)?;
     assert_eq!(rt; status, 4);
     assert_eq!(rt; written.len(), 0);
-    let mut due = Vec::from_slice(alloc, b"1 ok\n")?;
+    let mut output = Vec::from_slice(alloc, b"1 ok\n")?;
     for (i, (_, answer)) in ROW.iter().enumerate() {
         let at = i as u64 + 2;
         let (status, written) = run_over_failed_write(alloc, &text, at)?;
         assert_eq!(rt; status, 4, "at write {at}");
-        assert_eq!(rt; written.as_slice(), due.as_slice());
-        due.extend_from_slice(answer)?;
+        assert_eq!(rt; written.as_slice(), output.as_slice());
+        output.extend_from_slice(answer)?;
     }
     let (status, written) = run_over_failed_write(alloc, &text, 9)?;
     assert_eq!(rt; status, 0);
@@ -368,7 +369,7 @@ fn ends_with_4_behind_the_lines_before_the_failed_write(rt: HostRuntime) -> Resu
 
 /// A fault's own line is a write too.
 #[test]
-fn ends_with_4_where_a_fault_cannot_be_told(rt: HostRuntime) -> Result<(), Fail> {
+fn ends_with_4_where_a_fault_cannot_be_printed(rt: HostRuntime) -> Result<(), Fail> {
     let (status, written) = run_over_failed_write(rt.alloc(), b"word\n", 1)?;
     assert_eq!(rt; status, 4);
     assert_eq!(rt; written.len(), 0);
@@ -376,7 +377,7 @@ fn ends_with_4_where_a_fault_cannot_be_told(rt: HostRuntime) -> Result<(), Fail>
 }
 
 #[test]
-fn tells_its_limits(rt: HostRuntime) -> Result<(), Fail> {
+fn prints_its_limits(rt: HostRuntime) -> Result<(), Fail> {
     let alloc = rt.alloc();
     let bytes: &[u8] = b"fault bytes 16777216\n";
     let lines: &[u8] = b"fault lines 100000\n";
@@ -387,11 +388,11 @@ fn tells_its_limits(rt: HostRuntime) -> Result<(), Fail> {
         (b'\n', 100_001, 8, lines),
         (b'\n', 100_000, 9, b"fault line 1\n"),
     ];
-    for (byte, count, want, due) in rows {
+    for (byte, count, want, output) in rows {
         let text = [byte].repeat(alloc, count)?;
         let (status, written) = run_in_large_pieces(alloc, &text)?;
         assert_eq!(rt; status, want, "of {count} bytes {byte}");
-        assert_eq!(rt; written.as_slice(), due);
+        assert_eq!(rt; written.as_slice(), output);
     }
     Ok(())
 }

@@ -1,8 +1,8 @@
-//! Words that ask for nothing, and the kind of fault that is told.
+//! Words that ask for nothing, and the kind of fault that is reported.
 
 use crate::tests::receipts::IDENTITY;
 use crate::tests::{one_open, run, status_of, to_words};
-use crate::{invocation_of, told_of_itself};
+use crate::{invocation_of, printed_of_itself};
 use gl_commands::HELP;
 use gl_outside::{MemSource, SureSink};
 use std::test::Fail;
@@ -18,7 +18,7 @@ const SHORT: &str = "\
     c0425d60a46a45eccedd059ce146";
 
 #[test]
-fn tells_one_kind_of_fault(rt: HostRuntime) -> Result<(), Fail> {
+fn prints_one_kind_of_fault(rt: HostRuntime) -> Result<(), Fail> {
     let alloc = rt.alloc();
     let rows: [(&[&str], &str); 46] = [
         (&[], "MissingSubcommand"),
@@ -98,9 +98,9 @@ fn tells_one_kind_of_fault(rt: HostRuntime) -> Result<(), Fail> {
     let text = one_open(alloc)?;
     for (called, kind) in rows {
         let (status, written) = run(alloc, called, &text)?;
-        let due = format!(in alloc; "fault {kind}\n")?;
+        let output = format!(in alloc; "fault {kind}\n")?;
         assert_eq!(rt; status, 2, "of {called:?}");
-        assert_eq!(rt; written.as_slice(), due.as_bytes(), "of {called:?}");
+        assert_eq!(rt; written.as_slice(), output.as_bytes(), "of {called:?}");
     }
     Ok(())
 }
@@ -117,13 +117,13 @@ fn leaves_the_source_unread(rt: HostRuntime) -> Result<(), Fail> {
 }
 
 #[test]
-fn tells_of_itself(rt: HostRuntime) -> Result<(), Fail> {
+fn prints_of_itself(rt: HostRuntime) -> Result<(), Fail> {
     let alloc = rt.alloc();
-    let help = told_of_itself(alloc, &to_words(alloc, &["--help"])?)?.ok_or("no help")?;
+    let help = printed_of_itself(alloc, &to_words(alloc, &["--help"])?)?.ok_or("no help")?;
     assert_eq!(rt; help.as_str(), HELP);
-    let version = told_of_itself(alloc, &to_words(alloc, &["--version"])?)?.ok_or("no version")?;
+    let version = printed_of_itself(alloc, &to_words(alloc, &["--version"])?)?.ok_or("no version")?;
     assert_eq!(rt; version.as_str(), "ccfg 0.1.0\n");
-    assert!(rt; told_of_itself(alloc, &to_words(alloc, &["--help", "replay"])?)?.is_none());
+    assert!(rt; printed_of_itself(alloc, &to_words(alloc, &["--help", "replay"])?)?.is_none());
     Ok(())
 }
 

@@ -62,7 +62,7 @@ fn is_signing(recording: &Recording) -> bool
     matches!(recording, Recording::Signature(_))
 }
 
-/// Whether a number is the one behind another.
+/// Whether a number is the one after another.
 fn follows(number: u64, last: u64) -> bool
     ensures { result ≡ (number == last + 1) }
 {
@@ -146,8 +146,8 @@ impl LedgerState {
     ghost use Rattle.gl_ledger.specs.Broken.{broken, broken_where, broken_by, broken_by_signature, broken_by_governance, broken_by_application, broken_by_fault, fault_of_signature, breach, is_next_view, is_in_order, is_above_removal, last_signed, may_record, signs_at};
     ghost use Rattle.gl_ledger.specs.NodeKeys.{service_layers};
 
-    /// The first rule of the audit that an entry breaks behind the ledger, if it breaks one. Fails
-    /// for want of memory alone.
+    /// The first rule of the audit that an entry breaks after the ledger, if it breaks one. Fails
+    /// only where memory runs out.
     pub fn broken(&mut self, entry: &Entry) -> Result<Option<Broken>, AllocError>
         requires state { IsState self.old }
         requires named { self.old.end.len ≤ last_seqno }
@@ -171,7 +171,7 @@ impl LedgerState {
 
     /// Whether the next signature may record this commit: the seqno of that signature itself, where
     /// it opens the service, or else the seqno of a signature that isn't below the commit that the
-    /// last one recorded, nor below the removal of a node that was marked behind that one.
+    /// last one recorded, nor below the removal of a node that was marked after that one.
     pub fn may_record(&self, commit: u64) -> bool
         ensures { ForLedgers self.now (λ ledger. result ≡ may_record ledger commit) }
     {
@@ -182,7 +182,7 @@ impl LedgerState {
         }
     }
 
-    /// Whether the commit isn't below the removal of a node that was marked behind the last
+    /// Whether the commit isn't below the removal of a node that was marked after the last
     /// signature.
     fn is_above_removals(&self, commit: u64) -> bool
         ensures { ForLedgers self.now (λ ledger.

@@ -54,8 +54,8 @@ impl LedgerState {
         ensures { ForLedgers self.now (λ ledger. result ≡ last_signed (take to ledger)) }
     {
         let count = count_up_to(&self.signatures, to);
-        let (front, _) = self.signatures.split_at(count);
-        last_or_zero(front)
+        let (prefix, _) = self.signatures.split_at(count);
+        last_or_zero(prefix)
     }
 
     /// Whether the entry with a seqno is a signature.

@@ -1,16 +1,16 @@
 //! Requests of governance that lines of a schedule send to a node.
 
 ghost use Rattle.std.specs.Prelude.{◌≡◌, ◌++◌, true, IfOk, OnOk};
-ghost use Rattle.gl_ledger.specs.declared.made.Unmade.{Unmade as Why};
+ghost use Rattle.gl_ledger.specs.declared.response.Rejection.{Rejection as Why};
 ghost use Rattle.gl_lines.specs.declared.line.Line.TheVariants as lines;
 ghost use Rattle.gl_replication.specs.Stands.{seen_outcome};
 ghost use Rattle.gl_world.specs.declared.settings.Settings.{Settings as Service};
 ghost use Rattle.gl_world.specs.Held.{has_node};
 ghost use Rattle.gl_schedule.specs.Governed.{governed_text, numbered_in, proposal_made, proposals_after, status_after};
-ghost use Rattle.gl_schedule.specs.Play.{Governs, Sends, Tells};
+ghost use Rattle.gl_schedule.specs.Play.{Governs, Prints, Sends};
 ghost use Rattle.gl_schedule.specs.Playing.{IsSent};
 ghost use Rattle.gl_schedule.specs.Text.{outcome_text};
-ghost use Rattle.gl_schedule.specs.Told.{effect_of};
+ghost use Rattle.gl_schedule.specs.Output.{effect_of};
 
 use super::Machine;
 use crate::line_request::{LineRequest, request_named};
@@ -18,7 +18,7 @@ use crate::numbers::node_number;
 use crate::outcome_text::{put_outcome, put_refusal};
 use crate::proposals::NumberedProposal;
 use crate::text::{put_proposal, put_sent, put_unnamed};
-use gl_ledger::Given;
+use gl_ledger::Response;
 use gl_replication::Outcome;
 use gl_requests::{Digest, GovernanceRequest, MemberAct};
 use gl_world::{Event, WorldNode, joining_node};
@@ -42,7 +42,7 @@ impl<N: WorldNode> Machine<N> {
     fn note_proposal(
         &mut self,
         request: &GovernanceRequest,
-        outcome: &Outcome<Given>,
+        outcome: &Outcome<Response>,
     ) -> Result<(), AllocError>
         requires { IsSent request.now }
         ensures { OnOk result (self.new ≡ record self.old {
@@ -62,12 +62,12 @@ impl<N: WorldNode> Machine<N> {
     }
 
     /// The proposal that a request concerns which had this outcome, with its number.
-    fn numbered(&self, outcome: &Outcome<Given>) -> Option<NumberedProposal>
+    fn numbered(&self, outcome: &Outcome<Response>) -> Option<NumberedProposal>
         ensures { result ≡ numbered_in self.now.proposals
             (status_after (seen_outcome {F = Why} outcome.now)) }
     {
         match outcome {
-            Outcome::Accepted(_, _, Given::Governed(Some(status))) => {
+            Outcome::Accepted(_, _, Response::Governed(Some(status))) => {
                 Some(self.proposals.numbered(status))
             }
             _ => None,
@@ -75,10 +75,10 @@ impl<N: WorldNode> Machine<N> {
     }
 
     /// Tells the outcome of a request that isn't refused, and the proposal that it concerns.
-    fn tell(
+    fn print(
         &mut self,
         request: &GovernanceRequest,
-        outcome: &Outcome<Given>,
+        outcome: &Outcome<Response>,
         out: &mut Vec<u8>,
     ) -> Result<(), AllocError>
         requires sent { IsSent request.now }
@@ -95,8 +95,8 @@ impl<N: WorldNode> Machine<N> {
         put_proposal(out, &self.numbered(outcome))
     }
 
-    /// A request of governance at a node, of which the outcome is told, and the proposal that it
-    /// concerns.
+    /// A request of governance at a node, of which the outcome is reported, and the proposal that
+    /// it concerns.
     fn govern(
         &mut self,
         node: u8,
@@ -113,7 +113,7 @@ impl<N: WorldNode> Machine<N> {
             request: request.copy(self.alloc)?,
         };
         match self.world.step(event) {
-            Ok(outcome) => self.tell(request, &outcome, out),
+            Ok(outcome) => self.print(request, &outcome, out),
             Err(why) => put_refusal(self.alloc, out, &self.ids, &why),
         }
     }
@@ -149,7 +149,7 @@ impl<N: WorldNode> Machine<N> {
         joiner: u128,
         out: &mut Vec<u8>,
     ) -> Result<(), AllocError>
-        ensures tells { OnOk result (Tells number (λ s t. effect_of s t (lines.Join node joiner))
+        ensures prints { OnOk result (Prints number (λ s t. effect_of s t (lines.Join node joiner))
             self.old self.new out.old.items out.new.items) }
     {
         let node = node_number(node);
@@ -172,7 +172,7 @@ impl<N: WorldNode> Machine<N> {
         marked: u128,
         out: &mut Vec<u8>,
     ) -> Result<(), AllocError>
-        ensures tells { OnOk result (Tells number (λ s t. effect_of s t (lines.Mark node marked))
+        ensures prints { OnOk result (Prints number (λ s t. effect_of s t (lines.Mark node marked))
             self.old self.new out.old.items out.new.items) }
     {
         let node = node_number(node);
@@ -195,7 +195,7 @@ impl<N: WorldNode> Machine<N> {
         line: u128,
         out: &mut Vec<u8>,
     ) -> Result<(), AllocError>
-        ensures tells { OnOk result (Tells number (λ s t. effect_of s t (lines.Again node line))
+        ensures prints { OnOk result (Prints number (λ s t. effect_of s t (lines.Again node line))
             self.old self.new out.old.items out.new.items) }
     {
         let node = node_number(node);

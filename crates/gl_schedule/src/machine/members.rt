@@ -7,8 +7,8 @@ ghost use Rattle.gl_requests.specs.Ranges.{is_act};
 ghost use Rattle.gl_requests.specs.declared.request.MemberAct.TheVariants as acts;
 ghost use Rattle.gl_world.specs.Founding.{id_of};
 ghost use Rattle.gl_world.specs.Held.{has_node};
-ghost use Rattle.gl_schedule.specs.Play.{Tells, asks};
-ghost use Rattle.gl_schedule.specs.Told.{at_member, at_node, effect_of, signs};
+ghost use Rattle.gl_schedule.specs.Play.{Prints, asks};
+ghost use Rattle.gl_schedule.specs.Output.{at_member, at_node, effect_of, signs};
 
 use super::Machine;
 use crate::numbers::{member_number, node_number};
@@ -48,7 +48,7 @@ impl<N: WorldNode> Machine<N> {
         requires here { has_node self.old.world node ≡ true }
         requires member { 1 ≤ member }
         requires act { is_act act ≡ true }
-        ensures tells { OnOk result (Tells number (λ s t. signs s t (id_of s node) member act)
+        ensures prints { OnOk result (Prints number (λ s t. signs s t (id_of s node) member act)
             self.old self.new out.old.items out.new.items) }
     {
         match self.members.sign(member, act) {
@@ -68,7 +68,7 @@ impl<N: WorldNode> Machine<N> {
         out: &mut Vec<u8>,
     ) -> Result<(), AllocError>
         requires act { is_act act ≡ true }
-        ensures tells { OnOk result (Tells number
+        ensures prints { OnOk result (Prints number
             (λ s t. at_node s node (λ x. at_member member (signs s t x member act)))
             self.old self.new out.old.items out.new.items) }
     {
@@ -92,7 +92,7 @@ impl<N: WorldNode> Machine<N> {
         out: &mut Vec<u8>,
     ) -> Result<(), AllocError>
         requires fit { IfSome actions.now AreProposed }
-        ensures tells { OnOk result (Tells number
+        ensures prints { OnOk result (Prints number
             (λ s t. effect_of s t (lines.Propose node member actions.now))
             self.old self.new out.old.items out.new.items) }
     {
@@ -115,7 +115,7 @@ impl<N: WorldNode> Machine<N> {
         agrees: bool,
         out: &mut Vec<u8>,
     ) -> Result<(), AllocError>
-        ensures tells { OnOk result (Tells number
+        ensures prints { OnOk result (Prints number
             (λ s t. effect_of s t (lines.Ballot node member proposal agrees))
             self.old self.new out.old.items out.new.items) }
     {
@@ -141,7 +141,7 @@ impl<N: WorldNode> Machine<N> {
         proposal: u128,
         out: &mut Vec<u8>,
     ) -> Result<(), AllocError>
-        ensures tells { OnOk result (Tells number
+        ensures prints { OnOk result (Prints number
             (λ s t. effect_of s t (lines.Withdraw node member proposal))
             self.old self.new out.old.items out.new.items) }
     {
@@ -167,7 +167,7 @@ impl<N: WorldNode> Machine<N> {
     ) -> Result<(), AllocError>
         requires fit { IsFit line.now }
         requires asks { asks line.now ≡ true }
-        ensures tells { OnOk result (Tells number (λ s t. effect_of s t line.now)
+        ensures prints { OnOk result (Prints number (λ s t. effect_of s t line.now)
             self.old self.new out.old.items out.new.items) }
     {
         match line {

@@ -2,8 +2,8 @@
 
 ghost use Rattle.gl_lines.specs.declared.line.Line.TheVariants as lines;
 ghost use Rattle.std.specs.Prelude.{◌≡◌, OnOk};
-ghost use Rattle.gl_schedule.specs.Play.{TellsAnywhere};
-ghost use Rattle.gl_schedule.specs.Told.{effect_of};
+ghost use Rattle.gl_schedule.specs.Play.{PrintsAnywhere};
+ghost use Rattle.gl_schedule.specs.Output.{effect_of};
 
 use super::Machine;
 use crate::numbers::node_number;
@@ -14,13 +14,13 @@ use std::alloc::AllocError;
 
 impl<N: WorldNode> Machine<N> {
     /// The status of a transaction at a node.
-    pub(super) fn tell_status(
+    pub(super) fn print_status(
         &self,
         node: u128,
         id: TxId,
         out: &mut Vec<u8>,
     ) -> Result<(), AllocError>
-        ensures tells { OnOk result (TellsAnywhere (λ s t. effect_of s t (lines.Status node id))
+        ensures prints { OnOk result (PrintsAnywhere (λ s t. effect_of s t (lines.Status node id))
             self.now self.now out.old.items out.new.items) }
     {
         let node = node_number(node);
@@ -31,13 +31,13 @@ impl<N: WorldNode> Machine<N> {
     }
 
     /// How far the retirement of another node has come, as a node sees it.
-    pub(super) fn tell_stage(
+    pub(super) fn print_stage(
         &self,
         node: u128,
         other: u128,
         out: &mut Vec<u8>,
     ) -> Result<(), AllocError>
-        ensures tells { OnOk result (TellsAnywhere (λ s t. effect_of s t (lines.Stage node other))
+        ensures prints { OnOk result (PrintsAnywhere (λ s t. effect_of s t (lines.Stage node other))
             self.now self.now out.old.items out.new.items) }
     {
         let node = node_number(node);
@@ -52,8 +52,8 @@ impl<N: WorldNode> Machine<N> {
     }
 
     /// The identifiers of a node's committed ledger.
-    pub(super) fn tell_ids(&self, node: u128, out: &mut Vec<u8>) -> Result<(), AllocError>
-        ensures tells { OnOk result (TellsAnywhere (λ s t. effect_of s t (lines.Ids node))
+    pub(super) fn print_ids(&self, node: u128, out: &mut Vec<u8>) -> Result<(), AllocError>
+        ensures prints { OnOk result (PrintsAnywhere (λ s t. effect_of s t (lines.Ids node))
             self.now self.now out.old.items out.new.items) }
     {
         let node = node_number(node);
@@ -64,8 +64,8 @@ impl<N: WorldNode> Machine<N> {
     }
 
     /// The entries of a node's log.
-    pub(super) fn tell_ledger(&self, node: u128, out: &mut Vec<u8>) -> Result<(), AllocError>
-        ensures tells { OnOk result (TellsAnywhere (λ s t. effect_of s t (lines.Ledger node))
+    pub(super) fn print_ledger(&self, node: u128, out: &mut Vec<u8>) -> Result<(), AllocError>
+        ensures prints { OnOk result (PrintsAnywhere (λ s t. effect_of s t (lines.Ledger node))
             self.now self.now out.old.items out.new.items) }
     {
         let node = node_number(node);

@@ -27,14 +27,14 @@ impl Store {
     ghost use Rattle.gl_ledger.specs.Ledger.{HasViewsUpTo, genesis_entry, governance_entry};
     ghost use Rattle.gl_ledger.specs.Recordings.{last_entry, requests_of};
     ghost use Rattle.gl_ledger.specs.Broken.{is_unopened};
-    ghost use Rattle.gl_ledger.specs.Makers.{governance_made, govern_result, status_behind};
+    ghost use Rattle.gl_ledger.specs.Makers.{governance_made, govern_result, status_after};
     ghost use Rattle.gl_store.specs.Calls.{Governs, Refuses};
 
     /// Takes a request of governance that founds no service, and makes its entry, in a view that
     /// isn't below that of any entry before. A genesis comes by `found`, a recovery by
-    /// `found_anew`. Gives the entry's identifier and what the request did. Refused, in this order,
-    /// for what it asks, where the entry's body has more than 1 MiB, and where no seqno is left.
-    /// Want of memory, too, leaves the store as it was.
+    /// `recover_service`. Gives the entry's identifier and what the request did. Refused, in this
+    /// order, for what it asks, where the entry's body has more than 1 MiB, and where no seqno is
+    /// left. Running out of memory, too, leaves the store as it was.
     pub fn govern(
         &mut self,
         view: u32,
@@ -53,7 +53,7 @@ impl Store {
         ensures proposal { IfOk result (λ made. made.1.proposal
             ≡ proposal_status (history (requests_of self.new.ledger)) request.now) }
         ensures status { IfOk result (λ made.
-            made.1.proposal ≡ status_behind self.old.ledger request.now) }
+            made.1.proposal ≡ status_after self.old.ledger request.now) }
         ensures shares { IfOk result (λ made.
             made.1.shares ≡ share_count (history (requests_of self.new.ledger))) }
         ensures refused { IfErr result (λ e.
@@ -66,7 +66,7 @@ impl Store {
         Ok((TxId { view, seqno }, effect))
     }
 
-    /// The entry that a request of governance makes behind the ledger in a view, and what the
+    /// The entry that a request of governance makes after the ledger in a view, and what the
     /// request does. The ledger stays without it. Refused as by `govern`.
     pub fn entry_of_governance(
         &mut self,
@@ -90,7 +90,7 @@ impl Store {
         ensures proposal { IfOk result (λ made. made.1.proposal ≡ proposal_status
             (history (requests_of (self.old.ledger ++ made.0 ∷ []))) request.now) }
         ensures status { IfOk result (λ made.
-            made.1.proposal ≡ status_behind self.old.ledger request.now) }
+            made.1.proposal ≡ status_after self.old.ledger request.now) }
         ensures shares { IfOk result (λ made. made.1.shares
             ≡ share_count (history (requests_of (self.old.ledger ++ made.0 ∷ [])))) }
         ensures refused { IfErr result (λ e.
@@ -111,7 +111,7 @@ impl Store {
         Ok((entry, effect))
     }
 
-    /// The entry of a request of governance behind the ledger, and what the request does. Refused
+    /// The entry of a request of governance after the ledger, and what the request does. Refused
     /// where the rules of governance refuse it.
     pub(super) fn governance_entry(
         &mut self,
@@ -134,7 +134,7 @@ impl Store {
         ensures proposal { IfOk result (λ made. made.1.proposal ≡ proposal_status
             (history (requests_of (self.old.ledger ++ made.0 ∷ []))) request.now) }
         ensures status { IfOk result (λ made.
-            made.1.proposal ≡ status_behind self.old.ledger request.now) }
+            made.1.proposal ≡ status_after self.old.ledger request.now) }
         ensures shares { IfOk result (λ made. made.1.shares
             ≡ share_count (history (requests_of (self.old.ledger ++ made.0 ∷ [])))) }
         ensures refused { IfErr result (λ e. steps.Refuses (refusal

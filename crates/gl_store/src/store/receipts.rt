@@ -1,7 +1,7 @@
 //! A store gives receipts of its committed transactions.
 
 use super::Store;
-use gl_audit::{SERVICE_KEY, SERVICE_MAP, key_behind};
+use gl_audit::{SERVICE_KEY, SERVICE_MAP, key_after};
 use gl_entry::Entry;
 use gl_merkle::Step;
 use gl_receipt::CommittedLedger;
@@ -24,7 +24,7 @@ impl Store {
         if self.state.tables.version_of(SERVICE_MAP, SERVICE_KEY) <= seqno {
             return self.state.identity;
         }
-        key_behind(&self.entries[..seqno as usize])
+        key_after(&self.entries[..seqno as usize])
     }
 }
 

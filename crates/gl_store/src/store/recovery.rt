@@ -1,4 +1,4 @@
-//! What founds the service of a store anew, after a disaster.
+//! What founds the service of a store again, after a disaster.
 
 ghost use Rattle.std.specs.Prelude.{◌≡◌, ◌+◌, ◌≤◌, ◌<◌, ◌^◌, [], ◌∷◌, ◌++◌, true, Ok, length, IfOk, IfErr, IfSome, IfNone, OnErr, OnOk};
 ghost use Rattle.std.specs.Option.{option_copied};
@@ -41,15 +41,15 @@ impl Store {
     ghost use Rattle.gl_ledger.specs.Recovery.{recovery_entry, recovery_result, recovery_view};
     ghost use Rattle.gl_store.specs.Calls.{Refuses};
 
-    /// Whether the ledger ends with a signature, so that its service may be founded anew behind it.
+    /// Whether the ledger ends with a signature, so that its service may be recovered after it.
     pub fn ends_with_signature(&self) -> bool
         ensures { result ≡ signs_at (last_entry self.now.ledger) }
     {
         is_signature(self.last_entry())
     }
 
-    /// The view in which the service may be founded anew, the one after that of the last entry.
-    /// `None` where no view is left.
+    /// The view in which the service may be recovered, the one after that of the last entry. `None`
+    /// where no view is left.
     pub fn recovery_view(&self) -> Option<u32>
         ensures some { IfSome result (λ view. view ≡ recovery_view self.now.ledger) }
         ensures none { IfNone result (2 ^ 32 ≤ recovery_view self.now.ledger) }
@@ -57,12 +57,11 @@ impl Store {
         next_view(self.last_entry())
     }
 
-    /// Founds the service anew, under another key and with other nodes: adds the entry of a
-    /// recovery behind a ledger that ends with a signature. The entry behind it has to be the
-    /// signature that opens the service again. Refused, in this order, for what the recovery asks,
-    /// and where the entry's body has more than 1 MiB. Want of memory, too, leaves the store as it
-    /// was.
-    pub fn found_anew(&mut self, recovery: Recovery) -> Result<(), OrNoMemory<Refusal>>
+    /// Recovers the service, under another key and with other nodes: adds the entry of a recovery
+    /// after a ledger that ends with a signature. The entry after it has to be the signature that
+    /// opens the service again. Refused, in this order, for what the recovery asks, and where the
+    /// entry's body has more than 1 MiB. Running out of memory, too, leaves the store as it was.
+    pub fn recover_service(&mut self, recovery: Recovery) -> Result<(), OrNoMemory<Refusal>>
         requires signed { signs_at (last_entry self.old.ledger) ≡ true }
         requires view { recovery_view self.old.ledger < 2 ^ 32 }
         requires left { length self.old.ledger + 2 ≤ last_seqno }
@@ -82,7 +81,7 @@ impl Store {
         Ok(())
     }
 
-    /// The entry of a recovery behind the ledger. Refused as by `found_anew`.
+    /// The entry of a recovery after the ledger. Refused as by `recover_service`.
     fn recovery_entry(&mut self, recovery: Recovery) -> Result<Entry, OrNoMemory<Refusal>>
         requires some { 0 < length self.old.ledger }
         requires view { recovery_view self.old.ledger < 2 ^ 32 }

@@ -18,14 +18,14 @@ impl Store {
     ghost use Rattle.gl_ledger.specs.ServiceRow.{service_state};
     ghost use Rattle.gl_ledger.specs.Recordings.{last_entry};
     ghost use Rattle.gl_ledger.specs.Broken.{is_unopened};
-    ghost use Rattle.gl_ledger.specs.declared.made.Given.TheVariants.{Replied};
+    ghost use Rattle.gl_ledger.specs.declared.response.Response.TheVariants.{Replied};
     ghost use Rattle.gl_ledger.specs.Makers.{request_result};
     ghost use Rattle.gl_store.specs.Calls.{Executes, Refuses};
 
     /// Runs a request and makes its entry, in a view that isn't below that of any entry before.
     /// Gives the entry's identifier and the reply. Refused, in this order, where the service isn't
     /// open, where an operation fails, where the entry's body or the reply has more than 1 MiB, and
-    /// where no seqno is left. Want of memory, too, leaves the store as it was.
+    /// where no seqno is left. Running out of memory, too, leaves the store as it was.
     pub fn execute(
         &mut self,
         view: u32,
@@ -46,7 +46,7 @@ impl Store {
         Ok((TxId { view, seqno }, reply))
     }
 
-    /// The entry that a request makes behind the ledger in a view, and the reply. The ledger stays
+    /// The entry that a request makes after the ledger in a view, and the reply. The ledger stays
     /// without it. Refused as by `execute`.
     pub fn entry_of_request(
         &self,
@@ -73,7 +73,7 @@ impl Store {
         request: &Request,
     ) -> Result<(Entry, Reply), OrNoMemory<Refusal>>
         requires is_open { service_state (tables_of self.now.ledger) ≡ ServiceState.Open }
-        requires spelled { is_request request.now ≡ true }
+        requires encoded { is_request request.now ≡ true }
         ensures made { IfOk result (λ made.
             request_result self.now.ledger view request.now ≡ Ok (made.0, Replied made.1)) }
         ensures fits { IfOk result (λ made. is_entry made.0 ≡ true) }

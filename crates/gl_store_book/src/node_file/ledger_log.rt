@@ -13,7 +13,7 @@ use gl_entry::Entry;
 use gl_journal::EntryLog;
 use std::alloc::{AllocError, Global};
 
-/// A valid ledger: each of its entries breaks no rule of the audit behind those before it. It takes
+/// A valid ledger: each of its entries breaks no rule of the audit after those before it. It takes
 /// no memory before its first entry.
 #[derive(Drop)]
 pub(crate) struct LedgerLog {
@@ -23,7 +23,7 @@ pub(crate) struct LedgerLog {
 /// The entry whose frame the bytes are, all of them.
 fn entry_of_frame(alloc: Global, frame: &[u8]) -> Result<Option<Entry>, AllocError>
     ensures value { IfOk result (λ entry. entry ≡ entry_of_frame frame.now) }
-    ensures spelled { IfOk result (λ entry.
+    ensures encoded { IfOk result (λ entry.
         IfSome entry (λ e. (is_entry e ≡ true) × (frame.now ≡ frame_bytes e))) }
 {
     match Entry::decode(alloc, frame) {

@@ -13,7 +13,7 @@ ghost use Rattle.gl_store_book.specs.AtOpening.{append_records, view_of_last, vo
 ghost use Rattle.gl_node.specs.Kept.{is_same_vote};
 ghost use Rattle.gl_store_book.specs.NodeFile.{node_of, seen_state};
 ghost use Rattle.gl_store_book.specs.ServiceStart.{service_start};
-ghost use Rattle.gl_store_book.specs.Turns.{IsTurnOf, turn_records};
+ghost use Rattle.gl_store_book.specs.ViewVotes.{IsViewVoteOf, view_vote_records};
 
 use crate::book_ledger::BookLedger;
 use crate::configurations::is_trusted;
@@ -101,33 +101,33 @@ pub(crate) fn vote_at_opening(
 
 /// A view and a vote, and whether one of them is another than the file's.
 #[derive(Clone, Copy, Debug)]
-pub struct Turn {
+pub struct ViewVote {
     pub view: u32,
     pub vote: Option<NodeId>,
     pub is_new: bool,
 }
 
-impl Turn {
+impl ViewVote {
     /// Those of a node once its service opens.
     pub(crate) fn at_opening(
         state: &Durable<LedgerLog>,
         me: &NodeId,
         opening: &OpeningLedger,
-    ) -> Turn
+    ) -> ViewVote
         requires { me.now ≡ node_of (seen_state state.now) }
-        ensures { IsTurnOf (service_start opening.now.ledger opening.now.first)
+        ensures { IsViewVoteOf (service_start opening.now.ledger opening.now.first)
             (seen_state state.now) result }
     {
         let view = state.view.max(opening_view(&opening.ledger));
         let vote = vote_at_opening(state, me, opening);
         let is_new = state.view != view || !is_same_vote(&state.vote, &vote);
-        Turn { view, vote, is_new }
+        ViewVote { view, vote, is_new }
     }
 
     /// How many bytes their record has, where one of them is new.
     #[tactic(auto, unfolding(gl_base::specs::LittleEndian::little_endian))]
     pub fn record_len(&self) -> u64
-        ensures len { result ≡ length (records_bytes (turn_records self.now)) }
+        ensures len { result ≡ length (records_bytes (view_vote_records self.now)) }
         ensures small { result ≤ 2 ^ 63 + 10 }
     {
         if !self.is_new {
@@ -142,7 +142,7 @@ impl Turn {
     /// Adds their record, where one of them is new.
     fn push_record(&self, records: &mut Vec<Record<'_>>) -> Result<(), AllocError>
         ensures { OnOk result (record_values records.new.items
-            ≡ record_values records.old.items ++ turn_records self.now) }
+            ≡ record_values records.old.items ++ view_vote_records self.now) }
     {
         if self.is_new {
             records.push(Record::Vote {
@@ -169,15 +169,15 @@ pub(crate) fn appends_len(entries: &[Entry]) -> u64
 }
 
 /// The first so many bytes.
-fn front(bytes: &[u8], len: usize) -> &[u8]
+fn prefix(bytes: &[u8], len: usize) -> &[u8]
     requires { len ≤ length bytes.now }
     ensures { result.now ≡ take len bytes.now }
 {
     &bytes[..len]
 }
 
-/// What stands behind so many bytes.
-pub(crate) fn behind(bytes: &[u8], len: usize) -> &[u8]
+/// What stands after so many bytes.
+pub(crate) fn suffix(bytes: &[u8], len: usize) -> &[u8]
     requires { len ≤ length bytes.now }
     ensures { result.now ≡ drop len bytes.now }
 {
@@ -185,17 +185,17 @@ pub(crate) fn behind(bytes: &[u8], len: usize) -> &[u8]
 }
 
 /// The record of a view and a vote, where one of them is new, and those of the entries whose frames
-/// the bytes are, one behind the other.
+/// the bytes are, one after the other.
 pub(crate) fn opening_records<'a>(
     alloc: Global,
-    turn: &Turn,
+    turn: &ViewVote,
     entries: &[Entry],
     bytes: &'a [u8],
 ) -> Result<Vec<Record<'a>>, AllocError>
     requires fit { AllByRecursion (λ e. is_entry e ≡ true) entries.now }
     requires frames { bytes.now ≡ flat_map frame_bytes entries.now }
     ensures { IfOk result (λ records.
-        record_values records.items ≡ turn_records turn.now ++ append_records entries.now) }
+        record_values records.items ≡ view_vote_records turn.now ++ append_records entries.now) }
 {
     let mut records = Vec::new(alloc);
     turn.push_record(&mut records)?;
@@ -203,9 +203,9 @@ pub(crate) fn opening_records<'a>(
     for entry in entries {
         let len = entry.frame_len() as usize;
         records.push(Record::Append {
-            frame: front(rest, len),
+            frame: prefix(rest, len),
         })?;
-        rest = behind(rest, len);
+        rest = suffix(rest, len);
     }
     Ok(records)
 }

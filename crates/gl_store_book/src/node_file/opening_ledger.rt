@@ -6,10 +6,10 @@ ghost use Rattle.gl_entry.specs.Entry.{frame_bytes};
 ghost use Rattle.gl_ledger.specs.Audit.{opened_where, signer_of};
 ghost use Rattle.gl_ledger.specs.Broken.{is_unopened};
 ghost use Rattle.gl_ledger.specs.Recordings.{last_entry};
-ghost use Rattle.gl_store_book.specs.ServiceStart.{IsNoStart, TakesFrame, service_start, start_behind, start_in};
+ghost use Rattle.gl_store_book.specs.ServiceStart.{IsNoStart, TakesFrame, service_start, start_after, start_in};
 
 use crate::book_ledger::BookLedger;
-use crate::node_file::opening_batch::behind;
+use crate::node_file::opening_batch::suffix;
 use gl_base::OrNoMemory;
 use gl_config::NodeId;
 use gl_entry::{Content, Entry};
@@ -23,7 +23,7 @@ pub(crate) struct OpeningLedger {
     pub(crate) first: NodeId,
 }
 
-/// Adds the entry whose frame bytes begin with, and tells how many bytes the frame has.
+/// Adds the entry whose frame bytes begin with, and reports how many bytes the frame has.
 fn take_frame(
     alloc: Global,
     ledger: &mut BookLedger,
@@ -31,7 +31,7 @@ fn take_frame(
 ) -> Result<usize, OrNoMemory<NotOpening>>
     requires some { 0 < length bytes.now }
     ensures taken { IfOk result (λ len. TakesFrame ledger.old bytes.now len ledger.new) }
-    ensures refused { IfErr result (IsNoStart (start_behind ledger.old bytes.now)) }
+    ensures refused { IfErr result (IsNoStart (start_after ledger.old bytes.now)) }
 {
     let fault = OrNoMemory::Fault(NotOpening {
         seqno: ledger.len() + 1,
@@ -48,10 +48,10 @@ fn take_frame(
     }
 }
 
-/// The ledger whose frames the bytes are, one behind the other, and whether a service begins with
+/// The ledger whose frames the bytes are, one after the other, and whether a service begins with
 /// the entry before its last.
 fn read_ledger(alloc: Global, bytes: &[u8]) -> Result<(BookLedger, bool), OrNoMemory<NotOpening>>
-    ensures start { IfOk result (λ read. start_in bytes.now ≡ start_behind read.0 []) }
+    ensures start { IfOk result (λ read. start_in bytes.now ≡ start_after read.0 []) }
     ensures frames { IfOk result (λ read. bytes.now ≡ flat_map frame_bytes read.0) }
     ensures begun { IfOk result (λ read.
         read.1 ≡ is_unopened (last_entry (take (length read.0 - 1) read.0))) }
@@ -63,7 +63,7 @@ fn read_ledger(alloc: Global, bytes: &[u8]) -> Result<(BookLedger, bool), OrNoMe
     while !rest.is_empty() {
         begun = ledger.store().is_unopened();
         let len = take_frame(alloc, &mut ledger, rest)?;
-        rest = behind(rest, len);
+        rest = suffix(rest, len);
     }
     Ok((ledger, begun))
 }
@@ -93,7 +93,7 @@ fn opened_by(begun: bool, signer: Option<NodeId>, seqno: u64) -> Result<NodeId, 
     }
 }
 
-/// The opening ledger whose frames the bytes are, one behind the other.
+/// The opening ledger whose frames the bytes are, one after the other.
 pub(crate) fn read_opening(
     alloc: Global,
     bytes: &[u8],

@@ -13,23 +13,23 @@ ghost use Rattle.gl_journal.specs.Durable.{leaf_count, OpensToOneOf};
 ghost use Rattle.gl_journal.specs.declared.fault.JournalFault.{JournalFault};
 ghost use Rattle.gl_ledger.specs.LedgerBook.{ledger_book};
 ghost use Rattle.gl_ledger.specs.NodeKeys.{NodeKeys, service_layers};
-ghost use Rattle.gl_replication.specs.Stands.{StandsFor, Tells, Turns};
+ghost use Rattle.gl_replication.specs.Stands.{Reports, StandsFor, Turns};
 ghost use Rattle.gl_store_book.specs.AtOpening.{leads_at_opening, node_at_opening, opened_state, opening_size, restarted_node};
 ghost use Rattle.gl_store_book.specs.Frames.{goes_on_ledger};
 ghost use Rattle.gl_store_book.specs.NodeFile.{key_of, node_of, opened, OpensOnlyTo, seen_state};
 ghost use Rattle.gl_store_book.specs.Replicas.{StandsForFile};
 ghost use Rattle.gl_store_book.specs.ServiceStart.{service_start, start_in};
 ghost use Rattle.gl_store_book.specs.Stands.{Stands};
-ghost use Rattle.gl_store_book.specs.Turns.{IsOfOpening, IsTooLarge, IsTurnOf};
+ghost use Rattle.gl_store_book.specs.ViewVotes.{IsOfOpening, IsTooLarge, IsViewVoteOf};
 ghost use Rattle.gl_store_book.specs.declared.node_file.fault.OpeningFault.{OpeningFault};
 
 use crate::book_ledger::BookLedger;
 use crate::node_file::NodeFile;
 use crate::node_file::fault::OpeningFault;
-use crate::node_file::keeping::keep_start;
 use crate::node_file::ledger_log::LedgerLog;
-use crate::node_file::opening_batch::{Turn, is_same};
+use crate::node_file::opening_batch::{ViewVote, is_same};
 use crate::node_file::opening_ledger::OpeningLedger;
+use crate::node_file::persist::keep_start;
 use crate::store_book::StoreBook;
 use gl_base::OrNoMemory;
 use gl_config::NodeId;
@@ -75,7 +75,7 @@ fn restarted(
     Core::reopened(alloc, book, seat.view, seat.vote, u64::from(seat.reserved))
 }
 
-/// The node leads, from behind its ledger on.
+/// The node leads, from the end of its ledger on.
 fn begin_leading(core: &mut Core<StoreBook>)
     ensures { Turns Stands (λ b n. become_leader n) core.old core.new }
 {
@@ -87,7 +87,7 @@ fn begin_leading(core: &mut Core<StoreBook>)
 
 /// The same node, which leads if it is to.
 fn leading_if(core: Core<StoreBook>, leads: bool) -> Core<StoreBook>
-    ensures { Tells Stands core (λ b x n. StandsFor Stands result b x (lead_if b leads n)) }
+    ensures { Reports Stands core (λ b x n. StandsFor Stands result b x (lead_if b leads n)) }
 {
     let mut core = core;
     if leads {
@@ -117,12 +117,12 @@ fn opened_core(
     me: NodeId,
     key: LmsKey,
     opening: OpeningLedger,
-    turn: Turn,
+    turn: ViewVote,
 ) -> Core<StoreBook>
     requires key { key ≡ key_of (seen_state state.now) }
     requires me { me ≡ node_of (seen_state state.now) }
     requires within { (seen_state state.now).reserved ≤ leaf_count (seen_state state.now) }
-    requires turn { IsTurnOf (service_start opening.ledger opening.first) (seen_state state.now)
+    requires turn { IsViewVoteOf (service_start opening.ledger opening.first) (seen_state state.now)
         turn }
     ensures { StandsForFile (seen_state state.now) result (λ b. node_at_opening b
         (service_start opening.ledger opening.first) (seen_state state.now)) }
@@ -139,7 +139,7 @@ fn opened_core(
 
 impl<D: Disk + Drop> NodeFile<D> {
     /// The node of the file, as a restart leaves it: a follower of what the file keeps. One whose
-    /// file keeps no ledger joins. Fails for want of memory alone, and gives the disk back.
+    /// file keeps no ledger joins. Fails only where memory runs out, and gives the disk back.
     pub fn reopen(self) -> Result<Replica<D, StoreBook>, (AllocError, D)>
         ensures stands { IfOk result (λ replica.
             StandsForFile self.state replica.core (λ b. restarted_node b self.state)) }
@@ -165,7 +165,7 @@ impl<D: Disk + Drop> NodeFile<D> {
         }
     }
 
-    /// The node of the file with the opening ledger whose frames the bytes are, one behind the
+    /// The node of the file with the opening ledger whose frames the bytes are, one after the
     /// other. The file has no ledger, and keeps the opening one as one batch. The ledger is
     /// committed at the signature that opens the service. The node leads that signed it, where the
     /// file tells the start of a service, no leaf was spent since, and it keeps no vote; each other

@@ -3,7 +3,7 @@
 ghost use Rattle.std.specs.Prelude.{◌≡◌, ◌<◌, ◌≤◌, true, map, max, length, vec_capacity, slice_get, Some, IfOk, IfErr, IfSome, OnErr};
 ghost use Rattle.gl_rules.specs.Identity.{same};
 ghost use Rattle.gl_election.specs.Bridge.{seen_message};
-ghost use Rattle.gl_replication.specs.Stands.{Tells};
+ghost use Rattle.gl_replication.specs.Stands.{Reports};
 ghost use Rattle.gl_world.specs.Held.{index_of, is_among, is_number, receiver_in};
 ghost use Rattle.gl_world.specs.Rules.{acting_node, most_sent};
 ghost use Rattle.gl_world.specs.Running.{Denies, Keeps, Moves, RunSome};
@@ -11,7 +11,7 @@ ghost use Rattle.gl_world.specs.Running.{Denies, Keeps, Moves, RunSome};
 use crate::event::Event;
 use crate::world_node::WorldNode;
 use gl_entry::NodeId;
-use gl_ledger::Given;
+use gl_ledger::Response;
 use gl_messages::Message;
 use gl_replication::{Book, Core, Outcome, Refusal};
 
@@ -51,7 +51,7 @@ fn index_of(ids: &[NodeId], node: &NodeId) -> Option<usize>
 /// How many messages the next event at a node sends at most: one, or one to each node that its log
 /// records up to its last signature.
 fn most_sent<B: Book>(core: &Core<B>) -> usize
-    ensures { Tells B.stands core.now (λ b x n. result ≡ most_sent b n) }
+    ensures { Reports B.stands core.now (λ b x n. result ≡ most_sent b n) }
 {
     let signed = core.book.last_signature();
     core.book.recorded_nodes(signed.seqno).len().max(1)
@@ -119,9 +119,12 @@ impl<N: WorldNode> Nodes<N> {
         }
     }
 
-    /// What an event brings about at its node, whose messages are put behind those that were sent.
+    /// What an event brings about at its node, whose messages are put after those that were sent.
     /// Room for them is taken first.
-    pub(crate) fn happen(&mut self, event: &Event) -> Result<Outcome<Given>, Refusal<N::Book>>
+    pub(crate) fn apply_event(
+        &mut self,
+        event: &Event,
+    ) -> Result<Outcome<Response>, Refusal<N::Book>>
         requires running { RunSome N.stands self.old }
         requires among { is_among self.old.ids.items (map seen_message self.old.sent.items)
             event.now ≡ true }
@@ -135,7 +138,7 @@ impl<N: WorldNode> Nodes<N> {
         if self.sent.reserve(most).is_err() {
             return Err(Refusal::NoMemory);
         }
-        match self.nodes[index].happen(&self.ids, &self.sent, event) {
+        match self.nodes[index].apply_event(&self.ids, &self.sent, event) {
             Err(why) => Err(why),
             Ok(done) => {
                 let mut sent = done.sent.into_vec();

@@ -13,7 +13,7 @@ use crate::settings::Settings;
 use crate::world::nodes::Nodes;
 use crate::world_node::WorldNode;
 use gl_entry::NodeId;
-use gl_ledger::{Given, Reads, Unmade};
+use gl_ledger::{Reads, Rejection, Response};
 use gl_replication::{Book, Core};
 use gl_requests::GovernanceRequest;
 use gl_tx::Request;
@@ -25,8 +25,8 @@ fn leader_at_start<
         Request = Request,
         Gov = GovernanceRequest,
         Reads = Reads,
-        Given = Given,
-        Refused = Unmade,
+        Response = Response,
+        Refused = Rejection,
     >,
 >(alloc: Global, settings: &Settings, book: B) -> Core<B>
     requires group { IsGroup settings.now }
@@ -46,8 +46,8 @@ pub fn core_at_start<
         Request = Request,
         Gov = GovernanceRequest,
         Reads = Reads,
-        Given = Given,
-        Refused = Unmade,
+        Response = Response,
+        Refused = Rejection,
     >,
 >(alloc: Global, settings: &Settings, first: NodeId, number: u8, book: B) -> Core<B>
     requires group { IsGroup settings.now }

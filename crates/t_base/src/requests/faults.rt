@@ -1,4 +1,4 @@
-//! The first fault of bytes that spell no request, with places worked out by hand.
+//! The first fault of bytes that encode no request, with places worked out by hand.
 
 use super::spelled::{all_actions, genesis, runs};
 use gl_base::{CodeFault, CutFault, OrNoMemory};
@@ -24,7 +24,7 @@ fn too_long(at: usize) -> CodeFault {
 }
 
 #[test]
-fn tells_values_that_are_not_allowed(rt: HostRuntime) -> Result<(), Fail> {
+fn reports_values_that_are_not_allowed(rt: HostRuntime) -> Result<(), Fail> {
     let alloc = rt.alloc();
     let faults: [(&[(u8, usize)], usize); 10] = [
         // A tag, a state, and the number of a member.
@@ -49,7 +49,7 @@ fn tells_values_that_are_not_allowed(rt: HostRuntime) -> Result<(), Fail> {
 }
 
 #[test]
-fn tells_lengths_that_do_not_fit(rt: HostRuntime) -> Result<(), Fail> {
+fn reports_lengths_that_do_not_fit(rt: HostRuntime) -> Result<(), Fail> {
     let alloc = rt.alloc();
     let faults: [(&[(u8, usize)], CodeFault); 6] = [
         (&[], short(0)),
@@ -62,7 +62,7 @@ fn tells_lengths_that_do_not_fit(rt: HostRuntime) -> Result<(), Fail> {
             too_long(57),
         ),
         (&[(5, 1), (1, 2), (0, 1), (16, 1), (0, 1)], too_long(2)),
-        // A byte behind a mark.
+        // A byte after a mark.
         (&[(4, 1), (11, 33)], CodeFault::Trailing { at: 33 }),
     ];
     for (bytes, fault) in &faults {

@@ -100,11 +100,11 @@ const SIGNATURE: &str = "\
     556958e37e0aff373ba0b49a0b09ccc5d7b904ab39254de54baff8f880d9dc220d704facbbe156971398a52f84\
     fb35210a68ae0d0cfaf6ac876bda0945f1aa0ee8e9d3ff0ebf3c6345211aeda2ccb0";
 
-// What stands behind it there.
+// What stands after it there.
 const ZEROS: &str = "\
     000000000000000000000000000000000000000000000000000000000000000000000000";
 
-// The frames of the entries behind it.
+// The frames of the entries after it.
 const LAST: [&str; 2] = [
     "\
         0100360000000000030000000700000000000000020100000005000000005b77685668c18b178c138484e095ba\
@@ -116,7 +116,7 @@ const LAST: [&str; 2] = [
         000000",
 ];
 
-// The receipt of the third, up to its signature, and what stands behind that.
+// The receipt of the third, up to its signature, and what stands after that.
 const RECEIPT: &str = "\
     {\"leaf_components\":{\"claims_digest\":\"433f2f37a40aa0beaeaa405b0f47f9e77b48b495464f5983\
     7c9569a9a7c2321f\",\"commit_evidence\":\"ce:2.3:ff50704a693277c84c5c8e3447b55a39e7885fd0e8\

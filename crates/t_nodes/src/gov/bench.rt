@@ -17,7 +17,7 @@ use std::test::Fail;
 
 /// What came of a request.
 #[derive(Clone, Copy, Debug, PartialEq, Eq)]
-pub enum Told {
+pub enum Outcome {
     /// An action that can't be, by its place from 1 on. A founding counts as the action 0.
     Bad(u64, Cause),
     Refused(GovernanceRefusal),
@@ -27,10 +27,10 @@ pub enum Told {
     Finished(Result<(), FinishFault>),
 }
 
-fn told_of(why: GovernanceRefusal) -> Told {
+fn outcome_of(why: GovernanceRefusal) -> Outcome {
     match why {
-        GovernanceRefusal::BadAction { index, cause } => Told::Bad(index, cause),
-        other => Told::Refused(other),
+        GovernanceRefusal::BadAction { index, cause } => Outcome::Bad(index, cause),
+        other => Outcome::Refused(other),
     }
 }
 
@@ -58,7 +58,7 @@ pub enum Act<'a> {
 pub enum Meant {
     P,
     Q,
-    Unmade,
+    Rejection,
 }
 
 /// What the service is asked for, by the numbers of members and nodes.
@@ -69,7 +69,7 @@ pub enum Ask<'a> {
     /// One whose nodes the service's key with a number endorses. Each member is a number and that
     /// of its key.
     FoundBy(u8, &'a [u8], &'a [(u8, u8)], Dealt<'a>),
-    /// The service anew, with its second key.
+    /// The service again, with its second key.
     Recover(&'a [u8]),
     /// A node, which the service's key with the second number endorses.
     Join(u8, u8),
@@ -94,13 +94,13 @@ pub enum Ask<'a> {
 }
 
 /// A request, and what is to come of it.
-pub type Row<'a> = (Ask<'a>, Told);
+pub type Row<'a> = (Ask<'a>, Outcome);
 
 /// Asks for one thing after the other, and compares what comes of each.
 pub fn play(rt: &impl Abort, bench: &mut Bench, rows: &[Row<'_>]) -> Result<(), Fail> {
     for (place, (ask, due)) in rows.iter().enumerate() {
-        let told = bench.ask(*ask)?;
-        assert_eq!(rt; told, *due, "row {place}");
+        let reported = bench.ask(*ask)?;
+        assert_eq!(rt; reported, *due, "row {place}");
     }
     Ok(())
 }
@@ -159,7 +159,7 @@ fn put_dealing(out: &mut Vec<u8>, dealt: Dealt<'_>, digest: [u8; 32]) -> Result<
     Ok(())
 }
 
-fn rows_of(alloc: Global, state: &GovState) -> Result<Told, Fail> {
+fn rows_of(alloc: Global, state: &GovState) -> Result<Outcome, Fail> {
     let rows = state.rows()?;
     let mut bytes = Vec::new(alloc);
     for row in rows.as_slice() {
@@ -171,7 +171,7 @@ fn rows_of(alloc: Global, state: &GovState) -> Result<Told, Fail> {
     let digest = Sha256::digest(&bytes);
     let mut first = [0; 8];
     first.copy_from_slice(&digest[..8]);
-    Ok(Told::Rows(u64::from_be_bytes(first)))
+    Ok(Outcome::Rows(u64::from_be_bytes(first)))
 }
 
 // The seqno of the next request: there is a signature at 2.
@@ -192,7 +192,7 @@ fn record(
     state: &GovState,
     seqno: u64,
     request: &GovernanceRequest,
-) -> Result<Told, Fail>
+) -> Result<Outcome, Fail>
     requires above { IsAbove seqno state.now }
     requires founding { is_founding request.now ≡ is_nothing state.now }
     requires fits { is_request request.now ≡ true }
@@ -203,12 +203,12 @@ fn record(
             copy.record(seqno, request.copy(alloc)?)?;
             rows_of(alloc, &copy)
         }
-        Err(OrNoMemory::Fault(why)) => Ok(told_of(why)),
+        Err(OrNoMemory::Fault(why)) => Ok(outcome_of(why)),
         Err(OrNoMemory::NoMemory) => Err(Fail::from("out of memory")),
     }
 }
 
-fn step(alloc: Global, state: &mut GovState, request: &GovernanceRequest) -> Result<Told, Fail>
+fn step(alloc: Global, state: &mut GovState, request: &GovernanceRequest) -> Result<Outcome, Fail>
     requires { is_request request.now ≡ true }
 {
     let seqno = next_seqno(state)?;
@@ -216,15 +216,15 @@ fn step(alloc: Global, state: &mut GovState, request: &GovernanceRequest) -> Res
         return Err(Fail::from("another request than a genesis at first, or one later"));
     }
     let known = record(alloc, state, seqno, request)?;
-    let told = match state.step(seqno, request) {
+    let reported = match state.step(seqno, request) {
         Ok(_) => rows_of(alloc, state)?,
-        Err(OrNoMemory::Fault(why)) => told_of(why),
+        Err(OrNoMemory::Fault(why)) => outcome_of(why),
         Err(OrNoMemory::NoMemory) => return Err(Fail::from("out of memory")),
     };
-    if told != known {
+    if reported != known {
         return Err(Fail::from("a record differs from a step"));
     }
-    Ok(told)
+    Ok(reported)
 }
 
 // The keys of the numbers from 1 on, each from a seed.
@@ -368,15 +368,15 @@ impl Bench {
         Ok(())
     }
 
-    // Takes the request that these bytes spell.
-    fn take(&mut self, bytes: Vec<u8>) -> Result<Told, Fail> {
+    // Takes the request that these bytes encode.
+    fn take(&mut self, bytes: Vec<u8>) -> Result<Outcome, Fail> {
         let request = GovernanceRequest::decode(self.alloc, &bytes)?;
         self.last = bytes;
         step(self.alloc, &mut self.state, &request)
     }
 
     // Takes the last request once more.
-    fn again(&mut self) -> Result<Told, Fail> {
+    fn again(&mut self) -> Result<Outcome, Fail> {
         let bytes = Vec::from_slice(self.alloc, &self.last)?;
         self.take(bytes)
     }
@@ -386,7 +386,7 @@ impl Bench {
     }
 
     /// What the rows are now.
-    pub fn rows(&self) -> Result<Told, Fail> {
+    pub fn rows(&self) -> Result<Outcome, Fail> {
         rows_of(self.alloc, &self.state)
     }
 
@@ -396,7 +396,7 @@ impl Bench {
         nodes: &[u8],
         members: &[(u8, u8)],
         dealt: Dealt<'_>,
-    ) -> Result<Told, Fail> {
+    ) -> Result<Outcome, Fail> {
         let mut bytes = Vec::from_slice(self.alloc, &[1, 1])?;
         bytes.extend_from_slice(&self.identity()?)?;
         self.put_nodes(&mut bytes, endorser, nodes)?;
@@ -409,7 +409,7 @@ impl Bench {
         self.take(bytes)
     }
 
-    fn found(&mut self, nodes: &[u8], members: &[u8], dealt: Dealt<'_>) -> Result<Told, Fail> {
+    fn found(&mut self, nodes: &[u8], members: &[u8], dealt: Dealt<'_>) -> Result<Outcome, Fail> {
         let mut pairs = Vec::new(self.alloc);
         for member in members {
             pairs.push((*member, *member))?;
@@ -417,24 +417,24 @@ impl Bench {
         self.found_by(1, nodes, &pairs, dealt)
     }
 
-    fn recover(&mut self, nodes: &[u8]) -> Result<Told, Fail> {
+    fn recover(&mut self, nodes: &[u8]) -> Result<Outcome, Fail> {
         let mut bytes = Vec::from_slice(self.alloc, &[2])?;
         bytes.extend_from_slice(&self.service_key(2)?.hss_public(Levels::Two))?;
         self.put_nodes(&mut bytes, 2, nodes)?;
-        let told = self.take(bytes)?;
-        if let Told::Rows(_) = told {
+        let reported = self.take(bytes)?;
+        if let Outcome::Rows(_) = reported {
             self.service = 2;
         }
-        Ok(told)
+        Ok(reported)
     }
 
-    fn join(&mut self, node: u8, service: u8) -> Result<Told, Fail> {
+    fn join(&mut self, node: u8, service: u8) -> Result<Outcome, Fail> {
         let mut bytes = Vec::from_slice(self.alloc, &[3])?;
         self.put_node(&mut bytes, service, node)?;
         self.take(bytes)
     }
 
-    fn mark(&mut self, node: u8) -> Result<Told, Fail> {
+    fn mark(&mut self, node: u8) -> Result<Outcome, Fail> {
         let mut bytes = Vec::from_slice(self.alloc, &[4])?;
         bytes.extend_from_slice(&self.node_id(node)?)?;
         self.take(bytes)
@@ -449,7 +449,7 @@ impl Bench {
     }
 
     // A request that begins so, signed by the next leaf of a member's key.
-    fn ask_by(&mut self, signer: u8, request: Vec<u8>) -> Result<Told, Fail> {
+    fn ask_by(&mut self, signer: u8, request: Vec<u8>) -> Result<Outcome, Fail> {
         let message = self.message(&request)?;
         let signer = self.members.get_mut(place(signer)).ok_or("no such signer")?;
         signer.reserve()?;
@@ -459,12 +459,12 @@ impl Bench {
         self.take(bytes)
     }
 
-    fn ack_by(&mut self, signer: u8, member: u8) -> Result<Told, Fail> {
+    fn ack_by(&mut self, signer: u8, member: u8) -> Result<Outcome, Fail> {
         let request = Vec::from_slice(self.alloc, &[5, member])?;
         self.ask_by(signer, request)
     }
 
-    fn propose(&mut self, member: u8, actions: &[Act<'_>]) -> Result<Told, Fail> {
+    fn propose(&mut self, member: u8, actions: &[Act<'_>]) -> Result<Outcome, Fail> {
         let mut request = Vec::from_slice(self.alloc, &[6, member])?;
         put_length(&mut request, 1, actions.len())?;
         for action in actions {
@@ -473,20 +473,20 @@ impl Bench {
         self.ask_by(member, request)
     }
 
-    fn ballot(&mut self, member: u8, meant: Meant, agrees: u8) -> Result<Told, Fail> {
+    fn ballot(&mut self, member: u8, meant: Meant, agrees: u8) -> Result<Outcome, Fail> {
         let mut request = Vec::from_slice(self.alloc, &[7, member])?;
         request.extend_from_slice(&self.id(meant))?;
         request.push(agrees)?;
         self.ask_by(member, request)
     }
 
-    fn withdraw(&mut self, member: u8, meant: Meant) -> Result<Told, Fail> {
+    fn withdraw(&mut self, member: u8, meant: Meant) -> Result<Outcome, Fail> {
         let mut request = Vec::from_slice(self.alloc, &[8, member])?;
         request.extend_from_slice(&self.id(meant))?;
         self.ask_by(member, request)
     }
 
-    fn give(&mut self, member: u8, holder: u8) -> Result<Told, Fail> {
+    fn give(&mut self, member: u8, holder: u8) -> Result<Outcome, Fail> {
         let mut request = Vec::from_slice(self.alloc, &[9, member])?;
         request.extend_from_slice(&share(holder))?;
         self.ask_by(member, request)
@@ -497,12 +497,12 @@ impl Bench {
         match meant {
             Meant::P => self.p,
             Meant::Q => self.q,
-            Meant::Unmade => [0; 32],
+            Meant::Rejection => [0; 32],
         }
     }
 
     /// Asks for something, and tells what comes of it.
-    pub fn ask(&mut self, ask: Ask<'_>) -> Result<Told, Fail> {
+    pub fn ask(&mut self, ask: Ask<'_>) -> Result<Outcome, Fail> {
         match ask {
             Ask::Found(nodes, members, dealt) => self.found(nodes, members, dealt),
             Ask::FoundBy(endorser, nodes, members, dealt) => {
@@ -512,13 +512,13 @@ impl Bench {
             Ask::Join(node, service) => self.join(node, service),
             Ask::Mark(node) => self.mark(node),
             Ask::Again => self.again(),
-            Ask::Finish => Ok(Told::Finished(finish(&self.state))),
+            Ask::Finish => Ok(Outcome::Finished(finish(&self.state))),
             other => self.ask_as_member(other),
         }
     }
 
     // What a member asks for. Others ask for the rest.
-    fn ask_as_member(&mut self, ask: Ask<'_>) -> Result<Told, Fail> {
+    fn ask_as_member(&mut self, ask: Ask<'_>) -> Result<Outcome, Fail> {
         match ask {
             Ask::Ack(member) => self.ack_by(member, member),
             Ask::AckBy(signer, member) => self.ack_by(signer, member),
@@ -531,20 +531,20 @@ impl Bench {
     }
 
     // What a member proposes.
-    fn ask_by_proposal(&mut self, ask: Ask<'_>) -> Result<Told, Fail> {
+    fn ask_by_proposal(&mut self, ask: Ask<'_>) -> Result<Outcome, Fail> {
         let (member, actions) = match ask {
             Ask::Propose(member, actions)
             | Ask::ProposeP(member, actions)
             | Ask::ProposeQ(member, actions) => (member, actions),
             _ => return Err(Fail::from("no proposal")),
         };
-        let told = self.propose(member, actions)?;
+        let reported = self.propose(member, actions)?;
         let id = Sha256::digest(&self.last);
         match ask {
             Ask::ProposeP(_, _) => self.p = id,
             Ask::ProposeQ(_, _) => self.q = id,
             _ => {}
         }
-        Ok(told)
+        Ok(reported)
     }
 }

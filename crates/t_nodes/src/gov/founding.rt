@@ -1,8 +1,8 @@
 //! The founding of a service, and the first words of its members.
 
 use super::bench::Ask::{Ack, AckBy, Again, Found, FoundBy, Propose};
-use super::bench::Told::{Bad, Refused, Rows};
-use super::bench::{Act, Bench, Row, Told, play};
+use super::bench::Outcome::{Bad, Refused, Rows};
+use super::bench::{Act, Bench, Outcome, Row, play};
 use gl_gov_rules::{Cause, GovernanceRefusal};
 use std::process::Abort;
 use std::test::Fail;
@@ -66,16 +66,16 @@ const WRONG: [Row<'static>; 6] = [
 ];
 
 #[test]
-fn tells_what_is_wrong_with_a_founding(rt: HostRuntime) -> Result<(), Fail> {
+fn reports_what_is_wrong_with_a_founding(rt: HostRuntime) -> Result<(), Fail> {
     let mut bench = Bench::new(rt.alloc(), 2, 2, 2)?;
     play(&rt, &mut bench, &WRONG)?;
-    let told = bench.ask(Found(&[1, 2], &[1, 2], (1, &[1])))?;
-    assert!(rt; matches!(told, Rows(_)));
+    let reported = bench.ask(Found(&[1, 2], &[1, 2], (1, &[1])))?;
+    assert!(rt; matches!(reported, Rows(_)));
     Ok(())
 }
 
 // A service with so many members, of whom one holds a share.
-fn found_with(bench: &mut Bench, count: u8) -> Result<Told, Fail> {
+fn found_with(bench: &mut Bench, count: u8) -> Result<Outcome, Fail> {
     let members: Vec<u8> = (1..=count).collect(bench.alloc())?;
     bench.ask(Found(&[1], &members, (1, &[1])))
 }

@@ -1,9 +1,9 @@
 //! Proposals of members, and their ballots.
 
 use super::bench::Ask::{Ack, Again, No, Propose, ProposeP, ProposeQ, Withdraw, Yes};
-use super::bench::Meant::{P, Q, Unmade};
-use super::bench::Told::{Bad, Refused, Rows};
-use super::bench::{Act, Bench, Row, Told, play};
+use super::bench::Meant::{P, Q, Rejection};
+use super::bench::Outcome::{Bad, Refused, Rows};
+use super::bench::{Act, Bench, Outcome, Row, play};
 use super::founding;
 use gl_gov_rules::{Cause, GovernanceRefusal, ProposalState};
 use std::process::Abort;
@@ -50,7 +50,7 @@ pub const OPEN: [Row<'static>; 6] = [
     (Yes(3, P), ACCEPTED),
 ];
 
-const ACCEPTED: Told = Rows(0x5884b8226dfd9b9e);
+const ACCEPTED: Outcome = Rows(0x5884b8226dfd9b9e);
 
 /// What comes too late.
 pub const COME_LATE: [Row<'static>; 3] = [
@@ -60,7 +60,7 @@ pub const COME_LATE: [Row<'static>; 3] = [
             state: ProposalState::Accepted,
         }),
     ),
-    (Yes(4, Unmade), Refused(GovernanceRefusal::NoProposal)),
+    (Yes(4, Rejection), Refused(GovernanceRefusal::NoProposal)),
     (Propose(1, &[Act::Open]), Bad(1, Cause::NotOpening)),
 ];
 

@@ -2,12 +2,12 @@
 
 use super::bench::Ask::{Join, Mark, Propose, ProposeP, ProposeQ, Yes};
 use super::bench::Meant::{P, Q};
-use super::bench::Told::{Bad, Refused, Rows};
-use super::bench::{Act, Row, Told};
+use super::bench::Outcome::{Bad, Refused, Rows};
+use super::bench::{Act, Outcome, Row};
 use gl_gov_rules::{Cause, GovernanceRefusal, NodeStatus, ProposalState};
 
 // A node that waits to be trusted.
-const PENDING: Told = Refused(GovernanceRefusal::NodeState {
+const PENDING: Outcome = Refused(GovernanceRefusal::NodeState {
     status: Some(NodeStatus::Pending),
 });
 

@@ -1,9 +1,9 @@
-//! A service that is founded anew, and the shares that its members give. The digests are by
-//! Python's hashlib.
+//! A service that is recovered, and the shares that its members give. The digests are by Python's
+//! hashlib.
 
 use super::bench::Ask::{Finish, Give, ProposeP, Recover, Yes};
 use super::bench::Meant::P;
-use super::bench::Told::{Bad, Finished, Refused, Rows};
+use super::bench::Outcome::{Bad, Finished, Refused, Rows};
 use super::bench::{Act, Bench, Row};
 use gl_audit::ShareCount;
 use gl_gov_rules::{Cause, GovernanceRefusal, MemberStatus, NodeStatus, ProposalState, Vote};
@@ -30,7 +30,7 @@ const ANOTHER: [u8; 32] = [
     0x73, 0xae, 0x79, 0xc6, 0xdf, 0xf8, 0x4e, 0xff, 0x73, 0x36, 0x09, 0x89, 0x48, 0x7f, 0x08, 0xe5,
 ];
 
-/// What is asked before the service is founded anew, and that.
+/// What is asked before the service is recovered, and that.
 pub const RECOVER: [Row<'static>; 7] = [
     (
         Finish,

@@ -1,7 +1,7 @@
 use Rattle.std.proofs.Common.{◌<◌, arith}
 use Rattle.std.proofs.lemmas.Bool.Decides.{nat_tests}
-use Rattle.ccfg.specs.Owed.{requests_limit}
-use Rattle.ccfg.proofs.DueLemmas.{refused_load}
+use Rattle.ccfg.specs.ExpectedOutput.{requests_limit}
+use Rattle.ccfg.proofs.ExpectedOutputLaws.{refused_load}
 use Rattle.ccfg.proofs.load.run_load.Goals as goal
 
 pub returns-then-task-from : goal.returns-then-task-from

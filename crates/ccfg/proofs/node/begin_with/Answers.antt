@@ -16,13 +16,13 @@ pub returns-in-Err-clause-refused : goal.returns-in-Err-clause-refused
 returns-in-Err-clause-refused g c fault back e =
     let some : c.args.given.now ≢ [] = search rules in
     let is : c.stop_of.result ≡ _ = search (rules, e) in
-    let told = c.stop_of.ensures.refused fault is in
+    let printed = c.stop_of.ensures.refused fault is in
     let ends = c.in-Err.ensures in
     refused_with c.args.file.state c.args.given.now fault c.requires.none some
-    (ends.only fault c.in-Err.disk (search (rules, told.0)))
-    told.1
-    (λ seqno eq. ends.not_opening seqno c.in-Err.disk (search (rules, told.0, eq)))
-    (λ size eq. ends.too_large size c.in-Err.disk (search (rules, told.0, eq)))
+    (ends.only fault c.in-Err.disk (search (rules, printed.0)))
+    printed.1
+    (λ seqno eq. ends.not_opening seqno c.in-Err.disk (search (rules, printed.0, eq)))
+    (λ size eq. ends.too_large size c.in-Err.disk (search (rules, printed.0, eq)))
 
 pub returns-in-Err-clause-untouched : goal.returns-in-Err-clause-untouched
 returns-in-Err-clause-untouched g c honest why back e other =

@@ -1,6 +1,6 @@
 use Rattle.std.proofs.Common.{◌≡◌, ◌≢◌, inl, inr, ⊎_elim, Result, Ok, Err, arith, refl, rules, sym, ap, ◌∙◌}
 use Rattle.gl_base.specs.declared.or_no_memory.OrNoMemory.TheVariants as stops
-use Rattle.gl_entry.specs.Given.{OfBytes}
+use Rattle.gl_entry.specs.SourceBytes.{OfBytes}
 use Rattle.gl_journal.specs.Durable.{Durable}
 use Rattle.gl_journal.specs.declared.fault.JournalFault.{JournalFault}
 use Rattle.gl_journal.specs.declared.fault.JournalFault.TheVariants.{DiskFault}
@@ -8,7 +8,7 @@ use Rattle.gl_journal.specs.declared.key.KeyKind.{KeyKind}
 use Rattle.gl_journal.specs.declared.key.KeyKind.TheVariants as kinds
 use Rattle.gl_store_book.specs.declared.node_file.fault.OpeningFault.TheVariants as faults
 use Rattle.ccfg.specs.Nodes.{beginning_of}
-use Rattle.ccfg.specs.declared.node.NodeStop.TheVariants as NodeStop
+use Rattle.ccfg.specs.declared.node.NodeError.TheVariants as NodeError
 use Rattle.ccfg.proofs.Beginnings.{of_honest, begins_of, by_bytes, by_opened, any_bytes, ledger_or_end, ok_map, of_kind, other_kind}
 use Rattle.ccfg.proofs.NodeMoments.{later_moments, opened_moments}
 use Rattle.ccfg.proofs.node.open.Goals as goal
@@ -28,16 +28,16 @@ returns-in-Ok-clause-refused g c fault back e =
 
 pub returns-in-Err-clause-refused : goal.returns-in-Err-clause-refused
 returns-in-Err-clause-refused g c fault back e =
-    let is : c.stop_of.result ≡ NodeStop.Refused fault = search (rules, e) in
-    let told = c.stop_of.ensures.refused fault is in
+    let is : c.stop_of.result ≡ NodeError.Refused fault = search (rules, e) in
+    let printed = c.stop_of.ensures.refused fault is in
     let ends = c.in-Err.ensures in
-    let error_is : c.in-Err.error ≡ stops.Fault fault = told.0 in
+    let error_is : c.in-Err.error ≡ stops.Fault fault = printed.0 in
     let held = g.D.Disk.bytes c.args.disk in
     let left = g.S.Source.left c.args.source.now in
     let Q : Result Durable JournalFault → Type 0 = λ opens. OfBytes left (λ given. beginning_of opens given ≡ Err fault) in
     ⊎_elim
     (λ (h : (why : JournalFault) × (fault ≡ faults.Journal why)).
-    let other : h.0 ≢ DiskFault = λ w. told.1 (h.1 ∙ ap faults.Journal w) in
+    let other : h.0 ≢ DiskFault = λ w. printed.1 (h.1 ∙ ap faults.Journal w) in
     by_opened g.D.Disk.honest held (Err h.0) Q
     (λ honest. ends.damaged honest h.0 c.in-Err.disk (search (rules, error_is, h.1)) other)
     (any_bytes left (λ given. ap Err (sym h.1))))

@@ -6,32 +6,32 @@ use Rattle.ccfg.proofs.node.run_node.Goals as goal
 pub returns-in-Ok-clause-runs : goal.returns-in-Ok-clause-runs
 returns-in-Ok-clause-runs g c =
     let h = c.serve_replica-end.ensures in
-    let told = c.tell_end.ensures in
-    serves_so g.D.Disk.honest g.D.Disk.bytes g.D.Disk.past g.D.Disk.faults g.L.Link.honest c.args.task.now _ c.serve_replica-end.result.0 c.tell_end.result
+    let printed = c.print_end.ensures in
+    serves_so g.D.Disk.honest g.D.Disk.bytes g.D.Disk.past g.D.Disk.faults g.L.Link.honest c.args.task.now _ c.serve_replica-end.result.0 c.print_end.result
     (record { settings = _; asked = (c.as_slice.ensures, refl, refl); first = c.in-Ok.replica; begins = c.in-Ok.ensures.begins; last = h.serves.0; course = h.serves.2; disk = h.serves.1 })
     c.in-Ok.ensures.ended
     h.ended
     h.turns
     h.failed
     (λ is. rw c.in-Ok.ensures.quiet at (h.disk_failed is))
-    told.counts
-    told.turns
-    (λ is. let t = told.link_failed is in (t.0, keeps_same _ _ (ap g.K.Sink.holds t.1)))
-    (λ is. let t = told.stopped is in (t.0, keeps_same _ _ (ap g.K.Sink.holds t.1)))
-    (λ is. let t = told.memory is in (t.0, keeps_same _ _ (ap g.K.Sink.holds t.1)))
+    printed.counts
+    printed.turns
+    (λ is. let t = printed.link_failed is in (t.0, keeps_same _ _ (ap g.K.Sink.holds t.1)))
+    (λ is. let t = printed.stopped is in (t.0, keeps_same _ _ (ap g.K.Sink.holds t.1)))
+    (λ is. let t = printed.memory is in (t.0, keeps_same _ _ (ap g.K.Sink.holds t.1)))
 
 pub returns-in-Err-clause-runs : goal.returns-in-Err-clause-runs
 returns-in-Err-clause-runs g c =
     let h = c.in-Err.ensures in
-    let told = c.tell_stop.ensures in
-    stops_so g.D.Disk.honest g.D.Disk.bytes g.D.Disk.past g.D.Disk.faults g.L.Link.honest c.args.task.now _ c.in-Err.stop c.tell_stop.result refl
+    let printed = c.print_stop.ensures in
+    stops_so g.D.Disk.honest g.D.Disk.bytes g.D.Disk.past g.D.Disk.faults g.L.Link.honest c.args.task.now _ c.in-Err.stop c.print_stop.result refl
     (λ fault is. h.refused fault c.in-Err.disk (search (rules, is)))
     (λ is. h.source_failed c.in-Err.disk (search (rules, is)))
     (λ is. h.disk_failed c.in-Err.disk (search (rules, is)))
-    told.refused
-    (λ is. let t = told.source_failed is in (t.0, keeps_same _ _ (ap g.K.Sink.holds t.1)))
-    (λ is. let t = told.disk_failed is in (t.0, keeps_same _ _ (ap g.K.Sink.holds t.1)))
-    (λ is. let t = told.memory is in (t.0, keeps_same _ _ (ap g.K.Sink.holds t.1)))
+    printed.refused
+    (λ is. let t = printed.source_failed is in (t.0, keeps_same _ _ (ap g.K.Sink.holds t.1)))
+    (λ is. let t = printed.disk_failed is in (t.0, keeps_same _ _ (ap g.K.Sink.holds t.1)))
+    (λ is. let t = printed.memory is in (t.0, keeps_same _ _ (ap g.K.Sink.holds t.1)))
 
 pub returns-in-Ok-clause-any_moment : goal.returns-in-Ok-clause-any_moment
 returns-in-Ok-clause-any_moment g c honest gate =

@@ -1,13 +1,13 @@
 use Rattle.std.proofs.Common.{Err, ap, ◌∙◌, inr, refl, rules}
 use Rattle.ccfg.specs.Faults.{fault_line}
 use Rattle.ccfg.specs.declared.fault.Fault.TheVariants.{TooMuchJson}
-use Rattle.ccfg.proofs.DueLemmas.{due_runs, kept, spent, spent_or_refused, stop_runs}
+use Rattle.ccfg.proofs.ExpectedOutputLaws.{kept, output_runs, spent, spent_or_refused, stop_runs}
 use Rattle.ccfg.proofs.program.execute.Goals as goal
 
 pub returns-in-Ok-clause-runs : goal.returns-in-Ok-clause-runs
 returns-in-Ok-clause-runs g c =
     let h = c.read_plan-plan.ensures in
-    due_runs _ _ _ c.in-Ok.plan (rw c.in-Ok.is at h.due) (rw c.in-Ok.is at h.ended) c.carry_out.ensures
+    output_runs _ _ _ c.in-Ok.plan (rw c.in-Ok.is at h.output) (rw c.in-Ok.is at h.ended) c.carry_out.ensures
 
 pub returns-in-Ok-clause-kept : goal.returns-in-Ok-clause-kept
 returns-in-Ok-clause-kept g c = λ done honest kind types asks.

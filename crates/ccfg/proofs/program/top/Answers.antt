@@ -1,6 +1,6 @@
 use Rattle.std.proofs.Common.{sym, ap, ◌∙◌}
-use Rattle.gl_schedule.proofs.HeadlineLemmas.{keeps_headline, tells_moments}
-use Rattle.ccfg.specs.Owed.{asks_beyond, task_of}
+use Rattle.gl_schedule.proofs.HeadlineLemmas.{keeps_headline, prints_moments}
+use Rattle.ccfg.specs.ExpectedOutput.{asks_beyond, task_of}
 use Rattle.ccfg.proofs.PromiseLemmas as ends
 use Rattle.ccfg.proofs.program.top.Goals as goal
 
@@ -8,7 +8,7 @@ pub returns-clause-headline : goal.returns-clause-headline
 returns-clause-headline g c given = keeps_headline given
 
 pub returns-clause-moments : goal.returns-clause-moments
-returns-clause-moments g c given = tells_moments given
+returns-clause-moments g c given = prints_moments given
 
 pub returns-clause-done : goal.returns-clause-done
 returns-clause-done g c none is =
@@ -48,8 +48,8 @@ returns-clause-disk_failed g c none is =
     let r = ends.disk_failed _ c.run-ending.result.0 _ (c.run-ending.ensures.answers none) (λ other. (c.run-ending.ensures.disk none (λ task e. other task (ap task_of e))).1) (sym c.status.ensures ∙ is) in
     (r.0, ends.is_task _ r.0 r.1, r.2, r.3, r.4)
 
-pub returns-clause-front : goal.returns-clause-front
-returns-clause-front g c = rw c.status.ensures (λ is task e. ends.front _ c.run-ending.result.0 _ (c.run-ending.ensures.answers (ap asks_beyond e)) is task (ap task_of e))
+pub returns-clause-prefix : goal.returns-clause-prefix
+returns-clause-prefix g c = rw c.status.ensures (λ is task e. ends.prefix _ c.run-ending.result.0 _ (c.run-ending.ensures.answers (ap asks_beyond e)) is task (ap task_of e))
 
 pub returns-clause-other_words : goal.returns-clause-other_words
 returns-clause-other_words g c = rw c.status.ensures (λ kinds e. ends.other_words _ c.run-ending.result.0 _ (c.run-ending.ensures.answers (ap asks_beyond e)) kinds (ap task_of e))
@@ -82,7 +82,7 @@ pub returns-clause-signed : goal.returns-clause-signed
 returns-clause-signed g c is = c.run-ending.ensures.signed (ends.status_done c.run-ending.result.0 (sym c.status.ensures ∙ is))
 
 pub returns-clause-spent : goal.returns-clause-spent
-returns-clause-spent g c honest = rw c.status.ensures (λ is. c.run-ending.ensures.spent honest (ends.telling c.run-ending.result.0 is))
+returns-clause-spent g c honest = rw c.status.ensures (λ is. c.run-ending.ensures.spent honest (ends.reporting c.run-ending.result.0 is))
 
 pub returns-clause-unspent : goal.returns-clause-unspent
 returns-clause-unspent g c honest = rw c.status.ensures (λ is. c.run-ending.ensures.unspent honest (ends.unsigned c.run-ending.result.0 is))

@@ -1,5 +1,5 @@
 use Rattle.std.proofs.Common.{◌∙◌, ap}
-use Rattle.gl_requests.specs.Reading.{request_in}
+use Rattle.gl_requests.specs.Parsing.{request_in}
 use Rattle.gl_audit.proofs.Beginnings.{begins_where}
 use Rattle.gl_audit.proofs.ledger_end.begins.Goals as goal
 

@@ -2,7 +2,7 @@ use Rattle.gl_ledger.specs.NodeKeys.{service_layers}
 use Rattle.gl_receipt.specs.Receipt.{root_of}
 use Rattle.gl_audit.proofs.Binding.{bound}
 use Rattle.gl_audit.proofs.OfService.{valid_of_service}
-use Rattle.gl_audit.proofs.Spellings.{same_roots}
+use Rattle.gl_audit.proofs.UniqueEncodings.{same_roots}
 use Rattle.gl_audit.proofs.receipt_laws.law_of_receipts_in_ledgers.Goals as goal
 
 pub returns-clause-bound : goal.returns-clause-bound

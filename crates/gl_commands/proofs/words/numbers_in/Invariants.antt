@@ -4,7 +4,7 @@ use Rattle.std.specs.Str.Parse.{digits_value}
 use Rattle.gl_commands.specs.Words.{is_number}
 use Rattle.gl_commands.proofs.words.numbers_in.Given as goal
 
--- the words so far spell these numbers
+-- the words so far encode these numbers
 abbrev pub invariant-loop-word : goal.invariant-loop-word
 invariant-loop-word l = record {
   all : list_all is_number (map (λ s. s.now) (take l.word-index l.words)) ≡ true;

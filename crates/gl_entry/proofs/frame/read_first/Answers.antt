@@ -1,7 +1,7 @@
 use Rattle.std.proofs.Common.{◌≡◌, ◌-◌, ℕ, List, length, Ok, refl, sym, ap, ◌∙◌, arith}
 use Rattle.gl_base.specs.Cut.{Unread}
 use Rattle.gl_entry.specs.Entry.{frame_size}
-use Rattle.gl_entry.specs.Reading.{frame_at}
+use Rattle.gl_entry.specs.Parsing.{frame_at}
 use Rattle.gl_entry.proofs.EntryLaws.{frame_taken}
 use Rattle.gl_entry.proofs.frame.read_first.Goals as goal
 

@@ -1,6 +1,6 @@
 use Rattle.std.specs.Prelude.{codes, ◌++◌}
 use Rattle.gl_base.specs.TxId.{text_of}
-use Rattle.gl_entry.proofs.Behind.{same_end}
+use Rattle.gl_entry.proofs.Remainders.{same_end}
 use Rattle.gl_entry.proofs.leaves.is_evidence.Goals as goal
 
 pub returns-in-Some : goal.returns-in-Some

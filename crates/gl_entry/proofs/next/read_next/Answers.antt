@@ -1,6 +1,6 @@
 use Rattle.std.proofs.Common.{ap, Err, ◌∙◌}
 use Rattle.gl_base.specs.declared.or_no_memory.OrNoMemory.TheVariants.{Fault}
-use Rattle.gl_entry.proofs.Reading.{next_entry_taken, next_is_end, next_is_unread}
+use Rattle.gl_entry.proofs.FileSteps.{next_entry_taken, next_is_end, next_is_unread}
 use Rattle.gl_entry.proofs.next.read_next.Goals as goal
 
 pub returns-in-Ok-Some-clause-next : goal.returns-in-Ok-Some-clause-next

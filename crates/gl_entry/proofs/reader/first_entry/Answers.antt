@@ -1,5 +1,5 @@
 use Rattle.std.proofs.Common.{arith}
-use Rattle.gl_entry.proofs.Taking.{found_next, within_next, failed_next}
+use Rattle.gl_entry.proofs.NextEntries.{found_next, within_next, failed_next}
 use Rattle.gl_entry.proofs.reader.first_entry.Goals as goal
 
 pub returns-clause-found : goal.returns-clause-found

@@ -3,7 +3,7 @@ use Rattle.gl_base.specs.declared.or_no_memory.OrNoMemory.{OrNoMemory}
 use Rattle.gl_base.specs.declared.or_no_memory.OrNoMemory.TheVariants.{Fault}
 use Rattle.gl_entry.specs.declared.fault.EntryFault.{EntryFault}
 use Rattle.gl_entry.specs.declared.fault.LedgerFault.TheVariants.{Entry}
-use Rattle.gl_entry.proofs.Taking.{gives, fails, widened-entry}
+use Rattle.gl_entry.proofs.NextEntries.{gives, fails, widened-entry}
 use Rattle.gl_entry.proofs.reader.read_entry.Goals as goal
 
 pub returns-in-Ok-clause-entry : goal.returns-in-Ok-clause-entry

@@ -2,7 +2,7 @@ use Rattle.std.proofs.Common.{◌+◌, None, Ok, Option, ap, ◌∙◌, subst, �
 use Rattle.std.proofs.lemmas.Result.{err_from_is_err_and}
 use Rattle.gl_vmaps.specs.declared.write.Write.{Write}
 use Rattle.gl_base.specs.Answers.{Fails}
-use Rattle.gl_entry.specs.Reading.{row_of, write_at, writes_from}
+use Rattle.gl_entry.specs.Parsing.{row_of, write_at, writes_from}
 use Rattle.gl_entry.proofs.Loop.{last_of, goes_on, ends, is_done}
 use Rattle.gl_entry.proofs.Ordered.{writes_ordered}
 use Rattle.gl_entry.proofs.writes.read_rows.Goals as goal

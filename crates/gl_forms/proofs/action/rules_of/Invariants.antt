@@ -5,7 +5,7 @@ use Rattle.gl_forms.specs.Place.{pointer_of}
 use Rattle.gl_forms.proofs.ElementLemmas.{after}
 use Rattle.gl_forms.proofs.action.rules_of.Given as goal
 
--- the rules of the names that are left are read behind those that are done
+-- the rules of the names that are left are read after those that are done
 abbrev pub invariant-loop-name : goal.invariant-loop-name
 invariant-loop-name l =
     rules_of (pointer_of l.fn.place) (map (λ s. s.now) l.names) (view l.fn.value)

@@ -5,7 +5,7 @@ use Rattle.gl_forms.specs.Place.{pointer_of}
 use Rattle.gl_forms.proofs.ElementLemmas.{after}
 use Rattle.gl_forms.proofs.element.elements_at.Given as goal
 
--- so many values are read as there are elements, and the others behind them
+-- so many values are read as there are elements, and the others after them
 abbrev pub invariant-loop-value : goal.invariant-loop-value
 invariant-loop-value g l = record {
   count : vec_len l.elements ≡ l.value-index;

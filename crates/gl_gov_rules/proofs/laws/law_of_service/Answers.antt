@@ -1,4 +1,4 @@
-use Rattle.gl_gov_rules.proofs.RowOfService.{service_value, founded_row, identity_told, state_told}
+use Rattle.gl_gov_rules.proofs.RowOfService.{service_value, founded_row, identity_reported, state_reported}
 use Rattle.gl_gov_rules.proofs.KeptIdentity.{identity_kept}
 use Rattle.gl_gov_rules.proofs.laws.law_of_service.Goals as goal
 
@@ -6,7 +6,7 @@ pub returns : goal.returns
 returns c = record {
   founded = founded_row;
   row = service_value;
-  identity = identity_told;
-  state = state_told;
+  identity = identity_reported;
+  state = state_reported;
   kept = identity_kept;
 }

@@ -7,8 +7,8 @@ use Rattle.gl_hss.proofs.ots.key_of_chains.Goals as goal
 
 pub loop-i-init : goal.loop-i-init
 loop-i-init c =
-    let front = c.update-3.ensures _ (c.update-2.ensures _ (c.update.ensures [] c.new-hasher.ensures)) in
-    rw (chain_ends-none c.args.types c.args.identifier.now c.args.q c.args.digits.now c.args.chains.now, append-nil, ← c.u32str.ensures) front
+    let prefix = c.update-3.ensures _ (c.update-2.ensures _ (c.update.ensures [] c.new-hasher.ensures)) in
+    rw (chain_ends-none c.args.types c.args.identifier.now c.args.q c.args.digits.now c.args.chains.now, append-nil, ← c.u32str.ensures) prefix
 
 pub loop-i-preserved : goal.loop-i-preserved
 loop-i-preserved c =

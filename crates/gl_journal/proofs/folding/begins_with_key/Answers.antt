@@ -15,5 +15,5 @@ pub returns-in-Ok : goal.returns-in-Ok
 returns-in-Ok c payloads is =
     let batch = c.in-Ok.batch in
     let read = c.in-Ok.ensures in
-    let first = opens_first 8 c.args.batches.now c.in-Some.behind.now batch.payload.now batch.next batch.rest.now c.in-Some.ensures.open read.spelled read.small read.next in
+    let first = opens_first 8 c.args.batches.now c.in-Some.suffix.now batch.payload.now batch.next batch.rest.now c.in-Some.ensures.open read.encoded read.small read.next in
     c.is_of_key.ensures ∙ begins_first batch.payload.now (payloads_from batch.next batch.rest.now) payloads (sym first ∙ is)

@@ -15,13 +15,13 @@ returns-in_default-bytes-clause-fault g c fault e =
     let view = state_of g.L.EntryLog.frames in
     let place = c.loop-kind.place in
     let kind = c.in-Some.kind in
-    let behind = c.in-Some.behind.now in
+    let suffix = c.in-Some.suffix.now in
     let state = option_map view c.loop-kind.state in
-    let so_far : fold_payload goes_on c.args.at c.args.payload.now (option_map view c.args.state.now) ≡ fold_payload goes_on place (kind ∷ behind) state =
+    let so_far : fold_payload goes_on c.args.at c.args.payload.now (option_map view c.args.state.now) ≡ fold_payload goes_on place (kind ∷ suffix) state =
     c.loop-kind.invariant.folded ∙ ap (λ (l : List ℕ). fold_payload goes_on place l state) c.in-Some.ensures.some in
     let same : fault ≡ BadRecord place = cc in
-    let read : payload_at (place + 1) behind ≡ Err c.in_default-bytes.field-0 = ap (string_at 4 length_limit) (sym c.new_at-cut.ensures) ∙ c.in_default-bytes.ensures.exact.0 in
-    (place, same, so_far ∙ fold_cut goes_on place kind behind c.in_default-bytes.field-0 state read)
+    let read : payload_at (place + 1) suffix ≡ Err c.in_default-bytes.field-0 = ap (string_at 4 length_limit) (sym c.new_at-cut.ensures) ∙ c.in_default-bytes.ensures.exact.0 in
+    (place, same, so_far ∙ fold_cut goes_on place kind suffix c.in_default-bytes.field-0 state read)
 
 pub returns-in_default-record_of-clause-fault : goal.returns-in_default-record_of-clause-fault
 returns-in_default-record_of-clause-fault g c fault e =
@@ -29,16 +29,16 @@ returns-in_default-record_of-clause-fault g c fault e =
     let view = state_of g.L.EntryLog.frames in
     let place = c.loop-kind.place in
     let kind = c.in-Some.kind in
-    let behind = c.in-Some.behind.now in
+    let suffix = c.in-Some.suffix.now in
     let state = option_map view c.loop-kind.state in
-    let so_far : fold_payload goes_on c.args.at c.args.payload.now (option_map view c.args.state.now) ≡ fold_payload goes_on place (kind ∷ behind) state =
+    let so_far : fold_payload goes_on c.args.at c.args.payload.now (option_map view c.args.state.now) ≡ fold_payload goes_on place (kind ∷ suffix) state =
     c.loop-kind.invariant.folded ∙ ap (λ (l : List ℕ). fold_payload goes_on place l state) c.in-Some.ensures.some in
     let same : fault ≡ BadRecord place = cc in
     let body = c.in-Ok.body.now in
     let new = c.bytes.new.self in
-    let read : payload_at (place + 1) behind ≡ Ok (body, new) = ap (string_at 4 length_limit) (sym c.new_at-cut.ensures) ∙ c.in-Ok.ensures.exact in
+    let read : payload_at (place + 1) suffix ≡ Ok (body, new) = ap (string_at 4 length_limit) (sym c.new_at-cut.ensures) ∙ c.in-Ok.ensures.exact in
     let is : record_of kind body ≡ None = sym c.in_default-record_of.ensures in
-    (place, same, so_far ∙ fold_no_record goes_on place kind behind body new state read is)
+    (place, same, so_far ∙ fold_no_record goes_on place kind suffix body new state read is)
 
 pub returns-then-not-branch-clause-fault : goal.returns-then-not-branch-clause-fault
 returns-then-not-branch-clause-fault g c fault e =
@@ -46,18 +46,18 @@ returns-then-not-branch-clause-fault g c fault e =
     let view = state_of g.L.EntryLog.frames in
     let place = c.loop-kind.place in
     let kind = c.in-Some.kind in
-    let behind = c.in-Some.behind.now in
+    let suffix = c.in-Some.suffix.now in
     let state = option_map view c.loop-kind.state in
-    let so_far : fold_payload goes_on c.args.at c.args.payload.now (option_map view c.args.state.now) ≡ fold_payload goes_on place (kind ∷ behind) state =
+    let so_far : fold_payload goes_on c.args.at c.args.payload.now (option_map view c.args.state.now) ≡ fold_payload goes_on place (kind ∷ suffix) state =
     c.loop-kind.invariant.folded ∙ ap (λ (l : List ℕ). fold_payload goes_on place l state) c.in-Some.ensures.some in
     let same : fault ≡ BadRecord place = cc in
     let body = c.in-Ok.body.now in
     let new = c.bytes.new.self in
-    let read : payload_at (place + 1) behind ≡ Ok (body, new) = ap (string_at 4 length_limit) (sym c.new_at-cut.ensures) ∙ c.in-Ok.ensures.exact in
+    let read : payload_at (place + 1) suffix ≡ Ok (body, new) = ap (string_at 4 length_limit) (sym c.new_at-cut.ensures) ∙ c.in-Ok.ensures.exact in
     let rec = record_value c.in-Some-record_of.one in
     let is : record_of kind body ≡ Some rec = sym c.in-Some-record_of.ensures in
     let was : c.fold_next.result ≡ Ok false = c.in_ok-fold_next.was ∙ ap (λ (b : Bool). Ok b) c.if-not-branch.true in
-    (place, same, so_far ∙ fold_refused goes_on place kind behind body new rec state read is (c.fold_next.ensures.refuses was))
+    (place, same, so_far ∙ fold_refused goes_on place kind suffix body new rec state read is (c.fold_next.ensures.refuses was))
 
 pub loop-kind-preserved : goal.loop-kind-preserved
 loop-kind-preserved g c =
@@ -65,23 +65,23 @@ loop-kind-preserved g c =
     let view = state_of g.L.EntryLog.frames in
     let place = c.loop-kind.place in
     let kind = c.in-Some.kind in
-    let behind = c.in-Some.behind.now in
+    let suffix = c.in-Some.suffix.now in
     let state = option_map view c.loop-kind.state in
-    let so_far : fold_payload goes_on c.args.at c.args.payload.now (option_map view c.args.state.now) ≡ fold_payload goes_on place (kind ∷ behind) state =
+    let so_far : fold_payload goes_on c.args.at c.args.payload.now (option_map view c.args.state.now) ≡ fold_payload goes_on place (kind ∷ suffix) state =
     c.loop-kind.invariant.folded ∙ ap (λ (l : List ℕ). fold_payload goes_on place l state) c.in-Some.ensures.some in
     let body = c.in-Ok.body.now in
     let new = c.bytes.new.self in
-    let read : payload_at (place + 1) behind ≡ Ok (body, new) = ap (string_at 4 length_limit) (sym c.new_at-cut.ensures) ∙ c.in-Ok.ensures.exact in
+    let read : payload_at (place + 1) suffix ≡ Ok (body, new) = ap (string_at 4 length_limit) (sym c.new_at-cut.ensures) ∙ c.in-Ok.ensures.exact in
     let rec = record_value c.in-Some-record_of.one in
     let is : record_of kind body ≡ Some rec = sym c.in-Some-record_of.ensures in
     let was : c.fold_next.result ≡ Ok true = c.in_ok-fold_next.was ∙ ap (λ (b : Bool). Ok b) c.if-not-branch.false in
     let next = option_map view c.fold_next.new.state in
-    let facts = payload_facts (place + 1) behind body new read in
-    let spelled : behind ≡ body_of body ++ new.bytes = sym (ap (λ (u : Unread). u.bytes) c.new_at-cut.ensures) ∙ c.in-Ok.ensures.spelled in
-    let step = so_far ∙ fold_on goes_on place kind behind body new rec state next read is (c.fold_next.ensures.folds was) (c.fold_next.ensures.some was) in
+    let facts = payload_facts (place + 1) suffix body new read in
+    let encoded : suffix ≡ body_of body ++ new.bytes = sym (ap (λ (u : Unread). u.bytes) c.new_at-cut.ensures) ∙ c.in-Ok.ensures.encoded in
+    let step = so_far ∙ fold_on goes_on place kind suffix body new rec state next read is (c.fold_next.ensures.folds was) (c.fold_next.ensures.some was) in
     record {
       folded = step ∙ ap (λ (n : ℕ). fold_payload goes_on n new.bytes next) (sym c.at-place.ensures) ∙ ap (λ (l : List ℕ). fold_payload goes_on c.at-place.result l next) (sym c.rest-rest.ensures);
-      size = omega (arith, facts.1, c.loop-kind.invariant.size, c.at-place.ensures, ap length c.rest-rest.ensures, ap length spelled, ap length c.in-Some.ensures.some, length-append (body_of body) new.bytes, length-body body);
+      size = omega (arith, facts.1, c.loop-kind.invariant.size, c.at-place.ensures, ap length c.rest-rest.ensures, ap length encoded, ap length c.in-Some.ensures.some, length-append (body_of body) new.bytes, length-body body);
     }
 
 pub returns-clause-folds : goal.returns-clause-folds

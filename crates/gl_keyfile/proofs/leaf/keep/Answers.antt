@@ -1,6 +1,6 @@
 use Rattle.std.proofs.Common.{◌≡◌, Ok, ◌∙◌, ap, rules}
 use Rattle.gl_keyfile.specs.KeyFile.{any_frame, opened}
-use Rattle.gl_keyfile.proofs.Keeping.{none_done, of_ok}
+use Rattle.gl_keyfile.proofs.UnwrittenFiles.{none_done, of_ok}
 use Rattle.gl_keyfile.proofs.leaf.keep.Goals as goal
 
 pub returns-in_err-room-clause-any_moment : goal.returns-in_err-room-clause-any_moment

@@ -1,5 +1,5 @@
 use Rattle.gl_ledger.proofs.Opened.{begins_opening, opening_opened, opening_unrecovered}
-use Rattle.gl_ledger.proofs.Opening.{nodes_recorded, nodes_configured}
+use Rattle.gl_ledger.proofs.OpeningLaws.{nodes_recorded, nodes_configured}
 use Rattle.gl_ledger.proofs.NodeOrder.{row_of_node}
 use Rattle.gl_ledger.proofs.Recovered.{recovered_opened, recovered_identity, recovered_nodes}
 use Rattle.gl_ledger.proofs.NodeRows.{genesis_endorsement}

@@ -1,6 +1,6 @@
-use Rattle.gl_ledger.proofs.Making.{execute_is}
+use Rattle.gl_ledger.proofs.MadeEntries.{execute_is}
 use Rattle.gl_ledger.proofs.Governing.{govern_is}
-use Rattle.gl_ledger.proofs.Signing.{sign_is}
+use Rattle.gl_ledger.proofs.AcceptedSignatures.{sign_is}
 use Rattle.gl_ledger.proofs.laws.is_unguarded.Goals as goal
 
 pub returns : goal.returns

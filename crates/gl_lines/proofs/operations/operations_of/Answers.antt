@@ -2,14 +2,14 @@ use Rattle.std.proofs.Common.{Some, ap, ◌∙◌}
 use Rattle.std.specs.Option.{option_copied, option_map}
 use Rattle.gl_lines.specs.Parts.{bytes_of}
 use Rattle.gl_lines.specs.Operations.{operations_of}
-use Rattle.gl_lines.proofs.OperationLemmas.{with_operations, with_no_operations, operations_behind, step, stop_step, none_left}
+use Rattle.gl_lines.proofs.OperationLemmas.{with_operations, with_no_operations, operations_after, step, stop_step, none_left}
 use Rattle.gl_lines.proofs.operations.operations_of.Goals as goal
 
 pub loop-left-init : goal.loop-left-init
 unfolding operations_of
 loop-left-init c =
     let words = bytes_of c.args.words.now in
-    ap (λ front. with_operations front (operations_behind (Some words))) c.in_ok-operations.ensures.items ∙ with_no_operations (operations_behind (Some words))
+    ap (λ prefix. with_operations prefix (operations_after (Some words))) c.in_ok-operations.ensures.items ∙ with_no_operations (operations_after (Some words))
 
 pub returns-in-Err : goal.returns-in-Err
 returns-in-Err c =

@@ -1,6 +1,6 @@
 use Rattle.std.proofs.Common.{refl}
 use Rattle.gl_load.specs.Founding.{load_book, load_holding, load_start}
-use Rattle.gl_load.proofs.Serving.{led}
+use Rattle.gl_load.proofs.NodeEvents.{led}
 use Rattle.gl_load.proofs.node.leader.Goals as goal
 
 pub returns : goal.returns

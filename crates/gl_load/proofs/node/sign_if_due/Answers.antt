@@ -1,5 +1,5 @@
 use Rattle.std.proofs.Common.{true, false}
-use Rattle.gl_load.proofs.Serving.{due, none_due}
+use Rattle.gl_load.proofs.NodeEvents.{due, none_due}
 use Rattle.gl_load.proofs.node.sign_if_due.Goals as goal
 
 pub sign-requires-clause-signs : goal.sign-requires-clause-signs

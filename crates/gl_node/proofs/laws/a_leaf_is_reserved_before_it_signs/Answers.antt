@@ -1,4 +1,4 @@
-use Rattle.gl_node.proofs.Signing.{reserved_before}
+use Rattle.gl_node.proofs.SignedLeaves.{reserved_before}
 use Rattle.gl_node.proofs.laws.a_leaf_is_reserved_before_it_signs.Goals as goal
 
 pub returns : goal.returns

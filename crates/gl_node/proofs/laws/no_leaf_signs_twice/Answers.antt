@@ -1,4 +1,4 @@
-use Rattle.gl_node.proofs.Signing.{leaves_rise}
+use Rattle.gl_node.proofs.SignedLeaves.{leaves_rise}
 use Rattle.gl_node.proofs.laws.no_leaf_signs_twice.Goals as goal
 
 pub returns : goal.returns

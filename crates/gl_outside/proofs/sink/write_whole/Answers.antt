@@ -1,5 +1,5 @@
 use Rattle.std.proofs.Common.{arith, ◌∙◌}
-use Rattle.gl_outside.proofs.Fronts.{took_more}
+use Rattle.gl_outside.proofs.TextPrefixes.{took_more}
 use Rattle.gl_outside.proofs.sink.write_whole.Goals as goal
 
 pub loop-done-preserved : goal.loop-done-preserved

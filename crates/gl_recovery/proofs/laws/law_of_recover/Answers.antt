@@ -1,5 +1,5 @@
-use Rattle.gl_recovery.proofs.Telling.{is_recovered}
+use Rattle.gl_recovery.proofs.RecoveredOutput.{is_recovered}
 use Rattle.gl_recovery.proofs.laws.law_of_recover.Goals as goal
 
 pub returns : goal.returns
-returns c = λ state given told is. is_recovered state.key state.reserved given told is
+returns c = λ state given reported is. is_recovered state.key state.reserved given reported is

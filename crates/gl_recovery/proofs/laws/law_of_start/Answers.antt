@@ -1,5 +1,5 @@
 use Rattle.gl_recovery.proofs.Accepted.{refused_so}
-use Rattle.gl_recovery.proofs.Reopening.{is_refounded}
+use Rattle.gl_recovery.proofs.RecoveredLedgers.{is_refounded}
 use Rattle.gl_recovery.proofs.laws.law_of_start.Goals as goal
 
 pub returns : goal.returns

@@ -1,6 +1,6 @@
 use Rattle.std.proofs.Common.{◌≡◌, ℕ, ap, ◌∙◌, sym, subst, arith, Err}
 use Rattle.gl_audit.specs.Committed.{Held}
-use Rattle.gl_entry.specs.Given.{OfBytes}
+use Rattle.gl_entry.specs.SourceBytes.{OfBytes}
 use Rattle.gl_entry.specs.LedgerFile.{ledger_file}
 use Rattle.gl_recovery.specs.OldLedger.{valid_ledger}
 use Rattle.gl_recovery.specs.declared.fault.RecoveryFault.TheVariants as faults

@@ -1,5 +1,5 @@
 use Rattle.std.proofs.lemmas.Result.{err_from_is_err_and}
-use Rattle.gl_requests.specs.Reading.{repeated_at}
+use Rattle.gl_requests.specs.Parsing.{repeated_at}
 use Rattle.gl_base.proofs.Repeated.{goes_on, ends, is_done}
 use Rattle.gl_requests.proofs.Repeats.{repeats}
 use Rattle.gl_requests.proofs.decode.read_repeated.Goals as goal

@@ -1,4 +1,4 @@
-use Rattle.gl_serve.proofs.Keeping.{payloads_deaf}
+use Rattle.gl_serve.proofs.KeptStreams.{payloads_deaf}
 use Rattle.gl_serve.proofs.Whole.{whole_streams}
 use Rattle.gl_serve.proofs.service.law_of_whole_streams.Goals as goal
 

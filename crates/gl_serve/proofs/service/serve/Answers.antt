@@ -1,10 +1,10 @@
 use Rattle.std.proofs.Common.{◌≡◌, ◌+◌, ◌∙◌, ◌||◌, [], ◌++◌, Ok, Err, Bool, false, refl, sym, ap, arith}
 use Rattle.std.proofs.lemmas.Result.{err_from_is_err_and}
-use Rattle.gl_serve.specs.declared.desk.Turn.{Turn}
+use Rattle.gl_serve.specs.declared.session.Progress.{Progress}
 use Rattle.gl_serve.specs.declared.settings.ServeEnd.{ServeEnd}
-use Rattle.gl_serve.specs.Turns.{is_ended}
+use Rattle.gl_serve.specs.Progress.{is_ended}
 use Rattle.gl_serve.proofs.Losing.{loses_same, loses_then}
-use Rattle.gl_serve.proofs.Keeping.{kept_nil}
+use Rattle.gl_serve.proofs.KeptStreams.{kept_nil}
 use Rattle.gl_serve.proofs.WorkingLaws.{ran_none}
 use Rattle.gl_serve.proofs.Arriving.{went_on, taken_on, serves_err, calls_on, or_no}
 use Rattle.gl_serve.proofs.service.serve.Goals as goal
@@ -22,7 +22,7 @@ loop-init g c = record {
 pub loop-preserved : goal.loop-preserved
 loop-preserved g c =
     let i = c.loop.invariant in
-    let not_ended : is_ended (Ok c.in_ok-turn.field-0) ≡ false = ap (λ (t : Turn). is_ended (Ok t)) c.in-Took.is in
+    let not_ended : is_ended (Ok c.in_ok-turn.field-0) ≡ false = ap (λ (t : Progress). is_ended (Ok t)) c.in-Took.is in
     record {
       served =
           let s = i.served in
@@ -40,7 +40,7 @@ returns-in_err-turn-clause-serves g c =
     let s = c.loop.invariant.served in
     let t = c.in_err-turn.ensures.turned s.came s.tracks in
     let p = err_from_is_err_and c.from_residual.result c.from_residual.ensures.1 in
-    serves_err _ _ _ _ _ _ _ _ _ (s.came ++ t.came) c.turn.new.session.desk c.turn.new.session.lost c.in_err-turn.field-0.0 c.from_residual.result (p.1 ∙ ap (λ (e : ServeEnd). Err e) p.2)
+    serves_err _ _ _ _ _ _ _ _ _ (s.came ++ t.came) c.turn.new.session.session_state c.turn.new.session.lost c.in_err-turn.field-0.0 c.from_residual.result (p.1 ∙ ap (λ (e : ServeEnd). Err e) p.2)
     (went_on _ _ _ _ _ _ s.came _ _ _ (Err c.in_err-turn.field-0.0) s.ran t) (λ h. taken_on s.came t.came _ _ _ (s.taken h) (t.taken h))
 
 pub returns-in-Ended-clause-serves : goal.returns-in-Ended-clause-serves
@@ -49,7 +49,7 @@ returns-in-Ended-clause-serves g c =
     let t = c.in_ok-turn.ensures.turned s.came s.tracks in
     record {
       came = s.came ++ t.came;
-      desk = c.turn.new.session.desk;
+      session_state = c.turn.new.session.session_state;
       lost = c.turn.new.session.lost;
       went = went_on _ _ _ _ _ _ s.came _ _ _ (Ok c.in_ok-turn.field-0) s.ran t;
       taken = λ h. taken_on s.came t.came _ _ _ (s.taken h) (t.taken h);
@@ -62,7 +62,7 @@ returns-in-Failed-clause-serves g c =
     let t = c.in_ok-turn.ensures.turned s.came s.tracks in
     record {
       came = s.came ++ t.came;
-      desk = c.turn.new.session.desk;
+      session_state = c.turn.new.session.session_state;
       lost = c.turn.new.session.lost;
       went = went_on _ _ _ _ _ _ s.came _ _ _ (Ok c.in_ok-turn.field-0) s.ran t;
       taken = λ h. taken_on s.came t.came _ _ _ (s.taken h) (t.taken h);

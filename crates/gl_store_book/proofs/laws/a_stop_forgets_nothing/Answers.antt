@@ -1,7 +1,7 @@
 use Rattle.std.proofs.Common.{subst}
 use Rattle.gl_store_book.specs.Replicas.{NodeCore}
 use Rattle.gl_store_book.specs.Stands.{NodeStore}
-use Rattle.gl_store_book.proofs.Reopening.{restarts, restarts_next}
+use Rattle.gl_store_book.proofs.RestartLaws.{restarts, restarts_next}
 use Rattle.gl_store_book.proofs.ValidSteps.{IsValid}
 use Rattle.gl_store_book.proofs.laws.a_stop_forgets_nothing.Goals as goal
 

@@ -1,5 +1,5 @@
 use Rattle.std.proofs.lemmas.Result.{err_from_is_err_and}
-use Rattle.gl_tx.specs.Reading.{answers_at}
+use Rattle.gl_tx.specs.Parsing.{answers_at}
 use Rattle.gl_base.proofs.Repeated.{goes_on, ends, is_done}
 use Rattle.gl_tx.proofs.Replies.{answers_repeat}
 use Rattle.gl_tx.proofs.decoding.read_answers.Goals as goal

@@ -1,5 +1,5 @@
 use Rattle.std.proofs.lemmas.Result.{err_from_is_err_and}
-use Rattle.gl_tx.specs.Reading.{operations_at}
+use Rattle.gl_tx.specs.Parsing.{operations_at}
 use Rattle.gl_base.proofs.Repeated.{goes_on, ends, is_done}
 use Rattle.gl_tx.proofs.Operations.{operations_repeat}
 use Rattle.gl_tx.proofs.decoding.read_operations.Goals as goal

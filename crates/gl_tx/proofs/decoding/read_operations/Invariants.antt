@@ -1,7 +1,7 @@
 use Rattle.std.proofs.Common.{◌≡◌, ◌-◌}
-use Rattle.gl_tx.specs.Reading.{operations_at}
-use Rattle.gl_base.proofs.Repeated.{with_front}
+use Rattle.gl_tx.specs.Parsing.{operations_at}
+use Rattle.gl_base.proofs.Repeated.{with_prefix}
 use Rattle.gl_tx.proofs.decoding.read_operations.Given as goal
 
 abbrev pub invariant-loop : goal.invariant-loop
-invariant-loop l = with_front l.operations.items (operations_at (l.count - l.counter) l.cut) ≡ operations_at l.count l.fn.cut
+invariant-loop l = with_prefix l.operations.items (operations_at (l.count - l.counter) l.cut) ≡ operations_at l.count l.fn.cut

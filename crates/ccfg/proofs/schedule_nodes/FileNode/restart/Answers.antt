@@ -23,8 +23,8 @@ invariant_of-self c =
     let q = c.in-Ok.ensures.opens in
     record { serves = c.in-Ok.ensures.serves; state = q.0; file = q.2 }
 
-pub returns-clause-anew : goal.returns-clause-anew
-returns-clause-anew c = λ state is.
+pub returns-clause-again : goal.returns-clause-again
+returns-clause-again c = λ state is.
     let r = c.self.inside.replica in
     let q = c.in-Ok.ensures.opens in
     let bytes = c.deref.ensures.value ∙ ap (λ (d : SureDisk). d.bytes.items) c.disk.ensures.disk in

@@ -7,9 +7,9 @@ use Rattle.gl_ledger.specs.NodeKeys.{service_layers}
 use Rattle.gl_ledger.proofs.Valid.{valid_sound}
 use Rattle.gl_store_book.specs.AtOpening.{append_records}
 use Rattle.gl_store_book.specs.Frames.{goes_on_ledger}
-use Rattle.gl_store_book.specs.Turns.{turn_records}
+use Rattle.gl_store_book.specs.ViewVotes.{view_vote_records}
 use Rattle.gl_store_book.specs.declared.node_file.fault.OpeningFault.TheVariants as faults
-use Rattle.gl_store_book.specs.declared.node_file.opening_batch.Turn.{Turn}
+use Rattle.gl_store_book.specs.declared.node_file.opening_batch.ViewVote.{ViewVote}
 use Rattle.ccfg.proofs.FileNodes.{as_plain_fault, as_plain_other, never_rose}
 use Rattle.ccfg.proofs.FileStarts.{node_folds, node_size}
 use Rattle.ccfg.proofs.schedule_nodes.start.keep_node.Goals as goal
@@ -28,7 +28,7 @@ only_memory-requires c = λ fault is.
     let e = as_plain_fault _ _ fault c.in-Err.is is in
     let all : c.entries_of-entries.result.now ≡ c.args.core.now.book.ledger = c.entries_of-entries.ensures.entries in
     let few = c.requires.few in
-    let size = node_size (turn_records c.turn_of-turn.result) c.entries_of-entries.result.now (search rules) c.turn_of-turn.ensures.small (omega (arith, few, ap length all)) in
+    let size = node_size (view_vote_records c.turn_of-turn.result) c.entries_of-entries.result.now (search rules) c.turn_of-turn.ensures.small (omega (arith, few, ap length all)) in
     ⊎_elim
     (λ (disk : fault ≡ faults.Journal disks.DiskFault). never_rose (c.keep_opening.ensures.disk_fault (as_plain_other _ _ _ e disk)))
     (λ (q : (size : ℕ) × (fault ≡ faults.TooLarge size)).
@@ -43,7 +43,7 @@ returns-in-Ok c = λ state here none low.
     let all : c.entries_of-entries.result.now ≡ ledger = c.entries_of-entries.ensures.entries in
     let valid = c.entries_of-entries.ensures.valid in
     let folds =
-    ap (λ (t : Turn). fold_records goes_on_ledger state (turn_records t ++ append_records c.entries_of-entries.result.now)) c.turn_of-turn.ensures.turn
+    ap (λ (t : ViewVote). fold_records goes_on_ledger state (view_vote_records t ++ append_records c.entries_of-entries.result.now)) c.turn_of-turn.ensures.turn
     ∙ ap (λ (l : List Entry). fold_records goes_on_ledger state (Vote core.peer.view core.peer.vote ∷ append_records l)) all
     ∙ node_folds state core.peer.view core.peer.vote ledger valid (valid_sound service_layers ledger valid).in_order.fits none low in
     record {

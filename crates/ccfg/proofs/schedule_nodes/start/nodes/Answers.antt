@@ -3,7 +3,7 @@ use Rattle.std.specs.Vec.Iter.{into_iter_items}
 use Rattle.std.proofs.lemmas.Option.{slice_get_read}
 use Rattle.gl_world.specs.AtStart.{held_at_start}
 use Rattle.gl_world.specs.Group.{book_of}
-use Rattle.gl_world.proofs.Starting.{behind}
+use Rattle.gl_world.proofs.Starting.{suffix}
 use Rattle.gl_store_book.specs.Stands.{Stands}
 use Rattle.ccfg.proofs.schedule_nodes.start.nodes.Goals as goal
 
@@ -23,7 +23,7 @@ add_node-requires-clause-book c =
     ap (λ l. at.yielded ++ l) (sym next) ∙ at.invariant.0 ∙ c.into_iter-book-iterator.ensures.into_iter_gives.0 in
     subst (λ (k : ℕ). Stands c.in-Some.book (book_of s) (held_at_start s (suc k))) (sym at.invariant.2)
     (c.in_ok-books.ensures.stand (length at.yielded) c.in-Some.book
-    (ap (λ l. slice_get l (length at.yielded)) (sym all) ∙ behind at.yielded (into_iter_items c.next.new.self) c.in-Some.book))
+    (ap (λ l. slice_get l (length at.yielded)) (sym all) ∙ suffix at.yielded (into_iter_items c.next.new.self) c.in-Some.book))
 
 pub returns : goal.returns
 returns c =

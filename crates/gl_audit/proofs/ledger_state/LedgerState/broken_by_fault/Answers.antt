@@ -1,6 +1,6 @@
 use Rattle.std.proofs.Common.{◌<◌, subst}
 use Rattle.gl_audit.specs.declared.ledger_end.LedgerEnd.{LedgerEnd}
-use Rattle.gl_audit.proofs.Keeping.{keyed}
+use Rattle.gl_audit.proofs.KeptLedgers.{keyed}
 use Rattle.gl_audit.proofs.ledger_state.LedgerState.broken_by_fault.Goals as goal
 
 pub unreachable-requires : goal.unreachable-requires

@@ -1,4 +1,4 @@
-use Rattle.gl_audit.proofs.Keeping.{unkeyed}
+use Rattle.gl_audit.proofs.KeptLedgers.{unkeyed}
 use Rattle.gl_audit.proofs.ledger_state.LedgerState.identity.Goals as goal
 
 pub returns-in-None-clause-none : goal.returns-in-None-clause-none

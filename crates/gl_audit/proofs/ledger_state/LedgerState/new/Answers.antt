@@ -1,4 +1,4 @@
-use Rattle.gl_audit.proofs.Keeping.{state_empty}
+use Rattle.gl_audit.proofs.KeptLedgers.{state_empty}
 use Rattle.gl_audit.proofs.ledger_state.LedgerState.new.Goals as goal
 
 pub returns : goal.returns

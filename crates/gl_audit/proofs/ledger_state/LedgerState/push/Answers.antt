@@ -1,7 +1,7 @@
 use Rattle.std.proofs.Common.{◌∙◌, arith, ap}
 use Rattle.gl_ledger.specs.Tree.{writes_of}
 use Rattle.gl_audit.specs.declared.ledger_end.LedgerEnd.{LedgerEnd}
-use Rattle.gl_audit.proofs.Keeping.{next_seqno, requests_below, recorded_follows, keyed_behind, state-push}
+use Rattle.gl_audit.proofs.KeptLedgers.{next_seqno, requests_below, recorded_follows, keyed_after, state-push}
 use Rattle.gl_audit.proofs.LastEntries.{unbroken_read}
 use Rattle.gl_audit.proofs.TablesLaws.{versions_below}
 use Rattle.gl_audit.proofs.ledger_state.LedgerState.push.Goals as goal
@@ -27,8 +27,8 @@ push_made-requires-clause-above c =
     let k = c.requires.unbroken.1 in
     versions_below c.requires.unbroken.0 c.args.self.now.tables _ k.sound.in_order k.tables_are (next_seqno c.requires.unbroken.0 c.args.entry.now c.requires.unbroken.2).0
 
-pub push_made-requires-clause-behind : goal.push_made-requires-clause-behind
-push_made-requires-clause-behind c = requests_below c.requires.unbroken.0 _ c.args.entry.now c.requires.unbroken.1 c.requires.unbroken.2
+pub push_made-requires-clause-suffix : goal.push_made-requires-clause-suffix
+push_made-requires-clause-suffix c = requests_below c.requires.unbroken.0 _ c.args.entry.now c.requires.unbroken.1 c.requires.unbroken.2
 
 pub push_made-requires-clause-follows : goal.push_made-requires-clause-follows
 push_made-requires-clause-follows c = recorded_follows c.requires.unbroken.0 _ c.args.entry.now c.requires.unbroken.1 c.requires.unbroken.2
@@ -37,13 +37,13 @@ pub push_made-requires-clause-keyed : goal.push_made-requires-clause-keyed
 push_made-requires-clause-keyed c =
     let ledger = c.requires.unbroken.0 in
     let k = c.requires.unbroken.1 in
-    (writes_of ledger, k.tables_are, keyed_behind ledger _ c.args.entry.now k c.requires.unbroken.2)
+    (writes_of ledger, k.tables_are, keyed_after ledger _ c.args.entry.now k c.requires.unbroken.2)
 
 pub returns-clause-grown : goal.returns-clause-grown
 returns-clause-grown c = λ ledger k unbroken.
     let done = c.in_ok-push_made.ensures in
     state-push ledger c.args.self.now c.push_made.new.self c.args.entry.now k unbroken done.end done.signatures done.gov
-    (record { stands = done.tables; base = done.base; whole = done.whole }) (record { state_told = done.state; identity_told = done.identity }) done.leaves
+    (record { stands = done.tables; base = done.base; whole = done.whole }) (record { state_reported = done.state; identity_reported = done.identity }) done.leaves
 
 pub returns-clause-whole : goal.returns-clause-whole
 returns-clause-whole c = λ w.

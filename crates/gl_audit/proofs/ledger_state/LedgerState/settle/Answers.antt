@@ -1,5 +1,5 @@
 use Rattle.std.proofs.Common.{refl, ◌∙◌}
-use Rattle.gl_audit.proofs.Keeping.{state_settled}
+use Rattle.gl_audit.proofs.KeptLedgers.{state_settled}
 use Rattle.gl_audit.proofs.ledger_state.LedgerState.settle.Goals as goal
 
 pub returns : goal.returns

@@ -1,9 +1,9 @@
 use Rattle.std.proofs.Common.{refl}
-use Rattle.gl_base.proofs.Fields.{plain_spelled, plain_only}
+use Rattle.gl_base.proofs.Fields.{plain_encoded, plain_only}
 use Rattle.gl_base.proofs.cut.Cut.array.Goals as goal
 
-pub returns-clause-spelled : goal.returns-clause-spelled
-returns-clause-spelled g c = plain_spelled (λ s. s.now) 0 _ _ _ _ refl c.chunk.ensures
+pub returns-clause-encoded : goal.returns-clause-encoded
+returns-clause-encoded g c = plain_encoded (λ s. s.now) 0 _ _ _ _ refl c.chunk.ensures
 
 pub returns-clause-only : goal.returns-clause-only
 returns-clause-only g c xs rest sized e =

@@ -24,7 +24,7 @@ returns c =
     let seqno : c.to_le_bytes-2.result ≡ little_endian 8 e.seqno = c.to_le_bytes-2.ensures ∙ to_le_bytes-u64 _ in
     let head : List ℕ = little_endian 4 e.view ++ little_endian 8 e.seqno in
     let tagged : (head ++ c.kind_tag.result ∷ []) ++ content ≡ head ++ c.kind_tag.result ∷ content = push-append head c.kind_tag.result content in
-    let whole : List ℕ → List ℕ = λ front. ((front ++ little_endian 4 (length writes)) ++ flat_map write_bytes writes) ++ e.claims in
+    let whole : List ℕ → List ℕ = λ prefix. ((prefix ++ little_endian 4 (length writes)) ++ flat_map write_bytes writes) ++ e.claims in
     let parts : fed ≡ whole ((head ++ c.kind_tag.result ∷ []) ++ content) = rw (view, seqno) refl in
     let body : whole (head ++ c.kind_tag.result ∷ content) ≡ body_bytes e = rw (c.kind_tag.ensures, c.as_slice-writes.ensures.value) refl in
     digest ∙ ap sha256 (parts ∙ ap whole tagged ∙ body)

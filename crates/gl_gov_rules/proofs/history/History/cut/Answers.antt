@@ -21,13 +21,13 @@ invariant_of-self c =
     let whole : h ≡ history rs = subst (λ (x : History). x ≡ history x.requests) (sym c.self.view_is) c.requires.whole in
     let low : c.truncate.new.self.items ≡ filter (λ (x : Changed). nat_le x.seqno c.args.to) cs =
     count_taken (λ (x : Changed). nat_le x.seqno c.args.to) _ _ cs _ _ c.truncate.ensures.items c.changes_up_to-changes.ensures c.deref.ensures.value ∙ changes_left c.args.to h rising whole in
-    let told : IsOfRequests (up_to c.args.to rs) c.cut-2.new.self = c.cut-2.ensures rs rising c.self.invariant.requests in
+    let reported : IsOfRequests (up_to c.args.to rs) c.cut-2.new.self = c.cut-2.ensures rs rising c.self.invariant.requests in
     record {
       changes = subst (λ (us : List Changed). us ≡ take c.changes_up_to-changes.result c.self.inside.changes.items → IsOfChanges c.self.inside.changes.items c.self.inside.by_change →
           IsOfChanges us c.cut.new.self) c.deref-2.ensures.value (c.cut.ensures c.changes_up_to-changes.result c.self.inside.changes.items) c.truncate.ensures.items c.self.invariant.changes;
       requests = subst (λ (us : List Recorded). IsOfRequests us c.cut-2.new.self) (sym left) (c.cut-2.ensures rs rising c.self.invariant.requests);
       settlings = settled_left c.args.to c.changes_up_to-changes.result c.len.result rs cs c.truncate.new.self.items c.self.inside.settlings.items _ rising c.truncate.ensures.items low
-          c.self.invariant.settlings (omega (arith, c.len.ensures, c.cut-2.new.self.proposals.ok.0, ap length told.proposals)) c.cut_settlings.ensures
+          c.self.invariant.settlings (omega (arith, c.len.ensures, c.cut-2.new.self.proposals.ok.0, ap length reported.proposals)) c.cut_settlings.ensures
           ∙ ap (λ us. map (settling_in c.truncate.new.self.items) (made us)) (sym left);
     }
 

@@ -1,10 +1,10 @@
 use Rattle.std.proofs.Common.{◌∙◌, sym, ap}
 use Rattle.std.specs.List.{list_any}
 use Rattle.gl_base.specs.Bytes.{same_bytes}
-use Rattle.gl_gov_rules.specs.declared.told.Mark.{Mark}
+use Rattle.gl_gov_rules.specs.declared.request_facts.Mark.{Mark}
 use Rattle.gl_gov_rules.specs.Nodes.{is_marked}
 use Rattle.gl_gov_rules.specs.Index.{marks_of}
-use Rattle.gl_gov_rules.proofs.Telling.{marked_any}
+use Rattle.gl_gov_rules.proofs.HistoryIndex.{marked_any}
 use Rattle.gl_gov_rules.proofs.history.History.is_marked.Goals as goal
 
 pub returns : goal.returns

@@ -3,7 +3,7 @@ use Rattle.std.specs.List.{list_any}
 use Rattle.std.proofs.Common.{nat_eq}
 use Rattle.gl_gov_rules.specs.Members.{is_removed}
 use Rattle.gl_gov_rules.specs.Index.{removed}
-use Rattle.gl_gov_rules.proofs.Telling.{removed_any}
+use Rattle.gl_gov_rules.proofs.HistoryIndex.{removed_any}
 use Rattle.gl_gov_rules.proofs.history.History.is_removed.Goals as goal
 
 pub returns : goal.returns

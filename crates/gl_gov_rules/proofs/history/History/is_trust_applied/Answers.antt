@@ -1,10 +1,10 @@
 use Rattle.std.proofs.Common.{◌∙◌, sym, ap}
 use Rattle.std.specs.List.{list_any}
 use Rattle.gl_base.specs.Bytes.{same_bytes}
-use Rattle.gl_gov_rules.specs.declared.told.Trust.{Trust}
+use Rattle.gl_gov_rules.specs.declared.request_facts.Trust.{Trust}
 use Rattle.gl_gov_rules.specs.Nodes.{is_trust_applied}
 use Rattle.gl_gov_rules.specs.Index.{trusts_of}
-use Rattle.gl_gov_rules.proofs.Telling.{trust_any}
+use Rattle.gl_gov_rules.proofs.HistoryIndex.{trust_any}
 use Rattle.gl_gov_rules.proofs.history.History.is_trust_applied.Goals as goal
 
 pub returns : goal.returns

@@ -1,7 +1,7 @@
 use Rattle.std.proofs.Common.{◌∙◌, sym, ap}
 use Rattle.gl_gov_rules.specs.Nodes.{mark}
 use Rattle.gl_gov_rules.specs.Index.{marks_of, first_mark}
-use Rattle.gl_gov_rules.proofs.Telling.{mark_first}
+use Rattle.gl_gov_rules.proofs.HistoryIndex.{mark_first}
 use Rattle.gl_gov_rules.proofs.history.History.mark.Goals as goal
 
 pub returns : goal.returns

@@ -1,16 +1,16 @@
 use Rattle.std.proofs.Common.{◌∙◌, sym, ap, arith}
 use Rattle.gl_gov_rules.specs.Members.{next_leaf}
 use Rattle.gl_gov_rules.specs.Index.{signed, last_leaf}
-use Rattle.gl_gov_rules.proofs.Telling.{next_of_last, last_small}
+use Rattle.gl_gov_rules.proofs.HistoryIndex.{next_of_last, last_small}
 use Rattle.gl_gov_rules.proofs.history.History.next_leaf.Goals as goal
 
 pub returns-clause-leaf : goal.returns-clause-leaf
 unfolding next_leaf signed
 returns-clause-leaf c =
-    c.last_leaf.ensures ∙ ap last_leaf c.signed.ensures.told ∙ sym (next_of_last c.args.number c.args.self.now.requests)
+    c.last_leaf.ensures ∙ ap last_leaf c.signed.ensures.reported ∙ sym (next_of_last c.args.number c.args.self.now.requests)
 
 pub returns-clause-range : goal.returns-clause-range
 unfolding signed
 returns-clause-range c =
-    let same = c.last_leaf.ensures ∙ ap last_leaf c.signed.ensures.told ∙ sym (next_of_last c.args.number c.args.self.now.requests) in
+    let same = c.last_leaf.ensures ∙ ap last_leaf c.signed.ensures.reported ∙ sym (next_of_last c.args.number c.args.self.now.requests) in
     omega (arith, same, last_small c.args.number c.args.self.now.requests c.signed.ensures.leaves)

@@ -14,14 +14,14 @@ invariant_of-self-2 c =
     let room = c.reserve-5.new.self in
     let changed : all ≡ cs ++ c.args.changes.items = rw c.in_ok-reserve-2.ensures.items at c.append_reserved.ensures in
     let pushed : c.push_reserved.new.self.items ≡ rs ++ c.args.recorded ∷ [] = rw c.in_ok-reserve.ensures.items at c.push_reserved.ensures.items in
-    let told : IsOfRequests rs c.reserve-4.new.self = c.in_ok-reserve-4.ensures.same rs c.self.invariant.requests in
-    let more = c.push.ensures rs told in
+    let reported : IsOfRequests rs c.reserve-4.new.self = c.in_ok-reserve-4.ensures.same rs c.self.invariant.requests in
+    let more = c.push.ensures rs reported in
     record {
       changes = search rules;
       requests = subst (λ (us : List Recorded). IsOfRequests us c.push.new.self) (sym pushed) more;
       settlings = settled_with rs _ c.args.recorded all _ _ (with_items room c.settle.new.settlings).items _ _
           (settled_more cs c.args.changes.items _ all _ _ _ c.self.inside.settlings.items c.settle.new.settlings _
           (with_items_is room c.settle.new.settlings (omega (arith, c.settle.auto.settlings, room.ok.0)))
-          (c.deref_mut.ensures.value ∙ c.in_ok-reserve-5.ensures.items) c.settle.ensures (c.deref-2.ensures.value ∙ told.proposals) c.self.invariant.settlings c.deref-3.ensures.value changed)
+          (c.deref_mut.ensures.value ∙ c.in_ok-reserve-5.ensures.items) c.settle.ensures (c.deref-2.ensures.value ∙ reported.proposals) c.self.invariant.settlings c.deref-3.ensures.value changed)
           (sym (with_items room c.settle.new.settlings).ok.0) pushed (c.deref-4.ensures.value ∙ more.proposals) c.deref-5.ensures.value c.push_settling.ensures;
     }

@@ -1,7 +1,7 @@
 use Rattle.std.proofs.Common.{◌∙◌, sym, ap}
 use Rattle.gl_gov_rules.specs.Nodes.{retirement}
 use Rattle.gl_gov_rules.specs.Index.{retirements_of, first_retirement}
-use Rattle.gl_gov_rules.proofs.Telling.{retirement_first}
+use Rattle.gl_gov_rules.proofs.HistoryIndex.{retirement_first}
 use Rattle.gl_gov_rules.proofs.history.History.removal.Goals as goal
 
 pub returns : goal.returns

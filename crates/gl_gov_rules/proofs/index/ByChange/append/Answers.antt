@@ -1,6 +1,6 @@
 use Rattle.gl_gov_rules.specs.declared.change.Changed.{Changed}
 use Rattle.gl_gov_rules.specs.Members.{member_named}
-use Rattle.gl_gov_rules.specs.Told.{removed_in, trust_in, retirement_in}
+use Rattle.gl_gov_rules.specs.RequestFacts.{removed_in, trust_in, retirement_in}
 use Rattle.gl_gov_rules.proofs.ByRequests.{all_more}
 use Rattle.gl_gov_rules.proofs.index.ByChange.append.Goals as goal
 

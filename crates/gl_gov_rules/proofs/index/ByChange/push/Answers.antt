@@ -2,7 +2,7 @@ use Rattle.std.proofs.Common.{◌++◌, ◌∙◌, ap}
 use Rattle.std.specs.Option.{option_to_list}
 use Rattle.gl_gov_rules.specs.declared.change.Changed.{Changed}
 use Rattle.gl_gov_rules.specs.Members.{member_named}
-use Rattle.gl_gov_rules.specs.Told.{removed_in, trust_in, retirement_in}
+use Rattle.gl_gov_rules.specs.RequestFacts.{removed_in, trust_in, retirement_in}
 use Rattle.gl_gov_rules.proofs.ByRequests.{one_more}
 use Rattle.gl_gov_rules.proofs.index.ByChange.push.Goals as goal
 

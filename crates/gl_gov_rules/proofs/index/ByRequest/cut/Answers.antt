@@ -9,15 +9,15 @@ use Rattle.gl_gov_rules.specs.declared.change.Recorded.{Recorded}
 use Rattle.gl_gov_rules.specs.declared.change.RecordedNode.{RecordedNode}
 use Rattle.gl_gov_rules.specs.declared.change.Proposal.{Proposal}
 use Rattle.gl_gov_rules.specs.declared.change.Ballot.{Ballot}
-use Rattle.gl_gov_rules.specs.declared.told.Mark.{Mark}
-use Rattle.gl_gov_rules.specs.declared.told.GivenShare.{GivenShare}
-use Rattle.gl_gov_rules.specs.declared.told.Signed.{Signed}
-use Rattle.gl_gov_rules.specs.Members.{leaf_behind}
+use Rattle.gl_gov_rules.specs.declared.request_facts.Mark.{Mark}
+use Rattle.gl_gov_rules.specs.declared.request_facts.GivenShare.{GivenShare}
+use Rattle.gl_gov_rules.specs.declared.request_facts.Signed.{Signed}
+use Rattle.gl_gov_rules.specs.Members.{leaf_after}
 use Rattle.gl_gov_rules.specs.Nodes.{nodes_recorded}
 use Rattle.gl_gov_rules.specs.Proposals.{proposal_in, ballot_on}
-use Rattle.gl_gov_rules.specs.Told.{mark_in, given_in, signed_by}
+use Rattle.gl_gov_rules.specs.RequestFacts.{mark_in, given_in, signed_by}
 use Rattle.gl_gov_rules.proofs.ByRequests.{cut_flat, cut_map, each_kept}
-use Rattle.gl_gov_rules.proofs.ToldAt.{nodes_at, mark_at, given_at, proposal_at, signed_at, ballot_at}
+use Rattle.gl_gov_rules.proofs.FactsAtSeqno.{nodes_at, mark_at, given_at, proposal_at, signed_at, ballot_at}
 use Rattle.gl_gov_rules.proofs.index.ByRequest.cut.Goals as goal
 
 pub returns : goal.returns
@@ -35,5 +35,5 @@ returns c = λ rs rising before.
           list_at (lists_of c.cut_lists.new.lists) n ≡ filter (λ (x : Signed). nat_le x.seqno to) (list_at (lists_of us) n)) c.deref_mut.ensures.value (c.cut_lists.ensures n));
       ballots = λ id. cut_map (λ (b : Ballot). b.seqno) (ballot_on id) (λ r. ballot_at id r.seqno r.request) to rs _ _ rising (before.ballots id) (c.cut.ensures.cut id);
       known = rw (c.cut.ensures.known, c.cut.ensures.ids) before.known;
-      leaves = each_kept (λ (r : Recorded). leaf_behind r.request ≤ 1024) (λ (r : Recorded). nat_le r.seqno to) rs before.leaves;
+      leaves = each_kept (λ (r : Recorded). leaf_after r.request ≤ 1024) (λ (r : Recorded). nat_le r.seqno to) rs before.leaves;
     }

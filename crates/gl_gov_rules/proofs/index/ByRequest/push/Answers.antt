@@ -4,10 +4,10 @@ use Rattle.std.specs.Vec.{with_items}
 use Rattle.std.proofs.lemmas.List.{with_items_is}
 use Rattle.gl_gov_rules.specs.Lists.{lists_of, list_at}
 use Rattle.gl_gov_rules.specs.declared.change.Recorded.{Recorded}
-use Rattle.gl_gov_rules.specs.Members.{leaf_behind}
+use Rattle.gl_gov_rules.specs.Members.{leaf_after}
 use Rattle.gl_gov_rules.specs.Nodes.{nodes_recorded}
 use Rattle.gl_gov_rules.specs.Proposals.{proposal_in, ballot_on}
-use Rattle.gl_gov_rules.specs.Told.{mark_in, given_in, signed_by}
+use Rattle.gl_gov_rules.specs.RequestFacts.{mark_in, given_in, signed_by}
 use Rattle.gl_gov_rules.proofs.Counting.{each_append}
 use Rattle.gl_gov_rules.proofs.ByRequests.{one_more, one_more_flat}
 use Rattle.gl_gov_rules.proofs.index.ByRequest.push.Goals as goal
@@ -19,16 +19,16 @@ returns c = λ rs before.
     let same : (with_items c.args.self.now.signed c.push_signer.new.signed).items ≡ c.push_signer.new.signed = with_items_is c.args.self.now.signed c.push_signer.new.signed (omega (arith, c.push_signer.auto.signed, c.args.self.now.signed.ok.0)) in
     record {
       nodes = one_more_flat (λ (x : Recorded). nodes_recorded x.seqno x.request) rs r _ _ before.nodes
-          (c.append_reserved.ensures ∙ ap (λ us. old.nodes.items ++ us) c.requires.told.nodes);
+          (c.append_reserved.ensures ∙ ap (λ us. old.nodes.items ++ us) c.requires.reported.nodes);
       marks = one_more (λ (x : Recorded). mark_in x.seqno x.request) rs r _ _ before.marks
           (c.push_some.ensures ∙ ap (λ o. old.marks.items ++ option_to_list o) c.mark_in.ensures);
       shares = one_more (λ (x : Recorded). given_in x.seqno x.request) rs r _ _ before.shares
           (c.push_some-2.ensures ∙ ap (λ o. old.shares.items ++ option_to_list o) c.given_in.ensures);
       proposals = one_more (λ (x : Recorded). proposal_in x.seqno x.request) rs r _ _ before.proposals
-          (c.push_some-3.ensures ∙ ap (λ o. old.proposals.items ++ option_to_list o) c.requires.told.proposal);
+          (c.push_some-3.ensures ∙ ap (λ o. old.proposals.items ++ option_to_list o) c.requires.reported.proposal);
       signed = λ n. ap (λ vs. list_at (lists_of vs) n) same
           ∙ one_more (λ (x : Recorded). signed_by n x.seqno x.request) rs r _ _ (before.signed n) (rw c.deref_mut.ensures.value at (c.push_signer.ensures.more n));
       ballots = λ id. one_more (ballot_on id) rs r _ _ (before.ballots id) (c.push.ensures.more id);
       known = rw (c.push.ensures.known, c.push.ensures.ids) before.known;
-      leaves = each_append (λ (x : Recorded). leaf_behind x.request ≤ 1024) rs (r ∷ []) before.leaves (c.push_signer.ensures.range, tt);
+      leaves = each_append (λ (x : Recorded). leaf_after x.request ≤ 1024) rs (r ∷ []) before.leaves (c.push_signer.ensures.range, tt);
     }

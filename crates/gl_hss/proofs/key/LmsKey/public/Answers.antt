@@ -1,7 +1,7 @@
 use Rattle.std.proofs.Common.{length, sym, ap, ◌∙◌}
 use Rattle.gl_hss.specs.Types.{height}
 use Rattle.gl_hss.specs.Secrets.{PrivateKey}
-use Rattle.gl_hss.proofs.Signing.{length-node_above}
+use Rattle.gl_hss.proofs.ValidSignatures.{length-node_above}
 use Rattle.gl_hss.proofs.key.LmsKey.public.Goals as goal
 
 pub returns-clause-form : goal.returns-clause-form

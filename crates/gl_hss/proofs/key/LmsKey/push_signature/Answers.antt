@@ -3,7 +3,7 @@ use Rattle.gl_hss.specs.Types.{height}
 use Rattle.gl_hss.specs.Tree.{signature_bytes}
 use Rattle.gl_hss.specs.Secrets.{PrivateKey}
 use Rattle.gl_hss.specs.Profile.{signature_by}
-use Rattle.gl_hss.proofs.Signing.{length-node_above, signature_by-Signs}
+use Rattle.gl_hss.proofs.ValidSignatures.{length-node_above, signature_by-Signs}
 use Rattle.gl_hss.proofs.key.LmsKey.push_signature.Goals as goal
 
 pub returns-clause-valid : goal.returns-clause-valid

@@ -1,7 +1,7 @@
 use Rattle.std.proofs.Common.{ℕ, List, ◌++◌, ap, ◌∙◌}
 use Rattle.gl_hss.specs.Tree.{signature_bytes}
 use Rattle.gl_hss.specs.Profile.{signature_by}
-use Rattle.gl_hss.proofs.Signing.{signature_by-Signs}
+use Rattle.gl_hss.proofs.ValidSignatures.{signature_by-Signs}
 use Rattle.gl_hss.proofs.key.LmsKey.sign_leaf.Goals as goal
 
 pub returns-clause-valid : goal.returns-clause-valid

@@ -9,8 +9,8 @@ use Rattle.gl_hss.proofs.source.KeySource.key_of_leaf.Goals as goal
 
 pub loop-i-init : goal.loop-i-init
 loop-i-init c =
-    let front = c.update-3.ensures _ (c.update-2.ensures _ (c.update.ensures [] c.new-hasher.ensures)) in
-    rw (whole_chains-none (private_of c.args.self.now) c.args.q, append-nil, ← c.u32str.ensures) front
+    let prefix = c.update-3.ensures _ (c.update-2.ensures _ (c.update.ensures [] c.new-hasher.ensures)) in
+    rw (whole_chains-none (private_of c.args.self.now) c.args.q, append-nil, ← c.u32str.ensures) prefix
 
 pub loop-i-preserved : goal.loop-i-preserved
 loop-i-preserved c =

@@ -3,7 +3,7 @@ use Rattle.gl_outside.specs.Disk.{Torn, Leaves, written}
 use Rattle.gl_outside.proofs.Moments.{so_too, then_too}
 use Rattle.gl_journal.specs.Gates.{body_of, payload_in}
 use Rattle.gl_journal.specs.Stops.{OpensTo}
-use Rattle.gl_journal.proofs.Appending.{staged, torn_behind, torn_gate, settled_after}
+use Rattle.gl_journal.proofs.Appending.{staged, torn_after, torn_gate, settled_after}
 use Rattle.gl_journal.proofs.Openings.{length-body}
 use Rattle.gl_journal.proofs.gated.Gated.append.Goals as goal
 
@@ -31,7 +31,7 @@ returns-in_err-write_kept-clause-any_moment g c h =
     let bytes = g.D.Disk.bytes c.args.self.now.disk in
     let past = g.D.Disk.past c.args.self.now.disk in
     let size = length c.deref.result.now in
-    so_too (Torn (place + 1) size bytes) (OpensTo header bytes payload) past (g.D.Disk.past c.write_kept.new.disk) (torn_behind header place bytes past (c.requires.open h) payload size) (c.write_kept.ensures.torn h)
+    so_too (Torn (place + 1) size bytes) (OpensTo header bytes payload) past (g.D.Disk.past c.write_kept.new.disk) (torn_after header place bytes past (c.requires.open h) payload size) (c.write_kept.ensures.torn h)
 
 pub returns-in_err-write_kept-2-clause-any_moment : goal.returns-in_err-write_kept-2-clause-any_moment
 returns-in_err-write_kept-2-clause-any_moment g c h =
@@ -45,7 +45,7 @@ returns-in_err-write_kept-2-clause-any_moment g c h =
     let s = c.requires.open h in
     let size = length c.deref.result.now in
     let P = OpensTo header bytes payload in
-    let first = so_too (Torn (place + 1) size bytes) P past mid (torn_behind header place bytes past s payload size) (c.write_kept.ensures.torn h) in
+    let first = so_too (Torn (place + 1) size bytes) P past mid (torn_after header place bytes past s payload size) (c.write_kept.ensures.torn h) in
     let whole : g.D.Disk.bytes c.write_kept.new.disk ≡ staged header place bytes past s payload c.requires.small =
     c.in_ok-write_kept.ensures.written h ∙ ap (written bytes (place + 1)) (c.deref.ensures.value ∙ c.seal.ensures) in
     let torn = subst (λ (l : List ℕ). Leaves (Torn place 1 l) mid after) whole (c.write_kept-2.ensures.torn h) in
@@ -63,7 +63,7 @@ returns-clause-any_moment g c h =
     let s = c.requires.open h in
     let size = length c.deref.result.now in
     let P = OpensTo header bytes payload in
-    let first = so_too (Torn (place + 1) size bytes) P past mid (torn_behind header place bytes past s payload size) (c.write_kept.ensures.torn h) in
+    let first = so_too (Torn (place + 1) size bytes) P past mid (torn_after header place bytes past s payload size) (c.write_kept.ensures.torn h) in
     let whole : g.D.Disk.bytes c.write_kept.new.disk ≡ staged header place bytes past s payload c.requires.small =
     c.in_ok-write_kept.ensures.written h ∙ ap (written bytes (place + 1)) (c.deref.ensures.value ∙ c.seal.ensures) in
     let torn = subst (λ (l : List ℕ). Leaves (Torn place 1 l) mid after) whole (c.write_kept-2.ensures.torn h) in

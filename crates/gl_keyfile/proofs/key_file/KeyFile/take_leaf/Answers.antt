@@ -1,7 +1,7 @@
 use Rattle.std.proofs.Common.{refl}
 use Rattle.gl_keyfile.specs.KeyFile.{any_frame, held}
 use Rattle.gl_keyfile.specs.Leaf.{after_leaf}
-use Rattle.gl_keyfile.proofs.Keeping.{none_done}
+use Rattle.gl_keyfile.proofs.UnwrittenFiles.{none_done}
 use Rattle.gl_keyfile.proofs.Bounds.{durable_within}
 use Rattle.gl_keyfile.proofs.key_file.KeyFile.take_leaf.Goals as goal
 

@@ -1,7 +1,7 @@
 use Rattle.std.proofs.Common.{◌≡◌, sym, subst}
 use Rattle.gl_requests.specs.declared.genesis.Genesis as request
 use Rattle.gl_ledger.specs.NodeKeys.{service_layers}
-use Rattle.gl_ledger.specs.Opening.{Founds}
+use Rattle.gl_ledger.specs.OpeningLedger.{Founds}
 use Rattle.gl_world.specs.Group.{IsGroup}
 use Rattle.gl_load.specs.Founding.{load_genesis, load_id, load_keys}
 use Rattle.gl_load.proofs.Founded.{genesis_made, group, load_founds, node_made}

@@ -11,5 +11,5 @@ returns-clause-found c =
     (λ answer e. whole_takes answer_bytes is_answer answer_at answer_takes c.args.bytes.now answer (λ i. omega (arith, c.type_inv.bytes i)) e)
 
 pub returns-clause-only : goal.returns-clause-only
-returns-clause-only c = λ answer is spelled.
-    subst (λ reading. Answers (λ x. x) c.read_whole.result reading) (ap answer_of spelled ∙ whole_finds answer_bytes is_answer answer_at answer_finds answer is) c.read_whole.ensures
+returns-clause-only c = λ answer is encoded.
+    subst (λ reading. Answers (λ x. x) c.read_whole.result reading) (ap answer_of encoded ∙ whole_finds answer_bytes is_answer answer_at answer_finds answer is) c.read_whole.ensures

@@ -5,5 +5,5 @@ use Rattle.gl_messages.proofs.answer.Answer.encode.Goals as goal
 
 pub returns-clause-fits : goal.returns-clause-fits
 returns-clause-fits c =
-    let bytes : c.put_said.new.out.items ≡ answer_bytes c.args.self.now = search rules in
+    let bytes : c.put_answer_body.new.out.items ≡ answer_bytes c.args.self.now = search rules in
     rw bytes (answer_bytes-fit c.args.self.now c.requires)

@@ -11,5 +11,5 @@ returns-clause-found c =
     (λ client e. whole_takes client_bytes is_client client_at client_takes c.args.bytes.now client (λ i. omega (arith, c.type_inv.bytes i)) e)
 
 pub returns-clause-only : goal.returns-clause-only
-returns-clause-only c = λ client is spelled.
-    subst (λ reading. Answers (λ x. x) c.read_whole.result reading) (ap client_of spelled ∙ whole_finds client_bytes is_client client_at client_finds client is) c.read_whole.ensures
+returns-clause-only c = λ client is encoded.
+    subst (λ reading. Answers (λ x. x) c.read_whole.result reading) (ap client_of encoded ∙ whole_finds client_bytes is_client client_at client_finds client is) c.read_whole.ensures

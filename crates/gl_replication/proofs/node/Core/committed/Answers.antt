@@ -1,5 +1,5 @@
 use Rattle.std.proofs.Common.{rules}
-use Rattle.gl_replication.proofs.Readings.{committed_is}
+use Rattle.gl_replication.proofs.NodeReadings.{committed_is}
 use Rattle.gl_replication.proofs.node.Core.committed.Goals as goal
 
 pub returns : goal.returns

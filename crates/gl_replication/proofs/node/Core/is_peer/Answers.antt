@@ -1,7 +1,7 @@
 use Rattle.std.proofs.Common.{rules, ◌∙◌}
 use Rattle.gl_rules.specs.Identity.{same}
 use Rattle.gl_config.specs.Active.{sets_of}
-use Rattle.gl_replication.proofs.Turns.{active_now}
+use Rattle.gl_replication.proofs.PeerSteps.{active_now}
 use Rattle.gl_replication.proofs.Peers.{peer_is}
 use Rattle.gl_replication.proofs.node.Core.is_peer.Goals as goal
 

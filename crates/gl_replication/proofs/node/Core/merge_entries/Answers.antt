@@ -6,7 +6,7 @@ use Rattle.gl_entry.specs.declared.entry.Entry.{Entry}
 use Rattle.gl_election.specs.Bridge.{seen_message}
 use Rattle.gl_replication.specs.Stands.{seen_outcome}
 use Rattle.gl_replication.specs.Stands.{Stepped}
-use Rattle.gl_replication.proofs.Merging.{rest_is, owed, all_held, below_commit, some_new, accepted, view_is, low_of, commit_of}
+use Rattle.gl_replication.proofs.Merging.{rest_is, expected_output, all_held, below_commit, some_new, accepted, view_is, low_of, commit_of}
 use Rattle.gl_replication.proofs.node.Core.merge_entries.Goals as goal
 
 pub replace_tail-requires-clause-within : goal.replace_tail-requires-clause-within
@@ -16,7 +16,7 @@ pub returns-then-held-entries-clause-steps : goal.returns-then-held-entries-clau
 returns-then-held-entries-clause-steps g c = λ b x n s.
     let h = c.requires.len b x n s in
     let low = low_of g.B.Book.stands s c.args.view c.requires.view in
-    subst (λ (m : Step Entry g.row.B-Given.Denot g.row.B-Refused.Denot). Stepped g.B.Book.stands b x m c.accept_entries.result c.accept_entries.new.self)
+    subst (λ (m : Step Entry g.row.B-Response.Denot g.row.B-Refused.Denot). Stepped g.B.Book.stands b x m c.accept_entries.result c.accept_entries.new.self)
     (sym (all_held b c.args.y c.args.view n low x c.args.len c.args.prev c.args.entries.now c.args.held c.args.theirs h.0 h.1 c.if-held-entries.true))
     (accepted g.B.Book.stands c.args.y c.args.view (c.args.prev + length c.args.entries.now) c.args.theirs (become_follower b c.args.y (update_view b c.args.view n)) c.accept_entries.result (c.accept_entries.ensures.0 b x _ (c.become_follower.ensures b x n s))
     (ap seen_outcome c.accept_entries.ensures.1) (ap (map seen_message) c.accept_entries.ensures.2 ∙ c.in-Ok.ensures.value b x n s) (view_is b c.args.y c.args.view n low))
@@ -34,18 +34,18 @@ returns-in-Err-Fault-clause-refused g c = λ b x n s.
     let h = c.requires.len b x n s in
     let low = low_of g.B.Book.stands s c.args.view c.requires.view in
     let k = c.in-Err-Fault.ensures.refused b x n s in
-    ap (λ (m : Step Entry g.row.B-Given.Denot g.row.B-Refused.Denot). m.outcome)
+    ap (λ (m : Step Entry g.row.B-Response.Denot g.row.B-Refused.Denot). m.outcome)
     (some_new b c.args.y c.args.view n low x c.args.len c.args.prev c.args.entries.now c.args.held c.args.theirs h.0 h.1 c.if-held-entries.false
     (ap (λ k. nat_lt (c.args.prev + c.args.held) c.args.len && nat_lt (c.args.prev + c.args.held) k) (sym (commit_of g.B.Book.stands s)) ∙ sym c.is_cut_below.ensures ∙ c.if-is_cut_below.false)
     c.requires.within.0 (Err c.in-Err-Fault.why)
-    (ap (checked_append b (take (c.args.prev + c.args.held) n.log)) (sym (rest_is c.args.held c.args.entries.now)) ∙ owed _ c.in-Err-Fault.field-0 c.in-Err-Fault.why (search rules) k))
+    (ap (checked_append b (take (c.args.prev + c.args.held) n.log)) (sym (rest_is c.args.held c.args.entries.now)) ∙ expected_output _ c.in-Err-Fault.field-0 c.in-Err-Fault.why (search rules) k))
 
 pub returns-clause-steps : goal.returns-clause-steps
 returns-clause-steps g c = λ b x n s.
     let h = c.requires.len b x n s in
     let low = low_of g.B.Book.stands s c.args.view c.requires.view in
     let r = c.in-Ok-replace_tail.ensures.grown b x n s in
-    subst (λ (m : Step Entry g.row.B-Given.Denot g.row.B-Refused.Denot). Stepped g.B.Book.stands b x m c.accept_entries-in-Ok-replace_tail.result c.accept_entries-in-Ok-replace_tail.new.self)
+    subst (λ (m : Step Entry g.row.B-Response.Denot g.row.B-Refused.Denot). Stepped g.B.Book.stands b x m c.accept_entries-in-Ok-replace_tail.result c.accept_entries-in-Ok-replace_tail.new.self)
     (sym (some_new b c.args.y c.args.view n low x c.args.len c.args.prev c.args.entries.now c.args.held c.args.theirs h.0 h.1 c.if-held-entries.false
     (ap (λ k. nat_lt (c.args.prev + c.args.held) c.args.len && nat_lt (c.args.prev + c.args.held) k) (sym (commit_of g.B.Book.stands s)) ∙ sym c.is_cut_below.ensures ∙ c.if-is_cut_below.false)
     c.requires.within.0 (Ok r.0) (ap (checked_append b (take (c.args.prev + c.args.held) n.log)) (sym (rest_is c.args.held c.args.entries.now)) ∙ r.1)))

@@ -15,14 +15,14 @@ use Rattle.gl_replication.proofs.node.Core.merge_if_matching.Goals as goal
 pub returns-then-is_matching-clause-steps : goal.returns-then-is_matching-clause-steps
 returns-then-is_matching-clause-steps g c = if_ok c.merge_entries.result (λ done k b x n s.
     let w = c.len_in_view-len.ensures.within b x n s in
-    subst (λ (m : Step Entry g.row.B-Given.Denot g.row.B-Refused.Denot). Stepped g.B.Book.stands b x m done c.merge_entries.new.self)
+    subst (λ (m : Step Entry g.row.B-Response.Denot g.row.B-Refused.Denot). Stepped g.B.Book.stands b x m done c.merge_entries.new.self)
     (sym (matching_is b x c.args.y c.args.view n (low_of g.B.Book.stands s c.args.view c.requires.view) (position c.args.prev) c.args.entries.now c.args.theirs c.len_in_view-len.result w
     (c.len_in_view-len.ensures.value b x n s) c.matching_prefix_len-held.result (sym (c.is_matching.ensures.value b x n s w) ∙ c.if-is_matching.true) (c.matching_prefix_len-held.ensures.value b x n s w))) (k b x n s)) c.merge_entries.ensures.steps
 
 pub returns-then-is_matching-clause-refused : goal.returns-then-is_matching-clause-refused
 returns-then-is_matching-clause-refused g c = if_err c.merge_entries.result (λ why k b x n s.
     let w = c.len_in_view-len.ensures.within b x n s in
-    subst (λ (m : Step Entry g.row.B-Given.Denot g.row.B-Refused.Denot). Answers why m.outcome)
+    subst (λ (m : Step Entry g.row.B-Response.Denot g.row.B-Refused.Denot). Answers why m.outcome)
     (sym (matching_is b x c.args.y c.args.view n (low_of g.B.Book.stands s c.args.view c.requires.view) (position c.args.prev) c.args.entries.now c.args.theirs c.len_in_view-len.result w
     (c.len_in_view-len.ensures.value b x n s) c.matching_prefix_len-held.result (sym (c.is_matching.ensures.value b x n s w) ∙ c.if-is_matching.true) (c.matching_prefix_len-held.ensures.value b x n s w))) (k b x n s)) c.merge_entries.ensures.refused
 

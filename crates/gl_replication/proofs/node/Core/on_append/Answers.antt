@@ -32,7 +32,7 @@ pub returns-clause-steps : goal.returns-clause-steps
 returns-clause-steps g c = if_ok c.merge_if_matching.result (λ done k b x n s.
     let r = k b x n s in
     let other = leads_not c.args.self.now.peer.view c.args.view c.args.self.now.peer.role (sym c.leads_in.ensures ∙ c.if-leads_in.false) in
-    subst (λ (m : Step Entry g.row.B-Given.Denot g.row.B-Refused.Denot). Stepped g.B.Book.stands b x m done c.merge_if_matching.new.self)
+    subst (λ (m : Step Entry g.row.B-Response.Denot g.row.B-Refused.Denot). Stepped g.B.Book.stands b x m done c.merge_if_matching.new.self)
     (sym (message_on b x c.args.from c.args.view n (position c.args.prev) c.args.entries.now c.args.commit (low_of g.B.Book.stands s c.args.view c.if-view-self.false)
     (λ e l. other (ap (λ (m : Node Entry). m.view) s.same ∙ e) (ap (λ (m : Node Entry). m.role) s.same ∙ l))
     ∙ undone n done.outcome (merge_if_matching b x c.args.from (position c.args.prev) c.args.entries.now c.args.commit (become_follower b c.args.from (update_view b c.args.view n))) r.outcome)) r) c.merge_if_matching.ensures.steps
@@ -40,7 +40,7 @@ returns-clause-steps g c = if_ok c.merge_if_matching.result (λ done k b x n s.
 pub returns-clause-refused : goal.returns-clause-refused
 returns-clause-refused g c = if_err c.merge_if_matching.result (λ why k b x n s.
     let other = leads_not c.args.self.now.peer.view c.args.view c.args.self.now.peer.role (sym c.leads_in.ensures ∙ c.if-leads_in.false) in
-    subst (λ (m : Step Entry g.row.B-Given.Denot g.row.B-Refused.Denot). Answers why m.outcome)
+    subst (λ (m : Step Entry g.row.B-Response.Denot g.row.B-Refused.Denot). Answers why m.outcome)
     (sym (message_on b x c.args.from c.args.view n (position c.args.prev) c.args.entries.now c.args.commit (low_of g.B.Book.stands s c.args.view c.if-view-self.false)
     (λ e l. other (ap (λ (m : Node Entry). m.view) s.same ∙ e) (ap (λ (m : Node Entry). m.role) s.same ∙ l))))
     (answers_undone why n (merge_if_matching b x c.args.from (position c.args.prev) c.args.entries.now c.args.commit (become_follower b c.args.from (update_view b c.args.view n))) (k b x n s))) c.merge_if_matching.ensures.refused

@@ -21,7 +21,7 @@ returns-then-view-self-clause-steps g c = λ b x n s.
 pub returns-then-leads_in-clause-steps : goal.returns-then-leads_in-clause-steps
 returns-then-leads_in-clause-steps g c = if_ok c.update_progress.result (λ done k b x n s.
     let t = leads_then c.args.self.now.peer.view c.args.view c.args.self.now.peer.role (sym c.leads_in.ensures ∙ c.if-leads_in.true) in
-    subst (λ (m : Step Entry g.row.B-Given.Denot g.row.B-Refused.Denot). Stepped g.B.Book.stands b x m done c.update_progress.new.self)
+    subst (λ (m : Step Entry g.row.B-Response.Denot g.row.B-Refused.Denot). Stepped g.B.Book.stands b x m done c.update_progress.new.self)
     (sym (reply_led b x c.args.from c.args.view c.args.ok c.args.seqno n (sym (ap (λ (m : Node Entry). m.view) s.same) ∙ t.0) (sym (ap (λ (m : Node Entry). m.role) s.same) ∙ t.1)))
     (k b x n s)) c.update_progress.ensures.steps
 

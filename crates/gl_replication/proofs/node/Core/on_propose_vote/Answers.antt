@@ -5,7 +5,7 @@ use Rattle.gl_rules.specs.World.{on_message}
 use Rattle.gl_election.specs.Elections.{at_propose_vote}
 use Rattle.gl_election.specs.Bridge.{message_to, step_of}
 use Rattle.gl_election.proofs.Bridging.{propose_vote_is}
-use Rattle.gl_replication.proofs.Turns.{campaigning, peer_of, refuses, turned}
+use Rattle.gl_replication.proofs.PeerSteps.{campaigning, peer_of, refuses, turned}
 use Rattle.gl_replication.proofs.node.Core.on_propose_vote.Goals as goal
 
 pub returns-in-Ok-on_propose_vote-clause-steps : goal.returns-in-Ok-on_propose_vote-clause-steps

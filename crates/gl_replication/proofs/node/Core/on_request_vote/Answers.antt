@@ -4,7 +4,7 @@ use Rattle.gl_rules.specs.World.{on_message}
 use Rattle.gl_election.specs.Elections.{at_request_vote, position}
 use Rattle.gl_election.specs.Bridge.{message_to, step_of}
 use Rattle.gl_election.proofs.Bridging.{request_vote_is}
-use Rattle.gl_replication.proofs.Turns.{peer_of, refuses, same2, turned}
+use Rattle.gl_replication.proofs.PeerSteps.{peer_of, refuses, same2, turned}
 use Rattle.gl_replication.proofs.node.Core.on_request_vote.Goals as goal
 
 pub returns-in-Ok-clause-steps : goal.returns-in-Ok-clause-steps

@@ -5,7 +5,7 @@ use Rattle.gl_rules.specs.World.{on_message}
 use Rattle.gl_election.specs.Elections.{at_vote_reply}
 use Rattle.gl_election.specs.Bridge.{message_to, step_of}
 use Rattle.gl_election.proofs.Bridging.{vote_reply_is}
-use Rattle.gl_replication.proofs.Turns.{active_now, peer_of, refuses, turned}
+use Rattle.gl_replication.proofs.PeerSteps.{active_now, peer_of, refuses, turned}
 use Rattle.gl_replication.proofs.node.Core.on_vote_reply.Goals as goal
 
 pub returns-in-Ok-clause-steps : goal.returns-in-Ok-clause-steps

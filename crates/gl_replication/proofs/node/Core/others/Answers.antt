@@ -1,6 +1,6 @@
 use Rattle.gl_config.specs.Active.{sets_of}
 use Rattle.gl_replication.proofs.Rows.{if_ok}
-use Rattle.gl_replication.proofs.Turns.{active_is, others_are}
+use Rattle.gl_replication.proofs.PeerSteps.{active_is, others_are}
 use Rattle.gl_replication.proofs.node.Core.others.Goals as goal
 
 pub returns : goal.returns

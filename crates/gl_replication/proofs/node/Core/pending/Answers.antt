@@ -1,4 +1,4 @@
-use Rattle.gl_replication.proofs.Readings.{pending_is}
+use Rattle.gl_replication.proofs.NodeReadings.{pending_is}
 use Rattle.gl_replication.proofs.node.Core.pending.Goals as goal
 
 pub returns : goal.returns

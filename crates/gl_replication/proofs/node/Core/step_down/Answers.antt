@@ -4,7 +4,7 @@ use Rattle.gl_rules.specs.Elections.{step_down}
 use Rattle.gl_election.specs.Elections.{at_step_down}
 use Rattle.gl_election.specs.Bridge.{step_of}
 use Rattle.gl_election.proofs.Bridging.{step_down_is}
-use Rattle.gl_replication.proofs.Turns.{active_now, peer_of, refuses, same2, turned}
+use Rattle.gl_replication.proofs.PeerSteps.{active_now, peer_of, refuses, same2, turned}
 use Rattle.gl_replication.proofs.node.Core.step_down.Goals as goal
 
 pub returns-in-Ok-clause-steps : goal.returns-in-Ok-clause-steps

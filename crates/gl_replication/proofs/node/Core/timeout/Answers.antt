@@ -4,7 +4,7 @@ use Rattle.gl_rules.specs.Elections.{timeout}
 use Rattle.gl_election.specs.Elections.{at_timeout}
 use Rattle.gl_election.specs.Bridge.{step_of}
 use Rattle.gl_election.proofs.Bridging.{timeout_is}
-use Rattle.gl_replication.proofs.Turns.{campaigning, peer_of, refuses, turned}
+use Rattle.gl_replication.proofs.PeerSteps.{campaigning, peer_of, refuses, turned}
 use Rattle.gl_replication.proofs.node.Core.timeout.Goals as goal
 
 pub returns-in-Ok-timeout-clause-steps : goal.returns-in-Ok-timeout-clause-steps

@@ -1,11 +1,11 @@
 use Rattle.std.proofs.Common.{ℕ, false, true, ap, subst, sym}
 use Rattle.std.proofs.lemmas.Result.{on_ok_weaker}
 use Rattle.gl_world.specs.Founding.{id_of}
-use Rattle.gl_schedule.specs.Play.{Tells, byte_number}
+use Rattle.gl_schedule.specs.Play.{Prints, byte_number}
 use Rattle.gl_schedule.specs.Playing.{Playing}
-use Rattle.gl_schedule.specs.Told.{at_member, signs}
-use Rattle.gl_schedule.proofs.EventLemmas.{group_from, node_from, tells_no_node}
-use Rattle.gl_schedule.proofs.RequestLemmas.{tells_at, tells_no_member, tells_of_member}
+use Rattle.gl_schedule.specs.Output.{at_member, signs}
+use Rattle.gl_schedule.proofs.EventLemmas.{group_from, node_from, prints_no_node}
+use Rattle.gl_schedule.proofs.RequestLemmas.{prints_at, prints_no_member, prints_of_member}
 use Rattle.gl_schedule.proofs.machine.Machine.ask_as.Goals as goal
 
 pub returns-then-not-has_node : goal.returns-then-not-has_node
@@ -14,7 +14,7 @@ returns-then-not-has_node g c =
     let held = sym (ap (λ (p : Playing). p.world) c.self.view_is) in
     let group = group_from m _ _ held c.self.invariant.world c.self.invariant.group in
     let none = node_from m _ c.args.node _ _ false held c.node_number-node.ensures c.has_node.ensures c.if-not-has_node.true in
-    record { tells = on_ok_weaker c.put_unnamed.result (λ w. tells_no_node m group c.args.node (λ t x. at_member c.args.member (signs m.world.settings t x c.args.member c.args.act)) _ _ none w c.args.number) c.put_unnamed.ensures }
+    record { prints = on_ok_weaker c.put_unnamed.result (λ w. prints_no_node m group c.args.node (λ t x. at_member c.args.member (signs m.world.settings t x c.args.member c.args.act)) _ _ none w c.args.number) c.put_unnamed.ensures }
 
 pub returns-in-None : goal.returns-in-None
 returns-in-None g c =
@@ -23,9 +23,9 @@ returns-in-None g c =
     let group = group_from m _ _ held c.self.invariant.world c.self.invariant.group in
     let some = node_from m _ c.args.node _ _ true held c.node_number-node.ensures c.has_node.ensures c.if-not-has_node.false in
     record {
-      tells = on_ok_weaker c.put_unnamed-in-None.result
-          (λ w. tells_at m m group c.args.number c.args.node (λ s t x. at_member c.args.member (signs s t x c.args.member c.args.act)) _ _ some
-          (tells_no_member m c.args.number c.args.member (λ s t. signs s t (id_of s (byte_number c.args.node)) c.args.member c.args.act) _ _ c.in-None.ensures w)) c.put_unnamed-in-None.ensures;
+      prints = on_ok_weaker c.put_unnamed-in-None.result
+          (λ w. prints_at m m group c.args.number c.args.node (λ s t x. at_member c.args.member (signs s t x c.args.member c.args.act)) _ _ some
+          (prints_no_member m c.args.number c.args.member (λ s t. signs s t (id_of s (byte_number c.args.node)) c.args.member c.args.act) _ _ c.in-None.ensures w)) c.put_unnamed-in-None.ensures;
     }
 
 pub returns-in-Some : goal.returns-in-Some
@@ -35,8 +35,8 @@ returns-in-Some g c =
     let group = group_from m _ _ held c.self.invariant.world c.self.invariant.group in
     let some = node_from m _ c.args.node _ _ true held c.node_number-node.ensures c.has_node.ensures c.if-not-has_node.false in
     record {
-      tells = on_ok_weaker c.ask.result
-          (λ tells. tells_at m _ group c.args.number c.args.node (λ s t x. at_member c.args.member (signs s t x c.args.member c.args.act)) _ _ some
-          (tells_of_member m _ c.args.number c.args.member c.in-Some.member (λ s t n. signs s t (id_of s (byte_number c.args.node)) n c.args.act) _ _ c.in-Some.ensures
-          (subst (λ (k : ℕ). Tells c.args.number (λ s t. signs s t (id_of s k) c.in-Some.member c.args.act) m c.ask.new.self c.args.out.now.items c.ask.new.out.items) c.node_number-node.ensures tells))) c.ask.ensures.tells;
+      prints = on_ok_weaker c.ask.result
+          (λ prints. prints_at m _ group c.args.number c.args.node (λ s t x. at_member c.args.member (signs s t x c.args.member c.args.act)) _ _ some
+          (prints_of_member m _ c.args.number c.args.member c.in-Some.member (λ s t n. signs s t (id_of s (byte_number c.args.node)) n c.args.act) _ _ c.in-Some.ensures
+          (subst (λ (k : ℕ). Prints c.args.number (λ s t. signs s t (id_of s k) c.in-Some.member c.args.act) m c.ask.new.self c.args.out.now.items c.ask.new.out.items) c.node_number-node.ensures prints))) c.ask.ensures.prints;
     }

@@ -20,9 +20,9 @@ returns-in-Ok g c =
     let mid = ap view (c.in-Ok.ensures.happened.grows ∙ ap (λ (q : GovernanceRequest). with_event w (events.Govern c.args.node q)) c.in_ok-copy.ensures)
     ∙ ap (λ (p : Playing). record p { world = with_event p.world ev }) c.self.view_is in
     let answer = c.in-Ok.ensures.happened.answer ∙ ap (λ (q : GovernanceRequest). answer_to w (events.Govern c.args.node q)) c.in_ok-copy.ensures ∙ ap (λ (p : Playing). answer_to p.world ev) c.self.view_is in
-    on_ok_both c.tell.result
-    (λ noted written. governs_ok c.args.self.now _ c.args.node c.args.request.now mid c.tell.new.self _ _ _ answer noted written)
-    c.tell.ensures.becomes c.tell.ensures.written
+    on_ok_both c.print.result
+    (λ noted written. governs_ok c.args.self.now _ c.args.node c.args.request.now mid c.print.new.self _ _ _ answer noted written)
+    c.print.ensures.becomes c.print.ensures.written
 
 pub returns-in-Err : goal.returns-in-Err
 returns-in-Err g c =
@@ -34,12 +34,12 @@ returns-in-Err g c =
     let copied = ap (λ (q : GovernanceRequest). answer_to w (events.Govern c.args.node q)) c.in_ok-copy.ensures in
     let asked = copied ∙ ap (λ (p : Playing). answer_to p.world ev) c.self.view_is in
     on_ok_both c.put_refusal.result
-    (λ told other.
+    (λ reported other.
     let left = c.in-Err.ensures.refused.left ∙ ap (λ (b : Bool). if b then w else with_event w (events.Govern c.args.node c.in_ok-copy.field-0)) other in
     let mid = ap view (left ∙ ap (λ (q : GovernanceRequest). with_event w (events.Govern c.args.node q)) c.in_ok-copy.ensures)
     ∙ ap (λ (p : Playing). record p { world = with_event p.world ev }) c.self.view_is in
     governs_err c.args.self.now _ c.args.node c.args.request.now mid c.in-Err.why _ _ other
     (subst (λ (o : ServiceOutcome). Refused c.in-Err.why o) asked c.in-Err.ensures.refused.answer)
-    (told s (c.deref.ensures.value ∙ ids) _ c.in-Err.ensures.refused.answer
+    (reported s (c.deref.ensures.value ∙ ids) _ c.in-Err.ensures.refused.answer
     ∙ ap (λ (o : ServiceOutcome). c.args.out.now.items ++ outcome_text s o) copied ∙ ap (λ (p : Playing). c.args.out.now.items ++ outcome_text p.world.settings (answer_to p.world ev)) c.self.view_is))
-    c.put_refusal.ensures.told c.put_refusal.ensures.other
+    c.put_refusal.ensures.reported c.put_refusal.ensures.other

@@ -4,6 +4,6 @@ use Rattle.gl_schedule.proofs.machine.Machine.play.Goals as goal
 
 pub returns-in-Ok : goal.returns-in-Ok
 returns-in-Ok g c = record {
-  tells = on_ok_weaker c.happen.result
-      (λ tells. line_happens c.args.self.now _ c.args.number c.args.line c.in-Ok.event _ _ c.happen.ensures.group c.in-Ok.ensures.event tells) c.happen.ensures.tells;
+  prints = on_ok_weaker c.apply_event.result
+      (λ prints. line_happens c.args.self.now _ c.args.number c.args.line c.in-Ok.event _ _ c.apply_event.ensures.group c.in-Ok.ensures.event prints) c.apply_event.ensures.prints;
 }

@@ -3,8 +3,8 @@ use Rattle.std.proofs.lemmas.Result.{on_ok_weaker}
 use Rattle.gl_requests.specs.declared.action.Action.{Action}
 use Rattle.gl_requests.specs.declared.request.MemberAct.TheVariants as acts
 use Rattle.gl_lines.specs.declared.line.Line.TheVariants as lines
-use Rattle.gl_schedule.specs.Play.{Tells}
-use Rattle.gl_schedule.specs.Told.{at_member, at_node, effect_of, signs}
+use Rattle.gl_schedule.specs.Play.{Prints}
+use Rattle.gl_schedule.specs.Output.{at_member, at_node, effect_of, signs}
 use Rattle.gl_schedule.proofs.machine.Machine.propose.Goals as goal
 
 pub returns-in_ok-actions-in-Some : goal.returns-in_ok-actions-in-Some
@@ -14,8 +14,8 @@ returns-in_ok-actions-in-Some g c =
     let before = c.args.out.now.items in
     let after = c.ask_as.new.out.items in
     record {
-      tells = on_ok_weaker c.ask_as.result
-          (λ tells. subst (λ (o : Option (List Action)). Tells c.args.number (λ s t. effect_of s t (lines.Propose c.args.node c.args.member o)) m new before after) (sym c.in-Some.is)
-          (subst (λ (l : List Action). Tells c.args.number (λ s t. at_node s c.args.node (λ x. at_member c.args.member (signs s t x c.args.member (acts.Propose l)))) m new before after)
-          (c.in_ok-actions-in-Some.ensures ∙ c.as_slice.ensures) tells)) c.ask_as.ensures.tells;
+      prints = on_ok_weaker c.ask_as.result
+          (λ prints. subst (λ (o : Option (List Action)). Prints c.args.number (λ s t. effect_of s t (lines.Propose c.args.node c.args.member o)) m new before after) (sym c.in-Some.is)
+          (subst (λ (l : List Action). Prints c.args.number (λ s t. at_node s c.args.node (λ x. at_member c.args.member (signs s t x c.args.member (acts.Propose l)))) m new before after)
+          (c.in_ok-actions-in-Some.ensures ∙ c.as_slice.ensures) prints)) c.ask_as.ensures.prints;
     }

@@ -4,7 +4,7 @@ use Rattle.std.specs.BTreeMap.{BTreeMap, get}
 use Rattle.gl_serve.specs.declared.streams.Stream.{Stream}
 use Rattle.gl_serve.specs.declared.streams.Stream.TheVariants.{Heard}
 use Rattle.gl_serve.specs.Kept.{next_of, stream_at}
-use Rattle.gl_serve.proofs.Keeping.{next_nil}
+use Rattle.gl_serve.proofs.KeptStreams.{next_nil}
 use Rattle.gl_serve.proofs.streams.Streams.take_payload.Goals as goal
 
 pub returns-in-None-clause-taken : goal.returns-in-None-clause-taken

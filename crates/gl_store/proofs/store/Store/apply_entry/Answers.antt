@@ -1,6 +1,6 @@
 use Rattle.std.proofs.Common.{◌∙◌, List, [], ◌∷◌, ◌++◌, ap}
 use Rattle.gl_entry.specs.declared.entry.Entry.{Entry}
-use Rattle.gl_store.proofs.Keeping.{kept-push}
+use Rattle.gl_store.proofs.KeptEntries.{kept-push}
 use Rattle.gl_store.proofs.store.Store.apply_entry.Goals as goal
 
 pub invariant_of-self-2 : goal.invariant_of-self-2

@@ -6,8 +6,8 @@ use Rattle.gl_ledger.specs.Recordings.{last_entry}
 use Rattle.gl_audit.specs.Ends.{IsRead, end_of}
 use Rattle.gl_audit.specs.Committed.{Held}
 use Rattle.gl_audit.proofs.Cutting.{audited-take}
-use Rattle.gl_audit.proofs.Keeping.{state-cut}
-use Rattle.gl_store.proofs.Keeping.{kept-cut}
+use Rattle.gl_audit.proofs.KeptLedgers.{state-cut}
+use Rattle.gl_store.proofs.KeptEntries.{kept-cut}
 use Rattle.gl_audit.proofs.LastEntries.{last_read}
 use Rattle.gl_audit.proofs.TablesLaws.{count_of_frontier}
 use Rattle.gl_store.proofs.store.Store.cut.Goals as goal
@@ -35,5 +35,5 @@ invariant_of-self c =
     let left : c.truncate.new.self.items ≡ take c.args.to ledger = c.truncate.ensures.items in
     kept-cut ledger c.truncate.new.self.items _ c.args.to c.cut.new.self c.self.invariant committed within left
     (state-cut ledger k.state c.cut.new.self c.args.to c.self.invariant.stands w within (done.end ∙ c.of.ensures ∙ ap end_of (c.deref.ensures.value ∙ left)) done.signatures done.gov done.tables done.base
-    (record { state_told = done.state; identity_told = done.identity }) done.leaves)
+    (record { state_reported = done.state; identity_reported = done.identity }) done.leaves)
     (record { tables = done.whole ∙ w.tables; base = done.leaves.base ∙ w.base; peaks = done.leaves.peaks ∙ w.peaks })

@@ -6,7 +6,7 @@ use Rattle.gl_tx.specs.declared.request.Operation.{Operation}
 use Rattle.gl_ledger.specs.ServiceRow.{service_state}
 use Rattle.gl_ledger.specs.Tree.{writes_of, tables_of}
 use Rattle.gl_ledger.specs.Ledger.{execute_result}
-use Rattle.gl_ledger.specs.declared.made.Given.TheVariants.{Replied}
+use Rattle.gl_ledger.specs.declared.response.Response.TheVariants.{Replied}
 use Rattle.gl_ledger.specs.Makers.{request_result}
 use Rattle.gl_audit.specs.Committed.{Held}
 use Rattle.gl_store.specs.Calls.{Refuses}
@@ -30,7 +30,7 @@ returns-clause-made c =
     (c.deref.ensures.value ∙ c.in_ok-reply.ensures.bytes) refl small
     (subst (λ (xs : List ℕ). length xs ≤ body_limit) (c.deref-2.ensures.value ∙ sym c.deref.ensures.value) c.in_default.ensures.reply) c.in_default.ensures.seqno in
     subst (λ (h : Held). request_result h.ledger c.args.view q ≡ Ok (e, Replied ran.reply)) c.self.view_is
-    (request_made ledger c.args.view q e ran.reply c.requires.spelled gives)
+    (request_made ledger c.args.view q e ran.reply c.requires.encoded gives)
 
 pub returns-clause-fits : goal.returns-clause-fits
 returns-clause-fits c =
@@ -42,5 +42,5 @@ returns-in-Err-clause-refused c =
     let ledger : List Entry = c.self.inside.entries.items in
     let is_open : service_state (tables_of ledger) ≡ Open = subst (λ (h : Held). service_state (tables_of h.ledger) ≡ Open) (sym c.self.view_is) c.requires.is_open in
     subst (λ (h : Held). Refuses (request_result h.ledger c.args.view c.args.request.now) c.widen.result) c.self.view_is
-    (refused_run ledger c.args.view c.args.request.now c.in-Err.error c.widen.result c.requires.spelled is_open
+    (refused_run ledger c.args.view c.args.request.now c.in-Err.error c.widen.result c.requires.encoded is_open
     (c.in-Err.ensures.stands (writes_of ledger) c.self.invariant.stands.tables_are) c.widen.ensures)

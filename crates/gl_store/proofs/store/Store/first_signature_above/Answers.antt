@@ -3,7 +3,7 @@ use Rattle.std.specs.Option.{option_copied}
 use Rattle.std.specs.List.Sorted.{IsPartitionPoint, IsPartitionedBy}
 use Rattle.gl_rules.specs.Log.{entry_at}
 use Rattle.gl_receipt.specs.Made.{signature_above}
-use Rattle.gl_receipt.proofs.OrderLemmas.{AreInOrder, signature_behind, signature_numbered}
+use Rattle.gl_receipt.proofs.OrderLemmas.{AreInOrder, signature_after, signature_numbered}
 use Rattle.gl_audit.specs.Kept.{signature_seqnos}
 use Rattle.gl_audit.specs.Committed.{Held}
 use Rattle.gl_audit.proofs.SignatureSeqnos.{seqnos-partitioned, above-is}
@@ -34,7 +34,7 @@ returns-in-Some-clause-first c =
 pub returns-in-Some-clause-above : goal.returns-in-Some-clause-above
 returns-in-Some-clause-above c =
     let order : AreInOrder c.args.self.now.ledger = subst (λ (h : Held). AreInOrder h.ledger) c.self.view_is c.self.invariant.stands.sound.in_order.seqnos in
-    signature_behind c.args.self.now.ledger c.args.seqno c.entry.result order (returns-in-Some-clause-first c)
+    signature_after c.args.self.now.ledger c.args.seqno c.entry.result order (returns-in-Some-clause-first c)
 
 pub returns-in-Some-clause-numbered : goal.returns-in-Some-clause-numbered
 returns-in-Some-clause-numbered c =

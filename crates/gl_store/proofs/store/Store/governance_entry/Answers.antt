@@ -8,7 +8,7 @@ use Rattle.gl_audit.specs.GovState.{share_count}
 use Rattle.gl_ledger.specs.Recordings.{requests_of}
 use Rattle.gl_ledger.proofs.Governed.{above}
 use Rattle.gl_audit.specs.Committed.{Held}
-use Rattle.gl_store.proofs.Governing.{requests_behind}
+use Rattle.gl_store.proofs.Governing.{requests_after}
 use Rattle.gl_audit.proofs.RuleTests.{nothing_kept}
 use Rattle.gl_store.proofs.store.Store.governance_entry.Goals as goal
 
@@ -27,17 +27,17 @@ returns-clause-proposal c =
     let ledger = c.args.self.now.ledger in
     let g = c.args.request.now in
     let recorded : c.self.inside.state.gov ≡ requests_of ledger = c.self.invariant.stands.governed ∙ ap (λ (h : Held). requests_of h.ledger) c.self.view_is in
-    let behind : c.self.inside.state.gov ++ record { seqno = c.next_seqno-seqno.result; request = g } ∷ [] ≡ requests_of (ledger ++ c.in_ok-entry.entry ∷ []) =
+    let after : c.self.inside.state.gov ++ record { seqno = c.next_seqno-seqno.result; request = g } ∷ [] ≡ requests_of (ledger ++ c.in_ok-entry.entry ∷ []) =
     ap₂ (λ (rs : List Recorded) (n : ℕ). rs ++ record { seqno = n; request = g } ∷ []) recorded c.next_seqno-seqno.ensures
-    ∙ sym (requests_behind ledger g c.in_ok-entry.entry c.requires.fits (ap (λ (e : Entry). e.content) c.in_ok-entry.ensures.made)) in
-    c.in_ok-effect.ensures.proposal ∙ ap (λ (rs : List Recorded). proposal_status (history rs) g) behind
+    ∙ sym (requests_after ledger g c.in_ok-entry.entry c.requires.fits (ap (λ (e : Entry). e.content) c.in_ok-entry.ensures.made)) in
+    c.in_ok-effect.ensures.proposal ∙ ap (λ (rs : List Recorded). proposal_status (history rs) g) after
 
 pub returns-clause-shares : goal.returns-clause-shares
 returns-clause-shares c =
     let ledger = c.args.self.now.ledger in
     let g = c.args.request.now in
     let recorded : c.self.inside.state.gov ≡ requests_of ledger = c.self.invariant.stands.governed ∙ ap (λ (h : Held). requests_of h.ledger) c.self.view_is in
-    let behind : c.self.inside.state.gov ++ record { seqno = c.next_seqno-seqno.result; request = g } ∷ [] ≡ requests_of (ledger ++ c.in_ok-entry.entry ∷ []) =
+    let after : c.self.inside.state.gov ++ record { seqno = c.next_seqno-seqno.result; request = g } ∷ [] ≡ requests_of (ledger ++ c.in_ok-entry.entry ∷ []) =
     ap₂ (λ (rs : List Recorded) (n : ℕ). rs ++ record { seqno = n; request = g } ∷ []) recorded c.next_seqno-seqno.ensures
-    ∙ sym (requests_behind ledger g c.in_ok-entry.entry c.requires.fits (ap (λ (e : Entry). e.content) c.in_ok-entry.ensures.made)) in
-    c.in_ok-effect.ensures.shares ∙ ap (λ (rs : List Recorded). share_count (history rs)) behind
+    ∙ sym (requests_after ledger g c.in_ok-entry.entry c.requires.fits (ap (λ (e : Entry). e.content) c.in_ok-entry.ensures.made)) in
+    c.in_ok-effect.ensures.shares ∙ ap (λ (rs : List Recorded). share_count (history rs)) after

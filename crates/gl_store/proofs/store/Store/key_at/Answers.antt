@@ -32,4 +32,4 @@ returns-clause-none c =
     let ledger = c.self.inside.entries.items in
     let within : c.args.seqno ≤ length ledger = subst (λ (h : Held). c.args.seqno ≤ length h.ledger) (sym c.self.view_is) c.requires in
     key_there ledger c.self.invariant.stands.sound c.args.seqno within _
-    (c.key_behind.ensures ∙ ap (λ (es : List Entry). key_of (identity_in (tables_of (take c.args.seqno es)))) c.deref.ensures.value)
+    (c.key_after.ensures ∙ ap (λ (es : List Entry). key_of (identity_in (tables_of (take c.args.seqno es)))) c.deref.ensures.value)

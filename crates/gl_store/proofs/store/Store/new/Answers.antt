@@ -1,4 +1,4 @@
-use Rattle.gl_store.proofs.Keeping.{kept_empty}
+use Rattle.gl_store.proofs.KeptEntries.{kept_empty}
 use Rattle.gl_store.proofs.store.Store.new.Goals as goal
 
 pub invariant_of-result : goal.invariant_of-result

@@ -3,7 +3,7 @@ use Rattle.gl_ledger.specs.NodeKeys.{service_layers}
 use Rattle.gl_ledger.specs.Broken.{broken}
 use Rattle.gl_entry.specs.declared.entry.Entry.{Entry}
 use Rattle.gl_audit.specs.Committed.{Held}
-use Rattle.gl_store.proofs.Keeping.{kept-push}
+use Rattle.gl_store.proofs.KeptEntries.{kept-push}
 use Rattle.gl_store.proofs.store.Store.push.Goals as goal
 
 pub push-requires : goal.push-requires

@@ -3,7 +3,7 @@ use Rattle.gl_entry.specs.declared.entry.Entry.{Entry}
 use Rattle.gl_ledger.specs.NodeKeys.{service_layers}
 use Rattle.gl_audit.specs.Committed.{Held}
 use Rattle.gl_store_book.specs.Stands.{NodeStore}
-use Rattle.gl_store_book.proofs.Telling.{tells}
+use Rattle.gl_store_book.proofs.AllLedgers.{reports}
 use Rattle.gl_rules.specs.Log.{greatest_recorded}
 use Rattle.gl_ledger.specs.Broken.{last_commit}
 use Rattle.gl_ledger.specs.Audit.{audited}
@@ -11,7 +11,7 @@ use Rattle.gl_store_book.proofs.Commits.{last_is_greatest}
 use Rattle.gl_store_book.proofs.book.StoreBookBook.known_commit.Goals as goal
 
 pub returns : goal.returns
-returns c = tells c.args.self.now (λ b h. c.last_recorded_commit.result ≡ max h.base (greatest_recorded b h.log)) (λ keys has.
+returns c = reports c.args.self.now (λ b h. c.last_recorded_commit.result ≡ max h.base (greatest_recorded b h.log)) (λ keys has.
     let same : c.self.inside.ledger ≡ c.args.self.now.ledger = ap (λ (n : NodeStore). n.ledger) c.self.view_is in
     let all : c.store.result.now.ledger ≡ c.args.self.now.ledger = ap (λ (h : Held). h.ledger) c.store.ensures.holds ∙ same in
     c.last_recorded_commit.ensures ∙ ap last_commit all

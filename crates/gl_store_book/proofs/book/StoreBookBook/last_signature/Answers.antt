@@ -3,7 +3,7 @@ use Rattle.gl_ledger.specs.NodeKeys.{service_layers}
 use Rattle.gl_ledger.specs.LedgerBook.{ledger_book}
 use Rattle.gl_audit.specs.Committed.{Held}
 use Rattle.gl_store_book.specs.Stands.{NodeStore, whole}
-use Rattle.gl_store_book.proofs.Telling.{tells, stands_with}
+use Rattle.gl_store_book.proofs.AllLedgers.{reports, stands_with}
 use Rattle.gl_base.specs.declared.tx_id.TxId.{TxId}
 use Rattle.gl_rules.specs.Log.{last_signature, view_at}
 use Rattle.gl_ledger.specs.Broken.{last_signed}
@@ -23,7 +23,7 @@ abbrev id : ℕ → ℕ → TxId
 id view seqno = record { view = view; seqno = seqno }
 
 pub returns-clause-value : goal.returns-clause-value
-returns-clause-value c = tells c.args.self.now (λ b h. id c.view_at.result c.last_signature-seqno.result ≡ id (view_at b h.log (last_signature b h.log)) (last_signature b h.log)) (λ keys has.
+returns-clause-value c = reports c.args.self.now (λ b h. id c.view_at.result c.last_signature-seqno.result ≡ id (view_at b h.log (last_signature b h.log)) (last_signature b h.log)) (λ keys has.
     let book = ledger_book service_layers keys in
     let node = c.args.self.now in
     let all : c.store.result.now.ledger ≡ node.ledger = ap (λ (h : Held). h.ledger) c.store.ensures.holds ∙ ap (λ (n : NodeStore). n.ledger) c.self.view_is in

@@ -2,7 +2,7 @@ use Rattle.std.proofs.Common.{◌≡◌, ℕ, List, ap, ◌∙◌}
 use Rattle.gl_entry.specs.declared.entry.Entry.{Entry}
 use Rattle.gl_audit.specs.Committed.{Held}
 use Rattle.gl_store_book.specs.Stands.{NodeStore}
-use Rattle.gl_store_book.proofs.Telling.{tells}
+use Rattle.gl_store_book.proofs.AllLedgers.{reports}
 use Rattle.gl_gov_rules.specs.History.{History}
 use Rattle.gl_gov_rules.specs.Changes.{history}
 use Rattle.gl_gov_rules.specs.Nodes as nodes
@@ -14,7 +14,7 @@ unfolding mark
 by_history ledger y past is = ap (λ (h : History). nodes.mark h y) is
 
 pub returns : goal.returns
-returns c = tells c.args.self.now (λ b h. c.mark.result ≡ b.mark h.log c.args.node.now) (λ keys has.
+returns c = reports c.args.self.now (λ b h. c.mark.result ≡ b.mark h.log c.args.node.now) (λ keys has.
     let all : c.store.result.now.ledger ≡ c.args.self.now.ledger = ap (λ (h : Held). h.ledger) c.store.ensures.holds ∙ ap (λ (n : NodeStore). n.ledger) c.self.view_is in
     c.mark.ensures ∙ by_history c.args.self.now.ledger c.args.node.now c.history.result.now
     (c.history.ensures.history ∙ ap history (c.gov.ensures.gov ∙ ap requests_of all)))

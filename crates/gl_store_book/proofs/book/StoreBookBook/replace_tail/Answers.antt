@@ -2,7 +2,7 @@ use Rattle.std.proofs.Common.{◌≡◌, Ok, take, sym, ap, ◌∙◌}
 use Rattle.gl_ledger.specs.NodeKeys.{service_layers}
 use Rattle.gl_ledger.specs.LedgerBook.{ledger_book}
 use Rattle.gl_store_book.specs.Stands.{NodeStore}
-use Rattle.gl_store_book.proofs.Telling.{becomes}
+use Rattle.gl_store_book.proofs.AllLedgers.{becomes}
 use Rattle.gl_rules.specs.Replication.{checked_append}
 use Rattle.gl_replication.proofs.Rows.{if_ok}
 use Rattle.gl_store_book.proofs.book.StoreBookBook.replace_tail.Goals as goal

@@ -2,7 +2,7 @@ use Rattle.std.proofs.Common.{rules, ◌≡◌, ◌<◌, ◌^◌, Option, ap, ap
 use Rattle.gl_entry.specs.declared.entry.Entry.{Entry}
 use Rattle.gl_ledger.specs.NodeKeys.{service_layers}
 use Rattle.gl_store_book.specs.Stands.{NodeStore}
-use Rattle.gl_store_book.proofs.Telling.{tells, stands_for_itself}
+use Rattle.gl_store_book.proofs.AllLedgers.{reports, stands_for_itself}
 use Rattle.gl_hss.specs.Types.{height}
 use Rattle.gl_hss.specs.declared.types.Types.{Types}
 use Rattle.gl_ledger.specs.declared.breach.Broken.{Broken}
@@ -10,7 +10,7 @@ use Rattle.gl_base.specs.Answers.{Fails}
 use Rattle.gl_ledger.specs.Broken.{broken}
 use Rattle.gl_ledger.specs.Makers.{signed_entry, signing_result, unless_empty}
 use Rattle.gl_store_book.specs.Taken.{RefusesFor}
-use Rattle.gl_store_book.proofs.Taking.{refused_by_rule}
+use Rattle.gl_store_book.proofs.TakenEntries.{refused_by_rule}
 use Rattle.gl_store_book.proofs.Appending.{signing_made}
 use Rattle.gl_store_book.proofs.book.StoreBookBook.sign.Goals as goal
 
@@ -35,7 +35,7 @@ signature_entry-requires-clause-leaf c = c.requires.leaf _ _ (stands_for_itself 
 pub returns-in-Err-clause-refused : goal.returns-in-Err-clause-refused
 returns-in-Err-clause-refused c =
     let node = c.args.self.now in
-    tells node (λ b h. Fails c.by_rule.result (b.sign h.me c.args.leaf h.log c.args.view c.args.commit)) (λ keys has.
+    reports node (λ b h. Fails c.by_rule.result (b.sign h.me c.args.leaf h.log c.args.view c.args.commit)) (λ keys has.
     let e = signed_entry keys node.me c.args.leaf node.ledger c.args.view c.args.commit in
     let all : c.self.inside.ledger ≡ node.ledger = ap (λ (n : NodeStore). n.ledger) c.self.view_is in
     let same : broken service_layers c.self.inside.ledger c.in_ok-entry.entry ≡ broken service_layers node.ledger e = ap₂ (broken service_layers) all (c.in_ok-entry.ensures keys has) in

@@ -2,13 +2,13 @@ use Rattle.std.proofs.Common.{◌≡◌, List, take, sym, ap, ◌∙◌}
 use Rattle.gl_entry.specs.declared.entry.Entry.{Entry}
 use Rattle.gl_audit.specs.Committed.{Held}
 use Rattle.gl_store_book.specs.Stands.{NodeStore}
-use Rattle.gl_store_book.proofs.Telling.{tells}
+use Rattle.gl_store_book.proofs.AllLedgers.{reports}
 use Rattle.gl_rules.specs.Log.{last_signature}
 use Rattle.gl_ledger.specs.Broken.{last_signed}
 use Rattle.gl_store_book.proofs.Commits.{last_same}
 use Rattle.gl_store_book.proofs.book.StoreBookBook.signature_upto.Goals as goal
 
 pub returns : goal.returns
-returns c = tells c.args.self.now (λ b h. c.signature_upto.result ≡ last_signature b (take c.args.seqno h.log)) (λ keys has.
+returns c = reports c.args.self.now (λ b h. c.signature_upto.result ≡ last_signature b (take c.args.seqno h.log)) (λ keys has.
     let all : c.store.result.now.ledger ≡ c.args.self.now.ledger = ap (λ (h : Held). h.ledger) c.store.ensures.holds ∙ ap (λ (n : NodeStore). n.ledger) c.self.view_is in
     c.signature_upto.ensures ∙ ap (λ (es : List Entry). last_signed (take c.args.seqno es)) all ∙ sym (last_same keys (take c.args.seqno c.args.self.now.ledger)))

@@ -4,10 +4,10 @@ use Rattle.gl_ledger.specs.NodeKeys.{NodeKeys, service_layers}
 use Rattle.gl_ledger.specs.LedgerBook.{ledger_book}
 use Rattle.gl_store_book.proofs.book_ledger.BookLedger.append_each.Given as goal
 
--- those so far were appended, and what was there still stands in front
+-- those so far were appended, and what was there still stands first
 abbrev pub invariant-loop-entry : goal.invariant-loop-entry
 invariant-loop-entry l = record {
   rest : (keys : NodeKeys) → checked_append (ledger_book service_layers keys) l.fn.self l.entries
       ≡ checked_append (ledger_book service_layers keys) l.self (drop l.entry-index l.entries);
-  front : take (length l.fn.self) l.self ≡ l.fn.self;
+  prefix : take (length l.fn.self) l.self ≡ l.fn.self;
 }

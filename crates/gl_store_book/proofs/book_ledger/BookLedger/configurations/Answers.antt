@@ -11,5 +11,5 @@ pub returns-clause-ascending : goal.returns-clause-ascending
 returns-clause-ascending c =
     let ledger = take c.args.upto c.self.inside.store.ledger in
     subst (λ (cs : List Configuration). AllPairs (λ (x y : Configuration). x.seqno < y.seqno) cs)
-    (sym (c.configurations.ensures.front c.self.inside.store.ledger c.self.invariant.listed any_keys))
+    (sym (c.configurations.ensures.prefix c.self.inside.store.ledger c.self.invariant.listed any_keys))
     (configurations_ascend (ledger_book service_layers any_keys) ledger (length ledger))

@@ -3,8 +3,8 @@ use Rattle.gl_entry.specs.declared.entry.Entry.{Entry}
 use Rattle.gl_ledger.specs.NodeKeys.{service_layers}
 use Rattle.gl_ledger.specs.Broken.{broken}
 use Rattle.gl_ledger.specs.Makers.{request_result}
-use Rattle.gl_ledger.specs.declared.made.Given.TheVariants.{Replied}
-use Rattle.gl_store_book.proofs.Taking.{entry_made, refused_by_rule}
+use Rattle.gl_ledger.specs.declared.response.Response.TheVariants.{Replied}
+use Rattle.gl_store_book.proofs.TakenEntries.{entry_made, refused_by_rule}
 use Rattle.gl_store_book.proofs.book_ledger.BookLedger.execute_tried.Goals as goal
 
 pub returns-in-Err-apply-clause-refused : goal.returns-in-Err-apply-clause-refused

@@ -5,7 +5,7 @@ use Rattle.gl_ledger.specs.Broken.{broken}
 use Rattle.gl_ledger.specs.Makers.{governance_made, govern_result}
 use Rattle.gl_audit.specs.Committed.{Held}
 use Rattle.gl_store_book.specs.Taken.{RefusesFor}
-use Rattle.gl_store_book.proofs.Taking.{entry_made, refused_by_rule}
+use Rattle.gl_store_book.proofs.TakenEntries.{entry_made, refused_by_rule}
 use Rattle.gl_store_book.proofs.book_ledger.BookLedger.govern_tried.Goals as goal
 
 pub returns-in-Err-apply-clause-refused : goal.returns-in-Err-apply-clause-refused

@@ -1,6 +1,6 @@
 use Rattle.std.proofs.Common.{rules, ◌≡◌, ◌≤◌, ◌-◌, List, length, slice_get, sym, ap, ◌∙◌}
 use Rattle.gl_entry.specs.declared.entry.Entry.{Entry}
-use Rattle.gl_store_book.proofs.Taking.{views_up}
+use Rattle.gl_store_book.proofs.TakenEntries.{views_up}
 use Rattle.gl_store_book.proofs.book_ledger.BookLedger.may_make.Goals as goal
 
 pub returns-in-Some-clause-up_to : goal.returns-in-Some-clause-up_to

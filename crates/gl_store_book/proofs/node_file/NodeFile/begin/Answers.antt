@@ -2,7 +2,7 @@ use Rattle.gl_store_book.specs.AtOpening.{opened_state, node_at_opening}
 use Rattle.gl_store_book.specs.NodeFile.{seen_state}
 use Rattle.gl_store_book.specs.ServiceStart.{service_start}
 use Rattle.gl_store_book.proofs.ServiceStarts.{start_fits}
-use Rattle.gl_store_book.proofs.Serving.{serving, keeps_opened}
+use Rattle.gl_store_book.proofs.ServedNodes.{serving, keeps_opened}
 use Rattle.gl_store_book.proofs.node_file.NodeFile.begin.Goals as goal
 
 pub new-requires : goal.new-requires

@@ -1,6 +1,6 @@
 use Rattle.gl_store_book.specs.AtOpening.{restarted_node}
 use Rattle.gl_store_book.specs.NodeFile.{seen_state}
-use Rattle.gl_store_book.proofs.Serving.{serving, keeps_restarted, stands_restarted}
+use Rattle.gl_store_book.proofs.ServedNodes.{serving, keeps_restarted, stands_restarted}
 use Rattle.gl_store_book.proofs.node_file.NodeFile.reopen.Goals as goal
 
 pub new-requires : goal.new-requires

@@ -8,8 +8,8 @@ returns-then-len-frame-clause-value c = sym (frame_cut c.args.frame.now c.in-Ok.
 pub returns-else-len-frame-clause-value : goal.returns-else-len-frame-clause-value
 returns-else-len-frame-clause-value c = sym (frame_read c.args.frame.now c.in-Ok.entry c.in-Ok.len c.in-Ok.ensures.exact c.if-len-frame.false)
 
-pub returns-else-len-frame-clause-spelled : goal.returns-else-len-frame-clause-spelled
-returns-else-len-frame-clause-spelled c =
+pub returns-else-len-frame-clause-encoded : goal.returns-else-len-frame-clause-encoded
+returns-else-len-frame-clause-encoded c =
     let found = c.in-Ok.ensures.found in
     (found.0, none_over c.args.frame.now c.in-Ok.entry found.2 found.3 (sym found.1 ∙ c.if-len-frame.false))
 

@@ -7,7 +7,7 @@ use Rattle.gl_store_book.specs.AtOpening.{opened_state, restarted_node}
 use Rattle.gl_store_book.specs.NodeFile.{node_of, seen_state}
 use Rattle.gl_store_book.specs.ServiceStart.{service_start}
 use Rattle.gl_store_book.specs.Stands.{Stands}
-use Rattle.gl_store_book.proofs.Serving.{stands_opened}
+use Rattle.gl_store_book.proofs.ServedNodes.{stands_opened}
 use Rattle.gl_store_book.proofs.node_file.replica.opened_core.Goals as goal
 
 pub returns : goal.returns

@@ -4,7 +4,7 @@ use Rattle.gl_rules.specs.Identity.{NodeId}
 use Rattle.gl_gov_rules.specs.Changes.{history}
 use Rattle.gl_gov_rules.specs.Nodes as nodes
 use Rattle.gl_ledger.specs.Recordings.{recorded_nodes}
-use Rattle.gl_store_book.proofs.Cuts.{count_nodes, nodes_of, counted_few, recorded_front}
+use Rattle.gl_store_book.proofs.Cuts.{count_nodes, nodes_of, counted_few, recorded_prefix}
 use Rattle.gl_store_book.proofs.node_lists.NodeLists.recorded_nodes.Goals as goal
 
 pub slice_bounds-result-end : goal.slice_bounds-result-end
@@ -21,4 +21,4 @@ returns c =
     let ledger = c.args.store.now.ledger in
     let ns : c.nodes.result.now ≡ nodes_of ledger = c.nodes.ensures ∙ ap nodes.nodes (c.history.ensures.history ∙ ap history c.gov.ensures.gov) in
     ap₂ (λ (n : ℕ) (xs : List NodeId). take n xs) (c.count_upto-count.ensures ∙ ap (count_nodes c.args.upto) ns) (c.deref-2.ensures.value ∙ c.requires.recorded)
-    ∙ recorded_front ledger c.args.upto c.ledger_len.ensures.sound
+    ∙ recorded_prefix ledger c.args.upto c.ledger_len.ensures.sound

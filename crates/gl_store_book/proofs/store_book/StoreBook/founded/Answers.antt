@@ -2,7 +2,7 @@ use Rattle.std.proofs.Common.{◌≡◌, ℕ, List, refl, sym, ap, subst, ◌∙
 use Rattle.sha2.specs.Sha256.{sha256}
 use Rattle.gl_ledger.specs.Makers.{opening_of}
 use Rattle.gl_ledger.specs.NodeKeys.{service_layers}
-use Rattle.gl_ledger.specs.Opening.{Founds}
+use Rattle.gl_ledger.specs.OpeningLedger.{Founds}
 use Rattle.gl_store_book.specs.Founding.{id_of_key, key_alone}
 use Rattle.gl_store_book.specs.Stands.{NodeStore, whole}
 use Rattle.gl_store_book.proofs.store_book.StoreBook.founded.Goals as goal

@@ -4,7 +4,7 @@ use Rattle.gl_entry.specs.declared.entry.Entry.{Entry}
 use Rattle.gl_ledger.specs.Broken.{broken}
 use Rattle.gl_ledger.specs.Makers.{opening_of}
 use Rattle.gl_ledger.specs.NodeKeys.{service_layers}
-use Rattle.gl_ledger.specs.Opening.{Founds}
+use Rattle.gl_ledger.specs.OpeningLedger.{Founds}
 use Rattle.gl_ledger.specs.declared.breach.Broken as breach
 use Rattle.gl_audit.specs.Kept.{Breaks}
 use Rattle.gl_store_book.specs.Stands.{HasKey, NodeStore}

@@ -3,7 +3,7 @@ use Rattle.std.proofs.Common.{◌≤◌, List, length, arith, IsTrue}
 use Rattle.gl_vmaps.specs.Writes.{is_ordered, with_write}
 use Rattle.gl_vmaps.specs.declared.write.Write.{Write}
 use Rattle.gl_vmaps.proofs.WriteLaws.{is_ordered-with_write}
-use Rattle.gl_tx.proofs.Writing.{behind_put, length-with_write, length-put}
+use Rattle.gl_tx.proofs.Writing.{after_put, length-with_write, length-put}
 use Rattle.gl_tx.proofs.overlay.Overlay.put.Goals as goal
 
 pub invariant_of-self : goal.invariant_of-self
@@ -12,9 +12,9 @@ invariant_of-self g c =
     let longer = length-with_write old c.args.write in
     let fits : length (with_write old c.args.write) ≤ 64 = omega arith in
     record {
-      ordered = behind_put (λ (ws : List Write). IsTrue (is_ordered ws)) c.put.result old (with_write old c.args.write) c.put.new.self c.put.ensures.ok c.put.ensures.err
+      ordered = after_put (λ (ws : List Write). IsTrue (is_ordered ws)) c.put.result old (with_write old c.args.write) c.put.new.self c.put.ensures.ok c.put.ensures.err
           c.args.self.now.ordered (is_ordered-with_write old c.args.write c.args.self.now.ordered);
-      few = behind_put (λ (ws : List Write). length ws ≤ 64) c.put.result old (with_write old c.args.write) c.put.new.self c.put.ensures.ok c.put.ensures.err
+      few = after_put (λ (ws : List Write). length ws ≤ 64) c.put.result old (with_write old c.args.write) c.put.new.self c.put.ensures.ok c.put.ensures.err
           c.args.self.now.few fits;
     }
 

@@ -15,7 +15,7 @@ returns-in-Some-ledger-clause-added c h =
       same = ap frames_of c.in-Some-ledger.is;
       fits = c.len.ensures.sound.in_order.fits;
       value = c.in_ok-entry.ensures.value;
-      spelled = c.in_ok-entry.ensures.spelled;
+      encoded = c.in_ok-entry.ensures.encoded;
       is = c.in-Some.is;
     } in
     let added = c.try_apply.ensures.added h in
@@ -32,7 +32,7 @@ returns-in-Some-ledger-clause-refused c h =
       same = ap frames_of c.in-Some-ledger.is;
       fits = c.len.ensures.sound.in_order.fits;
       value = c.in_ok-entry.ensures.value;
-      spelled = c.in_ok-entry.ensures.spelled;
+      encoded = c.in_ok-entry.ensures.encoded;
       is = c.in-Some.is;
     } in
     let refused = c.try_apply.ensures.refused h in
@@ -50,7 +50,7 @@ returns-in_ok-added-in-None-clause-added c h =
       same = ap frames_of c.in-None.is ∙ ap (map frame_bytes) (sym none);
       fits = none_fit ledger none;
       value = c.in_ok-entry.ensures.value;
-      spelled = c.in_ok-entry.ensures.spelled;
+      encoded = c.in_ok-entry.ensures.encoded;
       is = c.in-Some.is;
     } in
     let added = c.try_apply-in-None.ensures.added (c.in_ok-added-in-None.was ∙ h) in
@@ -68,7 +68,7 @@ returns-in_ok-added-in-None-clause-refused c h =
       same = ap frames_of c.in-None.is ∙ ap (map frame_bytes) (sym none);
       fits = none_fit ledger none;
       value = c.in_ok-entry.ensures.value;
-      spelled = c.in_ok-entry.ensures.spelled;
+      encoded = c.in_ok-entry.ensures.encoded;
       is = c.in-Some.is;
     } in
     let refused = c.try_apply-in-None.ensures.refused (c.in_ok-added-in-None.was ∙ h) in

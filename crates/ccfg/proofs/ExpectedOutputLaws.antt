@@ -1,0 +1,292 @@
+-- What plans and faults owe, and what a task owes to the bytes of its source, whether the source
+-- tells them or not.
+use Rattle.std.proofs.Common.{◌≡◌, ◌⊎◌, inl, inr, ℕ, ◌<◌, List, [], length, Option, None, Some, Bool, true, nat_lt, if◌then◌else◌, refl, sym, ap, ◌∙◌, subst, arith, length-append}
+use Rattle.std.proofs.lemmas.Bool.Decides.{nat_tests}
+use Rattle.std.specs.Io.KnownBytes.{Appends, Consumes, Keeps}
+use Rattle.gl_outside.specs.Sink.{AppendsPrefix}
+use Rattle.gl_lines.specs.Lines.{line_count}
+use Rattle.gl_receipt.specs.Form.{receipt_from}
+use Rattle.gl_entry.specs.SourceBytes.{OfBytes}
+use Rattle.gl_load.specs.Events.{load_ledger}
+use Rattle.gl_load.specs.Report.{report_of}
+use Rattle.gl_audit.specs.Verdict.{verdict as verdict_on}
+use Rattle.gl_audit.specs.declared.verdict.Verdict.{Verdict}
+use Rattle.ccfg.specs.declared.ending.Ending.{Ending}
+use Rattle.ccfg.specs.declared.ending.Ending.TheVariants as endings
+use Rattle.ccfg.specs.declared.fault.Fault.{Fault}
+use Rattle.ccfg.specs.declared.fault.Fault.TheVariants as faults
+use Rattle.ccfg.specs.declared.plan.Plan.{Plan}
+use Rattle.ccfg.specs.declared.plan.Plan.TheVariants.{Play, Show, ShowLedger, Print, Refuse}
+use Rattle.gl_commands.specs.declared.task.LoadTask.{LoadTask}
+use Rattle.gl_commands.specs.declared.task.Task.{Task}
+use Rattle.gl_commands.specs.declared.task.Task.TheVariants as tasks
+use Rattle.ccfg.specs.Faults.{fault_line}
+use Rattle.ccfg.specs.ExpectedOutput.{Output, EndsSource, OfRun, Expected, Owes, OwesRead, Run, Runs, Written, WritesOutput, bytes_limit, output_of_answer, output_of_audit, output_of_fault, output_of_form, output_of_load, output_of_reading, output_of_receipt, output_of_schedule, ending_of_fault, ending_of_stop, json_limit, ledger_line, lines_limit, report_text, requests_limit, valid_line}
+use Rattle.ccfg.specs.Plans.{KeepsKey, SpendsLeaf, PrintsFault, PrintsSpent, ShowsAccepted, ShowsKept, output_of_plan}
+use Rattle.ccfg.specs.declared.plan.PlanError.{PlanError}
+use Rattle.ccfg.specs.declared.plan.PlanError.TheVariants as stops
+use Rattle.ccfg.proofs.ShownLemmas.{both_any, both_map, of_map}
+use Rattle.gl_journal.specs.declared.key.KeyKind.{KeyKind}
+use Rattle.gl_keyfile.specs.declared.leaf.LeafUse.{LeafUse}
+use Rattle.gl_hss.specs.declared.types.Types.{Types}
+use Rattle.gl_outside.specs.Disk.{Step}
+use Rattle.gl_outside.specs.Fault.{Rose}
+use Rattle.gl_schedule.specs.Output.{text_of_schedule}
+use Rattle.ccfg.specs.Promises.{IsFaultLine, PrintsAccepted, PrintsPrefix}
+use Rattle.gl_recovery.specs.declared.recovering_fault.RecoveringFault.TheVariants as recoverings
+use Rattle.gl_schedule.specs.Schedules.{reads}
+
+-- a fault that is reported
+pub writes_fault : (fault : Fault) (w : Written) → Appends w.held w.holds (fault_line fault) → WritesOutput (ending_of_fault fault) w (output_of_fault fault)
+writes_fault (faults.Words kind) w all = (refl, all)
+writes_fault faults.TooManyBytes w all = (refl, all)
+writes_fault faults.TooManyLines w all = (refl, all)
+writes_fault faults.TooManyRequests w all = (refl, all)
+writes_fault faults.TooMuchJson w all = (refl, all)
+writes_fault (faults.BadLine number) w all = (refl, all)
+writes_fault (faults.Form fault) w all = (refl, all)
+writes_fault (faults.NotValid fault) w all = (refl, all)
+writes_fault (faults.Broken seqno rule) w all = (refl, all)
+writes_fault (faults.Foreign identity) w all = (refl, all)
+writes_fault (faults.NotEmpty len) w all = (refl, all)
+writes_fault (faults.Short at) w all = (refl, all)
+writes_fault (faults.Trailing at) w all = (refl, all)
+writes_fault (faults.Journal fault) w all = (refl, all)
+writes_fault (faults.KeyKind want got) w all = (refl, all)
+writes_fault faults.BadDealing w all = (refl, all)
+writes_fault (faults.Signing fault) w all = (refl, all)
+writes_fault (faults.Recovering recoverings.SourceFailed) w all = (refl, all)
+writes_fault (faults.Recovering recoverings.TooMuchJson) w all = (refl, all)
+writes_fault (faults.Recovering (recoverings.Short at)) w all = (refl, all)
+writes_fault (faults.Recovering (recoverings.Form fault)) w all = (refl, all)
+writes_fault (faults.Recovering (recoverings.NotFirstNode want got)) w all = (refl, all)
+writes_fault (faults.Recovering (recoverings.KeyExhausted reserved)) w all = (refl, all)
+writes_fault (faults.Recovering (recoverings.Recovery fault)) w all = (refl, all)
+writes_fault (faults.Recovering recoverings.DiskFailed) w all = (refl, all)
+writes_fault (faults.Opening fault) w all = (refl, all)
+writes_fault (faults.Turns turns) w all = (refl, all)
+
+-- bytes of which more were read than the limit
+pub of_more : (old new : Option (List ℕ)) (text : List ℕ) (limit : ℕ) → Consumes old new text → limit < length text → OfBytes old (λ g. limit < length g)
+of_more None new text limit taken more = (text, more)
+of_more (Some g) (Some rest) text limit taken more = omega (arith, more, ap length taken, length-append text rest)
+of_more (Some g) None text limit taken more = absurd taken
+
+long_schedule : (given : List ℕ) → bytes_limit < length given → output_of_schedule given ≡ output_of_fault faults.TooManyBytes
+unfolding output_of_schedule
+long_schedule given more =
+    ap (λ (b : Bool). if b then output_of_fault faults.TooManyBytes
+    else (if nat_lt lines_limit (line_count given) then output_of_fault faults.TooManyLines else output_of_reading (reads given)))
+    (let t : nat_lt bytes_limit (length given) ≡ true = grind (arith, nat_tests) in t)
+
+long_receipt : (identity given : List ℕ) → json_limit < length given → output_of_receipt identity given ≡ output_of_fault faults.TooMuchJson
+unfolding output_of_receipt
+long_receipt identity given more =
+    ap (λ (b : Bool). if b then output_of_fault faults.TooMuchJson else output_of_form identity (receipt_from given))
+    (let t : nat_lt json_limit (length given) ≡ true = grind (arith, nat_tests) in t)
+
+-- more bytes than a limit
+pub long_schedules : (given : Option (List ℕ)) → OfBytes given (λ g. bytes_limit < length g) → OfBytes given (λ g. output_of_schedule g ≡ output_of_fault faults.TooManyBytes)
+long_schedules given more = of_map given (λ g. bytes_limit < length g) (λ g. output_of_schedule g ≡ output_of_fault faults.TooManyBytes) long_schedule more
+
+pub long_receipts : (identity : List ℕ) (given : Option (List ℕ)) → OfBytes given (λ g. json_limit < length g) →
+    OfBytes given (λ g. output_of_receipt identity g ≡ output_of_fault faults.TooMuchJson)
+long_receipts identity given more = of_map given (λ g. json_limit < length g) (λ g. output_of_receipt identity g ≡ output_of_fault faults.TooMuchJson) (long_receipt identity) more
+
+-- more requests than the limit
+many_requests : (load : LoadTask) → requests_limit < load.count → output_of_load load ≡ output_of_fault faults.TooManyRequests
+many_requests load more =
+    ap (λ (b : Bool). if b then output_of_fault faults.TooManyRequests else output_of_answer (report_text (report_of (load_ledger load.seed load.count))))
+    (let t : nat_lt requests_limit load.count ≡ true = grind (arith, nat_tests) in t)
+
+pub refused_load : (e : Ending) (w : Written) (load : LoadTask) → requests_limit < load.count → WritesOutput e w (output_of_fault faults.TooManyRequests) → WritesOutput e w (output_of_load load)
+refused_load e w load more writes = subst (λ (d : Output). WritesOutput e w d) (sym (many_requests load more)) writes
+
+-- the verdict of an audit of what a source gives
+pub verdict_output : (identity : List ℕ) (given : Option (List ℕ)) (printed : Verdict) (output : Output) → OfBytes given (λ g. printed ≡ verdict_on identity g) → output_of_audit printed ≡ output →
+    OfBytes given (λ g. output_of_audit (verdict_on identity g) ≡ output)
+verdict_output identity given printed output is same =
+    of_map given (λ g. printed ≡ verdict_on identity g) (λ g. output_of_audit (verdict_on identity g) ≡ output) (λ g v. ap output_of_audit (sym v) ∙ same) is
+
+-- a fault shows nothing
+pub sound_refusal : (task : Task) (given : List ℕ) (fault : Fault) → ShowsAccepted task given (Refuse fault)
+sound_refusal tasks.Replay given fault = tt
+sound_refusal (tasks.Verify identity) given fault = tt
+sound_refusal (tasks.Audit identity) given fault = tt
+sound_refusal (tasks.Keygen kind types) given fault = tt
+sound_refusal (tasks.Deal threshold members) given fault = tt
+sound_refusal (tasks.Sign signing) given fault = tt
+sound_refusal tasks.Recover given fault = tt
+
+pub of_sound_refusal : (task : Task) (given : Option (List ℕ)) (fault : Fault) → OfBytes given (λ g. ShowsAccepted task g (Refuse fault))
+of_sound_refusal task None fault = ([], sound_refusal task [] fault)
+of_sound_refusal task (Some g) fault = sound_refusal task g fault
+
+no_fault_done : (fault : Fault) → ending_of_fault fault ≡ endings.Done → ⊥
+no_fault_done (faults.Words kind) is = cc
+no_fault_done faults.TooManyBytes is = cc
+no_fault_done faults.TooManyLines is = cc
+no_fault_done faults.TooManyRequests is = cc
+no_fault_done faults.TooMuchJson is = cc
+no_fault_done (faults.BadLine number) is = cc
+no_fault_done (faults.Form fault) is = cc
+no_fault_done (faults.NotValid fault) is = cc
+no_fault_done (faults.Broken seqno rule) is = cc
+no_fault_done (faults.Foreign identity) is = cc
+no_fault_done (faults.NotEmpty len) is = cc
+no_fault_done (faults.Short at) is = cc
+no_fault_done (faults.Trailing at) is = cc
+no_fault_done (faults.Journal fault) is = cc
+no_fault_done (faults.KeyKind want got) is = cc
+no_fault_done faults.BadDealing is = cc
+no_fault_done (faults.Signing fault) is = cc
+no_fault_done (faults.Recovering recoverings.SourceFailed) is = cc
+no_fault_done (faults.Recovering recoverings.TooMuchJson) is = cc
+no_fault_done (faults.Recovering (recoverings.Short at)) is = cc
+no_fault_done (faults.Recovering (recoverings.Form fault)) is = cc
+no_fault_done (faults.Recovering (recoverings.NotFirstNode want got)) is = cc
+no_fault_done (faults.Recovering (recoverings.KeyExhausted reserved)) is = cc
+no_fault_done (faults.Recovering (recoverings.Recovery fault)) is = cc
+no_fault_done (faults.Recovering recoverings.DiskFailed) is = cc
+no_fault_done (faults.Opening fault) is = cc
+no_fault_done (faults.Turns turns) is = cc
+
+-- a plan that was carried out under a key
+accepted_by : (identity : List ℕ) (plan : Plan) (w : Written) (g : List ℕ) → ShowsAccepted (tasks.Verify identity) g plan → WritesOutput endings.Done w (output_of_plan plan) → PrintsAccepted identity g w.held w.holds
+accepted_by identity (Play schedule) w g sound writes = absurd sound
+accepted_by identity (Show id) w g sound writes = (sound.0, sound.1, id, sound.2, writes.1)
+accepted_by identity (ShowLedger last signed) w g sound writes = absurd sound
+accepted_by identity (Print text) w g sound writes = absurd sound
+accepted_by identity (Refuse fault) w g sound writes = absurd (no_fault_done fault writes.0)
+
+pub accepted : (task : Task) (identity : List ℕ) (plan : Plan) (e : Ending) (w : Written) (given : Option (List ℕ)) → task ≡ tasks.Verify identity → OfBytes given (λ g. ShowsAccepted task g plan) →
+    e ≡ endings.Done → WritesOutput e w (output_of_plan plan) → OfBytes given (λ g. PrintsAccepted identity g w.held w.holds)
+accepted task identity plan e w given asks sound is writes =
+    go given (subst (λ (t : Task). OfBytes given (λ g. ShowsAccepted t g plan)) asks sound)
+  where
+    done : WritesOutput endings.Done w (output_of_plan plan)
+    done = subst (λ (x : Ending). WritesOutput x w (output_of_plan plan)) is writes
+
+    go : (given : Option (List ℕ)) → OfBytes given (λ g. ShowsAccepted (tasks.Verify identity) g plan) → OfBytes given (λ g. PrintsAccepted identity g w.held w.holds)
+    go None sound = (sound.0, accepted_by identity plan w sound.0 sound.1 done)
+    go (Some g) sound = accepted_by identity plan w g sound done
+
+-- a key that is shown
+kept_by : (kind : KeyKind) (types : Types) (past : List Step) (plan : Plan) (w : Written) (g : List ℕ) → ShowsKept kind types past g plan → WritesOutput endings.Done w (output_of_plan plan) → KeepsKey kind types past g
+kept_by kind types past (Play schedule) w g sound writes = absurd sound
+kept_by kind types past (Show id) w g sound writes = absurd sound
+kept_by kind types past (ShowLedger last signed) w g sound writes = absurd sound
+kept_by kind types past (Print text) w g sound writes = sound
+kept_by kind types past (Refuse fault) w g sound writes = absurd (no_fault_done fault writes.0)
+
+pub kept : (kind : KeyKind) (types : Types) (past : List Step) (plan : Plan) (e : Ending) (w : Written) (given : Option (List ℕ)) → OfBytes given (λ g. ShowsKept kind types past g plan) →
+    e ≡ endings.Done → WritesOutput e w (output_of_plan plan) → OfBytes given (KeepsKey kind types past)
+kept kind types past plan e w given sound is writes =
+    of_map given (λ g. ShowsKept kind types past g plan) (KeepsKey kind types past) (λ g shown. kept_by kind types past plan w g shown (subst (λ (x : Ending). WritesOutput x w (output_of_plan plan)) is writes)) sound
+
+-- a sink doesn't fail as a disk does
+pub no_disk : (e : Ending) (w : Written) (output : Output) → WritesOutput e w output → e ≡ endings.DiskFailed → ⊥
+no_disk e w output writes is = subst (λ (x : Ending). WritesOutput x w output) is writes
+
+-- what is done is read whole
+done_whole : (plan : Plan) → (output_of_plan plan).ending ≡ endings.Done → (output_of_plan plan).whole ≡ true
+done_whole (Play schedule) is = refl
+done_whole (Show id) is = refl
+done_whole (ShowLedger last signed) is = refl
+done_whole (Print text) is = refl
+done_whole (Refuse fault) is = absurd (no_fault_done fault is)
+
+-- what holds of the expected output of a plan holds of the expected output of the bytes
+of_output : (r : Run) (expected_output : Expected) (output : Output) (P : Output → Type 0) → OfRun r (λ h g. expected_output h g ≡ output) → P output → OfRun r (λ h g. P (expected_output h g))
+of_output r expected_output output P is p = both_map r.disk.honest r.disk.held r.given (λ h g. expected_output h g ≡ output) (λ h g. P (expected_output h g)) (λ h g same. subst P (sym same) p) is
+
+owes_output : (e : Ending) (r : Run) (expected_output : Expected) (output : Output) → OfRun r (λ h g. expected_output h g ≡ output) → WritesOutput e r.written output → Owes e r expected_output
+owes_output e r expected_output output is writes = of_output r expected_output output (WritesOutput e r.written) is writes
+
+reads_output : (e : Ending) (r : Run) (expected_output : Expected) (output : Output) → OfRun r (λ h g. expected_output h g ≡ output) → EndsSource output r.ended → WritesOutput e r.written output → OwesRead e r expected_output
+reads_output e r expected_output output is ends writes = of_output r expected_output output (λ d. EndsSource d r.ended × WritesOutput e r.written d) is (ends, writes)
+
+-- a run that does the expected output of the bytes
+pub output_runs : (e : Ending) (r : Run) (expected_output : Expected) (plan : Plan) → OfRun r (λ h g. expected_output h g ≡ output_of_plan plan) → EndsSource (output_of_plan plan) r.ended →
+    WritesOutput e r.written (output_of_plan plan) → Runs e r expected_output
+output_runs endings.Done r expected_output plan is ends writes = (ends (done_whole plan writes.0), owes_output endings.Done r expected_output (output_of_plan plan) is writes)
+output_runs endings.NotValid r expected_output plan is ends writes = reads_output endings.NotValid r expected_output (output_of_plan plan) is ends writes
+output_runs endings.OtherWords r expected_output plan is ends writes = owes_output endings.OtherWords r expected_output (output_of_plan plan) is writes
+output_runs endings.SourceFailed r expected_output plan is ends writes = absurd writes
+output_runs endings.SinkFailed r expected_output plan is ends writes = owes_output endings.SinkFailed r expected_output (output_of_plan plan) is writes
+output_runs endings.DiskFailed r expected_output plan is ends writes = absurd writes
+output_runs endings.LinkFailed r expected_output plan is ends writes = absurd writes
+output_runs endings.Memory r expected_output plan is ends writes = owes_output endings.Memory r expected_output (output_of_plan plan) is writes
+output_runs endings.PastLimit r expected_output plan is ends writes = reads_output endings.PastLimit r expected_output (output_of_plan plan) is ends writes
+output_runs endings.NoReading r expected_output plan is ends writes = reads_output endings.NoReading r expected_output (output_of_plan plan) is ends writes
+
+-- a run that came to no plan
+pub nothing_expected : (r : Run) (expected_output : Expected) → ((text : List ℕ) → AppendsPrefix r.written.held r.written.holds text) → Runs endings.Memory r expected_output
+nothing_expected r expected_output prefix = both_any r.disk.honest r.disk.held r.given (λ h g. WritesOutput endings.Memory r.written (expected_output h g)) (λ h g. prefix (expected_output h g).text)
+
+pub stop_runs : (stop : PlanError) (r : Run) (expected_output : Expected) → (stop ≡ stops.SourceFailed → Rose r.faults r.faults_now) → (stop ≡ stops.DiskFailed → Rose r.disk.faults r.disk.faults_now) →
+    Keeps r.written.held r.written.holds → ((text : List ℕ) → AppendsPrefix r.written.held r.written.holds text) → Runs (ending_of_stop stop) r expected_output
+stop_runs stops.Memory r expected_output source disk keeps prefix = nothing_expected r expected_output prefix
+stop_runs stops.SourceFailed r expected_output source disk keeps prefix = (source refl, keeps)
+stop_runs stops.DiskFailed r expected_output source disk keeps prefix = (disk refl, keeps)
+
+-- an ending by which something is refused, or the source failed
+abbrev pub Refuses : Ending → Type 0
+Refuses e = (e ≡ endings.NotValid) ⊎ (e ≡ endings.SourceFailed) ⊎ (e ≡ endings.PastLimit) ⊎ (e ≡ endings.NoReading)
+
+no_answer_refused : (text : List ℕ) (w : Written) (e : Ending) → WritesOutput e w (output_of_answer text) → Refuses e → ⊥
+no_answer_refused text w endings.Done writes (inl is) = cc
+no_answer_refused text w endings.Done writes (inr (inl is)) = cc
+no_answer_refused text w endings.Done writes (inr (inr (inl is))) = cc
+no_answer_refused text w endings.Done writes (inr (inr (inr is))) = cc
+no_answer_refused text w endings.NotValid writes is = let q : endings.Done ≡ endings.NotValid = writes.0 in cc
+no_answer_refused text w endings.NoReading writes is = let q : endings.Done ≡ endings.NoReading = writes.0 in cc
+no_answer_refused text w endings.OtherWords writes is = let q : endings.Done ≡ endings.OtherWords = writes.0 in cc
+no_answer_refused text w endings.PastLimit writes is = let q : endings.Done ≡ endings.PastLimit = writes.0 in cc
+no_answer_refused text w endings.SourceFailed writes is = writes
+no_answer_refused text w endings.DiskFailed writes is = writes
+no_answer_refused text w endings.LinkFailed writes is = writes
+no_answer_refused text w endings.SinkFailed writes (inl is) = cc
+no_answer_refused text w endings.SinkFailed writes (inr (inl is)) = cc
+no_answer_refused text w endings.SinkFailed writes (inr (inr (inl is))) = cc
+no_answer_refused text w endings.SinkFailed writes (inr (inr (inr is))) = cc
+no_answer_refused text w endings.Memory writes (inl is) = cc
+no_answer_refused text w endings.Memory writes (inr (inl is)) = cc
+no_answer_refused text w endings.Memory writes (inr (inr (inl is))) = cc
+no_answer_refused text w endings.Memory writes (inr (inr (inr is))) = cc
+
+-- an ending by which a fault is reported
+pub refuses_by : (plan : Plan) (w : Written) (e : Ending) → WritesOutput e w (output_of_plan plan) → Refuses e → PrintsFault plan
+refuses_by (Refuse fault) w e writes is = tt
+refuses_by (Play schedule) w e writes is = absurd (no_answer_refused (text_of_schedule schedule) w e writes is)
+refuses_by (Show id) w e writes is = absurd (no_answer_refused (valid_line id) w e writes is)
+refuses_by (ShowLedger last signed) w e writes is = absurd (no_answer_refused (ledger_line last signed) w e writes is)
+refuses_by (Print text) w e writes is = absurd (no_answer_refused text.items w e writes is)
+
+-- where no limit is passed
+pub among_all : (e : Ending) → (e ≡ endings.NotValid) ⊎ (e ≡ endings.SourceFailed) ⊎ (e ≡ endings.NoReading) → Refuses e
+among_all e (inl is) = inl is
+among_all e (inr (inl is)) = inr (inl is)
+among_all e (inr (inr is)) = inr (inr (inr is))
+
+-- something that is reported is signed with a leaf that is spent
+spent_by : (leaf : LeafUse) (held : List ℕ) (past : List Step) (plan : Plan) (w : Written) → PrintsSpent leaf held past plan → WritesOutput endings.Done w (output_of_plan plan) → SpendsLeaf leaf held past
+spent_by leaf held past (Play schedule) w sound writes = absurd sound
+spent_by leaf held past (Show id) w sound writes = absurd sound
+spent_by leaf held past (ShowLedger last signed) w sound writes = absurd sound
+spent_by leaf held past (Print text) w sound writes = sound
+spent_by leaf held past (Refuse fault) w sound writes = absurd (no_fault_done fault writes.0)
+
+-- it is, or a prefix of a fault's line was written
+pub spent_or_refused : (leaf : LeafUse) (held : List ℕ) (past : List Step) (plan : Plan) (e : Ending) (w : Written) → PrintsSpent leaf held past plan → WritesOutput e w (output_of_plan plan) →
+    (e ≡ endings.Done) ⊎ (e ≡ endings.SinkFailed) ⊎ (e ≡ endings.Memory) → SpendsLeaf leaf held past ⊎ PrintsPrefix IsFaultLine w.held w.holds
+spent_or_refused leaf held past (Play schedule) e w sound writes is = absurd sound
+spent_or_refused leaf held past (Show id) e w sound writes is = absurd sound
+spent_or_refused leaf held past (ShowLedger last signed) e w sound writes is = absurd sound
+spent_or_refused leaf held past (Print text) e w sound writes is = inl sound
+spent_or_refused leaf held past (Refuse fault) e w sound writes (inl is) = absurd (no_fault_done fault (subst (λ (x : Ending). WritesOutput x w (output_of_fault fault)) is writes).0)
+spent_or_refused leaf held past (Refuse fault) e w sound writes (inr (inl is)) = inr (fault_line fault, (fault, refl), (subst (λ (x : Ending). WritesOutput x w (output_of_fault fault)) is writes).1)
+spent_or_refused leaf held past (Refuse fault) e w sound writes (inr (inr is)) = inr (fault_line fault, (fault, refl), subst (λ (x : Ending). WritesOutput x w (output_of_fault fault)) is writes)
+
+pub spent : (leaf : LeafUse) (held : List ℕ) (past : List Step) (plan : Plan) (e : Ending) (w : Written) → PrintsSpent leaf held past plan → e ≡ endings.Done → WritesOutput e w (output_of_plan plan) → SpendsLeaf leaf held past
+spent leaf held past plan e w sound is writes = spent_by leaf held past plan w sound (subst (λ (x : Ending). WritesOutput x w (output_of_plan plan)) is writes)

@@ -1,0 +1,362 @@
+-- What is kept beside a history answers as the requests and the changes do.
+use Rattle.std.proofs.Common.{◌≡◌, ℕ, suc, ◌-◌, ◌≤◌, List, [], ◌∷◌, Option, None, Some, Bool, true, false, ◌&&◌, ◌||◌, nat_eq, nat_lt, cond, find, length, slice_get, option_map, filter, is_some, refl, sym, ◌∙◌, ap, arith}
+use Rattle.std.specs.List.{list_any, filter_map, cons_option, count_by}
+use Rattle.std.specs.Option.{option_or}
+use Rattle.std.proofs.lemmas.List.Sums.{length-filter}
+use Rattle.std.proofs.lemmas.Bool.{false≢true}
+use Rattle.gl_base.specs.Bytes.{same_bytes}
+use Rattle.gl_vmaps.specs.LastWrite.{last_such}
+use Rattle.gl_vmaps.proofs.LastWrites.{last_such-cons}
+use Rattle.gl_shares.specs.declared.share.Share.{Share}
+use Rattle.gl_requests.specs.declared.action.Action.{Action}
+use Rattle.gl_requests.specs.declared.action.Action.TheVariants as actions
+use Rattle.gl_requests.specs.declared.request.MemberAct.{MemberAct}
+use Rattle.gl_requests.specs.declared.request.MemberAct.TheVariants as acts
+use Rattle.gl_requests.specs.declared.request.GovernanceRequest.{GovernanceRequest}
+use Rattle.gl_requests.specs.declared.request.GovernanceRequest.TheVariants as requests
+use Rattle.gl_gov_rules.specs.declared.change.Recorded.{Recorded}
+use Rattle.gl_gov_rules.specs.declared.change.Change.{Change}
+use Rattle.gl_gov_rules.specs.declared.change.Change.TheVariants as changes
+use Rattle.gl_gov_rules.specs.declared.change.Changed.{Changed}
+use Rattle.gl_gov_rules.specs.declared.request_facts.Mark.{Mark}
+use Rattle.gl_gov_rules.specs.declared.request_facts.GivenShare.{GivenShare}
+use Rattle.gl_gov_rules.specs.declared.request_facts.Signed.{Signed}
+use Rattle.gl_gov_rules.specs.Members.{removes_member, is_ack_by, is_by, leaf_after, leaf_after_last}
+use Rattle.gl_gov_rules.specs.declared.change.RecordedNode.{RecordedNode}
+use Rattle.gl_gov_rules.specs.declared.request_facts.Trust.{Trust}
+use Rattle.gl_gov_rules.specs.declared.request_facts.Retirement.{Retirement}
+use Rattle.gl_gov_rules.specs.Nodes.{marks, trusts, retires}
+use Rattle.gl_gov_rules.specs.Service.{share_in, share_after}
+use Rattle.gl_gov_rules.specs.Proposals.{is_ballot, is_answer_on, same_answer, has_answered, ballot_on, ballot_in, ballot_in_act, ballots_on, is_vote}
+use Rattle.gl_gov_rules.specs.RequestFacts.{removed_in, trust_in, retirement_in, mark_in, given_in, given_share, signed_by, signed_in}
+use Rattle.gl_gov_rules.specs.Index.{AreLeavesSmall, last_leaf, next_or_zero, first_mark, is_node_or_all, is_retirement_of, first_retirement, given_after}
+
+-- ---- any of what is reported
+
+-- where each item tells of itself what it is asked
+any_reported : {X Y : Type 0} (p : X → Bool) (f : X → Option Y) (q : Y → Bool) → ((x : X) → p x ≡ list_any q (cons_option (f x) [])) →
+    (xs : List X) → list_any p xs ≡ list_any q (filter_map f xs)
+any_reported p f q each [] = refl
+any_reported {Y = Y} p f q each (x ∷ xs) = by (f x) (p x) (each x) (any_reported p f q each xs)
+  where
+    by : (o : Option Y) (b : Bool) → b ≡ list_any q (cons_option o []) → list_any p xs ≡ list_any q (filter_map f xs) →
+        (b || list_any p xs) ≡ list_any q (cons_option o (filter_map f xs))
+    by None b here rest = rw here rest
+    by (Some y) true here rest = two (q y) here
+      where
+        two : (c : Bool) → true ≡ (c || false) → true ≡ (c || list_any q (filter_map f xs))
+        two true e = refl
+        two false e = absurd cc
+    by (Some y) false here rest = two (q y) here
+      where
+        two : (c : Bool) → false ≡ (c || false) → list_any p xs ≡ (c || list_any q (filter_map f xs))
+        two true e = absurd cc
+        two false e = rest
+
+alone : (b : Bool) → b ≡ (b || false)
+alone true = refl
+alone false = refl
+
+-- ---- members
+
+removed_by : (n : ℕ) (c : Change) → removes_member n c ≡ list_any (λ (m : ℕ). nat_eq m n) (cons_option (removed_in c) [])
+removed_by n (changes.Founded state key) = refl
+removed_by n (changes.Recovered key) = refl
+removed_by n (changes.Settled id state) = refl
+removed_by n changes.Completed = refl
+removed_by n (changes.Applied a) = by a
+  where
+    by : (a : Action) → removes_member n (changes.Applied a) ≡ list_any (λ (m : ℕ). nat_eq m n) (cons_option (removed_in (changes.Applied a)) [])
+    by (actions.SetMember m) = refl
+    by (actions.RemoveMember m) = alone (nat_eq m n)
+    by (actions.SetRecoveryThreshold d) = refl
+    by (actions.TransitionNodeToTrusted id) = refl
+    by (actions.RemoveNode id) = refl
+    by actions.TransitionServiceToOpen = refl
+    by (actions.SetConstitution rules) = refl
+
+pub removed_any : (n : ℕ) (cs : List Changed) →
+    list_any (λ (c : Changed). removes_member n c.change) cs ≡ list_any (λ (m : ℕ). nat_eq m n) (filter_map (λ (c : Changed). removed_in c.change) cs)
+removed_any n cs = any_reported (λ (c : Changed). removes_member n c.change) (λ (c : Changed). removed_in c.change) (λ (m : ℕ). nat_eq m n) (λ c. removed_by n c.change) cs
+
+acked_if : (b : Bool) (s : Signed) → (b && s.is_ack) ≡ list_any (λ (t : Signed). t.is_ack) (cons_option (cond b (Some s) None) [])
+acked_if true s = alone s.is_ack
+acked_if false s = refl
+
+acked_by : (n seqno : ℕ) (g : GovernanceRequest) → is_ack_by n g ≡ list_any (λ (t : Signed). t.is_ack) (cons_option (signed_by n seqno g) [])
+acked_by n seqno (requests.Genesis g) = refl
+acked_by n seqno (requests.Recover r) = refl
+acked_by n seqno (requests.Join x) = refl
+acked_by n seqno (requests.Mark id) = refl
+acked_by n seqno (requests.Member m) = acked_if (nat_eq m.member n) (signed_in seqno m)
+
+pub acked_any : (n : ℕ) (rs : List Recorded) →
+    list_any (λ (r : Recorded). is_ack_by n r.request) rs ≡ list_any (λ (t : Signed). t.is_ack) (filter_map (λ (r : Recorded). signed_by n r.seqno r.request) rs)
+acked_any n rs = any_reported (λ (r : Recorded). is_ack_by n r.request) (λ (r : Recorded). signed_by n r.seqno r.request) (λ (t : Signed). t.is_ack) (λ r. acked_by n r.seqno r.request) rs
+
+-- ---- nodes
+
+marked_by : (id : List ℕ) (seqno : ℕ) (g : GovernanceRequest) → marks id g ≡ list_any (λ (m : Mark). same_bytes id m.id) (cons_option (mark_in seqno g) [])
+marked_by id seqno (requests.Genesis g) = refl
+marked_by id seqno (requests.Recover r) = refl
+marked_by id seqno (requests.Join x) = refl
+marked_by id seqno (requests.Mark other) = alone (same_bytes id other)
+marked_by id seqno (requests.Member m) = refl
+
+pub marked_any : (id : List ℕ) (rs : List Recorded) →
+    list_any (λ (r : Recorded). marks id r.request) rs ≡ list_any (λ (m : Mark). same_bytes id m.id) (filter_map (λ (r : Recorded). mark_in r.seqno r.request) rs)
+marked_any id rs = any_reported (λ (r : Recorded). marks id r.request) (λ (r : Recorded). mark_in r.seqno r.request) (λ (m : Mark). same_bytes id m.id) (λ r. marked_by id r.seqno r.request) rs
+
+-- the first that is reported is told by the first that is asked for
+find_reported : {X Y Z : Type 0} (p : X → Bool) (f : X → Option Y) (q : Y → Bool) (g : X → Z) (h : Y → Z) →
+    ((x : X) → option_map g (cond (p x) (Some x) None) ≡ option_map h (find q (cons_option (f x) []))) →
+    (xs : List X) → option_map g (find p xs) ≡ option_map h (find q (filter_map f xs))
+find_reported p f q g h each [] = refl
+find_reported {X = X} {Y = Y} {Z = Z} p f q g h each (x ∷ xs) = by (f x) (p x) (each x) (find_reported p f q g h each xs)
+  where
+    by : (o : Option Y) (b : Bool) → option_map g (cond b (Some x) None) ≡ option_map h (find q (cons_option o [])) →
+        option_map g (find p xs) ≡ option_map h (find q (filter_map f xs)) →
+        option_map g (cond b (Some x) (find p xs)) ≡ option_map h (find q (cons_option o (filter_map f xs)))
+    by None true here rest = absurd cc
+    by None false here rest = rest
+    by (Some y) b here rest = two b (q y) here
+      where
+        two : (b c : Bool) → option_map g (cond b (Some x) None) ≡ option_map h (cond c (Some y) None) →
+            option_map g (cond b (Some x) (find p xs)) ≡ option_map h (cond c (Some y) (find q (filter_map f xs)))
+        two true true e = e
+        two true false e = absurd cc
+        two false true e = absurd cc
+        two false false e = rest
+
+seqno_if : (r : Recorded) (m : Mark) (b : Bool) → r.seqno ≡ m.seqno → option_map (λ (x : Recorded). x.seqno) (cond b (Some r) None) ≡ option_map (λ (x : Mark). x.seqno) (cond b (Some m) None)
+seqno_if r m true same = ap Some same
+seqno_if r m false same = refl
+
+mark_reported : (id : List ℕ) (r : Recorded) (g : GovernanceRequest) → option_map (λ (x : Recorded). x.seqno) (cond (marks id g) (Some r) None) ≡ first_mark id (cons_option (mark_in r.seqno g) [])
+mark_reported id r (requests.Genesis g) = refl
+mark_reported id r (requests.Recover x) = refl
+mark_reported id r (requests.Join x) = refl
+mark_reported id r (requests.Mark other) = seqno_if r (record { id = other; seqno = r.seqno }) (same_bytes id other) refl
+mark_reported id r (requests.Member m) = refl
+
+pub mark_first : (id : List ℕ) (rs : List Recorded) →
+    option_map (λ (r : Recorded). r.seqno) (find (λ (r : Recorded). marks id r.request) rs) ≡ first_mark id (filter_map (λ (r : Recorded). mark_in r.seqno r.request) rs)
+mark_first id rs =
+    find_reported (λ (r : Recorded). marks id r.request) (λ (r : Recorded). mark_in r.seqno r.request) (λ (m : Mark). same_bytes id m.id) (λ (r : Recorded). r.seqno) (λ (m : Mark). m.seqno)
+    (λ r. mark_reported id r r.request) rs
+
+trust_by : (id : List ℕ) (seqno : ℕ) (c : Change) → trusts id c ≡ list_any (λ (t : Trust). same_bytes id t.id) (cons_option (trust_in seqno c) [])
+trust_by id seqno (changes.Founded state key) = refl
+trust_by id seqno (changes.Recovered key) = refl
+trust_by id seqno (changes.Settled on state) = refl
+trust_by id seqno changes.Completed = refl
+trust_by id seqno (changes.Applied a) = by a
+  where
+    by : (a : Action) → trusts id (changes.Applied a) ≡ list_any (λ (t : Trust). same_bytes id t.id) (cons_option (trust_in seqno (changes.Applied a)) [])
+    by (actions.SetMember m) = refl
+    by (actions.RemoveMember m) = refl
+    by (actions.SetRecoveryThreshold d) = refl
+    by (actions.TransitionNodeToTrusted other) = alone (same_bytes id other)
+    by (actions.RemoveNode other) = refl
+    by actions.TransitionServiceToOpen = refl
+    by (actions.SetConstitution rules) = refl
+
+pub trust_any : (id : List ℕ) (cs : List Changed) →
+    list_any (λ (c : Changed). trusts id c.change) cs ≡ list_any (λ (t : Trust). same_bytes id t.id) (filter_map (λ (c : Changed). trust_in c.seqno c.change) cs)
+trust_any id cs =
+    any_reported (λ (c : Changed). trusts id c.change) (λ (c : Changed). trust_in c.seqno c.change) (λ (t : Trust). same_bytes id t.id) (λ c. trust_by id c.seqno c.change) cs
+
+change_if : (c : Changed) (r : Retirement) (b : Bool) → c.seqno ≡ r.seqno → option_map (λ (x : Changed). x.seqno) (cond b (Some c) None) ≡ option_map (λ (x : Retirement). x.seqno) (cond b (Some r) None)
+change_if c r true same = ap Some same
+change_if c r false same = refl
+
+change_never : (c : Changed) (b : Bool) → option_map (λ (x : Changed). x.seqno) (cond (b && false) (Some c) None) ≡ None
+change_never c true = refl
+change_never c false = refl
+
+retirement_reported : (n : RecordedNode) (c : Changed) (change : Change) →
+    option_map (λ (x : Changed). x.seqno) (cond (nat_lt n.seqno c.seqno && retires n.id change) (Some c) None) ≡ first_retirement n (cons_option (retirement_in c.seqno change) [])
+retirement_reported n c (changes.Founded state key) = change_never c (nat_lt n.seqno c.seqno)
+retirement_reported n c (changes.Recovered key) = change_if c (record { seqno = c.seqno; id = None }) (nat_lt n.seqno c.seqno && true) refl
+retirement_reported n c (changes.Settled on state) = change_never c (nat_lt n.seqno c.seqno)
+retirement_reported n c changes.Completed = change_never c (nat_lt n.seqno c.seqno)
+retirement_reported n c (changes.Applied a) = by a
+  where
+    by : (a : Action) →
+        option_map (λ (x : Changed). x.seqno) (cond (nat_lt n.seqno c.seqno && retires n.id (changes.Applied a)) (Some c) None) ≡ first_retirement n (cons_option (retirement_in c.seqno (changes.Applied a)) [])
+    by (actions.SetMember m) = change_never c (nat_lt n.seqno c.seqno)
+    by (actions.RemoveMember m) = change_never c (nat_lt n.seqno c.seqno)
+    by (actions.SetRecoveryThreshold d) = change_never c (nat_lt n.seqno c.seqno)
+    by (actions.TransitionNodeToTrusted other) = change_never c (nat_lt n.seqno c.seqno)
+    by (actions.RemoveNode other) = change_if c (record { seqno = c.seqno; id = Some other }) (nat_lt n.seqno c.seqno && same_bytes n.id other) refl
+    by actions.TransitionServiceToOpen = change_never c (nat_lt n.seqno c.seqno)
+    by (actions.SetConstitution rules) = change_never c (nat_lt n.seqno c.seqno)
+
+pub retirement_first : (n : RecordedNode) (cs : List Changed) →
+    option_map (λ (c : Changed). c.seqno) (find (λ (c : Changed). nat_lt n.seqno c.seqno && retires n.id c.change) cs)
+    ≡ first_retirement n (filter_map (λ (c : Changed). retirement_in c.seqno c.change) cs)
+retirement_first n cs =
+    find_reported (λ (c : Changed). nat_lt n.seqno c.seqno && retires n.id c.change) (λ (c : Changed). retirement_in c.seqno c.change) (is_retirement_of n) (λ (c : Changed). c.seqno)
+    (λ (r : Retirement). r.seqno) (λ c. retirement_reported n c c.change) cs
+
+-- ---- ballots
+
+never : (b : Bool) → (b && false) ≡ false
+never true = refl
+never false = refl
+
+vote_if : (n : ℕ) (agrees given b : Bool) (seqno member : ℕ) →
+    (nat_eq member n && (b && same_answer given agrees)) ≡ list_any (is_vote n agrees) (cons_option (cond b (Some (record { seqno = seqno; member = member; agrees = given })) None) [])
+vote_if n agrees given true seqno member = alone (nat_eq member n && same_answer given agrees)
+vote_if n agrees given false seqno member = never (nat_eq member n)
+
+answered_by : (id : List ℕ) (agrees : Bool) (n seqno member : ℕ) (a : MemberAct) →
+    (nat_eq member n && is_answer_on id agrees a) ≡ list_any (is_vote n agrees) (cons_option (ballot_in_act id seqno member a) [])
+answered_by id agrees n seqno member acts.Ack = never (nat_eq member n)
+answered_by id agrees n seqno member (acts.Propose list) = never (nat_eq member n)
+answered_by id agrees n seqno member (acts.Ballot on given) = vote_if n agrees given (same_bytes on id) seqno member
+answered_by id agrees n seqno member (acts.Withdraw on) = never (nat_eq member n)
+answered_by id agrees n seqno member (acts.Share share) = never (nat_eq member n)
+
+pub is_ballot_reported : (id : List ℕ) (agrees : Bool) (n seqno : ℕ) (g : GovernanceRequest) →
+    is_ballot id n agrees g ≡ list_any (is_vote n agrees) (cons_option (ballot_in id seqno g) [])
+is_ballot_reported id agrees n seqno (requests.Genesis g) = refl
+is_ballot_reported id agrees n seqno (requests.Recover r) = refl
+is_ballot_reported id agrees n seqno (requests.Join x) = refl
+is_ballot_reported id agrees n seqno (requests.Mark other) = refl
+is_ballot_reported id agrees n seqno (requests.Member m) = answered_by id agrees n seqno m.member m.act
+
+-- a member's answer is among the ballots
+pub answered_any : (rs : List Recorded) (id : List ℕ) (agrees : Bool) (n : ℕ) → has_answered rs id agrees n ≡ list_any (is_vote n agrees) (ballots_on id rs)
+unfolding has_answered ballots_on
+answered_any rs id agrees n =
+    any_reported (λ (r : Recorded). is_ballot id n agrees r.request) (ballot_on id) (is_vote n agrees) (λ r. is_ballot_reported id agrees n r.seqno r.request) rs
+
+-- ---- shares
+
+abbrev bound : {Y Z : Type 0} → Option Y → (Y → Option Z) → Option Z
+bound None h = None
+bound (Some y) h = h y
+
+-- what is read off what is reported
+map_reported : {X Y Z : Type 0} (f : X → Option Z) (g : X → Option Y) (h : Y → Option Z) → ((x : X) → f x ≡ bound (g x) h) → (xs : List X) → filter_map f xs ≡ filter_map h (filter_map g xs)
+map_reported f g h each [] = refl
+map_reported {Y = Y} f g h each (x ∷ xs) =
+    ap (λ o. cons_option o (filter_map f xs)) (each x) ∙ ap (cons_option (bound (g x) h)) (map_reported f g h each xs) ∙ by (g x)
+  where
+    by : (o : Option Y) → cons_option (bound o h) (filter_map h (filter_map g xs)) ≡ filter_map h (cons_option o (filter_map g xs))
+    by None = refl
+    by (Some y) = refl
+
+none_either : (b : Bool) → cond {A = Option Share} b None None ≡ None
+none_either true = refl
+none_either false = refl
+
+share_reported : (q s : ℕ) (o : Option Share) → cond (nat_lt q s) o None ≡ bound (option_map (given_share s) o) (given_after q)
+share_reported q s None = none_either (nat_lt q s)
+share_reported q s (Some share) = refl
+
+pub given_since : (q : ℕ) (rs : List Recorded) → filter_map (share_after q) rs ≡ filter_map (given_after q) (filter_map (λ (r : Recorded). given_in r.seqno r.request) rs)
+given_since q rs = map_reported (share_after q) (λ (r : Recorded). given_in r.seqno r.request) (given_after q) (λ r. share_reported q r.seqno (share_in r.request)) rs
+
+count_given : (q : ℕ) (gs : List GivenShare) → length (filter (λ (g : GivenShare). nat_lt q g.seqno) gs) ≡ length (filter_map (given_after q) gs)
+count_given q [] = refl
+count_given q (g ∷ gs) = by (nat_lt q g.seqno) (count_given q gs)
+  where
+    by : (b : Bool) → length (filter (λ (x : GivenShare). nat_lt q x.seqno) gs) ≡ length (filter_map (given_after q) gs) →
+        length (cond b (g ∷ filter (λ (x : GivenShare). nat_lt q x.seqno) gs) (filter (λ (x : GivenShare). nat_lt q x.seqno) gs))
+        ≡ length (cons_option (cond b (Some g.share) None) (filter_map (given_after q) gs))
+    by true rest = ap suc rest
+    by false rest = rest
+
+pub given_count : (q : ℕ) (rs : List Recorded) →
+    count_by (λ (g : GivenShare). nat_lt q g.seqno) (filter_map (λ (r : Recorded). given_in r.seqno r.request) rs) ≡ length (filter_map (share_after q) rs)
+given_count q rs =
+    let gs = filter_map (λ (r : Recorded). given_in r.seqno r.request) rs in
+    sym (length-filter (λ (g : GivenShare). nat_lt q g.seqno) gs) ∙ count_given q gs ∙ ap length (sym (given_since q rs))
+
+-- ---- leaves
+
+abbrev last_of : List Signed → Option Signed
+last_of [] = None
+last_of (s ∷ ss) = option_or (last_of ss) (Some s)
+
+last_there : (s : Signed) (ss : List Signed) → slice_get (s ∷ ss) (length ss) ≡ last_of (s ∷ ss)
+last_there s [] = refl
+last_there s (t ∷ ss) = last_there t ss ∙ by (last_of ss)
+  where
+    by : (o : Option Signed) → option_or o (Some t) ≡ option_or (option_or o (Some t)) (Some s)
+    by None = refl
+    by (Some u) = refl
+
+last_is : (ss : List Signed) → slice_get ss (length ss - 1) ≡ last_of ss
+last_is [] = refl
+last_is (s ∷ ss) = let e : suc (length ss) - 1 ≡ length ss = omega arith in rw e (last_there s ss)
+
+leaf_alone : (n : ℕ) (r : Recorded) (g : GovernanceRequest) → g ≡ r.request → leaf_after_last (cond (is_by n g) (Some r) None) ≡ next_or_zero (signed_by n r.seqno g)
+leaf_alone n r (requests.Genesis x) e = refl
+leaf_alone n r (requests.Recover x) e = refl
+leaf_alone n r (requests.Join x) e = refl
+leaf_alone n r (requests.Mark id) e = refl
+leaf_alone n r (requests.Member m) e = by (nat_eq m.member n)
+  where
+    by : (b : Bool) → leaf_after_last (cond b (Some r) None) ≡ next_or_zero (cond b (Some (signed_in r.seqno m)) None)
+    by true = ap leaf_after (sym e)
+    by false = refl
+
+is_reported : (n seqno : ℕ) (g : GovernanceRequest) → is_by n g ≡ is_some (signed_by n seqno g)
+is_reported n seqno (requests.Genesis x) = refl
+is_reported n seqno (requests.Recover x) = refl
+is_reported n seqno (requests.Join x) = refl
+is_reported n seqno (requests.Mark id) = refl
+is_reported n seqno (requests.Member m) = elim (nat_eq m.member n) as (λ (b : Bool). b ≡ is_some (cond b (Some (signed_in seqno m)) None)) [ true ↦ refl | false ↦ refl ]
+
+record SameLast (o : Option Recorded) (p : Option Signed) : Type 0 where
+  there : is_some o ≡ is_some p
+  leaf : leaf_after_last o ≡ next_or_zero p
+
+both_or : (o a : Option Recorded) (p b : Option Signed) → SameLast o p → SameLast a b → SameLast (option_or o a) (option_or p b)
+both_or None a None b first second = second
+both_or None a (Some p) b first second = absurd (false≢true first.there)
+both_or (Some o) a None b first second = absurd (false≢true (sym first.there))
+both_or (Some o) a (Some p) b first second = first
+
+there_if : (r : Recorded) (b : Bool) → is_some (cond b (Some r) None) ≡ b
+there_if r true = refl
+there_if r false = refl
+
+one_last : (n : ℕ) (r : Recorded) → SameLast (cond (is_by n r.request) (Some r) None) (signed_by n r.seqno r.request)
+one_last n r = record { there = there_if r (is_by n r.request) ∙ is_reported n r.seqno r.request; leaf = leaf_alone n r r.request refl }
+
+last_cons : (o : Option Signed) (ss : List Signed) → last_of (cons_option o ss) ≡ option_or (last_of ss) o
+last_cons None ss = by (last_of ss)
+  where
+    by : (p : Option Signed) → p ≡ option_or p None
+    by None = refl
+    by (Some s) = refl
+last_cons (Some s) ss = refl
+
+last_reported : (n : ℕ) (rs : List Recorded) → SameLast (last_such (λ (r : Recorded). is_by n r.request) rs) (last_of (filter_map (λ (r : Recorded). signed_by n r.seqno r.request) rs))
+last_reported n [] = record { there = refl; leaf = refl }
+last_reported n (r ∷ rs) =
+    rw (last_such-cons (λ (x : Recorded). is_by n x.request) r rs, last_cons (signed_by n r.seqno r.request) (filter_map (λ (x : Recorded). signed_by n x.seqno x.request) rs))
+    (both_or _ _ _ _ (last_reported n rs) (one_last n r))
+
+-- the last request that a member signed has the last leaf that is told of it
+pub next_of_last : (n : ℕ) (rs : List Recorded) →
+    leaf_after_last (last_such (λ (r : Recorded). is_by n r.request) rs) ≡ last_leaf (filter_map (λ (r : Recorded). signed_by n r.seqno r.request) rs)
+next_of_last n rs = (last_reported n rs).leaf ∙ sym (ap next_or_zero (last_is (filter_map (λ (r : Recorded). signed_by n r.seqno r.request) rs)))
+
+small_or : (o a : Option Recorded) → leaf_after_last o ≤ 1024 → leaf_after_last a ≤ 1024 → leaf_after_last (option_or o a) ≤ 1024
+small_or None a first second = second
+small_or (Some r) a first second = first
+
+small_if : (r : Recorded) (b : Bool) → leaf_after r.request ≤ 1024 → leaf_after_last (cond b (Some r) None) ≤ 1024
+small_if r true small = small
+small_if r false small = omega arith
+
+-- and it is one of a tree of 1,024
+pub last_small : (n : ℕ) (rs : List Recorded) → AreLeavesSmall rs → leaf_after_last (last_such (λ (r : Recorded). is_by n r.request) rs) ≤ 1024
+last_small n [] small = omega arith
+last_small n (r ∷ rs) small =
+    rw (last_such-cons (λ (x : Recorded). is_by n x.request) r rs) (small_or _ _ (last_small n rs small.1) (small_if r (is_by n r.request) small.0))

@@ -1,7 +1,0 @@
-use Rattle.std.proofs.Common.{◌≤◌}
-use Rattle.gl_load.specs.Node.{IsBehind}
-use Rattle.gl_load.proofs.loading.loaded_node.Given as goal
-
--- the node stands for that of the rules behind the requests so far
-abbrev pub invariant-loop-done : goal.invariant-loop-done
-invariant-loop-done g l = IsBehind g.B.Book.stands l.fn.seed l.fn.count l.done l.node l.words × (l.done ≤ l.fn.count)

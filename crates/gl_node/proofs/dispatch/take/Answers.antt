@@ -1,0 +1,140 @@
+use Rattle.std.proofs.Common.{◌≡◌, ◌≤◌, ℕ, ◌-◌, ◌+◌, length, take, drop, map, sym, ap, ◌∙◌, arith, List}
+use Rattle.gl_entry.specs.Entry.{frame_bytes}
+use Rattle.gl_journal.specs.Parts.{items_of}
+use Rattle.gl_journal.proofs.PartLaws.{length_items_of}
+use Rattle.gl_replication.specs.Events.{rule_of}
+use Rattle.gl_replication.specs.declared.done.Refusal.TheVariants.{NoMemory}
+use Rattle.gl_replication.proofs.Merging.{rest_is}
+use Rattle.gl_node.specs.Batches.{IsChange}
+use Rattle.gl_node.specs.Frames.{appends_size, frame_if_fits}
+use Rattle.gl_node.proofs.Coming.{done_by, broken_by, refused_by}
+use Rattle.gl_node.proofs.TakenEntries.{step_led, step_tail, few_new}
+use Rattle.gl_node.proofs.Standings.{to_change}
+use Rattle.gl_node.proofs.Framing.{small_frames, appends_part, frames_tail, length_map, room_less}
+use Rattle.gl_node.proofs.dispatch.take.Goals as goal
+
+pub room-requires : goal.room-requires
+room-requires g c =
+    let size = ap (λ (l : List _). appends_size (items_of l)) c.deref.ensures.value ∙ ap appends_size c.in-Ok.ensures in
+    omega (arith, size, small_frames c.args.entries.now, c.requires.few)
+
+pub returns-in-Err-room : goal.returns-in-Err-room
+returns-in-Err-room g c =
+    let e = c.room.ensures in
+    refused_by g.B.Book.stands g.B.KeptBook.ledger g.B.KeptBook.goes_on g.D.Disk.honest g.D.Disk.bytes g.D.Disk.past g.D.Disk.faults c.requires.serving
+    (record { settles = e.«open»; reads = e.bytes; stops = e.past; counted = e.faults }) c.requires.serving.whole (rule_of c.args.event.now) NoMemory (λ b x n s. tt) (λ b x n s. s)
+
+pub returns-in-Err-step_core : goal.returns-in-Err-step_core
+returns-in-Err-step_core g c =
+    let e = c.room.ensures in
+    refused_by g.B.Book.stands g.B.KeptBook.ledger g.B.KeptBook.goes_on g.D.Disk.honest g.D.Disk.bytes g.D.Disk.past g.D.Disk.faults c.requires.serving
+    (record { settles = e.«open»; reads = e.bytes; stops = e.past; counted = e.faults }) c.in-Err-step_core.ensures.whole (rule_of c.args.event.now) c.in-Err-step_core.why c.in-Err-step_core.ensures.refused c.in-Err-step_core.ensures.err
+
+pub overflow_sub-new : goal.overflow_sub-new
+overflow_sub-new g c =
+    let here = c.requires.serving in
+    let b = here.some.rules in
+    let x = here.some.me in
+    let n = here.some.node in
+    let s = here.some.standing in
+    let es = c.args.entries.now in
+    let kept = c.kept_upto-kept.result in
+    let step = rule_of c.args.event.now b x n in
+    let stepped = c.in-Ok-step_core.ensures.steps b x n s in
+    let takes = c.requires.takes b x n s in
+    let whole = c.step_core.ensures.whole in
+    let tail = step_tail g.B.Book.stands g.B.KeptBook.ledger here.whole s whole step c.in-Ok-step_core.done stepped c.args.view c.args.prev es takes kept (λ from commit. c.kept_upto-kept.ensures b x n s from commit) in
+    let fs = c.deref-in-Ok-step_core.result.now in
+    let made = ap items_of c.deref-in-Ok-step_core.ensures.value ∙ c.in-Ok.ensures in
+    let all : length fs ≡ length es = sym (length_items_of fs) ∙ ap length made ∙ length_map frame_if_fits es in
+    let count : c.len.result ≡ length es = omega (arith, all, c.len.ensures, c.deref-in-Ok-step_core.ensures.len) in
+    let few = few_new kept es _ _ tail in
+    omega (arith, count, few, c.ledger_len.ensures.len)
+
+pub keep-requires-clause-small : goal.keep-requires-clause-small
+keep-requires-clause-small g c =
+    let size = ap (λ (l : List _). appends_size (items_of l)) c.deref-in-Ok-step_core.ensures.value ∙ ap appends_size c.in-Ok.ensures in
+    let k = c.len.result - (c.ledger_len.result - c.kept_upto-kept.result) in
+    let fs = c.deref-in-Ok-step_core.result.now in
+    omega (arith, size, small_frames c.args.entries.now, c.requires.few, appends_part (length fs - k) k fs)
+
+pub keep-requires-clause-room : goal.keep-requires-clause-room
+keep-requires-clause-room g c =
+    let k = c.len.result - (c.ledger_len.result - c.kept_upto-kept.result) in
+    let fs = c.deref-in-Ok-step_core.result.now in
+    let same = ap (λ (l : List _). appends_size (items_of l)) (c.deref.ensures.value ∙ sym c.deref-in-Ok-step_core.ensures.value) in
+    room_less g.D.Disk.room_end g.D.Disk.room_calls c.room.new.journal (64 + appends_size (items_of c.deref.result.now)) _ (omega (arith, same, appends_part (length fs - k) k fs)) c.in-Ok-room.ensures.room
+
+pub returns-in-Ok-keep : goal.returns-in-Ok-keep
+returns-in-Ok-keep g c =
+    let here = c.requires.serving in
+    let b = here.some.rules in
+    let x = here.some.me in
+    let n = here.some.node in
+    let s = here.some.standing in
+    let es = c.args.entries.now in
+    let kept = c.kept_upto-kept.result in
+    let step = rule_of c.args.event.now b x n in
+    let stepped = c.in-Ok-step_core.ensures.steps b x n s in
+    let takes = c.requires.takes b x n s in
+    let whole = c.step_core.ensures.whole in
+    let tail = step_tail g.B.Book.stands g.B.KeptBook.ledger here.whole s whole step c.in-Ok-step_core.done stepped c.args.view c.args.prev es takes kept (λ from commit. c.kept_upto-kept.ensures b x n s from commit) in
+    let fs = c.deref-in-Ok-step_core.result.now in
+    let made = ap items_of c.deref-in-Ok-step_core.ensures.value ∙ c.in-Ok.ensures in
+    let all : length fs ≡ length es = sym (length_items_of fs) ∙ ap length made ∙ length_map frame_if_fits es in
+    let count : c.len.result ≡ length es = omega (arith, all, c.len.ensures, c.deref-in-Ok-step_core.ensures.len) in
+    let len = c.ledger_len.ensures in
+    let is = c.of-before.ensures in
+    let k = c.len.result - (c.ledger_len.result - kept) in
+    let frames = items_of (take (length fs - k) (drop k fs)) in
+    let start : k ≡ length es - (length (g.B.KeptBook.ledger c.step_core.new.core.book) - kept) = let l = len.len in omega (arith, count, l) in
+    let suffix : frames ≡ map frame_bytes (drop kept (g.B.KeptBook.ledger c.step_core.new.core.book)) = ap items_of (rest_is k fs) ∙ frames_tail fs es (g.B.KeptBook.ledger c.step_core.new.core.book) kept k made (tail.tail ∙ ap (λ (i : ℕ). drop i es) (sym start)) len.fit in
+    let led = step_led g.B.Book.stands g.B.KeptBook.ledger here.whole s whole step c.in-Ok-step_core.done stepped c.args.view c.args.prev es takes in
+    let e = c.room.ensures in
+    let put = c.keep.ensures in
+    done_by g.B.Book.stands g.B.KeptBook.ledger g.B.KeptBook.goes_on g.D.Disk.honest g.D.Disk.bytes g.D.Disk.past g.D.Disk.faults c.keep.new.journal here
+    (record { settles = e.«open»; reads = e.bytes; stops = e.past; counted = e.faults }) whole (rule_of c.args.event.now) c.in-Ok-step_core.done c.in-Ok-step_core.ensures.steps
+    (λ d. IsChange g.B.KeptBook.ledger g.B.KeptBook.goes_on d c.of-before.result kept frames c.step_core.new.core)
+    (λ h.
+    let f = here.file h in
+    let more : n.reserved ≤ step.node.reserved = omega (arith, led.reserved) in
+    to_change g.B.Book.stands g.B.KeptBook.ledger here.whole s whole stepped.node g.B.KeptBook.goes_on f.state c.of-before.result kept frames led.view more tail.within tail.prefix suffix
+    f.keeps f.leaves is.view is.vote is.len is.leaves len.follow)
+    c.keep.result put.«open» put.kept put.after put.any_moment put.faults c.in-Ok-keep.field-0 c.in-Ok-keep.is
+
+pub returns : goal.returns
+returns g c =
+    let here = c.requires.serving in
+    let b = here.some.rules in
+    let x = here.some.me in
+    let n = here.some.node in
+    let s = here.some.standing in
+    let es = c.args.entries.now in
+    let kept = c.kept_upto-kept.result in
+    let step = rule_of c.args.event.now b x n in
+    let stepped = c.in-Ok-step_core.ensures.steps b x n s in
+    let takes = c.requires.takes b x n s in
+    let whole = c.step_core.ensures.whole in
+    let tail = step_tail g.B.Book.stands g.B.KeptBook.ledger here.whole s whole step c.in-Ok-step_core.done stepped c.args.view c.args.prev es takes kept (λ from commit. c.kept_upto-kept.ensures b x n s from commit) in
+    let fs = c.deref-in-Ok-step_core.result.now in
+    let made = ap items_of c.deref-in-Ok-step_core.ensures.value ∙ c.in-Ok.ensures in
+    let all : length fs ≡ length es = sym (length_items_of fs) ∙ ap length made ∙ length_map frame_if_fits es in
+    let count : c.len.result ≡ length es = omega (arith, all, c.len.ensures, c.deref-in-Ok-step_core.ensures.len) in
+    let len = c.ledger_len.ensures in
+    let is = c.of-before.ensures in
+    let k = c.len.result - (c.ledger_len.result - kept) in
+    let frames = items_of (take (length fs - k) (drop k fs)) in
+    let start : k ≡ length es - (length (g.B.KeptBook.ledger c.step_core.new.core.book) - kept) = let l = len.len in omega (arith, count, l) in
+    let suffix : frames ≡ map frame_bytes (drop kept (g.B.KeptBook.ledger c.step_core.new.core.book)) = ap items_of (rest_is k fs) ∙ frames_tail fs es (g.B.KeptBook.ledger c.step_core.new.core.book) kept k made (tail.tail ∙ ap (λ (i : ℕ). drop i es) (sym start)) len.fit in
+    let led = step_led g.B.Book.stands g.B.KeptBook.ledger here.whole s whole step c.in-Ok-step_core.done stepped c.args.view c.args.prev es takes in
+    let e = c.room.ensures in
+    let put = c.keep.ensures in
+    broken_by g.B.Book.stands g.B.KeptBook.ledger g.B.KeptBook.goes_on g.D.Disk.honest g.D.Disk.bytes g.D.Disk.past g.D.Disk.faults c.keep.new.journal here
+    (record { settles = e.«open»; reads = e.bytes; stops = e.past; counted = e.faults }) whole (rule_of c.args.event.now) c.in-Ok-step_core.done c.in-Ok-step_core.ensures.steps
+    (λ d. IsChange g.B.KeptBook.ledger g.B.KeptBook.goes_on d c.of-before.result kept frames c.step_core.new.core)
+    (λ h.
+    let f = here.file h in
+    let more : n.reserved ≤ step.node.reserved = omega (arith, led.reserved) in
+    to_change g.B.Book.stands g.B.KeptBook.ledger here.whole s whole stepped.node g.B.KeptBook.goes_on f.state c.of-before.result kept frames led.view more tail.within tail.prefix suffix
+    f.keeps f.leaves is.view is.vote is.len is.leaves len.follow)
+    c.keep.result put.«open» put.kept put.after put.any_moment put.faults c.in-Err-keep.field-0 c.in-Err-keep.is

@@ -1,0 +1,174 @@
+//! What an event makes of a node and of its file.
+
+ghost use Rattle.std.specs.Prelude.{◌≡◌, ◌≤◌, ℕ, length, true};
+ghost use Rattle.gl_entry.specs.declared.entry.Entry.{Entry as Item};
+ghost use Rattle.gl_messages.specs.Message.{most_entries};
+ghost use Rattle.gl_replication.specs.Events.{has_few_entries, rule_of};
+ghost use Rattle.gl_replication.specs.Stands.{Reports};
+ghost use Rattle.gl_node.specs.Changes.{Extends, IsAsKept, IsTurned, TakesEntries};
+ghost use Rattle.gl_node.specs.Comes.{Comes};
+ghost use Rattle.gl_node.specs.Persistence.{IsServing};
+
+use crate::change::{Change, change_of};
+use crate::changed::{Before, ledger_len};
+use crate::fault::NodeFault;
+use crate::frames::{frames_after, frames_of, room};
+use crate::kept_book::KeptBook;
+use crate::persist::keep;
+use crate::rollback::take_back;
+use crate::rule::step_core;
+use gl_base::TxId;
+use gl_entry::Entry;
+use gl_journal::Journal;
+use gl_outside::Disk;
+use gl_replication::{Core, Done, Event, Refusal};
+
+/// An event that changes nothing of what the file keeps. It takes no memory but what the node does.
+fn pass<D: Disk, B: KeptBook>(
+    core: &mut Core<B>,
+    journal: &Journal<D>,
+    event: &Event<B>,
+) -> Result<Done<B>, NodeFault<B>>
+    requires serving { IsServing B.stands B.ledger B.goes_on D.honest D.bytes D.past core.old
+        journal.now }
+    requires kept { Reports B.stands core.old (λ b x n. IsAsKept n (rule_of event.now b x n).node) }
+    ensures { Comes B.stands B.ledger B.goes_on D.honest D.bytes D.past D.faults
+        (rule_of event.now) core.old journal.now result core.new journal.now }
+{
+    match step_core(core, event) {
+        Err(why) => Err(NodeFault::Refused(why)),
+        Ok(done) => Ok(done),
+    }
+}
+
+/// An event that adds no entry. Memory for what is kept of it is taken first.
+fn turn<D: Disk, B: KeptBook>(
+    core: &mut Core<B>,
+    journal: &mut Journal<D>,
+    event: &Event<B>,
+) -> Result<Done<B>, NodeFault<B>>
+    requires serving { IsServing B.stands B.ledger B.goes_on D.honest D.bytes D.past core.old
+        journal.old }
+    requires turned { Reports B.stands core.old (λ b x n. IsTurned n (rule_of event.now b x n).node) }
+    ensures { Comes B.stands B.ledger B.goes_on D.honest D.bytes D.past D.faults
+        (rule_of event.now) core.old journal.old result core.new journal.new }
+{
+    let before = Before::of(core);
+    let records = match room(core.alloc, journal, &[]) {
+        Err(_) => return Err(NodeFault::Refused(Refusal::NoMemory)),
+        Ok(records) => records,
+    };
+    match step_core(core, event) {
+        Err(why) => Err(NodeFault::Refused(why)),
+        Ok(done) => {
+            let kept = ledger_len(&core.book);
+            match keep(core, journal, &before, kept, &[], records) {
+                Ok(()) => Ok(done),
+                Err(_) => Err(NodeFault::DiskFault),
+            }
+        }
+    }
+}
+
+/// A leader's entries. Their frames are made first, and memory for what is kept is taken.
+fn take<D: Disk, B: KeptBook>(
+    core: &mut Core<B>,
+    journal: &mut Journal<D>,
+    event: &Event<B>,
+    view: u32,
+    prev: TxId,
+    entries: &[Entry],
+) -> Result<Done<B>, NodeFault<B>>
+    requires few { length entries.now ≤ most_entries }
+    requires serving { IsServing B.stands B.ledger B.goes_on D.honest D.bytes D.past core.old
+        journal.old }
+    requires takes { Reports B.stands core.old (λ b x n.
+        TakesEntries b x n view prev entries.now (rule_of event.now b x n)) }
+    ensures { Comes B.stands B.ledger B.goes_on D.honest D.bytes D.past D.faults
+        (rule_of event.now) core.old journal.old result core.new journal.new }
+{
+    let before = Before::of(core);
+    let frames = match frames_of(core.alloc, entries) {
+        Err(_) => return Err(NodeFault::Refused(Refusal::NoMemory)),
+        Ok(frames) => frames,
+    };
+    let records = match room(core.alloc, journal, &frames) {
+        Err(_) => return Err(NodeFault::Refused(Refusal::NoMemory)),
+        Ok(records) => records,
+    };
+    let kept = core.kept_upto(view, prev, entries);
+    match step_core(core, event) {
+        Err(why) => Err(NodeFault::Refused(why)),
+        Ok(done) => {
+            let count = ledger_len(&core.book) - kept;
+            let new = &frames[frames.len() - count as usize..];
+            match keep(core, journal, &before, kept, new, records) {
+                Ok(()) => Ok(done),
+                Err(_) => Err(NodeFault::DiskFault),
+            }
+        }
+    }
+}
+
+/// An event that adds one entry. Its frame is made, and memory for what is kept is taken; where
+/// there is none, the entry is taken back.
+fn make<D: Disk, B: KeptBook>(
+    core: &mut Core<B>,
+    journal: &mut Journal<D>,
+    event: &Event<B>,
+) -> Result<Done<B>, NodeFault<B>>
+    requires serving { IsServing B.stands B.ledger B.goes_on D.honest D.bytes D.past core.old
+        journal.old }
+    requires extends { Reports B.stands core.old (λ b x n. Extends n (rule_of event.now b x n)) }
+    ensures { Comes B.stands B.ledger B.goes_on D.honest D.bytes D.past D.faults
+        (rule_of event.now) core.old journal.old result core.new journal.new }
+{
+    let before = Before::of(core);
+    let done = match step_core(core, event) {
+        Err(why) => return Err(NodeFault::Refused(why)),
+        Ok(done) => done,
+    };
+    let frames = match frames_after(core.alloc, &core.book, before.len) {
+        Err(_) => {
+            take_back(core, &before);
+            return Err(NodeFault::Refused(Refusal::NoMemory));
+        }
+        Ok(frames) => frames,
+    };
+    let records = match room(core.alloc, journal, &frames) {
+        Err(_) => {
+            take_back(core, &before);
+            return Err(NodeFault::Refused(Refusal::NoMemory));
+        }
+        Ok(records) => records,
+    };
+    match keep(core, journal, &before, before.len, &frames, records) {
+        Ok(()) => Ok(done),
+        Err(_) => Err(NodeFault::DiskFault),
+    }
+}
+
+/// What an event makes of a node and of its file.
+pub(crate) fn dispatch<D: Disk, B: KeptBook>(
+    core: &mut Core<B>,
+    journal: &mut Journal<D>,
+    event: &Event<B>,
+) -> Result<Done<B>, NodeFault<B>>
+    requires few { has_few_entries event.now ≡ true }
+    requires serving { IsServing B.stands B.ledger B.goes_on D.honest D.bytes D.past core.old
+        journal.old }
+    ensures { Comes B.stands B.ledger B.goes_on D.honest D.bytes D.past D.faults
+        (rule_of event.now) core.old journal.old result core.new journal.new }
+{
+    let me = core.book.me();
+    match change_of(event, &me) {
+        Change::Nothing => pass(core, journal, event),
+        Change::ElectionStep => turn(core, journal, event),
+        Change::Entries {
+            view,
+            prev,
+            entries,
+        } => take(core, journal, event, view, prev, entries),
+        Change::Entry => make(core, journal, event),
+    }
+}

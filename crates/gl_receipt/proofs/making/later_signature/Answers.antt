@@ -1,8 +1,0 @@
-use Rattle.std.proofs.Common.{drop, sym}
-use Rattle.gl_entry.specs.Entry.{is_signature}
-use Rattle.gl_entry.specs.declared.entry.Entry.{Entry}
-use Rattle.gl_receipt.proofs.MakeLemmas.{find_passes}
-use Rattle.gl_receipt.proofs.making.later_signature.Goals as goal
-
-pub returns-in-Some-clause-signs : goal.returns-in-Some-clause-signs
-returns-in-Some-clause-signs g c = find_passes (λ (e : Entry). is_signature e.content) (drop c.args.seqno (g.L.CommittedLedger.ledger c.args.ledger.now).entries) c.in-Some.entry.now (sym c.in-Some.ensures.first)

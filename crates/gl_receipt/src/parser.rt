@@ -1,0 +1,189 @@
+//! A receipt read from its JSON text.
+
+ghost use Rattle.std.specs.Prelude.{◌≡◌, [], ◌∷◌, option_map, codes};
+ghost use Rattle.gl_base.specs.Answers.{Answers};
+ghost use Rattle.gl_receipt.specs.Form.{leaf_components_in, step_in, sibling_in, steps_from, proof_in, signed_in, bytes_in, receipt_in, tree_from, receipt_from, at, path_of};
+ghost use Rattle.serde_json.specs.View.{view, items_view};
+
+use crate::components::{LeafComponents, Receipt, Signed};
+use crate::form::{
+    FormError, array_in, digest_in, lower_digits, object_in, text_in, u32_in, u64_in, value_in,
+};
+use crate::text::Text;
+use gl_base::{Bytes, FormsFault, OrNoMemory, Sequence};
+use gl_entry::Digest;
+use gl_merkle::Step;
+use hex::FromHexError;
+use serde_json::Value;
+use std::alloc::Global;
+
+#[tactic(auto, unfolding(crate::specs::Form::leaf_components_in))]
+fn leaf_components_in(
+    alloc: Global,
+    value: &Value,
+) -> Result<LeafComponents, OrNoMemory<FormsFault>>
+    ensures { Answers (λ c. c) result (leaf_components_in (view value.now)) }
+{
+    object_in(
+        &["claims_digest", "commit_evidence", "write_set_digest"],
+        value,
+    )
+    .map_err(|form_error| form_error.at(alloc, &["leaf_components"]))?;
+    let claims_digest = digest_in(value.get("claims_digest")).map_err(|form_error| form_error.at(
+        alloc,
+        &["leaf_components", "claims_digest"],
+    ))?;
+    let commit_evidence = text_in(value.get("commit_evidence")).map_err(|form_error| form_error.at(
+        alloc,
+        &["leaf_components", "commit_evidence"],
+    ))?;
+    let write_set_digest = digest_in(value.get("write_set_digest")).map_err(
+        |form_error| form_error.at(alloc, &["leaf_components", "write_set_digest"]),
+    )?;
+    Ok(LeafComponents {
+        claims_digest,
+        commit_evidence: Text::from(String::from_str(alloc, commit_evidence)?),
+        write_set_digest,
+    })
+}
+
+/// The sibling of an element that has the one member with this name.
+#[tactic(auto, unfolding(crate::specs::Form::sibling_in))]
+fn sibling_in(
+    alloc: Global,
+    index: u64,
+    side: &str,
+    value: &Value,
+) -> Result<Digest, OrNoMemory<FormsFault>>
+    ensures { Answers (λ s. s) result (sibling_in index side.now (view value.now)) }
+{
+    object_in(&[side], value).map_err(|form_error| form_error.in_step(alloc, index, &[]))?;
+    digest_in(value.get(side)).map_err(|form_error| form_error.in_step(alloc, index, &[side]))
+}
+
+#[tactic(auto, unfolding(crate::specs::Form::step_in))]
+fn step_in(alloc: Global, index: u64, value: &Value) -> Result<Step, OrNoMemory<FormsFault>>
+    ensures { Answers (λ s. s) result (step_in index (view value.now)) }
+{
+    if value.get("left").is_some() {
+        Ok(Step::Left(sibling_in(alloc, index, "left", value)?))
+    } else {
+        Ok(Step::Right(sibling_in(alloc, index, "right", value)?))
+    }
+}
+
+fn steps_in(alloc: Global, values: &[Value]) -> Result<Vec<Step>, OrNoMemory<FormsFault>>
+    ensures { Answers (λ s. s.items) result (steps_from 0 (items_view values.now)) }
+{
+    let mut steps = Vec::new(alloc);
+    for value in values {
+        let step = step_in(alloc, steps.len() as u64, value)?;
+        steps.push(step)?;
+    }
+    Ok(steps)
+}
+
+#[tactic(auto, unfolding(crate::specs::Form::proof_in))]
+fn proof_in(alloc: Global, value: Option<&Value>) -> Result<Sequence<Step>, OrNoMemory<FormsFault>>
+    ensures { Answers (λ s. s) result (proof_in (option_map (λ v. view v.now) value.entry)) }
+{
+    let values = array_in(value).map_err(|form_error| form_error.at(alloc, &["proof"]))?;
+    Ok(Sequence::from(steps_in(alloc, values)?))
+}
+
+fn signature_in(alloc: Global, value: Option<&Value>) -> Result<Bytes, OrNoMemory<FormsFault>>
+    ensures { Answers (λ b. b) result
+        (at (path_of (codes "signature" ∷ []))
+        (bytes_in (option_map (λ v. view v.now) value.entry))) }
+{
+    let digits = text_in(value)
+        .and_then(lower_digits)
+        .map_err(|form_error| form_error.at(alloc, &["signature"]))?;
+    match hex::decode(alloc, digits) {
+        Ok(bytes) => Ok(Bytes::from(bytes)),
+        Err(FromHexError::OutOfMemory) => Err(OrNoMemory::NoMemory),
+        Err(_) => Err(FormError::Hex.at(alloc, &["signature"])),
+    }
+}
+
+#[tactic(auto, unfolding(crate::specs::Form::signed_in))]
+fn signed_in(alloc: Global, value: &Value) -> Result<Signed, OrNoMemory<FormsFault>>
+    ensures { Answers (λ s. s) result (signed_in (view value.now)) }
+{
+    object_in(&["commit", "seqno", "view"], value).map_err(|form_error| form_error.at(
+        alloc,
+        &["signed"],
+    ))?;
+    let commit = u64_in(value.get("commit")).map_err(|form_error| form_error.at(
+        alloc,
+        &["signed", "commit"],
+    ))?;
+    let seqno = u64_in(value.get("seqno")).map_err(|form_error| form_error.at(
+        alloc,
+        &["signed", "seqno"],
+    ))?;
+    let view = u32_in(value.get("view")).map_err(|form_error| form_error.at(
+        alloc,
+        &["signed", "view"],
+    ))?;
+    Ok(Signed {
+        commit,
+        seqno,
+        view,
+    })
+}
+
+#[tactic(auto, unfolding(crate::specs::Form::receipt_in))]
+fn receipt_in(alloc: Global, value: &Value) -> Result<Receipt, OrNoMemory<FormsFault>>
+    ensures { Answers (λ r. r) result (receipt_in (view value.now)) }
+{
+    object_in(&["leaf_components", "proof", "signature", "signed"], value).map_err(
+        |form_error| form_error.at(alloc, &[]),
+    )?;
+    let components = value_in(value.get("leaf_components")).map_err(|form_error| form_error.at(
+        alloc,
+        &["leaf_components"],
+    ))?;
+    let leaf_components = leaf_components_in(alloc, components)?;
+    let proof = proof_in(alloc, value.get("proof"))?;
+    let signature = signature_in(alloc, value.get("signature"))?;
+    let statement = value_in(value.get("signed")).map_err(|form_error| form_error.at(
+        alloc,
+        &["signed"],
+    ))?;
+    let signed = signed_in(alloc, statement)?;
+    Ok(Receipt {
+        leaf_components,
+        proof,
+        signature,
+        signed,
+    })
+}
+
+/// The tree of a JSON text.
+fn read_tree(alloc: Global, text: &[u8]) -> Result<Value, OrNoMemory<FormsFault>>
+    ensures { Answers view result (tree_from text.now) }
+{
+    match Value::from_slice(alloc, text) {
+        Ok(tree) => Ok(tree),
+        Err(e) => {
+            if e.is_memory() {
+                Err(OrNoMemory::NoMemory)
+            } else {
+                Err(OrNoMemory::Fault(FormsFault::NotJson))
+            }
+        }
+    }
+}
+
+/// The receipt that a JSON text is, all of it, or the first value of it that has another form: an
+/// object's members, missing or too many, are reported before its values, and these in the order in
+/// which `write_receipt` writes them. Spaces may stand in the text, and its members in any order;
+/// of a member that stands twice the last value counts.
+#[tactic(auto, unfolding(crate::specs::Form::receipt_from))]
+pub fn read_receipt(alloc: Global, text: &[u8]) -> Result<Receipt, OrNoMemory<FormsFault>>
+    ensures { Answers (λ r. r) result (receipt_from text.now) }
+{
+    let tree = read_tree(alloc, text)?;
+    receipt_in(alloc, &tree)
+}

@@ -1,7 +1,0 @@
-use Rattle.std.proofs.Common.{◌≡◌, ◌++◌, drop}
-use Rattle.gl_schedule.specs.Text.{answers_behind}
-use Rattle.gl_schedule.proofs.text.put_answers_behind.Given as goal
-
--- what is written and what is left to write make the whole
-abbrev pub invariant-loop-answer : goal.invariant-loop-answer
-invariant-loop-answer l = l.out.items ++ answers_behind (drop l.answer-index l.answers) ≡ l.fn.out.items ++ answers_behind l.answers

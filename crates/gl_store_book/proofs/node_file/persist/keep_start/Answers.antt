@@ -1,0 +1,35 @@
+use Rattle.std.proofs.Common.{refl, ap, ◌∙◌}
+use Rattle.gl_audit.specs.Committed.{Held}
+use Rattle.gl_store_book.specs.AtOpening.{opened_state}
+use Rattle.gl_store_book.specs.NodeFile.{seen_state}
+use Rattle.gl_store_book.proofs.UnwrittenFiles.{none_done, read_folds}
+use Rattle.gl_store_book.proofs.node_file.persist.keep_start.Goals as goal
+
+pub returns-in-Err-NoMemory-clause-any_moment : goal.returns-in-Err-NoMemory-clause-any_moment
+returns-in-Err-NoMemory-clause-any_moment g c h s starts =
+    let d = seen_state c.args.state.now in
+    none_done g.D.Disk.bytes g.D.Disk.past c.args.journal.now (g.D.Disk.past c.args.journal.now.gated.disk) d (opened_state s d) (c.requires.file.kept h) (c.requires.file.opens h) refl
+
+pub returns-in-Ok-keep_opening-clause-open : goal.returns-in-Ok-keep_opening-clause-open
+returns-in-Ok-keep_opening-clause-open g c s starts =
+    let d = seen_state c.args.state.now in
+    let folds = read_folds c.args.bytes.now c.in-Ok.opening.ledger c.in-Ok.opening.first d c.at_opening-turn.result c.entries.result.now s c.in-Ok.ensures.opened c.at_opening-turn.ensures
+    (c.entries.ensures.entries ∙ ap (λ (h : Held). h.ledger) c.store.ensures.holds) c.requires.none starts in
+    record {
+      kept = λ h. c.in-Ok-keep_opening.ensures.open h;
+      opens = λ h. c.in-Ok-keep_opening.ensures.kept h d (opened_state s d) (c.requires.file.opens h) folds;
+    }
+
+pub returns-in-Ok-keep_opening-clause-any_moment : goal.returns-in-Ok-keep_opening-clause-any_moment
+returns-in-Ok-keep_opening-clause-any_moment g c h s starts =
+    let d = seen_state c.args.state.now in
+    let folds = read_folds c.args.bytes.now c.in-Ok.opening.ledger c.in-Ok.opening.first d c.at_opening-turn.result c.entries.result.now s c.in-Ok.ensures.opened c.at_opening-turn.ensures
+    (c.entries.ensures.entries ∙ ap (λ (held : Held). held.ledger) c.store.ensures.holds) c.requires.none starts in
+    c.keep_opening.ensures.any_moment h d (opened_state s d) (c.requires.file.opens h) folds
+
+pub returns-in-Err-clause-any_moment : goal.returns-in-Err-clause-any_moment
+returns-in-Err-clause-any_moment g c h s starts =
+    let d = seen_state c.args.state.now in
+    let folds = read_folds c.args.bytes.now c.in-Ok.opening.ledger c.in-Ok.opening.first d c.at_opening-turn.result c.entries.result.now s c.in-Ok.ensures.opened c.at_opening-turn.ensures
+    (c.entries.ensures.entries ∙ ap (λ (held : Held). held.ledger) c.store.ensures.holds) c.requires.none starts in
+    c.keep_opening.ensures.any_moment h d (opened_state s d) (c.requires.file.opens h) folds
